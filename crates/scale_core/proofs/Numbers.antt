@@ -1,0 +1,63 @@
+-- Bytes of numbers, and back.
+use Rattle.std.proofs.Common.{◌≡◌, ℕ, zero, suc, ◌+◌, ◌-◌, ◌*◌, ◌/◌, ◌%◌, ◌^◌, ◌<◌, Bool, true, false, cond, List, [], ◌∷◌, ◌++◌, length, refl, sym, ap, ◌∙◌, arith}
+use Rattle.std.specs.Prelude.{ℤ, pos, negsuc, neg_ℤ, nat_lt}
+use Rattle.std.proofs.Math.Nat.{pow-suc}
+use Rattle.scale_core.specs.Number.{AreBytes, number, signed_number, le_bytes}
+
+pub length-le_bytes : (k n : ℕ) → length (le_bytes k n) ≡ k
+length-le_bytes zero n = refl
+length-le_bytes (suc k) n = ap (λ (x : ℕ). suc x) (length-le_bytes k (n / 256))
+
+pub number-le_bytes : (k n : ℕ) → n < 256 ^ k → number (le_bytes k n) ≡ n
+number-le_bytes zero n h = omega arith
+number-le_bytes (suc k) n h =
+    let big : n < 256 ^ k * 256 = rw pow-suc at h in
+    let ih = number-le_bytes k (n / 256) (omega arith) in
+    omega (arith, ih)
+
+-- ---- lists of bytes
+
+pub rest_bytes : (c rest : List ℕ) → AreBytes (c ++ rest) → AreBytes rest
+rest_bytes [] rest h = h
+rest_bytes (x ∷ c) rest h = rest_bytes c rest h.1
+
+pub front_bytes : (c rest : List ℕ) → AreBytes (c ++ rest) → AreBytes c
+front_bytes [] rest h = tt
+front_bytes (x ∷ c) rest h = (h.0, front_bytes c rest h.1)
+
+pub le_bytes-number : (c : List ℕ) → AreBytes c → le_bytes (length c) (number c) ≡ c
+le_bytes-number [] h = refl
+le_bytes-number (x ∷ c) h =
+    let low : (x + 256 * number c) % 256 ≡ x = omega (arith, h.0) in
+    let high : (x + 256 * number c) / 256 ≡ number c = omega (arith, h.0) in
+    rw (low, high, le_bytes-number c h.1) refl
+
+pub number-bound : (c : List ℕ) → AreBytes c → number c < 256 ^ length c
+number-bound [] h = omega arith
+number-bound (x ∷ c) h = rw (pow-suc 256 (length c)) (omega (arith, h.0, number-bound c h.1))
+
+-- as many bytes that spell one number are one list
+pub number_one : (a b : List ℕ) → AreBytes a → AreBytes b → length a ≡ length b → number a ≡ number b → a ≡ b
+number_one a b h k len same = sym (le_bytes-number a h) ∙ ap (λ (n : ℕ). le_bytes n (number a)) len ∙ ap (le_bytes (length b)) same ∙ le_bytes-number b k
+
+neg-pos : (x : ℕ) → 0 < x → neg_ℤ (pos x) ≡ negsuc (x - 1)
+neg-pos zero h = absurd (omega arith)
+neg-pos (suc x) h = ap negsuc (omega arith)
+
+abbrev signed_from : Bool → ℕ → ℕ → ℤ
+signed_from b range n = cond b (pos n) (neg_ℤ (pos (range - n)))
+
+signed_same : (range m n : ℕ) (b c : Bool) → m < range → n < range → signed_from b range m ≡ signed_from c range n → m ≡ n
+signed_same range m n true true h k e = let e' : pos m ≡ pos n = e in cc
+signed_same range m n true false h k e = let e' : pos m ≡ negsuc (range - n - 1) = e ∙ neg-pos (range - n) (omega arith) in absurd cc
+signed_same range m n false true h k e = let e' : pos n ≡ negsuc (range - m - 1) = sym e ∙ neg-pos (range - m) (omega arith) in absurd cc
+signed_same range m n false false h k e =
+    let e' : negsuc (range - m - 1) ≡ negsuc (range - n - 1) = sym (neg-pos (range - m) (omega arith)) ∙ e ∙ neg-pos (range - n) (omega arith) in
+    let same : range - m - 1 ≡ range - n - 1 = cc in omega (arith, same)
+
+pub signed_one : (a b : List ℕ) → AreBytes a → AreBytes b → length a ≡ length b → signed_number a ≡ signed_number b → a ≡ b
+signed_one a b h k len e =
+    let range = 256 ^ length a in
+    let less : number b < range = rw len (number-bound b k) in
+    let e' : signed_from (nat_lt (2 * number a) range) range (number a) ≡ signed_from (nat_lt (2 * number b) range) range (number b) = e ∙ ap (λ (l : ℕ). signed_from (nat_lt (2 * number b) (256 ^ l)) (256 ^ l) (number b)) (sym len) in
+    number_one a b h k len (signed_same range (number a) (number b) _ _ (number-bound a h) less e')

@@ -1,0 +1,4 @@
+pub mod Answers
+pub mod Number
+pub mod Read
+pub mod Stream

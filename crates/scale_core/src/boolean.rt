@@ -1,0 +1,37 @@
+//! Booleans: one byte, `00` or `01`.
+
+ghost use Rattle.std.specs.Prelude.{◌≡◌, ◌++◌, ◌∷◌, [], OnOk, OnErr};
+ghost use Rattle.scale_core.specs.Number.{bool_byte};
+ghost use Rattle.scale_core.specs.Answers.{Answers};
+ghost use Rattle.scale_core.specs.Read.{bool_at};
+
+use crate::fault::{Fault, Reason};
+use crate::integer::read_u8;
+use std::alloc::AllocError;
+
+/// Reads a boolean off the front of the bytes, and answers it with its length, 1
+/// (SCALE codec specification, "Boolean").
+///
+/// Refuses no bytes at all as `Truncated` at their length, 0, and a byte other than `00` and `01` as `BadBool` at 0.
+pub fn read_bool(bytes: &[u8]) -> Result<(bool, usize), Fault>
+    ensures { Answers (λ x. x) bytes.now result (bool_at bytes.now) }
+{
+    let (byte, len) = read_u8(bytes)?;
+    match byte {
+        0 => Ok((false, len)),
+        1 => Ok((true, len)),
+        _ => Err(Fault {
+            reason: Reason::BadBool,
+            at: 0,
+        }),
+    }
+}
+
+/// Appends the boolean's byte. Where memory is refused the vector stays as it was.
+pub fn write_bool(out: &mut Vec<u8>, value: bool) -> Result<(), AllocError>
+    ensures ok { OnOk result (out.new.items ≡ out.old.items ++ bool_byte value ∷ []) }
+    ensures err { OnErr result (out.new.items ≡ out.old.items) }
+{
+    out.push(u8::from(value))?;
+    Ok(())
+}

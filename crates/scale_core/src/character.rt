@@ -1,0 +1,35 @@
+//! Characters: four bytes, the lowest first, of a Unicode scalar value.
+
+ghost use Rattle.std.specs.Prelude.{◌≡◌, ◌++◌, OnOk, OnErr};
+ghost use Rattle.scale_core.specs.Answers.{Answers};
+ghost use Rattle.scale_core.specs.Number.{le_bytes};
+ghost use Rattle.scale_core.specs.Read.{char_at};
+
+use crate::fault::{Fault, Reason};
+use crate::integer::{read_u32, write_u32};
+use std::alloc::AllocError;
+
+/// Reads a character off the front of the bytes, and answers it with its length, 4 (Unicode Standard, D76).
+///
+/// Refuses fewer than four bytes as `Truncated` at their length, and a number that is a surrogate or above
+/// 10ffff as `BadChar` at 0.
+pub fn read_char(bytes: &[u8]) -> Result<(char, usize), Fault>
+    ensures { Answers (λ x. x) bytes.now result (char_at bytes.now) }
+{
+    let (code, len) = read_u32(bytes)?;
+    match char::from_u32(code) {
+        Some(character) => Ok((character, len)),
+        None => Err(Fault {
+            reason: Reason::BadChar,
+            at: 0,
+        }),
+    }
+}
+
+/// Appends the character's four bytes. Where memory is refused the vector stays as it was.
+pub fn write_char(out: &mut Vec<u8>, value: char) -> Result<(), AllocError>
+    ensures ok { OnOk result (out.new.items ≡ out.old.items ++ le_bytes 4 value) }
+    ensures err { OnErr result (out.new.items ≡ out.old.items) }
+{
+    write_u32(out, u32::from(value))
+}

@@ -1,0 +1,223 @@
+//! Fixed-width integers: little-endian, two's complement where they are signed
+//! (SCALE codec specification, "Fixed-width integers").
+
+ghost use Rattle.std.specs.Prelude.{◌≡◌, ◌<◌, ◌≤◌, ◌++◌, length, take, MatchResult, OnOk, OnErr};
+ghost use Rattle.scale_core.specs.Answers.{Answers, truncated};
+ghost use Rattle.scale_core.specs.Number.{le_bytes, signed_bytes};
+ghost use Rattle.scale_core.specs.Read.{bytes_at, number_at, signed_at};
+
+use crate::fault::{Fault, Reason};
+use std::alloc::AllocError;
+
+/// The first N bytes.
+fn front<const N: usize>(bytes: &[u8]) -> Result<[u8; N], Fault>
+    ensures { MatchResult result
+        (λ a. (N ≤ length bytes.now) × (a ≡ take N bytes.now))
+        (λ f. (length bytes.now < N) × (f ≡ truncated bytes.now)) }
+{
+    match bytes.first_chunk::<N>() {
+        Some(chunk) => Ok(*chunk),
+        None => Err(Fault {
+            reason: Reason::Truncated,
+            at: bytes.len() as u64,
+        }),
+    }
+}
+
+/// Reads an u8 off the front of the bytes, and answers it with its length, 1.
+///
+/// Refuses fewer than one byte as `Truncated` at their length.
+pub fn read_u8(bytes: &[u8]) -> Result<(u8, usize), Fault>
+    ensures { Answers (λ x. x) bytes.now result (number_at 1 bytes.now) }
+{
+    let spelled = front(bytes)?;
+    Ok((u8::from_le_bytes(spelled), 1))
+}
+
+/// Reads a u16 off the front of the bytes, and answers it with its length, 2.
+///
+/// Refuses fewer than two bytes as `Truncated` at their length.
+pub fn read_u16(bytes: &[u8]) -> Result<(u16, usize), Fault>
+    ensures { Answers (λ x. x) bytes.now result (number_at 2 bytes.now) }
+{
+    let spelled = front(bytes)?;
+    Ok((u16::from_le_bytes(spelled), 2))
+}
+
+/// Reads a u32 off the front of the bytes, and answers it with its length, 4.
+///
+/// Refuses fewer than four bytes as `Truncated` at their length.
+pub fn read_u32(bytes: &[u8]) -> Result<(u32, usize), Fault>
+    ensures { Answers (λ x. x) bytes.now result (number_at 4 bytes.now) }
+{
+    let spelled = front(bytes)?;
+    Ok((u32::from_le_bytes(spelled), 4))
+}
+
+/// Reads a u64 off the front of the bytes, and answers it with its length, 8.
+///
+/// Refuses fewer than eight bytes as `Truncated` at their length.
+pub fn read_u64(bytes: &[u8]) -> Result<(u64, usize), Fault>
+    ensures { Answers (λ x. x) bytes.now result (number_at 8 bytes.now) }
+{
+    let spelled = front(bytes)?;
+    Ok((u64::from_le_bytes(spelled), 8))
+}
+
+/// Reads a u128 off the front of the bytes, and answers it with its length, 16.
+///
+/// Refuses fewer than sixteen bytes as `Truncated` at their length.
+pub fn read_u128(bytes: &[u8]) -> Result<(u128, usize), Fault>
+    ensures { Answers (λ x. x) bytes.now result (number_at 16 bytes.now) }
+{
+    let spelled = front(bytes)?;
+    Ok((u128::from_le_bytes(spelled), 16))
+}
+
+/// Reads an i8 off the front of the bytes, and answers it with its length, 1.
+///
+/// Refuses fewer than one byte as `Truncated` at their length.
+pub fn read_i8(bytes: &[u8]) -> Result<(i8, usize), Fault>
+    ensures { Answers (λ x. x) bytes.now result (signed_at 1 bytes.now) }
+{
+    let (number, len) = read_u8(bytes)?;
+    Ok((number.cast_signed(), len))
+}
+
+/// Reads an i16 off the front of the bytes, and answers it with its length, 2.
+///
+/// Refuses fewer than two bytes as `Truncated` at their length.
+pub fn read_i16(bytes: &[u8]) -> Result<(i16, usize), Fault>
+    ensures { Answers (λ x. x) bytes.now result (signed_at 2 bytes.now) }
+{
+    let (number, len) = read_u16(bytes)?;
+    Ok((number.cast_signed(), len))
+}
+
+/// Reads an i32 off the front of the bytes, and answers it with its length, 4.
+///
+/// Refuses fewer than four bytes as `Truncated` at their length.
+pub fn read_i32(bytes: &[u8]) -> Result<(i32, usize), Fault>
+    ensures { Answers (λ x. x) bytes.now result (signed_at 4 bytes.now) }
+{
+    let (number, len) = read_u32(bytes)?;
+    Ok((number.cast_signed(), len))
+}
+
+/// Reads an i64 off the front of the bytes, and answers it with its length, 8.
+///
+/// Refuses fewer than eight bytes as `Truncated` at their length.
+pub fn read_i64(bytes: &[u8]) -> Result<(i64, usize), Fault>
+    ensures { Answers (λ x. x) bytes.now result (signed_at 8 bytes.now) }
+{
+    let (number, len) = read_u64(bytes)?;
+    Ok((number.cast_signed(), len))
+}
+
+/// Reads an i128 off the front of the bytes, and answers it with its length, 16.
+///
+/// Refuses fewer than sixteen bytes as `Truncated` at their length.
+pub fn read_i128(bytes: &[u8]) -> Result<(i128, usize), Fault>
+    ensures { Answers (λ x. x) bytes.now result (signed_at 16 bytes.now) }
+{
+    let (number, len) = read_u128(bytes)?;
+    Ok((number.cast_signed(), len))
+}
+
+/// Reads the 32 bytes of a u256 or an i256 off the front, as they stand, and answers them with their length, 32.
+///
+/// Refuses fewer than 32 bytes as `Truncated` at their length.
+pub fn read_wide(bytes: &[u8]) -> Result<([u8; 32], usize), Fault>
+    ensures { Answers (λ x. x) bytes.now result (bytes_at 32 bytes.now) }
+{
+    let spelled = front(bytes)?;
+    Ok((spelled, 32))
+}
+
+/// Appends the one byte of a u8. Where memory is refused the vector stays as it was.
+pub fn write_u8(out: &mut Vec<u8>, value: u8) -> Result<(), AllocError>
+    ensures ok { OnOk result (out.new.items ≡ out.old.items ++ le_bytes 1 value) }
+    ensures err { OnErr result (out.new.items ≡ out.old.items) }
+{
+    out.extend_from_slice(&value.to_le_bytes())
+}
+
+/// Appends the two bytes of a u16. Where memory is refused the vector stays as it was.
+pub fn write_u16(out: &mut Vec<u8>, value: u16) -> Result<(), AllocError>
+    ensures ok { OnOk result (out.new.items ≡ out.old.items ++ le_bytes 2 value) }
+    ensures err { OnErr result (out.new.items ≡ out.old.items) }
+{
+    out.extend_from_slice(&value.to_le_bytes())
+}
+
+/// Appends the four bytes of a u32. Where memory is refused the vector stays as it was.
+pub fn write_u32(out: &mut Vec<u8>, value: u32) -> Result<(), AllocError>
+    ensures ok { OnOk result (out.new.items ≡ out.old.items ++ le_bytes 4 value) }
+    ensures err { OnErr result (out.new.items ≡ out.old.items) }
+{
+    out.extend_from_slice(&value.to_le_bytes())
+}
+
+/// Appends the eight bytes of a u64. Where memory is refused the vector stays as it was.
+pub fn write_u64(out: &mut Vec<u8>, value: u64) -> Result<(), AllocError>
+    ensures ok { OnOk result (out.new.items ≡ out.old.items ++ le_bytes 8 value) }
+    ensures err { OnErr result (out.new.items ≡ out.old.items) }
+{
+    out.extend_from_slice(&value.to_le_bytes())
+}
+
+/// Appends the sixteen bytes of a u128. Where memory is refused the vector stays as it was.
+pub fn write_u128(out: &mut Vec<u8>, value: u128) -> Result<(), AllocError>
+    ensures ok { OnOk result (out.new.items ≡ out.old.items ++ le_bytes 16 value) }
+    ensures err { OnErr result (out.new.items ≡ out.old.items) }
+{
+    out.extend_from_slice(&value.to_le_bytes())
+}
+
+/// Appends the one byte of an i8. Where memory is refused the vector stays as it was.
+pub fn write_i8(out: &mut Vec<u8>, value: i8) -> Result<(), AllocError>
+    ensures ok { OnOk result (out.new.items ≡ out.old.items ++ signed_bytes 1 value) }
+    ensures err { OnErr result (out.new.items ≡ out.old.items) }
+{
+    write_u8(out, value.cast_unsigned())
+}
+
+/// Appends the two bytes of an i16. Where memory is refused the vector stays as it was.
+pub fn write_i16(out: &mut Vec<u8>, value: i16) -> Result<(), AllocError>
+    ensures ok { OnOk result (out.new.items ≡ out.old.items ++ signed_bytes 2 value) }
+    ensures err { OnErr result (out.new.items ≡ out.old.items) }
+{
+    write_u16(out, value.cast_unsigned())
+}
+
+/// Appends the four bytes of an i32. Where memory is refused the vector stays as it was.
+pub fn write_i32(out: &mut Vec<u8>, value: i32) -> Result<(), AllocError>
+    ensures ok { OnOk result (out.new.items ≡ out.old.items ++ signed_bytes 4 value) }
+    ensures err { OnErr result (out.new.items ≡ out.old.items) }
+{
+    write_u32(out, value.cast_unsigned())
+}
+
+/// Appends the eight bytes of an i64. Where memory is refused the vector stays as it was.
+pub fn write_i64(out: &mut Vec<u8>, value: i64) -> Result<(), AllocError>
+    ensures ok { OnOk result (out.new.items ≡ out.old.items ++ signed_bytes 8 value) }
+    ensures err { OnErr result (out.new.items ≡ out.old.items) }
+{
+    write_u64(out, value.cast_unsigned())
+}
+
+/// Appends the sixteen bytes of an i128. Where memory is refused the vector stays as it was.
+pub fn write_i128(out: &mut Vec<u8>, value: i128) -> Result<(), AllocError>
+    ensures ok { OnOk result (out.new.items ≡ out.old.items ++ signed_bytes 16 value) }
+    ensures err { OnErr result (out.new.items ≡ out.old.items) }
+{
+    write_u128(out, value.cast_unsigned())
+}
+
+/// Appends the 32 bytes of a u256 or an i256. Where memory is refused the vector stays as it was.
+pub fn write_wide(out: &mut Vec<u8>, value: &[u8; 32]) -> Result<(), AllocError>
+    ensures ok { OnOk result (out.new.items ≡ out.old.items ++ value.now) }
+    ensures err { OnErr result (out.new.items ≡ out.old.items) }
+{
+    out.extend_from_slice(value)
+}

@@ -1,0 +1,21 @@
+//! The pieces that SCALE is made of: integers, compact integers, booleans, characters and texts,
+//! each accepted in its one spelling only, and devices that tell whether a call on them failed.
+#![tactic(auto)]
+
+mod boolean;
+mod character;
+mod fault;
+mod integer;
+mod sink;
+mod source;
+
+pub use boolean::{read_bool, write_bool};
+pub use character::{read_char, write_char};
+pub use fault::{Fault, Reason};
+pub use integer::{
+    read_i8, read_i16, read_i32, read_i64, read_i128, read_u8, read_u16, read_u32, read_u64,
+    read_u128, read_wide, write_i8, write_i16, write_i32, write_i64, write_i128, write_u8,
+    write_u16, write_u32, write_u64, write_u128, write_wide,
+};
+pub use sink::{Sink, SinkFault};
+pub use source::{Source, SourceFault};

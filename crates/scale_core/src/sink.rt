@@ -1,0 +1,81 @@
+//! A writer that tells whether a write to it failed.
+
+ghost use Rattle.std.specs.Prelude.{◌≡◌, ◌<◌, ◌≤◌, ◌||◌, false, length, IfOk, is_ok, not};
+ghost use Rattle.std.specs.Io.KnownBytes.{WriteAppends};
+
+use std::io::Write;
+use std::marker::Model;
+
+/// Why a write took nothing.
+#[derive(Clone, Copy, Debug, PartialEq, Eq)]
+pub enum SinkFault {
+    /// The writer answered an error; an interrupted write is one.
+    Device,
+    /// The writer took no byte of a part that is not empty.
+    WroteNothing,
+}
+
+/// A writer and whether a write to it has failed: false at first, and true for good after a failure.
+#[derive(Drop)]
+pub struct Sink<W: Write> {
+    writer: W,
+    failed: bool,
+}
+
+impl<W: Write> Model for Sink<W> {
+    ghost use Rattle.scale_core.specs.Stream.{Watched};
+
+    ghost Value = { Watched W };
+
+    ghost view = { λ s. record { device = s.writer; failed = s.failed } };
+}
+
+impl<W: Write> Sink<W> {
+    /// A sink over this writer, which has not failed.
+    pub fn new(writer: W) -> Sink<W>
+        ensures { result ≡ record { device = writer; failed = false } }
+    {
+        Sink {
+            writer,
+            failed: false,
+        }
+    }
+
+    /// The writer, as the writes left it.
+    pub fn into_inner(self) -> W
+        ensures { result ≡ self.device }
+    {
+        let Sink { writer, failed: _ } = self;
+        writer
+    }
+
+    /// Has a write failed?
+    pub fn failed(&self) -> bool
+        ensures { result ≡ self.now.failed }
+    {
+        self.failed
+    }
+
+    /// One write of the part, which is not empty: how many bytes of its front went out, at least one.
+    ///
+    /// Refuses with `Device` where the writer answers an error and with `WroteNothing` where it takes no byte, and
+    /// `failed()` is true from then on. Nothing else changes `failed()`.
+    pub fn put(&mut self, part: &[u8]) -> Result<usize, SinkFault>
+        requires { 0 < length part.now }
+        ensures count { IfOk result (λ n. (0 < n) × (n ≤ length part.now)) }
+        ensures bytes { WriteAppends (W.contents self.old.device) (W.contents self.new.device) result part.now }
+        ensures failed { self.new.failed ≡ self.old.failed || not (is_ok result) }
+    {
+        match self.writer.write(part) {
+            Ok(0) => {
+                self.failed = true;
+                Err(SinkFault::WroteNothing)
+            }
+            Ok(count) => Ok(count),
+            Err(_) => {
+                self.failed = true;
+                Err(SinkFault::Device)
+            }
+        }
+    }
+}
