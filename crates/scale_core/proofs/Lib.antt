@@ -1,3 +1,9 @@
 pub mod Numbers
 pub mod Fronts
 pub mod Characters
+pub mod Again
+pub mod Forms
+pub mod ReadForms
+pub mod ReadTexts
+pub mod Results
+pub mod Spellings

@@ -1,7 +1,9 @@
 -- Bytes of numbers, and back.
-use Rattle.std.proofs.Common.{◌≡◌, ℕ, zero, suc, ◌+◌, ◌-◌, ◌*◌, ◌/◌, ◌%◌, ◌^◌, ◌<◌, Bool, true, false, cond, List, [], ◌∷◌, ◌++◌, length, refl, sym, ap, ◌∙◌, arith}
+use Rattle.std.proofs.Common.{◌≡◌, ℕ, zero, suc, ◌+◌, ◌-◌, ◌*◌, ◌/◌, ◌%◌, ◌^◌, ◌<◌, ◌≤◌, Bool, true, false, cond, List, [], ◌∷◌, ◌++◌, length, refl, sym, ap, ◌∙◌, arith, inl, inr}
 use Rattle.std.specs.Prelude.{ℤ, pos, negsuc, neg_ℤ, nat_lt}
-use Rattle.std.proofs.Math.Nat.{pow-suc}
+use Rattle.std.proofs.lemmas.Bool.{cases_lt, le-ltb, lt-ltb}
+use Rattle.std.proofs.Math.Nat.{pow-suc, pow-le-pow_right}
+use Rattle.scale_core.specs.Compact.{bytes_needed}
 use Rattle.scale_core.specs.Number.{AreBytes, number, signed_number, le_bytes}
 
 pub length-le_bytes : (k n : ℕ) → length (le_bytes k n) ≡ k
@@ -14,6 +16,20 @@ number-le_bytes (suc k) n h =
     let big : n < 256 ^ k * 256 = rw pow-suc at h in
     let ih = number-le_bytes k (n / 256) (omega arith) in
     omega (arith, ih)
+
+pub bytes_needed-le : (k j n : ℕ) → n < 256 ^ j → bytes_needed k n ≤ j
+bytes_needed-le zero j n h = omega arith
+bytes_needed-le (suc k) j n h = elim (cases_lt n (256 ^ k)) [
+  | inl lt ↦ rw (lt-ltb n (256 ^ k) lt) (bytes_needed-le k j n h)
+  | inr le ↦ rw (le-ltb n (256 ^ k) le) (elim (cases_lt k j) [ inl k-lt ↦ omega arith | inr j-le ↦ absurd (omega (arith, pow-le-pow_right {n = 256} (omega arith) {i = j} {j = k} j-le)) ])
+]
+
+pub bytes_needed-enough : (k n : ℕ) → n < 256 ^ k → n < 256 ^ bytes_needed k n
+bytes_needed-enough zero n h = h
+bytes_needed-enough (suc k) n h = elim (cases_lt n (256 ^ k)) [
+  | inl lt ↦ rw (lt-ltb n (256 ^ k) lt) (bytes_needed-enough k n lt)
+  | inr le ↦ rw (le-ltb n (256 ^ k) le) h
+]
 
 -- ---- lists of bytes
 

@@ -1,8 +1,13 @@
 -- Reading from left to right: the value and the bytes behind it, or the first fault and the bytes from its place on.
-use Rattle.std.specs.Prelude.{ℕ, ◌-◌, Bool, true, false, ℤ, List, [], length, take, drop, Result, Ok, Err, nat_lt, ◌==◌, if◌then◌else◌}
+use Rattle.std.specs.Prelude.{ℕ, ◌+◌, ◌-◌, ◌/◌, ◌%◌, ◌^◌, Bool, true, false, ◌&&◌, not, ℤ, List, [], ◌∷◌, length, take, drop, Result, Ok, Err, nat_lt, ◌==◌, if◌then◌else◌}
+use Rattle.std.specs.Str.{bytes_eq, is_utf8}
+use Rattle.std.specs.Str.Lossy.{utf8_valid_len}
 use Rattle.scale_core.specs.Number.{number, signed_number, is_scalar}
+use Rattle.scale_core.specs.Compact.{compact, target_bytes}
+use Rattle.scale_core.specs.declared.compact.Target.{Target}
+use Rattle.scale_core.specs.declared.compact.Target.TheVariants.{Unit as TUnit, U32}
 use Rattle.scale_core.specs.declared.fault.Reason.{Reason}
-use Rattle.scale_core.specs.declared.fault.Reason.TheVariants.{Truncated, BadBool, BadChar}
+use Rattle.scale_core.specs.declared.fault.Reason.TheVariants.{Truncated, BadBool, BadChar, BadUtf8, CompactNotShortest, CompactTooLarge}
 
 abbrev pub Read : Type 0 → Type 0 → Type 0
 Read E X = Result (X × List ℕ) (E × List ℕ)
@@ -45,3 +50,46 @@ scalar_from at (Err e) = Err e
 -- a character: four bytes that spell a Unicode scalar value
 abbrev pub char_at : List ℕ → Read Reason ℕ
 char_at bytes = scalar_from bytes (number_at 4 bytes)
+
+-- how long the form is that the first byte names by its two low bits
+abbrev pub form_len : ℕ → ℕ
+form_len first = if first % 4 == 0 then 1 else if first % 4 == 1 then 2 else if first % 4 == 2 then 4 else first / 4 + 5
+
+-- the number that a form stands for, in whatever form
+abbrev pub form_number : List ℕ → ℕ
+form_number [] = 0
+form_number (first ∷ tail) = if first % 4 == 3 then number tail else number (first ∷ tail) / 4
+
+-- the form's number n, if the form is the one spelling of n and n fits the target
+abbrev pub checked_form : Target → List ℕ → ℕ → List ℕ → List ℕ → Read Reason ℕ
+checked_form m bytes n form rest =
+    if not (bytes_eq (compact n) form) then Err (CompactNotShortest, bytes)
+    else (if nat_lt n (256 ^ target_bytes m) then Ok (n, rest) else Err (CompactTooLarge, bytes))
+
+-- the same for a form that may end too early
+abbrev pub form_from : Target → List ℕ → Read Reason (List ℕ) → Read Reason ℕ
+form_from m bytes (Ok form) = checked_form m bytes (form_number form.0) form.0 form.1
+form_from m bytes (Err e) = Err e
+
+-- does the first byte alone claim more bytes than the target has?
+abbrev pub is_too_long : Target → ℕ → Bool
+is_too_long m first = (first % 4 == 3) && nat_lt (target_bytes m) (first / 4 + 4)
+
+-- a compact integer of a target that takes bytes
+abbrev pub integer_at : Target → List ℕ → Read Reason ℕ
+integer_at m [] = Err (Truncated, [])
+integer_at m (first ∷ rest) =
+    if is_too_long m first then Err (CompactTooLarge, first ∷ rest)
+    else form_from m (first ∷ rest) (bytes_at (form_len first) (first ∷ rest))
+
+-- a compact integer: 0 and no bytes where the target is `Unit`
+unfoldable pub compact_at : Target → List ℕ → Read Reason ℕ
+compact_at TUnit bytes = Ok (0, bytes)
+compact_at m bytes = integer_at m bytes
+
+-- a text: its length, and that many bytes, which are UTF-8
+unfoldable pub text_at : List ℕ → Read Reason (List ℕ)
+text_at bytes = do
+  n ← compact_at U32 bytes
+  text ← bytes_at n.0 n.1
+  if is_utf8 text.0 then Ok text else Err (BadUtf8, drop (utf8_valid_len text.0) n.1)

@@ -10,7 +10,7 @@ use crate::fault::{Fault, Reason};
 use std::alloc::AllocError;
 
 /// The first N bytes.
-fn front<const N: usize>(bytes: &[u8]) -> Result<[u8; N], Fault>
+pub(crate) fn front<const N: usize>(bytes: &[u8]) -> Result<[u8; N], Fault>
     ensures { MatchResult result
         (λ a. (N ≤ length bytes.now) × (a ≡ take N bytes.now))
         (λ f. (length bytes.now < N) × (f ≡ truncated bytes.now)) }
@@ -139,7 +139,7 @@ pub fn write_u8(out: &mut Vec<u8>, value: u8) -> Result<(), AllocError>
     ensures ok { OnOk result (out.new.items ≡ out.old.items ++ le_bytes 1 value) }
     ensures err { OnErr result (out.new.items ≡ out.old.items) }
 {
-    out.extend_from_slice(&value.to_le_bytes())
+    out.extend_from_slice(&u8::to_le_bytes(value))
 }
 
 /// Appends the two bytes of a u16. Where memory is refused the vector stays as it was.
@@ -147,7 +147,7 @@ pub fn write_u16(out: &mut Vec<u8>, value: u16) -> Result<(), AllocError>
     ensures ok { OnOk result (out.new.items ≡ out.old.items ++ le_bytes 2 value) }
     ensures err { OnErr result (out.new.items ≡ out.old.items) }
 {
-    out.extend_from_slice(&value.to_le_bytes())
+    out.extend_from_slice(&u16::to_le_bytes(value))
 }
 
 /// Appends the four bytes of a u32. Where memory is refused the vector stays as it was.
@@ -155,7 +155,7 @@ pub fn write_u32(out: &mut Vec<u8>, value: u32) -> Result<(), AllocError>
     ensures ok { OnOk result (out.new.items ≡ out.old.items ++ le_bytes 4 value) }
     ensures err { OnErr result (out.new.items ≡ out.old.items) }
 {
-    out.extend_from_slice(&value.to_le_bytes())
+    out.extend_from_slice(&u32::to_le_bytes(value))
 }
 
 /// Appends the eight bytes of a u64. Where memory is refused the vector stays as it was.
@@ -163,7 +163,7 @@ pub fn write_u64(out: &mut Vec<u8>, value: u64) -> Result<(), AllocError>
     ensures ok { OnOk result (out.new.items ≡ out.old.items ++ le_bytes 8 value) }
     ensures err { OnErr result (out.new.items ≡ out.old.items) }
 {
-    out.extend_from_slice(&value.to_le_bytes())
+    out.extend_from_slice(&u64::to_le_bytes(value))
 }
 
 /// Appends the sixteen bytes of a u128. Where memory is refused the vector stays as it was.
@@ -171,7 +171,7 @@ pub fn write_u128(out: &mut Vec<u8>, value: u128) -> Result<(), AllocError>
     ensures ok { OnOk result (out.new.items ≡ out.old.items ++ le_bytes 16 value) }
     ensures err { OnErr result (out.new.items ≡ out.old.items) }
 {
-    out.extend_from_slice(&value.to_le_bytes())
+    out.extend_from_slice(&u128::to_le_bytes(value))
 }
 
 /// Appends the one byte of an i8. Where memory is refused the vector stays as it was.

@@ -66,16 +66,12 @@ impl<W: Write> Sink<W> {
         ensures bytes { WriteAppends (W.contents self.old.device) (W.contents self.new.device) result part.now }
         ensures failed { self.new.failed ≡ self.old.failed || not (is_ok result) }
     {
-        match self.writer.write(part) {
-            Ok(0) => {
-                self.failed = true;
-                Err(SinkFault::WroteNothing)
-            }
+        let written = match self.writer.write(part) {
+            Ok(0) => Err(SinkFault::WroteNothing),
             Ok(count) => Ok(count),
-            Err(_) => {
-                self.failed = true;
-                Err(SinkFault::Device)
-            }
-        }
+            Err(_) => Err(SinkFault::Device),
+        };
+        self.failed |= written.is_err();
+        written
     }
 }

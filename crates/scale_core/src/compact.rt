@@ -1,0 +1,217 @@
+//! Compact integers: the fewest bytes in one of four forms, which the two low bits of the first byte name
+//! (SCALE codec specification, "Compact/general integers").
+
+ghost use Rattle.std.specs.Prelude.{◌≡◌, ◌≢◌, ◌+◌, ◌*◌, ◌/◌, ◌%◌, ◌^◌, ◌<◌, ◌≤◌, ◌++◌, ◌∷◌, ℕ, nat_lt, length, take, drop, slice_index, MatchResult, IfOk, OnOk, OnErr};
+ghost use Rattle.scale_core.specs.Answers.{Answers, truncated};
+ghost use Rattle.scale_core.specs.Compact.{big_bytes, compact, target_bytes};
+ghost use Rattle.scale_core.specs.Number.{number};
+ghost use Rattle.scale_core.specs.Read.{compact_at, form_len, form_number, is_too_long};
+
+use crate::fault::{Fault, Reason};
+use crate::integer::front;
+use std::alloc::AllocError;
+
+/// What a compact integer stands for: an unsigned integer of this width, or `Unit`, which takes no bytes.
+#[derive(Clone, Copy, Debug, PartialEq, Eq)]
+pub enum Target {
+    Unit,
+    U8,
+    U16,
+    U32,
+    U64,
+    U128,
+}
+
+impl Target {
+    /// How many bytes the target has.
+    fn bytes(self) -> usize
+        ensures { result ≡ target_bytes self }
+    {
+        match self {
+            Target::Unit => 0,
+            Target::U8 => 1,
+            Target::U16 => 2,
+            Target::U32 => 4,
+            Target::U64 => 8,
+            Target::U128 => 16,
+        }
+    }
+
+    /// Does the value fit the target?
+    fn holds(self, value: u128) -> bool
+        ensures { result ≡ nat_lt value (256 ^ target_bytes self) }
+    {
+        match self {
+            Target::Unit => value == 0,
+            Target::U8 => value <= u128::from(u8::MAX),
+            Target::U16 => value <= u128::from(u16::MAX),
+            Target::U32 => value <= u128::from(u32::MAX),
+            Target::U64 => value <= u128::from(u64::MAX),
+            Target::U128 => true,
+        }
+    }
+
+    /// Does a compact integer's first byte alone claim more bytes than the target has?
+    fn is_exceeded_by(self, first: u8) -> bool
+        ensures { result ≡ is_too_long self first }
+    {
+        first % 4 == 3 && self.bytes() < usize::from(first / 4) + 4
+    }
+}
+
+/// The number that at most sixteen bytes spell.
+fn number_of(spelled: &[u8]) -> u128
+    requires { length spelled.now ≤ 16 }
+    ensures { result ≡ number spelled.now }
+{
+    let mut padded = [0; 16];
+    padded[..spelled.len()].copy_from_slice(spelled);
+    u128::from_le_bytes(padded)
+}
+
+/// The number in the `count` bytes behind the first one.
+fn number_behind_first(bytes: &[u8], count: usize) -> Result<u128, Fault>
+    requires { count ≤ 16 }
+    ensures { MatchResult result
+        (λ n. (count < length bytes.now) × (n ≡ number (take count (drop 1 bytes.now))))
+        (λ f. (length bytes.now ≤ count) × (f ≡ truncated bytes.now)) }
+{
+    match bytes.get(1..=count) {
+        Some(spelled) => Ok(number_of(spelled)),
+        None => Err(Fault {
+            reason: Reason::Truncated,
+            at: bytes.len() as u64,
+        }),
+    }
+}
+
+/// What the form at the front stands for, and its length, be it the shortest or not. The two low bits of the first
+/// byte name the form: one, two or four bytes, whose upper bits are the number; or a count of bytes, less four, in
+/// the upper six bits, and that many bytes behind.
+fn read_form(bytes: &[u8], first: u8) -> Result<(u128, usize), Fault>
+    requires front { bytes.now ≡ first ∷ drop 1 bytes.now }
+    requires short { form_len first ≤ 17 }
+    ensures { MatchResult result
+        (λ x. (x.1 ≡ form_len first) × (x.1 ≤ length bytes.now) × (x.0 ≡ form_number (take x.1 bytes.now)))
+        (λ f. (length bytes.now < form_len first) × (f ≡ truncated bytes.now)) }
+{
+    match first % 4 {
+        0 => Ok((u128::from(first / 4), 1)),
+        1 => Ok((u128::from(u16::from_le_bytes(front(bytes)?) / 4), 2)),
+        2 => Ok((u128::from(u32::from_le_bytes(front(bytes)?) / 4), 4)),
+        _ => {
+            let count = usize::from(first / 4) + 4;
+            Ok((number_behind_first(bytes, count)?, count + 1))
+        }
+    }
+}
+
+/// Reads a compact integer off the front of the bytes, and answers its value with its length, 1 to 17 bytes
+/// (SCALE codec specification, "Compact/general integers"). Only the one spelling of each value is accepted.
+/// Where the target is `Unit` the answer is 0 with the length 0, and nothing is read.
+///
+/// Refuses, in this order: no bytes at all as `Truncated` at 0; a first byte that claims more bytes than the target
+/// has as `CompactTooLarge` at 0, whatever follows; fewer bytes than the first one names as `Truncated` at their
+/// length; a form longer than its value needs as `CompactNotShortest` at 0; and a value past the target's range as
+/// `CompactTooLarge` at 0.
+pub fn read_compact(bytes: &[u8], target: Target) -> Result<(u128, usize), Fault>
+    ensures reads { Answers (λ x. x) bytes.now result (compact_at target bytes.now) }
+    ensures fits { IfOk result (λ x. x.0 < 256 ^ target_bytes target) }
+    ensures len { IfOk result (λ x. x.1 ≤ 17) }
+{
+    if target == Target::Unit {
+        return Ok((0, 0));
+    }
+    let [first] = front::<1>(bytes)?;
+    if target.is_exceeded_by(first) {
+        return Err(Fault {
+            reason: Reason::CompactTooLarge,
+            at: 0,
+        });
+    }
+    let (value, len) = read_form(bytes, first)?;
+    if len != compact_len(value) {
+        return Err(Fault {
+            reason: Reason::CompactNotShortest,
+            at: 0,
+        });
+    }
+    if !target.holds(value) {
+        return Err(Fault {
+            reason: Reason::CompactTooLarge,
+            at: 0,
+        });
+    }
+    Ok((value, len))
+}
+
+/// How many bytes the fourth form has behind the first one, for a value that needs that form.
+fn big_bytes(value: u128) -> usize
+    requires { 2 ^ 30 ≤ value }
+    ensures exact { result ≡ big_bytes value }
+    ensures least { 4 ≤ result }
+    ensures most { result ≤ 16 }
+{
+    value.ilog2() as usize / 8 + 1
+}
+
+/// How many bytes the compact integer of this value takes: 1, 2 or 4 below 2^6, 2^14 or 2^30, and else one more than
+/// the value itself needs, at most 17.
+pub fn compact_len(value: u128) -> usize
+    ensures exact { result ≡ length (compact value) }
+    ensures bound { result ≤ 17 }
+{
+    match value {
+        0..0x40 => 1,
+        0x40..0x4000 => 2,
+        0x4000..0x4000_0000 => 4,
+        _ => big_bytes(value) + 1,
+    }
+}
+
+/// Puts the fourth form of a value that needs it at the front of the array, and answers its length.
+fn put_big(value: u128, out: &mut [u8; 17]) -> usize
+    requires { 2 ^ 30 ≤ value }
+    ensures len { result ≡ length (compact value) }
+    ensures bound { result ≤ 17 }
+    ensures bytes { out.new ≡ compact value ++ drop result out.old }
+{
+    let count = big_bytes(value);
+    out[0] = (count as u8 - 4) * 4 + 3;
+    out[1..=count].copy_from_slice(&value.to_le_bytes()[..count]);
+    count + 1
+}
+
+/// Puts the compact integer of this value at the front of the array, and answers its length, 1 to 17 bytes. The rest
+/// of the array stays as it was.
+pub fn put_compact(value: u128, out: &mut [u8; 17]) -> usize
+    ensures len { result ≡ length (compact value) }
+    ensures bound { result ≤ 17 }
+    ensures bytes { out.new ≡ compact value ++ drop result out.old }
+{
+    match value {
+        0..0x40 => {
+            out[0] = value as u8 * 4;
+            1
+        }
+        0x40..0x4000 => {
+            out[..2].copy_from_slice(&(value as u16 * 4 + 1).to_le_bytes());
+            2
+        }
+        0x4000..0x4000_0000 => {
+            out[..4].copy_from_slice(&(value as u32 * 4 + 2).to_le_bytes());
+            4
+        }
+        _ => put_big(value, out),
+    }
+}
+
+/// Appends the compact integer of this value, 1 to 17 bytes. Where memory is refused the vector stays as it was.
+pub fn write_compact(out: &mut Vec<u8>, value: u128) -> Result<(), AllocError>
+    ensures ok { OnOk result (out.new.items ≡ out.old.items ++ compact value) }
+    ensures err { OnErr result (out.new.items ≡ out.old.items) }
+{
+    let mut spelled = [0; 17];
+    let len = put_compact(value, &mut spelled);
+    out.extend_from_slice(&spelled[..len])
+}

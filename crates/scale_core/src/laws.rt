@@ -1,0 +1,35 @@
+//! Laws of the spellings: each is the contract of a function that does nothing, so that it is proved.
+
+ghost use Rattle.scale_core.specs.Laws.{CompactIsPrefixFree, CompactIsReadAgain, CompactIsSpelled, TextIsPrefixFree, TextIsReadAgain, TextIsSpelled};
+
+/// No compact integer's spelling is the front of another's with the same target: where two spellings are fronts of
+/// one list of bytes, they spell one number and are one spelling.
+pub fn compact_is_prefix_free()
+    ensures { CompactIsPrefixFree }
+{}
+
+/// What spells a compact integer is read as that integer, whatever follows.
+pub fn compact_is_read_again()
+    ensures { CompactIsReadAgain }
+{}
+
+/// What is read as a compact integer stands on the front as its one spelling.
+pub fn compact_is_spelled()
+    ensures { CompactIsSpelled }
+{}
+
+/// No text's spelling is the front of another's: where two spellings are fronts of one list of bytes, they spell one
+/// text and are one spelling.
+pub fn text_is_prefix_free()
+    ensures { TextIsPrefixFree }
+{}
+
+/// What spells a text is read as that text, whatever follows.
+pub fn text_is_read_again()
+    ensures { TextIsReadAgain }
+{}
+
+/// What is read as a text stands on the front as its one spelling.
+pub fn text_is_spelled()
+    ensures { TextIsSpelled }
+{}
