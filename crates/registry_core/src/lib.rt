@@ -1,0 +1,26 @@
+//! Type registries in their portable form: the types of scale-info, read off bytes with the first fault and its place,
+//! and written in their one spelling.
+#![tactic(auto)]
+
+mod definition;
+mod fault;
+mod items;
+pub mod laws;
+mod primitive;
+mod reading;
+mod registry;
+mod text;
+mod type_id;
+mod type_info;
+mod writing;
+
+pub use definition::{Arm, Field, TypeDef};
+pub use fault::{RegistryFault, RegistryReason};
+pub use items::Items;
+pub use primitive::Primitive;
+pub use reading::{read_metadata, read_registry};
+pub use registry::Registry;
+pub use text::Text;
+pub use type_id::TypeId;
+pub use type_info::{Param, TypeInfo};
+pub use writing::write_registry;

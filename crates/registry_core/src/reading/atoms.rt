@@ -1,0 +1,128 @@
+//! What a registry is made of in the end: lengths, ids, texts and single bytes.
+
+ghost use Rattle.std.specs.Prelude.{◌≡◌};
+ghost use Rattle.scale_core.specs.Read.{number_at};
+ghost use Rattle.registry_core.specs.Gives.{Gives};
+ghost use Rattle.registry_core.specs.Reading.{lifted, length_at, string_at, texts_at, type_id_at, type_ids_at, option_at, byte_at};
+
+use super::stop::Stop;
+use crate::fault::RegistryReason;
+use crate::items::Items;
+use crate::text::Text;
+use crate::type_id::TypeId;
+use scale_core::{Target, read_compact, read_text, read_u32};
+use std::alloc::Global;
+
+/// A length or an id.
+pub(crate) fn length_of(bytes: &[u8]) -> Result<(u32, &[u8]), Stop<'_>>
+    ensures { Gives (λ x. (x.0, x.1.now)) result (length_at bytes.now) }
+{
+    match read_compact(bytes, Target::U32) {
+        Ok((length, len)) => Ok((length as u32, &bytes[len..])),
+        Err(fault) => Err(Stop::at_fault(fault, bytes)),
+    }
+}
+
+/// A text, in memory of its own.
+pub(crate) fn text_of(alloc: Global, bytes: &[u8]) -> Result<(Text, &[u8]), Stop<'_>>
+    ensures { Gives (λ x. (x.0, x.1.now)) result (string_at bytes.now) }
+{
+    match read_text(bytes) {
+        Ok((text, len)) => {
+            let text = String::from_str(alloc, text)?;
+            Ok((Text::from_string(text), &bytes[len..]))
+        }
+        Err(fault) => Err(Stop::at_fault(fault, bytes)),
+    }
+}
+
+/// A byte that may be any.
+pub(crate) fn byte_of(bytes: &[u8]) -> Result<(u8, &[u8]), Stop<'_>>
+    ensures { Gives (λ x. (x.0, x.1.now)) result (byte_at bytes.now) }
+{
+    match bytes {
+        [] => Err(Stop::Fault(RegistryReason::Truncated, bytes)),
+        [byte, rest @ ..] => Ok((*byte, rest)),
+    }
+}
+
+/// A number of four bytes.
+pub(crate) fn word_of(bytes: &[u8]) -> Result<(u32, &[u8]), Stop<'_>>
+    ensures { Gives (λ x. (x.0, x.1.now)) result (lifted (number_at 4 bytes.now)) }
+{
+    match read_u32(bytes) {
+        Ok((number, len)) => Ok((number, &bytes[len..])),
+        Err(fault) => Err(Stop::at_fault(fault, bytes)),
+    }
+}
+
+/// The position of a type.
+pub(crate) fn type_id_of(bytes: &[u8]) -> Result<(TypeId, &[u8]), Stop<'_>>
+    ensures { Gives (λ x. (x.0, x.1.now)) result (type_id_at bytes.now) }
+{
+    let (id, rest) = length_of(bytes)?;
+    Ok((TypeId(id), rest))
+}
+
+/// The position of a type, which may be left out.
+pub(crate) fn optional_type_id_of(bytes: &[u8]) -> Result<(Option<TypeId>, &[u8]), Stop<'_>>
+    ensures { Gives (λ x. (x.0, x.1.now)) result (option_at type_id_at bytes.now) }
+{
+    match bytes {
+        [] => Err(Stop::Fault(RegistryReason::Truncated, bytes)),
+        [0, rest @ ..] => Ok((None, rest)),
+        [1, rest @ ..] => {
+            let (ty, rest) = type_id_of(rest)?;
+            Ok((Some(ty), rest))
+        }
+        [_, ..] => Err(Stop::Fault(RegistryReason::BadOption, bytes)),
+    }
+}
+
+/// A text that may be left out.
+pub(crate) fn optional_text_of(
+    alloc: Global,
+    bytes: &[u8],
+) -> Result<(Option<Text>, &[u8]), Stop<'_>>
+    ensures { Gives (λ x. (x.0, x.1.now)) result (option_at string_at bytes.now) }
+{
+    match bytes {
+        [] => Err(Stop::Fault(RegistryReason::Truncated, bytes)),
+        [0, rest @ ..] => Ok((None, rest)),
+        [1, behind @ ..] => {
+            let (text, rest) = text_of(alloc, behind)?;
+            Ok((Some(text), rest))
+        }
+        [_, ..] => Err(Stop::Fault(RegistryReason::BadOption, bytes)),
+    }
+}
+
+/// The positions of types: how many, and one behind the other.
+#[tactic(auto, unfolding(crate::specs::Reading::type_ids_at))]
+pub(crate) fn type_ids_of(alloc: Global, bytes: &[u8]) -> Result<(Items<TypeId>, &[u8]), Stop<'_>>
+    ensures { Gives (λ x. (x.0, x.1.now)) result (type_ids_at bytes.now) }
+{
+    let (count, mut rest) = length_of(bytes)?;
+    let mut ids = Vec::new(alloc);
+    'ids: for _ in 0..count {
+        let (id, after) = type_id_of(rest)?;
+        ids.push(id)?;
+        rest = after;
+    }
+    Ok((Items::from_vec(ids), rest))
+}
+
+/// Texts: how many, and one behind the other.
+#[tactic(auto, unfolding(crate::specs::Reading::texts_at))]
+pub(crate) fn texts_of(alloc: Global, bytes: &[u8]) -> Result<(Items<Text>, &[u8]), Stop<'_>>
+    ensures { Gives (λ x. (x.0, x.1.now)) result (texts_at bytes.now) }
+{
+    let (count, mut rest) = length_of(bytes)?;
+    let mut texts = Vec::new(alloc);
+    'texts: for _ in 0..count {
+        let (text, after) = text_of(alloc, rest)?;
+        texts.push(text)?;
+        rest = after;
+    }
+    Ok((Items::from_vec(texts), rest))
+}

@@ -1,0 +1,149 @@
+//! What a type is made of: fields, arms and the eight kinds of definition.
+
+ghost use Rattle.std.specs.Prelude.{◌≡◌};
+ghost use Rattle.registry_core.specs.Gives.{Gives};
+ghost use Rattle.registry_core.specs.Reading.{field_at, fields_at, arm_at, arms_at, primitive_at, array_at, bit_sequence_at, definition_at};
+
+use super::atoms::{
+    byte_of, length_of, optional_text_of, text_of, texts_of, type_id_of, type_ids_of, word_of,
+};
+use super::stop::Stop;
+use crate::definition::{Arm, Field, TypeDef};
+use crate::fault::RegistryReason;
+use crate::items::Items;
+use crate::primitive::Primitive;
+use std::alloc::Global;
+
+/// A field.
+#[tactic(auto, unfolding(crate::specs::Reading::field_at))]
+fn field_of(alloc: Global, bytes: &[u8]) -> Result<(Field, &[u8]), Stop<'_>>
+    ensures { Gives (λ x. (x.0, x.1.now)) result (field_at bytes.now) }
+{
+    let (name, rest) = optional_text_of(alloc, bytes)?;
+    let (ty, rest) = type_id_of(rest)?;
+    let (type_name, rest) = optional_text_of(alloc, rest)?;
+    let (docs, rest) = texts_of(alloc, rest)?;
+    let field = Field {
+        name,
+        ty,
+        type_name,
+        docs,
+    };
+    Ok((field, rest))
+}
+
+/// Fields: how many, and one behind the other.
+#[tactic(auto, unfolding(crate::specs::Reading::fields_at))]
+fn fields_of(alloc: Global, bytes: &[u8]) -> Result<(Items<Field>, &[u8]), Stop<'_>>
+    ensures { Gives (λ x. (x.0, x.1.now)) result (fields_at bytes.now) }
+{
+    let (count, mut rest) = length_of(bytes)?;
+    let mut fields = Vec::new(alloc);
+    'fields: for _ in 0..count {
+        let (field, after) = field_of(alloc, rest)?;
+        fields.push(field)?;
+        rest = after;
+    }
+    Ok((Items::from_vec(fields), rest))
+}
+
+/// An arm.
+#[tactic(auto, unfolding(crate::specs::Reading::arm_at))]
+fn arm_of(alloc: Global, bytes: &[u8]) -> Result<(Arm, &[u8]), Stop<'_>>
+    ensures { Gives (λ x. (x.0, x.1.now)) result (arm_at bytes.now) }
+{
+    let (name, rest) = text_of(alloc, bytes)?;
+    let (fields, rest) = fields_of(alloc, rest)?;
+    let (index, rest) = byte_of(rest)?;
+    let (docs, rest) = texts_of(alloc, rest)?;
+    let arm = Arm {
+        name,
+        fields,
+        index,
+        docs,
+    };
+    Ok((arm, rest))
+}
+
+/// Arms: how many, and one behind the other.
+#[tactic(auto, unfolding(crate::specs::Reading::arms_at))]
+fn arms_of(alloc: Global, bytes: &[u8]) -> Result<(Items<Arm>, &[u8]), Stop<'_>>
+    ensures { Gives (λ x. (x.0, x.1.now)) result (arms_at bytes.now) }
+{
+    let (count, mut rest) = length_of(bytes)?;
+    let mut arms = Vec::new(alloc);
+    'arms: for _ in 0..count {
+        let (arm, after) = arm_of(alloc, rest)?;
+        arms.push(arm)?;
+        rest = after;
+    }
+    Ok((Items::from_vec(arms), rest))
+}
+
+/// A primitive, behind the definition's byte.
+fn primitive_of(bytes: &[u8]) -> Result<(Primitive, &[u8]), Stop<'_>>
+    ensures { Gives (λ x. (x.0, x.1.now)) result (primitive_at bytes.now) }
+{
+    let (byte, rest) = byte_of(bytes)?;
+    match Primitive::from_byte(byte) {
+        Some(primitive) => Ok((primitive, rest)),
+        None => Err(Stop::Fault(RegistryReason::BadPrimitive, bytes)),
+    }
+}
+
+/// An array, behind the definition's byte.
+#[tactic(auto, unfolding(crate::specs::Reading::array_at))]
+fn array_of(bytes: &[u8]) -> Result<(TypeDef, &[u8]), Stop<'_>>
+    ensures { Gives (λ x. (x.0, x.1.now)) result (array_at bytes.now) }
+{
+    let (len, rest) = word_of(bytes)?;
+    let (element, rest) = type_id_of(rest)?;
+    Ok((TypeDef::Array(len, element), rest))
+}
+
+/// A bit sequence, behind the definition's byte.
+#[tactic(auto, unfolding(crate::specs::Reading::bit_sequence_at))]
+fn bit_sequence_of(bytes: &[u8]) -> Result<(TypeDef, &[u8]), Stop<'_>>
+    ensures { Gives (λ x. (x.0, x.1.now)) result (bit_sequence_at bytes.now) }
+{
+    let (store, rest) = type_id_of(bytes)?;
+    let (order, rest) = type_id_of(rest)?;
+    Ok((TypeDef::BitSequence { store, order }, rest))
+}
+
+/// A definition: its byte, and what follows it.
+#[tactic(auto, unfolding(crate::specs::Reading::definition_at))]
+pub(crate) fn definition_of(alloc: Global, bytes: &[u8]) -> Result<(TypeDef, &[u8]), Stop<'_>>
+    ensures { Gives (λ x. (x.0, x.1.now)) result (definition_at bytes.now) }
+{
+    let (kind, rest) = byte_of(bytes)?;
+    match kind {
+        0 => {
+            let (fields, rest) = fields_of(alloc, rest)?;
+            Ok((TypeDef::Composite(fields), rest))
+        }
+        1 => {
+            let (arms, rest) = arms_of(alloc, rest)?;
+            Ok((TypeDef::Variant(arms), rest))
+        }
+        2 => {
+            let (element, rest) = type_id_of(rest)?;
+            Ok((TypeDef::Sequence(element), rest))
+        }
+        3 => array_of(rest),
+        4 => {
+            let (members, rest) = type_ids_of(alloc, rest)?;
+            Ok((TypeDef::Tuple(members), rest))
+        }
+        5 => {
+            let (primitive, rest) = primitive_of(rest)?;
+            Ok((TypeDef::Primitive(primitive), rest))
+        }
+        6 => {
+            let (target, rest) = type_id_of(rest)?;
+            Ok((TypeDef::Compact(target), rest))
+        }
+        7 => bit_sequence_of(rest),
+        _ => Err(Stop::Fault(RegistryReason::BadDefinition, bytes)),
+    }
+}

@@ -1,0 +1,76 @@
+//! Why a part of a registry was not read.
+
+ghost use Rattle.std.specs.Prelude.{◌≡◌, ◌≤◌, length, drop};
+ghost use Rattle.registry_core.specs.Gives.{IsFaultAt, IsWithin, fault_of};
+ghost use Rattle.registry_core.specs.Reading.{reason_of};
+ghost use Rattle.registry_core.specs.declared.reading.stop.Stop.TheVariants.{Memory};
+
+use crate::fault::{RegistryFault, RegistryReason};
+use scale_core::{Fault, Reason};
+use std::alloc::{AllocError, AllocFailed};
+
+/// Why a part was not read.
+#[derive(Drop)]
+pub(crate) enum Stop<'a> {
+    /// Memory was refused.
+    Memory,
+    /// The first fault, and the bytes from its place on.
+    Fault(RegistryReason, &'a [u8]),
+}
+
+/// Why a number or a text is refused, as a reason of the registry. Neither is refused as a boolean or a character.
+fn registry_reason(reason: Reason) -> RegistryReason
+    ensures { result ≡ reason_of reason }
+{
+    match reason {
+        Reason::Truncated => RegistryReason::Truncated,
+        Reason::BadUtf8 | Reason::BadChar => RegistryReason::BadUtf8,
+        Reason::CompactNotShortest => RegistryReason::CompactNotShortest,
+        Reason::CompactTooLarge => RegistryReason::CompactTooLarge,
+        Reason::BadBool => RegistryReason::BadOption,
+    }
+}
+
+impl<'a> Stop<'a> {
+    /// The fault of a number or a text on the front of these bytes.
+    pub(crate) fn at_fault(fault: Fault, bytes: &'a [u8]) -> Stop<'a>
+        requires { fault.at ≤ length bytes.now }
+        ensures { IsFaultAt (reason_of fault.reason) (drop fault.at bytes.now) result }
+    {
+        let left = &bytes[fault.at as usize..];
+        Stop::Fault(registry_reason(fault.reason), left)
+    }
+
+    /// Why the reading of these bytes stopped, and where.
+    pub(crate) fn into_fault(self, bytes: &[u8]) -> RegistryFault
+        requires { IsWithin bytes.now self }
+        ensures { result ≡ fault_of (length bytes.now) self.entry }
+    {
+        match self {
+            Stop::Memory => RegistryFault {
+                reason: RegistryReason::OutOfMemory,
+                at: 0,
+            },
+            Stop::Fault(reason, left) => RegistryFault {
+                reason,
+                at: (bytes.len() - left.len()) as u64,
+            },
+        }
+    }
+}
+
+impl From<AllocError> for Stop<'_> {
+    ghost from_gives = { λ _ stop. stop ≡ Memory };
+
+    fn from(_error: AllocError) -> Self {
+        Stop::Memory
+    }
+}
+
+impl<T: Drop> From<AllocFailed<T>> for Stop<'_> {
+    ghost from_gives = { λ _ stop. stop ≡ Memory };
+
+    fn from(_error: AllocFailed<T>) -> Self {
+        Stop::Memory
+    }
+}

@@ -1,0 +1,221 @@
+//! Registries, written in their one spelling.
+
+ghost use Rattle.std.specs.Prelude.{◌≡◌, ◌<◌, ◌^◌, ◌++◌, ◌∷◌, OnOk, IfOk};
+ghost use Rattle.scale_core.specs.Compact.{compact};
+ghost use Rattle.registry_core.specs.Fits.{FitsText, FitsTexts, FitsOption, FitsList, FitsParam, FitsField, FitsArm, FitsDefinition, FitsType};
+ghost use Rattle.registry_core.specs.Spelling.{sequence, text, texts, option, type_id, param, field, arm, definition, type_info, spelling};
+
+use crate::definition::{Arm, Field, TypeDef};
+use crate::items::Items;
+use crate::registry::Registry;
+use crate::text::Text;
+use crate::type_id::TypeId;
+use crate::type_info::{Param, TypeInfo};
+use scale_core::{write_compact, write_text, write_u32};
+use std::alloc::{AllocError, Global};
+
+/// Appends a text.
+fn put_text(out: &mut Vec<u8>, value: &Text) -> Result<(), AllocError>
+    requires { FitsText value.now }
+    ensures { OnOk result (out.new.items ≡ out.old.items ++ text value.now) }
+{
+    write_text(out, value.as_str())
+}
+
+/// Appends a text that may be left out.
+fn put_optional_text(out: &mut Vec<u8>, value: &Option<Text>) -> Result<(), AllocError>
+    requires { FitsOption FitsText value.now }
+    ensures { OnOk result (out.new.items ≡ out.old.items ++ option text value.now) }
+{
+    match value {
+        None => out.push(0)?,
+        Some(value) => {
+            out.push(1)?;
+            put_text(out, value)?;
+        }
+    }
+    Ok(())
+}
+
+/// Appends texts: how many, and one behind the other.
+fn put_texts(out: &mut Vec<u8>, values: &Items<Text>) -> Result<(), AllocError>
+    requires { FitsTexts values.now }
+    ensures { OnOk result (out.new.items ≡ out.old.items ++ texts values.now) }
+{
+    write_compact(out, values.len() as u128)?;
+    'texts: for value in values.as_slice() {
+        put_text(out, value)?;
+    }
+    Ok(())
+}
+
+/// Appends the position of a type.
+fn put_type_id(out: &mut Vec<u8>, id: TypeId) -> Result<(), AllocError>
+    ensures { OnOk result (out.new.items ≡ out.old.items ++ type_id id) }
+{
+    write_compact(out, u128::from(id.0))
+}
+
+/// Appends the position of a type, which may be left out.
+fn put_optional_type_id(out: &mut Vec<u8>, id: Option<TypeId>) -> Result<(), AllocError>
+    ensures { OnOk result (out.new.items ≡ out.old.items ++ option type_id id) }
+{
+    match id {
+        None => out.push(0)?,
+        Some(id) => {
+            out.push(1)?;
+            put_type_id(out, id)?;
+        }
+    }
+    Ok(())
+}
+
+/// Appends the positions of types: how many, and one behind the other.
+fn put_type_ids(out: &mut Vec<u8>, ids: &Items<TypeId>) -> Result<(), AllocError>
+    ensures { OnOk result (out.new.items ≡ out.old.items ++ sequence type_id ids.now) }
+{
+    write_compact(out, ids.len() as u128)?;
+    'ids: for id in ids.as_slice() {
+        put_type_id(out, *id)?;
+    }
+    Ok(())
+}
+
+/// Appends a parameter.
+fn put_param(out: &mut Vec<u8>, value: &Param) -> Result<(), AllocError>
+    requires { FitsParam value.now }
+    ensures { OnOk result (out.new.items ≡ out.old.items ++ param value.now) }
+{
+    put_text(out, &value.name)?;
+    put_optional_type_id(out, value.ty)
+}
+
+/// Appends parameters: how many, and one behind the other.
+fn put_params(out: &mut Vec<u8>, values: &Items<Param>) -> Result<(), AllocError>
+    requires { FitsList FitsParam values.now }
+    ensures { OnOk result (out.new.items ≡ out.old.items ++ sequence param values.now) }
+{
+    write_compact(out, values.len() as u128)?;
+    'params: for value in values.as_slice() {
+        put_param(out, value)?;
+    }
+    Ok(())
+}
+
+/// Appends a field.
+fn put_field(out: &mut Vec<u8>, value: &Field) -> Result<(), AllocError>
+    requires { FitsField value.now }
+    ensures { OnOk result (out.new.items ≡ out.old.items ++ field value.now) }
+{
+    put_optional_text(out, &value.name)?;
+    put_type_id(out, value.ty)?;
+    put_optional_text(out, &value.type_name)?;
+    put_texts(out, &value.docs)
+}
+
+/// Appends fields: how many, and one behind the other.
+fn put_fields(out: &mut Vec<u8>, values: &Items<Field>) -> Result<(), AllocError>
+    requires { FitsList FitsField values.now }
+    ensures { OnOk result (out.new.items ≡ out.old.items ++ sequence field values.now) }
+{
+    write_compact(out, values.len() as u128)?;
+    'fields: for value in values.as_slice() {
+        put_field(out, value)?;
+    }
+    Ok(())
+}
+
+/// Appends an arm.
+fn put_arm(out: &mut Vec<u8>, value: &Arm) -> Result<(), AllocError>
+    requires { FitsArm value.now }
+    ensures { OnOk result (out.new.items ≡ out.old.items ++ arm value.now) }
+{
+    put_text(out, &value.name)?;
+    put_fields(out, &value.fields)?;
+    out.push(value.index)?;
+    put_texts(out, &value.docs)
+}
+
+/// Appends arms: how many, and one behind the other.
+fn put_arms(out: &mut Vec<u8>, values: &Items<Arm>) -> Result<(), AllocError>
+    requires { FitsList FitsArm values.now }
+    ensures { OnOk result (out.new.items ≡ out.old.items ++ sequence arm values.now) }
+{
+    write_compact(out, values.len() as u128)?;
+    'arms: for value in values.as_slice() {
+        put_arm(out, value)?;
+    }
+    Ok(())
+}
+
+/// Appends a definition: its byte, and what follows it.
+fn put_definition(out: &mut Vec<u8>, value: &TypeDef) -> Result<(), AllocError>
+    requires { FitsDefinition value.now }
+    ensures { OnOk result (out.new.items ≡ out.old.items ++ definition value.now) }
+{
+    match value {
+        TypeDef::Composite(fields) => {
+            out.push(0)?;
+            put_fields(out, fields)
+        }
+        TypeDef::Variant(arms) => {
+            out.push(1)?;
+            put_arms(out, arms)
+        }
+        TypeDef::Sequence(element) => {
+            out.push(2)?;
+            put_type_id(out, *element)
+        }
+        TypeDef::Array(len, element) => {
+            out.push(3)?;
+            write_u32(out, *len)?;
+            put_type_id(out, *element)
+        }
+        TypeDef::Tuple(members) => {
+            out.push(4)?;
+            put_type_ids(out, members)
+        }
+        TypeDef::Primitive(primitive) => {
+            out.push(5)?;
+            out.push(primitive.to_byte())?;
+            Ok(())
+        }
+        TypeDef::Compact(target) => {
+            out.push(6)?;
+            put_type_id(out, *target)
+        }
+        TypeDef::BitSequence { store, order } => {
+            out.push(7)?;
+            put_type_id(out, *store)?;
+            put_type_id(out, *order)
+        }
+    }
+}
+
+/// Appends a type, without its id.
+fn put_type_info(out: &mut Vec<u8>, value: &TypeInfo) -> Result<(), AllocError>
+    requires { FitsType value.now }
+    ensures { OnOk result (out.new.items ≡ out.old.items ++ type_info value.now) }
+{
+    put_texts(out, &value.path)?;
+    put_params(out, &value.params)?;
+    put_definition(out, &value.shape)?;
+    put_texts(out, &value.docs)
+}
+
+/// The one spelling of the registry, without a prefix (scale-info, `PortableRegistry` in its portable form).
+///
+/// Where memory is refused nothing is kept, and the registry is as it was.
+#[tactic(auto, unfolding(crate::specs::Spelling::spelling))]
+pub fn write_registry(alloc: Global, registry: &Registry) -> Result<Vec<u8>, AllocError>
+    ensures { IfOk result (λ bytes. bytes.items ≡ spelling registry.now) }
+{
+    let mut out = Vec::new(alloc);
+    let types = registry.types();
+    write_compact(&mut out, types.len() as u128)?;
+    'types: for (position, value) in types.iter().enumerate() {
+        write_compact(&mut out, position as u128)?;
+        put_type_info(&mut out, value)?;
+    }
+    Ok(out)
+}
