@@ -1,0 +1,10 @@
+pub mod Ranks
+pub mod TargetsFound
+pub mod Known
+pub mod Wide
+pub mod FirstFault
+pub mod FirstArm
+pub mod Seen
+pub mod Unknown
+pub mod Settled
+pub mod Equal

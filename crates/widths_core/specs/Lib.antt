@@ -1,0 +1,11 @@
+pub mod Types
+pub mod References
+pub mod Arms
+pub mod Widths
+pub mod Targets
+pub mod Classes
+pub mod Layouts
+pub mod Reach
+pub mod Rounds
+pub mod Checks
+pub mod Tables

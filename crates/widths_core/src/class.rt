@@ -1,0 +1,36 @@
+//! How many bytes the values of a type take.
+
+ghost use Rattle.std.specs.Prelude.{◌≡◌};
+
+/// How many bytes the values of a type take.
+#[derive(Clone, Copy, Debug, PartialEq, Eq)]
+pub enum Class {
+    /// It has no value: each would hold another of its type, without end, or the type is a variant without arms.
+    NoValue,
+    /// Its one value takes no bytes.
+    Empty,
+    /// It has values and takes bytes. Bit sequences, and compacts that stand over no unsigned integer, count as such.
+    Sized,
+}
+
+impl Class {
+    ghost use Rattle.widths_core.specs.Rounds.{joined, has_value};
+
+    /// The class of a value that has a part of each class.
+    pub(crate) fn joined(self, other: Class) -> Class
+        ensures { result ≡ joined self other }
+    {
+        match (self, other) {
+            (Class::NoValue, _) | (_, Class::NoValue) => Class::NoValue,
+            (Class::Empty, Class::Empty) => Class::Empty,
+            (Class::Sized, _) | (_, Class::Sized) => Class::Sized,
+        }
+    }
+
+    /// Does a type of this class have a value?
+    pub(crate) fn has_value(self) -> bool
+        ensures { result ≡ has_value self }
+    {
+        !matches!(self, Class::NoValue)
+    }
+}
