@@ -1,0 +1,10 @@
+pub mod Moves
+pub mod TypeLines
+pub mod Registries
+pub mod Locals
+pub mod Entered
+pub mod Windows
+pub mod Fixed
+pub mod Cuts
+pub mod Texts
+pub mod Decided

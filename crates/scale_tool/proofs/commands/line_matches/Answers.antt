@@ -1,0 +1,22 @@
+use Rattle.std.proofs.Common.{◌≡◌, ◌∙◌, ap, map, true, refl}
+use Rattle.std.proofs.lemmas.Result.{IfErr-weaker, IfOk-weaker}
+use Rattle.clap.specs.Words.{is_simple, matches_of, subcommand_of, takes}
+use Rattle.clap.proofs.OnLiterals.{clap_on_literals}
+use Rattle.scale_tool.specs.Line.{line}
+use Rattle.scale_tool.proofs.commands.line_matches.Goals as goal
+
+simple : is_simple line ≡ true
+unfolding clap_on_literals
+simple = refl
+
+pub returns-clause-found : goal.returns-clause-found
+returns-clause-found c =
+    IfOk-weaker c.try_get_matches_from.result _ _ (λ m h. (h (ap is_simple c.in_ok-line.ensures ∙ simple)).0 ∙ ap (λ a. matches_of a (map (λ s. s.now) c.args.words.now)) c.in_ok-line.ensures) c.try_get_matches_from.ensures.matches
+
+pub returns-clause-subcommand : goal.returns-clause-subcommand
+returns-clause-subcommand c =
+    IfOk-weaker c.try_get_matches_from.result _ _ (λ m h. (h (ap is_simple c.in_ok-line.ensures ∙ simple)).1 ∙ ap (λ a. subcommand_of a (map (λ s. s.now) c.args.words.now)) c.in_ok-line.ensures) c.try_get_matches_from.ensures.matches
+
+pub returns-clause-taken : goal.returns-clause-taken
+returns-clause-taken c =
+    IfErr-weaker c.try_get_matches_from.result _ _ (λ e h taken. h (ap (λ a. takes a (map (λ s. s.now) c.args.words.now)) c.in_ok-line.ensures ∙ taken)) c.try_get_matches_from.ensures.passes

@@ -1,0 +1,112 @@
+-- What the command writes for its job.
+use Rattle.std.specs.Prelude.{◌≡◌, ℕ, List, [], ◌∷◌, ◌++◌, take, Option, Some, None, Ok, Err, slice_get, Bool, true, option_map, option_and_then, false}
+use Rattle.std.specs.Io.KnownBytes.{Appends, Keeps}
+use Rattle.serde_json.specs.Data.{Data}
+use Rattle.serde_json.specs.Written.{compact_text}
+use Rattle.scale_core.specs.Read.{Read}
+use Rattle.registry_core.specs.Reading.{registry_at, metadata_at}
+use Rattle.registry_core.specs.declared.type_info.TypeInfo.{TypeInfo}
+use Rattle.widths_core.specs.References.{first_fault}
+use Rattle.scale_tool.specs.Lines.{type_lines}
+use Rattle.scale_tool.specs.Shown.{outcome, primitive_of, whole}
+use Rattle.scale_tool.specs.declared.task.Job.{Job}
+use Rattle.scale_tool.specs.declared.task.Job.TheVariants as job
+use Rattle.scale_tool.specs.declared.primitive.Primitive.{Primitive}
+use Rattle.scale_tool.specs.declared.refusal.Device.TheVariants as device
+use Rattle.scale_tool.specs.declared.refusal.Refusal.{Refusal}
+use Rattle.scale_tool.specs.declared.refusal.Refusal.TheVariants as refusal
+
+-- what is read, where nothing follows it
+abbrev pub alone : {E X : Type 0} → Read E X → Option X
+alone (Ok (x, [])) = Some x
+alone (Ok (x, b ∷ bs)) = None
+alone (Err e) = None
+
+-- what is read, whatever follows it
+abbrev pub in_front : {E X : Type 0} → Read E X → Option X
+in_front (Ok x) = Some x.0
+in_front (Err e) = None
+
+-- the types of a registry's file: metadata, of which only the type section is read, or a registry alone
+abbrev pub types_of : Bool → List ℕ → Option (List TypeInfo)
+types_of true bytes = in_front (metadata_at bytes)
+types_of false bytes = alone (registry_at bytes)
+
+abbrev pub unless_fault : Option (ℕ × ℕ) → List TypeInfo → Option (List TypeInfo)
+unless_fault None types = Some types
+unless_fault (Some fault) types = None
+
+-- the same where every reference is a position
+unfoldable pub checked_of : Bool → List ℕ → Option (List TypeInfo)
+checked_of metadata bytes = option_and_then (λ types. unless_fault (first_fault types) types) (types_of metadata bytes)
+
+-- the primitive type at a position
+abbrev pub primitive_in : ℕ → List TypeInfo → Option Primitive
+primitive_in id types = option_and_then (λ t. primitive_of t.shape) (slice_get types id)
+
+-- the type at a position of a registry's file
+abbrev pub type_of : Bool → ℕ → List ℕ → Option Primitive
+type_of metadata id registry = option_and_then (primitive_in id) (checked_of metadata registry)
+
+-- a refusal that reading a registry may meet
+abbrev pub IsOfRegistry : Refusal → Type 0
+IsOfRegistry (refusal.Registry fault) = Unit {0}
+IsOfRegistry (refusal.TrailingRegistry at) = Unit {0}
+IsOfRegistry (refusal.Check fault) = Unit {0}
+IsOfRegistry refusal.Memory = Unit {0}
+IsOfRegistry (refusal.UnknownType id) = ⊥
+IsOfRegistry refusal.UnsupportedValue = ⊥
+IsOfRegistry (refusal.Value fault) = ⊥
+IsOfRegistry (refusal.TrailingValue at) = ⊥
+IsOfRegistry (refusal.TooLong at) = ⊥
+IsOfRegistry (refusal.Device device) = ⊥
+
+-- a value's line: its JSON and a line feed
+abbrev pub line_of : Data → List ℕ
+line_of d = compact_text d ++ 10 ∷ []
+
+-- the text of a value's bytes, where neither they nor the registry's are refused
+abbrev pub value_text : Bool → ℕ → List ℕ → List ℕ → Option (List ℕ)
+value_text metadata id registry value = option_and_then (λ p. option_map line_of (whole (outcome p value))) (type_of metadata id registry)
+
+-- the text of a registry's types, where its bytes are not refused
+abbrev pub types_text : Bool → List ℕ → Option (List ℕ)
+types_text metadata registry = option_map type_lines (checked_of metadata registry)
+
+-- a fact about the text of the job, where the bytes that it goes by are known
+abbrev pub OnText : Job → Option (List ℕ) → Option (List ℕ) → (Option (List ℕ) → Type 0) → Type 0
+OnText (job.Types metadata) None value P = Unit {0}
+OnText (job.Types metadata) (Some registry) value P = P (types_text metadata registry)
+OnText (job.Decode id metadata) None value P = Unit {0}
+OnText (job.Decode id metadata) (Some registry) None P = Unit {0}
+OnText (job.Decode id metadata) (Some registry) (Some value) P = P (value_text metadata id registry value)
+
+-- the whole text went out
+abbrev pub WritesAll : Option (List ℕ) → Option (List ℕ) → Option (List ℕ) → Type 0
+WritesAll None old new = ⊥
+WritesAll (Some text) old new = Appends old new text
+
+-- a beginning of the text went out, where there is one
+abbrev pub WritesFront : Option (List ℕ) → Option (List ℕ) → Option (List ℕ) → Type 0
+WritesFront None old new = Keeps old new
+WritesFront (Some text) old new = (n : ℕ) × Appends old new (take n text)
+
+-- the device of the refusal has failed
+abbrev pub HasFailed : Refusal → Bool → Bool → Type 0
+HasFailed (refusal.Device device.Registry) registry value = registry ≡ true
+HasFailed (refusal.Device device.Value) registry value = value ≡ true
+HasFailed (refusal.Device device.Output) registry value = ⊥
+HasFailed (refusal.Registry fault) registry value = Unit {0}
+HasFailed (refusal.TrailingRegistry at) registry value = Unit {0}
+HasFailed (refusal.Check fault) registry value = Unit {0}
+HasFailed refusal.UnsupportedValue registry value = Unit {0}
+HasFailed (refusal.UnknownType id) registry value = Unit {0}
+HasFailed (refusal.Value fault) registry value = Unit {0}
+HasFailed (refusal.TrailingValue at) registry value = Unit {0}
+HasFailed (refusal.TooLong at) registry value = Unit {0}
+HasFailed refusal.Memory registry value = Unit {0}
+
+-- the job goes by its registry alone
+abbrev pub ReadsNoValue : Job → Type 0
+ReadsNoValue (job.Types metadata) = Unit {0}
+ReadsNoValue (job.Decode id metadata) = ⊥

@@ -1,0 +1,7 @@
+pub mod Answer
+pub mod Explained
+pub mod Line
+pub mod Lines
+pub mod Moved
+pub mod Refused
+pub mod Shown

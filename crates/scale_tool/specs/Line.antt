@@ -1,0 +1,62 @@
+-- The command line, and the job that its words name.
+use Rattle.std.specs.Prelude.{◌≡◌, ℕ, List, Some, None, Option, true, false, Bool, codes}
+use Rattle.clap.specs.Words.{App, Row, Rule, Text, first_of, one_of, new_app, new_rule, with_rule, with_subcommand}
+use Rattle.std.specs.Str.Parse.{IsNumeral, digits_value}
+use Rattle.scale_tool.specs.declared.task.Job.{Job}
+use Rattle.scale_tool.specs.declared.task.Job.TheVariants as jobs
+use Rattle.clap.specs.declared.builder.action.ArgAction.TheVariants.{SetTrue}
+
+abbrev pub file : Rule
+file = record (new_rule (codes "FILE")) { required = true }
+
+abbrev pub id : Rule
+id = record (new_rule (codes "ID")) { required = true }
+
+abbrev pub value_file : Rule
+value_file = record (new_rule (codes "VALUEFILE")) { required = true }
+
+abbrev pub metadata : Rule
+metadata = record (new_rule (codes "metadata")) { long = Some (codes "metadata"); action = Some SetTrue }
+
+abbrev pub types : App
+types = with_rule (with_rule (new_app (codes "types")) file) metadata
+
+abbrev pub decode : App
+decode = with_rule (with_rule (with_rule (with_rule (new_app (codes "decode")) file) id) value_file) metadata
+
+-- the command, which does nothing without a subcommand
+abbrev pub with_required_subcommand : App → App
+with_required_subcommand a = record { top = record a.top { subcommand_required = true }; subs = a.subs }
+
+abbrev pub line : App
+line = with_subcommand (with_subcommand (with_required_subcommand (new_app (codes "scaleview"))) types.top) decode.top
+
+-- a flag as its one text says it
+abbrev pub IsFlag : Option Text → Bool → Type 0
+IsFlag said flag = (said ≡ None → flag ≡ false) × (said ≡ Some (codes "true") → flag ≡ true) × (said ≡ Some (codes "false") → flag ≡ false)
+
+-- the text is the number in ASCII digits alone
+abbrev pub Spells : Option Text → ℕ → Type 0
+Spells None n = ⊥
+Spells (Some text) n = IsNumeral 10 text × (digits_value 10 text ≡ n)
+
+-- what the matches of `types` tell
+pub record IsTypes (from_metadata : Bool) (file_name : Text) (rows : List Row) : Type 0 where
+  pub metadata_is : IsFlag (one_of (codes "metadata") rows) from_metadata
+  pub file_is : first_of (codes "FILE") rows ≡ Some file_name
+
+-- what the matches of `decode` tell
+pub record IsDecode (position : ℕ) (from_metadata : Bool) (file_name value_name : Text) (rows : List Row) : Type 0 where
+  pub position_is : Spells (first_of (codes "ID") rows) position
+  pub metadata_is : IsFlag (one_of (codes "metadata") rows) from_metadata
+  pub file_is : first_of (codes "FILE") rows ≡ Some file_name
+  pub value_is : first_of (codes "VALUEFILE") rows ≡ Some value_name
+
+-- the job, FILE and VALUEFILE are those that a subcommand's name and matches tell
+abbrev pub IsJob : Job → Text → Option Text → Option (Text × List Row) → Type 0
+IsJob (jobs.Types from_metadata) file_name None sub =
+    (rows : List Row) × (sub ≡ Some (codes "types", rows)) × IsTypes from_metadata file_name rows
+IsJob (jobs.Types from_metadata) file_name (Some value_name) sub = ⊥
+IsJob (jobs.Decode position from_metadata) file_name None sub = ⊥
+IsJob (jobs.Decode position from_metadata) file_name (Some value_name) sub =
+    (rows : List Row) × (sub ≡ Some (codes "decode", rows)) × IsDecode position from_metadata file_name value_name rows

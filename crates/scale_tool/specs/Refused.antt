@@ -1,0 +1,42 @@
+-- The exit status of each refusal.
+use Rattle.std.specs.Prelude.{ℕ}
+use Rattle.registry_core.specs.declared.fault.RegistryFault.{RegistryFault}
+use Rattle.registry_core.specs.declared.fault.RegistryReason.{RegistryReason}
+use Rattle.registry_core.specs.declared.fault.RegistryReason.TheVariants as registry
+use Rattle.widths_core.specs.declared.fault.CheckFault.{CheckFault}
+use Rattle.widths_core.specs.declared.fault.CheckFault.TheVariants as check
+use Rattle.scale_tool.specs.declared.moving.GatherFault.{GatherFault}
+use Rattle.scale_tool.specs.declared.moving.GatherFault.TheVariants as gather
+use Rattle.scale_tool.specs.declared.refusal.Device.{Device}
+use Rattle.scale_tool.specs.declared.refusal.Refusal.{Refusal}
+use Rattle.scale_tool.specs.declared.refusal.Refusal.TheVariants as refusal
+
+abbrev pub status_of : Refusal → ℕ
+status_of (refusal.Registry fault) = 1
+status_of (refusal.TrailingRegistry at) = 1
+status_of (refusal.Check unknown) = 1
+status_of refusal.UnsupportedValue = 1
+status_of (refusal.UnknownType id) = 1
+status_of (refusal.Value fault) = 1
+status_of (refusal.TrailingValue at) = 1
+status_of (refusal.TooLong at) = 1
+status_of (refusal.Device device) = 3
+status_of refusal.Memory = 4
+
+-- why this device gave no input
+abbrev pub refusal_of : GatherFault → Device → Refusal
+refusal_of gather.Device device = refusal.Device device
+refusal_of gather.Memory device = refusal.Memory
+
+abbrev pub refusal_by : RegistryReason → RegistryFault → Refusal
+refusal_by registry.OutOfMemory f = refusal.Memory
+refusal_by _ f = refusal.Registry f
+
+-- a registry's fault, where want of memory is no fault of its bytes
+abbrev pub refusal_of_registry : RegistryFault → Refusal
+refusal_of_registry f = refusal_by f.reason f
+
+-- a check's fault, where want of memory is none of the registry's
+abbrev pub refusal_of_check : CheckFault → Refusal
+refusal_of_check (check.UnknownType from to) = refusal.Check (record { from = from.0; to = to.0 })
+refusal_of_check check.OutOfMemory = refusal.Memory

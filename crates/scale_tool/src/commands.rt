@@ -1,0 +1,94 @@
+//! The command line as `clap` reads it.
+
+ghost use Rattle.std.specs.Prelude.{◌≡◌, IfOk, IfErr, map, true, false};
+ghost use Rattle.clap.specs.Words.{app_of, found_of, rows_of, rule_of, matches_of, subcommand_of, subcommand_rows_of, takes, kind_of};
+ghost use Rattle.clap.specs.declared.Command.TheViews.{out-Command};
+ghost use Rattle.scale_tool.specs.Line.{line, types, decode, file, id, value_file, metadata};
+
+use clap::error::ErrorKind;
+use clap::{Arg, ArgAction, ArgMatches, Command, Error};
+use std::alloc::{AllocError, Global};
+
+fn file_arg<'a>(alloc: Global) -> Arg<'a>
+    ensures rule { rule_of result ≡ file }
+    ensures local { result.global ≡ false }
+{
+    Arg::new(alloc, "FILE")
+        .required(true)
+        .help("The file of the registry, as raw bytes")
+}
+
+fn id_arg<'a>(alloc: Global) -> Arg<'a>
+    ensures rule { rule_of result ≡ id }
+    ensures local { result.global ≡ false }
+{
+    Arg::new(alloc, "ID").required(true).help(
+        "The position of the value's type in the registry, from 0 to 4294967295",
+    )
+}
+
+fn value_file_arg<'a>(alloc: Global) -> Arg<'a>
+    ensures rule { rule_of result ≡ value_file }
+    ensures local { result.global ≡ false }
+{
+    Arg::new(alloc, "VALUEFILE")
+        .required(true)
+        .help("The file of the value, as raw bytes")
+}
+
+fn metadata_arg<'a>(alloc: Global) -> Arg<'a>
+    ensures rule { rule_of result ≡ metadata }
+    ensures local { result.global ≡ false }
+{
+    Arg::new(alloc, "metadata")
+        .long("metadata")
+        .action(ArgAction::SetTrue)
+        .help("FILE is metadata of version 14; what follows its registry is ignored")
+}
+
+fn types_command<'a>(alloc: Global) -> Result<Command<'a>, AllocError>
+    ensures app { IfOk result (λ c. app_of c ≡ types) }
+    ensures local { IfOk result (λ c. (out-Command c).has_globals ≡ false) }
+{
+    let command = Command::new(alloc, "types")
+        .about("Shows the types of a registry, a line each")
+        .arg(file_arg(alloc))?
+        .arg(metadata_arg(alloc))?;
+    Ok(command)
+}
+
+fn decode_command<'a>(alloc: Global) -> Result<Command<'a>, AllocError>
+    ensures app { IfOk result (λ c. app_of c ≡ decode) }
+    ensures local { IfOk result (λ c. (out-Command c).has_globals ≡ false) }
+{
+    let command = Command::new(alloc, "decode")
+        .about("Shows a value as JSON")
+        .arg(file_arg(alloc))?
+        .arg(id_arg(alloc))?
+        .arg(value_file_arg(alloc))?
+        .arg(metadata_arg(alloc))?;
+    Ok(command)
+}
+
+fn line_command<'a>(alloc: Global) -> Result<Command<'a>, AllocError>
+    ensures { IfOk result (λ c. app_of c ≡ line) }
+{
+    let types = types_command(alloc)?;
+    let decode = decode_command(alloc)?;
+    let command = Command::new(alloc, "scaleview")
+        .about("Shows SCALE values by a registry of their types")
+        .subcommand_required(true)
+        .subcommand(types)?
+        .subcommand(decode)?;
+    Ok(command)
+}
+
+/// What the words of a command line say, the program's name first.
+pub(crate) fn line_matches<'a>(alloc: Global, words: &'a [&'a str]) -> Result<ArgMatches<'a>, Error>
+    ensures found { IfOk result (λ m. rows_of (found_of m) ≡ matches_of line (map (λ s. s.now) words.entry.now)) }
+    ensures subcommand { IfOk result (λ m. subcommand_rows_of m ≡ subcommand_of line (map (λ s. s.now) words.entry.now)) }
+    ensures taken { IfErr result (λ e. takes line (map (λ s. s.now) words.entry.now) ≡ true → kind_of e ≡ ErrorKind.OutOfMemory) }
+{
+    let line = line_command(alloc)?;
+    line.try_get_matches_from(words)
+}

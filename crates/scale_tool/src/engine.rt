@@ -1,0 +1,147 @@
+//! The command's engine: a job over readers and writers.
+
+ghost use Rattle.std.specs.Prelude.{◌≡◌, ◌++◌, ◌∷◌, [], ◌⊎◌, true, false, None, Some, IfOk, IfErr, IfSome, IsErrOf, string_bytes};
+ghost use Rattle.std.specs.Io.KnownBytes.{Keeps};
+ghost use Rattle.serde_json.specs.View.{view};
+ghost use Rattle.serde_json.specs.Written.{has_float};
+ghost use Rattle.scale_tool.specs.Answer.{HasFailed, OnText, ReadsNoValue, WritesAll, WritesFront, line_of, types_text, value_text};
+ghost use Rattle.scale_tool.specs.Refused.{status_of};
+
+use crate::lines::type_lines;
+use crate::moving::send;
+use crate::refusal::{Device, Refusal};
+use crate::registry::{read_types, value_type};
+use crate::task::Job;
+use crate::value::read_value;
+use scale_core::{Sink, Source};
+use serde_json::Value;
+use std::alloc::{AllocError, Global};
+use std::io::{Read, Write};
+
+/// The value's JSON and a line feed.
+fn line_text(alloc: Global, value: &Value) -> Result<String, AllocError>
+    ensures { IfOk result (λ text. has_float (view value.now) ≡ false → string_bytes text ≡ line_of (view value.now)) }
+{
+    let mut text = value.to_string(alloc)?;
+    text.push_str("\n")?;
+    Ok(text)
+}
+
+/// The lines of a registry's types.
+fn types_text<R: Read>(
+    alloc: Global,
+    metadata: bool,
+    registry: &mut Source<R>,
+) -> Result<String, Refusal>
+    ensures ok { IfOk result (λ text. IfSome (R.remaining registry.old.device) (λ r. types_text metadata r ≡ Some (string_bytes text))) }
+    ensures refused { IfErr result (λ e. status_of e ≡ 1 → IfSome (R.remaining registry.old.device) (λ r. types_text metadata r ≡ None)) }
+    ensures device { IfErr result (λ e. status_of e ≡ 3 → e ≡ Refusal.Device Device.Registry) }
+    ensures told { IsErrOf result (Refusal.Device Device.Registry) → registry.new.failed ≡ true }
+    ensures quiet { IsErrOf result (Refusal.Device Device.Registry) ⊎ (registry.new.failed ≡ registry.old.failed) }
+{
+    let checked = read_types(alloc, metadata, registry)?;
+    Ok(type_lines(alloc, &checked)?)
+}
+
+/// The line of a value.
+fn value_text<R: Read, V: Read>(
+    alloc: Global,
+    metadata: bool,
+    id: u32,
+    registry: &mut Source<R>,
+    value: &mut Source<V>,
+) -> Result<String, Refusal>
+    ensures ok { IfOk result (λ text. IfSome (R.remaining registry.old.device) (λ r. IfSome (V.remaining value.old.device) (λ v. value_text metadata id r v ≡ Some (string_bytes text)))) }
+    ensures refused { IfErr result (λ e. status_of e ≡ 1 → IfSome (R.remaining registry.old.device) (λ r. IfSome (V.remaining value.old.device) (λ v. value_text metadata id r v ≡ None))) }
+    ensures device { IfErr result (λ e. HasFailed e registry.new.failed value.new.failed) }
+    ensures registry { IsErrOf result (Refusal.Device Device.Registry) ⊎ (registry.new.failed ≡ registry.old.failed) }
+    ensures value { IsErrOf result (Refusal.Device Device.Value) ⊎ (value.new.failed ≡ value.old.failed) }
+{
+    let primitive = value_type(alloc, metadata, id, registry)?;
+    let value = read_value(alloc, primitive, value)?;
+    Ok(line_text(alloc, &value)?)
+}
+
+/// The text that the job writes.
+fn answer<R: Read, V: Read>(
+    alloc: Global,
+    job: Job,
+    registry: &mut Source<R>,
+    value: &mut Source<V>,
+) -> Result<String, Refusal>
+    ensures ok { IfOk result (λ text. OnText job (R.remaining registry.old.device) (V.remaining value.old.device) (λ t. t ≡ Some (string_bytes text))) }
+    ensures refused { IfErr result (λ e. status_of e ≡ 1 → OnText job (R.remaining registry.old.device) (V.remaining value.old.device) (λ t. t ≡ None)) }
+    ensures device { IfErr result (λ e. HasFailed e registry.new.failed value.new.failed) }
+    ensures registry { IsErrOf result (Refusal.Device Device.Registry) ⊎ (registry.new.failed ≡ registry.old.failed) }
+    ensures value { IsErrOf result (Refusal.Device Device.Value) ⊎ (value.new.failed ≡ value.old.failed) }
+    ensures unread { ReadsNoValue job → value.new ≡ value.old }
+{
+    match job {
+        Job::Types { metadata } => types_text(alloc, metadata, registry),
+        Job::Decode { id, metadata } => value_text(alloc, metadata, id, registry, value),
+    }
+}
+
+/// Tells the refusal on `err` in one line, and answers its status. Where there is no memory for the line, that is told.
+fn refuse<E: Write>(alloc: Global, refusal: Refusal, err: &mut Sink<E>) -> u8
+    ensures { (result ≡ status_of refusal) ⊎ ((status_of refusal ≡ 1) × (result ≡ 4)) }
+{
+    if let Some(line) = refusal.fixed_line() {
+        let _ = send(err, line.as_bytes());
+        return refusal.status();
+    }
+    match format!(in alloc; "scaleview: {refusal}\n") {
+        Ok(line) => {
+            let _ = send(err, line.as_bytes());
+            refusal.status()
+        }
+        Err(_) => {
+            let _ = send(err, b"scaleview: memory\n");
+            Refusal::Memory.status()
+        }
+    }
+}
+
+/// Does the job on the bytes of a registry and a value: writes its text to `out` and answers 0, or writes one line to
+/// `err` and answers why there is no text. The value is read only once the registry and the type stand.
+///
+/// The status is 1 where the registry, the type or the value is refused, 3 where a read or a write failed, or a write
+/// took nothing, and 4 where memory was refused. With 1 and 4 nothing was written to `out`, and with 3 a beginning of
+/// the text may stand there. A failed write to `err` changes no status.
+pub fn run<R: Read, V: Read, W: Write, E: Write>(
+    alloc: Global,
+    job: Job,
+    registry: &mut Source<R>,
+    value: &mut Source<V>,
+    out: &mut Sink<W>,
+    err: &mut Sink<E>,
+) -> u8
+    ensures status { (result ≡ 0) ⊎ ((result ≡ 1) ⊎ ((result ≡ 3) ⊎ (result ≡ 4))) }
+
+    // 0 only where the whole text went out, and 1 only where there is none.
+    ensures done { result ≡ 0 → OnText job (R.remaining registry.old.device) (V.remaining value.old.device)
+        (λ text. WritesAll text (W.contents out.old.device) (W.contents out.new.device)) }
+    ensures refused { result ≡ 1 → OnText job (R.remaining registry.old.device) (V.remaining value.old.device)
+        (λ text. text ≡ None) }
+
+    // What stands on `out` without 0: nothing new, or a beginning of the text after a failure.
+    ensures silent { (result ≡ 1) ⊎ (result ≡ 4) → Keeps (W.contents out.old.device) (W.contents out.new.device) }
+    ensures front { result ≡ 3 → OnText job (R.remaining registry.old.device) (V.remaining value.old.device)
+        (λ text. WritesFront text (W.contents out.old.device) (W.contents out.new.device)) }
+
+    // 3 only where a device failed, and no other answer says so.
+    ensures device { result ≡ 3 → (registry.new.failed ≡ true) ⊎ ((value.new.failed ≡ true) ⊎ (out.new.failed ≡ true)) }
+    ensures quiet { (result ≡ 3) ⊎ ((registry.new.failed ≡ registry.old.failed) × (value.new.failed ≡ value.old.failed)
+        × (out.new.failed ≡ out.old.failed)) }
+
+    // The job that shows types does not touch the value.
+    ensures unread { ReadsNoValue job → value.new ≡ value.old }
+{
+    match answer(alloc, job, registry, value) {
+        Ok(text) => match send(out, text.as_bytes()) {
+            Ok(()) => 0,
+            Err(_) => refuse(alloc, Refusal::Device(Device::Output), err),
+        },
+        Err(refusal) => refuse(alloc, refusal, err),
+    }
+}

@@ -1,0 +1,106 @@
+//! The job that a command line names.
+
+ghost use Rattle.std.specs.Prelude.{◌≡◌, ◌^◌, ◌<◌, IfOk, IfSome, map, codes, Some, None, option_map, option_and_then, string_bytes, SomeIff};
+ghost use Rattle.std.specs.Str.Parse.{IsNumeral, digits_value};
+ghost use Rattle.clap.specs.Words.{found_of, rows_of, subcommand_of, subcommand_rows_of};
+ghost use Rattle.scale_tool.specs.Line.{IsJob, line};
+
+use crate::commands::line_matches;
+use crate::task::Job;
+use clap::{ArgMatches, Error};
+use std::alloc::{AllocError, Global};
+
+/// Why a command line names no job.
+#[derive(Debug, Drop)]
+pub enum JobFault {
+    /// What `clap` says of the line: the help that it asks for, what is wrong with it, or want of memory.
+    Line(Error),
+    /// ID is no number from 0 to 4294967295 in ASCII digits alone.
+    Usage,
+    /// Memory was refused.
+    Memory,
+}
+
+impl From<AllocError> for JobFault {
+    fn from(_error: AllocError) -> JobFault {
+        JobFault::Memory
+    }
+}
+
+/// The number that ASCII digits alone spell.
+fn number_of(text: &str) -> Option<u32>
+    ensures { SomeIff result (IsNumeral 10 text.now × (digits_value 10 text.now < 2 ^ 32)) (digits_value 10 text.now) }
+{
+    // `parse` also takes a plus sign.
+    if text.starts_with('+') {
+        return None;
+    }
+    text.parse().ok()
+}
+
+/// The job of `types`, with FILE.
+fn types_job<'a>(matches: &ArgMatches<'a>) -> Option<(Job, &'a str)>
+    ensures { IfSome result (λ j. IsJob j.0 j.1.now None (Some (codes "types", rows_of (found_of matches.now)))) }
+{
+    let metadata = matches.get_flag("metadata");
+    let file = matches.get_str("FILE")?;
+    Some((Job::Types { metadata }, file))
+}
+
+/// The job of `decode`, with FILE and VALUEFILE; None where ID is no number.
+fn decode_job<'a>(matches: &ArgMatches<'a>) -> Option<(Job, &'a str, &'a str)>
+    ensures { IfSome result (λ j. IsJob j.0 j.1.now (Some j.2.now) (Some (codes "decode", rows_of (found_of matches.now)))) }
+{
+    let id = number_of(matches.get_str("ID")?)?;
+    let metadata = matches.get_flag("metadata");
+    let file = matches.get_str("FILE")?;
+    let value_file = matches.get_str("VALUEFILE")?;
+    Some((Job::Decode { id, metadata }, file, value_file))
+}
+
+/// The job that the line's matches name, with FILE and VALUEFILE; None where ID is no number.
+fn job_of<'a>(matches: &ArgMatches<'a>) -> Option<(Job, &'a str, Option<&'a str>)>
+    ensures { IfSome result (λ j. IsJob j.0 j.1.now (option_map (λ s. s.now) j.2) (subcommand_rows_of matches.now)) }
+{
+    let (name, inner) = matches.subcommand()?;
+    if name == "types" {
+        let (job, file) = types_job(inner)?;
+        return Some((job, file, None));
+    }
+    if name == "decode" {
+        let (job, file, value_file) = decode_job(inner)?;
+        return Some((job, file, Some(value_file)));
+    }
+    None
+}
+
+/// The value's file, where there is one, in a string of its own.
+fn owned(alloc: Global, text: Option<&str>) -> Result<Option<String>, AllocError>
+    ensures { IfOk result (λ owned. option_map string_bytes owned ≡ option_map (λ s. s.now) text.entry) }
+{
+    match text {
+        Some(text) => Ok(Some(String::from_str(alloc, text)?)),
+        None => Ok(None),
+    }
+}
+
+/// The job that the words of a command line name, FILE and, where the job has one, VALUEFILE. The program's name is
+/// the first word.
+///
+/// Refuses with `Line` where `clap` answers help or a usage error or wants memory, with `Usage` where ID is not ASCII
+/// digits alone or above 4294967295, and with `Memory` where memory is refused.
+pub fn job(alloc: Global, words: &[&str]) -> Result<(Job, String, Option<String>), JobFault>
+    ensures { IfOk result (λ j. IsJob j.0 (string_bytes j.1) (option_map string_bytes j.2) (subcommand_of line (map (λ s. s.now) words.now))) }
+{
+    match line_matches(alloc, words) {
+        Ok(matches) => match job_of(&matches) {
+            Some((job, file, value_file)) => {
+                let file = String::from_str(alloc, file)?;
+                let value_file = owned(alloc, value_file)?;
+                Ok((job, file, value_file))
+            }
+            None => Err(JobFault::Usage),
+        },
+        Err(error) => Err(JobFault::Line(error)),
+    }
+}

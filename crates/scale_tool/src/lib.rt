@@ -1,0 +1,20 @@
+//! The command `scaleview` without files and process: its engine over readers and writers, and its command line.
+#![tactic(auto)]
+
+mod commands;
+mod early_exit;
+mod engine;
+mod jobs;
+mod lines;
+mod moving;
+mod primitive;
+mod refusal;
+mod registry;
+mod task;
+mod value;
+
+pub use early_exit::{explain, unopened};
+pub use engine::run;
+pub use jobs::{JobFault, job};
+pub use refusal::Device;
+pub use task::Job;

@@ -1,0 +1,102 @@
+//! The registry of a job, checked, and the type that the job is about.
+
+ghost use Rattle.std.specs.Prelude.{◌≡◌, ◌⊎◌, true, None, Some, IfOk, IfErr, IfSome, IsErrOf};
+ghost use Rattle.scale_tool.specs.Answer.{IsOfRegistry, checked_of, primitive_in, type_of, types_of, unless_fault};
+ghost use Rattle.scale_tool.specs.Refused.{status_of};
+ghost use Rattle.widths_core.specs.References.{first_fault};
+
+use crate::moving::gather_all;
+use crate::primitive::Primitive;
+use crate::refusal::{Device, Refusal};
+use registry_core::{Registry, read_metadata, read_registry};
+use scale_core::Source;
+use std::alloc::Global;
+use std::io::Read;
+use widths_core::Checked;
+
+/// The registry that all the bytes spell, or where they are metadata the one behind its prefix.
+fn registry_of(alloc: Global, metadata: bool, bytes: &[u8]) -> Result<Registry, Refusal>
+    ensures ok { IfOk result (λ types. types_of metadata bytes.now ≡ Some types) }
+    ensures err { IfErr result (λ e. IsOfRegistry e × (status_of e ≡ 1 → types_of metadata bytes.now ≡ None)) }
+{
+    if metadata {
+        let (registry, _) = read_metadata(alloc, bytes)?;
+        return Ok(registry);
+    }
+    let (registry, len) = read_registry(alloc, bytes)?;
+    if len < bytes.len() {
+        return Err(Refusal::TrailingRegistry(len as u64));
+    }
+    Ok(registry)
+}
+
+/// The registry with its references checked.
+fn checked(alloc: Global, registry: Registry) -> Result<Checked, Refusal>
+    ensures ok { IfOk result (λ types. unless_fault (first_fault registry) registry ≡ Some types) }
+    ensures err { IfErr result (λ e. IsOfRegistry e × (status_of e ≡ 1 → unless_fault (first_fault registry) registry ≡ None)) }
+{
+    match Checked::new(alloc, registry) {
+        Ok(checked) => Ok(checked),
+        Err((fault, _)) => Err(Refusal::from(fault)),
+    }
+}
+
+/// The registry that all the bytes hold, checked.
+#[tactic(auto, unfolding(crate::specs::Answer::checked_of))]
+fn checked_registry(alloc: Global, metadata: bool, bytes: &[u8]) -> Result<Checked, Refusal>
+    ensures ok { IfOk result (λ types. checked_of metadata bytes.now ≡ Some types) }
+    ensures err { IfErr result (λ e. IsOfRegistry e × (status_of e ≡ 1 → checked_of metadata bytes.now ≡ None)) }
+{
+    let registry = registry_of(alloc, metadata, bytes)?;
+    checked(alloc, registry)
+}
+
+/// The registry that the source holds, checked.
+pub(crate) fn read_types<R: Read>(
+    alloc: Global,
+    metadata: bool,
+    source: &mut Source<R>,
+) -> Result<Checked, Refusal>
+    ensures ok { IfOk result (λ types. IfSome (R.remaining source.old.device) (λ bytes. checked_of metadata bytes ≡ Some types)) }
+    ensures refused { IfErr result (λ e. status_of e ≡ 1 → IfSome (R.remaining source.old.device) (λ bytes. checked_of metadata bytes ≡ None)) }
+    ensures device { IfErr result (λ e. status_of e ≡ 3 → e ≡ Refusal.Device Device.Registry) }
+    ensures told { IsErrOf result (Refusal.Device Device.Registry) → source.new.failed ≡ true }
+    ensures quiet { IsErrOf result (Refusal.Device Device.Registry) ⊎ (source.new.failed ≡ source.old.failed) }
+{
+    let mut bytes = Vec::new(alloc);
+    match gather_all(source, &mut bytes) {
+        Ok(()) => checked_registry(alloc, metadata, bytes.as_slice()),
+        Err(fault) => Err(fault.of(Device::Registry)),
+    }
+}
+
+/// The primitive type at the position.
+fn primitive_at(checked: &Checked, id: u32) -> Result<Primitive, Refusal>
+    ensures ok { IfOk result (λ p. primitive_in id checked.now ≡ Some p) }
+    ensures err { IfErr result (λ e. (status_of e ≡ 1) × (primitive_in id checked.now ≡ None)) }
+{
+    let Some(info) = checked.registry().types().get(id as usize) else {
+        return Err(Refusal::UnknownType(id));
+    };
+    match Primitive::of(&info.shape) {
+        Some(primitive) => Ok(primitive),
+        None => Err(Refusal::UnsupportedValue),
+    }
+}
+
+/// The type of the value at this position.
+pub(crate) fn value_type<R: Read>(
+    alloc: Global,
+    metadata: bool,
+    id: u32,
+    source: &mut Source<R>,
+) -> Result<Primitive, Refusal>
+    ensures ok { IfOk result (λ p. IfSome (R.remaining source.old.device) (λ bytes. type_of metadata id bytes ≡ Some p)) }
+    ensures refused { IfErr result (λ e. status_of e ≡ 1 → IfSome (R.remaining source.old.device) (λ bytes. type_of metadata id bytes ≡ None)) }
+    ensures device { IfErr result (λ e. status_of e ≡ 3 → e ≡ Refusal.Device Device.Registry) }
+    ensures told { IsErrOf result (Refusal.Device Device.Registry) → source.new.failed ≡ true }
+    ensures quiet { IsErrOf result (Refusal.Device Device.Registry) ⊎ (source.new.failed ≡ source.old.failed) }
+{
+    let checked = read_types(alloc, metadata, source)?;
+    primitive_at(&checked, id)
+}

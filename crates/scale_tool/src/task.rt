@@ -1,0 +1,17 @@
+//! What the command is asked to do.
+
+/// A job of the command. The files that it works on are opened by the caller.
+#[derive(Clone, Copy, Debug, PartialEq, Eq)]
+pub enum Job {
+    /// Shows a line for each type of the registry. The value is not read.
+    Types {
+        /// Does the registry stand behind the prefix of metadata?
+        metadata: bool,
+    },
+    /// Shows the value of the type at position `id` as JSON.
+    Decode {
+        id: u32,
+        /// Does the registry stand behind the prefix of metadata?
+        metadata: bool,
+    },
+}
