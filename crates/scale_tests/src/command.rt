@@ -1,0 +1,667 @@
+//! The command's engine over memory: what it writes, tells and answers, and what it does where a device fails.
+
+use crate::paced::{LetterReader, PacedReader, PacedWriter, Then};
+use scale_core::{Sink, Source};
+use scale_tool::{Job, run};
+use std::process::Abort;
+use std::test::Fail;
+
+/// A job's input, and what it must answer.
+#[derive(Clone, Copy)]
+struct Row {
+    name: &'static str,
+    job: Job,
+    registry: &'static [u8],
+    value: &'static [u8],
+    status: u8,
+    out: &'static str,
+    err: &'static str,
+}
+
+const U8: &[u8] = b"\x04\x00\x00\x00\x05\x03\x00";
+
+const U16: &[u8] = b"\x04\x00\x00\x00\x05\x04\x00";
+
+const STR: &[u8] = b"\x04\x00\x00\x00\x05\x02\x00";
+
+const BOOL: &[u8] = b"\x04\x00\x00\x00\x05\x00\x00";
+
+const U8_AND_I32: &[u8] = b"\x08\x00\x00\x00\x05\x03\x00\x04\x00\x00\x05\x0b\x00";
+
+/// A value that is shown.
+fn shown(
+    name: &'static str,
+    registry: &'static [u8],
+    id: u32,
+    value: &'static [u8],
+    out: &'static str,
+) -> Row {
+    Row {
+        name,
+        job: Job::Decode {
+            id,
+            metadata: false,
+        },
+        registry,
+        value,
+        status: 0,
+        out,
+        err: "",
+    }
+}
+
+/// An input that is refused.
+fn refused(
+    name: &'static str,
+    registry: &'static [u8],
+    id: u32,
+    value: &'static [u8],
+    err: &'static str,
+) -> Row {
+    Row {
+        name,
+        job: Job::Decode {
+            id,
+            metadata: false,
+        },
+        registry,
+        value,
+        status: 1,
+        out: "",
+        err,
+    }
+}
+
+/// A registry whose types are shown.
+fn types(name: &'static str, registry: &'static [u8], out: &'static str) -> Row {
+    Row {
+        name,
+        job: Job::Types { metadata: false },
+        registry,
+        value: &[],
+        status: 0,
+        out,
+        err: "",
+    }
+}
+
+/// The row with its registry as metadata.
+fn behind_prefix(row: &Row) -> Row {
+    let mut row = *row;
+    row.job = match row.job {
+        Job::Types { .. } => Job::Types { metadata: true },
+        Job::Decode { id, .. } => Job::Decode { id, metadata: true },
+    };
+    row
+}
+
+/// Runs a row with so many bytes a call, over devices that do not fail.
+fn check_row(rt: &(impl Abort + AllocGlobal), row: &Row, step: usize) {
+    let name = row.name;
+    let alloc = rt.alloc();
+    let mut registry = Source::new(PacedReader::new(row.registry, step, Then::GoesOn));
+    let mut value = Source::new(PacedReader::new(row.value, step, Then::GoesOn));
+    let mut out = Sink::new(PacedWriter::new(alloc, 0, step, Then::GoesOn));
+    let mut err = Sink::new(PacedWriter::new(alloc, 0, step, Then::GoesOn));
+    let status = run(
+        alloc,
+        row.job,
+        &mut registry,
+        &mut value,
+        &mut out,
+        &mut err,
+    );
+    assert_eq!(rt; status, row.status, "the status of {name}");
+    assert_eq!(rt; registry.failed(), false, "the registry of {name}");
+    assert_eq!(rt; value.failed(), false, "the value of {name}");
+    assert_eq!(rt; out.failed(), false, "the output of {name}");
+    let out = out.into_inner();
+    let err = err.into_inner();
+    assert_eq!(rt;
+        out.taken.as_slice(),
+        row.out.as_bytes(),
+        "what {name} writes"
+    );
+    assert_eq!(rt;
+        err.taken.as_slice(),
+        row.err.as_bytes(),
+        "what {name} tells"
+    );
+}
+
+#[test]
+fn values_are_shown_or_refused(rt: HostRuntime) {
+    let rows = [
+        shown("a byte", U8, 0, b"\x2a", "42\n"),
+        shown(
+            "a negative number",
+            U8_AND_I32,
+            1,
+            b"\xfe\xff\xff\xff",
+            "-2\n",
+        ),
+        shown("a boolean", BOOL, 0, b"\x01", "true\n"),
+        refused(
+            "no boolean",
+            BOOL,
+            0,
+            b"\x02",
+            "scaleview: value: BadBool at 0\n",
+        ),
+        refused("no byte", U8, 0, b"", "scaleview: value: Truncated at 0\n"),
+        refused(
+            "half a number",
+            U16,
+            0,
+            b"\x2a",
+            "scaleview: value: Truncated at 1\n",
+        ),
+        refused(
+            "a byte too many",
+            U16,
+            0,
+            b"\x2a\x00\xff",
+            "scaleview: value: TrailingBytes at 2\n",
+        ),
+        refused(
+            "no type",
+            b"\x00",
+            0,
+            b"\x2a",
+            "scaleview: type: UnknownType 0\n",
+        ),
+        refused(
+            "a type past the end",
+            U8,
+            1,
+            b"\x2a",
+            "scaleview: type: UnknownType 1\n",
+        ),
+    ];
+    for row in &rows {
+        check_row(&rt, row, 1);
+        check_row(&rt, row, 4096);
+    }
+}
+
+#[test]
+fn texts_are_shown_or_refused(rt: HostRuntime) {
+    let rows = [
+        shown(
+            "a text",
+            STR,
+            0,
+            b"\x10\xc3\xa9\xc3\xa9",
+            "\"\u{e9}\u{e9}\"\n",
+        ),
+        shown("no letters", STR, 0, b"\x00", "\"\"\n"),
+        refused(
+            "a text that is not UTF-8",
+            STR,
+            0,
+            b"\x08\xc3\x28",
+            "scaleview: value: BadUtf8 at 1\n",
+        ),
+        refused(
+            "a longer form",
+            STR,
+            0,
+            b"\x01\x00",
+            "scaleview: value: CompactNotShortest at 0\n",
+        ),
+        refused(
+            "a length past u32",
+            STR,
+            0,
+            b"\x07",
+            "scaleview: value: CompactTooLarge at 0\n",
+        ),
+        refused(
+            "a text that is cut",
+            STR,
+            0,
+            b"\x08\xc3",
+            "scaleview: value: Truncated at 2\n",
+        ),
+        refused(
+            "no length",
+            STR,
+            0,
+            b"",
+            "scaleview: value: Truncated at 0\n",
+        ),
+        refused(
+            "a byte behind a text",
+            STR,
+            0,
+            b"\x04a\x00",
+            "scaleview: value: TrailingBytes at 2\n",
+        ),
+    ];
+    for row in &rows {
+        check_row(&rt, row, 1);
+        check_row(&rt, row, 4096);
+    }
+}
+
+#[test]
+fn registries_are_refused(rt: HostRuntime) {
+    let rows = [
+        refused(
+            "a byte behind",
+            b"\x04\x00\x00\x00\x05\x03\x00\xff",
+            0,
+            b"\x2a",
+            "scaleview: registry: TrailingBytes at 7\n",
+        ),
+        refused(
+            "no definition",
+            b"\x04\x00\x00\x00\x08\x00",
+            0,
+            b"\x2a",
+            "scaleview: registry: BadDefinition at 4\n",
+        ),
+        refused(
+            "no primitive",
+            b"\x04\x00\x00\x00\x05\x0f\x00",
+            0,
+            b"\x2a",
+            "scaleview: registry: BadPrimitive at 5\n",
+        ),
+        refused(
+            "no option",
+            b"\x04\x00\x00\x00\x00\x04\x02",
+            0,
+            b"\x2a",
+            "scaleview: registry: BadOption at 6\n",
+        ),
+        refused(
+            "a longer length",
+            b"\x01\x00",
+            0,
+            b"\x2a",
+            "scaleview: registry: CompactNotShortest at 0\n",
+        ),
+        refused(
+            "a length past u32",
+            b"\x07",
+            0,
+            b"\x2a",
+            "scaleview: registry: CompactTooLarge at 0\n",
+        ),
+        refused(
+            "an id out of place",
+            b"\x04\x04\x00\x00\x05\x03\x00",
+            0,
+            b"\x2a",
+            "scaleview: registry: IdOutOfPlace at 1\n",
+        ),
+        refused(
+            "a registry that is cut",
+            b"\x04\x00\x00\x00\x05",
+            0,
+            b"\x2a",
+            "scaleview: registry: Truncated at 5\n",
+        ),
+        refused(
+            "a path that is no text",
+            b"\x04\x00\x04\x04\xff",
+            0,
+            b"\x2a",
+            "scaleview: registry: BadUtf8 at 4\n",
+        ),
+        refused(
+            "no registry",
+            b"",
+            0,
+            b"\x2a",
+            "scaleview: registry: Truncated at 0\n",
+        ),
+        refused(
+            "metadata as a registry",
+            b"\x6d\x65\x74\x61\x0e\x04\x00\x00\x00\x05\x03\x00",
+            0,
+            b"\x2a",
+            "scaleview: registry: IdOutOfPlace at 2\n",
+        ),
+    ];
+    for row in &rows {
+        check_row(&rt, row, 1);
+        check_row(&rt, row, 4096);
+    }
+}
+
+#[test]
+fn metadata_is_read_behind_its_prefix(rt: HostRuntime) {
+    let rows = [
+        shown(
+            "metadata and more",
+            b"\x6d\x65\x74\x61\x0e\x04\x00\x00\x00\x05\x03\x00\xff\xff",
+            0,
+            b"\x2a",
+            "42\n",
+        ),
+        refused(
+            "another version",
+            b"\x6d\x65\x74\x61\x0d",
+            0,
+            b"\x2a",
+            "scaleview: registry: WrongVersion at 4\n",
+        ),
+        refused(
+            "half the letters",
+            b"\x6d\x65",
+            0,
+            b"\x2a",
+            "scaleview: registry: Truncated at 2\n",
+        ),
+        refused(
+            "another letter",
+            b"\x6d\x66",
+            0,
+            b"\x2a",
+            "scaleview: registry: NotMetadata at 1\n",
+        ),
+        refused(
+            "a registry as metadata",
+            U8,
+            0,
+            b"\x2a",
+            "scaleview: registry: NotMetadata at 0\n",
+        ),
+    ];
+    for row in &rows {
+        check_row(&rt, &behind_prefix(row), 1);
+        check_row(&rt, &behind_prefix(row), 4096);
+    }
+}
+
+/// A registry or type is refused before the value is read, so a value that cannot be read changes nothing.
+#[test]
+fn the_value_is_read_last(rt: HostRuntime) {
+    let compact = b"\x08\x00\x00\x00\x05\x07\x00\x04\x00\x00\x06\x00\x00".as_slice();
+    let rows = [
+        refused(
+            "a registry that is cut",
+            b"\x04",
+            0,
+            b"",
+            "scaleview: registry: Truncated at 1\n",
+        ),
+        refused(
+            "no type",
+            b"\x00",
+            0,
+            b"",
+            "scaleview: type: UnknownType 0\n",
+        ),
+        refused(
+            "a type that is not shown yet",
+            compact,
+            1,
+            b"",
+            "scaleview: value: Unsupported at 0\n",
+        ),
+    ];
+    for row in &rows {
+        let name = row.name;
+        let mut registry = Source::new(row.registry);
+        let mut value = Source::new(PacedReader::new(b"", 1, Then::Fails));
+        let mut out = Sink::new(Vec::new(rt.alloc()));
+        let mut err = Sink::new(Vec::new(rt.alloc()));
+        let status = run(
+            rt.alloc(),
+            row.job,
+            &mut registry,
+            &mut value,
+            &mut out,
+            &mut err,
+        );
+        assert_eq!(rt; status, row.status, "the status of {name}");
+        assert_eq!(rt; value.failed(), false, "the value of {name}");
+        let told = err.into_inner();
+        assert_eq!(rt; told.as_slice(), row.err.as_bytes(), "what {name} tells");
+    }
+}
+
+#[test]
+fn types_are_shown(rt: HostRuntime) {
+    let rows = [
+        types("a byte", U8, "0 Sized u8 \"\"\n"),
+        types("no types", b"\x00", ""),
+        types(
+            "a sequence of units",
+            b"\x0c\x00\x00\x00\x05\x03\x00\x04\x00\x00\x04\x00\x00\x08\x00\x00\x02\x04\x00",
+            "0 Sized u8 \"\"\n1 Empty tuple \"\"\n2 Sized sequence \"\"\n",
+        ),
+        types(
+            "an option",
+            b"\x08\x00\x00\x00\x05\x05\x00\x04\x04\x18Option\x04\x04T\x01\x00\x01\x08\x10None\x00\x00\x00\x10Some\x04\x00\x00\x01\x04T\x00\x01\x00\x00",
+            "0 Sized u32 \"\"\n1 Sized variant \"Option\"\n",
+        ),
+        types(
+            "a bit sequence in an arm",
+            b"\x08\x00\x00\x00\x07\x00\x00\x00\x04\x00\x00\x01\x08\x04A\x00\x00\x00\x04B\x04\x00\x00\x00\x00\x01\x00\x00",
+            "0 Sized bitsequence \"\"\n1 Sized variant \"\"\n",
+        ),
+        types(
+            "a composite that holds itself",
+            b"\x04\x00\x00\x00\x00\x04\x01\x04a\x00\x00\x00\x00",
+            "0 NoValue composite \"\"\n",
+        ),
+        types(
+            "a composite before its empty field",
+            b"\x08\x00\x00\x00\x00\x04\x00\x04\x00\x00\x00\x04\x00\x00\x04\x00\x00",
+            "0 Empty composite \"\"\n1 Empty tuple \"\"\n",
+        ),
+        types(
+            "a path with a quote",
+            b"\x04\x00\x04\x0ca\"b\x00\x05\x03\x00",
+            "0 Sized u8 \"a\\\"b\"\n",
+        ),
+        types(
+            "a path of two segments",
+            b"\x04\x00\x08\x04a\x04b\x00\x05\x00\x00",
+            "0 Sized bool \"a::b\"\n",
+        ),
+    ];
+    for row in &rows {
+        check_row(&rt, row, 1);
+        check_row(&rt, row, 4096);
+    }
+}
+
+#[test]
+fn unknown_references_are_told(rt: HostRuntime) {
+    let unknown = b"\x04\x00\x00\x00\x02\x04\x00".as_slice();
+    let line = "scaleview: check: UnknownType 1 in type 0\n";
+    let mut shown_types = types("a sequence of nothing", unknown, "");
+    shown_types.status = 1;
+    shown_types.err = line;
+    check_row(&rt, &shown_types, 1);
+    check_row(&rt, &refused("a value of it", unknown, 0, b"", line), 1);
+}
+
+/// Forty types, each a pair of the one before, over the empty tuple: an empty type is never expanded.
+#[test]
+fn nested_pairs_are_shown_at_once(rt: HostRuntime) -> Result<(), Fail> {
+    let alloc = rt.alloc();
+    let mut registry = Vec::from_slice(alloc, b"\xa4\x00\x00\x00\x04\x00\x00")?;
+    let mut lines = String::from_str(alloc, "0 Empty tuple \"\"\n")?;
+    for i in 1..41u8 {
+        registry.extend_from_slice(&[4 * i, 0, 0, 4, 8, 4 * (i - 1), 4 * (i - 1), 0])?;
+        let line = format!(in alloc; "{i} Empty tuple \"\"\n")?;
+        lines.push_str(line.as_str())?;
+    }
+    assert_eq!(rt; registry.len(), 327);
+    let mut value = Source::new(PacedReader::new(b"", 1, Then::Fails));
+    let mut out = Sink::new(Vec::new(alloc));
+    let mut err = Sink::new(Vec::new(alloc));
+    let status = run(
+        alloc,
+        Job::Types { metadata: false },
+        &mut Source::new(registry.as_slice()),
+        &mut value,
+        &mut out,
+        &mut err,
+    );
+    assert_eq!(rt; status, 0);
+    assert_eq!(rt; value.failed(), false, "the value is not touched");
+    let written = out.into_inner();
+    assert_eq!(rt; written.as_slice(), lines.as_bytes());
+    Ok(())
+}
+
+/// At most 16777216 bytes belong to a value: a text is told as too long only where a further byte comes.
+#[test]
+fn texts_are_bounded(rt: HostRuntime) {
+    let (fits, too_many) = (
+        b"\xf2\xff\xff\x03".as_slice(),
+        b"\x02\x00\x00\x04".as_slice(),
+    );
+    let rows = [
+        (fits, 16777212, 0, ""),
+        (
+            fits,
+            16777213,
+            1,
+            "scaleview: value: TrailingBytes at 16777216\n",
+        ),
+        (
+            too_many,
+            16777212,
+            1,
+            "scaleview: value: Truncated at 16777216\n",
+        ),
+        (
+            too_many,
+            16777213,
+            1,
+            "scaleview: value: TooLong at 16777216\n",
+        ),
+    ];
+    for (head, letters, want, line) in rows {
+        let mut registry = Source::new(STR);
+        let mut value = Source::new(LetterReader::new(head, letters));
+        let mut out = Sink::new(Vec::new(rt.alloc()));
+        let mut err = Sink::new(Vec::new(rt.alloc()));
+        let job = Job::Decode {
+            id: 0,
+            metadata: false,
+        };
+        let status = run(
+            rt.alloc(),
+            job,
+            &mut registry,
+            &mut value,
+            &mut out,
+            &mut err,
+        );
+        assert_eq!(rt; status, want, "the status of {letters} letters");
+        let told = err.into_inner();
+        assert_eq!(rt; told.as_slice(), line.as_bytes());
+        let written = out.into_inner().len();
+        let expected = if want == 0 { 16777215 } else { 0 };
+        assert_eq!(rt; written, expected, "what {letters} letters write");
+    }
+}
+
+/// Devices of which one fails once its bytes have moved: the status and the line that tells it.
+fn check_failure(
+    rt: &(impl Abort + AllocGlobal),
+    registry: Then,
+    value: Then,
+    out: Then,
+    line: &'static str,
+) {
+    let alloc = rt.alloc();
+    let mut registry_source = Source::new(PacedReader::new(U8, 4096, registry));
+    let mut value_source = Source::new(PacedReader::new(b"\x2a", 4096, value));
+    let mut out_sink = Sink::new(PacedWriter::new(alloc, 1, 4096, out));
+    let mut err_sink = Sink::new(PacedWriter::new(alloc, 0, 4096, Then::GoesOn));
+    let status = run(
+        alloc,
+        Job::Decode {
+            id: 0,
+            metadata: false,
+        },
+        &mut registry_source,
+        &mut value_source,
+        &mut out_sink,
+        &mut err_sink,
+    );
+    assert_eq!(rt; status, 3, "the status of {line}");
+    assert_eq!(rt;
+        registry_source.failed(),
+        registry == Then::Fails,
+        "the registry at {line}"
+    );
+    assert_eq!(rt;
+        value_source.failed(),
+        value == Then::Fails,
+        "the value at {line}"
+    );
+    assert_eq!(rt;
+        out_sink.failed(),
+        out != Then::GoesOn,
+        "the output at {line}"
+    );
+    let told = err_sink.into_inner();
+    assert_eq!(rt; told.taken.as_slice(), line.as_bytes());
+    let written = out_sink.into_inner();
+    assert_eq!(rt;
+        b"42\n".starts_with(written.taken.as_slice()),
+        true,
+        "a beginning at {line}"
+    );
+}
+
+#[test]
+fn failing_devices_are_told(rt: HostRuntime) {
+    let go_on = Then::GoesOn;
+    check_failure(
+        &rt,
+        Then::Fails,
+        go_on,
+        go_on,
+        "scaleview: device: registry\n",
+    );
+    check_failure(&rt, go_on, Then::Fails, go_on, "scaleview: device: value\n");
+    check_failure(
+        &rt,
+        go_on,
+        go_on,
+        Then::Fails,
+        "scaleview: device: output\n",
+    );
+    check_failure(
+        &rt,
+        go_on,
+        go_on,
+        Then::TakesNothing,
+        "scaleview: device: output\n",
+    );
+}
+
+#[test]
+fn a_failing_standard_error_changes_no_status(rt: HostRuntime) {
+    let alloc = rt.alloc();
+    for (value, want) in [(b"\x2a".as_slice(), 0), (b"".as_slice(), 1)] {
+        let mut registry_source = Source::new(U8);
+        let mut value_source = Source::new(value);
+        let mut out_sink = Sink::new(Vec::new(alloc));
+        let mut err_sink = Sink::new(PacedWriter::new(alloc, 0, 4096, Then::Fails));
+        let status = run(
+            alloc,
+            Job::Decode {
+                id: 0,
+                metadata: false,
+            },
+            &mut registry_source,
+            &mut value_source,
+            &mut out_sink,
+            &mut err_sink,
+        );
+        assert_eq!(rt; status, want);
+    }
+}

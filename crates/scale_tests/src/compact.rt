@@ -1,0 +1,111 @@
+//! Compact integers: vectors that are read and written, and vectors that are refused.
+
+use scale_core::Reason::{CompactNotShortest, CompactTooLarge, Truncated};
+use scale_core::Target::{U8, U16, U32, U64, U128, Unit};
+use scale_core::{Fault, Reason, Target, compact_len, put_compact, read_compact, write_compact};
+use std::test::Fail;
+
+/// Values and their bytes.
+const ACCEPTED: [(u128, &[u8]); 16] = [
+    (0, b"\x00"),
+    (1, b"\x04"),
+    (42, b"\xa8"),
+    (63, b"\xfc"),
+    (64, b"\x01\x01"),
+    (69, b"\x15\x01"),
+    (255, b"\xfd\x03"),
+    (16383, b"\xfd\xff"),
+    (16384, b"\x02\x00\x01\x00"),
+    (65535, b"\xfe\xff\x03\x00"),
+    (1073741823, b"\xfe\xff\xff\xff"),
+    (1073741824, b"\x03\x00\x00\x00\x40"),
+    (4294967295, b"\x03\xff\xff\xff\xff"),
+    (100000000000000, b"\x0b\x00\x40\x7a\x10\xf3\x5a"),
+    (
+        18446744073709551615,
+        b"\x13\xff\xff\xff\xff\xff\xff\xff\xff",
+    ),
+    (
+        340282366920938463463374607431768211455,
+        b"\x33\xff\xff\xff\xff\xff\xff\xff\xff\xff\xff\xff\xff\xff\xff\xff\xff",
+    ),
+];
+
+const EACH: &[Target] = &[U8, U16, U32, U64, U128];
+
+/// Bytes, the targets that refuse them, why and at which place.
+const REFUSED: [(&[u8], &[Target], Reason, u64); 13] = [
+    (b"\x01\x00", EACH, CompactNotShortest, 0),
+    (b"\xfd\x00", EACH, CompactNotShortest, 0),
+    (b"\x01\x04", &[U8], CompactTooLarge, 0),
+    (b"\x02\x00\x04\x00", &[U16], CompactTooLarge, 0),
+    (b"\x03", &[U8, U16], CompactTooLarge, 0),
+    (b"\x07", &[U32], CompactTooLarge, 0),
+    (b"\x17", &[U64], CompactTooLarge, 0),
+    (b"\x37", &[U128], CompactTooLarge, 0),
+    (b"\x03\xff\xff\xff\x3f", &[U32], CompactNotShortest, 0),
+    (b"\x07\x00\x00\x00\x40", &[U64], Truncated, 5),
+    (b"\x07\x00\x00\x00\x40\x00", &[U64], CompactNotShortest, 0),
+    (b"", EACH, Truncated, 0),
+    (b"\x02\x00", EACH, Truncated, 2),
+];
+
+#[test]
+fn accepted_vectors_are_read(rt: HostRuntime) {
+    for (value, bytes) in ACCEPTED {
+        let read = read_compact(bytes, U128);
+        assert_eq!(rt; read, Ok((value, bytes.len())), "{value}");
+    }
+}
+
+#[test]
+fn accepted_vectors_are_written(rt: HostRuntime) -> Result<(), Fail> {
+    for (value, bytes) in ACCEPTED {
+        assert_eq!(rt; compact_len(value), bytes.len(), "the length of {value}");
+        let mut array = [0xee; 17];
+        let len = put_compact(value, &mut array);
+        assert_eq!(rt; &array[..len], bytes, "putting {value}");
+        let rest_stays = array[len..].iter().all(|byte| *byte == 0xee);
+        assert!(rt; rest_stays, "behind {value}");
+        let mut out = Vec::new(rt.alloc());
+        write_compact(&mut out, value)?;
+        write_compact(&mut out, value)?;
+        assert_eq!(rt; &out[..len], bytes, "writing {value}");
+        assert_eq!(rt; &out[len..], bytes, "writing {value} behind itself");
+    }
+    Ok(())
+}
+
+#[test]
+fn refused_vectors_are_told(rt: HostRuntime) {
+    for (bytes, targets, reason, at) in REFUSED {
+        for target in targets {
+            let refusal = Err(Fault { reason, at });
+            assert_eq!(rt;
+                read_compact(bytes, *target),
+                refusal,
+                "{bytes:?} as {target:?}"
+            );
+        }
+    }
+}
+
+#[test]
+fn unit_takes_nothing(rt: HostRuntime) {
+    for bytes in [b"".as_slice(), b"\x37".as_slice(), b"\x01\x00".as_slice()] {
+        assert_eq!(rt; read_compact(bytes, Unit), Ok((0, 0)), "{bytes:?}");
+    }
+}
+
+#[test]
+fn each_target_takes_its_greatest_value(rt: HostRuntime) {
+    let vectors = [
+        (U8, 255, b"\xfd\x03".as_slice()),
+        (U16, 65535, b"\xfe\xff\x03\x00".as_slice()),
+        (U32, 4294967295, b"\x03\xff\xff\xff\xff".as_slice()),
+    ];
+    for (target, value, bytes) in vectors {
+        let read = read_compact(bytes, target);
+        assert_eq!(rt; read, Ok((value, bytes.len())), "{target:?}");
+    }
+}

@@ -1,0 +1,92 @@
+//! Sources and sinks over devices that fail in mid-stream.
+
+use scale_core::{Sink, SinkFault, Source, SourceFault};
+use std::io;
+use std::io::{Read, Write};
+
+/// A reader that gives one byte a call, the number of the call; the second call is interrupted.
+#[derive(Drop)]
+struct StutteringReader {
+    calls: u8,
+}
+
+impl Read for StutteringReader {
+    fn read(&mut self, part: &mut [u8]) -> io::Result<usize> {
+        self.calls = self.calls.saturating_add(1);
+        if self.calls == 2 {
+            return Err(io::ErrorKind::Interrupted.into());
+        }
+        if part.is_empty() {
+            return Ok(0);
+        }
+        part[0] = self.calls;
+        Ok(1)
+    }
+}
+
+/// A writer that takes one byte a call; the second call is interrupted, and the fourth takes nothing.
+#[derive(Drop)]
+struct StutteringWriter {
+    calls: u8,
+}
+
+impl Write for StutteringWriter {
+    fn write(&mut self, part: &[u8]) -> io::Result<usize> {
+        self.calls = self.calls.saturating_add(1);
+        match self.calls {
+            2 => Err(io::ErrorKind::Interrupted.into()),
+            4 => Ok(0),
+            _ => Ok(part.len().min(1)),
+        }
+    }
+
+    fn flush(&mut self) -> io::Result<()> {
+        Ok(())
+    }
+}
+
+#[test]
+fn a_source_tells_a_failed_read_for_good(rt: HostRuntime) {
+    let mut source = Source::new(StutteringReader { calls: 0 });
+    let mut part = [0; 4];
+    assert_eq!(rt; source.failed(), false);
+    assert_eq!(rt; source.pull(&mut part), Ok(1));
+    assert_eq!(rt; part, [1, 0, 0, 0]);
+    assert_eq!(rt; source.failed(), false);
+    assert_eq!(rt; source.pull(&mut part), Err(SourceFault::Device));
+    assert_eq!(rt; source.failed(), true);
+    assert_eq!(rt; source.pull(&mut part), Ok(1));
+    assert_eq!(rt; part, [3, 0, 0, 0]);
+    assert_eq!(rt; source.failed(), true);
+    assert_eq!(rt; source.into_inner().calls, 3);
+}
+
+#[test]
+fn a_source_tells_the_end_as_no_failure(rt: HostRuntime) {
+    let mut source = Source::new(b"ab".as_slice());
+    let mut part = [0; 4];
+    assert_eq!(rt; source.pull(&mut part), Ok(2));
+    assert_eq!(rt; part, [b'a', b'b', 0, 0]);
+    assert_eq!(rt; source.pull(&mut part), Ok(0));
+    assert_eq!(rt; source.failed(), false);
+}
+
+#[test]
+fn a_sink_tells_a_failed_write_for_good(rt: HostRuntime) {
+    let mut sink = Sink::new(StutteringWriter { calls: 0 });
+    assert_eq!(rt; sink.failed(), false);
+    assert_eq!(rt; sink.put(b"ab"), Ok(1));
+    assert_eq!(rt; sink.failed(), false);
+    assert_eq!(rt; sink.put(b"b"), Err(SinkFault::Device));
+    assert_eq!(rt; sink.failed(), true);
+    assert_eq!(rt; sink.put(b"b"), Ok(1));
+    assert_eq!(rt; sink.failed(), true);
+    assert_eq!(rt; sink.into_inner().calls, 3);
+}
+
+#[test]
+fn a_sink_tells_a_write_that_took_nothing(rt: HostRuntime) {
+    let mut sink = Sink::new(StutteringWriter { calls: 3 });
+    assert_eq!(rt; sink.put(b"a"), Err(SinkFault::WroteNothing));
+    assert_eq!(rt; sink.failed(), true);
+}

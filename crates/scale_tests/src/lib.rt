@@ -1,0 +1,21 @@
+//! Tests of the other crates, on bytes and answers that are known from outside.
+#![tactic(auto)]
+
+#[cfg(test)]
+mod command;
+#[cfg(test)]
+mod command_line;
+#[cfg(test)]
+mod compact;
+#[cfg(test)]
+mod devices;
+#[cfg(test)]
+mod integers;
+#[cfg(test)]
+mod paced;
+#[cfg(test)]
+mod registries;
+#[cfg(test)]
+mod texts;
+#[cfg(test)]
+mod widths;

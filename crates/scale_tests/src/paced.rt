@@ -1,0 +1,110 @@
+//! Readers and writers over memory that move a few bytes a call, and may fail after some.
+
+use std::alloc::Global;
+use std::io;
+use std::io::{Read, Write};
+
+/// What a device does once its bytes have moved.
+#[derive(Clone, Copy, Debug, PartialEq, Eq)]
+pub(crate) enum Then {
+    /// A reader is at its end, a writer takes more.
+    GoesOn,
+    Fails,
+    /// A writer takes nothing.
+    TakesNothing,
+}
+
+/// A reader that gives at most `step` bytes a call.
+#[derive(Drop)]
+pub(crate) struct PacedReader {
+    bytes: &'static [u8],
+    step: usize,
+    then: Then,
+}
+
+impl PacedReader {
+    pub(crate) fn new(bytes: &'static [u8], step: usize, then: Then) -> PacedReader {
+        PacedReader { bytes, step, then }
+    }
+}
+
+impl Read for PacedReader {
+    fn read(&mut self, part: &mut [u8]) -> io::Result<usize> {
+        if self.bytes.is_empty() && self.then == Then::Fails {
+            return Err(io::ErrorKind::Other.into());
+        }
+        let count = self.step.min(part.len()).min(self.bytes.len());
+        let (front, rest) = self.bytes.split_at(count);
+        part[..count].copy_from_slice(front);
+        self.bytes = rest;
+        Ok(count)
+    }
+}
+
+/// A writer that takes at most `step` bytes a call, and `room` bytes before it does something else.
+#[derive(Drop)]
+pub(crate) struct PacedWriter {
+    pub(crate) taken: Vec<u8>,
+    room: usize,
+    step: usize,
+    then: Then,
+}
+
+impl PacedWriter {
+    pub(crate) fn new(alloc: Global, room: usize, step: usize, then: Then) -> PacedWriter {
+        PacedWriter {
+            taken: Vec::new(alloc),
+            room,
+            step,
+            then,
+        }
+    }
+}
+
+impl Write for PacedWriter {
+    fn write(&mut self, part: &[u8]) -> io::Result<usize> {
+        let room = self.room.saturating_sub(self.taken.len());
+        let count = match self.then {
+            Then::GoesOn => self.step.min(part.len()),
+            _ => self.step.min(part.len()).min(room),
+        };
+        if count == 0 && self.then == Then::Fails {
+            return Err(io::ErrorKind::Other.into());
+        }
+        self.taken.extend_from_slice(&part[..count])?;
+        Ok(count)
+    }
+
+    fn flush(&mut self) -> io::Result<()> {
+        Ok(())
+    }
+}
+
+/// A reader that gives `head` and then so many letters a.
+#[derive(Drop)]
+pub(crate) struct LetterReader {
+    head: &'static [u8],
+    letters: usize,
+}
+
+impl LetterReader {
+    pub(crate) fn new(head: &'static [u8], letters: usize) -> LetterReader {
+        LetterReader { head, letters }
+    }
+}
+
+impl Read for LetterReader {
+    fn read(&mut self, part: &mut [u8]) -> io::Result<usize> {
+        if self.head.is_empty() {
+            let count = self.letters.min(part.len());
+            part[..count].fill(b'a');
+            self.letters -= count;
+            return Ok(count);
+        }
+        let count = self.head.len().min(part.len());
+        let (front, rest) = self.head.split_at(count);
+        part[..count].copy_from_slice(front);
+        self.head = rest;
+        Ok(count)
+    }
+}

@@ -1,0 +1,63 @@
+//! Texts, and the printed text of faults.
+
+use scale_core::{Fault, Reason, read_text, write_text};
+use std::test::Fail;
+
+#[test]
+fn texts_are_read_and_written(rt: HostRuntime) -> Result<(), Fail> {
+    let vectors = [
+        ("", b"\x00".as_slice()),
+        ("a", b"\x04a".as_slice()),
+        ("\u{e9}\u{e9}", b"\x10\xc3\xa9\xc3\xa9".as_slice()),
+    ];
+    for (text, bytes) in vectors {
+        assert_eq!(rt; read_text(bytes), Ok((text, bytes.len())), "reading {text}");
+        let mut out = Vec::new(rt.alloc());
+        write_text(&mut out, text)?;
+        assert_eq!(rt; out.as_slice(), bytes, "writing {text}");
+    }
+    Ok(())
+}
+
+#[test]
+fn what_follows_a_text_is_left(rt: HostRuntime) {
+    assert_eq!(rt; read_text(b"\x08\xc3\xa9\x07"), Ok(("\u{e9}", 3)));
+}
+
+#[test]
+fn refused_texts_are_told(rt: HostRuntime) {
+    let vectors = [
+        (b"".as_slice(), Reason::Truncated, 0),
+        (b"\x08\xc3".as_slice(), Reason::Truncated, 2),
+        (b"\x08\xc3\x28".as_slice(), Reason::BadUtf8, 1),
+        (b"\x0ca\xc3\x28".as_slice(), Reason::BadUtf8, 2),
+        (b"\x01\x00".as_slice(), Reason::CompactNotShortest, 0),
+        (b"\x07".as_slice(), Reason::CompactTooLarge, 0),
+    ];
+    for (bytes, reason, at) in vectors {
+        assert_eq!(rt; read_text(bytes), Err(Fault { reason, at }), "{bytes:?}");
+    }
+}
+
+#[test]
+fn a_fault_is_printed_as_its_reason_and_place(rt: HostRuntime) -> Result<(), Fail> {
+    let lines = [
+        (Reason::Truncated, 5, "Truncated at 5"),
+        (Reason::BadBool, 0, "BadBool at 0"),
+        (Reason::BadChar, 0, "BadChar at 0"),
+        (Reason::BadUtf8, 1, "BadUtf8 at 1"),
+        (Reason::CompactNotShortest, 0, "CompactNotShortest at 0"),
+        (Reason::CompactTooLarge, 0, "CompactTooLarge at 0"),
+        (
+            Reason::Truncated,
+            18446744073709551615,
+            "Truncated at 18446744073709551615",
+        ),
+    ];
+    for (reason, at, line) in lines {
+        let fault = Fault { reason, at };
+        let printed = format!(in rt.alloc(); "{fault}")?;
+        assert_eq!(rt; printed.as_str(), line);
+    }
+    Ok(())
+}

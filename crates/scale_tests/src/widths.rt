@@ -1,0 +1,289 @@
+//! What checked registries say of their types: classes, targets of compacts, arms and widths.
+
+use registry_core::{TypeId, read_registry, write_registry};
+use scale_core::Target;
+use std::alloc::Global;
+use std::test::Fail;
+use widths_core::{CheckFault, Checked, Class};
+
+/// A registry, the class and the compact's target of each of its types, and how wide its widest type is.
+#[derive(Clone, Copy)]
+struct Row {
+    name: &'static str,
+    registry: &'static [u8],
+    classes: &'static [Class],
+    targets: &'static [Option<Target>],
+    widest: u32,
+}
+
+/// A registry that is refused: the type that refers, and the one that is not there.
+#[derive(Clone, Copy)]
+struct Refused {
+    name: &'static str,
+    registry: &'static [u8],
+    from: u32,
+    to: u32,
+}
+
+const OPTION: &[u8] =
+    b"\x08\x00\x00\x00\x05\x05\x00\x04\x04\x18Option\x04\x04T\x01\x00\x01\x08\x10None\x00\x00\x00\x10Some\x04\x00\x00\x01\x04T\x00\x01\x00\x00";
+
+const SHADOWED_ARM: &[u8] =
+    b"\x08\x00\x00\x00\x05\x03\x00\x04\x00\x00\x01\x08\x04A\x00\x03\x00\x04B\x04\x00\x00\x00\x00\x03\x00\x00";
+
+const ROWS: [Row; 17] = [
+    Row {
+        name: "no type",
+        registry: b"\x00",
+        classes: &[],
+        targets: &[],
+        widest: 0,
+    },
+    Row {
+        name: "a u8",
+        registry: b"\x04\x00\x00\x00\x05\x03\x00",
+        classes: &[Class::Sized],
+        targets: &[None],
+        widest: 0,
+    },
+    Row {
+        name: "a composite of a unit that stands behind it",
+        registry: b"\x08\x00\x00\x00\x00\x04\x00\x04\x00\x00\x00\x04\x00\x00\x04\x00\x00",
+        classes: &[Class::Empty, Class::Empty],
+        targets: &[None, None],
+        widest: 1,
+    },
+    Row {
+        name: "a compact of a wrapped u32",
+        registry: b"\x0c\x00\x00\x00\x05\x05\x00\x04\x00\x00\x00\x04\x00\x00\x00\x00\x00\x08\x00\x00\x06\x04\x00",
+        classes: &[Class::Sized, Class::Sized, Class::Sized],
+        targets: &[None, None, Some(Target::U32)],
+        widest: 1,
+    },
+    Row {
+        name: "a compact of a compact",
+        registry: b"\x0c\x00\x00\x00\x05\x03\x00\x04\x00\x00\x06\x00\x00\x08\x00\x00\x06\x04\x00",
+        classes: &[Class::Sized, Class::Sized, Class::Sized],
+        targets: &[None, Some(Target::U8), None],
+        widest: 0,
+    },
+    Row {
+        name: "a compact of a unit",
+        registry: b"\x08\x00\x00\x00\x04\x00\x00\x04\x00\x00\x06\x00\x00",
+        classes: &[Class::Empty, Class::Empty],
+        targets: &[None, Some(Target::Unit)],
+        widest: 0,
+    },
+    Row {
+        name: "a compact over two composites that hold each other",
+        registry: b"\x0c\x00\x00\x00\x00\x04\x00\x04\x00\x00\x00\x04\x00\x00\x00\x04\x00\x00\x00\x00\x00\x08\x00\x00\x06\x00\x00",
+        classes: &[Class::NoValue, Class::NoValue, Class::Sized],
+        targets: &[None, None, None],
+        widest: 1,
+    },
+    Row {
+        name: "a composite of a compact of itself",
+        registry: b"\x08\x00\x00\x00\x00\x04\x00\x04\x00\x00\x00\x04\x00\x00\x06\x00\x00",
+        classes: &[Class::Sized, Class::Sized],
+        targets: &[None, None],
+        widest: 1,
+    },
+    Row {
+        name: "a compact of a bool",
+        registry: b"\x08\x00\x00\x00\x05\x00\x00\x04\x00\x00\x06\x00\x00",
+        classes: &[Class::Sized, Class::Sized],
+        targets: &[None, None],
+        widest: 0,
+    },
+    Row {
+        name: "a tuple of two units and a u8",
+        registry: b"\x0c\x00\x00\x00\x05\x03\x00\x04\x00\x00\x04\x00\x00\x08\x00\x00\x04\x0c\x04\x04\x00\x00",
+        classes: &[Class::Sized, Class::Empty, Class::Sized],
+        targets: &[None, None, None],
+        widest: 3,
+    },
+    Row {
+        name: "an option of a u32",
+        registry: OPTION,
+        classes: &[Class::Sized, Class::Sized],
+        targets: &[None, None],
+        widest: 1,
+    },
+    Row {
+        name: "a composite of itself",
+        registry: b"\x04\x00\x00\x00\x00\x04\x01\x04a\x00\x00\x00\x00",
+        classes: &[Class::NoValue],
+        targets: &[None],
+        widest: 1,
+    },
+    Row {
+        name: "a sequence of a variant without arms",
+        registry: b"\x08\x00\x00\x00\x01\x00\x00\x04\x00\x00\x02\x00\x00",
+        classes: &[Class::NoValue, Class::Sized],
+        targets: &[None, None],
+        widest: 0,
+    },
+    Row {
+        name: "arrays of none and of one, of a variant without arms",
+        registry: b"\x0c\x00\x00\x00\x01\x00\x00\x04\x00\x00\x03\x00\x00\x00\x00\x00\x00\x08\x00\x00\x03\x01\x00\x00\x00\x00\x00",
+        classes: &[Class::NoValue, Class::Empty, Class::NoValue],
+        targets: &[None, None, None],
+        widest: 0,
+    },
+    Row {
+        name: "a bit sequence of types that are not there, and an arm that holds it",
+        registry: b"\x08\x00\x00\x00\x07\x24\x24\x00\x04\x00\x00\x01\x08\x04A\x00\x00\x00\x04B\x04\x00\x00\x00\x00\x01\x00\x00",
+        classes: &[Class::Sized, Class::Sized],
+        targets: &[None, None],
+        widest: 1,
+    },
+    Row {
+        name: "an arm that has a value, shadowed by one that has none",
+        registry: b"\x04\x00\x00\x00\x01\x08\x04A\x04\x00\x00\x00\x00\x03\x00\x04B\x00\x03\x00\x00",
+        classes: &[Class::NoValue],
+        targets: &[None],
+        widest: 1,
+    },
+    Row {
+        name: "a shadowed arm that is the widest",
+        registry: SHADOWED_ARM,
+        classes: &[Class::Sized, Class::Sized],
+        targets: &[None, None],
+        widest: 1,
+    },
+];
+
+const REFUSED: [Refused; 5] = [
+    Refused {
+        name: "a sequence of the type behind it",
+        registry: b"\x04\x00\x00\x00\x02\x04\x00",
+        from: 0,
+        to: 1,
+    },
+    Refused {
+        name: "an array of none",
+        registry: b"\x04\x00\x00\x00\x03\x00\x00\x00\x00\x08\x00",
+        from: 0,
+        to: 2,
+    },
+    Refused {
+        name: "the first of two members",
+        registry: b"\x04\x00\x00\x00\x04\x0c\x00\x14\x18\x00",
+        from: 0,
+        to: 5,
+    },
+    Refused {
+        name: "a field of a shadowed arm",
+        registry: b"\x08\x00\x00\x00\x05\x03\x00\x04\x00\x00\x01\x08\x04A\x00\x03\x00\x04B\x04\x00\x1c\x00\x00\x03\x00\x00",
+        from: 1,
+        to: 7,
+    },
+    Refused {
+        name: "a compact, before a composite",
+        registry: b"\x08\x00\x00\x00\x06\x10\x00\x04\x00\x00\x00\x04\x00\x14\x00\x00\x00",
+        from: 0,
+        to: 4,
+    },
+];
+
+/// The registry of these bytes, checked.
+fn checked(alloc: Global, bytes: &[u8]) -> Result<Checked, Fail> {
+    let (registry, _) = read_registry(alloc, bytes)?;
+    match Checked::new(alloc, registry) {
+        Ok(checked) => Ok(checked),
+        Err((fault, _)) => Err(fault)?,
+    }
+}
+
+#[test]
+fn types_have_their_classes_and_targets(rt: HostRuntime) -> Result<(), Fail> {
+    for row in ROWS {
+        let checked = checked(rt.alloc(), row.registry)?;
+        assert_eq!(rt; checked.widest(), row.widest, "{}", row.name);
+        assert_eq!(rt; row.classes.len(), row.targets.len(), "{}", row.name);
+        let count = row.classes.len() as u32;
+        for id in 0..count {
+            let class = row.classes.get(id as usize).copied();
+            assert_eq!(rt; checked.class(TypeId(id)), class, "{id} of {}", row.name);
+            let target = row.targets.get(id as usize).copied().flatten();
+            assert_eq!(rt;
+                checked.compact_target(TypeId(id)),
+                target,
+                "{id} of {}",
+                row.name
+            );
+        }
+        for id in [count, u32::MAX] {
+            assert_eq!(rt; checked.class(TypeId(id)), None, "{}", row.name);
+            assert_eq!(rt; checked.compact_target(TypeId(id)), None, "{}", row.name);
+        }
+        let bytes = write_registry(rt.alloc(), checked.registry())?;
+        assert_eq!(rt; bytes.as_slice(), row.registry, "{}", row.name);
+    }
+    Ok(())
+}
+
+#[test]
+fn the_first_unknown_reference_is_told(rt: HostRuntime) -> Result<(), Fail> {
+    for row in REFUSED {
+        let (registry, _) = read_registry(rt.alloc(), row.registry)?;
+        let Err((fault, registry)) = Checked::new(rt.alloc(), registry) else {
+            return Err(row.name)?;
+        };
+        let unknown = CheckFault::UnknownType {
+            from: TypeId(row.from),
+            to: TypeId(row.to),
+        };
+        assert_eq!(rt; fault, unknown, "{}", row.name);
+        let bytes = write_registry(rt.alloc(), &registry)?;
+        assert_eq!(rt; bytes.as_slice(), row.registry, "{}", row.name);
+    }
+    Ok(())
+}
+
+#[test]
+fn a_parameter_may_name_no_type(rt: HostRuntime) -> Result<(), Fail> {
+    let registry = checked(
+        rt.alloc(),
+        b"\x04\x00\x00\x04\x04T\x01\x24\x05\x03\x00".as_slice(),
+    )?;
+    assert_eq!(rt; registry.class(TypeId(0)), Some(Class::Sized));
+    Ok(())
+}
+
+#[test]
+fn the_first_arm_of_an_index_is_found(rt: HostRuntime) -> Result<(), Fail> {
+    let rows = [
+        (SHADOWED_ARM, 1, 3, Some((0, "A"))),
+        (SHADOWED_ARM, 1, 4, None),
+        (SHADOWED_ARM, 0, 3, None),
+        (SHADOWED_ARM, 2, 3, None),
+        (OPTION, 1, 0, Some((0, "None"))),
+        (OPTION, 1, 1, Some((1, "Some"))),
+        (OPTION, 1, 2, None),
+    ];
+    for (bytes, id, index, arm) in rows {
+        let registry = checked(rt.alloc(), bytes)?;
+        let found = registry.arm(TypeId(id), index);
+        let named = found.map(|(position, arm)| (position, arm.name.as_str()));
+        assert_eq!(rt; named, arm, "index {index} of type {id}");
+    }
+    Ok(())
+}
+
+#[test]
+fn nested_tuples_of_units_are_empty(rt: HostRuntime) -> Result<(), Fail> {
+    let mut bytes = Vec::new(rt.alloc());
+    bytes.extend_from_slice(b"\xa4\x00\x00\x00\x04\x00\x00")?;
+    for below in 0..40u8 {
+        let (id, member) = (4 * (below + 1), 4 * below);
+        bytes.extend_from_slice(&[id, 0, 0, 4, 8, member, member, 0])?;
+    }
+    let registry = checked(rt.alloc(), &bytes)?;
+    assert_eq!(rt; registry.registry().types().len(), 41);
+    assert_eq!(rt; registry.widest(), 2);
+    for id in 0..41 {
+        assert_eq!(rt; registry.class(TypeId(id)), Some(Class::Empty), "type {id}");
+    }
+    Ok(())
+}
