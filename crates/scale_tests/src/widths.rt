@@ -3,6 +3,7 @@
 use registry_core::{TypeId, read_registry, write_registry};
 use scale_core::Target;
 use std::alloc::Global;
+use std::process::Abort;
 use std::test::Fail;
 use widths_core::{CheckFault, Checked, Class};
 
@@ -195,48 +196,63 @@ fn checked(alloc: Global, bytes: &[u8]) -> Result<Checked, Fail> {
     }
 }
 
+/// The row's registry is accepted, is as it says, and is kept as it was.
+fn check_row(rt: &(impl Abort + AllocGlobal), row: &Row) -> Result<(), Fail> {
+    let name = row.name;
+    let registry = checked(rt.alloc(), row.registry)?;
+    let mut id = 0u32;
+    for class in row.classes {
+        assert_eq!(rt;
+            registry.class(TypeId(id)),
+            Some(*class),
+            "class {id} of {name}"
+        );
+        id = id.saturating_add(1);
+    }
+    assert_eq!(rt; registry.class(TypeId(id)), None, "class behind {name}");
+    let mut id = 0u32;
+    for target in row.targets {
+        assert_eq!(rt;
+            registry.compact_target(TypeId(id)),
+            *target,
+            "target {id} of {name}"
+        );
+        id = id.saturating_add(1);
+    }
+    assert_eq!(rt;
+        registry.compact_target(TypeId(id)),
+        None,
+        "target behind {name}"
+    );
+    assert_eq!(rt; registry.widest(), row.widest, "the width of {name}");
+    let bytes = write_registry(rt.alloc(), registry.registry())?;
+    assert_eq!(rt; bytes.as_slice(), row.registry, "the bytes of {name}");
+    Ok(())
+}
+
 #[test]
 fn types_have_their_classes_and_targets(rt: HostRuntime) -> Result<(), Fail> {
-    for row in ROWS {
-        let checked = checked(rt.alloc(), row.registry)?;
-        assert_eq!(rt; checked.widest(), row.widest, "{}", row.name);
-        assert_eq!(rt; row.classes.len(), row.targets.len(), "{}", row.name);
-        let count = row.classes.len() as u32;
-        for id in 0..count {
-            let class = row.classes.get(id as usize).copied();
-            assert_eq!(rt; checked.class(TypeId(id)), class, "{id} of {}", row.name);
-            let target = row.targets.get(id as usize).copied().flatten();
-            assert_eq!(rt;
-                checked.compact_target(TypeId(id)),
-                target,
-                "{id} of {}",
-                row.name
-            );
-        }
-        for id in [count, u32::MAX] {
-            assert_eq!(rt; checked.class(TypeId(id)), None, "{}", row.name);
-            assert_eq!(rt; checked.compact_target(TypeId(id)), None, "{}", row.name);
-        }
-        let bytes = write_registry(rt.alloc(), checked.registry())?;
-        assert_eq!(rt; bytes.as_slice(), row.registry, "{}", row.name);
+    for row in &ROWS {
+        check_row(&rt, row)?;
     }
     Ok(())
 }
 
 #[test]
 fn the_first_unknown_reference_is_told(rt: HostRuntime) -> Result<(), Fail> {
-    for row in REFUSED {
+    for row in &REFUSED {
+        let name = row.name;
         let (registry, _) = read_registry(rt.alloc(), row.registry)?;
         let Err((fault, registry)) = Checked::new(rt.alloc(), registry) else {
-            return Err(row.name)?;
+            return Err(name)?;
         };
         let unknown = CheckFault::UnknownType {
             from: TypeId(row.from),
             to: TypeId(row.to),
         };
-        assert_eq!(rt; fault, unknown, "{}", row.name);
+        assert_eq!(rt; fault, unknown, "the fault of {name}");
         let bytes = write_registry(rt.alloc(), &registry)?;
-        assert_eq!(rt; bytes.as_slice(), row.registry, "{}", row.name);
+        assert_eq!(rt; bytes.as_slice(), row.registry, "the bytes of {name}");
     }
     Ok(())
 }
