@@ -1,0 +1,11 @@
+pub mod Complete
+pub mod Sound
+pub mod Stable
+pub mod Proved
+pub mod Emptiness
+pub mod Grounded
+pub mod Bounds
+pub mod OneSpelling
+pub mod Texts
+pub mod Inhabited
+pub mod Parts

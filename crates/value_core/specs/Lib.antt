@@ -1,0 +1,5 @@
+pub mod Grammar
+pub mod Laws
+pub mod Preorder
+pub mod Reading
+pub mod Tree
