@@ -5,6 +5,7 @@ pub mod Proved
 pub mod Emptiness
 pub mod Grounded
 pub mod Bounds
+pub mod Classes
 pub mod OneSpelling
 pub mod Texts
 pub mod Inhabited

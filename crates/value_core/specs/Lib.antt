@@ -1,5 +1,9 @@
+pub mod Forms
+pub mod Frames
 pub mod Grammar
 pub mod Laws
+pub mod Parts
 pub mod Preorder
 pub mod Reading
 pub mod Tree
+pub mod Walked
