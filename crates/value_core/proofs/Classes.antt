@@ -5,6 +5,7 @@ use Rattle.registry_core.specs.declared.definition.TypeDef.{TypeDef}
 use Rattle.registry_core.specs.declared.type_info.TypeInfo.{TypeInfo}
 use Rattle.widths_core.specs.declared.class.Class.{Class}
 use Rattle.widths_core.specs.declared.class.Class.TheVariants as class
+use Rattle.widths_core.specs.Types.{shape}
 use Rattle.widths_core.specs.Classes.{holds_at, finite_step, finite_within, is_empty, class_of}
 use Rattle.widths_core.proofs.Known.{empty_class}
 
@@ -32,3 +33,9 @@ not_empty r t h = go (is_empty r t) refl where
   go : (b : Bool) → is_empty r t ≡ b → is_empty r t ≡ false
   go true e = absurd (h (empty_class r t (length r, e)))
   go false e = e
+
+-- a type without a definition has no value
+pub shapeless : (r : List TypeInfo) (k t : ℕ) → shape r t ≡ None → finite_within r k t ≡ false
+unfolding finite_within
+shapeless r zero t e = refl
+shapeless r (suc k) t e = rw (e, holds_at) refl

@@ -6,7 +6,9 @@ pub mod Emptiness
 pub mod Grounded
 pub mod Bounds
 pub mod Classes
+pub mod Forms
 pub mod OneSpelling
+pub mod Opened
 pub mod Texts
 pub mod Inhabited
 pub mod Parts

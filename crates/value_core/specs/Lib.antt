@@ -2,6 +2,7 @@ pub mod Forms
 pub mod Frames
 pub mod Grammar
 pub mod Laws
+pub mod Opened
 pub mod Parts
 pub mod Preorder
 pub mod Reading

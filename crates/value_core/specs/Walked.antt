@@ -1,7 +1,7 @@
 -- What contracts see of a walk through a value, and what is next there.
 use Rattle.std.specs.Prelude.{◌≡◌, ◌≢◌, ℕ, ◌+◌, ◌-◌, ◌≤◌, List, [], ◌∷◌, length, Option, Some, None, nat_lt, if◌then◌else◌}
 use Rattle.registry_core.specs.declared.type_info.TypeInfo.{TypeInfo}
-use Rattle.value_core.specs.Parts.{Part, first_of, left_after}
+use Rattle.value_core.specs.Parts.{Part, times, first_of, left_after}
 use Rattle.value_core.specs.Forms.{next_at}
 use Rattle.value_core.specs.declared.form.StopReason.TheVariants as stop
 use Rattle.value_core.specs.declared.form.Next.{Next}
@@ -17,6 +17,10 @@ pub record Walked : Type 0 where
   pub types : List TypeInfo
   pub limit : ℕ
   pub frames : List OpenPart
+
+-- nothing is there yet, and one value of the root's type is to come; the root's own part is no node's, and stands at place 0
+abbrev pub start_of : List TypeInfo → ℕ → ℕ → Walked
+start_of types root limit = record { types = types; limit = limit; frames = record { node = 0; left = times 1 root } ∷ [] }
 
 -- the root's own part is there, and no more parts than there are depths within the limit and two
 pub record IsBounded (w : Walked) : Type 0 where
@@ -56,6 +60,10 @@ advanced_in (o ∷ os) = record { node = o.node; left = left_after o.left } ∷ 
 
 abbrev pub advanced : Walked → Walked
 advanced w = record { types = w.types; limit = w.limit; frames = advanced_in w.frames }
+
+-- one more node is open, with these parts to come
+abbrev pub opened : Walked → ℕ → Part → Walked
+opened w node part = record { types = w.types; limit = w.limit; frames = record { node = node; left = part } ∷ w.frames }
 
 -- nothing is left of the innermost part, which is this node's and not the root's, and it is gone
 pub record Closes (old new : Walked) (node : ℕ) : Type 0 where

@@ -1,19 +1,20 @@
 //! The place in a value that comes next, and what is wanted there: the one thing that says it.
 
-ghost use Rattle.std.specs.Prelude.{◌≡◌, ◌≢◌, ◌⊎◌, ◌∷◌, ◌+◌, ◌≤◌, [], length, false, is_none, option_map, OnOk, OnErr, IfSome, IfNone, IsSome};
+ghost use Rattle.std.specs.Prelude.{◌≡◌, ◌⊎◌, ◌+◌, ◌≤◌, length, is_none, option_map, OnOk, OnErr, IfSome, IfNone, IsSome};
 ghost use Rattle.value_core.specs.Frames.{left_of};
-ghost use Rattle.value_core.specs.Parts.{times};
-ghost use Rattle.value_core.specs.Walked.{next_type, next_of, depth_of, advanced, Closes, IsBounded};
+ghost use Rattle.value_core.specs.Opened.{next_shape, OpensFields, OpensArm, OpensArray, OpensSequence};
+ghost use Rattle.value_core.specs.Walked.{start_of, next_type, next_of, depth_of, advanced, opened, Closes, IsBounded};
 
-use crate::form::{Next, StopReason, next_at};
+use crate::form::{Form, Next, StopReason, next_at, shape};
 use crate::left::{Frame, Left};
 use crate::limits::MAX_DEPTH;
-use registry_core::TypeId;
+use registry_core::{TypeDef, TypeId};
 use std::alloc::{AllocError, Allocator};
 use std::marker::Model;
 use widths_core::Checked;
 
-/// A walk through a value of a type, node by node in the order of their bytes.
+/// A walk through a value of a type, node by node in the order of their bytes (SCALE codec, "Types": parts stand one
+/// behind the other, behind the index or the length that says which and how many they are).
 ///
 /// It keeps the innermost node that is open and those around it, at most as many as the depth limit and two; what is
 /// left of their parts is lent from the registry.
@@ -42,7 +43,7 @@ impl<'r, A: Allocator> Walk<'r, A> {
     /// The walk through a value of the root's type, of which nothing is there yet.
     pub(crate) fn new(alloc: A, checked: &'r Checked, root: TypeId, limit: u16) -> Walk<'r, A>
         requires { limit ≤ MAX_DEPTH }
-        ensures { result ≡ record { types = checked.now; limit = limit; frames = record { node = 0; left = times 1 (root.0) } ∷ [] } }
+        ensures { result ≡ start_of checked.now root.0 limit }
     {
         Walk {
             checked,
@@ -102,7 +103,7 @@ impl<'r, A: Allocator> Walk<'r, A> {
     /// One more node is open, whose parts come next. Where memory is refused, nothing changes.
     pub(crate) fn open(&mut self, node: usize, left: Left<'r>) -> Result<(), AllocError>
         requires { length self.old.frames ≤ self.old.limit + 1 }
-        ensures ok { OnOk result (self.new ≡ record self.old { frames = record { node = node; left = left_of left.entry } ∷ self.old.frames }) }
+        ensures ok { OnOk result (self.new ≡ opened self.old node (left_of left.entry)) }
         ensures err { OnErr result (self.new ≡ self.old) }
     {
         self.around.push(self.top)?;
@@ -124,5 +125,75 @@ impl<'r, A: Allocator> Walk<'r, A> {
         let node = self.top.node;
         self.top = frame;
         Some(node)
+    }
+
+    /// The registry that the types are of, lent as long as it is lent to the walk.
+    pub(crate) fn checked(&self) -> &'r Checked
+        ensures { result.now ≡ self.now.types }
+    {
+        self.checked
+    }
+
+    /// The type of the node that comes next, if any does.
+    pub(crate) fn next_type(&self) -> Option<TypeId>
+        ensures { option_map (λ t. t.0) result ≡ next_type self.now }
+    {
+        self.top.left.peek()
+    }
+
+    /// What the type of the next node is made of, where one is next and its type is a position.
+    fn next_shape(&self) -> Option<&'r TypeDef>
+        ensures { option_map (λ d. d.now) result ≡ next_shape self.now }
+    {
+        let ty = self.next_type()?;
+        shape(self.checked(), ty)
+    }
+
+    /// A value of each field or member of the next type.
+    pub(crate) fn fields(&self) -> Left<'r>
+        requires { next_of self.now ≡ Next.Wants Form.Fields }
+        ensures { OpensFields self.now (left_of result) }
+    {
+        let Some(shape) = self.next_shape() else {
+            unreachable!()
+        };
+        match shape {
+            TypeDef::Composite(fields) => Left::Fields(fields.as_slice()),
+            TypeDef::Tuple(members) => Left::Types(members.as_slice()),
+            _ => unreachable!(),
+        }
+    }
+
+    /// The first arm of the index in the next type, by its position, and a value of each of its fields. There is none
+    /// where the next type has no arm of the index.
+    pub(crate) fn arm(&self, index: u8) -> Option<(u32, Left<'r>)>
+        requires { next_of self.now ≡ Next.Wants Form.Arm }
+        ensures { OpensArm self.now index (option_map (λ x. (x.0, left_of x.1)) result) }
+    {
+        let ty = self.next_type()?;
+        let (position, arm) = self.checked().arm(ty, index)?;
+        Some((position, Left::Fields(arm.fields.as_slice())))
+    }
+
+    /// So many elements of the next type, where this is the array's length.
+    pub(crate) fn array(&self, length: u32) -> Left<'r>
+        requires { next_of self.now ≡ Next.Wants (Form.Array length) }
+        ensures { OpensArray self.now length (left_of result) }
+    {
+        let Some(TypeDef::Array(_, element)) = self.next_shape() else {
+            unreachable!()
+        };
+        Left::Copies(length, *element)
+    }
+
+    /// So many elements of the next type, which is a sequence.
+    pub(crate) fn sequence(&self, length: u32) -> Left<'r>
+        requires { next_of self.now ≡ Next.Wants Form.Sequence }
+        ensures { OpensSequence self.now length (left_of result) }
+    {
+        let Some(TypeDef::Sequence(element)) = self.next_shape() else {
+            unreachable!()
+        };
+        Left::Copies(length, *element)
     }
 }
