@@ -1,15 +1,13 @@
 -- What stands below the first node of a value.
-use Rattle.std.proofs.Common.{◌≡◌, ℕ, zero, suc, ◌+◌, ◌≤◌, List, [], ◌∷◌, ◌++◌, length, map, take, drop, true, false, Option, Some, None, refl, sym, ap, subst, ◌∙◌, arith, inl, inr}
+use Rattle.std.proofs.Common.{◌≡◌, ℕ, ◌+◌, ◌≤◌, List, [], ◌∷◌, ◌++◌, length, take, drop, Some, refl, sym, ap, subst, ◌∙◌, arith, inl, inr}
 use Rattle.std.specs.Prelude.{slice_get, slice_range, slice_index_or, IsUtf8}
 use Rattle.std.proofs.lemmas.Str.{IsUtf8-from_is_utf8}
-use Rattle.std.specs.List.{AllByRecursion}
 use Rattle.scale_core.specs.Number.{AreBytes}
 use Rattle.registry_core.specs.declared.definition.Arm.{Arm}
 use Rattle.registry_core.specs.declared.type_info.TypeInfo.{TypeInfo}
 use Rattle.widths_core.specs.Types.{field_types}
 use Rattle.widths_core.specs.Arms.{arm_of}
 use Rattle.widths_core.specs.Layouts.{layout}
-use Rattle.widths_core.specs.Layouts as layout
 use Rattle.widths_core.proofs.FirstArm.{arm_is_first}
 use Rattle.scale_core.proofs.Numbers.{front_bytes, rest_bytes}
 use Rattle.value_core.specs.Tree as tree
@@ -17,7 +15,7 @@ use Rattle.value_core.specs.Tree.{Tree, Trees, none, and, how_many}
 use Rattle.value_core.specs.Grammar.{Val, Vals, Each}
 use Rattle.value_core.specs.Parts.{Part, each, times, left_after}
 use Rattle.value_core.specs.Cells.{Cell, cells, all_cells, next_type, fields_part, arm_part, list_part}
-use Rattle.value_core.specs.Shown.{Seen, IsValue, seen, seen_parts, children_by, cells_shown, tree_shown, type_shown, AreInPool, IsWhole, AreValues, IsForest, all_seen}
+use Rattle.value_core.specs.Shown.{seen, seen_parts, children_by, cells_shown, tree_shown, type_shown, AreInPool, IsWhole, AreValues, IsForest, all_seen}
 use Rattle.value_core.specs.declared.node.Node.{Node}
 use Rattle.value_core.specs.declared.node.Content.TheVariants as content
 use Rattle.value_core.proofs.CellsOf.{cells_length, some_node, seen_is, split, all_seen_is}

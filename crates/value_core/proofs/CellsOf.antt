@@ -1,16 +1,15 @@
 -- The nodes of a value, with their types and sizes.
-use Rattle.std.proofs.Common.{◌≡◌, ℕ, zero, suc, ◌+◌, ◌≤◌, List, [], ◌∷◌, ◌++◌, length, map, take, drop, true, false, refl, sym, ap, ◌∙◌, arith, length-append}
+use Rattle.std.proofs.Common.{◌≡◌, ℕ, zero, suc, ◌≤◌, List, [], ◌∷◌, ◌++◌, length, map, take, drop, refl, sym, ap, ◌∙◌, arith, length-append}
 use Rattle.std.proofs.lemmas.List.{map-append, length-map, append-nil}
 use Rattle.std.proofs.lemmas.Simd.{map-map}
 use Rattle.std.proofs.Math.Seq.{take-append_seam, drop-append_seam}
-use Rattle.std.specs.List.{AllByRecursion}
 use Rattle.registry_core.specs.declared.type_info.TypeInfo.{TypeInfo}
 use Rattle.widths_core.specs.Layouts.{layout}
 use Rattle.value_core.specs.Tree.{Tree, unit, bool, char, text, unsigned, signed, wide, compact, fields, arm, list, count, Trees, none, and, how_many, nodes, all_nodes}
 use Rattle.value_core.specs.Preorder.{Head, preorder, all_preorder, tree_of, tree_of-preorder}
 use Rattle.value_core.specs.Parts.{Part, left_after}
 use Rattle.value_core.specs.Cells.{Cell, cells, all_cells, next_type, fields_part, arm_part, list_part}
-use Rattle.value_core.specs.Shown.{Seen, seen, seen_parts, cell_shown, cells_shown, tree_shown, type_shown, IsInPool, AreInPool, IsWhole, forest, all_seen}
+use Rattle.value_core.specs.Shown.{seen_parts, cell_shown, cells_shown, tree_shown, type_shown, AreInPool, IsWhole, forest, all_seen}
 use Rattle.value_core.specs.declared.node.Node.{Node}
 
 mutual

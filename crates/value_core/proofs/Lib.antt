@@ -7,7 +7,10 @@ pub mod Proved
 pub mod Emptiness
 pub mod Grounded
 pub mod Bounds
+pub mod Classes
+pub mod Forms
 pub mod OneSpelling
+pub mod Opened
 pub mod Texts
 pub mod Inhabited
 pub mod Parts

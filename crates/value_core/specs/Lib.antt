@@ -1,8 +1,13 @@
 pub mod Cells
+pub mod Forms
+pub mod Frames
 pub mod Grammar
 pub mod Laws
+pub mod Opened
+pub mod Parts
 pub mod Preorder
 pub mod Reading
 pub mod Shown
 pub mod Tree
+pub mod Walked
 pub mod Whats

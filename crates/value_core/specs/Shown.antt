@@ -10,7 +10,7 @@ use Rattle.value_core.specs.Tree.{Tree, Trees, none, and, text_bytes}
 use Rattle.value_core.specs.Grammar.{Val}
 use Rattle.value_core.specs.Preorder as head
 use Rattle.value_core.specs.Preorder.{Head, tree_of}
-use Rattle.value_core.specs.Parts.{Part, each, left_after}
+use Rattle.value_core.specs.Parts.{Part, left_after}
 use Rattle.value_core.specs.Cells.{Cell, cells, all_cells, next_type, fields_part, arm_part, list_part}
 use Rattle.value_core.specs.declared.node.Content.{Content}
 use Rattle.value_core.specs.declared.node.Content.TheVariants as is

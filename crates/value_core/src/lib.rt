@@ -2,13 +2,20 @@
 #![tactic(auto)]
 
 mod children;
+mod form;
 pub mod laws;
+mod left;
+mod limits;
 mod node;
 mod node_ref;
 mod value;
+mod walk;
 mod what;
 
 pub use children::Children;
+pub use form::{Form, Next, StopReason};
+pub use limits::Limits;
 pub use node_ref::NodeRef;
 pub use value::Value;
+pub use walk::Walk;
 pub use what::What;

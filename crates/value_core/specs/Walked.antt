@@ -1,0 +1,75 @@
+-- What contracts see of a walk through a value, and what is next there.
+use Rattle.std.specs.Prelude.{◌≡◌, ◌≢◌, ℕ, ◌+◌, ◌-◌, ◌≤◌, List, [], ◌∷◌, length, Option, Some, None, nat_lt, if◌then◌else◌}
+use Rattle.registry_core.specs.declared.type_info.TypeInfo.{TypeInfo}
+use Rattle.value_core.specs.Parts.{Part, times, first_of, left_after}
+use Rattle.value_core.specs.Forms.{next_at}
+use Rattle.value_core.specs.declared.form.StopReason.TheVariants as stop
+use Rattle.value_core.specs.declared.form.Next.{Next}
+use Rattle.value_core.specs.declared.form.Next.TheVariants as next
+
+-- a node that is open, by its place among the nodes, and what is left of its parts
+pub record OpenPart : Type 0 where
+  pub node : ℕ
+  pub left : Part
+
+-- a walk through a value of these types, down to this depth: what is open, the innermost first, and last the root's own part
+pub record Walked : Type 0 where
+  pub types : List TypeInfo
+  pub limit : ℕ
+  pub frames : List OpenPart
+
+-- nothing is there yet, and one value of the root's type is to come; the root's own part is no node's, and stands at place 0
+abbrev pub start_of : List TypeInfo → ℕ → ℕ → Walked
+start_of types root limit = record { types = types; limit = limit; frames = record { node = 0; left = times 1 root } ∷ [] }
+
+-- the root's own part is there, and no more parts than there are depths within the limit and two
+pub record IsBounded (w : Walked) : Type 0 where
+  pub limit : w.limit ≤ 1024
+  pub rooted : 1 ≤ length w.frames
+  pub frames : length w.frames ≤ w.limit + 2
+
+-- the type that is next in the innermost of these
+abbrev pub first_in : List OpenPart → Option ℕ
+first_in [] = None
+first_in (o ∷ os) = first_of o.left
+
+abbrev pub next_type : Walked → Option ℕ
+next_type w = first_in w.frames
+
+-- the root has depth 0, and each open node around the next one adds a level
+abbrev pub depth_from : ℕ → Option ℕ → ℕ
+depth_from open_parts (Some t) = open_parts - 1
+depth_from open_parts None = 0
+
+-- the depth of the next node, and 0 where nothing is next
+abbrev pub depth_of : Walked → ℕ
+depth_of w = depth_from (length w.frames) (next_type w)
+
+-- too deep first, then whether there is a value at all, then its form
+abbrev pub next_from : Walked → Option ℕ → Next
+next_from w None = next.Finished
+next_from w (Some t) = if nat_lt (w.limit + 1) (length w.frames) then next.Stop stop.TooDeep else next_at w.types t
+
+abbrev pub next_of : Walked → Next
+next_of w = next_from w (next_type w)
+
+-- the next node is no longer left in the innermost part
+abbrev pub advanced_in : List OpenPart → List OpenPart
+advanced_in [] = []
+advanced_in (o ∷ os) = record { node = o.node; left = left_after o.left } ∷ os
+
+abbrev pub advanced : Walked → Walked
+advanced w = record { types = w.types; limit = w.limit; frames = advanced_in w.frames }
+
+-- one more node is open, with these parts to come
+abbrev pub opened : Walked → ℕ → Part → Walked
+opened w node part = record { types = w.types; limit = w.limit; frames = record { node = node; left = part } ∷ w.frames }
+
+-- nothing is left of the innermost part, which is this node's and not the root's, and it is gone
+pub record Closes (old new : Walked) (node : ℕ) : Type 0 where
+  pub part : Part
+  pub whole : first_of part ≡ None
+  pub frames : old.frames ≡ record { node = node; left = part } ∷ new.frames
+  pub not_root : new.frames ≢ []
+  pub types : new.types ≡ old.types
+  pub limit : new.limit ≡ old.limit
