@@ -22,7 +22,7 @@ pub enum Form {
     Fields,
     /// The index byte of an arm, and a value of each field of the first arm that has this index, in order.
     Arm,
-    /// This many values of one type, with no length before them.
+    /// This many values of one type, at least one, with no length before them.
     Array(u32),
     /// A compact length, and so many values of one type.
     Sequence,
