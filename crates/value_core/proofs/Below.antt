@@ -8,6 +8,7 @@ use Rattle.registry_core.specs.declared.type_info.TypeInfo.{TypeInfo}
 use Rattle.widths_core.specs.Types.{field_types}
 use Rattle.widths_core.specs.Arms.{arm_of}
 use Rattle.widths_core.specs.Layouts.{layout}
+use Rattle.widths_core.specs.Layouts as layout
 use Rattle.widths_core.proofs.FirstArm.{arm_is_first}
 use Rattle.scale_core.proofs.Numbers.{front_bytes, rest_bytes}
 use Rattle.value_core.specs.Tree as tree
@@ -42,10 +43,14 @@ get_at : (before : List Arm) (a : Arm) (after : List Arm) → slice_get (before 
 get_at [] a after = refl
 get_at (x ∷ before) a after = get_at before a after
 
-arm_get : (arms : List Arm) (i q : ℕ) (a : Arm) → arm_of arms i ≡ Some (q, a) → slice_get arms q ≡ Some a
+pub arm_get : (arms : List Arm) (i q : ℕ) (a : Arm) → arm_of arms i ≡ Some (q, a) → slice_get arms q ≡ Some a
 arm_get arms i q a e =
     let s = (arm_is_first arms i q a).0 e in
     ap (λ (x : List Arm). slice_get x q) s.2 ∙ ap (slice_get (s.0 ++ a ∷ s.1)) s.3 ∙ get_at s.0 a s.1
+
+-- the types of an arm's fields
+pub arm_part_is : (r : List TypeInfo) (t q : ℕ) (arms : List Arm) (i : ℕ) (a : Arm) → layout r t ≡ layout.arms arms → arm_of arms i ≡ Some (q, a) → arm_part (layout r t) q ≡ each (field_types a.fields)
+arm_part_is r t q arms i a e f = rw (e, arm_get arms i q a f) refl
 
 -- the parts of a node, and their types
 abbrev pub part_of : List TypeInfo → ℕ → Tree → Part

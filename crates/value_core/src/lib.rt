@@ -1,9 +1,13 @@
 //! Values of the types of a registry: what they are, what they are in bytes, and what holds of all of them.
 #![tactic(auto)]
 
+mod adding_calls;
+mod build_fault;
+mod builder;
 mod children;
 mod form;
 pub mod laws;
+mod leaf;
 mod left;
 mod limits;
 mod node;
@@ -12,6 +16,8 @@ mod value;
 mod walk;
 mod what;
 
+pub use build_fault::BuildFault;
+pub use builder::Builder;
 pub use children::Children;
 pub use form::{Form, Next, StopReason};
 pub use limits::Limits;

@@ -14,8 +14,8 @@ pub(crate) enum Content {
     Signed([u8; 16]),
     Wide { start: usize },
     Compact([u8; 16]),
-    Fields { children: u32 },
-    Arm { position: u32, children: u32 },
+    Fields { children: usize },
+    Arm { position: u32, children: usize },
     List { children: u32 },
     Count(u32),
 }

@@ -2,7 +2,7 @@
 
 ghost use Rattle.std.specs.Prelude.{◌≡◌, length};
 ghost use Rattle.value_core.specs.Tree.{nodes, text_bytes};
-ghost use Rattle.value_core.specs.Shown.{IsValue};
+ghost use Rattle.value_core.specs.Shown.{IsValue, IsWhole, seen, tree_shown};
 
 use crate::node::Node;
 use crate::node_ref::NodeRef;
@@ -37,6 +37,25 @@ impl<'r, A: Allocator> Model for Value<'r, A> {
 }
 
 impl<'r, A: Allocator> Value<'r, A> {
+    /// The value whose nodes these are.
+    pub(crate) fn new(
+        checked: &'r Checked,
+        nodes: Vec<Node, A>,
+        pool: Vec<u8, A>,
+        text_len: usize,
+    ) -> Value<'r, A>
+        requires whole { IsWhole checked.now pool.items nodes.items }
+        requires texts { text_len ≡ text_bytes (tree_shown pool.items nodes.items) }
+        ensures { result ≡ seen checked.now pool.items nodes.items }
+    {
+        Value {
+            checked,
+            nodes,
+            pool,
+            text_len,
+        }
+    }
+
     /// The registry whose type it has, lent.
     pub fn checked(&self) -> &'r Checked
         ensures { result.now ≡ self.now.types }

@@ -3,6 +3,7 @@
 ghost use Rattle.std.specs.Prelude.{◌≡◌, ◌⊎◌, ◌+◌, ◌≤◌, length, is_none, option_map, OnOk, OnErr, IfSome, IfNone, IsSome};
 ghost use Rattle.value_core.specs.Frames.{left_of};
 ghost use Rattle.value_core.specs.Opened.{next_shape, OpensFields, OpensArm, OpensArray, OpensSequence};
+ghost use Rattle.value_core.specs.Refusals.{is_whole_in};
 ghost use Rattle.value_core.specs.Walked.{start_of, next_type, next_of, depth_of, advanced, opened, Closes, IsBounded};
 
 use crate::form::{Form, Next, StopReason, next_at, shape};
@@ -93,6 +94,13 @@ impl<'r, A: Allocator> Walk<'r, A> {
         self.top.left.peek().is_none()
     }
 
+    /// Is nothing left, and no node open?
+    pub(crate) fn is_whole(&self) -> bool
+        ensures { result ≡ is_whole_in self.now.frames }
+    {
+        self.around.is_empty() && self.is_finished()
+    }
+
     /// The next node is there: it is no longer left in the innermost part. Where nothing is next, nothing changes.
     pub(crate) fn advance(&mut self)
         ensures { self.new ≡ advanced self.old }
@@ -100,13 +108,15 @@ impl<'r, A: Allocator> Walk<'r, A> {
         self.top.left.advance();
     }
 
-    /// One more node is open, whose parts come next. Where memory is refused, nothing changes.
-    pub(crate) fn open(&mut self, node: usize, left: Left<'r>) -> Result<(), AllocError>
+    /// The next node is open, and its parts come next. Where memory is refused, nothing changes.
+    pub(crate) fn enter(&mut self, node: usize, left: Left<'r>) -> Result<(), AllocError>
         requires { length self.old.frames ≤ self.old.limit + 1 }
-        ensures ok { OnOk result (self.new ≡ opened self.old node (left_of left.entry)) }
+        ensures ok { OnOk result (self.new ≡ opened (advanced self.old) node (left_of left.entry)) }
         ensures err { OnErr result (self.new ≡ self.old) }
     {
-        self.around.push(self.top)?;
+        let mut outer = self.top;
+        outer.left.advance();
+        self.around.push(outer)?;
         self.top = Frame { node, left };
         Ok(())
     }

@@ -1,0 +1,212 @@
+-- A node more: the value that is being built stays one.
+use Rattle.std.proofs.Common.{◌≡◌, ℕ, zero, suc, ◌+◌, ◌-◌, ◌≤◌, List, [], ◌∷◌, ◌++◌, Bool, true, false, length, take, drop, slice_range, Some, refl, ap, ◌∙◌, arith, length-append}
+use Rattle.std.proofs.lemmas.List.{length-map, map-append, take-append-le}
+use Rattle.scale_core.specs.Number.{AreBytes}
+use Rattle.registry_core.specs.declared.type_info.TypeInfo.{TypeInfo}
+use Rattle.value_core.specs.Tree.{Tree, none, levels, most_levels}
+use Rattle.value_core.specs.Grammar.{Val}
+use Rattle.value_core.specs.Parts.{Part}
+use Rattle.value_core.specs.Preorder as head
+use Rattle.value_core.specs.Preorder.{Head, head_of, tree_with}
+use Rattle.value_core.specs.Cells.{Cell, cells}
+use Rattle.value_core.specs.Shown.{head_shown, cell_shown, cells_shown, IsInPool, AreInPool}
+use Rattle.value_core.specs.Spine.{Kind, of_fields, of_arm, of_list, OpenNode, kind_head, open_part, open_cell, open_cells, IsOpen, Spine}
+use Rattle.value_core.specs.Walked.{OpenPart, Walked, first_in, advanced, opened}
+use Rattle.value_core.specs.Built.{Entry, entries_shown, head_text_bytes, entries_text_bytes, IsLeaf, IsNextLeaf, IsNextOpen}
+use Rattle.value_core.specs.Building.{IsBuilding}
+use Rattle.value_core.specs.declared.node.Node.{Node}
+use Rattle.value_core.specs.declared.node.Content.{Content}
+use Rattle.value_core.specs.declared.node.Content.TheVariants as content
+use Rattle.value_core.proofs.Spines.{Grown, value_added, node_opened}
+
+-- what the pool has at its front stays where more is appended
+range_more : (pool more : List ℕ) (start end : ℕ) → start ≤ end → end ≤ length pool → slice_range (pool ++ more) start end ≡ slice_range pool start end
+range_more pool more start end h k = rw (range_front (pool ++ more) start end h, range_front pool start end h, take-append-le end pool more k) refl where
+  nothing : (k start : ℕ) → take {A = ℕ} k [] ≡ []
+  nothing zero start = refl
+  nothing (suc k) start = refl
+
+  range_front : (xs : List ℕ) (start end : ℕ) → start ≤ end → slice_range xs start end ≡ drop start (take end xs)
+  range_front xs zero end h = ap (λ (k : ℕ). take k xs) (omega arith)
+  range_front [] (suc start) zero h = absurd (omega arith)
+  range_front [] (suc start) (suc end) h = nothing (suc end - suc start) start
+  range_front (x ∷ xs) (suc start) zero h = absurd (omega arith)
+  range_front (x ∷ xs) (suc start) (suc end) h = ap (λ (k : ℕ). take k (drop start xs)) (omega arith) ∙ range_front xs start end (omega arith)
+
+head_more : (pool more : List ℕ) (c : Content) → IsInPool pool c → head_shown (pool ++ more) c ≡ head_shown pool c
+head_more pool more content.Empty h = refl
+head_more pool more (content.Bool b) h = refl
+head_more pool more (content.Char c) h = refl
+head_more pool more (content.Text start len) h = ap head.text (range_more pool more start (start + len) (omega arith) h)
+head_more pool more (content.Unsigned b) h = refl
+head_more pool more (content.Signed b) h = refl
+head_more pool more (content.Wide start) h = ap head.wide (range_more pool more start (start + 32) (omega arith) h)
+head_more pool more (content.Compact b) h = refl
+head_more pool more (content.Fields n) h = refl
+head_more pool more (content.Arm q n) h = refl
+head_more pool more (content.List n) h = refl
+head_more pool more (content.Count n) h = refl
+
+within_more : (pool more : List ℕ) (c : Content) → IsInPool pool c → IsInPool (pool ++ more) c
+within_more pool more (content.Text start len) h = omega (arith, h, length-append pool more)
+within_more pool more (content.Wide start) h = omega (arith, h, length-append pool more)
+within_more pool more content.Empty h = tt
+within_more pool more (content.Bool b) h = tt
+within_more pool more (content.Char c) h = tt
+within_more pool more (content.Unsigned b) h = tt
+within_more pool more (content.Signed b) h = tt
+within_more pool more (content.Compact b) h = tt
+within_more pool more (content.Fields n) h = tt
+within_more pool more (content.Arm q n) h = tt
+within_more pool more (content.List n) h = tt
+within_more pool more (content.Count n) h = tt
+
+cells_more : (pool more : List ℕ) (ns : List Node) → AreInPool pool ns → cells_shown (pool ++ more) ns ≡ cells_shown pool ns
+cells_more pool more [] h = refl
+cells_more pool more (n ∷ ns) h = rw (head_more pool more n.content h.0, cells_more pool more ns h.1) refl
+
+entries_more : (pool more : List ℕ) (ns : List Node) → AreInPool pool ns → entries_shown (pool ++ more) ns ≡ entries_shown pool ns
+entries_more pool more [] h = refl
+entries_more pool more (n ∷ ns) h = rw (head_more pool more n.content h.0, entries_more pool more ns h.1) refl
+
+inside_more : (pool more : List ℕ) (ns : List Node) (n : Node) → AreInPool pool ns → IsInPool (pool ++ more) n.content → AreInPool (pool ++ more) (ns ++ n ∷ [])
+inside_more pool more [] n h k = (k, tt)
+inside_more pool more (m ∷ ns) n h k = (within_more pool more m.content h.0, inside_more pool more ns n h.1 k)
+
+text_snoc : (es : List Entry) (e : Entry) → entries_text_bytes (es ++ e ∷ []) ≡ entries_text_bytes es + head_text_bytes e.head
+text_snoc [] e = omega arith
+text_snoc (x ∷ es) e = omega (arith, text_snoc es e)
+
+-- the node that is added
+abbrev entry_of : ℕ → Head → Entry
+entry_of t h = record { ty = t; head = h }
+
+pub entries_added : (pool more : List ℕ) (ns : List Node) (n : Node) (t : ℕ) (h : Head) → AreInPool pool ns → n.ty.0 ≡ t → head_shown (pool ++ more) n.content ≡ h → entries_shown (pool ++ more) (ns ++ n ∷ []) ≡ entries_shown pool ns ++ entry_of t h ∷ []
+entries_added pool more ns n t h inside e f = map-append _ ns (n ∷ []) ∙ rw (entries_more pool more ns inside, e, f) refl
+
+cells_added : (pool more : List ℕ) (ns : List Node) (n : Node) (c : Cell) → AreInPool pool ns → cell_shown (pool ++ more) n ≡ c → cells_shown (pool ++ more) (ns ++ n ∷ []) ≡ cells_shown pool ns ++ c ∷ []
+cells_added pool more ns n c inside e = map-append (cell_shown (pool ++ more)) ns (n ∷ []) ∙ rw (cells_more pool more ns inside, e) refl
+
+-- a node without children is the whole of its value
+leaf_cells : (r : List TypeInfo) (t : ℕ) (h : Head) → IsLeaf h → (cells r t (tree_with h none) ≡ record { ty = t; head = h; size = 1 } ∷ []) × (levels (tree_with h none) ≡ 1)
+leaf_cells r t head.unit h = (refl, refl)
+leaf_cells r t (head.bool b) h = (refl, refl)
+leaf_cells r t (head.char c) h = (refl, refl)
+leaf_cells r t (head.text s) h = (refl, refl)
+leaf_cells r t (head.unsigned n) h = (refl, refl)
+leaf_cells r t (head.signed z) h = (refl, refl)
+leaf_cells r t (head.wide s) h = (refl, refl)
+leaf_cells r t (head.compact n) h = (refl, refl)
+leaf_cells r t (head.count n) h = (refl, refl)
+leaf_cells r t (head.fields n) h = absurd h
+leaf_cells r t (head.arm q n) h = absurd h
+leaf_cells r t (head.list n) h = absurd h
+
+leaf_grown : (r : List TypeInfo) (room ty : ℕ) (os : List OpenNode) (fs : List OpenPart) (cs : List Cell) (own : List ℕ) (t : ℕ) (v : Tree) (c : List ℕ) → first_in fs ≡ Some t → Spine r room ty os fs cs own → Val r t v c → levels v ≤ room →
+    Grown r room ty (advanced (record { types = r; limit = 0; frames = fs })).frames (cs ++ cells r t v) (own ++ c)
+leaf_grown r room ty os [] cs own t v c e h k l = absurd cc
+leaf_grown r room ty os (f ∷ fs) cs own t v c e h k l = value_added r room ty os f fs cs own t v c h e k l
+
+advanced_length : (fs : List OpenPart) → length (advanced (record { types = []; limit = 0; frames = fs })).frames ≡ length fs
+advanced_length [] = refl
+advanced_length (f ∷ fs) = refl
+
+pub both_bytes : (xs ys : List ℕ) → AreBytes xs → AreBytes ys → AreBytes (xs ++ ys)
+both_bytes [] ys h k = k
+both_bytes (x ∷ xs) ys h k = (h.0, both_bytes xs ys h.1 k)
+
+-- a node without children is added
+pub leaf_added : (ty : ℕ) (w : Walked) (pool more : List ℕ) (ns : List Node) (n : Node) (text_len more_len : ℕ) (h : Head) (b : IsBuilding ty w pool ns text_len) (l : IsNextLeaf w h) → n.ty.0 ≡ l.ty → head_shown (pool ++ more) n.content ≡ h → n.size ≡ 1 → IsInPool (pool ++ more) n.content → more_len ≡ head_text_bytes h → more_len ≤ length more →
+    IsBuilding ty (advanced w) (pool ++ more) (ns ++ n ∷ []) (text_len + more_len)
+leaf_added ty w pool more ns n text_len more_len h b l at shows size within texts short =
+    let leaf = leaf_cells w.types l.ty h l.leaf in
+    let g = leaf_grown w.types b.room ty b.opens w.frames (cells_shown pool ns) b.own l.ty (tree_with h none) l.own l.next b.spine l.value (omega (arith, leaf.1, b.level, l.room)) in
+    let cell : cell_shown (pool ++ more) n ≡ record { ty = l.ty; head = h; size = 1 } = rw (at, shows, size) refl in
+    record {
+      room = b.room;
+      level = omega (arith, b.level, advanced_length w.frames);
+      own = b.own ++ l.own;
+      are_bytes = both_bytes b.own l.own b.are_bytes l.are_bytes;
+      opens = g.0;
+      spine = rw (cells_added pool more ns n _ b.inside cell, ← leaf.0) g.1;
+      inside = inside_more pool more ns n b.inside within;
+      texts = rw (entries_added pool more ns n l.ty h b.inside at shows) (omega (arith, b.texts, texts, text_snoc (entries_shown pool ns) (entry_of l.ty h)));
+      fits = omega (arith, b.fits, short, length-append pool more);
+    }
+
+pub some_is : (x y : ℕ) → Some x ≡ Some y → x ≡ y
+some_is x y e = cc
+
+-- ---- a node whose children come next
+
+abbrev is_open : Head → Bool
+is_open (head.fields n) = true
+is_open (head.arm q n) = true
+is_open (head.list n) = true
+is_open _ = false
+
+kind_is_open : (kind : Kind) (n : ℕ) → is_open (kind_head kind n) ≡ true
+kind_is_open of_fields n = refl
+kind_is_open (of_arm q) n = refl
+kind_is_open of_list n = refl
+
+open_by : (pool : List ℕ) (c : Content) → is_open (head_shown [] c) ≡ true → (head_shown pool c ≡ head_shown [] c) × IsInPool pool c
+open_by pool (content.Fields n) e = (refl, tt)
+open_by pool (content.Arm q n) e = (refl, tt)
+open_by pool (content.List n) e = (refl, tt)
+open_by pool content.Empty e = absurd cc
+open_by pool (content.Bool b) e = absurd cc
+open_by pool (content.Char c) e = absurd cc
+open_by pool (content.Text start len) e = absurd cc
+open_by pool (content.Unsigned b) e = absurd cc
+open_by pool (content.Signed b) e = absurd cc
+open_by pool (content.Wide start) e = absurd cc
+open_by pool (content.Compact b) e = absurd cc
+open_by pool (content.Count n) e = absurd cc
+
+-- it is kept by no bytes of the pool
+pub open_shown : (pool : List ℕ) (c : Content) (kind : Kind) (n : ℕ) → head_shown [] c ≡ kind_head kind n → (head_shown pool c ≡ head_shown [] c) × IsInPool pool c
+open_shown pool c kind n e = open_by pool c (ap is_open e ∙ kind_is_open kind n)
+
+kind_text : (kind : Kind) (n : ℕ) → head_text_bytes (kind_head kind n) ≡ 0
+kind_text of_fields n = refl
+kind_text (of_arm q) n = refl
+kind_text of_list n = refl
+
+open_grown : (r : List TypeInfo) (room ty : ℕ) (os : List OpenNode) (fs : List OpenPart) (cs : List Cell) (own : List ℕ) (o : OpenNode) (p : Part) → first_in fs ≡ Some o.ty → Spine r (suc room) ty os fs cs own → IsOpen r o p → most_levels o.done ≤ room →
+    Spine r room ty (o ∷ os) (open_part (length cs) p ∷ (advanced (record { types = r; limit = 0; frames = fs })).frames) (cs ++ open_cells r o) (own ++ o.own)
+open_grown r room ty os [] cs own o p e h k l = absurd cc
+open_grown r room ty os (f ∷ fs) cs own o p e h k l = node_opened r room ty os f p fs cs own o h e k l
+
+pub open_added : (ty : ℕ) (w : Walked) (pool : List ℕ) (ns : List Node) (n : Node) (text_len : ℕ) (p : Part) (b : IsBuilding ty w pool ns text_len) (l : IsNextOpen w (head_shown [] n.content) p) → n.ty.0 ≡ l.ty → n.size ≡ 0 →
+    IsBuilding ty (opened (advanced w) (length ns) p) pool (ns ++ n ∷ []) text_len
+open_added ty w pool ns n text_len p b l at size = by b.room refl where
+  inside_after : (pool : List ℕ) (ns : List Node) (n : Node) → AreInPool pool ns → IsInPool pool n.content → AreInPool pool (ns ++ n ∷ [])
+  inside_after pool [] n h k = (k, tt)
+  inside_after pool (m ∷ ns) n h k = (h.0, inside_after pool ns n h.1 k)
+
+  by : (room : ℕ) → b.room ≡ room → IsBuilding ty (opened (advanced w) (length ns) p) pool (ns ++ n ∷ []) text_len
+  by zero e = absurd (omega (arith, e, b.level, l.room))
+  by (suc room) e =
+      let o : OpenNode = record { ty = l.ty; kind = l.kind; all = l.count; done = none; own = l.own } in
+      let shown = open_shown pool n.content l.kind l.count l.head_is in
+      let spine : Spine w.types (suc room) ty b.opens w.frames (cells_shown pool ns) b.own = rw (← e) b.spine in
+      let g = open_grown w.types room ty b.opens w.frames (cells_shown pool ns) b.own o p l.next spine (l.finite, l.is_open) (omega arith) in
+      let cell : cell_shown pool n ≡ open_cell o = rw (at, shown.0, l.head_is, size) refl in
+      let cells_are : cells_shown pool (ns ++ n ∷ []) ≡ cells_shown pool ns ++ open_cell o ∷ [] = map-append (cell_shown pool) ns (n ∷ []) ∙ ap (λ (c : Cell). cells_shown pool ns ++ c ∷ []) cell in
+      let entries_are : entries_shown pool (ns ++ n ∷ []) ≡ entries_shown pool ns ++ entry_of l.ty (kind_head l.kind l.count) ∷ [] = map-append _ ns (n ∷ []) ∙ rw (at, shown.0, l.head_is) refl in
+      record {
+        room = room;
+        level = omega (arith, e, b.level, advanced_length w.frames);
+        own = b.own ++ l.own;
+        are_bytes = both_bytes b.own l.own b.are_bytes l.are_bytes;
+        opens = o ∷ b.opens;
+        spine = rw (cells_are, ← length-map ns (cell_shown pool)) g;
+        inside = inside_after pool ns n b.inside shown.1;
+        texts = rw entries_are (omega (arith, b.texts, text_snoc (entries_shown pool ns) (entry_of l.ty (kind_head l.kind l.count)), kind_text l.kind l.count));
+        fits = b.fits;
+      }
+
+-- the entries are one more, and as many as the nodes
+pub open_entries : (pool : List ℕ) (ns : List Node) (n : Node) (t : ℕ) (kind : Kind) (count : ℕ) → n.ty.0 ≡ t → head_shown [] n.content ≡ kind_head kind count → (entries_shown pool (ns ++ n ∷ []) ≡ entries_shown pool ns ++ entry_of t (head_shown [] n.content) ∷ []) × (length (entries_shown pool ns) ≡ length ns)
+open_entries pool ns n t kind count at e = (map-append _ ns (n ∷ []) ∙ rw (at, (open_shown pool n.content kind count e).0) refl, length-map ns _)

@@ -1,0 +1,87 @@
+-- The innermost open node gets its size.
+use Rattle.std.proofs.Common.{◌≡◌, ℕ, zero, suc, ◌+◌, ◌-◌, ◌<◌, List, [], ◌∷◌, ◌++◌, length, Some, None, refl, sym, ap, subst, ◌∙◌, arith, inl, inr, length-append}
+use Rattle.std.specs.Prelude.{slice_get, slice_set}
+use Rattle.std.proofs.lemmas.List.{length-map}
+use Rattle.registry_core.specs.declared.type_info.TypeInfo.{TypeInfo}
+use Rattle.value_core.specs.Parts.{Part, times, first_of}
+use Rattle.value_core.specs.Cells.{Cell}
+use Rattle.value_core.specs.Shown.{cell_shown, cells_shown, IsInPool, AreInPool}
+use Rattle.value_core.specs.Spine.{OpenNode, open_part, Spine}
+use Rattle.value_core.specs.Walked.{OpenPart, Walked, Closes}
+use Rattle.value_core.specs.Built.{entries_shown, entries_text_bytes, settled_in, settled}
+use Rattle.value_core.specs.Building.{IsBuilding}
+use Rattle.value_core.specs.declared.node.Node.{Node}
+use Rattle.value_core.proofs.Spines.{Closed, is_cons, node_closed}
+
+abbrev with_size : Node → ℕ → Node
+with_size n k = record { ty = n.ty; content = n.content; size = k }
+
+abbrev cell_with_size : Cell → ℕ → Cell
+cell_with_size c k = record { ty = c.ty; head = c.head; size = k }
+
+-- the cells are those of before, with another size at one place
+resized : (pool : List ℕ) (ns : List Node) (n : Node) (k place : ℕ) (front : List Cell) (c : Cell) (back : List Cell) → slice_get ns place ≡ Some n → cells_shown pool ns ≡ front ++ c ∷ back → place ≡ length front → cells_shown pool (slice_set ns place (with_size n k)) ≡ front ++ cell_with_size c k ∷ back
+resized pool [] n k place front c back g e p = absurd cc
+resized pool (m ∷ ns) n k zero [] c back g e p =
+    let same : m ≡ n = cc in
+    let first : cell_shown pool m ≡ c = cc in
+    let rest : cells_shown pool ns ≡ back = cc in
+    rw (← same, ← first, ← rest) refl
+resized pool (m ∷ ns) n k zero (d ∷ front) c back g e p = absurd cc
+resized pool (m ∷ ns) n k (suc place) [] c back g e p = absurd cc
+resized pool (m ∷ ns) n k (suc place) (d ∷ front) c back g e p =
+    let first : cell_shown pool m ≡ d = cc in
+    let rest : cells_shown pool ns ≡ front ++ c ∷ back = cc in
+    let at : place ≡ length front = omega (arith, p) in
+    rw (resized pool ns n k place front c back g rest at, first) refl
+
+entries_resized : (pool : List ℕ) (ns : List Node) (n : Node) (k place : ℕ) → slice_get ns place ≡ Some n → entries_shown pool (slice_set ns place (with_size n k)) ≡ entries_shown pool ns
+entries_resized pool [] n k place g = absurd cc
+entries_resized pool (m ∷ ns) n k zero g = let same : m ≡ n = cc in rw same refl
+entries_resized pool (m ∷ ns) n k (suc place) g = rw (entries_resized pool ns n k place g) refl
+
+inside_resized : (pool : List ℕ) (ns : List Node) (n : Node) (k place : ℕ) → slice_get ns place ≡ Some n → AreInPool pool ns → AreInPool pool (slice_set ns place (with_size n k))
+inside_resized pool [] n k place g h = absurd cc
+inside_resized pool (m ∷ ns) n k zero g h = let same : m ≡ n = cc in (subst (λ (x : Node). IsInPool pool x.content) same h.0, h.1)
+inside_resized pool (m ∷ ns) n k (suc place) g h = (h.0, inside_resized pool ns n k place g h.1)
+
+-- where a node is closed, one is open
+opened_one : (r : List TypeInfo) (room t place : ℕ) (p : Part) (os : List OpenNode) (fs : List OpenPart) (cs : List Cell) (own : List ℕ) → Spine r room t os (open_part place p ∷ fs) cs own → (fs ≡ [] → ⊥) → first_of p ≡ None → Closed r room t place fs cs own
+opened_one r room t place p [] fs cs own (inl h) some e = absurd (some (is_cons (open_part place p) (open_part 0 (times 1 t)) fs [] h.0).1)
+opened_one r room t place p [] fs cs own (inr h) some e = absurd (some (is_cons (open_part place p) (open_part 0 (times 0 t)) fs [] h.1).1)
+opened_one r room t place p (o ∷ os) fs cs own h some e = node_closed r room t o os (open_part place p) fs cs own h e
+
+-- the node that closes, by the walk before and after
+pub record IsClosing (ty : ℕ) (new : Walked) (pool : List ℕ) (ns : List Node) (text_len place : ℕ) : Type 0 where
+  pub inside : place < length ns
+  pub builds : (n : Node) (k : ℕ) → slice_get ns place ≡ Some n → k ≡ length ns - place → IsBuilding ty new pool (slice_set ns place (with_size n k)) text_len
+
+pub closing : (ty : ℕ) (old new : Walked) (pool : List ℕ) (ns : List Node) (text_len place : ℕ) → IsBuilding ty old pool ns text_len → Closes old new place → IsClosing ty new pool ns text_len place
+closing ty old new pool ns text_len place b c =
+    let spine : Spine old.types b.room ty b.opens (open_part place c.part ∷ new.frames) (cells_shown pool ns) b.own = rw (← c.frames) b.spine in
+    let k = opened_one old.types b.room ty place c.part b.opens new.frames (cells_shown pool ns) b.own spine c.not_root c.whole in
+    let long : length ns ≡ length k.front + length (k.cell ∷ k.back) = sym (length-map ns (cell_shown pool)) ∙ ap length k.cells_are ∙ length-append k.front (k.cell ∷ k.back) in
+    record {
+      inside = omega (arith, long, k.place_is);
+      builds = λ n size g e.
+          let sized : size ≡ 1 + length k.back = omega (arith, e, long, k.place_is) in
+          record {
+            room = suc b.room;
+            level = omega (arith, b.level, ap length c.frames, c.limit);
+            own = b.own;
+            are_bytes = b.are_bytes;
+            opens = k.grown.0;
+            spine = rw (c.types, resized pool ns n size place k.front k.cell k.back g k.cells_are k.place_is, sized) k.grown.1;
+            inside = inside_resized pool ns n size place g b.inside;
+            texts = b.texts ∙ sym (ap entries_text_bytes (entries_resized pool ns n size place g));
+            fits = b.fits;
+          };
+    }
+
+-- the entries stay, and so does what stands when all that is whole is closed
+pub closing_settles : (ty : ℕ) (old new : Walked) (pool : List ℕ) (ns : List Node) (n : Node) (k place : ℕ) → slice_get ns place ≡ Some n → Closes old new place →
+    settled (record { ty = ty; walk = new; entries = entries_shown pool (slice_set ns place (with_size n k)) }) ≡ settled (record { ty = ty; walk = old; entries = entries_shown pool ns })
+closing_settles ty old new pool ns n k place g c = rw (entries_resized pool ns n k place g, c.types, c.limit, c.frames, settled_step place c.part new.frames c.not_root c.whole) refl where
+  settled_step : (place : ℕ) (p : Part) (fs : List OpenPart) → (fs ≡ [] → ⊥) → first_of p ≡ None → settled_in (open_part place p ∷ fs) ≡ settled_in fs
+  settled_step place p [] some e = absurd (some refl)
+  settled_step place p (f ∷ fs) some e = rw e refl

@@ -1,0 +1,126 @@
+-- What contracts see of a value that is being built, and what adding a node makes of it.
+use Rattle.std.specs.Prelude.{◌≡◌, ℕ, ◌+◌, ◌≤◌, List, [], ◌∷◌, ◌++◌, length, map, Option, Some, None, true}
+use Rattle.scale_core.specs.Number.{AreBytes}
+use Rattle.registry_core.specs.declared.definition.Arm.{Arm}
+use Rattle.widths_core.specs.Types.{field_types}
+use Rattle.widths_core.specs.Arms.{arm_of}
+use Rattle.widths_core.specs.Classes.{is_finite}
+use Rattle.widths_core.specs.Layouts.{Layout, layout}
+use Rattle.widths_core.specs.Layouts as layout
+use Rattle.value_core.specs.Tree.{none}
+use Rattle.value_core.specs.Grammar.{Val}
+use Rattle.value_core.specs.Cells.{fields_part, list_part}
+use Rattle.value_core.specs.Parts.{Part, each, first_of, how_many_left}
+use Rattle.value_core.specs.Preorder as head
+use Rattle.value_core.specs.Preorder.{Head, tree_with, tree_of}
+use Rattle.value_core.specs.Shown.{Seen, head_shown}
+use Rattle.value_core.specs.Spine.{Kind, kind_head, IsOpenAs}
+use Rattle.value_core.specs.Walked.{OpenPart, Walked, next_type, advanced, opened}
+use Rattle.value_core.specs.declared.node.Node.{Node}
+
+-- a node with its type
+pub record Entry : Type 0 where
+  pub ty : ℕ
+  pub head : Head
+
+-- a value of type ty that is being built: the walk through it, and the nodes that it has, each before its children
+pub record Built : Type 0 where
+  pub ty : ℕ
+  pub walk : Walked
+  pub entries : List Entry
+
+abbrev pub entries_shown : List ℕ → List Node → List Entry
+entries_shown pool ns = map (λ n. record { ty = n.ty.0; head = head_shown pool n.content }) ns
+
+abbrev pub head_text_bytes : Head → ℕ
+head_text_bytes (head.text s) = length s
+head_text_bytes _ = 0
+
+-- the bytes of all texts
+abbrev pub entries_text_bytes : List Entry → ℕ
+entries_text_bytes [] = 0
+entries_text_bytes (e ∷ es) = head_text_bytes e.head + entries_text_bytes es
+
+-- the open nodes that are whole are closed, the innermost first; the root's own part stays
+abbrev pub settled_in : List OpenPart → List OpenPart
+settled_in [] = []
+settled_in (f ∷ []) = f ∷ []
+settled_in (f ∷ g ∷ fs) = elim (first_of f.left) [ Some t ↦ f ∷ g ∷ fs | None ↦ settled_in (g ∷ fs) ]
+
+abbrev pub settled_walk : Walked → Walked
+settled_walk w = record { types = w.types; limit = w.limit; frames = settled_in w.frames }
+
+abbrev pub settled : Built → Built
+settled b = record { ty = b.ty; walk = settled_walk b.walk; entries = b.entries }
+
+abbrev pub type_or_0 : Option ℕ → ℕ
+type_or_0 (Some t) = t
+type_or_0 None = 0
+
+-- the next type has this node
+abbrev pub next_entry : Built → Head → Entry
+next_entry b h = record { ty = type_or_0 (next_type b.walk); head = h }
+
+-- the value with a node without children, which is next
+abbrev pub with_leaf : Built → Head → Built
+with_leaf b h = settled (record { ty = b.ty; walk = advanced b.walk; entries = b.entries ++ next_entry b h ∷ [] })
+
+-- the value with a node whose children come next
+abbrev pub with_open : Built → Head → Part → Built
+with_open b h p = settled (record { ty = b.ty; walk = opened (advanced b.walk) (length b.entries) p; entries = b.entries ++ next_entry b h ∷ [] })
+
+-- a node that has no children
+abbrev pub IsLeaf : Head → Type 0
+IsLeaf (head.fields n) = ⊥
+IsLeaf (head.arm q n) = ⊥
+IsLeaf (head.list n) = ⊥
+IsLeaf _ = Unit {0}
+
+-- the next type has the value that this node is by itself, and there is room for it
+pub record IsNextLeaf (w : Walked) (h : Head) : Type 0 where
+  pub ty : ℕ
+  pub next : next_type w ≡ Some ty
+  pub room : length w.frames ≤ w.limit + 1
+  pub leaf : IsLeaf h
+  pub own : List ℕ
+  pub are_bytes : AreBytes own
+  pub value : Val w.types ty (tree_with h none) own
+
+-- the next type has a node of this kind, whose children these parts are, and there is room for it
+pub record IsNextOpen (w : Walked) (h : Head) (p : Part) : Type 0 where
+  pub ty : ℕ
+  pub next : next_type w ≡ Some ty
+  pub room : length w.frames ≤ w.limit + 1
+  pub kind : Kind
+  pub count : ℕ
+  pub head_is : h ≡ kind_head kind count
+  pub own : List ℕ
+  pub are_bytes : AreBytes own
+  pub finite : is_finite w.types ty ≡ true
+  pub is_open : IsOpenAs w.types kind ty count none own p
+
+-- the fields, the arm of an index, or so many elements, of the next type
+abbrev pub next_layout : Built → Layout
+next_layout b = layout b.walk.types (type_or_0 (next_type b.walk))
+
+abbrev pub with_fields : Built → Built
+with_fields b = let p = fields_part (next_layout b) in with_open b (head.fields (how_many_left p)) p
+
+-- the first arm of the index, in a layout that has arms
+abbrev pub arm_in : Layout → ℕ → Option (ℕ × Arm)
+arm_in (layout.arms arms) index = arm_of arms index
+arm_in _ index = None
+
+abbrev pub with_found : Built → Option (ℕ × Arm) → Built
+with_found b (Some found) = let p = each (field_types found.1.fields) in with_open b (head.arm found.0 (how_many_left p)) p
+with_found b None = b
+
+abbrev pub with_arm : Built → ℕ → Built
+with_arm b index = with_found b (arm_in (next_layout b) index)
+
+abbrev pub with_list : Built → ℕ → Built
+with_list b n = with_open b (head.list n) (list_part (next_layout b) n)
+
+-- the value that is handed out
+abbrev pub finished : Built → Seen
+finished b = record { types = b.walk.types; ty = b.ty; tree = tree_of (map (λ e. e.head) b.entries) }

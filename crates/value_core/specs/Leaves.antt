@@ -1,0 +1,37 @@
+-- A node without children, before it is added to a value.
+use Rattle.std.specs.Prelude.{◌≡◌, ℕ, ◌<◌, ◌^◌, List, [], length, FitsSigned}
+use Rattle.std.specs.Int.{w128}
+use Rattle.value_core.specs.Preorder as head
+use Rattle.value_core.specs.Preorder.{Head}
+use Rattle.value_core.specs.declared.leaf.Leaf.{Leaf}
+use Rattle.value_core.specs.declared.leaf.Leaf.TheVariants as leaf
+
+abbrev pub leaf_head : Leaf → Head
+leaf_head leaf.Empty = head.unit
+leaf_head (leaf.Bool b) = head.bool b
+leaf_head (leaf.Char c) = head.char c
+leaf_head (leaf.Text s) = head.text s.now
+leaf_head (leaf.Unsigned n) = head.unsigned n
+leaf_head (leaf.Signed z) = head.signed z
+leaf_head (leaf.Wide b) = head.wide b.now
+leaf_head (leaf.Compact n) = head.compact n
+leaf_head (leaf.Count n) = head.count n
+
+-- what it keeps in the pool of bytes
+abbrev pub leaf_bytes : Leaf → List ℕ
+leaf_bytes (leaf.Text s) = s.now
+leaf_bytes (leaf.Wide b) = b.now
+leaf_bytes _ = []
+
+abbrev pub leaf_text_bytes : Leaf → ℕ
+leaf_text_bytes (leaf.Text s) = length s.now
+leaf_text_bytes _ = 0
+
+-- a text has a length that can be spelled, an integer fits its word, and a wide one has 32 bytes
+abbrev pub FitsLeaf : Leaf → Type 0
+FitsLeaf (leaf.Text s) = length s.now < 2 ^ 32
+FitsLeaf (leaf.Unsigned n) = n < 2 ^ 128
+FitsLeaf (leaf.Compact n) = n < 2 ^ 128
+FitsLeaf (leaf.Signed z) = FitsSigned w128 z
+FitsLeaf (leaf.Wide b) = length b.now ≡ 32
+FitsLeaf _ = Unit {0}

@@ -1,0 +1,220 @@
+//! The calls that add a node to a value that is built.
+
+ghost use Rattle.std.specs.Prelude.{◌≡◌, ◌-◌, ◌^◌};
+ghost use Rattle.scale_core.specs.Compact.{target_bytes};
+ghost use Rattle.value_core.specs.Built.{with_leaf, with_fields, with_arm, with_list};
+ghost use Rattle.value_core.specs.Preorder as head;
+ghost use Rattle.value_core.specs.Refusals.{Adds, judged, judged_arm, other_fault, greatest_unsigned, suits_empty, suits_bool, suits_text, suits_unsigned, suits_wide, suits_compact, suits_count, suits_fields, suits_list};
+
+use crate::build_fault::BuildFault;
+use crate::builder::Builder;
+use crate::form::{Form, Next};
+use crate::leaf::Leaf;
+use crate::node::Content;
+use registry_core::Primitive;
+use scale_core::Target;
+use std::alloc::Allocator;
+
+/// The refusal of a call that is not the one for what comes next.
+fn other_fault(next: Next) -> BuildFault
+    ensures { result ≡ other_fault next }
+{
+    match next {
+        Next::Stop(reason) => reason.into(),
+        Next::Finished | Next::Wants(_) => BuildFault::WrongKind,
+    }
+}
+
+/// The greatest number of an unsigned integer type of at most sixteen bytes.
+fn greatest_unsigned(primitive: Primitive) -> Option<u128>
+    ensures { result ≡ greatest_unsigned primitive }
+{
+    match primitive {
+        Primitive::U8 => Some(u128::from(u8::MAX)),
+        Primitive::U16 => Some(u128::from(u16::MAX)),
+        Primitive::U32 => Some(u128::from(u32::MAX)),
+        Primitive::U64 => Some(u128::from(u64::MAX)),
+        Primitive::U128 => Some(u128::MAX),
+        _ => None,
+    }
+}
+
+/// The greatest number of a compact integer.
+fn greatest_compact(target: Target) -> u128
+    ensures { result ≡ 256 ^ target_bytes target - 1 }
+{
+    match target {
+        Target::Unit => 0,
+        Target::U8 => u128::from(u8::MAX),
+        Target::U16 => u128::from(u16::MAX),
+        Target::U32 => u128::from(u32::MAX),
+        Target::U64 => u128::from(u64::MAX),
+        Target::U128 => u128::MAX,
+    }
+}
+
+impl<'r, A: Allocator> Builder<'r, A> {
+    /// Adds the one value of a type that takes no bytes.
+    ///
+    /// Refuses, and leaves the builder as it was: what the next type stops at, `WrongKind` where another form is next or
+    /// nothing is, and `OutOfMemory`.
+    #[tactic(auto, using(crate::proofs::NextLeaf::empty_next))]
+    pub fn empty(&mut self) -> Result<(), BuildFault>
+        ensures { Adds (judged suits_empty self.old) (with_leaf self.old head.unit) self.old self.new result }
+    {
+        match self.walk().next() {
+            Next::Wants(Form::Empty) => self.add_leaf(Leaf::Empty),
+            other => Err(other_fault(other)),
+        }
+    }
+
+    /// Adds a boolean.
+    ///
+    /// Refuses as `empty` does.
+    #[tactic(auto, using(crate::proofs::NextLeaf::bool_next))]
+    pub fn bool(&mut self, value: bool) -> Result<(), BuildFault>
+        ensures { Adds (judged suits_bool self.old) (with_leaf self.old (head.bool value)) self.old self.new result }
+    {
+        match self.walk().next() {
+            Next::Wants(Form::Primitive(Primitive::Bool)) => self.add_leaf(Leaf::Bool(value)),
+            other => Err(other_fault(other)),
+        }
+    }
+
+    /// Adds an unsigned integer of at most sixteen bytes.
+    ///
+    /// Refuses as `empty` does, and with `OutOfRange` a number that is too great for the type.
+    #[tactic(auto, using(crate::proofs::NextLeaf::unsigned_next))]
+    pub fn unsigned(&mut self, value: u128) -> Result<(), BuildFault>
+        ensures { Adds (judged (suits_unsigned value) self.old) (with_leaf self.old (head.unsigned value)) self.old self.new result }
+    {
+        let primitive = match self.walk().next() {
+            Next::Wants(Form::Primitive(primitive)) => primitive,
+            other => return Err(other_fault(other)),
+        };
+        match greatest_unsigned(primitive) {
+            None => Err(BuildFault::WrongKind),
+            Some(greatest) if value > greatest => Err(BuildFault::OutOfRange),
+            Some(_) => self.add_leaf(Leaf::Unsigned(value)),
+        }
+    }
+
+    /// Adds a sequence of elements that take no bytes: their count alone.
+    ///
+    /// Refuses as `empty` does.
+    #[tactic(auto, using(crate::proofs::NextLeaf::count_next))]
+    pub fn count(&mut self, count: u32) -> Result<(), BuildFault>
+        ensures { Adds (judged suits_count self.old) (with_leaf self.old (head.count count)) self.old self.new result }
+    {
+        match self.walk().next() {
+            Next::Wants(Form::Count) => self.add_leaf(Leaf::Count(count)),
+            other => Err(other_fault(other)),
+        }
+    }
+
+    /// Adds a 256-bit integer by its 32 bytes, the lowest first.
+    ///
+    /// Refuses as `empty` does.
+    #[tactic(auto, using(crate::proofs::NextLeaf::wide_next))]
+    pub fn wide(&mut self, value: [u8; 32]) -> Result<(), BuildFault>
+        ensures { Adds (judged suits_wide self.old) (with_leaf self.old (head.wide value)) self.old self.new result }
+    {
+        let primitive = match self.walk().next() {
+            Next::Wants(Form::Primitive(primitive)) => primitive,
+            other => return Err(other_fault(other)),
+        };
+        match primitive {
+            Primitive::U256 => self.add_leaf(Leaf::Wide(&value)),
+            Primitive::I256 => self.add_leaf(Leaf::Wide(&value)),
+            _ => Err(BuildFault::WrongKind),
+        }
+    }
+
+    /// Adds a text.
+    ///
+    /// Refuses as `empty` does, and with `OutOfRange` a text of more than 4294967295 bytes.
+    #[tactic(auto, using(crate::proofs::NextLeaf::text_next))]
+    pub fn text(&mut self, text: &str) -> Result<(), BuildFault>
+        ensures { Adds (judged (suits_text text.now) self.old) (with_leaf self.old (head.text text.now)) self.old self.new result }
+    {
+        match self.walk().next() {
+            Next::Wants(Form::Primitive(Primitive::Str)) => {}
+            other => return Err(other_fault(other)),
+        }
+        if text.len() > u32::MAX as usize {
+            return Err(BuildFault::OutOfRange);
+        }
+        self.add_leaf(Leaf::Text(text.as_bytes()))
+    }
+
+    /// Adds a compact integer.
+    ///
+    /// Refuses as `empty` does, and with `OutOfRange` a number that is too great for what the compact stands over.
+    #[tactic(auto, using(crate::proofs::NextLeaf::compact_next))]
+    pub fn compact(&mut self, value: u128) -> Result<(), BuildFault>
+        ensures { Adds (judged (suits_compact value) self.old) (with_leaf self.old (head.compact value)) self.old self.new result }
+    {
+        let target = match self.walk().next() {
+            Next::Wants(Form::Compact(target)) => target,
+            other => return Err(other_fault(other)),
+        };
+        if value > greatest_compact(target) {
+            return Err(BuildFault::OutOfRange);
+        }
+        self.add_leaf(Leaf::Compact(value))
+    }
+
+    /// Adds a composite or a tuple, whose fields or members come next.
+    ///
+    /// Refuses as `empty` does.
+    #[tactic(auto, using(crate::proofs::NextOpen::fields_next))]
+    pub fn fields(&mut self) -> Result<(), BuildFault>
+        ensures { Adds (judged suits_fields self.old) (with_fields self.old) self.old self.new result }
+    {
+        match self.walk().next() {
+            Next::Wants(Form::Fields) => {}
+            other => return Err(other_fault(other)),
+        }
+        let left = self.walk().fields();
+        let children = left.len();
+        self.add_open(Content::Fields { children }, left)
+    }
+
+    /// Adds a variant by the index of its arm, whose fields come next.
+    ///
+    /// Refuses as `empty` does, and with `NoSuchVariant` an index that no arm has.
+    #[tactic(auto, using(crate::proofs::NextOpen::arm_next))]
+    pub fn arm(&mut self, index: u8) -> Result<(), BuildFault>
+        ensures { Adds (judged_arm self.old index) (with_arm self.old index) self.old self.new result }
+    {
+        match self.walk().next() {
+            Next::Wants(Form::Arm) => {}
+            other => return Err(other_fault(other)),
+        }
+        let Some((position, left)) = self.walk().arm(index) else {
+            return Err(BuildFault::NoSuchVariant);
+        };
+        let children = left.len();
+        self.add_open(Content::Arm { position, children }, left)
+    }
+
+    /// Adds an array, or a sequence of elements that take bytes; its elements come next.
+    ///
+    /// Refuses as `empty` does, and with `OutOfRange` a count that is not the array's length.
+    #[tactic(auto, using(crate::proofs::NextOpen::array_next, crate::proofs::NextOpen::sequence_next))]
+    pub fn list(&mut self, count: u32) -> Result<(), BuildFault>
+        ensures { Adds (judged (suits_list count) self.old) (with_list self.old count) self.old self.new result }
+    {
+        let left = match self.walk().next() {
+            Next::Wants(Form::Array(length)) => {
+                if count != length {
+                    return Err(BuildFault::OutOfRange);
+                }
+                self.walk().array(count)
+            }
+            Next::Wants(Form::Sequence) => self.walk().sequence(count),
+            other => return Err(other_fault(other)),
+        };
+        self.add_open(Content::List { children: count }, left)
+    }
+}

@@ -1,0 +1,56 @@
+//! Why a builder refuses.
+
+ghost use Rattle.std.specs.Prelude.{◌≡◌};
+ghost use Rattle.value_core.specs.Refusals.{fault_of};
+
+use crate::form::StopReason;
+use std::alloc::AllocError;
+
+/// Why a builder refuses a call. Of several reasons the first of this list is told, and the builder stays as it was.
+#[derive(Clone, Copy, Debug, PartialEq, Eq)]
+pub enum BuildFault {
+    /// The next node would stand deeper than the limit.
+    TooDeep,
+    /// The next type has no finite value.
+    NoFiniteValue,
+    /// The next type is a bit sequence, whose values are left out.
+    BitSequence,
+    /// The next type is a compact that stands over no unsigned integer.
+    BadCompact,
+    /// The call is not the one for the next type, or nothing is next.
+    WrongKind,
+    /// The number, the length or the depth limit is outside its range.
+    OutOfRange,
+    /// No arm has the index.
+    NoSuchVariant,
+    /// The id is no position of the registry.
+    UnknownType,
+    /// A node is still missing.
+    UnfinishedValue,
+    /// Memory was refused.
+    OutOfMemory,
+}
+
+impl From<StopReason> for BuildFault {
+    ghost from_gives = { λ f r. r ≡ fault_of f };
+
+    fn from(reason: StopReason) -> BuildFault {
+        match reason {
+            StopReason::TooDeep => BuildFault::TooDeep,
+            StopReason::NoFiniteValue => BuildFault::NoFiniteValue,
+            StopReason::BitSequence => BuildFault::BitSequence,
+            StopReason::BadCompact => BuildFault::BadCompact,
+        }
+    }
+}
+
+impl From<AllocError> for BuildFault {
+    ghost use Rattle.std.specs.Prelude.{◌≡◌};
+    ghost use Rattle.value_core.specs.declared.build_fault.BuildFault.TheVariants.{OutOfMemory};
+
+    ghost from_gives = { λ _ r. r ≡ OutOfMemory };
+
+    fn from(_: AllocError) -> BuildFault {
+        BuildFault::OutOfMemory
+    }
+}
