@@ -21,7 +21,7 @@ IsStatusOf fault.Usage status = status ≡ 2
 IsStatusOf fault.Memory status = status ≡ 4
 
 -- what the words are refused for: by `clap`, with one of the kinds that it has for them, or where it has none and they name no job
-abbrev pub IsFaultOf : List Text → JobFault → Type 0
-IsFaultOf words (fault.Line e) = HasKind (fault_of line words) e
-IsFaultOf words fault.Usage = (fault_of line words ≡ []) × NamesNone (subcommand_of line words)
-IsFaultOf words fault.Memory = Unit {0}
+abbrev pub IsFaultOfWords : List Text → JobFault → Type 0
+IsFaultOfWords words (fault.Line e) = HasKind (fault_of line words) e
+IsFaultOfWords words fault.Usage = (fault_of line words ≡ []) × NamesNone (subcommand_of line words)
+IsFaultOfWords words fault.Memory = Unit {0}

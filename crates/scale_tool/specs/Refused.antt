@@ -1,5 +1,5 @@
 -- The exit status of each refusal, and the line of a device.
-use Rattle.std.specs.Prelude.{ℕ, List, codes}
+use Rattle.std.specs.Prelude.{ℕ, List, Option, Some, None, codes}
 use Rattle.registry_core.specs.declared.fault.RegistryFault.{RegistryFault}
 use Rattle.registry_core.specs.declared.fault.RegistryReason.{RegistryReason}
 use Rattle.registry_core.specs.declared.fault.RegistryReason.TheVariants as registry
@@ -29,6 +29,19 @@ abbrev pub device_line : Device → List ℕ
 device_line device.Registry = codes "scaleview: device: registry\n"
 device_line device.Value = codes "scaleview: device: value\n"
 device_line device.Output = codes "scaleview: device: output\n"
+
+-- what is told of a refusal, where that needs no memory
+abbrev pub fixed_line : Refusal → Option (List ℕ)
+fixed_line (refusal.Device device) = Some (device_line device)
+fixed_line refusal.Memory = Some (codes "scaleview: memory\n")
+fixed_line (refusal.Registry fault) = None
+fixed_line (refusal.TrailingRegistry at) = None
+fixed_line (refusal.Check unknown) = None
+fixed_line refusal.UnsupportedValue = None
+fixed_line (refusal.UnknownType id) = None
+fixed_line (refusal.Value fault) = None
+fixed_line (refusal.TrailingValue at) = None
+fixed_line (refusal.TooLong at) = None
 
 -- why this device gave no input
 abbrev pub refusal_of : GatherFault → Device → Refusal

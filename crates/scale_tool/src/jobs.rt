@@ -3,7 +3,7 @@
 ghost use Rattle.std.specs.Prelude.{◌≡◌, ◌^◌, ◌<◌, IfOk, IfErr, IfSome, IfNone, map, codes, Some, None, option_map, option_and_then, string_bytes, SomeIff};
 ghost use Rattle.std.specs.Str.Parse.{IsNumeral, digits_value};
 ghost use Rattle.clap.specs.Words.{found_of, rows_of, subcommand_of, subcommand_rows_of};
-ghost use Rattle.scale_tool.specs.Explained.{IsFaultOf};
+ghost use Rattle.scale_tool.specs.Explained.{IsFaultOfWords};
 ghost use Rattle.scale_tool.specs.Line.{IsJob, NamesNone, line};
 ghost use Rattle.scale_tool.specs.declared.jobs.JobFault.TheVariants.{Memory};
 
@@ -98,7 +98,7 @@ fn owned(alloc: Global, text: Option<&str>) -> Result<Option<String>, AllocError
 /// digits alone or above 4294967295, and with `Memory` where memory is refused.
 pub fn job(alloc: Global, words: &[&str]) -> Result<(Job, String, Option<String>), JobFault>
     ensures ok { IfOk result (λ j. IsJob j.0 (string_bytes j.1) (option_map string_bytes j.2) (subcommand_of line (map (λ s. s.now) words.now))) }
-    ensures err { IfErr result (IsFaultOf (map (λ s. s.now) words.now)) }
+    ensures err { IfErr result (IsFaultOfWords (map (λ s. s.now) words.now)) }
 {
     match line_matches(alloc, words) {
         Ok(matches) => match job_of(&matches) {
