@@ -12,6 +12,8 @@ mod devices;
 #[cfg(test)]
 mod integers;
 #[cfg(test)]
+mod memory;
+#[cfg(test)]
 mod paced;
 #[cfg(test)]
 mod registries;

@@ -249,52 +249,6 @@ fn refused_registries_are_told(rt: HostRuntime) {
 }
 
 #[test]
-fn claimed_lengths_reserve_nothing(rt: HostRuntime) -> Result<(), Fail> {
-    let lists = [
-        ("types", b"".as_slice()),
-        ("a path", b"\x04\x00".as_slice()),
-        ("a path's text", b"\x04\x00\x04".as_slice()),
-        ("parameters", b"\x04\x00\x00".as_slice()),
-        ("a parameter's name", b"\x04\x00\x00\x04".as_slice()),
-        ("fields", b"\x04\x00\x00\x00\x00".as_slice()),
-        ("a field's name", b"\x04\x00\x00\x00\x00\x04\x01".as_slice()),
-        (
-            "a field's type name",
-            b"\x04\x00\x00\x00\x00\x04\x00\x00\x01".as_slice(),
-        ),
-        (
-            "a field's documentation",
-            b"\x04\x00\x00\x00\x00\x04\x00\x00\x00".as_slice(),
-        ),
-        ("arms", b"\x04\x00\x00\x00\x01".as_slice()),
-        ("an arm's name", b"\x04\x00\x00\x00\x01\x04".as_slice()),
-        (
-            "an arm's fields",
-            b"\x04\x00\x00\x00\x01\x04\x04\x41".as_slice(),
-        ),
-        (
-            "an arm's documentation",
-            b"\x04\x00\x00\x00\x01\x04\x04\x41\x00\x00".as_slice(),
-        ),
-        ("members", b"\x04\x00\x00\x00\x04".as_slice()),
-        (
-            "a type's documentation",
-            b"\x04\x00\x00\x00\x05\x03".as_slice(),
-        ),
-    ];
-    for (name, before) in lists {
-        let mut bytes = Vec::from_slice(rt.alloc(), before)?;
-        bytes.extend_from_slice(b"\xfe\xff\xff\xff")?;
-        let fault = RegistryFault {
-            reason: RegistryReason::Truncated,
-            at: bytes.len() as u64,
-        };
-        assert_eq!(rt; refusal(rt.alloc(), &bytes), Some(fault), "{name}");
-    }
-    Ok(())
-}
-
-#[test]
 fn metadata_is_read_behind_its_prefix(rt: HostRuntime) -> Result<(), Fail> {
     let bytes = b"\x6d\x65\x74\x61\x0e\x04\x00\x00\x00\x05\x03\x00\xff\xff";
     let (registry, count) = read_metadata(rt.alloc(), bytes)?;

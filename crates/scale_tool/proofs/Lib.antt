@@ -3,6 +3,7 @@ pub mod TypeLines
 pub mod Registries
 pub mod Locals
 pub mod Entered
+pub mod Unnamed
 pub mod Windows
 pub mod Fixed
 pub mod Cuts

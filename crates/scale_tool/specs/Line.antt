@@ -1,5 +1,5 @@
 -- The command line, and the job that its words name.
-use Rattle.std.specs.Prelude.{◌≡◌, ℕ, List, Some, None, Option, true, false, Bool, codes}
+use Rattle.std.specs.Prelude.{◌≡◌, ◌<◌, ◌^◌, ℕ, List, Some, None, Option, true, false, Bool, codes}
 use Rattle.clap.specs.Words.{App, Row, Rule, Text, first_of, one_of, new_app, new_rule, with_rule, with_subcommand}
 use Rattle.std.specs.Str.Parse.{IsNumeral, digits_value}
 use Rattle.scale_tool.specs.declared.task.Job.{Job}
@@ -60,3 +60,12 @@ IsJob (jobs.Types from_metadata) file_name (Some value_name) sub = ⊥
 IsJob (jobs.Decode position from_metadata) file_name None sub = ⊥
 IsJob (jobs.Decode position from_metadata) file_name (Some value_name) sub =
     (rows : List Row) × (sub ≡ Some (codes "decode", rows)) × IsDecode position from_metadata file_name value_name rows
+
+-- a u32 holds the job's number, where it has one
+abbrev pub FitsJob : Job → Type 0
+FitsJob (jobs.Types from_metadata) = Unit {0}
+FitsJob (jobs.Decode position from_metadata) = position < 2 ^ 32
+
+-- a subcommand's name and matches tell no job
+abbrev pub NamesNone : Option (Text × List Row) → Type 0
+NamesNone sub = (job : Job) (file_name : Text) (value_name : Option Text) → FitsJob job → IsJob job file_name value_name sub → ⊥

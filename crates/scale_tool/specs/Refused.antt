@@ -1,5 +1,5 @@
--- The exit status of each refusal.
-use Rattle.std.specs.Prelude.{ℕ}
+-- The exit status of each refusal, and the line of a device.
+use Rattle.std.specs.Prelude.{ℕ, List, Option, Some, None, codes}
 use Rattle.registry_core.specs.declared.fault.RegistryFault.{RegistryFault}
 use Rattle.registry_core.specs.declared.fault.RegistryReason.{RegistryReason}
 use Rattle.registry_core.specs.declared.fault.RegistryReason.TheVariants as registry
@@ -8,6 +8,7 @@ use Rattle.widths_core.specs.declared.fault.CheckFault.TheVariants as check
 use Rattle.scale_tool.specs.declared.moving.GatherFault.{GatherFault}
 use Rattle.scale_tool.specs.declared.moving.GatherFault.TheVariants as gather
 use Rattle.scale_tool.specs.declared.refusal.Device.{Device}
+use Rattle.scale_tool.specs.declared.refusal.Device.TheVariants as device
 use Rattle.scale_tool.specs.declared.refusal.Refusal.{Refusal}
 use Rattle.scale_tool.specs.declared.refusal.Refusal.TheVariants as refusal
 
@@ -22,6 +23,25 @@ status_of (refusal.TrailingValue at) = 1
 status_of (refusal.TooLong at) = 1
 status_of (refusal.Device device) = 3
 status_of refusal.Memory = 4
+
+-- what is told where this device fails
+abbrev pub device_line : Device → List ℕ
+device_line device.Registry = codes "scaleview: device: registry\n"
+device_line device.Value = codes "scaleview: device: value\n"
+device_line device.Output = codes "scaleview: device: output\n"
+
+-- what is told of a refusal, where that needs no memory
+abbrev pub fixed_line : Refusal → Option (List ℕ)
+fixed_line (refusal.Device device) = Some (device_line device)
+fixed_line refusal.Memory = Some (codes "scaleview: memory\n")
+fixed_line (refusal.Registry fault) = None
+fixed_line (refusal.TrailingRegistry at) = None
+fixed_line (refusal.Check unknown) = None
+fixed_line refusal.UnsupportedValue = None
+fixed_line (refusal.UnknownType id) = None
+fixed_line (refusal.Value fault) = None
+fixed_line (refusal.TrailingValue at) = None
+fixed_line (refusal.TooLong at) = None
 
 -- why this device gave no input
 abbrev pub refusal_of : GatherFault → Device → Refusal

@@ -1,7 +1,7 @@
 //! The command line as `clap` reads it.
 
 ghost use Rattle.std.specs.Prelude.{◌≡◌, IfOk, IfErr, map, true, false};
-ghost use Rattle.clap.specs.Words.{app_of, found_of, rows_of, rule_of, matches_of, subcommand_of, subcommand_rows_of, takes, kind_of};
+ghost use Rattle.clap.specs.Words.{FailsBy, app_of, fault_of, found_of, rows_of, rule_of, matches_of, subcommand_of, subcommand_rows_of, takes, kind_of};
 ghost use Rattle.clap.specs.declared.Command.TheViews.{out-Command};
 ghost use Rattle.scale_tool.specs.Line.{line, types, decode, file, id, value_file, metadata};
 
@@ -87,6 +87,7 @@ fn line_command<'a>(alloc: Global) -> Result<Command<'a>, AllocError>
 pub(crate) fn line_matches<'a>(alloc: Global, words: &'a [&'a str]) -> Result<ArgMatches<'a>, Error>
     ensures found { IfOk result (λ m. rows_of (found_of m) ≡ matches_of line (map (λ s. s.now) words.entry.now)) }
     ensures subcommand { IfOk result (λ m. subcommand_rows_of m ≡ subcommand_of line (map (λ s. s.now) words.entry.now)) }
+    ensures kinds { FailsBy (fault_of line (map (λ s. s.now) words.entry.now)) result }
     ensures taken { IfErr result (λ e. takes line (map (λ s. s.now) words.entry.now) ≡ true → kind_of e ≡ ErrorKind.OutOfMemory) }
 {
     let line = line_command(alloc)?;

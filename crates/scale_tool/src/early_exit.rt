@@ -1,8 +1,9 @@
 //! What is told where a job doesn't begin: a command line that names none, or a file that does not open.
 
 ghost use Rattle.std.specs.Prelude.{◌≡◌, ◌⊎◌, true};
-ghost use Rattle.std.specs.Io.KnownBytes.{Keeps};
+ghost use Rattle.std.specs.Io.KnownBytes.{Appends, Keeps};
 ghost use Rattle.scale_tool.specs.Explained.{IsStatusOf, IsStatusOfLine};
+ghost use Rattle.scale_tool.specs.Refused.{device_line};
 
 use crate::jobs::JobFault;
 use crate::moving::send;
@@ -17,7 +18,8 @@ const MEMORY_LINE: &str = "scaleview: memory\n";
 
 /// Tells on `err` that the device's file does not open, and answers the status, 3.
 pub fn unopened<E: Write>(device: Device, err: &mut Sink<E>) -> u8
-    ensures { result ≡ 3 }
+    ensures status { result ≡ 3 }
+    ensures told { (err.new.failed ≡ true) ⊎ Appends (E.contents err.old.device) (E.contents err.new.device) (device_line device) }
 {
     let _ = send(err, device.line().as_bytes());
     3

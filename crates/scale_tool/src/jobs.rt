@@ -1,9 +1,11 @@
 //! The job that a command line names.
 
-ghost use Rattle.std.specs.Prelude.{◌≡◌, ◌^◌, ◌<◌, IfOk, IfSome, map, codes, Some, None, option_map, option_and_then, string_bytes, SomeIff};
+ghost use Rattle.std.specs.Prelude.{◌≡◌, ◌^◌, ◌<◌, IfOk, IfErr, IfSome, IfNone, map, codes, Some, None, option_map, option_and_then, string_bytes, SomeIff};
 ghost use Rattle.std.specs.Str.Parse.{IsNumeral, digits_value};
 ghost use Rattle.clap.specs.Words.{found_of, rows_of, subcommand_of, subcommand_rows_of};
-ghost use Rattle.scale_tool.specs.Line.{IsJob, line};
+ghost use Rattle.scale_tool.specs.Explained.{IsFaultOfWords};
+ghost use Rattle.scale_tool.specs.Line.{IsJob, NamesNone, line};
+ghost use Rattle.scale_tool.specs.declared.jobs.JobFault.TheVariants.{Memory};
 
 use crate::commands::line_matches;
 use crate::task::Job;
@@ -22,6 +24,8 @@ pub enum JobFault {
 }
 
 impl From<AllocError> for JobFault {
+    ghost from_gives = { λ _ f. f ≡ Memory };
+
     fn from(_error: AllocError) -> JobFault {
         JobFault::Memory
     }
@@ -40,7 +44,8 @@ fn number_of(text: &str) -> Option<u32>
 
 /// The job of `types`, with FILE.
 fn types_job<'a>(matches: &ArgMatches<'a>) -> Option<(Job, &'a str)>
-    ensures { IfSome result (λ j. IsJob j.0 j.1.now None (Some (codes "types", rows_of (found_of matches.now)))) }
+    ensures job { IfSome result (λ j. IsJob j.0 j.1.now None (Some (codes "types", rows_of (found_of matches.now)))) }
+    ensures none { IfNone result (NamesNone (Some (codes "types", rows_of (found_of matches.now)))) }
 {
     let metadata = matches.get_flag("metadata");
     let file = matches.get_str("FILE")?;
@@ -49,7 +54,8 @@ fn types_job<'a>(matches: &ArgMatches<'a>) -> Option<(Job, &'a str)>
 
 /// The job of `decode`, with FILE and VALUEFILE; None where ID is no number.
 fn decode_job<'a>(matches: &ArgMatches<'a>) -> Option<(Job, &'a str, &'a str)>
-    ensures { IfSome result (λ j. IsJob j.0 j.1.now (Some j.2.now) (Some (codes "decode", rows_of (found_of matches.now)))) }
+    ensures job { IfSome result (λ j. IsJob j.0 j.1.now (Some j.2.now) (Some (codes "decode", rows_of (found_of matches.now)))) }
+    ensures none { IfNone result (NamesNone (Some (codes "decode", rows_of (found_of matches.now)))) }
 {
     let id = number_of(matches.get_str("ID")?)?;
     let metadata = matches.get_flag("metadata");
@@ -60,7 +66,8 @@ fn decode_job<'a>(matches: &ArgMatches<'a>) -> Option<(Job, &'a str, &'a str)>
 
 /// The job that the line's matches name, with FILE and VALUEFILE; None where ID is no number.
 fn job_of<'a>(matches: &ArgMatches<'a>) -> Option<(Job, &'a str, Option<&'a str>)>
-    ensures { IfSome result (λ j. IsJob j.0 j.1.now (option_map (λ s. s.now) j.2) (subcommand_rows_of matches.now)) }
+    ensures job { IfSome result (λ j. IsJob j.0 j.1.now (option_map (λ s. s.now) j.2) (subcommand_rows_of matches.now)) }
+    ensures none { IfNone result (NamesNone (subcommand_rows_of matches.now)) }
 {
     let (name, inner) = matches.subcommand()?;
     if name == "types" {
@@ -90,7 +97,8 @@ fn owned(alloc: Global, text: Option<&str>) -> Result<Option<String>, AllocError
 /// Refuses with `Line` where `clap` answers help or a usage error or wants memory, with `Usage` where ID is not ASCII
 /// digits alone or above 4294967295, and with `Memory` where memory is refused.
 pub fn job(alloc: Global, words: &[&str]) -> Result<(Job, String, Option<String>), JobFault>
-    ensures { IfOk result (λ j. IsJob j.0 (string_bytes j.1) (option_map string_bytes j.2) (subcommand_of line (map (λ s. s.now) words.now))) }
+    ensures ok { IfOk result (λ j. IsJob j.0 (string_bytes j.1) (option_map string_bytes j.2) (subcommand_of line (map (λ s. s.now) words.now))) }
+    ensures err { IfErr result (IsFaultOfWords (map (λ s. s.now) words.now)) }
 {
     match line_matches(alloc, words) {
         Ok(matches) => match job_of(&matches) {

@@ -1,7 +1,7 @@
 //! Why the command answers nothing: the line that it tells on standard error, and its exit status.
 
-ghost use Rattle.std.specs.Prelude.{◌≡◌, IfNone};
-ghost use Rattle.scale_tool.specs.Refused.{refusal_of_check, refusal_of_registry, status_of};
+ghost use Rattle.std.specs.Prelude.{◌≡◌, IfNone, option_map};
+ghost use Rattle.scale_tool.specs.Refused.{device_line, fixed_line, refusal_of_check, refusal_of_registry, status_of};
 ghost use Rattle.scale_tool.specs.declared.refusal.Refusal.TheVariants.{Value, Memory};
 
 use registry_core::{RegistryFault, RegistryReason};
@@ -20,7 +20,9 @@ pub enum Device {
 
 impl Device {
     /// The line that tells its failure.
-    pub(crate) fn line(self) -> &'static str {
+    pub(crate) fn line(self) -> &'static str
+        ensures { result.now ≡ device_line self }
+    {
         match self {
             Device::Registry => "scaleview: device: registry\n",
             Device::Value => "scaleview: device: value\n",
@@ -77,7 +79,8 @@ impl Refusal {
 
     /// The line of a device or of want of memory, for which no memory may be left.
     pub(crate) fn fixed_line(self) -> Option<&'static str>
-        ensures { IfNone result (status_of self ≡ 1) }
+        ensures line { option_map (λ s. s.now) result ≡ fixed_line self }
+        ensures none { IfNone result (status_of self ≡ 1) }
     {
         match self {
             Refusal::Device(device) => Some(device.line()),

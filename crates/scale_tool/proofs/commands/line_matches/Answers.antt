@@ -1,6 +1,6 @@
-use Rattle.std.proofs.Common.{◌≡◌, ◌∙◌, ap, map, true, refl}
+use Rattle.std.proofs.Common.{◌≡◌, ◌∙◌, ap, map, subst, true, refl}
 use Rattle.std.proofs.lemmas.Result.{IfErr-weaker, IfOk-weaker}
-use Rattle.clap.specs.Words.{is_simple, matches_of, subcommand_of, takes}
+use Rattle.clap.specs.Words.{FailsBy, fault_of, is_simple, is_simple_and_free, matches_of, subcommand_of, takes}
 use Rattle.clap.proofs.OnLiterals.{clap_on_literals}
 use Rattle.scale_tool.specs.Line.{line}
 use Rattle.scale_tool.proofs.commands.line_matches.Goals as goal
@@ -20,3 +20,12 @@ returns-clause-subcommand c =
 pub returns-clause-taken : goal.returns-clause-taken
 returns-clause-taken c =
     IfErr-weaker c.try_get_matches_from.result _ _ (λ e h taken. h (ap (λ a. takes a (map (λ s. s.now) c.args.words.now)) c.in_ok-line.ensures ∙ taken)) c.try_get_matches_from.ensures.passes
+
+free : is_simple_and_free line ≡ true
+unfolding clap_on_literals
+free = refl
+
+pub returns-clause-kinds : goal.returns-clause-kinds
+returns-clause-kinds c =
+    subst (λ a. FailsBy (fault_of a (map (λ s. s.now) c.args.words.now)) c.try_get_matches_from.result) c.in_ok-line.ensures
+    (c.try_get_matches_from.ensures.kinds (ap is_simple_and_free c.in_ok-line.ensures ∙ free))

@@ -1,0 +1,172 @@
+//! Memory: what lengths reserve that are claimed only, and how much room the tables of a checked registry take.
+
+use registry_core::{RegistryFault, RegistryReason, read_metadata, read_registry};
+use scale_core::Target;
+use std::alloc::Global;
+use std::fs;
+use std::process::Abort;
+use std::rt::Files;
+use std::test::Fail;
+use widths_core::Class;
+
+/// The lists and texts of a registry, each with the bytes that stand before its length.
+const PLACES: [(&str, &[u8]); 22] = [
+    ("types", b""),
+    ("a path", b"\x04\x00"),
+    ("a path's text", b"\x04\x00\x04"),
+    ("parameters", b"\x04\x00\x00"),
+    ("a parameter's name", b"\x04\x00\x00\x04"),
+    ("fields", b"\x04\x00\x00\x00\x00"),
+    ("a field's name", b"\x04\x00\x00\x00\x00\x04\x01"),
+    (
+        "a field's type name",
+        b"\x04\x00\x00\x00\x00\x04\x00\x00\x01",
+    ),
+    (
+        "a field's documentation",
+        b"\x04\x00\x00\x00\x00\x04\x00\x00\x00",
+    ),
+    (
+        "a text of a field's documentation",
+        b"\x04\x00\x00\x00\x00\x04\x00\x00\x00\x04",
+    ),
+    ("arms", b"\x04\x00\x00\x00\x01"),
+    ("an arm's name", b"\x04\x00\x00\x00\x01\x04"),
+    ("an arm's fields", b"\x04\x00\x00\x00\x01\x04\x04A"),
+    (
+        "the name of an arm's field",
+        b"\x04\x00\x00\x00\x01\x04\x04A\x04\x01",
+    ),
+    (
+        "the type name of an arm's field",
+        b"\x04\x00\x00\x00\x01\x04\x04A\x04\x00\x00\x01",
+    ),
+    (
+        "the documentation of an arm's field",
+        b"\x04\x00\x00\x00\x01\x04\x04A\x04\x00\x00\x00",
+    ),
+    (
+        "a text of the documentation of an arm's field",
+        b"\x04\x00\x00\x00\x01\x04\x04A\x04\x00\x00\x00\x04",
+    ),
+    (
+        "an arm's documentation",
+        b"\x04\x00\x00\x00\x01\x04\x04A\x00\x00",
+    ),
+    (
+        "a text of an arm's documentation",
+        b"\x04\x00\x00\x00\x01\x04\x04A\x00\x00\x04",
+    ),
+    ("members", b"\x04\x00\x00\x00\x04"),
+    ("a type's documentation", b"\x04\x00\x00\x00\x05\x03"),
+    (
+        "a text of a type's documentation",
+        b"\x04\x00\x00\x00\x05\x03\x04",
+    ),
+];
+
+/// The lengths 1073741823 and 4294967295, the greatest of four bytes and the greatest there is.
+const LENGTHS: [&[u8]; 2] = [b"\xfe\xff\xff\xff", b"\x03\xff\xff\xff\xff"];
+
+/// How many KiB this process has reserved, and the most that it ever had.
+///
+/// What was reserved and never written to counts too.
+#[derive(Clone, Copy)]
+struct Reserved {
+    now: u64,
+    most: u64,
+}
+
+/// The number behind the name in what the system says of this process.
+fn number_behind(status: &str, name: &str) -> Result<u64, Fail> {
+    for line in status.lines() {
+        if let Some(rest) = line.strip_prefix(name) {
+            let number = rest.split_whitespace().next().ok_or("no number")?;
+            return Ok(number.parse::<u64>()?);
+        }
+    }
+    Err("the system does not say it")?
+}
+
+/// What this process has reserved, as the system counts it.
+fn measured(rt: &(impl Files + Alloc)) -> Result<Reserved, Fail> {
+    let status = fs::read_to_string(rt, "/proc/self/status")?;
+    let now = number_behind(status.as_str(), "VmSize:")?;
+    let most = number_behind(status.as_str(), "VmPeak:")?;
+    Ok(Reserved { now, most })
+}
+
+/// From one measure to the next this many KiB were reserved and kept, and never as much as 1 MiB more.
+fn check_growth(rt: &impl Abort, before: Reserved, after: Reserved, kib: u64) {
+    let kept = after.now.saturating_sub(before.now);
+    let most = after.most.saturating_sub(before.now);
+    assert!(rt; kib <= kept, "{kept} KiB of {kib} were kept");
+    assert!(rt;
+        most < kib.saturating_add(1024),
+        "{most} KiB for {kib} were reserved"
+    );
+}
+
+/// A registry that ends behind the claimed length is refused there, also as metadata.
+fn check_claim(
+    rt: &impl Abort,
+    alloc: Global,
+    name: &str,
+    before: &[u8],
+    length: &[u8],
+) -> Result<(), Fail> {
+    let mut bytes = Vec::from_slice(alloc, b"\x6d\x65\x74\x61\x0e")?;
+    bytes.extend_from_slice(before)?;
+    bytes.extend_from_slice(length)?;
+    let metadata = read_metadata(alloc, &bytes).err();
+    let registry = read_registry(alloc, bytes.get(5..).unwrap_or_default()).err();
+    let whole = RegistryFault {
+        reason: RegistryReason::Truncated,
+        at: bytes.len() as u64,
+    };
+    let behind = RegistryFault {
+        reason: RegistryReason::Truncated,
+        at: (bytes.len() as u64).saturating_sub(5),
+    };
+    assert_eq!(rt; metadata, Some(whole), "{name} of metadata, {length:?}");
+    assert_eq!(rt; registry, Some(behind), "{name}, {length:?}");
+    Ok(())
+}
+
+// A reader that asks for room at once either gets it, and is measured, or does not, and answers `OutOfMemory`.
+#[test]
+fn claimed_lengths_reserve_nothing(rt: HostRuntime) -> Result<(), Fail> {
+    let before = measured(&rt)?;
+    for (name, front) in PLACES {
+        for length in LENGTHS {
+            check_claim(&rt, rt.alloc(), name, front, length)?;
+        }
+    }
+    let after = measured(&rt)?;
+    check_growth(&rt, before, after, 0);
+    // The measure sees room that is asked for at once, here 1 GiB, of which one byte is used.
+    let mut list = Vec::with_capacity(rt.alloc(), 0x4000_0000)?;
+    list.push(7u8)?;
+    let with_list = measured(&rt)?;
+    assert_eq!(rt; list.as_slice(), [7].as_slice());
+    check_growth(&rt, after, with_list, 0x10_0000);
+    Ok(())
+}
+
+// The tables are a vector of classes and one of targets, with one element for each type.
+#[test]
+fn the_tables_take_three_bytes_a_type(rt: HostRuntime) -> Result<(), Fail> {
+    assert_eq!(rt; size_of::<Class>(), 1);
+    assert_eq!(rt; size_of::<Option<Target>>(), 2);
+    let before = measured(&rt)?;
+    let mut classes = Vec::with_capacity(rt.alloc(), 0x400_0000)?;
+    classes.push(Class::Empty)?;
+    let with_classes = measured(&rt)?;
+    let mut targets = Vec::with_capacity(rt.alloc(), 0x400_0000)?;
+    targets.push(Some(Target::U8))?;
+    let with_both = measured(&rt)?;
+    assert_eq!(rt; (classes.len(), targets.len()), (1, 1));
+    check_growth(&rt, before, with_classes, 0x1_0000);
+    check_growth(&rt, with_classes, with_both, 0x2_0000);
+    Ok(())
+}

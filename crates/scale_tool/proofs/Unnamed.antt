@@ -1,0 +1,51 @@
+-- Matches that name no job.
+use Rattle.std.proofs.Common.{◌≡◌, ◌∙◌, ◌<◌, ◌^◌, ℕ, List, Option, Some, None, [], ap, codes, subst, sym}
+use Rattle.std.specs.Prelude.{IfNone}
+use Rattle.std.specs.Str.Parse.{IsNumeral, digits_value}
+use Rattle.clap.specs.Words.{Row, Text, first_of}
+use Rattle.scale_tool.specs.Line.{NamesNone, Spells}
+use Rattle.scale_tool.specs.declared.task.Job.TheVariants as jobs
+
+pub if_none : {T : Type 0} (o : Option T) (P : Type 0) → P → IfNone o P
+if_none None P p = p
+if_none (Some x) P p = tt
+
+not_both : codes "types" ≡ codes "decode" → ⊥
+not_both e = cc
+
+-- the name and the rows, where they are told
+abbrev name_in : Option (Text × List Row) → Text
+name_in None = []
+name_in (Some told) = told.0
+
+abbrev rows_in : Option (Text × List Row) → List Row
+rows_in None = []
+rows_in (Some told) = told.1
+
+-- the rows of `types` name no job, where one would have its file from them
+pub none_of_types : (rows : List Row) → ((file : Text) → first_of (codes "FILE") rows ≡ Some file → ⊥) → NamesNone (Some (codes "types", rows))
+none_of_types rows refute (jobs.Types m) file None fits is =
+    refute file (ap (λ sub. first_of (codes "FILE") (rows_in sub)) is.1 ∙ is.2.file_is)
+none_of_types rows refute (jobs.Types m) file (Some value) fits is = is
+none_of_types rows refute (jobs.Decode p m) file None fits is = is
+none_of_types rows refute (jobs.Decode p m) file (Some value) fits is = not_both (ap name_in is.1)
+
+-- and the rows of `decode` none, where one would have its number and its two files from them
+pub none_of_decode : (rows : List Row)
+    → ((p : ℕ) (file value : Text) → p < 2 ^ 32 → Spells (first_of (codes "ID") rows) p → first_of (codes "FILE") rows ≡ Some file
+    → first_of (codes "VALUEFILE") rows ≡ Some value → ⊥)
+    → NamesNone (Some (codes "decode", rows))
+none_of_decode rows refute (jobs.Types m) file None fits is = not_both (ap name_in (sym is.1))
+none_of_decode rows refute (jobs.Types m) file (Some value) fits is = is
+none_of_decode rows refute (jobs.Decode p m) file None fits is = is
+none_of_decode rows refute (jobs.Decode p m) file (Some value) fits is =
+    let r : is.0 ≡ rows = ap rows_in (sym is.1) in
+    refute p file value fits (subst (λ rs. Spells (first_of (codes "ID") rs) p) r is.2.position_is)
+    (ap (first_of (codes "FILE")) (sym r) ∙ is.2.file_is) (ap (first_of (codes "VALUEFILE")) (sym r) ∙ is.2.value_is)
+
+-- a text that is no number of a u32 spells none
+pub no_number : (said : Option Text) (text : Text) (p : ℕ) → said ≡ Some text → (IsNumeral 10 text × (digits_value 10 text < 2 ^ 32) → ⊥)
+    → p < 2 ^ 32 → Spells said p → ⊥
+no_number said text p is refute fits spells =
+    let s : IsNumeral 10 text × (digits_value 10 text ≡ p) = subst (λ o. Spells o p) is spells in
+    refute (s.0, subst (λ n. n < 2 ^ 32) (sym s.1) fits)
