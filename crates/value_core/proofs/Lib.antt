@@ -1,3 +1,5 @@
+pub mod Below
+pub mod CellsOf
 pub mod Complete
 pub mod Sound
 pub mod Stable

@@ -1,3 +1,4 @@
+pub mod Cells
 pub mod Forms
 pub mod Frames
 pub mod Grammar
@@ -6,5 +7,7 @@ pub mod Opened
 pub mod Parts
 pub mod Preorder
 pub mod Reading
+pub mod Shown
 pub mod Tree
 pub mod Walked
+pub mod Whats

@@ -1,12 +1,21 @@
 //! Values of the types of a registry: what they are, what they are in bytes, and what holds of all of them.
 #![tactic(auto)]
 
+mod children;
 mod form;
 pub mod laws;
 mod left;
 mod limits;
+mod node;
+mod node_ref;
+mod value;
 mod walk;
+mod what;
 
+pub use children::Children;
 pub use form::{Form, Next, StopReason};
 pub use limits::Limits;
+pub use node_ref::NodeRef;
+pub use value::Value;
 pub use walk::Walk;
+pub use what::What;

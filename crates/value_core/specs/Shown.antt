@@ -1,0 +1,121 @@
+-- What contracts see of a value: its registry, its type and its tree.
+use Rattle.std.specs.Prelude.{◌≡◌, ℕ, zero, suc, ℤ, pos, neg_ℤ, ◌+◌, ◌-◌, ◌*◌, ◌^◌, ◌≤◌, nat_lt, List, [], ◌∷◌, length, map, take, drop, slice_range, if◌then◌else◌, Option, Some, None}
+use Rattle.std.specs.List.{AllByRecursion}
+use Rattle.std.specs.Int.{w128, from_le_bytes}
+use Rattle.scale_core.specs.Number.{AreBytes}
+use Rattle.registry_core.specs.declared.type_info.TypeInfo.{TypeInfo}
+use Rattle.widths_core.specs.Layouts.{layout}
+use Rattle.value_core.specs.Tree as tree
+use Rattle.value_core.specs.Tree.{Tree, Trees, none, and, text_bytes}
+use Rattle.value_core.specs.Grammar.{Val}
+use Rattle.value_core.specs.Preorder as head
+use Rattle.value_core.specs.Preorder.{Head, tree_of}
+use Rattle.value_core.specs.Parts.{Part, left_after}
+use Rattle.value_core.specs.Cells.{Cell, cells, all_cells, next_type, fields_part, arm_part, list_part}
+use Rattle.value_core.specs.declared.node.Content.{Content}
+use Rattle.value_core.specs.declared.node.Content.TheVariants as is
+use Rattle.value_core.specs.declared.node.Node.{Node}
+
+-- a value of a type of a registry
+pub record Seen : Type 0 where
+  pub types : List TypeInfo
+  pub ty : ℕ
+  pub tree : Tree
+
+-- it is one by the grammar
+abbrev pub IsValue : Seen → Type 0
+IsValue s = (b : List ℕ) × AreBytes b × Val s.types s.ty s.tree b
+
+-- values of these types, one behind the other
+abbrev pub seen_parts : List TypeInfo → Part → Trees → List Seen
+seen_parts r p none = []
+seen_parts r p (and v vs) = record { types = r; ty = next_type p; tree = v } ∷ seen_parts r (left_after p) vs
+
+-- the children of a value of type t
+abbrev pub children_by : List TypeInfo → ℕ → Tree → List Seen
+children_by r t (tree.fields vs) = seen_parts r (fields_part (layout r t)) vs
+children_by r t (tree.arm q vs) = seen_parts r (arm_part (layout r t) q) vs
+children_by r t (tree.list vs) = seen_parts r (list_part (layout r t) (tree.how_many vs)) vs
+children_by r t _ = []
+
+abbrev pub children_of : Seen → List Seen
+children_of s = children_by s.types s.ty s.tree
+
+abbrev pub text_of : Tree → Option (List ℕ)
+text_of (tree.text s) = Some s
+text_of _ = None
+
+-- ---- how it is kept
+
+-- the integer of a word of sixteen bytes in two's complement
+abbrev pub signed_from : ℕ → ℤ
+signed_from n = if nat_lt (2 * n) (2 ^ 128) then pos n else neg_ℤ (pos (2 ^ 128 - n))
+
+-- a node by itself, with the bytes that it has in the pool
+abbrev pub head_shown : List ℕ → Content → Head
+head_shown pool is.Empty = head.unit
+head_shown pool (is.Bool b) = head.bool b
+head_shown pool (is.Char c) = head.char c
+head_shown pool (is.Text start len) = head.text (slice_range pool start (start + len))
+head_shown pool (is.Unsigned b) = head.unsigned (from_le_bytes w128 b)
+head_shown pool (is.Signed b) = head.signed (signed_from (from_le_bytes w128 b))
+head_shown pool (is.Wide start) = head.wide (slice_range pool start (start + 32))
+head_shown pool (is.Compact b) = head.compact (from_le_bytes w128 b)
+head_shown pool (is.Count n) = head.count n
+head_shown pool (is.Fields n) = head.fields n
+head_shown pool (is.Arm q n) = head.arm q n
+head_shown pool (is.List n) = head.list n
+
+-- its bytes lie in the pool
+abbrev pub IsInPool : List ℕ → Content → Type 0
+IsInPool pool (is.Text start len) = start + len ≤ length pool
+IsInPool pool (is.Wide start) = start + 32 ≤ length pool
+IsInPool pool _ = Unit {0}
+
+abbrev pub AreInPool : List ℕ → List Node → Type 0
+AreInPool pool ns = AllByRecursion (λ n. IsInPool pool n.content) ns
+
+abbrev pub cell_shown : List ℕ → Node → Cell
+cell_shown pool n = record { ty = n.ty.0; head = head_shown pool n.content; size = n.size }
+
+abbrev pub cells_shown : List ℕ → List Node → List Cell
+cells_shown pool ns = map (cell_shown pool) ns
+
+-- the tree of the nodes, and the type of the first one
+abbrev pub tree_shown : List ℕ → List Node → Tree
+tree_shown pool ns = tree_of (map (λ n. head_shown pool n.content) ns)
+
+abbrev pub type_shown : List Node → ℕ
+type_shown [] = 0
+type_shown (n ∷ ns) = n.ty.0
+
+abbrev pub seen : List TypeInfo → List ℕ → List Node → Seen
+seen types pool ns = record { types = types; ty = type_shown ns; tree = tree_shown pool ns }
+
+-- the nodes are those of the value, and of nothing else
+pub record IsWhole (types : List TypeInfo) (pool : List ℕ) (ns : List Node) : Type 0 where
+  pub nodes : cells_shown pool ns ≡ cells types (type_shown ns) (tree_shown pool ns)
+  pub inside : AreInPool pool ns
+  pub value : IsValue (seen types pool ns)
+
+-- the values whose nodes these are, one behind the other: each as long as its first node says
+abbrev pub forest : List TypeInfo → List ℕ → ℕ → List Node → List Seen
+forest types pool zero ns = []
+forest types pool (suc k) [] = []
+forest types pool (suc k) (n ∷ ns) = seen types pool (take n.size (n ∷ ns)) ∷ forest types pool k (drop n.size (n ∷ ns))
+
+abbrev pub all_seen : List TypeInfo → List ℕ → List Node → List Seen
+all_seen types pool ns = forest types pool (length ns) ns
+
+-- values of these types
+abbrev pub AreValues : List TypeInfo → Part → Trees → Type 0
+AreValues r p none = Unit {0}
+AreValues r p (and v vs) = IsValue (record { types = r; ty = next_type p; tree = v }) × AreValues r (left_after p) vs
+
+-- the nodes are those of values one behind the other, and of nothing else
+pub record IsForest (types : List TypeInfo) (pool : List ℕ) (ns : List Node) : Type 0 where
+  pub part : Part
+  pub values : Trees
+  pub nodes : cells_shown pool ns ≡ all_cells types part values
+  pub inside : AreInPool pool ns
+  pub are_values : AreValues types part values

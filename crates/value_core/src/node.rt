@@ -1,0 +1,29 @@
+//! A node of a value as it is kept: 40 bytes.
+
+use registry_core::TypeId;
+
+/// What a node is, with integers as their sixteen bytes, the lowest first, and texts and wide integers by their place
+/// in the pool of bytes.
+#[derive(Clone, Copy, Debug, PartialEq, Eq)]
+pub(crate) enum Content {
+    Empty,
+    Bool(bool),
+    Char(char),
+    Text { start: usize, len: u32 },
+    Unsigned([u8; 16]),
+    Signed([u8; 16]),
+    Wide { start: usize },
+    Compact([u8; 16]),
+    Fields { children: u32 },
+    Arm { position: u32, children: u32 },
+    List { children: u32 },
+    Count(u32),
+}
+
+/// A node, with the number of nodes of its subtree: 0 while it is open.
+#[derive(Clone, Copy, Debug, PartialEq, Eq)]
+pub(crate) struct Node {
+    pub(crate) ty: TypeId,
+    pub(crate) content: Content,
+    pub(crate) size: usize,
+}

@@ -1,0 +1,102 @@
+//! A node of a value, lent.
+
+ghost use Rattle.std.specs.Prelude.{◌≡◌, option_map};
+ghost use Rattle.value_core.specs.Shown.{IsWhole, IsValue, seen, children_of, text_of};
+ghost use Rattle.value_core.specs.Whats.{what_of};
+
+use crate::children::Children;
+use crate::node::{Content, Node};
+use crate::what::What;
+use registry_core::TypeId;
+use std::marker::Model;
+use widths_core::Checked;
+
+/// A node of a value with all that is below it, lent.
+#[derive(Drop)]
+pub struct NodeRef<'v, 'r> {
+    checked: &'r Checked,
+    nodes: &'v [Node],
+    pool: &'v [u8],
+}
+
+impl<'v, 'r> Model for NodeRef<'v, 'r> {
+    ghost use Rattle.std.specs.Coded.{codes};
+    ghost use Rattle.value_core.specs.Preorder.{tree_code};
+    ghost use Rattle.value_core.specs.Shown.{Seen, seen, IsWhole};
+
+    ghost Value = { Seen };
+
+    ghost coded = { Prim.hlevel (codes, tree_code) };
+
+    ghost view = { λ n. seen n.checked.now n.pool.now n.nodes.now };
+
+    ghost invariant = { λ n. IsWhole n.checked.now n.pool.now n.nodes.now };
+}
+
+impl<'v, 'r> NodeRef<'v, 'r> {
+    /// The node whose subtree these nodes are.
+    pub(crate) fn new(checked: &'r Checked, nodes: &'v [Node], pool: &'v [u8]) -> NodeRef<'v, 'r>
+        requires { IsWhole checked.now pool.now nodes.now }
+        ensures { result ≡ seen checked.now pool.now nodes.now }
+    {
+        NodeRef {
+            checked,
+            nodes,
+            pool,
+        }
+    }
+
+    /// The type of the node.
+    pub fn type_id(&self) -> TypeId
+        ensures same { result.0 ≡ self.now.ty }
+        ensures value { IsValue self.now }
+    {
+        self.nodes[0].ty
+    }
+
+    /// What the node is.
+    pub fn what(&self) -> What
+        ensures same { result ≡ what_of self.now.tree }
+        ensures value { IsValue self.now }
+    {
+        match self.nodes[0].content {
+            Content::Empty => What::Empty,
+            Content::Bool(x) => What::Bool(x),
+            Content::Char(x) => What::Char(x),
+            Content::Text { .. } => What::Text,
+            Content::Unsigned(bytes) => What::Unsigned(u128::from_le_bytes(bytes)),
+            Content::Signed(bytes) => What::Signed(u128::from_le_bytes(bytes).cast_signed()),
+            Content::Wide { start } => {
+                let mut bytes = [0; 32];
+                bytes.copy_from_slice(&self.pool[start..start + 32]);
+                What::Wide(bytes)
+            }
+            Content::Compact(bytes) => What::Compact(u128::from_le_bytes(bytes)),
+            Content::Fields { .. } => What::Fields,
+            Content::Arm { position, .. } => What::Arm { position },
+            Content::List { .. } => What::List,
+            Content::Count(count) => What::Count(count),
+        }
+    }
+
+    /// The node's text, where it is one, lent.
+    pub fn text(&self) -> Option<&'v str>
+        ensures { option_map (λ s. s.now) result ≡ text_of self.now.tree }
+    {
+        match self.nodes[0].content {
+            Content::Text { start, len } => {
+                let bytes = &self.pool[start..start + len as usize];
+                Some(unsafe { std::str::from_utf8_unchecked(bytes) })
+            }
+            _ => None,
+        }
+    }
+
+    /// The nodes directly below this one, in order.
+    pub fn children(&self) -> Children<'v, 'r>
+        ensures { result ≡ children_of self.now }
+    {
+        let (_, below) = self.nodes.split_at(1);
+        Children::new(self.checked, below, self.pool)
+    }
+}

@@ -1,0 +1,68 @@
+//! A finished value.
+
+ghost use Rattle.std.specs.Prelude.{◌≡◌, length};
+ghost use Rattle.value_core.specs.Tree.{nodes, text_bytes};
+ghost use Rattle.value_core.specs.Shown.{IsValue};
+
+use crate::node::Node;
+use crate::node_ref::NodeRef;
+use std::alloc::Allocator;
+use std::marker::Model;
+use widths_core::Checked;
+
+/// A value of a type of a checked registry: a flat list of its nodes, each before its children, and a pool of the bytes
+/// of its texts. Dropping it drops these two.
+#[derive(Drop)]
+pub struct Value<'r, A: Allocator> {
+    checked: &'r Checked,
+    nodes: Vec<Node, A>,
+    pool: Vec<u8, A>,
+    text_len: usize,
+}
+
+impl<'r, A: Allocator> Model for Value<'r, A> {
+    ghost use Rattle.std.specs.Coded.{codes};
+    ghost use Rattle.std.specs.Prelude.{◌≡◌};
+    ghost use Rattle.value_core.specs.Tree.{text_bytes};
+    ghost use Rattle.value_core.specs.Preorder.{tree_code};
+    ghost use Rattle.value_core.specs.Shown.{Seen, seen, tree_shown, IsWhole};
+
+    ghost Value = { Seen };
+
+    ghost coded = { Prim.hlevel (codes, tree_code) };
+
+    ghost view = { λ v. seen v.checked.now v.pool.items v.nodes.items };
+
+    ghost invariant = { λ v. IsWhole v.checked.now v.pool.items v.nodes.items × (v.text_len ≡ text_bytes (tree_shown v.pool.items v.nodes.items)) };
+}
+
+impl<'r, A: Allocator> Value<'r, A> {
+    /// The registry whose type it has, lent.
+    pub fn checked(&self) -> &'r Checked
+        ensures { result.now ≡ self.now.types }
+    {
+        self.checked
+    }
+
+    /// The node that holds all others.
+    pub fn root<'v>(&'v self) -> NodeRef<'v, 'r>
+        ensures same { result ≡ self.now }
+        ensures value { IsValue self.now }
+    {
+        NodeRef::new(self.checked, &self.nodes, &self.pool)
+    }
+
+    /// How many nodes it has.
+    pub fn node_count(&self) -> u64
+        ensures { result ≡ nodes self.now.tree }
+    {
+        self.nodes.as_slice().len() as u64
+    }
+
+    /// How many bytes its texts have.
+    pub fn text_bytes(&self) -> u64
+        ensures { result ≡ text_bytes self.now.tree }
+    {
+        self.text_len as u64
+    }
+}

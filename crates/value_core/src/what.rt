@@ -1,0 +1,33 @@
+//! What a node of a value is, as callers see it.
+
+/// What a node of a value is.
+#[derive(Clone, Copy, Debug, PartialEq, Eq)]
+pub enum What {
+    /// The one value of a type that takes no bytes.
+    Empty,
+    /// A boolean.
+    Bool(bool),
+    /// A character.
+    Char(char),
+    /// A text; the node lends it.
+    Text,
+    /// A u8, u16, u32, u64 or u128.
+    Unsigned(u128),
+    /// An i8, i16, i32, i64 or i128.
+    Signed(i128),
+    /// A u256 or an i256: its 32 bytes, the lowest first.
+    Wide([u8; 32]),
+    /// A compact integer.
+    Compact(u128),
+    /// A composite or a tuple; its fields or members are the node's children.
+    Fields,
+    /// A variant; the fields of its arm are the node's children.
+    Arm {
+        /// The position of the arm in the list of arms, which is not its index.
+        position: u32,
+    },
+    /// An array or a sequence; its elements are the node's children.
+    List,
+    /// A sequence of so many elements that take no bytes.
+    Count(u32),
+}
