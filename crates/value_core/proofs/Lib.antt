@@ -14,3 +14,6 @@ pub mod Opened
 pub mod Texts
 pub mod Inhabited
 pub mod Parts
+pub mod Spelled
+pub mod SpelledNodes
+pub mod SpelledParts

@@ -8,6 +8,7 @@ pub mod Parts
 pub mod Preorder
 pub mod Reading
 pub mod Shown
+pub mod Spelled
 pub mod Tree
 pub mod Walked
 pub mod Whats

@@ -11,6 +11,7 @@ mod node_ref;
 mod value;
 mod walk;
 mod what;
+mod writing;
 
 pub use children::Children;
 pub use form::{Form, Next, StopReason};
@@ -19,3 +20,4 @@ pub use node_ref::NodeRef;
 pub use value::Value;
 pub use walk::Walk;
 pub use what::What;
+pub use writing::{WriteFault, encode, encoded_is_value};

@@ -2,7 +2,7 @@
 
 ghost use Rattle.std.specs.Prelude.{◌≡◌, length};
 ghost use Rattle.value_core.specs.Tree.{nodes, text_bytes};
-ghost use Rattle.value_core.specs.Shown.{IsValue};
+ghost use Rattle.value_core.specs.Shown.{IsValue, IsWhole, seen};
 
 use crate::node::Node;
 use crate::node_ref::NodeRef;
@@ -50,6 +50,14 @@ impl<'r, A: Allocator> Value<'r, A> {
         ensures value { IsValue self.now }
     {
         NodeRef::new(self.checked, &self.nodes, &self.pool)
+    }
+
+    /// Its nodes, each before its children, and the pool of the bytes of their texts, lent.
+    pub(crate) fn parts(&self) -> (&[Node], &[u8])
+        ensures whole { IsWhole self.now.types result.1.now result.0.now }
+        ensures same { seen self.now.types result.1.now result.0.now ≡ self.now }
+    {
+        (self.nodes.as_slice(), self.pool.as_slice())
     }
 
     /// How many nodes it has.
