@@ -22,3 +22,6 @@ pub mod Texts
 pub mod Inhabited
 pub mod Parts
 pub mod Words
+pub mod Spelled
+pub mod SpelledNodes
+pub mod SpelledParts

@@ -12,6 +12,7 @@ pub mod Preorder
 pub mod Reading
 pub mod Refusals
 pub mod Shown
+pub mod Spelled
 pub mod Spine
 pub mod Tree
 pub mod Walked

@@ -15,6 +15,7 @@ mod node_ref;
 mod value;
 mod walk;
 mod what;
+mod writing;
 
 pub use build_fault::BuildFault;
 pub use builder::Builder;
@@ -25,3 +26,4 @@ pub use node_ref::NodeRef;
 pub use value::Value;
 pub use walk::Walk;
 pub use what::What;
+pub use writing::{WriteFault, encode};

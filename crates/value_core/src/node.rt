@@ -4,7 +4,7 @@ use registry_core::TypeId;
 
 /// What a node is, with integers as their sixteen bytes, the lowest first, and texts and wide integers by their place
 /// in the pool of bytes.
-#[derive(Clone, Copy, Debug, PartialEq, Eq)]
+#[derive(Clone, Copy)]
 pub(crate) enum Content {
     Empty,
     Bool(bool),
@@ -21,7 +21,7 @@ pub(crate) enum Content {
 }
 
 /// A node, with the number of nodes of its subtree: 0 while it is open.
-#[derive(Clone, Copy, Debug, PartialEq, Eq)]
+#[derive(Clone, Copy)]
 pub(crate) struct Node {
     pub(crate) ty: TypeId,
     pub(crate) content: Content,

@@ -71,6 +71,14 @@ impl<'r, A: Allocator> Value<'r, A> {
         NodeRef::new(self.checked, &self.nodes, &self.pool)
     }
 
+    /// Its nodes, each before its children, and the pool of the bytes of their texts, lent.
+    pub(crate) fn parts(&self) -> (&[Node], &[u8])
+        ensures whole { IsWhole self.now.types result.1.now result.0.now }
+        ensures same { seen self.now.types result.1.now result.0.now ≡ self.now }
+    {
+        (self.nodes.as_slice(), self.pool.as_slice())
+    }
+
     /// How many nodes it has.
     pub fn node_count(&self) -> u64
         ensures { result ≡ nodes self.now.tree }

@@ -1,0 +1,422 @@
+//! Values built node by node: what each call answers, what stands then, and the bytes that are written.
+
+use registry_core::{TypeId, read_registry};
+use scale_core::Sink;
+use std::alloc::Global;
+use std::process::Abort;
+use std::test::Fail;
+use value_core::{BuildFault, Builder, Value, What, encode};
+use widths_core::Checked;
+
+/// A call that adds a node.
+#[derive(Clone, Copy, Debug)]
+enum Call {
+    Empty,
+    Bool(bool),
+    Text(&'static str),
+    Unsigned(u128),
+    Wide([u8; 32]),
+    Compact(u128),
+    Count(u32),
+    Fields,
+    Arm(u8),
+    List(u32),
+}
+
+/// Calls on a builder, each with its refusal, and the bytes of the value where nothing is missing behind them.
+#[derive(Clone, Copy)]
+struct Row {
+    name: &'static str,
+    registry: &'static [u8],
+    ty: u32,
+    depth: u16,
+    calls: &'static [(Call, Option<BuildFault>)],
+    bytes: Option<&'static [u8]>,
+}
+
+const U8: &[u8] = b"\x04\x00\x00\x00\x05\x03\x00";
+
+const COMPACT_U128: &[u8] = b"\x08\x00\x00\x00\x05\x07\x00\x04\x00\x00\x06\x00\x00";
+
+const UNITS: &[u8] =
+    b"\x0c\x00\x00\x00\x05\x03\x00\x04\x00\x00\x04\x00\x00\x08\x00\x00\x02\x04\x00";
+
+const BYTES: &[u8] = b"\x08\x00\x00\x00\x05\x03\x00\x04\x00\x00\x02\x00\x00";
+
+const LONG_ARRAY: &[u8] = b"\x08\x00\x00\x00\x05\x03\x00\x04\x00\x00\x03\xff\xff\xff\xff\x00\x00";
+
+const TWO_UNITS_AND_A_BYTE: &[u8] =
+    b"\x0c\x00\x00\x00\x05\x03\x00\x04\x00\x00\x04\x00\x00\x08\x00\x00\x04\x0c\x04\x04\x00\x00";
+
+const OPTION: &[u8] =
+    b"\x08\x00\x00\x00\x05\x05\x00\x04\x04\x18Option\x04\x04T\x01\x00\x01\x08\x10None\x00\x00\x00\x10Some\x04\x00\x00\x01\x04T\x00\x01\x00\x00";
+
+const ENDLESS: &[u8] = b"\x04\x00\x00\x00\x00\x04\x01\x04a\x00\x00\x00\x00";
+
+const BITS_IN_AN_ARM: &[u8] =
+    b"\x08\x00\x00\x00\x07\x00\x00\x00\x04\x00\x00\x01\x08\x04A\x00\x00\x00\x04B\x04\x00\x00\x00\x00\x01\x00\x00";
+
+const TEXT: &[u8] = b"\x04\x00\x00\x00\x05\x02\x00";
+
+const CHAIN: &[u8] =
+    b"\x04\x00\x00\x00\x01\x08\x0cEnd\x00\x00\x00\x10Next\x04\x00\x00\x00\x00\x01\x00\x00";
+
+const SHADOWED_ARM: &[u8] =
+    b"\x08\x00\x00\x00\x05\x03\x00\x04\x00\x00\x01\x08\x04A\x00\x03\x00\x04B\x04\x00\x00\x00\x00\x03\x00\x00";
+
+const COMPACT_OF_A_BOOL: &[u8] = b"\x08\x00\x00\x00\x05\x00\x00\x04\x00\x00\x06\x00\x00";
+
+const WIDE: &[u8] = b"\x04\x00\x00\x00\x05\x08\x00";
+
+const ONE: [u8; 32] = [
+    1, 0, 0, 0, 0, 0, 0, 0, 0, 0, 0, 0, 0, 0, 0, 0, 0, 0, 0, 0, 0, 0, 0, 0, 0, 0, 0, 0, 0, 0, 0, 0,
+];
+
+const ROWS: [Row; 16] = [
+    Row {
+        name: "a byte",
+        registry: U8,
+        ty: 0,
+        depth: 64,
+        calls: &[
+            (Call::Unsigned(256), Some(BuildFault::OutOfRange)),
+            (Call::Unsigned(42), None),
+            (Call::Unsigned(1), Some(BuildFault::WrongKind)),
+        ],
+        bytes: Some(b"\x2a"),
+    },
+    Row {
+        name: "a byte that is missing",
+        registry: U8,
+        ty: 0,
+        depth: 64,
+        calls: &[(Call::Unsigned(256), Some(BuildFault::OutOfRange))],
+        bytes: None,
+    },
+    Row {
+        name: "the greatest compact integer",
+        registry: COMPACT_U128,
+        ty: 1,
+        depth: 64,
+        calls: &[
+            (Call::Unsigned(1), Some(BuildFault::WrongKind)),
+            (
+                Call::Compact(340_282_366_920_938_463_463_374_607_431_768_211_455),
+                None,
+            ),
+        ],
+        bytes: Some(
+            b"\x33\xff\xff\xff\xff\xff\xff\xff\xff\xff\xff\xff\xff\xff\xff\xff\xff",
+        ),
+    },
+    Row {
+        name: "a sequence of units",
+        registry: UNITS,
+        ty: 2,
+        depth: 64,
+        calls: &[
+            (Call::List(3), Some(BuildFault::WrongKind)),
+            (Call::Count(3), None),
+        ],
+        bytes: Some(b"\x0c"),
+    },
+    Row {
+        name: "a sequence of bytes",
+        registry: BYTES,
+        ty: 1,
+        depth: 64,
+        calls: &[
+            (Call::Count(2), Some(BuildFault::WrongKind)),
+            (Call::List(2), None),
+            (Call::Unsigned(7), None),
+            (Call::Unsigned(255), None),
+            (Call::Unsigned(7), Some(BuildFault::WrongKind)),
+        ],
+        bytes: Some(b"\x08\x07\xff"),
+    },
+    Row {
+        name: "a long array",
+        registry: LONG_ARRAY,
+        ty: 1,
+        depth: 64,
+        calls: &[
+            (Call::List(5), Some(BuildFault::OutOfRange)),
+            (Call::List(4_294_967_295), None),
+            (Call::Unsigned(1), None),
+        ],
+        bytes: None,
+    },
+    Row {
+        name: "two units and a byte",
+        registry: TWO_UNITS_AND_A_BYTE,
+        ty: 2,
+        depth: 64,
+        calls: &[
+            (Call::Fields, None),
+            (Call::Fields, Some(BuildFault::WrongKind)),
+            (Call::Empty, None),
+            (Call::Empty, None),
+            (Call::Unsigned(42), None),
+        ],
+        bytes: Some(b"\x2a"),
+    },
+    Row {
+        name: "an option",
+        registry: OPTION,
+        ty: 1,
+        depth: 64,
+        calls: &[
+            (Call::Arm(7), Some(BuildFault::NoSuchVariant)),
+            (Call::Arm(1), None),
+            (Call::Unsigned(4_294_967_296), Some(BuildFault::OutOfRange)),
+            (Call::Unsigned(42), None),
+        ],
+        bytes: Some(b"\x01\x2a\x00\x00\x00"),
+    },
+    Row {
+        name: "an endless type",
+        registry: ENDLESS,
+        ty: 0,
+        depth: 64,
+        calls: &[(Call::Fields, Some(BuildFault::NoFiniteValue))],
+        bytes: None,
+    },
+    Row {
+        name: "an endless type below the depth limit",
+        registry: ENDLESS,
+        ty: 0,
+        depth: 0,
+        calls: &[(Call::Empty, Some(BuildFault::NoFiniteValue))],
+        bytes: None,
+    },
+    Row {
+        name: "a bit sequence in an arm",
+        registry: BITS_IN_AN_ARM,
+        ty: 1,
+        depth: 64,
+        calls: &[
+            (Call::Arm(1), None),
+            (Call::Unsigned(1), Some(BuildFault::BitSequence)),
+        ],
+        bytes: None,
+    },
+    Row {
+        name: "a text",
+        registry: TEXT,
+        ty: 0,
+        depth: 64,
+        calls: &[
+            (Call::Wide(ONE), Some(BuildFault::WrongKind)),
+            (Call::Text("\u{e9}\u{e9}"), None),
+        ],
+        bytes: Some(b"\x10\xc3\xa9\xc3\xa9"),
+    },
+    Row {
+        name: "a chain that is too deep",
+        registry: CHAIN,
+        ty: 0,
+        depth: 0,
+        calls: &[
+            (Call::Arm(1), None),
+            (Call::Arm(0), Some(BuildFault::TooDeep)),
+        ],
+        bytes: None,
+    },
+    Row {
+        name: "the first of two arms with one index",
+        registry: SHADOWED_ARM,
+        ty: 1,
+        depth: 64,
+        calls: &[(Call::Arm(3), None)],
+        bytes: Some(b"\x03"),
+    },
+    Row {
+        name: "a compact of a boolean",
+        registry: COMPACT_OF_A_BOOL,
+        ty: 1,
+        depth: 64,
+        calls: &[(Call::Compact(0), Some(BuildFault::BadCompact))],
+        bytes: None,
+    },
+    Row {
+        name: "a wide integer",
+        registry: WIDE,
+        ty: 0,
+        depth: 64,
+        calls: &[
+            (Call::Bool(true), Some(BuildFault::WrongKind)),
+            (Call::Wide(ONE), None),
+        ],
+        bytes: Some(
+            b"\x01\x00\x00\x00\x00\x00\x00\x00\x00\x00\x00\x00\x00\x00\x00\x00\x00\x00\x00\x00\x00\x00\x00\x00\x00\x00\x00\x00\x00\x00\x00\x00",
+        ),
+    },
+];
+
+/// The registry of these bytes, checked.
+fn checked(alloc: Global, bytes: &[u8]) -> Result<Checked, Fail> {
+    let (registry, _) = read_registry(alloc, bytes)?;
+    match Checked::new(alloc, registry) {
+        Ok(checked) => Ok(checked),
+        Err(_) => Err("a reference is unknown")?,
+    }
+}
+
+/// Makes the call.
+fn add(builder: &mut Builder<'_, Global>, call: Call) -> Result<(), BuildFault> {
+    match call {
+        Call::Empty => builder.empty(),
+        Call::Bool(value) => builder.bool(value),
+        Call::Text(text) => builder.text(text),
+        Call::Unsigned(value) => builder.unsigned(value),
+        Call::Wide(value) => builder.wide(value),
+        Call::Compact(value) => builder.compact(value),
+        Call::Count(count) => builder.count(count),
+        Call::Fields => builder.fields(),
+        Call::Arm(index) => builder.arm(index),
+        Call::List(count) => builder.list(count),
+    }
+}
+
+/// The bytes of a value, as they are written.
+fn written(alloc: Global, value: &Value<'_, Global>) -> Result<Vec<u8>, Fail> {
+    let mut sink = Sink::new(Vec::new(alloc));
+    match encode(value, &mut sink) {
+        Ok(()) => Ok(sink.into_inner()),
+        Err(_) => Err("a write failed")?,
+    }
+}
+
+fn check_row(rt: &impl Abort, alloc: Global, row: &Row) -> Result<(), Fail> {
+    let name = row.name;
+    let checked = checked(alloc, row.registry)?;
+    let Ok(mut builder) = Builder::new(alloc, &checked, TypeId(row.ty), row.depth) else {
+        return Err(name)?;
+    };
+    for (call, fault) in row.calls {
+        let before = (builder.node_count(), builder.text_bytes());
+        let told = add(&mut builder, *call).err();
+        assert_eq!(rt; told, *fault, "{call:?} of {name}");
+        if told.is_some() {
+            let after = (builder.node_count(), builder.text_bytes());
+            assert_eq!(rt; after, before, "what stands behind {call:?} of {name}");
+        }
+    }
+    let (nodes, texts) = (builder.node_count(), builder.text_bytes());
+    match builder.finish() {
+        Ok(value) => {
+            let bytes = written(alloc, &value)?;
+            assert_eq!(rt; Some(bytes.as_slice()), row.bytes, "the bytes of {name}");
+            assert_eq!(rt; (value.node_count(), value.text_bytes()), (nodes, texts), "{name}");
+        }
+        Err((fault, builder)) => {
+            assert_eq!(rt; fault, BuildFault::UnfinishedValue, "the end of {name}");
+            assert_eq!(rt; row.bytes, None, "the end of {name}");
+            assert_eq!(rt; builder.node_count(), nodes, "what stands behind {name}");
+        }
+    }
+    Ok(())
+}
+
+#[test]
+fn values_are_built_node_by_node(rt: HostRuntime) -> Result<(), Fail> {
+    for row in &ROWS {
+        check_row(&rt, rt.alloc(), row)?;
+    }
+    Ok(())
+}
+
+#[test]
+fn a_builder_opens_on_a_type_that_is_there(rt: HostRuntime) -> Result<(), Fail> {
+    let checked = checked(rt.alloc(), U8)?;
+    let rows = [
+        (9, 64, Some(BuildFault::UnknownType)),
+        (9, 1025, Some(BuildFault::UnknownType)),
+        (0, 1025, Some(BuildFault::OutOfRange)),
+        (0, 1024, None),
+    ];
+    for (ty, depth, fault) in rows {
+        let told = Builder::new(rt.alloc(), &checked, TypeId(ty), depth).err();
+        assert_eq!(rt; told, fault, "type {ty} at depth {depth}");
+    }
+    Ok(())
+}
+
+#[test]
+fn children_step_over_what_is_below_them(rt: HostRuntime) -> Result<(), Fail> {
+    let checked = checked(rt.alloc(), TWO_UNITS_AND_A_BYTE)?;
+    let Ok(mut builder) = Builder::new(rt.alloc(), &checked, TypeId(2), 64) else {
+        return Err("no builder")?;
+    };
+    for call in [Call::Fields, Call::Empty, Call::Empty, Call::Unsigned(42)] {
+        assert_eq!(rt; add(&mut builder, call), Ok(()));
+    }
+    let Ok(value) = builder.finish() else {
+        return Err("no value")?;
+    };
+    let root = value.root();
+    assert_eq!(rt; (root.type_id(), root.what()), (TypeId(2), What::Fields));
+    let mut seen = Vec::new(rt.alloc());
+    for child in root.children() {
+        seen.push((child.type_id(), child.what()))?;
+    }
+    let wanted = [
+        (TypeId(1), What::Empty),
+        (TypeId(1), What::Empty),
+        (TypeId(0), What::Unsigned(42)),
+    ];
+    assert_eq!(rt; seen.as_slice(), wanted.as_slice());
+    Ok(())
+}
+
+#[test]
+fn a_chain_of_arms_is_one_child_in_another(rt: HostRuntime) -> Result<(), Fail> {
+    let checked = checked(rt.alloc(), CHAIN)?;
+    let Ok(mut builder) = Builder::new(rt.alloc(), &checked, TypeId(0), 2) else {
+        return Err("no builder")?;
+    };
+    for index in [1, 1, 0] {
+        assert_eq!(rt; builder.arm(index), Ok(()));
+    }
+    let Ok(value) = builder.finish() else {
+        return Err("no value")?;
+    };
+    let mut nodes = Vec::new(rt.alloc());
+    nodes.push(value.root())?;
+    let mut seen = Vec::new(rt.alloc());
+    for _ in 0..3u8 {
+        let Some(node) = nodes.pop() else {
+            return Err("no node")?;
+        };
+        seen.push(node.what())?;
+        for child in node.children() {
+            nodes.push(child)?;
+        }
+    }
+    let wanted = [
+        What::Arm { position: 1 },
+        What::Arm { position: 1 },
+        What::Arm { position: 0 },
+    ];
+    assert_eq!(rt; seen.as_slice(), wanted.as_slice());
+    assert_eq!(rt; nodes.len(), 0);
+    let bytes = written(rt.alloc(), &value)?;
+    assert_eq!(rt; bytes.as_slice(), b"\x01\x01\x00");
+    Ok(())
+}
+
+#[test]
+fn a_text_is_lent(rt: HostRuntime) -> Result<(), Fail> {
+    let checked = checked(rt.alloc(), TEXT)?;
+    let Ok(mut builder) = Builder::new(rt.alloc(), &checked, TypeId(0), 0) else {
+        return Err("no builder")?;
+    };
+    assert_eq!(rt; builder.text("\u{e9}a"), Ok(()));
+    let Ok(value) = builder.finish() else {
+        return Err("no value")?;
+    };
+    assert_eq!(rt; value.root().what(), What::Text);
+    assert_eq!(rt; value.root().text(), Some("\u{e9}a"));
+    assert_eq!(rt; (value.node_count(), value.text_bytes()), (1, 3));
+    Ok(())
+}

@@ -1,0 +1,94 @@
+-- The bytes of a value go out in parts.
+use Rattle.std.proofs.Common.{◌≡◌, ℕ, zero, suc, ◌+◌, ◌-◌, ◌^◌, ◌<◌, ◌≤◌, flat_map, List, [], ◌∷◌, ◌++◌, length, take, drop, get_or, Option, Some, None, refl, append_assoc, sym, subst, ◌∙◌, ap, arith, length-append}
+use Rattle.std.specs.Prelude.{min}
+use Rattle.std.proofs.Math.Seq.{take-add}
+use Rattle.std.proofs.lemmas.List.Folds.{flat_map-map}
+use Rattle.registry_core.specs.declared.type_info.TypeInfo.{TypeInfo}
+use Rattle.value_core.specs.Shown.{Seen, seen, cell_shown, IsWhole}
+use Rattle.value_core.specs.Spelled.{encoding, cell_bytes, node_bytes, AppendsFront}
+use Rattle.value_core.specs.declared.node.Node.{Node}
+use Rattle.std.specs.Io.KnownBytes.{Appends}
+
+-- two appends of neighbouring parts are one
+pub appends_next : (a b c : Option (List ℕ)) (xs : List ℕ) (w n : ℕ) → Appends a b (take w xs) → Appends b c (take n (drop w xs)) → Appends a c (take (w + n) xs)
+appends_next None b c xs w n p q = tt
+appends_next (Some a) None c xs w n p q = absurd p
+appends_next (Some a) (Some b) None xs w n p q = absurd q
+appends_next (Some a) (Some b) (Some c) xs w n p q =
+    q ∙ ap (λ v. v ++ take n (drop w xs)) p ∙ append_assoc a (take w xs) (take n (drop w xs)) ∙ ap (λ v. a ++ v) (sym (take-add w n xs))
+
+-- one append behind another is an append of both
+pub appends_both : (a b c : Option (List ℕ)) (xs ys : List ℕ) → Appends a b xs → Appends b c ys → Appends a c (xs ++ ys)
+appends_both None b c xs ys p q = tt
+appends_both (Some a) None c xs ys p q = absurd p
+appends_both (Some a) (Some b) None xs ys p q = absurd q
+appends_both (Some a) (Some b) (Some c) xs ys p q = q ∙ ap (λ v. v ++ ys) p ∙ append_assoc a xs ys
+
+-- ---- a part in front and a part behind it
+
+take-front : (xs ys : List ℕ) (w : ℕ) → w ≤ length xs → take w xs ≡ take w (xs ++ ys)
+take-front [] ys zero h = refl
+take-front [] ys (suc w) h = absurd (omega arith)
+take-front (x ∷ xs) ys zero h = refl
+take-front (x ∷ xs) ys (suc w) h = ap (λ (zs : List ℕ). x ∷ zs) (take-front xs ys w (omega arith))
+
+take-past : (xs ys : List ℕ) (w : ℕ) → xs ++ take w ys ≡ take (length xs + w) (xs ++ ys)
+take-past [] ys w = let same : w ≡ 0 + w = omega arith in ap (λ (n : ℕ). take n ys) same
+take-past (x ∷ xs) ys w = ap (λ (zs : List ℕ). x ∷ zs) (take-past xs ys w) ∙ (let more : suc (length xs + w) ≡ suc (length xs) + w = omega arith in ap (λ (n : ℕ). take n (x ∷ xs ++ ys)) more)
+
+pub sent_front : (a b : Option (List ℕ)) (front back whole : List ℕ) (w : ℕ) → front ++ back ≡ whole → w ≤ length front → Appends a b (take w front) → Appends a b (take w whole)
+sent_front a b front back whole w e h p = subst (Appends a b) (take-front front back w h ∙ ap (take w) e) p
+
+pub sent_more : (a b c : Option (List ℕ)) (front back whole : List ℕ) (len w : ℕ) → length front ≡ len → front ++ back ≡ whole → Appends a b front → Appends b c (take w back) → Appends a c (take (len + w) whole)
+sent_more a b c front back whole len w long e p q =
+    subst (Appends a c) (take-past front back w ∙ ap (λ (n : ℕ). take (n + w) (front ++ back)) long ∙ ap (take (len + w)) e) (appends_both a b c front (take w back) p q)
+
+pub sent_all : (a b c : Option (List ℕ)) (front back whole : List ℕ) → front ++ back ≡ whole → Appends a b front → Appends b c back → Appends a c whole
+sent_all a b c front back whole e p q = subst (Appends a c) e (appends_both a b c front back p q)
+
+pub long_whole : (front back whole : List ℕ) → front ++ back ≡ whole → length whole ≡ length front + length back
+long_whole front back whole e = ap length (sym e) ∙ length-append front back
+
+pub sent_part : (front back whole : List ℕ) (w : ℕ) → front ++ back ≡ whole → w ≤ length front → w ≤ length whole
+sent_part front back whole w e h = omega (arith, h, long_whole front back whole e)
+
+-- ---- all nodes
+
+-- the nodes of a value spell it
+pub nodes_spell : (r : List TypeInfo) (pool : List ℕ) (ns : List Node) (s : Seen) → IsWhole r pool ns → seen r pool ns ≡ s → flat_map (node_bytes r pool) ns ≡ encoding s
+nodes_spell r pool ns s h e = sym (flat_map-map (cell_bytes r) (cell_shown pool) ns) ∙ ap (flat_map (cell_bytes r)) h.nodes ∙ ap encoding e
+
+-- the bytes of the nodes before one of them, and its own, begin the bytes of all
+within : {X : Type 0} (f : X → List ℕ) (ns : List X) (i : ℕ) (d : X) → i < length ns → (back : List ℕ) × (flat_map f ns ≡ flat_map f (take i ns) ++ (f (get_or ns i d) ++ back))
+within f [] i d h = absurd (omega arith)
+within f (m ∷ ns) zero d h = (flat_map f ns, refl)
+within f (m ∷ ns) (suc i) d h =
+    let s = within f ns i d (omega arith) in
+    (s.0, ap (λ (xs : List ℕ). f m ++ xs) s.1 ∙ sym (append_assoc (f m) (flat_map f (take i ns)) (f (get_or ns i d) ++ s.0)))
+
+-- the nodes before one of them went out, and then a front of that node
+pub stops : (a b c : Option (List ℕ)) (r s : List TypeInfo) (pool : List ℕ) (ns : List Node) (i : ℕ) (d : Node) (whole : List ℕ) (w before told : ℕ) →
+    s ≡ r → i < length ns → flat_map (node_bytes r pool) ns ≡ whole →
+    Appends a b (flat_map (node_bytes r pool) (take i ns)) → before ≡ min (length (flat_map (node_bytes r pool) (take i ns))) (2 ^ 64 - 1) →
+    w ≤ length (node_bytes s pool (get_or ns i d)) → Appends b c (take w (node_bytes s pool (get_or ns i d))) → told ≡ min (before + w) (2 ^ 64 - 1) → AppendsFront a c whole told
+stops a b c r s pool ns i d whole w before told same h all sent counted le more is =
+    let f = node_bytes r pool in
+    let done = flat_map f (take i ns) in
+    let own = f (get_or ns i d) in
+    let le' : w ≤ length own = rw (← same) le in
+    let more' : Appends b c (take w own) = rw (← same) more in
+    let x = within f ns i d h in
+    let e : done ++ (own ++ x.0) ≡ whole = sym x.1 ∙ all in
+    let long : length whole ≡ length done + length (own ++ x.0) = long_whole done (own ++ x.0) whole e in (
+      length done + w,
+      omega (arith, long, le', length-append own x.0),
+      sent_more a b c done (own ++ x.0) whole (length done) w refl e sent (subst (Appends b c) (take-front own x.0 w le') more'),
+      omega (arith, is, counted),
+    )
+
+pub told_part : (a b : Option (List ℕ)) (whole : List ℕ) (told : ℕ) → AppendsFront a b whole told → told ≤ length whole
+told_part a b whole told h = omega (arith, h.1, h.3)
+
+-- where the count does not stop early, it is exact
+pub told_exactly : (a b : Option (List ℕ)) (whole : List ℕ) (told : ℕ) → AppendsFront a b whole told → length whole < 2 ^ 64 → Appends a b (take told whole)
+told_exactly a b whole told h small = let same : h.0 ≡ told = omega (arith, h.1, h.3, small) in subst (λ (k : ℕ). Appends a b (take k whole)) same h.2

@@ -1,0 +1,13 @@
+use Rattle.std.proofs.Common.{◌≡◌, ◌-◌, ◌^◌, length, take, flat_map}
+use Rattle.std.specs.Prelude.{min}
+use Rattle.std.specs.Io.KnownBytes.{Appends}
+use Rattle.value_core.specs.Spelled.{node_bytes}
+use Rattle.value_core.proofs.writing.encode.Given as goal
+
+abbrev pub invariant-nodes : goal.invariant-nodes
+invariant-nodes g l =
+    record {
+      sent : Appends (g.W.Write.contents l.fn.sink.device) (g.W.Write.contents l.sink.device) (flat_map (node_bytes l.value.types l.pool) (take l.node-index l.nodes));
+      written : l.written ≡ min (length (flat_map (node_bytes l.value.types l.pool) (take l.node-index l.nodes))) (2 ^ 64 - 1);
+      quiet : l.sink.failed ≡ l.fn.sink.failed;
+    }
