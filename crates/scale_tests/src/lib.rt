@@ -20,4 +20,6 @@ mod registries;
 #[cfg(test)]
 mod texts;
 #[cfg(test)]
+mod values;
+#[cfg(test)]
 mod widths;

@@ -105,9 +105,7 @@ const ROWS: [Row; 16] = [
                 None,
             ),
         ],
-        bytes: Some(
-            b"\x33\xff\xff\xff\xff\xff\xff\xff\xff\xff\xff\xff\xff\xff\xff\xff\xff",
-        ),
+        bytes: Some(b"\x33\xff\xff\xff\xff\xff\xff\xff\xff\xff\xff\xff\xff\xff\xff\xff\xff"),
     },
     Row {
         name: "a sequence of units",
@@ -307,7 +305,11 @@ fn check_row(rt: &impl Abort, alloc: Global, row: &Row) -> Result<(), Fail> {
         Ok(value) => {
             let bytes = written(alloc, &value)?;
             assert_eq!(rt; Some(bytes.as_slice()), row.bytes, "the bytes of {name}");
-            assert_eq!(rt; (value.node_count(), value.text_bytes()), (nodes, texts), "{name}");
+            assert_eq!(rt;
+                (value.node_count(), value.text_bytes()),
+                (nodes, texts),
+                "{name}"
+            );
         }
         Err((fault, builder)) => {
             assert_eq!(rt; fault, BuildFault::UnfinishedValue, "the end of {name}");
@@ -401,7 +403,7 @@ fn a_chain_of_arms_is_one_child_in_another(rt: HostRuntime) -> Result<(), Fail> 
     assert_eq!(rt; seen.as_slice(), wanted.as_slice());
     assert_eq!(rt; nodes.len(), 0);
     let bytes = written(rt.alloc(), &value)?;
-    assert_eq!(rt; bytes.as_slice(), b"\x01\x01\x00");
+    assert_eq!(rt; bytes.as_slice(), b"\x01\x01\x00".as_slice());
     Ok(())
 }
 
