@@ -200,9 +200,9 @@ fn send_node<W: Write>(
 }
 
 /// Writes the one spelling of a value, byte for byte (SCALE codec specification): the bytes of each node, in their
-/// order, without recursion. A value that takes no bytes writes nothing.
+/// order, without recursion. A value that takes no bytes makes no write.
 ///
-/// Refuses, with the number of bytes that went out before, in units of one byte, which stops at the greatest u64:
+/// Refuses, and tells how many bytes went out in all, a count that stops at the greatest u64:
 /// - `Device`, where the writer answers an error; an interrupted write is one;
 /// - `WroteNothing`, where the writer takes no byte of a part that is not empty.
 ///
