@@ -92,3 +92,13 @@ told_part a b whole told h = omega (arith, h.1, h.3)
 -- where the count does not stop early, it is exact
 pub told_exactly : (a b : Option (List ℕ)) (whole : List ℕ) (told : ℕ) → AppendsFront a b whole told → length whole < 2 ^ 64 → Appends a b (take told whole)
 told_exactly a b whole told h small = let same : h.0 ≡ told = omega (arith, h.1, h.3, small) in subst (λ (k : ℕ). Appends a b (take k whole)) same h.2
+
+-- each node of a value without bytes has none
+pub no_own : (r s : List TypeInfo) (pool : List ℕ) (ns : List Node) (i : ℕ) (d : Node) (whole : List ℕ) → s ≡ r → i < length ns → flat_map (node_bytes r pool) ns ≡ whole → whole ≡ [] → length (node_bytes s pool (get_or ns i d)) ≡ 0
+no_own r s pool ns i d whole same h all nil =
+    let f = node_bytes r pool in
+    let x = within f ns i d h in
+    let done = flat_map f (take i ns) in
+    let own = f (get_or ns i d) in
+    let short : length own ≡ 0 = omega (arith, ap length (sym x.1 ∙ all ∙ nil), length-append done (own ++ x.0), length-append own x.0) in
+    rw same short

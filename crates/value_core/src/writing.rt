@@ -1,6 +1,6 @@
 //! A value's bytes, written to a sink.
 
-ghost use Rattle.std.specs.Prelude.{◌≡◌, ◌≤◌, ◌<◌, ◌^◌, ◌||◌, length, take, IfOk, IfErr, OnOk, is_ok, not};
+ghost use Rattle.std.specs.Prelude.{◌≡◌, ◌≤◌, ◌<◌, ◌^◌, ◌||◌, [], true, length, take, IfOk, IfErr, OnOk, is_ok, not};
 ghost use Rattle.std.specs.Int.{w128, from_le_bytes};
 ghost use Rattle.std.specs.Io.KnownBytes.{Appends};
 ghost use Rattle.scale_core.specs.Number.{le_bytes};
@@ -153,6 +153,7 @@ fn send<W: Write>(sink: &mut Sink<W>, bytes: &[u8]) -> Result<(), WriteFault>
     ensures part { IfErr result (λ f. f.written ≤ length bytes.now) }
     ensures err { IfErr result (λ f. Appends (W.contents sink.old.device) (W.contents sink.new.device) (take f.written bytes.now)) }
     ensures failed { sink.new.failed ≡ sink.old.failed || not (is_ok result) }
+    ensures none { length bytes.now ≡ 0 → (sink.new ≡ sink.old) × (is_ok result ≡ true) }
 {
     let mut written = 0;
     'parts: while written < bytes.len() {
@@ -183,6 +184,7 @@ fn send_node<W: Write>(
     ensures part { IfErr result (λ f. f.written ≤ length (node_bytes checked.now pool.now node.now)) }
     ensures err { IfErr result (λ f. Appends (W.contents sink.old.device) (W.contents sink.new.device) (take f.written (node_bytes checked.now pool.now node.now))) }
     ensures failed { sink.new.failed ≡ sink.old.failed || not (is_ok result) }
+    ensures none { length (node_bytes checked.now pool.now node.now) ≡ 0 → (sink.new ≡ sink.old) × (is_ok result ≡ true) }
 {
     let mut front = [0; 17];
     let len = put_node(checked, node, &mut front);
@@ -198,9 +200,9 @@ fn send_node<W: Write>(
 }
 
 /// Writes the one spelling of a value, byte for byte (SCALE codec specification): the bytes of each node, in their
-/// order, without recursion. A value that takes no bytes writes nothing.
+/// order, without recursion. A value that takes no bytes makes no write.
 ///
-/// Refuses, with the number of bytes that went out before, in units of one byte, which stops at the greatest u64:
+/// Refuses, and tells how many bytes went out in all, a count that stops at the greatest u64:
 /// - `Device`, where the writer answers an error; an interrupted write is one;
 /// - `WroteNothing`, where the writer takes no byte of a part that is not empty.
 ///
@@ -219,6 +221,8 @@ pub fn encode<A: Allocator, W: Write>(
     ensures front { IfErr result (λ f. AppendsFront (W.contents sink.old.device) (W.contents sink.new.device) (encoding value.now) f.written) }
     ensures err { IfErr result (λ f. length (encoding value.now) < 2 ^ 64 → Appends (W.contents sink.old.device) (W.contents sink.new.device) (take f.written (encoding value.now))) }
     ensures failed { sink.new.failed ≡ sink.old.failed || not (is_ok result) }
+    // Without bytes there is no write.
+    ensures none { encoding value.now ≡ [] → (sink.new ≡ sink.old) × (is_ok result ≡ true) }
 {
     let (nodes, pool) = value.parts();
     let mut written: u64 = 0;

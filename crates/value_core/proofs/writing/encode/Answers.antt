@@ -1,10 +1,10 @@
-use Rattle.std.proofs.Common.{flat_map, subst, ap, ◌∙◌, arith}
+use Rattle.std.proofs.Common.{flat_map, subst, refl, length, ap, ◌∙◌, arith}
 use Rattle.std.specs.Io.KnownBytes.{Appends}
 use Rattle.std.proofs.lemmas.List.{take_all}
 use Rattle.value_core.specs.Shown.{IsValue}
 use Rattle.value_core.specs.Spelled.{node_bytes, encoding}
 use Rattle.value_core.proofs.Spelled.{is_encoding}
-use Rattle.value_core.proofs.SpelledParts.{nodes_spell, stops, told_part, told_exactly}
+use Rattle.value_core.proofs.SpelledParts.{nodes_spell, stops, told_part, told_exactly, no_own}
 use Rattle.value_core.proofs.writing.encode.Goals as goal
 
 pub returns-in-Err-clause-value : goal.returns-in-Err-clause-value
@@ -30,3 +30,12 @@ returns-clause-ok g c =
     subst (Appends (g.W.Write.contents c.args.sink.now.device) (g.W.Write.contents c.nodes.sink.device))
     (ap (flat_map (node_bytes c.args.value.now.types c.parts.result.1.now)) all ∙ nodes_spell _ _ _ _ c.parts.ensures.whole c.parts.ensures.same)
     c.nodes.invariant.sent
+
+pub returns-in-Err-clause-none : goal.returns-in-Err-clause-none
+returns-in-Err-clause-none g c = λ e.
+    let no = (c.in-Err.ensures.none (no_own _ _ c.parts.result.1.now c.parts.result.0.now c.nodes.node-index _ _ c.checked.ensures c.nodes-test.true (nodes_spell _ _ _ _ c.parts.ensures.whole c.parts.ensures.same) e)).1 in absurd cc
+
+pub returns-clause-none : goal.returns-clause-none
+returns-clause-none g c = λ e.
+    let all = take_all c.nodes.node-index c.parts.result.0.now (omega arith) in
+    (c.nodes.invariant.none (ap length (ap (flat_map (node_bytes c.args.value.now.types c.parts.result.1.now)) all ∙ nodes_spell _ _ _ _ c.parts.ensures.whole c.parts.ensures.same ∙ e)), refl)

@@ -10,4 +10,5 @@ invariant-nodes g l =
       sent : Appends (g.W.Write.contents l.fn.sink.device) (g.W.Write.contents l.sink.device) (flat_map (node_bytes l.value.types l.pool) (take l.node-index l.nodes));
       written : l.written ≡ min (length (flat_map (node_bytes l.value.types l.pool) (take l.node-index l.nodes))) (2 ^ 64 - 1);
       quiet : l.sink.failed ≡ l.fn.sink.failed;
+      none : length (flat_map (node_bytes l.value.types l.pool) (take l.node-index l.nodes)) ≡ 0 → l.sink ≡ l.fn.sink;
     }

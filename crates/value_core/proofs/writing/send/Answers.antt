@@ -1,4 +1,4 @@
-use Rattle.std.proofs.Common.{rules}
+use Rattle.std.proofs.Common.{rules, arith}
 use Rattle.std.proofs.lemmas.List.{take_rest}
 use Rattle.value_core.proofs.SpelledParts.{appends_next}
 use Rattle.value_core.proofs.writing.send.Goals as goal
@@ -9,4 +9,5 @@ parts-preserved g c = record {
   sent = appends_next _ _ _ c.args.bytes.now _ _ c.parts.invariant.sent
       (rw (take_rest c.args.bytes.now c.parts.written) at c.in-Ok.ensures.bytes);
   quiet = search rules;
+  none = λ e. absurd (omega (arith, e, c.parts-test.true));
 }
