@@ -383,25 +383,21 @@ fn a_chain_of_arms_is_one_child_in_another(rt: HostRuntime) -> Result<(), Fail> 
     let Ok(value) = builder.finish() else {
         return Err("no value")?;
     };
-    let mut nodes = Vec::new(rt.alloc());
-    nodes.push(value.root())?;
-    let mut seen = Vec::new(rt.alloc());
-    for _ in 0..3u8 {
-        let Some(node) = nodes.pop() else {
-            return Err("no node")?;
-        };
-        seen.push(node.what())?;
-        for child in node.children() {
-            nodes.push(child)?;
-        }
-    }
-    let wanted = [
-        What::Arm { position: 1 },
-        What::Arm { position: 1 },
-        What::Arm { position: 0 },
-    ];
-    assert_eq!(rt; seen.as_slice(), wanted.as_slice());
-    assert_eq!(rt; nodes.len(), 0);
+    let root = value.root();
+    assert_eq!(rt; root.what(), What::Arm { position: 1 });
+    let mut below_root = root.children();
+    let Some(middle) = below_root.next() else {
+        return Err("no child")?;
+    };
+    assert!(rt; below_root.next().is_none());
+    assert_eq!(rt; middle.what(), What::Arm { position: 1 });
+    let mut below_middle = middle.children();
+    let Some(last) = below_middle.next() else {
+        return Err("no grandchild")?;
+    };
+    assert!(rt; below_middle.next().is_none());
+    assert_eq!(rt; last.what(), What::Arm { position: 0 });
+    assert!(rt; last.children().next().is_none());
     let bytes = written(rt.alloc(), &value)?;
     assert_eq!(rt; bytes.as_slice(), b"\x01\x01\x00".as_slice());
     Ok(())
