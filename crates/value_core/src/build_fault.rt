@@ -6,7 +6,8 @@ ghost use Rattle.value_core.specs.Refusals.{fault_of};
 use crate::form::StopReason;
 use std::alloc::AllocError;
 
-/// Why a builder refuses a call. Of several reasons the first of this list is told, and the builder stays as it was.
+/// Why a builder refuses a call; the builder stays as it was. Of several reasons an adding call tells the first of this
+/// list, and `new` an unknown type before a depth limit outside its range.
 #[derive(Clone, Copy, Debug, PartialEq, Eq)]
 pub enum BuildFault {
     /// The next node would stand deeper than the limit.
