@@ -1,5 +1,5 @@
 -- A node more: the value that is being built stays one.
-use Rattle.std.proofs.Common.{◌≡◌, ℕ, zero, suc, ◌+◌, ◌-◌, ◌≤◌, List, [], ◌∷◌, ◌++◌, Bool, true, false, length, take, drop, slice_range, Some, refl, ap, ◌∙◌, arith, length-append}
+use Rattle.std.proofs.Common.{Option, None, drop, ◌≡◌, ℕ, zero, suc, ◌+◌, ◌-◌, ◌≤◌, List, [], ◌∷◌, ◌++◌, Bool, true, false, length, take, drop, slice_range, Some, refl, ap, ◌∙◌, arith, length-append}
 use Rattle.std.proofs.lemmas.List.{length-map, map-append, take-append-le}
 use Rattle.scale_core.specs.Number.{AreBytes}
 use Rattle.registry_core.specs.declared.type_info.TypeInfo.{TypeInfo}
@@ -11,9 +11,13 @@ use Rattle.value_core.specs.Preorder.{Head, head_of, tree_with}
 use Rattle.value_core.specs.Cells.{Cell, cells}
 use Rattle.value_core.specs.Shown.{head_shown, cell_shown, cells_shown, IsInPool, AreInPool}
 use Rattle.value_core.specs.Spine.{Kind, of_fields, of_arm, of_list, OpenNode, kind_head, open_part, open_cell, open_cells, IsOpen, Spine}
-use Rattle.value_core.specs.Walked.{OpenPart, Walked, first_in, advanced, opened}
+use Rattle.value_core.specs.Walked.{OpenPart, Walked, first_in, advanced, opened, next_of}
 use Rattle.value_core.specs.Built.{Entry, entries_shown, head_text_bytes, entries_text_bytes, IsLeaf, IsNextLeaf, IsNextOpen}
-use Rattle.value_core.specs.Building.{IsBuilding}
+use Rattle.value_core.specs.Building.{IsBuilding, IsOpenAt, IsOpenText, pieces_shown}
+use Rattle.value_core.specs.Refusals.{missing_at}
+use Rattle.value_core.specs.declared.open_text.OpenText.{OpenText}
+use Rattle.std.specs.Prelude.{IfOk, option_map, Result, Ok}
+use Rattle.std.proofs.lemmas.List.{length-drop, take_all}
 use Rattle.value_core.specs.declared.node.Node.{Node}
 use Rattle.value_core.specs.declared.node.Content.{Content}
 use Rattle.value_core.specs.declared.node.Content.TheVariants as content
@@ -116,7 +120,7 @@ both_bytes [] ys h k = k
 both_bytes (x ∷ xs) ys h k = (h.0, both_bytes xs ys h.1 k)
 
 -- a node without children is added
-pub leaf_added : (ty : ℕ) (w : Walked) (pool more : List ℕ) (ns : List Node) (n : Node) (text_len more_len : ℕ) (h : Head) (b : IsBuilding ty w pool ns text_len) (l : IsNextLeaf w h) → n.ty.0 ≡ l.ty → head_shown (pool ++ more) n.content ≡ h → n.size ≡ 1 → IsInPool (pool ++ more) n.content → more_len ≡ head_text_bytes h → more_len ≤ length more →
+pub leaf_added : (ty : ℕ) (w : Walked) (pool more : List ℕ) (ns : List Node) (n : Node) (text_len more_len : ℕ) (h : Head) (b : IsBuilding ty w pool ns text_len) (l : IsNextLeaf w h) → n.ty.0 ≡ l.ty → head_shown (pool ++ more) n.content ≡ h → n.size ≡ 1 → IsInPool (pool ++ more) n.content → more_len ≡ head_text_bytes h → text_len + more_len ≤ length pool + length more →
     IsBuilding ty (advanced w) (pool ++ more) (ns ++ n ∷ []) (text_len + more_len)
 leaf_added ty w pool more ns n text_len more_len h b l at shows size within texts short =
     let leaf = leaf_cells w.types l.ty h l.leaf in
@@ -210,3 +214,48 @@ open_added ty w pool ns n text_len p b l at size = by b.room refl where
 -- the entries are one more, and as many as the nodes
 pub open_entries : (pool : List ℕ) (ns : List Node) (n : Node) (t : ℕ) (kind : Kind) (count : ℕ) → n.ty.0 ≡ t → head_shown [] n.content ≡ kind_head kind count → (entries_shown pool (ns ++ n ∷ []) ≡ entries_shown pool ns ++ entry_of t (head_shown [] n.content) ∷ []) × (length (entries_shown pool ns) ≡ length ns)
 open_entries pool ns n t kind count at e = (map-append _ ns (n ∷ []) ∙ rw (at, (open_shown pool n.content kind count e).0) refl, length-map ns _)
+
+-- ---- bytes of an open text
+
+inside_longer : (pool more : List ℕ) (ns : List Node) → AreInPool pool ns → AreInPool (pool ++ more) ns
+inside_longer pool more [] h = tt
+inside_longer pool more (n ∷ ns) h = (within_more pool more n.content h.0, inside_longer pool more ns h.1)
+
+pub bytes_added : (ty : ℕ) (w : Walked) (pool more : List ℕ) (ns : List Node) (text_len : ℕ) → IsBuilding ty w pool ns text_len → IsBuilding ty w (pool ++ more) ns text_len
+bytes_added ty w pool more ns text_len b = record {
+  room = b.room;
+  level = b.level;
+  own = b.own;
+  are_bytes = b.are_bytes;
+  opens = b.opens;
+  spine = rw (cells_more pool more ns b.inside) b.spine;
+  inside = inside_longer pool more ns b.inside;
+  texts = rw (entries_more pool more ns b.inside) b.texts;
+  fits = omega (arith, b.fits, length-append pool more);
+}
+
+drop_more : (k : ℕ) (pool more : List ℕ) → k ≤ length pool → drop k (pool ++ more) ≡ drop k pool ++ more
+drop_more zero pool more h = refl
+drop_more (suc k) [] more h = absurd (omega (arith, h))
+drop_more (suc k) (x ∷ pool) more h = drop_more k pool more (omega (arith, h))
+
+pub open_longer : (w : Walked) (pool more : List ℕ) (text_len : ℕ) (text : Option OpenText) → AreBytes more → IsOpenText w pool text_len text → IfOk (missing_at (pieces_shown pool text) (next_of w)) (λ n. length more ≤ n) →
+    IsOpenText w (pool ++ more) text_len text × (pieces_shown (pool ++ more) text ≡ option_map (λ t. record { len = t.len; bytes = t.bytes ++ more }) (pieces_shown pool text))
+open_longer w pool more text_len None p h k = (tt, refl)
+open_longer w pool more text_len (Some o) p h k =
+    let lacks : length more ≤ o.len - length (drop o.start pool) = rw h.is_next at k in (
+      record { is_next = h.is_next; inside = omega (arith, h.inside, length-append pool more); short = omega (arith, h.inside, h.short, lacks, length-append pool more, length-drop o.start pool); behind = h.behind; are_bytes = rw (drop_more o.start pool more h.inside) (both_bytes (drop o.start pool) more h.are_bytes p); spelled = h.spelled },
+      ap (λ (b : List ℕ). Some (record { len = o.len; bytes = b })) (drop_more o.start pool more h.inside),
+    )
+
+pub longer_entries : (pool more : List ℕ) (ns : List Node) → AreInPool pool ns → entries_shown (pool ++ more) ns ≡ entries_shown pool ns
+longer_entries = entries_more
+
+-- the whole of an open text is what its place in the pool shows
+pub open_whole : (w : Walked) (pool : List ℕ) (text_len : ℕ) (o : OpenText) → IsOpenAt w pool text_len o.start o.len → missing_at (pieces_shown pool (Some o)) (next_of w) ≡ Ok 0 → (o.start + o.len ≡ length pool) × (slice_range pool o.start (o.start + o.len) ≡ drop o.start pool)
+open_whole w pool text_len o h e =
+    let lacks : o.len - length (drop o.start pool) ≡ 0 = ok_is (rw h.is_next at e) in
+    let whole : o.start + o.len ≡ length pool = omega (arith, lacks, h.inside, h.short, length-drop o.start pool) in
+    (whole, ap (λ (k : ℕ). take k (drop o.start pool)) (omega (arith, whole, length-drop o.start pool)) ∙ take_all (length (drop o.start pool)) (drop o.start pool) (omega arith)) where
+      ok_is : {E : Type 0} {n : ℕ} → ◌≡◌ {A = Result ℕ E} (Ok n) (Ok 0) → n ≡ 0
+      ok_is e = cc

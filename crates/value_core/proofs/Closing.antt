@@ -1,5 +1,5 @@
 -- The innermost open node gets its size.
-use Rattle.std.proofs.Common.{◌≡◌, ℕ, zero, suc, ◌+◌, ◌-◌, ◌<◌, List, [], ◌∷◌, ◌++◌, length, Some, None, refl, sym, ap, subst, ◌∙◌, arith, inl, inr, length-append}
+use Rattle.std.proofs.Common.{Option, ◌≡◌, ℕ, zero, suc, ◌+◌, ◌-◌, ◌<◌, List, [], ◌∷◌, ◌++◌, length, Some, None, refl, sym, ap, subst, ◌∙◌, arith, inl, inr, length-append}
 use Rattle.std.specs.Prelude.{slice_get, slice_set}
 use Rattle.std.proofs.lemmas.List.{length-map}
 use Rattle.registry_core.specs.declared.type_info.TypeInfo.{TypeInfo}
@@ -7,9 +7,15 @@ use Rattle.value_core.specs.Parts.{Part, times, first_of}
 use Rattle.value_core.specs.Cells.{Cell}
 use Rattle.value_core.specs.Shown.{cell_shown, cells_shown, IsInPool, AreInPool}
 use Rattle.value_core.specs.Spine.{OpenNode, open_part, Spine}
-use Rattle.value_core.specs.Walked.{OpenPart, Walked, Closes}
-use Rattle.value_core.specs.Built.{entries_shown, entries_text_bytes, settled_in, settled}
-use Rattle.value_core.specs.Building.{IsBuilding}
+use Rattle.value_core.specs.Walked.{OpenPart, Walked, Closes, first_in, next_of}
+use Rattle.value_core.specs.Built.{Pieces, entries_shown, entries_text_bytes, settled_in, settled}
+use Rattle.value_core.specs.Building.{IsBuilding, IsOpenText, pieces_shown}
+use Rattle.registry_core.specs.declared.primitive.Primitive.TheVariants as P
+use Rattle.value_core.specs.declared.form.Form.{Form}
+use Rattle.value_core.specs.declared.form.Form.TheVariants as form
+use Rattle.value_core.specs.declared.form.Next.TheVariants as next
+use Rattle.value_core.specs.declared.open_text.OpenText.{OpenText}
+use Rattle.value_core.proofs.Forms.{wanted}
 use Rattle.value_core.specs.declared.node.Node.{Node}
 use Rattle.value_core.proofs.Spines.{Closed, is_cons, node_closed}
 
@@ -79,9 +85,25 @@ closing ty old new pool ns text_len place b c =
     }
 
 -- the entries stay, and so does what stands when all that is whole is closed
-pub closing_settles : (ty : ℕ) (old new : Walked) (pool : List ℕ) (ns : List Node) (n : Node) (k place : ℕ) → slice_get ns place ≡ Some n → Closes old new place →
-    settled (record { ty = ty; walk = new; entries = entries_shown pool (slice_set ns place (with_size n k)) }) ≡ settled (record { ty = ty; walk = old; entries = entries_shown pool ns })
-closing_settles ty old new pool ns n k place g c = rw (entries_resized pool ns n k place g, c.types, c.limit, c.frames, settled_step place c.part new.frames c.not_root c.whole) refl where
+pub closing_settles : (text : Option Pieces) (ty : ℕ) (old new : Walked) (pool : List ℕ) (ns : List Node) (n : Node) (k place : ℕ) → slice_get ns place ≡ Some n → Closes old new place →
+    settled (record { ty = ty; walk = new; entries = entries_shown pool (slice_set ns place (with_size n k)); text = text }) ≡ settled (record { ty = ty; walk = old; entries = entries_shown pool ns; text = text })
+closing_settles text ty old new pool ns n k place g c = rw (entries_resized pool ns n k place g, c.types, c.limit, c.frames, settled_step place c.part new.frames c.not_root c.whole) refl where
   settled_step : (place : ℕ) (p : Part) (fs : List OpenPart) → (fs ≡ [] → ⊥) → first_of p ≡ None → settled_in (open_part place p ∷ fs) ≡ settled_in fs
   settled_step place p [] some e = absurd (some refl)
   settled_step place p (f ∷ fs) some e = rw e refl
+
+-- while a form is next no node is closed
+pub nothing_closes : (old new : Walked) (place : ℕ) (f : Form) → Closes old new place → next_of old ≡ next.Wants f → ⊥
+nothing_closes old new place f c e =
+    let k = wanted old f e in
+    let none : first_in old.frames ≡ None = ap first_in c.frames ∙ c.whole in
+    let both : Some k.ty ≡ None = sym k.is_next ∙ none in absurd cc
+
+-- an open text stays where no node is closed
+pub open_closing : (old new : Walked) (pool : List ℕ) (text_len place : ℕ) (text : Option OpenText) → IsOpenText old pool text_len text → Closes old new place → IsOpenText new pool text_len text
+open_closing old new pool text_len place None h c = tt
+open_closing old new pool text_len place (Some o) h c = absurd (nothing_closes old new place (form.Primitive P.Str) c h.is_next)
+
+pub none_open : (pool : List ℕ) (text : Option OpenText) → pieces_shown pool text ≡ None → text ≡ None
+none_open pool None e = refl
+none_open pool (Some o) e = absurd cc

@@ -11,7 +11,7 @@ use Rattle.value_core.specs.Cells.{Cell, cells, all_cells, next_type, fields_par
 use Rattle.value_core.specs.Shown.{seen, cells_shown, tree_shown, type_shown, head_shown, IsWhole}
 use Rattle.value_core.specs.Spine.{OpenNode, Spine}
 use Rattle.value_core.specs.Walked.{OpenPart, Walked}
-use Rattle.value_core.specs.Built.{Entry, entries_shown, head_text_bytes, entries_text_bytes, finished}
+use Rattle.value_core.specs.Built.{Entry, Pieces, entries_shown, head_text_bytes, entries_text_bytes, finished}
 use Rattle.value_core.specs.Building.{IsBuilding}
 use Rattle.value_core.specs.Refusals.{is_whole_in}
 use Rattle.value_core.specs.declared.node.Node.{Node}
@@ -83,8 +83,8 @@ heads_are : (pool : List ℕ) (ns : List Node) → map (λ (e : Entry). e.head) 
 heads_are pool ns = map-map (λ (e : Entry). e.head) _ ns
 
 -- what is seen of the value that is handed out
-pub seen_finished : (ty : ℕ) (w : Walked) (pool : List ℕ) (ns : List Node) → type_shown ns ≡ ty → seen w.types pool ns ≡ finished (record { ty = ty; walk = w; entries = entries_shown pool ns })
-seen_finished ty w pool ns e = rw (e, heads_are pool ns) refl
+pub seen_finished : (text : Option Pieces) (ty : ℕ) (w : Walked) (pool : List ℕ) (ns : List Node) → type_shown ns ≡ ty → seen w.types pool ns ≡ finished (record { ty = ty; walk = w; entries = entries_shown pool ns; text = text })
+seen_finished text ty w pool ns e = rw (e, heads_are pool ns) refl
 
 -- nothing is there yet
 pub nothing_built : (ty : ℕ) (types : List TypeInfo) (limit : ℕ) → IsBuilding ty (record { types = types; limit = limit; frames = record { node = 0; left = times 1 ty } ∷ [] }) [] [] 0

@@ -21,6 +21,7 @@ pub mod Opened
 pub mod Texts
 pub mod Inhabited
 pub mod Parts
+pub mod Wanted
 pub mod Words
 pub mod Spelled
 pub mod SpelledNodes

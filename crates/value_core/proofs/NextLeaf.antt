@@ -1,7 +1,9 @@
 -- The values that a node without children may be, by the form that is next.
-use Rattle.std.proofs.Common.{◌≡◌, ℕ, zero, suc, ◌<◌, ◌≤◌, ◌^◌, ◌/◌, List, [], ◌∷◌, ◌++◌, Bool, true, false, length, Some, refl, ◌∙◌, ◌⊎◌, inl, inr, arith}
+use Rattle.std.proofs.Common.{◌≡◌, ◌-◌, ℕ, zero, suc, ◌*◌, ℤ, pos, negsuc, ◌<◌, ◌≤◌, ◌^◌, ◌/◌, List, [], ◌∷◌, ◌++◌, Bool, true, false, length, Some, refl, ◌∙◌, ◌⊎◌, inl, inr, arith}
+use Rattle.std.specs.Prelude.{not, nat_lt, ◌||◌, ◌&&◌, if◌then◌else◌}
 use Rattle.std.specs.Str.{is_utf8}
-use Rattle.scale_core.specs.Number.{AreBytes, le_bytes, bool_byte}
+use Rattle.std.proofs.lemmas.Bool.{lt-ltb, le-ltb, ltb-false}
+use Rattle.scale_core.specs.Number.{AreBytes, number, signed_number, le_bytes, signed_bytes, bool_byte, is_scalar}
 use Rattle.scale_core.specs.Compact.{IsCompact, compact, target_bytes}
 use Rattle.scale_core.specs.declared.compact.Target.{Target}
 use Rattle.scale_core.specs.declared.compact.Target.TheVariants as target
@@ -14,7 +16,7 @@ use Rattle.widths_core.specs.Layouts as layout
 use Rattle.value_core.specs.Grammar.{Val}
 use Rattle.value_core.specs.Preorder as head
 use Rattle.value_core.specs.Built.{IsNextLeaf}
-use Rattle.value_core.specs.Refusals.{greatest_unsigned}
+use Rattle.value_core.specs.Refusals.{greatest_unsigned, greatest_signed, is_within}
 use Rattle.value_core.specs.Walked.{Walked, next_of}
 use Rattle.value_core.specs.declared.form.Form.TheVariants as form
 use Rattle.value_core.specs.declared.form.Next.TheVariants as next
@@ -120,3 +122,91 @@ compact_next w m n e h =
     let k = wanted w (form.Compact m) e in
     let own = compact_own m n h in
     record { ty = k.ty; next = k.is_next; room = k.room; leaf = tt; own = own.0; are_bytes = own.1; value = rw (compact_has_layout w.types k.ty m k.form_is) own.2 }
+
+-- ---- characters
+
+pub scalar_is : (c : ℕ) → (if nat_lt c 0xd800 then true else (nat_lt 0xdfff c && nat_lt c 0x110000)) ≡ true → is_scalar c ≡ true
+scalar_is c h = by (nat_lt c 0xd800) (nat_lt 0xdfff c && nat_lt c 0x110000) h where
+  by : (a b : Bool) → (if a then true else b) ≡ true → (a || b) ≡ true
+  by true b e = refl
+  by false b e = e
+
+pub char_next : (w : Walked) (c : ℕ) → next_of w ≡ next.Wants (form.Primitive P.Char) → is_scalar c ≡ true → c < 256 ^ 4 → IsNextLeaf w (head.char c)
+unfolding Val
+char_next w c e f h =
+    let k = wanted w (form.Primitive P.Char) e in
+    record {
+      ty = k.ty;
+      next = k.is_next;
+      room = k.room;
+      leaf = tt;
+      own = le_bytes 4 c;
+      are_bytes = are_le_bytes 4 c;
+      value = (primitive_has_layout w.types k.ty P.Char k.form_is, length-le_bytes 4 c, number-le_bytes 4 c h, f);
+    }
+
+-- ---- signed integers
+
+within_is : (n most : ℕ) → not (nat_lt most n) ≡ true → n ≤ most
+within_is n most h = by (nat_lt most n) refl h where
+  by : (b : Bool) → nat_lt most n ≡ b → not b ≡ true → n ≤ most
+  by true e k = absurd cc
+  by false e k = ltb-false most n e
+
+-- what an integer of k bytes is in two's complement
+signed_again : (k : ℕ) (half : ℕ) (z : ℤ) → 256 ^ k ≡ 2 * half → is_within z (half - 1) ≡ true → 0 < half → signed_number (signed_bytes k z) ≡ z
+signed_again k half (pos n) e h some =
+    let small : n < half = omega (arith, within_is n (half - 1) h, some) in
+    let spelled : number (le_bytes k n) ≡ n = number-le_bytes k n (omega (arith, e, small)) in
+    rw (length-le_bytes k n, spelled, lt-ltb (2 * n) (256 ^ k) (omega (arith, e, small))) refl
+signed_again k half (negsuc m) e h some =
+    let small : m < half = omega (arith, within_is m (half - 1) h, some) in
+    let word : number (le_bytes k (256 ^ k - suc m)) ≡ 256 ^ k - suc m = number-le_bytes k (256 ^ k - suc m) (omega (arith, e, small)) in
+    let back : 256 ^ k - (256 ^ k - suc m) ≡ suc m = omega (arith, e, small) in
+    rw (length-le_bytes k (256 ^ k - suc m), word, le-ltb (2 * (256 ^ k - suc m)) (256 ^ k) (omega (arith, e, small)), back) refl
+
+record IsSigned (p : Primitive) (most : ℕ) : Type 0 where
+  pub width : ℕ
+  pub laid : primitive_layout p ≡ layout.signed width
+  pub most_is : 256 ^ width ≡ 2 * suc most
+
+signed_is : (p : Primitive) (most : ℕ) → greatest_signed p ≡ Some most → IsSigned p most
+signed_is P.I8 most e = record { width = 1; laid = refl; most_is = rw (← same_most _ most e) refl }
+signed_is P.I16 most e = record { width = 2; laid = refl; most_is = rw (← same_most _ most e) refl }
+signed_is P.I32 most e = record { width = 4; laid = refl; most_is = rw (← same_most _ most e) refl }
+signed_is P.I64 most e = record { width = 8; laid = refl; most_is = rw (← same_most _ most e) refl }
+signed_is P.I128 most e = record { width = 16; laid = refl; most_is = rw (← same_most _ most e) refl }
+signed_is P.Bool most e = absurd cc
+signed_is P.Char most e = absurd cc
+signed_is P.Str most e = absurd cc
+signed_is P.U8 most e = absurd cc
+signed_is P.U16 most e = absurd cc
+signed_is P.U32 most e = absurd cc
+signed_is P.U64 most e = absurd cc
+signed_is P.U128 most e = absurd cc
+signed_is P.U256 most e = absurd cc
+signed_is P.I256 most e = absurd cc
+
+signed_long : (k : ℕ) (z : ℤ) → length (signed_bytes k z) ≡ k
+signed_long k (pos n) = length-le_bytes k n
+signed_long k (negsuc m) = length-le_bytes k (256 ^ k - suc m)
+
+are_signed_bytes : (k : ℕ) (z : ℤ) → AreBytes (signed_bytes k z)
+are_signed_bytes k (pos n) = are_le_bytes k n
+are_signed_bytes k (negsuc m) = are_le_bytes k (256 ^ k - suc m)
+
+pub signed_next : (w : Walked) (p : Primitive) (most : ℕ) (z : ℤ) → next_of w ≡ next.Wants (form.Primitive p) → greatest_signed p ≡ Some most → is_within z most ≡ true → IsNextLeaf w (head.signed z)
+unfolding Val
+signed_next w p most z e f h =
+    let k = wanted w (form.Primitive p) e in
+    let s = signed_is p most f in
+    let back : suc most - 1 ≡ most = omega arith in
+    record {
+      ty = k.ty;
+      next = k.is_next;
+      room = k.room;
+      leaf = tt;
+      own = signed_bytes s.width z;
+      are_bytes = are_signed_bytes s.width z;
+      value = (s.width, primitive_has_layout w.types k.ty p k.form_is ∙ s.laid, signed_long s.width z, signed_again s.width (suc most) z s.most_is (rw back h) (omega arith));
+    }

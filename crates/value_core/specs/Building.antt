@@ -1,11 +1,15 @@
 -- What a builder keeps to: its nodes are those of a value that is being built.
-use Rattle.std.specs.Prelude.{◌≡◌, ℕ, ◌+◌, ◌≤◌, List, length}
+use Rattle.std.specs.Prelude.{◌≡◌, ℕ, ◌+◌, ◌≤◌, ◌<◌, ◌^◌, List, length, drop, Option, Some, None, option_map}
 use Rattle.scale_core.specs.Number.{AreBytes}
-use Rattle.value_core.specs.Built.{entries_shown, entries_text_bytes}
+use Rattle.value_core.specs.Built.{Pieces, entries_shown, entries_text_bytes}
 use Rattle.value_core.specs.Shown.{cells_shown, AreInPool}
 use Rattle.value_core.specs.Spine.{OpenNode, Spine}
-use Rattle.value_core.specs.Walked.{Walked}
+use Rattle.value_core.specs.Walked.{Walked, next_of}
+use Rattle.registry_core.specs.declared.primitive.Primitive.TheVariants as P
+use Rattle.value_core.specs.declared.form.Form.TheVariants as form
+use Rattle.value_core.specs.declared.form.Next.TheVariants as next
 use Rattle.value_core.specs.declared.node.Node.{Node}
+use Rattle.value_core.specs.declared.open_text.OpenText.{OpenText}
 
 pub record IsBuilding (ty : ℕ) (w : Walked) (pool : List ℕ) (ns : List Node) (text_len : ℕ) : Type 0 where
   pub room : ℕ
@@ -17,3 +21,20 @@ pub record IsBuilding (ty : ℕ) (w : Walked) (pool : List ℕ) (ns : List Node)
   pub inside : AreInPool pool ns
   pub texts : text_len ≡ entries_text_bytes (entries_shown pool ns)
   pub fits : text_len ≤ length pool
+
+-- an open text is what the pool has from its place on
+abbrev pub pieces_shown : List ℕ → Option OpenText → Option Pieces
+pieces_shown pool open_text = option_map (λ o. record { len = o.len; bytes = drop o.start pool }) open_text
+
+-- it is next, has no more bytes than it is to have, and lies behind all other texts
+pub record IsOpenAt (w : Walked) (pool : List ℕ) (text_len start len : ℕ) : Type 0 where
+  pub is_next : next_of w ≡ next.Wants (form.Primitive P.Str)
+  pub inside : start ≤ length pool
+  pub short : length pool ≤ start + len
+  pub behind : text_len ≤ start
+  pub are_bytes : AreBytes (drop start pool)
+  pub spelled : len < 2 ^ 32
+
+abbrev pub IsOpenText : Walked → List ℕ → ℕ → Option OpenText → Type 0
+IsOpenText w pool text_len (Some o) = IsOpenAt w pool text_len o.start o.len
+IsOpenText w pool text_len None = Unit {0}

@@ -1,5 +1,5 @@
 -- What contracts see of a value that is being built, and what adding a node makes of it.
-use Rattle.std.specs.Prelude.{◌≡◌, ℕ, ◌+◌, ◌≤◌, List, [], ◌∷◌, ◌++◌, length, map, Option, Some, None, true}
+use Rattle.std.specs.Prelude.{◌≡◌, ℕ, ◌+◌, ◌≤◌, List, [], ◌∷◌, ◌++◌, length, map, Option, Some, None, option_map, true}
 use Rattle.scale_core.specs.Number.{AreBytes}
 use Rattle.registry_core.specs.declared.definition.Arm.{Arm}
 use Rattle.widths_core.specs.Types.{field_types}
@@ -23,11 +23,18 @@ pub record Entry : Type 0 where
   pub ty : ℕ
   pub head : Head
 
--- a value of type ty that is being built: the walk through it, and the nodes that it has, each before its children
+-- a text that comes in pieces: how many bytes it is to have, and those that came
+pub record Pieces : Type 0 where
+  pub len : ℕ
+  pub bytes : List ℕ
+
+-- a value of type ty that is being built: the walk through it, the nodes that it has, each before its children, and the
+-- text that is open
 pub record Built : Type 0 where
   pub ty : ℕ
   pub walk : Walked
   pub entries : List Entry
+  pub text : Option Pieces
 
 abbrev pub entries_shown : List ℕ → List Node → List Entry
 entries_shown pool ns = map (λ n. record { ty = n.ty.0; head = head_shown pool n.content }) ns
@@ -51,7 +58,7 @@ abbrev pub settled_walk : Walked → Walked
 settled_walk w = record { types = w.types; limit = w.limit; frames = settled_in w.frames }
 
 abbrev pub settled : Built → Built
-settled b = record { ty = b.ty; walk = settled_walk b.walk; entries = b.entries }
+settled b = record { ty = b.ty; walk = settled_walk b.walk; entries = b.entries; text = b.text }
 
 abbrev pub type_or_0 : Option ℕ → ℕ
 type_or_0 (Some t) = t
@@ -63,11 +70,11 @@ next_entry b h = record { ty = type_or_0 (next_type b.walk); head = h }
 
 -- the value with a node without children, which is next
 abbrev pub with_leaf : Built → Head → Built
-with_leaf b h = settled (record { ty = b.ty; walk = advanced b.walk; entries = b.entries ++ next_entry b h ∷ [] })
+with_leaf b h = settled (record { ty = b.ty; walk = advanced b.walk; entries = b.entries ++ next_entry b h ∷ []; text = b.text })
 
 -- the value with a node whose children come next
 abbrev pub with_open : Built → Head → Part → Built
-with_open b h p = settled (record { ty = b.ty; walk = opened (advanced b.walk) (length b.entries) p; entries = b.entries ++ next_entry b h ∷ [] })
+with_open b h p = settled (record { ty = b.ty; walk = opened (advanced b.walk) (length b.entries) p; entries = b.entries ++ next_entry b h ∷ []; text = b.text })
 
 -- a node that has no children
 abbrev pub IsLeaf : Head → Type 0
@@ -120,6 +127,26 @@ with_arm b index = with_found b (arm_in (next_layout b) index)
 
 abbrev pub with_list : Built → ℕ → Built
 with_list b n = with_open b (head.list n) (list_part (next_layout b) n)
+
+-- ---- a text in pieces
+
+abbrev pub pieces_bytes : Option Pieces → List ℕ
+pieces_bytes (Some t) = t.bytes
+pieces_bytes None = []
+
+abbrev pub with_text_opened : Built → ℕ → Built
+with_text_opened b len = record { ty = b.ty; walk = b.walk; entries = b.entries; text = Some (record { len = len; bytes = [] }) }
+
+abbrev pub with_piece : Built → List ℕ → Built
+with_piece b piece = record { ty = b.ty; walk = b.walk; entries = b.entries; text = option_map (λ t. record { len = t.len; bytes = t.bytes ++ piece }) b.text }
+
+-- the text that came is the next node
+abbrev pub with_text_ended : Built → Built
+with_text_ended b = with_leaf (record { ty = b.ty; walk = b.walk; entries = b.entries; text = None }) (head.text (pieces_bytes b.text))
+
+-- the bytes of all texts, those of the open one too
+abbrev pub built_text_bytes : Built → ℕ
+built_text_bytes b = entries_text_bytes b.entries + length (pieces_bytes b.text)
 
 -- the value that is handed out
 abbrev pub finished : Built → Seen

@@ -1,12 +1,14 @@
 -- Which call a builder refuses, and with what: the first reason that applies.
-use Rattle.std.specs.Prelude.{◌≡◌, ℕ, ◌-◌, ◌^◌, List, [], ◌∷◌, length, Bool, true, false, Option, Some, None, Result, Ok, Err, nat_lt, ◌==◌, not, is_none, if◌then◌else◌}
+use Rattle.std.specs.Prelude.{◌≡◌, ℕ, ◌-◌, ◌^◌, ℤ, pos, negsuc, List, [], ◌∷◌, length, Bool, true, false, Option, Some, None, Result, Ok, Err, nat_lt, ◌==◌, not, is_none, if◌then◌else◌}
+use Rattle.std.specs.Str.{is_utf8}
+use Rattle.std.specs.Str.Lossy.{utf8_valid_len}
 use Rattle.scale_core.specs.Compact.{target_bytes}
 use Rattle.registry_core.specs.declared.primitive.Primitive.{Primitive}
 use Rattle.registry_core.specs.declared.primitive.Primitive.TheVariants as P
 use Rattle.registry_core.specs.declared.definition.Arm.{Arm}
 use Rattle.registry_core.specs.declared.type_info.TypeInfo.{TypeInfo}
 use Rattle.value_core.specs.Parts.{first_of}
-use Rattle.value_core.specs.Built.{Built, arm_in, next_layout}
+use Rattle.value_core.specs.Built.{Built, Pieces, pieces_bytes, arm_in, next_layout}
 use Rattle.value_core.specs.Shown.{Seen}
 use Rattle.value_core.specs.Walked.{OpenPart, next_of}
 use Rattle.value_core.specs.declared.build_fault.BuildFault.{BuildFault}
@@ -29,16 +31,33 @@ abbrev pub other_fault : Next → BuildFault
 other_fault (next.Stop r) = fault_of r
 other_fault _ = fault.WrongKind
 
+abbrev pub wrong : Option BuildFault
+wrong = Some fault.WrongKind
+
+-- the form of what comes next for a call that adds a whole node: there is none while a text is open
+abbrev pub while_closed : Option Pieces → Form → Result Form BuildFault
+while_closed None f = Ok f
+while_closed (Some t) f = Err fault.WrongKind
+
+abbrev pub wanted_from : Option Pieces → Next → Result Form BuildFault
+wanted_from text (next.Wants f) = while_closed text f
+wanted_from text next.Finished = Err fault.WrongKind
+wanted_from text (next.Stop r) = Err (fault_of r)
+
+abbrev pub wanted_of : Built → Result Form BuildFault
+wanted_of b = wanted_from b.text (next_of b.walk)
+
 -- what comes next is the first to be judged, and then whether the call suits its form
 abbrev pub judged : (Form → Option BuildFault) → Built → Option BuildFault
-judged suits b = elim (next_of b.walk) [
-  | next.Wants f ↦ suits f
+judged suits b = elim (wanted_of b) [ Ok f ↦ suits f | Err e ↦ Some e ]
+
+-- the same for the calls on an open text
+abbrev pub judged_open : (Option Pieces → Option BuildFault) → Built → Option BuildFault
+judged_open suits b = elim (next_of b.walk) [
+  | next.Wants f ↦ suits b.text
   | next.Finished ↦ Some fault.WrongKind
   | next.Stop r ↦ Some (fault_of r)
 ]
-
-abbrev pub wrong : Option BuildFault
-wrong = Some fault.WrongKind
 
 abbrev pub in_range : Bool → Option BuildFault
 in_range fits = if fits then None else Some fault.OutOfRange
@@ -72,6 +91,32 @@ abbrev pub suits_unsigned : ℕ → Form → Option BuildFault
 suits_unsigned n (form.Primitive p) = up_to n (greatest_unsigned p)
 suits_unsigned n _ = wrong
 
+-- the greatest number of a signed integer of at most sixteen bytes
+abbrev pub greatest_signed : Primitive → Option ℕ
+greatest_signed P.I8 = Some (2 ^ 7 - 1)
+greatest_signed P.I16 = Some (2 ^ 15 - 1)
+greatest_signed P.I32 = Some (2 ^ 31 - 1)
+greatest_signed P.I64 = Some (2 ^ 63 - 1)
+greatest_signed P.I128 = Some (2 ^ 127 - 1)
+greatest_signed _ = None
+
+-- a number up to the greatest, or down to one further below 0
+abbrev pub is_within : ℤ → ℕ → Bool
+is_within (pos n) most = not (nat_lt most n)
+is_within (negsuc n) most = not (nat_lt most n)
+
+abbrev pub within : ℤ → Option ℕ → Option BuildFault
+within z None = wrong
+within z (Some most) = in_range (is_within z most)
+
+abbrev pub suits_signed : ℤ → Form → Option BuildFault
+suits_signed z (form.Primitive p) = within z (greatest_signed p)
+suits_signed z _ = wrong
+
+abbrev pub suits_char : Form → Option BuildFault
+suits_char (form.Primitive P.Char) = None
+suits_char _ = wrong
+
 abbrev pub suits_wide : Form → Option BuildFault
 suits_wide (form.Primitive P.U256) = None
 suits_wide (form.Primitive P.I256) = None
@@ -101,6 +146,36 @@ suits_arm found _ = wrong
 
 abbrev pub judged_arm : Built → ℕ → Option BuildFault
 judged_arm b index = judged (suits_arm (arm_in (next_layout b) index)) b
+
+-- ---- a text in pieces
+
+abbrev pub suits_text_start : Form → Option BuildFault
+suits_text_start (form.Primitive P.Str) = None
+suits_text_start _ = wrong
+
+-- how many bytes the open text lacks
+abbrev pub missing_from : Option Pieces → Result ℕ BuildFault
+missing_from (Some t) = Ok (t.len - length t.bytes)
+missing_from None = Err fault.WrongKind
+
+abbrev pub missing_at : Option Pieces → Next → Result ℕ BuildFault
+missing_at text (next.Wants f) = missing_from text
+missing_at text next.Finished = Err fault.WrongKind
+missing_at text (next.Stop r) = Err (fault_of r)
+
+abbrev pub missing_of : Built → Result ℕ BuildFault
+missing_of b = missing_at b.text (next_of b.walk)
+
+abbrev pub judged_piece : Built → List ℕ → Option BuildFault
+judged_piece b piece = elim (missing_of b) [ Ok n ↦ in_range (not (nat_lt n (length piece))) | Err e ↦ Some e ]
+
+-- bytes that are no text
+abbrev pub text_fault : List ℕ → Option BuildFault
+text_fault s = if is_utf8 s then None else Some (fault.BadText (utf8_valid_len s))
+
+-- bytes that are missing first, and then bytes that are no text
+abbrev pub judged_end : Built → Option BuildFault
+judged_end b = elim (missing_of b) [ Ok n ↦ if nat_lt 0 n then Some fault.UnfinishedValue else text_fault (pieces_bytes b.text) | Err e ↦ Some e ]
 
 -- where no refusal applies the value is the one with the node, unless memory is refused; and after a refusal it is as it was
 abbrev pub Adds : Option BuildFault → Built → Built → Built → Result (Unit {0}) BuildFault → Type 0

@@ -4,26 +4,16 @@ ghost use Rattle.std.specs.Prelude.{◌≡◌, ◌-◌, ◌^◌};
 ghost use Rattle.scale_core.specs.Compact.{target_bytes};
 ghost use Rattle.value_core.specs.Built.{with_leaf, with_fields, with_arm, with_list};
 ghost use Rattle.value_core.specs.Preorder as head;
-ghost use Rattle.value_core.specs.Refusals.{Adds, judged, judged_arm, other_fault, greatest_unsigned, suits_empty, suits_bool, suits_text, suits_unsigned, suits_wide, suits_compact, suits_count, suits_fields, suits_list};
+ghost use Rattle.value_core.specs.Refusals.{Adds, judged, judged_arm, greatest_unsigned, greatest_signed, is_within, suits_char, suits_signed, suits_empty, suits_bool, suits_text, suits_unsigned, suits_wide, suits_compact, suits_count, suits_fields, suits_list};
 
 use crate::build_fault::BuildFault;
 use crate::builder::Builder;
-use crate::form::{Form, Next};
+use crate::form::Form;
 use crate::leaf::Leaf;
 use crate::node::Content;
 use registry_core::Primitive;
 use scale_core::Target;
 use std::alloc::Allocator;
-
-/// The refusal of a call that is not the one for what comes next.
-fn other_fault(next: Next) -> BuildFault
-    ensures { result ≡ other_fault next }
-{
-    match next {
-        Next::Stop(reason) => reason.into(),
-        Next::Finished | Next::Wants(_) => BuildFault::WrongKind,
-    }
-}
 
 /// The greatest number of an unsigned integer type of at most sixteen bytes.
 fn greatest_unsigned(primitive: Primitive) -> Option<u128>
@@ -37,6 +27,28 @@ fn greatest_unsigned(primitive: Primitive) -> Option<u128>
         Primitive::U128 => Some(u128::MAX),
         _ => None,
     }
+}
+
+/// The greatest number of a signed integer type of at most sixteen bytes; the least is one further from 0.
+fn greatest_signed(primitive: Primitive) -> Option<u128>
+    ensures { result ≡ greatest_signed primitive }
+{
+    match primitive {
+        Primitive::I8 => Some(0x7f),
+        Primitive::I16 => Some(0x7fff),
+        Primitive::I32 => Some(0x7fff_ffff),
+        Primitive::I64 => Some(0x7fff_ffff_ffff_ffff),
+        Primitive::I128 => Some(0x7fff_ffff_ffff_ffff_ffff_ffff_ffff_ffff),
+        _ => None,
+    }
+}
+
+/// Is the number one of a type with this greatest number, whose least is one further from 0?
+fn is_within(value: i128, greatest: u128) -> bool
+    ensures { result ≡ is_within value greatest }
+{
+    let distance = if value < 0 { -(value + 1) } else { value };
+    distance.cast_unsigned() <= greatest
 }
 
 /// The greatest number of a compact integer.
@@ -58,39 +70,38 @@ impl<'r, A: Allocator> Builder<'r, A> {
     ///
     /// Refuses, and leaves the builder as it was: what the next type stops at, `WrongKind` where another form is next or
     /// nothing is, and `OutOfMemory`.
-    #[tactic(auto, using(crate::proofs::NextLeaf::empty_next))]
+    #[tactic(auto, using(crate::proofs::Wanted::wanted_next, crate::proofs::Wanted::wanted_closed, crate::proofs::NextLeaf::empty_next))]
     pub fn empty(&mut self) -> Result<(), BuildFault>
         ensures { Adds (judged suits_empty self.old) (with_leaf self.old head.unit) self.old self.new result }
     {
-        match self.walk().next() {
-            Next::Wants(Form::Empty) => self.add_leaf(Leaf::Empty),
-            other => Err(other_fault(other)),
+        match self.wanted()? {
+            Form::Empty => self.add_leaf(Leaf::Empty),
+            _ => Err(BuildFault::WrongKind),
         }
     }
 
     /// Adds a boolean.
     ///
     /// Refuses as `empty` does.
-    #[tactic(auto, using(crate::proofs::NextLeaf::bool_next))]
+    #[tactic(auto, using(crate::proofs::Wanted::wanted_next, crate::proofs::Wanted::wanted_closed, crate::proofs::NextLeaf::bool_next))]
     pub fn bool(&mut self, value: bool) -> Result<(), BuildFault>
         ensures { Adds (judged suits_bool self.old) (with_leaf self.old (head.bool value)) self.old self.new result }
     {
-        match self.walk().next() {
-            Next::Wants(Form::Primitive(Primitive::Bool)) => self.add_leaf(Leaf::Bool(value)),
-            other => Err(other_fault(other)),
+        match self.wanted()? {
+            Form::Primitive(Primitive::Bool) => self.add_leaf(Leaf::Bool(value)),
+            _ => Err(BuildFault::WrongKind),
         }
     }
 
     /// Adds an unsigned integer of at most sixteen bytes.
     ///
     /// Refuses as `empty` does, and with `OutOfRange` a number that is too great for the type.
-    #[tactic(auto, using(crate::proofs::NextLeaf::unsigned_next))]
+    #[tactic(auto, using(crate::proofs::Wanted::wanted_next, crate::proofs::Wanted::wanted_closed, crate::proofs::NextLeaf::unsigned_next))]
     pub fn unsigned(&mut self, value: u128) -> Result<(), BuildFault>
         ensures { Adds (judged (suits_unsigned value) self.old) (with_leaf self.old (head.unsigned value)) self.old self.new result }
     {
-        let primitive = match self.walk().next() {
-            Next::Wants(Form::Primitive(primitive)) => primitive,
-            other => return Err(other_fault(other)),
+        let Form::Primitive(primitive) = self.wanted()? else {
+            return Err(BuildFault::WrongKind);
         };
         match greatest_unsigned(primitive) {
             None => Err(BuildFault::WrongKind),
@@ -102,26 +113,25 @@ impl<'r, A: Allocator> Builder<'r, A> {
     /// Adds a sequence of elements that take no bytes: their count alone.
     ///
     /// Refuses as `empty` does.
-    #[tactic(auto, using(crate::proofs::NextLeaf::count_next))]
+    #[tactic(auto, using(crate::proofs::Wanted::wanted_next, crate::proofs::Wanted::wanted_closed, crate::proofs::NextLeaf::count_next))]
     pub fn count(&mut self, count: u32) -> Result<(), BuildFault>
         ensures { Adds (judged suits_count self.old) (with_leaf self.old (head.count count)) self.old self.new result }
     {
-        match self.walk().next() {
-            Next::Wants(Form::Count) => self.add_leaf(Leaf::Count(count)),
-            other => Err(other_fault(other)),
+        match self.wanted()? {
+            Form::Count => self.add_leaf(Leaf::Count(count)),
+            _ => Err(BuildFault::WrongKind),
         }
     }
 
     /// Adds a 256-bit integer by its 32 bytes, the lowest first.
     ///
     /// Refuses as `empty` does.
-    #[tactic(auto, using(crate::proofs::NextLeaf::wide_next))]
+    #[tactic(auto, using(crate::proofs::Wanted::wanted_next, crate::proofs::Wanted::wanted_closed, crate::proofs::NextLeaf::wide_next))]
     pub fn wide(&mut self, value: [u8; 32]) -> Result<(), BuildFault>
         ensures { Adds (judged suits_wide self.old) (with_leaf self.old (head.wide value)) self.old self.new result }
     {
-        let primitive = match self.walk().next() {
-            Next::Wants(Form::Primitive(primitive)) => primitive,
-            other => return Err(other_fault(other)),
+        let Form::Primitive(primitive) = self.wanted()? else {
+            return Err(BuildFault::WrongKind);
         };
         match primitive {
             Primitive::U256 => self.add_leaf(Leaf::Wide(&value)),
@@ -130,17 +140,45 @@ impl<'r, A: Allocator> Builder<'r, A> {
         }
     }
 
+    /// Adds a signed integer of at most sixteen bytes.
+    ///
+    /// Refuses as `empty` does, and with `OutOfRange` a number that is too great or too small for the type.
+    pub fn signed(&mut self, value: i128) -> Result<(), BuildFault>
+        ensures { Adds (judged (suits_signed value) self.old) (with_leaf self.old (head.signed value)) self.old self.new result }
+    {
+        let Form::Primitive(primitive) = self.wanted()? else {
+            return Err(BuildFault::WrongKind);
+        };
+        match greatest_signed(primitive) {
+            None => Err(BuildFault::WrongKind),
+            Some(greatest) if !is_within(value, greatest) => Err(BuildFault::OutOfRange),
+            Some(_) => self.add_leaf(Leaf::Signed(value)),
+        }
+    }
+
+    /// Adds a character.
+    ///
+    /// Refuses as `empty` does.
+    #[tactic(auto, using(crate::proofs::Wanted::wanted_next, crate::proofs::Wanted::wanted_closed, crate::proofs::NextLeaf::char_next))]
+    pub fn char(&mut self, value: char) -> Result<(), BuildFault>
+        ensures { Adds (judged suits_char self.old) (with_leaf self.old (head.char value)) self.old self.new result }
+    {
+        match self.wanted()? {
+            Form::Primitive(Primitive::Char) => self.add_leaf(Leaf::Char(value)),
+            _ => Err(BuildFault::WrongKind),
+        }
+    }
+
     /// Adds a text.
     ///
     /// Refuses as `empty` does, and with `OutOfRange` a text of more than 4294967295 bytes.
-    #[tactic(auto, using(crate::proofs::NextLeaf::text_next))]
+    #[tactic(auto, using(crate::proofs::Wanted::wanted_next, crate::proofs::Wanted::wanted_closed, crate::proofs::NextLeaf::text_next))]
     pub fn text(&mut self, text: &str) -> Result<(), BuildFault>
         ensures { Adds (judged (suits_text text.now) self.old) (with_leaf self.old (head.text text.now)) self.old self.new result }
     {
-        match self.walk().next() {
-            Next::Wants(Form::Primitive(Primitive::Str)) => {}
-            other => return Err(other_fault(other)),
-        }
+        let Form::Primitive(Primitive::Str) = self.wanted()? else {
+            return Err(BuildFault::WrongKind);
+        };
         if text.len() > u32::MAX as usize {
             return Err(BuildFault::OutOfRange);
         }
@@ -150,13 +188,12 @@ impl<'r, A: Allocator> Builder<'r, A> {
     /// Adds a compact integer.
     ///
     /// Refuses as `empty` does, and with `OutOfRange` a number that is too great for what the compact stands over.
-    #[tactic(auto, using(crate::proofs::NextLeaf::compact_next))]
+    #[tactic(auto, using(crate::proofs::Wanted::wanted_next, crate::proofs::Wanted::wanted_closed, crate::proofs::NextLeaf::compact_next))]
     pub fn compact(&mut self, value: u128) -> Result<(), BuildFault>
         ensures { Adds (judged (suits_compact value) self.old) (with_leaf self.old (head.compact value)) self.old self.new result }
     {
-        let target = match self.walk().next() {
-            Next::Wants(Form::Compact(target)) => target,
-            other => return Err(other_fault(other)),
+        let Form::Compact(target) = self.wanted()? else {
+            return Err(BuildFault::WrongKind);
         };
         if value > greatest_compact(target) {
             return Err(BuildFault::OutOfRange);
@@ -167,14 +204,13 @@ impl<'r, A: Allocator> Builder<'r, A> {
     /// Adds a composite or a tuple, whose fields or members come next.
     ///
     /// Refuses as `empty` does.
-    #[tactic(auto, using(crate::proofs::NextOpen::fields_next))]
+    #[tactic(auto, using(crate::proofs::Wanted::wanted_next, crate::proofs::Wanted::wanted_closed, crate::proofs::NextOpen::fields_next))]
     pub fn fields(&mut self) -> Result<(), BuildFault>
         ensures { Adds (judged suits_fields self.old) (with_fields self.old) self.old self.new result }
     {
-        match self.walk().next() {
-            Next::Wants(Form::Fields) => {}
-            other => return Err(other_fault(other)),
-        }
+        let Form::Fields = self.wanted()? else {
+            return Err(BuildFault::WrongKind);
+        };
         let left = self.walk().fields();
         let children = left.len();
         self.add_open(Content::Fields { children }, left)
@@ -183,14 +219,13 @@ impl<'r, A: Allocator> Builder<'r, A> {
     /// Adds a variant by the index of its arm, whose fields come next.
     ///
     /// Refuses as `empty` does, and with `NoSuchVariant` an index that no arm has.
-    #[tactic(auto, using(crate::proofs::NextOpen::arm_next))]
+    #[tactic(auto, using(crate::proofs::Wanted::wanted_next, crate::proofs::Wanted::wanted_closed, crate::proofs::NextOpen::arm_next))]
     pub fn arm(&mut self, index: u8) -> Result<(), BuildFault>
         ensures { Adds (judged_arm self.old index) (with_arm self.old index) self.old self.new result }
     {
-        match self.walk().next() {
-            Next::Wants(Form::Arm) => {}
-            other => return Err(other_fault(other)),
-        }
+        let Form::Arm = self.wanted()? else {
+            return Err(BuildFault::WrongKind);
+        };
         let Some((position, left)) = self.walk().arm(index) else {
             return Err(BuildFault::NoSuchVariant);
         };
@@ -201,19 +236,19 @@ impl<'r, A: Allocator> Builder<'r, A> {
     /// Adds an array, or a sequence of elements that take bytes; its elements come next.
     ///
     /// Refuses as `empty` does, and with `OutOfRange` a count that is not the array's length.
-    #[tactic(auto, using(crate::proofs::NextOpen::array_next, crate::proofs::NextOpen::sequence_next))]
+    #[tactic(auto, using(crate::proofs::Wanted::wanted_next, crate::proofs::Wanted::wanted_closed, crate::proofs::NextOpen::array_next, crate::proofs::NextOpen::sequence_next))]
     pub fn list(&mut self, count: u32) -> Result<(), BuildFault>
         ensures { Adds (judged (suits_list count) self.old) (with_list self.old count) self.old self.new result }
     {
-        let left = match self.walk().next() {
-            Next::Wants(Form::Array(length)) => {
+        let left = match self.wanted()? {
+            Form::Array(length) => {
                 if count != length {
                     return Err(BuildFault::OutOfRange);
                 }
                 self.walk().array(count)
             }
-            Next::Wants(Form::Sequence) => self.walk().sequence(count),
-            other => return Err(other_fault(other)),
+            Form::Sequence => self.walk().sequence(count),
+            _ => return Err(BuildFault::WrongKind),
         };
         self.add_open(Content::List { children: count }, left)
     }

@@ -28,6 +28,11 @@ pub enum BuildFault {
     UnknownType,
     /// A node is still missing.
     UnfinishedValue,
+    /// The bytes of a text are not UTF-8: how long their longest valid front is.
+    BadText {
+        /// The length of the longest valid front, in bytes.
+        valid: u64,
+    },
     /// Memory was refused.
     OutOfMemory,
 }

@@ -1,21 +1,24 @@
 //! A value that is built node by node.
 
-ghost use Rattle.std.specs.Prelude.{◌≡◌, ◌<◌, ◌≤◌, ◌+◌, ◌^◌, ◌++◌, ◌∷◌, [], length, true, false, OnOk, OnErr, IfErr};
-ghost use Rattle.value_core.specs.Built.{entries_text_bytes, finished, settled, with_leaf, with_open, IsNextLeaf, IsNextOpen};
+ghost use Rattle.std.specs.Prelude.{◌≡◌, ◌<◌, ◌≤◌, ◌+◌, ◌^◌, ◌++◌, ◌∷◌, [], length, true, false, OnOk, OnErr, IfOk, IfErr, Ok, None};
+ghost use Rattle.value_core.specs.Built.{built_text_bytes, finished, settled, with_leaf, with_open, with_piece, with_text_ended, with_text_opened, pieces_bytes, IsNextLeaf, IsNextOpen};
 ghost use Rattle.value_core.specs.Frames.{left_of};
 ghost use Rattle.value_core.specs.Shown.{head_shown};
-ghost use Rattle.value_core.specs.Refusals.{Finishes, Opens, is_whole, opening_fault};
-ghost use Rattle.value_core.specs.Walked.{advanced, opened, start_of};
+ghost use Rattle.value_core.specs.Refusals.{Finishes, Opens, missing_of, other_fault, text_fault, wanted_of, is_whole, opening_fault};
+ghost use Rattle.value_core.specs.Walked.{advanced, next_of, opened, start_of};
 ghost use Rattle.value_core.specs.Leaves.{leaf_head, FitsLeaf};
 
 use crate::build_fault::BuildFault;
+use crate::form::{Form, Next};
 use crate::leaf::Leaf;
 use crate::left::Left;
 use crate::limits::MAX_DEPTH;
 use crate::node::{Content, Node};
+use crate::open_text::OpenText;
 use crate::value::Value;
 use crate::walk::Walk;
-use registry_core::TypeId;
+use registry_core::{Primitive, TypeId};
+use simdutf8::compat::from_utf8;
 use std::alloc::{AllocError, Allocator};
 use std::marker::Model;
 use widths_core::Checked;
@@ -28,17 +31,36 @@ pub struct Builder<'r, A: Allocator> {
     nodes: Vec<Node, A>,
     pool: Vec<u8, A>,
     text_len: usize,
+    open_text: Option<OpenText>,
 }
 
 impl<'r, A: Allocator> Model for Builder<'r, A> {
     ghost use Rattle.value_core.specs.Built.{Built, entries_shown};
-    ghost use Rattle.value_core.specs.Building.{IsBuilding};
+    ghost use Rattle.value_core.specs.Building.{IsBuilding, IsOpenText, pieces_shown};
 
     ghost Value = { Built };
 
-    ghost view = { λ b. record { ty = b.root.0; walk = b.walk; entries = entries_shown b.pool.items b.nodes.items } };
+    ghost view = { λ b. record { ty = b.root.0; walk = b.walk; entries = entries_shown b.pool.items b.nodes.items; text = pieces_shown b.pool.items b.open_text } };
 
-    ghost invariant = { λ b. IsBuilding b.root.0 b.walk b.pool.items b.nodes.items b.text_len };
+    ghost invariant = { λ b. IsBuilding b.root.0 b.walk b.pool.items b.nodes.items b.text_len × IsOpenText b.walk b.pool.items b.text_len b.open_text };
+}
+
+/// The refusal of a call that is not the one for what comes next.
+fn other_fault(next: Next) -> BuildFault
+    ensures { result ≡ other_fault next }
+{
+    match next {
+        Next::Stop(reason) => reason.into(),
+        Next::Finished | Next::Wants(_) => BuildFault::WrongKind,
+    }
+}
+
+/// Appends bytes to the pool: all, or where memory is refused none.
+fn extend<A: Allocator>(pool: &mut Vec<u8, A>, bytes: &[u8]) -> Result<(), AllocError>
+    ensures ok { OnOk result (pool.new.items ≡ pool.old.items ++ bytes.now) }
+    ensures err { OnErr result (pool.new.items ≡ pool.old.items) }
+{
+    pool.extend_from_slice(bytes)
 }
 
 /// Appends a node and the bytes that it has in the pool: both, or where memory is refused neither.
@@ -89,7 +111,7 @@ impl<'r, A: Allocator + Clone> Builder<'r, A> {
         root: TypeId,
         depth: u16,
     ) -> Result<Builder<'r, A>, BuildFault>
-        ensures { Opens (opening_fault checked.now root.0 depth) (record { ty = root.0; walk = start_of checked.now root.0 depth; entries = [] }) result }
+        ensures { Opens (opening_fault checked.now root.0 depth) (record { ty = root.0; walk = start_of checked.now root.0 depth; entries = []; text = None }) result }
     {
         if checked.class(root).is_none() {
             return Err(BuildFault::UnknownType);
@@ -105,6 +127,7 @@ impl<'r, A: Allocator + Clone> Builder<'r, A> {
             nodes,
             pool,
             text_len: 0,
+            open_text: None,
         })
     }
 }
@@ -123,6 +146,7 @@ impl<'r, A: Allocator> Builder<'r, A> {
             nodes,
             pool,
             text_len,
+            open_text: _,
         } = self;
         Ok(Value::new(walk.checked(), nodes, pool, text_len))
     }
@@ -143,9 +167,23 @@ impl<'r, A: Allocator> Builder<'r, A> {
 
     /// How many bytes of text it holds.
     pub fn text_bytes(&self) -> u64
-        ensures { result ≡ entries_text_bytes self.now.entries }
+        ensures { result ≡ built_text_bytes self.now }
     {
-        self.text_len as u64
+        match self.open_text {
+            Some(text) => (self.text_len + (self.pool.as_slice().len() - text.start)) as u64,
+            None => self.text_len as u64,
+        }
+    }
+
+    /// The form of what comes next, for a call that adds a whole node; refused with what the walk stops at, and with
+    /// `WrongKind` where nothing is next or a text is open.
+    pub(crate) fn wanted(&self) -> Result<Form, BuildFault>
+        ensures { result ≡ wanted_of self.now }
+    {
+        match self.walk.next() {
+            Next::Wants(form) if self.open_text.is_none() => Ok(form),
+            other => Err(other_fault(other)),
+        }
     }
 
     /// Closes the innermost open node where it is whole: was one closed?
@@ -170,6 +208,7 @@ impl<'r, A: Allocator> Builder<'r, A> {
 
     /// Adds a node without children, the value of the next type. Where memory is refused nothing changes.
     pub(crate) fn add_leaf(&mut self, leaf: Leaf<'_>) -> Result<(), BuildFault>
+        requires closed { self.old.text ≡ None }
         requires next { IsNextLeaf self.old.walk (leaf_head leaf) }
         requires fits { FitsLeaf leaf }
         ensures ok { OnOk result (self.new ≡ with_leaf self.old (leaf_head leaf.entry)) }
@@ -194,7 +233,8 @@ impl<'r, A: Allocator> Builder<'r, A> {
 
     /// Adds a node whose children come next, for the value of the next type. Where memory is refused nothing changes.
     pub(crate) fn add_open(&mut self, content: Content, left: Left<'r>) -> Result<(), BuildFault>
-        requires { IsNextOpen self.old.walk (head_shown [] content) (left_of left) }
+        requires closed { self.old.text ≡ None }
+        requires next { IsNextOpen self.old.walk (head_shown [] content) (left_of left) }
         ensures ok { OnOk result (self.new ≡ with_open self.old (head_shown [] content) (left_of left.entry)) }
         ensures err { OnErr result (self.new ≡ self.old) }
         ensures memory { IfErr result (λ e. e ≡ BuildFault.OutOfMemory) }
@@ -208,6 +248,84 @@ impl<'r, A: Allocator> Builder<'r, A> {
             size: 0,
         };
         open_node(&mut self.nodes, &mut self.walk, node, left)?;
+        self.settle();
+        Ok(())
+    }
+
+    /// Opens a text of so many bytes, which is next.
+    pub(crate) fn open_text(&mut self, len: u32)
+        requires closed { self.old.text ≡ None }
+        requires next { next_of self.old.walk ≡ Next.Wants (Form.Primitive Primitive.Str) }
+        ensures { self.new ≡ with_text_opened self.old len }
+    {
+        let start = self.pool.as_slice().len();
+        self.open_text = Some(OpenText { start, len });
+    }
+
+    /// How many bytes the open text still lacks; refused with what the walk stops at, and with `WrongKind` where no text
+    /// is open.
+    pub(crate) fn missing(&self) -> Result<usize, BuildFault>
+        ensures { result ≡ missing_of self.now }
+    {
+        match (self.walk.next(), self.open_text) {
+            (Next::Wants(_), Some(text)) => {
+                Ok(text.len as usize - (self.pool.as_slice().len() - text.start))
+            }
+            (other, _) => Err(other_fault(other)),
+        }
+    }
+
+    /// Appends bytes to the open text, where no more came than it lacks. Where memory is refused nothing changes.
+    pub(crate) fn extend_text(&mut self, piece: &[u8]) -> Result<(), BuildFault>
+        requires { IfOk (missing_of self.old) (λ n. length piece.now ≤ n) }
+        ensures ok { OnOk result (self.new ≡ with_piece self.old piece.now) }
+        ensures err { OnErr result (self.new ≡ self.old) }
+        ensures memory { IfErr result (λ e. e ≡ BuildFault.OutOfMemory) }
+    {
+        extend(&mut self.pool, piece)?;
+        Ok(())
+    }
+
+    /// What is wrong with the bytes of the open text, if anything is.
+    pub(crate) fn text_fault(&self) -> Option<BuildFault>
+        ensures { result ≡ text_fault (pieces_bytes self.now.text) }
+    {
+        let text = self.open_text?;
+        match from_utf8(&self.pool[text.start..]) {
+            Ok(_) => None,
+            Err(fault) => Some(BuildFault::BadText {
+                valid: fault.valid_up_to() as u64,
+            }),
+        }
+    }
+
+    /// Takes the text that is open, which lacks nothing, as the next node. Where memory is refused nothing changes.
+    pub(crate) fn close_text(&mut self) -> Result<(), BuildFault>
+        requires whole { missing_of self.old ≡ Ok 0 }
+        requires utf8 { text_fault (pieces_bytes self.old.text) ≡ None }
+        ensures ok { OnOk result (self.new ≡ with_text_ended self.old) }
+        ensures err { OnErr result (self.new ≡ self.old) }
+        ensures memory { IfErr result (λ e. e ≡ BuildFault.OutOfMemory) }
+    {
+        let Some(text) = self.open_text else {
+            unreachable!()
+        };
+        let Some(ty) = self.walk.next_type() else {
+            unreachable!()
+        };
+        let content = Content::Text {
+            start: text.start,
+            len: text.len,
+        };
+        let node = Node {
+            ty,
+            content,
+            size: 1,
+        };
+        append(&mut self.nodes, &mut self.pool, node, &[])?;
+        self.text_len += text.len as usize;
+        self.open_text = None;
+        self.walk.advance();
         self.settle();
         Ok(())
     }

@@ -12,6 +12,8 @@ mod left;
 mod limits;
 mod node;
 mod node_ref;
+mod open_text;
+mod text_calls;
 mod value;
 mod walk;
 mod what;

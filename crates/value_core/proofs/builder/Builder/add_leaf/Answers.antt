@@ -1,8 +1,9 @@
-use Rattle.std.proofs.Common.{◌≡◌, ◌∙◌, sym, ap, subst, length, refl}
+use Rattle.std.proofs.Common.{arith, ◌≡◌, ◌∙◌, sym, ap, subst, length, refl}
 use Rattle.value_core.specs.Built.{Built, IsNextLeaf, with_leaf}
 use Rattle.value_core.specs.Leaves.{leaf_head, leaf_bytes, leaf_text_bytes}
 use Rattle.value_core.specs.declared.node.Node.{Node}
 use Rattle.value_core.proofs.Adding.{leaf_added, entries_added, some_is}
+use Rattle.value_core.proofs.Closing.{none_open}
 use Rattle.value_core.proofs.Leaves.{text_is, text_fits}
 use Rattle.value_core.proofs.builder.Builder.add_leaf.Goals as goal
 
@@ -12,9 +13,10 @@ invariant_of-self-2 g c =
     let n : Node = record { ty = c.in-Some.ty; content = c.content-content.result; size = 1 } in
     let at : n.ty.0 ≡ l.ty = some_is n.ty.0 l.ty (c.in-Some.ensures ∙ l.next) in
     let start : length c.self.inside.pool.items ≡ length c.as_slice.result.now = sym (ap length c.as_slice.ensures.value) in
-    let b = leaf_added c.self.inside.root.0 c.self.inside.walk c.self.inside.pool.items (leaf_bytes c.args.leaf) c.self.inside.nodes.items n c.self.inside.text_len (leaf_text_bytes c.args.leaf) (leaf_head c.args.leaf) c.self.invariant l at
-    (c.content-content.ensures.shows c.self.inside.pool.items start) refl (c.content-content.ensures.inside c.self.inside.pool.items start) (text_is c.args.leaf) (text_fits c.args.leaf) in
-    rw (c.advance.ensures, c.in_ok-append.ensures.pool, c.in_ok-append.ensures.nodes, c.bytes.ensures, c.text_len.ensures) b
+    let b = leaf_added c.self.inside.root.0 c.self.inside.walk c.self.inside.pool.items (leaf_bytes c.args.leaf) c.self.inside.nodes.items n c.self.inside.text_len (leaf_text_bytes c.args.leaf) (leaf_head c.args.leaf) c.self.invariant.0 l at
+    (c.content-content.ensures.shows c.self.inside.pool.items start) refl (c.content-content.ensures.inside c.self.inside.pool.items start) (text_is c.args.leaf) (omega (arith, c.self.invariant.0.fits, text_fits c.args.leaf)) in
+    let closed = none_open c.self.inside.pool.items c.self.inside.open_text (ap (λ (b : Built). b.text) c.self.view_is ∙ c.requires.closed) in
+    (rw (c.advance.ensures, c.in_ok-append.ensures.pool, c.in_ok-append.ensures.nodes, c.bytes.ensures, c.text_len.ensures) b, rw closed tt)
 
 pub returns-clause-ok : goal.returns-clause-ok
 returns-clause-ok g c =
@@ -22,7 +24,8 @@ returns-clause-ok g c =
     let n : Node = record { ty = c.in-Some.ty; content = c.content-content.result; size = 1 } in
     let at : n.ty.0 ≡ l.ty = some_is n.ty.0 l.ty (c.in-Some.ensures ∙ l.next) in
     let start : length c.self.inside.pool.items ≡ length c.as_slice.result.now = sym (ap length c.as_slice.ensures.value) in
-    let entries = entries_added c.self.inside.pool.items (leaf_bytes c.args.leaf) c.self.inside.nodes.items n l.ty (leaf_head c.args.leaf) c.self.invariant.inside at (c.content-content.ensures.shows c.self.inside.pool.items start) in
+    let entries = entries_added c.self.inside.pool.items (leaf_bytes c.args.leaf) c.self.inside.nodes.items n l.ty (leaf_head c.args.leaf) c.self.invariant.0.inside at (c.content-content.ensures.shows c.self.inside.pool.items start) in
+    let closed = none_open c.self.inside.pool.items c.self.inside.open_text (ap (λ (b : Built). b.text) c.self.view_is ∙ c.requires.closed) in
     c.settle.ensures
-    ∙ (rw (c.advance.ensures, c.in_ok-append.ensures.pool, c.in_ok-append.ensures.nodes, c.bytes.ensures, entries, l.next) refl)
+    ∙ (rw (c.advance.ensures, c.in_ok-append.ensures.pool, c.in_ok-append.ensures.nodes, c.bytes.ensures, entries, l.next, closed) refl)
     ∙ ap (λ (b : Built). with_leaf b (leaf_head c.args.leaf)) c.self.view_is

@@ -4,7 +4,7 @@ use Rattle.value_core.proofs.NextLeaf.{wide_next}
 use Rattle.value_core.proofs.builder.Builder.wide.Goals as goal
 
 pub add_leaf-requires-clause-next : goal.add_leaf-requires-clause-next
-add_leaf-requires-clause-next g c = wide_next _ c.in-Wants-Primitive.primitive c.args.value (search rules) (inl c.in-U256.is) (search rules) (are_bytes c.args.value (λ i. search rules))
+add_leaf-requires-clause-next g c = wide_next _ c.in-Primitive.primitive c.args.value (search rules) (inl c.in-U256.is) (search rules) (are_bytes c.args.value (λ i. search rules))
 
 pub add_leaf-requires-in-I256-clause-next : goal.add_leaf-requires-in-I256-clause-next
-add_leaf-requires-in-I256-clause-next g c = wide_next _ c.in-Wants-Primitive.primitive c.args.value (search rules) (inr c.in-I256.is) (search rules) (are_bytes c.args.value (λ i. search rules))
+add_leaf-requires-in-I256-clause-next g c = wide_next _ c.in-Primitive.primitive c.args.value (search rules) (inr c.in-I256.is) (search rules) (are_bytes c.args.value (λ i. search rules))
