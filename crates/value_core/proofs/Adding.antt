@@ -3,12 +3,12 @@ use Rattle.std.proofs.Common.{Option, None, drop, ◌≡◌, ℕ, zero, suc, ◌
 use Rattle.std.proofs.lemmas.List.{length-map, map-append, take-append-le}
 use Rattle.scale_core.specs.Number.{AreBytes}
 use Rattle.registry_core.specs.declared.type_info.TypeInfo.{TypeInfo}
-use Rattle.value_core.specs.Tree.{Tree, none, levels, most_levels}
-use Rattle.value_core.specs.Grammar.{Val}
-use Rattle.value_core.specs.Parts.{Part}
-use Rattle.value_core.specs.Preorder as head
-use Rattle.value_core.specs.Preorder.{Head, head_of, tree_with}
-use Rattle.value_core.specs.Cells.{Cell, cells}
+use Rattle.grammar_core.specs.Tree.{Tree, none, levels, most_levels}
+use Rattle.grammar_core.specs.Grammar.{Val}
+use Rattle.grammar_core.specs.Parts.{Part}
+use Rattle.grammar_core.specs.Preorder as head
+use Rattle.grammar_core.specs.Preorder.{Head, head_of, tree_with}
+use Rattle.grammar_core.specs.Cells.{Cell, cells}
 use Rattle.value_core.specs.Shown.{head_shown, cell_shown, cells_shown, IsInPool, AreInPool}
 use Rattle.value_core.specs.Spine.{Kind, of_fields, of_arm, of_list, OpenNode, kind_head, open_part, open_cell, open_cells, IsOpen, Spine}
 use Rattle.value_core.specs.Walked.{OpenPart, Walked, first_in, advanced, opened, next_of}

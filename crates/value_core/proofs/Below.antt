@@ -11,16 +11,16 @@ use Rattle.widths_core.specs.Layouts.{layout}
 use Rattle.widths_core.specs.Layouts as layout
 use Rattle.widths_core.proofs.FirstArm.{arm_is_first}
 use Rattle.scale_core.proofs.Numbers.{front_bytes, rest_bytes}
-use Rattle.value_core.specs.Tree as tree
-use Rattle.value_core.specs.Tree.{Tree, Trees, none, and, how_many}
-use Rattle.value_core.specs.Grammar.{Val, Vals, Each}
-use Rattle.value_core.specs.Parts.{Part, each, times, left_after}
-use Rattle.value_core.specs.Cells.{Cell, cells, all_cells, next_type, fields_part, arm_part, list_part}
+use Rattle.grammar_core.specs.Tree as tree
+use Rattle.grammar_core.specs.Tree.{Tree, Trees, none, and, how_many}
+use Rattle.grammar_core.specs.Grammar.{Val, Vals, Each}
+use Rattle.grammar_core.specs.Parts.{Part, each, times, left_after}
+use Rattle.grammar_core.specs.Cells.{Cell, cells, all_cells, next_type, fields_part, arm_part, list_part}
+use Rattle.grammar_core.proofs.Texts.{texts_are_text}
 use Rattle.value_core.specs.Shown.{seen, seen_parts, children_by, cells_shown, tree_shown, type_shown, AreInPool, IsWhole, AreValues, IsForest, all_seen}
 use Rattle.value_core.specs.declared.node.Node.{Node}
 use Rattle.value_core.specs.declared.node.Content.TheVariants as content
 use Rattle.value_core.proofs.CellsOf.{cells_length, some_node, seen_is, split, all_seen_is}
-use Rattle.value_core.proofs.Texts.{texts_are_text}
 
 -- parts that have bytes are values
 vals_are : (r : List TypeInfo) (ts : List ℕ) (vs : Trees) (b : List ℕ) → AreBytes b → Vals r ts vs b → AreValues r (each ts) vs

@@ -5,10 +5,10 @@ use Rattle.std.proofs.lemmas.Simd.{map-map}
 use Rattle.std.proofs.Math.Seq.{take-append_seam, drop-append_seam}
 use Rattle.registry_core.specs.declared.type_info.TypeInfo.{TypeInfo}
 use Rattle.widths_core.specs.Layouts.{layout}
-use Rattle.value_core.specs.Tree.{Tree, unit, bool, char, text, unsigned, signed, wide, compact, fields, arm, list, count, Trees, none, and, how_many, nodes, all_nodes}
-use Rattle.value_core.specs.Preorder.{Head, preorder, all_preorder, tree_of, tree_of-preorder}
-use Rattle.value_core.specs.Parts.{Part, left_after}
-use Rattle.value_core.specs.Cells.{Cell, cells, all_cells, next_type, fields_part, arm_part, list_part}
+use Rattle.grammar_core.specs.Tree.{Tree, unit, bool, char, text, unsigned, signed, wide, compact, fields, arm, list, count, Trees, none, and, how_many, nodes, all_nodes}
+use Rattle.grammar_core.specs.Preorder.{Head, preorder, all_preorder, tree_of, tree_of-preorder}
+use Rattle.grammar_core.specs.Parts.{Part, left_after}
+use Rattle.grammar_core.specs.Cells.{Cell, cells, all_cells, next_type, fields_part, arm_part, list_part}
 use Rattle.value_core.specs.Shown.{seen_parts, cell_shown, cells_shown, tree_shown, type_shown, AreInPool, IsWhole, forest, all_seen}
 use Rattle.value_core.specs.declared.node.Node.{Node}
 

@@ -3,17 +3,17 @@ use Rattle.std.proofs.Common.{Option, ◌≡◌, ℕ, zero, suc, ◌+◌, ◌-�
 use Rattle.std.specs.Prelude.{slice_get, slice_set}
 use Rattle.std.proofs.lemmas.List.{length-map}
 use Rattle.registry_core.specs.declared.type_info.TypeInfo.{TypeInfo}
-use Rattle.value_core.specs.Parts.{Part, times, first_of}
-use Rattle.value_core.specs.Cells.{Cell}
+use Rattle.grammar_core.specs.Parts.{Part, times, first_of}
+use Rattle.grammar_core.specs.Cells.{Cell}
 use Rattle.value_core.specs.Shown.{cell_shown, cells_shown, IsInPool, AreInPool}
 use Rattle.value_core.specs.Spine.{OpenNode, open_part, Spine}
 use Rattle.value_core.specs.Walked.{OpenPart, Walked, Closes, first_in, next_of}
 use Rattle.value_core.specs.Built.{Pieces, entries_shown, entries_text_bytes, settled_in, settled}
 use Rattle.value_core.specs.Building.{IsBuilding, IsOpenText, pieces_shown}
 use Rattle.registry_core.specs.declared.primitive.Primitive.TheVariants as P
-use Rattle.value_core.specs.declared.form.Form.{Form}
-use Rattle.value_core.specs.declared.form.Form.TheVariants as form
-use Rattle.value_core.specs.declared.form.Next.TheVariants as next
+use Rattle.grammar_core.specs.declared.form.Form.{Form}
+use Rattle.grammar_core.specs.declared.form.Form.TheVariants as form
+use Rattle.grammar_core.specs.declared.form.Next.TheVariants as next
 use Rattle.value_core.specs.declared.open_text.OpenText.{OpenText}
 use Rattle.value_core.proofs.Forms.{wanted}
 use Rattle.value_core.specs.declared.node.Node.{Node}

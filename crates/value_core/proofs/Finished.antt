@@ -4,10 +4,10 @@ use Rattle.std.proofs.lemmas.Simd.{map-map}
 use Rattle.std.specs.Prelude.{is_none}
 use Rattle.registry_core.specs.declared.type_info.TypeInfo.{TypeInfo}
 use Rattle.widths_core.specs.Layouts.{layout}
-use Rattle.value_core.specs.Tree as tree
-use Rattle.value_core.specs.Tree.{Tree, Trees, none, and, how_many, text_bytes, all_text_bytes}
-use Rattle.value_core.specs.Parts.{Part, times, first_of, left_after}
-use Rattle.value_core.specs.Cells.{Cell, cells, all_cells, next_type, fields_part, arm_part, list_part}
+use Rattle.grammar_core.specs.Tree as tree
+use Rattle.grammar_core.specs.Tree.{Tree, Trees, none, and, how_many, text_bytes, all_text_bytes}
+use Rattle.grammar_core.specs.Parts.{Part, times, first_of, left_after}
+use Rattle.grammar_core.specs.Cells.{Cell, cells, all_cells, next_type, fields_part, arm_part, list_part}
 use Rattle.value_core.specs.Shown.{seen, cells_shown, tree_shown, type_shown, head_shown, IsWhole}
 use Rattle.value_core.specs.Spine.{OpenNode, Spine}
 use Rattle.value_core.specs.Walked.{OpenPart, Walked}

@@ -12,14 +12,14 @@ use Rattle.widths_core.specs.Targets.{target_of}
 use Rattle.widths_core.specs.Classes.{is_finite, is_empty}
 use Rattle.widths_core.specs.Layouts.{Layout, layout, layout_of_shape, sized_layout, primitive_layout, sequence_layout, compact_layout}
 use Rattle.widths_core.specs.Layouts as layout
-use Rattle.value_core.specs.declared.form.Form.{Form}
-use Rattle.value_core.specs.declared.form.Form.TheVariants as form
-use Rattle.value_core.specs.declared.form.StopReason.{StopReason}
-use Rattle.value_core.specs.declared.form.StopReason.TheVariants as stop
-use Rattle.value_core.specs.declared.form.Next.TheVariants as next
-use Rattle.value_core.specs.Forms.{form_of, form_of_shape, sequence_form, compact_form, next_at}
+use Rattle.grammar_core.specs.declared.form.Form.{Form}
+use Rattle.grammar_core.specs.declared.form.Form.TheVariants as form
+use Rattle.grammar_core.specs.declared.form.StopReason.{StopReason}
+use Rattle.grammar_core.specs.declared.form.StopReason.TheVariants as stop
+use Rattle.grammar_core.specs.declared.form.Next.TheVariants as next
+use Rattle.grammar_core.specs.Forms.{form_of, form_of_shape, sequence_form, compact_form, next_at}
+use Rattle.grammar_core.proofs.Classes.{shapeless}
 use Rattle.value_core.specs.Walked.{Walked, next_type, next_of, next_from}
-use Rattle.value_core.proofs.Classes.{shapeless}
 
 -- ---- forms
 

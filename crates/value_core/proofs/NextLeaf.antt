@@ -13,13 +13,13 @@ use Rattle.registry_core.specs.declared.primitive.Primitive.{Primitive}
 use Rattle.registry_core.specs.declared.primitive.Primitive.TheVariants as P
 use Rattle.widths_core.specs.Layouts.{Layout, layout, primitive_layout}
 use Rattle.widths_core.specs.Layouts as layout
-use Rattle.value_core.specs.Grammar.{Val}
-use Rattle.value_core.specs.Preorder as head
+use Rattle.grammar_core.specs.Grammar.{Val}
+use Rattle.grammar_core.specs.Preorder as head
+use Rattle.grammar_core.specs.declared.form.Form.TheVariants as form
+use Rattle.grammar_core.specs.declared.form.Next.TheVariants as next
 use Rattle.value_core.specs.Built.{IsNextLeaf}
 use Rattle.value_core.specs.Refusals.{greatest_unsigned, greatest_signed, is_within}
 use Rattle.value_core.specs.Walked.{Walked, next_of}
-use Rattle.value_core.specs.declared.form.Form.TheVariants as form
-use Rattle.value_core.specs.declared.form.Next.TheVariants as next
 use Rattle.value_core.proofs.Adding.{both_bytes}
 use Rattle.value_core.proofs.Forms.{wanted, empty_layout, primitive_has_layout, compact_has_layout, count_layout}
 

@@ -7,15 +7,15 @@ use Rattle.scale_core.proofs.Forms.{are_compact}
 use Rattle.registry_core.specs.declared.definition.Arm.{Arm}
 use Rattle.widths_core.specs.Types.{field_types}
 use Rattle.widths_core.specs.Arms.{arm_of}
-use Rattle.value_core.specs.Grammar.{Val}
-use Rattle.value_core.specs.Parts.{Part, each, how_many_left}
-use Rattle.value_core.specs.Preorder as head
+use Rattle.grammar_core.specs.Grammar.{Val}
+use Rattle.grammar_core.specs.Parts.{Part, each, how_many_left}
+use Rattle.grammar_core.specs.Preorder as head
+use Rattle.grammar_core.specs.declared.form.Form.TheVariants as form
+use Rattle.grammar_core.specs.declared.form.Next.TheVariants as next
 use Rattle.value_core.specs.Spine.{of_fields, of_arm, of_list}
 use Rattle.value_core.specs.Built.{IsNextOpen}
 use Rattle.value_core.specs.Opened.{OpensFields, OpensArm, OpensArray, OpensSequence}
 use Rattle.value_core.specs.Walked.{Walked, next_of}
-use Rattle.value_core.specs.declared.form.Form.TheVariants as form
-use Rattle.value_core.specs.declared.form.Next.TheVariants as next
 use Rattle.value_core.proofs.Forms.{wanted}
 use Rattle.value_core.proofs.Adding.{some_is}
 

@@ -14,11 +14,11 @@ use Rattle.widths_core.specs.Classes.{is_empty}
 use Rattle.widths_core.specs.Targets.{target_of}
 use Rattle.widths_core.specs.Layouts.{Layout, layout, layout_of_shape, sized_layout, sequence_layout}
 use Rattle.widths_core.specs.Layouts as layout
-use Rattle.value_core.specs.declared.form.Form.{Form}
-use Rattle.value_core.specs.declared.form.Form.TheVariants as form
-use Rattle.value_core.specs.declared.form.Next.TheVariants as next
-use Rattle.value_core.specs.Forms.{form_of, form_of_shape, sequence_form, compact_form}
-use Rattle.value_core.specs.Parts.{each, times}
+use Rattle.grammar_core.specs.declared.form.Form.{Form}
+use Rattle.grammar_core.specs.declared.form.Form.TheVariants as form
+use Rattle.grammar_core.specs.declared.form.Next.TheVariants as next
+use Rattle.grammar_core.specs.Forms.{form_of, form_of_shape, sequence_form, compact_form}
+use Rattle.grammar_core.specs.Parts.{each, times}
 use Rattle.value_core.specs.Walked.{Walked, next_type, next_of}
 use Rattle.value_core.specs.Opened.{shape_at, next_shape, OpensFields, OpensArm, OpensArray, OpensSequence}
 use Rattle.value_core.proofs.Forms.{wanted}

@@ -1,6 +1,6 @@
 -- The bytes of a node as it is kept: what is computed, and behind it what lies in the pool.
-use Rattle.std.proofs.Common.{◌≡◌, ℕ, zero, suc, ◌+◌, ◌-◌, ◌*◌, ◌^◌, ◌≤◌, ◌<◌, Bool, true, false, cond, List, [], ◌∷◌, ◌++◌, length, take, drop, Option, refl, sym, ap, subst, ◌∙◌, arith}
-use Rattle.std.specs.Prelude.{pos, negsuc, neg_ℤ, nat_lt, slice_set, slice_range}
+use Rattle.std.proofs.Common.{◌≡◌, ℕ, ◌+◌, ◌-◌, ◌*◌, ◌^◌, ◌≤◌, ◌<◌, Bool, true, false, cond, List, [], ◌∷◌, ◌++◌, length, take, drop, Option, refl, sym, ap, subst, ◌∙◌, arith}
+use Rattle.std.specs.Prelude.{pos, neg_ℤ, nat_lt, slice_set, slice_range}
 use mir.Val.{bool_byte as byte_of}
 use Rattle.std.specs.Int.{w32, w128, from_le_bytes, to_le_bytes}
 use Rattle.std.proofs.lemmas.List.{append-nil, take_at, length-take, length-drop}
@@ -9,8 +9,10 @@ use Rattle.scale_core.specs.Number.{le_bytes, bool_byte}
 use Rattle.scale_core.proofs.Numbers.{length-le_bytes}
 use Rattle.scale_core.proofs.Fronts.{take-to_le_bytes_16, to_le_bytes_4}
 use Rattle.registry_core.specs.declared.definition.TypeDef.{TypeDef}
+use Rattle.grammar_core.specs.Spelled.{width_of, word, index_of, index_byte, length_bytes}
+use Rattle.grammar_core.proofs.Spelled.{neg-pos}
 use Rattle.value_core.specs.Shown.{signed_from}
-use Rattle.value_core.specs.Spelled.{width_of, word, index_of, index_byte, length_bytes, Starts}
+use Rattle.value_core.specs.Encoding.{Starts}
 use Rattle.value_core.specs.declared.node.Content.{Content}
 use Rattle.value_core.specs.declared.node.Content.TheVariants as is
 
@@ -34,10 +36,6 @@ char_front part back spelled n x front all same =
     take_at part back 4 (ap length is) ∙ is
 
 -- ---- an integer in two's complement
-
-pub neg-pos : (x : ℕ) → 0 < x → neg_ℤ (pos x) ≡ negsuc (x - 1)
-neg-pos zero h = absurd (omega arith)
-neg-pos (suc x) h = ap negsuc (omega arith)
 
 word_by : (n : ℕ) (b : Bool) → n < 2 ^ 128 → word (cond b (pos n) (neg_ℤ (pos (2 ^ 128 - n)))) ≡ n
 word_by n true h = refl

@@ -3,9 +3,13 @@ use Rattle.std.proofs.Common.{◌≡◌, ℕ, zero, suc, ◌+◌, ◌-◌, ◌^�
 use Rattle.std.specs.Prelude.{min}
 use Rattle.std.proofs.Math.Seq.{take-add}
 use Rattle.std.proofs.lemmas.List.Folds.{flat_map-map}
+use Rattle.scale_core.specs.Number.{AreBytes}
 use Rattle.registry_core.specs.declared.type_info.TypeInfo.{TypeInfo}
-use Rattle.value_core.specs.Shown.{Seen, seen, cell_shown, IsWhole}
-use Rattle.value_core.specs.Spelled.{encoding, cell_bytes, node_bytes, AppendsFront}
+use Rattle.grammar_core.specs.Spelled.{cell_bytes}
+use Rattle.grammar_core.specs.Grammar.{Val}
+use Rattle.grammar_core.proofs.Spelled.{encoded_is_value}
+use Rattle.value_core.specs.Shown.{Seen, seen, cell_shown, IsValue, IsWhole}
+use Rattle.value_core.specs.Encoding.{encoding, IsEncoding, node_bytes, AppendsFront}
 use Rattle.value_core.specs.declared.node.Node.{Node}
 use Rattle.std.specs.Io.KnownBytes.{Appends}
 
@@ -53,6 +57,12 @@ pub sent_part : (front back whole : List ℕ) (w : ℕ) → front ++ back ≡ wh
 sent_part front back whole w e h = omega (arith, h, long_whole front back whole e)
 
 -- ---- all nodes
+
+-- what a value is in bytes by the grammar
+pub is_encoding : (s : Seen) → IsValue s → IsEncoding s (encoding s)
+is_encoding s h =
+    let same : h.0 ≡ encoding s = sym (encoded_is_value s.types s.ty s.tree h.0 h.1 h.2) in
+    (subst AreBytes same h.1, subst (Val s.types s.ty s.tree) same h.2)
 
 -- the nodes of a value spell it
 pub nodes_spell : (r : List TypeInfo) (pool : List ℕ) (ns : List Node) (s : Seen) → IsWhole r pool ns → seen r pool ns ≡ s → flat_map (node_bytes r pool) ns ≡ encoding s

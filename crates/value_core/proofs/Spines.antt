@@ -4,13 +4,13 @@ use Rattle.std.proofs.lemmas.List.{append-nil}
 use Rattle.registry_core.specs.declared.type_info.TypeInfo.{TypeInfo}
 use Rattle.widths_core.specs.Layouts.{layout}
 use Rattle.widths_core.specs.Layouts as layout
-use Rattle.value_core.specs.Tree.{Tree, Trees, none, and, how_many, levels, most_levels, all_nodes}
-use Rattle.value_core.specs.Grammar.{Val, Vals, Each}
-use Rattle.value_core.specs.Parts.{Part, each, times, first_of, left_after}
-use Rattle.value_core.specs.Cells.{Cell, cells, all_cells, fields_part, arm_part, list_part}
+use Rattle.grammar_core.specs.Tree.{Tree, Trees, none, and, how_many, levels, most_levels, all_nodes}
+use Rattle.grammar_core.specs.Grammar.{Val, Vals, Each}
+use Rattle.grammar_core.specs.Parts.{Part, each, times, first_of, left_after}
+use Rattle.grammar_core.specs.Cells.{Cell, cells, all_cells, fields_part, arm_part, list_part}
+use Rattle.grammar_core.proofs.Bounds.{same_length}
 use Rattle.value_core.specs.Walked.{OpenPart}
 use Rattle.value_core.specs.Spine.{Kind, of_fields, of_arm, of_list, OpenNode, kind_head, kind_tree, kind_part, open_cell, open_cells, IsFieldsOpen, IsArmOpen, IsListOpen, IsOpenAs, IsOpen, open_part, Spine}
-use Rattle.value_core.proofs.Bounds.{same_length}
 use Rattle.value_core.proofs.Below.{arm_part_is}
 use Rattle.value_core.proofs.CellsOf.{all_cells_length}
 

@@ -1,11 +1,11 @@
 -- What a form tells that is wanted for a whole node.
 use Rattle.std.proofs.Common.{◌≡◌, Option, Some, None, Ok, refl, ap}
+use Rattle.grammar_core.specs.declared.form.Form.{Form}
+use Rattle.grammar_core.specs.declared.form.Next.{Next}
+use Rattle.grammar_core.specs.declared.form.Next.TheVariants as next
 use Rattle.value_core.specs.Built.{Built, Pieces}
 use Rattle.value_core.specs.Refusals.{while_closed, wanted_from, wanted_of}
 use Rattle.value_core.specs.Walked.{next_of}
-use Rattle.value_core.specs.declared.form.Form.{Form}
-use Rattle.value_core.specs.declared.form.Next.{Next}
-use Rattle.value_core.specs.declared.form.Next.TheVariants as next
 
 closed_by : (text : Option Pieces) (f g : Form) → while_closed text f ≡ Ok g → (f ≡ g) × (text ≡ None)
 closed_by None f g e = (cc, refl)

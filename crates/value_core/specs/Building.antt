@@ -6,8 +6,8 @@ use Rattle.value_core.specs.Shown.{cells_shown, AreInPool}
 use Rattle.value_core.specs.Spine.{OpenNode, Spine}
 use Rattle.value_core.specs.Walked.{Walked, next_of}
 use Rattle.registry_core.specs.declared.primitive.Primitive.TheVariants as P
-use Rattle.value_core.specs.declared.form.Form.TheVariants as form
-use Rattle.value_core.specs.declared.form.Next.TheVariants as next
+use Rattle.grammar_core.specs.declared.form.Form.TheVariants as form
+use Rattle.grammar_core.specs.declared.form.Next.TheVariants as next
 use Rattle.value_core.specs.declared.node.Node.{Node}
 use Rattle.value_core.specs.declared.open_text.OpenText.{OpenText}
 

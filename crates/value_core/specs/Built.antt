@@ -7,12 +7,12 @@ use Rattle.widths_core.specs.Arms.{arm_of}
 use Rattle.widths_core.specs.Classes.{is_finite}
 use Rattle.widths_core.specs.Layouts.{Layout, layout}
 use Rattle.widths_core.specs.Layouts as layout
-use Rattle.value_core.specs.Tree.{none}
-use Rattle.value_core.specs.Grammar.{Val}
-use Rattle.value_core.specs.Cells.{fields_part, list_part}
-use Rattle.value_core.specs.Parts.{Part, each, first_of, how_many_left}
-use Rattle.value_core.specs.Preorder as head
-use Rattle.value_core.specs.Preorder.{Head, tree_with, tree_of}
+use Rattle.grammar_core.specs.Tree.{none}
+use Rattle.grammar_core.specs.Grammar.{Val}
+use Rattle.grammar_core.specs.Cells.{fields_part, list_part}
+use Rattle.grammar_core.specs.Parts.{Part, each, first_of, how_many_left}
+use Rattle.grammar_core.specs.Preorder as head
+use Rattle.grammar_core.specs.Preorder.{Head, tree_with, tree_of}
 use Rattle.value_core.specs.Shown.{Seen, head_shown}
 use Rattle.value_core.specs.Spine.{Kind, kind_head, IsOpenAs}
 use Rattle.value_core.specs.Walked.{OpenPart, Walked, next_type, advanced, opened}

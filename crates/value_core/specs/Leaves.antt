@@ -1,8 +1,8 @@
 -- A node without children, before it is added to a value.
 use Rattle.std.specs.Prelude.{◌≡◌, ℕ, ◌<◌, ◌^◌, List, [], length, FitsSigned}
 use Rattle.std.specs.Int.{w128}
-use Rattle.value_core.specs.Preorder as head
-use Rattle.value_core.specs.Preorder.{Head}
+use Rattle.grammar_core.specs.Preorder as head
+use Rattle.grammar_core.specs.Preorder.{Head}
 use Rattle.value_core.specs.declared.leaf.Leaf.{Leaf}
 use Rattle.value_core.specs.declared.leaf.Leaf.TheVariants as leaf
 

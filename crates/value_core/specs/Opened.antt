@@ -7,7 +7,7 @@ use Rattle.widths_core.specs.Arms.{arm_of}
 use Rattle.widths_core.specs.Layouts.{layout}
 use Rattle.widths_core.specs.Layouts as layout
 use Rattle.widths_core.specs.Types.{shape, field_types}
-use Rattle.value_core.specs.Parts.{Part, each, times}
+use Rattle.grammar_core.specs.Parts.{Part, each, times}
 use Rattle.value_core.specs.Walked.{Walked, next_type}
 
 abbrev pub shape_at : List TypeInfo → Option ℕ → Option TypeDef

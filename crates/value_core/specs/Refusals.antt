@@ -7,18 +7,18 @@ use Rattle.registry_core.specs.declared.primitive.Primitive.{Primitive}
 use Rattle.registry_core.specs.declared.primitive.Primitive.TheVariants as P
 use Rattle.registry_core.specs.declared.definition.Arm.{Arm}
 use Rattle.registry_core.specs.declared.type_info.TypeInfo.{TypeInfo}
-use Rattle.value_core.specs.Parts.{first_of}
+use Rattle.grammar_core.specs.Parts.{first_of}
+use Rattle.grammar_core.specs.declared.form.Form.{Form}
+use Rattle.grammar_core.specs.declared.form.Form.TheVariants as form
+use Rattle.grammar_core.specs.declared.form.Next.{Next}
+use Rattle.grammar_core.specs.declared.form.Next.TheVariants as next
+use Rattle.grammar_core.specs.declared.form.StopReason.{StopReason}
+use Rattle.grammar_core.specs.declared.form.StopReason.TheVariants as stop
 use Rattle.value_core.specs.Built.{Built, Pieces, pieces_bytes, arm_in, next_layout}
 use Rattle.value_core.specs.Shown.{Seen}
 use Rattle.value_core.specs.Walked.{OpenPart, next_of}
 use Rattle.value_core.specs.declared.build_fault.BuildFault.{BuildFault}
 use Rattle.value_core.specs.declared.build_fault.BuildFault.TheVariants as fault
-use Rattle.value_core.specs.declared.form.Form.{Form}
-use Rattle.value_core.specs.declared.form.Form.TheVariants as form
-use Rattle.value_core.specs.declared.form.Next.{Next}
-use Rattle.value_core.specs.declared.form.Next.TheVariants as next
-use Rattle.value_core.specs.declared.form.StopReason.{StopReason}
-use Rattle.value_core.specs.declared.form.StopReason.TheVariants as stop
 
 abbrev pub fault_of : StopReason → BuildFault
 fault_of stop.TooDeep = fault.TooDeep

@@ -5,13 +5,13 @@ use Rattle.std.specs.Int.{w128, from_le_bytes}
 use Rattle.scale_core.specs.Number.{AreBytes}
 use Rattle.registry_core.specs.declared.type_info.TypeInfo.{TypeInfo}
 use Rattle.widths_core.specs.Layouts.{layout}
-use Rattle.value_core.specs.Tree as tree
-use Rattle.value_core.specs.Tree.{Tree, Trees, none, and, text_bytes}
-use Rattle.value_core.specs.Grammar.{Val}
-use Rattle.value_core.specs.Preorder as head
-use Rattle.value_core.specs.Preorder.{Head, tree_of}
-use Rattle.value_core.specs.Parts.{Part, left_after}
-use Rattle.value_core.specs.Cells.{Cell, cells, all_cells, next_type, fields_part, arm_part, list_part}
+use Rattle.grammar_core.specs.Tree as tree
+use Rattle.grammar_core.specs.Tree.{Tree, Trees, none, and, text_bytes}
+use Rattle.grammar_core.specs.Grammar.{Val}
+use Rattle.grammar_core.specs.Preorder as head
+use Rattle.grammar_core.specs.Preorder.{Head, tree_of}
+use Rattle.grammar_core.specs.Parts.{Part, left_after}
+use Rattle.grammar_core.specs.Cells.{Cell, cells, all_cells, next_type, fields_part, arm_part, list_part}
 use Rattle.value_core.specs.declared.node.Content.{Content}
 use Rattle.value_core.specs.declared.node.Content.TheVariants as is
 use Rattle.value_core.specs.declared.node.Node.{Node}

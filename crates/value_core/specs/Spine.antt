@@ -9,13 +9,13 @@ use Rattle.widths_core.specs.Arms.{arm_of}
 use Rattle.widths_core.specs.Classes.{is_finite}
 use Rattle.widths_core.specs.Layouts.{layout}
 use Rattle.widths_core.specs.Layouts as layout
-use Rattle.value_core.specs.Tree as tree
-use Rattle.value_core.specs.Tree.{Tree, Trees, how_many, levels, most_levels}
-use Rattle.value_core.specs.Grammar.{Val, Vals, Each}
-use Rattle.value_core.specs.Parts.{Part, each, times, first_of, left_after}
-use Rattle.value_core.specs.Preorder as head
-use Rattle.value_core.specs.Preorder.{Head}
-use Rattle.value_core.specs.Cells.{Cell, cells, all_cells, fields_part, arm_part, list_part}
+use Rattle.grammar_core.specs.Tree as tree
+use Rattle.grammar_core.specs.Tree.{Tree, Trees, how_many, levels, most_levels}
+use Rattle.grammar_core.specs.Grammar.{Val, Vals, Each}
+use Rattle.grammar_core.specs.Parts.{Part, each, times, first_of, left_after}
+use Rattle.grammar_core.specs.Preorder as head
+use Rattle.grammar_core.specs.Preorder.{Head}
+use Rattle.grammar_core.specs.Cells.{Cell, cells, all_cells, fields_part, arm_part, list_part}
 use Rattle.value_core.specs.Walked.{OpenPart}
 
 pub data Kind : Type 0 where

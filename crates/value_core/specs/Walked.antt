@@ -1,11 +1,11 @@
 -- What contracts see of a walk through a value, and what is next there.
 use Rattle.std.specs.Prelude.{◌≡◌, ◌≢◌, ℕ, ◌+◌, ◌-◌, ◌≤◌, List, [], ◌∷◌, length, Option, Some, None, nat_lt, if◌then◌else◌}
 use Rattle.registry_core.specs.declared.type_info.TypeInfo.{TypeInfo}
-use Rattle.value_core.specs.Parts.{Part, times, first_of, left_after}
-use Rattle.value_core.specs.Forms.{next_at}
-use Rattle.value_core.specs.declared.form.StopReason.TheVariants as stop
-use Rattle.value_core.specs.declared.form.Next.{Next}
-use Rattle.value_core.specs.declared.form.Next.TheVariants as next
+use Rattle.grammar_core.specs.Parts.{Part, times, first_of, left_after}
+use Rattle.grammar_core.specs.Forms.{next_at}
+use Rattle.grammar_core.specs.declared.form.StopReason.TheVariants as stop
+use Rattle.grammar_core.specs.declared.form.Next.{Next}
+use Rattle.grammar_core.specs.declared.form.Next.TheVariants as next
 
 -- a node that is open, by its place among the nodes, and what is left of its parts
 pub record OpenPart : Type 0 where

@@ -2,15 +2,15 @@
 
 ghost use Rattle.std.specs.Prelude.{◌≡◌, ◌-◌, ◌^◌};
 ghost use Rattle.scale_core.specs.Compact.{target_bytes};
+ghost use Rattle.grammar_core.specs.Preorder as head;
 ghost use Rattle.value_core.specs.Built.{with_leaf, with_fields, with_arm, with_list};
-ghost use Rattle.value_core.specs.Preorder as head;
 ghost use Rattle.value_core.specs.Refusals.{Adds, judged, judged_arm, greatest_unsigned, greatest_signed, is_within, suits_char, suits_signed, suits_empty, suits_bool, suits_text, suits_unsigned, suits_wide, suits_compact, suits_count, suits_fields, suits_list};
 
 use crate::build_fault::BuildFault;
 use crate::builder::Builder;
-use crate::form::Form;
 use crate::leaf::Leaf;
 use crate::node::Content;
+use grammar_core::Form;
 use registry_core::Primitive;
 use scale_core::Target;
 use std::alloc::Allocator;

@@ -3,7 +3,7 @@
 ghost use Rattle.std.specs.Prelude.{◌≡◌};
 ghost use Rattle.value_core.specs.Refusals.{fault_of};
 
-use crate::form::StopReason;
+use grammar_core::StopReason;
 use std::alloc::AllocError;
 
 /// Why a builder refuses a call; the builder stays as it was. Of several reasons an adding call tells the first of this

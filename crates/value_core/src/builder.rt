@@ -9,14 +9,13 @@ ghost use Rattle.value_core.specs.Walked.{advanced, next_of, opened, start_of};
 ghost use Rattle.value_core.specs.Leaves.{leaf_head, FitsLeaf};
 
 use crate::build_fault::BuildFault;
-use crate::form::{Form, Next};
 use crate::leaf::Leaf;
 use crate::left::Left;
-use crate::limits::MAX_DEPTH;
 use crate::node::{Content, Node};
 use crate::open_text::OpenText;
 use crate::value::Value;
 use crate::walk::Walk;
+use grammar_core::{Form, MAX_DEPTH, Next};
 use registry_core::{Primitive, TypeId};
 use simdutf8::compat::from_utf8;
 use std::alloc::{AllocError, Allocator};

@@ -20,7 +20,7 @@ pub struct Children<'v, 'r> {
 impl<'v, 'r> Model for Children<'v, 'r> {
     ghost use Rattle.std.specs.Prelude.{List};
     ghost use Rattle.std.specs.Coded.{codes};
-    ghost use Rattle.value_core.specs.Preorder.{tree_code};
+    ghost use Rattle.grammar_core.specs.Preorder.{tree_code};
     ghost use Rattle.value_core.specs.Shown.{Seen, all_seen, IsForest};
 
     ghost Value = { List Seen };

@@ -1,8 +1,8 @@
 //! What is left of the parts of an open node, lent from the registry.
 
 ghost use Rattle.std.specs.Prelude.{◌≡◌, option_map};
+ghost use Rattle.grammar_core.specs.Parts.{first_of, left_after, how_many_left};
 ghost use Rattle.value_core.specs.Frames.{left_of};
-ghost use Rattle.value_core.specs.Parts.{first_of, left_after, how_many_left};
 
 use registry_core::{Field, TypeId};
 

@@ -1,15 +1,12 @@
-//! Values of the types of a registry: what they are, what they are in bytes, and what holds of all of them.
+//! Values of the types of a registry: built node by node, looked at, and written.
 #![tactic(auto)]
 
 mod adding_calls;
 mod build_fault;
 mod builder;
 mod children;
-mod form;
-pub mod laws;
 mod leaf;
 mod left;
-mod limits;
 mod node;
 mod node_ref;
 mod open_text;
@@ -22,8 +19,7 @@ mod writing;
 pub use build_fault::BuildFault;
 pub use builder::Builder;
 pub use children::Children;
-pub use form::{Form, Next, StopReason};
-pub use limits::Limits;
+pub use grammar_core::{Form, Limits, Next, StopReason, laws};
 pub use node_ref::NodeRef;
 pub use value::Value;
 pub use walk::Walk;

@@ -21,7 +21,7 @@ pub struct NodeRef<'v, 'r> {
 
 impl<'v, 'r> Model for NodeRef<'v, 'r> {
     ghost use Rattle.std.specs.Coded.{codes};
-    ghost use Rattle.value_core.specs.Preorder.{tree_code};
+    ghost use Rattle.grammar_core.specs.Preorder.{tree_code};
     ghost use Rattle.value_core.specs.Shown.{Seen, seen, IsWhole};
 
     ghost Value = { Seen };

@@ -6,7 +6,7 @@ ghost use Rattle.value_core.specs.Refusals.{Adds, judged, judged_end, judged_pie
 
 use crate::build_fault::BuildFault;
 use crate::builder::Builder;
-use crate::form::Form;
+use grammar_core::Form;
 use registry_core::Primitive;
 use std::alloc::Allocator;
 

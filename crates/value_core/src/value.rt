@@ -1,7 +1,7 @@
 //! A finished value.
 
 ghost use Rattle.std.specs.Prelude.{◌≡◌, length};
-ghost use Rattle.value_core.specs.Tree.{nodes, text_bytes};
+ghost use Rattle.grammar_core.specs.Tree.{nodes, text_bytes};
 ghost use Rattle.value_core.specs.Shown.{IsValue, IsWhole, seen, tree_shown};
 
 use crate::node::Node;
@@ -23,8 +23,8 @@ pub struct Value<'r, A: Allocator> {
 impl<'r, A: Allocator> Model for Value<'r, A> {
     ghost use Rattle.std.specs.Coded.{codes};
     ghost use Rattle.std.specs.Prelude.{◌≡◌};
-    ghost use Rattle.value_core.specs.Tree.{text_bytes};
-    ghost use Rattle.value_core.specs.Preorder.{tree_code};
+    ghost use Rattle.grammar_core.specs.Tree.{text_bytes};
+    ghost use Rattle.grammar_core.specs.Preorder.{tree_code};
     ghost use Rattle.value_core.specs.Shown.{Seen, seen, tree_shown, IsWhole};
 
     ghost Value = { Seen };

@@ -6,9 +6,8 @@ ghost use Rattle.value_core.specs.Opened.{next_shape, OpensFields, OpensArm, Ope
 ghost use Rattle.value_core.specs.Refusals.{is_whole_in};
 ghost use Rattle.value_core.specs.Walked.{start_of, next_type, next_of, depth_of, advanced, opened, Closes, IsBounded};
 
-use crate::form::{Form, Next, StopReason, next_at, shape};
 use crate::left::{Frame, Left};
-use crate::limits::MAX_DEPTH;
+use grammar_core::{Form, MAX_DEPTH, Next, StopReason, next_at, shape};
 use registry_core::{TypeDef, TypeId};
 use std::alloc::{AllocError, Allocator};
 use std::marker::Model;

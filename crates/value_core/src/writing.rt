@@ -5,12 +5,13 @@ ghost use Rattle.std.specs.Int.{w128, from_le_bytes};
 ghost use Rattle.std.specs.Io.KnownBytes.{Appends};
 ghost use Rattle.scale_core.specs.Number.{le_bytes};
 ghost use Rattle.widths_core.specs.Types.{shape};
+ghost use Rattle.grammar_core.specs.Spelled.{byte_width, width_of, index_of, index_byte, is_sequence, length_bytes};
 ghost use Rattle.value_core.specs.Shown.{IsInPool};
-ghost use Rattle.value_core.specs.Spelled.{byte_width, width_of, index_of, index_byte, is_sequence, length_bytes, node_bytes, pool_bytes, Starts, encoding, IsEncoding, AppendsFront};
+ghost use Rattle.value_core.specs.Encoding.{node_bytes, pool_bytes, Starts, encoding, IsEncoding, AppendsFront};
 
-use crate::form::shape;
 use crate::node::{Content, Node};
 use crate::value::Value;
+use grammar_core::shape;
 use registry_core::{Primitive, TypeDef, TypeId};
 use scale_core::{Sink, SinkFault, put_compact};
 use std::alloc::Allocator;

@@ -2,9 +2,8 @@ use Rattle.std.proofs.Common.{flat_map, subst, refl, length, ap, ◌∙◌, arit
 use Rattle.std.specs.Io.KnownBytes.{Appends}
 use Rattle.std.proofs.lemmas.List.{take_all}
 use Rattle.value_core.specs.Shown.{IsValue}
-use Rattle.value_core.specs.Spelled.{node_bytes, encoding}
-use Rattle.value_core.proofs.Spelled.{is_encoding}
-use Rattle.value_core.proofs.SpelledParts.{nodes_spell, stops, told_part, told_exactly, no_own}
+use Rattle.value_core.specs.Encoding.{node_bytes, encoding}
+use Rattle.value_core.proofs.SpelledParts.{is_encoding, nodes_spell, stops, told_part, told_exactly, no_own}
 use Rattle.value_core.proofs.writing.encode.Goals as goal
 
 pub returns-in-Err-clause-value : goal.returns-in-Err-clause-value

@@ -1,7 +1,7 @@
 use Rattle.std.proofs.Common.{◌≡◌, ◌-◌, ◌^◌, length, take, flat_map}
 use Rattle.std.specs.Prelude.{min}
 use Rattle.std.specs.Io.KnownBytes.{Appends}
-use Rattle.value_core.specs.Spelled.{node_bytes}
+use Rattle.value_core.specs.Encoding.{node_bytes}
 use Rattle.value_core.proofs.writing.encode.Given as goal
 
 abbrev pub invariant-nodes : goal.invariant-nodes

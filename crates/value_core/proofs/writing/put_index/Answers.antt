@@ -1,5 +1,5 @@
 use Rattle.std.proofs.Common.{ap, ◌∙◌, arith}
-use Rattle.value_core.specs.Spelled.{index_byte}
+use Rattle.grammar_core.specs.Spelled.{index_byte}
 use Rattle.value_core.proofs.SpelledNodes.{one_front}
 use Rattle.value_core.proofs.writing.put_index.Goals as goal
 

@@ -1,7 +1,7 @@
 use Rattle.std.proofs.Common.{◌≡◌, ◌++◌, ◌≤◌, length, take, ap, ◌∙◌, arith}
 use Rattle.std.proofs.lemmas.List.{length-take}
 use Rattle.std.proofs.lemmas.Result.{err_from_is_err_and}
-use Rattle.value_core.specs.Spelled.{node_bytes, pool_bytes}
+use Rattle.value_core.specs.Encoding.{node_bytes, pool_bytes}
 use Rattle.value_core.proofs.SpelledParts.{sent_front, sent_part, sent_more, sent_all, long_whole}
 use Rattle.value_core.proofs.writing.send_node.Goals as goal
 

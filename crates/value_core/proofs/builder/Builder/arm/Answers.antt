@@ -1,7 +1,7 @@
 use Rattle.std.proofs.Common.{rules, subst}
 use Rattle.std.specs.Prelude.{option_map}
+use Rattle.grammar_core.specs.declared.form.Form.TheVariants as form
 use Rattle.value_core.specs.Frames.{left_of}
-use Rattle.value_core.specs.declared.form.Form.TheVariants as form
 use Rattle.value_core.specs.Opened.{OpensArm}
 use Rattle.value_core.proofs.NextOpen.{arm_next}
 use Rattle.value_core.proofs.Wanted.{wanted_next}

@@ -1,7 +1,7 @@
 use Rattle.std.proofs.Common.{◌≡◌, ◌∙◌, Bool, true, false, Option, None, Ok, List, [], ℕ, length, drop, ap, sym, subst, refl, arith}
 use Rattle.std.proofs.lemmas.List.{append-nil, length-drop}
 use Rattle.std.specs.Str.{is_utf8}
-use Rattle.value_core.specs.Preorder as head
+use Rattle.grammar_core.specs.Preorder as head
 use Rattle.value_core.specs.Building.{IsOpenAt, IsOpenText, pieces_shown}
 use Rattle.value_core.specs.Built.{Built, pieces_bytes}
 use Rattle.value_core.specs.Refusals.{missing_of, missing_at, text_fault}

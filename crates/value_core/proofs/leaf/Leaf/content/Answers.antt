@@ -1,8 +1,8 @@
 use Rattle.std.proofs.Common.{◌∙◌, ap, sym, subst, length, arith, length-append}
 use Rattle.std.specs.Int.{w128, from_le_bytes, cast_unsigned}
 use Rattle.std.proofs.lemmas.Int.{to_z-of_z}
+use Rattle.grammar_core.specs.Preorder as head
 use Rattle.value_core.specs.Leaves.{leaf_head, leaf_bytes, FitsLeaf}
-use Rattle.value_core.specs.Preorder as head
 use Rattle.value_core.specs.Shown.{signed_from}
 use Rattle.value_core.proofs.Words.{word_back, signed_back, slice-append}
 use Rattle.value_core.proofs.leaf.Leaf.content.Goals as goal

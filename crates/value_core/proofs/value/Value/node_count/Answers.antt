@@ -1,5 +1,5 @@
 use Rattle.std.proofs.Common.{◌∙◌, ap, length}
-use Rattle.value_core.specs.Tree.{nodes}
+use Rattle.grammar_core.specs.Tree.{nodes}
 use Rattle.value_core.specs.Shown.{Seen}
 use Rattle.value_core.proofs.CellsOf.{nodes_shown}
 use Rattle.value_core.proofs.value.Value.node_count.Goals as goal

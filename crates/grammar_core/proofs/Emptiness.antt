@@ -1,0 +1,110 @@
+-- Which values take no bytes.
+use Rattle.std.proofs.Common.{◌≡◌, ℕ, suc, ◌≤◌, Bool, true, false, List, [], ◌∷◌, ◌++◌, length, refl, sym, ap, subst, ◌∙◌, arith, inl, inr}
+use Rattle.std.specs.List.{list_all}
+use Rattle.scale_core.specs.Compact.{IsCompact}
+use Rattle.scale_core.specs.declared.compact.Target.{Target}
+use Rattle.scale_core.specs.declared.compact.Target.TheVariants as target
+use Rattle.scale_core.proofs.Again.{compact-bytes}
+use Rattle.registry_core.specs.declared.type_info.TypeInfo.{TypeInfo}
+use Rattle.widths_core.specs.declared.class.Class.TheVariants as class
+use Rattle.widths_core.specs.Classes.{class_of, empty_within}
+use Rattle.widths_core.specs.Layouts.{Layout, layout}
+use Rattle.widths_core.specs.Layouts as layout
+use Rattle.widths_core.proofs.Known.{Known, known, empty_class, class_empty, class_finite, layout_empty}
+use Rattle.grammar_core.specs.Tree.{Tree, unit, bool, char, text, unsigned, signed, wide, compact, fields, arm, list, count, Trees, none, and, how_many}
+use Rattle.grammar_core.specs.Grammar.{Val, Vals, IsCompactValue}
+use Rattle.grammar_core.specs.Laws.{EmptyHasUnit, SizedHasBytes}
+
+abbrev is_nil : List ℕ → Bool
+is_nil [] = true
+is_nil (x ∷ xs) = false
+
+nil_parts : (a b : List ℕ) → a ++ b ≡ [] → (a ≡ []) × (b ≡ [])
+nil_parts [] b e = (refl, e)
+nil_parts (x ∷ a) b e = absurd cc
+
+-- the forms are apart
+other : {X : Type 0} (r : List TypeInfo) (t : ℕ) (f : Layout) → layout r t ≡ layout.empty → layout r t ≡ f → (layout.empty ≡ f → X) → X
+other r t f e h k = k (sym e ∙ h)
+
+pub compact_value_of : (f : Layout) (x : ℕ) (b : List ℕ) → IsCompactValue f x b → (m : Target) × (f ≡ layout.compact m) × IsCompact m x b
+compact_value_of (layout.compact m) x b h = (m, refl, h)
+compact_value_of layout.unknown x b h = absurd h
+compact_value_of layout.bit_sequence x b h = absurd h
+compact_value_of layout.bad_compact x b h = absurd h
+compact_value_of layout.empty x b h = absurd h
+compact_value_of layout.bool x b h = absurd h
+compact_value_of layout.char x b h = absurd h
+compact_value_of layout.text x b h = absurd h
+compact_value_of (layout.unsigned k) x b h = absurd h
+compact_value_of (layout.signed k) x b h = absurd h
+compact_value_of layout.wide x b h = absurd h
+compact_value_of (layout.fields ts) x b h = absurd h
+compact_value_of (layout.arms as') x b h = absurd h
+compact_value_of layout.counted x b h = absurd h
+compact_value_of (layout.sequence t) x b h = absurd h
+compact_value_of (layout.array n t) x b h = absurd h
+
+pub known_at : (r : List TypeInfo) (t : ℕ) (f : Layout) → layout r t ≡ f → Known r t f
+known_at r t f e = subst (Known r t) e (known r t)
+
+compact_has_byte : {X : Type 0} (x : ℕ) (b : List ℕ) → IsCompact target.U32 x b → b ≡ [] → X
+compact_has_byte x b h e = let no = compact-bytes target.U32 x b h e in absurd cc
+
+mutual
+  unfolding Val
+
+  -- a value with no byte is of a type that takes none
+  pub no_bytes : (r : List TypeInfo) (t : ℕ) (v : Tree) (b : List ℕ) → b ≡ [] → Val r t v b → class_of r t ≡ class.Empty
+  no_bytes r t unit b e h = known_at r t layout.empty h.0
+  no_bytes r t (bool x) b e h = let no = sym e ∙ h.1 in absurd cc
+  no_bytes r t (char c) b e h = let no = sym (ap length e) ∙ h.1 in absurd (omega (arith, no))
+  no_bytes r t (text s) b e h = compact_has_byte (length s) h.1.0 h.1.1 (nil_parts h.1.0 s (sym h.1.3 ∙ e)).0
+  no_bytes r t (unsigned x) b e h = absurd (omega (arith, known_at r t (layout.unsigned h.0) h.1, sym (ap length e) ∙ h.2))
+  no_bytes r t (signed x) b e h = absurd (omega (arith, known_at r t (layout.signed h.0) h.1, sym (ap length e) ∙ h.2))
+  no_bytes r t (wide x) b e h = let no = sym (ap length e) ∙ h.1 in absurd (omega (arith, no))
+  no_bytes r t (compact x) b e h = let c = compact_value_of (layout r t) x b h in empty_class r t (known_at r t (layout.compact c.0) c.1 (compact-bytes c.0 x b c.2 e))
+  no_bytes r t (fields vs) b e h = empty_class r t (known_at r t (layout.fields h.0) h.1 (all_no_bytes r h.0 vs b e h.2))
+  no_bytes r t (arm q vs) b e h = let no = sym e ∙ h.6 in absurd cc
+  no_bytes r t (list none) b e (inl h) = empty_class r t ((known_at r t (layout.array h.0 h.1) h.2).0 (sym h.3))
+  no_bytes r t (list (and v vs)) b e (inl h) = empty_class r t ((known_at r t (layout.array h.0 h.1) h.2).1 (class_empty r h.1 (no_bytes r h.1 v h.4.0 (nil_parts h.4.0 h.4.1 (sym h.4.2 ∙ e)).0 h.4.3)))
+  no_bytes r t (list none) b e (inr h) = compact_has_byte 0 h.1 h.4 (nil_parts h.1 h.2 (sym h.5 ∙ e)).0
+  no_bytes r t (list (and v vs)) b e (inr h) = compact_has_byte (suc (how_many vs)) h.1 h.4 (nil_parts h.1 h.2 (sym h.5 ∙ e)).0
+  no_bytes r t (count k) b e h = compact_has_byte k b h.1 e
+
+  pub all_no_bytes : (r : List TypeInfo) (ts : List ℕ) (vs : Trees) (b : List ℕ) → b ≡ [] → Vals r ts vs b → list_all (empty_within r (length r)) ts ≡ true
+  all_no_bytes r [] none b e h = refl
+  all_no_bytes r (t ∷ ts) none b e h = absurd h
+  all_no_bytes r [] (and v vs) b e h = absurd h
+  all_no_bytes r (t ∷ ts) (and v vs) b e h =
+      let parts = nil_parts h.0 h.1 (sym h.2 ∙ e) in
+      rw (class_empty r t (no_bytes r t v h.0 parts.0 h.3), all_no_bytes r ts vs h.1 parts.1 h.4) refl
+
+not_nil : (b : List ℕ) → (b ≡ [] → ⊥) → 1 ≤ length b
+not_nil [] h = absurd (h refl)
+not_nil (x ∷ b) h = omega arith
+
+pub sized_has_bytes : SizedHasBytes
+sized_has_bytes r t v b sized h = not_nil b (λ e. let no = sym sized ∙ no_bytes r t v b e h in absurd cc)
+
+pub empty_unique : (r : List TypeInfo) (t : ℕ) (v : Tree) (b : List ℕ) → layout r t ≡ layout.empty → Val r t v b → (v ≡ unit) × (b ≡ [])
+unfolding Val
+empty_unique r t unit b e h = (refl, h.1)
+empty_unique r t (bool x) b e h = let no = sym e ∙ h.0 in absurd cc
+empty_unique r t (char c) b e h = let no = sym e ∙ h.0 in absurd cc
+empty_unique r t (text s) b e h = let no = sym e ∙ h.0 in absurd cc
+empty_unique r t (unsigned x) b e h = let no = sym e ∙ h.1 in absurd cc
+empty_unique r t (signed x) b e h = let no = sym e ∙ h.1 in absurd cc
+empty_unique r t (wide x) b e h = let no = sym e ∙ h.0 in absurd cc
+empty_unique r t (compact x) b e h = let c = compact_value_of (layout r t) x b h in let no = sym e ∙ c.1 in absurd cc
+empty_unique r t (fields vs) b e h = let no = sym e ∙ h.1 in absurd cc
+empty_unique r t (arm q vs) b e h = let no = sym e ∙ h.4 in absurd cc
+empty_unique r t (list vs) b e (inl h) = let no = sym e ∙ h.2 in absurd cc
+empty_unique r t (list vs) b e (inr h) = let no = sym e ∙ h.3 in absurd cc
+empty_unique r t (count k) b e h = let no = sym e ∙ h.0 in absurd cc
+
+pub empty_has_unit : EmptyHasUnit
+unfolding Val
+empty_has_unit r t e =
+    let is = empty_class r t e in
+    (class_finite r t (λ no. let both = sym is ∙ no in absurd cc), (layout_empty r t is, refl), λ v b. empty_unique r t v b (layout_empty r t is))

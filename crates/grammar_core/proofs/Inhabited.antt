@@ -1,0 +1,243 @@
+-- A finite type has a value, unless a definition can be reached whose values are left out.
+use Rattle.std.proofs.Common.{◌≡◌, ℕ, zero, suc, ◌+◌, ◌<◌, ◌⊎◌, Bool, true, false, cond, List, [], ◌∷◌, ◌++◌, length, Option, Some, None, refl, sym, ap, subst, ◌∙◌, arith, inl, inr}
+use Rattle.std.specs.Prelude.{◌==◌, ◌||◌, flat_map}
+use Rattle.std.specs.List.{list_all, list_any, AllByRecursion}
+use Rattle.std.specs.Str.{is_utf8, chars}
+use Rattle.std.proofs.lemmas.Bool.{eqb-true, eq-eqb}
+use Rattle.scale_core.specs.Number.{AreBytes, number, signed_number}
+use Rattle.scale_core.specs.Compact.{compact, IsCompact}
+use Rattle.scale_core.specs.declared.compact.Target.{Target}
+use Rattle.scale_core.specs.declared.compact.Target.TheVariants as target
+use Rattle.registry_core.specs.declared.definition.Arm.{Arm}
+use Rattle.registry_core.specs.declared.primitive.Primitive.{Primitive}
+use Rattle.registry_core.specs.declared.primitive.Primitive.TheVariants as P
+use Rattle.registry_core.specs.declared.definition.TypeDef.{TypeDef}
+use Rattle.registry_core.specs.declared.definition.TypeDef.TheVariants as Def
+use Rattle.registry_core.specs.declared.type_info.TypeInfo.{TypeInfo}
+use Rattle.registry_core.specs.Fits.{FitsType, FitsArm, FitsDefinition}
+use Rattle.widths_core.specs.Types.{shape, ids, field_types}
+use Rattle.widths_core.specs.Arms.{arm_from, live_arms}
+use Rattle.widths_core.specs.References.{references}
+use Rattle.widths_core.specs.Targets.{target_of}
+use Rattle.widths_core.specs.Reach.{IsAmong, here, there, IsPlain}
+use Rattle.widths_core.specs.Classes.{finite_within, finite_step, holds_at, is_empty}
+use Rattle.widths_core.specs.Layouts.{Layout, layout, sized_layout, primitive_layout, sequence_layout, compact_layout}
+use Rattle.widths_core.specs.Layouts as layout
+use Rattle.widths_core.proofs.Ranks.{and_parts, or_parts}
+use Rattle.grammar_core.specs.Tree.{Tree, unit, bool, char, text, unsigned, signed, wide, compact as compact_value, fields, arm, list, count, Trees, none, and, how_many}
+use Rattle.grammar_core.specs.Grammar.{Val, Vals, Each}
+use Rattle.grammar_core.specs.Laws.{FiniteHasValue}
+
+abbrev HasValue : List TypeInfo → ℕ → Type 0
+HasValue r t = (v : Tree) × (b : List ℕ) × AreBytes b × Val r t v b
+
+append_bytes : (a b : List ℕ) → AreBytes a → AreBytes b → AreBytes (a ++ b)
+append_bytes [] b h k = k
+append_bytes (x ∷ a) b h k = (h.0, append_bytes a b h.1 k)
+
+-- ---- lists of values
+
+all_values : (r : List TypeInfo) (f : ℕ → Bool) (ts : List ℕ) → ((t : ℕ) → IsAmong t ts → f t ≡ true → HasValue r t) → list_all f ts ≡ true → (vs : Trees) × (b : List ℕ) × AreBytes b × Vals r ts vs b
+unfolding Val
+all_values r f [] h e = (none, [], tt, refl)
+all_values r f (t ∷ ts) h e =
+    let p = and_parts (f t) (list_all f ts) e in
+    let one = h t (inl refl) p.0 in
+    let rest = all_values r f ts (λ u m. h u (inr m)) p.1 in
+    (and one.0 rest.0, one.1 ++ rest.1, append_bytes one.1 rest.1 one.2 rest.2, (one.1, rest.1, refl, one.3, rest.3))
+
+repeated : (r : List TypeInfo) (t n : ℕ) → HasValue r t → (vs : Trees) × (b : List ℕ) × AreBytes b × (how_many vs ≡ n) × Each r t vs b
+unfolding Val
+repeated r t zero h = (none, [], tt, refl, refl)
+repeated r t (suc n) h =
+    let rest = repeated r t n h in
+    (and h.0 rest.0, h.1 ++ rest.1, append_bytes h.1 rest.1 h.2 rest.2, ap (λ (k : ℕ). suc k) rest.3, (h.1, rest.1, refl, h.3, rest.4))
+
+-- ---- arms
+
+among_left : (u : ℕ) (xs ys : List ℕ) → IsAmong u xs → IsAmong u (xs ++ ys)
+among_left u [] ys h = absurd h
+among_left u (x ∷ xs) ys (inl e) = inl e
+among_left u (x ∷ xs) ys (inr h) = inr (among_left u xs ys h)
+
+among_right : (u : ℕ) (xs ys : List ℕ) → IsAmong u ys → IsAmong u (xs ++ ys)
+among_right u [] ys h = h
+among_right u (x ∷ xs) ys h = inr (among_right u xs ys h)
+
+or_false : (a b : Bool) → (a || b) ≡ false → (a ≡ false) × (b ≡ false)
+or_false true b e = absurd cc
+or_false false b e = (refl, e)
+
+-- a live arm of which p holds: it is the first of its index
+record Live (p : Arm → Bool) (arms : List Arm) (seen : List ℕ) (j : ℕ) : Type 0 where
+  pub arm : Arm
+  pub position : ℕ
+  pub holds : p arm ≡ true
+  pub is : arm_from j arms arm.index ≡ Some (position, arm)
+  pub new : list_any (λ s. s == arm.index) seen ≡ false
+  pub refers : (u : ℕ) → IsAmong u (field_types arm.fields) → IsAmong u (flat_map (λ a. field_types a.fields) arms)
+  pub byte : arm.index < 256
+
+behind : (p : Arm → Bool) (x : Arm) (arms : List Arm) (seen : List ℕ) (j : ℕ) (l : Live p arms seen (j + 1)) → (x.index == l.arm.index) ≡ false → Live p (x ∷ arms) seen j
+behind p x arms seen j l e = record {
+  arm = l.arm;
+  position = l.position;
+  holds = l.holds;
+  is = rw e l.is;
+  new = l.new;
+  refers = λ u m. among_right u (field_types x.fields) (flat_map (λ a. field_types a.fields) arms) (l.refers u m);
+  byte = l.byte;
+}
+
+bool_cases : (b : Bool) → (b ≡ true) ⊎ (b ≡ false)
+bool_cases true = inl refl
+bool_cases false = inr refl
+
+live : (p : Arm → Bool) (arms : List Arm) (seen : List ℕ) (j : ℕ) → AllByRecursion FitsArm arms → list_any p (live_arms seen arms) ≡ true → Live p arms seen j
+live p [] seen j fits e = absurd cc
+live p (x ∷ arms) seen j fits e = go (list_any (λ s. s == x.index) seen) refl e (λ more k. live p arms more (j + 1) fits.1 k) where
+  seen_before : list_any (λ s. s == x.index) seen ≡ true → Live p arms seen (j + 1) → Live p (x ∷ arms) seen j
+  seen_before g l = elim (bool_cases (x.index == l.arm.index)) [
+    | inl same ↦ let yes : list_any (λ s. s == l.arm.index) seen ≡ true = rw (← eqb-true x.index l.arm.index same) g in let both = sym yes ∙ l.new in absurd cc
+    | inr ne ↦ behind p x arms seen j l ne
+  ]
+
+  fresh : Live p arms (x.index ∷ seen) (j + 1) → Live p (x ∷ arms) seen j
+  fresh l = let parts = or_false (x.index == l.arm.index) (list_any (λ s. s == l.arm.index) seen) l.new in
+      behind p x arms seen j (record { arm = l.arm; position = l.position; holds = l.holds; is = l.is; new = parts.1; refers = l.refers; byte = l.byte }) parts.0
+
+  go : (b : Bool) → list_any (λ s. s == x.index) seen ≡ b → list_any p (cond b (live_arms seen arms) (x ∷ live_arms (x.index ∷ seen) arms)) ≡ true → ((more : List ℕ) → list_any p (live_arms more arms) ≡ true → Live p arms more (j + 1)) → Live p (x ∷ arms) seen j
+  go true g k r = seen_before g (r seen k)
+  go false g k r = elim (or_parts (p x) (list_any p (live_arms (x.index ∷ seen) arms)) k) [
+    | inl px ↦ record {
+      arm = x;
+      position = j;
+      holds = px;
+      is = rw (eq-eqb x.index x.index refl) refl;
+      new = g;
+      refers = λ u m. among_left u (field_types x.fields) (flat_map (λ a. field_types a.fields) arms) m;
+      byte = fits.0.2;
+    }
+    | inr later ↦ fresh (r (x.index ∷ seen) later)
+  ]
+
+-- ---- the least value of each definition
+
+zeros : ℕ → List ℕ
+zeros zero = []
+zeros (suc k) = 0 ∷ zeros k
+
+zeros-bytes : (k : ℕ) → AreBytes (zeros k)
+unfolding zeros
+zeros-bytes zero = tt
+zeros-bytes (suc k) = (omega arith, zeros-bytes k)
+
+length-zeros : (k : ℕ) → length (zeros k) ≡ k
+unfolding zeros
+length-zeros zero = refl
+length-zeros (suc k) = ap (λ (n : ℕ). suc n) (length-zeros k)
+
+zero-bytes : AreBytes (compact 0)
+unfolding compact
+zero-bytes = (omega arith, tt)
+
+u32_zero : IsCompact target.U32 0 (compact 0)
+u32_zero = (omega arith, refl)
+
+no_text : is_utf8 [] ≡ true
+unfolding is_utf8 chars lib.Utf8.encode
+no_text = refl
+
+unsigned_value : (r : List TypeInfo) (t k : ℕ) → layout r t ≡ layout.unsigned k → HasValue r t
+unfolding Val
+unsigned_value r t k e = (unsigned (number (zeros k)), zeros k, zeros-bytes k, (k, e, length-zeros k, refl))
+
+signed_value : (r : List TypeInfo) (t k : ℕ) → layout r t ≡ layout.signed k → HasValue r t
+unfolding Val
+signed_value r t k e = (signed (signed_number (zeros k)), zeros k, zeros-bytes k, (k, e, length-zeros k, refl))
+
+wide_value : (r : List TypeInfo) (t : ℕ) → layout r t ≡ layout.wide → HasValue r t
+unfolding Val
+wide_value r t e = (wide (zeros 32), zeros 32, zeros-bytes 32, (e, length-zeros 32, refl))
+
+char_value : (r : List TypeInfo) (t : ℕ) → layout r t ≡ layout.char → HasValue r t
+unfolding Val zeros
+char_value r t e = (char 0, zeros 4, zeros-bytes 4, (e, refl, refl, refl))
+
+primitive_value : (r : List TypeInfo) (t : ℕ) (p : Primitive) → layout r t ≡ primitive_layout p → HasValue r t
+unfolding Val
+primitive_value r t P.Bool e = (bool false, 0 ∷ [], (omega arith, tt), (e, refl))
+primitive_value r t P.Char e = char_value r t e
+primitive_value r t P.Str e = (text [], compact 0 ++ [], append_bytes (compact 0) [] zero-bytes tt, (e, (compact 0, u32_zero, no_text, refl)))
+primitive_value r t P.U8 e = unsigned_value r t 1 e
+primitive_value r t P.U16 e = unsigned_value r t 2 e
+primitive_value r t P.U32 e = unsigned_value r t 4 e
+primitive_value r t P.U64 e = unsigned_value r t 8 e
+primitive_value r t P.U128 e = unsigned_value r t 16 e
+primitive_value r t P.U256 e = wide_value r t e
+primitive_value r t P.I8 e = signed_value r t 1 e
+primitive_value r t P.I16 e = signed_value r t 2 e
+primitive_value r t P.I32 e = signed_value r t 4 e
+primitive_value r t P.I64 e = signed_value r t 8 e
+primitive_value r t P.I128 e = signed_value r t 16 e
+primitive_value r t P.I256 e = wide_value r t e
+
+sequence_value : (r : List TypeInfo) (t u : ℕ) (b : Bool) → layout r t ≡ sequence_layout u b → HasValue r t
+unfolding Val
+sequence_value r t u true e = (count 0, compact 0, zero-bytes, (e, u32_zero))
+sequence_value r t u false e = (list none, compact 0 ++ [], append_bytes (compact 0) [] zero-bytes tt, inr (u, compact 0, [], e, u32_zero, refl, refl))
+
+zero_of : (m : Target) → (b : List ℕ) × AreBytes b × IsCompact m 0 b
+zero_of target.Unit = ([], tt, (refl, refl))
+zero_of target.U8 = (compact 0, zero-bytes, (omega arith, refl))
+zero_of target.U16 = (compact 0, zero-bytes, (omega arith, refl))
+zero_of target.U32 = (compact 0, zero-bytes, (omega arith, refl))
+zero_of target.U64 = (compact 0, zero-bytes, (omega arith, refl))
+zero_of target.U128 = (compact 0, zero-bytes, (omega arith, refl))
+
+compact_of : (r : List TypeInfo) (t : ℕ) (o : Option Target) → (o ≡ None → ⊥) → layout r t ≡ compact_layout o → HasValue r t
+unfolding Val
+compact_of r t None left e = absurd (left refl)
+compact_of r t (Some m) left e = let z = zero_of m in (compact_value 0, z.0, z.1, rw e z.2)
+
+sized_value : (r : List TypeInfo) (k t : ℕ) (d : TypeDef) → FitsDefinition d → IsPlain r t → shape r t ≡ Some d → ((u : ℕ) → IsAmong u (references d) → finite_within r k u ≡ true → HasValue r u) → layout r t ≡ sized_layout r d → finite_step (finite_within r k) d ≡ true → HasValue r t
+unfolding Val
+sized_value r k t (Def.Composite fs) fits plain is child e h = let all = all_values r (finite_within r k) (field_types fs) child h in (fields all.0, all.1, all.2, (field_types fs, e, all.3))
+sized_value r k t (Def.Variant arms) fits plain is child e h =
+    let l = live (λ a. list_all (finite_within r k) (field_types a.fields)) arms [] 0 fits.1 h in
+    let all = all_values r (finite_within r k) (field_types l.arm.fields) (λ u m. child u (l.refers u m)) l.holds in
+    (arm l.position all.0, l.arm.index ∷ all.1, (l.byte, all.2), (arms, l.arm.index, l.arm, all.1, e, l.is, refl, all.3))
+sized_value r k t (Def.Sequence u) fits plain is child e h = sequence_value r t u.0 (is_empty r u.0) e
+sized_value r k t (Def.Array zero u) fits plain is child e h = (list none, [], tt, inl (0, u.0, e, refl, refl))
+sized_value r k t (Def.Array (suc n) u) fits plain is child e h = let all = repeated r u.0 (suc n) (child u.0 (inl refl) h) in (list all.0, all.1, all.2, inl (suc n, u.0, e, all.3, all.4))
+sized_value r k t (Def.Tuple ts) fits plain is child e h = let all = all_values r (finite_within r k) (ids ts) child h in (fields all.0, all.1, all.2, (ids ts, e, all.3))
+sized_value r k t (Def.Primitive p) fits plain is child e h = primitive_value r t p e
+sized_value r k t (Def.Compact u) fits plain is child e h = compact_of r t (target_of r u.0) (λ none. plain t (Def.Compact u) here is none) e
+sized_value r k t (Def.BitSequence store order) fits plain is child e h = absurd (plain t (Def.BitSequence store order) here is tt)
+
+-- ---- by rank
+
+shape_of : (r : List TypeInfo) (p : TypeDef → Bool) (t : ℕ) → holds_at r p t ≡ true → (d : TypeDef) × (shape r t ≡ Some d) × (p d ≡ true)
+shape_of [] p t e = absurd cc
+shape_of (x ∷ r) p zero e = (x.shape, refl, e)
+shape_of (x ∷ r) p (suc t) e = shape_of r p t e
+
+fits_at : (r : List TypeInfo) (t : ℕ) (d : TypeDef) → AllByRecursion FitsType r → shape r t ≡ Some d → FitsDefinition d
+fits_at [] t d h e = absurd cc
+fits_at (x ∷ r) zero d h e = let is : x.shape ≡ d = cc in subst FitsDefinition is h.0.2
+fits_at (x ∷ r) (suc t) d h e = fits_at r t d h.1 e
+
+some_value : (r : List TypeInfo) (k t : ℕ) (d : TypeDef) → FitsDefinition d → IsPlain r t → shape r t ≡ Some d → ((u : ℕ) → IsAmong u (references d) → finite_within r k u ≡ true → HasValue r u) → finite_step (finite_within r k) d ≡ true → (b : Bool) → is_empty r t ≡ b → HasValue r t
+unfolding Val layout
+some_value r k t d fits plain is child h true e = (unit, [], tt, (rw e refl, refl))
+some_value r k t d fits plain is child h false e = sized_value r k t d fits plain is child (rw (e, is) refl) h
+
+value_within : (r : List TypeInfo) → AllByRecursion FitsType r → (k t : ℕ) → finite_within r k t ≡ true → IsPlain r t → HasValue r t
+unfolding finite_within
+value_within r fits zero t e plain = absurd cc
+value_within r fits (suc k) t e plain =
+    let s = shape_of r (finite_step (finite_within r k)) t e in
+    some_value r k t s.0 (fits_at r t s.0 fits s.1) plain s.1 (λ u m f. value_within r fits k u f (λ w d reach. plain w d (there s.1 m reach))) s.2 (is_empty r t) refl
+
+pub finite_has_value : FiniteHasValue
+finite_has_value r t fits finite plain = value_within r fits.1 finite.0 t finite.1 plain

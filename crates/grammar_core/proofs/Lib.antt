@@ -1,0 +1,13 @@
+pub mod Bounds
+pub mod Classes
+pub mod Complete
+pub mod Emptiness
+pub mod Grounded
+pub mod Inhabited
+pub mod OneSpelling
+pub mod Parts
+pub mod Proved
+pub mod Sound
+pub mod Spelled
+pub mod Stable
+pub mod Texts

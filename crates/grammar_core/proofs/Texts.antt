@@ -1,0 +1,35 @@
+-- Each text of a value is UTF-8.
+use Rattle.std.proofs.Common.{ℕ, List, [], ◌∷◌, inl, inr}
+use Rattle.registry_core.specs.declared.type_info.TypeInfo.{TypeInfo}
+use Rattle.widths_core.specs.Types.{field_types}
+use Rattle.grammar_core.specs.Tree.{unit, bool, char, text, unsigned, signed, wide, compact, fields, arm, list, count, Trees, none, and}
+use Rattle.grammar_core.specs.Grammar.{Val, Vals, Each}
+use Rattle.grammar_core.specs.Laws.{AllHaveText, TextsAreText}
+
+mutual
+  unfolding Val
+
+  pub texts_are_text : TextsAreText
+  texts_are_text r t unit b h = tt
+  texts_are_text r t (bool x) b h = tt
+  texts_are_text r t (char c) b h = tt
+  texts_are_text r t (text s) b h = (h.1.1.0, h.1.2)
+  texts_are_text r t (unsigned x) b h = tt
+  texts_are_text r t (signed x) b h = tt
+  texts_are_text r t (wide x) b h = tt
+  texts_are_text r t (compact x) b h = tt
+  texts_are_text r t (fields vs) b h = all_have r h.0 vs b h.2
+  texts_are_text r t (arm q vs) b h = all_have r (field_types h.2.fields) vs h.3 h.7
+  texts_are_text r t (list vs) b (inl h) = each_has r h.1 vs b h.4
+  texts_are_text r t (list vs) b (inr h) = each_has r h.0 vs h.2 h.6
+  texts_are_text r t (count k) b h = tt
+
+  all_have : (r : List TypeInfo) (ts : List ℕ) (vs : Trees) (b : List ℕ) → Vals r ts vs b → AllHaveText vs
+  all_have r [] none b h = tt
+  all_have r (t ∷ ts) none b h = absurd h
+  all_have r [] (and v vs) b h = absurd h
+  all_have r (t ∷ ts) (and v vs) b h = (texts_are_text r t v h.0 h.3, all_have r ts vs h.1 h.4)
+
+  each_has : (r : List TypeInfo) (t : ℕ) (vs : Trees) (b : List ℕ) → Each r t vs b → AllHaveText vs
+  each_has r t none b h = tt
+  each_has r t (and v vs) b h = (texts_are_text r t v h.0 h.3, each_has r t vs h.1 h.4)

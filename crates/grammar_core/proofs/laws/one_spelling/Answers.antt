@@ -1,0 +1,5 @@
+use Rattle.grammar_core.proofs.OneSpelling as law
+use Rattle.grammar_core.proofs.laws.one_spelling.Goals as goal
+
+pub returns : goal.returns
+returns c = law.one_spelling_of

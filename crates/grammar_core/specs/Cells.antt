@@ -1,0 +1,51 @@
+-- The nodes of a value in preorder, each with its type and how many nodes its subtree has.
+use Rattle.std.specs.Prelude.{ℕ, List, [], ◌∷◌, ◌++◌, Some, None, slice_get}
+use Rattle.std.specs.Option.{option_map_or}
+use Rattle.registry_core.specs.declared.definition.Arm.{Arm}
+use Rattle.registry_core.specs.declared.type_info.TypeInfo.{TypeInfo}
+use Rattle.widths_core.specs.Types.{field_types}
+use Rattle.widths_core.specs.Layouts.{Layout, layout}
+use Rattle.widths_core.specs.Layouts as layout
+use Rattle.grammar_core.specs.Tree.{Tree, fields, arm, list, Trees, none, and, how_many, nodes}
+use Rattle.grammar_core.specs.Parts.{Part, each, times, first_of, left_after}
+use Rattle.grammar_core.specs.Preorder.{Head, head_of}
+
+-- a node in preorder, its type, and how many nodes its subtree has
+pub record Cell : Type 0 where
+  pub ty : ℕ
+  pub head : Head
+  pub size : ℕ
+
+-- the types of the children of a node of this layout
+abbrev pub fields_part : Layout → Part
+fields_part (layout.fields ts) = each ts
+fields_part _ = each []
+
+abbrev pub arm_part : Layout → ℕ → Part
+arm_part (layout.arms arms) q = each (option_map_or (λ (a : Arm). field_types a.fields) (slice_get arms q) [])
+arm_part _ q = each []
+
+abbrev pub list_part : Layout → ℕ → Part
+list_part (layout.array len t) n = times n t
+list_part (layout.sequence t) n = times n t
+list_part _ n = each []
+
+-- the type of the next child, which is there
+abbrev pub next_type : Part → ℕ
+next_type p = elim (first_of p) [ Some t ↦ t | None ↦ 0 ]
+
+-- a node, with its type and how many nodes its subtree has
+abbrev pub cell_of : ℕ → Tree → Cell
+cell_of t v = record { ty = t; head = head_of v; size = nodes v }
+
+abbrev mutual
+  pub cells : List TypeInfo → ℕ → Tree → List Cell
+  cells r t (fields vs) = cell_of t (fields vs) ∷ all_cells r (fields_part (layout r t)) vs
+  cells r t (arm q vs) = cell_of t (arm q vs) ∷ all_cells r (arm_part (layout r t) q) vs
+  cells r t (list vs) = cell_of t (list vs) ∷ all_cells r (list_part (layout r t) (how_many vs)) vs
+  cells r t v = cell_of t v ∷ []
+
+  -- the cells of children whose types are these
+  pub all_cells : List TypeInfo → Part → Trees → List Cell
+  all_cells r p none = []
+  all_cells r p (and v vs) = cells r (next_type p) v ++ all_cells r (left_after p) vs

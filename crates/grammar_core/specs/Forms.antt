@@ -1,0 +1,44 @@
+-- Which form a value of a type has, or why there is none: the first rule that applies (SCALE codec, "Types"; own order of the reasons).
+use Rattle.std.specs.Prelude.{ℕ, List, Bool, Option, Some, None, if◌then◌else◌}
+use Rattle.scale_core.specs.declared.compact.Target.{Target}
+use Rattle.registry_core.specs.declared.definition.TypeDef.{TypeDef}
+use Rattle.registry_core.specs.declared.definition.TypeDef.TheVariants as Def
+use Rattle.registry_core.specs.declared.type_info.TypeInfo.{TypeInfo}
+use Rattle.widths_core.specs.Types.{shape}
+use Rattle.widths_core.specs.Targets.{target_of}
+use Rattle.widths_core.specs.Classes.{is_finite, is_empty}
+use Rattle.grammar_core.specs.declared.form.Form.TheVariants as form
+use Rattle.grammar_core.specs.declared.form.StopReason.TheVariants as stop
+use Rattle.grammar_core.specs.declared.form.Next.{Next}
+use Rattle.grammar_core.specs.declared.form.Next.TheVariants as next
+
+-- a sequence of elements that take no bytes is its length alone
+abbrev pub sequence_form : Bool → Next
+sequence_form empty = next.Wants (if empty then form.Count else form.Sequence)
+
+abbrev pub compact_form : Option Target → Next
+compact_form (Some m) = next.Wants (form.Compact m)
+compact_form None = next.Stop stop.BadCompact
+
+-- the form of a type that takes bytes, by its definition; a type that is not known has no value
+abbrev pub form_of_shape : List TypeInfo → Option TypeDef → Next
+form_of_shape r None = next.Stop stop.NoFiniteValue
+form_of_shape r (Some (Def.Composite fs)) = next.Wants form.Fields
+form_of_shape r (Some (Def.Variant arms)) = next.Wants form.Arm
+form_of_shape r (Some (Def.Sequence t)) = sequence_form (is_empty r t.0)
+form_of_shape r (Some (Def.Array n t)) = next.Wants (form.Array n)
+form_of_shape r (Some (Def.Tuple ts)) = next.Wants form.Fields
+form_of_shape r (Some (Def.Primitive p)) = next.Wants (form.Primitive p)
+form_of_shape r (Some (Def.Compact t)) = compact_form (target_of r t.0)
+form_of_shape r (Some (Def.BitSequence store order)) = next.Stop stop.BitSequence
+
+abbrev pub sized_form : List TypeInfo → ℕ → Next
+sized_form r t = form_of_shape r (shape r t)
+
+-- the form of a finite type: a type that takes no bytes first, and else its definition
+abbrev pub form_of : List TypeInfo → ℕ → Next
+form_of r t = if is_empty r t then next.Wants form.Empty else sized_form r t
+
+-- what comes where a value of type t is next, within the depth limit
+abbrev pub next_at : List TypeInfo → ℕ → Next
+next_at r t = if is_finite r t then form_of r t else next.Stop stop.NoFiniteValue

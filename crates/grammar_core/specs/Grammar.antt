@@ -1,0 +1,55 @@
+-- Which bytes spell which value of a type (SCALE codec; scale-info for the definitions).
+use Rattle.std.specs.Prelude.{◌≡◌, ℕ, ◌≤◌, List, [], ◌∷◌, ◌++◌, length, true, Some, ◌⊎◌}
+use Rattle.scale_core.specs.Number.{number, signed_number, is_scalar, bool_byte}
+use Rattle.scale_core.specs.Compact.{IsCompact}
+use Rattle.scale_core.specs.Text.{IsText}
+use Rattle.scale_core.specs.declared.compact.Target.TheVariants as target
+use Rattle.registry_core.specs.declared.definition.Arm.{Arm}
+use Rattle.registry_core.specs.declared.type_info.TypeInfo.{TypeInfo}
+use Rattle.widths_core.specs.Types.{field_types}
+use Rattle.widths_core.specs.Arms.{arm_of}
+use Rattle.widths_core.specs.Layouts.{Layout, layout}
+use Rattle.widths_core.specs.Layouts as layout
+use Rattle.grammar_core.specs.Tree.{Tree, unit, bool, char, text, unsigned, signed, wide, compact, fields, arm, list, count, Trees, none, and, how_many, levels}
+
+-- k bytes
+abbrev pub IsLong : ℕ → List ℕ → Type 0
+IsLong k b = length b ≡ k
+
+-- what a compact over an integer stands for
+abbrev pub IsCompactValue : Layout → ℕ → List ℕ → Type 0
+IsCompactValue (layout.compact m) x b = IsCompact m x b
+IsCompactValue _ x b = ⊥
+
+-- v is a value of type t, and b is what it is in bytes
+unfoldable mutual
+  pub Val : List TypeInfo → ℕ → Tree → List ℕ → Type 0
+  Val r t unit b = (layout r t ≡ layout.empty) × (b ≡ [])
+  Val r t (bool x) b = (layout r t ≡ layout.bool) × (b ≡ bool_byte x ∷ [])
+  Val r t (char c) b = (layout r t ≡ layout.char) × IsLong 4 b × (number b ≡ c) × (is_scalar c ≡ true)
+  Val r t (text s) b = (layout r t ≡ layout.text) × IsText s b
+  Val r t (unsigned x) b = (k : ℕ) × (layout r t ≡ layout.unsigned k) × IsLong k b × (number b ≡ x)
+  Val r t (signed x) b = (k : ℕ) × (layout r t ≡ layout.signed k) × IsLong k b × (signed_number b ≡ x)
+  Val r t (wide x) b = (layout r t ≡ layout.wide) × IsLong 32 b × (b ≡ x)
+  Val r t (compact x) b = IsCompactValue (layout r t) x b
+  Val r t (fields vs) b = (ts : List ℕ) × (layout r t ≡ layout.fields ts) × Vals r ts vs b
+  Val r t (arm q vs) b = (arms : List Arm) × (i : ℕ) × (a : Arm) × (rest : List ℕ) × (layout r t ≡ layout.arms arms) × (arm_of arms i ≡ Some (q, a)) × (b ≡ i ∷ rest) × Vals r (field_types a.fields) vs rest
+  Val r t (list vs) b = ((n u : ℕ) × (layout r t ≡ layout.array n u) × (how_many vs ≡ n) × Each r u vs b)
+      ⊎ ((u : ℕ) × (c rest : List ℕ) × (layout r t ≡ layout.sequence u) × IsCompact target.U32 (how_many vs) c × (b ≡ c ++ rest) × Each r u vs rest)
+  Val r t (count k) b = (layout r t ≡ layout.counted) × IsCompact target.U32 k b
+
+  -- values of these types, one behind the other
+  pub Vals : List TypeInfo → List ℕ → Trees → List ℕ → Type 0
+  Vals r [] none b = b ≡ []
+  Vals r (t ∷ ts) none b = ⊥
+  Vals r [] (and v vs) b = ⊥
+  Vals r (t ∷ ts) (and v vs) b = (b1 b2 : List ℕ) × (b ≡ b1 ++ b2) × Val r t v b1 × Vals r ts vs b2
+
+  -- values of one type, one behind the other
+  pub Each : List TypeInfo → ℕ → Trees → List ℕ → Type 0
+  Each r t none b = b ≡ []
+  Each r t (and v vs) b = (b1 b2 : List ℕ) × (b ≡ b1 ++ b2) × Val r t v b1 × Each r t vs b2
+
+-- a value that has room for this many levels
+abbrev pub IsFitting : List TypeInfo → ℕ → ℕ → Tree → List ℕ → Type 0
+IsFitting r room t v b = Val r t v b × (levels v ≤ room)

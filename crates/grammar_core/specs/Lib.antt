@@ -1,0 +1,9 @@
+pub mod Cells
+pub mod Forms
+pub mod Grammar
+pub mod Laws
+pub mod Parts
+pub mod Preorder
+pub mod Reading
+pub mod Spelled
+pub mod Tree

@@ -1,0 +1,103 @@
+-- A value read from the front of a list: the value and the bytes behind it, or the fault and the bytes from its place on.
+use Rattle.std.specs.Prelude.{ℕ, zero, suc, List, [], ◌∷◌, true, false, Option, Some, None, Ok, Err, if◌then◌else◌}
+use Rattle.scale_core.specs.Number.{number, signed_number, is_scalar}
+use Rattle.scale_core.specs.Read.{Read, ◌>>=◌, compact_at, text_at, bytes_at}
+use Rattle.scale_core.specs.declared.compact.Target.TheVariants as target
+use Rattle.scale_core.specs.declared.fault.Reason.{Reason}
+use Rattle.scale_core.specs.declared.fault.Reason.TheVariants as scale
+use Rattle.registry_core.specs.declared.definition.Arm.{Arm}
+use Rattle.registry_core.specs.declared.type_info.TypeInfo.{TypeInfo}
+use Rattle.widths_core.specs.Types.{field_types}
+use Rattle.widths_core.specs.Arms.{arm_of}
+use Rattle.widths_core.specs.Classes.{is_finite}
+use Rattle.widths_core.specs.Layouts.{Layout, layout}
+use Rattle.widths_core.specs.Layouts as layout
+use Rattle.grammar_core.specs.Tree.{Tree, unit, bool, char, text, unsigned, signed, wide, compact, fields, arm, list, count, Trees, none, and}
+
+pub data Refusal : Type 0 where
+  basic : Reason → Refusal
+  no_such_variant : Refusal
+  too_deep : Refusal
+  no_finite_value : Refusal
+  bit_sequence : Refusal
+  bad_compact : Refusal
+
+abbrev pub truncated : Refusal
+truncated = basic scale.Truncated
+
+abbrev pub Reader : Type 0 → Type 0
+Reader X = List ℕ → Read Refusal X
+
+-- a part, as a value
+abbrev pub as_value : {X : Type 0} → (X → Tree) → Read Reason X → Read Refusal Tree
+as_value make (Ok x) = Ok (make x.0, x.1)
+as_value make (Err e) = Err (basic e.0, e.1)
+
+abbrev pub with_children : (Trees → Tree) → Read Refusal Trees → Read Refusal Tree
+with_children make (Ok x) = Ok (make x.0, x.1)
+with_children make (Err e) = Err e
+
+abbrev pub bool_at : Reader Tree
+bool_at [] = Err (truncated, [])
+bool_at (zero ∷ rest) = Ok (bool false, rest)
+bool_at (suc zero ∷ rest) = Ok (bool true, rest)
+bool_at (suc (suc b) ∷ rest) = Err (basic scale.BadBool, suc (suc b) ∷ rest)
+
+-- four bytes that are a Unicode scalar value
+abbrev pub char_from : List ℕ → Read Reason (List ℕ) → Read Refusal Tree
+char_from at (Ok x) = if is_scalar (number x.0) then Ok (char (number x.0), x.1) else Err (basic scale.BadChar, at)
+char_from at (Err e) = Err (basic e.0, e.1)
+
+-- a value of each of these types, one behind the other, by a reader of one value
+abbrev pub all_at : (ℕ → Reader Tree) → List ℕ → Reader Trees
+all_at child [] bytes = Ok (none, bytes)
+all_at child (t ∷ ts) bytes = do
+  first ← child t bytes
+  others ← all_at child ts first.1
+  Ok (and first.0 others.0, others.1)
+
+-- n values of one type, one behind the other
+abbrev pub times_at : (ℕ → Reader Tree) → ℕ → ℕ → Reader Trees
+times_at child zero t bytes = Ok (none, bytes)
+times_at child (suc n) t bytes = do
+  first ← child t bytes
+  others ← times_at child n t first.1
+  Ok (and first.0 others.0, others.1)
+
+-- the fields of the arm that the index names, which stands at the front of at
+abbrev pub arm_at : (ℕ → Reader Tree) → List ℕ → Option (ℕ × Arm) → Reader Tree
+arm_at child at (Some found) rest = with_children (arm found.0) (all_at child (field_types found.1.fields) rest)
+arm_at child at None rest = Err (no_such_variant, at)
+
+abbrev pub arms_at : (ℕ → Reader Tree) → List Arm → Reader Tree
+arms_at child arms [] = Err (truncated, [])
+arms_at child arms (index ∷ rest) = arm_at child (index ∷ rest) (arm_of arms index) rest
+
+-- the elements behind a length
+abbrev pub elements_at : (ℕ → Reader Tree) → ℕ → Read Reason ℕ → Read Refusal Tree
+elements_at child t (Ok n) = with_children list (times_at child n.0 t n.1)
+elements_at child t (Err e) = Err (basic e.0, e.1)
+
+-- a value of this layout, whose children the reader child reads
+unfoldable pub layout_at : (ℕ → Reader Tree) → Layout → Reader Tree
+layout_at child layout.unknown bytes = Err (no_finite_value, bytes)
+layout_at child layout.bit_sequence bytes = Err (bit_sequence, bytes)
+layout_at child layout.bad_compact bytes = Err (bad_compact, bytes)
+layout_at child layout.empty bytes = Ok (unit, bytes)
+layout_at child layout.bool bytes = bool_at bytes
+layout_at child layout.char bytes = char_from bytes (bytes_at 4 bytes)
+layout_at child layout.text bytes = as_value text (text_at bytes)
+layout_at child (layout.unsigned k) bytes = as_value (λ b. unsigned (number b)) (bytes_at k bytes)
+layout_at child (layout.signed k) bytes = as_value (λ b. signed (signed_number b)) (bytes_at k bytes)
+layout_at child layout.wide bytes = as_value wide (bytes_at 32 bytes)
+layout_at child (layout.fields ts) bytes = with_children fields (all_at child ts bytes)
+layout_at child (layout.arms arms) bytes = arms_at child arms bytes
+layout_at child layout.counted bytes = as_value count (compact_at target.U32 bytes)
+layout_at child (layout.sequence t) bytes = elements_at child t (compact_at target.U32 bytes)
+layout_at child (layout.array n t) bytes = with_children list (times_at child n t bytes)
+layout_at child (layout.compact m) bytes = as_value compact (compact_at m bytes)
+
+-- a value of type t, with room for so many levels
+unfoldable pub value_at : List TypeInfo → ℕ → ℕ → Reader Tree
+value_at r zero t bytes = Err (too_deep, bytes)
+value_at r (suc room) t bytes = if is_finite r t then layout_at (value_at r room) (layout r t) bytes else Err (no_finite_value, bytes)

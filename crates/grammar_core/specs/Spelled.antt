@@ -1,0 +1,83 @@
+-- The one spelling of a value: the bytes of each node by itself, one behind the other in preorder (SCALE codec, "Types").
+use Rattle.std.specs.Prelude.{◌≡◌, ℕ, suc, ◌-◌, ◌^◌, ℤ, pos, negsuc, List, [], ◌∷◌, ◌++◌, length, flat_map, Option, Some, None, slice_get, option_map, Bool, true, false, if◌then◌else◌}
+use Rattle.scale_core.specs.Number.{AreBytes, le_bytes, bool_byte}
+use Rattle.scale_core.specs.Compact.{compact}
+use Rattle.registry_core.specs.declared.primitive.Primitive.{Primitive}
+use Rattle.registry_core.specs.declared.primitive.Primitive.TheVariants as P
+use Rattle.registry_core.specs.declared.definition.TypeDef.{TypeDef}
+use Rattle.registry_core.specs.declared.definition.TypeDef.TheVariants as Def
+use Rattle.registry_core.specs.declared.type_info.TypeInfo.{TypeInfo}
+use Rattle.widths_core.specs.Types.{shape}
+use Rattle.grammar_core.specs.Tree.{Tree}
+use Rattle.grammar_core.specs.Grammar.{Val}
+use Rattle.grammar_core.specs.Preorder as head
+use Rattle.grammar_core.specs.Preorder.{Head}
+use Rattle.grammar_core.specs.Cells.{Cell, cells}
+
+-- how many bytes an integer of at most 128 bits has; what is no such integer has none of this kind
+abbrev pub byte_width : Primitive → ℕ
+byte_width P.U8 = 1
+byte_width P.U16 = 2
+byte_width P.U32 = 4
+byte_width P.U64 = 8
+byte_width P.U128 = 16
+byte_width P.I8 = 1
+byte_width P.I16 = 2
+byte_width P.I32 = 4
+byte_width P.I64 = 8
+byte_width P.I128 = 16
+byte_width _ = 0
+
+-- the same of a definition
+abbrev pub width_of : Option TypeDef → ℕ
+width_of (Some (Def.Primitive p)) = byte_width p
+width_of _ = 0
+
+-- the number that the 128 bits of an integer in two's complement spell
+abbrev pub word : ℤ → ℕ
+word (pos n) = n
+word (negsuc m) = 2 ^ 128 - suc m
+
+-- the index of the arm at a position, where the definition is a variant that has one there
+abbrev pub index_of : Option TypeDef → ℕ → Option ℕ
+index_of (Some (Def.Variant arms)) q = option_map (λ a. a.index) (slice_get arms q)
+index_of _ q = None
+
+-- the index byte of an arm
+abbrev pub index_byte : Option ℕ → List ℕ
+index_byte (Some i) = i ∷ []
+index_byte None = []
+
+abbrev pub is_sequence : Option TypeDef → Bool
+is_sequence (Some (Def.Sequence t)) = true
+is_sequence _ = false
+
+-- a sequence has its length in front, and an array has not
+abbrev pub length_bytes : Option TypeDef → ℕ → List ℕ
+length_bytes d n = if is_sequence d then compact n else []
+
+-- the bytes of a node without those of its children, by the definition of its type
+abbrev pub own_bytes : Option TypeDef → Head → List ℕ
+own_bytes d head.unit = []
+own_bytes d (head.bool x) = bool_byte x ∷ []
+own_bytes d (head.char c) = le_bytes 4 c
+own_bytes d (head.text s) = compact (length s) ++ s
+own_bytes d (head.unsigned n) = le_bytes (width_of d) n
+own_bytes d (head.signed z) = le_bytes (width_of d) (word z)
+own_bytes d (head.wide s) = s
+own_bytes d (head.compact n) = compact n
+own_bytes d (head.count n) = compact n
+own_bytes d (head.fields n) = []
+own_bytes d (head.arm q n) = index_byte (index_of d q)
+own_bytes d (head.list n) = length_bytes d n
+
+abbrev pub cell_bytes : List TypeInfo → Cell → List ℕ
+cell_bytes r c = own_bytes (shape r c.ty) c.head
+
+-- the bytes of all nodes of a value of type t
+abbrev pub spelled : List TypeInfo → ℕ → Tree → List ℕ
+spelled r t v = flat_map (cell_bytes r) (cells r t v)
+
+-- the bytes that spell a value by the grammar are these
+abbrev pub EncodedIsValue : Type 0
+EncodedIsValue = (r : List TypeInfo) (t : ℕ) (v : Tree) (b : List ℕ) → AreBytes b → Val r t v b → spelled r t v ≡ b

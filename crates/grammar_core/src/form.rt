@@ -1,0 +1,116 @@
+//! What a value of a type begins with, by its definition alone.
+
+ghost use Rattle.std.specs.Prelude.{◌≡◌, option_map};
+ghost use Rattle.grammar_core.specs.Forms.{next_at, sized_form};
+ghost use Rattle.widths_core.specs.Classes.{class_of, is_empty};
+ghost use Rattle.widths_core.specs.Types.{shape};
+
+use registry_core::{Primitive, TypeDef, TypeId};
+use scale_core::Target;
+use widths_core::{Checked, Class};
+
+/// What stands at a place in a value, and how many parts it has (SCALE codec, "Types").
+#[derive(Clone, Copy, Debug, PartialEq, Eq)]
+pub enum Form {
+    /// The one value of a type that takes no bytes. It has no parts.
+    Empty,
+    /// A value of a primitive type. It has no parts.
+    Primitive(Primitive),
+    /// An unsigned integer in its compact form, which fits the target. It has no parts.
+    Compact(Target),
+    /// A value of each field of a composite, or of each member of a tuple, in order.
+    Fields,
+    /// The index byte of an arm, and a value of each field of the first arm that has this index, in order.
+    Arm,
+    /// This many values of one type, at least one, with no length before them.
+    Array(u32),
+    /// A compact length, and so many values of one type.
+    Sequence,
+    /// A compact length alone: the elements take no bytes.
+    Count,
+}
+
+/// Why no value is read at a place. Where several hold, the first of them in this order is told (this project's own
+/// order).
+#[derive(Clone, Copy, Debug, PartialEq, Eq)]
+pub enum StopReason {
+    /// The depth of the place is above the limit.
+    TooDeep,
+    /// The type has no value: each would hold another of its type, without end, or the type is a variant without arms.
+    NoFiniteValue,
+    /// The type is a bit sequence, whose values are left out.
+    BitSequence,
+    /// The type is a compact over something else than an unsigned integer of at most 128 bits, nothing, or a wrapper
+    /// of one of these.
+    BadCompact,
+}
+
+/// What comes next in a value.
+#[derive(Clone, Copy, Debug, PartialEq, Eq)]
+pub enum Next {
+    /// Nothing: the value is whole.
+    Finished,
+    /// A value that cannot be read.
+    Stop(StopReason),
+    /// A value of this form.
+    Wants(Form),
+}
+
+/// What a type is made of, where it is a position.
+pub fn shape(checked: &Checked, ty: TypeId) -> Option<&TypeDef>
+    ensures { option_map (λ d. d.now) result ≡ shape checked.now ty.0 }
+{
+    let info = checked.registry().types().get(ty.0 as usize)?;
+    Some(&info.shape)
+}
+
+/// The class of a type, where one that is no position has no value.
+fn class_of(checked: &Checked, ty: TypeId) -> Class
+    ensures { result ≡ class_of checked.now ty.0 }
+{
+    checked.class(ty).unwrap_or(Class::NoValue)
+}
+
+/// Does a type take no bytes?
+fn is_empty(checked: &Checked, ty: TypeId) -> bool
+    ensures { result ≡ is_empty checked.now ty.0 }
+{
+    matches!(class_of(checked, ty), Class::Empty)
+}
+
+/// The form of a type that takes bytes, by its definition.
+fn sized_form(checked: &Checked, ty: TypeId) -> Next
+    ensures { result ≡ sized_form checked.now ty.0 }
+{
+    match shape(checked, ty) {
+        None => Next::Stop(StopReason::NoFiniteValue),
+        Some(TypeDef::Composite(_)) => Next::Wants(Form::Fields),
+        Some(TypeDef::Tuple(_)) => Next::Wants(Form::Fields),
+        Some(TypeDef::Variant(_)) => Next::Wants(Form::Arm),
+        Some(TypeDef::Sequence(element)) => {
+            if is_empty(checked, *element) {
+                Next::Wants(Form::Count)
+            } else {
+                Next::Wants(Form::Sequence)
+            }
+        }
+        Some(TypeDef::Array(length, _)) => Next::Wants(Form::Array(*length)),
+        Some(TypeDef::Primitive(primitive)) => Next::Wants(Form::Primitive(*primitive)),
+        Some(TypeDef::Compact(_)) => match checked.compact_target(ty) {
+            Some(target) => Next::Wants(Form::Compact(target)),
+            None => Next::Stop(StopReason::BadCompact),
+        },
+        Some(TypeDef::BitSequence { .. }) => Next::Stop(StopReason::BitSequence),
+    }
+}
+
+/// What a value of the type begins with, or why there is none, where its depth is within the limit.
+pub fn next_at(checked: &Checked, ty: TypeId) -> Next
+    ensures { result ≡ next_at checked.now ty.0 }
+{
+    match class_of(checked, ty) {
+        Class::NoValue => Next::Stop(StopReason::NoFiniteValue),
+        Class::Empty => Next::Wants(Form::Empty),
+        Class::Sized => sized_form(checked, ty),
+    }
+}

@@ -1,0 +1,9 @@
+//! The grammar of values, what holds of all of them, and what a value of a type begins with.
+#![tactic(auto)]
+
+mod form;
+pub mod laws;
+mod limits;
+
+pub use form::{Form, Next, StopReason, next_at, shape};
+pub use limits::{Limits, MAX_DEPTH};

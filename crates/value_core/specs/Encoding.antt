@@ -1,0 +1,40 @@
+-- What a value is in bytes, and how its nodes are written.
+use Rattle.std.specs.Prelude.{◌≡◌, ℕ, ◌+◌, ◌-◌, ◌^◌, ◌≤◌, min, List, [], ◌++◌, length, take, Option, slice_range}
+use Rattle.std.specs.Io.KnownBytes.{Appends}
+use Rattle.scale_core.specs.Number.{AreBytes}
+use Rattle.registry_core.specs.declared.definition.TypeDef.{TypeDef}
+use Rattle.registry_core.specs.declared.type_info.TypeInfo.{TypeInfo}
+use Rattle.grammar_core.specs.Grammar.{Val}
+use Rattle.grammar_core.specs.Spelled.{own_bytes, cell_bytes, spelled}
+use Rattle.value_core.specs.Shown.{Seen, head_shown, cell_shown, IsInPool}
+use Rattle.value_core.specs.declared.node.Content.{Content}
+use Rattle.value_core.specs.declared.node.Content.TheVariants as is
+use Rattle.value_core.specs.declared.node.Node.{Node}
+
+-- what a value is in bytes
+abbrev pub encoding : Seen → List ℕ
+encoding s = spelled s.types s.ty s.tree
+
+-- they are bytes, and spell the value
+abbrev pub IsEncoding : Seen → List ℕ → Type 0
+IsEncoding s b = AreBytes b × Val s.types s.ty s.tree b
+
+-- known bytes grew by a front of bs, and n is its length, which stops at the greatest u64
+abbrev pub AppendsFront : Option (List ℕ) → Option (List ℕ) → List ℕ → ℕ → Type 0
+AppendsFront old new bs n = (k : ℕ) × (k ≤ length bs) × Appends old new (take k bs) × (n ≡ min k (2 ^ 64 - 1))
+
+-- ---- how it is written
+
+-- the bytes of a node as it is kept
+abbrev pub node_bytes : List TypeInfo → List ℕ → Node → List ℕ
+node_bytes r pool n = cell_bytes r (cell_shown pool n)
+
+-- the bytes of a node that lie in the pool
+abbrev pub pool_bytes : List ℕ → Content → List ℕ
+pool_bytes pool (is.Text start len) = slice_range pool start (start + len)
+pool_bytes pool (is.Wide start) = slice_range pool start (start + 32)
+pool_bytes pool _ = []
+
+-- these bytes, and those in the pool behind them, are the node's
+abbrev pub Starts : List ℕ → Option TypeDef → Content → Type 0
+Starts front d content = (pool : List ℕ) → IsInPool pool content → front ++ pool_bytes pool content ≡ own_bytes d (head_shown pool content)
