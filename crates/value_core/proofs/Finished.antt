@@ -1,5 +1,5 @@
 -- A value of which nothing is missing.
-use Rattle.std.proofs.Common.{◌≡◌, ℕ, ◌+◌, List, [], ◌∷◌, ◌++◌, length, map, true, Some, None, Option, refl, sym, ap, subst, ◌∙◌, arith, inl}
+use Rattle.std.proofs.Common.{◌≡◌, ℕ, ◌+◌, ◌≤◌, List, [], ◌∷◌, ◌++◌, length, map, true, Some, None, Option, refl, sym, ap, subst, ◌∙◌, arith, inl}
 use Rattle.std.proofs.lemmas.Simd.{map-map}
 use Rattle.std.specs.Prelude.{is_none}
 use Rattle.registry_core.specs.declared.type_info.TypeInfo.{TypeInfo}
@@ -50,11 +50,16 @@ text_of_entries : (pool : List ℕ) (ns : List Node) → entries_text_bytes (ent
 text_of_entries pool [] = refl
 text_of_entries pool (n ∷ ns) = omega (arith, text_of_entries pool ns)
 
+-- the texts of a value's nodes are those of the value
+pub text_of_nodes : (r : List TypeInfo) (pool : List ℕ) (ns : List Node) → IsWhole r pool ns → entries_text_bytes (entries_shown pool ns) ≡ text_bytes (tree_shown pool ns)
+text_of_nodes r pool ns h = text_of_entries pool ns ∙ ap cells_text h.nodes ∙ text_of_cells r (type_shown ns) (tree_shown pool ns)
+
 -- the nodes are those of a value of the type
 pub record IsFinished (types : List TypeInfo) (ty : ℕ) (pool : List ℕ) (ns : List Node) (text_len : ℕ) : Type 0 where
   pub whole : IsWhole types pool ns
   pub type_is : type_shown ns ≡ ty
   pub texts : text_len ≡ text_bytes (tree_shown pool ns)
+  pub fits : text_len ≤ length pool
 
 finished_by : (ty : ℕ) (types : List TypeInfo) (limit : ℕ) (fs : List OpenPart) (pool : List ℕ) (ns : List Node) (text_len : ℕ) → IsBuilding ty (record { types = types; limit = limit; frames = fs }) pool ns text_len → is_whole_in fs ≡ true → IsFinished types ty pool ns text_len
 finished_by ty types limit [] pool ns text_len b e = absurd cc
@@ -73,6 +78,7 @@ finished_by ty types limit (f ∷ []) pool ns text_len b e = by b.opens refl whe
         whole = record { nodes = v.1 ∙ sym (rw (is.0, is.1) refl); inside = b.inside; value = rw (is.0, is.1) (b.own, b.are_bytes, v.2) };
         type_is = is.0;
         texts = b.texts ∙ text_of_entries pool ns ∙ ap cells_text v.1 ∙ text_of_cells types ty v.0 ∙ ap text_bytes (sym is.1);
+        fits = b.fits;
       }
   by (x ∷ os) o = absurd (omega (arith, ap length o, spine_length types b.room ty b.opens (f ∷ []) (cells_shown pool ns) b.own b.spine))
 

@@ -1,16 +1,18 @@
 -- The bytes of a value go out in parts.
-use Rattle.std.proofs.Common.{◌≡◌, ℕ, zero, suc, ◌+◌, ◌-◌, ◌^◌, ◌<◌, ◌≤◌, flat_map, List, [], ◌∷◌, ◌++◌, length, take, drop, get_or, Option, Some, None, refl, append_assoc, sym, subst, ◌∙◌, ap, arith, length-append}
-use Rattle.std.specs.Prelude.{min}
+use Rattle.std.proofs.Common.{◌≡◌, ℕ, zero, suc, ◌+◌, ◌*◌, ◌^◌, ◌<◌, ◌≤◌, flat_map, List, [], ◌∷◌, ◌++◌, length, take, drop, get_or, Option, Some, None, refl, append_assoc, sym, subst, ◌∙◌, ap, arith, length-append}
 use Rattle.std.proofs.Math.Seq.{take-add}
 use Rattle.std.proofs.lemmas.List.Folds.{flat_map-map}
 use Rattle.scale_core.specs.Number.{AreBytes}
 use Rattle.registry_core.specs.declared.type_info.TypeInfo.{TypeInfo}
 use Rattle.grammar_core.specs.Spelled.{cell_bytes}
+use Rattle.grammar_core.specs.Tree.{text_bytes}
 use Rattle.grammar_core.specs.Grammar.{Val}
 use Rattle.grammar_core.proofs.Spelled.{encoded_is_value}
-use Rattle.value_core.specs.Shown.{Seen, seen, cell_shown, IsValue, IsWhole}
-use Rattle.value_core.specs.Encoding.{encoding, IsEncoding, node_bytes, AppendsFront}
+use Rattle.value_core.specs.Shown.{Seen, seen, head_shown, cell_shown, IsValue, IsWhole}
+use Rattle.value_core.specs.Built.{entries_shown, entries_text_bytes, head_text_bytes}
+use Rattle.value_core.specs.Encoding.{encoding, IsEncoding, node_bytes}
 use Rattle.value_core.specs.declared.node.Node.{Node}
+use Rattle.value_core.proofs.Finished.{text_of_nodes}
 use Rattle.std.specs.Io.KnownBytes.{Appends}
 
 -- two appends of neighbouring parts are one
@@ -76,12 +78,16 @@ within f (m ∷ ns) (suc i) d h =
     let s = within f ns i d (omega arith) in
     (s.0, ap (λ (xs : List ℕ). f m ++ xs) s.1 ∙ sym (append_assoc (f m) (flat_map f (take i ns)) (f (get_or ns i d) ++ s.0)))
 
--- the nodes before one of them went out, and then a front of that node
-pub stops : (a b c : Option (List ℕ)) (r s : List TypeInfo) (pool : List ℕ) (ns : List Node) (i : ℕ) (d : Node) (whole : List ℕ) (w before told : ℕ) →
+-- what a front of one node makes of the bytes of the nodes before it, which went out
+pub record Stops (a c : Option (List ℕ)) (whole : List ℕ) (told : ℕ) : Type 0 where
+  pub part : told ≤ length whole
+  pub sent : Appends a c (take told whole)
+
+pub stops : (a b c : Option (List ℕ)) (r s : List TypeInfo) (pool : List ℕ) (ns : List Node) (i : ℕ) (d : Node) (whole : List ℕ) (w before : ℕ) →
     s ≡ r → i < length ns → flat_map (node_bytes r pool) ns ≡ whole →
-    Appends a b (flat_map (node_bytes r pool) (take i ns)) → before ≡ min (length (flat_map (node_bytes r pool) (take i ns))) (2 ^ 64 - 1) →
-    w ≤ length (node_bytes s pool (get_or ns i d)) → Appends b c (take w (node_bytes s pool (get_or ns i d))) → told ≡ min (before + w) (2 ^ 64 - 1) → AppendsFront a c whole told
-stops a b c r s pool ns i d whole w before told same h all sent counted le more is =
+    Appends a b (flat_map (node_bytes r pool) (take i ns)) → before ≡ length (flat_map (node_bytes r pool) (take i ns)) →
+    w ≤ length (node_bytes s pool (get_or ns i d)) → Appends b c (take w (node_bytes s pool (get_or ns i d))) → Stops a c whole (before + w)
+stops a b c r s pool ns i d whole w before same h all sent counted le more =
     let f = node_bytes r pool in
     let done = flat_map f (take i ns) in
     let own = f (get_or ns i d) in
@@ -89,19 +95,35 @@ stops a b c r s pool ns i d whole w before told same h all sent counted le more 
     let more' : Appends b c (take w own) = rw (← same) more in
     let x = within f ns i d h in
     let e : done ++ (own ++ x.0) ≡ whole = sym x.1 ∙ all in
-    let long : length whole ≡ length done + length (own ++ x.0) = long_whole done (own ++ x.0) whole e in (
-      length done + w,
-      omega (arith, long, le', length-append own x.0),
-      sent_more a b c done (own ++ x.0) whole (length done) w refl e sent (subst (Appends b c) (take-front own x.0 w le') more'),
-      omega (arith, is, counted),
-    )
+    let long : length whole ≡ length done + length (own ++ x.0) = long_whole done (own ++ x.0) whole e in
+    record {
+      part = omega (arith, long, le', counted, length-append own x.0);
+      sent = sent_more a b c done (own ++ x.0) whole before w (sym counted) e sent (subst (Appends b c) (take-front own x.0 w le') more');
+    }
 
-pub told_part : (a b : Option (List ℕ)) (whole : List ℕ) (told : ℕ) → AppendsFront a b whole told → told ≤ length whole
-told_part a b whole told h = omega (arith, h.1, h.3)
+-- the texts of the nodes up to one of them
+pub texts_up_to : (pool : List ℕ) (ns : List Node) (i : ℕ) (d : Node) → i < length ns →
+    (entries_text_bytes (entries_shown pool (take (suc i) ns)) ≡ entries_text_bytes (entries_shown pool (take i ns)) + head_text_bytes (head_shown pool (get_or ns i d).content))
+    × (entries_text_bytes (entries_shown pool (take (suc i) ns)) ≤ entries_text_bytes (entries_shown pool ns))
+texts_up_to pool [] i d h = absurd (omega arith)
+texts_up_to pool (m ∷ ns) zero d h = (omega arith, omega arith)
+texts_up_to pool (m ∷ ns) (suc i) d h = let t = texts_up_to pool ns i d (omega arith) in (omega (arith, t.0), omega (arith, t.1))
 
--- where the count does not stop early, it is exact
-pub told_exactly : (a b : Option (List ℕ)) (whole : List ℕ) (told : ℕ) → AppendsFront a b whole told → length whole < 2 ^ 64 → Appends a b (take told whole)
-told_exactly a b whole told h small = let same : h.0 ≡ told = omega (arith, h.1, h.3, small) in subst (λ (k : ℕ). Appends a b (take k whole)) same h.2
+-- the bytes of the nodes up to one of them, of which the node before are as few as their texts and 32 more each
+pub record IsFew (pool : List ℕ) (ns : List Node) (i count : ℕ) : Type 0 where
+  pub few : count ≤ 32 * (i + 1) + entries_text_bytes (entries_shown pool (take (i + 1) ns))
+  pub fits : count < 2 ^ 64
+
+pub is_few : (r s : List TypeInfo) (pool : List ℕ) (ns : List Node) (v : Seen) (i : ℕ) (d : Node) (before w : ℕ) →
+    s ≡ r → IsWhole r pool ns → seen r pool ns ≡ v → text_bytes v.tree ≤ length pool → length pool < 2 ^ 63 → length ns * 40 < 2 ^ 63 → i < length ns →
+    before ≤ 32 * i + entries_text_bytes (entries_shown pool (take i ns)) → w ≤ length (node_bytes s pool (get_or ns i d)) →
+    length (node_bytes s pool (get_or ns i d)) ≤ 32 + head_text_bytes (head_shown pool (get_or ns i d).content) → IsFew pool ns i (before + w)
+is_few r s pool ns v i d before w same whole is fits small few h le part bound =
+    let next : suc i ≡ i + 1 = omega arith in
+    let t = texts_up_to pool ns i d h in
+    let all : entries_text_bytes (entries_shown pool ns) ≡ text_bytes v.tree = text_of_nodes r pool ns whole ∙ ap (λ (x : Seen). text_bytes x.tree) is in
+    let up : before + w ≤ 32 * suc i + entries_text_bytes (entries_shown pool (take (suc i) ns)) = omega (arith, le, part, bound, t.0) in
+    record { few = rw (← next) up; fits = omega (arith, up, t.1, all, fits, small, few, h) }
 
 -- each node of a value without bytes has none
 pub no_own : (r s : List TypeInfo) (pool : List ℕ) (ns : List Node) (i : ℕ) (d : Node) (whole : List ℕ) → s ≡ r → i < length ns → flat_map (node_bytes r pool) ns ≡ whole → whole ≡ [] → length (node_bytes s pool (get_or ns i d)) ≡ 0

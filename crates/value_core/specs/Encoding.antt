@@ -1,6 +1,5 @@
 -- What a value is in bytes, and how its nodes are written.
-use Rattle.std.specs.Prelude.{◌≡◌, ℕ, ◌+◌, ◌-◌, ◌^◌, ◌≤◌, min, List, [], ◌++◌, length, take, Option, slice_range}
-use Rattle.std.specs.Io.KnownBytes.{Appends}
+use Rattle.std.specs.Prelude.{◌≡◌, ℕ, ◌+◌, List, [], ◌++◌, Option, slice_range}
 use Rattle.scale_core.specs.Number.{AreBytes}
 use Rattle.registry_core.specs.declared.definition.TypeDef.{TypeDef}
 use Rattle.registry_core.specs.declared.type_info.TypeInfo.{TypeInfo}
@@ -18,10 +17,6 @@ encoding s = spelled s.types s.ty s.tree
 -- they are bytes, and spell the value
 abbrev pub IsEncoding : Seen → List ℕ → Type 0
 IsEncoding s b = AreBytes b × Val s.types s.ty s.tree b
-
--- known bytes grew by a front of bs, and n is its length, which stops at the greatest u64
-abbrev pub AppendsFront : Option (List ℕ) → Option (List ℕ) → List ℕ → ℕ → Type 0
-AppendsFront old new bs n = (k : ℕ) × (k ≤ length bs) × Appends old new (take k bs) × (n ≡ min k (2 ^ 64 - 1))
 
 -- ---- how it is written
 

@@ -1,6 +1,6 @@
 //! A finished value.
 
-ghost use Rattle.std.specs.Prelude.{◌≡◌, length};
+ghost use Rattle.std.specs.Prelude.{◌≡◌, ◌≤◌, length};
 ghost use Rattle.grammar_core.specs.Tree.{nodes, text_bytes};
 ghost use Rattle.value_core.specs.Shown.{IsValue, IsWhole, seen, tree_shown};
 
@@ -22,7 +22,7 @@ pub struct Value<'r, A: Allocator> {
 
 impl<'r, A: Allocator> Model for Value<'r, A> {
     ghost use Rattle.std.specs.Coded.{codes};
-    ghost use Rattle.std.specs.Prelude.{◌≡◌};
+    ghost use Rattle.std.specs.Prelude.{◌≡◌, ◌≤◌, length};
     ghost use Rattle.grammar_core.specs.Tree.{text_bytes};
     ghost use Rattle.grammar_core.specs.Preorder.{tree_code};
     ghost use Rattle.value_core.specs.Shown.{Seen, seen, tree_shown, IsWhole};
@@ -33,7 +33,7 @@ impl<'r, A: Allocator> Model for Value<'r, A> {
 
     ghost view = { λ v. seen v.checked.now v.pool.items v.nodes.items };
 
-    ghost invariant = { λ v. IsWhole v.checked.now v.pool.items v.nodes.items × (v.text_len ≡ text_bytes (tree_shown v.pool.items v.nodes.items)) };
+    ghost invariant = { λ v. IsWhole v.checked.now v.pool.items v.nodes.items × (v.text_len ≡ text_bytes (tree_shown v.pool.items v.nodes.items)) × (v.text_len ≤ length v.pool.items) };
 }
 
 impl<'r, A: Allocator> Value<'r, A> {
@@ -46,6 +46,7 @@ impl<'r, A: Allocator> Value<'r, A> {
     ) -> Value<'r, A>
         requires whole { IsWhole checked.now pool.items nodes.items }
         requires texts { text_len ≡ text_bytes (tree_shown pool.items nodes.items) }
+        requires fits { text_len ≤ length pool.items }
         ensures { result ≡ seen checked.now pool.items nodes.items }
     {
         Value {
@@ -75,6 +76,7 @@ impl<'r, A: Allocator> Value<'r, A> {
     pub(crate) fn parts(&self) -> (&[Node], &[u8])
         ensures whole { IsWhole self.now.types result.1.now result.0.now }
         ensures same { seen self.now.types result.1.now result.0.now ≡ self.now }
+        ensures fits { text_bytes self.now.tree ≤ length result.1.now }
     {
         (self.nodes.as_slice(), self.pool.as_slice())
     }

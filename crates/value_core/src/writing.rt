@@ -1,13 +1,14 @@
 //! A value's bytes, written to a sink.
 
-ghost use Rattle.std.specs.Prelude.{◌≡◌, ◌≤◌, ◌<◌, ◌^◌, ◌||◌, [], true, length, take, IfOk, IfErr, OnOk, is_ok, not};
+ghost use Rattle.std.specs.Prelude.{◌≡◌, ◌≤◌, ◌<◌, ◌+◌, ◌^◌, ◌||◌, [], true, length, take, IfOk, IfErr, OnOk, is_ok, not};
 ghost use Rattle.std.specs.Int.{w128, from_le_bytes};
 ghost use Rattle.std.specs.Io.KnownBytes.{Appends};
 ghost use Rattle.scale_core.specs.Number.{le_bytes};
 ghost use Rattle.widths_core.specs.Types.{shape};
 ghost use Rattle.grammar_core.specs.Spelled.{byte_width, width_of, index_of, index_byte, is_sequence, length_bytes};
-ghost use Rattle.value_core.specs.Shown.{IsInPool};
-ghost use Rattle.value_core.specs.Encoding.{node_bytes, pool_bytes, Starts, encoding, IsEncoding, AppendsFront};
+ghost use Rattle.value_core.specs.Built.{head_text_bytes};
+ghost use Rattle.value_core.specs.Shown.{IsInPool, head_shown};
+ghost use Rattle.value_core.specs.Encoding.{node_bytes, pool_bytes, Starts, encoding, IsEncoding};
 
 use crate::node::{Content, Node};
 use crate::value::Value;
@@ -23,7 +24,7 @@ use widths_core::Checked;
 pub struct WriteFault {
     /// What the writer did.
     pub reason: SinkFault,
-    /// The number of bytes that went out, which stops at the greatest u64.
+    /// The number of bytes that went out.
     pub written: u64,
 }
 
@@ -181,6 +182,7 @@ fn send_node<W: Write>(
 ) -> Result<u64, WriteFault>
     requires { IsInPool pool.now node.now.content }
     ensures count { IfOk result (λ n. n ≡ length (node_bytes checked.now pool.now node.now)) }
+    ensures bound { length (node_bytes checked.now pool.now node.now) ≤ 32 + head_text_bytes (head_shown pool.now node.now.content) }
     ensures ok { OnOk result (Appends (W.contents sink.old.device) (W.contents sink.new.device) (node_bytes checked.now pool.now node.now)) }
     ensures part { IfErr result (λ f. f.written ≤ length (node_bytes checked.now pool.now node.now)) }
     ensures err { IfErr result (λ f. Appends (W.contents sink.old.device) (W.contents sink.new.device) (take f.written (node_bytes checked.now pool.now node.now))) }
@@ -203,7 +205,7 @@ fn send_node<W: Write>(
 /// Writes the one spelling of a value, byte for byte (SCALE codec specification): the bytes of each node, in their
 /// order, without recursion. A value that takes no bytes makes no write.
 ///
-/// Refuses, and tells how many bytes went out in all, a count that stops at the greatest u64:
+/// Refuses, and tells how many bytes went out in all:
 /// - `Device`, where the writer answers an error; an interrupted write is one;
 /// - `WroteNothing`, where the writer takes no byte of a part that is not empty.
 ///
@@ -217,10 +219,9 @@ pub fn encode<A: Allocator, W: Write>(
     ensures value { IsEncoding value.now (encoding value.now) }
     // All of them went out.
     ensures ok { OnOk result (Appends (W.contents sink.old.device) (W.contents sink.new.device) (encoding value.now)) }
-    // A front of them went out, and as many as is told, which stops at the greatest u64.
+    // A front of them went out, and as many as is told.
     ensures part { IfErr result (λ f. f.written ≤ length (encoding value.now)) }
-    ensures front { IfErr result (λ f. AppendsFront (W.contents sink.old.device) (W.contents sink.new.device) (encoding value.now) f.written) }
-    ensures err { IfErr result (λ f. length (encoding value.now) < 2 ^ 64 → Appends (W.contents sink.old.device) (W.contents sink.new.device) (take f.written (encoding value.now))) }
+    ensures err { IfErr result (λ f. Appends (W.contents sink.old.device) (W.contents sink.new.device) (take f.written (encoding value.now))) }
     ensures failed { sink.new.failed ≡ sink.old.failed || not (is_ok result) }
     // Without bytes there is no write.
     ensures none { encoding value.now ≡ [] → (sink.new ≡ sink.old) × (is_ok result ≡ true) }
@@ -229,11 +230,11 @@ pub fn encode<A: Allocator, W: Write>(
     let mut written: u64 = 0;
     'nodes: for node in nodes {
         match send_node(value.checked(), node, pool, sink) {
-            Ok(count) => written = written.saturating_add(count),
+            Ok(sent) => written += sent,
             Err(fault) => {
                 return Err(WriteFault {
                     reason: fault.reason,
-                    written: written.saturating_add(fault.written),
+                    written: written + fault.written,
                 });
             }
         }

@@ -1,24 +1,53 @@
-use Rattle.std.proofs.Common.{flat_map, subst, refl, length, ap, ◌∙◌, arith}
+use Rattle.std.proofs.Common.{rules, ◌+◌, ◌*◌, ◌^◌, ◌<◌, flat_map, subst, refl, length, ap, ◌∙◌, arith}
 use Rattle.std.specs.Io.KnownBytes.{Appends}
+use Rattle.std.proofs.lemmas.Grind.{common_steps}
 use Rattle.std.proofs.lemmas.List.{take_all}
 use Rattle.value_core.specs.Shown.{IsValue}
-use Rattle.value_core.specs.Encoding.{node_bytes, encoding}
-use Rattle.value_core.proofs.SpelledParts.{is_encoding, nodes_spell, stops, told_part, told_exactly, no_own}
+use Rattle.value_core.specs.Encoding.{node_bytes}
+use Rattle.value_core.proofs.SpelledParts.{is_encoding, nodes_spell, stops, is_few, no_own}
 use Rattle.value_core.proofs.writing.encode.Goals as goal
 
 pub returns-in-Err-clause-value : goal.returns-in-Err-clause-value
 returns-in-Err-clause-value g c = is_encoding c.args.value.now (subst IsValue c.parts.ensures.same c.parts.ensures.whole.value)
 
-pub returns-in-Err-clause-front : goal.returns-in-Err-clause-front
-returns-in-Err-clause-front g c =
-    stops _ _ _ _ _ c.parts.result.1.now c.parts.result.0.now c.nodes.node-index _ _ c.in-Err.fault.written c.nodes.written c.saturating_add.result c.checked.ensures c.nodes-test.true
-    (nodes_spell _ _ _ _ c.parts.ensures.whole c.parts.ensures.same) c.nodes.invariant.sent c.nodes.invariant.written c.in-Err.ensures.part c.in-Err.ensures.err c.saturating_add.ensures
+pub overflow_add-written : goal.overflow_add-written
+overflow_add-written g c =
+    let small : length c.parts.result.1.now < 2 ^ 63 = search rules in
+    let few : length c.parts.result.0.now * 40 < 2 ^ 63 = search rules in
+    let fits : c.nodes.written + c.in-Ok.sent < 2 ^ 64 = (is_few _ _ c.parts.result.1.now c.parts.result.0.now _ c.nodes.node-index _ c.nodes.written c.in-Ok.sent c.checked.ensures c.parts.ensures.whole c.parts.ensures.same c.parts.ensures.fits small few c.nodes-test.true
+    c.nodes.invariant.few (omega (arith, c.in-Ok.ensures.count)) c.in-Ok.ensures.bound).fits in
+    search rules
+
+pub overflow_add-result : goal.overflow_add-result
+overflow_add-result g c =
+    let small : length c.parts.result.1.now < 2 ^ 63 = search rules in
+    let few : length c.parts.result.0.now * 40 < 2 ^ 63 = search rules in
+    let fits : c.nodes.written + c.in-Err.fault.written < 2 ^ 64 = (is_few _ _ c.parts.result.1.now c.parts.result.0.now _ c.nodes.node-index _ c.nodes.written c.in-Err.fault.written c.checked.ensures c.parts.ensures.whole c.parts.ensures.same c.parts.ensures.fits small few c.nodes-test.true
+    c.nodes.invariant.few c.in-Err.ensures.part c.in-Err.ensures.bound).fits in
+    search rules
+
+pub nodes-preserved : goal.nodes-preserved
+nodes-preserved g c =
+    let small : length c.parts.result.1.now < 2 ^ 63 = search rules in
+    let few : length c.parts.result.0.now * 40 < 2 ^ 63 = search rules in
+    record {
+      sent = grind (arith, common_steps);
+      written = grind (arith, common_steps);
+      few = (is_few _ _ c.parts.result.1.now c.parts.result.0.now _ c.nodes.node-index _ c.nodes.written c.in-Ok.sent c.checked.ensures c.parts.ensures.whole c.parts.ensures.same c.parts.ensures.fits small few c.nodes-test.true
+          c.nodes.invariant.few (omega (arith, c.in-Ok.ensures.count)) c.in-Ok.ensures.bound).few;
+      quiet = grind (arith, common_steps);
+      none = grind (arith, common_steps);
+    }
 
 pub returns-in-Err-clause-part : goal.returns-in-Err-clause-part
-returns-in-Err-clause-part g c = told_part _ _ (encoding c.args.value.now) c.saturating_add.result (returns-in-Err-clause-front g c)
+returns-in-Err-clause-part g c =
+    (stops _ _ _ _ _ c.parts.result.1.now c.parts.result.0.now c.nodes.node-index _ _ c.in-Err.fault.written c.nodes.written c.checked.ensures c.nodes-test.true
+    (nodes_spell _ _ _ _ c.parts.ensures.whole c.parts.ensures.same) c.nodes.invariant.sent c.nodes.invariant.written c.in-Err.ensures.part c.in-Err.ensures.err).part
 
 pub returns-in-Err-clause-err : goal.returns-in-Err-clause-err
-returns-in-Err-clause-err g c = told_exactly _ _ (encoding c.args.value.now) c.saturating_add.result (returns-in-Err-clause-front g c)
+returns-in-Err-clause-err g c =
+    (stops _ _ _ _ _ c.parts.result.1.now c.parts.result.0.now c.nodes.node-index _ _ c.in-Err.fault.written c.nodes.written c.checked.ensures c.nodes-test.true
+    (nodes_spell _ _ _ _ c.parts.ensures.whole c.parts.ensures.same) c.nodes.invariant.sent c.nodes.invariant.written c.in-Err.ensures.part c.in-Err.ensures.err).sent
 
 pub returns-clause-value : goal.returns-clause-value
 returns-clause-value g c = is_encoding c.args.value.now (subst IsValue c.parts.ensures.same c.parts.ensures.whole.value)

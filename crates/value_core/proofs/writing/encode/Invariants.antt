@@ -1,6 +1,6 @@
-use Rattle.std.proofs.Common.{◌≡◌, ◌-◌, ◌^◌, length, take, flat_map}
-use Rattle.std.specs.Prelude.{min}
+use Rattle.std.proofs.Common.{◌≡◌, ◌+◌, ◌*◌, ◌≤◌, length, take, flat_map}
 use Rattle.std.specs.Io.KnownBytes.{Appends}
+use Rattle.value_core.specs.Built.{entries_shown, entries_text_bytes}
 use Rattle.value_core.specs.Encoding.{node_bytes}
 use Rattle.value_core.proofs.writing.encode.Given as goal
 
@@ -8,7 +8,8 @@ abbrev pub invariant-nodes : goal.invariant-nodes
 invariant-nodes g l =
     record {
       sent : Appends (g.W.Write.contents l.fn.sink.device) (g.W.Write.contents l.sink.device) (flat_map (node_bytes l.value.types l.pool) (take l.node-index l.nodes));
-      written : l.written ≡ min (length (flat_map (node_bytes l.value.types l.pool) (take l.node-index l.nodes))) (2 ^ 64 - 1);
+      written : l.written ≡ length (flat_map (node_bytes l.value.types l.pool) (take l.node-index l.nodes));
+      few : l.written ≤ 32 * l.node-index + entries_text_bytes (entries_shown l.pool (take l.node-index l.nodes));
       quiet : l.sink.failed ≡ l.fn.sink.failed;
       none : length (flat_map (node_bytes l.value.types l.pool) (take l.node-index l.nodes)) ≡ 0 → l.sink ≡ l.fn.sink;
     }

@@ -17,6 +17,11 @@ new-requires-clause-texts g c =
     let w : is_whole_in c.self.inside.walk.frames ≡ true = search rules in
     (is_finished c.self.inside.root.0 c.self.inside.walk c.self.inside.pool.items c.self.inside.nodes.items c.self.inside.text_len c.self.invariant.0 w).texts
 
+pub new-requires-clause-fits : goal.new-requires-clause-fits
+new-requires-clause-fits g c =
+    let w : is_whole_in c.self.inside.walk.frames ≡ true = search rules in
+    (is_finished c.self.inside.root.0 c.self.inside.walk c.self.inside.pool.items c.self.inside.nodes.items c.self.inside.text_len c.self.invariant.0 w).fits
+
 pub returns : goal.returns
 returns g c =
     let w : is_whole_in c.self.inside.walk.frames ≡ true = search rules in
