@@ -1,3 +1,4 @@
+pub mod Begun
 pub mod Bounds
 pub mod Classes
 pub mod Complete

@@ -1,3 +1,4 @@
+pub mod Begun
 pub mod Cells
 pub mod Forms
 pub mod Grammar

@@ -1,7 +1,7 @@
 //! What holds of every value and its bytes.
 
 ghost use Rattle.grammar_core.specs.Spelled.{EncodedIsValue};
-ghost use Rattle.grammar_core.specs.Laws.{ValuesArePrefixFree, ValueOrFault, ValueOrFaultNotBoth, FaultsAreStable, ValueIsRead, ReadIsValue, EmptyHasUnit, SizedHasBytes, ValuesAreFinite, ValuesAreBounded, OneSpelling, TextsAreText, FiniteHasValue, PartsFail};
+ghost use Rattle.grammar_core.specs.Laws.{ValuesArePrefixFree, ValueOrFault, ValueOrFaultNotBoth, FaultsAreStable, ValueIsRead, ReadIsValue, EmptyHasUnit, SizedHasBytes, ValuesAreFinite, ValuesAreBounded, OneSpelling, TextsAreText, FiniteHasValue, PartsFail, BegunTreesFit};
 
 /// Two values of a type whose bytes are both fronts of one list are one.
 pub fn values_are_prefix_free()
@@ -76,4 +76,9 @@ pub fn parts_fail()
 /// The bytes that spell a value by the grammar are the ones that `encode` writes.
 pub fn encoded_is_value()
     ensures { EncodedIsValue }
+{}
+
+/// A begun tree fits its room, wants its next type at the depth that the room says, and is a value where it wants none.
+pub fn begun_trees_fit()
+    ensures { BegunTreesFit }
 {}

@@ -31,11 +31,12 @@ mutual
   all_cells_length r p none = refl
   all_cells_length r p (and v vs) = omega (arith, cells_length r (next_type p) v, all_cells_length r (left_after p) vs, length-append (cells r (next_type p) v) (all_cells r (left_after p) vs))
 
-abbrev bare : List Cell → List Head
+-- the nodes by themselves
+abbrev pub bare : List Cell → List Head
 bare cs = map (λ (c : Cell). c.head) cs
 
 mutual
-  cells_preorder : (r : List TypeInfo) (t : ℕ) (v : Tree) → bare (cells r t v) ≡ preorder v
+  pub cells_preorder : (r : List TypeInfo) (t : ℕ) (v : Tree) → bare (cells r t v) ≡ preorder v
   cells_preorder r t unit = refl
   cells_preorder r t (bool b) = refl
   cells_preorder r t (char c) = refl
@@ -49,7 +50,7 @@ mutual
   cells_preorder r t (arm q vs) = rw (all_cells_preorder r (arm_part (layout r t) q) vs) refl
   cells_preorder r t (list vs) = rw (all_cells_preorder r (list_part (layout r t) (how_many vs)) vs) refl
 
-  all_cells_preorder : (r : List TypeInfo) (p : Part) (vs : Trees) → bare (all_cells r p vs) ≡ all_preorder vs
+  pub all_cells_preorder : (r : List TypeInfo) (p : Part) (vs : Trees) → bare (all_cells r p vs) ≡ all_preorder vs
   all_cells_preorder r p none = refl
   all_cells_preorder r p (and v vs) = map-append (λ (c : Cell). c.head) (cells r (next_type p) v) (all_cells r (left_after p) vs) ∙ rw (cells_preorder r (next_type p) v, all_cells_preorder r (left_after p) vs) refl
 

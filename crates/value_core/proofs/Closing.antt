@@ -7,15 +7,10 @@ use Rattle.grammar_core.specs.Parts.{Part, times, first_of}
 use Rattle.grammar_core.specs.Cells.{Cell}
 use Rattle.value_core.specs.Shown.{cell_shown, cells_shown, IsInPool, AreInPool}
 use Rattle.value_core.specs.Spine.{OpenNode, open_part, Spine}
-use Rattle.value_core.specs.Walked.{OpenPart, Walked, Closes, first_in, next_of}
-use Rattle.value_core.specs.Built.{Pieces, entries_shown, entries_text_bytes, settled_in, settled}
-use Rattle.value_core.specs.Building.{IsBuilding, IsOpenText, pieces_shown}
-use Rattle.registry_core.specs.declared.primitive.Primitive.TheVariants as P
-use Rattle.grammar_core.specs.declared.form.Form.{Form}
-use Rattle.grammar_core.specs.declared.form.Form.TheVariants as form
-use Rattle.grammar_core.specs.declared.form.Next.TheVariants as next
+use Rattle.value_core.specs.Walked.{OpenPart, Walked, Closes}
+use Rattle.value_core.specs.Built.{IsSettled, entries_shown, entries_text_bytes, settled_in, settled_walk}
+use Rattle.value_core.specs.Building.{IsBuilding, AreBuilt, Settles, pieces_shown}
 use Rattle.value_core.specs.declared.open_text.OpenText.{OpenText}
-use Rattle.value_core.proofs.Forms.{wanted}
 use Rattle.value_core.specs.declared.node.Node.{Node}
 use Rattle.value_core.proofs.Spines.{Closed, is_cons, node_closed}
 
@@ -84,25 +79,42 @@ closing ty old new pool ns text_len place b c =
           };
     }
 
--- the entries stay, and so does what stands when all that is whole is closed
-pub closing_settles : (text : Option Pieces) (ty : ℕ) (old new : Walked) (pool : List ℕ) (ns : List Node) (n : Node) (k place : ℕ) → slice_get ns place ≡ Some n → Closes old new place →
-    settled (record { ty = ty; walk = new; entries = entries_shown pool (slice_set ns place (with_size n k)); text = text }) ≡ settled (record { ty = ty; walk = old; entries = entries_shown pool ns; text = text })
-closing_settles text ty old new pool ns n k place g c = rw (entries_resized pool ns n k place g, c.types, c.limit, c.frames, settled_step place c.part new.frames c.not_root c.whole) refl where
-  settled_step : (place : ℕ) (p : Part) (fs : List OpenPart) → (fs ≡ [] → ⊥) → first_of p ≡ None → settled_in (open_part place p ∷ fs) ≡ settled_in fs
-  settled_step place p [] some e = absurd (some refl)
-  settled_step place p (f ∷ fs) some e = rw e refl
+-- what stands when all that is whole is closed stays
+settled_step : (place : ℕ) (p : Part) (fs : List OpenPart) → (fs ≡ [] → ⊥) → first_of p ≡ None → settled_in (open_part place p ∷ fs) ≡ settled_in fs
+settled_step place p [] some e = absurd (some refl)
+settled_step place p (f ∷ fs) some e = rw e refl
 
--- while a form is next no node is closed
-pub nothing_closes : (old new : Walked) (place : ℕ) (f : Form) → Closes old new place → next_of old ≡ next.Wants f → ⊥
-nothing_closes old new place f c e =
-    let k = wanted old f e in
-    let none : first_in old.frames ≡ None = ap first_in c.frames ∙ c.whole in
-    let both : Some k.ty ≡ None = sym k.is_next ∙ none in absurd cc
+pub closing_settles : (old new : Walked) (ns : List Node) (n : Node) (k place : ℕ) → slice_get ns place ≡ Some n → k ≡ length ns - place → Closes old new place → Settles old ns new (slice_set ns place (with_size n k))
+closing_settles old new ns n k place g e c = record {
+  walk = rw (c.types, c.limit, c.frames, settled_step place c.part new.frames c.not_root c.whole) refl;
+  entries = λ pool. entries_resized pool ns n k place g;
+  builds = λ ty pool text_len b. (closing ty old new pool ns text_len place b c).builds n k g e;
+}
 
--- an open text stays where no node is closed
-pub open_closing : (old new : Walked) (pool : List ℕ) (text_len place : ℕ) (text : Option OpenText) → IsOpenText old pool text_len text → Closes old new place → IsOpenText new pool text_len text
-open_closing old new pool text_len place None h c = tt
-open_closing old new pool text_len place (Some o) h c = absurd (nothing_closes old new place (form.Primitive P.Str) c h.is_next)
+pub nothing_settles : (w : Walked) (ns : List Node) → Settles w ns w ns
+nothing_settles w ns = record { walk = refl; entries = λ pool. refl; builds = λ ty pool text_len b. b }
+
+pub settles_on : (u v w : Walked) (xs ys zs : List Node) → Settles u xs v ys → Settles v ys w zs → Settles u xs w zs
+settles_on u v w xs ys zs h k = record {
+  walk = k.walk ∙ h.walk;
+  entries = λ pool. k.entries pool ∙ h.entries pool;
+  builds = λ ty pool text_len b. k.builds ty pool text_len (h.builds ty pool text_len b);
+}
+
+pub settles_built : (old new : Walked) (before after : List Node) → Settles old before new after → AreBuilt old before → AreBuilt new after
+settles_built old new before after h b = (b.0, b.1, b.2, h.builds b.0 b.1 b.2 b.3)
+
+-- what is settled stays so
+again : (fs : List OpenPart) → settled_in (settled_in fs) ≡ settled_in fs
+again [] = refl
+again (f ∷ []) = refl
+again (f ∷ g ∷ fs) = by (first_of f.left) refl (again (g ∷ fs)) where
+  by : (x : Option ℕ) → first_of f.left ≡ x → settled_in (settled_in (g ∷ fs)) ≡ settled_in (g ∷ fs) → settled_in (settled_in (f ∷ g ∷ fs)) ≡ settled_in (f ∷ g ∷ fs)
+  by (Some u) e h = let stays : settled_in (f ∷ g ∷ fs) ≡ f ∷ g ∷ fs = rw (e, settled_in) refl in ap settled_in stays
+  by None e h = let less : settled_in (f ∷ g ∷ fs) ≡ settled_in (g ∷ fs) = rw (e, settled_in) refl in ap settled_in less ∙ h ∙ sym less
+
+pub settled_again : (w : Walked) → IsSettled (settled_walk w)
+settled_again w = rw (again w.frames) refl
 
 pub none_open : (pool : List ℕ) (text : Option OpenText) → pieces_shown pool text ≡ None → text ≡ None
 none_open pool None e = refl

@@ -3,11 +3,11 @@ use Rattle.std.proofs.Common.{◌≡◌, ℕ, ◌+◌, ◌≤◌, List, [], ◌�
 use Rattle.std.proofs.lemmas.Simd.{map-map}
 use Rattle.std.specs.Prelude.{is_none}
 use Rattle.registry_core.specs.declared.type_info.TypeInfo.{TypeInfo}
-use Rattle.widths_core.specs.Layouts.{layout}
 use Rattle.grammar_core.specs.Tree as tree
-use Rattle.grammar_core.specs.Tree.{Tree, Trees, none, and, how_many, text_bytes, all_text_bytes}
-use Rattle.grammar_core.specs.Parts.{Part, times, first_of, left_after}
-use Rattle.grammar_core.specs.Cells.{Cell, cells, all_cells, next_type, fields_part, arm_part, list_part}
+use Rattle.grammar_core.specs.Tree.{Tree, Trees, none, and, text_bytes, all_text_bytes}
+use Rattle.grammar_core.specs.Preorder.{Head, preorder, all_preorder}
+use Rattle.grammar_core.specs.Parts.{times, first_of}
+use Rattle.grammar_core.specs.Cells.{Cell, cells}
 use Rattle.value_core.specs.Shown.{seen, cells_shown, tree_shown, type_shown, head_shown, IsWhole}
 use Rattle.value_core.specs.Spine.{OpenNode, Spine}
 use Rattle.value_core.specs.Walked.{OpenPart, Walked}
@@ -15,44 +15,47 @@ use Rattle.value_core.specs.Built.{Entry, Pieces, entries_shown, head_text_bytes
 use Rattle.value_core.specs.Building.{IsBuilding}
 use Rattle.value_core.specs.Refusals.{is_whole_in}
 use Rattle.value_core.specs.declared.node.Node.{Node}
-use Rattle.value_core.proofs.CellsOf.{seen_is}
+use Rattle.value_core.proofs.CellsOf.{bare, cells_preorder, seen_is}
 use Rattle.value_core.proofs.Spines.{spine_length, spine_is_whole}
 
 -- the bytes of text of these nodes
-abbrev cells_text : List Cell → ℕ
-cells_text [] = 0
-cells_text (c ∷ cs) = head_text_bytes c.head + cells_text cs
+abbrev pub heads_text : List Head → ℕ
+heads_text [] = 0
+heads_text (h ∷ hs) = head_text_bytes h + heads_text hs
 
-cells_text-append : (cs ds : List Cell) → cells_text (cs ++ ds) ≡ cells_text cs + cells_text ds
-cells_text-append [] ds = omega arith
-cells_text-append (c ∷ cs) ds = omega (arith, cells_text-append cs ds)
+pub heads_text-append : (hs ks : List Head) → heads_text (hs ++ ks) ≡ heads_text hs + heads_text ks
+heads_text-append [] ks = omega arith
+heads_text-append (h ∷ hs) ks = omega (arith, heads_text-append hs ks)
 
 mutual
-  text_of_cells : (r : List TypeInfo) (t : ℕ) (v : Tree) → cells_text (cells r t v) ≡ text_bytes v
-  text_of_cells r t tree.unit = omega arith
-  text_of_cells r t (tree.bool b) = omega arith
-  text_of_cells r t (tree.char c) = omega arith
-  text_of_cells r t (tree.text s) = omega arith
-  text_of_cells r t (tree.unsigned n) = omega arith
-  text_of_cells r t (tree.signed z) = omega arith
-  text_of_cells r t (tree.wide s) = omega arith
-  text_of_cells r t (tree.compact n) = omega arith
-  text_of_cells r t (tree.count n) = omega arith
-  text_of_cells r t (tree.fields vs) = omega (arith, text_of_all r (fields_part (layout r t)) vs)
-  text_of_cells r t (tree.arm q vs) = omega (arith, text_of_all r (arm_part (layout r t) q) vs)
-  text_of_cells r t (tree.list vs) = omega (arith, text_of_all r (list_part (layout r t) (how_many vs)) vs)
+  pub text_of_preorder : (v : Tree) → heads_text (preorder v) ≡ text_bytes v
+  text_of_preorder tree.unit = omega arith
+  text_of_preorder (tree.bool b) = omega arith
+  text_of_preorder (tree.char c) = omega arith
+  text_of_preorder (tree.text s) = omega arith
+  text_of_preorder (tree.unsigned n) = omega arith
+  text_of_preorder (tree.signed z) = omega arith
+  text_of_preorder (tree.wide s) = omega arith
+  text_of_preorder (tree.compact n) = omega arith
+  text_of_preorder (tree.count n) = omega arith
+  text_of_preorder (tree.fields vs) = omega (arith, text_of_all_preorder vs)
+  text_of_preorder (tree.arm q vs) = omega (arith, text_of_all_preorder vs)
+  text_of_preorder (tree.list vs) = omega (arith, text_of_all_preorder vs)
 
-  text_of_all : (r : List TypeInfo) (p : Part) (vs : Trees) → cells_text (all_cells r p vs) ≡ all_text_bytes vs
-  text_of_all r p none = refl
-  text_of_all r p (and v vs) = omega (arith, cells_text-append (cells r (next_type p) v) (all_cells r (left_after p) vs), text_of_cells r (next_type p) v, text_of_all r (left_after p) vs)
+  pub text_of_all_preorder : (vs : Trees) → heads_text (all_preorder vs) ≡ all_text_bytes vs
+  text_of_all_preorder none = refl
+  text_of_all_preorder (and v vs) = omega (arith, heads_text-append (preorder v) (all_preorder vs), text_of_preorder v, text_of_all_preorder vs)
 
-text_of_entries : (pool : List ℕ) (ns : List Node) → entries_text_bytes (entries_shown pool ns) ≡ cells_text (cells_shown pool ns)
+pub text_of_entries : (pool : List ℕ) (ns : List Node) → entries_text_bytes (entries_shown pool ns) ≡ heads_text (bare (cells_shown pool ns))
 text_of_entries pool [] = refl
 text_of_entries pool (n ∷ ns) = omega (arith, text_of_entries pool ns)
 
--- the texts of a value's nodes are those of the value
+-- where the nodes are those of a value, their texts are its texts
+text_of_value : (r : List TypeInfo) (t : ℕ) (v : Tree) (pool : List ℕ) (ns : List Node) → cells_shown pool ns ≡ cells r t v → entries_text_bytes (entries_shown pool ns) ≡ text_bytes v
+text_of_value r t v pool ns e = text_of_entries pool ns ∙ ap (λ (cs : List Cell). heads_text (bare cs)) e ∙ ap heads_text (cells_preorder r t v) ∙ text_of_preorder v
+
 pub text_of_nodes : (r : List TypeInfo) (pool : List ℕ) (ns : List Node) → IsWhole r pool ns → entries_text_bytes (entries_shown pool ns) ≡ text_bytes (tree_shown pool ns)
-text_of_nodes r pool ns h = text_of_entries pool ns ∙ ap cells_text h.nodes ∙ text_of_cells r (type_shown ns) (tree_shown pool ns)
+text_of_nodes r pool ns h = text_of_value r (type_shown ns) (tree_shown pool ns) pool ns h.nodes
 
 -- the nodes are those of a value of the type
 pub record IsFinished (types : List TypeInfo) (ty : ℕ) (pool : List ℕ) (ns : List Node) (text_len : ℕ) : Type 0 where
@@ -77,7 +80,7 @@ finished_by ty types limit (f ∷ []) pool ns text_len b e = by b.opens refl whe
       record {
         whole = record { nodes = v.1 ∙ sym (rw (is.0, is.1) refl); inside = b.inside; value = rw (is.0, is.1) (b.own, b.are_bytes, v.2) };
         type_is = is.0;
-        texts = b.texts ∙ text_of_entries pool ns ∙ ap cells_text v.1 ∙ text_of_cells types ty v.0 ∙ ap text_bytes (sym is.1);
+        texts = b.texts ∙ text_of_value types ty v.0 pool ns v.1 ∙ ap text_bytes (sym is.1);
         fits = b.fits;
       }
   by (x ∷ os) o = absurd (omega (arith, ap length o, spine_length types b.room ty b.opens (f ∷ []) (cells_shown pool ns) b.own b.spine))

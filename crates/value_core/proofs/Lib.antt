@@ -1,4 +1,5 @@
 pub mod Adding
+pub mod Begun
 pub mod Below
 pub mod CellsOf
 pub mod Closing

@@ -1,7 +1,7 @@
 -- What a builder keeps to: its nodes are those of a value that is being built.
 use Rattle.std.specs.Prelude.{◌≡◌, ℕ, ◌+◌, ◌≤◌, ◌<◌, ◌^◌, List, length, drop, Option, Some, None, option_map}
 use Rattle.scale_core.specs.Number.{AreBytes}
-use Rattle.value_core.specs.Built.{Pieces, entries_shown, entries_text_bytes}
+use Rattle.value_core.specs.Built.{Pieces, entries_shown, entries_text_bytes, settled_walk}
 use Rattle.value_core.specs.Shown.{cells_shown, AreInPool}
 use Rattle.value_core.specs.Spine.{OpenNode, Spine}
 use Rattle.value_core.specs.Walked.{Walked, next_of}
@@ -21,6 +21,16 @@ pub record IsBuilding (ty : ℕ) (w : Walked) (pool : List ℕ) (ns : List Node)
   pub inside : AreInPool pool ns
   pub texts : text_len ≡ entries_text_bytes (entries_shown pool ns)
   pub fits : text_len ≤ length pool
+
+-- these nodes are those of some value that is being built
+abbrev pub AreBuilt : Walked → List Node → Type 0
+AreBuilt w ns = (ty : ℕ) × (pool : List ℕ) × (text_len : ℕ) × IsBuilding ty w pool ns text_len
+
+-- open nodes that are whole were closed: some of them, or all, or none
+pub record Settles (old : Walked) (before : List Node) (new : Walked) (after : List Node) : Type 0 where
+  pub walk : settled_walk new ≡ settled_walk old
+  pub entries : (pool : List ℕ) → entries_shown pool after ≡ entries_shown pool before
+  pub builds : (ty : ℕ) (pool : List ℕ) (text_len : ℕ) → IsBuilding ty old pool before text_len → IsBuilding ty new pool after text_len
 
 -- an open text is what the pool has from its place on
 abbrev pub pieces_shown : List ℕ → Option OpenText → Option Pieces

@@ -57,6 +57,10 @@ settled_in (f ∷ g ∷ fs) = elim (first_of f.left) [ Some t ↦ f ∷ g ∷ fs
 abbrev pub settled_walk : Walked → Walked
 settled_walk w = record { types = w.types; limit = w.limit; frames = settled_in w.frames }
 
+-- no node that is whole is open
+abbrev pub IsSettled : Walked → Type 0
+IsSettled w = settled_walk w ≡ w
+
 abbrev pub settled : Built → Built
 settled b = record { ty = b.ty; walk = settled_walk b.walk; entries = b.entries; text = b.text }
 

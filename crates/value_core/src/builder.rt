@@ -1,7 +1,9 @@
 //! A value that is built node by node.
 
 ghost use Rattle.std.specs.Prelude.{◌≡◌, ◌<◌, ◌≤◌, ◌+◌, ◌^◌, ◌++◌, ◌∷◌, [], length, true, false, OnOk, OnErr, IfOk, IfErr, Ok, None};
-ghost use Rattle.value_core.specs.Built.{built_text_bytes, finished, settled, with_leaf, with_open, with_piece, with_text_ended, with_text_opened, pieces_bytes, IsNextLeaf, IsNextOpen};
+ghost use Rattle.value_core.specs.Begun.{IsBegun};
+ghost use Rattle.value_core.specs.Building.{AreBuilt, Settles};
+ghost use Rattle.value_core.specs.Built.{IsSettled, built_text_bytes, finished, settled_walk, with_leaf, with_open, with_piece, with_text_ended, with_text_opened, pieces_bytes, IsNextLeaf, IsNextOpen};
 ghost use Rattle.value_core.specs.Frames.{left_of};
 ghost use Rattle.value_core.specs.Shown.{head_shown};
 ghost use Rattle.value_core.specs.Refusals.{Finishes, Opens, missing_of, other_fault, text_fault, wanted_of, is_whole, opening_fault};
@@ -34,14 +36,14 @@ pub struct Builder<'r, A: Allocator> {
 }
 
 impl<'r, A: Allocator> Model for Builder<'r, A> {
-    ghost use Rattle.value_core.specs.Built.{Built, entries_shown};
+    ghost use Rattle.value_core.specs.Built.{Built, IsSettled, entries_shown};
     ghost use Rattle.value_core.specs.Building.{IsBuilding, IsOpenText, pieces_shown};
 
     ghost Value = { Built };
 
     ghost view = { λ b. record { ty = b.root.0; walk = b.walk; entries = entries_shown b.pool.items b.nodes.items; text = pieces_shown b.pool.items b.open_text } };
 
-    ghost invariant = { λ b. IsBuilding b.root.0 b.walk b.pool.items b.nodes.items b.text_len × IsOpenText b.walk b.pool.items b.text_len b.open_text };
+    ghost invariant = { λ b. IsBuilding b.root.0 b.walk b.pool.items b.nodes.items b.text_len × IsOpenText b.walk b.pool.items b.text_len b.open_text × IsSettled b.walk };
 }
 
 /// The refusal of a call that is not the one for what comes next.
@@ -99,6 +101,30 @@ fn open_node<'r, A: Allocator>(
     Ok(())
 }
 
+/// Closes the innermost open node where it is whole: was one closed?
+fn close_one<A: Allocator>(walk: &mut Walk<'_, A>, nodes: &mut Vec<Node, A>) -> bool
+    requires { AreBuilt walk.old nodes.old.items }
+    ensures settles { Settles walk.old nodes.old.items walk.new nodes.new.items }
+    ensures yes { result ≡ true → length walk.new.frames < length walk.old.frames }
+    ensures no { result ≡ false → IsSettled walk.new }
+{
+    let Some(place) = walk.close() else {
+        return false;
+    };
+    let size = nodes.as_slice().len() - place;
+    nodes[place].size = size;
+    true
+}
+
+/// Closes the open nodes that are whole.
+fn settle<A: Allocator>(walk: &mut Walk<'_, A>, nodes: &mut Vec<Node, A>)
+    requires { AreBuilt walk.old nodes.old.items }
+    ensures settles { Settles walk.old nodes.old.items walk.new nodes.new.items }
+    ensures walk { walk.new ≡ settled_walk walk.old }
+{
+    'closing: while close_one(walk, nodes) {}
+}
+
 impl<'r, A: Allocator + Clone> Builder<'r, A> {
     /// A builder of a value of the root's type, of which nothing is there yet, down to this depth.
     ///
@@ -152,21 +178,24 @@ impl<'r, A: Allocator> Builder<'r, A> {
 
     /// What comes next, lent.
     pub fn walk(&self) -> &Walk<'r, A>
-        ensures { result.now ≡ self.now.walk }
+        ensures same { result.now ≡ self.now.walk }
+        ensures begun { IsBegun self.now }
     {
         &self.walk
     }
 
     /// How many nodes it holds.
     pub fn node_count(&self) -> u64
-        ensures { result ≡ length self.now.entries }
+        ensures count { result ≡ length self.now.entries }
+        ensures begun { IsBegun self.now }
     {
         self.nodes.as_slice().len() as u64
     }
 
     /// How many bytes of text it holds.
     pub fn text_bytes(&self) -> u64
-        ensures { result ≡ built_text_bytes self.now }
+        ensures count { result ≡ built_text_bytes self.now }
+        ensures begun { IsBegun self.now }
     {
         match self.open_text {
             Some(text) => (self.text_len + (self.pool.as_slice().len() - text.start)) as u64,
@@ -183,26 +212,6 @@ impl<'r, A: Allocator> Builder<'r, A> {
             Next::Wants(form) if self.open_text.is_none() => Ok(form),
             other => Err(other_fault(other)),
         }
-    }
-
-    /// Closes the innermost open node where it is whole: was one closed?
-    fn close_one(&mut self) -> bool
-        ensures yes { result ≡ true → (settled self.new ≡ settled self.old) × (length self.new.walk.frames < length self.old.walk.frames) }
-        ensures no { result ≡ false → (self.new ≡ self.old) × (settled self.old ≡ self.old) }
-    {
-        let Some(place) = self.walk.close() else {
-            return false;
-        };
-        let size = self.nodes.as_slice().len() - place;
-        self.nodes[place].size = size;
-        true
-    }
-
-    /// Closes the open nodes that are whole.
-    fn settle(&mut self)
-        ensures { self.new ≡ settled self.old }
-    {
-        'closing: while self.close_one() {}
     }
 
     /// Adds a node without children, the value of the next type. Where memory is refused nothing changes.
@@ -226,7 +235,7 @@ impl<'r, A: Allocator> Builder<'r, A> {
         append(&mut self.nodes, &mut self.pool, node, leaf.bytes())?;
         self.text_len += leaf.text_len();
         self.walk.advance();
-        self.settle();
+        settle(&mut self.walk, &mut self.nodes);
         Ok(())
     }
 
@@ -247,7 +256,7 @@ impl<'r, A: Allocator> Builder<'r, A> {
             size: 0,
         };
         open_node(&mut self.nodes, &mut self.walk, node, left)?;
-        self.settle();
+        settle(&mut self.walk, &mut self.nodes);
         Ok(())
     }
 
@@ -325,7 +334,7 @@ impl<'r, A: Allocator> Builder<'r, A> {
         self.text_len += text.len as usize;
         self.open_text = None;
         self.walk.advance();
-        self.settle();
+        settle(&mut self.walk, &mut self.nodes);
         Ok(())
     }
 }

@@ -1,0 +1,35 @@
+-- What a builder holds: a begun tree, and what its walk says of it.
+use Rattle.std.specs.Prelude.{◌≡◌, ℕ, ◌+◌, ◌-◌, nat_lt, if◌then◌else◌, List, length, map, Option, Some, None, option_map}
+use Rattle.scale_core.specs.Number.{AreBytes}
+use Rattle.registry_core.specs.declared.type_info.TypeInfo.{TypeInfo}
+use Rattle.grammar_core.specs.Begun.{Begun, Grows, IsBegunPreorder, begun_nodes, begun_text_bytes, begun_depth, is_whole_tree}
+use Rattle.grammar_core.specs.Forms.{next_at}
+use Rattle.grammar_core.specs.declared.form.StopReason.TheVariants as stop
+use Rattle.grammar_core.specs.declared.form.Next.{Next}
+use Rattle.grammar_core.specs.declared.form.Next.TheVariants as next
+use Rattle.value_core.specs.Walked.{Walked, next_type, next_of, depth_of}
+use Rattle.value_core.specs.Built.{Built, entries_text_bytes}
+use Rattle.value_core.specs.Refusals.{is_whole}
+
+-- the type that is next in a walk, with the levels that there is room for at it
+abbrev pub next_with_room : Walked → Option (ℕ × ℕ)
+next_with_room w = option_map (λ t. (w.limit + 2 - length w.frames, t)) (next_type w)
+
+-- what comes where this type is missing, with so much room: a value needs a level at least
+abbrev pub next_in : List TypeInfo → Option (ℕ × ℕ) → Next
+next_in r None = next.Finished
+next_in r (Some n) = if nat_lt 0 n.0 then next_at r n.1 else next.Stop stop.TooDeep
+
+-- the nodes are those of a begun tree of the type, whose levels fit the depth limit and whose own bytes these are; its
+-- first missing type is the walk's next one, at its depth; it is a value exactly where the builder is whole
+pub record IsBegun (b : Built) : Type 0 where
+  pub tree : Begun
+  pub own : List ℕ
+  pub are_bytes : AreBytes own
+  pub grows : Grows b.walk.types (b.walk.limit + 1) b.ty tree own (next_with_room b.walk)
+  pub shows : IsBegunPreorder tree (map (λ e. e.head) b.entries)
+  pub nodes : length b.entries ≡ begun_nodes tree
+  pub text_bytes : entries_text_bytes b.entries ≡ begun_text_bytes tree
+  pub answer : next_of b.walk ≡ next_in b.walk.types (next_with_room b.walk)
+  pub depth : depth_of b.walk ≡ begun_depth tree
+  pub whole : is_whole b ≡ is_whole_tree tree
