@@ -8,6 +8,7 @@ use Rattle.scale_core.specs.Number.{AreBytes, number, signed_number}
 use Rattle.scale_core.specs.Compact.{compact, IsCompact}
 use Rattle.scale_core.specs.declared.compact.Target.{Target}
 use Rattle.scale_core.specs.declared.compact.Target.TheVariants as target
+use Rattle.scale_core.proofs.Numbers.{both_bytes}
 use Rattle.registry_core.specs.declared.definition.Arm.{Arm}
 use Rattle.registry_core.specs.declared.primitive.Primitive.{Primitive}
 use Rattle.registry_core.specs.declared.primitive.Primitive.TheVariants as P
@@ -31,10 +32,6 @@ use Rattle.grammar_core.specs.Laws.{FiniteHasValue}
 abbrev HasValue : List TypeInfo → ℕ → Type 0
 HasValue r t = (v : Tree) × (b : List ℕ) × AreBytes b × Val r t v b
 
-append_bytes : (a b : List ℕ) → AreBytes a → AreBytes b → AreBytes (a ++ b)
-append_bytes [] b h k = k
-append_bytes (x ∷ a) b h k = (h.0, append_bytes a b h.1 k)
-
 -- ---- lists of values
 
 all_values : (r : List TypeInfo) (f : ℕ → Bool) (ts : List ℕ) → ((t : ℕ) → IsAmong t ts → f t ≡ true → HasValue r t) → list_all f ts ≡ true → (vs : Trees) × (b : List ℕ) × AreBytes b × Vals r ts vs b
@@ -44,14 +41,14 @@ all_values r f (t ∷ ts) h e =
     let p = and_parts (f t) (list_all f ts) e in
     let one = h t (inl refl) p.0 in
     let rest = all_values r f ts (λ u m. h u (inr m)) p.1 in
-    (and one.0 rest.0, one.1 ++ rest.1, append_bytes one.1 rest.1 one.2 rest.2, (one.1, rest.1, refl, one.3, rest.3))
+    (and one.0 rest.0, one.1 ++ rest.1, both_bytes one.1 rest.1 one.2 rest.2, (one.1, rest.1, refl, one.3, rest.3))
 
 repeated : (r : List TypeInfo) (t n : ℕ) → HasValue r t → (vs : Trees) × (b : List ℕ) × AreBytes b × (how_many vs ≡ n) × Each r t vs b
 unfolding Val
 repeated r t zero h = (none, [], tt, refl, refl)
 repeated r t (suc n) h =
     let rest = repeated r t n h in
-    (and h.0 rest.0, h.1 ++ rest.1, append_bytes h.1 rest.1 h.2 rest.2, ap (λ (k : ℕ). suc k) rest.3, (h.1, rest.1, refl, h.3, rest.4))
+    (and h.0 rest.0, h.1 ++ rest.1, both_bytes h.1 rest.1 h.2 rest.2, ap (λ (k : ℕ). suc k) rest.3, (h.1, rest.1, refl, h.3, rest.4))
 
 -- ---- arms
 
@@ -168,7 +165,7 @@ primitive_value : (r : List TypeInfo) (t : ℕ) (p : Primitive) → layout r t �
 unfolding Val
 primitive_value r t P.Bool e = (bool false, 0 ∷ [], (omega arith, tt), (e, refl))
 primitive_value r t P.Char e = char_value r t e
-primitive_value r t P.Str e = (text [], compact 0 ++ [], append_bytes (compact 0) [] zero-bytes tt, (e, (compact 0, u32_zero, no_text, refl)))
+primitive_value r t P.Str e = (text [], compact 0 ++ [], both_bytes (compact 0) [] zero-bytes tt, (e, (compact 0, u32_zero, no_text, refl)))
 primitive_value r t P.U8 e = unsigned_value r t 1 e
 primitive_value r t P.U16 e = unsigned_value r t 2 e
 primitive_value r t P.U32 e = unsigned_value r t 4 e
@@ -185,7 +182,7 @@ primitive_value r t P.I256 e = wide_value r t e
 sequence_value : (r : List TypeInfo) (t u : ℕ) (b : Bool) → layout r t ≡ sequence_layout u b → HasValue r t
 unfolding Val
 sequence_value r t u true e = (count 0, compact 0, zero-bytes, (e, u32_zero))
-sequence_value r t u false e = (list none, compact 0 ++ [], append_bytes (compact 0) [] zero-bytes tt, inr (u, compact 0, [], e, u32_zero, refl, refl))
+sequence_value r t u false e = (list none, compact 0 ++ [], both_bytes (compact 0) [] zero-bytes tt, inr (u, compact 0, [], e, u32_zero, refl, refl))
 
 zero_of : (m : Target) → (b : List ℕ) × AreBytes b × IsCompact m 0 b
 zero_of target.Unit = ([], tt, (refl, refl))

@@ -1,6 +1,6 @@
 -- The bytes that spell a value by the grammar are those of its nodes.
 use Rattle.std.proofs.Common.{◌≡◌, ℕ, zero, suc, ◌+◌, ◌-◌, ◌*◌, ◌/◌, ◌%◌, ◌^◌, ◌<◌, ◌≤◌, Bool, true, false, cond, List, [], ◌∷◌, ◌++◌, length, flat_map, Option, Some, None, refl, sym, ap, subst, ◌∙◌, arith, inl, inr}
-use Rattle.std.specs.Prelude.{ℤ, pos, negsuc, neg_ℤ, nat_lt, slice_get}
+use Rattle.std.specs.Prelude.{ℤ, pos, neg_ℤ, nat_lt, slice_get}
 use Rattle.std.proofs.lemmas.List.{append-nil}
 use Rattle.std.proofs.lemmas.Nat.{pow-add}
 use Rattle.std.proofs.lemmas.Grind.{flat_map-append}
@@ -9,7 +9,7 @@ use Rattle.scale_core.specs.Number.{AreBytes, number, signed_number, le_bytes}
 use Rattle.scale_core.specs.Compact.{compact, IsCompact}
 use Rattle.scale_core.specs.declared.compact.Target.{Target}
 use Rattle.scale_core.specs.declared.compact.Target.TheVariants as target
-use Rattle.scale_core.proofs.Numbers.{le_bytes-number, number-bound, front_bytes, rest_bytes}
+use Rattle.scale_core.proofs.Numbers.{le_bytes-number, number-bound, front_bytes, rest_bytes, neg-pos}
 use Rattle.registry_core.specs.declared.definition.Arm.{Arm}
 use Rattle.registry_core.specs.declared.primitive.Primitive.{Primitive}
 use Rattle.registry_core.specs.declared.primitive.Primitive.TheVariants as P
@@ -90,10 +90,6 @@ shaped_at : (r : List TypeInfo) (t : ℕ) (f : Layout) → layout r t ≡ f → 
 shaped_at r t f e = subst (λ (g : Layout). Shaped g (shape r t)) e (shaped r t)
 
 -- ---- integers in two's complement
-
-pub neg-pos : (x : ℕ) → 0 < x → neg_ℤ (pos x) ≡ negsuc (x - 1)
-neg-pos zero h = absurd (omega arith)
-neg-pos (suc x) h = ap negsuc (omega arith)
 
 -- what stands above k bytes is not in them
 le_bytes-above : (k n q : ℕ) → le_bytes k (n + 256 ^ k * q) ≡ le_bytes k n

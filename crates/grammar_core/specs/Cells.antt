@@ -31,8 +31,8 @@ list_part (layout.sequence t) n = times n t
 list_part _ n = each []
 
 -- the type of the next child, which is there
-abbrev pub next_type : Part → ℕ
-next_type p = elim (first_of p) [ Some t ↦ t | None ↦ 0 ]
+abbrev pub child_type : Part → ℕ
+child_type p = elim (first_of p) [ Some t ↦ t | None ↦ 0 ]
 
 -- a node, with its type and how many nodes its subtree has
 abbrev pub cell_of : ℕ → Tree → Cell
@@ -48,4 +48,4 @@ abbrev mutual
   -- the cells of children whose types are these
   pub all_cells : List TypeInfo → Part → Trees → List Cell
   all_cells r p none = []
-  all_cells r p (and v vs) = cells r (next_type p) v ++ all_cells r (left_after p) vs
+  all_cells r p (and v vs) = cells r (child_type p) v ++ all_cells r (left_after p) vs

@@ -76,7 +76,7 @@ big_bytes-bits n r big ge h small =
 
 -- ---- which form is the shortest
 
-are_le_bytes : (k n : ℕ) → AreBytes (le_bytes k n)
+pub are_le_bytes : (k n : ℕ) → AreBytes (le_bytes k n)
 are_le_bytes zero n = tt
 are_le_bytes (suc k) n = (omega arith, are_le_bytes k (n / 256))
 

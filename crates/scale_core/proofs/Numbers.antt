@@ -41,6 +41,10 @@ pub front_bytes : (c rest : List ℕ) → AreBytes (c ++ rest) → AreBytes c
 front_bytes [] rest h = tt
 front_bytes (x ∷ c) rest h = (h.0, front_bytes c rest h.1)
 
+pub both_bytes : (xs ys : List ℕ) → AreBytes xs → AreBytes ys → AreBytes (xs ++ ys)
+both_bytes [] ys h k = k
+both_bytes (x ∷ xs) ys h k = (h.0, both_bytes xs ys h.1 k)
+
 pub le_bytes-number : (c : List ℕ) → AreBytes c → le_bytes (length c) (number c) ≡ c
 le_bytes-number [] h = refl
 le_bytes-number (x ∷ c) h =
@@ -56,7 +60,7 @@ number-bound (x ∷ c) h = rw (pow-suc 256 (length c)) (omega (arith, h.0, numbe
 pub number_one : (a b : List ℕ) → AreBytes a → AreBytes b → length a ≡ length b → number a ≡ number b → a ≡ b
 number_one a b h k len same = sym (le_bytes-number a h) ∙ ap (λ (n : ℕ). le_bytes n (number a)) len ∙ ap (le_bytes (length b)) same ∙ le_bytes-number b k
 
-neg-pos : (x : ℕ) → 0 < x → neg_ℤ (pos x) ≡ negsuc (x - 1)
+pub neg-pos : (x : ℕ) → 0 < x → neg_ℤ (pos x) ≡ negsuc (x - 1)
 neg-pos zero h = absurd (omega arith)
 neg-pos (suc x) h = ap negsuc (omega arith)
 

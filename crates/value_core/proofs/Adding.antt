@@ -2,6 +2,7 @@
 use Rattle.std.proofs.Common.{Option, None, drop, ◌≡◌, ℕ, zero, suc, ◌+◌, ◌-◌, ◌≤◌, List, [], ◌∷◌, ◌++◌, Bool, true, false, length, take, drop, slice_range, Some, refl, ap, ◌∙◌, arith, length-append}
 use Rattle.std.proofs.lemmas.List.{length-map, map-append, take-append-le}
 use Rattle.scale_core.specs.Number.{AreBytes}
+use Rattle.scale_core.proofs.Numbers.{both_bytes}
 use Rattle.registry_core.specs.declared.type_info.TypeInfo.{TypeInfo}
 use Rattle.grammar_core.specs.Tree.{Tree, none, levels, most_levels}
 use Rattle.grammar_core.specs.Grammar.{Val}
@@ -115,10 +116,6 @@ advanced_length : (fs : List OpenPart) → length (advanced (record { types = []
 advanced_length [] = refl
 advanced_length (f ∷ fs) = refl
 
-pub both_bytes : (xs ys : List ℕ) → AreBytes xs → AreBytes ys → AreBytes (xs ++ ys)
-both_bytes [] ys h k = k
-both_bytes (x ∷ xs) ys h k = (h.0, both_bytes xs ys h.1 k)
-
 -- a node without children is added
 pub leaf_added : (ty : ℕ) (w : Walked) (pool more : List ℕ) (ns : List Node) (n : Node) (text_len more_len : ℕ) (h : Head) (b : IsBuilding ty w pool ns text_len) (l : IsNextLeaf w h) → n.ty.0 ≡ l.ty → head_shown (pool ++ more) n.content ≡ h → n.size ≡ 1 → IsInPool (pool ++ more) n.content → more_len ≡ head_text_bytes h → text_len + more_len ≤ length pool + length more →
     IsBuilding ty (advanced w) (pool ++ more) (ns ++ n ∷ []) (text_len + more_len)
@@ -137,9 +134,6 @@ leaf_added ty w pool more ns n text_len more_len h b l at shows size within text
       texts = rw (entries_added pool more ns n l.ty h b.inside at shows) (omega (arith, b.texts, texts, text_snoc (entries_shown pool ns) (entry_of l.ty h)));
       fits = omega (arith, b.fits, short, length-append pool more);
     }
-
-pub some_is : (x y : ℕ) → Some x ≡ Some y → x ≡ y
-some_is x y e = cc
 
 -- ---- a node whose children come next
 

@@ -4,6 +4,7 @@ use Rattle.std.specs.Prelude.{nat_lt, if◌then◌else◌}
 use Rattle.std.proofs.lemmas.Bool.{lt-ltb, le-ltb, ltb-true, ltb-false}
 use Rattle.std.proofs.lemmas.List.{append-nil, map-append, length-map}
 use Rattle.std.proofs.lemmas.Simd.{map-map}
+use Rattle.std.proofs.lemmas.Option.{same_Some}
 use Rattle.registry_core.specs.declared.type_info.TypeInfo.{TypeInfo}
 use Rattle.widths_core.specs.Classes.{is_finite}
 use Rattle.widths_core.specs.Layouts as layout
@@ -25,7 +26,6 @@ use Rattle.value_core.specs.Building.{IsBuilding}
 use Rattle.value_core.specs.Refusals.{is_whole_in}
 use Rattle.value_core.specs.Begun.{IsBegun, next_in}
 use Rattle.value_core.specs.declared.node.Node.{Node}
-use Rattle.value_core.proofs.Adding.{some_is}
 use Rattle.value_core.proofs.CellsOf.{bare, cells_length, all_cells_length, cells_preorder, all_cells_preorder}
 use Rattle.value_core.proofs.Finished.{heads_text, heads_text-append, text_of_preorder, text_of_all_preorder, text_of_entries}
 use Rattle.value_core.proofs.Spines.{is_cons, spine_is_whole, spine_length}
@@ -39,11 +39,11 @@ around of_list n vs g = in_list n vs g
 
 each_first : (back : List ℕ) (w : ℕ) → first_of (each back) ≡ Some w → (behind : List ℕ) × (back ≡ w ∷ behind)
 each_first [] w e = absurd cc
-each_first (u ∷ us) w e = (us, ap (λ (z : ℕ). z ∷ us) (some_is u w e))
+each_first (u ∷ us) w e = (us, ap (λ (z : ℕ). z ∷ us) (same_Some u w e))
 
 times_first : (left u w : ℕ) → first_of (times left u) ≡ Some w → (1 ≤ left) × (u ≡ w)
 times_first zero u w e = absurd cc
-times_first (suc n) u w e = (omega arith, some_is u w e)
+times_first (suc n) u w e = (omega arith, same_Some u w e)
 
 around_grows : (r : List TypeInfo) (room : ℕ) (kind : Kind) (t n : ℕ) (vs : Trees) (b : List ℕ) (p : Part) (w : ℕ) (g : Begun) (c : List ℕ) (next : Option (ℕ × ℕ)) (hs : List Head) →
     is_finite r t ≡ true → IsOpenAs r kind t n vs b p → most_levels vs ≤ room → first_of p ≡ Some w → Grows r room w g c next → IsPart g → IsBegunPreorder g hs →
@@ -76,7 +76,7 @@ plugged : (r : List TypeInfo) (top room t : ℕ) (os : List OpenNode) (f : OpenP
     room + length os ≡ top → Spine r room t os (f ∷ fs) cs own → first_of f.left ≡ Some w → Grows r room w g c next → IsPart g → IsBegunPreorder g hs → BegunAs r top t (bare cs ++ hs) (own ++ c) next
 plugged r top room t [] f fs cs own w g c next hs e (inl h) first k part shows =
     let parts = is_cons f (open_part 0 (times 1 t)) fs [] h.0 in
-    let same : t ≡ w = some_is t w (sym (ap (λ (x : OpenPart). first_of x.left) parts.0) ∙ first) in
+    let same : t ≡ w = same_Some t w (sym (ap (λ (x : OpenPart). first_of x.left) parts.0) ∙ first) in
     let level : top ≡ room = omega (arith, e) in
     (g, rw (h.2, same, level) k, part, rw h.1 shows)
 plugged r top room t [] f fs cs own w g c next hs e (inr h) first k part shows =

@@ -15,7 +15,7 @@ use Rattle.grammar_core.specs.Tree as tree
 use Rattle.grammar_core.specs.Tree.{Tree, Trees, none, and, how_many}
 use Rattle.grammar_core.specs.Grammar.{Val, Vals, Each}
 use Rattle.grammar_core.specs.Parts.{Part, each, times, left_after}
-use Rattle.grammar_core.specs.Cells.{Cell, cells, all_cells, next_type, fields_part, arm_part, list_part}
+use Rattle.grammar_core.specs.Cells.{Cell, cells, all_cells, child_type, fields_part, arm_part, list_part}
 use Rattle.grammar_core.proofs.Texts.{texts_are_text}
 use Rattle.value_core.specs.Shown.{seen, seen_parts, children_by, cells_shown, tree_shown, type_shown, AreInPool, IsWhole, AreValues, IsForest, all_seen}
 use Rattle.value_core.specs.declared.node.Node.{Node}
@@ -147,7 +147,7 @@ first_by : (r : List TypeInfo) (pool : List ℕ) (n : Node) (ns : List Node) (p 
 first_by r pool n ns p none inside e are = absurd cc
 first_by r pool n ns p (and v vs) inside e are =
     let s = split r pool n ns p v vs inside e in
-    let is = seen_is r pool (take n.size (n ∷ ns)) (next_type p) v s.front in
+    let is = seen_is r pool (take n.size (n ∷ ns)) (child_type p) v s.front in
     record {
       within = s.within;
       whole = record { nodes = s.front ∙ sym (rw (is.0, is.1) refl); inside = s.front_inside; value = rw (is.0, is.1) are.0 };

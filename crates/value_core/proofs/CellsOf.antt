@@ -8,7 +8,7 @@ use Rattle.widths_core.specs.Layouts.{layout}
 use Rattle.grammar_core.specs.Tree.{Tree, unit, bool, char, text, unsigned, signed, wide, compact, fields, arm, list, count, Trees, none, and, how_many, nodes, all_nodes}
 use Rattle.grammar_core.specs.Preorder.{Head, preorder, all_preorder, tree_of, tree_of-preorder}
 use Rattle.grammar_core.specs.Parts.{Part, left_after}
-use Rattle.grammar_core.specs.Cells.{Cell, cells, all_cells, next_type, fields_part, arm_part, list_part}
+use Rattle.grammar_core.specs.Cells.{Cell, cells, all_cells, child_type, fields_part, arm_part, list_part}
 use Rattle.value_core.specs.Shown.{seen_parts, cell_shown, cells_shown, tree_shown, type_shown, AreInPool, IsWhole, forest, all_seen}
 use Rattle.value_core.specs.declared.node.Node.{Node}
 
@@ -29,7 +29,7 @@ mutual
 
   pub all_cells_length : (r : List TypeInfo) (p : Part) (vs : Trees) → length (all_cells r p vs) ≡ all_nodes vs
   all_cells_length r p none = refl
-  all_cells_length r p (and v vs) = omega (arith, cells_length r (next_type p) v, all_cells_length r (left_after p) vs, length-append (cells r (next_type p) v) (all_cells r (left_after p) vs))
+  all_cells_length r p (and v vs) = omega (arith, cells_length r (child_type p) v, all_cells_length r (left_after p) vs, length-append (cells r (child_type p) v) (all_cells r (left_after p) vs))
 
 -- the nodes by themselves
 abbrev pub bare : List Cell → List Head
@@ -52,7 +52,7 @@ mutual
 
   pub all_cells_preorder : (r : List TypeInfo) (p : Part) (vs : Trees) → bare (all_cells r p vs) ≡ all_preorder vs
   all_cells_preorder r p none = refl
-  all_cells_preorder r p (and v vs) = map-append (λ (c : Cell). c.head) (cells r (next_type p) v) (all_cells r (left_after p) vs) ∙ rw (cells_preorder r (next_type p) v, all_cells_preorder r (left_after p) vs) refl
+  all_cells_preorder r p (and v vs) = map-append (λ (c : Cell). c.head) (cells r (child_type p) v) (all_cells r (left_after p) vs) ∙ rw (cells_preorder r (child_type p) v, all_cells_preorder r (left_after p) vs) refl
 
 -- the first node has the type, and the size of the whole
 abbrev first_type : List Cell → ℕ
@@ -114,7 +114,7 @@ inside_drop pool (suc k) (n ∷ ns) h = inside_drop pool k ns h.1
 -- where the first value's nodes end
 pub record Split (r : List TypeInfo) (pool : List ℕ) (n : Node) (ns : List Node) (p : Part) (v : Tree) (vs : Trees) : Type 0 where
   pub within : n.size ≤ length (n ∷ ns)
-  pub front : cells_shown pool (take n.size (n ∷ ns)) ≡ cells r (next_type p) v
+  pub front : cells_shown pool (take n.size (n ∷ ns)) ≡ cells r (child_type p) v
   pub back : cells_shown pool (drop n.size (n ∷ ns)) ≡ all_cells r (left_after p) vs
   pub front_inside : AreInPool pool (take n.size (n ∷ ns))
   pub back_inside : AreInPool pool (drop n.size (n ∷ ns))
@@ -122,9 +122,9 @@ pub record Split (r : List TypeInfo) (pool : List ℕ) (n : Node) (ns : List Nod
 pub split : (r : List TypeInfo) (pool : List ℕ) (n : Node) (ns : List Node) (p : Part) (v : Tree) (vs : Trees) → AreInPool pool (n ∷ ns) → cells_shown pool (n ∷ ns) ≡ all_cells r p (and v vs) → Split r pool n ns p v vs
 split r pool n ns p v vs inside e =
     let all = n ∷ ns in
-    let first = cells r (next_type p) v in
+    let first = cells r (child_type p) v in
     let others = all_cells r (left_after p) vs in
-    let size : n.size ≡ length first = ap first_size e ∙ (starts r (next_type p) v others).1 ∙ sym (cells_length r (next_type p) v) in
+    let size : n.size ≡ length first = ap first_size e ∙ (starts r (child_type p) v others).1 ∙ sym (cells_length r (child_type p) v) in
     record {
       within = omega (arith, size, ap length e, length-append first others, length-map all (cell_shown pool));
       front = shown_take pool n.size all ∙ ap (take n.size) e ∙ ap (λ (k : ℕ). take k (first ++ others)) size ∙ take-append_seam first others;
@@ -139,10 +139,10 @@ forest_is r pool zero ns p none le inside e = refl
 forest_is r pool (suc k) [] p none le inside e = refl
 forest_is r pool (suc k) (n ∷ ns) p none le inside e = absurd cc
 forest_is r pool zero ns p (and v vs) le inside e = absurd (omega (arith, le))
-forest_is r pool (suc k) [] p (and v vs) le inside e = let some : 0 ≡ length (all_cells r p (and v vs)) = ap length e in absurd (omega (arith, some, all_cells_length r p (and v vs), (starts r (next_type p) v []).2))
+forest_is r pool (suc k) [] p (and v vs) le inside e = let some : 0 ≡ length (all_cells r p (and v vs)) = ap length e in absurd (omega (arith, some, all_cells_length r p (and v vs), (starts r (child_type p) v []).2))
 forest_is r pool (suc k) (n ∷ ns) p (and v vs) le inside e =
     let s = split r pool n ns p v vs inside e in
-    let is = seen_is r pool (take n.size (n ∷ ns)) (next_type p) v s.front in
+    let is = seen_is r pool (take n.size (n ∷ ns)) (child_type p) v s.front in
     let rest = forest_is r pool k (drop n.size (n ∷ ns)) (left_after p) vs (omega (arith, le)) s.back_inside s.back in
     rw (is.0, is.1, rest) refl
 

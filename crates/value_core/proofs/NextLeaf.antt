@@ -1,5 +1,5 @@
 -- The values that a node without children may be, by the form that is next.
-use Rattle.std.proofs.Common.{◌≡◌, ◌-◌, ℕ, zero, suc, ◌*◌, ℤ, pos, negsuc, ◌<◌, ◌≤◌, ◌^◌, ◌/◌, List, [], ◌∷◌, ◌++◌, Bool, true, false, length, Some, refl, ◌∙◌, ◌⊎◌, inl, inr, arith}
+use Rattle.std.proofs.Common.{◌≡◌, ◌-◌, ℕ, suc, ◌*◌, ℤ, pos, negsuc, ◌<◌, ◌≤◌, ◌^◌, List, [], ◌∷◌, ◌++◌, Bool, true, false, length, Some, refl, ◌∙◌, ◌⊎◌, inl, inr, arith}
 use Rattle.std.specs.Prelude.{not, nat_lt, ◌||◌, ◌&&◌, if◌then◌else◌}
 use Rattle.std.specs.Str.{is_utf8}
 use Rattle.std.proofs.lemmas.Bool.{lt-ltb, le-ltb, ltb-false}
@@ -7,8 +7,8 @@ use Rattle.scale_core.specs.Number.{AreBytes, number, signed_number, le_bytes, s
 use Rattle.scale_core.specs.Compact.{IsCompact, compact, target_bytes}
 use Rattle.scale_core.specs.declared.compact.Target.{Target}
 use Rattle.scale_core.specs.declared.compact.Target.TheVariants as target
-use Rattle.scale_core.proofs.Numbers.{length-le_bytes, number-le_bytes}
-use Rattle.scale_core.proofs.Forms.{are_compact}
+use Rattle.scale_core.proofs.Numbers.{length-le_bytes, number-le_bytes, both_bytes}
+use Rattle.scale_core.proofs.Forms.{are_le_bytes, are_compact}
 use Rattle.registry_core.specs.declared.primitive.Primitive.{Primitive}
 use Rattle.registry_core.specs.declared.primitive.Primitive.TheVariants as P
 use Rattle.widths_core.specs.Layouts.{Layout, layout, primitive_layout}
@@ -20,12 +20,7 @@ use Rattle.grammar_core.specs.declared.form.Next.TheVariants as next
 use Rattle.value_core.specs.Built.{IsNextLeaf}
 use Rattle.value_core.specs.Refusals.{greatest_unsigned, greatest_signed, is_within}
 use Rattle.value_core.specs.Walked.{Walked, next_of}
-use Rattle.value_core.proofs.Adding.{both_bytes}
 use Rattle.value_core.proofs.Forms.{wanted, empty_layout, primitive_has_layout, compact_has_layout, count_layout}
-
-are_le_bytes : (k n : ℕ) → AreBytes (le_bytes k n)
-are_le_bytes zero n = tt
-are_le_bytes (suc k) n = (omega arith, are_le_bytes k (n / 256))
 
 pub empty_next : (w : Walked) → next_of w ≡ next.Wants form.Empty → IsNextLeaf w head.unit
 unfolding Val

@@ -2,6 +2,7 @@
 use Rattle.std.proofs.Common.{◌≡◌, ℕ, ◌<◌, ◌^◌, [], ◌∷◌, Option, Some, None, refl, sym, ap, ◌∙◌, arith, inl, inr}
 use Rattle.std.specs.Prelude.{option_map}
 use Rattle.std.proofs.lemmas.List.{append-nil}
+use Rattle.std.proofs.lemmas.Option.{same_Some}
 use Rattle.scale_core.specs.Compact.{compact}
 use Rattle.scale_core.proofs.Forms.{are_compact}
 use Rattle.registry_core.specs.declared.definition.Arm.{Arm}
@@ -17,13 +18,12 @@ use Rattle.value_core.specs.Built.{IsNextOpen}
 use Rattle.value_core.specs.Opened.{OpensFields, OpensArm, OpensArray, OpensSequence}
 use Rattle.value_core.specs.Walked.{Walked, next_of}
 use Rattle.value_core.proofs.Forms.{wanted}
-use Rattle.value_core.proofs.Adding.{some_is}
 
 pub fields_next : (w : Walked) (p : Part) → next_of w ≡ next.Wants form.Fields → OpensFields w p → IsNextOpen w (head.fields (how_many_left p)) p
 unfolding Val
 fields_next w p e o =
     let k = wanted w form.Fields e in
-    let same : k.ty ≡ o.ty = some_is k.ty o.ty (sym k.is_next ∙ o.next) in
+    let same : k.ty ≡ o.ty = same_Some k.ty o.ty (sym k.is_next ∙ o.next) in
     record {
       ty = o.ty;
       next = o.next;
@@ -41,7 +41,7 @@ pub array_next : (w : Walked) (n : ℕ) (p : Part) → next_of w ≡ next.Wants 
 unfolding Val
 array_next w n p e o =
     let k = wanted w (form.Array n) e in
-    let same : k.ty ≡ o.ty = some_is k.ty o.ty (sym k.is_next ∙ o.next) in
+    let same : k.ty ≡ o.ty = same_Some k.ty o.ty (sym k.is_next ∙ o.next) in
     record {
       ty = o.ty;
       next = o.next;
@@ -59,7 +59,7 @@ pub sequence_next : (w : Walked) (n : ℕ) (p : Part) → n < 2 ^ 32 → next_of
 unfolding Val
 sequence_next w n p h e o =
     let k = wanted w form.Sequence e in
-    let same : k.ty ≡ o.ty = some_is k.ty o.ty (sym k.is_next ∙ o.next) in
+    let same : k.ty ≡ o.ty = same_Some k.ty o.ty (sym k.is_next ∙ o.next) in
     record {
       ty = o.ty;
       next = o.next;
@@ -84,7 +84,7 @@ arm_next w index q p h e o = by (arm_of o.arms index) refl o.found_is where
   by None f is = absurd cc
   by (Some a) f is =
       let k = wanted w form.Arm e in
-      let same : k.ty ≡ o.ty = some_is k.ty o.ty (sym k.is_next ∙ o.next) in
+      let same : k.ty ≡ o.ty = same_Some k.ty o.ty (sym k.is_next ∙ o.next) in
       let both = pair_is (q, p) (a.0, each (field_types a.1.fields)) is in
       let position : q ≡ a.0 = ap (λ (x : ℕ × Part). x.0) both in
       let part : p ≡ each (field_types a.1.fields) = ap (λ (x : ℕ × Part). x.1) both in

@@ -6,11 +6,10 @@ use Rattle.std.specs.Int.{w32, w128, from_le_bytes, to_le_bytes}
 use Rattle.std.proofs.lemmas.List.{append-nil, take_at, length-take, length-drop}
 use Rattle.scale_core.specs.Compact.{compact}
 use Rattle.scale_core.specs.Number.{le_bytes, bool_byte}
-use Rattle.scale_core.proofs.Numbers.{length-le_bytes}
+use Rattle.scale_core.proofs.Numbers.{length-le_bytes, neg-pos}
 use Rattle.scale_core.proofs.Fronts.{take-to_le_bytes_16, to_le_bytes_4}
 use Rattle.registry_core.specs.declared.definition.TypeDef.{TypeDef}
 use Rattle.grammar_core.specs.Spelled.{width_of, word, index_of, index_byte, length_bytes}
-use Rattle.grammar_core.proofs.Spelled.{neg-pos}
 use Rattle.value_core.specs.Shown.{signed_from}
 use Rattle.value_core.specs.Encoding.{Starts}
 use Rattle.value_core.specs.declared.node.Content.{Content}

@@ -1,6 +1,7 @@
 -- A value that is being built stays one at each step.
 use Rattle.std.proofs.Common.{◌≡◌, ℕ, zero, suc, ◌+◌, ◌<◌, ◌≤◌, List, [], ◌∷◌, ◌++◌, length, Some, None, refl, sym, ap, subst, ◌∙◌, append_assoc, arith, inl, inr}
 use Rattle.std.proofs.lemmas.List.{append-nil}
+use Rattle.std.proofs.lemmas.Option.{same_Some}
 use Rattle.registry_core.specs.declared.type_info.TypeInfo.{TypeInfo}
 use Rattle.widths_core.specs.Layouts.{layout}
 use Rattle.widths_core.specs.Layouts as layout
@@ -57,9 +58,6 @@ times_cells r zero u vs v h = absurd (omega (arith, h))
 times_cells r (suc n) u none v h = append-nil (cells r u v)
 times_cells r (suc n) u (and w ws) v h = ap (λ (cs : List Cell). cells r u w ++ cs) (times_cells r n u ws v (omega (arith, h))) ∙ sym (append_assoc (cells r u w) (all_cells r (times n u) ws) (cells r u v))
 
-some_is : (x y : ℕ) → Some x ≡ Some y → x ≡ y
-some_is x y e = cc
-
 -- the open node with one more child, and its nodes
 abbrev Grows : List TypeInfo → Kind → ℕ → ℕ → Trees → List ℕ → Part → Tree → ℕ → List ℕ → Type 0
 Grows r kind t n vs b p v u c = IsOpenAs r kind t n (snoc vs v) (b ++ c) (left_after p) × (all_cells r (kind_part r t kind n) (snoc vs v) ≡ all_cells r (kind_part r t kind n) vs ++ cells r u v)
@@ -68,7 +66,7 @@ grown_fields : (r : List TypeInfo) (t n : ℕ) (vs : Trees) (b : List ℕ) (p : 
 grown_fields r t n vs b p u v c [] h e f k = let no : None ≡ Some u = sym (ap first_of (h.4 ∙ ap each e)) ∙ f in absurd cc
 grown_fields r t n vs b p u v c (w ∷ back) h e f k =
     let is : p ≡ each (w ∷ back) = h.4 ∙ ap each e in
-    let same : w ≡ u = some_is w u (sym (ap first_of is) ∙ f) in
+    let same : w ≡ u = same_Some w u (sym (ap first_of is) ∙ f) in
     let split : h.0 ++ h.1 ≡ h.0 ++ u ∷ back = ap (λ (x : List ℕ). h.0 ++ x) (e ∙ ap (λ (z : ℕ). z ∷ back) same) in
     let joined : h.0 ++ h.1 ≡ (h.0 ++ u ∷ []) ++ back = split ∙ sym (append_assoc h.0 (u ∷ []) back) in
     let parts : fields_part (layout r t) ≡ each (h.0 ++ u ∷ back) = ap fields_part h.2 ∙ ap each split in (
@@ -80,7 +78,7 @@ grown_arm : (r : List TypeInfo) (t q n : ℕ) (vs : Trees) (b : List ℕ) (p : P
 grown_arm r t q n vs b p u v c [] h e f k = let no : None ≡ Some u = sym (ap first_of (h.10 ∙ ap each e)) ∙ f in absurd cc
 grown_arm r t q n vs b p u v c (w ∷ back) h e f k =
     let is : p ≡ each (w ∷ back) = h.10 ∙ ap each e in
-    let same : w ≡ u = some_is w u (sym (ap first_of is) ∙ f) in
+    let same : w ≡ u = same_Some w u (sym (ap first_of is) ∙ f) in
     let split : h.3 ++ h.4 ≡ h.3 ++ u ∷ back = ap (λ (x : List ℕ). h.3 ++ x) (e ∙ ap (λ (z : ℕ). z ∷ back) same) in
     let joined : h.3 ++ h.4 ≡ (h.3 ++ u ∷ []) ++ back = split ∙ sym (append_assoc h.3 (u ∷ []) back) in
     let parts : arm_part (layout r t) q ≡ each (h.3 ++ u ∷ back) = arm_part_is r t q h.0 h.1 h.2 h.6 h.7 ∙ ap each (h.8 ∙ split) in (
@@ -98,7 +96,7 @@ grown_list : (r : List TypeInfo) (t n : ℕ) (vs : Trees) (b : List ℕ) (p : Pa
 grown_list r t n vs b p u v c zero h e f k = let no : None ≡ Some u = sym (ap first_of (h.5 ∙ ap (λ (z : ℕ). times z h.0) e)) ∙ f in absurd cc
 grown_list r t n vs b p u v c (suc left) h e f k =
     let is : p ≡ times (suc left) h.0 = h.5 ∙ ap (λ (z : ℕ). times z h.0) e in
-    let same : h.0 ≡ u = some_is h.0 u (sym (ap first_of is) ∙ f) in
+    let same : h.0 ≡ u = same_Some h.0 u (sym (ap first_of is) ∙ f) in
     let parts : list_part (layout r t) n ≡ times n u = list_part_is r t n u vs b p h ∙ ap (times n) same in (
       (h.0, left, h.2, h.3 ++ c, h.4, ap left_after is, omega (arith, snoc_many vs v, h.6, e), ap (λ (x : List ℕ). x ++ c) h.7 ∙ append_assoc h.2 h.3 c, snoc_each r h.0 vs h.3 v c h.8 (subst (λ (z : ℕ). Val r z v c) (sym same) k)),
       rw parts (times_cells r n u vs v (omega (arith, h.6, e))),
@@ -150,7 +148,7 @@ pub value_added : (r : List TypeInfo) (room t : ℕ) (os : List OpenNode) (f : O
     Grown r room t (open_part f.node (left_after f.left) ∷ fs) (cs ++ cells r u v) (own ++ c)
 value_added r room t [] f fs cs own u v c (inl h) e k l =
     let parts = is_cons f (open_part 0 (times 1 t)) fs [] h.0 in
-    let same : t ≡ u = some_is t u (sym (ap (λ (x : OpenPart). first_of x.left) parts.0) ∙ e) in
+    let same : t ≡ u = same_Some t u (sym (ap (λ (x : OpenPart). first_of x.left) parts.0) ∙ e) in
     ([], inr (v, rw (parts.0, parts.1) refl, rw (h.1, same) refl, subst (λ (b : List ℕ). Val r t v b) (sym (ap (λ (b : List ℕ). b ++ c) h.2)) (subst (λ (z : ℕ). Val r z v c) (sym same) k), l))
 value_added r room t [] f fs cs own u v c (inr h) e k l =
     let parts = is_cons f (open_part 0 (times 0 t)) fs [] h.1 in

@@ -11,7 +11,7 @@ use Rattle.grammar_core.specs.Grammar.{Val}
 use Rattle.grammar_core.specs.Preorder as head
 use Rattle.grammar_core.specs.Preorder.{Head, tree_of}
 use Rattle.grammar_core.specs.Parts.{Part, left_after}
-use Rattle.grammar_core.specs.Cells.{Cell, cells, all_cells, next_type, fields_part, arm_part, list_part}
+use Rattle.grammar_core.specs.Cells.{Cell, cells, all_cells, child_type, fields_part, arm_part, list_part}
 use Rattle.value_core.specs.declared.node.Content.{Content}
 use Rattle.value_core.specs.declared.node.Content.TheVariants as is
 use Rattle.value_core.specs.declared.node.Node.{Node}
@@ -29,7 +29,7 @@ IsValue s = (b : List ℕ) × AreBytes b × Val s.types s.ty s.tree b
 -- values of these types, one behind the other
 abbrev pub seen_parts : List TypeInfo → Part → Trees → List Seen
 seen_parts r p none = []
-seen_parts r p (and v vs) = record { types = r; ty = next_type p; tree = v } ∷ seen_parts r (left_after p) vs
+seen_parts r p (and v vs) = record { types = r; ty = child_type p; tree = v } ∷ seen_parts r (left_after p) vs
 
 -- the children of a value of type t
 abbrev pub children_by : List TypeInfo → ℕ → Tree → List Seen
@@ -110,7 +110,7 @@ all_seen types pool ns = forest types pool (length ns) ns
 -- values of these types
 abbrev pub AreValues : List TypeInfo → Part → Trees → Type 0
 AreValues r p none = Unit {0}
-AreValues r p (and v vs) = IsValue (record { types = r; ty = next_type p; tree = v }) × AreValues r (left_after p) vs
+AreValues r p (and v vs) = IsValue (record { types = r; ty = child_type p; tree = v }) × AreValues r (left_after p) vs
 
 -- the nodes are those of values one behind the other, and of nothing else
 pub record IsForest (types : List TypeInfo) (pool : List ℕ) (ns : List Node) : Type 0 where

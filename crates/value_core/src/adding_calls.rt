@@ -134,8 +134,7 @@ impl<'r, A: Allocator> Builder<'r, A> {
             return Err(BuildFault::WrongKind);
         };
         match primitive {
-            Primitive::U256 => self.add_leaf(Leaf::Wide(&value)),
-            Primitive::I256 => self.add_leaf(Leaf::Wide(&value)),
+            Primitive::U256 | Primitive::I256 => self.add_leaf(Leaf::Wide(&value)),
             _ => Err(BuildFault::WrongKind),
         }
     }

@@ -73,13 +73,11 @@ fn append<A: Allocator>(
 ) -> Result<(), AllocError>
     ensures nodes { OnOk result (nodes.new.items ≡ nodes.old.items ++ node ∷ []) }
     ensures pool { OnOk result (pool.new.items ≡ pool.old.items ++ bytes.now) }
-    ensures len { OnOk result (length pool.new.items < 2 ^ 64) }
     ensures err { OnErr result ((nodes.new.items ≡ nodes.old.items) × (pool.new.items ≡ pool.old.items)) }
 {
     nodes.reserve(1)?;
     pool.extend_from_slice(bytes)?;
     nodes.push(node).unwrap();
-    let _all = pool.as_slice();
     Ok(())
 }
 

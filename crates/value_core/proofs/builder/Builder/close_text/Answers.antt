@@ -1,6 +1,7 @@
 use Rattle.std.proofs.Common.{◌≡◌, ◌+◌, ◌++◌, ◌∙◌, Bool, true, false, Option, None, Ok, List, [], ℕ, length, drop, ap, sym, subst, refl, arith}
 use Rattle.std.proofs.lemmas.List.{append-nil, length-drop}
 use Rattle.std.specs.Str.{is_utf8}
+use Rattle.std.proofs.lemmas.Option.{same_Some}
 use Rattle.grammar_core.specs.Preorder as head
 use Rattle.value_core.specs.Building.{IsOpenAt, IsOpenText, pieces_shown}
 use Rattle.value_core.specs.Built.{Built, pieces_bytes}
@@ -9,7 +10,7 @@ use Rattle.value_core.specs.Walked.{next_of}
 use Rattle.value_core.specs.declared.node.Node.{Node}
 use Rattle.value_core.specs.declared.open_text.OpenText.{OpenText}
 use Rattle.value_core.specs.declared.node.Content.TheVariants as content
-use Rattle.value_core.proofs.Adding.{leaf_added, open_whole, some_is}
+use Rattle.value_core.proofs.Adding.{leaf_added, open_whole}
 use Rattle.value_core.proofs.Closing.{settled_again}
 use Rattle.value_core.proofs.NextLeaf.{text_next}
 use Rattle.value_core.proofs.builder.Builder.close_text.Goals as goal
@@ -33,7 +34,7 @@ settle-requires g c =
     let long : length s ≡ o.len = omega (arith, w.0, length-drop o.start pool) in
     let l = text_next walk s at_place.is_next (is_valid s fault) at_place.are_bytes (omega (arith, long, at_place.spelled)) in
     let n : Node = record { ty = c.in-Some-next_type.ty; content = content.Text o.start o.len; size = 1 } in
-    let at : n.ty.0 ≡ l.ty = some_is n.ty.0 l.ty (c.in-Some-next_type.ensures ∙ l.next) in
+    let at : n.ty.0 ≡ l.ty = same_Some n.ty.0 l.ty (c.in-Some-next_type.ensures ∙ l.next) in
     let b = leaf_added c.self.inside.root.0 walk pool [] c.self.inside.nodes.items n c.self.inside.text_len o.len (head.text s) c.self.invariant.0 l at
     (rw append-nil (ap head.text w.1)) refl (rw append-nil (omega (arith, w.0))) (sym long) (omega (arith, at_place.behind, w.0)) in
     (c.self.inside.root.0, pool ++ [], c.self.inside.text_len + o.len, rw (c.advance.ensures, c.in_ok-append.ensures.nodes) b)
@@ -51,7 +52,7 @@ invariant_of-self-2 g c =
     let long : length s ≡ o.len = omega (arith, w.0, length-drop o.start pool) in
     let l = text_next walk s at_place.is_next (is_valid s fault) at_place.are_bytes (omega (arith, long, at_place.spelled)) in
     let n : Node = record { ty = c.in-Some-next_type.ty; content = content.Text o.start o.len; size = 1 } in
-    let at : n.ty.0 ≡ l.ty = some_is n.ty.0 l.ty (c.in-Some-next_type.ensures ∙ l.next) in
+    let at : n.ty.0 ≡ l.ty = same_Some n.ty.0 l.ty (c.in-Some-next_type.ensures ∙ l.next) in
     let b = leaf_added c.self.inside.root.0 walk pool [] c.self.inside.nodes.items n c.self.inside.text_len o.len (head.text s) c.self.invariant.0 l at
     (rw append-nil (ap head.text w.1)) refl (rw append-nil (omega (arith, w.0))) (sym long) (omega (arith, at_place.behind, w.0)) in (
       c.settle.ensures.settles.builds _ _ _ (rw (c.advance.ensures, c.in_ok-append.ensures.pool, c.in_ok-append.ensures.nodes) b),

@@ -1,10 +1,7 @@
-use Rattle.std.proofs.Common.{rules, inl, inr}
+use Rattle.std.proofs.Common.{rules}
 use Rattle.scale_core.proofs.ReadForms.{are_bytes}
 use Rattle.value_core.proofs.NextLeaf.{wide_next}
 use Rattle.value_core.proofs.builder.Builder.wide.Goals as goal
 
 pub add_leaf-requires-clause-next : goal.add_leaf-requires-clause-next
-add_leaf-requires-clause-next g c = wide_next _ c.in-Primitive.primitive c.args.value (search rules) (inl c.in-U256.is) (search rules) (are_bytes c.args.value (λ i. search rules))
-
-pub add_leaf-requires-in-I256-clause-next : goal.add_leaf-requires-in-I256-clause-next
-add_leaf-requires-in-I256-clause-next g c = wide_next _ c.in-Primitive.primitive c.args.value (search rules) (inr c.in-I256.is) (search rules) (are_bytes c.args.value (λ i. search rules))
+add_leaf-requires-clause-next g c = wide_next _ c.in-Primitive.primitive c.args.value (search rules) c.in-U256.is (search rules) (are_bytes c.args.value (λ i. search rules))
