@@ -30,7 +30,7 @@ use Rattle.grammar_core.specs.Grammar.{Val, Vals, Each}
 use Rattle.grammar_core.specs.Parts.{each, times}
 use Rattle.grammar_core.specs.Cells.{cells, all_cells}
 use Rattle.grammar_core.proofs.Emptiness.{compact_value_of, known_at}
-use Rattle.grammar_core.specs.Spelled.{width_of, word, index_of, index_byte, is_sequence, cell_bytes, spelled, EncodedIsValue}
+use Rattle.grammar_core.specs.Spelled.{width_of, word, index_of, index_byte, is_sequence, length_bytes, cell_bytes, spelled, EncodedIsValue}
 
 -- ---- what the layout of a type says of its definition
 
@@ -161,6 +161,17 @@ index_at arms i q a e =
     let s = (arm_is_first arms i q a).0 e in
     rw (arm_get arms i q a e) (ap (λ (x : ℕ). x ∷ []) s.4)
 
+-- ---- what stands in front of children
+
+pub arm_byte : (r : List TypeInfo) (t : ℕ) (arms : List Arm) (i q : ℕ) (a : Arm) → layout r t ≡ layout.arms arms → arm_of arms i ≡ Some (q, a) → index_byte (index_of (shape r t) q) ≡ i ∷ []
+arm_byte r t arms i q a e h = ap (λ (d : Option TypeDef). index_byte (index_of d q)) (shaped_at r t (layout.arms arms) e) ∙ index_at arms i q a h
+
+pub array_length : (r : List TypeInfo) (t n u k : ℕ) → layout r t ≡ layout.array n u → length_bytes (shape r t) k ≡ []
+array_length r t n u k e = rw (shaped_at r t (layout.array n u) e) refl
+
+pub sequence_length : (r : List TypeInfo) (t u k : ℕ) → layout r t ≡ layout.sequence u → length_bytes (shape r t) k ≡ compact k
+sequence_length r t u k e = rw (shaped_at r t (layout.sequence u) e) refl
+
 -- ---- all nodes
 
 mutual
@@ -179,7 +190,7 @@ mutual
   spells r t (tree.compact x) b p h = let c = compact_value_of (layout r t) x b h in append-nil (compact x) ∙ compact_is r t c.0 x b c.1 c.2
   spells r t (fields vs) b p h = rw h.1 (spells_vals r h.0 vs b p h.2)
   spells r t (arm q vs) b p h =
-      let first : index_byte (index_of (shape r t) q) ≡ h.1 ∷ [] = ap (λ (d : Option TypeDef). index_byte (index_of d q)) (shaped_at r t (layout.arms h.0) h.4) ∙ index_at h.0 h.1 q h.2 h.5 in
+      let first = arm_byte r t h.0 h.1 q h.2 h.4 h.5 in
       let rest = spells_vals r (field_types h.2.fields) vs h.3 (subst AreBytes h.6 p).1 h.7 in
       rw (first, h.4, arm_get h.0 h.1 q h.2 h.5, rest) (sym h.6)
   spells r t (list vs) b p (inl h) = rw (shaped_at r t (layout.array h.0 h.1) h.2, h.2) (spells_each r h.1 vs b p h.4)
@@ -188,7 +199,7 @@ mutual
       rw (shaped_at r t (layout.sequence h.0) h.3, h.3, rest) (ap (λ (x : List ℕ). x ++ h.2) (sym h.4.1) ∙ sym h.5)
   spells r t (count k) b p h = append-nil (compact k) ∙ sym h.1.1
 
-  spells_vals : (r : List TypeInfo) (ts : List ℕ) (vs : Trees) (b : List ℕ) → AreBytes b → Vals r ts vs b → flat_map (cell_bytes r) (all_cells r (each ts) vs) ≡ b
+  pub spells_vals : (r : List TypeInfo) (ts : List ℕ) (vs : Trees) (b : List ℕ) → AreBytes b → Vals r ts vs b → flat_map (cell_bytes r) (all_cells r (each ts) vs) ≡ b
   spells_vals r [] none b p h = sym h
   spells_vals r (t ∷ ts) none b p h = absurd h
   spells_vals r [] (and v vs) b p h = absurd h
@@ -197,7 +208,7 @@ mutual
       flat_map-append (cell_bytes r) (cells r t v) (all_cells r (each ts) vs)
       ∙ rw (spells r t v h.0 (front_bytes h.0 h.1 q) h.3, spells_vals r ts vs h.1 (rest_bytes h.0 h.1 q) h.4) (sym h.2)
 
-  spells_each : (r : List TypeInfo) (t : ℕ) (vs : Trees) (b : List ℕ) → AreBytes b → Each r t vs b → flat_map (cell_bytes r) (all_cells r (times (how_many vs) t) vs) ≡ b
+  pub spells_each : (r : List TypeInfo) (t : ℕ) (vs : Trees) (b : List ℕ) → AreBytes b → Each r t vs b → flat_map (cell_bytes r) (all_cells r (times (how_many vs) t) vs) ≡ b
   spells_each r t none b p h = sym h
   spells_each r t (and v vs) b p h =
       let q : AreBytes (h.0 ++ h.1) = rw (← h.2) p in

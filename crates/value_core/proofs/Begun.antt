@@ -1,11 +1,14 @@
 -- What a builder holds is a begun tree.
-use Rattle.std.proofs.Common.{◌≡◌, ℕ, zero, suc, ◌+◌, ◌-◌, ◌≤◌, Bool, true, false, List, [], ◌∷◌, ◌++◌, length, map, Option, Some, None, refl, sym, ap, subst, ◌∙◌, append_assoc, arith, inl, inr, length-append}
+use Rattle.std.proofs.Common.{◌≡◌, ℕ, zero, suc, ◌+◌, ◌-◌, ◌≤◌, Bool, true, false, List, [], ◌∷◌, ◌++◌, length, map, Option, Some, None, refl, sym, ap, flat_map, subst, ◌∙◌, append_assoc, arith, inl, inr, length-append}
 use Rattle.std.specs.Prelude.{nat_lt, if◌then◌else◌}
 use Rattle.std.proofs.lemmas.Bool.{lt-ltb, le-ltb, ltb-true, ltb-false}
 use Rattle.std.proofs.lemmas.List.{append-nil, map-append, length-map}
 use Rattle.std.proofs.lemmas.Simd.{map-map}
 use Rattle.std.proofs.lemmas.Option.{same_Some}
+use Rattle.std.proofs.lemmas.List.Folds.{flat_map-map}
+use Rattle.scale_core.specs.Number.{AreBytes}
 use Rattle.registry_core.specs.declared.type_info.TypeInfo.{TypeInfo}
+use Rattle.widths_core.specs.Types.{shape}
 use Rattle.widths_core.specs.Classes.{is_finite}
 use Rattle.widths_core.specs.Layouts as layout
 use Rattle.grammar_core.specs.Tree.{Tree, Trees, nodes, all_nodes, all_text_bytes, most_levels}
@@ -14,11 +17,12 @@ use Rattle.grammar_core.specs.Preorder.{Head, preorder, all_preorder}
 use Rattle.grammar_core.specs.Parts.{Part, each, times, first_of, left_after}
 use Rattle.grammar_core.specs.Cells.{Cell, cells, all_cells}
 use Rattle.grammar_core.specs.Begun.{Begun, nothing, whole, in_fields, in_arm, in_list, IsPart, Grows, IsBegunPreorder, begun_nodes, begun_text_bytes}
+use Rattle.grammar_core.specs.Spelled.{own_bytes, cell_bytes}
 use Rattle.grammar_core.specs.Forms.{next_at}
 use Rattle.grammar_core.specs.declared.form.StopReason.TheVariants as stop
 use Rattle.grammar_core.specs.declared.form.Next.TheVariants as next
 use Rattle.grammar_core.proofs.Begun.{begun_trees_fit}
-use Rattle.value_core.specs.Shown.{cells_shown}
+use Rattle.value_core.specs.Shown.{cell_shown, cells_shown}
 use Rattle.value_core.specs.Spine.{Kind, of_fields, of_arm, of_list, OpenNode, kind_head, kind_part, open_cells, IsOpenAs, open_part, Spine}
 use Rattle.value_core.specs.Walked.{OpenPart, Walked}
 use Rattle.value_core.specs.Built.{Entry, Pieces, IsSettled, entries_shown, head_text_bytes, settled_in}
@@ -28,6 +32,7 @@ use Rattle.value_core.specs.Begun.{IsBegun, next_in}
 use Rattle.value_core.specs.declared.node.Node.{Node}
 use Rattle.value_core.proofs.CellsOf.{bare, cells_length, all_cells_length, cells_preorder, all_cells_preorder}
 use Rattle.value_core.proofs.Finished.{heads_text, heads_text-append, text_of_preorder, text_of_all_preorder, text_of_entries}
+use Rattle.value_core.proofs.OwnBytes.{spine_bytes}
 use Rattle.value_core.proofs.Spines.{is_cons, spine_is_whole, spine_length}
 
 -- ---- the open node round a begun tree
@@ -153,6 +158,9 @@ answer_is r limit parts u = by (nat_lt (limit + 1) parts) refl where
 heads_are : (pool : List ℕ) (ns : List Node) → map (λ (e : Entry). e.head) (entries_shown pool ns) ≡ bare (cells_shown pool ns)
 heads_are pool ns = map-map (λ (e : Entry). e.head) _ ns ∙ sym (map-map (λ (c : Cell). c.head) _ ns)
 
+own_is : (r : List TypeInfo) (pool : List ℕ) (ns : List Node) (own : List ℕ) → flat_map (cell_bytes r) (cells_shown pool ns) ≡ own → flat_map (λ (e : Entry). own_bytes (shape r e.ty) e.head) (entries_shown pool ns) ≡ own
+own_is r pool ns own e = flat_map-map _ _ ns ∙ sym (flat_map-map (cell_bytes r) (cell_shown pool) ns) ∙ e
+
 -- where a type is next
 part_begun : (ty : ℕ) (types : List TypeInfo) (limit : ℕ) (f : OpenPart) (fs : List OpenPart) (pool : List ℕ) (ns : List Node) (text_len : ℕ) (text : Option Pieces) (u : ℕ) → IsBuilding ty (record { types = types; limit = limit; frames = f ∷ fs }) pool ns text_len → first_of f.left ≡ Some u →
     IsBegun (record { ty = ty; walk = record { types = types; limit = limit; frames = f ∷ fs }; entries = entries_shown pool ns; text = text })
@@ -161,12 +169,12 @@ part_begun ty types limit f fs pool ns text_len text u b e =
     let g = spine_is_begun types (limit + 1) b.room ty b.opens f fs (cells_shown pool ns) b.own u (omega (arith, b.level, parts)) b.spine e in
     let left : limit + 2 - length (f ∷ fs) ≡ b.room = omega (arith, b.level) in
     let fit = (begun_trees_fit types (limit + 1) ty g.0 b.own (Some (b.room, u)) g.1).1 b.room u refl in
+    let own = own_is types pool ns b.own (spine_bytes types b.room ty b.opens (f ∷ fs) (cells_shown pool ns) b.own b.are_bytes b.spine) in
     let count = counts g.0 (bare (cells_shown pool ns)) g.3 in
     record {
       tree = g.0;
-      own = b.own;
-      are_bytes = b.are_bytes;
-      grows = rw (e, left) g.1;
+      are_bytes = subst AreBytes (sym own) b.are_bytes;
+      grows = rw (e, left, own) g.1;
       shows = rw (heads_are pool ns) g.3;
       nodes = sym (length-map (entries_shown pool ns) (λ (x : Entry). x.head)) ∙ ap length (heads_are pool ns) ∙ count.0;
       text_bytes = text_of_entries pool ns ∙ count.1;
@@ -188,12 +196,12 @@ whole_begun ty types limit f pool ns text_len text b e = by b.opens refl where
       let spine : Spine types b.room ty [] (f ∷ []) (cells_shown pool ns) b.own = subst (λ (x : List OpenNode). Spine types b.room ty x (f ∷ []) (cells_shown pool ns) b.own) o b.spine in
       let v = spine_is_whole types b.room ty f (cells_shown pool ns) b.own spine e in
       let shows : bare (cells_shown pool ns) ≡ preorder v.0 = ap bare v.1 ∙ cells_preorder types ty v.0 in
+      let own = own_is types pool ns b.own (spine_bytes types b.room ty b.opens (f ∷ []) (cells_shown pool ns) b.own b.are_bytes b.spine) in
       let count = counts (whole v.0) (bare (cells_shown pool ns)) shows in
       record {
         tree = whole v.0;
-        own = b.own;
-        are_bytes = b.are_bytes;
-        grows = (v.2, omega (arith, v.3, b.level), rw e refl);
+        are_bytes = subst AreBytes (sym own) b.are_bytes;
+        grows = (rw own v.2, omega (arith, v.3, b.level), rw e refl);
         shows = heads_are pool ns ∙ shows;
         nodes = sym (length-map (entries_shown pool ns) (λ (x : Entry). x.head)) ∙ ap length (heads_are pool ns) ∙ count.0;
         text_bytes = text_of_entries pool ns ∙ count.1;

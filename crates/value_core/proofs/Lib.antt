@@ -4,11 +4,13 @@ pub mod Below
 pub mod CellsOf
 pub mod Closing
 pub mod Spines
+pub mod TextEnded
 pub mod Finished
 pub mod Forms
 pub mod Leaves
 pub mod NextLeaf
 pub mod NextOpen
+pub mod OwnBytes
 pub mod Opened
 pub mod Wanted
 pub mod Words

@@ -86,7 +86,7 @@ grown_arm r t q n vs b p u v c (w ∷ back) h e f k =
       rw parts (each_cells r h.3 u back vs h.5 v h.12),
     )
 
-list_part_is : (r : List TypeInfo) (t n u : ℕ) (vs : Trees) (b : List ℕ) (p : Part) → (h : IsListOpen r t n vs b p) → list_part (layout r t) n ≡ times n h.0
+pub list_part_is : (r : List TypeInfo) (t n u : ℕ) (vs : Trees) (b : List ℕ) (p : Part) → (h : IsListOpen r t n vs b p) → list_part (layout r t) n ≡ times n h.0
 list_part_is r t n u vs b p h = elim h.4 [
   | inl a ↦ rw a.0 refl
   | inr s ↦ rw s.0 refl

@@ -1,7 +1,9 @@
 -- What a builder holds: a begun tree, and what its walk says of it.
-use Rattle.std.specs.Prelude.{◌≡◌, ℕ, ◌+◌, ◌-◌, nat_lt, if◌then◌else◌, List, length, map, Option, Some, None, option_map}
+use Rattle.std.specs.Prelude.{◌≡◌, ℕ, ◌+◌, ◌-◌, nat_lt, if◌then◌else◌, List, length, map, flat_map, Option, Some, None, option_map}
 use Rattle.scale_core.specs.Number.{AreBytes}
 use Rattle.registry_core.specs.declared.type_info.TypeInfo.{TypeInfo}
+use Rattle.widths_core.specs.Types.{shape}
+use Rattle.grammar_core.specs.Spelled.{own_bytes}
 use Rattle.grammar_core.specs.Begun.{Begun, Grows, IsBegunPreorder, begun_nodes, begun_text_bytes, begun_depth, is_whole_tree}
 use Rattle.grammar_core.specs.Forms.{next_at}
 use Rattle.grammar_core.specs.declared.form.StopReason.TheVariants as stop
@@ -20,13 +22,16 @@ abbrev pub next_in : List TypeInfo → Option (ℕ × ℕ) → Next
 next_in r None = next.Finished
 next_in r (Some n) = if nat_lt 0 n.0 then next_at r n.1 else next.Stop stop.TooDeep
 
--- the nodes are those of a begun tree of the type, whose levels fit the depth limit and whose own bytes these are; its
--- first missing type is the walk's next one, at its depth; it is a value exactly where the builder is whole
+-- what the nodes are in bytes, one behind the other
+abbrev pub built_bytes : Built → List ℕ
+built_bytes b = flat_map (λ e. own_bytes (shape b.walk.types e.ty) e.head) b.entries
+
+-- the nodes are those of a begun tree of the type, and so are their bytes; its levels fit the depth limit; its first missing
+-- type is the walk's next one, at its depth; it is a value exactly where the builder is whole
 pub record IsBegun (b : Built) : Type 0 where
   pub tree : Begun
-  pub own : List ℕ
-  pub are_bytes : AreBytes own
-  pub grows : Grows b.walk.types (b.walk.limit + 1) b.ty tree own (next_with_room b.walk)
+  pub are_bytes : AreBytes (built_bytes b)
+  pub grows : Grows b.walk.types (b.walk.limit + 1) b.ty tree (built_bytes b) (next_with_room b.walk)
   pub shows : IsBegunPreorder tree (map (λ e. e.head) b.entries)
   pub nodes : length b.entries ≡ begun_nodes tree
   pub text_bytes : entries_text_bytes b.entries ≡ begun_text_bytes tree
