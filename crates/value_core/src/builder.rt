@@ -1,6 +1,6 @@
 //! A value that is built node by node.
 
-ghost use Rattle.std.specs.Prelude.{◌≡◌, ◌<◌, ◌≤◌, ◌+◌, ◌^◌, ◌++◌, ◌∷◌, [], length, true, false, OnOk, OnErr, IfOk, IfErr, Ok, None};
+ghost use Rattle.std.specs.Prelude.{◌≡◌, ◌<◌, ◌≤◌, ◌+◌, ◌++◌, ◌∷◌, [], length, true, false, OnOk, OnErr, IfOk, IfErr, Ok, None};
 ghost use Rattle.value_core.specs.Begun.{IsBegun};
 ghost use Rattle.value_core.specs.Building.{AreBuilt, Settles};
 ghost use Rattle.value_core.specs.Built.{IsSettled, built_text_bytes, finished, settled_walk, with_leaf, with_open, with_piece, with_text_ended, with_text_opened, pieces_bytes, IsNextLeaf, IsNextOpen};
@@ -174,7 +174,7 @@ impl<'r, A: Allocator> Builder<'r, A> {
         Ok(Value::new(walk.checked(), nodes, pool, text_len))
     }
 
-    /// What comes next, lent.
+    /// What comes next, lent: the first type that is missing in what it holds.
     pub fn walk(&self) -> &Walk<'r, A>
         ensures same { result.now ≡ self.now.walk }
         ensures begun { IsBegun self.now }

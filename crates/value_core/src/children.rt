@@ -1,6 +1,6 @@
 //! The nodes directly below a node.
 
-ghost use Rattle.std.specs.Prelude.{◌≡◌, length};
+ghost use Rattle.std.specs.Prelude.{◌≡◌};
 ghost use Rattle.std.specs.Iterator.{YieldsFirstBy, item_count};
 ghost use Rattle.value_core.specs.Shown.{IsForest, all_seen};
 

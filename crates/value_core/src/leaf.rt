@@ -1,6 +1,6 @@
 //! A node without children, before it is added to a value.
 
-ghost use Rattle.std.specs.Prelude.{◌≡◌, ◌<◌, ◌^◌, ◌++◌, ℕ, List, length};
+ghost use Rattle.std.specs.Prelude.{◌≡◌, ◌++◌, ℕ, List, length};
 ghost use Rattle.value_core.specs.Leaves.{leaf_head, leaf_bytes, leaf_text_bytes, FitsLeaf};
 ghost use Rattle.value_core.specs.Shown.{head_shown, IsInPool};
 

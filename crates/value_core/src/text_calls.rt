@@ -1,6 +1,5 @@
 //! The calls that add a text in pieces.
 
-ghost use Rattle.std.specs.Prelude.{◌≡◌, IfOk, IfErr, Some};
 ghost use Rattle.value_core.specs.Built.{with_piece, with_text_ended, with_text_opened};
 ghost use Rattle.value_core.specs.Refusals.{Adds, judged, judged_end, judged_piece, suits_text_start};
 
