@@ -2,6 +2,10 @@
 #![tactic(auto)]
 
 #[cfg(test)]
+mod builder_texts;
+#[cfg(test)]
+mod building;
+#[cfg(test)]
 mod command;
 #[cfg(test)]
 mod command_line;
