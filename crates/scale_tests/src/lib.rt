@@ -2,6 +2,10 @@
 #![tactic(auto)]
 
 #[cfg(test)]
+mod builder_numbers;
+#[cfg(test)]
+mod builder_refusals;
+#[cfg(test)]
 mod builder_texts;
 #[cfg(test)]
 mod building;
