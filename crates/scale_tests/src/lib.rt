@@ -30,4 +30,6 @@ mod texts;
 #[cfg(test)]
 mod values;
 #[cfg(test)]
+mod walks;
+#[cfg(test)]
 mod widths;
