@@ -18,6 +18,8 @@ mod compact;
 #[cfg(test)]
 mod devices;
 #[cfg(test)]
+mod encoder_devices;
+#[cfg(test)]
 mod integers;
 #[cfg(test)]
 mod memory;
