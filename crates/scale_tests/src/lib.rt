@@ -2,6 +2,8 @@
 #![tactic(auto)]
 
 #[cfg(test)]
+mod builder_memory;
+#[cfg(test)]
 mod builder_numbers;
 #[cfg(test)]
 mod builder_refusals;
@@ -25,6 +27,7 @@ mod integers;
 mod memory;
 #[cfg(test)]
 mod paced;
+pub mod rationed;
 #[cfg(test)]
 mod registries;
 #[cfg(test)]
