@@ -62,7 +62,7 @@ fn refused_calls<A: Allocator + Clone>(
         return Err("no builder")?;
     };
     let mut refused: u32 = 0;
-    for call in MIXED_CALLS {
+    'calls: for call in MIXED_CALLS {
         if add_twice(rt, &mut builder, call) {
             refused = refused.saturating_add(1);
         }
@@ -110,7 +110,7 @@ fn a_builder_without_memory_is_not_made(rt: HostRuntime) -> Result<(), Fail> {
         (3, 0, 1024, None),
         (0, 0, 1024, None),
     ];
-    for (request, ty, depth, fault) in rows {
+    'rows: for (request, ty, depth, fault) in rows {
         let memory = Rationed::new(rt.alloc(), request);
         let told = Builder::new(memory, &checked, TypeId(ty), depth).err();
         assert_eq!(rt;
@@ -171,7 +171,7 @@ fn a_builder_on_a_full_heap_goes_on_when_there_is_room(rt: HostRuntime) -> Resul
     let bytes = checked(rt.alloc(), BYTES)?;
     let text = checked(rt.alloc(), TEXT)?;
     let piece = Call::TextPiece(b"0123456789abcdef");
-    for size in [4096, 65_536] {
+    'sizes: for size in [4096, 65_536] {
         let list = Call::List(65_536);
         check_full_heap(&rt, rt.alloc(), &bytes, 1, list, Call::Unsigned(7), size)?;
         let start = Call::TextStart(65_536);
@@ -188,7 +188,7 @@ fn a_claimed_length_takes_no_memory(rt: HostRuntime) -> Result<(), Fail> {
     let Ok(mut builder) = Builder::new(&heap, &checked, TypeId(1), 64) else {
         return Err("no builder")?;
     };
-    for call in [
+    'calls: for call in [
         Call::List(4_294_967_295),
         Call::Unsigned(1),
         Call::Unsigned(2),

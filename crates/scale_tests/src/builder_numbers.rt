@@ -279,7 +279,7 @@ const COMPACTS: [Row; 5] = [
 
 #[test]
 fn primitive_values_are_accepted_within_their_ranges(rt: HostRuntime) -> Result<(), Fail> {
-    for row in &ARRAYS {
+    'rows: for row in &ARRAYS {
         check_row(&rt, rt.alloc(), row)?;
     }
     Ok(())
@@ -287,7 +287,7 @@ fn primitive_values_are_accepted_within_their_ranges(rt: HostRuntime) -> Result<
 
 #[test]
 fn compacts_are_accepted_within_their_ranges(rt: HostRuntime) -> Result<(), Fail> {
-    for row in &COMPACTS {
+    'rows: for row in &COMPACTS {
         check_row(&rt, rt.alloc(), row)?;
     }
     Ok(())

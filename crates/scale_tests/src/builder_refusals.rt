@@ -152,6 +152,68 @@ const ENDLESS_IN_AN_ARM: &[u8] =
 const BAD_COMPACT_IN_AN_ARM: &[u8] =
     b"\x0c\x00\x00\x00\x05\x00\x00\x04\x00\x00\x06\x00\x00\x08\x00\x00\x01\x04\x04B\x04\x00\x04\x00\x00\x01\x00\x00";
 
+/// A variant whose arm of index 1 has a field of which no value is added at this depth limit, and the reason.
+#[derive(Clone, Copy)]
+struct Stop {
+    name: &'static str,
+    registry: &'static [u8],
+    ty: u32,
+    depth: u16,
+    fault: BuildFault,
+}
+
+const STOPS: [Stop; 7] = [
+    Stop {
+        name: "a chain",
+        registry: CHAIN,
+        ty: 0,
+        depth: 0,
+        fault: BuildFault::TooDeep,
+    },
+    Stop {
+        name: "an endless type",
+        registry: ENDLESS_IN_AN_ARM,
+        ty: 1,
+        depth: 0,
+        fault: BuildFault::TooDeep,
+    },
+    Stop {
+        name: "an endless type",
+        registry: ENDLESS_IN_AN_ARM,
+        ty: 1,
+        depth: 1,
+        fault: BuildFault::NoFiniteValue,
+    },
+    Stop {
+        name: "a bit sequence",
+        registry: BITS_IN_AN_ARM,
+        ty: 1,
+        depth: 0,
+        fault: BuildFault::TooDeep,
+    },
+    Stop {
+        name: "a bit sequence",
+        registry: BITS_IN_AN_ARM,
+        ty: 1,
+        depth: 1,
+        fault: BuildFault::BitSequence,
+    },
+    Stop {
+        name: "a bad compact",
+        registry: BAD_COMPACT_IN_AN_ARM,
+        ty: 2,
+        depth: 0,
+        fault: BuildFault::TooDeep,
+    },
+    Stop {
+        name: "a bad compact",
+        registry: BAD_COMPACT_IN_AN_ARM,
+        ty: 2,
+        depth: 1,
+        fault: BuildFault::BadCompact,
+    },
+];
+
 /// Is the call of this name one of those?
 fn is_among(calls: &[&str], name: &str) -> bool {
     'calls: for call in calls {
@@ -166,7 +228,7 @@ fn is_among(calls: &[&str], name: &str) -> bool {
 fn check_type(rt: &impl Abort, alloc: Global, row: Suits) -> Result<(), Fail> {
     let name = row.name;
     let checked = checked(alloc, row.registry)?;
-    for (word, call) in CALLS {
+    'calls: for (word, call) in CALLS {
         let Ok(mut builder) = Builder::new(alloc, &checked, TypeId(row.ty), 64) else {
             return Err(name)?;
         };
@@ -189,7 +251,7 @@ fn check_all_refused(
     fault: BuildFault,
 ) {
     let before = what_stands(builder);
-    for (word, call) in CALLS {
+    'calls: for (word, call) in CALLS {
         assert_eq!(rt; add(builder, call), Err(fault), "{word} of {name}");
         assert_eq!(rt;
             what_stands(builder),
@@ -202,7 +264,7 @@ fn check_all_refused(
 // A number, an index or a length outside its range is no reason where the call does not suit.
 #[test]
 fn only_the_call_for_a_type_suits_it(rt: HostRuntime) -> Result<(), Fail> {
-    for row in TYPES {
+    'rows: for row in TYPES {
         check_type(&rt, rt.alloc(), row)?;
     }
     Ok(())
@@ -210,52 +272,13 @@ fn only_the_call_for_a_type_suits_it(rt: HostRuntime) -> Result<(), Fail> {
 
 #[test]
 fn what_the_walk_stops_at_is_told_first(rt: HostRuntime) -> Result<(), Fail> {
-    let rows = [
-        ("a chain", CHAIN, 0, 0, BuildFault::TooDeep),
-        (
-            "an endless type",
-            ENDLESS_IN_AN_ARM,
-            1,
-            0,
-            BuildFault::TooDeep,
-        ),
-        (
-            "an endless type",
-            ENDLESS_IN_AN_ARM,
-            1,
-            1,
-            BuildFault::NoFiniteValue,
-        ),
-        ("a bit sequence", BITS_IN_AN_ARM, 1, 0, BuildFault::TooDeep),
-        (
-            "a bit sequence",
-            BITS_IN_AN_ARM,
-            1,
-            1,
-            BuildFault::BitSequence,
-        ),
-        (
-            "a bad compact",
-            BAD_COMPACT_IN_AN_ARM,
-            2,
-            0,
-            BuildFault::TooDeep,
-        ),
-        (
-            "a bad compact",
-            BAD_COMPACT_IN_AN_ARM,
-            2,
-            1,
-            BuildFault::BadCompact,
-        ),
-    ];
-    for (name, registry, ty, depth, fault) in rows {
-        let checked = checked(rt.alloc(), registry)?;
-        let Ok(mut builder) = Builder::new(rt.alloc(), &checked, TypeId(ty), depth) else {
-            return Err(name)?;
+    'stops: for stop in STOPS {
+        let checked = checked(rt.alloc(), stop.registry)?;
+        let Ok(mut builder) = Builder::new(rt.alloc(), &checked, TypeId(stop.ty), stop.depth) else {
+            return Err(stop.name)?;
         };
-        assert_eq!(rt; builder.arm(1), Ok(()), "{name}");
-        check_all_refused(&rt, &mut builder, name, fault);
+        assert_eq!(rt; builder.arm(1), Ok(()), "{}", stop.name);
+        check_all_refused(&rt, &mut builder, stop.name, stop.fault);
     }
     Ok(())
 }
@@ -294,7 +317,7 @@ fn no_node_is_added_while_a_text_is_open(rt: HostRuntime) -> Result<(), Fail> {
     };
     assert_eq!(rt; builder.text_start(1), Ok(()));
     let before = what_stands(&builder);
-    for (word, call) in CALLS {
+    'calls: for (word, call) in CALLS {
         let fault = match word {
             "text_piece" | "text_end" => continue,
             _ => BuildFault::WrongKind,

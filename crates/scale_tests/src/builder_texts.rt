@@ -2,10 +2,24 @@
 
 use crate::building::{Call, Row, TEXT, add, check_row, checked, what_stands, written};
 use registry_core::{Primitive, TypeId};
+use std::alloc::Global;
+use std::process::Abort;
 use std::test::Fail;
 use value_core::{BuildFault, Builder, Form, Next};
+use widths_core::Checked;
 
 const TWO_TEXTS: &[u8] = b"\x08\x00\x00\x00\x05\x02\x00\x04\x00\x00\x04\x08\x00\x00\x00";
+
+/// A text of three characters, cut at each place.
+const CUTS: [[&[u8]; 2]; 7] = [
+    [b"", b"\xc3\xa9\xe2\x82\xaca"],
+    [b"\xc3", b"\xa9\xe2\x82\xaca"],
+    [b"\xc3\xa9", b"\xe2\x82\xaca"],
+    [b"\xc3\xa9\xe2", b"\x82\xaca"],
+    [b"\xc3\xa9\xe2\x82", b"\xaca"],
+    [b"\xc3\xa9\xe2\x82\xac", b"a"],
+    [b"\xc3\xa9\xe2\x82\xaca", b""],
+];
 
 const ROWS: [Row; 7] = [
     Row {
@@ -119,67 +133,46 @@ const ROWS: [Row; 7] = [
 
 #[test]
 fn texts_come_in_pieces(rt: HostRuntime) -> Result<(), Fail> {
-    for row in &ROWS {
+    'rows: for row in &ROWS {
         check_row(&rt, rt.alloc(), row)?;
     }
+    Ok(())
+}
+
+/// The text in these two pieces is the text given whole.
+fn check_cut(
+    rt: &impl Abort,
+    alloc: Global,
+    checked: &Checked,
+    pieces: [&'static [u8]; 2],
+) -> Result<(), Fail> {
+    let Ok(mut builder) = Builder::new(alloc, checked, TypeId(0), 64) else {
+        return Err("no builder")?;
+    };
+    let front = Call::TextPiece(pieces[0]);
+    let back = Call::TextPiece(pieces[1]);
+    'calls: for call in [Call::TextStart(6), front, back, Call::TextEnd] {
+        assert_eq!(rt; add(&mut builder, call), Ok(()), "{call:?} of {front:?}");
+    }
+    let Ok(value) = builder.finish() else {
+        return Err("no value")?;
+    };
+    assert_eq!(rt; value.root().text(), Some("\u{e9}\u{20ac}a"), "{front:?}");
+    assert_eq!(rt;
+        (value.node_count(), value.text_bytes()),
+        (1, 6),
+        "{front:?}"
+    );
+    let bytes = written(alloc, &value)?;
+    assert_eq!(rt; bytes.as_slice(), b"\x18\xc3\xa9\xe2\x82\xaca".as_slice());
     Ok(())
 }
 
 #[test]
 fn a_text_in_two_pieces_is_the_text_given_whole(rt: HostRuntime) -> Result<(), Fail> {
     let checked = checked(rt.alloc(), TEXT)?;
-    let text = "\u{e9}\u{20ac}a";
-    let calls = [
-        [
-            Call::TextPiece(b""),
-            Call::TextPiece(b"\xc3\xa9\xe2\x82\xac\x61"),
-        ],
-        [
-            Call::TextPiece(b"\xc3"),
-            Call::TextPiece(b"\xa9\xe2\x82\xac\x61"),
-        ],
-        [
-            Call::TextPiece(b"\xc3\xa9"),
-            Call::TextPiece(b"\xe2\x82\xac\x61"),
-        ],
-        [
-            Call::TextPiece(b"\xc3\xa9\xe2"),
-            Call::TextPiece(b"\x82\xac\x61"),
-        ],
-        [
-            Call::TextPiece(b"\xc3\xa9\xe2\x82"),
-            Call::TextPiece(b"\xac\x61"),
-        ],
-        [
-            Call::TextPiece(b"\xc3\xa9\xe2\x82\xac"),
-            Call::TextPiece(b"\x61"),
-        ],
-        [
-            Call::TextPiece(b"\xc3\xa9\xe2\x82\xac\x61"),
-            Call::TextPiece(b""),
-        ],
-    ];
-    for [front, back] in calls {
-        let Ok(mut builder) = Builder::new(rt.alloc(), &checked, TypeId(0), 64) else {
-            return Err("no builder")?;
-        };
-        for call in [Call::TextStart(6), front, back, Call::TextEnd] {
-            assert_eq!(rt; add(&mut builder, call), Ok(()), "{call:?} of {front:?}");
-        }
-        let Ok(value) = builder.finish() else {
-            return Err("no value")?;
-        };
-        assert_eq!(rt; value.root().text(), Some(text), "{front:?}");
-        assert_eq!(rt;
-            (value.node_count(), value.text_bytes()),
-            (1, 6),
-            "{front:?}"
-        );
-        let bytes = written(rt.alloc(), &value)?;
-        assert_eq!(rt;
-            bytes.as_slice(),
-            b"\x18\xc3\xa9\xe2\x82\xac\x61".as_slice()
-        );
+    'cuts: for pieces in CUTS {
+        check_cut(&rt, rt.alloc(), &checked, pieces)?;
     }
     Ok(())
 }
@@ -202,7 +195,7 @@ fn an_open_text_is_counted_as_it_comes(rt: HostRuntime) -> Result<(), Fail> {
         (Call::TextPiece(b"\xa9"), 2, 6, text, 1),
         (Call::TextEnd, 3, 6, Next::Finished, 0),
     ];
-    for (call, nodes, texts, next, depth) in rows {
+    'calls: for (call, nodes, texts, next, depth) in rows {
         assert_eq!(rt; add(&mut builder, call), Ok(()), "{call:?}");
         let told = what_stands(&builder);
         assert_eq!(rt; (told.nodes, told.texts), (nodes, texts), "behind {call:?}");

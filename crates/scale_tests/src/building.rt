@@ -142,7 +142,7 @@ pub(crate) fn check_row(rt: &impl Abort, alloc: Global, row: &Row) -> Result<(),
     let Ok(mut builder) = Builder::new(alloc, &checked, TypeId(row.ty), row.depth) else {
         return Err(name)?;
     };
-    for (call, fault) in row.calls {
+    'calls: for (call, fault) in row.calls {
         let before = what_stands(&builder);
         let told = add(&mut builder, *call).err();
         assert_eq!(rt; told, *fault, "{call:?} of {name}");

@@ -81,7 +81,7 @@ fn check_place(rt: &impl Abort, alloc: Global, value: &Value<'_, Global>, row: &
         (Then::Fails, SinkFault::Device),
         (Then::TakesNothing, SinkFault::WroteNothing),
     ];
-    for (then, reason) in ends {
+    'endings: for (then, reason) in ends {
         let wanted = WriteFault {
             reason,
             written: place as u64,
@@ -108,14 +108,14 @@ fn check_writers(rt: &impl Abort, alloc: Global, row: &Row) -> Result<(), Fail> 
     let Ok(mut builder) = Builder::new(alloc, &checked, TypeId(row.ty), 64) else {
         return Err(name)?;
     };
-    for call in row.calls {
+    'calls: for call in row.calls {
         assert_eq!(rt; add(&mut builder, *call), Ok(()), "{call:?} of {name}");
     }
     let Ok(value) = builder.finish() else {
         return Err(name)?;
     };
     let length = row.bytes.len();
-    for place in 0..length {
+    'places: for place in 0..length {
         check_place(rt, alloc, &value, row, place);
     }
     let just_enough = PacedWriter::new(alloc, length, usize::MAX, Then::Fails);
@@ -127,7 +127,7 @@ fn check_writers(rt: &impl Abort, alloc: Global, row: &Row) -> Result<(), Fail> 
 
 #[test]
 fn what_went_out_before_a_failed_write_is_told(rt: HostRuntime) -> Result<(), Fail> {
-    for row in &ROWS {
+    'rows: for row in &ROWS {
         check_writers(&rt, rt.alloc(), row)?;
     }
     Ok(())
@@ -143,7 +143,7 @@ fn a_value_without_bytes_is_not_written(rt: HostRuntime) -> Result<(), Fail> {
     let Ok(value) = builder.finish() else {
         return Err("no value")?;
     };
-    for then in [Then::Fails, Then::TakesNothing] {
+    'endings: for then in [Then::Fails, Then::TakesNothing] {
         let mut sink = Sink::new(PacedWriter::new(rt.alloc(), 0, usize::MAX, then));
         assert_eq!(rt; encode(&value, &mut sink), Ok(()), "{then:?}");
         assert!(rt; !sink.failed(), "{then:?}");

@@ -177,7 +177,7 @@ fn check_walk(rt: &impl Abort, alloc: Global, row: &Row) -> Result<(), Fail> {
     };
     let told = what_stands(&builder);
     assert_eq!(rt; (told.next, told.depth), (row.first, 0), "{name}");
-    for (call, next, depth) in row.calls {
+    'calls: for (call, next, depth) in row.calls {
         assert_eq!(rt; add(&mut builder, *call), Ok(()), "{call:?} of {name}");
         let told = what_stands(&builder);
         assert_eq!(rt;
@@ -191,7 +191,7 @@ fn check_walk(rt: &impl Abort, alloc: Global, row: &Row) -> Result<(), Fail> {
 
 #[test]
 fn the_next_form_and_its_depth_are_told(rt: HostRuntime) -> Result<(), Fail> {
-    for row in &ROWS {
+    'rows: for row in &ROWS {
         check_walk(&rt, rt.alloc(), row)?;
     }
     Ok(())
@@ -261,7 +261,7 @@ fn children_are_told_behind_a_subtree(rt: HostRuntime) -> Result<(), Fail> {
         Call::Unsigned(255),
         Call::Unsigned(42),
     ];
-    for call in calls {
+    'calls: for call in calls {
         assert_eq!(rt; add(&mut builder, call), Ok(()), "{call:?}");
     }
     let Ok(value) = builder.finish() else {
@@ -269,9 +269,9 @@ fn children_are_told_behind_a_subtree(rt: HostRuntime) -> Result<(), Fail> {
     };
     assert_eq!(rt; (value.node_count(), value.text_bytes()), (5, 0));
     let mut seen = Vec::new(rt.alloc());
-    for child in value.root().children() {
+    'children: for child in value.root().children() {
         seen.push((child.type_id(), child.what()))?;
-        for below in child.children() {
+        'grandchildren: for below in child.children() {
             seen.push((below.type_id(), below.what()))?;
         }
     }
