@@ -26,8 +26,8 @@ impl Read for StutteringReader {
 
 /// A writer that takes one byte a call; the second call is interrupted, and the fourth takes nothing.
 #[derive(Drop)]
-struct StutteringWriter {
-    calls: u8,
+pub(crate) struct StutteringWriter {
+    pub(crate) calls: u8,
 }
 
 impl Write for StutteringWriter {

@@ -2,6 +2,16 @@
 #![tactic(auto)]
 
 #[cfg(test)]
+mod builder_memory;
+#[cfg(test)]
+mod builder_numbers;
+#[cfg(test)]
+mod builder_refusals;
+#[cfg(test)]
+mod builder_texts;
+#[cfg(test)]
+mod building;
+#[cfg(test)]
 mod command;
 #[cfg(test)]
 mod command_line;
@@ -10,16 +20,21 @@ mod compact;
 #[cfg(test)]
 mod devices;
 #[cfg(test)]
+mod encoder_devices;
+#[cfg(test)]
 mod integers;
 #[cfg(test)]
 mod memory;
 #[cfg(test)]
 mod paced;
+pub mod rationed;
 #[cfg(test)]
 mod registries;
 #[cfg(test)]
 mod texts;
 #[cfg(test)]
 mod values;
+#[cfg(test)]
+mod walks;
 #[cfg(test)]
 mod widths;

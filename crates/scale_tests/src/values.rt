@@ -1,72 +1,13 @@
 //! Values built node by node: what each call answers, what stands then, and the bytes that are written.
 
-use registry_core::{TypeId, read_registry};
-use scale_core::Sink;
-use std::alloc::Global;
-use std::process::Abort;
+use crate::building::{
+    BITS_IN_AN_ARM, BYTES, CHAIN, COMPACT_OF_A_BOOL, COMPACT_U128, Call, ENDLESS, LONG_ARRAY,
+    OPTION, Row, SHADOWED_ARM, TEXT, TWO_UNITS_AND_A_BYTE, U8, UNITS, WIDE, add, check_row,
+    checked, written,
+};
+use registry_core::TypeId;
 use std::test::Fail;
-use value_core::{BuildFault, Builder, Value, What, encode};
-use widths_core::Checked;
-
-/// A call that adds a node.
-#[derive(Clone, Copy, Debug)]
-enum Call {
-    Empty,
-    Bool(bool),
-    Text(&'static str),
-    Unsigned(u128),
-    Wide([u8; 32]),
-    Compact(u128),
-    Count(u32),
-    Fields,
-    Arm(u8),
-    List(u32),
-}
-
-/// Calls on a builder, each with its refusal, and the bytes of the value where nothing is missing behind them.
-#[derive(Clone, Copy)]
-struct Row {
-    name: &'static str,
-    registry: &'static [u8],
-    ty: u32,
-    depth: u16,
-    calls: &'static [(Call, Option<BuildFault>)],
-    bytes: Option<&'static [u8]>,
-}
-
-const U8: &[u8] = b"\x04\x00\x00\x00\x05\x03\x00";
-
-const COMPACT_U128: &[u8] = b"\x08\x00\x00\x00\x05\x07\x00\x04\x00\x00\x06\x00\x00";
-
-const UNITS: &[u8] =
-    b"\x0c\x00\x00\x00\x05\x03\x00\x04\x00\x00\x04\x00\x00\x08\x00\x00\x02\x04\x00";
-
-const BYTES: &[u8] = b"\x08\x00\x00\x00\x05\x03\x00\x04\x00\x00\x02\x00\x00";
-
-const LONG_ARRAY: &[u8] = b"\x08\x00\x00\x00\x05\x03\x00\x04\x00\x00\x03\xff\xff\xff\xff\x00\x00";
-
-const TWO_UNITS_AND_A_BYTE: &[u8] =
-    b"\x0c\x00\x00\x00\x05\x03\x00\x04\x00\x00\x04\x00\x00\x08\x00\x00\x04\x0c\x04\x04\x00\x00";
-
-const OPTION: &[u8] =
-    b"\x08\x00\x00\x00\x05\x05\x00\x04\x04\x18Option\x04\x04T\x01\x00\x01\x08\x10None\x00\x00\x00\x10Some\x04\x00\x00\x01\x04T\x00\x01\x00\x00";
-
-const ENDLESS: &[u8] = b"\x04\x00\x00\x00\x00\x04\x01\x04a\x00\x00\x00\x00";
-
-const BITS_IN_AN_ARM: &[u8] =
-    b"\x08\x00\x00\x00\x07\x00\x00\x00\x04\x00\x00\x01\x08\x04A\x00\x00\x00\x04B\x04\x00\x00\x00\x00\x01\x00\x00";
-
-const TEXT: &[u8] = b"\x04\x00\x00\x00\x05\x02\x00";
-
-const CHAIN: &[u8] =
-    b"\x04\x00\x00\x00\x01\x08\x0cEnd\x00\x00\x00\x10Next\x04\x00\x00\x00\x00\x01\x00\x00";
-
-const SHADOWED_ARM: &[u8] =
-    b"\x08\x00\x00\x00\x05\x03\x00\x04\x00\x00\x01\x08\x04A\x00\x03\x00\x04B\x04\x00\x00\x00\x00\x03\x00\x00";
-
-const COMPACT_OF_A_BOOL: &[u8] = b"\x08\x00\x00\x00\x05\x00\x00\x04\x00\x00\x06\x00\x00";
-
-const WIDE: &[u8] = b"\x04\x00\x00\x00\x05\x08\x00";
+use value_core::{BuildFault, Builder, What};
 
 const ONE: [u8; 32] = [
     1, 0, 0, 0, 0, 0, 0, 0, 0, 0, 0, 0, 0, 0, 0, 0, 0, 0, 0, 0, 0, 0, 0, 0, 0, 0, 0, 0, 0, 0, 0, 0,
@@ -250,75 +191,6 @@ const ROWS: [Row; 16] = [
         ),
     },
 ];
-
-/// The registry of these bytes, checked.
-fn checked(alloc: Global, bytes: &[u8]) -> Result<Checked, Fail> {
-    let (registry, _) = read_registry(alloc, bytes)?;
-    match Checked::new(alloc, registry) {
-        Ok(checked) => Ok(checked),
-        Err(_) => Err("a reference is unknown")?,
-    }
-}
-
-/// Makes the call.
-fn add(builder: &mut Builder<'_, Global>, call: Call) -> Result<(), BuildFault> {
-    match call {
-        Call::Empty => builder.empty(),
-        Call::Bool(value) => builder.bool(value),
-        Call::Text(text) => builder.text(text),
-        Call::Unsigned(value) => builder.unsigned(value),
-        Call::Wide(value) => builder.wide(value),
-        Call::Compact(value) => builder.compact(value),
-        Call::Count(count) => builder.count(count),
-        Call::Fields => builder.fields(),
-        Call::Arm(index) => builder.arm(index),
-        Call::List(count) => builder.list(count),
-    }
-}
-
-/// The bytes of a value, as they are written.
-fn written(alloc: Global, value: &Value<'_, Global>) -> Result<Vec<u8>, Fail> {
-    let mut sink = Sink::new(Vec::new(alloc));
-    match encode(value, &mut sink) {
-        Ok(()) => Ok(sink.into_inner()),
-        Err(_) => Err("a write failed")?,
-    }
-}
-
-fn check_row(rt: &impl Abort, alloc: Global, row: &Row) -> Result<(), Fail> {
-    let name = row.name;
-    let checked = checked(alloc, row.registry)?;
-    let Ok(mut builder) = Builder::new(alloc, &checked, TypeId(row.ty), row.depth) else {
-        return Err(name)?;
-    };
-    for (call, fault) in row.calls {
-        let before = (builder.node_count(), builder.text_bytes());
-        let told = add(&mut builder, *call).err();
-        assert_eq!(rt; told, *fault, "{call:?} of {name}");
-        if told.is_some() {
-            let after = (builder.node_count(), builder.text_bytes());
-            assert_eq!(rt; after, before, "what stands behind {call:?} of {name}");
-        }
-    }
-    let (nodes, texts) = (builder.node_count(), builder.text_bytes());
-    match builder.finish() {
-        Ok(value) => {
-            let bytes = written(alloc, &value)?;
-            assert_eq!(rt; Some(bytes.as_slice()), row.bytes, "the bytes of {name}");
-            assert_eq!(rt;
-                (value.node_count(), value.text_bytes()),
-                (nodes, texts),
-                "{name}"
-            );
-        }
-        Err((fault, builder)) => {
-            assert_eq!(rt; fault, BuildFault::UnfinishedValue, "the end of {name}");
-            assert_eq!(rt; row.bytes, None, "the end of {name}");
-            assert_eq!(rt; builder.node_count(), nodes, "what stands behind {name}");
-        }
-    }
-    Ok(())
-}
 
 #[test]
 fn values_are_built_node_by_node(rt: HostRuntime) -> Result<(), Fail> {

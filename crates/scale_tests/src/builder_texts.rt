@@ -1,0 +1,210 @@
+//! Texts that come to a builder in pieces.
+
+use crate::building::{Call, Row, TEXT, add, check_row, checked, what_stands, written};
+use registry_core::{Primitive, TypeId};
+use std::alloc::Global;
+use std::process::Abort;
+use std::test::Fail;
+use value_core::{BuildFault, Builder, Form, Next};
+use widths_core::Checked;
+
+const TWO_TEXTS: &[u8] = b"\x08\x00\x00\x00\x05\x02\x00\x04\x00\x00\x04\x08\x00\x00\x00";
+
+/// A text of three characters, cut at each place.
+const CUTS: [[&[u8]; 2]; 7] = [
+    [b"", b"\xc3\xa9\xe2\x82\xaca"],
+    [b"\xc3", b"\xa9\xe2\x82\xaca"],
+    [b"\xc3\xa9", b"\xe2\x82\xaca"],
+    [b"\xc3\xa9\xe2", b"\x82\xaca"],
+    [b"\xc3\xa9\xe2\x82", b"\xaca"],
+    [b"\xc3\xa9\xe2\x82\xac", b"a"],
+    [b"\xc3\xa9\xe2\x82\xaca", b""],
+];
+
+const ROWS: [Row; 7] = [
+    Row {
+        name: "a text that is not UTF-8",
+        registry: TEXT,
+        ty: 0,
+        depth: 64,
+        calls: &[
+            (Call::TextStart(2), None),
+            (Call::TextPiece(b"\xc3\x28"), None),
+            (Call::TextPiece(b"\x00"), Some(BuildFault::OutOfRange)),
+            (Call::TextEnd, Some(BuildFault::BadText { valid: 0 })),
+            (Call::Text("a"), Some(BuildFault::WrongKind)),
+        ],
+        bytes: None,
+    },
+    Row {
+        name: "a text with a front that is UTF-8",
+        registry: TEXT,
+        ty: 0,
+        depth: 64,
+        calls: &[
+            (Call::TextStart(4), None),
+            (Call::TextPiece(b"\xc3"), None),
+            (Call::TextPiece(b"\xa9\xc3"), None),
+            (Call::TextPiece(b"\x28"), None),
+            (Call::TextEnd, Some(BuildFault::BadText { valid: 2 })),
+            (Call::TextEnd, Some(BuildFault::BadText { valid: 2 })),
+        ],
+        bytes: None,
+    },
+    Row {
+        name: "a text that ends before its bytes came",
+        registry: TEXT,
+        ty: 0,
+        depth: 64,
+        calls: &[
+            (Call::TextStart(2), None),
+            (Call::TextEnd, Some(BuildFault::UnfinishedValue)),
+            (Call::TextPiece(b"a"), None),
+            (Call::TextEnd, Some(BuildFault::UnfinishedValue)),
+        ],
+        bytes: None,
+    },
+    Row {
+        name: "missing bytes, which are told before wrong ones",
+        registry: TEXT,
+        ty: 0,
+        depth: 64,
+        calls: &[
+            (Call::TextStart(2), None),
+            (Call::TextPiece(b"\xff"), None),
+            (Call::TextEnd, Some(BuildFault::UnfinishedValue)),
+            (Call::TextPiece(b"\x28"), None),
+            (Call::TextEnd, Some(BuildFault::BadText { valid: 0 })),
+        ],
+        bytes: None,
+    },
+    Row {
+        name: "a text that is cut inside its characters",
+        registry: TEXT,
+        ty: 0,
+        depth: 64,
+        calls: &[
+            (Call::TextStart(4), None),
+            (Call::TextPiece(b"\xc3"), None),
+            (Call::TextPiece(b"\xa9\xc3"), None),
+            (Call::TextPiece(b"\xa9\xc3"), Some(BuildFault::OutOfRange)),
+            (Call::TextPiece(b"\xa9"), None),
+            (Call::TextEnd, None),
+            (Call::TextEnd, Some(BuildFault::WrongKind)),
+        ],
+        bytes: Some(b"\x10\xc3\xa9\xc3\xa9"),
+    },
+    Row {
+        name: "a text without bytes",
+        registry: TEXT,
+        ty: 0,
+        depth: 64,
+        calls: &[
+            (Call::TextStart(0), None),
+            (Call::TextPiece(b"a"), Some(BuildFault::OutOfRange)),
+            (Call::TextEnd, None),
+        ],
+        bytes: Some(b"\x00"),
+    },
+    Row {
+        name: "pieces where no text is open",
+        registry: TWO_TEXTS,
+        ty: 1,
+        depth: 64,
+        calls: &[
+            (Call::TextStart(1), Some(BuildFault::WrongKind)),
+            (Call::Fields, None),
+            (Call::TextPiece(b"a"), Some(BuildFault::WrongKind)),
+            (Call::TextPiece(b""), Some(BuildFault::WrongKind)),
+            (Call::TextEnd, Some(BuildFault::WrongKind)),
+            (Call::Text("a"), None),
+            (Call::TextPiece(b"b"), Some(BuildFault::WrongKind)),
+            (Call::TextEnd, Some(BuildFault::WrongKind)),
+            (Call::TextStart(1), None),
+            (Call::TextStart(1), Some(BuildFault::WrongKind)),
+            (Call::TextPiece(b"b"), None),
+            (Call::TextEnd, None),
+            (Call::TextPiece(b""), Some(BuildFault::WrongKind)),
+            (Call::TextEnd, Some(BuildFault::WrongKind)),
+        ],
+        bytes: Some(b"\x04a\x04b"),
+    },
+];
+
+#[test]
+fn texts_come_in_pieces(rt: HostRuntime) -> Result<(), Fail> {
+    'rows: for row in &ROWS {
+        check_row(&rt, rt.alloc(), row)?;
+    }
+    Ok(())
+}
+
+/// The text in these two pieces is the text given whole.
+fn check_cut(
+    rt: &impl Abort,
+    alloc: Global,
+    checked: &Checked,
+    pieces: [&'static [u8]; 2],
+) -> Result<(), Fail> {
+    let Ok(mut builder) = Builder::new(alloc, checked, TypeId(0), 64) else {
+        return Err("no builder")?;
+    };
+    let front = Call::TextPiece(pieces[0]);
+    let back = Call::TextPiece(pieces[1]);
+    'calls: for call in [Call::TextStart(6), front, back, Call::TextEnd] {
+        assert_eq!(rt; add(&mut builder, call), Ok(()), "{call:?} of {front:?}");
+    }
+    let Ok(value) = builder.finish() else {
+        return Err("no value")?;
+    };
+    assert_eq!(rt; value.root().text(), Some("\u{e9}\u{20ac}a"), "{front:?}");
+    assert_eq!(rt;
+        (value.node_count(), value.text_bytes()),
+        (1, 6),
+        "{front:?}"
+    );
+    let bytes = written(alloc, &value)?;
+    assert_eq!(rt; bytes.as_slice(), b"\x18\xc3\xa9\xe2\x82\xaca".as_slice());
+    Ok(())
+}
+
+#[test]
+fn a_text_in_two_pieces_is_the_text_given_whole(rt: HostRuntime) -> Result<(), Fail> {
+    let checked = checked(rt.alloc(), TEXT)?;
+    'cuts: for pieces in CUTS {
+        check_cut(&rt, rt.alloc(), &checked, pieces)?;
+    }
+    Ok(())
+}
+
+// What came of an open text counts as text, and not as a node; the text is still what comes next.
+#[test]
+fn an_open_text_is_counted_as_it_comes(rt: HostRuntime) -> Result<(), Fail> {
+    let checked = checked(rt.alloc(), TWO_TEXTS)?;
+    let Ok(mut builder) = Builder::new(rt.alloc(), &checked, TypeId(1), 64) else {
+        return Err("no builder")?;
+    };
+    let text = Next::Wants(Form::Primitive(Primitive::Str));
+    let rows = [
+        (Call::Fields, 1, 0, text, 1),
+        (Call::Text("ab"), 2, 2, text, 1),
+        (Call::TextStart(4), 2, 2, text, 1),
+        (Call::TextPiece(b"\xc3"), 2, 3, text, 1),
+        (Call::TextPiece(b""), 2, 3, text, 1),
+        (Call::TextPiece(b"\xa9\xc3"), 2, 5, text, 1),
+        (Call::TextPiece(b"\xa9"), 2, 6, text, 1),
+        (Call::TextEnd, 3, 6, Next::Finished, 0),
+    ];
+    'calls: for (call, nodes, texts, next, depth) in rows {
+        assert_eq!(rt; add(&mut builder, call), Ok(()), "{call:?}");
+        let told = what_stands(&builder);
+        assert_eq!(rt; (told.nodes, told.texts), (nodes, texts), "behind {call:?}");
+        assert_eq!(rt; (told.next, told.depth), (next, depth), "behind {call:?}");
+    }
+    let Ok(value) = builder.finish() else {
+        return Err("no value")?;
+    };
+    let bytes = written(rt.alloc(), &value)?;
+    assert_eq!(rt; bytes.as_slice(), b"\x08ab\x10\xc3\xa9\xc3\xa9".as_slice());
+    Ok(())
+}

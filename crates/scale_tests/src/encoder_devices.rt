@@ -1,0 +1,173 @@
+//! Values written to writers that fail, take nothing, or take one byte a call.
+
+use crate::building::{CHAIN, Call, TEXT, TWO_UNITS_AND_A_BYTE, UNITS, WIDE, add, checked};
+use crate::devices::StutteringWriter;
+use crate::paced::{PacedWriter, Then};
+use registry_core::TypeId;
+use scale_core::{Sink, SinkFault};
+use std::alloc::Global;
+use std::process::Abort;
+use std::test::Fail;
+use value_core::{Builder, Value, WriteFault, encode};
+
+/// A value by the calls that build it, and its bytes.
+#[derive(Clone, Copy)]
+struct Row {
+    name: &'static str,
+    registry: &'static [u8],
+    ty: u32,
+    calls: &'static [Call],
+    bytes: &'static [u8],
+}
+
+const ROWS: [Row; 5] = [
+    Row {
+        name: "a text",
+        registry: TEXT,
+        ty: 0,
+        calls: &[Call::Text("\u{e9}\u{e9}")],
+        bytes: b"\x10\xc3\xa9\xc3\xa9",
+    },
+    Row {
+        name: "two texts",
+        registry: b"\x08\x00\x00\x00\x05\x02\x00\x04\x00\x00\x04\x08\x00\x00\x00",
+        ty: 1,
+        calls: &[Call::Fields, Call::Text("ab"), Call::Text("c")],
+        bytes: b"\x08ab\x04c",
+    },
+    Row {
+        name: "a chain of arms",
+        registry: CHAIN,
+        ty: 0,
+        calls: &[Call::Arm(1), Call::Arm(1), Call::Arm(0)],
+        bytes: b"\x01\x01\x00",
+    },
+    Row {
+        name: "two units and a byte",
+        registry: TWO_UNITS_AND_A_BYTE,
+        ty: 2,
+        calls: &[Call::Fields, Call::Empty, Call::Empty, Call::Unsigned(42)],
+        bytes: b"\x2a",
+    },
+    Row {
+        name: "a wide integer",
+        registry: WIDE,
+        ty: 0,
+        calls: &[Call::Wide([7; 32])],
+        bytes: b"\x07\x07\x07\x07\x07\x07\x07\x07\x07\x07\x07\x07\x07\x07\x07\x07\x07\x07\x07\x07\x07\x07\x07\x07\x07\x07\x07\x07\x07\x07\x07\x07",
+    },
+];
+
+/// The sink fails with this reason once the writer took the front, and the front went out.
+fn check_front(
+    rt: &impl Abort,
+    value: &Value<'_, Global>,
+    row: &Row,
+    writer: PacedWriter,
+    wanted: WriteFault,
+) {
+    let name = row.name;
+    let mut sink = Sink::new(writer);
+    assert_eq!(rt; encode(value, &mut sink), Err(wanted), "{name}");
+    assert!(rt; sink.failed(), "{name}");
+    let taken = sink.into_inner().taken;
+    let front = row.bytes.get(..wanted.written as usize);
+    assert_eq!(rt; Some(taken.as_slice()), front, "{name}");
+}
+
+/// Writers that end at this place of the value's bytes.
+fn check_place(rt: &impl Abort, alloc: Global, value: &Value<'_, Global>, row: &Row, place: usize) {
+    let ends = [
+        (Then::Fails, SinkFault::Device),
+        (Then::TakesNothing, SinkFault::WroteNothing),
+    ];
+    'endings: for (then, reason) in ends {
+        let wanted = WriteFault {
+            reason,
+            written: place as u64,
+        };
+        let at_once = PacedWriter::new(alloc, place, usize::MAX, then);
+        check_front(rt, value, row, at_once, wanted);
+        let by_bytes = PacedWriter::new(alloc, place, 1, then);
+        check_front(rt, value, row, by_bytes, wanted);
+    }
+}
+
+/// All the bytes go out to a writer that takes so many a call, and does not end before them.
+fn check_whole(rt: &impl Abort, value: &Value<'_, Global>, row: &Row, writer: PacedWriter) {
+    let name = row.name;
+    let mut sink = Sink::new(writer);
+    assert_eq!(rt; encode(value, &mut sink), Ok(()), "{name}");
+    assert!(rt; !sink.failed(), "{name}");
+    assert_eq!(rt; sink.into_inner().taken.as_slice(), row.bytes, "{name}");
+}
+
+fn check_writers(rt: &impl Abort, alloc: Global, row: &Row) -> Result<(), Fail> {
+    let name = row.name;
+    let checked = checked(alloc, row.registry)?;
+    let Ok(mut builder) = Builder::new(alloc, &checked, TypeId(row.ty), 64) else {
+        return Err(name)?;
+    };
+    'calls: for call in row.calls {
+        assert_eq!(rt; add(&mut builder, *call), Ok(()), "{call:?} of {name}");
+    }
+    let Ok(value) = builder.finish() else {
+        return Err(name)?;
+    };
+    let length = row.bytes.len();
+    'places: for place in 0..length {
+        check_place(rt, alloc, &value, row, place);
+    }
+    let just_enough = PacedWriter::new(alloc, length, usize::MAX, Then::Fails);
+    check_whole(rt, &value, row, just_enough);
+    let by_bytes = PacedWriter::new(alloc, 0, 1, Then::GoesOn);
+    check_whole(rt, &value, row, by_bytes);
+    Ok(())
+}
+
+#[test]
+fn what_went_out_before_a_failed_write_is_told(rt: HostRuntime) -> Result<(), Fail> {
+    'rows: for row in &ROWS {
+        check_writers(&rt, rt.alloc(), row)?;
+    }
+    Ok(())
+}
+
+#[test]
+fn a_value_without_bytes_is_not_written(rt: HostRuntime) -> Result<(), Fail> {
+    let checked = checked(rt.alloc(), UNITS)?;
+    let Ok(mut builder) = Builder::new(rt.alloc(), &checked, TypeId(1), 0) else {
+        return Err("no builder")?;
+    };
+    assert_eq!(rt; builder.empty(), Ok(()));
+    let Ok(value) = builder.finish() else {
+        return Err("no value")?;
+    };
+    'endings: for then in [Then::Fails, Then::TakesNothing] {
+        let mut sink = Sink::new(PacedWriter::new(rt.alloc(), 0, usize::MAX, then));
+        assert_eq!(rt; encode(&value, &mut sink), Ok(()), "{then:?}");
+        assert!(rt; !sink.failed(), "{then:?}");
+    }
+    Ok(())
+}
+
+#[test]
+fn an_interrupted_write_is_a_failed_one(rt: HostRuntime) -> Result<(), Fail> {
+    let checked = checked(rt.alloc(), TEXT)?;
+    let Ok(mut builder) = Builder::new(rt.alloc(), &checked, TypeId(0), 0) else {
+        return Err("no builder")?;
+    };
+    assert_eq!(rt; builder.text("ab"), Ok(()));
+    let Ok(value) = builder.finish() else {
+        return Err("no value")?;
+    };
+    let mut sink = Sink::new(StutteringWriter { calls: 0 });
+    let wanted = WriteFault {
+        reason: SinkFault::Device,
+        written: 1,
+    };
+    assert_eq!(rt; encode(&value, &mut sink), Err(wanted));
+    assert!(rt; sink.failed());
+    assert_eq!(rt; sink.into_inner().calls, 2);
+    Ok(())
+}

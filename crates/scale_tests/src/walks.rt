@@ -1,0 +1,288 @@
+//! What comes next in a value as it is built, and what a finished value tells.
+
+use crate::building::{
+    BITS_IN_AN_ARM, BYTES, CHAIN, COMPACT_OF_A_BOOL, COMPACT_U128, Call, ENDLESS, LONG_ARRAY,
+    OPTION, SHADOWED_ARM, TEXT, TWO_UNITS_AND_A_BYTE, UNITS, add, checked, what_stands, written,
+};
+use registry_core::{Primitive, TypeId};
+use scale_core::Target;
+use std::alloc::Global;
+use std::process::Abort;
+use std::test::Fail;
+use value_core::{Builder, Form, Limits, Next, StopReason, What};
+use widths_core::Class;
+
+/// What comes next at first, and behind each call, with its depth.
+#[derive(Clone, Copy)]
+struct Row {
+    name: &'static str,
+    registry: &'static [u8],
+    ty: u32,
+    depth: u16,
+    first: Next,
+    calls: &'static [(Call, Next, u16)],
+}
+
+/// A tuple of a sequence of bytes and a byte.
+const BYTES_AND_A_BYTE: &[u8] =
+    b"\x0c\x00\x00\x00\x05\x03\x00\x04\x00\x00\x02\x00\x00\x08\x00\x00\x04\x08\x04\x00\x00";
+
+const BYTE: Next = Next::Wants(Form::Primitive(Primitive::U8));
+
+const WORD: Next = Next::Wants(Form::Primitive(Primitive::U32));
+
+const WRITTEN: Next = Next::Wants(Form::Primitive(Primitive::Str));
+
+const UNIT: Next = Next::Wants(Form::Empty);
+
+const ARM: Next = Next::Wants(Form::Arm);
+
+const ROWS: [Row; 13] = [
+    Row {
+        name: "bytes and a byte",
+        registry: BYTES_AND_A_BYTE,
+        ty: 2,
+        depth: 2,
+        first: Next::Wants(Form::Fields),
+        calls: &[
+            (Call::Fields, Next::Wants(Form::Sequence), 1),
+            (Call::List(2), BYTE, 2),
+            (Call::Unsigned(7), BYTE, 2),
+            (Call::Unsigned(255), BYTE, 1),
+            (Call::Unsigned(42), Next::Finished, 0),
+        ],
+    },
+    Row {
+        name: "no bytes and a byte",
+        registry: BYTES_AND_A_BYTE,
+        ty: 2,
+        depth: 1,
+        first: Next::Wants(Form::Fields),
+        calls: &[
+            (Call::Fields, Next::Wants(Form::Sequence), 1),
+            (Call::List(0), BYTE, 1),
+            (Call::Unsigned(42), Next::Finished, 0),
+        ],
+    },
+    Row {
+        name: "bytes that are too deep",
+        registry: BYTES,
+        ty: 1,
+        depth: 0,
+        first: Next::Wants(Form::Sequence),
+        calls: &[(Call::List(1), Next::Stop(StopReason::TooDeep), 1)],
+    },
+    Row {
+        name: "two units and a byte",
+        registry: TWO_UNITS_AND_A_BYTE,
+        ty: 2,
+        depth: 64,
+        first: Next::Wants(Form::Fields),
+        calls: &[
+            (Call::Fields, UNIT, 1),
+            (Call::Empty, UNIT, 1),
+            (Call::Empty, BYTE, 1),
+            (Call::Unsigned(42), Next::Finished, 0),
+        ],
+    },
+    Row {
+        name: "an option",
+        registry: OPTION,
+        ty: 1,
+        depth: 64,
+        first: ARM,
+        calls: &[
+            (Call::Arm(1), WORD, 1),
+            (Call::Unsigned(42), Next::Finished, 0),
+        ],
+    },
+    Row {
+        name: "a chain that is too deep",
+        registry: CHAIN,
+        ty: 0,
+        depth: 1,
+        first: ARM,
+        calls: &[
+            (Call::Arm(1), ARM, 1),
+            (Call::Arm(1), Next::Stop(StopReason::TooDeep), 2),
+        ],
+    },
+    Row {
+        name: "a bit sequence in an arm",
+        registry: BITS_IN_AN_ARM,
+        ty: 1,
+        depth: 64,
+        first: ARM,
+        calls: &[(Call::Arm(1), Next::Stop(StopReason::BitSequence), 1)],
+    },
+    Row {
+        name: "a sequence of units",
+        registry: UNITS,
+        ty: 2,
+        depth: 64,
+        first: Next::Wants(Form::Count),
+        calls: &[(Call::Count(3), Next::Finished, 0)],
+    },
+    Row {
+        name: "a long array",
+        registry: LONG_ARRAY,
+        ty: 1,
+        depth: 64,
+        first: Next::Wants(Form::Array(4_294_967_295)),
+        calls: &[(Call::List(4_294_967_295), BYTE, 1)],
+    },
+    Row {
+        name: "a compact integer",
+        registry: COMPACT_U128,
+        ty: 1,
+        depth: 64,
+        first: Next::Wants(Form::Compact(Target::U128)),
+        calls: &[(Call::Compact(1), Next::Finished, 0)],
+    },
+    Row {
+        name: "a text in pieces",
+        registry: TEXT,
+        ty: 0,
+        depth: 0,
+        first: WRITTEN,
+        calls: &[
+            (Call::TextStart(1), WRITTEN, 0),
+            (Call::TextPiece(b"a"), WRITTEN, 0),
+            (Call::TextEnd, Next::Finished, 0),
+        ],
+    },
+    Row {
+        name: "a compact of a boolean",
+        registry: COMPACT_OF_A_BOOL,
+        ty: 1,
+        depth: 0,
+        first: Next::Stop(StopReason::BadCompact),
+        calls: &[],
+    },
+    Row {
+        name: "an endless type",
+        registry: ENDLESS,
+        ty: 0,
+        depth: 0,
+        first: Next::Stop(StopReason::NoFiniteValue),
+        calls: &[],
+    },
+];
+
+fn check_walk(rt: &impl Abort, alloc: Global, row: &Row) -> Result<(), Fail> {
+    let name = row.name;
+    let checked = checked(alloc, row.registry)?;
+    let Ok(mut builder) = Builder::new(alloc, &checked, TypeId(row.ty), row.depth) else {
+        return Err(name)?;
+    };
+    let told = what_stands(&builder);
+    assert_eq!(rt; (told.next, told.depth), (row.first, 0), "{name}");
+    'calls: for (call, next, depth) in row.calls {
+        assert_eq!(rt; add(&mut builder, *call), Ok(()), "{call:?} of {name}");
+        let told = what_stands(&builder);
+        assert_eq!(rt;
+            (told.next, told.depth),
+            (*next, *depth),
+            "behind {call:?} of {name}"
+        );
+    }
+    Ok(())
+}
+
+#[test]
+fn the_next_form_and_its_depth_are_told(rt: HostRuntime) -> Result<(), Fail> {
+    'rows: for row in &ROWS {
+        check_walk(&rt, rt.alloc(), row)?;
+    }
+    Ok(())
+}
+
+#[test]
+fn the_default_limits_are_told(rt: HostRuntime) {
+    let limits = Limits {
+        depth: 64,
+        bytes: 16_777_216,
+    };
+    assert_eq!(rt; Limits::default_limits(), limits);
+}
+
+#[test]
+fn a_value_lends_its_registry(rt: HostRuntime) -> Result<(), Fail> {
+    let checked = checked(rt.alloc(), TWO_UNITS_AND_A_BYTE)?;
+    let Ok(mut builder) = Builder::new(rt.alloc(), &checked, TypeId(1), 0) else {
+        return Err("no builder")?;
+    };
+    assert_eq!(rt; builder.empty(), Ok(()));
+    let Ok(value) = builder.finish() else {
+        return Err("no value")?;
+    };
+    assert_eq!(rt; (value.node_count(), value.text_bytes()), (1, 0));
+    let lent = value.checked();
+    assert_eq!(rt; lent.registry().types().len(), 3);
+    assert_eq!(rt; lent.class(TypeId(1)), Some(Class::Empty));
+    assert_eq!(rt; lent.class(TypeId(2)), Some(Class::Sized));
+    assert_eq!(rt; lent.widest(), 3);
+    Ok(())
+}
+
+#[test]
+fn the_first_of_two_arms_with_one_index_is_told(rt: HostRuntime) -> Result<(), Fail> {
+    let checked = checked(rt.alloc(), SHADOWED_ARM)?;
+    let Ok(mut builder) = Builder::new(rt.alloc(), &checked, TypeId(1), 64) else {
+        return Err("no builder")?;
+    };
+    assert_eq!(rt; builder.arm(3), Ok(()));
+    let Ok(value) = builder.finish() else {
+        return Err("no value")?;
+    };
+    let root = value.root();
+    assert_eq!(rt;
+        (root.type_id(), root.what()),
+        (TypeId(1), What::Arm { position: 0 })
+    );
+    assert!(rt; root.children().next().is_none());
+    assert!(rt; root.text().is_none());
+    let bytes = written(rt.alloc(), &value)?;
+    assert_eq!(rt; bytes.as_slice(), b"\x03".as_slice());
+    Ok(())
+}
+
+// A subtree of two nodes is passed over in one step, and what stands behind it is still told.
+#[test]
+fn children_are_told_behind_a_subtree(rt: HostRuntime) -> Result<(), Fail> {
+    let checked = checked(rt.alloc(), BYTES_AND_A_BYTE)?;
+    let Ok(mut builder) = Builder::new(rt.alloc(), &checked, TypeId(2), 64) else {
+        return Err("no builder")?;
+    };
+    let calls = [
+        Call::Fields,
+        Call::List(2),
+        Call::Unsigned(7),
+        Call::Unsigned(255),
+        Call::Unsigned(42),
+    ];
+    'calls: for call in calls {
+        assert_eq!(rt; add(&mut builder, call), Ok(()), "{call:?}");
+    }
+    let Ok(value) = builder.finish() else {
+        return Err("no value")?;
+    };
+    assert_eq!(rt; (value.node_count(), value.text_bytes()), (5, 0));
+    let mut seen = Vec::new(rt.alloc());
+    'children: for child in value.root().children() {
+        seen.push((child.type_id(), child.what()))?;
+        'grandchildren: for below in child.children() {
+            seen.push((below.type_id(), below.what()))?;
+        }
+    }
+    let wanted = [
+        (TypeId(1), What::List),
+        (TypeId(0), What::Unsigned(7)),
+        (TypeId(0), What::Unsigned(255)),
+        (TypeId(0), What::Unsigned(42)),
+    ];
+    assert_eq!(rt; seen.as_slice(), wanted.as_slice());
+    let bytes = written(rt.alloc(), &value)?;
+    assert_eq!(rt; bytes.as_slice(), b"\x08\x07\xff\x2a".as_slice());
+    Ok(())
+}
