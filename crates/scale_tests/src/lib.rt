@@ -18,6 +18,8 @@ mod command_line;
 #[cfg(test)]
 mod compact;
 #[cfg(test)]
+mod decoder;
+#[cfg(test)]
 mod devices;
 #[cfg(test)]
 mod encoder_devices;

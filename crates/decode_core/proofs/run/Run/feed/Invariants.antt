@@ -1,0 +1,13 @@
+use Rattle.std.proofs.Common.{◌≡◌, ◌≤◌, length, take, drop}
+use Rattle.decode_core.specs.Turned.{Moves, left_to_do}
+use Rattle.decode_core.proofs.run.Run.feed.Given as goal
+
+abbrev pub invariant-turns : goal.invariant-turns
+invariant-turns g l = record {
+  piece : l.piece ≡ l.fn.piece;
+  inside : l.at ≤ length l.piece;
+  moves : Moves l.fn.self l.self (take l.at l.piece);
+}
+
+abbrev pub decreases-turns : goal.decreases-turns
+decreases-turns g l = left_to_do l.self (drop l.at l.piece)

@@ -1,0 +1,23 @@
+-- What was added before a fault is a begun tree.
+use Rattle.std.specs.Prelude.{◌≡◌, ℕ, List, [], ◌++◌, Some, Err}
+use Rattle.registry_core.specs.declared.type_info.TypeInfo.{TypeInfo}
+use Rattle.grammar_core.specs.Begun.{Begun, IsPart, Grows}
+use Rattle.value_core.specs.Built.{Entry}
+use Rattle.grammar_core.specs.Begun.{IsBegunPreorder}
+use Rattle.decode_core.specs.Told.{Fault, told, shown, told_at}
+
+-- the nodes of a begun tree are there, and its next type fails on the bytes behind its own, with the room that there is
+pub record Begins (r : List TypeInfo) (room t : ℕ) (b : List ℕ) (xs : List Entry) (e : Fault) : Type 0 where
+  pub tree : Begun
+  pub own : List ℕ
+  pub next : ℕ
+  pub below : ℕ
+  pub part : IsPart tree
+  pub is : b ≡ own ++ e.1
+  pub grows : Grows r room t tree own (Some (below, next))
+  pub shows : IsBegunPreorder tree (shown xs)
+  pub meets : told_at r below next e.1 ≡ told [] (Err e)
+
+-- what was added before a fault is a begun tree
+abbrev pub FaultIsBegun : Type 0
+FaultIsBegun = (r : List TypeInfo) (room t : ℕ) (b : List ℕ) (xs : List Entry) (e : Fault) → told_at r room t b ≡ told xs (Err e) → Begins r room t b xs e

@@ -1,0 +1,136 @@
+-- What contracts see of a decoder, and which bytes have led to it.
+use Rattle.std.specs.Prelude.{◌≡◌, ℕ, ◌+◌, ◌≤◌, ◌^◌, ◌⊎◌, List, [], ◌++◌, length, map, Result, Ok, Err, true, Option, Some, None, nat_lt, not, ◌||◌, if◌then◌else◌}
+use Rattle.registry_core.specs.declared.type_info.TypeInfo.{TypeInfo}
+use Rattle.grammar_core.specs.Preorder.{tree_of}
+use Rattle.grammar_core.specs.Reading.{Refusal}
+use Rattle.grammar_core.specs.Tree.{Tree}
+use Rattle.value_core.specs.Built.{Built, built_text_bytes}
+use Rattle.value_core.specs.Refusals.{is_whole}
+use Rattle.value_core.specs.Shown.{Seen}
+use Rattle.value_core.specs.Walked.{start_of}
+use Rattle.grammar_core.specs.declared.limits.Limits.{Limits}
+use Rattle.decode_core.specs.declared.fault.OpenFault.{OpenFault}
+use Rattle.decode_core.specs.declared.fault.OpenFault.TheVariants as opening
+use Rattle.decode_core.specs.Machine.{remain, start}
+use Rattle.decode_core.specs.Outcome.{Job, done, refused, more, too_long, IsOutcome}
+use Rattle.decode_core.specs.Reasons.{reason_of}
+use Rattle.decode_core.specs.Running.{Running, held_of, state_of}
+use Rattle.decode_core.specs.Told.{told}
+use Rattle.decode_core.specs.Turned.{Reaches}
+use Rattle.decode_core.specs.declared.decoder.Fed.{Fed}
+use Rattle.decode_core.specs.declared.decoder.Fed.TheVariants as fed
+use Rattle.decode_core.specs.declared.decoder.Progress.{Progress}
+use Rattle.decode_core.specs.declared.decoder.Progress.TheVariants as progress
+use Rattle.decode_core.specs.declared.fault.DecodeFault.{DecodeFault}
+use Rattle.decode_core.specs.declared.fault.DecodeReason.TheVariants as reason
+
+-- what is decoded, how many bytes were taken, and the value on its way, or the fault that ended it
+pub record Decoding : Type 0 where
+  pub job : Job
+  pub taken : ℕ
+  pub run : Result Running DecodeFault
+
+-- the tree of the nodes, where they are a whole value
+abbrev pub built_tree : Built → Tree
+built_tree b = tree_of (map (λ e. e.head) b.entries)
+
+-- it is a value of the job's type, of its registry
+pub record IsOf (j : Job) (s : Running) : Type 0 where
+  pub types : s.built.walk.types ≡ j.registry
+  pub ty : s.built.ty ≡ j.ty
+
+-- these bytes are those of the nodes and then those that are held, and more may follow
+pub record IsGoing (j : Job) (b : List ℕ) (s : Running) (n : ℕ) : Type 0 where
+  pub same : IsOf j s
+  pub own : List ℕ
+  pub is : b ≡ own ++ held_of s
+  pub led : Reaches j.registry (start j.depth j.ty) (state_of s.built) own
+  pub count : n ≡ length b
+  pub fits : n ≤ j.bytes
+
+-- a value stands on the front of these bytes, and it is whole
+pub record IsDone (j : Job) (b : List ℕ) (s : Running) (n : ℕ) : Type 0 where
+  pub same : IsOf j s
+  pub whole : (x : List ℕ) → remain j.registry (state_of s.built) x ≡ told [] (Ok x)
+  pub nothing : held_of s ≡ []
+  pub is_whole : is_whole s.built ≡ true
+  pub outcome : IsOutcome j b (done (built_tree s.built)) n
+  pub fits : n ≤ j.bytes
+
+-- why it ended: memory was refused, or these bytes have this outcome
+abbrev pub IsEnded : Job → List ℕ → DecodeFault → ℕ → Type 0
+IsEnded j b f n = (f ≡ record { reason = reason.OutOfMemory; at = 0 })
+    ⊎ (((f ≡ record { reason = reason.TooLong; at = j.bytes }) × IsOutcome j b too_long n)
+    ⊎ ((e : Refusal) × (at : ℕ) × (f ≡ record { reason = reason_of e; at = at }) × IsOutcome j b (refused e at) n))
+
+abbrev pub RunLed : Job → List ℕ → ℕ → Result Running DecodeFault → Type 0
+RunLed j b n (Ok s) = IsGoing j b s n ⊎ IsDone j b s n
+RunLed j b n (Err f) = IsEnded j b f n
+
+-- these bytes, in whatever pieces, have led to the decoder
+abbrev pub Led : Decoding → List ℕ → Type 0
+Led d b = RunLed d.job b d.taken d.run
+
+-- the answer to a piece is the outcome of all bytes so far
+abbrev pub Answers : Decoding → Decoding → List ℕ → Result Progress DecodeFault → Type 0
+Answers old new b (Ok progress.More) = IsOutcome new.job b more new.taken
+Answers old new b (Ok (progress.Done used)) = (s : Running) × (new.run ≡ Ok s) × IsOutcome new.job b (done (built_tree s.built)) new.taken × (new.taken ≡ old.taken + used)
+Answers old new b (Err f) = (new.run ≡ Err f) × IsEnded new.job b f new.taken
+
+-- some bytes have led to it, within a limit that a count can pass
+pub record IsDecoding (d : Decoding) : Type 0 where
+  pub limit : d.job.bytes ≤ 2 ^ 40
+  pub bytes : List ℕ
+  pub led : Led d bytes
+
+-- some bytes have led to a value on its way or whole
+pub record IsLedTo (s : Running) (limit taken : ℕ) : Type 0 where
+  pub small : limit ≤ 2 ^ 40
+  pub job : Job
+  pub bytes : List ℕ
+  pub is_limit : job.bytes ≡ limit
+  pub led : RunLed job bytes taken (Ok s)
+
+-- what a piece made of it, by all bytes so far
+abbrev pub RunAnswers : Job → List ℕ → ℕ → Running → Fed → Type 0
+RunAnswers j b taken new (fed.More n) = IsGoing j b new n × IsOutcome j b more n
+RunAnswers j b taken new (fed.Done used) = IsDone j b new (taken + used)
+RunAnswers j b taken new (fed.Ended f n) = IsEnded j b f n
+
+-- where the value is told to be whole it is there
+abbrev pub HasValue : Decoding → Result Progress DecodeFault → Type 0
+HasValue d (Ok (progress.Done used)) = (s : Running) × (d.run ≡ Ok s) × (is_whole s.built ≡ true)
+HasValue d _ = Unit {0}
+
+-- ---- a decoder is made, counted, and ended
+
+-- a decoder of a type of a registry that has taken nothing
+abbrev pub first_of_all : List TypeInfo → ℕ → Limits → Decoding
+first_of_all types root limits = record {
+  job = record { registry = types; ty = root; depth = limits.depth; bytes = limits.bytes };
+  taken = 0;
+  run = Ok (record { built = record { ty = root; walk = start_of types root limits.depth; entries = []; text = None }; carry = [] });
+}
+
+-- an id that is no position first, and then a limit that is out of its range
+abbrev pub opening_fault : List TypeInfo → ℕ → Limits → Option OpenFault
+opening_fault types root limits =
+    if not (nat_lt root (length types)) then Some opening.UnknownType
+    else (if nat_lt 1024 limits.depth || nat_lt (2 ^ 40) limits.bytes then Some opening.LimitOutOfRange else None)
+
+abbrev pub Opens : Option OpenFault → Decoding → Result Decoding OpenFault → Type 0
+Opens None first (Ok d) = d ≡ first
+Opens None first (Err e) = e ≡ opening.OutOfMemory
+Opens (Some f) first (Ok d) = ⊥
+Opens (Some f) first (Err e) = e ≡ f
+
+abbrev pub node_count : Decoding → ℕ
+node_count d = elim d.run [ Ok s ↦ length s.built.entries | Err f ↦ 0 ]
+
+abbrev pub text_bytes : Decoding → ℕ
+text_bytes d = elim d.run [ Ok s ↦ built_text_bytes s.built | Err f ↦ 0 ]
+
+-- the value that stands on all these bytes; or they are too few, or were refused
+abbrev pub Finishes : Job → List ℕ → Result Seen DecodeFault → Type 0
+Finishes j b (Ok v) = (n : ℕ) × (v.types ≡ j.registry) × (v.ty ≡ j.ty) × IsOutcome j b (done v.tree) n
+Finishes j b (Err f) = ((f ≡ record { reason = reason.Truncated; at = length b }) × IsOutcome j b more (length b)) ⊎ ((n : ℕ) × IsEnded j b f n)

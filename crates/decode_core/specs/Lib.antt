@@ -1,0 +1,17 @@
+pub mod Outcome
+pub mod Taken
+pub mod Holds
+pub mod Bound
+pub mod Held
+pub mod Met
+pub mod Told
+pub mod Machine
+pub mod Begins
+pub mod Holding
+pub mod Needs
+pub mod Reasons
+pub mod NodeAdds
+pub mod Running
+pub mod Turned
+pub mod Decided
+pub mod Decoding

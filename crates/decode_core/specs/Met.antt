@@ -1,0 +1,9 @@
+-- The layout by which a type is read where it is met: a type with no finite value is refused as an unknown one is.
+use Rattle.std.specs.Prelude.{ℕ, List, if◌then◌else◌}
+use Rattle.registry_core.specs.declared.type_info.TypeInfo.{TypeInfo}
+use Rattle.widths_core.specs.Classes.{is_finite}
+use Rattle.widths_core.specs.Layouts.{Layout, layout}
+use Rattle.widths_core.specs.Layouts as layout
+
+unfoldable pub met_layout : List TypeInfo → ℕ → Layout
+met_layout r t = if is_finite r t then layout r t else layout.unknown

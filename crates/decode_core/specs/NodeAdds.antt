@@ -1,0 +1,82 @@
+-- What the bytes of the next node make of a value that is built: the value with the node, or a refusal.
+use Rattle.std.specs.Prelude.{false, ◌⊎◌, ◌≡◌, ℕ, List, [], Option, Some, None, Result, Ok, Err}
+use Rattle.scale_core.specs.Read.{Read, place, compact_at}
+use Rattle.scale_core.specs.declared.compact.Target.TheVariants as target
+use Rattle.scale_core.specs.declared.fault.Fault.{Fault}
+use Rattle.scale_core.specs.declared.fault.Reason.{Reason}
+use Rattle.registry_core.specs.declared.primitive.Primitive.{Primitive}
+use Rattle.registry_core.specs.declared.primitive.Primitive.TheVariants as P
+use Rattle.value_core.specs.Built.{Built, with_leaf, with_open, with_text_opened, next_layout}
+use Rattle.grammar_core.specs.Parts.{Part}
+use Rattle.grammar_core.specs.Preorder.{Head}
+use Rattle.grammar_core.specs.Reading.{Refusal}
+use Rattle.grammar_core.specs.declared.form.Form.{Form}
+use Rattle.grammar_core.specs.declared.form.Form.TheVariants as form
+use Rattle.decode_core.specs.Machine.{is_cut}
+use Rattle.decode_core.specs.Reasons.{reason_of}
+use Rattle.decode_core.specs.Told.{own_at}
+use Rattle.decode_core.specs.declared.fault.DecodeReason.{DecodeReason}
+use Rattle.decode_core.specs.declared.run.OpenText.{OpenText}
+use Rattle.decode_core.specs.declared.node.NodeFault.{NodeFault}
+use Rattle.decode_core.specs.declared.node.NodeFault.TheVariants as fault
+
+-- an integer type of at most sixteen bytes, and how many it has
+abbrev pub unsigned_bytes : Primitive → Option ℕ
+unsigned_bytes P.U8 = Some 1
+unsigned_bytes P.U16 = Some 2
+unsigned_bytes P.U32 = Some 4
+unsigned_bytes P.U64 = Some 8
+unsigned_bytes P.U128 = Some 16
+unsigned_bytes _ = None
+
+abbrev pub signed_bytes : Primitive → Option ℕ
+signed_bytes P.I8 = Some 1
+signed_bytes P.I16 = Some 2
+signed_bytes P.I32 = Some 4
+signed_bytes P.I64 = Some 8
+signed_bytes P.I128 = Some 16
+signed_bytes _ = None
+
+-- the answer is what is read on the front of the bytes
+abbrev pub Reads : {X : Type 0} → List ℕ → Result X Fault → Read Reason X → Type 0
+Reads own (Ok x) read = (rest : List ℕ) × (read ≡ Ok (x, rest))
+Reads own (Err f) read = (left : List ℕ) × (read ≡ Err (f.reason, left)) × (f.at ≡ place own left)
+
+-- the same of an integer type, where there is one
+abbrev pub ReadsBytes : {X : Type 0} → (ℕ → List ℕ → Read Reason X) → List ℕ → Result X Fault → Option ℕ → Type 0
+ReadsBytes read own result (Some k) = Reads own result (read k own)
+ReadsBytes read own result None = Unit {0}
+
+-- a node without children, or one that opens these parts
+abbrev pub with_own : Built → Head × Option Part → Built
+with_own b (h, None) = with_leaf b h
+with_own b (h, Some p) = with_open b h p
+
+-- the bytes are those of the next node, and nothing else
+abbrev pub IsAdded : Built → Built → List ℕ → Type 0
+IsAdded old new own = (x : Head × Option Part) × (own_at (next_layout old) own ≡ Ok (x, [])) × (new ≡ with_own old x)
+
+-- the next node is refused for this reason, at this place from its first byte
+abbrev pub IsRefused : Built → List ℕ → DecodeReason → ℕ → Type 0
+IsRefused b own told at = (e : Refusal) × (left : List ℕ) × (own_at (next_layout b) own ≡ Err (e, left)) × (is_cut e ≡ false) × (told ≡ reason_of e) × (at ≡ place own left)
+
+abbrev pub AddsNode : Built → Built → List ℕ → Result (Unit {0}) NodeFault → Type 0
+AddsNode old new own (Ok _) = IsAdded old new own
+AddsNode old new own (Err (fault.Refused told at)) = IsRefused old own told at × (new ≡ old)
+AddsNode old new own (Err fault.OutOfMemory) = new ≡ old
+
+-- the bytes are a text's length, and the text is open
+abbrev pub OpensText : Built → Built → List ℕ → Result ℕ NodeFault → Type 0
+OpensText old new own (Ok n) = (compact_at target.U32 own ≡ Ok (n, [])) × (new ≡ with_text_opened old n)
+OpensText old new own (Err (fault.Refused told at)) = IsRefused old own told at × (new ≡ old)
+OpensText old new own (Err fault.OutOfMemory) = new ≡ old
+
+-- the node is added, or the text that is next is open and lacks all its bytes
+abbrev pub IsTaken : Form → Built → Built → Option OpenText → List ℕ → Type 0
+IsTaken f old new text own = (IsAdded old new own × (text ≡ None))
+    ⊎ ((f ≡ form.Primitive P.Str) × ((n : ℕ) × (compact_at target.U32 own ≡ Ok (n, [])) × (new ≡ with_text_opened old n) × (text ≡ Some (record { len = n; missing = n }))))
+
+abbrev pub TakesNode : Form → Built → Built → Option OpenText → List ℕ → Result (Unit {0}) NodeFault → Type 0
+TakesNode f old new text own (Ok _) = IsTaken f old new text own
+TakesNode f old new text own (Err (fault.Refused told at)) = IsRefused old own told at × (new ≡ old) × (text ≡ None)
+TakesNode f old new text own (Err fault.OutOfMemory) = (new ≡ old) × (text ≡ None)

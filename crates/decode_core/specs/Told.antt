@@ -1,0 +1,119 @@
+-- Reading a value node by node: what is added in preorder before the reading ends, and how it ends.
+use Rattle.std.specs.Prelude.{◌≡◌, ℕ, zero, suc, List, [], ◌∷◌, ◌++◌, length, map, Option, Some, None, Result, Ok, Err}
+use Rattle.scale_core.specs.Read.{Read, compact_at}
+use Rattle.scale_core.specs.declared.compact.Target.TheVariants as target
+use Rattle.scale_core.specs.declared.fault.Reason.{Reason}
+use Rattle.registry_core.specs.declared.definition.Arm.{Arm}
+use Rattle.registry_core.specs.declared.type_info.TypeInfo.{TypeInfo}
+use Rattle.widths_core.specs.Types.{field_types}
+use Rattle.widths_core.specs.Arms.{arm_of}
+use Rattle.widths_core.specs.Layouts.{Layout}
+use Rattle.widths_core.specs.Layouts as layout
+use Rattle.grammar_core.specs.Tree.{Tree}
+use Rattle.value_core.specs.Built.{Entry}
+use Rattle.grammar_core.specs.Preorder.{Head, head_of, preorder}
+use Rattle.grammar_core.specs.Preorder as head
+use Rattle.grammar_core.specs.Parts.{Part, each, times}
+use Rattle.decode_core.specs.Met.{met_layout}
+use Rattle.grammar_core.specs.Reading.{layout_at, Refusal, basic, truncated, too_deep, no_such_variant}
+
+abbrev pub entry : ℕ → Head → Entry
+entry t h = record { ty = t; head = h }
+
+-- the nodes without their types
+abbrev pub shown : List Entry → List Head
+shown xs = map (λ e. e.head) xs
+
+-- a node's own bytes: the node, and what it opens
+abbrev pub Own : Type 0
+Own = Read Refusal (Head × Option Part)
+
+abbrev pub leaf_own : Read Refusal Tree → Own
+leaf_own (Ok x) = Ok ((head_of x.0, None), x.1)
+leaf_own (Err e) = Err e
+
+abbrev pub arm_own : List ℕ → Option (ℕ × Arm) → List ℕ → Own
+arm_own at (Some found) rest = Ok ((head.arm found.0 (length (field_types found.1.fields)), Some (each (field_types found.1.fields))), rest)
+arm_own at None rest = Err (no_such_variant, at)
+
+abbrev pub arms_own : List Arm → List ℕ → Own
+arms_own arms [] = Err (truncated, [])
+arms_own arms (index ∷ rest) = arm_own (index ∷ rest) (arm_of arms index) rest
+
+abbrev pub length_own : ℕ → Read Reason ℕ → Own
+length_own t (Ok n) = Ok ((head.list n.0, Some (times n.0 t)), n.1)
+length_own t (Err e) = Err (basic e.0, e.1)
+
+abbrev pub shallow : ℕ → List ℕ → Read Refusal Tree
+shallow t b = Err (too_deep, b)
+
+unfoldable pub own_at : Layout → List ℕ → Own
+own_at (layout.fields ts) b = Ok ((head.fields (length ts), Some (each ts)), b)
+own_at (layout.arms arms) b = arms_own arms b
+own_at (layout.sequence t) b = length_own t (compact_at target.U32 b)
+own_at (layout.array n t) b = Ok ((head.list n, Some (times n t)), b)
+own_at f b = leaf_own (layout_at shallow f b)
+
+-- the fault and the bytes from its place on, and the bytes from the node on that is refused
+abbrev pub Fault : Type 0
+Fault = (Refusal × List ℕ) × List ℕ
+
+-- the bytes behind what was added, or the fault
+abbrev pub Ending : Type 0
+Ending = Result (List ℕ) Fault
+
+pub data Told : Type 0 where
+  told : List Entry → Ending → Told
+
+abbrev pub added : Told → List Entry
+added (told xs end) = xs
+
+abbrev pub ending : Told → Ending
+ending (told xs end) = end
+
+-- the same after these
+abbrev pub after : List Entry → Told → Told
+after before (told xs end) = told (before ++ xs) end
+
+-- one reading behind the other
+abbrev pub behind : List Entry → Ending → (List ℕ → Told) → Told
+behind xs (Ok rest) f = after xs (f rest)
+behind xs (Err e) f = told xs (Err e)
+
+abbrev pub then : Told → (List ℕ → Told) → Told
+then (told xs end) f = behind xs end f
+
+abbrev pub all_told : (ℕ → List ℕ → Told) → List ℕ → List ℕ → Told
+all_told child [] b = told [] (Ok b)
+all_told child (t ∷ ts) b = then (child t b) (all_told child ts)
+
+abbrev pub times_told : (ℕ → List ℕ → Told) → ℕ → ℕ → List ℕ → Told
+times_told child zero t b = told [] (Ok b)
+times_told child (suc n) t b = then (child t b) (times_told child n t)
+
+abbrev pub part_told : (ℕ → List ℕ → Told) → Part → List ℕ → Told
+part_told child (each ts) b = all_told child ts b
+part_told child (times n t) b = times_told child n t b
+
+abbrev pub opened_told : (ℕ → List ℕ → Told) → Option Part → List ℕ → Told
+opened_told child None b = told [] (Ok b)
+opened_told child (Some p) b = part_told child p b
+
+abbrev pub own_told : (ℕ → List ℕ → Told) → ℕ → List ℕ → Own → Told
+own_told child t b (Ok x) = after (entry t x.0.0 ∷ []) (opened_told child x.0.1 x.1)
+own_told child t b (Err e) = told [] (Err (e, b))
+
+-- a value of type t, with room for so many levels
+unfoldable pub told_at : List TypeInfo → ℕ → ℕ → List ℕ → Told
+told_at r zero t b = told [] (Err ((too_deep, b), b))
+told_at r (suc room) t b = own_told (told_at r room) t b (own_at (met_layout r t) b)
+
+-- all that is still to be read, the innermost part first, which has this room
+unfoldable pub rest_told : List TypeInfo → ℕ → List Part → List ℕ → Told
+rest_told r room [] b = told [] (Ok b)
+rest_told r room (p ∷ ps) b = then (part_told (told_at r room) p b) (rest_told r (suc room) ps)
+
+-- it is what the big-step reading says
+abbrev pub Agrees : Read Refusal Tree → Told → Type 0
+Agrees (Ok x) y = (shown (added y) ≡ preorder x.0) × (ending y ≡ Ok x.1)
+Agrees (Err e) y = (met : List ℕ) × (ending y ≡ Err (e, met))

@@ -1,0 +1,96 @@
+-- One piece of input, turn by turn.
+use Rattle.std.specs.Prelude.{◌≡◌, ℕ, ◌*◌, ◌+◌, ◌-◌, ◌≤◌, ◌⊎◌, List, [], ◌++◌, length, take, drop, false, true, Result, Ok, Err}
+use Rattle.registry_core.specs.declared.type_info.TypeInfo.{TypeInfo}
+use Rattle.value_core.specs.Refusals.{is_whole}
+use Rattle.grammar_core.specs.Reading.{Refusal, truncated}
+use Rattle.decode_core.specs.Decided.{Decided}
+use Rattle.decode_core.specs.Machine.{State, remain, to_go, is_cut}
+use Rattle.decode_core.specs.Reasons.{reason_of}
+use Rattle.decode_core.specs.Running.{Running, state_of, held_of}
+use Rattle.decode_core.specs.Told.{told, after}
+use Rattle.decode_core.specs.declared.node.NodeFault.{NodeFault}
+use Rattle.decode_core.specs.declared.node.NodeFault.TheVariants as fault
+use Rattle.decode_core.specs.declared.turned.Stopped.{Stopped}
+use Rattle.decode_core.specs.declared.turned.Stopped.TheVariants as stop
+use Rattle.decode_core.specs.declared.turned.Turned.{Turned}
+use Rattle.decode_core.specs.declared.turned.Turned.TheVariants as turned
+
+abbrev pub types_of : Running → List TypeInfo
+types_of s = s.built.walk.types
+
+-- the bytes c lead from one state to the next, whatever follows them; and frames and nodes are few
+pub record Leads (r : List TypeInfo) (s s' : State) (c : List ℕ) : Type 0 where
+  pub tells : (more : List ℕ) → after s.nodes (remain r s (c ++ more)) ≡ after s'.nodes (remain r s' more)
+  pub level : s'.room + length s'.pending ≡ s.room + length s.pending
+  pub paid : length s'.pending + 2 * length s.nodes + 1 ≤ length s.pending + 2 * length s'.nodes
+
+-- the bytes c lead from one state to another in any number of turns
+pub record Reaches (r : List TypeInfo) (s s' : State) (c : List ℕ) : Type 0 where
+  pub tells : (more : List ℕ) → after s.nodes (remain r s (c ++ more)) ≡ after s'.nodes (remain r s' more)
+  pub level : s'.room + length s'.pending ≡ s.room + length s.pending
+
+-- the same value is decoded
+pub record IsSame (old new : Running) : Type 0 where
+  pub types : new.built.walk.types ≡ old.built.walk.types
+  pub limit : new.built.walk.limit ≡ old.built.walk.limit
+  pub ty : new.built.ty ≡ old.built.ty
+
+-- these bytes lead from one to the other, whatever follows them
+pub record Moves (old new : Running) (bytes : List ℕ) : Type 0 where
+  pub same : IsSame old new
+  pub own : List ℕ
+  pub is : held_of old ++ bytes ≡ own ++ held_of new
+  pub tells : (more : List ℕ) → after (state_of old.built).nodes (remain (types_of old) (state_of old.built) (own ++ more)) ≡ after (state_of new.built).nodes (remain (types_of old) (state_of new.built) more)
+  pub level : (state_of new.built).room + length (state_of new.built).pending ≡ (state_of old.built).room + length (state_of old.built).pending
+
+-- the work that is left
+abbrev pub left_to_do : Running → List ℕ → ℕ
+left_to_do s rest = to_go (types_of s) (state_of s.built) (held_of s ++ rest) + length rest
+
+-- why no turn follows, where rest is left of the piece
+abbrev pub Stops : Running → List ℕ → Stopped → Type 0
+Stops s rest stop.Finished = ((x : List ℕ) → remain (types_of s) (state_of s.built) x ≡ told [] (Ok x)) × (held_of s ≡ []) × (is_whole s.built ≡ true)
+Stops s rest stop.Wants = (rest ≡ []) × ((left : List ℕ) × (remain (types_of s) (state_of s.built) (held_of s) ≡ told [] (Err ((truncated, left), held_of s))))
+Stops s rest (stop.Refused held told_reason at len) = let x = held_of s ++ rest in
+    (e : Refusal) × (left : List ℕ) × (is_cut e ≡ false) × (told_reason ≡ reason_of e) × (held ≡ length (held_of s)) × (at ≡ length x - length left)
+    × (remain (types_of s) (state_of s.built) x ≡ told [] (Err ((e, left), x))) × Decided (types_of s) (state_of s.built) x e left len
+
+-- bytes are held, or a node is added and none are
+abbrev pub Steps : Running → Running → List ℕ → Type 0
+Steps old new bytes = ((1 ≤ length bytes) × (state_of new.built ≡ state_of old.built) × (held_of new ≡ held_of old ++ bytes))
+    ⊎ ((held_of new ≡ []) × Leads (types_of old) (state_of old.built) (state_of new.built) (held_of old ++ bytes))
+
+-- what a turn does, by its step
+abbrev pub StepTells : Running → Running → List ℕ → Turned → Type 0
+StepTells old new piece (turned.On n) = (n ≤ length piece) × IsSame old new × Steps old new (take n piece)
+StepTells old new piece (turned.Stopped (stop.Refused held told_reason at len)) = Stops old piece (stop.Refused held told_reason at len)
+StepTells old new piece (turned.Stopped s) = (new ≡ old) × Stops old piece s
+StepTells old new piece turned.OutOfMemory = Unit {0}
+
+-- what stands after the turns end: what stood before the last one, but for a node that is refused
+abbrev pub Stands : Stopped → Running → Running → Type 0
+Stands (stop.Refused held told_reason at len) before new = Unit {0}
+Stands s before new = new ≡ before
+
+-- what turns on a piece do, of which n bytes were taken
+abbrev pub FeedTells : Running → Running → List ℕ → ℕ → Stopped → Type 0
+FeedTells old new piece n s = (n ≤ length piece) × ((last : Running) × Moves old last (take n piece) × Stops last (drop n piece) s × Stands s last new)
+
+-- a turn that needs no bytes
+abbrev pub BareTells : Running → Running → Turned → Type 0
+BareTells old new (turned.On n) = (n ≡ 0) × IsSame old new × Steps old new []
+BareTells old new (turned.Stopped s) = ⊥
+BareTells old new turned.OutOfMemory = Unit {0}
+
+-- what a turn did that took the next node's own bytes
+abbrev pub node_turned : Result (Unit {0}) NodeFault → ℕ → ℕ → ℕ → Turned
+node_turned (Ok u) held count len = turned.On count
+node_turned (Err (fault.Refused told_reason at)) held count len = turned.Stopped (stop.Refused held told_reason at len)
+node_turned (Err fault.OutOfMemory) held count len = turned.OutOfMemory
+
+-- a turn that ends a text, whatever follows it
+abbrev pub EndTells : Running → Running → Turned → Type 0
+EndTells old new (turned.On n) = (n ≡ 0) × IsSame old new × Steps old new []
+EndTells old new (turned.Stopped (stop.Refused held told_reason at len)) = (rest : List ℕ) → Stops old rest (stop.Refused held told_reason at len)
+EndTells old new (turned.Stopped s) = ⊥
+EndTells old new turned.OutOfMemory = Unit {0}

@@ -1,0 +1,59 @@
+//! The bytes of a node that a piece cut.
+
+ghost use Rattle.std.specs.Prelude.{◌≡◌, ◌≤◌, ◌-◌, ◌++◌, [], length, take, min};
+
+use std::marker::Model;
+
+/// At most 32 bytes: those of an integer, a character, a compact integer or an index that came so far.
+#[derive(Drop)]
+pub(crate) struct Carry {
+    bytes: [u8; 32],
+    len: usize,
+}
+
+impl Model for Carry {
+    ghost use Rattle.std.specs.Prelude.{List, ℕ, take, ◌≤◌};
+
+    ghost Value = { List ℕ };
+
+    ghost view = { λ c. take c.len c.bytes };
+
+    ghost invariant = { λ c. c.len ≤ 32 };
+}
+
+impl Carry {
+    pub(crate) fn new() -> Carry
+        ensures { result ≡ [] }
+    {
+        Carry {
+            bytes: [0; 32],
+            len: 0,
+        }
+    }
+
+    /// The bytes, lent.
+    pub(crate) fn as_slice(&self) -> &[u8]
+        ensures bytes { result.now ≡ self.now }
+        ensures bound { length self.now ≤ 32 }
+    {
+        &self.bytes[..self.len]
+    }
+
+    pub(crate) fn clear(&mut self)
+        ensures { self.new ≡ [] }
+    {
+        self.len = 0;
+    }
+
+    /// Takes bytes off the piece until there are `want` or the piece ends: how many it took.
+    pub(crate) fn fill(&mut self, want: usize, piece: &[u8]) -> usize
+        requires { (length self.old ≤ want) × (want ≤ 32) }
+        ensures count { result ≡ min (want - length self.old) (length piece.now) }
+        ensures held { self.new ≡ self.old ++ take result piece.now }
+    {
+        let count = (want - self.len).min(piece.len());
+        self.bytes[self.len..self.len + count].copy_from_slice(&piece[..count]);
+        self.len += count;
+        count
+    }
+}

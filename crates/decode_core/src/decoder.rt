@@ -1,0 +1,245 @@
+//! The streaming decoder.
+
+ghost use Rattle.std.specs.Prelude.{◌≡◌, ◌+◌, ◌++◌, ◌≤◌, ◌^◌, [], ℕ, List, Ok, IfOk, take};
+ghost use Rattle.decode_core.specs.Outcome.{Job};
+ghost use Rattle.decode_core.specs.Decoding.{Answers, Decoding, Finishes, HasValue, IsLedTo, Led, Opens, RunAnswers, RunLed, first_of_all, node_count, opening_fault, text_bytes};
+
+use crate::fault::{DecodeFault, DecodeReason, OpenFault};
+use crate::run::Run;
+use crate::turned::Stopped;
+use registry_core::TypeId;
+use std::alloc::Allocator;
+use std::marker::Model;
+use value_core::{Builder, Limits, Value};
+use widths_core::Checked;
+
+/// The greatest depth limit.
+const MAX_DEPTH: u16 = 1024;
+
+/// The greatest limit of bytes, 2^40.
+const MAX_BYTES: u64 = 1_099_511_627_776;
+
+/// How far a value is.
+#[derive(Clone, Copy, Debug, PartialEq, Eq)]
+pub enum Progress {
+    /// All bytes were taken, and the value goes on.
+    More,
+    /// The value is whole.
+    Done {
+        /// How many bytes of this piece are the value's.
+        used: u64,
+    },
+}
+
+/// A decoder of one value of a type, whose bytes come in any pieces.
+///
+/// It keeps the nodes that are there, the open ones among them, and at most 32 bytes beside; no input.
+#[derive(Drop)]
+pub struct Decoder<'r, A: Allocator> {
+    checked: &'r Checked,
+    root: TypeId,
+    limits: Limits,
+    taken: u64,
+    run: Result<Run<'r, A>, DecodeFault>,
+}
+
+impl<'r, A: Allocator> Model for Decoder<'r, A> {
+    ghost use Rattle.decode_core.specs.Decoding.{Decoding, IsDecoding};
+
+    ghost Value = { Decoding };
+
+    ghost view = { λ d. record { job = record { registry = d.checked.now; ty = d.root.0; depth = d.limits.depth; bytes = d.limits.bytes }; taken = d.taken; run = d.run } };
+
+    ghost invariant = { λ d. IsDecoding (record { job = record { registry = d.checked.now; ty = d.root.0; depth = d.limits.depth; bytes = d.limits.bytes }; taken = d.taken; run = d.run }) };
+}
+
+/// What a piece made of a value on its way.
+enum Fed {
+    /// All bytes were taken, and so many are in all.
+    More(u64),
+    /// The value is whole, with so many bytes of the piece.
+    Done(u64),
+    /// It is refused, with so many bytes taken.
+    Ended(DecodeFault, u64),
+}
+
+/// The part of the piece that is within the room for bytes.
+fn within(piece: &[u8], room: u64) -> &[u8]
+    ensures { result.now ≡ take room piece.now }
+{
+    if piece.len() as u64 > room {
+        &piece[..room as usize]
+    } else {
+        piece
+    }
+}
+
+/// Takes the turns on a piece, where `taken` bytes came before it and `limit` is their greatest number.
+fn feed_run<A: Allocator>(run: &mut Run<'_, A>, limit: u64, taken: u64, piece: &[u8]) -> Fed
+    requires led { IsLedTo run.old limit taken }
+    ensures { (j : Job) (b : List ℕ) → j.bytes ≡ limit → RunLed j b taken (Ok run.old) → RunAnswers j (b ++ piece.now) taken run.new result }
+{
+    let offered = within(piece, limit - taken);
+    match run.feed(offered) {
+        Ok((count, Stopped::Finished)) => Fed::Done(count as u64),
+        Ok((count, Stopped::Wants)) => {
+            if offered.len() < piece.len() {
+                return Fed::Ended(
+                    DecodeFault {
+                        reason: DecodeReason::TooLong,
+                        at: limit,
+                    },
+                    limit,
+                );
+            }
+            Fed::More(taken + count as u64)
+        }
+        Ok(
+            (
+                count,
+                Stopped::Refused {
+                    held,
+                    reason,
+                    at,
+                    len,
+                },
+            ),
+        ) => {
+            let node = taken + count as u64 - held as u64;
+            Fed::Ended(
+                DecodeFault {
+                    reason,
+                    at: node + at,
+                },
+                node + len as u64,
+            )
+        }
+        Err(_) => Fed::Ended(
+            DecodeFault {
+                reason: DecodeReason::OutOfMemory,
+                at: 0,
+            },
+            taken,
+        ),
+    }
+}
+
+impl<'r, A: Allocator + Clone> Decoder<'r, A> {
+    /// A decoder of a value of the root's type, within these limits, that has taken nothing. Nodes, texts and open
+    /// parts will come from the allocator and its clones.
+    ///
+    /// Refuses, in this order: with `UnknownType` an id that is no position of the registry, with `LimitOutOfRange` a
+    /// depth above 1024 or more than 2^40 bytes, and with `OutOfMemory`. Nothing is made then.
+    pub fn new(
+        alloc: A,
+        checked: &'r Checked,
+        root: TypeId,
+        limits: Limits,
+    ) -> Result<Decoder<'r, A>, OpenFault>
+        ensures opens { Opens (opening_fault checked.now root.0 limits) (first_of_all checked.now root.0 limits) result }
+        ensures led { IfOk result (λ d. Led d []) }
+    {
+        if checked.class(root).is_none() {
+            return Err(OpenFault::UnknownType);
+        }
+        if limits.depth > MAX_DEPTH || limits.bytes > MAX_BYTES {
+            return Err(OpenFault::LimitOutOfRange);
+        }
+        match Builder::new(alloc, checked, root, limits.depth) {
+            Ok(builder) => Ok(Decoder {
+                checked,
+                root,
+                limits,
+                taken: 0,
+                run: Ok(Run::new(builder)),
+            }),
+            Err(_) => Err(OpenFault::OutOfMemory),
+        }
+    }
+}
+
+impl<'r, A: Allocator> Decoder<'r, A> {
+    /// How many bytes were taken: all that were fed while the value goes on, the value's own when it is whole, and those
+    /// up to the one that decides a refusal, with it. Where memory was refused it is those taken before that call.
+    pub fn taken(&self) -> u64
+        ensures { result ≡ self.now.taken }
+    {
+        self.taken
+    }
+
+    /// How many nodes it holds; 0 after a refusal.
+    pub fn node_count(&self) -> u64
+        ensures { result ≡ node_count self.now }
+    {
+        match &self.run {
+            Ok(run) => run.node_count(),
+            Err(_) => 0,
+        }
+    }
+
+    /// How many bytes of text it holds, those of a text that is not there whole too; 0 after a refusal.
+    pub fn text_bytes(&self) -> u64
+        ensures { result ≡ text_bytes self.now }
+    {
+        match &self.run {
+            Ok(run) => run.text_bytes(),
+            Err(_) => 0,
+        }
+    }
+
+    /// Takes the next piece of the value's bytes (SCALE codec specification; which types a value has, by scale-info's
+    /// registry). However the bytes are cut, the answer to each piece is that to all bytes so far.
+    ///
+    /// Answers `More` where the next node needs a byte that is not there, and `Done` in the call that brings the value's
+    /// last byte; bytes behind it are not used, and every later call answers `Done` with none used.
+    ///
+    /// Refuses in the call that brings the deciding byte, with the place from the value's first byte: what the grammar
+    /// refuses first; `TooLong` at the limit of bytes where the value is unfinished there and one more is offered; and
+    /// `OutOfMemory` at 0. It then holds no node and no text, and every later call is refused with the same.
+    pub fn feed(&mut self, piece: &[u8]) -> Result<Progress, DecodeFault>
+        ensures job { self.new.job ≡ self.old.job }
+        ensures value { HasValue self.new result }
+        ensures answers { (b : List ℕ) → Led self.old b → Answers self.old self.new (b ++ piece.now) result × Led self.new (b ++ piece.now) }
+    {
+        let fed = match &mut self.run {
+            Err(fault) => return Err(*fault),
+            Ok(run) => feed_run(run, self.limits.bytes, self.taken, piece),
+        };
+        match fed {
+            Fed::More(taken) => {
+                self.taken = taken;
+                Ok(Progress::More)
+            }
+            Fed::Done(used) => {
+                self.taken += used;
+                Ok(Progress::Done { used })
+            }
+            Fed::Ended(fault, taken) => {
+                self.taken = taken;
+                self.run = Err(fault);
+                Err(fault)
+            }
+        }
+    }
+
+    /// The value, where it is whole; first it does what a piece of no bytes does.
+    ///
+    /// Refuses a value that is unfinished as `Truncated` at the number of bytes that were fed, and else as `feed` did.
+    /// Nothing comes back then.
+    pub fn finish(self) -> Result<Value<'r, A>, DecodeFault>
+        ensures { (b : List ℕ) → Led self.entry b → Finishes self.entry.job b result }
+    {
+        let mut decoder = self;
+        if let Progress::More = decoder.feed(&[])? {
+            return Err(DecodeFault {
+                reason: DecodeReason::Truncated,
+                at: decoder.taken,
+            });
+        }
+        let Decoder { run, .. } = decoder;
+        match run?.into_value() {
+            Some(value) => Ok(value),
+            None => unreachable!(),
+        }
+    }
+}

@@ -1,0 +1,93 @@
+//! What holds of every outcome.
+
+ghost use Rattle.decode_core.specs.Begins.{FaultIsBegun};
+ghost use Rattle.decode_core.specs.Holds.{BegunIsBounded, BegunIsMissing, MissingIsBegun};
+ghost use Rattle.decode_core.specs.Held.{HeldIsBounded, MoreHolds, OneBegun};
+ghost use Rattle.decode_core.specs.Holding.{FeedsCompute, FeedsHold, FeedsHoldComputed};
+ghost use Rattle.decode_core.specs.Machine.{FeedsAnswer};
+ghost use Rattle.decode_core.specs.Outcome.{EncodedIsDone, OneOutcome, OutcomeIsComputed, OutcomeIsKept, TakenByFault, TakenIsShortest};
+
+/// What is encoded within the limits is decoded, and all of it is taken.
+pub fn encoded_is_done()
+    ensures { EncodedIsDone }
+{}
+
+/// An input has one outcome at most.
+pub fn one_outcome()
+    ensures { OneOutcome }
+{}
+
+/// Where bytes are missing, a begun tree is held.
+pub fn missing_is_begun()
+    ensures { MissingIsBegun }
+{}
+
+/// A begun tree has few levels, nodes and texts for its bytes.
+pub fn begun_is_bounded()
+    ensures { BegunIsBounded }
+{}
+
+/// Every input has the outcome that is computed.
+pub fn outcome_is_computed()
+    ensures { OutcomeIsComputed }
+{}
+
+/// What is taken where a value is refused is the shortest front that is refused so.
+pub fn taken_is_shortest()
+    ensures { TakenIsShortest }
+{}
+
+/// Where a begun tree is held, bytes are missing, and there is no other.
+pub fn begun_is_missing()
+    ensures { BegunIsMissing }
+{}
+
+/// An outcome that is decided is kept, whatever bytes follow.
+pub fn outcome_is_kept()
+    ensures { OutcomeIsKept }
+{}
+
+/// What is held of an input is little for the bytes taken.
+pub fn held_is_bounded()
+    ensures { HeldIsBounded }
+{}
+
+/// An input has one begun tree at most.
+pub fn one_begun()
+    ensures { OneBegun }
+{}
+
+/// What is taken where a value is refused, by the fault alone.
+pub fn taken_by_fault()
+    ensures { TakenByFault }
+{}
+
+/// More is wanted exactly where a begun tree is held.
+pub fn more_holds()
+    ensures { MoreHolds }
+{}
+
+/// However the input is cut, the answer to each piece is the outcome of all bytes so far.
+pub fn feeds_answer()
+    ensures { FeedsAnswer }
+{}
+
+/// What is added before a fault is a begun tree.
+pub fn fault_is_begun()
+    ensures { FaultIsBegun }
+{}
+
+/// After each piece the machine holds a begun tree, and few nodes and frames.
+pub fn feeds_hold()
+    ensures { FeedsHold }
+{}
+
+/// Where the machine waits, it holds the begun tree that is computed.
+pub fn feeds_hold_computed()
+    ensures { FeedsHoldComputed }
+{}
+
+/// The answer to each piece is the outcome that is computed of all bytes so far.
+pub fn feeds_compute()
+    ensures { FeedsCompute }
+{}

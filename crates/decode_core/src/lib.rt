@@ -1,0 +1,14 @@
+//! The streaming decoder: bytes in any pieces to a value of a type, or to a refusal with its reason and place.
+#![tactic(auto)]
+
+mod carry;
+mod decoder;
+mod fault;
+pub mod laws;
+mod need;
+mod node;
+mod run;
+mod turned;
+
+pub use decoder::{Decoder, Progress};
+pub use fault::{DecodeFault, DecodeReason, OpenFault};

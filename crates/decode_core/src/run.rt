@@ -1,0 +1,293 @@
+//! A decoder on its way: it takes its input turn by turn.
+
+ghost use Rattle.std.specs.Prelude.{ℕ, List, true, ◌≡◌, ◌<◌, ◌≤◌, ◌+◌, ◌++◌, [], length, take, drop, None, Some, suc, IfOk, OnOk, OnErr};
+ghost use Rattle.decode_core.specs.Running.{IsCarry, IsFresh, IsText, IsTextNext};
+ghost use Rattle.value_core.specs.Walked.{next_of};
+ghost use Rattle.value_core.specs.Built.{built_text_bytes, finished};
+ghost use Rattle.value_core.specs.Refusals.{is_whole};
+ghost use Rattle.decode_core.specs.Needs.{AreOwn, HasBytes, IsFirst, IsNeeded};
+ghost use Rattle.decode_core.specs.NodeAdds.{TakesNode};
+ghost use Rattle.decode_core.specs.Turned.{BareTells, EndTells, FeedTells, StepTells, node_turned};
+
+use crate::carry::Carry;
+use crate::fault::DecodeReason;
+use crate::need::need;
+use crate::node::{NodeFault, add_bare, add_node, open_text};
+use crate::turned::{Stopped, Turned};
+use registry_core::Primitive;
+use scale_core::compact_len;
+use std::alloc::{AllocError, Allocator};
+use std::marker::Model;
+use value_core::{BuildFault, Builder, Form, Next, Value};
+
+/// A text that is open: how many bytes it is to have, and how many of them are missing.
+#[derive(Clone, Copy)]
+pub(crate) struct OpenText {
+    pub(crate) len: u32,
+    pub(crate) missing: u32,
+}
+
+/// A value on its way: what is built of it, and the bytes that are not enough for the next node. The bytes of a text
+/// that is open are in the builder.
+#[derive(Drop)]
+pub(crate) struct Run<'r, A: Allocator> {
+    builder: Builder<'r, A>,
+    carry: Carry,
+    text: Option<OpenText>,
+}
+
+impl<'r, A: Allocator> Model for Run<'r, A> {
+    ghost use Rattle.decode_core.specs.Running.{Running, IsRunning};
+
+    ghost Value = { Running };
+
+    ghost view = { λ s. record { built = s.builder; carry = s.carry } };
+
+    ghost invariant = { λ s. IsRunning s.builder s.carry s.text };
+}
+
+/// Adds the next node by its own bytes, or opens the text that is next by those of its length.
+fn take_node<A: Allocator>(
+    builder: &mut Builder<'_, A>,
+    text: &mut Option<OpenText>,
+    form: Form,
+    own: &[u8],
+) -> Result<(), NodeFault>
+    requires next { next_of builder.old.walk ≡ Next.Wants form }
+    requires some { HasBytes form }
+    requires closed { builder.old.text ≡ None }
+    requires no_text { text.old ≡ None }
+    requires whole { AreOwn form own.now }
+    ensures { TakesNode form builder.old builder.new text.new own.now result }
+{
+    match form {
+        Form::Primitive(Primitive::Str) => {
+            let len = open_text(builder, own)?;
+            *text = Some(OpenText { len, missing: len });
+            Ok(())
+        }
+        _ => add_node(builder, form, own),
+    }
+}
+
+/// What a turn did that took the next node's own bytes, of which the last `count` are the piece's.
+fn node_turn(taken: Result<(), NodeFault>, held: usize, count: usize, len: usize) -> Turned
+    ensures { result ≡ node_turned taken held count len }
+{
+    match taken {
+        Ok(()) => Turned::On(count),
+        Err(NodeFault::Refused(reason, at)) => Turned::Stopped(Stopped::Refused {
+            held,
+            reason,
+            at,
+            len,
+        }),
+        Err(NodeFault::OutOfMemory) => Turned::OutOfMemory,
+    }
+}
+
+impl<'r, A: Allocator> Run<'r, A> {
+    /// A value of which nothing came.
+    pub(crate) fn new(builder: Builder<'r, A>) -> Run<'r, A>
+        requires fresh { IsFresh builder }
+        ensures { result ≡ record { built = builder.entry; carry = [] } }
+    {
+        Run {
+            builder,
+            carry: Carry::new(),
+            text: None,
+        }
+    }
+
+    /// The value that is whole.
+    pub(crate) fn into_value(self) -> Option<Value<'r, A>>
+        requires { is_whole self.built ≡ true }
+        ensures { result ≡ Some (finished self.entry.built) }
+    {
+        self.builder.finish().ok()
+    }
+
+    /// How many nodes it has.
+    pub(crate) fn node_count(&self) -> u64
+        ensures { result ≡ length self.now.built.entries }
+    {
+        self.builder.node_count()
+    }
+
+    /// How many bytes of text it has, those of an open text too.
+    pub(crate) fn text_bytes(&self) -> u64
+        ensures { result ≡ built_text_bytes self.now.built }
+    {
+        self.builder.text_bytes()
+    }
+
+    /// A turn on a node without bytes of its own.
+    fn bare_turn(&mut self, form: Form) -> Turned
+        requires next { next_of self.old.built.walk ≡ Next.Wants form }
+        requires bare { HasBytes form → ⊥ }
+        requires closed { self.old.built.text ≡ None }
+        ensures { BareTells self.old self.new result }
+    {
+        match add_bare(&mut self.builder, form) {
+            Ok(()) => Turned::On(0),
+            Err(_) => Turned::OutOfMemory,
+        }
+    }
+
+    /// The first of the next node's bytes, be it carried or the piece's.
+    fn first_byte(&self, piece: &[u8]) -> u8
+        requires { 1 ≤ length piece.now }
+        ensures { IsFirst result (self.now.carry ++ piece.now) }
+    {
+        match self.carry.as_slice().first() {
+            Some(first) => *first,
+            None => piece[0],
+        }
+    }
+
+    /// A turn on a node whose own bytes the piece has whole.
+    fn whole_turn(&mut self, form: Form, own: &[u8]) -> Turned
+        requires next { next_of self.old.built.walk ≡ Next.Wants form }
+        requires some { HasBytes form }
+        requires closed { self.old.built.text ≡ None }
+        requires empty { self.old.carry ≡ [] }
+        requires whole { AreOwn form own.now }
+        ensures { (rest : List ℕ) → StepTells self.old self.new (own.now ++ rest) result }
+    {
+        let taken = take_node(&mut self.builder, &mut self.text, form, own);
+        node_turn(taken, 0, own.len(), own.len())
+    }
+
+    /// A turn on a node of `len` own bytes that pieces cut: those that are carried, and as many of the piece's as are
+    /// missing or there.
+    fn cut_turn(&mut self, form: Form, len: usize, piece: &[u8]) -> Turned
+        requires next { next_of self.old.built.walk ≡ Next.Wants form }
+        requires some { HasBytes form }
+        requires closed { self.old.built.text ≡ None }
+        requires piece { 1 ≤ length piece.now }
+        requires len { IsNeeded form len (self.old.carry ++ piece.now) }
+        requires short { length self.old.carry < len }
+        requires bound { len ≤ 32 }
+        ensures { StepTells self.old self.new piece.now result }
+    {
+        let held = self.carry.as_slice().len();
+        let count = self.carry.fill(len, piece);
+        if held + count < len {
+            return Turned::On(count);
+        }
+        let taken = take_node(
+            &mut self.builder,
+            &mut self.text,
+            form,
+            self.carry.as_slice(),
+        );
+        self.carry.clear();
+        node_turn(taken, held, count, len)
+    }
+
+    /// A turn on a node with bytes of its own, other than a text that is open.
+    fn own_turn(&mut self, form: Form, piece: &[u8]) -> Turned
+        requires next { next_of self.old.built.walk ≡ Next.Wants form }
+        requires some { HasBytes form }
+        requires closed { self.old.built.text ≡ None }
+        requires carried { IsCarry self.old.built self.old.carry }
+        ensures { StepTells self.old self.new piece.now result }
+    {
+        if piece.is_empty() {
+            return Turned::Stopped(Stopped::Wants);
+        }
+        let len = need(form, self.first_byte(piece));
+        if self.carry.as_slice().is_empty() && len <= piece.len() {
+            return self.whole_turn(form, &piece[..len]);
+        }
+        self.cut_turn(form, len, piece)
+    }
+
+    /// A turn on the bytes of the text that is open.
+    fn text_turn(&mut self, text: OpenText, piece: &[u8]) -> Turned
+        requires next { IsTextNext self.old.built self.old.carry self.old.built.text }
+        requires open { IsText self.old.built.text (Some text) }
+        ensures { StepTells self.old self.new piece.now result }
+    {
+        if text.missing == 0 {
+            return self.text_end(text);
+        }
+        if piece.is_empty() {
+            return Turned::Stopped(Stopped::Wants);
+        }
+        let count = piece.len().min(text.missing as usize);
+        match self.builder.text_piece(&piece[..count]) {
+            Ok(()) => {
+                let missing = text.missing - count as u32;
+                self.text = Some(OpenText {
+                    len: text.len,
+                    missing,
+                });
+                Turned::On(count)
+            }
+            Err(_) => Turned::OutOfMemory,
+        }
+    }
+
+    /// A turn that ends the text that is open, whose bytes are all there.
+    fn text_end(&mut self, text: OpenText) -> Turned
+        requires next { IsTextNext self.old.built self.old.carry self.old.built.text }
+        requires open { IsText self.old.built.text (Some text) }
+        requires whole { text.missing ≡ 0 }
+        ensures { EndTells self.old self.new result }
+    {
+        match self.builder.text_end() {
+            Ok(()) => {
+                self.text = None;
+                Turned::On(0)
+            }
+            Err(BuildFault::BadText { valid }) => {
+                let before = compact_len(u128::from(text.len));
+                let len = before + text.len as usize;
+                Turned::Stopped(Stopped::Refused {
+                    held: len,
+                    reason: DecodeReason::BadUtf8,
+                    at: before as u64 + valid,
+                    len,
+                })
+            }
+            Err(_) => Turned::OutOfMemory,
+        }
+    }
+
+    /// One turn: takes bytes of the piece, adds a node, or stops.
+    fn turn(&mut self, piece: &[u8]) -> Turned
+        ensures { StepTells self.old self.new piece.now result }
+    {
+        match self.builder.walk().next() {
+            Next::Finished => Turned::Stopped(Stopped::Finished),
+            Next::Stop(reason) => Turned::Stopped(Stopped::Refused {
+                held: 0,
+                reason: reason.into(),
+                at: 0,
+                len: 0,
+            }),
+            Next::Wants(form) => match self.text {
+                Some(text) => self.text_turn(text, piece),
+                None => match form {
+                    Form::Empty | Form::Fields | Form::Array(_) => self.bare_turn(form),
+                    _ => self.own_turn(form, piece),
+                },
+            },
+        }
+    }
+
+    /// Takes turns until one stops: how many bytes of the piece they took, and why.
+    pub(crate) fn feed(&mut self, piece: &[u8]) -> Result<(usize, Stopped), AllocError>
+        ensures { IfOk result (λ x. FeedTells self.old self.new piece.now x.0 x.1) }
+    {
+        let mut at = 0;
+        'turns: loop {
+            match self.turn(&piece[at..]) {
+                Turned::On(count) => at += count,
+                Turned::Stopped(stopped) => return Ok((at, stopped)),
+                Turned::OutOfMemory => return Err(AllocError),
+            }
+        }
+    }
+}

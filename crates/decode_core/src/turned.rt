@@ -1,0 +1,32 @@
+//! What a turn of the decoder did.
+
+use crate::fault::DecodeReason;
+
+/// Why no turn follows.
+#[derive(Clone, Copy, Debug, PartialEq, Eq)]
+pub(crate) enum Stopped {
+    /// The value is whole.
+    Finished,
+    /// The next node needs a byte that is not there.
+    Wants,
+    /// The next node is refused.
+    Refused {
+        /// How many bytes before the turn were no node's yet.
+        held: usize,
+        reason: DecodeReason,
+        /// The place, from the node's first byte.
+        at: u64,
+        /// How many bytes of the node decide it.
+        len: usize,
+    },
+}
+
+/// What a turn did.
+#[derive(Clone, Copy, Debug, PartialEq, Eq)]
+pub(crate) enum Turned {
+    /// It took so many bytes of the piece, or added a node, and goes on.
+    On(usize),
+    Stopped(Stopped),
+    /// Memory was refused.
+    OutOfMemory,
+}
