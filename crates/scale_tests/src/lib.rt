@@ -26,6 +26,8 @@ mod encoder_devices;
 #[cfg(test)]
 mod integers;
 #[cfg(test)]
+mod json;
+#[cfg(test)]
 mod memory;
 #[cfg(test)]
 mod paced;

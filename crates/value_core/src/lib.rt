@@ -24,4 +24,4 @@ pub use node_ref::NodeRef;
 pub use value::Value;
 pub use walk::Walk;
 pub use what::What;
-pub use writing::{WriteFault, encode};
+pub use writing::{WriteFault, encode, send};

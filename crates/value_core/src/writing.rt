@@ -149,8 +149,15 @@ fn pooled<'v>(node: &Node, pool: &'v [u8]) -> &'v [u8]
     }
 }
 
-/// Writes all the bytes; where a write fails, it tells how many went out before.
-fn send<W: Write>(sink: &mut Sink<W>, bytes: &[u8]) -> Result<(), WriteFault>
+/// Writes all the bytes. Where there are none, no write is made.
+///
+/// Refuses, and tells how many bytes went out in all:
+/// - `Device`, where the writer answers an error; an interrupted write is one;
+/// - `WroteNothing`, where the writer takes no byte of a part that is not empty.
+///
+/// The sink has failed from then on, and what went out is the beginning of the bytes. Where all went out `failed()`
+/// stays as it was.
+pub fn send<W: Write>(sink: &mut Sink<W>, bytes: &[u8]) -> Result<(), WriteFault>
     ensures ok { OnOk result (Appends (W.contents sink.old.device) (W.contents sink.new.device) bytes.now) }
     ensures part { IfErr result (λ f. f.written ≤ length bytes.now) }
     ensures err { IfErr result (λ f. Appends (W.contents sink.old.device) (W.contents sink.new.device) (take f.written bytes.now)) }

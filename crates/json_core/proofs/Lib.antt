@@ -1,0 +1,5 @@
+pub mod Children
+pub mod Floats
+pub mod Names
+pub mod Printed
+pub mod Told

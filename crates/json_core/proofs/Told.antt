@@ -1,0 +1,254 @@
+-- A node of a value, by what it is: the JSON that its definition and its children give is that of the value.
+use Rattle.std.proofs.Common.{◌≡◌, ℕ, ◌-◌, ◌*◌, ◌^◌, ◌<◌, ◌≤◌, ◌⊎◌, Bool, true, false, cond, List, length, Option, Some, None, refl, sym, ap, subst, ◌∙◌, arith, inl, inr, true≢false, Bor, Result, option_map}
+use Rattle.std.specs.Option.{IsSome}
+use Rattle.std.specs.Result.{IfOk}
+use Rattle.std.proofs.lemmas.Bool.{ltb-true, ltb-false}
+use Rattle.std.specs.Int.{w64}
+use Rattle.std.specs.Prelude.{ℤ, pos, neg_ℤ, nat_lt, nat_le, codes, FitsSigned, slice_get}
+use Rattle.std.specs.Char.{encode_utf8}
+use Rattle.serde_json.specs.Data.{Data, Items, no_members, member}
+use Rattle.serde_json.specs.Data as json
+use Rattle.scale_core.specs.Number.{AreBytes, number, signed_number}
+use Rattle.scale_core.specs.Compact.{IsCompact, target_bytes}
+use Rattle.scale_core.specs.declared.compact.Target.{Target}
+use Rattle.scale_core.specs.declared.compact.Target.TheVariants as target
+use Rattle.scale_core.proofs.Numbers.{number-bound, neg-pos}
+use Rattle.registry_core.specs.declared.definition.Arm.{Arm}
+use Rattle.registry_core.specs.declared.definition.TypeDef.{TypeDef}
+use Rattle.registry_core.specs.declared.definition.TypeDef.TheVariants as Def
+use Rattle.registry_core.specs.declared.primitive.Primitive.{Primitive}
+use Rattle.registry_core.specs.declared.primitive.Primitive.TheVariants as P
+use Rattle.registry_core.specs.declared.type_info.TypeInfo.{TypeInfo}
+use Rattle.widths_core.specs.Types.{shape, field_types}
+use Rattle.widths_core.specs.Arms.{arm_of}
+use Rattle.widths_core.specs.Classes.{is_empty}
+use Rattle.widths_core.specs.Targets.{target_of, compact_target_of, compact_target_of_shape}
+use Rattle.widths_core.specs.Layouts.{Layout, layout, layout_of_shape, sized_layout, primitive_layout, sequence_layout, compact_layout}
+use Rattle.widths_core.specs.Layouts as layout
+use Rattle.grammar_core.specs.Tree.{Tree, Trees, how_many}
+use Rattle.grammar_core.specs.Tree as tree
+use Rattle.grammar_core.specs.Grammar.{Val, Vals}
+use Rattle.grammar_core.specs.Parts.{Part, times}
+use Rattle.grammar_core.specs.Cells.{fields_part, arm_part, list_part}
+use Rattle.grammar_core.proofs.Emptiness.{compact_value_of}
+use Rattle.value_core.specs.Shown.{Seen, IsValue, seen_parts, children_by, children_of, text_of}
+use Rattle.value_core.specs.Whats.{what_of}
+use Rattle.value_core.specs.declared.what.What.{What}
+use Rattle.value_core.specs.declared.what.What.TheVariants as what
+use Rattle.value_core.proofs.Below.{arm_get, arm_part_is}
+use Rattle.json_core.specs.Defined.{unsigned_by, signed_by, is_long, is_long_target, arm_in}
+use Rattle.json_core.specs.Json.{json_of, json_seen, all_json, each_json, unsigned_json, signed_json, unsigned_of, signed_of, wide_json, parts_json, fields_json, arm_json, arm_at, arm_types, part_types, element_type}
+use Rattle.json_core.proofs.Children.{jsons, all_is, each_is}
+
+-- ---- what the layout of a type says of its definition
+
+-- integers of k bytes are long, or so many numbers fit 64 bits
+abbrev Long : ℕ → Bool → Type 0
+Long k is = ((is ≡ true) × (nat_le k 8 ≡ false)) ⊎ ((is ≡ false) × (nat_le k 8 ≡ true) × (256 ^ k ≤ 2 ^ 64))
+
+abbrev Defined : List TypeInfo → Layout → Option TypeDef → Type 0
+Defined r (layout.unsigned k) d = Long k (is_long d)
+Defined r (layout.signed k) d = Long k (is_long d)
+Defined r (layout.arms as') d = d ≡ Some (Def.Variant as')
+Defined r (layout.compact m) d = compact_target_of_shape r d ≡ Some m
+Defined r _ d = Unit {0}
+
+defined_primitive : (r : List TypeInfo) (p : Primitive) → Defined r (primitive_layout p) (Some (Def.Primitive p))
+defined_primitive r P.Bool = tt
+defined_primitive r P.Char = tt
+defined_primitive r P.Str = tt
+defined_primitive r P.U8 = inr (refl, refl, omega arith)
+defined_primitive r P.U16 = inr (refl, refl, omega arith)
+defined_primitive r P.U32 = inr (refl, refl, omega arith)
+defined_primitive r P.U64 = inr (refl, refl, omega arith)
+defined_primitive r P.U128 = inl (refl, refl)
+defined_primitive r P.U256 = tt
+defined_primitive r P.I8 = inr (refl, refl, omega arith)
+defined_primitive r P.I16 = inr (refl, refl, omega arith)
+defined_primitive r P.I32 = inr (refl, refl, omega arith)
+defined_primitive r P.I64 = inr (refl, refl, omega arith)
+defined_primitive r P.I128 = inl (refl, refl)
+defined_primitive r P.I256 = tt
+
+defined_sequence : (r : List TypeInfo) (t : ℕ) (e : Bool) (d : Option TypeDef) → Defined r (sequence_layout t e) d
+defined_sequence r t true d = tt
+defined_sequence r t false d = tt
+
+defined_compact : (r : List TypeInfo) (o : Option Target) (d : Option TypeDef) → compact_target_of_shape r d ≡ o → Defined r (compact_layout o) d
+defined_compact r (Some m) d e = e
+defined_compact r None d e = tt
+
+defined_sized : (r : List TypeInfo) (d : TypeDef) → Defined r (sized_layout r d) (Some d)
+defined_sized r (Def.Composite fs) = tt
+defined_sized r (Def.Variant as') = refl
+defined_sized r (Def.Sequence t) = defined_sequence r t.0 (is_empty r t.0) (Some (Def.Sequence t))
+defined_sized r (Def.Array n t) = tt
+defined_sized r (Def.Tuple ts) = tt
+defined_sized r (Def.Primitive p) = defined_primitive r p
+defined_sized r (Def.Compact t) = defined_compact r (target_of r t.0) (Some (Def.Compact t)) refl
+defined_sized r (Def.BitSequence store order) = tt
+
+defined_from : (r : List TypeInfo) (e : Bool) (d : Option TypeDef) → Defined r (layout_of_shape r e d) d
+defined_from r true d = tt
+defined_from r false (Some d) = defined_sized r d
+defined_from r false None = tt
+
+defined : (r : List TypeInfo) (t : ℕ) → Defined r (layout r t) (shape r t)
+unfolding layout
+defined r t = defined_from r (is_empty r t) (shape r t)
+
+defined_at : (r : List TypeInfo) (t : ℕ) (f : Layout) → layout r t ≡ f → Defined r f (shape r t)
+defined_at r t f e = subst (λ (g : Layout). Defined r g (shape r t)) e (defined r t)
+
+-- ---- integers
+
+unsigned_same : (k n : ℕ) (is : Bool) → Long k is → unsigned_json k n ≡ unsigned_by is n
+unsigned_same k n is (inl h) = rw (h.0, h.1) refl
+unsigned_same k n is (inr h) = rw (h.0, h.1) refl
+
+signed_same : (k : ℕ) (z : ℤ) (is : Bool) → Long k is → signed_json k z ≡ signed_by is z
+signed_same k z is (inl h) = rw (h.0, h.1) refl
+signed_same k z is (inr h) = rw (h.0, h.1) refl
+
+short : (k : ℕ) (is : Bool) → Long k is → is ≡ false → 256 ^ k ≤ 2 ^ 64
+short k is (inl h) e = absurd (true≢false (sym h.0 ∙ e))
+short k is (inr h) e = h.2
+
+signed_within : (range n : ℕ) (c : Bool) → nat_lt (2 * n) range ≡ c → n < range → range ≤ 2 ^ 64 → FitsSigned w64 (cond c (pos n) (neg_ℤ (pos (range - n))))
+signed_within range n true e less small = let half = ltb-true (2 * n) range e in omega (arith, half, small)
+signed_within range n false e less small =
+    let half = ltb-false (2 * n) range e in
+    rw (neg-pos (range - n) (omega (arith, less))) (omega (arith, half, less, small))
+
+signed_fits : (b : List ℕ) → AreBytes b → 256 ^ length b ≤ 2 ^ 64 → FitsSigned w64 (signed_number b)
+signed_fits b h small = signed_within (256 ^ length b) (number b) (nat_lt (2 * number b) (256 ^ length b)) refl (number-bound b h) small
+
+long_target : (m : Target) → Long (target_bytes m) (is_long_target (Some m))
+long_target target.Unit = inr (refl, refl, omega arith)
+long_target target.U8 = inr (refl, refl, omega arith)
+long_target target.U16 = inr (refl, refl, omega arith)
+long_target target.U32 = inr (refl, refl, omega arith)
+long_target target.U64 = inr (refl, refl, omega arith)
+long_target target.U128 = inl (refl, refl)
+
+compact_bound : (m : Target) (x : ℕ) (b : List ℕ) → IsCompact m x b → x < 256 ^ target_bytes m
+compact_bound target.Unit x b h = omega (arith, h.0)
+compact_bound target.U8 x b h = h.0
+compact_bound target.U16 x b h = h.0
+compact_bound target.U32 x b h = h.0
+compact_bound target.U64 x b h = h.0
+compact_bound target.U128 x b h = h.0
+
+-- ---- a node by what it is
+
+abbrev pub Told : List TypeInfo → ℕ → Tree → What → Type 0
+Told r t v what.Empty = json_of r t v ≡ json.null
+Told r t v (what.Bool b) = json_of r t v ≡ json.boolean b
+Told r t v (what.Char c) = json_of r t v ≡ json.string (encode_utf8 c)
+Told r t v what.Text = (s : List ℕ) × (text_of v ≡ Some s) × (json_of r t v ≡ json.string s)
+Told r t v (what.Unsigned n) = (is_long (shape r t) ≡ false → n < 2 ^ 64) × (json_of r t v ≡ unsigned_by (is_long (shape r t)) n)
+Told r t v (what.Signed z) = (is_long (shape r t) ≡ false → FitsSigned w64 z) × (json_of r t v ≡ signed_by (is_long (shape r t)) z)
+Told r t v (what.Wide s) = json_of r t v ≡ wide_json s
+Told r t v (what.Compact n) = (is_long_target (compact_target_of r t) ≡ false → n < 2 ^ 64) × (json_of r t v ≡ unsigned_by (is_long_target (compact_target_of r t)) n)
+Told r t v what.Fields = json_of r t v ≡ parts_json (shape r t) (jsons (children_by r t v))
+Told r t v (what.Arm q) = (a : Arm) × (arm_in (shape r t) q ≡ Some a) × (json_of r t v ≡ json.object (member a.name (fields_json a.fields (jsons (children_by r t v))) no_members))
+Told r t v what.List = json_of r t v ≡ json.array (jsons (children_by r t v))
+Told r t v (what.Count k) = json_of r t v ≡ json.object (member (codes "count") (json.number (json.unsigned k)) no_members)
+
+unsigned_told : (r : List TypeInfo) (t n k : ℕ) (b : List ℕ) → AreBytes b → layout r t ≡ layout.unsigned k → length b ≡ k → number b ≡ n → Told r t (tree.unsigned n) (what.Unsigned n)
+unfolding json_of
+unsigned_told r t n k b are e len is =
+    let long = defined_at r t (layout.unsigned k) e in
+    let less : n < 256 ^ k = rw (← is, ← len) (number-bound b are) in (
+      λ h. omega (arith, less, short k _ long h),
+      ap (λ (f : Layout). unsigned_of f n) e ∙ unsigned_same k n _ long,
+    )
+
+signed_told : (r : List TypeInfo) (t k : ℕ) (z : ℤ) (b : List ℕ) → AreBytes b → layout r t ≡ layout.signed k → length b ≡ k → signed_number b ≡ z → Told r t (tree.signed z) (what.Signed z)
+unfolding json_of
+signed_told r t k z b are e len is =
+    let long = defined_at r t (layout.signed k) e in (
+      λ h. subst (FitsSigned w64) is (signed_fits b are (rw len (short k _ long h))),
+      ap (λ (f : Layout). signed_of f z) e ∙ signed_same k z _ long,
+    )
+
+compact_told : (r : List TypeInfo) (t x : ℕ) (m : Target) (b : List ℕ) → layout r t ≡ layout.compact m → IsCompact m x b → Told r t (tree.compact x) (what.Compact x)
+unfolding json_of
+compact_told r t x m b e h =
+    let is : compact_target_of r t ≡ Some m = defined_at r t (layout.compact m) e in
+    let long : Long (target_bytes m) (is_long_target (compact_target_of r t)) = rw is (long_target m) in (
+      λ s. omega (arith, compact_bound m x b h, short (target_bytes m) _ long s),
+      ap (λ (f : Layout). unsigned_of f x) e ∙ unsigned_same (target_bytes m) x _ long,
+    )
+
+fields_told : (r : List TypeInfo) (t : ℕ) (ts : List ℕ) (vs : Trees) (b : List ℕ) → layout r t ≡ layout.fields ts → Vals r ts vs b → Told r t (tree.fields vs) what.Fields
+unfolding json_of
+fields_told r t ts vs b e h =
+    let parts : jsons (seen_parts r (fields_part (layout r t)) vs) ≡ all_json r ts vs = ap (λ (f : Layout). jsons (seen_parts r (fields_part f) vs)) e ∙ all_is r ts vs b h in
+    ap (parts_json (shape r t)) (ap (λ (f : Layout). all_json r (part_types f) vs) e ∙ sym parts)
+
+arm_told : (r : List TypeInfo) (t q i : ℕ) (arms : List Arm) (a : Arm) (vs : Trees) (b : List ℕ) → layout r t ≡ layout.arms arms → arm_of arms i ≡ Some (q, a) → Vals r (field_types a.fields) vs b → Told r t (tree.arm q vs) (what.Arm q)
+unfolding json_of
+arm_told r t q i arms a vs b e f h =
+    let got : slice_get arms q ≡ Some a = arm_get arms i q a f in
+    let at : arm_at (layout r t) q ≡ Some a = ap (λ (g : Layout). arm_at g q) e ∙ got in
+    let parts : jsons (seen_parts r (arm_part (layout r t) q) vs) ≡ all_json r (field_types a.fields) vs = ap (λ (p : Part). jsons (seen_parts r p vs)) (arm_part_is r t q arms i a e f) ∙ all_is r (field_types a.fields) vs b h in (
+      a,
+      ap (λ (d : Option TypeDef). arm_in d q) (defined_at r t (layout.arms arms) e) ∙ got,
+      ap (λ (o : Option Arm). arm_json o (all_json r (arm_types o) vs)) at ∙ ap (arm_json (Some a)) (sym parts),
+    )
+
+list_told : (r : List TypeInfo) (t u : ℕ) (vs : Trees) → element_type (layout r t) ≡ u → list_part (layout r t) (how_many vs) ≡ times (how_many vs) u → Told r t (tree.list vs) what.List
+unfolding json_of
+list_told r t u vs e p = ap json.array (ap (λ (x : ℕ). each_json r x vs) e ∙ sym (each_is r u vs) ∙ sym (ap (λ (q : Part). jsons (seen_parts r q vs)) p))
+
+told_by : (r : List TypeInfo) (t : ℕ) (v : Tree) (b : List ℕ) → AreBytes b → Val r t v b → Told r t v (what_of v)
+unfolding Val json_of
+told_by r t tree.unit b are h = refl
+told_by r t (tree.bool x) b are h = refl
+told_by r t (tree.char c) b are h = refl
+told_by r t (tree.text s) b are h = (s, refl, refl)
+told_by r t (tree.unsigned n) b are h = unsigned_told r t n h.0 b are h.1 h.2 h.3
+told_by r t (tree.signed z) b are h = signed_told r t h.0 z b are h.1 h.2 h.3
+told_by r t (tree.wide s) b are h = refl
+told_by r t (tree.compact x) b are h = let c = compact_value_of (layout r t) x b h in compact_told r t x c.0 b c.1 c.2
+told_by r t (tree.fields vs) b are h = fields_told r t h.0 vs b h.1 h.2
+told_by r t (tree.arm q vs) b are h = arm_told r t q h.1 h.0 h.2 vs h.3 h.4 h.5 h.7
+told_by r t (tree.list vs) b are (inl h) = list_told r t h.1 vs (ap element_type h.2) (ap (λ (f : Layout). list_part f (how_many vs)) h.2)
+told_by r t (tree.list vs) b are (inr h) = list_told r t h.0 vs (ap element_type h.3) (ap (λ (f : Layout). list_part f (how_many vs)) h.3)
+told_by r t (tree.count k) b are h = refl
+
+pub told : (s : Seen) (w : What) → IsValue s → w ≡ what_of s.tree → Told s.types s.ty s.tree w
+told s w h e = subst (Told s.types s.ty s.tree) (sym e) (told_by s.types s.ty s.tree h.0 h.1 h.2)
+
+-- ---- what the code has found of the node's type
+
+abbrev pub AtNode : Seen → List TypeInfo → ℕ → Type 0
+AtNode s types t = (types ≡ s.types) × (t ≡ s.ty)
+
+pub long_here : (s : Seen) (types : List TypeInfo) (t : ℕ) (found : Bool) → AtNode s types t → found ≡ is_long (shape types t) → found ≡ is_long (shape s.types s.ty)
+long_here s types t found at e = rw (← at.0, ← at.1) e
+
+pub long_compact_here : (s : Seen) (types : List TypeInfo) (t : ℕ) (found : Bool) → AtNode s types t → found ≡ is_long_target (compact_target_of types t) → found ≡ is_long_target (compact_target_of s.types s.ty)
+long_compact_here s types t found at e = rw (← at.0, ← at.1) e
+
+-- ---- what the code has made of a node's text and of its arm
+
+pub text_here : {E X : Type 0} (s : Seen) (found : Option (Bor (List ℕ))) (text : Bor (List ℕ)) (made : Result X E) (seen : X → Data) → option_map (λ x. x.now) found ≡ text_of s.tree → found ≡ Some text → Told s.types s.ty s.tree what.Text
+    → IfOk made (λ v. seen v ≡ json.string text.now) → IfOk made (λ v. seen v ≡ json_seen s)
+text_here s found text made seen e f h g =
+    let same : Some text.now ≡ Some h.0 = ap (option_map (λ (x : Bor (List ℕ)). x.now)) (sym f) ∙ e ∙ h.1 in
+    let is : text.now ≡ h.0 = cc in
+    rw (h.2, ← is) g
+
+pub arm_there : (s : Seen) (q : ℕ) (types : List TypeInfo) (t : ℕ) (found : Option (Bor Arm)) → AtNode s types t → option_map (λ x. x.now) found ≡ arm_in (shape types t) q → Told s.types s.ty s.tree (what.Arm q) → IsSome found
+arm_there s q types t None at e h = let no : None ≡ Some h.0 = e ∙ ap (λ (r : List TypeInfo). arm_in (shape r t) q) at.0 ∙ ap (λ (u : ℕ). arm_in (shape s.types u) q) at.1 ∙ h.1 in absurd cc
+arm_there s q types t (Some a) at e h = refl
+
+pub arm_here : {E X : Type 0} (s : Seen) (q : ℕ) (types : List TypeInfo) (t : ℕ) (found : Option (Bor Arm)) (a : Bor Arm) (made : Result X E) (seen : X → Data) (items : Items) → AtNode s types t → option_map (λ x. x.now) found ≡ arm_in (shape types t) q → found ≡ Some a
+    → Told s.types s.ty s.tree (what.Arm q) → items ≡ jsons (children_of s)
+    → IfOk made (λ v. seen v ≡ json.object (member a.now.name (fields_json a.now.fields items) no_members)) → IfOk made (λ v. seen v ≡ json_seen s)
+arm_here s q types t found a made seen items at e f h i g =
+    let same : Some a.now ≡ Some h.0 = ap (option_map (λ (x : Bor Arm). x.now)) (sym f) ∙ e ∙ ap (λ (r : List TypeInfo). arm_in (shape r t) q) at.0 ∙ ap (λ (u : ℕ). arm_in (shape s.types u) q) at.1 ∙ h.1 in
+    let is : a.now ≡ h.0 = cc in
+    rw (h.2, ← is, ← i) g

@@ -1,0 +1,4 @@
+pub mod Defined
+pub mod Json
+pub mod Laws
+pub mod Printed

@@ -1,0 +1,62 @@
+//! A value's JSON text, written to a sink.
+
+ghost use Rattle.std.specs.Prelude.{◌≡◌, ◌≤◌, ◌||◌, length, take, string_bytes, IfOk, IfErr, OnOk, IsErrOf};
+ghost use Rattle.std.specs.Io.KnownBytes.{Appends};
+ghost use Rattle.json_core.specs.Json.{json_text};
+ghost use Rattle.json_core.specs.Printed.{written_of, is_write};
+
+use crate::nodes::to_json;
+use scale_core::Sink;
+use std::alloc::{AllocError, Allocator, Global};
+use std::io::Write;
+use value_core::{Value, WriteFault, send};
+
+/// Why a value was not printed whole.
+#[derive(Clone, Copy, Debug, PartialEq, Eq)]
+pub enum PrintFault {
+    /// Memory was refused. Nothing was written.
+    OutOfMemory,
+    /// A write failed; the fault tells how many bytes went out before it.
+    Write(WriteFault),
+}
+
+/// The compact text of a value's JSON, without a line end.
+fn text_of<A: Allocator>(alloc: Global, value: &Value<'_, A>) -> Result<String, AllocError>
+    ensures { IfOk result (λ text. string_bytes text ≡ json_text value.now) }
+{
+    let json = to_json(alloc, value)?;
+    json.to_string(alloc)
+}
+
+/// Writes a value as JSON: `serde_json`'s compact text of `to_json`, without a line end. The text is made whole before
+/// the first write.
+///
+/// Refuses:
+/// - `OutOfMemory`, where memory was refused: no write was made, and the sink stays as it was;
+/// - `Write` with `Device`, where the writer answers an error; an interrupted write is one;
+/// - `Write` with `WroteNothing`, where the writer takes no byte of a part that is not empty.
+///
+/// After a failed write the sink has failed for good, and what went out is the beginning of the text, as long as is
+/// told. Otherwise `failed()` stays as it was. The value stays as it was in each case.
+pub fn print<A: Allocator, W: Write>(
+    alloc: Global,
+    value: &Value<'_, A>,
+    sink: &mut Sink<W>,
+) -> Result<(), PrintFault>
+    // The whole text went out.
+    ensures ok { OnOk result (Appends (W.contents sink.old.device) (W.contents sink.new.device) (json_text value.now)) }
+    // A front of it went out, and as much as is told.
+    ensures part { IfErr result (λ f. written_of f ≤ length (json_text value.now)) }
+    ensures err { IfErr result (λ f. Appends (W.contents sink.old.device) (W.contents sink.new.device) (take (written_of f) (json_text value.now))) }
+    // Where memory was refused there was no write.
+    ensures memory { IsErrOf result PrintFault.OutOfMemory → sink.new ≡ sink.old }
+    ensures failed { sink.new.failed ≡ sink.old.failed || is_write result }
+{
+    let Ok(text) = text_of(alloc, value) else {
+        return Err(PrintFault::OutOfMemory);
+    };
+    match send(sink, text.as_bytes()) {
+        Ok(()) => Ok(()),
+        Err(fault) => Err(PrintFault::Write(fault)),
+    }
+}

@@ -1,0 +1,294 @@
+//! Values as JSON: their trees and texts, and texts printed to writers that fail.
+
+use crate::building::{
+    BITS_IN_AN_ARM, BYTES, CHAIN, COMPACT_U128, Call, OPTION, SHADOWED_ARM, TEXT,
+    TWO_UNITS_AND_A_BYTE, U8, UNITS, WIDE, add, checked,
+};
+use crate::paced::{PacedWriter, Then};
+use json_core::{PrintFault, print, to_json};
+use registry_core::TypeId;
+use scale_core::{Sink, SinkFault};
+use std::alloc::Global;
+use std::process::Abort;
+use std::test::Fail;
+use value_core::{Builder, Value, WriteFault};
+
+/// A value by the calls that build it, and its text.
+#[derive(Clone, Copy)]
+struct Row {
+    name: &'static str,
+    registry: &'static [u8],
+    ty: u32,
+    calls: &'static [Call],
+    text: &'static str,
+}
+
+const ROWS: [Row; 14] = [
+    Row {
+        name: "a byte",
+        registry: U8,
+        ty: 0,
+        calls: &[Call::Unsigned(42)],
+        text: "42",
+    },
+    Row {
+        name: "the greatest compact integer",
+        registry: COMPACT_U128,
+        ty: 1,
+        calls: &[Call::Compact(
+            340_282_366_920_938_463_463_374_607_431_768_211_455,
+        )],
+        text: "\"340282366920938463463374607431768211455\"",
+    },
+    Row {
+        name: "a sequence of units",
+        registry: UNITS,
+        ty: 2,
+        calls: &[Call::Count(1_073_741_824)],
+        text: "{\"count\":1073741824}",
+    },
+    Row {
+        name: "a unit",
+        registry: UNITS,
+        ty: 1,
+        calls: &[Call::Empty],
+        text: "null",
+    },
+    Row {
+        name: "two units and a byte",
+        registry: TWO_UNITS_AND_A_BYTE,
+        ty: 2,
+        calls: &[Call::Fields, Call::Empty, Call::Empty, Call::Unsigned(42)],
+        text: "[null,null,42]",
+    },
+    Row {
+        name: "an option that is there",
+        registry: OPTION,
+        ty: 1,
+        calls: &[Call::Arm(1), Call::Unsigned(42)],
+        text: "{\"Some\":[42]}",
+    },
+    Row {
+        name: "an option that is not there",
+        registry: OPTION,
+        ty: 1,
+        calls: &[Call::Arm(0)],
+        text: "{\"None\":[]}",
+    },
+    Row {
+        name: "an empty sequence of a type without values",
+        registry: b"\x08\x00\x00\x00\x01\x00\x00\x04\x00\x00\x02\x00\x00",
+        ty: 1,
+        calls: &[Call::List(0)],
+        text: "[]",
+    },
+    Row {
+        name: "an arm beside one of bits",
+        registry: BITS_IN_AN_ARM,
+        ty: 1,
+        calls: &[Call::Arm(0)],
+        text: "{\"A\":[]}",
+    },
+    Row {
+        name: "a text",
+        registry: TEXT,
+        ty: 0,
+        calls: &[Call::Text("\u{e9}\u{e9}")],
+        text: "\"\u{e9}\u{e9}\"",
+    },
+    Row {
+        name: "a chain of arms",
+        registry: CHAIN,
+        ty: 0,
+        calls: &[Call::Arm(1), Call::Arm(1), Call::Arm(0)],
+        text: "{\"Next\":[{\"Next\":[{\"End\":[]}]}]}",
+    },
+    Row {
+        name: "fields whose names are out of order",
+        registry: b"\x08\x00\x00\x00\x05\x03\x00\x04\x00\x00\x00\x08\x01\x04b\x00\x00\x00\x01\x04a\x00\x00\x00\x00",
+        ty: 1,
+        calls: &[Call::Fields, Call::Unsigned(1), Call::Unsigned(2)],
+        text: "{\"a\":2,\"b\":1}",
+    },
+    Row {
+        name: "one in 256 bits",
+        registry: WIDE,
+        ty: 0,
+        calls: &[Call::Wide([
+            1, 0, 0, 0, 0, 0, 0, 0, 0, 0, 0, 0, 0, 0, 0, 0, 0, 0, 0, 0, 0, 0, 0, 0, 0, 0, 0, 0, 0,
+            0, 0, 0,
+        ])],
+        text: "\"0x0000000000000000000000000000000000000000000000000000000000000001\"",
+    },
+    Row {
+        name: "the first of two arms of one index",
+        registry: SHADOWED_ARM,
+        ty: 1,
+        calls: &[Call::Arm(3)],
+        text: "{\"A\":[]}",
+    },
+];
+
+/// The other lines of the table, each by itself.
+const FORMS: [Row; 12] = [
+    Row {
+        name: "a boolean",
+        registry: b"\x04\x00\x00\x00\x05\x00\x00",
+        ty: 0,
+        calls: &[Call::Bool(true)],
+        text: "true",
+    },
+    Row {
+        name: "a character",
+        registry: b"\x04\x00\x00\x00\x05\x01\x00",
+        ty: 0,
+        calls: &[Call::Char('\u{e9}')],
+        text: "\"\u{e9}\"",
+    },
+    Row {
+        name: "a text that is escaped",
+        registry: TEXT,
+        ty: 0,
+        calls: &[Call::Text("a\"b\n\\")],
+        text: "\"a\\\"b\\n\\\\\"",
+    },
+    Row {
+        name: "the greatest u64",
+        registry: b"\x04\x00\x00\x00\x05\x06\x00",
+        ty: 0,
+        calls: &[Call::Unsigned(18_446_744_073_709_551_615)],
+        text: "18446744073709551615",
+    },
+    Row {
+        name: "a small u128",
+        registry: b"\x04\x00\x00\x00\x05\x07\x00",
+        ty: 0,
+        calls: &[Call::Unsigned(0)],
+        text: "\"0\"",
+    },
+    Row {
+        name: "the least i64",
+        registry: b"\x04\x00\x00\x00\x05\x0c\x00",
+        ty: 0,
+        calls: &[Call::Signed(-9_223_372_036_854_775_808)],
+        text: "-9223372036854775808",
+    },
+    Row {
+        name: "an i128 below zero",
+        registry: b"\x04\x00\x00\x00\x05\x0d\x00",
+        ty: 0,
+        calls: &[Call::Signed(-1)],
+        text: "\"-1\"",
+    },
+    Row {
+        name: "a small compact integer",
+        registry: b"\x08\x00\x00\x00\x05\x03\x00\x04\x00\x00\x06\x00\x00",
+        ty: 1,
+        calls: &[Call::Compact(255)],
+        text: "255",
+    },
+    Row {
+        name: "a sequence of bytes",
+        registry: BYTES,
+        ty: 1,
+        calls: &[Call::List(2), Call::Unsigned(7), Call::Unsigned(255)],
+        text: "[7,255]",
+    },
+    Row {
+        name: "two fields of one name",
+        registry: b"\x08\x00\x00\x00\x05\x03\x00\x04\x00\x00\x00\x08\x01\x04a\x00\x00\x00\x01\x04a\x00\x00\x00\x00",
+        ty: 1,
+        calls: &[Call::Fields, Call::Unsigned(1), Call::Unsigned(2)],
+        text: "[1,2]",
+    },
+    Row {
+        name: "a field with a name and one without",
+        registry: b"\x08\x00\x00\x00\x05\x03\x00\x04\x00\x00\x00\x08\x01\x04a\x00\x00\x00\x00\x00\x00\x00\x00",
+        ty: 1,
+        calls: &[Call::Fields, Call::Unsigned(1), Call::Unsigned(2)],
+        text: "[1,2]",
+    },
+    Row {
+        name: "an arm whose fields have names",
+        registry: b"\x08\x00\x00\x00\x05\x03\x00\x04\x00\x00\x01\x04\x04P\x08\x01\x04y\x00\x00\x00\x01\x04x\x00\x00\x00\x00\x00\x00",
+        ty: 1,
+        calls: &[Call::Arm(0), Call::Unsigned(1), Call::Unsigned(2)],
+        text: "{\"P\":{\"x\":2,\"y\":1}}",
+    },
+];
+
+/// The tree has the row's text, and that text is printed to a writer that fails right behind it.
+fn check_text(
+    rt: &impl Abort,
+    alloc: Global,
+    value: &Value<'_, Global>,
+    row: &Row,
+) -> Result<(), Fail> {
+    let name = row.name;
+    let tree = to_json(alloc, value)?;
+    let text = tree.to_string(alloc)?;
+    assert_eq!(rt; text.as_str(), row.text, "the tree of {name}");
+    let mut sink = Sink::new(PacedWriter::new(alloc, row.text.len(), 1, Then::Fails));
+    assert_eq!(rt; print(alloc, value, &mut sink), Ok(()), "{name}");
+    assert!(rt; !sink.failed(), "{name}");
+    let printed = sink.into_inner().taken;
+    assert_eq!(rt; printed.as_slice(), row.text.as_bytes(), "{name}");
+    Ok(())
+}
+
+/// Writers that end at this place of the text: it is told, and the front went out.
+fn check_place(rt: &impl Abort, alloc: Global, value: &Value<'_, Global>, row: &Row, place: usize) {
+    let name = row.name;
+    let ends = [
+        (Then::Fails, SinkFault::Device),
+        (Then::TakesNothing, SinkFault::WroteNothing),
+    ];
+    'endings: for (then, reason) in ends {
+        let mut sink = Sink::new(PacedWriter::new(alloc, place, 1, then));
+        let wanted = PrintFault::Write(WriteFault {
+            reason,
+            written: place as u64,
+        });
+        assert_eq!(rt; print(alloc, value, &mut sink), Err(wanted), "{name}");
+        assert!(rt; sink.failed(), "{name}");
+        let taken = sink.into_inner().taken;
+        let front = row.text.as_bytes().get(..place);
+        assert_eq!(rt; Some(taken.as_slice()), front, "{name}");
+    }
+}
+
+/// Builds the row's value, and looks at its text and at every place where a writer may end.
+fn check_row(rt: &impl Abort, alloc: Global, row: &Row) -> Result<(), Fail> {
+    let name = row.name;
+    let checked = checked(alloc, row.registry)?;
+    let Ok(mut builder) = Builder::new(alloc, &checked, TypeId(row.ty), 64) else {
+        return Err(name)?;
+    };
+    'calls: for call in row.calls {
+        assert_eq!(rt; add(&mut builder, *call), Ok(()), "{call:?} of {name}");
+    }
+    let Ok(value) = builder.finish() else {
+        return Err(name)?;
+    };
+    check_text(rt, alloc, &value, row)?;
+    'places: for place in 0..row.text.len() {
+        check_place(rt, alloc, &value, row, place);
+    }
+    Ok(())
+}
+
+#[test]
+fn worked_rows_have_their_text(rt: HostRuntime) -> Result<(), Fail> {
+    'rows: for row in &ROWS {
+        check_row(&rt, rt.alloc(), row)?;
+    }
+    Ok(())
+}
+
+#[test]
+fn each_form_has_its_text(rt: HostRuntime) -> Result<(), Fail> {
+    'rows: for row in &FORMS {
+        check_row(&rt, rt.alloc(), row)?;
+    }
+    Ok(())
+}
