@@ -1,27 +1,32 @@
 -- What turns on a piece tell is the outcome of all bytes so far.
-use Rattle.std.proofs.Common.{◌≡◌, ℕ, ◌+◌, ◌-◌, ◌<◌, ◌≤◌, List, [], ◌++◌, length, take, drop, refl, sym, ap, subst, ◌∙◌, append_assoc, Ok, Err, arith, length-append, length-drop}
+use Rattle.std.proofs.Common.{◌≡◌, ℕ, suc, ◌+◌, ◌-◌, ◌<◌, ◌≤◌, List, [], ◌++◌, length, take, drop, refl, sym, ap, subst, ◌∙◌, append_assoc, Ok, Err, arith, inr, length-append, length-drop}
 use Rattle.std.proofs.lemmas.List.{append-nil, take_all, take-append-drop, length-take}
 use Rattle.registry_core.specs.declared.type_info.TypeInfo.{TypeInfo}
 use Rattle.grammar_core.specs.Reading.{Refusal, truncated}
-use Rattle.decode_core.specs.Decoding.{IsDone, IsGoing, IsOf, built_tree}
+use Rattle.scale_core.specs.Number.{AreBytes}
+use Rattle.scale_core.proofs.Numbers.{both_bytes}
+use Rattle.decode_core.specs.Decoding.{HoldsOf, IsDone, IsGoing, IsOf, IsWaiting, built_tree}
 use Rattle.decode_core.specs.Decided.{Decided}
 use Rattle.decode_core.specs.Machine.{remain, start}
 use Rattle.decode_core.specs.Outcome.{Job, done, refused, more, too_long, IsOutcome}
 use Rattle.decode_core.specs.Reasons.{reason_of}
 use Rattle.decode_core.specs.Running.{Running, held_of, state_of}
-use Rattle.decode_core.specs.Told.{told}
-use Rattle.decode_core.specs.Turned.{IsSame, Moves, Reaches, Stops}
+use Rattle.decode_core.specs.Told.{told, told_at, after}
+use Rattle.value_core.specs.Built.{Entry}
+use Rattle.decode_core.specs.Turned.{IsSame, IsSound, Moves, Reaches, Stops}
 use Rattle.decode_core.specs.declared.fault.DecodeReason.{DecodeReason}
 use Rattle.decode_core.specs.declared.turned.Stopped.TheVariants as stop
 use Rattle.decode_core.proofs.Decides.{not_cut}
-use Rattle.decode_core.proofs.Fed.{Here, cut_here, done_here, refused_here, take_split, led_on}
+use Rattle.decode_core.proofs.Holding.{holds_of}
+use Rattle.decode_core.proofs.Refusing.{waits_told}
+use Rattle.decode_core.proofs.Fed.{Here, cut_here, done_here, refused_here, take_split, led_on, whole_told}
 
 -- the bytes that are offered within the limit
 abbrev pub offered : Job → ℕ → List ℕ → List ℕ
 offered j n piece = take (j.bytes - n) piece
 
 pub of_moved : (j : Job) (s last : Running) → IsOf j s → IsSame s last → IsOf j last
-of_moved j s last h k = record { types = k.types ∙ h.types; ty = k.ty ∙ h.ty }
+of_moved j s last h k = record { types = k.types ∙ h.types; ty = k.ty ∙ h.ty; limit = k.limit ∙ h.limit }
 
 front_is : (j : Job) (b piece : List ℕ) (s : Running) (n : ℕ) → IsGoing j b s n → take j.bytes (b ++ piece) ≡ b ++ offered j n piece
 front_is j b piece s n g = take_split j.bytes b piece ∙ ap (λ (l : List ℕ). l ++ take (j.bytes - length b) piece) (take_all j.bytes b (omega (arith, g.count, g.fits))) ∙ ap (λ (k : ℕ). b ++ take (j.bytes - k) piece) (sym g.count)
@@ -47,8 +52,8 @@ front_count j b piece s n g = omega (arith, g.count, ap length (front_is j b pie
 
 -- ---- the value is whole
 
-pub fed_done : (j : Job) (b piece : List ℕ) (s last : Running) (n k : ℕ) → (g : IsGoing j b s n) → k ≤ length (offered j n piece) → Moves s last (take k (offered j n piece)) → Stops last (drop k (offered j n piece)) stop.Finished → IsDone j (b ++ piece) last (n + k)
-fed_done j b piece s last n k g le m st =
+pub fed_done : (j : Job) (b piece : List ℕ) (s last : Running) (n k : ℕ) → (g : IsGoing j b s n) → k ≤ length (offered j n piece) → Moves s last (take k (offered j n piece)) → Stops last (drop k (offered j n piece)) stop.Finished → IsSound last → IsDone j (b ++ piece) last (n + k)
+fed_done j b piece s last n k g le m st sound =
     let cut = offered j n piece in
     let rest = held_of last ++ drop k cut in
     let of = of_moved j s last g.same m.same in
@@ -57,12 +62,12 @@ fed_done j b piece s last n k g le m st =
     let left : length rest ≡ length cut - k = ap (λ (l : List ℕ). length (l ++ drop k cut)) st.1 ∙ length-drop k cut in
     let count : n + length cut - length rest ≡ n + k = omega (arith, left, le) in
     let few : length cut ≤ j.bytes - n = omega (arith, length-take (j.bytes - n) piece) in
-    record { same = of; whole = tells; nothing = st.1; is_whole = st.2; outcome = subst (λ (c : ℕ). IsOutcome j (b ++ piece) (done (built_tree last.built)) c) count one; fits = omega (arith, le, few, g.fits) }
+    record { same = of; whole = tells; nothing = st.1; is_whole = st.2; sound = sound; outcome = subst (λ (c : ℕ). IsOutcome j (b ++ piece) (done (built_tree last.built)) c) count one; fits = omega (arith, le, few, g.fits) }
 
 -- ---- bytes are missing
 
-pub fed_more : (j : Job) (b piece : List ℕ) (s last : Running) (n k : ℕ) → (g : IsGoing j b s n) → k ≤ length (offered j n piece) → Moves s last (take k (offered j n piece)) → Stops last (drop k (offered j n piece)) stop.Wants → length piece ≤ j.bytes - n → IsGoing j (b ++ piece) last (n + k) × IsOutcome j (b ++ piece) more (n + k)
-fed_more j b piece s last n k g le m st short =
+pub fed_more : (j : Job) (b piece : List ℕ) (s last : Running) (n k : ℕ) → (g : IsGoing j b s n) → k ≤ length (offered j n piece) → Moves s last (take k (offered j n piece)) → Stops last (drop k (offered j n piece)) stop.Wants → IsSound last → AreBytes piece → length piece ≤ j.bytes - n → IsGoing j (b ++ piece) last (n + k) × IsOutcome j (b ++ piece) more (n + k) × HoldsOf j (b ++ piece) last
+fed_more j b piece s last n k g le m st sound are short =
     let cut = offered j n piece in
     let whole : cut ≡ piece = take_all (j.bytes - n) piece short in
     let all : length cut ≡ k = omega (arith, ap length st.0, length-drop k cut, le) in
@@ -72,11 +77,18 @@ fed_more j b piece s last n k g le m st short =
     let count : n + k ≡ length (b ++ piece) = omega (arith, g.count, length-append b piece, all, ap length whole) in
     let rest = held_of last ++ drop k cut in
     let nil : rest ≡ held_of last = ap (λ (l : List ℕ). held_of last ++ l) st.0 ∙ append-nil (held_of last) in
-    let tells : remain j.registry (state_of last.built) rest ≡ told [] (Err ((truncated, st.1.0), rest)) = rw nil (ap (λ (r : List TypeInfo). remain r (state_of last.built) (held_of last)) (sym of.types) ∙ st.1.1) in
-    let one = cut_here j (b ++ piece) (state_of last.built) rest st.1.0 h tells in
+    let tells : remain j.registry (state_of last.built) rest ≡ told [] (Err ((truncated, st.1.left), rest)) = rw nil (ap (λ (r : List TypeInfo). remain r (state_of last.built) (held_of last)) (sym of.types) ∙ waits_told last st.1) in
+    let one = cut_here j (b ++ piece) (state_of last.built) rest st.1.left h tells in
+    let led = moved_led j b s last n (take k cut) g m in
+    let stops : remain j.registry (state_of last.built) (held_of last) ≡ told [] (Err ((truncated, st.1.left), held_of last)) = ap (λ (r : List TypeInfo). remain r (state_of last.built) (held_of last)) (sym of.types) ∙ waits_told last st.1 in
+    let reads : told_at j.registry (suc j.depth) j.ty (b ++ piece) ≡ told last.built.entries (Err ((truncated, st.1.left), held_of last)) =
+        ap (told_at j.registry (suc j.depth) j.ty) input_is ∙ whole_told j.registry j.depth j.ty (state_of last.built) (g.own ++ m.own) (held_of last) led ∙ ap (after last.built.entries) stops ∙ ap (λ (xs : List Entry). told xs (Err ((truncated, st.1.left), held_of last))) (append-nil last.built.entries) in
+    let all_bytes = both_bytes b piece g.are_bytes are in
+    let waiting : IsWaiting j (b ++ piece) last = record { wants = st.1; reads = reads; sound = sound } in
     let full : take j.bytes (b ++ piece) ≡ b ++ piece = take_all j.bytes (b ++ piece) (omega (arith, length-append b piece, g.count, g.fits, short)) in (
-      record { same = of; own = g.own ++ m.own; is = input_is; led = moved_led j b s last n (take k cut) g m; count = count; fits = omega (arith, count, length-append b piece, g.count, g.fits, short) },
+      record { same = of; own = g.own ++ m.own; is = input_is; are_bytes = all_bytes; led = led; stands = inr waiting; count = count; fits = omega (arith, count, length-append b piece, g.count, g.fits, short) },
       (rw full at one, omega (arith, length-append b piece, g.count, g.fits, short), count),
+      holds_of j (b ++ piece) last of all_bytes waiting,
     )
 
 pub fed_long : (j : Job) (b piece : List ℕ) (s last : Running) (n k : ℕ) → (g : IsGoing j b s n) → k ≤ length (offered j n piece) → Moves s last (take k (offered j n piece)) → Stops last (drop k (offered j n piece)) stop.Wants → j.bytes - n < length piece → IsOutcome j (b ++ piece) too_long j.bytes
@@ -86,8 +98,8 @@ fed_long j b piece s last n k g le m st long =
     let h = here j b piece s last n k g m in
     let rest = held_of last ++ drop k cut in
     let nil : rest ≡ held_of last = ap (λ (l : List ℕ). held_of last ++ l) st.0 ∙ append-nil (held_of last) in
-    let tells : remain j.registry (state_of last.built) rest ≡ told [] (Err ((truncated, st.1.0), rest)) = rw nil (ap (λ (r : List TypeInfo). remain r (state_of last.built) (held_of last)) (sym of.types) ∙ st.1.1) in
-    (cut_here j (b ++ piece) (state_of last.built) rest st.1.0 h tells, omega (arith, length-append b piece, g.count, g.fits, long), refl)
+    let tells : remain j.registry (state_of last.built) rest ≡ told [] (Err ((truncated, st.1.left), rest)) = rw nil (ap (λ (r : List TypeInfo). remain r (state_of last.built) (held_of last)) (sym of.types) ∙ waits_told last st.1) in
+    (cut_here j (b ++ piece) (state_of last.built) rest st.1.left h tells, omega (arith, length-append b piece, g.count, g.fits, long), refl)
 
 -- ---- the next node is refused
 

@@ -1,7 +1,8 @@
 -- What the turns on a piece made of a value on its way, by the limit of bytes.
 use Rattle.std.proofs.Common.{◌≡◌, ℕ, ◌+◌, ◌-◌, ◌<◌, ◌≤◌, List, ◌++◌, length, take, Ok, refl, sym, ap, subst, ◌∙◌, arith, inl, inr}
 use Rattle.std.proofs.lemmas.List.{length-take}
-use Rattle.decode_core.specs.Decoding.{IsDone, IsEnded, IsGoing, RunLed}
+use Rattle.scale_core.specs.Number.{AreBytes}
+use Rattle.decode_core.specs.Decoding.{HoldsOf, IsDone, IsEnded, IsGoing, RunLed}
 use Rattle.decode_core.specs.Outcome.{Job, more, IsOutcome}
 use Rattle.decode_core.specs.Running.{Running}
 use Rattle.decode_core.specs.Turned.{FeedTells}
@@ -27,10 +28,10 @@ run_long j b piece slice s new limit taken k why e is led f w cut =
     let out = led_long j b piece s new taken k led (subst (FeedTells s new (offered j taken piece) k) w (tells_offered j piece slice s new limit taken k why e is f)) long in
     subst (λ (l : ℕ). IsEnded j (b ++ piece) (record { reason = reason.TooLong; at = l }) l) e (inr (inl (refl, out)))
 
-pub run_more : (j : Job) (b piece slice : List ℕ) (s new : Running) (limit taken k : ℕ) (why : Stopped) → j.bytes ≡ limit → slice ≡ take (limit - taken) piece → RunLed j b taken (Ok s) → FeedTells s new slice k why → why ≡ stop.Wants → length piece ≤ length slice → IsGoing j (b ++ piece) new (taken + k) × IsOutcome j (b ++ piece) more (taken + k)
-run_more j b piece slice s new limit taken k why e is led f w all =
+pub run_more : (j : Job) (b piece slice : List ℕ) (s new : Running) (limit taken k : ℕ) (why : Stopped) → j.bytes ≡ limit → slice ≡ take (limit - taken) piece → RunLed j b taken (Ok s) → FeedTells s new slice k why → why ≡ stop.Wants → AreBytes piece → length piece ≤ length slice → IsGoing j (b ++ piece) new (taken + k) × IsOutcome j (b ++ piece) more (taken + k) × HoldsOf j (b ++ piece) new
+run_more j b piece slice s new limit taken k why e is led f w are all =
     let short : length piece ≤ j.bytes - taken = omega (arith, e, ap length is, length-take (limit - taken) piece, all) in
-    led_more j b piece s new taken k led (subst (FeedTells s new (offered j taken piece) k) w (tells_offered j piece slice s new limit taken k why e is f)) short
+    led_more j b piece s new taken k led (subst (FeedTells s new (offered j taken piece) k) w (tells_offered j piece slice s new limit taken k why e is f)) are short
 
 pub run_held : (j : Job) (b piece slice : List ℕ) (s new : Running) (limit taken k held : ℕ) (told_reason : DecodeReason) (at len : ℕ) (why : Stopped) → j.bytes ≡ limit → slice ≡ take (limit - taken) piece → RunLed j b taken (Ok s) → FeedTells s new slice k why → why ≡ stop.Refused held told_reason at len → held ≤ taken + k
 run_held j b piece slice s new limit taken k held told_reason at len why e is led f w =

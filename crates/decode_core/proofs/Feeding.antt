@@ -4,18 +4,20 @@ use Rattle.std.proofs.lemmas.List.{append-nil, length-take}
 use Rattle.registry_core.specs.declared.type_info.TypeInfo.{TypeInfo}
 use Rattle.grammar_core.specs.Reading.{Refusal, truncated}
 use Rattle.value_core.specs.Built.{Entry}
-use Rattle.decode_core.specs.Decoding.{IsDone, IsEnded, IsGoing, RunLed, built_tree}
+use Rattle.scale_core.specs.Number.{AreBytes}
+use Rattle.decode_core.specs.Decoding.{HoldsOf, IsDone, IsEnded, IsGoing, RunLed, built_tree}
 use Rattle.decode_core.specs.Machine.{remain}
 use Rattle.decode_core.specs.Outcome.{Job, done, refused, more, too_long, IsOutcome}
 use Rattle.decode_core.specs.Reasons.{reason_of}
 use Rattle.decode_core.specs.Running.{Running, held_of, state_of}
 use Rattle.decode_core.specs.Told.{told, added, after, Ending, ending}
-use Rattle.decode_core.specs.Turned.{FeedTells, Moves, Stops, types_of}
+use Rattle.decode_core.specs.Turned.{FeedTells, IsSound, Moves, Stops, types_of}
 use Rattle.decode_core.specs.declared.fault.DecodeFault.{DecodeFault}
 use Rattle.decode_core.specs.declared.fault.DecodeReason.{DecodeReason}
 use Rattle.decode_core.specs.declared.turned.Stopped.TheVariants as stop
 use Rattle.decode_core.proofs.Bridge.{offered, of_moved, fed_done, fed_more, fed_long, fed_refused}
 use Rattle.decode_core.proofs.Fed.{outcome_stays}
+use Rattle.decode_core.proofs.Refusing.{waits_told}
 
 -- ---- a value that is whole takes no more
 
@@ -37,8 +39,8 @@ ok_is : (x y : List ℕ) → ◌≡◌ {A = Ending} (Ok x) (Ok y) → x ≡ y
 ok_is x y h = cc
 
 -- it stands as it is
-pub done_again : (j : Job) (b piece : List ℕ) (s last : Running) (n k : ℕ) → IsDone j b s n → k ≤ length (offered j n piece) → Moves s last (take k (offered j n piece)) → Stops last (drop k (offered j n piece)) stop.Finished → IsDone j (b ++ piece) last (n + k)
-done_again j b piece s last n k g le m st =
+pub done_again : (j : Job) (b piece : List ℕ) (s last : Running) (n k : ℕ) → IsDone j b s n → k ≤ length (offered j n piece) → Moves s last (take k (offered j n piece)) → Stops last (drop k (offered j n piece)) stop.Finished → IsSound last → IsDone j (b ++ piece) last (n + k)
+done_again j b piece s last n k g le m st sound =
     let cut = offered j n piece in
     let of = of_moved j s last g.same m.same in
     let tells : (x : List ℕ) → remain j.registry (state_of last.built) x ≡ told [] (Ok x) = λ x. ap (λ (r : List TypeInfo). remain r (state_of last.built) x) (sym of.types) ∙ st.0 x in
@@ -54,6 +56,7 @@ done_again j b piece s last n k g le m st =
       whole = tells;
       nothing = st.1;
       is_whole = st.2;
+      sound = sound;
       outcome = subst (λ (c : ℕ). IsOutcome j (b ++ piece) (done (built_tree last.built)) c) count (subst (λ v. IsOutcome j (b ++ piece) (done v) n) tree kept);
       fits = omega (arith, none, g.fits);
     }
@@ -61,16 +64,16 @@ done_again j b piece s last n k g le m st =
 -- ---- be it whole or not
 
 pub led_done : (j : Job) (b piece : List ℕ) (s new : Running) (n k : ℕ) → RunLed j b n (Ok s) → FeedTells s new (offered j n piece) k stop.Finished → IsDone j (b ++ piece) new (n + k)
-led_done j b piece s new n k (inl g) f = subst (λ (r : Running). IsDone j (b ++ piece) r (n + k)) (sym f.1.3) (fed_done j b piece s f.1.0 n k g f.0 f.1.1 f.1.2)
-led_done j b piece s new n k (inr g) f = subst (λ (r : Running). IsDone j (b ++ piece) r (n + k)) (sym f.1.3) (done_again j b piece s f.1.0 n k g f.0 f.1.1 f.1.2)
+led_done j b piece s new n k (inl g) f = subst (λ (r : Running). IsDone j (b ++ piece) r (n + k)) (sym f.1.3) (fed_done j b piece s f.1.0 n k g f.0 f.1.1 f.1.2 f.1.4)
+led_done j b piece s new n k (inr g) f = subst (λ (r : Running). IsDone j (b ++ piece) r (n + k)) (sym f.1.3) (done_again j b piece s f.1.0 n k g f.0 f.1.1 f.1.2 f.1.4)
 
-pub led_more : (j : Job) (b piece : List ℕ) (s new : Running) (n k : ℕ) → RunLed j b n (Ok s) → FeedTells s new (offered j n piece) k stop.Wants → length piece ≤ j.bytes - n → IsGoing j (b ++ piece) new (n + k) × IsOutcome j (b ++ piece) more (n + k)
-led_more j b piece s new n k (inl g) f short = subst (λ (r : Running). IsGoing j (b ++ piece) r (n + k) × IsOutcome j (b ++ piece) more (n + k)) (sym f.1.3) (fed_more j b piece s f.1.0 n k g f.0 f.1.1 f.1.2 short)
-led_more j b piece s new n k (inr g) f short = done_cannot_fail j b s f.1.0 n (take k (offered j n piece)) (held_of f.1.0) f.1.2.1.0 truncated g f.1.1 f.1.2.1.1
+pub led_more : (j : Job) (b piece : List ℕ) (s new : Running) (n k : ℕ) → RunLed j b n (Ok s) → FeedTells s new (offered j n piece) k stop.Wants → AreBytes piece → length piece ≤ j.bytes - n → IsGoing j (b ++ piece) new (n + k) × IsOutcome j (b ++ piece) more (n + k) × HoldsOf j (b ++ piece) new
+led_more j b piece s new n k (inl g) f are short = subst (λ (r : Running). IsGoing j (b ++ piece) r (n + k) × IsOutcome j (b ++ piece) more (n + k) × HoldsOf j (b ++ piece) r) (sym f.1.3) (fed_more j b piece s f.1.0 n k g f.0 f.1.1 f.1.2 f.1.4 are short)
+led_more j b piece s new n k (inr g) f are short = done_cannot_fail j b s f.1.0 n (take k (offered j n piece)) (held_of f.1.0) f.1.2.1.left truncated g f.1.1 (waits_told f.1.0 f.1.2.1)
 
 pub led_long : (j : Job) (b piece : List ℕ) (s new : Running) (n k : ℕ) → RunLed j b n (Ok s) → FeedTells s new (offered j n piece) k stop.Wants → j.bytes - n < length piece → IsOutcome j (b ++ piece) too_long j.bytes
 led_long j b piece s new n k (inl g) f long = fed_long j b piece s f.1.0 n k g f.0 f.1.1 f.1.2 long
-led_long j b piece s new n k (inr g) f long = done_cannot_fail j b s f.1.0 n (take k (offered j n piece)) (held_of f.1.0) f.1.2.1.0 truncated g f.1.1 f.1.2.1.1
+led_long j b piece s new n k (inr g) f long = done_cannot_fail j b s f.1.0 n (take k (offered j n piece)) (held_of f.1.0) f.1.2.1.left truncated g f.1.1 (waits_told f.1.0 f.1.2.1)
 
 pub led_refused : (j : Job) (b piece : List ℕ) (s new : Running) (n k held : ℕ) (told_reason : DecodeReason) (at len : ℕ) → RunLed j b n (Ok s) → FeedTells s new (offered j n piece) k (stop.Refused held told_reason at len) →
     (held ≤ n + k) × ((e : Refusal) × (told_reason ≡ reason_of e) × IsOutcome j (b ++ piece) (refused e (n + k - held + at)) (n + k - held + len))

@@ -58,7 +58,7 @@ arms_fail : (arms : List Arm) (b left : List ℕ) → arms_own arms b ≡ own_fa
 arms_fail arms [] left h = refl
 arms_fail arms (i ∷ b) left h = absurd (arm_fails (i ∷ b) b (arm_of arms i) left h)
 
-own_short : (f : Layout) (b left : List ℕ) → own_at f b ≡ own_failed (truncated, left) → OwnIsShort f b
+pub own_short : (f : Layout) (b left : List ℕ) → own_at f b ≡ own_failed (truncated, left) → OwnIsShort f b
 unfolding own_at
 own_short (layout.fields ts) b left h = absurd cc
 own_short (layout.array n t) b left h = absurd cc

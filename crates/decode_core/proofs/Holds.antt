@@ -35,7 +35,7 @@ pub begins_small : (r : List TypeInfo) (depth t : ℕ) (b : List ℕ) (xs : List
 begins_small r depth t b xs e is h =
     omega (arith, length-map xs (λ (e : Entry). e.head), count_begun h.tree (shown xs) h.shows, (begun_is_bounded r (suc depth) t h.tree h.own (Some (h.below, h.next)) h.grows).1, same_bound (length h.own) depth (widest r))
 
-more_bytes : (n m depth width : ℕ) → n ≤ m → node_bound n depth width ≤ node_bound m depth width
+pub more_bytes : (n m depth width : ℕ) → n ≤ m → node_bound n depth width ≤ node_bound m depth width
 more_bytes n m depth width h = mul-le-mul_right (width + 1) (mul-le-mul_right (depth + 1) (omega (arith, h)))
 
 outcome_small : (j : Job) (b : List ℕ) (o : Outcome) (n : ℕ) → IsOutcome j b o n → OutcomeIsSmall j o n

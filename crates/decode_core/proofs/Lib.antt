@@ -34,6 +34,9 @@ pub mod RunTurns
 pub mod TextTurns
 pub mod Endings
 pub mod Moving
+pub mod ToldSpells
+pub mod Holding
+pub mod Sound
 pub mod Bridge
 pub mod Feeding
 pub mod FeedRun

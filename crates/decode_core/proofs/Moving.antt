@@ -6,7 +6,7 @@ use Rattle.registry_core.specs.declared.type_info.TypeInfo.{TypeInfo}
 use Rattle.decode_core.specs.Machine.{State, remain, to_go}
 use Rattle.decode_core.specs.Running.{Running, held_of, state_of}
 use Rattle.decode_core.specs.Told.{after}
-use Rattle.decode_core.specs.Turned.{FeedTells, IsSame, Moves, Steps, StepTells, left_to_do, types_of}
+use Rattle.decode_core.specs.Turned.{FeedTells, IsSame, IsSound, Moves, Steps, StepTells, left_to_do, types_of}
 use Rattle.decode_core.specs.declared.turned.Stopped.{Stopped}
 use Rattle.decode_core.specs.declared.turned.Stopped.TheVariants as stop
 use Rattle.decode_core.specs.declared.turned.Turned.TheVariants as turned
@@ -71,10 +71,10 @@ pub drop_more : (piece : List ℕ) (at n : ℕ) → drop n (drop at piece) ≡ d
 drop_more piece at n = drop-drop n at piece
 
 -- the turn that stops
-pub turns_stop : (a b c : Running) (piece : List ℕ) (at : ℕ) (s : Stopped) → at ≤ length piece → Moves a b (take at piece) → StepTells b c (drop at piece) (turned.Stopped s) → FeedTells a c piece at s
-turns_stop a b c piece at stop.Finished le h k = (le, (b, h, k.1, k.0))
-turns_stop a b c piece at stop.Wants le h k = (le, (b, h, k.1, k.0))
-turns_stop a b c piece at (stop.Refused held told_reason place len) le h k = (le, (b, h, k, tt))
+pub turns_stop : (a b c : Running) (piece : List ℕ) (at : ℕ) (s : Stopped) → at ≤ length piece → Moves a b (take at piece) → StepTells b c (drop at piece) (turned.Stopped s) → IsSound b → FeedTells a c piece at s
+turns_stop a b c piece at stop.Finished le h k sound = (le, (b, h, k.1, k.0, sound))
+turns_stop a b c piece at stop.Wants le h k sound = (le, (b, h, k.1, k.0, sound))
+turns_stop a b c piece at (stop.Refused held told_reason place len) le h k sound = (le, (b, h, k, tt, sound))
 
 -- what is left of a piece, as a slice of it
 rest_tells : (b c : Running) (piece : List ℕ) (at n : ℕ) → StepTells b c (take (length piece - at) (drop at piece)) (turned.On n) → StepTells b c (drop at piece) (turned.On n)

@@ -5,9 +5,8 @@ use Rattle.std.proofs.lemmas.List.{append-nil}
 use Rattle.value_core.specs.Built.{Built, finished}
 use Rattle.value_core.specs.Refusals as built
 use Rattle.value_core.specs.Shown.{Seen}
-use Rattle.value_core.specs.Walked.{start_of}
 use Rattle.value_core.specs.declared.build_fault.BuildFault.{BuildFault}
-use Rattle.decode_core.specs.Decoding.{Answers, Decoding, Finishes, IsEnded, IsGoing, IsOf, Led, RunLed, built_tree}
+use Rattle.decode_core.specs.Decoding.{Answers, Decoding, Finishes, IsEnded, IsGoing, IsOf, Led, RunLed, built_tree, first_running}
 use Rattle.decode_core.specs.Machine.{State, start}
 use Rattle.decode_core.specs.Outcome.{Job, done, more, IsOutcome}
 use Rattle.decode_core.specs.Running.{Running, state_of}
@@ -17,10 +16,10 @@ use Rattle.decode_core.specs.declared.decoder.Progress.TheVariants as progress
 use Rattle.decode_core.specs.declared.fault.DecodeFault.{DecodeFault}
 use Rattle.decode_core.specs.declared.fault.DecodeReason.TheVariants as reason
 
-abbrev first_running : Job → Running
-first_running j = record { built = record { ty = j.ty; walk = start_of j.registry j.ty j.depth; entries = []; text = None }; carry = [] }
+abbrev first : Job → Running
+first j = first_running j.registry j.ty j.depth
 
-start_is : (j : Job) → state_of (first_running j).built ≡ start j.depth j.ty
+start_is : (j : Job) → state_of (first j).built ≡ start j.depth j.ty
 start_is j = let room : j.depth + 2 - 1 ≡ suc j.depth = omega arith in rw room refl
 
 pub opens_first : (o : Option BuildFault) (first b : Built) → built.Opens o first (Ok b) → b ≡ first
@@ -28,11 +27,11 @@ opens_first None first b h = h
 opens_first (Some f) first b h = absurd h
 
 -- no bytes have led to it
-pub first_going : (j : Job) (s : Running) (b : Built) → s ≡ record { built = b; carry = [] } → b ≡ (first_running j).built → IsGoing j [] s 0
+pub first_going : (j : Job) (s : Running) (b : Built) → s ≡ record { built = b; carry = [] } → b ≡ (first j).built → IsGoing j [] s 0
 first_going j s b is same =
-    let whole : first_running j ≡ s = sym (is ∙ ap (λ (x : Built). record { built = x; carry = [] }) same) in
-    let led : Reaches j.registry (start j.depth j.ty) (state_of (first_running j).built) [] = subst (λ (x : State). Reaches j.registry (start j.depth j.ty) x []) (sym (start_is j)) (record { tells = λ later. refl; level = refl }) in
-    subst (λ (x : Running). IsGoing j [] x 0) whole (record { same = record { types = refl; ty = refl }; own = []; is = refl; led = led; count = refl; fits = omega arith })
+    let whole : first j ≡ s = sym (is ∙ ap (λ (x : Built). record { built = x; carry = [] }) same) in
+    let led : Reaches j.registry (start j.depth j.ty) (state_of (first j).built) [] = subst (λ (x : State). Reaches j.registry (start j.depth j.ty) x []) (sym (start_is j)) (record { tells = λ later. refl; level = refl }) in
+    subst (λ (x : Running). IsGoing j [] x 0) whole (record { same = record { types = refl; ty = refl; limit = refl }; own = []; is = refl; are_bytes = tt; led = led; stands = inl refl; count = refl; fits = omega arith })
 
 -- ---- the end of the input
 

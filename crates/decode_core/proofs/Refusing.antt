@@ -30,7 +30,8 @@ use Rattle.decode_core.specs.Machine.{State, remain, is_cut}
 use Rattle.decode_core.specs.Met.{met_layout}
 use Rattle.decode_core.specs.Needs.{compact_need, need, AreOwn, HasBytes}
 use Rattle.decode_core.specs.Reasons.{stop_refusal}
-use Rattle.decode_core.specs.Running.{state_of}
+use Rattle.decode_core.specs.Running.{Running, held_of, state_of}
+use Rattle.decode_core.specs.Turned.{WantsBytes}
 use Rattle.decode_core.specs.Told.{leaf_own, own_at, told, then, told_at, rest_told}
 use Rattle.decode_core.proofs.Left.{own_within}
 use Rattle.decode_core.proofs.NodeAdding.{next_has}
@@ -56,7 +57,7 @@ integer_short m (first ∷ rest) h = by (is_too_long m first) refl where
   by true e = let none : length (first ∷ rest) < 1 = (rw e at h) in absurd (omega (arith, none))
   by false e = let few : length (first ∷ rest) < form_len first = (rw e at h) in rw (bytes_short (form_len first) (first ∷ rest) few) refl
 
-compact_short : (m : Target) (b : List ℕ) → m ≢ target.Unit → IsShortOf (compact_need m) b → compact_at m b ≡ Err (scale.Truncated, [])
+pub compact_short : (m : Target) (b : List ℕ) → m ≢ target.Unit → IsShortOf (compact_need m) b → compact_at m b ≡ Err (scale.Truncated, [])
 unfolding compact_at
 compact_short target.Unit b ne h = absurd (ne refl)
 compact_short target.U8 b ne h = integer_short target.U8 b h
@@ -150,6 +151,10 @@ remain_next b n x left e h = ap (λ (s : State). remain b.walk.types s x) (state
     ∙ fails_first b.walk.types n.room n.ty (next_layout b) (rest_told b.walk.types (suc n.room) (left_after n.top.left ∷ parts_of n.around)) x left e n.laid h)
 
 -- what the machine tells of a node that is refused, whatever follows its own bytes; and that these decide it
+-- where bytes are missing, that is all that is told
+pub waits_told : (s : Running) → (w : WantsBytes s) → remain s.built.walk.types (state_of s.built) (held_of s) ≡ told [] (Err ((truncated, w.left), held_of s))
+waits_told s w = remain_next s.built (at_next s.built w.form w.next) (held_of s) w.left truncated w.short
+
 pub record Refuses (b : Built) (x : List ℕ) (e : Refusal) (left : List ℕ) (len : ℕ) : Type 0 where
   pub tells : remain b.walk.types (state_of b) x ≡ told [] (Err ((e, left), x))
   pub decided : Decided b.walk.types (state_of b) x e left len

@@ -4,7 +4,7 @@ use Rattle.std.specs.Prelude.{slice_get, slice_index_or, ◌==◌, true}
 use Rattle.std.proofs.lemmas.Bool.{eqb-true}
 use Rattle.std.proofs.lemmas.List.{take-append-drop, length-take}
 use Rattle.std.proofs.Math.Seq.{take-append_seam}
-use Rattle.value_core.specs.Built.{Built, Pieces}
+use Rattle.value_core.specs.Built.{Built, Pieces, next_layout}
 use Rattle.value_core.specs.Walked.{next_of}
 use Rattle.grammar_core.specs.declared.form.Form.{Form}
 use Rattle.grammar_core.specs.declared.form.Next.{Next}
@@ -14,7 +14,7 @@ use Rattle.decode_core.specs.Machine.{remain}
 use Rattle.decode_core.specs.NodeAdds.{AddsNode, IsRefused, TakesNode}
 use Rattle.decode_core.specs.Running.{Running, IsRunning, IsCarry, IsText, state_of, held_of}
 use Rattle.decode_core.specs.Turned.{Steps, BareTells, StepTells, Stops, node_turned}
-use Rattle.decode_core.specs.Told.{told}
+use Rattle.decode_core.specs.Told.{told, own_at}
 use Rattle.grammar_core.specs.Reading.{truncated}
 use Rattle.decode_core.specs.declared.fault.DecodeReason.{DecodeReason}
 use Rattle.decode_core.specs.declared.node.NodeFault.{NodeFault}
@@ -94,14 +94,14 @@ node_tells f b new c bytes rest own text (Err fault.OutOfMemory) wants some clos
 
 -- ---- fewer bytes than the node needs
 
-short_of : (b : Built) (c : List ℕ) (f : Form) → IsCarry b c → next_of b.walk ≡ next.Wants f → IsShortOf (need f) c
+pub short_of : (b : Built) (c : List ℕ) (f : Form) → IsCarry b c → next_of b.walk ≡ next.Wants f → IsShortOf (need f) c
 short_of b [] f h wants = tt
 short_of b (x ∷ xs) f h wants = subst (λ (g : Form). length (x ∷ xs) < need g x) (same_form (next_of b.walk) h.0 f h.1 wants) h.4
 
 pub wants_more : (b : Built) (c : List ℕ) (f : Form) → IsCarry b c → next_of b.walk ≡ next.Wants f → HasBytes f → b.text ≡ None → Stops (record { built = b; carry = c }) [] stop.Wants
 wants_more b c f h wants some closed =
     let held = held_closed b c closed in
-    (refl, ([], subst (λ (x : List ℕ). remain b.walk.types (state_of b) x ≡ told [] (Err ((truncated, []), x))) (sym held) (remain_next b (at_next b f wants) c [] truncated (own_short b f c wants some (short_of b c f h wants)))))
+    (refl, record { form = f; next = wants; left = []; short = subst (λ (x : List ℕ). own_at (next_layout b) x ≡ Err (truncated, [])) (sym held) (own_short b f c wants some (short_of b c f h wants)) })
 
 -- ---- by the piece
 

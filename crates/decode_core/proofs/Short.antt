@@ -58,7 +58,7 @@ target_small target.U32 = omega arith
 target_small target.U64 = omega arith
 target_small target.U128 = omega arith
 
-form_len_small : (m : Target) (i : ℕ) → is_too_long m i ≡ false → form_len i ≤ 17
+pub form_len_small : (m : Target) (i : ℕ) → is_too_long m i ≡ false → form_len i ≤ 17
 form_len_small m i h = elim (cases_lt (i % 4) 3) [
   | inl lt ↦ short_form (i % 4) (i / 4 + 5) lt
   | inr ge ↦ let mode : i % 4 ≡ 3 = omega arith in

@@ -73,30 +73,50 @@ with_agrees P make t h (Err e) (told xs end) k f = k
 with_agrees P make t h (Ok x) (told xs end) k f = (ap (λ (ns : List Head). h ∷ ns) k.0 ∙ sym (f x.0 k.2), k.1)
 
 -- a value without children is its one node
-abbrev IsLone : Read Refusal Tree → Type 0
-IsLone (Ok x) = head_of x.0 ∷ [] ≡ preorder x.0
-IsLone (Err e) = Unit {0}
+abbrev pub IsLeafTree : Tree → Type 0
+IsLeafTree (tree.fields vs) = ⊥
+IsLeafTree (tree.arm q vs) = ⊥
+IsLeafTree (tree.list vs) = ⊥
+IsLeafTree _ = Unit {0}
 
-value_lone : {X : Type 0} (make : X → Tree) → ((x : X) → head_of (make x) ∷ [] ≡ preorder (make x)) → (read : Read Reason X) → IsLone (as_value make read)
-value_lone make h (Ok x) = h x.0
-value_lone make h (Err e) = tt
+abbrev pub IsLeafRead : Read Refusal Tree → Type 0
+IsLeafRead (Ok x) = IsLeafTree x.0
+IsLeafRead (Err e) = Unit {0}
 
-bool_lone : (b : List ℕ) → IsLone (bool_at b)
-bool_lone [] = tt
-bool_lone (zero ∷ b) = refl
-bool_lone (suc zero ∷ b) = refl
-bool_lone (suc (suc x) ∷ b) = tt
+leaf_lone : (v : Tree) → IsLeafTree v → head_of v ∷ [] ≡ preorder v
+leaf_lone (tree.fields vs) h = absurd h
+leaf_lone (tree.arm q vs) h = absurd h
+leaf_lone (tree.list vs) h = absurd h
+leaf_lone tree.unit h = refl
+leaf_lone (tree.bool x) h = refl
+leaf_lone (tree.char x) h = refl
+leaf_lone (tree.text x) h = refl
+leaf_lone (tree.unsigned x) h = refl
+leaf_lone (tree.signed x) h = refl
+leaf_lone (tree.wide x) h = refl
+leaf_lone (tree.compact x) h = refl
+leaf_lone (tree.count x) h = refl
 
-scalar_lone : (at rest : List ℕ) (n : ℕ) (t : Bool) → IsLone (cond t (Ok (tree.char n, rest)) (Err (basic scale.BadChar, at)))
-scalar_lone at rest n true = refl
-scalar_lone at rest n false = tt
+pub value_leaf : {X : Type 0} (make : X → Tree) → ((x : X) → IsLeafTree (make x)) → (read : Read Reason X) → IsLeafRead (as_value make read)
+value_leaf make h (Ok x) = h x.0
+value_leaf make h (Err e) = tt
 
-char_lone : (at : List ℕ) (read : Read Reason (List ℕ)) → IsLone (char_from at read)
-char_lone at (Ok x) = scalar_lone at x.1 (number x.0) (is_scalar (number x.0))
-char_lone at (Err e) = tt
+pub bool_leaf : (b : List ℕ) → IsLeafRead (bool_at b)
+bool_leaf [] = tt
+bool_leaf (zero ∷ b) = tt
+bool_leaf (suc zero ∷ b) = tt
+bool_leaf (suc (suc x) ∷ b) = tt
 
-leaf_agrees : (one : ℕ → List ℕ → Told) (t : ℕ) (b : List ℕ) (read : Read Refusal Tree) → IsLone read → Agrees read (own_told one t b (leaf_own read))
-leaf_agrees one t b (Ok x) h = (h, refl)
+scalar_leaf : (at rest : List ℕ) (n : ℕ) (t : Bool) → IsLeafRead (cond t (Ok (tree.char n, rest)) (Err (basic scale.BadChar, at)))
+scalar_leaf at rest n true = tt
+scalar_leaf at rest n false = tt
+
+pub char_leaf : (at : List ℕ) (read : Read Reason (List ℕ)) → IsLeafRead (char_from at read)
+char_leaf at (Ok x) = scalar_leaf at x.1 (number x.0) (is_scalar (number x.0))
+char_leaf at (Err e) = tt
+
+leaf_agrees : (one : ℕ → List ℕ → Told) (t : ℕ) (b : List ℕ) (read : Read Refusal Tree) → IsLeafRead read → Agrees read (own_told one t b (leaf_own read))
+leaf_agrees one t b (Ok x) h = (leaf_lone x.0 h, refl)
 leaf_agrees one t b (Err e) h = (b, refl)
 
 arm_agrees : (child : ℕ → List ℕ → Read Refusal Tree) (one : ℕ → List ℕ → Told) → ChildAgrees child one → (t : ℕ) (at b : List ℕ) (found : Option (ℕ × Arm)) → Agrees (arm_at child at found b) (own_told one t at (arm_own at found b))
@@ -120,15 +140,15 @@ layout_agrees child one h t (layout.array n u) b = with_agrees (λ k. k ≡ n) t
 layout_agrees child one h t layout.unknown b = leaf_agrees one t b (layout_at child layout.unknown b) tt
 layout_agrees child one h t layout.bit_sequence b = leaf_agrees one t b (layout_at child layout.bit_sequence b) tt
 layout_agrees child one h t layout.bad_compact b = leaf_agrees one t b (layout_at child layout.bad_compact b) tt
-layout_agrees child one h t layout.empty b = leaf_agrees one t b (layout_at child layout.empty b) refl
-layout_agrees child one h t layout.bool b = leaf_agrees one t b (layout_at child layout.bool b) (bool_lone b)
-layout_agrees child one h t layout.char b = leaf_agrees one t b (layout_at child layout.char b) (char_lone b (bytes_at 4 b))
-layout_agrees child one h t layout.text b = leaf_agrees one t b (layout_at child layout.text b) (value_lone tree.text (λ x. refl) (text_at b))
-layout_agrees child one h t (layout.unsigned k) b = leaf_agrees one t b (layout_at child (layout.unsigned k) b) (value_lone (λ c. tree.unsigned (number c)) (λ x. refl) (bytes_at k b))
-layout_agrees child one h t (layout.signed k) b = leaf_agrees one t b (layout_at child (layout.signed k) b) (value_lone (λ c. tree.signed (signed_number c)) (λ x. refl) (bytes_at k b))
-layout_agrees child one h t layout.wide b = leaf_agrees one t b (layout_at child layout.wide b) (value_lone tree.wide (λ x. refl) (bytes_at 32 b))
-layout_agrees child one h t layout.counted b = leaf_agrees one t b (layout_at child layout.counted b) (value_lone tree.count (λ x. refl) (compact_at target.U32 b))
-layout_agrees child one h t (layout.compact m) b = leaf_agrees one t b (layout_at child (layout.compact m) b) (value_lone tree.compact (λ x. refl) (compact_at m b))
+layout_agrees child one h t layout.empty b = leaf_agrees one t b (layout_at child layout.empty b) tt
+layout_agrees child one h t layout.bool b = leaf_agrees one t b (layout_at child layout.bool b) (bool_leaf b)
+layout_agrees child one h t layout.char b = leaf_agrees one t b (layout_at child layout.char b) (char_leaf b (bytes_at 4 b))
+layout_agrees child one h t layout.text b = leaf_agrees one t b (layout_at child layout.text b) (value_leaf tree.text (λ x. tt) (text_at b))
+layout_agrees child one h t (layout.unsigned k) b = leaf_agrees one t b (layout_at child (layout.unsigned k) b) (value_leaf (λ c. tree.unsigned (number c)) (λ x. tt) (bytes_at k b))
+layout_agrees child one h t (layout.signed k) b = leaf_agrees one t b (layout_at child (layout.signed k) b) (value_leaf (λ c. tree.signed (signed_number c)) (λ x. tt) (bytes_at k b))
+layout_agrees child one h t layout.wide b = leaf_agrees one t b (layout_at child layout.wide b) (value_leaf tree.wide (λ x. tt) (bytes_at 32 b))
+layout_agrees child one h t layout.counted b = leaf_agrees one t b (layout_at child layout.counted b) (value_leaf tree.count (λ x. tt) (compact_at target.U32 b))
+layout_agrees child one h t (layout.compact m) b = leaf_agrees one t b (layout_at child (layout.compact m) b) (value_leaf tree.compact (λ x. tt) (compact_at m b))
 
 room_agrees : (r : List TypeInfo) (room t : ℕ) (b : List ℕ) → ((u : ℕ) (c : List ℕ) → Agrees (value_at r room u c) (told_at r room u c)) → Agrees (value_at r (suc room) t b) (told_at r (suc room) t b)
 unfolding told_at

@@ -30,7 +30,7 @@ use Rattle.decode_core.specs.Running.{IsLength, IsRunning, IsText, IsTextNext, h
 use Rattle.decode_core.specs.Machine.{remain}
 use Rattle.decode_core.specs.declared.run.OpenText.{OpenText}
 use Rattle.decode_core.specs.NodeAdds.{IsAdded}
-use Rattle.decode_core.specs.Turned.{EndTells, Leads, Stops}
+use Rattle.decode_core.specs.Turned.{EndTells, Leads, Stops, WantsBytes}
 use Rattle.decode_core.specs.declared.fault.DecodeReason.TheVariants as reason
 use Rattle.decode_core.specs.declared.turned.Stopped.TheVariants as stop
 use Rattle.decode_core.specs.declared.turned.Turned.TheVariants as turned
@@ -43,7 +43,7 @@ use Rattle.decode_core.proofs.Refusing.{front_short, refuses_by, remain_next, te
 use Rattle.decode_core.proofs.Whole.{bytes_whole}
 
 -- what stands behind a length that was read
-length_again : (n : ℕ) (more : List ℕ) → IsLength n → compact_at target.U32 (compact n ++ more) ≡ Ok (n, more)
+pub length_again : (n : ℕ) (more : List ℕ) → IsLength n → compact_at target.U32 (compact n ++ more) ≡ Ok (n, more)
 length_again n more h = (rw h.read at (compact_extends target.U32 (compact n) more))
 
 -- a text's own bytes, by those behind its length
@@ -182,17 +182,17 @@ len_by b o t (Some s) e k = let same : s ≡ t = cc in ap (λ (p : Pieces). p.le
 pub end_len : (b : Built) (o : OpenText) (n : AtEnd b) → IsText b.text (Some o) → n.pieces.len ≡ o.len
 end_len b o n k = len_by b o n.pieces b.text n.open_is k
 
-missing_by : (b : Built) (c : List ℕ) (o : OpenText) (text : Option Pieces) → b.text ≡ text → IsTextNext b c text → IsText text (Some o) → (o.missing ≡ 0 → ⊥) → (left : List ℕ) × (remain b.walk.types (state_of b) (held_of (record { built = b; carry = c })) ≡ told [] (Err ((truncated, left), held_of (record { built = b; carry = c }))))
+missing_by : (b : Built) (c : List ℕ) (o : OpenText) (text : Option Pieces) → b.text ≡ text → IsTextNext b c text → IsText text (Some o) → (o.missing ≡ 0 → ⊥) → WantsBytes (record { built = b; carry = c })
 missing_by b c o None e h k some = absurd k
 missing_by b c o (Some t) e h k some =
     let held_is : held_of (record { built = b; carry = c }) ≡ compact t.len ++ t.bytes = ap (λ (p : Option Pieces). elim p [ Some t ↦ compact t.len ++ t.bytes | None ↦ c ]) e in
     let few : length t.bytes < t.len = lacks (length t.bytes) t.len o.missing k.1 some in
     let laid = ap (λ (f : Layout). own_at f (compact t.len ++ t.bytes)) (next_has b (form.Primitive P.Str) h.0) ∙ text_missing t.len t.bytes h.2 few in
-    ([], rw held_is (remain_next b (at_next b (form.Primitive P.Str) h.0) (compact t.len ++ t.bytes) [] truncated laid)) where
+    record { form = form.Primitive P.Str; next = h.0; left = []; short = rw held_is laid } where
       lacks : (n all missing : ℕ) → n + missing ≡ all → (missing ≡ 0 → ⊥) → n < all
       lacks n all zero h k = absurd (k refl)
       lacks n all (suc missing) h k = omega (arith, h)
 
 -- a text that lacks bytes waits for them
-pub text_waits : (b : Built) (c : List ℕ) (o : OpenText) → IsTextNext b c b.text → IsText b.text (Some o) → (o.missing ≡ 0 → ⊥) → (left : List ℕ) × (remain b.walk.types (state_of b) (held_of (record { built = b; carry = c })) ≡ told [] (Err ((truncated, left), held_of (record { built = b; carry = c }))))
+pub text_waits : (b : Built) (c : List ℕ) (o : OpenText) → IsTextNext b c b.text → IsText b.text (Some o) → (o.missing ≡ 0 → ⊥) → WantsBytes (record { built = b; carry = c })
 text_waits b c o h k some = missing_by b c o b.text refl h k some

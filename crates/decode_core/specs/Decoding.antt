@@ -1,9 +1,10 @@
 -- What contracts see of a decoder, and which bytes have led to it.
-use Rattle.std.specs.Prelude.{◌≡◌, ℕ, ◌+◌, ◌≤◌, ◌^◌, ◌⊎◌, List, [], ◌++◌, length, map, Result, Ok, Err, true, Option, Some, None, nat_lt, not, ◌||◌, if◌then◌else◌}
+use Rattle.std.specs.Prelude.{◌≡◌, ℕ, suc, ◌+◌, ◌-◌, ◌≤◌, ◌^◌, ◌⊎◌, List, [], ◌++◌, length, map, Result, Ok, Err, true, Option, Some, None, nat_lt, not, ◌||◌, if◌then◌else◌}
+use Rattle.scale_core.specs.Number.{AreBytes}
 use Rattle.registry_core.specs.declared.type_info.TypeInfo.{TypeInfo}
 use Rattle.grammar_core.specs.Preorder.{tree_of}
-use Rattle.grammar_core.specs.Reading.{Refusal}
-use Rattle.grammar_core.specs.Tree.{Tree}
+use Rattle.grammar_core.specs.Reading.{Refusal, truncated}
+use Rattle.grammar_core.specs.Tree.{Tree, nodes, text_bytes as tree_text_bytes}
 use Rattle.value_core.specs.Built.{Built, built_text_bytes}
 use Rattle.value_core.specs.Refusals.{is_whole}
 use Rattle.value_core.specs.Shown.{Seen}
@@ -11,12 +12,18 @@ use Rattle.value_core.specs.Walked.{start_of}
 use Rattle.grammar_core.specs.declared.limits.Limits.{Limits}
 use Rattle.decode_core.specs.declared.fault.OpenFault.{OpenFault}
 use Rattle.decode_core.specs.declared.fault.OpenFault.TheVariants as opening
+use Rattle.widths_core.specs.Layouts.{layout}
+use Rattle.widths_core.specs.Widths.{widest}
+use Rattle.grammar_core.specs.Begun.{Begun, IsBegunPreorder, begun_nodes, begun_text_bytes}
+use Rattle.decode_core.specs.Bound.{node_bound, value_bound}
 use Rattle.decode_core.specs.Machine.{remain, start}
 use Rattle.decode_core.specs.Outcome.{Job, done, refused, more, too_long, IsOutcome}
 use Rattle.decode_core.specs.Reasons.{reason_of}
 use Rattle.decode_core.specs.Running.{Running, held_of, state_of}
-use Rattle.decode_core.specs.Told.{told}
-use Rattle.decode_core.specs.Turned.{Reaches}
+use Rattle.decode_core.specs.Held.{open_text}
+use Rattle.decode_core.specs.Holds.{Holds}
+use Rattle.decode_core.specs.Told.{told, told_at, shown}
+use Rattle.decode_core.specs.Turned.{IsSound, Reaches, WantsBytes}
 use Rattle.decode_core.specs.declared.decoder.Fed.{Fed}
 use Rattle.decode_core.specs.declared.decoder.Fed.TheVariants as fed
 use Rattle.decode_core.specs.declared.decoder.Progress.{Progress}
@@ -30,21 +37,34 @@ pub record Decoding : Type 0 where
   pub taken : ℕ
   pub run : Result Running DecodeFault
 
+-- a value of which nothing came
+abbrev pub first_running : List TypeInfo → ℕ → ℕ → Running
+first_running types root depth = record { built = record { ty = root; walk = start_of types root depth; entries = []; text = None }; carry = [] }
+
 -- the tree of the nodes, where they are a whole value
 abbrev pub built_tree : Built → Tree
 built_tree b = tree_of (map (λ e. e.head) b.entries)
 
--- it is a value of the job's type, of its registry
+-- it is a value of the job's type, of its registry, within its depth limit
 pub record IsOf (j : Job) (s : Running) : Type 0 where
   pub types : s.built.walk.types ≡ j.registry
   pub ty : s.built.ty ≡ j.ty
+  pub limit : s.built.walk.limit ≡ j.depth
+
+-- its nodes are all that these bytes add before they end
+pub record IsWaiting (j : Job) (b : List ℕ) (s : Running) : Type 0 where
+  pub wants : WantsBytes s
+  pub reads : told_at j.registry (suc j.depth) j.ty b ≡ told s.built.entries (Err ((truncated, wants.left), held_of s))
+  pub sound : IsSound s
 
 -- these bytes are those of the nodes and then those that are held, and more may follow
 pub record IsGoing (j : Job) (b : List ℕ) (s : Running) (n : ℕ) : Type 0 where
   pub same : IsOf j s
   pub own : List ℕ
   pub is : b ≡ own ++ held_of s
+  pub are_bytes : AreBytes b
   pub led : Reaches j.registry (start j.depth j.ty) (state_of s.built) own
+  pub stands : (s ≡ first_running j.registry j.ty j.depth) ⊎ IsWaiting j b s
   pub count : n ≡ length b
   pub fits : n ≤ j.bytes
 
@@ -54,6 +74,7 @@ pub record IsDone (j : Job) (b : List ℕ) (s : Running) (n : ℕ) : Type 0 wher
   pub whole : (x : List ℕ) → remain j.registry (state_of s.built) x ≡ told [] (Ok x)
   pub nothing : held_of s ≡ []
   pub is_whole : is_whole s.built ≡ true
+  pub sound : IsSound s
   pub outcome : IsOutcome j b (done (built_tree s.built)) n
   pub fits : n ≤ j.bytes
 
@@ -77,6 +98,19 @@ Answers old new b (Ok progress.More) = IsOutcome new.job b more new.taken
 Answers old new b (Ok (progress.Done used)) = (s : Running) × (new.run ≡ Ok s) × IsOutcome new.job b (done (built_tree s.built)) new.taken × (new.taken ≡ old.taken + used)
 Answers old new b (Err f) = (new.run ≡ Err f) × IsEnded new.job b f new.taken
 
+-- what is held at More: the one begun tree that these bytes make, its nodes and no others, and the bytes behind its own, which
+-- are too few for the node that is missing first; texts have the bytes of the tree's texts, and of an open one those that came
+pub record HoldsOf (j : Job) (b : List ℕ) (s : Running) : Type 0 where
+  pub tree : Begun
+  pub holds : Holds j.registry (suc j.depth) j.ty b tree (held_of s)
+  pub shows : IsBegunPreorder tree (shown s.built.entries)
+  pub nodes : length s.built.entries ≡ begun_nodes tree
+  pub texts : built_text_bytes s.built ≡ begun_text_bytes tree + open_text (layout j.registry holds.2) (held_of s)
+
+abbrev pub HoldsAt : Decoding → List ℕ → Result Progress DecodeFault → Type 0
+HoldsAt d b (Ok progress.More) = (s : Running) × (d.run ≡ Ok s) × HoldsOf d.job b s
+HoldsAt d b _ = Unit {0}
+
 -- some bytes have led to it, within a limit that a count can pass
 pub record IsDecoding (d : Decoding) : Type 0 where
   pub limit : d.job.bytes ≤ 2 ^ 40
@@ -93,7 +127,7 @@ pub record IsLedTo (s : Running) (limit taken : ℕ) : Type 0 where
 
 -- what a piece made of it, by all bytes so far
 abbrev pub RunAnswers : Job → List ℕ → ℕ → Running → Fed → Type 0
-RunAnswers j b taken new (fed.More n) = IsGoing j b new n × IsOutcome j b more n
+RunAnswers j b taken new (fed.More n) = IsGoing j b new n × IsOutcome j b more n × HoldsOf j b new
 RunAnswers j b taken new (fed.Done used) = IsDone j b new (taken + used)
 RunAnswers j b taken new (fed.Ended f n) = IsEnded j b f n
 
@@ -109,7 +143,7 @@ abbrev pub first_of_all : List TypeInfo → ℕ → Limits → Decoding
 first_of_all types root limits = record {
   job = record { registry = types; ty = root; depth = limits.depth; bytes = limits.bytes };
   taken = 0;
-  run = Ok (record { built = record { ty = root; walk = start_of types root limits.depth; entries = []; text = None }; carry = [] });
+  run = Ok (first_running types root limits.depth);
 }
 
 -- an id that is no position first, and then a limit that is out of its range
@@ -129,6 +163,30 @@ node_count d = elim d.run [ Ok s ↦ length s.built.entries | Err f ↦ 0 ]
 
 abbrev pub text_bytes : Decoding → ℕ
 text_bytes d = elim d.run [ Ok s ↦ built_text_bytes s.built | Err f ↦ 0 ]
+
+-- how many nodes are open, and how many bytes are carried
+abbrev pub open_nodes : Decoding → ℕ
+open_nodes d = elim d.run [ Ok s ↦ length s.built.walk.frames - 1 | Err f ↦ 0 ]
+
+abbrev pub carried : Decoding → ℕ
+carried d = elim d.run [ Ok s ↦ length s.carry | Err f ↦ 0 ]
+
+-- what is held is little for the bytes taken, the depth limit and the width of the registry
+pub record IsSmall (d : Decoding) : Type 0 where
+  pub nodes : node_count d ≤ node_bound d.taken d.job.depth (widest d.job.registry)
+  pub texts : text_bytes d ≤ d.taken
+  pub frames : open_nodes d ≤ d.job.depth + 1
+  pub carry : carried d ≤ 32
+
+-- and of a whole value still less
+abbrev pub IsSmallAtEnd : Decoding → Result Progress DecodeFault → Type 0
+IsSmallAtEnd d (Ok (progress.Done used)) = node_count d ≤ value_bound d.taken d.job.depth (widest d.job.registry)
+IsSmallAtEnd d _ = Unit {0}
+
+-- a value that is handed out has few nodes and texts for its bytes
+abbrev pub IsSmallValue : Job → List ℕ → Result Seen DecodeFault → Type 0
+IsSmallValue j b (Ok v) = (n : ℕ) × IsOutcome j b (done v.tree) n × (nodes v.tree ≤ value_bound n j.depth (widest j.registry)) × (tree_text_bytes v.tree ≤ n)
+IsSmallValue j b (Err f) = Unit {0}
 
 -- the value that stands on all these bytes; or they are too few, or were refused
 abbrev pub Finishes : Job → List ℕ → Result Seen DecodeFault → Type 0

@@ -1,13 +1,18 @@
 -- One piece of input, turn by turn.
 use Rattle.std.specs.Prelude.{◌≡◌, ℕ, ◌*◌, ◌+◌, ◌-◌, ◌≤◌, ◌⊎◌, List, [], ◌++◌, length, take, drop, false, true, Result, Ok, Err}
 use Rattle.registry_core.specs.declared.type_info.TypeInfo.{TypeInfo}
+use Rattle.grammar_core.specs.declared.form.Form.{Form}
+use Rattle.grammar_core.specs.declared.form.Next.TheVariants as next
+use Rattle.value_core.specs.Begun.{IsBegun}
+use Rattle.value_core.specs.Built.{next_layout}
+use Rattle.value_core.specs.Walked.{next_of}
 use Rattle.value_core.specs.Refusals.{is_whole}
 use Rattle.grammar_core.specs.Reading.{Refusal, truncated}
 use Rattle.decode_core.specs.Decided.{Decided}
 use Rattle.decode_core.specs.Machine.{State, remain, to_go, is_cut}
 use Rattle.decode_core.specs.Reasons.{reason_of}
-use Rattle.decode_core.specs.Running.{Running, state_of, held_of}
-use Rattle.decode_core.specs.Told.{told, after}
+use Rattle.decode_core.specs.Running.{Running, IsCarry, IsTextNext, state_of, held_of}
+use Rattle.decode_core.specs.Told.{told, after, own_at}
 use Rattle.decode_core.specs.declared.node.NodeFault.{NodeFault}
 use Rattle.decode_core.specs.declared.node.NodeFault.TheVariants as fault
 use Rattle.decode_core.specs.declared.turned.Stopped.{Stopped}
@@ -47,10 +52,17 @@ pub record Moves (old new : Running) (bytes : List ℕ) : Type 0 where
 abbrev pub left_to_do : Running → List ℕ → ℕ
 left_to_do s rest = to_go (types_of s) (state_of s.built) (held_of s ++ rest) + length rest
 
+-- the next node's own bytes are not all there
+pub record WantsBytes (s : Running) : Type 0 where
+  pub form : Form
+  pub next : next_of s.built.walk ≡ next.Wants form
+  pub left : List ℕ
+  pub short : own_at (next_layout s.built) (held_of s) ≡ Err (truncated, left)
+
 -- why no turn follows, where rest is left of the piece
 abbrev pub Stops : Running → List ℕ → Stopped → Type 0
 Stops s rest stop.Finished = ((x : List ℕ) → remain (types_of s) (state_of s.built) x ≡ told [] (Ok x)) × (held_of s ≡ []) × (is_whole s.built ≡ true)
-Stops s rest stop.Wants = (rest ≡ []) × ((left : List ℕ) × (remain (types_of s) (state_of s.built) (held_of s) ≡ told [] (Err ((truncated, left), held_of s))))
+Stops s rest stop.Wants = (rest ≡ []) × WantsBytes s
 Stops s rest (stop.Refused held told_reason at len) = let x = held_of s ++ rest in
     (e : Refusal) × (left : List ℕ) × (is_cut e ≡ false) × (told_reason ≡ reason_of e) × (held ≡ length (held_of s)) × (at ≡ length x - length left)
     × (remain (types_of s) (state_of s.built) x ≡ told [] (Err ((e, left), x))) × Decided (types_of s) (state_of s.built) x e left len
@@ -72,9 +84,17 @@ abbrev pub Stands : Stopped → Running → Running → Type 0
 Stands (stop.Refused held told_reason at len) before new = Unit {0}
 Stands s before new = new ≡ before
 
+-- what holds of every value on its way: a begun tree is built, no more nodes are open than the depth limit lets in, and what
+-- is held beside are bytes of the next node
+pub record IsSound (s : Running) : Type 0 where
+  pub begun : IsBegun s.built
+  pub frames : length s.built.walk.frames ≤ s.built.walk.limit + 2
+  pub carried : IsCarry s.built s.carry
+  pub text_next : IsTextNext s.built s.carry s.built.text
+
 -- what turns on a piece do, of which n bytes were taken
 abbrev pub FeedTells : Running → Running → List ℕ → ℕ → Stopped → Type 0
-FeedTells old new piece n s = (n ≤ length piece) × ((last : Running) × Moves old last (take n piece) × Stops last (drop n piece) s × Stands s last new)
+FeedTells old new piece n s = (n ≤ length piece) × ((last : Running) × Moves old last (take n piece) × Stops last (drop n piece) s × Stands s last new × IsSound last)
 
 -- a turn that needs no bytes
 abbrev pub BareTells : Running → Running → Turned → Type 0

@@ -2,7 +2,9 @@
 
 ghost use Rattle.std.specs.Prelude.{◌≡◌, ◌+◌, ◌++◌, ◌≤◌, ◌^◌, [], ℕ, List, Ok, IfOk, take};
 ghost use Rattle.decode_core.specs.Outcome.{Job};
-ghost use Rattle.decode_core.specs.Decoding.{Answers, Decoding, Finishes, HasValue, IsLedTo, Led, Opens, RunAnswers, RunLed, first_of_all, node_count, opening_fault, text_bytes};
+ghost use Rattle.decode_core.specs.Bound.{node_bound};
+ghost use Rattle.decode_core.specs.Decoding.{Answers, Decoding, Finishes, HasValue, HoldsAt, IsLedTo, IsSmall, IsSmallAtEnd, IsSmallValue, Led, Opens, RunAnswers, RunLed, first_of_all, node_count, opening_fault, text_bytes};
+ghost use Rattle.widths_core.specs.Widths.{widest};
 
 use crate::fault::{DecodeFault, DecodeReason, OpenFault};
 use crate::run::Run;
@@ -169,7 +171,8 @@ impl<'r, A: Allocator> Decoder<'r, A> {
 
     /// How many nodes it holds; 0 after a refusal.
     pub fn node_count(&self) -> u64
-        ensures { result ≡ node_count self.now }
+        ensures count { result ≡ node_count self.now }
+        ensures bound { result ≤ node_bound self.now.taken self.now.job.depth (widest self.now.job.registry) }
     {
         match &self.run {
             Ok(run) => run.node_count(),
@@ -179,7 +182,8 @@ impl<'r, A: Allocator> Decoder<'r, A> {
 
     /// How many bytes of text it holds, those of a text that is not there whole too; 0 after a refusal.
     pub fn text_bytes(&self) -> u64
-        ensures { result ≡ text_bytes self.now }
+        ensures count { result ≡ text_bytes self.now }
+        ensures bound { result ≤ self.now.taken }
     {
         match &self.run {
             Ok(run) => run.text_bytes(),
@@ -199,6 +203,9 @@ impl<'r, A: Allocator> Decoder<'r, A> {
     pub fn feed(&mut self, piece: &[u8]) -> Result<Progress, DecodeFault>
         ensures job { self.new.job ≡ self.old.job }
         ensures value { HasValue self.new result }
+        ensures held { (b : List ℕ) → Led self.old b → HoldsAt self.new (b ++ piece.now) result }
+        ensures small { IsSmall self.new }
+        ensures small_at_end { IsSmallAtEnd self.new result }
         ensures answers { (b : List ℕ) → Led self.old b → Answers self.old self.new (b ++ piece.now) result × Led self.new (b ++ piece.now) }
     {
         let fed = match &mut self.run {
@@ -227,7 +234,8 @@ impl<'r, A: Allocator> Decoder<'r, A> {
     /// Refuses a value that is unfinished as `Truncated` at the number of bytes that were fed, and else as `feed` did.
     /// Nothing comes back then.
     pub fn finish(self) -> Result<Value<'r, A>, DecodeFault>
-        ensures { (b : List ℕ) → Led self.entry b → Finishes self.entry.job b result }
+        ensures finishes { (b : List ℕ) → Led self.entry b → Finishes self.entry.job b result }
+        ensures small { (b : List ℕ) → Led self.entry b → IsSmallValue self.entry.job b result }
     {
         let mut decoder = self;
         if let Progress::More = decoder.feed(&[])? {

@@ -7,7 +7,7 @@ ghost use Rattle.value_core.specs.Built.{built_text_bytes, finished};
 ghost use Rattle.value_core.specs.Refusals.{is_whole};
 ghost use Rattle.decode_core.specs.Needs.{AreOwn, HasBytes, IsFirst, IsNeeded};
 ghost use Rattle.decode_core.specs.NodeAdds.{TakesNode};
-ghost use Rattle.decode_core.specs.Turned.{BareTells, EndTells, FeedTells, StepTells, node_turned};
+ghost use Rattle.decode_core.specs.Turned.{BareTells, EndTells, FeedTells, IsSound, StepTells, node_turned};
 
 use crate::carry::Carry;
 use crate::fault::DecodeReason;
@@ -257,7 +257,8 @@ impl<'r, A: Allocator> Run<'r, A> {
 
     /// One turn: takes bytes of the piece, adds a node, or stops.
     fn turn(&mut self, piece: &[u8]) -> Turned
-        ensures { StepTells self.old self.new piece.now result }
+        ensures tells { StepTells self.old self.new piece.now result }
+        ensures sound { IsSound self.old }
     {
         match self.builder.walk().next() {
             Next::Finished => Turned::Stopped(Stopped::Finished),

@@ -111,7 +111,7 @@ preorder_length v = ap length (sym (cells_preorder [] 0 v)) ∙ length-map (cell
 all_preorder_length : (vs : Trees) → length (all_preorder vs) ≡ all_nodes vs
 all_preorder_length vs = ap length (sym (all_cells_preorder [] (each []) vs)) ∙ length-map (all_cells [] (each []) vs) (λ (c : Cell). c.head) ∙ all_cells_length [] (each []) vs
 
-abbrev Counts : Begun → List Head → Type 0
+abbrev pub Counts : Begun → List Head → Type 0
 Counts g hs = (length hs ≡ begun_nodes g) × (heads_text hs ≡ begun_text_bytes g)
 
 -- the counts of a node without text, its whole children and the one that is begun
@@ -121,7 +121,7 @@ counted g h vs rest none c = (
   omega (arith, none, heads_text-append (all_preorder vs) rest, text_of_all_preorder vs, c.1),
 )
 
-counts : (g : Begun) (hs : List Head) → IsBegunPreorder g hs → Counts g hs
+pub counts : (g : Begun) (hs : List Head) → IsBegunPreorder g hs → Counts g hs
 counts nothing hs h = rw h (refl, refl)
 counts (whole v) hs h = rw h (preorder_length v, text_of_preorder v)
 counts (in_fields vs g) hs h = rw h.2 (counted g (head.fields h.0) vs h.1 refl (counts g h.1 h.3))

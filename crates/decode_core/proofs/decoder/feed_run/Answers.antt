@@ -1,3 +1,5 @@
+use Rattle.std.proofs.Common.{arith}
+use Rattle.scale_core.proofs.ReadForms.{are_bytes}
 use Rattle.decode_core.proofs.FeedRun.{run_done, run_long, run_more, run_held, run_refused}
 use Rattle.decode_core.proofs.decoder.feed_run.Goals as goal
 
@@ -15,7 +17,7 @@ returns-in-Ok-default-Finished g c = λ j b e led. run_done j b c.args.piece.now
 
 -- src/decoder.rt:72:1
 pub returns-else-offered-piece : goal.returns-else-offered-piece
-returns-else-offered-piece g c = λ j b e led. run_more j b c.args.piece.now c.within-offered.result.now c.args.run.now c.feed.new.self c.args.limit c.args.taken c.in-Ok-default-Wants.count c.in-Ok-default-Wants.field-0-1 e c.within-offered.ensures led c.in-Ok-default-Wants.ensures c.in-Ok-default-Wants.field-0-1-is c.if-offered-piece.false
+returns-else-offered-piece g c = λ j b e led. run_more j b c.args.piece.now c.within-offered.result.now c.args.run.now c.feed.new.self c.args.limit c.args.taken c.in-Ok-default-Wants.count c.in-Ok-default-Wants.field-0-1 e c.within-offered.ensures led c.in-Ok-default-Wants.ensures c.in-Ok-default-Wants.field-0-1-is (are_bytes c.args.piece.now (λ i. omega (arith, c.type_inv.piece i))) c.if-offered-piece.false
 
 -- src/decoder.rt:72:1
 pub returns-in-Ok-default-Refused : goal.returns-in-Ok-default-Refused

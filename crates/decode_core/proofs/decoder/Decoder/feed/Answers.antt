@@ -1,8 +1,9 @@
-use Rattle.std.proofs.Common.{◌++◌}
+use Rattle.std.proofs.Common.{◌+◌, ◌++◌, Ok}
 use Rattle.decode_core.specs.Outcome.{Job}
 use Rattle.decode_core.specs.Decoding.{Decoding, Led, RunLed}
-use Rattle.std.proofs.Common.{refl, sym, subst, inr}
+use Rattle.std.proofs.Common.{refl, sym, ap, subst, inl, inr}
 use Rattle.decode_core.proofs.Feeding.{ended_stays}
+use Rattle.decode_core.proofs.Sound.{done_small, led_small}
 use Rattle.decode_core.proofs.decoder.Decoder.feed.Goals as goal
 
 -- src/decoder.rt:128:27
@@ -30,3 +31,54 @@ returns-in-Ended-clause-answers g c = λ b led.
     let before : RunLed j b d.taken d.run = subst (λ (x : Decoding). Led x b) (sym c.self.view_is) led in
     let ended = c.in-Ended.ensures j b refl (subst (RunLed j b d.taken) c.in-Ok.is before) in
     ((refl, ended), ended)
+
+-- src/decoder.rt:203:5
+pub returns-in-More-clause-held : goal.returns-in-More-clause-held
+returns-in-More-clause-held g c = λ b led.
+    let d = c.self.inside in
+    let j : Job = record { registry = d.checked.now; ty = d.root.0; depth = d.limits.depth; bytes = d.limits.bytes } in
+    let before : RunLed j b d.taken d.run = subst (λ (x : Decoding). Led x b) (sym c.self.view_is) led in
+    let told = c.in-More.ensures j b refl (subst (RunLed j b d.taken) c.in-Ok.is before) in
+    (c.feed_run-fed.new.run, refl, told.2)
+
+-- src/decoder.rt:203:5
+pub returns-in-More-clause-small : goal.returns-in-More-clause-small
+returns-in-More-clause-small g c =
+    let d = c.self.inside in
+    let j : Job = record { registry = d.checked.now; ty = d.root.0; depth = d.limits.depth; bytes = d.limits.bytes } in
+    let told = c.in-More.ensures j c.self.invariant.bytes refl (subst (RunLed j c.self.invariant.bytes d.taken) c.in-Ok.is c.self.invariant.led) in
+    led_small j (c.self.invariant.bytes ++ c.args.piece.now) c.in-More.taken (Ok c.feed_run-fed.new.run) (inl told.0)
+
+-- src/decoder.rt:203:5
+pub returns-in-More-clause-answers : goal.returns-in-More-clause-answers
+returns-in-More-clause-answers g c = λ b led.
+    let d = c.self.inside in
+    let j : Job = record { registry = d.checked.now; ty = d.root.0; depth = d.limits.depth; bytes = d.limits.bytes } in
+    let before : RunLed j b d.taken d.run = subst (λ (x : Decoding). Led x b) (sym c.self.view_is) led in
+    let told = c.in-More.ensures j b refl (subst (RunLed j b d.taken) c.in-Ok.is before) in
+    (told.1, inl told.0)
+
+-- src/decoder.rt:203:5
+pub returns-in-Done-clause-small : goal.returns-in-Done-clause-small
+returns-in-Done-clause-small g c =
+    let d = c.self.inside in
+    let j : Job = record { registry = d.checked.now; ty = d.root.0; depth = d.limits.depth; bytes = d.limits.bytes } in
+    let told = c.in-Done.ensures j c.self.invariant.bytes refl (subst (RunLed j c.self.invariant.bytes d.taken) c.in-Ok.is c.self.invariant.led) in
+    led_small j (c.self.invariant.bytes ++ c.args.piece.now) (d.taken + c.in-Done.used) (Ok c.feed_run-fed.new.run) (inr told)
+
+-- src/decoder.rt:203:5
+pub returns-in-Done-clause-small_at_end : goal.returns-in-Done-clause-small_at_end
+returns-in-Done-clause-small_at_end g c =
+    let d = c.self.inside in
+    let j : Job = record { registry = d.checked.now; ty = d.root.0; depth = d.limits.depth; bytes = d.limits.bytes } in
+    let told = c.in-Done.ensures j c.self.invariant.bytes refl (subst (RunLed j c.self.invariant.bytes d.taken) c.in-Ok.is c.self.invariant.led) in
+    (done_small j (c.self.invariant.bytes ++ c.args.piece.now) (d.taken + c.in-Done.used) c.feed_run-fed.new.run told).0
+
+-- src/decoder.rt:203:5
+pub returns-in-Done-clause-answers : goal.returns-in-Done-clause-answers
+returns-in-Done-clause-answers g c = λ b led.
+    let d = c.self.inside in
+    let j : Job = record { registry = d.checked.now; ty = d.root.0; depth = d.limits.depth; bytes = d.limits.bytes } in
+    let before : RunLed j b d.taken d.run = subst (λ (x : Decoding). Led x b) (sym c.self.view_is) led in
+    let told = c.in-Done.ensures j b refl (subst (RunLed j b d.taken) c.in-Ok.is before) in
+    ((c.feed_run-fed.new.run, refl, told.outcome, ap (λ (x : Decoding). x.taken + c.in-Done.used) c.self.view_is), inr told)

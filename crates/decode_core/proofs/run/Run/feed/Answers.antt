@@ -7,12 +7,12 @@ use Rattle.decode_core.proofs.run.Run.feed.Goals as goal
 -- src/run.rt:241:9
 pub turns-smaller : goal.turns-smaller
 turns-smaller g c =
-    let tells = subst (StepTells c.turns.self c.turn.new.self (take (length c.args.piece.now - c.turns.at) (drop c.turns.at c.args.piece.now))) c.in-On.is c.turn.ensures in
+    let tells = subst (StepTells c.turns.self c.turn.new.self (take (length c.args.piece.now - c.turns.at) (drop c.turns.at c.args.piece.now))) c.in-On.is c.turn.ensures.tells in
     turn_nearer c.turns.self c.turn.new.self c.args.piece.now c.turns.at c.in-On.count tells
 
 -- src/run.rt:241:9
 pub turns-preserved : goal.turns-preserved
 turns-preserved g c =
-    let tells = subst (StepTells c.turns.self c.turn.new.self (take (length c.args.piece.now - c.turns.at) (drop c.turns.at c.args.piece.now))) c.in-On.is c.turn.ensures in
+    let tells = subst (StepTells c.turns.self c.turn.new.self (take (length c.args.piece.now - c.turns.at) (drop c.turns.at c.args.piece.now))) c.in-On.is c.turn.ensures.tells in
     let on = turn_goes_on c.args.self.now c.turns.self c.turn.new.self c.args.piece.now c.turns.at c.in-On.count c.turns.invariant.inside c.turns.invariant.moves tells in
     record { piece = refl; inside = on.0; moves = on.1 }

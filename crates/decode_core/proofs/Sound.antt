@@ -1,0 +1,141 @@
+-- What holds of every value on its way, and that what it holds is little.
+use Rattle.std.proofs.Common.{◌≡◌, ℕ, zero, suc, ◌+◌, ◌*◌, ◌-◌, ◌≤◌, ◌⊎◌, Bool, true, false, cond, List, [], ◌∷◌, ◌++◌, length, map, Option, Some, None, Ok, Err, refl, sym, ap, subst, ◌∙◌, arith, inl, inr, length-append}
+use Rattle.std.specs.Prelude.{Result}
+use Rattle.std.proofs.lemmas.List.{length-map}
+use Rattle.scale_core.specs.Compact.{compact}
+use Rattle.scale_core.specs.Read.{form_len, is_too_long}
+use Rattle.scale_core.specs.declared.compact.Target.{Target}
+use Rattle.scale_core.specs.declared.compact.Target.TheVariants as target
+use Rattle.registry_core.specs.declared.primitive.Primitive.{Primitive}
+use Rattle.registry_core.specs.declared.primitive.Primitive.TheVariants as P
+use Rattle.widths_core.specs.Widths.{widest}
+use Rattle.grammar_core.specs.Begun.{Begun, nothing, whole, in_fields, in_arm, in_list, IsBegunPreorder, begun_nodes, begun_text_bytes, is_whole_tree}
+use Rattle.grammar_core.specs.Preorder.{Head, preorder, tree_of, tree_of-preorder}
+use Rattle.grammar_core.specs.Reading.{truncated}
+use Rattle.grammar_core.specs.Tree.{Tree, nodes, text_bytes}
+use Rattle.grammar_core.specs.declared.form.Form.{Form}
+use Rattle.grammar_core.specs.declared.form.Form.TheVariants as form
+use Rattle.value_core.specs.Begun.{IsBegun}
+use Rattle.value_core.specs.Built.{Built, Entry, Pieces, entries_text_bytes, built_text_bytes, pieces_bytes}
+use Rattle.value_core.specs.Refusals.{is_whole}
+use Rattle.value_core.proofs.Begun.{counts}
+use Rattle.value_core.proofs.Finished.{heads_text}
+use Rattle.decode_core.specs.Begins.{Begins}
+use Rattle.decode_core.specs.Bound.{node_bound, value_bound}
+use Rattle.value_core.specs.Shown.{Seen}
+use Rattle.decode_core.specs.Decoding.{Decoding, Finishes, IsSmallValue, IsDone, IsGoing, IsSmall, IsWaiting, RunLed, built_tree, first_running, node_count, text_bytes as texts_held}
+use Rattle.decode_core.specs.Needs.{compact_need, need}
+use Rattle.decode_core.specs.Outcome.{Job, done, IsOutcome}
+use Rattle.decode_core.specs.Running.{Running, IsCarry, IsRunning, held_of}
+use Rattle.decode_core.specs.Told.{Fault, shown, told, told_at}
+use Rattle.decode_core.specs.Turned.{IsSound}
+use Rattle.decode_core.specs.declared.fault.DecodeFault.{DecodeFault}
+use Rattle.decode_core.specs.declared.run.OpenText.{OpenText}
+use Rattle.decode_core.proofs.FaultBegins.{fault_is_begun}
+use Rattle.decode_core.proofs.HeldBound.{held_is_bounded}
+use Rattle.decode_core.proofs.Holds.{begins_small, more_bytes}
+use Rattle.decode_core.proofs.Held.{begun_is_bounded}
+use Rattle.decode_core.proofs.Short.{form_len_small}
+
+-- ---- few bytes are carried
+
+compact_need_small : (m : Target) (first : ℕ) → compact_need m first ≤ 32
+compact_need_small m first = by (is_too_long m first) refl where
+  by : (long : Bool) → is_too_long m first ≡ long → cond long 1 (form_len first) ≤ 32
+  by true e = omega arith
+  by false e = omega (arith, form_len_small m first e)
+
+primitive_need_small : (p : Primitive) (first : ℕ) → need (form.Primitive p) first ≤ 32
+primitive_need_small P.Str first = compact_need_small target.U32 first
+primitive_need_small P.Bool first = omega arith
+primitive_need_small P.Char first = omega arith
+primitive_need_small P.U8 first = omega arith
+primitive_need_small P.U16 first = omega arith
+primitive_need_small P.U32 first = omega arith
+primitive_need_small P.U64 first = omega arith
+primitive_need_small P.U128 first = omega arith
+primitive_need_small P.U256 first = omega arith
+primitive_need_small P.I8 first = omega arith
+primitive_need_small P.I16 first = omega arith
+primitive_need_small P.I32 first = omega arith
+primitive_need_small P.I64 first = omega arith
+primitive_need_small P.I128 first = omega arith
+primitive_need_small P.I256 first = omega arith
+
+need_small : (f : Form) (first : ℕ) → need f first ≤ 32
+need_small (form.Primitive p) first = primitive_need_small p first
+need_small (form.Compact m) first = compact_need_small m first
+need_small form.Sequence first = compact_need_small target.U32 first
+need_small form.Count first = compact_need_small target.U32 first
+need_small form.Empty first = omega arith
+need_small form.Fields first = omega arith
+need_small form.Arm first = omega arith
+need_small (form.Array n) first = omega arith
+
+carry_small : (b : Built) (carry : List ℕ) → IsCarry b carry → length carry ≤ 32
+carry_small b [] h = omega arith
+carry_small b (first ∷ rest) h = omega (arith, h.4, need_small h.0 first)
+
+pub sound_of : (b : Built) (carry : List ℕ) (text : Option OpenText) (s : Running) → record { built = b; carry = carry } ≡ s → IsBegun b → IsRunning b carry text → IsSound s
+sound_of b carry text s is begun run = subst IsSound is (record { begun = begun; frames = run.deep; carried = run.carried; text_next = run.text_next })
+
+-- ---- few nodes and texts are held
+
+texts_shown : (xs : List Entry) → entries_text_bytes xs ≡ heads_text (shown xs)
+texts_shown [] = refl
+texts_shown (x ∷ xs) = omega (arith, texts_shown xs)
+
+pieces_held : (s : Running) → length (pieces_bytes s.built.text) ≤ length (held_of s)
+pieces_held s = by s.built.text where
+  by : (t : Option Pieces) → length (pieces_bytes t) ≤ length {A = ℕ} (elim t [ Some t ↦ compact t.len ++ t.bytes | None ↦ s.carry ])
+  by None = omega arith
+  by (Some t) = omega (arith, length-append (compact t.len) t.bytes)
+
+waiting_small : (j : Job) (b : List ℕ) (n : ℕ) (s : Running) → n ≡ length b → IsWaiting j b s → (length s.built.entries ≤ node_bound n j.depth (widest j.registry)) × (built_text_bytes s.built ≤ n)
+waiting_small j b n s count h =
+    let e : Fault = ((truncated, h.wants.left), held_of s) in
+    let g = fault_is_begun j.registry (suc j.depth) j.ty b s.built.entries e h.reads in
+    let few = begins_small j.registry j.depth j.ty b s.built.entries e h.reads g in
+    let len : length b ≡ length g.own + length (held_of s) = ap length g.is ∙ length-append g.own (held_of s) in
+    let less : length g.own ≤ n = omega (arith, len, count) in
+    let texts = (begun_is_bounded j.registry (suc j.depth) j.ty g.tree g.own (Some (g.below, g.next)) g.grows).2 in (
+      omega (arith, few, more_bytes (length g.own) n j.depth (widest j.registry) less),
+      omega (arith, texts, (counts g.tree (shown s.built.entries) g.shows).1, texts_shown s.built.entries, pieces_held s, len, count),
+    )
+
+whole_counts : (g : Begun) (hs : List Head) → is_whole_tree g ≡ true → IsBegunPreorder g hs → (begun_nodes g ≡ nodes (tree_of hs)) × (begun_text_bytes g ≡ text_bytes (tree_of hs))
+whole_counts (whole v) hs e h = let same : tree_of hs ≡ v = ap tree_of h ∙ tree_of-preorder v in (ap nodes (sym same), ap text_bytes (sym same))
+whole_counts nothing hs e h = absurd cc
+whole_counts (in_fields vs g) hs e h = absurd cc
+whole_counts (in_arm q vs g) hs e h = absurd cc
+whole_counts (in_list n vs g) hs e h = absurd cc
+
+pub done_small : (j : Job) (b : List ℕ) (n : ℕ) (s : Running) → IsDone j b s n → (length s.built.entries ≤ value_bound n j.depth (widest j.registry)) × (built_text_bytes s.built ≤ n)
+done_small j b n s h =
+    let begun = h.sound.begun in
+    let count = whole_counts begun.tree (shown s.built.entries) (sym begun.whole ∙ h.is_whole) begun.shows in
+    let few = (held_is_bounded j b n).0 (built_tree s.built) h.outcome in
+    (omega (arith, begun.nodes, count.0, few.0), omega (arith, begun.text_bytes, count.1, few.1, pieces_held s, ap length h.nothing))
+
+value_le_nodes : (n depth width : ℕ) → value_bound n depth width ≤ node_bound n depth width
+value_le_nodes n depth width =
+    let spread : (n + 1) * (depth + 1) * (width + 1) ≡ n * (depth + 1) * (width + 1) + (depth * width + depth + width + 1) = grind (arith) in
+    omega (arith, spread)
+
+-- as much as is held of a value with these nodes, texts and open parts
+running_small : (j : Job) (n : ℕ) (s : Running) → length s.built.entries ≤ node_bound n j.depth (widest j.registry) → built_text_bytes s.built ≤ n → s.built.walk.limit ≡ j.depth → IsSound s → IsSmall (record { job = j; taken = n; run = Ok s })
+running_small j n s few texts limit sound = record { nodes = few; texts = texts; frames = omega (arith, sound.frames, limit); carry = carry_small s.built s.carry sound.carried }
+
+first_small : (j : Job) (n : ℕ) (s : Running) → s ≡ first_running j.registry j.ty j.depth → IsSmall (record { job = j; taken = n; run = Ok s })
+first_small j n s is = subst (λ (x : Running). IsSmall (record { job = j; taken = n; run = Ok x })) (sym is) (record { nodes = omega arith; texts = omega arith; frames = omega arith; carry = omega arith })
+
+pub led_small : (j : Job) (b : List ℕ) (n : ℕ) (run : Result Running DecodeFault) → RunLed j b n run → IsSmall (record { job = j; taken = n; run = run })
+led_small j b n (Err f) h = record { nodes = omega arith; texts = omega arith; frames = omega arith; carry = omega arith }
+led_small j b n (Ok s) (inr h) = let few = done_small j b n s h in running_small j n s (omega (arith, few.0, value_le_nodes n j.depth (widest j.registry))) few.1 h.same.limit h.sound
+led_small j b n (Ok s) (inl h) = by h.stands where
+  by : (s ≡ first_running j.registry j.ty j.depth) ⊎ IsWaiting j b s → IsSmall (record { job = j; taken = n; run = Ok s })
+  by (inl is) = first_small j n s is
+  by (inr w) = let few = waiting_small j b n s h.count w in running_small j n s few.0 few.1 h.same.limit w.sound
+
+pub value_small : (j : Job) (b : List ℕ) (v : Seen) → Finishes j b (Ok v) → IsSmallValue j b (Ok v)
+value_small j b v h = let few = (held_is_bounded j b h.0).0 v.tree h.3 in (h.0, h.3, few.0, few.1)

@@ -1,0 +1,20 @@
+use Rattle.std.proofs.Common.{ℕ, List, Ok, ◌≤◌}
+use Rattle.std.specs.Prelude.{Result}
+use Rattle.widths_core.specs.Widths.{widest}
+use Rattle.decode_core.specs.Bound.{node_bound}
+use Rattle.decode_core.specs.Decoding.{Decoding, IsSmall}
+use Rattle.decode_core.specs.Outcome.{Job}
+use Rattle.std.proofs.Common.{arith, subst}
+use Rattle.decode_core.specs.Running.{Running}
+use Rattle.decode_core.specs.declared.fault.DecodeFault.{DecodeFault}
+use Rattle.decode_core.proofs.Sound.{led_small}
+use Rattle.decode_core.proofs.decoder.Decoder.node_count.Goals as goal
+
+-- src/decoder.rt:173:5
+pub returns-in-Ok-clause-bound : goal.returns-in-Ok-clause-bound
+returns-in-Ok-clause-bound g c =
+    let d = c.self.inside in
+    let j : Job = record { registry = d.checked.now; ty = d.root.0; depth = d.limits.depth; bytes = d.limits.bytes } in
+    let small = subst (λ (r : Result Running DecodeFault). IsSmall (record { job = j; taken = d.taken; run = r })) c.in-Ok.is (led_small j c.self.invariant.bytes d.taken d.run c.self.invariant.led) in
+    let few : c.node_count.result ≤ node_bound d.taken j.depth (widest j.registry) = omega (arith, small.nodes, c.node_count.ensures) in
+    subst (λ (x : Decoding). c.node_count.result ≤ node_bound x.taken x.job.depth (widest x.job.registry)) c.self.view_is few

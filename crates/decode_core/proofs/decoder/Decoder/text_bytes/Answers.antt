@@ -1,0 +1,18 @@
+use Rattle.std.proofs.Common.{ℕ, List, Ok, ◌≤◌}
+use Rattle.std.specs.Prelude.{Result}
+use Rattle.decode_core.specs.Decoding.{Decoding, IsSmall}
+use Rattle.decode_core.specs.Outcome.{Job}
+use Rattle.std.proofs.Common.{arith, subst}
+use Rattle.decode_core.specs.Running.{Running}
+use Rattle.decode_core.specs.declared.fault.DecodeFault.{DecodeFault}
+use Rattle.decode_core.proofs.Sound.{led_small}
+use Rattle.decode_core.proofs.decoder.Decoder.text_bytes.Goals as goal
+
+-- src/decoder.rt:184:5
+pub returns-in-Ok-clause-bound : goal.returns-in-Ok-clause-bound
+returns-in-Ok-clause-bound g c =
+    let d = c.self.inside in
+    let j : Job = record { registry = d.checked.now; ty = d.root.0; depth = d.limits.depth; bytes = d.limits.bytes } in
+    let small = subst (λ (r : Result Running DecodeFault). IsSmall (record { job = j; taken = d.taken; run = r })) c.in-Ok.is (led_small j c.self.invariant.bytes d.taken d.run c.self.invariant.led) in
+    let few : c.text_bytes.result ≤ d.taken = omega (arith, small.texts, c.text_bytes.ensures) in
+    subst (λ (x : Decoding). c.text_bytes.result ≤ x.taken) c.self.view_is few
