@@ -37,7 +37,7 @@ moved_own j b cut s last n k g m =
     ap (λ (l : List ℕ). l ++ cut) g.is ∙ append_assoc g.own (held_of s) cut ∙ ap (λ (l : List ℕ). g.own ++ (held_of s ++ l)) (sym (take-append-drop k cut))
     ∙ ap (λ (l : List ℕ). g.own ++ l) (sym (append_assoc (held_of s) (take k cut) (drop k cut)) ∙ ap (λ (l : List ℕ). l ++ drop k cut) m.is ∙ append_assoc m.own (held_of last) (drop k cut)) ∙ sym (append_assoc g.own m.own (held_of last ++ drop k cut))
 
-moved_led : (j : Job) (b : List ℕ) (s last : Running) (n : ℕ) (x : List ℕ) → (g : IsGoing j b s n) → (m : Moves s last x) → Reaches j.registry (start j.depth j.ty) (state_of last.built) (g.own ++ m.own)
+pub moved_led : (j : Job) (b : List ℕ) (s last : Running) (n : ℕ) (x : List ℕ) → (g : IsGoing j b s n) → (m : Moves s last x) → Reaches j.registry (start j.depth j.ty) (state_of last.built) (g.own ++ m.own)
 moved_led j b s last n x g m =
     let one : Reaches j.registry (state_of s.built) (state_of last.built) m.own = subst (λ (r : List TypeInfo). Reaches r (state_of s.built) (state_of last.built) m.own) g.same.types (record { tells = m.tells; level = m.level }) in
     led_on j.registry (start j.depth j.ty) (state_of s.built) (state_of last.built) g.own m.own g.led one

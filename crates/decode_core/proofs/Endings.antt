@@ -107,4 +107,4 @@ stop_stops b c text piece why h is =
     let none = nothing_held b c text h (λ f e. let both = sym is ∙ e in absurd cc) in
     let x = held_of (record { built = b; carry = c }) ++ piece in
     let r = stop_refuses b why is x in
-    (stop_refusal why, x, no_cut why, refl, sym (ap length none), omega arith, r.tells, r.decided)
+    (stop_refusal why, x, no_cut why, refl, sym (ap length none), omega arith, r.tells, r.decided, omega arith)

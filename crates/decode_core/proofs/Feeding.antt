@@ -22,7 +22,7 @@ use Rattle.decode_core.proofs.Refusing.{waits_told}
 -- ---- a value that is whole takes no more
 
 -- what a whole value tells after any move
-done_told : (j : Job) (b : List ℕ) (s last : Running) (n : ℕ) (x : List ℕ) → (g : IsDone j b s n) → (m : Moves s last x) → (later : List ℕ) → told s.built.entries (Ok (m.own ++ later)) ≡ after last.built.entries (remain (types_of s) (state_of last.built) later)
+pub done_told : (j : Job) (b : List ℕ) (s last : Running) (n : ℕ) (x : List ℕ) → (g : IsDone j b s n) → (m : Moves s last x) → (later : List ℕ) → told s.built.entries (Ok (m.own ++ later)) ≡ after last.built.entries (remain (types_of s) (state_of last.built) later)
 done_told j b s last n x g m later =
     let whole : remain (types_of s) (state_of s.built) (m.own ++ later) ≡ told [] (Ok (m.own ++ later)) = ap (λ (r : List TypeInfo). remain r (state_of s.built) (m.own ++ later)) g.same.types ∙ g.whole (m.own ++ later) in
     ap (λ (xs : List Entry). told xs (Ok (m.own ++ later))) (sym (append-nil s.built.entries)) ∙ sym (ap (after s.built.entries) whole) ∙ m.tells later

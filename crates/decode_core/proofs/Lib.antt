@@ -1,3 +1,4 @@
+pub mod Tokens
 pub mod Deciding
 pub mod Shortest
 pub mod Outcomes
@@ -37,6 +38,7 @@ pub mod Moving
 pub mod ToldSpells
 pub mod Holding
 pub mod Sound
+pub mod Counting
 pub mod Bridge
 pub mod Feeding
 pub mod FeedRun

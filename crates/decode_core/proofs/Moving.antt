@@ -87,3 +87,13 @@ pub turn_nearer : (b c : Running) (piece : List ℕ) (at n : ℕ) → StepTells 
 turn_nearer b c piece at n k =
     let one = rest_tells b c piece at n k in
     subst (λ (l : List ℕ). left_to_do c l < left_to_do b (drop at piece)) (drop_more piece at n) (step_nearer b c (drop at piece) n one.0 one.1 one.2)
+
+-- ---- the turns are counted
+
+few_by : (old a b : Running) (bytes : List ℕ) (from so_far to at n : ℕ) → n ≡ length bytes → so_far + length old.built.entries ≤ from + at + length a.built.entries → to ≡ so_far + 1 → Steps a b bytes → to + length old.built.entries ≤ from + (at + n) + length b.built.entries
+few_by old a b bytes from so_far to at n count h is (inl k) = omega (arith, count, h, is, k.0, ap (λ (s : State). length s.nodes) k.1)
+few_by old a b bytes from so_far to at n count h is (inr k) = omega (arith, h, is, k.2)
+
+-- a turn that goes on takes a byte or adds a node
+pub few_on : (old a b : Running) (piece : List ℕ) (from so_far to at n : ℕ) → so_far + length old.built.entries ≤ from + at + length a.built.entries → to ≡ so_far + 1 → StepTells a b piece (turned.On n) → to + length old.built.entries ≤ from + (at + n) + length b.built.entries
+few_on old a b piece from so_far to at n h is k = few_by old a b (take n piece) from so_far to at n (omega (arith, length-take n piece, k.0)) h is k.2

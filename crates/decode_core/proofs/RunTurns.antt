@@ -80,7 +80,7 @@ refused_tells b new c bytes rest own f told_reason at wants some closed a is h =
     let whole : x ≡ own ++ rest = ap (λ (l : List ℕ). l ++ (bytes ++ rest)) (held_closed b c closed) ∙ sym (append_assoc c bytes rest) ∙ ap (λ (l : List ℕ). l ++ rest) is in
     let r = refuses b f own rest h.1 h.0 wants some a h.2 h.3 in
     let place_is : at ≡ length x - length (h.1 ++ rest) = omega (arith, h.5, ap length whole, length-append own rest, length-append h.1 rest) in
-    (h.0, h.1 ++ rest, h.3, h.4, ap length (sym (held_closed b c closed)), place_is, rw whole r.tells, rw whole r.decided)
+    (h.0, h.1 ++ rest, h.3, h.4, ap length (sym (held_closed b c closed)), place_is, rw whole r.tells, rw whole r.decided, omega (arith, ap length is, length-append c bytes))
 
 pub node_tells : (f : Form) (b new : Built) (c bytes rest own : List ℕ) (text : Option OpenText) (taken : Result (Unit {0}) NodeFault) → next_of b.walk ≡ next.Wants f → HasBytes f → b.text ≡ None → AreOwn f own → c ++ bytes ≡ own → 1 ≤ length bytes → TakesNode f b new text own taken →
     StepTells (record { built = b; carry = c }) (record { built = new; carry = [] }) (bytes ++ rest) (node_turned taken (length c) (length bytes) (length own))

@@ -23,7 +23,7 @@ use Rattle.value_core.proofs.Finished.{heads_text}
 use Rattle.decode_core.specs.Begins.{Begins}
 use Rattle.decode_core.specs.Bound.{node_bound, value_bound}
 use Rattle.value_core.specs.Shown.{Seen}
-use Rattle.decode_core.specs.Decoding.{Decoding, Finishes, IsSmallValue, IsDone, IsGoing, IsSmall, IsWaiting, RunLed, built_tree, first_running, node_count, text_bytes as texts_held}
+use Rattle.decode_core.specs.Decoding.{Decoding, Finishes, IsSmallValue, IsDone, IsSmall, IsWaiting, RunCounted, RunLed, built_tree, first_running, node_count, text_bytes as texts_held}
 use Rattle.decode_core.specs.Needs.{compact_need, need}
 use Rattle.decode_core.specs.Outcome.{Job, done, IsOutcome}
 use Rattle.decode_core.specs.Running.{Running, IsCarry, IsRunning, held_of}
@@ -117,25 +117,30 @@ done_small j b n s h =
     let few = (held_is_bounded j b n).0 (built_tree s.built) h.outcome in
     (omega (arith, begun.nodes, count.0, few.0), omega (arith, begun.text_bytes, count.1, few.1, pieces_held s, ap length h.nothing))
 
-value_le_nodes : (n depth width : ℕ) → value_bound n depth width ≤ node_bound n depth width
+pub value_le_nodes : (n depth width : ℕ) → value_bound n depth width ≤ node_bound n depth width
 value_le_nodes n depth width =
     let spread : (n + 1) * (depth + 1) * (width + 1) ≡ n * (depth + 1) * (width + 1) + (depth * width + depth + width + 1) = grind (arith) in
     omega (arith, spread)
 
 -- as much as is held of a value with these nodes, texts and open parts
-running_small : (j : Job) (n : ℕ) (s : Running) → length s.built.entries ≤ node_bound n j.depth (widest j.registry) → built_text_bytes s.built ≤ n → s.built.walk.limit ≡ j.depth → IsSound s → IsSmall (record { job = j; taken = n; run = Ok s })
-running_small j n s few texts limit sound = record { nodes = few; texts = texts; frames = omega (arith, sound.frames, limit); carry = carry_small s.built s.carry sound.carried }
+running_small : (j : Job) (n : ℕ) (s : Running) (turns calls : ℕ) → length s.built.entries ≤ node_bound n j.depth (widest j.registry) → built_text_bytes s.built ≤ n → s.built.walk.limit ≡ j.depth → IsSound s → RunCounted j n (Ok s) turns calls → IsSmall (record { job = j; taken = n; run = Ok s; turns = turns; calls = calls })
+running_small j n s turns calls few texts limit sound counted = record { nodes = few; texts = texts; frames = omega (arith, sound.frames, limit); carry = carry_small s.built s.carry sound.carried; turns = omega (arith, counted, few) }
 
-first_small : (j : Job) (n : ℕ) (s : Running) → s ≡ first_running j.registry j.ty j.depth → IsSmall (record { job = j; taken = n; run = Ok s })
-first_small j n s is = subst (λ (x : Running). IsSmall (record { job = j; taken = n; run = Ok x })) (sym is) (record { nodes = omega arith; texts = omega arith; frames = omega arith; carry = omega arith })
+first_small : (j : Job) (n : ℕ) (s : Running) (turns calls : ℕ) → s ≡ first_running j.registry j.ty j.depth → RunCounted j n (Ok s) turns calls → IsSmall (record { job = j; taken = n; run = Ok s; turns = turns; calls = calls })
+first_small j n s turns calls is counted =
+    let none : length s.built.entries ≡ 0 = ap (λ (x : Running). length x.built.entries) is in
+    let no_text : built_text_bytes s.built ≡ 0 = ap (λ (x : Running). built_text_bytes x.built) is in
+    let root : length s.built.walk.frames ≡ 1 = ap (λ (x : Running). length x.built.walk.frames) is in
+    let empty : length s.carry ≡ 0 = ap (λ (x : Running). length x.carry) is in
+    record { nodes = omega (arith, none); texts = omega (arith, no_text); frames = omega (arith, root); carry = omega (arith, empty); turns = omega (arith, counted, none) }
 
-pub led_small : (j : Job) (b : List ℕ) (n : ℕ) (run : Result Running DecodeFault) → RunLed j b n run → IsSmall (record { job = j; taken = n; run = run })
-led_small j b n (Err f) h = record { nodes = omega arith; texts = omega arith; frames = omega arith; carry = omega arith }
-led_small j b n (Ok s) (inr h) = let few = done_small j b n s h in running_small j n s (omega (arith, few.0, value_le_nodes n j.depth (widest j.registry))) few.1 h.same.limit h.sound
-led_small j b n (Ok s) (inl h) = by h.stands where
-  by : (s ≡ first_running j.registry j.ty j.depth) ⊎ IsWaiting j b s → IsSmall (record { job = j; taken = n; run = Ok s })
-  by (inl is) = first_small j n s is
-  by (inr w) = let few = waiting_small j b n s h.count w in running_small j n s few.0 few.1 h.same.limit w.sound
+pub led_small : (j : Job) (b : List ℕ) (n : ℕ) (run : Result Running DecodeFault) (turns calls : ℕ) → RunLed j b n run → RunCounted j n run turns calls → IsSmall (record { job = j; taken = n; run = run; turns = turns; calls = calls })
+led_small j b n (Err f) turns calls h counted = record { nodes = omega arith; texts = omega arith; frames = omega arith; carry = omega arith; turns = counted }
+led_small j b n (Ok s) turns calls (inr h) counted = let few = done_small j b n s h in running_small j n s turns calls (omega (arith, few.0, value_le_nodes n j.depth (widest j.registry))) few.1 h.same.limit h.sound counted
+led_small j b n (Ok s) turns calls (inl h) counted = by h.stands where
+  by : (s ≡ first_running j.registry j.ty j.depth) ⊎ IsWaiting j b s → IsSmall (record { job = j; taken = n; run = Ok s; turns = turns; calls = calls })
+  by (inl is) = first_small j n s turns calls is counted
+  by (inr w) = let few = waiting_small j b n s h.count w in running_small j n s turns calls few.0 few.1 h.same.limit w.sound counted
 
 pub value_small : (j : Job) (b : List ℕ) (v : Seen) → Finishes j b (Ok v) → IsSmallValue j b (Ok v)
 value_small j b v h = let few = (held_is_bounded j b h.0).0 v.tree h.3 in (h.0, h.3, few.0, few.1)

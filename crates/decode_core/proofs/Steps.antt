@@ -1,5 +1,5 @@
 -- What a turn does to a decoder on its way: it holds bytes, or adds a node.
-use Rattle.std.proofs.Common.{◌≡◌, ℕ, ◌≤◌, List, [], ◌++◌, length, Option, Some, None, Ok, Err, refl, sym, ap, subst, ◌∙◌, arith, inl, inr}
+use Rattle.std.proofs.Common.{◌≡◌, ℕ, suc, ◌≤◌, List, [], ◌∷◌, ◌++◌, length, Option, Some, None, Ok, Err, refl, sym, ap, subst, ◌∙◌, arith, inl, inr, length-append}
 use Rattle.std.proofs.lemmas.List.{append-nil}
 use Rattle.scale_core.specs.Compact.{compact, IsCompact}
 use Rattle.scale_core.specs.Read.{Read, compact_at}
@@ -7,7 +7,7 @@ use Rattle.scale_core.specs.declared.compact.Target.TheVariants as target
 use Rattle.scale_core.specs.declared.fault.Reason.{Reason}
 use Rattle.scale_core.proofs.Results.{Takes, compact_takes}
 use Rattle.registry_core.specs.declared.primitive.Primitive.TheVariants as P
-use Rattle.value_core.specs.Built.{Built, Pieces, with_text_opened}
+use Rattle.value_core.specs.Built.{Built, Pieces, next_entry, with_text_opened}
 use Rattle.grammar_core.specs.Parts.{Part}
 use Rattle.grammar_core.specs.Preorder.{Head}
 use Rattle.value_core.specs.Walked.{next_of}
@@ -33,9 +33,17 @@ added_same b new c d own h = subst (λ (s : Built). IsSame (record { built = b; 
 pub held_closed : (b : Built) (c : List ℕ) → b.text ≡ None → held_of (record { built = b; carry = c }) ≡ c
 held_closed b c h = ap (λ (o : Option Pieces). elim o [ Some t ↦ compact t.len ++ t.bytes | None ↦ c ]) h
 
+own_count : (b : Built) (x : Head × Option Part) → length (with_own b x).entries ≡ suc (length b.entries)
+own_count b (h, None) = omega (arith, length-append b.entries (next_entry b h ∷ []))
+own_count b (h, Some p) = omega (arith, length-append b.entries (next_entry b h ∷ []))
+
+-- it is one node
+pub added_count : (b new : Built) (own : List ℕ) → IsAdded b new own → length new.entries ≡ suc (length b.entries)
+added_count b new own h = ap (λ (s : Built). length s.entries) h.2 ∙ own_count b h.0
+
 -- a node is added by the bytes that were held and more
 pub added_steps : (b new : Built) (c own bytes : List ℕ) → AtNext b → b.text ≡ None → c ++ bytes ≡ own → IsAdded b new own → Steps (record { built = b; carry = c }) (record { built = new; carry = [] }) bytes
-added_steps b new c own bytes n closed is h = inr (held_closed new [] (added_text b new own closed h), rw (held_closed b c closed, is) (added_leads b new own n h))
+added_steps b new c own bytes n closed is h = inr (held_closed new [] (added_text b new own closed h), rw (held_closed b c closed, is) (added_leads b new own n h), added_count b new own h)
 
 spelled_of : (own : List ℕ) (n : ℕ) (read : Read Reason ℕ) → Takes (IsCompact target.U32) own read → read ≡ Ok (n, []) → own ≡ compact n
 spelled_of own n (Err e) k is = absurd cc

@@ -37,7 +37,7 @@ use Rattle.decode_core.specs.declared.turned.Turned.TheVariants as turned
 use Rattle.decode_core.proofs.NodeAdding.{next_has}
 use Rattle.decode_core.proofs.Settling.{added_running, added_text}
 use Rattle.decode_core.proofs.Stepping.{at_next, added_leads}
-use Rattle.decode_core.proofs.Steps.{added_same, held_closed}
+use Rattle.decode_core.proofs.Steps.{added_count, added_same, held_closed}
 use Rattle.decode_core.specs.Told.{leaf_own, own_at, told}
 use Rattle.decode_core.proofs.Refusing.{front_short, refuses_by, remain_next, text_short}
 use Rattle.decode_core.proofs.Whole.{bytes_whole}
@@ -145,7 +145,7 @@ ended_tells b new c n none utf8 is =
     let same = added_same (closed_of b) new c c own a in
     let led : Leads b.walk.types (state_of b) (state_of new) own = added_leads (closed_of b) new own (at_next (closed_of b) (form.Primitive P.Str) n.wants) a in
     let nothing : held_of (record { built = new; carry = c }) ≡ [] = held_closed new c (added_text (closed_of b) new own refl a) ∙ none in
-    (refl, record { types = same.types; limit = same.limit; ty = same.ty }, inr (nothing, rw (end_bytes b n c, append-nil) led))
+    (refl, record { types = same.types; limit = same.limit; ty = same.ty }, inr (nothing, rw (end_bytes b n c, append-nil) led, added_count (closed_of b) new own a))
 
 -- ---- a text that is refused
 
@@ -165,7 +165,7 @@ bad_text b c n valid before utf8 is count rest =
     let own_count : length own ≡ before + t.len = omega (arith, length-append (compact t.len) t.bytes, n.all, count) in
     let valid_le : utf8_valid_len t.bytes ≤ length t.bytes = utf8_valid_len_le t.bytes in
     let place_is : before + valid ≡ length x - length (left ++ rest) = omega (arith, ap length whole, length-append own rest, own_count, length-append left rest, length-drop (utf8_valid_len t.bytes) t.bytes, is, n.all, valid_le) in
-    (basic scale.BadUtf8, left ++ rest, refl, refl, sym own_count ∙ ap length (sym held_is), place_is, rw whole r.tells, rw (whole, ← own_count) r.decided)
+    (basic scale.BadUtf8, left ++ rest, refl, refl, sym own_count ∙ ap length (sym held_is), place_is, rw whole r.tells, rw (whole, ← own_count) r.decided, omega arith)
 
 at_end_by : (b : Built) (c : List ℕ) (o : OpenText) (text : Option Pieces) → b.text ≡ text → IsTextNext b c text → IsText text (Some o) → o.missing ≡ 0 → AtEnd b × (c ≡ [])
 at_end_by b c o None e h k none = absurd k

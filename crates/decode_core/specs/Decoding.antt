@@ -31,11 +31,14 @@ use Rattle.decode_core.specs.declared.decoder.Progress.TheVariants as progress
 use Rattle.decode_core.specs.declared.fault.DecodeFault.{DecodeFault}
 use Rattle.decode_core.specs.declared.fault.DecodeReason.TheVariants as reason
 
--- what is decoded, how many bytes were taken, and the value on its way, or the fault that ended it
+-- what is decoded, how many bytes were taken, the value on its way, or the fault that ended it, how many turns were taken, and
+-- how many calls fed it
 pub record Decoding : Type 0 where
   pub job : Job
   pub taken : ℕ
   pub run : Result Running DecodeFault
+  pub turns : ℕ
+  pub calls : ℕ
 
 -- a value of which nothing came
 abbrev pub first_running : List TypeInfo → ℕ → ℕ → Running
@@ -111,11 +114,20 @@ abbrev pub HoldsAt : Decoding → List ℕ → Result Progress DecodeFault → T
 HoldsAt d b (Ok progress.More) = (s : Running) × (d.run ≡ Ok s) × HoldsOf d.job b s
 HoldsAt d b _ = Unit {0}
 
+-- a turn took a byte, added a node, or ended a call; the nodes are those that are held, or were before a refusal
+abbrev pub RunCounted : Job → ℕ → Result Running DecodeFault → ℕ → ℕ → Type 0
+RunCounted j n (Ok s) turns calls = turns ≤ n + length s.built.entries + calls
+RunCounted j n (Err f) turns calls = turns ≤ n + node_bound n j.depth (widest j.registry) + calls
+
+abbrev pub IsCounted : Decoding → Type 0
+IsCounted d = RunCounted d.job d.taken d.run d.turns d.calls
+
 -- some bytes have led to it, within a limit that a count can pass
 pub record IsDecoding (d : Decoding) : Type 0 where
   pub limit : d.job.bytes ≤ 2 ^ 40
   pub bytes : List ℕ
   pub led : Led d bytes
+  pub counted : IsCounted d
 
 -- some bytes have led to a value on its way or whole
 pub record IsLedTo (s : Running) (limit taken : ℕ) : Type 0 where
@@ -131,6 +143,12 @@ RunAnswers j b taken new (fed.More n) = IsGoing j b new n × IsOutcome j b more 
 RunAnswers j b taken new (fed.Done used) = IsDone j b new (taken + used)
 RunAnswers j b taken new (fed.Ended f n) = IsEnded j b f n
 
+-- how many turns there were after a piece
+abbrev pub FedCounts : Job → Running → ℕ → ℕ → ℕ → Fed → Type 0
+FedCounts j new taken turns calls (fed.More n) = turns ≤ n + length new.built.entries + calls
+FedCounts j new taken turns calls (fed.Done used) = turns ≤ taken + used + length new.built.entries + calls
+FedCounts j new taken turns calls (fed.Ended f n) = turns ≤ n + node_bound n j.depth (widest j.registry) + calls
+
 -- where the value is told to be whole it is there
 abbrev pub HasValue : Decoding → Result Progress DecodeFault → Type 0
 HasValue d (Ok (progress.Done used)) = (s : Running) × (d.run ≡ Ok s) × (is_whole s.built ≡ true)
@@ -144,6 +162,8 @@ first_of_all types root limits = record {
   job = record { registry = types; ty = root; depth = limits.depth; bytes = limits.bytes };
   taken = 0;
   run = Ok (first_running types root limits.depth);
+  turns = 0;
+  calls = 0;
 }
 
 -- an id that is no position first, and then a limit that is out of its range
@@ -171,12 +191,13 @@ open_nodes d = elim d.run [ Ok s ↦ length s.built.walk.frames - 1 | Err f ↦ 
 abbrev pub carried : Decoding → ℕ
 carried d = elim d.run [ Ok s ↦ length s.carry | Err f ↦ 0 ]
 
--- what is held is little for the bytes taken, the depth limit and the width of the registry
+-- what is held is little for the bytes taken, the depth limit and the width of the registry, and so are the turns
 pub record IsSmall (d : Decoding) : Type 0 where
   pub nodes : node_count d ≤ node_bound d.taken d.job.depth (widest d.job.registry)
   pub texts : text_bytes d ≤ d.taken
   pub frames : open_nodes d ≤ d.job.depth + 1
   pub carry : carried d ≤ 32
+  pub turns : d.turns ≤ d.taken + node_bound d.taken d.job.depth (widest d.job.registry) + d.calls
 
 -- and of a whole value still less
 abbrev pub IsSmallAtEnd : Decoding → Result Progress DecodeFault → Type 0

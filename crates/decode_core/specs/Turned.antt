@@ -1,5 +1,5 @@
 -- One piece of input, turn by turn.
-use Rattle.std.specs.Prelude.{◌≡◌, ℕ, ◌*◌, ◌+◌, ◌-◌, ◌≤◌, ◌⊎◌, List, [], ◌++◌, length, take, drop, false, true, Result, Ok, Err}
+use Rattle.std.specs.Prelude.{◌≡◌, ℕ, suc, ◌*◌, ◌+◌, ◌-◌, ◌≤◌, ◌⊎◌, List, [], ◌++◌, length, take, drop, false, true, Result, Ok, Err}
 use Rattle.registry_core.specs.declared.type_info.TypeInfo.{TypeInfo}
 use Rattle.grammar_core.specs.declared.form.Form.{Form}
 use Rattle.grammar_core.specs.declared.form.Next.TheVariants as next
@@ -65,12 +65,12 @@ Stops s rest stop.Finished = ((x : List ℕ) → remain (types_of s) (state_of s
 Stops s rest stop.Wants = (rest ≡ []) × WantsBytes s
 Stops s rest (stop.Refused held told_reason at len) = let x = held_of s ++ rest in
     (e : Refusal) × (left : List ℕ) × (is_cut e ≡ false) × (told_reason ≡ reason_of e) × (held ≡ length (held_of s)) × (at ≡ length x - length left)
-    × (remain (types_of s) (state_of s.built) x ≡ told [] (Err ((e, left), x))) × Decided (types_of s) (state_of s.built) x e left len
+    × (remain (types_of s) (state_of s.built) x ≡ told [] (Err ((e, left), x))) × Decided (types_of s) (state_of s.built) x e left len × (held ≤ len)
 
 -- bytes are held, or a node is added and none are
 abbrev pub Steps : Running → Running → List ℕ → Type 0
 Steps old new bytes = ((1 ≤ length bytes) × (state_of new.built ≡ state_of old.built) × (held_of new ≡ held_of old ++ bytes))
-    ⊎ ((held_of new ≡ []) × Leads (types_of old) (state_of old.built) (state_of new.built) (held_of old ++ bytes))
+    ⊎ ((held_of new ≡ []) × Leads (types_of old) (state_of old.built) (state_of new.built) (held_of old ++ bytes) × (length new.built.entries ≡ suc (length old.built.entries)))
 
 -- what a turn does, by its step
 abbrev pub StepTells : Running → Running → List ℕ → Turned → Type 0
@@ -95,6 +95,27 @@ pub record IsSound (s : Running) : Type 0 where
 -- what turns on a piece do, of which n bytes were taken
 abbrev pub FeedTells : Running → Running → List ℕ → ℕ → Stopped → Type 0
 FeedTells old new piece n s = (n ≤ length piece) × ((last : Running) × Moves old last (take n piece) × Stops last (drop n piece) s × Stands s last new × IsSound last)
+
+-- from one count of turns to the other there are no more than the bytes that they took, the nodes that they added, and the one
+-- that stopped
+abbrev pub FewTurns : Running → Running → ℕ → ℕ → ℕ → Type 0
+FewTurns old new n from to = to + length old.built.entries ≤ from + n + length new.built.entries + 1
+
+-- the same where nothing is left: what stood before the last turn is known alone
+pub record StopsShort (old : Running) (piece : List ℕ) (n from to : ℕ) : Type 0 where
+  pub within : n ≤ length piece
+  pub last : Running
+  pub moves : Moves old last (take n piece)
+  pub few : FewTurns old last n from to
+
+abbrev pub StopCounts : Running → Running → List ℕ → ℕ → ℕ → ℕ → Stopped → Type 0
+StopCounts old new piece from to n (stop.Refused held told_reason at len) = StopsShort old piece n from to
+StopCounts old new piece from to n s = FewTurns old new n from to
+
+-- the turns on a piece
+abbrev pub FeedCounts : Running → Running → List ℕ → ℕ → ℕ → Result (ℕ × Stopped) ℕ → Type 0
+FeedCounts old new piece from to (Ok x) = StopCounts old new piece from to x.0 x.1
+FeedCounts old new piece from to (Err n) = StopsShort old piece n from to
 
 -- a turn that needs no bytes
 abbrev pub BareTells : Running → Running → Turned → Type 0

@@ -1,11 +1,12 @@
 //! The streaming decoder.
 
-ghost use Rattle.std.specs.Prelude.{◌≡◌, ◌+◌, ◌++◌, ◌≤◌, ◌^◌, [], ℕ, List, Ok, IfOk, take};
+ghost use Rattle.std.specs.Prelude.{◌≡◌, ◌+◌, ◌++◌, ◌≤◌, ◌^◌, [], ℕ, List, Ok, IfOk, length, suc, take};
 ghost use Rattle.decode_core.specs.Outcome.{Job};
 ghost use Rattle.decode_core.specs.Bound.{node_bound};
-ghost use Rattle.decode_core.specs.Decoding.{Answers, Decoding, Finishes, HasValue, HoldsAt, IsLedTo, IsSmall, IsSmallAtEnd, IsSmallValue, Led, Opens, RunAnswers, RunLed, first_of_all, node_count, opening_fault, text_bytes};
+ghost use Rattle.decode_core.specs.Decoding.{Answers, Decoding, FedCounts, Finishes, HasValue, HoldsAt, IsLedTo, IsSmall, IsSmallAtEnd, IsSmallValue, Led, Opens, RunAnswers, RunLed, first_of_all, node_count, opening_fault, text_bytes};
 ghost use Rattle.widths_core.specs.Widths.{widest};
 
+use crate::count::Count;
 use crate::fault::{DecodeFault, DecodeReason, OpenFault};
 use crate::run::Run;
 use crate::turned::Stopped;
@@ -43,6 +44,8 @@ pub struct Decoder<'r, A: Allocator> {
     limits: Limits,
     taken: u64,
     run: Result<Run<'r, A>, DecodeFault>,
+    turns: Count,
+    calls: Count,
 }
 
 impl<'r, A: Allocator> Model for Decoder<'r, A> {
@@ -50,9 +53,9 @@ impl<'r, A: Allocator> Model for Decoder<'r, A> {
 
     ghost Value = { Decoding };
 
-    ghost view = { λ d. record { job = record { registry = d.checked.now; ty = d.root.0; depth = d.limits.depth; bytes = d.limits.bytes }; taken = d.taken; run = d.run } };
+    ghost view = { λ d. record { job = record { registry = d.checked.now; ty = d.root.0; depth = d.limits.depth; bytes = d.limits.bytes }; taken = d.taken; run = d.run; turns = d.turns.so_far; calls = d.calls.so_far } };
 
-    ghost invariant = { λ d. IsDecoding (record { job = record { registry = d.checked.now; ty = d.root.0; depth = d.limits.depth; bytes = d.limits.bytes }; taken = d.taken; run = d.run }) };
+    ghost invariant = { λ d. IsDecoding (record { job = record { registry = d.checked.now; ty = d.root.0; depth = d.limits.depth; bytes = d.limits.bytes }; taken = d.taken; run = d.run; turns = d.turns.so_far; calls = d.calls.so_far }) };
 }
 
 /// What a piece made of a value on its way.
@@ -77,12 +80,19 @@ fn within(piece: &[u8], room: u64) -> &[u8]
 }
 
 /// Takes the turns on a piece, where `taken` bytes came before it and `limit` is their greatest number.
-fn feed_run<A: Allocator>(run: &mut Run<'_, A>, limit: u64, taken: u64, piece: &[u8]) -> Fed
+fn feed_run<A: Allocator>(
+    run: &mut Run<'_, A>,
+    limit: u64,
+    taken: u64,
+    piece: &[u8],
+    turns: &mut Count,
+) -> Fed
     requires led { IsLedTo run.old limit taken }
-    ensures { (j : Job) (b : List ℕ) → j.bytes ≡ limit → RunLed j b taken (Ok run.old) → RunAnswers j (b ++ piece.now) taken run.new result }
+    ensures answers { (j : Job) (b : List ℕ) → j.bytes ≡ limit → RunLed j b taken (Ok run.old) → RunAnswers j (b ++ piece.now) taken run.new result }
+    ensures counts { (j : Job) (b : List ℕ) (calls : ℕ) → j.bytes ≡ limit → RunLed j b taken (Ok run.old) → turns.old.so_far ≤ taken + length run.old.built.entries + calls → FedCounts j run.new taken turns.new.so_far (suc calls) result }
 {
     let offered = within(piece, limit - taken);
-    match run.feed(offered) {
+    match run.feed(offered, turns) {
         Ok((count, Stopped::Finished)) => Fed::Done(count as u64),
         Ok((count, Stopped::Wants)) => {
             if offered.len() < piece.len() {
@@ -116,12 +126,12 @@ fn feed_run<A: Allocator>(run: &mut Run<'_, A>, limit: u64, taken: u64, piece: &
                 node + len as u64,
             )
         }
-        Err(_) => Fed::Ended(
+        Err(count) => Fed::Ended(
             DecodeFault {
                 reason: DecodeReason::OutOfMemory,
                 at: 0,
             },
-            taken,
+            taken + count as u64,
         ),
     }
 }
@@ -154,6 +164,8 @@ impl<'r, A: Allocator + Clone> Decoder<'r, A> {
                 limits,
                 taken: 0,
                 run: Ok(Run::new(builder)),
+                turns: Count::new(),
+                calls: Count::new(),
             }),
             Err(_) => Err(OpenFault::OutOfMemory),
         }
@@ -162,7 +174,7 @@ impl<'r, A: Allocator + Clone> Decoder<'r, A> {
 
 impl<'r, A: Allocator> Decoder<'r, A> {
     /// How many bytes were taken: all that were fed while the value goes on, the value's own when it is whole, and those
-    /// up to the one that decides a refusal, with it. Where memory was refused it is those taken before that call.
+    /// up to the one that decides a refusal, with it. Where memory was refused it is those taken before it was.
     pub fn taken(&self) -> u64
         ensures { result ≡ self.now.taken }
     {
@@ -202,15 +214,17 @@ impl<'r, A: Allocator> Decoder<'r, A> {
     /// `OutOfMemory` at 0. It then holds no node and no text, and every later call is refused with the same.
     pub fn feed(&mut self, piece: &[u8]) -> Result<Progress, DecodeFault>
         ensures job { self.new.job ≡ self.old.job }
+        ensures calls { self.new.calls ≡ self.old.calls + 1 }
         ensures value { HasValue self.new result }
         ensures held { (b : List ℕ) → Led self.old b → HoldsAt self.new (b ++ piece.now) result }
         ensures small { IsSmall self.new }
         ensures small_at_end { IsSmallAtEnd self.new result }
         ensures answers { (b : List ℕ) → Led self.old b → Answers self.old self.new (b ++ piece.now) result × Led self.new (b ++ piece.now) }
     {
+        self.calls.tick();
         let fed = match &mut self.run {
             Err(fault) => return Err(*fault),
-            Ok(run) => feed_run(run, self.limits.bytes, self.taken, piece),
+            Ok(run) => feed_run(run, self.limits.bytes, self.taken, piece, &mut self.turns),
         };
         match fed {
             Fed::More(taken) => {

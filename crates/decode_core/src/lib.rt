@@ -2,6 +2,7 @@
 #![tactic(auto)]
 
 mod carry;
+mod count;
 mod decoder;
 mod fault;
 pub mod laws;

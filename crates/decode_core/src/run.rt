@@ -7,16 +7,17 @@ ghost use Rattle.value_core.specs.Built.{built_text_bytes, finished};
 ghost use Rattle.value_core.specs.Refusals.{is_whole};
 ghost use Rattle.decode_core.specs.Needs.{AreOwn, HasBytes, IsFirst, IsNeeded};
 ghost use Rattle.decode_core.specs.NodeAdds.{TakesNode};
-ghost use Rattle.decode_core.specs.Turned.{BareTells, EndTells, FeedTells, IsSound, StepTells, node_turned};
+ghost use Rattle.decode_core.specs.Turned.{BareTells, EndTells, FeedCounts, FeedTells, IsSound, StepTells, node_turned};
 
 use crate::carry::Carry;
+use crate::count::Count;
 use crate::fault::DecodeReason;
 use crate::need::need;
 use crate::node::{NodeFault, add_bare, add_node, open_text};
 use crate::turned::{Stopped, Turned};
 use registry_core::Primitive;
 use scale_core::compact_len;
-use std::alloc::{AllocError, Allocator};
+use std::alloc::Allocator;
 use std::marker::Model;
 use value_core::{BuildFault, Builder, Form, Next, Value};
 
@@ -278,16 +279,19 @@ impl<'r, A: Allocator> Run<'r, A> {
         }
     }
 
-    /// Takes turns until one stops: how many bytes of the piece they took, and why.
-    pub(crate) fn feed(&mut self, piece: &[u8]) -> Result<(usize, Stopped), AllocError>
-        ensures { IfOk result (λ x. FeedTells self.old self.new piece.now x.0 x.1) }
+    /// Takes turns until one stops, and counts each: how many bytes of the piece they took, and why they stopped; where
+    /// memory was refused, the bytes alone.
+    pub(crate) fn feed(&mut self, piece: &[u8], turns: &mut Count) -> Result<(usize, Stopped), usize>
+        ensures tells { IfOk result (λ x. FeedTells self.old self.new piece.now x.0 x.1) }
+        ensures counts { FeedCounts self.old self.new piece.now turns.old.so_far turns.new.so_far result }
     {
         let mut at = 0;
         'turns: loop {
+            turns.tick();
             match self.turn(&piece[at..]) {
                 Turned::On(count) => at += count,
                 Turned::Stopped(stopped) => return Ok((at, stopped)),
-                Turned::OutOfMemory => return Err(AllocError),
+                Turned::OutOfMemory => return Err(at),
             }
         }
     }

@@ -1,7 +1,10 @@
-use Rattle.std.proofs.Common.{◌+◌, ◌++◌, Ok}
+use Rattle.std.proofs.Common.{◌+◌, ◌++◌, Ok, Err}
+use Rattle.std.specs.Prelude.{Result}
 use Rattle.decode_core.specs.Outcome.{Job}
-use Rattle.decode_core.specs.Decoding.{Decoding, Led, RunLed}
-use Rattle.std.proofs.Common.{refl, sym, ap, subst, inl, inr}
+use Rattle.decode_core.specs.Decoding.{Decoding, Led, RunCounted, RunLed}
+use Rattle.decode_core.specs.Running.{Running}
+use Rattle.decode_core.specs.declared.fault.DecodeFault.{DecodeFault}
+use Rattle.std.proofs.Common.{refl, sym, ap, arith, subst, inl, inr}
 use Rattle.decode_core.proofs.Feeding.{ended_stays}
 use Rattle.decode_core.proofs.Sound.{done_small, led_small}
 use Rattle.decode_core.proofs.decoder.Decoder.feed.Goals as goal
@@ -21,7 +24,10 @@ invariant_of-self-in-Done g c =
     let d = c.self.inside in
     let j : Job = record { registry = d.checked.now; ty = d.root.0; depth = d.limits.depth; bytes = d.limits.bytes } in
     let before = subst (RunLed j c.self.invariant.bytes d.taken) c.in-Ok.is c.self.invariant.led in
-    record { limit = c.self.invariant.limit; bytes = c.self.invariant.bytes ++ c.args.piece.now; led = inr (c.in-Done.ensures j c.self.invariant.bytes refl before) }
+    let counted = subst (λ (r : Result Running DecodeFault). RunCounted j d.taken r d.turns.so_far d.calls.so_far) c.in-Ok.is c.self.invariant.counted in
+    let told = c.in-Done.ensures.answers j c.self.invariant.bytes refl before in
+    let counts = c.in-Done.ensures.counts j c.self.invariant.bytes d.calls.so_far refl before counted in
+    record { limit = c.self.invariant.limit; bytes = c.self.invariant.bytes ++ c.args.piece.now; led = inr told; counted = omega (arith, counts, c.tick.ensures) }
 
 -- src/decoder.rt:123:5
 pub returns-in-Ended-clause-answers : goal.returns-in-Ended-clause-answers
@@ -29,7 +35,7 @@ returns-in-Ended-clause-answers g c = λ b led.
     let d = c.self.inside in
     let j : Job = record { registry = d.checked.now; ty = d.root.0; depth = d.limits.depth; bytes = d.limits.bytes } in
     let before : RunLed j b d.taken d.run = subst (λ (x : Decoding). Led x b) (sym c.self.view_is) led in
-    let ended = c.in-Ended.ensures j b refl (subst (RunLed j b d.taken) c.in-Ok.is before) in
+    let ended = c.in-Ended.ensures.answers j b refl (subst (RunLed j b d.taken) c.in-Ok.is before) in
     ((refl, ended), ended)
 
 -- src/decoder.rt:203:5
@@ -38,7 +44,7 @@ returns-in-More-clause-held g c = λ b led.
     let d = c.self.inside in
     let j : Job = record { registry = d.checked.now; ty = d.root.0; depth = d.limits.depth; bytes = d.limits.bytes } in
     let before : RunLed j b d.taken d.run = subst (λ (x : Decoding). Led x b) (sym c.self.view_is) led in
-    let told = c.in-More.ensures j b refl (subst (RunLed j b d.taken) c.in-Ok.is before) in
+    let told = c.in-More.ensures.answers j b refl (subst (RunLed j b d.taken) c.in-Ok.is before) in
     (c.feed_run-fed.new.run, refl, told.2)
 
 -- src/decoder.rt:203:5
@@ -46,8 +52,11 @@ pub returns-in-More-clause-small : goal.returns-in-More-clause-small
 returns-in-More-clause-small g c =
     let d = c.self.inside in
     let j : Job = record { registry = d.checked.now; ty = d.root.0; depth = d.limits.depth; bytes = d.limits.bytes } in
-    let told = c.in-More.ensures j c.self.invariant.bytes refl (subst (RunLed j c.self.invariant.bytes d.taken) c.in-Ok.is c.self.invariant.led) in
-    led_small j (c.self.invariant.bytes ++ c.args.piece.now) c.in-More.taken (Ok c.feed_run-fed.new.run) (inl told.0)
+    let before = subst (RunLed j c.self.invariant.bytes d.taken) c.in-Ok.is c.self.invariant.led in
+    let counted = subst (λ (r : Result Running DecodeFault). RunCounted j d.taken r d.turns.so_far d.calls.so_far) c.in-Ok.is c.self.invariant.counted in
+    let told = c.in-More.ensures.answers j c.self.invariant.bytes refl before in
+    let counts = c.in-More.ensures.counts j c.self.invariant.bytes d.calls.so_far refl before counted in
+    led_small j (c.self.invariant.bytes ++ c.args.piece.now) c.in-More.taken (Ok c.feed_run-fed.new.run) c.feed_run-fed.new.turns.so_far c.tick.new.self.so_far (inl told.0) (omega (arith, counts, c.tick.ensures))
 
 -- src/decoder.rt:203:5
 pub returns-in-More-clause-answers : goal.returns-in-More-clause-answers
@@ -55,7 +64,7 @@ returns-in-More-clause-answers g c = λ b led.
     let d = c.self.inside in
     let j : Job = record { registry = d.checked.now; ty = d.root.0; depth = d.limits.depth; bytes = d.limits.bytes } in
     let before : RunLed j b d.taken d.run = subst (λ (x : Decoding). Led x b) (sym c.self.view_is) led in
-    let told = c.in-More.ensures j b refl (subst (RunLed j b d.taken) c.in-Ok.is before) in
+    let told = c.in-More.ensures.answers j b refl (subst (RunLed j b d.taken) c.in-Ok.is before) in
     (told.1, inl told.0)
 
 -- src/decoder.rt:203:5
@@ -63,15 +72,18 @@ pub returns-in-Done-clause-small : goal.returns-in-Done-clause-small
 returns-in-Done-clause-small g c =
     let d = c.self.inside in
     let j : Job = record { registry = d.checked.now; ty = d.root.0; depth = d.limits.depth; bytes = d.limits.bytes } in
-    let told = c.in-Done.ensures j c.self.invariant.bytes refl (subst (RunLed j c.self.invariant.bytes d.taken) c.in-Ok.is c.self.invariant.led) in
-    led_small j (c.self.invariant.bytes ++ c.args.piece.now) (d.taken + c.in-Done.used) (Ok c.feed_run-fed.new.run) (inr told)
+    let before = subst (RunLed j c.self.invariant.bytes d.taken) c.in-Ok.is c.self.invariant.led in
+    let counted = subst (λ (r : Result Running DecodeFault). RunCounted j d.taken r d.turns.so_far d.calls.so_far) c.in-Ok.is c.self.invariant.counted in
+    let told = c.in-Done.ensures.answers j c.self.invariant.bytes refl before in
+    let counts = c.in-Done.ensures.counts j c.self.invariant.bytes d.calls.so_far refl before counted in
+    led_small j (c.self.invariant.bytes ++ c.args.piece.now) (d.taken + c.in-Done.used) (Ok c.feed_run-fed.new.run) c.feed_run-fed.new.turns.so_far c.tick.new.self.so_far (inr told) (omega (arith, counts, c.tick.ensures))
 
 -- src/decoder.rt:203:5
 pub returns-in-Done-clause-small_at_end : goal.returns-in-Done-clause-small_at_end
 returns-in-Done-clause-small_at_end g c =
     let d = c.self.inside in
     let j : Job = record { registry = d.checked.now; ty = d.root.0; depth = d.limits.depth; bytes = d.limits.bytes } in
-    let told = c.in-Done.ensures j c.self.invariant.bytes refl (subst (RunLed j c.self.invariant.bytes d.taken) c.in-Ok.is c.self.invariant.led) in
+    let told = c.in-Done.ensures.answers j c.self.invariant.bytes refl (subst (RunLed j c.self.invariant.bytes d.taken) c.in-Ok.is c.self.invariant.led) in
     (done_small j (c.self.invariant.bytes ++ c.args.piece.now) (d.taken + c.in-Done.used) c.feed_run-fed.new.run told).0
 
 -- src/decoder.rt:203:5
@@ -80,5 +92,38 @@ returns-in-Done-clause-answers g c = λ b led.
     let d = c.self.inside in
     let j : Job = record { registry = d.checked.now; ty = d.root.0; depth = d.limits.depth; bytes = d.limits.bytes } in
     let before : RunLed j b d.taken d.run = subst (λ (x : Decoding). Led x b) (sym c.self.view_is) led in
-    let told = c.in-Done.ensures j b refl (subst (RunLed j b d.taken) c.in-Ok.is before) in
+    let told = c.in-Done.ensures.answers j b refl (subst (RunLed j b d.taken) c.in-Ok.is before) in
     ((c.feed_run-fed.new.run, refl, told.outcome, ap (λ (x : Decoding). x.taken + c.in-Done.used) c.self.view_is), inr told)
+
+-- src/decoder.rt:215:5
+pub invariant_of-self-in-More : goal.invariant_of-self-in-More
+invariant_of-self-in-More g c =
+    let d = c.self.inside in
+    let j : Job = record { registry = d.checked.now; ty = d.root.0; depth = d.limits.depth; bytes = d.limits.bytes } in
+    let before = subst (RunLed j c.self.invariant.bytes d.taken) c.in-Ok.is c.self.invariant.led in
+    let counted = subst (λ (r : Result Running DecodeFault). RunCounted j d.taken r d.turns.so_far d.calls.so_far) c.in-Ok.is c.self.invariant.counted in
+    let told = c.in-More.ensures.answers j c.self.invariant.bytes refl before in
+    let counts = c.in-More.ensures.counts j c.self.invariant.bytes d.calls.so_far refl before counted in
+    record { limit = c.self.invariant.limit; bytes = c.self.invariant.bytes ++ c.args.piece.now; led = inl told.0; counted = omega (arith, counts, c.tick.ensures) }
+
+-- src/decoder.rt:215:5
+pub invariant_of-self-in-Ended : goal.invariant_of-self-in-Ended
+invariant_of-self-in-Ended g c =
+    let d = c.self.inside in
+    let j : Job = record { registry = d.checked.now; ty = d.root.0; depth = d.limits.depth; bytes = d.limits.bytes } in
+    let before = subst (RunLed j c.self.invariant.bytes d.taken) c.in-Ok.is c.self.invariant.led in
+    let counted = subst (λ (r : Result Running DecodeFault). RunCounted j d.taken r d.turns.so_far d.calls.so_far) c.in-Ok.is c.self.invariant.counted in
+    let told = c.in-Ended.ensures.answers j c.self.invariant.bytes refl before in
+    let counts = c.in-Ended.ensures.counts j c.self.invariant.bytes d.calls.so_far refl before counted in
+    record { limit = c.self.invariant.limit; bytes = c.self.invariant.bytes ++ c.args.piece.now; led = told; counted = omega (arith, counts, c.tick.ensures) }
+
+-- src/decoder.rt:215:5
+pub returns-in-Ended-clause-small : goal.returns-in-Ended-clause-small
+returns-in-Ended-clause-small g c =
+    let d = c.self.inside in
+    let j : Job = record { registry = d.checked.now; ty = d.root.0; depth = d.limits.depth; bytes = d.limits.bytes } in
+    let before = subst (RunLed j c.self.invariant.bytes d.taken) c.in-Ok.is c.self.invariant.led in
+    let counted = subst (λ (r : Result Running DecodeFault). RunCounted j d.taken r d.turns.so_far d.calls.so_far) c.in-Ok.is c.self.invariant.counted in
+    let told = c.in-Ended.ensures.answers j c.self.invariant.bytes refl before in
+    let counts = c.in-Ended.ensures.counts j c.self.invariant.bytes d.calls.so_far refl before counted in
+    led_small j (c.self.invariant.bytes ++ c.args.piece.now) c.in-Ended.taken (Err c.in-Ended.fault) c.feed_run-fed.new.turns.so_far c.tick.new.self.so_far told (omega (arith, counts, c.tick.ensures))
