@@ -76,7 +76,7 @@ reached_few j b s last n x (inr h) m =
 counts_end : (j : Job) (b slice : List ℕ) (s last : Running) (taken k n from to calls : ℕ) → RunLed j b taken (Ok s) → Moves s last (take k slice) → FewTurns s last k from to → from ≤ taken + length s.built.entries + calls → taken + k ≤ n → to ≤ n + node_bound n j.depth (widest j.registry) + suc calls
 counts_end j b slice s last taken k n from to calls led moves few before within =
     let cut : taken + length (take k slice) ≤ n = omega (arith, within, length-take k slice) in
-    omega (arith, few, before, within, reached_few j b s last taken (take k slice) led moves, more_bytes (taken + length (take k slice)) n j.depth (widest j.registry) cut)
+    omega (arith, few.1, before, within, reached_few j b s last taken (take k slice) led moves, more_bytes (taken + length (take k slice)) n j.depth (widest j.registry) cut)
 
 pub counts_short : (j : Job) (b slice : List ℕ) (s : Running) (taken k from to calls : ℕ) → RunLed j b taken (Ok s) → StopsShort s slice k from to → from ≤ taken + length s.built.entries + calls → to ≤ taken + k + node_bound (taken + k) j.depth (widest j.registry) + suc calls
 counts_short j b slice s taken k from to calls led short before = counts_end j b slice s short.last taken k (taken + k) from to calls led short.moves short.few before (omega arith)

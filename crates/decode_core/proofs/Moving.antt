@@ -97,3 +97,11 @@ few_by old a b bytes from so_far to at n count h is (inr k) = omega (arith, h, i
 -- a turn that goes on takes a byte or adds a node
 pub few_on : (old a b : Running) (piece : List ℕ) (from so_far to at n : ℕ) → so_far + length old.built.entries ≤ from + at + length a.built.entries → to ≡ so_far + 1 → StepTells a b piece (turned.On n) → to + length old.built.entries ≤ from + (at + n) + length b.built.entries
 few_on old a b piece from so_far to at n h is k = few_by old a b (take n piece) from so_far to at n (omega (arith, length-take n piece, k.0)) h is k.2
+
+each_by : (old a b : Running) (bytes : List ℕ) (from so_far to : ℕ) → from + length a.built.entries ≤ so_far + length old.built.entries → to ≡ so_far + 1 → Steps a b bytes → from + length b.built.entries ≤ to + length old.built.entries
+each_by old a b bytes from so_far to h is (inl k) = omega (arith, h, is, ap (λ (s : State). length s.nodes) k.1)
+each_by old a b bytes from so_far to h is (inr k) = omega (arith, h, is, k.2)
+
+-- and adds no more than one
+pub each_on : (old a b : Running) (piece : List ℕ) (from so_far to n : ℕ) → from + length a.built.entries ≤ so_far + length old.built.entries → to ≡ so_far + 1 → StepTells a b piece (turned.On n) → from + length b.built.entries ≤ to + length old.built.entries
+each_on old a b piece from so_far to n h is k = each_by old a b (take n piece) from so_far to h is k.2

@@ -114,9 +114,9 @@ abbrev pub HoldsAt : Decoding → List ℕ → Result Progress DecodeFault → T
 HoldsAt d b (Ok progress.More) = (s : Running) × (d.run ≡ Ok s) × HoldsOf d.job b s
 HoldsAt d b _ = Unit {0}
 
--- a turn took a byte, added a node, or ended a call; the nodes are those that are held, or were before a refusal
+-- each node and each call has a turn of its own, and each other turn took a byte; where a value is refused, its nodes are gone
 abbrev pub RunCounted : Job → ℕ → Result Running DecodeFault → ℕ → ℕ → Type 0
-RunCounted j n (Ok s) turns calls = turns ≤ n + length s.built.entries + calls
+RunCounted j n (Ok s) turns calls = (length s.built.entries + calls ≤ turns) × (turns ≤ n + length s.built.entries + calls)
 RunCounted j n (Err f) turns calls = turns ≤ n + node_bound n j.depth (widest j.registry) + calls
 
 abbrev pub IsCounted : Decoding → Type 0
@@ -145,8 +145,8 @@ RunAnswers j b taken new (fed.Ended f n) = IsEnded j b f n
 
 -- how many turns there were after a piece
 abbrev pub FedCounts : Job → Running → ℕ → ℕ → ℕ → Fed → Type 0
-FedCounts j new taken turns calls (fed.More n) = turns ≤ n + length new.built.entries + calls
-FedCounts j new taken turns calls (fed.Done used) = turns ≤ taken + used + length new.built.entries + calls
+FedCounts j new taken turns calls (fed.More n) = (length new.built.entries + calls ≤ turns) × (turns ≤ n + length new.built.entries + calls)
+FedCounts j new taken turns calls (fed.Done used) = (length new.built.entries + calls ≤ turns) × (turns ≤ taken + used + length new.built.entries + calls)
 FedCounts j new taken turns calls (fed.Ended f n) = turns ≤ n + node_bound n j.depth (widest j.registry) + calls
 
 -- where the value is told to be whole it is there
@@ -198,6 +198,10 @@ pub record IsSmall (d : Decoding) : Type 0 where
   pub frames : open_nodes d ≤ d.job.depth + 1
   pub carry : carried d ≤ 32
   pub turns : d.turns ≤ d.taken + node_bound d.taken d.job.depth (widest d.job.registry) + d.calls
+
+-- no turn goes uncounted that added a node which is held, or ended a call
+abbrev pub HasCounted : Decoding → Type 0
+HasCounted d = elim d.run [ Ok s ↦ length s.built.entries + d.calls ≤ d.turns | Err f ↦ Unit {0} ]
 
 -- and of a whole value still less
 abbrev pub IsSmallAtEnd : Decoding → Result Progress DecodeFault → Type 0

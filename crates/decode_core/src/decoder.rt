@@ -3,7 +3,7 @@
 ghost use Rattle.std.specs.Prelude.{◌≡◌, ◌+◌, ◌++◌, ◌≤◌, ◌^◌, [], ℕ, List, Ok, IfOk, length, suc, take};
 ghost use Rattle.decode_core.specs.Outcome.{Job};
 ghost use Rattle.decode_core.specs.Bound.{node_bound};
-ghost use Rattle.decode_core.specs.Decoding.{Answers, Decoding, FedCounts, Finishes, HasValue, HoldsAt, IsLedTo, IsSmall, IsSmallAtEnd, IsSmallValue, Led, Opens, RunAnswers, RunLed, first_of_all, node_count, opening_fault, text_bytes};
+ghost use Rattle.decode_core.specs.Decoding.{Answers, Decoding, FedCounts, Finishes, HasCounted, HasValue, HoldsAt, IsLedTo, IsSmall, IsSmallAtEnd, IsSmallValue, Led, Opens, RunAnswers, RunCounted, RunLed, first_of_all, node_count, opening_fault, text_bytes};
 ghost use Rattle.widths_core.specs.Widths.{widest};
 
 use crate::count::Count;
@@ -89,7 +89,7 @@ fn feed_run<A: Allocator>(
 ) -> Fed
     requires led { IsLedTo run.old limit taken }
     ensures answers { (j : Job) (b : List ℕ) → j.bytes ≡ limit → RunLed j b taken (Ok run.old) → RunAnswers j (b ++ piece.now) taken run.new result }
-    ensures counts { (j : Job) (b : List ℕ) (calls : ℕ) → j.bytes ≡ limit → RunLed j b taken (Ok run.old) → turns.old.so_far ≤ taken + length run.old.built.entries + calls → FedCounts j run.new taken turns.new.so_far (suc calls) result }
+    ensures counts { (j : Job) (b : List ℕ) (calls : ℕ) → j.bytes ≡ limit → RunLed j b taken (Ok run.old) → RunCounted j taken (Ok run.old) turns.old.so_far calls → FedCounts j run.new taken turns.new.so_far (suc calls) result }
 {
     let offered = within(piece, limit - taken);
     match run.feed(offered, turns) {
@@ -218,6 +218,7 @@ impl<'r, A: Allocator> Decoder<'r, A> {
         ensures value { HasValue self.new result }
         ensures held { (b : List ℕ) → Led self.old b → HoldsAt self.new (b ++ piece.now) result }
         ensures small { IsSmall self.new }
+        ensures counted { HasCounted self.new }
         ensures small_at_end { IsSmallAtEnd self.new result }
         ensures answers { (b : List ℕ) → Led self.old b → Answers self.old self.new (b ++ piece.now) result × Led self.new (b ++ piece.now) }
     {

@@ -27,16 +27,16 @@ returns-in-Ok-default-Refused-clause-answers g c = λ j b e led. run_refused j b
 -- src/decoder.rt:99:17
 pub returns-then-offered-piece-clause-counts : goal.returns-then-offered-piece-clause-counts
 returns-then-offered-piece-clause-counts g c = λ j b calls e led before.
-    counts_long j b c.args.piece.now c.within-offered.result.now c.args.run.now c.feed.new.self c.args.limit c.args.taken c.in-Ok-default-Wants.count c.args.turns.now.so_far c.feed.new.turns.so_far calls c.in-Ok-default-Wants.field-0-1 e c.within-offered.ensures led c.in-Ok-default-Wants.ensures.tells c.in-Ok-default-Wants.field-0-1-is c.in-Ok-default-Wants.ensures.counts before
+    counts_long j b c.args.piece.now c.within-offered.result.now c.args.run.now c.feed.new.self c.args.limit c.args.taken c.in-Ok-default-Wants.count c.args.turns.now.so_far c.feed.new.turns.so_far calls c.in-Ok-default-Wants.field-0-1 e c.within-offered.ensures led c.in-Ok-default-Wants.ensures.tells c.in-Ok-default-Wants.field-0-1-is c.in-Ok-default-Wants.ensures.counts before.1
 
 -- src/decoder.rt:83:1
 pub returns-in-Ok-default-Refused-clause-counts : goal.returns-in-Ok-default-Refused-clause-counts
 returns-in-Ok-default-Refused-clause-counts g c = λ j b calls e led before.
     let r = c.in-Ok-default-Refused in
     let within = run_held j b c.args.piece.now c.within-offered.result.now c.args.run.now c.feed.new.self c.args.limit c.args.taken r.count r.held r.reason r.at r.len r.field-0-1 e c.within-offered.ensures led r.ensures.tells r.field-0-1-is in
-    counts_refused j b c.within-offered.result.now c.args.run.now c.feed.new.self c.args.taken r.count r.held r.reason r.at r.len c.args.turns.now.so_far c.feed.new.turns.so_far calls r.field-0-1 led r.ensures.tells r.field-0-1-is within r.ensures.counts before
+    counts_refused j b c.within-offered.result.now c.args.run.now c.feed.new.self c.args.taken r.count r.held r.reason r.at r.len c.args.turns.now.so_far c.feed.new.turns.so_far calls r.field-0-1 led r.ensures.tells r.field-0-1-is within r.ensures.counts before.1
 
 -- src/decoder.rt:83:1
 pub returns-in-Err-clause-counts : goal.returns-in-Err-clause-counts
 returns-in-Err-clause-counts g c = λ j b calls e led before.
-    counts_short j b c.within-offered.result.now c.args.run.now c.args.taken c.in-Err.count c.args.turns.now.so_far c.feed.new.turns.so_far calls led c.in-Err.ensures.counts before
+    counts_short j b c.within-offered.result.now c.args.run.now c.args.taken c.in-Err.count c.args.turns.now.so_far c.feed.new.turns.so_far calls led c.in-Err.ensures.counts before.1

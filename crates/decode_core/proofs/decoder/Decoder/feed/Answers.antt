@@ -27,7 +27,7 @@ invariant_of-self-in-Done g c =
     let counted = subst (λ (r : Result Running DecodeFault). RunCounted j d.taken r d.turns.so_far d.calls.so_far) c.in-Ok.is c.self.invariant.counted in
     let told = c.in-Done.ensures.answers j c.self.invariant.bytes refl before in
     let counts = c.in-Done.ensures.counts j c.self.invariant.bytes d.calls.so_far refl before counted in
-    record { limit = c.self.invariant.limit; bytes = c.self.invariant.bytes ++ c.args.piece.now; led = inr told; counted = omega (arith, counts, c.tick.ensures) }
+    record { limit = c.self.invariant.limit; bytes = c.self.invariant.bytes ++ c.args.piece.now; led = inr told; counted = (omega (arith, counts.0, c.tick.ensures), omega (arith, counts.1, c.tick.ensures)) }
 
 -- src/decoder.rt:123:5
 pub returns-in-Ended-clause-answers : goal.returns-in-Ended-clause-answers
@@ -56,7 +56,7 @@ returns-in-More-clause-small g c =
     let counted = subst (λ (r : Result Running DecodeFault). RunCounted j d.taken r d.turns.so_far d.calls.so_far) c.in-Ok.is c.self.invariant.counted in
     let told = c.in-More.ensures.answers j c.self.invariant.bytes refl before in
     let counts = c.in-More.ensures.counts j c.self.invariant.bytes d.calls.so_far refl before counted in
-    led_small j (c.self.invariant.bytes ++ c.args.piece.now) c.in-More.taken (Ok c.feed_run-fed.new.run) c.feed_run-fed.new.turns.so_far c.tick.new.self.so_far (inl told.0) (omega (arith, counts, c.tick.ensures))
+    led_small j (c.self.invariant.bytes ++ c.args.piece.now) c.in-More.taken (Ok c.feed_run-fed.new.run) c.feed_run-fed.new.turns.so_far c.tick.new.self.so_far (inl told.0) (omega (arith, counts.0, c.tick.ensures), omega (arith, counts.1, c.tick.ensures))
 
 -- src/decoder.rt:203:5
 pub returns-in-More-clause-answers : goal.returns-in-More-clause-answers
@@ -76,7 +76,7 @@ returns-in-Done-clause-small g c =
     let counted = subst (λ (r : Result Running DecodeFault). RunCounted j d.taken r d.turns.so_far d.calls.so_far) c.in-Ok.is c.self.invariant.counted in
     let told = c.in-Done.ensures.answers j c.self.invariant.bytes refl before in
     let counts = c.in-Done.ensures.counts j c.self.invariant.bytes d.calls.so_far refl before counted in
-    led_small j (c.self.invariant.bytes ++ c.args.piece.now) (d.taken + c.in-Done.used) (Ok c.feed_run-fed.new.run) c.feed_run-fed.new.turns.so_far c.tick.new.self.so_far (inr told) (omega (arith, counts, c.tick.ensures))
+    led_small j (c.self.invariant.bytes ++ c.args.piece.now) (d.taken + c.in-Done.used) (Ok c.feed_run-fed.new.run) c.feed_run-fed.new.turns.so_far c.tick.new.self.so_far (inr told) (omega (arith, counts.0, c.tick.ensures), omega (arith, counts.1, c.tick.ensures))
 
 -- src/decoder.rt:203:5
 pub returns-in-Done-clause-small_at_end : goal.returns-in-Done-clause-small_at_end
@@ -104,7 +104,7 @@ invariant_of-self-in-More g c =
     let counted = subst (λ (r : Result Running DecodeFault). RunCounted j d.taken r d.turns.so_far d.calls.so_far) c.in-Ok.is c.self.invariant.counted in
     let told = c.in-More.ensures.answers j c.self.invariant.bytes refl before in
     let counts = c.in-More.ensures.counts j c.self.invariant.bytes d.calls.so_far refl before counted in
-    record { limit = c.self.invariant.limit; bytes = c.self.invariant.bytes ++ c.args.piece.now; led = inl told.0; counted = omega (arith, counts, c.tick.ensures) }
+    record { limit = c.self.invariant.limit; bytes = c.self.invariant.bytes ++ c.args.piece.now; led = inl told.0; counted = (omega (arith, counts.0, c.tick.ensures), omega (arith, counts.1, c.tick.ensures)) }
 
 -- src/decoder.rt:215:5
 pub invariant_of-self-in-Ended : goal.invariant_of-self-in-Ended
@@ -127,3 +127,23 @@ returns-in-Ended-clause-small g c =
     let told = c.in-Ended.ensures.answers j c.self.invariant.bytes refl before in
     let counts = c.in-Ended.ensures.counts j c.self.invariant.bytes d.calls.so_far refl before counted in
     led_small j (c.self.invariant.bytes ++ c.args.piece.now) c.in-Ended.taken (Err c.in-Ended.fault) c.feed_run-fed.new.turns.so_far c.tick.new.self.so_far told (omega (arith, counts, c.tick.ensures))
+
+-- src/decoder.rt:215:5
+pub returns-in-More-clause-counted : goal.returns-in-More-clause-counted
+returns-in-More-clause-counted g c =
+    let d = c.self.inside in
+    let j : Job = record { registry = d.checked.now; ty = d.root.0; depth = d.limits.depth; bytes = d.limits.bytes } in
+    let before = subst (RunLed j c.self.invariant.bytes d.taken) c.in-Ok.is c.self.invariant.led in
+    let counted = subst (λ (r : Result Running DecodeFault). RunCounted j d.taken r d.turns.so_far d.calls.so_far) c.in-Ok.is c.self.invariant.counted in
+    let counts = c.in-More.ensures.counts j c.self.invariant.bytes d.calls.so_far refl before counted in
+    omega (arith, counts.0, c.tick.ensures)
+
+-- src/decoder.rt:215:5
+pub returns-in-Done-clause-counted : goal.returns-in-Done-clause-counted
+returns-in-Done-clause-counted g c =
+    let d = c.self.inside in
+    let j : Job = record { registry = d.checked.now; ty = d.root.0; depth = d.limits.depth; bytes = d.limits.bytes } in
+    let before = subst (RunLed j c.self.invariant.bytes d.taken) c.in-Ok.is c.self.invariant.led in
+    let counted = subst (λ (r : Result Running DecodeFault). RunCounted j d.taken r d.turns.so_far d.calls.so_far) c.in-Ok.is c.self.invariant.counted in
+    let counts = c.in-Done.ensures.counts j c.self.invariant.bytes d.calls.so_far refl before counted in
+    omega (arith, counts.0, c.tick.ensures)

@@ -1,6 +1,8 @@
 use Rattle.std.proofs.Common.{[]}
 use Rattle.decode_core.specs.Outcome.{Job}
-use Rattle.std.proofs.Common.{arith, None, inl}
+use Rattle.std.proofs.Common.{ap, arith, length, None, inl}
+use Rattle.value_core.specs.Built.{Built}
+use Rattle.decode_core.specs.Running.{Running}
 use Rattle.value_core.specs.Refusals as built
 use Rattle.value_core.specs.Walked.{start_of}
 use Rattle.decode_core.proofs.Opening.{first_going, opens_first}
@@ -12,7 +14,7 @@ invariant_of-result g c =
     let j : Job = record { registry = c.args.checked.now; ty = c.args.root.0; depth = c.args.limits.depth; bytes = c.args.limits.bytes } in
     let first = opens_first (built.opening_fault c.args.checked.now c.args.root.0 c.args.limits.depth) (record { ty = c.args.root.0; walk = start_of c.args.checked.now c.args.root.0 c.args.limits.depth; entries = []; text = None }) c.in-Ok.builder c.in-Ok.ensures in
     let going = first_going j c.new-in-Ok.result c.in-Ok.builder c.new-in-Ok.ensures first in
-    record { limit = omega (arith, c.if-limits-gt-MAX_BYTES.false); bytes = []; led = inl going; counted = omega (arith, c.new-in-Ok-2.ensures) }
+    record { limit = omega (arith, c.if-limits-gt-MAX_BYTES.false); bytes = []; led = inl going; counted = (omega (arith, ap (λ (r : Running). length r.built.entries) c.new-in-Ok.ensures, ap (λ (b : Built). length b.entries) first, c.new-in-Ok-3.ensures), omega (arith, c.new-in-Ok-2.ensures)) }
 
 -- src/decoder.rt:129:5
 pub returns-in-Ok-clause-led : goal.returns-in-Ok-clause-led

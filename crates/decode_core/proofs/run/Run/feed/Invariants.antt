@@ -7,6 +7,7 @@ invariant-turns g l = record {
   piece : l.piece ≡ l.fn.piece;
   inside : l.at ≤ length l.piece;
   moves : Moves l.fn.self l.self (take l.at l.piece);
+  each : l.fn.turns.so_far + length l.self.built.entries ≤ l.turns.so_far + length l.fn.self.built.entries;
   few : l.turns.so_far + length l.fn.self.built.entries ≤ l.fn.turns.so_far + l.at + length l.self.built.entries;
 }
 
