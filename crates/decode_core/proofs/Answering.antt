@@ -1,6 +1,6 @@
 -- The answers of the runs as a whole, to a reader and to pieces, by what was fed.
-use Rattle.std.proofs.Common.{◌≡◌, ℕ, ◌+◌, ◌<◌, ◌≤◌, true, false, List, [], ◌∷◌, ◌++◌, length, take, drop, get_or, Option, Some, None, Ok, Err, refl, sym, ap, subst, ◌∙◌, append-nil, arith, inl, inr, flat_map}
-use Rattle.std.specs.Prelude.{IfSome, ◌⊎◌, Result}
+use Rattle.std.proofs.Common.{◌≡◌, ℕ, ◌+◌, ◌<◌, true, List, [], ◌∷◌, ◌++◌, length, take, drop, get_or, Option, Some, None, Ok, Err, refl, sym, ap, subst, ◌∙◌, append-nil, inl, inr, flat_map}
+use Rattle.std.specs.Prelude.{IfSome, ◌⊎◌}
 use Rattle.std.proofs.lemmas.Grind.{flat_map-append}
 use Rattle.std.proofs.lemmas.List.{take-append-drop, take_more}
 use Rattle.grammar_core.specs.Tree.{Tree}
@@ -9,7 +9,6 @@ use Rattle.decode_core.specs.Decoding.{Decoding, Finishes, IsEnded, Led}
 use Rattle.decode_core.specs.Outcome.{Job, done, more, IsOutcome}
 use Rattle.decode_core.specs.Streaming.{EndsAt, FeedsAll, IsFed, IsUnderWay, Joins, Streams, Trails}
 use Rattle.decode_core.specs.declared.fault.DecodeFault.{DecodeFault}
-use Rattle.decode_core.specs.declared.fault.DecodeReason.TheVariants as reason
 use Rattle.decode_core.specs.declared.fault.OpenFault.{OpenFault}
 use Rattle.decode_core.specs.declared.pieces.PiecesFault.TheVariants as pieces
 use Rattle.decode_core.specs.declared.stream.StreamFault.{StreamFault}

@@ -7,7 +7,7 @@ use Rattle.registry_core.specs.declared.type_info.TypeInfo.{TypeInfo}
 use Rattle.grammar_core.specs.declared.limits.Limits.{Limits}
 use Rattle.grammar_core.specs.Tree.{Tree}
 use Rattle.decode_core.specs.Decoding.{Answers, Decoding, Finishes, IsEnded, Led, Opens, first_of_all}
-use Rattle.decode_core.specs.Outcome.{Outcome, Job, done, more, IsOutcome}
+use Rattle.decode_core.specs.Outcome.{Job, done, more, IsOutcome}
 use Rattle.decode_core.specs.Streaming.{EndsAt, FeedsAll, Forbids, IsUnderWay, Looks, Trails}
 use Rattle.decode_core.specs.declared.decoder.Progress.{Progress}
 use Rattle.decode_core.specs.declared.decoder.Progress.TheVariants as progress

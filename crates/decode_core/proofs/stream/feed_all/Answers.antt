@@ -28,7 +28,7 @@ returns-then-used-count-clause-answers g c =
     let part = take c.in_ok-count.count c.pull.new.part in
     let w = whole_by c.pieces.decoder c.feed.new.self (so_far.0 ++ part) c.in_ok-used.field-0 c.in-Done.used c.in-Done.is (c.in_ok-used.ensures.answers so_far.0 so_far.1.led).0 in
     trails_within _ _ c.feed.new.self.job (so_far.0 ++ part) w.tree c.feed.new.self.taken (Consumes-trans _ _ _ so_far.0 part so_far.2 c.in_ok-count.ensures.bytes.0) w.outcome
-        (omega (arith, w.count, so_far.1.count, c.if-used-count.true, length-append so_far.0 part, length-take c.in_ok-count.count c.pull.new.part, c.in_ok-count.ensures.count))
+    (omega (arith, w.count, so_far.1.count, c.if-used-count.true, length-append so_far.0 part, length-take c.in_ok-count.count c.pull.new.part, c.in_ok-count.ensures.count))
 
 -- src/stream.rt:98:13
 pub returns-in-Done-clause-answers : goal.returns-in-Done-clause-answers
@@ -38,8 +38,8 @@ returns-in-Done-clause-answers g c =
     let answers = c.in_ok-used.ensures.answers so_far.0 so_far.1.led in
     let w = whole_by c.pieces.decoder c.feed.new.self (so_far.0 ++ part) c.in_ok-used.field-0 c.in-Done.used c.in-Done.is answers.0 in
     look_feeds _ _ c.feed.new.self (so_far.0 ++ part) w.tree c.has_more.result (Consumes-trans _ _ _ so_far.0 part so_far.2 c.in_ok-count.ensures.bytes.0) w.outcome answers.1
-        (omega (arith, w.count, so_far.1.count, c.if-used-count.false, length-append so_far.0 part, length-take c.in_ok-count.count c.pull.new.part, c.in_ok-count.ensures.count))
-        c.has_more.ensures.answers
+    (omega (arith, w.count, so_far.1.count, c.if-used-count.false, length-append so_far.0 part, length-take c.in_ok-count.count c.pull.new.part, c.in_ok-count.ensures.count))
+    c.has_more.ensures.answers
 
 -- src/stream.rt:89:5
 pub pieces-smaller : goal.pieces-smaller
