@@ -43,3 +43,5 @@ pub mod Bridge
 pub mod Feeding
 pub mod FeedRun
 pub mod Opening
+pub mod Streaming
+pub mod Answering

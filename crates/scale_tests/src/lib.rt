@@ -20,6 +20,8 @@ mod compact;
 #[cfg(test)]
 mod decoder;
 #[cfg(test)]
+mod decoder_memory;
+#[cfg(test)]
 mod devices;
 #[cfg(test)]
 mod encoder_devices;
@@ -34,6 +36,8 @@ mod paced;
 pub mod rationed;
 #[cfg(test)]
 mod registries;
+#[cfg(test)]
+mod streams;
 #[cfg(test)]
 mod texts;
 #[cfg(test)]

@@ -1,0 +1,86 @@
+-- What is answered to all bytes of a reader, and to pieces that are joined.
+use Rattle.std.specs.Prelude.{◌≡◌, ℕ, ◌<◌, ◌≤◌, ◌⊎◌, Bool, true, false, List, [], ◌++◌, length, Result, Ok, Err, Option, Some, None, IfSome}
+use Rattle.std.specs.Io.KnownBytes.{IsAtEnd}
+use Rattle.registry_core.specs.declared.type_info.TypeInfo.{TypeInfo}
+use Rattle.widths_core.specs.Widths.{widest}
+use Rattle.grammar_core.specs.Tree.{Tree, nodes, text_bytes}
+use Rattle.value_core.specs.Shown.{Seen}
+use Rattle.grammar_core.specs.declared.limits.Limits.{Limits}
+use Rattle.decode_core.specs.Bound.{value_bound}
+use Rattle.decode_core.specs.Outcome.{Job, done, more, IsOutcome}
+use Rattle.decode_core.specs.Decoding.{Decoding, Finishes, Led, first_of_all}
+use Rattle.decode_core.specs.declared.fault.OpenFault.{OpenFault}
+use Rattle.decode_core.specs.declared.fault.OpenFault.TheVariants as opening
+use Rattle.decode_core.specs.declared.stream.StreamFault.{StreamFault}
+use Rattle.decode_core.specs.declared.stream.StreamFault.TheVariants as stream
+use Rattle.decode_core.specs.declared.pieces.PiecesFault.{PiecesFault}
+use Rattle.decode_core.specs.declared.pieces.PiecesFault.TheVariants as pieces
+
+-- what is decoded: a type of a registry, within these limits
+abbrev pub job_of : List TypeInfo → ℕ → Limits → Job
+job_of types root limits = (first_of_all types root limits).job
+
+-- the fault that forbids a decoder; or there is none, and memory was refused
+abbrev pub Forbids : Option OpenFault → OpenFault → Type 0
+Forbids forbidden e = (forbidden ≡ Some e) ⊎ ((e ≡ opening.OutOfMemory) × (forbidden ≡ None))
+
+-- a value of the job's type, of its registry
+abbrev pub IsOfJob : Job → Seen → Type 0
+IsOfJob j v = (v.types ≡ j.registry) × (v.ty ≡ j.ty)
+
+-- a value has n of these bytes, and more follow
+abbrev pub Trails : Job → ℕ → List ℕ → Type 0
+Trails j n b = (v : Tree) × IsOutcome j b (done v) n × (n < length b)
+
+-- the answer to all bytes of a reader: the one value that is encoded by exactly these bytes; the fault that forbids a decoder; too few
+-- bytes, or the fault of these bytes; or a value whose bytes end before they do. Where a read failed, nothing is said of the bytes
+abbrev pub Streams : Option OpenFault → Job → List ℕ → Result Seen StreamFault → Type 0
+Streams forbidden j b (Ok v) = (forbidden ≡ None) × IsOfJob j v × IsOutcome j b (done v.tree) (length b)
+Streams forbidden j b (Err (stream.Open e)) = Forbids forbidden e
+Streams forbidden j b (Err (stream.Decode f)) = (forbidden ≡ None) × Finishes j b (Err f)
+Streams forbidden j b (Err (stream.TrailingBytes at)) = (forbidden ≡ None) × Trails j at b
+Streams forbidden j b (Err stream.Device) = forbidden ≡ None
+
+-- the value on the front of the joined pieces, how many bytes are its own, and that it is little for them; or, as above, the fault
+abbrev pub Joins : Option OpenFault → Job → List ℕ → Result (Seen × ℕ) PiecesFault → Type 0
+Joins forbidden j b (Ok x) = (forbidden ≡ None) × IsOfJob j x.0 × IsOutcome j b (done x.0.tree) x.1
+    × (nodes x.0.tree ≤ value_bound x.1 j.depth (widest j.registry)) × (text_bytes x.0.tree ≤ x.1)
+Joins forbidden j b (Err (pieces.Open e)) = Forbids forbidden e
+Joins forbidden j b (Err (pieces.Decode f)) = (forbidden ≡ None) × Finishes j b (Err f)
+
+-- ---- on the way
+
+-- these bytes have led to the decoder, and either there are none or the value goes on
+pub record IsUnderWay (d : Decoding) (b : List ℕ) : Type 0 where
+  pub led : Led d b
+  pub count : d.taken ≡ length b
+  pub fits : length b ≤ d.job.bytes
+  pub goes_on : (length b ≡ 0) ⊎ IsOutcome d.job b more (length b)
+
+-- a value on the front of these bytes has n of them
+abbrev pub EndsAt : Job → List ℕ → ℕ → Type 0
+EndsAt j b n = (v : Tree) (m : ℕ) → IsOutcome j b (done v) m → m ≡ n
+
+-- does a byte follow
+abbrev pub Looks : Option (List ℕ) → Result Bool StreamFault → Type 0
+Looks known (Ok true) = IfSome known (λ b. 0 < length b)
+Looks known (Ok false) = IsAtEnd known
+Looks known (Err stream.Device) = Unit {0}
+Looks known (Err _) = ⊥
+
+-- what has led to the decoder are all bytes of a reader, of which its value leaves none; or more follow its value; or they are refused
+abbrev pub FeedsAll : Decoding → Option (List ℕ) → Result Bool StreamFault → Type 0
+FeedsAll d known (Ok false) = (b : List ℕ) × Led d b × EndsAt d.job b (length b) × IfSome known (λ bytes. bytes ≡ b)
+FeedsAll d known (Ok true) = IfSome known (Trails d.job d.taken)
+FeedsAll d known (Err (stream.Decode f)) = IfSome known (λ bytes. Finishes d.job bytes (Err f))
+FeedsAll d known (Err stream.Device) = Unit {0}
+FeedsAll d known (Err _) = ⊥
+
+-- the front of these bytes has led to the decoder, and its value is whole, or nothing follows
+pub record IsFed (d : Decoding) (b : List ℕ) : Type 0 where
+  pub front : List ℕ
+  pub rest : List ℕ
+  pub is : b ≡ front ++ rest
+  pub led : Led d front
+  pub ends : EndsAt d.job front d.taken
+  pub whole : ((v : Tree) × IsOutcome d.job front (done v) d.taken) ⊎ (rest ≡ [])

@@ -1,0 +1,668 @@
+//! Values from readers of several paces and from pieces: worked rows, ends at the edge of a read, and failed reads.
+
+use crate::building::{
+    BITS_IN_AN_ARM, BYTES, CHAIN, COMPACT_OF_A_BOOL, COMPACT_U128, ENDLESS, LONG_ARRAY, OPTION,
+    SHADOWED_ARM, TEXT, TWO_UNITS_AND_A_BYTE, UNITS, checked, written,
+};
+use crate::decoder_memory::{NESTED, NESTED_BYTES, nested_pairs};
+use crate::paced::{PacedReader, Then};
+use crate::rationed::Rationed;
+use decode_core::{
+    DecodeFault, DecodeReason, OpenFault, PiecesFault, StreamFault, decode_all, decode_pieces,
+};
+use linked_list_allocator::LocalHeap;
+use registry_core::TypeId;
+use scale_core::Source;
+use std::alloc::Global;
+use std::io;
+use std::io::Read;
+use std::process::Abort;
+use std::test::Fail;
+use value_core::Limits;
+use widths_core::Checked;
+
+/// What stands on the front of the bytes: a value, by its length and its nodes, or the fault, by its reason and place.
+#[derive(Clone, Copy)]
+enum Answer {
+    Whole { len: usize, nodes: u64 },
+    Refused(DecodeReason, u64),
+}
+
+#[derive(Clone, Copy)]
+struct Row {
+    name: &'static str,
+    registry: &'static [u8],
+    ty: u32,
+    limits: Limits,
+    bytes: &'static [u8],
+    answer: Answer,
+}
+
+/// A variant without arms, and a sequence of it.
+const NEVER: &[u8] = b"\x08\x00\x00\x00\x01\x00\x00\x04\x00\x00\x02\x00\x00";
+
+const U16: &[u8] = b"\x04\x00\x00\x00\x05\x04\x00";
+
+const AMPLE: Limits = Limits {
+    depth: 64,
+    bytes: 16_777_216,
+};
+
+const FLAT: Limits = Limits {
+    depth: 0,
+    bytes: 16_777_216,
+};
+
+const TWO_DEEP: Limits = Limits {
+    depth: 2,
+    bytes: 16_777_216,
+};
+
+const TWO_BYTES: Limits = Limits {
+    depth: 64,
+    bytes: 2,
+};
+
+const ROWS: [Row; 30] = [
+    Row {
+        name: "greatest compact",
+        registry: COMPACT_U128,
+        ty: 1,
+        limits: AMPLE,
+        bytes: b"\x33\xff\xff\xff\xff\xff\xff\xff\xff\xff\xff\xff\xff\xff\xff\xff\xff",
+        answer: Answer::Whole { len: 17, nodes: 1 },
+    },
+    Row {
+        name: "count of units",
+        registry: UNITS,
+        ty: 2,
+        limits: AMPLE,
+        bytes: b"\x03\x00\x00\x00\x40",
+        answer: Answer::Whole { len: 5, nodes: 1 },
+    },
+    Row {
+        name: "claimed length",
+        registry: BYTES,
+        ty: 1,
+        limits: AMPLE,
+        bytes: b"\xfe\xff\xff\xff\x01\x02",
+        answer: Answer::Refused(DecodeReason::Truncated, 6),
+    },
+    Row {
+        name: "length of an array",
+        registry: LONG_ARRAY,
+        ty: 1,
+        limits: AMPLE,
+        bytes: b"\x01\x02\x03",
+        answer: Answer::Refused(DecodeReason::Truncated, 3),
+    },
+    Row {
+        name: "units alone",
+        registry: TWO_UNITS_AND_A_BYTE,
+        ty: 2,
+        limits: AMPLE,
+        bytes: b"",
+        answer: Answer::Refused(DecodeReason::Truncated, 0),
+    },
+    Row {
+        name: "units and a byte",
+        registry: TWO_UNITS_AND_A_BYTE,
+        ty: 2,
+        limits: AMPLE,
+        bytes: b"\x2a",
+        answer: Answer::Whole { len: 1, nodes: 4 },
+    },
+    Row {
+        name: "no depth, no bytes",
+        registry: TWO_UNITS_AND_A_BYTE,
+        ty: 2,
+        limits: FLAT,
+        bytes: b"",
+        answer: Answer::Refused(DecodeReason::TooDeep, 0),
+    },
+    Row {
+        name: "no depth",
+        registry: TWO_UNITS_AND_A_BYTE,
+        ty: 2,
+        limits: FLAT,
+        bytes: b"\x2a",
+        answer: Answer::Refused(DecodeReason::TooDeep, 0),
+    },
+    Row {
+        name: "some",
+        registry: OPTION,
+        ty: 1,
+        limits: AMPLE,
+        bytes: b"\x01\x2a\x00\x00\x00",
+        answer: Answer::Whole { len: 5, nodes: 2 },
+    },
+    Row {
+        name: "none",
+        registry: OPTION,
+        ty: 1,
+        limits: AMPLE,
+        bytes: b"\x00",
+        answer: Answer::Whole { len: 1, nodes: 1 },
+    },
+    Row {
+        name: "no arm",
+        registry: OPTION,
+        ty: 1,
+        limits: AMPLE,
+        bytes: b"\x02",
+        answer: Answer::Refused(DecodeReason::NoSuchVariant, 0),
+    },
+    Row {
+        name: "endless, no bytes",
+        registry: ENDLESS,
+        ty: 0,
+        limits: AMPLE,
+        bytes: b"",
+        answer: Answer::Refused(DecodeReason::NoFiniteValue, 0),
+    },
+    Row {
+        name: "endless",
+        registry: ENDLESS,
+        ty: 0,
+        limits: AMPLE,
+        bytes: b"\x00",
+        answer: Answer::Refused(DecodeReason::NoFiniteValue, 0),
+    },
+    Row {
+        name: "no elements",
+        registry: NEVER,
+        ty: 1,
+        limits: AMPLE,
+        bytes: b"\x00",
+        answer: Answer::Whole { len: 1, nodes: 1 },
+    },
+    Row {
+        name: "an element",
+        registry: NEVER,
+        ty: 1,
+        limits: AMPLE,
+        bytes: b"\x04",
+        answer: Answer::Refused(DecodeReason::NoFiniteValue, 1),
+    },
+    Row {
+        name: "no bits",
+        registry: BITS_IN_AN_ARM,
+        ty: 1,
+        limits: AMPLE,
+        bytes: b"\x00",
+        answer: Answer::Whole { len: 1, nodes: 1 },
+    },
+    Row {
+        name: "bits",
+        registry: BITS_IN_AN_ARM,
+        ty: 1,
+        limits: AMPLE,
+        bytes: b"\x01",
+        answer: Answer::Refused(DecodeReason::BitSequence, 1),
+    },
+    Row {
+        name: "two letters",
+        registry: TEXT,
+        ty: 0,
+        limits: AMPLE,
+        bytes: b"\x10\xc3\xa9\xc3\xa9",
+        answer: Answer::Whole { len: 5, nodes: 1 },
+    },
+    Row {
+        name: "no UTF-8",
+        registry: TEXT,
+        ty: 0,
+        limits: AMPLE,
+        bytes: b"\x08\xc3\x28",
+        answer: Answer::Refused(DecodeReason::BadUtf8, 1),
+    },
+    Row {
+        name: "cut text",
+        registry: TEXT,
+        ty: 0,
+        limits: AMPLE,
+        bytes: b"\x08\xc3",
+        answer: Answer::Refused(DecodeReason::Truncated, 2),
+    },
+    Row {
+        name: "chain",
+        registry: CHAIN,
+        ty: 0,
+        limits: TWO_DEEP,
+        bytes: b"\x01\x01\x00",
+        answer: Answer::Whole { len: 3, nodes: 3 },
+    },
+    Row {
+        name: "chain too deep",
+        registry: CHAIN,
+        ty: 0,
+        limits: TWO_DEEP,
+        bytes: b"\x01\x01\x01",
+        answer: Answer::Refused(DecodeReason::TooDeep, 3),
+    },
+    Row {
+        name: "a byte too many",
+        registry: U16,
+        ty: 0,
+        limits: AMPLE,
+        bytes: b"\x2a\x00\xff",
+        answer: Answer::Whole { len: 2, nodes: 1 },
+    },
+    Row {
+        name: "at the limit",
+        registry: OPTION,
+        ty: 0,
+        limits: TWO_BYTES,
+        bytes: b"\x01\x02",
+        answer: Answer::Refused(DecodeReason::Truncated, 2),
+    },
+    Row {
+        name: "past the limit",
+        registry: OPTION,
+        ty: 0,
+        limits: TWO_BYTES,
+        bytes: b"\x01\x02\x03",
+        answer: Answer::Refused(DecodeReason::TooLong, 2),
+    },
+    Row {
+        name: "shadowed arm",
+        registry: SHADOWED_ARM,
+        ty: 1,
+        limits: AMPLE,
+        bytes: b"\x03",
+        answer: Answer::Whole { len: 1, nodes: 1 },
+    },
+    Row {
+        name: "behind a shadowed arm",
+        registry: SHADOWED_ARM,
+        ty: 1,
+        limits: AMPLE,
+        bytes: b"\x03\x07",
+        answer: Answer::Whole { len: 1, nodes: 1 },
+    },
+    Row {
+        name: "bad compact, no bytes",
+        registry: COMPACT_OF_A_BOOL,
+        ty: 1,
+        limits: AMPLE,
+        bytes: b"",
+        answer: Answer::Refused(DecodeReason::BadCompact, 0),
+    },
+    Row {
+        name: "bad compact",
+        registry: COMPACT_OF_A_BOOL,
+        ty: 1,
+        limits: AMPLE,
+        bytes: b"\x07",
+        answer: Answer::Refused(DecodeReason::BadCompact, 0),
+    },
+    Row {
+        name: "bad boolean",
+        registry: COMPACT_OF_A_BOOL,
+        ty: 0,
+        limits: AMPLE,
+        bytes: b"\x02",
+        answer: Answer::Refused(DecodeReason::BadBool, 0),
+    },
+];
+
+/// What was decoded: the value's bytes and the number of its nodes.
+type Decoded = (Vec<u8>, u64);
+
+/// All bytes of the source, decoded.
+fn decoded<R: Read>(
+    alloc: Global,
+    checked: &Checked,
+    ty: u32,
+    limits: Limits,
+    source: &mut Source<R>,
+) -> Result<Result<Decoded, StreamFault>, Fail> {
+    match decode_all(alloc, checked, TypeId(ty), limits, source) {
+        Ok(value) => Ok(Ok((written(alloc, &value)?, value.node_count()))),
+        Err(fault) => Ok(Err(fault)),
+    }
+}
+
+/// The answer is the row's.
+fn check_all(rt: &impl Abort, row: &Row, how: &str, told: &Result<Decoded, StreamFault>) {
+    let name = row.name;
+    match (row.answer, told) {
+        (Answer::Whole { len, nodes }, Ok((bytes, count))) => {
+            assert_eq!(rt; len, row.bytes.len(), "{name}, {how}");
+            assert_eq!(rt; bytes.as_slice(), row.bytes, "{name}, {how}");
+            assert_eq!(rt; *count, nodes, "{name}, {how}");
+        }
+        (Answer::Whole { len, nodes: _ }, Err(fault)) => {
+            assert!(rt; len < row.bytes.len(), "{name}, {how}");
+            let trailing = StreamFault::TrailingBytes { at: len as u64 };
+            assert_eq!(rt; *fault, trailing, "{name}, {how}");
+        }
+        (Answer::Refused(reason, at), Err(fault)) => {
+            let refused = StreamFault::Decode(DecodeFault { reason, at });
+            assert_eq!(rt; *fault, refused, "{name}, {how}");
+        }
+        (Answer::Refused(..), Ok(_)) => assert!(rt; false, "{name}, {how}"),
+    }
+}
+
+#[test]
+fn readers_of_each_pace_give_the_same(rt: HostRuntime) -> Result<(), Fail> {
+    'rows: for row in &ROWS {
+        let checked = checked(rt.alloc(), row.registry)?;
+        'steps: for step in [1, 2, 3, 4, 4096] {
+            let how = format!(in rt.alloc(); "{step} bytes a read")?;
+            let mut source = Source::new(PacedReader::new(row.bytes, step, Then::GoesOn));
+            let told = decoded(rt.alloc(), &checked, row.ty, row.limits, &mut source)?;
+            check_all(&rt, row, &how, &told);
+            assert_eq!(rt; source.failed(), false, "{how}");
+        }
+    }
+    Ok(())
+}
+
+/// A reader that gives one byte a call and fails at one of its calls, where the first has the number 1.
+#[derive(Drop)]
+struct FailingReader {
+    bytes: &'static [u8],
+    until_failure: usize,
+}
+
+impl Read for FailingReader {
+    fn read(&mut self, part: &mut [u8]) -> io::Result<usize> {
+        self.until_failure = self.until_failure.saturating_sub(1);
+        if self.until_failure == 0 {
+            return Err(io::ErrorKind::Other.into());
+        }
+        match (self.bytes, part) {
+            ([first, rest @ ..], [place, ..]) => {
+                *place = *first;
+                self.bytes = rest;
+                Ok(1)
+            }
+            _ => Ok(0),
+        }
+    }
+}
+
+// A value of n bytes is read in n + 1 calls, the last of which tells the end; a row never takes more.
+#[test]
+fn each_read_that_fails_is_told_unless_all_was_decided(rt: HostRuntime) -> Result<(), Fail> {
+    'rows: for row in &ROWS {
+        let checked = checked(rt.alloc(), row.registry)?;
+        let mut decided = false;
+        'reads: for read in 1..=row.bytes.len().saturating_add(2) {
+            let how = format!(in rt.alloc(); "read {read} fails")?;
+            let reader = FailingReader {
+                bytes: row.bytes,
+                until_failure: read,
+            };
+            let mut source = Source::new(reader);
+            let told = decoded(rt.alloc(), &checked, row.ty, row.limits, &mut source)?;
+            if source.failed() {
+                assert!(rt; !decided, "{how}");
+                assert_eq!(rt; told.err(), Some(StreamFault::Device), "{how}");
+            } else {
+                decided = true;
+                check_all(&rt, row, &how, &told);
+            }
+        }
+        assert!(rt; decided, "the last read of a row is not needed");
+    }
+    Ok(())
+}
+
+#[test]
+fn the_first_read_comes_before_any_answer(rt: HostRuntime) -> Result<(), Fail> {
+    let number = checked(rt.alloc(), U16)?;
+    // The value's two bytes come, and then nothing can be told of what follows.
+    let mut source = Source::new(PacedReader::new(b"\x2a\x00", 2, Then::Fails));
+    let told = decoded(rt.alloc(), &number, 0, AMPLE, &mut source)?;
+    assert_eq!(rt; (told.err(), source.failed()), (Some(StreamFault::Device), true));
+    // One read brings the byte that follows, and no other read is made.
+    let mut source = Source::new(PacedReader::new(b"\x2a\x00\xff", 3, Then::Fails));
+    let told = decoded(rt.alloc(), &number, 0, AMPLE, &mut source)?;
+    let trailing = StreamFault::TrailingBytes { at: 2 };
+    assert_eq!(rt; (told.err(), source.failed()), (Some(trailing), false));
+    // A type that is refused without a byte is refused behind the first read.
+    let compact = checked(rt.alloc(), COMPACT_OF_A_BOOL)?;
+    let mut source = Source::new(PacedReader::new(b"", 1, Then::Fails));
+    let told = decoded(rt.alloc(), &compact, 1, AMPLE, &mut source)?;
+    assert_eq!(rt; (told.err(), source.failed()), (Some(StreamFault::Device), true));
+    Ok(())
+}
+
+#[test]
+fn a_decoder_that_is_not_made_reads_nothing(rt: HostRuntime) -> Result<(), Fail> {
+    let checked = checked(rt.alloc(), U16)?;
+    let deep = Limits {
+        depth: 1025,
+        bytes: 16_777_216,
+    };
+    let long = Limits {
+        depth: 64,
+        bytes: 1_099_511_627_777,
+    };
+    let rows = [
+        (1, AMPLE, OpenFault::UnknownType),
+        (1, deep, OpenFault::UnknownType),
+        (0, deep, OpenFault::LimitOutOfRange),
+        (0, long, OpenFault::LimitOutOfRange),
+    ];
+    'rows: for (ty, limits, fault) in rows {
+        let mut source = Source::new(PacedReader::new(b"\x2a\x00", 1, Then::Fails));
+        let told = decoded(rt.alloc(), &checked, ty, limits, &mut source)?;
+        assert_eq!(rt; told.err(), Some(StreamFault::Open(fault)));
+        assert_eq!(rt; source.failed(), false);
+        let mut first = [0; 1];
+        assert_eq!(rt; source.pull(&mut first), Ok(1));
+        assert_eq!(rt; first, [0x2a]);
+        let pieces = [b"\x2a\x00".as_slice()];
+        let told = decode_pieces(rt.alloc(), &checked, TypeId(ty), limits, &pieces).err();
+        assert_eq!(rt; told, Some(PiecesFault::Open(fault)));
+    }
+    Ok(())
+}
+
+/// A sequence of so many u8 above 63 and below 16384, and so many bytes behind it.
+fn sequence(alloc: Global, elements: u16, behind: usize) -> Result<Vec<u8>, Fail> {
+    let length = elements.saturating_mul(4).saturating_add(1);
+    let mut bytes = Vec::from_slice(alloc, &length.to_le_bytes())?;
+    'elements: for element in 0..elements {
+        let [low, _] = element.to_le_bytes();
+        bytes.push(low)?;
+    }
+    'behind: for _ in 0..behind {
+        bytes.push(0xff)?;
+    }
+    Ok(bytes)
+}
+
+// A read asks for at most 4096 bytes, so that the value and what follows it may come in one read or in two.
+#[test]
+fn a_byte_behind_is_told_at_the_edge_of_a_read(rt: HostRuntime) -> Result<(), Fail> {
+    let checked = checked(rt.alloc(), BYTES)?;
+    'lengths: for len in [4095, 4096, 4097, 8191, 8192, 8193u16] {
+        let elements = len.saturating_sub(2);
+        'behind: for behind in 0..3 {
+            let bytes = sequence(rt.alloc(), elements, behind)?;
+            assert_eq!(rt; bytes.len(), usize::from(len).saturating_add(behind));
+            let mut source = Source::new(bytes.as_slice());
+            let told = decoded(rt.alloc(), &checked, 1, AMPLE, &mut source)?;
+            let name = format!(in rt.alloc(); "{behind} behind {len} bytes")?;
+            match told {
+                Ok((back, nodes)) => {
+                    assert_eq!(rt; behind, 0, "{name}");
+                    assert_eq!(rt; back.as_slice(), bytes.as_slice(), "{name}");
+                    assert_eq!(rt; nodes, u64::from(elements).saturating_add(1), "{name}");
+                }
+                Err(fault) => {
+                    let trailing = StreamFault::TrailingBytes { at: u64::from(len) };
+                    assert_eq!(rt; fault, trailing, "{name}");
+                    assert!(rt; behind > 0, "{name}");
+                }
+            }
+            assert_eq!(rt; source.failed(), false, "{name}");
+        }
+    }
+    Ok(())
+}
+
+#[test]
+fn a_value_without_bytes_is_read_to_the_end(rt: HostRuntime) -> Result<(), Fail> {
+    let registry = nested_pairs(rt.alloc())?;
+    let checked = checked(rt.alloc(), &registry)?;
+    let mut source = Source::new(b"".as_slice());
+    let told = decoded(rt.alloc(), &checked, 40, AMPLE, &mut source)?;
+    let (bytes, nodes) = told.ok().ok_or("no value")?;
+    assert_eq!(rt; (bytes.len(), nodes), (0, 1));
+    let mut source = Source::new(b"\x00".as_slice());
+    let told = decoded(rt.alloc(), &checked, 40, AMPLE, &mut source)?;
+    assert_eq!(rt; told.err(), Some(StreamFault::TrailingBytes { at: 0 }));
+    let (value, taken) = decode_pieces(rt.alloc(), &checked, TypeId(40), AMPLE, &[])
+        .ok()
+        .ok_or("no value")?;
+    assert_eq!(rt; (value.node_count(), taken), (1, 0));
+    Ok(())
+}
+
+/// The pieces are answered as the row says.
+fn check_pieces(
+    rt: &impl Abort,
+    alloc: Global,
+    checked: &Checked,
+    row: &Row,
+    pieces: &[&[u8]],
+) -> Result<(), Fail> {
+    let name = row.name;
+    let told = decode_pieces(alloc, checked, TypeId(row.ty), row.limits, pieces);
+    match (row.answer, told) {
+        (Answer::Whole { len, nodes }, Ok((value, taken))) => {
+            assert_eq!(rt; taken, len as u64, "{name}, {pieces:?}");
+            assert_eq!(rt; value.node_count(), nodes, "{name}, {pieces:?}");
+            let bytes = written(alloc, &value)?;
+            let own = row.bytes.get(..len);
+            assert_eq!(rt; Some(bytes.as_slice()), own, "{name}, {pieces:?}");
+        }
+        (Answer::Refused(reason, at), Err(fault)) => {
+            let refused = PiecesFault::Decode(DecodeFault { reason, at });
+            assert_eq!(rt; fault, refused, "{name}, {pieces:?}");
+        }
+        _ => Err("the answer is another's")?,
+    }
+    Ok(())
+}
+
+#[test]
+fn each_cut_into_pieces_gives_the_same(rt: HostRuntime) -> Result<(), Fail> {
+    'rows: for row in &ROWS {
+        let checked = checked(rt.alloc(), row.registry)?;
+        check_pieces(&rt, rt.alloc(), &checked, row, &[row.bytes])?;
+        'cuts: for cut in 0..=row.bytes.len() {
+            let (front, rest) = row.bytes.split_at(cut);
+            check_pieces(&rt, rt.alloc(), &checked, row, &[front, rest])?;
+            check_pieces(&rt, rt.alloc(), &checked, row, &[front, b"", rest])?;
+        }
+        let mut single = Vec::new(rt.alloc());
+        'bytes: for byte in row.bytes.chunks(1) {
+            single.push(byte)?;
+        }
+        check_pieces(&rt, rt.alloc(), &checked, row, &single)?;
+    }
+    Ok(())
+}
+
+// A decoder takes memory for its nodes and for its bytes through a clone each of what it is handed.
+#[test]
+fn memory_that_is_refused_at_first_is_a_fault_of_opening(rt: HostRuntime) -> Result<(), Fail> {
+    let checked = checked(rt.alloc(), NESTED)?;
+    'requests: for request in [1, 2] {
+        let mut source = Source::new(PacedReader::new(b"", 1, Then::Fails));
+        let memory = Rationed::new(rt.alloc(), request);
+        let told = decode_all(memory, &checked, TypeId(5), AMPLE, &mut source).err();
+        assert_eq!(rt; told, Some(StreamFault::Open(OpenFault::OutOfMemory)));
+        assert_eq!(rt; source.failed(), false);
+        let memory = Rationed::new(rt.alloc(), request);
+        let told = decode_pieces(memory, &checked, TypeId(5), AMPLE, &[NESTED_BYTES]).err();
+        assert_eq!(rt; told, Some(PiecesFault::Open(OpenFault::OutOfMemory)));
+    }
+    Ok(())
+}
+
+/// Over memory of which this request is refused: was it made?
+fn check_rationed(
+    rt: &impl Abort,
+    alloc: Global,
+    checked: &Checked,
+    heap: &LocalHeap,
+    request: u64,
+) -> Result<bool, Fail> {
+    let refused = DecodeFault {
+        reason: DecodeReason::OutOfMemory,
+        at: 0,
+    };
+    let memory = Rationed::new(heap, request);
+    let mut source = Source::new(PacedReader::new(NESTED_BYTES, 3, Then::GoesOn));
+    match decode_all(&memory, checked, TypeId(5), AMPLE, &mut source) {
+        Ok(value) => {
+            assert!(rt; !memory.is_past_refusal(), "request {request}");
+            let bytes = written(alloc, &value)?;
+            assert_eq!(rt; bytes.as_slice(), NESTED_BYTES);
+        }
+        Err(fault) => {
+            assert!(rt; memory.is_past_refusal(), "request {request}");
+            assert_eq!(rt; fault, StreamFault::Decode(refused), "request {request}");
+        }
+    }
+    assert_eq!(rt; heap.used(), 0, "what is kept behind request {request}");
+    assert_eq!(rt; source.failed(), false, "request {request}");
+    let memory = Rationed::new(heap, request);
+    let (front, rest) = NESTED_BYTES.split_at(8);
+    let told = decode_pieces(&memory, checked, TypeId(5), AMPLE, &[front, rest]).err();
+    if memory.is_past_refusal() {
+        assert_eq!(rt; told, Some(PiecesFault::Decode(refused)), "request {request}");
+    } else {
+        assert_eq!(rt; told, None, "request {request}");
+    }
+    assert_eq!(rt; heap.used(), 0, "what is kept behind request {request}");
+    Ok(memory.is_past_refusal())
+}
+
+#[test]
+fn each_refused_request_leaves_nothing(rt: HostRuntime) -> Result<(), Fail> {
+    let checked = checked(rt.alloc(), NESTED)?;
+    let heap = LocalHeap::new(rt.alloc(), 65_536)?;
+    'requests: for request in 1..1000 {
+        if !check_rationed(&rt, rt.alloc(), &checked, &heap, request)? {
+            assert!(rt; request > 3, "{request} requests were made");
+            return Ok(());
+        }
+    }
+    Err("each run is refused memory")?
+}
+
+#[test]
+fn faults_are_printed_by_their_names(rt: HostRuntime) -> Result<(), Fail> {
+    let cut = DecodeFault {
+        reason: DecodeReason::Truncated,
+        at: 3,
+    };
+    let lines = [
+        (StreamFault::Open(OpenFault::UnknownType), "UnknownType"),
+        (StreamFault::Decode(cut), "Truncated at 3"),
+        (StreamFault::TrailingBytes { at: 2 }, "TrailingBytes at 2"),
+        (StreamFault::Device, "Device"),
+    ];
+    'lines: for (fault, line) in lines {
+        let printed = format!(in rt.alloc(); "{fault}")?;
+        assert_eq!(rt; printed.as_str(), line);
+    }
+    let lines = [
+        (PiecesFault::Open(OpenFault::LimitOutOfRange), "LimitOutOfRange"),
+        (PiecesFault::Decode(cut), "Truncated at 3"),
+    ];
+    'more: for (fault, line) in lines {
+        let printed = format!(in rt.alloc(); "{fault}")?;
+        assert_eq!(rt; printed.as_str(), line);
+    }
+    Ok(())
+}
