@@ -23,7 +23,7 @@ returns-in_err-finish g c =
     let job = c.in_ok-feed_pieces.ensures.job ∙ ap (λ (d : Decoding). d.job) first.1 in
     let fed = c.in_ok-feed_pieces.ensures.fed in
     let p = err_from_is_err_and c.from_residual-in_err-finish.result c.from_residual-in_err-finish.ensures.1 in
-    rw (p.1, p.2) (joins_fault fault (job_of c.args.checked.now c.args.root.0 c.args.limits) c.feed_pieces.new.decoder _ c.in_err-finish.field-0.0 first.0 job fed (c.in_err-finish.ensures fed.front fed.led))
+    rw (p.1, p.2) (joins_fault fault (job_of c.args.checked.now c.args.root.0 c.args.limits) c.feed_pieces.new.decoder _ c.in_err-finish.field-0.0 first.0 job fed (c.in_err-finish.ensures.finishes fed.front fed.led))
 
 -- src/pieces.rt:70:1
 pub returns : goal.returns
@@ -32,4 +32,4 @@ returns g c =
     let first = opened fault (first_of_all c.args.checked.now c.args.root.0 c.args.limits) c.in_ok-decoder.decoder c.in_ok-decoder.ensures.opens in
     let job = c.in_ok-feed_pieces.ensures.job ∙ ap (λ (d : Decoding). d.job) first.1 in
     let fed = c.in_ok-feed_pieces.ensures.fed in
-    joins_value fault (job_of c.args.checked.now c.args.root.0 c.args.limits) c.feed_pieces.new.decoder _ c.in_ok-finish.field-0 c.taken-taken.result first.0 job fed c.taken-taken.ensures (c.in_ok-finish.ensures fed.front fed.led)
+    joins_value fault (job_of c.args.checked.now c.args.root.0 c.args.limits) c.feed_pieces.new.decoder _ c.in_ok-finish.field-0 c.taken-taken.result first.0 job fed c.taken-taken.ensures (c.in_ok-finish.ensures.finishes fed.front fed.led)

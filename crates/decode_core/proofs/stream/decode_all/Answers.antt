@@ -25,7 +25,7 @@ returns-in_err-finish-clause-answers g c =
     let known = g.R.Read.remaining c.args.source.now.device in
     let fed = subst (λ (b : Bool). FeedsAll c.feed_all.new.decoder known (Ok b)) c.if-branch.false c.in_ok-feed_all.ensures.answers in
     let p = err_from_is_err_and c.from_residual-in_err-finish.result c.from_residual-in_err-finish.ensures.1 in
-    rw (p.1, p.2) (end_streams known fault (job_of c.args.checked.now c.args.root.0 c.args.limits) c.feed_all.new.decoder fed.0 c.in_err-finish.field-0.0 first.0 job fed.3 (c.in_err-finish.ensures fed.0 fed.1))
+    rw (p.1, p.2) (end_streams known fault (job_of c.args.checked.now c.args.root.0 c.args.limits) c.feed_all.new.decoder fed.0 c.in_err-finish.field-0.0 first.0 job fed.3 (c.in_err-finish.ensures.finishes fed.0 fed.1))
 
 -- src/stream.rt:111:1
 pub returns-clause-answers : goal.returns-clause-answers
@@ -35,7 +35,7 @@ returns-clause-answers g c =
     let job = c.in_ok-feed_all.ensures.job ∙ ap (λ (d : Decoding). d.job) first.1 in
     let known = g.R.Read.remaining c.args.source.now.device in
     let fed = subst (λ (b : Bool). FeedsAll c.feed_all.new.decoder known (Ok b)) c.if-branch.false c.in_ok-feed_all.ensures.answers in
-    value_streams known fault (job_of c.args.checked.now c.args.root.0 c.args.limits) c.feed_all.new.decoder fed.0 c.in_ok-finish.field-0 first.0 job fed.2 fed.3 (c.in_ok-finish.ensures fed.0 fed.1)
+    value_streams known fault (job_of c.args.checked.now c.args.root.0 c.args.limits) c.feed_all.new.decoder fed.0 c.in_ok-finish.field-0 first.0 job fed.2 fed.3 (c.in_ok-finish.ensures.finishes fed.0 fed.1)
 
 -- src/stream.rt:111:1
 pub returns-clause-same : goal.returns-clause-same
@@ -44,5 +44,5 @@ returns-clause-same g c =
     let job = c.in_ok-feed_all.ensures.job ∙ ap (λ (d : Decoding). d.job) first.1 in
     let known = g.R.Read.remaining c.args.source.now.device in
     let fed = subst (λ (b : Bool). FeedsAll c.feed_all.new.decoder known (Ok b)) c.if-branch.false c.in_ok-feed_all.ensures.answers in
-    let value = c.in_ok-finish.ensures fed.0 fed.1 in
+    let value = c.in_ok-finish.ensures.finishes fed.0 fed.1 in
     (value.1 ∙ ap (λ (j : Job). j.registry) job, value.2 ∙ ap (λ (j : Job). j.ty) job)
