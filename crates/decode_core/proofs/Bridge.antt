@@ -82,7 +82,7 @@ fed_more j b piece s last n k g le m st sound are short =
     let led = moved_led j b s last n (take k cut) g m in
     let stops : remain j.registry (state_of last.built) (held_of last) ≡ told [] (Err ((truncated, st.1.left), held_of last)) = ap (λ (r : List TypeInfo). remain r (state_of last.built) (held_of last)) (sym of.types) ∙ waits_told last st.1 in
     let reads : told_at j.registry (suc j.depth) j.ty (b ++ piece) ≡ told last.built.entries (Err ((truncated, st.1.left), held_of last)) =
-        ap (told_at j.registry (suc j.depth) j.ty) input_is ∙ whole_told j.registry j.depth j.ty (state_of last.built) (g.own ++ m.own) (held_of last) led ∙ ap (after last.built.entries) stops ∙ ap (λ (xs : List Entry). told xs (Err ((truncated, st.1.left), held_of last))) (append-nil last.built.entries) in
+    ap (told_at j.registry (suc j.depth) j.ty) input_is ∙ whole_told j.registry j.depth j.ty (state_of last.built) (g.own ++ m.own) (held_of last) led ∙ ap (after last.built.entries) stops ∙ ap (λ (xs : List Entry). told xs (Err ((truncated, st.1.left), held_of last))) (append-nil last.built.entries) in
     let all_bytes = both_bytes b piece g.are_bytes are in
     let waiting : IsWaiting j (b ++ piece) last = record { wants = st.1; reads = reads; sound = sound } in
     let full : take j.bytes (b ++ piece) ≡ b ++ piece = take_all j.bytes (b ++ piece) (omega (arith, length-append b piece, g.count, g.fits, short)) in (

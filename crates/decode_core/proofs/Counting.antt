@@ -1,18 +1,17 @@
 -- How many turns there were, by the bytes that were taken and the nodes that were added.
-use Rattle.std.proofs.Common.{◌≡◌, ℕ, suc, ◌+◌, ◌*◌, ◌-◌, ◌<◌, ◌≤◌, List, [], ◌++◌, length, take, drop, Ok, Err, refl, sym, ap, subst, ◌∙◌, arith, inl, inr, length-append}
+use Rattle.std.proofs.Common.{◌≡◌, ℕ, suc, ◌+◌, ◌-◌, ◌≤◌, List, [], ◌++◌, length, take, Ok, Err, refl, sym, ap, subst, ◌∙◌, arith, inl, inr, length-append}
 use Rattle.std.proofs.lemmas.List.{append-nil, length-map, length-take, take_all}
 use Rattle.registry_core.specs.declared.type_info.TypeInfo.{TypeInfo}
 use Rattle.widths_core.specs.Widths.{widest}
-use Rattle.grammar_core.specs.Preorder.{preorder}
 use Rattle.grammar_core.specs.Reading.{value_at}
 use Rattle.grammar_core.proofs.Proved.{read_is_value}
 use Rattle.value_core.specs.Built.{Entry}
-use Rattle.decode_core.specs.Bound.{node_bound, value_bound}
+use Rattle.decode_core.specs.Bound.{node_bound}
 use Rattle.decode_core.specs.Decoding.{IsDone, RunLed}
 use Rattle.decode_core.specs.Machine.{State, remain, start}
 use Rattle.decode_core.specs.Outcome.{Job, done, IsOutcome}
 use Rattle.decode_core.specs.Running.{Running, held_of, state_of}
-use Rattle.decode_core.specs.Told.{Told, told, added, after, shown, told_at}
+use Rattle.decode_core.specs.Told.{Told, told, added, after, told_at}
 use Rattle.decode_core.specs.Turned.{FeedTells, FewTurns, Moves, Reaches, StopCounts, StopsShort, types_of}
 use Rattle.decode_core.specs.declared.fault.DecodeReason.{DecodeReason}
 use Rattle.decode_core.specs.declared.turned.Stopped.{Stopped}

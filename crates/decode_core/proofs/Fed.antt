@@ -1,7 +1,7 @@
--- However the input is cut, the machine answers the outcome of all bytes so far.
-use Rattle.std.proofs.Common.{◌≡◌, ℕ, suc, ◌+◌, ◌-◌, ◌<◌, ◌≤◌, Bool, true, false, cond, List, [], ◌∷◌, ◌++◌, length, take, drop, Ok, Err, refl, sym, ap, subst, ◌∙◌, append_assoc, arith, inl, inr, length-append, length-drop}
-use Rattle.std.specs.Prelude.{◌≢◌, nat_lt}
-use Rattle.std.proofs.lemmas.Bool.{cases_lt, ltb-false, ltb-true}
+-- What a state that bytes led to tells of them: where the reading ends there, that is the outcome.
+use Rattle.std.proofs.Common.{◌≡◌, ℕ, suc, ◌+◌, ◌-◌, ◌<◌, ◌≤◌, List, [], ◌++◌, length, take, drop, Ok, Err, refl, sym, ap, subst, ◌∙◌, append_assoc, arith, inl, inr, length-append, length-drop}
+use Rattle.std.specs.Prelude.{◌≢◌}
+use Rattle.std.proofs.lemmas.Bool.{cases_lt}
 use Rattle.std.proofs.lemmas.List.{append-nil, take_all, take-append-le, length-take}
 use Rattle.std.proofs.Math.Seq.{take-append-add}
 use Rattle.scale_core.specs.Read.{Read, place}
@@ -13,12 +13,10 @@ use Rattle.grammar_core.proofs.Proved.{read_is_value, stable}
 use Rattle.decode_core.specs.Outcome.{Outcome, done, refused, more, too_long, Job, IsShortest, FailsAt, IsOutcome}
 use Rattle.value_core.specs.Built.{Entry}
 use Rattle.decode_core.specs.Told.{shown, Ending, Fault, Told, told, added, ending, after, then, times_told, told_at, rest_told, Agrees}
-use Rattle.decode_core.specs.Machine.{State, remain, start, Stop, at_end, at_fault, tired, Ran, to_go, is_cut, deciding, Phase, going, over, refusing, stopped, runs_on, feed, opening, outcome_so_far, taken_of, feeds, joined, FeedsAnswer}
+use Rattle.decode_core.specs.Machine.{State, remain, start}
 use Rattle.decode_core.proofs.Tells.{after-nil, then-end, told_agrees}
 use Rattle.decode_core.specs.Turned.{Reaches}
-use Rattle.decode_core.proofs.MachineTurns.{Stopped, run_tells}
 use Rattle.decode_core.specs.Decided.{Decided}
-use Rattle.decode_core.proofs.Decides.{cut_is, not_cut, decided}
 
 start_told : (r : List TypeInfo) (depth t : ℕ) (b : List ℕ) → remain r (start depth t) b ≡ told_at r (suc depth) t b
 unfolding rest_told
@@ -136,67 +134,6 @@ outcome_stays j b piece too_long n h ne =
     let same : take j.bytes (b ++ piece) ≡ take j.bytes b = take-append-le j.bytes b piece (omega (arith, h.1)) in
     ((h.0.0, (h.0.1.0, rw same h.0.1.1, rw same h.0.1.2)), omega (arith, h.1, length-append b piece), h.2)
 
--- the machine stands where these bytes have led it
-abbrev pub Runs : Job → List ℕ → Phase → Type 0
-Runs j b (going s held n) = (own : List ℕ) × (b ≡ own ++ held) × Reaches j.registry (start j.depth j.ty) s own × (n ≡ length b) × (n ≤ j.bytes)
-Runs j b (over o n) = IsOutcome j b o n × (o ≢ more)
-
--- where it waits, it holds all that is added before the bytes end
-abbrev pub IsWaiting : Job → List ℕ → Phase → Type 0
-IsWaiting j b (going s held n) = (left : List ℕ) × (told_at j.registry (suc j.depth) j.ty b ≡ told s.nodes (Err ((truncated, left), held)))
-IsWaiting j b (over o n) = Unit {0}
-
-abbrev pub Answered : Job → List ℕ → Phase → Type 0
-Answered j input p = Runs j input p × IsOutcome j input (outcome_so_far p) (taken_of p) × IsWaiting j input p
-
-pub is_over : (j : Job) (input : List ℕ) (o : Outcome) (n : ℕ) → IsOutcome j input o n → o ≢ more → Answered j input (over o n)
-is_over j input o n h ne = ((h, ne), h, tt)
-
-pub cut_answered : (j : Job) (input : List ℕ) (offered : Bool) (m : ℕ) (a : Ran) (left : List ℕ) → Here j input a.state a.rest → m ≡ length (take j.bytes input) → (offered ≡ true → j.bytes < length input) → (offered ≡ false → length input ≤ j.bytes) → remain j.registry a.state a.rest ≡ told [] (Err ((truncated, left), a.rest)) →
-    Answered j input (cond offered (over too_long j.bytes) (going a.state a.rest m))
-cut_answered j input true m a left h len long short k = is_over j input too_long j.bytes (cut_here j input a.state a.rest left h k, long refl, refl) (λ e. absurd cc)
-cut_answered j input false m a left h len long short k =
-    let all : take j.bytes input ≡ input = take_all j.bytes input (short refl) in
-    let count : m ≡ length input = len ∙ ap length all in
-    let fits : m ≤ j.bytes = omega (arith, count, short refl) in (
-      (h.own, sym all ∙ h.is, h.led, count, fits),
-      (rw all at (cut_here j input a.state a.rest left h k), short refl, count),
-      (left, ap (told_at j.registry (suc j.depth) j.ty) (sym all ∙ h.is) ∙ whole_told j.registry j.depth j.ty a.state h.own a.rest h.led ∙ ap (after a.state.nodes) k ∙ ap (λ (xs : List Entry). told xs (Err ((truncated, left), a.rest))) (append-nil a.state.nodes)),
-    )
-
-pub fault_answered : (j : Job) (input : List ℕ) (offered : Bool) (m : ℕ) (a : Ran) (e : Refusal) (left : List ℕ) → Here j input a.state a.rest → m ≡ length (take j.bytes input) → (offered ≡ true → j.bytes < length input) → (offered ≡ false → length input ≤ j.bytes) → Stopped j.registry a (at_fault e left) →
-    Answered j input (refusing j offered m a e left)
-fault_answered j input offered m a e left h len long short k = by_cut (is_cut e) refl where
-  by_cut : (t : Bool) → is_cut e ≡ t → Answered j input (cond t (cond offered (over too_long j.bytes) (going a.state a.rest m)) (over (refused e (m - length left)) (m - length a.rest + deciding j.registry a.state a.rest)))
-  by_cut true is = cut_answered j input offered m a left h len long short (k.0 ∙ ap (λ (z : Refusal). told [] (Err ((z, left), a.rest))) (cut_is e is))
-  by_cut false is = is_over j input _ _ (refused_here j input a.state a.rest m (deciding j.registry a.state a.rest) e left h len (not_cut e is) (decided j.registry a.state a.rest e left k.1 is) k.0) (λ no. absurd cc)
-
-stop_answered : (j : Job) (input : List ℕ) (offered : Bool) (m : ℕ) (a : Ran) → Here j input a.state a.rest → m ≡ length (take j.bytes input) → (offered ≡ true → j.bytes < length input) → (offered ≡ false → length input ≤ j.bytes) → (stop : Stop) → Stopped j.registry a stop →
-    Answered j input (stopped j offered m a stop)
-stop_answered j input offered m a h len long short at_end k = is_over j input _ _ (done_here j input a.state a.rest m h k.0 len) (λ no. absurd cc)
-stop_answered j input offered m a h len long short (at_fault e left) k = fault_answered j input offered m a e left h len long short k
-stop_answered j input offered m a h len long short tired k = absurd k
-
+-- one way behind the other
 pub led_on : (r : List TypeInfo) (s s' s'' : State) (c d : List ℕ) → Reaches r s s' c → Reaches r s' s'' d → Reaches r s s'' (c ++ d)
 led_on r s s' s'' c d h k = record { tells = λ rest. ap (λ (b : List ℕ). after s.nodes (remain r s b)) (append_assoc c d rest) ∙ h.tells (d ++ rest) ∙ k.tells rest; level = k.level ∙ h.level }
-
-pub feed_answers : (j : Job) (b piece : List ℕ) (p : Phase) → Runs j b p → Answered j (b ++ piece) (feed j p piece)
-feed_answers j b piece (over o n) h = is_over j (b ++ piece) o n (outcome_stays j b piece o n h.0 h.1) h.1
-feed_answers j b piece (going s held n) h =
-    let cut = take (j.bytes - n) piece in
-    let a = runs_on j s (held ++ cut) in
-    let g = run_tells j.registry (suc (to_go j.registry s (held ++ cut))) s (held ++ cut) (omega arith) in
-    let front : take j.bytes (b ++ piece) ≡ b ++ cut = take_split j.bytes b piece ∙ rw (take_all j.bytes b (omega (arith, h.3, h.4)), h.3) refl in
-    let parts : b ++ cut ≡ (h.0 ++ g.0) ++ a.rest = ap (λ (x : List ℕ). x ++ cut) h.1 ∙ append_assoc h.0 held cut ∙ ap (λ (x : List ℕ). h.0 ++ x) g.1 ∙ sym (append_assoc h.0 g.0 a.rest) in
-    stop_answered j (b ++ piece) (nat_lt (j.bytes - n) (length piece)) (n + length cut) a (record { own = h.0 ++ g.0; led = led_on j.registry (start j.depth j.ty) s a.state h.0 g.0 h.2 g.2; is = front ∙ parts })
-    (omega (arith, h.3, ap length front, length-append b cut)) (λ t. omega (arith, ltb-true _ _ t, h.3, h.4, length-append b piece)) (λ f. omega (arith, ltb-false _ _ f, h.3, h.4, length-append b piece)) a.stop g.3
-
-pub opening_runs : (j : Job) → Runs j [] (opening j)
-opening_runs j = ([], refl, record { tells = λ rest. refl; level = refl }, refl, omega arith)
-
-pub feeds_run : (j : Job) (b : List ℕ) (p : Phase) (pieces : List (List ℕ)) → Runs j b p → Runs j (b ++ joined pieces) (feeds j p pieces)
-feeds_run j b p [] h = rw append-nil h
-feeds_run j b p (piece ∷ pieces) h = rw (← append_assoc b piece (joined pieces)) (feeds_run j (b ++ piece) (feed j p piece) pieces (feed_answers j b piece p h).0)
-
-pub feeds_answer : FeedsAnswer
-feeds_answer j pieces piece = (feed_answers j (joined pieces) piece (feeds j (opening j) pieces) (feeds_run j [] (opening j) pieces (opening_runs j))).1

@@ -1,5 +1,5 @@
 -- Where the machine waits, it holds the begun tree that is computed, and its answer is the outcome that is computed.
-use Rattle.std.proofs.Common.{◌≡◌, ℕ, zero, suc, ◌+◌, Bool, true, false, cond, List, [], ◌∷◌, ◌++◌, Option, Some, None, Ok, Err, refl, ap, arith}
+use Rattle.std.proofs.Common.{◌≡◌, ℕ, zero, suc, ◌+◌, Bool, true, false, cond, List, [], ◌∷◌, Option, Some, None, Ok, Err, refl, ap, arith}
 use Rattle.scale_core.specs.Read.{Read, compact_at}
 use Rattle.scale_core.specs.declared.compact.Target.TheVariants as target
 use Rattle.scale_core.specs.declared.fault.Reason.{Reason}
@@ -16,16 +16,10 @@ use Rattle.grammar_core.specs.Begun.{Begun, nothing, whole, in_fields, in_arm, i
 use Rattle.decode_core.specs.Holds.{OwnIsShort, IsShort, Holds, held}
 use Rattle.grammar_core.specs.Begun.{begun_depth}
 use Rattle.decode_core.specs.Begins.{Begins}
-use Rattle.decode_core.specs.Holding.{IsComputed, FeedsHoldComputed, FeedsCompute}
-use Rattle.decode_core.specs.Machine.{Phase, going, over, feed, feeds, opening, joined, outcome_so_far, taken_of}
 use Rattle.decode_core.specs.Met.{met_layout}
-use Rattle.decode_core.specs.Outcome.{Job}
 use Rattle.value_core.specs.Built.{Entry}
 use Rattle.decode_core.specs.Told.{entry, Own, leaf_own, arm_own, arms_own, length_own, shallow, own_at, Ending, Fault, Told, told, after, own_told, opened_told, told_at}
 use Rattle.decode_core.proofs.Begins.{begun_is_missing}
-use Rattle.decode_core.proofs.Computed.{outcome_is_computed}
-use Rattle.decode_core.proofs.FaultBegins.{fault_is_begun}
-use Rattle.decode_core.proofs.Fed.{Answered, feed_answers, feeds_run, opening_runs, feeds_answer}
 
 abbrev own_failed : Refusal × List ℕ → Own
 own_failed e = Err e
@@ -125,17 +119,3 @@ grows_depth r zero t (in_arm q vs g) b at u h = absurd h
 grows_depth r (suc room) t (in_arm q vs g) b at u h = omega (arith, grows_depth r room h.4 g h.7 at u h.16)
 grows_depth r zero t (in_list n vs g) b at u h = absurd h
 grows_depth r (suc room) t (in_list n vs g) b at u h = omega (arith, grows_depth r room h.0 g h.3 at u h.11)
-
-computed : (j : Job) (b : List ℕ) (p : Phase) → Answered j b p → IsComputed j b p
-computed j b (over o n) h = tt
-computed j b (going s kept n) h =
-    let g = fault_is_begun j.registry (suc j.depth) j.ty b s.nodes ((truncated, h.2.0), kept) h.2.1 in
-    let is = begins_computed j.registry (suc j.depth) j.ty b s.nodes h.2.0 kept g in
-    rw is (g.shows, refl)
-
-pub feeds_hold_computed : FeedsHoldComputed
-feeds_hold_computed j pieces piece = computed j (joined pieces ++ piece) (feed j (feeds j (opening j) pieces) piece) (feed_answers j (joined pieces) piece (feeds j (opening j) pieces) (feeds_run j [] (opening j) pieces (opening_runs j)))
-
-pub feeds_compute : FeedsCompute
-feeds_compute j pieces piece = let p = feed j (feeds j (opening j) pieces) piece in
-    (outcome_is_computed j (joined pieces ++ piece)).1 (outcome_so_far p) (taken_of p) (feeds_answer j pieces piece)

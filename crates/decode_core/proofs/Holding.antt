@@ -1,17 +1,15 @@
 -- What is held where bytes are missing is the begun tree of all bytes so far.
-use Rattle.std.proofs.Common.{◌≡◌, ℕ, suc, ◌+◌, ◌<◌, ◌≤◌, Bool, true, false, List, [], ◌∷◌, ◌++◌, length, Option, Some, None, Ok, Err, refl, sym, ap, subst, ◌∙◌, arith}
+use Rattle.std.proofs.Common.{◌≡◌, ℕ, suc, ◌+◌, true, List, ◌++◌, length, Option, Some, None, refl, sym, ap, subst, ◌∙◌, arith}
 use Rattle.std.specs.Prelude.{◌-◌, option_map}
 use Rattle.scale_core.specs.Compact.{compact}
 use Rattle.scale_core.specs.Number.{AreBytes}
-use Rattle.scale_core.specs.Read.{compact_at}
 use Rattle.scale_core.specs.declared.compact.Target.TheVariants as target
 use Rattle.registry_core.specs.declared.primitive.Primitive.TheVariants as P
 use Rattle.registry_core.specs.declared.type_info.TypeInfo.{TypeInfo}
 use Rattle.widths_core.specs.Classes.{is_finite}
 use Rattle.widths_core.specs.Layouts.{Layout, layout}
 use Rattle.widths_core.specs.Layouts as layout
-use Rattle.grammar_core.specs.Begun.{Begun, Grows, begun_text_bytes}
-use Rattle.grammar_core.specs.Reading.{truncated}
+use Rattle.grammar_core.specs.Begun.{Begun, Grows}
 use Rattle.grammar_core.specs.declared.form.Form.{Form}
 use Rattle.grammar_core.specs.declared.form.Form.TheVariants as form
 use Rattle.grammar_core.specs.declared.form.Next.TheVariants as next
@@ -25,8 +23,7 @@ use Rattle.decode_core.specs.Holds.{IsShort}
 use Rattle.decode_core.specs.Needs.{compact_need, need}
 use Rattle.decode_core.specs.Outcome.{Job}
 use Rattle.decode_core.specs.Running.{Running, IsCarry, IsTextNext, held_of}
-use Rattle.decode_core.specs.Told.{told, told_at, own_at}
-use Rattle.decode_core.specs.Turned.{WantsBytes}
+use Rattle.decode_core.specs.Told.{own_at}
 use Rattle.decode_core.proofs.HeldOne.{own_short}
 use Rattle.decode_core.proofs.NodeAdding.{next_has}
 use Rattle.decode_core.proofs.Refusing.{IsShortOf, compact_short}
@@ -125,7 +122,7 @@ holds_of j b s of are w =
     let begun = w.sound.begun in
     let at = s.built.walk.limit + 2 - length s.built.walk.frames in
     let texts : length (pieces_bytes s.built.text) ≡ open_text (layout j.registry n.ty) (held_of s) =
-        open_is s.built s.carry w.wants.form s.built.text w.wants.next w.sound.carried w.sound.text_next ∙ ap (λ (lay : Layout). open_text lay (held_of s)) (layout_is j s n.ty of n.is_next) in
+    open_is s.built s.carry w.wants.form s.built.text w.wants.next w.sound.carried w.sound.text_next ∙ ap (λ (lay : Layout). open_text lay (held_of s)) (layout_is j s n.ty of n.is_next) in
     record {
       tree = begun.tree;
       holds = (built_bytes s.built, at, n.ty, own_is j b s of are w, grows_to j s n.ty begun.tree of n.is_next begun.grows, short_to j b s of w n);

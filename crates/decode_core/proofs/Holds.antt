@@ -1,25 +1,18 @@
 -- What the machine holds is a begun tree, and small.
-use Rattle.std.proofs.Common.{◌≡◌, ℕ, suc, ◌+◌, ◌*◌, ◌≤◌, List, [], ◌++◌, length, Some, Err, ap, ◌∙◌, arith, length-append}
+use Rattle.std.proofs.Common.{◌≡◌, ℕ, suc, ◌+◌, ◌*◌, ◌≤◌, List, length, Some, Err, ap, ◌∙◌, arith, length-append}
 use Rattle.std.proofs.lemmas.List.{length-map}
 use Rattle.std.proofs.Math.Nat.{mul-le-mul_right}
 use Rattle.registry_core.specs.declared.type_info.TypeInfo.{TypeInfo}
 use Rattle.widths_core.specs.Widths.{widest}
 use Rattle.grammar_core.specs.Preorder.{Head, all_preorder}
-use Rattle.grammar_core.specs.Reading.{truncated}
 use Rattle.decode_core.proofs.Nodes.{length-preorder, length-all_preorder}
-use Rattle.grammar_core.proofs.Bounds.{values_are_bounded}
 use Rattle.decode_core.specs.Bound.{node_bound}
-use Rattle.decode_core.specs.Outcome.{Job, Outcome, done, refused, more, too_long, IsOutcome}
 use Rattle.value_core.specs.Built.{Entry}
 use Rattle.decode_core.specs.Told.{Fault, shown, told, told_at}
 use Rattle.grammar_core.specs.Begun.{Begun, nothing, whole, in_fields, in_arm, in_list, begun_nodes}
 use Rattle.grammar_core.specs.Begun.{IsBegunPreorder}
 use Rattle.decode_core.specs.Begins.{Begins}
-use Rattle.decode_core.specs.Machine.{Phase, going, over, feed, feeds, opening, joined}
-use Rattle.decode_core.specs.Holding.{OutcomeIsSmall, IsHeld, FeedsHold}
 use Rattle.decode_core.proofs.Held.{begun_is_bounded}
-use Rattle.decode_core.proofs.FaultBegins.{fault_is_begun}
-use Rattle.decode_core.proofs.Fed.{Answered, feed_answers, feeds_run, opening_runs}
 
 count_begun : (g : Begun) (ns : List Head) → IsBegunPreorder g ns → length ns ≡ begun_nodes g
 count_begun nothing ns h = ap length h
@@ -37,24 +30,3 @@ begins_small r depth t b xs e is h =
 
 pub more_bytes : (n m depth width : ℕ) → n ≤ m → node_bound n depth width ≤ node_bound m depth width
 more_bytes n m depth width h = mul-le-mul_right (width + 1) (mul-le-mul_right (depth + 1) (omega (arith, h)))
-
-outcome_small : (j : Job) (b : List ℕ) (o : Outcome) (n : ℕ) → IsOutcome j b o n → OutcomeIsSmall j o n
-outcome_small j b (done v) n h =
-    let few = values_are_bounded j.registry (suc j.depth) j.ty v h.0 h.3 h.4 in
-    let same : length h.0 * (suc j.depth * (widest j.registry + 1)) ≡ length h.0 * (j.depth + 1) * (widest j.registry + 1) = grind (arith) in
-    (omega (arith, few.0, same, ap (λ (k : ℕ). k * (j.depth + 1) * (widest j.registry + 1)) h.5), omega (arith, few.1, h.5))
-outcome_small j b (refused e at) n h = tt
-outcome_small j b more n h = tt
-outcome_small j b too_long n h = tt
-
-held : (j : Job) (b : List ℕ) (p : Phase) → Answered j b p → IsHeld j b p
-held j b (over o n) h = outcome_small j b o n h.1
-held j b (going s kept n) h =
-    let is = h.2.1 in
-    let g = fault_is_begun j.registry (suc j.depth) j.ty b s.nodes ((truncated, h.2.0), kept) is in
-    let few = begins_small j.registry j.depth j.ty b s.nodes ((truncated, h.2.0), kept) is g in
-    let less : length g.own ≤ n = omega (arith, h.0.3, ap length g.is, length-append g.own kept) in
-    (h.2.0, g, omega (arith, few, more_bytes (length g.own) n j.depth (widest j.registry) less), omega (arith, h.0.2.level))
-
-pub feeds_hold : FeedsHold
-feeds_hold j pieces piece = held j (joined pieces ++ piece) (feed j (feeds j (opening j) pieces) piece) (feed_answers j (joined pieces) piece (feeds j (opening j) pieces) (feeds_run j [] (opening j) pieces (opening_runs j)))

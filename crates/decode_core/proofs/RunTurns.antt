@@ -10,11 +10,10 @@ use Rattle.grammar_core.specs.declared.form.Form.{Form}
 use Rattle.grammar_core.specs.declared.form.Next.{Next}
 use Rattle.grammar_core.specs.declared.form.Next.TheVariants as next
 use Rattle.decode_core.specs.Needs.{need, AreOwn, HasBytes, IsFirst, IsNeeded}
-use Rattle.decode_core.specs.Machine.{remain}
 use Rattle.decode_core.specs.NodeAdds.{AddsNode, IsRefused, TakesNode}
-use Rattle.decode_core.specs.Running.{Running, IsRunning, IsCarry, IsText, state_of, held_of}
+use Rattle.decode_core.specs.Running.{Running, IsRunning, IsCarry, IsText, held_of}
 use Rattle.decode_core.specs.Turned.{Steps, BareTells, StepTells, Stops, node_turned}
-use Rattle.decode_core.specs.Told.{told, own_at}
+use Rattle.decode_core.specs.Told.{own_at}
 use Rattle.grammar_core.specs.Reading.{truncated}
 use Rattle.decode_core.specs.declared.fault.DecodeReason.{DecodeReason}
 use Rattle.decode_core.specs.declared.node.NodeFault.{NodeFault}
@@ -23,7 +22,7 @@ use Rattle.decode_core.specs.declared.run.OpenText.{OpenText}
 use Rattle.decode_core.specs.declared.turned.Stopped.TheVariants as stop
 use Rattle.decode_core.specs.declared.turned.Turned.{Turned}
 use Rattle.decode_core.specs.declared.turned.Turned.TheVariants as turned
-use Rattle.decode_core.proofs.Refusing.{IsShortOf, own_short, refuses, remain_next}
+use Rattle.decode_core.proofs.Refusing.{IsShortOf, own_short, refuses}
 use Rattle.decode_core.proofs.Settling.{added_running}
 use Rattle.decode_core.proofs.Stepping.{at_next}
 use Rattle.decode_core.proofs.Steps.{added_same, added_steps, held_closed, taken_running, taken_same, taken_steps}

@@ -1,7 +1,6 @@
 -- What holds of every value on its way, and that what it holds is little.
-use Rattle.std.proofs.Common.{◌≡◌, ℕ, zero, suc, ◌+◌, ◌*◌, ◌-◌, ◌≤◌, ◌⊎◌, Bool, true, false, cond, List, [], ◌∷◌, ◌++◌, length, map, Option, Some, None, Ok, Err, refl, sym, ap, subst, ◌∙◌, arith, inl, inr, length-append}
+use Rattle.std.proofs.Common.{◌≡◌, ℕ, suc, ◌+◌, ◌*◌, ◌≤◌, ◌⊎◌, Bool, true, false, cond, List, [], ◌∷◌, ◌++◌, length, Option, Some, None, Ok, Err, refl, sym, ap, subst, ◌∙◌, arith, inl, inr, length-append}
 use Rattle.std.specs.Prelude.{Result}
-use Rattle.std.proofs.lemmas.List.{length-map}
 use Rattle.scale_core.specs.Compact.{compact}
 use Rattle.scale_core.specs.Read.{form_len, is_too_long}
 use Rattle.scale_core.specs.declared.compact.Target.{Target}
@@ -10,24 +9,22 @@ use Rattle.registry_core.specs.declared.primitive.Primitive.{Primitive}
 use Rattle.registry_core.specs.declared.primitive.Primitive.TheVariants as P
 use Rattle.widths_core.specs.Widths.{widest}
 use Rattle.grammar_core.specs.Begun.{Begun, nothing, whole, in_fields, in_arm, in_list, IsBegunPreorder, begun_nodes, begun_text_bytes, is_whole_tree}
-use Rattle.grammar_core.specs.Preorder.{Head, preorder, tree_of, tree_of-preorder}
+use Rattle.grammar_core.specs.Preorder.{Head, tree_of, tree_of-preorder}
 use Rattle.grammar_core.specs.Reading.{truncated}
-use Rattle.grammar_core.specs.Tree.{Tree, nodes, text_bytes}
+use Rattle.grammar_core.specs.Tree.{nodes, text_bytes}
 use Rattle.grammar_core.specs.declared.form.Form.{Form}
 use Rattle.grammar_core.specs.declared.form.Form.TheVariants as form
 use Rattle.value_core.specs.Begun.{IsBegun}
 use Rattle.value_core.specs.Built.{Built, Entry, Pieces, entries_text_bytes, built_text_bytes, pieces_bytes}
-use Rattle.value_core.specs.Refusals.{is_whole}
 use Rattle.value_core.proofs.Begun.{counts}
 use Rattle.value_core.proofs.Finished.{heads_text}
-use Rattle.decode_core.specs.Begins.{Begins}
 use Rattle.decode_core.specs.Bound.{node_bound, value_bound}
 use Rattle.value_core.specs.Shown.{Seen}
-use Rattle.decode_core.specs.Decoding.{Decoding, Finishes, IsSmallValue, IsDone, IsSmall, IsWaiting, RunCounted, RunLed, built_tree, first_running, node_count, text_bytes as texts_held}
+use Rattle.decode_core.specs.Decoding.{Finishes, IsSmallValue, IsDone, IsSmall, IsWaiting, RunCounted, RunLed, built_tree, first_running}
 use Rattle.decode_core.specs.Needs.{compact_need, need}
-use Rattle.decode_core.specs.Outcome.{Job, done, IsOutcome}
+use Rattle.decode_core.specs.Outcome.{Job}
 use Rattle.decode_core.specs.Running.{Running, IsCarry, IsRunning, held_of}
-use Rattle.decode_core.specs.Told.{Fault, shown, told, told_at}
+use Rattle.decode_core.specs.Told.{Fault, shown}
 use Rattle.decode_core.specs.Turned.{IsSound}
 use Rattle.decode_core.specs.declared.fault.DecodeFault.{DecodeFault}
 use Rattle.decode_core.specs.declared.run.OpenText.{OpenText}

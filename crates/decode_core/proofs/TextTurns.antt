@@ -27,7 +27,6 @@ use Rattle.value_core.specs.declared.build_fault.BuildFault.{BuildFault}
 use Rattle.value_core.specs.declared.build_fault.BuildFault.TheVariants as build
 use Rattle.value_core.specs.Walked.{next_of}
 use Rattle.decode_core.specs.Running.{IsLength, IsRunning, IsText, IsTextNext, held_of, state_of}
-use Rattle.decode_core.specs.Machine.{remain}
 use Rattle.decode_core.specs.declared.run.OpenText.{OpenText}
 use Rattle.decode_core.specs.NodeAdds.{IsAdded}
 use Rattle.decode_core.specs.Turned.{EndTells, Leads, Stops, WantsBytes}
@@ -38,8 +37,8 @@ use Rattle.decode_core.proofs.NodeAdding.{next_has}
 use Rattle.decode_core.proofs.Settling.{added_running, added_text}
 use Rattle.decode_core.proofs.Stepping.{at_next, added_leads}
 use Rattle.decode_core.proofs.Steps.{added_count, added_same, held_closed}
-use Rattle.decode_core.specs.Told.{leaf_own, own_at, told}
-use Rattle.decode_core.proofs.Refusing.{front_short, refuses_by, remain_next, text_short}
+use Rattle.decode_core.specs.Told.{leaf_own, own_at}
+use Rattle.decode_core.proofs.Refusing.{front_short, refuses_by, text_short}
 use Rattle.decode_core.proofs.Whole.{bytes_whole}
 
 -- what stands behind a length that was read

@@ -1,5 +1,5 @@
 -- The nodes that a reading adds spell the bytes in front of where it ends.
-use Rattle.std.proofs.Common.{◌≡◌, ℕ, zero, suc, ◌≤◌, List, [], ◌∷◌, ◌++◌, length, Option, Some, None, Ok, Err, refl, sym, ap, flat_map, subst, ◌∙◌, append_assoc}
+use Rattle.std.proofs.Common.{◌≡◌, ℕ, zero, suc, ◌≤◌, List, [], ◌∷◌, ◌++◌, Option, Some, None, Ok, Err, refl, sym, ap, flat_map, subst, ◌∙◌, append_assoc}
 use Rattle.std.proofs.lemmas.Grind.{flat_map-append}
 use Rattle.std.proofs.lemmas.List.{append-nil}
 use Rattle.scale_core.specs.Compact.{IsCompact}
@@ -14,7 +14,7 @@ use Rattle.registry_core.specs.declared.type_info.TypeInfo.{TypeInfo}
 use Rattle.widths_core.specs.Arms.{arm_of}
 use Rattle.widths_core.specs.Layouts.{Layout, layout}
 use Rattle.widths_core.specs.Layouts as layout
-use Rattle.widths_core.specs.Types.{field_types, shape}
+use Rattle.widths_core.specs.Types.{shape}
 use Rattle.grammar_core.specs.Grammar.{Val}
 use Rattle.grammar_core.specs.Parts.{Part, each, times}
 use Rattle.grammar_core.specs.Preorder as head
@@ -26,7 +26,7 @@ use Rattle.grammar_core.specs.Tree as tree
 use Rattle.grammar_core.proofs.Spelled.{encoded_is_value, arm_byte, array_length, sequence_length}
 use Rattle.value_core.specs.Built.{Entry}
 use Rattle.decode_core.specs.Met.{met_layout}
-use Rattle.decode_core.specs.Told.{entry, Own, leaf_own, arm_own, arms_own, length_own, shallow, own_at, Told, told, after, then, all_told, times_told, part_told, opened_told, own_told, told_at}
+use Rattle.decode_core.specs.Told.{entry, Own, leaf_own, arm_own, arms_own, length_own, shallow, own_at, Told, told, after, then, all_told, times_told, opened_told, own_told, told_at}
 use Rattle.decode_core.proofs.Mets.{met_is, met_takes}
 use Rattle.decode_core.proofs.Tells.{IsLeafTree, IsLeafRead, value_leaf, bool_leaf, char_leaf}
 

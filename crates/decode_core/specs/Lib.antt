@@ -7,7 +7,6 @@ pub mod Met
 pub mod Told
 pub mod Machine
 pub mod Begins
-pub mod Holding
 pub mod Needs
 pub mod Reasons
 pub mod NodeAdds

@@ -181,7 +181,8 @@ impl<'r, A: Allocator> Decoder<'r, A> {
         self.taken
     }
 
-    /// How many nodes it holds; 0 after a refusal.
+    /// How many nodes it holds; 0 after a refusal. They are at most `(n + 1) * (depth + 1) * (widest + 1)`, where n is the
+    /// number of bytes taken, and those of a whole value at most `1 + n * (depth + 1) * (widest + 1)`.
     pub fn node_count(&self) -> u64
         ensures count { result ≡ node_count self.now }
         ensures bound { result ≤ node_bound self.now.taken self.now.job.depth (widest self.now.job.registry) }
@@ -192,7 +193,8 @@ impl<'r, A: Allocator> Decoder<'r, A> {
         }
     }
 
-    /// How many bytes of text it holds, those of a text that is not there whole too; 0 after a refusal.
+    /// How many bytes of text it holds, those of a text that is not there whole too; 0 after a refusal. They are at most
+    /// as many as were taken.
     pub fn text_bytes(&self) -> u64
         ensures count { result ≡ text_bytes self.now }
         ensures bound { result ≤ self.now.taken }

@@ -3,8 +3,6 @@
 ghost use Rattle.decode_core.specs.Begins.{FaultIsBegun};
 ghost use Rattle.decode_core.specs.Holds.{BegunIsBounded, BegunIsMissing, MissingIsBegun};
 ghost use Rattle.decode_core.specs.Held.{HeldIsBounded, MoreHolds, OneBegun};
-ghost use Rattle.decode_core.specs.Holding.{FeedsCompute, FeedsHold, FeedsHoldComputed};
-ghost use Rattle.decode_core.specs.Machine.{FeedsAnswer};
 ghost use Rattle.decode_core.specs.Outcome.{EncodedIsDone, OneOutcome, OutcomeIsComputed, OutcomeIsKept, TakenByFault, TakenIsShortest};
 
 /// What is encoded within the limits is decoded, and all of it is taken.
@@ -67,27 +65,7 @@ pub fn more_holds()
     ensures { MoreHolds }
 {}
 
-/// However the input is cut, the answer to each piece is the outcome of all bytes so far.
-pub fn feeds_answer()
-    ensures { FeedsAnswer }
-{}
-
 /// What is added before a fault is a begun tree.
 pub fn fault_is_begun()
     ensures { FaultIsBegun }
-{}
-
-/// After each piece the machine holds a begun tree, and few nodes and frames.
-pub fn feeds_hold()
-    ensures { FeedsHold }
-{}
-
-/// Where the machine waits, it holds the begun tree that is computed.
-pub fn feeds_hold_computed()
-    ensures { FeedsHoldComputed }
-{}
-
-/// The answer to each piece is the outcome that is computed of all bytes so far.
-pub fn feeds_compute()
-    ensures { FeedsCompute }
 {}

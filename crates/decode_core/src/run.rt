@@ -281,7 +281,11 @@ impl<'r, A: Allocator> Run<'r, A> {
 
     /// Takes turns until one stops, and counts each: how many bytes of the piece they took, and why they stopped; where
     /// memory was refused, the bytes alone.
-    pub(crate) fn feed(&mut self, piece: &[u8], turns: &mut Count) -> Result<(usize, Stopped), usize>
+    pub(crate) fn feed(
+        &mut self,
+        piece: &[u8],
+        turns: &mut Count,
+    ) -> Result<(usize, Stopped), usize>
         ensures tells { IfOk result (λ x. FeedTells self.old self.new piece.now x.0 x.1) }
         ensures counts { FeedCounts self.old self.new piece.now turns.old.so_far turns.new.so_far result }
     {

@@ -1,33 +1,27 @@
 -- A count begins at 0: the one value that it has at run time is made, and none is lost.
-use mathlib.Core.Path.{refl, sym, subst}
-use mathlib.Core.List.{List, [], ◌∷◌}
-use Prim.Native.Nat.{ℕ, ◌<◌, ◌^◌}
+use mathlib.Core.Path.{refl}
+use mathlib.Core.List.{[], ◌∷◌}
 use seplogic.Ra.Ura.{Ura}
-use mir.Syntax.{Fn, w64}
-use mir.Val.{Val, vint}
-use base.Logic.{SProp, ent, via, fst∗, snd∗}
-use base.Fml.{Fml, ftrue, fsep}
+use mir.Syntax.{Fn}
+use base.Logic.{SProp, ent}
+use base.Fml.{Fml, ftrue}
 use prog.Wp.{WpFn}
 use prog.Model.{Model}
-use types.Logic.{Logic, sem}
-use contract.Monad.{fact_use}
+use types.Logic.{Logic}
 use contract.Running.{Running, MachineTables, tables, tables_of}
 use sound.WpLaws.{WpFn-mono}
-use types.Kit.{‵, raw, ◌⊛◌, some, later, ◌$◌, ◌∵◌, !, qed, keep, move, join, fjoin, pick, suffices, frame, use0, await}
+use types.Kit.{‵, raw, ◌⊛◌, ◌$◌, ◌∵◌, !, qed, keep, move, join, fjoin, suffices, frame, use0}
 use types.Run.{no_more, and_then, returns, enter}
 use types.ByLocal.{alloc_all, pass_all, free_all, look_at, get, sets}
 use types.Part.{agg}
-use denote.Exit.{yes}
-use denote.RattleType.{RattleType, owns}
-use denote.Laws.{Are, Ises, owns_show, showss}
-use denote.Signature.{types_at, plain}
-use denote.Builtin.{u64, unit}
+use denote.RattleType.{owns}
+use denote.Signature.{types_at}
+use denote.Builtin.{unit}
 use denote.Steps.{nothing}
 use denote.Triple.Clauses.{Clauses, closing}
-use denote.Triple.Entry.{on_entry, alive}
 use denote.Triple.Spec.{Meets, triple_of}
 use denote.Triple.Table.{entered}
-use denote.Triple.Walked.{Stays, stay_dropped, walk_of, ends_at, Goes-dropped, walk_Meets}
+use denote.Triple.Walked.{Stays, walk_of, ends_at, walk_Meets}
 use contract.CodeStep
 use Rattle.decode_core.specs.contracts.count.Count as count
 use Rattle.decode_core.proofs.Tokens.{token, Mark, made, tells_last}

@@ -2,9 +2,8 @@
 use mathlib.Core.Path.{refl, sym, subst}
 use mathlib.Core.List.{List, [], ◌∷◌}
 use seplogic.Ra.Ura.{Ura}
-use mir.Syntax.{Fn, Dict, dcons, dnil, a_type}
+use mir.Syntax.{Fn}
 use mir.Val.{Val, vptr, vunit}
-use mir.MapTy.{inst_fn}
 use base.Logic.{SProp, ent, via, fst∗, snd∗}
 use base.Fml.{Fml, ftrue, flft}
 use prog.Wp.{WpFn}
@@ -13,16 +12,14 @@ use types.Logic.{Logic, sem}
 use contract.Monad.{fact_use}
 use contract.Running.{Running, MachineTables, tables, tables_of}
 use sound.WpLaws.{WpFn-mono}
-use types.Kit.{‵, raw, ◌⊛◌, later, ◌$◌, ◌∵◌, !, qed, move, keep, split, join, fsplit, fsplit3, fjoin, fjoin3, suffices, frame, use0, use1, await, feq_i}
-use types.Run.{no_more, and_then, returns, enter, unit_lit, of_opd}
-use types.ByLocal.{alloc_all, pass_all, free_all, look_at, get, sets}
-use types.Part.{agg}
-use Prim.Native.Nat.{ℕ, ◌+◌}
+use types.Kit.{‵, raw, ◌⊛◌, ◌$◌, ◌∵◌, !, qed, move, keep, split, join, fsplit, fsplit3, fjoin, fjoin3, suffices, frame, feq_i}
+use types.Run.{returns, enter, unit_lit, of_opd}
+use types.ByLocal.{alloc_all, pass_all, free_all, look_at, sets}
+use Prim.Native.Nat.{◌+◌}
 use denote.RattleType.{RattleType, owns}
 use denote.Laws.{Are, Ises, owns_show, showss}
 use denote.Signature.{types_at, plain}
 use denote.Steps.{nothing, opens, closes}
-use denote.Param.{param, bounded}
 use denote.Triple.Clauses.{Clauses, closing}
 use denote.Triple.Entry.{on_entry, alive}
 use denote.Triple.Spec.{Meets, triple_of}

@@ -1,4 +1,4 @@
-use Rattle.std.proofs.Common.{ℕ, List, Ok, ◌≤◌}
+use Rattle.std.proofs.Common.{◌≤◌}
 use Rattle.std.specs.Prelude.{Result}
 use Rattle.widths_core.specs.Widths.{widest}
 use Rattle.decode_core.specs.Bound.{node_bound}
