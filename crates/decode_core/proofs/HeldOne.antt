@@ -1,25 +1,17 @@
--- Where the machine waits, it holds the begun tree that is computed, and its answer is the outcome that is computed.
-use Rattle.std.proofs.Common.{◌≡◌, ℕ, zero, suc, ◌+◌, Bool, true, false, cond, List, [], ◌∷◌, Option, Some, None, Ok, Err, refl, ap, arith}
+-- Where a node's own bytes are cut, they are not all there.
+use Rattle.std.proofs.Common.{◌≡◌, ℕ, List, [], ◌∷◌, Option, Some, None, Ok, Err, refl, ap}
 use Rattle.scale_core.specs.Read.{Read, compact_at}
 use Rattle.scale_core.specs.declared.compact.Target.TheVariants as target
 use Rattle.scale_core.specs.declared.fault.Reason.{Reason}
 use Rattle.scale_core.specs.declared.fault.Reason.TheVariants.{Truncated}
 use Rattle.registry_core.specs.declared.definition.Arm.{Arm}
-use Rattle.registry_core.specs.declared.type_info.TypeInfo.{TypeInfo}
 use Rattle.widths_core.specs.Arms.{arm_of}
-use Rattle.widths_core.specs.Classes.{is_finite}
 use Rattle.widths_core.specs.Layouts.{Layout, layout}
 use Rattle.widths_core.specs.Layouts as layout
 use Rattle.grammar_core.specs.Tree.{Tree}
-use Rattle.grammar_core.specs.Reading.{layout_at, Refusal, basic, no_such_variant, no_finite_value, too_deep, truncated}
-use Rattle.grammar_core.specs.Begun.{Begun, nothing, whole, in_fields, in_arm, in_list, Grows}
-use Rattle.decode_core.specs.Holds.{OwnIsShort, IsShort, Holds, held}
-use Rattle.grammar_core.specs.Begun.{begun_depth}
-use Rattle.decode_core.specs.Begins.{Begins}
-use Rattle.decode_core.specs.Met.{met_layout}
-use Rattle.value_core.specs.Built.{Entry}
-use Rattle.decode_core.specs.Told.{entry, Own, leaf_own, arm_own, arms_own, length_own, shallow, own_at, Ending, Fault, Told, told, after, own_told, opened_told, told_at}
-use Rattle.decode_core.proofs.Begins.{begun_is_missing}
+use Rattle.grammar_core.specs.Reading.{layout_at, Refusal, basic, no_such_variant, truncated}
+use Rattle.decode_core.specs.Holds.{OwnIsShort}
+use Rattle.decode_core.specs.Told.{Own, leaf_own, arm_own, arms_own, length_own, shallow, own_at}
 
 abbrev own_failed : Refusal × List ℕ → Own
 own_failed e = Err e
@@ -70,52 +62,3 @@ own_short (layout.signed k) b left h = (left, leaf_fails (layout_at shallow (lay
 own_short layout.wide b left h = (left, leaf_fails (layout_at shallow layout.wide b) (truncated, left) h)
 own_short layout.counted b left h = (left, leaf_fails (layout_at shallow layout.counted b) (truncated, left) h)
 own_short (layout.compact m) b left h = (left, leaf_fails (layout_at shallow (layout.compact m) b) (truncated, left) h)
-
-unknown_is : (b left : List ℕ) → own_at layout.unknown b ≡ own_failed (truncated, left) → ⊥
-unfolding own_at layout_at
-unknown_is b left h = let no = reason_is (no_finite_value, b) (truncated, left) h in absurd cc
-
-met_short : (fin : Bool) (f : Layout) (b left : List ℕ) → own_at (cond fin f layout.unknown) b ≡ own_failed (truncated, left) → (fin ≡ true) × OwnIsShort f b
-met_short true f b left h = (refl, own_short f b left h)
-met_short false f b left h = absurd (unknown_is b left h)
-
-after_some : (x : Entry) (y : Told) (end : Ending) → after (x ∷ []) y ≡ told [] end → ⊥
-after_some x (told ys e) end h = absurd cc
-
-abbrev failing : Fault → Told
-failing e = told [] (Err e)
-
-failing_is : (x y : Fault) → failing x ≡ failing y → x ≡ y
-failing_is x y h = cc
-
-own_told_fails : (child : ℕ → List ℕ → Told) (t : ℕ) (b : List ℕ) (read : Own) (e : Refusal × List ℕ) → own_told child t b read ≡ failing (e, b) → read ≡ own_failed e
-own_told_fails child t b (Ok x) e h = absurd (after_some (entry t x.0.0) (opened_told child x.0.1 x.1) (Err (e, b)) h)
-own_told_fails child t b (Err x) e h = ap own_failed (ap (λ (f : Fault). f.0) (failing_is (x, b) (e, b) h))
-
-told_short : (r : List TypeInfo) (room t : ℕ) (b left : List ℕ) → told_at r room t b ≡ failing ((truncated, left), b) → IsShort r room t b
-unfolding told_at met_layout
-told_short r zero t b left h = let no = ap (λ (f : Fault). f.0.0) (failing_is ((too_deep, b), b) ((truncated, left), b) h) in absurd cc
-told_short r (suc room) t b left h =
-    let m = met_short (is_finite r t) (layout r t) b left (own_told_fails (told_at r room) t b (own_at (met_layout r t) b) (truncated, left) h) in
-    (omega arith, m.0, m.1)
-
--- what was added before bytes are missing is held
-pub begins_hold : (r : List TypeInfo) (room t : ℕ) (b : List ℕ) (xs : List Entry) (left kept : List ℕ) → (h : Begins r room t b xs ((truncated, left), kept)) → Holds r room t b h.tree kept
-begins_hold r room t b xs left kept h = (h.own, h.below, h.next, h.is, h.grows, told_short r h.below h.next kept left h.meets)
-
-pub begins_computed : (r : List TypeInfo) (room t : ℕ) (b : List ℕ) (xs : List Entry) (left kept : List ℕ) → (h : Begins r room t b xs ((truncated, left), kept)) → held r room t b ≡ (h.tree, kept)
-begins_computed r room t b xs left kept h = (begun_is_missing r room t b h.tree kept (begins_hold r room t b xs left kept h)).1
-
--- the room at the next type is what the depth leaves
-pub grows_depth : (r : List TypeInfo) (room t : ℕ) (g : Begun) (b : List ℕ) (at u : ℕ) → Grows r room t g b (Some (at, u)) → at + begun_depth g ≡ room
-unfolding Grows
-grows_depth r room t nothing b at u h = let same = pair_is (at, u) (room, t) h.1 in omega (arith, ap (λ (p : ℕ × ℕ). p.0) same) where
-  pair_is : (p q : ℕ × ℕ) → Some p ≡ Some q → p ≡ q
-  pair_is p q e = cc
-grows_depth r room t (whole v) b at u h = let no = h.2 in absurd cc
-grows_depth r zero t (in_fields vs g) b at u h = absurd h
-grows_depth r (suc room) t (in_fields vs g) b at u h = omega (arith, grows_depth r room h.1 g h.4 at u h.11)
-grows_depth r zero t (in_arm q vs g) b at u h = absurd h
-grows_depth r (suc room) t (in_arm q vs g) b at u h = omega (arith, grows_depth r room h.4 g h.7 at u h.16)
-grows_depth r zero t (in_list n vs g) b at u h = absurd h
-grows_depth r (suc room) t (in_list n vs g) b at u h = omega (arith, grows_depth r room h.0 g h.3 at u h.11)

@@ -42,10 +42,6 @@ pub met_is : (r : List TypeInfo) (t : ℕ) (g : Layout) → g ≢ layout.unknown
 unfolding met_layout
 met_is r t g ne e = met_of (is_finite r t) (layout r t) g ne e
 
-pub met_back : (r : List TypeInfo) (t : ℕ) (g : Layout) → is_finite r t ≡ true → layout r t ≡ g → met_layout r t ≡ g
-unfolding met_layout
-met_back r t g fin e = rw (fin, e) refl
-
 -- an array, or a sequence with its length
 pub list_met : (r : List TypeInfo) (t n u : ℕ) (c : List ℕ) → ((met_layout r t ≡ layout.array n u) × (c ≡ [])) ⊎ ((met_layout r t ≡ layout.sequence u) × IsCompact target.U32 n c) → (is_finite r t ≡ true) × (((layout r t ≡ layout.array n u) × (c ≡ [])) ⊎ ((layout r t ≡ layout.sequence u) × IsCompact target.U32 n c))
 list_met r t n u c (inl k) = let m = met_is r t (layout.array n u) (λ no. absurd cc) k.0 in (m.0, inl (m.1, k.1))

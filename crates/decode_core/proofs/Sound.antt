@@ -1,19 +1,12 @@
 -- What holds of every value on its way, and that what it holds is little.
-use Rattle.std.proofs.Common.{◌≡◌, ℕ, suc, ◌+◌, ◌*◌, ◌≤◌, ◌⊎◌, Bool, true, false, cond, List, [], ◌∷◌, ◌++◌, length, Option, Some, None, Ok, Err, refl, sym, ap, subst, ◌∙◌, arith, inl, inr, length-append}
+use Rattle.std.proofs.Common.{◌≡◌, ℕ, suc, ◌+◌, ◌*◌, ◌≤◌, ◌⊎◌, true, List, [], ◌∷◌, ◌++◌, length, Option, Some, None, Ok, Err, refl, sym, ap, subst, ◌∙◌, arith, inl, inr, length-append}
 use Rattle.std.specs.Prelude.{Result}
 use Rattle.scale_core.specs.Compact.{compact}
-use Rattle.scale_core.specs.Read.{form_len, is_too_long}
-use Rattle.scale_core.specs.declared.compact.Target.{Target}
-use Rattle.scale_core.specs.declared.compact.Target.TheVariants as target
-use Rattle.registry_core.specs.declared.primitive.Primitive.{Primitive}
-use Rattle.registry_core.specs.declared.primitive.Primitive.TheVariants as P
 use Rattle.widths_core.specs.Widths.{widest}
 use Rattle.grammar_core.specs.Begun.{Begun, nothing, whole, in_fields, in_arm, in_list, IsBegunPreorder, begun_nodes, begun_text_bytes, is_whole_tree}
 use Rattle.grammar_core.specs.Preorder.{Head, tree_of, tree_of-preorder}
 use Rattle.grammar_core.specs.Reading.{truncated}
 use Rattle.grammar_core.specs.Tree.{nodes, text_bytes}
-use Rattle.grammar_core.specs.declared.form.Form.{Form}
-use Rattle.grammar_core.specs.declared.form.Form.TheVariants as form
 use Rattle.value_core.specs.Begun.{IsBegun}
 use Rattle.value_core.specs.Built.{Built, Entry, Pieces, entries_text_bytes, built_text_bytes, pieces_bytes}
 use Rattle.value_core.proofs.Begun.{counts}
@@ -21,9 +14,8 @@ use Rattle.value_core.proofs.Finished.{heads_text}
 use Rattle.decode_core.specs.Bound.{node_bound, value_bound}
 use Rattle.value_core.specs.Shown.{Seen}
 use Rattle.decode_core.specs.Decoding.{Finishes, IsSmallValue, IsDone, IsSmall, IsWaiting, RunCounted, RunLed, built_tree, first_running}
-use Rattle.decode_core.specs.Needs.{compact_need, need}
 use Rattle.decode_core.specs.Outcome.{Job}
-use Rattle.decode_core.specs.Running.{Running, IsCarry, IsRunning, held_of}
+use Rattle.decode_core.specs.Running.{Running, IsRunning, held_of}
 use Rattle.decode_core.specs.Told.{Fault, shown}
 use Rattle.decode_core.specs.Turned.{IsSound}
 use Rattle.decode_core.specs.declared.fault.DecodeFault.{DecodeFault}
@@ -32,46 +24,7 @@ use Rattle.decode_core.proofs.FaultBegins.{fault_is_begun}
 use Rattle.decode_core.proofs.HeldBound.{held_is_bounded}
 use Rattle.decode_core.proofs.Holds.{begins_small, more_bytes}
 use Rattle.decode_core.proofs.Held.{begun_is_bounded}
-use Rattle.decode_core.proofs.Short.{form_len_small}
-
--- ---- few bytes are carried
-
-compact_need_small : (m : Target) (first : ℕ) → compact_need m first ≤ 32
-compact_need_small m first = by (is_too_long m first) refl where
-  by : (long : Bool) → is_too_long m first ≡ long → cond long 1 (form_len first) ≤ 32
-  by true e = omega arith
-  by false e = omega (arith, form_len_small m first e)
-
-primitive_need_small : (p : Primitive) (first : ℕ) → need (form.Primitive p) first ≤ 32
-primitive_need_small P.Str first = compact_need_small target.U32 first
-primitive_need_small P.Bool first = omega arith
-primitive_need_small P.Char first = omega arith
-primitive_need_small P.U8 first = omega arith
-primitive_need_small P.U16 first = omega arith
-primitive_need_small P.U32 first = omega arith
-primitive_need_small P.U64 first = omega arith
-primitive_need_small P.U128 first = omega arith
-primitive_need_small P.U256 first = omega arith
-primitive_need_small P.I8 first = omega arith
-primitive_need_small P.I16 first = omega arith
-primitive_need_small P.I32 first = omega arith
-primitive_need_small P.I64 first = omega arith
-primitive_need_small P.I128 first = omega arith
-primitive_need_small P.I256 first = omega arith
-
-need_small : (f : Form) (first : ℕ) → need f first ≤ 32
-need_small (form.Primitive p) first = primitive_need_small p first
-need_small (form.Compact m) first = compact_need_small m first
-need_small form.Sequence first = compact_need_small target.U32 first
-need_small form.Count first = compact_need_small target.U32 first
-need_small form.Empty first = omega arith
-need_small form.Fields first = omega arith
-need_small form.Arm first = omega arith
-need_small (form.Array n) first = omega arith
-
-carry_small : (b : Built) (carry : List ℕ) → IsCarry b carry → length carry ≤ 32
-carry_small b [] h = omega arith
-carry_small b (first ∷ rest) h = omega (arith, h.4, need_small h.0 first)
+use Rattle.decode_core.proofs.Short.{carry_small}
 
 pub sound_of : (b : Built) (carry : List ℕ) (text : Option OpenText) (s : Running) → record { built = b; carry = carry } ≡ s → IsBegun b → IsRunning b carry text → IsSound s
 sound_of b carry text s is begun run = subst IsSound is (record { begun = begun; frames = run.deep; carried = run.carried; text_next = run.text_next })
