@@ -126,9 +126,10 @@ fn is_refused<A: Allocator + Clone>(
             return Ok(true);
         }
         let last = place.saturating_add(1) == NESTED_BYTES.len();
-        let wanted = match last {
-            true => Progress::Done { used: 1 },
-            false => Progress::More,
+        let wanted = if last {
+            Progress::Done { used: 1 }
+        } else {
+            Progress::More
         };
         assert_eq!(rt; told, Ok(wanted), "byte {place}");
     }
