@@ -1,6 +1,6 @@
 use Rattle.std.proofs.Common.{rules, arith, ◌-◌, vec_len}
 use Rattle.scale_tool.proofs.Moves.{takes_next, takes_all}
-use Rattle.scale_tool.proofs.moving.gather_all.Goals as goal
+use Rattle.scale_tool.proofs.gathering.gather_all.Goals as goal
 
 pub returns-then-branch-eq0-clause-ok : goal.returns-then-branch-eq0-clause-ok
 returns-then-branch-eq0-clause-ok g c =

@@ -1,6 +1,6 @@
 use Rattle.std.proofs.Common.{◌≡◌, ◌-◌, ◌≤◌, ◌^◌, vec_len}
 use Rattle.scale_tool.specs.Moved.{Takes}
-use Rattle.scale_tool.proofs.moving.gather_all.Given as goal
+use Rattle.scale_tool.proofs.gathering.gather_all.Given as goal
 
 abbrev pub invariant-pieces : goal.invariant-pieces
 invariant-pieces g l = record {
