@@ -1,0 +1,72 @@
+//! A value from pieces that are all there.
+
+ghost use Rattle.std.specs.Prelude.{◌≡◌, map};
+ghost use Rattle.std.specs.List.{concat};
+ghost use Rattle.decode_core.specs.Decoding.{opening_fault};
+ghost use Rattle.decode_core.specs.Streaming.{Joins, job_of};
+ghost use Rattle.decode_core.specs.declared.pieces.PiecesFault.TheVariants.{Decode};
+
+use crate::decoder::{Decoder, Progress};
+use crate::fault::{DecodeFault, OpenFault};
+use registry_core::TypeId;
+use std::alloc::Allocator;
+use thiserror::Error;
+use value_core::{Limits, Value};
+use widths_core::Checked;
+
+/// Why the joined pieces begin with no value. Its text is that of the fault.
+#[derive(Clone, Copy, Debug, PartialEq, Eq, Error)]
+pub enum PiecesFault {
+    /// No decoder is made.
+    #[error("{0}")]
+    Open(OpenFault),
+    /// The bytes are refused, or end before the value does.
+    #[error("{0}")]
+    Decode(DecodeFault),
+}
+
+impl From<DecodeFault> for PiecesFault {
+    ghost from_gives = { λ f r. r ≡ Decode f };
+
+    fn from(fault: DecodeFault) -> PiecesFault {
+        PiecesFault::Decode(fault)
+    }
+}
+
+/// The value of the root's type, within these limits, on the front of the joined pieces, and how many of their bytes are
+/// the value's. Bytes behind it are not looked at and are no fault.
+///
+/// This is a decoder's run as a whole, and however the input is cut, its answer is that to the joined bytes: the one
+/// value whose encoding is exactly the bytes taken, or the one fault. The value has at most
+/// `1 + n * (depth + 1) * (widest + 1)` nodes and n bytes of text, where n is the number of bytes taken.
+///
+/// Refuses with `Open` what `Decoder::new` refuses, and with `Decode` what a decoder refuses in these bytes, or where
+/// they end within the value, as `Truncated` at their number. After a refusal nothing is kept.
+pub fn decode_pieces<'r, A: Allocator + Clone>(
+    alloc: A,
+    checked: &'r Checked,
+    root: TypeId,
+    limits: Limits,
+    pieces: &[&[u8]],
+) -> Result<(Value<'r, A>, u64), PiecesFault>
+    ensures { Joins (opening_fault checked.now root.0 limits) (job_of checked.now root.0 limits) (concat (map (λ p. p.now) pieces.now)) result }
+{
+    match Decoder::new(alloc, checked, root, limits) {
+        Ok(decoder) => feed_pieces(decoder, pieces),
+        Err(fault) => Err(PiecesFault::Open(fault)),
+    }
+}
+
+/// Feeds a decoder that has taken nothing, piece by piece, until its value is whole.
+fn feed_pieces<'r, A: Allocator>(
+    mut decoder: Decoder<'r, A>,
+    pieces: &[&[u8]],
+) -> Result<(Value<'r, A>, u64), PiecesFault> {
+    'pieces: for piece in pieces {
+        if let Progress::Done { .. } = decoder.feed(piece)? {
+            break 'pieces;
+        }
+    }
+    let taken = decoder.taken();
+    Ok((decoder.finish()?, taken))
+}

@@ -1,0 +1,110 @@
+//! A value from all bytes of a reader.
+
+ghost use Rattle.std.specs.Prelude.{◌≡◌, ◌<◌, ◌⊎◌, [], true, IfOk, IfSome, IsErrOf, None};
+ghost use Rattle.decode_core.specs.Decoding.{opening_fault};
+ghost use Rattle.decode_core.specs.Streaming.{IsOfJob, IsUnderWay, Streams, job_of};
+ghost use Rattle.decode_core.specs.declared.fault.DecodeFault.{DecodeFault};
+ghost use Rattle.decode_core.specs.declared.fault.OpenFault.{OpenFault};
+ghost use Rattle.decode_core.specs.declared.stream.StreamFault.TheVariants.{Decode, Open};
+
+use crate::decoder::{Decoder, Progress};
+use crate::fault::{DecodeFault, OpenFault};
+use registry_core::TypeId;
+use scale_core::Source;
+use std::alloc::Allocator;
+use std::io::Read;
+use thiserror::Error;
+use value_core::{Limits, Value};
+use widths_core::Checked;
+
+/// How many bytes one read asks for at most.
+const PIECE: usize = 4096;
+
+/// Why the bytes of a reader are no value. Its text is that of the fault, or its name with the place.
+#[derive(Clone, Copy, Debug, PartialEq, Eq, Error)]
+pub enum StreamFault {
+    /// No decoder is made, and nothing was read.
+    #[error("{0}")]
+    Open(OpenFault),
+    /// The bytes are refused, or end before the value does.
+    #[error("{0}")]
+    Decode(DecodeFault),
+    /// A byte follows the value.
+    #[error("TrailingBytes at {at}")]
+    TrailingBytes {
+        /// How many bytes the value has.
+        at: u64,
+    },
+    /// A read failed before the rest was decided.
+    #[error("Device")]
+    Device,
+}
+
+impl From<DecodeFault> for StreamFault {
+    ghost from_gives = { λ f r. r ≡ Decode f };
+
+    fn from(fault: DecodeFault) -> StreamFault {
+        StreamFault::Decode(fault)
+    }
+}
+
+/// Does a byte follow? It is read then.
+fn has_more<R: Read>(source: &mut Source<R>) -> Result<bool, StreamFault> {
+    let mut part = [0u8; 1];
+    match source.pull(&mut part) {
+        Ok(count) => Ok(count > 0),
+        Err(_) => Err(StreamFault::Device),
+    }
+}
+
+/// Reads the value of a decoder that has taken nothing.
+fn read_value<'r, A: Allocator, R: Read>(
+    mut decoder: Decoder<'r, A>,
+    source: &mut Source<R>,
+) -> Result<Value<'r, A>, StreamFault> {
+    let mut part = [0u8; PIECE];
+    'pieces: loop {
+        let count = match source.pull(&mut part) {
+            Ok(count) => count,
+            Err(_) => return Err(StreamFault::Device),
+        };
+        if count == 0 {
+            return Ok(decoder.finish()?);
+        }
+        if let Progress::Done { used } = decoder.feed(&part[..count])? {
+            if used < count as u64 || has_more(source)? {
+                return Err(StreamFault::TrailingBytes {
+                    at: decoder.taken(),
+                });
+            }
+            return Ok(decoder.finish()?);
+        }
+    }
+}
+
+/// The value of the root's type, within these limits, whose bytes are all bytes of the reader. Nodes, texts and open
+/// parts come from the allocator and its clones; no input is kept, and one read asks for at most 4096 bytes.
+///
+/// Refuses with `Open`, before it reads, what `Decoder::new` refuses; and with `Decode` what a decoder refuses in these
+/// bytes, which are then not read to their end, or where they end within the value, as `Truncated` at their number.
+/// Where a byte follows the value it is `TrailingBytes` at the value's length, and `Device` where a read failed before
+/// any of this was decided: `failed()` is true then, and else as it was. After each refusal nothing is kept. The reader
+/// has lost what was read, at most 4096 bytes behind the one that decides.
+pub fn decode_all<'r, A: Allocator + Clone, R: Read>(
+    alloc: A,
+    checked: &'r Checked,
+    root: TypeId,
+    limits: Limits,
+    source: &mut Source<R>,
+) -> Result<Value<'r, A>, StreamFault>
+    ensures answers { IfSome (R.remaining source.old.device) (λ bytes. Streams (opening_fault checked.now root.0 limits) (job_of checked.now root.0 limits) bytes result) }
+    ensures same { IfOk result (IsOfJob (job_of checked.now root.0 limits)) }
+    ensures unread { (e : OpenFault) → result ≡ Err (Open e) → source.new ≡ source.old }
+    ensures told { IsErrOf result StreamFault.Device → source.new.failed ≡ true }
+    ensures quiet { IsErrOf result StreamFault.Device ⊎ (source.new.failed ≡ source.old.failed) }
+{
+    match Decoder::new(alloc, checked, root, limits) {
+        Ok(decoder) => read_value(decoder, source),
+        Err(fault) => Err(StreamFault::Open(fault)),
+    }
+}
