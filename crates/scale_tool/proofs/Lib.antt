@@ -4,3 +4,4 @@ pub mod Registries
 pub mod Locals
 pub mod Entered
 pub mod Unnamed
+pub mod HexPlaces

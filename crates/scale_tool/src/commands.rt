@@ -50,9 +50,9 @@ fn value_file_arg<'a>(alloc: Global) -> Arg<'a>
     ensures rule { rule_of result ≡ value_file }
     ensures local { result.global ≡ false }
 {
-    Arg::new(alloc, "VALUEFILE")
-        .required(true)
-        .help("The file of the value, as raw bytes or, with --hex, as text")
+    Arg::new(alloc, "VALUEFILE").required(true).help(
+        "The file of the value, as raw bytes or, with --hex, as text",
+    )
 }
 
 fn metadata_arg<'a>(alloc: Global) -> Arg<'a>
@@ -79,10 +79,9 @@ fn depth_arg<'a>(alloc: Global) -> Arg<'a>
     ensures rule { rule_of result ≡ depth }
     ensures local { result.global ≡ false }
 {
-    Arg::new(alloc, "depth")
-        .long("depth")
-        .value_name("D")
-        .help("The greatest depth of a part of the value, from 0 to 1024; 64 where absent")
+    Arg::new(alloc, "depth").long("depth").value_name("D").help(
+        "The greatest depth of a part of the value, from 0 to 1024; 64 where absent",
+    )
 }
 
 fn types_command<'a>(alloc: Global) -> Result<Command<'a>, AllocError>
