@@ -5,3 +5,5 @@ pub mod Locals
 pub mod Entered
 pub mod Unnamed
 pub mod HexPlaces
+pub mod Decoded
+pub mod ValueText

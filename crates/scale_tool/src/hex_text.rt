@@ -57,7 +57,9 @@ pub(crate) fn hex_bytes(alloc: Global, text: &[u8]) -> Result<Vec<u8>, Refusal>
         Err(FromHexError::InvalidHexCharacter { index, .. }) => {
             Err(Refusal::Hex(HexFault::Bad((start + index) as u64)))
         }
+        Err(FromHexError::OddLength | FromHexError::InvalidStringLength) => {
+            Err(Refusal::Hex(HexFault::Odd((start + end) as u64)))
+        }
         Err(FromHexError::OutOfMemory) => Err(Refusal::Memory),
-        Err(_) => Err(Refusal::Hex(HexFault::Odd((start + end) as u64))),
     }
 }

@@ -47,8 +47,8 @@ fn number_of(text: &str) -> Option<u32>
 /// The depth limit that the option's text spells in ASCII digits alone, and 64 where there is no text; None where that
 /// is no number up to 1024.
 fn depth_of(text: Option<&str>) -> Option<u16>
-    ensures depth { IfSome result (λ n. SpellsDepth (option_map (λ s. s.now) text) n × (n ≤ 1024)) }
-    ensures none { IfNone result ((n : ℕ) → n ≤ 1024 → SpellsDepth (option_map (λ s. s.now) text) n → ⊥) }
+    ensures depth { IfSome result (λ n. SpellsDepth (option_map (λ s. s.now) text.entry) n × (n ≤ 1024)) }
+    ensures none { IfNone result ((n : ℕ) → n ≤ 1024 → SpellsDepth (option_map (λ s. s.now) text.entry) n → ⊥) }
 {
     let Some(text) = text else {
         return Some(Limits::default_limits().depth);
