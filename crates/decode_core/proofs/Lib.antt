@@ -38,3 +38,5 @@ pub mod Bridge
 pub mod Feeding
 pub mod FeedRun
 pub mod Opening
+pub mod Streaming
+pub mod Answering

@@ -1,5 +1,6 @@
 -- What is answered to all bytes of a reader, and to pieces that are joined.
-use Rattle.std.specs.Prelude.{◌≡◌, ℕ, ◌+◌, ◌<◌, ◌≤◌, ◌⊎◌, List, length, Result, Ok, Err, Option, Some, None}
+use Rattle.std.specs.Prelude.{◌≡◌, ℕ, ◌<◌, ◌≤◌, ◌⊎◌, Bool, true, false, List, [], ◌++◌, length, Result, Ok, Err, Option, Some, None, IfSome}
+use Rattle.std.specs.Io.KnownBytes.{IsAtEnd}
 use Rattle.registry_core.specs.declared.type_info.TypeInfo.{TypeInfo}
 use Rattle.widths_core.specs.Widths.{widest}
 use Rattle.grammar_core.specs.Tree.{Tree, nodes, text_bytes}
@@ -27,13 +28,17 @@ Forbids forbidden e = (forbidden ≡ Some e) ⊎ ((e ≡ opening.OutOfMemory) ×
 abbrev pub IsOfJob : Job → Seen → Type 0
 IsOfJob j v = (v.types ≡ j.registry) × (v.ty ≡ j.ty)
 
+-- a value has n of these bytes, and more follow
+abbrev pub Trails : Job → ℕ → List ℕ → Type 0
+Trails j n b = (v : Tree) × IsOutcome j b (done v) n × (n < length b)
+
 -- the answer to all bytes of a reader: the one value that is encoded by exactly these bytes; the fault that forbids a decoder; too few
 -- bytes, or the fault of these bytes; or a value whose bytes end before they do. Where a read failed, nothing is said of the bytes
 abbrev pub Streams : Option OpenFault → Job → List ℕ → Result Seen StreamFault → Type 0
 Streams forbidden j b (Ok v) = (forbidden ≡ None) × IsOfJob j v × IsOutcome j b (done v.tree) (length b)
 Streams forbidden j b (Err (stream.Open e)) = Forbids forbidden e
 Streams forbidden j b (Err (stream.Decode f)) = (forbidden ≡ None) × Finishes j b (Err f)
-Streams forbidden j b (Err (stream.TrailingBytes at)) = (forbidden ≡ None) × ((v : Tree) × IsOutcome j b (done v) at × (at < length b))
+Streams forbidden j b (Err (stream.TrailingBytes at)) = (forbidden ≡ None) × Trails j at b
 Streams forbidden j b (Err stream.Device) = forbidden ≡ None
 
 -- the value on the front of the joined pieces, how many bytes are its own, and that it is little for them; or, as above, the fault
@@ -45,8 +50,37 @@ Joins forbidden j b (Err (pieces.Decode f)) = (forbidden ≡ None) × Finishes j
 
 -- ---- on the way
 
--- a decoder that these bytes have led to, and to which either no byte was fed or the value goes on
+-- these bytes have led to the decoder, and either there are none or the value goes on
 pub record IsUnderWay (d : Decoding) (b : List ℕ) : Type 0 where
   pub led : Led d b
   pub count : d.taken ≡ length b
+  pub fits : length b ≤ d.job.bytes
   pub goes_on : (length b ≡ 0) ⊎ IsOutcome d.job b more (length b)
+
+-- a value on the front of these bytes has n of them
+abbrev pub EndsAt : Job → List ℕ → ℕ → Type 0
+EndsAt j b n = (v : Tree) (m : ℕ) → IsOutcome j b (done v) m → m ≡ n
+
+-- does a byte follow
+abbrev pub Looks : Option (List ℕ) → Result Bool StreamFault → Type 0
+Looks known (Ok true) = IfSome known (λ b. 0 < length b)
+Looks known (Ok false) = IsAtEnd known
+Looks known (Err stream.Device) = Unit {0}
+Looks known (Err _) = ⊥
+
+-- what has led to the decoder are all bytes of a reader, of which its value leaves none; or more follow its value; or they are refused
+abbrev pub FeedsAll : Decoding → Option (List ℕ) → Result Bool StreamFault → Type 0
+FeedsAll d known (Ok false) = (b : List ℕ) × Led d b × EndsAt d.job b (length b) × IfSome known (λ bytes. bytes ≡ b)
+FeedsAll d known (Ok true) = IfSome known (Trails d.job d.taken)
+FeedsAll d known (Err (stream.Decode f)) = IfSome known (λ bytes. Finishes d.job bytes (Err f))
+FeedsAll d known (Err stream.Device) = Unit {0}
+FeedsAll d known (Err _) = ⊥
+
+-- the front of these bytes has led to the decoder, and its value is whole, or nothing follows
+pub record IsFed (d : Decoding) (b : List ℕ) : Type 0 where
+  pub front : List ℕ
+  pub rest : List ℕ
+  pub is : b ≡ front ++ rest
+  pub led : Led d front
+  pub ends : EndsAt d.job front d.taken
+  pub whole : ((v : Tree) × IsOutcome d.job front (done v) d.taken) ⊎ (rest ≡ [])

@@ -1,10 +1,9 @@
 //! A value from pieces that are all there.
 
-ghost use Rattle.std.specs.Prelude.{◌≡◌, map};
-ghost use Rattle.std.specs.List.{concat};
-ghost use Rattle.decode_core.specs.Decoding.{opening_fault};
-ghost use Rattle.decode_core.specs.Streaming.{Joins, job_of};
-ghost use Rattle.decode_core.specs.declared.pieces.PiecesFault.TheVariants.{Decode};
+ghost use Rattle.std.specs.Prelude.{◌≡◌, ℕ, [], IfErr, OnOk, flat_map};
+ghost use Rattle.decode_core.specs.Decoding.{IsEnded, opening_fault};
+ghost use Rattle.decode_core.specs.Streaming.{IsFed, IsUnderWay, Joins, job_of};
+ghost use Rattle.decode_core.specs.declared.pieces.PiecesFault.TheVariants.{Decode, Open};
 
 use crate::decoder::{Decoder, Progress};
 use crate::fault::{DecodeFault, OpenFault};
@@ -25,12 +24,38 @@ pub enum PiecesFault {
     Decode(DecodeFault),
 }
 
+impl From<OpenFault> for PiecesFault {
+    ghost from_gives = { λ f r. r ≡ Open f };
+
+    fn from(fault: OpenFault) -> PiecesFault {
+        PiecesFault::Open(fault)
+    }
+}
+
 impl From<DecodeFault> for PiecesFault {
     ghost from_gives = { λ f r. r ≡ Decode f };
 
     fn from(fault: DecodeFault) -> PiecesFault {
         PiecesFault::Decode(fault)
     }
+}
+
+/// Feeds a decoder that has taken nothing, piece by piece, until its value is whole.
+fn feed_pieces<A: Allocator>(
+    decoder: &mut Decoder<'_, A>,
+    pieces: &[&[u8]],
+) -> Result<(), DecodeFault>
+    requires { IsUnderWay decoder.old [] }
+    ensures job { decoder.new.job ≡ decoder.old.job }
+    ensures fed { OnOk result (IsFed decoder.new (flat_map (λ p. p.now) pieces.now)) }
+    ensures refused { IfErr result (λ f. (n : ℕ) × IsEnded decoder.new.job (flat_map (λ p. p.now) pieces.now) f n) }
+{
+    'pieces: for piece in pieces {
+        if let Progress::Done { .. } = decoder.feed(piece)? {
+            return Ok(());
+        }
+    }
+    Ok(())
 }
 
 /// The value of the root's type, within these limits, on the front of the joined pieces, and how many of their bytes are
@@ -49,24 +74,10 @@ pub fn decode_pieces<'r, A: Allocator + Clone>(
     limits: Limits,
     pieces: &[&[u8]],
 ) -> Result<(Value<'r, A>, u64), PiecesFault>
-    ensures { Joins (opening_fault checked.now root.0 limits) (job_of checked.now root.0 limits) (concat (map (λ p. p.now) pieces.now)) result }
+    ensures { Joins (opening_fault checked.now root.0 limits) (job_of checked.now root.0 limits) (flat_map (λ p. p.now) pieces.now) result }
 {
-    match Decoder::new(alloc, checked, root, limits) {
-        Ok(decoder) => feed_pieces(decoder, pieces),
-        Err(fault) => Err(PiecesFault::Open(fault)),
-    }
-}
-
-/// Feeds a decoder that has taken nothing, piece by piece, until its value is whole.
-fn feed_pieces<'r, A: Allocator>(
-    mut decoder: Decoder<'r, A>,
-    pieces: &[&[u8]],
-) -> Result<(Value<'r, A>, u64), PiecesFault> {
-    'pieces: for piece in pieces {
-        if let Progress::Done { .. } = decoder.feed(piece)? {
-            break 'pieces;
-        }
-    }
+    let mut decoder = Decoder::new(alloc, checked, root, limits)?;
+    feed_pieces(&mut decoder, pieces)?;
     let taken = decoder.taken();
     Ok((decoder.finish()?, taken))
 }

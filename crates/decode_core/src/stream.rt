@@ -1,16 +1,15 @@
 //! A value from all bytes of a reader.
 
-ghost use Rattle.std.specs.Prelude.{◌≡◌, ◌<◌, ◌⊎◌, [], true, IfOk, IfSome, IsErrOf, None};
+ghost use Rattle.std.specs.Prelude.{◌≡◌, ◌⊎◌, [], true, IfOk, IfSome, IsErrOf};
 ghost use Rattle.decode_core.specs.Decoding.{opening_fault};
-ghost use Rattle.decode_core.specs.Streaming.{IsOfJob, IsUnderWay, Streams, job_of};
-ghost use Rattle.decode_core.specs.declared.fault.DecodeFault.{DecodeFault};
+ghost use Rattle.decode_core.specs.Streaming.{FeedsAll, IsOfJob, IsUnderWay, Looks, Streams, job_of};
 ghost use Rattle.decode_core.specs.declared.fault.OpenFault.{OpenFault};
-ghost use Rattle.decode_core.specs.declared.stream.StreamFault.TheVariants.{Decode, Open};
+ghost use Rattle.decode_core.specs.declared.stream.StreamFault.TheVariants.{Decode, Device, Open};
 
 use crate::decoder::{Decoder, Progress};
 use crate::fault::{DecodeFault, OpenFault};
 use registry_core::TypeId;
-use scale_core::Source;
+use scale_core::{Source, SourceFault};
 use std::alloc::Allocator;
 use std::io::Read;
 use thiserror::Error;
@@ -40,6 +39,14 @@ pub enum StreamFault {
     Device,
 }
 
+impl From<OpenFault> for StreamFault {
+    ghost from_gives = { λ f r. r ≡ Open f };
+
+    fn from(fault: OpenFault) -> StreamFault {
+        StreamFault::Open(fault)
+    }
+}
+
 impl From<DecodeFault> for StreamFault {
     ghost from_gives = { λ f r. r ≡ Decode f };
 
@@ -48,36 +55,47 @@ impl From<DecodeFault> for StreamFault {
     }
 }
 
-/// Does a byte follow? It is read then.
-fn has_more<R: Read>(source: &mut Source<R>) -> Result<bool, StreamFault> {
-    let mut part = [0u8; 1];
-    match source.pull(&mut part) {
-        Ok(count) => Ok(count > 0),
-        Err(_) => Err(StreamFault::Device),
+impl From<SourceFault> for StreamFault {
+    ghost from_gives = { λ _ r. r ≡ Device };
+
+    fn from(_fault: SourceFault) -> StreamFault {
+        StreamFault::Device
     }
 }
 
-/// Reads the value of a decoder that has taken nothing.
-fn read_value<'r, A: Allocator, R: Read>(
-    mut decoder: Decoder<'r, A>,
+/// Does a byte follow? It is read then.
+fn has_more<R: Read>(source: &mut Source<R>) -> Result<bool, StreamFault>
+    ensures answers { Looks (R.remaining source.old.device) result }
+    ensures told { IsErrOf result StreamFault.Device → source.new.failed ≡ true }
+    ensures quiet { IsErrOf result StreamFault.Device ⊎ (source.new.failed ≡ source.old.failed) }
+{
+    let mut next = [0u8; 1];
+    let count = source.pull(&mut next)?;
+    Ok(count > 0)
+}
+
+/// Feeds a decoder that has taken nothing until its value is whole or no byte is left: does one follow the value?
+fn feed_all<A: Allocator, R: Read>(
+    decoder: &mut Decoder<'_, A>,
     source: &mut Source<R>,
-) -> Result<Value<'r, A>, StreamFault> {
+) -> Result<bool, StreamFault>
+    requires { IsUnderWay decoder.old [] }
+    ensures job { decoder.new.job ≡ decoder.old.job }
+    ensures answers { FeedsAll decoder.new (R.remaining source.old.device) result }
+    ensures told { IsErrOf result StreamFault.Device → source.new.failed ≡ true }
+    ensures quiet { IsErrOf result StreamFault.Device ⊎ (source.new.failed ≡ source.old.failed) }
+{
     let mut part = [0u8; PIECE];
     'pieces: loop {
-        let count = match source.pull(&mut part) {
-            Ok(count) => count,
-            Err(_) => return Err(StreamFault::Device),
-        };
+        let count = source.pull(&mut part)?;
         if count == 0 {
-            return Ok(decoder.finish()?);
+            return Ok(false);
         }
         if let Progress::Done { used } = decoder.feed(&part[..count])? {
-            if used < count as u64 || has_more(source)? {
-                return Err(StreamFault::TrailingBytes {
-                    at: decoder.taken(),
-                });
+            if used < count as u64 {
+                return Ok(true);
             }
-            return Ok(decoder.finish()?);
+            return has_more(source);
         }
     }
 }
@@ -99,12 +117,15 @@ pub fn decode_all<'r, A: Allocator + Clone, R: Read>(
 ) -> Result<Value<'r, A>, StreamFault>
     ensures answers { IfSome (R.remaining source.old.device) (λ bytes. Streams (opening_fault checked.now root.0 limits) (job_of checked.now root.0 limits) bytes result) }
     ensures same { IfOk result (IsOfJob (job_of checked.now root.0 limits)) }
-    ensures unread { (e : OpenFault) → result ≡ Err (Open e) → source.new ≡ source.old }
+    ensures unread { (e : OpenFault) → result ≡ Err (StreamFault.Open e) → source.new ≡ source.old }
     ensures told { IsErrOf result StreamFault.Device → source.new.failed ≡ true }
     ensures quiet { IsErrOf result StreamFault.Device ⊎ (source.new.failed ≡ source.old.failed) }
 {
-    match Decoder::new(alloc, checked, root, limits) {
-        Ok(decoder) => read_value(decoder, source),
-        Err(fault) => Err(StreamFault::Open(fault)),
+    let mut decoder = Decoder::new(alloc, checked, root, limits)?;
+    if feed_all(&mut decoder, source)? {
+        return Err(StreamFault::TrailingBytes {
+            at: decoder.taken(),
+        });
     }
+    Ok(decoder.finish()?)
 }
