@@ -5,7 +5,7 @@ use Rattle.std.proofs.lemmas.List.{length-drop, length-take, take_all}
 use Rattle.scale_tool.specs.HexText.{digits_end, hex_bytes, placed, prefix_len}
 use Rattle.hex.specs.Hex.{decode_of, decode_pairs, digit_or_error, hex_digit_value, pair_value, ◌>>=◌}
 use Rattle.hex.specs.declared.error.FromHexError.{FromHexError}
-use Rattle.hex.specs.declared.error.FromHexError.TheVariants.{InvalidHexCharacter, OddLength, OutOfMemory}
+use Rattle.hex.specs.declared.error.FromHexError.TheVariants.{InvalidHexCharacter, InvalidStringLength, OddLength, OutOfMemory}
 
 -- the byte of two digits is refused at one of them
 pair_within : (high low from c i : ℕ) (h l : Option ℕ) → (digit_or_error high from h >>= λ a. digit_or_error low (from + 1) l >>= λ b. Ok (a * 16 + b)) ≡ Err (InvalidHexCharacter c i) → i < from + 2
@@ -35,10 +35,19 @@ either_within false text c i e = omega (arith, pairs_within 0 text c i e)
 pub bad_within : (text : List ℕ) (c i : ℕ) → decode_of text ≡ Err (InvalidHexCharacter c i) → i < length text
 bad_within text c i e = either_within (length text % 2 == 1) text c i e
 
--- decoding told it, and not want of memory
+-- decoding told this fault, and not want of memory
+pub told_fault : (text : List ℕ) (e fault : FromHexError) → e ≡ fault → (fault ≡ OutOfMemory → ⊥) → (e ≡ OutOfMemory) ⊎ (decode_of text ≡ Err e) → decode_of text ≡ Err fault
+told_fault text e fault is other (inl o) = absurd (other (sym is ∙ o))
+told_fault text e fault is other (inr h) = h ∙ ap Err is
+
 pub told_bad : (text : List ℕ) (e : FromHexError) (c i : ℕ) → e ≡ InvalidHexCharacter c i → (e ≡ OutOfMemory) ⊎ (decode_of text ≡ Err e) → decode_of text ≡ Err (InvalidHexCharacter c i)
-told_bad text e c i is (inl o) = let bad : InvalidHexCharacter c i ≡ OutOfMemory = sym is ∙ o in absurd cc
-told_bad text e c i is (inr h) = h ∙ ap Err is
+told_bad text e c i is h = told_fault text e (InvalidHexCharacter c i) is (λ o. absurd cc) h
+
+pub told_odd : (text : List ℕ) (e : FromHexError) → e ≡ OddLength → (e ≡ OutOfMemory) ⊎ (decode_of text ≡ Err e) → decode_of text ≡ Err OddLength
+told_odd text e is h = told_fault text e OddLength is (λ o. absurd cc) h
+
+pub told_length : (text : List ℕ) (e : FromHexError) → e ≡ InvalidStringLength → (e ≡ OutOfMemory) ⊎ (decode_of text ≡ Err e) → decode_of text ≡ Err InvalidStringLength
+told_length text e is h = told_fault text e InvalidStringLength is (λ o. absurd cc) h
 
 -- what stands behind the prefix
 pub behind_prefix : (text : List ℕ) (start : ℕ) → take (length text - start) (drop start text) ≡ drop start text

@@ -52,14 +52,14 @@ pub(crate) fn hex_bytes(alloc: Global, text: &[u8]) -> Result<Vec<u8>, Refusal>
     let start = prefix_len(text);
     let rest = &text[start..];
     let end = digits_end(rest);
+    let odd = Refusal::Hex(HexFault::Odd((start + end) as u64));
     match hex::decode(alloc, &rest[..end]) {
         Ok(bytes) => Ok(bytes),
         Err(FromHexError::InvalidHexCharacter { index, .. }) => {
             Err(Refusal::Hex(HexFault::Bad((start + index) as u64)))
         }
-        Err(FromHexError::OddLength | FromHexError::InvalidStringLength) => {
-            Err(Refusal::Hex(HexFault::Odd((start + end) as u64)))
-        }
+        Err(FromHexError::OddLength) => Err(odd),
+        Err(FromHexError::InvalidStringLength) => Err(odd),
         Err(FromHexError::OutOfMemory) => Err(Refusal::Memory),
     }
 }
