@@ -1,6 +1,6 @@
 -- What the decoder's answer says of the value that all the bytes spell.
 use Rattle.std.proofs.Common.{◌≡◌, ◌==◌, ℕ, ◌<◌, ◌≤◌, List, [], ◌++◌, length, Bool, true, false, Option, Some, None, option_map, Result, Ok, Err, refl, sym, ap, ◌∙◌, arith, subst, inl, inr}
-use Rattle.std.specs.Prelude.{◌⊎◌, IfSome, if◌then◌else◌, nat_lt}
+use Rattle.std.specs.Prelude.{IfSome, if◌then◌else◌, nat_lt}
 use Rattle.std.proofs.lemmas.Bool.{eq-eqb, ne_eqb}
 use Rattle.std.proofs.lemmas.List.{append-nil}
 use Rattle.registry_core.specs.declared.type_info.TypeInfo.{TypeInfo}
@@ -8,7 +8,7 @@ use Rattle.grammar_core.specs.Tree.{Tree}
 use Rattle.grammar_core.specs.declared.limits.Limits.{Limits}
 use Rattle.value_core.specs.Shown.{Seen}
 use Rattle.decode_core.specs.Decoding.{Finishes, IsEnded, opening_fault}
-use Rattle.decode_core.specs.Outcome.{Outcome, done, refused, more, too_long, IsOutcome, outcome_of}
+use Rattle.decode_core.specs.Outcome.{Outcome, done, refused, more, too_long, IsOutcome}
 use Rattle.decode_core.specs.Streaming.{Forbids, Joins, Streams, job_of}
 use Rattle.decode_core.specs.declared.fault.DecodeFault.{DecodeFault}
 use Rattle.decode_core.specs.declared.fault.OpenFault.{OpenFault}

@@ -1,4 +1,4 @@
-use Rattle.std.proofs.Common.{arith, length, ◌-◌, drop, take}
+use Rattle.std.proofs.Common.{arith}
 use Rattle.scale_tool.proofs.HexPlaces.{behind_prefix, hex_is, place_within, told_bad, told_length, told_odd}
 use Rattle.scale_tool.proofs.hex_text.hex_bytes.Goals as goal
 

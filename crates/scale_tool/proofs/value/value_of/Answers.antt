@@ -1,4 +1,4 @@
-use Rattle.std.proofs.Common.{arith, rules}
+use Rattle.std.proofs.Common.{rules}
 use Rattle.scale_tool.proofs.Decoded.{joined_fault, joined_front, joined_value}
 use Rattle.scale_tool.proofs.value.value_of.Goals as goal
 
