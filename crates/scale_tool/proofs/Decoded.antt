@@ -1,16 +1,18 @@
 -- What the decoder's answer says of the value that all the bytes spell.
-use Rattle.std.proofs.Common.{◌≡◌, ◌==◌, ℕ, ◌<◌, ◌≤◌, List, [], ◌++◌, length, Bool, true, false, Option, Some, None, option_map, Result, Ok, Err, refl, sym, ap, ◌∙◌, arith, subst, inl, inr}
+use Rattle.std.proofs.Common.{◌≡◌, ◌==◌, ℕ, ◌<◌, ◌≤◌, List, [], ◌++◌, length, Bool, true, false, Option, Some, None, option_map, Result, Ok, Err, refl, sym, ap, ◌∙◌, arith, subst, inl, inr, take}
 use Rattle.std.specs.Prelude.{IfSome, if◌then◌else◌, nat_lt}
-use Rattle.std.proofs.lemmas.Bool.{eq-eqb, ne_eqb}
-use Rattle.std.proofs.lemmas.List.{append-nil}
+use Rattle.std.proofs.lemmas.Bool.{cases_lt, eq-eqb, ne_eqb}
+use Rattle.std.proofs.lemmas.List.{append-nil, length-append, length-take}
 use Rattle.registry_core.specs.declared.type_info.TypeInfo.{TypeInfo}
 use Rattle.grammar_core.specs.Tree.{Tree}
 use Rattle.grammar_core.specs.declared.limits.Limits.{Limits}
 use Rattle.value_core.specs.Shown.{Seen}
 use Rattle.decode_core.specs.Decoding.{Finishes, IsEnded, opening_fault}
-use Rattle.decode_core.specs.Outcome.{Outcome, done, refused, more, too_long, IsOutcome}
-use Rattle.decode_core.specs.Streaming.{Forbids, Joins, Streams, job_of}
+use Rattle.decode_core.specs.Outcome.{Job, Outcome, done, refused, more, too_long, IsOutcome}
+use Rattle.decode_core.specs.Streaming.{Forbids, Joins, Streams, Trails, job_of}
 use Rattle.decode_core.specs.declared.fault.DecodeFault.{DecodeFault}
+use Rattle.decode_core.specs.declared.fault.DecodeReason.{DecodeReason}
+use Rattle.decode_core.specs.declared.fault.DecodeReason.TheVariants as reason
 use Rattle.decode_core.specs.declared.fault.OpenFault.{OpenFault}
 use Rattle.decode_core.specs.declared.fault.OpenFault.TheVariants as opening
 use Rattle.decode_core.specs.declared.pieces.PiecesFault.{PiecesFault}
@@ -18,8 +20,8 @@ use Rattle.decode_core.specs.declared.pieces.PiecesFault.TheVariants as pieces
 use Rattle.decode_core.specs.declared.stream.StreamFault.{StreamFault}
 use Rattle.decode_core.specs.declared.stream.StreamFault.TheVariants as stream
 use Rattle.decode_core.proofs.Computed.{outcome_is_computed}
-use Rattle.scale_tool.specs.Refused.{refusal_of_opening, refusal_of_pieces, refusal_of_stream, refusal_of_value, status_of}
-use Rattle.scale_tool.specs.Values.{decoding, value_in, whole}
+use Rattle.scale_tool.specs.Refused.{refusal_by_reason, refusal_of_opening, refusal_of_pieces, refusal_of_stream, refusal_of_value, status_of}
+use Rattle.scale_tool.specs.Values.{TellsBytes, decoding, value_in, whole}
 
 -- the value that an outcome gives to so many bytes
 abbrev value_by : ℕ → List TypeInfo → ℕ → Outcome × ℕ → Option Seen
@@ -133,3 +135,59 @@ joined_fault id depth types limits b f is known served h =
 pub where_known : (bytes : Option (List ℕ)) (P Q : List ℕ → Type 0) → ((b : List ℕ) → P b → Q b) → IfSome bytes P → IfSome bytes Q
 where_known None P Q f h = tt
 where_known (Some b) P Q f h = f b h
+
+-- ---- what a refusal says
+
+by_reason : (r : DecodeReason) (j : Job) (b : List ℕ) (f : DecodeFault) → Finishes j b (Err f) → TellsBytes j b (refusal_by_reason r f)
+by_reason reason.Truncated j b f h = h
+by_reason reason.BadBool j b f h = h
+by_reason reason.BadChar j b f h = h
+by_reason reason.BadUtf8 j b f h = h
+by_reason reason.CompactNotShortest j b f h = h
+by_reason reason.CompactTooLarge j b f h = h
+by_reason reason.NoSuchVariant j b f h = h
+by_reason reason.TooDeep j b f h = h
+by_reason reason.NoFiniteValue j b f h = h
+by_reason reason.BitSequence j b f h = h
+by_reason reason.BadCompact j b f h = h
+by_reason reason.TooLong j b f h = h
+by_reason reason.OutOfMemory j b f h = tt
+
+opening_told : (id : ℕ) (j : Job) (b : List ℕ) (forbidden : Option OpenFault) (f : OpenFault) → forbidden ≡ None → Forbids forbidden f → TellsBytes j b (refusal_of_opening f id)
+opening_told id j b forbidden opening.OutOfMemory none h = tt
+opening_told id j b forbidden opening.UnknownType none h = absurd (unforbidden id forbidden opening.UnknownType none h refl)
+opening_told id j b forbidden opening.LimitOutOfRange none h = absurd (unforbidden id forbidden opening.LimitOutOfRange none h refl)
+
+stream_told : (id : ℕ) (j : Job) (forbidden : Option OpenFault) (b : List ℕ) (f : StreamFault) → forbidden ≡ None → Streams forbidden j b (Err f) → TellsBytes j b (refusal_of_stream f id)
+stream_told id j forbidden b (stream.Open f) none h = opening_told id j b forbidden f none h
+stream_told id j forbidden b (stream.Decode f) none h = by_reason f.reason j b f h.1
+stream_told id j forbidden b (stream.TrailingBytes at) none h = h.1
+stream_told id j forbidden b stream.Device none h = tt
+
+pieces_told : (id : ℕ) (j : Job) (forbidden : Option OpenFault) (b : List ℕ) (f : PiecesFault) → forbidden ≡ None → Joins forbidden j b (Err f) → TellsBytes j b (refusal_of_pieces f id)
+pieces_told id j forbidden b (pieces.Open f) none h = opening_told id j b forbidden f none h
+pieces_told id j forbidden b (pieces.Decode f) none h = by_reason f.reason j b f h.1
+
+pub stream_tells : (id depth : ℕ) (types : List TypeInfo) (limits : Limits) (b : List ℕ) (f : StreamFault) → limits ≡ made depth → id < length types → depth ≤ 1024 →
+    Streams (opening_fault types id limits) (job_of types id limits) b (Err f) → TellsBytes (decoding id depth types) b (refusal_of_stream f id)
+stream_tells id depth types limits b f is known served h =
+    let P : Limits → Type 0 = λ l. Streams (opening_fault types id l) (job_of types id l) b (Err f) in
+    stream_told id (decoding id depth types) (opening_fault types id (made depth)) b f (none_forbids id depth types known served) (subst P is h)
+
+pub joined_tells : (id depth : ℕ) (types : List TypeInfo) (limits : Limits) (b : List ℕ) (f : PiecesFault) → limits ≡ made depth → id < length types → depth ≤ 1024 →
+    JoinsBy id types (Err f) limits (b ++ []) → TellsBytes (decoding id depth types) b (refusal_of_pieces f id)
+joined_tells id depth types limits b f is known served h =
+    pieces_told id (decoding id depth types) (opening_fault types id (made depth)) b f (none_forbids id depth types known served) (joins_made id depth types limits b (Err f) is h)
+
+short : (n len : ℕ) → n ≤ len → (n ≡ len → ⊥) → n < len
+short n len le some = elim (cases_lt n len) [ inl lt ↦ lt | inr ge ↦ absurd (some (omega (arith, le, ge))) ]
+
+-- a value's own bytes are some of all
+within : (n limit : ℕ) (b front rest : List ℕ) → take limit b ≡ front ++ rest → n ≡ length front → n ≤ length b
+within n limit b front rest is own = omega (arith, own, ap length is, length-append front rest, length-take limit b)
+
+pub joined_trails : (id depth : ℕ) (types : List TypeInfo) (limits : Limits) (b : List ℕ) (v : Seen) (n : ℕ) → limits ≡ made depth → (n ≡ length b → ⊥) → JoinsBy id types (Ok (v, n)) limits (b ++ []) →
+    Trails (decoding id depth types) n b
+joined_trails id depth types limits b v n is some h =
+    let s = joins_made id depth types limits b (Ok (v, n)) is h in
+    (v.tree, s.2, short n (length b) (within n 16777216 b s.2.0 s.2.1 s.2.2 s.2.5) some)

@@ -5,6 +5,8 @@ use Rattle.grammar_core.specs.Tree.{Tree}
 use Rattle.value_core.specs.Shown.{Seen}
 use Rattle.decode_core.specs.Outcome.{Outcome, done, refused, more, too_long, outcome_of}
 use Rattle.decode_core.specs.Outcome as decoder
+use Rattle.decode_core.specs.Decoding.{Finishes}
+use Rattle.decode_core.specs.Streaming.{Trails}
 use Rattle.scale_tool.specs.HexText.{hex_bytes}
 use Rattle.scale_tool.specs.Refused.{status_of}
 use Rattle.scale_tool.specs.declared.refusal.Device.TheVariants as device
@@ -46,6 +48,36 @@ file_value hex id depth types file = option_and_then (value_in id depth types) (
 abbrev pub ReadsValue : Option Seen → Result Seen Refusal → Type 0
 ReadsValue value (Ok v) = value ≡ Some v
 ReadsValue value (Err e) = status_of e ≡ 1 → value ≡ None
+
+-- what a refusal says of the value's bytes, unless the device or memory failed: their fault, or that some follow the value
+abbrev pub TellsBytes : decoder.Job → List ℕ → Refusal → Type 0
+TellsBytes j b (refusal.Value fault) = Finishes j b (Err fault)
+TellsBytes j b (refusal.TrailingValue at) = Trails j at b
+TellsBytes j b (refusal.Device d) = Unit {0}
+TellsBytes j b refusal.Memory = Unit {0}
+TellsBytes j b (refusal.Hex fault) = ⊥
+TellsBytes j b (refusal.UnknownType id) = ⊥
+TellsBytes j b (refusal.Registry fault) = ⊥
+TellsBytes j b (refusal.TrailingRegistry at) = ⊥
+TellsBytes j b (refusal.Check unknown) = ⊥
+
+-- and of a text: its own fault, or the same of the bytes that it holds
+abbrev pub TellsText : decoder.Job → Result (List ℕ) HexFault → Refusal → Type 0
+TellsText j (Ok bytes) e = TellsBytes j bytes e
+TellsText j (Err fault) (refusal.Hex f) = f ≡ fault
+TellsText j (Err fault) (refusal.Device d) = Unit {0}
+TellsText j (Err fault) refusal.Memory = Unit {0}
+TellsText j (Err fault) (refusal.Value f) = ⊥
+TellsText j (Err fault) (refusal.TrailingValue at) = ⊥
+TellsText j (Err fault) (refusal.UnknownType id) = ⊥
+TellsText j (Err fault) (refusal.Registry f) = ⊥
+TellsText j (Err fault) (refusal.TrailingRegistry at) = ⊥
+TellsText j (Err fault) (refusal.Check unknown) = ⊥
+
+-- and of the file that has the one or the other
+abbrev pub TellsFile : Bool → decoder.Job → List ℕ → Refusal → Type 0
+TellsFile true j file e = TellsText j (hex_bytes file) e
+TellsFile false j file e = TellsBytes j file e
 
 -- a refusal that bytes which are all there may meet
 abbrev pub IsOfBytes : Refusal → Type 0

@@ -2,7 +2,7 @@
 
 ghost use Rattle.std.specs.Prelude.{◌≡◌, ◌⊎◌, ◌<◌, ◌≤◌, length, true, IfOk, IfErr, IfSome, IsErrOf};
 ghost use Rattle.scale_tool.specs.Refused.{refusal_of_opening, refusal_of_pieces, refusal_of_stream};
-ghost use Rattle.scale_tool.specs.Values.{IsOfBytes, IsOfValue, ReadsValue, file_value, value_in};
+ghost use Rattle.scale_tool.specs.Values.{IsOfBytes, IsOfValue, ReadsValue, TellsBytes, TellsFile, decoding, file_value, value_in};
 
 use crate::gathering::gather_all;
 use crate::hex_text::hex_bytes;
@@ -68,6 +68,7 @@ fn read_raw<'r, V: Read>(
     requires known { id < length checked.now }
     requires depth { depth ≤ 1024 }
     ensures value { IfSome (V.remaining source.old.device) (λ bytes. ReadsValue (value_in id depth checked.now bytes) result) }
+    ensures tells { IfErr result (λ e. IfSome (V.remaining source.old.device) (λ bytes. TellsBytes (decoding id depth checked.now) bytes e)) }
     ensures err { IfErr result IsOfValue }
     ensures told { IsErrOf result (Refusal.Device Device.Value) → source.new.failed ≡ true }
     ensures quiet { IsErrOf result (Refusal.Device Device.Value) ⊎ (source.new.failed ≡ source.old.failed) }
@@ -89,6 +90,7 @@ fn value_of<'r>(
     requires known { id < length checked.now }
     requires depth { depth ≤ 1024 }
     ensures value { ReadsValue (value_in id depth checked.now bytes.now) result }
+    ensures tells { IfErr result (TellsBytes (decoding id depth checked.now) bytes.now) }
     ensures err { IfErr result IsOfBytes }
 {
     match decode_pieces(alloc, checked, TypeId(id), limits(depth), &[bytes]) {
@@ -114,6 +116,7 @@ fn value_of_hex<'r>(
     requires known { id < length checked.now }
     requires depth { depth ≤ 1024 }
     ensures value { ReadsValue (file_value true id depth checked.now text.now) result }
+    ensures tells { IfErr result (TellsFile true (decoding id depth checked.now) text.now) }
     ensures err { IfErr result IsOfBytes }
 {
     let bytes = hex_bytes(alloc, text)?;
@@ -131,6 +134,7 @@ fn read_hex<'r, V: Read>(
     requires known { id < length checked.now }
     requires depth { depth ≤ 1024 }
     ensures value { IfSome (V.remaining source.old.device) (λ text. ReadsValue (file_value true id depth checked.now text) result) }
+    ensures tells { IfErr result (λ e. IfSome (V.remaining source.old.device) (λ text. TellsFile true (decoding id depth checked.now) text e)) }
     ensures err { IfErr result IsOfValue }
     ensures told { IsErrOf result (Refusal.Device Device.Value) → source.new.failed ≡ true }
     ensures quiet { IsErrOf result (Refusal.Device Device.Value) ⊎ (source.new.failed ≡ source.old.failed) }
@@ -159,6 +163,7 @@ pub(crate) fn read_value<'r, V: Read>(
     requires known { id < length checked.now }
     requires depth { depth ≤ 1024 }
     ensures value { IfSome (V.remaining source.old.device) (λ file. ReadsValue (file_value hex id depth checked.now file) result) }
+    ensures tells { IfErr result (λ e. IfSome (V.remaining source.old.device) (λ file. TellsFile hex (decoding id depth checked.now) file e)) }
     ensures err { IfErr result IsOfValue }
     ensures told { IsErrOf result (Refusal.Device Device.Value) → source.new.failed ≡ true }
     ensures quiet { IsErrOf result (Refusal.Device Device.Value) ⊎ (source.new.failed ≡ source.old.failed) }
