@@ -72,7 +72,7 @@ pub(crate) fn read_types<R: Read>(
 /// The registry, where the position is one of its types.
 fn with_position(checked: Checked, id: u32) -> Result<Checked, Refusal>
     ensures ok { IfOk result (λ types. with_position id checked ≡ Some types) }
-    ensures err { IfErr result (λ e. (status_of e ≡ 1) × (with_position id checked ≡ None)) }
+    ensures err { IfErr result (λ e. (e ≡ Refusal.UnknownType id) × (with_position id checked ≡ None)) }
 {
     match checked.class(TypeId(id)) {
         Some(_) => Ok(checked),
