@@ -1,133 +1,15 @@
 //! The command's engine over memory: what it writes, tells and answers, and what it does where a device fails.
 
+use crate::command_row::{
+    BOOL, STR, U8, U8_AND_I32, U16, behind_prefix, check_row, decode, in_hex, refused, served,
+    shown, types,
+};
 use crate::paced::{LetterReader, PacedReader, PacedWriter, Then};
 use scale_core::{Sink, Source};
 use scale_tool::{Job, run};
+use std::alloc::{AllocError, Global};
 use std::process::Abort;
 use std::test::Fail;
-
-/// A job's input, and what it must answer.
-#[derive(Clone, Copy)]
-struct Row {
-    name: &'static str,
-    job: Job,
-    registry: &'static [u8],
-    value: &'static [u8],
-    status: u8,
-    out: &'static str,
-    err: &'static str,
-}
-
-const U8: &[u8] = b"\x04\x00\x00\x00\x05\x03\x00";
-
-const U16: &[u8] = b"\x04\x00\x00\x00\x05\x04\x00";
-
-const STR: &[u8] = b"\x04\x00\x00\x00\x05\x02\x00";
-
-const BOOL: &[u8] = b"\x04\x00\x00\x00\x05\x00\x00";
-
-const U8_AND_I32: &[u8] = b"\x08\x00\x00\x00\x05\x03\x00\x04\x00\x00\x05\x0b\x00";
-
-/// A value that is shown.
-fn shown(
-    name: &'static str,
-    registry: &'static [u8],
-    id: u32,
-    value: &'static [u8],
-    out: &'static str,
-) -> Row {
-    Row {
-        name,
-        job: Job::Decode {
-            id,
-            metadata: false,
-        },
-        registry,
-        value,
-        status: 0,
-        out,
-        err: "",
-    }
-}
-
-/// An input that is refused.
-fn refused(
-    name: &'static str,
-    registry: &'static [u8],
-    id: u32,
-    value: &'static [u8],
-    err: &'static str,
-) -> Row {
-    Row {
-        name,
-        job: Job::Decode {
-            id,
-            metadata: false,
-        },
-        registry,
-        value,
-        status: 1,
-        out: "",
-        err,
-    }
-}
-
-/// A registry whose types are shown.
-fn types(name: &'static str, registry: &'static [u8], out: &'static str) -> Row {
-    Row {
-        name,
-        job: Job::Types { metadata: false },
-        registry,
-        value: &[],
-        status: 0,
-        out,
-        err: "",
-    }
-}
-
-/// The row with its registry as metadata.
-fn behind_prefix(row: &Row) -> Row {
-    let mut row = *row;
-    row.job = match row.job {
-        Job::Types { .. } => Job::Types { metadata: true },
-        Job::Decode { id, .. } => Job::Decode { id, metadata: true },
-    };
-    row
-}
-
-/// Runs a row with so many bytes a call, over devices that do not fail.
-fn check_row(rt: &(impl Abort + AllocGlobal), row: &Row, step: usize) {
-    let name = row.name;
-    let alloc = rt.alloc();
-    let mut registry = Source::new(PacedReader::new(row.registry, step, Then::GoesOn));
-    let mut value = Source::new(PacedReader::new(row.value, step, Then::GoesOn));
-    let mut out = Sink::new(PacedWriter::new(alloc, 0, step, Then::GoesOn));
-    let mut err = Sink::new(PacedWriter::new(alloc, 0, step, Then::GoesOn));
-    let status = run(
-        alloc,
-        row.job,
-        &mut registry,
-        &mut value,
-        &mut out,
-        &mut err,
-    );
-    assert_eq!(rt; status, row.status, "the status of {name}");
-    assert_eq!(rt; registry.failed(), false, "the registry of {name}");
-    assert_eq!(rt; value.failed(), false, "the value of {name}");
-    assert_eq!(rt; out.failed(), false, "the output of {name}");
-    let out = out.into_inner();
-    let err = err.into_inner();
-    assert_eq!(rt;
-        out.taken.as_slice(),
-        row.out.as_bytes(),
-        "what {name} writes"
-    );
-    assert_eq!(rt;
-        err.taken.as_slice(),
-        row.err.as_bytes(),
-        "what {name} tells"
-    );
-}
 
 #[test]
 fn values_are_shown_or_refused(rt: HostRuntime) {
@@ -297,6 +179,13 @@ fn registries_are_refused(rt: HostRuntime) {
             "scaleview: registry: IdOutOfPlace at 1\n",
         ),
         refused(
+            "a length without its types",
+            b"\xfe\xff\xff\xff\x00",
+            0,
+            b"\x2a",
+            "scaleview: registry: Truncated at 5\n",
+        ),
+        refused(
             "a registry that is cut",
             b"\x04\x00\x00\x00\x05",
             0,
@@ -379,7 +268,6 @@ fn metadata_is_read_behind_its_prefix(rt: HostRuntime) {
 /// A registry or type is refused before the value is read, so a value that cannot be read changes nothing.
 #[test]
 fn the_value_is_read_last(rt: HostRuntime) {
-    let compact = b"\x08\x00\x00\x00\x05\x07\x00\x04\x00\x00\x06\x00\x00".as_slice();
     let rows = [
         refused(
             "a registry that is cut",
@@ -395,13 +283,13 @@ fn the_value_is_read_last(rt: HostRuntime) {
             b"",
             "scaleview: type: UnknownType 0\n",
         ),
-        refused(
-            "a type that is not shown yet",
-            compact,
-            1,
+        in_hex(&refused(
+            "no type, with hexadecimal text",
+            b"\x00",
+            0,
             b"",
-            "scaleview: value: Unsupported at 0\n",
-        ),
+            "scaleview: type: UnknownType 0\n",
+        )),
     ];
     for row in &rows {
         let name = row.name;
@@ -411,7 +299,7 @@ fn the_value_is_read_last(rt: HostRuntime) {
         let mut err = Sink::new(Vec::new(rt.alloc()));
         let status = run(
             rt.alloc(),
-            row.job,
+            served(row.job),
             &mut registry,
             &mut value,
             &mut out,
@@ -482,18 +370,25 @@ fn unknown_references_are_told(rt: HostRuntime) {
     check_row(&rt, &refused("a value of it", unknown, 0, b"", line), 1);
 }
 
-/// Forty types, each a pair of the one before, over the empty tuple: an empty type is never expanded.
-#[test]
-fn nested_pairs_are_shown_at_once(rt: HostRuntime) -> Result<(), Fail> {
-    let alloc = rt.alloc();
+/// The empty tuple, and forty types, each a pair of the one before: an empty type is never expanded.
+fn nested_pairs(alloc: Global) -> Result<Vec<u8>, AllocError> {
     let mut registry = Vec::from_slice(alloc, b"\xa4\x00\x00\x00\x04\x00\x00")?;
-    let mut lines = String::from_str(alloc, "0 Empty tuple \"\"\n")?;
-    for i in 1..41u8 {
-        registry.extend_from_slice(&[4 * i, 0, 0, 4, 8, 4 * (i - 1), 4 * (i - 1), 0])?;
+    for before in 0..40u8 {
+        let (id, member) = (4 * (before + 1), 4 * before);
+        registry.extend_from_slice(&[id, 0, 0, 4, 8, member, member, 0])?;
+    }
+    Ok(registry)
+}
+
+#[test]
+fn types_of_nested_pairs_are_shown_at_once(rt: HostRuntime) -> Result<(), Fail> {
+    let alloc = rt.alloc();
+    let registry = nested_pairs(alloc)?;
+    let mut lines = String::new(alloc);
+    for i in 0..41u8 {
         let line = format!(in alloc; "{i} Empty tuple \"\"\n")?;
         lines.push_str(line.as_str())?;
     }
-    assert_eq!(rt; registry.len(), 327);
     let mut value = Source::new(PacedReader::new(b"", 1, Then::Fails));
     let mut out = Sink::new(Vec::new(alloc));
     let mut err = Sink::new(Vec::new(alloc));
@@ -509,6 +404,27 @@ fn nested_pairs_are_shown_at_once(rt: HostRuntime) -> Result<(), Fail> {
     assert_eq!(rt; value.failed(), false, "the value is not touched");
     let written = out.into_inner();
     assert_eq!(rt; written.as_slice(), lines.as_bytes());
+    Ok(())
+}
+
+#[test]
+fn nested_pairs_are_one_value(rt: HostRuntime) -> Result<(), Fail> {
+    let alloc = rt.alloc();
+    let registry = nested_pairs(alloc)?;
+    let nothing: &[u8] = &[];
+    let mut out = Sink::new(Vec::new(alloc));
+    let mut err = Sink::new(Vec::new(alloc));
+    let status = run(
+        alloc,
+        decode(40),
+        &mut Source::new(registry.as_slice()),
+        &mut Source::new(nothing),
+        &mut out,
+        &mut err,
+    );
+    assert_eq!(rt; status, 0);
+    let written = out.into_inner();
+    assert_eq!(rt; written.as_slice(), b"null\n".as_slice());
     Ok(())
 }
 
@@ -545,10 +461,7 @@ fn texts_are_bounded(rt: HostRuntime) {
         let mut value = Source::new(LetterReader::new(head, letters));
         let mut out = Sink::new(Vec::new(rt.alloc()));
         let mut err = Sink::new(Vec::new(rt.alloc()));
-        let job = Job::Decode {
-            id: 0,
-            metadata: false,
-        };
+        let job = decode(0);
         let status = run(
             rt.alloc(),
             job,
@@ -581,10 +494,7 @@ fn check_failure(
     let mut err_sink = Sink::new(PacedWriter::new(alloc, 0, 4096, Then::GoesOn));
     let status = run(
         alloc,
-        Job::Decode {
-            id: 0,
-            metadata: false,
-        },
+        decode(0),
         &mut registry_source,
         &mut value_source,
         &mut out_sink,
@@ -653,10 +563,7 @@ fn a_failing_standard_error_changes_no_status(rt: HostRuntime) {
         let mut err_sink = Sink::new(PacedWriter::new(alloc, 0, 4096, Then::Fails));
         let status = run(
             alloc,
-            Job::Decode {
-                id: 0,
-                metadata: false,
-            },
+            decode(0),
             &mut registry_source,
             &mut value_source,
             &mut out_sink,

@@ -4,33 +4,53 @@ use scale_core::Sink;
 use scale_tool::{Device, Job, explain, job, unopened};
 use std::test::Fail;
 
+/// The job of these numbers and flags.
+fn decode(id: u32, metadata: bool, hex: bool, depth: u16) -> Job {
+    Job::Decode {
+        id,
+        metadata,
+        hex,
+        depth,
+    }
+}
+
 #[test]
-fn words_name_a_job(rt: HostRuntime) -> Result<(), Fail> {
+fn words_name_a_value(rt: HostRuntime) -> Result<(), Fail> {
     let rows = [
-        (["scaleview", "decode", "r", "3", "v"].as_slice(), 3, false),
+        ("decode r 3 v", decode(3, false, false, 64)),
+        ("decode r 0003 v", decode(3, false, false, 64)),
         (
-            ["scaleview", "decode", "r", "0003", "v"].as_slice(),
-            3,
-            false,
+            "decode --metadata r 4294967295 v",
+            decode(4294967295, true, false, 64),
         ),
+        ("decode r 0 v --metadata", decode(0, true, false, 64)),
+        ("decode r 3 v --depth 2", decode(3, false, false, 2)),
+        ("decode r 3 v --depth=0", decode(3, false, false, 0)),
+        ("decode --depth 1024 r 3 v", decode(3, false, false, 1024)),
+        ("decode r 3 v --depth 0064", decode(3, false, false, 64)),
+        ("decode r 3 v --hex", decode(3, false, true, 64)),
         (
-            ["scaleview", "decode", "--metadata", "r", "4294967295", "v"].as_slice(),
-            4294967295,
-            true,
-        ),
-        (
-            ["scaleview", "decode", "r", "0", "v", "--metadata"].as_slice(),
-            0,
-            true,
+            "decode --hex r 3 --metadata v --depth 7",
+            decode(3, true, true, 7),
         ),
     ];
-    for (words, id, metadata) in rows {
-        let (found, file, value_file) = job(rt.alloc(), words).ok().ok_or("a job")?;
-        assert_eq!(rt; found, Job::Decode { id, metadata }, "the job of {words:?}");
-        assert_eq!(rt; file.as_str(), "r", "FILE of {words:?}");
+    for (line, want) in rows {
+        let mut words = Vec::new(rt.alloc());
+        words.push("scaleview")?;
+        for word in line.split(' ') {
+            words.push(word)?;
+        }
+        let (found, file, value_file) = job(rt.alloc(), words.as_slice()).ok().ok_or("a job")?;
+        assert_eq!(rt; found, want, "the job of {line}");
+        assert_eq!(rt; file.as_str(), "r", "FILE of {line}");
         let value_file = value_file.ok_or("a value's file")?;
-        assert_eq!(rt; value_file.as_str(), "v", "VALUEFILE of {words:?}");
+        assert_eq!(rt; value_file.as_str(), "v", "VALUEFILE of {line}");
     }
+    Ok(())
+}
+
+#[test]
+fn words_name_types(rt: HostRuntime) -> Result<(), Fail> {
     for (words, metadata) in [
         (["scaleview", "types", "r"].as_slice(), false),
         (["scaleview", "types", "r", "--metadata"].as_slice(), true),
@@ -52,6 +72,19 @@ fn words_that_name_no_job_are_told(rt: HostRuntime) -> Result<(), Fail> {
             0,
             "",
             "VALUEFILE",
+        ),
+        (["scaleview", "--help"].as_slice(), 0, "", "16777216"),
+        (
+            ["scaleview", "types", "--help"].as_slice(),
+            0,
+            "",
+            "--metadata",
+        ),
+        (
+            ["scaleview", "decode", "--help"].as_slice(),
+            0,
+            "",
+            "--depth <D>",
         ),
         (["scaleview"].as_slice(), 2, "Usage: ", ""),
         (
@@ -88,6 +121,75 @@ fn words_that_name_no_job_are_told(rt: HostRuntime) -> Result<(), Fail> {
             ["scaleview", "decode", "r", "4294967296", "v"].as_slice(),
             2,
             "scaleview: usage\n",
+            "",
+        ),
+        (
+            ["scaleview", "decode", "r", "3", "v", "--depth", "1025"].as_slice(),
+            2,
+            "scaleview: usage\n",
+            "",
+        ),
+        (
+            ["scaleview", "decode", "r", "3", "v", "--depth", "+2"].as_slice(),
+            2,
+            "scaleview: usage\n",
+            "",
+        ),
+        (
+            ["scaleview", "decode", "r", "3", "v", "--depth", ""].as_slice(),
+            2,
+            "scaleview: usage\n",
+            "",
+        ),
+        (
+            ["scaleview", "decode", "r", "3", "v", "--depth", " 2"].as_slice(),
+            2,
+            "scaleview: usage\n",
+            "",
+        ),
+        (
+            ["scaleview", "decode", "r", "3", "v", "--depth", "2a"].as_slice(),
+            2,
+            "scaleview: usage\n",
+            "",
+        ),
+        (
+            ["scaleview", "decode", "r", "3", "v", "--depth", "65536"].as_slice(),
+            2,
+            "scaleview: usage\n",
+            "",
+        ),
+        (
+            [
+                "scaleview",
+                "decode",
+                "r",
+                "3",
+                "v",
+                "--depth",
+                "4294967296",
+            ]
+            .as_slice(),
+            2,
+            "scaleview: usage\n",
+            "",
+        ),
+        (
+            ["scaleview", "decode", "r", "3", "v", "--depth"].as_slice(),
+            2,
+            "--depth",
+            "",
+        ),
+        (
+            ["scaleview", "decode", "r", "3", "v", "--depth", "-1"].as_slice(),
+            2,
+            "-1",
+            "",
+        ),
+        (
+            ["scaleview", "types", "r", "--hex"].as_slice(),
+            2,
+            "--hex",
             "",
         ),
         (

@@ -35,9 +35,7 @@ const ROWS: [Row; 14] = [
         name: "the greatest compact integer",
         registry: COMPACT_U128,
         ty: 1,
-        calls: &[Call::Compact(
-            340_282_366_920_938_463_463_374_607_431_768_211_455,
-        )],
+        calls: &[Call::Compact(340_282_366_920_938_463_463_374_607_431_768_211_455)],
         text: "\"340282366920938463463374607431768211455\"",
     },
     Row {

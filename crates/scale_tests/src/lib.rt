@@ -14,7 +14,13 @@ mod building;
 #[cfg(test)]
 mod command;
 #[cfg(test)]
+mod command_hex;
+#[cfg(test)]
 mod command_line;
+#[cfg(test)]
+mod command_row;
+#[cfg(test)]
+mod command_values;
 #[cfg(test)]
 mod compact;
 #[cfg(test)]

@@ -4,8 +4,6 @@ pub mod Registries
 pub mod Locals
 pub mod Entered
 pub mod Unnamed
-pub mod Windows
-pub mod Fixed
-pub mod Cuts
-pub mod Texts
-pub mod Decided
+pub mod HexPlaces
+pub mod Decoded
+pub mod ValueText

@@ -1,5 +1,5 @@
 -- What the command writes for its job.
-use Rattle.std.specs.Prelude.{◌≡◌, ℕ, List, [], ◌∷◌, ◌++◌, take, Option, Some, None, Ok, Err, slice_get, Bool, true, option_map, option_and_then, false}
+use Rattle.std.specs.Prelude.{◌≡◌, ◌≤◌, nat_lt, if◌then◌else◌, ℕ, List, [], ◌∷◌, ◌++◌, length, take, Option, Some, None, Ok, Err, Bool, true, option_map, option_and_then, false}
 use Rattle.std.specs.Io.KnownBytes.{Appends, Keeps}
 use Rattle.serde_json.specs.Data.{Data}
 use Rattle.serde_json.specs.Written.{compact_text}
@@ -8,10 +8,10 @@ use Rattle.registry_core.specs.Reading.{registry_at, metadata_at}
 use Rattle.registry_core.specs.declared.type_info.TypeInfo.{TypeInfo}
 use Rattle.widths_core.specs.References.{first_fault}
 use Rattle.scale_tool.specs.Lines.{type_lines}
-use Rattle.scale_tool.specs.Shown.{outcome, primitive_of, whole}
+use Rattle.json_core.specs.Json.{json_seen}
+use Rattle.scale_tool.specs.Values.{file_value}
 use Rattle.scale_tool.specs.declared.task.Job.{Job}
 use Rattle.scale_tool.specs.declared.task.Job.TheVariants as job
-use Rattle.scale_tool.specs.declared.primitive.Primitive.{Primitive}
 use Rattle.scale_tool.specs.declared.refusal.Device.TheVariants as device
 use Rattle.scale_tool.specs.declared.refusal.Refusal.{Refusal}
 use Rattle.scale_tool.specs.declared.refusal.Refusal.TheVariants as refusal
@@ -40,13 +40,13 @@ unless_fault (Some fault) types = None
 unfoldable pub checked_of : Bool → List ℕ → Option (List TypeInfo)
 checked_of metadata bytes = option_and_then (λ types. unless_fault (first_fault types) types) (types_of metadata bytes)
 
--- the primitive type at a position
-abbrev pub primitive_in : ℕ → List TypeInfo → Option Primitive
-primitive_in id types = option_and_then (λ t. primitive_of t.shape) (slice_get types id)
+-- the types, where the position is one of theirs
+abbrev pub with_position : ℕ → List TypeInfo → Option (List TypeInfo)
+with_position id types = if nat_lt id (length types) then Some types else None
 
--- the type at a position of a registry's file
-abbrev pub type_of : Bool → ℕ → List ℕ → Option Primitive
-type_of metadata id registry = option_and_then (primitive_in id) (checked_of metadata registry)
+-- the same of a registry's file
+abbrev pub types_with : Bool → ℕ → List ℕ → Option (List TypeInfo)
+types_with metadata id registry = option_and_then (with_position id) (checked_of metadata registry)
 
 -- a refusal that reading a registry may meet
 abbrev pub IsOfRegistry : Refusal → Type 0
@@ -55,19 +55,19 @@ IsOfRegistry (refusal.TrailingRegistry at) = Unit {0}
 IsOfRegistry (refusal.Check fault) = Unit {0}
 IsOfRegistry refusal.Memory = Unit {0}
 IsOfRegistry (refusal.UnknownType id) = ⊥
-IsOfRegistry refusal.UnsupportedValue = ⊥
+IsOfRegistry (refusal.Hex fault) = ⊥
 IsOfRegistry (refusal.Value fault) = ⊥
 IsOfRegistry (refusal.TrailingValue at) = ⊥
-IsOfRegistry (refusal.TooLong at) = ⊥
 IsOfRegistry (refusal.Device device) = ⊥
 
 -- a value's line: its JSON and a line feed
 abbrev pub line_of : Data → List ℕ
 line_of d = compact_text d ++ 10 ∷ []
 
--- the text of a value's bytes, where neither they nor the registry's are refused
-abbrev pub value_text : Bool → ℕ → List ℕ → List ℕ → Option (List ℕ)
-value_text metadata id registry value = option_and_then (λ p. option_map line_of (whole (outcome p value))) (type_of metadata id registry)
+-- the text of a value's file, where neither it nor the registry's is refused
+abbrev pub value_text : Bool → Bool → ℕ → ℕ → List ℕ → List ℕ → Option (List ℕ)
+value_text metadata hex id depth registry value =
+    option_and_then (λ types. option_map (λ v. line_of (json_seen v)) (file_value hex id depth types value)) (types_with metadata id registry)
 
 -- the text of a registry's types, where its bytes are not refused
 abbrev pub types_text : Bool → List ℕ → Option (List ℕ)
@@ -77,9 +77,9 @@ types_text metadata registry = option_map type_lines (checked_of metadata regist
 abbrev pub OnText : Job → Option (List ℕ) → Option (List ℕ) → (Option (List ℕ) → Type 0) → Type 0
 OnText (job.Types metadata) None value P = Unit {0}
 OnText (job.Types metadata) (Some registry) value P = P (types_text metadata registry)
-OnText (job.Decode id metadata) None value P = Unit {0}
-OnText (job.Decode id metadata) (Some registry) None P = Unit {0}
-OnText (job.Decode id metadata) (Some registry) (Some value) P = P (value_text metadata id registry value)
+OnText (job.Decode id metadata hex depth) None value P = Unit {0}
+OnText (job.Decode id metadata hex depth) (Some registry) None P = Unit {0}
+OnText (job.Decode id metadata hex depth) (Some registry) (Some value) P = P (value_text metadata hex id depth registry value)
 
 -- the whole text went out
 abbrev pub WritesAll : Option (List ℕ) → Option (List ℕ) → Option (List ℕ) → Type 0
@@ -99,14 +99,18 @@ HasFailed (refusal.Device device.Output) registry value = ⊥
 HasFailed (refusal.Registry fault) registry value = Unit {0}
 HasFailed (refusal.TrailingRegistry at) registry value = Unit {0}
 HasFailed (refusal.Check fault) registry value = Unit {0}
-HasFailed refusal.UnsupportedValue registry value = Unit {0}
 HasFailed (refusal.UnknownType id) registry value = Unit {0}
 HasFailed (refusal.Value fault) registry value = Unit {0}
 HasFailed (refusal.TrailingValue at) registry value = Unit {0}
-HasFailed (refusal.TooLong at) registry value = Unit {0}
+HasFailed (refusal.Hex fault) registry value = Unit {0}
 HasFailed refusal.Memory registry value = Unit {0}
 
 -- the job goes by its registry alone
 abbrev pub ReadsNoValue : Job → Type 0
 ReadsNoValue (job.Types metadata) = Unit {0}
-ReadsNoValue (job.Decode id metadata) = ⊥
+ReadsNoValue (job.Decode id metadata hex depth) = ⊥
+
+-- the depth limit is one that the decoder keeps to
+abbrev pub IsServed : Job → Type 0
+IsServed (job.Types metadata) = Unit {0}
+IsServed (job.Decode id metadata hex depth) = depth ≤ 1024

@@ -1,7 +1,8 @@
 pub mod Answer
 pub mod Explained
+pub mod HexText
 pub mod Line
 pub mod Lines
 pub mod Moved
 pub mod Refused
-pub mod Shown
+pub mod Values

@@ -5,8 +5,17 @@ use Rattle.registry_core.specs.declared.fault.RegistryReason.{RegistryReason}
 use Rattle.registry_core.specs.declared.fault.RegistryReason.TheVariants as registry
 use Rattle.widths_core.specs.declared.fault.CheckFault.{CheckFault}
 use Rattle.widths_core.specs.declared.fault.CheckFault.TheVariants as check
-use Rattle.scale_tool.specs.declared.moving.GatherFault.{GatherFault}
-use Rattle.scale_tool.specs.declared.moving.GatherFault.TheVariants as gather
+use Rattle.decode_core.specs.declared.fault.DecodeFault.{DecodeFault}
+use Rattle.decode_core.specs.declared.fault.DecodeReason.{DecodeReason}
+use Rattle.decode_core.specs.declared.fault.DecodeReason.TheVariants as value
+use Rattle.decode_core.specs.declared.fault.OpenFault.{OpenFault}
+use Rattle.decode_core.specs.declared.fault.OpenFault.TheVariants as opening
+use Rattle.decode_core.specs.declared.pieces.PiecesFault.{PiecesFault}
+use Rattle.decode_core.specs.declared.pieces.PiecesFault.TheVariants as pieces
+use Rattle.decode_core.specs.declared.stream.StreamFault.{StreamFault}
+use Rattle.decode_core.specs.declared.stream.StreamFault.TheVariants as stream
+use Rattle.scale_tool.specs.declared.gathering.GatherFault.{GatherFault}
+use Rattle.scale_tool.specs.declared.gathering.GatherFault.TheVariants as gather
 use Rattle.scale_tool.specs.declared.refusal.Device.{Device}
 use Rattle.scale_tool.specs.declared.refusal.Device.TheVariants as device
 use Rattle.scale_tool.specs.declared.refusal.Refusal.{Refusal}
@@ -16,11 +25,10 @@ abbrev pub status_of : Refusal → ℕ
 status_of (refusal.Registry fault) = 1
 status_of (refusal.TrailingRegistry at) = 1
 status_of (refusal.Check unknown) = 1
-status_of refusal.UnsupportedValue = 1
 status_of (refusal.UnknownType id) = 1
 status_of (refusal.Value fault) = 1
 status_of (refusal.TrailingValue at) = 1
-status_of (refusal.TooLong at) = 1
+status_of (refusal.Hex fault) = 1
 status_of (refusal.Device device) = 3
 status_of refusal.Memory = 4
 
@@ -37,11 +45,10 @@ fixed_line refusal.Memory = Some (codes "scaleview: memory\n")
 fixed_line (refusal.Registry fault) = None
 fixed_line (refusal.TrailingRegistry at) = None
 fixed_line (refusal.Check unknown) = None
-fixed_line refusal.UnsupportedValue = None
 fixed_line (refusal.UnknownType id) = None
 fixed_line (refusal.Value fault) = None
 fixed_line (refusal.TrailingValue at) = None
-fixed_line (refusal.TooLong at) = None
+fixed_line (refusal.Hex fault) = None
 
 -- why this device gave no input
 abbrev pub refusal_of : GatherFault → Device → Refusal
@@ -60,3 +67,28 @@ refusal_of_registry f = refusal_by f.reason f
 abbrev pub refusal_of_check : CheckFault → Refusal
 refusal_of_check (check.UnknownType from to) = refusal.Check (record { from = from.0; to = to.0 })
 refusal_of_check check.OutOfMemory = refusal.Memory
+
+abbrev pub refusal_by_reason : DecodeReason → DecodeFault → Refusal
+refusal_by_reason value.OutOfMemory f = refusal.Memory
+refusal_by_reason _ f = refusal.Value f
+
+-- a value's fault, where want of memory is no fault of its bytes
+abbrev pub refusal_of_value : DecodeFault → Refusal
+refusal_of_value f = refusal_by_reason f.reason f
+
+-- why no decoder of this type is made, where the limits are within their ranges
+abbrev pub refusal_of_opening : OpenFault → ℕ → Refusal
+refusal_of_opening opening.OutOfMemory id = refusal.Memory
+refusal_of_opening _ id = refusal.UnknownType id
+
+-- why a reader's bytes are no value of this type
+abbrev pub refusal_of_stream : StreamFault → ℕ → Refusal
+refusal_of_stream (stream.Open f) id = refusal_of_opening f id
+refusal_of_stream (stream.Decode f) id = refusal_of_value f
+refusal_of_stream (stream.TrailingBytes at) id = refusal.TrailingValue at
+refusal_of_stream stream.Device id = refusal.Device device.Value
+
+-- why bytes that are all there are none
+abbrev pub refusal_of_pieces : PiecesFault → ℕ → Refusal
+refusal_of_pieces (pieces.Open f) id = refusal_of_opening f id
+refusal_of_pieces (pieces.Decode f) id = refusal_of_value f

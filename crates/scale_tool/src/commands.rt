@@ -3,11 +3,30 @@
 ghost use Rattle.std.specs.Prelude.{◌≡◌, IfOk, IfErr, map, true, false};
 ghost use Rattle.clap.specs.Words.{FailsBy, app_of, fault_of, found_of, rows_of, rule_of, matches_of, subcommand_of, subcommand_rows_of, takes, kind_of};
 ghost use Rattle.clap.specs.declared.Command.TheViews.{out-Command};
-ghost use Rattle.scale_tool.specs.Line.{line, types, decode, file, id, value_file, metadata};
+ghost use Rattle.scale_tool.specs.Line.{line, types, decode, file, id, value_file, metadata, hex, depth};
 
 use clap::error::ErrorKind;
 use clap::{Arg, ArgAction, ArgMatches, Command, Error};
 use std::alloc::{AllocError, Global};
+
+/// What the help of the program and of each subcommand ends with.
+const NOTES: &str = "\
+Limits of a value:
+  depth   0 to 1024, 64 where --depth is absent; the value itself has depth 0
+  bytes   16777216
+
+Exit status:
+  0  the answer was written to standard output
+  1  the registry, the type or the value is refused; one line on standard error
+     tells the reason and its place in bytes
+  2  the command line is wrong
+  3  a file does not open, or a read or a write failed
+  4  there is not enough memory
+
+Examples:
+  scaleview types registry.scale
+  scaleview decode registry.scale 0 value.scale
+  scaleview decode metadata.scale 3 value.hex --metadata --hex --depth 16";
 
 fn file_arg<'a>(alloc: Global) -> Arg<'a>
     ensures rule { rule_of result ≡ file }
@@ -31,9 +50,9 @@ fn value_file_arg<'a>(alloc: Global) -> Arg<'a>
     ensures rule { rule_of result ≡ value_file }
     ensures local { result.global ≡ false }
 {
-    Arg::new(alloc, "VALUEFILE")
-        .required(true)
-        .help("The file of the value, as raw bytes")
+    Arg::new(alloc, "VALUEFILE").required(true).help(
+        "The file of the value, as raw bytes or, with --hex, as text",
+    )
 }
 
 fn metadata_arg<'a>(alloc: Global) -> Arg<'a>
@@ -46,12 +65,32 @@ fn metadata_arg<'a>(alloc: Global) -> Arg<'a>
         .help("FILE is metadata of version 14; what follows its registry is ignored")
 }
 
+fn hex_arg<'a>(alloc: Global) -> Arg<'a>
+    ensures rule { rule_of result ≡ hex }
+    ensures local { result.global ≡ false }
+{
+    Arg::new(alloc, "hex")
+        .long("hex")
+        .action(ArgAction::SetTrue)
+        .help("VALUEFILE is hexadecimal text; 0x in front and a line end are optional")
+}
+
+fn depth_arg<'a>(alloc: Global) -> Arg<'a>
+    ensures rule { rule_of result ≡ depth }
+    ensures local { result.global ≡ false }
+{
+    Arg::new(alloc, "depth").long("depth").value_name("D").help(
+        "The greatest depth of a part of the value, from 0 to 1024; 64 where absent",
+    )
+}
+
 fn types_command<'a>(alloc: Global) -> Result<Command<'a>, AllocError>
     ensures app { IfOk result (λ c. app_of c ≡ types) }
     ensures local { IfOk result (λ c. (out-Command c).has_globals ≡ false) }
 {
     let command = Command::new(alloc, "types")
-        .about("Shows the types of a registry, a line each")
+        .about("Shows the types of a registry, a line each: position, class, kind and path")
+        .after_help(NOTES)
         .arg(file_arg(alloc))?
         .arg(metadata_arg(alloc))?;
     Ok(command)
@@ -63,10 +102,13 @@ fn decode_command<'a>(alloc: Global) -> Result<Command<'a>, AllocError>
 {
     let command = Command::new(alloc, "decode")
         .about("Shows a value as JSON")
+        .after_help(NOTES)
         .arg(file_arg(alloc))?
         .arg(id_arg(alloc))?
         .arg(value_file_arg(alloc))?
-        .arg(metadata_arg(alloc))?;
+        .arg(metadata_arg(alloc))?
+        .arg(hex_arg(alloc))?
+        .arg(depth_arg(alloc))?;
     Ok(command)
 }
 
@@ -77,6 +119,7 @@ fn line_command<'a>(alloc: Global) -> Result<Command<'a>, AllocError>
     let decode = decode_command(alloc)?;
     let command = Command::new(alloc, "scaleview")
         .about("Shows SCALE values by a registry of their types")
+        .after_help(NOTES)
         .subcommand_required(true)
         .subcommand(types)?
         .subcommand(decode)?;

@@ -6,13 +6,13 @@ ghost use Rattle.scale_tool.specs.Explained.{IsStatusOf, IsStatusOfLine};
 ghost use Rattle.scale_tool.specs.Refused.{device_line};
 
 use crate::jobs::JobFault;
-use crate::moving::send;
 use crate::refusal::Device;
 use clap::Error;
 use clap::error::ErrorKind;
 use scale_core::Sink;
 use std::alloc::Global;
 use std::io::Write;
+use value_core::send;
 
 const MEMORY_LINE: &str = "scaleview: memory\n";
 

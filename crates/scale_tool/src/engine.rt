@@ -1,28 +1,28 @@
 //! The command's engine: a job over readers and writers.
 
-ghost use Rattle.std.specs.Prelude.{◌≡◌, ◌++◌, ◌∷◌, [], ◌⊎◌, true, false, None, Some, IfOk, IfErr, IfSome, IsErrOf, string_bytes};
+ghost use Rattle.std.specs.Prelude.{◌≡◌, ◌≤◌, ◌⊎◌, true, None, Some, IfOk, IfErr, IfSome, IsErrOf, string_bytes};
 ghost use Rattle.std.specs.Io.KnownBytes.{Keeps};
-ghost use Rattle.serde_json.specs.View.{view};
-ghost use Rattle.serde_json.specs.Written.{has_float};
-ghost use Rattle.scale_tool.specs.Answer.{HasFailed, OnText, ReadsNoValue, WritesAll, WritesFront, line_of, types_text, value_text};
+ghost use Rattle.json_core.specs.Json.{json_seen};
+ghost use Rattle.scale_tool.specs.Answer.{HasFailed, IsServed, OnText, ReadsNoValue, WritesAll, WritesFront, line_of, types_text, value_text};
 ghost use Rattle.scale_tool.specs.Refused.{status_of};
 
 use crate::lines::type_lines;
-use crate::moving::send;
 use crate::refusal::{Device, Refusal};
-use crate::registry::{read_types, value_type};
+use crate::registry::{read_types, read_types_with};
 use crate::task::Job;
 use crate::value::read_value;
+use json_core::to_json;
 use scale_core::{Sink, Source};
-use serde_json::Value;
 use std::alloc::{AllocError, Global};
 use std::io::{Read, Write};
+use value_core::{Value, send};
 
 /// The value's JSON and a line feed.
-fn line_text(alloc: Global, value: &Value) -> Result<String, AllocError>
-    ensures { IfOk result (λ text. has_float (view value.now) ≡ false → string_bytes text ≡ line_of (view value.now)) }
+fn line_text(alloc: Global, value: &Value<'_, Global>) -> Result<String, AllocError>
+    ensures { IfOk result (λ text. string_bytes text ≡ line_of (json_seen value.now)) }
 {
-    let mut text = value.to_string(alloc)?;
+    let json = to_json(alloc, value)?;
+    let mut text = json.to_string(alloc)?;
     text.push_str("\n")?;
     Ok(text)
 }
@@ -47,18 +47,21 @@ fn types_text<R: Read>(
 fn value_text<R: Read, V: Read>(
     alloc: Global,
     metadata: bool,
+    hex: bool,
     id: u32,
+    depth: u16,
     registry: &mut Source<R>,
     value: &mut Source<V>,
 ) -> Result<String, Refusal>
-    ensures ok { IfOk result (λ text. IfSome (R.remaining registry.old.device) (λ r. IfSome (V.remaining value.old.device) (λ v. value_text metadata id r v ≡ Some (string_bytes text)))) }
-    ensures refused { IfErr result (λ e. status_of e ≡ 1 → IfSome (R.remaining registry.old.device) (λ r. IfSome (V.remaining value.old.device) (λ v. value_text metadata id r v ≡ None))) }
+    requires { depth ≤ 1024 }
+    ensures ok { IfOk result (λ text. IfSome (R.remaining registry.old.device) (λ r. IfSome (V.remaining value.old.device) (λ v. value_text metadata hex id depth r v ≡ Some (string_bytes text)))) }
+    ensures refused { IfErr result (λ e. status_of e ≡ 1 → IfSome (R.remaining registry.old.device) (λ r. IfSome (V.remaining value.old.device) (λ v. value_text metadata hex id depth r v ≡ None))) }
     ensures device { IfErr result (λ e. HasFailed e registry.new.failed value.new.failed) }
     ensures registry { IsErrOf result (Refusal.Device Device.Registry) ⊎ (registry.new.failed ≡ registry.old.failed) }
     ensures value { IsErrOf result (Refusal.Device Device.Value) ⊎ (value.new.failed ≡ value.old.failed) }
 {
-    let primitive = value_type(alloc, metadata, id, registry)?;
-    let value = read_value(alloc, primitive, value)?;
+    let checked = read_types_with(alloc, metadata, id, registry)?;
+    let value = read_value(alloc, &checked, id, depth, hex, value)?;
     Ok(line_text(alloc, &value)?)
 }
 
@@ -69,6 +72,7 @@ fn answer<R: Read, V: Read>(
     registry: &mut Source<R>,
     value: &mut Source<V>,
 ) -> Result<String, Refusal>
+    requires { IsServed job }
     ensures ok { IfOk result (λ text. OnText job (R.remaining registry.old.device) (V.remaining value.old.device) (λ t. t ≡ Some (string_bytes text))) }
     ensures refused { IfErr result (λ e. status_of e ≡ 1 → OnText job (R.remaining registry.old.device) (V.remaining value.old.device) (λ t. t ≡ None)) }
     ensures device { IfErr result (λ e. HasFailed e registry.new.failed value.new.failed) }
@@ -78,7 +82,12 @@ fn answer<R: Read, V: Read>(
 {
     match job {
         Job::Types { metadata } => types_text(alloc, metadata, registry),
-        Job::Decode { id, metadata } => value_text(alloc, metadata, id, registry, value),
+        Job::Decode {
+            id,
+            metadata,
+            hex,
+            depth,
+        } => value_text(alloc, metadata, hex, id, depth, registry, value),
     }
 }
 
@@ -116,6 +125,9 @@ pub fn run<R: Read, V: Read, W: Write, E: Write>(
     out: &mut Sink<W>,
     err: &mut Sink<E>,
 ) -> u8
+    // The depth of a value is at most 1024.
+    requires { IsServed job }
+
     ensures status { (result ≡ 0) ⊎ ((result ≡ 1) ⊎ ((result ≡ 3) ⊎ (result ≡ 4))) }
 
     // 0 only where the whole text went out, and 1 only where there is none.

@@ -1,15 +1,17 @@
 //! The job that a command line names.
 
-ghost use Rattle.std.specs.Prelude.{◌≡◌, ◌^◌, ◌<◌, IfOk, IfErr, IfSome, IfNone, map, codes, Some, None, option_map, option_and_then, string_bytes, SomeIff};
+ghost use Rattle.std.specs.Prelude.{◌≡◌, ◌^◌, ◌<◌, ◌≤◌, ℕ, IfOk, IfErr, IfSome, IfNone, map, codes, Some, None, option_map, option_and_then, string_bytes, SomeIff};
 ghost use Rattle.std.specs.Str.Parse.{IsNumeral, digits_value};
 ghost use Rattle.clap.specs.Words.{found_of, rows_of, subcommand_of, subcommand_rows_of};
+ghost use Rattle.scale_tool.specs.Answer.{IsServed};
 ghost use Rattle.scale_tool.specs.Explained.{IsFaultOfWords};
-ghost use Rattle.scale_tool.specs.Line.{IsJob, NamesNone, line};
+ghost use Rattle.scale_tool.specs.Line.{IsJob, NamesNone, SpellsDepth, line};
 ghost use Rattle.scale_tool.specs.declared.jobs.JobFault.TheVariants.{Memory};
 
 use crate::commands::line_matches;
 use crate::task::Job;
 use clap::{ArgMatches, Error};
+use grammar_core::{Limits, MAX_DEPTH};
 use std::alloc::{AllocError, Global};
 
 /// Why a command line names no job.
@@ -17,7 +19,7 @@ use std::alloc::{AllocError, Global};
 pub enum JobFault {
     /// What `clap` says of the line: the help that it asks for, what is wrong with it, or want of memory.
     Line(Error),
-    /// ID is no number from 0 to 4294967295 in ASCII digits alone.
+    /// ID is no number from 0 to 4294967295 in ASCII digits alone, or D none from 0 to 1024.
     Usage,
     /// Memory was refused.
     Memory,
@@ -42,8 +44,25 @@ fn number_of(text: &str) -> Option<u32>
     text.parse().ok()
 }
 
+/// The depth limit that the option's text spells in ASCII digits alone, and 64 where there is no text; None where that
+/// is no number up to 1024.
+fn depth_of(text: Option<&str>) -> Option<u16>
+    ensures depth { IfSome result (λ n. SpellsDepth (option_map (λ s. s.now) text.entry) n × (n ≤ 1024)) }
+    ensures none { IfNone result ((n : ℕ) → n ≤ 1024 → SpellsDepth (option_map (λ s. s.now) text.entry) n → ⊥) }
+{
+    let Some(text) = text else {
+        return Some(Limits::default_limits().depth);
+    };
+    let depth = number_of(text)?;
+    if depth > u32::from(MAX_DEPTH) {
+        return None;
+    }
+    Some(depth as u16)
+}
+
 /// The job of `types`, with FILE.
 fn types_job<'a>(matches: &ArgMatches<'a>) -> Option<(Job, &'a str)>
+    ensures served { IfSome result (λ j. IsServed j.0) }
     ensures job { IfSome result (λ j. IsJob j.0 j.1.now None (Some (codes "types", rows_of (found_of matches.now)))) }
     ensures none { IfNone result (NamesNone (Some (codes "types", rows_of (found_of matches.now)))) }
 {
@@ -52,20 +71,30 @@ fn types_job<'a>(matches: &ArgMatches<'a>) -> Option<(Job, &'a str)>
     Some((Job::Types { metadata }, file))
 }
 
-/// The job of `decode`, with FILE and VALUEFILE; None where ID is no number.
+/// The job of `decode`, with FILE and VALUEFILE; None where ID or D is no number in its range.
 fn decode_job<'a>(matches: &ArgMatches<'a>) -> Option<(Job, &'a str, &'a str)>
+    ensures served { IfSome result (λ j. IsServed j.0) }
     ensures job { IfSome result (λ j. IsJob j.0 j.1.now (Some j.2.now) (Some (codes "decode", rows_of (found_of matches.now)))) }
     ensures none { IfNone result (NamesNone (Some (codes "decode", rows_of (found_of matches.now)))) }
 {
     let id = number_of(matches.get_str("ID")?)?;
+    let depth = depth_of(matches.get_str("depth"))?;
     let metadata = matches.get_flag("metadata");
+    let hex = matches.get_flag("hex");
     let file = matches.get_str("FILE")?;
     let value_file = matches.get_str("VALUEFILE")?;
-    Some((Job::Decode { id, metadata }, file, value_file))
+    let job = Job::Decode {
+        id,
+        metadata,
+        hex,
+        depth,
+    };
+    Some((job, file, value_file))
 }
 
-/// The job that the line's matches name, with FILE and VALUEFILE; None where ID is no number.
+/// The job that the line's matches name, with FILE and VALUEFILE; None where ID or D is no number in its range.
 fn job_of<'a>(matches: &ArgMatches<'a>) -> Option<(Job, &'a str, Option<&'a str>)>
+    ensures served { IfSome result (λ j. IsServed j.0) }
     ensures job { IfSome result (λ j. IsJob j.0 j.1.now (option_map (λ s. s.now) j.2) (subcommand_rows_of matches.now)) }
     ensures none { IfNone result (NamesNone (subcommand_rows_of matches.now)) }
 {
@@ -95,9 +124,10 @@ fn owned(alloc: Global, text: Option<&str>) -> Result<Option<String>, AllocError
 /// the first word.
 ///
 /// Refuses with `Line` where `clap` answers help or a usage error or wants memory, with `Usage` where ID is not ASCII
-/// digits alone or above 4294967295, and with `Memory` where memory is refused.
+/// digits alone or above 4294967295, or D not such digits or above 1024, and with `Memory` where memory is refused.
 pub fn job(alloc: Global, words: &[&str]) -> Result<(Job, String, Option<String>), JobFault>
     ensures ok { IfOk result (λ j. IsJob j.0 (string_bytes j.1) (option_map string_bytes j.2) (subcommand_of line (map (λ s. s.now) words.now))) }
+    ensures served { IfOk result (λ j. IsServed j.0) }
     ensures err { IfErr result (IsFaultOfWords (map (λ s. s.now) words.now)) }
 {
     match line_matches(alloc, words) {

@@ -4,10 +4,10 @@
 mod commands;
 mod early_exit;
 mod engine;
+mod gathering;
+mod hex_text;
 mod jobs;
 mod lines;
-mod moving;
-mod primitive;
 mod refusal;
 mod registry;
 mod task;

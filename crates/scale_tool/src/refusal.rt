@@ -1,11 +1,11 @@
 //! Why the command answers nothing: the line that it tells on standard error, and its exit status.
 
 ghost use Rattle.std.specs.Prelude.{◌≡◌, IfNone, option_map};
-ghost use Rattle.scale_tool.specs.Refused.{device_line, fixed_line, refusal_of_check, refusal_of_registry, status_of};
-ghost use Rattle.scale_tool.specs.declared.refusal.Refusal.TheVariants.{Value, Memory};
+ghost use Rattle.scale_tool.specs.Refused.{device_line, fixed_line, refusal_of_check, refusal_of_registry, refusal_of_value, status_of};
+ghost use Rattle.scale_tool.specs.declared.refusal.Refusal.TheVariants.{Memory};
 
+use decode_core::{DecodeFault, DecodeReason};
 use registry_core::{RegistryFault, RegistryReason};
-use scale_core::Fault;
 use std::alloc::{AllocError, AllocFailed};
 use thiserror::Error;
 use widths_core::CheckFault;
@@ -39,6 +39,17 @@ pub(crate) struct UnknownReference {
     pub(crate) to: u32,
 }
 
+/// Why a text of hexadecimal digits holds no bytes, and where in its file.
+#[derive(Clone, Copy, Debug, PartialEq, Eq, Error)]
+pub(crate) enum HexFault {
+    /// The digits are odd in number. The place is their end.
+    #[error("OddHex at {0}")]
+    Odd(u64),
+    /// A byte that is no digit.
+    #[error("BadHex at {0}")]
+    Bad(u64),
+}
+
 /// Why there is no answer. Its text is the line on standard error without `scaleview: ` in front.
 #[derive(Clone, Copy, Debug, PartialEq, Eq, Error)]
 pub(crate) enum Refusal {
@@ -50,15 +61,12 @@ pub(crate) enum Refusal {
     Check(UnknownReference),
     #[error("type: UnknownType {0}")]
     UnknownType(u32),
-    /// A type whose values the command does not show yet.
-    #[error("value: Unsupported at 0")]
-    UnsupportedValue,
     #[error("value: {0}")]
-    Value(Fault),
+    Hex(HexFault),
+    #[error("value: {0}")]
+    Value(DecodeFault),
     #[error("value: TrailingBytes at {0}")]
     TrailingValue(u64),
-    #[error("value: TooLong at {0}")]
-    TooLong(u64),
     #[error("device")]
     Device(Device),
     #[error("memory")]
@@ -115,11 +123,14 @@ impl From<CheckFault> for Refusal {
     }
 }
 
-impl From<Fault> for Refusal {
-    ghost from_gives = { λ f r. r ≡ Value f };
+impl From<DecodeFault> for Refusal {
+    ghost from_gives = { λ f r. r ≡ refusal_of_value f };
 
-    fn from(fault: Fault) -> Refusal {
-        Refusal::Value(fault)
+    fn from(fault: DecodeFault) -> Refusal {
+        match fault.reason {
+            DecodeReason::OutOfMemory => Refusal::Memory,
+            _ => Refusal::Value(fault),
+        }
     }
 }
 

@@ -1,14 +1,13 @@
-//! The registry of a job, checked, and the type that the job is about.
+//! The registry of a job, checked.
 
-ghost use Rattle.std.specs.Prelude.{◌≡◌, ◌⊎◌, true, None, Some, IfOk, IfErr, IfSome, IsErrOf};
-ghost use Rattle.scale_tool.specs.Answer.{IsOfRegistry, checked_of, primitive_in, type_of, types_of, unless_fault};
+ghost use Rattle.std.specs.Prelude.{◌≡◌, ◌⊎◌, ◌<◌, length, true, None, Some, IfOk, IfErr, IfSome, IsErrOf};
+ghost use Rattle.scale_tool.specs.Answer.{IsOfRegistry, checked_of, types_of, types_with, unless_fault, with_position};
 ghost use Rattle.scale_tool.specs.Refused.{status_of};
 ghost use Rattle.widths_core.specs.References.{first_fault};
 
-use crate::moving::gather_all;
-use crate::primitive::Primitive;
+use crate::gathering::gather_all;
 use crate::refusal::{Device, Refusal};
-use registry_core::{Registry, read_metadata, read_registry};
+use registry_core::{Registry, TypeId, read_metadata, read_registry};
 use scale_core::Source;
 use std::alloc::Global;
 use std::io::Read;
@@ -70,33 +69,31 @@ pub(crate) fn read_types<R: Read>(
     }
 }
 
-/// The primitive type at the position.
-fn primitive_at(checked: &Checked, id: u32) -> Result<Primitive, Refusal>
-    ensures ok { IfOk result (λ p. primitive_in id checked.now ≡ Some p) }
-    ensures err { IfErr result (λ e. (status_of e ≡ 1) × (primitive_in id checked.now ≡ None)) }
+/// The registry, where the position is one of its types.
+fn with_position(checked: Checked, id: u32) -> Result<Checked, Refusal>
+    ensures ok { IfOk result (λ types. with_position id checked ≡ Some types) }
+    ensures err { IfErr result (λ e. (e ≡ Refusal.UnknownType id) × (with_position id checked ≡ None)) }
 {
-    let Some(info) = checked.registry().types().get(id as usize) else {
-        return Err(Refusal::UnknownType(id));
-    };
-    match Primitive::of(&info.shape) {
-        Some(primitive) => Ok(primitive),
-        None => Err(Refusal::UnsupportedValue),
+    match checked.class(TypeId(id)) {
+        Some(_) => Ok(checked),
+        None => Err(Refusal::UnknownType(id)),
     }
 }
 
-/// The type of the value at this position.
-pub(crate) fn value_type<R: Read>(
+/// The registry that the source holds, checked, where the position is one of its types.
+pub(crate) fn read_types_with<R: Read>(
     alloc: Global,
     metadata: bool,
     id: u32,
     source: &mut Source<R>,
-) -> Result<Primitive, Refusal>
-    ensures ok { IfOk result (λ p. IfSome (R.remaining source.old.device) (λ bytes. type_of metadata id bytes ≡ Some p)) }
-    ensures refused { IfErr result (λ e. status_of e ≡ 1 → IfSome (R.remaining source.old.device) (λ bytes. type_of metadata id bytes ≡ None)) }
+) -> Result<Checked, Refusal>
+    ensures known { IfOk result (λ types. id < length types) }
+    ensures ok { IfOk result (λ types. IfSome (R.remaining source.old.device) (λ bytes. types_with metadata id bytes ≡ Some types)) }
+    ensures refused { IfErr result (λ e. status_of e ≡ 1 → IfSome (R.remaining source.old.device) (λ bytes. types_with metadata id bytes ≡ None)) }
     ensures device { IfErr result (λ e. status_of e ≡ 3 → e ≡ Refusal.Device Device.Registry) }
     ensures told { IsErrOf result (Refusal.Device Device.Registry) → source.new.failed ≡ true }
     ensures quiet { IsErrOf result (Refusal.Device Device.Registry) ⊎ (source.new.failed ≡ source.old.failed) }
 {
     let checked = read_types(alloc, metadata, source)?;
-    primitive_at(&checked, id)
+    with_position(checked, id)
 }

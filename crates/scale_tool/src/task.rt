@@ -10,8 +10,13 @@ pub enum Job {
     },
     /// Shows the value of the type at position `id` as JSON.
     Decode {
+        /// The position of the value's type in the registry.
         id: u32,
         /// Does the registry stand behind the prefix of metadata?
         metadata: bool,
+        /// Does the value's file hold hexadecimal digits, and not the bytes themselves?
+        hex: bool,
+        /// The greatest depth of a part of the value, at most 1024; the value itself has depth 0.
+        depth: u16,
     },
 }

@@ -1,0 +1,73 @@
+//! All bytes of a source, gathered in a vector.
+
+ghost use Rattle.std.specs.Prelude.{◌≡◌, ◌+◌, ◌++◌, ◌<◌, ◌≤◌, ◌⊎◌, true, length, vec_len, IfOk, IfSome, OnOk, IsErrOf};
+ghost use Rattle.std.specs.Io.KnownBytes.{IsAtEnd};
+ghost use Rattle.scale_tool.specs.Moved.{Takes};
+ghost use Rattle.scale_tool.specs.Refused.{refusal_of};
+
+use crate::refusal::{Device, Refusal};
+use scale_core::Source;
+use std::alloc::Global;
+use std::io::Read;
+
+/// How many bytes one read asks for at most.
+const PIECE: usize = 4096;
+
+/// Why bytes were not gathered.
+#[derive(Clone, Copy, Debug, PartialEq, Eq)]
+pub(crate) enum GatherFault {
+    Device,
+    Memory,
+}
+
+impl GatherFault {
+    /// The refusal of an input that this device gives.
+    pub(crate) fn of(self, device: Device) -> Refusal
+        ensures { result ≡ refusal_of self device }
+    {
+        match self {
+            GatherFault::Device => Refusal::Device(device),
+            GatherFault::Memory => Refusal::Memory,
+        }
+    }
+}
+
+/// One read into the part, whose bytes are appended: how many there were, where 0 is the end.
+fn pull_onto<R: Read>(
+    source: &mut Source<R>,
+    part: &mut [u8],
+    out: &mut Vec<u8>,
+) -> Result<usize, GatherFault>
+    requires { 0 < length part.old }
+    ensures count { IfOk result (λ n. n ≤ length part.old) }
+    ensures bytes { IfOk result (λ n. Takes (R.remaining source.old.device) (R.remaining source.new.device) out.old.items out.new.items n) }
+    ensures grown { IfOk result (λ n. vec_len out.new ≡ vec_len out.old + n) }
+    ensures end { IfOk result (λ n. n ≡ 0 → IsAtEnd (R.remaining source.new.device)) }
+    ensures told { IsErrOf result GatherFault.Device → source.new.failed ≡ true }
+    ensures quiet { IsErrOf result GatherFault.Device ⊎ (source.new.failed ≡ source.old.failed) }
+{
+    match source.pull(part) {
+        Ok(count) => match out.extend_from_slice(&part[..count]) {
+            Ok(()) => Ok(count),
+            Err(_) => Err(GatherFault::Memory),
+        },
+        Err(_) => Err(GatherFault::Device),
+    }
+}
+
+/// Appends all bytes that are left.
+pub(crate) fn gather_all<R: Read>(
+    source: &mut Source<R>,
+    out: &mut Vec<u8>,
+) -> Result<(), GatherFault>
+    ensures ok { OnOk result (IfSome (R.remaining source.old.device) (λ bytes. out.new.items ≡ out.old.items ++ bytes)) }
+    ensures told { IsErrOf result GatherFault.Device → source.new.failed ≡ true }
+    ensures quiet { IsErrOf result GatherFault.Device ⊎ (source.new.failed ≡ source.old.failed) }
+{
+    let mut part = [0u8; PIECE];
+    'pieces: loop {
+        if pull_onto(source, &mut part, out)? == 0 {
+            return Ok(());
+        }
+    }
+}

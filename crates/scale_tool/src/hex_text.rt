@@ -1,0 +1,65 @@
+//! Bytes from a text of hexadecimal digits.
+
+ghost use Rattle.std.specs.Prelude.{◌≡◌, ◌≤◌, length, IfOk, IfErr, Ok};
+ghost use Rattle.scale_tool.specs.HexText.{IsOfHex, back_over, digits_end, hex_bytes, prefix_len};
+
+use crate::refusal::{HexFault, Refusal};
+use hex::FromHexError;
+use std::alloc::Global;
+
+/// How many bytes stand in front of the digits: two where the text has `0x` there.
+fn prefix_len(text: &[u8]) -> usize
+    ensures value { result ≡ prefix_len text.now }
+    ensures bound { result ≤ length text.now }
+{
+    if text.starts_with(b"0x") { 2 } else { 0 }
+}
+
+/// The place of the byte before `end`, where it is this one, and else `end`.
+fn back_over(text: &[u8], end: usize, byte: u8) -> usize
+    requires { end ≤ length text.now }
+    ensures value { result ≡ back_over text.now end byte }
+    ensures bound { result ≤ end }
+{
+    if end > 0 && text[end - 1] == byte {
+        end - 1
+    } else {
+        end
+    }
+}
+
+/// Where the line end of the text begins, or the text's length where it has none.
+fn digits_end(text: &[u8]) -> usize
+    ensures value { result ≡ digits_end text.now }
+    ensures bound { result ≤ length text.now }
+{
+    let line = back_over(text, text.len(), b'\n');
+    if line == text.len() {
+        return line;
+    }
+    back_over(text, line, b'\r')
+}
+
+/// The bytes whose digits the text holds: behind an optional `0x`, two hexadecimal digits of either case for each byte,
+/// and an optional line end, LF or CR and LF.
+///
+/// Refuses an odd number of bytes between prefix and line end as `Odd` at the end of them, else the first of them that
+/// is no digit as `Bad` at its place in the text, and want of memory as `Memory`.
+pub(crate) fn hex_bytes(alloc: Global, text: &[u8]) -> Result<Vec<u8>, Refusal>
+    ensures ok { IfOk result (λ bytes. hex_bytes text.now ≡ Ok bytes.items) }
+    ensures err { IfErr result (IsOfHex (hex_bytes text.now)) }
+{
+    let start = prefix_len(text);
+    let rest = &text[start..];
+    let end = digits_end(rest);
+    let odd = Refusal::Hex(HexFault::Odd((start + end) as u64));
+    match hex::decode(alloc, &rest[..end]) {
+        Ok(bytes) => Ok(bytes),
+        Err(FromHexError::InvalidHexCharacter { index, .. }) => {
+            Err(Refusal::Hex(HexFault::Bad((start + index) as u64)))
+        }
+        Err(FromHexError::OddLength) => Err(odd),
+        Err(FromHexError::InvalidStringLength) => Err(odd),
+        Err(FromHexError::OutOfMemory) => Err(Refusal::Memory),
+    }
+}
