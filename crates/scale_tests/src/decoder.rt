@@ -30,6 +30,10 @@ const NEVER: &[u8] = b"\x08\x00\x00\x00\x01\x00\x00\x04\x00\x00\x02\x00\x00";
 
 const U16: &[u8] = b"\x04\x00\x00\x00\x05\x04\x00";
 
+/// The type 2 is a sequence of sequences of units.
+const UNITS_IN_UNITS: &[u8] =
+    b"\x0c\x00\x00\x00\x04\x00\x00\x04\x00\x00\x02\x00\x00\x08\x00\x00\x02\x04\x00";
+
 const AMPLE: Limits = Limits {
     depth: 64,
     bytes: 16_777_216,
@@ -574,5 +578,26 @@ fn a_heap_of_fixed_size_bounds_a_decoder(rt: HostRuntime) -> Result<(), Fail> {
     drop(full);
     let mut next = open(&heap, &checked, &Row { ty: 0, ..claim })?;
     assert_eq!(rt; next.feed(b"\x2a"), Ok(Progress::Done { used: 1 }));
+    Ok(())
+}
+
+// A sequence of units is one node, however many it claims.
+#[test]
+fn counts_are_no_nodes(rt: HostRuntime) -> Result<(), Fail> {
+    let alloc = rt.alloc();
+    let checked = checked(alloc, UNITS_IN_UNITS)?;
+    let Ok(mut decoder) = Decoder::new(alloc, &checked, TypeId(2), AMPLE) else {
+        return Err("no decoder")?;
+    };
+    assert_eq!(rt; decoder.feed(b"\xa1\x0f"), MORE);
+    'elements: for element in 1..1000_u64 {
+        assert_eq!(rt; decoder.feed(b"\x03\xff\xff\xff\xff"), MORE);
+        assert_eq!(rt; held(&decoder), (element + 1, 0, 5 * element + 2));
+    }
+    assert_eq!(rt;
+        decoder.feed(b"\x03\xff\xff\xff\xff"),
+        Ok(Progress::Done { used: 5 })
+    );
+    assert_eq!(rt; held(&decoder), (1001, 0, 5002));
     Ok(())
 }
