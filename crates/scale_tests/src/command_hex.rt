@@ -1,6 +1,9 @@
 //! Values whose files hold hexadecimal text, and what is refused in such a text.
 
-use crate::command_row::{BOOL, STR, U8, U16, check_row, in_hex, refused, shown};
+use crate::command_row::{BOOL, STR, U8, U16, check_row, in_hex, refused, shown, within};
+use crate::paced::{PacedReader, Then};
+use scale_core::{Sink, Source};
+use scale_tool::{Job, run};
 
 #[test]
 fn texts_of_digits_are_shown(rt: HostRuntime) {
@@ -93,6 +96,16 @@ fn texts_without_bytes_are_refused(rt: HostRuntime) {
             b"2a\r",
             "scaleview: value: OddHex at 3\n",
         ),
+        within(
+            &refused(
+                "no digit where no part may be below the value",
+                STR,
+                0,
+                b"zz",
+                "scaleview: value: BadHex at 0\n",
+            ),
+            0,
+        ),
         refused(
             "a space before the digits",
             U8,
@@ -158,4 +171,29 @@ fn places_behind_digits_count_bytes(rt: HostRuntime) {
         check_row(&rt, &in_hex(row), 1);
         check_row(&rt, &in_hex(row), 4096);
     }
+}
+
+/// A text that cannot be read to its end is no text that holds no bytes.
+#[test]
+fn a_failed_read_is_told_before_the_digits(rt: HostRuntime) {
+    let mut value = Source::new(PacedReader::new(b"0x2", 1, Then::Fails));
+    let mut out = Sink::new(Vec::new(rt.alloc()));
+    let mut err = Sink::new(Vec::new(rt.alloc()));
+    let status = run(
+        rt.alloc(),
+        Job::Decode {
+            id: 0,
+            metadata: false,
+            hex: true,
+            depth: 64,
+        },
+        &mut Source::new(U8),
+        &mut value,
+        &mut out,
+        &mut err,
+    );
+    assert_eq!(rt; status, 3);
+    assert_eq!(rt; value.failed(), true);
+    let told = err.into_inner();
+    assert_eq!(rt; told.as_slice(), b"scaleview: device: value\n".as_slice());
 }

@@ -27,7 +27,10 @@ fn words_name_a_value(rt: HostRuntime) -> Result<(), Fail> {
         ("decode r 3 v --depth 2", decode(3, false, false, 2)),
         ("decode r 3 v --depth=0", decode(3, false, false, 0)),
         ("decode --depth 1024 r 3 v", decode(3, false, false, 1024)),
-        ("decode r 3 v --depth 0064", decode(3, false, false, 64)),
+        (
+            "decode r 00000000003 v --depth 000000000064",
+            decode(3, false, false, 64),
+        ),
         ("decode r 3 v --hex", decode(3, false, true, 64)),
         (
             "decode --hex r 3 --metadata v --depth 7",
@@ -184,6 +187,29 @@ fn words_that_name_no_job_are_told(rt: HostRuntime) -> Result<(), Fail> {
             ["scaleview", "decode", "r", "3", "v", "--depth", "-1"].as_slice(),
             2,
             "-1",
+            "",
+        ),
+        (
+            ["scaleview", "decode", "r", "3", "v", "--hex", "--hex"].as_slice(),
+            2,
+            "--hex",
+            "",
+        ),
+        (
+            [
+                "scaleview",
+                "decode",
+                "r",
+                "3",
+                "v",
+                "--depth",
+                "2",
+                "--depth",
+                "2",
+            ]
+            .as_slice(),
+            2,
+            "--depth",
             "",
         ),
         (
