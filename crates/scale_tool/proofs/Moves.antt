@@ -1,18 +1,10 @@
 -- Bytes that move in parts move as a whole.
 use Rattle.std.proofs.Common.{refl, ◌≡◌, ℕ, ◌+◌, ◌≤◌, List, ◌++◌, length, take, drop, Option, Some, None, append_assoc, sym, ◌∙◌, ap, arith}
 use Rattle.std.proofs.Math.Seq.{take-add}
-use Rattle.std.proofs.lemmas.List.{take_all, take_at, drop_at, drop_all, drop-drop, length-take, length-drop}
+use Rattle.std.proofs.lemmas.List.{take_all, take_at, drop_at, drop-drop, length-take, length-drop}
 use Rattle.std.specs.Prelude.{IfSome}
-use Rattle.std.specs.Io.KnownBytes.{Appends, Consumes, IsAtEnd}
+use Rattle.std.specs.Io.KnownBytes.{Consumes, IsAtEnd}
 use Rattle.scale_tool.specs.Moved.{Takes}
-
--- two appends of neighbouring parts are one
-pub appends_next : (a b c : Option (List ℕ)) (xs : List ℕ) (w n : ℕ) → Appends a b (take w xs) → Appends b c (take n (drop w xs)) → Appends a c (take (w + n) xs)
-appends_next None b c xs w n p q = tt
-appends_next (Some a) None c xs w n p q = absurd p
-appends_next (Some a) (Some b) None xs w n p q = absurd q
-appends_next (Some a) (Some b) (Some c) xs w n p q =
-    q ∙ ap (λ v. v ++ take n (drop w xs)) p ∙ append_assoc a (take w xs) (take n (drop w xs)) ∙ ap (λ v. a ++ v) (sym (take-add w n xs))
 
 -- what a reader lost is what it had on its front
 pub takes_front : (a b : Option (List ℕ)) (old new part : List ℕ) (n : ℕ) → n ≤ length part → Consumes a b (take n part) → new ≡ old ++ take n part → Takes a b old new n
@@ -31,14 +23,6 @@ takes_next (Some xs) (Some ys) (Some zs) x y z m n k is p q = (
   q.0 ∙ ap (λ v. v ++ take n ys) p.0 ∙ append_assoc x (take m xs) (take n ys) ∙ ap (λ v. x ++ (take m xs ++ take n v)) p.1 ∙ ap (λ v. x ++ v) (sym (take-add m n xs)) ∙ ap (λ v. x ++ take v xs) (sym is),
   q.1 ∙ ap (drop n) p.1 ∙ drop-drop n m xs ∙ ap (λ v. drop v xs) (sym is),
 )
-
--- nothing is left: more could not be taken
-pub takes_rest : (a b : Option (List ℕ)) (old new : List ℕ) (m n : ℕ) → m ≤ n → Takes a b old new m → IsAtEnd b → Takes a b old new n
-takes_rest None b old new m n le p end = tt
-takes_rest (Some xs) None old new m n le p end = absurd p
-takes_rest (Some xs) (Some ys) old new m n le p end =
-    let short : length xs ≤ m = omega (arith, length-drop m xs, ap length (sym p.1 ∙ end)) in
-    (p.0 ∙ ap (λ v. old ++ v) (take_all m xs short ∙ sym (take_all n xs (omega arith))), end ∙ sym (drop_all n xs (omega arith)))
 
 -- nothing is left: all was taken
 pub takes_all : (a b : Option (List ℕ)) (old new : List ℕ) (m : ℕ) → Takes a b old new m → IsAtEnd b → IfSome a (λ bytes. new ≡ old ++ bytes)
