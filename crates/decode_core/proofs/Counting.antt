@@ -1,5 +1,5 @@
 -- How many turns there were, by the bytes that were taken and the nodes that were added.
-use Rattle.std.proofs.Common.{◌≡◌, ℕ, suc, ◌+◌, ◌-◌, ◌≤◌, List, [], ◌++◌, length, take, Ok, Err, refl, sym, ap, subst, ◌∙◌, arith, inl, inr, length-append}
+use Rattle.std.proofs.Common.{◌≡◌, ℕ, suc, ◌+◌, ◌*◌, ◌-◌, ◌≤◌, List, [], ◌++◌, length, take, Ok, Err, refl, sym, ap, subst, ◌∙◌, arith, inl, inr, length-append}
 use Rattle.std.proofs.lemmas.List.{append-nil, length-map, length-take, take_all}
 use Rattle.registry_core.specs.declared.type_info.TypeInfo.{TypeInfo}
 use Rattle.widths_core.specs.Widths.{widest}
@@ -72,23 +72,23 @@ reached_few j b s last n x (inr h) m =
 -- ---- the turns on a piece
 
 -- with n bytes taken in all, which are no fewer than those that the turns took
-counts_end : (j : Job) (b slice : List ℕ) (s last : Running) (taken k n from to calls : ℕ) → RunLed j b taken (Ok s) → Moves s last (take k slice) → FewTurns s last k from to → from ≤ taken + length s.built.entries + calls → taken + k ≤ n → to ≤ n + node_bound n j.depth (widest j.registry) + suc calls
+counts_end : (j : Job) (b slice : List ℕ) (s last : Running) (taken k n from to calls : ℕ) → RunLed j b taken (Ok s) → Moves s last (take k slice) → FewTurns s last k from to → from ≤ taken + 2 * length s.built.entries + calls → taken + k ≤ n → to ≤ n + 2 * node_bound n j.depth (widest j.registry) + suc calls
 counts_end j b slice s last taken k n from to calls led moves few before within =
     let cut : taken + length (take k slice) ≤ n = omega (arith, within, length-take k slice) in
     omega (arith, few.1, before, within, reached_few j b s last taken (take k slice) led moves, more_bytes (taken + length (take k slice)) n j.depth (widest j.registry) cut)
 
-pub counts_short : (j : Job) (b slice : List ℕ) (s : Running) (taken k from to calls : ℕ) → RunLed j b taken (Ok s) → StopsShort s slice k from to → from ≤ taken + length s.built.entries + calls → to ≤ taken + k + node_bound (taken + k) j.depth (widest j.registry) + suc calls
+pub counts_short : (j : Job) (b slice : List ℕ) (s : Running) (taken k from to calls : ℕ) → RunLed j b taken (Ok s) → StopsShort s slice k from to → from ≤ taken + 2 * length s.built.entries + calls → to ≤ taken + k + 2 * node_bound (taken + k) j.depth (widest j.registry) + suc calls
 counts_short j b slice s taken k from to calls led short before = counts_end j b slice s short.last taken k (taken + k) from to calls led short.moves short.few before (omega arith)
 
 pub counts_refused : (j : Job) (b slice : List ℕ) (s new : Running) (taken k held : ℕ) (told_reason : DecodeReason) (at len from to calls : ℕ) (why : Stopped) → RunLed j b taken (Ok s) → FeedTells s new slice k why → why ≡ stop.Refused held told_reason at len → held ≤ taken + k → StopCounts s new slice from to k why →
-    from ≤ taken + length s.built.entries + calls → to ≤ taken + k - held + len + node_bound (taken + k - held + len) j.depth (widest j.registry) + suc calls
+    from ≤ taken + 2 * length s.built.entries + calls → to ≤ taken + k - held + len + 2 * node_bound (taken + k - held + len) j.depth (widest j.registry) + suc calls
 counts_refused j b slice s new taken k held told_reason at len from to calls why led f w within counts before =
     let g = subst (FeedTells s new slice k) w f in
     let short = subst (StopCounts s new slice from to k) w counts in
     counts_end j b slice s short.last taken k (taken + k - held + len) from to calls led short.moves short.few before (omega (arith, within, g.1.2.8))
 
-pub counts_long : (j : Job) (b piece slice : List ℕ) (s new : Running) (limit taken k from to calls : ℕ) (why : Stopped) → j.bytes ≡ limit → slice ≡ take (limit - taken) piece → RunLed j b taken (Ok s) → FeedTells s new slice k why → why ≡ stop.Wants → StopCounts s new slice from to k why → from ≤ taken + length s.built.entries + calls →
-    to ≤ limit + node_bound limit j.depth (widest j.registry) + suc calls
+pub counts_long : (j : Job) (b piece slice : List ℕ) (s new : Running) (limit taken k from to calls : ℕ) (why : Stopped) → j.bytes ≡ limit → slice ≡ take (limit - taken) piece → RunLed j b taken (Ok s) → FeedTells s new slice k why → why ≡ stop.Wants → StopCounts s new slice from to k why → from ≤ taken + 2 * length s.built.entries + calls →
+    to ≤ limit + 2 * node_bound limit j.depth (widest j.registry) + suc calls
 counts_long j b piece slice s new limit taken k from to calls why e is led f w counts before =
     let g = subst (FeedTells s new slice k) w f in
     let few : FewTurns s new k from to = subst (StopCounts s new slice from to k) w counts in

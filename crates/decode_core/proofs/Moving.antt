@@ -1,5 +1,5 @@
 -- One turn behind the other.
-use Rattle.std.proofs.Common.{◌≡◌, ℕ, ◌+◌, ◌-◌, ◌<◌, ◌≤◌, List, [], ◌++◌, length, take, drop, refl, sym, ap, subst, ◌∙◌, append_assoc, arith, inl, inr, length-drop}
+use Rattle.std.proofs.Common.{◌≡◌, ℕ, suc, ◌+◌, ◌*◌, ◌-◌, ◌<◌, ◌≤◌, ◌⊎◌, List, [], ◌++◌, length, take, drop, refl, sym, ap, subst, ◌∙◌, append_assoc, arith, inl, inr, length-drop}
 use Rattle.std.proofs.lemmas.List.{append-nil, drop-drop, take_rest, take-append-drop, length-take}
 use Rattle.std.proofs.Math.Seq.{take-add}
 use Rattle.registry_core.specs.declared.type_info.TypeInfo.{TypeInfo}
@@ -90,18 +90,26 @@ turn_nearer b c piece at n k =
 
 -- ---- the turns are counted
 
-few_by : (old a b : Running) (bytes : List ℕ) (from so_far to at n : ℕ) → n ≡ length bytes → so_far + length old.built.entries ≤ from + at + length a.built.entries → to ≡ so_far + 1 → Steps a b bytes → to + length old.built.entries ≤ from + (at + n) + length b.built.entries
-few_by old a b bytes from so_far to at n count h is (inl k) = omega (arith, count, h, is, k.0, ap (λ (s : State). length s.nodes) k.1)
-few_by old a b bytes from so_far to at n count h is (inr k) = omega (arith, h, is, k.2)
+grows_by : (a b : Running) (bytes : List ℕ) → Steps a b bytes → (length b.built.entries ≡ length a.built.entries) ⊎ (length b.built.entries ≡ suc (length a.built.entries))
+grows_by a b bytes (inl k) = inl (ap (λ (s : State). length s.nodes) k.1)
+grows_by a b bytes (inr k) = inr k.2
 
--- a turn that goes on takes a byte or adds a node
-pub few_on : (old a b : Running) (piece : List ℕ) (from so_far to at n : ℕ) → so_far + length old.built.entries ≤ from + at + length a.built.entries → to ≡ so_far + 1 → StepTells a b piece (turned.On n) → to + length old.built.entries ≤ from + (at + n) + length b.built.entries
-few_on old a b piece from so_far to at n h is k = few_by old a b (take n piece) from so_far to at n (omega (arith, length-take n piece, k.0)) h is k.2
+-- a turn that adds a node counts twice
+pub each_added : (old a b : Running) (piece : List ℕ) (from so_far one two n : ℕ) → from + 2 * length a.built.entries ≤ so_far + 2 * length old.built.entries → one ≡ so_far + 1 → two ≡ one + 1 → StepTells a b piece (turned.On n) → from + 2 * length b.built.entries ≤ two + 2 * length old.built.entries
+each_added old a b piece from so_far one two n h is then k = elim (grows_by a b (take n piece) k.2) [ inl same ↦ omega (arith, h, is, then, same) | inr more ↦ omega (arith, h, is, then, more) ]
 
-each_by : (old a b : Running) (bytes : List ℕ) (from so_far to : ℕ) → from + length a.built.entries ≤ so_far + length old.built.entries → to ≡ so_far + 1 → Steps a b bytes → from + length b.built.entries ≤ to + length old.built.entries
-each_by old a b bytes from so_far to h is (inl k) = omega (arith, h, is, ap (λ (s : State). length s.nodes) k.1)
-each_by old a b bytes from so_far to h is (inr k) = omega (arith, h, is, k.2)
+pub few_added : (old a b : Running) (piece : List ℕ) (from so_far one two at n : ℕ) → so_far + 2 * length old.built.entries ≤ from + at + 2 * length a.built.entries → one ≡ so_far + 1 → two ≡ one + 1 → length a.built.entries < length b.built.entries → StepTells a b piece (turned.On n) → two + 2 * length old.built.entries ≤ from + (at + n) + 2 * length b.built.entries
+few_added old a b piece from so_far one two at n h is then more k = omega (arith, h, is, then, more)
 
--- and adds no more than one
-pub each_on : (old a b : Running) (piece : List ℕ) (from so_far to n : ℕ) → from + length a.built.entries ≤ so_far + length old.built.entries → to ≡ so_far + 1 → StepTells a b piece (turned.On n) → from + length b.built.entries ≤ to + length old.built.entries
-each_on old a b piece from so_far to n h is k = each_by old a b (take n piece) from so_far to h is k.2
+-- and another, which takes bytes, once
+pub each_held : (old a b : Running) (piece : List ℕ) (from so_far one n : ℕ) → from + 2 * length a.built.entries ≤ so_far + 2 * length old.built.entries → one ≡ so_far + 1 → length b.built.entries ≤ length a.built.entries → StepTells a b piece (turned.On n) → from + 2 * length b.built.entries ≤ one + 2 * length old.built.entries
+each_held old a b piece from so_far one n h is few k = omega (arith, h, is, few)
+
+held_by : (a b : Running) (bytes : List ℕ) → length b.built.entries ≤ length a.built.entries → Steps a b bytes → 1 ≤ length bytes
+held_by a b bytes few (inl k) = k.0
+held_by a b bytes few (inr k) = absurd (omega (arith, few, k.2))
+
+pub few_held : (old a b : Running) (piece : List ℕ) (from so_far one at n : ℕ) → so_far + 2 * length old.built.entries ≤ from + at + 2 * length a.built.entries → one ≡ so_far + 1 → length b.built.entries ≤ length a.built.entries → StepTells a b piece (turned.On n) → one + 2 * length old.built.entries ≤ from + (at + n) + 2 * length b.built.entries
+few_held old a b piece from so_far one at n h is few k =
+    let taken = held_by a b (take n piece) few k.2 in
+    elim (grows_by a b (take n piece) k.2) [ inl same ↦ omega (arith, h, is, same, taken, length-take n piece, k.0) | inr more ↦ absurd (omega (arith, few, more)) ]

@@ -1,5 +1,5 @@
 -- What contracts see of a decoder, and which bytes have led to it.
-use Rattle.std.specs.Prelude.{◌≡◌, ℕ, suc, ◌+◌, ◌-◌, ◌≤◌, ◌^◌, ◌⊎◌, List, [], ◌++◌, length, map, Result, Ok, Err, true, Option, Some, None, nat_lt, not, ◌||◌, if◌then◌else◌}
+use Rattle.std.specs.Prelude.{◌≡◌, ℕ, suc, ◌+◌, ◌*◌, ◌-◌, ◌≤◌, ◌^◌, ◌⊎◌, List, [], ◌++◌, length, map, Result, Ok, Err, true, Option, Some, None, nat_lt, not, ◌||◌, if◌then◌else◌}
 use Rattle.scale_core.specs.Number.{AreBytes}
 use Rattle.registry_core.specs.declared.type_info.TypeInfo.{TypeInfo}
 use Rattle.grammar_core.specs.Preorder.{tree_of}
@@ -114,10 +114,11 @@ abbrev pub HoldsAt : Decoding → List ℕ → Result Progress DecodeFault → T
 HoldsAt d b (Ok progress.More) = (s : Running) × (d.run ≡ Ok s) × HoldsOf d.job b s
 HoldsAt d b _ = Unit {0}
 
--- each node and each call has a turn of its own, and each other turn took a byte; where a value is refused, its nodes are gone
+-- each node has two turns of its own, one that adds and one that closes it, each call has one, and each other turn took a byte; where a
+-- value is refused, its nodes are gone
 abbrev pub RunCounted : Job → ℕ → Result Running DecodeFault → ℕ → ℕ → Type 0
-RunCounted j n (Ok s) turns calls = (length s.built.entries + calls ≤ turns) × (turns ≤ n + length s.built.entries + calls)
-RunCounted j n (Err f) turns calls = turns ≤ n + node_bound n j.depth (widest j.registry) + calls
+RunCounted j n (Ok s) turns calls = (2 * length s.built.entries + calls ≤ turns) × (turns ≤ n + 2 * length s.built.entries + calls)
+RunCounted j n (Err f) turns calls = turns ≤ n + 2 * node_bound n j.depth (widest j.registry) + calls
 
 abbrev pub IsCounted : Decoding → Type 0
 IsCounted d = RunCounted d.job d.taken d.run d.turns d.calls
@@ -145,9 +146,9 @@ RunAnswers j b taken new (fed.Ended f n) = IsEnded j b f n
 
 -- how many turns there were after a piece
 abbrev pub FedCounts : Job → Running → ℕ → ℕ → ℕ → Fed → Type 0
-FedCounts j new taken turns calls (fed.More n) = (length new.built.entries + calls ≤ turns) × (turns ≤ n + length new.built.entries + calls)
-FedCounts j new taken turns calls (fed.Done used) = (length new.built.entries + calls ≤ turns) × (turns ≤ taken + used + length new.built.entries + calls)
-FedCounts j new taken turns calls (fed.Ended f n) = turns ≤ n + node_bound n j.depth (widest j.registry) + calls
+FedCounts j new taken turns calls (fed.More n) = (2 * length new.built.entries + calls ≤ turns) × (turns ≤ n + 2 * length new.built.entries + calls)
+FedCounts j new taken turns calls (fed.Done used) = (2 * length new.built.entries + calls ≤ turns) × (turns ≤ taken + used + 2 * length new.built.entries + calls)
+FedCounts j new taken turns calls (fed.Ended f n) = turns ≤ n + 2 * node_bound n j.depth (widest j.registry) + calls
 
 -- where the value is told to be whole it is there
 abbrev pub HasValue : Decoding → Result Progress DecodeFault → Type 0
@@ -197,11 +198,11 @@ pub record IsSmall (d : Decoding) : Type 0 where
   pub texts : text_bytes d ≤ d.taken
   pub frames : open_nodes d ≤ d.job.depth + 1
   pub carry : carried d ≤ 32
-  pub turns : d.turns ≤ d.taken + node_bound d.taken d.job.depth (widest d.job.registry) + d.calls
+  pub turns : d.turns ≤ d.taken + 2 * node_bound d.taken d.job.depth (widest d.job.registry) + d.calls
 
--- no turn goes uncounted that added a node which is held, or ended a call
+-- no turn goes uncounted that added a node which is held, closes it, or ended a call
 abbrev pub HasCounted : Decoding → Type 0
-HasCounted d = elim d.run [ Ok s ↦ length s.built.entries + d.calls ≤ d.turns | Err f ↦ Unit {0} ]
+HasCounted d = elim d.run [ Ok s ↦ 2 * length s.built.entries + d.calls ≤ d.turns | Err f ↦ Unit {0} ]
 
 -- and of a whole value still less
 abbrev pub IsSmallAtEnd : Decoding → Result Progress DecodeFault → Type 0

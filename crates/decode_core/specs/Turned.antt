@@ -96,10 +96,10 @@ pub record IsSound (s : Running) : Type 0 where
 abbrev pub FeedTells : Running → Running → List ℕ → ℕ → Stopped → Type 0
 FeedTells old new piece n s = (n ≤ length piece) × ((last : Running) × Moves old last (take n piece) × Stops last (drop n piece) s × Stands s last new × IsSound last)
 
--- from one count of turns to the other there is one for each node that was added and one that stopped, and beside these no more
--- than one for each byte that was taken
+-- from one count of turns to the other there are two for each node that was added, which is closed once, and one that stopped,
+-- and beside these no more than one for each byte that was taken
 abbrev pub FewTurns : Running → Running → ℕ → ℕ → ℕ → Type 0
-FewTurns old new n from to = (from + length new.built.entries + 1 ≤ to + length old.built.entries) × (to + length old.built.entries ≤ from + n + length new.built.entries + 1)
+FewTurns old new n from to = (from + 2 * length new.built.entries + 1 ≤ to + 2 * length old.built.entries) × (to + 2 * length old.built.entries ≤ from + n + 2 * length new.built.entries + 1)
 
 -- the same where nothing is left: what stood before the last turn is known alone
 pub record StopsShort (old : Running) (piece : List ℕ) (n from to : ℕ) : Type 0 where

@@ -280,7 +280,8 @@ impl<'r, A: Allocator> Run<'r, A> {
     }
 
     /// Takes turns until one stops, and counts each: how many bytes of the piece they took, and why they stopped; where
-    /// memory was refused, the bytes alone.
+    /// memory was refused, the bytes alone. A node that is added counts once more, for the turn of the builder that is to
+    /// close it.
     pub(crate) fn feed(
         &mut self,
         piece: &[u8],
@@ -292,8 +293,14 @@ impl<'r, A: Allocator> Run<'r, A> {
         let mut at = 0;
         'turns: loop {
             turns.tick();
+            let before = self.node_count();
             match self.turn(&piece[at..]) {
-                Turned::On(count) => at += count,
+                Turned::On(count) => {
+                    at += count;
+                    if self.node_count() > before {
+                        turns.tick();
+                    }
+                }
                 Turned::Stopped(stopped) => return Ok((at, stopped)),
                 Turned::OutOfMemory => return Err(at),
             }

@@ -1,4 +1,4 @@
-use Rattle.std.proofs.Common.{◌≡◌, ◌+◌, ◌≤◌, length, take, drop}
+use Rattle.std.proofs.Common.{◌≡◌, ◌+◌, ◌*◌, ◌≤◌, length, take, drop}
 use Rattle.decode_core.specs.Turned.{Moves, left_to_do}
 use Rattle.decode_core.proofs.run.Run.feed.Given as goal
 
@@ -7,8 +7,8 @@ invariant-turns g l = record {
   piece : l.piece ≡ l.fn.piece;
   inside : l.at ≤ length l.piece;
   moves : Moves l.fn.self l.self (take l.at l.piece);
-  each : l.fn.turns.so_far + length l.self.built.entries ≤ l.turns.so_far + length l.fn.self.built.entries;
-  few : l.turns.so_far + length l.fn.self.built.entries ≤ l.fn.turns.so_far + l.at + length l.self.built.entries;
+  each : l.fn.turns.so_far + 2 * length l.self.built.entries ≤ l.turns.so_far + 2 * length l.fn.self.built.entries;
+  few : l.turns.so_far + 2 * length l.fn.self.built.entries ≤ l.fn.turns.so_far + l.at + 2 * length l.self.built.entries;
 }
 
 abbrev pub decreases-turns : goal.decreases-turns
