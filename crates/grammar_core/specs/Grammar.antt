@@ -10,7 +10,7 @@ use Rattle.widths_core.specs.Types.{field_types}
 use Rattle.widths_core.specs.Arms.{arm_of}
 use Rattle.widths_core.specs.Layouts.{Layout, layout}
 use Rattle.widths_core.specs.Layouts as layout
-use Rattle.grammar_core.specs.Tree.{Tree, unit, bool, char, text, unsigned, signed, wide, compact, fields, arm, list, count, Trees, none, and, how_many, levels}
+use Rattle.grammar_core.specs.Tree.{Tree, unit, bool, char, text, unsigned, signed, wide, compact, fields, arm, list, count, Trees, none, and, how_many}
 
 -- k bytes
 abbrev pub IsLong : ℕ → List ℕ → Type 0
@@ -49,7 +49,3 @@ unfoldable mutual
   pub Each : List TypeInfo → ℕ → Trees → List ℕ → Type 0
   Each r t none b = b ≡ []
   Each r t (and v vs) b = (b1 b2 : List ℕ) × (b ≡ b1 ++ b2) × Val r t v b1 × Each r t vs b2
-
--- a value that has room for this many levels
-abbrev pub IsFitting : List TypeInfo → ℕ → ℕ → Tree → List ℕ → Type 0
-IsFitting r room t v b = Val r t v b × (levels v ≤ room)

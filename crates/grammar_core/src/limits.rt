@@ -8,9 +8,11 @@ pub const MAX_DEPTH: u16 = 1024;
 /// What a value of untrusted bytes may be at most (this project's own bounds; the SCALE codec sets none).
 #[derive(Clone, Copy, Debug, PartialEq, Eq)]
 pub struct Limits {
-    /// The greatest depth of a node, where the root has depth 0 and a part has one more than what it is part of.
+    /// The greatest depth of a node, from 0 to 1024: the root has depth 0, and a part one more than what it is part of.
+    /// A greater limit is refused where a builder or a decoder is made.
     pub depth: u16,
-    /// The greatest number of bytes of a whole value.
+    /// The greatest number of bytes of a whole value, from 0 to 1099511627776, which is 2^40. A greater limit is refused
+    /// where a decoder is made.
     pub bytes: u64,
 }
 

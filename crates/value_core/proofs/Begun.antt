@@ -162,9 +162,9 @@ own_is : (r : List TypeInfo) (pool : List ℕ) (ns : List Node) (own : List ℕ)
 own_is r pool ns own e = flat_map-map _ _ ns ∙ sym (flat_map-map (cell_bytes r) (cell_shown pool) ns) ∙ e
 
 -- where a type is next
-part_begun : (ty : ℕ) (types : List TypeInfo) (limit : ℕ) (f : OpenPart) (fs : List OpenPart) (pool : List ℕ) (ns : List Node) (text_len : ℕ) (text : Option Pieces) (u : ℕ) → IsBuilding ty (record { types = types; limit = limit; frames = f ∷ fs }) pool ns text_len → first_of f.left ≡ Some u →
-    IsBegun (record { ty = ty; walk = record { types = types; limit = limit; frames = f ∷ fs }; entries = entries_shown pool ns; text = text })
-part_begun ty types limit f fs pool ns text_len text u b e =
+part_begun : (ty : ℕ) (types : List TypeInfo) (limit : ℕ) (f : OpenPart) (fs : List OpenPart) (pool : List ℕ) (ns : List Node) (text_len : ℕ) (text : Option Pieces) (turns : ℕ) (u : ℕ) → IsBuilding ty (record { types = types; limit = limit; frames = f ∷ fs }) pool ns text_len → first_of f.left ≡ Some u →
+    IsBegun (record { ty = ty; walk = record { types = types; limit = limit; frames = f ∷ fs }; entries = entries_shown pool ns; text = text; turns = turns })
+part_begun ty types limit f fs pool ns text_len text turns u b e =
     let parts = spine_length types b.room ty b.opens (f ∷ fs) (cells_shown pool ns) b.own b.spine in
     let g = spine_is_begun types (limit + 1) b.room ty b.opens f fs (cells_shown pool ns) b.own u (omega (arith, b.level, parts)) b.spine e in
     let left : limit + 2 - length (f ∷ fs) ≡ b.room = omega (arith, b.level) in
@@ -187,11 +187,11 @@ part_begun ty types limit f fs pool ns text_len text u b e =
       missing f (g ∷ fs) e = refl
 
 -- where nothing is missing
-whole_begun : (ty : ℕ) (types : List TypeInfo) (limit : ℕ) (f : OpenPart) (pool : List ℕ) (ns : List Node) (text_len : ℕ) (text : Option Pieces) → IsBuilding ty (record { types = types; limit = limit; frames = f ∷ [] }) pool ns text_len → first_of f.left ≡ None →
-    IsBegun (record { ty = ty; walk = record { types = types; limit = limit; frames = f ∷ [] }; entries = entries_shown pool ns; text = text })
+whole_begun : (ty : ℕ) (types : List TypeInfo) (limit : ℕ) (f : OpenPart) (pool : List ℕ) (ns : List Node) (text_len : ℕ) (text : Option Pieces) (turns : ℕ) → IsBuilding ty (record { types = types; limit = limit; frames = f ∷ [] }) pool ns text_len → first_of f.left ≡ None →
+    IsBegun (record { ty = ty; walk = record { types = types; limit = limit; frames = f ∷ [] }; entries = entries_shown pool ns; text = text; turns = turns })
 unfolding Grows
-whole_begun ty types limit f pool ns text_len text b e = by b.opens refl where
-  by : (os : List OpenNode) → b.opens ≡ os → IsBegun (record { ty = ty; walk = record { types = types; limit = limit; frames = f ∷ [] }; entries = entries_shown pool ns; text = text })
+whole_begun ty types limit f pool ns text_len text turns b e = by b.opens refl where
+  by : (os : List OpenNode) → b.opens ≡ os → IsBegun (record { ty = ty; walk = record { types = types; limit = limit; frames = f ∷ [] }; entries = entries_shown pool ns; text = text; turns = turns })
   by [] o =
       let spine : Spine types b.room ty [] (f ∷ []) (cells_shown pool ns) b.own = subst (λ (x : List OpenNode). Spine types b.room ty x (f ∷ []) (cells_shown pool ns) b.own) o b.spine in
       let v = spine_is_whole types b.room ty f (cells_shown pool ns) b.own spine e in
@@ -211,14 +211,14 @@ whole_begun ty types limit f pool ns text_len text b e = by b.opens refl where
       }
   by (x ∷ os) o = absurd (omega (arith, ap length o, spine_length types b.room ty b.opens (f ∷ []) (cells_shown pool ns) b.own b.spine))
 
-begun_by : (ty : ℕ) (types : List TypeInfo) (limit : ℕ) (fs : List OpenPart) (pool : List ℕ) (ns : List Node) (text_len : ℕ) (text : Option Pieces) → IsBuilding ty (record { types = types; limit = limit; frames = fs }) pool ns text_len → settled_in fs ≡ fs →
-    IsBegun (record { ty = ty; walk = record { types = types; limit = limit; frames = fs }; entries = entries_shown pool ns; text = text })
-begun_by ty types limit [] pool ns text_len text b s = absurd (omega (arith, spine_length types b.room ty b.opens [] (cells_shown pool ns) b.own b.spine))
-begun_by ty types limit (f ∷ []) pool ns text_len text b s = by (first_of f.left) refl where
-  by : (x : Option ℕ) → first_of f.left ≡ x → IsBegun (record { ty = ty; walk = record { types = types; limit = limit; frames = f ∷ [] }; entries = entries_shown pool ns; text = text })
-  by (Some u) e = part_begun ty types limit f [] pool ns text_len text u b e
-  by None e = whole_begun ty types limit f pool ns text_len text b e
-begun_by ty types limit (f ∷ g ∷ fs) pool ns text_len text b s = let u = innermost f g fs s in part_begun ty types limit f (g ∷ fs) pool ns text_len text u.0 b u.1
+begun_by : (ty : ℕ) (types : List TypeInfo) (limit : ℕ) (fs : List OpenPart) (pool : List ℕ) (ns : List Node) (text_len : ℕ) (text : Option Pieces) (turns : ℕ) → IsBuilding ty (record { types = types; limit = limit; frames = fs }) pool ns text_len → settled_in fs ≡ fs →
+    IsBegun (record { ty = ty; walk = record { types = types; limit = limit; frames = fs }; entries = entries_shown pool ns; text = text; turns = turns })
+begun_by ty types limit [] pool ns text_len text turns b s = absurd (omega (arith, spine_length types b.room ty b.opens [] (cells_shown pool ns) b.own b.spine))
+begun_by ty types limit (f ∷ []) pool ns text_len text turns b s = by (first_of f.left) refl where
+  by : (x : Option ℕ) → first_of f.left ≡ x → IsBegun (record { ty = ty; walk = record { types = types; limit = limit; frames = f ∷ [] }; entries = entries_shown pool ns; text = text; turns = turns })
+  by (Some u) e = part_begun ty types limit f [] pool ns text_len text turns u b e
+  by None e = whole_begun ty types limit f pool ns text_len text turns b e
+begun_by ty types limit (f ∷ g ∷ fs) pool ns text_len text turns b s = let u = innermost f g fs s in part_begun ty types limit f (g ∷ fs) pool ns text_len text turns u.0 b u.1
 
-pub is_begun : (ty : ℕ) (w : Walked) (pool : List ℕ) (ns : List Node) (text_len : ℕ) (text : Option Pieces) → IsBuilding ty w pool ns text_len → IsSettled w → IsBegun (record { ty = ty; walk = w; entries = entries_shown pool ns; text = text })
-is_begun ty w pool ns text_len text b s = begun_by ty w.types w.limit w.frames pool ns text_len text b (ap (λ (x : Walked). x.frames) s)
+pub is_begun : (ty : ℕ) (w : Walked) (pool : List ℕ) (ns : List Node) (text_len : ℕ) (text : Option Pieces) (turns : ℕ) → IsBuilding ty w pool ns text_len → IsSettled w → IsBegun (record { ty = ty; walk = w; entries = entries_shown pool ns; text = text; turns = turns })
+is_begun ty w pool ns text_len text turns b s = begun_by ty w.types w.limit w.frames pool ns text_len text turns b (ap (λ (x : Walked). x.frames) s)

@@ -1,5 +1,5 @@
 -- The innermost open node gets its size.
-use Rattle.std.proofs.Common.{Option, ◌≡◌, ℕ, zero, suc, ◌+◌, ◌-◌, ◌<◌, List, [], ◌∷◌, ◌++◌, length, Some, None, refl, sym, ap, subst, ◌∙◌, arith, inl, inr, length-append}
+use Rattle.std.proofs.Common.{Option, ◌≡◌, ℕ, zero, suc, ◌+◌, ◌-◌, ◌<◌, ◌≤◌, List, [], ◌∷◌, ◌++◌, length, Some, None, refl, sym, ap, subst, ◌∙◌, arith, inl, inr, length-append}
 use Rattle.std.specs.Prelude.{slice_get, slice_set}
 use Rattle.std.proofs.lemmas.List.{length-map}
 use Rattle.registry_core.specs.declared.type_info.TypeInfo.{TypeInfo}
@@ -7,9 +7,9 @@ use Rattle.grammar_core.specs.Parts.{Part, times, first_of}
 use Rattle.grammar_core.specs.Cells.{Cell}
 use Rattle.value_core.specs.Shown.{cell_shown, cells_shown, IsInPool, AreInPool}
 use Rattle.value_core.specs.Spine.{OpenNode, open_part, Spine}
-use Rattle.value_core.specs.Walked.{OpenPart, Walked, Closes}
-use Rattle.value_core.specs.Built.{IsSettled, entries_shown, entries_text_bytes, settled_in, settled_walk}
-use Rattle.value_core.specs.Building.{IsBuilding, AreBuilt, Settles, pieces_shown}
+use Rattle.value_core.specs.Walked.{OpenPart, Walked, Closes, advanced, advanced_in, opened}
+use Rattle.value_core.specs.Built.{IsSettled, closings, entries_shown, entries_text_bytes, settled_in, settled_walk}
+use Rattle.value_core.specs.Building.{IsBuilding, IsPaid, AreBuilt, Settles, pieces_shown}
 use Rattle.value_core.specs.declared.open_text.OpenText.{OpenText}
 use Rattle.value_core.specs.declared.node.Node.{Node}
 use Rattle.value_core.proofs.Spines.{Closed, is_cons, node_closed}
@@ -119,3 +119,39 @@ settled_again w = rw (again w.frames) refl
 pub none_open : (pool : List ℕ) (text : Option OpenText) → pieces_shown pool text ≡ None → text ≡ None
 none_open pool None e = refl
 none_open pool (Some o) e = absurd cc
+
+-- ---- turns
+
+-- closing nodes opens none
+settled_shorter : (fs : List OpenPart) → length (settled_in fs) ≤ length fs
+settled_shorter [] = omega arith
+settled_shorter (f ∷ []) = omega arith
+settled_shorter (f ∷ g ∷ fs) = by (first_of f.left) refl (settled_shorter (g ∷ fs)) where
+  by : (x : Option ℕ) → first_of f.left ≡ x → length (settled_in (g ∷ fs)) ≤ length (g ∷ fs) → length (settled_in (f ∷ g ∷ fs)) ≤ length (f ∷ g ∷ fs)
+  by (Some u) e h = let stays : settled_in (f ∷ g ∷ fs) ≡ f ∷ g ∷ fs = rw (e, settled_in) refl in omega (arith, ap length stays)
+  by None e h = let less : settled_in (f ∷ g ∷ fs) ≡ settled_in (g ∷ fs) = rw (e, settled_in) refl in omega (arith, ap length less, h)
+
+-- there is a turn for each node that closes
+pub turns_are : (w v : Walked) (before after : ℕ) → v ≡ settled_walk w → after + length v.frames ≡ before + length w.frames → after ≡ before + closings w.frames
+turns_are w v before after is e = omega (arith, e, ap (λ (x : Walked). length x.frames) is, settled_shorter w.frames)
+
+-- closing nodes leaves their number
+settled_length : (old new : Walked) (before after : List Node) → Settles old before new after → length after ≡ length before
+settled_length old new before after h = sym (length-map after _) ∙ ap length (h.entries []) ∙ length-map before _
+
+-- nodes were closed, each in a turn
+pub settled_paid : (old new : Walked) (before after : List Node) (turns paid : ℕ) → Settles old before new after → new ≡ settled_walk old → paid ≡ turns + closings old.frames → IsPaid old before turns → IsPaid new after paid
+settled_paid old new before after turns paid h is e p =
+    omega (arith, e, p, ap (λ (x : Walked). length x.frames) is, settled_shorter old.frames, settled_length old new before after h)
+
+advanced_length : (fs : List OpenPart) → length (advanced_in fs) ≡ length fs
+advanced_length [] = refl
+advanced_length (f ∷ fs) = refl
+
+-- one more node is there
+pub leaf_paid : (w : Walked) (ns : List Node) (n : Node) (turns : ℕ) → IsPaid w ns turns → IsPaid (advanced w) (ns ++ n ∷ []) turns
+leaf_paid w ns n turns p = omega (arith, p, advanced_length w.frames, length-append ns (n ∷ []))
+
+-- and it is open
+pub open_paid : (w : Walked) (ns : List Node) (n : Node) (place turns : ℕ) (part : Part) → IsPaid w ns turns → IsPaid (opened (advanced w) place part) (ns ++ n ∷ []) turns
+open_paid w ns n place turns part p = omega (arith, p, advanced_length w.frames, length-append ns (n ∷ []))

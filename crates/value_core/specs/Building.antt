@@ -48,3 +48,7 @@ pub record IsOpenAt (w : Walked) (pool : List ℕ) (text_len start len : ℕ) : 
 abbrev pub IsOpenText : Walked → List ℕ → ℕ → Option OpenText → Type 0
 IsOpenText w pool text_len (Some o) = IsOpenAt w pool text_len o.start o.len
 IsOpenText w pool text_len None = Unit {0}
+
+-- each turn of the closing loop closed a node that had been opened, so there are no more than nodes, less those still open
+abbrev pub IsPaid : Walked → List Node → ℕ → Type 0
+IsPaid w ns turns = turns + length w.frames ≤ length ns + 1

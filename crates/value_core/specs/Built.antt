@@ -1,5 +1,5 @@
 -- What contracts see of a value that is being built, and what adding a node makes of it.
-use Rattle.std.specs.Prelude.{◌≡◌, ℕ, ◌+◌, ◌≤◌, List, [], ◌∷◌, ◌++◌, length, map, Option, Some, None, option_map, true}
+use Rattle.std.specs.Prelude.{◌≡◌, ℕ, ◌+◌, ◌-◌, ◌≤◌, List, [], ◌∷◌, ◌++◌, length, map, Option, Some, None, option_map, true}
 use Rattle.scale_core.specs.Number.{AreBytes}
 use Rattle.registry_core.specs.declared.definition.Arm.{Arm}
 use Rattle.widths_core.specs.Types.{field_types}
@@ -28,13 +28,14 @@ pub record Pieces : Type 0 where
   pub len : ℕ
   pub bytes : List ℕ
 
--- a value of type ty that is being built: the walk through it, the nodes that it has, each before its children, and the
--- text that is open
+-- a value of type ty that is being built: the walk through it, the nodes that it has, each before its children, the text
+-- that is open, and how many turns the loop of its calls has taken, which closes nodes
 pub record Built : Type 0 where
   pub ty : ℕ
   pub walk : Walked
   pub entries : List Entry
   pub text : Option Pieces
+  pub turns : ℕ
 
 abbrev pub entries_shown : List ℕ → List Node → List Entry
 entries_shown pool ns = map (λ n. record { ty = n.ty.0; head = head_shown pool n.content }) ns
@@ -61,8 +62,23 @@ settled_walk w = record { types = w.types; limit = w.limit; frames = settled_in 
 abbrev pub IsSettled : Walked → Type 0
 IsSettled w = settled_walk w ≡ w
 
+-- how many nodes that closes
+abbrev pub closings : List OpenPart → ℕ
+closings fs = length fs - length (settled_in fs)
+
+-- the same of a value that is being built: each turn closes one node
 abbrev pub settled : Built → Built
-settled b = record { ty = b.ty; walk = settled_walk b.walk; entries = b.entries; text = b.text }
+settled b = record {
+  ty = b.ty;
+  walk = settled_walk b.walk;
+  entries = b.entries;
+  text = b.text;
+  turns = b.turns + closings b.walk.frames;
+}
+
+-- a turn closed a node that was open, and each node was opened but once
+abbrev pub HasFewTurns : Built → Type 0
+HasFewTurns b = b.turns + length b.walk.frames ≤ length b.entries + 1
 
 abbrev pub type_or_0 : Option ℕ → ℕ
 type_or_0 (Some t) = t
@@ -74,11 +90,11 @@ next_entry b h = record { ty = type_or_0 (next_type b.walk); head = h }
 
 -- the value with a node without children, which is next
 abbrev pub with_leaf : Built → Head → Built
-with_leaf b h = settled (record { ty = b.ty; walk = advanced b.walk; entries = b.entries ++ next_entry b h ∷ []; text = b.text })
+with_leaf b h = settled (record b { walk = advanced b.walk; entries = b.entries ++ next_entry b h ∷ [] })
 
 -- the value with a node whose children come next
 abbrev pub with_open : Built → Head → Part → Built
-with_open b h p = settled (record { ty = b.ty; walk = opened (advanced b.walk) (length b.entries) p; entries = b.entries ++ next_entry b h ∷ []; text = b.text })
+with_open b h p = settled (record b { walk = opened (advanced b.walk) (length b.entries) p; entries = b.entries ++ next_entry b h ∷ [] })
 
 -- a node that has no children
 abbrev pub IsLeaf : Head → Type 0
@@ -139,14 +155,14 @@ pieces_bytes (Some t) = t.bytes
 pieces_bytes None = []
 
 abbrev pub with_text_opened : Built → ℕ → Built
-with_text_opened b len = record { ty = b.ty; walk = b.walk; entries = b.entries; text = Some (record { len = len; bytes = [] }) }
+with_text_opened b len = record b { text = Some (record { len = len; bytes = [] }) }
 
 abbrev pub with_piece : Built → List ℕ → Built
-with_piece b piece = record { ty = b.ty; walk = b.walk; entries = b.entries; text = option_map (λ t. record { len = t.len; bytes = t.bytes ++ piece }) b.text }
+with_piece b piece = record b { text = option_map (λ t. record { len = t.len; bytes = t.bytes ++ piece }) b.text }
 
 -- the text that came is the next node
 abbrev pub with_text_ended : Built → Built
-with_text_ended b = with_leaf (record { ty = b.ty; walk = b.walk; entries = b.entries; text = None }) (head.text (pieces_bytes b.text))
+with_text_ended b = with_leaf (record b { text = None }) (head.text (pieces_bytes b.text))
 
 -- the bytes of all texts, those of the open one too
 abbrev pub built_text_bytes : Built → ℕ

@@ -51,14 +51,6 @@ wanted_of b = wanted_from b.text (next_of b.walk)
 abbrev pub judged : (Form → Option BuildFault) → Built → Option BuildFault
 judged suits b = elim (wanted_of b) [ Ok f ↦ suits f | Err e ↦ Some e ]
 
--- the same for the calls on an open text
-abbrev pub judged_open : (Option Pieces → Option BuildFault) → Built → Option BuildFault
-judged_open suits b = elim (next_of b.walk) [
-  | next.Wants f ↦ suits b.text
-  | next.Finished ↦ Some fault.WrongKind
-  | next.Stop r ↦ Some (fault_of r)
-]
-
 abbrev pub in_range : Bool → Option BuildFault
 in_range fits = if fits then None else Some fault.OutOfRange
 

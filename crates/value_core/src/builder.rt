@@ -3,7 +3,7 @@
 ghost use Rattle.std.specs.Prelude.{◌≡◌, ◌<◌, ◌≤◌, ◌+◌, ◌++◌, ◌∷◌, [], length, true, false, OnOk, OnErr, IfOk, IfErr, Ok, None};
 ghost use Rattle.value_core.specs.Begun.{IsBegun};
 ghost use Rattle.value_core.specs.Building.{AreBuilt, Settles};
-ghost use Rattle.value_core.specs.Built.{IsSettled, built_text_bytes, finished, settled_walk, with_leaf, with_open, with_piece, with_text_ended, with_text_opened, pieces_bytes, IsNextLeaf, IsNextOpen};
+ghost use Rattle.value_core.specs.Built.{HasFewTurns, IsSettled, built_text_bytes, closings, finished, settled_walk, with_leaf, with_open, with_piece, with_text_ended, with_text_opened, pieces_bytes, IsNextLeaf, IsNextOpen};
 ghost use Rattle.value_core.specs.Frames.{left_of};
 ghost use Rattle.value_core.specs.Shown.{head_shown};
 ghost use Rattle.value_core.specs.Refusals.{Finishes, Opens, missing_of, other_fault, text_fault, wanted_of, is_whole, opening_fault};
@@ -17,6 +17,7 @@ use crate::node::{Content, Node};
 use crate::open_text::OpenText;
 use crate::value::Value;
 use crate::walk::Walk;
+use count_core::Count;
 use grammar_core::{Form, MAX_DEPTH, Next};
 use registry_core::{Primitive, TypeId};
 use simdutf8::compat::from_utf8;
@@ -33,17 +34,18 @@ pub struct Builder<'r, A: Allocator> {
     pool: Vec<u8, A>,
     text_len: usize,
     open_text: Option<OpenText>,
+    turns: Count,
 }
 
 impl<'r, A: Allocator> Model for Builder<'r, A> {
     ghost use Rattle.value_core.specs.Built.{Built, IsSettled, entries_shown};
-    ghost use Rattle.value_core.specs.Building.{IsBuilding, IsOpenText, pieces_shown};
+    ghost use Rattle.value_core.specs.Building.{IsBuilding, IsOpenText, IsPaid, pieces_shown};
 
     ghost Value = { Built };
 
-    ghost view = { λ b. record { ty = b.root.0; walk = b.walk; entries = entries_shown b.pool.items b.nodes.items; text = pieces_shown b.pool.items b.open_text } };
+    ghost view = { λ b. record { ty = b.root.0; walk = b.walk; entries = entries_shown b.pool.items b.nodes.items; text = pieces_shown b.pool.items b.open_text; turns = b.turns.so_far } };
 
-    ghost invariant = { λ b. IsBuilding b.root.0 b.walk b.pool.items b.nodes.items b.text_len × IsOpenText b.walk b.pool.items b.text_len b.open_text × IsSettled b.walk };
+    ghost invariant = { λ b. IsBuilding b.root.0 b.walk b.pool.items b.nodes.items b.text_len × IsOpenText b.walk b.pool.items b.text_len b.open_text × IsSettled b.walk × IsPaid b.walk b.nodes.items b.turns.so_far };
 }
 
 /// The refusal of a call that is not the one for what comes next.
@@ -103,8 +105,8 @@ fn open_node<'r, A: Allocator>(
 fn close_one<A: Allocator>(walk: &mut Walk<'_, A>, nodes: &mut Vec<Node, A>) -> bool
     requires { AreBuilt walk.old nodes.old.items }
     ensures settles { Settles walk.old nodes.old.items walk.new nodes.new.items }
-    ensures yes { result ≡ true → length walk.new.frames < length walk.old.frames }
-    ensures no { result ≡ false → IsSettled walk.new }
+    ensures yes { result ≡ true → length walk.new.frames + 1 ≡ length walk.old.frames }
+    ensures no { result ≡ false → IsSettled walk.new × (length walk.new.frames ≡ length walk.old.frames) }
 {
     let Some(place) = walk.close() else {
         return false;
@@ -114,13 +116,16 @@ fn close_one<A: Allocator>(walk: &mut Walk<'_, A>, nodes: &mut Vec<Node, A>) -> 
     true
 }
 
-/// Closes the open nodes that are whole.
-fn settle<A: Allocator>(walk: &mut Walk<'_, A>, nodes: &mut Vec<Node, A>)
+/// Closes the open nodes that are whole, one in each turn, and counts the turns.
+fn settle<A: Allocator>(walk: &mut Walk<'_, A>, nodes: &mut Vec<Node, A>, turns: &mut Count)
     requires { AreBuilt walk.old nodes.old.items }
     ensures settles { Settles walk.old nodes.old.items walk.new nodes.new.items }
     ensures walk { walk.new ≡ settled_walk walk.old }
+    ensures turns { turns.new.so_far ≡ turns.old.so_far + closings walk.old.frames }
 {
-    'closing: while close_one(walk, nodes) {}
+    'closing: while close_one(walk, nodes) {
+        turns.tick();
+    }
 }
 
 impl<'r, A: Allocator + Clone> Builder<'r, A> {
@@ -134,7 +139,7 @@ impl<'r, A: Allocator + Clone> Builder<'r, A> {
         root: TypeId,
         depth: u16,
     ) -> Result<Builder<'r, A>, BuildFault>
-        ensures { Opens (opening_fault checked.now root.0 depth) (record { ty = root.0; walk = start_of checked.now root.0 depth; entries = []; text = None }) result }
+        ensures { Opens (opening_fault checked.now root.0 depth) (record { ty = root.0; walk = start_of checked.now root.0 depth; entries = []; text = None; turns = 0 }) result }
     {
         if checked.class(root).is_none() {
             return Err(BuildFault::UnknownType);
@@ -151,6 +156,7 @@ impl<'r, A: Allocator + Clone> Builder<'r, A> {
             pool,
             text_len: 0,
             open_text: None,
+            turns: Count::new(),
         })
     }
 }
@@ -170,6 +176,7 @@ impl<'r, A: Allocator> Builder<'r, A> {
             pool,
             text_len,
             open_text: _,
+            turns: _,
         } = self;
         Ok(Value::new(walk.checked(), nodes, pool, text_len))
     }
@@ -182,7 +189,7 @@ impl<'r, A: Allocator> Builder<'r, A> {
         &self.walk
     }
 
-    /// How many nodes it holds.
+    /// How many nodes it holds, those that are open too. A node takes `NODE_BYTES` bytes of memory.
     pub fn node_count(&self) -> u64
         ensures count { result ≡ length self.now.entries }
         ensures begun { IsBegun self.now }
@@ -190,7 +197,7 @@ impl<'r, A: Allocator> Builder<'r, A> {
         self.nodes.as_slice().len() as u64
     }
 
-    /// How many bytes of text it holds.
+    /// How many bytes of text it holds, those that came of an open text too; 256-bit integers are no texts.
     pub fn text_bytes(&self) -> u64
         ensures count { result ≡ built_text_bytes self.now }
         ensures begun { IsBegun self.now }
@@ -199,6 +206,15 @@ impl<'r, A: Allocator> Builder<'r, A> {
             Some(text) => (self.text_len + (self.pool.as_slice().len() - text.start)) as u64,
             None => self.text_len as u64,
         }
+    }
+
+    /// How many turns its calls have taken, lent: each of them closed a node whose parts were all there. A count takes no
+    /// bytes, so this is for contracts alone. There are no more turns than nodes.
+    pub fn turns(&self) -> &Count
+        ensures count { result.now.so_far ≡ self.now.turns }
+        ensures few { HasFewTurns self.now }
+    {
+        &self.turns
     }
 
     /// The form of what comes next, for a call that adds a whole node; refused with what the walk stops at, and with
@@ -233,7 +249,7 @@ impl<'r, A: Allocator> Builder<'r, A> {
         append(&mut self.nodes, &mut self.pool, node, leaf.bytes())?;
         self.text_len += leaf.text_len();
         self.walk.advance();
-        settle(&mut self.walk, &mut self.nodes);
+        settle(&mut self.walk, &mut self.nodes, &mut self.turns);
         Ok(())
     }
 
@@ -254,7 +270,7 @@ impl<'r, A: Allocator> Builder<'r, A> {
             size: 0,
         };
         open_node(&mut self.nodes, &mut self.walk, node, left)?;
-        settle(&mut self.walk, &mut self.nodes);
+        settle(&mut self.walk, &mut self.nodes, &mut self.turns);
         Ok(())
     }
 
@@ -332,7 +348,7 @@ impl<'r, A: Allocator> Builder<'r, A> {
         self.text_len += text.len as usize;
         self.open_text = None;
         self.walk.advance();
-        settle(&mut self.walk, &mut self.nodes);
+        settle(&mut self.walk, &mut self.nodes, &mut self.turns);
         Ok(())
     }
 }

@@ -20,6 +20,7 @@ pub use build_fault::BuildFault;
 pub use builder::Builder;
 pub use children::Children;
 pub use grammar_core::{Form, Limits, Next, StopReason, laws};
+pub use node::NODE_BYTES;
 pub use node_ref::NodeRef;
 pub use value::Value;
 pub use walk::Walk;

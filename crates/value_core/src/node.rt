@@ -1,6 +1,12 @@
-//! A node of a value as it is kept: 40 bytes.
+//! A node of a value as it is kept.
 
 use registry_core::TypeId;
+
+/// How many bytes of memory a node of a value or a builder takes, whatever it is. Beside its nodes a value has the bytes
+/// of its texts, and 32 for each 256-bit integer; vectors may have room for as much again while they grow.
+pub const NODE_BYTES: usize = 40;
+
+const _: () = prove!(size_of::<Node>() == NODE_BYTES);
 
 /// What a node is, with integers as their sixteen bytes, the lowest first, and texts and wide integers by their place
 /// in the pool of bytes.

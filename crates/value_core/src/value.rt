@@ -11,7 +11,7 @@ use std::marker::Model;
 use widths_core::Checked;
 
 /// A value of a type of a checked registry: a flat list of its nodes, each before its children, and a pool of the bytes
-/// of its texts. Dropping it drops these two.
+/// of its texts and of its 256-bit integers. A node takes `NODE_BYTES` bytes of memory. Dropping it drops these two.
 #[derive(Drop)]
 pub struct Value<'r, A: Allocator> {
     checked: &'r Checked,
@@ -72,7 +72,7 @@ impl<'r, A: Allocator> Value<'r, A> {
         NodeRef::new(self.checked, &self.nodes, &self.pool)
     }
 
-    /// Its nodes, each before its children, and the pool of the bytes of their texts, lent.
+    /// Its nodes, each before its children, and the pool of the bytes of their texts and 256-bit integers, lent.
     pub(crate) fn parts(&self) -> (&[Node], &[u8])
         ensures whole { IsWhole self.now.types result.1.now result.0.now }
         ensures same { seen self.now.types result.1.now result.0.now ≡ self.now }

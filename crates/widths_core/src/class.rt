@@ -5,7 +5,9 @@ ghost use Rattle.std.specs.Prelude.{◌≡◌};
 /// How many bytes the values of a type take.
 #[derive(Clone, Copy, Debug, PartialEq, Eq)]
 pub enum Class {
-    /// It has no value: each would hold another of its type, without end, or the type is a variant without arms.
+    /// It has no finite value: a variant without arms is such a type, and one whose values would each hold another of
+    /// the same type, without end; and so is each type whose values have to hold one of those, a variant in every arm
+    /// that can be reached by its index.
     NoValue,
     /// Its one value takes no bytes.
     Empty,

@@ -1,11 +1,11 @@
-use Rattle.std.proofs.Common.{◌≡◌, ◌∙◌, sym, ap, subst, [], refl}
+use Rattle.std.proofs.Common.{◌≡◌, ◌∙◌, sym, ap, subst, [], length, refl}
 use Rattle.std.proofs.lemmas.Option.{same_Some}
 use Rattle.value_core.specs.Built.{Built, IsNextOpen}
 use Rattle.value_core.specs.Frames.{left_of}
 use Rattle.value_core.specs.Shown.{head_shown}
 use Rattle.value_core.specs.declared.node.Node.{Node}
 use Rattle.value_core.proofs.Adding.{open_added}
-use Rattle.value_core.proofs.Closing.{none_open, settled_again}
+use Rattle.value_core.proofs.Closing.{none_open, open_paid, settled_again, settled_paid}
 use Rattle.value_core.proofs.builder.Builder.add_open.Goals as goal
 
 pub settle-requires : goal.settle-requires
@@ -26,4 +26,5 @@ invariant_of-self-2 g c =
       c.settle.ensures.settles.builds _ _ _ (rw (c.in_ok-open_node.ensures.walk, c.in_ok-open_node.ensures.nodes) b),
       rw closed tt,
       rw c.settle.ensures.walk (settled_again c.open_node.new.walk),
+      settled_paid _ _ _ _ _ _ c.settle.ensures.settles c.settle.ensures.walk c.settle.ensures.turns (rw (c.in_ok-open_node.ensures.walk, c.in_ok-open_node.ensures.nodes) (open_paid c.self.inside.walk c.self.inside.nodes.items n (length c.self.inside.nodes.items) c.self.inside.turns.so_far (left_of c.args.left) c.self.invariant.3)),
     )

@@ -1,7 +1,7 @@
 use Rattle.std.proofs.Common.{◌≡◌, ◌+◌, ◌++◌, None, Ok, [], sym, subst}
 use Rattle.value_core.specs.Built.{Built, pieces_bytes}
 use Rattle.value_core.specs.Refusals.{missing_of, text_fault}
-use Rattle.value_core.proofs.Closing.{settled_again}
+use Rattle.value_core.proofs.Closing.{leaf_paid, settled_again, settled_paid}
 use Rattle.value_core.proofs.TextEnded.{text_ended}
 use Rattle.value_core.proofs.builder.Builder.close_text.Goals as goal
 
@@ -20,4 +20,5 @@ invariant_of-self-2 g c =
       c.settle.ensures.settles.builds _ _ _ (rw (c.advance.ensures, c.in_ok-append.ensures.pool, c.in_ok-append.ensures.nodes) b),
       tt,
       rw c.settle.ensures.walk (settled_again c.advance.new.self),
+      settled_paid _ _ _ _ _ _ c.settle.ensures.settles c.settle.ensures.walk c.settle.ensures.turns (rw (c.advance.ensures, c.in_ok-append.ensures.nodes) (leaf_paid c.self.inside.walk c.self.inside.nodes.items _ c.self.inside.turns.so_far c.self.invariant.3)),
     )

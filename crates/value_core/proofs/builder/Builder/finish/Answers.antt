@@ -26,5 +26,5 @@ pub returns : goal.returns
 returns g c =
     let w : is_whole_in c.self.inside.walk.frames ≡ true = search rules in
     let f = is_finished c.self.inside.root.0 c.self.inside.walk c.self.inside.pool.items c.self.inside.nodes.items c.self.inside.text_len c.self.invariant.0 w in
-    let value = c.new.ensures ∙ ap (λ (r : List TypeInfo). seen r c.self.inside.pool.items c.self.inside.nodes.items) c.checked.ensures ∙ seen_finished (pieces_shown c.self.inside.pool.items c.self.inside.open_text) c.self.inside.root.0 c.self.inside.walk c.self.inside.pool.items c.self.inside.nodes.items f.type_is in
+    let value = c.new.ensures ∙ ap (λ (r : List TypeInfo). seen r c.self.inside.pool.items c.self.inside.nodes.items) c.checked.ensures ∙ seen_finished (pieces_shown c.self.inside.pool.items c.self.inside.open_text) c.self.inside.turns.so_far c.self.inside.root.0 c.self.inside.walk c.self.inside.pool.items c.self.inside.nodes.items f.type_is in
     rw (← c.self.view_is, w) value
