@@ -26,7 +26,7 @@ use Rattle.value_core.specs.Shown.{cell_shown, cells_shown}
 use Rattle.value_core.specs.Spine.{Kind, of_fields, of_arm, of_list, OpenNode, kind_head, kind_part, open_cells, IsOpenAs, open_part, Spine}
 use Rattle.value_core.specs.Walked.{OpenPart, Walked}
 use Rattle.value_core.specs.Built.{Entry, Pieces, IsSettled, entries_shown, head_text_bytes, settled_in}
-use Rattle.value_core.specs.Building.{IsBuilding}
+use Rattle.value_core.specs.Building.{IsPaid, IsBuilding}
 use Rattle.value_core.specs.Refusals.{is_whole_in}
 use Rattle.value_core.specs.Begun.{IsBegun, next_in}
 use Rattle.value_core.specs.declared.node.Node.{Node}
@@ -161,10 +161,13 @@ heads_are pool ns = map-map (λ (e : Entry). e.head) _ ns ∙ sym (map-map (λ (
 own_is : (r : List TypeInfo) (pool : List ℕ) (ns : List Node) (own : List ℕ) → flat_map (cell_bytes r) (cells_shown pool ns) ≡ own → flat_map (λ (e : Entry). own_bytes (shape r e.ty) e.head) (entries_shown pool ns) ≡ own
 own_is r pool ns own e = flat_map-map _ _ ns ∙ sym (flat_map-map (cell_bytes r) (cell_shown pool) ns) ∙ e
 
+entries_length : (pool : List ℕ) (ns : List Node) → length (entries_shown pool ns) ≡ length ns
+entries_length pool ns = length-map ns _
+
 -- where a type is next
-part_begun : (ty : ℕ) (types : List TypeInfo) (limit : ℕ) (f : OpenPart) (fs : List OpenPart) (pool : List ℕ) (ns : List Node) (text_len : ℕ) (text : Option Pieces) (turns : ℕ) (u : ℕ) → IsBuilding ty (record { types = types; limit = limit; frames = f ∷ fs }) pool ns text_len → first_of f.left ≡ Some u →
+part_begun : (ty : ℕ) (types : List TypeInfo) (limit : ℕ) (f : OpenPart) (fs : List OpenPart) (pool : List ℕ) (ns : List Node) (text_len : ℕ) (text : Option Pieces) (turns : ℕ) (u : ℕ) → IsBuilding ty (record { types = types; limit = limit; frames = f ∷ fs }) pool ns text_len → IsPaid (record { types = types; limit = limit; frames = f ∷ fs }) ns turns → first_of f.left ≡ Some u →
     IsBegun (record { ty = ty; walk = record { types = types; limit = limit; frames = f ∷ fs }; entries = entries_shown pool ns; text = text; turns = turns })
-part_begun ty types limit f fs pool ns text_len text turns u b e =
+part_begun ty types limit f fs pool ns text_len text turns u b paid e =
     let parts = spine_length types b.room ty b.opens (f ∷ fs) (cells_shown pool ns) b.own b.spine in
     let g = spine_is_begun types (limit + 1) b.room ty b.opens f fs (cells_shown pool ns) b.own u (omega (arith, b.level, parts)) b.spine e in
     let left : limit + 2 - length (f ∷ fs) ≡ b.room = omega (arith, b.level) in
@@ -181,16 +184,17 @@ part_begun ty types limit f fs pool ns text_len text turns u b e =
       answer = rw e (answer_is types limit (length (f ∷ fs)) u);
       depth = rw e (omega (arith, fit.1, b.level));
       whole = missing f fs e ∙ sym fit.0;
+      turns = omega (arith, paid, entries_length pool ns);
     } where
       missing : (f : OpenPart) (fs : List OpenPart) → first_of f.left ≡ Some u → is_whole_in (f ∷ fs) ≡ false
       missing f [] e = rw e refl
       missing f (g ∷ fs) e = refl
 
 -- where nothing is missing
-whole_begun : (ty : ℕ) (types : List TypeInfo) (limit : ℕ) (f : OpenPart) (pool : List ℕ) (ns : List Node) (text_len : ℕ) (text : Option Pieces) (turns : ℕ) → IsBuilding ty (record { types = types; limit = limit; frames = f ∷ [] }) pool ns text_len → first_of f.left ≡ None →
+whole_begun : (ty : ℕ) (types : List TypeInfo) (limit : ℕ) (f : OpenPart) (pool : List ℕ) (ns : List Node) (text_len : ℕ) (text : Option Pieces) (turns : ℕ) → IsBuilding ty (record { types = types; limit = limit; frames = f ∷ [] }) pool ns text_len → IsPaid (record { types = types; limit = limit; frames = f ∷ [] }) ns turns → first_of f.left ≡ None →
     IsBegun (record { ty = ty; walk = record { types = types; limit = limit; frames = f ∷ [] }; entries = entries_shown pool ns; text = text; turns = turns })
 unfolding Grows
-whole_begun ty types limit f pool ns text_len text turns b e = by b.opens refl where
+whole_begun ty types limit f pool ns text_len text turns b paid e = by b.opens refl where
   by : (os : List OpenNode) → b.opens ≡ os → IsBegun (record { ty = ty; walk = record { types = types; limit = limit; frames = f ∷ [] }; entries = entries_shown pool ns; text = text; turns = turns })
   by [] o =
       let spine : Spine types b.room ty [] (f ∷ []) (cells_shown pool ns) b.own = subst (λ (x : List OpenNode). Spine types b.room ty x (f ∷ []) (cells_shown pool ns) b.own) o b.spine in
@@ -208,17 +212,18 @@ whole_begun ty types limit f pool ns text_len text turns b e = by b.opens refl w
         answer = rw e refl;
         depth = rw e refl;
         whole = rw e refl;
+        turns = omega (arith, paid, entries_length pool ns);
       }
   by (x ∷ os) o = absurd (omega (arith, ap length o, spine_length types b.room ty b.opens (f ∷ []) (cells_shown pool ns) b.own b.spine))
 
-begun_by : (ty : ℕ) (types : List TypeInfo) (limit : ℕ) (fs : List OpenPart) (pool : List ℕ) (ns : List Node) (text_len : ℕ) (text : Option Pieces) (turns : ℕ) → IsBuilding ty (record { types = types; limit = limit; frames = fs }) pool ns text_len → settled_in fs ≡ fs →
+begun_by : (ty : ℕ) (types : List TypeInfo) (limit : ℕ) (fs : List OpenPart) (pool : List ℕ) (ns : List Node) (text_len : ℕ) (text : Option Pieces) (turns : ℕ) → IsBuilding ty (record { types = types; limit = limit; frames = fs }) pool ns text_len → IsPaid (record { types = types; limit = limit; frames = fs }) ns turns → settled_in fs ≡ fs →
     IsBegun (record { ty = ty; walk = record { types = types; limit = limit; frames = fs }; entries = entries_shown pool ns; text = text; turns = turns })
-begun_by ty types limit [] pool ns text_len text turns b s = absurd (omega (arith, spine_length types b.room ty b.opens [] (cells_shown pool ns) b.own b.spine))
-begun_by ty types limit (f ∷ []) pool ns text_len text turns b s = by (first_of f.left) refl where
+begun_by ty types limit [] pool ns text_len text turns b paid s = absurd (omega (arith, spine_length types b.room ty b.opens [] (cells_shown pool ns) b.own b.spine))
+begun_by ty types limit (f ∷ []) pool ns text_len text turns b paid s = by (first_of f.left) refl where
   by : (x : Option ℕ) → first_of f.left ≡ x → IsBegun (record { ty = ty; walk = record { types = types; limit = limit; frames = f ∷ [] }; entries = entries_shown pool ns; text = text; turns = turns })
-  by (Some u) e = part_begun ty types limit f [] pool ns text_len text turns u b e
-  by None e = whole_begun ty types limit f pool ns text_len text turns b e
-begun_by ty types limit (f ∷ g ∷ fs) pool ns text_len text turns b s = let u = innermost f g fs s in part_begun ty types limit f (g ∷ fs) pool ns text_len text turns u.0 b u.1
+  by (Some u) e = part_begun ty types limit f [] pool ns text_len text turns u b paid e
+  by None e = whole_begun ty types limit f pool ns text_len text turns b paid e
+begun_by ty types limit (f ∷ g ∷ fs) pool ns text_len text turns b paid s = let u = innermost f g fs s in part_begun ty types limit f (g ∷ fs) pool ns text_len text turns u.0 b paid u.1
 
-pub is_begun : (ty : ℕ) (w : Walked) (pool : List ℕ) (ns : List Node) (text_len : ℕ) (text : Option Pieces) (turns : ℕ) → IsBuilding ty w pool ns text_len → IsSettled w → IsBegun (record { ty = ty; walk = w; entries = entries_shown pool ns; text = text; turns = turns })
-is_begun ty w pool ns text_len text turns b s = begun_by ty w.types w.limit w.frames pool ns text_len text turns b (ap (λ (x : Walked). x.frames) s)
+pub is_begun : (ty : ℕ) (w : Walked) (pool : List ℕ) (ns : List Node) (text_len : ℕ) (text : Option Pieces) (turns : ℕ) → IsBuilding ty w pool ns text_len → IsPaid w ns turns → IsSettled w → IsBegun (record { ty = ty; walk = w; entries = entries_shown pool ns; text = text; turns = turns })
+is_begun ty w pool ns text_len text turns b paid s = begun_by ty w.types w.limit w.frames pool ns text_len text turns b paid (ap (λ (x : Walked). x.frames) s)

@@ -10,7 +10,7 @@ use Rattle.grammar_core.specs.declared.form.StopReason.TheVariants as stop
 use Rattle.grammar_core.specs.declared.form.Next.{Next}
 use Rattle.grammar_core.specs.declared.form.Next.TheVariants as next
 use Rattle.value_core.specs.Walked.{Walked, next_type, next_of, depth_of}
-use Rattle.value_core.specs.Built.{Built, entries_text_bytes}
+use Rattle.value_core.specs.Built.{Built, HasFewTurns, entries_text_bytes}
 use Rattle.value_core.specs.Refusals.{is_whole}
 
 -- the type that is next in a walk, with the levels that there is room for at it
@@ -27,7 +27,8 @@ abbrev pub built_bytes : Built → List ℕ
 built_bytes b = flat_map (λ e. own_bytes (shape b.walk.types e.ty) e.head) b.entries
 
 -- the nodes are those of a begun tree of the type, and so are their bytes; its levels fit the depth limit; its first missing
--- type is the walk's next one, at its depth; it is a value exactly where the builder is whole
+-- type is the walk's next one, at its depth; it is a value exactly where the builder is whole; and its loop turned no more often
+-- than there were nodes to close
 pub record IsBegun (b : Built) : Type 0 where
   pub tree : Begun
   pub are_bytes : AreBytes (built_bytes b)
@@ -38,3 +39,4 @@ pub record IsBegun (b : Built) : Type 0 where
   pub answer : next_of b.walk ≡ next_in b.walk.types (next_with_room b.walk)
   pub depth : depth_of b.walk ≡ begun_depth tree
   pub whole : is_whole b ≡ is_whole_tree tree
+  pub turns : HasFewTurns b
