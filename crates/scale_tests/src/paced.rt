@@ -6,7 +6,7 @@ use std::io::{Read, Write};
 
 /// What a device does once its bytes have moved.
 #[derive(Clone, Copy, Debug, PartialEq, Eq)]
-pub(crate) enum Then {
+pub enum Then {
     /// A reader is at its end, a writer takes more.
     GoesOn,
     Fails,
@@ -16,14 +16,14 @@ pub(crate) enum Then {
 
 /// A reader that gives at most `step` bytes a call.
 #[derive(Drop)]
-pub(crate) struct PacedReader {
+pub struct PacedReader {
     bytes: &'static [u8],
     step: usize,
     then: Then,
 }
 
 impl PacedReader {
-    pub(crate) fn new(bytes: &'static [u8], step: usize, then: Then) -> PacedReader {
+    pub fn new(bytes: &'static [u8], step: usize, then: Then) -> PacedReader {
         PacedReader { bytes, step, then }
     }
 }
@@ -43,15 +43,15 @@ impl Read for PacedReader {
 
 /// A writer that takes at most `step` bytes a call, and `room` bytes before it does something else.
 #[derive(Drop)]
-pub(crate) struct PacedWriter {
-    pub(crate) taken: Vec<u8>,
+pub struct PacedWriter {
+    pub taken: Vec<u8>,
     room: usize,
     step: usize,
     then: Then,
 }
 
 impl PacedWriter {
-    pub(crate) fn new(alloc: Global, room: usize, step: usize, then: Then) -> PacedWriter {
+    pub fn new(alloc: Global, room: usize, step: usize, then: Then) -> PacedWriter {
         PacedWriter {
             taken: Vec::new(alloc),
             room,
@@ -82,13 +82,13 @@ impl Write for PacedWriter {
 
 /// A reader that gives `head` and then so many letters a.
 #[derive(Drop)]
-pub(crate) struct LetterReader {
+pub struct LetterReader {
     head: &'static [u8],
     letters: usize,
 }
 
 impl LetterReader {
-    pub(crate) fn new(head: &'static [u8], letters: usize) -> LetterReader {
+    pub fn new(head: &'static [u8], letters: usize) -> LetterReader {
         LetterReader { head, letters }
     }
 }

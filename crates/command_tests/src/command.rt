@@ -4,8 +4,8 @@ use crate::command_row::{
     BOOL, STR, U8, U8_AND_I32, U16, behind_prefix, check_row, decode, in_hex, refused, served,
     shown, types,
 };
-use crate::paced::{LetterReader, PacedReader, PacedWriter, Then};
 use scale_core::{Sink, Source};
+use scale_tests::paced::{LetterReader, PacedReader, PacedWriter, Then};
 use scale_tool::{Job, run};
 use std::alloc::{AllocError, Global};
 use std::process::Abort;

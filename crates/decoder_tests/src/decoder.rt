@@ -1,12 +1,12 @@
 //! The decoder: worked rows, whole and in every two pieces, its limits, and its memory.
 
-use crate::building::{
-    BITS_IN_AN_ARM, BYTES, CHAIN, COMPACT_OF_A_BOOL, COMPACT_U128, ENDLESS, LONG_ARRAY, OPTION,
-    SHADOWED_ARM, TEXT, TWO_UNITS_AND_A_BYTE, U8, UNITS, checked, written,
-};
 use decode_core::{DecodeFault, DecodeReason, Decoder, OpenFault, Progress};
 use linked_list_allocator::LocalHeap;
 use registry_core::TypeId;
+use scale_tests::building::{
+    BITS_IN_AN_ARM, BYTES, CHAIN, COMPACT_OF_A_BOOL, COMPACT_U128, ENDLESS, LONG_ARRAY, OPTION,
+    SHADOWED_ARM, TEXT, TWO_UNITS_AND_A_BYTE, U8, UNITS, checked, written,
+};
 use std::alloc::{Allocator, Global};
 use std::process::Abort;
 use std::test::Fail;

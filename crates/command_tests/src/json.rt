@@ -1,13 +1,13 @@
 //! Values as JSON: their trees and texts, and texts printed to writers that fail.
 
-use crate::building::{
-    BITS_IN_AN_ARM, BYTES, CHAIN, COMPACT_U128, Call, OPTION, SHADOWED_ARM, TEXT,
-    TWO_UNITS_AND_A_BYTE, U8, UNITS, WIDE, add, checked,
-};
-use crate::paced::{PacedWriter, Then};
 use json_core::{PrintFault, print, to_json};
 use registry_core::TypeId;
 use scale_core::{Sink, SinkFault};
+use scale_tests::building::{
+    BITS_IN_AN_ARM, BYTES, CHAIN, COMPACT_U128, Call, OPTION, SHADOWED_ARM, TEXT,
+    TWO_UNITS_AND_A_BYTE, U8, UNITS, WIDE, add, checked,
+};
+use scale_tests::paced::{PacedWriter, Then};
 use std::alloc::Global;
 use std::process::Abort;
 use std::test::Fail;

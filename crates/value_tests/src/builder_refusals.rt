@@ -1,10 +1,10 @@
 //! The reasons for which a builder refuses calls, in their order.
 
-use crate::building::{
+use registry_core::TypeId;
+use scale_tests::building::{
     BITS_IN_AN_ARM, BYTES, CHAIN, COMPACT_OF_A_BOOL, Call, ENDLESS, LONG_ARRAY, OPTION, TEXT,
     TWO_UNITS_AND_A_BYTE, U8, UNITS, WIDE, add, checked, what_stands,
 };
-use registry_core::TypeId;
 use std::alloc::Global;
 use std::process::Abort;
 use std::test::Fail;

@@ -1,7 +1,8 @@
 //! Texts that come to a builder in pieces.
 
-use crate::building::{Call, Row, TEXT, add, check_row, checked, what_stands, written};
+use crate::row::{Row, check_row};
 use registry_core::{Primitive, TypeId};
+use scale_tests::building::{Call, TEXT, add, checked, what_stands, written};
 use std::alloc::Global;
 use std::process::Abort;
 use std::test::Fail;

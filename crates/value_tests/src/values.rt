@@ -1,11 +1,11 @@
 //! Values built node by node: what each call answers, what stands then, and the bytes that are written.
 
-use crate::building::{
-    BITS_IN_AN_ARM, BYTES, CHAIN, COMPACT_OF_A_BOOL, COMPACT_U128, Call, ENDLESS, LONG_ARRAY,
-    OPTION, Row, SHADOWED_ARM, TEXT, TWO_UNITS_AND_A_BYTE, U8, UNITS, WIDE, add, check_row,
-    checked, written,
-};
+use crate::row::{Row, check_row};
 use registry_core::TypeId;
+use scale_tests::building::{
+    BITS_IN_AN_ARM, BYTES, CHAIN, COMPACT_OF_A_BOOL, COMPACT_U128, Call, ENDLESS, LONG_ARRAY,
+    OPTION, SHADOWED_ARM, TEXT, TWO_UNITS_AND_A_BYTE, U8, UNITS, WIDE, add, checked, written,
+};
 use std::test::Fail;
 use value_core::{BuildFault, Builder, What};
 

@@ -1,11 +1,11 @@
 //! What comes next in a value as it is built, and what a finished value tells.
 
-use crate::building::{
+use registry_core::{Primitive, TypeId};
+use scale_core::Target;
+use scale_tests::building::{
     BITS_IN_AN_ARM, BYTES, CHAIN, COMPACT_OF_A_BOOL, COMPACT_U128, Call, ENDLESS, LONG_ARRAY,
     OPTION, SHADOWED_ARM, TEXT, TWO_UNITS_AND_A_BYTE, UNITS, add, checked, what_stands, written,
 };
-use registry_core::{Primitive, TypeId};
-use scale_core::Target;
 use std::alloc::Global;
 use std::process::Abort;
 use std::test::Fail;

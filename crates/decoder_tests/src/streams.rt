@@ -1,18 +1,18 @@
 //! Values from readers of several paces and from pieces: worked rows, ends at the edge of a read, and failed reads.
 
-use crate::building::{
-    BITS_IN_AN_ARM, BYTES, CHAIN, COMPACT_OF_A_BOOL, COMPACT_U128, ENDLESS, LONG_ARRAY, OPTION,
-    SHADOWED_ARM, TEXT, TWO_UNITS_AND_A_BYTE, UNITS, checked, written,
-};
 use crate::decoder_memory::{NESTED, NESTED_BYTES, nested_pairs};
-use crate::paced::{PacedReader, Then};
-use crate::rationed::Rationed;
 use decode_core::{
     DecodeFault, DecodeReason, OpenFault, PiecesFault, StreamFault, decode_all, decode_pieces,
 };
 use linked_list_allocator::LocalHeap;
 use registry_core::TypeId;
 use scale_core::Source;
+use scale_tests::building::{
+    BITS_IN_AN_ARM, BYTES, CHAIN, COMPACT_OF_A_BOOL, COMPACT_U128, ENDLESS, LONG_ARRAY, OPTION,
+    SHADOWED_ARM, TEXT, TWO_UNITS_AND_A_BYTE, UNITS, checked, written,
+};
+use scale_tests::paced::{PacedReader, Then};
+use scale_tests::rationed::Rationed;
 use std::alloc::Global;
 use std::io;
 use std::io::Read;

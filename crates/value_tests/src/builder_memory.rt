@@ -1,9 +1,9 @@
 //! Builders whose memory is refused: what they answer, what stands then, and that the same call goes on later.
 
-use crate::building::{BYTES, Call, Standing, TEXT, U8, add, checked, what_stands, written};
-use crate::rationed::Rationed;
 use linked_list_allocator::LocalHeap;
 use registry_core::TypeId;
+use scale_tests::building::{BYTES, Call, Standing, TEXT, U8, add, checked, what_stands, written};
+use scale_tests::rationed::Rationed;
 use std::alloc::{Allocator, Global};
 use std::process::Abort;
 use std::test::Fail;

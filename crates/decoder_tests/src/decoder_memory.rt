@@ -1,10 +1,10 @@
 //! Decoders over heaps of fixed size, and decoders whose memory is refused.
 
-use crate::building::{BYTES, LONG_ARRAY, checked, written};
-use crate::rationed::Rationed;
 use decode_core::{DecodeFault, DecodeReason, Decoder, Progress};
 use linked_list_allocator::LocalHeap;
 use registry_core::TypeId;
+use scale_tests::building::{BYTES, LONG_ARRAY, checked, written};
+use scale_tests::rationed::Rationed;
 use std::alloc::{AllocError, Allocator, Global};
 use std::process::Abort;
 use std::test::Fail;

@@ -1,8 +1,9 @@
 //! Sources and sinks over devices that fail in mid-stream.
 
 use scale_core::{Sink, SinkFault, Source, SourceFault};
+use scale_tests::stuttering::StutteringWriter;
 use std::io;
-use std::io::{Read, Write};
+use std::io::Read;
 
 /// A reader that gives one byte a call, the number of the call; the second call is interrupted.
 #[derive(Drop)]
@@ -21,27 +22,6 @@ impl Read for StutteringReader {
         }
         part[0] = self.calls;
         Ok(1)
-    }
-}
-
-/// A writer that takes one byte a call; the second call is interrupted, and the fourth takes nothing.
-#[derive(Drop)]
-pub(crate) struct StutteringWriter {
-    pub(crate) calls: u8,
-}
-
-impl Write for StutteringWriter {
-    fn write(&mut self, part: &[u8]) -> io::Result<usize> {
-        self.calls = self.calls.saturating_add(1);
-        match self.calls {
-            2 => Err(io::ErrorKind::Interrupted.into()),
-            4 => Ok(0),
-            _ => Ok(part.len().min(1)),
-        }
-    }
-
-    fn flush(&mut self) -> io::Result<()> {
-        Ok(())
     }
 }
 

@@ -2,8 +2,8 @@
 
 ghost use Rattle.scale_tool.specs.Answer.{IsServed};
 
-use crate::paced::{PacedReader, PacedWriter, Then};
 use scale_core::{Sink, Source};
+use scale_tests::paced::{PacedReader, PacedWriter, Then};
 use scale_tool::{Job, run};
 use std::process::Abort;
 

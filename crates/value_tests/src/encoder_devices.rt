@@ -1,10 +1,10 @@
 //! Values written to writers that fail, take nothing, or take one byte a call.
 
-use crate::building::{CHAIN, Call, TEXT, TWO_UNITS_AND_A_BYTE, UNITS, WIDE, add, checked};
-use crate::devices::StutteringWriter;
-use crate::paced::{PacedWriter, Then};
 use registry_core::TypeId;
 use scale_core::{Sink, SinkFault};
+use scale_tests::building::{CHAIN, Call, TEXT, TWO_UNITS_AND_A_BYTE, UNITS, WIDE, add, checked};
+use scale_tests::paced::{PacedWriter, Then};
+use scale_tests::stuttering::StutteringWriter;
 use std::alloc::Global;
 use std::process::Abort;
 use std::test::Fail;

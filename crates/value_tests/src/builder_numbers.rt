@@ -1,6 +1,7 @@
 //! Booleans, characters and numbers in a builder: what is accepted at the ends of their ranges, and its bytes.
 
-use crate::building::{Call, Row, check_row};
+use crate::row::{Row, check_row};
+use scale_tests::building::Call;
 use std::test::Fail;
 use value_core::BuildFault;
 

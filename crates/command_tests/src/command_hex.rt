@@ -1,8 +1,8 @@
 //! Values whose files hold hexadecimal text, and what is refused in such a text.
 
 use crate::command_row::{BOOL, STR, U8, U16, check_row, in_hex, refused, shown, within};
-use crate::paced::{PacedReader, Then};
 use scale_core::{Sink, Source};
+use scale_tests::paced::{PacedReader, Then};
 use scale_tool::{Job, run};
 
 #[test]

@@ -1,0 +1,15 @@
+//! Tests of JSON, of the command's engine and of its command line.
+#![tactic(auto)]
+
+#[cfg(test)]
+mod command;
+#[cfg(test)]
+mod command_hex;
+#[cfg(test)]
+mod command_line;
+#[cfg(test)]
+mod command_row;
+#[cfg(test)]
+mod command_values;
+#[cfg(test)]
+mod json;

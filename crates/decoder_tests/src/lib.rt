@@ -1,0 +1,9 @@
+//! Tests of decoders, over pieces and over readers.
+#![tactic(auto)]
+
+#[cfg(test)]
+mod decoder;
+#[cfg(test)]
+mod decoder_memory;
+#[cfg(test)]
+mod streams;
