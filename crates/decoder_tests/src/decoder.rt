@@ -10,7 +10,7 @@ use scale_tests::building::{
 use std::alloc::{Allocator, Global};
 use std::process::Abort;
 use std::test::Fail;
-use value_core::Limits;
+use value_core::{Limits, What};
 use widths_core::Checked;
 
 /// Pieces that are fed, what the last of them answers, and what is held then: nodes, bytes of text, bytes taken.
@@ -41,7 +41,7 @@ const AMPLE: Limits = Limits {
 
 const MORE: Result<Progress, DecodeFault> = Ok(Progress::More);
 
-const ROWS: [Row; 33] = [
+const ROWS: [Row; 34] = [
     Row {
         name: "count of units",
         registry: UNITS,
@@ -224,6 +224,15 @@ const ROWS: [Row; 33] = [
             at: 1,
         }),
         held: (0, 0, 3),
+    },
+    Row {
+        name: "cut character",
+        registry: TEXT,
+        ty: 0,
+        limits: AMPLE,
+        pieces: &[b"\x08\xc3"],
+        answer: MORE,
+        held: (0, 1, 2),
     },
     Row {
         name: "cut length",
@@ -570,14 +579,23 @@ fn a_heap_of_fixed_size_bounds_a_decoder(rt: HostRuntime) -> Result<(), Fail> {
         reason: DecodeReason::OutOfMemory,
         at: 0,
     });
-    assert_eq!(rt; full.feed(b"\x02\x00\x04\x00"), MORE);
-    let many = [7; 4096];
+    let mut many = Vec::from_slice(rt.alloc(), b"\x02\x00\x04\x00")?;
+    'elements: for _ in 0..65_536 {
+        many.push(7)?;
+    }
     assert_eq!(rt; full.feed(&many), refused);
     assert_eq!(rt; (full.node_count(), full.text_bytes()), (0, 0));
-    assert_eq!(rt; full.feed(b""), refused);
-    drop(full);
+    'later: for piece in [b"".as_slice(), b"\x07", &many] {
+        assert_eq!(rt; full.feed(piece), refused);
+        assert_eq!(rt; (full.node_count(), full.text_bytes()), (0, 0));
+    }
+    assert_eq!(rt; Err(full.finish().err()), refused.map_err(Some));
     let mut next = open(&heap, &checked, &Row { ty: 0, ..claim })?;
     assert_eq!(rt; next.feed(b"\x2a"), Ok(Progress::Done { used: 1 }));
+    let Ok(value) = next.finish() else {
+        return Err("no value")?;
+    };
+    assert_eq!(rt; value.root().what(), What::Unsigned(42));
     Ok(())
 }
 

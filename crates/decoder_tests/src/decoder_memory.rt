@@ -1,8 +1,10 @@
 //! Decoders over heaps of fixed size, and decoders whose memory is refused.
 
 use decode_core::{DecodeFault, DecodeReason, Decoder, Progress};
+use json_core::{print, to_json};
 use linked_list_allocator::LocalHeap;
 use registry_core::TypeId;
+use scale_core::Sink;
 use scale_tests::building::{BYTES, LONG_ARRAY, checked, written};
 use scale_tests::rationed::Rationed;
 use std::alloc::{AllocError, Allocator, Global};
@@ -71,6 +73,11 @@ fn a_value_of_two_to_the_fortieth_units_is_one_node(rt: HostRuntime) -> Result<(
     assert_eq!(rt; (value.node_count(), value.text_bytes()), (1, 0));
     let bytes = written(rt.alloc(), &value)?;
     assert_eq!(rt; bytes.len(), 0);
+    let tree = to_json(rt.alloc(), &value)?;
+    assert_eq!(rt; tree.to_string(rt.alloc())?.as_str(), "null");
+    let mut sink = Sink::new(Vec::new(rt.alloc()));
+    assert_eq!(rt; print(rt.alloc(), &value, &mut sink), Ok(()));
+    assert_eq!(rt; sink.into_inner().as_slice(), b"null".as_slice());
     drop(value);
     assert_eq!(rt; heap.used(), 0);
     Ok(())

@@ -6,4 +6,8 @@ mod decoder;
 #[cfg(test)]
 mod decoder_memory;
 #[cfg(test)]
+mod large_inputs;
+#[cfg(test)]
+mod primitives;
+#[cfg(test)]
 mod streams;

@@ -3,5 +3,6 @@
 
 pub mod building;
 pub mod paced;
+pub mod primitives;
 pub mod rationed;
 pub mod stuttering;
