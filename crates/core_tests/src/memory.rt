@@ -65,8 +65,13 @@ const PLACES: [(&str, &[u8]); 22] = [
     ),
 ];
 
-/// The lengths 1073741823 and 4294967295, the greatest of four bytes and the greatest there is.
-const LENGTHS: [&[u8]; 2] = [b"\xfe\xff\xff\xff", b"\x03\xff\xff\xff\xff"];
+/// The lengths 1048576, for which memory would be granted, and 1073741823 and 4294967295, the greatest of four bytes and
+/// the greatest there is.
+const LENGTHS: [&[u8]; 3] = [
+    b"\x02\x00\x40\x00",
+    b"\xfe\xff\xff\xff",
+    b"\x03\xff\xff\xff\xff",
+];
 
 /// How many KiB this process has reserved, and the most that it ever had.
 ///

@@ -4,7 +4,7 @@ use decode_core::{DecodeFault, DecodeReason, Decoder, Progress};
 use json_core::print;
 use registry_core::TypeId;
 use scale_core::{Sink, write_compact};
-use scale_tests::building::{BYTES, CHAIN, TEXT, checked, written};
+use scale_tests::building::{BYTES, CHAIN, TEXT, TWO_UNITS_AND_A_BYTE, UNITS, checked, written};
 use std::alloc::{AllocError, Global};
 use std::process::Abort;
 use std::test::Fail;
@@ -189,6 +189,42 @@ fn each_index_may_be_missing(rt: HostRuntime) -> Result<(), Fail> {
             assert_eq!(rt; decoder.feed(&[index]), answer, "{index} without {missing}");
         }
     }
+    Ok(())
+}
+
+// Before the first byte a tuple of two units and a byte has three nodes, where 260 would be the most.
+#[test]
+fn nodes_stay_below_the_bound(rt: HostRuntime) -> Result<(), Fail> {
+    let checked = checked(rt.alloc(), TWO_UNITS_AND_A_BYTE)?;
+    assert_eq!(rt; checked.widest(), 3);
+    let limits = Limits::default_limits();
+    let Ok(mut decoder) = Decoder::new(rt.alloc(), &checked, TypeId(2), limits) else {
+        return Err("no decoder")?;
+    };
+    assert_eq!(rt; decoder.feed(b""), Ok(Progress::More));
+    assert_eq!(rt; (decoder.taken(), decoder.node_count()), (0, 3));
+    let widest = u64::from(checked.widest());
+    let most = (decoder.taken() + 1) * (u64::from(limits.depth) + 1) * (widest + 1);
+    assert_eq!(rt; most, 260);
+    assert!(rt; decoder.node_count() <= most);
+    Ok(())
+}
+
+#[test]
+fn a_sequence_of_units_is_its_count(rt: HostRuntime) -> Result<(), Fail> {
+    let checked = checked(rt.alloc(), UNITS)?;
+    let limits = Limits::default_limits();
+    let Ok(mut decoder) = Decoder::new(rt.alloc(), &checked, TypeId(2), limits) else {
+        return Err("no decoder")?;
+    };
+    assert_eq!(rt;
+        decoder.feed(b"\x03\x00\x00\x00\x40"),
+        Ok(Progress::Done { used: 5 })
+    );
+    let Ok(value) = decoder.finish() else {
+        return Err("no value")?;
+    };
+    assert_eq!(rt; value.root().what(), What::Count(1_073_741_824));
     Ok(())
 }
 

@@ -209,3 +209,30 @@ fn an_open_text_is_counted_as_it_comes(rt: HostRuntime) -> Result<(), Fail> {
     assert_eq!(rt; bytes.as_slice(), b"\x08ab\x10\xc3\xa9\xc3\xa9".as_slice());
     Ok(())
 }
+
+// A piece of 1 MiB, and a text that is whole of it.
+#[test]
+fn a_long_piece_is_kept_at_once(rt: HostRuntime) -> Result<(), Fail> {
+    let checked = checked(rt.alloc(), TEXT)?;
+    let mut letters = Vec::new(rt.alloc());
+    'letters: for _ in 0..1_048_576 {
+        letters.push(b'a')?;
+    }
+    let Ok(mut builder) = Builder::new(rt.alloc(), &checked, TypeId(0), 0) else {
+        return Err("no builder")?;
+    };
+    assert_eq!(rt; builder.text_start(1_048_576), Ok(()));
+    assert_eq!(rt; builder.text_piece(&letters), Ok(()));
+    assert_eq!(rt;
+        (builder.node_count(), builder.text_bytes()),
+        (0, 1_048_576)
+    );
+    assert_eq!(rt; builder.text_end(), Ok(()));
+    let Ok(value) = builder.finish() else {
+        return Err("no value")?;
+    };
+    assert_eq!(rt; (value.node_count(), value.text_bytes()), (1, 1_048_576));
+    let text = value.root().text().ok_or("no text")?;
+    assert!(rt; text.as_bytes() == letters.as_slice());
+    Ok(())
+}

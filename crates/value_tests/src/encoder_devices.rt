@@ -2,13 +2,15 @@
 
 use registry_core::TypeId;
 use scale_core::{Sink, SinkFault};
-use scale_tests::building::{CHAIN, Call, TEXT, TWO_UNITS_AND_A_BYTE, UNITS, WIDE, add, checked};
+use scale_tests::building::{
+    CHAIN, Call, TEXT, TWO_UNITS_AND_A_BYTE, U8, UNITS, WIDE, add, checked,
+};
 use scale_tests::paced::{PacedWriter, Then};
 use scale_tests::stuttering::StutteringWriter;
 use std::alloc::Global;
 use std::process::Abort;
 use std::test::Fail;
-use value_core::{Builder, Value, WriteFault, encode};
+use value_core::{BuildFault, Builder, Value, WriteFault, encode};
 
 /// A value by the calls that build it, and its bytes.
 #[derive(Clone, Copy)]
@@ -169,5 +171,35 @@ fn an_interrupted_write_is_a_failed_one(rt: HostRuntime) -> Result<(), Fail> {
     assert_eq!(rt; encode(&value, &mut sink), Err(wanted));
     assert!(rt; sink.failed());
     assert_eq!(rt; sink.into_inner().calls, 2);
+    Ok(())
+}
+
+// The builder that `finish` hands back is the one that it was, and takes the value.
+#[test]
+fn a_builder_goes_on_where_finish_was_refused(rt: HostRuntime) -> Result<(), Fail> {
+    let checked = checked(rt.alloc(), U8)?;
+    let Ok(mut builder) = Builder::new(rt.alloc(), &checked, TypeId(0), 64) else {
+        return Err("no builder")?;
+    };
+    assert_eq!(rt; builder.unsigned(256), Err(BuildFault::OutOfRange));
+    let Err((fault, mut builder)) = builder.finish() else {
+        return Err("a value of no node")?;
+    };
+    assert_eq!(rt; fault, BuildFault::UnfinishedValue);
+    assert_eq!(rt; builder.unsigned(42), Ok(()));
+    assert_eq!(rt; builder.unsigned(1), Err(BuildFault::WrongKind));
+    let Ok(value) = builder.finish() else {
+        return Err("no value")?;
+    };
+    let mut sink = Sink::new(Vec::new(rt.alloc()));
+    assert_eq!(rt; encode(&value, &mut sink), Ok(()));
+    assert_eq!(rt; sink.into_inner().as_slice(), b"\x2a".as_slice());
+    let mut failing = Sink::new(PacedWriter::new(rt.alloc(), 0, 1, Then::Fails));
+    let refused = WriteFault {
+        reason: SinkFault::Device,
+        written: 0,
+    };
+    assert_eq!(rt; encode(&value, &mut failing), Err(refused));
+    assert!(rt; failing.failed());
     Ok(())
 }

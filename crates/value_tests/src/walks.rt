@@ -286,3 +286,26 @@ fn children_are_told_behind_a_subtree(rt: HostRuntime) -> Result<(), Fail> {
     assert_eq!(rt; bytes.as_slice(), b"\x08\x07\xff\x2a".as_slice());
     Ok(())
 }
+
+// The root has depth 0, so the node with 1024 around it is the deepest that a builder takes.
+#[test]
+fn a_walk_goes_to_the_greatest_depth(rt: HostRuntime) -> Result<(), Fail> {
+    let checked = checked(rt.alloc(), CHAIN)?;
+    let Ok(mut builder) = Builder::new(rt.alloc(), &checked, TypeId(0), 1024) else {
+        return Err("no builder")?;
+    };
+    'levels: for depth in 0..1024u16 {
+        assert_eq!(rt; builder.walk().depth(), depth);
+        assert_eq!(rt; builder.walk().next(), Next::Wants(Form::Arm));
+        assert_eq!(rt; builder.arm(1), Ok(()), "the arm at depth {depth}");
+    }
+    assert_eq!(rt; builder.walk().depth(), 1024);
+    assert_eq!(rt; builder.walk().next(), Next::Wants(Form::Arm));
+    assert_eq!(rt; builder.arm(0), Ok(()));
+    assert_eq!(rt; builder.walk().next(), Next::Finished);
+    let Ok(value) = builder.finish() else {
+        return Err("no value")?;
+    };
+    assert_eq!(rt; value.node_count(), 1025);
+    Ok(())
+}
