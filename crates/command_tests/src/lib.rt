@@ -4,7 +4,11 @@
 #[cfg(test)]
 mod command;
 #[cfg(test)]
+mod command_help;
+#[cfg(test)]
 mod command_hex;
+#[cfg(test)]
+mod command_limits;
 #[cfg(test)]
 mod command_line;
 #[cfg(test)]
