@@ -2,7 +2,7 @@
 
 ghost use Rattle.std.specs.Prelude.{◌≡◌, ◌⊎◌, [], true, IfOk, IfSome, IsErrOf};
 ghost use Rattle.decode_core.specs.Decoding.{opening_fault};
-ghost use Rattle.decode_core.specs.Streaming.{FeedsAll, IsOfJob, IsUnderWay, Looks, Streams, job_of};
+ghost use Rattle.decode_core.specs.Streaming.{FeedsAll, IsOfJob, IsUnderWay, Looks, StopsOpen, Streams, job_of};
 ghost use Rattle.decode_core.specs.declared.fault.OpenFault.{OpenFault};
 ghost use Rattle.decode_core.specs.declared.stream.StreamFault.TheVariants.{Decode, Device, Open};
 
@@ -65,7 +65,7 @@ impl From<SourceFault> for StreamFault {
 
 /// Does a byte follow? It is read then.
 fn has_more<R: Read>(source: &mut Source<R>) -> Result<bool, StreamFault>
-    ensures answers { Looks (R.remaining source.old.device) result }
+    ensures answers { Looks (R.remaining source.old.device) (R.remaining source.new.device) result }
     ensures told { IsErrOf result StreamFault.Device → source.new.failed ≡ true }
     ensures quiet { IsErrOf result StreamFault.Device ⊎ (source.new.failed ≡ source.old.failed) }
 {
@@ -81,21 +81,22 @@ fn feed_all<A: Allocator, R: Read>(
 ) -> Result<bool, StreamFault>
     requires { IsUnderWay decoder.old [] }
     ensures job { decoder.new.job ≡ decoder.old.job }
-    ensures answers { FeedsAll decoder.new (R.remaining source.old.device) result }
+    ensures answers { FeedsAll decoder.new (R.remaining source.old.device) (R.remaining source.new.device) result }
     ensures told { IsErrOf result StreamFault.Device → source.new.failed ≡ true }
     ensures quiet { IsErrOf result StreamFault.Device ⊎ (source.new.failed ≡ source.old.failed) }
 {
     let mut part = [0u8; PIECE];
+    let mut count = 0;
     'pieces: loop {
-        let count = source.pull(&mut part)?;
-        if count == 0 {
-            return Ok(false);
-        }
         if let Progress::Done { used } = decoder.feed(&part[..count])? {
             if used < count as u64 {
                 return Ok(true);
             }
             return has_more(source);
+        }
+        count = source.pull(&mut part)?;
+        if count == 0 {
+            return Ok(false);
         }
     }
 }
@@ -117,6 +118,7 @@ pub fn decode_all<'r, A: Allocator + Clone, R: Read>(
 ) -> Result<Value<'r, A>, StreamFault>
     ensures answers { IfSome (R.remaining source.old.device) (λ bytes. Streams (opening_fault checked.now root.0 limits) (job_of checked.now root.0 limits) bytes result) }
     ensures same { IfOk result (IsOfJob (job_of checked.now root.0 limits)) }
+    ensures stopped { IsErrOf result StreamFault.Device → StopsOpen (job_of checked.now root.0 limits) (R.remaining source.old.device) (R.remaining source.new.device) }
     ensures unread { (e : OpenFault) → result ≡ Err (StreamFault.Open e) → source.new ≡ source.old }
     ensures told { IsErrOf result StreamFault.Device → source.new.failed ≡ true }
     ensures quiet { IsErrOf result StreamFault.Device ⊎ (source.new.failed ≡ source.old.failed) }
