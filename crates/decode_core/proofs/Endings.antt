@@ -13,7 +13,6 @@ use Rattle.grammar_core.specs.Forms.{form_of, form_of_shape, sequence_form, comp
 use Rattle.grammar_core.specs.Parts.{Part, first_of}
 use Rattle.grammar_core.specs.declared.form.Form.{Form}
 use Rattle.grammar_core.specs.declared.form.Form.TheVariants as form
-use Rattle.grammar_core.specs.declared.form.Next.{Next}
 use Rattle.grammar_core.specs.declared.form.Next.TheVariants as next
 use Rattle.grammar_core.specs.declared.form.StopReason.{StopReason}
 use Rattle.grammar_core.specs.declared.form.StopReason.TheVariants as stopped
@@ -109,19 +108,3 @@ stop_stops b c text piece why h is =
     let x = held_of (record { built = b; carry = c }) ++ piece in
     let r = stop_refuses b why is x in
     (stop_refusal why, x, no_cut why, refl, sym (ap length none), omega arith, r.tells, r.decided, omega arith)
-
--- a value that is whole wants nothing more
-pub whole_finished : (w : Walked) → is_whole_in w.frames ≡ true → next_of w ≡ next.Finished
-whole_finished w h = ap (next_from w) (by w.frames h) where
-  none_by : (o : Option ℕ) → is_none o ≡ true → o ≡ None
-  none_by None e = refl
-  none_by (Some t) e = absurd cc
-
-  by : (fs : List OpenPart) → is_whole_in fs ≡ true → first_in fs ≡ None
-  by [] e = absurd cc
-  by (f ∷ []) e = none_by (first_of f.left) e
-  by (f ∷ g ∷ fs) e = absurd cc
-
--- so neither a node nor a refusal is next
-pub whole_wants_none : {X : Type 0} (w : Walked) (k : Next) → is_whole_in w.frames ≡ true → next_of w ≡ k → (k ≡ next.Finished → ⊥) → X
-whole_wants_none w k h is other = absurd (other (sym is ∙ whole_finished w h))

@@ -2,13 +2,13 @@
 use Rattle.std.proofs.Common.{◌≡◌, ℕ, suc, ◌+◌, ◌*◌, ◌-◌, ◌<◌, ◌≤◌, ◌⊎◌, List, [], ◌++◌, length, take, drop, refl, sym, ap, subst, ◌∙◌, append_assoc, arith, inl, inr, length-drop}
 use Rattle.std.proofs.lemmas.List.{append-nil, drop-drop, take_rest, take-append-drop, length-take}
 use Rattle.std.proofs.Math.Seq.{take-add}
-use Rattle.std.specs.Prelude.{Result, Ok, true}
+use Rattle.std.specs.Prelude.{true}
 use Rattle.registry_core.specs.declared.type_info.TypeInfo.{TypeInfo}
 use Rattle.value_core.specs.Refusals.{is_whole}
 use Rattle.decode_core.specs.Machine.{State, remain, to_go}
 use Rattle.decode_core.specs.Running.{Running, held_of, state_of}
 use Rattle.decode_core.specs.Told.{after}
-use Rattle.decode_core.specs.Turned.{FeedTells, IsSame, IsSound, Moves, RunsOut, Steps, StepTells, WantsMemory, left_to_do, types_of}
+use Rattle.decode_core.specs.Turned.{FeedTells, IsSame, IsSound, Moves, Steps, StepTells, left_to_do, types_of}
 use Rattle.decode_core.specs.declared.turned.Stopped.{Stopped}
 use Rattle.decode_core.specs.declared.turned.Stopped.TheVariants as stop
 use Rattle.decode_core.specs.declared.turned.Turned.{Turned}
@@ -79,29 +79,12 @@ turns_stop a b c piece at stop.Finished le h k sound = (le, (b, h, k.1, k.0, sou
 turns_stop a b c piece at stop.Wants le h k sound = (le, (b, h, k.1, k.0, sound))
 turns_stop a b c piece at (stop.Refused held told_reason place len) le h k sound = (le, (b, h, k, tt, sound))
 
--- the turn that ends for want of memory
-pub turns_short : (a b : Running) (piece : List ℕ) (at : ℕ) → at ≤ length piece → Moves a b (take at piece) → WantsMemory b (take (length piece - at) (drop at piece)) → RunsOut a piece at
-turns_short a b piece at le h k = (le, (b, h, subst (WantsMemory b) (take_rest piece at) k))
-
 -- a whole value has one turn, which stops
 stays_whole : (fn self : Running) (at : ℕ) → (is_whole fn.built ≡ true → (at ≡ 0) × (self ≡ fn)) → is_whole fn.built ≡ true → is_whole self.built ≡ true
 stays_whole fn self at h w = subst (λ (s : Running). is_whole s.built ≡ true) (sym (h w).1) w
 
 pub whole_goes_on : {X : Type 0} (fn self : Running) (at n : ℕ) (t : Turned) → (is_whole fn.built ≡ true → (at ≡ 0) × (self ≡ fn)) → (is_whole self.built ≡ true → t ≡ turned.Stopped stop.Finished) → t ≡ turned.On n → is_whole fn.built ≡ true → X
 whole_goes_on fn self at n t h k is w = let both = sym is ∙ k (stays_whole fn self at h w) in absurd cc
-
-pub whole_short : {X : Type 0} (fn self : Running) (at : ℕ) (t : Turned) → (is_whole fn.built ≡ true → (at ≡ 0) × (self ≡ fn)) → (is_whole self.built ≡ true → t ≡ turned.Stopped stop.Finished) → t ≡ turned.OutOfMemory → is_whole fn.built ≡ true → X
-whole_short fn self at t h k is w = let both = sym is ∙ k (stays_whole fn self at h w) in absurd cc
-
-same_stop : (s : Stopped) → turned.Stopped s ≡ turned.Stopped stop.Finished → s ≡ stop.Finished
-same_stop s e = cc
-
-pub whole_stops : (fn self new : Running) (piece : List ℕ) (at : ℕ) (s : Stopped) (t : Turned) → (is_whole fn.built ≡ true → (at ≡ 0) × (self ≡ fn)) → (is_whole self.built ≡ true → t ≡ turned.Stopped stop.Finished) → t ≡ turned.Stopped s → StepTells self new piece t → is_whole fn.built ≡ true → (◌≡◌ {A = Result (ℕ × Stopped) ℕ} (Ok (at, s)) (Ok (0, stop.Finished))) × (new ≡ fn)
-whole_stops fn self new piece at s t h k is tells w =
-    let none = h w in
-    let end : s ≡ stop.Finished = same_stop s (sym is ∙ k (stays_whole fn self at h w)) in
-    let told = subst (StepTells self new piece) (k (stays_whole fn self at h w)) tells in
-    (ap (λ (n : ℕ). Ok (n, s)) none.0 ∙ ap (λ (x : Stopped). Ok (0, x)) end, told.0 ∙ none.1)
 
 -- what is left of a piece, as a slice of it
 rest_tells : (b c : Running) (piece : List ℕ) (at n : ℕ) → StepTells b c (take (length piece - at) (drop at piece)) (turned.On n) → StepTells b c (drop at piece) (turned.On n)

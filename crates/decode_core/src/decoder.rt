@@ -179,7 +179,8 @@ impl<'r, A: Allocator + Clone> Decoder<'r, A> {
 
 impl<'r, A: Allocator> Decoder<'r, A> {
     /// How many bytes were taken: all that were fed while the value goes on, the value's own when it is whole, and those
-    /// up to the one that decides a refusal, with it. Where memory was refused it is those taken before it was.
+    /// up to the one that decides a refusal, with it. Where memory was refused it is those taken before it was. No call
+    /// makes it less, and none adds more than the bytes of its piece.
     pub fn taken(&self) -> u64
         ensures { result ≡ self.now.taken }
     {
@@ -214,11 +215,13 @@ impl<'r, A: Allocator> Decoder<'r, A> {
     /// registry). However the bytes are cut, the answer to each piece is that to all bytes so far.
     ///
     /// Answers `More` where the next node needs a byte that is not there, and `Done` in the call that brings the value's
-    /// last byte; bytes behind it are not used, and every later call answers `Done` with none used.
+    /// last byte; bytes after it are not used. A decoder that has answered `Done` or a refusal keeps its answer: every
+    /// later call answers `Done` with none used, and keeps the value, or is refused with the same. It takes no memory.
     ///
     /// Refuses in the call that brings the deciding byte, with the place from the value's first byte: what the grammar
     /// refuses first; `TooLong` at the limit of bytes where the value is unfinished there and one more is offered; and
-    /// `OutOfMemory` at 0. It then holds no node and no text, and every later call is refused with the same.
+    /// `OutOfMemory` at 0, only where after the bytes of `taken()` a node was to be added whose own bytes are there and
+    /// that the grammar does not refuse, or bytes of a text were to be kept. It then holds no node and no text.
     pub fn feed(&mut self, piece: &[u8]) -> Result<Progress, DecodeFault>
         ensures job { self.new.job ≡ self.old.job }
         ensures calls { self.new.calls ≡ self.old.calls + 1 }
@@ -255,10 +258,11 @@ impl<'r, A: Allocator> Decoder<'r, A> {
         }
     }
 
-    /// The value, where it is whole; first it does what a piece of no bytes does.
+    /// The value, where it is whole; first it does what a piece of no bytes does. After `Done` it is the value that was
+    /// there, and takes no memory.
     ///
-    /// Refuses a value that is unfinished as `Truncated` at the number of bytes that were fed, and else as `feed` did.
-    /// Nothing comes back then.
+    /// Refuses a value that is unfinished as `Truncated` at the number of bytes that were fed, and after a refusal with
+    /// the same. On the way it refuses what a piece of no bytes would be refused for. Nothing comes back then.
     pub fn finish(self) -> Result<Value<'r, A>, DecodeFault>
         ensures refused { (f : DecodeFault) → self.entry.run ≡ Err f → result ≡ Err f }
         ensures whole { (s : Running) → self.entry.run ≡ Ok s → is_whole s.built ≡ true → result ≡ Ok (finished s.built) }

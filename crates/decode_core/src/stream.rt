@@ -34,7 +34,7 @@ pub enum StreamFault {
         /// How many bytes the value has.
         at: u64,
     },
-    /// A read failed before the rest was decided.
+    /// A read failed, and the bytes that were read before it decide nothing of this.
     #[error("Device")]
     Device,
 }
@@ -74,7 +74,8 @@ fn has_more<R: Read>(source: &mut Source<R>) -> Result<bool, StreamFault>
     Ok(count > 0)
 }
 
-/// Feeds a decoder that has taken nothing until its value is whole or no byte is left: does one follow the value?
+/// Feeds a decoder that has taken nothing, no byte first, until its value is whole or none is left: does one follow the
+/// value?
 fn feed_all<A: Allocator, R: Read>(
     decoder: &mut Decoder<'_, A>,
     source: &mut Source<R>,
@@ -106,9 +107,10 @@ fn feed_all<A: Allocator, R: Read>(
 ///
 /// Refuses with `Open`, before it reads, what `Decoder::new` refuses; and with `Decode` what a decoder refuses in these
 /// bytes, which are then not read to their end, or where they end within the value, as `Truncated` at their number.
-/// Where a byte follows the value it is `TrailingBytes` at the value's length, and `Device` where a read failed before
-/// any of this was decided: `failed()` is true then, and else as it was. After each refusal nothing is kept. The reader
-/// has lost what was read, at most 4096 bytes behind the one that decides.
+/// Where a byte follows the value it is `TrailingBytes` at the value's length. It is `Device` where a read failed, and the
+/// bytes read before it leave the answer open: more are wanted, or they are all the value's and one may follow them.
+/// `failed()` is true then, and else as it was. After each refusal nothing is kept. The reader has lost what was read, at
+/// most 4096 bytes after the one that decides.
 pub fn decode_all<'r, A: Allocator + Clone, R: Read>(
     alloc: A,
     checked: &'r Checked,

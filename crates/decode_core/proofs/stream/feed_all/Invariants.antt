@@ -1,4 +1,4 @@
-use Rattle.std.proofs.Common.{◌≡◌, ℕ, ◌+◌, ◌-◌, ◌≤◌, ◌++◌, List, length, take}
+use Rattle.std.proofs.Common.{◌≡◌, ℕ, ◌+◌, ◌-◌, ◌≤◌, ◌++◌, List, take}
 use Rattle.std.specs.Io.KnownBytes.{Consumes}
 use Rattle.decode_core.specs.Streaming.{IsUnderWay}
 use Rattle.decode_core.proofs.stream.feed_all.Given as goal

@@ -1,7 +1,7 @@
 use Rattle.std.proofs.Common.{◌-◌, ◌<◌, ◌≤◌, length, take, drop}
 use Rattle.decode_core.specs.Turned.{StepTells}
 use Rattle.std.proofs.Common.{arith, refl, subst}
-use Rattle.decode_core.proofs.Moving.{each_added, each_held, few_added, few_held, turn_goes_on, turn_nearer, turns_short, whole_goes_on, whole_short, whole_stops}
+use Rattle.decode_core.proofs.Moving.{each_added, each_held, few_added, few_held, turn_goes_on, turn_nearer, whole_goes_on}
 use Rattle.decode_core.proofs.run.Run.feed.Goals as goal
 
 -- src/run.rt:241:9
