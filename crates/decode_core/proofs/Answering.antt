@@ -1,13 +1,13 @@
 -- The answers of the runs as a whole, to a reader and to pieces, by what was fed.
 use Rattle.std.proofs.Common.{◌≡◌, ℕ, ◌+◌, ◌<◌, true, List, [], ◌∷◌, ◌++◌, length, take, drop, get_or, Option, Some, None, Ok, Err, refl, sym, ap, subst, ◌∙◌, append-nil, inl, inr, flat_map}
-use Rattle.std.specs.Prelude.{IfSome, ◌⊎◌}
+use Rattle.std.specs.Prelude.{IfSome, Result, ◌⊎◌}
 use Rattle.std.proofs.lemmas.Grind.{flat_map-append}
 use Rattle.std.proofs.lemmas.List.{take-append-drop, take_more}
 use Rattle.grammar_core.specs.Tree.{Tree}
 use Rattle.value_core.specs.Shown.{Seen}
 use Rattle.decode_core.specs.Decoding.{Decoding, Finishes, IsEnded, Led}
 use Rattle.decode_core.specs.Outcome.{Job, done, more, IsOutcome}
-use Rattle.decode_core.specs.Streaming.{EndsAt, FeedsAll, IsFed, IsUnderWay, Joins, Streams, Trails}
+use Rattle.decode_core.specs.Streaming.{EndsAt, FeedsAll, IsFed, IsUnderWay, Joins, StopsOpen, Streams, Trails}
 use Rattle.decode_core.specs.declared.fault.DecodeFault.{DecodeFault}
 use Rattle.decode_core.specs.declared.fault.OpenFault.{OpenFault}
 use Rattle.decode_core.specs.declared.pieces.PiecesFault.TheVariants as pieces
@@ -33,31 +33,36 @@ pub end_streams : (known : Option (List ℕ)) (o : Option OpenFault) (j : Job) (
 end_streams None o j d b f none same is h = tt
 end_streams (Some xs) o j d b f none same is h = (none, subst (λ (i : Job). Finishes i xs (Err f)) same (subst (λ (l : List ℕ). Finishes d.job l (Err f)) (sym is) h))
 
-pub trailing_streams : (known : Option (List ℕ)) (o : Option OpenFault) (j : Job) (d : Decoding) → o ≡ None → d.job ≡ j → FeedsAll d known (Ok true) → IfSome known (λ bytes. Streams o j bytes (Err (stream.TrailingBytes d.taken)))
-trailing_streams None o j d none same h = tt
-trailing_streams (Some xs) o j d none same h = (none, subst (λ (i : Job). Trails i d.taken xs) same h)
+pub trailing_streams : (known left : Option (List ℕ)) (o : Option OpenFault) (j : Job) (d : Decoding) → o ≡ None → d.job ≡ j → FeedsAll d known left (Ok true) → IfSome known (λ bytes. Streams o j bytes (Err (stream.TrailingBytes d.taken)))
+trailing_streams None left o j d none same h = tt
+trailing_streams (Some xs) left o j d none same h = (none, subst (λ (i : Job). Trails i d.taken xs) same h)
 
 refused_streams : (known : Option (List ℕ)) (o : Option OpenFault) (j : Job) (d : Decoding) (f : DecodeFault) → o ≡ None → d.job ≡ j → IfSome known (λ bytes. Finishes d.job bytes (Err f)) → IfSome known (λ bytes. Streams o j bytes (Err (stream.Decode f)))
 refused_streams None o j d f none same h = tt
 refused_streams (Some xs) o j d f none same h = (none, subst (λ (i : Job). Finishes i xs (Err f)) same h)
 
-device_streams : (known : Option (List ℕ)) (o : Option OpenFault) (j : Job) → o ≡ None → IfSome known (λ bytes. Streams o j bytes (Err stream.Device))
-device_streams None o j none = tt
-device_streams (Some xs) o j none = none
+device_streams : (known left : Option (List ℕ)) (o : Option OpenFault) (j : Job) → o ≡ None → StopsOpen j known left → IfSome known (λ bytes. Streams o j bytes (Err stream.Device))
+device_streams None left o j none h = tt
+device_streams (Some xs) None o j none h = absurd h.1
+device_streams (Some xs) (Some ys) o j none h = (none, (h.0, ys, h.1, h.2))
 
-pub fault_streams : (known : Option (List ℕ)) (o : Option OpenFault) (j : Job) (d : Decoding) (e : StreamFault) → o ≡ None → d.job ≡ j → FeedsAll d known (Err e) → IfSome known (λ bytes. Streams o j bytes (Err e))
-fault_streams known o j d (stream.Open e) none same h = absurd h
-fault_streams known o j d (stream.Decode f) none same h = refused_streams known o j d f none same h
-fault_streams known o j d (stream.TrailingBytes at) none same h = absurd h
-fault_streams known o j d stream.Device none same h = device_streams known o j none
+pub fault_streams : (known left : Option (List ℕ)) (o : Option OpenFault) (j : Job) (d : Decoding) (e : StreamFault) → o ≡ None → d.job ≡ j → FeedsAll d known left (Err e) → IfSome known (λ bytes. Streams o j bytes (Err e))
+fault_streams known left o j d (stream.Open e) none same h = absurd h
+fault_streams known left o j d (stream.Decode f) none same h = refused_streams known o j d f none same h
+fault_streams known left o j d (stream.TrailingBytes at) none same h = absurd h
+fault_streams known left o j d stream.Device none same h = device_streams known left o j none (subst (λ (i : Job). StopsOpen i known left) same h)
+
+-- a read failed that was not to decide
+pub stopped_open : {V : Type 0} (known left : Option (List ℕ)) (j : Job) (d : Decoding) (e : StreamFault) → d.job ≡ j → ◌≡◌ {A = Result V StreamFault} (Err e) (Err stream.Device) → FeedsAll d known left (Err e) → StopsOpen j known left
+stopped_open known left j d e same both h = let is : e ≡ stream.Device = cc in subst (λ (i : Job). StopsOpen i known left) same (subst (λ (x : StreamFault). FeedsAll d known left (Err x)) is h)
 
 pub forbidden_streams : (known : Option (List ℕ)) (o : Option OpenFault) (j : Job) (e : OpenFault) → ((b : List ℕ) → Streams o j b (Err (stream.Open e))) → IfSome known (λ bytes. Streams o j bytes (Err (stream.Open e)))
 forbidden_streams None o j e h = tt
 forbidden_streams (Some xs) o j e h = h xs
 
 -- what is fed is never a fault of opening
-pub feeds_no_open : {X : Type 0} (d : Decoding) (known : Option (List ℕ)) (e : StreamFault) (f : OpenFault) → e ≡ stream.Open f → FeedsAll d known (Err e) → X
-feeds_no_open d known e f is h = let none : FeedsAll d known (Err (stream.Open f)) = subst (λ (x : StreamFault). FeedsAll d known (Err x)) is h in absurd none
+pub feeds_no_open : {X : Type 0} (d : Decoding) (known left : Option (List ℕ)) (e : StreamFault) (f : OpenFault) → e ≡ stream.Open f → FeedsAll d known left (Err e) → X
+feeds_no_open d known left e f is h = let none : FeedsAll d known left (Err (stream.Open f)) = subst (λ (x : StreamFault). FeedsAll d known left (Err x)) is h in absurd none
 
 -- ---- to pieces
 

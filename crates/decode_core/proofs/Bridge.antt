@@ -5,7 +5,7 @@ use Rattle.registry_core.specs.declared.type_info.TypeInfo.{TypeInfo}
 use Rattle.grammar_core.specs.Reading.{Refusal, truncated}
 use Rattle.scale_core.specs.Number.{AreBytes}
 use Rattle.scale_core.proofs.Numbers.{both_bytes}
-use Rattle.decode_core.specs.Decoding.{HoldsOf, IsDone, IsGoing, IsOf, IsWaiting, built_tree}
+use Rattle.decode_core.specs.Decoding.{HoldsOf, IsDone, IsGoing, IsOf, IsWaiting, RanOut, built_tree}
 use Rattle.decode_core.specs.Decided.{Decided}
 use Rattle.decode_core.specs.Machine.{remain, start}
 use Rattle.decode_core.specs.Outcome.{Job, done, refused, more, too_long, IsOutcome}
@@ -13,7 +13,7 @@ use Rattle.decode_core.specs.Reasons.{reason_of}
 use Rattle.decode_core.specs.Running.{Running, held_of, state_of}
 use Rattle.decode_core.specs.Told.{told, told_at, after}
 use Rattle.value_core.specs.Built.{Entry}
-use Rattle.decode_core.specs.Turned.{IsSame, IsSound, Moves, Reaches, Stops}
+use Rattle.decode_core.specs.Turned.{IsSame, IsSound, Moves, Reaches, Stops, WantsMemory}
 use Rattle.decode_core.specs.declared.fault.DecodeReason.{DecodeReason}
 use Rattle.decode_core.specs.declared.turned.Stopped.TheVariants as stop
 use Rattle.decode_core.proofs.Decides.{not_cut}
@@ -122,3 +122,16 @@ fed_refused j b piece s last n k held told_reason at len g le m st =
     let place_is : n + length cut - length left ≡ n + k - held + at = omega (arith, x_count, st.5, decided.low, le, within) in
     let taken_is : n + length cut - length x + len ≡ n + k - held + len = omega (arith, x_count, le, within) in
     (within, (e, st.3, subst (λ (c : ℕ). IsOutcome j (b ++ piece) (refused e (n + k - held + at)) c) taken_is (subst (λ (p : ℕ). IsOutcome j (b ++ piece) (refused e p) (n + length cut - length x + len)) place_is one)))
+
+-- ---- memory is wanted
+
+pub fed_short : (j : Job) (b piece : List ℕ) (s last : Running) (n k : ℕ) → (g : IsGoing j b s n) → k ≤ length (offered j n piece) → Moves s last (take k (offered j n piece)) → WantsMemory last (drop k (offered j n piece)) → RanOut j (b ++ piece) (n + k)
+unfolding here
+fed_short j b piece s last n k g le m w =
+    let cut = offered j n piece in
+    let h = here j b piece s last n k g m in
+    let rest = held_of last ++ drop k cut in
+    let all = ap length (moved_own j b cut s last n k g m) in
+    let own = g.own ++ m.own in
+    let count : n + k ≡ length own + length (held_of last) = omega (arith, all, length-append b cut, length-append own rest, length-append (held_of last) (drop k cut), length-drop k cut, g.count, le) in
+    record { s = last; same = of_moved j s last g.same m.same; own = own; rest = drop k cut; is = h.is; led = h.led; count = count; wants = w }

@@ -1,22 +1,22 @@
 -- What a decoder answers to a piece, be its value on the way or whole.
-use Rattle.std.proofs.Common.{◌≡◌, ℕ, ◌+◌, ◌-◌, ◌<◌, ◌≤◌, List, [], ◌++◌, length, take, drop, Ok, Err, sym, ap, subst, ◌∙◌, arith, inl, inr, length-append}
+use Rattle.std.proofs.Common.{◌≡◌, ℕ, ◌+◌, ◌-◌, ◌<◌, ◌≤◌, List, [], ◌++◌, length, take, drop, Ok, Err, sym, ap, subst, ◌∙◌, append_assoc, arith, inl, inr, length-append}
 use Rattle.std.proofs.lemmas.List.{append-nil, length-take}
 use Rattle.registry_core.specs.declared.type_info.TypeInfo.{TypeInfo}
 use Rattle.grammar_core.specs.Reading.{Refusal, truncated}
 use Rattle.value_core.specs.Built.{Entry}
 use Rattle.scale_core.specs.Number.{AreBytes}
-use Rattle.decode_core.specs.Decoding.{HoldsOf, IsDone, IsEnded, IsGoing, RunLed, built_tree}
+use Rattle.decode_core.specs.Decoding.{HoldsOf, IsDone, IsEnded, IsGoing, RanOut, RunLed, built_tree}
 use Rattle.decode_core.specs.Machine.{remain}
 use Rattle.decode_core.specs.Outcome.{Job, done, refused, more, too_long, IsOutcome}
 use Rattle.decode_core.specs.Reasons.{reason_of}
 use Rattle.decode_core.specs.Running.{Running, held_of, state_of}
 use Rattle.decode_core.specs.Told.{told, added, after, Ending, ending}
-use Rattle.decode_core.specs.Turned.{FeedTells, IsSound, Moves, Stops, types_of}
+use Rattle.decode_core.specs.Turned.{FeedTells, IsSound, Moves, Stops, WantsMemory, types_of}
 use Rattle.decode_core.specs.declared.fault.DecodeFault.{DecodeFault}
 use Rattle.decode_core.specs.declared.fault.DecodeReason.{DecodeReason}
 use Rattle.decode_core.specs.declared.turned.Stopped.TheVariants as stop
 use Rattle.decode_core.proofs.Bridge.{offered, of_moved, fed_done, fed_more, fed_long, fed_refused}
-use Rattle.decode_core.proofs.Fed.{outcome_stays}
+use Rattle.decode_core.proofs.Fed.{outcome_stays, take_split}
 use Rattle.decode_core.proofs.Refusing.{waits_told}
 
 -- ---- a value that is whole takes no more
@@ -84,8 +84,27 @@ pub led_fits : (j : Job) (b : List ℕ) (s : Running) (n : ℕ) → RunLed j b n
 led_fits j b s n (inl g) = g.fits
 led_fits j b s n (inr g) = g.fits
 
+wants_on : (s : Running) (rest back : List ℕ) → WantsMemory s rest → WantsMemory s (rest ++ back)
+wants_on s rest back h = record { form = h.form; next = h.next; bytes = h.bytes; later = h.later ++ back; is = ap (λ (l : List ℕ). l ++ back) h.is ∙ append_assoc h.bytes h.later back; keeps = h.keeps }
+
+-- memory that was wanted was so, whatever bytes follow
+ran_out_stays : (j : Job) (b piece : List ℕ) (n : ℕ) → RanOut j b n → RanOut j (b ++ piece) n
+ran_out_stays j b piece n h =
+    let back = take (j.bytes - length b) piece in
+    let held = held_of h.s in
+    record {
+      s = h.s;
+      same = h.same;
+      own = h.own;
+      rest = h.rest ++ back;
+      is = take_split j.bytes b piece ∙ ap (λ (l : List ℕ). l ++ back) h.is ∙ append_assoc h.own (held ++ h.rest) back ∙ ap (λ (l : List ℕ). h.own ++ l) (append_assoc held h.rest back);
+      led = h.led;
+      count = h.count;
+      wants = wants_on h.s h.rest back h.wants;
+    }
+
 -- what ended stays so
 pub ended_stays : (j : Job) (b piece : List ℕ) (f : DecodeFault) (n : ℕ) → IsEnded j b f n → IsEnded j (b ++ piece) f n
-ended_stays j b piece f n (inl h) = inl h
+ended_stays j b piece f n (inl h) = inl (h.0, ran_out_stays j b piece n h.1)
 ended_stays j b piece f n (inr (inl h)) = inr (inl (h.0, outcome_stays j b piece too_long n h.1 (λ e. absurd cc)))
 ended_stays j b piece f n (inr (inr h)) = inr (inr (h.0, h.1, h.2, outcome_stays j b piece (refused h.0 h.1) n h.3 (λ e. absurd cc)))

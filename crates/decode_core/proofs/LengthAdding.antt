@@ -1,5 +1,5 @@
 -- A list, a count, an arm, and a text's length, by their own bytes.
-use Rattle.std.proofs.Common.{◌≡◌, ℕ, ◌^◌, ◌<◌, true, List, [], ◌∷◌, Option, Some, None, Result, Ok, Err, is_ok, refl, sym, ap, subst, ◌∙◌, arith}
+use Rattle.std.proofs.Common.{◌≡◌, ℕ, ◌^◌, ◌<◌, true, List, [], ◌∷◌, length, Option, Some, None, Result, Ok, Err, is_ok, refl, sym, ap, subst, ◌∙◌, arith}
 use Rattle.std.specs.Prelude.{◌≢◌, IfErr, slice_index_or}
 use Rattle.std.proofs.lemmas.Bool.{eq-eqb, lt-ltb}
 use Rattle.scale_core.specs.Compact.{target_bytes}
@@ -11,12 +11,13 @@ use Rattle.scale_core.specs.declared.fault.Reason.TheVariants as scale
 use Rattle.registry_core.specs.declared.definition.Arm.{Arm}
 use Rattle.registry_core.specs.declared.primitive.Primitive.TheVariants as P
 use Rattle.widths_core.specs.Arms.{arm_of}
+use Rattle.widths_core.specs.Types.{field_types}
 use Rattle.widths_core.specs.Layouts.{Layout}
 use Rattle.widths_core.specs.Layouts as layout
 use Rattle.grammar_core.specs.Tree as tree
 use Rattle.value_core.specs.Built.{Built, next_layout, arm_in, with_arm, with_found}
 use Rattle.grammar_core.specs.Cells.{fields_part, list_part}
-use Rattle.grammar_core.specs.Parts.{Part, how_many_left}
+use Rattle.grammar_core.specs.Parts.{Part, each, how_many_left}
 use Rattle.grammar_core.specs.Preorder.{Head}
 use Rattle.grammar_core.specs.Preorder as head
 use Rattle.grammar_core.specs.Reading.{basic, as_value, layout_at, no_such_variant}
@@ -28,7 +29,7 @@ use Rattle.grammar_core.specs.declared.form.Form.{Form}
 use Rattle.grammar_core.specs.declared.form.Form.TheVariants as form
 use Rattle.grammar_core.specs.declared.form.Next.TheVariants as next
 use Rattle.decode_core.specs.Needs.{AreOwn}
-use Rattle.decode_core.specs.NodeAdds.{AddsNode, IsAdded, IsRefused, with_own}
+use Rattle.decode_core.specs.NodeAdds.{AddsNode, IsAdded, IsRefused, IsSpelled, with_own}
 use Rattle.decode_core.specs.Reasons.{reason_of}
 use Rattle.decode_core.specs.Told.{leaf_own, length_own, own_at}
 use Rattle.decode_core.specs.declared.node.NodeFault.{NodeFault}
@@ -107,6 +108,19 @@ arm_refused b new own h k a adds =
     subst (λ (o : List ℕ). IsRefused b o (reason_of no_such_variant) 0 × (new ≡ b)) (sym (one_byte own a))
     (arm_missing b new s.0 i (arm_of s.0 i) s.1 refl (arm_answer b new i s.0 (Err build.NoSuchVariant) s.1 h k adds))
 
+arm_wanted : (b new : Built) (arms : List Arm) (i : ℕ) (found : Option (ℕ × Arm)) (e : BuildFault) → next_layout b ≡ layout.arms arms → arm_of arms i ≡ found → Adds (suits_arm found form.Arm) (with_found b found) b new (Err e) → e ≢ build.NoSuchVariant → IsSpelled b (i ∷ []) × (new ≡ b)
+unfolding own_at
+arm_wanted b new arms i (Some a) e lay is adds other = let ts = field_types a.1.fields in (((head.arm a.0 (length ts), Some (each ts)), rw (lay, is) refl), adds.1)
+arm_wanted b new arms i None e lay is adds other = absurd (other adds.0)
+
+-- memory is refused for an arm that is there alone
+pub arm_short : (b new : Built) (own : List ℕ) (e : BuildFault) → next_of b.walk ≡ next.Wants form.Arm → b.text ≡ None → AreOwn form.Arm own → Adds (judged_arm b (slice_index_or own 0 0)) (with_arm b (slice_index_or own 0 0)) b new (Err e) → e ≢ build.NoSuchVariant → IsSpelled b own × (new ≡ b)
+arm_short b new own e h k a adds other =
+    let i = slice_index_or own 0 0 in
+    let s = next_has b form.Arm h in
+    subst (λ (o : List ℕ). IsSpelled b o × (new ≡ b)) (sym (one_byte own a))
+    (arm_wanted b new s.0 i (arm_of s.0 i) e s.1 refl (arm_answer b new i s.0 (Err e) s.1 h k adds) other)
+
 -- ---- the length of a text
 
 length_settled : (own : List ℕ) → AreOwn (form.Primitive P.Str) own → IsSettled (compact_at target.U32 own)
@@ -159,5 +173,5 @@ array_fits n = rw (eq-eqb n n refl) refl
 pub bare_added : (f : Form) (b new : Built) (x : Head × Option Part) (suits : Form → Option BuildFault) (added : Result (Unit {0}) BuildFault) (kept : Result (Unit {0}) NodeFault) →
     next_of b.walk ≡ next.Wants f → b.text ≡ None → own_at (next_layout b) [] ≡ Ok (x, []) → suits f ≡ None → Adds (judged suits b) (with_own b x) b new added → is_ok kept ≡ is_ok added → IfErr kept (λ e. e ≡ fault.OutOfMemory) → AddsNode b new [] kept
 bare_added f b new x suits added (Ok u) h k r fits adds ok err = (x, r, adds_none (with_own b x) b new (judged suits b) added (judged_by suits b f h k ∙ fits) adds (sym ok))
-bare_added f b new x suits added (Err fault.OutOfMemory) h k r fits adds ok err = refused_same (with_own b x) b new (judged suits b) added (judged_by suits b f h k ∙ fits) adds (sym ok)
+bare_added f b new x suits added (Err fault.OutOfMemory) h k r fits adds ok err = ((x, r), refused_same (with_own b x) b new (judged suits b) added (judged_by suits b f h k ∙ fits) adds (sym ok))
 bare_added f b new x suits added (Err (fault.Refused told at)) h k r fits adds ok err = absurd cc

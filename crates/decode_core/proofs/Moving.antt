@@ -2,13 +2,16 @@
 use Rattle.std.proofs.Common.{◌≡◌, ℕ, suc, ◌+◌, ◌*◌, ◌-◌, ◌<◌, ◌≤◌, ◌⊎◌, List, [], ◌++◌, length, take, drop, refl, sym, ap, subst, ◌∙◌, append_assoc, arith, inl, inr, length-drop}
 use Rattle.std.proofs.lemmas.List.{append-nil, drop-drop, take_rest, take-append-drop, length-take}
 use Rattle.std.proofs.Math.Seq.{take-add}
+use Rattle.std.specs.Prelude.{true}
 use Rattle.registry_core.specs.declared.type_info.TypeInfo.{TypeInfo}
+use Rattle.value_core.specs.Refusals.{is_whole}
 use Rattle.decode_core.specs.Machine.{State, remain, to_go}
 use Rattle.decode_core.specs.Running.{Running, held_of, state_of}
 use Rattle.decode_core.specs.Told.{after}
 use Rattle.decode_core.specs.Turned.{FeedTells, IsSame, IsSound, Moves, Steps, StepTells, left_to_do, types_of}
 use Rattle.decode_core.specs.declared.turned.Stopped.{Stopped}
 use Rattle.decode_core.specs.declared.turned.Stopped.TheVariants as stop
+use Rattle.decode_core.specs.declared.turned.Turned.{Turned}
 use Rattle.decode_core.specs.declared.turned.Turned.TheVariants as turned
 use Rattle.decode_core.proofs.MachineTurns.{nearer}
 
@@ -75,6 +78,13 @@ pub turns_stop : (a b c : Running) (piece : List ℕ) (at : ℕ) (s : Stopped) �
 turns_stop a b c piece at stop.Finished le h k sound = (le, (b, h, k.1, k.0, sound))
 turns_stop a b c piece at stop.Wants le h k sound = (le, (b, h, k.1, k.0, sound))
 turns_stop a b c piece at (stop.Refused held told_reason place len) le h k sound = (le, (b, h, k, tt, sound))
+
+-- a whole value has one turn, which stops
+stays_whole : (fn self : Running) (at : ℕ) → (is_whole fn.built ≡ true → (at ≡ 0) × (self ≡ fn)) → is_whole fn.built ≡ true → is_whole self.built ≡ true
+stays_whole fn self at h w = subst (λ (s : Running). is_whole s.built ≡ true) (sym (h w).1) w
+
+pub whole_goes_on : {X : Type 0} (fn self : Running) (at n : ℕ) (t : Turned) → (is_whole fn.built ≡ true → (at ≡ 0) × (self ≡ fn)) → (is_whole self.built ≡ true → t ≡ turned.Stopped stop.Finished) → t ≡ turned.On n → is_whole fn.built ≡ true → X
+whole_goes_on fn self at n t h k is w = let both = sym is ∙ k (stays_whole fn self at h w) in absurd cc
 
 -- what is left of a piece, as a slice of it
 rest_tells : (b c : Running) (piece : List ℕ) (at n : ℕ) → StepTells b c (take (length piece - at) (drop at piece)) (turned.On n) → StepTells b c (drop at piece) (turned.On n)

@@ -103,7 +103,8 @@ pub node_added : (f : Form) (b new : Built) (own : List ℕ) (x : Head × Option
     next_of b.walk ≡ next.Wants f → HasBytes f → NoText f → b.text ≡ None → AreOwn f own → ((rest : List ℕ) × (own_at (next_layout b) own ≡ Ok (x, rest))) → suits f ≡ None → Adds (judged suits b) (with_own b x) b new added → is_ok kept ≡ is_ok added → IfErr kept (λ e. e ≡ fault.OutOfMemory) → AddsNode b new own kept
 node_added f b new own x suits added (Ok u) h s n k a r fits adds ok err =
     (x, none_left (own_at (next_layout b) own) x r.0 (own_whole b f own h s n a) r.1, adds_none (with_own b x) b new (judged suits b) added (judged_by suits b f h k ∙ fits) adds (sym ok))
-node_added f b new own x suits added (Err fault.OutOfMemory) h s n k a r fits adds ok err = refused_same (with_own b x) b new (judged suits b) added (judged_by suits b f h k ∙ fits) adds (sym ok)
+node_added f b new own x suits added (Err fault.OutOfMemory) h s n k a r fits adds ok err =
+    ((x, none_left (own_at (next_layout b) own) x r.0 (own_whole b f own h s n a) r.1), refused_same (with_own b x) b new (judged suits b) added (judged_by suits b f h k ∙ fits) adds (sym ok))
 node_added f b new own x suits added (Err (fault.Refused told at)) h s n k a r fits adds ok err = absurd cc
 
 -- a node whose reading is refused

@@ -1,18 +1,22 @@
 -- What a turn does and keeps, by what it called.
-use Rattle.std.proofs.Common.{◌≡◌, ℕ, ◌+◌, ◌-◌, ◌<◌, ◌≤◌, List, [], ◌∷◌, ◌++◌, length, take, drop, min, Option, Some, None, Result, Ok, Err, refl, sym, ap, subst, ◌∙◌, append_assoc, arith, length-append}
-use Rattle.std.specs.Prelude.{slice_get, slice_index_or, ◌==◌, true}
+use Rattle.std.proofs.Common.{◌≡◌, ℕ, zero, suc, ◌+◌, ◌-◌, ◌<◌, ◌≤◌, List, [], ◌∷◌, ◌++◌, length, take, drop, min, Option, Some, None, Result, Ok, Err, refl, sym, ap, subst, ◌∙◌, append_assoc, arith, inl, inr, length-append}
+use Rattle.std.specs.Prelude.{slice_get, slice_index_or, ◌==◌, ◌⊎◌, false, true}
 use Rattle.std.proofs.lemmas.Bool.{eqb-true}
 use Rattle.std.proofs.lemmas.List.{take-append-drop, length-take}
 use Rattle.std.proofs.Math.Seq.{take-append_seam}
+use Rattle.scale_core.specs.Read.{compact_at}
+use Rattle.scale_core.specs.declared.compact.Target.TheVariants as target
+use Rattle.registry_core.specs.declared.primitive.Primitive.TheVariants as P
 use Rattle.value_core.specs.Built.{Built, Pieces, next_layout}
 use Rattle.value_core.specs.Walked.{next_of}
 use Rattle.grammar_core.specs.declared.form.Form.{Form}
+use Rattle.grammar_core.specs.declared.form.Form.TheVariants as form
 use Rattle.grammar_core.specs.declared.form.Next.{Next}
 use Rattle.grammar_core.specs.declared.form.Next.TheVariants as next
 use Rattle.decode_core.specs.Needs.{need, AreOwn, HasBytes, IsFirst, IsNeeded}
-use Rattle.decode_core.specs.NodeAdds.{AddsNode, IsRefused, TakesNode}
+use Rattle.decode_core.specs.NodeAdds.{AddsNode, AreLength, IsRefused, IsSpelled, TakesNode}
 use Rattle.decode_core.specs.Running.{Running, IsRunning, IsCarry, IsText, held_of}
-use Rattle.decode_core.specs.Turned.{Steps, BareTells, StepTells, Stops, node_turned}
+use Rattle.decode_core.specs.Turned.{KeepsNode, KeepsText, Steps, BareTells, StepTells, Stops, WantsMemory, node_turned}
 use Rattle.decode_core.specs.Told.{own_at}
 use Rattle.grammar_core.specs.Reading.{truncated}
 use Rattle.decode_core.specs.declared.fault.DecodeReason.{DecodeReason}
@@ -22,6 +26,7 @@ use Rattle.decode_core.specs.declared.run.OpenText.{OpenText}
 use Rattle.decode_core.specs.declared.turned.Stopped.TheVariants as stop
 use Rattle.decode_core.specs.declared.turned.Turned.{Turned}
 use Rattle.decode_core.specs.declared.turned.Turned.TheVariants as turned
+use Rattle.decode_core.proofs.NodeAdding.{next_has}
 use Rattle.decode_core.proofs.Refusing.{IsShortOf, own_short, refuses}
 use Rattle.decode_core.proofs.Settling.{added_running}
 use Rattle.decode_core.proofs.Stepping.{at_next}
@@ -46,7 +51,7 @@ no_text b carry text h closed = text_none b.text text closed h.is_text
 bare_by : (b new : Built) (f : Form) (added : Result (Unit {0}) NodeFault) → IsRunning b [] None → next_of b.walk ≡ next.Wants f → b.text ≡ None → AddsNode b new [] added → IsRunning new [] None
 bare_by b new f (Ok u) h k closed adds = added_running b new [] (at_next b f k) closed adds
 bare_by b new f (Err (fault.Refused told_reason at)) h k closed adds = subst (λ (s : Built). IsRunning s [] None) (sym adds.1) h
-bare_by b new f (Err fault.OutOfMemory) h k closed adds = subst (λ (s : Built). IsRunning s [] None) (sym adds) h
+bare_by b new f (Err fault.OutOfMemory) h k closed adds = subst (λ (s : Built). IsRunning s [] None) (sym adds.1) h
 
 pub bare_running : (b new : Built) (carry : List ℕ) (text : Option OpenText) (f : Form) (added : Result (Unit {0}) NodeFault) → IsRunning b carry text → next_of b.walk ≡ next.Wants f → (HasBytes f → ⊥) → b.text ≡ None → AddsNode b new [] added → IsRunning new carry text
 bare_running b new carry text f added h k bare closed adds =
@@ -59,7 +64,26 @@ bare_tells b new carry text f h k bare closed adds =
     let none = carry_none b carry f h.carried k bare in
     subst (λ (c : List ℕ). BareTells (record { built = b; carry = c }) (record { built = new; carry = c }) (turned.On 0)) (sym none) (refl, added_same b new [] [] [] adds, added_steps b new [] [] [] (at_next b f k) closed refl adds)
 
+-- memory is wanted for a node without bytes of its own
+pub bare_wants : (b : Built) (carry : List ℕ) (text : Option OpenText) (f : Form) → IsRunning b carry text → next_of b.walk ≡ next.Wants f → (HasBytes f → ⊥) → b.text ≡ None → IsSpelled b [] → (rest : List ℕ) → WantsMemory (record { built = b; carry = carry }) rest
+bare_wants b carry text f h k bare closed is rest =
+    let held : held_of (record { built = b; carry = carry }) ≡ [] = held_closed b carry closed ∙ carry_none b carry f h.carried k bare in
+    record { form = f; next = k; bytes = []; later = rest; is = refl; keeps = inl (is.0, ap (λ (l : List ℕ). own_at (next_layout b) (l ++ [])) held ∙ is.1) }
+
 -- ---- a node's own bytes
+
+-- memory is wanted for a node that its bytes spell, or for a text whose length they are
+node_wants : (f : Form) (b : Built) (c bytes rest own : List ℕ) → next_of b.walk ≡ next.Wants f → b.text ≡ None → c ++ bytes ≡ own → 1 ≤ length bytes → IsSpelled b own ⊎ ((f ≡ form.Primitive P.Str) × AreLength own) → WantsMemory (record { built = b; carry = c }) (bytes ++ rest)
+node_wants f b c bytes rest own wants closed is some k = record { form = f; next = wants; bytes = bytes; later = rest; is = refl; keeps = by k } where
+  s : Running
+  s = record { built = b; carry = c }
+
+  held_is : held_of s ++ bytes ≡ own
+  held_is = ap (λ (l : List ℕ). l ++ bytes) (held_closed b c closed) ∙ is
+
+  by : IsSpelled b own ⊎ ((f ≡ form.Primitive P.Str) × AreLength own) → KeepsNode s bytes ⊎ KeepsText s bytes
+  by (inl x) = inl (x.0, ap (own_at (next_layout b)) held_is ∙ x.1)
+  by (inr x) = inr (next_has b (form.Primitive P.Str) (subst (λ (g : Form). next_of b.walk ≡ next.Wants g) x.0 wants), some, (x.1.0, [], ap (compact_at target.U32) held_is ∙ x.1.1, omega arith))
 
 dropped : (b : Built) (c : List ℕ) (text : Option OpenText) → IsRunning b c text → b.text ≡ None → IsRunning b [] None
 dropped b c text h closed = record { rooted = h.rooted; deep = h.deep; settled = h.settled; carried = tt; is_text = rw closed tt; text_next = rw closed tt }
@@ -70,7 +94,7 @@ same_running b new c old text h closed e k = rw (e, k) (dropped b c old h closed
 pub node_running : (f : Form) (b new : Built) (c : List ℕ) (old text : Option OpenText) (own : List ℕ) (taken : Result (Unit {0}) NodeFault) → IsRunning b c old → next_of b.walk ≡ next.Wants f → b.text ≡ None → AreOwn f own → TakesNode f b new text own taken → IsRunning new [] text
 node_running f b new c old text own (Ok u) h wants closed a k = taken_running f b new c old text own h wants closed a k
 node_running f b new c old text own (Err (fault.Refused told_reason at)) h wants closed a k = same_running b new c old text h closed k.1 k.2
-node_running f b new c old text own (Err fault.OutOfMemory) h wants closed a k = same_running b new c old text h closed k.0 k.1
+node_running f b new c old text own (Err fault.OutOfMemory) h wants closed a k = same_running b new c old text h closed k.1 k.2
 
 refused_tells : (b new : Built) (c bytes rest own : List ℕ) (f : Form) (told_reason : DecodeReason) (at : ℕ) → next_of b.walk ≡ next.Wants f → HasBytes f → b.text ≡ None → AreOwn f own → c ++ bytes ≡ own → IsRefused b own told_reason at →
     Stops (record { built = b; carry = c }) (bytes ++ rest) (stop.Refused (length c) told_reason at (length own))
@@ -89,7 +113,7 @@ node_tells f b new c bytes rest own text (Ok u) wants some closed a is one k = (
   subst (Steps (record { built = b; carry = c }) (record { built = new; carry = [] })) (sym (take-append_seam bytes rest)) (taken_steps f b new text c own bytes (at_next b f wants) closed is one k),
 )
 node_tells f b new c bytes rest own text (Err (fault.Refused told_reason at)) wants some closed a is one k = refused_tells b new c bytes rest own f told_reason at wants some closed a is k.0
-node_tells f b new c bytes rest own text (Err fault.OutOfMemory) wants some closed a is one k = tt
+node_tells f b new c bytes rest own text (Err fault.OutOfMemory) wants some closed a is one k = node_wants f b c bytes rest own wants closed is one k.0
 
 -- ---- fewer bytes than the node needs
 
@@ -165,6 +189,14 @@ none_of bytes h = nil_of bytes (eqb-true (length bytes) 0 (sym h)) where
   nil_of : (l : List ℕ) → length l ≡ 0 → l ≡ []
   nil_of [] e = refl
   nil_of (x ∷ l) e = absurd (omega (arith, e))
+
+pub some_of : (bytes : List ℕ) → false ≡ (length bytes == 0) → 1 ≤ length bytes
+some_of [] h = absurd cc
+some_of (x ∷ bytes) h = omega arith
+
+pub some_missing : (n : ℕ) → (n ≡ 0 → ⊥) → 1 ≤ n
+some_missing zero h = absurd (h refl)
+some_missing (suc n) h = omega arith
 
 pub whole_own : (f : Form) (c piece : List ℕ) (len first : ℕ) → c ≡ [] → IsFirst first (c ++ piece) → len ≡ need f first → 1 ≤ len → len ≤ length piece → AreOwn f (take len piece)
 whole_own f c piece len first none h is some there =

@@ -67,6 +67,13 @@ done_small j b n s h =
     let few = (held_is_bounded j b n).0 (built_tree s.built) h.outcome in
     (omega (arith, begun.nodes, count.0, few.0), omega (arith, begun.text_bytes, count.1, few.1, pieces_held s, ap length h.nothing))
 
+-- a whole value has just its own nodes and texts
+pub done_counts : (j : Job) (b : List ℕ) (n : ℕ) (s : Running) → IsDone j b s n → (length s.built.entries ≡ nodes (built_tree s.built)) × (built_text_bytes s.built ≡ text_bytes (built_tree s.built))
+done_counts j b n s h =
+    let begun = h.sound.begun in
+    let count = whole_counts begun.tree (shown s.built.entries) (sym begun.whole ∙ h.is_whole) begun.shows in
+    (omega (arith, begun.nodes, count.0), omega (arith, begun.text_bytes, count.1, pieces_held s, ap length h.nothing))
+
 pub value_le_nodes : (n depth width : ℕ) → value_bound n depth width ≤ node_bound n depth width
 value_le_nodes n depth width =
     let spread : (n + 1) * (depth + 1) * (width + 1) ≡ n * (depth + 1) * (width + 1) + (depth * width + depth + width + 1) = grind (arith) in

@@ -1,14 +1,15 @@
 -- What a decoder's answers to the parts of an input say of the whole input.
 use Rattle.std.proofs.Common.{◌≡◌, ℕ, ◌+◌, ◌<◌, ◌≤◌, Bool, true, false, List, [], ◌++◌, length, Option, Some, None, Ok, Err, refl, sym, ap, subst, ◌∙◌, append-nil, arith, take, inl, inr, length-append}
 use Rattle.std.specs.Prelude.{IfSome, ◌⊎◌, Result}
-use Rattle.std.specs.Io.KnownBytes.{Consumes, IsAtEnd}
+use Rattle.std.specs.Io.KnownBytes.{Consumes, IsAtEnd, Keeps}
+use Rattle.std.proofs.KnownBytes.{Consumes-kept}
 use Rattle.std.proofs.lemmas.List.{length-take, nil_from_length}
 use Rattle.registry_core.specs.declared.type_info.TypeInfo.{TypeInfo}
 use Rattle.grammar_core.specs.declared.limits.Limits.{Limits}
 use Rattle.grammar_core.specs.Tree.{Tree}
 use Rattle.decode_core.specs.Decoding.{Answers, Decoding, Finishes, IsEnded, Led, Opens, first_of_all}
 use Rattle.decode_core.specs.Outcome.{Job, done, more, IsOutcome}
-use Rattle.decode_core.specs.Streaming.{EndsAt, FeedsAll, Forbids, IsUnderWay, Looks, Trails}
+use Rattle.decode_core.specs.Streaming.{EndsAt, FeedsAll, Forbids, IsUnderWay, LeavesOpen, Looks, StopsOpen, Trails}
 use Rattle.decode_core.specs.declared.decoder.Progress.{Progress}
 use Rattle.decode_core.specs.declared.decoder.Progress.TheVariants as progress
 use Rattle.decode_core.specs.declared.fault.DecodeFault.{DecodeFault}
@@ -128,13 +129,29 @@ all_known None left b c end = tt
 all_known (Some xs) None b c end = absurd c
 all_known (Some xs) (Some ys) b c end = c ∙ ap (λ (l : List ℕ). b ++ l) end ∙ append-nil b
 
+-- ---- a read failed
+
+-- a read that failed consumed nothing
+pub stops_open : (known mid left : Option (List ℕ)) (j : Job) (b : List ℕ) → Consumes known mid b → Keeps mid left → LeavesOpen j b → StopsOpen j known left
+stops_open known mid left j b c k h = (b, Consumes-kept known mid left b c k, h)
+
+-- more is wanted
+pub more_open : (old new : Decoding) (b : List ℕ) (p : Progress) → p ≡ progress.More → Answers old new b (Ok p) → LeavesOpen new.job b
+more_open old new b p is h =
+    let out = subst (λ (q : Progress). Answers old new b (Ok q)) is h in
+    inl (subst (IsOutcome new.job b more) out.2 out)
+
+-- the value has all these bytes
+done_open : (j : Job) (b : List ℕ) (v : Tree) (n : ℕ) → IsOutcome j b (done v) n → length b ≤ n → LeavesOpen j b
+done_open j b v n h long = let all : n ≡ length b = omega (arith, long, done_fits j b v n h) in inr (v, subst (IsOutcome j b (done v)) all h)
+
 -- what a look behind a whole value says
-pub look_feeds : (known left : Option (List ℕ)) (d : Decoding) (b : List ℕ) (v : Tree) (r : Result Bool StreamFault) → Consumes known left b → IsOutcome d.job b (done v) d.taken → Led d b → length b ≤ d.taken → Looks left r → FeedsAll d known r
-look_feeds known left d b v (Ok true) c out led long look = trails_left known left d.job b v d.taken c out look
-look_feeds known left d b v (Ok false) c out led long look =
+pub look_feeds : (known left end : Option (List ℕ)) (d : Decoding) (b : List ℕ) (v : Tree) (r : Result Bool StreamFault) → Consumes known left b → IsOutcome d.job b (done v) d.taken → Led d b → length b ≤ d.taken → Looks left end r → FeedsAll d known end r
+look_feeds known left end d b v (Ok true) c out led long look = trails_left known left d.job b v d.taken c out look
+look_feeds known left end d b v (Ok false) c out led long look =
     let all : d.taken ≡ length b = omega (arith, long, done_fits d.job b v d.taken out) in
     (b, led, subst (EndsAt d.job b) all (done_ends d.job b v d.taken out), all_known known left b c look)
-look_feeds known left d b v (Err stream.Device) c out led long look = tt
-look_feeds known left d b v (Err (stream.Open e)) c out led long look = absurd look
-look_feeds known left d b v (Err (stream.Decode f)) c out led long look = absurd look
-look_feeds known left d b v (Err (stream.TrailingBytes at)) c out led long look = absurd look
+look_feeds known left end d b v (Err stream.Device) c out led long look = stops_open known left end d.job b c look (done_open d.job b v d.taken out long)
+look_feeds known left end d b v (Err (stream.Open e)) c out led long look = absurd look
+look_feeds known left end d b v (Err (stream.Decode f)) c out led long look = absurd look
+look_feeds known left end d b v (Err (stream.TrailingBytes at)) c out led long look = absurd look

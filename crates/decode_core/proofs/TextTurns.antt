@@ -1,10 +1,10 @@
 -- Turns on a text that is open.
-use Rattle.std.proofs.Common.{◌≡◌, ℕ, zero, suc, ◌+◌, ◌-◌, ◌<◌, ◌≤◌, Bool, true, false, cond, List, [], ◌++◌, length, take, drop, Option, Some, None, Result, Ok, Err, refl, sym, ap, subst, ◌∙◌, arith, inl, inr, length-append, length-drop}
+use Rattle.std.proofs.Common.{◌≡◌, ℕ, zero, suc, ◌+◌, ◌-◌, ◌<◌, ◌≤◌, Bool, true, false, cond, List, [], ◌++◌, length, take, drop, Option, Some, None, Result, Ok, Err, refl, sym, ap, subst, ◌∙◌, append_assoc, arith, inl, inr, length-append, length-drop}
 use Rattle.std.specs.Prelude.{nat_lt, if◌then◌else◌}
 use Rattle.std.specs.Str.{is_utf8}
 use Rattle.std.specs.Str.Lossy.{utf8_valid_len}
 use Rattle.std.proofs.lemmas.Bool.{cases_lt, lt-ltb}
-use Rattle.std.proofs.lemmas.List.{append-nil, length-take, take-append-le}
+use Rattle.std.proofs.lemmas.List.{append-nil, length-take, take-append-drop, take-append-le}
 use Rattle.std.proofs.lemmas.Str.{utf8_valid_len_le}
 use Rattle.std.proofs.Math.Seq.{take-append-add}
 use Rattle.scale_core.specs.Compact.{compact}
@@ -29,7 +29,7 @@ use Rattle.value_core.specs.Walked.{next_of}
 use Rattle.decode_core.specs.Running.{IsLength, IsRunning, IsText, IsTextNext, held_of, state_of}
 use Rattle.decode_core.specs.declared.run.OpenText.{OpenText}
 use Rattle.decode_core.specs.NodeAdds.{IsAdded}
-use Rattle.decode_core.specs.Turned.{EndTells, Leads, Stops, WantsBytes}
+use Rattle.decode_core.specs.Turned.{EndTells, Leads, Stops, WantsBytes, WantsMemory}
 use Rattle.decode_core.specs.declared.fault.DecodeReason.TheVariants as reason
 use Rattle.decode_core.specs.declared.turned.Stopped.TheVariants as stop
 use Rattle.decode_core.specs.declared.turned.Turned.TheVariants as turned
@@ -195,3 +195,47 @@ missing_by b c o (Some t) e h k some =
 -- a text that lacks bytes waits for them
 pub text_waits : (b : Built) (c : List ℕ) (o : OpenText) → IsTextNext b c b.text → IsText b.text (Some o) → (o.missing ≡ 0 → ⊥) → WantsBytes (record { built = b; carry = c })
 text_waits b c o h k some = missing_by b c o b.text refl h k some
+
+added_by : (r : Result (Unit {0}) BuildFault) → ((e : BuildFault) → r ≡ Err e → ⊥) → r ≡ Ok tt
+added_by (Ok u) h = refl
+added_by (Err e) h = absurd (h e refl)
+
+-- the text is ended by the call that is not refused
+pub ended_ok : (b new : Built) (n : AtEnd b) (r : Result (Unit {0}) BuildFault) → Adds (judged_end b) (with_text_ended b) b new r → ((e : BuildFault) → r ≡ Err e → ⊥) → (is_utf8 n.pieces.bytes ≡ true) × (new ≡ with_text_ended b)
+ended_ok b new n r h other = ended b new n tt (subst (Adds (judged_end b) (with_text_ended b) b new) (added_by r other) h)
+
+-- ---- memory that is wanted for a text
+
+piece_by : (b : Built) (c : List ℕ) (o : OpenText) (piece : List ℕ) (count : ℕ) (text : Option Pieces) → b.text ≡ text → IsTextNext b c text → IsText text (Some o) → count ≤ o.missing → count ≤ length piece → 1 ≤ count → WantsMemory (record { built = b; carry = c }) piece
+piece_by b c o piece count None e h k few there some = absurd k
+piece_by b c o piece count (Some t) e h k few there some =
+    let held_is : held_of (record { built = b; carry = c }) ≡ compact t.len ++ t.bytes = ap (λ (p : Option Pieces). elim p [ Some t ↦ compact t.len ++ t.bytes | None ↦ c ]) e in
+    let front = take count piece in
+    let len : length front ≡ count = omega (arith, length-take count piece, there) in
+    let read : compact_at target.U32 (held_of (record { built = b; carry = c }) ++ front) ≡ Ok (t.len, t.bytes ++ front) =
+    ap (λ (l : List ℕ). compact_at target.U32 (l ++ front)) held_is ∙ ap (compact_at target.U32) (append_assoc (compact t.len) t.bytes front) ∙ length_again t.len (t.bytes ++ front) h.2 in
+    record {
+      form = form.Primitive P.Str;
+      next = h.0;
+      bytes = front;
+      later = drop count piece;
+      is = sym (take-append-drop count piece);
+      keeps = inr (next_has b (form.Primitive P.Str) h.0, omega (arith, len, some), (t.len, t.bytes ++ front, read, omega (arith, length-append t.bytes front, len, k.1, few)));
+    }
+
+-- some of its bytes are to be kept
+pub piece_wants : (b : Built) (c : List ℕ) (o : OpenText) (piece : List ℕ) (count : ℕ) → IsTextNext b c b.text → IsText b.text (Some o) → count ≤ o.missing → count ≤ length piece → 1 ≤ count → WantsMemory (record { built = b; carry = c }) piece
+piece_wants b c o piece count h k few there some = piece_by b c o piece count b.text refl h k few there some
+
+short_by : (s : List ℕ) (with old new : Built) (e : BuildFault) (u : Bool) → is_utf8 s ≡ u → Adds (cond u None (Some (build.BadText (utf8_valid_len s)))) with old new (Err e) → ((valid : ℕ) → e ≡ build.BadText valid → ⊥) → is_utf8 s ≡ true
+short_by s with old new e true is h other = is
+short_by s with old new e false is h other = absurd (other (utf8_valid_len s) h.0)
+
+-- its node is to be added
+pub end_wants : (b new : Built) (c : List ℕ) (n : AtEnd b) (e : BuildFault) → Adds (judged_end b) (with_text_ended b) b new (Err e) → ((valid : ℕ) → e ≡ build.BadText valid → ⊥) → (rest : List ℕ) → WantsMemory (record { built = b; carry = c }) rest
+end_wants b new c n e h other rest =
+    let t = n.pieces in
+    let utf8 = short_by t.bytes (with_text_ended b) b new e (is_utf8 t.bytes) refl (subst (λ (o : Option BuildFault). Adds o (with_text_ended b) b new (Err e)) (end_judged b n) h) other in
+    let held : held_of (record { built = b; carry = c }) ++ [] ≡ compact t.len ++ t.bytes = append-nil (held_of (record { built = b; carry = c })) ∙ end_bytes b n c in
+    let laid : own_at (next_layout b) (compact t.len ++ t.bytes) ≡ Ok ((head.text t.bytes, None), []) = ap (λ (f : Layout). own_at f (compact t.len ++ t.bytes)) (laid_text b n) ∙ text_whole t.len t.bytes n.len n.all utf8 in
+    record { form = form.Primitive P.Str; next = n.wants; bytes = []; later = rest; is = refl; keeps = inl ((head.text t.bytes, None), ap (own_at (next_layout b)) held ∙ laid) }

@@ -1,11 +1,11 @@
 -- What contracts see of a decoder, and which bytes have led to it.
-use Rattle.std.specs.Prelude.{◌≡◌, ℕ, suc, ◌+◌, ◌*◌, ◌-◌, ◌≤◌, ◌^◌, ◌⊎◌, List, [], ◌++◌, length, map, Result, Ok, Err, true, Option, Some, None, nat_lt, not, ◌||◌, if◌then◌else◌}
+use Rattle.std.specs.Prelude.{◌≡◌, ℕ, suc, ◌+◌, ◌*◌, ◌-◌, ◌≤◌, ◌^◌, ◌⊎◌, List, [], ◌++◌, length, map, take, Result, Ok, Err, true, Option, Some, None, nat_lt, not, ◌||◌, if◌then◌else◌}
 use Rattle.scale_core.specs.Number.{AreBytes}
 use Rattle.registry_core.specs.declared.type_info.TypeInfo.{TypeInfo}
 use Rattle.grammar_core.specs.Preorder.{tree_of}
 use Rattle.grammar_core.specs.Reading.{Refusal, truncated}
 use Rattle.grammar_core.specs.Tree.{Tree, nodes, text_bytes as tree_text_bytes}
-use Rattle.value_core.specs.Built.{Built, built_text_bytes}
+use Rattle.value_core.specs.Built.{Built, built_text_bytes, finished}
 use Rattle.value_core.specs.Refusals.{is_whole}
 use Rattle.value_core.specs.Shown.{Seen}
 use Rattle.value_core.specs.Walked.{start_of}
@@ -23,7 +23,7 @@ use Rattle.decode_core.specs.Running.{Running, held_of, state_of}
 use Rattle.decode_core.specs.Held.{open_text}
 use Rattle.decode_core.specs.Holds.{Holds}
 use Rattle.decode_core.specs.Told.{told, told_at, shown}
-use Rattle.decode_core.specs.Turned.{IsSound, Reaches, WantsBytes}
+use Rattle.decode_core.specs.Turned.{IsSound, Reaches, WantsBytes, WantsMemory}
 use Rattle.decode_core.specs.declared.decoder.Fed.{Fed}
 use Rattle.decode_core.specs.declared.decoder.Fed.TheVariants as fed
 use Rattle.decode_core.specs.declared.decoder.Progress.{Progress}
@@ -81,9 +81,21 @@ pub record IsDone (j : Job) (b : List ℕ) (s : Running) (n : ℕ) : Type 0 wher
   pub outcome : IsOutcome j b (done (built_tree s.built)) n
   pub fits : n ≤ j.bytes
 
--- why it ended: memory was refused, or these bytes have this outcome
+-- memory was wanted: the first n of these bytes, within the limit, are those of the nodes of a value on its way and those that
+-- it holds; and what comes next is refused by nothing, but a node that bytes spell was to be added, or bytes of a text were to be kept
+pub record RanOut (j : Job) (b : List ℕ) (n : ℕ) : Type 0 where
+  pub s : Running
+  pub same : IsOf j s
+  pub own : List ℕ
+  pub rest : List ℕ
+  pub is : take j.bytes b ≡ own ++ (held_of s ++ rest)
+  pub led : Reaches j.registry (start j.depth j.ty) (state_of s.built) own
+  pub count : n ≡ length own + length (held_of s)
+  pub wants : WantsMemory s rest
+
+-- why it ended: memory was wanted and refused, or these bytes have this outcome
 abbrev pub IsEnded : Job → List ℕ → DecodeFault → ℕ → Type 0
-IsEnded j b f n = (f ≡ record { reason = reason.OutOfMemory; at = 0 })
+IsEnded j b f n = ((f ≡ record { reason = reason.OutOfMemory; at = 0 }) × RanOut j b n)
     ⊎ (((f ≡ record { reason = reason.TooLong; at = j.bytes }) × IsOutcome j b too_long n)
     ⊎ ((e : Refusal) × (at : ℕ) × (f ≡ record { reason = reason_of e; at = at }) × IsOutcome j b (refused e at) n))
 
@@ -150,6 +162,18 @@ FedCounts j new taken turns calls (fed.More n) = (2 * length new.built.entries +
 FedCounts j new taken turns calls (fed.Done used) = (2 * length new.built.entries + calls ≤ turns) × (turns ≤ taken + used + 2 * length new.built.entries + calls)
 FedCounts j new taken turns calls (fed.Ended f n) = turns ≤ n + 2 * node_bound n j.depth (widest j.registry) + calls
 
+-- a piece of n bytes, whatever is answered to it, adds no more than them to the bytes taken
+abbrev pub FedTakes : ℕ → ℕ → Fed → Type 0
+FedTakes taken n (fed.More m) = (taken ≤ m) × (m ≤ taken + n)
+FedTakes taken n (fed.Done used) = used ≤ n
+FedTakes taken n (fed.Ended f m) = (taken ≤ m) × (m ≤ taken + n)
+
+-- nothing changed but how many turns and calls there were
+pub record IsKept (old new : Decoding) : Type 0 where
+  pub job : new.job ≡ old.job
+  pub taken : new.taken ≡ old.taken
+  pub run : new.run ≡ old.run
+
 -- where the value is told to be whole it is there
 abbrev pub HasValue : Decoding → Result Progress DecodeFault → Type 0
 HasValue d (Ok (progress.Done used)) = (s : Running) × (d.run ≡ Ok s) × (is_whole s.built ≡ true)
@@ -184,6 +208,11 @@ node_count d = elim d.run [ Ok s ↦ length s.built.entries | Err f ↦ 0 ]
 
 abbrev pub text_bytes : Decoding → ℕ
 text_bytes d = elim d.run [ Ok s ↦ built_text_bytes s.built | Err f ↦ 0 ]
+
+-- where the value is whole, its own nodes and bytes of text are counted
+abbrev pub CountsValue : Decoding → Result Progress DecodeFault → Type 0
+CountsValue d (Ok (progress.Done used)) = (s : Running) × (d.run ≡ Ok s) × (node_count d ≡ nodes (finished s.built).tree) × (text_bytes d ≡ tree_text_bytes (finished s.built).tree)
+CountsValue d _ = Unit {0}
 
 -- how many nodes are open, and how many bytes are carried
 abbrev pub open_nodes : Decoding → ℕ

@@ -60,23 +60,34 @@ IsAdded old new own = (x : Head × Option Part) × (own_at (next_layout old) own
 abbrev pub IsRefused : Built → List ℕ → DecodeReason → ℕ → Type 0
 IsRefused b own told at = (e : Refusal) × (left : List ℕ) × (own_at (next_layout b) own ≡ Err (e, left)) × (is_cut e ≡ false) × (told ≡ reason_of e) × (at ≡ place own left)
 
+-- the bytes spell the next node, and nothing else
+abbrev pub IsSpelled : Built → List ℕ → Type 0
+IsSpelled b own = (x : Head × Option Part) × (own_at (next_layout b) own ≡ Ok (x, []))
+
+-- the bytes are a length, and nothing else
+abbrev pub AreLength : List ℕ → Type 0
+AreLength own = (n : ℕ) × (compact_at target.U32 own ≡ Ok (n, []))
+
+-- what the next node's bytes make of a value; memory is refused only for a node that they spell
 abbrev pub AddsNode : Built → Built → List ℕ → Result (Unit {0}) NodeFault → Type 0
 AddsNode old new own (Ok _) = IsAdded old new own
 AddsNode old new own (Err (fault.Refused told at)) = IsRefused old own told at × (new ≡ old)
-AddsNode old new own (Err fault.OutOfMemory) = new ≡ old
+AddsNode old new own (Err fault.OutOfMemory) = IsSpelled old own × (new ≡ old)
 
 -- the bytes are a text's length, and the text is open
+-- what the bytes of a text's length make of it
 abbrev pub OpensText : Built → Built → List ℕ → Result ℕ NodeFault → Type 0
 OpensText old new own (Ok n) = (compact_at target.U32 own ≡ Ok (n, [])) × (new ≡ with_text_opened old n)
 OpensText old new own (Err (fault.Refused told at)) = IsRefused old own told at × (new ≡ old)
-OpensText old new own (Err fault.OutOfMemory) = new ≡ old
+OpensText old new own (Err fault.OutOfMemory) = AreLength own × (new ≡ old)
 
 -- the node is added, or the text that is next is open and lacks all its bytes
 abbrev pub IsTaken : Form → Built → Built → Option OpenText → List ℕ → Type 0
 IsTaken f old new text own = (IsAdded old new own × (text ≡ None))
     ⊎ ((f ≡ form.Primitive P.Str) × ((n : ℕ) × (compact_at target.U32 own ≡ Ok (n, [])) × (new ≡ with_text_opened old n) × (text ≡ Some (record { len = n; missing = n }))))
 
+-- what the next node's own bytes make of it, be it a text or not
 abbrev pub TakesNode : Form → Built → Built → Option OpenText → List ℕ → Result (Unit {0}) NodeFault → Type 0
 TakesNode f old new text own (Ok _) = IsTaken f old new text own
 TakesNode f old new text own (Err (fault.Refused told at)) = IsRefused old own told at × (new ≡ old) × (text ≡ None)
-TakesNode f old new text own (Err fault.OutOfMemory) = (new ≡ old) × (text ≡ None)
+TakesNode f old new text own (Err fault.OutOfMemory) = (IsSpelled old own ⊎ ((f ≡ form.Primitive P.Str) × AreLength own)) × (new ≡ old) × (text ≡ None)

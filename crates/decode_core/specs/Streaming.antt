@@ -1,6 +1,6 @@
 -- What is answered to all bytes of a reader, and to pieces that are joined.
 use Rattle.std.specs.Prelude.{◌≡◌, ℕ, ◌<◌, ◌≤◌, ◌⊎◌, Bool, true, false, List, [], ◌++◌, length, Result, Ok, Err, Option, Some, None, IfSome}
-use Rattle.std.specs.Io.KnownBytes.{IsAtEnd}
+use Rattle.std.specs.Io.KnownBytes.{Consumes, IsAtEnd, Keeps}
 use Rattle.registry_core.specs.declared.type_info.TypeInfo.{TypeInfo}
 use Rattle.widths_core.specs.Widths.{widest}
 use Rattle.grammar_core.specs.Tree.{Tree, nodes, text_bytes}
@@ -32,14 +32,26 @@ IsOfJob j v = (v.types ≡ j.registry) × (v.ty ≡ j.ty)
 abbrev pub Trails : Job → ℕ → List ℕ → Type 0
 Trails j n b = (v : Tree) × IsOutcome j b (done v) n × (n < length b)
 
+-- these bytes leave open what the answer is: more are wanted, or they are a value's and one may follow them
+abbrev pub LeavesOpen : Job → List ℕ → Type 0
+LeavesOpen j b = IsOutcome j b more (length b) ⊎ ((v : Tree) × IsOutcome j b (done v) (length b))
+
+-- the bytes that were read leave it open
+abbrev pub StopsOpen : Job → Option (List ℕ) → Option (List ℕ) → Type 0
+StopsOpen j known left = (b : List ℕ) × Consumes known left b × LeavesOpen j b
+
+-- the same of a front of these bytes
+abbrev pub FrontLeavesOpen : Job → List ℕ → Type 0
+FrontLeavesOpen j b = (front : List ℕ) × (rest : List ℕ) × (b ≡ front ++ rest) × LeavesOpen j front
+
 -- the answer to all bytes of a reader: the one value that is encoded by exactly these bytes; the fault that forbids a decoder; too few
--- bytes, or the fault of these bytes; or a value whose bytes end before they do. Where a read failed, nothing is said of the bytes
+-- bytes, or the fault of these bytes; or a value whose bytes end before they do. Where a read failed, a front of them leaves the answer open
 abbrev pub Streams : Option OpenFault → Job → List ℕ → Result Seen StreamFault → Type 0
 Streams forbidden j b (Ok v) = (forbidden ≡ None) × IsOfJob j v × IsOutcome j b (done v.tree) (length b)
 Streams forbidden j b (Err (stream.Open e)) = Forbids forbidden e
 Streams forbidden j b (Err (stream.Decode f)) = (forbidden ≡ None) × Finishes j b (Err f)
 Streams forbidden j b (Err (stream.TrailingBytes at)) = (forbidden ≡ None) × Trails j at b
-Streams forbidden j b (Err stream.Device) = forbidden ≡ None
+Streams forbidden j b (Err stream.Device) = (forbidden ≡ None) × FrontLeavesOpen j b
 
 -- the value on the front of the joined pieces, how many bytes are its own, and that it is little for them; or, as above, the fault
 abbrev pub Joins : Option OpenFault → Job → List ℕ → Result (Seen × ℕ) PiecesFault → Type 0
@@ -61,20 +73,21 @@ pub record IsUnderWay (d : Decoding) (b : List ℕ) : Type 0 where
 abbrev pub EndsAt : Job → List ℕ → ℕ → Type 0
 EndsAt j b n = (v : Tree) (m : ℕ) → IsOutcome j b (done v) m → m ≡ n
 
--- does a byte follow
-abbrev pub Looks : Option (List ℕ) → Result Bool StreamFault → Type 0
-Looks known (Ok true) = IfSome known (λ b. 0 < length b)
-Looks known (Ok false) = IsAtEnd known
-Looks known (Err stream.Device) = Unit {0}
-Looks known (Err _) = ⊥
+-- does a byte follow; where the read failed, none was read
+abbrev pub Looks : Option (List ℕ) → Option (List ℕ) → Result Bool StreamFault → Type 0
+Looks known left (Ok true) = IfSome known (λ b. 0 < length b)
+Looks known left (Ok false) = IsAtEnd known
+Looks known left (Err stream.Device) = Keeps known left
+Looks known left (Err _) = ⊥
 
--- what has led to the decoder are all bytes of a reader, of which its value leaves none; or more follow its value; or they are refused
-abbrev pub FeedsAll : Decoding → Option (List ℕ) → Result Bool StreamFault → Type 0
-FeedsAll d known (Ok false) = (b : List ℕ) × Led d b × EndsAt d.job b (length b) × IfSome known (λ bytes. bytes ≡ b)
-FeedsAll d known (Ok true) = IfSome known (Trails d.job d.taken)
-FeedsAll d known (Err (stream.Decode f)) = IfSome known (λ bytes. Finishes d.job bytes (Err f))
-FeedsAll d known (Err stream.Device) = Unit {0}
-FeedsAll d known (Err _) = ⊥
+-- what has led to the decoder are all bytes of a reader, of which its value leaves none; or more follow its value; or they are refused;
+-- or a read failed, and those that were read before it leave the answer open
+abbrev pub FeedsAll : Decoding → Option (List ℕ) → Option (List ℕ) → Result Bool StreamFault → Type 0
+FeedsAll d known left (Ok false) = (b : List ℕ) × Led d b × EndsAt d.job b (length b) × IfSome known (λ bytes. bytes ≡ b)
+FeedsAll d known left (Ok true) = IfSome known (Trails d.job d.taken)
+FeedsAll d known left (Err (stream.Decode f)) = IfSome known (λ bytes. Finishes d.job bytes (Err f))
+FeedsAll d known left (Err stream.Device) = StopsOpen d.job known left
+FeedsAll d known left (Err _) = ⊥
 
 -- the front of these bytes has led to the decoder, and its value is whole, or nothing follows
 pub record IsFed (d : Decoding) (b : List ℕ) : Type 0 where

@@ -1,6 +1,9 @@
 -- One piece of input, turn by turn.
 use Rattle.std.specs.Prelude.{◌≡◌, ℕ, suc, ◌*◌, ◌+◌, ◌-◌, ◌≤◌, ◌⊎◌, List, [], ◌++◌, length, take, drop, false, true, Result, Ok, Err}
+use Rattle.scale_core.specs.Read.{compact_at}
+use Rattle.scale_core.specs.declared.compact.Target.TheVariants as target
 use Rattle.registry_core.specs.declared.type_info.TypeInfo.{TypeInfo}
+use Rattle.widths_core.specs.Layouts as layout
 use Rattle.grammar_core.specs.declared.form.Form.{Form}
 use Rattle.grammar_core.specs.declared.form.Next.TheVariants as next
 use Rattle.value_core.specs.Begun.{IsBegun}
@@ -10,6 +13,7 @@ use Rattle.value_core.specs.Refusals.{is_whole}
 use Rattle.grammar_core.specs.Reading.{Refusal, truncated}
 use Rattle.decode_core.specs.Decided.{Decided}
 use Rattle.decode_core.specs.Machine.{State, remain, to_go, is_cut}
+use Rattle.decode_core.specs.NodeAdds.{IsSpelled}
 use Rattle.decode_core.specs.Reasons.{reason_of}
 use Rattle.decode_core.specs.Running.{Running, IsCarry, IsTextNext, state_of, held_of}
 use Rattle.decode_core.specs.Told.{told, after, own_at}
@@ -67,6 +71,25 @@ Stops s rest (stop.Refused held told_reason at len) = let x = held_of s ++ rest 
     (e : Refusal) × (left : List ℕ) × (is_cut e ≡ false) × (told_reason ≡ reason_of e) × (held ≡ length (held_of s)) × (at ≡ length x - length left)
     × (remain (types_of s) (state_of s.built) x ≡ told [] (Err ((e, left), x))) × Decided (types_of s) (state_of s.built) x e left len × (held ≤ len)
 
+-- the bytes that are held and these spell the next node
+abbrev pub KeepsNode : Running → List ℕ → Type 0
+KeepsNode s bytes = IsSpelled s.built (held_of s ++ bytes)
+
+-- a text is next, and the bytes that are held and these are its length and some of its bytes, or none; these are not none
+abbrev pub KeepsText : Running → List ℕ → Type 0
+KeepsText s bytes = (next_layout s.built ≡ layout.text) × (1 ≤ length bytes)
+    × ((n : ℕ) × (came : List ℕ) × (compact_at target.U32 (held_of s ++ bytes) ≡ Ok (n, came)) × (length came ≤ n))
+
+-- memory is wanted, where rest is left of the piece: a value can stand next, and by the first bytes of the rest its node is to be
+-- added, which they spell, or bytes of a text are to be kept
+pub record WantsMemory (s : Running) (rest : List ℕ) : Type 0 where
+  pub form : Form
+  pub next : next_of s.built.walk ≡ next.Wants form
+  pub bytes : List ℕ
+  pub later : List ℕ
+  pub is : rest ≡ bytes ++ later
+  pub keeps : KeepsNode s bytes ⊎ KeepsText s bytes
+
 -- bytes are held, or a node is added and none are
 abbrev pub Steps : Running → Running → List ℕ → Type 0
 Steps old new bytes = ((1 ≤ length bytes) × (state_of new.built ≡ state_of old.built) × (held_of new ≡ held_of old ++ bytes))
@@ -77,7 +100,7 @@ abbrev pub StepTells : Running → Running → List ℕ → Turned → Type 0
 StepTells old new piece (turned.On n) = (n ≤ length piece) × IsSame old new × Steps old new (take n piece)
 StepTells old new piece (turned.Stopped (stop.Refused held told_reason at len)) = Stops old piece (stop.Refused held told_reason at len)
 StepTells old new piece (turned.Stopped s) = (new ≡ old) × Stops old piece s
-StepTells old new piece turned.OutOfMemory = Unit {0}
+StepTells old new piece turned.OutOfMemory = WantsMemory old piece
 
 -- what stands after the turns end: what stood before the last one, but for a node that is refused
 abbrev pub Stands : Stopped → Running → Running → Type 0
@@ -95,6 +118,10 @@ pub record IsSound (s : Running) : Type 0 where
 -- what turns on a piece do, of which n bytes were taken
 abbrev pub FeedTells : Running → Running → List ℕ → ℕ → Stopped → Type 0
 FeedTells old new piece n s = (n ≤ length piece) × ((last : Running) × Moves old last (take n piece) × Stops last (drop n piece) s × Stands s last new × IsSound last)
+
+-- what turns on a piece do that end for want of memory, where n bytes of it were taken
+abbrev pub RunsOut : Running → List ℕ → ℕ → Type 0
+RunsOut old piece n = (n ≤ length piece) × ((last : Running) × Moves old last (take n piece) × WantsMemory last (drop n piece))
 
 -- from one count of turns to the other there are two for each node that was added, which is closed once, and one that stopped,
 -- and beside these no more than one for each byte that was taken
@@ -121,7 +148,7 @@ FeedCounts old new piece from to (Err n) = StopsShort old piece n from to
 abbrev pub BareTells : Running → Running → Turned → Type 0
 BareTells old new (turned.On n) = (n ≡ 0) × IsSame old new × Steps old new []
 BareTells old new (turned.Stopped s) = ⊥
-BareTells old new turned.OutOfMemory = Unit {0}
+BareTells old new turned.OutOfMemory = (rest : List ℕ) → WantsMemory old rest
 
 -- what a turn did that took the next node's own bytes
 abbrev pub node_turned : Result (Unit {0}) NodeFault → ℕ → ℕ → ℕ → Turned
@@ -134,4 +161,4 @@ abbrev pub EndTells : Running → Running → Turned → Type 0
 EndTells old new (turned.On n) = (n ≡ 0) × IsSame old new × Steps old new []
 EndTells old new (turned.Stopped (stop.Refused held told_reason at len)) = (rest : List ℕ) → Stops old rest (stop.Refused held told_reason at len)
 EndTells old new (turned.Stopped s) = ⊥
-EndTells old new turned.OutOfMemory = Unit {0}
+EndTells old new turned.OutOfMemory = (rest : List ℕ) → WantsMemory old rest

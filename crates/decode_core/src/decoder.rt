@@ -1,9 +1,12 @@
 //! The streaming decoder.
 
-ghost use Rattle.std.specs.Prelude.{◌≡◌, ◌+◌, ◌++◌, ◌≤◌, ◌^◌, [], ℕ, List, Ok, IfOk, length, suc, take};
+ghost use Rattle.std.specs.Prelude.{◌≡◌, ◌+◌, ◌++◌, ◌≤◌, ◌^◌, [], ℕ, List, Ok, Err, IfOk, length, suc, take, true};
+ghost use Rattle.value_core.specs.Built.{finished};
+ghost use Rattle.value_core.specs.Refusals.{is_whole};
+ghost use Rattle.decode_core.specs.Running.{Running};
 ghost use Rattle.decode_core.specs.Outcome.{Job};
 ghost use Rattle.decode_core.specs.Bound.{node_bound};
-ghost use Rattle.decode_core.specs.Decoding.{Answers, Decoding, FedCounts, Finishes, HasCounted, HasValue, HoldsAt, IsLedTo, IsSmall, IsSmallAtEnd, IsSmallValue, Led, Opens, RunAnswers, RunCounted, RunLed, first_of_all, node_count, opening_fault, text_bytes};
+ghost use Rattle.decode_core.specs.Decoding.{Answers, CountsValue, Decoding, FedCounts, FedTakes, Finishes, HasCounted, HasValue, HoldsAt, IsKept, IsLedTo, IsSmall, IsSmallAtEnd, IsSmallValue, Led, Opens, RunAnswers, RunCounted, RunLed, first_of_all, node_count, opening_fault, text_bytes};
 ghost use Rattle.widths_core.specs.Widths.{widest};
 
 use crate::count::Count;
@@ -89,6 +92,8 @@ fn feed_run<A: Allocator>(
 ) -> Fed
     requires led { IsLedTo run.old limit taken }
     ensures answers { (j : Job) (b : List ℕ) → j.bytes ≡ limit → RunLed j b taken (Ok run.old) → RunAnswers j (b ++ piece.now) taken run.new result }
+    ensures whole { is_whole run.old.built ≡ true → (result ≡ Fed.Done 0) × (run.new ≡ run.old) }
+    ensures takes { FedTakes taken (length piece.now) result }
     ensures counts { (j : Job) (b : List ℕ) (calls : ℕ) → j.bytes ≡ limit → RunLed j b taken (Ok run.old) → RunCounted j taken (Ok run.old) turns.old.so_far calls → FedCounts j run.new taken turns.new.so_far (suc calls) result }
 {
     let offered = within(piece, limit - taken);
@@ -174,7 +179,8 @@ impl<'r, A: Allocator + Clone> Decoder<'r, A> {
 
 impl<'r, A: Allocator> Decoder<'r, A> {
     /// How many bytes were taken: all that were fed while the value goes on, the value's own when it is whole, and those
-    /// up to the one that decides a refusal, with it. Where memory was refused it is those taken before it was.
+    /// up to the one that decides a refusal, with it. Where memory was refused it is those taken before it was. No call
+    /// makes it less, and none adds more than the bytes of its piece.
     pub fn taken(&self) -> u64
         ensures { result ≡ self.now.taken }
     {
@@ -209,15 +215,21 @@ impl<'r, A: Allocator> Decoder<'r, A> {
     /// registry). However the bytes are cut, the answer to each piece is that to all bytes so far.
     ///
     /// Answers `More` where the next node needs a byte that is not there, and `Done` in the call that brings the value's
-    /// last byte; bytes behind it are not used, and every later call answers `Done` with none used.
+    /// last byte; bytes after it are not used. A decoder that has answered `Done` or a refusal keeps its answer: every
+    /// later call answers `Done` with none used, and keeps the value, or is refused with the same. It takes no memory.
     ///
     /// Refuses in the call that brings the deciding byte, with the place from the value's first byte: what the grammar
     /// refuses first; `TooLong` at the limit of bytes where the value is unfinished there and one more is offered; and
-    /// `OutOfMemory` at 0. It then holds no node and no text, and every later call is refused with the same.
+    /// `OutOfMemory` at 0, only where after the bytes of `taken()` a node was to be added whose own bytes are there and
+    /// that the grammar does not refuse, or bytes of a text were to be kept. It then holds no node and no text.
     pub fn feed(&mut self, piece: &[u8]) -> Result<Progress, DecodeFault>
         ensures job { self.new.job ≡ self.old.job }
         ensures calls { self.new.calls ≡ self.old.calls + 1 }
+        ensures refused { (f : DecodeFault) → self.old.run ≡ Err f → (result ≡ Err f) × IsKept self.old self.new × (self.new.turns ≡ self.old.turns) }
+        ensures whole { (s : Running) → self.old.run ≡ Ok s → is_whole s.built ≡ true → (result ≡ Ok (Progress.Done 0)) × IsKept self.old self.new }
+        ensures taken { (self.old.taken ≤ self.new.taken) × (self.new.taken ≤ self.old.taken + length piece.now) }
         ensures value { HasValue self.new result }
+        ensures value_counts { CountsValue self.new result }
         ensures held { (b : List ℕ) → Led self.old b → HoldsAt self.new (b ++ piece.now) result }
         ensures small { IsSmall self.new }
         ensures counted { HasCounted self.new }
@@ -246,11 +258,14 @@ impl<'r, A: Allocator> Decoder<'r, A> {
         }
     }
 
-    /// The value, where it is whole; first it does what a piece of no bytes does.
+    /// The value, where it is whole; first it does what a piece of no bytes does. After `Done` it is the value that was
+    /// there, and takes no memory.
     ///
-    /// Refuses a value that is unfinished as `Truncated` at the number of bytes that were fed, and else as `feed` did.
-    /// Nothing comes back then.
+    /// Refuses a value that is unfinished as `Truncated` at the number of bytes that were fed, and after a refusal with
+    /// the same. On the way it refuses what a piece of no bytes would be refused for. Nothing comes back then.
     pub fn finish(self) -> Result<Value<'r, A>, DecodeFault>
+        ensures refused { (f : DecodeFault) → self.entry.run ≡ Err f → result ≡ Err f }
+        ensures whole { (s : Running) → self.entry.run ≡ Ok s → is_whole s.built ≡ true → result ≡ Ok (finished s.built) }
         ensures finishes { (b : List ℕ) → Led self.entry b → Finishes self.entry.job b result }
         ensures small { (b : List ℕ) → Led self.entry b → IsSmallValue self.entry.job b result }
     {

@@ -26,7 +26,8 @@ pub enum DecodeReason {
     /// A compact integer or a length in a longer form than its value needs.
     #[error("CompactNotShortest")]
     CompactNotShortest,
-    /// A compact integer or a length past the range of what it stands for.
+    /// A compact integer or a length past the range of what it stands for: its first byte names more bytes than that
+    /// has, and is refused alone, as `07` is where an integer of 32 bits stands; or its value is too great.
     #[error("CompactTooLarge")]
     CompactTooLarge,
     /// No arm of the variant has the index.

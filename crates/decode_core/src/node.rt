@@ -141,8 +141,10 @@ fn add_arm<A: Allocator>(builder: &mut Builder<'_, A>, own: &[u8]) -> Result<(),
 {
     match builder.arm(own[0]) {
         Ok(()) => Ok(()),
-        Err(BuildFault::NoSuchVariant) => Err(NodeFault::Refused(DecodeReason::NoSuchVariant, 0)),
-        Err(_) => Err(NodeFault::OutOfMemory),
+        Err(fault) => Err(match fault {
+            BuildFault::NoSuchVariant => NodeFault::Refused(DecodeReason::NoSuchVariant, 0),
+            _ => NodeFault::OutOfMemory,
+        }),
     }
 }
 
@@ -177,7 +179,8 @@ pub(crate) fn add_bare<A: Allocator>(
     requires next { next_of builder.old.walk ≡ Next.Wants form }
     requires bare { HasBytes form → ⊥ }
     requires closed { builder.old.text ≡ None }
-    ensures { AddsNode builder.old builder.new [] result }
+    ensures adds { AddsNode builder.old builder.new [] result }
+    ensures memory { IfErr result (λ e. e ≡ NodeFault.OutOfMemory) }
 {
     match form {
         Form::Empty => kept(builder.empty()),

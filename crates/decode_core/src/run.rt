@@ -1,13 +1,13 @@
 //! A decoder on its way: it takes its input turn by turn.
 
-ghost use Rattle.std.specs.Prelude.{ℕ, List, true, ◌≡◌, ◌<◌, ◌≤◌, ◌+◌, ◌++◌, [], length, take, drop, None, Some, suc, IfOk, OnOk, OnErr};
+ghost use Rattle.std.specs.Prelude.{ℕ, List, true, ◌≡◌, ◌<◌, ◌≤◌, ◌+◌, ◌++◌, [], length, take, drop, None, Some, suc, IfErr, IfOk, Ok, OnOk, OnErr};
 ghost use Rattle.decode_core.specs.Running.{IsCarry, IsFresh, IsText, IsTextNext};
 ghost use Rattle.value_core.specs.Walked.{next_of};
 ghost use Rattle.value_core.specs.Built.{built_text_bytes, finished};
 ghost use Rattle.value_core.specs.Refusals.{is_whole};
 ghost use Rattle.decode_core.specs.Needs.{AreOwn, HasBytes, IsFirst, IsNeeded};
 ghost use Rattle.decode_core.specs.NodeAdds.{TakesNode};
-ghost use Rattle.decode_core.specs.Turned.{BareTells, EndTells, FeedCounts, FeedTells, IsSound, StepTells, node_turned};
+ghost use Rattle.decode_core.specs.Turned.{BareTells, EndTells, FeedCounts, FeedTells, IsSound, RunsOut, StepTells, node_turned};
 
 use crate::carry::Carry;
 use crate::count::Count;
@@ -237,29 +237,28 @@ impl<'r, A: Allocator> Run<'r, A> {
         requires whole { text.missing ≡ 0 }
         ensures { EndTells self.old self.new result }
     {
-        match self.builder.text_end() {
-            Ok(()) => {
-                self.text = None;
-                Turned::On(0)
-            }
-            Err(BuildFault::BadText { valid }) => {
-                let before = compact_len(u128::from(text.len));
-                let len = before + text.len as usize;
-                Turned::Stopped(Stopped::Refused {
-                    held: len,
-                    reason: DecodeReason::BadUtf8,
-                    at: before as u64 + valid,
-                    len,
-                })
-            }
-            Err(_) => Turned::OutOfMemory,
-        }
+        let Err(fault) = self.builder.text_end() else {
+            self.text = None;
+            return Turned::On(0);
+        };
+        let BuildFault::BadText { valid } = fault else {
+            return Turned::OutOfMemory;
+        };
+        let before = compact_len(u128::from(text.len));
+        let len = before + text.len as usize;
+        Turned::Stopped(Stopped::Refused {
+            held: len,
+            reason: DecodeReason::BadUtf8,
+            at: before as u64 + valid,
+            len,
+        })
     }
 
     /// One turn: takes bytes of the piece, adds a node, or stops.
     fn turn(&mut self, piece: &[u8]) -> Turned
         ensures tells { StepTells self.old self.new piece.now result }
         ensures sound { IsSound self.old }
+        ensures whole { is_whole self.old.built ≡ true → result ≡ Turned.Stopped Stopped.Finished }
     {
         match self.builder.walk().next() {
             Next::Finished => Turned::Stopped(Stopped::Finished),
@@ -288,6 +287,8 @@ impl<'r, A: Allocator> Run<'r, A> {
         turns: &mut Count,
     ) -> Result<(usize, Stopped), usize>
         ensures tells { IfOk result (λ x. FeedTells self.old self.new piece.now x.0 x.1) }
+        ensures short { IfErr result (λ n. RunsOut self.old piece.now n) }
+        ensures whole { is_whole self.old.built ≡ true → (result ≡ Ok (0, Stopped.Finished)) × (self.new ≡ self.old) }
         ensures counts { FeedCounts self.old self.new piece.now turns.old.so_far turns.new.so_far result }
     {
         let mut at = 0;

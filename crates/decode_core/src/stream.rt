@@ -2,7 +2,7 @@
 
 ghost use Rattle.std.specs.Prelude.{◌≡◌, ◌⊎◌, [], true, IfOk, IfSome, IsErrOf};
 ghost use Rattle.decode_core.specs.Decoding.{opening_fault};
-ghost use Rattle.decode_core.specs.Streaming.{FeedsAll, IsOfJob, IsUnderWay, Looks, Streams, job_of};
+ghost use Rattle.decode_core.specs.Streaming.{FeedsAll, IsOfJob, IsUnderWay, Looks, StopsOpen, Streams, job_of};
 ghost use Rattle.decode_core.specs.declared.fault.OpenFault.{OpenFault};
 ghost use Rattle.decode_core.specs.declared.stream.StreamFault.TheVariants.{Decode, Device, Open};
 
@@ -34,7 +34,7 @@ pub enum StreamFault {
         /// How many bytes the value has.
         at: u64,
     },
-    /// A read failed before the rest was decided.
+    /// A read failed, and the bytes that were read before it decide nothing of this.
     #[error("Device")]
     Device,
 }
@@ -65,7 +65,7 @@ impl From<SourceFault> for StreamFault {
 
 /// Does a byte follow? It is read then.
 fn has_more<R: Read>(source: &mut Source<R>) -> Result<bool, StreamFault>
-    ensures answers { Looks (R.remaining source.old.device) result }
+    ensures answers { Looks (R.remaining source.old.device) (R.remaining source.new.device) result }
     ensures told { IsErrOf result StreamFault.Device → source.new.failed ≡ true }
     ensures quiet { IsErrOf result StreamFault.Device ⊎ (source.new.failed ≡ source.old.failed) }
 {
@@ -74,28 +74,30 @@ fn has_more<R: Read>(source: &mut Source<R>) -> Result<bool, StreamFault>
     Ok(count > 0)
 }
 
-/// Feeds a decoder that has taken nothing until its value is whole or no byte is left: does one follow the value?
+/// Feeds a decoder that has taken nothing, no byte first, until its value is whole or none is left: does one follow the
+/// value?
 fn feed_all<A: Allocator, R: Read>(
     decoder: &mut Decoder<'_, A>,
     source: &mut Source<R>,
 ) -> Result<bool, StreamFault>
     requires { IsUnderWay decoder.old [] }
     ensures job { decoder.new.job ≡ decoder.old.job }
-    ensures answers { FeedsAll decoder.new (R.remaining source.old.device) result }
+    ensures answers { FeedsAll decoder.new (R.remaining source.old.device) (R.remaining source.new.device) result }
     ensures told { IsErrOf result StreamFault.Device → source.new.failed ≡ true }
     ensures quiet { IsErrOf result StreamFault.Device ⊎ (source.new.failed ≡ source.old.failed) }
 {
     let mut part = [0u8; PIECE];
+    let mut count = 0;
     'pieces: loop {
-        let count = source.pull(&mut part)?;
-        if count == 0 {
-            return Ok(false);
-        }
         if let Progress::Done { used } = decoder.feed(&part[..count])? {
             if used < count as u64 {
                 return Ok(true);
             }
             return has_more(source);
+        }
+        count = source.pull(&mut part)?;
+        if count == 0 {
+            return Ok(false);
         }
     }
 }
@@ -105,9 +107,10 @@ fn feed_all<A: Allocator, R: Read>(
 ///
 /// Refuses with `Open`, before it reads, what `Decoder::new` refuses; and with `Decode` what a decoder refuses in these
 /// bytes, which are then not read to their end, or where they end within the value, as `Truncated` at their number.
-/// Where a byte follows the value it is `TrailingBytes` at the value's length, and `Device` where a read failed before
-/// any of this was decided: `failed()` is true then, and else as it was. After each refusal nothing is kept. The reader
-/// has lost what was read, at most 4096 bytes behind the one that decides.
+/// Where a byte follows the value it is `TrailingBytes` at the value's length. It is `Device` where a read failed, and the
+/// bytes read before it leave the answer open: more are wanted, or they are all the value's and one may follow them.
+/// `failed()` is true then, and else as it was. After each refusal nothing is kept. The reader has lost what was read, at
+/// most 4096 bytes after the one that decides.
 pub fn decode_all<'r, A: Allocator + Clone, R: Read>(
     alloc: A,
     checked: &'r Checked,
@@ -117,6 +120,7 @@ pub fn decode_all<'r, A: Allocator + Clone, R: Read>(
 ) -> Result<Value<'r, A>, StreamFault>
     ensures answers { IfSome (R.remaining source.old.device) (λ bytes. Streams (opening_fault checked.now root.0 limits) (job_of checked.now root.0 limits) bytes result) }
     ensures same { IfOk result (IsOfJob (job_of checked.now root.0 limits)) }
+    ensures stopped { IsErrOf result StreamFault.Device → StopsOpen (job_of checked.now root.0 limits) (R.remaining source.old.device) (R.remaining source.new.device) }
     ensures unread { (e : OpenFault) → result ≡ Err (StreamFault.Open e) → source.new ≡ source.old }
     ensures told { IsErrOf result StreamFault.Device → source.new.failed ≡ true }
     ensures quiet { IsErrOf result StreamFault.Device ⊎ (source.new.failed ≡ source.old.failed) }

@@ -1,7 +1,8 @@
-use Rattle.std.proofs.Common.{arith}
+use Rattle.std.proofs.Common.{◌-◌, arith, ap, length}
+use Rattle.std.proofs.lemmas.List.{length-take}
 use Rattle.scale_core.proofs.ReadForms.{are_bytes}
 use Rattle.decode_core.proofs.Counting.{counts_long, counts_refused, counts_short}
-use Rattle.decode_core.proofs.FeedRun.{run_done, run_long, run_more, run_held, run_refused}
+use Rattle.decode_core.proofs.FeedRun.{run_done, run_long, run_more, run_held, run_refused, run_short, takes_refused}
 use Rattle.decode_core.proofs.decoder.feed_run.Goals as goal
 
 -- src/decoder.rt:81:17
@@ -40,3 +41,16 @@ returns-in-Ok-default-Refused-clause-counts g c = λ j b calls e led before.
 pub returns-in-Err-clause-counts : goal.returns-in-Err-clause-counts
 returns-in-Err-clause-counts g c = λ j b calls e led before.
     counts_short j b c.within-offered.result.now c.args.run.now c.args.taken c.in-Err.count c.args.turns.now.so_far c.feed.new.turns.so_far calls led c.in-Err.ensures.counts before.1
+
+-- src/decoder.rt:86:1
+pub returns-in-Ok-default-Refused-clause-takes : goal.returns-in-Ok-default-Refused-clause-takes
+returns-in-Ok-default-Refused-clause-takes g c =
+    let r = c.in-Ok-default-Refused in
+    let within = run_held c.requires.led.job c.requires.led.bytes c.args.piece.now c.within-offered.result.now c.args.run.now c.feed.new.self c.args.limit c.args.taken r.count r.held r.reason r.at r.len r.field-0-1 c.requires.led.is_limit c.within-offered.ensures c.requires.led.led r.ensures.tells r.field-0-1-is in
+    let few = takes_refused c.args.run.now c.feed.new.self c.within-offered.result.now r.count r.held c.args.taken r.len r.reason r.at r.field-0-1 r.ensures.tells r.field-0-1-is within in
+    (few.0, omega (arith, few.1, ap length c.within-offered.ensures, length-take (c.args.limit - c.args.taken) c.args.piece.now))
+
+-- src/decoder.rt:86:1
+pub returns-in-Err-clause-answers : goal.returns-in-Err-clause-answers
+returns-in-Err-clause-answers g c = λ j b e led.
+    run_short j b c.args.piece.now c.within-offered.result.now c.args.run.now c.args.limit c.args.taken c.in-Err.count e c.within-offered.ensures led (λ w. let no = (c.in-Err.ensures.whole w).0 in absurd cc) c.in-Err.ensures.short

@@ -13,3 +13,10 @@ returns-in_err-length g c =
 -- src/node.rt:95:1
 pub returns : goal.returns
 returns g c = (length_read c.args.own.now c.in_ok-length.length c.requires.whole c.in_ok-length.ensures, search rules)
+
+-- src/node.rt:105:5
+pub returns-in_err-kept : goal.returns-in_err-kept
+returns-in_err-kept g c =
+    let n = c.in_ok-length.length in
+    let p = err_from_is_err_and c.from_residual-in_err-kept.result c.from_residual-in_err-kept.ensures.1 in
+    rw (p.1, p.2, c.in_err-kept.ensures.err) ((n, length_read c.args.own.now n c.requires.whole c.in_ok-length.ensures), search rules)

@@ -6,7 +6,7 @@ use Rattle.decode_core.specs.Running.{Running}
 use Rattle.decode_core.specs.declared.fault.DecodeFault.{DecodeFault}
 use Rattle.std.proofs.Common.{refl, sym, ap, arith, subst, inl, inr}
 use Rattle.decode_core.proofs.Feeding.{ended_stays}
-use Rattle.decode_core.proofs.Sound.{done_small, led_small}
+use Rattle.decode_core.proofs.Sound.{done_counts, done_small, led_small}
 use Rattle.decode_core.proofs.decoder.Decoder.feed.Goals as goal
 
 -- src/decoder.rt:128:27
@@ -147,3 +147,12 @@ returns-in-Done-clause-counted g c =
     let counted = subst (λ (r : Result Running DecodeFault). RunCounted j d.taken r d.turns.so_far d.calls.so_far) c.in-Ok.is c.self.invariant.counted in
     let counts = c.in-Done.ensures.counts j c.self.invariant.bytes d.calls.so_far refl before counted in
     omega (arith, counts.0, c.tick.ensures)
+
+-- src/decoder.rt:222:5
+pub returns-in-Done-clause-value_counts : goal.returns-in-Done-clause-value_counts
+returns-in-Done-clause-value_counts g c =
+    let d = c.self.inside in
+    let j : Job = record { registry = d.checked.now; ty = d.root.0; depth = d.limits.depth; bytes = d.limits.bytes } in
+    let told = c.in-Done.ensures.answers j c.self.invariant.bytes refl (subst (RunLed j c.self.invariant.bytes d.taken) c.in-Ok.is c.self.invariant.led) in
+    let counts = done_counts j (c.self.invariant.bytes ++ c.args.piece.now) (d.taken + c.in-Done.used) c.feed_run-fed.new.run told in
+    (c.feed_run-fed.new.run, refl, counts.0, counts.1)

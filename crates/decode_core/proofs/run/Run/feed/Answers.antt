@@ -1,7 +1,7 @@
 use Rattle.std.proofs.Common.{◌-◌, ◌<◌, ◌≤◌, length, take, drop}
 use Rattle.decode_core.specs.Turned.{StepTells}
 use Rattle.std.proofs.Common.{arith, refl, subst}
-use Rattle.decode_core.proofs.Moving.{each_added, each_held, few_added, few_held, turn_goes_on, turn_nearer}
+use Rattle.decode_core.proofs.Moving.{each_added, each_held, few_added, few_held, turn_goes_on, turn_nearer, whole_goes_on}
 use Rattle.decode_core.proofs.run.Run.feed.Goals as goal
 
 -- src/run.rt:241:9
@@ -26,6 +26,7 @@ turns-preserved g c =
       piece = refl;
       inside = on.0;
       moves = on.1;
+      whole = λ w. whole_goes_on c.args.self.now c.turns.self c.turns.at c.in-On.count c.turn.result c.turns.invariant.whole c.turn.ensures.whole c.in-On.is w;
       each = each_held c.args.self.now c.turns.self c.turn.new.self (take (length c.args.piece.now - c.turns.at) (drop c.turns.at c.args.piece.now)) c.args.turns.now.so_far c.turns.turns.so_far c.tick.new.self.so_far c.in-On.count c.turns.invariant.each c.tick.ensures held tells;
       few = few_held c.args.self.now c.turns.self c.turn.new.self (take (length c.args.piece.now - c.turns.at) (drop c.turns.at c.args.piece.now)) c.args.turns.now.so_far c.turns.turns.so_far c.tick.new.self.so_far c.turns.at c.in-On.count c.turns.invariant.few c.tick.ensures held tells;
     }
@@ -40,6 +41,7 @@ turns-preserved-then-node_count-before g c =
       piece = refl;
       inside = on.0;
       moves = on.1;
+      whole = λ w. whole_goes_on c.args.self.now c.turns.self c.turns.at c.in-On.count c.turn.result c.turns.invariant.whole c.turn.ensures.whole c.in-On.is w;
       each = each_added c.args.self.now c.turns.self c.turn.new.self (take (length c.args.piece.now - c.turns.at) (drop c.turns.at c.args.piece.now)) c.args.turns.now.so_far c.turns.turns.so_far c.tick.new.self.so_far c.tick-then-node_count-before.new.self.so_far c.in-On.count c.turns.invariant.each c.tick.ensures c.tick-then-node_count-before.ensures tells;
       few = few_added c.args.self.now c.turns.self c.turn.new.self (take (length c.args.piece.now - c.turns.at) (drop c.turns.at c.args.piece.now)) c.args.turns.now.so_far c.turns.turns.so_far c.tick.new.self.so_far c.tick-then-node_count-before.new.self.so_far c.turns.at c.in-On.count c.turns.invariant.few c.tick.ensures c.tick-then-node_count-before.ensures more tells;
     }
