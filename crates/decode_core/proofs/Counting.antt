@@ -12,7 +12,7 @@ use Rattle.decode_core.specs.Machine.{State, remain, start}
 use Rattle.decode_core.specs.Outcome.{Job, done, IsOutcome}
 use Rattle.decode_core.specs.Running.{Running, held_of, state_of}
 use Rattle.decode_core.specs.Told.{Told, told, added, after, told_at}
-use Rattle.decode_core.specs.Turned.{FeedTells, FewTurns, Moves, Reaches, StopCounts, StopsShort, types_of}
+use Rattle.decode_core.specs.Turned.{FeedTells, FewTurns, IsSound, Moves, Reaches, StopCounts, StopsShort, types_of}
 use Rattle.decode_core.specs.declared.fault.DecodeReason.{DecodeReason}
 use Rattle.decode_core.specs.declared.turned.Stopped.{Stopped}
 use Rattle.decode_core.specs.declared.turned.Stopped.TheVariants as stop
@@ -72,26 +72,30 @@ reached_few j b s last n x (inr h) m =
 -- ---- the turns on a piece
 
 -- with n bytes taken in all, which are no fewer than those that the turns took
-counts_end : (j : Job) (b slice : List ℕ) (s last : Running) (taken k n from to calls : ℕ) → RunLed j b taken (Ok s) → Moves s last (take k slice) → FewTurns s last k from to → from ≤ taken + 2 * length s.built.entries + calls → taken + k ≤ n → to ≤ n + 2 * node_bound n j.depth (widest j.registry) + suc calls
-counts_end j b slice s last taken k n from to calls led moves few before within =
+counts_end : (j : Job) (b slice : List ℕ) (s last : Running) (taken k n from to calls closed : ℕ) → RunLed j b taken (Ok s) → Moves s last (take k slice) → FewTurns s last k from to → IsSound last → closed ≡ last.built.turns →
+    from ≤ taken + length s.built.entries + calls → taken + k ≤ n → to + closed ≤ n + 2 * node_bound n j.depth (widest j.registry) + suc calls
+counts_end j b slice s last taken k n from to calls closed led moves few sound is before within =
     let cut : taken + length (take k slice) ≤ n = omega (arith, within, length-take k slice) in
-    omega (arith, few.1, before, within, reached_few j b s last taken (take k slice) led moves, more_bytes (taken + length (take k slice)) n j.depth (widest j.registry) cut)
+    omega (arith, few.1, before, within, is, sound.begun.turns, reached_few j b s last taken (take k slice) led moves, more_bytes (taken + length (take k slice)) n j.depth (widest j.registry) cut)
 
-pub counts_short : (j : Job) (b slice : List ℕ) (s : Running) (taken k from to calls : ℕ) → RunLed j b taken (Ok s) → StopsShort s slice k from to → from ≤ taken + 2 * length s.built.entries + calls → to ≤ taken + k + 2 * node_bound (taken + k) j.depth (widest j.registry) + suc calls
-counts_short j b slice s taken k from to calls led short before = counts_end j b slice s short.last taken k (taken + k) from to calls led short.moves short.few before (omega arith)
+pub counts_short : (j : Job) (b slice : List ℕ) (s new : Running) (taken k from to calls : ℕ) → RunLed j b taken (Ok s) → StopsShort s new slice k from to → from ≤ taken + length s.built.entries + calls →
+    to + new.built.turns ≤ taken + k + 2 * node_bound (taken + k) j.depth (widest j.registry) + suc calls
+counts_short j b slice s new taken k from to calls led short before =
+    counts_end j b slice s short.last taken k (taken + k) from to calls new.built.turns led short.moves short.few short.sound short.closed before (omega arith)
 
 pub counts_refused : (j : Job) (b slice : List ℕ) (s new : Running) (taken k held : ℕ) (told_reason : DecodeReason) (at len from to calls : ℕ) (why : Stopped) → RunLed j b taken (Ok s) → FeedTells s new slice k why → why ≡ stop.Refused held told_reason at len → held ≤ taken + k → StopCounts s new slice from to k why →
-    from ≤ taken + 2 * length s.built.entries + calls → to ≤ taken + k - held + len + 2 * node_bound (taken + k - held + len) j.depth (widest j.registry) + suc calls
+    from ≤ taken + length s.built.entries + calls → to + new.built.turns ≤ taken + k - held + len + 2 * node_bound (taken + k - held + len) j.depth (widest j.registry) + suc calls
 counts_refused j b slice s new taken k held told_reason at len from to calls why led f w within counts before =
     let g = subst (FeedTells s new slice k) w f in
     let short = subst (StopCounts s new slice from to k) w counts in
-    counts_end j b slice s short.last taken k (taken + k - held + len) from to calls led short.moves short.few before (omega (arith, within, g.1.2.8))
+    counts_end j b slice s short.last taken k (taken + k - held + len) from to calls new.built.turns led short.moves short.few short.sound short.closed before (omega (arith, within, g.1.2.8))
 
-pub counts_long : (j : Job) (b piece slice : List ℕ) (s new : Running) (limit taken k from to calls : ℕ) (why : Stopped) → j.bytes ≡ limit → slice ≡ take (limit - taken) piece → RunLed j b taken (Ok s) → FeedTells s new slice k why → why ≡ stop.Wants → StopCounts s new slice from to k why → from ≤ taken + 2 * length s.built.entries + calls →
-    to ≤ limit + 2 * node_bound limit j.depth (widest j.registry) + suc calls
+pub counts_long : (j : Job) (b piece slice : List ℕ) (s new : Running) (limit taken k from to calls : ℕ) (why : Stopped) → j.bytes ≡ limit → slice ≡ take (limit - taken) piece → RunLed j b taken (Ok s) → FeedTells s new slice k why → why ≡ stop.Wants → StopCounts s new slice from to k why →
+    from ≤ taken + length s.built.entries + calls → to + new.built.turns ≤ limit + 2 * node_bound limit j.depth (widest j.registry) + suc calls
 counts_long j b piece slice s new limit taken k from to calls why e is led f w counts before =
     let g = subst (FeedTells s new slice k) w f in
     let few : FewTurns s new k from to = subst (StopCounts s new slice from to k) w counts in
     let last_few : FewTurns s g.1.0 k from to = subst (λ (r : Running). FewTurns s r k from to) g.1.3 few in
+    let closed : new.built.turns ≡ g.1.0.built.turns = ap (λ (r : Running). r.built.turns) g.1.3 in
     let fits : taken + k ≤ limit = omega (arith, g.0, ap length is, length-take (limit - taken) piece, led_fits j b s taken led, e) in
-    counts_end j b slice s g.1.0 taken k limit from to calls led g.1.1 last_few before fits
+    counts_end j b slice s g.1.0 taken k limit from to calls new.built.turns led g.1.1 last_few g.1.4 closed before fits

@@ -1,4 +1,3 @@
-pub mod Tokens
 pub mod Deciding
 pub mod Shortest
 pub mod Outcomes

@@ -104,22 +104,14 @@ grows_by : (a b : Running) (bytes : List ℕ) → Steps a b bytes → (length b.
 grows_by a b bytes (inl k) = inl (ap (λ (s : State). length s.nodes) k.1)
 grows_by a b bytes (inr k) = inr k.2
 
--- a turn that adds a node counts twice
-pub each_added : (old a b : Running) (piece : List ℕ) (from so_far one two n : ℕ) → from + 2 * length a.built.entries ≤ so_far + 2 * length old.built.entries → one ≡ so_far + 1 → two ≡ one + 1 → StepTells a b piece (turned.On n) → from + 2 * length b.built.entries ≤ two + 2 * length old.built.entries
-each_added old a b piece from so_far one two n h is then k = elim (grows_by a b (take n piece) k.2) [ inl same ↦ omega (arith, h, is, then, same) | inr more ↦ omega (arith, h, is, then, more) ]
+-- a turn that goes on adds at most one node
+pub each_turn : (old a b : Running) (piece : List ℕ) (from so_far one n : ℕ) → from + length a.built.entries ≤ so_far + length old.built.entries → one ≡ so_far + 1 → StepTells a b piece (turned.On n) → from + length b.built.entries ≤ one + length old.built.entries
+each_turn old a b piece from so_far one n h is k = elim (grows_by a b (take n piece) k.2) [ inl same ↦ omega (arith, h, is, same) | inr more ↦ omega (arith, h, is, more) ]
 
-pub few_added : (old a b : Running) (piece : List ℕ) (from so_far one two at n : ℕ) → so_far + 2 * length old.built.entries ≤ from + at + 2 * length a.built.entries → one ≡ so_far + 1 → two ≡ one + 1 → length a.built.entries < length b.built.entries → StepTells a b piece (turned.On n) → two + 2 * length old.built.entries ≤ from + (at + n) + 2 * length b.built.entries
-few_added old a b piece from so_far one two at n h is then more k = omega (arith, h, is, then, more)
+one_or_bytes : (a b : Running) (bytes : List ℕ) → Steps a b bytes → suc (length a.built.entries) ≤ length bytes + length b.built.entries
+one_or_bytes a b bytes (inl k) = omega (arith, k.0, ap (λ (s : State). length s.nodes) k.1)
+one_or_bytes a b bytes (inr k) = omega (arith, k.2)
 
--- and another, which takes bytes, once
-pub each_held : (old a b : Running) (piece : List ℕ) (from so_far one n : ℕ) → from + 2 * length a.built.entries ≤ so_far + 2 * length old.built.entries → one ≡ so_far + 1 → length b.built.entries ≤ length a.built.entries → StepTells a b piece (turned.On n) → from + 2 * length b.built.entries ≤ one + 2 * length old.built.entries
-each_held old a b piece from so_far one n h is few k = omega (arith, h, is, few)
-
-held_by : (a b : Running) (bytes : List ℕ) → length b.built.entries ≤ length a.built.entries → Steps a b bytes → 1 ≤ length bytes
-held_by a b bytes few (inl k) = k.0
-held_by a b bytes few (inr k) = absurd (omega (arith, few, k.2))
-
-pub few_held : (old a b : Running) (piece : List ℕ) (from so_far one at n : ℕ) → so_far + 2 * length old.built.entries ≤ from + at + 2 * length a.built.entries → one ≡ so_far + 1 → length b.built.entries ≤ length a.built.entries → StepTells a b piece (turned.On n) → one + 2 * length old.built.entries ≤ from + (at + n) + 2 * length b.built.entries
-few_held old a b piece from so_far one at n h is few k =
-    let taken = held_by a b (take n piece) few k.2 in
-    elim (grows_by a b (take n piece) k.2) [ inl same ↦ omega (arith, h, is, same, taken, length-take n piece, k.0) | inr more ↦ absurd (omega (arith, few, more)) ]
+-- and it adds one, or takes bytes
+pub few_turn : (old a b : Running) (piece : List ℕ) (from so_far one at n : ℕ) → so_far + length old.built.entries ≤ from + at + length a.built.entries → one ≡ so_far + 1 → StepTells a b piece (turned.On n) → one + length old.built.entries ≤ from + (at + n) + length b.built.entries
+few_turn old a b piece from so_far one at n h is k = omega (arith, h, is, one_or_bytes a b (take n piece) k.2, length-take n piece, k.0)

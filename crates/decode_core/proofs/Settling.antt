@@ -46,11 +46,11 @@ settled_running s some deep closed = record {
 
 own_running : (b : Built) (n : AtNext b) (x : Head × Option Part) → b.text ≡ None → IsRunning (with_own b x) [] None
 own_running b n (h, None) closed =
-    let s : Built = record { ty = b.ty; walk = record { types = b.walk.types; limit = b.walk.limit; frames = advanced_in b.walk.frames }; entries = b.entries ++ next_entry b h ∷ []; text = b.text } in
+    let s : Built = record { ty = b.ty; walk = record { types = b.walk.types; limit = b.walk.limit; frames = advanced_in b.walk.frames }; entries = b.entries ++ next_entry b h ∷ []; text = b.text; turns = b.turns } in
     settled_running s (omega (arith, advanced_count b.walk.frames, ap length n.frames)) (omega (arith, advanced_count b.walk.frames, n.bound)) closed
 own_running b n (h, Some p) closed =
     let opened_part : OpenPart = record { node = length b.entries; left = p } in
-    let s : Built = record { ty = b.ty; walk = record { types = b.walk.types; limit = b.walk.limit; frames = opened_part ∷ advanced_in b.walk.frames }; entries = b.entries ++ next_entry b h ∷ []; text = b.text } in
+    let s : Built = record { ty = b.ty; walk = record { types = b.walk.types; limit = b.walk.limit; frames = opened_part ∷ advanced_in b.walk.frames }; entries = b.entries ++ next_entry b h ∷ []; text = b.text; turns = b.turns } in
     settled_running s (omega arith) (omega (arith, advanced_count b.walk.frames, n.bound)) closed
 
 -- a node is added

@@ -81,7 +81,7 @@ value_le_nodes n depth width =
 
 -- as much as is held of a value with these nodes, texts and open parts
 running_small : (j : Job) (n : ℕ) (s : Running) (turns calls : ℕ) → length s.built.entries ≤ node_bound n j.depth (widest j.registry) → built_text_bytes s.built ≤ n → s.built.walk.limit ≡ j.depth → IsSound s → RunCounted j n (Ok s) turns calls → IsSmall (record { job = j; taken = n; run = Ok s; turns = turns; calls = calls })
-running_small j n s turns calls few texts limit sound counted = record { nodes = few; texts = texts; frames = omega (arith, sound.frames, limit); carry = carry_small s.built s.carry sound.carried; turns = omega (arith, counted.1, few) }
+running_small j n s turns calls few texts limit sound counted = record { nodes = few; texts = texts; frames = omega (arith, sound.frames, limit); carry = carry_small s.built s.carry sound.carried; turns = omega (arith, counted.1, few, sound.begun.turns) }
 
 first_small : (j : Job) (n : ℕ) (s : Running) (turns calls : ℕ) → s ≡ first_running j.registry j.ty j.depth → RunCounted j n (Ok s) turns calls → IsSmall (record { job = j; taken = n; run = Ok s; turns = turns; calls = calls })
 first_small j n s turns calls is counted =
@@ -89,7 +89,8 @@ first_small j n s turns calls is counted =
     let no_text : built_text_bytes s.built ≡ 0 = ap (λ (x : Running). built_text_bytes x.built) is in
     let root : length s.built.walk.frames ≡ 1 = ap (λ (x : Running). length x.built.walk.frames) is in
     let empty : length s.carry ≡ 0 = ap (λ (x : Running). length x.carry) is in
-    record { nodes = omega (arith, none); texts = omega (arith, no_text); frames = omega (arith, root); carry = omega (arith, empty); turns = omega (arith, counted.1, none) }
+    let closed : s.built.turns ≡ 0 = ap (λ (x : Running). x.built.turns) is in
+    record { nodes = omega (arith, none); texts = omega (arith, no_text); frames = omega (arith, root); carry = omega (arith, empty); turns = omega (arith, counted.1, none, closed) }
 
 pub led_small : (j : Job) (b : List ℕ) (n : ℕ) (run : Result Running DecodeFault) (turns calls : ℕ) → RunLed j b n run → RunCounted j n run turns calls → IsSmall (record { job = j; taken = n; run = run; turns = turns; calls = calls })
 led_small j b n (Err f) turns calls h counted = record { nodes = omega arith; texts = omega arith; frames = omega arith; carry = omega arith; turns = counted }

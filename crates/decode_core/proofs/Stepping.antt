@@ -143,7 +143,7 @@ entry_is b n h = ap (λ (o : Option ℕ). entry (type_or_0 o) h) (sym n.next_is)
 
 leaf_leads : (b : Built) (n : AtNext b) (own : List ℕ) (h : Head) → own_at (next_layout b) own ≡ Ok ((h, None), []) → Leads b.walk.types (state_of b) (state_of (with_leaf b h)) own
 leaf_leads b n own h is =
-    let before : Built = record { ty = b.ty; walk = record { types = b.walk.types; limit = b.walk.limit; frames = advanced_in b.walk.frames }; entries = b.entries ++ entry (type_or_0 (next_type b.walk)) h ∷ []; text = b.text } in
+    let before : Built = record { ty = b.ty; walk = record { types = b.walk.types; limit = b.walk.limit; frames = advanced_in b.walk.frames }; entries = b.entries ++ entry (type_or_0 (next_type b.walk)) h ∷ []; text = b.text; turns = b.turns } in
     let rooms : b.walk.limit + 2 - length (advanced_in b.walk.frames) ≡ suc n.room = ap (λ (k : ℕ). b.walk.limit + 2 - k) (next_frame_count b.walk.frames) ∙ n.rooms in
     let after_is : state_of before ≡ record { nodes = b.entries ++ entry n.ty h ∷ []; room = suc n.room; pending = left_after n.top.left ∷ parts_of n.around } = rw (rooms, parts_after b n, entry_is b n h) refl in
     let one = own_leaf b.walk.types b.entries n.room n.ty (n.top.left ∷ parts_of n.around) (left_after n.top.left ∷ parts_of n.around) h own (first_is b.walk.types (suc n.room) n.ty n.top.left (parts_of n.around) n.first) refl (spells b n own (h, None) is) in
@@ -152,7 +152,7 @@ leaf_leads b n own h is =
 open_leads : (b : Built) (n : AtNext b) (own : List ℕ) (h : Head) (p : Part) → own_at (next_layout b) own ≡ Ok ((h, Some p), []) → Leads b.walk.types (state_of b) (state_of (with_open b h p)) own
 open_leads b n own h p is =
     let opened_part : OpenPart = record { node = length b.entries; left = p } in
-    let before : Built = record { ty = b.ty; walk = record { types = b.walk.types; limit = b.walk.limit; frames = opened_part ∷ advanced_in b.walk.frames }; entries = b.entries ++ entry (type_or_0 (next_type b.walk)) h ∷ []; text = b.text } in
+    let before : Built = record { ty = b.ty; walk = record { types = b.walk.types; limit = b.walk.limit; frames = opened_part ∷ advanced_in b.walk.frames }; entries = b.entries ++ entry (type_or_0 (next_type b.walk)) h ∷ []; text = b.text; turns = b.turns } in
     let rooms : b.walk.limit + 2 - suc (length (advanced_in b.walk.frames)) ≡ n.room = omega (arith, next_frame_count b.walk.frames, n.rooms) in
     let after_is : state_of before ≡ record { nodes = b.entries ++ entry n.ty h ∷ []; room = n.room; pending = p ∷ left_after n.top.left ∷ parts_of n.around } = rw (rooms, parts_after b n, entry_is b n h) refl in
     let one = own_opens b.walk.types b.entries n.room n.ty (n.top.left ∷ parts_of n.around) (left_after n.top.left ∷ parts_of n.around) h p own (first_is b.walk.types (suc n.room) n.ty n.top.left (parts_of n.around) n.first) refl (spells b n own (h, Some p) is) in

@@ -121,7 +121,7 @@ ended_badly b new n valid h = bad_by n.pieces.bytes (with_text_ended b) b new va
 
 -- the value without its open text, to which the text is added
 abbrev pub closed_of : Built → Built
-closed_of b = record { ty = b.ty; walk = b.walk; entries = b.entries; text = None }
+closed_of b = record b { text = None }
 
 laid_text : (b : Built) (n : AtEnd b) → next_layout b ≡ layout.text
 laid_text b n = next_has b (form.Primitive P.Str) n.wants

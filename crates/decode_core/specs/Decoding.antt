@@ -42,7 +42,7 @@ pub record Decoding : Type 0 where
 
 -- a value of which nothing came
 abbrev pub first_running : List TypeInfo → ℕ → ℕ → Running
-first_running types root depth = record { built = record { ty = root; walk = start_of types root depth; entries = []; text = None }; carry = [] }
+first_running types root depth = record { built = record { ty = root; walk = start_of types root depth; entries = []; text = None; turns = 0 }; carry = [] }
 
 -- the tree of the nodes, where they are a whole value
 abbrev pub built_tree : Built → Tree
@@ -126,10 +126,18 @@ abbrev pub HoldsAt : Decoding → List ℕ → Result Progress DecodeFault → T
 HoldsAt d b (Ok progress.More) = (s : Running) × (d.run ≡ Ok s) × HoldsOf d.job b s
 HoldsAt d b _ = Unit {0}
 
--- each node has two turns of its own, one that adds and one that closes it, each call has one, and each other turn took a byte; where a
--- value is refused, its nodes are gone
+-- how many turns the builder's loop has taken, those of a builder that is gone too
+abbrev pub closing_turns : Result Running DecodeFault → ℕ → ℕ
+closing_turns (Ok s) gone = s.built.turns
+closing_turns (Err f) gone = gone
+
+-- of the decoder's own loop: each node was added in one turn, each call ended in one, and each other turn took a byte
+abbrev pub LoopCounted : ℕ → Running → ℕ → ℕ → Type 0
+LoopCounted n s turns calls = (length s.built.entries + calls ≤ turns) × (turns ≤ n + length s.built.entries + calls)
+
+-- of both loops, where the builder's closes a node in each turn; where a value is refused, its nodes are gone
 abbrev pub RunCounted : Job → ℕ → Result Running DecodeFault → ℕ → ℕ → Type 0
-RunCounted j n (Ok s) turns calls = (2 * length s.built.entries + calls ≤ turns) × (turns ≤ n + 2 * length s.built.entries + calls)
+RunCounted j n (Ok s) turns calls = (length s.built.entries + s.built.turns + calls ≤ turns) × (turns ≤ n + length s.built.entries + s.built.turns + calls)
 RunCounted j n (Err f) turns calls = turns ≤ n + 2 * node_bound n j.depth (widest j.registry) + calls
 
 abbrev pub IsCounted : Decoding → Type 0
@@ -158,9 +166,9 @@ RunAnswers j b taken new (fed.Ended f n) = IsEnded j b f n
 
 -- how many turns there were after a piece
 abbrev pub FedCounts : Job → Running → ℕ → ℕ → ℕ → Fed → Type 0
-FedCounts j new taken turns calls (fed.More n) = (2 * length new.built.entries + calls ≤ turns) × (turns ≤ n + 2 * length new.built.entries + calls)
-FedCounts j new taken turns calls (fed.Done used) = (2 * length new.built.entries + calls ≤ turns) × (turns ≤ taken + used + 2 * length new.built.entries + calls)
-FedCounts j new taken turns calls (fed.Ended f n) = turns ≤ n + 2 * node_bound n j.depth (widest j.registry) + calls
+FedCounts j new taken turns calls (fed.More n) = LoopCounted n new turns calls
+FedCounts j new taken turns calls (fed.Done used) = LoopCounted (taken + used) new turns calls
+FedCounts j new taken turns calls (fed.Ended f n) = turns + new.built.turns ≤ n + 2 * node_bound n j.depth (widest j.registry) + calls
 
 -- a piece of n bytes, whatever is answered to it, adds no more than them to the bytes taken
 abbrev pub FedTakes : ℕ → ℕ → Fed → Type 0
@@ -229,9 +237,9 @@ pub record IsSmall (d : Decoding) : Type 0 where
   pub carry : carried d ≤ 32
   pub turns : d.turns ≤ d.taken + 2 * node_bound d.taken d.job.depth (widest d.job.registry) + d.calls
 
--- no turn goes uncounted that added a node which is held, closes it, or ended a call
+-- no turn goes uncounted that added a node which is held, closed one, or ended a call
 abbrev pub HasCounted : Decoding → Type 0
-HasCounted d = elim d.run [ Ok s ↦ 2 * length s.built.entries + d.calls ≤ d.turns | Err f ↦ Unit {0} ]
+HasCounted d = elim d.run [ Ok s ↦ length s.built.entries + s.built.turns + d.calls ≤ d.turns | Err f ↦ Unit {0} ]
 
 -- and of a whole value still less
 abbrev pub IsSmallAtEnd : Decoding → Result Progress DecodeFault → Type 0

@@ -123,26 +123,33 @@ FeedTells old new piece n s = (n ≤ length piece) × ((last : Running) × Moves
 abbrev pub RunsOut : Running → List ℕ → ℕ → Type 0
 RunsOut old piece n = (n ≤ length piece) × ((last : Running) × Moves old last (take n piece) × WantsMemory last (drop n piece))
 
--- from one count of turns to the other there are two for each node that was added, which is closed once, and one that stopped,
--- and beside these no more than one for each byte that was taken
-abbrev pub FewTurns : Running → Running → ℕ → ℕ → ℕ → Type 0
-FewTurns old new n from to = (from + 2 * length new.built.entries + 1 ≤ to + 2 * length old.built.entries) × (to + 2 * length old.built.entries ≤ from + n + 2 * length new.built.entries + 1)
+-- the builder's loop has taken no turn where a turn of the decoder's added nothing
+abbrev pub KeepsTurns : Running → Running → Turned → Type 0
+KeepsTurns old new (turned.On n) = Unit {0}
+KeepsTurns old new _ = new.built.turns ≡ old.built.turns
 
--- the same where nothing is left: what stood before the last turn is known alone
-pub record StopsShort (old : Running) (piece : List ℕ) (n from to : ℕ) : Type 0 where
+-- from one count of turns to the other there is one for each node that was added and one that stopped, and beside these no more
+-- than one for each byte that was taken
+abbrev pub FewTurns : Running → Running → ℕ → ℕ → ℕ → Type 0
+FewTurns old new n from to = (from + length new.built.entries + 1 ≤ to + length old.built.entries) × (to + length old.built.entries ≤ from + n + length new.built.entries + 1)
+
+-- the same where nothing is left: what stood before the last turn is known, and that this one closed nothing
+pub record StopsShort (old new : Running) (piece : List ℕ) (n from to : ℕ) : Type 0 where
   pub within : n ≤ length piece
   pub last : Running
   pub moves : Moves old last (take n piece)
   pub few : FewTurns old last n from to
+  pub sound : IsSound last
+  pub closed : new.built.turns ≡ last.built.turns
 
 abbrev pub StopCounts : Running → Running → List ℕ → ℕ → ℕ → ℕ → Stopped → Type 0
-StopCounts old new piece from to n (stop.Refused held told_reason at len) = StopsShort old piece n from to
+StopCounts old new piece from to n (stop.Refused held told_reason at len) = StopsShort old new piece n from to
 StopCounts old new piece from to n s = FewTurns old new n from to
 
 -- the turns on a piece
 abbrev pub FeedCounts : Running → Running → List ℕ → ℕ → ℕ → Result (ℕ × Stopped) ℕ → Type 0
 FeedCounts old new piece from to (Ok x) = StopCounts old new piece from to x.0 x.1
-FeedCounts old new piece from to (Err n) = StopsShort old piece n from to
+FeedCounts old new piece from to (Err n) = StopsShort old new piece n from to
 
 -- a turn that needs no bytes
 abbrev pub BareTells : Running → Running → Turned → Type 0

@@ -6,16 +6,17 @@ ghost use Rattle.value_core.specs.Refusals.{is_whole};
 ghost use Rattle.decode_core.specs.Running.{Running};
 ghost use Rattle.decode_core.specs.Outcome.{Job};
 ghost use Rattle.decode_core.specs.Bound.{node_bound};
-ghost use Rattle.decode_core.specs.Decoding.{Answers, CountsValue, Decoding, FedCounts, FedTakes, Finishes, HasCounted, HasValue, HoldsAt, IsKept, IsLedTo, IsSmall, IsSmallAtEnd, IsSmallValue, Led, Opens, RunAnswers, RunCounted, RunLed, first_of_all, node_count, opening_fault, text_bytes};
+ghost use Rattle.decode_core.specs.Decoding.{Answers, CountsValue, Decoding, FedCounts, FedTakes, Finishes, HasCounted, HasValue, HoldsAt, IsKept, IsLedTo, IsSmall, IsSmallAtEnd, IsSmallValue, Led, LoopCounted, Opens, RunAnswers, RunLed, closing_turns, first_of_all, node_count, opening_fault, text_bytes};
 ghost use Rattle.widths_core.specs.Widths.{widest};
 
-use crate::count::Count;
 use crate::fault::{DecodeFault, DecodeReason, OpenFault};
 use crate::run::Run;
 use crate::turned::Stopped;
+use count_core::Count;
 use registry_core::TypeId;
 use std::alloc::Allocator;
 use std::marker::Model;
+use std::mem;
 use value_core::{Builder, Limits, Value};
 use widths_core::Checked;
 
@@ -48,17 +49,20 @@ pub struct Decoder<'r, A: Allocator> {
     taken: u64,
     run: Result<Run<'r, A>, DecodeFault>,
     turns: Count,
+    /// The turns of a builder that is gone.
+    closings: Count,
     calls: Count,
 }
 
 impl<'r, A: Allocator> Model for Decoder<'r, A> {
-    ghost use Rattle.decode_core.specs.Decoding.{Decoding, IsDecoding};
+    ghost use Rattle.std.specs.Prelude.{◌+◌};
+    ghost use Rattle.decode_core.specs.Decoding.{Decoding, IsDecoding, closing_turns};
 
     ghost Value = { Decoding };
 
-    ghost view = { λ d. record { job = record { registry = d.checked.now; ty = d.root.0; depth = d.limits.depth; bytes = d.limits.bytes }; taken = d.taken; run = d.run; turns = d.turns.so_far; calls = d.calls.so_far } };
+    ghost view = { λ d. record { job = record { registry = d.checked.now; ty = d.root.0; depth = d.limits.depth; bytes = d.limits.bytes }; taken = d.taken; run = d.run; turns = d.turns.so_far + closing_turns d.run d.closings.so_far; calls = d.calls.so_far } };
 
-    ghost invariant = { λ d. IsDecoding (record { job = record { registry = d.checked.now; ty = d.root.0; depth = d.limits.depth; bytes = d.limits.bytes }; taken = d.taken; run = d.run; turns = d.turns.so_far; calls = d.calls.so_far }) };
+    ghost invariant = { λ d. IsDecoding (record { job = record { registry = d.checked.now; ty = d.root.0; depth = d.limits.depth; bytes = d.limits.bytes }; taken = d.taken; run = d.run; turns = d.turns.so_far + closing_turns d.run d.closings.so_far; calls = d.calls.so_far }) };
 }
 
 /// What a piece made of a value on its way.
@@ -94,7 +98,7 @@ fn feed_run<A: Allocator>(
     ensures answers { (j : Job) (b : List ℕ) → j.bytes ≡ limit → RunLed j b taken (Ok run.old) → RunAnswers j (b ++ piece.now) taken run.new result }
     ensures whole { is_whole run.old.built ≡ true → (result ≡ Fed.Done 0) × (run.new ≡ run.old) }
     ensures takes { FedTakes taken (length piece.now) result }
-    ensures counts { (j : Job) (b : List ℕ) (calls : ℕ) → j.bytes ≡ limit → RunLed j b taken (Ok run.old) → RunCounted j taken (Ok run.old) turns.old.so_far calls → FedCounts j run.new taken turns.new.so_far (suc calls) result }
+    ensures counts { (j : Job) (b : List ℕ) (calls : ℕ) → j.bytes ≡ limit → RunLed j b taken (Ok run.old) → LoopCounted taken run.old turns.old.so_far calls → FedCounts j run.new taken turns.new.so_far (suc calls) result }
 {
     let offered = within(piece, limit - taken);
     match run.feed(offered, turns) {
@@ -141,6 +145,16 @@ fn feed_run<A: Allocator>(
     }
 }
 
+/// How many turns the builder's loop has taken, of a value that is given up.
+fn into_turns<A: Allocator>(run: Result<Run<'_, A>, DecodeFault>) -> Count
+    ensures { result.so_far ≡ closing_turns run.entry 0 }
+{
+    match run {
+        Ok(run) => run.into_turns(),
+        Err(_) => Count::new(),
+    }
+}
+
 impl<'r, A: Allocator + Clone> Decoder<'r, A> {
     /// A decoder of a value of the root's type, within these limits, that has taken nothing. Nodes, texts and open
     /// parts will come from the allocator and its clones.
@@ -170,6 +184,7 @@ impl<'r, A: Allocator + Clone> Decoder<'r, A> {
                 taken: 0,
                 run: Ok(Run::new(builder)),
                 turns: Count::new(),
+                closings: Count::new(),
                 calls: Count::new(),
             }),
             Err(_) => Err(OpenFault::OutOfMemory),
@@ -252,7 +267,7 @@ impl<'r, A: Allocator> Decoder<'r, A> {
             }
             Fed::Ended(fault, taken) => {
                 self.taken = taken;
-                self.run = Err(fault);
+                self.closings = into_turns(mem::replace(&mut self.run, Err(fault)));
                 Err(fault)
             }
         }

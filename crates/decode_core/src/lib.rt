@@ -2,7 +2,6 @@
 #![tactic(auto)]
 
 mod carry;
-mod count;
 mod decoder;
 mod fault;
 pub mod laws;

@@ -7,14 +7,14 @@ ghost use Rattle.value_core.specs.Built.{built_text_bytes, finished};
 ghost use Rattle.value_core.specs.Refusals.{is_whole};
 ghost use Rattle.decode_core.specs.Needs.{AreOwn, HasBytes, IsFirst, IsNeeded};
 ghost use Rattle.decode_core.specs.NodeAdds.{TakesNode};
-ghost use Rattle.decode_core.specs.Turned.{BareTells, EndTells, FeedCounts, FeedTells, IsSound, RunsOut, StepTells, node_turned};
+ghost use Rattle.decode_core.specs.Turned.{BareTells, EndTells, FeedCounts, FeedTells, IsSound, KeepsTurns, RunsOut, StepTells, node_turned};
 
 use crate::carry::Carry;
-use crate::count::Count;
 use crate::fault::DecodeReason;
 use crate::need::need;
 use crate::node::{NodeFault, add_bare, add_node, open_text};
 use crate::turned::{Stopped, Turned};
+use count_core::Count;
 use registry_core::Primitive;
 use scale_core::compact_len;
 use std::alloc::Allocator;
@@ -108,6 +108,13 @@ impl<'r, A: Allocator> Run<'r, A> {
         self.builder.finish().ok()
     }
 
+    /// How many turns the builder's loop has taken, of a value that is given up.
+    pub(crate) fn into_turns(self) -> Count
+        ensures { result.so_far ≡ self.entry.built.turns }
+    {
+        self.builder.into_turns()
+    }
+
     /// How many nodes it has.
     pub(crate) fn node_count(&self) -> u64
         ensures { result ≡ length self.now.built.entries }
@@ -127,7 +134,8 @@ impl<'r, A: Allocator> Run<'r, A> {
         requires next { next_of self.old.built.walk ≡ Next.Wants form }
         requires bare { HasBytes form → ⊥ }
         requires closed { self.old.built.text ≡ None }
-        ensures { BareTells self.old self.new result }
+        ensures tells { BareTells self.old self.new result }
+        ensures kept { KeepsTurns self.old self.new result }
     {
         match add_bare(&mut self.builder, form) {
             Ok(()) => Turned::On(0),
@@ -153,7 +161,8 @@ impl<'r, A: Allocator> Run<'r, A> {
         requires closed { self.old.built.text ≡ None }
         requires empty { self.old.carry ≡ [] }
         requires whole { AreOwn form own.now }
-        ensures { (rest : List ℕ) → StepTells self.old self.new (own.now ++ rest) result }
+        ensures tells { (rest : List ℕ) → StepTells self.old self.new (own.now ++ rest) result }
+        ensures kept { KeepsTurns self.old self.new result }
     {
         let taken = take_node(&mut self.builder, &mut self.text, form, own);
         node_turn(taken, 0, own.len(), own.len())
@@ -169,7 +178,8 @@ impl<'r, A: Allocator> Run<'r, A> {
         requires len { IsNeeded form len (self.old.carry ++ piece.now) }
         requires short { length self.old.carry < len }
         requires bound { len ≤ 32 }
-        ensures { StepTells self.old self.new piece.now result }
+        ensures tells { StepTells self.old self.new piece.now result }
+        ensures kept { KeepsTurns self.old self.new result }
     {
         let held = self.carry.as_slice().len();
         let count = self.carry.fill(len, piece);
@@ -192,7 +202,8 @@ impl<'r, A: Allocator> Run<'r, A> {
         requires some { HasBytes form }
         requires closed { self.old.built.text ≡ None }
         requires carried { IsCarry self.old.built self.old.carry }
-        ensures { StepTells self.old self.new piece.now result }
+        ensures tells { StepTells self.old self.new piece.now result }
+        ensures kept { KeepsTurns self.old self.new result }
     {
         if piece.is_empty() {
             return Turned::Stopped(Stopped::Wants);
@@ -208,7 +219,8 @@ impl<'r, A: Allocator> Run<'r, A> {
     fn text_turn(&mut self, text: OpenText, piece: &[u8]) -> Turned
         requires next { IsTextNext self.old.built self.old.carry self.old.built.text }
         requires open { IsText self.old.built.text (Some text) }
-        ensures { StepTells self.old self.new piece.now result }
+        ensures tells { StepTells self.old self.new piece.now result }
+        ensures kept { KeepsTurns self.old self.new result }
     {
         if text.missing == 0 {
             return self.text_end(text);
@@ -235,7 +247,8 @@ impl<'r, A: Allocator> Run<'r, A> {
         requires next { IsTextNext self.old.built self.old.carry self.old.built.text }
         requires open { IsText self.old.built.text (Some text) }
         requires whole { text.missing ≡ 0 }
-        ensures { EndTells self.old self.new result }
+        ensures tells { EndTells self.old self.new result }
+        ensures kept { KeepsTurns self.old self.new result }
     {
         let Err(fault) = self.builder.text_end() else {
             self.text = None;
@@ -257,6 +270,7 @@ impl<'r, A: Allocator> Run<'r, A> {
     /// One turn: takes bytes of the piece, adds a node, or stops.
     fn turn(&mut self, piece: &[u8]) -> Turned
         ensures tells { StepTells self.old self.new piece.now result }
+        ensures kept { KeepsTurns self.old self.new result }
         ensures sound { IsSound self.old }
         ensures whole { is_whole self.old.built ≡ true → result ≡ Turned.Stopped Stopped.Finished }
     {
@@ -279,8 +293,7 @@ impl<'r, A: Allocator> Run<'r, A> {
     }
 
     /// Takes turns until one stops, and counts each: how many bytes of the piece they took, and why they stopped; where
-    /// memory was refused, the bytes alone. A node that is added counts once more, for the turn of the builder that is to
-    /// close it.
+    /// memory was refused, the bytes alone. The turns that close nodes are the builder's own, and counted there.
     pub(crate) fn feed(
         &mut self,
         piece: &[u8],
@@ -294,14 +307,8 @@ impl<'r, A: Allocator> Run<'r, A> {
         let mut at = 0;
         'turns: loop {
             turns.tick();
-            let before = self.node_count();
             match self.turn(&piece[at..]) {
-                Turned::On(count) => {
-                    at += count;
-                    if self.node_count() > before {
-                        turns.tick();
-                    }
-                }
+                Turned::On(count) => at += count,
                 Turned::Stopped(stopped) => return Ok((at, stopped)),
                 Turned::OutOfMemory => return Err(at),
             }

@@ -76,9 +76,9 @@ settled b = record {
   turns = b.turns + closings b.walk.frames;
 }
 
--- a turn closed a node that was open, and each node was opened but once
+-- each turn closed a node, and each node is open still, was closed in one turn, or never had parts to wait for
 abbrev pub HasFewTurns : Built → Type 0
-HasFewTurns b = b.turns + length b.walk.frames ≤ length b.entries + 1
+HasFewTurns b = b.turns + (length b.walk.frames - 1) ≤ length b.entries
 
 abbrev pub type_or_0 : Option ℕ → ℕ
 type_or_0 (Some t) = t

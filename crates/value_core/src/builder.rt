@@ -3,7 +3,7 @@
 ghost use Rattle.std.specs.Prelude.{◌≡◌, ◌<◌, ◌≤◌, ◌+◌, ◌++◌, ◌∷◌, [], length, true, false, OnOk, OnErr, IfOk, IfErr, Ok, None};
 ghost use Rattle.value_core.specs.Begun.{IsBegun};
 ghost use Rattle.value_core.specs.Building.{AreBuilt, Settles};
-ghost use Rattle.value_core.specs.Built.{HasFewTurns, IsSettled, built_text_bytes, closings, finished, settled_walk, with_leaf, with_open, with_piece, with_text_ended, with_text_opened, pieces_bytes, IsNextLeaf, IsNextOpen};
+ghost use Rattle.value_core.specs.Built.{IsSettled, built_text_bytes, closings, finished, settled_walk, with_leaf, with_open, with_piece, with_text_ended, with_text_opened, pieces_bytes, IsNextLeaf, IsNextOpen};
 ghost use Rattle.value_core.specs.Frames.{left_of};
 ghost use Rattle.value_core.specs.Shown.{head_shown};
 ghost use Rattle.value_core.specs.Refusals.{Finishes, Opens, missing_of, other_fault, text_fault, wanted_of, is_whole, opening_fault};
@@ -208,13 +208,13 @@ impl<'r, A: Allocator> Builder<'r, A> {
         }
     }
 
-    /// How many turns its calls have taken, lent: each of them closed a node whose parts were all there. A count takes no
-    /// bytes, so this is for contracts alone. There are no more turns than nodes.
-    pub fn turns(&self) -> &Count
-        ensures count { result.now.so_far ≡ self.now.turns }
-        ensures few { HasFewTurns self.now }
+    /// How many turns its calls have taken, of a builder that is given up: each of them closed a node whose parts were
+    /// all there, so there are no more turns than nodes. A count takes no bytes, so this is for contracts alone.
+    pub fn into_turns(self) -> Count
+        ensures { result.so_far ≡ self.entry.turns }
     {
-        &self.turns
+        let Builder { turns, .. } = self;
+        turns
     }
 
     /// The form of what comes next, for a call that adds a whole node; refused with what the walk stops at, and with

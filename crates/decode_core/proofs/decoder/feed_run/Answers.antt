@@ -40,7 +40,7 @@ returns-in-Ok-default-Refused-clause-counts g c = λ j b calls e led before.
 -- src/decoder.rt:83:1
 pub returns-in-Err-clause-counts : goal.returns-in-Err-clause-counts
 returns-in-Err-clause-counts g c = λ j b calls e led before.
-    counts_short j b c.within-offered.result.now c.args.run.now c.args.taken c.in-Err.count c.args.turns.now.so_far c.feed.new.turns.so_far calls led c.in-Err.ensures.counts before.1
+    counts_short j b c.within-offered.result.now c.args.run.now c.feed.new.self c.args.taken c.in-Err.count c.args.turns.now.so_far c.feed.new.turns.so_far calls led c.in-Err.ensures.counts before.1
 
 -- src/decoder.rt:86:1
 pub returns-in-Ok-default-Refused-clause-takes : goal.returns-in-Ok-default-Refused-clause-takes

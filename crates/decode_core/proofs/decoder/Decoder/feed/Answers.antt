@@ -1,7 +1,7 @@
-use Rattle.std.proofs.Common.{◌+◌, ◌++◌, Ok, Err}
+use Rattle.std.proofs.Common.{◌≡◌, ◌∙◌, ◌+◌, ◌++◌, Ok, Err}
 use Rattle.std.specs.Prelude.{Result}
 use Rattle.decode_core.specs.Outcome.{Job}
-use Rattle.decode_core.specs.Decoding.{Decoding, Led, RunCounted, RunLed}
+use Rattle.decode_core.specs.Decoding.{Decoding, IsSmall, Led, RunCounted, RunLed, closing_turns}
 use Rattle.decode_core.specs.Running.{Running}
 use Rattle.decode_core.specs.declared.fault.DecodeFault.{DecodeFault}
 use Rattle.std.proofs.Common.{refl, sym, ap, arith, subst, inl, inr}
@@ -24,9 +24,9 @@ invariant_of-self-in-Done g c =
     let d = c.self.inside in
     let j : Job = record { registry = d.checked.now; ty = d.root.0; depth = d.limits.depth; bytes = d.limits.bytes } in
     let before = subst (RunLed j c.self.invariant.bytes d.taken) c.in-Ok.is c.self.invariant.led in
-    let counted = subst (λ (r : Result Running DecodeFault). RunCounted j d.taken r d.turns.so_far d.calls.so_far) c.in-Ok.is c.self.invariant.counted in
+    let counted = subst (λ (r : Result Running DecodeFault). RunCounted j d.taken r (d.turns.so_far + closing_turns r d.closings.so_far) d.calls.so_far) c.in-Ok.is c.self.invariant.counted in
     let told = c.in-Done.ensures.answers j c.self.invariant.bytes refl before in
-    let counts = c.in-Done.ensures.counts j c.self.invariant.bytes d.calls.so_far refl before counted in
+    let counts = c.in-Done.ensures.counts j c.self.invariant.bytes d.calls.so_far refl before (omega (arith, counted.0), omega (arith, counted.1)) in
     record { limit = c.self.invariant.limit; bytes = c.self.invariant.bytes ++ c.args.piece.now; led = inr told; counted = (omega (arith, counts.0, c.tick.ensures), omega (arith, counts.1, c.tick.ensures)) }
 
 -- src/decoder.rt:123:5
@@ -36,7 +36,7 @@ returns-in-Ended-clause-answers g c = λ b led.
     let j : Job = record { registry = d.checked.now; ty = d.root.0; depth = d.limits.depth; bytes = d.limits.bytes } in
     let before : RunLed j b d.taken d.run = subst (λ (x : Decoding). Led x b) (sym c.self.view_is) led in
     let ended = c.in-Ended.ensures.answers j b refl (subst (RunLed j b d.taken) c.in-Ok.is before) in
-    ((refl, ended), ended)
+    ((c.replace.ensures.after, ended), subst (RunLed j (b ++ c.args.piece.now) c.in-Ended.taken) (sym c.replace.ensures.after) ended)
 
 -- src/decoder.rt:203:5
 pub returns-in-More-clause-held : goal.returns-in-More-clause-held
@@ -53,10 +53,10 @@ returns-in-More-clause-small g c =
     let d = c.self.inside in
     let j : Job = record { registry = d.checked.now; ty = d.root.0; depth = d.limits.depth; bytes = d.limits.bytes } in
     let before = subst (RunLed j c.self.invariant.bytes d.taken) c.in-Ok.is c.self.invariant.led in
-    let counted = subst (λ (r : Result Running DecodeFault). RunCounted j d.taken r d.turns.so_far d.calls.so_far) c.in-Ok.is c.self.invariant.counted in
+    let counted = subst (λ (r : Result Running DecodeFault). RunCounted j d.taken r (d.turns.so_far + closing_turns r d.closings.so_far) d.calls.so_far) c.in-Ok.is c.self.invariant.counted in
     let told = c.in-More.ensures.answers j c.self.invariant.bytes refl before in
-    let counts = c.in-More.ensures.counts j c.self.invariant.bytes d.calls.so_far refl before counted in
-    led_small j (c.self.invariant.bytes ++ c.args.piece.now) c.in-More.taken (Ok c.feed_run-fed.new.run) c.feed_run-fed.new.turns.so_far c.tick.new.self.so_far (inl told.0) (omega (arith, counts.0, c.tick.ensures), omega (arith, counts.1, c.tick.ensures))
+    let counts = c.in-More.ensures.counts j c.self.invariant.bytes d.calls.so_far refl before (omega (arith, counted.0), omega (arith, counted.1)) in
+    led_small j (c.self.invariant.bytes ++ c.args.piece.now) c.in-More.taken (Ok c.feed_run-fed.new.run) (c.feed_run-fed.new.turns.so_far + c.feed_run-fed.new.run.built.turns) c.tick.new.self.so_far (inl told.0) (omega (arith, counts.0, c.tick.ensures), omega (arith, counts.1, c.tick.ensures))
 
 -- src/decoder.rt:203:5
 pub returns-in-More-clause-answers : goal.returns-in-More-clause-answers
@@ -73,10 +73,10 @@ returns-in-Done-clause-small g c =
     let d = c.self.inside in
     let j : Job = record { registry = d.checked.now; ty = d.root.0; depth = d.limits.depth; bytes = d.limits.bytes } in
     let before = subst (RunLed j c.self.invariant.bytes d.taken) c.in-Ok.is c.self.invariant.led in
-    let counted = subst (λ (r : Result Running DecodeFault). RunCounted j d.taken r d.turns.so_far d.calls.so_far) c.in-Ok.is c.self.invariant.counted in
+    let counted = subst (λ (r : Result Running DecodeFault). RunCounted j d.taken r (d.turns.so_far + closing_turns r d.closings.so_far) d.calls.so_far) c.in-Ok.is c.self.invariant.counted in
     let told = c.in-Done.ensures.answers j c.self.invariant.bytes refl before in
-    let counts = c.in-Done.ensures.counts j c.self.invariant.bytes d.calls.so_far refl before counted in
-    led_small j (c.self.invariant.bytes ++ c.args.piece.now) (d.taken + c.in-Done.used) (Ok c.feed_run-fed.new.run) c.feed_run-fed.new.turns.so_far c.tick.new.self.so_far (inr told) (omega (arith, counts.0, c.tick.ensures), omega (arith, counts.1, c.tick.ensures))
+    let counts = c.in-Done.ensures.counts j c.self.invariant.bytes d.calls.so_far refl before (omega (arith, counted.0), omega (arith, counted.1)) in
+    led_small j (c.self.invariant.bytes ++ c.args.piece.now) (d.taken + c.in-Done.used) (Ok c.feed_run-fed.new.run) (c.feed_run-fed.new.turns.so_far + c.feed_run-fed.new.run.built.turns) c.tick.new.self.so_far (inr told) (omega (arith, counts.0, c.tick.ensures), omega (arith, counts.1, c.tick.ensures))
 
 -- src/decoder.rt:203:5
 pub returns-in-Done-clause-small_at_end : goal.returns-in-Done-clause-small_at_end
@@ -101,9 +101,9 @@ invariant_of-self-in-More g c =
     let d = c.self.inside in
     let j : Job = record { registry = d.checked.now; ty = d.root.0; depth = d.limits.depth; bytes = d.limits.bytes } in
     let before = subst (RunLed j c.self.invariant.bytes d.taken) c.in-Ok.is c.self.invariant.led in
-    let counted = subst (λ (r : Result Running DecodeFault). RunCounted j d.taken r d.turns.so_far d.calls.so_far) c.in-Ok.is c.self.invariant.counted in
+    let counted = subst (λ (r : Result Running DecodeFault). RunCounted j d.taken r (d.turns.so_far + closing_turns r d.closings.so_far) d.calls.so_far) c.in-Ok.is c.self.invariant.counted in
     let told = c.in-More.ensures.answers j c.self.invariant.bytes refl before in
-    let counts = c.in-More.ensures.counts j c.self.invariant.bytes d.calls.so_far refl before counted in
+    let counts = c.in-More.ensures.counts j c.self.invariant.bytes d.calls.so_far refl before (omega (arith, counted.0), omega (arith, counted.1)) in
     record { limit = c.self.invariant.limit; bytes = c.self.invariant.bytes ++ c.args.piece.now; led = inl told.0; counted = (omega (arith, counts.0, c.tick.ensures), omega (arith, counts.1, c.tick.ensures)) }
 
 -- src/decoder.rt:215:5
@@ -112,10 +112,16 @@ invariant_of-self-in-Ended g c =
     let d = c.self.inside in
     let j : Job = record { registry = d.checked.now; ty = d.root.0; depth = d.limits.depth; bytes = d.limits.bytes } in
     let before = subst (RunLed j c.self.invariant.bytes d.taken) c.in-Ok.is c.self.invariant.led in
-    let counted = subst (λ (r : Result Running DecodeFault). RunCounted j d.taken r d.turns.so_far d.calls.so_far) c.in-Ok.is c.self.invariant.counted in
+    let counted = subst (λ (r : Result Running DecodeFault). RunCounted j d.taken r (d.turns.so_far + closing_turns r d.closings.so_far) d.calls.so_far) c.in-Ok.is c.self.invariant.counted in
     let told = c.in-Ended.ensures.answers j c.self.invariant.bytes refl before in
-    let counts = c.in-Ended.ensures.counts j c.self.invariant.bytes d.calls.so_far refl before counted in
-    record { limit = c.self.invariant.limit; bytes = c.self.invariant.bytes ++ c.args.piece.now; led = told; counted = omega (arith, counts, c.tick.ensures) }
+    let counts = c.in-Ended.ensures.counts j c.self.invariant.bytes d.calls.so_far refl before (omega (arith, counted.0), omega (arith, counted.1)) in
+    let gone : c.into_turns.result.so_far ≡ c.feed_run-fed.new.run.built.turns = c.into_turns.ensures ∙ ap (λ (r : Result Running DecodeFault). closing_turns r 0) c.replace.ensures.value in
+    record {
+      limit = c.self.invariant.limit;
+      bytes = c.self.invariant.bytes ++ c.args.piece.now;
+      led = subst (RunLed j (c.self.invariant.bytes ++ c.args.piece.now) c.in-Ended.taken) (sym c.replace.ensures.after) told;
+      counted = subst (λ (r : Result Running DecodeFault). RunCounted j c.in-Ended.taken r (c.feed_run-fed.new.turns.so_far + closing_turns r c.into_turns.result.so_far) c.tick.new.self.so_far) (sym c.replace.ensures.after) (omega (arith, counts, gone, c.tick.ensures));
+    }
 
 -- src/decoder.rt:215:5
 pub returns-in-Ended-clause-small : goal.returns-in-Ended-clause-small
@@ -123,10 +129,12 @@ returns-in-Ended-clause-small g c =
     let d = c.self.inside in
     let j : Job = record { registry = d.checked.now; ty = d.root.0; depth = d.limits.depth; bytes = d.limits.bytes } in
     let before = subst (RunLed j c.self.invariant.bytes d.taken) c.in-Ok.is c.self.invariant.led in
-    let counted = subst (λ (r : Result Running DecodeFault). RunCounted j d.taken r d.turns.so_far d.calls.so_far) c.in-Ok.is c.self.invariant.counted in
+    let counted = subst (λ (r : Result Running DecodeFault). RunCounted j d.taken r (d.turns.so_far + closing_turns r d.closings.so_far) d.calls.so_far) c.in-Ok.is c.self.invariant.counted in
     let told = c.in-Ended.ensures.answers j c.self.invariant.bytes refl before in
-    let counts = c.in-Ended.ensures.counts j c.self.invariant.bytes d.calls.so_far refl before counted in
-    led_small j (c.self.invariant.bytes ++ c.args.piece.now) c.in-Ended.taken (Err c.in-Ended.fault) c.feed_run-fed.new.turns.so_far c.tick.new.self.so_far told (omega (arith, counts, c.tick.ensures))
+    let counts = c.in-Ended.ensures.counts j c.self.invariant.bytes d.calls.so_far refl before (omega (arith, counted.0), omega (arith, counted.1)) in
+    let gone : c.into_turns.result.so_far ≡ c.feed_run-fed.new.run.built.turns = c.into_turns.ensures ∙ ap (λ (r : Result Running DecodeFault). closing_turns r 0) c.replace.ensures.value in
+    subst (λ (r : Result Running DecodeFault). IsSmall (record { job = j; taken = c.in-Ended.taken; run = r; turns = c.feed_run-fed.new.turns.so_far + closing_turns r c.into_turns.result.so_far; calls = c.tick.new.self.so_far })) (sym c.replace.ensures.after)
+    (led_small j (c.self.invariant.bytes ++ c.args.piece.now) c.in-Ended.taken (Err c.in-Ended.fault) (c.feed_run-fed.new.turns.so_far + c.into_turns.result.so_far) c.tick.new.self.so_far told (omega (arith, counts, gone, c.tick.ensures)))
 
 -- src/decoder.rt:215:5
 pub returns-in-More-clause-counted : goal.returns-in-More-clause-counted
@@ -134,8 +142,8 @@ returns-in-More-clause-counted g c =
     let d = c.self.inside in
     let j : Job = record { registry = d.checked.now; ty = d.root.0; depth = d.limits.depth; bytes = d.limits.bytes } in
     let before = subst (RunLed j c.self.invariant.bytes d.taken) c.in-Ok.is c.self.invariant.led in
-    let counted = subst (λ (r : Result Running DecodeFault). RunCounted j d.taken r d.turns.so_far d.calls.so_far) c.in-Ok.is c.self.invariant.counted in
-    let counts = c.in-More.ensures.counts j c.self.invariant.bytes d.calls.so_far refl before counted in
+    let counted = subst (λ (r : Result Running DecodeFault). RunCounted j d.taken r (d.turns.so_far + closing_turns r d.closings.so_far) d.calls.so_far) c.in-Ok.is c.self.invariant.counted in
+    let counts = c.in-More.ensures.counts j c.self.invariant.bytes d.calls.so_far refl before (omega (arith, counted.0), omega (arith, counted.1)) in
     omega (arith, counts.0, c.tick.ensures)
 
 -- src/decoder.rt:215:5
@@ -144,8 +152,8 @@ returns-in-Done-clause-counted g c =
     let d = c.self.inside in
     let j : Job = record { registry = d.checked.now; ty = d.root.0; depth = d.limits.depth; bytes = d.limits.bytes } in
     let before = subst (RunLed j c.self.invariant.bytes d.taken) c.in-Ok.is c.self.invariant.led in
-    let counted = subst (λ (r : Result Running DecodeFault). RunCounted j d.taken r d.turns.so_far d.calls.so_far) c.in-Ok.is c.self.invariant.counted in
-    let counts = c.in-Done.ensures.counts j c.self.invariant.bytes d.calls.so_far refl before counted in
+    let counted = subst (λ (r : Result Running DecodeFault). RunCounted j d.taken r (d.turns.so_far + closing_turns r d.closings.so_far) d.calls.so_far) c.in-Ok.is c.self.invariant.counted in
+    let counts = c.in-Done.ensures.counts j c.self.invariant.bytes d.calls.so_far refl before (omega (arith, counted.0), omega (arith, counted.1)) in
     omega (arith, counts.0, c.tick.ensures)
 
 -- src/decoder.rt:222:5

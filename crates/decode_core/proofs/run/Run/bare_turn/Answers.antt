@@ -20,8 +20,8 @@ invariant_of-self g c =
     bare_running b c.add_bare.new.builder c.self.inside.carry c.self.inside.text c.args.form c.add_bare.result c.self.invariant wants c.requires.bare closed c.add_bare.ensures.adds
 
 -- src/run.rt:89:5
-pub returns : goal.returns
-returns g c =
+pub returns-clause-tells : goal.returns-clause-tells
+returns-clause-tells g c =
     let b = c.self.inside.builder in
     let wants : next_of b.walk ≡ next.Wants c.args.form = subst (λ (s : Running). next_of s.built.walk ≡ next.Wants c.args.form) (sym c.self.view_is) c.requires.next in
     let closed : b.text ≡ None = subst (λ (s : Running). s.built.text ≡ None) (sym c.self.view_is) c.requires.closed in

@@ -1,7 +1,7 @@
 use Rattle.std.proofs.Common.{◌-◌, ◌<◌, ◌≤◌, length, take, drop}
 use Rattle.decode_core.specs.Turned.{StepTells}
 use Rattle.std.proofs.Common.{arith, refl, subst}
-use Rattle.decode_core.proofs.Moving.{each_added, each_held, few_added, few_held, turn_goes_on, turn_nearer, whole_goes_on}
+use Rattle.decode_core.proofs.Moving.{each_turn, few_turn, turn_goes_on, turn_nearer, whole_goes_on}
 use Rattle.decode_core.proofs.run.Run.feed.Goals as goal
 
 -- src/run.rt:241:9
@@ -11,37 +11,15 @@ turns-smaller g c =
     turn_nearer c.turns.self c.turn.new.self c.args.piece.now c.turns.at c.in-On.count tells
 
 -- src/run.rt:241:9
-pub turns-smaller-then-node_count-before : goal.turns-smaller-then-node_count-before
-turns-smaller-then-node_count-before g c =
-    let tells = subst (StepTells c.turns.self c.turn.new.self (take (length c.args.piece.now - c.turns.at) (drop c.turns.at c.args.piece.now))) c.in-On.is c.turn.ensures.tells in
-    turn_nearer c.turns.self c.turn.new.self c.args.piece.now c.turns.at c.in-On.count tells
-
--- src/run.rt:241:9
 pub turns-preserved : goal.turns-preserved
 turns-preserved g c =
     let tells = subst (StepTells c.turns.self c.turn.new.self (take (length c.args.piece.now - c.turns.at) (drop c.turns.at c.args.piece.now))) c.in-On.is c.turn.ensures.tells in
     let on = turn_goes_on c.args.self.now c.turns.self c.turn.new.self c.args.piece.now c.turns.at c.in-On.count c.turns.invariant.inside c.turns.invariant.moves tells in
-    let held : length c.turn.new.self.built.entries ≤ length c.turns.self.built.entries = omega (arith, c.node_count.ensures, c.node_count-before.ensures, c.if-node_count-before.false) in
     record {
       piece = refl;
       inside = on.0;
       moves = on.1;
       whole = λ w. whole_goes_on c.args.self.now c.turns.self c.turns.at c.in-On.count c.turn.result c.turns.invariant.whole c.turn.ensures.whole c.in-On.is w;
-      each = each_held c.args.self.now c.turns.self c.turn.new.self (take (length c.args.piece.now - c.turns.at) (drop c.turns.at c.args.piece.now)) c.args.turns.now.so_far c.turns.turns.so_far c.tick.new.self.so_far c.in-On.count c.turns.invariant.each c.tick.ensures held tells;
-      few = few_held c.args.self.now c.turns.self c.turn.new.self (take (length c.args.piece.now - c.turns.at) (drop c.turns.at c.args.piece.now)) c.args.turns.now.so_far c.turns.turns.so_far c.tick.new.self.so_far c.turns.at c.in-On.count c.turns.invariant.few c.tick.ensures held tells;
-    }
-
--- src/run.rt:241:9
-pub turns-preserved-then-node_count-before : goal.turns-preserved-then-node_count-before
-turns-preserved-then-node_count-before g c =
-    let tells = subst (StepTells c.turns.self c.turn.new.self (take (length c.args.piece.now - c.turns.at) (drop c.turns.at c.args.piece.now))) c.in-On.is c.turn.ensures.tells in
-    let on = turn_goes_on c.args.self.now c.turns.self c.turn.new.self c.args.piece.now c.turns.at c.in-On.count c.turns.invariant.inside c.turns.invariant.moves tells in
-    let more : length c.turns.self.built.entries < length c.turn.new.self.built.entries = omega (arith, c.node_count.ensures, c.node_count-before.ensures, c.if-node_count-before.true) in
-    record {
-      piece = refl;
-      inside = on.0;
-      moves = on.1;
-      whole = λ w. whole_goes_on c.args.self.now c.turns.self c.turns.at c.in-On.count c.turn.result c.turns.invariant.whole c.turn.ensures.whole c.in-On.is w;
-      each = each_added c.args.self.now c.turns.self c.turn.new.self (take (length c.args.piece.now - c.turns.at) (drop c.turns.at c.args.piece.now)) c.args.turns.now.so_far c.turns.turns.so_far c.tick.new.self.so_far c.tick-then-node_count-before.new.self.so_far c.in-On.count c.turns.invariant.each c.tick.ensures c.tick-then-node_count-before.ensures tells;
-      few = few_added c.args.self.now c.turns.self c.turn.new.self (take (length c.args.piece.now - c.turns.at) (drop c.turns.at c.args.piece.now)) c.args.turns.now.so_far c.turns.turns.so_far c.tick.new.self.so_far c.tick-then-node_count-before.new.self.so_far c.turns.at c.in-On.count c.turns.invariant.few c.tick.ensures c.tick-then-node_count-before.ensures more tells;
+      each = each_turn c.args.self.now c.turns.self c.turn.new.self (take (length c.args.piece.now - c.turns.at) (drop c.turns.at c.args.piece.now)) c.args.turns.now.so_far c.turns.turns.so_far c.tick.new.self.so_far c.in-On.count c.turns.invariant.each c.tick.ensures tells;
+      few = few_turn c.args.self.now c.turns.self c.turn.new.self (take (length c.args.piece.now - c.turns.at) (drop c.turns.at c.args.piece.now)) c.args.turns.now.so_far c.turns.turns.so_far c.tick.new.self.so_far c.turns.at c.in-On.count c.turns.invariant.few c.tick.ensures tells;
     }

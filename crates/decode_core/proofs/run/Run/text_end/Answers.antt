@@ -47,8 +47,8 @@ invariant_of-self g c =
     subst (λ (s : Built). IsRunning s c.self.inside.carry c.self.inside.text) (sym same) c.self.invariant
 
 -- src/run.rt:189:5
-pub returns-in_default : goal.returns-in_default
-returns-in_default g c =
+pub returns-in_default-clause-tells : goal.returns-in_default-clause-tells
+returns-in_default-clause-tells g c =
     let b = c.self.inside.builder in
     let k = c.self.inside.carry in
     let held : IsTextNext b k b.text = subst (λ (s : Running). IsTextNext s.built s.carry s.built.text) (sym c.self.view_is) c.requires.next in
@@ -58,8 +58,8 @@ returns-in_default g c =
     subst (λ (s : Running). EndTells s (of_fields c.text_end.new.self k) (turned.On 0)) c.self.view_is (ended_tells b c.text_end.new.self k end.0 end.1 e.0 e.1)
 
 -- src/run.rt:189:5
-pub returns : goal.returns
-returns g c =
+pub returns-clause-tells : goal.returns-clause-tells
+returns-clause-tells g c =
     let b = c.self.inside.builder in
     let k = c.self.inside.carry in
     let held : IsTextNext b k b.text = subst (λ (s : Running). IsTextNext s.built s.carry s.built.text) (sym c.self.view_is) c.requires.next in
@@ -72,8 +72,8 @@ returns g c =
     (subst (λ (n : ℕ). Stops (of_fields b k) rest (stop.Refused (c.compact_len-before.result + n) reason.BadUtf8 (c.compact_len-before.result + c.in-BadText.valid) (c.compact_len-before.result + n))) len (bad_text b k end.0 c.in-BadText.valid c.compact_len-before.result e.0 e.1 count rest))
 
 -- src/run.rt:189:5
-pub returns-in_default-fault : goal.returns-in_default-fault
-returns-in_default-fault g c =
+pub returns-in_default-fault-clause-tells : goal.returns-in_default-fault-clause-tells
+returns-in_default-fault-clause-tells g c =
     let b = c.self.inside.builder in
     let k = c.self.inside.carry in
     let held : IsTextNext b k b.text = subst (λ (s : Running). IsTextNext s.built s.carry s.built.text) (sym c.self.view_is) c.requires.next in

@@ -17,8 +17,8 @@ invariant_of-self g c =
     whole_running c.args.form b c.take_node-taken.new.builder c.self.inside.carry c.args.own.now c.self.inside.text c.take_node-taken.new.text c.take_node-taken.result c.self.invariant none wants closed c.requires.whole c.take_node-taken.ensures
 
 -- src/run.rt:113:5
-pub returns : goal.returns
-returns g c =
+pub returns-clause-tells : goal.returns-clause-tells
+returns-clause-tells g c =
     let b = c.self.inside.builder in
     let wants : next_of b.walk ≡ next.Wants c.args.form = subst (λ (s : Running). next_of s.built.walk ≡ next.Wants c.args.form) (sym c.self.view_is) c.requires.next in
     let closed : b.text ≡ None = subst (λ (s : Running). s.built.text ≡ None) (sym c.self.view_is) c.requires.closed in
