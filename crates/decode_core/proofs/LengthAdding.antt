@@ -135,7 +135,7 @@ settled_err read e left h is = (rw is at h)
 pub length_read : (own : List ℕ) (n : ℕ) → AreOwn (form.Primitive P.Str) own → (rest : List ℕ) × (compact_at target.U32 own ≡ Ok (n, rest)) → compact_at target.U32 own ≡ Ok (n, [])
 length_read own n a h = settled_ok (compact_at target.U32 own) n h.0 (length_settled own a) h.1
 
-text_cut : (own : List ℕ) (e : Reason) (left : List ℕ) → compact_at target.U32 own ≡ Err (e, left) → own_at layout.text own ≡ Err (basic e, left)
+pub text_cut : (own : List ℕ) (e : Reason) (left : List ℕ) → compact_at target.U32 own ≡ Err (e, left) → own_at layout.text own ≡ Err (basic e, left)
 unfolding own_at layout_at text_at
 text_cut own e left h = rw h refl
 

@@ -44,3 +44,4 @@ pub mod FeedRun
 pub mod Opening
 pub mod Streaming
 pub mod Answering
+pub mod Wanted

@@ -32,7 +32,7 @@ use Rattle.decode_core.proofs.Deciding.{Decided, IsSteady, chain, finish, bind_c
 
 -- ---- compacts
 
-reason_tells : (e : Reason) → (e ≡ reasons.Truncated) ⊎ (e ≢ reasons.Truncated)
+pub reason_tells : (e : Reason) → (e ≡ reasons.Truncated) ⊎ (e ≢ reasons.Truncated)
 reason_tells reasons.Truncated = inl refl
 reason_tells reasons.BadBool = inr (λ e. absurd cc)
 reason_tells reasons.BadChar = inr (λ e. absurd cc)
@@ -175,7 +175,7 @@ char_decided b = elim (cases_lt (length b) 4) [
 
 -- ---- values
 
-refusal_tells : (e : Refusal) → (e ≡ truncated) ⊎ (e ≢ truncated)
+pub refusal_tells : (e : Refusal) → (e ≡ truncated) ⊎ (e ≢ truncated)
 refusal_tells (basic reasons.Truncated) = inl refl
 refusal_tells (basic reasons.BadBool) = inr (λ e. absurd cc)
 refusal_tells (basic reasons.BadChar) = inr (λ e. absurd cc)

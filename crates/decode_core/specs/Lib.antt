@@ -15,3 +15,4 @@ pub mod Turned
 pub mod Decided
 pub mod Decoding
 pub mod Streaming
+pub mod Wanted

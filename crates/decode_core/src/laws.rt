@@ -3,6 +3,7 @@
 ghost use Rattle.decode_core.specs.Begins.{FaultIsBegun};
 ghost use Rattle.decode_core.specs.Holds.{BegunIsBounded, BegunIsMissing, MissingIsBegun};
 ghost use Rattle.decode_core.specs.Held.{HeldIsBounded, MoreHolds, OneBegun};
+ghost use Rattle.decode_core.specs.Wanted.{WantedGoesOn};
 ghost use Rattle.decode_core.specs.Outcome.{EncodedIsDone, OneOutcome, OutcomeIsComputed, OutcomeIsKept, TakenByFault, TakenIsShortest};
 
 /// What is encoded within the limits is decoded, and all of it is taken.
@@ -68,4 +69,10 @@ pub fn more_holds()
 /// What is added before a fault is a begun tree.
 pub fn fault_is_begun()
     ensures { FaultIsBegun }
+{}
+
+/// Where memory was wanted, nothing of the bytes taken is refused that stands before what it was wanted for: more are
+/// wanted and one is there, or they have a further node.
+pub fn wanted_goes_on()
+    ensures { WantedGoesOn }
 {}
