@@ -1,4 +1,4 @@
-//! A value as JSON: as a tree of `serde_json`, and as its text, written to a sink.
+//! A value as JSON: as a tree of `serde_json`, as its text, and as that text written to a sink.
 #![tactic(auto)]
 
 mod fields;
@@ -8,4 +8,4 @@ mod nodes;
 mod printing;
 
 pub use nodes::to_json;
-pub use printing::{PrintFault, print};
+pub use printing::{PrintFault, json_text, print};

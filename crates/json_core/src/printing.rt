@@ -1,4 +1,4 @@
-//! A value's JSON text, written to a sink.
+//! A value's JSON text, and that text written to a sink.
 
 ghost use Rattle.std.specs.Prelude.{◌≡◌, ◌≤◌, ◌||◌, length, take, string_bytes, IfOk, IfErr, OnOk, IsErrOf};
 ghost use Rattle.std.specs.Io.KnownBytes.{Appends};
@@ -20,16 +20,19 @@ pub enum PrintFault {
     Write(WriteFault),
 }
 
-/// The compact text of a value's JSON, without a line end.
-fn text_of<A: Allocator>(alloc: Global, value: &Value<'_, A>) -> Result<String, AllocError>
+/// A value's JSON as text: `serde_json`'s compact text of `to_json`, with no space and no line end. The value stays as
+/// it was.
+///
+/// Refuses want of memory, and nothing is kept then.
+pub fn json_text<A: Allocator>(alloc: Global, value: &Value<'_, A>) -> Result<String, AllocError>
     ensures { IfOk result (λ text. string_bytes text ≡ json_text value.now) }
 {
     let json = to_json(alloc, value)?;
     json.to_string(alloc)
 }
 
-/// Writes a value as JSON: `serde_json`'s compact text of `to_json`, without a line end. The text is made whole before
-/// the first write.
+/// Writes a value as JSON: the text that `json_text` gives, without a line end. It is made whole before the first
+/// write.
 ///
 /// Refuses:
 /// - `OutOfMemory`, where memory was refused: no write was made, and the sink stays as it was;
@@ -52,7 +55,7 @@ pub fn print<A: Allocator, W: Write>(
     ensures memory { IsErrOf result PrintFault.OutOfMemory → sink.new ≡ sink.old }
     ensures failed { sink.new.failed ≡ sink.old.failed || is_write result }
 {
-    let Ok(text) = text_of(alloc, value) else {
+    let Ok(text) = json_text(alloc, value) else {
         return Err(PrintFault::OutOfMemory);
     };
     match send(sink, text.as_bytes()) {

@@ -6,3 +6,4 @@ pub mod Spelled
 pub mod Steady
 pub mod Whole
 pub mod Positions
+pub mod Rows

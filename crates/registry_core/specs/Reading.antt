@@ -16,7 +16,8 @@ use Rattle.registry_core.specs.declared.fault.RegistryReason.{RegistryReason}
 use Rattle.registry_core.specs.declared.fault.RegistryReason.TheVariants as registry
 use Rattle.registry_core.specs.Bytes.{primitives, magic, version}
 
--- why a length, an id or a text is refused, as a reason of the registry; none is refused for the last two
+-- why a length, an id or a text is refused, as a reason of the registry; none is refused for the last two, as the clauses
+-- of `read_compact` and `read_text` say
 abbrev pub reason_of : Reason → RegistryReason
 reason_of scale.Truncated = registry.Truncated
 reason_of scale.BadUtf8 = registry.BadUtf8

@@ -14,7 +14,9 @@ pub enum RegistryReason {
     /// A length or an id in a longer form than its value needs.
     #[error("CompactNotShortest")]
     CompactNotShortest,
-    /// A length or an id above 4294967295.
+    /// A length or an id above 4294967295; also one whose first byte alone claims more than the four bytes of a u32, as
+    /// `07` does, be it for a smaller value and whatever follows it, or nothing: `07` with five `00` after it is refused
+    /// so, and not as `CompactNotShortest`.
     #[error("CompactTooLarge")]
     CompactTooLarge,
     /// An option's byte is neither `00` nor `01`.

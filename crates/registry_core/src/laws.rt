@@ -1,6 +1,7 @@
 //! What holds of every registry and its spelling.
 
 ghost use Rattle.registry_core.specs.Laws.{FaultIsKept, FaultIsWithin, FrontIsCut, ReadIsSpelled, SpelledIsRead};
+ghost use Rattle.registry_core.specs.Rows.{FaultRows, MetadataRows, ReadRows};
 
 /// The spelling of a registry is read as that registry, whatever follows.
 pub fn spelled_is_read()
@@ -25,4 +26,11 @@ pub fn fault_is_kept()
 /// A front of a spelling that is shorter than the whole is cut, at the front's end.
 pub fn front_is_cut()
     ensures { FrontIsCut }
+{}
+
+/// What the definitions say of bytes that are known from outside: rows of registries that are read or refused.
+pub fn worked_rows()
+    ensures read { ReadRows }
+    ensures faults { FaultRows }
+    ensures metadata { MetadataRows }
 {}

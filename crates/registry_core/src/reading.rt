@@ -48,8 +48,9 @@ fn metadata_of(alloc: Global, bytes: &[u8]) -> Result<(Registry, &[u8]), Stop<'_
 ///
 /// Refuses at the first fault from the left, with its place in bytes from the front of the input:
 /// - `Truncated`, at the input's length, where the bytes end inside the registry;
-/// - `CompactNotShortest` and `CompactTooLarge`, at the first byte of a length or an id that is spelled longer than its
-///   value needs, or is above 4294967295;
+/// - `CompactTooLarge`, at the first byte of a length or an id, where that byte alone claims more than four bytes of
+///   value, as `07` does, whatever follows and also where nothing does; or where the value is above 4294967295;
+/// - `CompactNotShortest`, at the first byte of another length or id that is spelled longer than its value needs;
 /// - `BadUtf8`, at the first byte past the longest valid front of a text that is there whole;
 /// - `BadOption`, at an option's byte that is neither `00` nor `01`;
 /// - `BadDefinition`, at a definition's byte above `07`, and `BadPrimitive`, at a primitive's byte above `0e`;

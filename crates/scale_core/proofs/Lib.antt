@@ -7,3 +7,4 @@ pub mod ReadForms
 pub mod ReadTexts
 pub mod Results
 pub mod Spellings
+pub mod Rows

@@ -1,7 +1,31 @@
 -- A device seen from outside.
-use Rattle.std.specs.Prelude.{Bool}
+use Rattle.std.specs.Prelude.{◌≡◌, ◌<◌, ℕ, List, Bool, Option, Some, None, Result, Ok, Err, length, take}
+use Rattle.std.specs.Io.KnownBytes.{Appends, Consumes, IsAtEnd, Keeps}
+use Rattle.scale_core.specs.declared.sink.SinkFault.{SinkFault}
+use Rattle.scale_core.specs.declared.sink.SinkFault.TheVariants.{Device, WroteNothing}
 
 -- the reader or writer itself, and whether a call on it has failed
 pub record Watched (D : Type 0) : Type 0 where
   pub device : D
   pub failed : Bool
+
+-- what a read did to the known bytes, by how many it gave: none only at the end or with no room, and without a count it took nothing
+abbrev pub Gives : Option (List ℕ) → Option (List ℕ) → Option ℕ → List ℕ → Type 0
+Gives old new (Some n) part = Consumes old new (take n part) × (n ≡ 0 → 0 < length part → IsAtEnd new)
+Gives old new None part = Keeps old new
+
+-- what a write did to the known bytes, by how many of the part it took, and without a count none
+abbrev pub Takes : Option (List ℕ) → Option (List ℕ) → Option ℕ → List ℕ → Type 0
+Takes old new (Some n) part = Appends old new (take n part)
+Takes old new None part = Keeps old new
+
+-- how many bytes the one read gave, if the reader answered no error
+abbrev pub given : {E : Type 0} → Result ℕ E → Option ℕ
+given (Ok n) = Some n
+given (Err e) = None
+
+-- how many bytes the one write took, if the writer answered no error
+abbrev pub taken : Result ℕ SinkFault → Option ℕ
+taken (Ok n) = Some n
+taken (Err Device) = None
+taken (Err WroteNothing) = Some 0

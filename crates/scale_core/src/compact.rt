@@ -1,7 +1,7 @@
 //! Compact integers: the fewest bytes in one of four forms, which the two low bits of the first byte name
 //! (SCALE codec specification, "Compact/general integers").
 
-ghost use Rattle.std.specs.Prelude.{◌≡◌, ◌≢◌, ◌+◌, ◌*◌, ◌/◌, ◌%◌, ◌^◌, ◌<◌, ◌≤◌, ◌++◌, ◌∷◌, ℕ, nat_lt, length, take, drop, slice_index, MatchResult, IfOk, OnOk, OnErr};
+ghost use Rattle.std.specs.Prelude.{◌≡◌, ◌≢◌, ◌+◌, ◌*◌, ◌/◌, ◌%◌, ◌^◌, ◌<◌, ◌≤◌, ◌++◌, ◌∷◌, ℕ, nat_lt, length, take, drop, slice_index, MatchResult, IfOk, IfErr, OnOk, OnErr};
 ghost use Rattle.scale_core.specs.Answers.{Answers, truncated};
 ghost use Rattle.scale_core.specs.Compact.{big_bytes, compact, target_bytes};
 ghost use Rattle.scale_core.specs.Number.{number};
@@ -117,6 +117,7 @@ fn read_form(bytes: &[u8], first: u8) -> Result<(u128, usize), Fault>
 pub fn read_compact(bytes: &[u8], target: Target) -> Result<(u128, usize), Fault>
     ensures reads { Answers (λ x. x) bytes.now result (compact_at target bytes.now) }
     ensures fits { IfOk result (λ x. x.0 < 256 ^ target_bytes target) }
+    ensures reasons { IfErr result (λ f. (f.reason ≢ Reason.BadBool) × (f.reason ≢ Reason.BadChar) × (f.reason ≢ Reason.BadUtf8)) }
     ensures len { IfOk result (λ x. x.1 ≤ 17) }
 {
     if target == Target::Unit {

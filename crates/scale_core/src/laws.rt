@@ -1,6 +1,7 @@
 //! Laws of the spellings: each is the contract of a function that does nothing, so that it is proved.
 
 ghost use Rattle.scale_core.specs.Laws.{CompactIsPrefixFree, CompactIsReadAgain, CompactIsSpelled, TextIsPrefixFree, TextIsReadAgain, TextIsSpelled};
+ghost use Rattle.scale_core.specs.Rows.{CompactRows, SpellingRows, TextRows};
 
 /// No compact integer's spelling is the front of another's with the same target: where two spellings are fronts of
 /// one list of bytes, they spell one number and are one spelling.
@@ -32,4 +33,11 @@ pub fn text_is_read_again()
 /// What is read as a text stands on the front as its one spelling.
 pub fn text_is_spelled()
     ensures { TextIsSpelled }
+{}
+
+/// What the definitions say of bytes that are known from outside: rows of spellings, and of readings with their faults.
+pub fn worked_rows()
+    ensures spellings { SpellingRows }
+    ensures compacts { CompactRows }
+    ensures texts { TextRows }
 {}

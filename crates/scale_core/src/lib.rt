@@ -5,6 +5,7 @@
 mod boolean;
 mod character;
 mod compact;
+mod device;
 mod fault;
 mod integer;
 pub mod laws;
@@ -15,6 +16,7 @@ mod text;
 pub use boolean::{read_bool, write_bool};
 pub use character::{read_char, write_char};
 pub use compact::{Target, compact_len, put_compact, read_compact, write_compact};
+pub use device::{ReadOnce, WriteOnce};
 pub use fault::{Fault, Reason};
 pub use integer::{
     read_i8, read_i16, read_i32, read_i64, read_i128, read_u8, read_u16, read_u32, read_u64,

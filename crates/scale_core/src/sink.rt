@@ -2,7 +2,9 @@
 
 ghost use Rattle.std.specs.Prelude.{◌≡◌, ◌<◌, ◌≤◌, ◌||◌, false, length, IfOk, is_ok, not};
 ghost use Rattle.std.specs.Io.KnownBytes.{WriteAppends};
+ghost use Rattle.scale_core.specs.Stream.{taken};
 
+use crate::device::WriteOnce;
 use std::io::Write;
 use std::marker::Model;
 
@@ -55,21 +57,26 @@ impl<W: Write> Sink<W> {
     {
         self.failed
     }
+}
 
-    /// One write of the part, which is not empty: how many bytes of its front went out, at least one.
+impl<W: WriteOnce> Sink<W> {
+    /// One write of the part, which is not empty, and no second one: how many bytes of its front went out, at least
+    /// one.
     ///
-    /// Refuses with `Device` where the writer answers an error and with `WroteNothing` where it takes no byte, and
-    /// `failed()` is true from then on. Nothing else changes `failed()`.
+    /// Refuses with `Device` where the writer answers an error to that write and with `WroteNothing` where it takes no
+    /// byte, and `failed()` is true from then on. Nothing else changes `failed()`.
     pub fn put(&mut self, part: &[u8]) -> Result<usize, SinkFault>
         requires { 0 < length part.now }
+        // One write to the writer leads to what stands afterwards: it took the count, or none, or answered an error.
+        ensures once { W.writes self.old.device part.now (taken result) self.new.device }
         ensures count { IfOk result (λ n. (0 < n) × (n ≤ length part.now)) }
         ensures bytes { WriteAppends (W.contents self.old.device) (W.contents self.new.device) result part.now }
         ensures failed { self.new.failed ≡ self.old.failed || not (is_ok result) }
     {
-        let written = match self.writer.write(part) {
-            Ok(0) => Err(SinkFault::WroteNothing),
-            Ok(count) => Ok(count),
-            Err(_) => Err(SinkFault::Device),
+        let written = match self.writer.write_once(part) {
+            Some(0) => Err(SinkFault::WroteNothing),
+            Some(count) => Ok(count),
+            None => Err(SinkFault::Device),
         };
         self.failed |= written.is_err();
         written

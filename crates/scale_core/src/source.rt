@@ -2,7 +2,9 @@
 
 ghost use Rattle.std.specs.Prelude.{◌≡◌, ◌<◌, ◌≤◌, ◌||◌, false, length, IfOk, is_ok, not};
 ghost use Rattle.std.specs.Io.KnownBytes.{ReadConsumes};
+ghost use Rattle.scale_core.specs.Stream.{given};
 
+use crate::device::ReadOnce;
 use std::io::Read;
 use std::marker::Model;
 
@@ -53,20 +55,24 @@ impl<R: Read> Source<R> {
     {
         self.failed
     }
+}
 
-    /// One read into the part, which is not empty: how many bytes it gave, where 0 is the end.
+impl<R: ReadOnce> Source<R> {
+    /// One read into the part, which is not empty, and no second one: how many bytes it gave, where 0 is the end.
     ///
-    /// Refuses with `Device` where the reader answers an error, and `failed()` is true from then on.
+    /// Refuses with `Device` where the reader answers an error to that read, and `failed()` is true from then on.
     /// Nothing else changes `failed()`.
     pub fn pull(&mut self, part: &mut [u8]) -> Result<usize, SourceFault>
         requires { 0 < length part.old }
+        // One read of the reader leads to what stands afterwards: it gave the count, or answered an error.
+        ensures once { R.reads self.old.device part.old (given result) part.new self.new.device }
         ensures count { IfOk result (λ n. n ≤ length part.new) }
         ensures bytes { ReadConsumes (R.remaining self.old.device) (R.remaining self.new.device) result part.new }
         ensures failed { self.new.failed ≡ self.old.failed || not (is_ok result) }
     {
-        match self.reader.read(part) {
-            Ok(count) => Ok(count),
-            Err(_) => {
+        match self.reader.read_once(part) {
+            Some(count) => Ok(count),
+            None => {
                 self.failed = true;
                 Err(SourceFault::Device)
             }

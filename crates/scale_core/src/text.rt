@@ -1,6 +1,6 @@
 //! Texts: the number of bytes as a compact u32, and that many bytes of UTF-8 (SCALE codec specification, "Strings").
 
-ghost use Rattle.std.specs.Prelude.{◌≡◌, ◌<◌, ◌^◌, ◌++◌, length, OnOk, OnErr};
+ghost use Rattle.std.specs.Prelude.{◌≡◌, ◌≢◌, ◌<◌, ◌^◌, ◌++◌, length, IfErr, OnOk, OnErr};
 ghost use Rattle.scale_core.specs.Answers.{Answers};
 ghost use Rattle.scale_core.specs.Compact.{compact};
 ghost use Rattle.scale_core.specs.Read.{text_at};
@@ -16,7 +16,8 @@ use std::alloc::AllocError;
 /// the length than it says as `Truncated` at the input's length; and bytes that are not UTF-8 as `BadUtf8` at the
 /// first byte past their longest valid front.
 pub fn read_text(bytes: &[u8]) -> Result<(&str, usize), Fault>
-    ensures { Answers (λ s. s.now) bytes.now result (text_at bytes.now) }
+    ensures reads { Answers (λ s. s.now) bytes.now result (text_at bytes.now) }
+    ensures reasons { IfErr result (λ f. (f.reason ≢ Reason.BadBool) × (f.reason ≢ Reason.BadChar)) }
 {
     let (count, start) = read_compact(bytes, Target::U32)?;
     let Some(spelled) = bytes[start..].get(..count as usize) else {

@@ -6,4 +6,3 @@ pub mod Entered
 pub mod Unnamed
 pub mod HexPlaces
 pub mod Decoded
-pub mod ValueText

@@ -1,20 +1,16 @@
 -- What the command writes for its job.
 use Rattle.std.specs.Prelude.{◌≡◌, ◌≤◌, nat_lt, if◌then◌else◌, ℕ, List, [], ◌∷◌, ◌++◌, length, take, Option, Some, None, Ok, Err, Bool, true, option_map, option_and_then, false}
 use Rattle.std.specs.Io.KnownBytes.{Appends, Keeps}
-use Rattle.serde_json.specs.Data.{Data}
-use Rattle.serde_json.specs.Written.{compact_text}
 use Rattle.scale_core.specs.Read.{Read}
 use Rattle.registry_core.specs.Reading.{registry_at, metadata_at}
 use Rattle.registry_core.specs.declared.type_info.TypeInfo.{TypeInfo}
 use Rattle.widths_core.specs.References.{first_fault}
 use Rattle.scale_tool.specs.Lines.{type_lines}
-use Rattle.json_core.specs.Json.{json_seen}
+use Rattle.json_core.specs.Json.{json_text}
+use Rattle.value_core.specs.Shown.{Seen}
 use Rattle.scale_tool.specs.Values.{file_value}
 use Rattle.scale_tool.specs.declared.task.Job.{Job}
 use Rattle.scale_tool.specs.declared.task.Job.TheVariants as job
-use Rattle.scale_tool.specs.declared.refusal.Device.TheVariants as device
-use Rattle.scale_tool.specs.declared.refusal.Refusal.{Refusal}
-use Rattle.scale_tool.specs.declared.refusal.Refusal.TheVariants as refusal
 
 -- what is read, where nothing follows it
 abbrev pub alone : {E X : Type 0} → Read E X → Option X
@@ -48,26 +44,14 @@ with_position id types = if nat_lt id (length types) then Some types else None
 abbrev pub types_with : Bool → ℕ → List ℕ → Option (List TypeInfo)
 types_with metadata id registry = option_and_then (with_position id) (checked_of metadata registry)
 
--- a refusal that reading a registry may meet
-abbrev pub IsOfRegistry : Refusal → Type 0
-IsOfRegistry (refusal.Registry fault) = Unit {0}
-IsOfRegistry (refusal.TrailingRegistry at) = Unit {0}
-IsOfRegistry (refusal.Check fault) = Unit {0}
-IsOfRegistry refusal.Memory = Unit {0}
-IsOfRegistry (refusal.UnknownType id) = ⊥
-IsOfRegistry (refusal.Hex fault) = ⊥
-IsOfRegistry (refusal.Value fault) = ⊥
-IsOfRegistry (refusal.TrailingValue at) = ⊥
-IsOfRegistry (refusal.Device device) = ⊥
-
--- a value's line: its JSON and a line feed
-abbrev pub line_of : Data → List ℕ
-line_of d = compact_text d ++ 10 ∷ []
+-- a value's line: the text of its JSON and a line feed
+abbrev pub line_of : Seen → List ℕ
+line_of v = json_text v ++ 10 ∷ []
 
 -- the text of a value's file, where neither it nor the registry's is refused
 abbrev pub value_text : Bool → Bool → ℕ → ℕ → List ℕ → List ℕ → Option (List ℕ)
 value_text metadata hex id depth registry value =
-    option_and_then (λ types. option_map (λ v. line_of (json_seen v)) (file_value hex id depth types value)) (types_with metadata id registry)
+    option_and_then (λ types. option_map line_of (file_value hex id depth types value)) (types_with metadata id registry)
 
 -- the text of a registry's types, where its bytes are not refused
 abbrev pub types_text : Bool → List ℕ → Option (List ℕ)
@@ -91,19 +75,11 @@ abbrev pub WritesFront : Option (List ℕ) → Option (List ℕ) → Option (Lis
 WritesFront None old new = Keeps old new
 WritesFront (Some text) old new = (n : ℕ) × Appends old new (take n text)
 
--- the device of the refusal has failed
-abbrev pub HasFailed : Refusal → Bool → Bool → Type 0
-HasFailed (refusal.Device device.Registry) registry value = registry ≡ true
-HasFailed (refusal.Device device.Value) registry value = value ≡ true
-HasFailed (refusal.Device device.Output) registry value = ⊥
-HasFailed (refusal.Registry fault) registry value = Unit {0}
-HasFailed (refusal.TrailingRegistry at) registry value = Unit {0}
-HasFailed (refusal.Check fault) registry value = Unit {0}
-HasFailed (refusal.UnknownType id) registry value = Unit {0}
-HasFailed (refusal.Value fault) registry value = Unit {0}
-HasFailed (refusal.TrailingValue at) registry value = Unit {0}
-HasFailed (refusal.Hex fault) registry value = Unit {0}
-HasFailed refusal.Memory registry value = Unit {0}
+-- the registry's bytes, where they are known, are not refused, and one of the types is the one of the job's value
+abbrev pub HasType : Job → Option (List ℕ) → Type 0
+HasType (job.Types metadata) registry = ⊥
+HasType (job.Decode id metadata hex depth) None = Unit {0}
+HasType (job.Decode id metadata hex depth) (Some registry) = (types : List TypeInfo) × (types_with metadata id registry ≡ Some types)
 
 -- the job goes by its registry alone
 abbrev pub ReadsNoValue : Job → Type 0

@@ -6,8 +6,8 @@ use Rattle.hex.specs.declared.error.FromHexError.{FromHexError}
 use Rattle.hex.specs.declared.error.FromHexError.TheVariants.{InvalidHexCharacter}
 use Rattle.scale_tool.specs.declared.refusal.HexFault.{HexFault}
 use Rattle.scale_tool.specs.declared.refusal.HexFault.TheVariants as fault
-use Rattle.scale_tool.specs.declared.refusal.Refusal.{Refusal}
-use Rattle.scale_tool.specs.declared.refusal.Refusal.TheVariants as refusal
+use Rattle.scale_tool.specs.declared.refusal.HexRefusal.{HexRefusal}
+use Rattle.scale_tool.specs.declared.refusal.HexRefusal.TheVariants as hex
 
 -- how many bytes stand in front of the digits
 abbrev pub prefix_len : List ℕ → ℕ
@@ -35,14 +35,7 @@ bytes_behind start rest = placed start (start + digits_end rest) (decode_of (tak
 unfoldable pub hex_bytes : List ℕ → Result (List ℕ) HexFault
 hex_bytes text = bytes_behind (prefix_len text) (drop (prefix_len text) text)
 
--- the refusal of such a text; where memory is refused nothing is said of it
-abbrev pub IsOfHex : Result (List ℕ) HexFault → Refusal → Type 0
-IsOfHex bytes (refusal.Hex f) = bytes ≡ Err f
-IsOfHex bytes refusal.Memory = Unit {0}
-IsOfHex bytes (refusal.Registry fault) = ⊥
-IsOfHex bytes (refusal.TrailingRegistry at) = ⊥
-IsOfHex bytes (refusal.Check unknown) = ⊥
-IsOfHex bytes (refusal.UnknownType id) = ⊥
-IsOfHex bytes (refusal.Value fault) = ⊥
-IsOfHex bytes (refusal.TrailingValue at) = ⊥
-IsOfHex bytes (refusal.Device device) = ⊥
+-- what such a text is refused for; where memory is refused nothing is said of it
+abbrev pub IsOfHex : Result (List ℕ) HexFault → HexRefusal → Type 0
+IsOfHex bytes (hex.Fault f) = bytes ≡ Err f
+IsOfHex bytes hex.Memory = Unit {0}

@@ -1,4 +1,4 @@
--- The exit status of each refusal, and the line of a device.
+-- What each part of a job is refused for, as the refusal of the whole, and its exit status and line.
 use Rattle.std.specs.Prelude.{ℕ, List, Option, Some, None, codes}
 use Rattle.registry_core.specs.declared.fault.RegistryFault.{RegistryFault}
 use Rattle.registry_core.specs.declared.fault.RegistryReason.{RegistryReason}
@@ -7,7 +7,7 @@ use Rattle.widths_core.specs.declared.fault.CheckFault.{CheckFault}
 use Rattle.widths_core.specs.declared.fault.CheckFault.TheVariants as check
 use Rattle.decode_core.specs.declared.fault.DecodeFault.{DecodeFault}
 use Rattle.decode_core.specs.declared.fault.DecodeReason.{DecodeReason}
-use Rattle.decode_core.specs.declared.fault.DecodeReason.TheVariants as value
+use Rattle.decode_core.specs.declared.fault.DecodeReason.TheVariants as reason
 use Rattle.decode_core.specs.declared.fault.OpenFault.{OpenFault}
 use Rattle.decode_core.specs.declared.fault.OpenFault.TheVariants as opening
 use Rattle.decode_core.specs.declared.pieces.PiecesFault.{PiecesFault}
@@ -18,77 +18,138 @@ use Rattle.scale_tool.specs.declared.gathering.GatherFault.{GatherFault}
 use Rattle.scale_tool.specs.declared.gathering.GatherFault.TheVariants as gather
 use Rattle.scale_tool.specs.declared.refusal.Device.{Device}
 use Rattle.scale_tool.specs.declared.refusal.Device.TheVariants as device
+use Rattle.scale_tool.specs.declared.refusal.BytesRefusal.{BytesRefusal}
+use Rattle.scale_tool.specs.declared.refusal.BytesRefusal.TheVariants as bytes
+use Rattle.scale_tool.specs.declared.refusal.HexRefusal.{HexRefusal}
+use Rattle.scale_tool.specs.declared.refusal.HexRefusal.TheVariants as hex
+use Rattle.scale_tool.specs.declared.refusal.RegistryRefusal.{RegistryRefusal}
+use Rattle.scale_tool.specs.declared.refusal.RegistryRefusal.TheVariants as types
+use Rattle.scale_tool.specs.declared.refusal.ValueRefusal.{ValueRefusal}
+use Rattle.scale_tool.specs.declared.refusal.ValueRefusal.TheVariants as value
 use Rattle.scale_tool.specs.declared.refusal.Refusal.{Refusal}
 use Rattle.scale_tool.specs.declared.refusal.Refusal.TheVariants as refusal
 
+-- the exit status
 abbrev pub status_of : Refusal → ℕ
 status_of (refusal.Registry fault) = 1
 status_of (refusal.TrailingRegistry at) = 1
 status_of (refusal.Check unknown) = 1
 status_of (refusal.UnknownType id) = 1
+status_of (refusal.Hex fault) = 1
+status_of (refusal.Open fault) = 1
 status_of (refusal.Value fault) = 1
 status_of (refusal.TrailingValue at) = 1
-status_of (refusal.Hex fault) = 1
-status_of (refusal.Device device) = 3
+status_of refusal.RegistryDevice = 3
+status_of refusal.ValueDevice = 3
 status_of refusal.Memory = 4
 
--- what is told where this device fails
+-- what is reported where this device fails
 abbrev pub device_line : Device → List ℕ
 device_line device.Registry = codes "scaleview: device: registry\n"
 device_line device.Value = codes "scaleview: device: value\n"
 device_line device.Output = codes "scaleview: device: output\n"
 
--- what is told of a refusal, where that needs no memory
+-- what is reported of a refusal, where that needs no memory
 abbrev pub fixed_line : Refusal → Option (List ℕ)
-fixed_line (refusal.Device device) = Some (device_line device)
+fixed_line refusal.RegistryDevice = Some (device_line device.Registry)
+fixed_line refusal.ValueDevice = Some (device_line device.Value)
 fixed_line refusal.Memory = Some (codes "scaleview: memory\n")
 fixed_line (refusal.Registry fault) = None
 fixed_line (refusal.TrailingRegistry at) = None
 fixed_line (refusal.Check unknown) = None
 fixed_line (refusal.UnknownType id) = None
+fixed_line (refusal.Hex fault) = None
+fixed_line (refusal.Open fault) = None
 fixed_line (refusal.Value fault) = None
 fixed_line (refusal.TrailingValue at) = None
-fixed_line (refusal.Hex fault) = None
 
--- why this device gave no input
-abbrev pub refusal_of : GatherFault → Device → Refusal
-refusal_of gather.Device device = refusal.Device device
-refusal_of gather.Memory device = refusal.Memory
+-- ---- registries
 
-abbrev pub refusal_by : RegistryReason → RegistryFault → Refusal
-refusal_by registry.OutOfMemory f = refusal.Memory
-refusal_by _ f = refusal.Registry f
+-- a fault with this reason
+abbrev pub registry_refusal_by : RegistryReason → RegistryFault → RegistryRefusal
+registry_refusal_by registry.OutOfMemory f = types.Memory
+registry_refusal_by _ f = types.Fault f
 
 -- a registry's fault, where want of memory is no fault of its bytes
-abbrev pub refusal_of_registry : RegistryFault → Refusal
-refusal_of_registry f = refusal_by f.reason f
+abbrev pub registry_refusal : RegistryFault → RegistryRefusal
+registry_refusal f = registry_refusal_by f.reason f
 
 -- a check's fault, where want of memory is none of the registry's
-abbrev pub refusal_of_check : CheckFault → Refusal
-refusal_of_check (check.UnknownType from to) = refusal.Check (record { from = from.0; to = to.0 })
-refusal_of_check check.OutOfMemory = refusal.Memory
+abbrev pub check_refusal : CheckFault → RegistryRefusal
+check_refusal (check.UnknownType from to) = types.Check (record { from = from.0; to = to.0 })
+check_refusal check.OutOfMemory = types.Memory
 
-abbrev pub refusal_by_reason : DecodeReason → DecodeFault → Refusal
-refusal_by_reason value.OutOfMemory f = refusal.Memory
-refusal_by_reason _ f = refusal.Value f
+-- the refusal of the whole
+abbrev pub refusal_of_registry : RegistryRefusal → Refusal
+refusal_of_registry (types.Fault fault) = refusal.Registry fault
+refusal_of_registry (types.TrailingBytes at) = refusal.TrailingRegistry at
+refusal_of_registry (types.Check unknown) = refusal.Check unknown
+refusal_of_registry types.Memory = refusal.Memory
+
+-- ---- values
+
+-- a fault with this reason
+abbrev pub bytes_refusal_by : DecodeReason → DecodeFault → BytesRefusal
+bytes_refusal_by reason.OutOfMemory f = bytes.Memory
+bytes_refusal_by _ f = bytes.Fault f
 
 -- a value's fault, where want of memory is no fault of its bytes
-abbrev pub refusal_of_value : DecodeFault → Refusal
-refusal_of_value f = refusal_by_reason f.reason f
+abbrev pub bytes_refusal : DecodeFault → BytesRefusal
+bytes_refusal f = bytes_refusal_by f.reason f
 
--- why no decoder of this type is made, where the limits are within their ranges
-abbrev pub refusal_of_opening : OpenFault → ℕ → Refusal
-refusal_of_opening opening.OutOfMemory id = refusal.Memory
-refusal_of_opening _ id = refusal.UnknownType id
+-- why bytes that are all there are none, where a decoder is refused for want of memory alone
+abbrev pub pieces_refusal : PiecesFault → BytesRefusal
+pieces_refusal (pieces.Open f) = bytes.Memory
+pieces_refusal (pieces.Decode f) = bytes_refusal f
 
--- why a reader's bytes are no value of this type
-abbrev pub refusal_of_stream : StreamFault → ℕ → Refusal
-refusal_of_stream (stream.Open f) id = refusal_of_opening f id
-refusal_of_stream (stream.Decode f) id = refusal_of_value f
-refusal_of_stream (stream.TrailingBytes at) id = refusal.TrailingValue at
-refusal_of_stream stream.Device id = refusal.Device device.Value
+-- what digits are refused for, as a value's refusal
+abbrev pub hex_in_value : HexRefusal → ValueRefusal
+hex_in_value (hex.Fault fault) = value.Hex fault
+hex_in_value hex.Memory = value.Memory
 
--- why bytes that are all there are none
-abbrev pub refusal_of_pieces : PiecesFault → ℕ → Refusal
-refusal_of_pieces (pieces.Open f) id = refusal_of_opening f id
-refusal_of_pieces (pieces.Decode f) id = refusal_of_value f
+-- what bytes are refused for, as a value's refusal
+abbrev pub bytes_in_value : BytesRefusal → ValueRefusal
+bytes_in_value (bytes.Fault fault) = value.Fault fault
+bytes_in_value (bytes.TrailingBytes at) = value.TrailingBytes at
+bytes_in_value bytes.Memory = value.Memory
+
+-- why a file gave no bytes, as a value's refusal
+abbrev pub gathered_refusal : GatherFault → ValueRefusal
+gathered_refusal gather.Device = value.Device
+gathered_refusal gather.Memory = value.Memory
+
+-- why no decoder is made, where want of memory is no fault of the type or the limits
+abbrev pub opening_refusal : OpenFault → ValueRefusal
+opening_refusal opening.OutOfMemory = value.Memory
+opening_refusal opening.UnknownType = value.Open opening.UnknownType
+opening_refusal opening.LimitOutOfRange = value.Open opening.LimitOutOfRange
+
+-- why a reader's bytes are no value
+abbrev pub stream_refusal : StreamFault → ValueRefusal
+stream_refusal (stream.Open f) = opening_refusal f
+stream_refusal (stream.Decode f) = bytes_in_value (bytes_refusal f)
+stream_refusal (stream.TrailingBytes at) = value.TrailingBytes at
+stream_refusal stream.Device = value.Device
+
+-- the refusal of the whole
+abbrev pub refusal_of_value : ValueRefusal → Refusal
+refusal_of_value (value.Hex fault) = refusal.Hex fault
+refusal_of_value (value.Open fault) = refusal.Open fault
+refusal_of_value (value.Fault fault) = refusal.Value fault
+refusal_of_value (value.TrailingBytes at) = refusal.TrailingValue at
+refusal_of_value value.Device = refusal.ValueDevice
+refusal_of_value value.Memory = refusal.Memory
+
+-- ---- statuses
+
+-- that of the whole, where a value's file is refused
+abbrev pub status_of_value : ValueRefusal → ℕ
+status_of_value e = status_of (refusal_of_value e)
+
+-- and where a value's bytes are
+abbrev pub status_of_bytes : BytesRefusal → ℕ
+status_of_bytes e = status_of_value (bytes_in_value e)
+
+-- and where a registry's bytes are
+abbrev pub status_of_registry : RegistryRefusal → ℕ
+status_of_registry e = status_of (refusal_of_registry e)

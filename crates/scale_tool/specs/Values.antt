@@ -6,13 +6,14 @@ use Rattle.value_core.specs.Shown.{Seen}
 use Rattle.decode_core.specs.Outcome.{Outcome, done, refused, more, too_long, outcome_of}
 use Rattle.decode_core.specs.Outcome as decoder
 use Rattle.decode_core.specs.Decoding.{Finishes}
-use Rattle.decode_core.specs.Streaming.{Trails}
+use Rattle.decode_core.specs.Streaming.{Forbids, Trails}
 use Rattle.scale_tool.specs.HexText.{hex_bytes}
-use Rattle.scale_tool.specs.Refused.{status_of}
-use Rattle.scale_tool.specs.declared.refusal.Device.TheVariants as device
+use Rattle.scale_tool.specs.Refused.{status_of_bytes, status_of_value}
+use Rattle.scale_tool.specs.declared.refusal.BytesRefusal.{BytesRefusal}
+use Rattle.scale_tool.specs.declared.refusal.BytesRefusal.TheVariants as bytes
 use Rattle.scale_tool.specs.declared.refusal.HexFault.{HexFault}
-use Rattle.scale_tool.specs.declared.refusal.Refusal.{Refusal}
-use Rattle.scale_tool.specs.declared.refusal.Refusal.TheVariants as refusal
+use Rattle.scale_tool.specs.declared.refusal.ValueRefusal.{ValueRefusal}
+use Rattle.scale_tool.specs.declared.refusal.ValueRefusal.TheVariants as value
 
 -- the type at a position, as deep as told, and 16777216 bytes at most
 abbrev pub decoding : ℕ → ℕ → List TypeInfo → decoder.Job
@@ -45,60 +46,26 @@ abbrev pub file_value : Bool → ℕ → ℕ → List TypeInfo → List ℕ → 
 file_value hex id depth types file = option_and_then (value_in id depth types) (value_bytes hex file)
 
 -- the value, or a refusal where there is none
-abbrev pub ReadsValue : Option Seen → Result Seen Refusal → Type 0
+abbrev pub ReadsBytes : Option Seen → Result Seen BytesRefusal → Type 0
+ReadsBytes value (Ok v) = value ≡ Some v
+ReadsBytes value (Err e) = status_of_bytes e ≡ 1 → value ≡ None
+
+-- and of a file
+abbrev pub ReadsValue : Option Seen → Result Seen ValueRefusal → Type 0
 ReadsValue value (Ok v) = value ≡ Some v
-ReadsValue value (Err e) = status_of e ≡ 1 → value ≡ None
+ReadsValue value (Err e) = status_of_value e ≡ 1 → value ≡ None
 
--- what a refusal says of the value's bytes, unless the device or memory failed: their fault, or that some follow the value
-abbrev pub TellsBytes : decoder.Job → List ℕ → Refusal → Type 0
-TellsBytes j b (refusal.Value fault) = Finishes j b (Err fault)
-TellsBytes j b (refusal.TrailingValue at) = Trails j at b
-TellsBytes j b (refusal.Device d) = Unit {0}
-TellsBytes j b refusal.Memory = Unit {0}
-TellsBytes j b (refusal.Hex fault) = ⊥
-TellsBytes j b (refusal.UnknownType id) = ⊥
-TellsBytes j b (refusal.Registry fault) = ⊥
-TellsBytes j b (refusal.TrailingRegistry at) = ⊥
-TellsBytes j b (refusal.Check unknown) = ⊥
+-- what a refusal says of the value's bytes, unless memory was refused: their fault, or that some follow the value
+abbrev pub TellsBytes : decoder.Job → List ℕ → BytesRefusal → Type 0
+TellsBytes j b (bytes.Fault fault) = Finishes j b (Err fault)
+TellsBytes j b (bytes.TrailingBytes at) = Trails j at b
+TellsBytes j b bytes.Memory = Unit {0}
 
--- and of a text: its own fault, or the same of the bytes that it holds
-abbrev pub TellsText : decoder.Job → Result (List ℕ) HexFault → Refusal → Type 0
-TellsText j (Ok bytes) e = TellsBytes j bytes e
-TellsText j (Err fault) (refusal.Hex f) = f ≡ fault
-TellsText j (Err fault) (refusal.Device d) = Unit {0}
-TellsText j (Err fault) refusal.Memory = Unit {0}
-TellsText j (Err fault) (refusal.Value f) = ⊥
-TellsText j (Err fault) (refusal.TrailingValue at) = ⊥
-TellsText j (Err fault) (refusal.UnknownType id) = ⊥
-TellsText j (Err fault) (refusal.Registry f) = ⊥
-TellsText j (Err fault) (refusal.TrailingRegistry at) = ⊥
-TellsText j (Err fault) (refusal.Check unknown) = ⊥
-
--- and of the file that has the one or the other
-abbrev pub TellsFile : Bool → decoder.Job → List ℕ → Refusal → Type 0
-TellsFile true j file e = TellsText j (hex_bytes file) e
-TellsFile false j file e = TellsBytes j file e
-
--- a refusal that bytes which are all there may meet
-abbrev pub IsOfBytes : Refusal → Type 0
-IsOfBytes (refusal.UnknownType id) = Unit {0}
-IsOfBytes (refusal.Hex fault) = Unit {0}
-IsOfBytes (refusal.Value fault) = Unit {0}
-IsOfBytes (refusal.TrailingValue at) = Unit {0}
-IsOfBytes refusal.Memory = Unit {0}
-IsOfBytes (refusal.Registry fault) = ⊥
-IsOfBytes (refusal.TrailingRegistry at) = ⊥
-IsOfBytes (refusal.Check unknown) = ⊥
-IsOfBytes (refusal.Device device) = ⊥
-
--- a refusal that reading a value may meet
-abbrev pub IsOfValue : Refusal → Type 0
-IsOfValue (refusal.UnknownType id) = Unit {0}
-IsOfValue (refusal.Hex fault) = Unit {0}
-IsOfValue (refusal.Value fault) = Unit {0}
-IsOfValue (refusal.TrailingValue at) = Unit {0}
-IsOfValue refusal.Memory = Unit {0}
-IsOfValue (refusal.Registry fault) = ⊥
-IsOfValue (refusal.TrailingRegistry at) = ⊥
-IsOfValue (refusal.Check unknown) = ⊥
-IsOfValue (refusal.Device d) = d ≡ device.Value
+-- and of its file, unless the device failed: the fault of its digits, or the same of the bytes that it has
+abbrev pub TellsFile : Bool → decoder.Job → List ℕ → ValueRefusal → Type 0
+TellsFile hex j file (value.Hex fault) = (hex ≡ true) × (hex_bytes file ≡ Err fault)
+TellsFile hex j file (value.Open fault) = Forbids None fault
+TellsFile hex j file (value.Fault fault) = (b : List ℕ) × (value_bytes hex file ≡ Some b) × Finishes j b (Err fault)
+TellsFile hex j file (value.TrailingBytes at) = (b : List ℕ) × (value_bytes hex file ≡ Some b) × Trails j at b
+TellsFile hex j file value.Device = Unit {0}
+TellsFile hex j file value.Memory = Unit {0}

@@ -1,28 +1,28 @@
 //! The command's engine: a job over readers and writers.
 
-ghost use Rattle.std.specs.Prelude.{◌≡◌, ◌≤◌, ◌⊎◌, true, None, Some, IfOk, IfErr, IfSome, IsErrOf, string_bytes};
+ghost use Rattle.std.specs.Prelude.{◌≡◌, ◌≤◌, ◌⊎◌, List, true, None, Some, IfOk, IfErr, IfSome, IsErrOf, string_bytes};
 ghost use Rattle.std.specs.Io.KnownBytes.{Keeps};
-ghost use Rattle.json_core.specs.Json.{json_seen};
-ghost use Rattle.scale_tool.specs.Answer.{HasFailed, IsServed, OnText, ReadsNoValue, WritesAll, WritesFront, line_of, types_text, value_text};
+ghost use Rattle.registry_core.specs.declared.type_info.TypeInfo.{TypeInfo};
+ghost use Rattle.scale_tool.specs.Answer.{HasType, IsServed, OnText, ReadsNoValue, WritesAll, WritesFront, line_of, types_text, types_with, value_text};
 ghost use Rattle.scale_tool.specs.Refused.{status_of};
 
+use crate::early_exit::unopened;
 use crate::lines::type_lines;
 use crate::refusal::{Device, Refusal};
 use crate::registry::{read_types, read_types_with};
 use crate::task::Job;
 use crate::value::read_value;
-use json_core::to_json;
+use json_core::json_text;
 use scale_core::{Sink, Source};
 use std::alloc::{AllocError, Global};
 use std::io::{Read, Write};
 use value_core::{Value, send};
 
-/// The value's JSON and a line feed.
+/// The text of a value's JSON and a line feed.
 fn line_text(alloc: Global, value: &Value<'_, Global>) -> Result<String, AllocError>
-    ensures { IfOk result (λ text. string_bytes text ≡ line_of (json_seen value.now)) }
+    ensures { IfOk result (λ text. string_bytes text ≡ line_of value.now) }
 {
-    let json = to_json(alloc, value)?;
-    let mut text = json.to_string(alloc)?;
+    let mut text = json_text(alloc, value)?;
     text.push_str("\n")?;
     Ok(text)
 }
@@ -35,9 +35,9 @@ fn types_text<R: Read>(
 ) -> Result<String, Refusal>
     ensures ok { IfOk result (λ text. IfSome (R.remaining registry.old.device) (λ r. types_text metadata r ≡ Some (string_bytes text))) }
     ensures refused { IfErr result (λ e. status_of e ≡ 1 → IfSome (R.remaining registry.old.device) (λ r. types_text metadata r ≡ None)) }
-    ensures device { IfErr result (λ e. status_of e ≡ 3 → e ≡ Refusal.Device Device.Registry) }
-    ensures told { IsErrOf result (Refusal.Device Device.Registry) → registry.new.failed ≡ true }
-    ensures quiet { IsErrOf result (Refusal.Device Device.Registry) ⊎ (registry.new.failed ≡ registry.old.failed) }
+    ensures device { IfErr result (λ e. status_of e ≡ 3 → e ≡ Refusal.RegistryDevice) }
+    ensures told { IsErrOf result Refusal.RegistryDevice → registry.new.failed ≡ true }
+    ensures quiet { IsErrOf result Refusal.RegistryDevice ⊎ (registry.new.failed ≡ registry.old.failed) }
 {
     let checked = read_types(alloc, metadata, registry)?;
     Ok(type_lines(alloc, &checked)?)
@@ -56,9 +56,12 @@ fn value_text<R: Read, V: Read>(
     requires { depth ≤ 1024 }
     ensures ok { IfOk result (λ text. IfSome (R.remaining registry.old.device) (λ r. IfSome (V.remaining value.old.device) (λ v. value_text metadata hex id depth r v ≡ Some (string_bytes text)))) }
     ensures refused { IfErr result (λ e. status_of e ≡ 1 → IfSome (R.remaining registry.old.device) (λ r. IfSome (V.remaining value.old.device) (λ v. value_text metadata hex id depth r v ≡ None))) }
-    ensures device { IfErr result (λ e. HasFailed e registry.new.failed value.new.failed) }
-    ensures registry { IsErrOf result (Refusal.Device Device.Registry) ⊎ (registry.new.failed ≡ registry.old.failed) }
-    ensures value { IsErrOf result (Refusal.Device Device.Value) ⊎ (value.new.failed ≡ value.old.failed) }
+    ensures registry_failed { IsErrOf result Refusal.RegistryDevice → registry.new.failed ≡ true }
+    ensures value_failed { IsErrOf result Refusal.ValueDevice → value.new.failed ≡ true }
+    ensures registry { IsErrOf result Refusal.RegistryDevice ⊎ (registry.new.failed ≡ registry.old.failed) }
+    ensures value { IsErrOf result Refusal.ValueDevice ⊎ (value.new.failed ≡ value.old.failed) }
+    ensures read_last { (value.new ≡ value.old) ⊎ ((registry.new.failed ≡ registry.old.failed)
+        × IfSome (R.remaining registry.old.device) (λ r. (types : List TypeInfo) × (types_with metadata id r ≡ Some types))) }
 {
     let checked = read_types_with(alloc, metadata, id, registry)?;
     let value = read_value(alloc, &checked, id, depth, hex, value)?;
@@ -75,10 +78,13 @@ fn answer<R: Read, V: Read>(
     requires { IsServed job }
     ensures ok { IfOk result (λ text. OnText job (R.remaining registry.old.device) (V.remaining value.old.device) (λ t. t ≡ Some (string_bytes text))) }
     ensures refused { IfErr result (λ e. status_of e ≡ 1 → OnText job (R.remaining registry.old.device) (V.remaining value.old.device) (λ t. t ≡ None)) }
-    ensures device { IfErr result (λ e. HasFailed e registry.new.failed value.new.failed) }
-    ensures registry { IsErrOf result (Refusal.Device Device.Registry) ⊎ (registry.new.failed ≡ registry.old.failed) }
-    ensures value { IsErrOf result (Refusal.Device Device.Value) ⊎ (value.new.failed ≡ value.old.failed) }
+    ensures registry_failed { IsErrOf result Refusal.RegistryDevice → registry.new.failed ≡ true }
+    ensures value_failed { IsErrOf result Refusal.ValueDevice → value.new.failed ≡ true }
+    ensures registry { IsErrOf result Refusal.RegistryDevice ⊎ (registry.new.failed ≡ registry.old.failed) }
+    ensures value { IsErrOf result Refusal.ValueDevice ⊎ (value.new.failed ≡ value.old.failed) }
     ensures unread { ReadsNoValue job → value.new ≡ value.old }
+    ensures read_last { (value.new ≡ value.old) ⊎ ((registry.new.failed ≡ registry.old.failed)
+        × HasType job (R.remaining registry.old.device)) }
 {
     match job {
         Job::Types { metadata } => types_text(alloc, metadata, registry),
@@ -91,7 +97,7 @@ fn answer<R: Read, V: Read>(
     }
 }
 
-/// Tells the refusal on `err` in one line, and answers its status. Where there is no memory for the line, that is told.
+/// Reports the refusal on `err` in one line, and answers its status; or want of memory, where there is none for the line.
 fn refuse<E: Write>(alloc: Global, refusal: Refusal, err: &mut Sink<E>) -> u8
     ensures { (result ≡ status_of refusal) ⊎ ((status_of refusal ≡ 1) × (result ≡ 4)) }
 {
@@ -112,7 +118,8 @@ fn refuse<E: Write>(alloc: Global, refusal: Refusal, err: &mut Sink<E>) -> u8
 }
 
 /// Does the job on the bytes of a registry and a value: writes its text to `out` and answers 0, or writes one line to
-/// `err` and answers why there is no text. The value is read only once the registry and the type stand.
+/// `err` and answers why there is no text. The value is read only once the registry and the type stand: where either is
+/// refused, or the registry's device fails, no byte of the value is touched.
 ///
 /// The status is 1 where the registry, the type or the value is refused, 3 where a read or a write failed, or a write
 /// took nothing, and 4 where memory was refused. With 1 and 4 nothing was written to `out`, and with 3 a beginning of
@@ -148,11 +155,15 @@ pub fn run<R: Read, V: Read, W: Write, E: Write>(
 
     // The job that shows types does not touch the value.
     ensures unread { ReadsNoValue job → value.new ≡ value.old }
+
+    // The value is untouched where the registry is refused or its device fails, and where the type is none of its types.
+    ensures read_last { (value.new ≡ value.old) ⊎ ((registry.new.failed ≡ registry.old.failed)
+        × HasType job (R.remaining registry.old.device)) }
 {
     match answer(alloc, job, registry, value) {
         Ok(text) => match send(out, text.as_bytes()) {
             Ok(()) => 0,
-            Err(_) => refuse(alloc, Refusal::Device(Device::Output), err),
+            Err(_) => unopened(Device::Output, err),
         },
         Err(refusal) => refuse(alloc, refusal, err),
     }

@@ -3,9 +3,7 @@
 ghost use Rattle.std.specs.Prelude.{◌≡◌, ◌+◌, ◌++◌, ◌<◌, ◌≤◌, ◌⊎◌, true, length, vec_len, IfOk, IfSome, OnOk, IsErrOf};
 ghost use Rattle.std.specs.Io.KnownBytes.{IsAtEnd};
 ghost use Rattle.scale_tool.specs.Moved.{Takes};
-ghost use Rattle.scale_tool.specs.Refused.{refusal_of};
 
-use crate::refusal::{Device, Refusal};
 use scale_core::Source;
 use std::alloc::Global;
 use std::io::Read;
@@ -14,22 +12,12 @@ use std::io::Read;
 const PIECE: usize = 4096;
 
 /// Why bytes were not gathered.
-#[derive(Clone, Copy, Debug, PartialEq, Eq)]
+#[derive(Clone, Copy)]
 pub(crate) enum GatherFault {
+    /// A read failed.
     Device,
+    /// Memory was refused.
     Memory,
-}
-
-impl GatherFault {
-    /// The refusal of an input that this device gives.
-    pub(crate) fn of(self, device: Device) -> Refusal
-        ensures { result ≡ refusal_of self device }
-    {
-        match self {
-            GatherFault::Device => Refusal::Device(device),
-            GatherFault::Memory => Refusal::Memory,
-        }
-    }
 }
 
 /// One read into the part, whose bytes are appended: how many there were, where 0 is the end.

@@ -3,7 +3,7 @@
 ghost use Rattle.std.specs.Prelude.{◌≡◌, ◌≤◌, length, IfOk, IfErr, Ok};
 ghost use Rattle.scale_tool.specs.HexText.{IsOfHex, back_over, digits_end, hex_bytes, prefix_len};
 
-use crate::refusal::{HexFault, Refusal};
+use crate::refusal::{HexFault, HexRefusal};
 use hex::FromHexError;
 use std::alloc::Global;
 
@@ -45,21 +45,21 @@ fn digits_end(text: &[u8]) -> usize
 ///
 /// Refuses an odd number of bytes between prefix and line end as `Odd` at the end of them, else the first of them that
 /// is no digit as `Bad` at its place in the text, and want of memory as `Memory`.
-pub(crate) fn hex_bytes(alloc: Global, text: &[u8]) -> Result<Vec<u8>, Refusal>
+pub(crate) fn hex_bytes(alloc: Global, text: &[u8]) -> Result<Vec<u8>, HexRefusal>
     ensures ok { IfOk result (λ bytes. hex_bytes text.now ≡ Ok bytes.items) }
     ensures err { IfErr result (IsOfHex (hex_bytes text.now)) }
 {
     let start = prefix_len(text);
     let rest = &text[start..];
     let end = digits_end(rest);
-    let odd = Refusal::Hex(HexFault::Odd((start + end) as u64));
+    let odd = HexRefusal::Fault(HexFault::Odd((start + end) as u64));
     match hex::decode(alloc, &rest[..end]) {
         Ok(bytes) => Ok(bytes),
         Err(FromHexError::InvalidHexCharacter { index, .. }) => {
-            Err(Refusal::Hex(HexFault::Bad((start + index) as u64)))
+            Err(HexRefusal::Fault(HexFault::Bad((start + index) as u64)))
         }
         Err(FromHexError::OddLength) => Err(odd),
         Err(FromHexError::InvalidStringLength) => Err(odd),
-        Err(FromHexError::OutOfMemory) => Err(Refusal::Memory),
+        Err(FromHexError::OutOfMemory) => Err(HexRefusal::Memory),
     }
 }

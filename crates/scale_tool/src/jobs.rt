@@ -10,6 +10,7 @@ ghost use Rattle.scale_tool.specs.declared.jobs.JobFault.TheVariants.{Memory};
 
 use crate::commands::line_matches;
 use crate::task::Job;
+use clap::error::ErrorKind;
 use clap::{ArgMatches, Error};
 use grammar_core::{Limits, MAX_DEPTH};
 use std::alloc::{AllocError, Global};
@@ -17,11 +18,17 @@ use std::alloc::{AllocError, Global};
 /// Why a command line names no job.
 #[derive(Debug, Drop)]
 pub enum JobFault {
-    /// What `clap` says of the line: the help that it asks for, what is wrong with it, or want of memory.
-    Line(Error),
-    /// ID is no number from 0 to 4294967295 in ASCII digits alone, or D none from 0 to 1024.
+    /// What `clap` says of the line: the help that it asks for (status 0, or 3 where it can't be written), or what is
+    /// wrong with it (status 2).
+    Line {
+        /// What `clap` answered, which is no want of memory.
+        error: Error,
+        /// The text that it has for it.
+        text: String,
+    },
+    /// ID is no number from 0 to 4294967295 in ASCII digits alone, or D none from 0 to 1024 (status 2).
     Usage,
-    /// Memory was refused.
+    /// Memory was refused, to `clap` or to what is made of its answer (status 4).
     Memory,
 }
 
@@ -123,8 +130,13 @@ fn owned(alloc: Global, text: Option<&str>) -> Result<Option<String>, AllocError
 /// The job that the words of a command line name, FILE and, where the job has one, VALUEFILE. The program's name is
 /// the first word.
 ///
-/// Refuses with `Line` where `clap` answers help or a usage error or wants memory, with `Usage` where ID is not ASCII
-/// digits alone or above 4294967295, or D not such digits or above 1024, and with `Memory` where memory is refused.
+/// Refuses, and keeps nothing then:
+/// - with `Line` where `clap` answers no matches: help that the words ask for, whose status is 0, or a usage error,
+///   whose status is 2: an unknown word or option, an argument that is missing, left over or given twice;
+/// - with `Usage`, status 2, where `clap` takes the words, and ID is not ASCII digits alone or is above 4294967295, or D
+///   is not ASCII digits alone or is above 1024; leading zeros are allowed, and a sign, a blank or nothing is no digit;
+/// - with `Memory`, status 4, where memory is refused: to `clap`, to the text of what it says, or to the names of the
+///   files.
 pub fn job(alloc: Global, words: &[&str]) -> Result<(Job, String, Option<String>), JobFault>
     ensures ok { IfOk result (λ j. IsJob j.0 (string_bytes j.1) (option_map string_bytes j.2) (subcommand_of line (map (λ s. s.now) words.now))) }
     ensures served { IfOk result (λ j. IsServed j.0) }
@@ -139,6 +151,10 @@ pub fn job(alloc: Global, words: &[&str]) -> Result<(Job, String, Option<String>
             }
             None => Err(JobFault::Usage),
         },
-        Err(error) => Err(JobFault::Line(error)),
+        Err(error) if error.kind() == ErrorKind::OutOfMemory => Err(JobFault::Memory),
+        Err(error) => {
+            let text = error.to_string(alloc)?;
+            Err(JobFault::Line { error, text })
+        }
     }
 }

@@ -1,12 +1,14 @@
-//! Why the command answers nothing: the line that it tells on standard error, and its exit status.
+//! Why the command answers nothing: what each part of a job may meet, and the refusal of the whole, which is the line on
+//! standard error and the exit status.
 
 ghost use Rattle.std.specs.Prelude.{◌≡◌, IfNone, option_map};
-ghost use Rattle.scale_tool.specs.Refused.{device_line, fixed_line, refusal_of_check, refusal_of_registry, refusal_of_value, status_of};
+ghost use Rattle.scale_tool.specs.Refused.{device_line, fixed_line, refusal_of_registry, refusal_of_value, registry_refusal, check_refusal, bytes_refusal, hex_in_value, bytes_in_value, gathered_refusal, status_of};
 ghost use Rattle.scale_tool.specs.declared.refusal.Refusal.TheVariants.{Memory};
 
-use decode_core::{DecodeFault, DecodeReason};
+use crate::gathering::GatherFault;
+use decode_core::{DecodeFault, DecodeReason, OpenFault};
 use registry_core::{RegistryFault, RegistryReason};
-use std::alloc::{AllocError, AllocFailed};
+use std::alloc::AllocError;
 use thiserror::Error;
 use widths_core::CheckFault;
 
@@ -19,7 +21,7 @@ pub enum Device {
 }
 
 impl Device {
-    /// The line that tells its failure.
+    /// The line that reports its failure.
     pub(crate) fn line(self) -> &'static str
         ensures { result.now ≡ device_line self }
     {
@@ -32,15 +34,53 @@ impl Device {
 }
 
 /// The type `from` refers to the type `to`, which is not there.
-#[derive(Clone, Copy, Debug, PartialEq, Eq, Error)]
+#[derive(Clone, Copy, Debug, Error)]
 #[error("UnknownType {to} in type {from}")]
 pub(crate) struct UnknownReference {
     pub(crate) from: u32,
     pub(crate) to: u32,
 }
 
+/// Why bytes hold no checked registry.
+#[derive(Clone, Copy)]
+pub(crate) enum RegistryRefusal {
+    /// The first fault of the bytes.
+    Fault(RegistryFault),
+    /// Bytes follow the registry, which has so many.
+    TrailingBytes(u64),
+    /// A type refers to one that is not there.
+    Check(UnknownReference),
+    /// Memory was refused.
+    Memory,
+}
+
+impl From<RegistryFault> for RegistryRefusal {
+    ghost from_gives = { λ f r. r ≡ registry_refusal f };
+
+    fn from(fault: RegistryFault) -> RegistryRefusal {
+        match fault.reason {
+            RegistryReason::OutOfMemory => RegistryRefusal::Memory,
+            _ => RegistryRefusal::Fault(fault),
+        }
+    }
+}
+
+impl From<CheckFault> for RegistryRefusal {
+    ghost from_gives = { λ f r. r ≡ check_refusal f };
+
+    fn from(fault: CheckFault) -> RegistryRefusal {
+        match fault {
+            CheckFault::UnknownType { from, to } => RegistryRefusal::Check(UnknownReference {
+                from: from.0,
+                to: to.0,
+            }),
+            CheckFault::OutOfMemory => RegistryRefusal::Memory,
+        }
+    }
+}
+
 /// Why a text of hexadecimal digits holds no bytes, and where in its file.
-#[derive(Clone, Copy, Debug, PartialEq, Eq, Error)]
+#[derive(Clone, Copy, Debug, Error)]
 pub(crate) enum HexFault {
     /// The digits are odd in number. The place is their end.
     #[error("OddHex at {0}")]
@@ -50,8 +90,89 @@ pub(crate) enum HexFault {
     Bad(u64),
 }
 
+/// Why a text of hexadecimal digits gives no bytes.
+#[derive(Clone, Copy)]
+pub(crate) enum HexRefusal {
+    Fault(HexFault),
+    /// Memory was refused.
+    Memory,
+}
+
+/// Why bytes that are all there are no value of a type of the registry.
+#[derive(Clone, Copy)]
+pub(crate) enum BytesRefusal {
+    /// The first fault of the bytes.
+    Fault(DecodeFault),
+    /// Bytes follow the value, which has so many.
+    TrailingBytes(u64),
+    /// Memory was refused.
+    Memory,
+}
+
+impl From<DecodeFault> for BytesRefusal {
+    ghost from_gives = { λ f r. r ≡ bytes_refusal f };
+
+    fn from(fault: DecodeFault) -> BytesRefusal {
+        match fault.reason {
+            DecodeReason::OutOfMemory => BytesRefusal::Memory,
+            _ => BytesRefusal::Fault(fault),
+        }
+    }
+}
+
+/// Why a value's file gives no value of a type of the registry.
+#[derive(Clone, Copy)]
+pub(crate) enum ValueRefusal {
+    /// The file is to hold digits, and does not.
+    Hex(HexFault),
+    /// No decoder is made of the type and the limits.
+    Open(OpenFault),
+    /// The first fault of the value's bytes.
+    Fault(DecodeFault),
+    /// Bytes follow the value, which has so many.
+    TrailingBytes(u64),
+    /// A read failed.
+    Device,
+    /// Memory was refused.
+    Memory,
+}
+
+impl From<HexRefusal> for ValueRefusal {
+    ghost from_gives = { λ f r. r ≡ hex_in_value f };
+
+    fn from(refusal: HexRefusal) -> ValueRefusal {
+        match refusal {
+            HexRefusal::Fault(fault) => ValueRefusal::Hex(fault),
+            HexRefusal::Memory => ValueRefusal::Memory,
+        }
+    }
+}
+
+impl From<BytesRefusal> for ValueRefusal {
+    ghost from_gives = { λ f r. r ≡ bytes_in_value f };
+
+    fn from(refusal: BytesRefusal) -> ValueRefusal {
+        match refusal {
+            BytesRefusal::Fault(fault) => ValueRefusal::Fault(fault),
+            BytesRefusal::TrailingBytes(at) => ValueRefusal::TrailingBytes(at),
+            BytesRefusal::Memory => ValueRefusal::Memory,
+        }
+    }
+}
+
+impl From<GatherFault> for ValueRefusal {
+    ghost from_gives = { λ f r. r ≡ gathered_refusal f };
+
+    fn from(fault: GatherFault) -> ValueRefusal {
+        match fault {
+            GatherFault::Device => ValueRefusal::Device,
+            GatherFault::Memory => ValueRefusal::Memory,
+        }
+    }
+}
+
 /// Why there is no answer. Its text is the line on standard error without `scaleview: ` in front.
-#[derive(Clone, Copy, Debug, PartialEq, Eq, Error)]
+#[derive(Clone, Copy, Debug, Error)]
 pub(crate) enum Refusal {
     #[error("registry: {0}")]
     Registry(RegistryFault),
@@ -64,11 +185,15 @@ pub(crate) enum Refusal {
     #[error("value: {0}")]
     Hex(HexFault),
     #[error("value: {0}")]
+    Open(OpenFault),
+    #[error("value: {0}")]
     Value(DecodeFault),
     #[error("value: TrailingBytes at {0}")]
     TrailingValue(u64),
-    #[error("device")]
-    Device(Device),
+    #[error("device: registry")]
+    RegistryDevice,
+    #[error("device: value")]
+    ValueDevice,
     #[error("memory")]
     Memory,
 }
@@ -79,7 +204,7 @@ impl Refusal {
         ensures { result ≡ status_of self }
     {
         match self {
-            Refusal::Device(_) => 3,
+            Refusal::RegistryDevice | Refusal::ValueDevice => 3,
             Refusal::Memory => 4,
             _ => 1,
         }
@@ -91,45 +216,38 @@ impl Refusal {
         ensures none { IfNone result (status_of self ≡ 1) }
     {
         match self {
-            Refusal::Device(device) => Some(device.line()),
+            Refusal::RegistryDevice => Some(Device::Registry.line()),
+            Refusal::ValueDevice => Some(Device::Value.line()),
             Refusal::Memory => Some("scaleview: memory\n"),
             _ => None,
         }
     }
 }
 
-impl From<RegistryFault> for Refusal {
+impl From<RegistryRefusal> for Refusal {
     ghost from_gives = { λ f r. r ≡ refusal_of_registry f };
 
-    fn from(fault: RegistryFault) -> Refusal {
-        match fault.reason {
-            RegistryReason::OutOfMemory => Refusal::Memory,
-            _ => Refusal::Registry(fault),
+    fn from(refusal: RegistryRefusal) -> Refusal {
+        match refusal {
+            RegistryRefusal::Fault(fault) => Refusal::Registry(fault),
+            RegistryRefusal::TrailingBytes(at) => Refusal::TrailingRegistry(at),
+            RegistryRefusal::Check(unknown) => Refusal::Check(unknown),
+            RegistryRefusal::Memory => Refusal::Memory,
         }
     }
 }
 
-impl From<CheckFault> for Refusal {
-    ghost from_gives = { λ f r. r ≡ refusal_of_check f };
-
-    fn from(fault: CheckFault) -> Refusal {
-        match fault {
-            CheckFault::UnknownType { from, to } => Refusal::Check(UnknownReference {
-                from: from.0,
-                to: to.0,
-            }),
-            CheckFault::OutOfMemory => Refusal::Memory,
-        }
-    }
-}
-
-impl From<DecodeFault> for Refusal {
+impl From<ValueRefusal> for Refusal {
     ghost from_gives = { λ f r. r ≡ refusal_of_value f };
 
-    fn from(fault: DecodeFault) -> Refusal {
-        match fault.reason {
-            DecodeReason::OutOfMemory => Refusal::Memory,
-            _ => Refusal::Value(fault),
+    fn from(refusal: ValueRefusal) -> Refusal {
+        match refusal {
+            ValueRefusal::Hex(fault) => Refusal::Hex(fault),
+            ValueRefusal::Open(fault) => Refusal::Open(fault),
+            ValueRefusal::Fault(fault) => Refusal::Value(fault),
+            ValueRefusal::TrailingBytes(at) => Refusal::TrailingValue(at),
+            ValueRefusal::Device => Refusal::ValueDevice,
+            ValueRefusal::Memory => Refusal::Memory,
         }
     }
 }
@@ -138,14 +256,6 @@ impl From<AllocError> for Refusal {
     ghost from_gives = { λ _ r. r ≡ Memory };
 
     fn from(_error: AllocError) -> Refusal {
-        Refusal::Memory
-    }
-}
-
-impl<T: Drop> From<AllocFailed<T>> for Refusal {
-    ghost from_gives = { λ _ r. r ≡ Memory };
-
-    fn from(_error: AllocFailed<T>) -> Refusal {
         Refusal::Memory
     }
 }

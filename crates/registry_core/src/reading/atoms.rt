@@ -52,7 +52,7 @@ pub(crate) fn word_of(bytes: &[u8]) -> Result<(u32, &[u8]), Stop<'_>>
 {
     match read_u32(bytes) {
         Ok((number, len)) => Ok((number, &bytes[len..])),
-        Err(fault) => Err(Stop::at_fault(fault, bytes)),
+        Err(_) => Err(Stop::Fault(RegistryReason::Truncated, &bytes[bytes.len()..])),
     }
 }
 

@@ -1,6 +1,6 @@
 //! Why a part of a registry was not read.
 
-ghost use Rattle.std.specs.Prelude.{◌≡◌, ◌≤◌, length, drop};
+ghost use Rattle.std.specs.Prelude.{◌≡◌, ◌≢◌, ◌≤◌, length, drop};
 ghost use Rattle.registry_core.specs.Gives.{IsFaultAt, IsWithin, fault_of};
 ghost use Rattle.registry_core.specs.Reading.{reason_of};
 ghost use Rattle.registry_core.specs.declared.reading.stop.Stop.TheVariants.{Memory};
@@ -18,23 +18,25 @@ pub(crate) enum Stop<'a> {
     Fault(RegistryReason, &'a [u8]),
 }
 
-/// Why a number or a text is refused, as a reason of the registry. Neither is refused as a boolean or a character.
+/// Why a length, an id or a text is refused, as a reason of the registry. None is refused as a boolean or a character.
 fn registry_reason(reason: Reason) -> RegistryReason
+    requires { (reason ≢ Reason.BadBool) × (reason ≢ Reason.BadChar) }
     ensures { result ≡ reason_of reason }
 {
     match reason {
         Reason::Truncated => RegistryReason::Truncated,
-        Reason::BadUtf8 | Reason::BadChar => RegistryReason::BadUtf8,
+        Reason::BadUtf8 => RegistryReason::BadUtf8,
         Reason::CompactNotShortest => RegistryReason::CompactNotShortest,
         Reason::CompactTooLarge => RegistryReason::CompactTooLarge,
-        Reason::BadBool => RegistryReason::BadOption,
+        Reason::BadBool | Reason::BadChar => unreachable!(),
     }
 }
 
 impl<'a> Stop<'a> {
-    /// The fault of a number or a text on the front of these bytes.
+    /// The fault of a length, an id or a text on the front of these bytes.
     pub(crate) fn at_fault(fault: Fault, bytes: &'a [u8]) -> Stop<'a>
-        requires { fault.at ≤ length bytes.now }
+        requires within { fault.at ≤ length bytes.now }
+        requires reason { (fault.reason ≢ Reason.BadBool) × (fault.reason ≢ Reason.BadChar) }
         ensures { IsFaultAt (reason_of fault.reason) (drop fault.at bytes.now) result }
     {
         let left = &bytes[fault.at as usize..];

@@ -4,17 +4,17 @@ use Rattle.std.proofs.lemmas.Result.{err_from_is_err_and}
 use Rattle.scale_core.proofs.ReadTexts.{IsWhole, text_at-fault, text_at-cut, text_at-valid, text_at-bad, whole-bound, place-bad}
 use Rattle.scale_core.proofs.text.read_text.Goals as goal
 
-pub returns-in_err-count : goal.returns-in_err-count
-returns-in_err-count c =
+pub returns-in_err-count-clause-reads : goal.returns-in_err-count-clause-reads
+returns-in_err-count-clause-reads c =
     let p = err_from_is_err_and c.from_residual.result c.from_residual.ensures.1 in
     let h = c.in_err-count.ensures.reads in
     rw (p.1, p.2) (h.0, text_at-fault c.args.bytes.now _ h.1, h.2)
 
-pub returns-in_default : goal.returns-in_default
-returns-in_default c = ([], text_at-cut c.args.bytes.now c.in_ok-count.start c.in_ok-count.count c.in_ok-count.ensures.reads.1 c.in_default.ensures.lookup.0, omega arith)
+pub returns-in_default-clause-reads : goal.returns-in_default-clause-reads
+returns-in_default-clause-reads c = ([], text_at-cut c.args.bytes.now c.in_ok-count.start c.in_ok-count.count c.in_ok-count.ensures.reads.1 c.in_default.ensures.lookup.0, omega arith)
 
-pub returns-in-Ok : goal.returns-in-Ok
-returns-in-Ok c =
+pub returns-in-Ok-clause-reads : goal.returns-in-Ok-clause-reads
+returns-in-Ok-clause-reads c =
     let reads = c.in_ok-count.ensures.reads in
     let part = c.in-Some.ensures.lookup.0 in
     let w : IsWhole c.args.bytes.now c.in-Some.spelled.now c.in_ok-count.start c.in_ok-count.count = record { length_is = reads.1; there = part.1; is = part.2; len = part.3 } in (
@@ -22,8 +22,8 @@ returns-in-Ok c =
       text_at-valid c.args.bytes.now c.in-Some.spelled.now c.in-Ok.text.now c.in_ok-count.start c.in_ok-count.count w c.in-Ok.ensures.cases.0 c.in-Ok.ensures.cases.1,
     )
 
-pub returns-in-Err : goal.returns-in-Err
-returns-in-Err c =
+pub returns-in-Err-clause-reads : goal.returns-in-Err-clause-reads
+returns-in-Err-clause-reads c =
     let reads = c.in_ok-count.ensures.reads in
     let part = c.in-Some.ensures.lookup.0 in
     let w : IsWhole c.args.bytes.now c.in-Some.spelled.now c.in_ok-count.start c.in_ok-count.count = record { length_is = reads.1; there = part.1; is = part.2; len = part.3 } in (

@@ -1,6 +1,6 @@
-use Rattle.std.proofs.Common.{◌≡◌, None}
-use Rattle.scale_tool.specs.Refused.{status_of}
-use Rattle.scale_tool.specs.Values.{TellsBytes, decoding, value_in}
+use Rattle.std.proofs.Common.{◌≡◌, None, false}
+use Rattle.scale_tool.specs.Refused.{status_of_value}
+use Rattle.scale_tool.specs.Values.{TellsFile, decoding, value_in}
 use Rattle.scale_tool.proofs.Decoded.{stream_fault, stream_tells, stream_value, where_known}
 use Rattle.scale_tool.proofs.value.read_raw.Goals as goal
 
@@ -10,10 +10,10 @@ returns-in-Ok-clause-value g c =
 
 pub returns-in-Err-clause-value : goal.returns-in-Err-clause-value
 returns-in-Err-clause-value g c =
-    where_known _ _ (λ b. status_of c.of_stream.result ≡ 1 → value_in c.args.id c.args.depth c.args.checked.now b ≡ None) (λ b h one. stream_fault c.args.id c.args.depth c.args.checked.now c.limits.result b c.in-Err.fault c.limits.ensures c.requires.known c.requires.depth h
+    where_known _ _ (λ b. status_of_value c.of_stream.result ≡ 1 → value_in c.args.id c.args.depth c.args.checked.now b ≡ None) (λ b h one. stream_fault c.args.id c.args.depth c.args.checked.now c.limits.result b c.in-Err.fault c.limits.ensures c.requires.known c.requires.depth h
     (rw c.of_stream.ensures at one)) c.in-Err.ensures.answers
 
 pub returns-in-Err-clause-tells : goal.returns-in-Err-clause-tells
 returns-in-Err-clause-tells g c =
-    where_known _ _ (λ b. TellsBytes (decoding c.args.id c.args.depth c.args.checked.now) b c.of_stream.result)
+    where_known _ _ (λ b. TellsFile false (decoding c.args.id c.args.depth c.args.checked.now) b c.of_stream.result)
     (λ b h. rw c.of_stream.ensures (stream_tells c.args.id c.args.depth c.args.checked.now c.limits.result b c.in-Err.fault c.limits.ensures c.requires.known c.requires.depth h)) c.in-Err.ensures.answers

@@ -1,6 +1,10 @@
 use Rattle.std.proofs.Common.{rules}
-use Rattle.scale_tool.proofs.Decoded.{joined_fault, joined_front, joined_tells, joined_trails, joined_value}
+use Rattle.scale_tool.proofs.Decoded.{joined_fault, joined_front, joined_opens, joined_tells, joined_trails, joined_value}
 use Rattle.scale_tool.proofs.value.value_of.Goals as goal
+
+pub of_pieces-requires : goal.of_pieces-requires
+of_pieces-requires c =
+    joined_opens c.args.id c.args.depth c.args.checked.now c.limits.result _ c.in-Err.fault c.limits.ensures c.requires.known c.requires.depth c.in-Err.ensures
 
 pub returns-then-taken-bytes-clause-value : goal.returns-then-taken-bytes-clause-value
 returns-then-taken-bytes-clause-value c =
