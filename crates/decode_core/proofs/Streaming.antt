@@ -135,15 +135,13 @@ all_known (Some xs) (Some ys) b c end = c ∙ ap (λ (l : List ℕ). b ++ l) end
 pub stops_open : (known mid left : Option (List ℕ)) (j : Job) (b : List ℕ) → Consumes known mid b → Keeps mid left → LeavesOpen j b → StopsOpen j known left
 stops_open known mid left j b c k h = (b, Consumes-kept known mid left b c k, h)
 
--- more is wanted
-pub more_open : (old new : Decoding) (b : List ℕ) (p : Progress) → p ≡ progress.More → Answers old new b (Ok p) → LeavesOpen new.job b
-more_open old new b p is h =
-    let out = subst (λ (q : Progress). Answers old new b (Ok q)) is h in
-    inl (subst (IsOutcome new.job b more) out.2 out)
+-- nothing was read, or more is wanted
+pub under_way_open : (d : Decoding) (b : List ℕ) → IsUnderWay d b → LeavesOpen d.job b
+under_way_open d b h = elim h.goes_on [ inl none ↦ inl none | inr out ↦ inr (inl out) ]
 
 -- the value has all these bytes
 done_open : (j : Job) (b : List ℕ) (v : Tree) (n : ℕ) → IsOutcome j b (done v) n → length b ≤ n → LeavesOpen j b
-done_open j b v n h long = let all : n ≡ length b = omega (arith, long, done_fits j b v n h) in inr (v, subst (IsOutcome j b (done v)) all h)
+done_open j b v n h long = let all : n ≡ length b = omega (arith, long, done_fits j b v n h) in inr (inr (v, subst (IsOutcome j b (done v)) all h))
 
 -- what a look behind a whole value says
 pub look_feeds : (known left end : Option (List ℕ)) (d : Decoding) (b : List ℕ) (v : Tree) (r : Result Bool StreamFault) → Consumes known left b → IsOutcome d.job b (done v) d.taken → Led d b → length b ≤ d.taken → Looks left end r → FeedsAll d known end r

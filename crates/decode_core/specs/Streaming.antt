@@ -32,9 +32,10 @@ IsOfJob j v = (v.types ≡ j.registry) × (v.ty ≡ j.ty)
 abbrev pub Trails : Job → ℕ → List ℕ → Type 0
 Trails j n b = (v : Tree) × IsOutcome j b (done v) n × (n < length b)
 
--- these bytes leave open what the answer is: more are wanted, or they are a value's and one may follow them
+-- these bytes leave open what the answer is: there are none, and a read comes before any answer; or more are wanted; or they are a
+-- value's, and one may follow them
 abbrev pub LeavesOpen : Job → List ℕ → Type 0
-LeavesOpen j b = IsOutcome j b more (length b) ⊎ ((v : Tree) × IsOutcome j b (done v) (length b))
+LeavesOpen j b = (length b ≡ 0) ⊎ (IsOutcome j b more (length b) ⊎ ((v : Tree) × IsOutcome j b (done v) (length b)))
 
 -- the bytes that were read leave it open
 abbrev pub StopsOpen : Job → Option (List ℕ) → Option (List ℕ) → Type 0

@@ -74,8 +74,7 @@ fn has_more<R: Read>(source: &mut Source<R>) -> Result<bool, StreamFault>
     Ok(count > 0)
 }
 
-/// Feeds a decoder that has taken nothing, no byte first, until its value is whole or none is left: does one follow the
-/// value?
+/// Feeds a decoder that has taken nothing until its value is whole or no byte is left: does one follow the value?
 fn feed_all<A: Allocator, R: Read>(
     decoder: &mut Decoder<'_, A>,
     source: &mut Source<R>,
@@ -87,17 +86,16 @@ fn feed_all<A: Allocator, R: Read>(
     ensures quiet { IsErrOf result StreamFault.Device ⊎ (source.new.failed ≡ source.old.failed) }
 {
     let mut part = [0u8; PIECE];
-    let mut count = 0;
     'pieces: loop {
+        let count = source.pull(&mut part)?;
+        if count == 0 {
+            return Ok(false);
+        }
         if let Progress::Done { used } = decoder.feed(&part[..count])? {
             if used < count as u64 {
                 return Ok(true);
             }
             return has_more(source);
-        }
-        count = source.pull(&mut part)?;
-        if count == 0 {
-            return Ok(false);
         }
     }
 }
@@ -108,7 +106,8 @@ fn feed_all<A: Allocator, R: Read>(
 /// Refuses with `Open`, before it reads, what `Decoder::new` refuses; and with `Decode` what a decoder refuses in these
 /// bytes, which are then not read to their end, or where they end within the value, as `Truncated` at their number.
 /// Where a byte follows the value it is `TrailingBytes` at the value's length. It is `Device` where a read failed, and the
-/// bytes read before it leave the answer open: more are wanted, or they are all the value's and one may follow them.
+/// bytes read before it leave the answer open: there are none, for a read comes before any answer; or more are wanted; or
+/// they are all the value's, and one may follow them.
 /// `failed()` is true then, and else as it was. After each refusal nothing is kept. The reader has lost what was read, at
 /// most 4096 bytes after the one that decides.
 pub fn decode_all<'r, A: Allocator + Clone, R: Read>(

@@ -75,7 +75,7 @@ only_memory forbidden f none (inr is) = is.0
 
 -- a fault of the bytes, which is no want of memory
 ended : (id depth : ℕ) (types : List TypeInfo) (b : List ℕ) (f : DecodeFault) (n : ℕ) → status_of_bytes (bytes_refusal f) ≡ 1 → IsEnded (decoding id depth types) b f n → value_in id depth types b ≡ None
-ended id depth types b f n one (inl is) = let four : status_of_bytes (bytes_refusal f) ≡ 4 = ap (λ x. status_of_bytes (bytes_refusal x)) is in absurd (omega (arith, one, four))
+ended id depth types b f n one (inl is) = let four : status_of_bytes (bytes_refusal f) ≡ 4 = ap (λ x. status_of_bytes (bytes_refusal x)) is.0 in absurd (omega (arith, one, four))
 ended id depth types b f n one (inr (inl h)) = by_outcome id depth types b too_long n h.1
 ended id depth types b f n one (inr (inr h)) = by_outcome id depth types b (refused h.0 h.1) n h.3
 

@@ -1,15 +1,14 @@
-use Rattle.std.proofs.Common.{◌≡◌, ℕ, ◌+◌, ◌-◌, ◌≤◌, ◌++◌, List, take}
+use Rattle.std.proofs.Common.{◌≡◌, ℕ, ◌-◌, List}
 use Rattle.std.specs.Io.KnownBytes.{Consumes}
 use Rattle.decode_core.specs.Streaming.{IsUnderWay}
 use Rattle.decode_core.proofs.stream.feed_all.Given as goal
 
 abbrev pub invariant-pieces : goal.invariant-pieces
 invariant-pieces g l = record {
-  so_far : (b : List ℕ) × IsUnderWay l.decoder b × Consumes (g.R.Read.remaining l.fn.source.device) (g.R.Read.remaining l.source.device) (b ++ take l.count l.part);
+  so_far : (b : List ℕ) × IsUnderWay l.decoder b × Consumes (g.R.Read.remaining l.fn.source.device) (g.R.Read.remaining l.source.device) b;
   job : l.decoder.job ≡ l.fn.decoder.job;
-  few : l.count ≤ 4096;
   quiet : l.source.failed ≡ l.fn.source.failed;
 }
 
 abbrev pub decreases-pieces : goal.decreases-pieces
-decreases-pieces g l = l.fn.decoder.job.bytes + 4096 - (l.decoder.taken + l.count)
+decreases-pieces g l = l.fn.decoder.job.bytes - l.decoder.taken
