@@ -34,7 +34,7 @@ pub fn unopened<E: Write>(device: Device, err: &mut Sink<E>) -> u8
 ///
 /// At 0 the whole text of the help was appended to `out`, and at 3 a beginning of it. Otherwise nothing was written to
 /// `out`, and `err` got the text of what `clap` says, or one line, unless a write to it failed, which changes no status.
-/// It takes no memory.
+/// It takes no memory: the text was made where the line was refused.
 pub fn explain<W: Write, E: Write>(
     _alloc: Global,
     fault: JobFault,
