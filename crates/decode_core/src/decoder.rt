@@ -13,15 +13,13 @@ use crate::fault::{DecodeFault, DecodeReason, OpenFault};
 use crate::run::Run;
 use crate::turned::Stopped;
 use count_core::Count;
+use grammar_core::MAX_DEPTH;
 use registry_core::TypeId;
 use std::alloc::Allocator;
 use std::marker::Model;
 use std::mem;
 use value_core::{Builder, Limits, Value};
 use widths_core::Checked;
-
-/// The greatest depth limit.
-const MAX_DEPTH: u16 = 1024;
 
 /// The greatest limit of bytes, 2^40.
 const MAX_BYTES: u64 = 1_099_511_627_776;

@@ -20,7 +20,7 @@ use Rattle.decode_core.specs.declared.pieces.PiecesFault.TheVariants as pieces
 use Rattle.decode_core.specs.declared.stream.StreamFault.{StreamFault}
 use Rattle.decode_core.specs.declared.stream.StreamFault.TheVariants as stream
 use Rattle.decode_core.proofs.Computed.{outcome_is_computed}
-use Rattle.scale_tool.specs.Refused.{bytes_in_value, bytes_refusal, bytes_refusal_by, opening_refusal, pieces_refusal, stream_refusal, status_of_bytes, status_of_value}
+use Rattle.scale_tool.specs.Refused.{bytes_in_value, bytes_refusal, bytes_refusal_by, pieces_refusal, stream_refusal, status_of_bytes, status_of_value}
 use Rattle.scale_tool.specs.declared.refusal.BytesRefusal.{BytesRefusal}
 use Rattle.scale_tool.specs.declared.refusal.HexFault.{HexFault}
 use Rattle.scale_tool.specs.declared.refusal.BytesRefusal.TheVariants as bytes
@@ -86,10 +86,7 @@ faulted id depth types b f one (inr h) = ended id depth types b f h.0 one h.1
 -- a reader's bytes
 pub streamed : (id depth : ℕ) (types : List TypeInfo) (forbidden : Option OpenFault) (b : List ℕ) (f : StreamFault) → forbidden ≡ None → Streams forbidden (decoding id depth types) b (Err f) →
     status_of_value (stream_refusal f) ≡ 1 → value_in id depth types b ≡ None
-streamed id depth types forbidden b (stream.Open f) none h one =
-    let memory = only_memory forbidden f none h in
-    let four : status_of_value (opening_refusal f) ≡ 4 = ap (λ x. status_of_value (opening_refusal x)) memory in
-    absurd (omega (arith, one, four))
+streamed id depth types forbidden b (stream.Open f) none h one = absurd cc
 streamed id depth types forbidden b (stream.Decode f) none h one = faulted id depth types b f one h.1
 streamed id depth types forbidden b (stream.TrailingBytes at) none h one = not_all id depth types b h.1.0 at (λ same. absurd (omega (arith, same, h.1.2))) h.1.1
 streamed id depth types forbidden b stream.Device none h one = absurd cc
@@ -165,13 +162,8 @@ tells_file hex j file b (bytes.Fault f) is h = (b, is, h)
 tells_file hex j file b (bytes.TrailingBytes at) is h = (b, is, h)
 tells_file hex j file b bytes.Memory is h = tt
 
-opening_told : (j : Job) (file : List ℕ) (forbidden : Option OpenFault) (f : OpenFault) → forbidden ≡ None → Forbids forbidden f → TellsFile false j file (opening_refusal f)
-opening_told j file forbidden opening.OutOfMemory none h = tt
-opening_told j file forbidden opening.UnknownType none h = subst (λ o. Forbids o opening.UnknownType) none h
-opening_told j file forbidden opening.LimitOutOfRange none h = subst (λ o. Forbids o opening.LimitOutOfRange) none h
-
 stream_told : (j : Job) (forbidden : Option OpenFault) (b : List ℕ) (f : StreamFault) → forbidden ≡ None → Streams forbidden j b (Err f) → TellsFile false j b (stream_refusal f)
-stream_told j forbidden b (stream.Open f) none h = opening_told j b forbidden f none h
+stream_told j forbidden b (stream.Open f) none h = tt
 stream_told j forbidden b (stream.Decode f) none h = tells_file false j b b (bytes_refusal f) refl (by_reason f.reason j b f h.1)
 stream_told j forbidden b (stream.TrailingBytes at) none h = (b, refl, h.1)
 stream_told j forbidden b stream.Device none h = tt
@@ -190,6 +182,12 @@ pub joined_tells : (id depth : ℕ) (types : List TypeInfo) (limits : Limits) (b
     JoinsBy id types (Err f) limits (b ++ []) → TellsBytes (decoding id depth types) b (pieces_refusal f)
 joined_tells id depth types limits b f is known served h =
     pieces_told (decoding id depth types) (opening_fault types id (made depth)) b f (none_forbids id depth types known served) (joins_made id depth types limits b (Err f) is h)
+
+-- a reader's bytes are fed but for want of memory
+pub stream_opens : (id depth : ℕ) (types : List TypeInfo) (limits : Limits) (f : StreamFault) → limits ≡ made depth → id < length types → depth ≤ 1024 →
+    ((why : OpenFault) → f ≡ stream.Open why → Forbids (opening_fault types id limits) why) → (why : OpenFault) → f ≡ stream.Open why → why ≡ opening.OutOfMemory
+stream_opens id depth types limits f is known served h why opened =
+    only_memory (opening_fault types id (made depth)) why (none_forbids id depth types known served) (subst (λ l. Forbids (opening_fault types id l) why) is (h why opened))
 
 -- pieces that are joined are opened but for want of memory
 pub joined_opens : (id depth : ℕ) (types : List TypeInfo) (limits : Limits) (b : List ℕ) (f : PiecesFault) → limits ≡ made depth → id < length types → depth ≤ 1024 →

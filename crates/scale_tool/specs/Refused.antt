@@ -8,8 +8,6 @@ use Rattle.widths_core.specs.declared.fault.CheckFault.TheVariants as check
 use Rattle.decode_core.specs.declared.fault.DecodeFault.{DecodeFault}
 use Rattle.decode_core.specs.declared.fault.DecodeReason.{DecodeReason}
 use Rattle.decode_core.specs.declared.fault.DecodeReason.TheVariants as reason
-use Rattle.decode_core.specs.declared.fault.OpenFault.{OpenFault}
-use Rattle.decode_core.specs.declared.fault.OpenFault.TheVariants as opening
 use Rattle.decode_core.specs.declared.pieces.PiecesFault.{PiecesFault}
 use Rattle.decode_core.specs.declared.pieces.PiecesFault.TheVariants as pieces
 use Rattle.decode_core.specs.declared.stream.StreamFault.{StreamFault}
@@ -36,7 +34,6 @@ status_of (refusal.TrailingRegistry at) = 1
 status_of (refusal.Check unknown) = 1
 status_of (refusal.UnknownType id) = 1
 status_of (refusal.Hex fault) = 1
-status_of (refusal.Open fault) = 1
 status_of (refusal.Value fault) = 1
 status_of (refusal.TrailingValue at) = 1
 status_of refusal.RegistryDevice = 3
@@ -59,7 +56,6 @@ fixed_line (refusal.TrailingRegistry at) = None
 fixed_line (refusal.Check unknown) = None
 fixed_line (refusal.UnknownType id) = None
 fixed_line (refusal.Hex fault) = None
-fixed_line (refusal.Open fault) = None
 fixed_line (refusal.Value fault) = None
 fixed_line (refusal.TrailingValue at) = None
 
@@ -118,15 +114,9 @@ abbrev pub gathered_refusal : GatherFault → ValueRefusal
 gathered_refusal gather.Device = value.Device
 gathered_refusal gather.Memory = value.Memory
 
--- why no decoder is made, where want of memory is no fault of the type or the limits
-abbrev pub opening_refusal : OpenFault → ValueRefusal
-opening_refusal opening.OutOfMemory = value.Memory
-opening_refusal opening.UnknownType = value.Open opening.UnknownType
-opening_refusal opening.LimitOutOfRange = value.Open opening.LimitOutOfRange
-
--- why a reader's bytes are no value
+-- why a reader's bytes are no value, where a decoder is refused for want of memory alone
 abbrev pub stream_refusal : StreamFault → ValueRefusal
-stream_refusal (stream.Open f) = opening_refusal f
+stream_refusal (stream.Open f) = value.Memory
 stream_refusal (stream.Decode f) = bytes_in_value (bytes_refusal f)
 stream_refusal (stream.TrailingBytes at) = value.TrailingBytes at
 stream_refusal stream.Device = value.Device
@@ -134,7 +124,6 @@ stream_refusal stream.Device = value.Device
 -- the refusal of the whole
 abbrev pub refusal_of_value : ValueRefusal → Refusal
 refusal_of_value (value.Hex fault) = refusal.Hex fault
-refusal_of_value (value.Open fault) = refusal.Open fault
 refusal_of_value (value.Fault fault) = refusal.Value fault
 refusal_of_value (value.TrailingBytes at) = refusal.TrailingValue at
 refusal_of_value value.Device = refusal.ValueDevice

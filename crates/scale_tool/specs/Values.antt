@@ -6,7 +6,7 @@ use Rattle.value_core.specs.Shown.{Seen}
 use Rattle.decode_core.specs.Outcome.{Outcome, done, refused, more, too_long, outcome_of}
 use Rattle.decode_core.specs.Outcome as decoder
 use Rattle.decode_core.specs.Decoding.{Finishes}
-use Rattle.decode_core.specs.Streaming.{Forbids, Trails}
+use Rattle.decode_core.specs.Streaming.{Trails}
 use Rattle.scale_tool.specs.HexText.{hex_bytes}
 use Rattle.scale_tool.specs.Refused.{status_of_bytes, status_of_value}
 use Rattle.scale_tool.specs.declared.refusal.BytesRefusal.{BytesRefusal}
@@ -64,7 +64,6 @@ TellsBytes j b bytes.Memory = Unit {0}
 -- and of its file, unless the device failed: the fault of its digits, or the same of the bytes that it has
 abbrev pub TellsFile : Bool → decoder.Job → List ℕ → ValueRefusal → Type 0
 TellsFile hex j file (value.Hex fault) = (hex ≡ true) × (hex_bytes file ≡ Err fault)
-TellsFile hex j file (value.Open fault) = Forbids None fault
 TellsFile hex j file (value.Fault fault) = (b : List ℕ) × (value_bytes hex file ≡ Some b) × Finishes j b (Err fault)
 TellsFile hex j file (value.TrailingBytes at) = (b : List ℕ) × (value_bytes hex file ≡ Some b) × Trails j at b
 TellsFile hex j file value.Device = Unit {0}

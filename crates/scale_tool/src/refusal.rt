@@ -6,7 +6,7 @@ ghost use Rattle.scale_tool.specs.Refused.{device_line, fixed_line, refusal_of_r
 ghost use Rattle.scale_tool.specs.declared.refusal.Refusal.TheVariants.{Memory};
 
 use crate::gathering::GatherFault;
-use decode_core::{DecodeFault, DecodeReason, OpenFault};
+use decode_core::{DecodeFault, DecodeReason};
 use registry_core::{RegistryFault, RegistryReason};
 use std::alloc::AllocError;
 use thiserror::Error;
@@ -125,8 +125,6 @@ impl From<DecodeFault> for BytesRefusal {
 pub(crate) enum ValueRefusal {
     /// The file is to hold digits, and does not.
     Hex(HexFault),
-    /// No decoder is made of the type and the limits.
-    Open(OpenFault),
     /// The first fault of the value's bytes.
     Fault(DecodeFault),
     /// Bytes follow the value, which has so many.
@@ -185,8 +183,6 @@ pub(crate) enum Refusal {
     #[error("value: {0}")]
     Hex(HexFault),
     #[error("value: {0}")]
-    Open(OpenFault),
-    #[error("value: {0}")]
     Value(DecodeFault),
     #[error("value: TrailingBytes at {0}")]
     TrailingValue(u64),
@@ -243,7 +239,6 @@ impl From<ValueRefusal> for Refusal {
     fn from(refusal: ValueRefusal) -> Refusal {
         match refusal {
             ValueRefusal::Hex(fault) => Refusal::Hex(fault),
-            ValueRefusal::Open(fault) => Refusal::Open(fault),
             ValueRefusal::Fault(fault) => Refusal::Value(fault),
             ValueRefusal::TrailingBytes(at) => Refusal::TrailingValue(at),
             ValueRefusal::Device => Refusal::ValueDevice,

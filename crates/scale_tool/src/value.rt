@@ -26,13 +26,14 @@ fn limits(depth: u16) -> Limits
     }
 }
 
-/// The refusal of a value that is read as it stands.
+/// The refusal of a value that is read as it stands. A decoder of its type was refused for want of memory alone.
 fn of_stream(fault: StreamFault) -> ValueRefusal
+    requires { (why : AnOpenFault) → fault ≡ StreamFault.Open why → why ≡ OpenFault.OutOfMemory }
     ensures { result ≡ stream_refusal fault }
 {
     match fault {
         StreamFault::Open(OpenFault::OutOfMemory) => ValueRefusal::Memory,
-        StreamFault::Open(fault) => ValueRefusal::Open(fault),
+        StreamFault::Open(_) => unreachable!(),
         StreamFault::Decode(fault) => ValueRefusal::from(BytesRefusal::from(fault)),
         StreamFault::TrailingBytes { at } => ValueRefusal::TrailingBytes(at),
         StreamFault::Device => ValueRefusal::Device,

@@ -1,7 +1,7 @@
-use Rattle.std.proofs.Common.{◌≡◌, None, false}
+use Rattle.std.proofs.Common.{◌≡◌, Err, None, ap, false}
 use Rattle.scale_tool.specs.Refused.{status_of_value}
 use Rattle.scale_tool.specs.Values.{TellsFile, decoding, value_in}
-use Rattle.scale_tool.proofs.Decoded.{stream_fault, stream_tells, stream_value, where_known}
+use Rattle.scale_tool.proofs.Decoded.{stream_fault, stream_opens, stream_tells, stream_value, where_known}
 use Rattle.scale_tool.proofs.value.read_raw.Goals as goal
 
 pub returns-in-Ok-clause-value : goal.returns-in-Ok-clause-value
@@ -17,3 +17,7 @@ pub returns-in-Err-clause-tells : goal.returns-in-Err-clause-tells
 returns-in-Err-clause-tells g c =
     where_known _ _ (λ b. TellsFile false (decoding c.args.id c.args.depth c.args.checked.now) b c.of_stream.result)
     (λ b h. rw c.of_stream.ensures (stream_tells c.args.id c.args.depth c.args.checked.now c.limits.result b c.in-Err.fault c.limits.ensures c.requires.known c.requires.depth h)) c.in-Err.ensures.answers
+
+pub of_stream-requires : goal.of_stream-requires
+of_stream-requires g c =
+    stream_opens c.args.id c.args.depth c.args.checked.now c.limits.result c.in-Err.fault c.limits.ensures c.requires.known c.requires.depth (λ why is. c.in-Err.ensures.open why (ap Err is))
