@@ -87,11 +87,7 @@ fn the_whole_help_is_written(rt: HostRuntime) -> Result<(), Fail> {
         };
         let mut out = Sink::new(Vec::new(rt.alloc()));
         let mut err = Sink::new(Vec::new(rt.alloc()));
-        assert_eq!(rt;
-            explain(rt.alloc(), fault, &mut out, &mut err),
-            0,
-            "{words:?}"
-        );
+        assert_eq!(rt; explain(fault, &mut out, &mut err), 0, "{words:?}");
         let mut help = String::from_str(rt.alloc(), front)?;
         help.push_str(NOTES)?;
         assert_eq!(rt; out.into_inner().as_slice(), help.as_bytes(), "{words:?}");

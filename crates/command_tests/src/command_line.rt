@@ -229,7 +229,7 @@ fn words_that_name_no_job_are_told(rt: HostRuntime) -> Result<(), Fail> {
         let fault = job(rt.alloc(), words).err().ok_or("a fault")?;
         let mut out = Sink::new(Vec::new(rt.alloc()));
         let mut err = Sink::new(Vec::new(rt.alloc()));
-        let status = explain(rt.alloc(), fault, &mut out, &mut err);
+        let status = explain(fault, &mut out, &mut err);
         assert_eq!(rt; status, want, "the status of {words:?}");
         let out = String::from_utf8(out.into_inner()).ok().ok_or("a text")?;
         let err = String::from_utf8(err.into_inner()).ok().ok_or("a text")?;

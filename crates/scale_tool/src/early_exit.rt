@@ -8,7 +8,6 @@ ghost use Rattle.scale_tool.specs.Refused.{device_line};
 use crate::jobs::JobFault;
 use crate::refusal::Device;
 use scale_core::Sink;
-use std::alloc::Global;
 use std::io::Write;
 use value_core::send;
 
@@ -35,12 +34,7 @@ pub fn unopened<E: Write>(device: Device, err: &mut Sink<E>) -> u8
 /// At 0 the whole text of the help was appended to `out`, and at 3 a beginning of it. Otherwise nothing was written to
 /// `out`, and `err` got the text of what `clap` says, or one line, unless a write to it failed, which changes no status.
 /// It takes no memory: the text was made where the line was refused.
-pub fn explain<W: Write, E: Write>(
-    _alloc: Global,
-    fault: JobFault,
-    out: &mut Sink<W>,
-    err: &mut Sink<E>,
-) -> u8
+pub fn explain<W: Write, E: Write>(fault: JobFault, out: &mut Sink<W>, err: &mut Sink<E>) -> u8
     ensures status { IsStatusOf fault result }
     ensures shown { result ≡ 0 → Appends (W.contents out.old.device) (W.contents out.new.device) (text_of fault) }
     ensures front { result ≡ 3 → (n : ℕ) × Appends (W.contents out.old.device) (W.contents out.new.device) (take n (text_of fault)) }

@@ -33,7 +33,7 @@ fn run_words<R: Files + AllocGlobal, W: Write, E: Write>(
     let alloc = rt.alloc();
     let (job, file, value_file) = match job(alloc, words) {
         Ok(job) => job,
-        Err(fault) => return explain(alloc, fault, out, err),
+        Err(fault) => return explain(fault, out, err),
     };
     let Ok(registry) = fs::open(rt, file.as_str()) else {
         return unopened(Device::Registry, err);
@@ -60,13 +60,13 @@ fn run_process<R: Env + Files + AllocGlobal, W: Write, E: Write>(
     let words = match command_words(rt) {
         Ok(words) => words,
         Err(error) if error.kind() == io::ErrorKind::OutOfMemory => {
-            return explain(alloc, JobFault::Memory, out, err);
+            return explain(JobFault::Memory, out, err);
         }
-        Err(_) => return explain(alloc, JobFault::Usage, out, err),
+        Err(_) => return explain(JobFault::Usage, out, err),
     };
     match lent_words(alloc, words.as_slice()) {
         Ok(words) => run_words(rt, words.as_slice(), out, err),
-        Err(_) => explain(alloc, JobFault::Memory, out, err),
+        Err(_) => explain(JobFault::Memory, out, err),
     }
 }
 
