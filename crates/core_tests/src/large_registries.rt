@@ -8,21 +8,27 @@ use std::test::Fail;
 use widths_core::{CheckFault, Checked, Class};
 
 /// The registry is read whole, also as metadata, checked, and written back: so many types, all of which take bytes.
-fn check_registry(rt: &impl Abort, alloc: Global, bytes: &[u8], types: usize) -> Result<(), Fail> {
+fn check_registry(rt: &impl Abort, alloc: Global, bytes: &[u8], types: u32) -> Result<(), Fail> {
     let (registry, count) = read_registry(alloc, bytes)?;
-    assert_eq!(rt; (registry.types().len(), count), (types, bytes.len()));
+    assert_eq!(rt;
+        (registry.types().len(), count),
+        (types as usize, bytes.len())
+    );
     let back = write_registry(alloc, &registry)?;
     assert!(rt; back.as_slice() == bytes, "{types} types written back");
     let Ok(checked) = Checked::new(alloc, registry) else {
         return Err("no checked registry")?;
     };
-    let last = TypeId((types as u32).saturating_sub(1));
+    let last = TypeId(types.saturating_sub(1));
     assert_eq!(rt; checked.class(last), Some(Class::Sized));
     assert_eq!(rt; checked.widest(), 0);
     let mut metadata = Vec::from_slice(alloc, b"\x6d\x65\x74\x61\x0e")?;
     metadata.extend_from_slice(bytes)?;
     let (registry, count) = read_metadata(alloc, &metadata)?;
-    assert_eq!(rt; (registry.types().len(), count), (types, metadata.len()));
+    assert_eq!(rt;
+        (registry.types().len(), count),
+        (types as usize, metadata.len())
+    );
     Ok(())
 }
 

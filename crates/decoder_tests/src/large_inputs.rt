@@ -204,7 +204,10 @@ fn nodes_stay_below_the_bound(rt: HostRuntime) -> Result<(), Fail> {
     assert_eq!(rt; decoder.feed(b""), Ok(Progress::More));
     assert_eq!(rt; (decoder.taken(), decoder.node_count()), (0, 3));
     let widest = u64::from(checked.widest());
-    let most = (decoder.taken() + 1) * (u64::from(limits.depth) + 1) * (widest + 1);
+    let parts = u64::from(limits.depth)
+        .saturating_add(1)
+        .saturating_mul(widest.saturating_add(1));
+    let most = decoder.taken().saturating_add(1).saturating_mul(parts);
     assert_eq!(rt; most, 260);
     assert!(rt; decoder.node_count() <= most);
     Ok(())
