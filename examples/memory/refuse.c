@@ -1,4 +1,4 @@
-/* Loaded in front of a program by LD_PRELOAD: counts its requests for memory and refuses those whose numbers it is given. */
+/* Loaded in front of a program (LD_PRELOAD), counts its requests for memory and refuses those with given numbers. */
 #define _GNU_SOURCE
 #include <dlfcn.h>
 #include <errno.h>
