@@ -672,3 +672,40 @@ fn faults_are_printed_by_their_names(rt: HostRuntime) -> Result<(), Fail> {
     }
     Ok(())
 }
+
+/// A reader of so many zeros, which keeps how many it was asked for at most.
+#[derive(Drop)]
+struct AskedReader {
+    left: usize,
+    most: usize,
+}
+
+impl Read for AskedReader {
+    fn read(&mut self, part: &mut [u8]) -> io::Result<usize> {
+        self.most = self.most.max(part.len());
+        let count = self.left.min(part.len());
+        part[..count].fill(0);
+        self.left -= count;
+        Ok(count)
+    }
+}
+
+/// An array of 10000 bytes.
+const TEN_THOUSAND_BYTES: &[u8] =
+    b"\x08\x00\x00\x00\x05\x03\x00\x04\x00\x00\x03\x10\x27\x00\x00\x00\x00";
+
+#[test]
+fn a_read_asks_for_at_most_4096_bytes(rt: HostRuntime) -> Result<(), Fail> {
+    let checked = checked(rt.alloc(), TEN_THOUSAND_BYTES)?;
+    let mut source = Source::new(AskedReader {
+        left: 10_000,
+        most: 0,
+    });
+    let Ok(value) = decode_all(rt.alloc(), &checked, TypeId(1), AMPLE, &mut source) else {
+        return Err("no value")?;
+    };
+    assert_eq!(rt; value.node_count(), 10_001);
+    let reader = source.into_inner();
+    assert_eq!(rt; (reader.left, reader.most), (0, 4096));
+    Ok(())
+}
