@@ -11,7 +11,7 @@ use serde_json::Value;
 use std::alloc::Global;
 use widths_core::{CheckFault, Checked};
 
-/// What else may come of a call, which none is to give.
+/// The line where neither the right answer nor want of memory came of a call.
 const OTHER: &str = "direct_calls: neither the right answer nor want of memory\n";
 
 /// How many bytes the writer of `print` has room for, more than the text has.
@@ -25,15 +25,15 @@ fn line_where(is_so: bool, line: &'static str) -> &'static str {
 pub(crate) fn print_line(alloc: Global) -> Option<&'static str> {
     let checked = sample::checked(alloc)?;
     let value = sample::value(alloc, &checked)?;
-    let mut page = [0u8; ROOM];
-    let mut sink = Sink::new(page.as_mut_slice());
+    let mut buffer = [0u8; ROOM];
+    let mut sink = Sink::new(buffer.as_mut_slice());
     let printed = print(alloc, &value, &mut sink);
     let failed = sink.failed();
     let left = sink.into_inner().len();
     let text = sample::TEXT.as_bytes();
     Some(match printed {
         Ok(()) => line_where(
-            !failed && left == ROOM - text.len() && page.starts_with(text),
+            !failed && left == ROOM - text.len() && buffer.starts_with(text),
             "print: the whole text is written\n",
         ),
         Err(PrintFault::OutOfMemory) => line_where(
