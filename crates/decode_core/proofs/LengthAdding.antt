@@ -108,18 +108,18 @@ arm_refused b new own h k a adds =
     subst (λ (o : List ℕ). IsRefused b o (reason_of no_such_variant) 0 × (new ≡ b)) (sym (one_byte own a))
     (arm_missing b new s.0 i (arm_of s.0 i) s.1 refl (arm_answer b new i s.0 (Err build.NoSuchVariant) s.1 h k adds))
 
-arm_wanted : (b new : Built) (arms : List Arm) (i : ℕ) (found : Option (ℕ × Arm)) (e : BuildFault) → next_layout b ≡ layout.arms arms → arm_of arms i ≡ found → Adds (suits_arm found form.Arm) (with_found b found) b new (Err e) → e ≢ build.NoSuchVariant → IsSpelled b (i ∷ []) × (new ≡ b)
+arm_wanted : (b new : Built) (arms : List Arm) (i : ℕ) (found : Option (ℕ × Arm)) → next_layout b ≡ layout.arms arms → arm_of arms i ≡ found → Adds (suits_arm found form.Arm) (with_found b found) b new (Err build.OutOfMemory) → IsSpelled b (i ∷ []) × (new ≡ b)
 unfolding own_at
-arm_wanted b new arms i (Some a) e lay is adds other = let ts = field_types a.1.fields in (((head.arm a.0 (length ts), Some (each ts)), rw (lay, is) refl), adds.1)
-arm_wanted b new arms i None e lay is adds other = absurd (other adds.0)
+arm_wanted b new arms i (Some a) lay is adds = let ts = field_types a.1.fields in (((head.arm a.0 (length ts), Some (each ts)), rw (lay, is) refl), adds.1)
+arm_wanted b new arms i None lay is adds = let no = adds.0 in absurd cc
 
 -- memory is refused for an arm that is there alone
-pub arm_short : (b new : Built) (own : List ℕ) (e : BuildFault) → next_of b.walk ≡ next.Wants form.Arm → b.text ≡ None → AreOwn form.Arm own → Adds (judged_arm b (slice_index_or own 0 0)) (with_arm b (slice_index_or own 0 0)) b new (Err e) → e ≢ build.NoSuchVariant → IsSpelled b own × (new ≡ b)
-arm_short b new own e h k a adds other =
+pub arm_short : (b new : Built) (own : List ℕ) → next_of b.walk ≡ next.Wants form.Arm → b.text ≡ None → AreOwn form.Arm own → Adds (judged_arm b (slice_index_or own 0 0)) (with_arm b (slice_index_or own 0 0)) b new (Err build.OutOfMemory) → IsSpelled b own × (new ≡ b)
+arm_short b new own h k a adds =
     let i = slice_index_or own 0 0 in
     let s = next_has b form.Arm h in
     subst (λ (o : List ℕ). IsSpelled b o × (new ≡ b)) (sym (one_byte own a))
-    (arm_wanted b new s.0 i (arm_of s.0 i) e s.1 refl (arm_answer b new i s.0 (Err e) s.1 h k adds) other)
+    (arm_wanted b new s.0 i (arm_of s.0 i) s.1 refl (arm_answer b new i s.0 (Err build.OutOfMemory) s.1 h k adds))
 
 -- ---- the length of a text
 

@@ -109,10 +109,6 @@ bad_by s with old new valid false e h = (e, same_valid valid (utf8_valid_len s) 
   same_valid : (n m : ℕ) → build.BadText n ≡ build.BadText m → n ≡ m
   same_valid n m h = cc
 
-pub same_built : (o : Option BuildFault) (with old new : Built) (e : BuildFault) → Adds o with old new (Err e) → new ≡ old
-same_built None with old new e h = h.1
-same_built (Some f) with old new e h = h.1
-
 pub ended : (b new : Built) (n : AtEnd b) (u : Unit {0}) → Adds (judged_end b) (with_text_ended b) b new (Ok u) → (is_utf8 n.pieces.bytes ≡ true) × (new ≡ with_text_ended b)
 ended b new n u h = ended_by n.pieces.bytes (with_text_ended b) b new u (is_utf8 n.pieces.bytes) refl (subst (λ (o : Option BuildFault). Adds o (with_text_ended b) b new (Ok u)) (end_judged b n) h)
 
@@ -196,14 +192,6 @@ missing_by b c o (Some t) e h k some =
 pub text_waits : (b : Built) (c : List ℕ) (o : OpenText) → IsTextNext b c b.text → IsText b.text (Some o) → (o.missing ≡ 0 → ⊥) → WantsBytes (record { built = b; carry = c })
 text_waits b c o h k some = missing_by b c o b.text refl h k some
 
-added_by : (r : Result (Unit {0}) BuildFault) → ((e : BuildFault) → r ≡ Err e → ⊥) → r ≡ Ok tt
-added_by (Ok u) h = refl
-added_by (Err e) h = absurd (h e refl)
-
--- the text is ended by the call that is not refused
-pub ended_ok : (b new : Built) (n : AtEnd b) (r : Result (Unit {0}) BuildFault) → Adds (judged_end b) (with_text_ended b) b new r → ((e : BuildFault) → r ≡ Err e → ⊥) → (is_utf8 n.pieces.bytes ≡ true) × (new ≡ with_text_ended b)
-ended_ok b new n r h other = ended b new n tt (subst (Adds (judged_end b) (with_text_ended b) b new) (added_by r other) h)
-
 -- ---- memory that is wanted for a text
 
 piece_by : (b : Built) (c : List ℕ) (o : OpenText) (piece : List ℕ) (count : ℕ) (text : Option Pieces) → b.text ≡ text → IsTextNext b c text → IsText text (Some o) → count ≤ o.missing → count ≤ length piece → 1 ≤ count → WantsMemory (record { built = b; carry = c }) piece
@@ -227,15 +215,15 @@ piece_by b c o piece count (Some t) e h k few there some =
 pub piece_wants : (b : Built) (c : List ℕ) (o : OpenText) (piece : List ℕ) (count : ℕ) → IsTextNext b c b.text → IsText b.text (Some o) → count ≤ o.missing → count ≤ length piece → 1 ≤ count → WantsMemory (record { built = b; carry = c }) piece
 piece_wants b c o piece count h k few there some = piece_by b c o piece count b.text refl h k few there some
 
-short_by : (s : List ℕ) (with old new : Built) (e : BuildFault) (u : Bool) → is_utf8 s ≡ u → Adds (cond u None (Some (build.BadText (utf8_valid_len s)))) with old new (Err e) → ((valid : ℕ) → e ≡ build.BadText valid → ⊥) → is_utf8 s ≡ true
-short_by s with old new e true is h other = is
-short_by s with old new e false is h other = absurd (other (utf8_valid_len s) h.0)
+short_by : (s : List ℕ) (with old new : Built) (u : Bool) → is_utf8 s ≡ u → Adds (cond u None (Some (build.BadText (utf8_valid_len s)))) with old new (Err build.OutOfMemory) → is_utf8 s ≡ true
+short_by s with old new true is h = is
+short_by s with old new false is h = let no = h.0 in absurd cc
 
 -- its node is to be added
-pub end_wants : (b new : Built) (c : List ℕ) (n : AtEnd b) (e : BuildFault) → Adds (judged_end b) (with_text_ended b) b new (Err e) → ((valid : ℕ) → e ≡ build.BadText valid → ⊥) → (rest : List ℕ) → WantsMemory (record { built = b; carry = c }) rest
-end_wants b new c n e h other rest =
+pub end_wants : (b new : Built) (c : List ℕ) (n : AtEnd b) → Adds (judged_end b) (with_text_ended b) b new (Err build.OutOfMemory) → (rest : List ℕ) → WantsMemory (record { built = b; carry = c }) rest
+end_wants b new c n h rest =
     let t = n.pieces in
-    let utf8 = short_by t.bytes (with_text_ended b) b new e (is_utf8 t.bytes) refl (subst (λ (o : Option BuildFault). Adds o (with_text_ended b) b new (Err e)) (end_judged b n) h) other in
+    let utf8 = short_by t.bytes (with_text_ended b) b new (is_utf8 t.bytes) refl (subst (λ (o : Option BuildFault). Adds o (with_text_ended b) b new (Err build.OutOfMemory)) (end_judged b n) h) in
     let held : held_of (record { built = b; carry = c }) ++ [] ≡ compact t.len ++ t.bytes = append-nil (held_of (record { built = b; carry = c })) ∙ end_bytes b n c in
     let laid : own_at (next_layout b) (compact t.len ++ t.bytes) ≡ Ok ((head.text t.bytes, None), []) = ap (λ (f : Layout). own_at f (compact t.len ++ t.bytes)) (laid_text b n) ∙ text_whole t.len t.bytes n.len n.all utf8 in
     record { form = form.Primitive P.Str; next = n.wants; bytes = []; later = rest; is = refl; keeps = inl ((head.text t.bytes, None), ap (own_at (next_layout b)) held ∙ laid) }

@@ -18,7 +18,7 @@ use registry_core::TypeId;
 use std::alloc::Allocator;
 use std::marker::Model;
 use std::mem;
-use value_core::{Builder, Limits, Value};
+use value_core::{BuildFault, Builder, Limits, Value};
 use widths_core::Checked;
 
 /// The greatest limit of bytes, 2^40.
@@ -185,7 +185,8 @@ impl<'r, A: Allocator + Clone> Decoder<'r, A> {
                 closings: Count::new(),
                 calls: Count::new(),
             }),
-            Err(_) => Err(OpenFault::OutOfMemory),
+            Err(BuildFault::OutOfMemory) => Err(OpenFault::OutOfMemory),
+            Err(_) => unreachable!(),
         }
     }
 }

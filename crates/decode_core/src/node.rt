@@ -88,7 +88,11 @@ fn kept(added: Result<(), BuildFault>) -> Result<(), NodeFault>
     ensures ok { is_ok result ≡ is_ok added }
     ensures err { IfErr result (λ e. e ≡ NodeFault.OutOfMemory) }
 {
-    added.map_err(|_| NodeFault::OutOfMemory)
+    match added {
+        Ok(()) => Ok(()),
+        Err(BuildFault::OutOfMemory) => Err(NodeFault::OutOfMemory),
+        Err(_) => unreachable!(),
+    }
 }
 
 /// Opens the text that is next, by the bytes of its length: how long it is.
@@ -143,7 +147,8 @@ fn add_arm<A: Allocator>(builder: &mut Builder<'_, A>, own: &[u8]) -> Result<(),
         Ok(()) => Ok(()),
         Err(fault) => Err(match fault {
             BuildFault::NoSuchVariant => NodeFault::Refused(DecodeReason::NoSuchVariant, 0),
-            _ => NodeFault::OutOfMemory,
+            BuildFault::OutOfMemory => NodeFault::OutOfMemory,
+            _ => unreachable!(),
         }),
     }
 }

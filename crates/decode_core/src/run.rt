@@ -139,7 +139,8 @@ impl<'r, A: Allocator> Run<'r, A> {
     {
         match add_bare(&mut self.builder, form) {
             Ok(()) => Turned::On(0),
-            Err(_) => Turned::OutOfMemory,
+            Err(NodeFault::OutOfMemory) => Turned::OutOfMemory,
+            Err(NodeFault::Refused(_, _)) => unreachable!(),
         }
     }
 
@@ -238,7 +239,8 @@ impl<'r, A: Allocator> Run<'r, A> {
                 });
                 Turned::On(count)
             }
-            Err(_) => Turned::OutOfMemory,
+            Err(BuildFault::OutOfMemory) => Turned::OutOfMemory,
+            Err(_) => unreachable!(),
         }
     }
 
@@ -250,21 +252,24 @@ impl<'r, A: Allocator> Run<'r, A> {
         ensures tells { EndTells self.old self.new result }
         ensures kept { KeepsTurns self.old self.new result }
     {
-        let Err(fault) = self.builder.text_end() else {
-            self.text = None;
-            return Turned::On(0);
-        };
-        let BuildFault::BadText { valid } = fault else {
-            return Turned::OutOfMemory;
-        };
-        let before = compact_len(u128::from(text.len));
-        let len = before + text.len as usize;
-        Turned::Stopped(Stopped::Refused {
-            held: len,
-            reason: DecodeReason::BadUtf8,
-            at: before as u64 + valid,
-            len,
-        })
+        match self.builder.text_end() {
+            Ok(()) => {
+                self.text = None;
+                Turned::On(0)
+            }
+            Err(BuildFault::BadText { valid }) => {
+                let before = compact_len(u128::from(text.len));
+                let len = before + text.len as usize;
+                Turned::Stopped(Stopped::Refused {
+                    held: len,
+                    reason: DecodeReason::BadUtf8,
+                    at: before as u64 + valid,
+                    len,
+                })
+            }
+            Err(BuildFault::OutOfMemory) => Turned::OutOfMemory,
+            Err(_) => unreachable!(),
+        }
     }
 
     /// One turn: takes bytes of the piece, adds a node, or stops.

@@ -1,7 +1,7 @@
 use Rattle.std.proofs.Common.{◌≡◌, [], None}
 use Rattle.value_core.specs.Walked.{next_of}
 use Rattle.decode_core.specs.Turned.{BareTells}
-use Rattle.std.proofs.Common.{Err, sym, subst}
+use Rattle.std.proofs.Common.{Err, ap, sym, subst, ◌∙◌}
 use Rattle.grammar_core.specs.declared.form.Next.TheVariants as next
 use Rattle.decode_core.specs.NodeAdds.{AddsNode}
 use Rattle.decode_core.specs.declared.node.NodeFault.{NodeFault}
@@ -9,7 +9,7 @@ use Rattle.decode_core.specs.declared.node.NodeFault.TheVariants as fault
 use Rattle.decode_core.specs.Running.{Running}
 use Rattle.decode_core.proofs.RunTurns.{bare_running, bare_tells, bare_wants}
 use Rattle.decode_core.proofs.run.Run.bare_turn.Goals as goal
-use Rattle.decode_core.proofs.run.Run.bare_turn.Goals.{in-Ok, in-Err}
+use Rattle.decode_core.proofs.run.Run.bare_turn.Goals.{in-Ok, in-Err-OutOfMemory}
 
 -- src/run.rt:89:5
 pub invariant_of-self : goal.invariant_of-self
@@ -27,8 +27,7 @@ returns-clause-tells g c =
     let closed : b.text ≡ None = subst (λ (s : Running). s.built.text ≡ None) (sym c.self.view_is) c.requires.closed in
     subst (λ (s : Running). BareTells s (record { built = c.add_bare.new.builder; carry = c.self.inside.carry }) c.match-add_bare.result) c.self.view_is (elim c.match-add_bare.branch [
       | in-Ok w ↦ rw w.result-is (bare_tells b c.add_bare.new.builder c.self.inside.carry c.self.inside.text c.args.form c.self.invariant wants c.requires.bare closed (subst (AddsNode b c.add_bare.new.builder []) w.in-Ok.is c.add_bare.ensures.adds))
-      | in-Err w ↦
-          let none : w.in-Err.field-0 ≡ fault.OutOfMemory = (rw w.in-Err.is at c.add_bare.ensures.memory) in
-          let adds : AddsNode b c.add_bare.new.builder [] (Err fault.OutOfMemory) = subst (λ (e : NodeFault). AddsNode b c.add_bare.new.builder [] (Err e)) none (subst (AddsNode b c.add_bare.new.builder []) w.in-Err.is c.add_bare.ensures.adds) in
+      | in-Err-OutOfMemory w ↦
+          let adds : AddsNode b c.add_bare.new.builder [] (Err fault.OutOfMemory) = subst (AddsNode b c.add_bare.new.builder []) (w.in-Err-OutOfMemory.is ∙ ap (λ (e : NodeFault). Err e) w.in-Err-OutOfMemory.field-0-is) c.add_bare.ensures.adds in
           rw w.result-is (bare_wants b c.self.inside.carry c.self.inside.text c.args.form c.self.invariant wants c.requires.bare closed adds.0)
     ])

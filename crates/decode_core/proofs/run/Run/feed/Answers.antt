@@ -1,6 +1,6 @@
-use Rattle.std.proofs.Common.{◌-◌, ◌<◌, ◌≤◌, length, take, drop}
+use Rattle.std.proofs.Common.{◌-◌, length, take, drop}
 use Rattle.decode_core.specs.Turned.{StepTells}
-use Rattle.std.proofs.Common.{arith, refl, subst}
+use Rattle.std.proofs.Common.{refl, subst}
 use Rattle.decode_core.proofs.Moving.{each_turn, few_turn, turn_goes_on, turn_nearer, whole_goes_on}
 use Rattle.decode_core.proofs.run.Run.feed.Goals as goal
 

@@ -1,0 +1,150 @@
+//! The calls: each is made once, and a line says what came of it. There is none where memory was refused before the call.
+
+use crate::sample;
+use json_core::{PrintFault, json_text, print, to_json};
+use registry_core::{
+    Registry, RegistryFault, RegistryReason, read_metadata, read_registry, write_registry,
+};
+use scale_core::Sink;
+use scale_tool::{Job, JobFault, job};
+use serde_json::Value;
+use std::alloc::Global;
+use widths_core::{CheckFault, Checked};
+
+/// The line where neither the right answer nor want of memory came of a call.
+const OTHER: &str = "direct_calls: neither the right answer nor want of memory\n";
+
+/// How many bytes the writer of `print` has room for, more than the text has.
+const ROOM: usize = 256;
+
+/// The line, where what it says is so.
+fn line_where(is_so: bool, line: &'static str) -> &'static str {
+    if is_so { line } else { OTHER }
+}
+
+pub(crate) fn print_line(alloc: Global) -> Option<&'static str> {
+    let checked = sample::checked(alloc)?;
+    let value = sample::value(alloc, &checked)?;
+    let mut buffer = [0u8; ROOM];
+    let mut sink = Sink::new(buffer.as_mut_slice());
+    let printed = print(alloc, &value, &mut sink);
+    let failed = sink.failed();
+    let left = sink.into_inner().len();
+    let text = sample::TEXT.as_bytes();
+    Some(match printed {
+        Ok(()) => line_where(
+            !failed && left == ROOM - text.len() && buffer.starts_with(text),
+            "print: the whole text is written\n",
+        ),
+        Err(PrintFault::OutOfMemory) => line_where(
+            !failed && left == ROOM,
+            "print: out of memory, nothing is written\n",
+        ),
+        Err(PrintFault::Write(_)) => OTHER,
+    })
+}
+
+pub(crate) fn json_text_line(alloc: Global) -> Option<&'static str> {
+    let checked = sample::checked(alloc)?;
+    let value = sample::value(alloc, &checked)?;
+    Some(match json_text(alloc, &value) {
+        Ok(text) => line_where(text.as_str() == sample::TEXT, "json_text: the whole text\n"),
+        Err(_) => "json_text: out of memory\n",
+    })
+}
+
+pub(crate) fn to_json_line(alloc: Global) -> Option<&'static str> {
+    let checked = sample::checked(alloc)?;
+    let value = sample::value(alloc, &checked)?;
+    Some(match to_json(alloc, &value) {
+        Ok(Value::Object(members)) => line_where(
+            members.len() == sample::MEMBERS,
+            "to_json: the object of the members\n",
+        ),
+        Ok(_other) => OTHER,
+        Err(_) => "to_json: out of memory\n",
+    })
+}
+
+/// Is this the registry of the sample? Its spelling says so.
+fn is_sample(alloc: Global, registry: &Registry) -> bool {
+    match write_registry(alloc, registry) {
+        Ok(bytes) => bytes.as_slice() == sample::REGISTRY,
+        Err(_) => false,
+    }
+}
+
+pub(crate) fn new_line(alloc: Global) -> Option<&'static str> {
+    let registry = sample::registry(alloc)?;
+    Some(match Checked::new(alloc, registry) {
+        Ok(_) => "Checked::new: checked\n",
+        Err((CheckFault::OutOfMemory, registry)) => line_where(
+            is_sample(alloc, &registry) && Checked::new(alloc, registry).is_ok(),
+            "Checked::new: out of memory, the registry is back, a second call succeeds\n",
+        ),
+        Err(_) => OTHER,
+    })
+}
+
+/// The line of a registry that was read, with how many bytes it took, or of why it was not.
+fn read_line(
+    read: Result<(Registry, usize), RegistryFault>,
+    len: usize,
+    done: &'static str,
+    refused: &'static str,
+) -> &'static str {
+    match read {
+        Ok((_, taken)) if taken == len => done,
+        Err(
+            RegistryFault {
+                reason: RegistryReason::OutOfMemory,
+                at: 0,
+            },
+        ) => refused,
+        _ => OTHER,
+    }
+}
+
+pub(crate) fn read_registry_line(alloc: Global) -> &'static str {
+    read_line(
+        read_registry(alloc, sample::REGISTRY),
+        sample::REGISTRY.len(),
+        "read_registry: read\n",
+        "read_registry: OutOfMemory at 0\n",
+    )
+}
+
+pub(crate) fn read_metadata_line(alloc: Global) -> &'static str {
+    read_line(
+        read_metadata(alloc, sample::METADATA),
+        sample::METADATA.len(),
+        "read_metadata: read\n",
+        "read_metadata: OutOfMemory at 0\n",
+    )
+}
+
+pub(crate) fn write_registry_line(alloc: Global) -> Option<&'static str> {
+    let registry = sample::registry(alloc)?;
+    Some(match write_registry(alloc, &registry) {
+        Ok(bytes) => line_where(
+            bytes.as_slice() == sample::REGISTRY,
+            "write_registry: written\n",
+        ),
+        Err(_) => line_where(
+            is_sample(alloc, &registry),
+            "write_registry: out of memory, a second call succeeds\n",
+        ),
+    })
+}
+
+/// The words are those of a command line, the program's name first.
+pub(crate) fn job_line(alloc: Global, words: &[&str]) -> &'static str {
+    match job(alloc, words) {
+        Ok((Job::Types { .. }, _, None)) => "job: types\n",
+        Ok((Job::Decode { .. }, _, Some(_))) => "job: decode\n",
+        Ok(_) => OTHER,
+        Err(JobFault::Line { .. }) => "job: what clap says of the line\n",
+        Err(JobFault::Usage) => "job: usage\n",
+        Err(JobFault::Memory) => "job: out of memory\n",
+    }
+}

@@ -1,0 +1,87 @@
+//! The program `direct_calls`: makes one public call over the global allocator, on a small input of its own, and says
+//! in a line on standard output what came of it. `examples/check-memory` refuses its requests for memory. The status is 0
+//! where the line is written, 2 where the words name no call, and 3 where the output failed.
+#![tactic(auto)]
+
+mod calls;
+mod sample;
+
+use scale_core::Sink;
+use std::alloc::{AllocError, Global};
+use std::process::ExitCode;
+use std::rt::Env;
+use std::{env, io};
+use value_core::send;
+
+const USAGE: &str =
+    "usage: direct_calls print | json_text | to_json | Checked::new | read_registry | read_metadata | write_registry | job [WORD]..\n";
+
+/// Why no call was made.
+#[derive(Clone, Copy)]
+enum NoCall {
+    /// The words or the input of the call are not there, for want of memory or since a word is not UTF-8.
+    NotReady,
+    /// The words name no call.
+    Usage,
+}
+
+impl From<io::Error> for NoCall {
+    fn from(_error: io::Error) -> NoCall {
+        NoCall::NotReady
+    }
+}
+
+impl From<AllocError> for NoCall {
+    fn from(_error: AllocError) -> NoCall {
+        NoCall::NotReady
+    }
+}
+
+/// The words of the command line, the program's name first.
+fn command_words<R: Env + AllocGlobal>(rt: &R) -> io::Result<Vec<String>> {
+    let mut words = Vec::new(rt.alloc());
+    'words: for word in env::args(rt)? {
+        words.push(word)?;
+    }
+    Ok(words)
+}
+
+/// Makes the call that the words name, where its input is there.
+fn call(alloc: Global, words: &[&str]) -> Result<Option<&'static str>, NoCall> {
+    Ok(match words {
+        [_, "print"] => calls::print_line(alloc),
+        [_, "json_text"] => calls::json_text_line(alloc),
+        [_, "to_json"] => calls::to_json_line(alloc),
+        [_, "Checked::new"] => calls::new_line(alloc),
+        [_, "read_registry"] => Some(calls::read_registry_line(alloc)),
+        [_, "read_metadata"] => Some(calls::read_metadata_line(alloc)),
+        [_, "write_registry"] => calls::write_registry_line(alloc),
+        [_, line @ ..] if line.first() == Some(&"job") => Some(calls::job_line(alloc, line)),
+        _ => return Err(NoCall::Usage),
+    })
+}
+
+/// Makes the call that the command line names: the line of what came of it.
+fn called<R: Env + AllocGlobal>(rt: &R) -> Result<&'static str, NoCall> {
+    let alloc = rt.alloc();
+    let words = command_words(rt)?;
+    let lent: Vec<&str> = words.iter().map(|word| word.as_str()).collect(alloc)?;
+    call(alloc, lent.as_slice())?.ok_or(NoCall::NotReady)
+}
+
+fn main(rt: HostRuntime) -> ExitCode {
+    let line = match called(&rt) {
+        Ok(line) => line,
+        Err(NoCall::NotReady) => "direct_calls: no call was made\n",
+        Err(NoCall::Usage) => {
+            let mut err = Sink::new(rt.stderr());
+            let _ = send(&mut err, USAGE.as_bytes());
+            return ExitCode::from(2);
+        }
+    };
+    let mut out = Sink::new(rt.stdout());
+    match send(&mut out, line.as_bytes()) {
+        Ok(()) => ExitCode::SUCCESS,
+        Err(_) => ExitCode::from(3),
+    }
+}

@@ -1,0 +1,47 @@
+//! The input of every call: a registry of nine types, and a value of the last of them.
+
+use decode_core::decode_pieces;
+use registry_core::{Registry, TypeId, read_registry};
+use std::alloc::Global;
+use value_core::{Limits, Value};
+use widths_core::Checked;
+
+/// A text, a u128, a u256, an option of a character, the character, the unit, a sequence of units, a compact u128, and
+/// a composite of six of these, in their one spelling.
+pub(crate) const REGISTRY: &[u8] =
+    b"\x24\x00\x00\x00\x05\x02\x00\x04\x00\x00\x05\x07\x00\x08\x00\x00\x05\x08\x00\x0c\x04\x18Option\x04\x04T\x01\x10\x01\x08\x10None\x00\x00\x00\x10Some\x04\x00\x10\x01\x04T\x00\x01\x00\x04\x20A choice\x10\x00\x00\x05\x01\x00\x14\x00\x00\x04\x00\x00\x18\x00\x00\x02\x14\x00\x1c\x00\x00\x06\x04\x00\x20\x04\x18Sample\x00\x00\x18\x01\x10name\x00\x00\x00\x01\x18amount\x04\x00\x00\x01\x10hash\x08\x00\x00\x01\x10kind\x0c\x00\x00\x01\x14ticks\x18\x00\x00\x01\x0cfee\x1c\x00\x00\x00";
+
+/// The same registry behind the prefix of metadata.
+pub(crate) const METADATA: &[u8] =
+    b"meta\x0e\x24\x00\x00\x00\x05\x02\x00\x04\x00\x00\x05\x07\x00\x08\x00\x00\x05\x08\x00\x0c\x04\x18Option\x04\x04T\x01\x10\x01\x08\x10None\x00\x00\x00\x10Some\x04\x00\x10\x01\x04T\x00\x01\x00\x04\x20A choice\x10\x00\x00\x05\x01\x00\x14\x00\x00\x04\x00\x00\x18\x00\x00\x02\x14\x00\x1c\x00\x00\x06\x04\x00\x20\x04\x18Sample\x00\x00\x18\x01\x10name\x00\x00\x00\x01\x18amount\x04\x00\x00\x01\x10hash\x08\x00\x00\x01\x10kind\x0c\x00\x00\x01\x14ticks\x18\x00\x00\x01\x0cfee\x1c\x00\x00\x00";
+
+/// The position of the composite.
+const TYPE: TypeId = TypeId(8);
+
+/// A value of the composite: the text SCALE, 7, 1 in 32 bytes, the character x, three units and 1.
+const VALUE: &[u8] =
+    b"\x14SCALE\x07\x00\x00\x00\x00\x00\x00\x00\x00\x00\x00\x00\x00\x00\x00\x00\x01\x00\x00\x00\x00\x00\x00\x00\x00\x00\x00\x00\x00\x00\x00\x00\x00\x00\x00\x00\x00\x00\x00\x00\x00\x00\x00\x00\x00\x00\x00\x00\x01x\x00\x00\x00\x0c\x04";
+
+/// The text of the value's JSON.
+pub(crate) const TEXT: &str =
+    "{\"amount\":\"7\",\"fee\":\"1\",\"hash\":\"0x0000000000000000000000000000000000000000000000000000000000000001\",\"kind\":{\"Some\":[\"x\"]},\"name\":\"SCALE\",\"ticks\":{\"count\":3}}";
+
+/// How many members the object of that text has.
+pub(crate) const MEMBERS: usize = 6;
+
+/// The registry, unless memory is refused.
+pub(crate) fn registry(alloc: Global) -> Option<Registry> {
+    let (registry, _) = read_registry(alloc, REGISTRY).ok()?;
+    Some(registry)
+}
+
+/// The registry, checked, unless memory is refused.
+pub(crate) fn checked(alloc: Global) -> Option<Checked> {
+    Checked::new(alloc, registry(alloc)?).ok()
+}
+
+/// The value, unless memory is refused.
+pub(crate) fn value(alloc: Global, checked: &Checked) -> Option<Value<'_, Global>> {
+    let (value, _) = decode_pieces(alloc, checked, TYPE, Limits::default_limits(), &[VALUE]).ok()?;
+    Some(value)
+}
