@@ -82,8 +82,8 @@ pub record SettlesBadTo (r : List TypeInfo) (propagated : List ℕ) (s n : State
   pub follows : Follows s n
   pub compacts : (k : ℕ) → k < i → k < length (rules r) → (rule_at r k).kind ≡ kind.Compact → has_settled n (rule_at r k).owner ≡ true
 
-pub gives_first : (r : List TypeInfo) (propagated : List ℕ) (s : State) → IsConsistent r propagated s → IsClosed r s → IsBad r s → SettlesBadTo r propagated s s 0
-gives_first r propagated s h closed bad = record { consistent = h; closed = closed; bad = bad; follows = follows_same s; compacts = λ k lt. absurd (omega (arith, lt)) }
+pub settles_bad_first : (r : List TypeInfo) (propagated : List ℕ) (s : State) → IsConsistent r propagated s → IsClosed r s → IsBad r s → SettlesBadTo r propagated s s 0
+settles_bad_first r propagated s h closed bad = record { consistent = h; closed = closed; bad = bad; follows = follows_same s; compacts = λ k lt. absurd (omega (arith, lt)) }
 
 unsettled_before : (b c : Bool) → (b ≡ true → c ≡ true) → c ≡ false → b ≡ false
 unsettled_before true c f e = let t = f refl in let no = sym t ∙ e in absurd cc

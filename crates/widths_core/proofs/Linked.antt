@@ -147,8 +147,8 @@ adds_on xs ys cs ds es a b c h k =
 pub field_at : (fs : List Field) (i : ℕ) (x : Field) → i < length fs → x ≡ get_or fs i x → x.ty.0 ≡ get_or (field_types fs) i 0
 field_at fs i x lt is = ap (λ (f : Field). f.ty.0) is ∙ sym (get_or-map (λ (f : Field). f.ty.0) fs i x 0 lt)
 
-pub member_at : (ts : List TypeId) (i : ℕ) (x : TypeId) → i < length ts → x ≡ get_or ts i x → x.0 ≡ get_or (ids ts) i 0
-member_at ts i x lt is = ap (λ (t : TypeId). t.0) is ∙ sym (get_or-map (λ (t : TypeId). t.0) ts i x 0 lt)
+pub member_at : (ts : List TypeId) (i : ℕ) (d : TypeId) → i < length ts → (get_or ts i d).0 ≡ get_or (ids ts) i 0
+member_at ts i d lt = sym (get_or-map (λ (t : TypeId). t.0) ts i d 0 lt)
 
 -- ---- type by type
 
@@ -164,6 +164,3 @@ linked_opened a b t h o =
       newest = λ u lt. rw (is, o.newest) (h.newest u (omega (arith, lt, ap length o.types)));
       before = λ e lt. rw (is, o.links) (h.before e (omega (arith, lt, ap length is)));
     }
-
-pub member_read : (ts : List TypeId) (i : ℕ) (d : TypeId) → i < length ts → (get_or ts i d).0 ≡ get_or (ids ts) i 0
-member_read ts i d lt = sym (get_or-map (λ (t : TypeId). t.0) ts i d 0 lt)
