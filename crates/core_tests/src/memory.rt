@@ -7,7 +7,7 @@ use std::fs;
 use std::process::Abort;
 use std::rt::Files;
 use std::test::Fail;
-use widths_core::Class;
+use widths_core::{Class, Step};
 
 /// The lists and texts of a registry, each with the bytes that stand before its length.
 const PLACES: [(&str, &[u8]); 22] = [
@@ -158,11 +158,12 @@ fn claimed_lengths_reserve_nothing(rt: HostRuntime) -> Result<(), Fail> {
     Ok(())
 }
 
-// The tables are a vector of classes and one of targets, with one element for each type.
+// The tables are vectors of classes, targets and steps, with one element for each type, and one of members.
 #[test]
-fn the_tables_take_three_bytes_a_type(rt: HostRuntime) -> Result<(), Fail> {
+fn the_tables_take_fifteen_bytes_a_type(rt: HostRuntime) -> Result<(), Fail> {
     assert_eq!(rt; size_of::<Class>(), 1);
     assert_eq!(rt; size_of::<Option<Target>>(), 2);
+    assert_eq!(rt; size_of::<Step>(), 12);
     let before = measured(&rt)?;
     let mut classes = Vec::with_capacity(rt.alloc(), 0x400_0000)?;
     classes.push(Class::Empty)?;
@@ -170,8 +171,12 @@ fn the_tables_take_three_bytes_a_type(rt: HostRuntime) -> Result<(), Fail> {
     let mut targets = Vec::with_capacity(rt.alloc(), 0x400_0000)?;
     targets.push(Some(Target::U8))?;
     let with_both = measured(&rt)?;
-    assert_eq!(rt; (classes.len(), targets.len()), (1, 1));
+    let mut steps = Vec::with_capacity(rt.alloc(), 0x400_0000)?;
+    steps.push(Step::Arms)?;
+    let with_all = measured(&rt)?;
+    assert_eq!(rt; (classes.len(), targets.len(), steps.len()), (1, 1, 1));
     check_growth(&rt, before, with_classes, 0x1_0000);
     check_growth(&rt, with_classes, with_both, 0x2_0000);
+    check_growth(&rt, with_both, with_all, 0xc_0000);
     Ok(())
 }

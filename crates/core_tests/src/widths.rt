@@ -1,11 +1,11 @@
-//! What checked registries say of their types: classes, targets of compacts, arms and widths.
+//! What checked registries say of their types: classes, targets of compacts, arms, widths, steps and members.
 
-use registry_core::{TypeId, read_registry, write_registry};
-use scale_core::Target;
+use registry_core::{Primitive, TypeId, read_registry, write_registry};
+use scale_core::{Target, write_compact};
 use std::alloc::Global;
 use std::process::Abort;
 use std::test::Fail;
-use widths_core::{CheckFault, Checked, Class};
+use widths_core::{CheckFault, Checked, Class, Step};
 
 /// A registry, the class and the compact's target of each of its types, and how wide its widest type is.
 #[derive(Clone, Copy)]
@@ -301,5 +301,68 @@ fn nested_tuples_of_units_are_empty(rt: HostRuntime) -> Result<(), Fail> {
     for id in 0..41 {
         assert_eq!(rt; registry.class(TypeId(id)), Some(Class::Empty), "type {id}");
     }
+    Ok(())
+}
+
+// The type at each position is a tuple of the one type after it, and the last one the empty tuple.
+#[test]
+fn a_chain_of_2000_tuples_is_empty(rt: HostRuntime) -> Result<(), Fail> {
+    let mut bytes = Vec::new(rt.alloc());
+    write_compact(&mut bytes, 2000)?;
+    for id in 0..1999u128 {
+        write_compact(&mut bytes, id)?;
+        bytes.extend_from_slice(&[0, 0, 4, 4])?;
+        write_compact(&mut bytes, id + 1)?;
+        bytes.push(0)?;
+    }
+    write_compact(&mut bytes, 1999)?;
+    bytes.extend_from_slice(&[0, 0, 4, 0, 0])?;
+    let registry = checked(rt.alloc(), &bytes)?;
+    assert_eq!(rt; registry.registry().types().len(), 2000);
+    assert_eq!(rt; registry.widest(), 1);
+    for id in 0..2000 {
+        assert_eq!(rt; registry.class(TypeId(id)), Some(Class::Empty), "type {id}");
+    }
+    Ok(())
+}
+
+/// A u8, a composite of it and of a sequence of it, an array of seven composites, a tuple of both, a compact, a bit
+/// sequence and a variant of one arm around the compact.
+const EACH_DEFINITION: &[u8] =
+    b"\x20\x00\x00\x00\x05\x03\x00\x04\x00\x00\x00\x08\x00\x00\x00\x00\x00\x08\x00\x00\x00\x08\x00\x00\x02\x00\x00\x0c\x00\x00\x03\x07\x00\x00\x00\x04\x00\x10\x00\x00\x04\x08\x04\x0c\x00\x14\x00\x00\x06\x00\x00\x18\x00\x00\x07\x00\x00\x00\x1c\x00\x00\x01\x04\x04A\x04\x00\x14\x00\x00\x00\x00\x00";
+
+const STEPS: [Step; 8] = [
+    Step::Primitive(Primitive::U8),
+    Step::Parts { from: 0, count: 2 },
+    Step::Sequence { element: 0 },
+    Step::Array { len: 7, element: 1 },
+    Step::Parts { from: 4, count: 2 },
+    Step::Compact,
+    Step::BitSequence,
+    Step::Arms,
+];
+
+const MEMBERS: [u32; 8] = [0, 2, 0, 1, 1, 3, 0, 5];
+
+#[test]
+fn types_have_their_steps_and_members(rt: HostRuntime) -> Result<(), Fail> {
+    let registry = checked(rt.alloc(), EACH_DEFINITION)?;
+    let mut id = 0u32;
+    for step in &STEPS {
+        assert_eq!(rt;
+            registry.step(TypeId(id)),
+            Some(*step),
+            "the step of type {id}"
+        );
+        id = id.saturating_add(1);
+    }
+    assert_eq!(rt; registry.step(TypeId(id)), None);
+    assert_eq!(rt; registry.members(), MEMBERS.as_slice());
+    let mut at = 0u32;
+    for member in &MEMBERS {
+        assert_eq!(rt; registry.member(at), Some(*member), "member {at}");
+        at = at.saturating_add(1);
+    }
+    assert_eq!(rt; registry.member(at), None);
     Ok(())
 }

@@ -6,6 +6,14 @@ pub mod Targets
 pub mod Classes
 pub mod Layouts
 pub mod Reach
-pub mod Rounds
+pub mod ClassTables
 pub mod Checks
 pub mod Tables
+pub mod Rules
+pub mod Graphs
+pub mod Counts
+pub mod Progress
+pub mod Analysed
+pub mod Consistent
+pub mod Propagation
+pub mod Steps

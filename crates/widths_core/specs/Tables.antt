@@ -1,13 +1,22 @@
 -- What is kept beside a registry that was checked.
-use Rattle.std.specs.Prelude.{◌≡◌}
+use Rattle.std.specs.Prelude.{◌≡◌, List}
+use Rattle.registry_core.specs.declared.type_info.TypeInfo.{TypeInfo}
 use Rattle.widths_core.specs.declared.checked.Checked.TheInside.{Inside}
 use Rattle.widths_core.specs.References.{IsChecked}
-use Rattle.widths_core.specs.Rounds.{TellsTargets, TellsClasses}
+use Rattle.widths_core.specs.ClassTables.{TellsTargets, TellsClasses}
 use Rattle.widths_core.specs.Widths.{widest}
+use Rattle.widths_core.specs.Steps.{IsTable}
+use Rattle.widths_core.specs.Analysed.{HasFewLooks}
 
 -- every reference is a position, and the tables and the width are those of the registry
 pub record AreTables (c : Inside) : Type 0 where
   pub checked : IsChecked c.registry
   pub classes : TellsClasses c.registry c.classes.items
   pub targets : TellsTargets c.registry c.targets.items
+  pub table : IsTable c.registry c.members.items c.steps.items
   pub widest_is : c.widest ≡ widest c.registry
+  pub looks : HasFewLooks c.registry c.looks
+
+-- what is kept beside this registry was found with few looks
+abbrev pub LooksAreFew : List TypeInfo → Type 0
+LooksAreFew r = (c : Inside) → AreTables c → c.registry ≡ r → HasFewLooks r c.looks

@@ -1,29 +1,28 @@
 //! A registry whose references are known, and what it says of its types.
 
-ghost use Rattle.std.specs.Prelude.{◌≡◌, ◌<◌, length, IfOk, IfErr, SomeIff, option_map};
+ghost use Rattle.std.specs.Prelude.{◌≡◌, ◌<◌, length, IfOk, IfErr, SomeIff, option_map, slice_get};
 ghost use Rattle.registry_core.specs.Fits.{FitsRegistry};
 ghost use Rattle.widths_core.specs.Arms.{arm_at};
 ghost use Rattle.widths_core.specs.Checks.{CheckAnswers, Explains};
 ghost use Rattle.widths_core.specs.Classes.{class_of};
+ghost use Rattle.widths_core.specs.Steps.{IsStepAt, references_of};
 ghost use Rattle.widths_core.specs.References.{IsChecked};
-ghost use Rattle.widths_core.specs.Rounds.{TellsTargets, TellsClasses};
 ghost use Rattle.widths_core.specs.Targets.{compact_target_of};
 ghost use Rattle.widths_core.specs.Types.{shape};
 ghost use Rattle.widths_core.specs.Widths.{widest};
 
+use crate::analysis::{Analysis, analyse};
 use crate::arms::first_arm;
 use crate::class::Class;
-use crate::classes::classes_of;
 use crate::fault::CheckFault;
-use crate::references::{Reference, first_unknown};
-use crate::targets::{known_target, targets_of};
-use crate::widths::widest;
+use crate::looks::Looks;
+use crate::step::{Step, step_of};
 use registry_core::{Arm, Registry, TypeDef, TypeId, TypeInfo};
 use scale_core::Target;
-use std::alloc::{AllocError, Global};
+use std::alloc::Global;
 use std::marker::Model;
 
-/// A registry each of whose references is a position, with a small table of what was found of its types.
+/// A registry each of whose references is a position, with small tables of what was found of its types.
 ///
 /// A reference is the type of a field, also in an arm that an earlier one of the same index shadows, the element of a
 /// sequence or of an array, also one of length 0, the member of a tuple, and what a compact stands over. The ids in
@@ -33,7 +32,12 @@ pub struct Checked {
     registry: Registry,
     classes: Vec<Class>,
     targets: Vec<Option<Target>>,
+    /// All references, in the order of the registry's bytes: those of a type, and of an arm, are next to each other.
+    members: Vec<u32>,
+    /// The step of each type.
+    steps: Vec<Step>,
     widest: u32,
+    looks: Looks,
 }
 
 impl Model for Checked {
@@ -49,22 +53,15 @@ impl Model for Checked {
     ghost invariant = { AreTables };
 }
 
-/// The two tables of these types.
-fn tables(
-    alloc: Global,
-    types: &[TypeInfo],
-) -> Result<(Vec<Class>, Vec<Option<Target>>), AllocError>
-    ensures { IfOk result (λ x. TellsClasses types.now x.0.items × TellsTargets types.now x.1.items) }
-{
-    let targets = targets_of(alloc, types)?;
-    let classes = classes_of(alloc, types, &targets)?;
-    Ok((classes, targets))
-}
-
 impl Checked {
+    ghost use Rattle.std.specs.Prelude.{OnOk};
+    ghost use Rattle.widths_core.specs.Tables.{LooksAreFew};
+
     /// Checks the references of a registry, and finds the class of each type and what a compact over it stands for.
     ///
-    /// The tables take a few bytes a type. They are found in rounds over all types, at most as many as there are types.
+    /// They are found in one pass over the registry and one over the lists of references to each type, so the time is in
+    /// proportion to the registry. What is kept takes a few bytes a type and a reference. Until the end lists and counters
+    /// take a few bytes a type, an arm and a reference more.
     ///
     /// Refuses, and hands the registry back unchanged:
     /// - `UnknownType`, where a reference is no position: the first such reference by the type that it stands in, and
@@ -77,20 +74,29 @@ impl Checked {
         ensures checked { IfOk result (λ _. IsChecked registry) }
         // The reference that is told is the first that is no position; memory is told only where there is none.
         ensures explained { IfErr result (λ refused. Explains registry refused.0) }
+        // Where it is accepted, each type was looked at once at most, and each reference twice at most.
+        ensures looked { OnOk result (LooksAreFew registry) }
     {
-        let types = registry.types();
-        if let Some(Reference { from, to }) = first_unknown(types) {
-            return Err((CheckFault::UnknownType { from, to }, registry));
-        }
-        let widest = widest(types);
-        match tables(alloc, types) {
-            Ok((classes, targets)) => Ok(Checked {
+        match analyse(alloc, registry.types()) {
+            Ok(
+                Analysis {
+                    classes,
+                    targets,
+                    members,
+                    steps,
+                    widest,
+                    looks,
+                },
+            ) => Ok(Checked {
                 registry,
                 classes,
                 targets,
+                members,
+                steps,
                 widest,
+                looks,
             }),
-            Err(_) => Err((CheckFault::OutOfMemory, registry)),
+            Err(fault) => Err((fault, registry)),
         }
     }
 
@@ -110,9 +116,30 @@ impl Checked {
         ensures { result ≡ compact_target_of self.now id.0 }
     {
         match self.shape(id)? {
-            TypeDef::Compact(over) => known_target(&self.targets, *over),
+            TypeDef::Compact(over) => self.targets.get(over.0 as usize).copied().flatten(),
             _ => None,
         }
+    }
+
+    /// What a type is made of, where the id is a position (scale-info, `TypeDef`): one look-up.
+    pub fn step(&self, id: TypeId) -> Option<Step>
+        ensures { IsStepAt self.now id.0 result }
+    {
+        step_of(self.steps.as_slice(), id.0)
+    }
+
+    /// The reference with this number, in the order of the registry's bytes from 0 on: one look-up.
+    pub fn member(&self, at: u32) -> Option<u32>
+        ensures { result ≡ slice_get (references_of self.now) at }
+    {
+        self.members.get(at as usize).copied()
+    }
+
+    /// All references, in the order of the registry's bytes.
+    pub fn members(&self) -> &[u32]
+        ensures { result.now ≡ references_of self.now }
+    {
+        self.members.as_slice()
     }
 
     /// The first arm of the index, with its position among the arms, where the type is a variant that has one

@@ -16,18 +16,7 @@ pub enum Class {
 }
 
 impl Class {
-    ghost use Rattle.widths_core.specs.Rounds.{joined, has_value};
-
-    /// The class of a value that has a part of each class.
-    pub(crate) fn joined(self, other: Class) -> Class
-        ensures { result ≡ joined self other }
-    {
-        match (self, other) {
-            (Class::NoValue, _) | (_, Class::NoValue) => Class::NoValue,
-            (Class::Empty, Class::Empty) => Class::Empty,
-            (Class::Sized, _) | (_, Class::Sized) => Class::Sized,
-        }
-    }
+    ghost use Rattle.widths_core.specs.ClassTables.{has_value};
 
     /// Does a type of this class have a value?
     pub(crate) fn has_value(self) -> bool

@@ -2,16 +2,22 @@
 //! compact integer stands for, and how many parts a value has at most.
 #![tactic(auto)]
 
+mod analysis;
 mod arms;
 mod checked;
 mod class;
-mod classes;
+mod counter;
 mod fault;
+mod graph;
 pub mod laws;
+mod linking;
+mod looks;
 mod references;
-mod targets;
+mod settling;
+mod step;
 mod widths;
 
 pub use checked::Checked;
 pub use class::Class;
 pub use fault::CheckFault;
+pub use step::Step;

@@ -1,0 +1,6 @@
+use Rattle.widths_core.specs.Types.{field_types}
+use Rattle.widths_core.proofs.Linked.{ReadsParts}
+use Rattle.widths_core.proofs.linking.link_fields.Given as goal
+
+abbrev pub invariant-fields : goal.invariant-fields
+invariant-fields l = ReadsParts l.fn.graph l.graph l.counter l.field-index (field_types l.fields)

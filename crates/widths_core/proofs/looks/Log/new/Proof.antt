@@ -1,0 +1,84 @@
+-- A log begins empty: the one value that it has at run time is made.
+use mathlib.Core.Path.{refl}
+use mathlib.Core.List.{[], ◌∷◌}
+use seplogic.Ra.Ura.{Ura}
+use mir.Syntax.{Fn}
+use base.Logic.{SProp, ent}
+use base.Fml.{Fml, ftrue}
+use prog.Wp.{WpFn}
+use prog.Model.{Model}
+use types.Logic.{Logic}
+use contract.Running.{Running, MachineTables, tables, tables_of}
+use sound.WpLaws.{WpFn-mono}
+use types.Kit.{‵, raw, ◌⊛◌, ◌$◌, ◌∵◌, !, qed, keep, move, join, fjoin, suffices, frame, use0}
+use types.Run.{no_more, and_then, returns, enter}
+use types.ByLocal.{alloc_all, pass_all, free_all, look_at, get, sets}
+use types.Part.{agg}
+use denote.RattleType.{owns}
+use denote.Signature.{types_at}
+use denote.Builtin.{unit}
+use denote.Steps.{nothing}
+use denote.Triple.Clauses.{Clauses, closing}
+use denote.Triple.Spec.{Meets, triple_of}
+use denote.Triple.Table.{entered}
+use denote.Triple.Walked.{Stays, walk_of, ends_at, walk_Meets}
+use contract.CodeStep
+use Rattle.widths_core.specs.contracts.looks.Log as log
+use Rattle.widths_core.proofs.Tokens.{token, Mark, made, tells_last}
+use Rattle.widths_core.specs.contracts.looks.Log.new.{ended, clauses}
+use Rattle.widths_core.specs.contracts.looks.Log.new.Key.{name as #self}
+use Rattle.widths_core.proofs.looks.Log.new.Statement as stated
+use Rattle.widths_core.proofs.looks.Log.new.Code as code
+
+module _ {M : Type 1} {𝓤 : Ura M} (𝓛 : Logic 𝓤) (𝓜 : Model 𝓤 𝓛.H) (𝓡 : Running 𝓤 𝓛.H 𝓜) where
+  open 𝓛 use {H}
+
+  abbrev function : Fn
+  function = code.function
+
+  abbrev stayed : Stays ended.signature.params ended.kept
+  stayed = tt
+
+  abbrev 𝓣 : MachineTables 𝓤 H 𝓜
+  𝓣 = tables 𝓤 H 𝓜 𝓡 𝓡.env
+
+  abbrev held : Clauses 𝓤 ended
+  held = clauses 𝓛 𝓜.mem 𝓡.returns
+
+  module _ (z : (walk_of 𝓛 ended stayed held).Ghost) where
+    abbrev Vss : Type 0
+    Vss = Unit {0}
+
+    abbrev At : Vss → (walk_of 𝓛 ended stayed held).Ghost
+    At vss = ((z.0.0, z.0.1, z.0.2, z.0.3, vss), z.1)
+
+    abbrev Goes : Vss → Type 1
+    Goes vss = ent 𝓤 ((walk_of 𝓛 ended stayed held).pre (At vss)) (WpFn 𝓤 H 𝓣.C 𝓣.Λ function ((walk_of 𝓛 ended stayed held).args (At vss)) ((walk_of 𝓛 ended stayed held).post (At vss)))
+
+    abbrev passed : Vss
+    passed = tt
+
+    abbrev args : Fml
+    args = owns (types_at ended.signature.params z.0.0) z.0.3 passed
+
+    abbrev asked : SProp 𝓤
+    asked = (held z.0.0 z.0.3).requires z.1
+
+    walks : Goes passed
+    walks =
+        qed 𝓛 ((‵ ftrue ⊛ ‵ args) ∷ raw asked ∷ []) ∵ keep ! [] $ enter ! 𝓣.C 𝓣.Λ function [] _ $ alloc_all ! (λ l. pass_all ! refl tt $
+        sets ! (agg ! (no_more !)) refl (tt, tt) $ sets ! (agg ! (and_then ! (get ! refl) (no_more !))) refl (tt, (tt, tt)) $
+        returns ! (look_at ! 0 refl) $ free_all ! refl $ suffices ! _ (ends_at 𝓛 ended stayed held (At passed) token record { marker = record {}; entries = [] } tt tt) $
+        use0 𝓛 (‵ ((Mark (log.the_type).name [] unit).own_val (tt, tt) (token ∷ []))) (made (log.the_type).name [] unit 𝓛) $ nothing ! $ move ! (1 ∷ 0 ∷ []) $ fjoin ! $ nothing ! $ join ! $ nothing ! $ join ! $ frame ! $ tells_last ! refl)
+
+  meets : Meets 𝓛 ended.signature (WpFn 𝓤 H 𝓣.C 𝓣.Λ function) (closing 𝓛 ended held)
+  unfolding tables_of contract.CodeStep.c_Tables
+  meets =
+      walk_Meets 𝓛 ended stayed tt held
+      (WpFn 𝓤 H 𝓣.C 𝓣.Λ function) (WpFn-mono 𝓤 H 𝓛.laws (tables_of 𝓤 H 𝓜 𝓣) function)
+      (λ z. walks z)
+
+pub new_spec : {M : Type 1} → stated.statement M
+new_spec 𝓤 𝓛 𝓜 𝓡 wired = let 𝓣' = tables 𝓤 𝓛.H 𝓜 𝓡 𝓡.env in
+    entered 𝓤 𝓛.H (triple_of 𝓛 ended.signature (closing 𝓛 ended (held 𝓛 𝓜 𝓡))) 𝓣'.C 𝓣'.Λ #self (function 𝓛 𝓜 𝓡)
+    (code.unfolded 𝓤 𝓛.H 𝓜 𝓡 wired) (meets 𝓛 𝓜 𝓡)

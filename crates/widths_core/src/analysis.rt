@@ -1,0 +1,115 @@
+//! What a registry says of its types, found in one pass over it and one over the lists of references to each.
+
+ghost use Rattle.std.specs.Prelude.{◌<◌, ◌^◌, length, IfSome, IfOk, MatchResult};
+ghost use Rattle.registry_core.specs.Fits.{FitsRegistry};
+ghost use Rattle.widths_core.specs.Analysed.{IsAnalysed};
+ghost use Rattle.widths_core.specs.Checks.{IsFaultOf};
+ghost use Rattle.widths_core.specs.Graphs.{IsUnread};
+ghost use Rattle.widths_core.specs.Steps.{IsTable};
+ghost use Rattle.widths_core.specs.References.{first_fault};
+
+use crate::class::Class;
+use crate::fault::CheckFault;
+use crate::graph::Graph;
+use crate::linking::{Linked, link_types};
+use crate::looks::Looks;
+use crate::references::{Reference, first_unknown};
+use crate::settling::Settling;
+use crate::step::Step;
+use registry_core::TypeInfo;
+use scale_core::Target;
+use std::alloc::Global;
+
+/// What is found of the types of a registry.
+#[derive(Drop)]
+struct Tables {
+    classes: Vec<Class>,
+    targets: Vec<Option<Target>>,
+    steps: Vec<Step>,
+    widest: u32,
+}
+
+/// What is found of the types of a registry, and what was looked at.
+#[derive(Drop)]
+pub(crate) struct Analysis {
+    pub classes: Vec<Class>,
+    pub targets: Vec<Option<Target>>,
+    pub members: Vec<u32>,
+    pub steps: Vec<Step>,
+    pub widest: u32,
+    pub looks: Looks,
+}
+
+/// What is found of the types of a graph. Answers `None` where a reference is no position or memory is refused.
+fn settled_tables(alloc: Global, graph: &mut Graph<'_>) -> Option<Tables>
+    requires fits { FitsRegistry graph.old.types.now }
+    requires unread { IsUnread graph.old.types.now graph.old }
+    ensures analysed { IfSome result (λ t. IsAnalysed graph.old.types.now t.classes.items t.targets.items t.widest graph.new.looks) }
+    ensures table { IfSome result (λ t. IsTable graph.old.types.now graph.new.members.items t.steps.items) }
+{
+    graph.prepare(alloc)?;
+    let Linked {
+        counters,
+        steps,
+        widest,
+    } = link_types(alloc, graph)?;
+    let mut settling = Settling::new(alloc, counters, graph.count()).ok()?;
+    let done = settling.begin(graph).ok()?;
+    settling.settle_bad_compacts(graph, done).ok()?;
+    let Settling {
+        counters: _,
+        classes,
+        targets,
+        settled: _,
+    } = settling;
+    Some(Tables {
+        classes,
+        targets,
+        steps,
+        widest,
+    })
+}
+
+/// Why these types could not be settled: the first reference that is no position, or want of memory where each is one.
+fn fault_of(types: &[TypeInfo]) -> CheckFault
+    requires { length types.now < 2 ^ 32 }
+    ensures { IsFaultOf result (first_fault types.now) }
+{
+    match first_unknown(types) {
+        Some(Reference { from, to }) => CheckFault::UnknownType { from, to },
+        None => CheckFault::OutOfMemory,
+    }
+}
+
+/// What is found of these types, or why they are refused.
+///
+/// The looks are kept only where the types are accepted: a refused registry is gone through once more, for the first
+/// fault.
+pub(crate) fn analyse(alloc: Global, types: &[TypeInfo]) -> Result<Analysis, CheckFault>
+    requires { FitsRegistry types.now }
+    ensures found { MatchResult result (λ a. IsAnalysed types.now a.classes.items a.targets.items a.widest a.looks) (λ fault. IsFaultOf fault (first_fault types.now)) }
+    ensures table { IfOk result (λ a. IsTable types.now a.members.items a.steps.items) }
+{
+    let mut graph = Graph::new(alloc, types);
+    match settled_tables(alloc, &mut graph) {
+        Some(
+            Tables {
+                classes,
+                targets,
+                steps,
+                widest,
+            },
+        ) => {
+            let (looks, members) = graph.into_looks();
+            Ok(Analysis {
+                classes,
+                targets,
+                members,
+                steps,
+                widest,
+                looks,
+            })
+        }
+        None => Err(fault_of(types)),
+    }
+}

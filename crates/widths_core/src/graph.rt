@@ -1,0 +1,159 @@
+//! The graph of a registry's types and references, read through looks that are logged.
+
+ghost use Rattle.std.specs.Prelude.{◌≡◌, ◌<◌, ◌^◌, [], ◌∷◌, length, IfSome, slice_index};
+ghost use Rattle.widths_core.specs.Graphs.{IsLinked, IsOpened, IsListed, IsUnread, Reads, IsNew, refs, numbers, befores};
+ghost use Rattle.widths_core.specs.Types.{shape};
+
+use crate::looks::{Log, Looks};
+use registry_core::{TypeDef, TypeId, TypeInfo};
+use std::alloc::Global;
+
+/// A reference in the list of those to one type.
+#[derive(Clone, Copy)]
+pub(crate) struct Link {
+    /// The counter that counts the type that it is to.
+    pub counter: u32,
+    /// One more than the number of the reference to the same type before it, and 0 where it is the first.
+    pub before: u32,
+}
+
+/// The types of a registry, and for each the list of the references to it that were read, the newest first.
+///
+/// References have numbers in the order in which they are read. Each look at a definition, at a reference in a definition
+/// and at a reference in a list goes through a method that logs it. The lists are linked: lists that lie side by side
+/// would first need the length of each, and so a third look at every reference.
+#[derive(Drop)]
+pub(crate) struct Graph<'r> {
+    types: &'r [TypeInfo],
+    /// For each type one more than the number of the newest reference to it, and 0 where there is none.
+    newest: Vec<u32>,
+    links: Vec<Link>,
+    /// The references in the order in which they were read.
+    members: Vec<u32>,
+    looks: Looks,
+}
+
+impl<'r> Graph<'r> {
+    /// The graph of these types before any look. It takes no memory.
+    pub(crate) fn new(alloc: Global, types: &'r [TypeInfo]) -> Graph<'r>
+        ensures { IsUnread types.now result }
+    {
+        Graph {
+            types,
+            newest: Vec::new(alloc),
+            links: Vec::new(alloc),
+            members: Vec::new(alloc),
+            looks: Looks {
+                opened: Log::new(),
+                read: Log::new(),
+                listed: Log::new(),
+            },
+        }
+    }
+
+    /// Makes an empty list for each type. Answers `None` where memory is refused.
+    pub(crate) fn prepare(&mut self, alloc: Global) -> Option<()>
+        requires { IsUnread self.old.types.now self.old }
+        ensures { IfSome result (λ _. IsNew self.old.types.now self.new) }
+    {
+        self.newest = vec![in alloc; 0; self.types.len()].ok()?;
+        Some(())
+    }
+
+    /// How many types there are.
+    pub(crate) fn count(&self) -> usize
+        ensures { result ≡ length self.now.types.now }
+    {
+        self.types.len()
+    }
+
+    /// One look at a type: its definition.
+    pub(crate) fn definition(&mut self, position: u32) -> &'r TypeDef
+        requires { position < length self.old.types.now }
+        ensures found { shape self.old.types.now position ≡ Some result.now }
+        ensures opened { IsOpened self.old self.new position }
+    {
+        self.looks.opened.add(position);
+        let types = self.types;
+        let info = &types[position as usize];
+        &info.shape
+    }
+
+    /// One look at a reference in a definition.
+    fn reference(&mut self, place: &TypeId) -> u32
+        ensures value { result ≡ place.now.0 }
+        ensures log { self.new.looks.read.entries ≡ place.now.0 ∷ self.old.looks.read.entries }
+        ensures types { self.new.types.now ≡ self.old.types.now }
+        ensures newest { self.new.newest.items ≡ self.old.newest.items }
+        ensures links { self.new.links.items ≡ self.old.links.items }
+        ensures members { self.new.members.items ≡ self.old.members.items }
+        ensures opened { self.new.looks.opened.entries ≡ self.old.looks.opened.entries }
+        ensures listed { self.new.looks.listed.entries ≡ self.old.looks.listed.entries }
+    {
+        let to = place.0;
+        self.looks.read.add(to);
+        to
+    }
+
+    /// Reads a reference of a definition, and puts it into the list of those to its type, for this counter.
+    ///
+    /// Answers the position that it is to, and `None` where it is no position or memory is refused.
+    pub(crate) fn add(&mut self, place: &TypeId, counter: u32) -> Option<u32>
+        requires { IsLinked self.old }
+        ensures reads { IfSome result (λ _. Reads self.old self.new (place.now.0 ∷ []) (counter ∷ [])) }
+        ensures value { IfSome result (λ to. to ≡ place.now.0) }
+    {
+        let id = self.reference(place);
+        let to = id as usize;
+        if to >= self.types.len() || self.links.len() >= u32::MAX as usize {
+            return None;
+        }
+        let before = self.newest[to];
+        self.members.push(id).ok()?;
+        self.links.push(Link { counter, before }).ok()?;
+        self.newest[to] = self.links.len() as u32;
+        Some(id)
+    }
+
+    /// How many references were read.
+    pub(crate) fn read(&self) -> u32
+        requires { IsLinked self.now }
+        ensures { result ≡ length (refs self.now) }
+    {
+        self.links.len() as u32
+    }
+
+    /// One more than the number of the newest reference to a type, and 0 where there is none.
+    pub(crate) fn newest(&self, position: u32) -> u32
+        requires { position < length self.now.newest.items }
+        ensures { result ≡ slice_index self.now.newest.items position }
+    {
+        self.newest[position as usize]
+    }
+
+    /// One look at a reference in the list of those to its type.
+    pub(crate) fn link(&mut self, number: u32) -> Link
+        requires { number < length self.old.links.items }
+        ensures counter { result.counter ≡ slice_index (numbers self.old) number }
+        ensures before { result.before ≡ slice_index (befores self.old) number }
+        ensures listed { IsListed self.old self.new number }
+    {
+        self.looks.listed.add(number);
+        self.links[number as usize]
+    }
+
+    /// What was looked at, and the references in the order in which they were read.
+    pub(crate) fn into_looks(self) -> (Looks, Vec<u32>)
+        ensures looks { result.0 ≡ self.entry.looks }
+        ensures members { result.1.items ≡ self.entry.members.items }
+    {
+        let Graph {
+            types: _,
+            newest: _,
+            links: _,
+            members,
+            looks,
+        } = self;
+        (looks, members)
+    }
+}

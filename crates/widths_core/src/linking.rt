@@ -1,0 +1,273 @@
+//! One pass over a registry: references are checked and put into lists, and counters and steps are made.
+
+ghost use Rattle.std.specs.Prelude.{◌≡◌, ◌<◌, ◌++◌, ◌∷◌, [], ◌^◌, length, false, IfSome};
+ghost use Rattle.registry_core.specs.Fits.{FitsDefinition, FitsRegistry};
+ghost use Rattle.widths_core.specs.Graphs.{IsLinked, IsNew, Adds, AreTypesLinked, refs};
+ghost use Rattle.widths_core.specs.Steps.{AreParts, IsStep, AreSteps};
+ghost use Rattle.widths_core.specs.Rules.{rule, kind_of_parts, found_of_primitive, found_sized, arm_rules, rules_of};
+ghost use Rattle.widths_core.specs.Types.{ids, field_types};
+ghost use Rattle.widths_core.specs.Widths.{widest};
+
+use crate::class::Class;
+use crate::counter::{Counter, Found, Kind};
+use crate::graph::Graph;
+use crate::step::{Parts, Step};
+use crate::widths::width;
+use registry_core::{Arm, Field, Primitive, TypeDef, TypeId};
+use scale_core::Target;
+use std::alloc::Global;
+
+/// A type that takes bytes and is no target of a compact.
+const SIZED: Found = Found {
+    class: Class::Sized,
+    target: None,
+};
+
+/// Adds a counter of so many parts, and answers its number.
+fn count_parts(counters: &mut Vec<Counter>, owner: u32, kind: Kind, parts: usize) -> Option<u32>
+    ensures { IfSome result (λ number. (number ≡ length counters.old.items) × (counters.new.items ≡ counters.old.items ++ record { owner = owner; kind = kind; left = parts; sized = false } ∷ [])) }
+{
+    let number = counters.len();
+    if number >= u32::MAX as usize || parts > u32::MAX as usize {
+        return None;
+    }
+    counters
+        .push(Counter {
+            owner,
+            kind,
+            left: parts as u32,
+            sized: false,
+        })
+        .ok()?;
+    Some(number as u32)
+}
+
+/// The types of these fields are counted together. Answers where they are among the references.
+fn link_fields(
+    graph: &mut Graph<'_>,
+    counters: &mut Vec<Counter>,
+    owner: u32,
+    kind: Kind,
+    fields: &[Field],
+) -> Option<Parts>
+    requires { IsLinked graph.old }
+    ensures adds { IfSome result (λ _. Adds (rule owner kind (field_types fields.now) ∷ []) counters.old.items counters.new.items graph.old graph.new) }
+    ensures parts { IfSome result (λ p. AreParts (refs graph.new) p.from p.count (field_types fields.now)) }
+{
+    let from = graph.read();
+    let counter = count_parts(counters, owner, kind, fields.len())?;
+    'fields: for field in fields {
+        graph.add(&field.ty, counter)?;
+    }
+    let to = graph.read();
+    Some(Parts {
+        from,
+        count: to - from,
+    })
+}
+
+/// These types are counted together. Answers where they are among the references.
+fn link_members(
+    graph: &mut Graph<'_>,
+    counters: &mut Vec<Counter>,
+    owner: u32,
+    kind: Kind,
+    members: &[TypeId],
+) -> Option<Parts>
+    requires { IsLinked graph.old }
+    ensures adds { IfSome result (λ _. Adds (rule owner kind (ids members.now) ∷ []) counters.old.items counters.new.items graph.old graph.new) }
+    ensures parts { IfSome result (λ p. AreParts (refs graph.new) p.from p.count (ids members.now)) }
+{
+    let from = graph.read();
+    let counter = count_parts(counters, owner, kind, members.len())?;
+    'members: for member in members {
+        graph.add(member, counter)?;
+    }
+    let to = graph.read();
+    Some(Parts {
+        from,
+        count: to - from,
+    })
+}
+
+/// This type is counted alone. Answers its position.
+fn link_one(
+    graph: &mut Graph<'_>,
+    counters: &mut Vec<Counter>,
+    owner: u32,
+    kind: Kind,
+    part: &TypeId,
+) -> Option<u32>
+    requires { IsLinked graph.old }
+    ensures value { IfSome result (λ id. id ≡ part.now.0) }
+    ensures adds { IfSome result (λ _. Adds (rule owner kind (part.now.0 ∷ []) ∷ []) counters.old.items counters.new.items graph.old graph.new) }
+{
+    let counter = count_parts(counters, owner, kind, 1)?;
+    graph.add(part, counter)
+}
+
+/// The fields of each arm are counted together; those of an arm that an earlier one of its index shadows settle nothing.
+fn link_arms(
+    graph: &mut Graph<'_>,
+    counters: &mut Vec<Counter>,
+    owner: u32,
+    arms: &[Arm],
+) -> Option<()>
+    requires { IsLinked graph.old }
+    ensures { IfSome result (λ _. Adds (arm_rules owner [] arms.now) counters.old.items counters.new.items graph.old graph.new) }
+{
+    let mut seen = [false; 256];
+    'arms: for arm in arms {
+        let index = usize::from(arm.index);
+        if seen[index] {
+            link_fields(graph, counters, owner, Kind::Idle, arm.fields.as_slice())?;
+            continue;
+        }
+        link_fields(
+            graph,
+            counters,
+            owner,
+            Kind::Fixed(SIZED),
+            arm.fields.as_slice(),
+        )?;
+        seen[index] = true;
+    }
+    Some(())
+}
+
+/// As what a type settles that has so many parts, one value of each in each of its values.
+fn kind_of_parts(parts: usize) -> Kind
+    ensures { result ≡ kind_of_parts parts }
+{
+    match parts {
+        0 => Kind::Fixed(Found {
+            class: Class::Empty,
+            target: Some(Target::Unit),
+        }),
+        1 => Kind::Wrap,
+        _ => Kind::Parts,
+    }
+}
+
+/// What is found of a primitive type.
+fn found_of_primitive(primitive: Primitive) -> Found
+    ensures { result ≡ found_of_primitive primitive }
+{
+    let target = match primitive {
+        Primitive::U8 => Some(Target::U8),
+        Primitive::U16 => Some(Target::U16),
+        Primitive::U32 => Some(Target::U32),
+        Primitive::U64 => Some(Target::U64),
+        Primitive::U128 => Some(Target::U128),
+        _ => None,
+    };
+    Found {
+        class: Class::Sized,
+        target,
+    }
+}
+
+/// A type of this shape: its counters, the references of its definition, and its step.
+fn link_shape(
+    graph: &mut Graph<'_>,
+    counters: &mut Vec<Counter>,
+    owner: u32,
+    shape: &TypeDef,
+) -> Option<Step>
+    requires { IsLinked graph.old }
+    ensures adds { IfSome result (λ _. Adds (rules_of owner shape.now) counters.old.items counters.new.items graph.old graph.new) }
+    ensures step { IfSome result (λ s. IsStep (refs graph.new) shape.now s) }
+{
+    match shape {
+        TypeDef::Composite(fields) => {
+            let kind = kind_of_parts(fields.len());
+            let Parts { from, count } = link_fields(
+                graph,
+                counters,
+                owner,
+                kind,
+                fields.as_slice(),
+            )?;
+            Some(Step::Parts { from, count })
+        }
+        TypeDef::Tuple(members) => {
+            let kind = kind_of_parts(members.len());
+            let Parts { from, count } = link_members(
+                graph,
+                counters,
+                owner,
+                kind,
+                members.as_slice(),
+            )?;
+            Some(Step::Parts { from, count })
+        }
+        TypeDef::Variant(arms) => {
+            link_arms(graph, counters, owner, arms.as_slice())?;
+            Some(Step::Arms)
+        }
+        TypeDef::Sequence(element) => {
+            count_parts(counters, owner, Kind::Fixed(SIZED), 0)?;
+            let element = link_one(graph, counters, owner, Kind::Idle, element)?;
+            Some(Step::Sequence { element })
+        }
+        TypeDef::Array(0, element) => {
+            let found = Found {
+                class: Class::Empty,
+                target: None,
+            };
+            count_parts(counters, owner, Kind::Fixed(found), 0)?;
+            let element = link_one(graph, counters, owner, Kind::Idle, element)?;
+            Some(Step::Array { len: 0, element })
+        }
+        TypeDef::Array(len, element) => {
+            let element = link_one(graph, counters, owner, Kind::Parts, element)?;
+            Some(Step::Array { len: *len, element })
+        }
+        TypeDef::Compact(over) => {
+            link_one(graph, counters, owner, Kind::Compact, over)?;
+            Some(Step::Compact)
+        }
+        TypeDef::Primitive(primitive) => {
+            let found = found_of_primitive(*primitive);
+            count_parts(counters, owner, Kind::Fixed(found), 0)?;
+            Some(Step::Primitive(*primitive))
+        }
+        TypeDef::BitSequence { .. } => {
+            count_parts(counters, owner, Kind::Fixed(SIZED), 0)?;
+            Some(Step::BitSequence)
+        }
+    }
+}
+
+/// What one pass over the types makes.
+#[derive(Drop)]
+pub(crate) struct Linked {
+    pub counters: Vec<Counter>,
+    pub steps: Vec<Step>,
+    /// How many parts a value has at most.
+    pub widest: u32,
+}
+
+/// One pass over the types: the counters, the steps, and how many parts a value has at most.
+pub(crate) fn link_types(alloc: Global, graph: &mut Graph<'_>) -> Option<Linked>
+    requires fits { FitsRegistry graph.old.types.now }
+    requires fresh { IsNew graph.old.types.now graph.old }
+    ensures linked { IfSome result (λ x. AreTypesLinked graph.old.types.now x.counters.items graph.new) }
+    ensures steps { IfSome result (λ x. AreSteps graph.old.types.now (refs graph.new) x.steps.items) }
+    ensures widest { IfSome result (λ x. x.widest ≡ widest graph.old.types.now) }
+{
+    let mut counters = Vec::new(alloc);
+    let mut steps = Vec::new(alloc);
+    let mut widest = 0;
+    'types: for position in 0..graph.count() {
+        let shape = graph.definition(position as u32);
+        widest = widest.max(width(shape));
+        let step = link_shape(graph, &mut counters, position as u32, shape)?;
+        steps.push(step).ok()?;
+    }
+    Some(Linked {
+        counters,
+        steps,
+        widest,
+    })
+}
