@@ -7,7 +7,7 @@ use std::fs;
 use std::process::Abort;
 use std::rt::Files;
 use std::test::Fail;
-use widths_core::{Class, Step};
+use widths_core::{ArmStep, Class, Step};
 
 /// The lists and texts of a registry, each with the bytes that stand before its length.
 const PLACES: [(&str, &[u8]); 22] = [
@@ -164,6 +164,7 @@ fn the_tables_take_fifteen_bytes_a_type(rt: HostRuntime) -> Result<(), Fail> {
     assert_eq!(rt; size_of::<Class>(), 1);
     assert_eq!(rt; size_of::<Option<Target>>(), 2);
     assert_eq!(rt; size_of::<Step>(), 12);
+    assert_eq!(rt; size_of::<ArmStep>(), 12);
     let before = measured(&rt)?;
     let mut classes = Vec::with_capacity(rt.alloc(), 0x400_0000)?;
     classes.push(Class::Empty)?;
@@ -172,7 +173,7 @@ fn the_tables_take_fifteen_bytes_a_type(rt: HostRuntime) -> Result<(), Fail> {
     targets.push(Some(Target::U8))?;
     let with_both = measured(&rt)?;
     let mut steps = Vec::with_capacity(rt.alloc(), 0x400_0000)?;
-    steps.push(Step::Arms)?;
+    steps.push(Step::Compact)?;
     let with_all = measured(&rt)?;
     assert_eq!(rt; (classes.len(), targets.len(), steps.len()), (1, 1, 1));
     check_growth(&rt, before, with_classes, 0x1_0000);

@@ -5,7 +5,7 @@ use scale_core::{Target, write_compact};
 use std::alloc::Global;
 use std::process::Abort;
 use std::test::Fail;
-use widths_core::{CheckFault, Checked, Class, Step};
+use widths_core::{ArmStep, CheckFault, Checked, Class, Step};
 
 /// A registry, the class and the compact's target of each of its types, and how wide its widest type is.
 #[derive(Clone, Copy)]
@@ -287,6 +287,67 @@ fn the_first_arm_of_an_index_is_found(rt: HostRuntime) -> Result<(), Fail> {
     Ok(())
 }
 
+/// A variant of five arms, whose indexes are 5, 2, 200, 2 again and 7, with one, no, two, one and no fields.
+const GAPS: &[u8] =
+    b"\x08\x00\x00\x00\x05\x03\x00\x04\x00\x00\x01\x14\x04A\x04\x00\x00\x00\x00\x05\x00\x04B\x00\x02\x00\x04C\x08\x00\x00\x00\x00\x00\x00\x00\x00\xc8\x00\x04D\x04\x00\x00\x00\x00\x02\x00\x04E\x00\x07\x00\x00";
+
+/// The arms of `GAPS` that are not shadowed: the index, the name, and where the fields' types are among the references.
+const ARMS_OF_GAPS: [(u8, &str, ArmStep); 4] = [
+    (
+        2,
+        "B",
+        ArmStep {
+            position: 1,
+            from: 1,
+            count: 0,
+        },
+    ),
+    (
+        5,
+        "A",
+        ArmStep {
+            position: 0,
+            from: 0,
+            count: 1,
+        },
+    ),
+    (
+        7,
+        "E",
+        ArmStep {
+            position: 4,
+            from: 4,
+            count: 0,
+        },
+    ),
+    (
+        200,
+        "C",
+        ArmStep {
+            position: 2,
+            from: 1,
+            count: 2,
+        },
+    ),
+];
+
+#[test]
+fn arms_are_found_between_gaps(rt: HostRuntime) -> Result<(), Fail> {
+    let registry = checked(rt.alloc(), GAPS)?;
+    for index in 0..=255u8 {
+        let arm = ARMS_OF_GAPS.iter().find(|arm| arm.0 == index);
+        let step = arm.map(|arm| arm.2);
+        assert_eq!(rt; registry.arm_step(TypeId(1), index), step, "index {index}");
+        assert_eq!(rt; registry.arm_step(TypeId(0), index), None);
+        let found = registry.arm(TypeId(1), index);
+        let named = found.map(|(position, arm)| (position, arm.name.as_str()));
+        let wanted = arm.map(|arm| (arm.2.position, arm.1));
+        assert_eq!(rt; named, wanted, "index {index}");
+    }
+    assert_eq!(rt; registry.members(), [0, 0, 0, 0].as_slice());
+    Ok(())
+}
+
 #[test]
 fn nested_tuples_of_units_are_empty(rt: HostRuntime) -> Result<(), Fail> {
     let mut bytes = Vec::new(rt.alloc());
@@ -339,7 +400,7 @@ const STEPS: [Step; 8] = [
     Step::Parts { from: 4, count: 2 },
     Step::Compact,
     Step::BitSequence,
-    Step::Arms,
+    Step::Arms { from: 0, count: 1 },
 ];
 
 const MEMBERS: [u32; 8] = [0, 2, 0, 1, 1, 3, 0, 5];

@@ -4,11 +4,11 @@ pub mod Known
 pub mod Wide
 pub mod FirstFault
 pub mod FirstArm
-pub mod Seen
 pub mod Unknown
 pub mod Settled
 pub mod Tokens
 pub mod Linked
+pub mod ArmsTo
 pub mod ArmRules
 pub mod TypesLinked
 pub mod Stable
@@ -21,5 +21,7 @@ pub mod Ends
 pub mod Results
 pub mod Complete
 pub mod Kept
+pub mod RowTo
+pub mod RowReads
 pub mod StepsTo
 pub mod StepReads

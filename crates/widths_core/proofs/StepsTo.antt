@@ -6,9 +6,11 @@ use Rattle.std.proofs.lemmas.List.{length_push}
 use Rattle.std.proofs.lemmas.Option.{slice_get_within}
 use Rattle.registry_core.specs.declared.definition.TypeDef.{TypeDef}
 use Rattle.registry_core.specs.declared.type_info.TypeInfo.{TypeInfo}
+use Rattle.widths_core.specs.declared.rows.Rows.{Rows}
 use Rattle.widths_core.specs.declared.step.Step.{Step}
 use Rattle.widths_core.specs.Types.{shape}
-use Rattle.widths_core.specs.Steps.{IsStep, AreSteps}
+use Rattle.widths_core.specs.Rows.{IsPaired, IsEmpty, Keeps}
+use Rattle.widths_core.specs.Steps.{IsRow, IsStep, AreSteps}
 use Rattle.widths_core.proofs.Kept.{step_kept}
 
 shape_within : (r : List TypeInfo) (i : ℕ) (d : TypeDef) → shape r i ≡ Some d → i < length r
@@ -26,23 +28,25 @@ get_last [] y = refl
 get_last (x ∷ xs) y = get_last xs y
 
 -- the first i types have their steps
-pub record StepsTo (r : List TypeInfo) (refs : List ℕ) (i : ℕ) (steps : List Step) : Type 0 where
+pub record StepsTo (r : List TypeInfo) (refs : List ℕ) (rows : Rows) (i : ℕ) (steps : List Step) : Type 0 where
+  pub paired : IsPaired rows
   pub count : length steps ≡ i
   pub within : i ≤ length r
-  pub own : (t : ℕ) (d : TypeDef) (s : Step) → shape r t ≡ Some d → slice_get steps t ≡ Some s → IsStep refs d s
+  pub own : (t : ℕ) (d : TypeDef) (s : Step) → shape r t ≡ Some d → slice_get steps t ≡ Some s → IsStep refs (IsRow refs rows) d s
 
-pub steps_none : (r : List TypeInfo) (refs : List ℕ) → StepsTo r refs 0 []
-steps_none r refs = record { count = refl; within = omega arith; own = λ t d s e f. absurd cc }
+pub steps_none : (r : List TypeInfo) (refs : List ℕ) (rows : Rows) → IsEmpty rows → StepsTo r refs rows 0 []
+steps_none r refs rows h = record { paired = rw (h.indexes, h.arms) refl; count = refl; within = omega arith; own = λ t d s e f. absurd cc }
 
-pub steps_more : (r : List TypeInfo) (xs ys zs : List ℕ) (i : ℕ) (steps : List Step) (d : TypeDef) (s : Step) → shape r i ≡ Some d → zs ≡ xs ++ ys → IsStep zs d s → StepsTo r xs i steps → StepsTo r zs (i + 1) (steps ++ s ∷ [])
-steps_more r xs ys zs i steps d s e read new h = record {
+pub steps_more : (r : List TypeInfo) (xs ys zs : List ℕ) (a b : Rows) (i : ℕ) (steps : List Step) (d : TypeDef) (s : Step) → shape r i ≡ Some d → zs ≡ xs ++ ys → IsPaired b → Keeps a b → IsStep zs (IsRow zs b) d s → StepsTo r xs a i steps → StepsTo r zs b (i + 1) (steps ++ s ∷ [])
+steps_more r xs ys zs a b i steps d s e read paired k new h = record {
+  paired = paired;
   count = length_push steps s ∙ ap (λ (n : ℕ). n + 1) h.count;
   within = let below = shape_within r i d e in omega (arith, below);
   own = own;
 } where
-  own : (t : ℕ) (d' : TypeDef) (s' : Step) → shape r t ≡ Some d' → slice_get (steps ++ s ∷ []) t ≡ Some s' → IsStep zs d' s'
+  own : (t : ℕ) (d' : TypeDef) (s' : Step) → shape r t ≡ Some d' → slice_get (steps ++ s ∷ []) t ≡ Some s' → IsStep zs (IsRow zs b) d' s'
   own t d' s' is at = elim (cases_lt t i) [
-    | inl below ↦ rw read (step_kept xs ys d' s' (h.own t d' s' is (sym (get_left steps s t (omega (arith, below, h.count))) ∙ at)))
+    | inl below ↦ rw read (step_kept xs ys a b d' s' k (h.own t d' s' is (sym (get_left steps s t (omega (arith, below, h.count))) ∙ at)))
     | inr ge ↦
         let lt = slice_get_within (steps ++ s ∷ []) t s' at in
         let same : t ≡ length steps = omega (arith, ge, lt, length_push steps s, h.count) in
@@ -53,5 +57,5 @@ steps_more r xs ys zs i steps d s e read new h = record {
         rw (← step, ← def) new
   ]
 
-pub steps_all : (r : List TypeInfo) (refs : List ℕ) (i : ℕ) (steps : List Step) → length r ≤ i → StepsTo r refs i steps → AreSteps r refs steps
-steps_all r refs i steps le h = record { count = omega (arith, h.count, h.within, le); own = h.own }
+pub steps_all : (r : List TypeInfo) (refs : List ℕ) (rows : Rows) (i : ℕ) (steps : List Step) → length r ≤ i → StepsTo r refs rows i steps → AreSteps r refs rows steps
+steps_all r refs rows i steps le h = record { paired = h.paired; count = omega (arith, h.count, h.within, le); own = h.own }

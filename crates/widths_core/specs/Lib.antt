@@ -16,4 +16,5 @@ pub mod Progress
 pub mod Analysed
 pub mod Consistent
 pub mod Propagation
+pub mod Rows
 pub mod Steps

@@ -13,7 +13,7 @@ pub record AreTables (c : Inside) : Type 0 where
   pub checked : IsChecked c.registry
   pub classes : TellsClasses c.registry c.classes.items
   pub targets : TellsTargets c.registry c.targets.items
-  pub table : IsTable c.registry c.members.items c.steps.items
+  pub table : IsTable c.registry c.members.items c.rows c.steps.items
   pub widest_is : c.widest ≡ widest c.registry
   pub looks : HasFewLooks c.registry c.looks
 

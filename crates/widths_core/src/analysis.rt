@@ -14,6 +14,7 @@ use crate::graph::Graph;
 use crate::linking::{Linked, link_types};
 use crate::looks::Looks;
 use crate::references::{Reference, first_unknown};
+use crate::rows::Rows;
 use crate::settling::Settling;
 use crate::step::Step;
 use registry_core::TypeInfo;
@@ -26,6 +27,7 @@ struct Tables {
     classes: Vec<Class>,
     targets: Vec<Option<Target>>,
     steps: Vec<Step>,
+    rows: Rows,
     widest: u32,
 }
 
@@ -36,6 +38,7 @@ pub(crate) struct Analysis {
     pub targets: Vec<Option<Target>>,
     pub members: Vec<u32>,
     pub steps: Vec<Step>,
+    pub rows: Rows,
     pub widest: u32,
     pub looks: Looks,
 }
@@ -45,12 +48,13 @@ fn settled_tables(alloc: Global, graph: &mut Graph<'_>) -> Option<Tables>
     requires fits { FitsRegistry graph.old.types.now }
     requires unread { IsUnread graph.old.types.now graph.old }
     ensures analysed { IfSome result (λ t. IsAnalysed graph.old.types.now t.classes.items t.targets.items t.widest graph.new.looks) }
-    ensures table { IfSome result (λ t. IsTable graph.old.types.now graph.new.members.items t.steps.items) }
+    ensures table { IfSome result (λ t. IsTable graph.old.types.now graph.new.members.items t.rows t.steps.items) }
 {
     graph.prepare(alloc)?;
     let Linked {
         counters,
         steps,
+        rows,
         widest,
     } = link_types(alloc, graph)?;
     let mut settling = Settling::new(alloc, counters, graph.count()).ok()?;
@@ -66,6 +70,7 @@ fn settled_tables(alloc: Global, graph: &mut Graph<'_>) -> Option<Tables>
         classes,
         targets,
         steps,
+        rows,
         widest,
     })
 }
@@ -88,7 +93,7 @@ fn fault_of(types: &[TypeInfo]) -> CheckFault
 pub(crate) fn analyse(alloc: Global, types: &[TypeInfo]) -> Result<Analysis, CheckFault>
     requires { FitsRegistry types.now }
     ensures found { MatchResult result (λ a. IsAnalysed types.now a.classes.items a.targets.items a.widest a.looks) (λ fault. IsFaultOf fault (first_fault types.now)) }
-    ensures table { IfOk result (λ a. IsTable types.now a.members.items a.steps.items) }
+    ensures table { IfOk result (λ a. IsTable types.now a.members.items a.rows a.steps.items) }
 {
     let mut graph = Graph::new(alloc, types);
     match settled_tables(alloc, &mut graph) {
@@ -97,6 +102,7 @@ pub(crate) fn analyse(alloc: Global, types: &[TypeInfo]) -> Result<Analysis, Che
                 classes,
                 targets,
                 steps,
+                rows,
                 widest,
             },
         ) => {
@@ -106,6 +112,7 @@ pub(crate) fn analyse(alloc: Global, types: &[TypeInfo]) -> Result<Analysis, Che
                 targets,
                 members,
                 steps,
+                rows,
                 widest,
                 looks,
             })

@@ -5,18 +5,18 @@ ghost use Rattle.registry_core.specs.Fits.{FitsRegistry};
 ghost use Rattle.widths_core.specs.Arms.{arm_at};
 ghost use Rattle.widths_core.specs.Checks.{CheckAnswers, Explains};
 ghost use Rattle.widths_core.specs.Classes.{class_of};
-ghost use Rattle.widths_core.specs.Steps.{IsStepAt, references_of};
+ghost use Rattle.widths_core.specs.Steps.{IsArm, IsStepAt, references_of};
 ghost use Rattle.widths_core.specs.References.{IsChecked};
 ghost use Rattle.widths_core.specs.Targets.{compact_target_of};
 ghost use Rattle.widths_core.specs.Types.{shape};
 ghost use Rattle.widths_core.specs.Widths.{widest};
 
 use crate::analysis::{Analysis, analyse};
-use crate::arms::first_arm;
 use crate::class::Class;
 use crate::fault::CheckFault;
 use crate::looks::Looks;
-use crate::step::{Step, step_of};
+use crate::rows::Rows;
+use crate::step::{ArmStep, Step, step_of};
 use registry_core::{Arm, Registry, TypeDef, TypeId, TypeInfo};
 use scale_core::Target;
 use std::alloc::Global;
@@ -36,6 +36,7 @@ pub struct Checked {
     members: Vec<u32>,
     /// The step of each type.
     steps: Vec<Step>,
+    rows: Rows,
     widest: u32,
     looks: Looks,
 }
@@ -84,6 +85,7 @@ impl Checked {
                     targets,
                     members,
                     steps,
+                    rows,
                     widest,
                     looks,
                 },
@@ -93,6 +95,7 @@ impl Checked {
                 targets,
                 members,
                 steps,
+                rows,
                 widest,
                 looks,
             }),
@@ -142,13 +145,26 @@ impl Checked {
         self.members.as_slice()
     }
 
+    /// The first arm of the index, where the type is a variant that has one (scale-info, `TypeDefVariant`): its position
+    /// among the arms, and where the types of its fields are among the references. Two look-ups where the indexes of the
+    /// variant have no gap, and else at most eight more.
+    pub fn arm_step(&self, id: TypeId, index: u8) -> Option<ArmStep>
+        ensures { IsArm (references_of self.now) result (arm_at self.now id.0 index) }
+    {
+        match step_of(self.steps.as_slice(), id.0)? {
+            Step::Arms { from, count } => self.rows.find(from, count, index),
+            _ => None,
+        }
+    }
+
     /// The first arm of the index, with its position among the arms, where the type is a variant that has one
-    /// (scale-info, `TypeDefVariant`). It goes over the arms.
+    /// (scale-info, `TypeDefVariant`): two look-ups more than `arm_step` makes.
     pub fn arm(&self, id: TypeId, index: u8) -> Option<(u32, &Arm)>
         ensures { option_map (λ x. (x.0, x.1.now)) result ≡ arm_at self.now id.0 index }
     {
+        let position = self.arm_step(id, index)?.position;
         match self.shape(id)? {
-            TypeDef::Variant(arms) => first_arm(arms.as_slice(), index),
+            TypeDef::Variant(arms) => Some((position, arms.as_slice().get(position as usize)?)),
             _ => None,
         }
     }

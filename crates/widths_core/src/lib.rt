@@ -3,7 +3,6 @@
 #![tactic(auto)]
 
 mod analysis;
-mod arms;
 mod checked;
 mod class;
 mod counter;
@@ -13,6 +12,7 @@ pub mod laws;
 mod linking;
 mod looks;
 mod references;
+mod rows;
 mod settling;
 mod step;
 mod widths;
@@ -20,4 +20,4 @@ mod widths;
 pub use checked::Checked;
 pub use class::Class;
 pub use fault::CheckFault;
-pub use step::Step;
+pub use step::{ArmStep, Step};

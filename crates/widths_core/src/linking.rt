@@ -3,7 +3,8 @@
 ghost use Rattle.std.specs.Prelude.{◌≡◌, ◌<◌, ◌++◌, ◌∷◌, [], ◌^◌, length, false, IfSome};
 ghost use Rattle.registry_core.specs.Fits.{FitsDefinition, FitsRegistry};
 ghost use Rattle.widths_core.specs.Graphs.{IsLinked, IsNew, Adds, AreTypesLinked, refs};
-ghost use Rattle.widths_core.specs.Steps.{AreParts, IsStep, AreSteps};
+ghost use Rattle.widths_core.specs.Rows.{IsPaired, Keeps};
+ghost use Rattle.widths_core.specs.Steps.{AreParts, IsRow, IsStep, AreSteps};
 ghost use Rattle.widths_core.specs.Rules.{rule, kind_of_parts, found_of_primitive, found_sized, arm_rules, rules_of};
 ghost use Rattle.widths_core.specs.Types.{ids, field_types};
 ghost use Rattle.widths_core.specs.Widths.{widest};
@@ -11,7 +12,8 @@ ghost use Rattle.widths_core.specs.Widths.{widest};
 use crate::class::Class;
 use crate::counter::{Counter, Found, Kind};
 use crate::graph::Graph;
-use crate::step::{Parts, Step};
+use crate::rows::Rows;
+use crate::step::{ArmStep, Parts, Step};
 use crate::widths::width;
 use registry_core::{Arm, Field, Primitive, TypeDef, TypeId};
 use scale_core::Target;
@@ -107,32 +109,49 @@ fn link_one(
 }
 
 /// The fields of each arm are counted together; those of an arm that an earlier one of its index shadows settle nothing.
+/// Answers where the row of the variant is.
 fn link_arms(
     graph: &mut Graph<'_>,
     counters: &mut Vec<Counter>,
+    rows: &mut Rows,
     owner: u32,
     arms: &[Arm],
-) -> Option<()>
-    requires { IsLinked graph.old }
-    ensures { IfSome result (λ _. Adds (arm_rules owner [] arms.now) counters.old.items counters.new.items graph.old graph.new) }
+) -> Option<Parts>
+    requires linked { IsLinked graph.old }
+    requires paired { IsPaired rows.old }
+    ensures adds { IfSome result (λ _. Adds (arm_rules owner [] arms.now) counters.old.items counters.new.items graph.old graph.new) }
+    ensures paired { IfSome result (λ _. IsPaired rows.new) }
+    ensures keeps { IfSome result (λ _. Keeps rows.old rows.new) }
+    ensures row { IfSome result (λ p. IsRow (refs graph.new) rows.new p.from p.count arms.now) }
 {
-    let mut seen = [false; 256];
-    'arms: for arm in arms {
-        let index = usize::from(arm.index);
-        if seen[index] {
-            link_fields(graph, counters, owner, Kind::Idle, arm.fields.as_slice())?;
-            continue;
+    let first = rows.len();
+    'arms: for (position, arm) in arms.iter().enumerate() {
+        let fields = arm.fields.as_slice();
+        match rows.search(first, arm.index) {
+            Ok(_) => {
+                link_fields(graph, counters, owner, Kind::Idle, fields)?;
+            }
+            Err(place) => {
+                let Parts { from, count } = link_fields(
+                    graph,
+                    counters,
+                    owner,
+                    Kind::Fixed(SIZED),
+                    fields,
+                )?;
+                let step = ArmStep {
+                    position: u32::try_from(position).ok()?,
+                    from,
+                    count,
+                };
+                rows.insert(place, arm.index, step)?;
+            }
         }
-        link_fields(
-            graph,
-            counters,
-            owner,
-            Kind::Fixed(SIZED),
-            arm.fields.as_slice(),
-        )?;
-        seen[index] = true;
     }
-    Some(())
+    Some(Parts {
+        from: u32::try_from(first).ok()?,
+        count: u32::try_from(rows.len() - first).ok()?,
+    })
 }
 
 /// As what a type settles that has so many parts, one value of each in each of its values.
@@ -171,12 +190,16 @@ fn found_of_primitive(primitive: Primitive) -> Found
 fn link_shape(
     graph: &mut Graph<'_>,
     counters: &mut Vec<Counter>,
+    rows: &mut Rows,
     owner: u32,
     shape: &TypeDef,
 ) -> Option<Step>
-    requires { IsLinked graph.old }
+    requires linked { IsLinked graph.old }
+    requires paired { IsPaired rows.old }
     ensures adds { IfSome result (λ _. Adds (rules_of owner shape.now) counters.old.items counters.new.items graph.old graph.new) }
-    ensures step { IfSome result (λ s. IsStep (refs graph.new) shape.now s) }
+    ensures paired { IfSome result (λ _. IsPaired rows.new) }
+    ensures keeps { IfSome result (λ _. Keeps rows.old rows.new) }
+    ensures step { IfSome result (λ s. IsStep (refs graph.new) (IsRow (refs graph.new) rows.new) shape.now s) }
 {
     match shape {
         TypeDef::Composite(fields) => {
@@ -202,8 +225,8 @@ fn link_shape(
             Some(Step::Parts { from, count })
         }
         TypeDef::Variant(arms) => {
-            link_arms(graph, counters, owner, arms.as_slice())?;
-            Some(Step::Arms)
+            let Parts { from, count } = link_arms(graph, counters, rows, owner, arms.as_slice())?;
+            Some(Step::Arms { from, count })
         }
         TypeDef::Sequence(element) => {
             count_parts(counters, owner, Kind::Fixed(SIZED), 0)?;
@@ -244,6 +267,7 @@ fn link_shape(
 pub(crate) struct Linked {
     pub counters: Vec<Counter>,
     pub steps: Vec<Step>,
+    pub rows: Rows,
     /// How many parts a value has at most.
     pub widest: u32,
 }
@@ -253,21 +277,23 @@ pub(crate) fn link_types(alloc: Global, graph: &mut Graph<'_>) -> Option<Linked>
     requires fits { FitsRegistry graph.old.types.now }
     requires fresh { IsNew graph.old.types.now graph.old }
     ensures linked { IfSome result (λ x. AreTypesLinked graph.old.types.now x.counters.items graph.new) }
-    ensures steps { IfSome result (λ x. AreSteps graph.old.types.now (refs graph.new) x.steps.items) }
+    ensures steps { IfSome result (λ x. AreSteps graph.old.types.now (refs graph.new) x.rows x.steps.items) }
     ensures widest { IfSome result (λ x. x.widest ≡ widest graph.old.types.now) }
 {
     let mut counters = Vec::new(alloc);
     let mut steps = Vec::new(alloc);
+    let mut rows = Rows::new(alloc);
     let mut widest = 0;
     'types: for position in 0..graph.count() {
         let shape = graph.definition(position as u32);
         widest = widest.max(width(shape));
-        let step = link_shape(graph, &mut counters, position as u32, shape)?;
+        let step = link_shape(graph, &mut counters, &mut rows, position as u32, shape)?;
         steps.push(step).ok()?;
     }
     Some(Linked {
         counters,
         steps,
+        rows,
         widest,
     })
 }

@@ -54,12 +54,12 @@ returns-clause-table c =
     let r = c.args.graph.now.types.now in
     let new = c.in_ok-prepare.ensures in
     let linked : AreTypesLinked r c.in_ok-counters.field-0.counters.items c.link_types.new.graph = rw new.types at c.in_ok-counters.ensures.linked in
-    let steps : AreSteps r (refs c.link_types.new.graph) c.in_ok-counters.field-0.steps.items = rw new.types at c.in_ok-counters.ensures.steps in
+    let steps : AreSteps r (refs c.link_types.new.graph) c.in_ok-counters.field-0.rows c.in_ok-counters.field-0.steps.items = rw new.types at c.in_ok-counters.ensures.steps in
     let ended = from_ok c.settle_bad_compacts.result c.in_ok-ok.field-0 _ c.in_ok-ok.ensures.value c.settle_bad_compacts.ensures.propagated in
     let propagated = from_ok c.begin.result c.in_ok-done.done _ c.in_ok-done.ensures.value c.begin.ensures in
     let same : c.begin.new.graph.types.now ≡ r = propagated.propagated.steady.ready.types ∙ linked.types in
     let all : PropagatesAll r c.begin.new.graph c.settle_bad_compacts.new.graph (state_of c.begin.new.self) (state_of c.settle_bad_compacts.new.self) c.in_ok-ok.field-0 = subst (λ (q : List TypeInfo). PropagatesAll q c.begin.new.graph c.settle_bad_compacts.new.graph (state_of c.begin.new.self) (state_of c.settle_bad_compacts.new.self) c.in_ok-ok.field-0) same ended in
     record {
       all = all.propagated.steady.ready.linked.members ∙ all.propagated.steady.ready.read ∙ all_references r;
-      own = subst (λ (xs : List ℕ). AreSteps r xs c.in_ok-counters.field-0.steps.items) (linked.read ∙ all_references r) steps;
+      own = subst (λ (xs : List ℕ). AreSteps r xs c.in_ok-counters.field-0.rows c.in_ok-counters.field-0.steps.items) (linked.read ∙ all_references r) steps;
     }

@@ -16,5 +16,5 @@ types-preserved c =
     let wide : c.max-widest.result ≡ max c.types.widest (width c.definition-shape.result.now) = search rules in
     let read : refs c.link_shape.new.graph ≡ refs c.types.graph ++ all_parts (rules_of c.types.position c.definition-shape.result.now) = new.adds.reads.read ∙ ap (λ (xs : List ℕ). reverse xs ++ all_parts (rules_of c.types.position c.definition-shape.result.now)) c.definition-shape.ensures.opened.read in
     let pushed : c.push.new.self.items ≡ c.types.steps.items ++ c.in_ok-step.step ∷ [] = search rules in
-    let steps = steps_more r (refs c.types.graph) _ (refs c.link_shape.new.graph) c.types.position c.types.steps.items c.definition-shape.result.now c.in_ok-step.step e read new.step c.types.invariant.1 in
+    let steps = steps_more r (refs c.types.graph) _ (refs c.link_shape.new.graph) c.types.rows c.link_shape.new.rows c.types.position c.types.steps.items c.definition-shape.result.now c.in_ok-step.step e read new.paired new.keeps new.step c.types.invariant.1 in
     (rw wide next, rw pushed steps)
