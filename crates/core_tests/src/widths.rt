@@ -398,9 +398,25 @@ const STEPS: [Step; 8] = [
     Step::Sequence { element: 0 },
     Step::Array { len: 7, element: 1 },
     Step::Parts { from: 4, count: 2 },
-    Step::Compact,
+    Step::Compact(Some(Target::U8)),
     Step::BitSequence,
     Step::Arms { from: 0, count: 1 },
+];
+
+/// An empty tuple, a compact and a sequence of it, a variant without arms, a tuple, a compact and an array of none of that,
+/// and a variant whose one arm, of index 9, holds it.
+const NO_BYTES_AND_NO_VALUES: &[u8] =
+    b"\x20\x00\x00\x00\x04\x00\x00\x04\x00\x00\x06\x00\x00\x08\x00\x00\x02\x00\x00\x0c\x00\x00\x01\x00\x00\x10\x00\x00\x04\x04\x0c\x00\x14\x00\x00\x06\x0c\x00\x18\x00\x00\x03\x00\x00\x00\x00\x0c\x00\x1c\x00\x00\x01\x04\x04A\x04\x00\x0c\x00\x00\x09\x00\x00";
+
+const STEPS_WITHOUT: [Step; 8] = [
+    Step::Empty,
+    Step::Compact(Some(Target::Unit)),
+    Step::Count,
+    Step::NoArm { from: 0, count: 0 },
+    Step::NoValue,
+    Step::Compact(None),
+    Step::Empty,
+    Step::NoArm { from: 0, count: 1 },
 ];
 
 const MEMBERS: [u32; 8] = [0, 2, 0, 1, 1, 3, 0, 5];
@@ -418,6 +434,18 @@ fn types_have_their_steps_and_members(rt: HostRuntime) -> Result<(), Fail> {
         id = id.saturating_add(1);
     }
     assert_eq!(rt; registry.step(TypeId(id)), None);
+    let without = checked(rt.alloc(), NO_BYTES_AND_NO_VALUES)?;
+    let mut id = 0u32;
+    for step in &STEPS_WITHOUT {
+        assert_eq!(rt; without.step(TypeId(id)), Some(*step), "the step of type {id} without");
+        id = id.saturating_add(1);
+    }
+    let arm = ArmStep {
+        position: 0,
+        from: 5,
+        count: 1,
+    };
+    assert_eq!(rt; without.arm_step(TypeId(7), 9), Some(arm));
     assert_eq!(rt; registry.members(), MEMBERS.as_slice());
     let mut at = 0u32;
     for member in &MEMBERS {

@@ -1,4 +1,4 @@
--- Parts, rows and steps stay what they are while references and arms come after them.
+-- Parts, rows and drafts stay what they are while references and arms come after them.
 use Rattle.std.proofs.Common.{◌≡◌, ℕ, ◌≤◌, List, ◌++◌, length, take, drop, Option, Some, None, refl, ap, ◌∙◌, arith}
 use Rattle.std.proofs.lemmas.List.{length-append, length-drop, drop-append-le, take-append-le}
 use Rattle.std.proofs.Math.Seq.{drop-append_seam, take-length}
@@ -7,11 +7,11 @@ use Rattle.registry_core.specs.declared.definition.TypeDef.{TypeDef}
 use Rattle.registry_core.specs.declared.definition.TypeDef.TheVariants as Def
 use Rattle.widths_core.specs.declared.rows.Rows.{Rows}
 use Rattle.widths_core.specs.declared.step.ArmStep.{ArmStep}
-use Rattle.widths_core.specs.declared.step.Step.{Step}
+use Rattle.widths_core.specs.declared.step.Draft.{Draft}
 use Rattle.widths_core.specs.Types.{ids, field_types}
 use Rattle.widths_core.specs.Arms.{arm_of}
 use Rattle.widths_core.specs.Rows.{Keeps, arm_in, index_in}
-use Rattle.widths_core.specs.Steps.{AreParts, IsArm, IsRow, IsStep}
+use Rattle.widths_core.specs.Steps.{AreParts, IsArm, IsRow, IsDraft}
 
 -- ---- parts
 
@@ -56,14 +56,14 @@ row_kept xs ys a b from count arms k h = record {
   none = λ x lacks. h.none x (λ i ge lt is. lacks i ge lt (k.indexes i (omega (arith, lt, h.within)) ∙ is));
 }
 
--- ---- steps
+-- ---- drafts
 
-pub step_kept : (xs ys : List ℕ) (a b : Rows) (d : TypeDef) (s : Step) → Keeps a b → IsStep xs (IsRow xs a) d s → IsStep (xs ++ ys) (IsRow (xs ++ ys) b) d s
-step_kept xs ys a b (Def.Composite fs) s k h = (h.0, h.1, h.2, parts_kept xs ys h.0 h.1 (field_types fs) h.3)
-step_kept xs ys a b (Def.Tuple ts) s k h = (h.0, h.1, h.2, parts_kept xs ys h.0 h.1 (ids ts) h.3)
-step_kept xs ys a b (Def.Variant arms) s k h = (h.0, h.1, h.2, row_kept xs ys a b h.0 h.1 arms k h.3)
-step_kept xs ys a b (Def.Sequence t) s k h = h
-step_kept xs ys a b (Def.Array n t) s k h = h
-step_kept xs ys a b (Def.Primitive p) s k h = h
-step_kept xs ys a b (Def.Compact t) s k h = h
-step_kept xs ys a b (Def.BitSequence store order) s k h = h
+pub draft_kept : (xs ys : List ℕ) (a b : Rows) (d : TypeDef) (s : Draft) → Keeps a b → IsDraft xs (IsRow xs a) d s → IsDraft (xs ++ ys) (IsRow (xs ++ ys) b) d s
+draft_kept xs ys a b (Def.Composite fs) s k h = (h.0, h.1, h.2, parts_kept xs ys h.0 h.1 (field_types fs) h.3)
+draft_kept xs ys a b (Def.Tuple ts) s k h = (h.0, h.1, h.2, parts_kept xs ys h.0 h.1 (ids ts) h.3)
+draft_kept xs ys a b (Def.Variant arms) s k h = (h.0, h.1, h.2, row_kept xs ys a b h.0 h.1 arms k h.3)
+draft_kept xs ys a b (Def.Sequence t) s k h = h
+draft_kept xs ys a b (Def.Array n t) s k h = h
+draft_kept xs ys a b (Def.Primitive p) s k h = h
+draft_kept xs ys a b (Def.Compact t) s k h = h
+draft_kept xs ys a b (Def.BitSequence store order) s k h = h

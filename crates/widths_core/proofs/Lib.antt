@@ -23,5 +23,7 @@ pub mod Complete
 pub mod Kept
 pub mod RowTo
 pub mod RowReads
-pub mod StepsTo
+pub mod DraftsTo
+pub mod StepsOf
 pub mod StepReads
+pub mod ArmReads

@@ -16,7 +16,7 @@ use crate::class::Class;
 use crate::fault::CheckFault;
 use crate::looks::Looks;
 use crate::rows::Rows;
-use crate::step::{ArmStep, Step, step_of};
+use crate::step::{ArmStep, Parts, Step, step_of};
 use registry_core::{Arm, Registry, TypeDef, TypeId, TypeInfo};
 use scale_core::Target;
 use std::alloc::Global;
@@ -30,8 +30,6 @@ use std::marker::Model;
 #[derive(Debug, Drop)]
 pub struct Checked {
     registry: Registry,
-    classes: Vec<Class>,
-    targets: Vec<Option<Target>>,
     /// All references, in the order of the registry's bytes: those of a type, and of an arm, are next to each other.
     members: Vec<u32>,
     /// The step of each type.
@@ -81,8 +79,6 @@ impl Checked {
         match analyse(alloc, registry.types()) {
             Ok(
                 Analysis {
-                    classes,
-                    targets,
                     members,
                     steps,
                     rows,
@@ -91,8 +87,6 @@ impl Checked {
                 },
             ) => Ok(Checked {
                 registry,
-                classes,
-                targets,
                 members,
                 steps,
                 rows,
@@ -107,10 +101,10 @@ impl Checked {
     pub fn class(&self, id: TypeId) -> Option<Class>
         ensures { SomeIff result (id.0 < length self.now) (class_of self.now id.0) }
     {
-        self.classes.get(id.0 as usize).copied()
+        Some(self.step(id)?.class())
     }
 
-    /// What a compact integer of this type stands for (SCALE codec, "Compact/general integers"): two look-ups.
+    /// What a compact integer of this type stands for (SCALE codec, "Compact/general integers"): one look-up.
     ///
     /// There is none where the id is no position, where the type is no compact, and where the compact stands over
     /// something else than an unsigned integer of at most 128 bits, nothing, or a wrapper of one of these: composites
@@ -118,13 +112,10 @@ impl Checked {
     pub fn compact_target(&self, id: TypeId) -> Option<Target>
         ensures { result ≡ compact_target_of self.now id.0 }
     {
-        match self.shape(id)? {
-            TypeDef::Compact(over) => self.targets.get(over.0 as usize).copied().flatten(),
-            _ => None,
-        }
+        self.step(id)?.compact_target()
     }
 
-    /// What a type is made of, where the id is a position (scale-info, `TypeDef`): one look-up.
+    /// What a value of a type is read as, where the id is a position (SCALE codec, "Types"): one look-up.
     pub fn step(&self, id: TypeId) -> Option<Step>
         ensures { IsStepAt self.now id.0 result }
     {
@@ -151,10 +142,8 @@ impl Checked {
     pub fn arm_step(&self, id: TypeId, index: u8) -> Option<ArmStep>
         ensures { IsArm (references_of self.now) result (arm_at self.now id.0 index) }
     {
-        match step_of(self.steps.as_slice(), id.0)? {
-            Step::Arms { from, count } => self.rows.find(from, count, index),
-            _ => None,
-        }
+        let Parts { from, count } = step_of(self.steps.as_slice(), id.0)?.row()?;
+        self.rows.find(from, count, index)
     }
 
     /// The first arm of the index, with its position among the arms, where the type is a variant that has one

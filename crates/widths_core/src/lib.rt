@@ -15,6 +15,7 @@ mod references;
 mod rows;
 mod settling;
 mod step;
+mod steps;
 mod widths;
 
 pub use checked::Checked;

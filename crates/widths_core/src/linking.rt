@@ -4,7 +4,7 @@ ghost use Rattle.std.specs.Prelude.{◌≡◌, ◌<◌, ◌++◌, ◌∷◌, [],
 ghost use Rattle.registry_core.specs.Fits.{FitsDefinition, FitsRegistry};
 ghost use Rattle.widths_core.specs.Graphs.{IsLinked, IsNew, Adds, AreTypesLinked, refs};
 ghost use Rattle.widths_core.specs.Rows.{IsPaired, Keeps};
-ghost use Rattle.widths_core.specs.Steps.{AreParts, IsRow, IsStep, AreSteps};
+ghost use Rattle.widths_core.specs.Steps.{AreParts, IsRow, IsDraft, AreDrafts};
 ghost use Rattle.widths_core.specs.Rules.{rule, kind_of_parts, found_of_primitive, found_sized, arm_rules, rules_of};
 ghost use Rattle.widths_core.specs.Types.{ids, field_types};
 ghost use Rattle.widths_core.specs.Widths.{widest};
@@ -13,7 +13,7 @@ use crate::class::Class;
 use crate::counter::{Counter, Found, Kind};
 use crate::graph::Graph;
 use crate::rows::Rows;
-use crate::step::{ArmStep, Parts, Step};
+use crate::step::{ArmStep, Draft, Parts};
 use crate::widths::width;
 use registry_core::{Arm, Field, Primitive, TypeDef, TypeId};
 use scale_core::Target;
@@ -186,20 +186,20 @@ fn found_of_primitive(primitive: Primitive) -> Found
     }
 }
 
-/// A type of this shape: its counters, the references of its definition, and its step.
+/// A type of this shape: its counters, the references of its definition, and its draft.
 fn link_shape(
     graph: &mut Graph<'_>,
     counters: &mut Vec<Counter>,
     rows: &mut Rows,
     owner: u32,
     shape: &TypeDef,
-) -> Option<Step>
+) -> Option<Draft>
     requires linked { IsLinked graph.old }
     requires paired { IsPaired rows.old }
     ensures adds { IfSome result (λ _. Adds (rules_of owner shape.now) counters.old.items counters.new.items graph.old graph.new) }
     ensures paired { IfSome result (λ _. IsPaired rows.new) }
     ensures keeps { IfSome result (λ _. Keeps rows.old rows.new) }
-    ensures step { IfSome result (λ s. IsStep (refs graph.new) (IsRow (refs graph.new) rows.new) shape.now s) }
+    ensures draft { IfSome result (λ s. IsDraft (refs graph.new) (IsRow (refs graph.new) rows.new) shape.now s) }
 {
     match shape {
         TypeDef::Composite(fields) => {
@@ -211,7 +211,7 @@ fn link_shape(
                 kind,
                 fields.as_slice(),
             )?;
-            Some(Step::Parts { from, count })
+            Some(Draft::Parts { from, count })
         }
         TypeDef::Tuple(members) => {
             let kind = kind_of_parts(members.len());
@@ -222,16 +222,16 @@ fn link_shape(
                 kind,
                 members.as_slice(),
             )?;
-            Some(Step::Parts { from, count })
+            Some(Draft::Parts { from, count })
         }
         TypeDef::Variant(arms) => {
             let Parts { from, count } = link_arms(graph, counters, rows, owner, arms.as_slice())?;
-            Some(Step::Arms { from, count })
+            Some(Draft::Arms { from, count })
         }
         TypeDef::Sequence(element) => {
             count_parts(counters, owner, Kind::Fixed(SIZED), 0)?;
             let element = link_one(graph, counters, owner, Kind::Idle, element)?;
-            Some(Step::Sequence { element })
+            Some(Draft::Sequence { element })
         }
         TypeDef::Array(0, element) => {
             let found = Found {
@@ -240,24 +240,24 @@ fn link_shape(
             };
             count_parts(counters, owner, Kind::Fixed(found), 0)?;
             let element = link_one(graph, counters, owner, Kind::Idle, element)?;
-            Some(Step::Array { len: 0, element })
+            Some(Draft::Array { len: 0, element })
         }
         TypeDef::Array(len, element) => {
             let element = link_one(graph, counters, owner, Kind::Parts, element)?;
-            Some(Step::Array { len: *len, element })
+            Some(Draft::Array { len: *len, element })
         }
         TypeDef::Compact(over) => {
-            link_one(graph, counters, owner, Kind::Compact, over)?;
-            Some(Step::Compact)
+            let over = link_one(graph, counters, owner, Kind::Compact, over)?;
+            Some(Draft::Compact { over })
         }
         TypeDef::Primitive(primitive) => {
             let found = found_of_primitive(*primitive);
             count_parts(counters, owner, Kind::Fixed(found), 0)?;
-            Some(Step::Primitive(*primitive))
+            Some(Draft::Primitive(*primitive))
         }
         TypeDef::BitSequence { .. } => {
             count_parts(counters, owner, Kind::Fixed(SIZED), 0)?;
-            Some(Step::BitSequence)
+            Some(Draft::BitSequence)
         }
     }
 }
@@ -266,33 +266,33 @@ fn link_shape(
 #[derive(Drop)]
 pub(crate) struct Linked {
     pub counters: Vec<Counter>,
-    pub steps: Vec<Step>,
+    pub drafts: Vec<Draft>,
     pub rows: Rows,
     /// How many parts a value has at most.
     pub widest: u32,
 }
 
-/// One pass over the types: the counters, the steps, and how many parts a value has at most.
+/// One pass over the types: the counters, the drafts, and how many parts a value has at most.
 pub(crate) fn link_types(alloc: Global, graph: &mut Graph<'_>) -> Option<Linked>
     requires fits { FitsRegistry graph.old.types.now }
     requires fresh { IsNew graph.old.types.now graph.old }
     ensures linked { IfSome result (λ x. AreTypesLinked graph.old.types.now x.counters.items graph.new) }
-    ensures steps { IfSome result (λ x. AreSteps graph.old.types.now (refs graph.new) x.rows x.steps.items) }
+    ensures drafts { IfSome result (λ x. AreDrafts graph.old.types.now (refs graph.new) x.rows x.drafts.items) }
     ensures widest { IfSome result (λ x. x.widest ≡ widest graph.old.types.now) }
 {
     let mut counters = Vec::new(alloc);
-    let mut steps = Vec::new(alloc);
+    let mut drafts = Vec::new(alloc);
     let mut rows = Rows::new(alloc);
     let mut widest = 0;
     'types: for position in 0..graph.count() {
         let shape = graph.definition(position as u32);
         widest = widest.max(width(shape));
-        let step = link_shape(graph, &mut counters, &mut rows, position as u32, shape)?;
-        steps.push(step).ok()?;
+        let draft = link_shape(graph, &mut counters, &mut rows, position as u32, shape)?;
+        drafts.push(draft).ok()?;
     }
     Some(Linked {
         counters,
-        steps,
+        drafts,
         rows,
         widest,
     })

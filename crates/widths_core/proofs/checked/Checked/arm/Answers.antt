@@ -4,7 +4,7 @@ use Rattle.registry_core.specs.declared.definition.Arm.{Arm}
 use Rattle.registry_core.specs.declared.definition.TypeDef.TheVariants as Def
 use Rattle.widths_core.specs.Types.{shape}
 use Rattle.widths_core.specs.Steps.{references_of}
-use Rattle.widths_core.proofs.StepReads.{arm_read}
+use Rattle.widths_core.proofs.ArmReads.{arm_read}
 use Rattle.widths_core.proofs.checked.Checked.arm.Goals as goal
 
 pub returns-in_err-get-in-Variant : goal.returns-in_err-get-in-Variant
