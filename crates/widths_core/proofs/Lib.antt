@@ -11,6 +11,7 @@ pub mod Linked
 pub mod ArmsTo
 pub mod ArmRules
 pub mod TypesLinked
+pub mod SizesTo
 pub mod Stable
 pub mod RuleRight
 pub mod Waiting

@@ -6,10 +6,10 @@ use Rattle.widths_core.specs.References.{IsChecked, references}
 use Rattle.widths_core.specs.Widths.{widest}
 use Rattle.widths_core.specs.Counts.{times}
 
--- each type was looked at once at most; the references were looked at in the definitions, all once and in the order of the registry's
+-- each type was looked at twice at most; the references were looked at in the definitions, all once and in the order of the registry's
 -- bytes, and each once at most in a list
 pub record HasFewLooks (r : List TypeInfo) (l : Looks) : Type 0 where
-  pub types : (t : ℕ) → times t l.opened.entries ≤ 1
+  pub types : (t : ℕ) → times t l.opened.entries ≤ 2
   pub read : reverse l.read.entries ≡ flat_map (λ i. references i.shape) r
   pub listed : (e : ℕ) → times e l.listed.entries ≤ 1
 

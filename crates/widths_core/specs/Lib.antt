@@ -17,4 +17,5 @@ pub mod Analysed
 pub mod Consistent
 pub mod Propagation
 pub mod Rows
+pub mod Sizes
 pub mod Steps

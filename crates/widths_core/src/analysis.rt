@@ -16,6 +16,7 @@ use crate::looks::Looks;
 use crate::references::{Reference, first_unknown};
 use crate::rows::Rows;
 use crate::settling::Settling;
+use crate::sizes::{Sizes, sizes_of};
 use crate::step::{Draft, Step};
 use crate::steps::steps_by;
 use registry_core::TypeInfo;
@@ -57,13 +58,14 @@ fn settled_types(alloc: Global, graph: &mut Graph<'_>) -> Option<Settled>
     ensures settled { IfSome result (λ t. IsSettled graph.old.types.now t.classes.items t.targets.items graph.new.members.items t.rows t.drafts.items) }
     ensures analysed { IfSome result (λ t. IsAnalysed graph.old.types.now t.widest graph.new.looks) }
 {
-    graph.prepare(alloc)?;
+    let Sizes { references, arms } = sizes_of(graph)?;
+    graph.prepare(alloc, references)?;
     let Linked {
         counters,
         drafts,
         rows,
         widest,
-    } = link_types(alloc, graph)?;
+    } = link_types(alloc, graph, arms)?;
     let mut settling = Settling::new(alloc, counters, graph.count()).ok()?;
     let done = settling.begin(graph).ok()?;
     settling.settle_bad_compacts(graph, done).ok()?;

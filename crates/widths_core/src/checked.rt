@@ -22,11 +22,15 @@ use scale_core::Target;
 use std::alloc::Global;
 use std::marker::Model;
 
-/// A registry each of whose references is a position, with small tables of what was found of its types.
+/// A registry each of whose references is a position, with a small table of what was found of its types.
 ///
 /// A reference is the type of a field, also in an arm that an earlier one of the same index shadows, the element of a
 /// sequence or of an array, also one of length 0, the member of a tuple, and what a compact stands over. The ids in
 /// type parameters and in bit sequences may be any.
+///
+/// The table takes 12 bytes a type, 4 a reference and 13 an arm, shadowed ones too. While it is made, table and lists take
+/// at most 31 bytes a type, 12 a reference and 13 an arm; beside them, until all types have settled, counters and the order
+/// in which types settle take 36 bytes a type and 16 an arm.
 #[derive(Debug, Drop)]
 pub struct Checked {
     registry: Registry,
@@ -58,9 +62,9 @@ impl Checked {
 
     /// Checks the references of a registry, and finds the class of each type and what a compact over it stands for.
     ///
-    /// They are found in one pass over the registry and one over the lists of references to each type, so the time is in
-    /// proportion to the registry. What is kept takes a few bytes a type and a reference. Until the end lists and counters
-    /// take a few bytes a type, an arm and a reference more.
+    /// One pass over the types counts references and arms, one reads them, and one goes over the lists of references to
+    /// each type, so the time is in proportion to the registry. Memory is taken after the first pass and before the second,
+    /// then for what is found and for the steps, each vector in its size at once.
     ///
     /// Refuses, and hands the registry back unchanged:
     /// - `UnknownType`, where a reference is no position: the first such reference by the type that it stands in, and
@@ -73,7 +77,7 @@ impl Checked {
         ensures checked { IfOk result (λ _. IsChecked registry) }
         // The reference that is told is the first that is no position; memory is told only where there is none.
         ensures explained { IfErr result (λ refused. Explains registry refused.0) }
-        // Where it is accepted, each type was looked at once at most, and each reference twice at most.
+        // Where it is accepted, each type was looked at twice at most, and each reference twice at most.
         ensures looked { OnOk result (LooksAreFew registry) }
     {
         match analyse(alloc, registry.types()) {

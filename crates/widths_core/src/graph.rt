@@ -1,7 +1,7 @@
 //! The graph of a registry's types and references, read through looks that are logged.
 
 ghost use Rattle.std.specs.Prelude.{◌≡◌, ◌<◌, ◌^◌, [], ◌∷◌, length, IfSome, slice_index};
-ghost use Rattle.widths_core.specs.Graphs.{IsLinked, IsOpened, IsListed, IsUnread, Reads, IsNew, refs, numbers, befores};
+ghost use Rattle.widths_core.specs.Graphs.{IsLinked, IsOpened, IsListed, IsMeasured, IsUnread, Reads, IsNew, refs, numbers, befores};
 ghost use Rattle.widths_core.specs.Types.{shape};
 
 use crate::looks::{Log, Looks};
@@ -16,6 +16,8 @@ pub(crate) struct Link {
     /// One more than the number of the reference to the same type before it, and 0 where it is the first.
     pub before: u32,
 }
+
+const _: () = prove!(size_of::<Link>() == 8);
 
 /// The types of a registry, and for each the list of the references to it that were read, the newest first.
 ///
@@ -51,12 +53,14 @@ impl<'r> Graph<'r> {
         }
     }
 
-    /// Makes an empty list for each type. Answers `None` where memory is refused.
-    pub(crate) fn prepare(&mut self, alloc: Global) -> Option<()>
-        requires { IsUnread self.old.types.now self.old }
+    /// Makes an empty list for each type, and takes the memory for so many references. Answers `None` where it is refused.
+    pub(crate) fn prepare(&mut self, alloc: Global, references: usize) -> Option<()>
+        requires { IsMeasured self.old.types.now self.old }
         ensures { IfSome result (λ _. IsNew self.old.types.now self.new) }
     {
         self.newest = vec![in alloc; 0; self.types.len()].ok()?;
+        self.links = Vec::with_capacity(alloc, references).ok()?;
+        self.members = Vec::with_capacity(alloc, references).ok()?;
         Some(())
     }
 

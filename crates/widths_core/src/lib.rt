@@ -14,6 +14,7 @@ mod looks;
 mod references;
 mod rows;
 mod settling;
+mod sizes;
 mod step;
 mod steps;
 mod widths;

@@ -272,19 +272,23 @@ pub(crate) struct Linked {
     pub widest: u32,
 }
 
-/// One pass over the types: the counters, the drafts, and how many parts a value has at most.
-pub(crate) fn link_types(alloc: Global, graph: &mut Graph<'_>) -> Option<Linked>
+/// One pass over the types, which have so many arms: the counters, the drafts, and how many parts a value has at most.
+///
+/// A type has at most two counters beside those of its arms.
+pub(crate) fn link_types(alloc: Global, graph: &mut Graph<'_>, arms: usize) -> Option<Linked>
     requires fits { FitsRegistry graph.old.types.now }
     requires fresh { IsNew graph.old.types.now graph.old }
     ensures linked { IfSome result (λ x. AreTypesLinked graph.old.types.now x.counters.items graph.new) }
     ensures drafts { IfSome result (λ x. AreDrafts graph.old.types.now (refs graph.new) x.rows x.drafts.items) }
     ensures widest { IfSome result (λ x. x.widest ≡ widest graph.old.types.now) }
 {
-    let mut counters = Vec::new(alloc);
-    let mut drafts = Vec::new(alloc);
-    let mut rows = Rows::new(alloc);
+    let types = graph.count();
+    let most_counters = types.checked_mul(2)?.checked_add(arms)?;
+    let mut counters = Vec::with_capacity(alloc, most_counters).ok()?;
+    let mut drafts = Vec::with_capacity(alloc, types).ok()?;
+    let mut rows = Rows::with_capacity(alloc, arms)?;
     let mut widest = 0;
-    'types: for position in 0..graph.count() {
+    'types: for position in 0..types {
         let shape = graph.definition(position as u32);
         widest = widest.max(width(shape));
         let draft = link_shape(graph, &mut counters, &mut rows, position as u32, shape)?;

@@ -33,14 +33,14 @@ fn place_of(row: &[u8], index: u8) -> Option<usize>
 }
 
 impl Rows {
-    /// No row. It takes no memory.
-    pub(crate) fn new(alloc: Global) -> Rows
-        ensures { IsEmpty result }
+    /// No row yet, with memory for so many arms. Answers `None` where it is refused.
+    pub(crate) fn with_capacity(alloc: Global, arms: usize) -> Option<Rows>
+        ensures { IfSome result (λ rows. IsEmpty rows) }
     {
-        Rows {
-            indexes: Vec::new(alloc),
-            arms: Vec::new(alloc),
-        }
+        Some(Rows {
+            indexes: Vec::with_capacity(alloc, arms).ok()?,
+            arms: Vec::with_capacity(alloc, arms).ok()?,
+        })
     }
 
     /// How many arms there are in all rows.

@@ -106,6 +106,8 @@ pub(crate) fn step_of(steps: &[Step], at: u32) -> Option<Step>
     steps.get(at as usize).copied()
 }
 
+const _: () = prove!(size_of::<Draft>() == 12);
+
 const _: () = prove!(size_of::<Step>() == 12);
 
 const _: () = prove!(size_of::<ArmStep>() == 12);
