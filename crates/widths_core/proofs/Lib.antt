@@ -5,6 +5,7 @@ pub mod Wide
 pub mod FirstFault
 pub mod FirstArm
 pub mod Unknown
+pub mod LentArms
 pub mod Settled
 pub mod Tokens
 pub mod Linked

@@ -1,13 +1,10 @@
 -- The references and arms of the types that were passed.
-use Rattle.std.proofs.Common.{◌≡◌, ℕ, zero, suc, ◌+◌, ◌<◌, ◌≤◌, Bool, true, false, cond, List, [], ◌∷◌, ◌++◌, length, reverse, take, flat_map, get_or, Some, refl, sym, ap, ◌∙◌, arith}
-use Rattle.std.specs.Prelude.{◌==◌}
-use Rattle.std.proofs.lemmas.List.{length-append, length-map, take_all}
-use Rattle.registry_core.specs.declared.definition.Arm.{Arm}
+use Rattle.std.proofs.Common.{◌≡◌, ℕ, zero, suc, ◌+◌, ◌≤◌, List, [], ◌∷◌, length, take, flat_map, Some, refl, sym, ap, ◌∙◌, arith}
+use Rattle.std.proofs.lemmas.List.{length-append, take_all}
 use Rattle.registry_core.specs.declared.definition.TypeDef.{TypeDef}
 use Rattle.registry_core.specs.declared.type_info.TypeInfo.{TypeInfo}
 use Rattle.widths_core.specs.declared.graph.Graph.{Graph}
-use Rattle.widths_core.specs.declared.sizes.Sizes.{Sizes}
-use Rattle.widths_core.specs.Types.{shape, field_types}
+use Rattle.widths_core.specs.Types.{shape}
 use Rattle.widths_core.specs.References.{references}
 use Rattle.widths_core.specs.Counts.{times}
 use Rattle.widths_core.specs.Graphs.{IsUnread, IsMeasured, IsOpened}

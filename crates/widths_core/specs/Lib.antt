@@ -9,6 +9,7 @@ pub mod Reach
 pub mod ClassTables
 pub mod Checks
 pub mod Tables
+pub mod Lent
 pub mod Rules
 pub mod Graphs
 pub mod Counts

@@ -112,11 +112,11 @@ fn tables_of(alloc: Global, graph: &mut Graph<'_>) -> Option<Tables>
 }
 
 /// Why these types could not be settled: the first reference that is no position, or want of memory where each is one.
-fn fault_of(types: &[TypeInfo]) -> CheckFault
-    requires { length types.now < 2 ^ 32 }
-    ensures { IsFaultOf result (first_fault types.now) }
+fn fault_of(graph: &mut Graph<'_>) -> CheckFault
+    requires { length graph.old.types.now < 2 ^ 32 }
+    ensures { IsFaultOf result (first_fault graph.old.types.now) }
 {
-    match first_unknown(types) {
+    match first_unknown(graph) {
         Some(Reference { from, to }) => CheckFault::UnknownType { from, to },
         None => CheckFault::OutOfMemory,
     }
@@ -124,8 +124,8 @@ fn fault_of(types: &[TypeInfo]) -> CheckFault
 
 /// What is found of these types, or why they are refused.
 ///
-/// The looks are kept only where the types are accepted: a refused registry is gone through once more, for the first
-/// fault.
+/// The looks are kept only where the types are accepted: refused ones are gone through once more, for the first unknown
+/// reference, in a graph of their own.
 pub(crate) fn analyse(alloc: Global, types: &[TypeInfo]) -> Result<Analysis, CheckFault>
     requires { FitsRegistry types.now }
     ensures found { MatchResult result (λ a. IsAnalysed types.now a.widest a.looks) (λ fault. IsFaultOf fault (first_fault types.now)) }
@@ -149,6 +149,9 @@ pub(crate) fn analyse(alloc: Global, types: &[TypeInfo]) -> Result<Analysis, Che
                 looks,
             })
         }
-        None => Err(fault_of(types)),
+        None => {
+            let mut graph = Graph::new(alloc, types);
+            Err(fault_of(&mut graph))
+        }
     }
 }

@@ -2,12 +2,12 @@
 
 ghost use Rattle.std.specs.Prelude.{◌≡◌, ◌<◌, ◌^◌, length, flat_map, IfSome};
 ghost use Rattle.widths_core.specs.Graphs.{IsMeasured, IsUnread};
+ghost use Rattle.widths_core.specs.Lent.{shape_of};
 ghost use Rattle.widths_core.specs.References.{references};
 ghost use Rattle.widths_core.specs.Sizes.{AreSizes, arm_count};
 ghost use Rattle.widths_core.specs.Types.{field_types};
 
-use crate::graph::Graph;
-use registry_core::{Arm, TypeDef};
+use crate::graph::{Arms, Definition, Graph};
 
 /// How many references and arms the types of a registry have, shadowed arms and those of variants without values too.
 #[derive(Clone, Copy)]
@@ -17,35 +17,36 @@ pub(crate) struct Sizes {
 }
 
 /// How many fields these arms have. Answers `None` where the number is no `usize`.
-fn field_count(arms: &[Arm]) -> Option<usize>
-    ensures { IfSome result (λ n. n ≡ length (flat_map (λ a. field_types a.fields) arms.now)) }
+fn field_count(arms: &Arms<'_>) -> Option<usize>
+    ensures { IfSome result (λ n. n ≡ length (flat_map (λ a. field_types a.fields) arms.now.arms.now)) }
 {
     let mut count = 0usize;
-    'arms: for arm in arms {
-        count = count.checked_add(arm.fields.len())?;
+    'arms: for position in 0..arms.len() {
+        let (_, fields) = arms.arm(position);
+        count = count.checked_add(fields.len())?;
     }
     Some(count)
 }
 
 /// How many references a definition has. Answers `None` where the number is no `usize`.
-fn reference_count(shape: &TypeDef) -> Option<usize>
-    ensures { IfSome result (λ n. n ≡ length (references shape.now)) }
+fn reference_count(definition: &Definition<'_>) -> Option<usize>
+    ensures { IfSome result (λ n. n ≡ length (references (shape_of definition.now))) }
 {
-    match shape {
-        TypeDef::Composite(fields) => Some(fields.len()),
-        TypeDef::Variant(arms) => field_count(arms.as_slice()),
-        TypeDef::Tuple(members) => Some(members.len()),
-        TypeDef::Sequence(_) | TypeDef::Array(..) | TypeDef::Compact(_) => Some(1),
-        TypeDef::Primitive(_) | TypeDef::BitSequence { .. } => Some(0),
+    match definition {
+        Definition::Composite(fields) => Some(fields.len()),
+        Definition::Variant(arms) => field_count(arms),
+        Definition::Tuple(members) => Some(members.len()),
+        Definition::Sequence(_) | Definition::Array(..) | Definition::Compact(_) => Some(1),
+        Definition::Primitive(_) | Definition::BitSequence { .. } => Some(0),
     }
 }
 
 /// How many arms a definition has.
-fn arm_count(shape: &TypeDef) -> usize
-    ensures { result ≡ arm_count shape.now }
+fn arm_count(definition: &Definition<'_>) -> usize
+    ensures { result ≡ arm_count (shape_of definition.now) }
 {
-    match shape {
-        TypeDef::Variant(arms) => arms.len(),
+    match definition {
+        Definition::Variant(arms) => arms.len(),
         _ => 0,
     }
 }
@@ -61,9 +62,9 @@ pub(crate) fn sizes_of(graph: &mut Graph<'_>) -> Option<Sizes>
     let mut references = 0usize;
     let mut arms = 0usize;
     'types: for position in 0..graph.count() {
-        let shape = graph.definition(position as u32);
-        references = references.checked_add(reference_count(shape)?)?;
-        arms = arms.checked_add(arm_count(shape))?;
+        let definition = graph.definition(position as u32);
+        references = references.checked_add(reference_count(&definition)?)?;
+        arms = arms.checked_add(arm_count(&definition))?;
     }
     Some(Sizes { references, arms })
 }

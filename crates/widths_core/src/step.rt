@@ -8,7 +8,7 @@ use registry_core::Primitive;
 use scale_core::Target;
 
 /// Where parts are in the list of all references of a registry.
-#[derive(Clone, Copy, Debug, PartialEq, Eq)]
+#[derive(Clone, Copy)]
 pub(crate) struct Parts {
     pub from: u32,
     pub count: u32,
