@@ -437,7 +437,11 @@ fn types_have_their_steps_and_members(rt: HostRuntime) -> Result<(), Fail> {
     let without = checked(rt.alloc(), NO_BYTES_AND_NO_VALUES)?;
     let mut id = 0u32;
     for step in &STEPS_WITHOUT {
-        assert_eq!(rt; without.step(TypeId(id)), Some(*step), "the step of type {id} without");
+        assert_eq!(rt;
+            without.step(TypeId(id)),
+            Some(*step),
+            "the step of type {id} without"
+        );
         id = id.saturating_add(1);
     }
     let arm = ArmStep {
