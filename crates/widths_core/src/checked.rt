@@ -69,7 +69,8 @@ impl Checked {
     /// Refuses, and hands the registry back unchanged:
     /// - `UnknownType`, where a reference is no position: the first such reference by the type that it stands in, and
     ///   then in the order of the definition's bytes;
-    /// - `OutOfMemory`, where memory was refused; the references are checked before any is taken.
+    /// - `OutOfMemory`, where every reference is a position and memory was refused, or there are 4,294,967,295 references
+    ///   or counters or more.
     pub fn new(alloc: Global, registry: Registry) -> Result<Checked, (CheckFault, Registry)>
         // Which answer it is.
         ensures exact { CheckAnswers registry result }
