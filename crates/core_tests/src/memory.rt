@@ -1,13 +1,12 @@
 //! Memory: what lengths reserve that are claimed only, and how much room the tables of a checked registry take.
 
-use registry_core::{RegistryFault, RegistryReason, read_metadata, read_registry};
-use scale_core::Target;
+use registry_core::{RegistryFault, RegistryReason, read_metadata, read_registry, write_registry};
 use std::alloc::Global;
 use std::fs;
 use std::process::Abort;
 use std::rt::Files;
 use std::test::Fail;
-use widths_core::{Class, Step};
+use widths_core::{ArmStep, CheckFault, Checked, Step};
 
 /// The lists and texts of a registry, each with the bytes that stand before its length.
 const PLACES: [(&str, &[u8]); 22] = [
@@ -158,25 +157,42 @@ fn claimed_lengths_reserve_nothing(rt: HostRuntime) -> Result<(), Fail> {
     Ok(())
 }
 
-// The tables are vectors of classes, targets and steps, with one element for each type, and one of members.
+// The table is a vector of steps, with one element for each type, one of members, one for each reference, and one of arms
+// and one of their indexes.
 #[test]
-fn the_tables_take_fifteen_bytes_a_type(rt: HostRuntime) -> Result<(), Fail> {
-    assert_eq!(rt; size_of::<Class>(), 1);
-    assert_eq!(rt; size_of::<Option<Target>>(), 2);
+fn the_table_takes_twelve_bytes_a_type(rt: HostRuntime) -> Result<(), Fail> {
     assert_eq!(rt; size_of::<Step>(), 12);
+    assert_eq!(rt; size_of::<ArmStep>(), 12);
     let before = measured(&rt)?;
-    let mut classes = Vec::with_capacity(rt.alloc(), 0x400_0000)?;
-    classes.push(Class::Empty)?;
-    let with_classes = measured(&rt)?;
-    let mut targets = Vec::with_capacity(rt.alloc(), 0x400_0000)?;
-    targets.push(Some(Target::U8))?;
-    let with_both = measured(&rt)?;
     let mut steps = Vec::with_capacity(rt.alloc(), 0x400_0000)?;
-    steps.push(Step::Arms)?;
-    let with_all = measured(&rt)?;
-    assert_eq!(rt; (classes.len(), targets.len(), steps.len()), (1, 1, 1));
-    check_growth(&rt, before, with_classes, 0x1_0000);
-    check_growth(&rt, with_classes, with_both, 0x2_0000);
-    check_growth(&rt, with_both, with_all, 0xc_0000);
+    steps.push(Step::Empty)?;
+    let with_steps = measured(&rt)?;
+    let mut members = Vec::with_capacity(rt.alloc(), 0x400_0000)?;
+    members.push(0u32)?;
+    let with_both = measured(&rt)?;
+    assert_eq!(rt; (steps.len(), members.len()), (1, 1));
+    check_growth(&rt, before, with_steps, 0xc_0000);
+    check_growth(&rt, with_steps, with_both, 0x4_0000);
+    Ok(())
+}
+
+/// A composite of a u8 and of a sequence of it, a variant of two arms, and a compact.
+const REGISTRY: &[u8] =
+    b"\x14\x00\x00\x00\x05\x03\x00\x04\x00\x00\x00\x08\x00\x00\x00\x00\x00\x08\x00\x00\x00\x08\x00\x00\x02\x00\x00\x0c\x00\x00\x01\x08\x04A\x00\x00\x00\x04B\x04\x00\x04\x00\x00\x01\x00\x00\x10\x00\x00\x06\x00\x00";
+
+// Where a request is refused, as `rt try --test --fail-alloc N` does with the N-th, the registry comes back as it was, and
+// is accepted when there is memory again. Where none is, it is accepted at once.
+#[test]
+fn a_registry_is_handed_back_where_memory_is_refused(rt: HostRuntime) -> Result<(), Fail> {
+    let Ok((registry, _)) = read_registry(rt.alloc(), REGISTRY) else {
+        return Ok(());
+    };
+    let Err((fault, registry)) = Checked::new(rt.alloc(), registry) else {
+        return Ok(());
+    };
+    assert_eq!(rt; fault, CheckFault::OutOfMemory);
+    let bytes = write_registry(rt.alloc(), &registry)?;
+    assert_eq!(rt; bytes.as_slice(), REGISTRY);
+    assert!(rt; Checked::new(rt.alloc(), registry).is_ok());
     Ok(())
 }

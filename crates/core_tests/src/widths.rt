@@ -5,7 +5,7 @@ use scale_core::{Target, write_compact};
 use std::alloc::Global;
 use std::process::Abort;
 use std::test::Fail;
-use widths_core::{CheckFault, Checked, Class, Step};
+use widths_core::{ArmStep, CheckFault, Checked, Class, Step};
 
 /// A registry, the class and the compact's target of each of its types, and how wide its widest type is.
 #[derive(Clone, Copy)]
@@ -287,6 +287,67 @@ fn the_first_arm_of_an_index_is_found(rt: HostRuntime) -> Result<(), Fail> {
     Ok(())
 }
 
+/// A variant of five arms, whose indexes are 5, 2, 200, 2 again and 7, with one, no, two, one and no fields.
+const GAPS: &[u8] =
+    b"\x08\x00\x00\x00\x05\x03\x00\x04\x00\x00\x01\x14\x04A\x04\x00\x00\x00\x00\x05\x00\x04B\x00\x02\x00\x04C\x08\x00\x00\x00\x00\x00\x00\x00\x00\xc8\x00\x04D\x04\x00\x00\x00\x00\x02\x00\x04E\x00\x07\x00\x00";
+
+/// The arms of `GAPS` that are not shadowed: the index, the name, and where the fields' types are among the references.
+const ARMS_OF_GAPS: [(u8, &str, ArmStep); 4] = [
+    (
+        2,
+        "B",
+        ArmStep {
+            position: 1,
+            from: 1,
+            count: 0,
+        },
+    ),
+    (
+        5,
+        "A",
+        ArmStep {
+            position: 0,
+            from: 0,
+            count: 1,
+        },
+    ),
+    (
+        7,
+        "E",
+        ArmStep {
+            position: 4,
+            from: 4,
+            count: 0,
+        },
+    ),
+    (
+        200,
+        "C",
+        ArmStep {
+            position: 2,
+            from: 1,
+            count: 2,
+        },
+    ),
+];
+
+#[test]
+fn arms_are_found_between_gaps(rt: HostRuntime) -> Result<(), Fail> {
+    let registry = checked(rt.alloc(), GAPS)?;
+    for index in 0..=255u8 {
+        let arm = ARMS_OF_GAPS.iter().find(|arm| arm.0 == index);
+        let step = arm.map(|arm| arm.2);
+        assert_eq!(rt; registry.arm_step(TypeId(1), index), step, "index {index}");
+        assert_eq!(rt; registry.arm_step(TypeId(0), index), None);
+        let found = registry.arm(TypeId(1), index);
+        let named = found.map(|(position, arm)| (position, arm.name.as_str()));
+        let wanted = arm.map(|arm| (arm.2.position, arm.1));
+        assert_eq!(rt; named, wanted, "index {index}");
+    }
+    assert_eq!(rt; registry.members(), [0, 0, 0, 0].as_slice());
+    Ok(())
+}
+
 #[test]
 fn nested_tuples_of_units_are_empty(rt: HostRuntime) -> Result<(), Fail> {
     let mut bytes = Vec::new(rt.alloc());
@@ -337,9 +398,25 @@ const STEPS: [Step; 8] = [
     Step::Sequence { element: 0 },
     Step::Array { len: 7, element: 1 },
     Step::Parts { from: 4, count: 2 },
-    Step::Compact,
+    Step::Compact(Some(Target::U8)),
     Step::BitSequence,
-    Step::Arms,
+    Step::Arms { from: 0, count: 1 },
+];
+
+/// An empty tuple, a compact and a sequence of it, a variant without arms, a tuple, a compact and an array of none of that,
+/// and a variant whose one arm, of index 9, holds it.
+const NO_BYTES_AND_NO_VALUES: &[u8] =
+    b"\x20\x00\x00\x00\x04\x00\x00\x04\x00\x00\x06\x00\x00\x08\x00\x00\x02\x00\x00\x0c\x00\x00\x01\x00\x00\x10\x00\x00\x04\x04\x0c\x00\x14\x00\x00\x06\x0c\x00\x18\x00\x00\x03\x00\x00\x00\x00\x0c\x00\x1c\x00\x00\x01\x04\x04A\x04\x00\x0c\x00\x00\x09\x00\x00";
+
+const STEPS_WITHOUT: [Step; 8] = [
+    Step::Empty,
+    Step::Compact(Some(Target::Unit)),
+    Step::Count,
+    Step::NoArm { from: 0, count: 0 },
+    Step::NoValue,
+    Step::Compact(None),
+    Step::Empty,
+    Step::NoArm { from: 0, count: 1 },
 ];
 
 const MEMBERS: [u32; 8] = [0, 2, 0, 1, 1, 3, 0, 5];
@@ -357,6 +434,22 @@ fn types_have_their_steps_and_members(rt: HostRuntime) -> Result<(), Fail> {
         id = id.saturating_add(1);
     }
     assert_eq!(rt; registry.step(TypeId(id)), None);
+    let without = checked(rt.alloc(), NO_BYTES_AND_NO_VALUES)?;
+    let mut id = 0u32;
+    for step in &STEPS_WITHOUT {
+        assert_eq!(rt;
+            without.step(TypeId(id)),
+            Some(*step),
+            "the step of type {id} without"
+        );
+        id = id.saturating_add(1);
+    }
+    let arm = ArmStep {
+        position: 0,
+        from: 5,
+        count: 1,
+    };
+    assert_eq!(rt; without.arm_step(TypeId(7), 9), Some(arm));
     assert_eq!(rt; registry.members(), MEMBERS.as_slice());
     let mut at = 0u32;
     for member in &MEMBERS {

@@ -1,12 +1,19 @@
--- Parts and steps stay what they are while references come after them.
-use Rattle.std.proofs.Common.{◌≡◌, ℕ, ◌≤◌, List, ◌++◌, length, take, drop, ap, ◌∙◌, arith}
+-- Parts, rows and drafts stay what they are while references and arms come after them.
+use Rattle.std.proofs.Common.{◌≡◌, ℕ, ◌≤◌, List, ◌++◌, length, take, drop, Option, Some, None, refl, ap, ◌∙◌, arith}
 use Rattle.std.proofs.lemmas.List.{length-append, length-drop, drop-append-le, take-append-le}
 use Rattle.std.proofs.Math.Seq.{drop-append_seam, take-length}
+use Rattle.registry_core.specs.declared.definition.Arm.{Arm}
 use Rattle.registry_core.specs.declared.definition.TypeDef.{TypeDef}
 use Rattle.registry_core.specs.declared.definition.TypeDef.TheVariants as Def
-use Rattle.widths_core.specs.declared.step.Step.{Step}
+use Rattle.widths_core.specs.declared.rows.Rows.{Rows}
+use Rattle.widths_core.specs.declared.step.ArmStep.{ArmStep}
+use Rattle.widths_core.specs.declared.step.Draft.{Draft}
 use Rattle.widths_core.specs.Types.{ids, field_types}
-use Rattle.widths_core.specs.Steps.{AreParts, IsStep}
+use Rattle.widths_core.specs.Arms.{arm_of}
+use Rattle.widths_core.specs.Rows.{Keeps, arm_in, index_in}
+use Rattle.widths_core.specs.Steps.{AreParts, IsArm, IsRow, IsDraft}
+
+-- ---- parts
 
 pub parts_here : (xs ys : List ℕ) (from count : ℕ) → from ≡ length xs → count ≡ length ys → AreParts (xs ++ ys) from count ys
 parts_here xs ys from count f c = record {
@@ -23,12 +30,40 @@ parts_kept xs ys from count ts h =
       are = ap (λ (zs : List ℕ). take count zs) (drop-append-le from xs ys left) ∙ take-append-le count (drop from xs) ys len ∙ h.are;
     }
 
-pub step_kept : (xs ys : List ℕ) (d : TypeDef) (s : Step) → IsStep xs d s → IsStep (xs ++ ys) d s
-step_kept xs ys (Def.Composite fs) s h = (h.0, h.1, h.2, parts_kept xs ys h.0 h.1 (field_types fs) h.3)
-step_kept xs ys (Def.Tuple ts) s h = (h.0, h.1, h.2, parts_kept xs ys h.0 h.1 (ids ts) h.3)
-step_kept xs ys (Def.Variant arms) s h = h
-step_kept xs ys (Def.Sequence t) s h = h
-step_kept xs ys (Def.Array n t) s h = h
-step_kept xs ys (Def.Primitive p) s h = h
-step_kept xs ys (Def.Compact t) s h = h
-step_kept xs ys (Def.BitSequence store order) s h = h
+-- ---- arms
+
+pub arm_kept : (xs ys : List ℕ) (s : Option ArmStep) (x : Option (ℕ × Arm)) → IsArm xs s x → IsArm (xs ++ ys) s x
+arm_kept xs ys None None h = tt
+arm_kept xs ys (Some s) (Some x) h = (h.0, parts_kept xs ys s.from s.count (field_types x.1.fields) h.1)
+arm_kept xs ys None (Some x) h = absurd h
+arm_kept xs ys (Some s) None h = absurd h
+
+pub keeps_all : (a : Rows) → Keeps a a
+keeps_all a = record { count = omega arith; indexes = λ k lt. refl; arms = λ k lt. refl }
+
+pub keeps_on : (a b c : Rows) → Keeps a b → Keeps b c → Keeps a c
+keeps_on a b c h k = record {
+  count = omega (arith, h.count, k.count);
+  indexes = λ i lt. k.indexes i (omega (arith, lt, h.count)) ∙ h.indexes i lt;
+  arms = λ i lt. k.arms i (omega (arith, lt, h.count)) ∙ h.arms i lt;
+}
+
+pub row_kept : (xs ys : List ℕ) (a b : Rows) (from count : ℕ) (arms : List Arm) → Keeps a b → IsRow xs a from count arms → IsRow (xs ++ ys) b from count arms
+row_kept xs ys a b from count arms k h = record {
+  within = omega (arith, h.within, k.count);
+  rises = λ i j ge lt end. rw (k.indexes i (omega (arith, lt, end, h.within)), k.indexes j (omega (arith, end, h.within))) (h.rises i j ge lt end);
+  arm = λ i ge lt. rw (k.indexes i (omega (arith, lt, h.within)), k.arms i (omega (arith, lt, h.within))) (arm_kept xs ys (Some (arm_in a i)) (arm_of arms (index_in a i)) (h.arm i ge lt));
+  none = λ x lacks. h.none x (λ i ge lt is. lacks i ge lt (k.indexes i (omega (arith, lt, h.within)) ∙ is));
+}
+
+-- ---- drafts
+
+pub draft_kept : (xs ys : List ℕ) (a b : Rows) (d : TypeDef) (s : Draft) → Keeps a b → IsDraft xs (IsRow xs a) d s → IsDraft (xs ++ ys) (IsRow (xs ++ ys) b) d s
+draft_kept xs ys a b (Def.Composite fs) s k h = (h.0, h.1, h.2, parts_kept xs ys h.0 h.1 (field_types fs) h.3)
+draft_kept xs ys a b (Def.Tuple ts) s k h = (h.0, h.1, h.2, parts_kept xs ys h.0 h.1 (ids ts) h.3)
+draft_kept xs ys a b (Def.Variant arms) s k h = (h.0, h.1, h.2, row_kept xs ys a b h.0 h.1 arms k h.3)
+draft_kept xs ys a b (Def.Sequence t) s k h = h
+draft_kept xs ys a b (Def.Array n t) s k h = h
+draft_kept xs ys a b (Def.Primitive p) s k h = h
+draft_kept xs ys a b (Def.Compact t) s k h = h
+draft_kept xs ys a b (Def.BitSequence store order) s k h = h

@@ -4,13 +4,15 @@ pub mod Known
 pub mod Wide
 pub mod FirstFault
 pub mod FirstArm
-pub mod Seen
 pub mod Unknown
+pub mod LentArms
 pub mod Settled
 pub mod Tokens
 pub mod Linked
+pub mod ArmsTo
 pub mod ArmRules
 pub mod TypesLinked
+pub mod SizesTo
 pub mod Stable
 pub mod RuleRight
 pub mod Waiting
@@ -21,5 +23,9 @@ pub mod Ends
 pub mod Results
 pub mod Complete
 pub mod Kept
-pub mod StepsTo
+pub mod RowTo
+pub mod RowReads
+pub mod DraftsTo
+pub mod StepsOf
 pub mod StepReads
+pub mod ArmReads

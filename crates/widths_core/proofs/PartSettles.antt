@@ -94,7 +94,7 @@ counted_consistent r propagated s e f h lt none settled is = record {
   propagated_settled x (inr other) more = h.part_settled x (omega (arith, more, times-other x e propagated other))
 
 -- reference e was propagated
-pub record Hears (r : List TypeInfo) (propagated : List ℕ) (e : ℕ) (s n : State) : Type 0 where
+pub record SettlesPart (r : List TypeInfo) (propagated : List ℕ) (e : ℕ) (s n : State) : Type 0 where
   pub consistent : IsConsistent r (e ∷ propagated) n
   pub closed : IsClosed r n
   pub follows : Follows s n
@@ -109,7 +109,7 @@ only_part r e u lt one =
       go true p q = sym (eqb-true u (to_at r e) p)
       go false p q = absurd cc
 
-pub settles_part : (r : List TypeInfo) (propagated : List ℕ) (s : State) (e : ℕ) (f : Found) → IsConsistent r propagated s → IsClosed r s → e < length (all_parts (rules r)) → times e propagated ≡ 0 → has_settled s (to_at r e) ≡ true → f.class ≡ class_of r (to_at r e) → f.target ≡ target_of r (to_at r e) → Hears r propagated e s (part_settled s (number_at r e) f)
+pub settles_part : (r : List TypeInfo) (propagated : List ℕ) (s : State) (e : ℕ) (f : Found) → IsConsistent r propagated s → IsClosed r s → e < length (all_parts (rules r)) → times e propagated ≡ 0 → has_settled s (to_at r e) ≡ true → f.class ≡ class_of r (to_at r e) → f.target ≡ target_of r (to_at r e) → SettlesPart r propagated e s (part_settled s (number_at r e) f)
 settles_part r propagated s e f h closed lt none settled is target = go ((counted (counter_at s (number_at r e)) f.class).left == 0) refl where
   st : IsConsistent r (e ∷ propagated) (counters_set s (number_at r e) (counted (counter_at s (number_at r e)) f.class))
   st = counted_consistent r propagated s e f h lt none settled is
@@ -120,7 +120,7 @@ settles_part r propagated s e f h closed lt none settled is target = go ((counte
   others : (j : ℕ) → j ≢ number_at r e → settles (rule_at r j).kind ≡ true → (counter_at (counters_set s (number_at r e) (counted (counter_at s (number_at r e)) f.class)) j).left ≡ 0 → has_settled s (rule_at r j).owner ≡ true
   others j other e' left = closed.at j e' (rw (counter_other s (number_at r e) j (counted (counter_at s (number_at r e)) f.class) other) at left)
 
-  go : (b : Bool) → ((counted (counter_at s (number_at r e)) f.class).left == 0) ≡ b → Hears r propagated e s (cond b (completed (counters_set s (number_at r e) (counted (counter_at s (number_at r e)) f.class)) (counted (counter_at s (number_at r e)) f.class) f.target) (counters_set s (number_at r e) (counted (counter_at s (number_at r e)) f.class)))
+  go : (b : Bool) → ((counted (counter_at s (number_at r e)) f.class).left == 0) ≡ b → SettlesPart r propagated e s (cond b (completed (counters_set s (number_at r e) (counted (counter_at s (number_at r e)) f.class)) (counted (counter_at s (number_at r e)) f.class) f.target) (counters_set s (number_at r e) (counted (counter_at s (number_at r e)) f.class)))
   go true p =
       let zero_is : (counted (counter_at s (number_at r e)) f.class).left ≡ 0 = eqb-true (counted (counter_at s (number_at r e)) f.class).left 0 p in
       let left : (counter_at (counters_set s (number_at r e) (counted (counter_at s (number_at r e)) f.class)) (number_at r e)).left ≡ 0 = rw at zero_is in

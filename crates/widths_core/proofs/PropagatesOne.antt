@@ -19,7 +19,7 @@ use Rattle.widths_core.specs.Propagation.{Follows, Lists, IsSteady, IsPending, P
 use Rattle.widths_core.proofs.RuleRight.{rule_right}
 use Rattle.widths_core.proofs.Settles.{follows_same, follows_on}
 use Rattle.widths_core.proofs.Waiting.{differ, times-same, times-other, times-append}
-use Rattle.widths_core.proofs.PartSettles.{Hears, settles_part, number-lt, left_some}
+use Rattle.widths_core.proofs.PartSettles.{SettlesPart, settles_part, number-lt, left_some}
 
 -- those from the end of the list on were propagated; reference at - 1 is next, where at is not 0
 pub record PropagatesSo (r : List TypeInfo) (a b : Graph) (s n : State) (t : ℕ) (f : Found) (at : ℕ) : Type 0 where
@@ -111,7 +111,7 @@ next_is r a b s n t f e h =
 pub propagates_more : (r : List TypeInfo) (a b c : Graph) (s n m : State) (t : ℕ) (f : Found) (e to : ℕ) → PropagatesSo r a b s n t f (suc e) → IsListed b c e → m ≡ part_settled n (number_at r e) f → to ≡ get_or (befores b) e 0 → PropagatesSo r a c s m t f to
 propagates_more r a b c s n m t f e to h listed is before =
     let it = next_is r a b s n t f e h in
-    let done : Hears r b.looks.listed.entries e n m = rw is (settles_part r b.looks.listed.entries n e f h.steady.consistent h.steady.closed it.small it.fresh (rw it.to h.settled) (rw it.to h.class) (rw it.to h.target)) in
+    let done : SettlesPart r b.looks.listed.entries e n m = rw is (settles_part r b.looks.listed.entries n e f h.steady.consistent h.steady.closed it.small it.fresh (rw it.to h.settled) (rw it.to h.class) (rw it.to h.target)) in
     let last : IsLast (all_parts (rules r)) e t to = rw before it.before in
     let ready = h.steady.ready in
     record {

@@ -52,7 +52,7 @@ has_value-arms f arms = go (list_any (λ a. has_value (class_of_parts f (field_t
   go true = refl
   go false = refl
 
-is_empty-arms : (f : ℕ → Class) (arms : List Arm) → is_empty_class (class_of_arms f arms) ≡ false
+pub is_empty-arms : (f : ℕ → Class) (arms : List Arm) → is_empty_class (class_of_arms f arms) ≡ false
 is_empty-arms f arms = go (list_any (λ a. has_value (class_of_parts f (field_types a.fields))) (live_arms [] arms)) where
   go : (b : Bool) → is_empty_class (cond b class.Sized class.NoValue) ≡ false
   go true = refl

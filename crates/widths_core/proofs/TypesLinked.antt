@@ -38,7 +38,7 @@ pub record TypesLinkedTo (r : List TypeInfo) (i : ℕ) (cs : List Counter) (d : 
   pub counters : cs ≡ map counter_of (rules_from 0 (take i r))
   pub read : refs d ≡ all_parts (rules_from 0 (take i r))
   pub counted : numbers d ≡ numbers_from 0 (rules_from 0 (take i r))
-  pub opened : (t : ℕ) → (times t d.looks.opened.entries ≤ 1) × (i ≤ t → times t d.looks.opened.entries ≡ 0)
+  pub opened : (t : ℕ) → (times t d.looks.opened.entries ≤ 2) × (i ≤ t → times t d.looks.opened.entries ≤ 1)
   pub listed : d.looks.listed.entries ≡ []
   pub wide : max w (widest (drop i r)) ≡ widest r
 
@@ -49,16 +49,22 @@ types_linked_none r d h = record {
   counters = refl;
   read = rw h.read refl;
   counted = rw h.links refl;
-  opened = λ t. rw h.opened (omega arith, λ le. refl);
+  opened = λ t. (let once = h.opened t in omega (arith, once), λ le. h.opened t);
   listed = h.listed;
   wide = omega arith;
 }
 
-one_more : (i t : ℕ) (log : List ℕ) → (times t log ≤ 1) × (i ≤ t → times t log ≡ 0) → (times t (i ∷ log) ≤ 1) × (i + 1 ≤ t → times t (i ∷ log) ≡ 0)
+pub one_more : (i t : ℕ) (log : List ℕ) → (times t log ≤ 1) × (i ≤ t → times t log ≡ 0) → (times t (i ∷ log) ≤ 1) × (i + 1 ≤ t → times t (i ∷ log) ≡ 0)
 one_more i t log h = go (i == t) refl where
   go : (b : Bool) → (i == t) ≡ b → (cond b 1 0 + times t log ≤ 1) × (i + 1 ≤ t → cond b 1 0 + times t log ≡ 0)
   go true e = let same : i ≡ t = eqb-true i t e in (omega (arith, h.1 (omega arith), same), λ le. absurd (omega (arith, same, le)))
   go false e = (omega (arith, h.0), λ le. omega (arith, h.1 (omega (arith, le))))
+
+again : (i t : ℕ) (log : List ℕ) → (times t log ≤ 2) × (i ≤ t → times t log ≤ 1) → (times t (i ∷ log) ≤ 2) × (i + 1 ≤ t → times t (i ∷ log) ≤ 1)
+again i t log h = go (i == t) refl where
+  go : (b : Bool) → (i == t) ≡ b → (cond b 1 0 + times t log ≤ 2) × (i + 1 ≤ t → cond b 1 0 + times t log ≤ 1)
+  go true e = let same : i ≡ t = eqb-true i t e in (omega (arith, h.1 (omega arith), same), λ le. absurd (omega (arith, same, le)))
+  go false e = (omega (arith, h.0), λ le. omega (arith, h.1 (omega arith)))
 
 pub types_linked_more : (r : List TypeInfo) (i : ℕ) (d : TypeDef) (cs ds : List Counter) (a b c : Graph) (w : ℕ) → shape r i ≡ Some d → TypesLinkedTo r i cs a w → IsOpened a b i → Adds (rules_of i d) cs ds b c → TypesLinkedTo r (i + 1) ds c (max w (width d))
 types_linked_more r i d cs ds a b c w e h o k =
@@ -72,7 +78,7 @@ types_linked_more r i d cs ds a b c w e h o k =
       counters = rw all (k.counters ∙ ap (λ (xs : List Counter). xs ++ map counter_of (rules_of i d)) h.counters ∙ sym (map-append counter_of old (rules_of i d)));
       read = rw all (k.reads.read ∙ ap (λ (xs : List ℕ). xs ++ all_parts (rules_of i d)) (ap reverse o.read ∙ h.read) ∙ sym (flat_map-append (λ (x : Rule). x.parts) old (rules_of i d)));
       counted = rw all (k.reads.counted ∙ ap (λ (xs : List ℕ). xs ++ numbers_from (length cs) (rules_of i d)) (counted ∙ h.counted) ∙ ap (λ (n : ℕ). numbers_from 0 old ++ numbers_from n (rules_of i d)) len ∙ sym (numbers_from-append 0 old (rules_of i d)));
-      opened = λ t. let is : c.looks.opened.entries ≡ i ∷ a.looks.opened.entries = k.reads.opened ∙ o.opened in rw is (one_more i t a.looks.opened.entries (h.opened t));
+      opened = λ t. let is : c.looks.opened.entries ≡ i ∷ a.looks.opened.entries = k.reads.opened ∙ o.opened in rw is (again i t a.looks.opened.entries (h.opened t));
       listed = k.reads.listed ∙ o.listed ∙ h.listed;
       wide = rw step (wide (drop (suc i) r) (widest_more r i d e));
     } where

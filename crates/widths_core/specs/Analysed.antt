@@ -1,25 +1,20 @@
 -- What is found of a registry, and how often it was looked at.
-use Rattle.std.specs.Prelude.{◌≡◌, ℕ, ◌≤◌, List, Option, flat_map, reverse}
-use Rattle.scale_core.specs.declared.compact.Target.{Target}
+use Rattle.std.specs.Prelude.{◌≡◌, ℕ, ◌≤◌, List, flat_map, reverse}
 use Rattle.registry_core.specs.declared.type_info.TypeInfo.{TypeInfo}
-use Rattle.widths_core.specs.declared.class.Class.{Class}
 use Rattle.widths_core.specs.declared.looks.Looks.{Looks}
 use Rattle.widths_core.specs.References.{IsChecked, references}
-use Rattle.widths_core.specs.ClassTables.{TellsTargets, TellsClasses}
 use Rattle.widths_core.specs.Widths.{widest}
 use Rattle.widths_core.specs.Counts.{times}
 
--- each type was looked at once at most; the references were looked at in the definitions, all once and in the order of the registry's
+-- each type was looked at twice at most; the references were looked at in the definitions, all once and in the order of the registry's
 -- bytes, and each once at most in a list
 pub record HasFewLooks (r : List TypeInfo) (l : Looks) : Type 0 where
-  pub types : (t : ℕ) → times t l.opened.entries ≤ 1
+  pub types : (t : ℕ) → times t l.opened.entries ≤ 2
   pub read : reverse l.read.entries ≡ flat_map (λ i. references i.shape) r
   pub listed : (e : ℕ) → times e l.listed.entries ≤ 1
 
--- these are the classes, the targets and the width of a registry whose references are all positions, found with few looks
-pub record IsAnalysed (r : List TypeInfo) (classes : List Class) (targets : List (Option Target)) (w : ℕ) (l : Looks) : Type 0 where
+-- this is the width of a registry whose references are all positions, found with few looks
+pub record IsAnalysed (r : List TypeInfo) (w : ℕ) (l : Looks) : Type 0 where
   pub checked : IsChecked r
-  pub tells_classes : TellsClasses r classes
-  pub tells_targets : TellsTargets r targets
   pub widest_is : w ≡ widest r
   pub looks : HasFewLooks r l

@@ -58,13 +58,20 @@ pub record IsUnread (r : List TypeInfo) (d : Graph) : Type 0 where
   pub read : d.looks.read.entries ≡ []
   pub listed : d.looks.listed.entries ≡ []
 
--- nothing was read of these types, and each list is empty
+-- no reference was read of these types, each of which was looked at once at most, and there are no lists yet
+pub record IsMeasured (r : List TypeInfo) (d : Graph) : Type 0 where
+  pub types : d.types.now ≡ r
+  pub opened : (t : ℕ) → times t d.looks.opened.entries ≤ 1
+  pub read : d.looks.read.entries ≡ []
+  pub listed : d.looks.listed.entries ≡ []
+
+-- no reference was read of these types, each of which was looked at once at most, and each list is empty
 pub record IsNew (r : List TypeInfo) (d : Graph) : Type 0 where
   pub types : d.types.now ≡ r
   pub linked : IsLinked d
   pub links : d.links.items ≡ []
   pub members : d.members.items ≡ []
-  pub opened : d.looks.opened.entries ≡ []
+  pub opened : (t : ℕ) → times t d.looks.opened.entries ≤ 1
   pub read : d.looks.read.entries ≡ []
   pub listed : d.looks.listed.entries ≡ []
 
@@ -95,5 +102,5 @@ pub record AreTypesLinked (r : List TypeInfo) (cs : List Counter) (d : Graph) : 
   pub counters : cs ≡ map counter_of (rules r)
   pub read : refs d ≡ all_parts (rules r)
   pub counted : numbers d ≡ numbers_from 0 (rules r)
-  pub opened : (t : ℕ) → times t d.looks.opened.entries ≤ 1
+  pub opened : (t : ℕ) → times t d.looks.opened.entries ≤ 2
   pub listed : d.looks.listed.entries ≡ []

@@ -9,6 +9,7 @@ pub mod Reach
 pub mod ClassTables
 pub mod Checks
 pub mod Tables
+pub mod Lent
 pub mod Rules
 pub mod Graphs
 pub mod Counts
@@ -16,4 +17,6 @@ pub mod Progress
 pub mod Analysed
 pub mod Consistent
 pub mod Propagation
+pub mod Rows
+pub mod Sizes
 pub mod Steps

@@ -1,12 +1,26 @@
--- What a type is made of, in a few bytes: its parts are a piece of the list of all references.
-use Rattle.std.specs.Prelude.{◌≡◌, ℕ, ◌+◌, ◌≤◌, List, length, take, drop, flat_map, Option, Some, None, slice_get}
+-- What a type is made of, in a few bytes: its parts are a piece of the list of all references, its arms a row by their index.
+use Rattle.std.specs.Prelude.{◌≡◌, ℕ, ◌+◌, ◌<◌, ◌≤◌, List, length, take, drop, flat_map, Option, Some, None, slice_get}
+use Rattle.registry_core.specs.declared.definition.Arm.{Arm}
 use Rattle.registry_core.specs.declared.definition.TypeDef.{TypeDef}
 use Rattle.registry_core.specs.declared.definition.TypeDef.TheVariants as Def
 use Rattle.registry_core.specs.declared.type_info.TypeInfo.{TypeInfo}
+use Rattle.widths_core.specs.declared.rows.Rows.{Rows}
+use Rattle.widths_core.specs.declared.step.ArmStep.{ArmStep}
+use Rattle.widths_core.specs.declared.class.Class.{Class}
+use Rattle.widths_core.specs.declared.class.Class.TheVariants as class
+use Rattle.widths_core.specs.declared.step.Parts.{Parts}
+use Rattle.widths_core.specs.declared.step.Draft.{Draft}
+use Rattle.widths_core.specs.declared.step.Draft.TheVariants as draft
 use Rattle.widths_core.specs.declared.step.Step.{Step}
 use Rattle.widths_core.specs.declared.step.Step.TheVariants as step
+use Rattle.scale_core.specs.declared.compact.Target.{Target}
 use Rattle.widths_core.specs.Types.{shape, ids, field_types}
+use Rattle.widths_core.specs.Arms.{arm_of}
 use Rattle.widths_core.specs.References.{references}
+use Rattle.widths_core.specs.Targets.{target_of}
+use Rattle.widths_core.specs.Classes.{class_of}
+use Rattle.widths_core.specs.ClassTables.{class_of_compact, TellsClasses, TellsTargets}
+use Rattle.widths_core.specs.Rows.{IsPaired, Lacks, Rises, arm_in, index_in}
 
 -- the references of a registry, in the order of its bytes
 abbrev pub references_of : List TypeInfo → List ℕ
@@ -17,27 +31,131 @@ pub record AreParts (refs : List ℕ) (from count : ℕ) (ts : List ℕ) : Type 
   pub within : from + count ≤ length refs
   pub are : take count (drop from refs) ≡ ts
 
--- this is the step of a type of this shape, whose parts are among these references
-abbrev pub IsStep : List ℕ → TypeDef → Step → Type 0
-IsStep refs (Def.Composite fs) s = (from count : ℕ) × (s ≡ step.Parts from count) × AreParts refs from count (field_types fs)
-IsStep refs (Def.Tuple ts) s = (from count : ℕ) × (s ≡ step.Parts from count) × AreParts refs from count (ids ts)
-IsStep refs (Def.Variant arms) s = s ≡ step.Arms
-IsStep refs (Def.Sequence t) s = s ≡ step.Sequence t.0
-IsStep refs (Def.Array n t) s = s ≡ step.Array n t.0
-IsStep refs (Def.Primitive p) s = s ≡ step.Primitive p
-IsStep refs (Def.Compact t) s = s ≡ step.Compact
-IsStep refs (Def.BitSequence store order) s = s ≡ step.BitSequence
+-- this is the step of the arm, where there is one
+abbrev pub IsArm : List ℕ → Option ArmStep → Option (ℕ × Arm) → Type 0
+IsArm refs None None = Unit {0}
+IsArm refs (Some s) (Some x) = (s.position ≡ x.0) × AreParts refs s.from s.count (field_types x.1.fields)
+IsArm refs None (Some x) = ⊥
+IsArm refs (Some s) None = ⊥
 
--- there is a step for each type, its own
-pub record AreSteps (r : List TypeInfo) (refs : List ℕ) (steps : List Step) : Type 0 where
-  pub count : length steps ≡ length r
-  pub own : (t : ℕ) (d : TypeDef) (s : Step) → shape r t ≡ Some d → slice_get steps t ≡ Some s → IsStep refs d s
+-- the row of so many arms from there on has by ascending index the first arm of each index that an arm has
+pub record IsRow (refs : List ℕ) (rows : Rows) (from count : ℕ) (arms : List Arm) : Type 0 where
+  pub within : from + count ≤ length rows.indexes.items
+  pub rises : Rises rows.indexes.items from (from + count)
+  pub arm : (k : ℕ) → from ≤ k → k < from + count → IsArm refs (Some (arm_in rows k)) (arm_of arms (index_in rows k))
+  pub none : (x : ℕ) → Lacks rows.indexes.items from (from + count) x → arm_of arms x ≡ None
 
--- these are the references, and the steps over them
-pub record IsTable (r : List TypeInfo) (refs : List ℕ) (steps : List Step) : Type 0 where
+-- this is the draft of a type of this shape, where its parts are among these references, and the row of a variant is as Row says
+abbrev pub IsDraft : List ℕ → (ℕ → ℕ → List Arm → Type 0) → TypeDef → Draft → Type 0
+IsDraft refs Row (Def.Composite fs) s = (from count : ℕ) × (s ≡ draft.Parts from count) × AreParts refs from count (field_types fs)
+IsDraft refs Row (Def.Tuple ts) s = (from count : ℕ) × (s ≡ draft.Parts from count) × AreParts refs from count (ids ts)
+IsDraft refs Row (Def.Variant arms) s = (from count : ℕ) × (s ≡ draft.Arms from count) × Row from count arms
+IsDraft refs Row (Def.Sequence t) s = s ≡ draft.Sequence t.0
+IsDraft refs Row (Def.Array n t) s = s ≡ draft.Array n t.0
+IsDraft refs Row (Def.Primitive p) s = s ≡ draft.Primitive p
+IsDraft refs Row (Def.Compact t) s = s ≡ draft.Compact t.0
+IsDraft refs Row (Def.BitSequence store order) s = s ≡ draft.BitSequence
+
+-- there is a draft for each type, its own
+pub record AreDrafts (r : List TypeInfo) (refs : List ℕ) (rows : Rows) (drafts : List Draft) : Type 0 where
+  pub paired : IsPaired rows
+  pub count : length drafts ≡ length r
+  pub own : (t : ℕ) (d : TypeDef) (s : Draft) → shape r t ≡ Some d → slice_get drafts t ≡ Some s → IsDraft refs (IsRow refs rows) d s
+
+-- these are the classes and targets of a registry, its references, and the drafts and rows over them
+pub record IsSettled (r : List TypeInfo) (classes : List Class) (targets : List (Option Target)) (refs : List ℕ) (rows : Rows) (drafts : List Draft) : Type 0 where
+  pub classes_are : TellsClasses r classes
+  pub targets_are : TellsTargets r targets
   pub all : refs ≡ references_of r
-  pub own : AreSteps r (references_of r) steps
+  pub own : AreDrafts r (references_of r) rows drafts
 
--- the step of type t
+-- one of these by the class of a type: the first where it has no value, and the second where it takes bytes
+abbrev pub by_class : Class → Step → Step → Step
+by_class class.NoValue none sized = none
+by_class class.Empty none sized = step.Empty
+by_class class.Sized none sized = sized
+
+-- the step of a sequence that has values, by the class of its elements
+abbrev pub sequence_step : Class → ℕ → Step
+sequence_step class.NoValue t = step.Sequence t
+sequence_step class.Empty t = step.Count
+sequence_step class.Sized t = step.Sequence t
+
+-- the step of a type of this class, where other types have these classes and targets
+abbrev pub step_by : (ℕ → Class) → (ℕ → Option Target) → Class → Draft → Step
+step_by classes targets c (draft.Primitive p) = by_class c step.NoValue (step.Primitive p)
+step_by classes targets c (draft.Parts from count) = by_class c step.NoValue (step.Parts from count)
+step_by classes targets c (draft.Arms from count) = by_class c (step.NoArm from count) (step.Arms from count)
+step_by classes targets c (draft.Array n t) = by_class c step.NoValue (step.Array n t)
+step_by classes targets c (draft.Sequence t) = by_class c step.NoValue (sequence_step (classes t) t)
+step_by classes targets c (draft.Compact t) = step.Compact (targets t)
+step_by classes targets c draft.BitSequence = by_class c step.NoValue step.BitSequence
+
+-- there is a step for each draft
+pub record AreStepsBy (classes : ℕ → Class) (targets : ℕ → Option Target) (drafts : List Draft) (steps : List Step) : Type 0 where
+  pub count : length steps ≡ length drafts
+  pub own : (t : ℕ) (d : Draft) (s : Step) → slice_get drafts t ≡ Some d → slice_get steps t ≡ Some s → s ≡ step_by classes targets (classes t) d
+
+-- this is the step of a type of this class and shape, where its parts are among these references, and the row of a variant is as Row says
+abbrev pub IsStep : List TypeInfo → List ℕ → (ℕ → ℕ → List Arm → Type 0) → Class → TypeDef → Step → Type 0
+IsStep r refs Row c (Def.Composite fs) s = (from count : ℕ) × (s ≡ by_class c step.NoValue (step.Parts from count)) × AreParts refs from count (field_types fs)
+IsStep r refs Row c (Def.Tuple ts) s = (from count : ℕ) × (s ≡ by_class c step.NoValue (step.Parts from count)) × AreParts refs from count (ids ts)
+IsStep r refs Row c (Def.Variant arms) s = (from count : ℕ) × (s ≡ by_class c (step.NoArm from count) (step.Arms from count)) × Row from count arms
+IsStep r refs Row c (Def.Sequence t) s = s ≡ by_class c step.NoValue (sequence_step (class_of r t.0) t.0)
+IsStep r refs Row c (Def.Array n t) s = s ≡ by_class c step.NoValue (step.Array n t.0)
+IsStep r refs Row c (Def.Primitive p) s = s ≡ by_class c step.NoValue (step.Primitive p)
+IsStep r refs Row c (Def.Compact t) s = s ≡ step.Compact (target_of r t.0)
+IsStep r refs Row c (Def.BitSequence store order) s = s ≡ by_class c step.NoValue step.BitSequence
+
+-- these are the references, and the steps and rows over them
+pub record IsTable (r : List TypeInfo) (refs : List ℕ) (rows : Rows) (steps : List Step) : Type 0 where
+  pub all : refs ≡ references_of r
+  pub paired : IsPaired rows
+  pub count : length steps ≡ length r
+  pub own : (t : ℕ) (d : TypeDef) (s : Step) → shape r t ≡ Some d → slice_get steps t ≡ Some s → IsStep r (references_of r) (IsRow (references_of r) rows) (class_of r t) d s
+
+-- the step of type t, with no word of where its row is
 abbrev pub IsStepAt : List TypeInfo → ℕ → Option Step → Type 0
-IsStepAt r t s = elim (shape r t) [ Some d ↦ (x : Step) × (s ≡ Some x) × IsStep (references_of r) d x | None ↦ s ≡ None ]
+IsStepAt r t s = elim (shape r t) [ Some d ↦ (x : Step) × (s ≡ Some x) × IsStep r (references_of r) (λ from count arms. Unit {0}) (class_of r t) d x | None ↦ s ≡ None ]
+
+-- the class of a type of this step
+abbrev pub class_of_step : Step → Class
+class_of_step (step.Compact m) = class_of_compact m
+class_of_step (step.NoArm from count) = class.NoValue
+class_of_step step.NoValue = class.NoValue
+class_of_step step.Empty = class.Empty
+class_of_step (step.Primitive p) = class.Sized
+class_of_step (step.Parts from count) = class.Sized
+class_of_step (step.Arms from count) = class.Sized
+class_of_step (step.Array n t) = class.Sized
+class_of_step (step.Sequence t) = class.Sized
+class_of_step step.Count = class.Sized
+class_of_step step.BitSequence = class.Sized
+
+-- the target of a compact of this step
+abbrev pub compact_of_step : Step → Option Target
+compact_of_step (step.Compact m) = m
+compact_of_step (step.NoArm from count) = None
+compact_of_step step.NoValue = None
+compact_of_step step.Empty = None
+compact_of_step (step.Primitive p) = None
+compact_of_step (step.Parts from count) = None
+compact_of_step (step.Arms from count) = None
+compact_of_step (step.Array n t) = None
+compact_of_step (step.Sequence t) = None
+compact_of_step step.Count = None
+compact_of_step step.BitSequence = None
+
+-- where the row of a variant of this step is
+abbrev pub row_of_step : Step → Option Parts
+row_of_step (step.Compact m) = None
+row_of_step (step.NoArm from count) = Some (record { from = from; count = count })
+row_of_step step.NoValue = None
+row_of_step step.Empty = None
+row_of_step (step.Primitive p) = None
+row_of_step (step.Parts from count) = None
+row_of_step (step.Arms from count) = Some (record { from = from; count = count })
+row_of_step (step.Array n t) = None
+row_of_step (step.Sequence t) = None
+row_of_step step.Count = None
+row_of_step step.BitSequence = None

@@ -3,17 +3,14 @@ use Rattle.std.specs.Prelude.{◌≡◌, List}
 use Rattle.registry_core.specs.declared.type_info.TypeInfo.{TypeInfo}
 use Rattle.widths_core.specs.declared.checked.Checked.TheInside.{Inside}
 use Rattle.widths_core.specs.References.{IsChecked}
-use Rattle.widths_core.specs.ClassTables.{TellsTargets, TellsClasses}
 use Rattle.widths_core.specs.Widths.{widest}
 use Rattle.widths_core.specs.Steps.{IsTable}
 use Rattle.widths_core.specs.Analysed.{HasFewLooks}
 
--- every reference is a position, and the tables and the width are those of the registry
+-- every reference is a position, and the table and the width are those of the registry
 pub record AreTables (c : Inside) : Type 0 where
   pub checked : IsChecked c.registry
-  pub classes : TellsClasses c.registry c.classes.items
-  pub targets : TellsTargets c.registry c.targets.items
-  pub table : IsTable c.registry c.members.items c.steps.items
+  pub table : IsTable c.registry c.members.items c.rows c.steps.items
   pub widest_is : c.widest ≡ widest c.registry
   pub looks : HasFewLooks c.registry c.looks
 

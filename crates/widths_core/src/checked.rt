@@ -5,37 +5,40 @@ ghost use Rattle.registry_core.specs.Fits.{FitsRegistry};
 ghost use Rattle.widths_core.specs.Arms.{arm_at};
 ghost use Rattle.widths_core.specs.Checks.{CheckAnswers, Explains};
 ghost use Rattle.widths_core.specs.Classes.{class_of};
-ghost use Rattle.widths_core.specs.Steps.{IsStepAt, references_of};
+ghost use Rattle.widths_core.specs.Steps.{IsArm, IsStepAt, references_of};
 ghost use Rattle.widths_core.specs.References.{IsChecked};
 ghost use Rattle.widths_core.specs.Targets.{compact_target_of};
 ghost use Rattle.widths_core.specs.Types.{shape};
 ghost use Rattle.widths_core.specs.Widths.{widest};
 
 use crate::analysis::{Analysis, analyse};
-use crate::arms::first_arm;
 use crate::class::Class;
 use crate::fault::CheckFault;
 use crate::looks::Looks;
-use crate::step::{Step, step_of};
+use crate::rows::Rows;
+use crate::step::{ArmStep, Parts, Step, step_of};
 use registry_core::{Arm, Registry, TypeDef, TypeId, TypeInfo};
 use scale_core::Target;
 use std::alloc::Global;
 use std::marker::Model;
 
-/// A registry each of whose references is a position, with small tables of what was found of its types.
+/// A registry each of whose references is a position, with a small table of what was found of its types.
 ///
 /// A reference is the type of a field, also in an arm that an earlier one of the same index shadows, the element of a
 /// sequence or of an array, also one of length 0, the member of a tuple, and what a compact stands over. The ids in
 /// type parameters and in bit sequences may be any.
+///
+/// The table takes 12 bytes a type, 4 a reference and 13 an arm, shadowed ones too. While it is made, table and lists take
+/// at most 31 bytes a type, 12 a reference and 13 an arm; beside them, until all types have settled, counters and the order
+/// in which types settle take 36 bytes a type and 16 an arm.
 #[derive(Debug, Drop)]
 pub struct Checked {
     registry: Registry,
-    classes: Vec<Class>,
-    targets: Vec<Option<Target>>,
     /// All references, in the order of the registry's bytes: those of a type, and of an arm, are next to each other.
     members: Vec<u32>,
     /// The step of each type.
     steps: Vec<Step>,
+    rows: Rows,
     widest: u32,
     looks: Looks,
 }
@@ -59,14 +62,15 @@ impl Checked {
 
     /// Checks the references of a registry, and finds the class of each type and what a compact over it stands for.
     ///
-    /// They are found in one pass over the registry and one over the lists of references to each type, so the time is in
-    /// proportion to the registry. What is kept takes a few bytes a type and a reference. Until the end lists and counters
-    /// take a few bytes a type, an arm and a reference more.
+    /// One pass over the types counts references and arms, one reads them, and one goes over the lists of references to
+    /// each type, so the time is in proportion to the registry. Memory is taken after the first pass and before the second,
+    /// then for what is found and for the steps, each vector in its size at once.
     ///
     /// Refuses, and hands the registry back unchanged:
     /// - `UnknownType`, where a reference is no position: the first such reference by the type that it stands in, and
     ///   then in the order of the definition's bytes;
-    /// - `OutOfMemory`, where memory was refused; the references are checked before any is taken.
+    /// - `OutOfMemory`, where every reference is a position and memory was refused, or there are 4,294,967,295 references
+    ///   or counters or more.
     pub fn new(alloc: Global, registry: Registry) -> Result<Checked, (CheckFault, Registry)>
         // Which answer it is.
         ensures exact { CheckAnswers registry result }
@@ -74,25 +78,23 @@ impl Checked {
         ensures checked { IfOk result (λ _. IsChecked registry) }
         // The reference that is told is the first that is no position; memory is told only where there is none.
         ensures explained { IfErr result (λ refused. Explains registry refused.0) }
-        // Where it is accepted, each type was looked at once at most, and each reference twice at most.
+        // Where it is accepted, each type was looked at twice at most, and each reference twice at most.
         ensures looked { OnOk result (LooksAreFew registry) }
     {
         match analyse(alloc, registry.types()) {
             Ok(
                 Analysis {
-                    classes,
-                    targets,
                     members,
                     steps,
+                    rows,
                     widest,
                     looks,
                 },
             ) => Ok(Checked {
                 registry,
-                classes,
-                targets,
                 members,
                 steps,
+                rows,
                 widest,
                 looks,
             }),
@@ -104,10 +106,10 @@ impl Checked {
     pub fn class(&self, id: TypeId) -> Option<Class>
         ensures { SomeIff result (id.0 < length self.now) (class_of self.now id.0) }
     {
-        self.classes.get(id.0 as usize).copied()
+        Some(self.step(id)?.class())
     }
 
-    /// What a compact integer of this type stands for (SCALE codec, "Compact/general integers"): two look-ups.
+    /// What a compact integer of this type stands for (SCALE codec, "Compact/general integers"): one look-up.
     ///
     /// There is none where the id is no position, where the type is no compact, and where the compact stands over
     /// something else than an unsigned integer of at most 128 bits, nothing, or a wrapper of one of these: composites
@@ -115,13 +117,10 @@ impl Checked {
     pub fn compact_target(&self, id: TypeId) -> Option<Target>
         ensures { result ≡ compact_target_of self.now id.0 }
     {
-        match self.shape(id)? {
-            TypeDef::Compact(over) => self.targets.get(over.0 as usize).copied().flatten(),
-            _ => None,
-        }
+        self.step(id)?.compact_target()
     }
 
-    /// What a type is made of, where the id is a position (scale-info, `TypeDef`): one look-up.
+    /// What a value of a type is read as, where the id is a position (SCALE codec, "Types"): one look-up.
     pub fn step(&self, id: TypeId) -> Option<Step>
         ensures { IsStepAt self.now id.0 result }
     {
@@ -142,13 +141,24 @@ impl Checked {
         self.members.as_slice()
     }
 
+    /// The first arm of the index, where the type is a variant that has one (scale-info, `TypeDefVariant`): its position
+    /// among the arms, and where the types of its fields are among the references. Two look-ups where the indexes of the
+    /// variant have no gap, and else at most eight more.
+    pub fn arm_step(&self, id: TypeId, index: u8) -> Option<ArmStep>
+        ensures { IsArm (references_of self.now) result (arm_at self.now id.0 index) }
+    {
+        let Parts { from, count } = step_of(self.steps.as_slice(), id.0)?.row()?;
+        self.rows.find(from, count, index)
+    }
+
     /// The first arm of the index, with its position among the arms, where the type is a variant that has one
-    /// (scale-info, `TypeDefVariant`). It goes over the arms.
+    /// (scale-info, `TypeDefVariant`): two look-ups more than `arm_step` makes.
     pub fn arm(&self, id: TypeId, index: u8) -> Option<(u32, &Arm)>
         ensures { option_map (λ x. (x.0, x.1.now)) result ≡ arm_at self.now id.0 index }
     {
+        let position = self.arm_step(id, index)?.position;
         match self.shape(id)? {
-            TypeDef::Variant(arms) => first_arm(arms.as_slice(), index),
+            TypeDef::Variant(arms) => Some((position, arms.as_slice().get(position as usize)?)),
             _ => None,
         }
     }

@@ -38,6 +38,8 @@ pub(crate) struct Counter {
     pub sized: bool,
 }
 
+const _: () = prove!(size_of::<Counter>() == 16);
+
 /// The class of a value of parts that all have values, where one takes bytes or none does.
 fn class_by(sized: bool) -> Class
     ensures { result ≡ class_by sized }

@@ -1,12 +1,138 @@
-//! The graph of a registry's types and references, read through looks that are logged.
+//! The graph of a registry's types and references, read through looks that are logged and in no other way.
 
 ghost use Rattle.std.specs.Prelude.{◌≡◌, ◌<◌, ◌^◌, [], ◌∷◌, length, IfSome, slice_index};
-ghost use Rattle.widths_core.specs.Graphs.{IsLinked, IsOpened, IsListed, IsUnread, Reads, IsNew, refs, numbers, befores};
-ghost use Rattle.widths_core.specs.Types.{shape};
+ghost use Rattle.widths_core.specs.Graphs.{IsLinked, IsOpened, IsListed, IsMeasured, IsUnread, Reads, IsNew, refs, numbers, befores};
+ghost use Rattle.widths_core.specs.Lent.{IsArmAt, id_of, shape_of};
+ghost use Rattle.widths_core.specs.Types.{field_types, ids, shape};
 
 use crate::looks::{Log, Looks};
-use registry_core::{TypeDef, TypeId, TypeInfo};
+use registry_core::{Arm, Field, Primitive, TypeDef, TypeId, TypeInfo};
 use std::alloc::Global;
+
+/// A reference in a definition. Only a graph reads it.
+#[derive(Clone, Copy)]
+pub(crate) struct Place<'r> {
+    id: &'r TypeId,
+}
+
+/// The fields of a composite or of an arm.
+#[derive(Clone, Copy)]
+pub(crate) struct Fields<'r> {
+    fields: &'r [Field],
+}
+
+impl<'r> Fields<'r> {
+    /// How many there are.
+    pub(crate) fn len(&self) -> usize
+        ensures { result ≡ length self.now.fields.now }
+    {
+        self.fields.len()
+    }
+
+    /// The type of one of them.
+    pub(crate) fn place(&self, position: usize) -> Place<'r>
+        requires { position < length self.now.fields.now }
+        ensures { id_of result ≡ slice_index (field_types self.now.fields.now) position }
+    {
+        let fields = self.fields;
+        Place {
+            id: &fields[position].ty,
+        }
+    }
+}
+
+/// The members of a tuple.
+#[derive(Clone, Copy)]
+pub(crate) struct Members<'r> {
+    members: &'r [TypeId],
+}
+
+impl<'r> Members<'r> {
+    /// How many there are.
+    pub(crate) fn len(&self) -> usize
+        ensures { result ≡ length self.now.members.now }
+    {
+        self.members.len()
+    }
+
+    /// One of them.
+    pub(crate) fn place(&self, position: usize) -> Place<'r>
+        requires { position < length self.now.members.now }
+        ensures { id_of result ≡ slice_index (ids self.now.members.now) position }
+    {
+        let members = self.members;
+        Place {
+            id: &members[position],
+        }
+    }
+}
+
+/// The arms of a variant.
+#[derive(Clone, Copy)]
+pub(crate) struct Arms<'r> {
+    arms: &'r [Arm],
+}
+
+impl<'r> Arms<'r> {
+    /// How many there are.
+    pub(crate) fn len(&self) -> usize
+        ensures { result ≡ length self.now.arms.now }
+    {
+        self.arms.len()
+    }
+
+    /// The index of one of them, and its fields.
+    pub(crate) fn arm(&self, position: usize) -> (u8, Fields<'r>)
+        requires { position < length self.now.arms.now }
+        ensures { IsArmAt self.now.arms.now position result.0 result.1.fields.now }
+    {
+        let arms = self.arms;
+        let arm = &arms[position];
+        let fields = Fields {
+            fields: arm.fields.as_slice(),
+        };
+        (arm.index, fields)
+    }
+}
+
+/// The definition of a type, as a graph lends it.
+#[derive(Clone, Copy)]
+pub(crate) enum Definition<'r> {
+    Composite(Fields<'r>),
+    Variant(Arms<'r>),
+    Sequence(Place<'r>),
+    Array(u32, Place<'r>),
+    Tuple(Members<'r>),
+    Primitive(Primitive),
+    Compact(Place<'r>),
+    /// Its ids are no references.
+    BitSequence { store: TypeId, order: TypeId },
+}
+
+/// A definition, lent.
+fn lent(shape: &TypeDef) -> Definition<'_>
+    ensures { shape_of result ≡ shape.now }
+{
+    match shape {
+        TypeDef::Composite(fields) => Definition::Composite(Fields {
+            fields: fields.as_slice(),
+        }),
+        TypeDef::Variant(arms) => Definition::Variant(Arms {
+            arms: arms.as_slice(),
+        }),
+        TypeDef::Sequence(id) => Definition::Sequence(Place { id }),
+        TypeDef::Array(len, id) => Definition::Array(*len, Place { id }),
+        TypeDef::Tuple(members) => Definition::Tuple(Members {
+            members: members.as_slice(),
+        }),
+        TypeDef::Primitive(primitive) => Definition::Primitive(*primitive),
+        TypeDef::Compact(id) => Definition::Compact(Place { id }),
+        TypeDef::BitSequence { store, order } => Definition::BitSequence {
+            store: *store,
+            order: *order,
+        },
+    }
+}
 
 /// A reference in the list of those to one type.
 #[derive(Clone, Copy)]
@@ -16,6 +142,8 @@ pub(crate) struct Link {
     /// One more than the number of the reference to the same type before it, and 0 where it is the first.
     pub before: u32,
 }
+
+const _: () = prove!(size_of::<Link>() == 8);
 
 /// The types of a registry, and for each the list of the references to it that were read, the newest first.
 ///
@@ -51,12 +179,14 @@ impl<'r> Graph<'r> {
         }
     }
 
-    /// Makes an empty list for each type. Answers `None` where memory is refused.
-    pub(crate) fn prepare(&mut self, alloc: Global) -> Option<()>
-        requires { IsUnread self.old.types.now self.old }
+    /// Makes an empty list for each type, and takes the memory for so many references. Answers `None` where it is refused.
+    pub(crate) fn prepare(&mut self, alloc: Global, references: usize) -> Option<()>
+        requires { IsMeasured self.old.types.now self.old }
         ensures { IfSome result (λ _. IsNew self.old.types.now self.new) }
     {
         self.newest = vec![in alloc; 0; self.types.len()].ok()?;
+        self.links = Vec::with_capacity(alloc, references).ok()?;
+        self.members = Vec::with_capacity(alloc, references).ok()?;
         Some(())
     }
 
@@ -68,21 +198,21 @@ impl<'r> Graph<'r> {
     }
 
     /// One look at a type: its definition.
-    pub(crate) fn definition(&mut self, position: u32) -> &'r TypeDef
+    pub(crate) fn definition(&mut self, position: u32) -> Definition<'r>
         requires { position < length self.old.types.now }
-        ensures found { shape self.old.types.now position ≡ Some result.now }
+        ensures found { shape self.old.types.now position ≡ Some (shape_of result) }
         ensures opened { IsOpened self.old self.new position }
     {
         self.looks.opened.add(position);
         let types = self.types;
         let info = &types[position as usize];
-        &info.shape
+        lent(&info.shape)
     }
 
     /// One look at a reference in a definition.
-    fn reference(&mut self, place: &TypeId) -> u32
-        ensures value { result ≡ place.now.0 }
-        ensures log { self.new.looks.read.entries ≡ place.now.0 ∷ self.old.looks.read.entries }
+    pub(crate) fn reference(&mut self, place: &Place<'_>) -> u32
+        ensures value { result ≡ id_of place.now }
+        ensures log { self.new.looks.read.entries ≡ id_of place.now ∷ self.old.looks.read.entries }
         ensures types { self.new.types.now ≡ self.old.types.now }
         ensures newest { self.new.newest.items ≡ self.old.newest.items }
         ensures links { self.new.links.items ≡ self.old.links.items }
@@ -90,7 +220,7 @@ impl<'r> Graph<'r> {
         ensures opened { self.new.looks.opened.entries ≡ self.old.looks.opened.entries }
         ensures listed { self.new.looks.listed.entries ≡ self.old.looks.listed.entries }
     {
-        let to = place.0;
+        let to = place.id.0;
         self.looks.read.add(to);
         to
     }
@@ -98,10 +228,10 @@ impl<'r> Graph<'r> {
     /// Reads a reference of a definition, and puts it into the list of those to its type, for this counter.
     ///
     /// Answers the position that it is to, and `None` where it is no position or memory is refused.
-    pub(crate) fn add(&mut self, place: &TypeId, counter: u32) -> Option<u32>
+    pub(crate) fn add(&mut self, place: &Place<'_>, counter: u32) -> Option<u32>
         requires { IsLinked self.old }
-        ensures reads { IfSome result (λ _. Reads self.old self.new (place.now.0 ∷ []) (counter ∷ [])) }
-        ensures value { IfSome result (λ to. to ≡ place.now.0) }
+        ensures reads { IfSome result (λ _. Reads self.old self.new (id_of place.now ∷ []) (counter ∷ [])) }
+        ensures value { IfSome result (λ to. to ≡ id_of place.now) }
     {
         let id = self.reference(place);
         let to = id as usize;

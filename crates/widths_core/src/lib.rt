@@ -3,7 +3,6 @@
 #![tactic(auto)]
 
 mod analysis;
-mod arms;
 mod checked;
 mod class;
 mod counter;
@@ -13,11 +12,14 @@ pub mod laws;
 mod linking;
 mod looks;
 mod references;
+mod rows;
 mod settling;
+mod sizes;
 mod step;
+mod steps;
 mod widths;
 
 pub use checked::Checked;
 pub use class::Class;
 pub use fault::CheckFault;
-pub use step::Step;
+pub use step::{ArmStep, Step};

@@ -3,17 +3,20 @@
 ghost use Rattle.std.specs.Prelude.{◌≡◌, ◌<◌, ◌++◌, ◌∷◌, [], ◌^◌, length, false, IfSome};
 ghost use Rattle.registry_core.specs.Fits.{FitsDefinition, FitsRegistry};
 ghost use Rattle.widths_core.specs.Graphs.{IsLinked, IsNew, Adds, AreTypesLinked, refs};
-ghost use Rattle.widths_core.specs.Steps.{AreParts, IsStep, AreSteps};
+ghost use Rattle.widths_core.specs.Lent.{id_of, shape_of};
+ghost use Rattle.widths_core.specs.Rows.{IsPaired, Keeps};
+ghost use Rattle.widths_core.specs.Steps.{AreParts, IsRow, IsDraft, AreDrafts};
 ghost use Rattle.widths_core.specs.Rules.{rule, kind_of_parts, found_of_primitive, found_sized, arm_rules, rules_of};
 ghost use Rattle.widths_core.specs.Types.{ids, field_types};
 ghost use Rattle.widths_core.specs.Widths.{widest};
 
 use crate::class::Class;
 use crate::counter::{Counter, Found, Kind};
-use crate::graph::Graph;
-use crate::step::{Parts, Step};
+use crate::graph::{Arms, Definition, Fields, Graph, Members, Place};
+use crate::rows::Rows;
+use crate::step::{ArmStep, Draft, Parts};
 use crate::widths::width;
-use registry_core::{Arm, Field, Primitive, TypeDef, TypeId};
+use registry_core::Primitive;
 use scale_core::Target;
 use std::alloc::Global;
 
@@ -48,16 +51,16 @@ fn link_fields(
     counters: &mut Vec<Counter>,
     owner: u32,
     kind: Kind,
-    fields: &[Field],
+    fields: &Fields<'_>,
 ) -> Option<Parts>
     requires { IsLinked graph.old }
-    ensures adds { IfSome result (λ _. Adds (rule owner kind (field_types fields.now) ∷ []) counters.old.items counters.new.items graph.old graph.new) }
-    ensures parts { IfSome result (λ p. AreParts (refs graph.new) p.from p.count (field_types fields.now)) }
+    ensures adds { IfSome result (λ _. Adds (rule owner kind (field_types fields.now.fields.now) ∷ []) counters.old.items counters.new.items graph.old graph.new) }
+    ensures parts { IfSome result (λ p. AreParts (refs graph.new) p.from p.count (field_types fields.now.fields.now)) }
 {
     let from = graph.read();
     let counter = count_parts(counters, owner, kind, fields.len())?;
-    'fields: for field in fields {
-        graph.add(&field.ty, counter)?;
+    'fields: for position in 0..fields.len() {
+        graph.add(&fields.place(position), counter)?;
     }
     let to = graph.read();
     Some(Parts {
@@ -72,16 +75,16 @@ fn link_members(
     counters: &mut Vec<Counter>,
     owner: u32,
     kind: Kind,
-    members: &[TypeId],
+    members: &Members<'_>,
 ) -> Option<Parts>
     requires { IsLinked graph.old }
-    ensures adds { IfSome result (λ _. Adds (rule owner kind (ids members.now) ∷ []) counters.old.items counters.new.items graph.old graph.new) }
-    ensures parts { IfSome result (λ p. AreParts (refs graph.new) p.from p.count (ids members.now)) }
+    ensures adds { IfSome result (λ _. Adds (rule owner kind (ids members.now.members.now) ∷ []) counters.old.items counters.new.items graph.old graph.new) }
+    ensures parts { IfSome result (λ p. AreParts (refs graph.new) p.from p.count (ids members.now.members.now)) }
 {
     let from = graph.read();
     let counter = count_parts(counters, owner, kind, members.len())?;
-    'members: for member in members {
-        graph.add(member, counter)?;
+    'members: for position in 0..members.len() {
+        graph.add(&members.place(position), counter)?;
     }
     let to = graph.read();
     Some(Parts {
@@ -96,43 +99,60 @@ fn link_one(
     counters: &mut Vec<Counter>,
     owner: u32,
     kind: Kind,
-    part: &TypeId,
+    part: &Place<'_>,
 ) -> Option<u32>
     requires { IsLinked graph.old }
-    ensures value { IfSome result (λ id. id ≡ part.now.0) }
-    ensures adds { IfSome result (λ _. Adds (rule owner kind (part.now.0 ∷ []) ∷ []) counters.old.items counters.new.items graph.old graph.new) }
+    ensures value { IfSome result (λ id. id ≡ id_of part.now) }
+    ensures adds { IfSome result (λ _. Adds (rule owner kind (id_of part.now ∷ []) ∷ []) counters.old.items counters.new.items graph.old graph.new) }
 {
     let counter = count_parts(counters, owner, kind, 1)?;
     graph.add(part, counter)
 }
 
 /// The fields of each arm are counted together; those of an arm that an earlier one of its index shadows settle nothing.
+/// Answers where the row of the variant is.
 fn link_arms(
     graph: &mut Graph<'_>,
     counters: &mut Vec<Counter>,
+    rows: &mut Rows,
     owner: u32,
-    arms: &[Arm],
-) -> Option<()>
-    requires { IsLinked graph.old }
-    ensures { IfSome result (λ _. Adds (arm_rules owner [] arms.now) counters.old.items counters.new.items graph.old graph.new) }
+    arms: &Arms<'_>,
+) -> Option<Parts>
+    requires linked { IsLinked graph.old }
+    requires paired { IsPaired rows.old }
+    ensures adds { IfSome result (λ _. Adds (arm_rules owner [] arms.now.arms.now) counters.old.items counters.new.items graph.old graph.new) }
+    ensures paired { IfSome result (λ _. IsPaired rows.new) }
+    ensures keeps { IfSome result (λ _. Keeps rows.old rows.new) }
+    ensures row { IfSome result (λ p. IsRow (refs graph.new) rows.new p.from p.count arms.now.arms.now) }
 {
-    let mut seen = [false; 256];
-    'arms: for arm in arms {
-        let index = usize::from(arm.index);
-        if seen[index] {
-            link_fields(graph, counters, owner, Kind::Idle, arm.fields.as_slice())?;
-            continue;
+    let first = rows.len();
+    'arms: for position in 0..arms.len() {
+        let (index, fields) = arms.arm(position);
+        match rows.search(first, index) {
+            Ok(_) => {
+                link_fields(graph, counters, owner, Kind::Idle, &fields)?;
+            }
+            Err(place) => {
+                let Parts { from, count } = link_fields(
+                    graph,
+                    counters,
+                    owner,
+                    Kind::Fixed(SIZED),
+                    &fields,
+                )?;
+                let step = ArmStep {
+                    position: u32::try_from(position).ok()?,
+                    from,
+                    count,
+                };
+                rows.insert(place, index, step)?;
+            }
         }
-        link_fields(
-            graph,
-            counters,
-            owner,
-            Kind::Fixed(SIZED),
-            arm.fields.as_slice(),
-        )?;
-        seen[index] = true;
     }
-    Some(())
+    Some(Parts {
+        from: u32::try_from(first).ok()?,
+        count: u32::try_from(rows.len() - first).ok()?,
+    })
 }
 
 /// As what a type settles that has so many parts, one value of each in each of its values.
@@ -167,74 +187,66 @@ fn found_of_primitive(primitive: Primitive) -> Found
     }
 }
 
-/// A type of this shape: its counters, the references of its definition, and its step.
-fn link_shape(
+/// A type of this definition: its counters, the references of its definition, and its draft.
+fn link_definition(
     graph: &mut Graph<'_>,
     counters: &mut Vec<Counter>,
+    rows: &mut Rows,
     owner: u32,
-    shape: &TypeDef,
-) -> Option<Step>
-    requires { IsLinked graph.old }
-    ensures adds { IfSome result (λ _. Adds (rules_of owner shape.now) counters.old.items counters.new.items graph.old graph.new) }
-    ensures step { IfSome result (λ s. IsStep (refs graph.new) shape.now s) }
+    definition: &Definition<'_>,
+) -> Option<Draft>
+    requires linked { IsLinked graph.old }
+    requires paired { IsPaired rows.old }
+    ensures adds { IfSome result (λ _. Adds (rules_of owner (shape_of definition.now)) counters.old.items counters.new.items graph.old graph.new) }
+    ensures paired { IfSome result (λ _. IsPaired rows.new) }
+    ensures keeps { IfSome result (λ _. Keeps rows.old rows.new) }
+    ensures draft { IfSome result (λ s. IsDraft (refs graph.new) (IsRow (refs graph.new) rows.new) (shape_of definition.now) s) }
 {
-    match shape {
-        TypeDef::Composite(fields) => {
+    match definition {
+        Definition::Composite(fields) => {
             let kind = kind_of_parts(fields.len());
-            let Parts { from, count } = link_fields(
-                graph,
-                counters,
-                owner,
-                kind,
-                fields.as_slice(),
-            )?;
-            Some(Step::Parts { from, count })
+            let Parts { from, count } = link_fields(graph, counters, owner, kind, fields)?;
+            Some(Draft::Parts { from, count })
         }
-        TypeDef::Tuple(members) => {
+        Definition::Tuple(members) => {
             let kind = kind_of_parts(members.len());
-            let Parts { from, count } = link_members(
-                graph,
-                counters,
-                owner,
-                kind,
-                members.as_slice(),
-            )?;
-            Some(Step::Parts { from, count })
+            let Parts { from, count } = link_members(graph, counters, owner, kind, members)?;
+            Some(Draft::Parts { from, count })
         }
-        TypeDef::Variant(arms) => {
-            link_arms(graph, counters, owner, arms.as_slice())?;
-            Some(Step::Arms)
+        Definition::Variant(arms) => {
+            let Parts { from, count } = link_arms(graph, counters, rows, owner, arms)?;
+            Some(Draft::Arms { from, count })
         }
-        TypeDef::Sequence(element) => {
+        Definition::Sequence(element) => {
             count_parts(counters, owner, Kind::Fixed(SIZED), 0)?;
             let element = link_one(graph, counters, owner, Kind::Idle, element)?;
-            Some(Step::Sequence { element })
+            Some(Draft::Sequence { element })
         }
-        TypeDef::Array(0, element) => {
+        Definition::Array(0, element) => {
             let found = Found {
                 class: Class::Empty,
                 target: None,
             };
             count_parts(counters, owner, Kind::Fixed(found), 0)?;
             let element = link_one(graph, counters, owner, Kind::Idle, element)?;
-            Some(Step::Array { len: 0, element })
+            Some(Draft::Array { len: 0, element })
         }
-        TypeDef::Array(len, element) => {
+        Definition::Array(len, element) => {
             let element = link_one(graph, counters, owner, Kind::Parts, element)?;
-            Some(Step::Array { len: *len, element })
+            Some(Draft::Array { len: *len, element })
         }
-        TypeDef::Compact(over) => {
-            link_one(graph, counters, owner, Kind::Compact, over)?;
-            Some(Step::Compact)
+        Definition::Compact(over) => {
+            let over = link_one(graph, counters, owner, Kind::Compact, over)?;
+            Some(Draft::Compact { over })
         }
-        TypeDef::Primitive(primitive) => {
+        Definition::Primitive(primitive) => {
             let found = found_of_primitive(*primitive);
             count_parts(counters, owner, Kind::Fixed(found), 0)?;
-            Some(Step::Primitive(*primitive))
+            Some(Draft::Primitive(*primitive))
         }
-        TypeDef::BitSequence { .. } => {
+        Definition::BitSequence { .. } => {
             count_parts(counters, owner, Kind::Fixed(SIZED), 0)?;
-            Some(Step::BitSequence)
+            Some(Draft::BitSequence)
         }
     }
 }
@@ -243,31 +255,44 @@ fn link_shape(
 #[derive(Drop)]
 pub(crate) struct Linked {
     pub counters: Vec<Counter>,
-    pub steps: Vec<Step>,
+    pub drafts: Vec<Draft>,
+    pub rows: Rows,
     /// How many parts a value has at most.
     pub widest: u32,
 }
 
-/// One pass over the types: the counters, the steps, and how many parts a value has at most.
-pub(crate) fn link_types(alloc: Global, graph: &mut Graph<'_>) -> Option<Linked>
+/// One pass over the types, which have so many arms: the counters, the drafts, and how many parts a value has at most.
+///
+/// A type has at most two counters beside those of its arms.
+pub(crate) fn link_types(alloc: Global, graph: &mut Graph<'_>, arms: usize) -> Option<Linked>
     requires fits { FitsRegistry graph.old.types.now }
     requires fresh { IsNew graph.old.types.now graph.old }
     ensures linked { IfSome result (λ x. AreTypesLinked graph.old.types.now x.counters.items graph.new) }
-    ensures steps { IfSome result (λ x. AreSteps graph.old.types.now (refs graph.new) x.steps.items) }
+    ensures drafts { IfSome result (λ x. AreDrafts graph.old.types.now (refs graph.new) x.rows x.drafts.items) }
     ensures widest { IfSome result (λ x. x.widest ≡ widest graph.old.types.now) }
 {
-    let mut counters = Vec::new(alloc);
-    let mut steps = Vec::new(alloc);
+    let types = graph.count();
+    let most_counters = types.checked_mul(2)?.checked_add(arms)?;
+    let mut counters = Vec::with_capacity(alloc, most_counters).ok()?;
+    let mut drafts = Vec::with_capacity(alloc, types).ok()?;
+    let mut rows = Rows::with_capacity(alloc, arms)?;
     let mut widest = 0;
-    'types: for position in 0..graph.count() {
-        let shape = graph.definition(position as u32);
-        widest = widest.max(width(shape));
-        let step = link_shape(graph, &mut counters, position as u32, shape)?;
-        steps.push(step).ok()?;
+    'types: for position in 0..types {
+        let definition = graph.definition(position as u32);
+        widest = widest.max(width(&definition));
+        let draft = link_definition(
+            graph,
+            &mut counters,
+            &mut rows,
+            position as u32,
+            &definition,
+        )?;
+        drafts.push(draft).ok()?;
     }
     Some(Linked {
         counters,
-        steps,
+        drafts,
+        rows,
         widest,
     })
 }

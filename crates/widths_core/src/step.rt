@@ -1,33 +1,102 @@
 //! What a type is made of, in a few bytes.
 
 ghost use Rattle.std.specs.Prelude.{◌≡◌, slice_get};
+ghost use Rattle.widths_core.specs.Steps.{class_of_step, compact_of_step, row_of_step};
 
+use crate::class::Class;
 use registry_core::Primitive;
+use scale_core::Target;
 
 /// Where parts are in the list of all references of a registry.
-#[derive(Clone, Copy, Debug, PartialEq, Eq)]
+#[derive(Clone, Copy)]
 pub(crate) struct Parts {
     pub from: u32,
     pub count: u32,
 }
 
-/// What a type is made of, in at most 12 bytes. Ids are given as their numbers.
+/// What a type is made of by its definition alone: its step while its class is not known. Ids are given as their numbers.
+#[derive(Clone, Copy)]
+pub(crate) enum Draft {
+    Primitive(Primitive),
+    Parts { from: u32, count: u32 },
+    Arms { from: u32, count: u32 },
+    Array { len: u32, element: u32 },
+    Sequence { element: u32 },
+    Compact { over: u32 },
+    BitSequence,
+}
+
+/// What a value of a type is read as, by the first of these that applies (SCALE codec, "Types"), in 12 bytes.
+///
+/// Ids are given as their numbers. The numbers of references are those of `Checked::member`.
 #[derive(Clone, Copy, Debug, PartialEq, Eq)]
 pub enum Step {
-    /// A value of a primitive type.
+    /// As an unsigned integer in its compact form, which fits the target; without a target there is none that fits.
+    Compact(Option<Target>),
+    /// Not at all, since no arm of the variant has a value: its arms are those of `Checked::arm_step`.
+    NoArm { from: u32, count: u32 },
+    /// Not at all, since the type has no value.
+    NoValue,
+    /// From no bytes.
+    Empty,
+    /// As a value of a primitive type.
     Primitive(Primitive),
-    /// A value of each type among `count` references from number `from` on: a composite or a tuple.
+    /// As a value of each type among `count` references from number `from` on: a composite or a tuple.
     Parts { from: u32, count: u32 },
-    /// The arms of a variant.
-    Arms,
-    /// This many values of one type.
+    /// As an arm of a variant: its arms are those of `Checked::arm_step`.
+    Arms { from: u32, count: u32 },
+    /// As this many values of one type.
     Array { len: u32, element: u32 },
-    /// Any number of values of one type.
+    /// As a length, and so many values of one type.
     Sequence { element: u32 },
-    /// An unsigned integer in its compact form.
-    Compact,
-    /// Bits.
+    /// As a length alone, since the elements take no bytes.
+    Count,
+    /// As bits.
     BitSequence,
+}
+
+/// An arm of a variant: its position among the arms, and where the types of its fields are among the references.
+#[derive(Clone, Copy, Debug, PartialEq, Eq)]
+pub struct ArmStep {
+    /// Its position among the arms.
+    pub position: u32,
+    /// The number of the first reference of its fields.
+    pub from: u32,
+    /// How many fields it has.
+    pub count: u32,
+}
+
+impl Step {
+    /// The class of a type of this step.
+    pub(crate) fn class(self) -> Class
+        ensures { result ≡ class_of_step self }
+    {
+        match self {
+            Step::NoValue | Step::NoArm { .. } => Class::NoValue,
+            Step::Empty | Step::Compact(Some(Target::Unit)) => Class::Empty,
+            _ => Class::Sized,
+        }
+    }
+
+    /// Where the row of a variant of this step is.
+    pub(crate) fn row(self) -> Option<Parts>
+        ensures { result ≡ row_of_step self }
+    {
+        match self {
+            Step::Arms { from, count } | Step::NoArm { from, count } => Some(Parts { from, count }),
+            _ => None,
+        }
+    }
+
+    /// The target of a compact of this step.
+    pub(crate) fn compact_target(self) -> Option<Target>
+        ensures { result ≡ compact_of_step self }
+    {
+        match self {
+            Step::Compact(target) => target,
+            _ => None,
+        }
+    }
 }
 
 /// The step of a type, where it has one.
@@ -37,4 +106,8 @@ pub(crate) fn step_of(steps: &[Step], at: u32) -> Option<Step>
     steps.get(at as usize).copied()
 }
 
-const _: () = prove!(size_of::<Step>() <= 12);
+const _: () = prove!(size_of::<Draft>() == 12);
+
+const _: () = prove!(size_of::<Step>() == 12);
+
+const _: () = prove!(size_of::<ArmStep>() == 12);

@@ -3,4 +3,4 @@ use Rattle.widths_core.proofs.Linked.{ReadsParts}
 use Rattle.widths_core.proofs.linking.link_fields.Given as goal
 
 abbrev pub invariant-fields : goal.invariant-fields
-invariant-fields l = ReadsParts l.fn.graph l.graph l.counter l.field-index (field_types l.fields)
+invariant-fields l = ReadsParts l.fn.graph l.graph l.counter l.position (field_types l.fields.fields.now)

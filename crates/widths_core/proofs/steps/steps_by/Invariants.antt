@@ -1,0 +1,6 @@
+use Rattle.widths_core.specs.ClassTables.{known_class, known_target}
+use Rattle.widths_core.proofs.StepsOf.{StepsTo}
+use Rattle.widths_core.proofs.steps.steps_by.Given as goal
+
+abbrev pub invariant-types : goal.invariant-types
+invariant-types l = StepsTo (known_class l.classes) (known_target l.targets) l.drafts l.position l.steps.items

@@ -1,0 +1,89 @@
+//! The arms of variants by their index, a row of them for each variant.
+
+ghost use Rattle.std.specs.Prelude.{◌≡◌, ◌≤◌, ◌+◌, length, slice_index, IfSome, MatchOption, MatchResult};
+ghost use Rattle.std.specs.List.{insert};
+ghost use Rattle.widths_core.specs.Rows.{IsPlace, IsSearched, IsPaired, IsEmpty, IsIn, Lacks, Rises, Inserts, arm_in};
+
+use crate::step::ArmStep;
+use std::alloc::Global;
+
+/// The arms that no earlier arm of the same index shadows: for each variant a row of them, by ascending index.
+///
+/// An arm takes 13 bytes.
+#[derive(Debug, Drop)]
+pub(crate) struct Rows {
+    indexes: Vec<u8>,
+    arms: Vec<ArmStep>,
+}
+
+/// Where an index is in a row: at once where the row has no gap, and else by at most eight halvings.
+fn place_of(row: &[u8], index: u8) -> Option<usize>
+    requires { Rises row.now 0 (length row.now) }
+    ensures { MatchOption result (Lacks row.now 0 (length row.now) index) (λ i. IsIn row.now 0 (length row.now) index i) }
+{
+    let first = *row.first()?;
+    if index < first {
+        return None;
+    }
+    let place = usize::from(index - first);
+    if place < row.len() && row[place] == index {
+        return Some(place);
+    }
+    row.binary_search(&index).ok()
+}
+
+impl Rows {
+    /// No row yet, with memory for so many arms. Answers `None` where it is refused.
+    pub(crate) fn with_capacity(alloc: Global, arms: usize) -> Option<Rows>
+        ensures { IfSome result (λ rows. IsEmpty rows) }
+    {
+        Some(Rows {
+            indexes: Vec::with_capacity(alloc, arms).ok()?,
+            arms: Vec::with_capacity(alloc, arms).ok()?,
+        })
+    }
+
+    /// How many arms there are in all rows.
+    pub(crate) fn len(&self) -> usize
+        ensures { result ≡ length self.now.indexes.items }
+    {
+        self.indexes.len()
+    }
+
+    /// Where an index is in the row from `first` to the end, or where it belongs.
+    pub(crate) fn search(&self, first: usize, index: u8) -> Result<usize, usize>
+        requires within { first ≤ length self.now.indexes.items }
+        requires rises { Rises self.now.indexes.items first (length self.now.indexes.items) }
+        ensures { IsSearched self.now.indexes.items first index result }
+    {
+        let (_, row) = self.indexes.as_slice().split_at(first);
+        match row.binary_search(&index) {
+            Ok(place) => Ok(first + place),
+            Err(place) => Err(first + place),
+        }
+    }
+
+    /// Puts an arm at a place, before those that are there. Answers `None` where memory is refused.
+    pub(crate) fn insert(&mut self, at: usize, index: u8, arm: ArmStep) -> Option<()>
+        requires paired { IsPaired self.old }
+        requires within { at ≤ length self.old.indexes.items }
+        ensures { IfSome result (λ _. Inserts self.old self.new at index arm) }
+    {
+        self.indexes.insert(at, index).ok()?;
+        self.arms.insert(at, arm).ok()?;
+        Some(())
+    }
+
+    /// The arm of an index in the row of so many arms from `from` on.
+    pub(crate) fn find(&self, from: u32, count: u32, index: u8) -> Option<ArmStep>
+        requires paired { IsPaired self.now }
+        requires within { from + count ≤ length self.now.indexes.items }
+        requires rises { Rises self.now.indexes.items from (from + count) }
+        ensures { IsPlace self.now from count index result }
+    {
+        let (_, rest) = self.indexes.as_slice().split_at(from as usize);
+        let (row, _) = rest.split_at(count as usize);
+        let place = place_of(row, index)?;
+        Some(self.arms[from as usize + place])
+    }
+}

@@ -1,0 +1,89 @@
+//! The steps of types, by their drafts and what was found of them.
+
+ghost use Rattle.std.specs.Prelude.{◌≡◌, ◌<◌, ◌^◌, IfSome, length};
+ghost use Rattle.widths_core.specs.ClassTables.{known_class, known_target};
+ghost use Rattle.widths_core.specs.Steps.{AreStepsBy, by_class, sequence_step, step_by};
+
+use crate::class::Class;
+use crate::step::{Draft, Step};
+use scale_core::Target;
+use std::alloc::Global;
+
+/// One of these by the class of a type: `none` where it has no value, and `sized` where it takes bytes.
+fn by_class(class: Class, none: Step, sized: Step) -> Step
+    ensures { result ≡ by_class class none sized }
+{
+    match class {
+        Class::NoValue => none,
+        Class::Empty => Step::Empty,
+        Class::Sized => sized,
+    }
+}
+
+/// The step of a sequence that has values, by the class of its elements.
+fn sequence_step(class: Class, element: u32) -> Step
+    ensures { result ≡ sequence_step class element }
+{
+    match class {
+        Class::Empty => Step::Count,
+        Class::NoValue | Class::Sized => Step::Sequence { element },
+    }
+}
+
+/// The class of a type in a table, where one that is not there has no value.
+fn known_class(classes: &[Class], id: u32) -> Class
+    ensures { result ≡ known_class classes.now id }
+{
+    classes.get(id as usize).copied().unwrap_or(Class::NoValue)
+}
+
+/// The target of a compact over a type in a table, where it has one.
+fn known_target(targets: &[Option<Target>], id: u32) -> Option<Target>
+    ensures { result ≡ known_target targets.now id }
+{
+    targets.get(id as usize).copied().flatten()
+}
+
+/// The step of a type of this class, by its draft and what was found of others.
+fn step_by(classes: &[Class], targets: &[Option<Target>], class: Class, draft: Draft) -> Step
+    ensures { result ≡ step_by (known_class classes.now) (known_target targets.now) class draft }
+{
+    match draft {
+        Draft::Primitive(primitive) => by_class(class, Step::NoValue, Step::Primitive(primitive)),
+        Draft::Parts { from, count } => {
+            by_class(class, Step::NoValue, Step::Parts { from, count })
+        }
+        Draft::Arms { from, count } => by_class(
+            class,
+            Step::NoArm { from, count },
+            Step::Arms { from, count },
+        ),
+        Draft::Array { len, element } => {
+            by_class(class, Step::NoValue, Step::Array { len, element })
+        }
+        Draft::Sequence { element } => {
+            let sized = sequence_step(known_class(classes, element), element);
+            by_class(class, Step::NoValue, sized)
+        }
+        Draft::Compact { over } => Step::Compact(known_target(targets, over)),
+        Draft::BitSequence => by_class(class, Step::NoValue, Step::BitSequence),
+    }
+}
+
+/// The step of each type, by its draft and what was found of all. Answers `None` where memory is refused.
+pub(crate) fn steps_by(
+    alloc: Global,
+    classes: &[Class],
+    targets: &[Option<Target>],
+    drafts: &[Draft],
+) -> Option<Vec<Step>>
+    requires { length drafts.now < 2 ^ 32 }
+    ensures { IfSome result (λ steps. AreStepsBy (known_class classes.now) (known_target targets.now) drafts.now steps.items) }
+{
+    let mut steps = Vec::with_capacity(alloc, drafts.len()).ok()?;
+    'types: for (position, draft) in drafts.iter().enumerate() {
+        let class = known_class(classes, position as u32);
+        steps.push(step_by(classes, targets, class, *draft)).ok()?;
+    }
+    Some(steps)
+}
