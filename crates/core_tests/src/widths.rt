@@ -370,10 +370,10 @@ fn nested_tuples_of_units_are_empty(rt: HostRuntime) -> Result<(), Fail> {
 fn a_chain_of_2000_tuples_is_empty(rt: HostRuntime) -> Result<(), Fail> {
     let mut bytes = Vec::new(rt.alloc());
     write_compact(&mut bytes, 2000)?;
-    for id in 0..1999u128 {
-        write_compact(&mut bytes, id)?;
+    'types: for id in 0..1999u32 {
+        write_compact(&mut bytes, u128::from(id))?;
         bytes.extend_from_slice(&[0, 0, 4, 4])?;
-        write_compact(&mut bytes, id + 1)?;
+        write_compact(&mut bytes, u128::from(id) + 1)?;
         bytes.push(0)?;
     }
     write_compact(&mut bytes, 1999)?;
@@ -381,7 +381,7 @@ fn a_chain_of_2000_tuples_is_empty(rt: HostRuntime) -> Result<(), Fail> {
     let registry = checked(rt.alloc(), &bytes)?;
     assert_eq!(rt; registry.registry().types().len(), 2000);
     assert_eq!(rt; registry.widest(), 1);
-    for id in 0..2000 {
+    'classes: for id in 0..2000 {
         assert_eq!(rt; registry.class(TypeId(id)), Some(Class::Empty), "type {id}");
     }
     Ok(())
