@@ -1,10 +1,9 @@
 -- Before anything has settled, and when nothing more settles: what has not settled has no value, and is no target.
-use Rattle.std.proofs.Common.{◌≡◌, ℕ, zero, suc, ◌+◌, ◌<◌, ◌≤◌, Bool, true, false, cond, List, [], ◌∷◌, ◌++◌, length, map, get_or, replicate, take, flat_map, Option, Some, None, refl, sym, ap, ◌∙◌, arith, inl, inr}
+use Rattle.std.proofs.Common.{◌≡◌, ℕ, zero, suc, ◌+◌, ◌<◌, ◌≤◌, Bool, true, false, cond, List, [], ◌∷◌, length, map, get_or, replicate, take, flat_map, Option, Some, None, refl, sym, ap, ◌∙◌, arith, inl, inr}
 use Rattle.std.specs.Prelude.{◌==◌}
 use Rattle.std.specs.List.{AllByRecursion, list_all, list_any}
 use Rattle.std.proofs.lemmas.Bool.{cases_lt}
-use Rattle.std.proofs.lemmas.List.{append-nil, length-map, length-replicate, take_all}
-use Rattle.std.proofs.lemmas.Grind.{flat_map-append}
+use Rattle.std.proofs.lemmas.List.{length-map, length-replicate, take_all}
 use Rattle.std.proofs.Math.ListN.{get_or-map}
 use Rattle.scale_core.specs.declared.compact.Target.{Target}
 use Rattle.registry_core.specs.declared.definition.Arm.{Arm}
@@ -18,7 +17,7 @@ use Rattle.widths_core.specs.declared.counter.Counter.{Counter}
 use Rattle.widths_core.specs.declared.graph.Graph.{Graph}
 use Rattle.widths_core.specs.Types.{shape, ids, field_types}
 use Rattle.widths_core.specs.Arms.{live_arms}
-use Rattle.widths_core.specs.References.{references, AreKnown, AreChecked, IsChecked}
+use Rattle.widths_core.specs.References.{references, AreKnown, IsChecked}
 use Rattle.widths_core.specs.Targets.{nowhere, leads_shape, leads_members, target_from, target_within, target_of}
 use Rattle.widths_core.specs.Classes.{holds_at, finite_step, finite_within, is_finite, class_of}
 use Rattle.widths_core.specs.ClassTables.{known_class, known_target, has_value, class_of_compact, TellsClasses, TellsTargets}
@@ -28,6 +27,7 @@ use Rattle.widths_core.specs.Graphs.{refs, AreTypesLinked}
 use Rattle.widths_core.specs.Progress.{State, counter_at}
 use Rattle.widths_core.specs.Consistent.{nothing, rule_at, to_at, unsettled, waiting, has_settled, settles, IsConsistent}
 use Rattle.widths_core.specs.Propagation.{IsStart, PropagatesAll, IsBad, AreCompactsSettled}
+use Rattle.widths_core.proofs.PartsOf.{all_front, all_references, checked_by}
 use Rattle.widths_core.proofs.Ranks.{Below, finite_grows, or_parts}
 use Rattle.widths_core.proofs.Stable.{has_value-class_of}
 use Rattle.widths_core.proofs.RuleRight.{rule_right}
@@ -103,10 +103,6 @@ all_from P [] d h = tt
 all_from P (x ∷ xs) d h = (h 0 (omega arith), all_from P xs d (λ k lt. h (suc k) (omega (arith, lt))))
 
 -- ---- the rules of one type
-
-all_front : {X : Type 0} (P : X → Type 0) (xs ys : List X) → AllByRecursion P (xs ++ ys) → AllByRecursion P xs × AllByRecursion P ys
-all_front P [] ys h = (tt, h)
-all_front P (x ∷ xs) ys h = let more = all_front P xs ys h.1 in ((h.0, more.0), more.1)
 
 rules_at : (P : Rule → Type 0) (r : List TypeInfo) (i t : ℕ) (d : TypeDef) → AllByRecursion P (rules_from i r) → shape r t ≡ Some d → AllByRecursion P (rules_of (i + t) d)
 rules_at P [] i t d h e = absurd cc
@@ -246,35 +242,6 @@ classes_told r a b s n done h c = ((st.classes, λ t. class_at t (has_settled n 
     go (Some m) p = let yes = target_settled r (has_settled n) (all_from (ClosesRule (has_settled n)) (rules r) nothing (closes r a b s n done h)) (length r) t m p in absurd (let no = sym e ∙ yes in cc)
 
 -- ---- references and looks
-
-parts_of_arms : (t : ℕ) (seen : List ℕ) (arms : List Arm) → all_parts (arm_rules t seen arms) ≡ flat_map (λ a. field_types a.fields) arms
-parts_of_arms t seen [] = refl
-parts_of_arms t seen (a ∷ arms) = go (list_any (λ i. i == a.index) seen) (λ s. parts_of_arms t s arms) where
-  go : (b : Bool) → ((s : List ℕ) → all_parts (arm_rules t s arms) ≡ flat_map (λ x. field_types x.fields) arms) → all_parts (cond b (rule t kind.Idle (field_types a.fields) ∷ arm_rules t seen arms) (rule t (kind.Fixed found_sized) (field_types a.fields) ∷ arm_rules t (a.index ∷ seen) arms)) ≡ field_types a.fields ++ flat_map (λ x. field_types x.fields) arms
-  go true more = ap (λ (xs : List ℕ). field_types a.fields ++ xs) (more seen)
-  go false more = ap (λ (xs : List ℕ). field_types a.fields ++ xs) (more (a.index ∷ seen))
-
-parts_of : (t : ℕ) (d : TypeDef) → all_parts (rules_of t d) ≡ references d
-parts_of t (Def.Composite fs) = append-nil (field_types fs)
-parts_of t (Def.Variant arms) = parts_of_arms t [] arms
-parts_of t (Def.Sequence u) = refl
-parts_of t (Def.Array zero u) = refl
-parts_of t (Def.Array (suc n) u) = refl
-parts_of t (Def.Tuple ts) = append-nil (ids ts)
-parts_of t (Def.Primitive p) = refl
-parts_of t (Def.Compact u) = refl
-parts_of t (Def.BitSequence store order) = refl
-
-parts_from : (t : ℕ) (r : List TypeInfo) → all_parts (rules_from t r) ≡ flat_map (λ i. references i.shape) r
-parts_from t [] = refl
-parts_from t (x ∷ r) = flat_map-append (λ (y : Rule). y.parts) (rules_of t x.shape) (rules_from (t + 1) r) ∙ ap (λ (xs : List ℕ). xs ++ all_parts (rules_from (t + 1) r)) (parts_of t x.shape) ∙ ap (λ (xs : List ℕ). references x.shape ++ xs) (parts_from (t + 1) r)
-
-pub all_references : (r : List TypeInfo) → all_parts (rules r) ≡ flat_map (λ i. references i.shape) r
-all_references r = parts_from 0 r
-
-checked_by : (n : ℕ) (r : List TypeInfo) → AreKnown n (flat_map (λ i. references i.shape) r) → AreChecked n r
-checked_by n [] h = tt
-checked_by n (x ∷ r) h = let parts = all_front (λ t. t < n) (references x.shape) (flat_map (λ i. references i.shape) r) h in (parts.0, checked_by n r parts.1)
 
 pub types_linked_checked : (r : List TypeInfo) (cs : List Counter) (d : Graph) → AreTypesLinked r cs d → IsChecked r
 types_linked_checked r cs d h =

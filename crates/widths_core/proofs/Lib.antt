@@ -8,10 +8,12 @@ pub mod Unknown
 pub mod LentArms
 pub mod Settled
 pub mod Tokens
+pub mod PartsOf
 pub mod Linked
 pub mod ArmsTo
 pub mod ArmRules
 pub mod TypesLinked
+pub mod Stopped
 pub mod SizesTo
 pub mod Stable
 pub mod RuleRight

@@ -60,7 +60,7 @@ one_more i t log h = go (i == t) refl where
   go true e = let same : i ≡ t = eqb-true i t e in (omega (arith, h.1 (omega arith), same), λ le. absurd (omega (arith, same, le)))
   go false e = (omega (arith, h.0), λ le. omega (arith, h.1 (omega (arith, le))))
 
-again : (i t : ℕ) (log : List ℕ) → (times t log ≤ 2) × (i ≤ t → times t log ≤ 1) → (times t (i ∷ log) ≤ 2) × (i + 1 ≤ t → times t (i ∷ log) ≤ 1)
+pub again : (i t : ℕ) (log : List ℕ) → (times t log ≤ 2) × (i ≤ t → times t log ≤ 1) → (times t (i ∷ log) ≤ 2) × (i + 1 ≤ t → times t (i ∷ log) ≤ 1)
 again i t log h = go (i == t) refl where
   go : (b : Bool) → (i == t) ≡ b → (cond b 1 0 + times t log ≤ 2) × (i + 1 ≤ t → cond b 1 0 + times t log ≤ 1)
   go true e = let same : i ≡ t = eqb-true i t e in (omega (arith, h.1 (omega arith), same), λ le. absurd (omega (arith, same, le)))

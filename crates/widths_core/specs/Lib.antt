@@ -19,4 +19,5 @@ pub mod Consistent
 pub mod Propagation
 pub mod Rows
 pub mod Sizes
+pub mod Stops
 pub mod Steps

@@ -1,12 +1,13 @@
 //! What a registry says of its types, found in one pass over it and one over the lists of references to each.
 
-ghost use Rattle.std.specs.Prelude.{◌<◌, ◌^◌, length, IfSome, IfOk, MatchResult};
+ghost use Rattle.std.specs.Prelude.{◌<◌, ◌^◌, length, IfOk, IfErr, MatchResult};
 ghost use Rattle.registry_core.specs.Fits.{FitsRegistry};
 ghost use Rattle.widths_core.specs.Analysed.{IsAnalysed};
 ghost use Rattle.widths_core.specs.Checks.{IsFaultOf};
 ghost use Rattle.widths_core.specs.Graphs.{IsUnread};
 ghost use Rattle.widths_core.specs.Steps.{IsSettled, IsTable};
 ghost use Rattle.widths_core.specs.References.{first_fault};
+ghost use Rattle.widths_core.specs.Stops.{IsRefusedFor};
 
 use crate::class::Class;
 use crate::fault::CheckFault;
@@ -51,14 +52,17 @@ pub(crate) struct Analysis {
     pub looks: Looks,
 }
 
-/// What is found of the types of a graph. Answers `None` where a reference is no position or memory is refused.
-fn settled_types(alloc: Global, graph: &mut Graph<'_>) -> Option<Settled>
+/// What is found of the types of a graph.
+///
+/// A reference that is no position is found when it is read for its list, by the second look at the type that it stands in.
+fn settled_types(alloc: Global, graph: &mut Graph<'_>) -> Result<Settled, CheckFault>
     requires fits { FitsRegistry graph.old.types.now }
     requires unread { IsUnread graph.old.types.now graph.old }
-    ensures settled { IfSome result (λ t. IsSettled graph.old.types.now t.classes.items t.targets.items graph.new.members.items t.rows t.drafts.items) }
-    ensures analysed { IfSome result (λ t. IsAnalysed graph.old.types.now t.widest graph.new.looks) }
+    ensures settled { IfOk result (λ t. IsSettled graph.old.types.now t.classes.items t.targets.items graph.new.members.items t.rows t.drafts.items) }
+    ensures analysed { IfOk result (λ t. IsAnalysed graph.old.types.now t.widest graph.new.looks) }
+    ensures refused { IfErr result (IsRefusedFor graph.old.types.now graph.new.looks) }
 {
-    let Sizes { references, arms } = sizes_of(graph)?;
+    let Sizes { references, arms } = sizes_of(graph).ok_or(CheckFault::OutOfMemory)?;
     graph.prepare(alloc, references)?;
     let Linked {
         counters,
@@ -66,16 +70,16 @@ fn settled_types(alloc: Global, graph: &mut Graph<'_>) -> Option<Settled>
         rows,
         widest,
     } = link_types(alloc, graph, arms)?;
-    let mut settling = Settling::new(alloc, counters, graph.count()).ok()?;
-    let done = settling.begin(graph).ok()?;
-    settling.settle_bad_compacts(graph, done).ok()?;
+    let mut settling = Settling::new(alloc, counters, graph.count())?;
+    let done = settling.begin(graph)?;
+    settling.settle_bad_compacts(graph, done)?;
     let Settling {
         counters: _,
         classes,
         targets,
         settled: _,
     } = settling;
-    Some(Settled {
+    Ok(Settled {
         classes,
         targets,
         drafts,
@@ -84,12 +88,13 @@ fn settled_types(alloc: Global, graph: &mut Graph<'_>) -> Option<Settled>
     })
 }
 
-/// What is kept of the types of a graph. Answers `None` where a reference is no position or memory is refused.
-fn tables_of(alloc: Global, graph: &mut Graph<'_>) -> Option<Tables>
+/// What is kept of the types of a graph.
+fn tables_of(alloc: Global, graph: &mut Graph<'_>) -> Result<Tables, CheckFault>
     requires fits { FitsRegistry graph.old.types.now }
     requires unread { IsUnread graph.old.types.now graph.old }
-    ensures table { IfSome result (λ t. IsTable graph.old.types.now graph.new.members.items t.rows t.steps.items) }
-    ensures analysed { IfSome result (λ t. IsAnalysed graph.old.types.now t.widest graph.new.looks) }
+    ensures table { IfOk result (λ t. IsTable graph.old.types.now graph.new.members.items t.rows t.steps.items) }
+    ensures analysed { IfOk result (λ t. IsAnalysed graph.old.types.now t.widest graph.new.looks) }
+    ensures refused { IfErr result (IsRefusedFor graph.old.types.now graph.new.looks) }
 {
     let Settled {
         classes,
@@ -104,14 +109,15 @@ fn tables_of(alloc: Global, graph: &mut Graph<'_>) -> Option<Tables>
         targets.as_slice(),
         drafts.as_slice(),
     )?;
-    Some(Tables {
+    Ok(Tables {
         steps,
         rows,
         widest,
     })
 }
 
-/// Why these types could not be settled: the first reference that is no position, or want of memory where each is one.
+/// Why types for which memory was refused could not be settled: the first reference that is no position, or want of memory
+/// where each is one.
 fn fault_of(graph: &mut Graph<'_>) -> CheckFault
     requires { length graph.old.types.now < 2 ^ 32 }
     ensures { IsFaultOf result (first_fault graph.old.types.now) }
@@ -124,8 +130,7 @@ fn fault_of(graph: &mut Graph<'_>) -> CheckFault
 
 /// What is found of these types, or why they are refused.
 ///
-/// The looks are kept only where the types are accepted: refused ones are gone through once more, for the first unknown
-/// reference, in a graph of their own.
+/// Where memory was refused, the types are gone through once more for the first unknown reference, in a graph of their own.
 pub(crate) fn analyse(alloc: Global, types: &[TypeInfo]) -> Result<Analysis, CheckFault>
     requires { FitsRegistry types.now }
     ensures found { MatchResult result (λ a. IsAnalysed types.now a.widest a.looks) (λ fault. IsFaultOf fault (first_fault types.now)) }
@@ -133,7 +138,7 @@ pub(crate) fn analyse(alloc: Global, types: &[TypeInfo]) -> Result<Analysis, Che
 {
     let mut graph = Graph::new(alloc, types);
     match tables_of(alloc, &mut graph) {
-        Some(
+        Ok(
             Tables {
                 steps,
                 rows,
@@ -149,9 +154,10 @@ pub(crate) fn analyse(alloc: Global, types: &[TypeInfo]) -> Result<Analysis, Che
                 looks,
             })
         }
-        None => {
+        Err(CheckFault::OutOfMemory) => {
             let mut graph = Graph::new(alloc, types);
             Err(fault_of(&mut graph))
         }
+        Err(fault) => Err(fault),
     }
 }

@@ -1,13 +1,15 @@
 //! The graph of a registry's types and references, read through looks that are logged and in no other way.
 
-ghost use Rattle.std.specs.Prelude.{◌≡◌, ◌<◌, ◌^◌, [], ◌∷◌, length, IfSome, slice_index};
+ghost use Rattle.std.specs.Prelude.{◌≡◌, ◌<◌, ◌^◌, [], ◌∷◌, length, OnOk, IfOk, IfErr, slice_index};
 ghost use Rattle.widths_core.specs.Graphs.{IsLinked, IsOpened, IsListed, IsMeasured, IsUnread, Reads, IsNew, refs, numbers, befores};
 ghost use Rattle.widths_core.specs.Lent.{IsArmAt, id_of, shape_of};
+ghost use Rattle.widths_core.specs.Stops.{Stops};
 ghost use Rattle.widths_core.specs.Types.{field_types, ids, shape};
 
 use crate::looks::{Log, Looks};
+use crate::stop::Stop;
 use registry_core::{Arm, Field, Primitive, TypeDef, TypeId, TypeInfo};
-use std::alloc::Global;
+use std::alloc::{AllocError, Global};
 
 /// A reference in a definition. Only a graph reads it.
 #[derive(Clone, Copy)]
@@ -179,15 +181,15 @@ impl<'r> Graph<'r> {
         }
     }
 
-    /// Makes an empty list for each type, and takes the memory for so many references. Answers `None` where it is refused.
-    pub(crate) fn prepare(&mut self, alloc: Global, references: usize) -> Option<()>
+    /// Makes an empty list for each type, and takes the memory for so many references.
+    pub(crate) fn prepare(&mut self, alloc: Global, references: usize) -> Result<(), AllocError>
         requires { IsMeasured self.old.types.now self.old }
-        ensures { IfSome result (λ _. IsNew self.old.types.now self.new) }
+        ensures { OnOk result (IsNew self.old.types.now self.new) }
     {
-        self.newest = vec![in alloc; 0; self.types.len()].ok()?;
-        self.links = Vec::with_capacity(alloc, references).ok()?;
-        self.members = Vec::with_capacity(alloc, references).ok()?;
-        Some(())
+        self.newest = vec![in alloc; 0; self.types.len()]?;
+        self.links = Vec::with_capacity(alloc, references)?;
+        self.members = Vec::with_capacity(alloc, references)?;
+        Ok(())
     }
 
     /// How many types there are.
@@ -225,24 +227,27 @@ impl<'r> Graph<'r> {
         to
     }
 
-    /// Reads a reference of a definition, and puts it into the list of those to its type, for this counter.
-    ///
-    /// Answers the position that it is to, and `None` where it is no position or memory is refused.
-    pub(crate) fn add(&mut self, place: &Place<'_>, counter: u32) -> Option<u32>
+    /// Reads a reference of a definition, and puts it into the list of those to its type, for this counter. Answers the
+    /// position that it is to.
+    pub(crate) fn add(&mut self, place: &Place<'_>, counter: u32) -> Result<u32, Stop>
         requires { IsLinked self.old }
-        ensures reads { IfSome result (λ _. Reads self.old self.new (id_of place.now ∷ []) (counter ∷ [])) }
-        ensures value { IfSome result (λ to. to ≡ id_of place.now) }
+        ensures reads { IfOk result (λ _. Reads self.old self.new (id_of place.now ∷ []) (counter ∷ [])) }
+        ensures value { IfOk result (λ to. to ≡ id_of place.now) }
+        ensures stops { IfErr result (Stops (id_of place.now ∷ []) self.old self.new) }
     {
         let id = self.reference(place);
         let to = id as usize;
-        if to >= self.types.len() || self.links.len() >= u32::MAX as usize {
-            return None;
+        if to >= self.types.len() {
+            return Err(Stop::Unknown(id));
+        }
+        if self.links.len() >= u32::MAX as usize {
+            return Err(Stop::Memory);
         }
         let before = self.newest[to];
-        self.members.push(id).ok()?;
-        self.links.push(Link { counter, before }).ok()?;
+        self.members.push(id)?;
+        self.links.push(Link { counter, before })?;
         self.newest[to] = self.links.len() as u32;
-        Some(id)
+        Ok(id)
     }
 
     /// How many references were read.

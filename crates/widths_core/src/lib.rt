@@ -17,6 +17,7 @@ mod settling;
 mod sizes;
 mod step;
 mod steps;
+mod stop;
 mod widths;
 
 pub use checked::Checked;

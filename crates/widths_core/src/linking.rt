@@ -1,20 +1,24 @@
 //! One pass over a registry: references are checked and put into lists, and counters and steps are made.
 
-ghost use Rattle.std.specs.Prelude.{◌≡◌, ◌<◌, ◌++◌, ◌∷◌, [], ◌^◌, length, false, IfSome};
+ghost use Rattle.std.specs.Prelude.{◌≡◌, ◌<◌, ◌++◌, ◌∷◌, [], ◌^◌, length, false, IfOk, IfErr};
 ghost use Rattle.registry_core.specs.Fits.{FitsDefinition, FitsRegistry};
 ghost use Rattle.widths_core.specs.Graphs.{IsLinked, IsNew, Adds, AreTypesLinked, refs};
 ghost use Rattle.widths_core.specs.Lent.{id_of, shape_of};
 ghost use Rattle.widths_core.specs.Rows.{IsPaired, Keeps};
 ghost use Rattle.widths_core.specs.Steps.{AreParts, IsRow, IsDraft, AreDrafts};
-ghost use Rattle.widths_core.specs.Rules.{rule, kind_of_parts, found_of_primitive, found_sized, arm_rules, rules_of};
+ghost use Rattle.widths_core.specs.Rules.{rule, kind_of_parts, found_of_primitive, found_sized, all_parts, arm_rules, rules_of};
+ghost use Rattle.widths_core.specs.Stops.{Stops, IsRefusedFor};
 ghost use Rattle.widths_core.specs.Types.{ids, field_types};
 ghost use Rattle.widths_core.specs.Widths.{widest};
+ghost use Rattle.widths_core.specs.declared.stop.Stop.TheVariants.{Memory};
 
 use crate::class::Class;
 use crate::counter::{Counter, Found, Kind};
+use crate::fault::CheckFault;
 use crate::graph::{Arms, Definition, Fields, Graph, Members, Place};
 use crate::rows::Rows;
 use crate::step::{ArmStep, Draft, Parts};
+use crate::stop::Stop;
 use crate::widths::width;
 use registry_core::Primitive;
 use scale_core::Target;
@@ -27,22 +31,26 @@ const SIZED: Found = Found {
 };
 
 /// Adds a counter of so many parts, and answers its number.
-fn count_parts(counters: &mut Vec<Counter>, owner: u32, kind: Kind, parts: usize) -> Option<u32>
-    ensures { IfSome result (λ number. (number ≡ length counters.old.items) × (counters.new.items ≡ counters.old.items ++ record { owner = owner; kind = kind; left = parts; sized = false } ∷ [])) }
+fn count_parts(
+    counters: &mut Vec<Counter>,
+    owner: u32,
+    kind: Kind,
+    parts: usize,
+) -> Result<u32, Stop>
+    ensures counts { IfOk result (λ number. (number ≡ length counters.old.items) × (counters.new.items ≡ counters.old.items ++ record { owner = owner; kind = kind; left = parts; sized = false } ∷ [])) }
+    ensures memory { IfErr result (λ stop. stop ≡ Memory) }
 {
     let number = counters.len();
     if number >= u32::MAX as usize || parts > u32::MAX as usize {
-        return None;
+        return Err(Stop::Memory);
     }
-    counters
-        .push(Counter {
-            owner,
-            kind,
-            left: parts as u32,
-            sized: false,
-        })
-        .ok()?;
-    Some(number as u32)
+    counters.push(Counter {
+        owner,
+        kind,
+        left: parts as u32,
+        sized: false,
+    })?;
+    Ok(number as u32)
 }
 
 /// The types of these fields are counted together. Answers where they are among the references.
@@ -52,10 +60,11 @@ fn link_fields(
     owner: u32,
     kind: Kind,
     fields: &Fields<'_>,
-) -> Option<Parts>
+) -> Result<Parts, Stop>
     requires { IsLinked graph.old }
-    ensures adds { IfSome result (λ _. Adds (rule owner kind (field_types fields.now.fields.now) ∷ []) counters.old.items counters.new.items graph.old graph.new) }
-    ensures parts { IfSome result (λ p. AreParts (refs graph.new) p.from p.count (field_types fields.now.fields.now)) }
+    ensures adds { IfOk result (λ _. Adds (rule owner kind (field_types fields.now.fields.now) ∷ []) counters.old.items counters.new.items graph.old graph.new) }
+    ensures parts { IfOk result (λ p. AreParts (refs graph.new) p.from p.count (field_types fields.now.fields.now)) }
+    ensures stops { IfErr result (Stops (all_parts (rule owner kind (field_types fields.now.fields.now) ∷ [])) graph.old graph.new) }
 {
     let from = graph.read();
     let counter = count_parts(counters, owner, kind, fields.len())?;
@@ -63,7 +72,7 @@ fn link_fields(
         graph.add(&fields.place(position), counter)?;
     }
     let to = graph.read();
-    Some(Parts {
+    Ok(Parts {
         from,
         count: to - from,
     })
@@ -76,10 +85,11 @@ fn link_members(
     owner: u32,
     kind: Kind,
     members: &Members<'_>,
-) -> Option<Parts>
+) -> Result<Parts, Stop>
     requires { IsLinked graph.old }
-    ensures adds { IfSome result (λ _. Adds (rule owner kind (ids members.now.members.now) ∷ []) counters.old.items counters.new.items graph.old graph.new) }
-    ensures parts { IfSome result (λ p. AreParts (refs graph.new) p.from p.count (ids members.now.members.now)) }
+    ensures adds { IfOk result (λ _. Adds (rule owner kind (ids members.now.members.now) ∷ []) counters.old.items counters.new.items graph.old graph.new) }
+    ensures parts { IfOk result (λ p. AreParts (refs graph.new) p.from p.count (ids members.now.members.now)) }
+    ensures stops { IfErr result (Stops (all_parts (rule owner kind (ids members.now.members.now) ∷ [])) graph.old graph.new) }
 {
     let from = graph.read();
     let counter = count_parts(counters, owner, kind, members.len())?;
@@ -87,7 +97,7 @@ fn link_members(
         graph.add(&members.place(position), counter)?;
     }
     let to = graph.read();
-    Some(Parts {
+    Ok(Parts {
         from,
         count: to - from,
     })
@@ -100,13 +110,22 @@ fn link_one(
     owner: u32,
     kind: Kind,
     part: &Place<'_>,
-) -> Option<u32>
+) -> Result<u32, Stop>
     requires { IsLinked graph.old }
-    ensures value { IfSome result (λ id. id ≡ id_of part.now) }
-    ensures adds { IfSome result (λ _. Adds (rule owner kind (id_of part.now ∷ []) ∷ []) counters.old.items counters.new.items graph.old graph.new) }
+    ensures value { IfOk result (λ id. id ≡ id_of part.now) }
+    ensures adds { IfOk result (λ _. Adds (rule owner kind (id_of part.now ∷ []) ∷ []) counters.old.items counters.new.items graph.old graph.new) }
+    ensures stops { IfErr result (Stops (all_parts (rule owner kind (id_of part.now ∷ []) ∷ [])) graph.old graph.new) }
 {
     let counter = count_parts(counters, owner, kind, 1)?;
     graph.add(part, counter)
+}
+
+/// The same number, where it is kept in four bytes.
+fn number(value: usize) -> Result<u32, Stop>
+    ensures same { IfOk result (λ n. n ≡ value) }
+    ensures memory { IfErr result (λ stop. stop ≡ Memory) }
+{
+    u32::try_from(value).ok().ok_or(Stop::Memory)
 }
 
 /// The fields of each arm are counted together; those of an arm that an earlier one of its index shadows settle nothing.
@@ -117,13 +136,14 @@ fn link_arms(
     rows: &mut Rows,
     owner: u32,
     arms: &Arms<'_>,
-) -> Option<Parts>
+) -> Result<Parts, Stop>
     requires linked { IsLinked graph.old }
     requires paired { IsPaired rows.old }
-    ensures adds { IfSome result (λ _. Adds (arm_rules owner [] arms.now.arms.now) counters.old.items counters.new.items graph.old graph.new) }
-    ensures paired { IfSome result (λ _. IsPaired rows.new) }
-    ensures keeps { IfSome result (λ _. Keeps rows.old rows.new) }
-    ensures row { IfSome result (λ p. IsRow (refs graph.new) rows.new p.from p.count arms.now.arms.now) }
+    ensures adds { IfOk result (λ _. Adds (arm_rules owner [] arms.now.arms.now) counters.old.items counters.new.items graph.old graph.new) }
+    ensures paired { IfOk result (λ _. IsPaired rows.new) }
+    ensures keeps { IfOk result (λ _. Keeps rows.old rows.new) }
+    ensures row { IfOk result (λ p. IsRow (refs graph.new) rows.new p.from p.count arms.now.arms.now) }
+    ensures stops { IfErr result (Stops (all_parts (arm_rules owner [] arms.now.arms.now)) graph.old graph.new) }
 {
     let first = rows.len();
     'arms: for position in 0..arms.len() {
@@ -141,7 +161,7 @@ fn link_arms(
                     &fields,
                 )?;
                 let step = ArmStep {
-                    position: u32::try_from(position).ok()?,
+                    position: number(position)?,
                     from,
                     count,
                 };
@@ -149,9 +169,9 @@ fn link_arms(
             }
         }
     }
-    Some(Parts {
-        from: u32::try_from(first).ok()?,
-        count: u32::try_from(rows.len() - first).ok()?,
+    Ok(Parts {
+        from: number(first)?,
+        count: number(rows.len() - first)?,
     })
 }
 
@@ -194,33 +214,34 @@ fn link_definition(
     rows: &mut Rows,
     owner: u32,
     definition: &Definition<'_>,
-) -> Option<Draft>
+) -> Result<Draft, Stop>
     requires linked { IsLinked graph.old }
     requires paired { IsPaired rows.old }
-    ensures adds { IfSome result (λ _. Adds (rules_of owner (shape_of definition.now)) counters.old.items counters.new.items graph.old graph.new) }
-    ensures paired { IfSome result (λ _. IsPaired rows.new) }
-    ensures keeps { IfSome result (λ _. Keeps rows.old rows.new) }
-    ensures draft { IfSome result (λ s. IsDraft (refs graph.new) (IsRow (refs graph.new) rows.new) (shape_of definition.now) s) }
+    ensures adds { IfOk result (λ _. Adds (rules_of owner (shape_of definition.now)) counters.old.items counters.new.items graph.old graph.new) }
+    ensures paired { IfOk result (λ _. IsPaired rows.new) }
+    ensures keeps { IfOk result (λ _. Keeps rows.old rows.new) }
+    ensures draft { IfOk result (λ s. IsDraft (refs graph.new) (IsRow (refs graph.new) rows.new) (shape_of definition.now) s) }
+    ensures stops { IfErr result (Stops (all_parts (rules_of owner (shape_of definition.now))) graph.old graph.new) }
 {
     match definition {
         Definition::Composite(fields) => {
             let kind = kind_of_parts(fields.len());
             let Parts { from, count } = link_fields(graph, counters, owner, kind, fields)?;
-            Some(Draft::Parts { from, count })
+            Ok(Draft::Parts { from, count })
         }
         Definition::Tuple(members) => {
             let kind = kind_of_parts(members.len());
             let Parts { from, count } = link_members(graph, counters, owner, kind, members)?;
-            Some(Draft::Parts { from, count })
+            Ok(Draft::Parts { from, count })
         }
         Definition::Variant(arms) => {
             let Parts { from, count } = link_arms(graph, counters, rows, owner, arms)?;
-            Some(Draft::Arms { from, count })
+            Ok(Draft::Arms { from, count })
         }
         Definition::Sequence(element) => {
             count_parts(counters, owner, Kind::Fixed(SIZED), 0)?;
             let element = link_one(graph, counters, owner, Kind::Idle, element)?;
-            Some(Draft::Sequence { element })
+            Ok(Draft::Sequence { element })
         }
         Definition::Array(0, element) => {
             let found = Found {
@@ -229,24 +250,24 @@ fn link_definition(
             };
             count_parts(counters, owner, Kind::Fixed(found), 0)?;
             let element = link_one(graph, counters, owner, Kind::Idle, element)?;
-            Some(Draft::Array { len: 0, element })
+            Ok(Draft::Array { len: 0, element })
         }
         Definition::Array(len, element) => {
             let element = link_one(graph, counters, owner, Kind::Parts, element)?;
-            Some(Draft::Array { len: *len, element })
+            Ok(Draft::Array { len: *len, element })
         }
         Definition::Compact(over) => {
             let over = link_one(graph, counters, owner, Kind::Compact, over)?;
-            Some(Draft::Compact { over })
+            Ok(Draft::Compact { over })
         }
         Definition::Primitive(primitive) => {
             let found = found_of_primitive(*primitive);
             count_parts(counters, owner, Kind::Fixed(found), 0)?;
-            Some(Draft::Primitive(*primitive))
+            Ok(Draft::Primitive(*primitive))
         }
         Definition::BitSequence { .. } => {
             count_parts(counters, owner, Kind::Fixed(SIZED), 0)?;
-            Some(Draft::BitSequence)
+            Ok(Draft::BitSequence)
         }
     }
 }
@@ -261,35 +282,42 @@ pub(crate) struct Linked {
     pub widest: u32,
 }
 
+/// How many counters so many types with so many arms have at most. Answers `None` where the number is no `usize`.
+fn counters_of(types: usize, arms: usize) -> Option<usize> {
+    types.checked_mul(2)?.checked_add(arms)
+}
+
 /// One pass over the types, which have so many arms: the counters, the drafts, and how many parts a value has at most.
 ///
 /// A type has at most two counters beside those of its arms.
-pub(crate) fn link_types(alloc: Global, graph: &mut Graph<'_>, arms: usize) -> Option<Linked>
+pub(crate) fn link_types(
+    alloc: Global,
+    graph: &mut Graph<'_>,
+    arms: usize,
+) -> Result<Linked, CheckFault>
     requires fits { FitsRegistry graph.old.types.now }
     requires fresh { IsNew graph.old.types.now graph.old }
-    ensures linked { IfSome result (λ x. AreTypesLinked graph.old.types.now x.counters.items graph.new) }
-    ensures drafts { IfSome result (λ x. AreDrafts graph.old.types.now (refs graph.new) x.rows x.drafts.items) }
-    ensures widest { IfSome result (λ x. x.widest ≡ widest graph.old.types.now) }
+    ensures linked { IfOk result (λ x. AreTypesLinked graph.old.types.now x.counters.items graph.new) }
+    ensures drafts { IfOk result (λ x. AreDrafts graph.old.types.now (refs graph.new) x.rows x.drafts.items) }
+    ensures widest { IfOk result (λ x. x.widest ≡ widest graph.old.types.now) }
+    ensures refused { IfErr result (IsRefusedFor graph.old.types.now graph.new.looks) }
 {
     let types = graph.count();
-    let most_counters = types.checked_mul(2)?.checked_add(arms)?;
-    let mut counters = Vec::with_capacity(alloc, most_counters).ok()?;
-    let mut drafts = Vec::with_capacity(alloc, types).ok()?;
+    let most_counters = counters_of(types, arms).ok_or(CheckFault::OutOfMemory)?;
+    let mut counters = Vec::with_capacity(alloc, most_counters)?;
+    let mut drafts = Vec::with_capacity(alloc, types)?;
     let mut rows = Rows::with_capacity(alloc, arms)?;
     let mut widest = 0;
     'types: for position in 0..types {
         let definition = graph.definition(position as u32);
         widest = widest.max(width(&definition));
-        let draft = link_definition(
-            graph,
-            &mut counters,
-            &mut rows,
-            position as u32,
-            &definition,
-        )?;
-        drafts.push(draft).ok()?;
+        let position = position as u32;
+        match link_definition(graph, &mut counters, &mut rows, position, &definition) {
+            Ok(draft) => drafts.push(draft)?,
+            Err(stop) => return Err(stop.in_type(position)),
+        }
     }
-    Some(Linked {
+    Ok(Linked {
         counters,
         drafts,
         rows,

@@ -1,11 +1,11 @@
 //! The arms of variants by their index, a row of them for each variant.
 
-ghost use Rattle.std.specs.Prelude.{◌≡◌, ◌≤◌, ◌+◌, length, slice_index, IfSome, MatchOption, MatchResult};
+ghost use Rattle.std.specs.Prelude.{◌≡◌, ◌≤◌, ◌+◌, length, slice_index, OnOk, IfOk, MatchOption, MatchResult};
 ghost use Rattle.std.specs.List.{insert};
 ghost use Rattle.widths_core.specs.Rows.{IsPlace, IsSearched, IsPaired, IsEmpty, IsIn, Lacks, Rises, Inserts, arm_in};
 
 use crate::step::ArmStep;
-use std::alloc::Global;
+use std::alloc::{AllocError, Global};
 
 /// The arms that no earlier arm of the same index shadows: for each variant a row of them, by ascending index.
 ///
@@ -33,13 +33,13 @@ fn place_of(row: &[u8], index: u8) -> Option<usize>
 }
 
 impl Rows {
-    /// No row yet, with memory for so many arms. Answers `None` where it is refused.
-    pub(crate) fn with_capacity(alloc: Global, arms: usize) -> Option<Rows>
-        ensures { IfSome result (λ rows. IsEmpty rows) }
+    /// No row yet, with memory for so many arms.
+    pub(crate) fn with_capacity(alloc: Global, arms: usize) -> Result<Rows, AllocError>
+        ensures { IfOk result (λ rows. IsEmpty rows) }
     {
-        Some(Rows {
-            indexes: Vec::with_capacity(alloc, arms).ok()?,
-            arms: Vec::with_capacity(alloc, arms).ok()?,
+        Ok(Rows {
+            indexes: Vec::with_capacity(alloc, arms)?,
+            arms: Vec::with_capacity(alloc, arms)?,
         })
     }
 
@@ -63,15 +63,15 @@ impl Rows {
         }
     }
 
-    /// Puts an arm at a place, before those that are there. Answers `None` where memory is refused.
-    pub(crate) fn insert(&mut self, at: usize, index: u8, arm: ArmStep) -> Option<()>
+    /// Puts an arm at a place, before those that are there.
+    pub(crate) fn insert(&mut self, at: usize, index: u8, arm: ArmStep) -> Result<(), AllocError>
         requires paired { IsPaired self.old }
         requires within { at ≤ length self.old.indexes.items }
-        ensures { IfSome result (λ _. Inserts self.old self.new at index arm) }
+        ensures { OnOk result (Inserts self.old self.new at index arm) }
     {
-        self.indexes.insert(at, index).ok()?;
-        self.arms.insert(at, arm).ok()?;
-        Some(())
+        self.indexes.insert(at, index)?;
+        self.arms.insert(at, arm)?;
+        Ok(())
     }
 
     /// The arm of an index in the row of so many arms from `from` on.

@@ -1,13 +1,13 @@
 //! The steps of types, by their drafts and what was found of them.
 
-ghost use Rattle.std.specs.Prelude.{◌≡◌, ◌<◌, ◌^◌, IfSome, length};
+ghost use Rattle.std.specs.Prelude.{◌≡◌, ◌<◌, ◌^◌, IfOk, length};
 ghost use Rattle.widths_core.specs.ClassTables.{known_class, known_target};
 ghost use Rattle.widths_core.specs.Steps.{AreStepsBy, by_class, sequence_step, step_by};
 
 use crate::class::Class;
 use crate::step::{Draft, Step};
 use scale_core::Target;
-use std::alloc::Global;
+use std::alloc::{AllocError, Global};
 
 /// One of these by the class of a type: `none` where it has no value, and `sized` where it takes bytes.
 fn by_class(class: Class, none: Step, sized: Step) -> Step
@@ -70,20 +70,20 @@ fn step_by(classes: &[Class], targets: &[Option<Target>], class: Class, draft: D
     }
 }
 
-/// The step of each type, by its draft and what was found of all. Answers `None` where memory is refused.
+/// The step of each type, by its draft and what was found of all.
 pub(crate) fn steps_by(
     alloc: Global,
     classes: &[Class],
     targets: &[Option<Target>],
     drafts: &[Draft],
-) -> Option<Vec<Step>>
+) -> Result<Vec<Step>, AllocError>
     requires { length drafts.now < 2 ^ 32 }
-    ensures { IfSome result (λ steps. AreStepsBy (known_class classes.now) (known_target targets.now) drafts.now steps.items) }
+    ensures { IfOk result (λ steps. AreStepsBy (known_class classes.now) (known_target targets.now) drafts.now steps.items) }
 {
-    let mut steps = Vec::with_capacity(alloc, drafts.len()).ok()?;
+    let mut steps = Vec::with_capacity(alloc, drafts.len())?;
     'types: for (position, draft) in drafts.iter().enumerate() {
         let class = known_class(classes, position as u32);
-        steps.push(step_by(classes, targets, class, *draft)).ok()?;
+        steps.push(step_by(classes, targets, class, *draft))?;
     }
-    Some(steps)
+    Ok(steps)
 }

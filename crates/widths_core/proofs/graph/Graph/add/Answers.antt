@@ -3,6 +3,7 @@ use Rattle.std.proofs.lemmas.List.{get_or_read, length_push}
 use Rattle.widths_core.specs.declared.graph.Link.{Link}
 use Rattle.widths_core.specs.Lent.{id_of}
 use Rattle.widths_core.proofs.Linked.{read_one}
+use Rattle.widths_core.proofs.Stopped.{stops_one}
 use Rattle.widths_core.proofs.graph.Graph.add.Goals as goal
 
 pub returns-clause-reads : goal.returns-clause-reads
@@ -18,3 +19,8 @@ returns-clause-reads c =
     let members : c.push.new.self.items ≡ c.args.self.now.members.items ++ (id_of c.args.place.now) ∷ [] = search rules in
     let count : c.len-2.result ≡ length c.args.self.now.links.items + 1 = omega (arith, c.len-2.ensures, c.push-2.new.self.ok.0, ap length pushed, length_push c.reference-id.new.self.links.items new, ap length e.links) in
     read_one c.args.self.now _ (id_of c.args.place.now) c.args.counter c.requires lt (omega (arith, ap length e.links, c.if-len.false, c.len.ensures)) e.types e.log (rw (← e.links, ← before) pushed) members (rw (e.newest, e.value, count)) e.opened e.listed
+
+pub returns-then-to-self-clause-stops : goal.returns-then-to-self-clause-stops
+returns-then-to-self-clause-stops c =
+    let e = c.reference-id.ensures in
+    rw (← e.value) (stops_one c.args.self.now c.reference-id.new.self c.reference-id.result (omega (arith, ap length e.types, c.if-to-self.true)) (rw (← e.value) at e.log) e.types e.opened e.listed)
