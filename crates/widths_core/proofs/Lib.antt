@@ -7,7 +7,6 @@ pub mod FirstArm
 pub mod Unknown
 pub mod LentArms
 pub mod Settled
-pub mod Tokens
 pub mod PartsOf
 pub mod Linked
 pub mod ArmsTo

@@ -6,8 +6,9 @@ ghost use Rattle.widths_core.specs.Lent.{IsArmAt, id_of, shape_of};
 ghost use Rattle.widths_core.specs.Stops.{Stops};
 ghost use Rattle.widths_core.specs.Types.{field_types, ids, shape};
 
-use crate::looks::{Log, Looks};
+use crate::looks::Looks;
 use crate::stop::Stop;
+use count_core::Log;
 use registry_core::{Arm, Field, Primitive, TypeDef, TypeId, TypeInfo};
 use std::alloc::{AllocError, Global};
 

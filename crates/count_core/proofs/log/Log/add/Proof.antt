@@ -28,12 +28,12 @@ use denote.Triple.Spec.{Meets, triple_of}
 use denote.Triple.Table.{entered}
 use denote.Triple.Walked.{Stays, stay_dropped, stay_ref, walk_of, ends_at, Goes-dropped, Goes-ref, walk_Meets}
 use contract.CodeStep
-use Rattle.widths_core.specs.contracts.looks.Log as log
-use Rattle.widths_core.proofs.Tokens.{tells_last}
-use Rattle.widths_core.specs.contracts.looks.Log.add.{ended, clauses}
-use Rattle.widths_core.specs.contracts.looks.Log.add.Key.{name as #self}
-use Rattle.widths_core.proofs.looks.Log.add.Statement as stated
-use Rattle.widths_core.proofs.looks.Log.add.Code as code
+use Rattle.count_core.specs.contracts.log.Log as log
+use Rattle.count_core.proofs.Tokens.{tells_last}
+use Rattle.count_core.specs.contracts.log.Log.add.{ended, clauses}
+use Rattle.count_core.specs.contracts.log.Log.add.Key.{name as #self}
+use Rattle.count_core.proofs.log.Log.add.Statement as stated
+use Rattle.count_core.proofs.log.Log.add.Code as code
 
 module _ {M : Type 1} {𝓤 : Ura M} (𝓛 : Logic 𝓤) (𝓜 : Model 𝓤 𝓛.H) (𝓡 : Running 𝓤 𝓛.H 𝓜) where
   open 𝓛 use {H}
