@@ -58,9 +58,9 @@ impl<'r, A: Allocator> Model for Decoder<'r, A> {
 
     ghost Value = { Decoding };
 
-    ghost view = { λ d. record { job = record { registry = d.checked.now; ty = d.root.0; depth = d.limits.depth; bytes = d.limits.bytes }; taken = d.taken; run = d.run; turns = d.turns.so_far + closing_turns d.run d.closings.so_far; calls = d.calls.so_far } };
+    ghost view = { λ d. record { job = record { registry = d.checked.now.types; ty = d.root.0; depth = d.limits.depth; bytes = d.limits.bytes }; taken = d.taken; run = d.run; turns = d.turns.so_far + closing_turns d.run d.closings.so_far; calls = d.calls.so_far } };
 
-    ghost invariant = { λ d. IsDecoding (record { job = record { registry = d.checked.now; ty = d.root.0; depth = d.limits.depth; bytes = d.limits.bytes }; taken = d.taken; run = d.run; turns = d.turns.so_far + closing_turns d.run d.closings.so_far; calls = d.calls.so_far }) };
+    ghost invariant = { λ d. IsDecoding (record { job = record { registry = d.checked.now.types; ty = d.root.0; depth = d.limits.depth; bytes = d.limits.bytes }; taken = d.taken; run = d.run; turns = d.turns.so_far + closing_turns d.run d.closings.so_far; calls = d.calls.so_far }) };
 }
 
 /// What a piece made of a value on its way.
@@ -165,7 +165,7 @@ impl<'r, A: Allocator + Clone> Decoder<'r, A> {
         root: TypeId,
         limits: Limits,
     ) -> Result<Decoder<'r, A>, OpenFault>
-        ensures opens { Opens (opening_fault checked.now root.0 limits) (first_of_all checked.now root.0 limits) result }
+        ensures opens { Opens (opening_fault checked.now.types root.0 limits) (first_of_all checked.now.types root.0 limits) result }
         ensures led { IfOk result (λ d. Led d []) }
     {
         if checked.class(root).is_none() {

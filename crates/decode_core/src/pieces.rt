@@ -74,7 +74,7 @@ pub fn decode_pieces<'r, A: Allocator + Clone>(
     limits: Limits,
     pieces: &[&[u8]],
 ) -> Result<(Value<'r, A>, u64), PiecesFault>
-    ensures { Joins (opening_fault checked.now root.0 limits) (job_of checked.now root.0 limits) (flat_map (λ p. p.now) pieces.now) result }
+    ensures { Joins (opening_fault checked.now.types root.0 limits) (job_of checked.now.types root.0 limits) (flat_map (λ p. p.now) pieces.now) result }
 {
     let mut decoder = Decoder::new(alloc, checked, root, limits)?;
     feed_pieces(&mut decoder, pieces)?;

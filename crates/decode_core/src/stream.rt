@@ -117,10 +117,10 @@ pub fn decode_all<'r, A: Allocator + Clone, R: Read>(
     limits: Limits,
     source: &mut Source<R>,
 ) -> Result<Value<'r, A>, StreamFault>
-    ensures answers { IfSome (R.remaining source.old.device) (λ bytes. Streams (opening_fault checked.now root.0 limits) (job_of checked.now root.0 limits) bytes result) }
-    ensures same { IfOk result (IsOfJob (job_of checked.now root.0 limits)) }
-    ensures stopped { IsErrOf result StreamFault.Device → StopsOpen (job_of checked.now root.0 limits) (R.remaining source.old.device) (R.remaining source.new.device) }
-    ensures open { (e : OpenFault) → result ≡ Err (StreamFault.Open e) → Forbids (opening_fault checked.now root.0 limits) e }
+    ensures answers { IfSome (R.remaining source.old.device) (λ bytes. Streams (opening_fault checked.now.types root.0 limits) (job_of checked.now.types root.0 limits) bytes result) }
+    ensures same { IfOk result (IsOfJob (job_of checked.now.types root.0 limits)) }
+    ensures stopped { IsErrOf result StreamFault.Device → StopsOpen (job_of checked.now.types root.0 limits) (R.remaining source.old.device) (R.remaining source.new.device) }
+    ensures open { (e : OpenFault) → result ≡ Err (StreamFault.Open e) → Forbids (opening_fault checked.now.types root.0 limits) e }
     ensures unread { (e : OpenFault) → result ≡ Err (StreamFault.Open e) → source.new ≡ source.old }
     ensures told { IsErrOf result StreamFault.Device → source.new.failed ≡ true }
     ensures quiet { IsErrOf result StreamFault.Device ⊎ (source.new.failed ≡ source.old.failed) }

@@ -58,7 +58,7 @@ pub enum Next {
 
 /// What a type is made of, where it is a position.
 pub fn shape(checked: &Checked, ty: TypeId) -> Option<&TypeDef>
-    ensures { option_map (λ d. d.now) result ≡ shape checked.now ty.0 }
+    ensures { option_map (λ d. d.now) result ≡ shape checked.now.types ty.0 }
 {
     let info = checked.registry().types().get(ty.0 as usize)?;
     Some(&info.shape)
@@ -66,21 +66,21 @@ pub fn shape(checked: &Checked, ty: TypeId) -> Option<&TypeDef>
 
 /// The class of a type, where one that is no position has no value.
 fn class_of(checked: &Checked, ty: TypeId) -> Class
-    ensures { result ≡ class_of checked.now ty.0 }
+    ensures { result ≡ class_of checked.now.types ty.0 }
 {
     checked.class(ty).unwrap_or(Class::NoValue)
 }
 
 /// Does a type take no bytes?
 fn is_empty(checked: &Checked, ty: TypeId) -> bool
-    ensures { result ≡ is_empty checked.now ty.0 }
+    ensures { result ≡ is_empty checked.now.types ty.0 }
 {
     matches!(class_of(checked, ty), Class::Empty)
 }
 
 /// The form of a type that takes bytes, by its definition.
 fn sized_form(checked: &Checked, ty: TypeId) -> Next
-    ensures { result ≡ sized_form checked.now ty.0 }
+    ensures { result ≡ sized_form checked.now.types ty.0 }
 {
     match shape(checked, ty) {
         None => Next::Stop(StopReason::NoFiniteValue),
@@ -106,7 +106,7 @@ fn sized_form(checked: &Checked, ty: TypeId) -> Next
 
 /// What a value of the type begins with, or why there is none, where its depth is within the limit.
 pub fn next_at(checked: &Checked, ty: TypeId) -> Next
-    ensures { result ≡ next_at checked.now ty.0 }
+    ensures { result ≡ next_at checked.now.types ty.0 }
 {
     match class_of(checked, ty) {
         Class::NoValue => Next::Stop(StopReason::NoFiniteValue),

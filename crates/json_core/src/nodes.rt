@@ -22,7 +22,7 @@ use widths_core::Checked;
 
 /// Is the type an integer of 128 bits?
 fn is_long(checked: &Checked, ty: TypeId) -> bool
-    ensures { result ≡ is_long (shape checked.now ty.0) }
+    ensures { result ≡ is_long (shape checked.now.types ty.0) }
 {
     matches!(
         shape(checked, ty),
@@ -32,14 +32,14 @@ fn is_long(checked: &Checked, ty: TypeId) -> bool
 
 /// Is the type a compact integer of 128 bits?
 fn is_long_compact(checked: &Checked, ty: TypeId) -> bool
-    ensures { result ≡ is_long_target (compact_target_of checked.now ty.0) }
+    ensures { result ≡ is_long_target (compact_target_of checked.now.types ty.0) }
 {
     matches!(checked.compact_target(ty), Some(Target::U128))
 }
 
 /// The arm at a position of a variant.
 fn arm_in(checked: &Checked, ty: TypeId, position: u32) -> Option<&Arm>
-    ensures { option_map (λ a. a.now) result ≡ arm_in (shape checked.now ty.0) position }
+    ensures { option_map (λ a. a.now) result ≡ arm_in (shape checked.now.types ty.0) position }
 {
     match shape(checked, ty) {
         Some(TypeDef::Variant(arms)) => arms.as_slice().get(position as usize),
@@ -72,7 +72,7 @@ fn parts_json(
     ty: TypeId,
     items: Vec<Value>,
 ) -> Result<Value, AllocError>
-    ensures { IfOk result (λ v. view v ≡ parts_json (shape checked.now ty.0) (items_view items.items)) }
+    ensures { IfOk result (λ v. view v ≡ parts_json (shape checked.now.types ty.0) (items_view items.items)) }
 {
     match shape(checked, ty) {
         Some(TypeDef::Composite(fields)) => fields_json(alloc, fields.as_slice(), items),
@@ -95,7 +95,7 @@ fn with_items(
     node: &NodeRef<'_, '_>,
     items: Vec<Value>,
 ) -> Result<Value, AllocError>
-    requires types { checked.now ≡ node.now.types }
+    requires types { checked.now.types ≡ node.now.types }
     requires items { items_view items.items ≡ items_of (map json_seen (children_of node.now)) }
     ensures { IfOk result (λ v. view v ≡ json_seen node.now) }
 {
@@ -121,7 +121,7 @@ fn with_items(
 
 /// A node and all that is below it as JSON. It calls itself for each child, so no deeper than the value's levels.
 fn node_json(alloc: Global, checked: &Checked, node: &NodeRef<'_, '_>) -> Result<Value, AllocError>
-    requires { checked.now ≡ node.now.types }
+    requires { checked.now.types ≡ node.now.types }
     ensures { IfOk result (λ v. view v ≡ json_seen node.now) }
 {
     let mut items = Vec::new(alloc);

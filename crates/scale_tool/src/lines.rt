@@ -102,7 +102,7 @@ fn push_line(
 
 /// The lines of all types, in order of position.
 pub(crate) fn type_lines(alloc: Global, checked: &Checked) -> Result<String, AllocError>
-    ensures { IfOk result (λ lines. string_bytes lines ≡ type_lines checked.now) }
+    ensures { IfOk result (λ lines. string_bytes lines ≡ type_lines checked.now.types) }
 {
     let mut lines = String::new(alloc);
     'types: for (i, info) in checked.registry().types().iter().enumerate() {

@@ -31,7 +31,7 @@ fn registry_of(alloc: Global, metadata: bool, bytes: &[u8]) -> Result<Registry, 
 
 /// The registry with its references checked.
 fn checked(alloc: Global, registry: Registry) -> Result<Checked, RegistryRefusal>
-    ensures ok { IfOk result (λ types. unless_fault (first_fault registry) registry ≡ Some types) }
+    ensures ok { IfOk result (λ types. unless_fault (first_fault registry) registry ≡ Some types.types) }
     ensures err { IfErr result (λ e. status_of_registry e ≡ 1 → unless_fault (first_fault registry) registry ≡ None) }
 {
     match Checked::new(alloc, registry) {
@@ -43,7 +43,7 @@ fn checked(alloc: Global, registry: Registry) -> Result<Checked, RegistryRefusal
 /// The registry that all the bytes hold, checked.
 #[tactic(auto, unfolding(crate::specs::Answer::checked_of))]
 fn checked_registry(alloc: Global, metadata: bool, bytes: &[u8]) -> Result<Checked, RegistryRefusal>
-    ensures ok { IfOk result (λ types. checked_of metadata bytes.now ≡ Some types) }
+    ensures ok { IfOk result (λ types. checked_of metadata bytes.now ≡ Some types.types) }
     ensures err { IfErr result (λ e. status_of_registry e ≡ 1 → checked_of metadata bytes.now ≡ None) }
 {
     let registry = registry_of(alloc, metadata, bytes)?;
@@ -56,7 +56,7 @@ pub(crate) fn read_types<R: Read>(
     metadata: bool,
     source: &mut Source<R>,
 ) -> Result<Checked, Refusal>
-    ensures ok { IfOk result (λ types. IfSome (R.remaining source.old.device) (λ bytes. checked_of metadata bytes ≡ Some types)) }
+    ensures ok { IfOk result (λ types. IfSome (R.remaining source.old.device) (λ bytes. checked_of metadata bytes ≡ Some types.types)) }
     ensures refused { IfErr result (λ e. status_of e ≡ 1 → IfSome (R.remaining source.old.device) (λ bytes. checked_of metadata bytes ≡ None)) }
     ensures device { IfErr result (λ e. status_of e ≡ 3 → e ≡ Refusal.RegistryDevice) }
     ensures told { IsErrOf result Refusal.RegistryDevice → source.new.failed ≡ true }
@@ -72,8 +72,8 @@ pub(crate) fn read_types<R: Read>(
 
 /// The registry, where the position is one of its types.
 fn with_position(checked: Checked, id: u32) -> Result<Checked, Refusal>
-    ensures ok { IfOk result (λ types. with_position id checked ≡ Some types) }
-    ensures err { IfErr result (λ e. (e ≡ Refusal.UnknownType id) × (with_position id checked ≡ None)) }
+    ensures ok { IfOk result (λ types. with_position id checked.types ≡ Some types.types) }
+    ensures err { IfErr result (λ e. (e ≡ Refusal.UnknownType id) × (with_position id checked.types ≡ None)) }
 {
     match checked.class(TypeId(id)) {
         Some(_) => Ok(checked),
@@ -88,8 +88,8 @@ pub(crate) fn read_types_with<R: Read>(
     id: u32,
     source: &mut Source<R>,
 ) -> Result<Checked, Refusal>
-    ensures known { IfOk result (λ types. id < length types) }
-    ensures ok { IfOk result (λ types. IfSome (R.remaining source.old.device) (λ bytes. types_with metadata id bytes ≡ Some types)) }
+    ensures known { IfOk result (λ types. id < length types.types) }
+    ensures ok { IfOk result (λ types. IfSome (R.remaining source.old.device) (λ bytes. types_with metadata id bytes ≡ Some types.types)) }
     ensures refused { IfErr result (λ e. status_of e ≡ 1 → IfSome (R.remaining source.old.device) (λ bytes. types_with metadata id bytes ≡ None)) }
     ensures device { IfErr result (λ e. status_of e ≡ 3 → e ≡ Refusal.RegistryDevice) }
     ensures told { IsErrOf result Refusal.RegistryDevice → source.new.failed ≡ true }

@@ -60,10 +60,10 @@ fn read_raw<'r, V: Read>(
     depth: u16,
     source: &mut Source<V>,
 ) -> Result<Value<'r, Global>, ValueRefusal>
-    requires known { id < length checked.now }
+    requires known { id < length checked.now.types }
     requires depth { depth ≤ 1024 }
-    ensures value { IfSome (V.remaining source.old.device) (λ file. ReadsValue (file_value false id depth checked.now file) result) }
-    ensures tells { IfErr result (λ e. IfSome (V.remaining source.old.device) (λ file. TellsFile false (decoding id depth checked.now) file e)) }
+    ensures value { IfSome (V.remaining source.old.device) (λ file. ReadsValue (file_value false id depth checked.now.types file) result) }
+    ensures tells { IfErr result (λ e. IfSome (V.remaining source.old.device) (λ file. TellsFile false (decoding id depth checked.now.types) file e)) }
     ensures told { IsErrOf result ValueRefusal.Device → source.new.failed ≡ true }
     ensures quiet { IsErrOf result ValueRefusal.Device ⊎ (source.new.failed ≡ source.old.failed) }
 {
@@ -81,10 +81,10 @@ fn value_of<'r>(
     depth: u16,
     bytes: &[u8],
 ) -> Result<Value<'r, Global>, BytesRefusal>
-    requires known { id < length checked.now }
+    requires known { id < length checked.now.types }
     requires depth { depth ≤ 1024 }
-    ensures value { ReadsBytes (value_in id depth checked.now bytes.now) result }
-    ensures tells { IfErr result (TellsBytes (decoding id depth checked.now) bytes.now) }
+    ensures value { ReadsBytes (value_in id depth checked.now.types bytes.now) result }
+    ensures tells { IfErr result (TellsBytes (decoding id depth checked.now.types) bytes.now) }
 {
     match decode_pieces(alloc, checked, TypeId(id), limits(depth), &[bytes]) {
         Ok((value, taken)) => {
@@ -106,10 +106,10 @@ fn read_hex<'r, V: Read>(
     depth: u16,
     source: &mut Source<V>,
 ) -> Result<Value<'r, Global>, ValueRefusal>
-    requires known { id < length checked.now }
+    requires known { id < length checked.now.types }
     requires depth { depth ≤ 1024 }
-    ensures value { IfSome (V.remaining source.old.device) (λ file. ReadsValue (file_value true id depth checked.now file) result) }
-    ensures tells { IfErr result (λ e. IfSome (V.remaining source.old.device) (λ file. TellsFile true (decoding id depth checked.now) file e)) }
+    ensures value { IfSome (V.remaining source.old.device) (λ file. ReadsValue (file_value true id depth checked.now.types file) result) }
+    ensures tells { IfErr result (λ e. IfSome (V.remaining source.old.device) (λ file. TellsFile true (decoding id depth checked.now.types) file e)) }
     ensures told { IsErrOf result ValueRefusal.Device → source.new.failed ≡ true }
     ensures quiet { IsErrOf result ValueRefusal.Device ⊎ (source.new.failed ≡ source.old.failed) }
 {
@@ -136,10 +136,10 @@ pub(crate) fn read_value<'r, V: Read>(
     hex: bool,
     source: &mut Source<V>,
 ) -> Result<Value<'r, Global>, ValueRefusal>
-    requires known { id < length checked.now }
+    requires known { id < length checked.now.types }
     requires depth { depth ≤ 1024 }
-    ensures value { IfSome (V.remaining source.old.device) (λ file. ReadsValue (file_value hex id depth checked.now file) result) }
-    ensures tells { IfErr result (λ e. IfSome (V.remaining source.old.device) (λ file. TellsFile hex (decoding id depth checked.now) file e)) }
+    ensures value { IfSome (V.remaining source.old.device) (λ file. ReadsValue (file_value hex id depth checked.now.types file) result) }
+    ensures tells { IfErr result (λ e. IfSome (V.remaining source.old.device) (λ file. TellsFile hex (decoding id depth checked.now.types) file e)) }
     ensures told { IsErrOf result ValueRefusal.Device → source.new.failed ≡ true }
     ensures quiet { IsErrOf result ValueRefusal.Device ⊎ (source.new.failed ≡ source.old.failed) }
 {

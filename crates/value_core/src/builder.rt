@@ -139,7 +139,7 @@ impl<'r, A: Allocator + Clone> Builder<'r, A> {
         root: TypeId,
         depth: u16,
     ) -> Result<Builder<'r, A>, BuildFault>
-        ensures { Opens (opening_fault checked.now root.0 depth) (record { ty = root.0; walk = start_of checked.now root.0 depth; entries = []; text = None; turns = 0 }) result }
+        ensures { Opens (opening_fault checked.now.types root.0 depth) (record { ty = root.0; walk = start_of checked.now.types root.0 depth; entries = []; text = None; turns = 0 }) result }
     {
         if checked.class(root).is_none() {
             return Err(BuildFault::UnknownType);

@@ -27,16 +27,16 @@ impl<'v, 'r> Model for Children<'v, 'r> {
 
     ghost coded = { Prim.hlevel (codes, tree_code) };
 
-    ghost view = { λ c. all_seen c.checked.now c.pool.now c.nodes.now };
+    ghost view = { λ c. all_seen c.checked.now.types c.pool.now c.nodes.now };
 
-    ghost invariant = { λ c. IsForest c.checked.now c.pool.now c.nodes.now };
+    ghost invariant = { λ c. IsForest c.checked.now.types c.pool.now c.nodes.now };
 }
 
 impl<'v, 'r> Children<'v, 'r> {
     /// The nodes whose subtrees these are, one behind the other.
     pub(crate) fn new(checked: &'r Checked, nodes: &'v [Node], pool: &'v [u8]) -> Children<'v, 'r>
-        requires { IsForest checked.now pool.now nodes.now }
-        ensures { result ≡ all_seen checked.now pool.now nodes.now }
+        requires { IsForest checked.now.types pool.now nodes.now }
+        ensures { result ≡ all_seen checked.now.types pool.now nodes.now }
     {
         Children {
             checked,

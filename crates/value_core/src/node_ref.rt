@@ -28,16 +28,16 @@ impl<'v, 'r> Model for NodeRef<'v, 'r> {
 
     ghost coded = { Prim.hlevel (codes, tree_code) };
 
-    ghost view = { λ n. seen n.checked.now n.pool.now n.nodes.now };
+    ghost view = { λ n. seen n.checked.now.types n.pool.now n.nodes.now };
 
-    ghost invariant = { λ n. IsWhole n.checked.now n.pool.now n.nodes.now };
+    ghost invariant = { λ n. IsWhole n.checked.now.types n.pool.now n.nodes.now };
 }
 
 impl<'v, 'r> NodeRef<'v, 'r> {
     /// The node whose subtree these nodes are.
     pub(crate) fn new(checked: &'r Checked, nodes: &'v [Node], pool: &'v [u8]) -> NodeRef<'v, 'r>
-        requires { IsWhole checked.now pool.now nodes.now }
-        ensures { result ≡ seen checked.now pool.now nodes.now }
+        requires { IsWhole checked.now.types pool.now nodes.now }
+        ensures { result ≡ seen checked.now.types pool.now nodes.now }
     {
         NodeRef {
             checked,

@@ -31,9 +31,9 @@ impl<'r, A: Allocator> Model for Value<'r, A> {
 
     ghost coded = { Prim.hlevel (codes, tree_code) };
 
-    ghost view = { λ v. seen v.checked.now v.pool.items v.nodes.items };
+    ghost view = { λ v. seen v.checked.now.types v.pool.items v.nodes.items };
 
-    ghost invariant = { λ v. IsWhole v.checked.now v.pool.items v.nodes.items × (v.text_len ≡ text_bytes (tree_shown v.pool.items v.nodes.items)) × (v.text_len ≤ length v.pool.items) };
+    ghost invariant = { λ v. IsWhole v.checked.now.types v.pool.items v.nodes.items × (v.text_len ≡ text_bytes (tree_shown v.pool.items v.nodes.items)) × (v.text_len ≤ length v.pool.items) };
 }
 
 impl<'r, A: Allocator> Value<'r, A> {
@@ -44,10 +44,10 @@ impl<'r, A: Allocator> Value<'r, A> {
         pool: Vec<u8, A>,
         text_len: usize,
     ) -> Value<'r, A>
-        requires whole { IsWhole checked.now pool.items nodes.items }
+        requires whole { IsWhole checked.now.types pool.items nodes.items }
         requires texts { text_len ≡ text_bytes (tree_shown pool.items nodes.items) }
         requires fits { text_len ≤ length pool.items }
-        ensures { result ≡ seen checked.now pool.items nodes.items }
+        ensures { result ≡ seen checked.now.types pool.items nodes.items }
     {
         Value {
             checked,
@@ -59,7 +59,7 @@ impl<'r, A: Allocator> Value<'r, A> {
 
     /// The registry whose type it has, lent.
     pub fn checked(&self) -> &'r Checked
-        ensures { result.now ≡ self.now.types }
+        ensures { result.now.types ≡ self.now.types }
     {
         self.checked
     }

@@ -34,7 +34,7 @@ impl<'r, A: Allocator> Model for Walk<'r, A> {
 
     ghost use Rattle.value_core.specs.Frames.{frames_of};
 
-    ghost view = { λ w. record { types = w.checked.now; limit = w.limit; frames = frames_of w.top w.around.items } };
+    ghost view = { λ w. record { types = w.checked.now.types; limit = w.limit; frames = frames_of w.top w.around.items } };
 
     ghost invariant = { λ w. (w.limit ≤ 1024) × (length w.around.items ≤ w.limit + 1) };
 }
@@ -43,7 +43,7 @@ impl<'r, A: Allocator> Walk<'r, A> {
     /// The walk through a value of the root's type, of which nothing is there yet.
     pub(crate) fn new(alloc: A, checked: &'r Checked, root: TypeId, limit: u16) -> Walk<'r, A>
         requires { limit ≤ MAX_DEPTH }
-        ensures { result ≡ start_of checked.now root.0 limit }
+        ensures { result ≡ start_of checked.now.types root.0 limit }
     {
         Walk {
             checked,
@@ -138,7 +138,7 @@ impl<'r, A: Allocator> Walk<'r, A> {
 
     /// The registry that the types are of, lent as long as it is lent to the walk.
     pub(crate) fn checked(&self) -> &'r Checked
-        ensures { result.now ≡ self.now.types }
+        ensures { result.now.types ≡ self.now.types }
     {
         self.checked
     }

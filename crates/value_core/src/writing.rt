@@ -44,7 +44,7 @@ fn byte_width(primitive: Primitive) -> usize
 
 /// The same of a type, and 0 where it is no primitive type.
 fn width_of(checked: &Checked, ty: TypeId) -> usize
-    ensures exact { result ≡ width_of (shape checked.now ty.0) }
+    ensures exact { result ≡ width_of (shape checked.now.types ty.0) }
     ensures bound { result ≤ 16 }
 {
     match shape(checked, ty) {
@@ -55,7 +55,7 @@ fn width_of(checked: &Checked, ty: TypeId) -> usize
 
 /// The index of a variant's arm at a position, where there is one.
 fn index_of(checked: &Checked, ty: TypeId, position: u32) -> Option<u8>
-    ensures { result ≡ index_of (shape checked.now ty.0) position }
+    ensures { result ≡ index_of (shape checked.now.types ty.0) position }
 {
     match shape(checked, ty) {
         Some(TypeDef::Variant(arms)) => {
@@ -68,7 +68,7 @@ fn index_of(checked: &Checked, ty: TypeId, position: u32) -> Option<u8>
 
 /// Is the type a sequence, whose values begin with their length?
 fn is_sequence(checked: &Checked, ty: TypeId) -> bool
-    ensures { result ≡ is_sequence (shape checked.now ty.0) }
+    ensures { result ≡ is_sequence (shape checked.now.types ty.0) }
 {
     matches!(shape(checked, ty), Some(TypeDef::Sequence(_)))
 }
@@ -76,7 +76,7 @@ fn is_sequence(checked: &Checked, ty: TypeId) -> bool
 /// Puts the low bytes of an integer's sixteen, as many as its type has, at the front of the array: how many they are.
 fn put_integer(checked: &Checked, ty: TypeId, bytes: [u8; 16], out: &mut [u8; 17]) -> usize
     ensures bound { result ≤ 17 }
-    ensures bytes { take result out.new ≡ le_bytes (width_of (shape checked.now ty.0)) (from_le_bytes w128 bytes) }
+    ensures bytes { take result out.new ≡ le_bytes (width_of (shape checked.now.types ty.0)) (from_le_bytes w128 bytes) }
     ensures range { from_le_bytes w128 bytes < 2 ^ 128 }
 {
     let width = width_of(checked, ty);
@@ -89,7 +89,7 @@ fn put_integer(checked: &Checked, ty: TypeId, bytes: [u8; 16], out: &mut [u8; 17
 /// many bytes that is.
 fn put_index(checked: &Checked, ty: TypeId, position: u32, out: &mut [u8; 17]) -> usize
     ensures bound { result ≤ 17 }
-    ensures bytes { take result out.new ≡ index_byte (index_of (shape checked.now ty.0) position) }
+    ensures bytes { take result out.new ≡ index_byte (index_of (shape checked.now.types ty.0) position) }
 {
     match index_of(checked, ty, position) {
         Some(index) => {
@@ -103,7 +103,7 @@ fn put_index(checked: &Checked, ty: TypeId, position: u32, out: &mut [u8; 17]) -
 /// Puts the length of a sequence, and nothing for an array, at the front of the array: how many bytes that is.
 fn put_length(checked: &Checked, ty: TypeId, length: u32, out: &mut [u8; 17]) -> usize
     ensures bound { result ≤ 17 }
-    ensures bytes { take result out.new ≡ length_bytes (shape checked.now ty.0) length }
+    ensures bytes { take result out.new ≡ length_bytes (shape checked.now.types ty.0) length }
 {
     if is_sequence(checked, ty) {
         put_compact(u128::from(length), out)
@@ -115,7 +115,7 @@ fn put_length(checked: &Checked, ty: TypeId, length: u32, out: &mut [u8; 17]) ->
 /// Puts the bytes of a node that do not lie in the pool at the front of the array: how many they are.
 fn put_node(checked: &Checked, node: &Node, out: &mut [u8; 17]) -> usize
     ensures bound { result ≤ 17 }
-    ensures bytes { Starts (take result out.new) (shape checked.now node.now.ty.0) node.now.content }
+    ensures bytes { Starts (take result out.new) (shape checked.now.types node.now.ty.0) node.now.content }
 {
     match node.content {
         Content::Empty | Content::Fields { .. } | Content::Wide { .. } => 0,
@@ -188,13 +188,13 @@ fn send_node<W: Write>(
     sink: &mut Sink<W>,
 ) -> Result<u64, WriteFault>
     requires { IsInPool pool.now node.now.content }
-    ensures count { IfOk result (λ n. n ≡ length (node_bytes checked.now pool.now node.now)) }
-    ensures bound { length (node_bytes checked.now pool.now node.now) ≤ 32 + head_text_bytes (head_shown pool.now node.now.content) }
-    ensures ok { OnOk result (Appends (W.contents sink.old.device) (W.contents sink.new.device) (node_bytes checked.now pool.now node.now)) }
-    ensures part { IfErr result (λ f. f.written ≤ length (node_bytes checked.now pool.now node.now)) }
-    ensures err { IfErr result (λ f. Appends (W.contents sink.old.device) (W.contents sink.new.device) (take f.written (node_bytes checked.now pool.now node.now))) }
+    ensures count { IfOk result (λ n. n ≡ length (node_bytes checked.now.types pool.now node.now)) }
+    ensures bound { length (node_bytes checked.now.types pool.now node.now) ≤ 32 + head_text_bytes (head_shown pool.now node.now.content) }
+    ensures ok { OnOk result (Appends (W.contents sink.old.device) (W.contents sink.new.device) (node_bytes checked.now.types pool.now node.now)) }
+    ensures part { IfErr result (λ f. f.written ≤ length (node_bytes checked.now.types pool.now node.now)) }
+    ensures err { IfErr result (λ f. Appends (W.contents sink.old.device) (W.contents sink.new.device) (take f.written (node_bytes checked.now.types pool.now node.now))) }
     ensures failed { sink.new.failed ≡ sink.old.failed || not (is_ok result) }
-    ensures none { length (node_bytes checked.now pool.now node.now) ≡ 0 → (sink.new ≡ sink.old) × (is_ok result ≡ true) }
+    ensures none { length (node_bytes checked.now.types pool.now node.now) ≡ 0 → (sink.new ≡ sink.old) × (is_ok result ≡ true) }
 {
     let mut front = [0; 17];
     let len = put_node(checked, node, &mut front);

@@ -7,6 +7,7 @@ pub mod Classes
 pub mod Layouts
 pub mod Reach
 pub mod ClassTables
+pub mod View
 pub mod Checks
 pub mod Tables
 pub mod Lent

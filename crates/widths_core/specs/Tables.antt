@@ -1,6 +1,5 @@
 -- What is kept beside a registry that was checked.
-use Rattle.std.specs.Prelude.{◌≡◌, List}
-use Rattle.registry_core.specs.declared.type_info.TypeInfo.{TypeInfo}
+use Rattle.std.specs.Prelude.{◌≡◌}
 use Rattle.widths_core.specs.declared.checked.Checked.TheInside.{Inside}
 use Rattle.widths_core.specs.References.{IsChecked}
 use Rattle.widths_core.specs.Widths.{widest}
@@ -13,7 +12,3 @@ pub record AreTables (c : Inside) : Type 0 where
   pub table : IsTable c.registry c.members.items c.rows c.steps.items
   pub widest_is : c.widest ≡ widest c.registry
   pub looks : HasFewLooks c.registry c.looks
-
--- what is kept beside this registry was found with few looks
-abbrev pub LooksAreFew : List TypeInfo → Type 0
-LooksAreFew r = (c : Inside) → AreTables c → c.registry ≡ r → HasFewLooks r c.looks

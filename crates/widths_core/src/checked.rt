@@ -2,6 +2,7 @@
 
 ghost use Rattle.std.specs.Prelude.{◌≡◌, ◌<◌, length, IfOk, IfErr, SomeIff, option_map, slice_get};
 ghost use Rattle.registry_core.specs.Fits.{FitsRegistry};
+ghost use Rattle.widths_core.specs.Analysed.{HasFewLooks};
 ghost use Rattle.widths_core.specs.Arms.{arm_at};
 ghost use Rattle.widths_core.specs.Checks.{CheckAnswers, Explains};
 ghost use Rattle.widths_core.specs.Classes.{class_of};
@@ -44,22 +45,18 @@ pub struct Checked {
 }
 
 impl Model for Checked {
-    ghost use Rattle.std.specs.Prelude.{List};
-    ghost use Rattle.registry_core.specs.declared.type_info.TypeInfo.{TypeInfo};
+    ghost use Rattle.widths_core.specs.View.{CheckedView};
 
-    ghost Value = { List TypeInfo };
+    ghost Value = { CheckedView };
 
     ghost use Rattle.widths_core.specs.Tables.{AreTables};
 
-    ghost view = { λ c. c.registry };
+    ghost view = { λ c. record { types = c.registry; looks = c.looks } };
 
     ghost invariant = { AreTables };
 }
 
 impl Checked {
-    ghost use Rattle.std.specs.Prelude.{OnOk};
-    ghost use Rattle.widths_core.specs.Tables.{LooksAreFew};
-
     /// Checks the references of a registry, and finds the class of each type and what a compact over it stands for.
     ///
     /// One pass over the types counts references and arms, one reads them, and one goes over the lists of references to
@@ -79,7 +76,7 @@ impl Checked {
         // The reference that is told is the first that is no position; memory is told only where there is none.
         ensures explained { IfErr result (λ refused. Explains registry refused.0) }
         // Where it is accepted, each type was looked at twice at most, and each reference twice at most.
-        ensures looked { OnOk result (LooksAreFew registry) }
+        ensures looked { IfOk result (λ c. HasFewLooks registry c.looks) }
     {
         match analyse(alloc, registry.types()) {
             Ok(
@@ -104,7 +101,7 @@ impl Checked {
 
     /// How many bytes the values of a type take, where the id is a position (SCALE codec, "Types"): one look-up.
     pub fn class(&self, id: TypeId) -> Option<Class>
-        ensures { SomeIff result (id.0 < length self.now) (class_of self.now id.0) }
+        ensures { SomeIff result (id.0 < length self.now.types) (class_of self.now.types id.0) }
     {
         Some(self.step(id)?.class())
     }
@@ -115,28 +112,28 @@ impl Checked {
     /// something else than an unsigned integer of at most 128 bits, nothing, or a wrapper of one of these: composites
     /// of exactly one field, and tuples of exactly one member, any number deep.
     pub fn compact_target(&self, id: TypeId) -> Option<Target>
-        ensures { result ≡ compact_target_of self.now id.0 }
+        ensures { result ≡ compact_target_of self.now.types id.0 }
     {
         self.step(id)?.compact_target()
     }
 
     /// What a value of a type is read as, where the id is a position (SCALE codec, "Types"): one look-up.
     pub fn step(&self, id: TypeId) -> Option<Step>
-        ensures { IsStepAt self.now id.0 result }
+        ensures { IsStepAt self.now.types id.0 result }
     {
         step_of(self.steps.as_slice(), id.0)
     }
 
     /// The reference with this number, in the order of the registry's bytes from 0 on: one look-up.
     pub fn member(&self, at: u32) -> Option<u32>
-        ensures { result ≡ slice_get (references_of self.now) at }
+        ensures { result ≡ slice_get (references_of self.now.types) at }
     {
         self.members.get(at as usize).copied()
     }
 
     /// All references, in the order of the registry's bytes.
     pub fn members(&self) -> &[u32]
-        ensures { result.now ≡ references_of self.now }
+        ensures { result.now ≡ references_of self.now.types }
     {
         self.members.as_slice()
     }
@@ -145,7 +142,7 @@ impl Checked {
     /// among the arms, and where the types of its fields are among the references. Two look-ups where the indexes of the
     /// variant have no gap, and else at most eight more.
     pub fn arm_step(&self, id: TypeId, index: u8) -> Option<ArmStep>
-        ensures { IsArm (references_of self.now) result (arm_at self.now id.0 index) }
+        ensures { IsArm (references_of self.now.types) result (arm_at self.now.types id.0 index) }
     {
         let Parts { from, count } = step_of(self.steps.as_slice(), id.0)?.row()?;
         self.rows.find(from, count, index)
@@ -154,7 +151,7 @@ impl Checked {
     /// The first arm of the index, with its position among the arms, where the type is a variant that has one
     /// (scale-info, `TypeDefVariant`): two look-ups more than `arm_step` makes.
     pub fn arm(&self, id: TypeId, index: u8) -> Option<(u32, &Arm)>
-        ensures { option_map (λ x. (x.0, x.1.now)) result ≡ arm_at self.now id.0 index }
+        ensures { option_map (λ x. (x.0, x.1.now)) result ≡ arm_at self.now.types id.0 index }
     {
         let position = self.arm_step(id, index)?.position;
         match self.shape(id)? {
@@ -166,23 +163,23 @@ impl Checked {
     /// The greatest number of fields in one composite, of members in one tuple, or of fields in one arm, also in one
     /// that is shadowed; 0 where there is none.
     pub fn widest(&self) -> u32
-        ensures { result ≡ widest self.now }
+        ensures { result ≡ widest self.now.types }
     {
         self.widest
     }
 
     /// The registry that was checked, lent.
     pub fn registry(&self) -> &Registry
-        ensures same { result.now ≡ self.now }
-        ensures checked { IsChecked self.now }
+        ensures same { result.now ≡ self.now.types }
+        ensures checked { IsChecked self.now.types }
     {
         &self.registry
     }
 
     /// What a type is made of, where the id is a position.
     fn shape(&self, id: TypeId) -> Option<&TypeDef>
-        ensures known { option_map (λ d. d.now) result ≡ shape self.now id.0 }
-        ensures fits { FitsRegistry self.now }
+        ensures known { option_map (λ d. d.now) result ≡ shape self.now.types id.0 }
+        ensures fits { FitsRegistry self.now.types }
     {
         let info = self.registry.types().get(id.0 as usize)?;
         Some(&info.shape)

@@ -9,14 +9,14 @@ pub returns-in-Err-clause-err : goal.returns-in-Err-clause-err
 returns-in-Err-clause-err g c =
     let front = take c.put_node-len.result c.put_node-len.new.out in
     let long : length front ≡ c.put_node-len.result = omega (arith, length-take c.put_node-len.result c.put_node-len.new.out, c.put_node-len.array_long, c.put_node-len.ensures.bound) in
-    let whole : front ++ c.pooled-back.result.now ≡ node_bytes c.args.checked.now c.args.pool.now c.args.node.now = ap (λ x. front ++ x) c.pooled-back.ensures ∙ c.put_node-len.ensures.bytes c.args.pool.now c.requires in
+    let whole : front ++ c.pooled-back.result.now ≡ node_bytes c.args.checked.now.types c.args.pool.now c.args.node.now = ap (λ x. front ++ x) c.pooled-back.ensures ∙ c.put_node-len.ensures.bytes c.args.pool.now c.requires in
     sent_more _ _ _ front c.pooled-back.result.now _ _ c.in-Err.fault.written long whole c.in_ok-send.ensures.ok c.in-Err.ensures.err
 
 pub returns-in-Err-clause-part : goal.returns-in-Err-clause-part
 returns-in-Err-clause-part g c =
     let front = take c.put_node-len.result c.put_node-len.new.out in
     let long : length front ≡ c.put_node-len.result = omega (arith, length-take c.put_node-len.result c.put_node-len.new.out, c.put_node-len.array_long, c.put_node-len.ensures.bound) in
-    let whole : front ++ c.pooled-back.result.now ≡ node_bytes c.args.checked.now c.args.pool.now c.args.node.now = ap (λ x. front ++ x) c.pooled-back.ensures ∙ c.put_node-len.ensures.bytes c.args.pool.now c.requires in
+    let whole : front ++ c.pooled-back.result.now ≡ node_bytes c.args.checked.now.types c.args.pool.now c.args.node.now = ap (λ x. front ++ x) c.pooled-back.ensures ∙ c.put_node-len.ensures.bytes c.args.pool.now c.requires in
     let part : c.in-Err.fault.written ≤ length c.pooled-back.result.now = c.in-Err.ensures.part in
     omega (arith, long, part, long_whole front c.pooled-back.result.now _ whole)
 
@@ -24,13 +24,13 @@ pub returns-in-Ok-clause-count : goal.returns-in-Ok-clause-count
 returns-in-Ok-clause-count g c =
     let front = take c.put_node-len.result c.put_node-len.new.out in
     let long : length front ≡ c.put_node-len.result = omega (arith, length-take c.put_node-len.result c.put_node-len.new.out, c.put_node-len.array_long, c.put_node-len.ensures.bound) in
-    let whole : front ++ c.pooled-back.result.now ≡ node_bytes c.args.checked.now c.args.pool.now c.args.node.now = ap (λ x. front ++ x) c.pooled-back.ensures ∙ c.put_node-len.ensures.bytes c.args.pool.now c.requires in
+    let whole : front ++ c.pooled-back.result.now ≡ node_bytes c.args.checked.now.types c.args.pool.now c.args.node.now = ap (λ x. front ++ x) c.pooled-back.ensures ∙ c.put_node-len.ensures.bytes c.args.pool.now c.requires in
     omega (arith, long, long_whole front c.pooled-back.result.now _ whole)
 
 pub returns-in-Ok-clause-ok : goal.returns-in-Ok-clause-ok
 returns-in-Ok-clause-ok g c =
     let front = take c.put_node-len.result c.put_node-len.new.out in
-    let whole : front ++ c.pooled-back.result.now ≡ node_bytes c.args.checked.now c.args.pool.now c.args.node.now = ap (λ x. front ++ x) c.pooled-back.ensures ∙ c.put_node-len.ensures.bytes c.args.pool.now c.requires in
+    let whole : front ++ c.pooled-back.result.now ≡ node_bytes c.args.checked.now.types c.args.pool.now c.args.node.now = ap (λ x. front ++ x) c.pooled-back.ensures ∙ c.put_node-len.ensures.bytes c.args.pool.now c.requires in
     sent_all _ _ _ front c.pooled-back.result.now _ whole c.in_ok-send.ensures.ok c.in-Ok.ensures.ok
 
 pub returns-in_err-send-clause-part : goal.returns-in_err-send-clause-part

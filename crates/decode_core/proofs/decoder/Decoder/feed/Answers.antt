@@ -13,7 +13,7 @@ use Rattle.decode_core.proofs.decoder.Decoder.feed.Goals as goal
 pub returns-in-Err-clause-answers : goal.returns-in-Err-clause-answers
 returns-in-Err-clause-answers g c = λ b led.
     let d = c.self.inside in
-    let j : Job = record { registry = d.checked.now; ty = d.root.0; depth = d.limits.depth; bytes = d.limits.bytes } in
+    let j : Job = record { registry = d.checked.now.types; ty = d.root.0; depth = d.limits.depth; bytes = d.limits.bytes } in
     let before : RunLed j b d.taken d.run = subst (λ (x : Decoding). Led x b) (sym c.self.view_is) led in
     let stays = ended_stays j b c.args.piece.now c.in-Err.fault d.taken (subst (RunLed j b d.taken) c.in-Err.is before) in
     ((refl, stays), stays)
@@ -22,7 +22,7 @@ returns-in-Err-clause-answers g c = λ b led.
 pub invariant_of-self-in-Done : goal.invariant_of-self-in-Done
 invariant_of-self-in-Done g c =
     let d = c.self.inside in
-    let j : Job = record { registry = d.checked.now; ty = d.root.0; depth = d.limits.depth; bytes = d.limits.bytes } in
+    let j : Job = record { registry = d.checked.now.types; ty = d.root.0; depth = d.limits.depth; bytes = d.limits.bytes } in
     let before = subst (RunLed j c.self.invariant.bytes d.taken) c.in-Ok.is c.self.invariant.led in
     let counted = subst (λ (r : Result Running DecodeFault). RunCounted j d.taken r (d.turns.so_far + closing_turns r d.closings.so_far) d.calls.so_far) c.in-Ok.is c.self.invariant.counted in
     let told = c.in-Done.ensures.answers j c.self.invariant.bytes refl before in
@@ -33,7 +33,7 @@ invariant_of-self-in-Done g c =
 pub returns-in-Ended-clause-answers : goal.returns-in-Ended-clause-answers
 returns-in-Ended-clause-answers g c = λ b led.
     let d = c.self.inside in
-    let j : Job = record { registry = d.checked.now; ty = d.root.0; depth = d.limits.depth; bytes = d.limits.bytes } in
+    let j : Job = record { registry = d.checked.now.types; ty = d.root.0; depth = d.limits.depth; bytes = d.limits.bytes } in
     let before : RunLed j b d.taken d.run = subst (λ (x : Decoding). Led x b) (sym c.self.view_is) led in
     let ended = c.in-Ended.ensures.answers j b refl (subst (RunLed j b d.taken) c.in-Ok.is before) in
     ((c.replace.ensures.after, ended), subst (RunLed j (b ++ c.args.piece.now) c.in-Ended.taken) (sym c.replace.ensures.after) ended)
@@ -42,7 +42,7 @@ returns-in-Ended-clause-answers g c = λ b led.
 pub returns-in-More-clause-held : goal.returns-in-More-clause-held
 returns-in-More-clause-held g c = λ b led.
     let d = c.self.inside in
-    let j : Job = record { registry = d.checked.now; ty = d.root.0; depth = d.limits.depth; bytes = d.limits.bytes } in
+    let j : Job = record { registry = d.checked.now.types; ty = d.root.0; depth = d.limits.depth; bytes = d.limits.bytes } in
     let before : RunLed j b d.taken d.run = subst (λ (x : Decoding). Led x b) (sym c.self.view_is) led in
     let told = c.in-More.ensures.answers j b refl (subst (RunLed j b d.taken) c.in-Ok.is before) in
     (c.feed_run-fed.new.run, refl, told.2)
@@ -51,7 +51,7 @@ returns-in-More-clause-held g c = λ b led.
 pub returns-in-More-clause-small : goal.returns-in-More-clause-small
 returns-in-More-clause-small g c =
     let d = c.self.inside in
-    let j : Job = record { registry = d.checked.now; ty = d.root.0; depth = d.limits.depth; bytes = d.limits.bytes } in
+    let j : Job = record { registry = d.checked.now.types; ty = d.root.0; depth = d.limits.depth; bytes = d.limits.bytes } in
     let before = subst (RunLed j c.self.invariant.bytes d.taken) c.in-Ok.is c.self.invariant.led in
     let counted = subst (λ (r : Result Running DecodeFault). RunCounted j d.taken r (d.turns.so_far + closing_turns r d.closings.so_far) d.calls.so_far) c.in-Ok.is c.self.invariant.counted in
     let told = c.in-More.ensures.answers j c.self.invariant.bytes refl before in
@@ -62,7 +62,7 @@ returns-in-More-clause-small g c =
 pub returns-in-More-clause-answers : goal.returns-in-More-clause-answers
 returns-in-More-clause-answers g c = λ b led.
     let d = c.self.inside in
-    let j : Job = record { registry = d.checked.now; ty = d.root.0; depth = d.limits.depth; bytes = d.limits.bytes } in
+    let j : Job = record { registry = d.checked.now.types; ty = d.root.0; depth = d.limits.depth; bytes = d.limits.bytes } in
     let before : RunLed j b d.taken d.run = subst (λ (x : Decoding). Led x b) (sym c.self.view_is) led in
     let told = c.in-More.ensures.answers j b refl (subst (RunLed j b d.taken) c.in-Ok.is before) in
     (told.1, inl told.0)
@@ -71,7 +71,7 @@ returns-in-More-clause-answers g c = λ b led.
 pub returns-in-Done-clause-small : goal.returns-in-Done-clause-small
 returns-in-Done-clause-small g c =
     let d = c.self.inside in
-    let j : Job = record { registry = d.checked.now; ty = d.root.0; depth = d.limits.depth; bytes = d.limits.bytes } in
+    let j : Job = record { registry = d.checked.now.types; ty = d.root.0; depth = d.limits.depth; bytes = d.limits.bytes } in
     let before = subst (RunLed j c.self.invariant.bytes d.taken) c.in-Ok.is c.self.invariant.led in
     let counted = subst (λ (r : Result Running DecodeFault). RunCounted j d.taken r (d.turns.so_far + closing_turns r d.closings.so_far) d.calls.so_far) c.in-Ok.is c.self.invariant.counted in
     let told = c.in-Done.ensures.answers j c.self.invariant.bytes refl before in
@@ -82,7 +82,7 @@ returns-in-Done-clause-small g c =
 pub returns-in-Done-clause-small_at_end : goal.returns-in-Done-clause-small_at_end
 returns-in-Done-clause-small_at_end g c =
     let d = c.self.inside in
-    let j : Job = record { registry = d.checked.now; ty = d.root.0; depth = d.limits.depth; bytes = d.limits.bytes } in
+    let j : Job = record { registry = d.checked.now.types; ty = d.root.0; depth = d.limits.depth; bytes = d.limits.bytes } in
     let told = c.in-Done.ensures.answers j c.self.invariant.bytes refl (subst (RunLed j c.self.invariant.bytes d.taken) c.in-Ok.is c.self.invariant.led) in
     (done_small j (c.self.invariant.bytes ++ c.args.piece.now) (d.taken + c.in-Done.used) c.feed_run-fed.new.run told).0
 
@@ -90,7 +90,7 @@ returns-in-Done-clause-small_at_end g c =
 pub returns-in-Done-clause-answers : goal.returns-in-Done-clause-answers
 returns-in-Done-clause-answers g c = λ b led.
     let d = c.self.inside in
-    let j : Job = record { registry = d.checked.now; ty = d.root.0; depth = d.limits.depth; bytes = d.limits.bytes } in
+    let j : Job = record { registry = d.checked.now.types; ty = d.root.0; depth = d.limits.depth; bytes = d.limits.bytes } in
     let before : RunLed j b d.taken d.run = subst (λ (x : Decoding). Led x b) (sym c.self.view_is) led in
     let told = c.in-Done.ensures.answers j b refl (subst (RunLed j b d.taken) c.in-Ok.is before) in
     ((c.feed_run-fed.new.run, refl, told.outcome, ap (λ (x : Decoding). x.taken + c.in-Done.used) c.self.view_is), inr told)
@@ -99,7 +99,7 @@ returns-in-Done-clause-answers g c = λ b led.
 pub invariant_of-self-in-More : goal.invariant_of-self-in-More
 invariant_of-self-in-More g c =
     let d = c.self.inside in
-    let j : Job = record { registry = d.checked.now; ty = d.root.0; depth = d.limits.depth; bytes = d.limits.bytes } in
+    let j : Job = record { registry = d.checked.now.types; ty = d.root.0; depth = d.limits.depth; bytes = d.limits.bytes } in
     let before = subst (RunLed j c.self.invariant.bytes d.taken) c.in-Ok.is c.self.invariant.led in
     let counted = subst (λ (r : Result Running DecodeFault). RunCounted j d.taken r (d.turns.so_far + closing_turns r d.closings.so_far) d.calls.so_far) c.in-Ok.is c.self.invariant.counted in
     let told = c.in-More.ensures.answers j c.self.invariant.bytes refl before in
@@ -110,7 +110,7 @@ invariant_of-self-in-More g c =
 pub invariant_of-self-in-Ended : goal.invariant_of-self-in-Ended
 invariant_of-self-in-Ended g c =
     let d = c.self.inside in
-    let j : Job = record { registry = d.checked.now; ty = d.root.0; depth = d.limits.depth; bytes = d.limits.bytes } in
+    let j : Job = record { registry = d.checked.now.types; ty = d.root.0; depth = d.limits.depth; bytes = d.limits.bytes } in
     let before = subst (RunLed j c.self.invariant.bytes d.taken) c.in-Ok.is c.self.invariant.led in
     let counted = subst (λ (r : Result Running DecodeFault). RunCounted j d.taken r (d.turns.so_far + closing_turns r d.closings.so_far) d.calls.so_far) c.in-Ok.is c.self.invariant.counted in
     let told = c.in-Ended.ensures.answers j c.self.invariant.bytes refl before in
@@ -127,7 +127,7 @@ invariant_of-self-in-Ended g c =
 pub returns-in-Ended-clause-small : goal.returns-in-Ended-clause-small
 returns-in-Ended-clause-small g c =
     let d = c.self.inside in
-    let j : Job = record { registry = d.checked.now; ty = d.root.0; depth = d.limits.depth; bytes = d.limits.bytes } in
+    let j : Job = record { registry = d.checked.now.types; ty = d.root.0; depth = d.limits.depth; bytes = d.limits.bytes } in
     let before = subst (RunLed j c.self.invariant.bytes d.taken) c.in-Ok.is c.self.invariant.led in
     let counted = subst (λ (r : Result Running DecodeFault). RunCounted j d.taken r (d.turns.so_far + closing_turns r d.closings.so_far) d.calls.so_far) c.in-Ok.is c.self.invariant.counted in
     let told = c.in-Ended.ensures.answers j c.self.invariant.bytes refl before in
@@ -140,7 +140,7 @@ returns-in-Ended-clause-small g c =
 pub returns-in-More-clause-counted : goal.returns-in-More-clause-counted
 returns-in-More-clause-counted g c =
     let d = c.self.inside in
-    let j : Job = record { registry = d.checked.now; ty = d.root.0; depth = d.limits.depth; bytes = d.limits.bytes } in
+    let j : Job = record { registry = d.checked.now.types; ty = d.root.0; depth = d.limits.depth; bytes = d.limits.bytes } in
     let before = subst (RunLed j c.self.invariant.bytes d.taken) c.in-Ok.is c.self.invariant.led in
     let counted = subst (λ (r : Result Running DecodeFault). RunCounted j d.taken r (d.turns.so_far + closing_turns r d.closings.so_far) d.calls.so_far) c.in-Ok.is c.self.invariant.counted in
     let counts = c.in-More.ensures.counts j c.self.invariant.bytes d.calls.so_far refl before (omega (arith, counted.0), omega (arith, counted.1)) in
@@ -150,7 +150,7 @@ returns-in-More-clause-counted g c =
 pub returns-in-Done-clause-counted : goal.returns-in-Done-clause-counted
 returns-in-Done-clause-counted g c =
     let d = c.self.inside in
-    let j : Job = record { registry = d.checked.now; ty = d.root.0; depth = d.limits.depth; bytes = d.limits.bytes } in
+    let j : Job = record { registry = d.checked.now.types; ty = d.root.0; depth = d.limits.depth; bytes = d.limits.bytes } in
     let before = subst (RunLed j c.self.invariant.bytes d.taken) c.in-Ok.is c.self.invariant.led in
     let counted = subst (λ (r : Result Running DecodeFault). RunCounted j d.taken r (d.turns.so_far + closing_turns r d.closings.so_far) d.calls.so_far) c.in-Ok.is c.self.invariant.counted in
     let counts = c.in-Done.ensures.counts j c.self.invariant.bytes d.calls.so_far refl before (omega (arith, counted.0), omega (arith, counted.1)) in
@@ -160,7 +160,7 @@ returns-in-Done-clause-counted g c =
 pub returns-in-Done-clause-value_counts : goal.returns-in-Done-clause-value_counts
 returns-in-Done-clause-value_counts g c =
     let d = c.self.inside in
-    let j : Job = record { registry = d.checked.now; ty = d.root.0; depth = d.limits.depth; bytes = d.limits.bytes } in
+    let j : Job = record { registry = d.checked.now.types; ty = d.root.0; depth = d.limits.depth; bytes = d.limits.bytes } in
     let told = c.in-Done.ensures.answers j c.self.invariant.bytes refl (subst (RunLed j c.self.invariant.bytes d.taken) c.in-Ok.is c.self.invariant.led) in
     let counts = done_counts j (c.self.invariant.bytes ++ c.args.piece.now) (d.taken + c.in-Done.used) c.feed_run-fed.new.run told in
     (c.feed_run-fed.new.run, refl, counts.0, counts.1)

@@ -9,7 +9,7 @@ use Rattle.widths_core.proofs.checked.Checked.arm_step.Goals as goal
 pub returns-in_err-from : goal.returns-in_err-from
 returns-in_err-from c =
     let own = c.self.inside in
-    let same : c.args.self.now ≡ own.registry = search rules in
+    let same : c.args.self.now.types ≡ own.registry = search rules in
     let s = c.in_ok-step_of.field-0 in
     let got : slice_get own.steps.items c.args.id.0 ≡ Some s = search rules in
     let none : c.row.result ≡ None = search rules in
@@ -33,7 +33,7 @@ find-requires-clause-rises c = (row c).2.rises
 pub returns : goal.returns
 returns c =
     let own = c.self.inside in
-    let same : c.args.self.now ≡ own.registry = search rules in
+    let same : c.args.self.now.types ≡ own.registry = search rules in
     let s = c.in_ok-step_of.field-0 in
     let got : slice_get own.steps.items c.args.id.0 ≡ Some s = search rules in
     let some : c.row.result ≡ Some c.in_ok-from.field-0 = search rules in

@@ -6,5 +6,5 @@ pub returns : goal.returns
 returns c =
     let s = c.in_ok-step.field-0 in
     let is : c.step.result ≡ Some s = search rules in
-    let r = class_read c.args.self.now c.args.id.0 c.step.result s c.step.ensures is in
+    let r = class_read c.args.self.now.types c.args.id.0 c.step.result s c.step.ensures is in
     (r.0, c.class.ensures ∙ r.1)
