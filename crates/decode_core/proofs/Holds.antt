@@ -3,7 +3,7 @@ use Rattle.std.proofs.Common.{◌≡◌, ℕ, suc, ◌+◌, ◌*◌, ◌≤◌, 
 use Rattle.std.proofs.lemmas.List.{length-map}
 use Rattle.std.proofs.Math.Nat.{mul-le-mul_right}
 use Rattle.registry_core.specs.declared.type_info.TypeInfo.{TypeInfo}
-use Rattle.widths_core.specs.Widths.{widest}
+use Rattle.graph_core.specs.Widths.{widest}
 use Rattle.grammar_core.specs.Preorder.{Head, all_preorder}
 use Rattle.decode_core.proofs.Nodes.{length-preorder, length-all_preorder}
 use Rattle.decode_core.specs.Bound.{node_bound}

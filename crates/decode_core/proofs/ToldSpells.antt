@@ -14,7 +14,7 @@ use Rattle.registry_core.specs.declared.type_info.TypeInfo.{TypeInfo}
 use Rattle.widths_core.specs.Arms.{arm_of}
 use Rattle.widths_core.specs.Layouts.{Layout, layout}
 use Rattle.widths_core.specs.Layouts as layout
-use Rattle.widths_core.specs.Types.{shape}
+use Rattle.graph_core.specs.Types.{shape}
 use Rattle.grammar_core.specs.Grammar.{Val}
 use Rattle.grammar_core.specs.Parts.{Part, each, times}
 use Rattle.grammar_core.specs.Preorder as head

@@ -13,7 +13,7 @@ use Rattle.grammar_core.specs.declared.limits.Limits.{Limits}
 use Rattle.decode_core.specs.declared.fault.OpenFault.{OpenFault}
 use Rattle.decode_core.specs.declared.fault.OpenFault.TheVariants as opening
 use Rattle.widths_core.specs.Layouts.{layout}
-use Rattle.widths_core.specs.Widths.{widest}
+use Rattle.graph_core.specs.Widths.{widest}
 use Rattle.grammar_core.specs.Begun.{Begun, IsBegunPreorder, begun_nodes, begun_text_bytes}
 use Rattle.decode_core.specs.Bound.{node_bound, value_bound}
 use Rattle.decode_core.specs.Machine.{remain, start}

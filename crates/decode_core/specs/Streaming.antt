@@ -2,7 +2,7 @@
 use Rattle.std.specs.Prelude.{◌≡◌, ℕ, ◌<◌, ◌≤◌, ◌⊎◌, Bool, true, false, List, [], ◌++◌, length, Result, Ok, Err, Option, Some, None, IfSome}
 use Rattle.std.specs.Io.KnownBytes.{Consumes, IsAtEnd, Keeps}
 use Rattle.registry_core.specs.declared.type_info.TypeInfo.{TypeInfo}
-use Rattle.widths_core.specs.Widths.{widest}
+use Rattle.graph_core.specs.Widths.{widest}
 use Rattle.grammar_core.specs.Tree.{Tree, nodes, text_bytes}
 use Rattle.value_core.specs.Shown.{Seen}
 use Rattle.grammar_core.specs.declared.limits.Limits.{Limits}

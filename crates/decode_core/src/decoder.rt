@@ -7,7 +7,7 @@ ghost use Rattle.decode_core.specs.Running.{Running};
 ghost use Rattle.decode_core.specs.Outcome.{Job};
 ghost use Rattle.decode_core.specs.Bound.{node_bound};
 ghost use Rattle.decode_core.specs.Decoding.{Answers, CountsValue, Decoding, FedCounts, FedTakes, Finishes, HasCounted, HasValue, HoldsAt, IsKept, IsLedTo, IsSmall, IsSmallAtEnd, IsSmallValue, Led, LoopCounted, Opens, RunAnswers, RunLed, closing_turns, first_of_all, node_count, opening_fault, text_bytes};
-ghost use Rattle.widths_core.specs.Widths.{widest};
+ghost use Rattle.graph_core.specs.Widths.{widest};
 
 use crate::fault::{DecodeFault, DecodeReason, OpenFault};
 use crate::run::Run;

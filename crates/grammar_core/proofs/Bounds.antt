@@ -3,8 +3,8 @@ use Rattle.std.proofs.Common.{◌≡◌, ℕ, zero, suc, ◌+◌, ◌*◌, ◌�
 use Rattle.std.proofs.Math.Nat.{mul-add, add-mul, mul-le-mul_right}
 use Rattle.registry_core.specs.declared.type_info.TypeInfo.{TypeInfo}
 use Rattle.widths_core.specs.declared.class.Class.TheVariants as class
-use Rattle.widths_core.specs.Types.{field_types}
-use Rattle.widths_core.specs.Widths.{widest}
+use Rattle.graph_core.specs.Types.{field_types}
+use Rattle.graph_core.specs.Widths.{widest}
 use Rattle.widths_core.specs.Classes.{class_of}
 use Rattle.widths_core.specs.Layouts.{Layout, layout}
 use Rattle.widths_core.specs.Layouts as layout

@@ -16,9 +16,9 @@ use Rattle.registry_core.specs.declared.definition.TypeDef.{TypeDef}
 use Rattle.registry_core.specs.declared.definition.TypeDef.TheVariants as Def
 use Rattle.registry_core.specs.declared.type_info.TypeInfo.{TypeInfo}
 use Rattle.registry_core.specs.Fits.{FitsType, FitsArm, FitsDefinition}
-use Rattle.widths_core.specs.Types.{shape, ids, field_types}
+use Rattle.graph_core.specs.Types.{shape, ids, field_types}
 use Rattle.widths_core.specs.Arms.{arm_from, live_arms}
-use Rattle.widths_core.specs.References.{references}
+use Rattle.graph_core.specs.References.{references}
 use Rattle.widths_core.specs.Targets.{target_of}
 use Rattle.widths_core.specs.Reach.{IsAmong, here, there, IsPlain}
 use Rattle.widths_core.specs.Classes.{finite_within, finite_step, holds_at, is_empty}

@@ -7,7 +7,7 @@ use Rattle.scale_core.proofs.Spellings.{one_spelling}
 use Rattle.scale_core.proofs.Numbers.{number_one, signed_one, front_bytes, rest_bytes}
 use Rattle.registry_core.specs.declared.definition.Arm.{Arm}
 use Rattle.registry_core.specs.declared.type_info.TypeInfo.{TypeInfo}
-use Rattle.widths_core.specs.Types.{field_types}
+use Rattle.graph_core.specs.Types.{field_types}
 use Rattle.widths_core.specs.Layouts.{Layout, layout}
 use Rattle.widths_core.specs.Layouts as layout
 use Rattle.widths_core.proofs.Wide.{arm-index}

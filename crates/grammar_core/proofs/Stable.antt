@@ -8,7 +8,7 @@ use Rattle.scale_core.specs.declared.fault.Reason.TheVariants as reasons
 use Rattle.scale_core.proofs.Results.{Extends, bind_extends, cond_extends, bytes_extends, compact_extends, text_extends}
 use Rattle.registry_core.specs.declared.definition.Arm.{Arm}
 use Rattle.registry_core.specs.declared.type_info.TypeInfo.{TypeInfo}
-use Rattle.widths_core.specs.Types.{field_types}
+use Rattle.graph_core.specs.Types.{field_types}
 use Rattle.widths_core.specs.Arms.{arm_of}
 use Rattle.widths_core.specs.Classes.{is_finite}
 use Rattle.widths_core.specs.Layouts.{Layout, layout}

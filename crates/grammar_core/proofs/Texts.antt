@@ -1,7 +1,7 @@
 -- Each text of a value is UTF-8.
 use Rattle.std.proofs.Common.{ℕ, List, [], ◌∷◌, inl, inr}
 use Rattle.registry_core.specs.declared.type_info.TypeInfo.{TypeInfo}
-use Rattle.widths_core.specs.Types.{field_types}
+use Rattle.graph_core.specs.Types.{field_types}
 use Rattle.grammar_core.specs.Tree.{unit, bool, char, text, unsigned, signed, wide, compact, fields, arm, list, count, Trees, none, and}
 use Rattle.grammar_core.specs.Grammar.{Val, Vals, Each}
 use Rattle.grammar_core.specs.Laws.{AllHaveText, TextsAreText}

@@ -3,7 +3,7 @@ use Rattle.std.specs.Prelude.{ℕ, List, [], ◌∷◌, ◌++◌, Some, None, sl
 use Rattle.std.specs.Option.{option_map_or}
 use Rattle.registry_core.specs.declared.definition.Arm.{Arm}
 use Rattle.registry_core.specs.declared.type_info.TypeInfo.{TypeInfo}
-use Rattle.widths_core.specs.Types.{field_types}
+use Rattle.graph_core.specs.Types.{field_types}
 use Rattle.widths_core.specs.Layouts.{Layout, layout}
 use Rattle.widths_core.specs.Layouts as layout
 use Rattle.grammar_core.specs.Tree.{Tree, fields, arm, list, Trees, none, and, how_many, nodes}

@@ -7,7 +7,7 @@ use Rattle.registry_core.specs.declared.primitive.Primitive.TheVariants as P
 use Rattle.registry_core.specs.declared.definition.TypeDef.{TypeDef}
 use Rattle.registry_core.specs.declared.definition.TypeDef.TheVariants as Def
 use Rattle.registry_core.specs.declared.type_info.TypeInfo.{TypeInfo}
-use Rattle.widths_core.specs.Types.{shape}
+use Rattle.graph_core.specs.Types.{shape}
 use Rattle.grammar_core.specs.Tree.{Tree}
 use Rattle.grammar_core.specs.Grammar.{Val}
 use Rattle.grammar_core.specs.Preorder as head

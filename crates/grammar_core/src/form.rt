@@ -3,7 +3,7 @@
 ghost use Rattle.std.specs.Prelude.{◌≡◌, option_map};
 ghost use Rattle.grammar_core.specs.Forms.{next_at, sized_form};
 ghost use Rattle.widths_core.specs.Classes.{class_of, is_empty};
-ghost use Rattle.widths_core.specs.Types.{shape};
+ghost use Rattle.graph_core.specs.Types.{shape};
 
 use registry_core::{Primitive, TypeDef, TypeId};
 use scale_core::Target;

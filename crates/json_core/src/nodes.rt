@@ -5,7 +5,7 @@ ghost use Rattle.std.specs.Char.{encode_utf8};
 ghost use Rattle.serde_json.specs.Data.{no_members, member, object, string};
 ghost use Rattle.serde_json.specs.View.{view, items_view, items_of};
 ghost use Rattle.widths_core.specs.Targets.{compact_target_of};
-ghost use Rattle.widths_core.specs.Types.{shape};
+ghost use Rattle.graph_core.specs.Types.{shape};
 ghost use Rattle.value_core.specs.Shown.{children_of};
 ghost use Rattle.json_core.specs.Defined.{is_long, is_long_target, arm_in};
 ghost use Rattle.json_core.specs.Json.{fields_json, parts_json, json_seen};

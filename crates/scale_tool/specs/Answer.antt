@@ -4,7 +4,7 @@ use Rattle.std.specs.Io.KnownBytes.{Appends, Keeps}
 use Rattle.scale_core.specs.Read.{Read}
 use Rattle.registry_core.specs.Reading.{registry_at, metadata_at}
 use Rattle.registry_core.specs.declared.type_info.TypeInfo.{TypeInfo}
-use Rattle.widths_core.specs.References.{first_fault}
+use Rattle.graph_core.specs.References.{first_fault}
 use Rattle.scale_tool.specs.Lines.{type_lines}
 use Rattle.json_core.specs.Json.{json_text}
 use Rattle.value_core.specs.Shown.{Seen}

@@ -3,8 +3,8 @@ use Rattle.std.specs.Prelude.{ℕ, List, Option, Some, None, codes}
 use Rattle.registry_core.specs.declared.fault.RegistryFault.{RegistryFault}
 use Rattle.registry_core.specs.declared.fault.RegistryReason.{RegistryReason}
 use Rattle.registry_core.specs.declared.fault.RegistryReason.TheVariants as registry
-use Rattle.widths_core.specs.declared.fault.CheckFault.{CheckFault}
-use Rattle.widths_core.specs.declared.fault.CheckFault.TheVariants as check
+use Rattle.graph_core.specs.declared.fault.CheckFault.{CheckFault}
+use Rattle.graph_core.specs.declared.fault.CheckFault.TheVariants as check
 use Rattle.decode_core.specs.declared.fault.DecodeFault.{DecodeFault}
 use Rattle.decode_core.specs.declared.fault.DecodeReason.{DecodeReason}
 use Rattle.decode_core.specs.declared.fault.DecodeReason.TheVariants as reason

@@ -3,7 +3,7 @@
 ghost use Rattle.std.specs.Prelude.{◌≡◌, ◌⊎◌, ◌<◌, length, true, None, Some, IfOk, IfErr, IfSome, IsErrOf};
 ghost use Rattle.scale_tool.specs.Answer.{checked_of, types_of, types_with, unless_fault, with_position};
 ghost use Rattle.scale_tool.specs.Refused.{status_of, status_of_registry};
-ghost use Rattle.widths_core.specs.References.{first_fault};
+ghost use Rattle.graph_core.specs.References.{first_fault};
 
 use crate::gathering::{GatherFault, gather_all};
 use crate::refusal::{Refusal, RegistryRefusal};

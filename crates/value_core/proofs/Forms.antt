@@ -7,7 +7,7 @@ use Rattle.registry_core.specs.declared.primitive.Primitive.{Primitive}
 use Rattle.registry_core.specs.declared.definition.TypeDef.{TypeDef}
 use Rattle.registry_core.specs.declared.definition.TypeDef.TheVariants as Def
 use Rattle.registry_core.specs.declared.type_info.TypeInfo.{TypeInfo}
-use Rattle.widths_core.specs.Types.{shape, ids, field_types}
+use Rattle.graph_core.specs.Types.{shape, ids, field_types}
 use Rattle.widths_core.specs.Targets.{target_of}
 use Rattle.widths_core.specs.Classes.{is_finite, is_empty}
 use Rattle.widths_core.specs.Layouts.{Layout, layout, layout_of_shape, sized_layout, primitive_layout, sequence_layout, compact_layout}

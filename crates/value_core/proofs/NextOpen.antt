@@ -6,7 +6,7 @@ use Rattle.std.proofs.lemmas.Option.{same_Some}
 use Rattle.scale_core.specs.Compact.{compact}
 use Rattle.scale_core.proofs.Forms.{are_compact}
 use Rattle.registry_core.specs.declared.definition.Arm.{Arm}
-use Rattle.widths_core.specs.Types.{field_types}
+use Rattle.graph_core.specs.Types.{field_types}
 use Rattle.widths_core.specs.Arms.{arm_of}
 use Rattle.grammar_core.specs.Grammar.{Val}
 use Rattle.grammar_core.specs.Parts.{Part, each, how_many_left}

@@ -1,6 +1,6 @@
 -- The open parts of a walk, as its fields keep them.
 use Rattle.std.specs.Prelude.{List, ◌∷◌, map, reverse}
-use Rattle.widths_core.specs.Types.{ids, field_types}
+use Rattle.graph_core.specs.Types.{ids, field_types}
 use Rattle.grammar_core.specs.Parts.{Part, each, times}
 use Rattle.value_core.specs.Walked.{OpenPart}
 use Rattle.value_core.specs.declared.left.Left.{Left}

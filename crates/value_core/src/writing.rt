@@ -4,7 +4,7 @@ ghost use Rattle.std.specs.Prelude.{◌≡◌, ◌≤◌, ◌<◌, ◌+◌, ◌^
 ghost use Rattle.std.specs.Int.{w128, from_le_bytes};
 ghost use Rattle.std.specs.Io.KnownBytes.{Appends};
 ghost use Rattle.scale_core.specs.Number.{le_bytes};
-ghost use Rattle.widths_core.specs.Types.{shape};
+ghost use Rattle.graph_core.specs.Types.{shape};
 ghost use Rattle.grammar_core.specs.Spelled.{byte_width, width_of, index_of, index_byte, is_sequence, length_bytes};
 ghost use Rattle.value_core.specs.Built.{head_text_bytes};
 ghost use Rattle.value_core.specs.Shown.{IsInPool, head_shown};

@@ -12,7 +12,7 @@ use Rattle.widths_core.specs.declared.step.ArmStep.{ArmStep}
 use Rattle.widths_core.specs.declared.step.Parts.{Parts}
 use Rattle.widths_core.specs.declared.step.Step.{Step}
 use Rattle.widths_core.specs.declared.step.Step.TheVariants as step
-use Rattle.widths_core.specs.Types.{shape}
+use Rattle.graph_core.specs.Types.{shape}
 use Rattle.widths_core.specs.Arms.{arm_of, arm_from, arm_of_shape, arm_at}
 use Rattle.widths_core.specs.Classes.{class_of}
 use Rattle.widths_core.specs.Rows.{IsPlace}

@@ -4,15 +4,16 @@ use Rattle.std.specs.Prelude.{◌==◌, ◌||◌, is_some}
 use Rattle.std.specs.List.{list_any}
 use Rattle.std.proofs.lemmas.List.{at_drop_more, at_drop_all, append_assoc, append-nil}
 use Rattle.registry_core.specs.declared.definition.Arm.{Arm}
-use Rattle.widths_core.specs.declared.graph.Graph.{Graph}
+use Rattle.graph_core.specs.declared.graph.Graph.{Graph}
 use Rattle.widths_core.specs.declared.counter.Kind.TheVariants as kind
 use Rattle.widths_core.specs.declared.counter.Counter.{Counter}
-use Rattle.widths_core.specs.Types.{field_types}
+use Rattle.graph_core.specs.Types.{field_types}
 use Rattle.widths_core.specs.Arms.{arm_of}
 use Rattle.widths_core.specs.Rules.{Rule, rule, arm_rules, found_sized}
-use Rattle.widths_core.specs.Graphs.{IsLinked, Adds}
+use Rattle.graph_core.specs.Graphs.{IsLinked}
+use Rattle.widths_core.specs.Linking.{Adds}
 use Rattle.widths_core.proofs.ArmsTo.{shadowed, counted}
-use Rattle.widths_core.proofs.Linked.{adds_none, adds_on}
+use Rattle.widths_core.proofs.Adding.{adds_none, adds_on}
 
 -- the rules of i arms were added; seen are the indexes of those that count
 pub record AddsArms (t i : ℕ) (arms : List Arm) (cs ds : List Counter) (a b : Graph) : Type 0 where

@@ -14,20 +14,22 @@ use Rattle.widths_core.specs.declared.class.Class.{Class}
 use Rattle.widths_core.specs.declared.class.Class.TheVariants as class
 use Rattle.widths_core.specs.declared.counter.Kind.TheVariants as kind
 use Rattle.widths_core.specs.declared.counter.Counter.{Counter}
-use Rattle.widths_core.specs.declared.graph.Graph.{Graph}
-use Rattle.widths_core.specs.Types.{shape, ids, field_types}
+use Rattle.graph_core.specs.declared.graph.Graph.{Graph}
+use Rattle.graph_core.specs.Types.{shape, ids, field_types}
 use Rattle.widths_core.specs.Arms.{live_arms}
-use Rattle.widths_core.specs.References.{references, AreKnown, IsChecked}
+use Rattle.graph_core.specs.References.{references, AreKnown, IsChecked}
 use Rattle.widths_core.specs.Targets.{nowhere, leads_shape, leads_members, target_from, target_within, target_of}
 use Rattle.widths_core.specs.Classes.{holds_at, finite_step, finite_within, is_finite, class_of}
 use Rattle.widths_core.specs.ClassTables.{known_class, known_target, has_value, class_of_compact, TellsClasses, TellsTargets}
-use Rattle.widths_core.specs.Counts.{times}
+use Rattle.graph_core.specs.Counts.{times}
 use Rattle.widths_core.specs.Rules.{Rule, rule, rules, rules_of, rules_from, arm_rules, kind_of_parts, found_sized, counter_of, all_parts, numbers_from}
-use Rattle.widths_core.specs.Graphs.{refs, AreTypesLinked}
+use Rattle.graph_core.specs.Graphs.{refs}
+use Rattle.widths_core.specs.Linking.{AreTypesLinked}
 use Rattle.widths_core.specs.Progress.{State, counter_at}
 use Rattle.widths_core.specs.Consistent.{nothing, rule_at, to_at, unsettled, waiting, has_settled, settles, IsConsistent}
 use Rattle.widths_core.specs.Propagation.{IsStart, PropagatesAll, IsBad, AreCompactsSettled}
-use Rattle.widths_core.proofs.PartsOf.{all_front, all_references, checked_by}
+use Rattle.graph_core.proofs.Stopped.{all_front}
+use Rattle.widths_core.proofs.PartsOf.{all_references, checked_by}
 use Rattle.widths_core.proofs.Ranks.{Below, finite_grows, or_parts}
 use Rattle.widths_core.proofs.Stable.{has_value-class_of}
 use Rattle.widths_core.proofs.RuleRight.{rule_right}

@@ -8,7 +8,7 @@ use Rattle.registry_core.specs.declared.definition.TypeDef.{TypeDef}
 use Rattle.registry_core.specs.declared.type_info.TypeInfo.{TypeInfo}
 use Rattle.widths_core.specs.declared.rows.Rows.{Rows}
 use Rattle.widths_core.specs.declared.step.Draft.{Draft}
-use Rattle.widths_core.specs.Types.{shape}
+use Rattle.graph_core.specs.Types.{shape}
 use Rattle.widths_core.specs.Rows.{IsPaired, IsEmpty, Keeps}
 use Rattle.widths_core.specs.Steps.{IsRow, IsDraft, AreDrafts}
 use Rattle.widths_core.proofs.Kept.{draft_kept}

@@ -7,7 +7,7 @@ use Rattle.widths_core.specs.declared.counter.Kind.TheVariants as kind
 use Rattle.widths_core.specs.Rules.{rules, numbers_from, found_sized}
 use Rattle.widths_core.specs.Progress.{State, counter_at, completed, settled_as, HasType}
 use Rattle.widths_core.specs.Consistent.{nothing, rule_at, waiting, has_settled, settles, IsConsistent, IsClosed}
-use Rattle.widths_core.specs.declared.graph.Graph.{Graph}
+use Rattle.graph_core.specs.declared.graph.Graph.{Graph}
 use Rattle.widths_core.specs.Propagation.{Follows, IsStart, IsPropagatedTo, PropagatesAll, IsBad, AreCompactsSettled}
 use Rattle.widths_core.proofs.RuleRight.{rule_right}
 use Rattle.widths_core.proofs.Settles.{follows_same, follows_on, completes_to, settles_to}

@@ -8,7 +8,7 @@ use Rattle.registry_core.specs.declared.definition.TypeDef.TheVariants as Def
 use Rattle.widths_core.specs.declared.rows.Rows.{Rows}
 use Rattle.widths_core.specs.declared.step.ArmStep.{ArmStep}
 use Rattle.widths_core.specs.declared.step.Draft.{Draft}
-use Rattle.widths_core.specs.Types.{ids, field_types}
+use Rattle.graph_core.specs.Types.{ids, field_types}
 use Rattle.widths_core.specs.Arms.{arm_of}
 use Rattle.widths_core.specs.Rows.{Keeps, arm_in, index_in}
 use Rattle.widths_core.specs.Steps.{AreParts, IsArm, IsRow, IsDraft}

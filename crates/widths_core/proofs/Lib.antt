@@ -2,18 +2,14 @@ pub mod Ranks
 pub mod TargetsFound
 pub mod Known
 pub mod Wide
-pub mod FirstFault
 pub mod FirstArm
-pub mod Unknown
-pub mod LentArms
 pub mod Settled
 pub mod PartsOf
-pub mod Linked
+pub mod Adding
 pub mod ArmsTo
 pub mod ArmRules
 pub mod TypesLinked
 pub mod Stopped
-pub mod SizesTo
 pub mod Stable
 pub mod RuleRight
 pub mod Waiting
@@ -23,6 +19,7 @@ pub mod PropagatesOne
 pub mod Ends
 pub mod Results
 pub mod Complete
+pub mod Explained
 pub mod Kept
 pub mod RowTo
 pub mod RowReads

@@ -9,7 +9,7 @@ use Rattle.widths_core.specs.declared.counter.Found.{Found}
 use Rattle.widths_core.specs.declared.counter.Counter.{Counter}
 use Rattle.widths_core.specs.Targets.{target_of}
 use Rattle.widths_core.specs.Classes.{class_of}
-use Rattle.widths_core.specs.Counts.{times}
+use Rattle.graph_core.specs.Counts.{times}
 use Rattle.widths_core.specs.Rules.{rules, all_parts, numbers_from}
 use Rattle.widths_core.specs.Progress.{State, counter_at, no_counter, is_sized, counted, counters_set, completed, part_settled}
 use Rattle.widths_core.specs.Consistent.{rule_at, to_at, number_at, waiting, has_settled, settles, IsConsistent, IsClosed}

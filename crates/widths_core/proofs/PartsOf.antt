@@ -1,7 +1,7 @@
 -- The parts of rules are the references of the definitions.
 use Rattle.std.proofs.Common.{◌≡◌, ℕ, zero, suc, ◌+◌, ◌<◌, Bool, true, false, cond, List, [], ◌∷◌, ◌++◌, flat_map, refl, ap, ◌∙◌}
 use Rattle.std.specs.Prelude.{◌==◌}
-use Rattle.std.specs.List.{AllByRecursion, list_any}
+use Rattle.std.specs.List.{list_any}
 use Rattle.std.proofs.lemmas.List.{append-nil}
 use Rattle.std.proofs.lemmas.Grind.{flat_map-append}
 use Rattle.registry_core.specs.declared.definition.Arm.{Arm}
@@ -9,14 +9,10 @@ use Rattle.registry_core.specs.declared.definition.TypeDef.{TypeDef}
 use Rattle.registry_core.specs.declared.definition.TypeDef.TheVariants as Def
 use Rattle.registry_core.specs.declared.type_info.TypeInfo.{TypeInfo}
 use Rattle.widths_core.specs.declared.counter.Kind.TheVariants as kind
-use Rattle.widths_core.specs.Types.{ids, field_types}
-use Rattle.widths_core.specs.References.{references, AreKnown, AreChecked}
+use Rattle.graph_core.specs.Types.{ids, field_types}
+use Rattle.graph_core.specs.References.{references, AreKnown, AreChecked}
+use Rattle.graph_core.proofs.Stopped.{all_front}
 use Rattle.widths_core.specs.Rules.{Rule, rule, rules, rules_of, rules_from, arm_rules, found_sized, all_parts}
-
--- what holds of each of two lists one behind the other
-pub all_front : {X : Type 0} (P : X → Type 0) (xs ys : List X) → AllByRecursion P (xs ++ ys) → AllByRecursion P xs × AllByRecursion P ys
-all_front P [] ys h = (tt, h)
-all_front P (x ∷ xs) ys h = let more = all_front P xs ys h.1 in ((h.0, more.0), more.1)
 
 pub parts_of_arms : (t : ℕ) (seen : List ℕ) (arms : List Arm) → all_parts (arm_rules t seen arms) ≡ flat_map (λ a. field_types a.fields) arms
 parts_of_arms t seen [] = refl

@@ -6,13 +6,13 @@ use Rattle.std.proofs.lemmas.List.{take-append-le, take_more, length-append, get
 use Rattle.registry_core.specs.declared.type_info.TypeInfo.{TypeInfo}
 use Rattle.widths_core.specs.declared.class.Class.TheVariants as class
 use Rattle.widths_core.specs.declared.counter.Found.{Found}
-use Rattle.widths_core.specs.declared.graph.Graph.{Graph}
+use Rattle.graph_core.specs.declared.graph.Graph.{Graph}
 use Rattle.widths_core.specs.Targets.{target_of}
 use Rattle.widths_core.specs.Classes.{class_of}
 use Rattle.widths_core.specs.ClassTables.{known_class, known_target, has_value}
-use Rattle.widths_core.specs.Counts.{times}
+use Rattle.graph_core.specs.Counts.{times}
 use Rattle.widths_core.specs.Rules.{rules, all_parts}
-use Rattle.widths_core.specs.Graphs.{refs, numbers, befores, IsLast, IsListed}
+use Rattle.graph_core.specs.Graphs.{refs, numbers, befores, IsLast, IsListed}
 use Rattle.widths_core.specs.Progress.{State, counter_at, part_settled, HasType}
 use Rattle.widths_core.specs.Consistent.{to_at, number_at, has_settled, IsConsistent}
 use Rattle.widths_core.specs.Propagation.{Follows, Lists, IsSteady, IsPending, Propagates, IsPropagatedTo, PropagatesAll}

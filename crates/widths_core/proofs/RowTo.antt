@@ -8,7 +8,7 @@ use Rattle.std.proofs.lemmas.List.Edits.{length-insert, get_or-insert_below, get
 use Rattle.registry_core.specs.declared.definition.Arm.{Arm}
 use Rattle.widths_core.specs.declared.rows.Rows.{Rows}
 use Rattle.widths_core.specs.declared.step.ArmStep.{ArmStep}
-use Rattle.widths_core.specs.Types.{field_types}
+use Rattle.graph_core.specs.Types.{field_types}
 use Rattle.widths_core.specs.Arms.{arm_of}
 use Rattle.widths_core.specs.Rows.{Keeps, IsPaired, IsIn, Lacks, BelongsAt, Rises, Inserts, arm_in, index_in, no_arm}
 use Rattle.widths_core.specs.Steps.{AreParts, IsArm, IsRow}

@@ -14,7 +14,7 @@ use Rattle.widths_core.specs.declared.counter.Kind.TheVariants as kind
 use Rattle.widths_core.specs.Targets.{target_of}
 use Rattle.widths_core.specs.Classes.{class_of, is_unit}
 use Rattle.widths_core.specs.ClassTables.{joined, class_of_parts, class_of_compact, known_class, known_target, has_value}
-use Rattle.widths_core.specs.Counts.{times}
+use Rattle.graph_core.specs.Counts.{times}
 use Rattle.widths_core.specs.Rules.{rules, class_by, outcome, all_parts, numbers_from}
 use Rattle.widths_core.specs.Progress.{State, counter_at, is_sized, settled_as, settled_by, completed}
 use Rattle.widths_core.specs.Consistent.{rule_at, to_at, number_at, unsettled, has_settled, settles, IsConsistent}

@@ -4,7 +4,7 @@ use Rattle.std.proofs.Math.Path.{fun_ext}
 use Rattle.scale_core.specs.declared.compact.Target.{Target}
 use Rattle.registry_core.specs.declared.definition.TypeDef.{TypeDef}
 use Rattle.registry_core.specs.declared.type_info.TypeInfo.{TypeInfo}
-use Rattle.widths_core.specs.Types.{shape}
+use Rattle.graph_core.specs.Types.{shape}
 use Rattle.widths_core.specs.Targets.{Leads, ends, through, nowhere, leads, leads_shape, HasTarget, here, there, target_from, target_of}
 use Rattle.widths_core.specs.Classes.{finite_step, empty_step, finite_within, empty_within, is_finite, is_empty, class_from, class_of}
 use Rattle.widths_core.specs.ClassTables.{has_value, class_step}

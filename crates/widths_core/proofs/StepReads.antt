@@ -13,7 +13,7 @@ use Rattle.widths_core.specs.declared.class.Class.TheVariants as class
 use Rattle.widths_core.specs.declared.rows.Rows.{Rows}
 use Rattle.widths_core.specs.declared.step.Step.{Step}
 use Rattle.widths_core.specs.declared.step.Step.TheVariants as step
-use Rattle.widths_core.specs.Types.{shape}
+use Rattle.graph_core.specs.Types.{shape}
 use Rattle.widths_core.specs.Targets.{compact_target_of_shape, compact_target_of}
 use Rattle.widths_core.specs.Classes.{class_of}
 use Rattle.widths_core.specs.Steps.{references_of, IsRow, IsStep, IsTable, IsStepAt, by_class, sequence_step, class_of_step, compact_of_step}

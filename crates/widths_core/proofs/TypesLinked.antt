@@ -6,14 +6,15 @@ use Rattle.std.proofs.lemmas.List.{append_assoc, append-nil, map-append, length-
 use Rattle.std.proofs.lemmas.Grind.{flat_map-append}
 use Rattle.registry_core.specs.declared.definition.TypeDef.{TypeDef}
 use Rattle.registry_core.specs.declared.type_info.TypeInfo.{TypeInfo}
-use Rattle.widths_core.specs.declared.graph.Graph.{Graph}
+use Rattle.graph_core.specs.declared.graph.Graph.{Graph}
 use Rattle.widths_core.specs.declared.counter.Counter.{Counter}
-use Rattle.widths_core.specs.Types.{shape}
-use Rattle.widths_core.specs.Widths.{width, widest}
-use Rattle.widths_core.specs.Counts.{times}
+use Rattle.graph_core.specs.Types.{shape}
+use Rattle.graph_core.specs.Widths.{width, widest}
+use Rattle.graph_core.specs.Counts.{times}
 use Rattle.widths_core.specs.Rules.{Rule, rules_of, rules_from, counter_of, all_parts, numbers_from}
-use Rattle.widths_core.specs.Graphs.{refs, numbers, IsLinked, IsOpened, IsNew, AreTypesLinked, Adds}
-use Rattle.widths_core.proofs.Linked.{numbers_from-append}
+use Rattle.graph_core.specs.Graphs.{refs, numbers, IsLinked, IsOpened, IsNew}
+use Rattle.widths_core.specs.Linking.{Adds, AreTypesLinked}
+use Rattle.widths_core.proofs.Adding.{numbers_from-append}
 
 rules_more : (r : List TypeInfo) (t i : ℕ) (d : TypeDef) → shape r i ≡ Some d → rules_from t (take (suc i) r) ≡ rules_from t (take i r) ++ rules_of (t + i) d
 rules_more [] t i d e = absurd cc
@@ -53,12 +54,6 @@ types_linked_none r d h = record {
   listed = h.listed;
   wide = omega arith;
 }
-
-pub one_more : (i t : ℕ) (log : List ℕ) → (times t log ≤ 1) × (i ≤ t → times t log ≡ 0) → (times t (i ∷ log) ≤ 1) × (i + 1 ≤ t → times t (i ∷ log) ≡ 0)
-one_more i t log h = go (i == t) refl where
-  go : (b : Bool) → (i == t) ≡ b → (cond b 1 0 + times t log ≤ 1) × (i + 1 ≤ t → cond b 1 0 + times t log ≡ 0)
-  go true e = let same : i ≡ t = eqb-true i t e in (omega (arith, h.1 (omega arith), same), λ le. absurd (omega (arith, same, le)))
-  go false e = (omega (arith, h.0), λ le. omega (arith, h.1 (omega (arith, le))))
 
 pub again : (i t : ℕ) (log : List ℕ) → (times t log ≤ 2) × (i ≤ t → times t log ≤ 1) → (times t (i ∷ log) ≤ 2) × (i + 1 ≤ t → times t (i ∷ log) ≤ 1)
 again i t log h = go (i == t) refl where

@@ -1,10 +1,10 @@
 -- What is found of a registry, and how often it was looked at.
 use Rattle.std.specs.Prelude.{◌≡◌, ℕ, ◌≤◌, List, flat_map, reverse}
 use Rattle.registry_core.specs.declared.type_info.TypeInfo.{TypeInfo}
-use Rattle.widths_core.specs.declared.looks.Looks.{Looks}
-use Rattle.widths_core.specs.References.{IsChecked, references}
-use Rattle.widths_core.specs.Widths.{widest}
-use Rattle.widths_core.specs.Counts.{times}
+use Rattle.graph_core.specs.declared.looks.Looks.{Looks}
+use Rattle.graph_core.specs.References.{IsChecked, references}
+use Rattle.graph_core.specs.Widths.{widest}
+use Rattle.graph_core.specs.Counts.{times}
 
 -- each type was looked at twice at most; the references were looked at in the definitions, all once and in the order of the registry's
 -- bytes, and each once at most in a list

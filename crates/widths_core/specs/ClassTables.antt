@@ -8,7 +8,7 @@ use Rattle.registry_core.specs.declared.definition.TypeDef.TheVariants as Def
 use Rattle.registry_core.specs.declared.type_info.TypeInfo.{TypeInfo}
 use Rattle.widths_core.specs.declared.class.Class.{Class}
 use Rattle.widths_core.specs.declared.class.Class.TheVariants as class
-use Rattle.widths_core.specs.Types.{ids, field_types}
+use Rattle.graph_core.specs.Types.{ids, field_types}
 use Rattle.widths_core.specs.Arms.{live_arms}
 use Rattle.widths_core.specs.Targets.{target_of}
 use Rattle.widths_core.specs.Classes.{class_of, is_unit}

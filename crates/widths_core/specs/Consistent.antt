@@ -8,7 +8,7 @@ use Rattle.widths_core.specs.declared.counter.Kind.TheVariants as kind
 use Rattle.widths_core.specs.Targets.{target_of}
 use Rattle.widths_core.specs.Classes.{class_of}
 use Rattle.widths_core.specs.ClassTables.{known_class, known_target, has_value}
-use Rattle.widths_core.specs.Counts.{times}
+use Rattle.graph_core.specs.Counts.{times}
 use Rattle.widths_core.specs.Rules.{Rule, rule, rules, all_parts, numbers_from}
 use Rattle.widths_core.specs.Progress.{State, counter_at, is_sized}
 

@@ -1,7 +1,4 @@
-pub mod Types
-pub mod References
 pub mod Arms
-pub mod Widths
 pub mod Targets
 pub mod Classes
 pub mod Layouts
@@ -10,15 +7,11 @@ pub mod ClassTables
 pub mod View
 pub mod Checks
 pub mod Tables
-pub mod Lent
 pub mod Rules
-pub mod Graphs
-pub mod Counts
+pub mod Linking
 pub mod Progress
 pub mod Analysed
 pub mod Consistent
 pub mod Propagation
 pub mod Rows
-pub mod Sizes
-pub mod Stops
 pub mod Steps

@@ -3,12 +3,12 @@ use Rattle.std.specs.Prelude.{◌≡◌, ℕ, ◌+◌, ◌<◌, ◌≤◌, List,
 use Rattle.registry_core.specs.declared.type_info.TypeInfo.{TypeInfo}
 use Rattle.widths_core.specs.declared.class.Class.TheVariants as class
 use Rattle.widths_core.specs.declared.counter.Kind.TheVariants as kind
-use Rattle.widths_core.specs.declared.graph.Graph.{Graph}
+use Rattle.graph_core.specs.declared.graph.Graph.{Graph}
 use Rattle.widths_core.specs.Targets.{target_of}
 use Rattle.widths_core.specs.Classes.{class_of}
-use Rattle.widths_core.specs.Counts.{times}
+use Rattle.graph_core.specs.Counts.{times}
 use Rattle.widths_core.specs.Rules.{rules, all_parts, numbers_from}
-use Rattle.widths_core.specs.Graphs.{refs, numbers, IsLinked}
+use Rattle.graph_core.specs.Graphs.{refs, numbers, IsLinked}
 use Rattle.widths_core.specs.Progress.{State}
 use Rattle.widths_core.specs.Consistent.{rule_at, to_at, has_settled, IsConsistent, IsClosed}
 

@@ -14,7 +14,7 @@ use Rattle.widths_core.specs.declared.counter.Found.{Found}
 use Rattle.widths_core.specs.declared.counter.Kind.{Kind}
 use Rattle.widths_core.specs.declared.counter.Kind.TheVariants as kind
 use Rattle.widths_core.specs.declared.counter.Counter.{Counter}
-use Rattle.widths_core.specs.Types.{ids, field_types}
+use Rattle.graph_core.specs.Types.{ids, field_types}
 use Rattle.widths_core.specs.Targets.{leads_primitive, target_from}
 use Rattle.widths_core.specs.ClassTables.{class_of_compact}
 

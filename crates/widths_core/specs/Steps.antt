@@ -14,9 +14,9 @@ use Rattle.widths_core.specs.declared.step.Draft.TheVariants as draft
 use Rattle.widths_core.specs.declared.step.Step.{Step}
 use Rattle.widths_core.specs.declared.step.Step.TheVariants as step
 use Rattle.scale_core.specs.declared.compact.Target.{Target}
-use Rattle.widths_core.specs.Types.{shape, ids, field_types}
+use Rattle.graph_core.specs.Types.{shape, ids, field_types}
 use Rattle.widths_core.specs.Arms.{arm_of}
-use Rattle.widths_core.specs.References.{references}
+use Rattle.graph_core.specs.References.{references}
 use Rattle.widths_core.specs.Targets.{target_of}
 use Rattle.widths_core.specs.Classes.{class_of}
 use Rattle.widths_core.specs.ClassTables.{class_of_compact, TellsClasses, TellsTargets}

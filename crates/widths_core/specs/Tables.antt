@@ -1,8 +1,8 @@
 -- What is kept beside a registry that was checked.
 use Rattle.std.specs.Prelude.{◌≡◌}
 use Rattle.widths_core.specs.declared.checked.Checked.TheInside.{Inside}
-use Rattle.widths_core.specs.References.{IsChecked}
-use Rattle.widths_core.specs.Widths.{widest}
+use Rattle.graph_core.specs.References.{IsChecked}
+use Rattle.graph_core.specs.Widths.{widest}
 use Rattle.widths_core.specs.Steps.{IsTable}
 use Rattle.widths_core.specs.Analysed.{HasFewLooks}
 

@@ -4,22 +4,18 @@ ghost use Rattle.std.specs.Prelude.{◌<◌, ◌^◌, length, IfOk, IfErr, Match
 ghost use Rattle.registry_core.specs.Fits.{FitsRegistry};
 ghost use Rattle.widths_core.specs.Analysed.{IsAnalysed};
 ghost use Rattle.widths_core.specs.Checks.{IsFaultOf};
-ghost use Rattle.widths_core.specs.Graphs.{IsUnread};
+ghost use Rattle.graph_core.specs.Graphs.{IsUnread};
 ghost use Rattle.widths_core.specs.Steps.{IsSettled, IsTable};
-ghost use Rattle.widths_core.specs.References.{first_fault};
-ghost use Rattle.widths_core.specs.Stops.{IsRefusedFor};
+ghost use Rattle.graph_core.specs.References.{first_fault};
+ghost use Rattle.graph_core.specs.Stops.{IsRefusedFor};
 
 use crate::class::Class;
-use crate::fault::CheckFault;
-use crate::graph::Graph;
 use crate::linking::{Linked, link_types};
-use crate::looks::Looks;
-use crate::references::{Reference, first_unknown};
 use crate::rows::Rows;
 use crate::settling::Settling;
-use crate::sizes::{Sizes, sizes_of};
 use crate::step::{Draft, Step};
 use crate::steps::steps_by;
+use graph_core::{CheckFault, Graph, Looks, Reference, Sizes, first_unknown, sizes_of};
 use registry_core::TypeInfo;
 use scale_core::Target;
 use std::alloc::Global;

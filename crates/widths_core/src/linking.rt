@@ -2,24 +2,22 @@
 
 ghost use Rattle.std.specs.Prelude.{◌≡◌, ◌<◌, ◌++◌, ◌∷◌, [], ◌^◌, length, false, IfOk, IfErr};
 ghost use Rattle.registry_core.specs.Fits.{FitsDefinition, FitsRegistry};
-ghost use Rattle.widths_core.specs.Graphs.{IsLinked, IsNew, Adds, AreTypesLinked, refs};
-ghost use Rattle.widths_core.specs.Lent.{id_of, shape_of};
+ghost use Rattle.graph_core.specs.Graphs.{IsLinked, IsNew, refs};
+ghost use Rattle.widths_core.specs.Linking.{Adds, AreTypesLinked};
+ghost use Rattle.graph_core.specs.Lent.{id_of, shape_of};
 ghost use Rattle.widths_core.specs.Rows.{IsPaired, Keeps};
 ghost use Rattle.widths_core.specs.Steps.{AreParts, IsRow, IsDraft, AreDrafts};
 ghost use Rattle.widths_core.specs.Rules.{rule, kind_of_parts, found_of_primitive, found_sized, all_parts, arm_rules, rules_of};
-ghost use Rattle.widths_core.specs.Stops.{Stops, IsRefusedFor};
-ghost use Rattle.widths_core.specs.Types.{ids, field_types};
-ghost use Rattle.widths_core.specs.Widths.{widest};
-ghost use Rattle.widths_core.specs.declared.stop.Stop.TheVariants.{Memory};
+ghost use Rattle.graph_core.specs.Stops.{Stops, IsRefusedFor};
+ghost use Rattle.graph_core.specs.Types.{ids, field_types};
+ghost use Rattle.graph_core.specs.Widths.{widest};
+ghost use Rattle.graph_core.specs.declared.stop.Stop.TheVariants.{Memory};
 
 use crate::class::Class;
 use crate::counter::{Counter, Found, Kind};
-use crate::fault::CheckFault;
-use crate::graph::{Arms, Definition, Fields, Graph, Members, Place};
 use crate::rows::Rows;
 use crate::step::{ArmStep, Draft, Parts};
-use crate::stop::Stop;
-use crate::widths::width;
+use graph_core::{Arms, CheckFault, Definition, Fields, Graph, Members, Place, Stop, width};
 use registry_core::Primitive;
 use scale_core::Target;
 use std::alloc::Global;

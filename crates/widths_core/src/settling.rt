@@ -7,7 +7,7 @@ ghost use Rattle.widths_core.specs.declared.class.Class.TheVariants as class;
 
 use crate::class::Class;
 use crate::counter::{Counter, Found, Kind};
-use crate::graph::Graph;
+use graph_core::Graph;
 use scale_core::Target;
 use std::alloc::{AllocError, Global};
 

@@ -1,6 +1,6 @@
 use Rattle.std.proofs.Common.{ap, ◌∙◌, ℕ, [], ◌∷◌, arith}
 use Rattle.value_core.proofs.SpelledNodes.{one_front, compact_front, char_front, starts_as, starts_bool, starts_char, starts_text, starts_unsigned, starts_signed, starts_compact, starts_count, starts_arm, starts_list}
-use Rattle.widths_core.specs.Types.{shape}
+use Rattle.graph_core.specs.Types.{shape}
 use Rattle.value_core.proofs.writing.put_node.Goals as goal
 
 pub returns-in-Bool-clause-bytes : goal.returns-in-Bool-clause-bytes

@@ -1,6 +1,7 @@
 use Rattle.std.proofs.Common.{◌≡◌, ℕ, List, length, ap, sym, subst, ◌∙◌}
 use Rattle.registry_core.specs.declared.type_info.TypeInfo.{TypeInfo}
-use Rattle.widths_core.specs.Graphs.{IsMeasured, AreTypesLinked, refs}
+use Rattle.graph_core.specs.Graphs.{IsMeasured, refs}
+use Rattle.widths_core.specs.Linking.{AreTypesLinked}
 use Rattle.widths_core.specs.Steps.{AreDrafts}
 use Rattle.widths_core.specs.Progress.{state_of}
 use Rattle.widths_core.specs.Propagation.{IsStart, IsBad, PropagatesAll, AreCompactsSettled}

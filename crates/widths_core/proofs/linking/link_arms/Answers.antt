@@ -1,10 +1,11 @@
 use Rattle.std.proofs.Common.{[], ◌≡◌, ◌+◌, ◌<◌, length, rules, arith}
 use Rattle.widths_core.specs.declared.counter.Kind.TheVariants as kind
-use Rattle.widths_core.specs.Graphs.{refs}
+use Rattle.graph_core.specs.Graphs.{refs}
 use Rattle.widths_core.specs.Rules.{all_parts, arm_rules, found_sized}
-use Rattle.widths_core.specs.Stops.{Stops}
+use Rattle.graph_core.specs.Stops.{Stops}
 use Rattle.widths_core.proofs.ArmRules.{arms_none, arms_shadowed, arms_counted}
-use Rattle.widths_core.proofs.Stopped.{stop_kept, stops_arms}
+use Rattle.graph_core.proofs.Stopped.{stop_kept}
+use Rattle.widths_core.proofs.Stopped.{stops_arms}
 use Rattle.widths_core.proofs.RowTo.{row_none, row_has, row_lacks, row_shadowed, row_counted, row_all}
 use Rattle.widths_core.proofs.linking.link_arms.Goals as goal
 use Rattle.widths_core.proofs.linking.link_arms.Goals.{in-Ok+in_ok-link_fields-in-Ok, in-Err+in_ok-from-in-Err+in_ok-number-in-Err+in_ok-insert-in-Err}

@@ -1,4 +1,4 @@
-use Rattle.widths_core.specs.Graphs.{refs}
+use Rattle.graph_core.specs.Graphs.{refs}
 use Rattle.widths_core.proofs.ArmRules.{AddsArms}
 use Rattle.widths_core.proofs.RowTo.{RowTo}
 use Rattle.widths_core.proofs.linking.link_arms.Given as goal

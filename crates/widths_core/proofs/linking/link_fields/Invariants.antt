@@ -1,5 +1,5 @@
-use Rattle.widths_core.specs.Types.{field_types}
-use Rattle.widths_core.proofs.Linked.{ReadsParts}
+use Rattle.graph_core.specs.Types.{field_types}
+use Rattle.graph_core.proofs.Linked.{ReadsParts}
 use Rattle.widths_core.proofs.linking.link_fields.Given as goal
 
 abbrev pub invariant-fields : goal.invariant-fields

@@ -1,10 +1,10 @@
 use Rattle.std.proofs.Common.{◌++◌, [], arith}
 use Rattle.std.proofs.lemmas.List.{length-map}
-use Rattle.widths_core.specs.Lent.{id_of}
-use Rattle.widths_core.specs.Stops.{Stops}
-use Rattle.widths_core.specs.Types.{ids}
-use Rattle.widths_core.proofs.Linked.{parts_more}
-use Rattle.widths_core.proofs.Stopped.{stop_kept, stops_parts}
+use Rattle.graph_core.specs.Lent.{id_of}
+use Rattle.graph_core.specs.Stops.{Stops}
+use Rattle.graph_core.specs.Types.{ids}
+use Rattle.graph_core.proofs.Linked.{parts_more}
+use Rattle.graph_core.proofs.Stopped.{stop_kept, stops_parts}
 use Rattle.widths_core.proofs.linking.link_members.Goals as goal
 
 pub members-preserved : goal.members-preserved

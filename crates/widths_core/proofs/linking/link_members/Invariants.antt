@@ -1,5 +1,5 @@
-use Rattle.widths_core.specs.Types.{ids}
-use Rattle.widths_core.proofs.Linked.{ReadsParts}
+use Rattle.graph_core.specs.Types.{ids}
+use Rattle.graph_core.proofs.Linked.{ReadsParts}
 use Rattle.widths_core.proofs.linking.link_members.Given as goal
 
 abbrev pub invariant-members : goal.invariant-members

@@ -1,10 +1,10 @@
 use Rattle.std.proofs.Common.{◌≡◌, ℕ, max, Some, List, [], ◌∷◌, ◌++◌, reverse, ap, ◌∙◌, rules}
-use Rattle.widths_core.specs.Graphs.{refs}
+use Rattle.graph_core.specs.Graphs.{refs}
 use Rattle.widths_core.specs.Rules.{rules_of, all_parts}
 use Rattle.widths_core.proofs.DraftsTo.{drafts_more}
-use Rattle.widths_core.specs.Lent.{shape_of}
-use Rattle.widths_core.specs.Types.{shape}
-use Rattle.widths_core.specs.Widths.{width}
+use Rattle.graph_core.specs.Lent.{shape_of}
+use Rattle.graph_core.specs.Types.{shape}
+use Rattle.graph_core.specs.Widths.{width}
 use Rattle.widths_core.proofs.Stopped.{stops_types}
 use Rattle.widths_core.proofs.TypesLinked.{types_linked_more}
 use Rattle.widths_core.proofs.linking.link_types.Goals as goal

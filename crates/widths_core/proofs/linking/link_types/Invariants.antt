@@ -1,4 +1,4 @@
-use Rattle.widths_core.specs.Graphs.{refs}
+use Rattle.graph_core.specs.Graphs.{refs}
 use Rattle.widths_core.proofs.TypesLinked.{TypesLinkedTo}
 use Rattle.widths_core.proofs.DraftsTo.{DraftsTo}
 use Rattle.widths_core.proofs.linking.link_types.Given as goal

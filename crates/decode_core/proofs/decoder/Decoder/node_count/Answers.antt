@@ -1,6 +1,6 @@
 use Rattle.std.proofs.Common.{◌+◌, ◌≤◌}
 use Rattle.std.specs.Prelude.{Result}
-use Rattle.widths_core.specs.Widths.{widest}
+use Rattle.graph_core.specs.Widths.{widest}
 use Rattle.decode_core.specs.Bound.{node_bound}
 use Rattle.decode_core.specs.Decoding.{Decoding, IsSmall, closing_turns}
 use Rattle.decode_core.specs.Outcome.{Job}

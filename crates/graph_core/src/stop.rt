@@ -1,0 +1,49 @@
+//! Why the linking of types stopped.
+
+ghost use Rattle.std.specs.Prelude.{◌≡◌};
+ghost use Rattle.graph_core.specs.Stops.{fault_in};
+ghost use Rattle.graph_core.specs.declared.stop.Stop.TheVariants.{Memory};
+
+use crate::fault::CheckFault;
+use registry_core::TypeId;
+use std::alloc::{AllocError, AllocFailed};
+
+/// Why the linking of a type stopped.
+#[derive(Clone, Copy)]
+pub enum Stop {
+    /// Memory was refused, or there are more references or counters than there are numbers for them.
+    Memory,
+    /// At a reference to this id, which is no position.
+    Unknown(u32),
+}
+
+impl Stop {
+    /// The same as a fault of the type at this position.
+    pub fn in_type(self, position: u32) -> CheckFault
+        ensures { result ≡ fault_in position self }
+    {
+        match self {
+            Stop::Memory => CheckFault::OutOfMemory,
+            Stop::Unknown(to) => CheckFault::UnknownType {
+                from: TypeId(position),
+                to: TypeId(to),
+            },
+        }
+    }
+}
+
+impl From<AllocError> for Stop {
+    ghost from_gives = { λ _ stop. stop ≡ Memory };
+
+    fn from(_error: AllocError) -> Self {
+        Stop::Memory
+    }
+}
+
+impl<T: Drop> From<AllocFailed<T>> for Stop {
+    ghost from_gives = { λ _ stop. stop ≡ Memory };
+
+    fn from(_error: AllocFailed<T>) -> Self {
+        Stop::Memory
+    }
+}

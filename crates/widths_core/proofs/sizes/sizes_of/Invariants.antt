@@ -1,5 +1,0 @@
-use Rattle.widths_core.proofs.SizesTo.{SizesTo}
-use Rattle.widths_core.proofs.sizes.sizes_of.Given as goal
-
-abbrev pub invariant-types : goal.invariant-types
-invariant-types l = SizesTo l.fn.graph.types.now l.position l.references l.arms l.graph
