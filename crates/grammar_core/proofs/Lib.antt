@@ -11,4 +11,5 @@ pub mod Proved
 pub mod Sound
 pub mod Spelled
 pub mod Stable
+pub mod Steps
 pub mod Texts

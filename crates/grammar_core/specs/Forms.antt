@@ -6,7 +6,9 @@ use Rattle.registry_core.specs.declared.definition.TypeDef.TheVariants as Def
 use Rattle.registry_core.specs.declared.type_info.TypeInfo.{TypeInfo}
 use Rattle.graph_core.specs.Types.{shape}
 use Rattle.widths_core.specs.Targets.{target_of}
-use Rattle.widths_core.specs.Classes.{is_finite, is_empty}
+use Rattle.widths_core.specs.Classes.{is_finite, is_empty, is_unit}
+use Rattle.widths_core.specs.declared.step.Step.{Step}
+use Rattle.widths_core.specs.declared.step.Step.TheVariants as step
 use Rattle.grammar_core.specs.declared.form.Form.TheVariants as form
 use Rattle.grammar_core.specs.declared.form.StopReason.TheVariants as stop
 use Rattle.grammar_core.specs.declared.form.Next.{Next}
@@ -42,3 +44,21 @@ form_of r t = if is_empty r t then next.Wants form.Empty else sized_form r t
 -- what comes where a value of type t is next, within the depth limit
 abbrev pub next_at : List TypeInfo → ℕ → Next
 next_at r t = if is_finite r t then form_of r t else next.Stop stop.NoFiniteValue
+
+-- a compact over nothing takes no bytes
+abbrev pub compact_next : Option Target → Next
+compact_next over = if is_unit over then next.Wants form.Empty else compact_form over
+
+-- what comes where a value of a type of this step is next, within the depth limit
+abbrev pub next_of_step : Step → Next
+next_of_step (step.Compact over) = compact_next over
+next_of_step (step.NoArm from count) = next.Stop stop.NoFiniteValue
+next_of_step step.NoValue = next.Stop stop.NoFiniteValue
+next_of_step step.Empty = next.Wants form.Empty
+next_of_step (step.Primitive p) = next.Wants (form.Primitive p)
+next_of_step (step.Parts from count) = next.Wants form.Fields
+next_of_step (step.Arms from count) = next.Wants form.Arm
+next_of_step (step.Array n t) = next.Wants (form.Array n)
+next_of_step (step.Sequence t) = next.Wants form.Sequence
+next_of_step step.Count = next.Wants form.Count
+next_of_step step.BitSequence = next.Stop stop.BitSequence

@@ -1,13 +1,12 @@
-//! What a value of a type begins with, by its definition alone.
+//! What a value of a type begins with, by its step in the table of its registry.
 
 ghost use Rattle.std.specs.Prelude.{◌≡◌, option_map};
-ghost use Rattle.grammar_core.specs.Forms.{next_at, sized_form};
-ghost use Rattle.widths_core.specs.Classes.{class_of, is_empty};
+ghost use Rattle.grammar_core.specs.Forms.{next_at, next_of_step};
 ghost use Rattle.graph_core.specs.Types.{shape};
 
 use registry_core::{Primitive, TypeDef, TypeId};
 use scale_core::Target;
-use widths_core::{Checked, Class};
+use widths_core::{Checked, Step};
 
 /// What stands at a place in a value, and how many parts it has (SCALE codec, "Types").
 #[derive(Clone, Copy, Debug, PartialEq, Eq)]
@@ -64,53 +63,31 @@ pub fn shape(checked: &Checked, ty: TypeId) -> Option<&TypeDef>
     Some(&info.shape)
 }
 
-/// The class of a type, where one that is no position has no value.
-fn class_of(checked: &Checked, ty: TypeId) -> Class
-    ensures { result ≡ class_of checked.now.types ty.0 }
+/// What a value of a type of this step begins with, or why there is none.
+fn next_of_step(step: Step) -> Next
+    ensures { result ≡ next_of_step step }
 {
-    checked.class(ty).unwrap_or(Class::NoValue)
-}
-
-/// Does a type take no bytes?
-fn is_empty(checked: &Checked, ty: TypeId) -> bool
-    ensures { result ≡ is_empty checked.now.types ty.0 }
-{
-    matches!(class_of(checked, ty), Class::Empty)
-}
-
-/// The form of a type that takes bytes, by its definition.
-fn sized_form(checked: &Checked, ty: TypeId) -> Next
-    ensures { result ≡ sized_form checked.now.types ty.0 }
-{
-    match shape(checked, ty) {
-        None => Next::Stop(StopReason::NoFiniteValue),
-        Some(TypeDef::Composite(_)) => Next::Wants(Form::Fields),
-        Some(TypeDef::Tuple(_)) => Next::Wants(Form::Fields),
-        Some(TypeDef::Variant(_)) => Next::Wants(Form::Arm),
-        Some(TypeDef::Sequence(element)) => {
-            if is_empty(checked, *element) {
-                Next::Wants(Form::Count)
-            } else {
-                Next::Wants(Form::Sequence)
-            }
-        }
-        Some(TypeDef::Array(length, _)) => Next::Wants(Form::Array(*length)),
-        Some(TypeDef::Primitive(primitive)) => Next::Wants(Form::Primitive(*primitive)),
-        Some(TypeDef::Compact(_)) => match checked.compact_target(ty) {
-            Some(target) => Next::Wants(Form::Compact(target)),
-            None => Next::Stop(StopReason::BadCompact),
-        },
-        Some(TypeDef::BitSequence { .. }) => Next::Stop(StopReason::BitSequence),
+    match step {
+        Step::NoValue | Step::NoArm { .. } => Next::Stop(StopReason::NoFiniteValue),
+        Step::Empty | Step::Compact(Some(Target::Unit)) => Next::Wants(Form::Empty),
+        Step::Compact(Some(target)) => Next::Wants(Form::Compact(target)),
+        Step::Compact(None) => Next::Stop(StopReason::BadCompact),
+        Step::Primitive(primitive) => Next::Wants(Form::Primitive(primitive)),
+        Step::Parts { .. } => Next::Wants(Form::Fields),
+        Step::Arms { .. } => Next::Wants(Form::Arm),
+        Step::Array { len, .. } => Next::Wants(Form::Array(len)),
+        Step::Sequence { .. } => Next::Wants(Form::Sequence),
+        Step::Count => Next::Wants(Form::Count),
+        Step::BitSequence => Next::Stop(StopReason::BitSequence),
     }
 }
 
-/// What a value of the type begins with, or why there is none, where its depth is within the limit.
+/// What a value of the type begins with, or why there is none, where its depth is within the limit: one look-up.
 pub fn next_at(checked: &Checked, ty: TypeId) -> Next
     ensures { result ≡ next_at checked.now.types ty.0 }
 {
-    match class_of(checked, ty) {
-        Class::NoValue => Next::Stop(StopReason::NoFiniteValue),
-        Class::Empty => Next::Wants(Form::Empty),
-        Class::Sized => sized_form(checked, ty),
+    match checked.step(ty) {
+        Some(step) => next_of_step(step),
+        None => Next::Stop(StopReason::NoFiniteValue),
     }
 }
