@@ -10,9 +10,9 @@ use Rattle.widths_core.specs.Layouts.{Layout, layout}
 use Rattle.widths_core.specs.Layouts as layout
 use Rattle.widths_core.proofs.Known.{empty_class, class_empty, layout_empty}
 use Rattle.widths_core.proofs.Wide.{narrow_at, arm-width}
-use Rattle.grammar_core.specs.Tree.{Tree, unit, bool, char, text, unsigned, signed, wide, compact, fields, arm, list, count, Trees, none, and, how_many, nodes, all_nodes, levels, most_levels, text_bytes, all_text_bytes}
+use Rattle.grammar_core.specs.Tree.{Tree, leaf, branch, unit, bool, char, text, unsigned, signed, wide, compact, fields, arm, list, count, Trees, none, and, how_many, nodes, all_nodes, levels, most_levels, text_bytes, all_text_bytes, Leaf, leaf_text_bytes}
 use Rattle.grammar_core.specs.Preorder.{levels-pos}
-use Rattle.grammar_core.specs.Grammar.{Val, Vals, Each}
+use Rattle.grammar_core.specs.Grammar.{Val, Vals, Each, IsLeaf}
 use Rattle.grammar_core.specs.Laws.{ValuesAreBounded}
 use Rattle.grammar_core.proofs.Emptiness.{no_bytes, empty_unique, known_at}
 
@@ -63,35 +63,27 @@ array_element r t n u e h =
     let empty = layout_empty r t (empty_class r t ((known_at r t (layout.array n u) e).1 (class_empty r u h))) in
     let both = sym empty ∙ e in absurd cc
 
-leaf : (r : List TypeInfo) (room : ℕ) (b : List ℕ) → 1 ≤ length b → 1 ≤ length b * per (widest r + 1) (suc room)
-leaf r room b pos = rw (per-suc (widest r + 1) room) (omega (arith, pay (length b) 0 0 (per (widest r + 1) room) (widest r + 1) pos (omega arith) (omega arith)))
+leaf_le : (r : List TypeInfo) (room : ℕ) (b : List ℕ) → 1 ≤ length b → 1 ≤ length b * per (widest r + 1) (suc room)
+leaf_le r room b pos = rw (per-suc (widest r + 1) room) (omega (arith, pay (length b) 0 0 (per (widest r + 1) room) (widest r + 1) pos (omega arith) (omega arith)))
 
 mutual
   unfolding Val
 
   pub node_le : (r : List TypeInfo) (room t : ℕ) (v : Tree) (b : List ℕ) → Val r t v b → levels v ≤ suc room → 1 ≤ length b → nodes v ≤ length b * per (widest r + 1) (suc room)
-  node_le r room t unit b h l pos = leaf r room b pos
-  node_le r room t (bool x) b h l pos = leaf r room b pos
-  node_le r room t (char c) b h l pos = leaf r room b pos
-  node_le r room t (text s) b h l pos = leaf r room b pos
-  node_le r room t (unsigned x) b h l pos = leaf r room b pos
-  node_le r room t (signed x) b h l pos = leaf r room b pos
-  node_le r room t (wide x) b h l pos = leaf r room b pos
-  node_le r room t (compact x) b h l pos = leaf r room b pos
-  node_le r room t (count k) b h l pos = leaf r room b pos
-  node_le r room t (fields vs) b h l pos =
+  node_le r room t (leaf x) b h l pos = leaf_le r room b pos
+  node_le r room t (branch fields vs) b h l pos =
       let few = narrow_at r t (layout.fields h.0) h.1 in
       let paid = pay (length b) (length b) (how_many vs) (per (widest r + 1) room) (widest r + 1) pos (omega arith) (omega (arith, few, same_length r h.0 vs b h.2)) in
       rw (per-suc (widest r + 1) room) (omega (arith, paid, vals_le r room h.0 vs b h.2 (omega arith)))
-  node_le r room t (arm q vs) b h l pos =
+  node_le r room t (branch (arm q) vs) b h l pos =
       let ts = field_types h.2.fields in
       let few = arm-width r t h.0 h.1 q h.2 h.4 h.5 in
       let paid = pay (length b) (length h.3) (how_many vs) (per (widest r + 1) room) (widest r + 1) pos (omega (arith, ap length h.6)) (omega (arith, few, same_length r ts vs h.3 h.7)) in
       rw (per-suc (widest r + 1) room) (omega (arith, paid, vals_le r room ts vs h.3 h.7 (omega arith)))
-  node_le r room t (list vs) b (inl h) l pos =
+  node_le r room t (branch list vs) b (inl h) l pos =
       let paid = pay (length b) (length b) 0 (per (widest r + 1) room) (widest r + 1) pos (omega arith) (omega arith) in
       rw (per-suc (widest r + 1) room) (omega (arith, paid, each_le r room h.1 vs b (array_element r t h.0 h.1 h.2) h.4 (omega arith)))
-  node_le r room t (list vs) b (inr h) l pos =
+  node_le r room t (branch list vs) b (inr h) l pos =
       let paid = pay (length b) (length h.2) 0 (per (widest r + 1) room) (widest r + 1) pos (omega (arith, ap length h.5, length-append h.1 h.2)) (omega arith) in
       rw (per-suc (widest r + 1) room) (omega (arith, paid, each_le r room h.0 vs h.2 (known_at r t (layout.sequence h.0) h.3) h.6 (omega arith)))
 
@@ -112,23 +104,27 @@ mutual
       let p = per (widest r + 1) (suc room) in
       omega (arith, node_le r room t v h.0 h.3 (omega arith) (not_empty r t v h.0 ne h.3), each_le r (suc room) t vs h.1 ne h.4 (omega arith), ap (λ (x : List ℕ). length x * p) h.2, two (length h.0) (length h.1) p, ap (λ (n : ℕ). n * p) (length-append h.0 h.1))
 
+-- a text has no more bytes than its spelling
+leaf_text_le : (f : Layout) (l : Leaf) (b : List ℕ) → IsLeaf f l b → leaf_text_bytes l ≤ length b
+leaf_text_le f unit b h = omega arith
+leaf_text_le f (bool x) b h = omega arith
+leaf_text_le f (char c) b h = omega arith
+leaf_text_le f (text s) b h = omega (arith, ap length h.1.3, length-append h.1.0 s)
+leaf_text_le f (unsigned x) b h = omega arith
+leaf_text_le f (signed x) b h = omega arith
+leaf_text_le f (wide x) b h = omega arith
+leaf_text_le f (compact x) b h = omega arith
+leaf_text_le f (count k) b h = omega arith
+
 mutual
   unfolding Val
 
   pub text_le : (r : List TypeInfo) (t : ℕ) (v : Tree) (b : List ℕ) → Val r t v b → text_bytes v ≤ length b
-  text_le r t unit b h = omega arith
-  text_le r t (bool x) b h = omega arith
-  text_le r t (char c) b h = omega arith
-  text_le r t (text s) b h = omega (arith, ap length h.1.3, length-append h.1.0 s)
-  text_le r t (unsigned x) b h = omega arith
-  text_le r t (signed x) b h = omega arith
-  text_le r t (wide x) b h = omega arith
-  text_le r t (compact x) b h = omega arith
-  text_le r t (count k) b h = omega arith
-  text_le r t (fields vs) b h = all_text_le r h.0 vs b h.2
-  text_le r t (arm q vs) b h = omega (arith, ap length h.6, all_text_le r (field_types h.2.fields) vs h.3 h.7)
-  text_le r t (list vs) b (inl h) = each_text_le r h.1 vs b h.4
-  text_le r t (list vs) b (inr h) = omega (arith, ap length h.5, length-append h.1 h.2, each_text_le r h.0 vs h.2 h.6)
+  text_le r t (leaf l) b h = leaf_text_le (layout r t) l b h
+  text_le r t (branch fields vs) b h = all_text_le r h.0 vs b h.2
+  text_le r t (branch (arm q) vs) b h = omega (arith, ap length h.6, all_text_le r (field_types h.2.fields) vs h.3 h.7)
+  text_le r t (branch list vs) b (inl h) = each_text_le r h.1 vs b h.4
+  text_le r t (branch list vs) b (inr h) = omega (arith, ap length h.5, length-append h.1 h.2, each_text_le r h.0 vs h.2 h.6)
 
   pub all_text_le : (r : List TypeInfo) (ts : List ℕ) (vs : Trees) (b : List ℕ) → Vals r ts vs b → all_text_bytes vs ≤ length b
   all_text_le r [] none b h = omega arith

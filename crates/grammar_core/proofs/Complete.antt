@@ -7,12 +7,13 @@ use Rattle.registry_core.specs.declared.type_info.TypeInfo.{TypeInfo}
 use Rattle.graph_core.specs.Types.{field_types}
 use Rattle.widths_core.specs.Layouts.{Layout, layout}
 use Rattle.widths_core.specs.Layouts as layout
-use Rattle.grammar_core.specs.Tree.{Tree, unit, bool, char, text, unsigned, signed, wide, compact, fields, arm, list, count, Trees, none, and, how_many, levels, most_levels}
-use Rattle.grammar_core.specs.Grammar.{Val, Vals, Each, IsCompactValue}
+use Rattle.grammar_core.specs.Tree.{Tree, leaf, branch, unit, bool, char, text, unsigned, signed, wide, compact, fields, arm, list, count, Trees, none, and, how_many, levels, most_levels, Leaf}
+use Rattle.grammar_core.specs.Grammar.{Val, Vals, Each, IsCompactValue, IsLeaf}
 use Rattle.grammar_core.proofs.Grounded.{finite}
+use Rattle.grammar_core.specs.Preorder.{levels-pos}
 use Rattle.grammar_core.specs.Reading.{value_at, layout_at, all_at, times_at, Refusal}
 
-compact_value_again : (child : ℕ → List ℕ → Read Refusal Tree) (f : Layout) (x : ℕ) (b rest : List ℕ) → IsCompactValue f x b → layout_at child f (b ++ rest) ≡ Ok (compact x, rest)
+compact_value_again : (child : ℕ → List ℕ → Read Refusal Tree) (f : Layout) (x : ℕ) (b rest : List ℕ) → IsCompactValue f x b → layout_at child f (b ++ rest) ≡ Ok (leaf (compact x), rest)
 unfolding layout_at
 compact_value_again child (layout.compact m) x b rest h = rw (compact_again m x b rest h) refl
 compact_value_again child layout.unknown x b rest h = absurd h
@@ -31,36 +32,30 @@ compact_value_again child layout.counted x b rest h = absurd h
 compact_value_again child (layout.sequence t) x b rest h = absurd h
 compact_value_again child (layout.array n t) x b rest h = absurd h
 
+-- what spells a leaf is read as it, whatever follows
+leaf_again : (child : ℕ → List ℕ → Read Refusal Tree) (f : Layout) (l : Leaf) (b rest : List ℕ) → IsLeaf f l b → layout_at child f (b ++ rest) ≡ Ok (leaf l, rest)
+unfolding layout_at
+leaf_again child f unit b rest h = rw (h.0, h.1) refl
+leaf_again child f (bool true) b rest h = rw (h.0, h.1) refl
+leaf_again child f (bool false) b rest h = rw (h.0, h.1) refl
+leaf_again child f (char c) b rest h = rw (h.0, bytes_again 4 b rest h.1, h.2, h.3) refl
+leaf_again child f (text s) b rest h = rw (h.0, text_again s b rest h.1) refl
+leaf_again child f (unsigned x) b rest h = rw (h.1, bytes_again h.0 b rest h.2, h.3) refl
+leaf_again child f (signed x) b rest h = rw (h.1, bytes_again h.0 b rest h.2, h.3) refl
+leaf_again child f (wide x) b rest h = rw (h.0, bytes_again 32 b rest h.1, h.2) refl
+leaf_again child f (compact x) b rest h = compact_value_again child f x b rest h
+leaf_again child f (count k) b rest h = rw (h.0, compact_again target.U32 k b rest h.1) refl
+
 mutual
   unfolding Val value_at layout_at
 
   pub value_again : (r : List TypeInfo) (room t : ℕ) (v : Tree) (b rest : List ℕ) → Val r t v b → levels v ≤ room → value_at r room t (b ++ rest) ≡ Ok (v, rest)
-  value_again r zero t unit b rest h l = absurd (omega arith)
-  value_again r zero t (bool x) b rest h l = absurd (omega arith)
-  value_again r zero t (char c) b rest h l = absurd (omega arith)
-  value_again r zero t (text s) b rest h l = absurd (omega arith)
-  value_again r zero t (unsigned x) b rest h l = absurd (omega arith)
-  value_again r zero t (signed x) b rest h l = absurd (omega arith)
-  value_again r zero t (wide x) b rest h l = absurd (omega arith)
-  value_again r zero t (compact x) b rest h l = absurd (omega arith)
-  value_again r zero t (fields vs) b rest h l = absurd (omega arith)
-  value_again r zero t (arm q vs) b rest h l = absurd (omega arith)
-  value_again r zero t (list vs) b rest h l = absurd (omega arith)
-  value_again r zero t (count k) b rest h l = absurd (omega arith)
-  value_again r (suc room) t unit b rest h l = rw (finite r t unit b h, h.0, h.1) refl
-  value_again r (suc room) t (bool true) b rest h l = rw (finite r t (bool true) b h, h.0, h.1) refl
-  value_again r (suc room) t (bool false) b rest h l = rw (finite r t (bool false) b h, h.0, h.1) refl
-  value_again r (suc room) t (char c) b rest h l = rw (finite r t (char c) b h, h.0, bytes_again 4 b rest h.1, h.2, h.3) refl
-  value_again r (suc room) t (text s) b rest h l = rw (finite r t (text s) b h, h.0, text_again s b rest h.1) refl
-  value_again r (suc room) t (unsigned x) b rest h l = rw (finite r t (unsigned x) b h, h.1, bytes_again h.0 b rest h.2, h.3) refl
-  value_again r (suc room) t (signed x) b rest h l = rw (finite r t (signed x) b h, h.1, bytes_again h.0 b rest h.2, h.3) refl
-  value_again r (suc room) t (wide x) b rest h l = rw (finite r t (wide x) b h, h.0, bytes_again 32 b rest h.1, h.2) refl
-  value_again r (suc room) t (compact x) b rest h l = rw (finite r t (compact x) b h) (compact_value_again (value_at r room) (layout r t) x b rest h)
-  value_again r (suc room) t (fields vs) b rest h l = rw (finite r t (fields vs) b h, h.1, all_again r room h.0 vs b rest h.2 (omega arith)) refl
-  value_again r (suc room) t (arm q vs) b rest h l = rw (finite r t (arm q vs) b h, h.4, h.6, h.5, all_again r room (field_types h.2.fields) vs h.3 rest h.7 (omega arith)) refl
-  value_again r (suc room) t (list vs) b rest (inl h) l = rw (finite r t (list vs) b (inl h), h.2, ← h.3, times_again r room h.1 vs b rest h.4 (omega arith)) refl
-  value_again r (suc room) t (list vs) b rest (inr h) l = rw (finite r t (list vs) b (inr h), h.3, h.5, append_assoc, compact_again target.U32 (how_many vs) h.1 (h.2 ++ rest) h.4, times_again r room h.0 vs h.2 rest h.6 (omega arith)) refl
-  value_again r (suc room) t (count k) b rest h l = rw (finite r t (count k) b h, h.0, compact_again target.U32 k b rest h.1) refl
+  value_again r zero t v b rest h l = absurd (omega (arith, levels-pos v))
+  value_again r (suc room) t (leaf l) b rest h fits = rw (finite r t (leaf l) b h) (leaf_again (value_at r room) (layout r t) l b rest h)
+  value_again r (suc room) t (branch fields vs) b rest h l = rw (finite r t (branch fields vs) b h, h.1, all_again r room h.0 vs b rest h.2 (omega arith)) refl
+  value_again r (suc room) t (branch (arm q) vs) b rest h l = rw (finite r t (branch (arm q) vs) b h, h.4, h.6, h.5, all_again r room (field_types h.2.fields) vs h.3 rest h.7 (omega arith)) refl
+  value_again r (suc room) t (branch list vs) b rest (inl h) l = rw (finite r t (branch list vs) b (inl h), h.2, ← h.3, times_again r room h.1 vs b rest h.4 (omega arith)) refl
+  value_again r (suc room) t (branch list vs) b rest (inr h) l = rw (finite r t (branch list vs) b (inr h), h.3, h.5, append_assoc, compact_again target.U32 (how_many vs) h.1 (h.2 ++ rest) h.4, times_again r room h.0 vs h.2 rest h.6 (omega arith)) refl
 
   pub all_again : (r : List TypeInfo) (room : ℕ) (ts : List ℕ) (vs : Trees) (b rest : List ℕ) → Vals r ts vs b → most_levels vs ≤ room → all_at (value_at r room) ts (b ++ rest) ≡ Ok (vs, rest)
   all_again r room [] none b rest h l = rw h refl

@@ -11,8 +11,8 @@ use Rattle.widths_core.specs.Classes.{class_of, empty_within}
 use Rattle.widths_core.specs.Layouts.{Layout, layout}
 use Rattle.widths_core.specs.Layouts as layout
 use Rattle.widths_core.proofs.Known.{Known, known, empty_class, class_empty, class_finite, layout_empty}
-use Rattle.grammar_core.specs.Tree.{Tree, unit, bool, char, text, unsigned, signed, wide, compact, fields, arm, list, count, Trees, none, and, how_many}
-use Rattle.grammar_core.specs.Grammar.{Val, Vals, IsCompactValue}
+use Rattle.grammar_core.specs.Tree.{Tree, leaf, branch, unit, bool, char, text, unsigned, signed, wide, compact, fields, arm, list, count, Trees, none, and, how_many, Leaf}
+use Rattle.grammar_core.specs.Grammar.{Val, Vals, IsCompactValue, IsLeaf}
 use Rattle.grammar_core.specs.Laws.{EmptyHasUnit, SizedHasBytes}
 
 abbrev is_nil : List ℕ → Bool
@@ -51,26 +51,42 @@ known_at r t f e = subst (Known r t) e (known r t)
 compact_has_byte : {X : Type 0} (x : ℕ) (b : List ℕ) → IsCompact target.U32 x b → b ≡ [] → X
 compact_has_byte x b h e = let no = compact-bytes target.U32 x b h e in absurd cc
 
+-- a leaf of no bytes is of a type that takes none
+leaf_no_bytes : (r : List TypeInfo) (t : ℕ) (l : Leaf) (b : List ℕ) → b ≡ [] → IsLeaf (layout r t) l b → class_of r t ≡ class.Empty
+leaf_no_bytes r t unit b e h = known_at r t layout.empty h.0
+leaf_no_bytes r t (bool x) b e h = let no = sym e ∙ h.1 in absurd cc
+leaf_no_bytes r t (char c) b e h = let no = sym (ap length e) ∙ h.1 in absurd (omega (arith, no))
+leaf_no_bytes r t (text s) b e h = compact_has_byte (length s) h.1.0 h.1.1 (nil_parts h.1.0 s (sym h.1.3 ∙ e)).0
+leaf_no_bytes r t (unsigned x) b e h = absurd (omega (arith, known_at r t (layout.unsigned h.0) h.1, sym (ap length e) ∙ h.2))
+leaf_no_bytes r t (signed x) b e h = absurd (omega (arith, known_at r t (layout.signed h.0) h.1, sym (ap length e) ∙ h.2))
+leaf_no_bytes r t (wide x) b e h = let no = sym (ap length e) ∙ h.1 in absurd (omega (arith, no))
+leaf_no_bytes r t (compact x) b e h = let c = compact_value_of (layout r t) x b h in empty_class r t (known_at r t (layout.compact c.0) c.1 (compact-bytes c.0 x b c.2 e))
+leaf_no_bytes r t (count k) b e h = compact_has_byte k b h.1 e
+
+-- the one leaf of a type that takes no bytes
+leaf_unique : (l : Leaf) (f : Layout) (b : List ℕ) → f ≡ layout.empty → IsLeaf f l b → (l ≡ unit) × (b ≡ [])
+leaf_unique unit f b e h = (refl, h.1)
+leaf_unique (bool x) f b e h = let no = sym e ∙ h.0 in absurd cc
+leaf_unique (char c) f b e h = let no = sym e ∙ h.0 in absurd cc
+leaf_unique (text s) f b e h = let no = sym e ∙ h.0 in absurd cc
+leaf_unique (unsigned x) f b e h = let no = sym e ∙ h.1 in absurd cc
+leaf_unique (signed x) f b e h = let no = sym e ∙ h.1 in absurd cc
+leaf_unique (wide x) f b e h = let no = sym e ∙ h.0 in absurd cc
+leaf_unique (compact x) f b e h = let c = compact_value_of f x b h in let no = sym e ∙ c.1 in absurd cc
+leaf_unique (count k) f b e h = let no = sym e ∙ h.0 in absurd cc
+
 mutual
   unfolding Val
 
   -- a value with no byte is of a type that takes none
   pub no_bytes : (r : List TypeInfo) (t : ℕ) (v : Tree) (b : List ℕ) → b ≡ [] → Val r t v b → class_of r t ≡ class.Empty
-  no_bytes r t unit b e h = known_at r t layout.empty h.0
-  no_bytes r t (bool x) b e h = let no = sym e ∙ h.1 in absurd cc
-  no_bytes r t (char c) b e h = let no = sym (ap length e) ∙ h.1 in absurd (omega (arith, no))
-  no_bytes r t (text s) b e h = compact_has_byte (length s) h.1.0 h.1.1 (nil_parts h.1.0 s (sym h.1.3 ∙ e)).0
-  no_bytes r t (unsigned x) b e h = absurd (omega (arith, known_at r t (layout.unsigned h.0) h.1, sym (ap length e) ∙ h.2))
-  no_bytes r t (signed x) b e h = absurd (omega (arith, known_at r t (layout.signed h.0) h.1, sym (ap length e) ∙ h.2))
-  no_bytes r t (wide x) b e h = let no = sym (ap length e) ∙ h.1 in absurd (omega (arith, no))
-  no_bytes r t (compact x) b e h = let c = compact_value_of (layout r t) x b h in empty_class r t (known_at r t (layout.compact c.0) c.1 (compact-bytes c.0 x b c.2 e))
-  no_bytes r t (fields vs) b e h = empty_class r t (known_at r t (layout.fields h.0) h.1 (all_no_bytes r h.0 vs b e h.2))
-  no_bytes r t (arm q vs) b e h = let no = sym e ∙ h.6 in absurd cc
-  no_bytes r t (list none) b e (inl h) = empty_class r t ((known_at r t (layout.array h.0 h.1) h.2).0 (sym h.3))
-  no_bytes r t (list (and v vs)) b e (inl h) = empty_class r t ((known_at r t (layout.array h.0 h.1) h.2).1 (class_empty r h.1 (no_bytes r h.1 v h.4.0 (nil_parts h.4.0 h.4.1 (sym h.4.2 ∙ e)).0 h.4.3)))
-  no_bytes r t (list none) b e (inr h) = compact_has_byte 0 h.1 h.4 (nil_parts h.1 h.2 (sym h.5 ∙ e)).0
-  no_bytes r t (list (and v vs)) b e (inr h) = compact_has_byte (suc (how_many vs)) h.1 h.4 (nil_parts h.1 h.2 (sym h.5 ∙ e)).0
-  no_bytes r t (count k) b e h = compact_has_byte k b h.1 e
+  no_bytes r t (leaf l) b e h = leaf_no_bytes r t l b e h
+  no_bytes r t (branch fields vs) b e h = empty_class r t (known_at r t (layout.fields h.0) h.1 (all_no_bytes r h.0 vs b e h.2))
+  no_bytes r t (branch (arm q) vs) b e h = let no = sym e ∙ h.6 in absurd cc
+  no_bytes r t (branch list none) b e (inl h) = empty_class r t ((known_at r t (layout.array h.0 h.1) h.2).0 (sym h.3))
+  no_bytes r t (branch list (and v vs)) b e (inl h) = empty_class r t ((known_at r t (layout.array h.0 h.1) h.2).1 (class_empty r h.1 (no_bytes r h.1 v h.4.0 (nil_parts h.4.0 h.4.1 (sym h.4.2 ∙ e)).0 h.4.3)))
+  no_bytes r t (branch list none) b e (inr h) = compact_has_byte 0 h.1 h.4 (nil_parts h.1 h.2 (sym h.5 ∙ e)).0
+  no_bytes r t (branch list (and v vs)) b e (inr h) = compact_has_byte (suc (how_many vs)) h.1 h.4 (nil_parts h.1 h.2 (sym h.5 ∙ e)).0
 
   pub all_no_bytes : (r : List TypeInfo) (ts : List ℕ) (vs : Trees) (b : List ℕ) → b ≡ [] → Vals r ts vs b → list_all (empty_within r (length r)) ts ≡ true
   all_no_bytes r [] none b e h = refl
@@ -87,21 +103,13 @@ not_nil (x ∷ b) h = omega arith
 pub sized_has_bytes : SizedHasBytes
 sized_has_bytes r t v b sized h = not_nil b (λ e. let no = sym sized ∙ no_bytes r t v b e h in absurd cc)
 
-pub empty_unique : (r : List TypeInfo) (t : ℕ) (v : Tree) (b : List ℕ) → layout r t ≡ layout.empty → Val r t v b → (v ≡ unit) × (b ≡ [])
+pub empty_unique : (r : List TypeInfo) (t : ℕ) (v : Tree) (b : List ℕ) → layout r t ≡ layout.empty → Val r t v b → (v ≡ leaf unit) × (b ≡ [])
 unfolding Val
-empty_unique r t unit b e h = (refl, h.1)
-empty_unique r t (bool x) b e h = let no = sym e ∙ h.0 in absurd cc
-empty_unique r t (char c) b e h = let no = sym e ∙ h.0 in absurd cc
-empty_unique r t (text s) b e h = let no = sym e ∙ h.0 in absurd cc
-empty_unique r t (unsigned x) b e h = let no = sym e ∙ h.1 in absurd cc
-empty_unique r t (signed x) b e h = let no = sym e ∙ h.1 in absurd cc
-empty_unique r t (wide x) b e h = let no = sym e ∙ h.0 in absurd cc
-empty_unique r t (compact x) b e h = let c = compact_value_of (layout r t) x b h in let no = sym e ∙ c.1 in absurd cc
-empty_unique r t (fields vs) b e h = let no = sym e ∙ h.1 in absurd cc
-empty_unique r t (arm q vs) b e h = let no = sym e ∙ h.4 in absurd cc
-empty_unique r t (list vs) b e (inl h) = let no = sym e ∙ h.2 in absurd cc
-empty_unique r t (list vs) b e (inr h) = let no = sym e ∙ h.3 in absurd cc
-empty_unique r t (count k) b e h = let no = sym e ∙ h.0 in absurd cc
+empty_unique r t (leaf l) b e h = let is = leaf_unique l (layout r t) b e h in (ap leaf is.0, is.1)
+empty_unique r t (branch fields vs) b e h = let no = sym e ∙ h.1 in absurd cc
+empty_unique r t (branch (arm q) vs) b e h = let no = sym e ∙ h.4 in absurd cc
+empty_unique r t (branch list vs) b e (inl h) = let no = sym e ∙ h.2 in absurd cc
+empty_unique r t (branch list vs) b e (inr h) = let no = sym e ∙ h.3 in absurd cc
 
 pub empty_has_unit : EmptyHasUnit
 unfolding Val

@@ -25,7 +25,7 @@ use Rattle.widths_core.specs.Classes.{finite_within, finite_step, holds_at, is_e
 use Rattle.widths_core.specs.Layouts.{Layout, layout, sized_layout, primitive_layout, sequence_layout, compact_layout}
 use Rattle.widths_core.specs.Layouts as layout
 use Rattle.widths_core.proofs.Ranks.{and_parts, or_parts}
-use Rattle.grammar_core.specs.Tree.{Tree, unit, bool, char, text, unsigned, signed, wide, compact as compact_value, fields, arm, list, count, Trees, none, and, how_many}
+use Rattle.grammar_core.specs.Tree.{Tree, leaf, branch, unit, bool, char, text, unsigned, signed, wide, compact as compact_value, fields, arm, list, count, Trees, none, and, how_many}
 use Rattle.grammar_core.specs.Grammar.{Val, Vals, Each}
 use Rattle.grammar_core.specs.Laws.{FiniteHasValue}
 
@@ -147,25 +147,25 @@ no_text = refl
 
 unsigned_value : (r : List TypeInfo) (t k : ℕ) → layout r t ≡ layout.unsigned k → HasValue r t
 unfolding Val
-unsigned_value r t k e = (unsigned (number (zeros k)), zeros k, zeros-bytes k, (k, e, length-zeros k, refl))
+unsigned_value r t k e = (leaf (unsigned (number (zeros k))), zeros k, zeros-bytes k, (k, e, length-zeros k, refl))
 
 signed_value : (r : List TypeInfo) (t k : ℕ) → layout r t ≡ layout.signed k → HasValue r t
 unfolding Val
-signed_value r t k e = (signed (signed_number (zeros k)), zeros k, zeros-bytes k, (k, e, length-zeros k, refl))
+signed_value r t k e = (leaf (signed (signed_number (zeros k))), zeros k, zeros-bytes k, (k, e, length-zeros k, refl))
 
 wide_value : (r : List TypeInfo) (t : ℕ) → layout r t ≡ layout.wide → HasValue r t
 unfolding Val
-wide_value r t e = (wide (zeros 32), zeros 32, zeros-bytes 32, (e, length-zeros 32, refl))
+wide_value r t e = (leaf (wide (zeros 32)), zeros 32, zeros-bytes 32, (e, length-zeros 32, refl))
 
 char_value : (r : List TypeInfo) (t : ℕ) → layout r t ≡ layout.char → HasValue r t
 unfolding Val zeros
-char_value r t e = (char 0, zeros 4, zeros-bytes 4, (e, refl, refl, refl))
+char_value r t e = (leaf (char 0), zeros 4, zeros-bytes 4, (e, refl, refl, refl))
 
 primitive_value : (r : List TypeInfo) (t : ℕ) (p : Primitive) → layout r t ≡ primitive_layout p → HasValue r t
 unfolding Val
-primitive_value r t P.Bool e = (bool false, 0 ∷ [], (omega arith, tt), (e, refl))
+primitive_value r t P.Bool e = (leaf (bool false), 0 ∷ [], (omega arith, tt), (e, refl))
 primitive_value r t P.Char e = char_value r t e
-primitive_value r t P.Str e = (text [], compact 0 ++ [], both_bytes (compact 0) [] zero-bytes tt, (e, (compact 0, u32_zero, no_text, refl)))
+primitive_value r t P.Str e = (leaf (text []), compact 0 ++ [], both_bytes (compact 0) [] zero-bytes tt, (e, (compact 0, u32_zero, no_text, refl)))
 primitive_value r t P.U8 e = unsigned_value r t 1 e
 primitive_value r t P.U16 e = unsigned_value r t 2 e
 primitive_value r t P.U32 e = unsigned_value r t 4 e
@@ -181,8 +181,8 @@ primitive_value r t P.I256 e = wide_value r t e
 
 sequence_value : (r : List TypeInfo) (t u : ℕ) (b : Bool) → layout r t ≡ sequence_layout u b → HasValue r t
 unfolding Val
-sequence_value r t u true e = (count 0, compact 0, zero-bytes, (e, u32_zero))
-sequence_value r t u false e = (list none, compact 0 ++ [], both_bytes (compact 0) [] zero-bytes tt, inr (u, compact 0, [], e, u32_zero, refl, refl))
+sequence_value r t u true e = (leaf (count 0), compact 0, zero-bytes, (e, u32_zero))
+sequence_value r t u false e = (branch list none, compact 0 ++ [], both_bytes (compact 0) [] zero-bytes tt, inr (u, compact 0, [], e, u32_zero, refl, refl))
 
 zero_of : (m : Target) → (b : List ℕ) × AreBytes b × IsCompact m 0 b
 zero_of target.Unit = ([], tt, (refl, refl))
@@ -195,19 +195,19 @@ zero_of target.U128 = (compact 0, zero-bytes, (omega arith, refl))
 compact_of : (r : List TypeInfo) (t : ℕ) (o : Option Target) → (o ≡ None → ⊥) → layout r t ≡ compact_layout o → HasValue r t
 unfolding Val
 compact_of r t None left e = absurd (left refl)
-compact_of r t (Some m) left e = let z = zero_of m in (compact_value 0, z.0, z.1, rw e z.2)
+compact_of r t (Some m) left e = let z = zero_of m in (leaf (compact_value 0), z.0, z.1, rw e z.2)
 
 sized_value : (r : List TypeInfo) (k t : ℕ) (d : TypeDef) → FitsDefinition d → IsPlain r t → shape r t ≡ Some d → ((u : ℕ) → IsAmong u (references d) → finite_within r k u ≡ true → HasValue r u) → layout r t ≡ sized_layout r d → finite_step (finite_within r k) d ≡ true → HasValue r t
 unfolding Val
-sized_value r k t (Def.Composite fs) fits plain is child e h = let all = all_values r (finite_within r k) (field_types fs) child h in (fields all.0, all.1, all.2, (field_types fs, e, all.3))
+sized_value r k t (Def.Composite fs) fits plain is child e h = let all = all_values r (finite_within r k) (field_types fs) child h in (branch fields all.0, all.1, all.2, (field_types fs, e, all.3))
 sized_value r k t (Def.Variant arms) fits plain is child e h =
     let l = live (λ a. list_all (finite_within r k) (field_types a.fields)) arms [] 0 fits.1 h in
     let all = all_values r (finite_within r k) (field_types l.arm.fields) (λ u m. child u (l.refers u m)) l.holds in
-    (arm l.position all.0, l.arm.index ∷ all.1, (l.byte, all.2), (arms, l.arm.index, l.arm, all.1, e, l.is, refl, all.3))
+    (branch (arm l.position) all.0, l.arm.index ∷ all.1, (l.byte, all.2), (arms, l.arm.index, l.arm, all.1, e, l.is, refl, all.3))
 sized_value r k t (Def.Sequence u) fits plain is child e h = sequence_value r t u.0 (is_empty r u.0) e
-sized_value r k t (Def.Array zero u) fits plain is child e h = (list none, [], tt, inl (0, u.0, e, refl, refl))
-sized_value r k t (Def.Array (suc n) u) fits plain is child e h = let all = repeated r u.0 (suc n) (child u.0 (inl refl) h) in (list all.0, all.1, all.2, inl (suc n, u.0, e, all.3, all.4))
-sized_value r k t (Def.Tuple ts) fits plain is child e h = let all = all_values r (finite_within r k) (ids ts) child h in (fields all.0, all.1, all.2, (ids ts, e, all.3))
+sized_value r k t (Def.Array zero u) fits plain is child e h = (branch list none, [], tt, inl (0, u.0, e, refl, refl))
+sized_value r k t (Def.Array (suc n) u) fits plain is child e h = let all = repeated r u.0 (suc n) (child u.0 (inl refl) h) in (branch list all.0, all.1, all.2, inl (suc n, u.0, e, all.3, all.4))
+sized_value r k t (Def.Tuple ts) fits plain is child e h = let all = all_values r (finite_within r k) (ids ts) child h in (branch fields all.0, all.1, all.2, (ids ts, e, all.3))
 sized_value r k t (Def.Primitive p) fits plain is child e h = primitive_value r t p e
 sized_value r k t (Def.Compact u) fits plain is child e h = compact_of r t (target_of r u.0) (λ none. plain t (Def.Compact u) here is none) e
 sized_value r k t (Def.BitSequence store order) fits plain is child e h = absurd (plain t (Def.BitSequence store order) here is tt)
@@ -226,7 +226,7 @@ fits_at (x ∷ r) (suc t) d h e = fits_at r t d h.1 e
 
 some_value : (r : List TypeInfo) (k t : ℕ) (d : TypeDef) → FitsDefinition d → IsPlain r t → shape r t ≡ Some d → ((u : ℕ) → IsAmong u (references d) → finite_within r k u ≡ true → HasValue r u) → finite_step (finite_within r k) d ≡ true → (b : Bool) → is_empty r t ≡ b → HasValue r t
 unfolding Val layout
-some_value r k t d fits plain is child h true e = (unit, [], tt, (rw e refl, refl))
+some_value r k t d fits plain is child h true e = (leaf unit, [], tt, (rw e refl, refl))
 some_value r k t d fits plain is child h false e = sized_value r k t d fits plain is child (rw (e, is) refl) h
 
 value_within : (r : List TypeInfo) → AllByRecursion FitsType r → (k t : ℕ) → finite_within r k t ≡ true → IsPlain r t → HasValue r t

@@ -11,8 +11,8 @@ use Rattle.graph_core.specs.Types.{field_types}
 use Rattle.widths_core.specs.Layouts.{Layout, layout}
 use Rattle.widths_core.specs.Layouts as layout
 use Rattle.widths_core.proofs.Wide.{arm-index}
-use Rattle.grammar_core.specs.Tree.{Tree, unit, bool, char, text, unsigned, signed, wide, compact, fields, arm, list, count, Trees, none, and, how_many}
-use Rattle.grammar_core.specs.Grammar.{Val, Vals, Each}
+use Rattle.grammar_core.specs.Tree.{Tree, leaf, branch, unit, bool, char, text, unsigned, signed, wide, compact, fields, arm, list, count, Trees, none, and, how_many, Leaf}
+use Rattle.grammar_core.specs.Grammar.{Val, Vals, Each, IsLeaf}
 use Rattle.grammar_core.specs.Laws.{OneSpelling}
 use Rattle.grammar_core.proofs.Emptiness.{compact_value_of}
 
@@ -43,35 +43,39 @@ front_of b c d e h = front_bytes c d (rw (← e) h)
 rest_of : (b c d : List ℕ) → b ≡ c ++ d → AreBytes b → AreBytes d
 rest_of b c d e h = rest_bytes c d (rw (← e) h)
 
+-- a leaf has one spelling
+leaf_one : (r : List TypeInfo) (t : ℕ) (l : Leaf) (a b : List ℕ) → AreBytes a → AreBytes b → IsLeaf (layout r t) l a → IsLeaf (layout r t) l b → a ≡ b
+leaf_one r t unit a b p q h k = h.1 ∙ sym k.1
+leaf_one r t (bool x) a b p q h k = h.1 ∙ sym k.1
+leaf_one r t (char c) a b p q h k = number_one a b p q (h.1 ∙ sym k.1) (h.2 ∙ sym k.2)
+leaf_one r t (text s) a b p q h k = let same = one_spelling target.U32 (length s) h.1.0 k.1.0 h.1.1 k.1.1 in h.1.3 ∙ ap (λ (x : List ℕ). x ++ s) same ∙ sym k.1.3
+leaf_one r t (unsigned x) a b p q h k = number_one a b p q (h.2 ∙ unsigned_is r t h.0 k.0 h.1 k.1 ∙ sym k.2) (h.3 ∙ sym k.3)
+leaf_one r t (signed x) a b p q h k = signed_one a b p q (h.2 ∙ signed_is r t h.0 k.0 h.1 k.1 ∙ sym k.2) (h.3 ∙ sym k.3)
+leaf_one r t (wide x) a b p q h k = h.2 ∙ sym k.2
+leaf_one r t (compact x) a b p q h k =
+    let c = compact_value_of (layout r t) x a h in
+    let d = compact_value_of (layout r t) x b k in
+    one_spelling c.0 x a b c.2 (rw (compact_is r t c.0 d.0 c.1 d.1) d.2)
+leaf_one r t (count n) a b p q h k = one_spelling target.U32 n a b h.1 k.1
+
 mutual
   unfolding Val
 
   one : (r : List TypeInfo) (t : ℕ) (v : Tree) (a b : List ℕ) → AreBytes a → AreBytes b → Val r t v a → Val r t v b → a ≡ b
-  one r t unit a b p q h k = h.1 ∙ sym k.1
-  one r t (bool x) a b p q h k = h.1 ∙ sym k.1
-  one r t (char c) a b p q h k = number_one a b p q (h.1 ∙ sym k.1) (h.2 ∙ sym k.2)
-  one r t (text s) a b p q h k = let same = one_spelling target.U32 (length s) h.1.0 k.1.0 h.1.1 k.1.1 in h.1.3 ∙ ap (λ (x : List ℕ). x ++ s) same ∙ sym k.1.3
-  one r t (unsigned x) a b p q h k = number_one a b p q (h.2 ∙ unsigned_is r t h.0 k.0 h.1 k.1 ∙ sym k.2) (h.3 ∙ sym k.3)
-  one r t (signed x) a b p q h k = signed_one a b p q (h.2 ∙ signed_is r t h.0 k.0 h.1 k.1 ∙ sym k.2) (h.3 ∙ sym k.3)
-  one r t (wide x) a b p q h k = h.2 ∙ sym k.2
-  one r t (compact x) a b p q h k =
-      let c = compact_value_of (layout r t) x a h in
-      let d = compact_value_of (layout r t) x b k in
-      one_spelling c.0 x a b c.2 (rw (compact_is r t c.0 d.0 c.1 d.1) d.2)
-  one r t (fields vs) a b p q h k = all_one r h.0 vs a b p q h.2 (rw (fields_are r t h.0 k.0 h.1 k.1) k.2)
-  one r t (arm i vs) a b p q h k =
+  one r t (leaf l) a b p q h k = leaf_one r t l a b p q h k
+  one r t (branch fields vs) a b p q h k = all_one r h.0 vs a b p q h.2 (rw (fields_are r t h.0 k.0 h.1 k.1) k.2)
+  one r t (branch (arm i) vs) a b p q h k =
       let arms = arms_are r t h.0 k.0 h.4 k.4 in
       let same = arm-index h.0 h.1 k.1 i h.2 k.2 h.5 (rw arms k.5) in
       let rests = all_one r (field_types h.2.fields) vs h.3 k.3 (rest_of a (h.1 ∷ []) h.3 h.6 p) (rest_of b (k.1 ∷ []) k.3 k.6 q) h.7 (rw same.1 k.7) in
       h.6 ∙ (rw (same.0, rests) refl) ∙ sym k.6
-  one r t (list vs) a b p q (inl h) (inl k) = each_one r h.1 vs a b p q h.4 (rw (elements_are r t h.0 k.0 h.1 k.1 h.2 k.2) k.4)
-  one r t (list vs) a b p q (inl h) (inr k) = let no = sym h.2 ∙ k.3 in absurd cc
-  one r t (list vs) a b p q (inr h) (inl k) = let no = sym h.3 ∙ k.2 in absurd cc
-  one r t (list vs) a b p q (inr h) (inr k) =
+  one r t (branch list vs) a b p q (inl h) (inl k) = each_one r h.1 vs a b p q h.4 (rw (elements_are r t h.0 k.0 h.1 k.1 h.2 k.2) k.4)
+  one r t (branch list vs) a b p q (inl h) (inr k) = let no = sym h.2 ∙ k.3 in absurd cc
+  one r t (branch list vs) a b p q (inr h) (inl k) = let no = sym h.3 ∙ k.2 in absurd cc
+  one r t (branch list vs) a b p q (inr h) (inr k) =
       let lens = one_spelling target.U32 (how_many vs) h.1 k.1 h.4 k.4 in
       let rests = each_one r h.0 vs h.2 k.2 (rest_of a h.1 h.2 h.5 p) (rest_of b k.1 k.2 k.5 q) h.6 (rw (sequence_is r t h.0 k.0 h.3 k.3) k.6) in
       h.5 ∙ (rw (lens, rests) refl) ∙ sym k.5
-  one r t (count n) a b p q h k = one_spelling target.U32 n a b h.1 k.1
 
   all_one : (r : List TypeInfo) (ts : List ℕ) (vs : Trees) (a b : List ℕ) → AreBytes a → AreBytes b → Vals r ts vs a → Vals r ts vs b → a ≡ b
   all_one r [] none a b p q h k = h ∙ sym k

@@ -16,17 +16,17 @@ use Rattle.widths_core.specs.Arms.{arm_of}
 use Rattle.widths_core.specs.Classes.{is_finite}
 use Rattle.widths_core.specs.Layouts.{Layout, layout}
 use Rattle.widths_core.specs.Layouts as layout
-use Rattle.grammar_core.specs.Tree.{Tree, char, text, unsigned, signed, wide, compact, fields, arm, list, count, Trees, how_many, levels, most_levels}
+use Rattle.grammar_core.specs.Tree.{Leaf, Branch, Tree, leaf, branch, char, text, unsigned, signed, wide, compact, fields, arm, list, count, Trees, how_many, levels, most_levels}
 use Rattle.grammar_core.specs.Grammar.{Val, Vals, Each}
-use Rattle.grammar_core.specs.Reading.{value_at, layout_at, bool_at, char_from, all_at, times_at, arm_at, arms_at, elements_at, as_value, with_children, Refusal, basic}
+use Rattle.grammar_core.specs.Reading.{value_at, layout_at, bool_at, char_from, all_at, times_at, arm_at, arms_at, elements_at, as_leaf, with_children, Refusal, basic}
 
-as_value_takes : {X : Type 0} (P : X → List ℕ → Type 0) (Q : Tree → List ℕ → Type 0) (make : X → Tree) (b : List ℕ) (read : Read Reason X) → Takes P b read → ((x : X) (c : List ℕ) → P x c → Q (make x) c) → Takes Q b (as_value make read)
-as_value_takes P Q make b (Ok x) h f = (h.0, h.1, f x.0 h.0 h.2)
-as_value_takes P Q make b (Err e) h f = tt
+as_leaf_takes : {X : Type 0} (P : X → List ℕ → Type 0) (Q : Tree → List ℕ → Type 0) (make : X → Leaf) (b : List ℕ) (read : Read Reason X) → Takes P b read → ((x : X) (c : List ℕ) → P x c → Q (leaf (make x)) c) → Takes Q b (as_leaf make read)
+as_leaf_takes P Q make b (Ok x) h f = (h.0, h.1, f x.0 h.0 h.2)
+as_leaf_takes P Q make b (Err e) h f = tt
 
-with_children_takes : (P : Trees → List ℕ → Type 0) (Q : Tree → List ℕ → Type 0) (make : Trees → Tree) (b : List ℕ) (read : Read Refusal Trees) → Takes P b read → ((x : Trees) (c : List ℕ) → P x c → Q (make x) c) → Takes Q b (with_children make read)
-with_children_takes P Q make b (Ok x) h f = (h.0, h.1, f x.0 h.0 h.2)
-with_children_takes P Q make b (Err e) h f = tt
+with_children_takes : (P : Trees → List ℕ → Type 0) (Q : Tree → List ℕ → Type 0) (k : Branch) (b : List ℕ) (read : Read Refusal Trees) → Takes P b read → ((x : Trees) (c : List ℕ) → P x c → Q (branch k x) c) → Takes Q b (with_children k read)
+with_children_takes P Q k b (Ok x) h f = (h.0, h.1, f x.0 h.0 h.2)
+with_children_takes P Q k b (Err e) h f = tt
 
 -- a value with room for so many levels, a list of them, and some of one type
 abbrev One : List TypeInfo → ℕ → ℕ → Tree → List ℕ → Type 0
@@ -65,7 +65,7 @@ bool_takes r room t (suc (suc x) ∷ b) e = tt
 char_takes : (r : List TypeInfo) (room t : ℕ) (b : List ℕ) (read : Read Reason (List ℕ)) → layout r t ≡ layout.char → Takes (λ x c. (c ≡ x) × (length c ≡ 4)) b read → Takes (One r (suc room) t) b (char_from b read)
 unfolding Val
 char_takes r room t b (Err e) f h = tt
-char_takes r room t b (Ok x) f h = cond_takes (One r (suc room) t) b (is_scalar (number x.0)) (Ok (char (number x.0), x.1)) (Err (basic reasons.BadChar, b)) (λ e. (h.0, h.1, ((f, h.2.1, ap number h.2.0, e), omega arith))) (λ e. tt)
+char_takes r room t b (Ok x) f h = cond_takes (One r (suc room) t) b (is_scalar (number x.0)) (Ok (leaf (char (number x.0)), x.1)) (Err (basic reasons.BadChar, b)) (λ e. (h.0, h.1, ((f, h.2.1, ap number h.2.0, e), omega arith))) (λ e. tt)
 
 arm_takes : (r : List TypeInfo) (room t : ℕ) (child : ℕ → List ℕ → Read Refusal Tree) → ChildTakes r room child → (arms : List Arm) → layout r t ≡ layout.arms arms → (i : ℕ) (b : List ℕ) (found : Option (ℕ × Arm)) → arm_of arms i ≡ found → Takes (One r (suc room) t) (i ∷ b) (arm_at child (i ∷ b) found b)
 unfolding Val
@@ -93,16 +93,16 @@ layout_takes r room t child h layout.bad_compact e b = tt
 layout_takes r room t child h layout.empty e b = ([], refl, ((e, refl), omega arith))
 layout_takes r room t child h layout.bool e b = bool_takes r room t b e
 layout_takes r room t child h layout.char e b = char_takes r room t b (bytes_at 4 b) e (bytes_takes 4 b)
-layout_takes r room t child h layout.text e b = as_value_takes IsText (One r (suc room) t) text b (text_at b) (text_takes b) (λ s c is. ((e, is), omega arith))
-layout_takes r room t child h (layout.unsigned k) e b = as_value_takes (λ x c. (c ≡ x) × (length c ≡ k)) (One r (suc room) t) (λ b. unsigned (number b)) b (bytes_at k b) (bytes_takes k b) (λ x c is. ((k, e, is.1, ap number is.0), omega arith))
-layout_takes r room t child h (layout.signed k) e b = as_value_takes (λ x c. (c ≡ x) × (length c ≡ k)) (One r (suc room) t) (λ b. signed (signed_number b)) b (bytes_at k b) (bytes_takes k b) (λ x c is. ((k, e, is.1, ap signed_number is.0), omega arith))
-layout_takes r room t child h layout.wide e b = as_value_takes (λ x c. (c ≡ x) × (length c ≡ 32)) (One r (suc room) t) wide b (bytes_at 32 b) (bytes_takes 32 b) (λ x c is. ((e, is.1, is.0), omega arith))
+layout_takes r room t child h layout.text e b = as_leaf_takes IsText (One r (suc room) t) text b (text_at b) (text_takes b) (λ s c is. ((e, is), omega arith))
+layout_takes r room t child h (layout.unsigned k) e b = as_leaf_takes (λ x c. (c ≡ x) × (length c ≡ k)) (One r (suc room) t) (λ b. unsigned (number b)) b (bytes_at k b) (bytes_takes k b) (λ x c is. ((k, e, is.1, ap number is.0), omega arith))
+layout_takes r room t child h (layout.signed k) e b = as_leaf_takes (λ x c. (c ≡ x) × (length c ≡ k)) (One r (suc room) t) (λ b. signed (signed_number b)) b (bytes_at k b) (bytes_takes k b) (λ x c is. ((k, e, is.1, ap signed_number is.0), omega arith))
+layout_takes r room t child h layout.wide e b = as_leaf_takes (λ x c. (c ≡ x) × (length c ≡ 32)) (One r (suc room) t) wide b (bytes_at 32 b) (bytes_takes 32 b) (λ x c is. ((e, is.1, is.0), omega arith))
 layout_takes r room t child h (layout.fields ts) e b = with_children_takes (Some_of r room ts) (One r (suc room) t) fields b (all_at child ts b) (all_takes r room child h ts b) (λ vs c vals. ((ts, e, vals.0), omega arith))
 layout_takes r room t child h (layout.arms arms) e b = arms_takes r room t child h arms e b
-layout_takes r room t child h layout.counted e b = as_value_takes (IsCompact target.U32) (One r (suc room) t) count b (compact_at target.U32 b) (compact_takes target.U32 b) (λ k c is. ((e, is), omega arith))
+layout_takes r room t child h layout.counted e b = as_leaf_takes (IsCompact target.U32) (One r (suc room) t) count b (compact_at target.U32 b) (compact_takes target.U32 b) (λ k c is. ((e, is), omega arith))
 layout_takes r room t child h (layout.sequence u) e b = elements_takes r room t u child h e b (compact_at target.U32 b) (compact_takes target.U32 b)
 layout_takes r room t child h (layout.array n u) e b = with_children_takes (Times r room n u) (One r (suc room) t) list b (times_at child n u b) (times_takes r room child h n u b) (λ vs c vals. (inl (n, u, e, vals.1, vals.0), omega arith))
-layout_takes r room t child h (layout.compact m) e b = as_value_takes (IsCompact m) (One r (suc room) t) compact b (compact_at m b) (compact_takes m b) (λ x c is. (rw e is, omega arith))
+layout_takes r room t child h (layout.compact m) e b = as_leaf_takes (IsCompact m) (One r (suc room) t) compact b (compact_at m b) (compact_takes m b) (λ x c is. (rw e is, omega arith))
 
 pub value_takes : (r : List TypeInfo) (room t : ℕ) (b : List ℕ) → Takes (One r room t) b (value_at r room t b)
 unfolding value_at

@@ -24,13 +24,13 @@ use Rattle.widths_core.specs.Layouts.{Layout, layout, layout_of_shape, sized_lay
 use Rattle.widths_core.specs.Layouts as layout
 use Rattle.widths_core.proofs.Known.{empty_class, layout_empty}
 use Rattle.widths_core.proofs.FirstArm.{arm_is_first}
-use Rattle.grammar_core.specs.Tree.{Tree, unit, bool, char, text, unsigned, signed, wide, fields, arm, list, count, Trees, none, and, how_many}
+use Rattle.grammar_core.specs.Tree.{Tree, leaf, branch, unit, bool, char, text, unsigned, signed, wide, fields, arm, list, count, Trees, none, and, how_many, Leaf}
 use Rattle.grammar_core.specs.Tree as tree
-use Rattle.grammar_core.specs.Grammar.{Val, Vals, Each}
+use Rattle.grammar_core.specs.Grammar.{Val, Vals, Each, IsLeaf}
 use Rattle.grammar_core.specs.Parts.{each, times}
 use Rattle.grammar_core.specs.Cells.{cells, all_cells}
 use Rattle.grammar_core.proofs.Emptiness.{compact_value_of, known_at}
-use Rattle.grammar_core.specs.Spelled.{width_of, word, index_of, index_byte, is_sequence, length_bytes, cell_bytes, spelled, EncodedIsValue}
+use Rattle.grammar_core.specs.Spelled.{leaf_bytes, width_of, word, index_of, index_byte, is_sequence, length_bytes, cell_bytes, spelled, EncodedIsValue}
 
 -- ---- what the layout of a type says of its definition
 
@@ -174,30 +174,34 @@ sequence_length r t u k e = rw (shaped_at r t (layout.sequence u) e) refl
 
 -- ---- all nodes
 
+-- the bytes of a leaf by itself are those that spell it
+leaf_spells : (r : List TypeInfo) (t : ℕ) (l : Leaf) (b : List ℕ) → AreBytes b → IsLeaf (layout r t) l b → leaf_bytes (shape r t) l ++ [] ≡ b
+leaf_spells r t unit b p h = sym h.1
+leaf_spells r t (bool x) b p h = sym h.1
+leaf_spells r t (char c) b p h = unsigned_bytes_are 4 c b p h.1 h.2
+leaf_spells r t (text s) b p h = append-nil (compact (length s) ++ s) ∙ ap (λ (x : List ℕ). x ++ s) (sym h.1.1.1) ∙ sym h.1.3
+leaf_spells r t (unsigned x) b p h = append-nil _ ∙ ap (λ (k : ℕ). le_bytes k x) (shaped_at r t (layout.unsigned h.0) h.1) ∙ unsigned_bytes_are h.0 x b p h.2 h.3
+leaf_spells r t (signed x) b p h =
+    let s = shaped_at r t (layout.signed h.0) h.1 in
+    append-nil _ ∙ ap (λ (k : ℕ). le_bytes k (word x)) s.0 ∙ signed_bytes_are h.0 x b p s.1 h.2 h.3
+leaf_spells r t (wide x) b p h = append-nil x ∙ sym h.2
+leaf_spells r t (tree.compact x) b p h = let c = compact_value_of (layout r t) x b h in append-nil (compact x) ∙ compact_is r t c.0 x b c.1 c.2
+leaf_spells r t (count k) b p h = append-nil (compact k) ∙ sym h.1.1
+
 mutual
   unfolding Val
 
   pub spells : (r : List TypeInfo) (t : ℕ) (v : Tree) (b : List ℕ) → AreBytes b → Val r t v b → spelled r t v ≡ b
-  spells r t unit b p h = sym h.1
-  spells r t (bool x) b p h = sym h.1
-  spells r t (char c) b p h = unsigned_bytes_are 4 c b p h.1 h.2
-  spells r t (text s) b p h = append-nil (compact (length s) ++ s) ∙ ap (λ (x : List ℕ). x ++ s) (sym h.1.1.1) ∙ sym h.1.3
-  spells r t (unsigned x) b p h = append-nil _ ∙ ap (λ (k : ℕ). le_bytes k x) (shaped_at r t (layout.unsigned h.0) h.1) ∙ unsigned_bytes_are h.0 x b p h.2 h.3
-  spells r t (signed x) b p h =
-      let s = shaped_at r t (layout.signed h.0) h.1 in
-      append-nil _ ∙ ap (λ (k : ℕ). le_bytes k (word x)) s.0 ∙ signed_bytes_are h.0 x b p s.1 h.2 h.3
-  spells r t (wide x) b p h = append-nil x ∙ sym h.2
-  spells r t (tree.compact x) b p h = let c = compact_value_of (layout r t) x b h in append-nil (compact x) ∙ compact_is r t c.0 x b c.1 c.2
-  spells r t (fields vs) b p h = rw h.1 (spells_vals r h.0 vs b p h.2)
-  spells r t (arm q vs) b p h =
+  spells r t (leaf l) b p h = leaf_spells r t l b p h
+  spells r t (branch fields vs) b p h = rw h.1 (spells_vals r h.0 vs b p h.2)
+  spells r t (branch (arm q) vs) b p h =
       let first = arm_byte r t h.0 h.1 q h.2 h.4 h.5 in
       let rest = spells_vals r (field_types h.2.fields) vs h.3 (subst AreBytes h.6 p).1 h.7 in
       rw (first, h.4, arm_get h.0 h.1 q h.2 h.5, rest) (sym h.6)
-  spells r t (list vs) b p (inl h) = rw (shaped_at r t (layout.array h.0 h.1) h.2, h.2) (spells_each r h.1 vs b p h.4)
-  spells r t (list vs) b p (inr h) =
+  spells r t (branch list vs) b p (inl h) = rw (shaped_at r t (layout.array h.0 h.1) h.2, h.2) (spells_each r h.1 vs b p h.4)
+  spells r t (branch list vs) b p (inr h) =
       let rest = spells_each r h.0 vs h.2 (rest_bytes h.1 h.2 (rw (← h.5) p)) h.6 in
       rw (shaped_at r t (layout.sequence h.0) h.3, h.3, rest) (ap (λ (x : List ℕ). x ++ h.2) (sym h.4.1) ∙ sym h.5)
-  spells r t (count k) b p h = append-nil (compact k) ∙ sym h.1.1
 
   pub spells_vals : (r : List TypeInfo) (ts : List ℕ) (vs : Trees) (b : List ℕ) → AreBytes b → Vals r ts vs b → flat_map (cell_bytes r) (all_cells r (each ts) vs) ≡ b
   spells_vals r [] none b p h = sym h

@@ -13,16 +13,16 @@ use Rattle.widths_core.specs.Arms.{arm_of}
 use Rattle.widths_core.specs.Classes.{is_finite}
 use Rattle.widths_core.specs.Layouts.{Layout, layout}
 use Rattle.widths_core.specs.Layouts as layout
-use Rattle.grammar_core.specs.Tree.{Tree, text, unsigned, signed, wide, compact, fields, arm, list, count, Trees}
-use Rattle.grammar_core.specs.Reading.{value_at, layout_at, bool_at, char_from, all_at, times_at, arm_at, arms_at, elements_at, as_value, with_children, Refusal, basic, truncated}
+use Rattle.grammar_core.specs.Tree.{Leaf, Branch, Tree, leaf, branch, text, unsigned, signed, wide, compact, fields, arm, list, count, Trees}
+use Rattle.grammar_core.specs.Reading.{value_at, layout_at, bool_at, char_from, all_at, times_at, arm_at, arms_at, elements_at, as_leaf, with_children, Refusal, basic, truncated}
 
-as_value_extends : {X : Type 0} (make : X → Tree) (more : List ℕ) (read read' : Read Reason X) → Extends reasons.Truncated more read read' → Extends truncated more (as_value make read) (as_value make read')
-as_value_extends make more (Ok x) s h = rw h refl
-as_value_extends make more (Err e) s h = λ ne. rw (h (λ eq. ne (ap basic eq))) refl
+as_leaf_extends : {X : Type 0} (make : X → Leaf) (more : List ℕ) (read read' : Read Reason X) → Extends reasons.Truncated more read read' → Extends truncated more (as_leaf make read) (as_leaf make read')
+as_leaf_extends make more (Ok x) s h = rw h refl
+as_leaf_extends make more (Err e) s h = λ ne. rw (h (λ eq. ne (ap basic eq))) refl
 
-with_children_extends : (make : Trees → Tree) (more : List ℕ) (read read' : Read Refusal Trees) → Extends truncated more read read' → Extends truncated more (with_children make read) (with_children make read')
-with_children_extends make more (Ok x) s h = rw h refl
-with_children_extends make more (Err e) s h = λ ne. rw (h ne) refl
+with_children_extends : (k : Branch) (more : List ℕ) (read read' : Read Refusal Trees) → Extends truncated more read read' → Extends truncated more (with_children k read) (with_children k read')
+with_children_extends k more (Ok x) s h = rw h refl
+with_children_extends k more (Err e) s h = λ ne. rw (h ne) refl
 
 abbrev ChildExtends : List ℕ → (ℕ → List ℕ → Read Refusal Tree) → Type 0
 ChildExtends more child = (t : ℕ) (b : List ℕ) → Extends truncated more (child t b) (child t (b ++ more))
@@ -67,16 +67,16 @@ layout_extends more child h layout.bad_compact b = λ ne. refl
 layout_extends more child h layout.empty b = refl
 layout_extends more child h layout.bool b = bool_extends b more
 layout_extends more child h layout.char b = char_extends b more _ _ (bytes_extends 4 b more)
-layout_extends more child h layout.text b = as_value_extends text more _ _ (text_extends b more)
-layout_extends more child h (layout.unsigned k) b = as_value_extends (λ b. unsigned (number b)) more _ _ (bytes_extends k b more)
-layout_extends more child h (layout.signed k) b = as_value_extends (λ b. signed (signed_number b)) more _ _ (bytes_extends k b more)
-layout_extends more child h layout.wide b = as_value_extends wide more _ _ (bytes_extends 32 b more)
+layout_extends more child h layout.text b = as_leaf_extends text more _ _ (text_extends b more)
+layout_extends more child h (layout.unsigned k) b = as_leaf_extends (λ b. unsigned (number b)) more _ _ (bytes_extends k b more)
+layout_extends more child h (layout.signed k) b = as_leaf_extends (λ b. signed (signed_number b)) more _ _ (bytes_extends k b more)
+layout_extends more child h layout.wide b = as_leaf_extends wide more _ _ (bytes_extends 32 b more)
 layout_extends more child h (layout.fields ts) b = with_children_extends fields more _ _ (all_extends more child h ts b)
 layout_extends more child h (layout.arms arms) b = arms_extends more child h arms b
-layout_extends more child h layout.counted b = as_value_extends count more _ _ (compact_extends target.U32 b more)
+layout_extends more child h layout.counted b = as_leaf_extends count more _ _ (compact_extends target.U32 b more)
 layout_extends more child h (layout.sequence u) b = elements_extends more child h u _ _ (compact_extends target.U32 b more)
 layout_extends more child h (layout.array n u) b = with_children_extends list more _ _ (times_extends more child h n u b)
-layout_extends more child h (layout.compact m) b = as_value_extends compact more _ _ (compact_extends m b more)
+layout_extends more child h (layout.compact m) b = as_leaf_extends compact more _ _ (compact_extends m b more)
 
 pub value_extends : (r : List TypeInfo) (room t : ℕ) (b more : List ℕ) → Extends truncated more (value_at r room t b) (value_at r room t (b ++ more))
 unfolding value_at

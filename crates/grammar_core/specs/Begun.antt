@@ -12,6 +12,7 @@ use Rattle.widths_core.specs.Layouts as layout
 use Rattle.grammar_core.specs.Tree.{Tree, Trees, how_many, nodes, all_nodes, text_bytes, all_text_bytes, levels, most_levels}
 use Rattle.grammar_core.specs.Grammar.{Val, Vals, Each}
 use Rattle.grammar_core.specs.Preorder as head
+use Rattle.grammar_core.specs.Tree as tree
 use Rattle.grammar_core.specs.Preorder.{Head, preorder, all_preorder}
 
 -- nothing; a whole value; or a node with its whole children and the one that is begun, a list with its claimed length
@@ -46,9 +47,9 @@ Grows r (suc room) t (in_list n vs g) b next = (u : ℕ) × (c b1 b2 : List ℕ)
 abbrev pub IsBegunPreorder : Begun → List Head → Type 0
 IsBegunPreorder nothing hs = hs ≡ []
 IsBegunPreorder (whole v) hs = hs ≡ preorder v
-IsBegunPreorder (in_fields vs g) hs = (n : ℕ) × (rest : List Head) × (hs ≡ head.fields n ∷ (all_preorder vs ++ rest)) × IsBegunPreorder g rest
-IsBegunPreorder (in_arm q vs g) hs = (n : ℕ) × (rest : List Head) × (hs ≡ head.arm q n ∷ (all_preorder vs ++ rest)) × IsBegunPreorder g rest
-IsBegunPreorder (in_list n vs g) hs = (rest : List Head) × (hs ≡ head.list n ∷ (all_preorder vs ++ rest)) × IsBegunPreorder g rest
+IsBegunPreorder (in_fields vs g) hs = (n : ℕ) × (rest : List Head) × (hs ≡ head.branch tree.fields n ∷ (all_preorder vs ++ rest)) × IsBegunPreorder g rest
+IsBegunPreorder (in_arm q vs g) hs = (n : ℕ) × (rest : List Head) × (hs ≡ head.branch (tree.arm q) n ∷ (all_preorder vs ++ rest)) × IsBegunPreorder g rest
+IsBegunPreorder (in_list n vs g) hs = (rest : List Head) × (hs ≡ head.branch tree.list n ∷ (all_preorder vs ++ rest)) × IsBegunPreorder g rest
 
 abbrev pub begun_nodes : Begun → ℕ
 begun_nodes nothing = 0

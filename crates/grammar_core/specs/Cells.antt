@@ -6,7 +6,7 @@ use Rattle.registry_core.specs.declared.type_info.TypeInfo.{TypeInfo}
 use Rattle.graph_core.specs.Types.{field_types}
 use Rattle.widths_core.specs.Layouts.{Layout, layout}
 use Rattle.widths_core.specs.Layouts as layout
-use Rattle.grammar_core.specs.Tree.{Tree, fields, arm, list, Trees, none, and, how_many, nodes}
+use Rattle.grammar_core.specs.Tree.{Branch, Tree, leaf, branch, fields, arm, list, Trees, none, and, how_many, nodes}
 use Rattle.grammar_core.specs.Parts.{Part, each, times, first_of, left_after}
 use Rattle.grammar_core.specs.Preorder.{Head, head_of}
 
@@ -30,6 +30,12 @@ list_part (layout.array len t) n = times n t
 list_part (layout.sequence t) n = times n t
 list_part _ n = each []
 
+-- the types of n children of a node of this layout
+abbrev pub part_of : Layout → Branch → ℕ → Part
+part_of f fields n = fields_part f
+part_of f (arm q) n = arm_part f q
+part_of f list n = list_part f n
+
 -- the type of the next child, which is there
 abbrev pub child_type : Part → ℕ
 child_type p = elim (first_of p) [ Some t ↦ t | None ↦ 0 ]
@@ -40,10 +46,8 @@ cell_of t v = record { ty = t; head = head_of v; size = nodes v }
 
 abbrev mutual
   pub cells : List TypeInfo → ℕ → Tree → List Cell
-  cells r t (fields vs) = cell_of t (fields vs) ∷ all_cells r (fields_part (layout r t)) vs
-  cells r t (arm q vs) = cell_of t (arm q vs) ∷ all_cells r (arm_part (layout r t) q) vs
-  cells r t (list vs) = cell_of t (list vs) ∷ all_cells r (list_part (layout r t) (how_many vs)) vs
-  cells r t v = cell_of t v ∷ []
+  cells r t (leaf l) = cell_of t (leaf l) ∷ []
+  cells r t (branch k vs) = cell_of t (branch k vs) ∷ all_cells r (part_of (layout r t) k (how_many vs)) vs
 
   -- the cells of children whose types are these
   pub all_cells : List TypeInfo → Part → Trees → List Cell

@@ -7,7 +7,7 @@ use Rattle.graph_core.specs.Widths.{widest}
 use Rattle.widths_core.specs.Reach.{IsPlain}
 use Rattle.widths_core.specs.Classes.{IsFinite, IsEmpty, class_of}
 use Rattle.widths_core.specs.declared.class.Class.TheVariants as class
-use Rattle.grammar_core.specs.Tree.{Tree, unit, text, fields, arm, list, Trees, none, and, levels, nodes, text_bytes, how_many, most_levels}
+use Rattle.grammar_core.specs.Tree.{Leaf, Tree, leaf, branch, unit, text, Trees, none, and, levels, nodes, text_bytes, how_many, most_levels}
 use Rattle.grammar_core.specs.Grammar.{Val, Vals, Each}
 use Rattle.grammar_core.specs.Begun.{Begun, Grows, begun_levels, begun_depth, is_whole_tree}
 use Rattle.grammar_core.specs.Reading.{value_at, all_at, times_at, Refusal, truncated}
@@ -51,7 +51,7 @@ FaultsAreStable = (r : List TypeInfo) (room t : ℕ) (input more : List ℕ) (re
 
 -- a type that takes no bytes has one value, with no byte
 abbrev pub EmptyHasUnit : Type 0
-EmptyHasUnit = (r : List TypeInfo) (t : ℕ) → IsEmpty r t → IsFinite r t × Val r t unit [] × ((v : Tree) (b : List ℕ) → Val r t v b → (v ≡ unit) × (b ≡ []))
+EmptyHasUnit = (r : List TypeInfo) (t : ℕ) → IsEmpty r t → IsFinite r t × Val r t (leaf unit) [] × ((v : Tree) (b : List ℕ) → Val r t v b → (v ≡ leaf unit) × (b ≡ []))
 
 -- a value of any other type has a byte
 abbrev pub SizedHasBytes : Type 0
@@ -65,14 +65,16 @@ ValuesAreFinite = (r : List TypeInfo) (t : ℕ) (v : Tree) (b : List ℕ) → Va
 abbrev pub ValuesAreBounded : Type 0
 ValuesAreBounded = (r : List TypeInfo) (room t : ℕ) (v : Tree) (b : List ℕ) → Val r t v b → levels v ≤ room → (nodes v ≤ 1 + length b * (room * (widest r + 1))) × (text_bytes v ≤ length b)
 
+-- where it is a text, it is UTF-8, and has a length that can be spelled
+abbrev pub LeafHasText : Leaf → Type 0
+LeafHasText (text s) = FitsText s
+LeafHasText _ = Unit {0}
+
 -- each text in it is UTF-8, and has a length that can be spelled
 abbrev mutual
   pub HasText : Tree → Type 0
-  HasText (text s) = FitsText s
-  HasText (fields vs) = AllHaveText vs
-  HasText (arm q vs) = AllHaveText vs
-  HasText (list vs) = AllHaveText vs
-  HasText _ = Unit {0}
+  HasText (leaf l) = LeafHasText l
+  HasText (branch k vs) = AllHaveText vs
 
   pub AllHaveText : Trees → Type 0
   AllHaveText none = Unit {0}

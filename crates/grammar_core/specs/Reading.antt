@@ -12,7 +12,7 @@ use Rattle.widths_core.specs.Arms.{arm_of}
 use Rattle.widths_core.specs.Classes.{is_finite}
 use Rattle.widths_core.specs.Layouts.{Layout, layout}
 use Rattle.widths_core.specs.Layouts as layout
-use Rattle.grammar_core.specs.Tree.{Tree, unit, bool, char, text, unsigned, signed, wide, compact, fields, arm, list, count, Trees, none, and}
+use Rattle.grammar_core.specs.Tree.{Leaf, Branch, Tree, leaf, branch, unit, bool, char, text, unsigned, signed, wide, compact, fields, arm, list, count, Trees, none, and}
 
 pub data Refusal : Type 0 where
   basic : Reason → Refusal
@@ -28,24 +28,24 @@ truncated = basic scale.Truncated
 abbrev pub Reader : Type 0 → Type 0
 Reader X = List ℕ → Read Refusal X
 
--- a part, as a value
-abbrev pub as_value : {X : Type 0} → (X → Tree) → Read Reason X → Read Refusal Tree
-as_value make (Ok x) = Ok (make x.0, x.1)
-as_value make (Err e) = Err (basic e.0, e.1)
+-- a part, as a leaf
+abbrev pub as_leaf : {X : Type 0} → (X → Leaf) → Read Reason X → Read Refusal Tree
+as_leaf make (Ok x) = Ok (leaf (make x.0), x.1)
+as_leaf make (Err e) = Err (basic e.0, e.1)
 
-abbrev pub with_children : (Trees → Tree) → Read Refusal Trees → Read Refusal Tree
-with_children make (Ok x) = Ok (make x.0, x.1)
-with_children make (Err e) = Err e
+abbrev pub with_children : Branch → Read Refusal Trees → Read Refusal Tree
+with_children k (Ok x) = Ok (branch k x.0, x.1)
+with_children k (Err e) = Err e
 
 abbrev pub bool_at : Reader Tree
 bool_at [] = Err (truncated, [])
-bool_at (zero ∷ rest) = Ok (bool false, rest)
-bool_at (suc zero ∷ rest) = Ok (bool true, rest)
+bool_at (zero ∷ rest) = Ok (leaf (bool false), rest)
+bool_at (suc zero ∷ rest) = Ok (leaf (bool true), rest)
 bool_at (suc (suc b) ∷ rest) = Err (basic scale.BadBool, suc (suc b) ∷ rest)
 
 -- four bytes that are a Unicode scalar value
 abbrev pub char_from : List ℕ → Read Reason (List ℕ) → Read Refusal Tree
-char_from at (Ok x) = if is_scalar (number x.0) then Ok (char (number x.0), x.1) else Err (basic scale.BadChar, at)
+char_from at (Ok x) = if is_scalar (number x.0) then Ok (leaf (char (number x.0)), x.1) else Err (basic scale.BadChar, at)
 char_from at (Err e) = Err (basic e.0, e.1)
 
 -- a value of each of these types, one behind the other, by a reader of one value
@@ -83,19 +83,19 @@ unfoldable pub layout_at : (ℕ → Reader Tree) → Layout → Reader Tree
 layout_at child layout.unknown bytes = Err (no_finite_value, bytes)
 layout_at child layout.bit_sequence bytes = Err (bit_sequence, bytes)
 layout_at child layout.bad_compact bytes = Err (bad_compact, bytes)
-layout_at child layout.empty bytes = Ok (unit, bytes)
+layout_at child layout.empty bytes = Ok (leaf unit, bytes)
 layout_at child layout.bool bytes = bool_at bytes
 layout_at child layout.char bytes = char_from bytes (bytes_at 4 bytes)
-layout_at child layout.text bytes = as_value text (text_at bytes)
-layout_at child (layout.unsigned k) bytes = as_value (λ b. unsigned (number b)) (bytes_at k bytes)
-layout_at child (layout.signed k) bytes = as_value (λ b. signed (signed_number b)) (bytes_at k bytes)
-layout_at child layout.wide bytes = as_value wide (bytes_at 32 bytes)
+layout_at child layout.text bytes = as_leaf text (text_at bytes)
+layout_at child (layout.unsigned k) bytes = as_leaf (λ b. unsigned (number b)) (bytes_at k bytes)
+layout_at child (layout.signed k) bytes = as_leaf (λ b. signed (signed_number b)) (bytes_at k bytes)
+layout_at child layout.wide bytes = as_leaf wide (bytes_at 32 bytes)
 layout_at child (layout.fields ts) bytes = with_children fields (all_at child ts bytes)
 layout_at child (layout.arms arms) bytes = arms_at child arms bytes
-layout_at child layout.counted bytes = as_value count (compact_at target.U32 bytes)
+layout_at child layout.counted bytes = as_leaf count (compact_at target.U32 bytes)
 layout_at child (layout.sequence t) bytes = elements_at child t (compact_at target.U32 bytes)
 layout_at child (layout.array n t) bytes = with_children list (times_at child n t bytes)
-layout_at child (layout.compact m) bytes = as_value compact (compact_at m bytes)
+layout_at child (layout.compact m) bytes = as_leaf compact (compact_at m bytes)
 
 -- a value of type t, with room for so many levels
 unfoldable pub value_at : List TypeInfo → ℕ → ℕ → Reader Tree

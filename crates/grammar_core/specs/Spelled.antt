@@ -8,9 +8,10 @@ use Rattle.registry_core.specs.declared.definition.TypeDef.{TypeDef}
 use Rattle.registry_core.specs.declared.definition.TypeDef.TheVariants as Def
 use Rattle.registry_core.specs.declared.type_info.TypeInfo.{TypeInfo}
 use Rattle.graph_core.specs.Types.{shape}
-use Rattle.grammar_core.specs.Tree.{Tree}
+use Rattle.grammar_core.specs.Tree.{Leaf, Branch, Tree}
 use Rattle.grammar_core.specs.Grammar.{Val}
 use Rattle.grammar_core.specs.Preorder as head
+use Rattle.grammar_core.specs.Tree as tree
 use Rattle.grammar_core.specs.Preorder.{Head}
 use Rattle.grammar_core.specs.Cells.{Cell, cells}
 
@@ -56,20 +57,28 @@ is_sequence _ = false
 abbrev pub length_bytes : Option TypeDef → ℕ → List ℕ
 length_bytes d n = if is_sequence d then compact n else []
 
+-- the bytes of a leaf, by the definition of its type
+abbrev pub leaf_bytes : Option TypeDef → Leaf → List ℕ
+leaf_bytes d tree.unit = []
+leaf_bytes d (tree.bool x) = bool_byte x ∷ []
+leaf_bytes d (tree.char c) = le_bytes 4 c
+leaf_bytes d (tree.text s) = compact (length s) ++ s
+leaf_bytes d (tree.unsigned n) = le_bytes (width_of d) n
+leaf_bytes d (tree.signed z) = le_bytes (width_of d) (word z)
+leaf_bytes d (tree.wide s) = s
+leaf_bytes d (tree.compact n) = compact n
+leaf_bytes d (tree.count n) = compact n
+
+-- the bytes in front of n parts, by the definition of their node's type
+abbrev pub branch_bytes : Option TypeDef → Branch → ℕ → List ℕ
+branch_bytes d tree.fields n = []
+branch_bytes d (tree.arm q) n = index_byte (index_of d q)
+branch_bytes d tree.list n = length_bytes d n
+
 -- the bytes of a node without those of its children, by the definition of its type
 abbrev pub own_bytes : Option TypeDef → Head → List ℕ
-own_bytes d head.unit = []
-own_bytes d (head.bool x) = bool_byte x ∷ []
-own_bytes d (head.char c) = le_bytes 4 c
-own_bytes d (head.text s) = compact (length s) ++ s
-own_bytes d (head.unsigned n) = le_bytes (width_of d) n
-own_bytes d (head.signed z) = le_bytes (width_of d) (word z)
-own_bytes d (head.wide s) = s
-own_bytes d (head.compact n) = compact n
-own_bytes d (head.count n) = compact n
-own_bytes d (head.fields n) = []
-own_bytes d (head.arm q n) = index_byte (index_of d q)
-own_bytes d (head.list n) = length_bytes d n
+own_bytes d (head.leaf l) = leaf_bytes d l
+own_bytes d (head.branch k n) = branch_bytes d k n
 
 abbrev pub cell_bytes : List TypeInfo → Cell → List ℕ
 cell_bytes r c = own_bytes (shape r c.ty) c.head
