@@ -22,7 +22,7 @@ use Rattle.widths_core.specs.Arms.{arm_of}
 use Rattle.widths_core.specs.Classes.{is_finite}
 use Rattle.widths_core.specs.Layouts.{Layout, layout}
 use Rattle.widths_core.specs.Layouts as layout
-use Rattle.grammar_core.specs.Tree.{Tree, char, text, unsigned, signed, wide, compact as compact_value, fields, arm, list, count, Trees, and}
+use Rattle.grammar_core.specs.Tree.{Tree, leaf, branch, char, text, unsigned, signed, wide, compact as compact_value, fields, arm, list, count, Trees, and}
 use Rattle.grammar_core.specs.Reading.{value_at, layout_at, bool_at, char_from, all_at, times_at, arm_at, arms_at, as_value, with_children, Refusal, basic, no_such_variant, too_deep, no_finite_value, bit_sequence, bad_compact}
 use Rattle.grammar_core.proofs.Sound.{value_takes}
 use Rattle.decode_core.specs.Taken.{behind, compact_taken, text_taken, all_taken, times_taken, arm_taken, arms_taken, layout_taken, value_taken}
@@ -125,7 +125,7 @@ bool_told (suc (suc x) ∷ b) = (omega arith, omega arith)
 
 char_told : (b : List ℕ) → Told (λ e. e) b 4 (char_from b (bytes_at 4 b))
 char_told b = go (nat_lt (length b) 4) where
-  valid : (t : Bool) → Told (λ e. e) b 4 (cond t (Ok (char (number (take 4 b)), drop 4 b)) (Err (basic reasons.BadChar, b)))
+  valid : (t : Bool) → Told (λ e. e) b 4 (cond t (Ok (leaf (char (number (take 4 b))), drop 4 b)) (Err (basic reasons.BadChar, b)))
   valid true = tt
   valid false = (omega arith, omega arith)
 
@@ -166,7 +166,7 @@ arm_told r room h i b (Some a) =
     let ts = field_types a.1.fields in
     let k = all_taken (value_at r room) (value_taken r room) ts b in
     let one : 1 + k ≡ suc k = omega arith in
-    rw one at (told_behind (λ e. e) (i ∷ b) (i ∷ []) b k _ refl (parts_told (arm a.0) b k (all_at (value_at r room) ts b) (all_told r room h ts b)))
+    rw one at (told_behind (λ e. e) (i ∷ b) (i ∷ []) b k _ refl (parts_told (branch (arm a.0)) b k (all_at (value_at r room) ts b) (all_told r room h ts b)))
 
 arms_told : (r : List TypeInfo) (room : ℕ) → ChildTold r room → (arms : List Arm) (b : List ℕ) → Told (λ e. e) b (arms_taken (value_at r room) (value_taken r room) arms b) (arms_at (value_at r room) arms b)
 arms_told r room h arms [] = (omega arith, refl)
@@ -180,19 +180,19 @@ layout_told r room h layout.bad_compact b = (omega arith, omega arith)
 layout_told r room h layout.empty b = tt
 layout_told r room h layout.bool b = bool_told b
 layout_told r room h layout.char b = char_told b
-layout_told r room h layout.text b = leaf_told text b _ (text_at b) (text_told b)
-layout_told r room h (layout.unsigned k) b = leaf_told (λ b. unsigned (number b)) b _ (bytes_at k b) (bytes_told k b)
-layout_told r room h (layout.signed k) b = leaf_told (λ b. signed (signed_number b)) b _ (bytes_at k b) (bytes_told k b)
-layout_told r room h layout.wide b = leaf_told wide b _ (bytes_at 32 b) (bytes_told 32 b)
-layout_told r room h layout.counted b = leaf_told count b _ (compact_at target.U32 b) (compact_told target.U32 b)
+layout_told r room h layout.text b = leaf_told leaf (text b) _ (text_at b) (text_told b)
+layout_told r room h (layout.unsigned k) b = leaf_told (λ b. leaf (unsigned (number b))) b _ (bytes_at k b) (bytes_told k b)
+layout_told r room h (layout.signed k) b = leaf_told (λ b. leaf (signed (signed_number b))) b _ (bytes_at k b) (bytes_told k b)
+layout_told r room h layout.wide b = leaf_told leaf (wide b) _ (bytes_at 32 b) (bytes_told 32 b)
+layout_told r room h layout.counted b = leaf_told leaf (count b) _ (compact_at target.U32 b) (compact_told target.U32 b)
 layout_told r room h (layout.compact m) b = leaf_told compact_value b _ (compact_at m b) (compact_told m b)
-layout_told r room h (layout.fields ts) b = parts_told fields b _ (all_at (value_at r room) ts b) (all_told r room h ts b)
+layout_told r room h (layout.fields ts) b = parts_told branch fields b _ (all_at (value_at r room) ts b) (all_told r room h ts b)
 layout_told r room h (layout.arms arms) b = arms_told r room h arms b
-layout_told r room h (layout.array n t) b = parts_told list b _ (times_at (value_at r room) n t b) (times_told r room h n t b)
+layout_told r room h (layout.array n t) b = parts_told branch list b _ (times_at (value_at r room) n t b) (times_told r room h n t b)
 layout_told r room h (layout.sequence t) b = let child = value_at r room in
     rw (elements_chain child t (compact_at target.U32 b))
-    (chain_told basic (λ e. e) _ (λ n c. with_children list (times_at child n t c)) (λ n. times_taken child (value_taken r room) n.0 t n.1) b (compact_taken target.U32 b) (compact_at target.U32 b) (compact_takes target.U32 b) (compact_told target.U32 b)
-    (λ n. parts_told list n.1 _ (times_at child n.0 t n.1) (times_told r room h n.0 t n.1)))
+    (chain_told basic (λ e. e) _ (λ n c. with_children branch list (times_at child n t c)) (λ n. times_taken child (value_taken r room) n.0 t n.1) b (compact_taken target.U32 b) (compact_at target.U32 b) (compact_takes target.U32 b) (compact_told target.U32 b)
+    (λ n. parts_told branch list n.1 _ (times_at child n.0 t n.1) (times_told r room h n.0 t n.1)))
 
 value_told : (r : List TypeInfo) (room t : ℕ) (b : List ℕ) → Told (λ e. e) b (value_taken r room t b) (value_at r room t b)
 unfolding value_at value_taken

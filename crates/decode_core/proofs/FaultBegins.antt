@@ -14,6 +14,7 @@ use Rattle.widths_core.specs.Layouts as layout
 use Rattle.grammar_core.specs.Tree.{Tree, Trees, none, and, how_many, levels, most_levels}
 use Rattle.grammar_core.specs.Preorder.{Head, preorder, all_preorder}
 use Rattle.grammar_core.specs.Preorder as head
+use Rattle.grammar_core.specs.Tree as tree
 use Rattle.grammar_core.specs.Grammar.{Val, Vals, Each}
 use Rattle.grammar_core.specs.Reading.{value_at, layout_at, Refusal}
 use Rattle.grammar_core.proofs.Proved.{read_is_value}
@@ -141,7 +142,7 @@ bare : (r : List TypeInfo) (room t : ℕ) (b : List ℕ) (e : Refusal × List �
 unfolding Grows
 bare r room t b e h = record { tree = nothing; own = []; next = t; below = room; part = tt; is = refl; grows = (refl, refl); shows = refl; meets = h }
 
-fields_begin : (r : List TypeInfo) (room t : ℕ) (ts : List ℕ) (b : List ℕ) → met_layout r t ≡ layout.fields ts → (xs : List Entry) (e : Fault) → AllBegin r room ts b xs e → Begins r (suc room) t b (entry t (head.fields (length ts)) ∷ xs) e
+fields_begin : (r : List TypeInfo) (room t : ℕ) (ts : List ℕ) (b : List ℕ) → met_layout r t ≡ layout.fields ts → (xs : List Entry) (e : Fault) → AllBegin r room ts b xs e → Begins r (suc room) t b (entry t (head.branch tree.fields (length ts)) ∷ xs) e
 unfolding Grows
 fields_begin r room t ts b f xs e s = let h = s.begins in let m = met_is r t (layout.fields ts) (λ no. absurd cc) f in
     record {
@@ -152,11 +153,11 @@ fields_begin r room t ts b f xs e s = let h = s.begins in let m = met_is r t (la
       part = tt;
       is = rw (s.is, h.is) (sym (append_assoc s.b1 h.own e.1));
       grows = (s.before, s.ty, s.behind, s.b1, h.own, m.0, m.1 ∙ ap layout.fields s.types, refl, s.vals, s.low, h.part, h.grows);
-      shows = (length ts, shown s.ys, ap (λ (ns : List Head). head.fields (length ts) ∷ ns) s.shows, h.shows);
+      shows = (length ts, shown s.ys, ap (λ (ns : List Head). head.branch tree.fields (length ts) ∷ ns) s.shows, h.shows);
       meets = h.meets;
     }
 
-arm_begins : (r : List TypeInfo) (room t : ℕ) (arms : List Arm) (i q : ℕ) (a : Arm) (b : List ℕ) → met_layout r t ≡ layout.arms arms → arm_of arms i ≡ Some (q, a) → (xs : List Entry) (e : Fault) → AllBegin r room (field_types a.fields) b xs e → Begins r (suc room) t (i ∷ b) (entry t (head.arm q (length (field_types a.fields))) ∷ xs) e
+arm_begins : (r : List TypeInfo) (room t : ℕ) (arms : List Arm) (i q : ℕ) (a : Arm) (b : List ℕ) → met_layout r t ≡ layout.arms arms → arm_of arms i ≡ Some (q, a) → (xs : List Entry) (e : Fault) → AllBegin r room (field_types a.fields) b xs e → Begins r (suc room) t (i ∷ b) (entry t (head.branch (tree.arm q) (length (field_types a.fields))) ∷ xs) e
 unfolding Grows
 arm_begins r room t arms i q a b f is xs e s = let h = s.begins in let m = met_is r t (layout.arms arms) (λ no. absurd cc) f in
     record {
@@ -167,11 +168,11 @@ arm_begins r room t arms i q a b f is xs e s = let h = s.begins in let m = met_i
       part = tt;
       is = rw (s.is, h.is) (ap (λ (x : List ℕ). i ∷ x) (sym (append_assoc s.b1 h.own e.1)));
       grows = (arms, i, a, s.before, s.ty, s.behind, s.b1, h.own, m.0, m.1, is, s.types, refl, s.vals, s.low, h.part, h.grows);
-      shows = (length (field_types a.fields), shown s.ys, ap (λ (ns : List Head). head.arm q (length (field_types a.fields)) ∷ ns) s.shows, h.shows);
+      shows = (length (field_types a.fields), shown s.ys, ap (λ (ns : List Head). head.branch (tree.arm q) (length (field_types a.fields)) ∷ ns) s.shows, h.shows);
       meets = h.meets;
     }
 
-list_begins : (r : List TypeInfo) (room t n u : ℕ) (c b : List ℕ) → ((met_layout r t ≡ layout.array n u) × (c ≡ [])) ⊎ ((met_layout r t ≡ layout.sequence u) × IsCompact target.U32 n c) → (xs : List Entry) (e : Fault) → TimesBegin r room n u b xs e → Begins r (suc room) t (c ++ b) (entry t (head.list n) ∷ xs) e
+list_begins : (r : List TypeInfo) (room t n u : ℕ) (c b : List ℕ) → ((met_layout r t ≡ layout.array n u) × (c ≡ [])) ⊎ ((met_layout r t ≡ layout.sequence u) × IsCompact target.U32 n c) → (xs : List Entry) (e : Fault) → TimesBegin r room n u b xs e → Begins r (suc room) t (c ++ b) (entry t (head.branch tree.list n) ∷ xs) e
 unfolding Grows
 list_begins r room t n u c b f xs e s = let h = s.begins in let m = list_met r t n u c f in
     record {
@@ -182,7 +183,7 @@ list_begins r room t n u c b f xs e s = let h = s.begins in let m = list_met r t
       part = tt;
       is = rw (s.is, h.is) (simp append_assoc);
       grows = (u, c, s.b1, h.own, m.0, m.1, refl, s.fewer, s.vals, s.low, h.part, h.grows);
-      shows = (shown s.ys, ap (λ (ns : List Head). head.list n ∷ ns) s.shows, h.shows);
+      shows = (shown s.ys, ap (λ (ns : List Head). head.branch tree.list n ∷ ns) s.shows, h.shows);
       meets = h.meets;
     }
 
@@ -192,7 +193,7 @@ leaf_begins r room t b (Err e) is = bare r (suc room) t b e is
 
 arm_own_begins : (r : List TypeInfo) (room t : ℕ) → ChildBegins r room → (arms : List Arm) → met_layout r t ≡ layout.arms arms → (i : ℕ) (b : List ℕ) (found : Option (ℕ × Arm)) → arm_of arms i ≡ found → told_at r (suc room) t (i ∷ b) ≡ own_told (told_at r room) t (i ∷ b) (arm_own (i ∷ b) found b) → EndsTold (Begins r (suc room) t (i ∷ b)) (own_told (told_at r room) t (i ∷ b) (arm_own (i ∷ b) found b))
 arm_own_begins r room t h arms f i b None e is = bare r (suc room) t (i ∷ b) _ is
-arm_own_begins r room t h arms f i b (Some a) e is = after_ends (AllBegin r room (field_types a.1.fields) b) (Begins r (suc room) t (i ∷ b)) (entry t (head.arm a.0 (length (field_types a.1.fields))) ∷ []) (all_told (told_at r room) (field_types a.1.fields) b) (all_begin r room h (field_types a.1.fields) b) (arm_begins r room t arms i a.0 a.1 b f e)
+arm_own_begins r room t h arms f i b (Some a) e is = after_ends (AllBegin r room (field_types a.1.fields) b) (Begins r (suc room) t (i ∷ b)) (entry t (head.branch (tree.arm a.0) (length (field_types a.1.fields))) ∷ []) (all_told (told_at r room) (field_types a.1.fields) b) (all_begin r room h (field_types a.1.fields) b) (arm_begins r room t arms i a.0 a.1 b f e)
 
 arms_begin : (r : List TypeInfo) (room t : ℕ) → ChildBegins r room → (arms : List Arm) → met_layout r t ≡ layout.arms arms → (b : List ℕ) → told_at r (suc room) t b ≡ own_told (told_at r room) t b (arms_own arms b) → EndsTold (Begins r (suc room) t b) (own_told (told_at r room) t b (arms_own arms b))
 arms_begin r room t h arms f [] is = bare r (suc room) t [] _ is
@@ -200,14 +201,14 @@ arms_begin r room t h arms f (i ∷ b) is = arm_own_begins r room t h arms f i b
 
 length_begins : (r : List TypeInfo) (room t u : ℕ) → ChildBegins r room → met_layout r t ≡ layout.sequence u → (b : List ℕ) (read : Read Reason ℕ) → Takes (IsCompact target.U32) b read → told_at r (suc room) t b ≡ own_told (told_at r room) t b (length_own u read) → EndsTold (Begins r (suc room) t b) (own_told (told_at r room) t b (length_own u read))
 length_begins r room t u h f b (Err e) k is = bare r (suc room) t b _ is
-length_begins r room t u h f b (Ok n) k is = after_ends (TimesBegin r room n.0 u n.1) (Begins r (suc room) t b) (entry t (head.list n.0) ∷ []) (times_told (told_at r room) n.0 u n.1) (times_begin r room h n.0 u n.1) (λ xs e s. rw k.1 (list_begins r room t n.0 u k.0 n.1 (inr (f, k.2)) xs e s))
+length_begins r room t u h f b (Ok n) k is = after_ends (TimesBegin r room n.0 u n.1) (Begins r (suc room) t b) (entry t (head.branch tree.list n.0) ∷ []) (times_told (told_at r room) n.0 u n.1) (times_begin r room h n.0 u n.1) (λ xs e s. rw k.1 (list_begins r room t n.0 u k.0 n.1 (inr (f, k.2)) xs e s))
 
 layout_begins : (r : List TypeInfo) (room t : ℕ) → ChildBegins r room → (f : Layout) → met_layout r t ≡ f → (b : List ℕ) → told_at r (suc room) t b ≡ own_told (told_at r room) t b (own_at f b) → EndsTold (Begins r (suc room) t b) (own_told (told_at r room) t b (own_at f b))
 unfolding own_at
-layout_begins r room t h (layout.fields ts) e b is = after_ends (AllBegin r room ts b) (Begins r (suc room) t b) (entry t (head.fields (length ts)) ∷ []) (all_told (told_at r room) ts b) (all_begin r room h ts b) (fields_begin r room t ts b e)
+layout_begins r room t h (layout.fields ts) e b is = after_ends (AllBegin r room ts b) (Begins r (suc room) t b) (entry t (head.branch tree.fields (length ts)) ∷ []) (all_told (told_at r room) ts b) (all_begin r room h ts b) (fields_begin r room t ts b e)
 layout_begins r room t h (layout.arms arms) e b is = arms_begin r room t h arms e b is
 layout_begins r room t h (layout.sequence u) e b is = length_begins r room t u h e b (compact_at target.U32 b) (compact_takes target.U32 b) is
-layout_begins r room t h (layout.array n u) e b is = after_ends (TimesBegin r room n u b) (Begins r (suc room) t b) (entry t (head.list n) ∷ []) (times_told (told_at r room) n u b) (times_begin r room h n u b) (list_begins r room t n u [] b (inl (e, refl)))
+layout_begins r room t h (layout.array n u) e b is = after_ends (TimesBegin r room n u b) (Begins r (suc room) t b) (entry t (head.branch tree.list n) ∷ []) (times_told (told_at r room) n u b) (times_begin r room h n u b) (list_begins r room t n u [] b (inl (e, refl)))
 layout_begins r room t h layout.unknown e b is = leaf_begins r room t b (layout_at shallow layout.unknown b) is
 layout_begins r room t h layout.bit_sequence e b is = leaf_begins r room t b (layout_at shallow layout.bit_sequence b) is
 layout_begins r room t h layout.bad_compact e b is = leaf_begins r room t b (layout_at shallow layout.bad_compact b) is

@@ -39,11 +39,11 @@ use Rattle.decode_core.proofs.Whole.{IsSettled, settled_at, u32_is, basic_whole}
 
 -- ---- lists and counts
 
-list_by : (lay : Layout) (u : ℕ) (own : List ℕ) (n : ℕ) → lay ≡ layout.sequence u → ((rest : List ℕ) × (compact_at target.U32 own ≡ Ok (n, rest))) → (rest : List ℕ) × (own_at lay own ≡ Ok ((head.list n, Some (list_part lay n)), rest))
+list_by : (lay : Layout) (u : ℕ) (own : List ℕ) (n : ℕ) → lay ≡ layout.sequence u → ((rest : List ℕ) × (compact_at target.U32 own ≡ Ok (n, rest))) → (rest : List ℕ) × (own_at lay own ≡ Ok ((head.branch tree.list n, Some (list_part lay n)), rest))
 unfolding own_at
 list_by lay u own n e h = rw e (h.0, ap (length_own u) h.1)
 
-pub list_read : (b : Built) (own : List ℕ) (n : ℕ) → next_of b.walk ≡ next.Wants form.Sequence → (rest : List ℕ) × (compact_at target.U32 own ≡ Ok (n, rest)) → (rest : List ℕ) × (own_at (next_layout b) own ≡ Ok ((head.list n, Some (list_part (next_layout b) n)), rest))
+pub list_read : (b : Built) (own : List ℕ) (n : ℕ) → next_of b.walk ≡ next.Wants form.Sequence → (rest : List ℕ) × (compact_at target.U32 own ≡ Ok (n, rest)) → (rest : List ℕ) × (own_at (next_layout b) own ≡ Ok ((head.branch tree.list n, Some (list_part (next_layout b) n)), rest))
 list_read b own n h k = let s = next_has b form.Sequence h in list_by (next_layout b) s.0 own n s.1 k
 
 list_refused_by : (lay : Layout) (u : ℕ) (own : List ℕ) (e : Reason) (at : ℕ) → lay ≡ layout.sequence u → ((left : List ℕ) × (compact_at target.U32 own ≡ Err (e, left)) × (at ≡ place own left)) → (left : List ℕ) × (own_at lay own ≡ Err (basic e, left)) × (at ≡ place own left)
@@ -53,14 +53,14 @@ list_refused_by lay u own e at is h = rw is (h.0, ap (length_own u) h.1, h.2)
 pub list_refused : (b : Built) (own : List ℕ) (e : Reason) (at : ℕ) → next_of b.walk ≡ next.Wants form.Sequence → (left : List ℕ) × (compact_at target.U32 own ≡ Err (e, left)) × (at ≡ place own left) → (left : List ℕ) × (own_at (next_layout b) own ≡ Err (basic e, left)) × (at ≡ place own left)
 list_refused b own e at h k = let s = next_has b form.Sequence h in list_refused_by (next_layout b) s.0 own e at s.1 k
 
-count_by : (lay : Layout) (own : List ℕ) (n : ℕ) → lay ≡ layout.counted → ((rest : List ℕ) × (compact_at target.U32 own ≡ Ok (n, rest))) → (rest : List ℕ) × (own_at lay own ≡ Ok ((head.count n, None), rest))
-count_by lay own n e h = rw e (h.0, count_own own ∙ ap (λ r. leaf_own (as_value tree.count r)) h.1)
+count_by : (lay : Layout) (own : List ℕ) (n : ℕ) → lay ≡ layout.counted → ((rest : List ℕ) × (compact_at target.U32 own ≡ Ok (n, rest))) → (rest : List ℕ) × (own_at lay own ≡ Ok ((head.leaf (tree.count n), None), rest))
+count_by lay own n e h = rw e (h.0, count_own own ∙ ap (λ r. leaf_own (as_value tree.leaf (tree.count r))) h.1)
 
-pub count_read : (b : Built) (own : List ℕ) (n : ℕ) → next_of b.walk ≡ next.Wants form.Count → (rest : List ℕ) × (compact_at target.U32 own ≡ Ok (n, rest)) → (rest : List ℕ) × (own_at (next_layout b) own ≡ Ok ((head.count n, None), rest))
+pub count_read : (b : Built) (own : List ℕ) (n : ℕ) → next_of b.walk ≡ next.Wants form.Count → (rest : List ℕ) × (compact_at target.U32 own ≡ Ok (n, rest)) → (rest : List ℕ) × (own_at (next_layout b) own ≡ Ok ((head.leaf (tree.count n), None), rest))
 count_read b own n h k = count_by (next_layout b) own n (next_has b form.Count h) k
 
 count_refused_by : (lay : Layout) (own : List ℕ) (e : Reason) (at : ℕ) → lay ≡ layout.counted → ((left : List ℕ) × (compact_at target.U32 own ≡ Err (e, left)) × (at ≡ place own left)) → (left : List ℕ) × (own_at lay own ≡ Err (basic e, left)) × (at ≡ place own left)
-count_refused_by lay own e at is h = rw is (h.0, count_own own ∙ ap (λ r. leaf_own (as_value tree.count r)) h.1, h.2)
+count_refused_by lay own e at is h = rw is (h.0, count_own own ∙ ap (λ r. leaf_own (as_value tree.leaf (tree.count r))) h.1, h.2)
 
 pub count_refused : (b : Built) (own : List ℕ) (e : Reason) (at : ℕ) → next_of b.walk ≡ next.Wants form.Count → (left : List ℕ) × (compact_at target.U32 own ≡ Err (e, left)) × (at ≡ place own left) → (left : List ℕ) × (own_at (next_layout b) own ≡ Err (basic e, left)) × (at ≡ place own left)
 count_refused b own e at h k = count_refused_by (next_layout b) own e at (next_has b form.Count h) k
@@ -72,7 +72,7 @@ compact_fits m n h = rw (lt-ltb n (256 ^ target_bytes m) h) refl
 
 arm_found : (b new : Built) (arms : List Arm) (i : ℕ) (found : Option (ℕ × Arm)) (result : Result (Unit {0}) BuildFault) → next_layout b ≡ layout.arms arms → arm_of arms i ≡ found → next_of b.walk ≡ next.Wants form.Arm → b.text ≡ None → Adds (suits_arm found form.Arm) (with_found b found) b new result → is_ok result ≡ true → IsAdded b new (i ∷ [])
 unfolding own_at
-arm_found b new arms i (Some a) (Ok u) lay is h k adds ok = ((head.arm a.0 _, Some _), rw (lay, is) refl, adds)
+arm_found b new arms i (Some a) (Ok u) lay is h k adds ok = ((head.branch (tree.arm a.0) _, Some _), rw (lay, is) refl, adds)
 arm_found b new arms i None (Ok u) lay is h k adds ok = absurd adds
 arm_found b new arms i found (Err e) lay is h k adds ok = absurd cc
 
@@ -110,7 +110,7 @@ arm_refused b new own h k a adds =
 
 arm_wanted : (b new : Built) (arms : List Arm) (i : ℕ) (found : Option (ℕ × Arm)) → next_layout b ≡ layout.arms arms → arm_of arms i ≡ found → Adds (suits_arm found form.Arm) (with_found b found) b new (Err build.OutOfMemory) → IsSpelled b (i ∷ []) × (new ≡ b)
 unfolding own_at
-arm_wanted b new arms i (Some a) lay is adds = let ts = field_types a.1.fields in (((head.arm a.0 (length ts), Some (each ts)), rw (lay, is) refl), adds.1)
+arm_wanted b new arms i (Some a) lay is adds = let ts = field_types a.1.fields in (((head.branch (tree.arm a.0) (length ts), Some (each ts)), rw (lay, is) refl), adds.1)
 arm_wanted b new arms i None lay is adds = let no = adds.0 in absurd cc
 
 -- memory is refused for an arm that is there alone
@@ -146,25 +146,25 @@ length_refused b own e at h a k =
 
 -- ---- nodes without bytes of their own
 
-empty_by : (lay : Layout) → lay ≡ layout.empty → own_at lay [] ≡ Ok ((head.unit, None), [])
+empty_by : (lay : Layout) → lay ≡ layout.empty → own_at lay [] ≡ Ok (((head.leaf tree.unit), None), [])
 unfolding own_at layout_at
 empty_by lay e = rw e refl
 
-fields_by : (lay : Layout) (ts : List ℕ) → lay ≡ layout.fields ts → own_at lay [] ≡ Ok ((head.fields (how_many_left (fields_part lay)), Some (fields_part lay)), [])
+fields_by : (lay : Layout) (ts : List ℕ) → lay ≡ layout.fields ts → own_at lay [] ≡ Ok ((head.branch tree.fields (how_many_left (fields_part lay)), Some (fields_part lay)), [])
 unfolding own_at
 fields_by lay ts e = rw e refl
 
-array_by : (lay : Layout) (n u : ℕ) → lay ≡ layout.array n u → own_at lay [] ≡ Ok ((head.list n, Some (list_part lay n)), [])
+array_by : (lay : Layout) (n u : ℕ) → lay ≡ layout.array n u → own_at lay [] ≡ Ok ((head.branch tree.list n, Some (list_part lay n)), [])
 unfolding own_at
 array_by lay n u e = rw e refl
 
-pub empty_read : (b : Built) → next_of b.walk ≡ next.Wants form.Empty → own_at (next_layout b) [] ≡ Ok ((head.unit, None), [])
+pub empty_read : (b : Built) → next_of b.walk ≡ next.Wants form.Empty → own_at (next_layout b) [] ≡ Ok (((head.leaf tree.unit), None), [])
 empty_read b h = empty_by (next_layout b) (next_has b form.Empty h)
 
-pub fields_read : (b : Built) → next_of b.walk ≡ next.Wants form.Fields → own_at (next_layout b) [] ≡ Ok ((head.fields (how_many_left (fields_part (next_layout b))), Some (fields_part (next_layout b))), [])
+pub fields_read : (b : Built) → next_of b.walk ≡ next.Wants form.Fields → own_at (next_layout b) [] ≡ Ok ((head.branch tree.fields (how_many_left (fields_part (next_layout b))), Some (fields_part (next_layout b))), [])
 fields_read b h = let f = next_has b form.Fields h in fields_by (next_layout b) f.0 f.1
 
-pub array_read : (b : Built) (n : ℕ) → next_of b.walk ≡ next.Wants (form.Array n) → own_at (next_layout b) [] ≡ Ok ((head.list n, Some (list_part (next_layout b) n)), [])
+pub array_read : (b : Built) (n : ℕ) → next_of b.walk ≡ next.Wants (form.Array n) → own_at (next_layout b) [] ≡ Ok ((head.branch tree.list n, Some (list_part (next_layout b) n)), [])
 array_read b n h = let f = next_has b (form.Array n) h in array_by (next_layout b) n f.0 f.1
 
 pub array_fits : (n : ℕ) → suits_list n (form.Array n) ≡ None

@@ -91,18 +91,18 @@ unfolding own_at layout_at
 primitive_short P.Bool b h = bool_short b h
 primitive_short P.Char b h = char_short b h
 primitive_short P.Str b h = text_short b h
-primitive_short P.U8 b h = number_short (λ c. tree.unsigned (number c)) 1 b (omega arith) h
-primitive_short P.U16 b h = number_short (λ c. tree.unsigned (number c)) 2 b (omega arith) h
-primitive_short P.U32 b h = number_short (λ c. tree.unsigned (number c)) 4 b (omega arith) h
-primitive_short P.U64 b h = number_short (λ c. tree.unsigned (number c)) 8 b (omega arith) h
-primitive_short P.U128 b h = number_short (λ c. tree.unsigned (number c)) 16 b (omega arith) h
-primitive_short P.U256 b h = number_short tree.wide 32 b (omega arith) h
-primitive_short P.I8 b h = number_short (λ c. tree.signed (signed_number c)) 1 b (omega arith) h
-primitive_short P.I16 b h = number_short (λ c. tree.signed (signed_number c)) 2 b (omega arith) h
-primitive_short P.I32 b h = number_short (λ c. tree.signed (signed_number c)) 4 b (omega arith) h
-primitive_short P.I64 b h = number_short (λ c. tree.signed (signed_number c)) 8 b (omega arith) h
-primitive_short P.I128 b h = number_short (λ c. tree.signed (signed_number c)) 16 b (omega arith) h
-primitive_short P.I256 b h = number_short tree.wide 32 b (omega arith) h
+primitive_short P.U8 b h = number_short (λ c. tree.leaf (tree.unsigned (number c))) 1 b (omega arith) h
+primitive_short P.U16 b h = number_short (λ c. tree.leaf (tree.unsigned (number c))) 2 b (omega arith) h
+primitive_short P.U32 b h = number_short (λ c. tree.leaf (tree.unsigned (number c))) 4 b (omega arith) h
+primitive_short P.U64 b h = number_short (λ c. tree.leaf (tree.unsigned (number c))) 8 b (omega arith) h
+primitive_short P.U128 b h = number_short (λ c. tree.leaf (tree.unsigned (number c))) 16 b (omega arith) h
+primitive_short P.U256 b h = number_short tree.leaf (tree.wide 32) b (omega arith) h
+primitive_short P.I8 b h = number_short (λ c. tree.leaf (tree.signed (signed_number c))) 1 b (omega arith) h
+primitive_short P.I16 b h = number_short (λ c. tree.leaf (tree.signed (signed_number c))) 2 b (omega arith) h
+primitive_short P.I32 b h = number_short (λ c. tree.leaf (tree.signed (signed_number c))) 4 b (omega arith) h
+primitive_short P.I64 b h = number_short (λ c. tree.leaf (tree.signed (signed_number c))) 8 b (omega arith) h
+primitive_short P.I128 b h = number_short (λ c. tree.leaf (tree.signed (signed_number c))) 16 b (omega arith) h
+primitive_short P.I256 b h = number_short tree.leaf (tree.wide 32) b (omega arith) h
 
 arms_short : (lay : Layout) (h : HasForm form.Arm lay) (b : List ℕ) → IsShortOf (λ first. 1) b → own_at lay b ≡ Err (truncated, [])
 unfolding own_at

@@ -56,17 +56,17 @@ bytes_few n bytes h = rw (lt-ltb (length bytes) n h) refl
 -- bytes of it are missing
 pub text_missing : (n : ℕ) (bytes : List ℕ) → IsLength n → length bytes < n → own_at layout.text (compact n ++ bytes) ≡ Err (truncated, [])
 unfolding own_at layout_at
-text_missing n bytes h few = ap (λ r. leaf_own (as_value tree.text r)) (text_behind n bytes (Err (scale.Truncated, [])) h (bytes_few n bytes few))
+text_missing n bytes h few = ap (λ r. leaf_own (as_value tree.leaf (tree.text r))) (text_behind n bytes (Err (scale.Truncated, [])) h (bytes_few n bytes few))
 
 -- they are all there, and UTF-8
-pub text_whole : (n : ℕ) (bytes : List ℕ) → IsLength n → length bytes ≡ n → is_utf8 bytes ≡ true → own_at layout.text (compact n ++ bytes) ≡ Ok ((head.text bytes, None), [])
+pub text_whole : (n : ℕ) (bytes : List ℕ) → IsLength n → length bytes ≡ n → is_utf8 bytes ≡ true → own_at layout.text (compact n ++ bytes) ≡ Ok ((head.leaf (tree.text bytes), None), [])
 unfolding own_at layout_at
-text_whole n bytes h all utf8 = ap (λ r. leaf_own (as_value tree.text r)) (text_behind n bytes (Ok (bytes, [])) h (bytes_whole n bytes all) ∙ ap (λ (c : Bool). cond c (Ok (bytes, [])) (Err (scale.BadUtf8, drop (utf8_valid_len bytes) bytes))) utf8)
+text_whole n bytes h all utf8 = ap (λ r. leaf_own (as_value tree.leaf (tree.text r))) (text_behind n bytes (Ok (bytes, [])) h (bytes_whole n bytes all) ∙ ap (λ (c : Bool). cond c (Ok (bytes, [])) (Err (scale.BadUtf8, drop (utf8_valid_len bytes) bytes))) utf8)
 
 -- they are all there, and not UTF-8
 pub text_bad : (n : ℕ) (bytes : List ℕ) → IsLength n → length bytes ≡ n → is_utf8 bytes ≡ false → own_at layout.text (compact n ++ bytes) ≡ Err (basic scale.BadUtf8, drop (utf8_valid_len bytes) bytes)
 unfolding own_at layout_at
-text_bad n bytes h all utf8 = ap (λ r. leaf_own (as_value tree.text r)) (text_behind n bytes (Ok (bytes, [])) h (bytes_whole n bytes all) ∙ ap (λ (c : Bool). cond c (Ok (bytes, [])) (Err (scale.BadUtf8, drop (utf8_valid_len bytes) bytes))) utf8)
+text_bad n bytes h all utf8 = ap (λ r. leaf_own (as_value tree.leaf (tree.text r))) (text_behind n bytes (Ok (bytes, [])) h (bytes_whole n bytes all) ∙ ap (λ (c : Bool). cond c (Ok (bytes, [])) (Err (scale.BadUtf8, drop (utf8_valid_len bytes) bytes))) utf8)
 
 -- fewer than all its bytes are too few
 pub text_front : (n : ℕ) (bytes : List ℕ) (i : ℕ) → IsLength n → length bytes ≡ n → i < length (compact n ++ bytes) → own_at layout.text (take i (compact n ++ bytes)) ≡ Err (truncated, [])
@@ -124,9 +124,9 @@ laid_text b n = next_has b (form.Primitive P.Str) n.wants
 
 pub text_added : (b new : Built) (n : AtEnd b) → is_utf8 n.pieces.bytes ≡ true → new ≡ with_text_ended b → IsAdded (closed_of b) new (compact n.pieces.len ++ n.pieces.bytes)
 text_added b new n utf8 is = (
-  (head.text n.pieces.bytes, None),
+  (head.leaf (tree.text n.pieces.bytes), None),
   ap (λ (f : Layout). own_at f (compact n.pieces.len ++ n.pieces.bytes)) (laid_text b n) ∙ text_whole n.pieces.len n.pieces.bytes n.len n.all utf8,
-  is ∙ ap (λ (o : Option Pieces). with_leaf (closed_of b) (head.text (pieces_bytes o))) n.open_is,
+  is ∙ ap (λ (o : Option Pieces). with_leaf (closed_of b) (head.leaf (tree.text (pieces_bytes o)))) n.open_is,
 )
 
 pub ended_running : (b new : Built) (c : List ℕ) (n : AtEnd b) → c ≡ [] → is_utf8 n.pieces.bytes ≡ true → new ≡ with_text_ended b → IsRunning new c None
@@ -225,5 +225,5 @@ end_wants b new c n h rest =
     let t = n.pieces in
     let utf8 = short_by t.bytes (with_text_ended b) b new (is_utf8 t.bytes) refl (subst (λ (o : Option BuildFault). Adds o (with_text_ended b) b new (Err build.OutOfMemory)) (end_judged b n) h) in
     let held : held_of (record { built = b; carry = c }) ++ [] ≡ compact t.len ++ t.bytes = append-nil (held_of (record { built = b; carry = c })) ∙ end_bytes b n c in
-    let laid : own_at (next_layout b) (compact t.len ++ t.bytes) ≡ Ok ((head.text t.bytes, None), []) = ap (λ (f : Layout). own_at f (compact t.len ++ t.bytes)) (laid_text b n) ∙ text_whole t.len t.bytes n.len n.all utf8 in
-    record { form = form.Primitive P.Str; next = n.wants; bytes = []; later = rest; is = refl; keeps = inl ((head.text t.bytes, None), ap (own_at (next_layout b)) held ∙ laid) }
+    let laid : own_at (next_layout b) (compact t.len ++ t.bytes) ≡ Ok ((head.leaf (tree.text t.bytes), None), []) = ap (λ (f : Layout). own_at f (compact t.len ++ t.bytes)) (laid_text b n) ∙ text_whole t.len t.bytes n.len n.all utf8 in
+    record { form = form.Primitive P.Str; next = n.wants; bytes = []; later = rest; is = refl; keeps = inl ((head.leaf (tree.text t.bytes), None), ap (own_at (next_layout b)) held ∙ laid) }

@@ -74,18 +74,8 @@ OwnTells r t b (Ok x) = b ≡ own_bytes (shape r t) x.0.0 ++ x.1
 OwnTells r t b (Err e) = Unit {0}
 
 leaf_spelled : (r : List TypeInfo) (t : ℕ) (v : Tree) → IsLeafTree v → spelled r t v ≡ own_bytes (shape r t) (head_of v)
-leaf_spelled r t (tree.fields vs) h = absurd h
-leaf_spelled r t (tree.arm q vs) h = absurd h
-leaf_spelled r t (tree.list vs) h = absurd h
-leaf_spelled r t tree.unit h = append-nil _
-leaf_spelled r t (tree.bool x) h = append-nil _
-leaf_spelled r t (tree.char x) h = append-nil _
-leaf_spelled r t (tree.text x) h = append-nil _
-leaf_spelled r t (tree.unsigned x) h = append-nil _
-leaf_spelled r t (tree.signed x) h = append-nil _
-leaf_spelled r t (tree.wide x) h = append-nil _
-leaf_spelled r t (tree.compact x) h = append-nil _
-leaf_spelled r t (tree.count x) h = append-nil _
+leaf_spelled r t (tree.branch k vs) h = absurd h
+leaf_spelled r t (tree.leaf l) h = append-nil _
 
 leaf_tells : (r : List TypeInfo) (t : ℕ) (b : List ℕ) (read : Read Refusal Tree) → AreBytes b → Takes (λ v c. Val r t v c × (levels v ≤ 1)) b read → IsLeafRead read → OwnTells r t b (leaf_own read)
 leaf_tells r t b (Err e) are k leaf = tt
@@ -109,7 +99,7 @@ length_tells r t u b (Err x) e k = tt
 length_tells r t u b (Ok n) e k = let laid = (met_is r t (layout.sequence u) (λ no. absurd cc) e).1 in
     k.1 ∙ ap (λ (c : List ℕ). c ++ n.1) (k.2.1 ∙ sym (sequence_length r t u n.0 laid))
 
-array_tells : (r : List TypeInfo) (t n u : ℕ) (b : List ℕ) → met_layout r t ≡ layout.array n u → b ≡ own_bytes (shape r t) (head.list n) ++ b
+array_tells : (r : List TypeInfo) (t n u : ℕ) (b : List ℕ) → met_layout r t ≡ layout.array n u → b ≡ own_bytes (shape r t) (head.branch tree.list n) ++ b
 array_tells r t n u b e = let laid = (met_is r t (layout.array n u) (λ no. absurd cc) e).1 in
     ap (λ (c : List ℕ). c ++ b) (sym (array_length r t n u n laid))
 
@@ -125,12 +115,12 @@ own_tells_of r t layout.bad_compact b e are = tt
 own_tells_of r t layout.empty b e are = refl
 own_tells_of r t layout.bool b e are = leaf_tells r t b (layout_at shallow layout.bool b) are (met_takes r t layout.bool e b) (bool_leaf b)
 own_tells_of r t layout.char b e are = leaf_tells r t b (layout_at shallow layout.char b) are (met_takes r t layout.char e b) (char_leaf b (bytes_at 4 b))
-own_tells_of r t layout.text b e are = leaf_tells r t b (layout_at shallow layout.text b) are (met_takes r t layout.text e b) (value_leaf tree.text (λ x. tt) (text_at b))
-own_tells_of r t (layout.unsigned k) b e are = leaf_tells r t b (layout_at shallow (layout.unsigned k) b) are (met_takes r t (layout.unsigned k) e b) (value_leaf (λ c. tree.unsigned (number c)) (λ x. tt) (bytes_at k b))
-own_tells_of r t (layout.signed k) b e are = leaf_tells r t b (layout_at shallow (layout.signed k) b) are (met_takes r t (layout.signed k) e b) (value_leaf (λ c. tree.signed (signed_number c)) (λ x. tt) (bytes_at k b))
-own_tells_of r t layout.wide b e are = leaf_tells r t b (layout_at shallow layout.wide b) are (met_takes r t layout.wide e b) (value_leaf tree.wide (λ x. tt) (bytes_at 32 b))
-own_tells_of r t layout.counted b e are = leaf_tells r t b (layout_at shallow layout.counted b) are (met_takes r t layout.counted e b) (value_leaf tree.count (λ x. tt) (compact_at target.U32 b))
-own_tells_of r t (layout.compact m) b e are = leaf_tells r t b (layout_at shallow (layout.compact m) b) are (met_takes r t (layout.compact m) e b) (value_leaf tree.compact (λ x. tt) (compact_at m b))
+own_tells_of r t layout.text b e are = leaf_tells r t b (layout_at shallow layout.text b) are (met_takes r t layout.text e b) (value_leaf tree.leaf (tree.text (λ x. tt)) (text_at b))
+own_tells_of r t (layout.unsigned k) b e are = leaf_tells r t b (layout_at shallow (layout.unsigned k) b) are (met_takes r t (layout.unsigned k) e b) (value_leaf (λ c. tree.leaf (tree.unsigned (number c))) (λ x. tt) (bytes_at k b))
+own_tells_of r t (layout.signed k) b e are = leaf_tells r t b (layout_at shallow (layout.signed k) b) are (met_takes r t (layout.signed k) e b) (value_leaf (λ c. tree.leaf (tree.signed (signed_number c))) (λ x. tt) (bytes_at k b))
+own_tells_of r t layout.wide b e are = leaf_tells r t b (layout_at shallow layout.wide b) are (met_takes r t layout.wide e b) (value_leaf tree.leaf (tree.wide (λ x. tt)) (bytes_at 32 b))
+own_tells_of r t layout.counted b e are = leaf_tells r t b (layout_at shallow layout.counted b) are (met_takes r t layout.counted e b) (value_leaf tree.leaf (tree.count (λ x. tt)) (compact_at target.U32 b))
+own_tells_of r t (layout.compact m) b e are = leaf_tells r t b (layout_at shallow (layout.compact m) b) are (met_takes r t (layout.compact m) e b) (value_leaf tree.leaf (tree.compact (λ x. tt)) (compact_at m b))
 
 own_bytes_told : (r : List TypeInfo) (child : ℕ → List ℕ → Told) → ChildTells r child → (t : ℕ) (b : List ℕ) (read : Own) → AreBytes b → OwnTells r t b read → TellsBytes r b (own_told child t b read)
 own_bytes_told r child h t b (Err e) are k = refl

@@ -86,7 +86,7 @@ bool_whole (suc (suc x) ∷ []) h = refl
 
 char_whole : (b : List ℕ) → length b ≡ 4 → IsWhole (leaf_own (char_from b (bytes_at 4 b)))
 char_whole b h = rw (bytes_whole 4 b h) (by (is_scalar (number b))) where
-  by : (c : Bool) → IsWhole (leaf_own (cond c (Ok (tree.char (number b), [])) (Err (basic scale.BadChar, b))))
+  by : (c : Bool) → IsWhole (leaf_own (cond c (Ok (tree.leaf (tree.char (number b)), [])) (Err (basic scale.BadChar, b))))
   by true = refl
   by false = refl
 
@@ -112,18 +112,18 @@ unfolding own_at layout_at
 primitive_whole P.Bool b h = bool_whole b h.1.3
 primitive_whole P.Char b h = char_whole b h.1.3
 primitive_whole P.Str b h = absurd h
-primitive_whole P.U8 b h = number_whole (λ c. tree.unsigned (number c)) 1 b h.1.3
-primitive_whole P.U16 b h = number_whole (λ c. tree.unsigned (number c)) 2 b h.1.3
-primitive_whole P.U32 b h = number_whole (λ c. tree.unsigned (number c)) 4 b h.1.3
-primitive_whole P.U64 b h = number_whole (λ c. tree.unsigned (number c)) 8 b h.1.3
-primitive_whole P.U128 b h = number_whole (λ c. tree.unsigned (number c)) 16 b h.1.3
-primitive_whole P.U256 b h = number_whole tree.wide 32 b h.1.3
-primitive_whole P.I8 b h = number_whole (λ c. tree.signed (signed_number c)) 1 b h.1.3
-primitive_whole P.I16 b h = number_whole (λ c. tree.signed (signed_number c)) 2 b h.1.3
-primitive_whole P.I32 b h = number_whole (λ c. tree.signed (signed_number c)) 4 b h.1.3
-primitive_whole P.I64 b h = number_whole (λ c. tree.signed (signed_number c)) 8 b h.1.3
-primitive_whole P.I128 b h = number_whole (λ c. tree.signed (signed_number c)) 16 b h.1.3
-primitive_whole P.I256 b h = number_whole tree.wide 32 b h.1.3
+primitive_whole P.U8 b h = number_whole (λ c. tree.leaf (tree.unsigned (number c))) 1 b h.1.3
+primitive_whole P.U16 b h = number_whole (λ c. tree.leaf (tree.unsigned (number c))) 2 b h.1.3
+primitive_whole P.U32 b h = number_whole (λ c. tree.leaf (tree.unsigned (number c))) 4 b h.1.3
+primitive_whole P.U64 b h = number_whole (λ c. tree.leaf (tree.unsigned (number c))) 8 b h.1.3
+primitive_whole P.U128 b h = number_whole (λ c. tree.leaf (tree.unsigned (number c))) 16 b h.1.3
+primitive_whole P.U256 b h = number_whole tree.leaf (tree.wide 32) b h.1.3
+primitive_whole P.I8 b h = number_whole (λ c. tree.leaf (tree.signed (signed_number c))) 1 b h.1.3
+primitive_whole P.I16 b h = number_whole (λ c. tree.leaf (tree.signed (signed_number c))) 2 b h.1.3
+primitive_whole P.I32 b h = number_whole (λ c. tree.leaf (tree.signed (signed_number c))) 4 b h.1.3
+primitive_whole P.I64 b h = number_whole (λ c. tree.leaf (tree.signed (signed_number c))) 8 b h.1.3
+primitive_whole P.I128 b h = number_whole (λ c. tree.leaf (tree.signed (signed_number c))) 16 b h.1.3
+primitive_whole P.I256 b h = number_whole tree.leaf (tree.wide 32) b h.1.3
 
 pub u32_is : target.U32 ≢ target.Unit
 u32_is = λ e. absurd cc
@@ -135,9 +135,9 @@ pub form_whole : (f : Form) (lay : Layout) (b : List ℕ) → HasForm f lay → 
 unfolding own_at layout_at
 form_whole form.Empty lay b h k = absurd k.0
 form_whole (form.Primitive p) lay b h k = rw h (primitive_whole p b k)
-form_whole (form.Compact m) lay b h k = rw h (value_whole tree.compact (compact_at m b) (settled_at m b k.0 k.1.0 k.1.1 k.1.2 k.1.3))
+form_whole (form.Compact m) lay b h k = rw h (value_whole tree.leaf (tree.compact (compact_at m b)) (settled_at m b k.0 k.1.0 k.1.1 k.1.2 k.1.3))
 form_whole form.Fields lay b h k = absurd k.0
 form_whole form.Arm lay b h k = rw h.1 (arms_whole h.0 b k.1.3)
 form_whole (form.Array n) lay b h k = absurd k.0
 form_whole form.Sequence lay b h k = rw h.1 (length_whole h.0 (compact_at target.U32 b) (settled_at target.U32 b u32_is k.1.0 k.1.1 k.1.2 k.1.3))
-form_whole form.Count lay b h k = rw h (value_whole tree.count (compact_at target.U32 b) (settled_at target.U32 b u32_is k.1.0 k.1.1 k.1.2 k.1.3))
+form_whole form.Count lay b h k = rw h (value_whole tree.leaf (tree.count (compact_at target.U32 b)) (settled_at target.U32 b u32_is k.1.0 k.1.1 k.1.2 k.1.3))

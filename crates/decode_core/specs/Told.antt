@@ -13,6 +13,7 @@ use Rattle.grammar_core.specs.Tree.{Tree}
 use Rattle.value_core.specs.Built.{Entry}
 use Rattle.grammar_core.specs.Preorder.{Head, head_of, preorder}
 use Rattle.grammar_core.specs.Preorder as head
+use Rattle.grammar_core.specs.Tree as tree
 use Rattle.grammar_core.specs.Parts.{Part, each, times}
 use Rattle.decode_core.specs.Met.{met_layout}
 use Rattle.grammar_core.specs.Reading.{layout_at, Refusal, basic, truncated, too_deep, no_such_variant}
@@ -33,7 +34,7 @@ leaf_own (Ok x) = Ok ((head_of x.0, None), x.1)
 leaf_own (Err e) = Err e
 
 abbrev pub arm_own : List ℕ → Option (ℕ × Arm) → List ℕ → Own
-arm_own at (Some found) rest = Ok ((head.arm found.0 (length (field_types found.1.fields)), Some (each (field_types found.1.fields))), rest)
+arm_own at (Some found) rest = Ok ((head.branch (tree.arm found.0) (length (field_types found.1.fields)), Some (each (field_types found.1.fields))), rest)
 arm_own at None rest = Err (no_such_variant, at)
 
 abbrev pub arms_own : List Arm → List ℕ → Own
@@ -41,17 +42,17 @@ arms_own arms [] = Err (truncated, [])
 arms_own arms (index ∷ rest) = arm_own (index ∷ rest) (arm_of arms index) rest
 
 abbrev pub length_own : ℕ → Read Reason ℕ → Own
-length_own t (Ok n) = Ok ((head.list n.0, Some (times n.0 t)), n.1)
+length_own t (Ok n) = Ok ((head.branch tree.list n.0, Some (times n.0 t)), n.1)
 length_own t (Err e) = Err (basic e.0, e.1)
 
 abbrev pub shallow : ℕ → List ℕ → Read Refusal Tree
 shallow t b = Err (too_deep, b)
 
 unfoldable pub own_at : Layout → List ℕ → Own
-own_at (layout.fields ts) b = Ok ((head.fields (length ts), Some (each ts)), b)
+own_at (layout.fields ts) b = Ok ((head.branch tree.fields (length ts), Some (each ts)), b)
 own_at (layout.arms arms) b = arms_own arms b
 own_at (layout.sequence t) b = length_own t (compact_at target.U32 b)
-own_at (layout.array n t) b = Ok ((head.list n, Some (times n t)), b)
+own_at (layout.array n t) b = Ok ((head.branch tree.list n, Some (times n t)), b)
 own_at f b = leaf_own (layout_at shallow f b)
 
 -- the fault and the bytes from its place on, and the bytes from the node on that is refused

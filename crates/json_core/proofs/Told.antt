@@ -155,7 +155,7 @@ Told r t v (what.Arm q) = (a : Arm) × (arm_in (shape r t) q ≡ Some a) × (jso
 Told r t v what.List = json_of r t v ≡ json.array (jsons (children_by r t v))
 Told r t v (what.Count k) = json_of r t v ≡ json.object (member (codes "count") (json.number (json.unsigned k)) no_members)
 
-unsigned_told : (r : List TypeInfo) (t n k : ℕ) (b : List ℕ) → AreBytes b → layout r t ≡ layout.unsigned k → length b ≡ k → number b ≡ n → Told r t (tree.unsigned n) (what.Unsigned n)
+unsigned_told : (r : List TypeInfo) (t n k : ℕ) (b : List ℕ) → AreBytes b → layout r t ≡ layout.unsigned k → length b ≡ k → number b ≡ n → Told r t (tree.leaf (tree.unsigned n)) (what.Unsigned n)
 unfolding json_of
 unsigned_told r t n k b are e len is =
     let long = defined_at r t (layout.unsigned k) e in
@@ -164,7 +164,7 @@ unsigned_told r t n k b are e len is =
       ap (λ (f : Layout). unsigned_of f n) e ∙ unsigned_same k n _ long,
     )
 
-signed_told : (r : List TypeInfo) (t k : ℕ) (z : ℤ) (b : List ℕ) → AreBytes b → layout r t ≡ layout.signed k → length b ≡ k → signed_number b ≡ z → Told r t (tree.signed z) (what.Signed z)
+signed_told : (r : List TypeInfo) (t k : ℕ) (z : ℤ) (b : List ℕ) → AreBytes b → layout r t ≡ layout.signed k → length b ≡ k → signed_number b ≡ z → Told r t (tree.leaf (tree.signed z)) (what.Signed z)
 unfolding json_of
 signed_told r t k z b are e len is =
     let long = defined_at r t (layout.signed k) e in (
@@ -172,7 +172,7 @@ signed_told r t k z b are e len is =
       ap (λ (f : Layout). signed_of f z) e ∙ signed_same k z _ long,
     )
 
-compact_told : (r : List TypeInfo) (t x : ℕ) (m : Target) (b : List ℕ) → layout r t ≡ layout.compact m → IsCompact m x b → Told r t (tree.compact x) (what.Compact x)
+compact_told : (r : List TypeInfo) (t x : ℕ) (m : Target) (b : List ℕ) → layout r t ≡ layout.compact m → IsCompact m x b → Told r t (tree.leaf (tree.compact x)) (what.Compact x)
 unfolding json_of
 compact_told r t x m b e h =
     let is : compact_target_of r t ≡ Some m = defined_at r t (layout.compact m) e in
@@ -181,13 +181,13 @@ compact_told r t x m b e h =
       ap (λ (f : Layout). unsigned_of f x) e ∙ unsigned_same (target_bytes m) x _ long,
     )
 
-fields_told : (r : List TypeInfo) (t : ℕ) (ts : List ℕ) (vs : Trees) (b : List ℕ) → layout r t ≡ layout.fields ts → Vals r ts vs b → Told r t (tree.fields vs) what.Fields
+fields_told : (r : List TypeInfo) (t : ℕ) (ts : List ℕ) (vs : Trees) (b : List ℕ) → layout r t ≡ layout.fields ts → Vals r ts vs b → Told r t (tree.branch tree.fields vs) what.Fields
 unfolding json_of
 fields_told r t ts vs b e h =
     let parts : jsons (seen_parts r (fields_part (layout r t)) vs) ≡ all_json r ts vs = ap (λ (f : Layout). jsons (seen_parts r (fields_part f) vs)) e ∙ all_is r ts vs b h in
     ap (parts_json (shape r t)) (ap (λ (f : Layout). all_json r (part_types f) vs) e ∙ sym parts)
 
-arm_told : (r : List TypeInfo) (t q i : ℕ) (arms : List Arm) (a : Arm) (vs : Trees) (b : List ℕ) → layout r t ≡ layout.arms arms → arm_of arms i ≡ Some (q, a) → Vals r (field_types a.fields) vs b → Told r t (tree.arm q vs) (what.Arm q)
+arm_told : (r : List TypeInfo) (t q i : ℕ) (arms : List Arm) (a : Arm) (vs : Trees) (b : List ℕ) → layout r t ≡ layout.arms arms → arm_of arms i ≡ Some (q, a) → Vals r (field_types a.fields) vs b → Told r t (tree.branch (tree.arm q) vs) (what.Arm q)
 unfolding json_of
 arm_told r t q i arms a vs b e f h =
     let got : slice_get arms q ≡ Some a = arm_get arms i q a f in
@@ -198,25 +198,25 @@ arm_told r t q i arms a vs b e f h =
       ap (λ (o : Option Arm). arm_json o (all_json r (arm_types o) vs)) at ∙ ap (arm_json (Some a)) (sym parts),
     )
 
-list_told : (r : List TypeInfo) (t u : ℕ) (vs : Trees) → element_type (layout r t) ≡ u → list_part (layout r t) (how_many vs) ≡ times (how_many vs) u → Told r t (tree.list vs) what.List
+list_told : (r : List TypeInfo) (t u : ℕ) (vs : Trees) → element_type (layout r t) ≡ u → list_part (layout r t) (how_many vs) ≡ times (how_many vs) u → Told r t (tree.branch tree.list vs) what.List
 unfolding json_of
 list_told r t u vs e p = ap json.array (ap (λ (x : ℕ). each_json r x vs) e ∙ sym (each_is r u vs) ∙ sym (ap (λ (q : Part). jsons (seen_parts r q vs)) p))
 
 told_by : (r : List TypeInfo) (t : ℕ) (v : Tree) (b : List ℕ) → AreBytes b → Val r t v b → Told r t v (what_of v)
 unfolding Val json_of
-told_by r t tree.unit b are h = refl
-told_by r t (tree.bool x) b are h = refl
-told_by r t (tree.char c) b are h = refl
-told_by r t (tree.text s) b are h = (s, refl, refl)
-told_by r t (tree.unsigned n) b are h = unsigned_told r t n h.0 b are h.1 h.2 h.3
-told_by r t (tree.signed z) b are h = signed_told r t h.0 z b are h.1 h.2 h.3
-told_by r t (tree.wide s) b are h = refl
-told_by r t (tree.compact x) b are h = let c = compact_value_of (layout r t) x b h in compact_told r t x c.0 b c.1 c.2
-told_by r t (tree.fields vs) b are h = fields_told r t h.0 vs b h.1 h.2
-told_by r t (tree.arm q vs) b are h = arm_told r t q h.1 h.0 h.2 vs h.3 h.4 h.5 h.7
-told_by r t (tree.list vs) b are (inl h) = list_told r t h.1 vs (ap element_type h.2) (ap (λ (f : Layout). list_part f (how_many vs)) h.2)
-told_by r t (tree.list vs) b are (inr h) = list_told r t h.0 vs (ap element_type h.3) (ap (λ (f : Layout). list_part f (how_many vs)) h.3)
-told_by r t (tree.count k) b are h = refl
+told_by r t (tree.leaf tree.unit) b are h = refl
+told_by r t (tree.leaf (tree.bool x)) b are h = refl
+told_by r t (tree.leaf (tree.char c)) b are h = refl
+told_by r t (tree.leaf (tree.text s)) b are h = (s, refl, refl)
+told_by r t (tree.leaf (tree.unsigned n)) b are h = unsigned_told r t n h.0 b are h.1 h.2 h.3
+told_by r t (tree.leaf (tree.signed z)) b are h = signed_told r t h.0 z b are h.1 h.2 h.3
+told_by r t (tree.leaf (tree.wide s)) b are h = refl
+told_by r t (tree.leaf (tree.compact x)) b are h = let c = compact_value_of (layout r t) x b h in compact_told r t x c.0 b c.1 c.2
+told_by r t (tree.branch tree.fields vs) b are h = fields_told r t h.0 vs b h.1 h.2
+told_by r t (tree.branch (tree.arm q) vs) b are h = arm_told r t q h.1 h.0 h.2 vs h.3 h.4 h.5 h.7
+told_by r t (tree.branch tree.list vs) b are (inl h) = list_told r t h.1 vs (ap element_type h.2) (ap (λ (f : Layout). list_part f (how_many vs)) h.2)
+told_by r t (tree.branch tree.list vs) b are (inr h) = list_told r t h.0 vs (ap element_type h.3) (ap (λ (f : Layout). list_part f (how_many vs)) h.3)
+told_by r t (tree.leaf (tree.count k)) b are h = refl
 
 pub told : (s : Seen) (w : What) → IsValue s → w ≡ what_of s.tree → Told s.types s.ty s.tree w
 told s w h e = subst (Told s.types s.ty s.tree) (sym e) (told_by s.types s.ty s.tree h.0 h.1 h.2)

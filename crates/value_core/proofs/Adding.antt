@@ -4,14 +4,15 @@ use Rattle.std.proofs.lemmas.List.{length-map, map-append, take-append-le}
 use Rattle.scale_core.specs.Number.{AreBytes}
 use Rattle.scale_core.proofs.Numbers.{both_bytes}
 use Rattle.registry_core.specs.declared.type_info.TypeInfo.{TypeInfo}
-use Rattle.grammar_core.specs.Tree.{Tree, none, levels, most_levels}
+use Rattle.grammar_core.specs.Tree.{Branch, Tree, none, levels, most_levels}
 use Rattle.grammar_core.specs.Grammar.{Val}
 use Rattle.grammar_core.specs.Parts.{Part}
 use Rattle.grammar_core.specs.Preorder as head
+use Rattle.grammar_core.specs.Tree as tree
 use Rattle.grammar_core.specs.Preorder.{Head, head_of, tree_with}
 use Rattle.grammar_core.specs.Cells.{Cell, cells}
 use Rattle.value_core.specs.Shown.{head_shown, cell_shown, cells_shown, IsInPool, AreInPool}
-use Rattle.value_core.specs.Spine.{Kind, of_fields, of_arm, of_list, OpenNode, kind_head, open_part, open_cell, open_cells, IsOpen, Spine}
+use Rattle.value_core.specs.Spine.{OpenNode, open_part, open_cell, open_cells, IsOpen, Spine}
 use Rattle.value_core.specs.Walked.{OpenPart, Walked, first_in, advanced, opened, next_of}
 use Rattle.value_core.specs.Built.{Entry, entries_shown, head_text_bytes, entries_text_bytes, IsLeaf, IsNextLeaf, IsNextOpen}
 use Rattle.value_core.specs.Building.{IsBuilding, IsOpenAt, IsOpenText, pieces_shown}
@@ -42,10 +43,10 @@ head_more : (pool more : List ℕ) (c : Content) → IsInPool pool c → head_sh
 head_more pool more content.Empty h = refl
 head_more pool more (content.Bool b) h = refl
 head_more pool more (content.Char c) h = refl
-head_more pool more (content.Text start len) h = ap head.text (range_more pool more start (start + len) (omega arith) h)
+head_more pool more (content.Text start len) h = ap (λ (x : List ℕ). head.leaf (tree.text x)) (range_more pool more start (start + len) (omega arith) h)
 head_more pool more (content.Unsigned b) h = refl
 head_more pool more (content.Signed b) h = refl
-head_more pool more (content.Wide start) h = ap head.wide (range_more pool more start (start + 32) (omega arith) h)
+head_more pool more (content.Wide start) h = ap (λ (x : List ℕ). head.leaf (tree.wide x)) (range_more pool more start (start + 32) (omega arith) h)
 head_more pool more (content.Compact b) h = refl
 head_more pool more (content.Fields n) h = refl
 head_more pool more (content.Arm q n) h = refl
@@ -94,18 +95,8 @@ cells_added pool more ns n c inside e = map-append (cell_shown (pool ++ more)) n
 
 -- a node without children is the whole of its value
 leaf_cells : (r : List TypeInfo) (t : ℕ) (h : Head) → IsLeaf h → (cells r t (tree_with h none) ≡ record { ty = t; head = h; size = 1 } ∷ []) × (levels (tree_with h none) ≡ 1)
-leaf_cells r t head.unit h = (refl, refl)
-leaf_cells r t (head.bool b) h = (refl, refl)
-leaf_cells r t (head.char c) h = (refl, refl)
-leaf_cells r t (head.text s) h = (refl, refl)
-leaf_cells r t (head.unsigned n) h = (refl, refl)
-leaf_cells r t (head.signed z) h = (refl, refl)
-leaf_cells r t (head.wide s) h = (refl, refl)
-leaf_cells r t (head.compact n) h = (refl, refl)
-leaf_cells r t (head.count n) h = (refl, refl)
-leaf_cells r t (head.fields n) h = absurd h
-leaf_cells r t (head.arm q n) h = absurd h
-leaf_cells r t (head.list n) h = absurd h
+leaf_cells r t (head.leaf l) h = (refl, refl)
+leaf_cells r t (head.branch k n) h = absurd h
 
 leaf_grown : (r : List TypeInfo) (room ty : ℕ) (os : List OpenNode) (fs : List OpenPart) (cs : List Cell) (own : List ℕ) (t : ℕ) (v : Tree) (c : List ℕ) → first_in fs ≡ Some t → Spine r room ty os fs cs own → Val r t v c → levels v ≤ room →
     Grown r room ty (advanced (record { types = r; limit = 0; frames = fs })).frames (cs ++ cells r t v) (own ++ c)
@@ -138,15 +129,11 @@ leaf_added ty w pool more ns n text_len more_len h b l at shows size within text
 -- ---- a node whose children come next
 
 abbrev is_open : Head → Bool
-is_open (head.fields n) = true
-is_open (head.arm q n) = true
-is_open (head.list n) = true
+is_open (head.branch k n) = true
 is_open _ = false
 
-kind_is_open : (kind : Kind) (n : ℕ) → is_open (kind_head kind n) ≡ true
-kind_is_open of_fields n = refl
-kind_is_open (of_arm q) n = refl
-kind_is_open of_list n = refl
+kind_is_open : (kind : Branch) (n : ℕ) → is_open (head.branch kind n) ≡ true
+kind_is_open k n = refl
 
 open_by : (pool : List ℕ) (c : Content) → is_open (head_shown [] c) ≡ true → (head_shown pool c ≡ head_shown [] c) × IsInPool pool c
 open_by pool (content.Fields n) e = (refl, tt)
@@ -163,13 +150,11 @@ open_by pool (content.Compact b) e = absurd cc
 open_by pool (content.Count n) e = absurd cc
 
 -- it is kept by no bytes of the pool
-pub open_shown : (pool : List ℕ) (c : Content) (kind : Kind) (n : ℕ) → head_shown [] c ≡ kind_head kind n → (head_shown pool c ≡ head_shown [] c) × IsInPool pool c
+pub open_shown : (pool : List ℕ) (c : Content) (kind : Branch) (n : ℕ) → head_shown [] c ≡ head.branch kind n → (head_shown pool c ≡ head_shown [] c) × IsInPool pool c
 open_shown pool c kind n e = open_by pool c (ap is_open e ∙ kind_is_open kind n)
 
-kind_text : (kind : Kind) (n : ℕ) → head_text_bytes (kind_head kind n) ≡ 0
-kind_text of_fields n = refl
-kind_text (of_arm q) n = refl
-kind_text of_list n = refl
+kind_text : (kind : Branch) (n : ℕ) → head_text_bytes (head.branch kind n) ≡ 0
+kind_text k n = refl
 
 open_grown : (r : List TypeInfo) (room ty : ℕ) (os : List OpenNode) (fs : List OpenPart) (cs : List Cell) (own : List ℕ) (o : OpenNode) (p : Part) → first_in fs ≡ Some o.ty → Spine r (suc room) ty os fs cs own → IsOpen r o p → most_levels o.done ≤ room →
     Spine r room ty (o ∷ os) (open_part (length cs) p ∷ (advanced (record { types = r; limit = 0; frames = fs })).frames) (cs ++ open_cells r o) (own ++ o.own)
@@ -192,7 +177,7 @@ open_added ty w pool ns n text_len p b l at size = by b.room refl where
       let g = open_grown w.types room ty b.opens w.frames (cells_shown pool ns) b.own o p l.next spine (l.finite, l.is_open) (omega arith) in
       let cell : cell_shown pool n ≡ open_cell o = rw (at, shown.0, l.head_is, size) refl in
       let cells_are : cells_shown pool (ns ++ n ∷ []) ≡ cells_shown pool ns ++ open_cell o ∷ [] = map-append (cell_shown pool) ns (n ∷ []) ∙ ap (λ (c : Cell). cells_shown pool ns ++ c ∷ []) cell in
-      let entries_are : entries_shown pool (ns ++ n ∷ []) ≡ entries_shown pool ns ++ entry_of l.ty (kind_head l.kind l.count) ∷ [] = map-append _ ns (n ∷ []) ∙ rw (at, shown.0, l.head_is) refl in
+      let entries_are : entries_shown pool (ns ++ n ∷ []) ≡ entries_shown pool ns ++ entry_of l.ty (head.branch l.kind l.count) ∷ [] = map-append _ ns (n ∷ []) ∙ rw (at, shown.0, l.head_is) refl in
       record {
         room = room;
         level = omega (arith, e, b.level, advanced_length w.frames);
@@ -201,12 +186,12 @@ open_added ty w pool ns n text_len p b l at size = by b.room refl where
         opens = o ∷ b.opens;
         spine = rw (cells_are, ← length-map ns (cell_shown pool)) g;
         inside = inside_after pool ns n b.inside shown.1;
-        texts = rw entries_are (omega (arith, b.texts, text_snoc (entries_shown pool ns) (entry_of l.ty (kind_head l.kind l.count)), kind_text l.kind l.count));
+        texts = rw entries_are (omega (arith, b.texts, text_snoc (entries_shown pool ns) (entry_of l.ty (head.branch l.kind l.count)), kind_text l.kind l.count));
         fits = b.fits;
       }
 
 -- the entries are one more, and as many as the nodes
-pub open_entries : (pool : List ℕ) (ns : List Node) (n : Node) (t : ℕ) (kind : Kind) (count : ℕ) → n.ty.0 ≡ t → head_shown [] n.content ≡ kind_head kind count → (entries_shown pool (ns ++ n ∷ []) ≡ entries_shown pool ns ++ entry_of t (head_shown [] n.content) ∷ []) × (length (entries_shown pool ns) ≡ length ns)
+pub open_entries : (pool : List ℕ) (ns : List Node) (n : Node) (t : ℕ) (kind : Branch) (count : ℕ) → n.ty.0 ≡ t → head_shown [] n.content ≡ head.branch kind count → (entries_shown pool (ns ++ n ∷ []) ≡ entries_shown pool ns ++ entry_of t (head_shown [] n.content) ∷ []) × (length (entries_shown pool ns) ≡ length ns)
 open_entries pool ns n t kind count at e = (map-append _ ns (n ∷ []) ∙ rw (at, (open_shown pool n.content kind count e).0) refl, length-map ns _)
 
 -- ---- bytes of an open text

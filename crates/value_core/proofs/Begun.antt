@@ -1,4 +1,5 @@
 -- What a builder holds is a begun tree.
+use Rattle.widths_core.specs.Layouts.{layout}
 use Rattle.std.proofs.Common.{◌≡◌, ℕ, zero, suc, ◌+◌, ◌-◌, ◌≤◌, Bool, true, false, List, [], ◌∷◌, ◌++◌, length, map, Option, Some, None, refl, sym, ap, flat_map, subst, ◌∙◌, append_assoc, arith, inl, inr, length-append}
 use Rattle.std.specs.Prelude.{nat_lt, if◌then◌else◌}
 use Rattle.std.proofs.lemmas.Bool.{lt-ltb, le-ltb, ltb-true, ltb-false}
@@ -11,8 +12,9 @@ use Rattle.registry_core.specs.declared.type_info.TypeInfo.{TypeInfo}
 use Rattle.graph_core.specs.Types.{shape}
 use Rattle.widths_core.specs.Classes.{is_finite}
 use Rattle.widths_core.specs.Layouts as layout
-use Rattle.grammar_core.specs.Tree.{Tree, Trees, nodes, all_nodes, all_text_bytes, most_levels}
+use Rattle.grammar_core.specs.Tree.{Branch, Tree, Trees, nodes, all_nodes, all_text_bytes, most_levels}
 use Rattle.grammar_core.specs.Preorder as head
+use Rattle.grammar_core.specs.Tree as tree
 use Rattle.grammar_core.specs.Preorder.{Head, preorder, all_preorder}
 use Rattle.grammar_core.specs.Parts.{Part, each, times, first_of, left_after}
 use Rattle.grammar_core.specs.Cells.{Cell, cells, all_cells}
@@ -23,7 +25,8 @@ use Rattle.grammar_core.specs.declared.form.StopReason.TheVariants as stop
 use Rattle.grammar_core.specs.declared.form.Next.TheVariants as next
 use Rattle.grammar_core.proofs.Begun.{begun_trees_fit}
 use Rattle.value_core.specs.Shown.{cell_shown, cells_shown}
-use Rattle.value_core.specs.Spine.{Kind, of_fields, of_arm, of_list, OpenNode, kind_head, kind_part, open_cells, IsOpenAs, open_part, Spine}
+use Rattle.value_core.specs.Spine.{OpenNode, open_cells, IsOpenAs, open_part, Spine}
+use Rattle.grammar_core.specs.Cells.{part_of}
 use Rattle.value_core.specs.Walked.{OpenPart, Walked}
 use Rattle.value_core.specs.Built.{Entry, Pieces, IsSettled, entries_shown, head_text_bytes, settled_in}
 use Rattle.value_core.specs.Building.{IsPaid, IsBuilding}
@@ -37,10 +40,10 @@ use Rattle.value_core.proofs.Spines.{is_cons, spine_is_whole, spine_length}
 
 -- ---- the open node round a begun tree
 
-abbrev around : Kind → ℕ → Trees → Begun → Begun
-around of_fields n vs g = in_fields vs g
-around (of_arm q) n vs g = in_arm q vs g
-around of_list n vs g = in_list n vs g
+abbrev around : Branch → ℕ → Trees → Begun → Begun
+around tree.fields n vs g = in_fields vs g
+around (tree.arm q) n vs g = in_arm q vs g
+around tree.list n vs g = in_list n vs g
 
 each_first : (back : List ℕ) (w : ℕ) → first_of (each back) ≡ Some w → (behind : List ℕ) × (back ≡ w ∷ behind)
 each_first [] w e = absurd cc
@@ -50,17 +53,17 @@ times_first : (left u w : ℕ) → first_of (times left u) ≡ Some w → (1 ≤
 times_first zero u w e = absurd cc
 times_first (suc n) u w e = (omega arith, same_Some u w e)
 
-around_grows : (r : List TypeInfo) (room : ℕ) (kind : Kind) (t n : ℕ) (vs : Trees) (b : List ℕ) (p : Part) (w : ℕ) (g : Begun) (c : List ℕ) (next : Option (ℕ × ℕ)) (hs : List Head) →
+around_grows : (r : List TypeInfo) (room : ℕ) (kind : Branch) (t n : ℕ) (vs : Trees) (b : List ℕ) (p : Part) (w : ℕ) (g : Begun) (c : List ℕ) (next : Option (ℕ × ℕ)) (hs : List Head) →
     is_finite r t ≡ true → IsOpenAs r kind t n vs b p → most_levels vs ≤ room → first_of p ≡ Some w → Grows r room w g c next → IsPart g → IsBegunPreorder g hs →
-    Grows r (suc room) t (around kind n vs g) (b ++ c) next × IsPart (around kind n vs g) × IsBegunPreorder (around kind n vs g) (kind_head kind n ∷ (all_preorder vs ++ hs))
+    Grows r (suc room) t (around kind n vs g) (b ++ c) next × IsPart (around kind n vs g) × IsBegunPreorder (around kind n vs g) (head.branch kind n ∷ (all_preorder vs ++ hs))
 unfolding Grows
-around_grows r room of_fields t n vs b p w g c next hs finite h l f k part shows =
+around_grows r room tree.fields t n vs b p w g c next hs finite h l f k part shows =
     let back = each_first h.1 w (sym (ap first_of h.4) ∙ f) in
     ((h.0, w, back.0, b, c, finite, h.2 ∙ ap (λ (x : List ℕ). layout.fields (h.0 ++ x)) back.1, refl, h.5, l, part, k), tt, (n, hs, refl, shows))
-around_grows r room (of_arm q) t n vs b p w g c next hs finite h l f k part shows =
+around_grows r room (tree.arm q) t n vs b p w g c next hs finite h l f k part shows =
     let back = each_first h.4 w (sym (ap first_of h.10) ∙ f) in
     ((h.0, h.1, h.2, h.3, w, back.0, h.5, c, finite, h.6, h.7, h.8 ∙ ap (λ (x : List ℕ). h.3 ++ x) back.1, ap (λ (x : List ℕ). x ++ c) h.11, h.12, l, part, k), tt, (n, hs, refl, shows))
-around_grows r room of_list t n vs b p w g c next hs finite h l f k part shows =
+around_grows r room tree.list t n vs b p w g c next hs finite h l f k part shows =
     let some = times_first h.1 h.0 w (sym (ap first_of h.5) ∙ f) in
     ((h.0, h.2, h.3, c, finite, h.4, ap (λ (x : List ℕ). x ++ c) h.7 ∙ append_assoc h.2 h.3 c, omega (arith, h.6, some.0), h.8, l, part, subst (λ (z : ℕ). Grows r room z g c next) (sym some.1) k), tt, (hs, refl, shows))
 
@@ -70,12 +73,12 @@ around_grows r room of_list t n vs b p w g c next hs finite h l f k part shows =
 abbrev BegunAs : List TypeInfo → ℕ → ℕ → List Head → List ℕ → Option (ℕ × ℕ) → Type 0
 BegunAs r top t hs own next = (g : Begun) × Grows r top t g own next × IsPart g × IsBegunPreorder g hs
 
-heads_behind : (r : List TypeInfo) (o : OpenNode) (cs cs1 : List Cell) (hs : List Head) → cs ≡ cs1 ++ open_cells r o → bare cs ++ hs ≡ bare cs1 ++ (kind_head o.kind o.all ∷ (all_preorder o.done ++ hs))
+heads_behind : (r : List TypeInfo) (o : OpenNode) (cs cs1 : List Cell) (hs : List Head) → cs ≡ cs1 ++ open_cells r o → bare cs ++ hs ≡ bare cs1 ++ (head.branch o.kind o.all ∷ (all_preorder o.done ++ hs))
 heads_behind r o cs cs1 hs e =
     ap (λ (x : List Cell). bare x ++ hs) e
     ∙ ap (λ (x : List Head). x ++ hs) (map-append (λ (c : Cell). c.head) cs1 (open_cells r o))
     ∙ append_assoc (bare cs1) (bare (open_cells r o)) hs
-    ∙ ap (λ (x : List Head). bare cs1 ++ (kind_head o.kind o.all ∷ (x ++ hs))) (all_cells_preorder r (kind_part r o.ty o.kind o.all) o.done)
+    ∙ ap (λ (x : List Head). bare cs1 ++ (head.branch o.kind o.all ∷ (x ++ hs))) (all_cells_preorder r (part_of (layout r o.ty) o.kind o.all) o.done)
 
 plugged : (r : List TypeInfo) (top room t : ℕ) (os : List OpenNode) (f : OpenPart) (fs : List OpenPart) (cs : List Cell) (own : List ℕ) (w : ℕ) (g : Begun) (c : List ℕ) (next : Option (ℕ × ℕ)) (hs : List Head) →
     room + length os ≡ top → Spine r room t os (f ∷ fs) cs own → first_of f.left ≡ Some w → Grows r room w g c next → IsPart g → IsBegunPreorder g hs → BegunAs r top t (bare cs ++ hs) (own ++ c) next
@@ -90,7 +93,7 @@ plugged r top room t [] f fs cs own w g c next hs e (inr h) first k part shows =
 plugged r top room t (o ∷ os) f fs cs own w g c next hs e h first k part shows =
     let parts = is_cons f (open_part (length h.4) h.0) fs (open_part h.2 (left_after h.1) ∷ h.3) h.6 in
     let a = around_grows r room o.kind o.ty o.all o.done o.own h.0 w g c next hs h.9.0 h.9.1 h.10 (sym (ap (λ (x : OpenPart). first_of x.left) parts.0) ∙ first) k part shows in
-    let g' = plugged r top (suc room) t os (open_part h.2 h.1) h.3 h.4 h.5 o.ty (around o.kind o.all o.done g) (o.own ++ c) next (kind_head o.kind o.all ∷ (all_preorder o.done ++ hs)) (omega (arith, e)) h.8 h.7 a.0 a.1 a.2 in
+    let g' = plugged r top (suc room) t os (open_part h.2 h.1) h.3 h.4 h.5 o.ty (around o.kind o.all o.done g) (o.own ++ c) next (head.branch o.kind o.all ∷ (all_preorder o.done ++ hs)) (omega (arith, e)) h.8 h.7 a.0 a.1 a.2 in
     (g'.0, rw (h.12, append_assoc) g'.1, g'.2, rw (heads_behind r o cs h.4 hs h.11) g'.3)
 
 same_begun : (r : List TypeInfo) (top t : ℕ) (hs hs' : List Head) (own own' : List ℕ) (next : Option (ℕ × ℕ)) → hs ≡ hs' → own ≡ own' → BegunAs r top t hs own next → BegunAs r top t hs' own' next
@@ -124,9 +127,9 @@ counted g h vs rest none c = (
 pub counts : (g : Begun) (hs : List Head) → IsBegunPreorder g hs → Counts g hs
 counts nothing hs h = rw h (refl, refl)
 counts (whole v) hs h = rw h (preorder_length v, text_of_preorder v)
-counts (in_fields vs g) hs h = rw h.2 (counted g (head.fields h.0) vs h.1 refl (counts g h.1 h.3))
-counts (in_arm q vs g) hs h = rw h.2 (counted g (head.arm q h.0) vs h.1 refl (counts g h.1 h.3))
-counts (in_list n vs g) hs h = rw h.1 (counted g (head.list n) vs h.0 refl (counts g h.0 h.2))
+counts (in_fields vs g) hs h = rw h.2 (counted g (head.branch tree.fields h.0) vs h.1 refl (counts g h.1 h.3))
+counts (in_arm q vs g) hs h = rw h.2 (counted g (head.branch (tree.arm q) h.0) vs h.1 refl (counts g h.1 h.3))
+counts (in_list n vs g) hs h = rw h.1 (counted g (head.branch tree.list n) vs h.0 refl (counts g h.0 h.2))
 
 -- ---- what the walk says
 

@@ -15,7 +15,7 @@ use Rattle.grammar_core.specs.Tree as tree
 use Rattle.grammar_core.specs.Tree.{Tree, Trees, none, and, how_many}
 use Rattle.grammar_core.specs.Grammar.{Val, Vals, Each}
 use Rattle.grammar_core.specs.Parts.{Part, each, times, left_after}
-use Rattle.grammar_core.specs.Cells.{Cell, cells, all_cells, child_type, fields_part, arm_part, list_part}
+use Rattle.grammar_core.specs.Cells.{Cell, cells, all_cells, child_type, fields_part, arm_part, list_part, part_of}
 use Rattle.grammar_core.proofs.Texts.{texts_are_text}
 use Rattle.value_core.specs.Shown.{seen, seen_parts, children_by, cells_shown, tree_shown, type_shown, AreInPool, IsWhole, AreValues, IsForest, all_seen}
 use Rattle.value_core.specs.declared.node.Node.{Node}
@@ -53,65 +53,33 @@ pub arm_part_is : (r : List TypeInfo) (t q : ℕ) (arms : List Arm) (i : ℕ) (a
 arm_part_is r t q arms i a e f = rw (e, arm_get arms i q a f) refl
 
 -- the parts of a node, and their types
-abbrev pub part_of : List TypeInfo → ℕ → Tree → Part
-part_of r t (tree.fields vs) = fields_part (layout r t)
-part_of r t (tree.arm q vs) = arm_part (layout r t) q
-part_of r t (tree.list vs) = list_part (layout r t) (how_many vs)
-part_of r t _ = each []
+abbrev pub part_types : List TypeInfo → ℕ → Tree → Part
+part_types r t (tree.leaf l) = each []
+part_types r t (tree.branch k vs) = part_of (layout r t) k (how_many vs)
 
 abbrev pub parts_of : Tree → Trees
-parts_of (tree.fields vs) = vs
-parts_of (tree.arm q vs) = vs
-parts_of (tree.list vs) = vs
+parts_of (tree.branch k vs) = vs
 parts_of _ = none
 
-pub children_seen : (r : List TypeInfo) (t : ℕ) (v : Tree) → children_by r t v ≡ seen_parts r (part_of r t v) (parts_of v)
-children_seen r t (tree.fields vs) = refl
-children_seen r t (tree.arm q vs) = refl
-children_seen r t (tree.list vs) = refl
-children_seen r t tree.unit = refl
-children_seen r t (tree.bool b) = refl
-children_seen r t (tree.char c) = refl
-children_seen r t (tree.text s) = refl
-children_seen r t (tree.unsigned n) = refl
-children_seen r t (tree.signed z) = refl
-children_seen r t (tree.wide s) = refl
-children_seen r t (tree.compact n) = refl
-children_seen r t (tree.count n) = refl
+pub children_seen : (r : List TypeInfo) (t : ℕ) (v : Tree) → children_by r t v ≡ seen_parts r (part_types r t v) (parts_of v)
+children_seen r t (tree.branch k vs) = refl
+children_seen r t (tree.leaf l) = refl
 
-children_are : (r : List TypeInfo) (t : ℕ) (v : Tree) (b : List ℕ) → AreBytes b → Val r t v b → AreValues r (part_of r t v) (parts_of v)
+children_are : (r : List TypeInfo) (t : ℕ) (v : Tree) (b : List ℕ) → AreBytes b → Val r t v b → AreValues r (part_types r t v) (parts_of v)
 unfolding Val
-children_are r t (tree.fields vs) b p h = rw h.1 (vals_are r h.0 vs b p h.2)
-children_are r t (tree.arm q vs) b p h = rw (h.4, arm_get h.0 h.1 q h.2 h.5) (vals_are r (field_types h.2.fields) vs h.3 (subst AreBytes h.6 p).1 h.7)
-children_are r t (tree.list vs) b p (inl h) = rw h.2 (each_are r h.1 vs b p h.4)
-children_are r t (tree.list vs) b p (inr h) = rw h.3 (each_are r h.0 vs h.2 (rest_bytes h.1 h.2 (rw (← h.5) p)) h.6)
-children_are r t tree.unit b p h = tt
-children_are r t (tree.bool x) b p h = tt
-children_are r t (tree.char c) b p h = tt
-children_are r t (tree.text s) b p h = tt
-children_are r t (tree.unsigned n) b p h = tt
-children_are r t (tree.signed z) b p h = tt
-children_are r t (tree.wide s) b p h = tt
-children_are r t (tree.compact n) b p h = tt
-children_are r t (tree.count n) b p h = tt
+children_are r t (tree.branch tree.fields vs) b p h = rw h.1 (vals_are r h.0 vs b p h.2)
+children_are r t (tree.branch (tree.arm q) vs) b p h = rw (h.4, arm_get h.0 h.1 q h.2 h.5) (vals_are r (field_types h.2.fields) vs h.3 (subst AreBytes h.6 p).1 h.7)
+children_are r t (tree.branch tree.list vs) b p (inl h) = rw h.2 (each_are r h.1 vs b p h.4)
+children_are r t (tree.branch tree.list vs) b p (inr h) = rw h.3 (each_are r h.0 vs h.2 (rest_bytes h.1 h.2 (rw (← h.5) p)) h.6)
+children_are r t (tree.leaf l) b p h = tt
 
 abbrev behind : List Cell → List Cell
 behind [] = []
 behind (c ∷ cs) = cs
 
-cells_below : (r : List TypeInfo) (t : ℕ) (v : Tree) → behind (cells r t v) ≡ all_cells r (part_of r t v) (parts_of v)
-cells_below r t (tree.fields vs) = refl
-cells_below r t (tree.arm q vs) = refl
-cells_below r t (tree.list vs) = refl
-cells_below r t tree.unit = refl
-cells_below r t (tree.bool b) = refl
-cells_below r t (tree.char c) = refl
-cells_below r t (tree.text s) = refl
-cells_below r t (tree.unsigned n) = refl
-cells_below r t (tree.signed z) = refl
-cells_below r t (tree.wide s) = refl
-cells_below r t (tree.compact n) = refl
-cells_below r t (tree.count n) = refl
+cells_below : (r : List TypeInfo) (t : ℕ) (v : Tree) → behind (cells r t v) ≡ all_cells r (part_types r t v) (parts_of v)
+cells_below r t (tree.branch k vs) = refl
+cells_below r t (tree.leaf l) = refl
 
 -- a value has a node
 no_cells : (r : List TypeInfo) (v : Tree) → cells_shown [] [] ≡ cells r 0 v → ⊥
@@ -123,7 +91,7 @@ below r pool n ns h =
     let t = type_shown (n ∷ ns) in
     let v = tree_shown pool (n ∷ ns) in
     record {
-      part = part_of r t v;
+      part = part_types r t v;
       values = parts_of v;
       nodes = ap behind h.nodes ∙ cells_below r t v;
       inside = h.inside.1;

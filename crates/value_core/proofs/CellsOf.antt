@@ -5,7 +5,7 @@ use Rattle.std.proofs.lemmas.Simd.{map-map}
 use Rattle.std.proofs.Math.Seq.{take-append_seam, drop-append_seam}
 use Rattle.registry_core.specs.declared.type_info.TypeInfo.{TypeInfo}
 use Rattle.widths_core.specs.Layouts.{layout}
-use Rattle.grammar_core.specs.Tree.{Tree, unit, bool, char, text, unsigned, signed, wide, compact, fields, arm, list, count, Trees, none, and, how_many, nodes, all_nodes}
+use Rattle.grammar_core.specs.Tree.{Tree, leaf, branch, unit, bool, char, text, unsigned, signed, wide, compact, fields, arm, list, count, Trees, none, and, how_many, nodes, all_nodes}
 use Rattle.grammar_core.specs.Preorder.{Head, preorder, all_preorder, tree_of, tree_of-preorder}
 use Rattle.grammar_core.specs.Parts.{Part, left_after}
 use Rattle.grammar_core.specs.Cells.{Cell, cells, all_cells, child_type, fields_part, arm_part, list_part}
@@ -14,18 +14,10 @@ use Rattle.value_core.specs.declared.node.Node.{Node}
 
 mutual
   pub cells_length : (r : List TypeInfo) (t : ℕ) (v : Tree) → length (cells r t v) ≡ nodes v
-  cells_length r t unit = refl
-  cells_length r t (bool b) = refl
-  cells_length r t (char c) = refl
-  cells_length r t (text s) = refl
-  cells_length r t (unsigned n) = refl
-  cells_length r t (signed z) = refl
-  cells_length r t (wide s) = refl
-  cells_length r t (compact n) = refl
-  cells_length r t (count n) = refl
-  cells_length r t (fields vs) = omega (arith, all_cells_length r (fields_part (layout r t)) vs)
-  cells_length r t (arm q vs) = omega (arith, all_cells_length r (arm_part (layout r t) q) vs)
-  cells_length r t (list vs) = omega (arith, all_cells_length r (list_part (layout r t) (how_many vs)) vs)
+  cells_length r t (leaf l) = refl
+  cells_length r t (branch fields vs) = omega (arith, all_cells_length r (fields_part (layout r t)) vs)
+  cells_length r t (branch (arm q) vs) = omega (arith, all_cells_length r (arm_part (layout r t) q) vs)
+  cells_length r t (branch list vs) = omega (arith, all_cells_length r (list_part (layout r t) (how_many vs)) vs)
 
   pub all_cells_length : (r : List TypeInfo) (p : Part) (vs : Trees) → length (all_cells r p vs) ≡ all_nodes vs
   all_cells_length r p none = refl
@@ -37,18 +29,10 @@ bare cs = map (λ (c : Cell). c.head) cs
 
 mutual
   pub cells_preorder : (r : List TypeInfo) (t : ℕ) (v : Tree) → bare (cells r t v) ≡ preorder v
-  cells_preorder r t unit = refl
-  cells_preorder r t (bool b) = refl
-  cells_preorder r t (char c) = refl
-  cells_preorder r t (text s) = refl
-  cells_preorder r t (unsigned n) = refl
-  cells_preorder r t (signed z) = refl
-  cells_preorder r t (wide s) = refl
-  cells_preorder r t (compact n) = refl
-  cells_preorder r t (count n) = refl
-  cells_preorder r t (fields vs) = rw (all_cells_preorder r (fields_part (layout r t)) vs) refl
-  cells_preorder r t (arm q vs) = rw (all_cells_preorder r (arm_part (layout r t) q) vs) refl
-  cells_preorder r t (list vs) = rw (all_cells_preorder r (list_part (layout r t) (how_many vs)) vs) refl
+  cells_preorder r t (leaf l) = refl
+  cells_preorder r t (branch fields vs) = rw (all_cells_preorder r (fields_part (layout r t)) vs) refl
+  cells_preorder r t (branch (arm q) vs) = rw (all_cells_preorder r (arm_part (layout r t) q) vs) refl
+  cells_preorder r t (branch list vs) = rw (all_cells_preorder r (list_part (layout r t) (how_many vs)) vs) refl
 
   pub all_cells_preorder : (r : List TypeInfo) (p : Part) (vs : Trees) → bare (all_cells r p vs) ≡ all_preorder vs
   all_cells_preorder r p none = refl
@@ -64,18 +48,8 @@ first_size [] = 0
 first_size (c ∷ cs) = c.size
 
 starts : (r : List TypeInfo) (t : ℕ) (v : Tree) (rest : List Cell) → (first_type (cells r t v ++ rest) ≡ t) × (first_size (cells r t v ++ rest) ≡ nodes v) × (1 ≤ nodes v)
-starts r t unit rest = (refl, refl, omega arith)
-starts r t (bool b) rest = (refl, refl, omega arith)
-starts r t (char c) rest = (refl, refl, omega arith)
-starts r t (text s) rest = (refl, refl, omega arith)
-starts r t (unsigned n) rest = (refl, refl, omega arith)
-starts r t (signed z) rest = (refl, refl, omega arith)
-starts r t (wide s) rest = (refl, refl, omega arith)
-starts r t (compact n) rest = (refl, refl, omega arith)
-starts r t (count n) rest = (refl, refl, omega arith)
-starts r t (fields vs) rest = (refl, refl, omega arith)
-starts r t (arm q vs) rest = (refl, refl, omega arith)
-starts r t (list vs) rest = (refl, refl, omega arith)
+starts r t (leaf l) rest = (refl, refl, omega arith)
+starts r t (branch k vs) rest = (refl, refl, omega arith)
 
 pub some_node : (v : Tree) → 1 ≤ nodes v
 some_node v = (starts [] 0 v []).2

@@ -29,18 +29,8 @@ heads_text-append (h ∷ hs) ks = omega (arith, heads_text-append hs ks)
 
 mutual
   pub text_of_preorder : (v : Tree) → heads_text (preorder v) ≡ text_bytes v
-  text_of_preorder tree.unit = omega arith
-  text_of_preorder (tree.bool b) = omega arith
-  text_of_preorder (tree.char c) = omega arith
-  text_of_preorder (tree.text s) = omega arith
-  text_of_preorder (tree.unsigned n) = omega arith
-  text_of_preorder (tree.signed z) = omega arith
-  text_of_preorder (tree.wide s) = omega arith
-  text_of_preorder (tree.compact n) = omega arith
-  text_of_preorder (tree.count n) = omega arith
-  text_of_preorder (tree.fields vs) = omega (arith, text_of_all_preorder vs)
-  text_of_preorder (tree.arm q vs) = omega (arith, text_of_all_preorder vs)
-  text_of_preorder (tree.list vs) = omega (arith, text_of_all_preorder vs)
+  text_of_preorder (tree.leaf l) = omega arith
+  text_of_preorder (tree.branch k vs) = omega (arith, text_of_all_preorder vs)
 
   pub text_of_all_preorder : (vs : Trees) → heads_text (all_preorder vs) ≡ all_text_bytes vs
   text_of_all_preorder none = refl

@@ -15,6 +15,7 @@ use Rattle.widths_core.specs.Layouts.{Layout, layout, primitive_layout}
 use Rattle.widths_core.specs.Layouts as layout
 use Rattle.grammar_core.specs.Grammar.{Val}
 use Rattle.grammar_core.specs.Preorder as head
+use Rattle.grammar_core.specs.Tree as tree
 use Rattle.grammar_core.specs.declared.form.Form.TheVariants as form
 use Rattle.grammar_core.specs.declared.form.Next.TheVariants as next
 use Rattle.value_core.specs.Built.{IsNextLeaf}
@@ -22,7 +23,7 @@ use Rattle.value_core.specs.Refusals.{greatest_unsigned, greatest_signed, is_wit
 use Rattle.value_core.specs.Walked.{Walked, next_of}
 use Rattle.value_core.proofs.Forms.{wanted, empty_layout, primitive_has_layout, compact_has_layout, count_layout}
 
-pub empty_next : (w : Walked) → next_of w ≡ next.Wants form.Empty → IsNextLeaf w head.unit
+pub empty_next : (w : Walked) → next_of w ≡ next.Wants form.Empty → IsNextLeaf w (head.leaf tree.unit)
 unfolding Val
 empty_next w e = let k = wanted w form.Empty e in record { ty = k.ty; next = k.is_next; room = k.room; leaf = tt; own = []; are_bytes = tt; value = (empty_layout w.types k.ty k.form_is, refl) }
 
@@ -30,11 +31,11 @@ bool_is_byte : (x : Bool) → bool_byte x < 256
 bool_is_byte true = omega arith
 bool_is_byte false = omega arith
 
-pub bool_next : (w : Walked) (x : Bool) → next_of w ≡ next.Wants (form.Primitive P.Bool) → IsNextLeaf w (head.bool x)
+pub bool_next : (w : Walked) (x : Bool) → next_of w ≡ next.Wants (form.Primitive P.Bool) → IsNextLeaf w (head.leaf (tree.bool x))
 unfolding Val
 bool_next w x e = let k = wanted w (form.Primitive P.Bool) e in record { ty = k.ty; next = k.is_next; room = k.room; leaf = tt; own = bool_byte x ∷ []; are_bytes = (bool_is_byte x, tt); value = (primitive_has_layout w.types k.ty P.Bool k.form_is, refl) }
 
-pub count_next : (w : Walked) (n : ℕ) → n < 2 ^ 32 → next_of w ≡ next.Wants form.Count → IsNextLeaf w (head.count n)
+pub count_next : (w : Walked) (n : ℕ) → n < 2 ^ 32 → next_of w ≡ next.Wants form.Count → IsNextLeaf w (head.leaf (tree.count n))
 unfolding Val
 count_next w n h e = let k = wanted w form.Count e in record { ty = k.ty; next = k.is_next; room = k.room; leaf = tt; own = compact n; are_bytes = are_compact n; value = (count_layout w.types k.ty k.form_is, (omega (arith, h), refl)) }
 
@@ -64,7 +65,7 @@ unsigned_is P.I64 most e = absurd cc
 unsigned_is P.I128 most e = absurd cc
 unsigned_is P.I256 most e = absurd cc
 
-pub unsigned_next : (w : Walked) (p : Primitive) (most n : ℕ) → next_of w ≡ next.Wants (form.Primitive p) → greatest_unsigned p ≡ Some most → n ≤ most → IsNextLeaf w (head.unsigned n)
+pub unsigned_next : (w : Walked) (p : Primitive) (most n : ℕ) → next_of w ≡ next.Wants (form.Primitive p) → greatest_unsigned p ≡ Some most → n ≤ most → IsNextLeaf w (head.leaf (tree.unsigned n))
 unfolding Val
 unsigned_next w p most n e f h =
     let k = wanted w (form.Primitive p) e in
@@ -79,7 +80,7 @@ unsigned_next w p most n e f h =
       value = (u.width, primitive_has_layout w.types k.ty p k.form_is ∙ u.laid, length-le_bytes u.width n, number-le_bytes u.width n (omega (arith, h, u.most_is)));
     }
 
-pub text_next : (w : Walked) (s : List ℕ) → next_of w ≡ next.Wants (form.Primitive P.Str) → is_utf8 s ≡ true → AreBytes s → length s < 2 ^ 32 → IsNextLeaf w (head.text s)
+pub text_next : (w : Walked) (s : List ℕ) → next_of w ≡ next.Wants (form.Primitive P.Str) → is_utf8 s ≡ true → AreBytes s → length s < 2 ^ 32 → IsNextLeaf w (head.leaf (tree.text s))
 unfolding Val
 text_next w s e f a h =
     let k = wanted w (form.Primitive P.Str) e in
@@ -97,7 +98,7 @@ is_wide : (p : Primitive) → ((p ≡ P.U256) ⊎ (p ≡ P.I256)) → primitive_
 is_wide p (inl e) = rw e refl
 is_wide p (inr e) = rw e refl
 
-pub wide_next : (w : Walked) (p : Primitive) (b : List ℕ) → next_of w ≡ next.Wants (form.Primitive p) → ((p ≡ P.U256) ⊎ (p ≡ P.I256)) → length b ≡ 32 → AreBytes b → IsNextLeaf w (head.wide b)
+pub wide_next : (w : Walked) (p : Primitive) (b : List ℕ) → next_of w ≡ next.Wants (form.Primitive p) → ((p ≡ P.U256) ⊎ (p ≡ P.I256)) → length b ≡ 32 → AreBytes b → IsNextLeaf w (head.leaf (tree.wide b))
 unfolding Val
 wide_next w p b e f h a =
     let k = wanted w (form.Primitive p) e in
@@ -111,7 +112,7 @@ compact_own target.U32 n h = (compact n, are_compact n, (h, refl))
 compact_own target.U64 n h = (compact n, are_compact n, (h, refl))
 compact_own target.U128 n h = (compact n, are_compact n, (h, refl))
 
-pub compact_next : (w : Walked) (m : Target) (n : ℕ) → next_of w ≡ next.Wants (form.Compact m) → n < 256 ^ target_bytes m → IsNextLeaf w (head.compact n)
+pub compact_next : (w : Walked) (m : Target) (n : ℕ) → next_of w ≡ next.Wants (form.Compact m) → n < 256 ^ target_bytes m → IsNextLeaf w (head.leaf (tree.compact n))
 unfolding Val
 compact_next w m n e h =
     let k = wanted w (form.Compact m) e in
@@ -126,7 +127,7 @@ scalar_is c h = by (nat_lt c 0xd800) (nat_lt 0xdfff c && nat_lt c 0x110000) h wh
   by true b e = refl
   by false b e = e
 
-pub char_next : (w : Walked) (c : ℕ) → next_of w ≡ next.Wants (form.Primitive P.Char) → is_scalar c ≡ true → c < 256 ^ 4 → IsNextLeaf w (head.char c)
+pub char_next : (w : Walked) (c : ℕ) → next_of w ≡ next.Wants (form.Primitive P.Char) → is_scalar c ≡ true → c < 256 ^ 4 → IsNextLeaf w (head.leaf (tree.char c))
 unfolding Val
 char_next w c e f h =
     let k = wanted w (form.Primitive P.Char) e in
@@ -190,7 +191,7 @@ are_signed_bytes : (k : ℕ) (z : ℤ) → AreBytes (signed_bytes k z)
 are_signed_bytes k (pos n) = are_le_bytes k n
 are_signed_bytes k (negsuc m) = are_le_bytes k (256 ^ k - suc m)
 
-pub signed_next : (w : Walked) (p : Primitive) (most : ℕ) (z : ℤ) → next_of w ≡ next.Wants (form.Primitive p) → greatest_signed p ≡ Some most → is_within z most ≡ true → IsNextLeaf w (head.signed z)
+pub signed_next : (w : Walked) (p : Primitive) (most : ℕ) (z : ℤ) → next_of w ≡ next.Wants (form.Primitive p) → greatest_signed p ≡ Some most → is_within z most ≡ true → IsNextLeaf w (head.leaf (tree.signed z))
 unfolding Val
 signed_next w p most z e f h =
     let k = wanted w (form.Primitive p) e in

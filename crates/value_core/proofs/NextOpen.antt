@@ -11,15 +11,15 @@ use Rattle.widths_core.specs.Arms.{arm_of}
 use Rattle.grammar_core.specs.Grammar.{Val}
 use Rattle.grammar_core.specs.Parts.{Part, each, how_many_left}
 use Rattle.grammar_core.specs.Preorder as head
+use Rattle.grammar_core.specs.Tree as tree
 use Rattle.grammar_core.specs.declared.form.Form.TheVariants as form
 use Rattle.grammar_core.specs.declared.form.Next.TheVariants as next
-use Rattle.value_core.specs.Spine.{of_fields, of_arm, of_list}
 use Rattle.value_core.specs.Built.{IsNextOpen}
 use Rattle.value_core.specs.Opened.{OpensFields, OpensArm, OpensArray, OpensSequence}
 use Rattle.value_core.specs.Walked.{Walked, next_of}
 use Rattle.value_core.proofs.Forms.{wanted}
 
-pub fields_next : (w : Walked) (p : Part) → next_of w ≡ next.Wants form.Fields → OpensFields w p → IsNextOpen w (head.fields (how_many_left p)) p
+pub fields_next : (w : Walked) (p : Part) → next_of w ≡ next.Wants form.Fields → OpensFields w p → IsNextOpen w (head.branch tree.fields (how_many_left p)) p
 unfolding Val
 fields_next w p e o =
     let k = wanted w form.Fields e in
@@ -28,7 +28,7 @@ fields_next w p e o =
       ty = o.ty;
       next = o.next;
       room = k.room;
-      kind = of_fields;
+      kind = tree.fields;
       count = how_many_left p;
       head_is = refl;
       own = [];
@@ -37,7 +37,7 @@ fields_next w p e o =
       is_open = ([], o.members, o.laid, ap how_many_left o.part_is, o.part_is, refl);
     }
 
-pub array_next : (w : Walked) (n : ℕ) (p : Part) → next_of w ≡ next.Wants (form.Array n) → OpensArray w n p → IsNextOpen w (head.list n) p
+pub array_next : (w : Walked) (n : ℕ) (p : Part) → next_of w ≡ next.Wants (form.Array n) → OpensArray w n p → IsNextOpen w (head.branch tree.list n) p
 unfolding Val
 array_next w n p e o =
     let k = wanted w (form.Array n) e in
@@ -46,7 +46,7 @@ array_next w n p e o =
       ty = o.ty;
       next = o.next;
       room = k.room;
-      kind = of_list;
+      kind = tree.list;
       count = n;
       head_is = refl;
       own = [];
@@ -55,7 +55,7 @@ array_next w n p e o =
       is_open = (o.element, n, [], [], inl (o.laid, refl), o.part_is, omega arith, refl, refl);
     }
 
-pub sequence_next : (w : Walked) (n : ℕ) (p : Part) → n < 2 ^ 32 → next_of w ≡ next.Wants form.Sequence → OpensSequence w n p → IsNextOpen w (head.list n) p
+pub sequence_next : (w : Walked) (n : ℕ) (p : Part) → n < 2 ^ 32 → next_of w ≡ next.Wants form.Sequence → OpensSequence w n p → IsNextOpen w (head.branch tree.list n) p
 unfolding Val
 sequence_next w n p h e o =
     let k = wanted w form.Sequence e in
@@ -64,7 +64,7 @@ sequence_next w n p h e o =
       ty = o.ty;
       next = o.next;
       room = k.room;
-      kind = of_list;
+      kind = tree.list;
       count = n;
       head_is = refl;
       own = compact n;
@@ -77,10 +77,10 @@ pair_is : (x y : ℕ × Part) → Some x ≡ Some y → x ≡ y
 pair_is x y e = cc
 
 -- the arm that was found
-pub arm_next : (w : Walked) (index q : ℕ) (p : Part) → index < 256 → next_of w ≡ next.Wants form.Arm → OpensArm w index (Some (q, p)) → IsNextOpen w (head.arm q (how_many_left p)) p
+pub arm_next : (w : Walked) (index q : ℕ) (p : Part) → index < 256 → next_of w ≡ next.Wants form.Arm → OpensArm w index (Some (q, p)) → IsNextOpen w (head.branch (tree.arm q) (how_many_left p)) p
 unfolding Val
 arm_next w index q p h e o = by (arm_of o.arms index) refl o.found_is where
-  by : (found : Option (ℕ × Arm)) → arm_of o.arms index ≡ found → ◌≡◌ {A = Option (ℕ × Part)} (Some (q, p)) (option_map (λ x. (x.0, each (field_types x.1.fields))) found) → IsNextOpen w (head.arm q (how_many_left p)) p
+  by : (found : Option (ℕ × Arm)) → arm_of o.arms index ≡ found → ◌≡◌ {A = Option (ℕ × Part)} (Some (q, p)) (option_map (λ x. (x.0, each (field_types x.1.fields))) found) → IsNextOpen w (head.branch (tree.arm q) (how_many_left p)) p
   by None f is = absurd cc
   by (Some a) f is =
       let k = wanted w form.Arm e in
@@ -92,7 +92,7 @@ arm_next w index q p h e o = by (arm_of o.arms index) refl o.found_is where
         ty = o.ty;
         next = o.next;
         room = k.room;
-        kind = of_arm q;
+        kind = tree.arm q;
         count = how_many_left p;
         head_is = refl;
         own = index ∷ [];

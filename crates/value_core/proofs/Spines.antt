@@ -1,17 +1,20 @@
 -- A value that is being built stays one at each step.
+use Rattle.grammar_core.specs.Preorder as head
+use Rattle.grammar_core.specs.Tree as tree
 use Rattle.std.proofs.Common.{◌≡◌, ℕ, zero, suc, ◌+◌, ◌<◌, ◌≤◌, List, [], ◌∷◌, ◌++◌, length, Some, None, refl, sym, ap, subst, ◌∙◌, append_assoc, arith, inl, inr}
 use Rattle.std.proofs.lemmas.List.{append-nil}
 use Rattle.std.proofs.lemmas.Option.{same_Some}
 use Rattle.registry_core.specs.declared.type_info.TypeInfo.{TypeInfo}
 use Rattle.widths_core.specs.Layouts.{layout}
 use Rattle.widths_core.specs.Layouts as layout
-use Rattle.grammar_core.specs.Tree.{Tree, Trees, none, and, how_many, levels, most_levels, all_nodes}
+use Rattle.grammar_core.specs.Tree.{Branch, Tree, Trees, none, and, how_many, levels, most_levels, all_nodes}
 use Rattle.grammar_core.specs.Grammar.{Val, Vals, Each}
 use Rattle.grammar_core.specs.Parts.{Part, each, times, first_of, left_after}
 use Rattle.grammar_core.specs.Cells.{Cell, cells, all_cells, fields_part, arm_part, list_part}
 use Rattle.grammar_core.proofs.Bounds.{same_length}
 use Rattle.value_core.specs.Walked.{OpenPart}
-use Rattle.value_core.specs.Spine.{Kind, of_fields, of_arm, of_list, OpenNode, kind_head, kind_tree, kind_part, open_cell, open_cells, IsFieldsOpen, IsArmOpen, IsListOpen, IsOpenAs, IsOpen, open_part, Spine}
+use Rattle.value_core.specs.Spine.{OpenNode, open_cell, open_cells, IsFieldsOpen, IsArmOpen, IsListOpen, IsOpenAs, IsOpen, open_part, Spine}
+use Rattle.grammar_core.specs.Cells.{part_of}
 use Rattle.value_core.proofs.Below.{arm_part_is}
 use Rattle.value_core.proofs.CellsOf.{all_cells_length}
 
@@ -28,10 +31,8 @@ snoc_levels : (vs : Trees) (v : Tree) (room : ℕ) → most_levels vs ≤ room �
 snoc_levels none v room h k = omega (arith, k)
 snoc_levels (and w ws) v room h k = omega (arith, h, snoc_levels ws v room (omega (arith, h)) k)
 
-kind_levels : (kind : Kind) (vs : Trees) (room : ℕ) → most_levels vs ≤ room → levels (kind_tree kind vs) ≤ suc room
-kind_levels of_fields vs room h = omega (arith, h)
-kind_levels (of_arm q) vs room h = omega (arith, h)
-kind_levels of_list vs room h = omega (arith, h)
+kind_levels : (kind : Branch) (vs : Trees) (room : ℕ) → most_levels vs ≤ room → levels (tree.branch kind vs) ≤ suc room
+kind_levels k vs room h = omega (arith, h)
 
 snoc_vals : (r : List TypeInfo) (ts : List ℕ) (vs : Trees) (b : List ℕ) (u : ℕ) (v : Tree) (c : List ℕ) → Vals r ts vs b → Val r u v c → Vals r (ts ++ u ∷ []) (snoc vs v) (b ++ c)
 unfolding Val
@@ -59,10 +60,10 @@ times_cells r (suc n) u none v h = append-nil (cells r u v)
 times_cells r (suc n) u (and w ws) v h = ap (λ (cs : List Cell). cells r u w ++ cs) (times_cells r n u ws v (omega (arith, h))) ∙ sym (append_assoc (cells r u w) (all_cells r (times n u) ws) (cells r u v))
 
 -- the open node with one more child, and its nodes
-abbrev Grows : List TypeInfo → Kind → ℕ → ℕ → Trees → List ℕ → Part → Tree → ℕ → List ℕ → Type 0
-Grows r kind t n vs b p v u c = IsOpenAs r kind t n (snoc vs v) (b ++ c) (left_after p) × (all_cells r (kind_part r t kind n) (snoc vs v) ≡ all_cells r (kind_part r t kind n) vs ++ cells r u v)
+abbrev Grows : List TypeInfo → Branch → ℕ → ℕ → Trees → List ℕ → Part → Tree → ℕ → List ℕ → Type 0
+Grows r kind t n vs b p v u c = IsOpenAs r kind t n (snoc vs v) (b ++ c) (left_after p) × (all_cells r (part_of (layout r t) kind n) (snoc vs v) ≡ all_cells r (part_of (layout r t) kind n) vs ++ cells r u v)
 
-grown_fields : (r : List TypeInfo) (t n : ℕ) (vs : Trees) (b : List ℕ) (p : Part) (u : ℕ) (v : Tree) (c back : List ℕ) → (h : IsFieldsOpen r t n vs b p) → h.1 ≡ back → first_of p ≡ Some u → Val r u v c → Grows r of_fields t n vs b p v u c
+grown_fields : (r : List TypeInfo) (t n : ℕ) (vs : Trees) (b : List ℕ) (p : Part) (u : ℕ) (v : Tree) (c back : List ℕ) → (h : IsFieldsOpen r t n vs b p) → h.1 ≡ back → first_of p ≡ Some u → Val r u v c → Grows r tree.fields t n vs b p v u c
 grown_fields r t n vs b p u v c [] h e f k = let no : None ≡ Some u = sym (ap first_of (h.4 ∙ ap each e)) ∙ f in absurd cc
 grown_fields r t n vs b p u v c (w ∷ back) h e f k =
     let is : p ≡ each (w ∷ back) = h.4 ∙ ap each e in
@@ -74,7 +75,7 @@ grown_fields r t n vs b p u v c (w ∷ back) h e f k =
       rw parts (each_cells r h.0 u back vs b v h.5),
     )
 
-grown_arm : (r : List TypeInfo) (t q n : ℕ) (vs : Trees) (b : List ℕ) (p : Part) (u : ℕ) (v : Tree) (c back : List ℕ) → (h : IsArmOpen r t q n vs b p) → h.4 ≡ back → first_of p ≡ Some u → Val r u v c → Grows r (of_arm q) t n vs b p v u c
+grown_arm : (r : List TypeInfo) (t q n : ℕ) (vs : Trees) (b : List ℕ) (p : Part) (u : ℕ) (v : Tree) (c back : List ℕ) → (h : IsArmOpen r t q n vs b p) → h.4 ≡ back → first_of p ≡ Some u → Val r u v c → Grows r (tree.arm q) t n vs b p v u c
 grown_arm r t q n vs b p u v c [] h e f k = let no : None ≡ Some u = sym (ap first_of (h.10 ∙ ap each e)) ∙ f in absurd cc
 grown_arm r t q n vs b p u v c (w ∷ back) h e f k =
     let is : p ≡ each (w ∷ back) = h.10 ∙ ap each e in
@@ -92,7 +93,7 @@ list_part_is r t n u vs b p h = elim h.4 [
   | inr s ↦ rw s.0 refl
 ]
 
-grown_list : (r : List TypeInfo) (t n : ℕ) (vs : Trees) (b : List ℕ) (p : Part) (u : ℕ) (v : Tree) (c : List ℕ) (left : ℕ) → (h : IsListOpen r t n vs b p) → h.1 ≡ left → first_of p ≡ Some u → Val r u v c → Grows r of_list t n vs b p v u c
+grown_list : (r : List TypeInfo) (t n : ℕ) (vs : Trees) (b : List ℕ) (p : Part) (u : ℕ) (v : Tree) (c : List ℕ) (left : ℕ) → (h : IsListOpen r t n vs b p) → h.1 ≡ left → first_of p ≡ Some u → Val r u v c → Grows r tree.list t n vs b p v u c
 grown_list r t n vs b p u v c zero h e f k = let no : None ≡ Some u = sym (ap first_of (h.5 ∙ ap (λ (z : ℕ). times z h.0) e)) ∙ f in absurd cc
 grown_list r t n vs b p u v c (suc left) h e f k =
     let is : p ≡ times (suc left) h.0 = h.5 ∙ ap (λ (z : ℕ). times z h.0) e in
@@ -102,10 +103,10 @@ grown_list r t n vs b p u v c (suc left) h e f k =
       rw parts (times_cells r n u vs v (omega (arith, h.6, e))),
     )
 
-grown_as : (r : List TypeInfo) (kind : Kind) (t n : ℕ) (vs : Trees) (b : List ℕ) (p : Part) (u : ℕ) (v : Tree) (c : List ℕ) → IsOpenAs r kind t n vs b p → first_of p ≡ Some u → Val r u v c → Grows r kind t n vs b p v u c
-grown_as r of_fields t n vs b p u v c h f k = grown_fields r t n vs b p u v c h.1 h refl f k
-grown_as r (of_arm q) t n vs b p u v c h f k = grown_arm r t q n vs b p u v c h.4 h refl f k
-grown_as r of_list t n vs b p u v c h f k = grown_list r t n vs b p u v c h.1 h refl f k
+grown_as : (r : List TypeInfo) (kind : Branch) (t n : ℕ) (vs : Trees) (b : List ℕ) (p : Part) (u : ℕ) (v : Tree) (c : List ℕ) → IsOpenAs r kind t n vs b p → first_of p ≡ Some u → Val r u v c → Grows r kind t n vs b p v u c
+grown_as r tree.fields t n vs b p u v c h f k = grown_fields r t n vs b p u v c h.1 h refl f k
+grown_as r (tree.arm q) t n vs b p u v c h f k = grown_arm r t q n vs b p u v c h.4 h refl f k
+grown_as r tree.list t n vs b p u v c h f k = grown_list r t n vs b p u v c h.1 h refl f k
 
 -- with no child left the open node is a value
 no_each : (back : List ℕ) → first_of (each back) ≡ None → back ≡ []
@@ -116,17 +117,17 @@ no_times : (left u : ℕ) → first_of (times left u) ≡ None → left ≡ 0
 no_times zero u e = refl
 no_times (suc n) u e = absurd cc
 
-whole_as : (r : List TypeInfo) (kind : Kind) (t n : ℕ) (vs : Trees) (b : List ℕ) (p : Part) → IsOpenAs r kind t n vs b p → first_of p ≡ None → Val r t (kind_tree kind vs) b × (n ≡ how_many vs)
+whole_as : (r : List TypeInfo) (kind : Branch) (t n : ℕ) (vs : Trees) (b : List ℕ) (p : Part) → IsOpenAs r kind t n vs b p → first_of p ≡ None → Val r t (tree.branch kind vs) b × (n ≡ how_many vs)
 unfolding Val
-whole_as r of_fields t n vs b p h f =
+whole_as r tree.fields t n vs b p h f =
     let nil = no_each h.1 (sym (ap first_of h.4) ∙ f) in
     let front : h.0 ++ h.1 ≡ h.0 = ap (λ (x : List ℕ). h.0 ++ x) nil ∙ append-nil h.0 in
     ((h.0, h.2 ∙ ap layout.fields front, h.5), h.3 ∙ ap length front ∙ sym (same_length r h.0 vs b h.5))
-whole_as r (of_arm q) t n vs b p h f =
+whole_as r (tree.arm q) t n vs b p h f =
     let nil = no_each h.4 (sym (ap first_of h.10) ∙ f) in
     let front : h.3 ++ h.4 ≡ h.3 = ap (λ (x : List ℕ). h.3 ++ x) nil ∙ append-nil h.3 in
     ((h.0, h.1, h.2, h.5, h.6, h.7, h.11, subst (λ (ts : List ℕ). Vals r ts vs h.5) (sym (h.8 ∙ front)) h.12), h.9 ∙ ap length front ∙ sym (same_length r h.3 vs h.5 h.12))
-whole_as r of_list t n vs b p h f =
+whole_as r tree.list t n vs b p h f =
     let nil = no_times h.1 h.0 (sym (ap first_of h.5) ∙ f) in
     let count : how_many vs ≡ n = omega (arith, h.6, nil) in (
       elim h.4 [
@@ -185,10 +186,8 @@ same_grown : (r : List TypeInfo) (room t : ℕ) (fs fs' : List OpenPart) (cs cs'
 same_grown r room t fs fs' cs cs' own own' e f g h = (h.0, rw (e, f, g) h.1)
 
 -- the node's cell, with its size, and those of its children
-kind_cells : (r : List TypeInfo) (t : ℕ) (kind : Kind) (n : ℕ) (vs : Trees) → n ≡ how_many vs → record { ty = t; head = kind_head kind n; size = 1 + all_nodes vs } ∷ all_cells r (kind_part r t kind n) vs ≡ cells r t (kind_tree kind vs)
-kind_cells r t of_fields n vs e = rw e refl
-kind_cells r t (of_arm q) n vs e = rw e refl
-kind_cells r t of_list n vs e = rw e refl
+kind_cells : (r : List TypeInfo) (t : ℕ) (kind : Branch) (n : ℕ) (vs : Trees) → n ≡ how_many vs → record { ty = t; head = head.branch kind n; size = 1 + all_nodes vs } ∷ all_cells r (part_of (layout r t) kind n) vs ≡ cells r t (tree.branch kind vs)
+kind_cells r t k n vs e = rw e refl
 
 -- where the innermost node's cell stands, and what the nodes are when it gets its size
 pub record Closed (r : List TypeInfo) (room t : ℕ) (place : ℕ) (fs : List OpenPart) (cs : List Cell) (own : List ℕ) : Type 0 where
@@ -204,17 +203,17 @@ pub node_closed : (r : List TypeInfo) (room t : ℕ) (o : OpenNode) (os : List O
 node_closed r room t o os f fs cs own h e =
     let parts = is_cons f (open_part (length h.4) h.0) fs (open_part h.2 (left_after h.1) ∷ h.3) h.6 in
     let whole = whole_as r o.kind o.ty o.all o.done o.own h.0 h.9.1 (sym (ap (λ (x : OpenPart). first_of x.left) parts.0) ∙ e) in
-    let g = value_added r (suc room) t os (open_part h.2 h.1) h.3 h.4 h.5 o.ty (kind_tree o.kind o.done) o.own h.8 h.7 whole.0 (kind_levels o.kind o.done room h.10) in
-    let back = all_cells r (kind_part r o.ty o.kind o.all) o.done in
-    let size : 1 + length back ≡ 1 + all_nodes o.done = ap (λ (k : ℕ). 1 + k) (all_cells_length r (kind_part r o.ty o.kind o.all) o.done) in
-    let is : h.4 ++ record { ty = o.ty; head = kind_head o.kind o.all; size = 1 + length back } ∷ back ≡ h.4 ++ cells r o.ty (kind_tree o.kind o.done) = ap (λ (k : ℕ). h.4 ++ record { ty = o.ty; head = kind_head o.kind o.all; size = k } ∷ back) size ∙ ap (λ (x : List Cell). h.4 ++ x) (kind_cells r o.ty o.kind o.all o.done whole.1) in
+    let g = value_added r (suc room) t os (open_part h.2 h.1) h.3 h.4 h.5 o.ty (tree.branch o.kind o.done) o.own h.8 h.7 whole.0 (kind_levels o.kind o.done room h.10) in
+    let back = all_cells r (part_of (layout r o.ty) o.kind o.all) o.done in
+    let size : 1 + length back ≡ 1 + all_nodes o.done = ap (λ (k : ℕ). 1 + k) (all_cells_length r (part_of (layout r o.ty) o.kind o.all) o.done) in
+    let is : h.4 ++ record { ty = o.ty; head = head.branch o.kind o.all; size = 1 + length back } ∷ back ≡ h.4 ++ cells r o.ty (tree.branch o.kind o.done) = ap (λ (k : ℕ). h.4 ++ record { ty = o.ty; head = head.branch o.kind o.all; size = k } ∷ back) size ∙ ap (λ (x : List Cell). h.4 ++ x) (kind_cells r o.ty o.kind o.all o.done whole.1) in
     record {
       front = h.4;
       cell = open_cell o;
       back = back;
       cells_are = h.11;
       place_is = ap (λ (x : OpenPart). x.node) parts.0;
-      grown = same_grown r (suc room) t fs (open_part h.2 (left_after h.1) ∷ h.3) (h.4 ++ record { ty = o.ty; head = kind_head o.kind o.all; size = 1 + length back } ∷ back) (h.4 ++ cells r o.ty (kind_tree o.kind o.done)) own (h.5 ++ o.own) parts.1 is h.12 g;
+      grown = same_grown r (suc room) t fs (open_part h.2 (left_after h.1) ∷ h.3) (h.4 ++ record { ty = o.ty; head = head.branch o.kind o.all; size = 1 + length back } ∷ back) (h.4 ++ cells r o.ty (tree.branch o.kind o.done)) own (h.5 ++ o.own) parts.1 is h.12 g;
     }
 
 -- where nothing is left, the nodes are those of a value

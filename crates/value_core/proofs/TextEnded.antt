@@ -5,6 +5,7 @@ use Rattle.std.specs.Str.{is_utf8}
 use Rattle.std.proofs.lemmas.Option.{same_Some}
 use Rattle.registry_core.specs.declared.type_id.TypeId.{TypeId}
 use Rattle.grammar_core.specs.Preorder as head
+use Rattle.grammar_core.specs.Tree as tree
 use Rattle.value_core.specs.Building.{IsBuilding, IsOpenAt, IsOpenText, pieces_shown}
 use Rattle.value_core.specs.Built.{pieces_bytes}
 use Rattle.value_core.specs.Refusals.{missing_at, text_fault}
@@ -33,5 +34,5 @@ text_ended ty w pool ns text_len text o t b h is lacks fault next =
     let long : length s ≡ o.len = omega (arith, all.0, length-drop o.start pool) in
     let l = text_next w s place.is_next utf8 place.are_bytes (omega (arith, long, place.spelled)) in
     let n : Node = record { ty = t; content = content.Text o.start o.len; size = 1 } in
-    leaf_added ty w pool [] ns n text_len o.len (head.text s) b l (same_Some t.0 l.ty (next ∙ l.next))
-    (rw append-nil (ap head.text all.1)) refl (rw append-nil (omega (arith, all.0))) (sym long) (omega (arith, place.behind, all.0))
+    leaf_added ty w pool [] ns n text_len o.len (head.leaf (tree.text s)) b l (same_Some t.0 l.ty (next ∙ l.next))
+    (rw append-nil (ap (λ (x : List ℕ). head.leaf (tree.text x)) all.1)) refl (rw append-nil (omega (arith, all.0))) (sym long) (omega (arith, place.behind, all.0))

@@ -7,14 +7,15 @@ use Rattle.widths_core.specs.Arms.{arm_of}
 use Rattle.widths_core.specs.Classes.{is_finite}
 use Rattle.widths_core.specs.Layouts.{Layout, layout}
 use Rattle.widths_core.specs.Layouts as layout
-use Rattle.grammar_core.specs.Tree.{none}
+use Rattle.grammar_core.specs.Tree.{Branch, none}
 use Rattle.grammar_core.specs.Grammar.{Val}
 use Rattle.grammar_core.specs.Cells.{fields_part, list_part}
 use Rattle.grammar_core.specs.Parts.{Part, each, first_of, how_many_left}
 use Rattle.grammar_core.specs.Preorder as head
+use Rattle.grammar_core.specs.Tree as tree
 use Rattle.grammar_core.specs.Preorder.{Head, tree_with, tree_of}
 use Rattle.value_core.specs.Shown.{Seen, head_shown}
-use Rattle.value_core.specs.Spine.{Kind, kind_head, IsOpenAs}
+use Rattle.value_core.specs.Spine.{IsOpenAs}
 use Rattle.value_core.specs.Walked.{OpenPart, Walked, next_type, advanced, opened}
 use Rattle.value_core.specs.declared.node.Node.{Node}
 
@@ -41,7 +42,7 @@ abbrev pub entries_shown : List ℕ → List Node → List Entry
 entries_shown pool ns = map (λ n. record { ty = n.ty.0; head = head_shown pool n.content }) ns
 
 abbrev pub head_text_bytes : Head → ℕ
-head_text_bytes (head.text s) = length s
+head_text_bytes (head.leaf (tree.text s)) = length s
 head_text_bytes _ = 0
 
 -- the bytes of all texts
@@ -98,9 +99,7 @@ with_open b h p = settled (record b { walk = opened (advanced b.walk) (length b.
 
 -- a node that has no children
 abbrev pub IsLeaf : Head → Type 0
-IsLeaf (head.fields n) = ⊥
-IsLeaf (head.arm q n) = ⊥
-IsLeaf (head.list n) = ⊥
+IsLeaf (head.branch k n) = ⊥
 IsLeaf _ = Unit {0}
 
 -- the next type has the value that this node is by itself, and there is room for it
@@ -118,9 +117,9 @@ pub record IsNextOpen (w : Walked) (h : Head) (p : Part) : Type 0 where
   pub ty : ℕ
   pub next : next_type w ≡ Some ty
   pub room : length w.frames ≤ w.limit + 1
-  pub kind : Kind
+  pub kind : Branch
   pub count : ℕ
-  pub head_is : h ≡ kind_head kind count
+  pub head_is : h ≡ head.branch kind count
   pub own : List ℕ
   pub are_bytes : AreBytes own
   pub finite : is_finite w.types ty ≡ true
@@ -131,7 +130,7 @@ abbrev pub next_layout : Built → Layout
 next_layout b = layout b.walk.types (type_or_0 (next_type b.walk))
 
 abbrev pub with_fields : Built → Built
-with_fields b = let p = fields_part (next_layout b) in with_open b (head.fields (how_many_left p)) p
+with_fields b = let p = fields_part (next_layout b) in with_open b (head.branch tree.fields (how_many_left p)) p
 
 -- the first arm of the index, in a layout that has arms
 abbrev pub arm_in : Layout → ℕ → Option (ℕ × Arm)
@@ -139,14 +138,14 @@ arm_in (layout.arms arms) index = arm_of arms index
 arm_in _ index = None
 
 abbrev pub with_found : Built → Option (ℕ × Arm) → Built
-with_found b (Some found) = let p = each (field_types found.1.fields) in with_open b (head.arm found.0 (how_many_left p)) p
+with_found b (Some found) = let p = each (field_types found.1.fields) in with_open b (head.branch (tree.arm found.0) (how_many_left p)) p
 with_found b None = b
 
 abbrev pub with_arm : Built → ℕ → Built
 with_arm b index = with_found b (arm_in (next_layout b) index)
 
 abbrev pub with_list : Built → ℕ → Built
-with_list b n = with_open b (head.list n) (list_part (next_layout b) n)
+with_list b n = with_open b (head.branch tree.list n) (list_part (next_layout b) n)
 
 -- ---- a text in pieces
 
@@ -162,7 +161,7 @@ with_piece b piece = record b { text = option_map (λ t. record { len = t.len; b
 
 -- the text that came is the next node
 abbrev pub with_text_ended : Built → Built
-with_text_ended b = with_leaf (record b { text = None }) (head.text (pieces_bytes b.text))
+with_text_ended b = with_leaf (record b { text = None }) (head.leaf (tree.text (pieces_bytes b.text)))
 
 -- the bytes of all texts, those of the open one too
 abbrev pub built_text_bytes : Built → ℕ

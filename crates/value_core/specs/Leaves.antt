@@ -2,20 +2,21 @@
 use Rattle.std.specs.Prelude.{◌≡◌, ℕ, ◌<◌, ◌^◌, List, [], length, FitsSigned}
 use Rattle.std.specs.Int.{w128}
 use Rattle.grammar_core.specs.Preorder as head
+use Rattle.grammar_core.specs.Tree as tree
 use Rattle.grammar_core.specs.Preorder.{Head}
 use Rattle.value_core.specs.declared.leaf.Leaf.{Leaf}
 use Rattle.value_core.specs.declared.leaf.Leaf.TheVariants as leaf
 
 abbrev pub leaf_head : Leaf → Head
-leaf_head leaf.Empty = head.unit
-leaf_head (leaf.Bool b) = head.bool b
-leaf_head (leaf.Char c) = head.char c
-leaf_head (leaf.Text s) = head.text s.now
-leaf_head (leaf.Unsigned n) = head.unsigned n
-leaf_head (leaf.Signed z) = head.signed z
-leaf_head (leaf.Wide b) = head.wide b.now
-leaf_head (leaf.Compact n) = head.compact n
-leaf_head (leaf.Count n) = head.count n
+leaf_head leaf.Empty = head.leaf tree.unit
+leaf_head (leaf.Bool b) = head.leaf (tree.bool b)
+leaf_head (leaf.Char c) = head.leaf (tree.char c)
+leaf_head (leaf.Text s) = head.leaf (tree.text s.now)
+leaf_head (leaf.Unsigned n) = head.leaf (tree.unsigned n)
+leaf_head (leaf.Signed z) = head.leaf (tree.signed z)
+leaf_head (leaf.Wide b) = head.leaf (tree.wide b.now)
+leaf_head (leaf.Compact n) = head.leaf (tree.compact n)
+leaf_head (leaf.Count n) = head.leaf (tree.count n)
 
 -- what it keeps in the pool of bytes
 abbrev pub leaf_bytes : Leaf → List ℕ

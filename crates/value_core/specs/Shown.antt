@@ -11,7 +11,7 @@ use Rattle.grammar_core.specs.Grammar.{Val}
 use Rattle.grammar_core.specs.Preorder as head
 use Rattle.grammar_core.specs.Preorder.{Head, tree_of}
 use Rattle.grammar_core.specs.Parts.{Part, left_after}
-use Rattle.grammar_core.specs.Cells.{Cell, cells, all_cells, child_type, fields_part, arm_part, list_part}
+use Rattle.grammar_core.specs.Cells.{Cell, cells, all_cells, child_type, part_of}
 use Rattle.value_core.specs.declared.node.Content.{Content}
 use Rattle.value_core.specs.declared.node.Content.TheVariants as is
 use Rattle.value_core.specs.declared.node.Node.{Node}
@@ -33,16 +33,14 @@ seen_parts r p (and v vs) = record { types = r; ty = child_type p; tree = v } �
 
 -- the children of a value of type t
 abbrev pub children_by : List TypeInfo → ℕ → Tree → List Seen
-children_by r t (tree.fields vs) = seen_parts r (fields_part (layout r t)) vs
-children_by r t (tree.arm q vs) = seen_parts r (arm_part (layout r t) q) vs
-children_by r t (tree.list vs) = seen_parts r (list_part (layout r t) (tree.how_many vs)) vs
-children_by r t _ = []
+children_by r t (tree.leaf l) = []
+children_by r t (tree.branch k vs) = seen_parts r (part_of (layout r t) k (tree.how_many vs)) vs
 
 abbrev pub children_of : Seen → List Seen
 children_of s = children_by s.types s.ty s.tree
 
 abbrev pub text_of : Tree → Option (List ℕ)
-text_of (tree.text s) = Some s
+text_of (tree.leaf (tree.text s)) = Some s
 text_of _ = None
 
 -- ---- how it is kept
@@ -53,18 +51,18 @@ signed_from n = if nat_lt (2 * n) (2 ^ 128) then pos n else neg_ℤ (pos (2 ^ 12
 
 -- a node by itself, with the bytes that it has in the pool
 abbrev pub head_shown : List ℕ → Content → Head
-head_shown pool is.Empty = head.unit
-head_shown pool (is.Bool b) = head.bool b
-head_shown pool (is.Char c) = head.char c
-head_shown pool (is.Text start len) = head.text (slice_range pool start (start + len))
-head_shown pool (is.Unsigned b) = head.unsigned (from_le_bytes w128 b)
-head_shown pool (is.Signed b) = head.signed (signed_from (from_le_bytes w128 b))
-head_shown pool (is.Wide start) = head.wide (slice_range pool start (start + 32))
-head_shown pool (is.Compact b) = head.compact (from_le_bytes w128 b)
-head_shown pool (is.Count n) = head.count n
-head_shown pool (is.Fields n) = head.fields n
-head_shown pool (is.Arm q n) = head.arm q n
-head_shown pool (is.List n) = head.list n
+head_shown pool is.Empty = head.leaf tree.unit
+head_shown pool (is.Bool b) = head.leaf (tree.bool b)
+head_shown pool (is.Char c) = head.leaf (tree.char c)
+head_shown pool (is.Text start len) = head.leaf (tree.text (slice_range pool start (start + len)))
+head_shown pool (is.Unsigned b) = head.leaf (tree.unsigned (from_le_bytes w128 b))
+head_shown pool (is.Signed b) = head.leaf (tree.signed (signed_from (from_le_bytes w128 b)))
+head_shown pool (is.Wide start) = head.leaf (tree.wide (slice_range pool start (start + 32)))
+head_shown pool (is.Compact b) = head.leaf (tree.compact (from_le_bytes w128 b))
+head_shown pool (is.Count n) = head.leaf (tree.count n)
+head_shown pool (is.Fields n) = head.branch tree.fields n
+head_shown pool (is.Arm q n) = head.branch (tree.arm q) n
+head_shown pool (is.List n) = head.branch tree.list n
 
 -- its bytes lie in the pool
 abbrev pub IsInPool : List ℕ → Content → Type 0

@@ -1,4 +1,5 @@
 -- The open nodes of a value that is being built, the innermost first, each with its whole children and their bytes.
+use Rattle.grammar_core.specs.Cells.{part_of}
 use Rattle.std.specs.Prelude.{◌≡◌, ℕ, suc, ◌+◌, ◌≤◌, ◌⊎◌, List, [], ◌∷◌, ◌++◌, length, Some, true}
 use Rattle.scale_core.specs.Compact.{IsCompact}
 use Rattle.scale_core.specs.declared.compact.Target.TheVariants as target
@@ -10,7 +11,7 @@ use Rattle.widths_core.specs.Classes.{is_finite}
 use Rattle.widths_core.specs.Layouts.{layout}
 use Rattle.widths_core.specs.Layouts as layout
 use Rattle.grammar_core.specs.Tree as tree
-use Rattle.grammar_core.specs.Tree.{Tree, Trees, how_many, levels, most_levels}
+use Rattle.grammar_core.specs.Tree.{Branch, Tree, Trees, how_many, levels, most_levels}
 use Rattle.grammar_core.specs.Grammar.{Val, Vals, Each}
 use Rattle.grammar_core.specs.Parts.{Part, each, times, first_of, left_after}
 use Rattle.grammar_core.specs.Preorder as head
@@ -18,41 +19,20 @@ use Rattle.grammar_core.specs.Preorder.{Head}
 use Rattle.grammar_core.specs.Cells.{Cell, cells, all_cells, fields_part, arm_part, list_part}
 use Rattle.value_core.specs.Walked.{OpenPart}
 
-pub data Kind : Type 0 where
-  of_fields : Kind
-  of_arm : ℕ → Kind
-  of_list : Kind
-
 -- an open node: how many children it is to have, those that it has, and the bytes of all that
 pub record OpenNode : Type 0 where
   pub ty : ℕ
-  pub kind : Kind
+  pub kind : Branch
   pub all : ℕ
   pub done : Trees
   pub own : List ℕ
 
-abbrev pub kind_head : Kind → ℕ → Head
-kind_head of_fields n = head.fields n
-kind_head (of_arm q) n = head.arm q n
-kind_head of_list n = head.list n
-
-abbrev pub kind_tree : Kind → Trees → Tree
-kind_tree of_fields vs = tree.fields vs
-kind_tree (of_arm q) vs = tree.arm q vs
-kind_tree of_list vs = tree.list vs
-
--- the types of its children
-abbrev pub kind_part : List TypeInfo → ℕ → Kind → ℕ → Part
-kind_part r t of_fields n = fields_part (layout r t)
-kind_part r t (of_arm q) n = arm_part (layout r t) q
-kind_part r t of_list n = list_part (layout r t) n
-
 -- its node, whose size is not known yet, and those of the children that it has
 abbrev pub open_cell : OpenNode → Cell
-open_cell o = record { ty = o.ty; head = kind_head o.kind o.all; size = 0 }
+open_cell o = record { ty = o.ty; head = head.branch o.kind o.all; size = 0 }
 
 abbrev pub open_cells : List TypeInfo → OpenNode → List Cell
-open_cells r o = open_cell o ∷ all_cells r (kind_part r o.ty o.kind o.all) o.done
+open_cells r o = open_cell o ∷ all_cells r (part_of (layout r o.ty) o.kind o.all) o.done
 
 abbrev pub IsFieldsOpen : List TypeInfo → ℕ → ℕ → Trees → List ℕ → Part → Type 0
 IsFieldsOpen r t n vs b p = (front back : List ℕ) × (layout r t ≡ layout.fields (front ++ back)) × (n ≡ length (front ++ back)) × (p ≡ each back) × Vals r front vs b
@@ -63,10 +43,10 @@ IsArmOpen r t q n vs b p = (arms : List Arm) × (i : ℕ) × (a : Arm) × (front
 abbrev pub IsListOpen : List TypeInfo → ℕ → ℕ → Trees → List ℕ → Part → Type 0
 IsListOpen r t n vs b p = (u left : ℕ) × (c own : List ℕ) × (((layout r t ≡ layout.array n u) × (c ≡ [])) ⊎ ((layout r t ≡ layout.sequence u) × IsCompact target.U32 n c)) × (p ≡ times left u) × (how_many vs + left ≡ n) × (b ≡ c ++ own) × Each r u vs own
 
-abbrev pub IsOpenAs : List TypeInfo → Kind → ℕ → ℕ → Trees → List ℕ → Part → Type 0
-IsOpenAs r of_fields t n vs b p = IsFieldsOpen r t n vs b p
-IsOpenAs r (of_arm q) t n vs b p = IsArmOpen r t q n vs b p
-IsOpenAs r of_list t n vs b p = IsListOpen r t n vs b p
+abbrev pub IsOpenAs : List TypeInfo → Branch → ℕ → ℕ → Trees → List ℕ → Part → Type 0
+IsOpenAs r tree.fields t n vs b p = IsFieldsOpen r t n vs b p
+IsOpenAs r (tree.arm q) t n vs b p = IsArmOpen r t q n vs b p
+IsOpenAs r tree.list t n vs b p = IsListOpen r t n vs b p
 
 -- the part p is what is left of the open node
 abbrev pub IsOpen : List TypeInfo → OpenNode → Part → Type 0

@@ -3,6 +3,7 @@
 ghost use Rattle.std.specs.Prelude.{◌≡◌, ◌-◌, ◌^◌};
 ghost use Rattle.scale_core.specs.Compact.{target_bytes};
 ghost use Rattle.grammar_core.specs.Preorder as head;
+ghost use Rattle.grammar_core.specs.Tree as tree;
 ghost use Rattle.value_core.specs.Built.{with_leaf, with_fields, with_arm, with_list};
 ghost use Rattle.value_core.specs.Refusals.{Adds, judged, judged_arm, greatest_unsigned, greatest_signed, is_within, suits_char, suits_signed, suits_empty, suits_bool, suits_text, suits_unsigned, suits_wide, suits_compact, suits_count, suits_fields, suits_list};
 
@@ -72,7 +73,7 @@ impl<'r, A: Allocator> Builder<'r, A> {
     /// nothing is, and `OutOfMemory`.
     #[tactic(auto, using(crate::proofs::Wanted::wanted_next, crate::proofs::Wanted::wanted_closed, crate::proofs::NextLeaf::empty_next))]
     pub fn empty(&mut self) -> Result<(), BuildFault>
-        ensures { Adds (judged suits_empty self.old) (with_leaf self.old head.unit) self.old self.new result }
+        ensures { Adds (judged suits_empty self.old) (with_leaf self.old (head.leaf tree.unit)) self.old self.new result }
     {
         match self.wanted()? {
             Form::Empty => self.add_leaf(Leaf::Empty),
@@ -85,7 +86,7 @@ impl<'r, A: Allocator> Builder<'r, A> {
     /// Refuses as `empty` does.
     #[tactic(auto, using(crate::proofs::Wanted::wanted_next, crate::proofs::Wanted::wanted_closed, crate::proofs::NextLeaf::bool_next))]
     pub fn bool(&mut self, value: bool) -> Result<(), BuildFault>
-        ensures { Adds (judged suits_bool self.old) (with_leaf self.old (head.bool value)) self.old self.new result }
+        ensures { Adds (judged suits_bool self.old) (with_leaf self.old (head.leaf (tree.bool value))) self.old self.new result }
     {
         match self.wanted()? {
             Form::Primitive(Primitive::Bool) => self.add_leaf(Leaf::Bool(value)),
@@ -98,7 +99,7 @@ impl<'r, A: Allocator> Builder<'r, A> {
     /// Refuses as `empty` does, and with `OutOfRange` a number that is too great for the type.
     #[tactic(auto, using(crate::proofs::Wanted::wanted_next, crate::proofs::Wanted::wanted_closed, crate::proofs::NextLeaf::unsigned_next))]
     pub fn unsigned(&mut self, value: u128) -> Result<(), BuildFault>
-        ensures { Adds (judged (suits_unsigned value) self.old) (with_leaf self.old (head.unsigned value)) self.old self.new result }
+        ensures { Adds (judged (suits_unsigned value) self.old) (with_leaf self.old (head.leaf (tree.unsigned value))) self.old self.new result }
     {
         let Form::Primitive(primitive) = self.wanted()? else {
             return Err(BuildFault::WrongKind);
@@ -115,7 +116,7 @@ impl<'r, A: Allocator> Builder<'r, A> {
     /// Refuses as `empty` does.
     #[tactic(auto, using(crate::proofs::Wanted::wanted_next, crate::proofs::Wanted::wanted_closed, crate::proofs::NextLeaf::count_next))]
     pub fn count(&mut self, count: u32) -> Result<(), BuildFault>
-        ensures { Adds (judged suits_count self.old) (with_leaf self.old (head.count count)) self.old self.new result }
+        ensures { Adds (judged suits_count self.old) (with_leaf self.old (head.leaf (tree.count count))) self.old self.new result }
     {
         match self.wanted()? {
             Form::Count => self.add_leaf(Leaf::Count(count)),
@@ -128,7 +129,7 @@ impl<'r, A: Allocator> Builder<'r, A> {
     /// Refuses as `empty` does.
     #[tactic(auto, using(crate::proofs::Wanted::wanted_next, crate::proofs::Wanted::wanted_closed, crate::proofs::NextLeaf::wide_next))]
     pub fn wide(&mut self, value: [u8; 32]) -> Result<(), BuildFault>
-        ensures { Adds (judged suits_wide self.old) (with_leaf self.old (head.wide value)) self.old self.new result }
+        ensures { Adds (judged suits_wide self.old) (with_leaf self.old (head.leaf (tree.wide value))) self.old self.new result }
     {
         let Form::Primitive(primitive) = self.wanted()? else {
             return Err(BuildFault::WrongKind);
@@ -143,7 +144,7 @@ impl<'r, A: Allocator> Builder<'r, A> {
     ///
     /// Refuses as `empty` does, and with `OutOfRange` a number that is too great or too small for the type.
     pub fn signed(&mut self, value: i128) -> Result<(), BuildFault>
-        ensures { Adds (judged (suits_signed value) self.old) (with_leaf self.old (head.signed value)) self.old self.new result }
+        ensures { Adds (judged (suits_signed value) self.old) (with_leaf self.old (head.leaf (tree.signed value))) self.old self.new result }
     {
         let Form::Primitive(primitive) = self.wanted()? else {
             return Err(BuildFault::WrongKind);
@@ -160,7 +161,7 @@ impl<'r, A: Allocator> Builder<'r, A> {
     /// Refuses as `empty` does.
     #[tactic(auto, using(crate::proofs::Wanted::wanted_next, crate::proofs::Wanted::wanted_closed, crate::proofs::NextLeaf::char_next))]
     pub fn char(&mut self, value: char) -> Result<(), BuildFault>
-        ensures { Adds (judged suits_char self.old) (with_leaf self.old (head.char value)) self.old self.new result }
+        ensures { Adds (judged suits_char self.old) (with_leaf self.old (head.leaf (tree.char value))) self.old self.new result }
     {
         match self.wanted()? {
             Form::Primitive(Primitive::Char) => self.add_leaf(Leaf::Char(value)),
@@ -173,7 +174,7 @@ impl<'r, A: Allocator> Builder<'r, A> {
     /// Refuses as `empty` does, and with `OutOfRange` a text of more than 4294967295 bytes.
     #[tactic(auto, using(crate::proofs::Wanted::wanted_next, crate::proofs::Wanted::wanted_closed, crate::proofs::NextLeaf::text_next))]
     pub fn text(&mut self, text: &str) -> Result<(), BuildFault>
-        ensures { Adds (judged (suits_text text.now) self.old) (with_leaf self.old (head.text text.now)) self.old self.new result }
+        ensures { Adds (judged (suits_text text.now) self.old) (with_leaf self.old (head.leaf (tree.text text.now))) self.old self.new result }
     {
         let Form::Primitive(Primitive::Str) = self.wanted()? else {
             return Err(BuildFault::WrongKind);
@@ -189,7 +190,7 @@ impl<'r, A: Allocator> Builder<'r, A> {
     /// Refuses as `empty` does, and with `OutOfRange` a number that is too great for what the compact stands over.
     #[tactic(auto, using(crate::proofs::Wanted::wanted_next, crate::proofs::Wanted::wanted_closed, crate::proofs::NextLeaf::compact_next))]
     pub fn compact(&mut self, value: u128) -> Result<(), BuildFault>
-        ensures { Adds (judged (suits_compact value) self.old) (with_leaf self.old (head.compact value)) self.old self.new result }
+        ensures { Adds (judged (suits_compact value) self.old) (with_leaf self.old (head.leaf (tree.compact value))) self.old self.new result }
     {
         let Form::Compact(target) = self.wanted()? else {
             return Err(BuildFault::WrongKind);
