@@ -22,8 +22,8 @@ use Rattle.widths_core.specs.Arms.{arm_of}
 use Rattle.widths_core.specs.Classes.{is_finite}
 use Rattle.widths_core.specs.Layouts.{Layout, layout}
 use Rattle.widths_core.specs.Layouts as layout
-use Rattle.grammar_core.specs.Tree.{Tree, leaf, branch, char, text, unsigned, signed, wide, compact as compact_value, fields, arm, list, count, Trees, and}
-use Rattle.grammar_core.specs.Reading.{value_at, layout_at, bool_at, char_from, all_at, times_at, arm_at, arms_at, as_value, with_children, Refusal, basic, no_such_variant, too_deep, no_finite_value, bit_sequence, bad_compact}
+use Rattle.grammar_core.specs.Tree.{Leaf, Branch, Tree, leaf, branch, char, text, unsigned, signed, wide, compact as compact_value, fields, arm, list, count, Trees, and}
+use Rattle.grammar_core.specs.Reading.{value_at, layout_at, bool_at, char_from, all_at, times_at, arm_at, arms_at, as_leaf, with_children, Refusal, basic, no_such_variant, too_deep, no_finite_value, bit_sequence, bad_compact}
 use Rattle.grammar_core.proofs.Sound.{value_takes}
 use Rattle.decode_core.specs.Taken.{behind, compact_taken, text_taken, all_taken, times_taken, arm_taken, arms_taken, layout_taken, value_taken}
 use Rattle.decode_core.specs.Outcome.{IsTaken, TakenByFault}
@@ -152,11 +152,11 @@ times_told r room h (suc n) t b = let child = value_at r room in
     (chain_told (λ e. e) (λ e. e) _ (λ v c. times_at child n t c >>= λ others. Ok (and v others.0, others.1)) (λ x. times_taken child (value_taken r room) n t x.1) b (value_taken r room t b) (child t b) (value_takes r room t b) (h t b)
     (λ x. rw (and_finish x.0 (times_at child n t x.1)) (finish_told (λ e. e) (λ e. e) (and x.0) x.1 (times_taken child (value_taken r room) n t x.1) (times_at child n t x.1) (times_told r room h n t x.1))))
 
-parts_told : (make : Trees → Tree) (b : List ℕ) (k : ℕ) (read : Read Refusal Trees) → Told (λ e. e) b k read → Told (λ e. e) b k (with_children make read)
-parts_told make b k (Ok x) h = tt
-parts_told make b k (Err e) h = h
+parts_told : (kind : Branch) (b : List ℕ) (k : ℕ) (read : Read Refusal Trees) → Told (λ e. e) b k read → Told (λ e. e) b k (with_children kind read)
+parts_told kind b k (Ok x) h = tt
+parts_told kind b k (Err e) h = h
 
-leaf_told : {X : Type 0} (make : X → Tree) (b : List ℕ) (k : ℕ) (read : Read Reason X) → Told basic b k read → Told (λ e. e) b k (as_value make read)
+leaf_told : {X : Type 0} (make : X → Leaf) (b : List ℕ) (k : ℕ) (read : Read Reason X) → Told basic b k read → Told (λ e. e) b k (as_leaf make read)
 leaf_told make b k (Ok x) h = tt
 leaf_told make b k (Err e) h = h
 
@@ -166,7 +166,7 @@ arm_told r room h i b (Some a) =
     let ts = field_types a.1.fields in
     let k = all_taken (value_at r room) (value_taken r room) ts b in
     let one : 1 + k ≡ suc k = omega arith in
-    rw one at (told_behind (λ e. e) (i ∷ b) (i ∷ []) b k _ refl (parts_told (branch (arm a.0)) b k (all_at (value_at r room) ts b) (all_told r room h ts b)))
+    rw one at (told_behind (λ e. e) (i ∷ b) (i ∷ []) b k _ refl (parts_told (arm a.0) b k (all_at (value_at r room) ts b) (all_told r room h ts b)))
 
 arms_told : (r : List TypeInfo) (room : ℕ) → ChildTold r room → (arms : List Arm) (b : List ℕ) → Told (λ e. e) b (arms_taken (value_at r room) (value_taken r room) arms b) (arms_at (value_at r room) arms b)
 arms_told r room h arms [] = (omega arith, refl)
@@ -180,19 +180,19 @@ layout_told r room h layout.bad_compact b = (omega arith, omega arith)
 layout_told r room h layout.empty b = tt
 layout_told r room h layout.bool b = bool_told b
 layout_told r room h layout.char b = char_told b
-layout_told r room h layout.text b = leaf_told leaf (text b) _ (text_at b) (text_told b)
-layout_told r room h (layout.unsigned k) b = leaf_told (λ b. leaf (unsigned (number b))) b _ (bytes_at k b) (bytes_told k b)
-layout_told r room h (layout.signed k) b = leaf_told (λ b. leaf (signed (signed_number b))) b _ (bytes_at k b) (bytes_told k b)
-layout_told r room h layout.wide b = leaf_told leaf (wide b) _ (bytes_at 32 b) (bytes_told 32 b)
-layout_told r room h layout.counted b = leaf_told leaf (count b) _ (compact_at target.U32 b) (compact_told target.U32 b)
+layout_told r room h layout.text b = leaf_told text b _ (text_at b) (text_told b)
+layout_told r room h (layout.unsigned k) b = leaf_told (λ b. unsigned (number b)) b _ (bytes_at k b) (bytes_told k b)
+layout_told r room h (layout.signed k) b = leaf_told (λ b. signed (signed_number b)) b _ (bytes_at k b) (bytes_told k b)
+layout_told r room h layout.wide b = leaf_told wide b _ (bytes_at 32 b) (bytes_told 32 b)
+layout_told r room h layout.counted b = leaf_told count b _ (compact_at target.U32 b) (compact_told target.U32 b)
 layout_told r room h (layout.compact m) b = leaf_told compact_value b _ (compact_at m b) (compact_told m b)
-layout_told r room h (layout.fields ts) b = parts_told branch fields b _ (all_at (value_at r room) ts b) (all_told r room h ts b)
+layout_told r room h (layout.fields ts) b = parts_told fields b _ (all_at (value_at r room) ts b) (all_told r room h ts b)
 layout_told r room h (layout.arms arms) b = arms_told r room h arms b
-layout_told r room h (layout.array n t) b = parts_told branch list b _ (times_at (value_at r room) n t b) (times_told r room h n t b)
+layout_told r room h (layout.array n t) b = parts_told list b _ (times_at (value_at r room) n t b) (times_told r room h n t b)
 layout_told r room h (layout.sequence t) b = let child = value_at r room in
     rw (elements_chain child t (compact_at target.U32 b))
-    (chain_told basic (λ e. e) _ (λ n c. with_children branch list (times_at child n t c)) (λ n. times_taken child (value_taken r room) n.0 t n.1) b (compact_taken target.U32 b) (compact_at target.U32 b) (compact_takes target.U32 b) (compact_told target.U32 b)
-    (λ n. parts_told branch list n.1 _ (times_at child n.0 t n.1) (times_told r room h n.0 t n.1)))
+    (chain_told basic (λ e. e) _ (λ n c. with_children list (times_at child n t c)) (λ n. times_taken child (value_taken r room) n.0 t n.1) b (compact_taken target.U32 b) (compact_at target.U32 b) (compact_takes target.U32 b) (compact_told target.U32 b)
+    (λ n. parts_told list n.1 _ (times_at child n.0 t n.1) (times_told r room h n.0 t n.1)))
 
 value_told : (r : List TypeInfo) (room t : ℕ) (b : List ℕ) → Told (λ e. e) b (value_taken r room t b) (value_at r room t b)
 unfolding value_at value_taken

@@ -15,9 +15,9 @@ use Rattle.registry_core.specs.declared.definition.Arm.{Arm}
 use Rattle.widths_core.specs.Arms.{arm_of}
 use Rattle.widths_core.specs.Layouts.{Layout}
 use Rattle.widths_core.specs.Layouts as layout
-use Rattle.grammar_core.specs.Tree.{Tree}
+use Rattle.grammar_core.specs.Tree.{Leaf, Tree}
 use Rattle.grammar_core.specs.Tree as tree
-use Rattle.grammar_core.specs.Reading.{layout_at, bool_at, char_from, as_value, Refusal}
+use Rattle.grammar_core.specs.Reading.{layout_at, bool_at, char_from, as_leaf, Refusal}
 use Rattle.decode_core.specs.Told.{leaf_own, arm_own, arms_own, length_own, own_at}
 
 -- what is left is no longer than the input
@@ -65,7 +65,7 @@ leaf_within : (b : List ℕ) (read : Read Refusal Tree) → Within b read → Wi
 leaf_within b (Ok x) h = tt
 leaf_within b (Err e) h = h
 
-value_within : {X : Type 0} (make : X → Tree) (b : List ℕ) (read : Read Reason X) → Within b read → Within b (as_value make read)
+value_within : {X : Type 0} (make : X → Leaf) (b : List ℕ) (read : Read Reason X) → Within b read → Within b (as_leaf make read)
 value_within make b (Ok x) h = tt
 value_within make b (Err e) h = h
 
@@ -103,9 +103,9 @@ own_within layout.bad_compact b = omega arith
 own_within layout.empty b = tt
 own_within layout.bool b = leaf_within b (bool_at b) (bool_within b)
 own_within layout.char b = leaf_within b (char_from b (bytes_at 4 b)) (char_within b (bytes_at 4 b) (bytes_within 4 b))
-own_within layout.text b = leaf_within b (as_value tree.leaf (tree.text (text_at b))) (value_within tree.leaf (tree.text b) (text_at b) (text_within b))
-own_within (layout.unsigned k) b = leaf_within b (as_value (λ c. tree.leaf (tree.unsigned (number c))) (bytes_at k b)) (value_within (λ c. tree.leaf (tree.unsigned (number c))) b (bytes_at k b) (bytes_within k b))
-own_within (layout.signed k) b = leaf_within b (as_value (λ c. tree.leaf (tree.signed (signed_number c))) (bytes_at k b)) (value_within (λ c. tree.leaf (tree.signed (signed_number c))) b (bytes_at k b) (bytes_within k b))
-own_within layout.wide b = leaf_within b (as_value tree.leaf (tree.wide (bytes_at 32 b))) (value_within tree.leaf (tree.wide b) (bytes_at 32 b) (bytes_within 32 b))
-own_within layout.counted b = leaf_within b (as_value tree.leaf (tree.count (compact_at target.U32 b))) (value_within tree.leaf (tree.count b) (compact_at target.U32 b) (compact_within target.U32 b))
-own_within (layout.compact m) b = leaf_within b (as_value tree.leaf (tree.compact (compact_at m b))) (value_within tree.leaf (tree.compact b) (compact_at m b) (compact_within m b))
+own_within layout.text b = leaf_within b (as_leaf tree.text (text_at b)) (value_within tree.text b (text_at b) (text_within b))
+own_within (layout.unsigned k) b = leaf_within b (as_leaf (λ c. tree.unsigned (number c)) (bytes_at k b)) (value_within (λ c. tree.unsigned (number c)) b (bytes_at k b) (bytes_within k b))
+own_within (layout.signed k) b = leaf_within b (as_leaf (λ c. tree.signed (signed_number c)) (bytes_at k b)) (value_within (λ c. tree.signed (signed_number c)) b (bytes_at k b) (bytes_within k b))
+own_within layout.wide b = leaf_within b (as_leaf tree.wide (bytes_at 32 b)) (value_within tree.wide b (bytes_at 32 b) (bytes_within 32 b))
+own_within layout.counted b = leaf_within b (as_leaf tree.count (compact_at target.U32 b)) (value_within tree.count b (compact_at target.U32 b) (compact_within target.U32 b))
+own_within (layout.compact m) b = leaf_within b (as_leaf tree.compact (compact_at m b)) (value_within tree.compact b (compact_at m b) (compact_within m b))

@@ -20,7 +20,7 @@ use Rattle.grammar_core.specs.Cells.{fields_part, list_part}
 use Rattle.grammar_core.specs.Parts.{Part, each, how_many_left}
 use Rattle.grammar_core.specs.Preorder.{Head}
 use Rattle.grammar_core.specs.Preorder as head
-use Rattle.grammar_core.specs.Reading.{basic, as_value, layout_at, no_such_variant}
+use Rattle.grammar_core.specs.Reading.{basic, as_leaf, layout_at, no_such_variant}
 use Rattle.value_core.specs.Refusals.{Adds, judged, judged_arm, suits_arm, suits_compact, suits_list}
 use Rattle.value_core.specs.Walked.{next_of}
 use Rattle.value_core.specs.declared.build_fault.BuildFault.{BuildFault}
@@ -54,13 +54,13 @@ pub list_refused : (b : Built) (own : List ℕ) (e : Reason) (at : ℕ) → next
 list_refused b own e at h k = let s = next_has b form.Sequence h in list_refused_by (next_layout b) s.0 own e at s.1 k
 
 count_by : (lay : Layout) (own : List ℕ) (n : ℕ) → lay ≡ layout.counted → ((rest : List ℕ) × (compact_at target.U32 own ≡ Ok (n, rest))) → (rest : List ℕ) × (own_at lay own ≡ Ok ((head.leaf (tree.count n), None), rest))
-count_by lay own n e h = rw e (h.0, count_own own ∙ ap (λ r. leaf_own (as_value tree.leaf (tree.count r))) h.1)
+count_by lay own n e h = rw e (h.0, count_own own ∙ ap (λ r. leaf_own (as_leaf tree.count r)) h.1)
 
 pub count_read : (b : Built) (own : List ℕ) (n : ℕ) → next_of b.walk ≡ next.Wants form.Count → (rest : List ℕ) × (compact_at target.U32 own ≡ Ok (n, rest)) → (rest : List ℕ) × (own_at (next_layout b) own ≡ Ok ((head.leaf (tree.count n), None), rest))
 count_read b own n h k = count_by (next_layout b) own n (next_has b form.Count h) k
 
 count_refused_by : (lay : Layout) (own : List ℕ) (e : Reason) (at : ℕ) → lay ≡ layout.counted → ((left : List ℕ) × (compact_at target.U32 own ≡ Err (e, left)) × (at ≡ place own left)) → (left : List ℕ) × (own_at lay own ≡ Err (basic e, left)) × (at ≡ place own left)
-count_refused_by lay own e at is h = rw is (h.0, count_own own ∙ ap (λ r. leaf_own (as_value tree.leaf (tree.count r))) h.1, h.2)
+count_refused_by lay own e at is h = rw is (h.0, count_own own ∙ ap (λ r. leaf_own (as_leaf tree.count r)) h.1, h.2)
 
 pub count_refused : (b : Built) (own : List ℕ) (e : Reason) (at : ℕ) → next_of b.walk ≡ next.Wants form.Count → (left : List ℕ) × (compact_at target.U32 own ≡ Err (e, left)) × (at ≡ place own left) → (left : List ℕ) × (own_at (next_layout b) own ≡ Err (basic e, left)) × (at ≡ place own left)
 count_refused b own e at h k = count_refused_by (next_layout b) own e at (next_has b form.Count h) k

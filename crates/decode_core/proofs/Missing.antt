@@ -12,7 +12,7 @@ use Rattle.widths_core.specs.Arms.{arm_of}
 use Rattle.widths_core.specs.Classes.{is_finite}
 use Rattle.widths_core.specs.Layouts.{Layout, layout}
 use Rattle.widths_core.specs.Layouts as layout
-use Rattle.grammar_core.specs.Tree.{Tree, leaf, branch, fields, arm, list, Trees, none, and, how_many, levels, most_levels}
+use Rattle.grammar_core.specs.Tree.{Branch, Tree, leaf, branch, fields, arm, list, Trees, none, and, how_many, levels, most_levels}
 use Rattle.grammar_core.specs.Grammar.{Val, Vals, Each}
 use Rattle.grammar_core.specs.Reading.{value_at, layout_at, all_at, times_at, arm_at, arms_at, elements_at, with_children, Refusal, truncated, too_deep}
 use Rattle.grammar_core.proofs.Sound.{value_takes}
@@ -37,9 +37,9 @@ cond_waits : {X : Type 0} (P : Type 0) (t : Bool) (x y : Read Refusal X) → (t 
 cond_waits P true x y f g = f refl
 cond_waits P false x y f g = g
 
-with_children_waits : (P Q : Type 0) (make : Trees → Tree) (read : Read Refusal Trees) → Waits P read → (P → Q) → Waits Q (with_children make read)
-with_children_waits P Q make (Ok x) h f = tt
-with_children_waits P Q make (Err e) h f = λ cut. f (h cut)
+with_children_waits : (P Q : Type 0) (kind : Branch) (read : Read Refusal Trees) → Waits P read → (P → Q) → Waits Q (with_children kind read)
+with_children_waits P Q kind (Ok x) h f = tt
+with_children_waits P Q kind (Err e) h f = λ cut. f (h cut)
 
 abbrev ChildWaits : List TypeInfo → ℕ → Type 0
 ChildWaits r room = (t : ℕ) (b : List ℕ) → Waits (Holding r room t b) (value_at r room t b)
@@ -95,7 +95,7 @@ in_list_of r room t n u c b fin f s = let h = s.6 in
 
 arm_waits : (r : List TypeInfo) (room t : ℕ) → ChildWaits r room → is_finite r t ≡ true → (arms : List Arm) → layout r t ≡ layout.arms arms → (i : ℕ) (b : List ℕ) (found : Option (ℕ × Arm)) → arm_of arms i ≡ found → Waits (Holding r (suc room) t (i ∷ b)) (arm_at (value_at r room) (i ∷ b) found b)
 arm_waits r room t h fin arms f i b None e = λ cut. absurd cc
-arm_waits r room t h fin arms f i b (Some a) e = with_children_waits (AllHolding r room (field_types a.1.fields) b) (Holding r (suc room) t (i ∷ b)) (branch (arm a.0)) _ (all_waits r room h (field_types a.1.fields) b) (in_arm_of r room t arms i a.0 a.1 b fin f e)
+arm_waits r room t h fin arms f i b (Some a) e = with_children_waits (AllHolding r room (field_types a.1.fields) b) (Holding r (suc room) t (i ∷ b)) (arm a.0) _ (all_waits r room h (field_types a.1.fields) b) (in_arm_of r room t arms i a.0 a.1 b fin f e)
 
 arms_waits : (r : List TypeInfo) (room t : ℕ) → ChildWaits r room → is_finite r t ≡ true → (arms : List Arm) → layout r t ≡ layout.arms arms → (b : List ℕ) → Waits (Holding r (suc room) t b) (arms_at (value_at r room) arms b)
 arms_waits r room t h fin arms f [] = λ cut. bare r room t [] fin (rw f refl)
@@ -103,7 +103,7 @@ arms_waits r room t h fin arms f (i ∷ b) = arm_waits r room t h fin arms f i b
 
 elements_waits : (r : List TypeInfo) (room t u : ℕ) → ChildWaits r room → is_finite r t ≡ true → layout r t ≡ layout.sequence u → (b : List ℕ) (read : Read Reason ℕ) → compact_at target.U32 b ≡ read → Takes (IsCompact target.U32) b read → Waits (Holding r (suc room) t b) (elements_at (value_at r room) u read)
 elements_waits r room t u h fin f b (Err e) is k = λ cut. bare r room t b fin (rw f (e.1, is ∙ ap (λ (x : Reason). Err (x, e.1)) cc))
-elements_waits r room t u h fin f b (Ok n) is k = with_children_waits (TimesHolding r room n.0 u n.1) (Holding r (suc room) t b) branch list _ (times_waits r room h n.0 u n.1) (λ s. rw k.1 (in_list_of r room t n.0 u k.0 n.1 fin (inr (f, k.2)) s))
+elements_waits r room t u h fin f b (Ok n) is k = with_children_waits (TimesHolding r room n.0 u n.1) (Holding r (suc room) t b) list _ (times_waits r room h n.0 u n.1) (λ s. rw k.1 (in_list_of r room t n.0 u k.0 n.1 fin (inr (f, k.2)) s))
 
 -- a node with no children
 abbrev shallow : ℕ → List ℕ → Read Refusal Tree
@@ -127,10 +127,10 @@ layout_waits r room t h fin (layout.signed k) e b = leaf_waits r room t b _ fin 
 layout_waits r room t h fin layout.wide e b = leaf_waits r room t b _ fin (λ left is. rw e (left, is))
 layout_waits r room t h fin layout.counted e b = leaf_waits r room t b _ fin (λ left is. rw e (left, is))
 layout_waits r room t h fin (layout.compact m) e b = leaf_waits r room t b _ fin (λ left is. rw e (left, is))
-layout_waits r room t h fin (layout.fields ts) e b = with_children_waits (AllHolding r room ts b) (Holding r (suc room) t b) branch fields _ (all_waits r room h ts b) (in_fields_of r room t ts b fin e)
+layout_waits r room t h fin (layout.fields ts) e b = with_children_waits (AllHolding r room ts b) (Holding r (suc room) t b) fields _ (all_waits r room h ts b) (in_fields_of r room t ts b fin e)
 layout_waits r room t h fin (layout.arms arms) e b = arms_waits r room t h fin arms e b
 layout_waits r room t h fin (layout.sequence u) e b = elements_waits r room t u h fin e b (compact_at target.U32 b) refl (compact_takes target.U32 b)
-layout_waits r room t h fin (layout.array n u) e b = with_children_waits (TimesHolding r room n u b) (Holding r (suc room) t b) branch list _ (times_waits r room h n u b) (in_list_of r room t n u [] b fin (inl (e, refl)))
+layout_waits r room t h fin (layout.array n u) e b = with_children_waits (TimesHolding r room n u b) (Holding r (suc room) t b) list _ (times_waits r room h n u b) (in_list_of r room t n u [] b fin (inl (e, refl)))
 
 value_waits : (r : List TypeInfo) (room t : ℕ) (b : List ℕ) → Waits (Holding r room t b) (value_at r room t b)
 unfolding value_at

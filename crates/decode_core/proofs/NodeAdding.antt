@@ -13,13 +13,13 @@ use Rattle.registry_core.specs.declared.primitive.Primitive.{Primitive}
 use Rattle.registry_core.specs.declared.primitive.Primitive.TheVariants as P
 use Rattle.widths_core.specs.Layouts.{Layout, layout, primitive_layout}
 use Rattle.widths_core.specs.Layouts as layout
-use Rattle.grammar_core.specs.Tree.{Tree}
+use Rattle.grammar_core.specs.Tree.{Leaf, Tree}
 use Rattle.grammar_core.specs.Tree as tree
 use Rattle.value_core.specs.Built.{Pieces, Built, next_layout}
 use Rattle.grammar_core.specs.Parts.{Part}
 use Rattle.grammar_core.specs.Preorder.{Head, head_of}
 use Rattle.grammar_core.specs.Preorder as head
-use Rattle.grammar_core.specs.Reading.{Refusal, basic, as_value, layout_at}
+use Rattle.grammar_core.specs.Reading.{Refusal, basic, as_leaf, layout_at}
 use Rattle.grammar_core.specs.Reading as reading
 use Rattle.value_core.specs.Refusals.{Adds, judged, wanted_of, wanted_from}
 use Rattle.value_core.specs.Walked.{next_of}
@@ -114,30 +114,30 @@ node_refused f b own e at told h s n a r is = rw is ((e, r.0, r.1, no_wait (own_
 -- ---- what is read of a node is what its type's layout reads
 
 -- a part that is read as a value
-read_as : {X : Type 0} (make : X → Tree) (lay : Layout) (own : List ℕ) (read : Read Reason X) (x : X) → own_at lay own ≡ leaf_own (as_value make read) → ((rest : List ℕ) × (read ≡ Ok (x, rest))) → (rest : List ℕ) × (own_at lay own ≡ Ok ((head_of (make x), None), rest))
-read_as make lay own read x is h = (h.0, is ∙ ap (λ r. leaf_own (as_value make r)) h.1)
+read_as : {X : Type 0} (make : X → Leaf) (lay : Layout) (own : List ℕ) (read : Read Reason X) (x : X) → own_at lay own ≡ leaf_own (as_leaf make read) → ((rest : List ℕ) × (read ≡ Ok (x, rest))) → (rest : List ℕ) × (own_at lay own ≡ Ok ((head.leaf (make x), None), rest))
+read_as make lay own read x is h = (h.0, is ∙ ap (λ r. leaf_own (as_leaf make r)) h.1)
 
-refused_as : {X : Type 0} (make : X → Tree) (lay : Layout) (own : List ℕ) (read : Read Reason X) (e : Reason) (at : ℕ) → own_at lay own ≡ leaf_own (as_value make read) → ((left : List ℕ) × (read ≡ Err (e, left)) × (at ≡ place own left)) → (left : List ℕ) × (own_at lay own ≡ Err (basic e, left)) × (at ≡ place own left)
-refused_as make lay own read e at is h = (h.0, is ∙ ap (λ r. leaf_own (as_value make r)) h.1, h.2)
+refused_as : {X : Type 0} (make : X → Leaf) (lay : Layout) (own : List ℕ) (read : Read Reason X) (e : Reason) (at : ℕ) → own_at lay own ≡ leaf_own (as_leaf make read) → ((left : List ℕ) × (read ≡ Err (e, left)) × (at ≡ place own left)) → (left : List ℕ) × (own_at lay own ≡ Err (basic e, left)) × (at ≡ place own left)
+refused_as make lay own read e at is h = (h.0, is ∙ ap (λ r. leaf_own (as_leaf make r)) h.1, h.2)
 
-number_own : (k : ℕ) (own : List ℕ) → own_at (layout.unsigned k) own ≡ leaf_own (as_value tree.leaf (tree.unsigned (number_at k own)))
+number_own : (k : ℕ) (own : List ℕ) → own_at (layout.unsigned k) own ≡ leaf_own (as_leaf tree.unsigned (number_at k own))
 unfolding own_at layout_at
 number_own k own = by (nat_lt (length own) k) where
-  by : (c : Bool) → leaf_own (as_value (λ b. tree.leaf (tree.unsigned (number b))) (cond c (Err (scale.Truncated, [])) (Ok (take k own, drop k own)))) ≡ leaf_own (as_value tree.leaf (tree.unsigned (cond c (Err (scale.Truncated, [])) (Ok (number (take k own), drop k own)))))
+  by : (c : Bool) → leaf_own (as_leaf (λ b. tree.unsigned (number b)) (cond c (Err (scale.Truncated, [])) (Ok (take k own, drop k own)))) ≡ leaf_own (as_leaf tree.unsigned (cond c (Err (scale.Truncated, [])) (Ok (number (take k own), drop k own))))
   by true = refl
   by false = refl
 
-signed_own : (k : ℕ) (own : List ℕ) → own_at (layout.signed k) own ≡ leaf_own (as_value tree.leaf (tree.signed (signed_at k own)))
+signed_own : (k : ℕ) (own : List ℕ) → own_at (layout.signed k) own ≡ leaf_own (as_leaf tree.signed (signed_at k own))
 unfolding own_at layout_at
 signed_own k own = by (nat_lt (length own) k) where
-  by : (c : Bool) → leaf_own (as_value (λ b. tree.leaf (tree.signed (signed_number b))) (cond c (Err (scale.Truncated, [])) (Ok (take k own, drop k own)))) ≡ leaf_own (as_value tree.leaf (tree.signed (cond c (Err (scale.Truncated, [])) (Ok (signed_number (take k own), drop k own)))))
+  by : (c : Bool) → leaf_own (as_leaf (λ b. tree.signed (signed_number b)) (cond c (Err (scale.Truncated, [])) (Ok (take k own, drop k own)))) ≡ leaf_own (as_leaf tree.signed (cond c (Err (scale.Truncated, [])) (Ok (signed_number (take k own), drop k own))))
   by true = refl
   by false = refl
 
 some_bytes : (x : ℕ) (own : List ℕ) → nat_lt (length (x ∷ own)) 1 ≡ false
 some_bytes x own = le-ltb (length (x ∷ own)) 1 (omega arith)
 
-bool_of : (own : List ℕ) (x : ℕ) → leaf_own (reading.bool_at (x ∷ own)) ≡ leaf_own (as_value tree.leaf (tree.bool (scale_read.bool_from (x ∷ own) (Ok (x, own)))))
+bool_of : (own : List ℕ) (x : ℕ) → leaf_own (reading.bool_at (x ∷ own)) ≡ leaf_own (as_leaf tree.bool (scale_read.bool_from (x ∷ own) (Ok (x, own))))
 bool_of own zero = refl
 bool_of own (suc zero) = refl
 bool_of own (suc (suc x)) = rw (ne_eqb (suc (suc x)) 0 (λ e. omega arith), ne_eqb (suc (suc x)) 1 (λ e. omega arith)) refl
@@ -145,33 +145,33 @@ bool_of own (suc (suc x)) = rw (ne_eqb (suc (suc x)) 0 (λ e. omega arith), ne_e
 one_number : (x : ℕ) → x ≡ number (x ∷ [])
 one_number x = omega arith
 
-bool_own : (own : List ℕ) → own_at layout.bool own ≡ leaf_own (as_value tree.leaf (tree.bool (scale_read.bool_at own)))
+bool_own : (own : List ℕ) → own_at layout.bool own ≡ leaf_own (as_leaf tree.bool (scale_read.bool_at own))
 unfolding own_at layout_at
 bool_own [] = refl
-bool_own (x ∷ own) = bool_of own x ∙ ap (λ (n : ℕ). leaf_own (as_value tree.leaf (tree.bool (scale_read.bool_from (x ∷ own) (Ok (n, own)))))) (one_number x) ∙ ap (λ (c : Bool). leaf_own (as_value tree.leaf (tree.bool (scale_read.bool_from (x ∷ own) (cond c (Err (scale.Truncated, [])) (Ok (number (x ∷ []), own))))))) (sym (some_bytes x own))
+bool_own (x ∷ own) = bool_of own x ∙ ap (λ (n : ℕ). leaf_own (as_leaf tree.bool (scale_read.bool_from (x ∷ own) (Ok (n, own))))) (one_number x) ∙ ap (λ (c : Bool). leaf_own (as_leaf tree.bool (scale_read.bool_from (x ∷ own) (cond c (Err (scale.Truncated, [])) (Ok (number (x ∷ []), own)))))) (sym (some_bytes x own))
 
-scalar_own : (at rest : List ℕ) (n : ℕ) → leaf_own (cond (is_scalar n) (Ok (tree.leaf (tree.char n), rest)) (Err (basic scale.BadChar, at))) ≡ leaf_own (as_value tree.leaf (tree.char (cond (is_scalar n) (Ok (n, rest)) (Err (scale.BadChar, at)))))
+scalar_own : (at rest : List ℕ) (n : ℕ) → leaf_own (cond (is_scalar n) (Ok (tree.leaf (tree.char n), rest)) (Err (basic scale.BadChar, at))) ≡ leaf_own (as_leaf tree.char (cond (is_scalar n) (Ok (n, rest)) (Err (scale.BadChar, at))))
 scalar_own at rest n = by (is_scalar n) where
-  by : (c : Bool) → leaf_own (cond c (Ok (tree.leaf (tree.char n), rest)) (Err (basic scale.BadChar, at))) ≡ leaf_own (as_value tree.leaf (tree.char (cond c (Ok (n, rest)) (Err (scale.BadChar, at)))))
+  by : (c : Bool) → leaf_own (cond c (Ok (tree.leaf (tree.char n), rest)) (Err (basic scale.BadChar, at))) ≡ leaf_own (as_leaf tree.char (cond c (Ok (n, rest)) (Err (scale.BadChar, at))))
   by true = refl
   by false = refl
 
-char_own : (own : List ℕ) → own_at layout.char own ≡ leaf_own (as_value tree.leaf (tree.char (scale_read.char_at own)))
+char_own : (own : List ℕ) → own_at layout.char own ≡ leaf_own (as_leaf tree.char (scale_read.char_at own))
 unfolding own_at layout_at
 char_own own = by (nat_lt (length own) 4) where
-  by : (c : Bool) → leaf_own (reading.char_from own (cond c (Err (scale.Truncated, [])) (Ok (take 4 own, drop 4 own)))) ≡ leaf_own (as_value tree.leaf (tree.char (scale_read.scalar_from own (cond c (Err (scale.Truncated, [])) (Ok (number (take 4 own), drop 4 own))))))
+  by : (c : Bool) → leaf_own (reading.char_from own (cond c (Err (scale.Truncated, [])) (Ok (take 4 own, drop 4 own)))) ≡ leaf_own (as_leaf tree.char (scale_read.scalar_from own (cond c (Err (scale.Truncated, [])) (Ok (number (take 4 own), drop 4 own)))))
   by true = refl
   by false = scalar_own own (drop 4 own) (number (take 4 own))
 
-wide_own : (own : List ℕ) → own_at layout.wide own ≡ leaf_own (as_value tree.leaf (tree.wide (bytes_at 32 own)))
+wide_own : (own : List ℕ) → own_at layout.wide own ≡ leaf_own (as_leaf tree.wide (bytes_at 32 own))
 unfolding own_at layout_at
 wide_own own = refl
 
-compact_own : (m : Target) (own : List ℕ) → own_at (layout.compact m) own ≡ leaf_own (as_value tree.leaf (tree.compact (compact_at m own)))
+compact_own : (m : Target) (own : List ℕ) → own_at (layout.compact m) own ≡ leaf_own (as_leaf tree.compact (compact_at m own))
 unfolding own_at layout_at
 compact_own m own = refl
 
-pub count_own : (own : List ℕ) → own_at layout.counted own ≡ leaf_own (as_value tree.leaf (tree.count (compact_at target.U32 own)))
+pub count_own : (own : List ℕ) → own_at layout.counted own ≡ leaf_own (as_leaf tree.count (compact_at target.U32 own))
 unfolding own_at layout_at
 count_own own = refl
 
@@ -181,29 +181,29 @@ some_bytes_read : {X : Type 0} (taken : ℕ) (own : List ℕ) (read : Read Reaso
 some_bytes_read taken own read x h = (drop taken own, h.1)
 
 pub bool_read : (b : Built) (own : List ℕ) (x : Bool) (taken : ℕ) → next_of b.walk ≡ next.Wants (form.Primitive P.Bool) → (taken ≤ length own) × (scale_read.bool_at own ≡ Ok (x, drop taken own)) → (rest : List ℕ) × (own_at (next_layout b) own ≡ Ok ((head.leaf (tree.bool x), None), rest))
-bool_read b own x taken h k = rw (primitive_next b P.Bool h) (read_as tree.leaf (tree.bool layout.bool) own (scale_read.bool_at own) x (bool_own own) (some_bytes_read taken own (scale_read.bool_at own) x k))
+bool_read b own x taken h k = rw (primitive_next b P.Bool h) (read_as tree.bool layout.bool own (scale_read.bool_at own) x (bool_own own) (some_bytes_read taken own (scale_read.bool_at own) x k))
 
 pub bool_refused : (b : Built) (own : List ℕ) (e : Reason) (at : ℕ) → next_of b.walk ≡ next.Wants (form.Primitive P.Bool) → (left : List ℕ) × (scale_read.bool_at own ≡ Err (e, left)) × (at ≡ place own left) → (left : List ℕ) × (own_at (next_layout b) own ≡ Err (basic e, left)) × (at ≡ place own left)
-bool_refused b own e at h k = rw (primitive_next b P.Bool h) (refused_as tree.leaf (tree.bool layout.bool) own (scale_read.bool_at own) e at (bool_own own) k)
+bool_refused b own e at h k = rw (primitive_next b P.Bool h) (refused_as tree.bool layout.bool own (scale_read.bool_at own) e at (bool_own own) k)
 
 pub char_read : (b : Built) (own : List ℕ) (x taken : ℕ) → next_of b.walk ≡ next.Wants (form.Primitive P.Char) → (taken ≤ length own) × (scale_read.char_at own ≡ Ok (x, drop taken own)) → (rest : List ℕ) × (own_at (next_layout b) own ≡ Ok ((head.leaf (tree.char x), None), rest))
-char_read b own x taken h k = rw (primitive_next b P.Char h) (read_as tree.leaf (tree.char layout.char) own (scale_read.char_at own) x (char_own own) (some_bytes_read taken own (scale_read.char_at own) x k))
+char_read b own x taken h k = rw (primitive_next b P.Char h) (read_as tree.char layout.char own (scale_read.char_at own) x (char_own own) (some_bytes_read taken own (scale_read.char_at own) x k))
 
 pub char_refused : (b : Built) (own : List ℕ) (e : Reason) (at : ℕ) → next_of b.walk ≡ next.Wants (form.Primitive P.Char) → (left : List ℕ) × (scale_read.char_at own ≡ Err (e, left)) × (at ≡ place own left) → (left : List ℕ) × (own_at (next_layout b) own ≡ Err (basic e, left)) × (at ≡ place own left)
-char_refused b own e at h k = rw (primitive_next b P.Char h) (refused_as tree.leaf (tree.char layout.char) own (scale_read.char_at own) e at (char_own own) k)
+char_refused b own e at h k = rw (primitive_next b P.Char h) (refused_as tree.char layout.char own (scale_read.char_at own) e at (char_own own) k)
 
 wide_of : (lay : Layout) (own x : List ℕ) → lay ≡ layout.wide → ((rest : List ℕ) × (bytes_at 32 own ≡ Ok (x, rest))) → (rest : List ℕ) × (own_at lay own ≡ Ok ((head.leaf (tree.wide x), None), rest))
-wide_of lay own x e h = rw e (read_as tree.leaf (tree.wide layout.wide) own (bytes_at 32 own) x (wide_own own) h)
+wide_of lay own x e h = rw e (read_as tree.wide layout.wide own (bytes_at 32 own) x (wide_own own) h)
 
 no_some : false ≡ true → ⊥
 no_some e = absurd cc
 
 unsigned_of : (p : Primitive) (own : List ℕ) (n : ℕ) → IsSome (unsigned_bytes p) → ReadsBytes number_at own (Ok n) (unsigned_bytes p) → (rest : List ℕ) × (own_at (primitive_layout p) own ≡ Ok ((head.leaf (tree.unsigned n), None), rest))
-unsigned_of P.U8 own n s h = read_as tree.leaf (tree.unsigned (layout.unsigned 1)) own (number_at 1 own) n (number_own 1 own) h
-unsigned_of P.U16 own n s h = read_as tree.leaf (tree.unsigned (layout.unsigned 2)) own (number_at 2 own) n (number_own 2 own) h
-unsigned_of P.U32 own n s h = read_as tree.leaf (tree.unsigned (layout.unsigned 4)) own (number_at 4 own) n (number_own 4 own) h
-unsigned_of P.U64 own n s h = read_as tree.leaf (tree.unsigned (layout.unsigned 8)) own (number_at 8 own) n (number_own 8 own) h
-unsigned_of P.U128 own n s h = read_as tree.leaf (tree.unsigned (layout.unsigned 16)) own (number_at 16 own) n (number_own 16 own) h
+unsigned_of P.U8 own n s h = read_as tree.unsigned (layout.unsigned 1) own (number_at 1 own) n (number_own 1 own) h
+unsigned_of P.U16 own n s h = read_as tree.unsigned (layout.unsigned 2) own (number_at 2 own) n (number_own 2 own) h
+unsigned_of P.U32 own n s h = read_as tree.unsigned (layout.unsigned 4) own (number_at 4 own) n (number_own 4 own) h
+unsigned_of P.U64 own n s h = read_as tree.unsigned (layout.unsigned 8) own (number_at 8 own) n (number_own 8 own) h
+unsigned_of P.U128 own n s h = read_as tree.unsigned (layout.unsigned 16) own (number_at 16 own) n (number_own 16 own) h
 unsigned_of P.Bool own n s h = absurd (no_some s)
 unsigned_of P.Char own n s h = absurd (no_some s)
 unsigned_of P.Str own n s h = absurd (no_some s)
@@ -216,11 +216,11 @@ unsigned_of P.I128 own n s h = absurd (no_some s)
 unsigned_of P.I256 own n s h = absurd (no_some s)
 
 signed_of : (p : Primitive) (own : List ℕ) (z : ℤ) → IsSome (signed_bytes p) → ReadsBytes signed_at own (Ok z) (signed_bytes p) → (rest : List ℕ) × (own_at (primitive_layout p) own ≡ Ok ((head.leaf (tree.signed z), None), rest))
-signed_of P.I8 own z s h = read_as tree.leaf (tree.signed (layout.signed 1)) own (signed_at 1 own) z (signed_own 1 own) h
-signed_of P.I16 own z s h = read_as tree.leaf (tree.signed (layout.signed 2)) own (signed_at 2 own) z (signed_own 2 own) h
-signed_of P.I32 own z s h = read_as tree.leaf (tree.signed (layout.signed 4)) own (signed_at 4 own) z (signed_own 4 own) h
-signed_of P.I64 own z s h = read_as tree.leaf (tree.signed (layout.signed 8)) own (signed_at 8 own) z (signed_own 8 own) h
-signed_of P.I128 own z s h = read_as tree.leaf (tree.signed (layout.signed 16)) own (signed_at 16 own) z (signed_own 16 own) h
+signed_of P.I8 own z s h = read_as tree.signed (layout.signed 1) own (signed_at 1 own) z (signed_own 1 own) h
+signed_of P.I16 own z s h = read_as tree.signed (layout.signed 2) own (signed_at 2 own) z (signed_own 2 own) h
+signed_of P.I32 own z s h = read_as tree.signed (layout.signed 4) own (signed_at 4 own) z (signed_own 4 own) h
+signed_of P.I64 own z s h = read_as tree.signed (layout.signed 8) own (signed_at 8 own) z (signed_own 8 own) h
+signed_of P.I128 own z s h = read_as tree.signed (layout.signed 16) own (signed_at 16 own) z (signed_own 16 own) h
 signed_of P.Bool own z s h = absurd (no_some s)
 signed_of P.Char own z s h = absurd (no_some s)
 signed_of P.Str own z s h = absurd (no_some s)
@@ -242,7 +242,7 @@ pub wide_read : (b : Built) (p : Primitive) (own x : List ℕ) (taken : ℕ) →
 wide_read b p own x taken h e k = wide_of (next_layout b) own x (primitive_next b p h ∙ e) (some_bytes_read taken own (bytes_at 32 own) x k)
 
 pub compact_read : (b : Built) (m : Target) (own : List ℕ) (n taken : ℕ) → next_of b.walk ≡ next.Wants (form.Compact m) → (taken ≤ length own) × (compact_at m own ≡ Ok (n, drop taken own)) → (rest : List ℕ) × (own_at (next_layout b) own ≡ Ok ((head.leaf (tree.compact n), None), rest))
-compact_read b m own n taken h k = rw (next_has b (form.Compact m) h) (read_as tree.leaf (tree.compact (layout.compact m)) own (compact_at m own) n (compact_own m own) (some_bytes_read taken own (compact_at m own) n k))
+compact_read b m own n taken h k = rw (next_has b (form.Compact m) h) (read_as tree.compact (layout.compact m) own (compact_at m own) n (compact_own m own) (some_bytes_read taken own (compact_at m own) n k))
 
 pub compact_refused : (b : Built) (m : Target) (own : List ℕ) (e : Reason) (at : ℕ) → next_of b.walk ≡ next.Wants (form.Compact m) → (left : List ℕ) × (compact_at m own ≡ Err (e, left)) × (at ≡ place own left) → (left : List ℕ) × (own_at (next_layout b) own ≡ Err (basic e, left)) × (at ≡ place own left)
-compact_refused b m own e at h k = rw (next_has b (form.Compact m) h) (refused_as tree.leaf (tree.compact (layout.compact m)) own (compact_at m own) e at (compact_own m own) k)
+compact_refused b m own e at h k = rw (next_has b (form.Compact m) h) (refused_as tree.compact (layout.compact m) own (compact_at m own) e at (compact_own m own) k)

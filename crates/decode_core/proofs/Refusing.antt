@@ -17,7 +17,7 @@ use Rattle.widths_core.specs.Layouts as layout
 use Rattle.grammar_core.specs.Tree as tree
 use Rattle.value_core.specs.Built.{Built, next_layout}
 use Rattle.grammar_core.specs.Parts.{first_of, left_after}
-use Rattle.grammar_core.specs.Reading.{Refusal, truncated, too_deep, as_value, layout_at}
+use Rattle.grammar_core.specs.Reading.{Refusal, truncated, too_deep, as_leaf, layout_at}
 use Rattle.value_core.specs.Walked.{OpenPart, next_of}
 use Rattle.grammar_core.specs.declared.form.Form.{Form}
 use Rattle.grammar_core.specs.declared.form.Form.TheVariants as form
@@ -70,7 +70,7 @@ below : (k : ℕ) (b : List ℕ) → 1 ≤ k → IsShortOf (λ first. k) b → l
 below k [] some h = omega (arith, some)
 below k (first ∷ rest) some h = h
 
-number_short : (make : List ℕ → tree.Tree) (k : ℕ) (b : List ℕ) → 1 ≤ k → IsShortOf (λ first. k) b → leaf_own (as_value make (bytes_at k b)) ≡ Err (truncated, [])
+number_short : (make : List ℕ → tree.Leaf) (k : ℕ) (b : List ℕ) → 1 ≤ k → IsShortOf (λ first. k) b → leaf_own (as_leaf make (bytes_at k b)) ≡ Err (truncated, [])
 number_short make k b some h = rw (bytes_short k b (below k b some h)) refl
 
 bool_short : (b : List ℕ) → IsShortOf (λ first. 1) b → own_at layout.bool b ≡ Err (truncated, [])
@@ -91,18 +91,18 @@ unfolding own_at layout_at
 primitive_short P.Bool b h = bool_short b h
 primitive_short P.Char b h = char_short b h
 primitive_short P.Str b h = text_short b h
-primitive_short P.U8 b h = number_short (λ c. tree.leaf (tree.unsigned (number c))) 1 b (omega arith) h
-primitive_short P.U16 b h = number_short (λ c. tree.leaf (tree.unsigned (number c))) 2 b (omega arith) h
-primitive_short P.U32 b h = number_short (λ c. tree.leaf (tree.unsigned (number c))) 4 b (omega arith) h
-primitive_short P.U64 b h = number_short (λ c. tree.leaf (tree.unsigned (number c))) 8 b (omega arith) h
-primitive_short P.U128 b h = number_short (λ c. tree.leaf (tree.unsigned (number c))) 16 b (omega arith) h
-primitive_short P.U256 b h = number_short tree.leaf (tree.wide 32) b (omega arith) h
-primitive_short P.I8 b h = number_short (λ c. tree.leaf (tree.signed (signed_number c))) 1 b (omega arith) h
-primitive_short P.I16 b h = number_short (λ c. tree.leaf (tree.signed (signed_number c))) 2 b (omega arith) h
-primitive_short P.I32 b h = number_short (λ c. tree.leaf (tree.signed (signed_number c))) 4 b (omega arith) h
-primitive_short P.I64 b h = number_short (λ c. tree.leaf (tree.signed (signed_number c))) 8 b (omega arith) h
-primitive_short P.I128 b h = number_short (λ c. tree.leaf (tree.signed (signed_number c))) 16 b (omega arith) h
-primitive_short P.I256 b h = number_short tree.leaf (tree.wide 32) b (omega arith) h
+primitive_short P.U8 b h = number_short (λ c. tree.unsigned (number c)) 1 b (omega arith) h
+primitive_short P.U16 b h = number_short (λ c. tree.unsigned (number c)) 2 b (omega arith) h
+primitive_short P.U32 b h = number_short (λ c. tree.unsigned (number c)) 4 b (omega arith) h
+primitive_short P.U64 b h = number_short (λ c. tree.unsigned (number c)) 8 b (omega arith) h
+primitive_short P.U128 b h = number_short (λ c. tree.unsigned (number c)) 16 b (omega arith) h
+primitive_short P.U256 b h = number_short tree.wide 32 b (omega arith) h
+primitive_short P.I8 b h = number_short (λ c. tree.signed (signed_number c)) 1 b (omega arith) h
+primitive_short P.I16 b h = number_short (λ c. tree.signed (signed_number c)) 2 b (omega arith) h
+primitive_short P.I32 b h = number_short (λ c. tree.signed (signed_number c)) 4 b (omega arith) h
+primitive_short P.I64 b h = number_short (λ c. tree.signed (signed_number c)) 8 b (omega arith) h
+primitive_short P.I128 b h = number_short (λ c. tree.signed (signed_number c)) 16 b (omega arith) h
+primitive_short P.I256 b h = number_short tree.wide 32 b (omega arith) h
 
 arms_short : (lay : Layout) (h : HasForm form.Arm lay) (b : List ℕ) → IsShortOf (λ first. 1) b → own_at lay b ≡ Err (truncated, [])
 unfolding own_at

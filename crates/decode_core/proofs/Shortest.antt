@@ -21,9 +21,9 @@ use Rattle.widths_core.specs.Arms.{arm_of}
 use Rattle.widths_core.specs.Classes.{is_finite}
 use Rattle.widths_core.specs.Layouts.{Layout, layout}
 use Rattle.widths_core.specs.Layouts as layout
-use Rattle.grammar_core.specs.Tree.{Tree, leaf, branch, char, text, unsigned, signed, wide, compact as compact_value, fields, arm, list, count, Trees, and, levels}
+use Rattle.grammar_core.specs.Tree.{Leaf, Branch, Tree, leaf, branch, char, text, unsigned, signed, wide, compact as compact_value, fields, arm, list, count, Trees, and, levels}
 use Rattle.grammar_core.specs.Grammar.{Val}
-use Rattle.grammar_core.specs.Reading.{value_at, layout_at, bool_at, char_from, all_at, times_at, arm_at, arms_at, elements_at, as_value, with_children, Refusal, basic, no_such_variant, too_deep, no_finite_value, bit_sequence, bad_compact, truncated}
+use Rattle.grammar_core.specs.Reading.{value_at, layout_at, bool_at, char_from, all_at, times_at, arm_at, arms_at, elements_at, as_leaf, with_children, Refusal, basic, no_such_variant, too_deep, no_finite_value, bit_sequence, bad_compact, truncated}
 use Rattle.grammar_core.proofs.Sound.{value_takes}
 use Rattle.grammar_core.proofs.Complete.{value_again}
 use Rattle.grammar_core.proofs.Stable.{value_extends}
@@ -195,19 +195,19 @@ value_steady r room t = record {
   exact = λ b. mapped (λ v c. Val r t v c × (levels v ≤ room)) _ b (value_at r room t b) (value_takes r room t b) (λ v c is more. value_again r room t v c more is.0 is.1);
 }
 
-pub as_value_finish : {X : Type 0} (make : X → Tree) (r : Read Reason X) → as_value make r ≡ finish basic make r
-as_value_finish make (Ok x) = refl
-as_value_finish make (Err e) = refl
+pub as_leaf_finish : {X : Type 0} (make : X → Leaf) (r : Read Reason X) → as_leaf make r ≡ finish basic (λ x. leaf (make x)) r
+as_leaf_finish make (Ok x) = refl
+as_leaf_finish make (Err e) = refl
 
-pub with_children_finish : (make : Trees → Tree) (r : Read Refusal Trees) → with_children make r ≡ finish (λ e. e) make r
-with_children_finish make (Ok x) = refl
-with_children_finish make (Err e) = refl
+pub with_children_finish : (k : Branch) (r : Read Refusal Trees) → with_children k r ≡ finish (λ e. e) (branch k) r
+with_children_finish k (Ok x) = refl
+with_children_finish k (Err e) = refl
 
 pub and_finish : (v : Tree) (r : Read Refusal Trees) → (r >>= λ others. Ok (and v others.0, others.1)) ≡ finish (λ e. e) (and v) r
 and_finish v (Ok x) = refl
 and_finish v (Err e) = refl
 
-pub elements_chain : (child : ℕ → List ℕ → Read Refusal Tree) (t : ℕ) (r : Read Reason ℕ) → elements_at child t r ≡ chain basic (λ n b. with_children branch list (times_at child n t b)) r
+pub elements_chain : (child : ℕ → List ℕ → Read Refusal Tree) (t : ℕ) (r : Read Reason ℕ) → elements_at child t r ≡ chain basic (λ n b. with_children list (times_at child n t b)) r
 elements_chain child t (Ok x) = refl
 elements_chain child t (Err e) = refl
 
@@ -241,9 +241,9 @@ times_decided r room h (suc n) t b = let child = value_at r room in
 arm_decided : (r : List TypeInfo) (room : ℕ) → ChildDecided r room → (arms : List Arm) (i : ℕ) (b : List ℕ) (found : Option (ℕ × Arm)) → arm_of arms i ≡ found → Decided truncated (arms_at (value_at r room) arms) (i ∷ b) (suc (arm_taken (value_at r room) (value_taken r room) found b)) (arm_at (value_at r room) (i ∷ b) found b)
 arm_decided r room h arms i b None e = λ ne. record { there = omega arith; front = (i ∷ [], rw e refl); early = below_one (i ∷ b) (λ d. (left : List ℕ) × (arms_at (value_at r room) arms d ≡ Err (truncated, left))) ([], refl) }
 arm_decided r room h arms i b (Some a) e = let child = value_at r room in let ts = field_types a.1.fields in
-    let inner = finish_decided truncated (λ x. x) (branch (arm a.0)) (λ c. with_children (branch (arm a.0)) (all_at child ts c)) (all_at child ts) (λ c. with_children_finish (branch (arm a.0)) (all_at child ts c)) b (all_taken child (value_taken r room) ts b) (all_decided r room h ts b) in
-    let is : (c : List ℕ) → arms_at child arms (i ∷ c) ≡ with_children (branch (arm a.0)) (all_at child ts c) = λ c. rw e refl in
-    rw is at (cons_decided truncated (arms_at child arms) (λ c. with_children (branch (arm a.0)) (all_at child ts c)) i is [] refl b (all_taken child (value_taken r room) ts b) inner)
+    let inner = finish_decided truncated (λ x. x) (branch (arm a.0)) (λ c. with_children (arm a.0) (all_at child ts c)) (all_at child ts) (λ c. with_children_finish (arm a.0) (all_at child ts c)) b (all_taken child (value_taken r room) ts b) (all_decided r room h ts b) in
+    let is : (c : List ℕ) → arms_at child arms (i ∷ c) ≡ with_children (arm a.0) (all_at child ts c) = λ c. rw e refl in
+    rw is at (cons_decided truncated (arms_at child arms) (λ c. with_children (arm a.0) (all_at child ts c)) i is [] refl b (all_taken child (value_taken r room) ts b) inner)
 
 arms_decided : (r : List TypeInfo) (room : ℕ) → ChildDecided r room → (arms : List Arm) (b : List ℕ) → Decided truncated (arms_at (value_at r room) arms) b (arms_taken (value_at r room) (value_taken r room) arms b) (arms_at (value_at r room) arms b)
 arms_decided r room h arms [] = λ ne. absurd (ne refl)
@@ -257,19 +257,19 @@ layout_decided r room h layout.bad_compact b = met_decided _ b bad_compact b ref
 layout_decided r room h layout.empty b = tt
 layout_decided r room h layout.bool b = bool_decided b
 layout_decided r room h layout.char b = char_decided b
-layout_decided r room h layout.text b = finish_decided reasons.Truncated basic leaf (text _) text_at (λ c. as_value_finish leaf (text (text_at c))) b (text_taken b) (text_decided b)
-layout_decided r room h (layout.unsigned k) b = finish_decided reasons.Truncated basic (λ b. leaf (unsigned (number b))) _ (bytes_at k) (λ c. as_value_finish (λ b. leaf (unsigned (number b))) (bytes_at k c)) b 0 (bytes_decided _ b)
-layout_decided r room h (layout.signed k) b = finish_decided reasons.Truncated basic (λ b. leaf (signed (signed_number b))) _ (bytes_at k) (λ c. as_value_finish (λ b. leaf (signed (signed_number b))) (bytes_at k c)) b 0 (bytes_decided _ b)
-layout_decided r room h layout.wide b = finish_decided reasons.Truncated basic leaf (wide _) (bytes_at 32) (λ c. as_value_finish leaf (wide (bytes_at 32 c))) b 0 (bytes_decided _ b)
-layout_decided r room h layout.counted b = finish_decided reasons.Truncated basic leaf (count _) (compact_at target.U32) (λ c. as_value_finish leaf (count (compact_at target.U32 c))) b (compact_taken target.U32 b) (compact_decided target.U32 b)
-layout_decided r room h (layout.compact m) b = finish_decided reasons.Truncated basic compact_value _ (compact_at m) (λ c. as_value_finish compact_value (compact_at m c)) b (compact_taken m b) (compact_decided m b)
-layout_decided r room h (layout.fields ts) b = finish_decided truncated (λ e. e) branch fields _ (all_at (value_at r room) ts) (λ c. with_children_finish branch fields (all_at (value_at r room) ts c)) b (all_taken (value_at r room) (value_taken r room) ts b) (all_decided r room h ts b)
+layout_decided r room h layout.text b = finish_decided reasons.Truncated basic (λ x. leaf (text x)) _ text_at (λ c. as_leaf_finish text (text_at c)) b (text_taken b) (text_decided b)
+layout_decided r room h (layout.unsigned k) b = finish_decided reasons.Truncated basic (λ b. leaf (unsigned (number b))) _ (bytes_at k) (λ c. as_leaf_finish (λ b. unsigned (number b)) (bytes_at k c)) b 0 (bytes_decided _ b)
+layout_decided r room h (layout.signed k) b = finish_decided reasons.Truncated basic (λ b. leaf (signed (signed_number b))) _ (bytes_at k) (λ c. as_leaf_finish (λ b. signed (signed_number b)) (bytes_at k c)) b 0 (bytes_decided _ b)
+layout_decided r room h layout.wide b = finish_decided reasons.Truncated basic (λ x. leaf (wide x)) _ (bytes_at 32) (λ c. as_leaf_finish wide (bytes_at 32 c)) b 0 (bytes_decided _ b)
+layout_decided r room h layout.counted b = finish_decided reasons.Truncated basic (λ x. leaf (count x)) _ (compact_at target.U32) (λ c. as_leaf_finish count (compact_at target.U32 c)) b (compact_taken target.U32 b) (compact_decided target.U32 b)
+layout_decided r room h (layout.compact m) b = finish_decided reasons.Truncated basic (λ x. leaf (compact_value x)) _ (compact_at m) (λ c. as_leaf_finish compact_value (compact_at m c)) b (compact_taken m b) (compact_decided m b)
+layout_decided r room h (layout.fields ts) b = finish_decided truncated (λ e. e) (branch fields) _ (all_at (value_at r room) ts) (λ c. with_children_finish fields (all_at (value_at r room) ts c)) b (all_taken (value_at r room) (value_taken r room) ts b) (all_decided r room h ts b)
 layout_decided r room h (layout.arms arms) b = arms_decided r room h arms b
-layout_decided r room h (layout.array n t) b = finish_decided truncated (λ e. e) branch list _ (times_at (value_at r room) n t) (λ c. with_children_finish branch list (times_at (value_at r room) n t c)) b (times_taken (value_at r room) (value_taken r room) n t b) (times_decided r room h n t b)
+layout_decided r room h (layout.array n t) b = finish_decided truncated (λ e. e) (branch list) _ (times_at (value_at r room) n t) (λ c. with_children_finish list (times_at (value_at r room) n t c)) b (times_taken (value_at r room) (value_taken r room) n t b) (times_decided r room h n t b)
 layout_decided r room h (layout.sequence t) b = let child = value_at r room in
-    chain_decided reasons.Truncated basic (λ c. elements_at child t (compact_at target.U32 c)) (compact_at target.U32) (λ n c. with_children branch list (times_at child n t c)) (λ n. times_taken child (value_taken r room) n.0 t n.1)
+    chain_decided reasons.Truncated basic (λ c. elements_at child t (compact_at target.U32 c)) (compact_at target.U32) (λ n c. with_children list (times_at child n t c)) (λ n. times_taken child (value_taken r room) n.0 t n.1)
     (λ c. elements_chain child t (compact_at target.U32 c)) (compact_steady target.U32) b (compact_taken target.U32 b) (compact_decided target.U32 b)
-    (λ n. finish_decided truncated (λ e. e) branch list _ (times_at child n.0 t) (λ c. with_children_finish branch list (times_at child n.0 t c)) n.1 (times_taken child (value_taken r room) n.0 t n.1) (times_decided r room h n.0 t n.1))
+    (λ n. finish_decided truncated (λ e. e) (branch list) _ (times_at child n.0 t) (λ c. with_children_finish list (times_at child n.0 t c)) n.1 (times_taken child (value_taken r room) n.0 t n.1) (times_decided r room h n.0 t n.1))
 
 pub value_decided : (r : List TypeInfo) (room t : ℕ) (b : List ℕ) → Decided truncated (value_at r room t) b (value_taken r room t b) (value_at r room t b)
 unfolding value_at value_taken

@@ -12,10 +12,10 @@ use Rattle.graph_core.specs.Types.{field_types}
 use Rattle.widths_core.specs.Arms.{arm_of}
 use Rattle.widths_core.specs.Layouts.{Layout}
 use Rattle.widths_core.specs.Layouts as layout
-use Rattle.grammar_core.specs.Tree.{Tree, Trees, none, and, how_many}
+use Rattle.grammar_core.specs.Tree.{Leaf, Branch, Tree, Trees, none, and, how_many}
 use Rattle.grammar_core.specs.Tree as tree
 use Rattle.grammar_core.specs.Preorder.{Head, head_of, preorder, all_preorder}
-use Rattle.grammar_core.specs.Reading.{as_value, basic, bool_at, char_from, value_at, layout_at, all_at, times_at, arm_at, arms_at, elements_at, with_children, Refusal}
+use Rattle.grammar_core.specs.Reading.{as_leaf, basic, bool_at, char_from, value_at, layout_at, all_at, times_at, arm_at, arms_at, elements_at, with_children, Refusal}
 use Rattle.decode_core.specs.Met.{met_layout}
 use Rattle.decode_core.proofs.Mets.{value_met}
 use Rattle.value_core.specs.Built.{Entry}
@@ -68,14 +68,14 @@ times_agree : (child : ℕ → List ℕ → Read Refusal Tree) (one : ℕ → Li
 times_agree child one h zero t b = (refl, refl, refl)
 times_agree child one h (suc n) t b = and_agrees (λ k. k ≡ n) (λ k. k ≡ suc n) (child t b) (one t b) (h t b) (times_at child n t) (times_told one n t) (times_agree child one h n t) (λ k e. ap (λ (k : ℕ). suc k) e)
 
-with_agrees : (P : ℕ → Type 0) (make : Trees → Tree) (t : ℕ) (h : Head) (read : Read Refusal Trees) (y : Told) → AllAgree P read y → ((vs : Trees) → P (how_many vs) → preorder (make vs) ≡ h ∷ all_preorder vs) → Agrees (with_children make read) (after (entry t h ∷ []) y)
-with_agrees P make t h (Err e) (told xs end) k f = k
-with_agrees P make t h (Ok x) (told xs end) k f = (ap (λ (ns : List Head). h ∷ ns) k.0 ∙ sym (f x.0 k.2), k.1)
+with_agrees : (P : ℕ → Type 0) (b : Branch) (t : ℕ) (h : Head) (read : Read Refusal Trees) (y : Told) → AllAgree P read y → ((vs : Trees) → P (how_many vs) → preorder (tree.branch b vs) ≡ h ∷ all_preorder vs) → Agrees (with_children b read) (after (entry t h ∷ []) y)
+with_agrees P b t h (Err e) (told xs end) k f = k
+with_agrees P b t h (Ok x) (told xs end) k f = (ap (λ (ns : List Head). h ∷ ns) k.0 ∙ sym (f x.0 k.2), k.1)
 
 -- a value without children is its one node
 abbrev pub IsLeafTree : Tree → Type 0
+IsLeafTree (tree.leaf l) = Unit {0}
 IsLeafTree (tree.branch k vs) = ⊥
-IsLeafTree _ = Unit {0}
 
 abbrev pub IsLeafRead : Read Refusal Tree → Type 0
 IsLeafRead (Ok x) = IsLeafTree x.0
@@ -85,9 +85,9 @@ leaf_lone : (v : Tree) → IsLeafTree v → head_of v ∷ [] ≡ preorder v
 leaf_lone (tree.branch k vs) h = absurd h
 leaf_lone (tree.leaf l) h = refl
 
-pub value_leaf : {X : Type 0} (make : X → Tree) → ((x : X) → IsLeafTree (make x)) → (read : Read Reason X) → IsLeafRead (as_value make read)
-value_leaf make h (Ok x) = h x.0
-value_leaf make h (Err e) = tt
+pub value_leaf : {X : Type 0} (make : X → Leaf) → (read : Read Reason X) → IsLeafRead (as_leaf make read)
+value_leaf make (Ok x) = tt
+value_leaf make (Err e) = tt
 
 pub bool_leaf : (b : List ℕ) → IsLeafRead (bool_at b)
 bool_leaf [] = tt
@@ -109,7 +109,7 @@ leaf_agrees one t b (Err e) h = (b, refl)
 
 arm_agrees : (child : ℕ → List ℕ → Read Refusal Tree) (one : ℕ → List ℕ → Told) → ChildAgrees child one → (t : ℕ) (at b : List ℕ) (found : Option (ℕ × Arm)) → Agrees (arm_at child at found b) (own_told one t at (arm_own at found b))
 arm_agrees child one h t at b None = (at, refl)
-arm_agrees child one h t at b (Some a) = with_agrees (λ n. n ≡ length (field_types a.1.fields)) (tree.branch (tree.arm a.0)) t (head.branch (tree.arm a.0) (length (field_types a.1.fields))) _ _ (all_agree child one h (field_types a.1.fields) b) (λ vs e. rw e refl)
+arm_agrees child one h t at b (Some a) = with_agrees (λ n. n ≡ length (field_types a.1.fields)) (tree.arm a.0) t (head.branch (tree.arm a.0) (length (field_types a.1.fields))) _ _ (all_agree child one h (field_types a.1.fields) b) (λ vs e. rw e refl)
 
 arms_agree : (child : ℕ → List ℕ → Read Refusal Tree) (one : ℕ → List ℕ → Told) → ChildAgrees child one → (t : ℕ) (arms : List Arm) (b : List ℕ) → Agrees (arms_at child arms b) (own_told one t b (arms_own arms b))
 arms_agree child one h t arms [] = ([], refl)
@@ -117,26 +117,26 @@ arms_agree child one h t arms (i ∷ b) = arm_agrees child one h t (i ∷ b) b (
 
 elements_agree : (child : ℕ → List ℕ → Read Refusal Tree) (one : ℕ → List ℕ → Told) → ChildAgrees child one → (t u : ℕ) (b : List ℕ) (read : Read Reason ℕ) → Agrees (elements_at child u read) (own_told one t b (length_own u read))
 elements_agree child one h t u b (Err e) = (b, refl)
-elements_agree child one h t u b (Ok n) = with_agrees (λ k. k ≡ n.0) tree.branch tree.list t (head.branch tree.list n.0) _ _ (times_agree child one h n.0 u n.1) (λ vs e. rw e refl)
+elements_agree child one h t u b (Ok n) = with_agrees (λ k. k ≡ n.0) tree.list t (head.branch tree.list n.0) _ _ (times_agree child one h n.0 u n.1) (λ vs e. rw e refl)
 
 layout_agrees : (child : ℕ → List ℕ → Read Refusal Tree) (one : ℕ → List ℕ → Told) → ChildAgrees child one → (t : ℕ) (f : Layout) (b : List ℕ) → Agrees (layout_at child f b) (own_told one t b (own_at f b))
 unfolding layout_at own_at
-layout_agrees child one h t (layout.fields ts) b = with_agrees (λ n. n ≡ length ts) tree.branch tree.fields t (head.branch tree.fields (length ts)) _ _ (all_agree child one h ts b) (λ vs e. rw e refl)
+layout_agrees child one h t (layout.fields ts) b = with_agrees (λ n. n ≡ length ts) tree.fields t (head.branch tree.fields (length ts)) _ _ (all_agree child one h ts b) (λ vs e. rw e refl)
 layout_agrees child one h t (layout.arms arms) b = arms_agree child one h t arms b
 layout_agrees child one h t (layout.sequence u) b = elements_agree child one h t u b (compact_at target.U32 b)
-layout_agrees child one h t (layout.array n u) b = with_agrees (λ k. k ≡ n) tree.branch tree.list t (head.branch tree.list n) _ _ (times_agree child one h n u b) (λ vs e. rw e refl)
+layout_agrees child one h t (layout.array n u) b = with_agrees (λ k. k ≡ n) tree.list t (head.branch tree.list n) _ _ (times_agree child one h n u b) (λ vs e. rw e refl)
 layout_agrees child one h t layout.unknown b = leaf_agrees one t b (layout_at child layout.unknown b) tt
 layout_agrees child one h t layout.bit_sequence b = leaf_agrees one t b (layout_at child layout.bit_sequence b) tt
 layout_agrees child one h t layout.bad_compact b = leaf_agrees one t b (layout_at child layout.bad_compact b) tt
 layout_agrees child one h t layout.empty b = leaf_agrees one t b (layout_at child layout.empty b) tt
 layout_agrees child one h t layout.bool b = leaf_agrees one t b (layout_at child layout.bool b) (bool_leaf b)
 layout_agrees child one h t layout.char b = leaf_agrees one t b (layout_at child layout.char b) (char_leaf b (bytes_at 4 b))
-layout_agrees child one h t layout.text b = leaf_agrees one t b (layout_at child layout.text b) (value_leaf tree.leaf (tree.text (λ x. tt)) (text_at b))
-layout_agrees child one h t (layout.unsigned k) b = leaf_agrees one t b (layout_at child (layout.unsigned k) b) (value_leaf (λ c. tree.leaf (tree.unsigned (number c))) (λ x. tt) (bytes_at k b))
-layout_agrees child one h t (layout.signed k) b = leaf_agrees one t b (layout_at child (layout.signed k) b) (value_leaf (λ c. tree.leaf (tree.signed (signed_number c))) (λ x. tt) (bytes_at k b))
-layout_agrees child one h t layout.wide b = leaf_agrees one t b (layout_at child layout.wide b) (value_leaf tree.leaf (tree.wide (λ x. tt)) (bytes_at 32 b))
-layout_agrees child one h t layout.counted b = leaf_agrees one t b (layout_at child layout.counted b) (value_leaf tree.leaf (tree.count (λ x. tt)) (compact_at target.U32 b))
-layout_agrees child one h t (layout.compact m) b = leaf_agrees one t b (layout_at child (layout.compact m) b) (value_leaf tree.leaf (tree.compact (λ x. tt)) (compact_at m b))
+layout_agrees child one h t layout.text b = leaf_agrees one t b (layout_at child layout.text b) (value_leaf tree.text (text_at b))
+layout_agrees child one h t (layout.unsigned k) b = leaf_agrees one t b (layout_at child (layout.unsigned k) b) (value_leaf (λ c. tree.unsigned (number c)) (bytes_at k b))
+layout_agrees child one h t (layout.signed k) b = leaf_agrees one t b (layout_at child (layout.signed k) b) (value_leaf (λ c. tree.signed (signed_number c)) (bytes_at k b))
+layout_agrees child one h t layout.wide b = leaf_agrees one t b (layout_at child layout.wide b) (value_leaf tree.wide (bytes_at 32 b))
+layout_agrees child one h t layout.counted b = leaf_agrees one t b (layout_at child layout.counted b) (value_leaf tree.count (compact_at target.U32 b))
+layout_agrees child one h t (layout.compact m) b = leaf_agrees one t b (layout_at child (layout.compact m) b) (value_leaf tree.compact (compact_at m b))
 
 room_agrees : (r : List TypeInfo) (room t : ℕ) (b : List ℕ) → ((u : ℕ) (c : List ℕ) → Agrees (value_at r room u c) (told_at r room u c)) → Agrees (value_at r (suc room) t b) (told_at r (suc room) t b)
 unfolding told_at

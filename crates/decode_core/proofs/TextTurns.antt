@@ -18,7 +18,7 @@ use Rattle.widths_core.specs.Layouts.{Layout}
 use Rattle.widths_core.specs.Layouts as layout
 use Rattle.grammar_core.specs.Tree as tree
 use Rattle.grammar_core.specs.Preorder as head
-use Rattle.grammar_core.specs.Reading.{basic, truncated, as_value, layout_at}
+use Rattle.grammar_core.specs.Reading.{basic, truncated, as_leaf, layout_at}
 use Rattle.grammar_core.specs.declared.form.Form.TheVariants as form
 use Rattle.grammar_core.specs.declared.form.Next.TheVariants as next
 use Rattle.value_core.specs.Built.{Built, Pieces, next_layout, pieces_bytes, with_leaf, with_text_ended}
@@ -56,17 +56,17 @@ bytes_few n bytes h = rw (lt-ltb (length bytes) n h) refl
 -- bytes of it are missing
 pub text_missing : (n : ℕ) (bytes : List ℕ) → IsLength n → length bytes < n → own_at layout.text (compact n ++ bytes) ≡ Err (truncated, [])
 unfolding own_at layout_at
-text_missing n bytes h few = ap (λ r. leaf_own (as_value tree.leaf (tree.text r))) (text_behind n bytes (Err (scale.Truncated, [])) h (bytes_few n bytes few))
+text_missing n bytes h few = ap (λ r. leaf_own (as_leaf tree.text r)) (text_behind n bytes (Err (scale.Truncated, [])) h (bytes_few n bytes few))
 
 -- they are all there, and UTF-8
 pub text_whole : (n : ℕ) (bytes : List ℕ) → IsLength n → length bytes ≡ n → is_utf8 bytes ≡ true → own_at layout.text (compact n ++ bytes) ≡ Ok ((head.leaf (tree.text bytes), None), [])
 unfolding own_at layout_at
-text_whole n bytes h all utf8 = ap (λ r. leaf_own (as_value tree.leaf (tree.text r))) (text_behind n bytes (Ok (bytes, [])) h (bytes_whole n bytes all) ∙ ap (λ (c : Bool). cond c (Ok (bytes, [])) (Err (scale.BadUtf8, drop (utf8_valid_len bytes) bytes))) utf8)
+text_whole n bytes h all utf8 = ap (λ r. leaf_own (as_leaf tree.text r)) (text_behind n bytes (Ok (bytes, [])) h (bytes_whole n bytes all) ∙ ap (λ (c : Bool). cond c (Ok (bytes, [])) (Err (scale.BadUtf8, drop (utf8_valid_len bytes) bytes))) utf8)
 
 -- they are all there, and not UTF-8
 pub text_bad : (n : ℕ) (bytes : List ℕ) → IsLength n → length bytes ≡ n → is_utf8 bytes ≡ false → own_at layout.text (compact n ++ bytes) ≡ Err (basic scale.BadUtf8, drop (utf8_valid_len bytes) bytes)
 unfolding own_at layout_at
-text_bad n bytes h all utf8 = ap (λ r. leaf_own (as_value tree.leaf (tree.text r))) (text_behind n bytes (Ok (bytes, [])) h (bytes_whole n bytes all) ∙ ap (λ (c : Bool). cond c (Ok (bytes, [])) (Err (scale.BadUtf8, drop (utf8_valid_len bytes) bytes))) utf8)
+text_bad n bytes h all utf8 = ap (λ r. leaf_own (as_leaf tree.text r)) (text_behind n bytes (Ok (bytes, [])) h (bytes_whole n bytes all) ∙ ap (λ (c : Bool). cond c (Ok (bytes, [])) (Err (scale.BadUtf8, drop (utf8_valid_len bytes) bytes))) utf8)
 
 -- fewer than all its bytes are too few
 pub text_front : (n : ℕ) (bytes : List ℕ) (i : ℕ) → IsLength n → length bytes ≡ n → i < length (compact n ++ bytes) → own_at layout.text (take i (compact n ++ bytes)) ≡ Err (truncated, [])

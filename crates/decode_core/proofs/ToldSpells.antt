@@ -115,12 +115,12 @@ own_tells_of r t layout.bad_compact b e are = tt
 own_tells_of r t layout.empty b e are = refl
 own_tells_of r t layout.bool b e are = leaf_tells r t b (layout_at shallow layout.bool b) are (met_takes r t layout.bool e b) (bool_leaf b)
 own_tells_of r t layout.char b e are = leaf_tells r t b (layout_at shallow layout.char b) are (met_takes r t layout.char e b) (char_leaf b (bytes_at 4 b))
-own_tells_of r t layout.text b e are = leaf_tells r t b (layout_at shallow layout.text b) are (met_takes r t layout.text e b) (value_leaf tree.leaf (tree.text (λ x. tt)) (text_at b))
-own_tells_of r t (layout.unsigned k) b e are = leaf_tells r t b (layout_at shallow (layout.unsigned k) b) are (met_takes r t (layout.unsigned k) e b) (value_leaf (λ c. tree.leaf (tree.unsigned (number c))) (λ x. tt) (bytes_at k b))
-own_tells_of r t (layout.signed k) b e are = leaf_tells r t b (layout_at shallow (layout.signed k) b) are (met_takes r t (layout.signed k) e b) (value_leaf (λ c. tree.leaf (tree.signed (signed_number c))) (λ x. tt) (bytes_at k b))
-own_tells_of r t layout.wide b e are = leaf_tells r t b (layout_at shallow layout.wide b) are (met_takes r t layout.wide e b) (value_leaf tree.leaf (tree.wide (λ x. tt)) (bytes_at 32 b))
-own_tells_of r t layout.counted b e are = leaf_tells r t b (layout_at shallow layout.counted b) are (met_takes r t layout.counted e b) (value_leaf tree.leaf (tree.count (λ x. tt)) (compact_at target.U32 b))
-own_tells_of r t (layout.compact m) b e are = leaf_tells r t b (layout_at shallow (layout.compact m) b) are (met_takes r t (layout.compact m) e b) (value_leaf tree.leaf (tree.compact (λ x. tt)) (compact_at m b))
+own_tells_of r t layout.text b e are = leaf_tells r t b (layout_at shallow layout.text b) are (met_takes r t layout.text e b) (value_leaf tree.text (text_at b))
+own_tells_of r t (layout.unsigned k) b e are = leaf_tells r t b (layout_at shallow (layout.unsigned k) b) are (met_takes r t (layout.unsigned k) e b) (value_leaf (λ c. tree.unsigned (number c)) (bytes_at k b))
+own_tells_of r t (layout.signed k) b e are = leaf_tells r t b (layout_at shallow (layout.signed k) b) are (met_takes r t (layout.signed k) e b) (value_leaf (λ c. tree.signed (signed_number c)) (bytes_at k b))
+own_tells_of r t layout.wide b e are = leaf_tells r t b (layout_at shallow layout.wide b) are (met_takes r t layout.wide e b) (value_leaf tree.wide (bytes_at 32 b))
+own_tells_of r t layout.counted b e are = leaf_tells r t b (layout_at shallow layout.counted b) are (met_takes r t layout.counted e b) (value_leaf tree.count (compact_at target.U32 b))
+own_tells_of r t (layout.compact m) b e are = leaf_tells r t b (layout_at shallow (layout.compact m) b) are (met_takes r t (layout.compact m) e b) (value_leaf tree.compact (compact_at m b))
 
 own_bytes_told : (r : List TypeInfo) (child : ℕ → List ℕ → Told) → ChildTells r child → (t : ℕ) (b : List ℕ) (read : Own) → AreBytes b → OwnTells r t b read → TellsBytes r b (own_told child t b read)
 own_bytes_told r child h t b (Err e) are k = refl

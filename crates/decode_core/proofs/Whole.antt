@@ -16,9 +16,9 @@ use Rattle.registry_core.specs.declared.primitive.Primitive.{Primitive}
 use Rattle.registry_core.specs.declared.primitive.Primitive.TheVariants as P
 use Rattle.widths_core.specs.Arms.{arm_of}
 use Rattle.widths_core.specs.Layouts.{Layout, primitive_layout}
-use Rattle.grammar_core.specs.Tree.{Tree}
+use Rattle.grammar_core.specs.Tree.{Leaf, Tree}
 use Rattle.grammar_core.specs.Tree as tree
-use Rattle.grammar_core.specs.Reading.{layout_at, bool_at, char_from, as_value, Refusal, basic}
+use Rattle.grammar_core.specs.Reading.{layout_at, bool_at, char_from, as_leaf, Refusal, basic}
 use Rattle.grammar_core.specs.declared.form.Form.{Form}
 use Rattle.grammar_core.specs.declared.form.Form.TheVariants as form
 use Rattle.value_core.proofs.Forms.{HasForm}
@@ -69,7 +69,7 @@ basic_whole scale.BadUtf8 h = refl
 basic_whole scale.CompactNotShortest h = refl
 basic_whole scale.CompactTooLarge h = refl
 
-value_whole : {X : Type 0} (make : X → Tree) (read : Read Reason X) → IsSettled read → IsWhole (leaf_own (as_value make read))
+value_whole : {X : Type 0} (make : X → Leaf) (read : Read Reason X) → IsSettled read → IsWhole (leaf_own (as_leaf make read))
 value_whole make (Ok x) h = h
 value_whole make (Err e) h = basic_whole e.0 h
 
@@ -90,7 +90,7 @@ char_whole b h = rw (bytes_whole 4 b h) (by (is_scalar (number b))) where
   by true = refl
   by false = refl
 
-number_whole : (make : List ℕ → Tree) (k : ℕ) (b : List ℕ) → length b ≡ k → IsWhole (leaf_own (as_value make (bytes_at k b)))
+number_whole : (make : List ℕ → Leaf) (k : ℕ) (b : List ℕ) → length b ≡ k → IsWhole (leaf_own (as_leaf make (bytes_at k b)))
 number_whole make k b h = rw (bytes_whole k b h) refl
 
 arms_whole : (arms : List Arm) (b : List ℕ) → length b ≡ 1 → IsWhole (arms_own arms b)
@@ -112,18 +112,18 @@ unfolding own_at layout_at
 primitive_whole P.Bool b h = bool_whole b h.1.3
 primitive_whole P.Char b h = char_whole b h.1.3
 primitive_whole P.Str b h = absurd h
-primitive_whole P.U8 b h = number_whole (λ c. tree.leaf (tree.unsigned (number c))) 1 b h.1.3
-primitive_whole P.U16 b h = number_whole (λ c. tree.leaf (tree.unsigned (number c))) 2 b h.1.3
-primitive_whole P.U32 b h = number_whole (λ c. tree.leaf (tree.unsigned (number c))) 4 b h.1.3
-primitive_whole P.U64 b h = number_whole (λ c. tree.leaf (tree.unsigned (number c))) 8 b h.1.3
-primitive_whole P.U128 b h = number_whole (λ c. tree.leaf (tree.unsigned (number c))) 16 b h.1.3
-primitive_whole P.U256 b h = number_whole tree.leaf (tree.wide 32) b h.1.3
-primitive_whole P.I8 b h = number_whole (λ c. tree.leaf (tree.signed (signed_number c))) 1 b h.1.3
-primitive_whole P.I16 b h = number_whole (λ c. tree.leaf (tree.signed (signed_number c))) 2 b h.1.3
-primitive_whole P.I32 b h = number_whole (λ c. tree.leaf (tree.signed (signed_number c))) 4 b h.1.3
-primitive_whole P.I64 b h = number_whole (λ c. tree.leaf (tree.signed (signed_number c))) 8 b h.1.3
-primitive_whole P.I128 b h = number_whole (λ c. tree.leaf (tree.signed (signed_number c))) 16 b h.1.3
-primitive_whole P.I256 b h = number_whole tree.leaf (tree.wide 32) b h.1.3
+primitive_whole P.U8 b h = number_whole (λ c. tree.unsigned (number c)) 1 b h.1.3
+primitive_whole P.U16 b h = number_whole (λ c. tree.unsigned (number c)) 2 b h.1.3
+primitive_whole P.U32 b h = number_whole (λ c. tree.unsigned (number c)) 4 b h.1.3
+primitive_whole P.U64 b h = number_whole (λ c. tree.unsigned (number c)) 8 b h.1.3
+primitive_whole P.U128 b h = number_whole (λ c. tree.unsigned (number c)) 16 b h.1.3
+primitive_whole P.U256 b h = number_whole tree.wide 32 b h.1.3
+primitive_whole P.I8 b h = number_whole (λ c. tree.signed (signed_number c)) 1 b h.1.3
+primitive_whole P.I16 b h = number_whole (λ c. tree.signed (signed_number c)) 2 b h.1.3
+primitive_whole P.I32 b h = number_whole (λ c. tree.signed (signed_number c)) 4 b h.1.3
+primitive_whole P.I64 b h = number_whole (λ c. tree.signed (signed_number c)) 8 b h.1.3
+primitive_whole P.I128 b h = number_whole (λ c. tree.signed (signed_number c)) 16 b h.1.3
+primitive_whole P.I256 b h = number_whole tree.wide 32 b h.1.3
 
 pub u32_is : target.U32 ≢ target.Unit
 u32_is = λ e. absurd cc
@@ -135,9 +135,9 @@ pub form_whole : (f : Form) (lay : Layout) (b : List ℕ) → HasForm f lay → 
 unfolding own_at layout_at
 form_whole form.Empty lay b h k = absurd k.0
 form_whole (form.Primitive p) lay b h k = rw h (primitive_whole p b k)
-form_whole (form.Compact m) lay b h k = rw h (value_whole tree.leaf (tree.compact (compact_at m b)) (settled_at m b k.0 k.1.0 k.1.1 k.1.2 k.1.3))
+form_whole (form.Compact m) lay b h k = rw h (value_whole tree.compact (compact_at m b) (settled_at m b k.0 k.1.0 k.1.1 k.1.2 k.1.3))
 form_whole form.Fields lay b h k = absurd k.0
 form_whole form.Arm lay b h k = rw h.1 (arms_whole h.0 b k.1.3)
 form_whole (form.Array n) lay b h k = absurd k.0
 form_whole form.Sequence lay b h k = rw h.1 (length_whole h.0 (compact_at target.U32 b) (settled_at target.U32 b u32_is k.1.0 k.1.1 k.1.2 k.1.3))
-form_whole form.Count lay b h k = rw h (value_whole tree.leaf (tree.count (compact_at target.U32 b)) (settled_at target.U32 b u32_is k.1.0 k.1.1 k.1.2 k.1.3))
+form_whole form.Count lay b h k = rw h (value_whole tree.count (compact_at target.U32 b) (settled_at target.U32 b u32_is k.1.0 k.1.1 k.1.2 k.1.3))
