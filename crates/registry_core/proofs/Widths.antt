@@ -27,3 +27,11 @@ width_halves W16 = refl
 width_halves W32 = refl
 width_halves W64 = refl
 width_halves W128 = refl
+
+-- there are at least two numbers, one of them with the top bit
+pub width_numbers : (w : IntegerWidth) → 2 ≤ 256 ^ width_bytes w
+width_numbers W8 = omega arith
+width_numbers W16 = omega arith
+width_numbers W32 = omega arith
+width_numbers W64 = omega arith
+width_numbers W128 = omega arith
