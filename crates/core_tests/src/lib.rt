@@ -8,6 +8,8 @@ mod devices;
 #[cfg(test)]
 mod integers;
 #[cfg(test)]
+mod kinds;
+#[cfg(test)]
 mod large_registries;
 #[cfg(test)]
 mod memory;

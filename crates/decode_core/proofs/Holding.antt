@@ -4,10 +4,13 @@ use Rattle.std.specs.Prelude.{◌-◌, option_map}
 use Rattle.scale_core.specs.Compact.{compact}
 use Rattle.scale_core.specs.Number.{AreBytes}
 use Rattle.scale_core.specs.declared.compact.Target.TheVariants as target
+use Rattle.registry_core.specs.Kinds.{kind_of}
+use Rattle.registry_core.specs.declared.kind.PrimitiveKind.{PrimitiveKind}
+use Rattle.registry_core.specs.declared.kind.PrimitiveKind.TheVariants as K
 use Rattle.registry_core.specs.declared.primitive.Primitive.TheVariants as P
 use Rattle.registry_core.specs.declared.type_info.TypeInfo.{TypeInfo}
 use Rattle.widths_core.specs.Classes.{is_finite}
-use Rattle.widths_core.specs.Layouts.{Layout, layout}
+use Rattle.widths_core.specs.Layouts.{Layout, layout, kind_layout}
 use Rattle.widths_core.specs.Layouts as layout
 use Rattle.grammar_core.specs.Begun.{Begun, Grows}
 use Rattle.grammar_core.specs.declared.form.Form.{Form}
@@ -20,7 +23,7 @@ use Rattle.value_core.proofs.Forms.{HasForm, Wanted, wanted}
 use Rattle.decode_core.specs.Decoding.{HoldsOf, IsOf, IsWaiting}
 use Rattle.decode_core.specs.Held.{open_text, past_length}
 use Rattle.decode_core.specs.Holds.{IsShort}
-use Rattle.decode_core.specs.Needs.{compact_need, need}
+use Rattle.decode_core.specs.Needs.{compact_need, kind_need, need}
 use Rattle.decode_core.specs.Outcome.{Job}
 use Rattle.decode_core.specs.Running.{Running, IsCarry, IsTextNext, held_of}
 use Rattle.decode_core.specs.Told.{own_at}
@@ -64,23 +67,17 @@ short_to j b s of w n =
 
 -- ---- the bytes of texts
 
--- what is short for a form that has the layout of a text is short for a text
+-- what is short for a kind or a form that has the layout of a text is short for a text
+kind_alone : (k : PrimitiveKind) (c : List ℕ) → layout.text ≡ kind_layout k → IsShortOf (kind_need k) c → IsShortOf (compact_need target.U32) c
+kind_alone K.Str c h k = k
+kind_alone K.Bool c h k = absurd cc
+kind_alone K.Char c h k = absurd cc
+kind_alone (K.Unsigned w) c h k = absurd cc
+kind_alone (K.Signed w) c h k = absurd cc
+kind_alone (K.Wide s) c h k = absurd cc
+
 text_alone : (f : Form) (c : List ℕ) → HasForm f layout.text → IsShortOf (need f) c → IsShortOf (compact_need target.U32) c
-text_alone (form.Primitive P.Str) c h k = k
-text_alone (form.Primitive P.Bool) c h k = absurd cc
-text_alone (form.Primitive P.Char) c h k = absurd cc
-text_alone (form.Primitive P.U8) c h k = absurd cc
-text_alone (form.Primitive P.U16) c h k = absurd cc
-text_alone (form.Primitive P.U32) c h k = absurd cc
-text_alone (form.Primitive P.U64) c h k = absurd cc
-text_alone (form.Primitive P.U128) c h k = absurd cc
-text_alone (form.Primitive P.U256) c h k = absurd cc
-text_alone (form.Primitive P.I8) c h k = absurd cc
-text_alone (form.Primitive P.I16) c h k = absurd cc
-text_alone (form.Primitive P.I32) c h k = absurd cc
-text_alone (form.Primitive P.I64) c h k = absurd cc
-text_alone (form.Primitive P.I128) c h k = absurd cc
-text_alone (form.Primitive P.I256) c h k = absurd cc
+text_alone (form.Primitive p) c h k = kind_alone (kind_of p) c h k
 text_alone form.Empty c h k = absurd cc
 text_alone (form.Compact m) c h k = absurd cc
 text_alone form.Fields c h k = let no = h.1 in absurd cc

@@ -1,6 +1,6 @@
 -- A node that is added by its own bytes, or refused.
 use Rattle.std.proofs.Common.{◌≡◌, ℕ, zero, suc, ◌≤◌, ℤ, Bool, true, false, cond, List, [], ◌∷◌, length, take, drop, Option, Some, None, Result, Ok, Err, is_ok, refl, sym, ap, ◌∙◌, arith}
-use Rattle.std.specs.Prelude.{IfErr, IsSome, nat_lt}
+use Rattle.std.specs.Prelude.{IfErr, nat_lt}
 use Rattle.std.proofs.lemmas.Bool.{le-ltb, ne_eqb}
 use Rattle.scale_core.specs.Number.{number, signed_number, is_scalar}
 use Rattle.scale_core.specs.Read.{Read, place, bytes_at, number_at, signed_at, compact_at}
@@ -9,9 +9,13 @@ use Rattle.scale_core.specs.declared.compact.Target.{Target}
 use Rattle.scale_core.specs.declared.compact.Target.TheVariants as target
 use Rattle.scale_core.specs.declared.fault.Reason.{Reason}
 use Rattle.scale_core.specs.declared.fault.Reason.TheVariants as scale
+use Rattle.registry_core.specs.Kinds.{kind_of, width_bytes}
+use Rattle.registry_core.specs.declared.kind.PrimitiveKind.{PrimitiveKind}
+use Rattle.registry_core.specs.declared.kind.PrimitiveKind.TheVariants as K
+use Rattle.registry_core.specs.declared.kind.IntegerWidth.{IntegerWidth}
+use Rattle.registry_core.specs.declared.kind.Signedness.{Signedness}
 use Rattle.registry_core.specs.declared.primitive.Primitive.{Primitive}
-use Rattle.registry_core.specs.declared.primitive.Primitive.TheVariants as P
-use Rattle.widths_core.specs.Layouts.{Layout, layout, primitive_layout}
+use Rattle.widths_core.specs.Layouts.{Layout, layout, kind_layout}
 use Rattle.widths_core.specs.Layouts as layout
 use Rattle.grammar_core.specs.Tree.{Leaf, Tree}
 use Rattle.grammar_core.specs.Tree as tree
@@ -21,7 +25,7 @@ use Rattle.grammar_core.specs.Preorder.{Head, head_of}
 use Rattle.grammar_core.specs.Preorder as head
 use Rattle.grammar_core.specs.Reading.{Refusal, basic, as_leaf, layout_at}
 use Rattle.grammar_core.specs.Reading as reading
-use Rattle.value_core.specs.Refusals.{Adds, judged, wanted_of, wanted_from}
+use Rattle.value_core.specs.Refusals.{Adds, judged, wanted_of, wanted_from, bool_kind, suits_bool, char_kind, suits_char, wide_kind, suits_wide, up_to, most_unsigned, unsigned_kind, suits_unsigned, within, most_signed, signed_kind, suits_signed}
 use Rattle.value_core.specs.Walked.{next_of}
 use Rattle.value_core.specs.declared.build_fault.BuildFault.{BuildFault}
 use Rattle.grammar_core.specs.declared.form.Form.{Form}
@@ -30,7 +34,7 @@ use Rattle.grammar_core.specs.declared.form.Next.TheVariants as next
 use Rattle.value_core.proofs.Forms.{HasForm, form_layout, wanted}
 use Rattle.decode_core.specs.Machine.{is_cut}
 use Rattle.decode_core.specs.Needs.{AreOwn, HasBytes, NoText}
-use Rattle.decode_core.specs.NodeAdds.{unsigned_bytes, signed_bytes, ReadsBytes, with_own, AddsNode}
+use Rattle.decode_core.specs.NodeAdds.{with_own, AddsNode}
 use Rattle.decode_core.specs.Reasons.{reason_of}
 use Rattle.decode_core.specs.Told.{leaf_own, own_at}
 use Rattle.decode_core.specs.declared.node.NodeFault.{NodeFault}
@@ -42,29 +46,12 @@ use Rattle.decode_core.proofs.Whole.{IsWhole, NeedsThese, form_whole}
 pub next_has : (b : Built) (f : Form) → next_of b.walk ≡ next.Wants f → HasForm f (next_layout b)
 next_has b f h = let w = wanted b.walk f h in rw w.is_next (form_layout b.walk.types w.ty f w.form_is)
 
-pub primitive_next : (b : Built) (p : Primitive) → next_of b.walk ≡ next.Wants (form.Primitive p) → next_layout b ≡ primitive_layout p
-primitive_next b p h = next_has b (form.Primitive p) h
-
-primitive_needs : (p : Primitive) (own : List ℕ) → NoText (form.Primitive p) → AreOwn (form.Primitive p) own → NeedsThese (form.Primitive p) own
-primitive_needs P.Str own h k = h
-primitive_needs P.Bool own h k = (tt, k)
-primitive_needs P.Char own h k = (tt, k)
-primitive_needs P.U8 own h k = (tt, k)
-primitive_needs P.U16 own h k = (tt, k)
-primitive_needs P.U32 own h k = (tt, k)
-primitive_needs P.U64 own h k = (tt, k)
-primitive_needs P.U128 own h k = (tt, k)
-primitive_needs P.U256 own h k = (tt, k)
-primitive_needs P.I8 own h k = (tt, k)
-primitive_needs P.I16 own h k = (tt, k)
-primitive_needs P.I32 own h k = (tt, k)
-primitive_needs P.I64 own h k = (tt, k)
-primitive_needs P.I128 own h k = (tt, k)
-primitive_needs P.I256 own h k = (tt, k)
+kind_next : (b : Built) (p : Primitive) (k : PrimitiveKind) → next_of b.walk ≡ next.Wants (form.Primitive p) → kind_of p ≡ k → next_layout b ≡ kind_layout k
+kind_next b p k h e = next_has b (form.Primitive p) h ∙ ap kind_layout e
 
 needs_these : (b : Built) (f : Form) (own : List ℕ) → next_of b.walk ≡ next.Wants f → HasBytes f → NoText f → AreOwn f own → NeedsThese f own
 needs_these b form.Empty own h s n k = (s, k)
-needs_these b (form.Primitive p) own h s n k = primitive_needs p own n k
+needs_these b (form.Primitive p) own h s n k = (n, k)
 needs_these b (form.Compact m) own h s n k = let w = wanted b.walk (form.Compact m) h in (wanted_target b.walk.types w.ty m w.form_is, k)
 needs_these b form.Fields own h s n k = (s, k)
 needs_these b form.Arm own h s n k = (s, k)
@@ -180,66 +167,46 @@ count_own own = refl
 some_bytes_read : {X : Type 0} (taken : ℕ) (own : List ℕ) (read : Read Reason X) (x : X) → (taken ≤ length own) × (read ≡ Ok (x, drop taken own)) → (rest : List ℕ) × (read ≡ Ok (x, rest))
 some_bytes_read taken own read x h = (drop taken own, h.1)
 
-pub bool_read : (b : Built) (own : List ℕ) (x : Bool) (taken : ℕ) → next_of b.walk ≡ next.Wants (form.Primitive P.Bool) → (taken ≤ length own) × (scale_read.bool_at own ≡ Ok (x, drop taken own)) → (rest : List ℕ) × (own_at (next_layout b) own ≡ Ok ((head.leaf (tree.bool x), None), rest))
-bool_read b own x taken h k = rw (primitive_next b P.Bool h) (read_as tree.bool layout.bool own (scale_read.bool_at own) x (bool_own own) (some_bytes_read taken own (scale_read.bool_at own) x k))
+-- the kind that the code has found
+pub kind_is : (p : Primitive) (found k : PrimitiveKind) → found ≡ kind_of p → found ≡ k → kind_of p ≡ k
+kind_is p found k e f = sym e ∙ f
 
-pub bool_refused : (b : Built) (own : List ℕ) (e : Reason) (at : ℕ) → next_of b.walk ≡ next.Wants (form.Primitive P.Bool) → (left : List ℕ) × (scale_read.bool_at own ≡ Err (e, left)) × (at ≡ place own left) → (left : List ℕ) × (own_at (next_layout b) own ≡ Err (basic e, left)) × (at ≡ place own left)
-bool_refused b own e at h k = rw (primitive_next b P.Bool h) (refused_as tree.bool layout.bool own (scale_read.bool_at own) e at (bool_own own) k)
+-- what is read fits the type that it is read for
+pub bool_fits : (p : Primitive) → kind_of p ≡ K.Bool → suits_bool (form.Primitive p) ≡ None
+bool_fits p e = ap bool_kind e
 
-pub char_read : (b : Built) (own : List ℕ) (x taken : ℕ) → next_of b.walk ≡ next.Wants (form.Primitive P.Char) → (taken ≤ length own) × (scale_read.char_at own ≡ Ok (x, drop taken own)) → (rest : List ℕ) × (own_at (next_layout b) own ≡ Ok ((head.leaf (tree.char x), None), rest))
-char_read b own x taken h k = rw (primitive_next b P.Char h) (read_as tree.char layout.char own (scale_read.char_at own) x (char_own own) (some_bytes_read taken own (scale_read.char_at own) x k))
+pub char_fits : (p : Primitive) → kind_of p ≡ K.Char → suits_char (form.Primitive p) ≡ None
+char_fits p e = ap char_kind e
 
-pub char_refused : (b : Built) (own : List ℕ) (e : Reason) (at : ℕ) → next_of b.walk ≡ next.Wants (form.Primitive P.Char) → (left : List ℕ) × (scale_read.char_at own ≡ Err (e, left)) × (at ≡ place own left) → (left : List ℕ) × (own_at (next_layout b) own ≡ Err (basic e, left)) × (at ≡ place own left)
-char_refused b own e at h k = rw (primitive_next b P.Char h) (refused_as tree.char layout.char own (scale_read.char_at own) e at (char_own own) k)
+pub unsigned_fits : (p : Primitive) (w : IntegerWidth) (n : ℕ) → kind_of p ≡ K.Unsigned w → up_to n (Some (most_unsigned w)) ≡ None → suits_unsigned n (form.Primitive p) ≡ None
+unsigned_fits p w n e h = ap (λ (k : PrimitiveKind). up_to n (unsigned_kind k)) e ∙ h
 
-wide_of : (lay : Layout) (own x : List ℕ) → lay ≡ layout.wide → ((rest : List ℕ) × (bytes_at 32 own ≡ Ok (x, rest))) → (rest : List ℕ) × (own_at lay own ≡ Ok ((head.leaf (tree.wide x), None), rest))
-wide_of lay own x e h = rw e (read_as tree.wide layout.wide own (bytes_at 32 own) x (wide_own own) h)
+pub signed_fits : (p : Primitive) (w : IntegerWidth) (z : ℤ) → kind_of p ≡ K.Signed w → within z (Some (most_signed w)) ≡ None → suits_signed z (form.Primitive p) ≡ None
+signed_fits p w z e h = ap (λ (k : PrimitiveKind). within z (signed_kind k)) e ∙ h
 
-no_some : false ≡ true → ⊥
-no_some e = absurd cc
+pub wide_fits : (p : Primitive) (s : Signedness) → kind_of p ≡ K.Wide s → suits_wide (form.Primitive p) ≡ None
+wide_fits p s e = ap wide_kind e
 
-unsigned_of : (p : Primitive) (own : List ℕ) (n : ℕ) → IsSome (unsigned_bytes p) → ReadsBytes number_at own (Ok n) (unsigned_bytes p) → (rest : List ℕ) × (own_at (primitive_layout p) own ≡ Ok ((head.leaf (tree.unsigned n), None), rest))
-unsigned_of P.U8 own n s h = read_as tree.unsigned (layout.unsigned 1) own (number_at 1 own) n (number_own 1 own) h
-unsigned_of P.U16 own n s h = read_as tree.unsigned (layout.unsigned 2) own (number_at 2 own) n (number_own 2 own) h
-unsigned_of P.U32 own n s h = read_as tree.unsigned (layout.unsigned 4) own (number_at 4 own) n (number_own 4 own) h
-unsigned_of P.U64 own n s h = read_as tree.unsigned (layout.unsigned 8) own (number_at 8 own) n (number_own 8 own) h
-unsigned_of P.U128 own n s h = read_as tree.unsigned (layout.unsigned 16) own (number_at 16 own) n (number_own 16 own) h
-unsigned_of P.Bool own n s h = absurd (no_some s)
-unsigned_of P.Char own n s h = absurd (no_some s)
-unsigned_of P.Str own n s h = absurd (no_some s)
-unsigned_of P.U256 own n s h = absurd (no_some s)
-unsigned_of P.I8 own n s h = absurd (no_some s)
-unsigned_of P.I16 own n s h = absurd (no_some s)
-unsigned_of P.I32 own n s h = absurd (no_some s)
-unsigned_of P.I64 own n s h = absurd (no_some s)
-unsigned_of P.I128 own n s h = absurd (no_some s)
-unsigned_of P.I256 own n s h = absurd (no_some s)
+pub bool_read : (b : Built) (p : Primitive) (own : List ℕ) (x : Bool) (taken : ℕ) → next_of b.walk ≡ next.Wants (form.Primitive p) → kind_of p ≡ K.Bool → (taken ≤ length own) × (scale_read.bool_at own ≡ Ok (x, drop taken own)) → (rest : List ℕ) × (own_at (next_layout b) own ≡ Ok ((head.leaf (tree.bool x), None), rest))
+bool_read b p own x taken h e k = rw (kind_next b p K.Bool h e) (read_as tree.bool layout.bool own (scale_read.bool_at own) x (bool_own own) (some_bytes_read taken own (scale_read.bool_at own) x k))
 
-signed_of : (p : Primitive) (own : List ℕ) (z : ℤ) → IsSome (signed_bytes p) → ReadsBytes signed_at own (Ok z) (signed_bytes p) → (rest : List ℕ) × (own_at (primitive_layout p) own ≡ Ok ((head.leaf (tree.signed z), None), rest))
-signed_of P.I8 own z s h = read_as tree.signed (layout.signed 1) own (signed_at 1 own) z (signed_own 1 own) h
-signed_of P.I16 own z s h = read_as tree.signed (layout.signed 2) own (signed_at 2 own) z (signed_own 2 own) h
-signed_of P.I32 own z s h = read_as tree.signed (layout.signed 4) own (signed_at 4 own) z (signed_own 4 own) h
-signed_of P.I64 own z s h = read_as tree.signed (layout.signed 8) own (signed_at 8 own) z (signed_own 8 own) h
-signed_of P.I128 own z s h = read_as tree.signed (layout.signed 16) own (signed_at 16 own) z (signed_own 16 own) h
-signed_of P.Bool own z s h = absurd (no_some s)
-signed_of P.Char own z s h = absurd (no_some s)
-signed_of P.Str own z s h = absurd (no_some s)
-signed_of P.U8 own z s h = absurd (no_some s)
-signed_of P.U16 own z s h = absurd (no_some s)
-signed_of P.U32 own z s h = absurd (no_some s)
-signed_of P.U64 own z s h = absurd (no_some s)
-signed_of P.U128 own z s h = absurd (no_some s)
-signed_of P.U256 own z s h = absurd (no_some s)
-signed_of P.I256 own z s h = absurd (no_some s)
+pub bool_refused : (b : Built) (p : Primitive) (own : List ℕ) (e : Reason) (at : ℕ) → next_of b.walk ≡ next.Wants (form.Primitive p) → kind_of p ≡ K.Bool → (left : List ℕ) × (scale_read.bool_at own ≡ Err (e, left)) × (at ≡ place own left) → (left : List ℕ) × (own_at (next_layout b) own ≡ Err (basic e, left)) × (at ≡ place own left)
+bool_refused b p own e at h i k = rw (kind_next b p K.Bool h i) (refused_as tree.bool layout.bool own (scale_read.bool_at own) e at (bool_own own) k)
 
-pub unsigned_read : (b : Built) (p : Primitive) (own : List ℕ) (n : ℕ) → next_of b.walk ≡ next.Wants (form.Primitive p) → IsSome (unsigned_bytes p) → ReadsBytes number_at own (Ok n) (unsigned_bytes p) → (rest : List ℕ) × (own_at (next_layout b) own ≡ Ok ((head.leaf (tree.unsigned n), None), rest))
-unsigned_read b p own n h s r = rw (primitive_next b p h) (unsigned_of p own n s r)
+pub char_read : (b : Built) (p : Primitive) (own : List ℕ) (x taken : ℕ) → next_of b.walk ≡ next.Wants (form.Primitive p) → kind_of p ≡ K.Char → (taken ≤ length own) × (scale_read.char_at own ≡ Ok (x, drop taken own)) → (rest : List ℕ) × (own_at (next_layout b) own ≡ Ok ((head.leaf (tree.char x), None), rest))
+char_read b p own x taken h e k = rw (kind_next b p K.Char h e) (read_as tree.char layout.char own (scale_read.char_at own) x (char_own own) (some_bytes_read taken own (scale_read.char_at own) x k))
 
-pub signed_read : (b : Built) (p : Primitive) (own : List ℕ) (z : ℤ) → next_of b.walk ≡ next.Wants (form.Primitive p) → IsSome (signed_bytes p) → ReadsBytes signed_at own (Ok z) (signed_bytes p) → (rest : List ℕ) × (own_at (next_layout b) own ≡ Ok ((head.leaf (tree.signed z), None), rest))
-signed_read b p own z h s r = rw (primitive_next b p h) (signed_of p own z s r)
+pub char_refused : (b : Built) (p : Primitive) (own : List ℕ) (e : Reason) (at : ℕ) → next_of b.walk ≡ next.Wants (form.Primitive p) → kind_of p ≡ K.Char → (left : List ℕ) × (scale_read.char_at own ≡ Err (e, left)) × (at ≡ place own left) → (left : List ℕ) × (own_at (next_layout b) own ≡ Err (basic e, left)) × (at ≡ place own left)
+char_refused b p own e at h i k = rw (kind_next b p K.Char h i) (refused_as tree.char layout.char own (scale_read.char_at own) e at (char_own own) k)
 
-pub wide_read : (b : Built) (p : Primitive) (own x : List ℕ) (taken : ℕ) → next_of b.walk ≡ next.Wants (form.Primitive p) → primitive_layout p ≡ layout.wide → (taken ≤ length own) × (bytes_at 32 own ≡ Ok (x, drop taken own)) → (rest : List ℕ) × (own_at (next_layout b) own ≡ Ok ((head.leaf (tree.wide x), None), rest))
-wide_read b p own x taken h e k = wide_of (next_layout b) own x (primitive_next b p h ∙ e) (some_bytes_read taken own (bytes_at 32 own) x k)
+pub unsigned_read : (b : Built) (p : Primitive) (w : IntegerWidth) (own : List ℕ) (n : ℕ) → next_of b.walk ≡ next.Wants (form.Primitive p) → kind_of p ≡ K.Unsigned w → ((rest : List ℕ) × (number_at (width_bytes w) own ≡ Ok (n, rest))) → (rest : List ℕ) × (own_at (next_layout b) own ≡ Ok ((head.leaf (tree.unsigned n), None), rest))
+unsigned_read b p w own n h e k = rw (kind_next b p (K.Unsigned w) h e) (read_as tree.unsigned (layout.unsigned (width_bytes w)) own (number_at (width_bytes w) own) n (number_own (width_bytes w) own) k)
+
+pub signed_read : (b : Built) (p : Primitive) (w : IntegerWidth) (own : List ℕ) (z : ℤ) → next_of b.walk ≡ next.Wants (form.Primitive p) → kind_of p ≡ K.Signed w → ((rest : List ℕ) × (signed_at (width_bytes w) own ≡ Ok (z, rest))) → (rest : List ℕ) × (own_at (next_layout b) own ≡ Ok ((head.leaf (tree.signed z), None), rest))
+signed_read b p w own z h e k = rw (kind_next b p (K.Signed w) h e) (read_as tree.signed (layout.signed (width_bytes w)) own (signed_at (width_bytes w) own) z (signed_own (width_bytes w) own) k)
+
+pub wide_read : (b : Built) (p : Primitive) (s : Signedness) (own x : List ℕ) (taken : ℕ) → next_of b.walk ≡ next.Wants (form.Primitive p) → kind_of p ≡ K.Wide s → (taken ≤ length own) × (bytes_at 32 own ≡ Ok (x, drop taken own)) → (rest : List ℕ) × (own_at (next_layout b) own ≡ Ok ((head.leaf (tree.wide x), None), rest))
+wide_read b p s own x taken h e k = rw (kind_next b p (K.Wide s) h e) (read_as tree.wide layout.wide own (bytes_at 32 own) x (wide_own own) (some_bytes_read taken own (bytes_at 32 own) x k))
 
 pub compact_read : (b : Built) (m : Target) (own : List ℕ) (n taken : ℕ) → next_of b.walk ≡ next.Wants (form.Compact m) → (taken ≤ length own) × (compact_at m own ≡ Ok (n, drop taken own)) → (rest : List ℕ) × (own_at (next_layout b) own ≡ Ok ((head.leaf (tree.compact n), None), rest))
 compact_read b m own n taken h k = rw (next_has b (form.Compact m) h) (read_as tree.compact (layout.compact m) own (compact_at m own) n (compact_own m own) (some_bytes_read taken own (compact_at m own) n k))

@@ -9,10 +9,12 @@ use Rattle.scale_core.specs.Read.{bytes_at, form_len, form_from, is_too_long, in
 use Rattle.scale_core.specs.declared.compact.Target.{Target}
 use Rattle.scale_core.specs.declared.compact.Target.TheVariants as target
 use Rattle.scale_core.specs.declared.fault.Reason.TheVariants as scale
-use Rattle.registry_core.specs.declared.primitive.Primitive.{Primitive}
-use Rattle.registry_core.specs.declared.primitive.Primitive.TheVariants as P
+use Rattle.registry_core.specs.Kinds.{kind_of, width_bytes}
+use Rattle.registry_core.specs.declared.kind.PrimitiveKind.{PrimitiveKind}
+use Rattle.registry_core.specs.declared.kind.PrimitiveKind.TheVariants as K
+use Rattle.registry_core.proofs.Widths.{width_some}
 use Rattle.registry_core.specs.declared.type_info.TypeInfo.{TypeInfo}
-use Rattle.widths_core.specs.Layouts.{Layout, layout, primitive_layout}
+use Rattle.widths_core.specs.Layouts.{Layout, layout, kind_layout}
 use Rattle.widths_core.specs.Layouts as layout
 use Rattle.grammar_core.specs.Tree as tree
 use Rattle.value_core.specs.Built.{Built, next_layout}
@@ -28,7 +30,7 @@ use Rattle.value_core.proofs.Forms.{HasForm, wanted, IsStoppedBy, stopped}
 use Rattle.decode_core.specs.Decided.{Decided}
 use Rattle.decode_core.specs.Machine.{State, remain, is_cut}
 use Rattle.decode_core.specs.Met.{met_layout}
-use Rattle.decode_core.specs.Needs.{compact_need, need, AreOwn, HasBytes}
+use Rattle.decode_core.specs.Needs.{compact_need, kind_need, need, AreOwn, HasBytes}
 use Rattle.decode_core.specs.Reasons.{stop_refusal}
 use Rattle.decode_core.specs.Running.{Running, held_of, state_of}
 use Rattle.decode_core.specs.Turned.{WantsBytes}
@@ -86,23 +88,14 @@ pub text_short : (b : List ℕ) → IsShortOf (compact_need target.U32) b → ow
 unfolding own_at layout_at text_at
 text_short b h = rw (compact_short target.U32 b u32_is h) refl
 
-primitive_short : (p : Primitive) (b : List ℕ) → IsShortOf (need (form.Primitive p)) b → own_at (primitive_layout p) b ≡ Err (truncated, [])
+kind_short : (k : PrimitiveKind) (b : List ℕ) → IsShortOf (kind_need k) b → own_at (kind_layout k) b ≡ Err (truncated, [])
 unfolding own_at layout_at
-primitive_short P.Bool b h = bool_short b h
-primitive_short P.Char b h = char_short b h
-primitive_short P.Str b h = text_short b h
-primitive_short P.U8 b h = number_short (λ c. tree.unsigned (number c)) 1 b (omega arith) h
-primitive_short P.U16 b h = number_short (λ c. tree.unsigned (number c)) 2 b (omega arith) h
-primitive_short P.U32 b h = number_short (λ c. tree.unsigned (number c)) 4 b (omega arith) h
-primitive_short P.U64 b h = number_short (λ c. tree.unsigned (number c)) 8 b (omega arith) h
-primitive_short P.U128 b h = number_short (λ c. tree.unsigned (number c)) 16 b (omega arith) h
-primitive_short P.U256 b h = number_short tree.wide 32 b (omega arith) h
-primitive_short P.I8 b h = number_short (λ c. tree.signed (signed_number c)) 1 b (omega arith) h
-primitive_short P.I16 b h = number_short (λ c. tree.signed (signed_number c)) 2 b (omega arith) h
-primitive_short P.I32 b h = number_short (λ c. tree.signed (signed_number c)) 4 b (omega arith) h
-primitive_short P.I64 b h = number_short (λ c. tree.signed (signed_number c)) 8 b (omega arith) h
-primitive_short P.I128 b h = number_short (λ c. tree.signed (signed_number c)) 16 b (omega arith) h
-primitive_short P.I256 b h = number_short tree.wide 32 b (omega arith) h
+kind_short K.Bool b h = bool_short b h
+kind_short K.Char b h = char_short b h
+kind_short K.Str b h = text_short b h
+kind_short (K.Unsigned w) b h = number_short (λ c. tree.unsigned (number c)) (width_bytes w) b (width_some w) h
+kind_short (K.Signed w) b h = number_short (λ c. tree.signed (signed_number c)) (width_bytes w) b (width_some w) h
+kind_short (K.Wide s) b h = number_short tree.wide 32 b (omega arith) h
 
 arms_short : (lay : Layout) (h : HasForm form.Arm lay) (b : List ℕ) → IsShortOf (λ first. 1) b → own_at lay b ≡ Err (truncated, [])
 unfolding own_at
@@ -124,7 +117,7 @@ compact_own_short m lay ne h b k = rw (h, compact_short m b ne k) refl
 -- the next node's own bytes are not all there
 pub own_short : (b : Built) (f : Form) (x : List ℕ) → next_of b.walk ≡ next.Wants f → HasBytes f → IsShortOf (need f) x → own_at (next_layout b) x ≡ Err (truncated, [])
 own_short b form.Empty x h s k = absurd s
-own_short b (form.Primitive p) x h s k = rw (next_has b (form.Primitive p) h) (primitive_short p x k)
+own_short b (form.Primitive p) x h s k = rw (next_has b (form.Primitive p) h) (kind_short (kind_of p) x k)
 own_short b (form.Compact m) x h s k = let w = wanted b.walk (form.Compact m) h in compact_own_short m (next_layout b) (wanted_target b.walk.types w.ty m w.form_is) (next_has b (form.Compact m) h) x k
 own_short b form.Fields x h s k = absurd s
 own_short b form.Arm x h s k = arms_short (next_layout b) (next_has b form.Arm h) x k

@@ -6,12 +6,14 @@ use Rattle.scale_core.specs.Compact.{target_bytes}
 use Rattle.scale_core.specs.Read.{form_len, is_too_long}
 use Rattle.scale_core.specs.declared.compact.Target.{Target}
 use Rattle.scale_core.specs.declared.compact.Target.TheVariants as target
-use Rattle.registry_core.specs.declared.primitive.Primitive.{Primitive}
-use Rattle.registry_core.specs.declared.primitive.Primitive.TheVariants as P
+use Rattle.registry_core.specs.Kinds.{kind_of}
+use Rattle.registry_core.specs.declared.kind.PrimitiveKind.{PrimitiveKind}
+use Rattle.registry_core.specs.declared.kind.PrimitiveKind.TheVariants as K
+use Rattle.registry_core.proofs.Widths.{width_most}
 use Rattle.grammar_core.specs.declared.form.Form.{Form}
 use Rattle.grammar_core.specs.declared.form.Form.TheVariants as form
 use Rattle.value_core.specs.Built.{Built}
-use Rattle.decode_core.specs.Needs.{compact_need, need}
+use Rattle.decode_core.specs.Needs.{compact_need, kind_need, need}
 use Rattle.decode_core.specs.Running.{IsCarry}
 
 -- how long a compact is
@@ -44,25 +46,16 @@ compact_need_small m first = by (is_too_long m first) refl where
   by true e = omega arith
   by false e = omega (arith, form_len_small m first e)
 
-primitive_need_small : (p : Primitive) (first : ℕ) → need (form.Primitive p) first ≤ 32
-primitive_need_small P.Str first = compact_need_small target.U32 first
-primitive_need_small P.Bool first = omega arith
-primitive_need_small P.Char first = omega arith
-primitive_need_small P.U8 first = omega arith
-primitive_need_small P.U16 first = omega arith
-primitive_need_small P.U32 first = omega arith
-primitive_need_small P.U64 first = omega arith
-primitive_need_small P.U128 first = omega arith
-primitive_need_small P.U256 first = omega arith
-primitive_need_small P.I8 first = omega arith
-primitive_need_small P.I16 first = omega arith
-primitive_need_small P.I32 first = omega arith
-primitive_need_small P.I64 first = omega arith
-primitive_need_small P.I128 first = omega arith
-primitive_need_small P.I256 first = omega arith
+kind_need_small : (k : PrimitiveKind) (first : ℕ) → kind_need k first ≤ 32
+kind_need_small K.Bool first = omega arith
+kind_need_small K.Char first = omega arith
+kind_need_small K.Str first = compact_need_small target.U32 first
+kind_need_small (K.Unsigned w) first = omega (arith, width_most w)
+kind_need_small (K.Signed w) first = omega (arith, width_most w)
+kind_need_small (K.Wide s) first = omega arith
 
 need_small : (f : Form) (first : ℕ) → need f first ≤ 32
-need_small (form.Primitive p) first = primitive_need_small p first
+need_small (form.Primitive p) first = kind_need_small (kind_of p) first
 need_small (form.Compact m) first = compact_need_small m first
 need_small form.Sequence first = compact_need_small target.U32 first
 need_small form.Count first = compact_need_small target.U32 first

@@ -12,18 +12,20 @@ use Rattle.scale_core.specs.declared.compact.Target.TheVariants as target
 use Rattle.scale_core.specs.declared.fault.Reason.{Reason}
 use Rattle.scale_core.specs.declared.fault.Reason.TheVariants as scale
 use Rattle.registry_core.specs.declared.definition.Arm.{Arm}
-use Rattle.registry_core.specs.declared.primitive.Primitive.{Primitive}
-use Rattle.registry_core.specs.declared.primitive.Primitive.TheVariants as P
+use Rattle.registry_core.specs.Kinds.{kind_of, width_bytes}
+use Rattle.registry_core.specs.declared.kind.PrimitiveKind.{PrimitiveKind}
+use Rattle.registry_core.specs.declared.kind.PrimitiveKind.TheVariants as K
 use Rattle.widths_core.specs.Arms.{arm_of}
-use Rattle.widths_core.specs.Layouts.{Layout, primitive_layout}
-use Rattle.grammar_core.specs.Tree.{Leaf, Tree}
+use Rattle.widths_core.specs.Layouts.{Layout, kind_layout}
+use Rattle.grammar_core.specs.Tree.{Tree}
+use Rattle.grammar_core.specs.Tree.{Leaf}
 use Rattle.grammar_core.specs.Tree as tree
 use Rattle.grammar_core.specs.Reading.{layout_at, bool_at, char_from, as_leaf, Refusal, basic}
 use Rattle.grammar_core.specs.declared.form.Form.{Form}
 use Rattle.grammar_core.specs.declared.form.Form.TheVariants as form
 use Rattle.value_core.proofs.Forms.{HasForm}
 use Rattle.decode_core.specs.Machine.{is_cut}
-use Rattle.decode_core.specs.Needs.{compact_need, AreOwn, HasBytes}
+use Rattle.decode_core.specs.Needs.{compact_need, kind_need, AreOwn, HasBytes, IsNoText}
 use Rattle.decode_core.specs.Told.{leaf_own, arm_own, arms_own, length_own, own_at}
 
 -- nothing is left, or the refusal does not wait for more bytes
@@ -103,27 +105,18 @@ arms_whole arms (x ∷ []) h = by (arm_of arms x) where
 
 -- the layouts of nodes that have bytes of their own, other than a text's
 abbrev pub NeedsThese : Form → List ℕ → Type 0
-NeedsThese (form.Primitive P.Str) b = ⊥
+NeedsThese (form.Primitive p) b = IsNoText (kind_of p) × AreOwn (form.Primitive p) b
 NeedsThese (form.Compact m) b = (m ≢ target.Unit) × AreOwn (form.Compact m) b
 NeedsThese f b = HasBytes f × AreOwn f b
 
-primitive_whole : (p : Primitive) (b : List ℕ) → NeedsThese (form.Primitive p) b → IsWhole (own_at (primitive_layout p) b)
+kind_whole : (k : PrimitiveKind) (b : List ℕ) (first : ℕ) → IsNoText k → length b ≡ kind_need k first → IsWhole (own_at (kind_layout k) b)
 unfolding own_at layout_at
-primitive_whole P.Bool b h = bool_whole b h.1.3
-primitive_whole P.Char b h = char_whole b h.1.3
-primitive_whole P.Str b h = absurd h
-primitive_whole P.U8 b h = number_whole (λ c. tree.unsigned (number c)) 1 b h.1.3
-primitive_whole P.U16 b h = number_whole (λ c. tree.unsigned (number c)) 2 b h.1.3
-primitive_whole P.U32 b h = number_whole (λ c. tree.unsigned (number c)) 4 b h.1.3
-primitive_whole P.U64 b h = number_whole (λ c. tree.unsigned (number c)) 8 b h.1.3
-primitive_whole P.U128 b h = number_whole (λ c. tree.unsigned (number c)) 16 b h.1.3
-primitive_whole P.U256 b h = number_whole tree.wide 32 b h.1.3
-primitive_whole P.I8 b h = number_whole (λ c. tree.signed (signed_number c)) 1 b h.1.3
-primitive_whole P.I16 b h = number_whole (λ c. tree.signed (signed_number c)) 2 b h.1.3
-primitive_whole P.I32 b h = number_whole (λ c. tree.signed (signed_number c)) 4 b h.1.3
-primitive_whole P.I64 b h = number_whole (λ c. tree.signed (signed_number c)) 8 b h.1.3
-primitive_whole P.I128 b h = number_whole (λ c. tree.signed (signed_number c)) 16 b h.1.3
-primitive_whole P.I256 b h = number_whole tree.wide 32 b h.1.3
+kind_whole K.Bool b first n h = bool_whole b h
+kind_whole K.Char b first n h = char_whole b h
+kind_whole K.Str b first n h = absurd n
+kind_whole (K.Unsigned w) b first n h = number_whole (λ c. tree.unsigned (number c)) (width_bytes w) b h
+kind_whole (K.Signed w) b first n h = number_whole (λ c. tree.signed (signed_number c)) (width_bytes w) b h
+kind_whole (K.Wide s) b first n h = number_whole tree.wide 32 b h
 
 pub u32_is : target.U32 ≢ target.Unit
 u32_is = λ e. absurd cc
@@ -134,7 +127,7 @@ settled_at m b ne first rest is len = rw is (compact_settled m first rest ne (rw
 pub form_whole : (f : Form) (lay : Layout) (b : List ℕ) → HasForm f lay → NeedsThese f b → IsWhole (own_at lay b)
 unfolding own_at layout_at
 form_whole form.Empty lay b h k = absurd k.0
-form_whole (form.Primitive p) lay b h k = rw h (primitive_whole p b k)
+form_whole (form.Primitive p) lay b h k = rw h (kind_whole (kind_of p) b k.1.0 k.0 k.1.3)
 form_whole (form.Compact m) lay b h k = rw h (value_whole tree.compact (compact_at m b) (settled_at m b k.0 k.1.0 k.1.1 k.1.2 k.1.3))
 form_whole form.Fields lay b h k = absurd k.0
 form_whole form.Arm lay b h k = rw h.1 (arms_whole h.0 b k.1.3)

@@ -3,8 +3,10 @@ use Rattle.std.specs.Prelude.{◌≡◌, ℕ, List, ◌∷◌, length, if◌then
 use Rattle.scale_core.specs.Read.{is_too_long, form_len}
 use Rattle.scale_core.specs.declared.compact.Target.{Target}
 use Rattle.scale_core.specs.declared.compact.Target.TheVariants as target
+use Rattle.registry_core.specs.Kinds.{kind_of, width_bytes}
+use Rattle.registry_core.specs.declared.kind.PrimitiveKind.{PrimitiveKind}
+use Rattle.registry_core.specs.declared.kind.PrimitiveKind.TheVariants as K
 use Rattle.registry_core.specs.declared.primitive.Primitive.{Primitive}
-use Rattle.registry_core.specs.declared.primitive.Primitive.TheVariants as P
 use Rattle.grammar_core.specs.declared.form.Form.{Form}
 use Rattle.grammar_core.specs.declared.form.Form.TheVariants as form
 
@@ -13,22 +15,16 @@ abbrev pub compact_need : Target → ℕ → ℕ
 compact_need m first = if is_too_long m first then 1 else form_len first
 
 -- of a text the length alone
+abbrev pub kind_need : PrimitiveKind → ℕ → ℕ
+kind_need K.Bool first = 1
+kind_need K.Char first = 4
+kind_need K.Str first = compact_need target.U32 first
+kind_need (K.Unsigned w) first = width_bytes w
+kind_need (K.Signed w) first = width_bytes w
+kind_need (K.Wide s) first = 32
+
 abbrev pub primitive_need : Primitive → ℕ → ℕ
-primitive_need P.Bool first = 1
-primitive_need P.Char first = 4
-primitive_need P.Str first = compact_need target.U32 first
-primitive_need P.U8 first = 1
-primitive_need P.U16 first = 2
-primitive_need P.U32 first = 4
-primitive_need P.U64 first = 8
-primitive_need P.U128 first = 16
-primitive_need P.U256 first = 32
-primitive_need P.I8 first = 1
-primitive_need P.I16 first = 2
-primitive_need P.I32 first = 4
-primitive_need P.I64 first = 8
-primitive_need P.I128 first = 16
-primitive_need P.I256 first = 32
+primitive_need p first = kind_need (kind_of p) first
 
 abbrev pub need : Form → ℕ → ℕ
 need form.Empty first = 0
@@ -47,8 +43,12 @@ HasBytes form.Fields = ⊥
 HasBytes (form.Array n) = ⊥
 HasBytes _ = Unit {0}
 
+abbrev pub IsNoText : PrimitiveKind → Type 0
+IsNoText K.Str = ⊥
+IsNoText _ = Unit {0}
+
 abbrev pub NoText : Form → Type 0
-NoText (form.Primitive P.Str) = ⊥
+NoText (form.Primitive p) = IsNoText (kind_of p)
 NoText _ = Unit {0}
 
 -- as many as are needed, and no more

@@ -4,7 +4,6 @@ use Rattle.scale_core.specs.Read.{Read, place, compact_at}
 use Rattle.scale_core.specs.declared.compact.Target.TheVariants as target
 use Rattle.scale_core.specs.declared.fault.Fault.{Fault}
 use Rattle.scale_core.specs.declared.fault.Reason.{Reason}
-use Rattle.registry_core.specs.declared.primitive.Primitive.{Primitive}
 use Rattle.registry_core.specs.declared.primitive.Primitive.TheVariants as P
 use Rattle.value_core.specs.Built.{Built, with_leaf, with_open, with_text_opened, next_layout}
 use Rattle.grammar_core.specs.Parts.{Part}
@@ -20,32 +19,10 @@ use Rattle.decode_core.specs.declared.run.OpenText.{OpenText}
 use Rattle.decode_core.specs.declared.node.NodeFault.{NodeFault}
 use Rattle.decode_core.specs.declared.node.NodeFault.TheVariants as fault
 
--- an integer type of at most sixteen bytes, and how many it has
-abbrev pub unsigned_bytes : Primitive → Option ℕ
-unsigned_bytes P.U8 = Some 1
-unsigned_bytes P.U16 = Some 2
-unsigned_bytes P.U32 = Some 4
-unsigned_bytes P.U64 = Some 8
-unsigned_bytes P.U128 = Some 16
-unsigned_bytes _ = None
-
-abbrev pub signed_bytes : Primitive → Option ℕ
-signed_bytes P.I8 = Some 1
-signed_bytes P.I16 = Some 2
-signed_bytes P.I32 = Some 4
-signed_bytes P.I64 = Some 8
-signed_bytes P.I128 = Some 16
-signed_bytes _ = None
-
 -- the answer is what is read on the front of the bytes
 abbrev pub Reads : {X : Type 0} → List ℕ → Result X Fault → Read Reason X → Type 0
 Reads own (Ok x) read = (rest : List ℕ) × (read ≡ Ok (x, rest))
 Reads own (Err f) read = (left : List ℕ) × (read ≡ Err (f.reason, left)) × (f.at ≡ place own left)
-
--- the same of an integer type, where there is one
-abbrev pub ReadsBytes : {X : Type 0} → (ℕ → List ℕ → Read Reason X) → List ℕ → Result X Fault → Option ℕ → Type 0
-ReadsBytes read own result (Some k) = Reads own result (read k own)
-ReadsBytes read own result None = Unit {0}
 
 -- a node without children, or one that opens these parts
 abbrev pub with_own : Built → Head × Option Part → Built

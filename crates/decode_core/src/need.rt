@@ -4,7 +4,7 @@ ghost use Rattle.std.specs.Prelude.{◌≡◌, ◌≤◌};
 ghost use Rattle.scale_core.specs.Compact.{target_bytes};
 ghost use Rattle.decode_core.specs.Needs.{compact_need, primitive_need, need, HasBytes};
 
-use registry_core::Primitive;
+use registry_core::{Primitive, PrimitiveKind};
 use scale_core::Target;
 use value_core::Form;
 
@@ -50,14 +50,12 @@ fn primitive_need(primitive: Primitive, first: u8) -> usize
     ensures some { 1 ≤ result }
     ensures bound { result ≤ 32 }
 {
-    match primitive {
-        Primitive::Bool | Primitive::U8 | Primitive::I8 => 1,
-        Primitive::U16 | Primitive::I16 => 2,
-        Primitive::Char | Primitive::U32 | Primitive::I32 => 4,
-        Primitive::U64 | Primitive::I64 => 8,
-        Primitive::U128 | Primitive::I128 => 16,
-        Primitive::U256 | Primitive::I256 => 32,
-        Primitive::Str => compact_need(Target::U32, first),
+    match primitive.kind() {
+        PrimitiveKind::Bool => 1,
+        PrimitiveKind::Char => 4,
+        PrimitiveKind::Str => compact_need(Target::U32, first),
+        PrimitiveKind::Unsigned(width) | PrimitiveKind::Signed(width) => width.bytes(),
+        PrimitiveKind::Wide(_) => 32,
     }
 }
 

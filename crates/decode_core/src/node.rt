@@ -1,16 +1,17 @@
 //! Adding a node by the bytes that are its own.
 
-ghost use Rattle.std.specs.Prelude.{◌≡◌, ℕ, IfOk, IfErr, OnOk, IsSome, None, is_ok, true, []};
+ghost use Rattle.std.specs.Prelude.{◌≡◌, ℕ, IfOk, IfErr, OnOk, Some, None, is_ok, true, []};
 ghost use Rattle.scale_core.specs.Read.{compact_at, number_at, signed_at};
-ghost use Rattle.value_core.specs.Refusals.{suits_unsigned, suits_signed};
+ghost use Rattle.registry_core.specs.Kinds.{width_bytes};
+ghost use Rattle.value_core.specs.Refusals.{up_to, most_unsigned, within, most_signed};
 ghost use Rattle.value_core.specs.Walked.{next_of};
 ghost use Rattle.grammar_core.specs.Reading.{basic};
 ghost use Rattle.decode_core.specs.Needs.{AreOwn, HasBytes, NoText};
-ghost use Rattle.decode_core.specs.NodeAdds.{unsigned_bytes, signed_bytes, Reads, ReadsBytes, AddsNode, OpensText};
+ghost use Rattle.decode_core.specs.NodeAdds.{Reads, AddsNode, OpensText};
 ghost use Rattle.decode_core.specs.Reasons.{reason_of};
 
 use crate::fault::DecodeReason;
-use registry_core::Primitive;
+use registry_core::{IntegerWidth, Primitive, PrimitiveKind};
 use scale_core::{
     Fault, Target, read_bool, read_char, read_compact, read_i8, read_i16, read_i32, read_i64,
     read_i128, read_u8, read_u16, read_u32, read_u64, read_u128, read_wide,
@@ -40,37 +41,33 @@ impl From<Fault> for NodeFault {
     }
 }
 
-/// Reads an unsigned integer of at most sixteen bytes off the front of the bytes.
+/// Reads an unsigned integer of this width off the front of the bytes.
 #[tactic(auto, using(crate::proofs::ReadFronts::read_is))]
-fn read_unsigned(primitive: Primitive, own: &[u8]) -> Result<u128, Fault>
-    requires { IsSome (unsigned_bytes primitive) }
-    ensures reads { ReadsBytes number_at own.now result (unsigned_bytes primitive) }
-    ensures fits { IfOk result (λ n. suits_unsigned n (Form.Primitive primitive) ≡ None) }
+fn read_unsigned(width: IntegerWidth, own: &[u8]) -> Result<u128, Fault>
+    ensures reads { Reads own.now result (number_at (width_bytes width) own.now) }
+    ensures fits { IfOk result (λ n. up_to n (Some (most_unsigned width)) ≡ None) }
 {
-    Ok(match primitive {
-        Primitive::U8 => u128::from(read_u8(own)?.0),
-        Primitive::U16 => u128::from(read_u16(own)?.0),
-        Primitive::U32 => u128::from(read_u32(own)?.0),
-        Primitive::U64 => u128::from(read_u64(own)?.0),
-        Primitive::U128 => read_u128(own)?.0,
-        _ => unreachable!(),
+    Ok(match width {
+        IntegerWidth::W8 => u128::from(read_u8(own)?.0),
+        IntegerWidth::W16 => u128::from(read_u16(own)?.0),
+        IntegerWidth::W32 => u128::from(read_u32(own)?.0),
+        IntegerWidth::W64 => u128::from(read_u64(own)?.0),
+        IntegerWidth::W128 => read_u128(own)?.0,
     })
 }
 
-/// Reads a signed integer of at most sixteen bytes off the front of the bytes.
+/// Reads a signed integer of this width off the front of the bytes.
 #[tactic(auto, using(crate::proofs::ReadFronts::read_is))]
-fn read_signed(primitive: Primitive, own: &[u8]) -> Result<i128, Fault>
-    requires { IsSome (signed_bytes primitive) }
-    ensures reads { ReadsBytes signed_at own.now result (signed_bytes primitive) }
-    ensures fits { IfOk result (λ z. suits_signed z (Form.Primitive primitive) ≡ None) }
+fn read_signed(width: IntegerWidth, own: &[u8]) -> Result<i128, Fault>
+    ensures reads { Reads own.now result (signed_at (width_bytes width) own.now) }
+    ensures fits { IfOk result (λ z. within z (Some (most_signed width)) ≡ None) }
 {
-    Ok(match primitive {
-        Primitive::I8 => i128::from(read_i8(own)?.0),
-        Primitive::I16 => i128::from(read_i16(own)?.0),
-        Primitive::I32 => i128::from(read_i32(own)?.0),
-        Primitive::I64 => i128::from(read_i64(own)?.0),
-        Primitive::I128 => read_i128(own)?.0,
-        _ => unreachable!(),
+    Ok(match width {
+        IntegerWidth::W8 => i128::from(read_i8(own)?.0),
+        IntegerWidth::W16 => i128::from(read_i16(own)?.0),
+        IntegerWidth::W32 => i128::from(read_i32(own)?.0),
+        IntegerWidth::W64 => i128::from(read_i64(own)?.0),
+        IntegerWidth::W128 => read_i128(own)?.0,
     })
 }
 
@@ -122,17 +119,13 @@ fn add_primitive<A: Allocator>(
     requires whole { AreOwn (Form.Primitive primitive) own.now }
     ensures { AddsNode builder.old builder.new own.now result }
 {
-    match primitive {
-        Primitive::Bool => kept(builder.bool(read_bool(own)?.0)),
-        Primitive::Char => kept(builder.char(read_char(own)?.0)),
-        Primitive::U8 | Primitive::U16 | Primitive::U32 | Primitive::U64 | Primitive::U128 => {
-            kept(builder.unsigned(read_unsigned(primitive, own)?))
-        }
-        Primitive::I8 | Primitive::I16 | Primitive::I32 | Primitive::I64 | Primitive::I128 => {
-            kept(builder.signed(read_signed(primitive, own)?))
-        }
-        Primitive::U256 | Primitive::I256 => kept(builder.wide(read_wide(own)?.0)),
-        Primitive::Str => unreachable!(),
+    match primitive.kind() {
+        PrimitiveKind::Bool => kept(builder.bool(read_bool(own)?.0)),
+        PrimitiveKind::Char => kept(builder.char(read_char(own)?.0)),
+        PrimitiveKind::Unsigned(width) => kept(builder.unsigned(read_unsigned(width, own)?)),
+        PrimitiveKind::Signed(width) => kept(builder.signed(read_signed(width, own)?)),
+        PrimitiveKind::Wide(_) => kept(builder.wide(read_wide(own)?.0)),
+        PrimitiveKind::Str => unreachable!(),
     }
 }
 

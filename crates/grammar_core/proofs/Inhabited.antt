@@ -10,8 +10,9 @@ use Rattle.scale_core.specs.declared.compact.Target.{Target}
 use Rattle.scale_core.specs.declared.compact.Target.TheVariants as target
 use Rattle.scale_core.proofs.Numbers.{both_bytes}
 use Rattle.registry_core.specs.declared.definition.Arm.{Arm}
-use Rattle.registry_core.specs.declared.primitive.Primitive.{Primitive}
-use Rattle.registry_core.specs.declared.primitive.Primitive.TheVariants as P
+use Rattle.registry_core.specs.Kinds.{kind_of, width_bytes}
+use Rattle.registry_core.specs.declared.kind.PrimitiveKind.{PrimitiveKind}
+use Rattle.registry_core.specs.declared.kind.PrimitiveKind.TheVariants as K
 use Rattle.registry_core.specs.declared.definition.TypeDef.{TypeDef}
 use Rattle.registry_core.specs.declared.definition.TypeDef.TheVariants as Def
 use Rattle.registry_core.specs.declared.type_info.TypeInfo.{TypeInfo}
@@ -22,7 +23,7 @@ use Rattle.graph_core.specs.References.{references}
 use Rattle.widths_core.specs.Targets.{target_of}
 use Rattle.widths_core.specs.Reach.{IsAmong, here, there, IsPlain}
 use Rattle.widths_core.specs.Classes.{finite_within, finite_step, holds_at, is_empty}
-use Rattle.widths_core.specs.Layouts.{Layout, layout, sized_layout, primitive_layout, sequence_layout, compact_layout}
+use Rattle.widths_core.specs.Layouts.{Layout, layout, sized_layout, kind_layout, sequence_layout, compact_layout}
 use Rattle.widths_core.specs.Layouts as layout
 use Rattle.widths_core.proofs.Ranks.{and_parts, or_parts}
 use Rattle.grammar_core.specs.Tree.{Tree, leaf, branch, unit, bool, char, text, unsigned, signed, wide, compact as compact_value, fields, arm, list, count, Trees, none, and, how_many}
@@ -161,23 +162,14 @@ char_value : (r : List TypeInfo) (t : ℕ) → layout r t ≡ layout.char → Ha
 unfolding Val zeros
 char_value r t e = (leaf (char 0), zeros 4, zeros-bytes 4, (e, refl, refl, refl))
 
-primitive_value : (r : List TypeInfo) (t : ℕ) (p : Primitive) → layout r t ≡ primitive_layout p → HasValue r t
+kind_value : (r : List TypeInfo) (t : ℕ) (k : PrimitiveKind) → layout r t ≡ kind_layout k → HasValue r t
 unfolding Val
-primitive_value r t P.Bool e = (leaf (bool false), 0 ∷ [], (omega arith, tt), (e, refl))
-primitive_value r t P.Char e = char_value r t e
-primitive_value r t P.Str e = (leaf (text []), compact 0 ++ [], both_bytes (compact 0) [] zero-bytes tt, (e, (compact 0, u32_zero, no_text, refl)))
-primitive_value r t P.U8 e = unsigned_value r t 1 e
-primitive_value r t P.U16 e = unsigned_value r t 2 e
-primitive_value r t P.U32 e = unsigned_value r t 4 e
-primitive_value r t P.U64 e = unsigned_value r t 8 e
-primitive_value r t P.U128 e = unsigned_value r t 16 e
-primitive_value r t P.U256 e = wide_value r t e
-primitive_value r t P.I8 e = signed_value r t 1 e
-primitive_value r t P.I16 e = signed_value r t 2 e
-primitive_value r t P.I32 e = signed_value r t 4 e
-primitive_value r t P.I64 e = signed_value r t 8 e
-primitive_value r t P.I128 e = signed_value r t 16 e
-primitive_value r t P.I256 e = wide_value r t e
+kind_value r t K.Bool e = (leaf (bool false), 0 ∷ [], (omega arith, tt), (e, refl))
+kind_value r t K.Char e = char_value r t e
+kind_value r t K.Str e = (leaf (text []), compact 0 ++ [], both_bytes (compact 0) [] zero-bytes tt, (e, (compact 0, u32_zero, no_text, refl)))
+kind_value r t (K.Unsigned w) e = unsigned_value r t (width_bytes w) e
+kind_value r t (K.Signed w) e = signed_value r t (width_bytes w) e
+kind_value r t (K.Wide s) e = wide_value r t e
 
 sequence_value : (r : List TypeInfo) (t u : ℕ) (b : Bool) → layout r t ≡ sequence_layout u b → HasValue r t
 unfolding Val
@@ -208,7 +200,7 @@ sized_value r k t (Def.Sequence u) fits plain is child e h = sequence_value r t 
 sized_value r k t (Def.Array zero u) fits plain is child e h = (branch list none, [], tt, inl (0, u.0, e, refl, refl))
 sized_value r k t (Def.Array (suc n) u) fits plain is child e h = let all = repeated r u.0 (suc n) (child u.0 (inl refl) h) in (branch list all.0, all.1, all.2, inl (suc n, u.0, e, all.3, all.4))
 sized_value r k t (Def.Tuple ts) fits plain is child e h = let all = all_values r (finite_within r k) (ids ts) child h in (branch fields all.0, all.1, all.2, (ids ts, e, all.3))
-sized_value r k t (Def.Primitive p) fits plain is child e h = primitive_value r t p e
+sized_value r k t (Def.Primitive p) fits plain is child e h = kind_value r t (kind_of p) e
 sized_value r k t (Def.Compact u) fits plain is child e h = compact_of r t (target_of r u.0) (λ none. plain t (Def.Compact u) here is none) e
 sized_value r k t (Def.BitSequence store order) fits plain is child e h = absurd (plain t (Def.BitSequence store order) here is tt)
 

@@ -11,8 +11,10 @@ use Rattle.scale_core.specs.declared.compact.Target.{Target}
 use Rattle.scale_core.specs.declared.compact.Target.TheVariants as target
 use Rattle.scale_core.proofs.Numbers.{le_bytes-number, number-bound, front_bytes, rest_bytes, neg-pos}
 use Rattle.registry_core.specs.declared.definition.Arm.{Arm}
-use Rattle.registry_core.specs.declared.primitive.Primitive.{Primitive}
-use Rattle.registry_core.specs.declared.primitive.Primitive.TheVariants as P
+use Rattle.registry_core.specs.Kinds.{kind_of}
+use Rattle.registry_core.specs.declared.kind.PrimitiveKind.{PrimitiveKind}
+use Rattle.registry_core.specs.declared.kind.PrimitiveKind.TheVariants as K
+use Rattle.registry_core.proofs.Widths.{width_most}
 use Rattle.registry_core.specs.declared.definition.TypeDef.{TypeDef}
 use Rattle.registry_core.specs.declared.definition.TypeDef.TheVariants as Def
 use Rattle.registry_core.specs.declared.type_info.TypeInfo.{TypeInfo}
@@ -20,7 +22,7 @@ use Rattle.graph_core.specs.Types.{shape, field_types}
 use Rattle.widths_core.specs.Arms.{arm_of}
 use Rattle.widths_core.specs.Targets.{target_of}
 use Rattle.widths_core.specs.Classes.{is_empty}
-use Rattle.widths_core.specs.Layouts.{Layout, layout, layout_of_shape, sized_layout, primitive_layout, sequence_layout, compact_layout}
+use Rattle.widths_core.specs.Layouts.{Layout, layout, layout_of_shape, sized_layout, kind_layout, sequence_layout, compact_layout}
 use Rattle.widths_core.specs.Layouts as layout
 use Rattle.widths_core.proofs.Known.{empty_class, layout_empty}
 use Rattle.widths_core.proofs.FirstArm.{arm_is_first}
@@ -30,7 +32,7 @@ use Rattle.grammar_core.specs.Grammar.{Val, Vals, Each, IsLeaf}
 use Rattle.grammar_core.specs.Parts.{each, times}
 use Rattle.grammar_core.specs.Cells.{cells, all_cells}
 use Rattle.grammar_core.proofs.Emptiness.{compact_value_of, known_at}
-use Rattle.grammar_core.specs.Spelled.{leaf_bytes, width_of, word, index_of, index_byte, is_sequence, length_bytes, cell_bytes, spelled, EncodedIsValue}
+use Rattle.grammar_core.specs.Spelled.{leaf_bytes, kind_width, width_of, word, index_of, index_byte, is_sequence, length_bytes, cell_bytes, spelled, EncodedIsValue}
 
 -- ---- what the layout of a type says of its definition
 
@@ -42,22 +44,13 @@ Shaped (layout.sequence t) d = is_sequence d ≡ true
 Shaped (layout.array n t) d = is_sequence d ≡ false
 Shaped _ d = Unit {0}
 
-shaped_primitive : (p : Primitive) → Shaped (primitive_layout p) (Some (Def.Primitive p))
-shaped_primitive P.Bool = tt
-shaped_primitive P.Char = tt
-shaped_primitive P.Str = tt
-shaped_primitive P.U8 = refl
-shaped_primitive P.U16 = refl
-shaped_primitive P.U32 = refl
-shaped_primitive P.U64 = refl
-shaped_primitive P.U128 = refl
-shaped_primitive P.U256 = tt
-shaped_primitive P.I8 = (refl, omega arith)
-shaped_primitive P.I16 = (refl, omega arith)
-shaped_primitive P.I32 = (refl, omega arith)
-shaped_primitive P.I64 = (refl, omega arith)
-shaped_primitive P.I128 = (refl, omega arith)
-shaped_primitive P.I256 = tt
+shaped_kind : (k : PrimitiveKind) (d : Option TypeDef) → width_of d ≡ kind_width k → Shaped (kind_layout k) d
+shaped_kind K.Bool d h = tt
+shaped_kind K.Char d h = tt
+shaped_kind K.Str d h = tt
+shaped_kind (K.Unsigned w) d h = h
+shaped_kind (K.Signed w) d h = (h, width_most w)
+shaped_kind (K.Wide s) d h = tt
 
 shaped_sequence : (t : ℕ) (e : Bool) (d : Option TypeDef) → is_sequence d ≡ true → Shaped (sequence_layout t e) d
 shaped_sequence t true d h = tt
@@ -73,7 +66,7 @@ shaped_sized r (Def.Variant as') = refl
 shaped_sized r (Def.Sequence t) = shaped_sequence t.0 (is_empty r t.0) (Some (Def.Sequence t)) refl
 shaped_sized r (Def.Array n t) = refl
 shaped_sized r (Def.Tuple ts) = tt
-shaped_sized r (Def.Primitive p) = shaped_primitive p
+shaped_sized r (Def.Primitive p) = shaped_kind (kind_of p) (Some (Def.Primitive p)) refl
 shaped_sized r (Def.Compact t) = shaped_compact (target_of r t.0) (Some (Def.Compact t))
 shaped_sized r (Def.BitSequence store order) = tt
 

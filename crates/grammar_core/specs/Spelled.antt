@@ -2,8 +2,10 @@
 use Rattle.std.specs.Prelude.{◌≡◌, ℕ, suc, ◌-◌, ◌^◌, ℤ, pos, negsuc, List, [], ◌∷◌, ◌++◌, length, flat_map, Option, Some, None, slice_get, option_map, Bool, true, false, if◌then◌else◌}
 use Rattle.scale_core.specs.Number.{AreBytes, le_bytes, bool_byte}
 use Rattle.scale_core.specs.Compact.{compact}
+use Rattle.registry_core.specs.Kinds.{kind_of, width_bytes}
+use Rattle.registry_core.specs.declared.kind.PrimitiveKind.{PrimitiveKind}
+use Rattle.registry_core.specs.declared.kind.PrimitiveKind.TheVariants as K
 use Rattle.registry_core.specs.declared.primitive.Primitive.{Primitive}
-use Rattle.registry_core.specs.declared.primitive.Primitive.TheVariants as P
 use Rattle.registry_core.specs.declared.definition.TypeDef.{TypeDef}
 use Rattle.registry_core.specs.declared.definition.TypeDef.TheVariants as Def
 use Rattle.registry_core.specs.declared.type_info.TypeInfo.{TypeInfo}
@@ -16,18 +18,13 @@ use Rattle.grammar_core.specs.Preorder.{Head}
 use Rattle.grammar_core.specs.Cells.{Cell, cells}
 
 -- how many bytes an integer of at most 128 bits has; what is no such integer has none of this kind
+abbrev pub kind_width : PrimitiveKind → ℕ
+kind_width (K.Unsigned w) = width_bytes w
+kind_width (K.Signed w) = width_bytes w
+kind_width _ = 0
+
 abbrev pub byte_width : Primitive → ℕ
-byte_width P.U8 = 1
-byte_width P.U16 = 2
-byte_width P.U32 = 4
-byte_width P.U64 = 8
-byte_width P.U128 = 16
-byte_width P.I8 = 1
-byte_width P.I16 = 2
-byte_width P.I32 = 4
-byte_width P.I64 = 8
-byte_width P.I128 = 16
-byte_width _ = 0
+byte_width p = kind_width (kind_of p)
 
 -- the same of a definition
 abbrev pub width_of : Option TypeDef → ℕ

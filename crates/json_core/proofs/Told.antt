@@ -16,14 +16,17 @@ use Rattle.scale_core.proofs.Numbers.{number-bound, neg-pos}
 use Rattle.registry_core.specs.declared.definition.Arm.{Arm}
 use Rattle.registry_core.specs.declared.definition.TypeDef.{TypeDef}
 use Rattle.registry_core.specs.declared.definition.TypeDef.TheVariants as Def
-use Rattle.registry_core.specs.declared.primitive.Primitive.{Primitive}
-use Rattle.registry_core.specs.declared.primitive.Primitive.TheVariants as P
+use Rattle.registry_core.specs.Kinds.{kind_of, width_bytes}
+use Rattle.registry_core.specs.declared.kind.PrimitiveKind.{PrimitiveKind}
+use Rattle.registry_core.specs.declared.kind.PrimitiveKind.TheVariants as K
+use Rattle.registry_core.specs.declared.kind.IntegerWidth.{IntegerWidth}
+use Rattle.registry_core.specs.declared.kind.IntegerWidth.TheVariants as width
 use Rattle.registry_core.specs.declared.type_info.TypeInfo.{TypeInfo}
 use Rattle.graph_core.specs.Types.{shape, field_types}
 use Rattle.widths_core.specs.Arms.{arm_of}
 use Rattle.widths_core.specs.Classes.{is_empty}
 use Rattle.widths_core.specs.Targets.{target_of, compact_target_of, compact_target_of_shape}
-use Rattle.widths_core.specs.Layouts.{Layout, layout, layout_of_shape, sized_layout, primitive_layout, sequence_layout, compact_layout}
+use Rattle.widths_core.specs.Layouts.{Layout, layout, layout_of_shape, sized_layout, kind_layout, sequence_layout, compact_layout}
 use Rattle.widths_core.specs.Layouts as layout
 use Rattle.grammar_core.specs.Tree.{Tree, Trees, how_many}
 use Rattle.grammar_core.specs.Tree as tree
@@ -36,7 +39,7 @@ use Rattle.value_core.specs.Whats.{what_of}
 use Rattle.value_core.specs.declared.what.What.{What}
 use Rattle.value_core.specs.declared.what.What.TheVariants as what
 use Rattle.value_core.proofs.Below.{arm_get, arm_part_is}
-use Rattle.json_core.specs.Defined.{unsigned_by, signed_by, is_long, is_long_target, arm_in}
+use Rattle.json_core.specs.Defined.{unsigned_by, signed_by, is_long_kind, is_long, is_long_target, arm_in}
 use Rattle.json_core.specs.Json.{json_of, json_seen, all_json, each_json, unsigned_json, signed_json, unsigned_of, signed_of, wide_json, parts_json, fields_json, arm_json, arm_at, arm_types, part_types, element_type}
 use Rattle.json_core.proofs.Children.{jsons, all_is, each_is}
 
@@ -53,22 +56,20 @@ Defined r (layout.arms as') d = d ≡ Some (Def.Variant as')
 Defined r (layout.compact m) d = compact_target_of_shape r d ≡ Some m
 Defined r _ d = Unit {0}
 
-defined_primitive : (r : List TypeInfo) (p : Primitive) → Defined r (primitive_layout p) (Some (Def.Primitive p))
-defined_primitive r P.Bool = tt
-defined_primitive r P.Char = tt
-defined_primitive r P.Str = tt
-defined_primitive r P.U8 = inr (refl, refl, omega arith)
-defined_primitive r P.U16 = inr (refl, refl, omega arith)
-defined_primitive r P.U32 = inr (refl, refl, omega arith)
-defined_primitive r P.U64 = inr (refl, refl, omega arith)
-defined_primitive r P.U128 = inl (refl, refl)
-defined_primitive r P.U256 = tt
-defined_primitive r P.I8 = inr (refl, refl, omega arith)
-defined_primitive r P.I16 = inr (refl, refl, omega arith)
-defined_primitive r P.I32 = inr (refl, refl, omega arith)
-defined_primitive r P.I64 = inr (refl, refl, omega arith)
-defined_primitive r P.I128 = inl (refl, refl)
-defined_primitive r P.I256 = tt
+long_width : (w : IntegerWidth) → Long (width_bytes w) (nat_lt 8 (width_bytes w))
+long_width width.W8 = inr (refl, refl, omega arith)
+long_width width.W16 = inr (refl, refl, omega arith)
+long_width width.W32 = inr (refl, refl, omega arith)
+long_width width.W64 = inr (refl, refl, omega arith)
+long_width width.W128 = inl (refl, refl)
+
+defined_kind : (r : List TypeInfo) (k : PrimitiveKind) (d : Option TypeDef) → is_long d ≡ is_long_kind k → Defined r (kind_layout k) d
+defined_kind r K.Bool d h = tt
+defined_kind r K.Char d h = tt
+defined_kind r K.Str d h = tt
+defined_kind r (K.Unsigned w) d h = rw h (long_width w)
+defined_kind r (K.Signed w) d h = rw h (long_width w)
+defined_kind r (K.Wide s) d h = tt
 
 defined_sequence : (r : List TypeInfo) (t : ℕ) (e : Bool) (d : Option TypeDef) → Defined r (sequence_layout t e) d
 defined_sequence r t true d = tt
@@ -84,7 +85,7 @@ defined_sized r (Def.Variant as') = refl
 defined_sized r (Def.Sequence t) = defined_sequence r t.0 (is_empty r t.0) (Some (Def.Sequence t))
 defined_sized r (Def.Array n t) = tt
 defined_sized r (Def.Tuple ts) = tt
-defined_sized r (Def.Primitive p) = defined_primitive r p
+defined_sized r (Def.Primitive p) = defined_kind r (kind_of p) (Some (Def.Primitive p)) refl
 defined_sized r (Def.Compact t) = defined_compact r (target_of r t.0) (Some (Def.Compact t)) refl
 defined_sized r (Def.BitSequence store order) = tt
 

@@ -7,27 +7,37 @@ ghost use Rattle.serde_json.specs.View.{view, items_view, items_of};
 ghost use Rattle.widths_core.specs.Targets.{compact_target_of};
 ghost use Rattle.graph_core.specs.Types.{shape};
 ghost use Rattle.value_core.specs.Shown.{children_of};
-ghost use Rattle.json_core.specs.Defined.{is_long, is_long_target, arm_in};
+ghost use Rattle.json_core.specs.Defined.{is_long_primitive, is_long, is_long_target, arm_in};
 ghost use Rattle.json_core.specs.Json.{fields_json, parts_json, json_seen};
 
 use crate::fields::fields_json;
 use crate::integers::{signed_json, unsigned_json, wide_json};
 use grammar_core::shape;
-use registry_core::{Arm, Primitive, TypeDef, TypeId};
+use registry_core::{Arm, Primitive, PrimitiveKind, TypeDef, TypeId};
 use scale_core::Target;
 use serde_json::{Map, Value};
 use std::alloc::{AllocError, Allocator, Global};
 use value_core::{NodeRef, What};
 use widths_core::Checked;
 
+/// Is the primitive an integer of 128 bits?
+fn is_long_primitive(primitive: Primitive) -> bool
+    ensures { result ≡ is_long_primitive primitive }
+{
+    match primitive.kind() {
+        PrimitiveKind::Unsigned(width) | PrimitiveKind::Signed(width) => width.bytes() > 8,
+        _ => false,
+    }
+}
+
 /// Is the type an integer of 128 bits?
 fn is_long(checked: &Checked, ty: TypeId) -> bool
     ensures { result ≡ is_long (shape checked.now.types ty.0) }
 {
-    matches!(
-        shape(checked, ty),
-        Some(TypeDef::Primitive(Primitive::U128 | Primitive::I128))
-    )
+    match shape(checked, ty) {
+        Some(TypeDef::Primitive(primitive)) => is_long_primitive(*primitive),
+        _ => false,
+    }
 }
 
 /// Is the type a compact integer of 128 bits?

@@ -5,5 +5,6 @@ pub mod Places
 pub mod Spelled
 pub mod Steady
 pub mod Whole
+pub mod Widths
 pub mod Positions
 pub mod Rows

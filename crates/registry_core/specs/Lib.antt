@@ -2,6 +2,7 @@ pub mod Answers
 pub mod Bytes
 pub mod Fits
 pub mod Gives
+pub mod Kinds
 pub mod Laws
 pub mod Reading
 pub mod Rows

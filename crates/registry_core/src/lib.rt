@@ -5,6 +5,7 @@
 mod definition;
 mod fault;
 mod items;
+mod kind;
 pub mod laws;
 mod primitive;
 mod reading;
@@ -17,6 +18,7 @@ mod writing;
 pub use definition::{Arm, Field, TypeDef};
 pub use fault::{RegistryFault, RegistryReason};
 pub use items::Items;
+pub use kind::{IntegerWidth, PrimitiveKind, Signedness};
 pub use primitive::Primitive;
 pub use reading::{read_metadata, read_registry};
 pub use registry::Registry;

@@ -2,6 +2,8 @@
 
 ghost use Rattle.std.specs.Prelude.{◌≡◌, slice_get};
 
+use crate::kind::{IntegerWidth, PrimitiveKind, Signedness};
+
 /// A primitive type (scale-info, `TypeDefPrimitive`), in the order of the bytes that spell them, from 0.
 #[derive(Clone, Copy, Debug, PartialEq, Eq)]
 pub enum Primitive {
@@ -27,6 +29,30 @@ pub enum Primitive {
 
 impl Primitive {
     ghost use Rattle.registry_core.specs.Bytes.{primitives, primitive_byte};
+    ghost use Rattle.registry_core.specs.Kinds.{kind_of};
+
+    /// What kind of type this primitive is.
+    pub fn kind(self) -> PrimitiveKind
+        ensures { result ≡ kind_of self }
+    {
+        match self {
+            Primitive::Bool => PrimitiveKind::Bool,
+            Primitive::Char => PrimitiveKind::Char,
+            Primitive::Str => PrimitiveKind::Str,
+            Primitive::U8 => PrimitiveKind::Unsigned(IntegerWidth::W8),
+            Primitive::U16 => PrimitiveKind::Unsigned(IntegerWidth::W16),
+            Primitive::U32 => PrimitiveKind::Unsigned(IntegerWidth::W32),
+            Primitive::U64 => PrimitiveKind::Unsigned(IntegerWidth::W64),
+            Primitive::U128 => PrimitiveKind::Unsigned(IntegerWidth::W128),
+            Primitive::U256 => PrimitiveKind::Wide(Signedness::Unsigned),
+            Primitive::I8 => PrimitiveKind::Signed(IntegerWidth::W8),
+            Primitive::I16 => PrimitiveKind::Signed(IntegerWidth::W16),
+            Primitive::I32 => PrimitiveKind::Signed(IntegerWidth::W32),
+            Primitive::I64 => PrimitiveKind::Signed(IntegerWidth::W64),
+            Primitive::I128 => PrimitiveKind::Signed(IntegerWidth::W128),
+            Primitive::I256 => PrimitiveKind::Wide(Signedness::Signed),
+        }
+    }
 
     /// The primitive of this byte, and none for a byte above `0e`.
     pub(crate) fn from_byte(byte: u8) -> Option<Primitive>

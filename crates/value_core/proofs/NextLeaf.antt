@@ -1,5 +1,5 @@
 -- The values that a node without children may be, by the form that is next.
-use Rattle.std.proofs.Common.{◌≡◌, ◌-◌, ℕ, suc, ◌*◌, ℤ, pos, negsuc, ◌<◌, ◌≤◌, ◌^◌, List, [], ◌∷◌, ◌++◌, Bool, true, false, length, Some, refl, ◌∙◌, ◌⊎◌, inl, inr, arith}
+use Rattle.std.proofs.Common.{◌≡◌, ◌-◌, ℕ, suc, ◌*◌, ℤ, pos, negsuc, ◌/◌, ◌<◌, ◌≤◌, ◌^◌, List, [], ◌∷◌, ◌++◌, Bool, true, false, length, Some, refl, ap, ◌∙◌, arith}
 use Rattle.std.specs.Prelude.{not, nat_lt, ◌||◌, ◌&&◌, if◌then◌else◌}
 use Rattle.std.specs.Str.{is_utf8}
 use Rattle.std.proofs.lemmas.Bool.{lt-ltb, le-ltb, ltb-false}
@@ -9,9 +9,14 @@ use Rattle.scale_core.specs.declared.compact.Target.{Target}
 use Rattle.scale_core.specs.declared.compact.Target.TheVariants as target
 use Rattle.scale_core.proofs.Numbers.{length-le_bytes, number-le_bytes, both_bytes}
 use Rattle.scale_core.proofs.Forms.{are_le_bytes, are_compact}
+use Rattle.registry_core.specs.Kinds.{kind_of, width_bytes}
+use Rattle.registry_core.specs.declared.kind.IntegerWidth.{IntegerWidth}
+use Rattle.registry_core.specs.declared.kind.Signedness.{Signedness}
+use Rattle.registry_core.specs.declared.kind.PrimitiveKind.TheVariants as K
+use Rattle.registry_core.proofs.Widths.{width_halves, width_numbers}
 use Rattle.registry_core.specs.declared.primitive.Primitive.{Primitive}
 use Rattle.registry_core.specs.declared.primitive.Primitive.TheVariants as P
-use Rattle.widths_core.specs.Layouts.{Layout, layout, primitive_layout}
+use Rattle.widths_core.specs.Layouts.{layout, kind_layout}
 use Rattle.widths_core.specs.Layouts as layout
 use Rattle.grammar_core.specs.Grammar.{Val}
 use Rattle.grammar_core.specs.Preorder as head
@@ -19,7 +24,7 @@ use Rattle.grammar_core.specs.Tree as tree
 use Rattle.grammar_core.specs.declared.form.Form.TheVariants as form
 use Rattle.grammar_core.specs.declared.form.Next.TheVariants as next
 use Rattle.value_core.specs.Built.{IsNextLeaf}
-use Rattle.value_core.specs.Refusals.{greatest_unsigned, greatest_signed, is_within}
+use Rattle.value_core.specs.Refusals.{most_unsigned, most_signed, is_within}
 use Rattle.value_core.specs.Walked.{Walked, next_of}
 use Rattle.value_core.proofs.Forms.{wanted, empty_layout, primitive_has_layout, compact_has_layout, count_layout}
 
@@ -39,45 +44,23 @@ pub count_next : (w : Walked) (n : ℕ) → n < 2 ^ 32 → next_of w ≡ next.Wa
 unfolding Val
 count_next w n h e = let k = wanted w form.Count e in record { ty = k.ty; next = k.is_next; room = k.room; leaf = tt; own = compact n; are_bytes = are_compact n; value = (count_layout w.types k.ty k.form_is, (omega (arith, h), refl)) }
 
-same_most : (x y : ℕ) → Some x ≡ Some y → x ≡ y
-same_most x y e = cc
+-- numbers up to the greatest are those that fit the width
+fits_width : (k n : ℕ) → 0 < k → n ≤ k - 1 → n < k
+fits_width k n some h = omega (arith, some, h)
 
--- how many bytes such an integer has
-record IsUnsigned (p : Primitive) (most : ℕ) : Type 0 where
-  pub width : ℕ
-  pub laid : primitive_layout p ≡ layout.unsigned width
-  pub most_is : suc most ≡ 256 ^ width
-
-unsigned_is : (p : Primitive) (most : ℕ) → greatest_unsigned p ≡ Some most → IsUnsigned p most
-unsigned_is P.U8 most e = record { width = 1; laid = refl; most_is = rw (← same_most _ most e) refl }
-unsigned_is P.U16 most e = record { width = 2; laid = refl; most_is = rw (← same_most _ most e) refl }
-unsigned_is P.U32 most e = record { width = 4; laid = refl; most_is = rw (← same_most _ most e) refl }
-unsigned_is P.U64 most e = record { width = 8; laid = refl; most_is = rw (← same_most _ most e) refl }
-unsigned_is P.U128 most e = record { width = 16; laid = refl; most_is = rw (← same_most _ most e) refl }
-unsigned_is P.Bool most e = absurd cc
-unsigned_is P.Char most e = absurd cc
-unsigned_is P.Str most e = absurd cc
-unsigned_is P.U256 most e = absurd cc
-unsigned_is P.I8 most e = absurd cc
-unsigned_is P.I16 most e = absurd cc
-unsigned_is P.I32 most e = absurd cc
-unsigned_is P.I64 most e = absurd cc
-unsigned_is P.I128 most e = absurd cc
-unsigned_is P.I256 most e = absurd cc
-
-pub unsigned_next : (w : Walked) (p : Primitive) (most n : ℕ) → next_of w ≡ next.Wants (form.Primitive p) → greatest_unsigned p ≡ Some most → n ≤ most → IsNextLeaf w (head.leaf (tree.unsigned n))
+pub unsigned_next : (w : Walked) (p : Primitive) (v : IntegerWidth) (n : ℕ) → next_of w ≡ next.Wants (form.Primitive p) → kind_of p ≡ K.Unsigned v → n ≤ most_unsigned v → IsNextLeaf w (head.leaf (tree.unsigned n))
 unfolding Val
-unsigned_next w p most n e f h =
+unsigned_next w p v n e f h =
     let k = wanted w (form.Primitive p) e in
-    let u = unsigned_is p most f in
+    let bytes = width_bytes v in
     record {
       ty = k.ty;
       next = k.is_next;
       room = k.room;
       leaf = tt;
-      own = le_bytes u.width n;
-      are_bytes = are_le_bytes u.width n;
-      value = (u.width, primitive_has_layout w.types k.ty p k.form_is ∙ u.laid, length-le_bytes u.width n, number-le_bytes u.width n (omega (arith, h, u.most_is)));
+      own = le_bytes bytes n;
+      are_bytes = are_le_bytes bytes n;
+      value = (bytes, primitive_has_layout w.types k.ty p k.form_is ∙ ap kind_layout f, length-le_bytes bytes n, number-le_bytes bytes n (fits_width (256 ^ bytes) n (omega (arith, width_numbers v)) h));
     }
 
 pub text_next : (w : Walked) (s : List ℕ) → next_of w ≡ next.Wants (form.Primitive P.Str) → is_utf8 s ≡ true → AreBytes s → length s < 2 ^ 32 → IsNextLeaf w (head.leaf (tree.text s))
@@ -94,15 +77,11 @@ text_next w s e f a h =
       value = (primitive_has_layout w.types k.ty P.Str k.form_is, (compact (length s), (omega (arith, h), refl), f, refl));
     }
 
-is_wide : (p : Primitive) → ((p ≡ P.U256) ⊎ (p ≡ P.I256)) → primitive_layout p ≡ layout.wide
-is_wide p (inl e) = rw e refl
-is_wide p (inr e) = rw e refl
-
-pub wide_next : (w : Walked) (p : Primitive) (b : List ℕ) → next_of w ≡ next.Wants (form.Primitive p) → ((p ≡ P.U256) ⊎ (p ≡ P.I256)) → length b ≡ 32 → AreBytes b → IsNextLeaf w (head.leaf (tree.wide b))
+pub wide_next : (w : Walked) (p : Primitive) (s : Signedness) (b : List ℕ) → next_of w ≡ next.Wants (form.Primitive p) → kind_of p ≡ K.Wide s → length b ≡ 32 → AreBytes b → IsNextLeaf w (head.leaf (tree.wide b))
 unfolding Val
-wide_next w p b e f h a =
+wide_next w p s b e f h a =
     let k = wanted w (form.Primitive p) e in
-    record { ty = k.ty; next = k.is_next; room = k.room; leaf = tt; own = b; are_bytes = a; value = (primitive_has_layout w.types k.ty p k.form_is ∙ is_wide p f, h, refl) }
+    record { ty = k.ty; next = k.is_next; room = k.room; leaf = tt; own = b; are_bytes = a; value = (primitive_has_layout w.types k.ty p k.form_is ∙ ap kind_layout f, h, refl) }
 
 compact_own : (m : Target) (n : ℕ) → n < 256 ^ target_bytes m → (b : List ℕ) × AreBytes b × IsCompact m n b
 compact_own target.Unit n h = ([], tt, (omega (arith, h), refl))
@@ -161,28 +140,6 @@ signed_again k half (negsuc m) e h some =
     let back : 256 ^ k - (256 ^ k - suc m) ≡ suc m = omega (arith, e, small) in
     rw (length-le_bytes k (256 ^ k - suc m), word, le-ltb (2 * (256 ^ k - suc m)) (256 ^ k) (omega (arith, e, small)), back) refl
 
-record IsSigned (p : Primitive) (most : ℕ) : Type 0 where
-  pub width : ℕ
-  pub laid : primitive_layout p ≡ layout.signed width
-  pub most_is : 256 ^ width ≡ 2 * suc most
-
-signed_is : (p : Primitive) (most : ℕ) → greatest_signed p ≡ Some most → IsSigned p most
-signed_is P.I8 most e = record { width = 1; laid = refl; most_is = rw (← same_most _ most e) refl }
-signed_is P.I16 most e = record { width = 2; laid = refl; most_is = rw (← same_most _ most e) refl }
-signed_is P.I32 most e = record { width = 4; laid = refl; most_is = rw (← same_most _ most e) refl }
-signed_is P.I64 most e = record { width = 8; laid = refl; most_is = rw (← same_most _ most e) refl }
-signed_is P.I128 most e = record { width = 16; laid = refl; most_is = rw (← same_most _ most e) refl }
-signed_is P.Bool most e = absurd cc
-signed_is P.Char most e = absurd cc
-signed_is P.Str most e = absurd cc
-signed_is P.U8 most e = absurd cc
-signed_is P.U16 most e = absurd cc
-signed_is P.U32 most e = absurd cc
-signed_is P.U64 most e = absurd cc
-signed_is P.U128 most e = absurd cc
-signed_is P.U256 most e = absurd cc
-signed_is P.I256 most e = absurd cc
-
 signed_long : (k : ℕ) (z : ℤ) → length (signed_bytes k z) ≡ k
 signed_long k (pos n) = length-le_bytes k n
 signed_long k (negsuc m) = length-le_bytes k (256 ^ k - suc m)
@@ -191,18 +148,17 @@ are_signed_bytes : (k : ℕ) (z : ℤ) → AreBytes (signed_bytes k z)
 are_signed_bytes k (pos n) = are_le_bytes k n
 are_signed_bytes k (negsuc m) = are_le_bytes k (256 ^ k - suc m)
 
-pub signed_next : (w : Walked) (p : Primitive) (most : ℕ) (z : ℤ) → next_of w ≡ next.Wants (form.Primitive p) → greatest_signed p ≡ Some most → is_within z most ≡ true → IsNextLeaf w (head.leaf (tree.signed z))
+pub signed_next : (w : Walked) (p : Primitive) (v : IntegerWidth) (z : ℤ) → next_of w ≡ next.Wants (form.Primitive p) → kind_of p ≡ K.Signed v → is_within z (most_signed v) ≡ true → IsNextLeaf w (head.leaf (tree.signed z))
 unfolding Val
-signed_next w p most z e f h =
+signed_next w p v z e f h =
     let k = wanted w (form.Primitive p) e in
-    let s = signed_is p most f in
-    let back : suc most - 1 ≡ most = omega arith in
+    let bytes = width_bytes v in
     record {
       ty = k.ty;
       next = k.is_next;
       room = k.room;
       leaf = tt;
-      own = signed_bytes s.width z;
-      are_bytes = are_signed_bytes s.width z;
-      value = (s.width, primitive_has_layout w.types k.ty p k.form_is ∙ s.laid, signed_long s.width z, signed_again s.width (suc most) z s.most_is (rw back h) (omega arith));
+      own = signed_bytes bytes z;
+      are_bytes = are_signed_bytes bytes z;
+      value = (bytes, primitive_has_layout w.types k.ty p k.form_is ∙ ap kind_layout f, signed_long bytes z, signed_again bytes (256 ^ bytes / 2) z (width_halves v) h (omega (arith, width_halves v, width_numbers v)));
     }

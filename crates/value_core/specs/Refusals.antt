@@ -1,8 +1,12 @@
 -- Which call a builder refuses, and with what: the first reason that applies.
-use Rattle.std.specs.Prelude.{◌≡◌, ℕ, ◌-◌, ◌^◌, ℤ, pos, negsuc, List, [], ◌∷◌, length, Bool, true, false, Option, Some, None, Result, Ok, Err, nat_lt, ◌==◌, not, is_none, if◌then◌else◌}
+use Rattle.std.specs.Prelude.{◌≡◌, ℕ, ◌-◌, ◌/◌, ◌^◌, ℤ, pos, negsuc, List, [], ◌∷◌, length, Bool, true, false, Option, Some, None, Result, Ok, Err, nat_lt, ◌==◌, not, is_none, if◌then◌else◌}
 use Rattle.std.specs.Str.{is_utf8}
 use Rattle.std.specs.Str.Lossy.{utf8_valid_len}
 use Rattle.scale_core.specs.Compact.{target_bytes}
+use Rattle.registry_core.specs.Kinds.{kind_of, width_bytes}
+use Rattle.registry_core.specs.declared.kind.IntegerWidth.{IntegerWidth}
+use Rattle.registry_core.specs.declared.kind.PrimitiveKind.{PrimitiveKind}
+use Rattle.registry_core.specs.declared.kind.PrimitiveKind.TheVariants as K
 use Rattle.registry_core.specs.declared.primitive.Primitive.{Primitive}
 use Rattle.registry_core.specs.declared.primitive.Primitive.TheVariants as P
 use Rattle.registry_core.specs.declared.definition.Arm.{Arm}
@@ -58,8 +62,12 @@ abbrev pub suits_empty : Form → Option BuildFault
 suits_empty form.Empty = None
 suits_empty _ = wrong
 
+abbrev pub bool_kind : PrimitiveKind → Option BuildFault
+bool_kind K.Bool = None
+bool_kind _ = wrong
+
 abbrev pub suits_bool : Form → Option BuildFault
-suits_bool (form.Primitive P.Bool) = None
+suits_bool (form.Primitive p) = bool_kind (kind_of p)
 suits_bool _ = wrong
 
 abbrev pub suits_text : List ℕ → Form → Option BuildFault
@@ -67,13 +75,15 @@ suits_text s (form.Primitive P.Str) = in_range (nat_lt (length s) (2 ^ 32))
 suits_text s _ = wrong
 
 -- the greatest number of an unsigned integer of at most sixteen bytes
+abbrev pub most_unsigned : IntegerWidth → ℕ
+most_unsigned w = 256 ^ width_bytes w - 1
+
+abbrev pub unsigned_kind : PrimitiveKind → Option ℕ
+unsigned_kind (K.Unsigned w) = Some (most_unsigned w)
+unsigned_kind _ = None
+
 abbrev pub greatest_unsigned : Primitive → Option ℕ
-greatest_unsigned P.U8 = Some (2 ^ 8 - 1)
-greatest_unsigned P.U16 = Some (2 ^ 16 - 1)
-greatest_unsigned P.U32 = Some (2 ^ 32 - 1)
-greatest_unsigned P.U64 = Some (2 ^ 64 - 1)
-greatest_unsigned P.U128 = Some (2 ^ 128 - 1)
-greatest_unsigned _ = None
+greatest_unsigned p = unsigned_kind (kind_of p)
 
 abbrev pub up_to : ℕ → Option ℕ → Option BuildFault
 up_to n None = wrong
@@ -84,13 +94,15 @@ suits_unsigned n (form.Primitive p) = up_to n (greatest_unsigned p)
 suits_unsigned n _ = wrong
 
 -- the greatest number of a signed integer of at most sixteen bytes
+abbrev pub most_signed : IntegerWidth → ℕ
+most_signed w = 256 ^ width_bytes w / 2 - 1
+
+abbrev pub signed_kind : PrimitiveKind → Option ℕ
+signed_kind (K.Signed w) = Some (most_signed w)
+signed_kind _ = None
+
 abbrev pub greatest_signed : Primitive → Option ℕ
-greatest_signed P.I8 = Some (2 ^ 7 - 1)
-greatest_signed P.I16 = Some (2 ^ 15 - 1)
-greatest_signed P.I32 = Some (2 ^ 31 - 1)
-greatest_signed P.I64 = Some (2 ^ 63 - 1)
-greatest_signed P.I128 = Some (2 ^ 127 - 1)
-greatest_signed _ = None
+greatest_signed p = signed_kind (kind_of p)
 
 -- a number up to the greatest, or down to one further below 0
 abbrev pub is_within : ℤ → ℕ → Bool
@@ -105,13 +117,20 @@ abbrev pub suits_signed : ℤ → Form → Option BuildFault
 suits_signed z (form.Primitive p) = within z (greatest_signed p)
 suits_signed z _ = wrong
 
+abbrev pub char_kind : PrimitiveKind → Option BuildFault
+char_kind K.Char = None
+char_kind _ = wrong
+
 abbrev pub suits_char : Form → Option BuildFault
-suits_char (form.Primitive P.Char) = None
+suits_char (form.Primitive p) = char_kind (kind_of p)
 suits_char _ = wrong
 
+abbrev pub wide_kind : PrimitiveKind → Option BuildFault
+wide_kind (K.Wide s) = None
+wide_kind _ = wrong
+
 abbrev pub suits_wide : Form → Option BuildFault
-suits_wide (form.Primitive P.U256) = None
-suits_wide (form.Primitive P.I256) = None
+suits_wide (form.Primitive p) = wide_kind (kind_of p)
 suits_wide _ = wrong
 
 abbrev pub suits_compact : ℕ → Form → Option BuildFault

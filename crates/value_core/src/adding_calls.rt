@@ -5,43 +5,35 @@ ghost use Rattle.scale_core.specs.Compact.{target_bytes};
 ghost use Rattle.grammar_core.specs.Preorder as head;
 ghost use Rattle.grammar_core.specs.Tree as tree;
 ghost use Rattle.value_core.specs.Built.{with_leaf, with_fields, with_arm, with_list};
-ghost use Rattle.value_core.specs.Refusals.{Adds, judged, judged_arm, greatest_unsigned, greatest_signed, is_within, suits_char, suits_signed, suits_empty, suits_bool, suits_text, suits_unsigned, suits_wide, suits_compact, suits_count, suits_fields, suits_list};
+ghost use Rattle.value_core.specs.Refusals.{Adds, judged, judged_arm, most_unsigned, most_signed, is_within, suits_char, suits_signed, suits_empty, suits_bool, suits_text, suits_unsigned, suits_wide, suits_compact, suits_count, suits_fields, suits_list};
 
 use crate::build_fault::BuildFault;
 use crate::builder::Builder;
 use crate::leaf::Leaf;
 use crate::node::Content;
 use grammar_core::Form;
-use registry_core::Primitive;
+use registry_core::{IntegerWidth, Primitive, PrimitiveKind};
 use scale_core::Target;
 use std::alloc::Allocator;
 
-/// The greatest number of an unsigned integer type of at most sixteen bytes.
-fn greatest_unsigned(primitive: Primitive) -> Option<u128>
-    ensures { result ≡ greatest_unsigned primitive }
+/// The greatest number of an unsigned integer of this width.
+fn most_unsigned(width: IntegerWidth) -> u128
+    ensures { result ≡ most_unsigned width }
 {
-    match primitive {
-        Primitive::U8 => Some(u128::from(u8::MAX)),
-        Primitive::U16 => Some(u128::from(u16::MAX)),
-        Primitive::U32 => Some(u128::from(u32::MAX)),
-        Primitive::U64 => Some(u128::from(u64::MAX)),
-        Primitive::U128 => Some(u128::MAX),
-        _ => None,
+    match width {
+        IntegerWidth::W8 => u128::from(u8::MAX),
+        IntegerWidth::W16 => u128::from(u16::MAX),
+        IntegerWidth::W32 => u128::from(u32::MAX),
+        IntegerWidth::W64 => u128::from(u64::MAX),
+        IntegerWidth::W128 => u128::MAX,
     }
 }
 
-/// The greatest number of a signed integer type of at most sixteen bytes; the least is one further from 0.
-fn greatest_signed(primitive: Primitive) -> Option<u128>
-    ensures { result ≡ greatest_signed primitive }
+/// The greatest number of a signed integer of this width; the least is one further from 0.
+fn most_signed(width: IntegerWidth) -> u128
+    ensures { result ≡ most_signed width }
 {
-    match primitive {
-        Primitive::I8 => Some(0x7f),
-        Primitive::I16 => Some(0x7fff),
-        Primitive::I32 => Some(0x7fff_ffff),
-        Primitive::I64 => Some(0x7fff_ffff_ffff_ffff),
-        Primitive::I128 => Some(0x7fff_ffff_ffff_ffff_ffff_ffff_ffff_ffff),
-        _ => None,
-    }
+    most_unsigned(width) / 2
 }
 
 /// Is the number one of a type with this greatest number, whose least is one further from 0?
@@ -104,11 +96,13 @@ impl<'r, A: Allocator> Builder<'r, A> {
         let Form::Primitive(primitive) = self.wanted()? else {
             return Err(BuildFault::WrongKind);
         };
-        match greatest_unsigned(primitive) {
-            None => Err(BuildFault::WrongKind),
-            Some(greatest) if value > greatest => Err(BuildFault::OutOfRange),
-            Some(_) => self.add_leaf(Leaf::Unsigned(value)),
+        let PrimitiveKind::Unsigned(width) = primitive.kind() else {
+            return Err(BuildFault::WrongKind);
+        };
+        if value > most_unsigned(width) {
+            return Err(BuildFault::OutOfRange);
         }
+        self.add_leaf(Leaf::Unsigned(value))
     }
 
     /// Adds a sequence of elements that take no bytes: their count alone.
@@ -134,8 +128,8 @@ impl<'r, A: Allocator> Builder<'r, A> {
         let Form::Primitive(primitive) = self.wanted()? else {
             return Err(BuildFault::WrongKind);
         };
-        match primitive {
-            Primitive::U256 | Primitive::I256 => self.add_leaf(Leaf::Wide(&value)),
+        match primitive.kind() {
+            PrimitiveKind::Wide(_) => self.add_leaf(Leaf::Wide(&value)),
             _ => Err(BuildFault::WrongKind),
         }
     }
@@ -149,11 +143,13 @@ impl<'r, A: Allocator> Builder<'r, A> {
         let Form::Primitive(primitive) = self.wanted()? else {
             return Err(BuildFault::WrongKind);
         };
-        match greatest_signed(primitive) {
-            None => Err(BuildFault::WrongKind),
-            Some(greatest) if !is_within(value, greatest) => Err(BuildFault::OutOfRange),
-            Some(_) => self.add_leaf(Leaf::Signed(value)),
+        let PrimitiveKind::Signed(width) = primitive.kind() else {
+            return Err(BuildFault::WrongKind);
+        };
+        if !is_within(value, most_signed(width)) {
+            return Err(BuildFault::OutOfRange);
         }
+        self.add_leaf(Leaf::Signed(value))
     }
 
     /// Adds a character.

@@ -13,7 +13,7 @@ ghost use Rattle.value_core.specs.Encoding.{node_bytes, pool_bytes, Starts, enco
 use crate::node::{Content, Node};
 use crate::value::Value;
 use grammar_core::shape;
-use registry_core::{Primitive, TypeDef, TypeId};
+use registry_core::{Primitive, PrimitiveKind, TypeDef, TypeId};
 use scale_core::{Sink, SinkFault, put_compact};
 use std::alloc::Allocator;
 use std::io::Write;
@@ -32,12 +32,8 @@ pub struct WriteFault {
 fn byte_width(primitive: Primitive) -> usize
     ensures { result ≡ byte_width primitive }
 {
-    match primitive {
-        Primitive::U8 | Primitive::I8 => 1,
-        Primitive::U16 | Primitive::I16 => 2,
-        Primitive::U32 | Primitive::I32 => 4,
-        Primitive::U64 | Primitive::I64 => 8,
-        Primitive::U128 | Primitive::I128 => 16,
+    match primitive.kind() {
+        PrimitiveKind::Unsigned(width) | PrimitiveKind::Signed(width) => width.bytes(),
         _ => 0,
     }
 }

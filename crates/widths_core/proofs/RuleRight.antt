@@ -2,13 +2,14 @@
 use Rattle.std.proofs.Common.{◌≡◌, ℕ, zero, suc, ◌+◌, ◌<◌, Bool, true, false, cond, List, [], ◌∷◌, ◌++◌, length, get_or, Some, None, refl, sym, ap, ◌∙◌, arith}
 use Rattle.std.specs.Prelude.{◌==◌}
 use Rattle.std.specs.List.{AllByRecursion, list_all, list_any}
+use Rattle.registry_core.specs.Kinds.{kind_of}
 use Rattle.registry_core.specs.declared.definition.Field.{Field}
 use Rattle.registry_core.specs.declared.type_id.TypeId.{TypeId}
 use Rattle.registry_core.specs.declared.definition.Arm.{Arm}
 use Rattle.registry_core.specs.declared.definition.TypeDef.{TypeDef}
 use Rattle.registry_core.specs.declared.definition.TypeDef.TheVariants as Def
-use Rattle.registry_core.specs.declared.primitive.Primitive.{Primitive}
-use Rattle.registry_core.specs.declared.primitive.Primitive.TheVariants as P
+use Rattle.registry_core.specs.declared.kind.PrimitiveKind.{PrimitiveKind}
+use Rattle.registry_core.specs.declared.kind.PrimitiveKind.TheVariants as K
 use Rattle.registry_core.specs.declared.type_info.TypeInfo.{TypeInfo}
 use Rattle.widths_core.specs.declared.class.Class.{Class}
 use Rattle.widths_core.specs.declared.class.Class.TheVariants as class
@@ -16,7 +17,7 @@ use Rattle.widths_core.specs.declared.counter.Kind.{Kind}
 use Rattle.widths_core.specs.declared.counter.Kind.TheVariants as kind
 use Rattle.graph_core.specs.Types.{shape, ids, field_types}
 use Rattle.widths_core.specs.Arms.{live_arms}
-use Rattle.widths_core.specs.Targets.{leads_primitive, leads_members, leads_shape, target_from, target_of}
+use Rattle.widths_core.specs.Targets.{leads_kind, leads_members, leads_shape, target_from, target_of}
 use Rattle.widths_core.specs.Classes.{class_of}
 use Rattle.widths_core.specs.ClassTables.{joined, class_of_parts, has_value, class_of_arms, class_of_compact, class_step}
 use Rattle.widths_core.specs.Rules.{Rule, rule, rules, rules_of, rules_from, arm_rules, kind_of_parts, found_sized}
@@ -59,22 +60,13 @@ arms_right r t lt m (a ∷ arms) seen h = go (list_any (λ i. i == a.index) seen
 arms_class : (r : List TypeInfo) (t : ℕ) (arms : List Arm) → class_of r t ≡ class_of_arms (class_of r) arms → list_any (arm_test r) (live_arms [] arms) ≡ true → class_of r t ≡ class.Sized
 arms_class r t arms e f = e ∙ rw f refl
 
-same_target : (r : List TypeInfo) (p : Primitive) → target_from (target_of r) (leads_primitive p) ≡ target_from (λ u. None) (leads_primitive p)
-same_target r P.Bool = refl
-same_target r P.Char = refl
-same_target r P.Str = refl
-same_target r P.U8 = refl
-same_target r P.U16 = refl
-same_target r P.U32 = refl
-same_target r P.U64 = refl
-same_target r P.U128 = refl
-same_target r P.U256 = refl
-same_target r P.I8 = refl
-same_target r P.I16 = refl
-same_target r P.I32 = refl
-same_target r P.I64 = refl
-same_target r P.I128 = refl
-same_target r P.I256 = refl
+same_target : (r : List TypeInfo) (k : PrimitiveKind) → target_from (target_of r) (leads_kind k) ≡ target_from (λ u. None) (leads_kind k)
+same_target r K.Bool = refl
+same_target r K.Char = refl
+same_target r K.Str = refl
+same_target r (K.Unsigned w) = refl
+same_target r (K.Signed w) = refl
+same_target r (K.Wide s) = refl
 
 length-fields : (fs : List Field) → length fs ≡ length (field_types fs)
 length-fields [] = refl
@@ -91,7 +83,7 @@ rules_right r t (Def.Sequence u) lt c m = (record { owner = lt; right = (refl, (
 rules_right r t (Def.Array zero u) lt c m = (record { owner = lt; right = (refl, (λ h. c), m) }, (record { owner = lt; right = tt }, tt))
 rules_right r t (Def.Array (suc n) u) lt c m = (record { owner = lt; right = (c ∙ sym (joined-empty (class_of r u.0)), m) }, tt)
 rules_right r t (Def.Tuple ts) lt c m = (record { owner = lt; right = rw (length-ids ts) (parts_right r t (ids ts) c m) }, tt)
-rules_right r t (Def.Primitive p) lt c m = (record { owner = lt; right = (refl, (λ h. c), m ∙ same_target r p) }, tt)
+rules_right r t (Def.Primitive p) lt c m = (record { owner = lt; right = (refl, (λ h. c), m ∙ same_target r (kind_of p)) }, tt)
 rules_right r t (Def.Compact u) lt c m = (record { owner = lt; right = (u.0, refl, c, m) }, tt)
 rules_right r t (Def.BitSequence store order) lt c m = (record { owner = lt; right = (refl, (λ h. c), m) }, tt)
 

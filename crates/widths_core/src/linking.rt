@@ -7,6 +7,7 @@ ghost use Rattle.widths_core.specs.Linking.{Adds, AreTypesLinked};
 ghost use Rattle.graph_core.specs.Lent.{id_of, shape_of};
 ghost use Rattle.widths_core.specs.Rows.{IsPaired, Keeps};
 ghost use Rattle.widths_core.specs.Steps.{AreParts, IsRow, IsDraft, AreDrafts};
+ghost use Rattle.widths_core.specs.Targets.{width_target};
 ghost use Rattle.widths_core.specs.Rules.{rule, kind_of_parts, found_of_primitive, found_sized, all_parts, arm_rules, rules_of};
 ghost use Rattle.graph_core.specs.Stops.{Stops, IsRefusedFor};
 ghost use Rattle.graph_core.specs.Types.{ids, field_types};
@@ -18,7 +19,7 @@ use crate::counter::{Counter, Found, Kind};
 use crate::rows::Rows;
 use crate::step::{ArmStep, Draft, Parts};
 use graph_core::{Arms, CheckFault, Definition, Fields, Graph, Members, Place, Stop, width};
-use registry_core::Primitive;
+use registry_core::{IntegerWidth, Primitive, PrimitiveKind};
 use scale_core::Target;
 use std::alloc::Global;
 
@@ -187,16 +188,25 @@ fn kind_of_parts(parts: usize) -> Kind
     }
 }
 
+/// The target that is an unsigned integer of this width.
+fn width_target(width: IntegerWidth) -> Target
+    ensures { result ≡ width_target width }
+{
+    match width {
+        IntegerWidth::W8 => Target::U8,
+        IntegerWidth::W16 => Target::U16,
+        IntegerWidth::W32 => Target::U32,
+        IntegerWidth::W64 => Target::U64,
+        IntegerWidth::W128 => Target::U128,
+    }
+}
+
 /// What is found of a primitive type.
 fn found_of_primitive(primitive: Primitive) -> Found
     ensures { result ≡ found_of_primitive primitive }
 {
-    let target = match primitive {
-        Primitive::U8 => Some(Target::U8),
-        Primitive::U16 => Some(Target::U16),
-        Primitive::U32 => Some(Target::U32),
-        Primitive::U64 => Some(Target::U64),
-        Primitive::U128 => Some(Target::U128),
+    let target = match primitive.kind() {
+        PrimitiveKind::Unsigned(width) => Some(width_target(width)),
         _ => None,
     };
     Found {

@@ -4,23 +4,17 @@ use Rattle.std.specs.Int.{w16}
 use Rattle.decode_core.proofs.ReadFronts.{same_is, widened_is}
 use Rattle.decode_core.proofs.node.read_signed.Goals as goal
 
--- src/node.rt:61:1
-pub returns-in_ok-read_i8-in-I8-clause-reads : goal.returns-in_ok-read_i8-in-I8-clause-reads
-returns-in_ok-read_i8-in-I8-clause-reads c = rw c.in-I8.is (widened_is w8 c.args.own.now c.in_ok-read_i8-in-I8.field-0.1 c.in_ok-read_i8-in-I8.field-0.0 c.from.result (signed_at 1 c.args.own.now) (search rules) (search rules) c.from.ensures c.in_ok-read_i8-in-I8.ensures)
+pub returns-in_ok-read_i8-in-W8-clause-reads : goal.returns-in_ok-read_i8-in-W8-clause-reads
+returns-in_ok-read_i8-in-W8-clause-reads c = rw c.in-W8.is (widened_is w8 c.args.own.now c.in_ok-read_i8-in-W8.field-0.1 c.in_ok-read_i8-in-W8.field-0.0 c.from.result (signed_at 1 c.args.own.now) (search rules) (search rules) c.from.ensures c.in_ok-read_i8-in-W8.ensures)
 
--- src/node.rt:61:1
-pub returns-in_ok-read_i16-in-I16-clause-reads : goal.returns-in_ok-read_i16-in-I16-clause-reads
-returns-in_ok-read_i16-in-I16-clause-reads c = rw c.in-I16.is (widened_is w16 c.args.own.now c.in_ok-read_i16-in-I16.field-0.1 c.in_ok-read_i16-in-I16.field-0.0 c.from-in-I16.result (signed_at 2 c.args.own.now) (search rules) (search rules) c.from-in-I16.ensures c.in_ok-read_i16-in-I16.ensures)
+pub returns-in_ok-read_i16-in-W16-clause-reads : goal.returns-in_ok-read_i16-in-W16-clause-reads
+returns-in_ok-read_i16-in-W16-clause-reads c = rw c.in-W16.is (widened_is w16 c.args.own.now c.in_ok-read_i16-in-W16.field-0.1 c.in_ok-read_i16-in-W16.field-0.0 c.from-in-W16.result (signed_at 2 c.args.own.now) (search rules) (search rules) c.from-in-W16.ensures c.in_ok-read_i16-in-W16.ensures)
 
--- src/node.rt:61:1
-pub returns-in_ok-read_i32-in-I32-clause-reads : goal.returns-in_ok-read_i32-in-I32-clause-reads
-returns-in_ok-read_i32-in-I32-clause-reads c = rw c.in-I32.is (widened_is w32 c.args.own.now c.in_ok-read_i32-in-I32.field-0.1 c.in_ok-read_i32-in-I32.field-0.0 c.from-in-I32.result (signed_at 4 c.args.own.now) (search rules) (search rules) c.from-in-I32.ensures c.in_ok-read_i32-in-I32.ensures)
+pub returns-in_ok-read_i32-in-W32-clause-reads : goal.returns-in_ok-read_i32-in-W32-clause-reads
+returns-in_ok-read_i32-in-W32-clause-reads c = rw c.in-W32.is (widened_is w32 c.args.own.now c.in_ok-read_i32-in-W32.field-0.1 c.in_ok-read_i32-in-W32.field-0.0 c.from-in-W32.result (signed_at 4 c.args.own.now) (search rules) (search rules) c.from-in-W32.ensures c.in_ok-read_i32-in-W32.ensures)
 
--- src/node.rt:61:1
-pub returns-in_ok-read_i64-in-I64-clause-reads : goal.returns-in_ok-read_i64-in-I64-clause-reads
-returns-in_ok-read_i64-in-I64-clause-reads c = rw c.in-I64.is (widened_is w64 c.args.own.now c.in_ok-read_i64-in-I64.field-0.1 c.in_ok-read_i64-in-I64.field-0.0 c.from-in-I64.result (signed_at 8 c.args.own.now) (search rules) (search rules) c.from-in-I64.ensures c.in_ok-read_i64-in-I64.ensures)
+pub returns-in_ok-read_i64-in-W64-clause-reads : goal.returns-in_ok-read_i64-in-W64-clause-reads
+returns-in_ok-read_i64-in-W64-clause-reads c = rw c.in-W64.is (widened_is w64 c.args.own.now c.in_ok-read_i64-in-W64.field-0.1 c.in_ok-read_i64-in-W64.field-0.0 c.from-in-W64.result (signed_at 8 c.args.own.now) (search rules) (search rules) c.from-in-W64.ensures c.in_ok-read_i64-in-W64.ensures)
 
--- src/node.rt:61:1
-pub returns-in_ok-read_i128-in-I128-clause-reads :
-    goal.returns-in_ok-read_i128-in-I128-clause-reads
-returns-in_ok-read_i128-in-I128-clause-reads c = rw c.in-I128.is (same_is c.args.own.now c.in_ok-read_i128-in-I128.field-0.1 c.in_ok-read_i128-in-I128.field-0.0 (signed_at 16 c.args.own.now) (search rules) c.in_ok-read_i128-in-I128.ensures)
+pub returns-in_ok-read_i128-in-W128-clause-reads : goal.returns-in_ok-read_i128-in-W128-clause-reads
+returns-in_ok-read_i128-in-W128-clause-reads c = rw c.in-W128.is (same_is c.args.own.now c.in_ok-read_i128-in-W128.field-0.1 c.in_ok-read_i128-in-W128.field-0.0 (signed_at 16 c.args.own.now) (search rules) c.in_ok-read_i128-in-W128.ensures)
