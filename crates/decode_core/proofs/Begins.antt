@@ -46,15 +46,7 @@ unfolding layout_at layout_held
 short_read child hold layout.unknown e h = let no = reason_is (no_finite_value, e) (truncated, h.0) h.1 in absurd cc
 short_read child hold layout.bit_sequence e h = let no = reason_is (bit_sequence, e) (truncated, h.0) h.1 in absurd cc
 short_read child hold layout.bad_compact e h = let no = reason_is (bad_compact, e) (truncated, h.0) h.1 in absurd cc
-short_read child hold layout.empty e h = let no = h.1 in absurd cc
-short_read child hold layout.bool e h = (h, refl)
-short_read child hold layout.char e h = (h, refl)
-short_read child hold layout.text e h = (h, refl)
-short_read child hold (layout.unsigned k) e h = (h, refl)
-short_read child hold (layout.signed k) e h = (h, refl)
-short_read child hold layout.wide e h = (h, refl)
-short_read child hold layout.counted e h = (h, refl)
-short_read child hold (layout.compact m) e h = (h, refl)
+short_read child hold (layout.plain p) e h = (h, refl)
 short_read child hold (layout.fields ts) e h = absurd h
 short_read child hold (layout.array n t) e h = absurd h
 short_read child hold (layout.arms arms) e h = (([], rw h refl), rw h refl)

@@ -20,12 +20,12 @@ use Rattle.registry_core.specs.declared.type_info.TypeInfo.{TypeInfo}
 use Rattle.graph_core.specs.Types.{field_types}
 use Rattle.widths_core.specs.Arms.{arm_of}
 use Rattle.widths_core.specs.Classes.{is_finite}
-use Rattle.widths_core.specs.Layouts.{Layout, layout}
+use Rattle.widths_core.specs.Layouts.{Plain, Layout, layout}
 use Rattle.widths_core.specs.Layouts as layout
 use Rattle.grammar_core.specs.Tree.{Leaf, Branch, Tree, leaf, branch, char, text, unsigned, signed, wide, compact as compact_value, fields, arm, list, count, Trees, and}
-use Rattle.grammar_core.specs.Reading.{value_at, layout_at, bool_at, char_from, all_at, times_at, arm_at, arms_at, as_leaf, with_children, Refusal, basic, no_such_variant, too_deep, no_finite_value, bit_sequence, bad_compact}
+use Rattle.grammar_core.specs.Reading.{value_at, layout_at, leaf_at, bool_at, char_from, all_at, times_at, arm_at, arms_at, as_leaf, with_children, Refusal, basic, no_such_variant, too_deep, no_finite_value, bit_sequence, bad_compact}
 use Rattle.grammar_core.proofs.Sound.{value_takes}
-use Rattle.decode_core.specs.Taken.{behind, compact_taken, text_taken, all_taken, times_taken, arm_taken, arms_taken, layout_taken, value_taken}
+use Rattle.decode_core.specs.Taken.{leaf_taken, behind, compact_taken, text_taken, all_taken, times_taken, arm_taken, arms_taken, layout_taken, value_taken}
 use Rattle.decode_core.specs.Outcome.{IsTaken, TakenByFault}
 use Rattle.decode_core.proofs.Deciding.{chain, finish, bind_chain}
 use Rattle.decode_core.proofs.Shortest.{and_finish, elements_chain, body_at}
@@ -172,20 +172,24 @@ arms_told : (r : List TypeInfo) (room : ℕ) → ChildTold r room → (arms : Li
 arms_told r room h arms [] = (omega arith, refl)
 arms_told r room h arms (i ∷ b) = arm_told r room h i b (arm_of arms i)
 
+-- the fault of a value without parts is told by the bytes that are taken
+plain_told : (p : Plain) (b : List ℕ) → Told (λ e. e) b (leaf_taken p b) (leaf_at p b)
+plain_told layout.empty b = tt
+plain_told layout.bool b = bool_told b
+plain_told layout.char b = char_told b
+plain_told layout.text b = leaf_told text b _ (text_at b) (text_told b)
+plain_told (layout.unsigned k) b = leaf_told (λ b. unsigned (number b)) b _ (bytes_at k b) (bytes_told k b)
+plain_told (layout.signed k) b = leaf_told (λ b. signed (signed_number b)) b _ (bytes_at k b) (bytes_told k b)
+plain_told layout.wide b = leaf_told wide b _ (bytes_at 32 b) (bytes_told 32 b)
+plain_told layout.counted b = leaf_told count b _ (compact_at target.U32 b) (compact_told target.U32 b)
+plain_told (layout.compact m) b = leaf_told compact_value b _ (compact_at m b) (compact_told m b)
+
 layout_told : (r : List TypeInfo) (room : ℕ) → ChildTold r room → (f : Layout) (b : List ℕ) → Told (λ e. e) b (layout_taken (value_at r room) (value_taken r room) f b) (layout_at (value_at r room) f b)
 unfolding layout_at layout_taken
 layout_told r room h layout.unknown b = (omega arith, omega arith)
 layout_told r room h layout.bit_sequence b = (omega arith, omega arith)
 layout_told r room h layout.bad_compact b = (omega arith, omega arith)
-layout_told r room h layout.empty b = tt
-layout_told r room h layout.bool b = bool_told b
-layout_told r room h layout.char b = char_told b
-layout_told r room h layout.text b = leaf_told text b _ (text_at b) (text_told b)
-layout_told r room h (layout.unsigned k) b = leaf_told (λ b. unsigned (number b)) b _ (bytes_at k b) (bytes_told k b)
-layout_told r room h (layout.signed k) b = leaf_told (λ b. signed (signed_number b)) b _ (bytes_at k b) (bytes_told k b)
-layout_told r room h layout.wide b = leaf_told wide b _ (bytes_at 32 b) (bytes_told 32 b)
-layout_told r room h layout.counted b = leaf_told count b _ (compact_at target.U32 b) (compact_told target.U32 b)
-layout_told r room h (layout.compact m) b = leaf_told compact_value b _ (compact_at m b) (compact_told m b)
+layout_told r room h (layout.plain p) b = plain_told p b
 layout_told r room h (layout.fields ts) b = parts_told fields b _ (all_at (value_at r room) ts b) (all_told r room h ts b)
 layout_told r room h (layout.arms arms) b = arms_told r room h arms b
 layout_told r room h (layout.array n t) b = parts_told list b _ (times_at (value_at r room) n t b) (times_told r room h n t b)

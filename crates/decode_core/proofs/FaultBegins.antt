@@ -212,15 +212,7 @@ layout_begins r room t h (layout.array n u) e b is = after_ends (TimesBegin r ro
 layout_begins r room t h layout.unknown e b is = leaf_begins r room t b (layout_at shallow layout.unknown b) is
 layout_begins r room t h layout.bit_sequence e b is = leaf_begins r room t b (layout_at shallow layout.bit_sequence b) is
 layout_begins r room t h layout.bad_compact e b is = leaf_begins r room t b (layout_at shallow layout.bad_compact b) is
-layout_begins r room t h layout.empty e b is = leaf_begins r room t b (layout_at shallow layout.empty b) is
-layout_begins r room t h layout.bool e b is = leaf_begins r room t b (layout_at shallow layout.bool b) is
-layout_begins r room t h layout.char e b is = leaf_begins r room t b (layout_at shallow layout.char b) is
-layout_begins r room t h layout.text e b is = leaf_begins r room t b (layout_at shallow layout.text b) is
-layout_begins r room t h (layout.unsigned k) e b is = leaf_begins r room t b (layout_at shallow (layout.unsigned k) b) is
-layout_begins r room t h (layout.signed k) e b is = leaf_begins r room t b (layout_at shallow (layout.signed k) b) is
-layout_begins r room t h layout.wide e b is = leaf_begins r room t b (layout_at shallow layout.wide b) is
-layout_begins r room t h layout.counted e b is = leaf_begins r room t b (layout_at shallow layout.counted b) is
-layout_begins r room t h (layout.compact m) e b is = leaf_begins r room t b (layout_at shallow (layout.compact m) b) is
+layout_begins r room t h (layout.plain p) e b is = leaf_begins r room t b (layout_at shallow (layout.plain p) b) is
 
 told_begins : (r : List TypeInfo) (room t : ℕ) (b : List ℕ) → EndsTold (Begins r room t b) (told_at r room t b)
 unfolding told_at

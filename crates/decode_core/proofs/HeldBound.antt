@@ -29,22 +29,22 @@ past-le e (Ok n) h = omega (arith, ap length h.1, length-append h.0 n.1)
 past-le e (Err x) h = omega arith
 
 open-le : (f : Layout) (e : List ℕ) → open_text f e ≤ length e
-open-le layout.text e = past-le e (compact_at target.U32 e) (compact_takes target.U32 e)
+open-le (layout.plain layout.text) e = past-le e (compact_at target.U32 e) (compact_takes target.U32 e)
 open-le layout.unknown e = omega arith
 open-le layout.bit_sequence e = omega arith
 open-le layout.bad_compact e = omega arith
-open-le layout.empty e = omega arith
-open-le layout.bool e = omega arith
-open-le layout.char e = omega arith
-open-le (layout.unsigned k) e = omega arith
-open-le (layout.signed k) e = omega arith
-open-le layout.wide e = omega arith
+open-le (layout.plain layout.empty) e = omega arith
+open-le (layout.plain layout.bool) e = omega arith
+open-le (layout.plain layout.char) e = omega arith
+open-le (layout.plain (layout.unsigned k)) e = omega arith
+open-le (layout.plain (layout.signed k)) e = omega arith
+open-le (layout.plain layout.wide) e = omega arith
 open-le (layout.fields ts) e = omega arith
 open-le (layout.arms as') e = omega arith
-open-le layout.counted e = omega arith
+open-le (layout.plain layout.counted) e = omega arith
 open-le (layout.sequence t) e = omega arith
 open-le (layout.array n t) e = omega arith
-open-le (layout.compact m) e = omega arith
+open-le (layout.plain (layout.compact m)) e = omega arith
 
 -- the product as it is written
 spread : (n depth w : ℕ) → n * (suc depth * (w + 1)) ≡ n * (depth + 1) * (w + 1)

@@ -68,7 +68,7 @@ short_to j b s of w n =
 -- ---- the bytes of texts
 
 -- what is short for a kind or a form that has the layout of a text is short for a text
-kind_alone : (k : PrimitiveKind) (c : List ℕ) → layout.text ≡ kind_layout k → IsShortOf (kind_need k) c → IsShortOf (compact_need target.U32) c
+kind_alone : (k : PrimitiveKind) (c : List ℕ) → (layout.plain layout.text) ≡ kind_layout k → IsShortOf (kind_need k) c → IsShortOf (compact_need target.U32) c
 kind_alone K.Str c h k = k
 kind_alone K.Bool c h k = absurd cc
 kind_alone K.Char c h k = absurd cc
@@ -76,7 +76,7 @@ kind_alone (K.Unsigned w) c h k = absurd cc
 kind_alone (K.Signed w) c h k = absurd cc
 kind_alone (K.Wide s) c h k = absurd cc
 
-text_alone : (f : Form) (c : List ℕ) → HasForm f layout.text → IsShortOf (need f) c → IsShortOf (compact_need target.U32) c
+text_alone : (f : Form) (c : List ℕ) → HasForm f (layout.plain layout.text) → IsShortOf (need f) c → IsShortOf (compact_need target.U32) c
 text_alone (form.Primitive p) c h k = kind_alone (kind_of p) c h k
 text_alone form.Empty c h k = absurd cc
 text_alone (form.Compact m) c h k = absurd cc
@@ -88,29 +88,29 @@ text_alone form.Count c h k = absurd cc
 
 -- no text is open: what is carried is not even a text's length
 carried_text : (f : Form) (lay : Layout) (c : List ℕ) → HasForm f lay → IsShortOf (need f) c → open_text lay c ≡ 0
-carried_text f layout.text c h k = ap past_length (compact_short target.U32 c u32_is (text_alone f c h k))
+carried_text f (layout.plain layout.text) c h k = ap past_length (compact_short target.U32 c u32_is (text_alone f c h k))
 carried_text f layout.unknown c h k = refl
 carried_text f layout.bit_sequence c h k = refl
 carried_text f layout.bad_compact c h k = refl
-carried_text f layout.empty c h k = refl
-carried_text f layout.bool c h k = refl
-carried_text f layout.char c h k = refl
-carried_text f (layout.unsigned n) c h k = refl
-carried_text f (layout.signed n) c h k = refl
-carried_text f layout.wide c h k = refl
+carried_text f (layout.plain layout.empty) c h k = refl
+carried_text f (layout.plain layout.bool) c h k = refl
+carried_text f (layout.plain layout.char) c h k = refl
+carried_text f (layout.plain (layout.unsigned n)) c h k = refl
+carried_text f (layout.plain (layout.signed n)) c h k = refl
+carried_text f (layout.plain layout.wide) c h k = refl
 carried_text f (layout.fields ts) c h k = refl
 carried_text f (layout.arms arms) c h k = refl
-carried_text f layout.counted c h k = refl
+carried_text f (layout.plain layout.counted) c h k = refl
 carried_text f (layout.sequence t) c h k = refl
 carried_text f (layout.array n t) c h k = refl
-carried_text f (layout.compact m) c h k = refl
+carried_text f (layout.plain (layout.compact m)) c h k = refl
 
 -- a text that is open has the bytes that came behind its length
 open_is : (b : Built) (c : List ℕ) (f : Form) (text : Option Pieces) → next_of b.walk ≡ next.Wants f → IsCarry b c → IsTextNext b c text →
     length (pieces_bytes text) ≡ open_text (next_layout b) (elim text [ Some t ↦ compact t.len ++ t.bytes | None ↦ c ])
 open_is b c f None wants carried h = sym (carried_text f (next_layout b) c (next_has b f wants) (short_of b c f carried wants))
 open_is b c f (Some t) wants carried h =
-    let laid : next_layout b ≡ layout.text = next_has b (form.Primitive P.Str) h.0 in
+    let laid : next_layout b ≡ (layout.plain layout.text) = next_has b (form.Primitive P.Str) h.0 in
     sym (ap (λ (lay : Layout). open_text lay (compact t.len ++ t.bytes)) laid ∙ ap past_length (length_again t.len t.bytes h.2))
 
 pub holds_of : (j : Job) (b : List ℕ) (s : Running) → IsOf j s → AreBytes b → IsWaiting j b s → HoldsOf j b s

@@ -53,13 +53,13 @@ list_refused_by lay u own e at is h = rw is (h.0, ap (length_own u) h.1, h.2)
 pub list_refused : (b : Built) (own : List ℕ) (e : Reason) (at : ℕ) → next_of b.walk ≡ next.Wants form.Sequence → (left : List ℕ) × (compact_at target.U32 own ≡ Err (e, left)) × (at ≡ place own left) → (left : List ℕ) × (own_at (next_layout b) own ≡ Err (basic e, left)) × (at ≡ place own left)
 list_refused b own e at h k = let s = next_has b form.Sequence h in list_refused_by (next_layout b) s.0 own e at s.1 k
 
-count_by : (lay : Layout) (own : List ℕ) (n : ℕ) → lay ≡ layout.counted → ((rest : List ℕ) × (compact_at target.U32 own ≡ Ok (n, rest))) → (rest : List ℕ) × (own_at lay own ≡ Ok ((head.leaf (tree.count n), None), rest))
+count_by : (lay : Layout) (own : List ℕ) (n : ℕ) → lay ≡ (layout.plain layout.counted) → ((rest : List ℕ) × (compact_at target.U32 own ≡ Ok (n, rest))) → (rest : List ℕ) × (own_at lay own ≡ Ok ((head.leaf (tree.count n), None), rest))
 count_by lay own n e h = rw e (h.0, count_own own ∙ ap (λ r. leaf_own (as_leaf tree.count r)) h.1)
 
 pub count_read : (b : Built) (own : List ℕ) (n : ℕ) → next_of b.walk ≡ next.Wants form.Count → (rest : List ℕ) × (compact_at target.U32 own ≡ Ok (n, rest)) → (rest : List ℕ) × (own_at (next_layout b) own ≡ Ok ((head.leaf (tree.count n), None), rest))
 count_read b own n h k = count_by (next_layout b) own n (next_has b form.Count h) k
 
-count_refused_by : (lay : Layout) (own : List ℕ) (e : Reason) (at : ℕ) → lay ≡ layout.counted → ((left : List ℕ) × (compact_at target.U32 own ≡ Err (e, left)) × (at ≡ place own left)) → (left : List ℕ) × (own_at lay own ≡ Err (basic e, left)) × (at ≡ place own left)
+count_refused_by : (lay : Layout) (own : List ℕ) (e : Reason) (at : ℕ) → lay ≡ (layout.plain layout.counted) → ((left : List ℕ) × (compact_at target.U32 own ≡ Err (e, left)) × (at ≡ place own left)) → (left : List ℕ) × (own_at lay own ≡ Err (basic e, left)) × (at ≡ place own left)
 count_refused_by lay own e at is h = rw is (h.0, count_own own ∙ ap (λ r. leaf_own (as_leaf tree.count r)) h.1, h.2)
 
 pub count_refused : (b : Built) (own : List ℕ) (e : Reason) (at : ℕ) → next_of b.walk ≡ next.Wants form.Count → (left : List ℕ) × (compact_at target.U32 own ≡ Err (e, left)) × (at ≡ place own left) → (left : List ℕ) × (own_at (next_layout b) own ≡ Err (basic e, left)) × (at ≡ place own left)
@@ -135,7 +135,7 @@ settled_err read e left h is = (rw is at h)
 pub length_read : (own : List ℕ) (n : ℕ) → AreOwn (form.Primitive P.Str) own → (rest : List ℕ) × (compact_at target.U32 own ≡ Ok (n, rest)) → compact_at target.U32 own ≡ Ok (n, [])
 length_read own n a h = settled_ok (compact_at target.U32 own) n h.0 (length_settled own a) h.1
 
-pub text_cut : (own : List ℕ) (e : Reason) (left : List ℕ) → compact_at target.U32 own ≡ Err (e, left) → own_at layout.text own ≡ Err (basic e, left)
+pub text_cut : (own : List ℕ) (e : Reason) (left : List ℕ) → compact_at target.U32 own ≡ Err (e, left) → own_at (layout.plain layout.text) own ≡ Err (basic e, left)
 unfolding own_at layout_at text_at
 text_cut own e left h = rw h refl
 
@@ -146,7 +146,7 @@ length_refused b own e at h a k =
 
 -- ---- nodes without bytes of their own
 
-empty_by : (lay : Layout) → lay ≡ layout.empty → own_at lay [] ≡ Ok (((head.leaf tree.unit), None), [])
+empty_by : (lay : Layout) → lay ≡ (layout.plain layout.empty) → own_at lay [] ≡ Ok (((head.leaf tree.unit), None), [])
 unfolding own_at layout_at
 empty_by lay e = rw e refl
 

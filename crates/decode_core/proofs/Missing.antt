@@ -14,7 +14,7 @@ use Rattle.widths_core.specs.Layouts.{Layout, layout}
 use Rattle.widths_core.specs.Layouts as layout
 use Rattle.grammar_core.specs.Tree.{Branch, Tree, leaf, branch, fields, arm, list, Trees, none, and, how_many, levels, most_levels}
 use Rattle.grammar_core.specs.Grammar.{Val, Vals, Each}
-use Rattle.grammar_core.specs.Reading.{value_at, layout_at, all_at, times_at, arm_at, arms_at, elements_at, with_children, Refusal, truncated, too_deep}
+use Rattle.grammar_core.specs.Reading.{value_at, layout_at, leaf_at, all_at, times_at, arm_at, arms_at, elements_at, with_children, Refusal, truncated, too_deep}
 use Rattle.grammar_core.proofs.Sound.{value_takes}
 use Rattle.grammar_core.specs.Begun.{Begun, nothing, in_fields, in_arm, in_list, IsPart, Grows}
 use Rattle.decode_core.specs.Holds.{OwnIsShort, IsShort, MissingIsBegun}
@@ -118,15 +118,7 @@ unfolding layout_at
 layout_waits r room t h fin layout.unknown e b = λ cut. absurd cc
 layout_waits r room t h fin layout.bit_sequence e b = λ cut. absurd cc
 layout_waits r room t h fin layout.bad_compact e b = λ cut. absurd cc
-layout_waits r room t h fin layout.empty e b = tt
-layout_waits r room t h fin layout.bool e b = leaf_waits r room t b _ fin (λ left is. rw e (left, is))
-layout_waits r room t h fin layout.char e b = leaf_waits r room t b _ fin (λ left is. rw e (left, is))
-layout_waits r room t h fin layout.text e b = leaf_waits r room t b _ fin (λ left is. rw e (left, is))
-layout_waits r room t h fin (layout.unsigned k) e b = leaf_waits r room t b _ fin (λ left is. rw e (left, is))
-layout_waits r room t h fin (layout.signed k) e b = leaf_waits r room t b _ fin (λ left is. rw e (left, is))
-layout_waits r room t h fin layout.wide e b = leaf_waits r room t b _ fin (λ left is. rw e (left, is))
-layout_waits r room t h fin layout.counted e b = leaf_waits r room t b _ fin (λ left is. rw e (left, is))
-layout_waits r room t h fin (layout.compact m) e b = leaf_waits r room t b _ fin (λ left is. rw e (left, is))
+layout_waits r room t h fin (layout.plain p) e b = leaf_waits r room t b (leaf_at p b) fin (λ left is. rw e (left, is))
 layout_waits r room t h fin (layout.fields ts) e b = with_children_waits (AllHolding r room ts b) (Holding r (suc room) t b) fields _ (all_waits r room h ts b) (in_fields_of r room t ts b fin e)
 layout_waits r room t h fin (layout.arms arms) e b = arms_waits r room t h fin arms e b
 layout_waits r room t h fin (layout.sequence u) e b = elements_waits r room t u h fin e b (compact_at target.U32 b) refl (compact_takes target.U32 b)

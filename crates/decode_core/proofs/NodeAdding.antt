@@ -107,14 +107,14 @@ read_as make lay own read x is h = (h.0, is ∙ ap (λ r. leaf_own (as_leaf make
 refused_as : {X : Type 0} (make : X → Leaf) (lay : Layout) (own : List ℕ) (read : Read Reason X) (e : Reason) (at : ℕ) → own_at lay own ≡ leaf_own (as_leaf make read) → ((left : List ℕ) × (read ≡ Err (e, left)) × (at ≡ place own left)) → (left : List ℕ) × (own_at lay own ≡ Err (basic e, left)) × (at ≡ place own left)
 refused_as make lay own read e at is h = (h.0, is ∙ ap (λ r. leaf_own (as_leaf make r)) h.1, h.2)
 
-number_own : (k : ℕ) (own : List ℕ) → own_at (layout.unsigned k) own ≡ leaf_own (as_leaf tree.unsigned (number_at k own))
+number_own : (k : ℕ) (own : List ℕ) → own_at (layout.plain (layout.unsigned k)) own ≡ leaf_own (as_leaf tree.unsigned (number_at k own))
 unfolding own_at layout_at
 number_own k own = by (nat_lt (length own) k) where
   by : (c : Bool) → leaf_own (as_leaf (λ b. tree.unsigned (number b)) (cond c (Err (scale.Truncated, [])) (Ok (take k own, drop k own)))) ≡ leaf_own (as_leaf tree.unsigned (cond c (Err (scale.Truncated, [])) (Ok (number (take k own), drop k own))))
   by true = refl
   by false = refl
 
-signed_own : (k : ℕ) (own : List ℕ) → own_at (layout.signed k) own ≡ leaf_own (as_leaf tree.signed (signed_at k own))
+signed_own : (k : ℕ) (own : List ℕ) → own_at (layout.plain (layout.signed k)) own ≡ leaf_own (as_leaf tree.signed (signed_at k own))
 unfolding own_at layout_at
 signed_own k own = by (nat_lt (length own) k) where
   by : (c : Bool) → leaf_own (as_leaf (λ b. tree.signed (signed_number b)) (cond c (Err (scale.Truncated, [])) (Ok (take k own, drop k own)))) ≡ leaf_own (as_leaf tree.signed (cond c (Err (scale.Truncated, [])) (Ok (signed_number (take k own), drop k own))))
@@ -132,7 +132,7 @@ bool_of own (suc (suc x)) = rw (ne_eqb (suc (suc x)) 0 (λ e. omega arith), ne_e
 one_number : (x : ℕ) → x ≡ number (x ∷ [])
 one_number x = omega arith
 
-bool_own : (own : List ℕ) → own_at layout.bool own ≡ leaf_own (as_leaf tree.bool (scale_read.bool_at own))
+bool_own : (own : List ℕ) → own_at (layout.plain layout.bool) own ≡ leaf_own (as_leaf tree.bool (scale_read.bool_at own))
 unfolding own_at layout_at
 bool_own [] = refl
 bool_own (x ∷ own) = bool_of own x ∙ ap (λ (n : ℕ). leaf_own (as_leaf tree.bool (scale_read.bool_from (x ∷ own) (Ok (n, own))))) (one_number x) ∙ ap (λ (c : Bool). leaf_own (as_leaf tree.bool (scale_read.bool_from (x ∷ own) (cond c (Err (scale.Truncated, [])) (Ok (number (x ∷ []), own)))))) (sym (some_bytes x own))
@@ -143,22 +143,22 @@ scalar_own at rest n = by (is_scalar n) where
   by true = refl
   by false = refl
 
-char_own : (own : List ℕ) → own_at layout.char own ≡ leaf_own (as_leaf tree.char (scale_read.char_at own))
+char_own : (own : List ℕ) → own_at (layout.plain layout.char) own ≡ leaf_own (as_leaf tree.char (scale_read.char_at own))
 unfolding own_at layout_at
 char_own own = by (nat_lt (length own) 4) where
   by : (c : Bool) → leaf_own (reading.char_from own (cond c (Err (scale.Truncated, [])) (Ok (take 4 own, drop 4 own)))) ≡ leaf_own (as_leaf tree.char (scale_read.scalar_from own (cond c (Err (scale.Truncated, [])) (Ok (number (take 4 own), drop 4 own)))))
   by true = refl
   by false = scalar_own own (drop 4 own) (number (take 4 own))
 
-wide_own : (own : List ℕ) → own_at layout.wide own ≡ leaf_own (as_leaf tree.wide (bytes_at 32 own))
+wide_own : (own : List ℕ) → own_at (layout.plain layout.wide) own ≡ leaf_own (as_leaf tree.wide (bytes_at 32 own))
 unfolding own_at layout_at
 wide_own own = refl
 
-compact_own : (m : Target) (own : List ℕ) → own_at (layout.compact m) own ≡ leaf_own (as_leaf tree.compact (compact_at m own))
+compact_own : (m : Target) (own : List ℕ) → own_at (layout.plain (layout.compact m)) own ≡ leaf_own (as_leaf tree.compact (compact_at m own))
 unfolding own_at layout_at
 compact_own m own = refl
 
-pub count_own : (own : List ℕ) → own_at layout.counted own ≡ leaf_own (as_leaf tree.count (compact_at target.U32 own))
+pub count_own : (own : List ℕ) → own_at (layout.plain layout.counted) own ≡ leaf_own (as_leaf tree.count (compact_at target.U32 own))
 unfolding own_at layout_at
 count_own own = refl
 
@@ -188,28 +188,28 @@ pub wide_fits : (p : Primitive) (s : Signedness) → kind_of p ≡ K.Wide s → 
 wide_fits p s e = ap wide_kind e
 
 pub bool_read : (b : Built) (p : Primitive) (own : List ℕ) (x : Bool) (taken : ℕ) → next_of b.walk ≡ next.Wants (form.Primitive p) → kind_of p ≡ K.Bool → (taken ≤ length own) × (scale_read.bool_at own ≡ Ok (x, drop taken own)) → (rest : List ℕ) × (own_at (next_layout b) own ≡ Ok ((head.leaf (tree.bool x), None), rest))
-bool_read b p own x taken h e k = rw (kind_next b p K.Bool h e) (read_as tree.bool layout.bool own (scale_read.bool_at own) x (bool_own own) (some_bytes_read taken own (scale_read.bool_at own) x k))
+bool_read b p own x taken h e k = rw (kind_next b p K.Bool h e) (read_as tree.bool (layout.plain layout.bool) own (scale_read.bool_at own) x (bool_own own) (some_bytes_read taken own (scale_read.bool_at own) x k))
 
 pub bool_refused : (b : Built) (p : Primitive) (own : List ℕ) (e : Reason) (at : ℕ) → next_of b.walk ≡ next.Wants (form.Primitive p) → kind_of p ≡ K.Bool → (left : List ℕ) × (scale_read.bool_at own ≡ Err (e, left)) × (at ≡ place own left) → (left : List ℕ) × (own_at (next_layout b) own ≡ Err (basic e, left)) × (at ≡ place own left)
-bool_refused b p own e at h i k = rw (kind_next b p K.Bool h i) (refused_as tree.bool layout.bool own (scale_read.bool_at own) e at (bool_own own) k)
+bool_refused b p own e at h i k = rw (kind_next b p K.Bool h i) (refused_as tree.bool (layout.plain layout.bool) own (scale_read.bool_at own) e at (bool_own own) k)
 
 pub char_read : (b : Built) (p : Primitive) (own : List ℕ) (x taken : ℕ) → next_of b.walk ≡ next.Wants (form.Primitive p) → kind_of p ≡ K.Char → (taken ≤ length own) × (scale_read.char_at own ≡ Ok (x, drop taken own)) → (rest : List ℕ) × (own_at (next_layout b) own ≡ Ok ((head.leaf (tree.char x), None), rest))
-char_read b p own x taken h e k = rw (kind_next b p K.Char h e) (read_as tree.char layout.char own (scale_read.char_at own) x (char_own own) (some_bytes_read taken own (scale_read.char_at own) x k))
+char_read b p own x taken h e k = rw (kind_next b p K.Char h e) (read_as tree.char (layout.plain layout.char) own (scale_read.char_at own) x (char_own own) (some_bytes_read taken own (scale_read.char_at own) x k))
 
 pub char_refused : (b : Built) (p : Primitive) (own : List ℕ) (e : Reason) (at : ℕ) → next_of b.walk ≡ next.Wants (form.Primitive p) → kind_of p ≡ K.Char → (left : List ℕ) × (scale_read.char_at own ≡ Err (e, left)) × (at ≡ place own left) → (left : List ℕ) × (own_at (next_layout b) own ≡ Err (basic e, left)) × (at ≡ place own left)
-char_refused b p own e at h i k = rw (kind_next b p K.Char h i) (refused_as tree.char layout.char own (scale_read.char_at own) e at (char_own own) k)
+char_refused b p own e at h i k = rw (kind_next b p K.Char h i) (refused_as tree.char (layout.plain layout.char) own (scale_read.char_at own) e at (char_own own) k)
 
 pub unsigned_read : (b : Built) (p : Primitive) (w : IntegerWidth) (own : List ℕ) (n : ℕ) → next_of b.walk ≡ next.Wants (form.Primitive p) → kind_of p ≡ K.Unsigned w → ((rest : List ℕ) × (number_at (width_bytes w) own ≡ Ok (n, rest))) → (rest : List ℕ) × (own_at (next_layout b) own ≡ Ok ((head.leaf (tree.unsigned n), None), rest))
-unsigned_read b p w own n h e k = rw (kind_next b p (K.Unsigned w) h e) (read_as tree.unsigned (layout.unsigned (width_bytes w)) own (number_at (width_bytes w) own) n (number_own (width_bytes w) own) k)
+unsigned_read b p w own n h e k = rw (kind_next b p (K.Unsigned w) h e) (read_as tree.unsigned (layout.plain (layout.unsigned (width_bytes w))) own (number_at (width_bytes w) own) n (number_own (width_bytes w) own) k)
 
 pub signed_read : (b : Built) (p : Primitive) (w : IntegerWidth) (own : List ℕ) (z : ℤ) → next_of b.walk ≡ next.Wants (form.Primitive p) → kind_of p ≡ K.Signed w → ((rest : List ℕ) × (signed_at (width_bytes w) own ≡ Ok (z, rest))) → (rest : List ℕ) × (own_at (next_layout b) own ≡ Ok ((head.leaf (tree.signed z), None), rest))
-signed_read b p w own z h e k = rw (kind_next b p (K.Signed w) h e) (read_as tree.signed (layout.signed (width_bytes w)) own (signed_at (width_bytes w) own) z (signed_own (width_bytes w) own) k)
+signed_read b p w own z h e k = rw (kind_next b p (K.Signed w) h e) (read_as tree.signed (layout.plain (layout.signed (width_bytes w))) own (signed_at (width_bytes w) own) z (signed_own (width_bytes w) own) k)
 
 pub wide_read : (b : Built) (p : Primitive) (s : Signedness) (own x : List ℕ) (taken : ℕ) → next_of b.walk ≡ next.Wants (form.Primitive p) → kind_of p ≡ K.Wide s → (taken ≤ length own) × (bytes_at 32 own ≡ Ok (x, drop taken own)) → (rest : List ℕ) × (own_at (next_layout b) own ≡ Ok ((head.leaf (tree.wide x), None), rest))
-wide_read b p s own x taken h e k = rw (kind_next b p (K.Wide s) h e) (read_as tree.wide layout.wide own (bytes_at 32 own) x (wide_own own) (some_bytes_read taken own (bytes_at 32 own) x k))
+wide_read b p s own x taken h e k = rw (kind_next b p (K.Wide s) h e) (read_as tree.wide (layout.plain layout.wide) own (bytes_at 32 own) x (wide_own own) (some_bytes_read taken own (bytes_at 32 own) x k))
 
 pub compact_read : (b : Built) (m : Target) (own : List ℕ) (n taken : ℕ) → next_of b.walk ≡ next.Wants (form.Compact m) → (taken ≤ length own) × (compact_at m own ≡ Ok (n, drop taken own)) → (rest : List ℕ) × (own_at (next_layout b) own ≡ Ok ((head.leaf (tree.compact n), None), rest))
-compact_read b m own n taken h k = rw (next_has b (form.Compact m) h) (read_as tree.compact (layout.compact m) own (compact_at m own) n (compact_own m own) (some_bytes_read taken own (compact_at m own) n k))
+compact_read b m own n taken h k = rw (next_has b (form.Compact m) h) (read_as tree.compact (layout.plain (layout.compact m)) own (compact_at m own) n (compact_own m own) (some_bytes_read taken own (compact_at m own) n k))
 
 pub compact_refused : (b : Built) (m : Target) (own : List ℕ) (e : Reason) (at : ℕ) → next_of b.walk ≡ next.Wants (form.Compact m) → (left : List ℕ) × (compact_at m own ≡ Err (e, left)) × (at ≡ place own left) → (left : List ℕ) × (own_at (next_layout b) own ≡ Err (basic e, left)) × (at ≡ place own left)
-compact_refused b m own e at h k = rw (next_has b (form.Compact m) h) (refused_as tree.compact (layout.compact m) own (compact_at m own) e at (compact_own m own) k)
+compact_refused b m own e at h k = rw (next_has b (form.Compact m) h) (refused_as tree.compact (layout.plain (layout.compact m)) own (compact_at m own) e at (compact_own m own) k)

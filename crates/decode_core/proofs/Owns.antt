@@ -47,15 +47,7 @@ own_extends (layout.array n u) b more = refl
 own_extends layout.unknown b more = shallow_extends layout.unknown b more
 own_extends layout.bit_sequence b more = shallow_extends layout.bit_sequence b more
 own_extends layout.bad_compact b more = shallow_extends layout.bad_compact b more
-own_extends layout.empty b more = shallow_extends layout.empty b more
-own_extends layout.bool b more = shallow_extends layout.bool b more
-own_extends layout.char b more = shallow_extends layout.char b more
-own_extends layout.text b more = shallow_extends layout.text b more
-own_extends (layout.unsigned k) b more = shallow_extends (layout.unsigned k) b more
-own_extends (layout.signed k) b more = shallow_extends (layout.signed k) b more
-own_extends layout.wide b more = shallow_extends layout.wide b more
-own_extends layout.counted b more = shallow_extends layout.counted b more
-own_extends (layout.compact m) b more = shallow_extends (layout.compact m) b more
+own_extends (layout.plain p) b more = shallow_extends (layout.plain p) b more
 
 -- these bytes are a node's own, whatever follows them
 abbrev pub Spells : List TypeInfo → ℕ → Head × Option Part → List ℕ → Type 0

@@ -75,16 +75,16 @@ below k (first ∷ rest) some h = h
 number_short : (make : List ℕ → tree.Leaf) (k : ℕ) (b : List ℕ) → 1 ≤ k → IsShortOf (λ first. k) b → leaf_own (as_leaf make (bytes_at k b)) ≡ Err (truncated, [])
 number_short make k b some h = rw (bytes_short k b (below k b some h)) refl
 
-bool_short : (b : List ℕ) → IsShortOf (λ first. 1) b → own_at layout.bool b ≡ Err (truncated, [])
+bool_short : (b : List ℕ) → IsShortOf (λ first. 1) b → own_at (layout.plain layout.bool) b ≡ Err (truncated, [])
 unfolding own_at layout_at
 bool_short [] h = refl
 bool_short (first ∷ rest) h = absurd (omega (arith, h))
 
-char_short : (b : List ℕ) → IsShortOf (λ first. 4) b → own_at layout.char b ≡ Err (truncated, [])
+char_short : (b : List ℕ) → IsShortOf (λ first. 4) b → own_at (layout.plain layout.char) b ≡ Err (truncated, [])
 unfolding own_at layout_at
 char_short b h = rw (bytes_short 4 b (below 4 b (omega arith) h)) refl
 
-pub text_short : (b : List ℕ) → IsShortOf (compact_need target.U32) b → own_at layout.text b ≡ Err (truncated, [])
+pub text_short : (b : List ℕ) → IsShortOf (compact_need target.U32) b → own_at (layout.plain layout.text) b ≡ Err (truncated, [])
 unfolding own_at layout_at text_at
 text_short b h = rw (compact_short target.U32 b u32_is h) refl
 

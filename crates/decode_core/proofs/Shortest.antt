@@ -19,15 +19,15 @@ use Rattle.registry_core.specs.declared.type_info.TypeInfo.{TypeInfo}
 use Rattle.graph_core.specs.Types.{field_types}
 use Rattle.widths_core.specs.Arms.{arm_of}
 use Rattle.widths_core.specs.Classes.{is_finite}
-use Rattle.widths_core.specs.Layouts.{Layout, layout}
+use Rattle.widths_core.specs.Layouts.{Plain, Layout, layout}
 use Rattle.widths_core.specs.Layouts as layout
 use Rattle.grammar_core.specs.Tree.{Leaf, Branch, Tree, leaf, branch, char, text, unsigned, signed, wide, compact as compact_value, fields, arm, list, count, Trees, and, levels}
 use Rattle.grammar_core.specs.Grammar.{Val}
-use Rattle.grammar_core.specs.Reading.{value_at, layout_at, bool_at, char_from, all_at, times_at, arm_at, arms_at, elements_at, as_leaf, with_children, Refusal, basic, no_such_variant, too_deep, no_finite_value, bit_sequence, bad_compact, truncated}
+use Rattle.grammar_core.specs.Reading.{value_at, layout_at, leaf_at, bool_at, char_from, all_at, times_at, arm_at, arms_at, elements_at, as_leaf, with_children, Refusal, basic, no_such_variant, too_deep, no_finite_value, bit_sequence, bad_compact, truncated}
 use Rattle.grammar_core.proofs.Sound.{value_takes}
 use Rattle.grammar_core.proofs.Complete.{value_again}
 use Rattle.grammar_core.proofs.Stable.{value_extends}
-use Rattle.decode_core.specs.Taken.{compact_taken, text_taken, all_taken, times_taken, arm_taken, arms_taken, layout_taken, value_taken}
+use Rattle.decode_core.specs.Taken.{leaf_taken, compact_taken, text_taken, all_taken, times_taken, arm_taken, arms_taken, layout_taken, value_taken}
 use Rattle.decode_core.proofs.Deciding.{Decided, IsSteady, chain, finish, bind_chain, finish_decided, chain_decided, cons_decided}
 
 -- ---- compacts
@@ -249,20 +249,24 @@ arms_decided : (r : List TypeInfo) (room : ℕ) → ChildDecided r room → (arm
 arms_decided r room h arms [] = λ ne. absurd (ne refl)
 arms_decided r room h arms (i ∷ b) = arm_decided r room h arms i b (arm_of arms i) refl
 
+-- the fault of a value without parts is decided by the bytes that are taken
+plain_decided : (p : Plain) (b : List ℕ) → Decided truncated (leaf_at p) b (leaf_taken p b) (leaf_at p b)
+plain_decided layout.empty b = tt
+plain_decided layout.bool b = bool_decided b
+plain_decided layout.char b = char_decided b
+plain_decided layout.text b = finish_decided reasons.Truncated basic (λ x. leaf (text x)) _ text_at (λ c. as_leaf_finish text (text_at c)) b (text_taken b) (text_decided b)
+plain_decided (layout.unsigned k) b = finish_decided reasons.Truncated basic (λ b. leaf (unsigned (number b))) _ (bytes_at k) (λ c. as_leaf_finish (λ b. unsigned (number b)) (bytes_at k c)) b 0 (bytes_decided _ b)
+plain_decided (layout.signed k) b = finish_decided reasons.Truncated basic (λ b. leaf (signed (signed_number b))) _ (bytes_at k) (λ c. as_leaf_finish (λ b. signed (signed_number b)) (bytes_at k c)) b 0 (bytes_decided _ b)
+plain_decided layout.wide b = finish_decided reasons.Truncated basic (λ x. leaf (wide x)) _ (bytes_at 32) (λ c. as_leaf_finish wide (bytes_at 32 c)) b 0 (bytes_decided _ b)
+plain_decided layout.counted b = finish_decided reasons.Truncated basic (λ x. leaf (count x)) _ (compact_at target.U32) (λ c. as_leaf_finish count (compact_at target.U32 c)) b (compact_taken target.U32 b) (compact_decided target.U32 b)
+plain_decided (layout.compact m) b = finish_decided reasons.Truncated basic (λ x. leaf (compact_value x)) _ (compact_at m) (λ c. as_leaf_finish compact_value (compact_at m c)) b (compact_taken m b) (compact_decided m b)
+
 layout_decided : (r : List TypeInfo) (room : ℕ) → ChildDecided r room → (f : Layout) (b : List ℕ) → Decided truncated (layout_at (value_at r room) f) b (layout_taken (value_at r room) (value_taken r room) f b) (layout_at (value_at r room) f b)
 unfolding layout_at layout_taken
 layout_decided r room h layout.unknown b = met_decided _ b no_finite_value b refl
 layout_decided r room h layout.bit_sequence b = met_decided _ b bit_sequence b refl
 layout_decided r room h layout.bad_compact b = met_decided _ b bad_compact b refl
-layout_decided r room h layout.empty b = tt
-layout_decided r room h layout.bool b = bool_decided b
-layout_decided r room h layout.char b = char_decided b
-layout_decided r room h layout.text b = finish_decided reasons.Truncated basic (λ x. leaf (text x)) _ text_at (λ c. as_leaf_finish text (text_at c)) b (text_taken b) (text_decided b)
-layout_decided r room h (layout.unsigned k) b = finish_decided reasons.Truncated basic (λ b. leaf (unsigned (number b))) _ (bytes_at k) (λ c. as_leaf_finish (λ b. unsigned (number b)) (bytes_at k c)) b 0 (bytes_decided _ b)
-layout_decided r room h (layout.signed k) b = finish_decided reasons.Truncated basic (λ b. leaf (signed (signed_number b))) _ (bytes_at k) (λ c. as_leaf_finish (λ b. signed (signed_number b)) (bytes_at k c)) b 0 (bytes_decided _ b)
-layout_decided r room h layout.wide b = finish_decided reasons.Truncated basic (λ x. leaf (wide x)) _ (bytes_at 32) (λ c. as_leaf_finish wide (bytes_at 32 c)) b 0 (bytes_decided _ b)
-layout_decided r room h layout.counted b = finish_decided reasons.Truncated basic (λ x. leaf (count x)) _ (compact_at target.U32) (λ c. as_leaf_finish count (compact_at target.U32 c)) b (compact_taken target.U32 b) (compact_decided target.U32 b)
-layout_decided r room h (layout.compact m) b = finish_decided reasons.Truncated basic (λ x. leaf (compact_value x)) _ (compact_at m) (λ c. as_leaf_finish compact_value (compact_at m c)) b (compact_taken m b) (compact_decided m b)
+layout_decided r room h (layout.plain p) b = plain_decided p b
 layout_decided r room h (layout.fields ts) b = finish_decided truncated (λ e. e) (branch fields) _ (all_at (value_at r room) ts) (λ c. with_children_finish fields (all_at (value_at r room) ts c)) b (all_taken (value_at r room) (value_taken r room) ts b) (all_decided r room h ts b)
 layout_decided r room h (layout.arms arms) b = arms_decided r room h arms b
 layout_decided r room h (layout.array n t) b = finish_decided truncated (λ e. e) (branch list) _ (times_at (value_at r room) n t) (λ c. with_children_finish list (times_at (value_at r room) n t c)) b (times_taken (value_at r room) (value_taken r room) n t b) (times_decided r room h n t b)

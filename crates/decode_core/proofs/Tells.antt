@@ -10,12 +10,12 @@ use Rattle.registry_core.specs.declared.definition.Arm.{Arm}
 use Rattle.registry_core.specs.declared.type_info.TypeInfo.{TypeInfo}
 use Rattle.graph_core.specs.Types.{field_types}
 use Rattle.widths_core.specs.Arms.{arm_of}
-use Rattle.widths_core.specs.Layouts.{Layout}
+use Rattle.widths_core.specs.Layouts.{Plain, Layout}
 use Rattle.widths_core.specs.Layouts as layout
 use Rattle.grammar_core.specs.Tree.{Leaf, Branch, Tree, Trees, none, and, how_many}
 use Rattle.grammar_core.specs.Tree as tree
 use Rattle.grammar_core.specs.Preorder.{Head, head_of, preorder, all_preorder}
-use Rattle.grammar_core.specs.Reading.{as_leaf, basic, bool_at, char_from, value_at, layout_at, all_at, times_at, arm_at, arms_at, elements_at, with_children, Refusal}
+use Rattle.grammar_core.specs.Reading.{as_leaf, basic, bool_at, char_from, value_at, layout_at, leaf_at, all_at, times_at, arm_at, arms_at, elements_at, with_children, Refusal}
 use Rattle.decode_core.specs.Met.{met_layout}
 use Rattle.decode_core.proofs.Mets.{value_met}
 use Rattle.value_core.specs.Built.{Entry}
@@ -85,11 +85,11 @@ leaf_lone : (v : Tree) → IsLeafTree v → head_of v ∷ [] ≡ preorder v
 leaf_lone (tree.branch k vs) h = absurd h
 leaf_lone (tree.leaf l) h = refl
 
-pub value_leaf : {X : Type 0} (make : X → Leaf) → (read : Read Reason X) → IsLeafRead (as_leaf make read)
+value_leaf : {X : Type 0} (make : X → Leaf) → (read : Read Reason X) → IsLeafRead (as_leaf make read)
 value_leaf make (Ok x) = tt
 value_leaf make (Err e) = tt
 
-pub bool_leaf : (b : List ℕ) → IsLeafRead (bool_at b)
+bool_leaf : (b : List ℕ) → IsLeafRead (bool_at b)
 bool_leaf [] = tt
 bool_leaf (zero ∷ b) = tt
 bool_leaf (suc zero ∷ b) = tt
@@ -99,9 +99,21 @@ scalar_leaf : (at rest : List ℕ) (n : ℕ) (t : Bool) → IsLeafRead (cond t (
 scalar_leaf at rest n true = tt
 scalar_leaf at rest n false = tt
 
-pub char_leaf : (at : List ℕ) (read : Read Reason (List ℕ)) → IsLeafRead (char_from at read)
+char_leaf : (at : List ℕ) (read : Read Reason (List ℕ)) → IsLeafRead (char_from at read)
 char_leaf at (Ok x) = scalar_leaf at x.1 (number x.0) (is_scalar (number x.0))
 char_leaf at (Err e) = tt
+
+-- what is read of a value without parts is a leaf
+pub reads_leaf : (p : Plain) (b : List ℕ) → IsLeafRead (leaf_at p b)
+reads_leaf layout.empty b = tt
+reads_leaf layout.bool b = (bool_leaf b)
+reads_leaf layout.char b = (char_leaf b (bytes_at 4 b))
+reads_leaf layout.text b = (value_leaf tree.text (text_at b))
+reads_leaf (layout.unsigned k) b = (value_leaf (λ c. tree.unsigned (number c)) (bytes_at k b))
+reads_leaf (layout.signed k) b = (value_leaf (λ c. tree.signed (signed_number c)) (bytes_at k b))
+reads_leaf layout.wide b = (value_leaf tree.wide (bytes_at 32 b))
+reads_leaf layout.counted b = (value_leaf tree.count (compact_at target.U32 b))
+reads_leaf (layout.compact m) b = (value_leaf tree.compact (compact_at m b))
 
 leaf_agrees : (one : ℕ → List ℕ → Told) (t : ℕ) (b : List ℕ) (read : Read Refusal Tree) → IsLeafRead read → Agrees read (own_told one t b (leaf_own read))
 leaf_agrees one t b (Ok x) h = (leaf_lone x.0 h, refl)
@@ -128,15 +140,7 @@ layout_agrees child one h t (layout.array n u) b = with_agrees (λ k. k ≡ n) t
 layout_agrees child one h t layout.unknown b = leaf_agrees one t b (layout_at child layout.unknown b) tt
 layout_agrees child one h t layout.bit_sequence b = leaf_agrees one t b (layout_at child layout.bit_sequence b) tt
 layout_agrees child one h t layout.bad_compact b = leaf_agrees one t b (layout_at child layout.bad_compact b) tt
-layout_agrees child one h t layout.empty b = leaf_agrees one t b (layout_at child layout.empty b) tt
-layout_agrees child one h t layout.bool b = leaf_agrees one t b (layout_at child layout.bool b) (bool_leaf b)
-layout_agrees child one h t layout.char b = leaf_agrees one t b (layout_at child layout.char b) (char_leaf b (bytes_at 4 b))
-layout_agrees child one h t layout.text b = leaf_agrees one t b (layout_at child layout.text b) (value_leaf tree.text (text_at b))
-layout_agrees child one h t (layout.unsigned k) b = leaf_agrees one t b (layout_at child (layout.unsigned k) b) (value_leaf (λ c. tree.unsigned (number c)) (bytes_at k b))
-layout_agrees child one h t (layout.signed k) b = leaf_agrees one t b (layout_at child (layout.signed k) b) (value_leaf (λ c. tree.signed (signed_number c)) (bytes_at k b))
-layout_agrees child one h t layout.wide b = leaf_agrees one t b (layout_at child layout.wide b) (value_leaf tree.wide (bytes_at 32 b))
-layout_agrees child one h t layout.counted b = leaf_agrees one t b (layout_at child layout.counted b) (value_leaf tree.count (compact_at target.U32 b))
-layout_agrees child one h t (layout.compact m) b = leaf_agrees one t b (layout_at child (layout.compact m) b) (value_leaf tree.compact (compact_at m b))
+layout_agrees child one h t (layout.plain p) b = leaf_agrees one t b (leaf_at p b) (reads_leaf p b)
 
 room_agrees : (r : List TypeInfo) (room t : ℕ) (b : List ℕ) → ((u : ℕ) (c : List ℕ) → Agrees (value_at r room u c) (told_at r room u c)) → Agrees (value_at r (suc room) t b) (told_at r (suc room) t b)
 unfolding told_at

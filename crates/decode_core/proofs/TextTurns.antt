@@ -54,29 +54,29 @@ bytes_few : (n : ℕ) (bytes : List ℕ) → length bytes < n → bytes_at n byt
 bytes_few n bytes h = rw (lt-ltb (length bytes) n h) refl
 
 -- bytes of it are missing
-pub text_missing : (n : ℕ) (bytes : List ℕ) → IsLength n → length bytes < n → own_at layout.text (compact n ++ bytes) ≡ Err (truncated, [])
+pub text_missing : (n : ℕ) (bytes : List ℕ) → IsLength n → length bytes < n → own_at (layout.plain layout.text) (compact n ++ bytes) ≡ Err (truncated, [])
 unfolding own_at layout_at
 text_missing n bytes h few = ap (λ r. leaf_own (as_leaf tree.text r)) (text_behind n bytes (Err (scale.Truncated, [])) h (bytes_few n bytes few))
 
 -- they are all there, and UTF-8
-pub text_whole : (n : ℕ) (bytes : List ℕ) → IsLength n → length bytes ≡ n → is_utf8 bytes ≡ true → own_at layout.text (compact n ++ bytes) ≡ Ok ((head.leaf (tree.text bytes), None), [])
+pub text_whole : (n : ℕ) (bytes : List ℕ) → IsLength n → length bytes ≡ n → is_utf8 bytes ≡ true → own_at (layout.plain layout.text) (compact n ++ bytes) ≡ Ok ((head.leaf (tree.text bytes), None), [])
 unfolding own_at layout_at
 text_whole n bytes h all utf8 = ap (λ r. leaf_own (as_leaf tree.text r)) (text_behind n bytes (Ok (bytes, [])) h (bytes_whole n bytes all) ∙ ap (λ (c : Bool). cond c (Ok (bytes, [])) (Err (scale.BadUtf8, drop (utf8_valid_len bytes) bytes))) utf8)
 
 -- they are all there, and not UTF-8
-pub text_bad : (n : ℕ) (bytes : List ℕ) → IsLength n → length bytes ≡ n → is_utf8 bytes ≡ false → own_at layout.text (compact n ++ bytes) ≡ Err (basic scale.BadUtf8, drop (utf8_valid_len bytes) bytes)
+pub text_bad : (n : ℕ) (bytes : List ℕ) → IsLength n → length bytes ≡ n → is_utf8 bytes ≡ false → own_at (layout.plain layout.text) (compact n ++ bytes) ≡ Err (basic scale.BadUtf8, drop (utf8_valid_len bytes) bytes)
 unfolding own_at layout_at
 text_bad n bytes h all utf8 = ap (λ r. leaf_own (as_leaf tree.text r)) (text_behind n bytes (Ok (bytes, [])) h (bytes_whole n bytes all) ∙ ap (λ (c : Bool). cond c (Ok (bytes, [])) (Err (scale.BadUtf8, drop (utf8_valid_len bytes) bytes))) utf8)
 
 -- fewer than all its bytes are too few
-pub text_front : (n : ℕ) (bytes : List ℕ) (i : ℕ) → IsLength n → length bytes ≡ n → i < length (compact n ++ bytes) → own_at layout.text (take i (compact n ++ bytes)) ≡ Err (truncated, [])
+pub text_front : (n : ℕ) (bytes : List ℕ) (i : ℕ) → IsLength n → length bytes ≡ n → i < length (compact n ++ bytes) → own_at (layout.plain layout.text) (take i (compact n ++ bytes)) ≡ Err (truncated, [])
 text_front n bytes i h all lt = elim (cases_lt i (length (compact n))) [
-  | inl low ↦ ap (own_at layout.text) (take-append-le i (compact n) bytes (omega (arith, low))) ∙ text_short (take i (compact n)) (front_short (form.Primitive P.Str) (compact n) i h.own low)
+  | inl low ↦ ap (own_at (layout.plain layout.text)) (take-append-le i (compact n) bytes (omega (arith, low))) ∙ text_short (take i (compact n)) (front_short (form.Primitive P.Str) (compact n) i h.own low)
   | inr ge ↦
       let k = i - length (compact n) in
       let same : i ≡ length (compact n) + k = omega (arith, ge) in
       let few : length (take k bytes) < n = omega (arith, length-take k bytes, all, lt, length-append (compact n) bytes, ge) in
-      ap (λ (j : ℕ). own_at layout.text (take j (compact n ++ bytes))) same ∙ ap (own_at layout.text) (take-append-add (compact n) bytes k) ∙ text_missing n (take k bytes) h few
+      ap (λ (j : ℕ). own_at (layout.plain layout.text) (take j (compact n ++ bytes))) same ∙ ap (own_at (layout.plain layout.text)) (take-append-add (compact n) bytes k) ∙ text_missing n (take k bytes) h few
 ]
 
 -- ---- the end of a text
@@ -119,7 +119,7 @@ ended_badly b new n valid h = bad_by n.pieces.bytes (with_text_ended b) b new va
 abbrev pub closed_of : Built → Built
 closed_of b = record b { text = None }
 
-laid_text : (b : Built) (n : AtEnd b) → next_layout b ≡ layout.text
+laid_text : (b : Built) (n : AtEnd b) → next_layout b ≡ (layout.plain layout.text)
 laid_text b n = next_has b (form.Primitive P.Str) n.wants
 
 pub text_added : (b new : Built) (n : AtEnd b) → is_utf8 n.pieces.bytes ≡ true → new ≡ with_text_ended b → IsAdded (closed_of b) new (compact n.pieces.len ++ n.pieces.bytes)

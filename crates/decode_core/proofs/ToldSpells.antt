@@ -19,7 +19,7 @@ use Rattle.grammar_core.specs.Grammar.{Val}
 use Rattle.grammar_core.specs.Parts.{Part, each, times}
 use Rattle.grammar_core.specs.Preorder as head
 use Rattle.grammar_core.specs.Preorder.{Head, head_of}
-use Rattle.grammar_core.specs.Reading.{Refusal, layout_at}
+use Rattle.grammar_core.specs.Reading.{Refusal, layout_at, leaf_at}
 use Rattle.grammar_core.specs.Spelled.{own_bytes, spelled}
 use Rattle.grammar_core.specs.Tree.{Tree, levels}
 use Rattle.grammar_core.specs.Tree as tree
@@ -28,7 +28,7 @@ use Rattle.value_core.specs.Built.{Entry}
 use Rattle.decode_core.specs.Met.{met_layout}
 use Rattle.decode_core.specs.Told.{entry, Own, leaf_own, arm_own, arms_own, length_own, shallow, own_at, Told, told, after, then, all_told, times_told, opened_told, own_told, told_at}
 use Rattle.decode_core.proofs.Mets.{met_is, met_takes}
-use Rattle.decode_core.proofs.Tells.{IsLeafTree, IsLeafRead, value_leaf, bool_leaf, char_leaf}
+use Rattle.decode_core.proofs.Tells.{IsLeafTree, IsLeafRead, reads_leaf}
 
 -- the bytes of these nodes, one behind the other
 abbrev pub bytes_of : List TypeInfo → List Entry → List ℕ
@@ -112,15 +112,7 @@ own_tells_of r t (layout.array n u) b e are = array_tells r t n u b e
 own_tells_of r t layout.unknown b e are = tt
 own_tells_of r t layout.bit_sequence b e are = tt
 own_tells_of r t layout.bad_compact b e are = tt
-own_tells_of r t layout.empty b e are = refl
-own_tells_of r t layout.bool b e are = leaf_tells r t b (layout_at shallow layout.bool b) are (met_takes r t layout.bool e b) (bool_leaf b)
-own_tells_of r t layout.char b e are = leaf_tells r t b (layout_at shallow layout.char b) are (met_takes r t layout.char e b) (char_leaf b (bytes_at 4 b))
-own_tells_of r t layout.text b e are = leaf_tells r t b (layout_at shallow layout.text b) are (met_takes r t layout.text e b) (value_leaf tree.text (text_at b))
-own_tells_of r t (layout.unsigned k) b e are = leaf_tells r t b (layout_at shallow (layout.unsigned k) b) are (met_takes r t (layout.unsigned k) e b) (value_leaf (λ c. tree.unsigned (number c)) (bytes_at k b))
-own_tells_of r t (layout.signed k) b e are = leaf_tells r t b (layout_at shallow (layout.signed k) b) are (met_takes r t (layout.signed k) e b) (value_leaf (λ c. tree.signed (signed_number c)) (bytes_at k b))
-own_tells_of r t layout.wide b e are = leaf_tells r t b (layout_at shallow layout.wide b) are (met_takes r t layout.wide e b) (value_leaf tree.wide (bytes_at 32 b))
-own_tells_of r t layout.counted b e are = leaf_tells r t b (layout_at shallow layout.counted b) are (met_takes r t layout.counted e b) (value_leaf tree.count (compact_at target.U32 b))
-own_tells_of r t (layout.compact m) b e are = leaf_tells r t b (layout_at shallow (layout.compact m) b) are (met_takes r t (layout.compact m) e b) (value_leaf tree.compact (compact_at m b))
+own_tells_of r t (layout.plain p) b e are = leaf_tells r t b (leaf_at p b) are (met_takes r t (layout.plain p) e b) (reads_leaf p b)
 
 own_bytes_told : (r : List TypeInfo) (child : ℕ → List ℕ → Told) → ChildTells r child → (t : ℕ) (b : List ℕ) (read : Own) → AreBytes b → OwnTells r t b read → TellsBytes r b (own_told child t b read)
 own_bytes_told r child h t b (Err e) are k = refl

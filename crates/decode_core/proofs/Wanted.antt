@@ -43,11 +43,11 @@ node_short bytes x (Err e) read' h is some = elim (refusal_tells e.0) [
   | inr other ↦ let both = sym (h other) ∙ is in absurd cc
 ]
 
-text_few : (held rest : List ℕ) (n : ℕ) → compact_at target.U32 held ≡ Ok (n, rest) → length rest < n → own_at layout.text held ≡ Err (truncated, [])
+text_few : (held rest : List ℕ) (n : ℕ) → compact_at target.U32 held ≡ Ok (n, rest) → length rest < n → own_at (layout.plain layout.text) held ≡ Err (truncated, [])
 unfolding own_at layout_at Rattle.scale_core.specs.Read.text_at
 text_few held rest n h few = rw (h, lt-ltb (length rest) n few) refl
 
-text_short : (held bytes came : List ℕ) (n : ℕ) (read read' : Read Reason ℕ) → compact_at target.U32 held ≡ read → Extends scale.Truncated bytes read read' → read' ≡ Ok (n, came) → 1 ≤ length bytes → length came ≤ n → (left : List ℕ) × (own_at layout.text held ≡ Err (truncated, left))
+text_short : (held bytes came : List ℕ) (n : ℕ) (read read' : Read Reason ℕ) → compact_at target.U32 held ≡ read → Extends scale.Truncated bytes read read' → read' ≡ Ok (n, came) → 1 ≤ length bytes → length came ≤ n → (left : List ℕ) × (own_at (layout.plain layout.text) held ≡ Err (truncated, left))
 text_short held bytes came n (Ok y) read' at h is some few =
     let both : ◌≡◌ {A = Read Reason ℕ} (Ok (y.0, y.1 ++ bytes)) (Ok (n, came)) = sym h ∙ is in
     let pair : (y.0, y.1 ++ bytes) ≡ (n, came) = done_is (y.0, y.1 ++ bytes) (n, came) both in

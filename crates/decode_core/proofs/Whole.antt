@@ -17,8 +17,7 @@ use Rattle.registry_core.specs.declared.kind.PrimitiveKind.{PrimitiveKind}
 use Rattle.registry_core.specs.declared.kind.PrimitiveKind.TheVariants as K
 use Rattle.widths_core.specs.Arms.{arm_of}
 use Rattle.widths_core.specs.Layouts.{Layout, kind_layout}
-use Rattle.grammar_core.specs.Tree.{Tree}
-use Rattle.grammar_core.specs.Tree.{Leaf}
+use Rattle.grammar_core.specs.Tree.{Leaf, Tree}
 use Rattle.grammar_core.specs.Tree as tree
 use Rattle.grammar_core.specs.Reading.{layout_at, bool_at, char_from, as_leaf, Refusal, basic}
 use Rattle.grammar_core.specs.declared.form.Form.{Form}

@@ -20,7 +20,7 @@ past_length (Err e) = 0
 
 -- what the bytes of the node that is not there yet have of a text
 abbrev pub open_text : Layout → List ℕ → ℕ
-open_text layout.text e = past_length (compact_at target.U32 e)
+open_text (layout.plain layout.text) e = past_length (compact_at target.U32 e)
 open_text _ e = 0
 
 -- there is one begun tree

@@ -8,7 +8,7 @@ use Rattle.registry_core.specs.declared.type_info.TypeInfo.{TypeInfo}
 use Rattle.graph_core.specs.Types.{field_types}
 use Rattle.widths_core.specs.Arms.{arm_of}
 use Rattle.widths_core.specs.Classes.{is_finite}
-use Rattle.widths_core.specs.Layouts.{Layout, layout}
+use Rattle.widths_core.specs.Layouts.{Plain, Layout, layout}
 use Rattle.widths_core.specs.Layouts as layout
 use Rattle.grammar_core.specs.Tree.{Tree}
 use Rattle.grammar_core.specs.Reading.{Reader, value_at}
@@ -44,17 +44,22 @@ abbrev pub arms_taken : (ℕ → Reader Tree) → (ℕ → List ℕ → ℕ) →
 arms_taken child taken arms [] = 0
 arms_taken child taken arms (index ∷ rest) = suc (arm_taken child taken (arm_of arms index) rest)
 
--- a bool is judged by its byte and a char by its four; where a type is refused as it is met, no byte of it is taken
+-- a bool is judged by its byte and a char by its four
+abbrev pub leaf_taken : Plain → List ℕ → ℕ
+leaf_taken layout.bool b = 1
+leaf_taken layout.char b = 4
+leaf_taken layout.text b = text_taken b
+leaf_taken layout.counted b = compact_taken target.U32 b
+leaf_taken (layout.compact m) b = compact_taken m b
+leaf_taken _ b = 0
+
+-- where a type is refused as it is met, no byte of it is taken
 unfoldable pub layout_taken : (ℕ → Reader Tree) → (ℕ → List ℕ → ℕ) → Layout → List ℕ → ℕ
-layout_taken child taken layout.bool b = 1
-layout_taken child taken layout.char b = 4
-layout_taken child taken layout.text b = text_taken b
+layout_taken child taken (layout.plain p) b = leaf_taken p b
 layout_taken child taken (layout.fields ts) b = all_taken child taken ts b
 layout_taken child taken (layout.arms arms) b = arms_taken child taken arms b
-layout_taken child taken layout.counted b = compact_taken target.U32 b
 layout_taken child taken (layout.sequence t) b = behind b (compact_at target.U32 b) (compact_taken target.U32 b) (λ n. times_taken child taken n.0 t n.1)
 layout_taken child taken (layout.array n t) b = times_taken child taken n t b
-layout_taken child taken (layout.compact m) b = compact_taken m b
 layout_taken child taken _ b = 0
 
 -- what is taken where a value of type t is refused

@@ -77,7 +77,7 @@ KeepsNode s bytes = IsSpelled s.built (held_of s ++ bytes)
 
 -- a text is next, and the bytes that are held and these are its length and some of its bytes, or none; these are not none
 abbrev pub KeepsText : Running → List ℕ → Type 0
-KeepsText s bytes = (next_layout s.built ≡ layout.text) × (1 ≤ length bytes)
+KeepsText s bytes = (next_layout s.built ≡ (layout.plain layout.text)) × (1 ≤ length bytes)
     × ((n : ℕ) × (came : List ℕ) × (compact_at target.U32 (held_of s ++ bytes) ≡ Ok (n, came)) × (length came ≤ n))
 
 -- memory is wanted, where rest is left of the piece: a value can stand next, and by the first bytes of the rest its node is to be

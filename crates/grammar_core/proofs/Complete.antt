@@ -8,29 +8,10 @@ use Rattle.graph_core.specs.Types.{field_types}
 use Rattle.widths_core.specs.Layouts.{Layout, layout}
 use Rattle.widths_core.specs.Layouts as layout
 use Rattle.grammar_core.specs.Tree.{Tree, leaf, branch, unit, bool, char, text, unsigned, signed, wide, compact, fields, arm, list, count, Trees, none, and, how_many, levels, most_levels, Leaf}
-use Rattle.grammar_core.specs.Grammar.{Val, Vals, Each, IsCompactValue, IsLeaf}
+use Rattle.grammar_core.specs.Grammar.{Val, Vals, Each, IsLeaf}
 use Rattle.grammar_core.proofs.Grounded.{finite}
 use Rattle.grammar_core.specs.Preorder.{levels-pos}
 use Rattle.grammar_core.specs.Reading.{value_at, layout_at, all_at, times_at, Refusal}
-
-compact_value_again : (child : ℕ → List ℕ → Read Refusal Tree) (f : Layout) (x : ℕ) (b rest : List ℕ) → IsCompactValue f x b → layout_at child f (b ++ rest) ≡ Ok (leaf (compact x), rest)
-unfolding layout_at
-compact_value_again child (layout.compact m) x b rest h = rw (compact_again m x b rest h) refl
-compact_value_again child layout.unknown x b rest h = absurd h
-compact_value_again child layout.bit_sequence x b rest h = absurd h
-compact_value_again child layout.bad_compact x b rest h = absurd h
-compact_value_again child layout.empty x b rest h = absurd h
-compact_value_again child layout.bool x b rest h = absurd h
-compact_value_again child layout.char x b rest h = absurd h
-compact_value_again child layout.text x b rest h = absurd h
-compact_value_again child (layout.unsigned k) x b rest h = absurd h
-compact_value_again child (layout.signed k) x b rest h = absurd h
-compact_value_again child layout.wide x b rest h = absurd h
-compact_value_again child (layout.fields ts) x b rest h = absurd h
-compact_value_again child (layout.arms as') x b rest h = absurd h
-compact_value_again child layout.counted x b rest h = absurd h
-compact_value_again child (layout.sequence t) x b rest h = absurd h
-compact_value_again child (layout.array n t) x b rest h = absurd h
 
 -- what spells a leaf is read as it, whatever follows
 leaf_again : (child : ℕ → List ℕ → Read Refusal Tree) (f : Layout) (l : Leaf) (b rest : List ℕ) → IsLeaf f l b → layout_at child f (b ++ rest) ≡ Ok (leaf l, rest)
@@ -43,7 +24,7 @@ leaf_again child f (text s) b rest h = rw (h.0, text_again s b rest h.1) refl
 leaf_again child f (unsigned x) b rest h = rw (h.1, bytes_again h.0 b rest h.2, h.3) refl
 leaf_again child f (signed x) b rest h = rw (h.1, bytes_again h.0 b rest h.2, h.3) refl
 leaf_again child f (wide x) b rest h = rw (h.0, bytes_again 32 b rest h.1, h.2) refl
-leaf_again child f (compact x) b rest h = compact_value_again child f x b rest h
+leaf_again child f (compact x) b rest h = rw (h.1, compact_again h.0 x b rest h.2) refl
 leaf_again child f (count k) b rest h = rw (h.0, compact_again target.U32 k b rest h.1) refl
 
 mutual

@@ -12,7 +12,7 @@ use Rattle.widths_core.specs.Layouts.{Layout, layout}
 use Rattle.widths_core.specs.Layouts as layout
 use Rattle.widths_core.proofs.Known.{Known, known, empty_class, class_empty, class_finite, layout_empty}
 use Rattle.grammar_core.specs.Tree.{Tree, leaf, branch, unit, bool, char, text, unsigned, signed, wide, compact, fields, arm, list, count, Trees, none, and, how_many, Leaf}
-use Rattle.grammar_core.specs.Grammar.{Val, Vals, IsCompactValue, IsLeaf}
+use Rattle.grammar_core.specs.Grammar.{Val, Vals, IsLeaf}
 use Rattle.grammar_core.specs.Laws.{EmptyHasUnit, SizedHasBytes}
 
 abbrev is_nil : List ℕ → Bool
@@ -24,26 +24,8 @@ nil_parts [] b e = (refl, e)
 nil_parts (x ∷ a) b e = absurd cc
 
 -- the forms are apart
-other : {X : Type 0} (r : List TypeInfo) (t : ℕ) (f : Layout) → layout r t ≡ layout.empty → layout r t ≡ f → (layout.empty ≡ f → X) → X
+other : {X : Type 0} (r : List TypeInfo) (t : ℕ) (f : Layout) → layout r t ≡ (layout.plain layout.empty) → layout r t ≡ f → ((layout.plain layout.empty) ≡ f → X) → X
 other r t f e h k = k (sym e ∙ h)
-
-pub compact_value_of : (f : Layout) (x : ℕ) (b : List ℕ) → IsCompactValue f x b → (m : Target) × (f ≡ layout.compact m) × IsCompact m x b
-compact_value_of (layout.compact m) x b h = (m, refl, h)
-compact_value_of layout.unknown x b h = absurd h
-compact_value_of layout.bit_sequence x b h = absurd h
-compact_value_of layout.bad_compact x b h = absurd h
-compact_value_of layout.empty x b h = absurd h
-compact_value_of layout.bool x b h = absurd h
-compact_value_of layout.char x b h = absurd h
-compact_value_of layout.text x b h = absurd h
-compact_value_of (layout.unsigned k) x b h = absurd h
-compact_value_of (layout.signed k) x b h = absurd h
-compact_value_of layout.wide x b h = absurd h
-compact_value_of (layout.fields ts) x b h = absurd h
-compact_value_of (layout.arms as') x b h = absurd h
-compact_value_of layout.counted x b h = absurd h
-compact_value_of (layout.sequence t) x b h = absurd h
-compact_value_of (layout.array n t) x b h = absurd h
 
 pub known_at : (r : List TypeInfo) (t : ℕ) (f : Layout) → layout r t ≡ f → Known r t f
 known_at r t f e = subst (Known r t) e (known r t)
@@ -53,18 +35,18 @@ compact_has_byte x b h e = let no = compact-bytes target.U32 x b h e in absurd c
 
 -- a leaf of no bytes is of a type that takes none
 leaf_no_bytes : (r : List TypeInfo) (t : ℕ) (l : Leaf) (b : List ℕ) → b ≡ [] → IsLeaf (layout r t) l b → class_of r t ≡ class.Empty
-leaf_no_bytes r t unit b e h = known_at r t layout.empty h.0
+leaf_no_bytes r t unit b e h = known_at r t (layout.plain layout.empty) h.0
 leaf_no_bytes r t (bool x) b e h = let no = sym e ∙ h.1 in absurd cc
 leaf_no_bytes r t (char c) b e h = let no = sym (ap length e) ∙ h.1 in absurd (omega (arith, no))
 leaf_no_bytes r t (text s) b e h = compact_has_byte (length s) h.1.0 h.1.1 (nil_parts h.1.0 s (sym h.1.3 ∙ e)).0
-leaf_no_bytes r t (unsigned x) b e h = absurd (omega (arith, known_at r t (layout.unsigned h.0) h.1, sym (ap length e) ∙ h.2))
-leaf_no_bytes r t (signed x) b e h = absurd (omega (arith, known_at r t (layout.signed h.0) h.1, sym (ap length e) ∙ h.2))
+leaf_no_bytes r t (unsigned x) b e h = absurd (omega (arith, known_at r t (layout.plain (layout.unsigned h.0)) h.1, sym (ap length e) ∙ h.2))
+leaf_no_bytes r t (signed x) b e h = absurd (omega (arith, known_at r t (layout.plain (layout.signed h.0)) h.1, sym (ap length e) ∙ h.2))
 leaf_no_bytes r t (wide x) b e h = let no = sym (ap length e) ∙ h.1 in absurd (omega (arith, no))
-leaf_no_bytes r t (compact x) b e h = let c = compact_value_of (layout r t) x b h in empty_class r t (known_at r t (layout.compact c.0) c.1 (compact-bytes c.0 x b c.2 e))
+leaf_no_bytes r t (compact x) b e h = empty_class r t (known_at r t (layout.plain (layout.compact h.0)) h.1 (compact-bytes h.0 x b h.2 e))
 leaf_no_bytes r t (count k) b e h = compact_has_byte k b h.1 e
 
 -- the one leaf of a type that takes no bytes
-leaf_unique : (l : Leaf) (f : Layout) (b : List ℕ) → f ≡ layout.empty → IsLeaf f l b → (l ≡ unit) × (b ≡ [])
+leaf_unique : (l : Leaf) (f : Layout) (b : List ℕ) → f ≡ (layout.plain layout.empty) → IsLeaf f l b → (l ≡ unit) × (b ≡ [])
 leaf_unique unit f b e h = (refl, h.1)
 leaf_unique (bool x) f b e h = let no = sym e ∙ h.0 in absurd cc
 leaf_unique (char c) f b e h = let no = sym e ∙ h.0 in absurd cc
@@ -72,7 +54,7 @@ leaf_unique (text s) f b e h = let no = sym e ∙ h.0 in absurd cc
 leaf_unique (unsigned x) f b e h = let no = sym e ∙ h.1 in absurd cc
 leaf_unique (signed x) f b e h = let no = sym e ∙ h.1 in absurd cc
 leaf_unique (wide x) f b e h = let no = sym e ∙ h.0 in absurd cc
-leaf_unique (compact x) f b e h = let c = compact_value_of f x b h in let no = sym e ∙ c.1 in absurd cc
+leaf_unique (compact x) f b e h = let no = sym e ∙ h.1 in absurd cc
 leaf_unique (count k) f b e h = let no = sym e ∙ h.0 in absurd cc
 
 mutual
@@ -103,7 +85,7 @@ not_nil (x ∷ b) h = omega arith
 pub sized_has_bytes : SizedHasBytes
 sized_has_bytes r t v b sized h = not_nil b (λ e. let no = sym sized ∙ no_bytes r t v b e h in absurd cc)
 
-pub empty_unique : (r : List TypeInfo) (t : ℕ) (v : Tree) (b : List ℕ) → layout r t ≡ layout.empty → Val r t v b → (v ≡ leaf unit) × (b ≡ [])
+pub empty_unique : (r : List TypeInfo) (t : ℕ) (v : Tree) (b : List ℕ) → layout r t ≡ (layout.plain layout.empty) → Val r t v b → (v ≡ leaf unit) × (b ≡ [])
 unfolding Val
 empty_unique r t (leaf l) b e h = let is = leaf_unique l (layout r t) b e h in (ap leaf is.0, is.1)
 empty_unique r t (branch fields vs) b e h = let no = sym e ∙ h.1 in absurd cc

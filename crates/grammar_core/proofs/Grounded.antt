@@ -10,19 +10,18 @@ use Rattle.widths_core.proofs.Known.{finite_at}
 use Rattle.grammar_core.specs.Tree.{Tree, leaf, branch, unit, bool, char, text, unsigned, signed, wide, compact, fields, arm, list, count, Trees, none, and, Leaf}
 use Rattle.grammar_core.specs.Grammar.{Val, Vals, IsLeaf}
 use Rattle.grammar_core.specs.Laws.{ValuesAreFinite}
-use Rattle.grammar_core.proofs.Emptiness.{compact_value_of}
 
 -- a type that a leaf is a value of has a value
 leaf_finite : (r : List TypeInfo) (t : ℕ) (l : Leaf) (b : List ℕ) → IsLeaf (layout r t) l b → is_finite r t ≡ true
-leaf_finite r t unit b h = finite_at r t layout.empty h.0
-leaf_finite r t (bool x) b h = finite_at r t layout.bool h.0
-leaf_finite r t (char c) b h = finite_at r t layout.char h.0
-leaf_finite r t (text s) b h = finite_at r t layout.text h.0
-leaf_finite r t (unsigned x) b h = finite_at r t (layout.unsigned h.0) h.1
-leaf_finite r t (signed x) b h = finite_at r t (layout.signed h.0) h.1
-leaf_finite r t (wide x) b h = finite_at r t layout.wide h.0
-leaf_finite r t (compact x) b h = let c = compact_value_of (layout r t) x b h in finite_at r t (layout.compact c.0) c.1
-leaf_finite r t (count k) b h = finite_at r t layout.counted h.0
+leaf_finite r t unit b h = finite_at r t (layout.plain layout.empty) h.0
+leaf_finite r t (bool x) b h = finite_at r t (layout.plain layout.bool) h.0
+leaf_finite r t (char c) b h = finite_at r t (layout.plain layout.char) h.0
+leaf_finite r t (text s) b h = finite_at r t (layout.plain layout.text) h.0
+leaf_finite r t (unsigned x) b h = finite_at r t (layout.plain (layout.unsigned h.0)) h.1
+leaf_finite r t (signed x) b h = finite_at r t (layout.plain (layout.signed h.0)) h.1
+leaf_finite r t (wide x) b h = finite_at r t (layout.plain layout.wide) h.0
+leaf_finite r t (compact x) b h = finite_at r t (layout.plain (layout.compact h.0)) h.1
+leaf_finite r t (count k) b h = finite_at r t (layout.plain layout.counted) h.0
 
 mutual
   unfolding Val

@@ -146,19 +146,19 @@ no_text : is_utf8 [] ≡ true
 unfolding is_utf8 chars lib.Utf8.encode
 no_text = refl
 
-unsigned_value : (r : List TypeInfo) (t k : ℕ) → layout r t ≡ layout.unsigned k → HasValue r t
+unsigned_value : (r : List TypeInfo) (t k : ℕ) → layout r t ≡ layout.plain (layout.unsigned k) → HasValue r t
 unfolding Val
 unsigned_value r t k e = (leaf (unsigned (number (zeros k))), zeros k, zeros-bytes k, (k, e, length-zeros k, refl))
 
-signed_value : (r : List TypeInfo) (t k : ℕ) → layout r t ≡ layout.signed k → HasValue r t
+signed_value : (r : List TypeInfo) (t k : ℕ) → layout r t ≡ layout.plain (layout.signed k) → HasValue r t
 unfolding Val
 signed_value r t k e = (leaf (signed (signed_number (zeros k))), zeros k, zeros-bytes k, (k, e, length-zeros k, refl))
 
-wide_value : (r : List TypeInfo) (t : ℕ) → layout r t ≡ layout.wide → HasValue r t
+wide_value : (r : List TypeInfo) (t : ℕ) → layout r t ≡ (layout.plain layout.wide) → HasValue r t
 unfolding Val
 wide_value r t e = (leaf (wide (zeros 32)), zeros 32, zeros-bytes 32, (e, length-zeros 32, refl))
 
-char_value : (r : List TypeInfo) (t : ℕ) → layout r t ≡ layout.char → HasValue r t
+char_value : (r : List TypeInfo) (t : ℕ) → layout r t ≡ (layout.plain layout.char) → HasValue r t
 unfolding Val zeros
 char_value r t e = (leaf (char 0), zeros 4, zeros-bytes 4, (e, refl, refl, refl))
 
@@ -187,7 +187,7 @@ zero_of target.U128 = (compact 0, zero-bytes, (omega arith, refl))
 compact_of : (r : List TypeInfo) (t : ℕ) (o : Option Target) → (o ≡ None → ⊥) → layout r t ≡ compact_layout o → HasValue r t
 unfolding Val
 compact_of r t None left e = absurd (left refl)
-compact_of r t (Some m) left e = let z = zero_of m in (leaf (compact_value 0), z.0, z.1, rw e z.2)
+compact_of r t (Some m) left e = let z = zero_of m in (leaf (compact_value 0), z.0, z.1, (m, e, z.2))
 
 sized_value : (r : List TypeInfo) (k t : ℕ) (d : TypeDef) → FitsDefinition d → IsPlain r t → shape r t ≡ Some d → ((u : ℕ) → IsAmong u (references d) → finite_within r k u ≡ true → HasValue r u) → layout r t ≡ sized_layout r d → finite_step (finite_within r k) d ≡ true → HasValue r t
 unfolding Val

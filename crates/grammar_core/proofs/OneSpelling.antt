@@ -14,7 +14,6 @@ use Rattle.widths_core.proofs.Wide.{arm-index}
 use Rattle.grammar_core.specs.Tree.{Tree, leaf, branch, unit, bool, char, text, unsigned, signed, wide, compact, fields, arm, list, count, Trees, none, and, how_many, Leaf}
 use Rattle.grammar_core.specs.Grammar.{Val, Vals, Each, IsLeaf}
 use Rattle.grammar_core.specs.Laws.{OneSpelling}
-use Rattle.grammar_core.proofs.Emptiness.{compact_value_of}
 
 fields_are : (r : List TypeInfo) (t : ℕ) (x y : List ℕ) → layout r t ≡ layout.fields x → layout r t ≡ layout.fields y → x ≡ y
 fields_are r t x y e f = let same : layout.fields x ≡ layout.fields y = sym e ∙ f in cc
@@ -28,14 +27,14 @@ elements_are r t n m x y e f = let same : layout.array n x ≡ layout.array m y 
 sequence_is : (r : List TypeInfo) (t x y : ℕ) → layout r t ≡ layout.sequence x → layout r t ≡ layout.sequence y → x ≡ y
 sequence_is r t x y e f = let same : layout.sequence x ≡ layout.sequence y = sym e ∙ f in cc
 
-compact_is : (r : List TypeInfo) (t : ℕ) (x y : Target) → layout r t ≡ layout.compact x → layout r t ≡ layout.compact y → x ≡ y
-compact_is r t x y e f = let same : layout.compact x ≡ layout.compact y = sym e ∙ f in cc
+compact_is : (r : List TypeInfo) (t : ℕ) (x y : Target) → layout r t ≡ layout.plain (layout.compact x) → layout r t ≡ layout.plain (layout.compact y) → x ≡ y
+compact_is r t x y e f = let same : layout.plain (layout.compact x) ≡ layout.plain (layout.compact y) = sym e ∙ f in cc
 
-unsigned_is : (r : List TypeInfo) (t x y : ℕ) → layout r t ≡ layout.unsigned x → layout r t ≡ layout.unsigned y → x ≡ y
-unsigned_is r t x y e f = let same : layout.unsigned x ≡ layout.unsigned y = sym e ∙ f in cc
+unsigned_is : (r : List TypeInfo) (t x y : ℕ) → layout r t ≡ layout.plain (layout.unsigned x) → layout r t ≡ layout.plain (layout.unsigned y) → x ≡ y
+unsigned_is r t x y e f = let same : layout.plain (layout.unsigned x) ≡ layout.plain (layout.unsigned y) = sym e ∙ f in cc
 
-signed_is : (r : List TypeInfo) (t x y : ℕ) → layout r t ≡ layout.signed x → layout r t ≡ layout.signed y → x ≡ y
-signed_is r t x y e f = let same : layout.signed x ≡ layout.signed y = sym e ∙ f in cc
+signed_is : (r : List TypeInfo) (t x y : ℕ) → layout r t ≡ layout.plain (layout.signed x) → layout r t ≡ layout.plain (layout.signed y) → x ≡ y
+signed_is r t x y e f = let same : layout.plain (layout.signed x) ≡ layout.plain (layout.signed y) = sym e ∙ f in cc
 
 front_of : (b c d : List ℕ) → b ≡ c ++ d → AreBytes b → AreBytes c
 front_of b c d e h = front_bytes c d (rw (← e) h)
@@ -52,10 +51,7 @@ leaf_one r t (text s) a b p q h k = let same = one_spelling target.U32 (length s
 leaf_one r t (unsigned x) a b p q h k = number_one a b p q (h.2 ∙ unsigned_is r t h.0 k.0 h.1 k.1 ∙ sym k.2) (h.3 ∙ sym k.3)
 leaf_one r t (signed x) a b p q h k = signed_one a b p q (h.2 ∙ signed_is r t h.0 k.0 h.1 k.1 ∙ sym k.2) (h.3 ∙ sym k.3)
 leaf_one r t (wide x) a b p q h k = h.2 ∙ sym k.2
-leaf_one r t (compact x) a b p q h k =
-    let c = compact_value_of (layout r t) x a h in
-    let d = compact_value_of (layout r t) x b k in
-    one_spelling c.0 x a b c.2 (rw (compact_is r t c.0 d.0 c.1 d.1) d.2)
+leaf_one r t (compact x) a b p q h k = one_spelling h.0 x a b h.2 (rw (compact_is r t h.0 k.0 h.1 k.1) k.2)
 leaf_one r t (count n) a b p q h k = one_spelling target.U32 n a b h.1 k.1
 
 mutual

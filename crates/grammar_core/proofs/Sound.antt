@@ -55,14 +55,14 @@ times_takes r room child h (suc n) t b = bind_takes (One r room t) (Times r room
     bind_takes (Times r room n t) (λ vs d. Times r room (suc n) t vs (c ++ d)) v.1 (times_at child n t v.1) _ (times_takes r room child h n t v.1) (λ vs d vals.
     ([], refl, ((c, d, rw append-nil refl, val.0, vals.0), ap (λ (k : ℕ). suc k) vals.1, omega arith))))
 
-bool_takes : (r : List TypeInfo) (room t : ℕ) (b : List ℕ) → layout r t ≡ layout.bool → Takes (One r (suc room) t) b (bool_at b)
+bool_takes : (r : List TypeInfo) (room t : ℕ) (b : List ℕ) → layout r t ≡ (layout.plain layout.bool) → Takes (One r (suc room) t) b (bool_at b)
 unfolding Val
 bool_takes r room t [] e = tt
 bool_takes r room t (zero ∷ b) e = (0 ∷ [], refl, ((e, refl), omega arith))
 bool_takes r room t (suc zero ∷ b) e = (1 ∷ [], refl, ((e, refl), omega arith))
 bool_takes r room t (suc (suc x) ∷ b) e = tt
 
-char_takes : (r : List TypeInfo) (room t : ℕ) (b : List ℕ) (read : Read Reason (List ℕ)) → layout r t ≡ layout.char → Takes (λ x c. (c ≡ x) × (length c ≡ 4)) b read → Takes (One r (suc room) t) b (char_from b read)
+char_takes : (r : List TypeInfo) (room t : ℕ) (b : List ℕ) (read : Read Reason (List ℕ)) → layout r t ≡ (layout.plain layout.char) → Takes (λ x c. (c ≡ x) × (length c ≡ 4)) b read → Takes (One r (suc room) t) b (char_from b read)
 unfolding Val
 char_takes r room t b (Err e) f h = tt
 char_takes r room t b (Ok x) f h = cond_takes (One r (suc room) t) b (is_scalar (number x.0)) (Ok (leaf (char (number x.0)), x.1)) (Err (basic reasons.BadChar, b)) (λ e. (h.0, h.1, ((f, h.2.1, ap number h.2.0, e), omega arith))) (λ e. tt)
@@ -90,19 +90,19 @@ unfolding Val layout_at
 layout_takes r room t child h layout.unknown e b = tt
 layout_takes r room t child h layout.bit_sequence e b = tt
 layout_takes r room t child h layout.bad_compact e b = tt
-layout_takes r room t child h layout.empty e b = ([], refl, ((e, refl), omega arith))
-layout_takes r room t child h layout.bool e b = bool_takes r room t b e
-layout_takes r room t child h layout.char e b = char_takes r room t b (bytes_at 4 b) e (bytes_takes 4 b)
-layout_takes r room t child h layout.text e b = as_leaf_takes IsText (One r (suc room) t) text b (text_at b) (text_takes b) (λ s c is. ((e, is), omega arith))
-layout_takes r room t child h (layout.unsigned k) e b = as_leaf_takes (λ x c. (c ≡ x) × (length c ≡ k)) (One r (suc room) t) (λ b. unsigned (number b)) b (bytes_at k b) (bytes_takes k b) (λ x c is. ((k, e, is.1, ap number is.0), omega arith))
-layout_takes r room t child h (layout.signed k) e b = as_leaf_takes (λ x c. (c ≡ x) × (length c ≡ k)) (One r (suc room) t) (λ b. signed (signed_number b)) b (bytes_at k b) (bytes_takes k b) (λ x c is. ((k, e, is.1, ap signed_number is.0), omega arith))
-layout_takes r room t child h layout.wide e b = as_leaf_takes (λ x c. (c ≡ x) × (length c ≡ 32)) (One r (suc room) t) wide b (bytes_at 32 b) (bytes_takes 32 b) (λ x c is. ((e, is.1, is.0), omega arith))
+layout_takes r room t child h (layout.plain layout.empty) e b = ([], refl, ((e, refl), omega arith))
+layout_takes r room t child h (layout.plain layout.bool) e b = bool_takes r room t b e
+layout_takes r room t child h (layout.plain layout.char) e b = char_takes r room t b (bytes_at 4 b) e (bytes_takes 4 b)
+layout_takes r room t child h (layout.plain layout.text) e b = as_leaf_takes IsText (One r (suc room) t) text b (text_at b) (text_takes b) (λ s c is. ((e, is), omega arith))
+layout_takes r room t child h (layout.plain (layout.unsigned k)) e b = as_leaf_takes (λ x c. (c ≡ x) × (length c ≡ k)) (One r (suc room) t) (λ b. unsigned (number b)) b (bytes_at k b) (bytes_takes k b) (λ x c is. ((k, e, is.1, ap number is.0), omega arith))
+layout_takes r room t child h (layout.plain (layout.signed k)) e b = as_leaf_takes (λ x c. (c ≡ x) × (length c ≡ k)) (One r (suc room) t) (λ b. signed (signed_number b)) b (bytes_at k b) (bytes_takes k b) (λ x c is. ((k, e, is.1, ap signed_number is.0), omega arith))
+layout_takes r room t child h (layout.plain layout.wide) e b = as_leaf_takes (λ x c. (c ≡ x) × (length c ≡ 32)) (One r (suc room) t) wide b (bytes_at 32 b) (bytes_takes 32 b) (λ x c is. ((e, is.1, is.0), omega arith))
 layout_takes r room t child h (layout.fields ts) e b = with_children_takes (Some_of r room ts) (One r (suc room) t) fields b (all_at child ts b) (all_takes r room child h ts b) (λ vs c vals. ((ts, e, vals.0), omega arith))
 layout_takes r room t child h (layout.arms arms) e b = arms_takes r room t child h arms e b
-layout_takes r room t child h layout.counted e b = as_leaf_takes (IsCompact target.U32) (One r (suc room) t) count b (compact_at target.U32 b) (compact_takes target.U32 b) (λ k c is. ((e, is), omega arith))
+layout_takes r room t child h (layout.plain layout.counted) e b = as_leaf_takes (IsCompact target.U32) (One r (suc room) t) count b (compact_at target.U32 b) (compact_takes target.U32 b) (λ k c is. ((e, is), omega arith))
 layout_takes r room t child h (layout.sequence u) e b = elements_takes r room t u child h e b (compact_at target.U32 b) (compact_takes target.U32 b)
 layout_takes r room t child h (layout.array n u) e b = with_children_takes (Times r room n u) (One r (suc room) t) list b (times_at child n u b) (times_takes r room child h n u b) (λ vs c vals. (inl (n, u, e, vals.1, vals.0), omega arith))
-layout_takes r room t child h (layout.compact m) e b = as_leaf_takes (IsCompact m) (One r (suc room) t) compact b (compact_at m b) (compact_takes m b) (λ x c is. (rw e is, omega arith))
+layout_takes r room t child h (layout.plain (layout.compact m)) e b = as_leaf_takes (IsCompact m) (One r (suc room) t) compact b (compact_at m b) (compact_takes m b) (λ x c is. ((m, e, is), omega arith))
 
 pub value_takes : (r : List TypeInfo) (room t : ℕ) (b : List ℕ) → Takes (One r room t) b (value_at r room t b)
 unfolding value_at

@@ -31,14 +31,14 @@ use Rattle.grammar_core.specs.Tree as tree
 use Rattle.grammar_core.specs.Grammar.{Val, Vals, Each, IsLeaf}
 use Rattle.grammar_core.specs.Parts.{each, times}
 use Rattle.grammar_core.specs.Cells.{cells, all_cells}
-use Rattle.grammar_core.proofs.Emptiness.{compact_value_of, known_at}
+use Rattle.grammar_core.proofs.Emptiness.{known_at}
 use Rattle.grammar_core.specs.Spelled.{leaf_bytes, kind_width, width_of, word, index_of, index_byte, is_sequence, length_bytes, cell_bytes, spelled, EncodedIsValue}
 
 -- ---- what the layout of a type says of its definition
 
 abbrev Shaped : Layout → Option TypeDef → Type 0
-Shaped (layout.unsigned k) d = width_of d ≡ k
-Shaped (layout.signed k) d = (width_of d ≡ k) × (k ≤ 16)
+Shaped (layout.plain (layout.unsigned k)) d = width_of d ≡ k
+Shaped (layout.plain (layout.signed k)) d = (width_of d ≡ k) × (k ≤ 16)
 Shaped (layout.arms as') d = d ≡ Some (Def.Variant as')
 Shaped (layout.sequence t) d = is_sequence d ≡ true
 Shaped (layout.array n t) d = is_sequence d ≡ false
@@ -128,9 +128,9 @@ unsigned_bytes_are k n b h len e = ap (λ (x : ℕ). le_bytes x n) (sym len) ∙
 
 -- ---- a compact integer is no value without bytes
 
-compact_is : (r : List TypeInfo) (t : ℕ) (m : Target) (x : ℕ) (b : List ℕ) → layout r t ≡ layout.compact m → IsCompact m x b → compact x ≡ b
+compact_is : (r : List TypeInfo) (t : ℕ) (m : Target) (x : ℕ) (b : List ℕ) → layout r t ≡ layout.plain (layout.compact m) → IsCompact m x b → compact x ≡ b
 compact_is r t target.Unit x b e h =
-    let empty = layout_empty r t (empty_class r t (known_at r t (layout.compact target.Unit) e refl)) in
+    let empty = layout_empty r t (empty_class r t (known_at r t (layout.plain (layout.compact target.Unit)) e refl)) in
     let no = sym empty ∙ e in absurd cc
 compact_is r t target.U8 x b e h = sym h.1
 compact_is r t target.U16 x b e h = sym h.1
@@ -173,12 +173,12 @@ leaf_spells r t unit b p h = sym h.1
 leaf_spells r t (bool x) b p h = sym h.1
 leaf_spells r t (char c) b p h = unsigned_bytes_are 4 c b p h.1 h.2
 leaf_spells r t (text s) b p h = append-nil (compact (length s) ++ s) ∙ ap (λ (x : List ℕ). x ++ s) (sym h.1.1.1) ∙ sym h.1.3
-leaf_spells r t (unsigned x) b p h = append-nil _ ∙ ap (λ (k : ℕ). le_bytes k x) (shaped_at r t (layout.unsigned h.0) h.1) ∙ unsigned_bytes_are h.0 x b p h.2 h.3
+leaf_spells r t (unsigned x) b p h = append-nil _ ∙ ap (λ (k : ℕ). le_bytes k x) (shaped_at r t (layout.plain (layout.unsigned h.0)) h.1) ∙ unsigned_bytes_are h.0 x b p h.2 h.3
 leaf_spells r t (signed x) b p h =
-    let s = shaped_at r t (layout.signed h.0) h.1 in
+    let s = shaped_at r t (layout.plain (layout.signed h.0)) h.1 in
     append-nil _ ∙ ap (λ (k : ℕ). le_bytes k (word x)) s.0 ∙ signed_bytes_are h.0 x b p s.1 h.2 h.3
 leaf_spells r t (wide x) b p h = append-nil x ∙ sym h.2
-leaf_spells r t (tree.compact x) b p h = let c = compact_value_of (layout r t) x b h in append-nil (compact x) ∙ compact_is r t c.0 x b c.1 c.2
+leaf_spells r t (tree.compact x) b p h = append-nil (compact x) ∙ compact_is r t h.0 x b h.1 h.2
 leaf_spells r t (count k) b p h = append-nil (compact k) ∙ sym h.1.1
 
 mutual

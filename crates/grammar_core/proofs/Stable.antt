@@ -11,10 +11,10 @@ use Rattle.registry_core.specs.declared.type_info.TypeInfo.{TypeInfo}
 use Rattle.graph_core.specs.Types.{field_types}
 use Rattle.widths_core.specs.Arms.{arm_of}
 use Rattle.widths_core.specs.Classes.{is_finite}
-use Rattle.widths_core.specs.Layouts.{Layout, layout}
+use Rattle.widths_core.specs.Layouts.{Plain, Layout, layout}
 use Rattle.widths_core.specs.Layouts as layout
 use Rattle.grammar_core.specs.Tree.{Leaf, Branch, Tree, leaf, branch, text, unsigned, signed, wide, compact, fields, arm, list, count, Trees}
-use Rattle.grammar_core.specs.Reading.{value_at, layout_at, bool_at, char_from, all_at, times_at, arm_at, arms_at, elements_at, as_leaf, with_children, Refusal, basic, truncated}
+use Rattle.grammar_core.specs.Reading.{value_at, layout_at, leaf_at, bool_at, char_from, all_at, times_at, arm_at, arms_at, elements_at, as_leaf, with_children, Refusal, basic, truncated}
 
 as_leaf_extends : {X : Type 0} (make : X → Leaf) (more : List ℕ) (read read' : Read Reason X) → Extends reasons.Truncated more read read' → Extends truncated more (as_leaf make read) (as_leaf make read')
 as_leaf_extends make more (Ok x) s h = rw h refl
@@ -59,24 +59,28 @@ elements_extends : (more : List ℕ) (child : ℕ → List ℕ → Read Refusal 
 elements_extends more child h t (Err e) s k = λ ne. rw (k (λ eq. ne (ap basic eq))) refl
 elements_extends more child h t (Ok n) s k = rw k (with_children_extends list more _ _ (times_extends more child h n.0 t n.1))
 
+-- more bytes behind a value without parts
+leaf_extends : (more : List ℕ) (p : Plain) (b : List ℕ) → Extends truncated more (leaf_at p b) (leaf_at p (b ++ more))
+leaf_extends more layout.empty b = refl
+leaf_extends more layout.bool b = bool_extends b more
+leaf_extends more layout.char b = char_extends b more _ _ (bytes_extends 4 b more)
+leaf_extends more layout.text b = as_leaf_extends text more _ _ (text_extends b more)
+leaf_extends more (layout.unsigned k) b = as_leaf_extends (λ b. unsigned (number b)) more _ _ (bytes_extends k b more)
+leaf_extends more (layout.signed k) b = as_leaf_extends (λ b. signed (signed_number b)) more _ _ (bytes_extends k b more)
+leaf_extends more layout.wide b = as_leaf_extends wide more _ _ (bytes_extends 32 b more)
+leaf_extends more layout.counted b = as_leaf_extends count more _ _ (compact_extends target.U32 b more)
+leaf_extends more (layout.compact m) b = as_leaf_extends compact more _ _ (compact_extends m b more)
+
 pub layout_extends : (more : List ℕ) (child : ℕ → List ℕ → Read Refusal Tree) → ChildExtends more child → (f : Layout) (b : List ℕ) → Extends truncated more (layout_at child f b) (layout_at child f (b ++ more))
 unfolding layout_at
 layout_extends more child h layout.unknown b = λ ne. refl
 layout_extends more child h layout.bit_sequence b = λ ne. refl
 layout_extends more child h layout.bad_compact b = λ ne. refl
-layout_extends more child h layout.empty b = refl
-layout_extends more child h layout.bool b = bool_extends b more
-layout_extends more child h layout.char b = char_extends b more _ _ (bytes_extends 4 b more)
-layout_extends more child h layout.text b = as_leaf_extends text more _ _ (text_extends b more)
-layout_extends more child h (layout.unsigned k) b = as_leaf_extends (λ b. unsigned (number b)) more _ _ (bytes_extends k b more)
-layout_extends more child h (layout.signed k) b = as_leaf_extends (λ b. signed (signed_number b)) more _ _ (bytes_extends k b more)
-layout_extends more child h layout.wide b = as_leaf_extends wide more _ _ (bytes_extends 32 b more)
+layout_extends more child h (layout.plain p) b = leaf_extends more p b
 layout_extends more child h (layout.fields ts) b = with_children_extends fields more _ _ (all_extends more child h ts b)
 layout_extends more child h (layout.arms arms) b = arms_extends more child h arms b
-layout_extends more child h layout.counted b = as_leaf_extends count more _ _ (compact_extends target.U32 b more)
 layout_extends more child h (layout.sequence u) b = elements_extends more child h u _ _ (compact_extends target.U32 b more)
 layout_extends more child h (layout.array n u) b = with_children_extends list more _ _ (times_extends more child h n u b)
-layout_extends more child h (layout.compact m) b = as_leaf_extends compact more _ _ (compact_extends m b more)
 
 pub value_extends : (r : List TypeInfo) (room t : ℕ) (b more : List ℕ) → Extends truncated more (value_at r room t b) (value_at r room t (b ++ more))
 unfolding value_at

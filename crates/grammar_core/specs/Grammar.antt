@@ -3,6 +3,7 @@ use Rattle.std.specs.Prelude.{◌≡◌, ℕ, ◌≤◌, List, [], ◌∷◌, �
 use Rattle.scale_core.specs.Number.{number, signed_number, is_scalar, bool_byte}
 use Rattle.scale_core.specs.Compact.{IsCompact}
 use Rattle.scale_core.specs.Text.{IsText}
+use Rattle.scale_core.specs.declared.compact.Target.{Target}
 use Rattle.scale_core.specs.declared.compact.Target.TheVariants as target
 use Rattle.registry_core.specs.declared.definition.Arm.{Arm}
 use Rattle.registry_core.specs.declared.type_info.TypeInfo.{TypeInfo}
@@ -16,22 +17,17 @@ use Rattle.grammar_core.specs.Tree.{Leaf, Tree, leaf, branch, unit, bool, char, 
 abbrev pub IsLong : ℕ → List ℕ → Type 0
 IsLong k b = length b ≡ k
 
--- what a compact over an integer stands for
-abbrev pub IsCompactValue : Layout → ℕ → List ℕ → Type 0
-IsCompactValue (layout.compact m) x b = IsCompact m x b
-IsCompactValue _ x b = ⊥
-
 -- the bytes that spell this leaf, which is a value of a type of this layout
 abbrev pub IsLeaf : Layout → Leaf → List ℕ → Type 0
-IsLeaf f unit b = (f ≡ layout.empty) × (b ≡ [])
-IsLeaf f (bool x) b = (f ≡ layout.bool) × (b ≡ bool_byte x ∷ [])
-IsLeaf f (char c) b = (f ≡ layout.char) × IsLong 4 b × (number b ≡ c) × (is_scalar c ≡ true)
-IsLeaf f (text s) b = (f ≡ layout.text) × IsText s b
-IsLeaf f (unsigned x) b = (k : ℕ) × (f ≡ layout.unsigned k) × IsLong k b × (number b ≡ x)
-IsLeaf f (signed x) b = (k : ℕ) × (f ≡ layout.signed k) × IsLong k b × (signed_number b ≡ x)
-IsLeaf f (wide x) b = (f ≡ layout.wide) × IsLong 32 b × (b ≡ x)
-IsLeaf f (compact x) b = IsCompactValue f x b
-IsLeaf f (count k) b = (f ≡ layout.counted) × IsCompact target.U32 k b
+IsLeaf f unit b = (f ≡ (layout.plain layout.empty)) × (b ≡ [])
+IsLeaf f (bool x) b = (f ≡ (layout.plain layout.bool)) × (b ≡ bool_byte x ∷ [])
+IsLeaf f (char c) b = (f ≡ (layout.plain layout.char)) × IsLong 4 b × (number b ≡ c) × (is_scalar c ≡ true)
+IsLeaf f (text s) b = (f ≡ (layout.plain layout.text)) × IsText s b
+IsLeaf f (unsigned x) b = (k : ℕ) × (f ≡ layout.plain (layout.unsigned k)) × IsLong k b × (number b ≡ x)
+IsLeaf f (signed x) b = (k : ℕ) × (f ≡ layout.plain (layout.signed k)) × IsLong k b × (signed_number b ≡ x)
+IsLeaf f (wide x) b = (f ≡ (layout.plain layout.wide)) × IsLong 32 b × (b ≡ x)
+IsLeaf f (compact x) b = (m : Target) × (f ≡ layout.plain (layout.compact m)) × IsCompact m x b
+IsLeaf f (count k) b = (f ≡ (layout.plain layout.counted)) × IsCompact target.U32 k b
 
 -- v is a value of type t, and b is what it is in bytes
 unfoldable mutual

@@ -10,7 +10,7 @@ use Rattle.registry_core.specs.declared.type_info.TypeInfo.{TypeInfo}
 use Rattle.graph_core.specs.Types.{field_types}
 use Rattle.widths_core.specs.Arms.{arm_of}
 use Rattle.widths_core.specs.Classes.{is_finite}
-use Rattle.widths_core.specs.Layouts.{Layout, layout}
+use Rattle.widths_core.specs.Layouts.{Plain, Layout, layout}
 use Rattle.widths_core.specs.Layouts as layout
 use Rattle.grammar_core.specs.Tree.{Leaf, Branch, Tree, leaf, branch, unit, bool, char, text, unsigned, signed, wide, compact, fields, arm, list, count, Trees, none, and}
 
@@ -78,24 +78,28 @@ abbrev pub elements_at : (ℕ → Reader Tree) → ℕ → Read Reason ℕ → R
 elements_at child t (Ok n) = with_children list (times_at child n.0 t n.1)
 elements_at child t (Err e) = Err (basic e.0, e.1)
 
+-- a value without parts, by what its bytes are
+abbrev pub leaf_at : Plain → Reader Tree
+leaf_at layout.empty bytes = Ok (leaf unit, bytes)
+leaf_at layout.bool bytes = bool_at bytes
+leaf_at layout.char bytes = char_from bytes (bytes_at 4 bytes)
+leaf_at layout.text bytes = as_leaf text (text_at bytes)
+leaf_at (layout.unsigned k) bytes = as_leaf (λ b. unsigned (number b)) (bytes_at k bytes)
+leaf_at (layout.signed k) bytes = as_leaf (λ b. signed (signed_number b)) (bytes_at k bytes)
+leaf_at layout.wide bytes = as_leaf wide (bytes_at 32 bytes)
+leaf_at layout.counted bytes = as_leaf count (compact_at target.U32 bytes)
+leaf_at (layout.compact m) bytes = as_leaf compact (compact_at m bytes)
+
 -- a value of this layout, whose children the reader child reads
 unfoldable pub layout_at : (ℕ → Reader Tree) → Layout → Reader Tree
 layout_at child layout.unknown bytes = Err (no_finite_value, bytes)
 layout_at child layout.bit_sequence bytes = Err (bit_sequence, bytes)
 layout_at child layout.bad_compact bytes = Err (bad_compact, bytes)
-layout_at child layout.empty bytes = Ok (leaf unit, bytes)
-layout_at child layout.bool bytes = bool_at bytes
-layout_at child layout.char bytes = char_from bytes (bytes_at 4 bytes)
-layout_at child layout.text bytes = as_leaf text (text_at bytes)
-layout_at child (layout.unsigned k) bytes = as_leaf (λ b. unsigned (number b)) (bytes_at k bytes)
-layout_at child (layout.signed k) bytes = as_leaf (λ b. signed (signed_number b)) (bytes_at k bytes)
-layout_at child layout.wide bytes = as_leaf wide (bytes_at 32 bytes)
+layout_at child (layout.plain p) bytes = leaf_at p bytes
 layout_at child (layout.fields ts) bytes = with_children fields (all_at child ts bytes)
 layout_at child (layout.arms arms) bytes = arms_at child arms bytes
-layout_at child layout.counted bytes = as_leaf count (compact_at target.U32 bytes)
 layout_at child (layout.sequence t) bytes = elements_at child t (compact_at target.U32 bytes)
 layout_at child (layout.array n t) bytes = with_children list (times_at child n t bytes)
-layout_at child (layout.compact m) bytes = as_leaf compact (compact_at m bytes)
 
 -- a value of type t, with room for so many levels
 unfoldable pub value_at : List TypeInfo → ℕ → ℕ → Reader Tree

@@ -33,7 +33,6 @@ use Rattle.grammar_core.specs.Tree as tree
 use Rattle.grammar_core.specs.Grammar.{Val, Vals}
 use Rattle.grammar_core.specs.Parts.{Part, times}
 use Rattle.grammar_core.specs.Cells.{fields_part, arm_part, list_part}
-use Rattle.grammar_core.proofs.Emptiness.{compact_value_of}
 use Rattle.value_core.specs.Shown.{Seen, IsValue, seen_parts, children_by, children_of, text_of}
 use Rattle.value_core.specs.Whats.{what_of}
 use Rattle.value_core.specs.declared.what.What.{What}
@@ -50,10 +49,10 @@ abbrev Long : ℕ → Bool → Type 0
 Long k is = ((is ≡ true) × (nat_le k 8 ≡ false)) ⊎ ((is ≡ false) × (nat_le k 8 ≡ true) × (256 ^ k ≤ 2 ^ 64))
 
 abbrev Defined : List TypeInfo → Layout → Option TypeDef → Type 0
-Defined r (layout.unsigned k) d = Long k (is_long d)
-Defined r (layout.signed k) d = Long k (is_long d)
+Defined r (layout.plain (layout.unsigned k)) d = Long k (is_long d)
+Defined r (layout.plain (layout.signed k)) d = Long k (is_long d)
 Defined r (layout.arms as') d = d ≡ Some (Def.Variant as')
-Defined r (layout.compact m) d = compact_target_of_shape r d ≡ Some m
+Defined r (layout.plain (layout.compact m)) d = compact_target_of_shape r d ≡ Some m
 Defined r _ d = Unit {0}
 
 long_width : (w : IntegerWidth) → Long (width_bytes w) (nat_lt 8 (width_bytes w))
@@ -156,27 +155,27 @@ Told r t v (what.Arm q) = (a : Arm) × (arm_in (shape r t) q ≡ Some a) × (jso
 Told r t v what.List = json_of r t v ≡ json.array (jsons (children_by r t v))
 Told r t v (what.Count k) = json_of r t v ≡ json.object (member (codes "count") (json.number (json.unsigned k)) no_members)
 
-unsigned_told : (r : List TypeInfo) (t n k : ℕ) (b : List ℕ) → AreBytes b → layout r t ≡ layout.unsigned k → length b ≡ k → number b ≡ n → Told r t (tree.leaf (tree.unsigned n)) (what.Unsigned n)
+unsigned_told : (r : List TypeInfo) (t n k : ℕ) (b : List ℕ) → AreBytes b → layout r t ≡ layout.plain (layout.unsigned k) → length b ≡ k → number b ≡ n → Told r t (tree.leaf (tree.unsigned n)) (what.Unsigned n)
 unfolding json_of
 unsigned_told r t n k b are e len is =
-    let long = defined_at r t (layout.unsigned k) e in
+    let long = defined_at r t (layout.plain (layout.unsigned k)) e in
     let less : n < 256 ^ k = rw (← is, ← len) (number-bound b are) in (
       λ h. omega (arith, less, short k _ long h),
       ap (λ (f : Layout). unsigned_of f n) e ∙ unsigned_same k n _ long,
     )
 
-signed_told : (r : List TypeInfo) (t k : ℕ) (z : ℤ) (b : List ℕ) → AreBytes b → layout r t ≡ layout.signed k → length b ≡ k → signed_number b ≡ z → Told r t (tree.leaf (tree.signed z)) (what.Signed z)
+signed_told : (r : List TypeInfo) (t k : ℕ) (z : ℤ) (b : List ℕ) → AreBytes b → layout r t ≡ layout.plain (layout.signed k) → length b ≡ k → signed_number b ≡ z → Told r t (tree.leaf (tree.signed z)) (what.Signed z)
 unfolding json_of
 signed_told r t k z b are e len is =
-    let long = defined_at r t (layout.signed k) e in (
+    let long = defined_at r t (layout.plain (layout.signed k)) e in (
       λ h. subst (FitsSigned w64) is (signed_fits b are (rw len (short k _ long h))),
       ap (λ (f : Layout). signed_of f z) e ∙ signed_same k z _ long,
     )
 
-compact_told : (r : List TypeInfo) (t x : ℕ) (m : Target) (b : List ℕ) → layout r t ≡ layout.compact m → IsCompact m x b → Told r t (tree.leaf (tree.compact x)) (what.Compact x)
+compact_told : (r : List TypeInfo) (t x : ℕ) (m : Target) (b : List ℕ) → layout r t ≡ layout.plain (layout.compact m) → IsCompact m x b → Told r t (tree.leaf (tree.compact x)) (what.Compact x)
 unfolding json_of
 compact_told r t x m b e h =
-    let is : compact_target_of r t ≡ Some m = defined_at r t (layout.compact m) e in
+    let is : compact_target_of r t ≡ Some m = defined_at r t (layout.plain (layout.compact m)) e in
     let long : Long (target_bytes m) (is_long_target (compact_target_of r t)) = rw is (long_target m) in (
       λ s. omega (arith, compact_bound m x b h, short (target_bytes m) _ long s),
       ap (λ (f : Layout). unsigned_of f x) e ∙ unsigned_same (target_bytes m) x _ long,
@@ -212,7 +211,7 @@ told_by r t (tree.leaf (tree.text s)) b are h = (s, refl, refl)
 told_by r t (tree.leaf (tree.unsigned n)) b are h = unsigned_told r t n h.0 b are h.1 h.2 h.3
 told_by r t (tree.leaf (tree.signed z)) b are h = signed_told r t h.0 z b are h.1 h.2 h.3
 told_by r t (tree.leaf (tree.wide s)) b are h = refl
-told_by r t (tree.leaf (tree.compact x)) b are h = let c = compact_value_of (layout r t) x b h in compact_told r t x c.0 b c.1 c.2
+told_by r t (tree.leaf (tree.compact x)) b are h = compact_told r t x h.0 b h.1 h.2
 told_by r t (tree.branch tree.fields vs) b are h = fields_told r t h.0 vs b h.1 h.2
 told_by r t (tree.branch (tree.arm q) vs) b are h = arm_told r t q h.1 h.0 h.2 vs h.3 h.4 h.5 h.7
 told_by r t (tree.branch tree.list vs) b are (inl h) = list_told r t h.1 vs (ap element_type h.2) (ap (λ (f : Layout). list_part f (how_many vs)) h.2)

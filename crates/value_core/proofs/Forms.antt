@@ -25,25 +25,25 @@ use Rattle.value_core.specs.Walked.{Walked, next_type, next_of, next_from}
 
 -- the layouts that have this form
 abbrev pub HasForm : Form → Layout → Type 0
-HasForm form.Empty f = f ≡ layout.empty
+HasForm form.Empty f = f ≡ (layout.plain layout.empty)
 HasForm (form.Primitive p) f = f ≡ primitive_layout p
-HasForm (form.Compact m) f = f ≡ layout.compact m
+HasForm (form.Compact m) f = f ≡ layout.plain (layout.compact m)
 HasForm form.Fields f = (ts : List ℕ) × (f ≡ layout.fields ts)
 HasForm form.Arm f = (arms : List Arm) × (f ≡ layout.arms arms)
 HasForm (form.Array n) f = (u : ℕ) × (f ≡ layout.array n u)
 HasForm form.Sequence f = (u : ℕ) × (f ≡ layout.sequence u)
-HasForm form.Count f = f ≡ layout.counted
+HasForm form.Count f = f ≡ (layout.plain layout.counted)
 
 -- the form that is wanted is this one
 has_form : (wanted is : Form) (f : Layout) → next.Wants is ≡ next.Wants wanted → HasForm is f → HasForm wanted f
 has_form wanted is f e h = let same : is ≡ wanted = cc in subst (λ (x : Form). HasForm x f) same h
 
 sequence_has : (wanted : Form) (u : ℕ) (empty : Bool) → sequence_form empty ≡ next.Wants wanted → HasForm wanted (sequence_layout u empty)
-sequence_has wanted u true e = has_form wanted form.Count layout.counted e refl
+sequence_has wanted u true e = has_form wanted form.Count (layout.plain layout.counted) e refl
 sequence_has wanted u false e = has_form wanted form.Sequence (layout.sequence u) e (u, refl)
 
 compact_has : (wanted : Form) (m : Option Target) → compact_form m ≡ next.Wants wanted → HasForm wanted (compact_layout m)
-compact_has wanted (Some m) e = has_form wanted (form.Compact m) (layout.compact m) e refl
+compact_has wanted (Some m) e = has_form wanted (form.Compact m) (layout.plain (layout.compact m)) e refl
 compact_has wanted None e = absurd cc
 
 sized_has : (r : List TypeInfo) (wanted : Form) (d : TypeDef) → form_of_shape r (Some d) ≡ next.Wants wanted → HasForm wanted (sized_layout r d)
@@ -57,7 +57,7 @@ sized_has r wanted (Def.Compact u) e = compact_has wanted (target_of r u.0) e
 sized_has r wanted (Def.BitSequence store order) e = absurd cc
 
 known_has : (r : List TypeInfo) (wanted : Form) (empty : Bool) (d : Option TypeDef) → (if empty then next.Wants form.Empty else form_of_shape r d) ≡ next.Wants wanted → HasForm wanted (layout_of_shape r empty d)
-known_has r wanted true d e = has_form wanted form.Empty layout.empty e refl
+known_has r wanted true d e = has_form wanted form.Empty (layout.plain layout.empty) e refl
 known_has r wanted false (Some d) e = sized_has r wanted d e
 known_has r wanted false None e = absurd cc
 
@@ -66,13 +66,13 @@ pub form_layout : (r : List TypeInfo) (t : ℕ) (wanted : Form) → form_of r t 
 unfolding layout
 form_layout r t wanted e = known_has r wanted (is_empty r t) (shape r t) e
 
-pub empty_layout : (r : List TypeInfo) (t : ℕ) → form_of r t ≡ next.Wants form.Empty → layout r t ≡ layout.empty
+pub empty_layout : (r : List TypeInfo) (t : ℕ) → form_of r t ≡ next.Wants form.Empty → layout r t ≡ (layout.plain layout.empty)
 empty_layout r t e = form_layout r t form.Empty e
 
 pub primitive_has_layout : (r : List TypeInfo) (t : ℕ) (p : Primitive) → form_of r t ≡ next.Wants (form.Primitive p) → layout r t ≡ primitive_layout p
 primitive_has_layout r t p e = form_layout r t (form.Primitive p) e
 
-pub compact_has_layout : (r : List TypeInfo) (t : ℕ) (m : Target) → form_of r t ≡ next.Wants (form.Compact m) → layout r t ≡ layout.compact m
+pub compact_has_layout : (r : List TypeInfo) (t : ℕ) (m : Target) → form_of r t ≡ next.Wants (form.Compact m) → layout r t ≡ layout.plain (layout.compact m)
 compact_has_layout r t m e = form_layout r t (form.Compact m) e
 
 pub fields_layout : (r : List TypeInfo) (t : ℕ) → form_of r t ≡ next.Wants form.Fields → (ts : List ℕ) × (layout r t ≡ layout.fields ts)
@@ -87,7 +87,7 @@ array_layout r t n e = form_layout r t (form.Array n) e
 pub sequence_has_layout : (r : List TypeInfo) (t : ℕ) → form_of r t ≡ next.Wants form.Sequence → (u : ℕ) × (layout r t ≡ layout.sequence u)
 sequence_has_layout r t e = form_layout r t form.Sequence e
 
-pub count_layout : (r : List TypeInfo) (t : ℕ) → form_of r t ≡ next.Wants form.Count → layout r t ≡ layout.counted
+pub count_layout : (r : List TypeInfo) (t : ℕ) → form_of r t ≡ next.Wants form.Count → layout r t ≡ (layout.plain layout.counted)
 count_layout r t e = form_layout r t form.Count e
 
 -- ---- what is wanted next

@@ -96,7 +96,7 @@ unfolding Val
 compact_next w m n e h =
     let k = wanted w (form.Compact m) e in
     let own = compact_own m n h in
-    record { ty = k.ty; next = k.is_next; room = k.room; leaf = tt; own = own.0; are_bytes = own.1; value = rw (compact_has_layout w.types k.ty m k.form_is) own.2 }
+    record { ty = k.ty; next = k.is_next; room = k.room; leaf = tt; own = own.0; are_bytes = own.1; value = (m, compact_has_layout w.types k.ty m k.form_is, own.2) }
 
 -- ---- characters
 
