@@ -109,3 +109,21 @@ fn each_target_takes_its_greatest_value(rt: HostRuntime) {
         assert_eq!(rt; read, Ok((value, bytes.len())), "{target:?}");
     }
 }
+
+#[test]
+fn each_target_tells_its_bytes_and_what_it_holds(rt: HostRuntime) {
+    let rows = [
+        (Unit, 0, 0),
+        (U8, 1, 255),
+        (U16, 2, 65535),
+        (U32, 4, 4294967295),
+        (U64, 8, 18446744073709551615),
+    ];
+    for (target, bytes, greatest) in rows {
+        assert_eq!(rt; target.bytes(), bytes, "{target:?}");
+        assert!(rt; target.holds(greatest), "{target:?}");
+        assert!(rt; !target.holds(greatest + 1), "{target:?}");
+    }
+    assert_eq!(rt; U128.bytes(), 16);
+    assert!(rt; U128.holds(u128::MAX));
+}

@@ -1,27 +1,11 @@
 //! How many bytes a node has of its own, by its form and its first byte.
 
 ghost use Rattle.std.specs.Prelude.{◌≡◌, ◌≤◌};
-ghost use Rattle.scale_core.specs.Compact.{target_bytes};
 ghost use Rattle.decode_core.specs.Needs.{compact_need, primitive_need, need, HasBytes};
 
 use registry_core::{Primitive, PrimitiveKind};
 use scale_core::Target;
 use value_core::Form;
-
-/// How many bytes the integer has that a compact stands for.
-fn target_bytes(target: Target) -> usize
-    ensures exact { result ≡ target_bytes target }
-    ensures bound { result ≤ 16 }
-{
-    match target {
-        Target::Unit => 0,
-        Target::U8 => 1,
-        Target::U16 => 2,
-        Target::U32 => 4,
-        Target::U64 => 8,
-        Target::U128 => 16,
-    }
-}
 
 /// How many bytes a compact integer has, or decide that it is refused.
 fn compact_need(target: Target, first: u8) -> usize
@@ -35,7 +19,7 @@ fn compact_need(target: Target, first: u8) -> usize
         2 => 4,
         _ => {
             let behind = usize::from(first / 4) + 4;
-            if target_bytes(target) < behind {
+            if target.bytes() < behind {
                 1
             } else {
                 behind + 1

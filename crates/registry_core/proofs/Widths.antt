@@ -1,5 +1,5 @@
 -- What is true of every width of an integer.
-use Rattle.std.proofs.Common.{◌≡◌, ℕ, ◌*◌, ◌/◌, ◌^◌, ◌≤◌, ◌<◌, refl, arith}
+use Rattle.std.proofs.Common.{◌≡◌, ◌*◌, ◌/◌, ◌^◌, ◌≤◌, refl, arith}
 use Rattle.registry_core.specs.Kinds.{width_bytes}
 use Rattle.registry_core.specs.declared.kind.IntegerWidth.{IntegerWidth}
 use Rattle.registry_core.specs.declared.kind.IntegerWidth.TheVariants.{W8, W16, W32, W64, W128}

@@ -23,9 +23,10 @@ pub enum Target {
 }
 
 impl Target {
-    /// How many bytes the target has.
-    fn bytes(self) -> usize
-        ensures { result ≡ target_bytes self }
+    /// The number of bytes of the integer that is stood for, 0 for `Unit`.
+    pub fn bytes(self) -> usize
+        ensures exact { result ≡ target_bytes self }
+        ensures bound { result ≤ 16 }
     {
         match self {
             Target::Unit => 0,
@@ -37,8 +38,8 @@ impl Target {
         }
     }
 
-    /// Does the value fit the target?
-    fn holds(self, value: u128) -> bool
+    /// Is the value one of the target's? `Unit` has 0 alone.
+    pub fn holds(self, value: u128) -> bool
         ensures { result ≡ nat_lt value (256 ^ target_bytes self) }
     {
         match self {

@@ -1,5 +1,5 @@
 -- The values that a node without children may be, by the form that is next.
-use Rattle.std.proofs.Common.{◌≡◌, ◌-◌, ℕ, suc, ◌*◌, ℤ, pos, negsuc, ◌/◌, ◌<◌, ◌≤◌, ◌^◌, List, [], ◌∷◌, ◌++◌, Bool, true, false, length, Some, refl, ap, ◌∙◌, arith}
+use Rattle.std.proofs.Common.{◌≡◌, ◌-◌, ℕ, suc, ◌*◌, ℤ, pos, negsuc, ◌/◌, ◌<◌, ◌≤◌, ◌^◌, List, [], ◌∷◌, ◌++◌, Bool, true, false, length, refl, ap, ◌∙◌, arith}
 use Rattle.std.specs.Prelude.{not, nat_lt, ◌||◌, ◌&&◌, if◌then◌else◌}
 use Rattle.std.specs.Str.{is_utf8}
 use Rattle.std.proofs.lemmas.Bool.{lt-ltb, le-ltb, ltb-false}
@@ -16,8 +16,7 @@ use Rattle.registry_core.specs.declared.kind.PrimitiveKind.TheVariants as K
 use Rattle.registry_core.proofs.Widths.{width_halves, width_numbers}
 use Rattle.registry_core.specs.declared.primitive.Primitive.{Primitive}
 use Rattle.registry_core.specs.declared.primitive.Primitive.TheVariants as P
-use Rattle.widths_core.specs.Layouts.{layout, kind_layout}
-use Rattle.widths_core.specs.Layouts as layout
+use Rattle.widths_core.specs.Layouts.{kind_layout}
 use Rattle.grammar_core.specs.Grammar.{Val}
 use Rattle.grammar_core.specs.Preorder as head
 use Rattle.grammar_core.specs.Tree as tree

@@ -1,7 +1,6 @@
 //! The calls that add a node to a value that is built.
 
-ghost use Rattle.std.specs.Prelude.{◌≡◌, ◌-◌, ◌^◌};
-ghost use Rattle.scale_core.specs.Compact.{target_bytes};
+ghost use Rattle.std.specs.Prelude.{◌≡◌};
 ghost use Rattle.grammar_core.specs.Preorder as head;
 ghost use Rattle.grammar_core.specs.Tree as tree;
 ghost use Rattle.value_core.specs.Built.{with_leaf, with_fields, with_arm, with_list};
@@ -13,7 +12,6 @@ use crate::leaf::Leaf;
 use crate::node::Content;
 use grammar_core::Form;
 use registry_core::{IntegerWidth, Primitive, PrimitiveKind};
-use scale_core::Target;
 use std::alloc::Allocator;
 
 /// The greatest number of an unsigned integer of this width.
@@ -42,20 +40,6 @@ fn is_within(value: i128, greatest: u128) -> bool
 {
     let distance = if value < 0 { -(value + 1) } else { value };
     distance.cast_unsigned() <= greatest
-}
-
-/// The greatest number of a compact integer.
-fn greatest_compact(target: Target) -> u128
-    ensures { result ≡ 256 ^ target_bytes target - 1 }
-{
-    match target {
-        Target::Unit => 0,
-        Target::U8 => u128::from(u8::MAX),
-        Target::U16 => u128::from(u16::MAX),
-        Target::U32 => u128::from(u32::MAX),
-        Target::U64 => u128::from(u64::MAX),
-        Target::U128 => u128::MAX,
-    }
 }
 
 impl<'r, A: Allocator> Builder<'r, A> {
@@ -191,7 +175,7 @@ impl<'r, A: Allocator> Builder<'r, A> {
         let Form::Compact(target) = self.wanted()? else {
             return Err(BuildFault::WrongKind);
         };
-        if value > greatest_compact(target) {
+        if !target.holds(value) {
             return Err(BuildFault::OutOfRange);
         }
         self.add_leaf(Leaf::Compact(value))
