@@ -5,6 +5,7 @@ ghost use Rattle.scale_core.specs.Read.{number_at};
 ghost use Rattle.registry_core.specs.Gives.{Gives};
 ghost use Rattle.registry_core.specs.Reading.{lifted, length_at, string_at, texts_at, type_id_at, type_ids_at, option_at, byte_at};
 
+use super::lists::append;
 use super::stop::Stop;
 use crate::fault::RegistryReason;
 use crate::items::Items;
@@ -106,7 +107,7 @@ pub(crate) fn type_ids_of(alloc: Global, bytes: &[u8]) -> Result<(Items<TypeId>,
     let mut ids = Vec::new(alloc);
     'ids: for _ in 0..count {
         let (id, after) = type_id_of(rest)?;
-        ids.push(id)?;
+        append(&mut ids, count, id)?;
         rest = after;
     }
     Ok((Items::from_vec(ids), rest))
@@ -121,7 +122,7 @@ pub(crate) fn texts_of(alloc: Global, bytes: &[u8]) -> Result<(Items<Text>, &[u8
     let mut texts = Vec::new(alloc);
     'texts: for _ in 0..count {
         let (text, after) = text_of(alloc, rest)?;
-        texts.push(text)?;
+        append(&mut texts, count, text)?;
         rest = after;
     }
     Ok((Items::from_vec(texts), rest))
