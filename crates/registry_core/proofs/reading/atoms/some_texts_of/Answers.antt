@@ -1,7 +1,7 @@
 use Rattle.std.proofs.lemmas.Result.{err_from_is_err_and}
 use Rattle.registry_core.specs.Reading.{times, string_at, texts_at}
 use Rattle.registry_core.proofs.Loops.{goes_on, ends}
-use Rattle.registry_core.proofs.reading.atoms.texts_of.Goals as goal
+use Rattle.registry_core.proofs.reading.atoms.some_texts_of.Goals as goal
 
 pub returns-in_err-text : goal.returns-in_err-text
 unfolding texts_at
