@@ -1,6 +1,10 @@
 //! Memory: what lengths reserve that are claimed only, and how much room the tables of a checked registry take.
 
-use registry_core::{RegistryFault, RegistryReason, read_metadata, read_registry, write_registry};
+use registry_core::{
+    Arm, Field, RegistryFault, RegistryReason, TypeInfo, read_metadata, read_registry,
+    write_registry,
+};
+use scale_core::write_compact;
 use std::alloc::Global;
 use std::fs;
 use std::process::Abort;
@@ -154,6 +158,33 @@ fn claimed_lengths_reserve_nothing(rt: HostRuntime) -> Result<(), Fail> {
     let with_list = measured(&rt)?;
     assert_eq!(rt; list.as_slice(), [7].as_slice());
     check_growth(&rt, after, with_list, 0x10_0000);
+    Ok(())
+}
+
+// A list grows by what was read, and no further than to what it claims to have: 3075 KiB here. To grow it may be copied, and
+// then the 2048 KiB count too that it had before. A vector that doubles, or grows to four times its length whatever is
+// claimed, has room for 65,536 fields, which are 6144 KiB.
+#[test]
+fn a_whole_list_has_no_room_to_spare(rt: HostRuntime) -> Result<(), Fail> {
+    assert_eq!(rt;
+        (size_of::<Field>(), size_of::<Arm>(), size_of::<TypeInfo>()),
+        (96, 80, 104)
+    );
+    let mut bytes = Vec::from_slice(rt.alloc(), b"\x04\x00\x00\x00\x00")?;
+    write_compact(&mut bytes, 32_800)?;
+    'fields: for _ in 0..32_800 {
+        bytes.extend_from_slice(&[0, 0, 0, 0])?;
+    }
+    bytes.push(0)?;
+    assert_eq!(rt; bytes.len(), 131_210);
+    let before = measured(&rt)?;
+    let (registry, count) = read_registry(rt.alloc(), &bytes)?;
+    let after = measured(&rt)?;
+    assert_eq!(rt; (registry.types().len(), count), (1, bytes.len()));
+    let kept = after.now.saturating_sub(before.now);
+    let most = after.most.saturating_sub(before.now);
+    assert!(rt; 3075 <= kept, "{kept} KiB were kept");
+    assert!(rt; most < 5632, "{most} KiB were reserved");
     Ok(())
 }
 

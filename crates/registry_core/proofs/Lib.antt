@@ -1,5 +1,6 @@
 pub mod Again
 pub mod Faults
+pub mod Lengths
 pub mod Loops
 pub mod Places
 pub mod Spelled

@@ -10,6 +10,7 @@ ghost use Rattle.registry_core.specs.declared.type_info.TypeInfo.{TypeInfo};
 
 mod atoms;
 mod definitions;
+mod lists;
 mod prefix;
 mod stop;
 mod types;
@@ -44,7 +45,7 @@ fn metadata_of(alloc: Global, bytes: &[u8]) -> Result<(Registry, &[u8]), Stop<'_
 /// (scale-info, `PortableRegistry` in its portable form). What follows is not looked at.
 ///
 /// It takes one pass from left to right. Lists grow with the elements that were read, whatever length is claimed, and
-/// each text is copied once.
+/// have no room to spare once they are whole; each text is copied once.
 ///
 /// Refuses at the first fault from the left, with its place in bytes from the front of the input:
 /// - `Truncated`, at the input's length, where the bytes end inside the registry;

@@ -1,10 +1,11 @@
 //! What a registry is made of in the end: lengths, ids, texts and single bytes.
 
-ghost use Rattle.std.specs.Prelude.{◌≡◌};
+ghost use Rattle.std.specs.Prelude.{◌≡◌, Ok, IfSome};
 ghost use Rattle.scale_core.specs.Read.{number_at};
 ghost use Rattle.registry_core.specs.Gives.{Gives};
 ghost use Rattle.registry_core.specs.Reading.{lifted, length_at, string_at, texts_at, type_id_at, type_ids_at, option_at, byte_at};
 
+use super::lists::append;
 use super::stop::Stop;
 use crate::fault::RegistryReason;
 use crate::items::Items;
@@ -106,22 +107,47 @@ pub(crate) fn type_ids_of(alloc: Global, bytes: &[u8]) -> Result<(Items<TypeId>,
     let mut ids = Vec::new(alloc);
     'ids: for _ in 0..count {
         let (id, after) = type_id_of(rest)?;
-        ids.push(id)?;
+        append(&mut ids, count, id)?;
         rest = after;
     }
     Ok((Items::from_vec(ids), rest))
 }
 
-/// Texts: how many, and one behind the other.
+/// The bytes behind a list without elements, where one stands here: its length is the byte `00`.
+#[inline(always)]
+#[tactic(auto, using(crate::proofs::Lengths::byte_is_read))]
+fn behind_empty(bytes: &[u8]) -> Option<&[u8]>
+    ensures { IfSome result (λ rest. length_at bytes.now ≡ Ok (0, rest.now)) }
+{
+    match bytes {
+        [0, rest @ ..] => Some(rest),
+        _ => None,
+    }
+}
+
+/// Texts, of which there are none in most places: that is seen without a call.
+#[inline(always)]
 #[tactic(auto, unfolding(crate::specs::Reading::texts_at))]
 pub(crate) fn texts_of(alloc: Global, bytes: &[u8]) -> Result<(Items<Text>, &[u8]), Stop<'_>>
+    ensures { Gives (λ x. (x.0, x.1.now)) result (texts_at bytes.now) }
+{
+    if let Some(rest) = behind_empty(bytes) {
+        return Ok((Items::from_vec(Vec::new(alloc)), rest));
+    }
+    some_texts_of(alloc, bytes)
+}
+
+/// Texts: how many, and one behind the other.
+#[inline(never)]
+#[tactic(auto, unfolding(crate::specs::Reading::texts_at))]
+fn some_texts_of(alloc: Global, bytes: &[u8]) -> Result<(Items<Text>, &[u8]), Stop<'_>>
     ensures { Gives (λ x. (x.0, x.1.now)) result (texts_at bytes.now) }
 {
     let (count, mut rest) = length_of(bytes)?;
     let mut texts = Vec::new(alloc);
     'texts: for _ in 0..count {
         let (text, after) = text_of(alloc, rest)?;
-        texts.push(text)?;
+        append(&mut texts, count, text)?;
         rest = after;
     }
     Ok((Items::from_vec(texts), rest))

@@ -7,6 +7,7 @@ ghost use Rattle.registry_core.specs.Reading.{field_at, fields_at, arm_at, arms_
 use super::atoms::{
     byte_of, length_of, optional_text_of, text_of, texts_of, type_id_of, type_ids_of, word_of,
 };
+use super::lists::append;
 use super::stop::Stop;
 use crate::definition::{Arm, Field, TypeDef};
 use crate::fault::RegistryReason;
@@ -41,7 +42,7 @@ fn fields_of(alloc: Global, bytes: &[u8]) -> Result<(Items<Field>, &[u8]), Stop<
     let mut fields = Vec::new(alloc);
     'fields: for _ in 0..count {
         let (field, after) = field_of(alloc, rest)?;
-        fields.push(field)?;
+        append(&mut fields, count, field)?;
         rest = after;
     }
     Ok((Items::from_vec(fields), rest))
@@ -74,7 +75,7 @@ fn arms_of(alloc: Global, bytes: &[u8]) -> Result<(Items<Arm>, &[u8]), Stop<'_>>
     let mut arms = Vec::new(alloc);
     'arms: for _ in 0..count {
         let (arm, after) = arm_of(alloc, rest)?;
-        arms.push(arm)?;
+        append(&mut arms, count, arm)?;
         rest = after;
     }
     Ok((Items::from_vec(arms), rest))

@@ -6,6 +6,7 @@ ghost use Rattle.registry_core.specs.Reading.{param_at, params_at, type_info_at,
 
 use super::atoms::{length_of, optional_type_id_of, text_of, texts_of};
 use super::definitions::definition_of;
+use super::lists::append;
 use super::stop::Stop;
 use crate::fault::RegistryReason;
 use crate::items::Items;
@@ -31,7 +32,7 @@ fn params_of(alloc: Global, bytes: &[u8]) -> Result<(Items<Param>, &[u8]), Stop<
     let mut params = Vec::new(alloc);
     'params: for _ in 0..count {
         let (param, after) = param_of(alloc, rest)?;
-        params.push(param)?;
+        append(&mut params, count, param)?;
         rest = after;
     }
     Ok((Items::from_vec(params), rest))
@@ -79,7 +80,7 @@ pub(crate) fn types_of(
     'types: for position in 0..count {
         let behind = behind_id(position, rest)?;
         let (info, after) = type_info_of(alloc, behind)?;
-        types.push(info)?;
+        append(&mut types, count, info)?;
         rest = after;
     }
     Ok((types, rest))

@@ -10,4 +10,4 @@ returns-in_err-id c =
     rw (p.1, p.2, c.in_ok-count.ensures) (ends type_id_at c.in_err-id.field-0.0 c.ids.ids.items c.in_ok-count.count c.ids.counter c.ids.rest.now (times c.in_ok-count.count type_id_at c.in_ok-count.rest.now) c.ids-test.true c.in_err-id.ensures c.ids.invariant)
 
 pub ids-preserved : goal.ids-preserved
-ids-preserved c = rw c.in_ok-push.ensures.items (goes_on type_id_at c.ids.ids.items c.in_ok-count.count c.ids.counter c.ids.rest.now c.in_ok-id.id c.in_ok-id.after.now (times c.in_ok-count.count type_id_at c.in_ok-count.rest.now) c.ids-test.true c.in_ok-id.ensures c.ids.invariant)
+ids-preserved c = rw c.in_ok-append.ensures.items (goes_on type_id_at c.ids.ids.items c.in_ok-count.count c.ids.counter c.ids.rest.now c.in_ok-id.id c.in_ok-id.after.now (times c.in_ok-count.count type_id_at c.in_ok-count.rest.now) c.ids-test.true c.in_ok-id.ensures c.ids.invariant)

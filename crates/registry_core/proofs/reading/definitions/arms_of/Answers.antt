@@ -10,4 +10,4 @@ returns-in_err-arm c =
     rw (p.1, p.2, c.in_ok-count.ensures) (ends arm_at c.in_err-arm.field-0.0 c.arms.arms.items c.in_ok-count.count c.arms.counter c.arms.rest.now (times c.in_ok-count.count arm_at c.in_ok-count.rest.now) c.arms-test.true c.in_err-arm.ensures c.arms.invariant)
 
 pub arms-preserved : goal.arms-preserved
-arms-preserved c = rw c.in_ok-push.ensures.items (goes_on arm_at c.arms.arms.items c.in_ok-count.count c.arms.counter c.arms.rest.now c.in_ok-arm.arm c.in_ok-arm.after.now (times c.in_ok-count.count arm_at c.in_ok-count.rest.now) c.arms-test.true c.in_ok-arm.ensures c.arms.invariant)
+arms-preserved c = rw c.in_ok-append.ensures.items (goes_on arm_at c.arms.arms.items c.in_ok-count.count c.arms.counter c.arms.rest.now c.in_ok-arm.arm c.in_ok-arm.after.now (times c.in_ok-count.count arm_at c.in_ok-count.rest.now) c.arms-test.true c.in_ok-arm.ensures c.arms.invariant)

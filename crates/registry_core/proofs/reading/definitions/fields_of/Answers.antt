@@ -10,4 +10,4 @@ returns-in_err-field c =
     rw (p.1, p.2, c.in_ok-count.ensures) (ends field_at c.in_err-field.field-0.0 c.fields.fields.items c.in_ok-count.count c.fields.counter c.fields.rest.now (times c.in_ok-count.count field_at c.in_ok-count.rest.now) c.fields-test.true c.in_err-field.ensures c.fields.invariant)
 
 pub fields-preserved : goal.fields-preserved
-fields-preserved c = rw c.in_ok-push.ensures.items (goes_on field_at c.fields.fields.items c.in_ok-count.count c.fields.counter c.fields.rest.now c.in_ok-field.field c.in_ok-field.after.now (times c.in_ok-count.count field_at c.in_ok-count.rest.now) c.fields-test.true c.in_ok-field.ensures c.fields.invariant)
+fields-preserved c = rw c.in_ok-append.ensures.items (goes_on field_at c.fields.fields.items c.in_ok-count.count c.fields.counter c.fields.rest.now c.in_ok-field.field c.in_ok-field.after.now (times c.in_ok-count.count field_at c.in_ok-count.rest.now) c.fields-test.true c.in_ok-field.ensures c.fields.invariant)

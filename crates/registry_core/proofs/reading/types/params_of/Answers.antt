@@ -10,4 +10,4 @@ returns-in_err-param c =
     rw (p.1, p.2, c.in_ok-count.ensures) (ends param_at c.in_err-param.field-0.0 c.params.params.items c.in_ok-count.count c.params.counter c.params.rest.now (times c.in_ok-count.count param_at c.in_ok-count.rest.now) c.params-test.true c.in_err-param.ensures c.params.invariant)
 
 pub params-preserved : goal.params-preserved
-params-preserved c = rw c.in_ok-push.ensures.items (goes_on param_at c.params.params.items c.in_ok-count.count c.params.counter c.params.rest.now c.in_ok-param.param c.in_ok-param.after.now (times c.in_ok-count.count param_at c.in_ok-count.rest.now) c.params-test.true c.in_ok-param.ensures c.params.invariant)
+params-preserved c = rw c.in_ok-append.ensures.items (goes_on param_at c.params.params.items c.in_ok-count.count c.params.counter c.params.rest.now c.in_ok-param.param c.in_ok-param.after.now (times c.in_ok-count.count param_at c.in_ok-count.rest.now) c.params-test.true c.in_ok-param.ensures c.params.invariant)

@@ -14,4 +14,4 @@ returns-in_err-info c =
     rw (p.1, p.2) (type_ends c.in_err-info.field-0.0 c.types.types.items c.args.count c.types.position c.types.rest.now c.in_ok-behind.behind.now (types_at c.args.count 0 c.args.bytes.now) c.types-test.true c.in_ok-behind.ensures c.in_err-info.ensures c.types.invariant)
 
 pub types-preserved : goal.types-preserved
-types-preserved c = rw c.in_ok-push.ensures.items (type_goes_on c.types.types.items c.args.count c.types.position c.types.rest.now c.in_ok-behind.behind.now c.in_ok-info.info c.in_ok-info.after.now (types_at c.args.count 0 c.args.bytes.now) c.types-test.true c.in_ok-behind.ensures c.in_ok-info.ensures c.types.invariant)
+types-preserved c = rw c.in_ok-append.ensures.items (type_goes_on c.types.types.items c.args.count c.types.position c.types.rest.now c.in_ok-behind.behind.now c.in_ok-info.info c.in_ok-info.after.now (types_at c.args.count 0 c.args.bytes.now) c.types-test.true c.in_ok-behind.ensures c.in_ok-info.ensures c.types.invariant)
