@@ -6,8 +6,10 @@ use Rattle.value_core.specs.Built.{Entry}
 use Rattle.grammar_core.specs.Begun.{IsBegunPreorder}
 use Rattle.decode_core.specs.Told.{Fault, told, shown, told_at}
 
--- the nodes of a begun tree are there, and its next type fails on the bytes behind its own, with the room that there is
-pub record Begins (r : List TypeInfo) (room t : ℕ) (b : List ℕ) (xs : List Entry) (e : Fault) : Type 0 where
+-- the nodes of a begun tree are there, and its next type fails on the bytes behind its own, with
+-- the room that there is
+pub record Begins (r : List TypeInfo) (room t : ℕ) (b : List ℕ) (xs : List Entry) (e : Fault) : Type
+    0 where
   pub tree : Begun
   pub own : List ℕ
   pub next : ℕ
@@ -20,4 +22,5 @@ pub record Begins (r : List TypeInfo) (room t : ℕ) (b : List ℕ) (xs : List E
 
 -- what was added before a fault is a begun tree
 abbrev pub FaultIsBegun : Type 0
-FaultIsBegun = (r : List TypeInfo) (room t : ℕ) (b : List ℕ) (xs : List Entry) (e : Fault) → told_at r room t b ≡ told xs (Err e) → Begins r room t b xs e
+FaultIsBegun = (r : List TypeInfo) (room t : ℕ) (b : List ℕ) (xs : List Entry) (e : Fault) →
+    told_at r room t b ≡ told xs (Err e) → Begins r room t b xs e

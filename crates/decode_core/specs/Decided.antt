@@ -6,10 +6,12 @@ use Rattle.decode_core.specs.Machine.{State, remain}
 use Rattle.decode_core.specs.Told.{told}
 
 -- the first m bytes decide the fault, and fewer do not
-pub record Decided (r : List TypeInfo) (s : State) (x : List ℕ) (e : Refusal) (left : List ℕ) (m : ℕ) : Type 0 where
+pub record Decided (r : List TypeInfo) (s : State) (x : List ℕ) (e : Refusal) (left : List ℕ)
+    (m : ℕ) : Type 0 where
   pub within : m ≤ length x
   pub low : length left ≤ length x
   pub back : List ℕ
   pub holds : remain r s (take m x) ≡ told [] (Err ((e, back), take m x))
   pub is : left ≡ back ++ drop m x
-  pub least : (i : ℕ) → i < m → (l : List ℕ) × (remain r s (take i x) ≡ told [] (Err ((truncated, l), take i x)))
+  pub least : (i : ℕ) → i < m → (l : List ℕ)
+      × (remain r s (take i x) ≡ told [] (Err ((truncated, l), take i x)))

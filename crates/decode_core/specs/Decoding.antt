@@ -1,5 +1,8 @@
 -- What contracts see of a decoder, and which bytes have led to it.
-use Rattle.std.specs.Prelude.{◌≡◌, ℕ, suc, ◌+◌, ◌*◌, ◌-◌, ◌≤◌, ◌^◌, ◌⊎◌, List, [], ◌++◌, length, map, take, Result, Ok, Err, true, Option, Some, None, nat_lt, not, ◌||◌, if◌then◌else◌}
+use Rattle.std.specs.Prelude.{
+    ◌≡◌, ℕ, suc, ◌+◌, ◌*◌, ◌-◌, ◌≤◌, ◌^◌, ◌⊎◌, List, [], ◌++◌, length, map, take, Result, Ok, Err,
+    true, Option, Some, None, nat_lt, not, ◌||◌, if◌then◌else◌
+}
 use Rattle.scale_core.specs.Number.{AreBytes}
 use Rattle.registry_core.specs.declared.type_info.TypeInfo.{TypeInfo}
 use Rattle.grammar_core.specs.Preorder.{tree_of}
@@ -23,7 +26,7 @@ use Rattle.decode_core.specs.Running.{Running, held_of, state_of}
 use Rattle.decode_core.specs.Held.{open_text}
 use Rattle.decode_core.specs.Holds.{Holds}
 use Rattle.decode_core.specs.Told.{told, told_at, shown}
-use Rattle.decode_core.specs.Turned.{IsSound, Reaches, WantsBytes, WantsMemory}
+use Rattle.decode_core.specs.Turned.{IsSound, TurnsLead, WantsBytes, WantsMemory}
 use Rattle.decode_core.specs.declared.decoder.Fed.{Fed}
 use Rattle.decode_core.specs.declared.decoder.Fed.TheVariants as fed
 use Rattle.decode_core.specs.declared.decoder.Progress.{Progress}
@@ -31,7 +34,8 @@ use Rattle.decode_core.specs.declared.decoder.Progress.TheVariants as progress
 use Rattle.decode_core.specs.declared.fault.DecodeFault.{DecodeFault}
 use Rattle.decode_core.specs.declared.fault.DecodeReason.TheVariants as reason
 
--- what is decoded, how many bytes were taken, the value on its way, or the fault that ended it, how many turns were taken, and
+-- what is decoded, how many bytes were taken, the value on its way, or the fault that ended it, how
+-- many turns were taken, and
 -- how many calls fed it
 pub record Decoding : Type 0 where
   pub job : Job
@@ -42,7 +46,9 @@ pub record Decoding : Type 0 where
 
 -- a value of which nothing came
 abbrev pub first_running : List TypeInfo → ℕ → ℕ → Running
-first_running types root depth = record { built = record { ty = root; walk = start_of types root depth; entries = []; text = None; turns = 0 }; carry = [] }
+first_running types root depth =
+    record { built = record { ty = root; walk = start_of types root depth; entries = []; text =
+    None; turns = 0 }; carry = [] }
 
 -- the tree of the nodes, where they are a whole value
 abbrev pub built_tree : Built → Tree
@@ -57,7 +63,8 @@ pub record IsOf (j : Job) (s : Running) : Type 0 where
 -- its nodes are all that these bytes add before they end
 pub record IsWaiting (j : Job) (b : List ℕ) (s : Running) : Type 0 where
   pub wants : WantsBytes s
-  pub reads : told_at j.registry (suc j.depth) j.ty b ≡ told s.built.entries (Err ((truncated, wants.left), held_of s))
+  pub reads : told_at j.registry (suc j.depth) j.ty b
+      ≡ told s.built.entries (Err ((truncated, wants.left), held_of s))
   pub sound : IsSound s
 
 -- these bytes are those of the nodes and then those that are held, and more may follow
@@ -66,7 +73,7 @@ pub record IsGoing (j : Job) (b : List ℕ) (s : Running) (n : ℕ) : Type 0 whe
   pub own : List ℕ
   pub is : b ≡ own ++ held_of s
   pub are_bytes : AreBytes b
-  pub led : Reaches j.registry (start j.depth j.ty) (state_of s.built) own
+  pub led : TurnsLead j.registry (start j.depth j.ty) (state_of s.built) own
   pub stands : (s ≡ first_running j.registry j.ty j.depth) ⊎ IsWaiting j b s
   pub count : n ≡ length b
   pub fits : n ≤ j.bytes
@@ -81,15 +88,17 @@ pub record IsDone (j : Job) (b : List ℕ) (s : Running) (n : ℕ) : Type 0 wher
   pub outcome : IsOutcome j b (done (built_tree s.built)) n
   pub fits : n ≤ j.bytes
 
--- memory was wanted: the first n of these bytes, within the limit, are those of the nodes of a value on its way and those that
--- it holds; and what comes next is refused by nothing, but a node that bytes spell was to be added, or bytes of a text were to be kept
+-- memory was wanted: the first n of these bytes, within the limit, are those of the nodes of a
+-- value on its way and those that
+-- it holds; and what comes next is refused by nothing, but a node that bytes spell was to be added,
+-- or bytes of a text were to be kept
 pub record RanOut (j : Job) (b : List ℕ) (n : ℕ) : Type 0 where
   pub s : Running
   pub same : IsOf j s
   pub own : List ℕ
   pub rest : List ℕ
   pub is : take j.bytes b ≡ own ++ (held_of s ++ rest)
-  pub led : Reaches j.registry (start j.depth j.ty) (state_of s.built) own
+  pub led : TurnsLead j.registry (start j.depth j.ty) (state_of s.built) own
   pub count : n ≡ length own + length (held_of s)
   pub wants : WantsMemory s rest
 
@@ -97,7 +106,8 @@ pub record RanOut (j : Job) (b : List ℕ) (n : ℕ) : Type 0 where
 abbrev pub IsEnded : Job → List ℕ → DecodeFault → ℕ → Type 0
 IsEnded j b f n = ((f ≡ record { reason = reason.OutOfMemory; at = 0 }) × RanOut j b n)
     ⊎ (((f ≡ record { reason = reason.TooLong; at = j.bytes }) × IsOutcome j b too_long n)
-    ⊎ ((e : Refusal) × (at : ℕ) × (f ≡ record { reason = reason_of e; at = at }) × IsOutcome j b (refused e at) n))
+    ⊎ ((e : Refusal) × (at : ℕ) × (f ≡ record { reason = reason_of e; at = at })
+        × IsOutcome j b (refused e at) n))
 
 abbrev pub RunLed : Job → List ℕ → ℕ → Result Running DecodeFault → Type 0
 RunLed j b n (Ok s) = IsGoing j b s n ⊎ IsDone j b s n
@@ -108,19 +118,23 @@ abbrev pub Led : Decoding → List ℕ → Type 0
 Led d b = RunLed d.job b d.taken d.run
 
 -- the answer to a piece is the outcome of all bytes so far
-abbrev pub Answers : Decoding → Decoding → List ℕ → Result Progress DecodeFault → Type 0
-Answers old new b (Ok progress.More) = IsOutcome new.job b more new.taken
-Answers old new b (Ok (progress.Done used)) = (s : Running) × (new.run ≡ Ok s) × IsOutcome new.job b (done (built_tree s.built)) new.taken × (new.taken ≡ old.taken + used)
-Answers old new b (Err f) = (new.run ≡ Err f) × IsEnded new.job b f new.taken
+abbrev pub AnswersPiece : Decoding → Decoding → List ℕ → Result Progress DecodeFault → Type 0
+AnswersPiece old new b (Ok progress.More) = IsOutcome new.job b more new.taken
+AnswersPiece old new b (Ok (progress.Done used)) = (s : Running) × (new.run ≡ Ok s)
+    × IsOutcome new.job b (done (built_tree s.built)) new.taken × (new.taken ≡ old.taken + used)
+AnswersPiece old new b (Err f) = (new.run ≡ Err f) × IsEnded new.job b f new.taken
 
--- what is held at More: the one begun tree that these bytes make, its nodes and no others, and the bytes behind its own, which
--- are too few for the node that is missing first; texts have the bytes of the tree's texts, and of an open one those that came
+-- what is held at More: the one begun tree that these bytes make, its nodes and no others, and the
+-- bytes behind its own, which
+-- are too few for the node that is missing first; texts have the bytes of the tree's texts, and of
+-- an open one those that came
 pub record HoldsOf (j : Job) (b : List ℕ) (s : Running) : Type 0 where
   pub tree : Begun
   pub holds : Holds j.registry (suc j.depth) j.ty b tree (held_of s)
   pub shows : IsBegunPreorder tree (shown s.built.entries)
   pub nodes : length s.built.entries ≡ begun_nodes tree
-  pub texts : built_text_bytes s.built ≡ begun_text_bytes tree + open_text (layout j.registry holds.2) (held_of s)
+  pub texts : built_text_bytes s.built
+      ≡ begun_text_bytes tree + open_text (layout j.registry holds.2) (held_of s)
 
 abbrev pub HoldsAt : Decoding → List ℕ → Result Progress DecodeFault → Type 0
 HoldsAt d b (Ok progress.More) = (s : Running) × (d.run ≡ Ok s) × HoldsOf d.job b s
@@ -131,14 +145,19 @@ abbrev pub closing_turns : Result Running DecodeFault → ℕ → ℕ
 closing_turns (Ok s) gone = s.built.turns
 closing_turns (Err f) gone = gone
 
--- of the decoder's own loop: each node was added in one turn, each call ended in one, and each other turn took a byte
+-- of the decoder's own loop: each node was added in one turn, each call ended in one, and each
+-- other turn took a byte
 abbrev pub LoopCounted : ℕ → Running → ℕ → ℕ → Type 0
-LoopCounted n s turns calls = (length s.built.entries + calls ≤ turns) × (turns ≤ n + length s.built.entries + calls)
+LoopCounted n s turns calls = (length s.built.entries + calls ≤ turns)
+    × (turns ≤ n + length s.built.entries + calls)
 
--- of both loops, where the builder's closes a node in each turn; where a value is refused, its nodes are gone
+-- of both loops, where the builder's closes a node in each turn; where a value is refused, its
+-- nodes are gone
 abbrev pub RunCounted : Job → ℕ → Result Running DecodeFault → ℕ → ℕ → Type 0
-RunCounted j n (Ok s) turns calls = (length s.built.entries + s.built.turns + calls ≤ turns) × (turns ≤ n + length s.built.entries + s.built.turns + calls)
-RunCounted j n (Err f) turns calls = turns ≤ n + 2 * node_bound n j.depth (widest j.registry) + calls
+RunCounted j n (Ok s) turns calls = (length s.built.entries + s.built.turns + calls ≤ turns)
+    × (turns ≤ n + length s.built.entries + s.built.turns + calls)
+RunCounted j n (Err f) turns calls =
+    turns ≤ n + 2 * node_bound n j.depth (widest j.registry) + calls
 
 abbrev pub IsCounted : Decoding → Type 0
 IsCounted d = RunCounted d.job d.taken d.run d.turns d.calls
@@ -168,7 +187,8 @@ RunAnswers j b taken new (fed.Ended f n) = IsEnded j b f n
 abbrev pub FedCounts : Job → Running → ℕ → ℕ → ℕ → Fed → Type 0
 FedCounts j new taken turns calls (fed.More n) = LoopCounted n new turns calls
 FedCounts j new taken turns calls (fed.Done used) = LoopCounted (taken + used) new turns calls
-FedCounts j new taken turns calls (fed.Ended f n) = turns + new.built.turns ≤ n + 2 * node_bound n j.depth (widest j.registry) + calls
+FedCounts j new taken turns calls (fed.Ended f n) =
+    turns + new.built.turns ≤ n + 2 * node_bound n j.depth (widest j.registry) + calls
 
 -- a piece of n bytes, whatever is answered to it, adds no more than them to the bytes taken
 abbrev pub FedTakes : ℕ → ℕ → Fed → Type 0
@@ -203,13 +223,14 @@ first_of_all types root limits = record {
 abbrev pub opening_fault : List TypeInfo → ℕ → Limits → Option OpenFault
 opening_fault types root limits =
     if not (nat_lt root (length types)) then Some opening.UnknownType
-    else (if nat_lt 1024 limits.depth || nat_lt (2 ^ 40) limits.bytes then Some opening.LimitOutOfRange else None)
+    else (if nat_lt 1024 limits.depth || nat_lt (2 ^ 40) limits.bytes then Some
+        opening.LimitOutOfRange else None)
 
-abbrev pub Opens : Option OpenFault → Decoding → Result Decoding OpenFault → Type 0
-Opens None first (Ok d) = d ≡ first
-Opens None first (Err e) = e ≡ opening.OutOfMemory
-Opens (Some f) first (Ok d) = ⊥
-Opens (Some f) first (Err e) = e ≡ f
+abbrev pub OpensDecoder : Option OpenFault → Decoding → Result Decoding OpenFault → Type 0
+OpensDecoder None first (Ok d) = d ≡ first
+OpensDecoder None first (Err e) = e ≡ opening.OutOfMemory
+OpensDecoder (Some f) first (Ok d) = ⊥
+OpensDecoder (Some f) first (Err e) = e ≡ f
 
 abbrev pub node_count : Decoding → ℕ
 node_count d = elim d.run [ Ok s ↦ length s.built.entries | Err f ↦ 0 ]
@@ -219,7 +240,9 @@ text_bytes d = elim d.run [ Ok s ↦ built_text_bytes s.built | Err f ↦ 0 ]
 
 -- where the value is whole, its own nodes and bytes of text are counted
 abbrev pub CountsValue : Decoding → Result Progress DecodeFault → Type 0
-CountsValue d (Ok (progress.Done used)) = (s : Running) × (d.run ≡ Ok s) × (node_count d ≡ nodes (finished s.built).tree) × (text_bytes d ≡ tree_text_bytes (finished s.built).tree)
+CountsValue d (Ok (progress.Done used)) = (s : Running) × (d.run ≡ Ok s)
+    × (node_count d ≡ nodes (finished s.built).tree)
+    × (text_bytes d ≡ tree_text_bytes (finished s.built).tree)
 CountsValue d _ = Unit {0}
 
 -- how many nodes are open, and how many bytes are carried
@@ -229,29 +252,37 @@ open_nodes d = elim d.run [ Ok s ↦ length s.built.walk.frames - 1 | Err f ↦ 
 abbrev pub carried : Decoding → ℕ
 carried d = elim d.run [ Ok s ↦ length s.carry | Err f ↦ 0 ]
 
--- what is held is little for the bytes taken, the depth limit and the width of the registry, and so are the turns
+-- what is held is little for the bytes taken, the depth limit and the width of the registry, and so
+-- are the turns
 pub record IsSmall (d : Decoding) : Type 0 where
   pub nodes : node_count d ≤ node_bound d.taken d.job.depth (widest d.job.registry)
   pub texts : text_bytes d ≤ d.taken
   pub frames : open_nodes d ≤ d.job.depth + 1
   pub carry : carried d ≤ 32
-  pub turns : d.turns ≤ d.taken + 2 * node_bound d.taken d.job.depth (widest d.job.registry) + d.calls
+  pub turns : d.turns ≤ d.taken + 2 * node_bound d.taken d.job.depth (widest d.job.registry)
+      + d.calls
 
 -- no turn goes uncounted that added a node which is held, closed one, or ended a call
 abbrev pub HasCounted : Decoding → Type 0
-HasCounted d = elim d.run [ Ok s ↦ length s.built.entries + s.built.turns + d.calls ≤ d.turns | Err f ↦ Unit {0} ]
+HasCounted d = elim d.run [ Ok s ↦ length s.built.entries + s.built.turns + d.calls ≤ d.turns
+    | Err f ↦ Unit {0} ]
 
 -- and of a whole value still less
 abbrev pub IsSmallAtEnd : Decoding → Result Progress DecodeFault → Type 0
-IsSmallAtEnd d (Ok (progress.Done used)) = node_count d ≤ value_bound d.taken d.job.depth (widest d.job.registry)
+IsSmallAtEnd d (Ok (progress.Done used)) =
+    node_count d ≤ value_bound d.taken d.job.depth (widest d.job.registry)
 IsSmallAtEnd d _ = Unit {0}
 
 -- a value that is handed out has few nodes and texts for its bytes
 abbrev pub IsSmallValue : Job → List ℕ → Result Seen DecodeFault → Type 0
-IsSmallValue j b (Ok v) = (n : ℕ) × IsOutcome j b (done v.tree) n × (nodes v.tree ≤ value_bound n j.depth (widest j.registry)) × (tree_text_bytes v.tree ≤ n)
+IsSmallValue j b (Ok v) = (n : ℕ) × IsOutcome j b (done v.tree) n
+    × (nodes v.tree ≤ value_bound n j.depth (widest j.registry)) × (tree_text_bytes v.tree ≤ n)
 IsSmallValue j b (Err f) = Unit {0}
 
 -- the value that stands on all these bytes; or they are too few, or were refused
-abbrev pub Finishes : Job → List ℕ → Result Seen DecodeFault → Type 0
-Finishes j b (Ok v) = (n : ℕ) × (v.types ≡ j.registry) × (v.ty ≡ j.ty) × IsOutcome j b (done v.tree) n
-Finishes j b (Err f) = ((f ≡ record { reason = reason.Truncated; at = length b }) × IsOutcome j b more (length b)) ⊎ ((n : ℕ) × IsEnded j b f n)
+abbrev pub FinishesDecoder : Job → List ℕ → Result Seen DecodeFault → Type 0
+FinishesDecoder j b (Ok v) = (n : ℕ) × (v.types ≡ j.registry) × (v.ty ≡ j.ty)
+    × IsOutcome j b (done v.tree) n
+FinishesDecoder j b (Err f) =
+    ((f ≡ record { reason = reason.Truncated; at = length b }) × IsOutcome j b more (length b))
+    ⊎ ((n : ℕ) × IsEnded j b f n)

@@ -25,17 +25,25 @@ open_text _ e = 0
 
 -- there is one begun tree
 abbrev pub OneBegun : Type 0
-OneBegun = (r : List TypeInfo) (room t : ℕ) (b : List ℕ) (g h : Begun) (e f : List ℕ) → Holds r room t b g e → Holds r room t b h f → (g ≡ h) × (e ≡ f)
+OneBegun = (r : List TypeInfo) (room t : ℕ) (b : List ℕ) (g h : Begun) (e f : List ℕ) →
+    Holds r room t b g e → Holds r room t b h f → (g ≡ h) × (e ≡ f)
 
 -- few nodes and texts for the bytes taken: of a finished value, and while more is wanted
 abbrev pub HeldIsBounded : Type 0
 HeldIsBounded = (j : Job) (input : List ℕ) (n : ℕ) →
-    ((v : Tree) → IsOutcome j input (done v) n → (nodes v ≤ value_bound n j.depth (widest j.registry)) × (text_bytes v ≤ n))
-    × (IsOutcome j input more n → (g : Begun) (e : List ℕ) (h : Holds j.registry (suc j.depth) j.ty input g e) →
-    (begun_nodes g ≤ node_bound n j.depth (widest j.registry)) × (begun_text_bytes g + open_text (layout j.registry h.2) e ≤ n))
+    ((v : Tree) → IsOutcome j input (done v) n →
+        (nodes v ≤ value_bound n j.depth (widest j.registry)) × (text_bytes v ≤ n))
+    × (IsOutcome j input more n →
+        (g : Begun) (e : List ℕ) (h : Holds j.registry (suc j.depth) j.ty input g e) →
+    (begun_nodes g ≤ node_bound n j.depth (widest j.registry))
+        × (begun_text_bytes g + open_text (layout j.registry h.2) e ≤ n))
 
--- more is wanted exactly where a begun tree is held, within the byte limit, and it is the one that is computed
+-- more is wanted exactly where a begun tree is held, within the byte limit, and it is the one that
+-- is computed
 abbrev pub MoreHolds : Type 0
 MoreHolds = (j : Job) (input : List ℕ) →
-    (IsOutcome j input more (length input) → (length input ≤ j.bytes) × Holds j.registry (suc j.depth) j.ty input (held j.registry (suc j.depth) j.ty input).0 (held j.registry (suc j.depth) j.ty input).1)
-    × ((g : Begun) (e : List ℕ) → length input ≤ j.bytes → Holds j.registry (suc j.depth) j.ty input g e → IsOutcome j input more (length input))
+    (IsOutcome j input more (length input) → (length input ≤ j.bytes)
+        × Holds j.registry (suc j.depth) j.ty input (held j.registry (suc j.depth) j.ty input).0
+        (held j.registry (suc j.depth) j.ty input).1)
+    × ((g : Begun) (e : List ℕ) → length input ≤ j.bytes →
+        Holds j.registry (suc j.depth) j.ty input g e → IsOutcome j input more (length input))

@@ -7,7 +7,8 @@ use Rattle.grammar_core.specs.Parts.{Part, times}
 use Rattle.value_core.specs.Built.{Entry}
 use Rattle.decode_core.specs.Told.{Told, added, rest_told}
 
--- the nodes so far, the parts that are still to be read, the innermost first, and the room that its values have
+-- the nodes so far, the parts that are still to be read, the innermost first, and the room that its
+-- values have
 pub record State : Type 0 where
   pub nodes : List Entry
   pub room : ℕ

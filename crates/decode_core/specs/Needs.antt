@@ -1,4 +1,5 @@
--- How many bytes a node has of its own, or how many decide that there is none, by its form and its first byte.
+-- How many bytes a node has of its own, or how many decide that there is none, by its form and its
+-- first byte.
 use Rattle.std.specs.Prelude.{◌≡◌, ℕ, List, ◌∷◌, length, if◌then◌else◌}
 use Rattle.scale_core.specs.Read.{is_too_long, form_len}
 use Rattle.scale_core.specs.declared.compact.Target.{Target}
@@ -10,7 +11,8 @@ use Rattle.registry_core.specs.declared.primitive.Primitive.{Primitive}
 use Rattle.grammar_core.specs.declared.form.Form.{Form}
 use Rattle.grammar_core.specs.declared.form.Form.TheVariants as form
 
--- one byte tells that a compact is too long for its target, and else it names how long the compact is
+-- one byte tells that a compact is too long for its target, and else it names how long the compact
+-- is
 abbrev pub compact_need : Target → ℕ → ℕ
 compact_need m first = if is_too_long m first then 1 else form_len first
 

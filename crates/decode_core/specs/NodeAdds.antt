@@ -1,4 +1,5 @@
--- What the bytes of the next node make of a value that is built: the value with the node, or a refusal.
+-- What the bytes of the next node make of a value that is built: the value with the node, or a
+-- refusal.
 use Rattle.std.specs.Prelude.{false, ◌⊎◌, ◌≡◌, ℕ, List, [], Option, Some, None, Result, Ok, Err}
 use Rattle.scale_core.specs.Read.{Read, place, compact_at}
 use Rattle.scale_core.specs.declared.compact.Target.TheVariants as target
@@ -20,9 +21,10 @@ use Rattle.decode_core.specs.declared.node.NodeFault.{NodeFault}
 use Rattle.decode_core.specs.declared.node.NodeFault.TheVariants as fault
 
 -- the answer is what is read on the front of the bytes
-abbrev pub Reads : {X : Type 0} → List ℕ → Result X Fault → Read Reason X → Type 0
-Reads own (Ok x) read = (rest : List ℕ) × (read ≡ Ok (x, rest))
-Reads own (Err f) read = (left : List ℕ) × (read ≡ Err (f.reason, left)) × (f.at ≡ place own left)
+abbrev pub ReadsFront : {X : Type 0} → List ℕ → Result X Fault → Read Reason X → Type 0
+ReadsFront own (Ok x) read = (rest : List ℕ) × (read ≡ Ok (x, rest))
+ReadsFront own (Err f) read = (left : List ℕ) × (read ≡ Err (f.reason, left))
+    × (f.at ≡ place own left)
 
 -- a node without children, or one that opens these parts
 abbrev pub with_own : Built → Head × Option Part → Built
@@ -31,11 +33,14 @@ with_own b (h, Some p) = with_open b h p
 
 -- the bytes are those of the next node, and nothing else
 abbrev pub IsAdded : Built → Built → List ℕ → Type 0
-IsAdded old new own = (x : Head × Option Part) × (own_at (next_layout old) own ≡ Ok (x, [])) × (new ≡ with_own old x)
+IsAdded old new own = (x : Head × Option Part) × (own_at (next_layout old) own ≡ Ok (x, []))
+    × (new ≡ with_own old x)
 
 -- the next node is refused for this reason, at this place from its first byte
 abbrev pub IsRefused : Built → List ℕ → DecodeReason → ℕ → Type 0
-IsRefused b own told at = (e : Refusal) × (left : List ℕ) × (own_at (next_layout b) own ≡ Err (e, left)) × (is_cut e ≡ false) × (told ≡ reason_of e) × (at ≡ place own left)
+IsRefused b own told at = (e : Refusal) × (left : List ℕ)
+    × (own_at (next_layout b) own ≡ Err (e, left)) × (is_cut e ≡ false) × (told ≡ reason_of e)
+    × (at ≡ place own left)
 
 -- the bytes spell the next node, and nothing else
 abbrev pub IsSpelled : Built → List ℕ → Type 0
@@ -54,17 +59,23 @@ AddsNode old new own (Err fault.OutOfMemory) = IsSpelled old own × (new ≡ old
 -- the bytes are a text's length, and the text is open
 -- what the bytes of a text's length make of it
 abbrev pub OpensText : Built → Built → List ℕ → Result ℕ NodeFault → Type 0
-OpensText old new own (Ok n) = (compact_at target.U32 own ≡ Ok (n, [])) × (new ≡ with_text_opened old n)
+OpensText old new own (Ok n) = (compact_at target.U32 own ≡ Ok (n, []))
+    × (new ≡ with_text_opened old n)
 OpensText old new own (Err (fault.Refused told at)) = IsRefused old own told at × (new ≡ old)
 OpensText old new own (Err fault.OutOfMemory) = AreLength own × (new ≡ old)
 
 -- the node is added, or the text that is next is open and lacks all its bytes
-abbrev pub IsTaken : Form → Built → Built → Option OpenText → List ℕ → Type 0
-IsTaken f old new text own = (IsAdded old new own × (text ≡ None))
-    ⊎ ((f ≡ form.Primitive P.Str) × ((n : ℕ) × (compact_at target.U32 own ≡ Ok (n, [])) × (new ≡ with_text_opened old n) × (text ≡ Some (record { len = n; missing = n }))))
+abbrev pub TakesTextLength : Form → Built → Built → Option OpenText → List ℕ → Type 0
+TakesTextLength f old new text own = (IsAdded old new own × (text ≡ None))
+    ⊎ ((f ≡ form.Primitive P.Str)
+        × ((n : ℕ) × (compact_at target.U32 own ≡ Ok (n, [])) × (new ≡ with_text_opened old n)
+        × (text ≡ Some (record { len = n; missing = n }))))
 
 -- what the next node's own bytes make of it, be it a text or not
-abbrev pub TakesNode : Form → Built → Built → Option OpenText → List ℕ → Result (Unit {0}) NodeFault → Type 0
-TakesNode f old new text own (Ok _) = IsTaken f old new text own
-TakesNode f old new text own (Err (fault.Refused told at)) = IsRefused old own told at × (new ≡ old) × (text ≡ None)
-TakesNode f old new text own (Err fault.OutOfMemory) = (IsSpelled old own ⊎ ((f ≡ form.Primitive P.Str) × AreLength own)) × (new ≡ old) × (text ≡ None)
+abbrev pub TakesNode : Form → Built → Built → Option OpenText → List ℕ →
+    Result (Unit {0}) NodeFault → Type 0
+TakesNode f old new text own (Ok _) = TakesTextLength f old new text own
+TakesNode f old new text own (Err (fault.Refused told at)) = IsRefused old own told at × (new ≡ old)
+    × (text ≡ None)
+TakesNode f old new text own (Err fault.OutOfMemory) =
+    (IsSpelled old own ⊎ ((f ≡ form.Primitive P.Str) × AreLength own)) × (new ≡ old) × (text ≡ None)

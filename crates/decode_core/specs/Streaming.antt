@@ -1,5 +1,8 @@
 -- What is answered to all bytes of a reader, and to pieces that are joined.
-use Rattle.std.specs.Prelude.{◌≡◌, ℕ, ◌<◌, ◌≤◌, ◌⊎◌, Bool, true, false, List, [], ◌++◌, length, Result, Ok, Err, Option, Some, None, IfSome}
+use Rattle.std.specs.Prelude.{
+    ◌≡◌, ℕ, ◌<◌, ◌≤◌, ◌⊎◌, Bool, true, false, List, [], ◌++◌, length, Result, Ok, Err, Option, Some,
+    None, IfSome
+}
 use Rattle.std.specs.Io.KnownBytes.{Consumes, IsAtEnd, Keeps}
 use Rattle.registry_core.specs.declared.type_info.TypeInfo.{TypeInfo}
 use Rattle.graph_core.specs.Widths.{widest}
@@ -8,7 +11,7 @@ use Rattle.value_core.specs.Shown.{Seen}
 use Rattle.grammar_core.specs.declared.limits.Limits.{Limits}
 use Rattle.decode_core.specs.Bound.{value_bound}
 use Rattle.decode_core.specs.Outcome.{Job, done, more, IsOutcome}
-use Rattle.decode_core.specs.Decoding.{Decoding, Finishes, Led, first_of_all}
+use Rattle.decode_core.specs.Decoding.{Decoding, FinishesDecoder, Led, first_of_all}
 use Rattle.decode_core.specs.declared.fault.OpenFault.{OpenFault}
 use Rattle.decode_core.specs.declared.fault.OpenFault.TheVariants as opening
 use Rattle.decode_core.specs.declared.stream.StreamFault.{StreamFault}
@@ -32,10 +35,12 @@ IsOfJob j v = (v.types ≡ j.registry) × (v.ty ≡ j.ty)
 abbrev pub Trails : Job → ℕ → List ℕ → Type 0
 Trails j n b = (v : Tree) × IsOutcome j b (done v) n × (n < length b)
 
--- these bytes leave open what the answer is: there are none, and a read comes before any answer; or more are wanted; or they are a
+-- these bytes leave open what the answer is: there are none, and a read comes before any answer; or
+-- more are wanted; or they are a
 -- value's, and one may follow them
 abbrev pub LeavesOpen : Job → List ℕ → Type 0
-LeavesOpen j b = (length b ≡ 0) ⊎ (IsOutcome j b more (length b) ⊎ ((v : Tree) × IsOutcome j b (done v) (length b)))
+LeavesOpen j b = (length b ≡ 0)
+    ⊎ (IsOutcome j b more (length b) ⊎ ((v : Tree) × IsOutcome j b (done v) (length b)))
 
 -- the bytes that were read leave it open
 abbrev pub StopsOpen : Job → Option (List ℕ) → Option (List ℕ) → Type 0
@@ -45,21 +50,25 @@ StopsOpen j known left = (b : List ℕ) × Consumes known left b × LeavesOpen j
 abbrev pub FrontLeavesOpen : Job → List ℕ → Type 0
 FrontLeavesOpen j b = (front : List ℕ) × (rest : List ℕ) × (b ≡ front ++ rest) × LeavesOpen j front
 
--- the answer to all bytes of a reader: the one value that is encoded by exactly these bytes; the fault that forbids a decoder; too few
--- bytes, or the fault of these bytes; or a value whose bytes end before they do. Where a read failed, a front of them leaves the answer open
+-- the answer to all bytes of a reader: the one value that is encoded by exactly these bytes; the
+-- fault that forbids a decoder; too few
+-- bytes, or the fault of these bytes; or a value whose bytes end before they do. Where a read
+-- failed, a front of them leaves the answer open
 abbrev pub Streams : Option OpenFault → Job → List ℕ → Result Seen StreamFault → Type 0
-Streams forbidden j b (Ok v) = (forbidden ≡ None) × IsOfJob j v × IsOutcome j b (done v.tree) (length b)
+Streams forbidden j b (Ok v) = (forbidden ≡ None) × IsOfJob j v
+    × IsOutcome j b (done v.tree) (length b)
 Streams forbidden j b (Err (stream.Open e)) = Forbids forbidden e
-Streams forbidden j b (Err (stream.Decode f)) = (forbidden ≡ None) × Finishes j b (Err f)
+Streams forbidden j b (Err (stream.Decode f)) = (forbidden ≡ None) × FinishesDecoder j b (Err f)
 Streams forbidden j b (Err (stream.TrailingBytes at)) = (forbidden ≡ None) × Trails j at b
 Streams forbidden j b (Err stream.Device) = (forbidden ≡ None) × FrontLeavesOpen j b
 
--- the value on the front of the joined pieces, how many bytes are its own, and that it is little for them; or, as above, the fault
+-- the value on the front of the joined pieces, how many bytes are its own, and that it is little
+-- for them; or, as above, the fault
 abbrev pub Joins : Option OpenFault → Job → List ℕ → Result (Seen × ℕ) PiecesFault → Type 0
 Joins forbidden j b (Ok x) = (forbidden ≡ None) × IsOfJob j x.0 × IsOutcome j b (done x.0.tree) x.1
     × (nodes x.0.tree ≤ value_bound x.1 j.depth (widest j.registry)) × (text_bytes x.0.tree ≤ x.1)
 Joins forbidden j b (Err (pieces.Open e)) = Forbids forbidden e
-Joins forbidden j b (Err (pieces.Decode f)) = (forbidden ≡ None) × Finishes j b (Err f)
+Joins forbidden j b (Err (pieces.Decode f)) = (forbidden ≡ None) × FinishesDecoder j b (Err f)
 
 -- ---- on the way
 
@@ -81,12 +90,16 @@ Looks known left (Ok false) = IsAtEnd known
 Looks known left (Err stream.Device) = Keeps known left
 Looks known left (Err _) = ⊥
 
--- what has led to the decoder are all bytes of a reader, of which its value leaves none; or more follow its value; or they are refused;
+-- what has led to the decoder are all bytes of a reader, of which its value leaves none; or more
+-- follow its value; or they are refused;
 -- or a read failed, and those that were read before it leave the answer open
-abbrev pub FeedsAll : Decoding → Option (List ℕ) → Option (List ℕ) → Result Bool StreamFault → Type 0
-FeedsAll d known left (Ok false) = (b : List ℕ) × Led d b × EndsAt d.job b (length b) × IfSome known (λ bytes. bytes ≡ b)
+abbrev pub FeedsAll : Decoding → Option (List ℕ) → Option (List ℕ) → Result Bool StreamFault →
+    Type 0
+FeedsAll d known left (Ok false) = (b : List ℕ) × Led d b × EndsAt d.job b (length b)
+    × IfSome known (λ bytes. bytes ≡ b)
 FeedsAll d known left (Ok true) = IfSome known (Trails d.job d.taken)
-FeedsAll d known left (Err (stream.Decode f)) = IfSome known (λ bytes. Finishes d.job bytes (Err f))
+FeedsAll d known left (Err (stream.Decode f)) =
+    IfSome known (λ bytes. FinishesDecoder d.job bytes (Err f))
 FeedsAll d known left (Err stream.Device) = StopsOpen d.job known left
 FeedsAll d known left (Err _) = ⊥
 

@@ -1,5 +1,7 @@
 -- How many bytes decide a refusal: those up to the byte that tells it, and with it.
-use Rattle.std.specs.Prelude.{ℕ, zero, suc, ◌+◌, List, [], ◌∷◌, Option, Some, None, Ok, Err, if◌then◌else◌}
+use Rattle.std.specs.Prelude.{
+    ℕ, zero, suc, ◌+◌, List, [], ◌∷◌, Option, Some, None, Ok, Err, if◌then◌else◌
+}
 use Rattle.scale_core.specs.Read.{Read, place, compact_at, is_too_long, form_len}
 use Rattle.scale_core.specs.declared.compact.Target.{Target}
 use Rattle.scale_core.specs.declared.compact.Target.TheVariants as target
@@ -13,10 +15,11 @@ use Rattle.widths_core.specs.Layouts as layout
 use Rattle.grammar_core.specs.Tree.{Tree}
 use Rattle.grammar_core.specs.Reading.{Reader, value_at}
 
--- what the first part takes, where it is refused; else its bytes, and what the parts behind it take
-abbrev pub behind : {E X : Type 0} → List ℕ → Read E X → ℕ → (X × List ℕ → ℕ) → ℕ
-behind b (Ok x) own next = place b x.1 + next x
-behind b (Err e) own next = own
+-- what the first part takes, where it is refused; else its bytes, and what the parts taken_after it
+-- take
+abbrev pub taken_after : {E X : Type 0} → List ℕ → Read E X → ℕ → (X × List ℕ → ℕ) → ℕ
+taken_after b (Ok x) own next = place b x.1 + next x
+taken_after b (Err e) own next = own
 
 -- one byte tells that a compact is too long for its target; else it is there whole
 abbrev pub compact_taken : Target → List ℕ → ℕ
@@ -25,15 +28,17 @@ compact_taken m (first ∷ rest) = if is_too_long m first then 1 else form_len f
 
 -- a text is judged at its end
 abbrev pub text_taken : List ℕ → ℕ
-text_taken b = behind b (compact_at target.U32 b) (compact_taken target.U32 b) (λ n. n.0)
+text_taken b = taken_after b (compact_at target.U32 b) (compact_taken target.U32 b) (λ n. n.0)
 
 abbrev pub all_taken : (ℕ → Reader Tree) → (ℕ → List ℕ → ℕ) → List ℕ → List ℕ → ℕ
 all_taken child taken [] b = 0
-all_taken child taken (t ∷ ts) b = behind b (child t b) (taken t b) (λ x. all_taken child taken ts x.1)
+all_taken child taken (t ∷ ts) b =
+    taken_after b (child t b) (taken t b) (λ x. all_taken child taken ts x.1)
 
 abbrev pub times_taken : (ℕ → Reader Tree) → (ℕ → List ℕ → ℕ) → ℕ → ℕ → List ℕ → ℕ
 times_taken child taken zero t b = 0
-times_taken child taken (suc n) t b = behind b (child t b) (taken t b) (λ x. times_taken child taken n t x.1)
+times_taken child taken (suc n) t b =
+    taken_after b (child t b) (taken t b) (λ x. times_taken child taken n t x.1)
 
 abbrev pub arm_taken : (ℕ → Reader Tree) → (ℕ → List ℕ → ℕ) → Option (ℕ × Arm) → List ℕ → ℕ
 arm_taken child taken (Some found) rest = all_taken child taken (field_types found.1.fields) rest
@@ -58,11 +63,14 @@ unfoldable pub layout_taken : (ℕ → Reader Tree) → (ℕ → List ℕ → �
 layout_taken child taken (layout.plain p) b = leaf_taken p b
 layout_taken child taken (layout.fields ts) b = all_taken child taken ts b
 layout_taken child taken (layout.arms arms) b = arms_taken child taken arms b
-layout_taken child taken (layout.sequence t) b = behind b (compact_at target.U32 b) (compact_taken target.U32 b) (λ n. times_taken child taken n.0 t n.1)
+layout_taken child taken (layout.sequence t) b =
+    taken_after b (compact_at target.U32 b) (compact_taken target.U32 b)
+    (λ n. times_taken child taken n.0 t n.1)
 layout_taken child taken (layout.array n t) b = times_taken child taken n t b
 layout_taken child taken _ b = 0
 
 -- what is taken where a value of type t is refused
 unfoldable pub value_taken : List TypeInfo → ℕ → ℕ → List ℕ → ℕ
 value_taken r zero t b = 0
-value_taken r (suc room) t b = if is_finite r t then layout_taken (value_at r room) (value_taken r room) (layout r t) b else 0
+value_taken r (suc room) t b =
+    if is_finite r t then layout_taken (value_at r room) (value_taken r room) (layout r t) b else 0

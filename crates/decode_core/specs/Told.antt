@@ -1,5 +1,7 @@
 -- Reading a value node by node: what is added in preorder before the reading ends, and how it ends.
-use Rattle.std.specs.Prelude.{◌≡◌, ℕ, zero, suc, List, [], ◌∷◌, ◌++◌, length, map, Option, Some, None, Result, Ok, Err}
+use Rattle.std.specs.Prelude.{
+    ◌≡◌, ℕ, zero, suc, List, [], ◌∷◌, ◌++◌, length, map, Option, Some, None, Result, Ok, Err
+}
 use Rattle.scale_core.specs.Read.{Read, compact_at}
 use Rattle.scale_core.specs.declared.compact.Target.TheVariants as target
 use Rattle.scale_core.specs.declared.fault.Reason.{Reason}
@@ -16,7 +18,9 @@ use Rattle.grammar_core.specs.Preorder as head
 use Rattle.grammar_core.specs.Tree as tree
 use Rattle.grammar_core.specs.Parts.{Part, each, times}
 use Rattle.decode_core.specs.Met.{met_layout}
-use Rattle.grammar_core.specs.Reading.{layout_at, Refusal, basic, truncated, too_deep, no_such_variant}
+use Rattle.grammar_core.specs.Reading.{
+    layout_at, Refusal, basic, truncated, too_deep, no_such_variant
+}
 
 abbrev pub entry : ℕ → Head → Entry
 entry t h = record { ty = t; head = h }
@@ -34,7 +38,9 @@ leaf_own (Ok x) = Ok ((head_of x.0, None), x.1)
 leaf_own (Err e) = Err e
 
 abbrev pub arm_own : List ℕ → Option (ℕ × Arm) → List ℕ → Own
-arm_own at (Some found) rest = Ok ((head.branch (tree.arm found.0) (length (field_types found.1.fields)), Some (each (field_types found.1.fields))), rest)
+arm_own at (Some found) rest =
+    Ok ((head.branch (tree.arm found.0) (length (field_types found.1.fields)),
+    Some (each (field_types found.1.fields))), rest)
 arm_own at None rest = Err (no_such_variant, at)
 
 abbrev pub arms_own : List Arm → List ℕ → Own
@@ -59,7 +65,7 @@ own_at f b = leaf_own (layout_at shallow f b)
 abbrev pub Fault : Type 0
 Fault = (Refusal × List ℕ) × List ℕ
 
--- the bytes behind what was added, or the fault
+-- the bytes told_after what was added, or the fault
 abbrev pub Ending : Type 0
 Ending = Result (List ℕ) Fault
 
@@ -76,13 +82,13 @@ ending (told xs end) = end
 abbrev pub after : List Entry → Told → Told
 after before (told xs end) = told (before ++ xs) end
 
--- one reading behind the other
-abbrev pub behind : List Entry → Ending → (List ℕ → Told) → Told
-behind xs (Ok rest) f = after xs (f rest)
-behind xs (Err e) f = told xs (Err e)
+-- one reading told_after the other
+abbrev pub told_after : List Entry → Ending → (List ℕ → Told) → Told
+told_after xs (Ok rest) f = after xs (f rest)
+told_after xs (Err e) f = told xs (Err e)
 
 abbrev pub then : Told → (List ℕ → Told) → Told
-then (told xs end) f = behind xs end f
+then (told xs end) f = told_after xs end f
 
 abbrev pub all_told : (ℕ → List ℕ → Told) → List ℕ → List ℕ → Told
 all_told child [] b = told [] (Ok b)

@@ -1,5 +1,8 @@
 -- One piece of input, turn by turn.
-use Rattle.std.specs.Prelude.{◌≡◌, ℕ, suc, ◌*◌, ◌+◌, ◌-◌, ◌≤◌, ◌⊎◌, List, [], ◌++◌, length, take, drop, false, true, Result, Ok, Err}
+use Rattle.std.specs.Prelude.{
+    ◌≡◌, ℕ, suc, ◌*◌, ◌+◌, ◌-◌, ◌≤◌, ◌⊎◌, List, [], ◌++◌, length, take, drop, false, true, Result,
+    Ok, Err
+}
 use Rattle.scale_core.specs.Read.{compact_at}
 use Rattle.scale_core.specs.declared.compact.Target.TheVariants as target
 use Rattle.registry_core.specs.declared.type_info.TypeInfo.{TypeInfo}
@@ -28,14 +31,16 @@ abbrev pub types_of : Running → List TypeInfo
 types_of s = s.built.walk.types
 
 -- the bytes c lead from one state to the next, whatever follows them; and frames and nodes are few
-pub record Leads (r : List TypeInfo) (s s' : State) (c : List ℕ) : Type 0 where
-  pub tells : (more : List ℕ) → after s.nodes (remain r s (c ++ more)) ≡ after s'.nodes (remain r s' more)
+pub record TurnLeads (r : List TypeInfo) (s s' : State) (c : List ℕ) : Type 0 where
+  pub tells : (more : List ℕ) →
+      after s.nodes (remain r s (c ++ more)) ≡ after s'.nodes (remain r s' more)
   pub level : s'.room + length s'.pending ≡ s.room + length s.pending
   pub paid : length s'.pending + 2 * length s.nodes + 1 ≤ length s.pending + 2 * length s'.nodes
 
 -- the bytes c lead from one state to another in any number of turns
-pub record Reaches (r : List TypeInfo) (s s' : State) (c : List ℕ) : Type 0 where
-  pub tells : (more : List ℕ) → after s.nodes (remain r s (c ++ more)) ≡ after s'.nodes (remain r s' more)
+pub record TurnsLead (r : List TypeInfo) (s s' : State) (c : List ℕ) : Type 0 where
+  pub tells : (more : List ℕ) →
+      after s.nodes (remain r s (c ++ more)) ≡ after s'.nodes (remain r s' more)
   pub level : s'.room + length s'.pending ≡ s.room + length s.pending
 
 -- the same value is decoded
@@ -49,8 +54,11 @@ pub record Moves (old new : Running) (bytes : List ℕ) : Type 0 where
   pub same : IsSame old new
   pub own : List ℕ
   pub is : held_of old ++ bytes ≡ own ++ held_of new
-  pub tells : (more : List ℕ) → after (state_of old.built).nodes (remain (types_of old) (state_of old.built) (own ++ more)) ≡ after (state_of new.built).nodes (remain (types_of old) (state_of new.built) more)
-  pub level : (state_of new.built).room + length (state_of new.built).pending ≡ (state_of old.built).room + length (state_of old.built).pending
+  pub tells : (more : List ℕ) →
+      after (state_of old.built).nodes (remain (types_of old) (state_of old.built) (own ++ more))
+      ≡ after (state_of new.built).nodes (remain (types_of old) (state_of new.built) more)
+  pub level : (state_of new.built).room + length (state_of new.built).pending
+      ≡ (state_of old.built).room + length (state_of old.built).pending
 
 -- the work that is left
 abbrev pub left_to_do : Running → List ℕ → ℕ
@@ -64,23 +72,30 @@ pub record WantsBytes (s : Running) : Type 0 where
   pub short : own_at (next_layout s.built) (held_of s) ≡ Err (truncated, left)
 
 -- why no turn follows, where rest is left of the piece
-abbrev pub Stops : Running → List ℕ → Stopped → Type 0
-Stops s rest stop.Finished = ((x : List ℕ) → remain (types_of s) (state_of s.built) x ≡ told [] (Ok x)) × (held_of s ≡ []) × (is_whole s.built ≡ true)
-Stops s rest stop.Wants = (rest ≡ []) × WantsBytes s
-Stops s rest (stop.Refused held told_reason at len) = let x = held_of s ++ rest in
-    (e : Refusal) × (left : List ℕ) × (is_cut e ≡ false) × (told_reason ≡ reason_of e) × (held ≡ length (held_of s)) × (at ≡ length x - length left)
-    × (remain (types_of s) (state_of s.built) x ≡ told [] (Err ((e, left), x))) × Decided (types_of s) (state_of s.built) x e left len × (held ≤ len)
+abbrev pub EndsTurns : Running → List ℕ → Stopped → Type 0
+EndsTurns s rest stop.Finished =
+    ((x : List ℕ) → remain (types_of s) (state_of s.built) x ≡ told [] (Ok x)) × (held_of s ≡ [])
+    × (is_whole s.built ≡ true)
+EndsTurns s rest stop.Wants = (rest ≡ []) × WantsBytes s
+EndsTurns s rest (stop.Refused held told_reason at len) = let x = held_of s ++ rest in
+    (e : Refusal) × (left : List ℕ) × (is_cut e ≡ false) × (told_reason ≡ reason_of e)
+        × (held ≡ length (held_of s)) × (at ≡ length x - length left)
+    × (remain (types_of s) (state_of s.built) x ≡ told [] (Err ((e, left), x)))
+        × Decided (types_of s) (state_of s.built) x e left len × (held ≤ len)
 
 -- the bytes that are held and these spell the next node
 abbrev pub KeepsNode : Running → List ℕ → Type 0
 KeepsNode s bytes = IsSpelled s.built (held_of s ++ bytes)
 
--- a text is next, and the bytes that are held and these are its length and some of its bytes, or none; these are not none
+-- a text is next, and the bytes that are held and these are its length and some of its bytes, or
+-- none; these are not none
 abbrev pub KeepsText : Running → List ℕ → Type 0
 KeepsText s bytes = (next_layout s.built ≡ (layout.plain layout.text)) × (1 ≤ length bytes)
-    × ((n : ℕ) × (came : List ℕ) × (compact_at target.U32 (held_of s ++ bytes) ≡ Ok (n, came)) × (length came ≤ n))
+    × ((n : ℕ) × (came : List ℕ) × (compact_at target.U32 (held_of s ++ bytes) ≡ Ok (n, came))
+        × (length came ≤ n))
 
--- memory is wanted, where rest is left of the piece: a value can stand next, and by the first bytes of the rest its node is to be
+-- memory is wanted, where rest is left of the piece: a value can stand next, and by the first bytes
+-- of the rest its node is to be
 -- added, which they spell, or bytes of a text are to be kept
 pub record WantsMemory (s : Running) (rest : List ℕ) : Type 0 where
   pub form : Form
@@ -92,22 +107,27 @@ pub record WantsMemory (s : Running) (rest : List ℕ) : Type 0 where
 
 -- bytes are held, or a node is added and none are
 abbrev pub Steps : Running → Running → List ℕ → Type 0
-Steps old new bytes = ((1 ≤ length bytes) × (state_of new.built ≡ state_of old.built) × (held_of new ≡ held_of old ++ bytes))
-    ⊎ ((held_of new ≡ []) × Leads (types_of old) (state_of old.built) (state_of new.built) (held_of old ++ bytes) × (length new.built.entries ≡ suc (length old.built.entries)))
+Steps old new bytes = ((1 ≤ length bytes) × (state_of new.built ≡ state_of old.built)
+    × (held_of new ≡ held_of old ++ bytes))
+    ⊎ ((held_of new ≡ []) × TurnLeads (types_of old) (state_of old.built) (state_of new.built)
+        (held_of old ++ bytes) × (length new.built.entries ≡ suc (length old.built.entries)))
 
 -- what a turn does, by its step
 abbrev pub StepTells : Running → Running → List ℕ → Turned → Type 0
-StepTells old new piece (turned.On n) = (n ≤ length piece) × IsSame old new × Steps old new (take n piece)
-StepTells old new piece (turned.Stopped (stop.Refused held told_reason at len)) = Stops old piece (stop.Refused held told_reason at len)
-StepTells old new piece (turned.Stopped s) = (new ≡ old) × Stops old piece s
+StepTells old new piece (turned.On n) = (n ≤ length piece) × IsSame old new
+    × Steps old new (take n piece)
+StepTells old new piece (turned.Stopped (stop.Refused held told_reason at len)) =
+    EndsTurns old piece (stop.Refused held told_reason at len)
+StepTells old new piece (turned.Stopped s) = (new ≡ old) × EndsTurns old piece s
 StepTells old new piece turned.OutOfMemory = WantsMemory old piece
 
 -- what stands after the turns end: what stood before the last one, but for a node that is refused
-abbrev pub Stands : Stopped → Running → Running → Type 0
-Stands (stop.Refused held told_reason at len) before new = Unit {0}
-Stands s before new = new ≡ before
+abbrev pub StandsAfter : Stopped → Running → Running → Type 0
+StandsAfter (stop.Refused held told_reason at len) before new = Unit {0}
+StandsAfter s before new = new ≡ before
 
--- what holds of every value on its way: a begun tree is built, no more nodes are open than the depth limit lets in, and what
+-- what holds of every value on its way: a begun tree is built, no more nodes are open than the
+-- depth limit lets in, and what
 -- is held beside are bytes of the next node
 pub record IsSound (s : Running) : Type 0 where
   pub begun : IsBegun s.built
@@ -117,23 +137,29 @@ pub record IsSound (s : Running) : Type 0 where
 
 -- what turns on a piece do, of which n bytes were taken
 abbrev pub FeedTells : Running → Running → List ℕ → ℕ → Stopped → Type 0
-FeedTells old new piece n s = (n ≤ length piece) × ((last : Running) × Moves old last (take n piece) × Stops last (drop n piece) s × Stands s last new × IsSound last)
+FeedTells old new piece n s = (n ≤ length piece)
+    × ((last : Running) × Moves old last (take n piece) × EndsTurns last (drop n piece) s
+    × StandsAfter s last new × IsSound last)
 
 -- what turns on a piece do that end for want of memory, where n bytes of it were taken
 abbrev pub RunsOut : Running → List ℕ → ℕ → Type 0
-RunsOut old piece n = (n ≤ length piece) × ((last : Running) × Moves old last (take n piece) × WantsMemory last (drop n piece))
+RunsOut old piece n = (n ≤ length piece)
+    × ((last : Running) × Moves old last (take n piece) × WantsMemory last (drop n piece))
 
 -- the builder's loop has taken no turn where a turn of the decoder's added nothing
 abbrev pub KeepsTurns : Running → Running → Turned → Type 0
 KeepsTurns old new (turned.On n) = Unit {0}
 KeepsTurns old new _ = new.built.turns ≡ old.built.turns
 
--- from one count of turns to the other there is one for each node that was added and one that stopped, and beside these no more
+-- from one count of turns to the other there is one for each node that was added and one that
+-- stopped, and beside these no more
 -- than one for each byte that was taken
 abbrev pub FewTurns : Running → Running → ℕ → ℕ → ℕ → Type 0
-FewTurns old new n from to = (from + length new.built.entries + 1 ≤ to + length old.built.entries) × (to + length old.built.entries ≤ from + n + length new.built.entries + 1)
+FewTurns old new n from to = (from + length new.built.entries + 1 ≤ to + length old.built.entries)
+    × (to + length old.built.entries ≤ from + n + length new.built.entries + 1)
 
--- the same where nothing is left: what stood before the last turn is known, and that this one closed nothing
+-- the same where nothing is left: what stood before the last turn is known, and that this one
+-- closed nothing
 pub record StopsShort (old new : Running) (piece : List ℕ) (n from to : ℕ) : Type 0 where
   pub within : n ≤ length piece
   pub last : Running
@@ -143,7 +169,8 @@ pub record StopsShort (old new : Running) (piece : List ℕ) (n from to : ℕ) :
   pub closed : new.built.turns ≡ last.built.turns
 
 abbrev pub StopCounts : Running → Running → List ℕ → ℕ → ℕ → ℕ → Stopped → Type 0
-StopCounts old new piece from to n (stop.Refused held told_reason at len) = StopsShort old new piece n from to
+StopCounts old new piece from to n (stop.Refused held told_reason at len) =
+    StopsShort old new piece n from to
 StopCounts old new piece from to n s = FewTurns old new n from to
 
 -- the turns on a piece
@@ -160,12 +187,14 @@ BareTells old new turned.OutOfMemory = (rest : List ℕ) → WantsMemory old res
 -- what a turn did that took the next node's own bytes
 abbrev pub node_turned : Result (Unit {0}) NodeFault → ℕ → ℕ → ℕ → Turned
 node_turned (Ok u) held count len = turned.On count
-node_turned (Err (fault.Refused told_reason at)) held count len = turned.Stopped (stop.Refused held told_reason at len)
+node_turned (Err (fault.Refused told_reason at)) held count len =
+    turned.Stopped (stop.Refused held told_reason at len)
 node_turned (Err fault.OutOfMemory) held count len = turned.OutOfMemory
 
 -- a turn that ends a text, whatever follows it
 abbrev pub EndTells : Running → Running → Turned → Type 0
 EndTells old new (turned.On n) = (n ≡ 0) × IsSame old new × Steps old new []
-EndTells old new (turned.Stopped (stop.Refused held told_reason at len)) = (rest : List ℕ) → Stops old rest (stop.Refused held told_reason at len)
+EndTells old new (turned.Stopped (stop.Refused held told_reason at len)) = (rest : List ℕ) →
+    EndsTurns old rest (stop.Refused held told_reason at len)
 EndTells old new (turned.Stopped s) = ⊥
 EndTells old new turned.OutOfMemory = (rest : List ℕ) → WantsMemory old rest

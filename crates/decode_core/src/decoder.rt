@@ -6,7 +6,7 @@ ghost use Rattle.value_core.specs.Refusals.{is_whole};
 ghost use Rattle.decode_core.specs.Running.{Running};
 ghost use Rattle.decode_core.specs.Outcome.{Job};
 ghost use Rattle.decode_core.specs.Bound.{node_bound};
-ghost use Rattle.decode_core.specs.Decoding.{Answers, CountsValue, Decoding, FedCounts, FedTakes, Finishes, HasCounted, HasValue, HoldsAt, IsKept, IsLedTo, IsSmall, IsSmallAtEnd, IsSmallValue, Led, LoopCounted, Opens, RunAnswers, RunLed, closing_turns, first_of_all, node_count, opening_fault, text_bytes};
+ghost use Rattle.decode_core.specs.Decoding.{AnswersPiece, CountsValue, Decoding, FedCounts, FedTakes, FinishesDecoder, HasCounted, HasValue, HoldsAt, IsKept, IsLedTo, IsSmall, IsSmallAtEnd, IsSmallValue, Led, LoopCounted, OpensDecoder, RunAnswers, RunLed, closing_turns, first_of_all, node_count, opening_fault, text_bytes};
 ghost use Rattle.graph_core.specs.Widths.{widest};
 
 use crate::fault::{DecodeFault, DecodeReason, OpenFault};
@@ -165,7 +165,7 @@ impl<'r, A: Allocator + Clone> Decoder<'r, A> {
         root: TypeId,
         limits: Limits,
     ) -> Result<Decoder<'r, A>, OpenFault>
-        ensures opens { Opens (opening_fault checked.now.types root.0 limits) (first_of_all checked.now.types root.0 limits) result }
+        ensures opens { OpensDecoder (opening_fault checked.now.types root.0 limits) (first_of_all checked.now.types root.0 limits) result }
         ensures led { IfOk result (λ d. Led d []) }
     {
         if checked.class(root).is_none() {
@@ -228,7 +228,7 @@ impl<'r, A: Allocator> Decoder<'r, A> {
     /// Takes the next piece of the value's bytes (SCALE codec specification; which types a value has, by scale-info's
     /// registry). However the bytes are cut, the answer to each piece is that to all bytes so far.
     ///
-    /// Answers `More` where the next node needs a byte that is not there, and `Done` in the call that brings the value's
+    /// AnswersPiece `More` where the next node needs a byte that is not there, and `Done` in the call that brings the value's
     /// last byte; bytes after it are not used. A decoder that has answered `Done` or a refusal keeps its answer: every
     /// later call answers `Done` with none used, and keeps the value, or is refused with the same. It takes no memory.
     ///
@@ -248,7 +248,7 @@ impl<'r, A: Allocator> Decoder<'r, A> {
         ensures small { IsSmall self.new }
         ensures counted { HasCounted self.new }
         ensures small_at_end { IsSmallAtEnd self.new result }
-        ensures answers { (b : List ℕ) → Led self.old b → Answers self.old self.new (b ++ piece.now) result × Led self.new (b ++ piece.now) }
+        ensures answers { (b : List ℕ) → Led self.old b → AnswersPiece self.old self.new (b ++ piece.now) result × Led self.new (b ++ piece.now) }
     {
         self.calls.tick();
         let fed = match &mut self.run {
@@ -280,7 +280,7 @@ impl<'r, A: Allocator> Decoder<'r, A> {
     pub fn finish(self) -> Result<Value<'r, A>, DecodeFault>
         ensures refused { (f : DecodeFault) → self.entry.run ≡ Err f → result ≡ Err f }
         ensures whole { (s : Running) → self.entry.run ≡ Ok s → is_whole s.built ≡ true → result ≡ Ok (finished s.built) }
-        ensures finishes { (b : List ℕ) → Led self.entry b → Finishes self.entry.job b result }
+        ensures finishes { (b : List ℕ) → Led self.entry b → FinishesDecoder self.entry.job b result }
         ensures small { (b : List ℕ) → Led self.entry b → IsSmallValue self.entry.job b result }
     {
         let mut decoder = self;

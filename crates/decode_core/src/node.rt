@@ -7,7 +7,7 @@ ghost use Rattle.value_core.specs.Refusals.{up_to, most_unsigned, within, most_s
 ghost use Rattle.value_core.specs.Walked.{next_of};
 ghost use Rattle.grammar_core.specs.Reading.{basic};
 ghost use Rattle.decode_core.specs.Needs.{AreOwn, HasBytes, NoText};
-ghost use Rattle.decode_core.specs.NodeAdds.{Reads, AddsNode, OpensText};
+ghost use Rattle.decode_core.specs.NodeAdds.{ReadsFront, AddsNode, OpensText};
 ghost use Rattle.decode_core.specs.Reasons.{reason_of};
 
 use crate::fault::DecodeReason;
@@ -41,10 +41,10 @@ impl From<Fault> for NodeFault {
     }
 }
 
-/// Reads an unsigned integer of this width off the front of the bytes.
-#[tactic(auto, using(crate::proofs::ReadFronts::read_is))]
+/// ReadsFront an unsigned integer of this width off the front of the bytes.
+#[tactic(auto, using(crate::proofs::lists::ReadFronts::read_is))]
 fn read_unsigned(width: IntegerWidth, own: &[u8]) -> Result<u128, Fault>
-    ensures reads { Reads own.now result (number_at (width_bytes width) own.now) }
+    ensures reads { ReadsFront own.now result (number_at (width_bytes width) own.now) }
     ensures fits { IfOk result (λ n. up_to n (Some (most_unsigned width)) ≡ None) }
 {
     Ok(match width {
@@ -56,10 +56,10 @@ fn read_unsigned(width: IntegerWidth, own: &[u8]) -> Result<u128, Fault>
     })
 }
 
-/// Reads a signed integer of this width off the front of the bytes.
-#[tactic(auto, using(crate::proofs::ReadFronts::read_is))]
+/// ReadsFront a signed integer of this width off the front of the bytes.
+#[tactic(auto, using(crate::proofs::lists::ReadFronts::read_is))]
 fn read_signed(width: IntegerWidth, own: &[u8]) -> Result<i128, Fault>
-    ensures reads { Reads own.now result (signed_at (width_bytes width) own.now) }
+    ensures reads { ReadsFront own.now result (signed_at (width_bytes width) own.now) }
     ensures fits { IfOk result (λ z. within z (Some (most_signed width)) ≡ None) }
 {
     Ok(match width {
@@ -71,9 +71,9 @@ fn read_signed(width: IntegerWidth, own: &[u8]) -> Result<i128, Fault>
     })
 }
 
-/// Reads a length: a compact integer of at most 32 bits.
+/// ReadsFront a length: a compact integer of at most 32 bits.
 fn read_length(own: &[u8]) -> Result<u32, Fault>
-    ensures { Reads own.now result (compact_at Target.U32 own.now) }
+    ensures { ReadsFront own.now result (compact_at Target.U32 own.now) }
 {
     let (length, _) = read_compact(own, Target::U32)?;
     Ok(length as u32)

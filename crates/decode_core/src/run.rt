@@ -1,7 +1,7 @@
 //! A decoder on its way: it takes its input turn by turn.
 
 ghost use Rattle.std.specs.Prelude.{ℕ, List, true, ◌≡◌, ◌<◌, ◌≤◌, ◌+◌, ◌++◌, [], length, take, drop, None, Some, suc, IfErr, IfOk, Ok, OnOk, OnErr};
-ghost use Rattle.decode_core.specs.Running.{IsCarry, IsFresh, IsText, IsTextNext};
+ghost use Rattle.decode_core.specs.Running.{IsCarry, IsFresh, IsKeptText, IsTextNext};
 ghost use Rattle.value_core.specs.Walked.{next_of};
 ghost use Rattle.value_core.specs.Built.{built_text_bytes, finished};
 ghost use Rattle.value_core.specs.Refusals.{is_whole};
@@ -219,7 +219,7 @@ impl<'r, A: Allocator> Run<'r, A> {
     /// A turn on the bytes of the text that is open.
     fn text_turn(&mut self, text: OpenText, piece: &[u8]) -> Turned
         requires next { IsTextNext self.old.built self.old.carry self.old.built.text }
-        requires open { IsText self.old.built.text (Some text) }
+        requires open { IsKeptText self.old.built.text (Some text) }
         ensures tells { StepTells self.old self.new piece.now result }
         ensures kept { KeepsTurns self.old self.new result }
     {
@@ -247,7 +247,7 @@ impl<'r, A: Allocator> Run<'r, A> {
     /// A turn that ends the text that is open, whose bytes are all there.
     fn text_end(&mut self, text: OpenText) -> Turned
         requires next { IsTextNext self.old.built self.old.carry self.old.built.text }
-        requires open { IsText self.old.built.text (Some text) }
+        requires open { IsKeptText self.old.built.text (Some text) }
         requires whole { text.missing ≡ 0 }
         ensures tells { EndTells self.old self.new result }
         ensures kept { KeepsTurns self.old self.new result }

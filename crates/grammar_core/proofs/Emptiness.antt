@@ -1,5 +1,8 @@
 -- Which values take no bytes.
-use Rattle.std.proofs.Common.{◌≡◌, ℕ, suc, ◌≤◌, Bool, true, false, List, [], ◌∷◌, ◌++◌, length, refl, sym, ap, subst, ◌∙◌, arith, inl, inr}
+use Rattle.std.proofs.Common.{
+    ◌≡◌, ℕ, suc, ◌≤◌, Bool, true, false, List, [], ◌∷◌, ◌++◌, length, refl, sym, ap, subst, ◌∙◌,
+    arith, inl, inr
+}
 use Rattle.std.specs.List.{list_all}
 use Rattle.scale_core.specs.Compact.{IsCompact}
 use Rattle.scale_core.specs.declared.compact.Target.{Target}
@@ -10,9 +13,14 @@ use Rattle.widths_core.specs.declared.class.Class.TheVariants as class
 use Rattle.widths_core.specs.Classes.{class_of, empty_within}
 use Rattle.widths_core.specs.Layouts.{Layout, layout}
 use Rattle.widths_core.specs.Layouts as layout
-use Rattle.widths_core.proofs.Known.{Known, known, empty_class, class_empty, class_finite, layout_empty}
-use Rattle.grammar_core.specs.Tree.{Tree, leaf, branch, unit, bool, char, text, unsigned, signed, wide, compact, fields, arm, list, count, Trees, none, and, how_many, Leaf}
-use Rattle.grammar_core.specs.Grammar.{Val, Vals, IsLeaf}
+use Rattle.widths_core.proofs.Known.{
+    Known, known, empty_class, class_empty, class_finite, layout_empty
+}
+use Rattle.grammar_core.specs.Tree.{
+    Tree, leaf, branch, unit, bool, char, text, unsigned, signed, wide, compact, fields, arm, list,
+    count, Trees, none, and, how_many, Leaf
+}
+use Rattle.grammar_core.specs.Grammar.{Val, Vals, SpellsLeaf}
 use Rattle.grammar_core.specs.Laws.{EmptyHasUnit, SizedHasBytes}
 
 abbrev is_nil : List ℕ → Bool
@@ -24,7 +32,9 @@ nil_parts [] b e = (refl, e)
 nil_parts (x ∷ a) b e = absurd cc
 
 -- the forms are apart
-other : {X : Type 0} (r : List TypeInfo) (t : ℕ) (f : Layout) → layout r t ≡ (layout.plain layout.empty) → layout r t ≡ f → ((layout.plain layout.empty) ≡ f → X) → X
+other : {X : Type 0} (r : List TypeInfo) (t : ℕ) (f : Layout) →
+    layout r t ≡ (layout.plain layout.empty) → layout r t ≡ f →
+    ((layout.plain layout.empty) ≡ f → X) → X
 other r t f e h k = k (sym e ∙ h)
 
 pub known_at : (r : List TypeInfo) (t : ℕ) (f : Layout) → layout r t ≡ f → Known r t f
@@ -34,19 +44,28 @@ compact_has_byte : {X : Type 0} (x : ℕ) (b : List ℕ) → IsCompact target.U3
 compact_has_byte x b h e = let no = compact-bytes target.U32 x b h e in absurd cc
 
 -- a leaf of no bytes is of a type that takes none
-leaf_no_bytes : (r : List TypeInfo) (t : ℕ) (l : Leaf) (b : List ℕ) → b ≡ [] → IsLeaf (layout r t) l b → class_of r t ≡ class.Empty
+leaf_no_bytes : (r : List TypeInfo) (t : ℕ) (l : Leaf) (b : List ℕ) → b ≡ [] →
+    SpellsLeaf (layout r t) l b → class_of r t ≡ class.Empty
 leaf_no_bytes r t unit b e h = known_at r t (layout.plain layout.empty) h.0
 leaf_no_bytes r t (bool x) b e h = let no = sym e ∙ h.1 in absurd cc
 leaf_no_bytes r t (char c) b e h = let no = sym (ap length e) ∙ h.1 in absurd (omega (arith, no))
-leaf_no_bytes r t (text s) b e h = compact_has_byte (length s) h.1.0 h.1.1 (nil_parts h.1.0 s (sym h.1.3 ∙ e)).0
-leaf_no_bytes r t (unsigned x) b e h = absurd (omega (arith, known_at r t (layout.plain (layout.unsigned h.0)) h.1, sym (ap length e) ∙ h.2))
-leaf_no_bytes r t (signed x) b e h = absurd (omega (arith, known_at r t (layout.plain (layout.signed h.0)) h.1, sym (ap length e) ∙ h.2))
+leaf_no_bytes r t (text s) b e h =
+    compact_has_byte (length s) h.1.0 h.1.1 (nil_parts h.1.0 s (sym h.1.3 ∙ e)).0
+leaf_no_bytes r t (unsigned x) b e h =
+    absurd (omega (arith, known_at r t (layout.plain (layout.unsigned h.0)) h.1, sym (ap length e)
+    ∙ h.2))
+leaf_no_bytes r t (signed x) b e h =
+    absurd (omega (arith, known_at r t (layout.plain (layout.signed h.0)) h.1, sym (ap length e)
+    ∙ h.2))
 leaf_no_bytes r t (wide x) b e h = let no = sym (ap length e) ∙ h.1 in absurd (omega (arith, no))
-leaf_no_bytes r t (compact x) b e h = empty_class r t (known_at r t (layout.plain (layout.compact h.0)) h.1 (compact-bytes h.0 x b h.2 e))
+leaf_no_bytes r t (compact x) b e h =
+    empty_class r t (known_at r t (layout.plain (layout.compact h.0)) h.1
+    (compact-bytes h.0 x b h.2 e))
 leaf_no_bytes r t (count k) b e h = compact_has_byte k b h.1 e
 
 -- the one leaf of a type that takes no bytes
-leaf_unique : (l : Leaf) (f : Layout) (b : List ℕ) → f ≡ (layout.plain layout.empty) → IsLeaf f l b → (l ≡ unit) × (b ≡ [])
+leaf_unique : (l : Leaf) (f : Layout) (b : List ℕ) → f ≡ (layout.plain layout.empty) →
+    SpellsLeaf f l b → (l ≡ unit) × (b ≡ [])
 leaf_unique unit f b e h = (refl, h.1)
 leaf_unique (bool x) f b e h = let no = sym e ∙ h.0 in absurd cc
 leaf_unique (char c) f b e h = let no = sym e ∙ h.0 in absurd cc
@@ -61,31 +80,42 @@ mutual
   unfolding Val
 
   -- a value with no byte is of a type that takes none
-  pub no_bytes : (r : List TypeInfo) (t : ℕ) (v : Tree) (b : List ℕ) → b ≡ [] → Val r t v b → class_of r t ≡ class.Empty
+  pub no_bytes : (r : List TypeInfo) (t : ℕ) (v : Tree) (b : List ℕ) → b ≡ [] → Val r t v b →
+      class_of r t ≡ class.Empty
   no_bytes r t (leaf l) b e h = leaf_no_bytes r t l b e h
-  no_bytes r t (branch fields vs) b e h = empty_class r t (known_at r t (layout.fields h.0) h.1 (all_no_bytes r h.0 vs b e h.2))
+  no_bytes r t (branch fields vs) b e h =
+      empty_class r t (known_at r t (layout.fields h.0) h.1 (all_no_bytes r h.0 vs b e h.2))
   no_bytes r t (branch (arm q) vs) b e h = let no = sym e ∙ h.6 in absurd cc
-  no_bytes r t (branch list none) b e (inl h) = empty_class r t ((known_at r t (layout.array h.0 h.1) h.2).0 (sym h.3))
-  no_bytes r t (branch list (and v vs)) b e (inl h) = empty_class r t ((known_at r t (layout.array h.0 h.1) h.2).1 (class_empty r h.1 (no_bytes r h.1 v h.4.0 (nil_parts h.4.0 h.4.1 (sym h.4.2 ∙ e)).0 h.4.3)))
-  no_bytes r t (branch list none) b e (inr h) = compact_has_byte 0 h.1 h.4 (nil_parts h.1 h.2 (sym h.5 ∙ e)).0
-  no_bytes r t (branch list (and v vs)) b e (inr h) = compact_has_byte (suc (how_many vs)) h.1 h.4 (nil_parts h.1 h.2 (sym h.5 ∙ e)).0
+  no_bytes r t (branch list none) b e (inl h) =
+      empty_class r t ((known_at r t (layout.array h.0 h.1) h.2).0 (sym h.3))
+  no_bytes r t (branch list (and v vs)) b e (inl h) =
+      empty_class r t ((known_at r t (layout.array h.0 h.1) h.2).1
+      (class_empty r h.1 (no_bytes r h.1 v h.4.0 (nil_parts h.4.0 h.4.1 (sym h.4.2 ∙ e)).0 h.4.3)))
+  no_bytes r t (branch list none) b e (inr h) =
+      compact_has_byte 0 h.1 h.4 (nil_parts h.1 h.2 (sym h.5 ∙ e)).0
+  no_bytes r t (branch list (and v vs)) b e (inr h) =
+      compact_has_byte (suc (how_many vs)) h.1 h.4 (nil_parts h.1 h.2 (sym h.5 ∙ e)).0
 
-  pub all_no_bytes : (r : List TypeInfo) (ts : List ℕ) (vs : Trees) (b : List ℕ) → b ≡ [] → Vals r ts vs b → list_all (empty_within r (length r)) ts ≡ true
+  pub all_no_bytes : (r : List TypeInfo) (ts : List ℕ) (vs : Trees) (b : List ℕ) → b ≡ [] →
+      Vals r ts vs b → list_all (empty_within r (length r)) ts ≡ true
   all_no_bytes r [] none b e h = refl
   all_no_bytes r (t ∷ ts) none b e h = absurd h
   all_no_bytes r [] (and v vs) b e h = absurd h
   all_no_bytes r (t ∷ ts) (and v vs) b e h =
       let parts = nil_parts h.0 h.1 (sym h.2 ∙ e) in
-      rw (class_empty r t (no_bytes r t v h.0 parts.0 h.3), all_no_bytes r ts vs h.1 parts.1 h.4) refl
+      rw (class_empty r t (no_bytes r t v h.0 parts.0 h.3), all_no_bytes r ts vs h.1 parts.1 h.4)
+          refl
 
 not_nil : (b : List ℕ) → (b ≡ [] → ⊥) → 1 ≤ length b
 not_nil [] h = absurd (h refl)
 not_nil (x ∷ b) h = omega arith
 
 pub sized_has_bytes : SizedHasBytes
-sized_has_bytes r t v b sized h = not_nil b (λ e. let no = sym sized ∙ no_bytes r t v b e h in absurd cc)
+sized_has_bytes r t v b sized h =
+    not_nil b (λ e. let no = sym sized ∙ no_bytes r t v b e h in absurd cc)
 
-pub empty_unique : (r : List TypeInfo) (t : ℕ) (v : Tree) (b : List ℕ) → layout r t ≡ (layout.plain layout.empty) → Val r t v b → (v ≡ leaf unit) × (b ≡ [])
+pub empty_unique : (r : List TypeInfo) (t : ℕ) (v : Tree) (b : List ℕ) →
+    layout r t ≡ (layout.plain layout.empty) → Val r t v b → (v ≡ leaf unit) × (b ≡ [])
 unfolding Val
 empty_unique r t (leaf l) b e h = let is = leaf_unique l (layout r t) b e h in (ap leaf is.0, is.1)
 empty_unique r t (branch fields vs) b e h = let no = sym e ∙ h.1 in absurd cc
@@ -97,4 +127,5 @@ pub empty_has_unit : EmptyHasUnit
 unfolding Val
 empty_has_unit r t e =
     let is = empty_class r t e in
-    (class_finite r t (λ no. let both = sym is ∙ no in absurd cc), (layout_empty r t is, refl), λ v b. empty_unique r t v b (layout_empty r t is))
+    (class_finite r t (λ no. let both = sym is ∙ no in absurd cc), (layout_empty r t is, refl),
+        λ v b. empty_unique r t v b (layout_empty r t is))

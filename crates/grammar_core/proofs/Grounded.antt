@@ -7,12 +7,16 @@ use Rattle.widths_core.specs.Classes.{is_finite}
 use Rattle.widths_core.specs.Layouts.{Layout, layout}
 use Rattle.widths_core.specs.Layouts as layout
 use Rattle.widths_core.proofs.Known.{finite_at}
-use Rattle.grammar_core.specs.Tree.{Tree, leaf, branch, unit, bool, char, text, unsigned, signed, wide, compact, fields, arm, list, count, Trees, none, and, Leaf}
-use Rattle.grammar_core.specs.Grammar.{Val, Vals, IsLeaf}
+use Rattle.grammar_core.specs.Tree.{
+    Tree, leaf, branch, unit, bool, char, text, unsigned, signed, wide, compact, fields, arm, list,
+    count, Trees, none, and, Leaf
+}
+use Rattle.grammar_core.specs.Grammar.{Val, Vals, SpellsLeaf}
 use Rattle.grammar_core.specs.Laws.{ValuesAreFinite}
 
 -- a type that a leaf is a value of has a value
-leaf_finite : (r : List TypeInfo) (t : ℕ) (l : Leaf) (b : List ℕ) → IsLeaf (layout r t) l b → is_finite r t ≡ true
+leaf_finite : (r : List TypeInfo) (t : ℕ) (l : Leaf) (b : List ℕ) → SpellsLeaf (layout r t) l b →
+    is_finite r t ≡ true
 leaf_finite r t unit b h = finite_at r t (layout.plain layout.empty) h.0
 leaf_finite r t (bool x) b h = finite_at r t (layout.plain layout.bool) h.0
 leaf_finite r t (char c) b h = finite_at r t (layout.plain layout.char) h.0
@@ -26,15 +30,21 @@ leaf_finite r t (count k) b h = finite_at r t (layout.plain layout.counted) h.0
 mutual
   unfolding Val
 
-  pub finite : (r : List TypeInfo) (t : ℕ) (v : Tree) (b : List ℕ) → Val r t v b → is_finite r t ≡ true
+  pub finite : (r : List TypeInfo) (t : ℕ) (v : Tree) (b : List ℕ) → Val r t v b →
+      is_finite r t ≡ true
   finite r t (leaf l) b h = leaf_finite r t l b h
-  finite r t (branch fields vs) b h = finite_at r t (layout.fields h.0) h.1 (all_finite r h.0 vs b h.2)
-  finite r t (branch (arm q) vs) b h = finite_at r t (layout.arms h.0) h.4 h.1 q h.2 h.5 (all_finite r (field_types h.2.fields) vs h.3 h.7)
+  finite r t (branch fields vs) b h =
+      finite_at r t (layout.fields h.0) h.1 (all_finite r h.0 vs b h.2)
+  finite r t (branch (arm q) vs) b h =
+      finite_at r t (layout.arms h.0) h.4 h.1 q h.2 h.5
+      (all_finite r (field_types h.2.fields) vs h.3 h.7)
   finite r t (branch list none) b (inl h) = (finite_at r t (layout.array h.0 h.1) h.2).0 (sym h.3)
-  finite r t (branch list (and v vs)) b (inl h) = (finite_at r t (layout.array h.0 h.1) h.2).1 (finite r h.1 v h.4.0 h.4.3)
+  finite r t (branch list (and v vs)) b (inl h) =
+      (finite_at r t (layout.array h.0 h.1) h.2).1 (finite r h.1 v h.4.0 h.4.3)
   finite r t (branch list vs) b (inr h) = finite_at r t (layout.sequence h.0) h.3
 
-  all_finite : (r : List TypeInfo) (ts : List ℕ) (vs : Trees) (b : List ℕ) → Vals r ts vs b → list_all (is_finite r) ts ≡ true
+  all_finite : (r : List TypeInfo) (ts : List ℕ) (vs : Trees) (b : List ℕ) → Vals r ts vs b →
+      list_all (is_finite r) ts ≡ true
   all_finite r [] none b h = refl
   all_finite r (t ∷ ts) none b h = absurd h
   all_finite r [] (and v vs) b h = absurd h

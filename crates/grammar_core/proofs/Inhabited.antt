@@ -1,5 +1,8 @@
 -- A finite type has a value, unless a definition can be reached whose values are left out.
-use Rattle.std.proofs.Common.{◌≡◌, ℕ, zero, suc, ◌+◌, ◌<◌, ◌⊎◌, Bool, true, false, cond, List, [], ◌∷◌, ◌++◌, length, Option, Some, None, refl, sym, ap, subst, ◌∙◌, arith, inl, inr}
+use Rattle.std.proofs.Common.{
+    ◌≡◌, ℕ, zero, suc, ◌+◌, ◌<◌, ◌⊎◌, Bool, true, false, cond, List, [], ◌∷◌, ◌++◌, length, Option,
+    Some, None, refl, sym, ap, subst, ◌∙◌, arith, inl, inr
+}
 use Rattle.std.specs.Prelude.{◌==◌, ◌||◌, flat_map}
 use Rattle.std.specs.List.{list_all, list_any, AllByRecursion}
 use Rattle.std.specs.Str.{is_utf8, chars}
@@ -23,10 +26,15 @@ use Rattle.graph_core.specs.References.{references}
 use Rattle.widths_core.specs.Targets.{target_of}
 use Rattle.widths_core.specs.Reach.{IsAmong, here, there, IsPlain}
 use Rattle.widths_core.specs.Classes.{finite_within, finite_step, holds_at, is_empty}
-use Rattle.widths_core.specs.Layouts.{Layout, layout, sized_layout, kind_layout, sequence_layout, compact_layout}
+use Rattle.widths_core.specs.Layouts.{
+    Layout, layout, sized_layout, kind_layout, sequence_layout, compact_layout
+}
 use Rattle.widths_core.specs.Layouts as layout
 use Rattle.widths_core.proofs.Ranks.{and_parts, or_parts}
-use Rattle.grammar_core.specs.Tree.{Tree, leaf, branch, unit, bool, char, text, unsigned, signed, wide, compact as compact_value, fields, arm, list, count, Trees, none, and, how_many}
+use Rattle.grammar_core.specs.Tree.{
+    Tree, leaf, branch, unit, bool, char, text, unsigned, signed, wide, compact as compact_value,
+    fields, arm, list, count, Trees, none, and, how_many
+}
 use Rattle.grammar_core.specs.Grammar.{Val, Vals, Each}
 use Rattle.grammar_core.specs.Laws.{FiniteHasValue}
 
@@ -35,21 +43,26 @@ HasValue r t = (v : Tree) × (b : List ℕ) × AreBytes b × Val r t v b
 
 -- ---- lists of values
 
-all_values : (r : List TypeInfo) (f : ℕ → Bool) (ts : List ℕ) → ((t : ℕ) → IsAmong t ts → f t ≡ true → HasValue r t) → list_all f ts ≡ true → (vs : Trees) × (b : List ℕ) × AreBytes b × Vals r ts vs b
+all_values : (r : List TypeInfo) (f : ℕ → Bool) (ts : List ℕ) →
+    ((t : ℕ) → IsAmong t ts → f t ≡ true → HasValue r t) → list_all f ts ≡ true → (vs : Trees)
+    × (b : List ℕ) × AreBytes b × Vals r ts vs b
 unfolding Val
 all_values r f [] h e = (none, [], tt, refl)
 all_values r f (t ∷ ts) h e =
     let p = and_parts (f t) (list_all f ts) e in
     let one = h t (inl refl) p.0 in
     let rest = all_values r f ts (λ u m. h u (inr m)) p.1 in
-    (and one.0 rest.0, one.1 ++ rest.1, both_bytes one.1 rest.1 one.2 rest.2, (one.1, rest.1, refl, one.3, rest.3))
+    (and one.0 rest.0, one.1 ++ rest.1, both_bytes one.1 rest.1 one.2 rest.2,
+        (one.1, rest.1, refl, one.3, rest.3))
 
-repeated : (r : List TypeInfo) (t n : ℕ) → HasValue r t → (vs : Trees) × (b : List ℕ) × AreBytes b × (how_many vs ≡ n) × Each r t vs b
+repeated : (r : List TypeInfo) (t n : ℕ) → HasValue r t → (vs : Trees) × (b : List ℕ) × AreBytes b
+    × (how_many vs ≡ n) × Each r t vs b
 unfolding Val
 repeated r t zero h = (none, [], tt, refl, refl)
 repeated r t (suc n) h =
     let rest = repeated r t n h in
-    (and h.0 rest.0, h.1 ++ rest.1, both_bytes h.1 rest.1 h.2 rest.2, ap (λ (k : ℕ). suc k) rest.3, (h.1, rest.1, refl, h.3, rest.4))
+    (and h.0 rest.0, h.1 ++ rest.1, both_bytes h.1 rest.1 h.2 rest.2, ap (λ (k : ℕ). suc k) rest.3,
+        (h.1, rest.1, refl, h.3, rest.4))
 
 -- ---- arms
 
@@ -73,17 +86,20 @@ record Live (p : Arm → Bool) (arms : List Arm) (seen : List ℕ) (j : ℕ) : T
   pub holds : p arm ≡ true
   pub is : arm_from j arms arm.index ≡ Some (position, arm)
   pub new : list_any (λ s. s == arm.index) seen ≡ false
-  pub refers : (u : ℕ) → IsAmong u (field_types arm.fields) → IsAmong u (flat_map (λ a. field_types a.fields) arms)
+  pub refers : (u : ℕ) → IsAmong u (field_types arm.fields) →
+      IsAmong u (flat_map (λ a. field_types a.fields) arms)
   pub byte : arm.index < 256
 
-behind : (p : Arm → Bool) (x : Arm) (arms : List Arm) (seen : List ℕ) (j : ℕ) (l : Live p arms seen (j + 1)) → (x.index == l.arm.index) ≡ false → Live p (x ∷ arms) seen j
+behind : (p : Arm → Bool) (x : Arm) (arms : List Arm) (seen : List ℕ) (j : ℕ)
+    (l : Live p arms seen (j + 1)) → (x.index == l.arm.index) ≡ false → Live p (x ∷ arms) seen j
 behind p x arms seen j l e = record {
   arm = l.arm;
   position = l.position;
   holds = l.holds;
   is = rw e l.is;
   new = l.new;
-  refers = λ u m. among_right u (field_types x.fields) (flat_map (λ a. field_types a.fields) arms) (l.refers u m);
+  refers = λ u m. among_right u (field_types x.fields) (flat_map (λ a. field_types a.fields) arms)
+      (l.refers u m);
   byte = l.byte;
 }
 
@@ -91,20 +107,30 @@ bool_cases : (b : Bool) → (b ≡ true) ⊎ (b ≡ false)
 bool_cases true = inl refl
 bool_cases false = inr refl
 
-live : (p : Arm → Bool) (arms : List Arm) (seen : List ℕ) (j : ℕ) → AllByRecursion FitsArm arms → list_any p (live_arms seen arms) ≡ true → Live p arms seen j
+live : (p : Arm → Bool) (arms : List Arm) (seen : List ℕ) (j : ℕ) → AllByRecursion FitsArm arms →
+    list_any p (live_arms seen arms) ≡ true → Live p arms seen j
 live p [] seen j fits e = absurd cc
-live p (x ∷ arms) seen j fits e = go (list_any (λ s. s == x.index) seen) refl e (λ more k. live p arms more (j + 1) fits.1 k) where
-  seen_before : list_any (λ s. s == x.index) seen ≡ true → Live p arms seen (j + 1) → Live p (x ∷ arms) seen j
+live p (x ∷ arms) seen j fits e =
+    go (list_any (λ s. s == x.index) seen) refl e (λ more k. live p arms more (j + 1) fits.1 k)
+    where
+  seen_before : list_any (λ s. s == x.index) seen ≡ true → Live p arms seen (j + 1) →
+      Live p (x ∷ arms) seen j
   seen_before g l = elim (bool_cases (x.index == l.arm.index)) [
-    | inl same ↦ let yes : list_any (λ s. s == l.arm.index) seen ≡ true = rw (← eqb-true x.index l.arm.index same) g in let both = sym yes ∙ l.new in absurd cc
+    | inl same ↦ let yes : list_any (λ s. s == l.arm.index) seen ≡ true =
+        rw (← eqb-true x.index l.arm.index same) g in let both = sym yes ∙ l.new in absurd cc
     | inr ne ↦ behind p x arms seen j l ne
   ]
 
   fresh : Live p arms (x.index ∷ seen) (j + 1) → Live p (x ∷ arms) seen j
-  fresh l = let parts = or_false (x.index == l.arm.index) (list_any (λ s. s == l.arm.index) seen) l.new in
-      behind p x arms seen j (record { arm = l.arm; position = l.position; holds = l.holds; is = l.is; new = parts.1; refers = l.refers; byte = l.byte }) parts.0
+  fresh l = let parts = or_false (x.index == l.arm.index) (list_any (λ s. s == l.arm.index) seen)
+      l.new in
+      behind p x arms seen j (record { arm = l.arm; position = l.position; holds = l.holds; is =
+          l.is; new = parts.1; refers = l.refers; byte = l.byte }) parts.0
 
-  go : (b : Bool) → list_any (λ s. s == x.index) seen ≡ b → list_any p (cond b (live_arms seen arms) (x ∷ live_arms (x.index ∷ seen) arms)) ≡ true → ((more : List ℕ) → list_any p (live_arms more arms) ≡ true → Live p arms more (j + 1)) → Live p (x ∷ arms) seen j
+  go : (b : Bool) → list_any (λ s. s == x.index) seen ≡ b →
+      list_any p (cond b (live_arms seen arms) (x ∷ live_arms (x.index ∷ seen) arms)) ≡ true →
+      ((more : List ℕ) → list_any p (live_arms more arms) ≡ true → Live p arms more (j + 1)) →
+      Live p (x ∷ arms) seen j
   go true g k r = seen_before g (r seen k)
   go false g k r = elim (or_parts (p x) (list_any p (live_arms (x.index ∷ seen) arms)) k) [
     | inl px ↦ record {
@@ -113,7 +139,8 @@ live p (x ∷ arms) seen j fits e = go (list_any (λ s. s == x.index) seen) refl
       holds = px;
       is = rw (eq-eqb x.index x.index refl) refl;
       new = g;
-      refers = λ u m. among_left u (field_types x.fields) (flat_map (λ a. field_types a.fields) arms) m;
+      refers = λ u m. among_left u (field_types x.fields)
+          (flat_map (λ a. field_types a.fields) arms) m;
       byte = fits.0.2;
     }
     | inr later ↦ fresh (r (x.index ∷ seen) later)
@@ -146,13 +173,17 @@ no_text : is_utf8 [] ≡ true
 unfolding is_utf8 chars lib.Utf8.encode
 no_text = refl
 
-unsigned_value : (r : List TypeInfo) (t k : ℕ) → layout r t ≡ layout.plain (layout.unsigned k) → HasValue r t
+unsigned_value : (r : List TypeInfo) (t k : ℕ) → layout r t ≡ layout.plain (layout.unsigned k) →
+    HasValue r t
 unfolding Val
-unsigned_value r t k e = (leaf (unsigned (number (zeros k))), zeros k, zeros-bytes k, (k, e, length-zeros k, refl))
+unsigned_value r t k e =
+    (leaf (unsigned (number (zeros k))), zeros k, zeros-bytes k, (k, e, length-zeros k, refl))
 
-signed_value : (r : List TypeInfo) (t k : ℕ) → layout r t ≡ layout.plain (layout.signed k) → HasValue r t
+signed_value : (r : List TypeInfo) (t k : ℕ) → layout r t ≡ layout.plain (layout.signed k) →
+    HasValue r t
 unfolding Val
-signed_value r t k e = (leaf (signed (signed_number (zeros k))), zeros k, zeros-bytes k, (k, e, length-zeros k, refl))
+signed_value r t k e = (leaf (signed (signed_number (zeros k))), zeros k, zeros-bytes k,
+    (k, e, length-zeros k, refl))
 
 wide_value : (r : List TypeInfo) (t : ℕ) → layout r t ≡ (layout.plain layout.wide) → HasValue r t
 unfolding Val
@@ -162,19 +193,25 @@ char_value : (r : List TypeInfo) (t : ℕ) → layout r t ≡ (layout.plain layo
 unfolding Val zeros
 char_value r t e = (leaf (char 0), zeros 4, zeros-bytes 4, (e, refl, refl, refl))
 
-kind_value : (r : List TypeInfo) (t : ℕ) (k : PrimitiveKind) → layout r t ≡ kind_layout k → HasValue r t
+kind_value : (r : List TypeInfo) (t : ℕ) (k : PrimitiveKind) → layout r t ≡ kind_layout k →
+    HasValue r t
 unfolding Val
 kind_value r t K.Bool e = (leaf (bool false), 0 ∷ [], (omega arith, tt), (e, refl))
 kind_value r t K.Char e = char_value r t e
-kind_value r t K.Str e = (leaf (text []), compact 0 ++ [], both_bytes (compact 0) [] zero-bytes tt, (e, (compact 0, u32_zero, no_text, refl)))
+kind_value r t K.Str e =
+    (leaf (text []), compact 0 ++ [], both_bytes (compact 0) [] zero-bytes tt,
+    (e, (compact 0, u32_zero, no_text, refl)))
 kind_value r t (K.Unsigned w) e = unsigned_value r t (width_bytes w) e
 kind_value r t (K.Signed w) e = signed_value r t (width_bytes w) e
 kind_value r t (K.Wide s) e = wide_value r t e
 
-sequence_value : (r : List TypeInfo) (t u : ℕ) (b : Bool) → layout r t ≡ sequence_layout u b → HasValue r t
+sequence_value : (r : List TypeInfo) (t u : ℕ) (b : Bool) → layout r t ≡ sequence_layout u b →
+    HasValue r t
 unfolding Val
 sequence_value r t u true e = (leaf (count 0), compact 0, zero-bytes, (e, u32_zero))
-sequence_value r t u false e = (branch list none, compact 0 ++ [], both_bytes (compact 0) [] zero-bytes tt, inr (u, compact 0, [], e, u32_zero, refl, refl))
+sequence_value r t u false e =
+    (branch list none, compact 0 ++ [], both_bytes (compact 0) [] zero-bytes tt,
+    inr (u, compact 0, [], e, u32_zero, refl, refl))
 
 zero_of : (m : Target) → (b : List ℕ) × AreBytes b × IsCompact m 0 b
 zero_of target.Unit = ([], tt, (refl, refl))
@@ -184,49 +221,75 @@ zero_of target.U32 = (compact 0, zero-bytes, (omega arith, refl))
 zero_of target.U64 = (compact 0, zero-bytes, (omega arith, refl))
 zero_of target.U128 = (compact 0, zero-bytes, (omega arith, refl))
 
-compact_of : (r : List TypeInfo) (t : ℕ) (o : Option Target) → (o ≡ None → ⊥) → layout r t ≡ compact_layout o → HasValue r t
+compact_of : (r : List TypeInfo) (t : ℕ) (o : Option Target) → (o ≡ None → ⊥) →
+    layout r t ≡ compact_layout o → HasValue r t
 unfolding Val
 compact_of r t None left e = absurd (left refl)
-compact_of r t (Some m) left e = let z = zero_of m in (leaf (compact_value 0), z.0, z.1, (m, e, z.2))
+compact_of r t (Some m) left e = let z = zero_of m in
+    (leaf (compact_value 0), z.0, z.1, (m, e, z.2))
 
-sized_value : (r : List TypeInfo) (k t : ℕ) (d : TypeDef) → FitsDefinition d → IsPlain r t → shape r t ≡ Some d → ((u : ℕ) → IsAmong u (references d) → finite_within r k u ≡ true → HasValue r u) → layout r t ≡ sized_layout r d → finite_step (finite_within r k) d ≡ true → HasValue r t
+sized_value : (r : List TypeInfo) (k t : ℕ) (d : TypeDef) → FitsDefinition d → IsPlain r t →
+    shape r t ≡ Some d → ((u : ℕ) → IsAmong u (references d) → finite_within r k u ≡ true →
+    HasValue r u) → layout r t ≡ sized_layout r d → finite_step (finite_within r k) d ≡ true →
+    HasValue r t
 unfolding Val
-sized_value r k t (Def.Composite fs) fits plain is child e h = let all = all_values r (finite_within r k) (field_types fs) child h in (branch fields all.0, all.1, all.2, (field_types fs, e, all.3))
+sized_value r k t (Def.Composite fs) fits plain is child e h = let all =
+    all_values r (finite_within r k) (field_types fs) child h in
+    (branch fields all.0, all.1, all.2, (field_types fs, e, all.3))
 sized_value r k t (Def.Variant arms) fits plain is child e h =
     let l = live (λ a. list_all (finite_within r k) (field_types a.fields)) arms [] 0 fits.1 h in
-    let all = all_values r (finite_within r k) (field_types l.arm.fields) (λ u m. child u (l.refers u m)) l.holds in
-    (branch (arm l.position) all.0, l.arm.index ∷ all.1, (l.byte, all.2), (arms, l.arm.index, l.arm, all.1, e, l.is, refl, all.3))
-sized_value r k t (Def.Sequence u) fits plain is child e h = sequence_value r t u.0 (is_empty r u.0) e
-sized_value r k t (Def.Array zero u) fits plain is child e h = (branch list none, [], tt, inl (0, u.0, e, refl, refl))
-sized_value r k t (Def.Array (suc n) u) fits plain is child e h = let all = repeated r u.0 (suc n) (child u.0 (inl refl) h) in (branch list all.0, all.1, all.2, inl (suc n, u.0, e, all.3, all.4))
-sized_value r k t (Def.Tuple ts) fits plain is child e h = let all = all_values r (finite_within r k) (ids ts) child h in (branch fields all.0, all.1, all.2, (ids ts, e, all.3))
+    let all = all_values r (finite_within r k) (field_types l.arm.fields)
+        (λ u m. child u (l.refers u m)) l.holds in
+    (branch (arm l.position) all.0, l.arm.index ∷ all.1, (l.byte, all.2),
+        (arms, l.arm.index, l.arm, all.1, e, l.is, refl, all.3))
+sized_value r k t (Def.Sequence u) fits plain is child e h =
+    sequence_value r t u.0 (is_empty r u.0) e
+sized_value r k t (Def.Array zero u) fits plain is child e h =
+    (branch list none, [], tt, inl (0, u.0, e, refl, refl))
+sized_value r k t (Def.Array (suc n) u) fits plain is child e h = let all =
+    repeated r u.0 (suc n) (child u.0 (inl refl) h) in
+    (branch list all.0, all.1, all.2, inl (suc n, u.0, e, all.3, all.4))
+sized_value r k t (Def.Tuple ts) fits plain is child e h = let all =
+    all_values r (finite_within r k) (ids ts) child h in
+    (branch fields all.0, all.1, all.2, (ids ts, e, all.3))
 sized_value r k t (Def.Primitive p) fits plain is child e h = kind_value r t (kind_of p) e
-sized_value r k t (Def.Compact u) fits plain is child e h = compact_of r t (target_of r u.0) (λ none. plain t (Def.Compact u) here is none) e
-sized_value r k t (Def.BitSequence store order) fits plain is child e h = absurd (plain t (Def.BitSequence store order) here is tt)
+sized_value r k t (Def.Compact u) fits plain is child e h =
+    compact_of r t (target_of r u.0) (λ none. plain t (Def.Compact u) here is none) e
+sized_value r k t (Def.BitSequence store order) fits plain is child e h =
+    absurd (plain t (Def.BitSequence store order) here is tt)
 
 -- ---- by rank
 
-shape_of : (r : List TypeInfo) (p : TypeDef → Bool) (t : ℕ) → holds_at r p t ≡ true → (d : TypeDef) × (shape r t ≡ Some d) × (p d ≡ true)
+shape_of : (r : List TypeInfo) (p : TypeDef → Bool) (t : ℕ) → holds_at r p t ≡ true → (d : TypeDef)
+    × (shape r t ≡ Some d) × (p d ≡ true)
 shape_of [] p t e = absurd cc
 shape_of (x ∷ r) p zero e = (x.shape, refl, e)
 shape_of (x ∷ r) p (suc t) e = shape_of r p t e
 
-fits_at : (r : List TypeInfo) (t : ℕ) (d : TypeDef) → AllByRecursion FitsType r → shape r t ≡ Some d → FitsDefinition d
+fits_at : (r : List TypeInfo) (t : ℕ) (d : TypeDef) → AllByRecursion FitsType r →
+    shape r t ≡ Some d → FitsDefinition d
 fits_at [] t d h e = absurd cc
 fits_at (x ∷ r) zero d h e = let is : x.shape ≡ d = cc in subst FitsDefinition is h.0.2
 fits_at (x ∷ r) (suc t) d h e = fits_at r t d h.1 e
 
-some_value : (r : List TypeInfo) (k t : ℕ) (d : TypeDef) → FitsDefinition d → IsPlain r t → shape r t ≡ Some d → ((u : ℕ) → IsAmong u (references d) → finite_within r k u ≡ true → HasValue r u) → finite_step (finite_within r k) d ≡ true → (b : Bool) → is_empty r t ≡ b → HasValue r t
+some_value : (r : List TypeInfo) (k t : ℕ) (d : TypeDef) → FitsDefinition d → IsPlain r t →
+    shape r t ≡ Some d → ((u : ℕ) → IsAmong u (references d) → finite_within r k u ≡ true →
+    HasValue r u) → finite_step (finite_within r k) d ≡ true → (b : Bool) → is_empty r t ≡ b →
+    HasValue r t
 unfolding Val layout
 some_value r k t d fits plain is child h true e = (leaf unit, [], tt, (rw e refl, refl))
-some_value r k t d fits plain is child h false e = sized_value r k t d fits plain is child (rw (e, is) refl) h
+some_value r k t d fits plain is child h false e =
+    sized_value r k t d fits plain is child (rw (e, is) refl) h
 
-value_within : (r : List TypeInfo) → AllByRecursion FitsType r → (k t : ℕ) → finite_within r k t ≡ true → IsPlain r t → HasValue r t
+value_within : (r : List TypeInfo) → AllByRecursion FitsType r → (k t : ℕ) →
+    finite_within r k t ≡ true → IsPlain r t → HasValue r t
 unfolding finite_within
 value_within r fits zero t e plain = absurd cc
 value_within r fits (suc k) t e plain =
     let s = shape_of r (finite_step (finite_within r k)) t e in
-    some_value r k t s.0 (fits_at r t s.0 fits s.1) plain s.1 (λ u m f. value_within r fits k u f (λ w d reach. plain w d (there s.1 m reach))) s.2 (is_empty r t) refl
+    some_value r k t s.0 (fits_at r t s.0 fits s.1) plain s.1
+        (λ u m f. value_within r fits k u f (λ w d reach. plain w d (there s.1 m reach))) s.2
+        (is_empty r t) refl
 
 pub finite_has_value : FiniteHasValue
 finite_has_value r t fits finite plain = value_within r fits.1 finite.0 t finite.1 plain

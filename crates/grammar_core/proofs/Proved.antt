@@ -1,5 +1,7 @@
 -- The laws of values.
-use Rattle.std.proofs.Common.{◌≡◌, ℕ, ◌≤◌, max, ◌⊎◌, List, ◌++◌, Ok, Err, refl, sym, ap, ◌∙◌, arith, inl, inr}
+use Rattle.std.proofs.Common.{
+    ◌≡◌, ℕ, ◌≤◌, max, ◌⊎◌, List, ◌++◌, Ok, Err, refl, sym, ap, ◌∙◌, arith, inl, inr
+}
 use Rattle.std.specs.Prelude.{◌≢◌}
 use Rattle.std.proofs.lemmas.List.{append_cancel_right}
 use Rattle.scale_core.specs.Read.{Read}
@@ -8,7 +10,10 @@ use Rattle.registry_core.specs.declared.type_info.TypeInfo.{TypeInfo}
 use Rattle.grammar_core.specs.Tree.{Tree, levels}
 use Rattle.grammar_core.specs.Grammar.{Val}
 use Rattle.grammar_core.specs.Reading.{value_at, Refusal, truncated}
-use Rattle.grammar_core.specs.Laws.{Stands, Fails, ValueIsRead, ReadIsValue, ValuesArePrefixFree, ValueOrFault, ValueOrFaultNotBoth, FaultsAreStable}
+use Rattle.grammar_core.specs.Laws.{
+    Stands, Fails, ValueIsRead, ReadIsValue, ValuesArePrefixFree, ValueOrFault, ValueOrFaultNotBoth,
+    FaultsAreStable
+}
 use Rattle.grammar_core.proofs.Complete.{value_again}
 use Rattle.grammar_core.proofs.Sound.{value_takes}
 use Rattle.grammar_core.proofs.Stable.{value_extends}
@@ -16,24 +21,34 @@ use Rattle.grammar_core.proofs.Stable.{value_extends}
 pub value_is_read : ValueIsRead
 value_is_read = value_again
 
-stands_of : (r : List TypeInfo) (room t : ℕ) (b : List ℕ) (read : Read Refusal Tree) (v : Tree) (rest : List ℕ) → Takes (λ v c. Val r t v c × (levels v ≤ room)) b read → read ≡ Ok (v, rest) → Stands r room t b v rest
+stands_of : (r : List TypeInfo) (room t : ℕ) (b : List ℕ) (read : Read Refusal Tree) (v : Tree)
+    (rest : List ℕ) → Takes (λ v c. Val r t v c × (levels v ≤ room)) b read → read ≡ Ok (v, rest) →
+    Stands r room t b v rest
 stands_of r room t b (Err e) v rest h eq = absurd cc
 stands_of r room t b (Ok x) v rest h eq =
     let same = done_is {E = Refusal} x (v, rest) eq in
-    (h.0, rw (← ap (λ (p : Tree × List ℕ). p.1) same) h.1, rw (← ap (λ (p : Tree × List ℕ). p.0) same) h.2.0, rw (← ap (λ (p : Tree × List ℕ). p.0) same) h.2.1)
+    (h.0, rw (← ap (λ (p : Tree × List ℕ). p.1) same) h.1,
+        rw (← ap (λ (p : Tree × List ℕ). p.0) same) h.2.0,
+        rw (← ap (λ (p : Tree × List ℕ). p.0) same) h.2.1)
 
 pub read_is_value : ReadIsValue
-read_is_value r room t b v rest e = stands_of r room t b (value_at r room t b) v rest (value_takes r room t b) e
+read_is_value r room t b v rest e =
+    stands_of r room t b (value_at r room t b) v rest (value_takes r room t b) e
 
 pub prefix_free : ValuesArePrefixFree
 prefix_free r t v w a b rest more h k e =
     let room = max (levels v) (levels w) in
     let one = value_again r room t v a rest h (omega arith) in
     let two = value_again r room t w b more k (omega arith) in
-    let same = done_is {E = Refusal} (v, rest) (w, more) (sym one ∙ ap (value_at r room t) e ∙ two) in
-    (ap (λ (p : Tree × List ℕ). p.0) same, append_cancel_right a b rest (e ∙ ap (λ (x : List ℕ). b ++ x) (sym (ap (λ (p : Tree × List ℕ). p.1) same))))
+    let same = done_is {E = Refusal} (v, rest) (w, more)
+        (sym one ∙ ap (value_at r room t) e ∙ two) in
+    (ap (λ (p : Tree × List ℕ). p.0) same,
+        append_cancel_right a b rest (e
+        ∙ ap (λ (x : List ℕ). b ++ x) (sym (ap (λ (p : Tree × List ℕ). p.1) same))))
 
-either : (r : List TypeInfo) (room t : ℕ) (b : List ℕ) (read : Read Refusal Tree) → value_at r room t b ≡ read → ((v : Tree) × (rest : List ℕ) × Stands r room t b v rest) ⊎ ((reason : Refusal) × (left : List ℕ) × Fails r room t b reason left)
+either : (r : List TypeInfo) (room t : ℕ) (b : List ℕ) (read : Read Refusal Tree) →
+    value_at r room t b ≡ read → ((v : Tree) × (rest : List ℕ) × Stands r room t b v rest)
+    ⊎ ((reason : Refusal) × (left : List ℕ) × Fails r room t b reason left)
 either r room t b (Ok x) e = inl (x.0, x.1, read_is_value r room t b x.0 x.1 e)
 either r room t b (Err x) e = inr (x.0, x.1, e)
 
@@ -46,8 +61,12 @@ not_both r room t b v rest reason left h k =
     let two : value_at r room t (h.0 ++ rest) ≡ Err (reason, left) = rw (← h.1) k in
     absurd cc
 
-stable_of : (more : List ℕ) (read read' : Read Refusal Tree) (reason : Refusal) (left : List ℕ) → Extends truncated more read read' → reason ≢ truncated → read ≡ Err (reason, left) → read' ≡ Err (reason, left ++ more)
+stable_of : (more : List ℕ) (read read' : Read Refusal Tree) (reason : Refusal) (left : List ℕ) →
+    Extends truncated more read read' → reason ≢ truncated → read ≡ Err (reason, left) →
+    read' ≡ Err (reason, left ++ more)
 stable_of more read read' reason left h ne e = (rw e at h) ne
 
 pub stable : FaultsAreStable
-stable r room t b more reason left ne e = stable_of more (value_at r room t b) (value_at r room t (b ++ more)) reason left (value_extends r room t b more) ne e
+stable r room t b more reason left ne e =
+    stable_of more (value_at r room t b) (value_at r room t (b ++ more)) reason left
+    (value_extends r room t b more) ne e

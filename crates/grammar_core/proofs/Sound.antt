@@ -1,5 +1,8 @@
 -- What is read is a value, and its bytes stood on the front.
-use Rattle.std.proofs.Common.{◌≡◌, ℕ, zero, suc, ◌≤◌, List, [], ◌∷◌, ◌++◌, length, Option, Some, None, Ok, Err, refl, ap, arith, inl, inr}
+use Rattle.std.proofs.Common.{
+    ◌≡◌, ℕ, zero, suc, ◌≤◌, List, [], ◌∷◌, ◌++◌, length, Option, Some, None, Ok, Err, refl, ap,
+    arith, inl, inr
+}
 use Rattle.std.proofs.lemmas.List.{append-nil}
 use Rattle.scale_core.specs.Number.{number, signed_number, is_scalar}
 use Rattle.scale_core.specs.Compact.{IsCompact}
@@ -8,7 +11,9 @@ use Rattle.scale_core.specs.Read.{Read, compact_at, text_at, bytes_at}
 use Rattle.scale_core.specs.declared.compact.Target.TheVariants as target
 use Rattle.scale_core.specs.declared.fault.Reason.{Reason}
 use Rattle.scale_core.specs.declared.fault.Reason.TheVariants as reasons
-use Rattle.scale_core.proofs.Results.{Takes, cond_takes, then_takes, bind_takes, bytes_takes, compact_takes, text_takes}
+use Rattle.scale_core.proofs.Results.{
+    Takes, cond_takes, then_takes, bind_takes, bytes_takes, compact_takes, text_takes
+}
 use Rattle.registry_core.specs.declared.definition.Arm.{Arm}
 use Rattle.registry_core.specs.declared.type_info.TypeInfo.{TypeInfo}
 use Rattle.graph_core.specs.Types.{field_types}
@@ -16,15 +21,25 @@ use Rattle.widths_core.specs.Arms.{arm_of}
 use Rattle.widths_core.specs.Classes.{is_finite}
 use Rattle.widths_core.specs.Layouts.{Layout, layout}
 use Rattle.widths_core.specs.Layouts as layout
-use Rattle.grammar_core.specs.Tree.{Leaf, Branch, Tree, leaf, branch, char, text, unsigned, signed, wide, compact, fields, arm, list, count, Trees, how_many, levels, most_levels}
+use Rattle.grammar_core.specs.Tree.{
+    Leaf, Branch, Tree, leaf, branch, char, text, unsigned, signed, wide, compact, fields, arm,
+    list, count, Trees, how_many, levels, most_levels
+}
 use Rattle.grammar_core.specs.Grammar.{Val, Vals, Each}
-use Rattle.grammar_core.specs.Reading.{value_at, layout_at, bool_at, char_from, all_at, times_at, arm_at, arms_at, elements_at, as_leaf, with_children, Refusal, basic}
+use Rattle.grammar_core.specs.Reading.{
+    value_at, layout_at, bool_at, char_from, all_at, times_at, fields_behind_index, arms_at,
+    elements_at, as_leaf, with_children, Refusal, basic
+}
 
-as_leaf_takes : {X : Type 0} (P : X → List ℕ → Type 0) (Q : Tree → List ℕ → Type 0) (make : X → Leaf) (b : List ℕ) (read : Read Reason X) → Takes P b read → ((x : X) (c : List ℕ) → P x c → Q (leaf (make x)) c) → Takes Q b (as_leaf make read)
+as_leaf_takes : {X : Type 0} (P : X → List ℕ → Type 0) (Q : Tree → List ℕ → Type 0)
+    (make : X → Leaf) (b : List ℕ) (read : Read Reason X) → Takes P b read →
+    ((x : X) (c : List ℕ) → P x c → Q (leaf (make x)) c) → Takes Q b (as_leaf make read)
 as_leaf_takes P Q make b (Ok x) h f = (h.0, h.1, f x.0 h.0 h.2)
 as_leaf_takes P Q make b (Err e) h f = tt
 
-with_children_takes : (P : Trees → List ℕ → Type 0) (Q : Tree → List ℕ → Type 0) (k : Branch) (b : List ℕ) (read : Read Refusal Trees) → Takes P b read → ((x : Trees) (c : List ℕ) → P x c → Q (branch k x) c) → Takes Q b (with_children k read)
+with_children_takes : (P : Trees → List ℕ → Type 0) (Q : Tree → List ℕ → Type 0) (k : Branch)
+    (b : List ℕ) (read : Read Refusal Trees) → Takes P b read →
+    ((x : Trees) (c : List ℕ) → P x c → Q (branch k x) c) → Takes Q b (with_children k read)
 with_children_takes P Q k b (Ok x) h f = (h.0, h.1, f x.0 h.0 h.2)
 with_children_takes P Q k b (Err e) h f = tt
 
@@ -41,70 +56,122 @@ Times r room n t vs c = Each r t vs c × (how_many vs ≡ n) × (most_levels vs 
 abbrev ChildTakes : List TypeInfo → ℕ → (ℕ → List ℕ → Read Refusal Tree) → Type 0
 ChildTakes r room child = (t : ℕ) (b : List ℕ) → Takes (One r room t) b (child t b)
 
-all_takes : (r : List TypeInfo) (room : ℕ) (child : ℕ → List ℕ → Read Refusal Tree) → ChildTakes r room child → (ts : List ℕ) (b : List ℕ) → Takes (Some_of r room ts) b (all_at child ts b)
+all_takes : (r : List TypeInfo) (room : ℕ) (child : ℕ → List ℕ → Read Refusal Tree) →
+    ChildTakes r room child → (ts : List ℕ) (b : List ℕ) →
+    Takes (Some_of r room ts) b (all_at child ts b)
 unfolding Val
 all_takes r room child h [] b = ([], refl, (refl, omega arith))
-all_takes r room child h (t ∷ ts) b = bind_takes (One r room t) (Some_of r room (t ∷ ts)) b (child t b) _ (h t b) (λ v c val.
-    bind_takes (Some_of r room ts) (λ vs d. Some_of r room (t ∷ ts) vs (c ++ d)) v.1 (all_at child ts v.1) _ (all_takes r room child h ts v.1) (λ vs d vals.
+all_takes r room child h (t ∷ ts) b =
+    bind_takes (One r room t) (Some_of r room (t ∷ ts)) b (child t b) _ (h t b) (λ v c val.
+    bind_takes (Some_of r room ts) (λ vs d. Some_of r room (t ∷ ts) vs (c ++ d)) v.1
+        (all_at child ts v.1) _ (all_takes r room child h ts v.1) (λ vs d vals.
     ([], refl, ((c, d, rw append-nil refl, val.0, vals.0), omega arith))))
 
-times_takes : (r : List TypeInfo) (room : ℕ) (child : ℕ → List ℕ → Read Refusal Tree) → ChildTakes r room child → (n t : ℕ) (b : List ℕ) → Takes (Times r room n t) b (times_at child n t b)
+times_takes : (r : List TypeInfo) (room : ℕ) (child : ℕ → List ℕ → Read Refusal Tree) →
+    ChildTakes r room child → (n t : ℕ) (b : List ℕ) →
+    Takes (Times r room n t) b (times_at child n t b)
 unfolding Val
 times_takes r room child h zero t b = ([], refl, (refl, refl, omega arith))
-times_takes r room child h (suc n) t b = bind_takes (One r room t) (Times r room (suc n) t) b (child t b) _ (h t b) (λ v c val.
-    bind_takes (Times r room n t) (λ vs d. Times r room (suc n) t vs (c ++ d)) v.1 (times_at child n t v.1) _ (times_takes r room child h n t v.1) (λ vs d vals.
-    ([], refl, ((c, d, rw append-nil refl, val.0, vals.0), ap (λ (k : ℕ). suc k) vals.1, omega arith))))
+times_takes r room child h (suc n) t b =
+    bind_takes (One r room t) (Times r room (suc n) t) b (child t b) _ (h t b) (λ v c val.
+    bind_takes (Times r room n t) (λ vs d. Times r room (suc n) t vs (c ++ d)) v.1
+        (times_at child n t v.1) _ (times_takes r room child h n t v.1) (λ vs d vals.
+    ([], refl, ((c, d, rw append-nil refl, val.0, vals.0), ap (λ (k : ℕ). suc k) vals.1,
+        omega arith))))
 
-bool_takes : (r : List TypeInfo) (room t : ℕ) (b : List ℕ) → layout r t ≡ (layout.plain layout.bool) → Takes (One r (suc room) t) b (bool_at b)
+bool_takes : (r : List TypeInfo) (room t : ℕ) (b : List ℕ) →
+    layout r t ≡ (layout.plain layout.bool) → Takes (One r (suc room) t) b (bool_at b)
 unfolding Val
 bool_takes r room t [] e = tt
 bool_takes r room t (zero ∷ b) e = (0 ∷ [], refl, ((e, refl), omega arith))
 bool_takes r room t (suc zero ∷ b) e = (1 ∷ [], refl, ((e, refl), omega arith))
 bool_takes r room t (suc (suc x) ∷ b) e = tt
 
-char_takes : (r : List TypeInfo) (room t : ℕ) (b : List ℕ) (read : Read Reason (List ℕ)) → layout r t ≡ (layout.plain layout.char) → Takes (λ x c. (c ≡ x) × (length c ≡ 4)) b read → Takes (One r (suc room) t) b (char_from b read)
+char_takes : (r : List TypeInfo) (room t : ℕ) (b : List ℕ) (read : Read Reason (List ℕ)) →
+    layout r t ≡ (layout.plain layout.char) → Takes (λ x c. (c ≡ x) × (length c ≡ 4)) b read →
+    Takes (One r (suc room) t) b (char_from b read)
 unfolding Val
 char_takes r room t b (Err e) f h = tt
-char_takes r room t b (Ok x) f h = cond_takes (One r (suc room) t) b (is_scalar (number x.0)) (Ok (leaf (char (number x.0)), x.1)) (Err (basic reasons.BadChar, b)) (λ e. (h.0, h.1, ((f, h.2.1, ap number h.2.0, e), omega arith))) (λ e. tt)
+char_takes r room t b (Ok x) f h =
+    cond_takes (One r (suc room) t) b (is_scalar (number x.0)) (Ok (leaf (char (number x.0)), x.1))
+    (Err (basic reasons.BadChar, b))
+    (λ e. (h.0, h.1, ((f, h.2.1, ap number h.2.0, e), omega arith))) (λ e. tt)
 
-arm_takes : (r : List TypeInfo) (room t : ℕ) (child : ℕ → List ℕ → Read Refusal Tree) → ChildTakes r room child → (arms : List Arm) → layout r t ≡ layout.arms arms → (i : ℕ) (b : List ℕ) (found : Option (ℕ × Arm)) → arm_of arms i ≡ found → Takes (One r (suc room) t) (i ∷ b) (arm_at child (i ∷ b) found b)
+arm_takes : (r : List TypeInfo) (room t : ℕ) (child : ℕ → List ℕ → Read Refusal Tree) →
+    ChildTakes r room child → (arms : List Arm) → layout r t ≡ layout.arms arms →
+    (i : ℕ) (b : List ℕ) (found : Option (ℕ × Arm)) → arm_of arms i ≡ found →
+    Takes (One r (suc room) t) (i ∷ b) (fields_behind_index child (i ∷ b) found b)
 unfolding Val
 arm_takes r room t child h arms f i b None e = tt
-arm_takes r room t child h arms f i b (Some a) e = then_takes (One r (suc room) t) (i ∷ b) (i ∷ []) b _ refl
-    (with_children_takes (Some_of r room (field_types a.1.fields)) (λ v d. One r (suc room) t v (i ∷ d)) (arm a.0) b (all_at child (field_types a.1.fields) b) (all_takes r room child h (field_types a.1.fields) b) (λ vs c vals.
+arm_takes r room t child h arms f i b (Some a) e =
+    then_takes (One r (suc room) t) (i ∷ b) (i ∷ []) b _ refl
+    (with_children_takes (Some_of r room (field_types a.1.fields))
+        (λ v d. One r (suc room) t v (i ∷ d)) (arm a.0) b (all_at child (field_types a.1.fields) b)
+        (all_takes r room child h (field_types a.1.fields) b) (λ vs c vals.
     ((arms, i, a.1, c, f, e, refl, vals.0), omega arith)))
 
-arms_takes : (r : List TypeInfo) (room t : ℕ) (child : ℕ → List ℕ → Read Refusal Tree) → ChildTakes r room child → (arms : List Arm) → layout r t ≡ layout.arms arms → (b : List ℕ) → Takes (One r (suc room) t) b (arms_at child arms b)
+arms_takes : (r : List TypeInfo) (room t : ℕ) (child : ℕ → List ℕ → Read Refusal Tree) →
+    ChildTakes r room child → (arms : List Arm) → layout r t ≡ layout.arms arms → (b : List ℕ) →
+    Takes (One r (suc room) t) b (arms_at child arms b)
 arms_takes r room t child h arms f [] = tt
-arms_takes r room t child h arms f (i ∷ b) = arm_takes r room t child h arms f i b (arm_of arms i) refl
+arms_takes r room t child h arms f (i ∷ b) =
+    arm_takes r room t child h arms f i b (arm_of arms i) refl
 
-elements_takes : (r : List TypeInfo) (room t u : ℕ) (child : ℕ → List ℕ → Read Refusal Tree) → ChildTakes r room child → layout r t ≡ layout.sequence u → (b : List ℕ) (read : Read Reason ℕ) → Takes (IsCompact target.U32) b read → Takes (One r (suc room) t) b (elements_at child u read)
+elements_takes : (r : List TypeInfo) (room t u : ℕ) (child : ℕ → List ℕ → Read Refusal Tree) →
+    ChildTakes r room child → layout r t ≡ layout.sequence u → (b : List ℕ) (read : Read Reason ℕ) →
+    Takes (IsCompact target.U32) b read → Takes (One r (suc room) t) b (elements_at child u read)
 unfolding Val
 elements_takes r room t u child h f b (Err e) k = tt
 elements_takes r room t u child h f b (Ok n) k = then_takes (One r (suc room) t) b k.0 n.1 _ k.1
-    (with_children_takes (Times r room n.0 u) (λ v d. One r (suc room) t v (k.0 ++ d)) list n.1 (times_at child n.0 u n.1) (times_takes r room child h n.0 u n.1) (λ vs c vals.
+    (with_children_takes (Times r room n.0 u) (λ v d. One r (suc room) t v (k.0 ++ d)) list n.1
+        (times_at child n.0 u n.1) (times_takes r room child h n.0 u n.1) (λ vs c vals.
     (inr (u, k.0, c, f, rw vals.1 k.2, refl, vals.0), omega arith)))
 
-layout_takes : (r : List TypeInfo) (room t : ℕ) (child : ℕ → List ℕ → Read Refusal Tree) → ChildTakes r room child → (f : Layout) → layout r t ≡ f → (b : List ℕ) → Takes (One r (suc room) t) b (layout_at child f b)
+layout_takes : (r : List TypeInfo) (room t : ℕ) (child : ℕ → List ℕ → Read Refusal Tree) →
+    ChildTakes r room child → (f : Layout) → layout r t ≡ f → (b : List ℕ) →
+    Takes (One r (suc room) t) b (layout_at child f b)
 unfolding Val layout_at
 layout_takes r room t child h layout.unknown e b = tt
 layout_takes r room t child h layout.bit_sequence e b = tt
 layout_takes r room t child h layout.bad_compact e b = tt
 layout_takes r room t child h (layout.plain layout.empty) e b = ([], refl, ((e, refl), omega arith))
 layout_takes r room t child h (layout.plain layout.bool) e b = bool_takes r room t b e
-layout_takes r room t child h (layout.plain layout.char) e b = char_takes r room t b (bytes_at 4 b) e (bytes_takes 4 b)
-layout_takes r room t child h (layout.plain layout.text) e b = as_leaf_takes IsText (One r (suc room) t) text b (text_at b) (text_takes b) (λ s c is. ((e, is), omega arith))
-layout_takes r room t child h (layout.plain (layout.unsigned k)) e b = as_leaf_takes (λ x c. (c ≡ x) × (length c ≡ k)) (One r (suc room) t) (λ b. unsigned (number b)) b (bytes_at k b) (bytes_takes k b) (λ x c is. ((k, e, is.1, ap number is.0), omega arith))
-layout_takes r room t child h (layout.plain (layout.signed k)) e b = as_leaf_takes (λ x c. (c ≡ x) × (length c ≡ k)) (One r (suc room) t) (λ b. signed (signed_number b)) b (bytes_at k b) (bytes_takes k b) (λ x c is. ((k, e, is.1, ap signed_number is.0), omega arith))
-layout_takes r room t child h (layout.plain layout.wide) e b = as_leaf_takes (λ x c. (c ≡ x) × (length c ≡ 32)) (One r (suc room) t) wide b (bytes_at 32 b) (bytes_takes 32 b) (λ x c is. ((e, is.1, is.0), omega arith))
-layout_takes r room t child h (layout.fields ts) e b = with_children_takes (Some_of r room ts) (One r (suc room) t) fields b (all_at child ts b) (all_takes r room child h ts b) (λ vs c vals. ((ts, e, vals.0), omega arith))
+layout_takes r room t child h (layout.plain layout.char) e b =
+    char_takes r room t b (bytes_at 4 b) e (bytes_takes 4 b)
+layout_takes r room t child h (layout.plain layout.text) e b =
+    as_leaf_takes IsText (One r (suc room) t) text b (text_at b) (text_takes b)
+    (λ s c is. ((e, is), omega arith))
+layout_takes r room t child h (layout.plain (layout.unsigned k)) e b =
+    as_leaf_takes (λ x c. (c ≡ x) × (length c ≡ k)) (One r (suc room) t) (λ b. unsigned (number b))
+    b (bytes_at k b) (bytes_takes k b) (λ x c is. ((k, e, is.1, ap number is.0), omega arith))
+layout_takes r room t child h (layout.plain (layout.signed k)) e b =
+    as_leaf_takes (λ x c. (c ≡ x) × (length c ≡ k)) (One r (suc room) t)
+    (λ b. signed (signed_number b)) b (bytes_at k b) (bytes_takes k b)
+    (λ x c is. ((k, e, is.1, ap signed_number is.0), omega arith))
+layout_takes r room t child h (layout.plain layout.wide) e b =
+    as_leaf_takes (λ x c. (c ≡ x) × (length c ≡ 32)) (One r (suc room) t) wide b (bytes_at 32 b)
+    (bytes_takes 32 b) (λ x c is. ((e, is.1, is.0), omega arith))
+layout_takes r room t child h (layout.fields ts) e b =
+    with_children_takes (Some_of r room ts) (One r (suc room) t) fields b (all_at child ts b)
+    (all_takes r room child h ts b) (λ vs c vals. ((ts, e, vals.0), omega arith))
 layout_takes r room t child h (layout.arms arms) e b = arms_takes r room t child h arms e b
-layout_takes r room t child h (layout.plain layout.counted) e b = as_leaf_takes (IsCompact target.U32) (One r (suc room) t) count b (compact_at target.U32 b) (compact_takes target.U32 b) (λ k c is. ((e, is), omega arith))
-layout_takes r room t child h (layout.sequence u) e b = elements_takes r room t u child h e b (compact_at target.U32 b) (compact_takes target.U32 b)
-layout_takes r room t child h (layout.array n u) e b = with_children_takes (Times r room n u) (One r (suc room) t) list b (times_at child n u b) (times_takes r room child h n u b) (λ vs c vals. (inl (n, u, e, vals.1, vals.0), omega arith))
-layout_takes r room t child h (layout.plain (layout.compact m)) e b = as_leaf_takes (IsCompact m) (One r (suc room) t) compact b (compact_at m b) (compact_takes m b) (λ x c is. ((m, e, is), omega arith))
+layout_takes r room t child h (layout.plain layout.counted) e b =
+    as_leaf_takes (IsCompact target.U32) (One r (suc room) t) count b (compact_at target.U32 b)
+    (compact_takes target.U32 b) (λ k c is. ((e, is), omega arith))
+layout_takes r room t child h (layout.sequence u) e b =
+    elements_takes r room t u child h e b (compact_at target.U32 b) (compact_takes target.U32 b)
+layout_takes r room t child h (layout.array n u) e b =
+    with_children_takes (Times r room n u) (One r (suc room) t) list b (times_at child n u b)
+    (times_takes r room child h n u b) (λ vs c vals. (inl (n, u, e, vals.1, vals.0), omega arith))
+layout_takes r room t child h (layout.plain (layout.compact m)) e b =
+    as_leaf_takes (IsCompact m) (One r (suc room) t) compact b (compact_at m b) (compact_takes m b)
+    (λ x c is. ((m, e, is), omega arith))
 
-pub value_takes : (r : List TypeInfo) (room t : ℕ) (b : List ℕ) → Takes (One r room t) b (value_at r room t b)
+pub value_takes : (r : List TypeInfo) (room t : ℕ) (b : List ℕ) →
+    Takes (One r room t) b (value_at r room t b)
 unfolding value_at
 value_takes r zero t b = tt
-value_takes r (suc room) t b = cond_takes (One r (suc room) t) b (is_finite r t) _ _ (λ e. layout_takes r room t (value_at r room) (λ u c. value_takes r room u c) (layout r t) refl b) (λ e. tt)
+value_takes r (suc room) t b =
+    cond_takes (One r (suc room) t) b (is_finite r t) _ _
+    (λ e. layout_takes r room t (value_at r room) (λ u c. value_takes r room u c) (layout r t) refl
+    b) (λ e. tt)

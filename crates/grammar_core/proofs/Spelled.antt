@@ -1,5 +1,8 @@
 -- The bytes that spell a value by the grammar are those of its nodes.
-use Rattle.std.proofs.Common.{◌≡◌, ℕ, zero, suc, ◌+◌, ◌-◌, ◌*◌, ◌/◌, ◌%◌, ◌^◌, ◌<◌, ◌≤◌, Bool, true, false, cond, List, [], ◌∷◌, ◌++◌, length, flat_map, Option, Some, None, refl, sym, ap, subst, ◌∙◌, arith, inl, inr}
+use Rattle.std.proofs.Common.{
+    ◌≡◌, ℕ, zero, suc, ◌+◌, ◌-◌, ◌*◌, ◌/◌, ◌%◌, ◌^◌, ◌<◌, ◌≤◌, Bool, true, false, cond, List, [],
+    ◌∷◌, ◌++◌, length, flat_map, Option, Some, None, refl, sym, ap, subst, ◌∙◌, arith, inl, inr
+}
 use Rattle.std.specs.Prelude.{ℤ, pos, neg_ℤ, nat_lt, slice_get}
 use Rattle.std.proofs.lemmas.List.{append-nil}
 use Rattle.std.proofs.lemmas.Nat.{pow-add}
@@ -9,7 +12,9 @@ use Rattle.scale_core.specs.Number.{AreBytes, number, signed_number, le_bytes}
 use Rattle.scale_core.specs.Compact.{compact, IsCompact}
 use Rattle.scale_core.specs.declared.compact.Target.{Target}
 use Rattle.scale_core.specs.declared.compact.Target.TheVariants as target
-use Rattle.scale_core.proofs.Numbers.{le_bytes-number, number-bound, front_bytes, rest_bytes, neg-pos}
+use Rattle.scale_core.proofs.Numbers.{
+    le_bytes-number, number-bound, front_bytes, rest_bytes, neg-pos
+}
 use Rattle.registry_core.specs.declared.definition.Arm.{Arm}
 use Rattle.registry_core.specs.Kinds.{kind_of}
 use Rattle.registry_core.specs.declared.kind.PrimitiveKind.{PrimitiveKind}
@@ -22,17 +27,25 @@ use Rattle.graph_core.specs.Types.{shape, field_types}
 use Rattle.widths_core.specs.Arms.{arm_of}
 use Rattle.widths_core.specs.Targets.{target_of}
 use Rattle.widths_core.specs.Classes.{is_empty}
-use Rattle.widths_core.specs.Layouts.{Layout, layout, layout_of_shape, sized_layout, kind_layout, sequence_layout, compact_layout}
+use Rattle.widths_core.specs.Layouts.{
+    Layout, layout, layout_of_shape, sized_layout, kind_layout, sequence_layout, compact_layout
+}
 use Rattle.widths_core.specs.Layouts as layout
 use Rattle.widths_core.proofs.Known.{empty_class, layout_empty}
 use Rattle.widths_core.proofs.FirstArm.{arm_is_first}
-use Rattle.grammar_core.specs.Tree.{Tree, leaf, branch, unit, bool, char, text, unsigned, signed, wide, fields, arm, list, count, Trees, none, and, how_many, Leaf}
+use Rattle.grammar_core.specs.Tree.{
+    Tree, leaf, branch, unit, bool, char, text, unsigned, signed, wide, fields, arm, list, count,
+    Trees, none, and, how_many, Leaf
+}
 use Rattle.grammar_core.specs.Tree as tree
-use Rattle.grammar_core.specs.Grammar.{Val, Vals, Each, IsLeaf}
+use Rattle.grammar_core.specs.Grammar.{Val, Vals, Each, SpellsLeaf}
 use Rattle.grammar_core.specs.Parts.{each, times}
 use Rattle.grammar_core.specs.Cells.{cells, all_cells}
 use Rattle.grammar_core.proofs.Emptiness.{known_at}
-use Rattle.grammar_core.specs.Spelled.{leaf_bytes, kind_width, width_of, word, index_of, index_byte, is_sequence, length_bytes, cell_bytes, spelled, EncodedIsValue}
+use Rattle.grammar_core.specs.Spelled.{
+    leaf_spelling, kind_width, width_of, word, index_of, index_byte, is_sequence, length_bytes,
+    cell_bytes, spelled, EncodedIsValue
+}
 
 -- ---- what the layout of a type says of its definition
 
@@ -44,7 +57,8 @@ Shaped (layout.sequence t) d = is_sequence d ≡ true
 Shaped (layout.array n t) d = is_sequence d ≡ false
 Shaped _ d = Unit {0}
 
-shaped_kind : (k : PrimitiveKind) (d : Option TypeDef) → width_of d ≡ kind_width k → Shaped (kind_layout k) d
+shaped_kind : (k : PrimitiveKind) (d : Option TypeDef) → width_of d ≡ kind_width k →
+    Shaped (kind_layout k) d
 shaped_kind K.Bool d h = tt
 shaped_kind K.Char d h = tt
 shaped_kind K.Str d h = tt
@@ -52,7 +66,8 @@ shaped_kind (K.Unsigned w) d h = h
 shaped_kind (K.Signed w) d h = (h, width_most w)
 shaped_kind (K.Wide s) d h = tt
 
-shaped_sequence : (t : ℕ) (e : Bool) (d : Option TypeDef) → is_sequence d ≡ true → Shaped (sequence_layout t e) d
+shaped_sequence : (t : ℕ) (e : Bool) (d : Option TypeDef) → is_sequence d ≡ true →
+    Shaped (sequence_layout t e) d
 shaped_sequence t true d h = tt
 shaped_sequence t false d h = h
 
@@ -103,7 +118,8 @@ mul-pred m n h =
     ap (λ (x : ℕ). m * x) is ∙ mul-add m (n - 1) 1 ∙ omega arith
 
 -- k bytes that spell an integer are those of its 128 bits
-signed_by : (b : List ℕ) (c : Bool) (range : ℕ) → AreBytes b → length b ≤ 16 → range ≡ 256 ^ length b →
+signed_by : (b : List ℕ) (c : Bool) (range : ℕ) → AreBytes b → length b ≤ 16 →
+    range ≡ 256 ^ length b →
     le_bytes (length b) (word (cond c (pos (number b)) (neg_ℤ (pos (range - number b))))) ≡ b
 signed_by b true range h small is = le_bytes-number b h
 signed_by b false range h small is =
@@ -112,25 +128,35 @@ signed_by b false range h small is =
     let less : n < range = rw is (number-bound b h) in
     let above : ℕ = 256 ^ (16 - k) in
     let sixteen : k + (16 - k) ≡ 16 = omega arith in
-    let whole : range * above ≡ 2 ^ 128 = ap (λ (x : ℕ). x * above) is ∙ sym (pow-add 256 k (16 - k)) ∙ ap (λ (x : ℕ). 256 ^ x) sixteen in
+    let whole : range * above ≡ 2 ^ 128 = ap (λ (x : ℕ). x * above) is
+        ∙ sym (pow-add 256 k (16 - k)) ∙ ap (λ (x : ℕ). 256 ^ x) sixteen in
     let some : 0 < above = pow-pos (16 - k) in
     let split : range * above ≡ range * (above - 1) + range = mul-pred range above some in
-    let spelled : word (neg_ℤ (pos (range - n))) ≡ n + range * (above - 1) = ap word (neg-pos (range - n) (omega arith)) ∙ omega (arith, whole, split, less) in
-    ap (le_bytes k) (spelled ∙ ap (λ (x : ℕ). n + x * (above - 1)) is) ∙ le_bytes-above k n (above - 1) ∙ le_bytes-number b h
+    let spelled : word (neg_ℤ (pos (range - n))) ≡ n + range * (above - 1) =
+        ap word (neg-pos (range - n) (omega arith)) ∙ omega (arith, whole, split, less) in
+    ap (le_bytes k) (spelled ∙ ap (λ (x : ℕ). n + x * (above - 1)) is)
+        ∙ le_bytes-above k n (above - 1) ∙ le_bytes-number b h
 
-signed_bytes_are : (k : ℕ) (z : ℤ) (b : List ℕ) → AreBytes b → k ≤ 16 → length b ≡ k → signed_number b ≡ z → le_bytes k (word z) ≡ b
+signed_bytes_are : (k : ℕ) (z : ℤ) (b : List ℕ) → AreBytes b → k ≤ 16 → length b ≡ k →
+    signed_number b ≡ z → le_bytes k (word z) ≡ b
 signed_bytes_are k z b h small len e =
-    ap (λ (x : ℕ). le_bytes x (word z)) (sym len) ∙ ap (λ (y : ℤ). le_bytes (length b) (word y)) (sym e)
-    ∙ signed_by b (nat_lt (2 * number b) (256 ^ length b)) (256 ^ length b) h (omega (arith, len)) refl
+    ap (λ (x : ℕ). le_bytes x (word z)) (sym len)
+        ∙ ap (λ (y : ℤ). le_bytes (length b) (word y)) (sym e)
+    ∙ signed_by b (nat_lt (2 * number b) (256 ^ length b)) (256 ^ length b) h (omega (arith, len))
+        refl
 
-unsigned_bytes_are : (k n : ℕ) (b : List ℕ) → AreBytes b → length b ≡ k → number b ≡ n → le_bytes k n ≡ b
-unsigned_bytes_are k n b h len e = ap (λ (x : ℕ). le_bytes x n) (sym len) ∙ ap (le_bytes (length b)) (sym e) ∙ le_bytes-number b h
+unsigned_bytes_are : (k n : ℕ) (b : List ℕ) → AreBytes b → length b ≡ k → number b ≡ n →
+    le_bytes k n ≡ b
+unsigned_bytes_are k n b h len e = ap (λ (x : ℕ). le_bytes x n) (sym len)
+    ∙ ap (le_bytes (length b)) (sym e) ∙ le_bytes-number b h
 
 -- ---- a compact integer is no value without bytes
 
-compact_is : (r : List TypeInfo) (t : ℕ) (m : Target) (x : ℕ) (b : List ℕ) → layout r t ≡ layout.plain (layout.compact m) → IsCompact m x b → compact x ≡ b
+compact_is : (r : List TypeInfo) (t : ℕ) (m : Target) (x : ℕ) (b : List ℕ) →
+    layout r t ≡ layout.plain (layout.compact m) → IsCompact m x b → compact x ≡ b
 compact_is r t target.Unit x b e h =
-    let empty = layout_empty r t (empty_class r t (known_at r t (layout.plain (layout.compact target.Unit)) e refl)) in
+    let empty = layout_empty r t
+        (empty_class r t (known_at r t (layout.plain (layout.compact target.Unit)) e refl)) in
     let no = sym empty ∙ e in absurd cc
 compact_is r t target.U8 x b e h = sym h.1
 compact_is r t target.U16 x b e h = sym h.1
@@ -140,40 +166,54 @@ compact_is r t target.U128 x b e h = sym h.1
 
 -- ---- the index of an arm
 
-get_at : (before : List Arm) (a : Arm) (after : List Arm) → slice_get (before ++ a ∷ after) (length before) ≡ Some a
+get_at : (before : List Arm) (a : Arm) (after : List Arm) →
+    slice_get (before ++ a ∷ after) (length before) ≡ Some a
 get_at [] a after = refl
 get_at (x ∷ before) a after = get_at before a after
 
-arm_get : (arms : List Arm) (i q : ℕ) (a : Arm) → arm_of arms i ≡ Some (q, a) → slice_get arms q ≡ Some a
+arm_get : (arms : List Arm) (i q : ℕ) (a : Arm) → arm_of arms i ≡ Some (q, a) →
+    slice_get arms q ≡ Some a
 arm_get arms i q a e =
     let s = (arm_is_first arms i q a).0 e in
-    ap (λ (x : List Arm). slice_get x q) s.2 ∙ ap (slice_get (s.0 ++ a ∷ s.1)) s.3 ∙ get_at s.0 a s.1
+    ap (λ (x : List Arm). slice_get x q) s.2 ∙ ap (slice_get (s.0 ++ a ∷ s.1)) s.3
+        ∙ get_at s.0 a s.1
 
-index_at : (arms : List Arm) (i q : ℕ) (a : Arm) → arm_of arms i ≡ Some (q, a) → index_byte (index_of (Some (Def.Variant arms)) q) ≡ i ∷ []
+index_at : (arms : List Arm) (i q : ℕ) (a : Arm) → arm_of arms i ≡ Some (q, a) →
+    index_byte (index_of (Some (Def.Variant arms)) q) ≡ i ∷ []
 index_at arms i q a e =
     let s = (arm_is_first arms i q a).0 e in
     rw (arm_get arms i q a e) (ap (λ (x : ℕ). x ∷ []) s.4)
 
 -- ---- what stands in front of children
 
-pub arm_byte : (r : List TypeInfo) (t : ℕ) (arms : List Arm) (i q : ℕ) (a : Arm) → layout r t ≡ layout.arms arms → arm_of arms i ≡ Some (q, a) → index_byte (index_of (shape r t) q) ≡ i ∷ []
-arm_byte r t arms i q a e h = ap (λ (d : Option TypeDef). index_byte (index_of d q)) (shaped_at r t (layout.arms arms) e) ∙ index_at arms i q a h
+pub arm_byte : (r : List TypeInfo) (t : ℕ) (arms : List Arm) (i q : ℕ) (a : Arm) →
+    layout r t ≡ layout.arms arms → arm_of arms i ≡ Some (q, a) →
+    index_byte (index_of (shape r t) q) ≡ i ∷ []
+arm_byte r t arms i q a e h =
+    ap (λ (d : Option TypeDef). index_byte (index_of d q)) (shaped_at r t (layout.arms arms) e)
+    ∙ index_at arms i q a h
 
-pub array_length : (r : List TypeInfo) (t n u k : ℕ) → layout r t ≡ layout.array n u → length_bytes (shape r t) k ≡ []
+pub array_length : (r : List TypeInfo) (t n u k : ℕ) → layout r t ≡ layout.array n u →
+    length_bytes (shape r t) k ≡ []
 array_length r t n u k e = rw (shaped_at r t (layout.array n u) e) refl
 
-pub sequence_length : (r : List TypeInfo) (t u k : ℕ) → layout r t ≡ layout.sequence u → length_bytes (shape r t) k ≡ compact k
+pub sequence_length : (r : List TypeInfo) (t u k : ℕ) → layout r t ≡ layout.sequence u →
+    length_bytes (shape r t) k ≡ compact k
 sequence_length r t u k e = rw (shaped_at r t (layout.sequence u) e) refl
 
 -- ---- all nodes
 
 -- the bytes of a leaf by itself are those that spell it
-leaf_spells : (r : List TypeInfo) (t : ℕ) (l : Leaf) (b : List ℕ) → AreBytes b → IsLeaf (layout r t) l b → leaf_bytes (shape r t) l ++ [] ≡ b
+leaf_spells : (r : List TypeInfo) (t : ℕ) (l : Leaf) (b : List ℕ) → AreBytes b →
+    SpellsLeaf (layout r t) l b → leaf_spelling (shape r t) l ++ [] ≡ b
 leaf_spells r t unit b p h = sym h.1
 leaf_spells r t (bool x) b p h = sym h.1
 leaf_spells r t (char c) b p h = unsigned_bytes_are 4 c b p h.1 h.2
-leaf_spells r t (text s) b p h = append-nil (compact (length s) ++ s) ∙ ap (λ (x : List ℕ). x ++ s) (sym h.1.1.1) ∙ sym h.1.3
-leaf_spells r t (unsigned x) b p h = append-nil _ ∙ ap (λ (k : ℕ). le_bytes k x) (shaped_at r t (layout.plain (layout.unsigned h.0)) h.1) ∙ unsigned_bytes_are h.0 x b p h.2 h.3
+leaf_spells r t (text s) b p h = append-nil (compact (length s) ++ s)
+    ∙ ap (λ (x : List ℕ). x ++ s) (sym h.1.1.1) ∙ sym h.1.3
+leaf_spells r t (unsigned x) b p h = append-nil _
+    ∙ ap (λ (k : ℕ). le_bytes k x) (shaped_at r t (layout.plain (layout.unsigned h.0)) h.1)
+    ∙ unsigned_bytes_are h.0 x b p h.2 h.3
 leaf_spells r t (signed x) b p h =
     let s = shaped_at r t (layout.plain (layout.signed h.0)) h.1 in
     append-nil _ ∙ ap (λ (k : ℕ). le_bytes k (word x)) s.0 ∙ signed_bytes_are h.0 x b p s.1 h.2 h.3
@@ -184,33 +224,40 @@ leaf_spells r t (count k) b p h = append-nil (compact k) ∙ sym h.1.1
 mutual
   unfolding Val
 
-  pub spells : (r : List TypeInfo) (t : ℕ) (v : Tree) (b : List ℕ) → AreBytes b → Val r t v b → spelled r t v ≡ b
+  pub spells : (r : List TypeInfo) (t : ℕ) (v : Tree) (b : List ℕ) → AreBytes b → Val r t v b →
+      spelled r t v ≡ b
   spells r t (leaf l) b p h = leaf_spells r t l b p h
   spells r t (branch fields vs) b p h = rw h.1 (spells_vals r h.0 vs b p h.2)
   spells r t (branch (arm q) vs) b p h =
       let first = arm_byte r t h.0 h.1 q h.2 h.4 h.5 in
       let rest = spells_vals r (field_types h.2.fields) vs h.3 (subst AreBytes h.6 p).1 h.7 in
       rw (first, h.4, arm_get h.0 h.1 q h.2 h.5, rest) (sym h.6)
-  spells r t (branch list vs) b p (inl h) = rw (shaped_at r t (layout.array h.0 h.1) h.2, h.2) (spells_each r h.1 vs b p h.4)
+  spells r t (branch list vs) b p (inl h) =
+      rw (shaped_at r t (layout.array h.0 h.1) h.2, h.2) (spells_each r h.1 vs b p h.4)
   spells r t (branch list vs) b p (inr h) =
       let rest = spells_each r h.0 vs h.2 (rest_bytes h.1 h.2 (rw (← h.5) p)) h.6 in
-      rw (shaped_at r t (layout.sequence h.0) h.3, h.3, rest) (ap (λ (x : List ℕ). x ++ h.2) (sym h.4.1) ∙ sym h.5)
+      rw (shaped_at r t (layout.sequence h.0) h.3, h.3, rest)
+          (ap (λ (x : List ℕ). x ++ h.2) (sym h.4.1) ∙ sym h.5)
 
-  pub spells_vals : (r : List TypeInfo) (ts : List ℕ) (vs : Trees) (b : List ℕ) → AreBytes b → Vals r ts vs b → flat_map (cell_bytes r) (all_cells r (each ts) vs) ≡ b
+  pub spells_vals : (r : List TypeInfo) (ts : List ℕ) (vs : Trees) (b : List ℕ) → AreBytes b →
+      Vals r ts vs b → flat_map (cell_bytes r) (all_cells r (each ts) vs) ≡ b
   spells_vals r [] none b p h = sym h
   spells_vals r (t ∷ ts) none b p h = absurd h
   spells_vals r [] (and v vs) b p h = absurd h
   spells_vals r (t ∷ ts) (and v vs) b p h =
       let q : AreBytes (h.0 ++ h.1) = rw (← h.2) p in
       flat_map-append (cell_bytes r) (cells r t v) (all_cells r (each ts) vs)
-      ∙ rw (spells r t v h.0 (front_bytes h.0 h.1 q) h.3, spells_vals r ts vs h.1 (rest_bytes h.0 h.1 q) h.4) (sym h.2)
+      ∙ rw (spells r t v h.0 (front_bytes h.0 h.1 q) h.3,
+          spells_vals r ts vs h.1 (rest_bytes h.0 h.1 q) h.4) (sym h.2)
 
-  pub spells_each : (r : List TypeInfo) (t : ℕ) (vs : Trees) (b : List ℕ) → AreBytes b → Each r t vs b → flat_map (cell_bytes r) (all_cells r (times (how_many vs) t) vs) ≡ b
+  pub spells_each : (r : List TypeInfo) (t : ℕ) (vs : Trees) (b : List ℕ) → AreBytes b →
+      Each r t vs b → flat_map (cell_bytes r) (all_cells r (times (how_many vs) t) vs) ≡ b
   spells_each r t none b p h = sym h
   spells_each r t (and v vs) b p h =
       let q : AreBytes (h.0 ++ h.1) = rw (← h.2) p in
       flat_map-append (cell_bytes r) (cells r t v) (all_cells r (times (how_many vs) t) vs)
-      ∙ rw (spells r t v h.0 (front_bytes h.0 h.1 q) h.3, spells_each r t vs h.1 (rest_bytes h.0 h.1 q) h.4) (sym h.2)
+      ∙ rw (spells r t v h.0 (front_bytes h.0 h.1 q) h.3,
+          spells_each r t vs h.1 (rest_bytes h.0 h.1 q) h.4) (sym h.2)
 
 pub encoded_is_value : EncodedIsValue
 encoded_is_value = spells

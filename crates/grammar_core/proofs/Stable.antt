@@ -1,11 +1,15 @@
 -- More bytes behind the input change no value and no fault but a missing end.
-use Rattle.std.proofs.Common.{ℕ, zero, suc, List, [], ◌∷◌, ◌++◌, Option, Some, None, Ok, Err, refl, ap}
+use Rattle.std.proofs.Common.{
+    ℕ, zero, suc, List, [], ◌∷◌, ◌++◌, Option, Some, None, Ok, Err, refl, ap
+}
 use Rattle.scale_core.specs.Number.{number, signed_number, is_scalar}
 use Rattle.scale_core.specs.Read.{Read}
 use Rattle.scale_core.specs.declared.compact.Target.TheVariants as target
 use Rattle.scale_core.specs.declared.fault.Reason.{Reason}
 use Rattle.scale_core.specs.declared.fault.Reason.TheVariants as reasons
-use Rattle.scale_core.proofs.Results.{Extends, bind_extends, cond_extends, bytes_extends, compact_extends, text_extends}
+use Rattle.scale_core.proofs.Results.{
+    Extends, bind_extends, cond_extends, bytes_extends, compact_extends, text_extends
+}
 use Rattle.registry_core.specs.declared.definition.Arm.{Arm}
 use Rattle.registry_core.specs.declared.type_info.TypeInfo.{TypeInfo}
 use Rattle.graph_core.specs.Types.{field_types}
@@ -13,29 +17,48 @@ use Rattle.widths_core.specs.Arms.{arm_of}
 use Rattle.widths_core.specs.Classes.{is_finite}
 use Rattle.widths_core.specs.Layouts.{Plain, Layout, layout}
 use Rattle.widths_core.specs.Layouts as layout
-use Rattle.grammar_core.specs.Tree.{Leaf, Branch, Tree, leaf, branch, text, unsigned, signed, wide, compact, fields, arm, list, count, Trees}
-use Rattle.grammar_core.specs.Reading.{value_at, layout_at, leaf_at, bool_at, char_from, all_at, times_at, arm_at, arms_at, elements_at, as_leaf, with_children, Refusal, basic, truncated}
+use Rattle.grammar_core.specs.Tree.{
+    Leaf, Branch, Tree, leaf, branch, text, unsigned, signed, wide, compact, fields, arm, list,
+    count, Trees
+}
+use Rattle.grammar_core.specs.Reading.{
+    value_at, layout_at, leaf_at, bool_at, char_from, all_at, times_at, fields_behind_index,
+    arms_at, elements_at, as_leaf, with_children, Refusal, basic, truncated
+}
 
-as_leaf_extends : {X : Type 0} (make : X → Leaf) (more : List ℕ) (read read' : Read Reason X) → Extends reasons.Truncated more read read' → Extends truncated more (as_leaf make read) (as_leaf make read')
+as_leaf_extends : {X : Type 0} (make : X → Leaf) (more : List ℕ) (read read' : Read Reason X) →
+    Extends reasons.Truncated more read read' →
+    Extends truncated more (as_leaf make read) (as_leaf make read')
 as_leaf_extends make more (Ok x) s h = rw h refl
 as_leaf_extends make more (Err e) s h = λ ne. rw (h (λ eq. ne (ap basic eq))) refl
 
-with_children_extends : (k : Branch) (more : List ℕ) (read read' : Read Refusal Trees) → Extends truncated more read read' → Extends truncated more (with_children k read) (with_children k read')
+with_children_extends : (k : Branch) (more : List ℕ) (read read' : Read Refusal Trees) →
+    Extends truncated more read read' →
+    Extends truncated more (with_children k read) (with_children k read')
 with_children_extends k more (Ok x) s h = rw h refl
 with_children_extends k more (Err e) s h = λ ne. rw (h ne) refl
 
 abbrev ChildExtends : List ℕ → (ℕ → List ℕ → Read Refusal Tree) → Type 0
-ChildExtends more child = (t : ℕ) (b : List ℕ) → Extends truncated more (child t b) (child t (b ++ more))
+ChildExtends more child = (t : ℕ) (b : List ℕ) →
+    Extends truncated more (child t b) (child t (b ++ more))
 
-all_extends : (more : List ℕ) (child : ℕ → List ℕ → Read Refusal Tree) → ChildExtends more child → (ts : List ℕ) (b : List ℕ) → Extends truncated more (all_at child ts b) (all_at child ts (b ++ more))
+all_extends : (more : List ℕ) (child : ℕ → List ℕ → Read Refusal Tree) → ChildExtends more child →
+    (ts : List ℕ) (b : List ℕ) →
+    Extends truncated more (all_at child ts b) (all_at child ts (b ++ more))
 all_extends more child h [] b = refl
-all_extends more child h (t ∷ ts) b = bind_extends truncated more (child t b) (child t (b ++ more)) _ _ (h t b) (λ v.
-    bind_extends truncated more (all_at child ts v.1) (all_at child ts (v.1 ++ more)) _ _ (all_extends more child h ts v.1) (λ vs. refl))
+all_extends more child h (t ∷ ts) b =
+    bind_extends truncated more (child t b) (child t (b ++ more)) _ _ (h t b) (λ v.
+    bind_extends truncated more (all_at child ts v.1) (all_at child ts (v.1 ++ more)) _ _
+        (all_extends more child h ts v.1) (λ vs. refl))
 
-times_extends : (more : List ℕ) (child : ℕ → List ℕ → Read Refusal Tree) → ChildExtends more child → (n t : ℕ) (b : List ℕ) → Extends truncated more (times_at child n t b) (times_at child n t (b ++ more))
+times_extends : (more : List ℕ) (child : ℕ → List ℕ → Read Refusal Tree) → ChildExtends more child →
+    (n t : ℕ) (b : List ℕ) →
+    Extends truncated more (times_at child n t b) (times_at child n t (b ++ more))
 times_extends more child h zero t b = refl
-times_extends more child h (suc n) t b = bind_extends truncated more (child t b) (child t (b ++ more)) _ _ (h t b) (λ v.
-    bind_extends truncated more (times_at child n t v.1) (times_at child n t (v.1 ++ more)) _ _ (times_extends more child h n t v.1) (λ vs. refl))
+times_extends more child h (suc n) t b =
+    bind_extends truncated more (child t b) (child t (b ++ more)) _ _ (h t b) (λ v.
+    bind_extends truncated more (times_at child n t v.1) (times_at child n t (v.1 ++ more)) _ _
+        (times_extends more child h n t v.1) (λ vs. refl))
 
 bool_extends : (b more : List ℕ) → Extends truncated more (bool_at b) (bool_at (b ++ more))
 bool_extends [] more = λ ne. absurd (ne refl)
@@ -43,46 +66,72 @@ bool_extends (zero ∷ b) more = refl
 bool_extends (suc zero ∷ b) more = refl
 bool_extends (suc (suc x) ∷ b) more = λ ne. refl
 
-char_extends : (b more : List ℕ) (read read' : Read Reason (List ℕ)) → Extends reasons.Truncated more read read' → Extends truncated more (char_from b read) (char_from (b ++ more) read')
+char_extends : (b more : List ℕ) (read read' : Read Reason (List ℕ)) →
+    Extends reasons.Truncated more read read' →
+    Extends truncated more (char_from b read) (char_from (b ++ more) read')
 char_extends b more (Err e) s h = λ ne. rw (h (λ eq. ne (ap basic eq))) refl
-char_extends b more (Ok x) s h = rw h (cond_extends truncated more (is_scalar (number x.0)) _ _ _ _ refl (λ ne. refl))
+char_extends b more (Ok x) s h =
+    rw h (cond_extends truncated more (is_scalar (number x.0)) _ _ _ _ refl (λ ne. refl))
 
-arm_extends : (more : List ℕ) (child : ℕ → List ℕ → Read Refusal Tree) → ChildExtends more child → (at b : List ℕ) (found : Option (ℕ × Arm)) → Extends truncated more (arm_at child at found b) (arm_at child (at ++ more) found (b ++ more))
+arm_extends : (more : List ℕ) (child : ℕ → List ℕ → Read Refusal Tree) → ChildExtends more child →
+    (at b : List ℕ) (found : Option (ℕ × Arm)) →
+    Extends truncated more (fields_behind_index child at found b)
+    (fields_behind_index child (at ++ more) found (b ++ more))
 arm_extends more child h at b None = λ ne. refl
-arm_extends more child h at b (Some a) = with_children_extends (arm a.0) more _ _ (all_extends more child h (field_types a.1.fields) b)
+arm_extends more child h at b (Some a) =
+    with_children_extends (arm a.0) more _ _ (all_extends more child h (field_types a.1.fields) b)
 
-arms_extends : (more : List ℕ) (child : ℕ → List ℕ → Read Refusal Tree) → ChildExtends more child → (arms : List Arm) (b : List ℕ) → Extends truncated more (arms_at child arms b) (arms_at child arms (b ++ more))
+arms_extends : (more : List ℕ) (child : ℕ → List ℕ → Read Refusal Tree) → ChildExtends more child →
+    (arms : List Arm) (b : List ℕ) →
+    Extends truncated more (arms_at child arms b) (arms_at child arms (b ++ more))
 arms_extends more child h arms [] = λ ne. absurd (ne refl)
 arms_extends more child h arms (i ∷ b) = arm_extends more child h (i ∷ b) b (arm_of arms i)
 
-elements_extends : (more : List ℕ) (child : ℕ → List ℕ → Read Refusal Tree) → ChildExtends more child → (t : ℕ) (read read' : Read Reason ℕ) → Extends reasons.Truncated more read read' → Extends truncated more (elements_at child t read) (elements_at child t read')
+elements_extends : (more : List ℕ) (child : ℕ → List ℕ → Read Refusal Tree) →
+    ChildExtends more child → (t : ℕ) (read read' : Read Reason ℕ) →
+    Extends reasons.Truncated more read read' →
+    Extends truncated more (elements_at child t read) (elements_at child t read')
 elements_extends more child h t (Err e) s k = λ ne. rw (k (λ eq. ne (ap basic eq))) refl
-elements_extends more child h t (Ok n) s k = rw k (with_children_extends list more _ _ (times_extends more child h n.0 t n.1))
+elements_extends more child h t (Ok n) s k =
+    rw k (with_children_extends list more _ _ (times_extends more child h n.0 t n.1))
 
 -- more bytes behind a value without parts
-leaf_extends : (more : List ℕ) (p : Plain) (b : List ℕ) → Extends truncated more (leaf_at p b) (leaf_at p (b ++ more))
+leaf_extends : (more : List ℕ) (p : Plain) (b : List ℕ) →
+    Extends truncated more (leaf_at p b) (leaf_at p (b ++ more))
 leaf_extends more layout.empty b = refl
 leaf_extends more layout.bool b = bool_extends b more
 leaf_extends more layout.char b = char_extends b more _ _ (bytes_extends 4 b more)
 leaf_extends more layout.text b = as_leaf_extends text more _ _ (text_extends b more)
-leaf_extends more (layout.unsigned k) b = as_leaf_extends (λ b. unsigned (number b)) more _ _ (bytes_extends k b more)
-leaf_extends more (layout.signed k) b = as_leaf_extends (λ b. signed (signed_number b)) more _ _ (bytes_extends k b more)
+leaf_extends more (layout.unsigned k) b =
+    as_leaf_extends (λ b. unsigned (number b)) more _ _ (bytes_extends k b more)
+leaf_extends more (layout.signed k) b =
+    as_leaf_extends (λ b. signed (signed_number b)) more _ _ (bytes_extends k b more)
 leaf_extends more layout.wide b = as_leaf_extends wide more _ _ (bytes_extends 32 b more)
-leaf_extends more layout.counted b = as_leaf_extends count more _ _ (compact_extends target.U32 b more)
+leaf_extends more layout.counted b =
+    as_leaf_extends count more _ _ (compact_extends target.U32 b more)
 leaf_extends more (layout.compact m) b = as_leaf_extends compact more _ _ (compact_extends m b more)
 
-pub layout_extends : (more : List ℕ) (child : ℕ → List ℕ → Read Refusal Tree) → ChildExtends more child → (f : Layout) (b : List ℕ) → Extends truncated more (layout_at child f b) (layout_at child f (b ++ more))
+pub layout_extends : (more : List ℕ) (child : ℕ → List ℕ → Read Refusal Tree) →
+    ChildExtends more child → (f : Layout) (b : List ℕ) →
+    Extends truncated more (layout_at child f b) (layout_at child f (b ++ more))
 unfolding layout_at
 layout_extends more child h layout.unknown b = λ ne. refl
 layout_extends more child h layout.bit_sequence b = λ ne. refl
 layout_extends more child h layout.bad_compact b = λ ne. refl
 layout_extends more child h (layout.plain p) b = leaf_extends more p b
-layout_extends more child h (layout.fields ts) b = with_children_extends fields more _ _ (all_extends more child h ts b)
+layout_extends more child h (layout.fields ts) b =
+    with_children_extends fields more _ _ (all_extends more child h ts b)
 layout_extends more child h (layout.arms arms) b = arms_extends more child h arms b
-layout_extends more child h (layout.sequence u) b = elements_extends more child h u _ _ (compact_extends target.U32 b more)
-layout_extends more child h (layout.array n u) b = with_children_extends list more _ _ (times_extends more child h n u b)
+layout_extends more child h (layout.sequence u) b =
+    elements_extends more child h u _ _ (compact_extends target.U32 b more)
+layout_extends more child h (layout.array n u) b =
+    with_children_extends list more _ _ (times_extends more child h n u b)
 
-pub value_extends : (r : List TypeInfo) (room t : ℕ) (b more : List ℕ) → Extends truncated more (value_at r room t b) (value_at r room t (b ++ more))
+pub value_extends : (r : List TypeInfo) (room t : ℕ) (b more : List ℕ) →
+    Extends truncated more (value_at r room t b) (value_at r room t (b ++ more))
 unfolding value_at
 value_extends r zero t b more = λ ne. refl
-value_extends r (suc room) t b more = cond_extends truncated more (is_finite r t) _ _ _ _ (layout_extends more (value_at r room) (λ u c. value_extends r room u c more) (layout r t) b) (λ ne. refl)
+value_extends r (suc room) t b more =
+    cond_extends truncated more (is_finite r t) _ _ _ _
+    (layout_extends more (value_at r room) (λ u c. value_extends r room u c more) (layout r t) b)
+    (λ ne. refl)

@@ -22,23 +22,29 @@ use Rattle.grammar_core.proofs.Classes.{shapeless}
 
 -- what comes next by the two tests of a class, where f comes next at a type that takes bytes
 abbrev by_tests : Bool → Bool → Next → Next
-by_tests finite empty f = if finite then (if empty then next.Wants form.Empty else f) else next.Stop stop.NoFiniteValue
+by_tests finite empty f =
+    if finite then (if empty then next.Wants form.Empty else f) else next.Stop stop.NoFiniteValue
 
 -- a step by class comes to what the tests of the class say
-class_next : (finite empty : Bool) (none sized : Step) (f : Next) → next_of_step none ≡ next.Stop stop.NoFiniteValue → next_of_step sized ≡ f → next_of_step (by_class (class_from finite empty) none sized) ≡ by_tests finite empty f
+class_next : (finite empty : Bool) (none sized : Step) (f : Next) →
+    next_of_step none ≡ next.Stop stop.NoFiniteValue → next_of_step sized ≡ f →
+    next_of_step (by_class (class_from finite empty) none sized) ≡ by_tests finite empty f
 class_next false empty none sized f e h = e
 class_next true true none sized f e h = refl
 class_next true false none sized f e h = h
 
 -- the elements of a sequence are left out where they take no bytes
-sequence_next : (finite empty : Bool) (t : ℕ) → (empty ≡ true → finite ≡ true) → next_of_step (sequence_step (class_from finite empty) t) ≡ sequence_form empty
+sequence_next : (finite empty : Bool) (t : ℕ) → (empty ≡ true → finite ≡ true) →
+    next_of_step (sequence_step (class_from finite empty) t) ≡ sequence_form empty
 sequence_next true true t h = refl
 sequence_next true false t h = refl
 sequence_next false false t h = refl
 sequence_next false true t h = let no = h refl in absurd cc
 
 -- a compact has the class that its target says
-compact_tests : (finite empty unit : Bool) (f : Next) → class_from finite empty ≡ (if unit then class.Empty else class.Sized) → (if unit then next.Wants form.Empty else f) ≡ by_tests finite empty f
+compact_tests : (finite empty unit : Bool) (f : Next) →
+    class_from finite empty ≡ (if unit then class.Empty else class.Sized) →
+    (if unit then next.Wants form.Empty else f) ≡ by_tests finite empty f
 compact_tests true true true f e = refl
 compact_tests true false false f e = refl
 compact_tests true true false f e = absurd cc
@@ -47,20 +53,38 @@ compact_tests false empty true f e = absurd cc
 compact_tests false empty false f e = absurd cc
 
 -- the step of a type says what comes next
-step_next : (r : List TypeInfo) (t : ℕ) (d : TypeDef) (s : Step) → shape r t ≡ Some d → IsStep r (references_of r) (λ from count arms. Unit {0}) (class_of r t) d s → next_of_step s ≡ next_at r t
-step_next r t (Def.Composite fs) s e h = rw (h.2, e) (class_next (is_finite r t) (is_empty r t) step.NoValue (step.Parts h.0 h.1) (next.Wants form.Fields) refl refl)
-step_next r t (Def.Tuple ts) s e h = rw (h.2, e) (class_next (is_finite r t) (is_empty r t) step.NoValue (step.Parts h.0 h.1) (next.Wants form.Fields) refl refl)
-step_next r t (Def.Variant arms) s e h = rw (h.2, e) (class_next (is_finite r t) (is_empty r t) (step.NoArm h.0 h.1) (step.Arms h.0 h.1) (next.Wants form.Arm) refl refl)
+step_next : (r : List TypeInfo) (t : ℕ) (d : TypeDef) (s : Step) → shape r t ≡ Some d →
+    IsStep r (references_of r) (λ from count arms. Unit {0}) (class_of r t) d s →
+    next_of_step s ≡ next_at r t
+step_next r t (Def.Composite fs) s e h =
+    rw (h.2, e) (class_next (is_finite r t) (is_empty r t) step.NoValue (step.Parts h.0 h.1)
+    (next.Wants form.Fields) refl refl)
+step_next r t (Def.Tuple ts) s e h =
+    rw (h.2, e) (class_next (is_finite r t) (is_empty r t) step.NoValue (step.Parts h.0 h.1)
+    (next.Wants form.Fields) refl refl)
+step_next r t (Def.Variant arms) s e h =
+    rw (h.2, e) (class_next (is_finite r t) (is_empty r t) (step.NoArm h.0 h.1) (step.Arms h.0 h.1)
+    (next.Wants form.Arm) refl refl)
 step_next r t (Def.Sequence u) s e h =
     let below = sequence_next (is_finite r u.0) (is_empty r u.0) u.0 (empty_finite r u.0) in
-    rw (h, e) (class_next (is_finite r t) (is_empty r t) step.NoValue (sequence_step (class_of r u.0) u.0) (sequence_form (is_empty r u.0)) refl below)
-step_next r t (Def.Array n u) s e h = rw (h, e) (class_next (is_finite r t) (is_empty r t) step.NoValue (step.Array n u.0) (next.Wants (form.Array n)) refl refl)
-step_next r t (Def.Primitive p) s e h = rw (h, e) (class_next (is_finite r t) (is_empty r t) step.NoValue (step.Primitive p) (next.Wants (form.Primitive p)) refl refl)
-step_next r t (Def.Compact u) s e h = rw (h, e) (compact_tests (is_finite r t) (is_empty r t) (is_unit (target_of r u.0)) (compact_form (target_of r u.0)) (class_stable r t (Def.Compact u) e))
-step_next r t (Def.BitSequence store order) s e h = rw (h, e) (class_next (is_finite r t) (is_empty r t) step.NoValue step.BitSequence (next.Stop stop.BitSequence) refl refl)
+    rw (h, e) (class_next (is_finite r t) (is_empty r t) step.NoValue
+        (sequence_step (class_of r u.0) u.0) (sequence_form (is_empty r u.0)) refl below)
+step_next r t (Def.Array n u) s e h =
+    rw (h, e) (class_next (is_finite r t) (is_empty r t) step.NoValue (step.Array n u.0)
+    (next.Wants (form.Array n)) refl refl)
+step_next r t (Def.Primitive p) s e h =
+    rw (h, e) (class_next (is_finite r t) (is_empty r t) step.NoValue (step.Primitive p)
+    (next.Wants (form.Primitive p)) refl refl)
+step_next r t (Def.Compact u) s e h =
+    rw (h, e) (compact_tests (is_finite r t) (is_empty r t) (is_unit (target_of r u.0))
+    (compact_form (target_of r u.0)) (class_stable r t (Def.Compact u) e))
+step_next r t (Def.BitSequence store order) s e h =
+    rw (h, e) (class_next (is_finite r t) (is_empty r t) step.NoValue step.BitSequence
+    (next.Stop stop.BitSequence) refl refl)
 
 -- where there is a step, it says what comes next
-pub some_next : (r : List TypeInfo) (t : ℕ) (o : Option Step) (s : Step) → IsStepAt r t o → o ≡ Some s → next_of_step s ≡ next_at r t
+pub some_next : (r : List TypeInfo) (t : ℕ) (o : Option Step) (s : Step) → IsStepAt r t o →
+    o ≡ Some s → next_of_step s ≡ next_at r t
 some_next r t o s h f = go (shape r t) refl where
   go : (x : Option TypeDef) → shape r t ≡ x → next_of_step s ≡ next_at r t
   go None e = let none = rw (IsStepAt, e) at h in absurd cc
@@ -71,7 +95,8 @@ some_next r t o s h f = go (shape r t) refl where
       rw same (step_next r t d x.0 e x.2)
 
 -- where there is no step, there is no value
-pub none_next : (r : List TypeInfo) (t : ℕ) (o : Option Step) → IsStepAt r t o → o ≡ None → next.Stop stop.NoFiniteValue ≡ next_at r t
+pub none_next : (r : List TypeInfo) (t : ℕ) (o : Option Step) → IsStepAt r t o → o ≡ None →
+    next.Stop stop.NoFiniteValue ≡ next_at r t
 none_next r t o h f = go (shape r t) refl where
   go : (x : Option TypeDef) → shape r t ≡ x → next.Stop stop.NoFiniteValue ≡ next_at r t
   go None e = rw (shapeless r (length r) t e) refl

@@ -3,12 +3,15 @@ use Rattle.std.proofs.Common.{ℕ, List, [], ◌∷◌, inl, inr}
 use Rattle.registry_core.specs.declared.type_info.TypeInfo.{TypeInfo}
 use Rattle.graph_core.specs.Types.{field_types}
 use Rattle.widths_core.specs.Layouts.{Layout, layout}
-use Rattle.grammar_core.specs.Tree.{leaf, branch, unit, bool, char, text, unsigned, signed, wide, compact, fields, arm, list, count, Trees, none, and, Leaf}
-use Rattle.grammar_core.specs.Grammar.{Val, Vals, Each, IsLeaf}
+use Rattle.grammar_core.specs.Tree.{
+    leaf, branch, unit, bool, char, text, unsigned, signed, wide, compact, fields, arm, list, count,
+    Trees, none, and, Leaf
+}
+use Rattle.grammar_core.specs.Grammar.{Val, Vals, Each, SpellsLeaf}
 use Rattle.grammar_core.specs.Laws.{AllHaveText, TextsAreText, LeafHasText}
 
 -- a leaf that is a text is UTF-8
-leaf_is_text : (f : Layout) (l : Leaf) (b : List ℕ) → IsLeaf f l b → LeafHasText l
+leaf_is_text : (f : Layout) (l : Leaf) (b : List ℕ) → SpellsLeaf f l b → LeafHasText l
 leaf_is_text f unit b h = tt
 leaf_is_text f (bool x) b h = tt
 leaf_is_text f (char c) b h = tt
@@ -29,7 +32,8 @@ mutual
   texts_are_text r t (branch list vs) b (inl h) = each_has r h.1 vs b h.4
   texts_are_text r t (branch list vs) b (inr h) = each_has r h.0 vs h.2 h.6
 
-  all_have : (r : List TypeInfo) (ts : List ℕ) (vs : Trees) (b : List ℕ) → Vals r ts vs b → AllHaveText vs
+  all_have : (r : List TypeInfo) (ts : List ℕ) (vs : Trees) (b : List ℕ) → Vals r ts vs b →
+      AllHaveText vs
   all_have r [] none b h = tt
   all_have r (t ∷ ts) none b h = absurd h
   all_have r [] (and v vs) b h = absurd h

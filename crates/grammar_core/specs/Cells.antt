@@ -6,7 +6,9 @@ use Rattle.registry_core.specs.declared.type_info.TypeInfo.{TypeInfo}
 use Rattle.graph_core.specs.Types.{field_types}
 use Rattle.widths_core.specs.Layouts.{Layout, layout}
 use Rattle.widths_core.specs.Layouts as layout
-use Rattle.grammar_core.specs.Tree.{Branch, Tree, leaf, branch, fields, arm, list, Trees, none, and, how_many, nodes}
+use Rattle.grammar_core.specs.Tree.{
+    Branch, Tree, leaf, branch, fields, arm, list, Trees, none, and, how_many, nodes
+}
 use Rattle.grammar_core.specs.Parts.{Part, each, times, first_of, left_after}
 use Rattle.grammar_core.specs.Preorder.{Head, head_of}
 
@@ -22,7 +24,8 @@ fields_part (layout.fields ts) = each ts
 fields_part _ = each []
 
 abbrev pub arm_part : Layout → ℕ → Part
-arm_part (layout.arms arms) q = each (option_map_or (λ (a : Arm). field_types a.fields) (slice_get arms q) [])
+arm_part (layout.arms arms) q =
+    each (option_map_or (λ (a : Arm). field_types a.fields) (slice_get arms q) [])
 arm_part _ q = each []
 
 abbrev pub list_part : Layout → ℕ → Part
@@ -47,7 +50,8 @@ cell_of t v = record { ty = t; head = head_of v; size = nodes v }
 abbrev mutual
   pub cells : List TypeInfo → ℕ → Tree → List Cell
   cells r t (leaf l) = cell_of t (leaf l) ∷ []
-  cells r t (branch k vs) = cell_of t (branch k vs) ∷ all_cells r (part_of (layout r t) k (how_many vs)) vs
+  cells r t (branch k vs) =
+      cell_of t (branch k vs) ∷ all_cells r (part_of (layout r t) k (how_many vs)) vs
 
   -- the cells of children whose types are these
   pub all_cells : List TypeInfo → Part → Trees → List Cell

@@ -1,4 +1,5 @@
--- Which form a value of a type has, or why there is none: the first rule that applies (SCALE codec, "Types"; own order of the reasons).
+-- Which form a value of a type has, or why there is none: the first rule that applies (SCALE codec,
+-- "Types"; own order of the reasons).
 use Rattle.std.specs.Prelude.{ℕ, List, Bool, Option, Some, None, if◌then◌else◌}
 use Rattle.scale_core.specs.declared.compact.Target.{Target}
 use Rattle.registry_core.specs.declared.definition.TypeDef.{TypeDef}

@@ -11,32 +11,42 @@ use Rattle.graph_core.specs.Types.{field_types}
 use Rattle.widths_core.specs.Arms.{arm_of}
 use Rattle.widths_core.specs.Layouts.{Layout, layout}
 use Rattle.widths_core.specs.Layouts as layout
-use Rattle.grammar_core.specs.Tree.{Leaf, Tree, leaf, branch, unit, bool, char, text, unsigned, signed, wide, compact, fields, arm, list, count, Trees, none, and, how_many}
+use Rattle.grammar_core.specs.Tree.{
+    Leaf, Tree, leaf, branch, unit, bool, char, text, unsigned, signed, wide, compact, fields, arm,
+    list, count, Trees, none, and, how_many
+}
 
 -- k bytes
 abbrev pub IsLong : ℕ → List ℕ → Type 0
 IsLong k b = length b ≡ k
 
 -- the bytes that spell this leaf, which is a value of a type of this layout
-abbrev pub IsLeaf : Layout → Leaf → List ℕ → Type 0
-IsLeaf f unit b = (f ≡ (layout.plain layout.empty)) × (b ≡ [])
-IsLeaf f (bool x) b = (f ≡ (layout.plain layout.bool)) × (b ≡ bool_byte x ∷ [])
-IsLeaf f (char c) b = (f ≡ (layout.plain layout.char)) × IsLong 4 b × (number b ≡ c) × (is_scalar c ≡ true)
-IsLeaf f (text s) b = (f ≡ (layout.plain layout.text)) × IsText s b
-IsLeaf f (unsigned x) b = (k : ℕ) × (f ≡ layout.plain (layout.unsigned k)) × IsLong k b × (number b ≡ x)
-IsLeaf f (signed x) b = (k : ℕ) × (f ≡ layout.plain (layout.signed k)) × IsLong k b × (signed_number b ≡ x)
-IsLeaf f (wide x) b = (f ≡ (layout.plain layout.wide)) × IsLong 32 b × (b ≡ x)
-IsLeaf f (compact x) b = (m : Target) × (f ≡ layout.plain (layout.compact m)) × IsCompact m x b
-IsLeaf f (count k) b = (f ≡ (layout.plain layout.counted)) × IsCompact target.U32 k b
+abbrev pub SpellsLeaf : Layout → Leaf → List ℕ → Type 0
+SpellsLeaf f unit b = (f ≡ (layout.plain layout.empty)) × (b ≡ [])
+SpellsLeaf f (bool x) b = (f ≡ (layout.plain layout.bool)) × (b ≡ bool_byte x ∷ [])
+SpellsLeaf f (char c) b = (f ≡ (layout.plain layout.char)) × IsLong 4 b × (number b ≡ c)
+    × (is_scalar c ≡ true)
+SpellsLeaf f (text s) b = (f ≡ (layout.plain layout.text)) × IsText s b
+SpellsLeaf f (unsigned x) b = (k : ℕ) × (f ≡ layout.plain (layout.unsigned k)) × IsLong k b
+    × (number b ≡ x)
+SpellsLeaf f (signed x) b = (k : ℕ) × (f ≡ layout.plain (layout.signed k)) × IsLong k b
+    × (signed_number b ≡ x)
+SpellsLeaf f (wide x) b = (f ≡ (layout.plain layout.wide)) × IsLong 32 b × (b ≡ x)
+SpellsLeaf f (compact x) b = (m : Target) × (f ≡ layout.plain (layout.compact m)) × IsCompact m x b
+SpellsLeaf f (count k) b = (f ≡ (layout.plain layout.counted)) × IsCompact target.U32 k b
 
 -- v is a value of type t, and b is what it is in bytes
 unfoldable mutual
   pub Val : List TypeInfo → ℕ → Tree → List ℕ → Type 0
-  Val r t (leaf l) b = IsLeaf (layout r t) l b
+  Val r t (leaf l) b = SpellsLeaf (layout r t) l b
   Val r t (branch fields vs) b = (ts : List ℕ) × (layout r t ≡ layout.fields ts) × Vals r ts vs b
-  Val r t (branch (arm q) vs) b = (arms : List Arm) × (i : ℕ) × (a : Arm) × (rest : List ℕ) × (layout r t ≡ layout.arms arms) × (arm_of arms i ≡ Some (q, a)) × (b ≡ i ∷ rest) × Vals r (field_types a.fields) vs rest
-  Val r t (branch list vs) b = ((n u : ℕ) × (layout r t ≡ layout.array n u) × (how_many vs ≡ n) × Each r u vs b)
-      ⊎ ((u : ℕ) × (c rest : List ℕ) × (layout r t ≡ layout.sequence u) × IsCompact target.U32 (how_many vs) c × (b ≡ c ++ rest) × Each r u vs rest)
+  Val r t (branch (arm q) vs) b = (arms : List Arm) × (i : ℕ) × (a : Arm) × (rest : List ℕ)
+      × (layout r t ≡ layout.arms arms) × (arm_of arms i ≡ Some (q, a)) × (b ≡ i ∷ rest)
+      × Vals r (field_types a.fields) vs rest
+  Val r t (branch list vs) b =
+      ((n u : ℕ) × (layout r t ≡ layout.array n u) × (how_many vs ≡ n) × Each r u vs b)
+      ⊎ ((u : ℕ) × (c rest : List ℕ) × (layout r t ≡ layout.sequence u)
+          × IsCompact target.U32 (how_many vs) c × (b ≡ c ++ rest) × Each r u vs rest)
 
   -- values of these types, one behind the other
   pub Vals : List TypeInfo → List ℕ → Trees → List ℕ → Type 0

@@ -1,5 +1,8 @@
 -- What holds of every value and its bytes.
-use Rattle.std.specs.Prelude.{◌≡◌, ◌≢◌, ℕ, ◌+◌, ◌*◌, ◌≤◌, List, [], ◌++◌, length, Ok, Err, ◌⊎◌, ◌∷◌, ◌<◌, Option, Some, None, true, false}
+use Rattle.std.specs.Prelude.{
+    ◌≡◌, ◌≢◌, ℕ, ◌+◌, ◌*◌, ◌≤◌, List, [], ◌++◌, length, Ok, Err, ◌⊎◌, ◌∷◌, ◌<◌, Option, Some, None,
+    true, false
+}
 use Rattle.scale_core.specs.Number.{AreBytes}
 use Rattle.registry_core.specs.declared.type_info.TypeInfo.{TypeInfo}
 use Rattle.registry_core.specs.Fits.{FitsText, FitsRegistry}
@@ -7,14 +10,18 @@ use Rattle.graph_core.specs.Widths.{widest}
 use Rattle.widths_core.specs.Reach.{IsPlain}
 use Rattle.widths_core.specs.Classes.{IsFinite, IsEmpty, class_of}
 use Rattle.widths_core.specs.declared.class.Class.TheVariants as class
-use Rattle.grammar_core.specs.Tree.{Leaf, Tree, leaf, branch, unit, text, Trees, none, and, levels, nodes, text_bytes, how_many, most_levels}
+use Rattle.grammar_core.specs.Tree.{
+    Leaf, Tree, leaf, branch, unit, text, Trees, none, and, levels, nodes, text_bytes, how_many,
+    most_levels
+}
 use Rattle.grammar_core.specs.Grammar.{Val, Vals, Each}
 use Rattle.grammar_core.specs.Begun.{Begun, Grows, begun_levels, begun_depth, is_whole_tree}
 use Rattle.grammar_core.specs.Reading.{value_at, all_at, times_at, Refusal, truncated}
 
 -- a value that has room for so many levels stands on the front of the input, and rest is behind it
 abbrev pub Stands : List TypeInfo → ℕ → ℕ → List ℕ → Tree → List ℕ → Type 0
-Stands r room t input v rest = (front : List ℕ) × (input ≡ front ++ rest) × Val r t v front × (levels v ≤ room)
+Stands r room t input v rest = (front : List ℕ) × (input ≡ front ++ rest) × Val r t v front
+    × (levels v ≤ room)
 
 -- the input is refused, and left is what stands from the fault's place on
 abbrev pub Fails : List TypeInfo → ℕ → ℕ → List ℕ → Refusal → List ℕ → Type 0
@@ -22,40 +29,51 @@ Fails r room t input reason left = value_at r room t input ≡ Err (reason, left
 
 -- what has a value is read, whatever follows it
 abbrev pub ValueIsRead : Type 0
-ValueIsRead = (r : List TypeInfo) (room t : ℕ) (v : Tree) (b rest : List ℕ) → Val r t v b → levels v ≤ room → value_at r room t (b ++ rest) ≡ Ok (v, rest)
+ValueIsRead = (r : List TypeInfo) (room t : ℕ) (v : Tree) (b rest : List ℕ) → Val r t v b →
+    levels v ≤ room → value_at r room t (b ++ rest) ≡ Ok (v, rest)
 
 -- what is read is a value
 abbrev pub ReadIsValue : Type 0
-ReadIsValue = (r : List TypeInfo) (room t : ℕ) (input : List ℕ) (v : Tree) (rest : List ℕ) → value_at r room t input ≡ Ok (v, rest) → Stands r room t input v rest
+ReadIsValue = (r : List TypeInfo) (room t : ℕ) (input : List ℕ) (v : Tree) (rest : List ℕ) →
+    value_at r room t input ≡ Ok (v, rest) → Stands r room t input v rest
 
 -- two values of a type whose bytes are both fronts of one list are one
 abbrev pub ValuesArePrefixFree : Type 0
-ValuesArePrefixFree = (r : List TypeInfo) (t : ℕ) (v w : Tree) (a b rest more : List ℕ) → Val r t v a → Val r t w b → a ++ rest ≡ b ++ more → (v ≡ w) × (a ≡ b)
+ValuesArePrefixFree = (r : List TypeInfo) (t : ℕ) (v w : Tree) (a b rest more : List ℕ) →
+    Val r t v a → Val r t w b → a ++ rest ≡ b ++ more → (v ≡ w) × (a ≡ b)
 
 -- a value has one spelling
 abbrev pub OneSpelling : Type 0
-OneSpelling = (r : List TypeInfo) (t : ℕ) (v : Tree) (a b : List ℕ) → AreBytes a → AreBytes b → Val r t v a → Val r t v b → a ≡ b
+OneSpelling = (r : List TypeInfo) (t : ℕ) (v : Tree) (a b : List ℕ) → AreBytes a → AreBytes b →
+    Val r t v a → Val r t v b → a ≡ b
 
 -- a value stands on the front, or the input is refused
 abbrev pub ValueOrFault : Type 0
 ValueOrFault = (r : List TypeInfo) (room t : ℕ) (input : List ℕ) →
-    ((v : Tree) × (rest : List ℕ) × Stands r room t input v rest) ⊎ ((reason : Refusal) × (left : List ℕ) × Fails r room t input reason left)
+    ((v : Tree) × (rest : List ℕ) × Stands r room t input v rest)
+        ⊎ ((reason : Refusal) × (left : List ℕ) × Fails r room t input reason left)
 
 -- and not both
 abbrev pub ValueOrFaultNotBoth : Type 0
-ValueOrFaultNotBoth = (r : List TypeInfo) (room t : ℕ) (input : List ℕ) (v : Tree) (rest : List ℕ) (reason : Refusal) (left : List ℕ) → Stands r room t input v rest → Fails r room t input reason left → ⊥
+ValueOrFaultNotBoth = (r : List TypeInfo) (room t : ℕ) (input : List ℕ) (v : Tree) (rest : List ℕ)
+    (reason : Refusal) (left : List ℕ) → Stands r room t input v rest →
+    Fails r room t input reason left → ⊥
 
 -- a fault that more bytes cannot mend is the fault of every longer input
 abbrev pub FaultsAreStable : Type 0
-FaultsAreStable = (r : List TypeInfo) (room t : ℕ) (input more : List ℕ) (reason : Refusal) (left : List ℕ) → reason ≢ truncated → Fails r room t input reason left → Fails r room t (input ++ more) reason (left ++ more)
+FaultsAreStable = (r : List TypeInfo) (room t : ℕ) (input more : List ℕ) (reason : Refusal)
+    (left : List ℕ) → reason ≢ truncated → Fails r room t input reason left →
+    Fails r room t (input ++ more) reason (left ++ more)
 
 -- a type that takes no bytes has one value, with no byte
 abbrev pub EmptyHasUnit : Type 0
-EmptyHasUnit = (r : List TypeInfo) (t : ℕ) → IsEmpty r t → IsFinite r t × Val r t (leaf unit) [] × ((v : Tree) (b : List ℕ) → Val r t v b → (v ≡ leaf unit) × (b ≡ []))
+EmptyHasUnit = (r : List TypeInfo) (t : ℕ) → IsEmpty r t → IsFinite r t × Val r t (leaf unit) []
+    × ((v : Tree) (b : List ℕ) → Val r t v b → (v ≡ leaf unit) × (b ≡ []))
 
 -- a value of any other type has a byte
 abbrev pub SizedHasBytes : Type 0
-SizedHasBytes = (r : List TypeInfo) (t : ℕ) (v : Tree) (b : List ℕ) → class_of r t ≡ class.Sized → Val r t v b → 1 ≤ length b
+SizedHasBytes = (r : List TypeInfo) (t : ℕ) (v : Tree) (b : List ℕ) → class_of r t ≡ class.Sized →
+    Val r t v b → 1 ≤ length b
 
 -- a type with a value is finite
 abbrev pub ValuesAreFinite : Type 0
@@ -63,7 +81,8 @@ ValuesAreFinite = (r : List TypeInfo) (t : ℕ) (v : Tree) (b : List ℕ) → Va
 
 -- no more nodes than this, and no more bytes of text than bytes
 abbrev pub ValuesAreBounded : Type 0
-ValuesAreBounded = (r : List TypeInfo) (room t : ℕ) (v : Tree) (b : List ℕ) → Val r t v b → levels v ≤ room → (nodes v ≤ 1 + length b * (room * (widest r + 1))) × (text_bytes v ≤ length b)
+ValuesAreBounded = (r : List TypeInfo) (room t : ℕ) (v : Tree) (b : List ℕ) → Val r t v b →
+    levels v ≤ room → (nodes v ≤ 1 + length b * (room * (widest r + 1))) × (text_bytes v ≤ length b)
 
 -- where it is a text, it is UTF-8, and has a length that can be spelled
 abbrev pub LeafHasText : Leaf → Type 0
@@ -85,24 +104,38 @@ TextsAreText = (r : List TypeInfo) (t : ℕ) (v : Tree) (b : List ℕ) → Val r
 
 -- where no definition can be reached whose values are left out, a finite type has a value
 abbrev pub FiniteHasValue : Type 0
-FiniteHasValue = (r : List TypeInfo) (t : ℕ) → FitsRegistry r → IsFinite r t → IsPlain r t → (v : Tree) × (b : List ℕ) × AreBytes b × Val r t v b
+FiniteHasValue = (r : List TypeInfo) (t : ℕ) → FitsRegistry r → IsFinite r t → IsPlain r t →
+    (v : Tree) × (b : List ℕ) × AreBytes b × Val r t v b
 
--- the first parts have values on consecutive fronts, for which there is room, and the next part fails on the rest
+-- the first parts have values on consecutive fronts, for which there is room, and the next part
+-- fails on the rest
 abbrev pub NextPartFails : List TypeInfo → ℕ → List ℕ → List ℕ → Refusal → List ℕ → Type 0
-NextPartFails r room ts input reason left = (front : List ℕ) × (u : ℕ) × (back : List ℕ) × (vs : Trees) × (b1 b2 : List ℕ) × (ts ≡ front ++ u ∷ back) × (input ≡ b1 ++ b2) × Vals r front vs b1 × (most_levels vs ≤ room) × Fails r room u b2 reason left
+NextPartFails r room ts input reason left = (front : List ℕ) × (u : ℕ) × (back : List ℕ)
+    × (vs : Trees) × (b1 b2 : List ℕ) × (ts ≡ front ++ u ∷ back) × (input ≡ b1 ++ b2)
+    × Vals r front vs b1 × (most_levels vs ≤ room) × Fails r room u b2 reason left
 
 -- the same of n parts of one type
 abbrev pub NextElementFails : List TypeInfo → ℕ → ℕ → ℕ → List ℕ → Refusal → List ℕ → Type 0
-NextElementFails r room n t input reason left = (vs : Trees) × (b1 b2 : List ℕ) × (how_many vs < n) × (input ≡ b1 ++ b2) × Each r t vs b1 × (most_levels vs ≤ room) × Fails r room t b2 reason left
+NextElementFails r room n t input reason left = (vs : Trees) × (b1 b2 : List ℕ) × (how_many vs < n)
+    × (input ≡ b1 ++ b2) × Each r t vs b1 × (most_levels vs ≤ room) × Fails r room t b2 reason left
 
 -- a list of parts fails where its next part does, and there alone
 abbrev pub PartsFail : Type 0
 PartsFail = (r : List TypeInfo) (room : ℕ) (input : List ℕ) (reason : Refusal) (left : List ℕ) →
-    ((ts : List ℕ) → (all_at (value_at r room) ts input ≡ Err (reason, left) → NextPartFails r room ts input reason left) × (NextPartFails r room ts input reason left → all_at (value_at r room) ts input ≡ Err (reason, left)))
-    × ((n t : ℕ) → (times_at (value_at r room) n t input ≡ Err (reason, left) → NextElementFails r room n t input reason left) × (NextElementFails r room n t input reason left → times_at (value_at r room) n t input ≡ Err (reason, left)))
+    ((ts : List ℕ) → (all_at (value_at r room) ts input ≡ Err (reason, left) →
+        NextPartFails r room ts input reason left)
+        × (NextPartFails r room ts input reason left →
+        all_at (value_at r room) ts input ≡ Err (reason, left)))
+    × ((n t : ℕ) → (times_at (value_at r room) n t input ≡ Err (reason, left) →
+        NextElementFails r room n t input reason left)
+        × (NextElementFails r room n t input reason left →
+        times_at (value_at r room) n t input ≡ Err (reason, left)))
 
--- the levels of a begun tree fit, what is missing first is as deep as the room that is left there says, and it is a value
+-- the levels of a begun tree fit, what is missing first is as deep as the room that is left there
+-- says, and it is a value
 -- where nothing is missing
 abbrev pub BegunTreesFit : Type 0
-BegunTreesFit = (r : List TypeInfo) (room t : ℕ) (g : Begun) (b : List ℕ) (next : Option (ℕ × ℕ)) → Grows r room t g b next →
-    (begun_levels g ≤ room) × ((left u : ℕ) → next ≡ Some (left, u) → (is_whole_tree g ≡ false) × (left + begun_depth g ≡ room)) × (next ≡ None → is_whole_tree g ≡ true)
+BegunTreesFit = (r : List TypeInfo) (room t : ℕ) (g : Begun) (b : List ℕ) (next : Option (ℕ × ℕ)) →
+    Grows r room t g b next →
+    (begun_levels g ≤ room) × ((left u : ℕ) → next ≡ Some (left, u) → (is_whole_tree g ≡ false)
+        × (left + begun_depth g ≡ room)) × (next ≡ None → is_whole_tree g ≡ true)

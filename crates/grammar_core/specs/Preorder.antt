@@ -1,10 +1,15 @@
 -- A tree as the list of its nodes in preorder, each with how many children it has.
-use Rattle.std.specs.Prelude.{◌≡◌, ℕ, zero, suc, ◌≤◌, ℤ, pos, List, [], ◌∷◌, ◌++◌, length, Bool, true, false, refl, if◌then◌else◌, ◌==◌}
+use Rattle.std.specs.Prelude.{
+    ◌≡◌, ℕ, zero, suc, ◌≤◌, ℤ, pos, List, [], ◌∷◌, ◌++◌, length, Bool, true, false, refl,
+    if◌then◌else◌, ◌==◌
+}
 use Rattle.std.specs.Coded.{Coded, code_by, coded×, coded_ℕ, coded_ℤ, coded_list}
 use Rattle.std.proofs.Common.{arith, append_assoc, ap, sym, ◌∙◌, length-append}
 use Rattle.std.proofs.lemmas.List.{append-nil}
 use Rattle.grammar_core.specs.Tree as tree
-use Rattle.grammar_core.specs.Tree.{Leaf, Branch, Tree, Trees, none, and, how_many, levels, most_levels}
+use Rattle.grammar_core.specs.Tree.{
+    Leaf, Branch, Tree, Trees, none, and, how_many, levels, most_levels
+}
 
 -- a node by itself: what it is, and how many children it has or is to have
 pub data Head : Type 0 where
@@ -61,22 +66,31 @@ mutual
 
   most_levels-le : (vs : Trees) → most_levels vs ≤ length (all_preorder vs)
   most_levels-le none = omega arith
-  most_levels-le (and v vs) = omega (arith, levels-le v, most_levels-le vs, length-append (preorder v) (all_preorder vs))
+  most_levels-le (and v vs) =
+      omega (arith, levels-le v, most_levels-le vs, length-append (preorder v) (all_preorder vs))
 
 mutual
-  pub grow-preorder : (v : Tree) (k : ℕ) (rest : List Head) → levels v ≤ k → grow k (preorder v ++ rest) ≡ (v, rest)
+  pub grow-preorder : (v : Tree) (k : ℕ) (rest : List Head) → levels v ≤ k →
+      grow k (preorder v ++ rest) ≡ (v, rest)
   grow-preorder v zero rest h = absurd (omega (arith, levels-pos v))
   grow-preorder (tree.leaf l) (suc k) rest h = refl
-  grow-preorder (tree.branch b vs) (suc k) rest h = ap (grown (branch b (how_many vs))) (many-preorder vs k rest (omega arith))
+  grow-preorder (tree.branch b vs) (suc k) rest h =
+      ap (grown (branch b (how_many vs))) (many-preorder vs k rest (omega arith))
 
-  pub many-preorder : (vs : Trees) (k : ℕ) (rest : List Head) → most_levels vs ≤ k → many (grow k) (how_many vs) (all_preorder vs ++ rest) ≡ (vs, rest)
+  pub many-preorder : (vs : Trees) (k : ℕ) (rest : List Head) → most_levels vs ≤ k →
+      many (grow k) (how_many vs) (all_preorder vs ++ rest) ≡ (vs, rest)
   many-preorder none k rest h = refl
-  many-preorder (and v vs) k rest h = rw (append_assoc, grow-preorder v k (all_preorder vs ++ rest) (omega arith), many-preorder vs k rest (omega arith)) refl
+  many-preorder (and v vs) k rest h =
+      rw (append_assoc, grow-preorder v k (all_preorder vs ++ rest) (omega arith),
+      many-preorder vs k rest (omega arith)) refl
 
 pub tree_of-preorder : (v : Tree) → tree_of (preorder v) ≡ v
-tree_of-preorder v = ap (λ (hs : List Head). (grow (length (preorder v)) hs).0) (sym (append-nil (preorder v))) ∙ ap (λ (p : Tree × List Head). p.0) (grow-preorder v (length (preorder v)) [] (levels-le v))
+tree_of-preorder v = ap (λ (hs : List Head). (grow (length (preorder v)) hs).0)
+    (sym (append-nil (preorder v)))
+    ∙ ap (λ (p : Tree × List Head). p.0) (grow-preorder v (length (preorder v)) [] (levels-le v))
 
--- ---- how contracts store a tree: as its nodes, each by the number of its form, two numbers, an integer and bytes
+-- ---- how contracts store a tree: as its nodes, each by the number of its form, two numbers, an
+-- integer and bytes
 
 abbrev Stored : Type 0
 Stored = ℕ × (ℕ × (ℕ × (ℤ × List ℕ)))
@@ -106,8 +120,10 @@ form_from (suc (suc (suc (suc (suc (suc zero)))))) n m z s = leaf (tree.wide s)
 form_from (suc (suc (suc (suc (suc (suc (suc zero))))))) n m z s = leaf (tree.compact n)
 form_from (suc (suc (suc (suc (suc (suc (suc (suc zero)))))))) n m z s = leaf (tree.count n)
 form_from (suc (suc (suc (suc (suc (suc (suc (suc (suc zero))))))))) n m z s = branch tree.fields n
-form_from (suc (suc (suc (suc (suc (suc (suc (suc (suc (suc zero)))))))))) n m z s = branch (tree.arm n) m
-form_from (suc (suc (suc (suc (suc (suc (suc (suc (suc (suc (suc k))))))))))) n m z s = branch tree.list n
+form_from (suc (suc (suc (suc (suc (suc (suc (suc (suc (suc zero)))))))))) n m z s =
+    branch (tree.arm n) m
+form_from (suc (suc (suc (suc (suc (suc (suc (suc (suc (suc (suc k))))))))))) n m z s =
+    branch tree.list n
 
 abbrev head_from : Stored → Head
 head_from x = form_from x.0 x.1.0 x.1.1.0 x.1.1.1.0 x.1.1.1.1
@@ -128,7 +144,9 @@ head_from-stored (branch (tree.arm q) n) = refl
 head_from-stored (branch tree.list n) = refl
 
 abbrev pub head_code : Coded Head
-head_code = code_by Stored (coded× coded_ℕ (coded× coded_ℕ (coded× coded_ℕ (coded× coded_ℤ (coded_list coded_ℕ))))) stored head_from head_from-stored
+head_code = code_by Stored
+    (coded× coded_ℕ (coded× coded_ℕ (coded× coded_ℕ (coded× coded_ℤ (coded_list coded_ℕ))))) stored
+    head_from head_from-stored
 
 abbrev pub tree_code : Coded Tree
 tree_code = code_by (List Head) (coded_list head_code) preorder tree_of tree_of-preorder

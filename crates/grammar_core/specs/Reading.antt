@@ -1,5 +1,8 @@
--- A value read from the front of a list: the value and the bytes behind it, or the fault and the bytes from its place on.
-use Rattle.std.specs.Prelude.{ℕ, zero, suc, List, [], ◌∷◌, true, false, Option, Some, None, Ok, Err, if◌then◌else◌}
+-- A value read from the front of a list: the value and the bytes behind it, or the fault and the
+-- bytes from its place on.
+use Rattle.std.specs.Prelude.{
+    ℕ, zero, suc, List, [], ◌∷◌, true, false, Option, Some, None, Ok, Err, if◌then◌else◌
+}
 use Rattle.scale_core.specs.Number.{number, signed_number, is_scalar}
 use Rattle.scale_core.specs.Read.{Read, ◌>>=◌, compact_at, text_at, bytes_at}
 use Rattle.scale_core.specs.declared.compact.Target.TheVariants as target
@@ -12,7 +15,10 @@ use Rattle.widths_core.specs.Arms.{arm_of}
 use Rattle.widths_core.specs.Classes.{is_finite}
 use Rattle.widths_core.specs.Layouts.{Plain, Layout, layout}
 use Rattle.widths_core.specs.Layouts as layout
-use Rattle.grammar_core.specs.Tree.{Leaf, Branch, Tree, leaf, branch, unit, bool, char, text, unsigned, signed, wide, compact, fields, arm, list, count, Trees, none, and}
+use Rattle.grammar_core.specs.Tree.{
+    Leaf, Branch, Tree, leaf, branch, unit, bool, char, text, unsigned, signed, wide, compact,
+    fields, arm, list, count, Trees, none, and
+}
 
 pub data Refusal : Type 0 where
   basic : Reason → Refusal
@@ -45,7 +51,8 @@ bool_at (suc (suc b) ∷ rest) = Err (basic scale.BadBool, suc (suc b) ∷ rest)
 
 -- four bytes that are a Unicode scalar value
 abbrev pub char_from : List ℕ → Read Reason (List ℕ) → Read Refusal Tree
-char_from at (Ok x) = if is_scalar (number x.0) then Ok (leaf (char (number x.0)), x.1) else Err (basic scale.BadChar, at)
+char_from at (Ok x) = if is_scalar (number x.0) then Ok (leaf (char (number x.0)), x.1) else Err
+    (basic scale.BadChar, at)
 char_from at (Err e) = Err (basic e.0, e.1)
 
 -- a value of each of these types, one behind the other, by a reader of one value
@@ -65,13 +72,15 @@ times_at child (suc n) t bytes = do
   Ok (and first.0 others.0, others.1)
 
 -- the fields of the arm that the index names, which stands at the front of at
-abbrev pub arm_at : (ℕ → Reader Tree) → List ℕ → Option (ℕ × Arm) → Reader Tree
-arm_at child at (Some found) rest = with_children (arm found.0) (all_at child (field_types found.1.fields) rest)
-arm_at child at None rest = Err (no_such_variant, at)
+abbrev pub fields_behind_index : (ℕ → Reader Tree) → List ℕ → Option (ℕ × Arm) → Reader Tree
+fields_behind_index child at (Some found) rest =
+    with_children (arm found.0) (all_at child (field_types found.1.fields) rest)
+fields_behind_index child at None rest = Err (no_such_variant, at)
 
 abbrev pub arms_at : (ℕ → Reader Tree) → List Arm → Reader Tree
 arms_at child arms [] = Err (truncated, [])
-arms_at child arms (index ∷ rest) = arm_at child (index ∷ rest) (arm_of arms index) rest
+arms_at child arms (index ∷ rest) =
+    fields_behind_index child (index ∷ rest) (arm_of arms index) rest
 
 -- the elements behind a length
 abbrev pub elements_at : (ℕ → Reader Tree) → ℕ → Read Reason ℕ → Read Refusal Tree
@@ -104,4 +113,6 @@ layout_at child (layout.array n t) bytes = with_children list (times_at child n 
 -- a value of type t, with room for so many levels
 unfoldable pub value_at : List TypeInfo → ℕ → ℕ → Reader Tree
 value_at r zero t bytes = Err (too_deep, bytes)
-value_at r (suc room) t bytes = if is_finite r t then layout_at (value_at r room) (layout r t) bytes else Err (no_finite_value, bytes)
+value_at r (suc room) t bytes =
+    if is_finite r t then layout_at (value_at r room) (layout r t) bytes else Err
+    (no_finite_value, bytes)

@@ -1,5 +1,9 @@
--- The one spelling of a value: the bytes of each node by itself, one behind the other in preorder (SCALE codec, "Types").
-use Rattle.std.specs.Prelude.{◌≡◌, ℕ, suc, ◌-◌, ◌^◌, ℤ, pos, negsuc, List, [], ◌∷◌, ◌++◌, length, flat_map, Option, Some, None, slice_get, option_map, Bool, true, false, if◌then◌else◌}
+-- The one spelling of a value: the bytes of each node by itself, one behind the other in preorder
+-- (SCALE codec, "Types").
+use Rattle.std.specs.Prelude.{
+    ◌≡◌, ℕ, suc, ◌-◌, ◌^◌, ℤ, pos, negsuc, List, [], ◌∷◌, ◌++◌, length, flat_map, Option, Some,
+    None, slice_get, option_map, Bool, true, false, if◌then◌else◌
+}
 use Rattle.scale_core.specs.Number.{AreBytes, le_bytes, bool_byte}
 use Rattle.scale_core.specs.Compact.{compact}
 use Rattle.registry_core.specs.Kinds.{kind_of, width_bytes}
@@ -55,16 +59,16 @@ abbrev pub length_bytes : Option TypeDef → ℕ → List ℕ
 length_bytes d n = if is_sequence d then compact n else []
 
 -- the bytes of a leaf, by the definition of its type
-abbrev pub leaf_bytes : Option TypeDef → Leaf → List ℕ
-leaf_bytes d tree.unit = []
-leaf_bytes d (tree.bool x) = bool_byte x ∷ []
-leaf_bytes d (tree.char c) = le_bytes 4 c
-leaf_bytes d (tree.text s) = compact (length s) ++ s
-leaf_bytes d (tree.unsigned n) = le_bytes (width_of d) n
-leaf_bytes d (tree.signed z) = le_bytes (width_of d) (word z)
-leaf_bytes d (tree.wide s) = s
-leaf_bytes d (tree.compact n) = compact n
-leaf_bytes d (tree.count n) = compact n
+abbrev pub leaf_spelling : Option TypeDef → Leaf → List ℕ
+leaf_spelling d tree.unit = []
+leaf_spelling d (tree.bool x) = bool_byte x ∷ []
+leaf_spelling d (tree.char c) = le_bytes 4 c
+leaf_spelling d (tree.text s) = compact (length s) ++ s
+leaf_spelling d (tree.unsigned n) = le_bytes (width_of d) n
+leaf_spelling d (tree.signed z) = le_bytes (width_of d) (word z)
+leaf_spelling d (tree.wide s) = s
+leaf_spelling d (tree.compact n) = compact n
+leaf_spelling d (tree.count n) = compact n
 
 -- the bytes in front of n parts, by the definition of their node's type
 abbrev pub branch_bytes : Option TypeDef → Branch → ℕ → List ℕ
@@ -74,7 +78,7 @@ branch_bytes d tree.list n = length_bytes d n
 
 -- the bytes of a node without those of its children, by the definition of its type
 abbrev pub own_bytes : Option TypeDef → Head → List ℕ
-own_bytes d (head.leaf l) = leaf_bytes d l
+own_bytes d (head.leaf l) = leaf_spelling d l
 own_bytes d (head.branch k n) = branch_bytes d k n
 
 abbrev pub cell_bytes : List TypeInfo → Cell → List ℕ
@@ -86,4 +90,5 @@ spelled r t v = flat_map (cell_bytes r) (cells r t v)
 
 -- the bytes that spell a value by the grammar are these
 abbrev pub EncodedIsValue : Type 0
-EncodedIsValue = (r : List TypeInfo) (t : ℕ) (v : Tree) (b : List ℕ) → AreBytes b → Val r t v b → spelled r t v ≡ b
+EncodedIsValue = (r : List TypeInfo) (t : ℕ) (v : Tree) (b : List ℕ) → AreBytes b → Val r t v b →
+    spelled r t v ≡ b

@@ -1,5 +1,8 @@
 -- What loops over lent arms and types keep.
-use Rattle.std.proofs.Common.{◌≡◌, ℕ, zero, suc, ◌+◌, ◌<◌, ◌^◌, max, true, false, List, [], ◌∷◌, ◌++◌, length, map, get_or, drop, flat_map, Option, Some, None, refl, sym, ap, ◌∙◌, arith}
+use Rattle.std.proofs.Common.{
+    ◌≡◌, ℕ, zero, suc, ◌+◌, ◌<◌, ◌^◌, max, true, false, List, [], ◌∷◌, ◌++◌, length, map, get_or,
+    drop, flat_map, Option, Some, None, refl, sym, ap, ◌∙◌, arith
+}
 use Rattle.std.specs.Prelude.{is_some}
 use Rattle.std.specs.List.{AllByRecursion}
 use Rattle.std.proofs.lemmas.List.{at_drop_more, length-append, length-map}
@@ -15,49 +18,82 @@ use Rattle.graph_core.proofs.Unknown.{unknown_in, arm_found, arm_passed}
 
 -- ---- lengths of fields
 
-arm_fits : (arms : List Arm) (i : ℕ) (a : Arm) → AllByRecursion FitsArm arms → i < length arms → a ≡ get_or arms i a → FitsArm a
+arm_fits : (arms : List Arm) (i : ℕ) (a : Arm) → AllByRecursion FitsArm arms → i < length arms →
+    a ≡ get_or arms i a → FitsArm a
 arm_fits [] i a h lt e = absurd (omega (arith, lt))
 arm_fits (x ∷ arms) zero a h lt e = rw e h.0
 arm_fits (x ∷ arms) (suc i) a h lt e = arm_fits arms i a h.1 (omega (arith, lt)) e
 
-pub fields_fit : (arms : List Arm) (i : ℕ) (a : Arm) → FitsList FitsArm arms → i < length arms → a ≡ get_or arms i a → length a.fields < 2 ^ 32
+pub fields_fit : (arms : List Arm) (i : ℕ) (a : Arm) → FitsList FitsArm arms → i < length arms →
+    a ≡ get_or arms i a → length a.fields < 2 ^ 32
 fields_fit arms i a h lt e = (arm_fits arms i a h.1 lt e).1.0
 
-pub count_passed : (n total i : ℕ) (arms : List Arm) (a : Arm) → i < length arms → a ≡ get_or arms i a → n + length (flat_map (λ x. field_types x.fields) (drop i arms)) ≡ total → n + length a.fields + length (flat_map (λ x. field_types x.fields) (drop (i + 1) arms)) ≡ total
+pub count_passed : (n total i : ℕ) (arms : List Arm) (a : Arm) → i < length arms →
+    a ≡ get_or arms i a → n + length (flat_map (λ x. field_types x.fields) (drop i arms)) ≡ total →
+    n + length a.fields + length (flat_map (λ x. field_types x.fields) (drop (i + 1) arms)) ≡ total
 count_passed n total i arms a lt at h =
     let rest = flat_map (λ (x : Arm). field_types x.fields) (drop (i + 1) arms) in
-    let one : length (flat_map (λ (x : Arm). field_types x.fields) (drop i arms)) ≡ length (flat_map (λ (x : Arm). field_types x.fields) (get_or arms i a ∷ drop (i + 1) arms)) = at_drop_more (λ (xs : List Arm). length (flat_map (λ (x : Arm). field_types x.fields) xs)) arms i a lt in
-    let two : length (flat_map (λ (x : Arm). field_types x.fields) (get_or arms i a ∷ drop (i + 1) arms)) ≡ length (field_types a.fields ++ rest) = ap (λ (b : Arm). length (field_types b.fields ++ rest)) (sym at) in
-    omega (arith, h, one, two, length-append (field_types a.fields) rest, length-map a.fields (λ (f : Field). f.ty.0))
+    let one : length (flat_map (λ (x : Arm). field_types x.fields) (drop i arms))
+        ≡ length (flat_map (λ (x : Arm). field_types x.fields)
+        (get_or arms i a ∷ drop (i + 1) arms)) =
+        at_drop_more (λ (xs : List Arm). length (flat_map (λ (x : Arm). field_types x.fields) xs))
+        arms i a lt in
+    let two : length (flat_map (λ (x : Arm). field_types x.fields)
+        (get_or arms i a ∷ drop (i + 1) arms)) ≡ length (field_types a.fields ++ rest) =
+        ap (λ (b : Arm). length (field_types b.fields ++ rest)) (sym at) in
+    omega (arith, h, one, two, length-append (field_types a.fields) rest,
+        length-map a.fields (λ (f : Field). f.ty.0))
 
-pub width_passed : (w total i : ℕ) (arms : List Arm) (a : Arm) → i < length arms → a ≡ get_or arms i a → max w (greatest (map (λ x. length x.fields) (drop i arms))) ≡ total → max (max w (length a.fields)) (greatest (map (λ x. length x.fields) (drop (i + 1) arms))) ≡ total
+pub width_passed : (w total i : ℕ) (arms : List Arm) (a : Arm) → i < length arms →
+    a ≡ get_or arms i a → max w (greatest (map (λ x. length x.fields) (drop i arms))) ≡ total →
+    max (max w (length a.fields)) (greatest (map (λ x. length x.fields) (drop (i + 1) arms)))
+    ≡ total
 width_passed w total i arms a lt at h =
     let rest = greatest (map (λ (x : Arm). length x.fields) (drop (i + 1) arms)) in
-    let one : greatest (map (λ (x : Arm). length x.fields) (drop i arms)) ≡ greatest (map (λ (x : Arm). length x.fields) (get_or arms i a ∷ drop (i + 1) arms)) = at_drop_more (λ (xs : List Arm). greatest (map (λ (x : Arm). length x.fields) xs)) arms i a lt in
-    let two : greatest (map (λ (x : Arm). length x.fields) (get_or arms i a ∷ drop (i + 1) arms)) ≡ max (length a.fields) rest = ap (λ (b : Arm). max (length b.fields) rest) (sym at) in
+    let one : greatest (map (λ (x : Arm). length x.fields) (drop i arms))
+        ≡ greatest (map (λ (x : Arm). length x.fields) (get_or arms i a ∷ drop (i + 1) arms)) =
+        at_drop_more (λ (xs : List Arm). greatest (map (λ (x : Arm). length x.fields) xs)) arms i a
+        lt in
+    let two : greatest (map (λ (x : Arm). length x.fields) (get_or arms i a ∷ drop (i + 1) arms))
+        ≡ max (length a.fields) rest = ap (λ (b : Arm). max (length b.fields) rest) (sym at) in
     let so_far : max w (max (length a.fields) rest) ≡ total = rw (one ∙ two) at h in
     omega (arith, so_far)
 
 -- ---- unknown references
 
-pub arm_has : (n i : ℕ) (arms : List Arm) (a : Arm) (o : Option ℕ) → i < length arms → a ≡ get_or arms i a → is_some o ≡ true → o ≡ first_unknown n (field_types a.fields) → unknown_in n (drop i arms) ≡ unknown_in n arms → o ≡ unknown_in n arms
+pub arm_has : (n i : ℕ) (arms : List Arm) (a : Arm) (o : Option ℕ) → i < length arms →
+    a ≡ get_or arms i a → is_some o ≡ true → o ≡ first_unknown n (field_types a.fields) →
+    unknown_in n (drop i arms) ≡ unknown_in n arms → o ≡ unknown_in n arms
 arm_has n i arms a None lt at some is h = absurd cc
 arm_has n i arms a (Some u) lt at some is h = arm_found n arms i a u lt at is h
 
-pub arm_lacks : (n i : ℕ) (arms : List Arm) (a : Arm) (o : Option ℕ) → i < length arms → a ≡ get_or arms i a → is_some o ≡ false → o ≡ first_unknown n (field_types a.fields) → unknown_in n (drop i arms) ≡ unknown_in n arms → unknown_in n (drop (i + 1) arms) ≡ unknown_in n arms
+pub arm_lacks : (n i : ℕ) (arms : List Arm) (a : Arm) (o : Option ℕ) → i < length arms →
+    a ≡ get_or arms i a → is_some o ≡ false → o ≡ first_unknown n (field_types a.fields) →
+    unknown_in n (drop i arms) ≡ unknown_in n arms →
+    unknown_in n (drop (i + 1) arms) ≡ unknown_in n arms
 arm_lacks n i arms a None lt at none is h = arm_passed n arms i a lt at is h
 arm_lacks n i arms a (Some u) lt at none is h = absurd cc
 
-from_shape : (n k i : ℕ) (r : List TypeInfo) (d : TypeDef) → shape r i ≡ Some d → unknown_from n k (drop i r) ≡ fault_or k (first_unknown n (references d)) (unknown_from n (k + 1) (drop (suc i) r))
+from_shape : (n k i : ℕ) (r : List TypeInfo) (d : TypeDef) → shape r i ≡ Some d →
+    unknown_from n k (drop i r) ≡ fault_or k (first_unknown n (references d))
+    (unknown_from n (k + 1) (drop (suc i) r))
 from_shape n k i [] d e = absurd cc
 from_shape n k zero (x ∷ r) d e = let is : x.shape ≡ d = cc in rw is refl
 from_shape n k (suc i) (x ∷ r) d e = from_shape n k i r d e
 
-pub type_has : (n i : ℕ) (r : List TypeInfo) (d : TypeDef) (u : ℕ) (total : Option (ℕ × ℕ)) → shape r i ≡ Some d → Some u ≡ first_unknown n (references d) → unknown_from n i (drop i r) ≡ total → Some (i, u) ≡ total
-type_has n i r d u total e is h = ap (λ (o : Option ℕ). fault_or i o (unknown_from n (i + 1) (drop (suc i) r))) is ∙ sym (from_shape n i i r d e) ∙ h
+pub type_has : (n i : ℕ) (r : List TypeInfo) (d : TypeDef) (u : ℕ) (total : Option (ℕ × ℕ)) →
+    shape r i ≡ Some d → Some u ≡ first_unknown n (references d) →
+    unknown_from n i (drop i r) ≡ total → Some (i, u) ≡ total
+type_has n i r d u total e is h =
+    ap (λ (o : Option ℕ). fault_or i o (unknown_from n (i + 1) (drop (suc i) r))) is
+    ∙ sym (from_shape n i i r d e) ∙ h
 
-pub type_lacks : (n i : ℕ) (r : List TypeInfo) (d : TypeDef) (total : Option (ℕ × ℕ)) → shape r i ≡ Some d → None ≡ first_unknown n (references d) → unknown_from n i (drop i r) ≡ total → unknown_from n (i + 1) (drop (i + 1) r) ≡ total
+pub type_lacks : (n i : ℕ) (r : List TypeInfo) (d : TypeDef) (total : Option (ℕ × ℕ)) →
+    shape r i ≡ Some d → None ≡ first_unknown n (references d) →
+    unknown_from n i (drop i r) ≡ total → unknown_from n (i + 1) (drop (i + 1) r) ≡ total
 type_lacks n i r d total e is h =
     let step : i + 1 ≡ suc i = omega arith in
-    let next : unknown_from n (i + 1) (drop (suc i) r) ≡ total = ap (λ (o : Option ℕ). fault_or i o (unknown_from n (i + 1) (drop (suc i) r))) is ∙ sym (from_shape n i i r d e) ∙ h in
+    let next : unknown_from n (i + 1) (drop (suc i) r) ≡ total =
+        ap (λ (o : Option ℕ). fault_or i o (unknown_from n (i + 1) (drop (suc i) r))) is
+        ∙ sym (from_shape n i i r d e) ∙ h in
     ap (λ (j : ℕ). unknown_from n (i + 1) (drop j r)) step ∙ next

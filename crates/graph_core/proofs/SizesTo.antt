@@ -1,5 +1,8 @@
 -- The references and arms of the types that were passed.
-use Rattle.std.proofs.Common.{◌≡◌, ℕ, zero, suc, ◌+◌, ◌≤◌, Bool, true, false, cond, List, [], ◌∷◌, length, take, flat_map, Some, refl, sym, ap, ◌∙◌, arith}
+use Rattle.std.proofs.Common.{
+    ◌≡◌, ℕ, zero, suc, ◌+◌, ◌≤◌, Bool, true, false, cond, List, [], ◌∷◌, length, take, flat_map,
+    Some, refl, sym, ap, ◌∙◌, arith
+}
 use Rattle.std.specs.Prelude.{◌==◌}
 use Rattle.std.proofs.lemmas.Bool.{eqb-true}
 use Rattle.std.proofs.lemmas.List.{length-append, take_all}
@@ -12,22 +15,30 @@ use Rattle.graph_core.specs.Counts.{times}
 use Rattle.graph_core.specs.Graphs.{IsUnread, IsMeasured, IsOpened}
 use Rattle.graph_core.specs.Sizes.{AreSizes, arm_count, arm_counts}
 
-pub one_more : (i t : ℕ) (log : List ℕ) → (times t log ≤ 1) × (i ≤ t → times t log ≡ 0) → (times t (i ∷ log) ≤ 1) × (i + 1 ≤ t → times t (i ∷ log) ≡ 0)
+pub one_more : (i t : ℕ) (log : List ℕ) → (times t log ≤ 1) × (i ≤ t → times t log ≡ 0) →
+    (times t (i ∷ log) ≤ 1) × (i + 1 ≤ t → times t (i ∷ log) ≡ 0)
 one_more i t log h = go (i == t) refl where
-  go : (b : Bool) → (i == t) ≡ b → (cond b 1 0 + times t log ≤ 1) × (i + 1 ≤ t → cond b 1 0 + times t log ≡ 0)
-  go true e = let same : i ≡ t = eqb-true i t e in (omega (arith, h.1 (omega arith), same), λ le. absurd (omega (arith, same, le)))
+  go : (b : Bool) → (i == t) ≡ b → (cond b 1 0 + times t log ≤ 1)
+      × (i + 1 ≤ t → cond b 1 0 + times t log ≡ 0)
+  go true e = let same : i ≡ t = eqb-true i t e in
+      (omega (arith, h.1 (omega arith), same), λ le. absurd (omega (arith, same, le)))
   go false e = (omega (arith, h.0), λ le. omega (arith, h.1 (omega (arith, le))))
 
-references_more : (r : List TypeInfo) (i : ℕ) (d : TypeDef) → shape r i ≡ Some d → length (flat_map (λ x. references x.shape) (take (suc i) r)) ≡ length (flat_map (λ x. references x.shape) (take i r)) + length (references d)
+references_more : (r : List TypeInfo) (i : ℕ) (d : TypeDef) → shape r i ≡ Some d →
+    length (flat_map (λ x. references x.shape) (take (suc i) r))
+    ≡ length (flat_map (λ x. references x.shape) (take i r)) + length (references d)
 references_more [] i d e = absurd cc
 references_more (x ∷ r) zero d e =
     let is : x.shape ≡ d = cc in
     rw (length-append (references x.shape) [], is) (omega arith)
 references_more (x ∷ r) (suc i) d e =
     let more = references_more r i d e in
-    rw (length-append (references x.shape) (flat_map (λ y. references y.shape) (take (suc i) r)), length-append (references x.shape) (flat_map (λ y. references y.shape) (take i r))) (omega (arith, more))
+    rw (length-append (references x.shape) (flat_map (λ y. references y.shape) (take (suc i) r)),
+        length-append (references x.shape) (flat_map (λ y. references y.shape) (take i r)))
+        (omega (arith, more))
 
-arms_more : (r : List TypeInfo) (i : ℕ) (d : TypeDef) → shape r i ≡ Some d → arm_counts (take (suc i) r) ≡ arm_counts (take i r) + arm_count d
+arms_more : (r : List TypeInfo) (i : ℕ) (d : TypeDef) → shape r i ≡ Some d →
+    arm_counts (take (suc i) r) ≡ arm_counts (take i r) + arm_count d
 arms_more [] i d e = absurd cc
 arms_more (x ∷ r) zero d e = let is : x.shape ≡ d = cc in rw is (omega arith)
 arms_more (x ∷ r) (suc i) d e = let more = arms_more r i d e in omega (arith, more)
@@ -37,7 +48,8 @@ pub record SizesTo (r : List TypeInfo) (i n m : ℕ) (d : Graph) : Type 0 where
   pub types : d.types.now ≡ r
   pub references_are : n ≡ length (flat_map (λ x. references x.shape) (take i r))
   pub arms_are : m ≡ arm_counts (take i r)
-  pub opened : (t : ℕ) → (times t d.looks.opened.entries ≤ 1) × (i ≤ t → times t d.looks.opened.entries ≡ 0)
+  pub opened : (t : ℕ) → (times t d.looks.opened.entries ≤ 1)
+      × (i ≤ t → times t d.looks.opened.entries ≡ 0)
   pub read : d.looks.read.entries ≡ []
   pub listed : d.looks.listed.entries ≡ []
 
@@ -51,19 +63,23 @@ sizes_none r d h = record {
   listed = h.listed;
 }
 
-pub sizes_more : (r : List TypeInfo) (i n m : ℕ) (d : TypeDef) (a b : Graph) → shape r i ≡ Some d → SizesTo r i n m a → IsOpened a b i → SizesTo r (i + 1) (n + length (references d)) (m + arm_count d) b
+pub sizes_more : (r : List TypeInfo) (i n m : ℕ) (d : TypeDef) (a b : Graph) → shape r i ≡ Some d →
+    SizesTo r i n m a → IsOpened a b i →
+    SizesTo r (i + 1) (n + length (references d)) (m + arm_count d) b
 sizes_more r i n m d a b e h o =
     let step : i + 1 ≡ suc i = omega arith in
     record {
       types = o.types ∙ h.types;
-      references_are = rw step (ap (λ (k : ℕ). k + length (references d)) h.references_are ∙ sym (references_more r i d e));
+      references_are = rw step (ap (λ (k : ℕ). k + length (references d)) h.references_are
+          ∙ sym (references_more r i d e));
       arms_are = rw step (ap (λ (k : ℕ). k + arm_count d) h.arms_are ∙ sym (arms_more r i d e));
       opened = λ t. rw o.opened (one_more i t a.looks.opened.entries (h.opened t));
       read = o.read ∙ h.read;
       listed = o.listed ∙ h.listed;
     }
 
-pub sizes_all : (r : List TypeInfo) (i n m : ℕ) (d : Graph) → length r ≤ i → SizesTo r i n m d → AreSizes r (record { references = n; arms = m }) × IsMeasured r d
+pub sizes_all : (r : List TypeInfo) (i n m : ℕ) (d : Graph) → length r ≤ i → SizesTo r i n m d →
+    AreSizes r (record { references = n; arms = m }) × IsMeasured r d
 sizes_all r i n m d le h =
     let all : take i r ≡ r = take_all i r le in (
       record { references = rw all at h.references_are; arms = rw all at h.arms_are },

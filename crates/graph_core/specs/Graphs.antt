@@ -1,5 +1,7 @@
 -- Types and the lists of the references to each.
-use Rattle.std.specs.Prelude.{◌≡◌, ℕ, suc, ◌<◌, ◌≤◌, ◌^◌, List, [], ◌∷◌, ◌++◌, length, map, reverse, slice_index}
+use Rattle.std.specs.Prelude.{
+    ◌≡◌, ℕ, suc, ◌<◌, ◌≤◌, ◌^◌, List, [], ◌∷◌, ◌++◌, length, map, reverse, slice_index
+}
 use Rattle.registry_core.specs.declared.type_info.TypeInfo.{TypeInfo}
 use Rattle.graph_core.specs.declared.graph.Graph.{Graph}
 use Rattle.graph_core.specs.References.{AreKnown}
@@ -17,7 +19,8 @@ numbers d = map (λ l. l.counter) d.links.items
 abbrev pub befores : Graph → List ℕ
 befores d = map (λ l. l.before) d.links.items
 
--- a is one more than the number of the last of the first k references that is to type u, or 0 where there is none
+-- a is one more than the number of the last of the first k references that is to type u, or 0 where
+-- there is none
 pub record IsLast (xs : List ℕ) (k u a : ℕ) : Type 0 where
   pub within : a ≤ k
   pub last : (e : ℕ) → e < k → slice_index xs e ≡ u → e < a
@@ -29,12 +32,14 @@ pub record IsLinked (d : Graph) : Type 0 where
   pub links : length d.links.items ≡ length (refs d)
   pub small : length (refs d) < 2 ^ 32
   pub known : AreKnown (length d.types.now) (refs d)
-  pub newest : (u : ℕ) → u < length d.types.now → IsLast (refs d) (length (refs d)) u (slice_index d.newest.items u)
+  pub newest : (u : ℕ) → u < length d.types.now →
+      IsLast (refs d) (length (refs d)) u (slice_index d.newest.items u)
   pub members : d.members.items ≡ refs d
-  pub before : (e : ℕ) → e < length (refs d) → IsLast (refs d) e (slice_index (refs d) e) (slice_index (befores d) e)
+  pub before : (e : ℕ) → e < length (refs d) →
+      IsLast (refs d) e (slice_index (refs d) e) (slice_index (befores d) e)
 
 -- from one graph to the other these references were read, for these counters
-pub record Reads (a b : Graph) (tos counters : List ℕ) : Type 0 where
+pub record ReadsReferences (a b : Graph) (tos counters : List ℕ) : Type 0 where
   pub linked : IsLinked b
   pub types : b.types.now ≡ a.types.now
   pub read : refs b ≡ refs a ++ tos
@@ -51,14 +56,16 @@ pub record IsUnread (r : List TypeInfo) (d : Graph) : Type 0 where
   pub read : d.looks.read.entries ≡ []
   pub listed : d.looks.listed.entries ≡ []
 
--- no reference was read of these types, each of which was looked at once at most, and there are no lists yet
+-- no reference was read of these types, each of which was looked at once at most, and there are no
+-- lists yet
 pub record IsMeasured (r : List TypeInfo) (d : Graph) : Type 0 where
   pub types : d.types.now ≡ r
   pub opened : (t : ℕ) → times t d.looks.opened.entries ≤ 1
   pub read : d.looks.read.entries ≡ []
   pub listed : d.looks.listed.entries ≡ []
 
--- no reference was read of these types, each of which was looked at once at most, and each list is empty
+-- no reference was read of these types, each of which was looked at once at most, and each list is
+-- empty
 pub record IsNew (r : List TypeInfo) (d : Graph) : Type 0 where
   pub types : d.types.now ≡ r
   pub linked : IsLinked d

@@ -1,12 +1,16 @@
 -- Which references have to be positions, and the first that is none.
-use Rattle.std.specs.Prelude.{◌≡◌, ℕ, ◌+◌, ◌<◌, ◌≤◌, List, [], ◌∷◌, ◌++◌, length, flat_map, Option, Some, None, nat_lt, if◌then◌else◌}
+use Rattle.std.specs.Prelude.{
+    ◌≡◌, ℕ, ◌+◌, ◌<◌, ◌≤◌, List, [], ◌∷◌, ◌++◌, length, flat_map, Option, Some, None, nat_lt,
+    if◌then◌else◌
+}
 use Rattle.std.specs.List.{AllByRecursion}
 use Rattle.registry_core.specs.declared.definition.TypeDef.{TypeDef}
 use Rattle.registry_core.specs.declared.definition.TypeDef.TheVariants as Def
 use Rattle.registry_core.specs.declared.type_info.TypeInfo.{TypeInfo}
 use Rattle.graph_core.specs.Types.{ids, field_types}
 
--- the references that have to be positions, in the order of the definition's bytes: those of shadowed arms and the
+-- the references that have to be positions, in the order of the definition's bytes: those of
+-- shadowed arms and the
 -- elements of arrays of length 0 are among them, those of bit sequences are not
 abbrev pub references : TypeDef → List ℕ
 references (Def.Composite fs) = field_types fs
@@ -30,9 +34,13 @@ AreChecked n r = AllByRecursion (λ i. AreKnown n (references i.shape)) r
 abbrev pub IsChecked : List TypeInfo → Type 0
 IsChecked r = AreChecked (length r) r
 
--- u is no position, the type at position i refers to it, and all references before that one are positions
+-- u is no position, the type at position i refers to it, and all references before that one are
+-- positions
 abbrev pub IsFirstUnknown : List TypeInfo → ℕ → ℕ → Type 0
-IsFirstUnknown r i u = (before : List TypeInfo) × (x : TypeInfo) × (after : List TypeInfo) × (front back : List ℕ) × (r ≡ before ++ x ∷ after) × (i ≡ length before) × (references x.shape ≡ front ++ u ∷ back) × AreChecked (length r) before × AreKnown (length r) front × (length r ≤ u)
+IsFirstUnknown r i u = (before : List TypeInfo) × (x : TypeInfo) × (after : List TypeInfo)
+    × (front back : List ℕ) × (r ≡ before ++ x ∷ after) × (i ≡ length before)
+    × (references x.shape ≡ front ++ u ∷ back) × AreChecked (length r) before
+    × AreKnown (length r) front × (length r ≤ u)
 
 -- the first of these ids that is no position of n types
 abbrev pub first_unknown : ℕ → List ℕ → Option ℕ
@@ -47,13 +55,17 @@ fault_or i None others = others
 -- the first reference to no position, with the position of its type, of types from position i on
 abbrev pub unknown_from : ℕ → ℕ → List TypeInfo → Option (ℕ × ℕ)
 unknown_from n i [] = None
-unknown_from n i (t ∷ ts) = fault_or i (first_unknown n (references t.shape)) (unknown_from n (i + 1) ts)
+unknown_from n i (t ∷ ts) =
+    fault_or i (first_unknown n (references t.shape)) (unknown_from n (i + 1) ts)
 
 -- the first reference to no position, with the position of its type
 abbrev pub first_fault : List TypeInfo → Option (ℕ × ℕ)
 first_fault r = unknown_from (length r) 0 r
 
--- there is no fault exactly where every reference is a position, and else it is the first that is none
+-- there is no fault exactly where every reference is a position, and else it is the first that is
+-- none
 abbrev pub FaultIsFirst : Type 0
-FaultIsFirst = (r : List TypeInfo) → (first_fault r ≡ None → IsChecked r) × (IsChecked r → first_fault r ≡ None)
-    × ((i u : ℕ) → (first_fault r ≡ Some (i, u) → IsFirstUnknown r i u) × (IsFirstUnknown r i u → first_fault r ≡ Some (i, u)))
+FaultIsFirst = (r : List TypeInfo) → (first_fault r ≡ None → IsChecked r)
+    × (IsChecked r → first_fault r ≡ None)
+    × ((i u : ℕ) → (first_fault r ≡ Some (i, u) → IsFirstUnknown r i u)
+        × (IsFirstUnknown r i u → first_fault r ≡ Some (i, u)))

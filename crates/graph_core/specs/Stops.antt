@@ -11,7 +11,8 @@ use Rattle.graph_core.specs.Counts.{times}
 use Rattle.graph_core.specs.Graphs.{refs}
 use Rattle.graph_core.specs.References.{AreKnown, references, first_fault}
 
--- u is the first of these references that is no position; it and those before it were read, each once
+-- u is the first of these references that is no position; it and those before it were read, each
+-- once
 pub record StopsAt (tos : List ℕ) (a b : Graph) (u : ℕ) : Type 0 where
   pub front : List ℕ
   pub back : List ℕ
@@ -23,17 +24,19 @@ pub record StopsAt (tos : List ℕ) (a b : Graph) (u : ℕ) : Type 0 where
   pub opened : b.looks.opened.entries ≡ a.looks.opened.entries
   pub listed : b.looks.listed.entries ≡ a.looks.listed.entries
 
--- where linking did not stop for want of memory, it stopped at the first of these references that is no position
-abbrev pub Stops : List ℕ → Graph → Graph → Stop → Type 0
-Stops tos a b stop.Memory = Unit {0}
-Stops tos a b (stop.Unknown u) = StopsAt tos a b u
+-- where linking did not stop for want of memory, it stopped at the first of these references that
+-- is no position
+abbrev pub StopsLinking : List ℕ → Graph → Graph → Stop → Type 0
+StopsLinking tos a b stop.Memory = Unit {0}
+StopsLinking tos a b (stop.Unknown u) = StopsAt tos a b u
 
 -- the same as a fault of the type at this position
 abbrev pub fault_in : ℕ → Stop → CheckFault
 fault_in i stop.Memory = OutOfMemory
 fault_in i (stop.Unknown u) = UnknownType (record { 0 = i }) (record { 0 = u })
 
--- each type was looked at twice at most, and the references of the definitions once at most, in their order; no list was looked at
+-- each type was looked at twice at most, and the references of the definitions once at most, in
+-- their order; no list was looked at
 pub record HasFewLooksUntil (r : List TypeInfo) (l : Looks) : Type 0 where
   pub types : (t : ℕ) → times t l.opened.entries ≤ 2
   pub back : List ℕ
@@ -42,5 +45,6 @@ pub record HasFewLooksUntil (r : List TypeInfo) (l : Looks) : Type 0 where
 
 -- an unknown reference is the first one, found with few looks
 abbrev pub IsRefusedFor : List TypeInfo → Looks → CheckFault → Type 0
-IsRefusedFor r l (UnknownType from to) = (first_fault r ≡ Some (from.0, to.0)) × HasFewLooksUntil r l
+IsRefusedFor r l (UnknownType from to) = (first_fault r ≡ Some (from.0, to.0))
+    × HasFewLooksUntil r l
 IsRefusedFor r l OutOfMemory = Unit {0}

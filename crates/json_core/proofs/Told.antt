@@ -1,5 +1,9 @@
--- A node of a value, by what it is: the JSON that its definition and its children give is that of the value.
-use Rattle.std.proofs.Common.{◌≡◌, ℕ, ◌-◌, ◌*◌, ◌^◌, ◌<◌, ◌≤◌, ◌⊎◌, Bool, true, false, cond, List, length, Option, Some, None, refl, sym, ap, subst, ◌∙◌, arith, inl, inr, true≢false, Bor, Result, option_map}
+-- A node of a value, by what it is: the JSON that its definition and its children give is that of
+-- the value.
+use Rattle.std.proofs.Common.{
+    ◌≡◌, ℕ, ◌-◌, ◌*◌, ◌^◌, ◌<◌, ◌≤◌, ◌⊎◌, Bool, true, false, cond, List, length, Option, Some, None,
+    refl, sym, ap, subst, ◌∙◌, arith, inl, inr, true≢false, Bor, Result, option_map
+}
 use Rattle.std.specs.Option.{IsSome}
 use Rattle.std.specs.Result.{IfOk}
 use Rattle.std.proofs.lemmas.Bool.{ltb-true, ltb-false}
@@ -26,7 +30,9 @@ use Rattle.graph_core.specs.Types.{shape, field_types}
 use Rattle.widths_core.specs.Arms.{arm_of}
 use Rattle.widths_core.specs.Classes.{is_empty}
 use Rattle.widths_core.specs.Targets.{target_of, compact_target_of, compact_target_of_shape}
-use Rattle.widths_core.specs.Layouts.{Layout, layout, layout_of_shape, sized_layout, kind_layout, sequence_layout, compact_layout}
+use Rattle.widths_core.specs.Layouts.{
+    Layout, layout, layout_of_shape, sized_layout, kind_layout, sequence_layout, compact_layout
+}
 use Rattle.widths_core.specs.Layouts as layout
 use Rattle.grammar_core.specs.Tree.{Tree, Trees, how_many}
 use Rattle.grammar_core.specs.Tree as tree
@@ -38,15 +44,22 @@ use Rattle.value_core.specs.Whats.{what_of}
 use Rattle.value_core.specs.declared.what.What.{What}
 use Rattle.value_core.specs.declared.what.What.TheVariants as what
 use Rattle.value_core.proofs.Below.{arm_get, arm_part_is}
-use Rattle.json_core.specs.Defined.{unsigned_by, signed_by, is_long_kind, is_long, is_long_target, arm_in}
-use Rattle.json_core.specs.Json.{json_of, json_seen, all_json, each_json, unsigned_json, signed_json, unsigned_of, signed_of, wide_json, parts_json, fields_json, arm_json, arm_at, arm_types, part_types, element_type}
+use Rattle.json_core.specs.Defined.{
+    unsigned_by, signed_by, is_long_kind, is_long, is_long_target, defined_arm
+}
+use Rattle.json_core.specs.Json.{
+    json_of, json_seen, all_json, each_json, unsigned_json, signed_json, unsigned_of, signed_of,
+    wide_json, parts_json, fields_json, arm_json, arm_at_position, arm_types, part_types,
+    element_type
+}
 use Rattle.json_core.proofs.Children.{jsons, all_is, each_is}
 
 -- ---- what the layout of a type says of its definition
 
 -- integers of k bytes are long, or so many numbers fit 64 bits
 abbrev Long : ℕ → Bool → Type 0
-Long k is = ((is ≡ true) × (nat_le k 8 ≡ false)) ⊎ ((is ≡ false) × (nat_le k 8 ≡ true) × (256 ^ k ≤ 2 ^ 64))
+Long k is = ((is ≡ true) × (nat_le k 8 ≡ false))
+    ⊎ ((is ≡ false) × (nat_le k 8 ≡ true) × (256 ^ k ≤ 2 ^ 64))
 
 abbrev Defined : List TypeInfo → Layout → Option TypeDef → Type 0
 Defined r (layout.plain (layout.unsigned k)) d = Long k (is_long d)
@@ -62,7 +75,8 @@ long_width width.W32 = inr (refl, refl, omega arith)
 long_width width.W64 = inr (refl, refl, omega arith)
 long_width width.W128 = inl (refl, refl)
 
-defined_kind : (r : List TypeInfo) (k : PrimitiveKind) (d : Option TypeDef) → is_long d ≡ is_long_kind k → Defined r (kind_layout k) d
+defined_kind : (r : List TypeInfo) (k : PrimitiveKind) (d : Option TypeDef) →
+    is_long d ≡ is_long_kind k → Defined r (kind_layout k) d
 defined_kind r K.Bool d h = tt
 defined_kind r K.Char d h = tt
 defined_kind r K.Str d h = tt
@@ -70,11 +84,13 @@ defined_kind r (K.Unsigned w) d h = rw h (long_width w)
 defined_kind r (K.Signed w) d h = rw h (long_width w)
 defined_kind r (K.Wide s) d h = tt
 
-defined_sequence : (r : List TypeInfo) (t : ℕ) (e : Bool) (d : Option TypeDef) → Defined r (sequence_layout t e) d
+defined_sequence : (r : List TypeInfo) (t : ℕ) (e : Bool) (d : Option TypeDef) →
+    Defined r (sequence_layout t e) d
 defined_sequence r t true d = tt
 defined_sequence r t false d = tt
 
-defined_compact : (r : List TypeInfo) (o : Option Target) (d : Option TypeDef) → compact_target_of_shape r d ≡ o → Defined r (compact_layout o) d
+defined_compact : (r : List TypeInfo) (o : Option Target) (d : Option TypeDef) →
+    compact_target_of_shape r d ≡ o → Defined r (compact_layout o) d
 defined_compact r (Some m) d e = e
 defined_compact r None d e = tt
 
@@ -88,7 +104,8 @@ defined_sized r (Def.Primitive p) = defined_kind r (kind_of p) (Some (Def.Primit
 defined_sized r (Def.Compact t) = defined_compact r (target_of r t.0) (Some (Def.Compact t)) refl
 defined_sized r (Def.BitSequence store order) = tt
 
-defined_from : (r : List TypeInfo) (e : Bool) (d : Option TypeDef) → Defined r (layout_of_shape r e d) d
+defined_from : (r : List TypeInfo) (e : Bool) (d : Option TypeDef) →
+    Defined r (layout_of_shape r e d) d
 defined_from r true d = tt
 defined_from r false (Some d) = defined_sized r d
 defined_from r false None = tt
@@ -114,14 +131,17 @@ short : (k : ℕ) (is : Bool) → Long k is → is ≡ false → 256 ^ k ≤ 2 ^
 short k is (inl h) e = absurd (true≢false (sym h.0 ∙ e))
 short k is (inr h) e = h.2
 
-signed_within : (range n : ℕ) (c : Bool) → nat_lt (2 * n) range ≡ c → n < range → range ≤ 2 ^ 64 → FitsSigned w64 (cond c (pos n) (neg_ℤ (pos (range - n))))
-signed_within range n true e less small = let half = ltb-true (2 * n) range e in omega (arith, half, small)
+signed_within : (range n : ℕ) (c : Bool) → nat_lt (2 * n) range ≡ c → n < range → range ≤ 2 ^ 64 →
+    FitsSigned w64 (cond c (pos n) (neg_ℤ (pos (range - n))))
+signed_within range n true e less small = let half = ltb-true (2 * n) range e in
+    omega (arith, half, small)
 signed_within range n false e less small =
     let half = ltb-false (2 * n) range e in
     rw (neg-pos (range - n) (omega (arith, less))) (omega (arith, half, less, small))
 
 signed_fits : (b : List ℕ) → AreBytes b → 256 ^ length b ≤ 2 ^ 64 → FitsSigned w64 (signed_number b)
-signed_fits b h small = signed_within (256 ^ length b) (number b) (nat_lt (2 * number b) (256 ^ length b)) refl (number-bound b h) small
+signed_fits b h small = signed_within (256 ^ length b) (number b)
+    (nat_lt (2 * number b) (256 ^ length b)) refl (number-bound b h) small
 
 long_target : (m : Target) → Long (target_bytes m) (is_long_target (Some m))
 long_target target.Unit = inr (refl, refl, omega arith)
@@ -146,16 +166,24 @@ Told r t v what.Empty = json_of r t v ≡ json.null
 Told r t v (what.Bool b) = json_of r t v ≡ json.boolean b
 Told r t v (what.Char c) = json_of r t v ≡ json.string (encode_utf8 c)
 Told r t v what.Text = (s : List ℕ) × (text_of v ≡ Some s) × (json_of r t v ≡ json.string s)
-Told r t v (what.Unsigned n) = (is_long (shape r t) ≡ false → n < 2 ^ 64) × (json_of r t v ≡ unsigned_by (is_long (shape r t)) n)
-Told r t v (what.Signed z) = (is_long (shape r t) ≡ false → FitsSigned w64 z) × (json_of r t v ≡ signed_by (is_long (shape r t)) z)
+Told r t v (what.Unsigned n) = (is_long (shape r t) ≡ false → n < 2 ^ 64)
+    × (json_of r t v ≡ unsigned_by (is_long (shape r t)) n)
+Told r t v (what.Signed z) = (is_long (shape r t) ≡ false → FitsSigned w64 z)
+    × (json_of r t v ≡ signed_by (is_long (shape r t)) z)
 Told r t v (what.Wide s) = json_of r t v ≡ wide_json s
-Told r t v (what.Compact n) = (is_long_target (compact_target_of r t) ≡ false → n < 2 ^ 64) × (json_of r t v ≡ unsigned_by (is_long_target (compact_target_of r t)) n)
+Told r t v (what.Compact n) = (is_long_target (compact_target_of r t) ≡ false → n < 2 ^ 64)
+    × (json_of r t v ≡ unsigned_by (is_long_target (compact_target_of r t)) n)
 Told r t v what.Fields = json_of r t v ≡ parts_json (shape r t) (jsons (children_by r t v))
-Told r t v (what.Arm q) = (a : Arm) × (arm_in (shape r t) q ≡ Some a) × (json_of r t v ≡ json.object (member a.name (fields_json a.fields (jsons (children_by r t v))) no_members))
+Told r t v (what.Arm q) = (a : Arm) × (defined_arm (shape r t) q ≡ Some a)
+    × (json_of r t v ≡ json.object
+    (member a.name (fields_json a.fields (jsons (children_by r t v))) no_members))
 Told r t v what.List = json_of r t v ≡ json.array (jsons (children_by r t v))
-Told r t v (what.Count k) = json_of r t v ≡ json.object (member (codes "count") (json.number (json.unsigned k)) no_members)
+Told r t v (what.Count k) =
+    json_of r t v ≡ json.object (member (codes "count") (json.number (json.unsigned k)) no_members)
 
-unsigned_told : (r : List TypeInfo) (t n k : ℕ) (b : List ℕ) → AreBytes b → layout r t ≡ layout.plain (layout.unsigned k) → length b ≡ k → number b ≡ n → Told r t (tree.leaf (tree.unsigned n)) (what.Unsigned n)
+unsigned_told : (r : List TypeInfo) (t n k : ℕ) (b : List ℕ) → AreBytes b →
+    layout r t ≡ layout.plain (layout.unsigned k) → length b ≡ k → number b ≡ n →
+    Told r t (tree.leaf (tree.unsigned n)) (what.Unsigned n)
 unfolding json_of
 unsigned_told r t n k b are e len is =
     let long = defined_at r t (layout.plain (layout.unsigned k)) e in
@@ -164,7 +192,9 @@ unsigned_told r t n k b are e len is =
       ap (λ (f : Layout). unsigned_of f n) e ∙ unsigned_same k n _ long,
     )
 
-signed_told : (r : List TypeInfo) (t k : ℕ) (z : ℤ) (b : List ℕ) → AreBytes b → layout r t ≡ layout.plain (layout.signed k) → length b ≡ k → signed_number b ≡ z → Told r t (tree.leaf (tree.signed z)) (what.Signed z)
+signed_told : (r : List TypeInfo) (t k : ℕ) (z : ℤ) (b : List ℕ) → AreBytes b →
+    layout r t ≡ layout.plain (layout.signed k) → length b ≡ k → signed_number b ≡ z →
+    Told r t (tree.leaf (tree.signed z)) (what.Signed z)
 unfolding json_of
 signed_told r t k z b are e len is =
     let long = defined_at r t (layout.plain (layout.signed k)) e in (
@@ -172,37 +202,55 @@ signed_told r t k z b are e len is =
       ap (λ (f : Layout). signed_of f z) e ∙ signed_same k z _ long,
     )
 
-compact_told : (r : List TypeInfo) (t x : ℕ) (m : Target) (b : List ℕ) → layout r t ≡ layout.plain (layout.compact m) → IsCompact m x b → Told r t (tree.leaf (tree.compact x)) (what.Compact x)
+compact_told : (r : List TypeInfo) (t x : ℕ) (m : Target) (b : List ℕ) →
+    layout r t ≡ layout.plain (layout.compact m) → IsCompact m x b →
+    Told r t (tree.leaf (tree.compact x)) (what.Compact x)
 unfolding json_of
 compact_told r t x m b e h =
     let is : compact_target_of r t ≡ Some m = defined_at r t (layout.plain (layout.compact m)) e in
-    let long : Long (target_bytes m) (is_long_target (compact_target_of r t)) = rw is (long_target m) in (
+    let long : Long (target_bytes m) (is_long_target (compact_target_of r t)) =
+        rw is (long_target m) in (
       λ s. omega (arith, compact_bound m x b h, short (target_bytes m) _ long s),
       ap (λ (f : Layout). unsigned_of f x) e ∙ unsigned_same (target_bytes m) x _ long,
     )
 
-fields_told : (r : List TypeInfo) (t : ℕ) (ts : List ℕ) (vs : Trees) (b : List ℕ) → layout r t ≡ layout.fields ts → Vals r ts vs b → Told r t (tree.branch tree.fields vs) what.Fields
+fields_told : (r : List TypeInfo) (t : ℕ) (ts : List ℕ) (vs : Trees) (b : List ℕ) →
+    layout r t ≡ layout.fields ts → Vals r ts vs b →
+    Told r t (tree.branch tree.fields vs) what.Fields
 unfolding json_of
 fields_told r t ts vs b e h =
-    let parts : jsons (seen_parts r (fields_part (layout r t)) vs) ≡ all_json r ts vs = ap (λ (f : Layout). jsons (seen_parts r (fields_part f) vs)) e ∙ all_is r ts vs b h in
+    let parts : jsons (seen_parts r (fields_part (layout r t)) vs) ≡ all_json r ts vs =
+        ap (λ (f : Layout). jsons (seen_parts r (fields_part f) vs)) e ∙ all_is r ts vs b h in
     ap (parts_json (shape r t)) (ap (λ (f : Layout). all_json r (part_types f) vs) e ∙ sym parts)
 
-arm_told : (r : List TypeInfo) (t q i : ℕ) (arms : List Arm) (a : Arm) (vs : Trees) (b : List ℕ) → layout r t ≡ layout.arms arms → arm_of arms i ≡ Some (q, a) → Vals r (field_types a.fields) vs b → Told r t (tree.branch (tree.arm q) vs) (what.Arm q)
+arm_told : (r : List TypeInfo) (t q i : ℕ) (arms : List Arm) (a : Arm) (vs : Trees) (b : List ℕ) →
+    layout r t ≡ layout.arms arms → arm_of arms i ≡ Some (q, a) →
+    Vals r (field_types a.fields) vs b → Told r t (tree.branch (tree.arm q) vs) (what.Arm q)
 unfolding json_of
 arm_told r t q i arms a vs b e f h =
     let got : slice_get arms q ≡ Some a = arm_get arms i q a f in
-    let at : arm_at (layout r t) q ≡ Some a = ap (λ (g : Layout). arm_at g q) e ∙ got in
-    let parts : jsons (seen_parts r (arm_part (layout r t) q) vs) ≡ all_json r (field_types a.fields) vs = ap (λ (p : Part). jsons (seen_parts r p vs)) (arm_part_is r t q arms i a e f) ∙ all_is r (field_types a.fields) vs b h in (
+    let at : arm_at_position (layout r t) q ≡ Some a = ap (λ (g : Layout). arm_at_position g q) e
+        ∙ got in
+    let parts : jsons (seen_parts r (arm_part (layout r t) q) vs)
+        ≡ all_json r (field_types a.fields) vs =
+        ap (λ (p : Part). jsons (seen_parts r p vs)) (arm_part_is r t q arms i a e f)
+        ∙ all_is r (field_types a.fields) vs b h in (
       a,
-      ap (λ (d : Option TypeDef). arm_in d q) (defined_at r t (layout.arms arms) e) ∙ got,
-      ap (λ (o : Option Arm). arm_json o (all_json r (arm_types o) vs)) at ∙ ap (arm_json (Some a)) (sym parts),
+      ap (λ (d : Option TypeDef). defined_arm d q) (defined_at r t (layout.arms arms) e) ∙ got,
+      ap (λ (o : Option Arm). arm_json o (all_json r (arm_types o) vs)) at
+          ∙ ap (arm_json (Some a)) (sym parts),
     )
 
-list_told : (r : List TypeInfo) (t u : ℕ) (vs : Trees) → element_type (layout r t) ≡ u → list_part (layout r t) (how_many vs) ≡ times (how_many vs) u → Told r t (tree.branch tree.list vs) what.List
+list_told : (r : List TypeInfo) (t u : ℕ) (vs : Trees) → element_type (layout r t) ≡ u →
+    list_part (layout r t) (how_many vs) ≡ times (how_many vs) u →
+    Told r t (tree.branch tree.list vs) what.List
 unfolding json_of
-list_told r t u vs e p = ap json.array (ap (λ (x : ℕ). each_json r x vs) e ∙ sym (each_is r u vs) ∙ sym (ap (λ (q : Part). jsons (seen_parts r q vs)) p))
+list_told r t u vs e p =
+    ap json.array (ap (λ (x : ℕ). each_json r x vs) e ∙ sym (each_is r u vs)
+    ∙ sym (ap (λ (q : Part). jsons (seen_parts r q vs)) p))
 
-told_by : (r : List TypeInfo) (t : ℕ) (v : Tree) (b : List ℕ) → AreBytes b → Val r t v b → Told r t v (what_of v)
+told_by : (r : List TypeInfo) (t : ℕ) (v : Tree) (b : List ℕ) → AreBytes b → Val r t v b →
+    Told r t v (what_of v)
 unfolding Val json_of
 told_by r t (tree.leaf tree.unit) b are h = refl
 told_by r t (tree.leaf (tree.bool x)) b are h = refl
@@ -214,8 +262,10 @@ told_by r t (tree.leaf (tree.wide s)) b are h = refl
 told_by r t (tree.leaf (tree.compact x)) b are h = compact_told r t x h.0 b h.1 h.2
 told_by r t (tree.branch tree.fields vs) b are h = fields_told r t h.0 vs b h.1 h.2
 told_by r t (tree.branch (tree.arm q) vs) b are h = arm_told r t q h.1 h.0 h.2 vs h.3 h.4 h.5 h.7
-told_by r t (tree.branch tree.list vs) b are (inl h) = list_told r t h.1 vs (ap element_type h.2) (ap (λ (f : Layout). list_part f (how_many vs)) h.2)
-told_by r t (tree.branch tree.list vs) b are (inr h) = list_told r t h.0 vs (ap element_type h.3) (ap (λ (f : Layout). list_part f (how_many vs)) h.3)
+told_by r t (tree.branch tree.list vs) b are (inl h) =
+    list_told r t h.1 vs (ap element_type h.2) (ap (λ (f : Layout). list_part f (how_many vs)) h.2)
+told_by r t (tree.branch tree.list vs) b are (inr h) =
+    list_told r t h.0 vs (ap element_type h.3) (ap (λ (f : Layout). list_part f (how_many vs)) h.3)
 told_by r t (tree.leaf (tree.count k)) b are h = refl
 
 pub told : (s : Seen) (w : What) → IsValue s → w ≡ what_of s.tree → Told s.types s.ty s.tree w
@@ -226,29 +276,46 @@ told s w h e = subst (Told s.types s.ty s.tree) (sym e) (told_by s.types s.ty s.
 abbrev pub AtNode : Seen → List TypeInfo → ℕ → Type 0
 AtNode s types t = (types ≡ s.types) × (t ≡ s.ty)
 
-pub long_here : (s : Seen) (types : List TypeInfo) (t : ℕ) (found : Bool) → AtNode s types t → found ≡ is_long (shape types t) → found ≡ is_long (shape s.types s.ty)
+pub long_here : (s : Seen) (types : List TypeInfo) (t : ℕ) (found : Bool) → AtNode s types t →
+    found ≡ is_long (shape types t) → found ≡ is_long (shape s.types s.ty)
 long_here s types t found at e = rw (← at.0, ← at.1) e
 
-pub long_compact_here : (s : Seen) (types : List TypeInfo) (t : ℕ) (found : Bool) → AtNode s types t → found ≡ is_long_target (compact_target_of types t) → found ≡ is_long_target (compact_target_of s.types s.ty)
+pub long_compact_here : (s : Seen) (types : List TypeInfo) (t : ℕ) (found : Bool) →
+    AtNode s types t → found ≡ is_long_target (compact_target_of types t) →
+    found ≡ is_long_target (compact_target_of s.types s.ty)
 long_compact_here s types t found at e = rw (← at.0, ← at.1) e
 
 -- ---- what the code has made of a node's text and of its arm
 
-pub text_here : {E X : Type 0} (s : Seen) (found : Option (Bor (List ℕ))) (text : Bor (List ℕ)) (made : Result X E) (seen : X → Data) → option_map (λ x. x.now) found ≡ text_of s.tree → found ≡ Some text → Told s.types s.ty s.tree what.Text
+pub text_here : {E X : Type 0} (s : Seen) (found : Option (Bor (List ℕ))) (text : Bor (List ℕ))
+    (made : Result X E) (seen : X → Data) → option_map (λ x. x.now) found ≡ text_of s.tree →
+    found ≡ Some text → Told s.types s.ty s.tree what.Text
     → IfOk made (λ v. seen v ≡ json.string text.now) → IfOk made (λ v. seen v ≡ json_seen s)
 text_here s found text made seen e f h g =
-    let same : Some text.now ≡ Some h.0 = ap (option_map (λ (x : Bor (List ℕ)). x.now)) (sym f) ∙ e ∙ h.1 in
+    let same : Some text.now ≡ Some h.0 = ap (option_map (λ (x : Bor (List ℕ)). x.now)) (sym f) ∙ e
+        ∙ h.1 in
     let is : text.now ≡ h.0 = cc in
     rw (h.2, ← is) g
 
-pub arm_there : (s : Seen) (q : ℕ) (types : List TypeInfo) (t : ℕ) (found : Option (Bor Arm)) → AtNode s types t → option_map (λ x. x.now) found ≡ arm_in (shape types t) q → Told s.types s.ty s.tree (what.Arm q) → IsSome found
-arm_there s q types t None at e h = let no : None ≡ Some h.0 = e ∙ ap (λ (r : List TypeInfo). arm_in (shape r t) q) at.0 ∙ ap (λ (u : ℕ). arm_in (shape s.types u) q) at.1 ∙ h.1 in absurd cc
+pub arm_there : (s : Seen) (q : ℕ) (types : List TypeInfo) (t : ℕ) (found : Option (Bor Arm)) →
+    AtNode s types t → option_map (λ x. x.now) found ≡ defined_arm (shape types t) q →
+    Told s.types s.ty s.tree (what.Arm q) → IsSome found
+arm_there s q types t None at e h = let no : None ≡ Some h.0 = e
+    ∙ ap (λ (r : List TypeInfo). defined_arm (shape r t) q) at.0
+    ∙ ap (λ (u : ℕ). defined_arm (shape s.types u) q) at.1 ∙ h.1 in absurd cc
 arm_there s q types t (Some a) at e h = refl
 
-pub arm_here : {E X : Type 0} (s : Seen) (q : ℕ) (types : List TypeInfo) (t : ℕ) (found : Option (Bor Arm)) (a : Bor Arm) (made : Result X E) (seen : X → Data) (items : Items) → AtNode s types t → option_map (λ x. x.now) found ≡ arm_in (shape types t) q → found ≡ Some a
+pub arm_here : {E X : Type 0} (s : Seen) (q : ℕ) (types : List TypeInfo) (t : ℕ)
+    (found : Option (Bor Arm)) (a : Bor Arm) (made : Result X E) (seen : X → Data) (items : Items) →
+    AtNode s types t → option_map (λ x. x.now) found ≡ defined_arm (shape types t) q →
+    found ≡ Some a
     → Told s.types s.ty s.tree (what.Arm q) → items ≡ jsons (children_of s)
-    → IfOk made (λ v. seen v ≡ json.object (member a.now.name (fields_json a.now.fields items) no_members)) → IfOk made (λ v. seen v ≡ json_seen s)
+    → IfOk made (λ v. seen v
+        ≡ json.object (member a.now.name (fields_json a.now.fields items) no_members)) →
+        IfOk made (λ v. seen v ≡ json_seen s)
 arm_here s q types t found a made seen items at e f h i g =
-    let same : Some a.now ≡ Some h.0 = ap (option_map (λ (x : Bor Arm). x.now)) (sym f) ∙ e ∙ ap (λ (r : List TypeInfo). arm_in (shape r t) q) at.0 ∙ ap (λ (u : ℕ). arm_in (shape s.types u) q) at.1 ∙ h.1 in
+    let same : Some a.now ≡ Some h.0 = ap (option_map (λ (x : Bor Arm). x.now)) (sym f) ∙ e
+        ∙ ap (λ (r : List TypeInfo). defined_arm (shape r t) q) at.0
+        ∙ ap (λ (u : ℕ). defined_arm (shape s.types u) q) at.1 ∙ h.1 in
     let is : a.now ≡ h.0 = cc in
     rw (h.2, ← is, ← i) g

@@ -7,7 +7,7 @@ ghost use Rattle.serde_json.specs.View.{view, items_view, items_of};
 ghost use Rattle.widths_core.specs.Targets.{compact_target_of};
 ghost use Rattle.graph_core.specs.Types.{shape};
 ghost use Rattle.value_core.specs.Shown.{children_of};
-ghost use Rattle.json_core.specs.Defined.{is_long_primitive, is_long, is_long_target, arm_in};
+ghost use Rattle.json_core.specs.Defined.{is_long_primitive, is_long, is_long_target, defined_arm};
 ghost use Rattle.json_core.specs.Json.{fields_json, parts_json, json_seen};
 
 use crate::fields::fields_json;
@@ -48,8 +48,8 @@ fn is_long_compact(checked: &Checked, ty: TypeId) -> bool
 }
 
 /// The arm at a position of a variant.
-fn arm_in(checked: &Checked, ty: TypeId, position: u32) -> Option<&Arm>
-    ensures { option_map (λ a. a.now) result ≡ arm_in (shape checked.now.types ty.0) position }
+fn defined_arm(checked: &Checked, ty: TypeId, position: u32) -> Option<&Arm>
+    ensures { option_map (λ a. a.now) result ≡ defined_arm (shape checked.now.types ty.0) position }
 {
     match shape(checked, ty) {
         Some(TypeDef::Variant(arms)) => arms.as_slice().get(position as usize),
@@ -121,7 +121,7 @@ fn with_items(
         What::Compact(n) => unsigned_json(alloc, is_long_compact(checked, ty), n),
         What::Fields => parts_json(alloc, checked, ty, items),
         What::Arm { position } => {
-            let arm = arm_in(checked, ty, position).unwrap();
+            let arm = defined_arm(checked, ty, position).unwrap();
             arm_json(alloc, arm, items)
         }
         What::List => Ok(Value::Array(items)),

@@ -12,11 +12,14 @@ use Rattle.registry_core.specs.Laws.{IsBehind, FaultIsWithin, FaultIsKept, Front
 use Rattle.registry_core.proofs.Again.{spelled_is_read}
 use Rattle.registry_core.proofs.Steady.{Inside, IsTold, registry_steady}
 
-told_at : {X : Type 0} (b : List ℕ) (read : Read RegistryReason X) (reason : RegistryReason) (left : List ℕ) → Inside IsTold b read → read ≡ Err (reason, left) → IsBehind b left × IsTold reason left
+told_at : {X : Type 0} (b : List ℕ) (read : Read RegistryReason X) (reason : RegistryReason)
+    (left : List ℕ) → Inside IsTold b read → read ≡ Err (reason, left) → IsBehind b left
+    × IsTold reason left
 told_at b read reason left h e = rw e at h
 
 pub fault_is_within : FaultIsWithin
-fault_is_within b reason left e = let t = told_at b (registry_at b) reason left (registry_steady.inside b) e in (t.0, t.1.0, t.1.1)
+fault_is_within b reason left e = let t =
+    told_at b (registry_at b) reason left (registry_steady.inside b) e in (t.0, t.1.0, t.1.1)
 
 pub fault_is_kept : FaultIsKept
 fault_is_kept b more reason left e ne = let h = registry_steady.extends b more in (rw e at h) ne
@@ -45,7 +48,9 @@ same_fault : (x y : RegistryReason) (a b : List ℕ) → x ≡ y → a ≡ b →
 same_fault x y a b e k = cc
 
 -- a front of what is read whole is read whole or is cut
-cut_of : (r : List TypeInfo) (front more : List ℕ) (read : Read RegistryReason (List TypeInfo)) → Inside IsTold front read → Extends reasons.Truncated more read (registry_at (front ++ more)) → registry_at (front ++ more) ≡ Ok (r, []) → more ≢ [] → read ≡ Err (reasons.Truncated, [])
+cut_of : (r : List TypeInfo) (front more : List ℕ) (read : Read RegistryReason (List TypeInfo)) →
+    Inside IsTold front read → Extends reasons.Truncated more read (registry_at (front ++ more)) →
+    registry_at (front ++ more) ≡ Ok (r, []) → more ≢ [] → read ≡ Err (reasons.Truncated, [])
 cut_of r front more (Ok x) inside extends whole ne =
     let same = done_is {E = RegistryReason} (x.0, x.1 ++ more) (r, []) (sym extends ∙ whole) in
     absurd (ne (nil_behind x.1 more (ap (λ (p : List TypeInfo × List ℕ). p.1) same)))
@@ -56,5 +61,7 @@ cut_of r front more (Err e) inside extends whole ne = elim (is_cut e.0) [
 
 pub front_is_cut : FrontIsCut
 front_is_cut r front more fits split ne =
-    let whole : registry_at (front ++ more) ≡ Ok (r, []) = rw (← split) (rw append-nil at (spelled_is_read r [] fits)) in
-    cut_of r front more (registry_at front) (registry_steady.inside front) (registry_steady.extends front more) whole ne
+    let whole : registry_at (front ++ more) ≡ Ok (r, []) =
+        rw (← split) (rw append-nil at (spelled_is_read r [] fits)) in
+    cut_of r front more (registry_at front) (registry_steady.inside front)
+        (registry_steady.extends front more) whole ne

@@ -1,12 +1,14 @@
 -- Where a fault stands, from what it leaves.
-use Rattle.std.proofs.Common.{◌≡◌, ℕ, ◌≤◌, List, ◌++◌, length, drop, Err, refl, ap, arith, length-append}
+use Rattle.std.proofs.Common.{
+    ◌≡◌, ℕ, ◌≤◌, List, ◌++◌, length, drop, Err, refl, ap, arith, length-append
+}
 use Rattle.std.proofs.lemmas.List.{drop_at}
 use Rattle.scale_core.specs.Read.{Read, place}
 use Rattle.scale_core.specs.declared.fault.Fault.{Fault as ScaleFault}
 use Rattle.scale_core.specs.declared.fault.Reason.{Reason}
 use Rattle.registry_core.specs.declared.reading.stop.Stop.{Stop}
 use Rattle.registry_core.specs.declared.reading.stop.Stop.TheVariants.{Memory, Fault}
-use Rattle.registry_core.specs.Gives.{Stops, IsFaultAt}
+use Rattle.registry_core.specs.Gives.{StopsReading, IsFaultAt}
 use Rattle.registry_core.specs.Laws.{IsBehind}
 use Rattle.registry_core.specs.Reading.{reason_of, lifted}
 use Rattle.registry_core.proofs.Steady.{Inside, CutAtEnd}
@@ -19,12 +21,15 @@ drop-place b left h =
     let len : place (h.0 ++ left) left ≡ length h.0 = omega (arith, length-append h.0 left) in
     rw (h.1, len) (drop_at h.0 left (length h.0) refl)
 
-err_behind : {X : Type 0} (b : List ℕ) (read : Read Reason X) (reason : Reason) (left : List ℕ) → Inside CutAtEnd b read → read ≡ Err (reason, left) → IsBehind b left
+err_behind : {X : Type 0} (b : List ℕ) (read : Read Reason X) (reason : Reason) (left : List ℕ) →
+    Inside CutAtEnd b read → read ≡ Err (reason, left) → IsBehind b left
 err_behind b read reason left h e = (rw e at h).0
 
 -- a number or a text that is refused, as a part of a registry
-pub stops_at : {X : Type 0} (b : List ℕ) (fault : ScaleFault) (read : Read Reason X) (stop : Stop) → Inside CutAtEnd b read →
-    (left : List ℕ) × (read ≡ Err (fault.reason, left)) × (fault.at ≡ place b left) → IsFaultAt (reason_of fault.reason) (drop fault.at b) stop → Stops stop (lifted read)
+pub stops_at : {X : Type 0} (b : List ℕ) (fault : ScaleFault) (read : Read Reason X) (stop : Stop) →
+    Inside CutAtEnd b read →
+    (left : List ℕ) × (read ≡ Err (fault.reason, left)) × (fault.at ≡ place b left) →
+        IsFaultAt (reason_of fault.reason) (drop fault.at b) stop → StopsReading stop (lifted read)
 stops_at b fault read Memory h told is = absurd is
 stops_at b fault read (Fault reason left) h told is =
     let same = drop-place b told.0 (err_behind b read fault.reason told.0 h told.1) in

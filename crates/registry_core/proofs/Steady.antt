@@ -1,5 +1,9 @@
--- Each part's fault stands within the input, and is the same fault however the input goes on, unless the input was cut.
-use Rattle.std.proofs.Common.{◌≡◌, ℕ, zero, suc, ◌+◌, ◌^◌, Bool, true, false, cond, List, [], ◌∷◌, ◌++◌, length, take, drop, Ok, Err, refl, sym, ap, append_assoc, arith, inl, inr, length-append}
+-- Each part's fault stands within the input, and is the same fault however the input goes on,
+-- unless the input was cut.
+use Rattle.std.proofs.Common.{
+    ◌≡◌, ℕ, zero, suc, ◌+◌, ◌^◌, Bool, true, false, cond, List, [], ◌∷◌, ◌++◌, length, take, drop,
+    Ok, Err, refl, sym, ap, append_assoc, arith, inl, inr, length-append
+}
 use Rattle.std.specs.Prelude.{◌≢◌, Option, Some, None, nat_lt, not, slice_get, ◌==◌}
 use Rattle.std.specs.Str.{bytes_eq, is_utf8}
 use Rattle.std.specs.Str.Lossy.{utf8_valid_len}
@@ -7,19 +11,29 @@ use Rattle.std.proofs.lemmas.List.{append-nil, take-append-drop, take-append-le,
 use Rattle.std.proofs.lemmas.Bool.{cases_lt, le-ltb, lt-ltb}
 use Rattle.scale_core.specs.Number.{number}
 use Rattle.scale_core.specs.Compact.{compact, target_bytes}
-use Rattle.scale_core.specs.Read.{Read, ◌>>=◌, bytes_at, number_at, form_len, form_number, form_from, is_too_long, integer_at, compact_at, text_at}
+use Rattle.scale_core.specs.Read.{
+    Read, ◌>>=◌, bytes_at, number_at, form_len, form_number, form_from, is_too_long, integer_at,
+    compact_at, text_at
+}
 use Rattle.scale_core.specs.declared.compact.Target.{Target}
 use Rattle.scale_core.specs.declared.compact.Target.TheVariants.{U32 as u32_target}
 use Rattle.scale_core.specs.declared.fault.Reason.{Reason}
 use Rattle.scale_core.specs.declared.fault.Reason.TheVariants as scale
-use Rattle.scale_core.proofs.Results.{Extends, bind_extends, cond_extends, compact_extends, text_extends}
+use Rattle.scale_core.proofs.Results.{
+    Extends, bind_extends, cond_extends, compact_extends, text_extends
+}
 use Rattle.registry_core.specs.declared.definition.TypeDef.{TypeDef}
 use Rattle.registry_core.specs.declared.definition.TypeDef.TheVariants as def
 use Rattle.registry_core.specs.declared.fault.RegistryReason.{RegistryReason}
 use Rattle.registry_core.specs.declared.fault.RegistryReason.TheVariants as registry
 use Rattle.registry_core.specs.Bytes.{primitives, magic, version}
 use Rattle.registry_core.specs.Laws.{IsBehind}
-use Rattle.registry_core.specs.Reading.{Reader, reason_of, lifted, length_at, times, sequence_at, string_at, texts_at, option_at, type_id_at, type_ids_at, byte_at, param_at, params_at, field_at, fields_at, arm_at, arms_at, named, primitive_at, as_definition, array_at, bit_sequence_at, definition_at, type_info_at, id_at, types_at, registry_at, mark_at, letters_at, prefix_at, metadata_at}
+use Rattle.registry_core.specs.Reading.{
+    Reader, reason_of, lifted, length_at, repeated, sequence_at, string_at, texts_at, option_at,
+    type_id_at, type_ids_at, byte_at, param_at, params_at, field_at, fields_at, arm_read_at,
+    arms_read_at, named, primitive_at, as_definition, array_at, bit_sequence_at, definition_at,
+    type_info_at, id_at, types_at, registry_at, mark_at, letters_at, prefix_at, metadata_at
+}
 
 at_end : (b : List ℕ) → IsBehind b []
 at_end b = (b, sym (append-nil b))
@@ -30,7 +44,8 @@ at_front b = ([], refl)
 behind_drop : (k : ℕ) (b : List ℕ) → IsBehind b (drop k b)
 behind_drop k b = (take k b, sym (take-append-drop k b))
 
--- what is left stands behind a front of the input, be it behind a value or from a fault on, and the fault is so
+-- what is left stands behind a front of the input, be it behind a value or from a fault on, and the
+-- fault is so
 abbrev pub Inside : {E X : Type 0} → (E → List ℕ → Type 0) → List ℕ → Read E X → Type 0
 Inside Q b (Ok x) = IsBehind b x.1
 Inside Q b (Err e) = IsBehind b e.1 × Q e.0 e.1
@@ -38,18 +53,23 @@ Inside Q b (Err e) = IsBehind b e.1 × Q e.0 e.1
 behind : (b c a left : List ℕ) → b ≡ c ++ a → IsBehind a left → IsBehind b left
 behind b c a left e h = (c ++ h.0, rw (e, h.1) (sym (append_assoc c h.0 left)))
 
-after : {E X : Type 0} (Q : E → List ℕ → Type 0) (b c a : List ℕ) (r : Read E X) → b ≡ c ++ a → Inside Q a r → Inside Q b r
+after : {E X : Type 0} (Q : E → List ℕ → Type 0) (b c a : List ℕ) (r : Read E X) → b ≡ c ++ a →
+    Inside Q a r → Inside Q b r
 after Q b c a (Ok x) e h = behind b c a x.1 e h
 after Q b c a (Err f) e h = (behind b c a f.1 e h.0, h.1)
 
-after_byte : {E X : Type 0} (Q : E → List ℕ → Type 0) (byte : ℕ) (a : List ℕ) (r : Read E X) → Inside Q a r → Inside Q (byte ∷ a) r
+after_byte : {E X : Type 0} (Q : E → List ℕ → Type 0) (byte : ℕ) (a : List ℕ) (r : Read E X) →
+    Inside Q a r → Inside Q (byte ∷ a) r
 after_byte Q byte a r h = after Q (byte ∷ a) (byte ∷ []) a r refl h
 
-inside_then : {E X Y : Type 0} (Q : E → List ℕ → Type 0) (b : List ℕ) (r : Read E X) (f : X × List ℕ → Read E Y) → Inside Q b r → ((x : X × List ℕ) → Inside Q x.1 (f x)) → Inside Q b (r >>= f)
+inside_then : {E X Y : Type 0} (Q : E → List ℕ → Type 0) (b : List ℕ) (r : Read E X)
+    (f : X × List ℕ → Read E Y) → Inside Q b r → ((x : X × List ℕ) → Inside Q x.1 (f x)) →
+    Inside Q b (r >>= f)
 inside_then Q b (Ok x) f h g = after Q b h.0 x.1 (f x) h.1 (g x)
 inside_then Q b (Err e) f h g = h
 
-inside_cond : {E X : Type 0} (Q : E → List ℕ → Type 0) (b : List ℕ) (t : Bool) (x y : Read E X) → Inside Q b x → Inside Q b y → Inside Q b (cond t x y)
+inside_cond : {E X : Type 0} (Q : E → List ℕ → Type 0) (b : List ℕ) (t : Bool) (x y : Read E X) →
+    Inside Q b x → Inside Q b y → Inside Q b (cond t x y)
 inside_cond Q b true x y f g = f
 inside_cond Q b false x y f g = g
 
@@ -60,33 +80,50 @@ abbrev pub CutAtEnd : Reason → List ℕ → Type 0
 CutAtEnd reason left = reason ≡ scale.Truncated → left ≡ []
 
 bytes_inside : (k : ℕ) (b : List ℕ) → Inside CutAtEnd b (bytes_at k b)
-bytes_inside k b = inside_cond CutAtEnd b (nat_lt (length b) k) (Err (scale.Truncated, [])) (Ok (take k b, drop k b)) (at_end b, λ e. refl) (behind_drop k b)
+bytes_inside k b = inside_cond CutAtEnd b (nat_lt (length b) k) (Err (scale.Truncated, []))
+    (Ok (take k b, drop k b)) (at_end b, λ e. refl) (behind_drop k b)
 
 pub number_inside : (k : ℕ) (b : List ℕ) → Inside CutAtEnd b (number_at k b)
-number_inside k b = inside_cond CutAtEnd b (nat_lt (length b) k) (Err (scale.Truncated, [])) (Ok (number (take k b), drop k b)) (at_end b, λ e. refl) (behind_drop k b)
+number_inside k b = inside_cond CutAtEnd b (nat_lt (length b) k) (Err (scale.Truncated, []))
+    (Ok (number (take k b), drop k b)) (at_end b, λ e. refl) (behind_drop k b)
 
-form_inside : (m : Target) (b : List ℕ) (r : Read Reason (List ℕ)) → Inside CutAtEnd b r → Inside CutAtEnd b (form_from m b r)
+form_inside : (m : Target) (b : List ℕ) (r : Read Reason (List ℕ)) → Inside CutAtEnd b r →
+    Inside CutAtEnd b (form_from m b r)
 form_inside m b (Err e) h = h
 form_inside m b (Ok x) h = let n = form_number x.0 in
-    inside_cond CutAtEnd b (not (bytes_eq (compact n) x.0)) (Err (scale.CompactNotShortest, b)) (cond (nat_lt n (256 ^ target_bytes m)) (Ok (n, x.1)) (Err (scale.CompactTooLarge, b))) (at_front b, λ e. absurd cc)
-    (inside_cond CutAtEnd b (nat_lt n (256 ^ target_bytes m)) (Ok (n, x.1)) (Err (scale.CompactTooLarge, b)) h (at_front b, λ e. absurd cc))
+    inside_cond CutAtEnd b (not (bytes_eq (compact n) x.0)) (Err (scale.CompactNotShortest, b))
+        (cond (nat_lt n (256 ^ target_bytes m)) (Ok (n, x.1)) (Err (scale.CompactTooLarge, b)))
+        (at_front b, λ e. absurd cc)
+    (inside_cond CutAtEnd b (nat_lt n (256 ^ target_bytes m)) (Ok (n, x.1))
+        (Err (scale.CompactTooLarge, b)) h (at_front b, λ e. absurd cc))
 
 integer_inside : (m : Target) (b : List ℕ) → Inside CutAtEnd b (integer_at m b)
 integer_inside m [] = (at_end [], λ e. refl)
-integer_inside m (first ∷ rest) = inside_cond CutAtEnd (first ∷ rest) (is_too_long m first) (Err (scale.CompactTooLarge, first ∷ rest)) (form_from m (first ∷ rest) (bytes_at (form_len first) (first ∷ rest))) (at_front (first ∷ rest), λ e. absurd cc)
-    (form_inside m (first ∷ rest) (bytes_at (form_len first) (first ∷ rest)) (bytes_inside (form_len first) (first ∷ rest)))
+integer_inside m (first ∷ rest) =
+    inside_cond CutAtEnd (first ∷ rest) (is_too_long m first)
+    (Err (scale.CompactTooLarge, first ∷ rest))
+    (form_from m (first ∷ rest) (bytes_at (form_len first) (first ∷ rest)))
+    (at_front (first ∷ rest), λ e. absurd cc)
+    (form_inside m (first ∷ rest) (bytes_at (form_len first) (first ∷ rest))
+        (bytes_inside (form_len first) (first ∷ rest)))
 
 pub compact_inside : (b : List ℕ) → Inside CutAtEnd b (compact_at u32_target b)
 unfolding compact_at
 compact_inside b = integer_inside u32_target b
 
-judged_inside : (from : List ℕ) (r : Read Reason (List ℕ)) → Inside CutAtEnd from r → Inside CutAtEnd from (r >>= λ text. cond (is_utf8 text.0) (Ok text) (Err (scale.BadUtf8, drop (utf8_valid_len text.0) from)))
+judged_inside : (from : List ℕ) (r : Read Reason (List ℕ)) → Inside CutAtEnd from r →
+    Inside CutAtEnd from (r >>= λ text. cond (is_utf8 text.0) (Ok text)
+    (Err (scale.BadUtf8, drop (utf8_valid_len text.0) from)))
 judged_inside from (Err e) h = h
-judged_inside from (Ok text) h = inside_cond CutAtEnd from (is_utf8 text.0) (Ok text) (Err (scale.BadUtf8, drop (utf8_valid_len text.0) from)) h (behind_drop (utf8_valid_len text.0) from, λ e. absurd cc)
+judged_inside from (Ok text) h =
+    inside_cond CutAtEnd from (is_utf8 text.0) (Ok text)
+    (Err (scale.BadUtf8, drop (utf8_valid_len text.0) from)) h
+    (behind_drop (utf8_valid_len text.0) from, λ e. absurd cc)
 
 pub text_inside : (b : List ℕ) → Inside CutAtEnd b (text_at b)
 unfolding text_at
-text_inside b = inside_then CutAtEnd b (compact_at u32_target b) _ (compact_inside b) (λ n. judged_inside n.1 (bytes_at n.0 n.1) (bytes_inside n.0 n.1))
+text_inside b = inside_then CutAtEnd b (compact_at u32_target b) _ (compact_inside b)
+    (λ n. judged_inside n.1 (bytes_at n.0 n.1) (bytes_inside n.0 n.1))
 
 -- ---- parts
 
@@ -114,18 +151,21 @@ no_memory scale.CompactTooLarge e = absurd cc
 no_memory scale.BadBool e = absurd cc
 no_memory scale.BadChar e = absurd cc
 
-lifted_inside : {X : Type 0} (b : List ℕ) (r : Read Reason X) → Inside CutAtEnd b r → Inside IsTold b (lifted r)
+lifted_inside : {X : Type 0} (b : List ℕ) (r : Read Reason X) → Inside CutAtEnd b r →
+    Inside IsTold b (lifted r)
 lifted_inside b (Ok x) h = h
 lifted_inside b (Err e) h = (h.0, (no_memory e.0, λ same. h.1 (cut e.0 same)))
 
-lifted_extends : {X : Type 0} (more : List ℕ) (r s : Read Reason X) → Extends scale.Truncated more r s → Extends registry.Truncated more (lifted r) (lifted s)
+lifted_extends : {X : Type 0} (more : List ℕ) (r s : Read Reason X) →
+    Extends scale.Truncated more r s → Extends registry.Truncated more (lifted r) (lifted s)
 lifted_extends more (Ok x) s h = rw h refl
 lifted_extends more (Err e) s h = λ ne. rw (h (λ same. ne (ap reason_of same))) refl
 
 length_steady : IsSteady length_at
 length_steady = record {
   inside = λ b. lifted_inside b (compact_at u32_target b) (compact_inside b);
-  extends = λ b more. lifted_extends more (compact_at u32_target b) (compact_at u32_target (b ++ more)) (compact_extends u32_target b more);
+  extends = λ b more. lifted_extends more (compact_at u32_target b)
+      (compact_at u32_target (b ++ more)) (compact_extends u32_target b more);
 }
 
 text_steady : IsSteady string_at
@@ -134,16 +174,20 @@ text_steady = record {
   extends = λ b more. lifted_extends more (text_at b) (text_at (b ++ more)) (text_extends b more);
 }
 
-number_extends : (k : ℕ) (b more : List ℕ) → Extends scale.Truncated more (number_at k b) (number_at k (b ++ more))
+number_extends : (k : ℕ) (b more : List ℕ) →
+    Extends scale.Truncated more (number_at k b) (number_at k (b ++ more))
 number_extends k b more = elim (cases_lt (length b) k) [
   | inl lt ↦ rw (lt-ltb (length b) k lt) (λ ne. absurd (ne refl))
-  | inr le ↦ rw (le-ltb (length b) k le, le-ltb (length (b ++ more)) k (omega (arith, length-append b more)), take-append-le k b more le, drop-append-le k b more le) refl
+  | inr le ↦ rw (le-ltb (length b) k le,
+      le-ltb (length (b ++ more)) k (omega (arith, length-append b more)),
+      take-append-le k b more le, drop-append-le k b more le) refl
 ]
 
 word_steady : IsSteady (λ bytes. lifted (number_at 4 bytes))
 word_steady = record {
   inside = λ b. lifted_inside b (number_at 4 b) (number_inside 4 b);
-  extends = λ b more. lifted_extends more (number_at 4 b) (number_at 4 (b ++ more)) (number_extends 4 b more);
+  extends = λ b more. lifted_extends more (number_at 4 b) (number_at 4 (b ++ more))
+      (number_extends 4 b more);
 }
 
 byte_inside : (b : List ℕ) → Inside IsTold b (byte_at b)
@@ -161,33 +205,46 @@ done_steady : {X : Type 0} (x : X) → IsSteady (λ bytes. Ok (x, bytes))
 done_steady x = record { inside = at_front; extends = λ b more. refl }
 
 -- one part behind the other
-then_steady : {X Y : Type 0} (first : Reader X) (then : X → Reader Y) → IsSteady first → ((x : X) → IsSteady (then x)) → IsSteady (λ bytes. first bytes >>= λ x. then x.0 x.1)
+then_steady : {X Y : Type 0} (first : Reader X) (then : X → Reader Y) → IsSteady first →
+    ((x : X) → IsSteady (then x)) → IsSteady (λ bytes. first bytes >>= λ x. then x.0 x.1)
 then_steady first then h k = record {
-  inside = λ b. inside_then IsTold b (first b) (λ x. then x.0 x.1) (h.inside b) (λ x. (k x.0).inside x.1);
-  extends = λ b more. bind_extends registry.Truncated more (first b) (first (b ++ more)) (λ x. then x.0 x.1) (λ x. then x.0 x.1) (h.extends b more) (λ x. (k x.0).extends x.1 more);
+  inside = λ b. inside_then IsTold b (first b) (λ x. then x.0 x.1) (h.inside b)
+      (λ x. (k x.0).inside x.1);
+  extends = λ b more. bind_extends registry.Truncated more (first b) (first (b ++ more))
+      (λ x. then x.0 x.1) (λ x. then x.0 x.1) (h.extends b more) (λ x. (k x.0).extends x.1 more);
 }
 
-times_steady : {X : Type 0} (part : Reader X) → IsSteady part → (n : ℕ) → IsSteady (times n part)
+times_steady : {X : Type 0} (part : Reader X) → IsSteady part → (n : ℕ) → IsSteady (repeated n part)
 times_steady part h zero = record { inside = at_front; extends = λ b more. refl }
-times_steady part h (suc n) = then_steady part (λ x bytes. times n part bytes >>= λ others. Ok (x ∷ others.0, others.1)) h (λ x. then_steady (times n part) (λ xs bytes. Ok (x ∷ xs, bytes)) (times_steady part h n) (λ xs. done_steady (x ∷ xs)))
+times_steady part h (suc n) =
+    then_steady part (λ x bytes. repeated n part bytes >>= λ others. Ok (x ∷ others.0, others.1)) h
+    (λ x. then_steady (repeated n part) (λ xs bytes. Ok (x ∷ xs, bytes)) (times_steady part h n)
+    (λ xs. done_steady (x ∷ xs)))
 
 sequence_steady : {X : Type 0} (part : Reader X) → IsSteady part → IsSteady (sequence_at part)
-sequence_steady part h = then_steady length_at (λ n. times n part) length_steady (λ n. times_steady part h n)
+sequence_steady part h =
+    then_steady length_at (λ n. repeated n part) length_steady (λ n. times_steady part h n)
 
 texts_steady : IsSteady texts_at
 unfolding texts_at
-texts_steady = let s = sequence_steady string_at text_steady in record { inside = s.inside; extends = s.extends }
+texts_steady = let s = sequence_steady string_at text_steady in
+    record { inside = s.inside; extends = s.extends }
 
-some_steady : {X : Type 0} (part : Reader X) → IsSteady part → IsSteady (λ bytes. part bytes >>= λ x. Ok (Some x.0, x.1))
+some_steady : {X : Type 0} (part : Reader X) → IsSteady part →
+    IsSteady (λ bytes. part bytes >>= λ x. Ok (Some x.0, x.1))
 some_steady part h = then_steady part (λ x bytes. Ok (Some x, bytes)) h (λ x. done_steady (Some x))
 
-option_inside : {X : Type 0} (part : Reader X) → IsSteady part → (b : List ℕ) → Inside IsTold b (option_at part b)
+option_inside : {X : Type 0} (part : Reader X) → IsSteady part → (b : List ℕ) →
+    Inside IsTold b (option_at part b)
 option_inside part h [] = (at_end [], (λ e. absurd cc, λ e. refl))
 option_inside part h (zero ∷ b) = (0 ∷ [], refl)
-option_inside part h (suc zero ∷ b) = after_byte IsTold 1 b (part b >>= λ x. Ok (Some x.0, x.1)) ((some_steady part h).inside b)
-option_inside part h (suc (suc x) ∷ b) = (at_front (suc (suc x) ∷ b), (λ e. absurd cc, λ e. absurd cc))
+option_inside part h (suc zero ∷ b) =
+    after_byte IsTold 1 b (part b >>= λ x. Ok (Some x.0, x.1)) ((some_steady part h).inside b)
+option_inside part h (suc (suc x) ∷ b) =
+    (at_front (suc (suc x) ∷ b), (λ e. absurd cc, λ e. absurd cc))
 
-option_extends : {X : Type 0} (part : Reader X) → IsSteady part → (b more : List ℕ) → Extends registry.Truncated more (option_at part b) (option_at part (b ++ more))
+option_extends : {X : Type 0} (part : Reader X) → IsSteady part → (b more : List ℕ) →
+    Extends registry.Truncated more (option_at part b) (option_at part (b ++ more))
 option_extends part h [] more = λ ne. absurd (ne refl)
 option_extends part h (zero ∷ b) more = refl
 option_extends part h (suc zero ∷ b) more = (some_steady part h).extends b more
@@ -197,109 +254,176 @@ option_steady : {X : Type 0} (part : Reader X) → IsSteady part → IsSteady (o
 option_steady part h = record { inside = option_inside part h; extends = option_extends part h }
 
 id_steady : IsSteady type_id_at
-id_steady = then_steady length_at (λ n bytes. Ok (record { 0 = n }, bytes)) length_steady (λ n. done_steady (record { 0 = n }))
+id_steady = then_steady length_at (λ n bytes. Ok (record { 0 = n }, bytes)) length_steady
+    (λ n. done_steady (record { 0 = n }))
 
 ids_steady : IsSteady type_ids_at
 unfolding type_ids_at
-ids_steady = let s = sequence_steady type_id_at id_steady in record { inside = s.inside; extends = s.extends }
+ids_steady = let s = sequence_steady type_id_at id_steady in
+    record { inside = s.inside; extends = s.extends }
 
 param_steady : IsSteady param_at
 unfolding param_at
 param_steady =
-    let s = then_steady string_at (λ name bytes. option_at type_id_at bytes >>= λ ty. Ok (record { name = name; ty = ty.0 }, ty.1)) text_steady (λ name.
-    then_steady (option_at type_id_at) (λ ty bytes. Ok (record { name = name; ty = ty }, bytes)) (option_steady type_id_at id_steady) (λ ty.
-    done_steady (record { name = name; ty = ty }))) in record { inside = s.inside; extends = s.extends }
+    let s = then_steady string_at
+        (λ name bytes. option_at type_id_at bytes >>= λ ty. Ok (record { name = name; ty = ty.0 },
+        ty.1)) text_steady (λ name.
+    then_steady (option_at type_id_at) (λ ty bytes. Ok (record { name = name; ty = ty }, bytes))
+        (option_steady type_id_at id_steady) (λ ty.
+    done_steady (record { name = name; ty = ty }))) in
+        record { inside = s.inside; extends = s.extends }
 
 params_steady : IsSteady params_at
 unfolding params_at
-params_steady = let s = sequence_steady param_at param_steady in record { inside = s.inside; extends = s.extends }
+params_steady = let s = sequence_steady param_at param_steady in
+    record { inside = s.inside; extends = s.extends }
 
 field_steady : IsSteady field_at
 unfolding field_at
 field_steady =
-    let s = then_steady (option_at string_at) (λ name bytes. type_id_at bytes >>= λ ty. option_at string_at ty.1 >>= λ type_name. texts_at type_name.1 >>= λ docs. Ok (record { name = name; ty = ty.0; type_name = type_name.0; docs = docs.0 }, docs.1)) (option_steady string_at text_steady) (λ name.
-    then_steady type_id_at (λ ty bytes. option_at string_at bytes >>= λ type_name. texts_at type_name.1 >>= λ docs. Ok (record { name = name; ty = ty; type_name = type_name.0; docs = docs.0 }, docs.1)) id_steady (λ ty.
-    then_steady (option_at string_at) (λ type_name bytes. texts_at bytes >>= λ docs. Ok (record { name = name; ty = ty; type_name = type_name; docs = docs.0 }, docs.1)) (option_steady string_at text_steady) (λ type_name.
-    then_steady texts_at (λ docs bytes. Ok (record { name = name; ty = ty; type_name = type_name; docs = docs }, bytes)) texts_steady (λ docs.
-    done_steady (record { name = name; ty = ty; type_name = type_name; docs = docs }))))) in record { inside = s.inside; extends = s.extends }
+    let s = then_steady (option_at string_at)
+        (λ name bytes. type_id_at bytes >>= λ ty. option_at string_at ty.1 >>= λ type_name. texts_at
+        type_name.1 >>= λ docs. Ok
+        (record { name = name; ty = ty.0; type_name = type_name.0; docs = docs.0 }, docs.1))
+        (option_steady string_at text_steady) (λ name.
+    then_steady type_id_at (λ ty bytes. option_at string_at bytes >>= λ type_name. texts_at
+        type_name.1 >>= λ docs. Ok
+        (record { name = name; ty = ty; type_name = type_name.0; docs = docs.0 }, docs.1)) id_steady
+        (λ ty.
+    then_steady (option_at string_at)
+        (λ type_name bytes. texts_at bytes >>= λ docs. Ok
+        (record { name = name; ty = ty; type_name = type_name; docs = docs.0 }, docs.1))
+        (option_steady string_at text_steady) (λ type_name.
+    then_steady texts_at (λ docs bytes. Ok
+        (record { name = name; ty = ty; type_name = type_name; docs = docs }, bytes)) texts_steady
+        (λ docs.
+    done_steady (record { name = name; ty = ty; type_name = type_name; docs = docs }))))) in
+        record { inside = s.inside; extends = s.extends }
 
 fields_steady : IsSteady fields_at
 unfolding fields_at
-fields_steady = let s = sequence_steady field_at field_steady in record { inside = s.inside; extends = s.extends }
+fields_steady = let s = sequence_steady field_at field_steady in
+    record { inside = s.inside; extends = s.extends }
 
-arm_steady : IsSteady arm_at
-unfolding arm_at
+arm_steady : IsSteady arm_read_at
+unfolding arm_read_at
 arm_steady =
-    let s = then_steady string_at (λ name bytes. fields_at bytes >>= λ fields. byte_at fields.1 >>= λ index. texts_at index.1 >>= λ docs. Ok (record { name = name; fields = fields.0; index = index.0; docs = docs.0 }, docs.1)) text_steady (λ name.
-    then_steady fields_at (λ fields bytes. byte_at bytes >>= λ index. texts_at index.1 >>= λ docs. Ok (record { name = name; fields = fields; index = index.0; docs = docs.0 }, docs.1)) fields_steady (λ fields.
-    then_steady byte_at (λ index bytes. texts_at bytes >>= λ docs. Ok (record { name = name; fields = fields; index = index; docs = docs.0 }, docs.1)) byte_steady (λ index.
-    then_steady texts_at (λ docs bytes. Ok (record { name = name; fields = fields; index = index; docs = docs }, bytes)) texts_steady (λ docs.
-    done_steady (record { name = name; fields = fields; index = index; docs = docs }))))) in record { inside = s.inside; extends = s.extends }
+    let s = then_steady string_at
+        (λ name bytes. fields_at bytes >>= λ fields. byte_at fields.1 >>= λ index. texts_at index.1
+        >>= λ docs. Ok (record { name = name; fields = fields.0; index = index.0; docs = docs.0 },
+        docs.1)) text_steady (λ name.
+    then_steady fields_at (λ fields bytes. byte_at bytes >>= λ index. texts_at index.1 >>=
+        λ docs. Ok (record { name = name; fields = fields; index = index.0; docs = docs.0 },
+        docs.1)) fields_steady (λ fields.
+    then_steady byte_at (λ index bytes. texts_at bytes >>= λ docs. Ok
+        (record { name = name; fields = fields; index = index; docs = docs.0 }, docs.1)) byte_steady
+        (λ index.
+    then_steady texts_at (λ docs bytes. Ok
+        (record { name = name; fields = fields; index = index; docs = docs }, bytes)) texts_steady
+        (λ docs.
+    done_steady (record { name = name; fields = fields; index = index; docs = docs }))))) in
+        record { inside = s.inside; extends = s.extends }
 
-arms_steady : IsSteady arms_at
-unfolding arms_at
-arms_steady = let s = sequence_steady arm_at arm_steady in record { inside = s.inside; extends = s.extends }
+arms_steady : IsSteady arms_read_at
+unfolding arms_read_at
+arms_steady = let s = sequence_steady arm_read_at arm_steady in
+    record { inside = s.inside; extends = s.extends }
 
 -- ---- definitions
 
-named_inside : {X : Type 0} (reason : RegistryReason) (b : List ℕ) (o : Option X) (rest : List ℕ) → reason ≢ registry.OutOfMemory → reason ≢ registry.Truncated → IsBehind b rest → Inside IsTold b (named reason b o rest)
+named_inside : {X : Type 0} (reason : RegistryReason) (b : List ℕ) (o : Option X) (rest : List ℕ) →
+    reason ≢ registry.OutOfMemory → reason ≢ registry.Truncated → IsBehind b rest →
+    Inside IsTold b (named reason b o rest)
 named_inside reason b (Some x) rest no_memory no_cut h = h
-named_inside reason b None rest no_memory no_cut h = (at_front b, (no_memory, λ e. absurd (no_cut e)))
+named_inside reason b None rest no_memory no_cut h =
+    (at_front b, (no_memory, λ e. absurd (no_cut e)))
 
-named_extends : {X : Type 0} (reason : RegistryReason) (b : List ℕ) (o : Option X) (rest more : List ℕ) → Extends registry.Truncated more (named reason b o rest) (named reason (b ++ more) o (rest ++ more))
+named_extends : {X : Type 0} (reason : RegistryReason) (b : List ℕ) (o : Option X)
+    (rest more : List ℕ) → Extends registry.Truncated more (named reason b o rest)
+    (named reason (b ++ more) o (rest ++ more))
 named_extends reason b (Some x) rest more = refl
 named_extends reason b None rest more = λ ne. refl
 
 primitive_inside : (b : List ℕ) → Inside IsTold b (primitive_at b)
 primitive_inside [] = (at_end [], (λ e. absurd cc, λ e. refl))
-primitive_inside (x ∷ b) = named_inside registry.BadPrimitive (x ∷ b) (slice_get primitives x) b (λ e. absurd cc) (λ e. absurd cc) (x ∷ [], refl)
+primitive_inside (x ∷ b) =
+    named_inside registry.BadPrimitive (x ∷ b) (slice_get primitives x) b (λ e. absurd cc)
+    (λ e. absurd cc) (x ∷ [], refl)
 
-primitive_extends : (b more : List ℕ) → Extends registry.Truncated more (primitive_at b) (primitive_at (b ++ more))
+primitive_extends : (b more : List ℕ) →
+    Extends registry.Truncated more (primitive_at b) (primitive_at (b ++ more))
 primitive_extends [] more = λ ne. absurd (ne refl)
-primitive_extends (x ∷ b) more = named_extends registry.BadPrimitive (x ∷ b) (slice_get primitives x) b more
+primitive_extends (x ∷ b) more =
+    named_extends registry.BadPrimitive (x ∷ b) (slice_get primitives x) b more
 
 primitive_steady : IsSteady primitive_at
 primitive_steady = record { inside = primitive_inside; extends = primitive_extends }
 
-as_steady : {X : Type 0} (make : X → TypeDef) (part : Reader X) → IsSteady part → IsSteady (as_definition make part)
-as_steady make part h = then_steady part (λ x bytes. Ok (make x, bytes)) h (λ x. done_steady (make x))
+as_steady : {X : Type 0} (make : X → TypeDef) (part : Reader X) → IsSteady part →
+    IsSteady (as_definition make part)
+as_steady make part h = then_steady part (λ x bytes. Ok (make x, bytes)) h
+    (λ x. done_steady (make x))
 
 array_steady : IsSteady array_at
 unfolding array_at
 array_steady =
-    let s = then_steady (λ bytes. lifted (number_at 4 bytes)) (λ len bytes. type_id_at bytes >>= λ element. Ok (def.Array len element.0, element.1)) word_steady (λ len.
-    then_steady type_id_at (λ element bytes. Ok (def.Array len element, bytes)) id_steady (λ element. done_steady (def.Array len element))) in record { inside = s.inside; extends = s.extends }
+    let s = then_steady (λ bytes. lifted (number_at 4 bytes))
+        (λ len bytes. type_id_at bytes >>= λ element. Ok (def.Array len element.0, element.1))
+        word_steady (λ len.
+    then_steady type_id_at (λ element bytes. Ok (def.Array len element, bytes)) id_steady
+        (λ element. done_steady (def.Array len element))) in
+        record { inside = s.inside; extends = s.extends }
 
 bit_sequence_steady : IsSteady bit_sequence_at
 unfolding bit_sequence_at
 bit_sequence_steady =
-    let s = then_steady type_id_at (λ store bytes. type_id_at bytes >>= λ order. Ok (def.BitSequence store order.0, order.1)) id_steady (λ store.
-    then_steady type_id_at (λ order bytes. Ok (def.BitSequence store order, bytes)) id_steady (λ order. done_steady (def.BitSequence store order))) in record { inside = s.inside; extends = s.extends }
+    let s = then_steady type_id_at
+        (λ store bytes. type_id_at bytes >>= λ order. Ok (def.BitSequence store order.0, order.1))
+        id_steady (λ store.
+    then_steady type_id_at (λ order bytes. Ok (def.BitSequence store order, bytes)) id_steady
+        (λ order. done_steady (def.BitSequence store order))) in
+        record { inside = s.inside; extends = s.extends }
 
 definition_inside : (b : List ℕ) → Inside IsTold b (definition_at b)
 unfolding definition_at
 definition_inside [] = (at_end [], (λ e. absurd cc, λ e. refl))
-definition_inside (zero ∷ b) = after_byte IsTold 0 b _ ((as_steady def.Composite fields_at fields_steady).inside b)
-definition_inside ((suc zero) ∷ b) = after_byte IsTold 1 b _ ((as_steady def.Variant arms_at arms_steady).inside b)
-definition_inside ((suc (suc zero)) ∷ b) = after_byte IsTold 2 b _ ((as_steady def.Sequence type_id_at id_steady).inside b)
+definition_inside (zero ∷ b) =
+    after_byte IsTold 0 b _ ((as_steady def.Composite fields_at fields_steady).inside b)
+definition_inside ((suc zero) ∷ b) =
+    after_byte IsTold 1 b _ ((as_steady def.Variant arms_read_at arms_steady).inside b)
+definition_inside ((suc (suc zero)) ∷ b) =
+    after_byte IsTold 2 b _ ((as_steady def.Sequence type_id_at id_steady).inside b)
 definition_inside ((suc (suc (suc zero))) ∷ b) = after_byte IsTold 3 b _ (array_steady.inside b)
-definition_inside ((suc (suc (suc (suc zero)))) ∷ b) = after_byte IsTold 4 b _ ((as_steady def.Tuple type_ids_at ids_steady).inside b)
-definition_inside ((suc (suc (suc (suc (suc zero))))) ∷ b) = after_byte IsTold 5 b _ ((as_steady def.Primitive primitive_at primitive_steady).inside b)
-definition_inside ((suc (suc (suc (suc (suc (suc zero)))))) ∷ b) = after_byte IsTold 6 b _ ((as_steady def.Compact type_id_at id_steady).inside b)
-definition_inside ((suc (suc (suc (suc (suc (suc (suc zero))))))) ∷ b) = after_byte IsTold 7 b _ (bit_sequence_steady.inside b)
-definition_inside ((suc (suc (suc (suc (suc (suc (suc (suc x)))))))) ∷ b) = (([], refl), (λ e. absurd cc, λ e. absurd cc))
+definition_inside ((suc (suc (suc (suc zero)))) ∷ b) =
+    after_byte IsTold 4 b _ ((as_steady def.Tuple type_ids_at ids_steady).inside b)
+definition_inside ((suc (suc (suc (suc (suc zero))))) ∷ b) =
+    after_byte IsTold 5 b _ ((as_steady def.Primitive primitive_at primitive_steady).inside b)
+definition_inside ((suc (suc (suc (suc (suc (suc zero)))))) ∷ b) =
+    after_byte IsTold 6 b _ ((as_steady def.Compact type_id_at id_steady).inside b)
+definition_inside ((suc (suc (suc (suc (suc (suc (suc zero))))))) ∷ b) =
+    after_byte IsTold 7 b _ (bit_sequence_steady.inside b)
+definition_inside ((suc (suc (suc (suc (suc (suc (suc (suc x)))))))) ∷ b) =
+    (([], refl), (λ e. absurd cc, λ e. absurd cc))
 
-definition_extends : (b more : List ℕ) → Extends registry.Truncated more (definition_at b) (definition_at (b ++ more))
+definition_extends : (b more : List ℕ) →
+    Extends registry.Truncated more (definition_at b) (definition_at (b ++ more))
 unfolding definition_at
 definition_extends [] more = λ ne. absurd (ne refl)
-definition_extends (zero ∷ b) more = (as_steady def.Composite fields_at fields_steady).extends b more
-definition_extends ((suc zero) ∷ b) more = (as_steady def.Variant arms_at arms_steady).extends b more
-definition_extends ((suc (suc zero)) ∷ b) more = (as_steady def.Sequence type_id_at id_steady).extends b more
+definition_extends (zero ∷ b) more =
+    (as_steady def.Composite fields_at fields_steady).extends b more
+definition_extends ((suc zero) ∷ b) more =
+    (as_steady def.Variant arms_read_at arms_steady).extends b more
+definition_extends ((suc (suc zero)) ∷ b) more =
+    (as_steady def.Sequence type_id_at id_steady).extends b more
 definition_extends ((suc (suc (suc zero))) ∷ b) more = array_steady.extends b more
-definition_extends ((suc (suc (suc (suc zero)))) ∷ b) more = (as_steady def.Tuple type_ids_at ids_steady).extends b more
-definition_extends ((suc (suc (suc (suc (suc zero))))) ∷ b) more = (as_steady def.Primitive primitive_at primitive_steady).extends b more
-definition_extends ((suc (suc (suc (suc (suc (suc zero)))))) ∷ b) more = (as_steady def.Compact type_id_at id_steady).extends b more
-definition_extends ((suc (suc (suc (suc (suc (suc (suc zero))))))) ∷ b) more = bit_sequence_steady.extends b more
+definition_extends ((suc (suc (suc (suc zero)))) ∷ b) more =
+    (as_steady def.Tuple type_ids_at ids_steady).extends b more
+definition_extends ((suc (suc (suc (suc (suc zero))))) ∷ b) more =
+    (as_steady def.Primitive primitive_at primitive_steady).extends b more
+definition_extends ((suc (suc (suc (suc (suc (suc zero)))))) ∷ b) more =
+    (as_steady def.Compact type_id_at id_steady).extends b more
+definition_extends ((suc (suc (suc (suc (suc (suc (suc zero))))))) ∷ b) more =
+    bit_sequence_steady.extends b more
 definition_extends ((suc (suc (suc (suc (suc (suc (suc (suc x)))))))) ∷ b) more = λ ne. refl
 
 definition_steady : IsSteady definition_at
@@ -310,60 +434,97 @@ definition_steady = record { inside = definition_inside; extends = definition_ex
 type_steady : IsSteady type_info_at
 unfolding type_info_at
 type_steady =
-    let s = then_steady texts_at (λ path bytes. params_at bytes >>= λ params. definition_at params.1 >>= λ shape. texts_at shape.1 >>= λ docs. Ok (record { path = path; params = params.0; shape = shape.0; docs = docs.0 }, docs.1)) texts_steady (λ path.
-    then_steady params_at (λ params bytes. definition_at bytes >>= λ shape. texts_at shape.1 >>= λ docs. Ok (record { path = path; params = params; shape = shape.0; docs = docs.0 }, docs.1)) params_steady (λ params.
-    then_steady definition_at (λ shape bytes. texts_at bytes >>= λ docs. Ok (record { path = path; params = params; shape = shape; docs = docs.0 }, docs.1)) definition_steady (λ shape.
-    then_steady texts_at (λ docs bytes. Ok (record { path = path; params = params; shape = shape; docs = docs }, bytes)) texts_steady (λ docs.
-    done_steady (record { path = path; params = params; shape = shape; docs = docs }))))) in record { inside = s.inside; extends = s.extends }
+    let s = then_steady texts_at
+        (λ path bytes. params_at bytes >>= λ params. definition_at params.1 >>= λ shape. texts_at
+        shape.1 >>= λ docs. Ok (record { path = path; params = params.0; shape = shape.0; docs =
+        docs.0 }, docs.1)) texts_steady (λ path.
+    then_steady params_at (λ params bytes. definition_at bytes >>= λ shape. texts_at shape.1 >>=
+        λ docs. Ok (record { path = path; params = params; shape = shape.0; docs = docs.0 },
+        docs.1)) params_steady (λ params.
+    then_steady definition_at
+        (λ shape bytes. texts_at bytes >>= λ docs. Ok
+        (record { path = path; params = params; shape = shape; docs = docs.0 }, docs.1))
+        definition_steady (λ shape.
+    then_steady texts_at (λ docs bytes. Ok
+        (record { path = path; params = params; shape = shape; docs = docs }, bytes)) texts_steady
+        (λ docs.
+    done_steady (record { path = path; params = params; shape = shape; docs = docs }))))) in
+        record { inside = s.inside; extends = s.extends }
 
 -- an id's test, on what was read of the id
 abbrev tested : ℕ → List ℕ → ℕ × List ℕ → Read RegistryReason ℕ
 tested i bytes id = cond (id.0 == i) (Ok id) (Err (registry.IdOutOfPlace, bytes))
 
-tested_inside : (i : ℕ) (b : List ℕ) (r : Read RegistryReason ℕ) → Inside IsTold b r → Inside IsTold b (r >>= tested i b)
-tested_inside i b (Ok id) h = inside_cond IsTold b (id.0 == i) (Ok id) (Err (registry.IdOutOfPlace, b)) h (at_front b, (λ e. absurd cc, λ e. absurd cc))
+tested_inside : (i : ℕ) (b : List ℕ) (r : Read RegistryReason ℕ) → Inside IsTold b r →
+    Inside IsTold b (r >>= tested i b)
+tested_inside i b (Ok id) h =
+    inside_cond IsTold b (id.0 == i) (Ok id) (Err (registry.IdOutOfPlace, b)) h
+    (at_front b, (λ e. absurd cc, λ e. absurd cc))
 tested_inside i b (Err e) h = h
 
 id_at_steady : (i : ℕ) → IsSteady (id_at i)
 id_at_steady i = record {
   inside = λ b. tested_inside i b (length_at b) (length_steady.inside b);
-  extends = λ b more. bind_extends registry.Truncated more (length_at b) (length_at (b ++ more)) (tested i b) (tested i (b ++ more)) (length_steady.extends b more) (λ id.
+  extends = λ b more. bind_extends registry.Truncated more (length_at b) (length_at (b ++ more))
+      (tested i b) (tested i (b ++ more)) (length_steady.extends b more) (λ id.
       cond_extends registry.Truncated more (id.0 == i) _ _ _ _ refl (λ ne. refl));
 }
 
 types_steady : (n i : ℕ) → IsSteady (types_at n i)
 types_steady zero i = record { inside = at_front; extends = λ b more. refl }
 types_steady (suc n) i =
-    then_steady (id_at i) (λ id bytes. type_info_at bytes >>= λ first. types_at n (i + 1) first.1 >>= λ others. Ok (first.0 ∷ others.0, others.1)) (id_at_steady i) (λ id.
-    then_steady type_info_at (λ first bytes. types_at n (i + 1) bytes >>= λ others. Ok (first ∷ others.0, others.1)) type_steady (λ first.
-    then_steady (types_at n (i + 1)) (λ others bytes. Ok (first ∷ others, bytes)) (types_steady n (i + 1)) (λ others.
+    then_steady (id_at i) (λ id bytes. type_info_at bytes >>= λ first. types_at n (i + 1) first.1
+        >>= λ others. Ok (first.0 ∷ others.0, others.1)) (id_at_steady i) (λ id.
+    then_steady type_info_at
+        (λ first bytes. types_at n (i + 1) bytes >>= λ others. Ok (first ∷ others.0, others.1))
+        type_steady (λ first.
+    then_steady (types_at n (i + 1)) (λ others bytes. Ok (first ∷ others, bytes))
+        (types_steady n (i + 1)) (λ others.
     done_steady (first ∷ others))))
 
 pub registry_steady : IsSteady registry_at
 unfolding registry_at
-registry_steady = let s = then_steady length_at (λ n bytes. types_at n 0 bytes) length_steady (λ n. types_steady n 0) in record { inside = s.inside; extends = s.extends }
+registry_steady = let s =
+    then_steady length_at (λ n bytes. types_at n 0 bytes) length_steady (λ n. types_steady n 0) in
+    record { inside = s.inside; extends = s.extends }
 
 -- ---- the prefix of metadata
 
-mark_inside : (reason : RegistryReason) (mark : ℕ) → reason ≢ registry.OutOfMemory → reason ≢ registry.Truncated → (b : List ℕ) → Inside IsTold b (mark_at reason mark b)
+mark_inside : (reason : RegistryReason) (mark : ℕ) → reason ≢ registry.OutOfMemory →
+    reason ≢ registry.Truncated → (b : List ℕ) → Inside IsTold b (mark_at reason mark b)
 mark_inside reason mark no_memory no_cut [] = (at_end [], (λ e. absurd cc, λ e. refl))
-mark_inside reason mark no_memory no_cut (x ∷ b) = inside_cond IsTold (x ∷ b) (x == mark) (Ok (tt, b)) (Err (reason, x ∷ b)) (x ∷ [], refl) (at_front (x ∷ b), (no_memory, λ e. absurd (no_cut e)))
+mark_inside reason mark no_memory no_cut (x ∷ b) =
+    inside_cond IsTold (x ∷ b) (x == mark) (Ok (tt, b)) (Err (reason, x ∷ b)) (x ∷ [], refl)
+    (at_front (x ∷ b), (no_memory, λ e. absurd (no_cut e)))
 
-mark_extends : (reason : RegistryReason) (mark : ℕ) (b more : List ℕ) → Extends registry.Truncated more (mark_at reason mark b) (mark_at reason mark (b ++ more))
+mark_extends : (reason : RegistryReason) (mark : ℕ) (b more : List ℕ) →
+    Extends registry.Truncated more (mark_at reason mark b) (mark_at reason mark (b ++ more))
 mark_extends reason mark [] more = λ ne. absurd (ne refl)
-mark_extends reason mark (x ∷ b) more = cond_extends registry.Truncated more (x == mark) (Ok (tt, b)) (Err (reason, x ∷ b)) (Ok (tt, b ++ more)) (Err (reason, x ∷ b ++ more)) refl (λ ne. refl)
+mark_extends reason mark (x ∷ b) more =
+    cond_extends registry.Truncated more (x == mark) (Ok (tt, b)) (Err (reason, x ∷ b))
+    (Ok (tt, b ++ more)) (Err (reason, x ∷ b ++ more)) refl (λ ne. refl)
 
-mark_steady : (reason : RegistryReason) (mark : ℕ) → reason ≢ registry.OutOfMemory → reason ≢ registry.Truncated → IsSteady (mark_at reason mark)
-mark_steady reason mark no_memory no_cut = record { inside = mark_inside reason mark no_memory no_cut; extends = mark_extends reason mark }
+mark_steady : (reason : RegistryReason) (mark : ℕ) → reason ≢ registry.OutOfMemory →
+    reason ≢ registry.Truncated → IsSteady (mark_at reason mark)
+mark_steady reason mark no_memory no_cut =
+    record { inside = mark_inside reason mark no_memory no_cut; extends = mark_extends reason mark }
 
 letters_steady : (letters : List ℕ) → IsSteady (letters_at letters)
 letters_steady [] = done_steady tt
-letters_steady (letter ∷ letters) = then_steady (mark_at registry.NotMetadata letter) (λ first bytes. letters_at letters bytes) (mark_steady registry.NotMetadata letter (λ e. absurd cc) (λ e. absurd cc)) (λ first. letters_steady letters)
+letters_steady (letter ∷ letters) =
+    then_steady (mark_at registry.NotMetadata letter) (λ first bytes. letters_at letters bytes)
+    (mark_steady registry.NotMetadata letter (λ e. absurd cc) (λ e. absurd cc))
+    (λ first. letters_steady letters)
 
 prefix_steady : IsSteady prefix_at
 unfolding prefix_at
-prefix_steady = let s = then_steady (letters_at magic) (λ letters bytes. mark_at registry.WrongVersion version bytes) (letters_steady magic) (λ letters. mark_steady registry.WrongVersion version (λ e. absurd cc) (λ e. absurd cc)) in record { inside = s.inside; extends = s.extends }
+prefix_steady = let s = then_steady (letters_at magic)
+    (λ letters bytes. mark_at registry.WrongVersion version bytes) (letters_steady magic)
+    (λ letters. mark_steady registry.WrongVersion version (λ e. absurd cc) (λ e. absurd cc)) in
+    record { inside = s.inside; extends = s.extends }
 
 pub metadata_steady : IsSteady metadata_at
 unfolding metadata_at
-metadata_steady = let s = then_steady prefix_at (λ prefix bytes. registry_at bytes) prefix_steady (λ prefix. registry_steady) in record { inside = s.inside; extends = s.extends }
+metadata_steady = let s =
+    then_steady prefix_at (λ prefix bytes. registry_at bytes) prefix_steady
+    (λ prefix. registry_steady) in record { inside = s.inside; extends = s.extends }

@@ -10,10 +10,14 @@ use Rattle.registry_core.specs.declared.type_info.TypeInfo.{TypeInfo}
 abbrev pub out_of_memory : RegistryFault
 out_of_memory = record { reason = OutOfMemory; at = 0 }
 
--- the registry and how many bytes it took, or the first fault and its place, unless memory was refused
-abbrev pub RegistryAnswers : List ℕ → Result (List TypeInfo × ℕ) RegistryFault → Read RegistryReason (List TypeInfo) → Type 0
+-- the registry and how many bytes it took, or the first fault and its place, unless memory was
+-- refused
+abbrev pub RegistryAnswers : List ℕ → Result (List TypeInfo × ℕ) RegistryFault →
+    Read RegistryReason (List TypeInfo) → Type 0
 RegistryAnswers input (Ok x) read = (x.1 ≤ length input) × (read ≡ Ok (x.0, drop x.1 input))
-RegistryAnswers input (Err f) read = (f ≡ out_of_memory) ⊎ ((left : List ℕ) × (read ≡ Err (f.reason, left)) × (f.at ≡ place input left) × (f.reason ≢ OutOfMemory))
+RegistryAnswers input (Err f) read = (f ≡ out_of_memory)
+    ⊎ ((left : List ℕ) × (read ≡ Err (f.reason, left)) × (f.at ≡ place input left)
+    × (f.reason ≢ OutOfMemory))
 
 -- this answer, unless memory was refused
 abbrev pub IsUnlessMemory : List TypeInfo × ℕ → Result (List TypeInfo × ℕ) RegistryFault → Type 0

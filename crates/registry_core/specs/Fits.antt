@@ -1,4 +1,5 @@
--- What has a spelling: every length and id is below 2 ^ 32, every index is a byte, and every text is UTF-8.
+-- What has a spelling: every length and id is below 2 ^ 32, every index is a byte, and every text
+-- is UTF-8.
 use Rattle.std.specs.Prelude.{◌≡◌, ℕ, ◌<◌, ◌^◌, List, length, Option, Some, None, true}
 use Rattle.std.specs.List.{AllByRecursion}
 use Rattle.std.specs.Str.{is_utf8}
@@ -30,7 +31,8 @@ abbrev pub FitsParam : Param → Type 0
 FitsParam p = FitsText p.name × FitsOption FitsId p.ty
 
 abbrev pub FitsField : Field → Type 0
-FitsField f = FitsOption FitsText f.name × FitsId f.ty × FitsOption FitsText f.type_name × FitsTexts f.docs
+FitsField f = FitsOption FitsText f.name × FitsId f.ty × FitsOption FitsText f.type_name
+    × FitsTexts f.docs
 
 abbrev pub FitsArm : Arm → Type 0
 FitsArm a = FitsText a.name × FitsList FitsField a.fields × (a.index < 256) × FitsTexts a.docs
@@ -46,7 +48,8 @@ FitsDefinition (def.Compact target) = FitsId target
 FitsDefinition (def.BitSequence store order) = FitsId store × FitsId order
 
 abbrev pub FitsType : TypeInfo → Type 0
-FitsType t = FitsTexts t.path × FitsList FitsParam t.params × FitsDefinition t.shape × FitsTexts t.docs
+FitsType t = FitsTexts t.path × FitsList FitsParam t.params × FitsDefinition t.shape
+    × FitsTexts t.docs
 
 abbrev pub FitsRegistry : List TypeInfo → Type 0
 FitsRegistry r = FitsList FitsType r

@@ -8,13 +8,14 @@ use Rattle.registry_core.specs.declared.reading.stop.Stop.TheVariants.{Memory, F
 use Rattle.registry_core.specs.Answers.{out_of_memory}
 
 -- the fault that reading gives, or memory
-abbrev pub Stops : {Y : Type 0} → Stop → Read RegistryReason Y → Type 0
-Stops Memory read = Unit {0}
-Stops (Fault reason left) read = read ≡ Err (reason, left.now)
+abbrev pub StopsReading : {Y : Type 0} → Stop → Read RegistryReason Y → Type 0
+StopsReading Memory read = Unit {0}
+StopsReading (Fault reason left) read = read ≡ Err (reason, left.now)
 
-abbrev pub Gives : {X Y : Type 0} → (X → Y × List ℕ) → Result X Stop → Read RegistryReason Y → Type 0
+abbrev pub Gives : {X Y : Type 0} → (X → Y × List ℕ) → Result X Stop → Read RegistryReason Y →
+    Type 0
 Gives view (Ok x) read = read ≡ Ok (view x)
-Gives view (Err stop) read = Stops stop read
+Gives view (Err stop) read = StopsReading stop read
 
 -- this fault, with these bytes from its place on
 abbrev pub IsFaultAt : RegistryReason → List ℕ → Stop → Type 0

@@ -1,4 +1,5 @@
--- What kind of type a primitive is, and how many bytes an integer has (SCALE codec, fixed-width integers).
+-- What kind of type a primitive is, and how many bytes an integer has (SCALE codec, fixed-width
+-- integers).
 use Rattle.std.specs.Prelude.{ℕ}
 use Rattle.registry_core.specs.declared.primitive.Primitive.{Primitive}
 use Rattle.registry_core.specs.declared.primitive.Primitive.TheVariants as P

@@ -1,5 +1,7 @@
 -- A registry from left to right, with the first fault that is met.
-use Rattle.std.specs.Prelude.{ℕ, zero, suc, ◌+◌, List, [], ◌∷◌, Option, Some, None, Ok, Err, ◌==◌, slice_get, if◌then◌else◌}
+use Rattle.std.specs.Prelude.{
+    ℕ, zero, suc, ◌+◌, List, [], ◌∷◌, Option, Some, None, Ok, Err, ◌==◌, slice_get, if◌then◌else◌
+}
 use Rattle.scale_core.specs.Read.{Read, ◌>>=◌, compact_at, text_at, number_at}
 use Rattle.scale_core.specs.declared.compact.Target.TheVariants.{U32 as u32_target}
 use Rattle.scale_core.specs.declared.fault.Reason.{Reason}
@@ -16,7 +18,8 @@ use Rattle.registry_core.specs.declared.fault.RegistryReason.{RegistryReason}
 use Rattle.registry_core.specs.declared.fault.RegistryReason.TheVariants as registry
 use Rattle.registry_core.specs.Bytes.{primitives, magic, version}
 
--- why a length, an id or a text is refused, as a reason of the registry; none is refused for the last two, as the clauses
+-- why a length, an id or a text is refused, as a reason of the registry; none is refused for the
+-- last two, as the clauses
 -- of `read_compact` and `read_text` say
 abbrev pub reason_of : Reason → RegistryReason
 reason_of scale.Truncated = registry.Truncated
@@ -39,18 +42,18 @@ abbrev pub length_at : Reader ℕ
 length_at bytes = lifted (compact_at u32_target bytes)
 
 -- n parts, one behind the other
-abbrev pub times : {X : Type 0} → ℕ → Reader X → Reader (List X)
-times zero part bytes = Ok ([], bytes)
-times (suc n) part bytes = do
+abbrev pub repeated : {X : Type 0} → ℕ → Reader X → Reader (List X)
+repeated zero part bytes = Ok ([], bytes)
+repeated (suc n) part bytes = do
   first ← part bytes
-  others ← times n part first.1
+  others ← repeated n part first.1
   Ok (first.0 ∷ others.0, others.1)
 
 -- a sequence: its length, and its elements
 abbrev pub sequence_at : {X : Type 0} → Reader X → Reader (List X)
 sequence_at part bytes = do
   n ← length_at bytes
-  times n.0 part n.1
+  repeated n.0 part n.1
 
 abbrev pub string_at : Reader (List ℕ)
 string_at bytes = lifted (text_at bytes)
@@ -95,8 +98,8 @@ field_at bytes = do
 unfoldable pub fields_at : Reader (List Field)
 fields_at = sequence_at field_at
 
-unfoldable pub arm_at : Reader Arm
-arm_at bytes = do
+unfoldable pub arm_read_at : Reader Arm
+arm_read_at bytes = do
   name ← string_at bytes
   fields ← fields_at name.1
   index ← byte_at fields.1
@@ -106,7 +109,8 @@ arm_at bytes = do
 -- ---- definitions
 
 -- a value that a byte names, or the refusal of the byte
-abbrev pub named : {X : Type 0} → RegistryReason → List ℕ → Option X → List ℕ → Read RegistryReason X
+abbrev pub named : {X : Type 0} → RegistryReason → List ℕ → Option X → List ℕ →
+    Read RegistryReason X
 named reason at (Some x) rest = Ok (x, rest)
 named reason at None rest = Err (reason, at)
 
@@ -133,8 +137,8 @@ bit_sequence_at bytes = do
   order ← type_id_at store.1
   Ok (def.BitSequence store.0 order.0, order.1)
 
-unfoldable pub arms_at : Reader (List Arm)
-arms_at = sequence_at arm_at
+unfoldable pub arms_read_at : Reader (List Arm)
+arms_read_at = sequence_at arm_read_at
 
 unfoldable pub type_ids_at : Reader (List TypeId)
 type_ids_at = sequence_at type_id_at
@@ -142,7 +146,7 @@ type_ids_at = sequence_at type_id_at
 -- what follows a definition's byte, in the order of these bytes
 abbrev pub definitions : List (Reader TypeDef)
 definitions = as_definition def.Composite fields_at
-    ∷ as_definition def.Variant arms_at
+    ∷ as_definition def.Variant arms_read_at
     ∷ as_definition def.Sequence type_id_at
     ∷ array_at
     ∷ as_definition def.Tuple type_ids_at

@@ -6,7 +6,9 @@ use Rattle.registry_core.specs.declared.definition.TypeDef.TheVariants as def
 use Rattle.registry_core.specs.declared.primitive.Primitive.TheVariants.{U8}
 use Rattle.registry_core.specs.declared.type_info.TypeInfo.{TypeInfo}
 use Rattle.registry_core.specs.declared.fault.RegistryReason.{RegistryReason}
-use Rattle.registry_core.specs.declared.fault.RegistryReason.TheVariants.{BadUtf8, CompactTooLarge, IdOutOfPlace, NotMetadata, Truncated, WrongVersion}
+use Rattle.registry_core.specs.declared.fault.RegistryReason.TheVariants.{
+    BadUtf8, CompactTooLarge, IdOutOfPlace, NotMetadata, Truncated, WrongVersion
+}
 use Rattle.registry_core.specs.Reading.{registry_at, metadata_at}
 use Rattle.registry_core.specs.Spelling.{spelling}
 
@@ -16,8 +18,10 @@ bare shape = record { path = []; params = []; shape = shape; docs = [] }
 
 -- a u32 and the option of it, with a parameter, two arms and a field
 abbrev pub option_bytes : List ℕ
-option_bytes = 0x08 ∷ 0x00 ∷ 0x00 ∷ 0x00 ∷ 0x05 ∷ 0x05 ∷ 0x00 ∷ 0x04 ∷ 0x04 ∷ 0x18 ∷ 0x4f ∷ 0x70 ∷ 0x74 ∷ 0x69 ∷ 0x6f ∷ 0x6e ∷ 0x04 ∷ 0x04 ∷ 0x54 ∷ 0x01 ∷ 0x00 ∷ 0x01
-    ∷ 0x08 ∷ 0x10 ∷ 0x4e ∷ 0x6f ∷ 0x6e ∷ 0x65 ∷ 0x00 ∷ 0x00 ∷ 0x00 ∷ 0x10 ∷ 0x53 ∷ 0x6f ∷ 0x6d ∷ 0x65 ∷ 0x04 ∷ 0x00 ∷ 0x00 ∷ 0x01 ∷ 0x04 ∷ 0x54 ∷ 0x00 ∷ 0x01 ∷ 0x00 ∷ 0x00 ∷ []
+option_bytes = 0x08 ∷ 0x00 ∷ 0x00 ∷ 0x00 ∷ 0x05 ∷ 0x05 ∷ 0x00 ∷ 0x04 ∷ 0x04 ∷ 0x18 ∷ 0x4f ∷ 0x70 ∷
+    0x74 ∷ 0x69 ∷ 0x6f ∷ 0x6e ∷ 0x04 ∷ 0x04 ∷ 0x54 ∷ 0x01 ∷ 0x00 ∷ 0x01
+    ∷ 0x08 ∷ 0x10 ∷ 0x4e ∷ 0x6f ∷ 0x6e ∷ 0x65 ∷ 0x00 ∷ 0x00 ∷ 0x00 ∷ 0x10 ∷ 0x53 ∷ 0x6f ∷ 0x6d ∷
+        0x65 ∷ 0x04 ∷ 0x00 ∷ 0x00 ∷ 0x01 ∷ 0x04 ∷ 0x54 ∷ 0x00 ∷ 0x01 ∷ 0x00 ∷ 0x00 ∷ []
 
 -- a tuple of the type before it twice, behind its position
 abbrev pub pair_bytes : ℕ → List ℕ
@@ -39,20 +43,29 @@ again (Err e) = []
 
 -- registries that are read: a u8, two types of which one has a parameter, and many that are nested
 pub record ReadRows : Type 0 where
-  pub byte_is_read : registry_at (0x04 ∷ 0x00 ∷ 0x00 ∷ 0x00 ∷ 0x05 ∷ 0x03 ∷ 0x00 ∷ []) ≡ Ok (bare (def.Primitive U8) ∷ [], [])
+  pub byte_is_read : registry_at (0x04 ∷ 0x00 ∷ 0x00 ∷ 0x00 ∷ 0x05 ∷ 0x03 ∷ 0x00 ∷ [])
+      ≡ Ok (bare (def.Primitive U8) ∷ [], [])
   pub option_is_spelled_again : again (registry_at option_bytes) ≡ option_bytes
   pub nested_are_short : length nested_bytes ≡ 327
   pub nested_are_spelled_again : again (registry_at nested_bytes) ≡ nested_bytes
 
 -- registries that are refused, each at its first fault
 pub record FaultRows : Type 0 where
-  pub id_is_refused_at_its_first_byte : registry_at (0x04 ∷ 0x04 ∷ 0x00 ∷ 0x00 ∷ 0x05 ∷ 0x03 ∷ 0x00 ∷ []) ≡ Err (IdOutOfPlace, 0x04 ∷ 0x00 ∷ 0x00 ∷ 0x05 ∷ 0x03 ∷ 0x00 ∷ [])
-  pub claimed_types_are_missing : registry_at (0xfe ∷ 0xff ∷ 0xff ∷ 0xff ∷ 0x00 ∷ []) ≡ Err (Truncated, [])
-  pub text_is_no_utf8 : registry_at (0x04 ∷ 0x00 ∷ 0x04 ∷ 0x04 ∷ 0xff ∷ []) ≡ Err (BadUtf8, 0xff ∷ [])
-  pub length_claims_too_many_bytes : registry_at (0x07 ∷ 0x00 ∷ 0x00 ∷ 0x00 ∷ 0x00 ∷ 0x00 ∷ []) ≡ Err (CompactTooLarge, 0x07 ∷ 0x00 ∷ 0x00 ∷ 0x00 ∷ 0x00 ∷ 0x00 ∷ [])
+  pub id_is_refused_at_its_first_byte : registry_at
+      (0x04 ∷ 0x04 ∷ 0x00 ∷ 0x00 ∷ 0x05 ∷ 0x03 ∷ 0x00 ∷ [])
+      ≡ Err (IdOutOfPlace, 0x04 ∷ 0x00 ∷ 0x00 ∷ 0x05 ∷ 0x03 ∷ 0x00 ∷ [])
+  pub claimed_types_are_missing : registry_at (0xfe ∷ 0xff ∷ 0xff ∷ 0xff ∷ 0x00 ∷ [])
+      ≡ Err (Truncated, [])
+  pub text_is_no_utf8 : registry_at (0x04 ∷ 0x00 ∷ 0x04 ∷ 0x04 ∷ 0xff ∷ [])
+      ≡ Err (BadUtf8, 0xff ∷ [])
+  pub length_claims_too_many_bytes : registry_at (0x07 ∷ 0x00 ∷ 0x00 ∷ 0x00 ∷ 0x00 ∷ 0x00 ∷ [])
+      ≡ Err (CompactTooLarge, 0x07 ∷ 0x00 ∷ 0x00 ∷ 0x00 ∷ 0x00 ∷ 0x00 ∷ [])
 
 -- behind the prefix of metadata: what follows is left, and another letter or version is refused
 pub record MetadataRows : Type 0 where
-  pub metadata_is_read : metadata_at (0x6d ∷ 0x65 ∷ 0x74 ∷ 0x61 ∷ 0x0e ∷ 0x04 ∷ 0x00 ∷ 0x00 ∷ 0x00 ∷ 0x05 ∷ 0x03 ∷ 0x00 ∷ 0xff ∷ []) ≡ Ok (bare (def.Primitive U8) ∷ [], 0xff ∷ [])
+  pub metadata_is_read : metadata_at
+      (0x6d ∷ 0x65 ∷ 0x74 ∷ 0x61 ∷ 0x0e ∷ 0x04 ∷ 0x00 ∷ 0x00 ∷ 0x00 ∷ 0x05 ∷ 0x03 ∷ 0x00 ∷ 0xff ∷
+      []) ≡ Ok (bare (def.Primitive U8) ∷ [], 0xff ∷ [])
   pub other_letter_is_refused : metadata_at (0x6d ∷ 0x66 ∷ []) ≡ Err (NotMetadata, 0x66 ∷ [])
-  pub other_version_is_refused : metadata_at (0x6d ∷ 0x65 ∷ 0x74 ∷ 0x61 ∷ 0x0d ∷ []) ≡ Err (WrongVersion, 0x0d ∷ [])
+  pub other_version_is_refused : metadata_at (0x6d ∷ 0x65 ∷ 0x74 ∷ 0x61 ∷ 0x0d ∷ [])
+      ≡ Err (WrongVersion, 0x0d ∷ [])

@@ -1,5 +1,9 @@
--- The forms of compact integers: how long the shortest is, and that no other form of its length has its number.
-use Rattle.std.proofs.Common.{◌≡◌, ℕ, zero, suc, ◌+◌, ◌-◌, ◌*◌, ◌/◌, ◌%◌, ◌^◌, ◌<◌, ◌≤◌, List, [], ◌∷◌, length, refl, sym, ap, ◌∙◌, arith, inl, inr}
+-- The forms of compact integers: how long the shortest is, and that no other form of its length has
+-- its number.
+use Rattle.std.proofs.Common.{
+    ◌≡◌, ℕ, zero, suc, ◌+◌, ◌-◌, ◌*◌, ◌/◌, ◌%◌, ◌^◌, ◌<◌, ◌≤◌, List, [], ◌∷◌, length, refl, sym, ap,
+    ◌∙◌, arith, inl, inr
+}
 use Rattle.std.proofs.lemmas.Bool.{cases_lt, le-ltb, lt-ltb, ne_eqb}
 use Rattle.std.proofs.lemmas.Bool.Decides.{nat_tests}
 use Rattle.std.proofs.Math.Nat.{pow-suc, pow-le-pow_right}
@@ -9,7 +13,9 @@ use Rattle.scale_core.specs.Compact.{compact, bytes_needed, big_bytes}
 use Rattle.scale_core.specs.Number.{AreBytes, number, le_bytes}
 use Rattle.scale_core.specs.Read.{form_len, form_number}
 use Rattle.scale_core.proofs.Again.{form_of}
-use Rattle.scale_core.proofs.Numbers.{length-le_bytes, number_one, bytes_needed-le, bytes_needed-enough}
+use Rattle.scale_core.proofs.Numbers.{
+    length-le_bytes, number_one, bytes_needed-le, bytes_needed-enough
+}
 
 pow-bytes : (k : ℕ) → 2 ^ (8 * k) ≡ 256 ^ k
 pow-bytes zero = refl
@@ -21,11 +27,14 @@ pow-bytes (suc k) =
 bytes_needed-is : (w k n : ℕ) → k < w → 256 ^ k ≤ n → n < 256 ^ suc k → bytes_needed w n ≡ suc k
 bytes_needed-is w k n less ge h =
     let most : bytes_needed w n ≤ suc k = bytes_needed-le w (suc k) n h in
-    let fits : n < 256 ^ w = omega (arith, h, pow-le-pow_right {n = 256} (omega arith) {i = suc k} {j = w} (omega arith)) in
+    let fits : n < 256 ^ w =
+        omega (arith, h, pow-le-pow_right {n = 256} (omega arith) {i = suc k} {j = w} (omega arith))
+        in
     let enough : n < 256 ^ bytes_needed w n = bytes_needed-enough w n fits in
     elim (cases_lt k (bytes_needed w n)) [
       | inl more ↦ omega arith
-      | inr fewer ↦ absurd (omega (arith, pow-le-pow_right {n = 256} (omega arith) {i = bytes_needed w n} {j = k} fewer))
+      | inr fewer ↦ absurd (omega (arith,
+          pow-le-pow_right {n = 256} (omega arith) {i = bytes_needed w n} {j = k} fewer))
     ]
 
 -- ---- the shortest form, and how long it is
@@ -42,9 +51,11 @@ pub compact-four : (n : ℕ) → 2 ^ 14 ≤ n → n < 2 ^ 30 → compact n ≡ l
 unfolding compact
 compact-four n ge h = rw (le-ltb n 64 (omega arith), le-ltb n (2 ^ 14) ge, lt-ltb n (2 ^ 30) h) refl
 
-pub compact-big : (n : ℕ) → 2 ^ 30 ≤ n → compact n ≡ (4 * (big_bytes n - 4) + 3) ∷ le_bytes (big_bytes n) n
+pub compact-big : (n : ℕ) → 2 ^ 30 ≤ n →
+    compact n ≡ (4 * (big_bytes n - 4) + 3) ∷ le_bytes (big_bytes n) n
 unfolding compact
-compact-big n ge = rw (le-ltb n 64 (omega arith), le-ltb n (2 ^ 14) (omega arith), le-ltb n (2 ^ 30) ge) refl
+compact-big n ge = rw (le-ltb n 64 (omega arith), le-ltb n (2 ^ 14) (omega arith),
+    le-ltb n (2 ^ 30) ge) refl
 
 pub length-compact-one : (n : ℕ) → n < 64 → length (compact n) ≡ 1
 length-compact-one n h = ap length (compact-one n h)
@@ -56,7 +67,8 @@ pub length-compact-four : (n : ℕ) → 2 ^ 14 ≤ n → n < 2 ^ 30 → length (
 length-compact-four n ge h = ap length (compact-four n ge h)
 
 pub length-compact-big : (n : ℕ) → 2 ^ 30 ≤ n → length (compact n) ≡ suc (big_bytes n)
-length-compact-big n ge = ap length (compact-big n ge) ∙ ap (λ (k : ℕ). suc k) (length-le_bytes (big_bytes n) n)
+length-compact-big n ge = ap length (compact-big n ge)
+    ∙ ap (λ (k : ℕ). suc k) (length-le_bytes (big_bytes n) n)
 
 -- by the place of the highest bit
 pub bits-least : (n r : ℕ) → 2 ^ 30 ≤ n → n < 2 * 2 ^ r → 4 ≤ r / 8 + 1
@@ -65,13 +77,17 @@ bits-least n r big h = elim (cases_lt r 30) [
   | inr ge ↦ omega arith
 ]
 
-pub big_bytes-bits : (n r : ℕ) → 2 ^ 30 ≤ n → 2 ^ r ≤ n → n < 2 * 2 ^ r → r < 128 → big_bytes n ≡ r / 8 + 1
+pub big_bytes-bits : (n r : ℕ) → 2 ^ 30 ≤ n → 2 ^ r ≤ n → n < 2 * 2 ^ r → r < 128 →
+    big_bytes n ≡ r / 8 + 1
 big_bytes-bits n r big ge h small =
     let k = r / 8 in
-    let low : 256 ^ k ≤ 2 ^ r = rw (sym (pow-bytes k)) (pow_mono {i = 8 * k} {j = r} (omega arith)) in
+    let low : 256 ^ k ≤ 2 ^ r =
+        rw (sym (pow-bytes k)) (pow_mono {i = 8 * k} {j = r} (omega arith)) in
     let double : 2 ^ suc r ≡ 2 ^ r * 2 = pow-suc 2 r in
-    let high : 2 ^ suc r ≤ 256 ^ suc k = rw (sym (pow-bytes (suc k))) (pow_mono {i = suc r} {j = 8 * suc k} (omega arith)) in
-    let needed : bytes_needed 16 n ≡ suc k = bytes_needed-is 16 k n (omega arith) (omega arith) (omega arith) in
+    let high : 2 ^ suc r ≤ 256 ^ suc k =
+        rw (sym (pow-bytes (suc k))) (pow_mono {i = suc r} {j = 8 * suc k} (omega arith)) in
+    let needed : bytes_needed 16 n ≡ suc k =
+        bytes_needed-is 16 k n (omega arith) (omega arith) (omega arith) in
     omega (arith, needed, bits-least n r big h)
 
 -- ---- which form is the shortest
@@ -95,7 +111,8 @@ are_compact n = elim (cases_lt n 64) [
     | inl lt ↦ rw (lt-ltb n (2 ^ 14) lt) (are_le_bytes 2 (4 * n + 1))
     | inr ge ↦ rw (le-ltb n (2 ^ 14) ge) (elim (cases_lt n (2 ^ 30)) [
       | inl lt ↦ rw (lt-ltb n (2 ^ 30) lt) (are_le_bytes 4 (4 * n + 2))
-      | inr ge ↦ rw (le-ltb n (2 ^ 30) ge) (omega (arith, bytes_needed-bound 16 n), are_le_bytes (big_bytes n) n)
+      | inr ge ↦ rw (le-ltb n (2 ^ 30) ge)
+          (omega (arith, bytes_needed-bound 16 n), are_le_bytes (big_bytes n) n)
     ])
   ])
 ]
@@ -104,13 +121,16 @@ same_mode : (a b : ℕ) → form_len a ≡ form_len b → a % 4 ≡ b % 4
 same_mode a b e = grind (arith, nat_tests)
 
 -- a form is known by its length and its number
-same_form : (a : ℕ) (s : List ℕ) (b : ℕ) (t : List ℕ) → AreBytes (a ∷ s) → AreBytes (b ∷ t) → length (a ∷ s) ≡ form_len a → length (b ∷ t) ≡ form_len b →
+same_form : (a : ℕ) (s : List ℕ) (b : ℕ) (t : List ℕ) → AreBytes (a ∷ s) → AreBytes (b ∷ t) →
+    length (a ∷ s) ≡ form_len a → length (b ∷ t) ≡ form_len b →
     form_len a ≡ form_len b → form_number (a ∷ s) ≡ form_number (b ∷ t) → a ∷ s ≡ b ∷ t
 same_form a s b t h k len len' one same =
     let mode = same_mode a b one in
     elim (cases_lt (a % 4) 3) [
       | inl lt ↦
-          let e : number (a ∷ s) / 4 ≡ number (b ∷ t) / 4 = rw (ne_eqb (a % 4) 3 (λ e. omega arith), ne_eqb (b % 4) 3 (λ e. omega arith)) at same in
+          let e : number (a ∷ s) / 4 ≡ number (b ∷ t) / 4 =
+              rw (ne_eqb (a % 4) 3 (λ e. omega arith), ne_eqb (b % 4) 3 (λ e. omega arith)) at
+              same in
           number_one (a ∷ s) (b ∷ t) h k (len ∙ one ∙ sym len') (omega (arith, e))
       | inr ge ↦
           let three : a % 4 ≡ 3 = omega arith in
@@ -124,7 +144,8 @@ same_form a s b t h k len len' one same =
     ]
 
 -- a form as long as the spelling of its number is that spelling
-pub shortest_form : (a : ℕ) (s : List ℕ) (n : ℕ) → AreBytes (a ∷ s) → length (a ∷ s) ≡ form_len a → n ≡ form_number (a ∷ s) → n < 2 ^ 128 →
+pub shortest_form : (a : ℕ) (s : List ℕ) (n : ℕ) → AreBytes (a ∷ s) → length (a ∷ s) ≡ form_len a →
+    n ≡ form_number (a ∷ s) → n < 2 ^ 128 →
     length (compact n) ≡ form_len a → compact n ≡ a ∷ s
 shortest_form a s n h len value small same =
     let f = form_of n small in

@@ -1,5 +1,8 @@
 -- What is read where a text stands, by its length and its bytes.
-use Rattle.std.proofs.Common.{◌≡◌, ℕ, ◌+◌, ◌-◌, ◌<◌, ◌≤◌, false, cond, List, [], length, take, drop, Ok, Err, refl, sym, ap, ◌∙◌, arith, inl, inr}
+use Rattle.std.proofs.Common.{
+    ◌≡◌, ℕ, ◌+◌, ◌-◌, ◌<◌, ◌≤◌, false, cond, List, [], length, take, drop, Ok, Err, refl, sym, ap,
+    ◌∙◌, arith, inl, inr
+}
 use Rattle.std.specs.Prelude.{◌⊎◌}
 use Rattle.std.specs.List.{slice_range}
 use Rattle.std.specs.Str.{is_utf8, IsUtf8}
@@ -13,7 +16,8 @@ use Rattle.scale_core.specs.declared.compact.Target.TheVariants.{U32}
 use Rattle.scale_core.specs.declared.fault.Reason.{Reason}
 use Rattle.scale_core.specs.declared.fault.Reason.TheVariants.{Truncated, BadUtf8}
 
-pub text_at-fault : (bytes : List ℕ) (e : Reason × List ℕ) → compact_at U32 bytes ≡ Err e → text_at bytes ≡ Err e
+pub text_at-fault : (bytes : List ℕ) (e : Reason × List ℕ) → compact_at U32 bytes ≡ Err e →
+    text_at bytes ≡ Err e
 unfolding text_at
 text_at-fault bytes e is = rw is refl
 
@@ -23,18 +27,23 @@ abbrev pub behind : List ℕ → ℕ → List ℕ
 behind bytes start = take (length bytes - start) (drop start bytes)
 
 behind-drop : (bytes : List ℕ) (start : ℕ) → behind bytes start ≡ drop start bytes
-behind-drop bytes start = take_all (length bytes - start) (drop start bytes) (omega (arith, length-drop start bytes))
+behind-drop bytes start =
+    take_all (length bytes - start) (drop start bytes) (omega (arith, length-drop start bytes))
 
-pub text_at-cut : (bytes : List ℕ) (start n : ℕ) → compact_at U32 bytes ≡ Ok (n, drop start bytes) → (n < 0) ⊎ (length (behind bytes start) < n) → text_at bytes ≡ Err (Truncated, [])
+pub text_at-cut : (bytes : List ℕ) (start n : ℕ) → compact_at U32 bytes ≡ Ok (n, drop start bytes) →
+    (n < 0) ⊎ (length (behind bytes start) < n) → text_at bytes ≡ Err (Truncated, [])
 unfolding text_at
 text_at-cut bytes start n is (inl h) = absurd (omega arith)
-text_at-cut bytes start n is (inr h) = let short : length (drop start bytes) < n = rw behind-drop at h in rw (is, lt-ltb (length (drop start bytes)) n short) refl
+text_at-cut bytes start n is (inr h) = let short : length (drop start bytes) < n =
+    rw behind-drop at h in rw (is, lt-ltb (length (drop start bytes)) n short) refl
 
 -- the text s, which is there whole
 abbrev judged_text : List ℕ → List ℕ → List ℕ → Read Reason (List ℕ)
-judged_text s rest after = cond (is_utf8 s) (Ok (s, after)) (Err (BadUtf8, drop (utf8_valid_len s) rest))
+judged_text s rest after =
+    cond (is_utf8 s) (Ok (s, after)) (Err (BadUtf8, drop (utf8_valid_len s) rest))
 
-text_at-whole : (bytes rest : List ℕ) (n : ℕ) → compact_at U32 bytes ≡ Ok (n, rest) → n ≤ length rest → text_at bytes ≡ judged_text (take n rest) rest (drop n rest)
+text_at-whole : (bytes rest : List ℕ) (n : ℕ) → compact_at U32 bytes ≡ Ok (n, rest) →
+    n ≤ length rest → text_at bytes ≡ judged_text (take n rest) rest (drop n rest)
 unfolding text_at
 text_at-whole bytes rest n is long = rw (is, le-ltb (length rest) n long) refl
 
@@ -45,30 +54,44 @@ pub record IsWhole (bytes spelled : List ℕ) (start n : ℕ) : Type 0 where
   pub is : spelled ≡ slice_range (behind bytes start) 0 n
   pub len : length spelled + 0 ≡ n
 
-judged-whole : (bytes spelled : List ℕ) (start n : ℕ) → IsWhole bytes spelled start n → text_at bytes ≡ judged_text spelled (drop start bytes) (drop (start + length spelled) bytes)
+judged-whole : (bytes spelled : List ℕ) (start n : ℕ) → IsWhole bytes spelled start n →
+    text_at bytes ≡ judged_text spelled (drop start bytes) (drop (start + length spelled) bytes)
 judged-whole bytes spelled start n w =
     let rest = drop start bytes in
     let long : n ≤ length rest = rw behind-drop at w.there in
-    let front : spelled ≡ take n rest = w.is ∙ ap (λ (xs : List ℕ). slice_range xs 0 n) (behind-drop bytes start) ∙ between_from_start rest n in
+    let front : spelled ≡ take n rest = w.is
+        ∙ ap (λ (xs : List ℕ). slice_range xs 0 n) (behind-drop bytes start)
+        ∙ between_from_start rest n in
     let count : n ≡ length spelled = omega (arith, w.len) in
-    let after : drop n rest ≡ drop (start + length spelled) bytes = drop-drop n start bytes ∙ ap (λ (k : ℕ). drop (start + k) bytes) count in
-    text_at-whole bytes rest n w.length_is long ∙ ap (λ (s : List ℕ). judged_text s rest (drop n rest)) (sym front) ∙ ap (judged_text spelled rest) after
+    let after : drop n rest ≡ drop (start + length spelled) bytes = drop-drop n start bytes
+        ∙ ap (λ (k : ℕ). drop (start + k) bytes) count in
+    text_at-whole bytes rest n w.length_is long
+        ∙ ap (λ (s : List ℕ). judged_text s rest (drop n rest)) (sym front)
+        ∙ ap (judged_text spelled rest) after
 
-pub text_at-valid : (bytes spelled text : List ℕ) (start n : ℕ) → IsWhole bytes spelled start n → text ≡ spelled → IsUtf8 spelled →
+pub text_at-valid : (bytes spelled text : List ℕ) (start n : ℕ) → IsWhole bytes spelled start n →
+    text ≡ spelled → IsUtf8 spelled →
     text_at bytes ≡ Ok (text, drop (start + length spelled) bytes)
-text_at-valid bytes spelled text start n w same valid = judged-whole bytes spelled start n w ∙ rw (is_utf8-from_IsUtf8 spelled valid, same) refl
+text_at-valid bytes spelled text start n w same valid = judged-whole bytes spelled start n w
+    ∙ rw (is_utf8-from_IsUtf8 spelled valid, same) refl
 
-pub text_at-bad : (bytes spelled : List ℕ) (start n : ℕ) → IsWhole bytes spelled start n → (IsUtf8 spelled → ⊥) →
+pub text_at-bad : (bytes spelled : List ℕ) (start n : ℕ) → IsWhole bytes spelled start n →
+    (IsUtf8 spelled → ⊥) →
     text_at bytes ≡ Err (BadUtf8, drop (utf8_valid_len spelled) (drop start bytes))
 text_at-bad bytes spelled start n w bad =
-    let no : is_utf8 spelled ≡ false = false_from_ne_true _ (λ e. bad (IsUtf8-from_is_utf8 spelled e)) in
+    let no : is_utf8 spelled ≡ false =
+        false_from_ne_true _ (λ e. bad (IsUtf8-from_is_utf8 spelled e)) in
     judged-whole bytes spelled start n w ∙ rw no refl
 
-pub whole-bound : (bytes spelled : List ℕ) (start n : ℕ) → start ≤ length bytes → IsWhole bytes spelled start n → start + length spelled ≤ length bytes
-whole-bound bytes spelled start n h w = let long : n ≤ length (drop start bytes) = rw behind-drop at w.there in omega (arith, length-drop start bytes, w.len)
+pub whole-bound : (bytes spelled : List ℕ) (start n : ℕ) → start ≤ length bytes →
+    IsWhole bytes spelled start n → start + length spelled ≤ length bytes
+whole-bound bytes spelled start n h w = let long : n ≤ length (drop start bytes) =
+    rw behind-drop at w.there in omega (arith, length-drop start bytes, w.len)
 
-pub place-bad : (bytes spelled : List ℕ) (start n : ℕ) → start ≤ length bytes → IsWhole bytes spelled start n →
+pub place-bad : (bytes spelled : List ℕ) (start n : ℕ) → start ≤ length bytes →
+    IsWhole bytes spelled start n →
     place bytes (drop (utf8_valid_len spelled) (drop start bytes)) ≡ start + utf8_valid_len spelled
 place-bad bytes spelled start n h w =
     let k = utf8_valid_len spelled in
-    omega (arith, whole-bound bytes spelled start n h w, utf8_valid_len_le spelled, length-drop k (drop start bytes), length-drop start bytes)
+    omega (arith, whole-bound bytes spelled start n h w, utf8_valid_len_le spelled,
+        length-drop k (drop start bytes), length-drop start bytes)

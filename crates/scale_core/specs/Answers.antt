@@ -1,13 +1,16 @@
--- A reader's answer beside what reading gives: the value and how many bytes it took, or the fault and its place.
+-- A reader's answer beside what reading gives: the value and how many bytes it took, or the fault
+-- and its place.
 use Rattle.std.specs.Prelude.{◌≡◌, ℕ, ◌≤◌, List, length, drop, Result, Ok, Err}
 use Rattle.scale_core.specs.Read.{Read, place}
 use Rattle.scale_core.specs.declared.fault.Fault.{Fault}
 use Rattle.scale_core.specs.declared.fault.Reason.{Reason}
 use Rattle.scale_core.specs.declared.fault.Reason.TheVariants.{Truncated}
 
-abbrev pub Answers : {X Y : Type 0} → (X → Y) → List ℕ → Result (X × ℕ) Fault → Read Reason Y → Type 0
+abbrev pub Answers : {X Y : Type 0} → (X → Y) → List ℕ → Result (X × ℕ) Fault → Read Reason Y →
+    Type 0
 Answers view input (Ok x) read = (x.1 ≤ length input) × (read ≡ Ok (view x.0, drop x.1 input))
-Answers view input (Err f) read = (left : List ℕ) × (read ≡ Err (f.reason, left)) × (f.at ≡ place input left)
+Answers view input (Err f) read = (left : List ℕ) × (read ≡ Err (f.reason, left))
+    × (f.at ≡ place input left)
 
 -- the refusal of an input that ends too early
 abbrev pub truncated : List ℕ → Fault

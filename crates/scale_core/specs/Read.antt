@@ -1,5 +1,9 @@
--- Reading from left to right: the value and the bytes behind it, or the first fault and the bytes from its place on.
-use Rattle.std.specs.Prelude.{ℕ, ◌+◌, ◌-◌, ◌/◌, ◌%◌, ◌^◌, Bool, true, false, ◌&&◌, not, ℤ, List, [], ◌∷◌, length, take, drop, Result, Ok, Err, nat_lt, ◌==◌, if◌then◌else◌}
+-- Reading from left to right: the value and the bytes behind it, or the first fault and the bytes
+-- from its place on.
+use Rattle.std.specs.Prelude.{
+    ℕ, ◌+◌, ◌-◌, ◌/◌, ◌%◌, ◌^◌, Bool, true, false, ◌&&◌, not, ℤ, List, [], ◌∷◌, length, take, drop,
+    Result, Ok, Err, nat_lt, ◌==◌, if◌then◌else◌
+}
 use Rattle.std.specs.Str.{bytes_eq, is_utf8}
 use Rattle.std.specs.Str.Lossy.{utf8_valid_len}
 use Rattle.scale_core.specs.Number.{number, signed_number, is_scalar}
@@ -7,7 +11,9 @@ use Rattle.scale_core.specs.Compact.{compact, target_bytes}
 use Rattle.scale_core.specs.declared.compact.Target.{Target}
 use Rattle.scale_core.specs.declared.compact.Target.TheVariants.{Unit as TUnit, U32}
 use Rattle.scale_core.specs.declared.fault.Reason.{Reason}
-use Rattle.scale_core.specs.declared.fault.Reason.TheVariants.{Truncated, BadBool, BadChar, BadUtf8, CompactNotShortest, CompactTooLarge}
+use Rattle.scale_core.specs.declared.fault.Reason.TheVariants.{
+    Truncated, BadBool, BadChar, BadUtf8, CompactNotShortest, CompactTooLarge
+}
 
 abbrev pub Read : Type 0 → Type 0 → Type 0
 Read E X = Result (X × List ℕ) (E × List ℕ)
@@ -23,19 +29,23 @@ place input left = length input - length left
 
 -- the next k bytes
 abbrev pub bytes_at : ℕ → List ℕ → Read Reason (List ℕ)
-bytes_at k bytes = if nat_lt (length bytes) k then Err (Truncated, []) else Ok (take k bytes, drop k bytes)
+bytes_at k bytes = if nat_lt (length bytes) k then Err (Truncated, []) else Ok
+    (take k bytes, drop k bytes)
 
 -- an integer of k bytes
 abbrev pub number_at : ℕ → List ℕ → Read Reason ℕ
-number_at k bytes = if nat_lt (length bytes) k then Err (Truncated, []) else Ok (number (take k bytes), drop k bytes)
+number_at k bytes = if nat_lt (length bytes) k then Err (Truncated, []) else Ok
+    (number (take k bytes), drop k bytes)
 
 -- an integer of k bytes in two's complement
 abbrev pub signed_at : ℕ → List ℕ → Read Reason ℤ
-signed_at k bytes = if nat_lt (length bytes) k then Err (Truncated, []) else Ok (signed_number (take k bytes), drop k bytes)
+signed_at k bytes = if nat_lt (length bytes) k then Err (Truncated, []) else Ok
+    (signed_number (take k bytes), drop k bytes)
 
 -- a number that is a boolean's byte
 abbrev pub bool_from : List ℕ → Read Reason ℕ → Read Reason Bool
-bool_from at (Ok x) = if x.0 == 0 then Ok (false, x.1) else if x.0 == 1 then Ok (true, x.1) else Err (BadBool, at)
+bool_from at (Ok x) = if x.0 == 0 then Ok (false, x.1) else if x.0 == 1 then Ok (true, x.1) else Err
+    (BadBool, at)
 bool_from at (Err e) = Err e
 
 -- a boolean: one byte, 0 or 1
@@ -53,7 +63,8 @@ char_at bytes = scalar_from bytes (number_at 4 bytes)
 
 -- how long the form is that the first byte names by its two low bits
 abbrev pub form_len : ℕ → ℕ
-form_len first = if first % 4 == 0 then 1 else if first % 4 == 1 then 2 else if first % 4 == 2 then 4 else first / 4 + 5
+form_len first = if first % 4 == 0 then 1 else if first % 4 == 1 then 2 else if first % 4 == 2 then
+    4 else first / 4 + 5
 
 -- the number that a form stands for, in whatever form
 abbrev pub form_number : List ℕ → ℕ

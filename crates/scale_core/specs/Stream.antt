@@ -1,5 +1,7 @@
 -- A device seen from outside.
-use Rattle.std.specs.Prelude.{◌≡◌, ◌<◌, ℕ, List, Bool, Option, Some, None, Result, Ok, Err, length, take}
+use Rattle.std.specs.Prelude.{
+    ◌≡◌, ◌<◌, ℕ, List, Bool, Option, Some, None, Result, Ok, Err, length, take
+}
 use Rattle.std.specs.Io.KnownBytes.{Appends, Consumes, IsAtEnd, Keeps}
 use Rattle.scale_core.specs.declared.sink.SinkFault.{SinkFault}
 use Rattle.scale_core.specs.declared.sink.SinkFault.TheVariants.{Device, WroteNothing}
@@ -9,15 +11,17 @@ pub record Watched (D : Type 0) : Type 0 where
   pub device : D
   pub failed : Bool
 
--- what a read did to the known bytes, by how many it gave: none only at the end or with no room, and without a count it took nothing
-abbrev pub Gives : Option (List ℕ) → Option (List ℕ) → Option ℕ → List ℕ → Type 0
-Gives old new (Some n) part = Consumes old new (take n part) × (n ≡ 0 → 0 < length part → IsAtEnd new)
-Gives old new None part = Keeps old new
+-- what a read did to the known bytes, by how many it gave: none only at the end or with no room,
+-- and without a count it took nothing
+abbrev pub GivesBytes : Option (List ℕ) → Option (List ℕ) → Option ℕ → List ℕ → Type 0
+GivesBytes old new (Some n) part = Consumes old new (take n part)
+    × (n ≡ 0 → 0 < length part → IsAtEnd new)
+GivesBytes old new None part = Keeps old new
 
 -- what a write did to the known bytes, by how many of the part it took, and without a count none
-abbrev pub Takes : Option (List ℕ) → Option (List ℕ) → Option ℕ → List ℕ → Type 0
-Takes old new (Some n) part = Appends old new (take n part)
-Takes old new None part = Keeps old new
+abbrev pub TakesBytes : Option (List ℕ) → Option (List ℕ) → Option ℕ → List ℕ → Type 0
+TakesBytes old new (Some n) part = Appends old new (take n part)
+TakesBytes old new None part = Keeps old new
 
 -- how many bytes the one read gave, if the reader answered no error
 abbrev pub given : {E : Type 0} → Result ℕ E → Option ℕ

@@ -1,4 +1,5 @@
--- Texts (SCALE codec specification, "Strings"): the number of bytes as a compact u32, and that many bytes of UTF-8.
+-- Texts (SCALE codec specification, "Strings"): the number of bytes as a compact u32, and that many
+-- bytes of UTF-8.
 use Rattle.std.specs.Prelude.{◌≡◌, List, ◌++◌, length, ℕ, true}
 use Rattle.std.specs.Str.{is_utf8}
 use Rattle.scale_core.specs.Compact.{IsCompact}

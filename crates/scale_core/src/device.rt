@@ -1,7 +1,7 @@
 //! One call of a reader or a writer, as a thing that contracts can name.
 
 ghost use Rattle.std.specs.Prelude.{ℕ, List, Option, ◌≤◌, length, IfSome};
-ghost use Rattle.scale_core.specs.Stream.{Gives, Takes};
+ghost use Rattle.scale_core.specs.Stream.{GivesBytes, TakesBytes};
 
 use std::io::{Read, Write};
 
@@ -15,11 +15,11 @@ pub trait ReadOnce: Read {
     fn read_once(&mut self, part: &mut [u8]) -> Option<usize>
         ensures once { reads self.old part.old result part.new self.new }
         ensures count { IfSome result (λ n. n ≤ length part.new) }
-        ensures bytes { Gives (Self.remaining self.old) (Self.remaining self.new) result part.new };
+        ensures bytes { GivesBytes (Self.remaining self.old) (Self.remaining self.new) result part.new };
 }
 
 impl<R: Read> ReadOnce for R {
-    ghost reads = { λ old before count part new. Gives (R.remaining old) (R.remaining new) count part };
+    ghost reads = { λ old before count part new. GivesBytes (R.remaining old) (R.remaining new) count part };
 
     fn read_once(&mut self, part: &mut [u8]) -> Option<usize> {
         self.read(part).ok()
@@ -36,11 +36,11 @@ pub trait WriteOnce: Write {
     fn write_once(&mut self, part: &[u8]) -> Option<usize>
         ensures once { writes self.old part.now result self.new }
         ensures count { IfSome result (λ n. n ≤ length part.now) }
-        ensures bytes { Takes (Self.contents self.old) (Self.contents self.new) result part.now };
+        ensures bytes { TakesBytes (Self.contents self.old) (Self.contents self.new) result part.now };
 }
 
 impl<W: Write> WriteOnce for W {
-    ghost writes = { λ old part count new. Takes (W.contents old) (W.contents new) count part };
+    ghost writes = { λ old part count new. TakesBytes (W.contents old) (W.contents new) count part };
 
     fn write_once(&mut self, part: &[u8]) -> Option<usize> {
         self.write(part).ok()

@@ -4,15 +4,19 @@ use Rattle.clap.specs.declared.ArgMatches.{ArgMatches}
 use Rattle.clap.specs.declared.ArgMatches.TheViews.{out-ArgMatches}
 use Rattle.clap.specs.Words.{Row, Text, subcommand_name_of, subcommand_rows_of}
 
-map_twice : {X Y Z : Type 0} (f : Y → Z) (g : X → Y) (o : Option X) → option_map f (option_map g o) ≡ option_map (λ x. f (g x)) o
+map_twice : {X Y Z : Type 0} (f : Y → Z) (g : X → Y) (o : Option X) →
+    option_map f (option_map g o) ≡ option_map (λ x. f (g x)) o
 map_twice f g None = refl
 map_twice f g (Some x) = refl
 
-pub name_of_rows : (m : ArgMatches) → option_map (λ p. p.0) (subcommand_rows_of m) ≡ subcommand_name_of m
+pub name_of_rows : (m : ArgMatches) →
+    option_map (λ p. p.0) (subcommand_rows_of m) ≡ subcommand_name_of m
 name_of_rows m = map_twice _ _ (out-ArgMatches m).subcommand
 
 -- a pair that is there, by its two halves
-pub both_halves : (sub : Option (Text × List Row)) (name : Text) (rows : List Row) → Some name ≡ option_map (λ p. p.0) sub → Some rows ≡ option_map (λ p. p.1) sub → sub ≡ Some (name, rows)
+pub both_halves : (sub : Option (Text × List Row)) (name : Text) (rows : List Row) →
+    Some name ≡ option_map (λ p. p.0) sub → Some rows ≡ option_map (λ p. p.1) sub →
+    sub ≡ Some (name, rows)
 both_halves None name rows a b = cc
 both_halves (Some p) name rows a b =
     let n : name ≡ p.0 = cc in let r : rows ≡ p.1 = cc in

@@ -1,13 +1,17 @@
 -- Bytes that move in parts move as a whole.
-use Rattle.std.proofs.Common.{refl, ◌≡◌, ℕ, ◌+◌, ◌≤◌, List, ◌++◌, length, take, drop, Option, Some, None, append_assoc, sym, ◌∙◌, ap, arith}
+use Rattle.std.proofs.Common.{
+    refl, ◌≡◌, ℕ, ◌+◌, ◌≤◌, List, ◌++◌, length, take, drop, Option, Some, None, append_assoc, sym,
+    ◌∙◌, ap, arith
+}
 use Rattle.std.proofs.Math.Seq.{take-add}
 use Rattle.std.proofs.lemmas.List.{take_all, take_at, drop_at, drop-drop, length-take, length-drop}
 use Rattle.std.specs.Prelude.{IfSome}
 use Rattle.std.specs.Io.KnownBytes.{Consumes, IsAtEnd}
-use Rattle.scale_tool.specs.Moved.{Takes}
+use Rattle.scale_tool.specs.Moved.{LeavesReader}
 
 -- what a reader lost is what it had on its front
-pub takes_front : (a b : Option (List ℕ)) (old new part : List ℕ) (n : ℕ) → n ≤ length part → Consumes a b (take n part) → new ≡ old ++ take n part → Takes a b old new n
+pub takes_front : (a b : Option (List ℕ)) (old new part : List ℕ) (n : ℕ) → n ≤ length part →
+    Consumes a b (take n part) → new ≡ old ++ take n part → LeavesReader a b old new n
 takes_front None b old new part n le p e = tt
 takes_front (Some xs) None old new part n le p e = absurd p
 takes_front (Some xs) (Some ys) old new part n le p e =
@@ -15,17 +19,21 @@ takes_front (Some xs) (Some ys) old new part n le p e =
     (rw (p, take_at (take n part) ys n long) e, rw (p, drop_at (take n part) ys n long) refl)
 
 -- a part, and then a part
-pub takes_next : (a b c : Option (List ℕ)) (x y z : List ℕ) (m n k : ℕ) → k ≡ m + n → Takes a b x y m → Takes b c y z n → Takes a c x z k
+pub takes_next : (a b c : Option (List ℕ)) (x y z : List ℕ) (m n k : ℕ) → k ≡ m + n →
+    LeavesReader a b x y m → LeavesReader b c y z n → LeavesReader a c x z k
 takes_next None b c x y z m n k is p q = tt
 takes_next (Some xs) None c x y z m n k is p q = absurd p
 takes_next (Some xs) (Some ys) None x y z m n k is p q = absurd q
 takes_next (Some xs) (Some ys) (Some zs) x y z m n k is p q = (
-  q.0 ∙ ap (λ v. v ++ take n ys) p.0 ∙ append_assoc x (take m xs) (take n ys) ∙ ap (λ v. x ++ (take m xs ++ take n v)) p.1 ∙ ap (λ v. x ++ v) (sym (take-add m n xs)) ∙ ap (λ v. x ++ take v xs) (sym is),
+  q.0 ∙ ap (λ v. v ++ take n ys) p.0 ∙ append_assoc x (take m xs) (take n ys)
+      ∙ ap (λ v. x ++ (take m xs ++ take n v)) p.1 ∙ ap (λ v. x ++ v) (sym (take-add m n xs))
+      ∙ ap (λ v. x ++ take v xs) (sym is),
   q.1 ∙ ap (drop n) p.1 ∙ drop-drop n m xs ∙ ap (λ v. drop v xs) (sym is),
 )
 
 -- nothing is left: all was taken
-pub takes_all : (a b : Option (List ℕ)) (old new : List ℕ) (m : ℕ) → Takes a b old new m → IsAtEnd b → IfSome a (λ bytes. new ≡ old ++ bytes)
+pub takes_all : (a b : Option (List ℕ)) (old new : List ℕ) (m : ℕ) → LeavesReader a b old new m →
+    IsAtEnd b → IfSome a (λ bytes. new ≡ old ++ bytes)
 takes_all None b old new m p end = tt
 takes_all (Some xs) None old new m p end = absurd p
 takes_all (Some xs) (Some ys) old new m p end =

@@ -4,6 +4,7 @@ use Rattle.scale_core.specs.Read.{Read}
 use Rattle.scale_tool.specs.Answer.{alone}
 
 -- what is followed by bytes does not stand alone
-pub not_alone : {E X : Type 0} (x : X) (left : List ℕ) (read : Read E X) → read ≡ Ok (x, left) → 0 < length left → alone read ≡ None
+pub not_alone : {E X : Type 0} (x : X) (left : List ℕ) (read : Read E X) → read ≡ Ok (x, left) →
+    0 < length left → alone read ≡ None
 not_alone x [] read is some = absurd (omega arith)
 not_alone x (b ∷ left) read is some = ap alone is

@@ -1,5 +1,7 @@
 -- Matches that name no job.
-use Rattle.std.proofs.Common.{◌≡◌, ◌∙◌, ◌<◌, ◌≤◌, ◌^◌, ℕ, List, Option, Some, None, [], ap, codes, subst, sym}
+use Rattle.std.proofs.Common.{
+    ◌≡◌, ◌∙◌, ◌<◌, ◌≤◌, ◌^◌, ℕ, List, Option, Some, None, [], ap, codes, subst, sym
+}
 use Rattle.std.specs.Prelude.{IfNone}
 use Rattle.std.specs.Str.Parse.{IsNumeral, digits_value}
 use Rattle.clap.specs.Words.{Row, Text, first_of}
@@ -23,12 +25,15 @@ rows_in None = []
 rows_in (Some told) = told.1
 
 -- the rows of `types` name no job, where one would have its file from them
-pub none_of_types : (rows : List Row) → ((file : Text) → first_of (codes "FILE") rows ≡ Some file → ⊥) → NamesNone (Some (codes "types", rows))
+pub none_of_types : (rows : List Row) →
+    ((file : Text) → first_of (codes "FILE") rows ≡ Some file → ⊥) →
+    NamesNone (Some (codes "types", rows))
 none_of_types rows refute (jobs.Types m) file None fits is =
     refute file (ap (λ sub. first_of (codes "FILE") (rows_in sub)) is.1 ∙ is.2.file_is)
 none_of_types rows refute (jobs.Types m) file (Some value) fits is = is
 none_of_types rows refute (jobs.Decode p m h d) file None fits is = is
-none_of_types rows refute (jobs.Decode p m h d) file (Some value) fits is = not_both (ap name_in is.1)
+none_of_types rows refute (jobs.Decode p m h d) file (Some value) fits is =
+    not_both (ap name_in is.1)
 
 -- what a job of `decode` would have from the rows: its two numbers and its two files
 pub record Named (rows : List Row) (p d : ℕ) (file value : Text) : Type 0 where
@@ -40,7 +45,9 @@ pub record Named (rows : List Row) (p d : ℕ) (file value : Text) : Type 0 wher
   pub value_is : first_of (codes "VALUEFILE") rows ≡ Some value
 
 -- and the rows of `decode` none, where one would have these from them
-pub none_of_decode : (rows : List Row) → ((p d : ℕ) (file value : Text) → Named rows p d file value → ⊥) → NamesNone (Some (codes "decode", rows))
+pub none_of_decode : (rows : List Row) →
+    ((p d : ℕ) (file value : Text) → Named rows p d file value → ⊥) →
+    NamesNone (Some (codes "decode", rows))
 none_of_decode rows refute (jobs.Types m) file None fits is = not_both (ap name_in (sym is.1))
 none_of_decode rows refute (jobs.Types m) file (Some value) fits is = is
 none_of_decode rows refute (jobs.Decode p m h d) file None fits is = is
@@ -56,7 +63,8 @@ none_of_decode rows refute (jobs.Decode p m h d) file (Some value) fits is =
     })
 
 -- a text that is no number of a u32 spells none
-pub no_number : (said : Option Text) (text : Text) (p : ℕ) → said ≡ Some text → (IsNumeral 10 text × (digits_value 10 text < 2 ^ 32) → ⊥)
+pub no_number : (said : Option Text) (text : Text) (p : ℕ) → said ≡ Some text →
+    (IsNumeral 10 text × (digits_value 10 text < 2 ^ 32) → ⊥)
     → p < 2 ^ 32 → Spells said p → ⊥
 no_number said text p is refute fits spells =
     let s : IsNumeral 10 text × (digits_value 10 text ≡ p) = subst (λ o. Spells o p) is spells in

@@ -2,7 +2,9 @@
 use Rattle.std.specs.Prelude.{◌≡◌, ◌≢◌, ℕ, ◌⊎◌, List, [], codes, string_bytes}
 use Rattle.clap.specs.Words.{HasKind, Text, fault_of, kind_of, subcommand_of}
 use Rattle.clap.specs.declared.error.Error.{Error}
-use Rattle.clap.specs.declared.error.kind.ErrorKind.TheVariants.{DisplayHelp, DisplayVersion, OutOfMemory}
+use Rattle.clap.specs.declared.error.kind.ErrorKind.TheVariants.{
+    DisplayHelp, DisplayVersion, OutOfMemory
+}
 use Rattle.scale_tool.specs.Line.{NamesNone, line}
 use Rattle.scale_tool.specs.declared.jobs.JobFault.{JobFault}
 use Rattle.scale_tool.specs.declared.jobs.JobFault.TheVariants as fault
@@ -13,7 +15,8 @@ IsMistake e = (kind_of e ≢ DisplayHelp) × (kind_of e ≢ DisplayVersion)
 
 -- 2 for a mistake; 0 where the text that was asked for went out, and 3 where it could not
 abbrev pub IsStatusOfLine : Error → ℕ → Type 0
-IsStatusOfLine e status = ((status ≡ 2) × IsMistake e) ⊎ (((status ≡ 0) ⊎ (status ≡ 3)) × (IsMistake e → ⊥))
+IsStatusOfLine e status = ((status ≡ 2) × IsMistake e)
+    ⊎ (((status ≡ 0) ⊎ (status ≡ 3)) × (IsMistake e → ⊥))
 
 -- the status that each fault has
 abbrev pub IsStatusOf : JobFault → ℕ → Type 0
@@ -27,9 +30,11 @@ text_of (fault.Line e text) = string_bytes text
 text_of fault.Usage = codes "scaleview: usage\n"
 text_of fault.Memory = codes "scaleview: memory\n"
 
--- what the words are refused for: by `clap`, with one of the kinds that it has for them and not for want of memory, or where it has
+-- what the words are refused for: by `clap`, with one of the kinds that it has for them and not for
+-- want of memory, or where it has
 -- none and they name no job
 abbrev pub IsFaultOfWords : List Text → JobFault → Type 0
-IsFaultOfWords words (fault.Line e text) = HasKind (fault_of line words) e × (kind_of e ≢ OutOfMemory)
+IsFaultOfWords words (fault.Line e text) = HasKind (fault_of line words) e
+    × (kind_of e ≢ OutOfMemory)
 IsFaultOfWords words fault.Usage = (fault_of line words ≡ []) × NamesNone (subcommand_of line words)
 IsFaultOfWords words fault.Memory = Unit {0}

@@ -1,5 +1,8 @@
 -- Bytes that a text of hexadecimal digits holds.
-use Rattle.std.specs.Prelude.{◌≡◌, ℕ, ◌+◌, ◌-◌, List, length, take, drop, slice_index, nat_lt, ◌==◌, ◌&&◌, if◌then◌else◌, codes, Result, Ok, Err}
+use Rattle.std.specs.Prelude.{
+    ◌≡◌, ℕ, ◌+◌, ◌-◌, List, length, take, drop, slice_index, nat_lt, ◌==◌, ◌&&◌, if◌then◌else◌,
+    codes, Result, Ok, Err
+}
 use Rattle.std.specs.Str.{bytes_eq}
 use Rattle.hex.specs.Hex.{decode_of}
 use Rattle.hex.specs.declared.error.FromHexError.{FromHexError}
@@ -15,13 +18,16 @@ prefix_len text = if bytes_eq (codes "0x") (take 2 text) then 2 else 0
 
 -- the place of the byte before the end, where it is this one
 abbrev pub back_over : List ℕ → ℕ → ℕ → ℕ
-back_over text end byte = if nat_lt 0 end && slice_index text (end - 1) == byte then end - 1 else end
+back_over text end byte =
+    if nat_lt 0 end && slice_index text (end - 1) == byte then end - 1 else end
 
 -- where the line end begins: a line feed, or a carriage return and a line feed
 abbrev pub digits_end : List ℕ → ℕ
-digits_end text = if back_over text (length text) 10 == length text then length text else back_over text (back_over text (length text) 10) 13
+digits_end text = if back_over text (length text) 10 == length text then length text else back_over
+    text (back_over text (length text) 10) 13
 
--- the digits from one place to another, decoded: an odd number of them is a fault at their end, and the first that is
+-- the digits from one place to another, decoded: an odd number of them is a fault at their end, and
+-- the first that is
 -- none is one at its place
 abbrev pub placed : ℕ → ℕ → Result (List ℕ) FromHexError → Result (List ℕ) HexFault
 placed start end (Ok bytes) = Ok bytes
@@ -29,7 +35,8 @@ placed start end (Err (InvalidHexCharacter c i)) = Err (fault.Bad (start + i))
 placed start end (Err _) = Err (fault.Odd end)
 
 abbrev pub bytes_behind : ℕ → List ℕ → Result (List ℕ) HexFault
-bytes_behind start rest = placed start (start + digits_end rest) (decode_of (take (digits_end rest) rest))
+bytes_behind start rest =
+    placed start (start + digits_end rest) (decode_of (take (digits_end rest) rest))
 
 -- the bytes of the whole text
 unfoldable pub hex_bytes : List ℕ → Result (List ℕ) HexFault

@@ -1,6 +1,10 @@
 -- The command line, and the job that its words name.
-use Rattle.std.specs.Prelude.{◌≡◌, ◌<◌, ◌≤◌, ◌^◌, ℕ, List, Some, None, Option, true, false, Bool, codes}
-use Rattle.clap.specs.Words.{App, Row, Rule, Text, first_of, one_of, new_app, new_rule, with_rule, with_subcommand}
+use Rattle.std.specs.Prelude.{
+    ◌≡◌, ◌<◌, ◌≤◌, ◌^◌, ℕ, List, Some, None, Option, true, false, Bool, codes
+}
+use Rattle.clap.specs.Words.{
+    App, Row, Rule, Text, first_of, one_of, new_app, new_rule, with_rule, with_subcommand
+}
 use Rattle.std.specs.Str.Parse.{IsNumeral, digits_value}
 use Rattle.scale_tool.specs.declared.task.Job.{Job}
 use Rattle.scale_tool.specs.declared.task.Job.TheVariants as jobs
@@ -16,7 +20,8 @@ abbrev pub value_file : Rule
 value_file = record (new_rule (codes "VALUEFILE")) { required = true }
 
 abbrev pub metadata : Rule
-metadata = record (new_rule (codes "metadata")) { long = Some (codes "metadata"); action = Some SetTrue }
+metadata = record (new_rule (codes "metadata"))
+    { long = Some (codes "metadata"); action = Some SetTrue }
 
 abbrev pub hex : Rule
 hex = record (new_rule (codes "hex")) { long = Some (codes "hex"); action = Some SetTrue }
@@ -28,18 +33,23 @@ abbrev pub types : App
 types = with_rule (with_rule (new_app (codes "types")) file) metadata
 
 abbrev pub decode : App
-decode = with_rule (with_rule (with_rule (with_rule (with_rule (with_rule (new_app (codes "decode")) file) id) value_file) metadata) hex) depth
+decode = with_rule (with_rule
+    (with_rule (with_rule (with_rule (with_rule (new_app (codes "decode")) file) id) value_file)
+    metadata) hex) depth
 
 -- the command, which does nothing without a subcommand
 abbrev pub with_required_subcommand : App → App
-with_required_subcommand a = record { top = record a.top { subcommand_required = true }; subs = a.subs }
+with_required_subcommand a =
+    record { top = record a.top { subcommand_required = true }; subs = a.subs }
 
 abbrev pub line : App
-line = with_subcommand (with_subcommand (with_required_subcommand (new_app (codes "scaleview"))) types.top) decode.top
+line = with_subcommand (with_subcommand (with_required_subcommand (new_app (codes "scaleview")))
+    types.top) decode.top
 
 -- a flag as its one text says it
 abbrev pub IsFlag : Option Text → Bool → Type 0
-IsFlag said flag = (said ≡ None → flag ≡ false) × (said ≡ Some (codes "true") → flag ≡ true) × (said ≡ Some (codes "false") → flag ≡ false)
+IsFlag said flag = (said ≡ None → flag ≡ false) × (said ≡ Some (codes "true") → flag ≡ true)
+    × (said ≡ Some (codes "false") → flag ≡ false)
 
 -- the text is the number in ASCII digits alone
 abbrev pub Spells : Option Text → ℕ → Type 0
@@ -57,7 +67,8 @@ pub record IsTypes (from_metadata : Bool) (file_name : Text) (rows : List Row) :
   pub file_is : first_of (codes "FILE") rows ≡ Some file_name
 
 -- what the matches of `decode` tell
-pub record IsDecode (position : ℕ) (from_metadata from_hex : Bool) (greatest_depth : ℕ) (file_name value_name : Text) (rows : List Row) : Type 0 where
+pub record IsDecode (position : ℕ) (from_metadata from_hex : Bool) (greatest_depth : ℕ)
+    (file_name value_name : Text) (rows : List Row) : Type 0 where
   pub position_is : Spells (first_of (codes "ID") rows) position
   pub metadata_is : IsFlag (one_of (codes "metadata") rows) from_metadata
   pub file_is : first_of (codes "FILE") rows ≡ Some file_name
@@ -72,13 +83,16 @@ IsJob (jobs.Types from_metadata) file_name None sub =
 IsJob (jobs.Types from_metadata) file_name (Some value_name) sub = ⊥
 IsJob (jobs.Decode position from_metadata from_hex greatest_depth) file_name None sub = ⊥
 IsJob (jobs.Decode position from_metadata from_hex greatest_depth) file_name (Some value_name) sub =
-    (rows : List Row) × (sub ≡ Some (codes "decode", rows)) × IsDecode position from_metadata from_hex greatest_depth file_name value_name rows
+    (rows : List Row) × (sub ≡ Some (codes "decode", rows))
+        × IsDecode position from_metadata from_hex greatest_depth file_name value_name rows
 
 -- the job's numbers, where it has some, are within their ranges
 abbrev pub FitsJob : Job → Type 0
 FitsJob (jobs.Types from_metadata) = Unit {0}
-FitsJob (jobs.Decode position from_metadata from_hex greatest_depth) = (position < 2 ^ 32) × (greatest_depth ≤ 1024)
+FitsJob (jobs.Decode position from_metadata from_hex greatest_depth) = (position < 2 ^ 32)
+    × (greatest_depth ≤ 1024)
 
 -- a subcommand's name and matches tell no job
 abbrev pub NamesNone : Option (Text × List Row) → Type 0
-NamesNone sub = (job : Job) (file_name : Text) (value_name : Option Text) → FitsJob job → IsJob job file_name value_name sub → ⊥
+NamesNone sub = (job : Job) (file_name : Text) (value_name : Option Text) → FitsJob job →
+    IsJob job file_name value_name sub → ⊥

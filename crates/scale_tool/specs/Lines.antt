@@ -51,7 +51,9 @@ joined (s ∷ ss) = s ++ flat_map (λ t. codes "::" ++ t) ss
 -- position, class, kind and path, with one space between, and the path as a JSON text
 abbrev pub line_of_type : ℕ → Class → TypeInfo → List ℕ
 line_of_type i class info =
-    decimal i ++ 32 ∷ (class_name class ++ 32 ∷ (kind_name info.shape ++ 32 ∷ (compact_text (string (joined info.path)) ++ 10 ∷ [])))
+    decimal i ++ 32 ∷ (class_name
+        class ++ 32 ∷ (kind_name
+        info.shape ++ 32 ∷ (compact_text (string (joined info.path)) ++ 10 ∷ [])))
 
 -- the lines of these types of r, from position i on
 abbrev pub lines_from : List TypeInfo → ℕ → List TypeInfo → List ℕ

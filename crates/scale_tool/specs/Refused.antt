@@ -1,4 +1,5 @@
--- What each part of a job is refused for, as the refusal of the whole, and its exit status and line.
+-- What each part of a job is refused for, as the refusal of the whole, and its exit status and
+-- line.
 use Rattle.std.specs.Prelude.{ℕ, List, Option, Some, None, codes}
 use Rattle.registry_core.specs.declared.fault.RegistryFault.{RegistryFault}
 use Rattle.registry_core.specs.declared.fault.RegistryReason.{RegistryReason}

@@ -1,11 +1,14 @@
 -- The value of a job, by what its file holds.
-use Rattle.std.specs.Prelude.{◌≡◌, ◌==◌, ℕ, List, length, Bool, true, false, if◌then◌else◌, Option, Some, None, option_map, option_and_then, Result, Ok, Err}
+use Rattle.std.specs.Prelude.{
+    ◌≡◌, ◌==◌, ℕ, List, length, Bool, true, false, if◌then◌else◌, Option, Some, None, option_map,
+    option_and_then, Result, Ok, Err
+}
 use Rattle.registry_core.specs.declared.type_info.TypeInfo.{TypeInfo}
 use Rattle.grammar_core.specs.Tree.{Tree}
 use Rattle.value_core.specs.Shown.{Seen}
 use Rattle.decode_core.specs.Outcome.{Outcome, done, refused, more, too_long, outcome_of}
 use Rattle.decode_core.specs.Outcome as decoder
-use Rattle.decode_core.specs.Decoding.{Finishes}
+use Rattle.decode_core.specs.Decoding.{FinishesDecoder}
 use Rattle.decode_core.specs.Streaming.{Trails}
 use Rattle.scale_tool.specs.HexText.{hex_bytes}
 use Rattle.scale_tool.specs.Refused.{status_of_bytes, status_of_value}
@@ -30,7 +33,8 @@ whole len too_long taken = None
 abbrev pub value_in : ℕ → ℕ → List TypeInfo → List ℕ → Option Seen
 value_in id depth types bytes =
     option_map (λ v. record { types = types; ty = id; tree = v })
-    (whole (length bytes) (outcome_of (decoding id depth types) bytes).0 (outcome_of (decoding id depth types) bytes).1)
+    (whole (length bytes) (outcome_of (decoding id depth types) bytes).0
+        (outcome_of (decoding id depth types) bytes).1)
 
 abbrev pub told : Result (List ℕ) HexFault → Option (List ℕ)
 told (Ok bytes) = Some bytes
@@ -43,7 +47,8 @@ value_bytes false file = Some file
 
 -- the value that they spell
 abbrev pub file_value : Bool → ℕ → ℕ → List TypeInfo → List ℕ → Option Seen
-file_value hex id depth types file = option_and_then (value_in id depth types) (value_bytes hex file)
+file_value hex id depth types file =
+    option_and_then (value_in id depth types) (value_bytes hex file)
 
 -- the value, or a refusal where there is none
 abbrev pub ReadsBytes : Option Seen → Result Seen BytesRefusal → Type 0
@@ -55,16 +60,20 @@ abbrev pub ReadsValue : Option Seen → Result Seen ValueRefusal → Type 0
 ReadsValue value (Ok v) = value ≡ Some v
 ReadsValue value (Err e) = status_of_value e ≡ 1 → value ≡ None
 
--- what a refusal says of the value's bytes, unless memory was refused: their fault, or that some follow the value
+-- what a refusal says of the value's bytes, unless memory was refused: their fault, or that some
+-- follow the value
 abbrev pub TellsBytes : decoder.Job → List ℕ → BytesRefusal → Type 0
-TellsBytes j b (bytes.Fault fault) = Finishes j b (Err fault)
+TellsBytes j b (bytes.Fault fault) = FinishesDecoder j b (Err fault)
 TellsBytes j b (bytes.TrailingBytes at) = Trails j at b
 TellsBytes j b bytes.Memory = Unit {0}
 
--- and of its file, unless the device failed: the fault of its digits, or the same of the bytes that it has
+-- and of its file, unless the device failed: the fault of its digits, or the same of the bytes that
+-- it has
 abbrev pub TellsFile : Bool → decoder.Job → List ℕ → ValueRefusal → Type 0
 TellsFile hex j file (value.Hex fault) = (hex ≡ true) × (hex_bytes file ≡ Err fault)
-TellsFile hex j file (value.Fault fault) = (b : List ℕ) × (value_bytes hex file ≡ Some b) × Finishes j b (Err fault)
-TellsFile hex j file (value.TrailingBytes at) = (b : List ℕ) × (value_bytes hex file ≡ Some b) × Trails j at b
+TellsFile hex j file (value.Fault fault) = (b : List ℕ) × (value_bytes hex file ≡ Some b)
+    × FinishesDecoder j b (Err fault)
+TellsFile hex j file (value.TrailingBytes at) = (b : List ℕ) × (value_bytes hex file ≡ Some b)
+    × Trails j at b
 TellsFile hex j file value.Device = Unit {0}
 TellsFile hex j file value.Memory = Unit {0}

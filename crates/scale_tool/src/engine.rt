@@ -3,7 +3,7 @@
 ghost use Rattle.std.specs.Prelude.{◌≡◌, ◌≤◌, ◌⊎◌, List, true, None, Some, IfOk, IfErr, IfSome, IsErrOf, string_bytes};
 ghost use Rattle.std.specs.Io.KnownBytes.{Keeps};
 ghost use Rattle.registry_core.specs.declared.type_info.TypeInfo.{TypeInfo};
-ghost use Rattle.scale_tool.specs.Answer.{HasType, IsServed, OnText, ReadsNoValue, WritesAll, WritesFront, line_of, types_text, types_with, value_text};
+ghost use Rattle.scale_tool.specs.Answer.{HasJobType, IsServed, OnText, ReadsNoValue, WritesAll, WritesFront, line_of, types_text, types_with, value_text};
 ghost use Rattle.scale_tool.specs.Refused.{status_of};
 
 use crate::early_exit::unopened;
@@ -84,7 +84,7 @@ fn answer<R: Read, V: Read>(
     ensures value { IsErrOf result Refusal.ValueDevice ⊎ (value.new.failed ≡ value.old.failed) }
     ensures unread { ReadsNoValue job → value.new ≡ value.old }
     ensures read_last { (value.new ≡ value.old) ⊎ ((registry.new.failed ≡ registry.old.failed)
-        × HasType job (R.remaining registry.old.device)) }
+        × HasJobType job (R.remaining registry.old.device)) }
 {
     match job {
         Job::Types { metadata } => types_text(alloc, metadata, registry),
@@ -158,7 +158,7 @@ pub fn run<R: Read, V: Read, W: Write, E: Write>(
 
     // The value is untouched where the registry is refused or its device fails, and where the type is none of its types.
     ensures read_last { (value.new ≡ value.old) ⊎ ((registry.new.failed ≡ registry.old.failed)
-        × HasType job (R.remaining registry.old.device)) }
+        × HasJobType job (R.remaining registry.old.device)) }
 {
     match answer(alloc, job, registry, value) {
         Ok(text) => match send(out, text.as_bytes()) {

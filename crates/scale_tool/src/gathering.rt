@@ -2,7 +2,7 @@
 
 ghost use Rattle.std.specs.Prelude.{◌≡◌, ◌+◌, ◌++◌, ◌<◌, ◌≤◌, ◌⊎◌, true, length, vec_len, IfOk, IfSome, OnOk, IsErrOf};
 ghost use Rattle.std.specs.Io.KnownBytes.{IsAtEnd};
-ghost use Rattle.scale_tool.specs.Moved.{Takes};
+ghost use Rattle.scale_tool.specs.Moved.{LeavesReader};
 
 use scale_core::Source;
 use std::alloc::Global;
@@ -28,7 +28,7 @@ fn pull_onto<R: Read>(
 ) -> Result<usize, GatherFault>
     requires { 0 < length part.old }
     ensures count { IfOk result (λ n. n ≤ length part.old) }
-    ensures bytes { IfOk result (λ n. Takes (R.remaining source.old.device) (R.remaining source.new.device) out.old.items out.new.items n) }
+    ensures bytes { IfOk result (λ n. LeavesReader (R.remaining source.old.device) (R.remaining source.new.device) out.old.items out.new.items n) }
     ensures grown { IfOk result (λ n. vec_len out.new ≡ vec_len out.old + n) }
     ensures end { IfOk result (λ n. n ≡ 0 → IsAtEnd (R.remaining source.new.device)) }
     ensures told { IsErrOf result GatherFault.Device → source.new.failed ≡ true }

@@ -1,5 +1,8 @@
 -- A node more: the value that is being built stays one.
-use Rattle.std.proofs.Common.{Option, None, drop, ◌≡◌, ℕ, zero, suc, ◌+◌, ◌-◌, ◌≤◌, List, [], ◌∷◌, ◌++◌, Bool, true, false, length, take, drop, slice_range, Some, refl, ap, ◌∙◌, arith, length-append}
+use Rattle.std.proofs.Common.{
+    Option, None, drop, ◌≡◌, ℕ, zero, suc, ◌+◌, ◌-◌, ◌≤◌, List, [], ◌∷◌, ◌++◌, Bool, true, false,
+    length, take, drop, slice_range, Some, refl, ap, ◌∙◌, arith, length-append
+}
 use Rattle.std.proofs.lemmas.List.{length-map, map-append, take-append-le}
 use Rattle.scale_core.specs.Number.{AreBytes}
 use Rattle.scale_core.proofs.Numbers.{both_bytes}
@@ -14,7 +17,9 @@ use Rattle.grammar_core.specs.Cells.{Cell, cells}
 use Rattle.value_core.specs.Shown.{head_shown, cell_shown, cells_shown, IsInPool, AreInPool}
 use Rattle.value_core.specs.Spine.{OpenNode, open_part, open_cell, open_cells, IsOpen, Spine}
 use Rattle.value_core.specs.Walked.{OpenPart, Walked, first_in, advanced, opened, next_of}
-use Rattle.value_core.specs.Built.{Entry, entries_shown, head_text_bytes, entries_text_bytes, IsLeaf, IsNextLeaf, IsNextOpen}
+use Rattle.value_core.specs.Built.{
+    Entry, entries_shown, head_text_bytes, entries_text_bytes, IsLeaf, IsNextLeaf, IsNextOpen
+}
 use Rattle.value_core.specs.Building.{IsBuilding, IsOpenAt, IsOpenText, pieces_shown}
 use Rattle.value_core.specs.Refusals.{missing_at}
 use Rattle.value_core.specs.declared.open_text.OpenText.{OpenText}
@@ -26,27 +31,37 @@ use Rattle.value_core.specs.declared.node.Content.TheVariants as content
 use Rattle.value_core.proofs.Spines.{Grown, value_added, node_opened}
 
 -- what the pool has at its front stays where more is appended
-range_more : (pool more : List ℕ) (start end : ℕ) → start ≤ end → end ≤ length pool → slice_range (pool ++ more) start end ≡ slice_range pool start end
-range_more pool more start end h k = rw (range_front (pool ++ more) start end h, range_front pool start end h, take-append-le end pool more k) refl where
+range_more : (pool more : List ℕ) (start end : ℕ) → start ≤ end → end ≤ length pool →
+    slice_range (pool ++ more) start end ≡ slice_range pool start end
+range_more pool more start end h k =
+    rw (range_front (pool ++ more) start end h, range_front pool start end h,
+    take-append-le end pool more k) refl where
   nothing : (k start : ℕ) → take {A = ℕ} k [] ≡ []
   nothing zero start = refl
   nothing (suc k) start = refl
 
-  range_front : (xs : List ℕ) (start end : ℕ) → start ≤ end → slice_range xs start end ≡ drop start (take end xs)
+  range_front : (xs : List ℕ) (start end : ℕ) → start ≤ end →
+      slice_range xs start end ≡ drop start (take end xs)
   range_front xs zero end h = ap (λ (k : ℕ). take k xs) (omega arith)
   range_front [] (suc start) zero h = absurd (omega arith)
   range_front [] (suc start) (suc end) h = nothing (suc end - suc start) start
   range_front (x ∷ xs) (suc start) zero h = absurd (omega arith)
-  range_front (x ∷ xs) (suc start) (suc end) h = ap (λ (k : ℕ). take k (drop start xs)) (omega arith) ∙ range_front xs start end (omega arith)
+  range_front (x ∷ xs) (suc start) (suc end) h =
+      ap (λ (k : ℕ). take k (drop start xs)) (omega arith) ∙ range_front xs start end (omega arith)
 
-head_more : (pool more : List ℕ) (c : Content) → IsInPool pool c → head_shown (pool ++ more) c ≡ head_shown pool c
+head_more : (pool more : List ℕ) (c : Content) → IsInPool pool c →
+    head_shown (pool ++ more) c ≡ head_shown pool c
 head_more pool more content.Empty h = refl
 head_more pool more (content.Bool b) h = refl
 head_more pool more (content.Char c) h = refl
-head_more pool more (content.Text start len) h = ap (λ (x : List ℕ). head.leaf (tree.text x)) (range_more pool more start (start + len) (omega arith) h)
+head_more pool more (content.Text start len) h =
+    ap (λ (x : List ℕ). head.leaf (tree.text x))
+    (range_more pool more start (start + len) (omega arith) h)
 head_more pool more (content.Unsigned b) h = refl
 head_more pool more (content.Signed b) h = refl
-head_more pool more (content.Wide start) h = ap (λ (x : List ℕ). head.leaf (tree.wide x)) (range_more pool more start (start + 32) (omega arith) h)
+head_more pool more (content.Wide start) h =
+    ap (λ (x : List ℕ). head.leaf (tree.wide x))
+    (range_more pool more start (start + 32) (omega arith) h)
 head_more pool more (content.Compact b) h = refl
 head_more pool more (content.Fields n) h = refl
 head_more pool more (content.Arm q n) h = refl
@@ -67,19 +82,26 @@ within_more pool more (content.Arm q n) h = tt
 within_more pool more (content.List n) h = tt
 within_more pool more (content.Count n) h = tt
 
-cells_more : (pool more : List ℕ) (ns : List Node) → AreInPool pool ns → cells_shown (pool ++ more) ns ≡ cells_shown pool ns
+cells_more : (pool more : List ℕ) (ns : List Node) → AreInPool pool ns →
+    cells_shown (pool ++ more) ns ≡ cells_shown pool ns
 cells_more pool more [] h = refl
-cells_more pool more (n ∷ ns) h = rw (head_more pool more n.content h.0, cells_more pool more ns h.1) refl
+cells_more pool more (n ∷ ns) h =
+    rw (head_more pool more n.content h.0, cells_more pool more ns h.1) refl
 
-entries_more : (pool more : List ℕ) (ns : List Node) → AreInPool pool ns → entries_shown (pool ++ more) ns ≡ entries_shown pool ns
+entries_more : (pool more : List ℕ) (ns : List Node) → AreInPool pool ns →
+    entries_shown (pool ++ more) ns ≡ entries_shown pool ns
 entries_more pool more [] h = refl
-entries_more pool more (n ∷ ns) h = rw (head_more pool more n.content h.0, entries_more pool more ns h.1) refl
+entries_more pool more (n ∷ ns) h =
+    rw (head_more pool more n.content h.0, entries_more pool more ns h.1) refl
 
-inside_more : (pool more : List ℕ) (ns : List Node) (n : Node) → AreInPool pool ns → IsInPool (pool ++ more) n.content → AreInPool (pool ++ more) (ns ++ n ∷ [])
+inside_more : (pool more : List ℕ) (ns : List Node) (n : Node) → AreInPool pool ns →
+    IsInPool (pool ++ more) n.content → AreInPool (pool ++ more) (ns ++ n ∷ [])
 inside_more pool more [] n h k = (k, tt)
-inside_more pool more (m ∷ ns) n h k = (within_more pool more m.content h.0, inside_more pool more ns n h.1 k)
+inside_more pool more (m ∷ ns) n h k =
+    (within_more pool more m.content h.0, inside_more pool more ns n h.1 k)
 
-text_snoc : (es : List Entry) (e : Entry) → entries_text_bytes (es ++ e ∷ []) ≡ entries_text_bytes es + head_text_bytes e.head
+text_snoc : (es : List Entry) (e : Entry) →
+    entries_text_bytes (es ++ e ∷ []) ≡ entries_text_bytes es + head_text_bytes e.head
 text_snoc [] e = omega arith
 text_snoc (x ∷ es) e = omega (arith, text_snoc es e)
 
@@ -87,33 +109,52 @@ text_snoc (x ∷ es) e = omega (arith, text_snoc es e)
 abbrev entry_of : ℕ → Head → Entry
 entry_of t h = record { ty = t; head = h }
 
-pub entries_added : (pool more : List ℕ) (ns : List Node) (n : Node) (t : ℕ) (h : Head) → AreInPool pool ns → n.ty.0 ≡ t → head_shown (pool ++ more) n.content ≡ h → entries_shown (pool ++ more) (ns ++ n ∷ []) ≡ entries_shown pool ns ++ entry_of t h ∷ []
-entries_added pool more ns n t h inside e f = map-append _ ns (n ∷ []) ∙ rw (entries_more pool more ns inside, e, f) refl
+pub entries_added : (pool more : List ℕ) (ns : List Node) (n : Node) (t : ℕ) (h : Head) →
+    AreInPool pool ns → n.ty.0 ≡ t → head_shown (pool ++ more) n.content ≡ h →
+    entries_shown (pool ++ more) (ns ++ n ∷ []) ≡ entries_shown pool ns ++ entry_of t h ∷ []
+entries_added pool more ns n t h inside e f = map-append _ ns (n ∷ [])
+    ∙ rw (entries_more pool more ns inside, e, f) refl
 
-cells_added : (pool more : List ℕ) (ns : List Node) (n : Node) (c : Cell) → AreInPool pool ns → cell_shown (pool ++ more) n ≡ c → cells_shown (pool ++ more) (ns ++ n ∷ []) ≡ cells_shown pool ns ++ c ∷ []
-cells_added pool more ns n c inside e = map-append (cell_shown (pool ++ more)) ns (n ∷ []) ∙ rw (cells_more pool more ns inside, e) refl
+cells_added : (pool more : List ℕ) (ns : List Node) (n : Node) (c : Cell) → AreInPool pool ns →
+    cell_shown (pool ++ more) n ≡ c →
+    cells_shown (pool ++ more) (ns ++ n ∷ []) ≡ cells_shown pool ns ++ c ∷ []
+cells_added pool more ns n c inside e = map-append (cell_shown (pool ++ more)) ns (n ∷ [])
+    ∙ rw (cells_more pool more ns inside, e) refl
 
 -- a node without children is the whole of its value
-leaf_cells : (r : List TypeInfo) (t : ℕ) (h : Head) → IsLeaf h → (cells r t (tree_with h none) ≡ record { ty = t; head = h; size = 1 } ∷ []) × (levels (tree_with h none) ≡ 1)
+leaf_cells : (r : List TypeInfo) (t : ℕ) (h : Head) → IsLeaf h →
+    (cells r t (tree_with h none) ≡ record { ty = t; head = h; size = 1 } ∷ [])
+    × (levels (tree_with h none) ≡ 1)
 leaf_cells r t (head.leaf l) h = (refl, refl)
 leaf_cells r t (head.branch k n) h = absurd h
 
-leaf_grown : (r : List TypeInfo) (room ty : ℕ) (os : List OpenNode) (fs : List OpenPart) (cs : List Cell) (own : List ℕ) (t : ℕ) (v : Tree) (c : List ℕ) → first_in fs ≡ Some t → Spine r room ty os fs cs own → Val r t v c → levels v ≤ room →
-    Grown r room ty (advanced (record { types = r; limit = 0; frames = fs })).frames (cs ++ cells r t v) (own ++ c)
+leaf_grown : (r : List TypeInfo) (room ty : ℕ) (os : List OpenNode) (fs : List OpenPart)
+    (cs : List Cell) (own : List ℕ) (t : ℕ) (v : Tree) (c : List ℕ) → first_in fs ≡ Some t →
+    Spine r room ty os fs cs own → Val r t v c → levels v ≤ room →
+    Grown r room ty (advanced (record { types = r; limit = 0; frames = fs })).frames
+        (cs ++ cells r t v) (own ++ c)
 leaf_grown r room ty os [] cs own t v c e h k l = absurd cc
-leaf_grown r room ty os (f ∷ fs) cs own t v c e h k l = value_added r room ty os f fs cs own t v c h e k l
+leaf_grown r room ty os (f ∷ fs) cs own t v c e h k l =
+    value_added r room ty os f fs cs own t v c h e k l
 
-advanced_length : (fs : List OpenPart) → length (advanced (record { types = []; limit = 0; frames = fs })).frames ≡ length fs
+advanced_length : (fs : List OpenPart) →
+    length (advanced (record { types = []; limit = 0; frames = fs })).frames ≡ length fs
 advanced_length [] = refl
 advanced_length (f ∷ fs) = refl
 
 -- a node without children is added
-pub leaf_added : (ty : ℕ) (w : Walked) (pool more : List ℕ) (ns : List Node) (n : Node) (text_len more_len : ℕ) (h : Head) (b : IsBuilding ty w pool ns text_len) (l : IsNextLeaf w h) → n.ty.0 ≡ l.ty → head_shown (pool ++ more) n.content ≡ h → n.size ≡ 1 → IsInPool (pool ++ more) n.content → more_len ≡ head_text_bytes h → text_len + more_len ≤ length pool + length more →
+pub leaf_added : (ty : ℕ) (w : Walked) (pool more : List ℕ) (ns : List Node) (n : Node)
+    (text_len more_len : ℕ) (h : Head) (b : IsBuilding ty w pool ns text_len) (l : IsNextLeaf w h) →
+    n.ty.0 ≡ l.ty → head_shown (pool ++ more) n.content ≡ h → n.size ≡ 1 →
+    IsInPool (pool ++ more) n.content → more_len ≡ head_text_bytes h →
+    text_len + more_len ≤ length pool + length more →
     IsBuilding ty (advanced w) (pool ++ more) (ns ++ n ∷ []) (text_len + more_len)
 leaf_added ty w pool more ns n text_len more_len h b l at shows size within texts short =
     let leaf = leaf_cells w.types l.ty h l.leaf in
-    let g = leaf_grown w.types b.room ty b.opens w.frames (cells_shown pool ns) b.own l.ty (tree_with h none) l.own l.next b.spine l.value (omega (arith, leaf.1, b.level, l.room)) in
-    let cell : cell_shown (pool ++ more) n ≡ record { ty = l.ty; head = h; size = 1 } = rw (at, shows, size) refl in
+    let g = leaf_grown w.types b.room ty b.opens w.frames (cells_shown pool ns) b.own l.ty
+        (tree_with h none) l.own l.next b.spine l.value (omega (arith, leaf.1, b.level, l.room)) in
+    let cell : cell_shown (pool ++ more) n ≡ record { ty = l.ty; head = h; size = 1 } =
+        rw (at, shows, size) refl in
     record {
       room = b.room;
       level = omega (arith, b.level, advanced_length w.frames);
@@ -122,7 +163,8 @@ leaf_added ty w pool more ns n text_len more_len h b l at shows size within text
       opens = g.0;
       spine = rw (cells_added pool more ns n _ b.inside cell, ← leaf.0) g.1;
       inside = inside_more pool more ns n b.inside within;
-      texts = rw (entries_added pool more ns n l.ty h b.inside at shows) (omega (arith, b.texts, texts, text_snoc (entries_shown pool ns) (entry_of l.ty h)));
+      texts = rw (entries_added pool more ns n l.ty h b.inside at shows)
+          (omega (arith, b.texts, texts, text_snoc (entries_shown pool ns) (entry_of l.ty h)));
       fits = omega (arith, b.fits, short, length-append pool more);
     }
 
@@ -135,7 +177,8 @@ is_open _ = false
 kind_is_open : (kind : Branch) (n : ℕ) → is_open (head.branch kind n) ≡ true
 kind_is_open k n = refl
 
-open_by : (pool : List ℕ) (c : Content) → is_open (head_shown [] c) ≡ true → (head_shown pool c ≡ head_shown [] c) × IsInPool pool c
+open_by : (pool : List ℕ) (c : Content) → is_open (head_shown [] c) ≡ true →
+    (head_shown pool c ≡ head_shown [] c) × IsInPool pool c
 open_by pool (content.Fields n) e = (refl, tt)
 open_by pool (content.Arm q n) e = (refl, tt)
 open_by pool (content.List n) e = (refl, tt)
@@ -150,34 +193,51 @@ open_by pool (content.Compact b) e = absurd cc
 open_by pool (content.Count n) e = absurd cc
 
 -- it is kept by no bytes of the pool
-pub open_shown : (pool : List ℕ) (c : Content) (kind : Branch) (n : ℕ) → head_shown [] c ≡ head.branch kind n → (head_shown pool c ≡ head_shown [] c) × IsInPool pool c
+pub open_shown : (pool : List ℕ) (c : Content) (kind : Branch) (n : ℕ) →
+    head_shown [] c ≡ head.branch kind n → (head_shown pool c ≡ head_shown [] c) × IsInPool pool c
 open_shown pool c kind n e = open_by pool c (ap is_open e ∙ kind_is_open kind n)
 
 kind_text : (kind : Branch) (n : ℕ) → head_text_bytes (head.branch kind n) ≡ 0
 kind_text k n = refl
 
-open_grown : (r : List TypeInfo) (room ty : ℕ) (os : List OpenNode) (fs : List OpenPart) (cs : List Cell) (own : List ℕ) (o : OpenNode) (p : Part) → first_in fs ≡ Some o.ty → Spine r (suc room) ty os fs cs own → IsOpen r o p → most_levels o.done ≤ room →
-    Spine r room ty (o ∷ os) (open_part (length cs) p ∷ (advanced (record { types = r; limit = 0; frames = fs })).frames) (cs ++ open_cells r o) (own ++ o.own)
+open_grown : (r : List TypeInfo) (room ty : ℕ) (os : List OpenNode) (fs : List OpenPart)
+    (cs : List Cell) (own : List ℕ) (o : OpenNode) (p : Part) → first_in fs ≡ Some o.ty →
+    Spine r (suc room) ty os fs cs own → IsOpen r o p → most_levels o.done ≤ room →
+    Spine r room ty (o ∷ os)
+        (open_part (length cs) p ∷ (advanced (record { types = r; limit = 0; frames = fs })).frames)
+        (cs ++ open_cells r o) (own ++ o.own)
 open_grown r room ty os [] cs own o p e h k l = absurd cc
-open_grown r room ty os (f ∷ fs) cs own o p e h k l = node_opened r room ty os f p fs cs own o h e k l
+open_grown r room ty os (f ∷ fs) cs own o p e h k l =
+    node_opened r room ty os f p fs cs own o h e k l
 
-pub open_added : (ty : ℕ) (w : Walked) (pool : List ℕ) (ns : List Node) (n : Node) (text_len : ℕ) (p : Part) (b : IsBuilding ty w pool ns text_len) (l : IsNextOpen w (head_shown [] n.content) p) → n.ty.0 ≡ l.ty → n.size ≡ 0 →
+pub open_added : (ty : ℕ) (w : Walked) (pool : List ℕ) (ns : List Node) (n : Node) (text_len : ℕ)
+    (p : Part) (b : IsBuilding ty w pool ns text_len)
+    (l : IsNextOpen w (head_shown [] n.content) p) → n.ty.0 ≡ l.ty → n.size ≡ 0 →
     IsBuilding ty (opened (advanced w) (length ns) p) pool (ns ++ n ∷ []) text_len
 open_added ty w pool ns n text_len p b l at size = by b.room refl where
-  inside_after : (pool : List ℕ) (ns : List Node) (n : Node) → AreInPool pool ns → IsInPool pool n.content → AreInPool pool (ns ++ n ∷ [])
+  inside_after : (pool : List ℕ) (ns : List Node) (n : Node) → AreInPool pool ns →
+      IsInPool pool n.content → AreInPool pool (ns ++ n ∷ [])
   inside_after pool [] n h k = (k, tt)
   inside_after pool (m ∷ ns) n h k = (h.0, inside_after pool ns n h.1 k)
 
-  by : (room : ℕ) → b.room ≡ room → IsBuilding ty (opened (advanced w) (length ns) p) pool (ns ++ n ∷ []) text_len
+  by : (room : ℕ) → b.room ≡ room →
+      IsBuilding ty (opened (advanced w) (length ns) p) pool (ns ++ n ∷ []) text_len
   by zero e = absurd (omega (arith, e, b.level, l.room))
   by (suc room) e =
-      let o : OpenNode = record { ty = l.ty; kind = l.kind; all = l.count; done = none; own = l.own } in
+      let o : OpenNode = record { ty = l.ty; kind = l.kind; all = l.count; done = none; own =
+          l.own } in
       let shown = open_shown pool n.content l.kind l.count l.head_is in
-      let spine : Spine w.types (suc room) ty b.opens w.frames (cells_shown pool ns) b.own = rw (← e) b.spine in
-      let g = open_grown w.types room ty b.opens w.frames (cells_shown pool ns) b.own o p l.next spine (l.finite, l.is_open) (omega arith) in
+      let spine : Spine w.types (suc room) ty b.opens w.frames (cells_shown pool ns) b.own =
+          rw (← e) b.spine in
+      let g = open_grown w.types room ty b.opens w.frames (cells_shown pool ns) b.own o p l.next
+          spine (l.finite, l.is_open) (omega arith) in
       let cell : cell_shown pool n ≡ open_cell o = rw (at, shown.0, l.head_is, size) refl in
-      let cells_are : cells_shown pool (ns ++ n ∷ []) ≡ cells_shown pool ns ++ open_cell o ∷ [] = map-append (cell_shown pool) ns (n ∷ []) ∙ ap (λ (c : Cell). cells_shown pool ns ++ c ∷ []) cell in
-      let entries_are : entries_shown pool (ns ++ n ∷ []) ≡ entries_shown pool ns ++ entry_of l.ty (head.branch l.kind l.count) ∷ [] = map-append _ ns (n ∷ []) ∙ rw (at, shown.0, l.head_is) refl in
+      let cells_are : cells_shown pool (ns ++ n ∷ []) ≡ cells_shown pool ns ++ open_cell o ∷ [] =
+          map-append (cell_shown pool) ns (n ∷ [])
+          ∙ ap (λ (c : Cell). cells_shown pool ns ++ c ∷ []) cell in
+      let entries_are : entries_shown pool (ns ++ n ∷ [])
+          ≡ entries_shown pool ns ++ entry_of l.ty (head.branch l.kind l.count) ∷ [] =
+          map-append _ ns (n ∷ []) ∙ rw (at, shown.0, l.head_is) refl in
       record {
         room = room;
         level = omega (arith, e, b.level, advanced_length w.frames);
@@ -186,21 +246,32 @@ open_added ty w pool ns n text_len p b l at size = by b.room refl where
         opens = o ∷ b.opens;
         spine = rw (cells_are, ← length-map ns (cell_shown pool)) g;
         inside = inside_after pool ns n b.inside shown.1;
-        texts = rw entries_are (omega (arith, b.texts, text_snoc (entries_shown pool ns) (entry_of l.ty (head.branch l.kind l.count)), kind_text l.kind l.count));
+        texts = rw entries_are (omega (arith, b.texts,
+            text_snoc (entries_shown pool ns) (entry_of l.ty (head.branch l.kind l.count)),
+            kind_text l.kind l.count));
         fits = b.fits;
       }
 
 -- the entries are one more, and as many as the nodes
-pub open_entries : (pool : List ℕ) (ns : List Node) (n : Node) (t : ℕ) (kind : Branch) (count : ℕ) → n.ty.0 ≡ t → head_shown [] n.content ≡ head.branch kind count → (entries_shown pool (ns ++ n ∷ []) ≡ entries_shown pool ns ++ entry_of t (head_shown [] n.content) ∷ []) × (length (entries_shown pool ns) ≡ length ns)
-open_entries pool ns n t kind count at e = (map-append _ ns (n ∷ []) ∙ rw (at, (open_shown pool n.content kind count e).0) refl, length-map ns _)
+pub open_entries : (pool : List ℕ) (ns : List Node) (n : Node) (t : ℕ) (kind : Branch) (count : ℕ) →
+    n.ty.0 ≡ t → head_shown [] n.content ≡ head.branch kind count →
+    (entries_shown pool (ns ++ n ∷ [])
+    ≡ entries_shown pool ns ++ entry_of t (head_shown [] n.content) ∷ [])
+    × (length (entries_shown pool ns) ≡ length ns)
+open_entries pool ns n t kind count at e =
+    (map-append _ ns (n ∷ []) ∙ rw (at, (open_shown pool n.content kind count e).0) refl,
+    length-map ns _)
 
 -- ---- bytes of an open text
 
-inside_longer : (pool more : List ℕ) (ns : List Node) → AreInPool pool ns → AreInPool (pool ++ more) ns
+inside_longer : (pool more : List ℕ) (ns : List Node) → AreInPool pool ns →
+    AreInPool (pool ++ more) ns
 inside_longer pool more [] h = tt
-inside_longer pool more (n ∷ ns) h = (within_more pool more n.content h.0, inside_longer pool more ns h.1)
+inside_longer pool more (n ∷ ns) h =
+    (within_more pool more n.content h.0, inside_longer pool more ns h.1)
 
-pub bytes_added : (ty : ℕ) (w : Walked) (pool more : List ℕ) (ns : List Node) (text_len : ℕ) → IsBuilding ty w pool ns text_len → IsBuilding ty w (pool ++ more) ns text_len
+pub bytes_added : (ty : ℕ) (w : Walked) (pool more : List ℕ) (ns : List Node) (text_len : ℕ) →
+    IsBuilding ty w pool ns text_len → IsBuilding ty w (pool ++ more) ns text_len
 bytes_added ty w pool more ns text_len b = record {
   room = b.room;
   level = b.level;
@@ -213,28 +284,46 @@ bytes_added ty w pool more ns text_len b = record {
   fits = omega (arith, b.fits, length-append pool more);
 }
 
-drop_more : (k : ℕ) (pool more : List ℕ) → k ≤ length pool → drop k (pool ++ more) ≡ drop k pool ++ more
+drop_more : (k : ℕ) (pool more : List ℕ) → k ≤ length pool →
+    drop k (pool ++ more) ≡ drop k pool ++ more
 drop_more zero pool more h = refl
 drop_more (suc k) [] more h = absurd (omega (arith, h))
 drop_more (suc k) (x ∷ pool) more h = drop_more k pool more (omega (arith, h))
 
-pub open_longer : (w : Walked) (pool more : List ℕ) (text_len : ℕ) (text : Option OpenText) → AreBytes more → IsOpenText w pool text_len text → IfOk (missing_at (pieces_shown pool text) (next_of w)) (λ n. length more ≤ n) →
-    IsOpenText w (pool ++ more) text_len text × (pieces_shown (pool ++ more) text ≡ option_map (λ t. record { len = t.len; bytes = t.bytes ++ more }) (pieces_shown pool text))
+pub open_longer : (w : Walked) (pool more : List ℕ) (text_len : ℕ) (text : Option OpenText) →
+    AreBytes more → IsOpenText w pool text_len text →
+    IfOk (missing_at (pieces_shown pool text) (next_of w)) (λ n. length more ≤ n) →
+    IsOpenText w (pool ++ more) text_len text
+        × (pieces_shown (pool ++ more) text
+        ≡ option_map (λ t. record { len = t.len; bytes = t.bytes ++ more })
+        (pieces_shown pool text))
 open_longer w pool more text_len None p h k = (tt, refl)
 open_longer w pool more text_len (Some o) p h k =
     let lacks : length more ≤ o.len - length (drop o.start pool) = rw h.is_next at k in (
-      record { is_next = h.is_next; inside = omega (arith, h.inside, length-append pool more); short = omega (arith, h.inside, h.short, lacks, length-append pool more, length-drop o.start pool); behind = h.behind; are_bytes = rw (drop_more o.start pool more h.inside) (both_bytes (drop o.start pool) more h.are_bytes p); spelled = h.spelled },
-      ap (λ (b : List ℕ). Some (record { len = o.len; bytes = b })) (drop_more o.start pool more h.inside),
+      record { is_next = h.is_next; inside = omega (arith, h.inside, length-append pool more);
+          short = omega (arith, h.inside, h.short, lacks, length-append pool more,
+          length-drop o.start pool); behind = h.behind; are_bytes =
+          rw (drop_more o.start pool more h.inside)
+          (both_bytes (drop o.start pool) more h.are_bytes p); spelled = h.spelled },
+      ap (λ (b : List ℕ). Some (record { len = o.len; bytes = b }))
+          (drop_more o.start pool more h.inside),
     )
 
-pub longer_entries : (pool more : List ℕ) (ns : List Node) → AreInPool pool ns → entries_shown (pool ++ more) ns ≡ entries_shown pool ns
+pub longer_entries : (pool more : List ℕ) (ns : List Node) → AreInPool pool ns →
+    entries_shown (pool ++ more) ns ≡ entries_shown pool ns
 longer_entries = entries_more
 
 -- the whole of an open text is what its place in the pool shows
-pub open_whole : (w : Walked) (pool : List ℕ) (text_len : ℕ) (o : OpenText) → IsOpenAt w pool text_len o.start o.len → missing_at (pieces_shown pool (Some o)) (next_of w) ≡ Ok 0 → (o.start + o.len ≡ length pool) × (slice_range pool o.start (o.start + o.len) ≡ drop o.start pool)
+pub open_whole : (w : Walked) (pool : List ℕ) (text_len : ℕ) (o : OpenText) →
+    IsOpenAt w pool text_len o.start o.len →
+    missing_at (pieces_shown pool (Some o)) (next_of w) ≡ Ok 0 → (o.start + o.len ≡ length pool)
+    × (slice_range pool o.start (o.start + o.len) ≡ drop o.start pool)
 open_whole w pool text_len o h e =
     let lacks : o.len - length (drop o.start pool) ≡ 0 = ok_is (rw h.is_next at e) in
-    let whole : o.start + o.len ≡ length pool = omega (arith, lacks, h.inside, h.short, length-drop o.start pool) in
-    (whole, ap (λ (k : ℕ). take k (drop o.start pool)) (omega (arith, whole, length-drop o.start pool)) ∙ take_all (length (drop o.start pool)) (drop o.start pool) (omega arith)) where
+    let whole : o.start + o.len ≡ length pool =
+        omega (arith, lacks, h.inside, h.short, length-drop o.start pool) in
+    (whole, ap (λ (k : ℕ). take k (drop o.start pool))
+        (omega (arith, whole, length-drop o.start pool))
+        ∙ take_all (length (drop o.start pool)) (drop o.start pool) (omega arith)) where
       ok_is : {E : Type 0} {n : ℕ} → ◌≡◌ {A = Result ℕ E} (Ok n) (Ok 0) → n ≡ 0
       ok_is e = cc

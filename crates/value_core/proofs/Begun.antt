@@ -1,6 +1,9 @@
 -- What a builder holds is a begun tree.
 use Rattle.widths_core.specs.Layouts.{layout}
-use Rattle.std.proofs.Common.{◌≡◌, ℕ, zero, suc, ◌+◌, ◌-◌, ◌≤◌, Bool, true, false, List, [], ◌∷◌, ◌++◌, length, map, Option, Some, None, refl, sym, ap, flat_map, subst, ◌∙◌, append_assoc, arith, inl, inr, length-append}
+use Rattle.std.proofs.Common.{
+    ◌≡◌, ℕ, zero, suc, ◌+◌, ◌-◌, ◌≤◌, Bool, true, false, List, [], ◌∷◌, ◌++◌, length, map, Option,
+    Some, None, refl, sym, ap, flat_map, subst, ◌∙◌, append_assoc, arith, inl, inr, length-append
+}
 use Rattle.std.specs.Prelude.{nat_lt, if◌then◌else◌}
 use Rattle.std.proofs.lemmas.Bool.{lt-ltb, le-ltb, ltb-true, ltb-false}
 use Rattle.std.proofs.lemmas.List.{append-nil, map-append, length-map}
@@ -12,13 +15,18 @@ use Rattle.registry_core.specs.declared.type_info.TypeInfo.{TypeInfo}
 use Rattle.graph_core.specs.Types.{shape}
 use Rattle.widths_core.specs.Classes.{is_finite}
 use Rattle.widths_core.specs.Layouts as layout
-use Rattle.grammar_core.specs.Tree.{Branch, Tree, Trees, nodes, all_nodes, all_text_bytes, most_levels}
+use Rattle.grammar_core.specs.Tree.{
+    Branch, Tree, Trees, nodes, all_nodes, all_text_bytes, most_levels
+}
 use Rattle.grammar_core.specs.Preorder as head
 use Rattle.grammar_core.specs.Tree as tree
 use Rattle.grammar_core.specs.Preorder.{Head, preorder, all_preorder}
 use Rattle.grammar_core.specs.Parts.{Part, each, times, first_of, left_after}
 use Rattle.grammar_core.specs.Cells.{Cell, cells, all_cells}
-use Rattle.grammar_core.specs.Begun.{Begun, nothing, whole, in_fields, in_arm, in_list, IsPart, Grows, IsBegunPreorder, begun_nodes, begun_text_bytes}
+use Rattle.grammar_core.specs.Begun.{
+    Begun, nothing, whole, in_fields, in_arm, in_list, IsPart, Grows, IsBegunPreorder, begun_nodes,
+    begun_text_bytes
+}
 use Rattle.grammar_core.specs.Spelled.{own_bytes, cell_bytes}
 use Rattle.grammar_core.specs.Forms.{next_at}
 use Rattle.grammar_core.specs.declared.form.StopReason.TheVariants as stop
@@ -28,13 +36,19 @@ use Rattle.value_core.specs.Shown.{cell_shown, cells_shown}
 use Rattle.value_core.specs.Spine.{OpenNode, open_cells, IsOpenAs, open_part, Spine}
 use Rattle.grammar_core.specs.Cells.{part_of}
 use Rattle.value_core.specs.Walked.{OpenPart, Walked}
-use Rattle.value_core.specs.Built.{Entry, Pieces, IsSettled, entries_shown, head_text_bytes, settled_in}
+use Rattle.value_core.specs.Built.{
+    Entry, Pieces, IsSettled, entries_shown, head_text_bytes, settled_in
+}
 use Rattle.value_core.specs.Building.{IsPaid, IsBuilding}
 use Rattle.value_core.specs.Refusals.{is_whole_in}
 use Rattle.value_core.specs.Begun.{IsBegun, next_in}
 use Rattle.value_core.specs.declared.node.Node.{Node}
-use Rattle.value_core.proofs.CellsOf.{bare, cells_length, all_cells_length, cells_preorder, all_cells_preorder}
-use Rattle.value_core.proofs.Finished.{heads_text, heads_text-append, text_of_preorder, text_of_all_preorder, text_of_entries}
+use Rattle.value_core.proofs.CellsOf.{
+    bare, cells_length, all_cells_length, cells_preorder, all_cells_preorder
+}
+use Rattle.value_core.proofs.Finished.{
+    heads_text, heads_text-append, text_of_preorder, text_of_all_preorder, text_of_entries
+}
 use Rattle.value_core.proofs.OwnBytes.{spine_bytes}
 use Rattle.value_core.proofs.Spines.{is_cons, spine_is_whole, spine_length}
 
@@ -45,7 +59,8 @@ around tree.fields n vs g = in_fields vs g
 around (tree.arm q) n vs g = in_arm q vs g
 around tree.list n vs g = in_list n vs g
 
-each_first : (back : List ℕ) (w : ℕ) → first_of (each back) ≡ Some w → (behind : List ℕ) × (back ≡ w ∷ behind)
+each_first : (back : List ℕ) (w : ℕ) → first_of (each back) ≡ Some w → (behind : List ℕ)
+    × (back ≡ w ∷ behind)
 each_first [] w e = absurd cc
 each_first (u ∷ us) w e = (us, ap (λ (z : ℕ). z ∷ us) (same_Some u w e))
 
@@ -53,72 +68,107 @@ times_first : (left u w : ℕ) → first_of (times left u) ≡ Some w → (1 ≤
 times_first zero u w e = absurd cc
 times_first (suc n) u w e = (omega arith, same_Some u w e)
 
-around_grows : (r : List TypeInfo) (room : ℕ) (kind : Branch) (t n : ℕ) (vs : Trees) (b : List ℕ) (p : Part) (w : ℕ) (g : Begun) (c : List ℕ) (next : Option (ℕ × ℕ)) (hs : List Head) →
-    is_finite r t ≡ true → IsOpenAs r kind t n vs b p → most_levels vs ≤ room → first_of p ≡ Some w → Grows r room w g c next → IsPart g → IsBegunPreorder g hs →
-    Grows r (suc room) t (around kind n vs g) (b ++ c) next × IsPart (around kind n vs g) × IsBegunPreorder (around kind n vs g) (head.branch kind n ∷ (all_preorder vs ++ hs))
+around_grows : (r : List TypeInfo) (room : ℕ) (kind : Branch) (t n : ℕ) (vs : Trees) (b : List ℕ)
+    (p : Part) (w : ℕ) (g : Begun) (c : List ℕ) (next : Option (ℕ × ℕ)) (hs : List Head) →
+    is_finite r t ≡ true → IsOpenAs r kind t n vs b p → most_levels vs ≤ room →
+        first_of p ≡ Some w → Grows r room w g c next → IsPart g → IsBegunPreorder g hs →
+    Grows r (suc room) t (around kind n vs g) (b ++ c) next × IsPart (around kind n vs g)
+        × IsBegunPreorder (around kind n vs g) (head.branch kind n ∷ (all_preorder vs ++ hs))
 unfolding Grows
 around_grows r room tree.fields t n vs b p w g c next hs finite h l f k part shows =
     let back = each_first h.1 w (sym (ap first_of h.4) ∙ f) in
-    ((h.0, w, back.0, b, c, finite, h.2 ∙ ap (λ (x : List ℕ). layout.fields (h.0 ++ x)) back.1, refl, h.5, l, part, k), tt, (n, hs, refl, shows))
+    ((h.0, w, back.0, b, c, finite, h.2 ∙ ap (λ (x : List ℕ). layout.fields (h.0 ++ x)) back.1,
+        refl, h.5, l, part, k), tt, (n, hs, refl, shows))
 around_grows r room (tree.arm q) t n vs b p w g c next hs finite h l f k part shows =
     let back = each_first h.4 w (sym (ap first_of h.10) ∙ f) in
-    ((h.0, h.1, h.2, h.3, w, back.0, h.5, c, finite, h.6, h.7, h.8 ∙ ap (λ (x : List ℕ). h.3 ++ x) back.1, ap (λ (x : List ℕ). x ++ c) h.11, h.12, l, part, k), tt, (n, hs, refl, shows))
+    ((h.0, h.1, h.2, h.3, w, back.0, h.5, c, finite, h.6, h.7, h.8
+        ∙ ap (λ (x : List ℕ). h.3 ++ x) back.1, ap (λ (x : List ℕ). x ++ c) h.11, h.12, l, part, k),
+        tt, (n, hs, refl, shows))
 around_grows r room tree.list t n vs b p w g c next hs finite h l f k part shows =
     let some = times_first h.1 h.0 w (sym (ap first_of h.5) ∙ f) in
-    ((h.0, h.2, h.3, c, finite, h.4, ap (λ (x : List ℕ). x ++ c) h.7 ∙ append_assoc h.2 h.3 c, omega (arith, h.6, some.0), h.8, l, part, subst (λ (z : ℕ). Grows r room z g c next) (sym some.1) k), tt, (hs, refl, shows))
+    ((h.0, h.2, h.3, c, finite, h.4, ap (λ (x : List ℕ). x ++ c) h.7 ∙ append_assoc h.2 h.3 c,
+        omega (arith, h.6, some.0), h.8, l, part,
+        subst (λ (z : ℕ). Grows r room z g c next) (sym some.1) k), tt, (hs, refl, shows))
 
 -- ---- all open nodes
 
 -- a begun tree of which something is missing, with these nodes and bytes
 abbrev BegunAs : List TypeInfo → ℕ → ℕ → List Head → List ℕ → Option (ℕ × ℕ) → Type 0
-BegunAs r top t hs own next = (g : Begun) × Grows r top t g own next × IsPart g × IsBegunPreorder g hs
+BegunAs r top t hs own next = (g : Begun) × Grows r top t g own next × IsPart g
+    × IsBegunPreorder g hs
 
-heads_behind : (r : List TypeInfo) (o : OpenNode) (cs cs1 : List Cell) (hs : List Head) → cs ≡ cs1 ++ open_cells r o → bare cs ++ hs ≡ bare cs1 ++ (head.branch o.kind o.all ∷ (all_preorder o.done ++ hs))
+heads_behind : (r : List TypeInfo) (o : OpenNode) (cs cs1 : List Cell) (hs : List Head) →
+    cs ≡ cs1 ++ open_cells r o →
+    bare cs ++ hs ≡ bare cs1 ++ (head.branch o.kind o.all ∷ (all_preorder o.done ++ hs))
 heads_behind r o cs cs1 hs e =
     ap (λ (x : List Cell). bare x ++ hs) e
     ∙ ap (λ (x : List Head). x ++ hs) (map-append (λ (c : Cell). c.head) cs1 (open_cells r o))
     ∙ append_assoc (bare cs1) (bare (open_cells r o)) hs
-    ∙ ap (λ (x : List Head). bare cs1 ++ (head.branch o.kind o.all ∷ (x ++ hs))) (all_cells_preorder r (part_of (layout r o.ty) o.kind o.all) o.done)
+    ∙ ap (λ (x : List Head). bare cs1 ++ (head.branch o.kind o.all ∷ (x ++ hs)))
+        (all_cells_preorder r (part_of (layout r o.ty) o.kind o.all) o.done)
 
-plugged : (r : List TypeInfo) (top room t : ℕ) (os : List OpenNode) (f : OpenPart) (fs : List OpenPart) (cs : List Cell) (own : List ℕ) (w : ℕ) (g : Begun) (c : List ℕ) (next : Option (ℕ × ℕ)) (hs : List Head) →
-    room + length os ≡ top → Spine r room t os (f ∷ fs) cs own → first_of f.left ≡ Some w → Grows r room w g c next → IsPart g → IsBegunPreorder g hs → BegunAs r top t (bare cs ++ hs) (own ++ c) next
+plugged : (r : List TypeInfo) (top room t : ℕ) (os : List OpenNode) (f : OpenPart)
+    (fs : List OpenPart) (cs : List Cell) (own : List ℕ) (w : ℕ) (g : Begun) (c : List ℕ)
+    (next : Option (ℕ × ℕ)) (hs : List Head) →
+    room + length os ≡ top → Spine r room t os (f ∷ fs) cs own → first_of f.left ≡ Some w →
+        Grows r room w g c next → IsPart g → IsBegunPreorder g hs →
+        BegunAs r top t (bare cs ++ hs) (own ++ c) next
 plugged r top room t [] f fs cs own w g c next hs e (inl h) first k part shows =
     let parts = is_cons f (open_part 0 (times 1 t)) fs [] h.0 in
-    let same : t ≡ w = same_Some t w (sym (ap (λ (x : OpenPart). first_of x.left) parts.0) ∙ first) in
+    let same : t ≡ w = same_Some t w (sym (ap (λ (x : OpenPart). first_of x.left) parts.0)
+        ∙ first) in
     let level : top ≡ room = omega (arith, e) in
     (g, rw (h.2, same, level) k, part, rw h.1 shows)
 plugged r top room t [] f fs cs own w g c next hs e (inr h) first k part shows =
     let parts = is_cons f (open_part 0 (times 0 t)) fs [] h.1 in
-    let no : None ≡ Some w = sym (ap (λ (x : OpenPart). first_of x.left) parts.0) ∙ first in absurd cc
+    let no : None ≡ Some w = sym (ap (λ (x : OpenPart). first_of x.left) parts.0) ∙ first in
+        absurd cc
 plugged r top room t (o ∷ os) f fs cs own w g c next hs e h first k part shows =
-    let parts = is_cons f (open_part (length h.4) h.0) fs (open_part h.2 (left_after h.1) ∷ h.3) h.6 in
-    let a = around_grows r room o.kind o.ty o.all o.done o.own h.0 w g c next hs h.9.0 h.9.1 h.10 (sym (ap (λ (x : OpenPart). first_of x.left) parts.0) ∙ first) k part shows in
-    let g' = plugged r top (suc room) t os (open_part h.2 h.1) h.3 h.4 h.5 o.ty (around o.kind o.all o.done g) (o.own ++ c) next (head.branch o.kind o.all ∷ (all_preorder o.done ++ hs)) (omega (arith, e)) h.8 h.7 a.0 a.1 a.2 in
+    let parts = is_cons f (open_part (length h.4) h.0) fs (open_part h.2 (left_after h.1) ∷ h.3)
+        h.6 in
+    let a = around_grows r room o.kind o.ty o.all o.done o.own h.0 w g c next hs h.9.0 h.9.1 h.10
+        (sym (ap (λ (x : OpenPart). first_of x.left) parts.0) ∙ first) k part shows in
+    let g' = plugged r top (suc room) t os (open_part h.2 h.1) h.3 h.4 h.5 o.ty
+        (around o.kind o.all o.done g) (o.own ++ c) next
+        (head.branch o.kind o.all ∷ (all_preorder o.done ++ hs)) (omega (arith, e)) h.8 h.7 a.0 a.1
+        a.2 in
     (g'.0, rw (h.12, append_assoc) g'.1, g'.2, rw (heads_behind r o cs h.4 hs h.11) g'.3)
 
-same_begun : (r : List TypeInfo) (top t : ℕ) (hs hs' : List Head) (own own' : List ℕ) (next : Option (ℕ × ℕ)) → hs ≡ hs' → own ≡ own' → BegunAs r top t hs own next → BegunAs r top t hs' own' next
+same_begun : (r : List TypeInfo) (top t : ℕ) (hs hs' : List Head) (own own' : List ℕ)
+    (next : Option (ℕ × ℕ)) → hs ≡ hs' → own ≡ own' → BegunAs r top t hs own next →
+    BegunAs r top t hs' own' next
 same_begun r top t hs hs' own own' next e f h = (h.0, rw (← f) h.1, h.2, rw (← e) h.3)
 
 -- where a type is next, the nodes so far are those of a begun tree that wants it
-spine_is_begun : (r : List TypeInfo) (top room t : ℕ) (os : List OpenNode) (f : OpenPart) (fs : List OpenPart) (cs : List Cell) (own : List ℕ) (u : ℕ) → room + length os ≡ top → Spine r room t os (f ∷ fs) cs own → first_of f.left ≡ Some u → BegunAs r top t (bare cs) own (Some (room, u))
+spine_is_begun : (r : List TypeInfo) (top room t : ℕ) (os : List OpenNode) (f : OpenPart)
+    (fs : List OpenPart) (cs : List Cell) (own : List ℕ) (u : ℕ) → room + length os ≡ top →
+    Spine r room t os (f ∷ fs) cs own → first_of f.left ≡ Some u →
+    BegunAs r top t (bare cs) own (Some (room, u))
 unfolding Grows
 spine_is_begun r top room t os f fs cs own u e h first =
-    let g = plugged r top room t os f fs cs own u nothing [] (Some (room, u)) [] e h first (refl, refl) tt refl in
-    same_begun r top t (bare cs ++ []) (bare cs) (own ++ []) own (Some (room, u)) (append-nil (bare cs)) (append-nil own) g
+    let g = plugged r top room t os f fs cs own u nothing [] (Some (room, u)) [] e h first
+        (refl, refl) tt refl in
+    same_begun r top t (bare cs ++ []) (bare cs) (own ++ []) own (Some (room, u))
+        (append-nil (bare cs)) (append-nil own) g
 
 -- ---- its counts
 
 preorder_length : (v : Tree) → length (preorder v) ≡ nodes v
-preorder_length v = ap length (sym (cells_preorder [] 0 v)) ∙ length-map (cells [] 0 v) (λ (c : Cell). c.head) ∙ cells_length [] 0 v
+preorder_length v = ap length (sym (cells_preorder [] 0 v))
+    ∙ length-map (cells [] 0 v) (λ (c : Cell). c.head) ∙ cells_length [] 0 v
 
 all_preorder_length : (vs : Trees) → length (all_preorder vs) ≡ all_nodes vs
-all_preorder_length vs = ap length (sym (all_cells_preorder [] (each []) vs)) ∙ length-map (all_cells [] (each []) vs) (λ (c : Cell). c.head) ∙ all_cells_length [] (each []) vs
+all_preorder_length vs = ap length (sym (all_cells_preorder [] (each []) vs))
+    ∙ length-map (all_cells [] (each []) vs) (λ (c : Cell). c.head)
+    ∙ all_cells_length [] (each []) vs
 
 abbrev pub Counts : Begun → List Head → Type 0
 Counts g hs = (length hs ≡ begun_nodes g) × (heads_text hs ≡ begun_text_bytes g)
 
 -- the counts of a node without text, its whole children and the one that is begun
-counted : (g : Begun) (h : Head) (vs : Trees) (rest : List Head) → head_text_bytes h ≡ 0 → Counts g rest → (length (h ∷ (all_preorder vs ++ rest)) ≡ 1 + all_nodes vs + begun_nodes g) × (heads_text (h ∷ (all_preorder vs ++ rest)) ≡ all_text_bytes vs + begun_text_bytes g)
+counted : (g : Begun) (h : Head) (vs : Trees) (rest : List Head) → head_text_bytes h ≡ 0 →
+    Counts g rest → (length (h ∷ (all_preorder vs ++ rest)) ≡ 1 + all_nodes vs + begun_nodes g)
+    × (heads_text (h ∷ (all_preorder vs ++ rest)) ≡ all_text_bytes vs + begun_text_bytes g)
 counted g h vs rest none c = (
   omega (arith, length-append (all_preorder vs) rest, all_preorder_length vs, c.0),
   omega (arith, none, heads_text-append (all_preorder vs) rest, text_of_all_preorder vs, c.1),
@@ -127,9 +177,12 @@ counted g h vs rest none c = (
 pub counts : (g : Begun) (hs : List Head) → IsBegunPreorder g hs → Counts g hs
 counts nothing hs h = rw h (refl, refl)
 counts (whole v) hs h = rw h (preorder_length v, text_of_preorder v)
-counts (in_fields vs g) hs h = rw h.2 (counted g (head.branch tree.fields h.0) vs h.1 refl (counts g h.1 h.3))
-counts (in_arm q vs g) hs h = rw h.2 (counted g (head.branch (tree.arm q) h.0) vs h.1 refl (counts g h.1 h.3))
-counts (in_list n vs g) hs h = rw h.1 (counted g (head.branch tree.list n) vs h.0 refl (counts g h.0 h.2))
+counts (in_fields vs g) hs h =
+    rw h.2 (counted g (head.branch tree.fields h.0) vs h.1 refl (counts g h.1 h.3))
+counts (in_arm q vs g) hs h =
+    rw h.2 (counted g (head.branch (tree.arm q) h.0) vs h.1 refl (counts g h.1 h.3))
+counts (in_list n vs g) hs h =
+    rw h.1 (counted g (head.branch tree.list n) vs h.0 refl (counts g h.0 h.2))
 
 -- ---- what the walk says
 
@@ -138,11 +191,13 @@ settled_short : (fs : List OpenPart) → length (settled_in fs) ≤ length fs
 settled_short [] = omega arith
 settled_short (f ∷ []) = omega arith
 settled_short (f ∷ g ∷ fs) = by (first_of f.left) refl (settled_short (g ∷ fs)) where
-  by : (x : Option ℕ) → first_of f.left ≡ x → length (settled_in (g ∷ fs)) ≤ length (g ∷ fs) → length (settled_in (f ∷ g ∷ fs)) ≤ length (f ∷ g ∷ fs)
+  by : (x : Option ℕ) → first_of f.left ≡ x → length (settled_in (g ∷ fs)) ≤ length (g ∷ fs) →
+      length (settled_in (f ∷ g ∷ fs)) ≤ length (f ∷ g ∷ fs)
   by (Some u) e h = rw (e, settled_in) (omega arith)
   by None e h = rw (e, settled_in) (omega (arith, h))
 
-innermost : (f g : OpenPart) (fs : List OpenPart) → settled_in (f ∷ g ∷ fs) ≡ f ∷ g ∷ fs → (u : ℕ) × (first_of f.left ≡ Some u)
+innermost : (f g : OpenPart) (fs : List OpenPart) → settled_in (f ∷ g ∷ fs) ≡ f ∷ g ∷ fs → (u : ℕ)
+    × (first_of f.left ≡ Some u)
 innermost f g fs h = by (first_of f.left) refl where
   by : (x : Option ℕ) → first_of f.left ≡ x → (u : ℕ) × (first_of f.left ≡ Some u)
   by (Some u) e = (u, e)
@@ -150,83 +205,134 @@ innermost f g fs h = by (first_of f.left) refl where
       let less : settled_in (f ∷ g ∷ fs) ≡ settled_in (g ∷ fs) = rw (e, settled_in) refl in
       absurd (omega (arith, ap length less, ap length h, settled_short (g ∷ fs)))
 
-answer_is : (r : List TypeInfo) (limit parts u : ℕ) → (if nat_lt (limit + 1) parts then next.Stop stop.TooDeep else next_at r u) ≡ next_in r (Some (limit + 2 - parts, u))
+answer_is : (r : List TypeInfo) (limit parts u : ℕ) →
+    (if nat_lt (limit + 1) parts then next.Stop stop.TooDeep else next_at r u)
+    ≡ next_in r (Some (limit + 2 - parts, u))
 answer_is r limit parts u = by (nat_lt (limit + 1) parts) refl where
-  by : (deep : Bool) → nat_lt (limit + 1) parts ≡ deep → (if nat_lt (limit + 1) parts then next.Stop stop.TooDeep else next_at r u) ≡ next_in r (Some (limit + 2 - parts, u))
-  by true e = rw (e, le-ltb 0 (limit + 2 - parts) (omega (arith, ltb-true (limit + 1) parts e))) refl
-  by false e = rw (e, lt-ltb 0 (limit + 2 - parts) (omega (arith, ltb-false (limit + 1) parts e))) refl
+  by : (deep : Bool) → nat_lt (limit + 1) parts ≡ deep →
+      (if nat_lt (limit + 1) parts then next.Stop stop.TooDeep else next_at r u)
+      ≡ next_in r (Some (limit + 2 - parts, u))
+  by true e = rw (e, le-ltb 0 (limit + 2 - parts) (omega (arith, ltb-true (limit + 1) parts e)))
+      refl
+  by false e = rw (e, lt-ltb 0 (limit + 2 - parts) (omega (arith, ltb-false (limit + 1) parts e)))
+      refl
 
 -- ---- what a builder holds
 
-heads_are : (pool : List ℕ) (ns : List Node) → map (λ (e : Entry). e.head) (entries_shown pool ns) ≡ bare (cells_shown pool ns)
+heads_are : (pool : List ℕ) (ns : List Node) →
+    map (λ (e : Entry). e.head) (entries_shown pool ns) ≡ bare (cells_shown pool ns)
 heads_are pool ns = map-map (λ (e : Entry). e.head) _ ns ∙ sym (map-map (λ (c : Cell). c.head) _ ns)
 
-own_is : (r : List TypeInfo) (pool : List ℕ) (ns : List Node) (own : List ℕ) → flat_map (cell_bytes r) (cells_shown pool ns) ≡ own → flat_map (λ (e : Entry). own_bytes (shape r e.ty) e.head) (entries_shown pool ns) ≡ own
-own_is r pool ns own e = flat_map-map _ _ ns ∙ sym (flat_map-map (cell_bytes r) (cell_shown pool) ns) ∙ e
+own_is : (r : List TypeInfo) (pool : List ℕ) (ns : List Node) (own : List ℕ) →
+    flat_map (cell_bytes r) (cells_shown pool ns) ≡ own →
+    flat_map (λ (e : Entry). own_bytes (shape r e.ty) e.head) (entries_shown pool ns) ≡ own
+own_is r pool ns own e = flat_map-map _ _ ns
+    ∙ sym (flat_map-map (cell_bytes r) (cell_shown pool) ns) ∙ e
 
 entries_length : (pool : List ℕ) (ns : List Node) → length (entries_shown pool ns) ≡ length ns
 entries_length pool ns = length-map ns _
 
 -- where a type is next
-part_begun : (ty : ℕ) (types : List TypeInfo) (limit : ℕ) (f : OpenPart) (fs : List OpenPart) (pool : List ℕ) (ns : List Node) (text_len : ℕ) (text : Option Pieces) (turns : ℕ) (u : ℕ) → IsBuilding ty (record { types = types; limit = limit; frames = f ∷ fs }) pool ns text_len → IsPaid (record { types = types; limit = limit; frames = f ∷ fs }) ns turns → first_of f.left ≡ Some u →
-    IsBegun (record { ty = ty; walk = record { types = types; limit = limit; frames = f ∷ fs }; entries = entries_shown pool ns; text = text; turns = turns })
+part_begun : (ty : ℕ) (types : List TypeInfo) (limit : ℕ) (f : OpenPart) (fs : List OpenPart)
+    (pool : List ℕ) (ns : List Node) (text_len : ℕ) (text : Option Pieces) (turns : ℕ) (u : ℕ) →
+    IsBuilding ty (record { types = types; limit = limit; frames = f ∷ fs }) pool ns text_len →
+    IsPaid (record { types = types; limit = limit; frames = f ∷ fs }) ns turns →
+    first_of f.left ≡ Some u →
+    IsBegun (record { ty = ty; walk = record { types = types; limit = limit; frames = f ∷ fs };
+        entries = entries_shown pool ns; text = text; turns = turns })
 part_begun ty types limit f fs pool ns text_len text turns u b paid e =
     let parts = spine_length types b.room ty b.opens (f ∷ fs) (cells_shown pool ns) b.own b.spine in
-    let g = spine_is_begun types (limit + 1) b.room ty b.opens f fs (cells_shown pool ns) b.own u (omega (arith, b.level, parts)) b.spine e in
+    let g = spine_is_begun types (limit + 1) b.room ty b.opens f fs (cells_shown pool ns) b.own u
+        (omega (arith, b.level, parts)) b.spine e in
     let left : limit + 2 - length (f ∷ fs) ≡ b.room = omega (arith, b.level) in
-    let fit = (begun_trees_fit types (limit + 1) ty g.0 b.own (Some (b.room, u)) g.1).1 b.room u refl in
-    let own = own_is types pool ns b.own (spine_bytes types b.room ty b.opens (f ∷ fs) (cells_shown pool ns) b.own b.are_bytes b.spine) in
+    let fit = (begun_trees_fit types (limit + 1) ty g.0 b.own (Some (b.room, u)) g.1).1 b.room u
+        refl in
+    let own = own_is types pool ns b.own
+        (spine_bytes types b.room ty b.opens (f ∷ fs) (cells_shown pool ns) b.own b.are_bytes
+        b.spine) in
     let count = counts g.0 (bare (cells_shown pool ns)) g.3 in
     record {
       tree = g.0;
       are_bytes = subst AreBytes (sym own) b.are_bytes;
       grows = rw (e, left, own) g.1;
       shows = rw (heads_are pool ns) g.3;
-      nodes = sym (length-map (entries_shown pool ns) (λ (x : Entry). x.head)) ∙ ap length (heads_are pool ns) ∙ count.0;
+      nodes = sym (length-map (entries_shown pool ns) (λ (x : Entry). x.head))
+          ∙ ap length (heads_are pool ns) ∙ count.0;
       text_bytes = text_of_entries pool ns ∙ count.1;
       answer = rw e (answer_is types limit (length (f ∷ fs)) u);
       depth = rw e (omega (arith, fit.1, b.level));
       whole = missing f fs e ∙ sym fit.0;
       turns = omega (arith, paid, entries_length pool ns);
     } where
-      missing : (f : OpenPart) (fs : List OpenPart) → first_of f.left ≡ Some u → is_whole_in (f ∷ fs) ≡ false
+      missing : (f : OpenPart) (fs : List OpenPart) → first_of f.left ≡ Some u →
+          is_whole_in (f ∷ fs) ≡ false
       missing f [] e = rw e refl
       missing f (g ∷ fs) e = refl
 
 -- where nothing is missing
-whole_begun : (ty : ℕ) (types : List TypeInfo) (limit : ℕ) (f : OpenPart) (pool : List ℕ) (ns : List Node) (text_len : ℕ) (text : Option Pieces) (turns : ℕ) → IsBuilding ty (record { types = types; limit = limit; frames = f ∷ [] }) pool ns text_len → IsPaid (record { types = types; limit = limit; frames = f ∷ [] }) ns turns → first_of f.left ≡ None →
-    IsBegun (record { ty = ty; walk = record { types = types; limit = limit; frames = f ∷ [] }; entries = entries_shown pool ns; text = text; turns = turns })
+whole_begun : (ty : ℕ) (types : List TypeInfo) (limit : ℕ) (f : OpenPart) (pool : List ℕ)
+    (ns : List Node) (text_len : ℕ) (text : Option Pieces) (turns : ℕ) →
+    IsBuilding ty (record { types = types; limit = limit; frames = f ∷ [] }) pool ns text_len →
+    IsPaid (record { types = types; limit = limit; frames = f ∷ [] }) ns turns →
+    first_of f.left ≡ None →
+    IsBegun (record { ty = ty; walk = record { types = types; limit = limit; frames = f ∷ [] };
+        entries = entries_shown pool ns; text = text; turns = turns })
 unfolding Grows
 whole_begun ty types limit f pool ns text_len text turns b paid e = by b.opens refl where
-  by : (os : List OpenNode) → b.opens ≡ os → IsBegun (record { ty = ty; walk = record { types = types; limit = limit; frames = f ∷ [] }; entries = entries_shown pool ns; text = text; turns = turns })
+  by : (os : List OpenNode) → b.opens ≡ os →
+      IsBegun (record { ty = ty; walk = record { types = types; limit = limit; frames = f ∷ [] };
+      entries = entries_shown pool ns; text = text; turns = turns })
   by [] o =
-      let spine : Spine types b.room ty [] (f ∷ []) (cells_shown pool ns) b.own = subst (λ (x : List OpenNode). Spine types b.room ty x (f ∷ []) (cells_shown pool ns) b.own) o b.spine in
+      let spine : Spine types b.room ty [] (f ∷ []) (cells_shown pool ns) b.own =
+          subst (λ (x : List OpenNode). Spine types b.room ty x (f ∷ []) (cells_shown pool ns)
+          b.own) o b.spine in
       let v = spine_is_whole types b.room ty f (cells_shown pool ns) b.own spine e in
-      let shows : bare (cells_shown pool ns) ≡ preorder v.0 = ap bare v.1 ∙ cells_preorder types ty v.0 in
-      let own = own_is types pool ns b.own (spine_bytes types b.room ty b.opens (f ∷ []) (cells_shown pool ns) b.own b.are_bytes b.spine) in
+      let shows : bare (cells_shown pool ns) ≡ preorder v.0 = ap bare v.1
+          ∙ cells_preorder types ty v.0 in
+      let own = own_is types pool ns b.own
+          (spine_bytes types b.room ty b.opens (f ∷ []) (cells_shown pool ns) b.own b.are_bytes
+          b.spine) in
       let count = counts (whole v.0) (bare (cells_shown pool ns)) shows in
       record {
         tree = whole v.0;
         are_bytes = subst AreBytes (sym own) b.are_bytes;
         grows = (rw own v.2, omega (arith, v.3, b.level), rw e refl);
         shows = heads_are pool ns ∙ shows;
-        nodes = sym (length-map (entries_shown pool ns) (λ (x : Entry). x.head)) ∙ ap length (heads_are pool ns) ∙ count.0;
+        nodes = sym (length-map (entries_shown pool ns) (λ (x : Entry). x.head))
+            ∙ ap length (heads_are pool ns) ∙ count.0;
         text_bytes = text_of_entries pool ns ∙ count.1;
         answer = rw e refl;
         depth = rw e refl;
         whole = rw e refl;
         turns = omega (arith, paid, entries_length pool ns);
       }
-  by (x ∷ os) o = absurd (omega (arith, ap length o, spine_length types b.room ty b.opens (f ∷ []) (cells_shown pool ns) b.own b.spine))
+  by (x ∷ os) o = absurd (omega (arith, ap length o,
+      spine_length types b.room ty b.opens (f ∷ []) (cells_shown pool ns) b.own b.spine))
 
-begun_by : (ty : ℕ) (types : List TypeInfo) (limit : ℕ) (fs : List OpenPart) (pool : List ℕ) (ns : List Node) (text_len : ℕ) (text : Option Pieces) (turns : ℕ) → IsBuilding ty (record { types = types; limit = limit; frames = fs }) pool ns text_len → IsPaid (record { types = types; limit = limit; frames = fs }) ns turns → settled_in fs ≡ fs →
-    IsBegun (record { ty = ty; walk = record { types = types; limit = limit; frames = fs }; entries = entries_shown pool ns; text = text; turns = turns })
-begun_by ty types limit [] pool ns text_len text turns b paid s = absurd (omega (arith, spine_length types b.room ty b.opens [] (cells_shown pool ns) b.own b.spine))
-begun_by ty types limit (f ∷ []) pool ns text_len text turns b paid s = by (first_of f.left) refl where
-  by : (x : Option ℕ) → first_of f.left ≡ x → IsBegun (record { ty = ty; walk = record { types = types; limit = limit; frames = f ∷ [] }; entries = entries_shown pool ns; text = text; turns = turns })
+begun_by : (ty : ℕ) (types : List TypeInfo) (limit : ℕ) (fs : List OpenPart) (pool : List ℕ)
+    (ns : List Node) (text_len : ℕ) (text : Option Pieces) (turns : ℕ) →
+    IsBuilding ty (record { types = types; limit = limit; frames = fs }) pool ns text_len →
+    IsPaid (record { types = types; limit = limit; frames = fs }) ns turns → settled_in fs ≡ fs →
+    IsBegun (record { ty = ty; walk = record { types = types; limit = limit; frames = fs };
+        entries = entries_shown pool ns; text = text; turns = turns })
+begun_by ty types limit [] pool ns text_len text turns b paid s =
+    absurd (omega (arith, spine_length types b.room ty b.opens [] (cells_shown pool ns) b.own
+    b.spine))
+begun_by ty types limit (f ∷ []) pool ns text_len text turns b paid s =
+    by (first_of f.left) refl where
+  by : (x : Option ℕ) → first_of f.left ≡ x →
+      IsBegun (record { ty = ty; walk = record { types = types; limit = limit; frames = f ∷ [] };
+      entries = entries_shown pool ns; text = text; turns = turns })
   by (Some u) e = part_begun ty types limit f [] pool ns text_len text turns u b paid e
   by None e = whole_begun ty types limit f pool ns text_len text turns b paid e
-begun_by ty types limit (f ∷ g ∷ fs) pool ns text_len text turns b paid s = let u = innermost f g fs s in part_begun ty types limit f (g ∷ fs) pool ns text_len text turns u.0 b paid u.1
+begun_by ty types limit (f ∷ g ∷ fs) pool ns text_len text turns b paid s = let u =
+    innermost f g fs s in part_begun ty types limit f (g ∷ fs) pool ns text_len text turns u.0 b
+    paid u.1
 
-pub is_begun : (ty : ℕ) (w : Walked) (pool : List ℕ) (ns : List Node) (text_len : ℕ) (text : Option Pieces) (turns : ℕ) → IsBuilding ty w pool ns text_len → IsPaid w ns turns → IsSettled w → IsBegun (record { ty = ty; walk = w; entries = entries_shown pool ns; text = text; turns = turns })
-is_begun ty w pool ns text_len text turns b paid s = begun_by ty w.types w.limit w.frames pool ns text_len text turns b paid (ap (λ (x : Walked). x.frames) s)
+pub is_begun : (ty : ℕ) (w : Walked) (pool : List ℕ) (ns : List Node) (text_len : ℕ)
+    (text : Option Pieces) (turns : ℕ) → IsBuilding ty w pool ns text_len → IsPaid w ns turns →
+    IsSettled w → IsBegun (record { ty = ty; walk = w; entries = entries_shown pool ns; text = text;
+    turns = turns })
+is_begun ty w pool ns text_len text turns b paid s =
+    begun_by ty w.types w.limit w.frames pool ns text_len text turns b paid
+    (ap (λ (x : Walked). x.frames) s)

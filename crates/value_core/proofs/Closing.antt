@@ -1,5 +1,8 @@
 -- The innermost open node gets its size.
-use Rattle.std.proofs.Common.{Option, ◌≡◌, ℕ, zero, suc, ◌+◌, ◌-◌, ◌<◌, ◌≤◌, List, [], ◌∷◌, ◌++◌, length, Some, None, refl, sym, ap, subst, ◌∙◌, arith, inl, inr, length-append}
+use Rattle.std.proofs.Common.{
+    Option, ◌≡◌, ℕ, zero, suc, ◌+◌, ◌-◌, ◌<◌, ◌≤◌, List, [], ◌∷◌, ◌++◌, length, Some, None, refl,
+    sym, ap, subst, ◌∙◌, arith, inl, inr, length-append
+}
 use Rattle.std.specs.Prelude.{slice_get, slice_set}
 use Rattle.std.proofs.lemmas.List.{length-map}
 use Rattle.registry_core.specs.declared.type_info.TypeInfo.{TypeInfo}
@@ -8,7 +11,9 @@ use Rattle.grammar_core.specs.Cells.{Cell}
 use Rattle.value_core.specs.Shown.{cell_shown, cells_shown, IsInPool, AreInPool}
 use Rattle.value_core.specs.Spine.{OpenNode, open_part, Spine}
 use Rattle.value_core.specs.Walked.{OpenPart, Walked, Closes, advanced, advanced_in, opened}
-use Rattle.value_core.specs.Built.{IsSettled, closings, entries_shown, entries_text_bytes, settled_in, settled_walk}
+use Rattle.value_core.specs.Built.{
+    IsSettled, closings, entries_shown, entries_text_bytes, settled_in, settled_walk
+}
 use Rattle.value_core.specs.Building.{IsBuilding, IsPaid, AreBuilt, Settles, pieces_shown}
 use Rattle.value_core.specs.declared.open_text.OpenText.{OpenText}
 use Rattle.value_core.specs.declared.node.Node.{Node}
@@ -21,7 +26,10 @@ abbrev cell_with_size : Cell → ℕ → Cell
 cell_with_size c k = record { ty = c.ty; head = c.head; size = k }
 
 -- the cells are those of before, with another size at one place
-resized : (pool : List ℕ) (ns : List Node) (n : Node) (k place : ℕ) (front : List Cell) (c : Cell) (back : List Cell) → slice_get ns place ≡ Some n → cells_shown pool ns ≡ front ++ c ∷ back → place ≡ length front → cells_shown pool (slice_set ns place (with_size n k)) ≡ front ++ cell_with_size c k ∷ back
+resized : (pool : List ℕ) (ns : List Node) (n : Node) (k place : ℕ) (front : List Cell) (c : Cell)
+    (back : List Cell) → slice_get ns place ≡ Some n → cells_shown pool ns ≡ front ++ c ∷ back →
+    place ≡ length front → cells_shown pool (slice_set ns place (with_size n k))
+    ≡ front ++ cell_with_size c k ∷ back
 resized pool [] n k place front c back g e p = absurd cc
 resized pool (m ∷ ns) n k zero [] c back g e p =
     let same : m ≡ n = cc in
@@ -36,32 +44,51 @@ resized pool (m ∷ ns) n k (suc place) (d ∷ front) c back g e p =
     let at : place ≡ length front = omega (arith, p) in
     rw (resized pool ns n k place front c back g rest at, first) refl
 
-entries_resized : (pool : List ℕ) (ns : List Node) (n : Node) (k place : ℕ) → slice_get ns place ≡ Some n → entries_shown pool (slice_set ns place (with_size n k)) ≡ entries_shown pool ns
+entries_resized : (pool : List ℕ) (ns : List Node) (n : Node) (k place : ℕ) →
+    slice_get ns place ≡ Some n →
+    entries_shown pool (slice_set ns place (with_size n k)) ≡ entries_shown pool ns
 entries_resized pool [] n k place g = absurd cc
 entries_resized pool (m ∷ ns) n k zero g = let same : m ≡ n = cc in rw same refl
 entries_resized pool (m ∷ ns) n k (suc place) g = rw (entries_resized pool ns n k place g) refl
 
-inside_resized : (pool : List ℕ) (ns : List Node) (n : Node) (k place : ℕ) → slice_get ns place ≡ Some n → AreInPool pool ns → AreInPool pool (slice_set ns place (with_size n k))
+inside_resized : (pool : List ℕ) (ns : List Node) (n : Node) (k place : ℕ) →
+    slice_get ns place ≡ Some n → AreInPool pool ns →
+    AreInPool pool (slice_set ns place (with_size n k))
 inside_resized pool [] n k place g h = absurd cc
-inside_resized pool (m ∷ ns) n k zero g h = let same : m ≡ n = cc in (subst (λ (x : Node). IsInPool pool x.content) same h.0, h.1)
+inside_resized pool (m ∷ ns) n k zero g h = let same : m ≡ n = cc in
+    (subst (λ (x : Node). IsInPool pool x.content) same h.0, h.1)
 inside_resized pool (m ∷ ns) n k (suc place) g h = (h.0, inside_resized pool ns n k place g h.1)
 
 -- where a node is closed, one is open
-opened_one : (r : List TypeInfo) (room t place : ℕ) (p : Part) (os : List OpenNode) (fs : List OpenPart) (cs : List Cell) (own : List ℕ) → Spine r room t os (open_part place p ∷ fs) cs own → (fs ≡ [] → ⊥) → first_of p ≡ None → Closed r room t place fs cs own
-opened_one r room t place p [] fs cs own (inl h) some e = absurd (some (is_cons (open_part place p) (open_part 0 (times 1 t)) fs [] h.0).1)
-opened_one r room t place p [] fs cs own (inr h) some e = absurd (some (is_cons (open_part place p) (open_part 0 (times 0 t)) fs [] h.1).1)
-opened_one r room t place p (o ∷ os) fs cs own h some e = node_closed r room t o os (open_part place p) fs cs own h e
+opened_one : (r : List TypeInfo) (room t place : ℕ) (p : Part) (os : List OpenNode)
+    (fs : List OpenPart) (cs : List Cell) (own : List ℕ) →
+    Spine r room t os (open_part place p ∷ fs) cs own → (fs ≡ [] → ⊥) → first_of p ≡ None →
+    Closed r room t place fs cs own
+opened_one r room t place p [] fs cs own (inl h) some e =
+    absurd (some (is_cons (open_part place p) (open_part 0 (times 1 t)) fs [] h.0).1)
+opened_one r room t place p [] fs cs own (inr h) some e =
+    absurd (some (is_cons (open_part place p) (open_part 0 (times 0 t)) fs [] h.1).1)
+opened_one r room t place p (o ∷ os) fs cs own h some e =
+    node_closed r room t o os (open_part place p) fs cs own h e
 
 -- the node that closes, by the walk before and after
-pub record IsClosing (ty : ℕ) (new : Walked) (pool : List ℕ) (ns : List Node) (text_len place : ℕ) : Type 0 where
+pub record IsClosing (ty : ℕ) (new : Walked) (pool : List ℕ) (ns : List Node)
+    (text_len place : ℕ) : Type 0 where
   pub inside : place < length ns
-  pub builds : (n : Node) (k : ℕ) → slice_get ns place ≡ Some n → k ≡ length ns - place → IsBuilding ty new pool (slice_set ns place (with_size n k)) text_len
+  pub builds : (n : Node) (k : ℕ) → slice_get ns place ≡ Some n → k ≡ length ns - place →
+      IsBuilding ty new pool (slice_set ns place (with_size n k)) text_len
 
-pub closing : (ty : ℕ) (old new : Walked) (pool : List ℕ) (ns : List Node) (text_len place : ℕ) → IsBuilding ty old pool ns text_len → Closes old new place → IsClosing ty new pool ns text_len place
+pub closing : (ty : ℕ) (old new : Walked) (pool : List ℕ) (ns : List Node) (text_len place : ℕ) →
+    IsBuilding ty old pool ns text_len → Closes old new place →
+    IsClosing ty new pool ns text_len place
 closing ty old new pool ns text_len place b c =
-    let spine : Spine old.types b.room ty b.opens (open_part place c.part ∷ new.frames) (cells_shown pool ns) b.own = rw (← c.frames) b.spine in
-    let k = opened_one old.types b.room ty place c.part b.opens new.frames (cells_shown pool ns) b.own spine c.not_root c.whole in
-    let long : length ns ≡ length k.front + length (k.cell ∷ k.back) = sym (length-map ns (cell_shown pool)) ∙ ap length k.cells_are ∙ length-append k.front (k.cell ∷ k.back) in
+    let spine : Spine old.types b.room ty b.opens (open_part place c.part ∷ new.frames)
+        (cells_shown pool ns) b.own = rw (← c.frames) b.spine in
+    let k = opened_one old.types b.room ty place c.part b.opens new.frames (cells_shown pool ns)
+        b.own spine c.not_root c.whole in
+    let long : length ns ≡ length k.front + length (k.cell ∷ k.back) =
+        sym (length-map ns (cell_shown pool)) ∙ ap length k.cells_are
+        ∙ length-append k.front (k.cell ∷ k.back) in
     record {
       inside = omega (arith, long, k.place_is);
       builds = λ n size g e.
@@ -72,7 +99,8 @@ closing ty old new pool ns text_len place b c =
             own = b.own;
             are_bytes = b.are_bytes;
             opens = k.grown.0;
-            spine = rw (c.types, resized pool ns n size place k.front k.cell k.back g k.cells_are k.place_is, sized) k.grown.1;
+            spine = rw (c.types, resized pool ns n size place k.front k.cell k.back g k.cells_are
+                k.place_is, sized) k.grown.1;
             inside = inside_resized pool ns n size place g b.inside;
             texts = b.texts ∙ sym (ap entries_text_bytes (entries_resized pool ns n size place g));
             fits = b.fits;
@@ -80,28 +108,35 @@ closing ty old new pool ns text_len place b c =
     }
 
 -- what stands when all that is whole is closed stays
-settled_step : (place : ℕ) (p : Part) (fs : List OpenPart) → (fs ≡ [] → ⊥) → first_of p ≡ None → settled_in (open_part place p ∷ fs) ≡ settled_in fs
+settled_step : (place : ℕ) (p : Part) (fs : List OpenPart) → (fs ≡ [] → ⊥) → first_of p ≡ None →
+    settled_in (open_part place p ∷ fs) ≡ settled_in fs
 settled_step place p [] some e = absurd (some refl)
 settled_step place p (f ∷ fs) some e = rw e refl
 
-pub closing_settles : (old new : Walked) (ns : List Node) (n : Node) (k place : ℕ) → slice_get ns place ≡ Some n → k ≡ length ns - place → Closes old new place → Settles old ns new (slice_set ns place (with_size n k))
+pub closing_settles : (old new : Walked) (ns : List Node) (n : Node) (k place : ℕ) →
+    slice_get ns place ≡ Some n → k ≡ length ns - place → Closes old new place →
+    Settles old ns new (slice_set ns place (with_size n k))
 closing_settles old new ns n k place g e c = record {
-  walk = rw (c.types, c.limit, c.frames, settled_step place c.part new.frames c.not_root c.whole) refl;
+  walk = rw (c.types, c.limit, c.frames, settled_step place c.part new.frames c.not_root c.whole)
+      refl;
   entries = λ pool. entries_resized pool ns n k place g;
   builds = λ ty pool text_len b. (closing ty old new pool ns text_len place b c).builds n k g e;
 }
 
 pub nothing_settles : (w : Walked) (ns : List Node) → Settles w ns w ns
-nothing_settles w ns = record { walk = refl; entries = λ pool. refl; builds = λ ty pool text_len b. b }
+nothing_settles w ns = record { walk = refl; entries = λ pool. refl; builds =
+    λ ty pool text_len b. b }
 
-pub settles_on : (u v w : Walked) (xs ys zs : List Node) → Settles u xs v ys → Settles v ys w zs → Settles u xs w zs
+pub settles_on : (u v w : Walked) (xs ys zs : List Node) → Settles u xs v ys → Settles v ys w zs →
+    Settles u xs w zs
 settles_on u v w xs ys zs h k = record {
   walk = k.walk ∙ h.walk;
   entries = λ pool. k.entries pool ∙ h.entries pool;
   builds = λ ty pool text_len b. k.builds ty pool text_len (h.builds ty pool text_len b);
 }
 
-pub settles_built : (old new : Walked) (before after : List Node) → Settles old before new after → AreBuilt old before → AreBuilt new after
+pub settles_built : (old new : Walked) (before after : List Node) → Settles old before new after →
+    AreBuilt old before → AreBuilt new after
 settles_built old new before after h b = (b.0, b.1, b.2, h.builds b.0 b.1 b.2 b.3)
 
 -- what is settled stays so
@@ -109,14 +144,19 @@ again : (fs : List OpenPart) → settled_in (settled_in fs) ≡ settled_in fs
 again [] = refl
 again (f ∷ []) = refl
 again (f ∷ g ∷ fs) = by (first_of f.left) refl (again (g ∷ fs)) where
-  by : (x : Option ℕ) → first_of f.left ≡ x → settled_in (settled_in (g ∷ fs)) ≡ settled_in (g ∷ fs) → settled_in (settled_in (f ∷ g ∷ fs)) ≡ settled_in (f ∷ g ∷ fs)
-  by (Some u) e h = let stays : settled_in (f ∷ g ∷ fs) ≡ f ∷ g ∷ fs = rw (e, settled_in) refl in ap settled_in stays
-  by None e h = let less : settled_in (f ∷ g ∷ fs) ≡ settled_in (g ∷ fs) = rw (e, settled_in) refl in ap settled_in less ∙ h ∙ sym less
+  by : (x : Option ℕ) → first_of f.left ≡ x →
+      settled_in (settled_in (g ∷ fs)) ≡ settled_in (g ∷ fs) →
+      settled_in (settled_in (f ∷ g ∷ fs)) ≡ settled_in (f ∷ g ∷ fs)
+  by (Some u) e h = let stays : settled_in (f ∷ g ∷ fs) ≡ f ∷ g ∷ fs = rw (e, settled_in) refl in
+      ap settled_in stays
+  by None e h = let less : settled_in (f ∷ g ∷ fs) ≡ settled_in (g ∷ fs) =
+      rw (e, settled_in) refl in ap settled_in less ∙ h ∙ sym less
 
 pub settled_again : (w : Walked) → IsSettled (settled_walk w)
 settled_again w = rw (again w.frames) refl
 
-pub none_open : (pool : List ℕ) (text : Option OpenText) → pieces_shown pool text ≡ None → text ≡ None
+pub none_open : (pool : List ℕ) (text : Option OpenText) → pieces_shown pool text ≡ None →
+    text ≡ None
 none_open pool None e = refl
 none_open pool (Some o) e = absurd cc
 
@@ -127,31 +167,44 @@ settled_shorter : (fs : List OpenPart) → length (settled_in fs) ≤ length fs
 settled_shorter [] = omega arith
 settled_shorter (f ∷ []) = omega arith
 settled_shorter (f ∷ g ∷ fs) = by (first_of f.left) refl (settled_shorter (g ∷ fs)) where
-  by : (x : Option ℕ) → first_of f.left ≡ x → length (settled_in (g ∷ fs)) ≤ length (g ∷ fs) → length (settled_in (f ∷ g ∷ fs)) ≤ length (f ∷ g ∷ fs)
-  by (Some u) e h = let stays : settled_in (f ∷ g ∷ fs) ≡ f ∷ g ∷ fs = rw (e, settled_in) refl in omega (arith, ap length stays)
-  by None e h = let less : settled_in (f ∷ g ∷ fs) ≡ settled_in (g ∷ fs) = rw (e, settled_in) refl in omega (arith, ap length less, h)
+  by : (x : Option ℕ) → first_of f.left ≡ x → length (settled_in (g ∷ fs)) ≤ length (g ∷ fs) →
+      length (settled_in (f ∷ g ∷ fs)) ≤ length (f ∷ g ∷ fs)
+  by (Some u) e h = let stays : settled_in (f ∷ g ∷ fs) ≡ f ∷ g ∷ fs = rw (e, settled_in) refl in
+      omega (arith, ap length stays)
+  by None e h = let less : settled_in (f ∷ g ∷ fs) ≡ settled_in (g ∷ fs) =
+      rw (e, settled_in) refl in omega (arith, ap length less, h)
 
 -- there is a turn for each node that closes
-pub turns_are : (w v : Walked) (before after : ℕ) → v ≡ settled_walk w → after + length v.frames ≡ before + length w.frames → after ≡ before + closings w.frames
-turns_are w v before after is e = omega (arith, e, ap (λ (x : Walked). length x.frames) is, settled_shorter w.frames)
+pub turns_are : (w v : Walked) (before after : ℕ) → v ≡ settled_walk w →
+    after + length v.frames ≡ before + length w.frames → after ≡ before + closings w.frames
+turns_are w v before after is e =
+    omega (arith, e, ap (λ (x : Walked). length x.frames) is, settled_shorter w.frames)
 
 -- closing nodes leaves their number
-settled_length : (old new : Walked) (before after : List Node) → Settles old before new after → length after ≡ length before
-settled_length old new before after h = sym (length-map after _) ∙ ap length (h.entries []) ∙ length-map before _
+settled_length : (old new : Walked) (before after : List Node) → Settles old before new after →
+    length after ≡ length before
+settled_length old new before after h = sym (length-map after _) ∙ ap length (h.entries [])
+    ∙ length-map before _
 
 -- nodes were closed, each in a turn
-pub settled_paid : (old new : Walked) (before after : List Node) (turns paid : ℕ) → Settles old before new after → new ≡ settled_walk old → paid ≡ turns + closings old.frames → IsPaid old before turns → IsPaid new after paid
+pub settled_paid : (old new : Walked) (before after : List Node) (turns paid : ℕ) →
+    Settles old before new after → new ≡ settled_walk old → paid ≡ turns + closings old.frames →
+    IsPaid old before turns → IsPaid new after paid
 settled_paid old new before after turns paid h is e p =
-    omega (arith, e, p, ap (λ (x : Walked). length x.frames) is, settled_shorter old.frames, settled_length old new before after h)
+    omega (arith, e, p, ap (λ (x : Walked). length x.frames) is, settled_shorter old.frames,
+        settled_length old new before after h)
 
 advanced_length : (fs : List OpenPart) → length (advanced_in fs) ≡ length fs
 advanced_length [] = refl
 advanced_length (f ∷ fs) = refl
 
 -- one more node is there
-pub leaf_paid : (w : Walked) (ns : List Node) (n : Node) (turns : ℕ) → IsPaid w ns turns → IsPaid (advanced w) (ns ++ n ∷ []) turns
+pub leaf_paid : (w : Walked) (ns : List Node) (n : Node) (turns : ℕ) → IsPaid w ns turns →
+    IsPaid (advanced w) (ns ++ n ∷ []) turns
 leaf_paid w ns n turns p = omega (arith, p, advanced_length w.frames, length-append ns (n ∷ []))
 
 -- and it is open
-pub open_paid : (w : Walked) (ns : List Node) (n : Node) (place turns : ℕ) (part : Part) → IsPaid w ns turns → IsPaid (opened (advanced w) place part) (ns ++ n ∷ []) turns
-open_paid w ns n place turns part p = omega (arith, p, advanced_length w.frames, length-append ns (n ∷ []))
+pub open_paid : (w : Walked) (ns : List Node) (n : Node) (place turns : ℕ) (part : Part) →
+    IsPaid w ns turns → IsPaid (opened (advanced w) place part) (ns ++ n ∷ []) turns
+open_paid w ns n place turns part p =
+    omega (arith, p, advanced_length w.frames, length-append ns (n ∷ []))

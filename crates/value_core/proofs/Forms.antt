@@ -1,5 +1,8 @@
 -- What the next form says of the layout of the next type, and what a reason to stop says of it.
-use Rattle.std.proofs.Common.{◌≡◌, ℕ, ◌+◌, ◌<◌, ◌≤◌, ◌⊎◌, inl, inr, Bool, true, false, List, length, Option, Some, None, refl, subst, arith}
+use Rattle.std.proofs.Common.{
+    ◌≡◌, ℕ, ◌+◌, ◌<◌, ◌≤◌, ◌⊎◌, inl, inr, Bool, true, false, List, length, Option, Some, None, refl,
+    subst, arith
+}
 use Rattle.std.specs.Prelude.{nat_lt, if◌then◌else◌}
 use Rattle.scale_core.specs.declared.compact.Target.{Target}
 use Rattle.registry_core.specs.declared.definition.Arm.{Arm}
@@ -10,7 +13,9 @@ use Rattle.registry_core.specs.declared.type_info.TypeInfo.{TypeInfo}
 use Rattle.graph_core.specs.Types.{shape, ids, field_types}
 use Rattle.widths_core.specs.Targets.{target_of}
 use Rattle.widths_core.specs.Classes.{is_finite, is_empty}
-use Rattle.widths_core.specs.Layouts.{Layout, layout, layout_of_shape, sized_layout, primitive_layout, sequence_layout, compact_layout}
+use Rattle.widths_core.specs.Layouts.{
+    Layout, layout, layout_of_shape, sized_layout, primitive_layout, sequence_layout, compact_layout
+}
 use Rattle.widths_core.specs.Layouts as layout
 use Rattle.grammar_core.specs.declared.form.Form.{Form}
 use Rattle.grammar_core.specs.declared.form.Form.TheVariants as form
@@ -35,59 +40,79 @@ HasForm form.Sequence f = (u : ℕ) × (f ≡ layout.sequence u)
 HasForm form.Count f = f ≡ (layout.plain layout.counted)
 
 -- the form that is wanted is this one
-has_form : (wanted is : Form) (f : Layout) → next.Wants is ≡ next.Wants wanted → HasForm is f → HasForm wanted f
+has_form : (wanted is : Form) (f : Layout) → next.Wants is ≡ next.Wants wanted → HasForm is f →
+    HasForm wanted f
 has_form wanted is f e h = let same : is ≡ wanted = cc in subst (λ (x : Form). HasForm x f) same h
 
-sequence_has : (wanted : Form) (u : ℕ) (empty : Bool) → sequence_form empty ≡ next.Wants wanted → HasForm wanted (sequence_layout u empty)
+sequence_has : (wanted : Form) (u : ℕ) (empty : Bool) → sequence_form empty ≡ next.Wants wanted →
+    HasForm wanted (sequence_layout u empty)
 sequence_has wanted u true e = has_form wanted form.Count (layout.plain layout.counted) e refl
 sequence_has wanted u false e = has_form wanted form.Sequence (layout.sequence u) e (u, refl)
 
-compact_has : (wanted : Form) (m : Option Target) → compact_form m ≡ next.Wants wanted → HasForm wanted (compact_layout m)
-compact_has wanted (Some m) e = has_form wanted (form.Compact m) (layout.plain (layout.compact m)) e refl
+compact_has : (wanted : Form) (m : Option Target) → compact_form m ≡ next.Wants wanted →
+    HasForm wanted (compact_layout m)
+compact_has wanted (Some m) e =
+    has_form wanted (form.Compact m) (layout.plain (layout.compact m)) e refl
 compact_has wanted None e = absurd cc
 
-sized_has : (r : List TypeInfo) (wanted : Form) (d : TypeDef) → form_of_shape r (Some d) ≡ next.Wants wanted → HasForm wanted (sized_layout r d)
-sized_has r wanted (Def.Composite fs) e = has_form wanted form.Fields (layout.fields (field_types fs)) e (field_types fs, refl)
+sized_has : (r : List TypeInfo) (wanted : Form) (d : TypeDef) →
+    form_of_shape r (Some d) ≡ next.Wants wanted → HasForm wanted (sized_layout r d)
+sized_has r wanted (Def.Composite fs) e =
+    has_form wanted form.Fields (layout.fields (field_types fs)) e (field_types fs, refl)
 sized_has r wanted (Def.Variant arms) e = has_form wanted form.Arm (layout.arms arms) e (arms, refl)
 sized_has r wanted (Def.Sequence u) e = sequence_has wanted u.0 (is_empty r u.0) e
-sized_has r wanted (Def.Array n u) e = has_form wanted (form.Array n) (layout.array n u.0) e (u.0, refl)
-sized_has r wanted (Def.Tuple ts) e = has_form wanted form.Fields (layout.fields (ids ts)) e (ids ts, refl)
-sized_has r wanted (Def.Primitive p) e = has_form wanted (form.Primitive p) (primitive_layout p) e refl
+sized_has r wanted (Def.Array n u) e =
+    has_form wanted (form.Array n) (layout.array n u.0) e (u.0, refl)
+sized_has r wanted (Def.Tuple ts) e =
+    has_form wanted form.Fields (layout.fields (ids ts)) e (ids ts, refl)
+sized_has r wanted (Def.Primitive p) e =
+    has_form wanted (form.Primitive p) (primitive_layout p) e refl
 sized_has r wanted (Def.Compact u) e = compact_has wanted (target_of r u.0) e
 sized_has r wanted (Def.BitSequence store order) e = absurd cc
 
-known_has : (r : List TypeInfo) (wanted : Form) (empty : Bool) (d : Option TypeDef) → (if empty then next.Wants form.Empty else form_of_shape r d) ≡ next.Wants wanted → HasForm wanted (layout_of_shape r empty d)
+known_has : (r : List TypeInfo) (wanted : Form) (empty : Bool) (d : Option TypeDef) →
+    (if empty then next.Wants form.Empty else form_of_shape r d) ≡ next.Wants wanted →
+    HasForm wanted (layout_of_shape r empty d)
 known_has r wanted true d e = has_form wanted form.Empty (layout.plain layout.empty) e refl
 known_has r wanted false (Some d) e = sized_has r wanted d e
 known_has r wanted false None e = absurd cc
 
 -- a type of which this form is wanted has a layout of the form
-pub form_layout : (r : List TypeInfo) (t : ℕ) (wanted : Form) → form_of r t ≡ next.Wants wanted → HasForm wanted (layout r t)
+pub form_layout : (r : List TypeInfo) (t : ℕ) (wanted : Form) → form_of r t ≡ next.Wants wanted →
+    HasForm wanted (layout r t)
 unfolding layout
 form_layout r t wanted e = known_has r wanted (is_empty r t) (shape r t) e
 
-pub empty_layout : (r : List TypeInfo) (t : ℕ) → form_of r t ≡ next.Wants form.Empty → layout r t ≡ (layout.plain layout.empty)
+pub empty_layout : (r : List TypeInfo) (t : ℕ) → form_of r t ≡ next.Wants form.Empty →
+    layout r t ≡ (layout.plain layout.empty)
 empty_layout r t e = form_layout r t form.Empty e
 
-pub primitive_has_layout : (r : List TypeInfo) (t : ℕ) (p : Primitive) → form_of r t ≡ next.Wants (form.Primitive p) → layout r t ≡ primitive_layout p
+pub primitive_has_layout : (r : List TypeInfo) (t : ℕ) (p : Primitive) →
+    form_of r t ≡ next.Wants (form.Primitive p) → layout r t ≡ primitive_layout p
 primitive_has_layout r t p e = form_layout r t (form.Primitive p) e
 
-pub compact_has_layout : (r : List TypeInfo) (t : ℕ) (m : Target) → form_of r t ≡ next.Wants (form.Compact m) → layout r t ≡ layout.plain (layout.compact m)
+pub compact_has_layout : (r : List TypeInfo) (t : ℕ) (m : Target) →
+    form_of r t ≡ next.Wants (form.Compact m) → layout r t ≡ layout.plain (layout.compact m)
 compact_has_layout r t m e = form_layout r t (form.Compact m) e
 
-pub fields_layout : (r : List TypeInfo) (t : ℕ) → form_of r t ≡ next.Wants form.Fields → (ts : List ℕ) × (layout r t ≡ layout.fields ts)
+pub fields_layout : (r : List TypeInfo) (t : ℕ) → form_of r t ≡ next.Wants form.Fields →
+    (ts : List ℕ) × (layout r t ≡ layout.fields ts)
 fields_layout r t e = form_layout r t form.Fields e
 
-pub arm_layout : (r : List TypeInfo) (t : ℕ) → form_of r t ≡ next.Wants form.Arm → (arms : List Arm) × (layout r t ≡ layout.arms arms)
+pub arm_layout : (r : List TypeInfo) (t : ℕ) → form_of r t ≡ next.Wants form.Arm → (arms : List Arm)
+    × (layout r t ≡ layout.arms arms)
 arm_layout r t e = form_layout r t form.Arm e
 
-pub array_layout : (r : List TypeInfo) (t n : ℕ) → form_of r t ≡ next.Wants (form.Array n) → (u : ℕ) × (layout r t ≡ layout.array n u)
+pub array_layout : (r : List TypeInfo) (t n : ℕ) → form_of r t ≡ next.Wants (form.Array n) → (u : ℕ)
+    × (layout r t ≡ layout.array n u)
 array_layout r t n e = form_layout r t (form.Array n) e
 
-pub sequence_has_layout : (r : List TypeInfo) (t : ℕ) → form_of r t ≡ next.Wants form.Sequence → (u : ℕ) × (layout r t ≡ layout.sequence u)
+pub sequence_has_layout : (r : List TypeInfo) (t : ℕ) → form_of r t ≡ next.Wants form.Sequence →
+    (u : ℕ) × (layout r t ≡ layout.sequence u)
 sequence_has_layout r t e = form_layout r t form.Sequence e
 
-pub count_layout : (r : List TypeInfo) (t : ℕ) → form_of r t ≡ next.Wants form.Count → layout r t ≡ (layout.plain layout.counted)
+pub count_layout : (r : List TypeInfo) (t : ℕ) → form_of r t ≡ next.Wants form.Count →
+    layout r t ≡ (layout.plain layout.counted)
 count_layout r t e = form_layout r t form.Count e
 
 -- ---- what is wanted next
@@ -100,13 +125,20 @@ pub record Wanted (w : Walked) (wanted : Form) : Type 0 where
   pub form_is : form_of w.types ty ≡ next.Wants wanted
   pub room : length w.frames ≤ w.limit + 1
 
-wanted_from : (w : Walked) (wanted : Form) (o : Option ℕ) → next_type w ≡ o → next_from w o ≡ next.Wants wanted → Wanted w wanted
+wanted_from : (w : Walked) (wanted : Form) (o : Option ℕ) → next_type w ≡ o →
+    next_from w o ≡ next.Wants wanted → Wanted w wanted
 wanted_from w wanted None e h = absurd cc
-wanted_from w wanted (Some t) e h = go (nat_lt (w.limit + 1) (length w.frames)) (is_finite w.types t) refl refl h where
-  go : (deep finite : Bool) → nat_lt (w.limit + 1) (length w.frames) ≡ deep → is_finite w.types t ≡ finite → (if deep then next.Stop stop.TooDeep else (if finite then form_of w.types t else next.Stop stop.NoFiniteValue)) ≡ next.Wants wanted → Wanted w wanted
+wanted_from w wanted (Some t) e h =
+    go (nat_lt (w.limit + 1) (length w.frames)) (is_finite w.types t) refl refl h where
+  go : (deep finite : Bool) → nat_lt (w.limit + 1) (length w.frames) ≡ deep →
+      is_finite w.types t ≡ finite →
+      (if deep then next.Stop stop.TooDeep else
+      (if finite then form_of w.types t else next.Stop stop.NoFiniteValue)) ≡ next.Wants wanted →
+      Wanted w wanted
   go true finite d f h = absurd cc
   go false false d f h = absurd cc
-  go false true d f h = record { ty = t; is_next = e; finite = f; form_is = h; room = grind (arith, d) }
+  go false true d f h = record { ty = t; is_next = e; finite = f; form_is = h; room =
+      grind (arith, d) }
 
 pub wanted : (w : Walked) (wanted : Form) → next_of w ≡ next.Wants wanted → Wanted w wanted
 wanted w f h = wanted_from w f (next_type w) refl h
@@ -126,30 +158,39 @@ HasReason stop.BitSequence d f = f ≡ layout.bit_sequence
 HasReason stop.BadCompact d f = f ≡ layout.bad_compact
 HasReason _ d f = d ≡ None
 
-has_reason : (told is : StopReason) (d : Option TypeDef) (f : Layout) → next.Stop is ≡ next.Stop told → HasReason is d f → HasReason told d f
-has_reason told is d f e h = let same : is ≡ told = cc in subst (λ (x : StopReason). HasReason x d f) same h
+has_reason : (told is : StopReason) (d : Option TypeDef) (f : Layout) →
+    next.Stop is ≡ next.Stop told → HasReason is d f → HasReason told d f
+has_reason told is d f e h = let same : is ≡ told = cc in
+    subst (λ (x : StopReason). HasReason x d f) same h
 
 sequence_goes_on : (told : StopReason) (empty : Bool) → sequence_form empty ≡ next.Stop told → ⊥
 sequence_goes_on told true e = absurd cc
 sequence_goes_on told false e = absurd cc
 
-compact_has_reason : (told : StopReason) (d : Option TypeDef) (m : Option Target) → compact_form m ≡ next.Stop told → HasReason told d (compact_layout m)
+compact_has_reason : (told : StopReason) (d : Option TypeDef) (m : Option Target) →
+    compact_form m ≡ next.Stop told → HasReason told d (compact_layout m)
 compact_has_reason told d (Some m) e = absurd cc
 compact_has_reason told d None e = has_reason told stop.BadCompact d layout.bad_compact e refl
 
-known_has_reason : (r : List TypeInfo) (told : StopReason) (empty : Bool) (d : Option TypeDef) → (if empty then next.Wants form.Empty else form_of_shape r d) ≡ next.Stop told → HasReason told d (layout_of_shape r empty d)
+known_has_reason : (r : List TypeInfo) (told : StopReason) (empty : Bool) (d : Option TypeDef) →
+    (if empty then next.Wants form.Empty else form_of_shape r d) ≡ next.Stop told →
+    HasReason told d (layout_of_shape r empty d)
 known_has_reason r told true d e = absurd cc
 known_has_reason r told false None e = has_reason told stop.NoFiniteValue None layout.unknown e refl
 known_has_reason r told false (Some (Def.Composite fs)) e = absurd cc
 known_has_reason r told false (Some (Def.Variant arms)) e = absurd cc
-known_has_reason r told false (Some (Def.Sequence u)) e = absurd (sequence_goes_on told (is_empty r u.0) e)
+known_has_reason r told false (Some (Def.Sequence u)) e =
+    absurd (sequence_goes_on told (is_empty r u.0) e)
 known_has_reason r told false (Some (Def.Array n u)) e = absurd cc
 known_has_reason r told false (Some (Def.Tuple ts)) e = absurd cc
 known_has_reason r told false (Some (Def.Primitive p)) e = absurd cc
-known_has_reason r told false (Some (Def.Compact u)) e = compact_has_reason told (Some (Def.Compact u)) (target_of r u.0) e
-known_has_reason r told false (Some (Def.BitSequence store order)) e = has_reason told stop.BitSequence (Some (Def.BitSequence store order)) layout.bit_sequence e refl
+known_has_reason r told false (Some (Def.Compact u)) e =
+    compact_has_reason told (Some (Def.Compact u)) (target_of r u.0) e
+known_has_reason r told false (Some (Def.BitSequence store order)) e =
+    has_reason told stop.BitSequence (Some (Def.BitSequence store order)) layout.bit_sequence e refl
 
-reason_holds : (r : List TypeInfo) (t : ℕ) (told : StopReason) → form_of r t ≡ next.Stop told → HasReason told (shape r t) (layout r t)
+reason_holds : (r : List TypeInfo) (t : ℕ) (told : StopReason) → form_of r t ≡ next.Stop told →
+    HasReason told (shape r t) (layout r t)
 unfolding layout
 reason_holds r t told e = known_has_reason r told (is_empty r t) (shape r t) e
 
@@ -157,19 +198,25 @@ reason_holds r t told e = known_has_reason r told (is_empty r t) (shape r t) e
 no_shape : {X : Type 0} (r : List TypeInfo) (t : ℕ) → is_finite r t ≡ true → shape r t ≡ None → X
 no_shape r t h e = let no : is_finite r t ≡ false = shapeless r (length r) t e in absurd cc
 
-stops_by : (r : List TypeInfo) (t : ℕ) (told : StopReason) → is_finite r t ≡ true → HasReason told (shape r t) (layout r t) → IsStoppedBy told r t
+stops_by : (r : List TypeInfo) (t : ℕ) (told : StopReason) → is_finite r t ≡ true →
+    HasReason told (shape r t) (layout r t) → IsStoppedBy told r t
 stops_by r t stop.TooDeep h e = no_shape r t h e
 stops_by r t stop.NoFiniteValue h e = no_shape r t h e
 stops_by r t stop.BitSequence h e = (h, e)
 stops_by r t stop.BadCompact h e = (h, e)
 
 -- why a type stops where its depth is within the limit
-pub stops : (r : List TypeInfo) (t : ℕ) (told : StopReason) → next_at r t ≡ next.Stop told → IsStoppedBy told r t
+pub stops : (r : List TypeInfo) (t : ℕ) (told : StopReason) → next_at r t ≡ next.Stop told →
+    IsStoppedBy told r t
 stops r t told h = go (is_finite r t) refl h where
-  told_so : is_finite r t ≡ false → next.Stop stop.NoFiniteValue ≡ next.Stop told → IsStoppedBy told r t
-  told_so f e = let same : stop.NoFiniteValue ≡ told = cc in subst (λ (x : StopReason). IsStoppedBy x r t) same f
+  told_so : is_finite r t ≡ false → next.Stop stop.NoFiniteValue ≡ next.Stop told →
+      IsStoppedBy told r t
+  told_so f e = let same : stop.NoFiniteValue ≡ told = cc in
+      subst (λ (x : StopReason). IsStoppedBy x r t) same f
 
-  go : (finite : Bool) → is_finite r t ≡ finite → (if finite then form_of r t else next.Stop stop.NoFiniteValue) ≡ next.Stop told → IsStoppedBy told r t
+  go : (finite : Bool) → is_finite r t ≡ finite →
+      (if finite then form_of r t else next.Stop stop.NoFiniteValue) ≡ next.Stop told →
+      IsStoppedBy told r t
   go true f e = stops_by r t told f (reason_holds r t told e)
   go false f e = told_so f e
 
@@ -177,14 +224,19 @@ stops r t told h = go (is_finite r t) refl h where
 pub record Stopped (w : Walked) (told : StopReason) : Type 0 where
   pub ty : ℕ
   pub is_next : next_type w ≡ Some ty
-  pub why : ((told ≡ stop.TooDeep) × (w.limit + 1 < length w.frames)) ⊎ ((length w.frames ≤ w.limit + 1) × IsStoppedBy told w.types ty)
+  pub why : ((told ≡ stop.TooDeep) × (w.limit + 1 < length w.frames))
+      ⊎ ((length w.frames ≤ w.limit + 1) × IsStoppedBy told w.types ty)
 
-stopped_from : (w : Walked) (told : StopReason) (o : Option ℕ) → next_type w ≡ o → next_from w o ≡ next.Stop told → Stopped w told
+stopped_from : (w : Walked) (told : StopReason) (o : Option ℕ) → next_type w ≡ o →
+    next_from w o ≡ next.Stop told → Stopped w told
 stopped_from w told None e h = absurd cc
 stopped_from w told (Some t) e h = go (nat_lt (w.limit + 1) (length w.frames)) refl h where
-  go : (deep : Bool) → nat_lt (w.limit + 1) (length w.frames) ≡ deep → (if deep then next.Stop stop.TooDeep else next_at w.types t) ≡ next.Stop told → Stopped w told
-  go true d h = let same : told ≡ stop.TooDeep = cc in record { ty = t; is_next = e; why = inl (same, grind (arith, d)) }
-  go false d h = record { ty = t; is_next = e; why = inr (grind (arith, d), stops w.types t told h) }
+  go : (deep : Bool) → nat_lt (w.limit + 1) (length w.frames) ≡ deep →
+      (if deep then next.Stop stop.TooDeep else next_at w.types t) ≡ next.Stop told → Stopped w told
+  go true d h = let same : told ≡ stop.TooDeep = cc in
+      record { ty = t; is_next = e; why = inl (same, grind (arith, d)) }
+  go false d h = record { ty = t; is_next = e; why =
+      inr (grind (arith, d), stops w.types t told h) }
 
 pub stopped : (w : Walked) (told : StopReason) → next_of w ≡ next.Stop told → Stopped w told
 stopped w told h = stopped_from w told (next_type w) refl h

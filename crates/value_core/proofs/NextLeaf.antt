@@ -1,9 +1,14 @@
 -- The values that a node without children may be, by the form that is next.
-use Rattle.std.proofs.Common.{◌≡◌, ◌-◌, ℕ, suc, ◌*◌, ℤ, pos, negsuc, ◌/◌, ◌<◌, ◌≤◌, ◌^◌, List, [], ◌∷◌, ◌++◌, Bool, true, false, length, refl, ap, ◌∙◌, arith}
+use Rattle.std.proofs.Common.{
+    ◌≡◌, ◌-◌, ℕ, suc, ◌*◌, ℤ, pos, negsuc, ◌/◌, ◌<◌, ◌≤◌, ◌^◌, List, [], ◌∷◌, ◌++◌, Bool, true,
+    false, length, refl, ap, ◌∙◌, arith
+}
 use Rattle.std.specs.Prelude.{not, nat_lt, ◌||◌, ◌&&◌, if◌then◌else◌}
 use Rattle.std.specs.Str.{is_utf8}
 use Rattle.std.proofs.lemmas.Bool.{lt-ltb, le-ltb, ltb-false}
-use Rattle.scale_core.specs.Number.{AreBytes, number, signed_number, le_bytes, signed_bytes, bool_byte, is_scalar}
+use Rattle.scale_core.specs.Number.{
+    AreBytes, number, signed_number, le_bytes, signed_bytes, bool_byte, is_scalar
+}
 use Rattle.scale_core.specs.Compact.{IsCompact, compact, target_bytes}
 use Rattle.scale_core.specs.declared.compact.Target.{Target}
 use Rattle.scale_core.specs.declared.compact.Target.TheVariants as target
@@ -25,29 +30,43 @@ use Rattle.grammar_core.specs.declared.form.Next.TheVariants as next
 use Rattle.value_core.specs.Built.{IsNextLeaf}
 use Rattle.value_core.specs.Refusals.{most_unsigned, most_signed, is_within}
 use Rattle.value_core.specs.Walked.{Walked, next_of}
-use Rattle.value_core.proofs.Forms.{wanted, empty_layout, primitive_has_layout, compact_has_layout, count_layout}
+use Rattle.value_core.proofs.Forms.{
+    wanted, empty_layout, primitive_has_layout, compact_has_layout, count_layout
+}
 
-pub empty_next : (w : Walked) → next_of w ≡ next.Wants form.Empty → IsNextLeaf w (head.leaf tree.unit)
+pub empty_next : (w : Walked) → next_of w ≡ next.Wants form.Empty →
+    IsNextLeaf w (head.leaf tree.unit)
 unfolding Val
-empty_next w e = let k = wanted w form.Empty e in record { ty = k.ty; next = k.is_next; room = k.room; leaf = tt; own = []; are_bytes = tt; value = (empty_layout w.types k.ty k.form_is, refl) }
+empty_next w e = let k = wanted w form.Empty e in
+    record { ty = k.ty; next = k.is_next; room = k.room; leaf = tt; own = []; are_bytes = tt;
+    value = (empty_layout w.types k.ty k.form_is, refl) }
 
 bool_is_byte : (x : Bool) → bool_byte x < 256
 bool_is_byte true = omega arith
 bool_is_byte false = omega arith
 
-pub bool_next : (w : Walked) (x : Bool) → next_of w ≡ next.Wants (form.Primitive P.Bool) → IsNextLeaf w (head.leaf (tree.bool x))
+pub bool_next : (w : Walked) (x : Bool) → next_of w ≡ next.Wants (form.Primitive P.Bool) →
+    IsNextLeaf w (head.leaf (tree.bool x))
 unfolding Val
-bool_next w x e = let k = wanted w (form.Primitive P.Bool) e in record { ty = k.ty; next = k.is_next; room = k.room; leaf = tt; own = bool_byte x ∷ []; are_bytes = (bool_is_byte x, tt); value = (primitive_has_layout w.types k.ty P.Bool k.form_is, refl) }
+bool_next w x e = let k = wanted w (form.Primitive P.Bool) e in
+    record { ty = k.ty; next = k.is_next; room = k.room; leaf = tt; own = bool_byte x ∷ [];
+    are_bytes = (bool_is_byte x, tt); value =
+    (primitive_has_layout w.types k.ty P.Bool k.form_is, refl) }
 
-pub count_next : (w : Walked) (n : ℕ) → n < 2 ^ 32 → next_of w ≡ next.Wants form.Count → IsNextLeaf w (head.leaf (tree.count n))
+pub count_next : (w : Walked) (n : ℕ) → n < 2 ^ 32 → next_of w ≡ next.Wants form.Count →
+    IsNextLeaf w (head.leaf (tree.count n))
 unfolding Val
-count_next w n h e = let k = wanted w form.Count e in record { ty = k.ty; next = k.is_next; room = k.room; leaf = tt; own = compact n; are_bytes = are_compact n; value = (count_layout w.types k.ty k.form_is, (omega (arith, h), refl)) }
+count_next w n h e = let k = wanted w form.Count e in
+    record { ty = k.ty; next = k.is_next; room = k.room; leaf = tt; own = compact n; are_bytes =
+    are_compact n; value = (count_layout w.types k.ty k.form_is, (omega (arith, h), refl)) }
 
 -- numbers up to the greatest are those that fit the width
 fits_width : (k n : ℕ) → 0 < k → n ≤ k - 1 → n < k
 fits_width k n some h = omega (arith, some, h)
 
-pub unsigned_next : (w : Walked) (p : Primitive) (v : IntegerWidth) (n : ℕ) → next_of w ≡ next.Wants (form.Primitive p) → kind_of p ≡ K.Unsigned v → n ≤ most_unsigned v → IsNextLeaf w (head.leaf (tree.unsigned n))
+pub unsigned_next : (w : Walked) (p : Primitive) (v : IntegerWidth) (n : ℕ) →
+    next_of w ≡ next.Wants (form.Primitive p) → kind_of p ≡ K.Unsigned v → n ≤ most_unsigned v →
+    IsNextLeaf w (head.leaf (tree.unsigned n))
 unfolding Val
 unsigned_next w p v n e f h =
     let k = wanted w (form.Primitive p) e in
@@ -59,10 +78,13 @@ unsigned_next w p v n e f h =
       leaf = tt;
       own = le_bytes bytes n;
       are_bytes = are_le_bytes bytes n;
-      value = (bytes, primitive_has_layout w.types k.ty p k.form_is ∙ ap kind_layout f, length-le_bytes bytes n, number-le_bytes bytes n (fits_width (256 ^ bytes) n (omega (arith, width_numbers v)) h));
+      value = (bytes, primitive_has_layout w.types k.ty p k.form_is ∙ ap kind_layout f,
+          length-le_bytes bytes n,
+          number-le_bytes bytes n (fits_width (256 ^ bytes) n (omega (arith, width_numbers v)) h));
     }
 
-pub text_next : (w : Walked) (s : List ℕ) → next_of w ≡ next.Wants (form.Primitive P.Str) → is_utf8 s ≡ true → AreBytes s → length s < 2 ^ 32 → IsNextLeaf w (head.leaf (tree.text s))
+pub text_next : (w : Walked) (s : List ℕ) → next_of w ≡ next.Wants (form.Primitive P.Str) →
+    is_utf8 s ≡ true → AreBytes s → length s < 2 ^ 32 → IsNextLeaf w (head.leaf (tree.text s))
 unfolding Val
 text_next w s e f a h =
     let k = wanted w (form.Primitive P.Str) e in
@@ -73,16 +95,21 @@ text_next w s e f a h =
       leaf = tt;
       own = compact (length s) ++ s;
       are_bytes = both_bytes (compact (length s)) s (are_compact (length s)) a;
-      value = (primitive_has_layout w.types k.ty P.Str k.form_is, (compact (length s), (omega (arith, h), refl), f, refl));
+      value = (primitive_has_layout w.types k.ty P.Str k.form_is,
+          (compact (length s), (omega (arith, h), refl), f, refl));
     }
 
-pub wide_next : (w : Walked) (p : Primitive) (s : Signedness) (b : List ℕ) → next_of w ≡ next.Wants (form.Primitive p) → kind_of p ≡ K.Wide s → length b ≡ 32 → AreBytes b → IsNextLeaf w (head.leaf (tree.wide b))
+pub wide_next : (w : Walked) (p : Primitive) (s : Signedness) (b : List ℕ) →
+    next_of w ≡ next.Wants (form.Primitive p) → kind_of p ≡ K.Wide s → length b ≡ 32 → AreBytes b →
+    IsNextLeaf w (head.leaf (tree.wide b))
 unfolding Val
 wide_next w p s b e f h a =
     let k = wanted w (form.Primitive p) e in
-    record { ty = k.ty; next = k.is_next; room = k.room; leaf = tt; own = b; are_bytes = a; value = (primitive_has_layout w.types k.ty p k.form_is ∙ ap kind_layout f, h, refl) }
+    record { ty = k.ty; next = k.is_next; room = k.room; leaf = tt; own = b; are_bytes = a; value =
+        (primitive_has_layout w.types k.ty p k.form_is ∙ ap kind_layout f, h, refl) }
 
-compact_own : (m : Target) (n : ℕ) → n < 256 ^ target_bytes m → (b : List ℕ) × AreBytes b × IsCompact m n b
+compact_own : (m : Target) (n : ℕ) → n < 256 ^ target_bytes m → (b : List ℕ) × AreBytes b
+    × IsCompact m n b
 compact_own target.Unit n h = ([], tt, (omega (arith, h), refl))
 compact_own target.U8 n h = (compact n, are_compact n, (h, refl))
 compact_own target.U16 n h = (compact n, are_compact n, (h, refl))
@@ -90,22 +117,27 @@ compact_own target.U32 n h = (compact n, are_compact n, (h, refl))
 compact_own target.U64 n h = (compact n, are_compact n, (h, refl))
 compact_own target.U128 n h = (compact n, are_compact n, (h, refl))
 
-pub compact_next : (w : Walked) (m : Target) (n : ℕ) → next_of w ≡ next.Wants (form.Compact m) → n < 256 ^ target_bytes m → IsNextLeaf w (head.leaf (tree.compact n))
+pub compact_next : (w : Walked) (m : Target) (n : ℕ) → next_of w ≡ next.Wants (form.Compact m) →
+    n < 256 ^ target_bytes m → IsNextLeaf w (head.leaf (tree.compact n))
 unfolding Val
 compact_next w m n e h =
     let k = wanted w (form.Compact m) e in
     let own = compact_own m n h in
-    record { ty = k.ty; next = k.is_next; room = k.room; leaf = tt; own = own.0; are_bytes = own.1; value = (m, compact_has_layout w.types k.ty m k.form_is, own.2) }
+    record { ty = k.ty; next = k.is_next; room = k.room; leaf = tt; own = own.0; are_bytes = own.1;
+        value = (m, compact_has_layout w.types k.ty m k.form_is, own.2) }
 
 -- ---- characters
 
-pub scalar_is : (c : ℕ) → (if nat_lt c 0xd800 then true else (nat_lt 0xdfff c && nat_lt c 0x110000)) ≡ true → is_scalar c ≡ true
+pub scalar_is : (c : ℕ) →
+    (if nat_lt c 0xd800 then true else (nat_lt 0xdfff c && nat_lt c 0x110000)) ≡ true →
+    is_scalar c ≡ true
 scalar_is c h = by (nat_lt c 0xd800) (nat_lt 0xdfff c && nat_lt c 0x110000) h where
   by : (a b : Bool) → (if a then true else b) ≡ true → (a || b) ≡ true
   by true b e = refl
   by false b e = e
 
-pub char_next : (w : Walked) (c : ℕ) → next_of w ≡ next.Wants (form.Primitive P.Char) → is_scalar c ≡ true → c < 256 ^ 4 → IsNextLeaf w (head.leaf (tree.char c))
+pub char_next : (w : Walked) (c : ℕ) → next_of w ≡ next.Wants (form.Primitive P.Char) →
+    is_scalar c ≡ true → c < 256 ^ 4 → IsNextLeaf w (head.leaf (tree.char c))
 unfolding Val
 char_next w c e f h =
     let k = wanted w (form.Primitive P.Char) e in
@@ -116,7 +148,8 @@ char_next w c e f h =
       leaf = tt;
       own = le_bytes 4 c;
       are_bytes = are_le_bytes 4 c;
-      value = (primitive_has_layout w.types k.ty P.Char k.form_is, length-le_bytes 4 c, number-le_bytes 4 c h, f);
+      value = (primitive_has_layout w.types k.ty P.Char k.form_is, length-le_bytes 4 c,
+          number-le_bytes 4 c h, f);
     }
 
 -- ---- signed integers
@@ -128,16 +161,19 @@ within_is n most h = by (nat_lt most n) refl h where
   by false e k = ltb-false most n e
 
 -- what an integer of k bytes is in two's complement
-signed_again : (k : ℕ) (half : ℕ) (z : ℤ) → 256 ^ k ≡ 2 * half → is_within z (half - 1) ≡ true → 0 < half → signed_number (signed_bytes k z) ≡ z
+signed_again : (k : ℕ) (half : ℕ) (z : ℤ) → 256 ^ k ≡ 2 * half → is_within z (half - 1) ≡ true →
+    0 < half → signed_number (signed_bytes k z) ≡ z
 signed_again k half (pos n) e h some =
     let small : n < half = omega (arith, within_is n (half - 1) h, some) in
     let spelled : number (le_bytes k n) ≡ n = number-le_bytes k n (omega (arith, e, small)) in
     rw (length-le_bytes k n, spelled, lt-ltb (2 * n) (256 ^ k) (omega (arith, e, small))) refl
 signed_again k half (negsuc m) e h some =
     let small : m < half = omega (arith, within_is m (half - 1) h, some) in
-    let word : number (le_bytes k (256 ^ k - suc m)) ≡ 256 ^ k - suc m = number-le_bytes k (256 ^ k - suc m) (omega (arith, e, small)) in
+    let word : number (le_bytes k (256 ^ k - suc m)) ≡ 256 ^ k - suc m =
+        number-le_bytes k (256 ^ k - suc m) (omega (arith, e, small)) in
     let back : 256 ^ k - (256 ^ k - suc m) ≡ suc m = omega (arith, e, small) in
-    rw (length-le_bytes k (256 ^ k - suc m), word, le-ltb (2 * (256 ^ k - suc m)) (256 ^ k) (omega (arith, e, small)), back) refl
+    rw (length-le_bytes k (256 ^ k - suc m), word,
+        le-ltb (2 * (256 ^ k - suc m)) (256 ^ k) (omega (arith, e, small)), back) refl
 
 signed_long : (k : ℕ) (z : ℤ) → length (signed_bytes k z) ≡ k
 signed_long k (pos n) = length-le_bytes k n
@@ -147,7 +183,9 @@ are_signed_bytes : (k : ℕ) (z : ℤ) → AreBytes (signed_bytes k z)
 are_signed_bytes k (pos n) = are_le_bytes k n
 are_signed_bytes k (negsuc m) = are_le_bytes k (256 ^ k - suc m)
 
-pub signed_next : (w : Walked) (p : Primitive) (v : IntegerWidth) (z : ℤ) → next_of w ≡ next.Wants (form.Primitive p) → kind_of p ≡ K.Signed v → is_within z (most_signed v) ≡ true → IsNextLeaf w (head.leaf (tree.signed z))
+pub signed_next : (w : Walked) (p : Primitive) (v : IntegerWidth) (z : ℤ) →
+    next_of w ≡ next.Wants (form.Primitive p) → kind_of p ≡ K.Signed v →
+    is_within z (most_signed v) ≡ true → IsNextLeaf w (head.leaf (tree.signed z))
 unfolding Val
 signed_next w p v z e f h =
     let k = wanted w (form.Primitive p) e in
@@ -159,5 +197,7 @@ signed_next w p v z e f h =
       leaf = tt;
       own = signed_bytes bytes z;
       are_bytes = are_signed_bytes bytes z;
-      value = (bytes, primitive_has_layout w.types k.ty p k.form_is ∙ ap kind_layout f, signed_long bytes z, signed_again bytes (256 ^ bytes / 2) z (width_halves v) h (omega (arith, width_halves v, width_numbers v)));
+      value = (bytes, primitive_has_layout w.types k.ty p k.form_is ∙ ap kind_layout f,
+          signed_long bytes z, signed_again bytes (256 ^ bytes / 2) z (width_halves v) h
+          (omega (arith, width_halves v, width_numbers v)));
     }

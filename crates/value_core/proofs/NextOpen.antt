@@ -1,5 +1,7 @@
 -- The nodes whose children come next, by the form that is next.
-use Rattle.std.proofs.Common.{◌≡◌, ℕ, ◌<◌, ◌^◌, [], ◌∷◌, Option, Some, None, refl, sym, ap, ◌∙◌, arith, inl, inr}
+use Rattle.std.proofs.Common.{
+    ◌≡◌, ℕ, ◌<◌, ◌^◌, [], ◌∷◌, Option, Some, None, refl, sym, ap, ◌∙◌, arith, inl, inr
+}
 use Rattle.std.specs.Prelude.{option_map}
 use Rattle.std.proofs.lemmas.List.{append-nil}
 use Rattle.std.proofs.lemmas.Option.{same_Some}
@@ -19,7 +21,8 @@ use Rattle.value_core.specs.Opened.{OpensFields, OpensArm, OpensArray, OpensSequ
 use Rattle.value_core.specs.Walked.{Walked, next_of}
 use Rattle.value_core.proofs.Forms.{wanted}
 
-pub fields_next : (w : Walked) (p : Part) → next_of w ≡ next.Wants form.Fields → OpensFields w p → IsNextOpen w (head.branch tree.fields (how_many_left p)) p
+pub fields_next : (w : Walked) (p : Part) → next_of w ≡ next.Wants form.Fields → OpensFields w p →
+    IsNextOpen w (head.branch tree.fields (how_many_left p)) p
 unfolding Val
 fields_next w p e o =
     let k = wanted w form.Fields e in
@@ -37,7 +40,8 @@ fields_next w p e o =
       is_open = ([], o.members, o.laid, ap how_many_left o.part_is, o.part_is, refl);
     }
 
-pub array_next : (w : Walked) (n : ℕ) (p : Part) → next_of w ≡ next.Wants (form.Array n) → OpensArray w n p → IsNextOpen w (head.branch tree.list n) p
+pub array_next : (w : Walked) (n : ℕ) (p : Part) → next_of w ≡ next.Wants (form.Array n) →
+    OpensArray w n p → IsNextOpen w (head.branch tree.list n) p
 unfolding Val
 array_next w n p e o =
     let k = wanted w (form.Array n) e in
@@ -55,7 +59,9 @@ array_next w n p e o =
       is_open = (o.element, n, [], [], inl (o.laid, refl), o.part_is, omega arith, refl, refl);
     }
 
-pub sequence_next : (w : Walked) (n : ℕ) (p : Part) → n < 2 ^ 32 → next_of w ≡ next.Wants form.Sequence → OpensSequence w n p → IsNextOpen w (head.branch tree.list n) p
+pub sequence_next : (w : Walked) (n : ℕ) (p : Part) → n < 2 ^ 32 →
+    next_of w ≡ next.Wants form.Sequence → OpensSequence w n p →
+    IsNextOpen w (head.branch tree.list n) p
 unfolding Val
 sequence_next w n p h e o =
     let k = wanted w form.Sequence e in
@@ -70,17 +76,23 @@ sequence_next w n p h e o =
       own = compact n;
       are_bytes = are_compact n;
       finite = rw (← same) k.finite;
-      is_open = (o.element, n, compact n, [], inr (o.laid, (omega (arith, h), refl)), o.part_is, omega arith, sym (append-nil (compact n)), refl);
+      is_open = (o.element, n, compact n, [], inr (o.laid, (omega (arith, h), refl)), o.part_is,
+          omega arith, sym (append-nil (compact n)), refl);
     }
 
 pair_is : (x y : ℕ × Part) → Some x ≡ Some y → x ≡ y
 pair_is x y e = cc
 
 -- the arm that was found
-pub arm_next : (w : Walked) (index q : ℕ) (p : Part) → index < 256 → next_of w ≡ next.Wants form.Arm → OpensArm w index (Some (q, p)) → IsNextOpen w (head.branch (tree.arm q) (how_many_left p)) p
+pub arm_next : (w : Walked) (index q : ℕ) (p : Part) → index < 256 →
+    next_of w ≡ next.Wants form.Arm → OpensArm w index (Some (q, p)) →
+    IsNextOpen w (head.branch (tree.arm q) (how_many_left p)) p
 unfolding Val
 arm_next w index q p h e o = by (arm_of o.arms index) refl o.found_is where
-  by : (found : Option (ℕ × Arm)) → arm_of o.arms index ≡ found → ◌≡◌ {A = Option (ℕ × Part)} (Some (q, p)) (option_map (λ x. (x.0, each (field_types x.1.fields))) found) → IsNextOpen w (head.branch (tree.arm q) (how_many_left p)) p
+  by : (found : Option (ℕ × Arm)) → arm_of o.arms index ≡ found →
+      ◌≡◌ {A = Option (ℕ × Part)} (Some (q, p))
+      (option_map (λ x. (x.0, each (field_types x.1.fields))) found) →
+      IsNextOpen w (head.branch (tree.arm q) (how_many_left p)) p
   by None f is = absurd cc
   by (Some a) f is =
       let k = wanted w form.Arm e in
@@ -98,5 +110,6 @@ arm_next w index q p h e o = by (arm_of o.arms index) refl o.found_is where
         own = index ∷ [];
         are_bytes = (h, tt);
         finite = rw (← same) k.finite;
-        is_open = (o.arms, index, a.1, [], field_types a.1.fields, [], o.laid, rw position f, refl, ap how_many_left part, part, refl, refl);
+        is_open = (o.arms, index, a.1, [], field_types a.1.fields, [], o.laid, rw position f, refl,
+            ap how_many_left part, part, refl, refl);
       }

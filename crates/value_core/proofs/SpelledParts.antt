@@ -1,5 +1,8 @@
 -- The bytes of a value go out in parts.
-use Rattle.std.proofs.Common.{◌≡◌, ℕ, zero, suc, ◌+◌, ◌*◌, ◌^◌, ◌<◌, ◌≤◌, flat_map, List, [], ◌∷◌, ◌++◌, length, take, drop, get_or, Option, Some, None, refl, append_assoc, sym, subst, ◌∙◌, ap, arith, length-append}
+use Rattle.std.proofs.Common.{
+    ◌≡◌, ℕ, zero, suc, ◌+◌, ◌*◌, ◌^◌, ◌<◌, ◌≤◌, flat_map, List, [], ◌∷◌, ◌++◌, length, take, drop,
+    get_or, Option, Some, None, refl, append_assoc, sym, subst, ◌∙◌, ap, arith, length-append
+}
 use Rattle.std.proofs.Math.Seq.{take-add}
 use Rattle.std.proofs.lemmas.List.Folds.{flat_map-map}
 use Rattle.scale_core.specs.Number.{AreBytes}
@@ -16,15 +19,18 @@ use Rattle.value_core.proofs.Finished.{text_of_nodes}
 use Rattle.std.specs.Io.KnownBytes.{Appends}
 
 -- two appends of neighbouring parts are one
-pub appends_next : (a b c : Option (List ℕ)) (xs : List ℕ) (w n : ℕ) → Appends a b (take w xs) → Appends b c (take n (drop w xs)) → Appends a c (take (w + n) xs)
+pub appends_next : (a b c : Option (List ℕ)) (xs : List ℕ) (w n : ℕ) → Appends a b (take w xs) →
+    Appends b c (take n (drop w xs)) → Appends a c (take (w + n) xs)
 appends_next None b c xs w n p q = tt
 appends_next (Some a) None c xs w n p q = absurd p
 appends_next (Some a) (Some b) None xs w n p q = absurd q
 appends_next (Some a) (Some b) (Some c) xs w n p q =
-    q ∙ ap (λ v. v ++ take n (drop w xs)) p ∙ append_assoc a (take w xs) (take n (drop w xs)) ∙ ap (λ v. a ++ v) (sym (take-add w n xs))
+    q ∙ ap (λ v. v ++ take n (drop w xs)) p ∙ append_assoc a (take w xs) (take n (drop w xs))
+        ∙ ap (λ v. a ++ v) (sym (take-add w n xs))
 
 -- one append behind another is an append of both
-pub appends_both : (a b c : Option (List ℕ)) (xs ys : List ℕ) → Appends a b xs → Appends b c ys → Appends a c (xs ++ ys)
+pub appends_both : (a b c : Option (List ℕ)) (xs ys : List ℕ) → Appends a b xs → Appends b c ys →
+    Appends a c (xs ++ ys)
 appends_both None b c xs ys p q = tt
 appends_both (Some a) None c xs ys p q = absurd p
 appends_both (Some a) (Some b) None xs ys p q = absurd q
@@ -40,22 +46,33 @@ take-front (x ∷ xs) ys (suc w) h = ap (λ (zs : List ℕ). x ∷ zs) (take-fro
 
 take-past : (xs ys : List ℕ) (w : ℕ) → xs ++ take w ys ≡ take (length xs + w) (xs ++ ys)
 take-past [] ys w = let same : w ≡ 0 + w = omega arith in ap (λ (n : ℕ). take n ys) same
-take-past (x ∷ xs) ys w = ap (λ (zs : List ℕ). x ∷ zs) (take-past xs ys w) ∙ (let more : suc (length xs + w) ≡ suc (length xs) + w = omega arith in ap (λ (n : ℕ). take n (x ∷ xs ++ ys)) more)
+take-past (x ∷ xs) ys w = ap (λ (zs : List ℕ). x ∷ zs) (take-past xs ys w)
+    ∙ (let more : suc (length xs + w) ≡ suc (length xs) + w = omega arith in
+    ap (λ (n : ℕ). take n (x ∷ xs ++ ys)) more)
 
-pub sent_front : (a b : Option (List ℕ)) (front back whole : List ℕ) (w : ℕ) → front ++ back ≡ whole → w ≤ length front → Appends a b (take w front) → Appends a b (take w whole)
-sent_front a b front back whole w e h p = subst (Appends a b) (take-front front back w h ∙ ap (take w) e) p
+pub sent_front : (a b : Option (List ℕ)) (front back whole : List ℕ) (w : ℕ) →
+    front ++ back ≡ whole → w ≤ length front → Appends a b (take w front) →
+    Appends a b (take w whole)
+sent_front a b front back whole w e h p =
+    subst (Appends a b) (take-front front back w h ∙ ap (take w) e) p
 
-pub sent_more : (a b c : Option (List ℕ)) (front back whole : List ℕ) (len w : ℕ) → length front ≡ len → front ++ back ≡ whole → Appends a b front → Appends b c (take w back) → Appends a c (take (len + w) whole)
+pub sent_more : (a b c : Option (List ℕ)) (front back whole : List ℕ) (len w : ℕ) →
+    length front ≡ len → front ++ back ≡ whole → Appends a b front → Appends b c (take w back) →
+    Appends a c (take (len + w) whole)
 sent_more a b c front back whole len w long e p q =
-    subst (Appends a c) (take-past front back w ∙ ap (λ (n : ℕ). take (n + w) (front ++ back)) long ∙ ap (take (len + w)) e) (appends_both a b c front (take w back) p q)
+    subst (Appends a c) (take-past front back w ∙ ap (λ (n : ℕ). take (n + w) (front ++ back)) long
+        ∙ ap (take (len + w)) e) (appends_both a b c front (take w back) p q)
 
-pub sent_all : (a b c : Option (List ℕ)) (front back whole : List ℕ) → front ++ back ≡ whole → Appends a b front → Appends b c back → Appends a c whole
+pub sent_all : (a b c : Option (List ℕ)) (front back whole : List ℕ) → front ++ back ≡ whole →
+    Appends a b front → Appends b c back → Appends a c whole
 sent_all a b c front back whole e p q = subst (Appends a c) e (appends_both a b c front back p q)
 
-pub long_whole : (front back whole : List ℕ) → front ++ back ≡ whole → length whole ≡ length front + length back
+pub long_whole : (front back whole : List ℕ) → front ++ back ≡ whole →
+    length whole ≡ length front + length back
 long_whole front back whole e = ap length (sym e) ∙ length-append front back
 
-pub sent_part : (front back whole : List ℕ) (w : ℕ) → front ++ back ≡ whole → w ≤ length front → w ≤ length whole
+pub sent_part : (front back whole : List ℕ) (w : ℕ) → front ++ back ≡ whole → w ≤ length front →
+    w ≤ length whole
 sent_part front back whole w e h = omega (arith, h, long_whole front back whole e)
 
 -- ---- all nodes
@@ -67,26 +84,33 @@ is_encoding s h =
     (subst AreBytes same h.1, subst (Val s.types s.ty s.tree) same h.2)
 
 -- the nodes of a value spell it
-pub nodes_spell : (r : List TypeInfo) (pool : List ℕ) (ns : List Node) (s : Seen) → IsWhole r pool ns → seen r pool ns ≡ s → flat_map (node_bytes r pool) ns ≡ encoding s
-nodes_spell r pool ns s h e = sym (flat_map-map (cell_bytes r) (cell_shown pool) ns) ∙ ap (flat_map (cell_bytes r)) h.nodes ∙ ap encoding e
+pub nodes_spell : (r : List TypeInfo) (pool : List ℕ) (ns : List Node) (s : Seen) →
+    IsWhole r pool ns → seen r pool ns ≡ s → flat_map (node_bytes r pool) ns ≡ encoding s
+nodes_spell r pool ns s h e = sym (flat_map-map (cell_bytes r) (cell_shown pool) ns)
+    ∙ ap (flat_map (cell_bytes r)) h.nodes ∙ ap encoding e
 
 -- the bytes of the nodes before one of them, and its own, begin the bytes of all
-within : {X : Type 0} (f : X → List ℕ) (ns : List X) (i : ℕ) (d : X) → i < length ns → (back : List ℕ) × (flat_map f ns ≡ flat_map f (take i ns) ++ (f (get_or ns i d) ++ back))
+within : {X : Type 0} (f : X → List ℕ) (ns : List X) (i : ℕ) (d : X) → i < length ns →
+    (back : List ℕ) × (flat_map f ns ≡ flat_map f (take i ns) ++ (f (get_or ns i d) ++ back))
 within f [] i d h = absurd (omega arith)
 within f (m ∷ ns) zero d h = (flat_map f ns, refl)
 within f (m ∷ ns) (suc i) d h =
     let s = within f ns i d (omega arith) in
-    (s.0, ap (λ (xs : List ℕ). f m ++ xs) s.1 ∙ sym (append_assoc (f m) (flat_map f (take i ns)) (f (get_or ns i d) ++ s.0)))
+    (s.0, ap (λ (xs : List ℕ). f m ++ xs) s.1
+        ∙ sym (append_assoc (f m) (flat_map f (take i ns)) (f (get_or ns i d) ++ s.0)))
 
 -- what a front of one node makes of the bytes of the nodes before it, which went out
 pub record Stops (a c : Option (List ℕ)) (whole : List ℕ) (told : ℕ) : Type 0 where
   pub part : told ≤ length whole
   pub sent : Appends a c (take told whole)
 
-pub stops : (a b c : Option (List ℕ)) (r s : List TypeInfo) (pool : List ℕ) (ns : List Node) (i : ℕ) (d : Node) (whole : List ℕ) (w before : ℕ) →
+pub stops : (a b c : Option (List ℕ)) (r s : List TypeInfo) (pool : List ℕ) (ns : List Node) (i : ℕ)
+    (d : Node) (whole : List ℕ) (w before : ℕ) →
     s ≡ r → i < length ns → flat_map (node_bytes r pool) ns ≡ whole →
-    Appends a b (flat_map (node_bytes r pool) (take i ns)) → before ≡ length (flat_map (node_bytes r pool) (take i ns)) →
-    w ≤ length (node_bytes s pool (get_or ns i d)) → Appends b c (take w (node_bytes s pool (get_or ns i d))) → Stops a c whole (before + w)
+    Appends a b (flat_map (node_bytes r pool) (take i ns)) →
+        before ≡ length (flat_map (node_bytes r pool) (take i ns)) →
+    w ≤ length (node_bytes s pool (get_or ns i d)) →
+        Appends b c (take w (node_bytes s pool (get_or ns i d))) → Stops a c whole (before + w)
 stops a b c r s pool ns i d whole w before same h all sent counted le more =
     let f = node_bytes r pool in
     let done = flat_map f (take i ns) in
@@ -95,42 +119,60 @@ stops a b c r s pool ns i d whole w before same h all sent counted le more =
     let more' : Appends b c (take w own) = rw (← same) more in
     let x = within f ns i d h in
     let e : done ++ (own ++ x.0) ≡ whole = sym x.1 ∙ all in
-    let long : length whole ≡ length done + length (own ++ x.0) = long_whole done (own ++ x.0) whole e in
+    let long : length whole ≡ length done + length (own ++ x.0) =
+        long_whole done (own ++ x.0) whole e in
     record {
       part = omega (arith, long, le', counted, length-append own x.0);
-      sent = sent_more a b c done (own ++ x.0) whole before w (sym counted) e sent (subst (Appends b c) (take-front own x.0 w le') more');
+      sent = sent_more a b c done (own ++ x.0) whole before w (sym counted) e sent
+          (subst (Appends b c) (take-front own x.0 w le') more');
     }
 
 -- the texts of the nodes up to one of them
 pub texts_up_to : (pool : List ℕ) (ns : List Node) (i : ℕ) (d : Node) → i < length ns →
-    (entries_text_bytes (entries_shown pool (take (suc i) ns)) ≡ entries_text_bytes (entries_shown pool (take i ns)) + head_text_bytes (head_shown pool (get_or ns i d).content))
-    × (entries_text_bytes (entries_shown pool (take (suc i) ns)) ≤ entries_text_bytes (entries_shown pool ns))
+    (entries_text_bytes (entries_shown pool (take (suc i) ns))
+        ≡ entries_text_bytes (entries_shown pool (take i ns)) + head_text_bytes
+        (head_shown pool (get_or ns i d).content))
+    × (entries_text_bytes (entries_shown pool (take (suc i) ns))
+        ≤ entries_text_bytes (entries_shown pool ns))
 texts_up_to pool [] i d h = absurd (omega arith)
 texts_up_to pool (m ∷ ns) zero d h = (omega arith, omega arith)
-texts_up_to pool (m ∷ ns) (suc i) d h = let t = texts_up_to pool ns i d (omega arith) in (omega (arith, t.0), omega (arith, t.1))
+texts_up_to pool (m ∷ ns) (suc i) d h = let t = texts_up_to pool ns i d (omega arith) in
+    (omega (arith, t.0), omega (arith, t.1))
 
--- the bytes of the nodes up to one of them, of which the node before are as few as their texts and 32 more each
+-- the bytes of the nodes up to one of them, of which the node before are as few as their texts and
+-- 32 more each
 pub record IsFew (pool : List ℕ) (ns : List Node) (i count : ℕ) : Type 0 where
   pub few : count ≤ 32 * (i + 1) + entries_text_bytes (entries_shown pool (take (i + 1) ns))
   pub fits : count < 2 ^ 64
 
-pub is_few : (r s : List TypeInfo) (pool : List ℕ) (ns : List Node) (v : Seen) (i : ℕ) (d : Node) (before w : ℕ) →
-    s ≡ r → IsWhole r pool ns → seen r pool ns ≡ v → text_bytes v.tree ≤ length pool → length pool < 2 ^ 63 → length ns * 40 < 2 ^ 63 → i < length ns →
-    before ≤ 32 * i + entries_text_bytes (entries_shown pool (take i ns)) → w ≤ length (node_bytes s pool (get_or ns i d)) →
-    length (node_bytes s pool (get_or ns i d)) ≤ 32 + head_text_bytes (head_shown pool (get_or ns i d).content) → IsFew pool ns i (before + w)
+pub is_few : (r s : List TypeInfo) (pool : List ℕ) (ns : List Node) (v : Seen) (i : ℕ) (d : Node)
+    (before w : ℕ) →
+    s ≡ r → IsWhole r pool ns → seen r pool ns ≡ v → text_bytes v.tree ≤ length pool →
+        length pool < 2 ^ 63 → length ns * 40 < 2 ^ 63 → i < length ns →
+    before ≤ 32 * i + entries_text_bytes (entries_shown pool (take i ns)) →
+        w ≤ length (node_bytes s pool (get_or ns i d)) →
+    length (node_bytes s pool (get_or ns i d))
+        ≤ 32 + head_text_bytes (head_shown pool (get_or ns i d).content) →
+        IsFew pool ns i (before + w)
 is_few r s pool ns v i d before w same whole is fits small few h le part bound =
     let next : suc i ≡ i + 1 = omega arith in
     let t = texts_up_to pool ns i d h in
-    let all : entries_text_bytes (entries_shown pool ns) ≡ text_bytes v.tree = text_of_nodes r pool ns whole ∙ ap (λ (x : Seen). text_bytes x.tree) is in
-    let up : before + w ≤ 32 * suc i + entries_text_bytes (entries_shown pool (take (suc i) ns)) = omega (arith, le, part, bound, t.0) in
+    let all : entries_text_bytes (entries_shown pool ns) ≡ text_bytes v.tree =
+        text_of_nodes r pool ns whole ∙ ap (λ (x : Seen). text_bytes x.tree) is in
+    let up : before + w ≤ 32 * suc i + entries_text_bytes (entries_shown pool (take (suc i) ns)) =
+        omega (arith, le, part, bound, t.0) in
     record { few = rw (← next) up; fits = omega (arith, up, t.1, all, fits, small, few, h) }
 
 -- each node of a value without bytes has none
-pub no_own : (r s : List TypeInfo) (pool : List ℕ) (ns : List Node) (i : ℕ) (d : Node) (whole : List ℕ) → s ≡ r → i < length ns → flat_map (node_bytes r pool) ns ≡ whole → whole ≡ [] → length (node_bytes s pool (get_or ns i d)) ≡ 0
+pub no_own : (r s : List TypeInfo) (pool : List ℕ) (ns : List Node) (i : ℕ) (d : Node)
+    (whole : List ℕ) → s ≡ r → i < length ns → flat_map (node_bytes r pool) ns ≡ whole →
+    whole ≡ [] → length (node_bytes s pool (get_or ns i d)) ≡ 0
 no_own r s pool ns i d whole same h all nil =
     let f = node_bytes r pool in
     let x = within f ns i d h in
     let done = flat_map f (take i ns) in
     let own = f (get_or ns i d) in
-    let short : length own ≡ 0 = omega (arith, ap length (sym x.1 ∙ all ∙ nil), length-append done (own ++ x.0), length-append own x.0) in
+    let short : length own ≡ 0 =
+        omega (arith, ap length (sym x.1 ∙ all ∙ nil), length-append done (own ++ x.0),
+        length-append own x.0) in
     rw same short

@@ -7,11 +7,13 @@ use Rattle.value_core.specs.Built.{Built, Pieces}
 use Rattle.value_core.specs.Refusals.{while_closed, wanted_from, wanted_of}
 use Rattle.value_core.specs.Walked.{next_of}
 
-closed_by : (text : Option Pieces) (f g : Form) → while_closed text f ≡ Ok g → (f ≡ g) × (text ≡ None)
+closed_by : (text : Option Pieces) (f g : Form) → while_closed text f ≡ Ok g → (f ≡ g)
+    × (text ≡ None)
 closed_by None f g e = (cc, refl)
 closed_by (Some t) f g e = absurd cc
 
-by_next : (text : Option Pieces) (n : Next) (g : Form) → wanted_from text n ≡ Ok g → (n ≡ next.Wants g) × (text ≡ None)
+by_next : (text : Option Pieces) (n : Next) (g : Form) → wanted_from text n ≡ Ok g →
+    (n ≡ next.Wants g) × (text ≡ None)
 by_next text next.Finished g e = absurd cc
 by_next text (next.Stop r) g e = absurd cc
 by_next text (next.Wants f) g e = let h = closed_by text f g e in (ap next.Wants h.0, h.1)

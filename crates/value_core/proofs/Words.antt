@@ -1,5 +1,8 @@
 -- Words of sixteen bytes, and the integers that they stand for.
-use Rattle.std.proofs.Common.{◌≡◌, ℕ, ◌+◌, ◌-◌, ◌<◌, ◌^◌, ℤ, List, ◌++◌, length, take, drop, ◌*◌, pos, negsuc, suc, false, refl, slice_range, ap, sym, ◌∙◌, arith}
+use Rattle.std.proofs.Common.{
+    ◌≡◌, ℕ, ◌+◌, ◌-◌, ◌<◌, ◌^◌, ℤ, List, ◌++◌, length, take, drop, ◌*◌, pos, negsuc, suc, false,
+    refl, slice_range, ap, sym, ◌∙◌, arith
+}
 use Rattle.std.proofs.Math.Facts.{Fits-of_z}
 use Rattle.std.proofs.Math.Seq.{drop-append_seam}
 use Rattle.std.proofs.lemmas.Bool.{lt-ltb, le-ltb}
@@ -13,20 +16,28 @@ use Rattle.scale_core.proofs.Fronts.{to_le_bytes_16, from_le_bytes-number}
 use Rattle.scale_core.proofs.Numbers.{length-le_bytes, number-le_bytes}
 
 pub word_back : (n : ℕ) → n < 2 ^ 128 → from_le_bytes w128 (to_le_bytes w128 n) ≡ n
-word_back n h = from_le_bytes-number w128 (to_le_bytes w128 n) (ap length (to_le_bytes_16 n) ∙ length-le_bytes 16 n) ∙ ap number (to_le_bytes_16 n) ∙ number-le_bytes 16 n (omega (arith, h))
+word_back n h = from_le_bytes-number w128 (to_le_bytes w128 n)
+    (ap length (to_le_bytes_16 n) ∙ length-le_bytes 16 n) ∙ ap number (to_le_bytes_16 n)
+    ∙ number-le_bytes 16 n (omega (arith, h))
 
 signed_same : (z : ℤ) → FitsSigned w128 z → signed_from (cast_unsigned w128 z) ≡ z
 signed_same (pos m) h = rw (lt-ltb (2 * m) (2 ^ 128) (omega (arith, h))) refl
 signed_same (negsuc m) h =
-    let high : ltb (2 * (2 ^ 128 - suc m)) (2 ^ 128) ≡ false = le-ltb (2 * (2 ^ 128 - suc m)) (2 ^ 128) (omega (arith, h)) in
+    let high : ltb (2 * (2 ^ 128 - suc m)) (2 ^ 128) ≡ false =
+        le-ltb (2 * (2 ^ 128 - suc m)) (2 ^ 128) (omega (arith, h)) in
     let back : 2 ^ 128 - (2 ^ 128 - suc m) ≡ suc m = omega (arith, h) in
     rw (high, back) refl
 
-pub signed_back : (z : ℤ) (n : ℕ) → FitsSigned w128 z → n ≡ cast_unsigned w128 z → signed_from (from_le_bytes w128 (to_le_bytes w128 n)) ≡ z
+pub signed_back : (z : ℤ) (n : ℕ) → FitsSigned w128 z → n ≡ cast_unsigned w128 z →
+    signed_from (from_le_bytes w128 (to_le_bytes w128 n)) ≡ z
 signed_back z n h e = ap signed_from (word_back n (rw e (Fits-of_z h).fits) ∙ e) ∙ signed_same z h
 
 -- a range of a list that begins where another ends
-pub slice-append : (pool more : List ℕ) (start len : ℕ) → length pool ≡ start → length more ≡ len → slice_range (pool ++ more) start (start + len) ≡ more
+pub slice-append : (pool more : List ℕ) (start len : ℕ) → length pool ≡ start → length more ≡ len →
+    slice_range (pool ++ more) start (start + len) ≡ more
 slice-append pool more start len e f =
     let long : start + len - start ≡ length more = omega (arith, f) in
-    ap (λ (k : ℕ). take k (drop start (pool ++ more))) long ∙ ap (λ (k : ℕ). take (length more) (drop k (pool ++ more))) (sym e) ∙ ap (take (length more)) (drop-append_seam pool more) ∙ take_all (length more) more (omega arith)
+    ap (λ (k : ℕ). take k (drop start (pool ++ more))) long
+        ∙ ap (λ (k : ℕ). take (length more) (drop k (pool ++ more))) (sym e)
+        ∙ ap (take (length more)) (drop-append_seam pool more)
+        ∙ take_all (length more) more (omega arith)

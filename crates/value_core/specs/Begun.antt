@@ -1,10 +1,15 @@
 -- What a builder holds: a begun tree, and what its walk says of it.
-use Rattle.std.specs.Prelude.{◌≡◌, ℕ, ◌+◌, ◌-◌, nat_lt, if◌then◌else◌, List, length, map, flat_map, Option, Some, None, option_map}
+use Rattle.std.specs.Prelude.{
+    ◌≡◌, ℕ, ◌+◌, ◌-◌, nat_lt, if◌then◌else◌, List, length, map, flat_map, Option, Some, None,
+    option_map
+}
 use Rattle.scale_core.specs.Number.{AreBytes}
 use Rattle.registry_core.specs.declared.type_info.TypeInfo.{TypeInfo}
 use Rattle.graph_core.specs.Types.{shape}
 use Rattle.grammar_core.specs.Spelled.{own_bytes}
-use Rattle.grammar_core.specs.Begun.{Begun, Grows, IsBegunPreorder, begun_nodes, begun_text_bytes, begun_depth, is_whole_tree}
+use Rattle.grammar_core.specs.Begun.{
+    Begun, Grows, IsBegunPreorder, begun_nodes, begun_text_bytes, begun_depth, is_whole_tree
+}
 use Rattle.grammar_core.specs.Forms.{next_at}
 use Rattle.grammar_core.specs.declared.form.StopReason.TheVariants as stop
 use Rattle.grammar_core.specs.declared.form.Next.{Next}
@@ -26,13 +31,16 @@ next_in r (Some n) = if nat_lt 0 n.0 then next_at r n.1 else next.Stop stop.TooD
 abbrev pub built_bytes : Built → List ℕ
 built_bytes b = flat_map (λ e. own_bytes (shape b.walk.types e.ty) e.head) b.entries
 
--- the nodes are those of a begun tree of the type, and so are their bytes; its levels fit the depth limit; its first missing
--- type is the walk's next one, at its depth; it is a value exactly where the builder is whole; and its loop turned no more often
+-- the nodes are those of a begun tree of the type, and so are their bytes; its levels fit the depth
+-- limit; its first missing
+-- type is the walk's next one, at its depth; it is a value exactly where the builder is whole; and
+-- its loop turned no more often
 -- than there were nodes to close
 pub record IsBegun (b : Built) : Type 0 where
   pub tree : Begun
   pub are_bytes : AreBytes (built_bytes b)
-  pub grows : Grows b.walk.types (b.walk.limit + 1) b.ty tree (built_bytes b) (next_with_room b.walk)
+  pub grows : Grows b.walk.types (b.walk.limit + 1) b.ty tree (built_bytes b)
+      (next_with_room b.walk)
   pub shows : IsBegunPreorder tree (map (λ e. e.head) b.entries)
   pub nodes : length b.entries ≡ begun_nodes tree
   pub text_bytes : entries_text_bytes b.entries ≡ begun_text_bytes tree

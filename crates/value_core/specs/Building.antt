@@ -1,5 +1,7 @@
 -- What a builder keeps to: its nodes are those of a value that is being built.
-use Rattle.std.specs.Prelude.{◌≡◌, ℕ, ◌+◌, ◌≤◌, ◌<◌, ◌^◌, List, length, drop, Option, Some, None, option_map}
+use Rattle.std.specs.Prelude.{
+    ◌≡◌, ℕ, ◌+◌, ◌≤◌, ◌<◌, ◌^◌, List, length, drop, Option, Some, None, option_map
+}
 use Rattle.scale_core.specs.Number.{AreBytes}
 use Rattle.value_core.specs.Built.{Pieces, entries_shown, entries_text_bytes, settled_walk}
 use Rattle.value_core.specs.Shown.{cells_shown, AreInPool}
@@ -11,7 +13,8 @@ use Rattle.grammar_core.specs.declared.form.Next.TheVariants as next
 use Rattle.value_core.specs.declared.node.Node.{Node}
 use Rattle.value_core.specs.declared.open_text.OpenText.{OpenText}
 
-pub record IsBuilding (ty : ℕ) (w : Walked) (pool : List ℕ) (ns : List Node) (text_len : ℕ) : Type 0 where
+pub record IsBuilding (ty : ℕ) (w : Walked) (pool : List ℕ) (ns : List Node) (text_len : ℕ) : Type 0
+    where
   pub room : ℕ
   pub level : room + length w.frames ≡ w.limit + 2
   pub own : List ℕ
@@ -27,14 +30,17 @@ abbrev pub AreBuilt : Walked → List Node → Type 0
 AreBuilt w ns = (ty : ℕ) × (pool : List ℕ) × (text_len : ℕ) × IsBuilding ty w pool ns text_len
 
 -- open nodes that are whole were closed: some of them, or all, or none
-pub record Settles (old : Walked) (before : List Node) (new : Walked) (after : List Node) : Type 0 where
+pub record Settles (old : Walked) (before : List Node) (new : Walked) (after : List Node) : Type 0
+    where
   pub walk : settled_walk new ≡ settled_walk old
   pub entries : (pool : List ℕ) → entries_shown pool after ≡ entries_shown pool before
-  pub builds : (ty : ℕ) (pool : List ℕ) (text_len : ℕ) → IsBuilding ty old pool before text_len → IsBuilding ty new pool after text_len
+  pub builds : (ty : ℕ) (pool : List ℕ) (text_len : ℕ) → IsBuilding ty old pool before text_len →
+      IsBuilding ty new pool after text_len
 
 -- an open text is what the pool has from its place on
 abbrev pub pieces_shown : List ℕ → Option OpenText → Option Pieces
-pieces_shown pool open_text = option_map (λ o. record { len = o.len; bytes = drop o.start pool }) open_text
+pieces_shown pool open_text =
+    option_map (λ o. record { len = o.len; bytes = drop o.start pool }) open_text
 
 -- it is next, has no more bytes than it is to have, and lies behind all other texts
 pub record IsOpenAt (w : Walked) (pool : List ℕ) (text_len start len : ℕ) : Type 0 where
@@ -49,6 +55,7 @@ abbrev pub IsOpenText : Walked → List ℕ → ℕ → Option OpenText → Type
 IsOpenText w pool text_len (Some o) = IsOpenAt w pool text_len o.start o.len
 IsOpenText w pool text_len None = Unit {0}
 
--- each turn of the closing loop closed a node that had been opened, so there are no more than nodes, less those still open
+-- each turn of the closing loop closed a node that had been opened, so there are no more than
+-- nodes, less those still open
 abbrev pub IsPaid : Walked → List Node → ℕ → Type 0
 IsPaid w ns turns = turns + length w.frames ≤ length ns + 1

@@ -1,5 +1,7 @@
 -- What contracts see of a value that is being built, and what adding a node makes of it.
-use Rattle.std.specs.Prelude.{◌≡◌, ℕ, ◌+◌, ◌-◌, ◌≤◌, List, [], ◌∷◌, ◌++◌, length, map, Option, Some, None, option_map, true}
+use Rattle.std.specs.Prelude.{
+    ◌≡◌, ℕ, ◌+◌, ◌-◌, ◌≤◌, List, [], ◌∷◌, ◌++◌, length, map, Option, Some, None, option_map, true
+}
 use Rattle.scale_core.specs.Number.{AreBytes}
 use Rattle.registry_core.specs.declared.definition.Arm.{Arm}
 use Rattle.graph_core.specs.Types.{field_types}
@@ -29,7 +31,8 @@ pub record Pieces : Type 0 where
   pub len : ℕ
   pub bytes : List ℕ
 
--- a value of type ty that is being built: the walk through it, the nodes that it has, each before its children, the text
+-- a value of type ty that is being built: the walk through it, the nodes that it has, each before
+-- its children, the text
 -- that is open, and how many turns the loop of its calls has taken, which closes nodes
 pub record Built : Type 0 where
   pub ty : ℕ
@@ -54,7 +57,8 @@ entries_text_bytes (e ∷ es) = head_text_bytes e.head + entries_text_bytes es
 abbrev pub settled_in : List OpenPart → List OpenPart
 settled_in [] = []
 settled_in (f ∷ []) = f ∷ []
-settled_in (f ∷ g ∷ fs) = elim (first_of f.left) [ Some t ↦ f ∷ g ∷ fs | None ↦ settled_in (g ∷ fs) ]
+settled_in (f ∷ g ∷ fs) =
+    elim (first_of f.left) [ Some t ↦ f ∷ g ∷ fs | None ↦ settled_in (g ∷ fs) ]
 
 abbrev pub settled_walk : Walked → Walked
 settled_walk w = record { types = w.types; limit = w.limit; frames = settled_in w.frames }
@@ -77,7 +81,8 @@ settled b = record {
   turns = b.turns + closings b.walk.frames;
 }
 
--- each turn closed a node, and each node is open still, was closed in one turn, or never had parts to wait for
+-- each turn closed a node, and each node is open still, was closed in one turn, or never had parts
+-- to wait for
 abbrev pub HasFewTurns : Built → Type 0
 HasFewTurns b = b.turns + (length b.walk.frames - 1) ≤ length b.entries
 
@@ -91,11 +96,14 @@ next_entry b h = record { ty = type_or_0 (next_type b.walk); head = h }
 
 -- the value with a node without children, which is next
 abbrev pub with_leaf : Built → Head → Built
-with_leaf b h = settled (record b { walk = advanced b.walk; entries = b.entries ++ next_entry b h ∷ [] })
+with_leaf b h = settled (record b { walk = advanced b.walk; entries =
+    b.entries ++ next_entry b h ∷ [] })
 
 -- the value with a node whose children come next
 abbrev pub with_open : Built → Head → Part → Built
-with_open b h p = settled (record b { walk = opened (advanced b.walk) (length b.entries) p; entries = b.entries ++ next_entry b h ∷ [] })
+with_open b h p = settled
+    (record b { walk = opened (advanced b.walk) (length b.entries) p; entries =
+    b.entries ++ next_entry b h ∷ [] })
 
 -- a node that has no children
 abbrev pub IsLeaf : Head → Type 0
@@ -130,7 +138,8 @@ abbrev pub next_layout : Built → Layout
 next_layout b = layout b.walk.types (type_or_0 (next_type b.walk))
 
 abbrev pub with_fields : Built → Built
-with_fields b = let p = fields_part (next_layout b) in with_open b (head.branch tree.fields (how_many_left p)) p
+with_fields b = let p = fields_part (next_layout b) in
+    with_open b (head.branch tree.fields (how_many_left p)) p
 
 -- the first arm of the index, in a layout that has arms
 abbrev pub arm_in : Layout → ℕ → Option (ℕ × Arm)
@@ -138,7 +147,8 @@ arm_in (layout.arms arms) index = arm_of arms index
 arm_in _ index = None
 
 abbrev pub with_found : Built → Option (ℕ × Arm) → Built
-with_found b (Some found) = let p = each (field_types found.1.fields) in with_open b (head.branch (tree.arm found.0) (how_many_left p)) p
+with_found b (Some found) = let p = each (field_types found.1.fields) in
+    with_open b (head.branch (tree.arm found.0) (how_many_left p)) p
 with_found b None = b
 
 abbrev pub with_arm : Built → ℕ → Built
@@ -157,11 +167,13 @@ abbrev pub with_text_opened : Built → ℕ → Built
 with_text_opened b len = record b { text = Some (record { len = len; bytes = [] }) }
 
 abbrev pub with_piece : Built → List ℕ → Built
-with_piece b piece = record b { text = option_map (λ t. record { len = t.len; bytes = t.bytes ++ piece }) b.text }
+with_piece b piece = record b { text =
+    option_map (λ t. record { len = t.len; bytes = t.bytes ++ piece }) b.text }
 
 -- the text that came is the next node
 abbrev pub with_text_ended : Built → Built
-with_text_ended b = with_leaf (record b { text = None }) (head.leaf (tree.text (pieces_bytes b.text)))
+with_text_ended b = with_leaf (record b { text = None })
+    (head.leaf (tree.text (pieces_bytes b.text)))
 
 -- the bytes of all texts, those of the open one too
 abbrev pub built_text_bytes : Built → ℕ
@@ -169,4 +181,5 @@ built_text_bytes b = entries_text_bytes b.entries + length (pieces_bytes b.text)
 
 -- the value that is handed out
 abbrev pub finished : Built → Seen
-finished b = record { types = b.walk.types; ty = b.ty; tree = tree_of (map (λ e. e.head) b.entries) }
+finished b = record { types = b.walk.types; ty = b.ty; tree =
+    tree_of (map (λ e. e.head) b.entries) }

@@ -32,4 +32,5 @@ pool_bytes pool _ = []
 
 -- these bytes, and those in the pool behind them, are the node's
 abbrev pub Starts : List ℕ → Option TypeDef → Content → Type 0
-Starts front d content = (pool : List ℕ) → IsInPool pool content → front ++ pool_bytes pool content ≡ own_bytes d (head_shown pool content)
+Starts front d content = (pool : List ℕ) → IsInPool pool content →
+    front ++ pool_bytes pool content ≡ own_bytes d (head_shown pool content)

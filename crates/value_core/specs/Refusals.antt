@@ -1,5 +1,8 @@
 -- Which call a builder refuses, and with what: the first reason that applies.
-use Rattle.std.specs.Prelude.{◌≡◌, ℕ, ◌-◌, ◌/◌, ◌^◌, ℤ, pos, negsuc, List, [], ◌∷◌, length, Bool, true, false, Option, Some, None, Result, Ok, Err, nat_lt, ◌==◌, not, is_none, if◌then◌else◌}
+use Rattle.std.specs.Prelude.{
+    ◌≡◌, ℕ, ◌-◌, ◌/◌, ◌^◌, ℤ, pos, negsuc, List, [], ◌∷◌, length, Bool, true, false, Option, Some,
+    None, Result, Ok, Err, nat_lt, ◌==◌, not, is_none, if◌then◌else◌
+}
 use Rattle.std.specs.Str.{is_utf8}
 use Rattle.std.specs.Str.Lossy.{utf8_valid_len}
 use Rattle.scale_core.specs.Compact.{target_bytes}
@@ -178,7 +181,8 @@ abbrev pub missing_of : Built → Result ℕ BuildFault
 missing_of b = missing_at b.text (next_of b.walk)
 
 abbrev pub judged_piece : Built → List ℕ → Option BuildFault
-judged_piece b piece = elim (missing_of b) [ Ok n ↦ in_range (not (nat_lt n (length piece))) | Err e ↦ Some e ]
+judged_piece b piece = elim (missing_of b)
+    [ Ok n ↦ in_range (not (nat_lt n (length piece))) | Err e ↦ Some e ]
 
 -- bytes that are no text
 abbrev pub text_fault : List ℕ → Option BuildFault
@@ -186,9 +190,12 @@ text_fault s = if is_utf8 s then None else Some (fault.BadText (utf8_valid_len s
 
 -- bytes that are missing first, and then bytes that are no text
 abbrev pub judged_end : Built → Option BuildFault
-judged_end b = elim (missing_of b) [ Ok n ↦ if nat_lt 0 n then Some fault.UnfinishedValue else text_fault (pieces_bytes b.text) | Err e ↦ Some e ]
+judged_end b = elim (missing_of b)
+    [ Ok n ↦ if nat_lt 0 n then Some fault.UnfinishedValue else text_fault (pieces_bytes b.text)
+    | Err e ↦ Some e ]
 
--- where no refusal applies the value is the one with the node, unless memory is refused; and after a refusal it is as it was
+-- where no refusal applies the value is the one with the node, unless memory is refused; and after
+-- a refusal it is as it was
 abbrev pub Adds : Option BuildFault → Built → Built → Built → Result (Unit {0}) BuildFault → Type 0
 Adds None with old new (Ok _) = new ≡ with
 Adds None with old new (Err e) = (e ≡ fault.OutOfMemory) × (new ≡ old)
@@ -197,7 +204,9 @@ Adds (Some f) with old new (Err e) = (e ≡ f) × (new ≡ old)
 
 -- a builder of a type: an id that is no position first, and then a depth limit above 1024
 abbrev pub opening_fault : List TypeInfo → ℕ → ℕ → Option BuildFault
-opening_fault types ty depth = if not (nat_lt ty (length types)) then Some fault.UnknownType else in_range (not (nat_lt 1024 depth))
+opening_fault types ty depth =
+    if not (nat_lt ty (length types)) then Some fault.UnknownType else in_range
+    (not (nat_lt 1024 depth))
 
 abbrev pub Opens : Option BuildFault → Built → Result Built BuildFault → Type 0
 Opens None first (Ok b) = b ≡ first

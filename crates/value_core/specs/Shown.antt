@@ -1,5 +1,8 @@
 -- What contracts see of a value: its registry, its type and its tree.
-use Rattle.std.specs.Prelude.{◌≡◌, ℕ, zero, suc, ℤ, pos, neg_ℤ, ◌+◌, ◌-◌, ◌*◌, ◌^◌, ◌≤◌, nat_lt, List, [], ◌∷◌, length, map, take, drop, slice_range, if◌then◌else◌, Option, Some, None}
+use Rattle.std.specs.Prelude.{
+    ◌≡◌, ℕ, zero, suc, ℤ, pos, neg_ℤ, ◌+◌, ◌-◌, ◌*◌, ◌^◌, ◌≤◌, nat_lt, List, [], ◌∷◌, length, map,
+    take, drop, slice_range, if◌then◌else◌, Option, Some, None
+}
 use Rattle.std.specs.List.{AllByRecursion}
 use Rattle.std.specs.Int.{w128, from_le_bytes}
 use Rattle.scale_core.specs.Number.{AreBytes}
@@ -29,7 +32,8 @@ IsValue s = (b : List ℕ) × AreBytes b × Val s.types s.ty s.tree b
 -- values of these types, one behind the other
 abbrev pub seen_parts : List TypeInfo → Part → Trees → List Seen
 seen_parts r p none = []
-seen_parts r p (and v vs) = record { types = r; ty = child_type p; tree = v } ∷ seen_parts r (left_after p) vs
+seen_parts r p (and v vs) =
+    record { types = r; ty = child_type p; tree = v } ∷ seen_parts r (left_after p) vs
 
 -- the children of a value of type t
 abbrev pub children_by : List TypeInfo → ℕ → Tree → List Seen
@@ -100,7 +104,8 @@ pub record IsWhole (types : List TypeInfo) (pool : List ℕ) (ns : List Node) : 
 abbrev pub forest : List TypeInfo → List ℕ → ℕ → List Node → List Seen
 forest types pool zero ns = []
 forest types pool (suc k) [] = []
-forest types pool (suc k) (n ∷ ns) = seen types pool (take n.size (n ∷ ns)) ∷ forest types pool k (drop n.size (n ∷ ns))
+forest types pool (suc k) (n ∷ ns) =
+    seen types pool (take n.size (n ∷ ns)) ∷ forest types pool k (drop n.size (n ∷ ns))
 
 abbrev pub all_seen : List TypeInfo → List ℕ → List Node → List Seen
 all_seen types pool ns = forest types pool (length ns) ns
@@ -108,7 +113,8 @@ all_seen types pool ns = forest types pool (length ns) ns
 -- values of these types
 abbrev pub AreValues : List TypeInfo → Part → Trees → Type 0
 AreValues r p none = Unit {0}
-AreValues r p (and v vs) = IsValue (record { types = r; ty = child_type p; tree = v }) × AreValues r (left_after p) vs
+AreValues r p (and v vs) = IsValue (record { types = r; ty = child_type p; tree = v })
+    × AreValues r (left_after p) vs
 
 -- the nodes are those of values one behind the other, and of nothing else
 pub record IsForest (types : List TypeInfo) (pool : List ℕ) (ns : List Node) : Type 0 where

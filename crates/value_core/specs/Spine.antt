@@ -1,4 +1,5 @@
--- The open nodes of a value that is being built, the innermost first, each with its whole children and their bytes.
+-- The open nodes of a value that is being built, the innermost first, each with its whole children
+-- and their bytes.
 use Rattle.grammar_core.specs.Cells.{part_of}
 use Rattle.std.specs.Prelude.{◌≡◌, ℕ, suc, ◌+◌, ◌≤◌, ◌⊎◌, List, [], ◌∷◌, ◌++◌, length, Some, true}
 use Rattle.scale_core.specs.Compact.{IsCompact}
@@ -35,13 +36,20 @@ abbrev pub open_cells : List TypeInfo → OpenNode → List Cell
 open_cells r o = open_cell o ∷ all_cells r (part_of (layout r o.ty) o.kind o.all) o.done
 
 abbrev pub IsFieldsOpen : List TypeInfo → ℕ → ℕ → Trees → List ℕ → Part → Type 0
-IsFieldsOpen r t n vs b p = (front back : List ℕ) × (layout r t ≡ layout.fields (front ++ back)) × (n ≡ length (front ++ back)) × (p ≡ each back) × Vals r front vs b
+IsFieldsOpen r t n vs b p = (front back : List ℕ) × (layout r t ≡ layout.fields (front ++ back))
+    × (n ≡ length (front ++ back)) × (p ≡ each back) × Vals r front vs b
 
 abbrev pub IsArmOpen : List TypeInfo → ℕ → ℕ → ℕ → Trees → List ℕ → Part → Type 0
-IsArmOpen r t q n vs b p = (arms : List Arm) × (i : ℕ) × (a : Arm) × (front back own : List ℕ) × (layout r t ≡ layout.arms arms) × (arm_of arms i ≡ Some (q, a)) × (field_types a.fields ≡ front ++ back) × (n ≡ length (front ++ back)) × (p ≡ each back) × (b ≡ i ∷ own) × Vals r front vs own
+IsArmOpen r t q n vs b p = (arms : List Arm) × (i : ℕ) × (a : Arm) × (front back own : List ℕ)
+    × (layout r t ≡ layout.arms arms) × (arm_of arms i ≡ Some (q, a))
+    × (field_types a.fields ≡ front ++ back) × (n ≡ length (front ++ back)) × (p ≡ each back)
+    × (b ≡ i ∷ own) × Vals r front vs own
 
 abbrev pub IsListOpen : List TypeInfo → ℕ → ℕ → Trees → List ℕ → Part → Type 0
-IsListOpen r t n vs b p = (u left : ℕ) × (c own : List ℕ) × (((layout r t ≡ layout.array n u) × (c ≡ [])) ⊎ ((layout r t ≡ layout.sequence u) × IsCompact target.U32 n c)) × (p ≡ times left u) × (how_many vs + left ≡ n) × (b ≡ c ++ own) × Each r u vs own
+IsListOpen r t n vs b p = (u left : ℕ) × (c own : List ℕ)
+    × (((layout r t ≡ layout.array n u) × (c ≡ []))
+    ⊎ ((layout r t ≡ layout.sequence u) × IsCompact target.U32 n c)) × (p ≡ times left u)
+    × (how_many vs + left ≡ n) × (b ≡ c ++ own) × Each r u vs own
 
 abbrev pub IsOpenAs : List TypeInfo → Branch → ℕ → ℕ → Trees → List ℕ → Part → Type 0
 IsOpenAs r tree.fields t n vs b p = IsFieldsOpen r t n vs b p
@@ -55,9 +63,17 @@ IsOpen r o p = (is_finite r o.ty ≡ true) × IsOpenAs r o.kind o.ty o.all o.don
 abbrev pub open_part : ℕ → Part → OpenPart
 open_part n p = record { node = n; left = p }
 
--- these nodes and bytes are those of a tree of type t whose open nodes are these, with these parts left, and room for so
+-- these nodes and bytes are those of a tree of type t whose open nodes are these, with these parts
+-- left, and room for so
 -- many levels at the innermost
-abbrev pub Spine : List TypeInfo → ℕ → ℕ → List OpenNode → List OpenPart → List Cell → List ℕ → Type 0
-Spine r room t [] fs cs own = ((fs ≡ open_part 0 (times 1 t) ∷ []) × (cs ≡ []) × (own ≡ [])) ⊎ ((v : Tree) × (fs ≡ open_part 0 (times 0 t) ∷ []) × (cs ≡ cells r t v) × Val r t v own × (levels v ≤ room))
-Spine r room t (o ∷ os) fs cs own = (p before : Part) × (m : ℕ) × (rest : List OpenPart) × (cs1 : List Cell) × (own1 : List ℕ) × (fs ≡ open_part (length cs1) p ∷ open_part m (left_after before) ∷ rest) × (first_of before ≡ Some o.ty)
-    × Spine r (suc room) t os (open_part m before ∷ rest) cs1 own1 × IsOpen r o p × (most_levels o.done ≤ room) × (cs ≡ cs1 ++ open_cells r o) × (own ≡ own1 ++ o.own)
+abbrev pub Spine : List TypeInfo → ℕ → ℕ → List OpenNode → List OpenPart → List Cell → List ℕ →
+    Type 0
+Spine r room t [] fs cs own = ((fs ≡ open_part 0 (times 1 t) ∷ []) × (cs ≡ []) × (own ≡ []))
+    ⊎ ((v : Tree) × (fs ≡ open_part 0 (times 0 t) ∷ []) × (cs ≡ cells r t v) × Val r t v own
+    × (levels v ≤ room))
+Spine r room t (o ∷ os) fs cs own = (p before : Part) × (m : ℕ) × (rest : List OpenPart)
+    × (cs1 : List Cell) × (own1 : List ℕ)
+    × (fs ≡ open_part (length cs1) p ∷ open_part m (left_after before) ∷ rest)
+    × (first_of before ≡ Some o.ty)
+    × Spine r (suc room) t os (open_part m before ∷ rest) cs1 own1 × IsOpen r o p
+        × (most_levels o.done ≤ room) × (cs ≡ cs1 ++ open_cells r o) × (own ≡ own1 ++ o.own)

@@ -1,5 +1,7 @@
 -- What contracts see of a walk through a value, and what is next there.
-use Rattle.std.specs.Prelude.{◌≡◌, ◌≢◌, ℕ, ◌+◌, ◌-◌, ◌≤◌, List, [], ◌∷◌, length, Option, Some, None, nat_lt, if◌then◌else◌}
+use Rattle.std.specs.Prelude.{
+    ◌≡◌, ◌≢◌, ℕ, ◌+◌, ◌-◌, ◌≤◌, List, [], ◌∷◌, length, Option, Some, None, nat_lt, if◌then◌else◌
+}
 use Rattle.registry_core.specs.declared.type_info.TypeInfo.{TypeInfo}
 use Rattle.grammar_core.specs.Parts.{Part, times, first_of, left_after}
 use Rattle.grammar_core.specs.Forms.{next_at}
@@ -12,15 +14,18 @@ pub record OpenPart : Type 0 where
   pub node : ℕ
   pub left : Part
 
--- a walk through a value of these types, down to this depth: what is open, the innermost first, and last the root's own part
+-- a walk through a value of these types, down to this depth: what is open, the innermost first, and
+-- last the root's own part
 pub record Walked : Type 0 where
   pub types : List TypeInfo
   pub limit : ℕ
   pub frames : List OpenPart
 
--- nothing is there yet, and one value of the root's type is to come; the root's own part is no node's, and stands at place 0
+-- nothing is there yet, and one value of the root's type is to come; the root's own part is no
+-- node's, and stands at place 0
 abbrev pub start_of : List TypeInfo → ℕ → ℕ → Walked
-start_of types root limit = record { types = types; limit = limit; frames = record { node = 0; left = times 1 root } ∷ [] }
+start_of types root limit =
+    record { types = types; limit = limit; frames = record { node = 0; left = times 1 root } ∷ [] }
 
 -- the root's own part is there, and no more parts than there are depths within the limit and two
 pub record IsBounded (w : Walked) : Type 0 where
@@ -48,7 +53,8 @@ depth_of w = depth_from (length w.frames) (next_type w)
 -- too deep first, then whether there is a value at all, then its form
 abbrev pub next_from : Walked → Option ℕ → Next
 next_from w None = next.Finished
-next_from w (Some t) = if nat_lt (w.limit + 1) (length w.frames) then next.Stop stop.TooDeep else next_at w.types t
+next_from w (Some t) = if nat_lt (w.limit + 1) (length w.frames) then next.Stop stop.TooDeep else
+    next_at w.types t
 
 abbrev pub next_of : Walked → Next
 next_of w = next_from w (next_type w)
@@ -63,7 +69,8 @@ advanced w = record { types = w.types; limit = w.limit; frames = advanced_in w.f
 
 -- one more node is open, with these parts to come
 abbrev pub opened : Walked → ℕ → Part → Walked
-opened w node part = record { types = w.types; limit = w.limit; frames = record { node = node; left = part } ∷ w.frames }
+opened w node part = record { types = w.types; limit = w.limit; frames =
+    record { node = node; left = part } ∷ w.frames }
 
 -- nothing is left of the innermost part, which is this node's and not the root's, and it is gone
 pub record Closes (old new : Walked) (node : ℕ) : Type 0 where

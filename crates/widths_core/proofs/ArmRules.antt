@@ -1,5 +1,8 @@
 -- The rules of the arms that were passed, and those of the arms that are left.
-use Rattle.std.proofs.Common.{◌≡◌, ℕ, ◌+◌, ◌<◌, ◌≤◌, Bool, true, false, cond, List, [], ◌∷◌, ◌++◌, length, get_or, take, drop, Option, Some, refl, sym, ap, ◌∙◌}
+use Rattle.std.proofs.Common.{
+    ◌≡◌, ℕ, ◌+◌, ◌<◌, ◌≤◌, Bool, true, false, cond, List, [], ◌∷◌, ◌++◌, length, get_or, take, drop,
+    Option, Some, refl, sym, ap, ◌∙◌
+}
 use Rattle.std.specs.Prelude.{◌==◌, ◌||◌, is_some}
 use Rattle.std.specs.List.{list_any}
 use Rattle.std.proofs.lemmas.List.{at_drop_more, at_drop_all, append_assoc, append-nil}
@@ -11,7 +14,7 @@ use Rattle.graph_core.specs.Types.{field_types}
 use Rattle.widths_core.specs.Arms.{arm_of}
 use Rattle.widths_core.specs.Rules.{Rule, rule, arm_rules, found_sized}
 use Rattle.graph_core.specs.Graphs.{IsLinked}
-use Rattle.widths_core.specs.Linking.{Adds}
+use Rattle.widths_core.specs.Linking.{AddsRules}
 use Rattle.widths_core.proofs.ArmsTo.{shadowed, counted}
 use Rattle.widths_core.proofs.Adding.{adds_none, adds_on}
 
@@ -21,44 +24,65 @@ pub record AddsArms (t i : ℕ) (arms : List Arm) (cs ds : List Counter) (a b : 
   pub seen : List ℕ
   pub marks : (j : ℕ) → list_any (λ s. s == j) seen ≡ is_some (arm_of (take i arms) j)
   pub left : arm_rules t [] arms ≡ done ++ arm_rules t seen (drop i arms)
-  pub adds : Adds done cs ds a b
+  pub adds : AddsRules done cs ds a b
 
-pub arms_none : (t : ℕ) (arms : List Arm) (cs : List Counter) (a : Graph) → IsLinked a → AddsArms t 0 arms cs cs a a
-arms_none t arms cs a h = record { done = []; seen = []; marks = λ j. refl; left = refl; adds = adds_none cs a h }
+pub arms_none : (t : ℕ) (arms : List Arm) (cs : List Counter) (a : Graph) → IsLinked a →
+    AddsArms t 0 arms cs cs a a
+arms_none t arms cs a h =
+    record { done = []; seen = []; marks = λ j. refl; left = refl; adds = adds_none cs a h }
 
-split : (t i : ℕ) (arms : List Arm) (x : Arm) (seen : List ℕ) → i < length arms → x ≡ get_or arms i x → arm_rules t seen (drop i arms) ≡ arm_rules t seen (x ∷ drop (i + 1) arms)
-split t i arms x seen lt at = at_drop_more (arm_rules t seen) arms i x lt ∙ ap (λ (y : Arm). arm_rules t seen (y ∷ drop (i + 1) arms)) (sym at)
+split : (t i : ℕ) (arms : List Arm) (x : Arm) (seen : List ℕ) → i < length arms →
+    x ≡ get_or arms i x → arm_rules t seen (drop i arms) ≡ arm_rules t seen (x ∷ drop (i + 1) arms)
+split t i arms x seen lt at = at_drop_more (arm_rules t seen) arms i x lt
+    ∙ ap (λ (y : Arm). arm_rules t seen (y ∷ drop (i + 1) arms)) (sym at)
 
-pub arms_shadowed : (t i : ℕ) (arms : List Arm) (x : Arm) (cs ds es : List Counter) (a b c : Graph) → i < length arms → x ≡ get_or arms i x → is_some (arm_of (take i arms) x.index) ≡ true → AddsArms t i arms cs ds a b → Adds (rule t kind.Idle (field_types x.fields) ∷ []) ds es b c → AddsArms t (i + 1) arms cs es a c
+pub arms_shadowed : (t i : ℕ) (arms : List Arm) (x : Arm) (cs ds es : List Counter)
+    (a b c : Graph) → i < length arms → x ≡ get_or arms i x →
+    is_some (arm_of (take i arms) x.index) ≡ true → AddsArms t i arms cs ds a b →
+    AddsRules (rule t kind.Idle (field_types x.fields) ∷ []) ds es b c →
+    AddsArms t (i + 1) arms cs es a c
 arms_shadowed t i arms x cs ds es a b c lt at has h k =
     let old : list_any (λ s. s == x.index) h.seen ≡ true = h.marks x.index ∙ has in
     let new : Rule = rule t kind.Idle (field_types x.fields) in
-    let next : arm_rules t h.seen (x ∷ drop (i + 1) arms) ≡ new ∷ arm_rules t h.seen (drop (i + 1) arms) = rw old refl in
+    let next : arm_rules t h.seen (x ∷ drop (i + 1) arms)
+        ≡ new ∷ arm_rules t h.seen (drop (i + 1) arms) = rw old refl in
     record {
       done = h.done ++ new ∷ [];
       seen = h.seen;
-      marks = λ j. h.marks j ∙ ap (λ (o : Option (ℕ × Arm)). is_some o) (sym (shadowed i j arms x lt at has));
-      left = h.left ∙ ap (λ (xs : List Rule). h.done ++ xs) (split t i arms x h.seen lt at ∙ next) ∙ sym (append_assoc h.done (new ∷ []) (arm_rules t h.seen (drop (i + 1) arms)));
+      marks = λ j. h.marks j ∙ ap (λ (o : Option (ℕ × Arm)). is_some o)
+          (sym (shadowed i j arms x lt at has));
+      left = h.left ∙ ap (λ (xs : List Rule). h.done ++ xs) (split t i arms x h.seen lt at ∙ next)
+          ∙ sym (append_assoc h.done (new ∷ []) (arm_rules t h.seen (drop (i + 1) arms)));
       adds = adds_on h.done (new ∷ []) cs ds es a b c h.adds k;
     }
 
-pub arms_counted : (t i : ℕ) (arms : List Arm) (x : Arm) (cs ds es : List Counter) (a b c : Graph) → i < length arms → x ≡ get_or arms i x → is_some (arm_of (take i arms) x.index) ≡ false → AddsArms t i arms cs ds a b → Adds (rule t (kind.Fixed found_sized) (field_types x.fields) ∷ []) ds es b c → AddsArms t (i + 1) arms cs es a c
+pub arms_counted : (t i : ℕ) (arms : List Arm) (x : Arm) (cs ds es : List Counter) (a b c : Graph) →
+    i < length arms → x ≡ get_or arms i x → is_some (arm_of (take i arms) x.index) ≡ false →
+    AddsArms t i arms cs ds a b →
+    AddsRules (rule t (kind.Fixed found_sized) (field_types x.fields) ∷ []) ds es b c →
+    AddsArms t (i + 1) arms cs es a c
 arms_counted t i arms x cs ds es a b c lt at lacks h k =
     let fresh : list_any (λ s. s == x.index) h.seen ≡ false = h.marks x.index ∙ lacks in
     let new : Rule = rule t (kind.Fixed found_sized) (field_types x.fields) in
-    let next : arm_rules t h.seen (x ∷ drop (i + 1) arms) ≡ new ∷ arm_rules t (x.index ∷ h.seen) (drop (i + 1) arms) = rw fresh refl in
+    let next : arm_rules t h.seen (x ∷ drop (i + 1) arms) ≡ new ∷ arm_rules t (x.index ∷ h.seen)
+        (drop (i + 1) arms) = rw fresh refl in
     record {
       done = h.done ++ new ∷ [];
       seen = x.index ∷ h.seen;
       marks = λ j. rw (counted i j arms x lt at lacks) (mark j (x.index == j) (h.marks j));
-      left = h.left ∙ ap (λ (xs : List Rule). h.done ++ xs) (split t i arms x h.seen lt at ∙ next) ∙ sym (append_assoc h.done (new ∷ []) (arm_rules t (x.index ∷ h.seen) (drop (i + 1) arms)));
+      left = h.left ∙ ap (λ (xs : List Rule). h.done ++ xs) (split t i arms x h.seen lt at ∙ next)
+          ∙ sym (append_assoc h.done (new ∷ [])
+          (arm_rules t (x.index ∷ h.seen) (drop (i + 1) arms)));
       adds = adds_on h.done (new ∷ []) cs ds es a b c h.adds k;
     } where
-      mark : (j : ℕ) (q : Bool) → list_any (λ s. s == j) h.seen ≡ is_some (arm_of (take i arms) j) → (q || list_any (λ s. s == j) h.seen) ≡ is_some (cond q (Some (i, x)) (arm_of (take i arms) j))
+      mark : (j : ℕ) (q : Bool) → list_any (λ s. s == j) h.seen ≡ is_some (arm_of (take i arms) j) →
+          (q || list_any (λ s. s == j) h.seen)
+          ≡ is_some (cond q (Some (i, x)) (arm_of (take i arms) j))
       mark j true e = refl
       mark j false e = e
 
-pub arms_all : (t i : ℕ) (arms : List Arm) (cs ds : List Counter) (a b : Graph) → length arms ≤ i → AddsArms t i arms cs ds a b → Adds (arm_rules t [] arms) cs ds a b
+pub arms_all : (t i : ℕ) (arms : List Arm) (cs ds : List Counter) (a b : Graph) → length arms ≤ i →
+    AddsArms t i arms cs ds a b → AddsRules (arm_rules t [] arms) cs ds a b
 arms_all t i arms cs ds a b le h =
     let none : arm_rules t h.seen (drop i arms) ≡ [] = at_drop_all (arm_rules t h.seen) arms i le in
     rw (h.left, none, append-nil h.done) h.adds

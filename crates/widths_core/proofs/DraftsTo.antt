@@ -1,5 +1,8 @@
 -- The drafts of the types that were passed.
-use Rattle.std.proofs.Common.{◌≡◌, ℕ, zero, suc, ◌+◌, ◌<◌, ◌≤◌, List, [], ◌∷◌, ◌++◌, length, Some, refl, sym, ap, ◌∙◌, arith, inl, inr}
+use Rattle.std.proofs.Common.{
+    ◌≡◌, ℕ, zero, suc, ◌+◌, ◌<◌, ◌≤◌, List, [], ◌∷◌, ◌++◌, length, Some, refl, sym, ap, ◌∙◌, arith,
+    inl, inr
+}
 use Rattle.std.specs.Prelude.{slice_get}
 use Rattle.std.proofs.lemmas.Bool.{cases_lt}
 use Rattle.std.proofs.lemmas.List.{length_push}
@@ -9,7 +12,7 @@ use Rattle.registry_core.specs.declared.type_info.TypeInfo.{TypeInfo}
 use Rattle.widths_core.specs.declared.rows.Rows.{Rows}
 use Rattle.widths_core.specs.declared.step.Draft.{Draft}
 use Rattle.graph_core.specs.Types.{shape}
-use Rattle.widths_core.specs.Rows.{IsPaired, IsEmpty, Keeps}
+use Rattle.widths_core.specs.Rows.{IsPaired, HasNoRow, Keeps}
 use Rattle.widths_core.specs.Steps.{IsRow, IsDraft, AreDrafts}
 use Rattle.widths_core.proofs.Kept.{draft_kept}
 
@@ -18,7 +21,8 @@ shape_within [] i d e = absurd cc
 shape_within (x ∷ r) zero d e = omega arith
 shape_within (x ∷ r) (suc i) d e = let below = shape_within r i d e in omega (arith, below)
 
-get_left : (xs : List Draft) (y : Draft) (t : ℕ) → t < length xs → slice_get (xs ++ y ∷ []) t ≡ slice_get xs t
+get_left : (xs : List Draft) (y : Draft) (t : ℕ) → t < length xs →
+    slice_get (xs ++ y ∷ []) t ≡ slice_get xs t
 get_left [] y t lt = absurd (omega (arith, lt))
 get_left (x ∷ xs) y zero lt = refl
 get_left (x ∷ xs) y (suc t) lt = get_left xs y t (omega (arith, lt))
@@ -28,34 +32,48 @@ get_last [] y = refl
 get_last (x ∷ xs) y = get_last xs y
 
 -- the first i types have their drafts
-pub record DraftsTo (r : List TypeInfo) (refs : List ℕ) (rows : Rows) (i : ℕ) (drafts : List Draft) : Type 0 where
+pub record DraftsTo (r : List TypeInfo) (refs : List ℕ) (rows : Rows) (i : ℕ)
+    (drafts : List Draft) : Type 0 where
   pub paired : IsPaired rows
   pub count : length drafts ≡ i
   pub within : i ≤ length r
-  pub own : (t : ℕ) (d : TypeDef) (s : Draft) → shape r t ≡ Some d → slice_get drafts t ≡ Some s → IsDraft refs (IsRow refs rows) d s
+  pub own : (t : ℕ) (d : TypeDef) (s : Draft) → shape r t ≡ Some d → slice_get drafts t ≡ Some s →
+      IsDraft refs (IsRow refs rows) d s
 
-pub drafts_none : (r : List TypeInfo) (refs : List ℕ) (rows : Rows) → IsEmpty rows → DraftsTo r refs rows 0 []
-drafts_none r refs rows h = record { paired = rw (h.indexes, h.arms) refl; count = refl; within = omega arith; own = λ t d s e f. absurd cc }
+pub drafts_none : (r : List TypeInfo) (refs : List ℕ) (rows : Rows) → HasNoRow rows →
+    DraftsTo r refs rows 0 []
+drafts_none r refs rows h =
+    record { paired = rw (h.indexes, h.arms) refl; count = refl; within = omega arith; own =
+    λ t d s e f. absurd cc }
 
-pub drafts_more : (r : List TypeInfo) (xs ys zs : List ℕ) (a b : Rows) (i : ℕ) (drafts : List Draft) (d : TypeDef) (s : Draft) → shape r i ≡ Some d → zs ≡ xs ++ ys → IsPaired b → Keeps a b → IsDraft zs (IsRow zs b) d s → DraftsTo r xs a i drafts → DraftsTo r zs b (i + 1) (drafts ++ s ∷ [])
+pub drafts_more : (r : List TypeInfo) (xs ys zs : List ℕ) (a b : Rows) (i : ℕ) (drafts : List Draft)
+    (d : TypeDef) (s : Draft) → shape r i ≡ Some d → zs ≡ xs ++ ys → IsPaired b → Keeps a b →
+    IsDraft zs (IsRow zs b) d s → DraftsTo r xs a i drafts →
+    DraftsTo r zs b (i + 1) (drafts ++ s ∷ [])
 drafts_more r xs ys zs a b i drafts d s e read paired k new h = record {
   paired = paired;
   count = length_push drafts s ∙ ap (λ (n : ℕ). n + 1) h.count;
   within = let below = shape_within r i d e in omega (arith, below);
   own = own;
 } where
-  own : (t : ℕ) (d' : TypeDef) (s' : Draft) → shape r t ≡ Some d' → slice_get (drafts ++ s ∷ []) t ≡ Some s' → IsDraft zs (IsRow zs b) d' s'
+  own : (t : ℕ) (d' : TypeDef) (s' : Draft) → shape r t ≡ Some d' →
+      slice_get (drafts ++ s ∷ []) t ≡ Some s' → IsDraft zs (IsRow zs b) d' s'
   own t d' s' is at = elim (cases_lt t i) [
-    | inl below ↦ rw read (draft_kept xs ys a b d' s' k (h.own t d' s' is (sym (get_left drafts s t (omega (arith, below, h.count))) ∙ at)))
+    | inl below ↦ rw read (draft_kept xs ys a b d' s' k
+        (h.own t d' s' is (sym (get_left drafts s t (omega (arith, below, h.count))) ∙ at)))
     | inr ge ↦
         let lt = slice_get_within (drafts ++ s ∷ []) t s' at in
         let same : t ≡ length drafts = omega (arith, ge, lt, length_push drafts s, h.count) in
-        let last : Some s ≡ Some s' = sym (get_last drafts s) ∙ ap (λ (n : ℕ). slice_get (drafts ++ s ∷ []) n) (sym same) ∙ at in
-        let shapes : Some d ≡ Some d' = sym e ∙ ap (λ (n : ℕ). shape r n) (sym (same ∙ h.count)) ∙ is in
+        let last : Some s ≡ Some s' = sym (get_last drafts s)
+            ∙ ap (λ (n : ℕ). slice_get (drafts ++ s ∷ []) n) (sym same) ∙ at in
+        let shapes : Some d ≡ Some d' = sym e ∙ ap (λ (n : ℕ). shape r n) (sym (same ∙ h.count))
+            ∙ is in
         let same_draft : s ≡ s' = cc in
         let def : d ≡ d' = cc in
         rw (← same_draft, ← def) new
   ]
 
-pub drafts_all : (r : List TypeInfo) (refs : List ℕ) (rows : Rows) (i : ℕ) (drafts : List Draft) → length r ≤ i → DraftsTo r refs rows i drafts → AreDrafts r refs rows drafts
-drafts_all r refs rows i drafts le h = record { paired = h.paired; count = omega (arith, h.count, h.within, le); own = h.own }
+pub drafts_all : (r : List TypeInfo) (refs : List ℕ) (rows : Rows) (i : ℕ) (drafts : List Draft) →
+    length r ≤ i → DraftsTo r refs rows i drafts → AreDrafts r refs rows drafts
+drafts_all r refs rows i drafts le h =
+    record { paired = h.paired; count = omega (arith, h.count, h.within, le); own = h.own }

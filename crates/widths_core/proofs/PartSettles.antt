@@ -1,5 +1,8 @@
 -- A counter counts a part that has settled.
-use Rattle.std.proofs.Common.{◌≡◌, ◌≢◌, ℕ, ◌+◌, ◌<◌, Bool, true, false, cond, List, [], ◌∷◌, length, refl, sym, ap, subst, ◌∙◌, ◌⊎◌, arith, inl, inr}
+use Rattle.std.proofs.Common.{
+    ◌≡◌, ◌≢◌, ℕ, ◌+◌, ◌<◌, Bool, true, false, cond, List, [], ◌∷◌, length, refl, sym, ap, subst,
+    ◌∙◌, ◌⊎◌, arith, inl, inr
+}
 use Rattle.std.specs.Prelude.{◌==◌, ◌&&◌, ◌||◌}
 use Rattle.std.specs.List.{list_any}
 use Rattle.std.proofs.lemmas.Bool.{eqb-true, eq-eqb, cases_eq}
@@ -11,25 +14,40 @@ use Rattle.widths_core.specs.Targets.{target_of}
 use Rattle.widths_core.specs.Classes.{class_of}
 use Rattle.graph_core.specs.Counts.{times}
 use Rattle.widths_core.specs.Rules.{rules, all_parts, numbers_from}
-use Rattle.widths_core.specs.Progress.{State, counter_at, no_counter, is_sized, counted, counters_set, completed, part_settled}
-use Rattle.widths_core.specs.Consistent.{rule_at, to_at, number_at, waiting, has_settled, settles, IsConsistent, IsClosed}
+use Rattle.widths_core.specs.Progress.{
+    Progress, counter_at, no_counter, is_sized, counted, counters_set, completed, part_settled
+}
+use Rattle.widths_core.specs.Consistent.{
+    rule_at, to_at, rule_number, waiting, has_settled, settles, IsConsistent, IsClosed
+}
 use Rattle.widths_core.specs.Propagation.{Follows}
 use Rattle.widths_core.proofs.Settles.{completes_to}
-use Rattle.widths_core.proofs.Waiting.{differ, times-other, waiting-propagated, numbers-length, numbers-within, parts_any}
+use Rattle.widths_core.proofs.Waiting.{
+    differ, times-other, waiting-propagated, numbers-length, numbers-within, parts_any
+}
 
-pub number-lt : (r : List TypeInfo) (e : ℕ) → e < length (all_parts (rules r)) → number_at r e < length (rules r)
+pub number-lt : (r : List TypeInfo) (e : ℕ) → e < length (all_parts (rules r)) →
+    rule_number r e < length (rules r)
 number-lt r e lt = omega (arith, (numbers-within 0 (rules r) e lt).1)
 
 -- one part fewer is left where reference e is propagated
-propagated_left : (r : List TypeInfo) (propagated : List ℕ) (e k : ℕ) → e < length (all_parts (rules r)) → times e propagated ≡ 0 → waiting 0 (numbers_from 0 (rules r)) k propagated ≡ cond (number_at r e == k) 1 0 + waiting 0 (numbers_from 0 (rules r)) k (e ∷ propagated)
+propagated_left : (r : List TypeInfo) (propagated : List ℕ) (e k : ℕ) →
+    e < length (all_parts (rules r)) → times e propagated ≡ 0 →
+    waiting 0 (numbers_from 0 (rules r)) k propagated ≡ cond (rule_number r e == k)
+    1 0 + waiting 0 (numbers_from 0 (rules r)) k (e ∷ propagated)
 propagated_left r propagated e k lt none =
     let at : 0 + e ≡ e = omega arith in
-    rw at at (waiting-propagated e 0 (numbers_from 0 (rules r)) k propagated (omega (arith, lt, numbers-length 0 (rules r))) (rw at none))
+    rw at at (waiting-propagated e 0 (numbers_from 0 (rules r)) k propagated
+        (omega (arith, lt, numbers-length 0 (rules r))) (rw at none))
 
-pub left_some : (r : List TypeInfo) (propagated : List ℕ) (s : State) (e : ℕ) → IsConsistent r propagated s → e < length (all_parts (rules r)) → times e propagated ≡ 0 → 0 < (counter_at s (number_at r e)).left
+pub left_some : (r : List TypeInfo) (propagated : List ℕ) (s : Progress) (e : ℕ) →
+    IsConsistent r propagated s → e < length (all_parts (rules r)) → times e propagated ≡ 0 →
+    0 < (counter_at s (rule_number r e)).left
 left_some r propagated s e h lt none =
-    let one : ◌≡◌ {A = ℕ} (cond (number_at r e == number_at r e) 1 0) 1 = rw (eq-eqb (number_at r e) (number_at r e) refl) refl in
-    omega (arith, h.left (number_at r e), propagated_left r propagated e (number_at r e) lt none, one)
+    let one : ◌≡◌ {A = ℕ} (cond (rule_number r e == rule_number r e) 1 0) 1 =
+        rw (eq-eqb (rule_number r e) (rule_number r e) refl) refl in
+    omega (arith, h.left (rule_number r e),
+        propagated_left r propagated e (rule_number r e) lt none, one)
 
 or_comm : (a b : Bool) → (a || b) ≡ (b || a)
 or_comm true true = refl
@@ -37,21 +55,28 @@ or_comm true false = refl
 or_comm false true = refl
 or_comm false false = refl
 
-counter_same : (s : State) (k : ℕ) (c : Counter) → k < length s.counters → counter_at (counters_set s k c) k ≡ c
+counter_same : (s : Progress) (k : ℕ) (c : Counter) → k < length s.counters →
+    counter_at (counters_set s k c) k ≡ c
 counter_same s k c lt = get_or-set_same s.counters k c no_counter lt
 
-counter_other : (s : State) (k j : ℕ) (c : Counter) → j ≢ k → counter_at (counters_set s k c) j ≡ counter_at s j
+counter_other : (s : Progress) (k j : ℕ) (c : Counter) → j ≢ k →
+    counter_at (counters_set s k c) j ≡ counter_at s j
 counter_other s k j c ne = get_or-set_other s.counters k j c no_counter ne
 
-counted_consistent : (r : List TypeInfo) (propagated : List ℕ) (s : State) (e : ℕ) (f : Found) → IsConsistent r propagated s → e < length (all_parts (rules r)) → times e propagated ≡ 0 → has_settled s (to_at r e) ≡ true → f.class ≡ class_of r (to_at r e) → IsConsistent r (e ∷ propagated) (counters_set s (number_at r e) (counted (counter_at s (number_at r e)) f.class))
+counted_consistent : (r : List TypeInfo) (propagated : List ℕ) (s : Progress) (e : ℕ) (f : Found) →
+    IsConsistent r propagated s → e < length (all_parts (rules r)) → times e propagated ≡ 0 →
+    has_settled s (to_at r e) ≡ true → f.class ≡ class_of r (to_at r e) →
+    IsConsistent r (e ∷ propagated)
+    (counters_set s (rule_number r e) (counted (counter_at s (rule_number r e)) f.class))
 counted_consistent r propagated s e f h lt none settled is = record {
   classes = h.classes;
   targets = h.targets;
-  counters = length-set s.counters (number_at r e) (counted (counter_at s (number_at r e)) f.class) ∙ h.counters;
-  owner = λ k. owner k (cases_eq k (number_at r e));
-  kind = λ k. kind k (cases_eq k (number_at r e));
-  left = λ k. left k (cases_eq k (number_at r e));
-  sized = λ k. sized k (cases_eq k (number_at r e));
+  counters = length-set s.counters (rule_number r e)
+      (counted (counter_at s (rule_number r e)) f.class) ∙ h.counters;
+  owner = λ k. owner k (cases_eq k (rule_number r e));
+  kind = λ k. kind k (cases_eq k (rule_number r e));
+  left = λ k. left k (cases_eq k (rule_number r e));
+  sized = λ k. sized k (cases_eq k (rule_number r e));
   known = λ x more. known x (cases_eq e x) more;
   part_settled = λ x more. propagated_settled x (cases_eq e x) more;
   right = h.right;
@@ -59,87 +84,153 @@ counted_consistent r propagated s e f h lt none settled is = record {
   queue = h.queue;
   room = h.room;
 } where
-  small : number_at r e < length s.counters
+  small : rule_number r e < length s.counters
   small = omega (arith, h.counters, number-lt r e lt)
 
-  owner : (k : ℕ) → (k ≡ number_at r e) ⊎ (k ≢ number_at r e) → (counter_at (counters_set s (number_at r e) (counted (counter_at s (number_at r e)) f.class)) k).owner ≡ (rule_at r k).owner
-  owner k (inl same) = rw (same, counter_same s (number_at r e) (counted (counter_at s (number_at r e)) f.class) small) (h.owner (number_at r e))
-  owner k (inr other) = rw (counter_other s (number_at r e) k (counted (counter_at s (number_at r e)) f.class) other) (h.owner k)
+  owner : (k : ℕ) → (k ≡ rule_number r e) ⊎ (k ≢ rule_number r e) →
+      (counter_at (counters_set s (rule_number r e)
+      (counted (counter_at s (rule_number r e)) f.class)) k).owner ≡ (rule_at r k).owner
+  owner k (inl same) = rw (same,
+      counter_same s (rule_number r e) (counted (counter_at s (rule_number r e)) f.class) small)
+      (h.owner (rule_number r e))
+  owner k (inr other) = rw (counter_other s (rule_number r e) k
+      (counted (counter_at s (rule_number r e)) f.class) other) (h.owner k)
 
-  kind : (k : ℕ) → (k ≡ number_at r e) ⊎ (k ≢ number_at r e) → (counter_at (counters_set s (number_at r e) (counted (counter_at s (number_at r e)) f.class)) k).kind ≡ (rule_at r k).kind
-  kind k (inl same) = rw (same, counter_same s (number_at r e) (counted (counter_at s (number_at r e)) f.class) small) (h.kind (number_at r e))
-  kind k (inr other) = rw (counter_other s (number_at r e) k (counted (counter_at s (number_at r e)) f.class) other) (h.kind k)
+  kind : (k : ℕ) → (k ≡ rule_number r e) ⊎ (k ≢ rule_number r e) →
+      (counter_at (counters_set s (rule_number r e)
+      (counted (counter_at s (rule_number r e)) f.class)) k).kind ≡ (rule_at r k).kind
+  kind k (inl same) = rw (same,
+      counter_same s (rule_number r e) (counted (counter_at s (rule_number r e)) f.class) small)
+      (h.kind (rule_number r e))
+  kind k (inr other) = rw (counter_other s (rule_number r e) k
+      (counted (counter_at s (rule_number r e)) f.class) other) (h.kind k)
 
-  left : (k : ℕ) → (k ≡ number_at r e) ⊎ (k ≢ number_at r e) → (counter_at (counters_set s (number_at r e) (counted (counter_at s (number_at r e)) f.class)) k).left ≡ waiting 0 (numbers_from 0 (rules r)) k (e ∷ propagated)
+  left : (k : ℕ) → (k ≡ rule_number r e) ⊎ (k ≢ rule_number r e) →
+      (counter_at (counters_set s (rule_number r e)
+      (counted (counter_at s (rule_number r e)) f.class)) k).left
+      ≡ waiting 0 (numbers_from 0 (rules r)) k (e ∷ propagated)
   left k (inl same) =
-      let one : ◌≡◌ {A = ℕ} (cond (number_at r e == number_at r e) 1 0) 1 = rw (eq-eqb (number_at r e) (number_at r e) refl) refl in
-      rw (same, counter_same s (number_at r e) (counted (counter_at s (number_at r e)) f.class) small) (omega (arith, h.left (number_at r e), propagated_left r propagated e (number_at r e) lt none, one))
+      let one : ◌≡◌ {A = ℕ} (cond (rule_number r e == rule_number r e) 1 0) 1 =
+          rw (eq-eqb (rule_number r e) (rule_number r e) refl) refl in
+      rw (same, counter_same s (rule_number r e) (counted (counter_at s (rule_number r e)) f.class)
+          small) (omega (arith, h.left (rule_number r e),
+          propagated_left r propagated e (rule_number r e) lt none, one))
   left k (inr other) =
-      let no : ◌≡◌ {A = ℕ} (cond (number_at r e == k) 1 0) 0 = rw (differ (number_at r e) k (λ i. other (sym i))) refl in
-      rw (counter_other s (number_at r e) k (counted (counter_at s (number_at r e)) f.class) other) (omega (arith, h.left k, propagated_left r propagated e k lt none, no))
+      let no : ◌≡◌ {A = ℕ} (cond (rule_number r e == k) 1 0) 0 =
+          rw (differ (rule_number r e) k (λ i. other (sym i))) refl in
+      rw (counter_other s (rule_number r e) k (counted (counter_at s (rule_number r e)) f.class)
+          other) (omega (arith, h.left k, propagated_left r propagated e k lt none, no))
 
-  sized : (k : ℕ) → (k ≡ number_at r e) ⊎ (k ≢ number_at r e) → (counter_at (counters_set s (number_at r e) (counted (counter_at s (number_at r e)) f.class)) k).sized ≡ list_any (λ x. (number_at r x == k) && is_sized (class_of r (to_at r x))) (e ∷ propagated)
+  sized : (k : ℕ) → (k ≡ rule_number r e) ⊎ (k ≢ rule_number r e) →
+      (counter_at (counters_set s (rule_number r e)
+      (counted (counter_at s (rule_number r e)) f.class)) k).sized
+      ≡ list_any (λ x. (rule_number r x == k) && is_sized (class_of r (to_at r x))) (e ∷ propagated)
   sized k (inl same) =
-      let P : ℕ → Type 0 = λ j. (counter_at (counters_set s (number_at r e) (counted (counter_at s (number_at r e)) f.class)) j).sized ≡ list_any (λ x. (number_at r x == j) && is_sized (class_of r (to_at r x))) (e ∷ propagated) in
-      let there : P (number_at r e) = rw (counter_same s (number_at r e) (counted (counter_at s (number_at r e)) f.class) small, eq-eqb (number_at r e) (number_at r e) refl, is, h.sized (number_at r e)) (or_comm (list_any (λ x. (number_at r x == number_at r e) && is_sized (class_of r (to_at r x))) propagated) (is_sized (class_of r (to_at r e)))) in
+      let P : ℕ → Type 0 = λ j. (counter_at
+          (counters_set s (rule_number r e) (counted (counter_at s (rule_number r e)) f.class))
+          j).sized ≡ list_any (λ x. (rule_number r x == j) && is_sized (class_of r (to_at r x)))
+          (e ∷ propagated) in
+      let there : P (rule_number r e) =
+          rw (counter_same s (rule_number r e) (counted (counter_at s (rule_number r e)) f.class)
+          small, eq-eqb (rule_number r e) (rule_number r e) refl, is, h.sized (rule_number r e))
+          (or_comm (list_any (λ x. (rule_number r x == rule_number r e) && is_sized
+          (class_of r (to_at r x))) propagated) (is_sized (class_of r (to_at r e)))) in
       subst P (sym same) there
-  sized k (inr other) = rw (counter_other s (number_at r e) k (counted (counter_at s (number_at r e)) f.class) other, differ (number_at r e) k (λ i. other (sym i))) (h.sized k)
+  sized k (inr other) = rw (counter_other s (rule_number r e) k
+      (counted (counter_at s (rule_number r e)) f.class) other,
+      differ (rule_number r e) k (λ i. other (sym i))) (h.sized k)
 
-  known : (x : ℕ) → (e ≡ x) ⊎ (e ≢ x) → 0 < times x (e ∷ propagated) → x < length (all_parts (rules r))
+  known : (x : ℕ) → (e ≡ x) ⊎ (e ≢ x) → 0 < times x (e ∷ propagated) →
+      x < length (all_parts (rules r))
   known x (inl same) more = omega (arith, lt, same)
   known x (inr other) more = h.known x (omega (arith, more, times-other x e propagated other))
 
-  propagated_settled : (x : ℕ) → (e ≡ x) ⊎ (e ≢ x) → 0 < times x (e ∷ propagated) → has_settled s (to_at r x) ≡ true
+  propagated_settled : (x : ℕ) → (e ≡ x) ⊎ (e ≢ x) → 0 < times x (e ∷ propagated) →
+      has_settled s (to_at r x) ≡ true
   propagated_settled x (inl same) more = rw same at settled
-  propagated_settled x (inr other) more = h.part_settled x (omega (arith, more, times-other x e propagated other))
+  propagated_settled x (inr other) more =
+      h.part_settled x (omega (arith, more, times-other x e propagated other))
 
 -- reference e was propagated
-pub record SettlesPart (r : List TypeInfo) (propagated : List ℕ) (e : ℕ) (s n : State) : Type 0 where
+pub record SettlesPart (r : List TypeInfo) (propagated : List ℕ) (e : ℕ) (s n : Progress) : Type 0
+    where
   pub consistent : IsConsistent r (e ∷ propagated) n
   pub closed : IsClosed r n
   pub follows : Follows s n
 
 -- the one part of a rule is what each reference for it is to
-only_part : (r : List TypeInfo) (e u : ℕ) → e < length (all_parts (rules r)) → (rule_at r (number_at r e)).parts ≡ u ∷ [] → to_at r e ≡ u
+only_part : (r : List TypeInfo) (e u : ℕ) → e < length (all_parts (rules r)) →
+    (rule_at r (rule_number r e)).parts ≡ u ∷ [] → to_at r e ≡ u
 only_part r e u lt one =
-    let among : list_any (λ p. p == to_at r e) (rule_at r (number_at r e)).parts ≡ true = parts_any (λ p. p == to_at r e) 0 (rules r) e (number_at r e) lt (omega arith) (eq-eqb (to_at r e) (to_at r e) refl) in
+    let among : list_any (λ p. p == to_at r e) (rule_at r (rule_number r e)).parts ≡ true =
+        parts_any (λ p. p == to_at r e) 0 (rules r) e (rule_number r e) lt (omega arith)
+        (eq-eqb (to_at r e) (to_at r e) refl) in
     let here : ((u == to_at r e) || false) ≡ true = rw one at among in
     go (u == to_at r e) refl here where
       go : (b : Bool) → (u == to_at r e) ≡ b → (b || false) ≡ true → to_at r e ≡ u
       go true p q = sym (eqb-true u (to_at r e) p)
       go false p q = absurd cc
 
-pub settles_part : (r : List TypeInfo) (propagated : List ℕ) (s : State) (e : ℕ) (f : Found) → IsConsistent r propagated s → IsClosed r s → e < length (all_parts (rules r)) → times e propagated ≡ 0 → has_settled s (to_at r e) ≡ true → f.class ≡ class_of r (to_at r e) → f.target ≡ target_of r (to_at r e) → SettlesPart r propagated e s (part_settled s (number_at r e) f)
-settles_part r propagated s e f h closed lt none settled is target = go ((counted (counter_at s (number_at r e)) f.class).left == 0) refl where
-  st : IsConsistent r (e ∷ propagated) (counters_set s (number_at r e) (counted (counter_at s (number_at r e)) f.class))
+pub settles_part : (r : List TypeInfo) (propagated : List ℕ) (s : Progress) (e : ℕ) (f : Found) →
+    IsConsistent r propagated s → IsClosed r s → e < length (all_parts (rules r)) →
+    times e propagated ≡ 0 → has_settled s (to_at r e) ≡ true → f.class ≡ class_of r (to_at r e) →
+    f.target ≡ target_of r (to_at r e) →
+    SettlesPart r propagated e s (part_settled s (rule_number r e) f)
+settles_part r propagated s e f h closed lt none settled is target =
+    go ((counted (counter_at s (rule_number r e)) f.class).left == 0) refl where
+  st : IsConsistent r (e ∷ propagated)
+      (counters_set s (rule_number r e) (counted (counter_at s (rule_number r e)) f.class))
   st = counted_consistent r propagated s e f h lt none settled is
 
-  at : counter_at (counters_set s (number_at r e) (counted (counter_at s (number_at r e)) f.class)) (number_at r e) ≡ counted (counter_at s (number_at r e)) f.class
-  at = counter_same s (number_at r e) (counted (counter_at s (number_at r e)) f.class) (omega (arith, h.counters, number-lt r e lt))
+  at : counter_at (counters_set s (rule_number r e)
+      (counted (counter_at s (rule_number r e)) f.class)) (rule_number r e)
+      ≡ counted (counter_at s (rule_number r e)) f.class
+  at = counter_same s (rule_number r e) (counted (counter_at s (rule_number r e)) f.class)
+      (omega (arith, h.counters, number-lt r e lt))
 
-  others : (j : ℕ) → j ≢ number_at r e → settles (rule_at r j).kind ≡ true → (counter_at (counters_set s (number_at r e) (counted (counter_at s (number_at r e)) f.class)) j).left ≡ 0 → has_settled s (rule_at r j).owner ≡ true
-  others j other e' left = closed.at j e' (rw (counter_other s (number_at r e) j (counted (counter_at s (number_at r e)) f.class) other) at left)
+  others : (j : ℕ) → j ≢ rule_number r e → settles (rule_at r j).kind ≡ true →
+      (counter_at (counters_set s (rule_number r e)
+      (counted (counter_at s (rule_number r e)) f.class)) j).left ≡ 0 →
+      has_settled s (rule_at r j).owner ≡ true
+  others j other e' left =
+      closed.at j e' (rw (counter_other s (rule_number r e) j
+      (counted (counter_at s (rule_number r e)) f.class) other) at left)
 
-  go : (b : Bool) → ((counted (counter_at s (number_at r e)) f.class).left == 0) ≡ b → SettlesPart r propagated e s (cond b (completed (counters_set s (number_at r e) (counted (counter_at s (number_at r e)) f.class)) (counted (counter_at s (number_at r e)) f.class) f.target) (counters_set s (number_at r e) (counted (counter_at s (number_at r e)) f.class)))
+  go : (b : Bool) → ((counted (counter_at s (rule_number r e)) f.class).left == 0) ≡ b →
+      SettlesPart r propagated e s
+      (cond b (completed (counters_set s (rule_number r e)
+      (counted (counter_at s (rule_number r e)) f.class))
+      (counted (counter_at s (rule_number r e)) f.class) f.target)
+      (counters_set s (rule_number r e) (counted (counter_at s (rule_number r e)) f.class)))
   go true p =
-      let zero_is : (counted (counter_at s (number_at r e)) f.class).left ≡ 0 = eqb-true (counted (counter_at s (number_at r e)) f.class).left 0 p in
-      let left : (counter_at (counters_set s (number_at r e) (counted (counter_at s (number_at r e)) f.class)) (number_at r e)).left ≡ 0 = rw at zero_is in
-      let done = rw at at (completes_to r (e ∷ propagated) (counters_set s (number_at r e) (counted (counter_at s (number_at r e)) f.class)) (number_at r e) f.target st (number-lt r e lt) left (λ u one. target ∙ ap (target_of r) (only_part r e u lt one))) in
+      let zero_is : (counted (counter_at s (rule_number r e)) f.class).left ≡ 0 =
+          eqb-true (counted (counter_at s (rule_number r e)) f.class).left 0 p in
+      let left : (counter_at (counters_set s (rule_number r e)
+          (counted (counter_at s (rule_number r e)) f.class)) (rule_number r e)).left ≡ 0 =
+          rw at zero_is in
+      let done = rw at at (completes_to r (e ∷ propagated)
+          (counters_set s (rule_number r e) (counted (counter_at s (rule_number r e)) f.class))
+          (rule_number r e) f.target st (number-lt r e lt) left
+          (λ u one. target ∙ ap (target_of r) (only_part r e u lt one))) in
       record {
         consistent = done.consistent;
         closed = record {
-          at = λ j e' none'. elim (cases_eq j (number_at r e)) [
-            | inl same ↦ let e'' : settles (rule_at r (number_at r e)).kind ≡ true = rw same at e' in rw same (done.settled e'')
-            | inr other ↦ done.follows.keeps (rule_at r j).owner (others j other e' (rw done.counters at none'))
+          at = λ j e' none'. elim (cases_eq j (rule_number r e)) [
+            | inl same ↦ let e'' : settles (rule_at r (rule_number r e)).kind ≡ true =
+                rw same at e' in rw same (done.settled e'')
+            | inr other ↦ done.follows.keeps (rule_at r j).owner
+                (others j other e' (rw done.counters at none'))
           ];
         };
-        follows = record { keeps = done.follows.keeps; more = done.follows.more; settled = done.follows.settled };
+        follows = record { keeps = done.follows.keeps; more = done.follows.more; settled =
+            done.follows.settled };
       }
   go false p = record {
     consistent = st;
     closed = record {
-      at = λ j e' none'. elim (cases_eq j (number_at r e)) [
-        | inl same ↦ absurd (let zero_is = rw (same, at) at none' in let no = sym p ∙ eq-eqb (counted (counter_at s (number_at r e)) f.class).left 0 zero_is in cc)
+      at = λ j e' none'. elim (cases_eq j (rule_number r e)) [
+        | inl same ↦ absurd (let zero_is = rw (same, at) at none' in let no = sym p
+            ∙ eq-eqb (counted (counter_at s (rule_number r e)) f.class).left 0 zero_is in cc)
         | inr other ↦ others j other e' none'
       ];
     };

@@ -1,5 +1,8 @@
 -- The list of the references to a type, one by one.
-use Rattle.std.proofs.Common.{◌≡◌, ◌≢◌, ℕ, zero, suc, ◌+◌, ◌-◌, ◌<◌, ◌≤◌, Bool, true, false, cond, List, [], ◌∷◌, ◌++◌, length, get_or, take, reverse, refl, sym, ap, subst, ◌∙◌, ◌⊎◌, arith, inl, inr}
+use Rattle.std.proofs.Common.{
+    ◌≡◌, ◌≢◌, ℕ, zero, suc, ◌+◌, ◌-◌, ◌<◌, ◌≤◌, Bool, true, false, cond, List, [], ◌∷◌, ◌++◌,
+    length, get_or, take, reverse, refl, sym, ap, subst, ◌∙◌, ◌⊎◌, arith, inl, inr
+}
 use Rattle.std.specs.Prelude.{◌==◌}
 use Rattle.std.proofs.lemmas.Bool.{eq-eqb, cases_lt, cases_eq}
 use Rattle.std.proofs.lemmas.List.{take-append-le, take_more, length-append, get_or_past}
@@ -13,16 +16,19 @@ use Rattle.widths_core.specs.ClassTables.{known_class, known_target, has_value}
 use Rattle.graph_core.specs.Counts.{times}
 use Rattle.widths_core.specs.Rules.{rules, all_parts}
 use Rattle.graph_core.specs.Graphs.{refs, numbers, befores, IsLast, IsListed}
-use Rattle.widths_core.specs.Progress.{State, counter_at, part_settled, HasType}
-use Rattle.widths_core.specs.Consistent.{to_at, number_at, has_settled, IsConsistent}
-use Rattle.widths_core.specs.Propagation.{Follows, Lists, IsSteady, IsPending, Propagates, IsPropagatedTo, PropagatesAll}
+use Rattle.widths_core.specs.Progress.{Progress, counter_at, part_settled, KnowsType}
+use Rattle.widths_core.specs.Consistent.{to_at, rule_number, has_settled, IsConsistent}
+use Rattle.widths_core.specs.Propagation.{
+    Follows, Lists, IsSteady, IsPending, Propagates, IsPropagatedTo, PropagatesAll
+}
 use Rattle.widths_core.proofs.RuleRight.{rule_right}
 use Rattle.widths_core.proofs.Settles.{follows_same, follows_on}
 use Rattle.widths_core.proofs.Waiting.{differ, times-same, times-other, times-append}
 use Rattle.widths_core.proofs.PartSettles.{SettlesPart, settles_part, number-lt, left_some}
 
 -- those from the end of the list on were propagated; reference at - 1 is next, where at is not 0
-pub record PropagatesSo (r : List TypeInfo) (a b : Graph) (s n : State) (t : ℕ) (f : Found) (at : ℕ) : Type 0 where
+pub record PropagatesSo (r : List TypeInfo) (a b : Graph) (s n : Progress) (t : ℕ) (f : Found)
+    (at : ℕ) : Type 0 where
   pub steady : IsSteady r b n
   pub follows : Follows s n
   pub lists : Lists a b
@@ -31,10 +37,14 @@ pub record PropagatesSo (r : List TypeInfo) (a b : Graph) (s n : State) (t : ℕ
   pub target : f.target ≡ target_of r t
   pub within : at ≤ length (all_parts (rules r))
   pub next : (b : ℕ) → at ≡ suc b → to_at r b ≡ t
-  pub propagated : (e : ℕ) → e < length (all_parts (rules r)) → to_at r e ≡ t → at ≤ e → times e b.looks.listed.entries ≡ times e a.looks.listed.entries + 1
-  pub left : (e : ℕ) → e < length (all_parts (rules r)) → to_at r e ≡ t → e < at → times e b.looks.listed.entries ≡ 0
-  pub fresh : (e : ℕ) → e < length (all_parts (rules r)) → to_at r e ≡ t → times e a.looks.listed.entries ≡ 0
-  pub others : (e : ℕ) → to_at r e ≢ t → times e b.looks.listed.entries ≡ times e a.looks.listed.entries
+  pub propagated : (e : ℕ) → e < length (all_parts (rules r)) → to_at r e ≡ t → at ≤ e →
+      times e b.looks.listed.entries ≡ times e a.looks.listed.entries + 1
+  pub left : (e : ℕ) → e < length (all_parts (rules r)) → to_at r e ≡ t → e < at →
+      times e b.looks.listed.entries ≡ 0
+  pub fresh : (e : ℕ) → e < length (all_parts (rules r)) → to_at r e ≡ t →
+      times e a.looks.listed.entries ≡ 0
+  pub others : (e : ℕ) → to_at r e ≢ t →
+      times e b.looks.listed.entries ≡ times e a.looks.listed.entries
 
 lists_same : (a : Graph) → Lists a a
 lists_same a = record { opened = refl; read = refl }
@@ -43,20 +53,27 @@ lists_on : (a b c : Graph) → Lists a b → Lists b c → Lists a c
 lists_on a b c h k = record { opened = k.opened ∙ h.opened; read = k.read ∙ h.read }
 
 -- a type that has settled is a position
-settled-lt : (r : List TypeInfo) (propagated : List ℕ) (s : State) (t : ℕ) → IsConsistent r propagated s → has_settled s t ≡ true → t < length r
+settled-lt : (r : List TypeInfo) (propagated : List ℕ) (s : Progress) (t : ℕ) →
+    IsConsistent r propagated s → has_settled s t ≡ true → t < length r
 settled-lt r propagated s t h e = elim (cases_lt t (length r)) [
   | inl lt ↦ lt
-  | inr ge ↦ let past : known_class s.classes t ≡ class.NoValue = get_or_past s.classes t class.NoValue (omega (arith, h.classes, ge)) in absurd (let no : has_value class.NoValue ≡ true = rw past at e in cc)
+  | inr ge ↦ let past : known_class s.classes t ≡ class.NoValue =
+      get_or_past s.classes t class.NoValue (omega (arith, h.classes, ge)) in
+      absurd (let no : has_value class.NoValue ≡ true = rw past at e in cc)
 ]
 
-pub pending-lt : (r : List TypeInfo) (d : Graph) (s : State) (t : ℕ) → IsPending r d s t → t < length r
+pub pending-lt : (r : List TypeInfo) (d : Graph) (s : Progress) (t : ℕ) → IsPending r d s t →
+    t < length r
 pending-lt r d s t h = settled-lt r d.looks.listed.entries s t h.steady.consistent h.settled
 
-pub propagates_first : (r : List TypeInfo) (d : Graph) (s : State) (t : ℕ) (f : Found) (at : ℕ) → IsPending r d s t → f.class ≡ known_class s.classes t → f.target ≡ known_target s.targets t → at ≡ get_or d.newest.items t 0 → PropagatesSo r d d s s t f at
+pub propagates_first : (r : List TypeInfo) (d : Graph) (s : Progress) (t : ℕ) (f : Found) (at : ℕ) →
+    IsPending r d s t → f.class ≡ known_class s.classes t → f.target ≡ known_target s.targets t →
+    at ≡ get_or d.newest.items t 0 → PropagatesSo r d d s s t f at
 propagates_first r d s t f at h c m is =
     let ready = h.steady.ready in
     let lt : t < length d.types.now = omega (arith, pending-lt r d s t h, ap length ready.types) in
-    let last : IsLast (all_parts (rules r)) (length (all_parts (rules r))) t at = rw (is, ← ready.read) (ready.linked.newest t lt) in
+    let last : IsLast (all_parts (rules r)) (length (all_parts (rules r))) t at =
+        rw (is, ← ready.read) (ready.linked.newest t lt) in
     let right = h.steady.consistent.right t h.settled in
     record {
       steady = h.steady;
@@ -74,28 +91,30 @@ propagates_first r d s t f at h c m is =
     }
 
 -- what the next reference is
-pub record IsNext (r : List TypeInfo) (b : Graph) (n : State) (t e : ℕ) : Type 0 where
+pub record IsNext (r : List TypeInfo) (b : Graph) (n : Progress) (t e : ℕ) : Type 0 where
   pub small : e < length (all_parts (rules r))
   pub to : to_at r e ≡ t
   pub fresh : times e b.looks.listed.entries ≡ 0
   pub linked : e < length b.links.items
-  pub number : get_or (numbers b) e 0 ≡ number_at r e
-  pub counter : number_at r e < length n.counters
-  pub owner : HasType n (counter_at n (number_at r e)).owner
-  pub left : 0 < (counter_at n (number_at r e)).left
+  pub number : get_or (numbers b) e 0 ≡ rule_number r e
+  pub counter : rule_number r e < length n.counters
+  pub owner : KnowsType n (counter_at n (rule_number r e)).owner
+  pub left : 0 < (counter_at n (rule_number r e)).left
   pub before : IsLast (all_parts (rules r)) e t (get_or (befores b) e 0)
 
-pub next_is : (r : List TypeInfo) (a b : Graph) (s n : State) (t : ℕ) (f : Found) (e : ℕ) → PropagatesSo r a b s n t f (suc e) → IsNext r b n t e
+pub next_is : (r : List TypeInfo) (a b : Graph) (s n : Progress) (t : ℕ) (f : Found) (e : ℕ) →
+    PropagatesSo r a b s n t f (suc e) → IsNext r b n t e
 next_is r a b s n t f e h =
     let ready = h.steady.ready in
     let st = h.steady.consistent in
     let small : e < length (all_parts (rules r)) = omega (arith, h.within) in
     let to : to_at r e ≡ t = h.next e refl in
     let count : length (refs b) ≡ length (all_parts (rules r)) = ap length ready.read in
-    let number : number_at r e < length (rules r) = number-lt r e small in
+    let number : rule_number r e < length (rules r) = number-lt r e small in
     let fresh = h.left e small to (omega arith) in
-    let right = rule_right r (number_at r e) number in
-    let before : IsLast (refs b) e (get_or (refs b) e 0) (get_or (befores b) e 0) = ready.linked.before e (omega (arith, small, count)) in
+    let right = rule_right r (rule_number r e) number in
+    let before : IsLast (refs b) e (get_or (refs b) e 0) (get_or (befores b) e 0) =
+        ready.linked.before e (omega (arith, small, count)) in
     record {
       small = small;
       to = to;
@@ -103,15 +122,21 @@ next_is r a b s n t f e h =
       linked = omega (arith, ready.linked.links, small, count);
       number = ap (λ (xs : List ℕ). get_or xs e 0) ready.counted;
       counter = omega (arith, st.counters, number);
-      owner = (omega (arith, st.owner (number_at r e), right.owner, st.classes), omega (arith, st.owner (number_at r e), right.owner, st.targets));
+      owner = (omega (arith, st.owner (rule_number r e), right.owner, st.classes),
+          omega (arith, st.owner (rule_number r e), right.owner, st.targets));
       left = left_some r b.looks.listed.entries n e st small fresh;
       before = rw (← to, ← ready.read) before;
     }
 
-pub propagates_more : (r : List TypeInfo) (a b c : Graph) (s n m : State) (t : ℕ) (f : Found) (e to : ℕ) → PropagatesSo r a b s n t f (suc e) → IsListed b c e → m ≡ part_settled n (number_at r e) f → to ≡ get_or (befores b) e 0 → PropagatesSo r a c s m t f to
+pub propagates_more : (r : List TypeInfo) (a b c : Graph) (s n m : Progress) (t : ℕ) (f : Found)
+    (e to : ℕ) → PropagatesSo r a b s n t f (suc e) → IsListed b c e →
+    m ≡ part_settled n (rule_number r e) f → to ≡ get_or (befores b) e 0 →
+    PropagatesSo r a c s m t f to
 propagates_more r a b c s n m t f e to h listed is before =
     let it = next_is r a b s n t f e h in
-    let done : SettlesPart r b.looks.listed.entries e n m = rw is (settles_part r b.looks.listed.entries n e f h.steady.consistent h.steady.closed it.small it.fresh (rw it.to h.settled) (rw it.to h.class) (rw it.to h.target)) in
+    let done : SettlesPart r b.looks.listed.entries e n m =
+        rw is (settles_part r b.looks.listed.entries n e f h.steady.consistent h.steady.closed
+        it.small it.fresh (rw it.to h.settled) (rw it.to h.class) (rw it.to h.target)) in
     let last : IsLast (all_parts (rules r)) e t to = rw before it.before in
     let ready = h.steady.ready in
     record {
@@ -123,8 +148,10 @@ propagates_more r a b c s n m t f e to h listed is before =
             small = rw listed.read ready.linked.small;
             members = listed.members ∙ ready.linked.members ∙ sym (ap reverse listed.read);
             known = rw (listed.types, listed.read) ready.linked.known;
-            newest = λ u lt. rw (listed.read, listed.newest) (ready.linked.newest u (omega (arith, lt, ap length listed.types)));
-            before = λ x lt. rw (listed.read, listed.links) (ready.linked.before x (rw listed.read at lt));
+            newest = λ u lt. rw (listed.read, listed.newest)
+                (ready.linked.newest u (omega (arith, lt, ap length listed.types)));
+            before = λ x lt. rw (listed.read, listed.links)
+                (ready.linked.before x (rw listed.read at lt));
           };
           types = listed.types ∙ ready.types;
           read = rw listed.read ready.read;
@@ -140,41 +167,58 @@ propagates_more r a b c s n m t f e to h listed is before =
       target = h.target;
       within = omega (arith, last.within, it.small);
       next = last.found;
-      propagated = λ x small is' ge. rw listed.listed (propagated x small is' ge (cases_eq e x) (last.last x));
-      left = λ x small is' lt. rw listed.listed (times-other x e b.looks.listed.entries (omega (arith, lt, last.within)) ∙ h.left x small is' (omega (arith, lt, last.within)));
+      propagated = λ x small is' ge. rw listed.listed
+          (propagated x small is' ge (cases_eq e x) (last.last x));
+      left = λ x small is' lt. rw listed.listed
+          (times-other x e b.looks.listed.entries (omega (arith, lt, last.within))
+          ∙ h.left x small is' (omega (arith, lt, last.within)));
       fresh = h.fresh;
-      others = λ x ne. rw listed.listed (times-other x e b.looks.listed.entries (λ same. ne (ap (to_at r) (sym same) ∙ it.to)) ∙ h.others x ne);
+      others = λ x ne. rw listed.listed
+          (times-other x e b.looks.listed.entries (λ same. ne (ap (to_at r) (sym same) ∙ it.to))
+          ∙ h.others x ne);
     } where
-      propagated : (x : ℕ) → x < length (all_parts (rules r)) → to_at r x ≡ t → to ≤ x → (e ≡ x) ⊎ (e ≢ x) → (x < e → to_at r x ≡ t → x < to) → times x (e ∷ b.looks.listed.entries) ≡ times x a.looks.listed.entries + 1
-      propagated x small is' ge (inl same) last = rw same (omega (arith, times-same x b.looks.listed.entries, h.fresh x small is', h.left x small is' (omega (arith, same))))
+      propagated : (x : ℕ) → x < length (all_parts (rules r)) → to_at r x ≡ t → to ≤ x → (e ≡ x)
+          ⊎ (e ≢ x) → (x < e → to_at r x ≡ t → x < to) →
+          times x (e ∷ b.looks.listed.entries) ≡ times x a.looks.listed.entries + 1
+      propagated x small is' ge (inl same) last =
+          rw same (omega (arith, times-same x b.looks.listed.entries, h.fresh x small is',
+          h.left x small is' (omega (arith, same))))
       propagated x small is' ge (inr other) last = elim (cases_lt x e) [
         | inl lt ↦ absurd (omega (arith, last lt is', ge))
-        | inr le ↦ times-other x e b.looks.listed.entries other ∙ h.propagated x small is' (omega (arith, le, other))
+        | inr le ↦ times-other x e b.looks.listed.entries other
+            ∙ h.propagated x small is' (omega (arith, le, other))
       ]
 
-pub propagates_all_of : (r : List TypeInfo) (a b : Graph) (s n : State) (t : ℕ) (f : Found) (at : ℕ) → PropagatesSo r a b s n t f at → at ≤ 0 → Propagates r a b s n t
+pub propagates_all_of : (r : List TypeInfo) (a b : Graph) (s n : Progress) (t : ℕ) (f : Found)
+    (at : ℕ) → PropagatesSo r a b s n t f at → at ≤ 0 → Propagates r a b s n t
 propagates_all_of r a b s n t f at h none = record {
   steady = h.steady;
   follows = h.follows;
   lists = h.lists;
   propagated = λ e small. propagated e small (cases_eq (to_at r e) t);
 } where
-  propagated : (e : ℕ) → e < length (all_parts (rules r)) → (to_at r e ≡ t) ⊎ (to_at r e ≢ t) → times e b.looks.listed.entries ≡ times e a.looks.listed.entries + cond (to_at r e == t) 1 0
-  propagated e small (inl same) = rw (eq-eqb (to_at r e) t same) (h.propagated e small same (omega (arith, none)))
+  propagated : (e : ℕ) → e < length (all_parts (rules r)) → (to_at r e ≡ t) ⊎ (to_at r e ≢ t) →
+      times e b.looks.listed.entries ≡ times e a.looks.listed.entries + cond (to_at r e == t) 1 0
+  propagated e small (inl same) =
+      rw (eq-eqb (to_at r e) t same) (h.propagated e small same (omega (arith, none)))
   propagated e small (inr other) = rw (differ (to_at r e) t other) (omega (arith, h.others e other))
 
 -- ---- type by type
 
 -- the references to the first types that have settled were propagated
-pub record PropagatesSoFar (r : List TypeInfo) (a b : Graph) (s n : State) (done : ℕ) : Type 0 where
+pub record PropagatesSoFar (r : List TypeInfo) (a b : Graph) (s n : Progress) (done : ℕ) : Type 0
+    where
   pub propagated : IsPropagatedTo r b n done
   pub follows : Follows s n
   pub lists : Lists a b
 
-pub so_far_first : (r : List TypeInfo) (a : Graph) (s : State) (done : ℕ) → IsPropagatedTo r a s done → PropagatesSoFar r a a s s done
-so_far_first r a s done h = record { propagated = h; follows = follows_same s; lists = lists_same a }
+pub so_far_first : (r : List TypeInfo) (a : Graph) (s : Progress) (done : ℕ) →
+    IsPropagatedTo r a s done → PropagatesSoFar r a a s s done
+so_far_first r a s done h =
+    record { propagated = h; follows = follows_same s; lists = lists_same a }
 
-times_at : (xs : List ℕ) (i : ℕ) → i < length xs → times (get_or xs i 0) (take i xs) + 1 ≤ times (get_or xs i 0) xs
+times_at : (xs : List ℕ) (i : ℕ) → i < length xs →
+    times (get_or xs i 0) (take i xs) + 1 ≤ times (get_or xs i 0) xs
 times_at [] i lt = absurd (omega arith)
 times_at (x ∷ xs) zero lt = omega (arith, times-same x xs)
 times_at (x ∷ xs) (suc i) lt = omega (arith, times_at xs i (omega (arith, lt)))
@@ -187,7 +231,8 @@ at_most_one : (b : Bool) (n : ℕ) → n ≡ cond b 1 0 → n ≤ 1
 at_most_one true n e = omega (arith, e)
 at_most_one false n e = omega (arith, e)
 
-pub pending_is : (r : List TypeInfo) (d : Graph) (s : State) (done : ℕ) → IsPropagatedTo r d s done → done < length s.settled → IsPending r d s (get_or s.settled done 0)
+pub pending_is : (r : List TypeInfo) (d : Graph) (s : Progress) (done : ℕ) →
+    IsPropagatedTo r d s done → done < length s.settled → IsPending r d s (get_or s.settled done 0)
 pending_is r d s done h lt =
     let t = get_or s.settled done 0 in
     let more = times_at s.settled done lt in
@@ -195,13 +240,21 @@ pending_is r d s done h lt =
     record {
       steady = h.steady;
       settled = settled_if (has_settled s t) (times t s.settled) queue (omega (arith, more));
-      fresh = λ e small to. let one = at_most_one (has_settled s t) (times t s.settled) queue in h.propagated e small ∙ ap (λ (u : ℕ). times u (take done s.settled)) to ∙ omega (arith, more, one);
+      fresh = λ e small to. let one = at_most_one (has_settled s t) (times t s.settled) queue in
+          h.propagated e small ∙ ap (λ (u : ℕ). times u (take done s.settled)) to
+          ∙ omega (arith, more, one);
     }
 
-pub so_far_more : (r : List TypeInfo) (a b c : Graph) (s n m : State) (done : ℕ) → PropagatesSoFar r a b s n done → done < length n.settled → Propagates r b c n m (get_or n.settled done 0) → PropagatesSoFar r a c s m (done + 1)
+pub so_far_more : (r : List TypeInfo) (a b c : Graph) (s n m : Progress) (done : ℕ) →
+    PropagatesSoFar r a b s n done → done < length n.settled →
+    Propagates r b c n m (get_or n.settled done 0) → PropagatesSoFar r a c s m (done + 1)
 so_far_more r a b c s n m done h lt k =
-    let grown : length m.settled ≡ length n.settled + length k.follows.more = ap length k.follows.settled ∙ length-append n.settled k.follows.more in
-    let front : take (done + 1) m.settled ≡ take done n.settled ++ get_or n.settled done 0 ∷ [] = ap (take (done + 1)) k.follows.settled ∙ take-append-le (done + 1) n.settled k.follows.more (omega (arith, lt)) ∙ take_more n.settled done 0 lt in
+    let grown : length m.settled ≡ length n.settled + length k.follows.more =
+        ap length k.follows.settled ∙ length-append n.settled k.follows.more in
+    let front : take (done + 1) m.settled ≡ take done n.settled ++ get_or n.settled done 0 ∷ [] =
+        ap (take (done + 1)) k.follows.settled
+        ∙ take-append-le (done + 1) n.settled k.follows.more (omega (arith, lt))
+        ∙ take_more n.settled done 0 lt in
     record {
       propagated = record {
         steady = k.steady;
@@ -217,20 +270,35 @@ so_far_more r a b c s n m done h lt k =
         | inr other ↦ differ x y other ∙ sym (differ y x (λ is. other (sym is)))
       ]
 
-      propagated : (e : ℕ) → e < length (all_parts (rules r)) → times e c.looks.listed.entries ≡ times (to_at r e) (take done n.settled ++ get_or n.settled done 0 ∷ [])
-      propagated e small = rw (times-append (to_at r e) (take done n.settled) (get_or n.settled done 0 ∷ []), swap (get_or n.settled done 0) (to_at r e)) (omega (arith, k.propagated e small, h.propagated.propagated e small))
+      propagated : (e : ℕ) → e < length (all_parts (rules r)) →
+          times e c.looks.listed.entries ≡ times (to_at r e)
+          (take done n.settled ++ get_or n.settled done 0 ∷ [])
+      propagated e small = rw (times-append (to_at r e) (take done n.settled)
+          (get_or n.settled done 0 ∷ []), swap (get_or n.settled done 0) (to_at r e))
+          (omega (arith, k.propagated e small, h.propagated.propagated e small))
 
-pub so_far_all : (r : List TypeInfo) (a b : Graph) (s n : State) (done : ℕ) → PropagatesSoFar r a b s n done → length n.settled ≤ done → PropagatesAll r a b s n done
-so_far_all r a b s n done h le = record { propagated = h.propagated; all = omega (arith, le, h.propagated.within); follows = h.follows; lists = h.lists }
+pub so_far_all : (r : List TypeInfo) (a b : Graph) (s n : Progress) (done : ℕ) →
+    PropagatesSoFar r a b s n done → length n.settled ≤ done → PropagatesAll r a b s n done
+so_far_all r a b s n done h le =
+    record { propagated = h.propagated; all = omega (arith, le, h.propagated.within); follows =
+    h.follows; lists = h.lists }
 
 -- fewer types are left
-pub fewer : (r : List TypeInfo) (d : Graph) (s : State) (done : ℕ) → IsPropagatedTo r d s done → done < length s.settled → length r - (done + 1) < length r - done
+pub fewer : (r : List TypeInfo) (d : Graph) (s : Progress) (done : ℕ) → IsPropagatedTo r d s done →
+    done < length s.settled → length r - (done + 1) < length r - done
 fewer r d s done h lt = omega (arith, h.steady.consistent.room, lt)
 
 -- ---- at the reference before at
 
-pub next_at : (r : List TypeInfo) (a b : Graph) (s n : State) (t : ℕ) (f : Found) (at : ℕ) → PropagatesSo r a b s n t f at → 0 < at → IsNext r b n t (at - 1)
-next_at r a b s n t f at h some = let is : at ≡ suc (at - 1) = omega (arith, some) in next_is r a b s n t f (at - 1) (subst (λ (i : ℕ). PropagatesSo r a b s n t f i) is h)
+pub next_at : (r : List TypeInfo) (a b : Graph) (s n : Progress) (t : ℕ) (f : Found) (at : ℕ) →
+    PropagatesSo r a b s n t f at → 0 < at → IsNext r b n t (at - 1)
+next_at r a b s n t f at h some = let is : at ≡ suc (at - 1) = omega (arith, some) in
+    next_is r a b s n t f (at - 1) (subst (λ (i : ℕ). PropagatesSo r a b s n t f i) is h)
 
-pub propagates_at : (r : List TypeInfo) (a b c : Graph) (s n m : State) (t : ℕ) (f : Found) (at to : ℕ) → PropagatesSo r a b s n t f at → 0 < at → IsListed b c (at - 1) → m ≡ part_settled n (number_at r (at - 1)) f → to ≡ get_or (befores b) (at - 1) 0 → PropagatesSo r a c s m t f to
-propagates_at r a b c s n m t f at to h some listed is before = let i : at ≡ suc (at - 1) = omega (arith, some) in propagates_more r a b c s n m t f (at - 1) to (subst (λ (j : ℕ). PropagatesSo r a b s n t f j) i h) listed is before
+pub propagates_at : (r : List TypeInfo) (a b c : Graph) (s n m : Progress) (t : ℕ) (f : Found)
+    (at to : ℕ) → PropagatesSo r a b s n t f at → 0 < at → IsListed b c (at - 1) →
+    m ≡ part_settled n (rule_number r (at - 1)) f → to ≡ get_or (befores b) (at - 1) 0 →
+    PropagatesSo r a c s m t f to
+propagates_at r a b c s n m t f at to h some listed is before = let i : at ≡ suc (at - 1) =
+    omega (arith, some) in propagates_more r a b c s n m t f (at - 1) to
+    (subst (λ (j : ℕ). PropagatesSo r a b s n t f j) i h) listed is before

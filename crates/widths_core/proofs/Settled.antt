@@ -1,5 +1,7 @@
 -- What a step says of a class: whether there is a value, and whether one takes no bytes.
-use Rattle.std.proofs.Common.{◌≡◌, ℕ, zero, suc, Bool, true, false, cond, List, [], ◌∷◌, Option, refl, ap, ◌∙◌}
+use Rattle.std.proofs.Common.{
+    ◌≡◌, ℕ, zero, suc, Bool, true, false, cond, List, [], ◌∷◌, Option, refl, ap, ◌∙◌
+}
 use Rattle.std.specs.Prelude.{◌&&◌}
 use Rattle.std.specs.List.{list_all, list_any}
 use Rattle.scale_core.specs.declared.compact.Target.{Target}
@@ -13,7 +15,9 @@ use Rattle.graph_core.specs.Types.{ids, field_types}
 use Rattle.widths_core.specs.Arms.{live_arms}
 use Rattle.widths_core.specs.Targets.{target_of}
 use Rattle.widths_core.specs.Classes.{is_unit, finite_step, empty_step, class_from}
-use Rattle.widths_core.specs.ClassTables.{joined, class_of_parts, has_value, class_of_arms, class_step}
+use Rattle.widths_core.specs.ClassTables.{
+    joined, class_of_parts, has_value, class_of_arms, class_step
+}
 
 abbrev pub is_empty_class : Class → Bool
 is_empty_class class.NoValue = false
@@ -27,42 +31,57 @@ has_value-joined class.Sized class.NoValue = refl
 has_value-joined class.Sized class.Empty = refl
 has_value-joined class.Sized class.Sized = refl
 
-is_empty-joined : (a b : Class) → is_empty_class (joined a b) ≡ (is_empty_class a && is_empty_class b)
+is_empty-joined : (a b : Class) →
+    is_empty_class (joined a b) ≡ (is_empty_class a && is_empty_class b)
 is_empty-joined class.NoValue b = refl
 is_empty-joined class.Empty b = refl
 is_empty-joined class.Sized class.NoValue = refl
 is_empty-joined class.Sized class.Empty = refl
 is_empty-joined class.Sized class.Sized = refl
 
-pub has_value-parts : (f : ℕ → Class) (ts : List ℕ) → has_value (class_of_parts f ts) ≡ list_all (λ t. has_value (f t)) ts
+pub has_value-parts : (f : ℕ → Class) (ts : List ℕ) →
+    has_value (class_of_parts f ts) ≡ list_all (λ t. has_value (f t)) ts
 has_value-parts f [] = refl
-has_value-parts f (t ∷ ts) = has_value-joined (f t) (class_of_parts f ts) ∙ ap (λ (b : Bool). has_value (f t) && b) (has_value-parts f ts)
+has_value-parts f (t ∷ ts) = has_value-joined (f t) (class_of_parts f ts)
+    ∙ ap (λ (b : Bool). has_value (f t) && b) (has_value-parts f ts)
 
-is_empty-parts : (f : ℕ → Class) (ts : List ℕ) → is_empty_class (class_of_parts f ts) ≡ list_all (λ t. is_empty_class (f t)) ts
+is_empty-parts : (f : ℕ → Class) (ts : List ℕ) →
+    is_empty_class (class_of_parts f ts) ≡ list_all (λ t. is_empty_class (f t)) ts
 is_empty-parts f [] = refl
-is_empty-parts f (t ∷ ts) = is_empty-joined (f t) (class_of_parts f ts) ∙ ap (λ (b : Bool). is_empty_class (f t) && b) (is_empty-parts f ts)
+is_empty-parts f (t ∷ ts) = is_empty-joined (f t) (class_of_parts f ts)
+    ∙ ap (λ (b : Bool). is_empty_class (f t) && b) (is_empty-parts f ts)
 
-any_parts : (f : ℕ → Class) (arms : List Arm) → list_any (λ a. has_value (class_of_parts f (field_types a.fields))) arms ≡ list_any (λ a. list_all (λ t. has_value (f t)) (field_types a.fields)) arms
+any_parts : (f : ℕ → Class) (arms : List Arm) →
+    list_any (λ a. has_value (class_of_parts f (field_types a.fields))) arms
+    ≡ list_any (λ a. list_all (λ t. has_value (f t)) (field_types a.fields)) arms
 any_parts f [] = refl
 any_parts f (a ∷ arms) = rw (has_value-parts f (field_types a.fields), any_parts f arms) refl
 
-has_value-arms : (f : ℕ → Class) (arms : List Arm) → has_value (class_of_arms f arms) ≡ list_any (λ a. list_all (λ t. has_value (f t)) (field_types a.fields)) (live_arms [] arms)
-has_value-arms f arms = go (list_any (λ a. has_value (class_of_parts f (field_types a.fields))) (live_arms [] arms)) ∙ any_parts f (live_arms [] arms) where
+has_value-arms : (f : ℕ → Class) (arms : List Arm) →
+    has_value (class_of_arms f arms)
+    ≡ list_any (λ a. list_all (λ t. has_value (f t)) (field_types a.fields)) (live_arms [] arms)
+has_value-arms f arms = go
+    (list_any (λ a. has_value (class_of_parts f (field_types a.fields))) (live_arms [] arms))
+    ∙ any_parts f (live_arms [] arms) where
   go : (b : Bool) → has_value (cond b class.Sized class.NoValue) ≡ b
   go true = refl
   go false = refl
 
-pub is_empty-arms : (f : ℕ → Class) (arms : List Arm) → is_empty_class (class_of_arms f arms) ≡ false
-is_empty-arms f arms = go (list_any (λ a. has_value (class_of_parts f (field_types a.fields))) (live_arms [] arms)) where
+pub is_empty-arms : (f : ℕ → Class) (arms : List Arm) →
+    is_empty_class (class_of_arms f arms) ≡ false
+is_empty-arms f arms = go
+    (list_any (λ a. has_value (class_of_parts f (field_types a.fields))) (live_arms [] arms)) where
   go : (b : Bool) → is_empty_class (cond b class.Sized class.NoValue) ≡ false
   go true = refl
   go false = refl
 
-compact_class : (b : Bool) → (has_value (cond b class.Empty class.Sized) ≡ true) × (is_empty_class (cond b class.Empty class.Sized) ≡ b)
+compact_class : (b : Bool) → (has_value (cond b class.Empty class.Sized) ≡ true)
+    × (is_empty_class (cond b class.Empty class.Sized) ≡ b)
 compact_class true = (refl, refl)
 compact_class false = (refl, refl)
 
-pub has_value-step : (targets : ℕ → Option Target) (f : ℕ → Class) (d : TypeDef) → has_value (class_step targets f d) ≡ finite_step (λ t. has_value (f t)) d
+pub has_value-step : (targets : ℕ → Option Target) (f : ℕ → Class) (d : TypeDef) →
+    has_value (class_step targets f d) ≡ finite_step (λ t. has_value (f t)) d
 has_value-step targets f (Def.Composite fs) = has_value-parts f (field_types fs)
 has_value-step targets f (Def.Variant arms) = has_value-arms f arms
 has_value-step targets f (Def.Sequence t) = refl
@@ -73,7 +92,8 @@ has_value-step targets f (Def.Primitive p) = refl
 has_value-step targets f (Def.Compact t) = (compact_class (is_unit (targets t.0))).0
 has_value-step targets f (Def.BitSequence store order) = refl
 
-pub is_empty-step : (r : List TypeInfo) (f : ℕ → Class) (d : TypeDef) → is_empty_class (class_step (target_of r) f d) ≡ empty_step r (λ t. is_empty_class (f t)) d
+pub is_empty-step : (r : List TypeInfo) (f : ℕ → Class) (d : TypeDef) →
+    is_empty_class (class_step (target_of r) f d) ≡ empty_step r (λ t. is_empty_class (f t)) d
 is_empty-step r f (Def.Composite fs) = is_empty-parts f (field_types fs)
 is_empty-step r f (Def.Variant arms) = is_empty-arms f arms
 is_empty-step r f (Def.Sequence t) = refl

@@ -1,5 +1,8 @@
 -- The step that is read is that of the type, and says its class and what a compact stands for.
-use Rattle.std.proofs.Common.{◌≡◌, ℕ, zero, suc, ◌<◌, ◌≤◌, List, [], ◌∷◌, length, Option, Some, None, refl, sym, subst, ◌∙◌, arith, inl, inr}
+use Rattle.std.proofs.Common.{
+    ◌≡◌, ℕ, zero, suc, ◌<◌, ◌≤◌, List, [], ◌∷◌, length, Option, Some, None, refl, sym, subst, ◌∙◌,
+    arith, inl, inr
+}
 use Rattle.std.specs.Prelude.{slice_get}
 use Rattle.std.proofs.lemmas.Bool.{cases_lt}
 use Rattle.std.proofs.lemmas.Option.{slice_get_within}
@@ -16,7 +19,10 @@ use Rattle.widths_core.specs.declared.step.Step.TheVariants as step
 use Rattle.graph_core.specs.Types.{shape}
 use Rattle.widths_core.specs.Targets.{compact_target_of_shape, compact_target_of}
 use Rattle.widths_core.specs.Classes.{class_of}
-use Rattle.widths_core.specs.Steps.{references_of, IsRow, IsStep, IsTable, IsStepAt, by_class, sequence_step, class_of_step, compact_of_step}
+use Rattle.widths_core.specs.Steps.{
+    references_of, IsRow, IsStep, IsTable, IsStepAt, by_class, sequence_step, class_of_step,
+    compact_of_step
+}
 use Rattle.widths_core.proofs.Stable.{class_stable}
 use Rattle.widths_core.proofs.DraftsTo.{shape_within}
 
@@ -35,7 +41,9 @@ get_none [] t e = omega arith
 get_none (x ∷ xs) zero e = absurd cc
 get_none (x ∷ xs) (suc t) e = let le = get_none xs t e in omega (arith, le)
 
-weaker : (r : List TypeInfo) (refs : List ℕ) (Row : ℕ → ℕ → List Arm → Type 0) (c : Class) (d : TypeDef) (s : Step) → IsStep r refs Row c d s → IsStep r refs (λ from count arms. Unit {0}) c d s
+weaker : (r : List TypeInfo) (refs : List ℕ) (Row : ℕ → ℕ → List Arm → Type 0) (c : Class)
+    (d : TypeDef) (s : Step) → IsStep r refs Row c d s →
+    IsStep r refs (λ from count arms. Unit {0}) c d s
 weaker r refs Row c (Def.Composite fs) s h = h
 weaker r refs Row c (Def.Tuple ts) s h = h
 weaker r refs Row c (Def.Variant arms) s h = (h.0, h.1, h.2, tt)
@@ -46,13 +54,17 @@ weaker r refs Row c (Def.Compact t) s h = h
 weaker r refs Row c (Def.BitSequence store order) s h = h
 
 -- the definition of a step
-pub definition_of : (r : List TypeInfo) (refs : List ℕ) (rows : Rows) (steps : List Step) (t : ℕ) (s : Step) → IsTable r refs rows steps → slice_get steps t ≡ Some s → (d : TypeDef) × (shape r t ≡ Some d) × IsStep r (references_of r) (IsRow (references_of r) rows) (class_of r t) d s
+pub definition_of : (r : List TypeInfo) (refs : List ℕ) (rows : Rows) (steps : List Step) (t : ℕ)
+    (s : Step) → IsTable r refs rows steps → slice_get steps t ≡ Some s → (d : TypeDef)
+    × (shape r t ≡ Some d) × IsStep r (references_of r) (IsRow (references_of r) rows)
+    (class_of r t) d s
 definition_of r refs rows steps t s h e =
     let lt = slice_get_within steps t s e in
     let d = shape_some r t (omega (arith, lt, h.count)) in
     (d.0, d.1, h.own t d.0 s d.1 e)
 
-pub step_at : (r : List TypeInfo) (refs : List ℕ) (rows : Rows) (steps : List Step) (t : ℕ) → IsTable r refs rows steps → IsStepAt r t (slice_get steps t)
+pub step_at : (r : List TypeInfo) (refs : List ℕ) (rows : Rows) (steps : List Step) (t : ℕ) →
+    IsTable r refs rows steps → IsStepAt r t (slice_get steps t)
 step_at r refs rows steps t h = go (slice_get steps t) refl where
   go : (o : Option Step) → slice_get steps t ≡ o → IsStepAt r t o
   go None e =
@@ -60,11 +72,13 @@ step_at r refs rows steps t h = go (slice_get steps t) refl where
       rw (IsStepAt, shape_none r t (omega (arith, le, h.count))) refl
   go (Some s) e =
       let d = definition_of r refs rows steps t s h e in
-      rw (IsStepAt, d.1) (s, refl, weaker r (references_of r) (IsRow (references_of r) rows) (class_of r t) d.0 s d.2)
+      rw (IsStepAt, d.1) (s, refl,
+          weaker r (references_of r) (IsRow (references_of r) rows) (class_of r t) d.0 s d.2)
 
 -- ---- the class and the target of a compact
 
-class_by : (c : Class) (none sized : Step) → class_of_step none ≡ class.NoValue → class_of_step sized ≡ class.Sized → class_of_step (by_class c none sized) ≡ c
+class_by : (c : Class) (none sized : Step) → class_of_step none ≡ class.NoValue →
+    class_of_step sized ≡ class.Sized → class_of_step (by_class c none sized) ≡ c
 class_by class.NoValue none sized e f = e
 class_by class.Empty none sized e f = refl
 class_by class.Sized none sized e f = f
@@ -74,17 +88,28 @@ sized_sequence class.NoValue t = refl
 sized_sequence class.Empty t = refl
 sized_sequence class.Sized t = refl
 
-class_is : (r : List TypeInfo) (refs : List ℕ) (Row : ℕ → ℕ → List Arm → Type 0) (t : ℕ) (d : TypeDef) (s : Step) → shape r t ≡ Some d → IsStep r refs Row (class_of r t) d s → class_of_step s ≡ class_of r t
-class_is r refs Row t (Def.Composite fs) s e h = rw h.2 (class_by (class_of r t) step.NoValue (step.Parts h.0 h.1) refl refl)
-class_is r refs Row t (Def.Tuple ts) s e h = rw h.2 (class_by (class_of r t) step.NoValue (step.Parts h.0 h.1) refl refl)
-class_is r refs Row t (Def.Variant arms) s e h = rw h.2 (class_by (class_of r t) (step.NoArm h.0 h.1) (step.Arms h.0 h.1) refl refl)
-class_is r refs Row t (Def.Sequence u) s e h = rw h (class_by (class_of r t) step.NoValue (sequence_step (class_of r u.0) u.0) refl (sized_sequence (class_of r u.0) u.0))
-class_is r refs Row t (Def.Array n u) s e h = rw h (class_by (class_of r t) step.NoValue (step.Array n u.0) refl refl)
-class_is r refs Row t (Def.Primitive p) s e h = rw h (class_by (class_of r t) step.NoValue (step.Primitive p) refl refl)
+class_is : (r : List TypeInfo) (refs : List ℕ) (Row : ℕ → ℕ → List Arm → Type 0) (t : ℕ)
+    (d : TypeDef) (s : Step) → shape r t ≡ Some d → IsStep r refs Row (class_of r t) d s →
+    class_of_step s ≡ class_of r t
+class_is r refs Row t (Def.Composite fs) s e h =
+    rw h.2 (class_by (class_of r t) step.NoValue (step.Parts h.0 h.1) refl refl)
+class_is r refs Row t (Def.Tuple ts) s e h =
+    rw h.2 (class_by (class_of r t) step.NoValue (step.Parts h.0 h.1) refl refl)
+class_is r refs Row t (Def.Variant arms) s e h =
+    rw h.2 (class_by (class_of r t) (step.NoArm h.0 h.1) (step.Arms h.0 h.1) refl refl)
+class_is r refs Row t (Def.Sequence u) s e h =
+    rw h (class_by (class_of r t) step.NoValue (sequence_step (class_of r u.0) u.0) refl
+    (sized_sequence (class_of r u.0) u.0))
+class_is r refs Row t (Def.Array n u) s e h =
+    rw h (class_by (class_of r t) step.NoValue (step.Array n u.0) refl refl)
+class_is r refs Row t (Def.Primitive p) s e h =
+    rw h (class_by (class_of r t) step.NoValue (step.Primitive p) refl refl)
 class_is r refs Row t (Def.Compact u) s e h = rw h (sym (class_stable r t (Def.Compact u) e))
-class_is r refs Row t (Def.BitSequence store order) s e h = rw h (class_by (class_of r t) step.NoValue step.BitSequence refl refl)
+class_is r refs Row t (Def.BitSequence store order) s e h =
+    rw h (class_by (class_of r t) step.NoValue step.BitSequence refl refl)
 
-compact_by : (c : Class) (none sized : Step) → compact_of_step none ≡ None → compact_of_step sized ≡ None → compact_of_step (by_class c none sized) ≡ None
+compact_by : (c : Class) (none sized : Step) → compact_of_step none ≡ None →
+    compact_of_step sized ≡ None → compact_of_step (by_class c none sized) ≡ None
 compact_by class.NoValue none sized e f = e
 compact_by class.Empty none sized e f = refl
 compact_by class.Sized none sized e f = f
@@ -94,17 +119,28 @@ no_compact class.NoValue t = refl
 no_compact class.Empty t = refl
 no_compact class.Sized t = refl
 
-compact_is : (r : List TypeInfo) (refs : List ℕ) (Row : ℕ → ℕ → List Arm → Type 0) (c : Class) (d : TypeDef) (s : Step) → IsStep r refs Row c d s → compact_of_step s ≡ compact_target_of_shape r (Some d)
-compact_is r refs Row c (Def.Composite fs) s h = rw h.2 (compact_by c step.NoValue (step.Parts h.0 h.1) refl refl)
-compact_is r refs Row c (Def.Tuple ts) s h = rw h.2 (compact_by c step.NoValue (step.Parts h.0 h.1) refl refl)
-compact_is r refs Row c (Def.Variant arms) s h = rw h.2 (compact_by c (step.NoArm h.0 h.1) (step.Arms h.0 h.1) refl refl)
-compact_is r refs Row c (Def.Sequence u) s h = rw h (compact_by c step.NoValue (sequence_step (class_of r u.0) u.0) refl (no_compact (class_of r u.0) u.0))
-compact_is r refs Row c (Def.Array n u) s h = rw h (compact_by c step.NoValue (step.Array n u.0) refl refl)
-compact_is r refs Row c (Def.Primitive p) s h = rw h (compact_by c step.NoValue (step.Primitive p) refl refl)
+compact_is : (r : List TypeInfo) (refs : List ℕ) (Row : ℕ → ℕ → List Arm → Type 0) (c : Class)
+    (d : TypeDef) (s : Step) → IsStep r refs Row c d s →
+    compact_of_step s ≡ compact_target_of_shape r (Some d)
+compact_is r refs Row c (Def.Composite fs) s h =
+    rw h.2 (compact_by c step.NoValue (step.Parts h.0 h.1) refl refl)
+compact_is r refs Row c (Def.Tuple ts) s h =
+    rw h.2 (compact_by c step.NoValue (step.Parts h.0 h.1) refl refl)
+compact_is r refs Row c (Def.Variant arms) s h =
+    rw h.2 (compact_by c (step.NoArm h.0 h.1) (step.Arms h.0 h.1) refl refl)
+compact_is r refs Row c (Def.Sequence u) s h =
+    rw h (compact_by c step.NoValue (sequence_step (class_of r u.0) u.0) refl
+    (no_compact (class_of r u.0) u.0))
+compact_is r refs Row c (Def.Array n u) s h =
+    rw h (compact_by c step.NoValue (step.Array n u.0) refl refl)
+compact_is r refs Row c (Def.Primitive p) s h =
+    rw h (compact_by c step.NoValue (step.Primitive p) refl refl)
 compact_is r refs Row c (Def.Compact u) s h = rw h refl
-compact_is r refs Row c (Def.BitSequence store order) s h = rw h (compact_by c step.NoValue step.BitSequence refl refl)
+compact_is r refs Row c (Def.BitSequence store order) s h =
+    rw h (compact_by c step.NoValue step.BitSequence refl refl)
 
-pub class_read : (r : List TypeInfo) (t : ℕ) (o : Option Step) (s : Step) → IsStepAt r t o → o ≡ Some s → (t < length r) × (class_of_step s ≡ class_of r t)
+pub class_read : (r : List TypeInfo) (t : ℕ) (o : Option Step) (s : Step) → IsStepAt r t o →
+    o ≡ Some s → (t < length r) × (class_of_step s ≡ class_of r t)
 class_read r t o s h f = go (shape r t) refl where
   go : (x : Option TypeDef) → shape r t ≡ x → (t < length r) × (class_of_step s ≡ class_of r t)
   go None e = let none = rw (IsStepAt, e) at h in absurd cc
@@ -112,21 +148,29 @@ class_read r t o s h f = go (shape r t) refl where
       let x = rw (IsStepAt, e) at h in
       let is = x.1 in
       let same : s ≡ x.0 = cc in
-      (shape_within r t d e, rw same (class_is r (references_of r) (λ from count arms. Unit {0}) t d x.0 e x.2))
+      (shape_within r t d e, rw same
+          (class_is r (references_of r) (λ from count arms. Unit {0}) t d x.0 e x.2))
 
 pub class_unknown : (r : List TypeInfo) (t : ℕ) → IsStepAt r t None → length r ≤ t
 class_unknown r t h = elim (cases_lt t (length r)) [
-  | inl below ↦ let d = shape_some r t below in let x = rw (IsStepAt, d.1) at h in let no = x.1 in absurd cc
+  | inl below ↦ let d = shape_some r t below in let x = rw (IsStepAt, d.1) at h in let no = x.1 in
+      absurd cc
   | inr past ↦ past
 ]
 
-pub compact_read : (r : List TypeInfo) (t : ℕ) (o : Option Step) (m : Option Target) → IsStepAt r t o → ((s : Step) → o ≡ Some s → m ≡ compact_of_step s) → (o ≡ None → m ≡ None) → m ≡ compact_target_of r t
+pub compact_read : (r : List TypeInfo) (t : ℕ) (o : Option Step) (m : Option Target) →
+    IsStepAt r t o → ((s : Step) → o ≡ Some s → m ≡ compact_of_step s) → (o ≡ None → m ≡ None) →
+    m ≡ compact_target_of r t
 compact_read r t o m h some none = go (shape r t) refl where
   go : (x : Option TypeDef) → shape r t ≡ x → m ≡ compact_target_of r t
   go None e = let is = rw (IsStepAt, e) at h in none is ∙ sym (rw e refl)
   go (Some d) e =
       let x = rw (IsStepAt, e) at h in
-      some x.0 x.1 ∙ compact_is r (references_of r) (λ from count arms. Unit {0}) (class_of r t) d x.0 x.2 ∙ sym (rw e refl)
+      some x.0 x.1 ∙ compact_is r (references_of r) (λ from count arms. Unit {0}) (class_of r t) d
+          x.0 x.2 ∙ sym (rw e refl)
 
-pub step_read : (r q : List TypeInfo) (t : ℕ) (o p : Option Step) → q ≡ r → p ≡ o → IsStepAt r t o → IsStepAt q t p
-step_read r q t o p e f h = subst (λ (x : List TypeInfo). IsStepAt x t p) (sym e) (subst (λ (y : Option Step). IsStepAt r t y) (sym f) h)
+pub step_read : (r q : List TypeInfo) (t : ℕ) (o p : Option Step) → q ≡ r → p ≡ o → IsStepAt r t o →
+    IsStepAt q t p
+step_read r q t o p e f h =
+    subst (λ (x : List TypeInfo). IsStepAt x t p) (sym e)
+    (subst (λ (y : Option Step). IsStepAt r t y) (sym f) h)

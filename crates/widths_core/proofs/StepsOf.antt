@@ -1,5 +1,8 @@
 -- The step of each type is that of its draft, its class and what was found of others.
-use Rattle.std.proofs.Common.{◌≡◌, ℕ, zero, suc, ◌+◌, ◌<◌, List, [], ◌∷◌, ◌++◌, length, get_or, Option, Some, refl, sym, ap, ◌∙◌, arith, inl, inr}
+use Rattle.std.proofs.Common.{
+    ◌≡◌, ℕ, zero, suc, ◌+◌, ◌<◌, List, [], ◌∷◌, ◌++◌, length, get_or, Option, Some, refl, sym, ap,
+    ◌∙◌, arith, inl, inr
+}
 use Rattle.std.specs.Prelude.{slice_get}
 use Rattle.std.proofs.lemmas.Bool.{cases_lt}
 use Rattle.std.proofs.lemmas.List.{length_push}
@@ -17,11 +20,14 @@ use Rattle.graph_core.specs.Types.{shape}
 use Rattle.widths_core.specs.Targets.{target_of}
 use Rattle.widths_core.specs.Classes.{class_of}
 use Rattle.widths_core.specs.ClassTables.{known_class, known_target}
-use Rattle.widths_core.specs.Steps.{references_of, IsRow, IsDraft, IsStep, IsSettled, IsTable, AreStepsBy, step_by}
+use Rattle.widths_core.specs.Steps.{
+    references_of, IsRow, IsDraft, IsStep, AreSettled, IsTable, AreStepsBy, step_by
+}
 
 -- ---- of the drafts that were passed
 
-get_left : (xs : List Step) (y : Step) (t : ℕ) → t < length xs → slice_get (xs ++ y ∷ []) t ≡ slice_get xs t
+get_left : (xs : List Step) (y : Step) (t : ℕ) → t < length xs →
+    slice_get (xs ++ y ∷ []) t ≡ slice_get xs t
 get_left [] y t lt = absurd (omega (arith, lt))
 get_left (x ∷ xs) y zero lt = refl
 get_left (x ∷ xs) y (suc t) lt = get_left xs y t (omega (arith, lt))
@@ -30,44 +36,60 @@ get_last : (xs : List Step) (y : Step) → slice_get (xs ++ y ∷ []) (length xs
 get_last [] y = refl
 get_last (x ∷ xs) y = get_last xs y
 
-pub get_at : (xs : List Draft) (t : ℕ) (d : Draft) → t < length xs → slice_get xs t ≡ Some (get_or xs t d)
+pub get_at : (xs : List Draft) (t : ℕ) (d : Draft) → t < length xs →
+    slice_get xs t ≡ Some (get_or xs t d)
 get_at [] t d lt = absurd (omega (arith, lt))
 get_at (x ∷ xs) zero d lt = refl
 get_at (x ∷ xs) (suc t) d lt = get_at xs t d (omega (arith, lt))
 
 -- the first i drafts have their steps
-pub record StepsTo (classes : ℕ → Class) (targets : ℕ → Option Target) (drafts : List Draft) (i : ℕ) (steps : List Step) : Type 0 where
+pub record StepsTo (classes : ℕ → Class) (targets : ℕ → Option Target) (drafts : List Draft) (i : ℕ)
+    (steps : List Step) : Type 0 where
   pub count : length steps ≡ i
-  pub own : (t : ℕ) (d : Draft) (s : Step) → slice_get drafts t ≡ Some d → slice_get steps t ≡ Some s → s ≡ step_by classes targets (classes t) d
+  pub own : (t : ℕ) (d : Draft) (s : Step) → slice_get drafts t ≡ Some d →
+      slice_get steps t ≡ Some s → s ≡ step_by classes targets (classes t) d
 
-pub steps_none : (classes : ℕ → Class) (targets : ℕ → Option Target) (drafts : List Draft) → StepsTo classes targets drafts 0 []
+pub steps_none : (classes : ℕ → Class) (targets : ℕ → Option Target) (drafts : List Draft) →
+    StepsTo classes targets drafts 0 []
 steps_none classes targets drafts = record { count = refl; own = λ t d s e f. absurd cc }
 
-pub steps_more : (classes : ℕ → Class) (targets : ℕ → Option Target) (drafts : List Draft) (i : ℕ) (steps : List Step) (d : Draft) (s : Step) → slice_get drafts i ≡ Some d → s ≡ step_by classes targets (classes i) d → StepsTo classes targets drafts i steps → StepsTo classes targets drafts (i + 1) (steps ++ s ∷ [])
+pub steps_more : (classes : ℕ → Class) (targets : ℕ → Option Target) (drafts : List Draft) (i : ℕ)
+    (steps : List Step) (d : Draft) (s : Step) → slice_get drafts i ≡ Some d →
+    s ≡ step_by classes targets (classes i) d → StepsTo classes targets drafts i steps →
+    StepsTo classes targets drafts (i + 1) (steps ++ s ∷ [])
 steps_more classes targets drafts i steps d s e is h = record {
   count = length_push steps s ∙ ap (λ (n : ℕ). n + 1) h.count;
   own = own;
 } where
-  own : (t : ℕ) (d' : Draft) (s' : Step) → slice_get drafts t ≡ Some d' → slice_get (steps ++ s ∷ []) t ≡ Some s' → s' ≡ step_by classes targets (classes t) d'
+  own : (t : ℕ) (d' : Draft) (s' : Step) → slice_get drafts t ≡ Some d' →
+      slice_get (steps ++ s ∷ []) t ≡ Some s' → s' ≡ step_by classes targets (classes t) d'
   own t d' s' there at = elim (cases_lt t i) [
-    | inl below ↦ h.own t d' s' there (sym (get_left steps s t (omega (arith, below, h.count))) ∙ at)
+    | inl below ↦ h.own t d' s' there (sym (get_left steps s t (omega (arith, below, h.count)))
+        ∙ at)
     | inr ge ↦
         let lt = slice_get_within (steps ++ s ∷ []) t s' at in
         let same : t ≡ length steps = omega (arith, ge, lt, length_push steps s, h.count) in
-        let last : Some s ≡ Some s' = sym (get_last steps s) ∙ ap (λ (n : ℕ). slice_get (steps ++ s ∷ []) n) (sym same) ∙ at in
-        let drafted : Some d ≡ Some d' = sym e ∙ ap (λ (n : ℕ). slice_get drafts n) (sym (same ∙ h.count)) ∙ there in
+        let last : Some s ≡ Some s' = sym (get_last steps s)
+            ∙ ap (λ (n : ℕ). slice_get (steps ++ s ∷ []) n) (sym same) ∙ at in
+        let drafted : Some d ≡ Some d' = sym e
+            ∙ ap (λ (n : ℕ). slice_get drafts n) (sym (same ∙ h.count)) ∙ there in
         let same_step : s ≡ s' = cc in
         let same_draft : d ≡ d' = cc in
         let here : i ≡ t = sym (same ∙ h.count) in
         rw (← same_step, ← same_draft, ← here) is
   ]
 
-pub steps_all : (classes : ℕ → Class) (targets : ℕ → Option Target) (drafts : List Draft) (i : ℕ) (steps : List Step) → i ≡ length drafts → StepsTo classes targets drafts i steps → AreStepsBy classes targets drafts steps
+pub steps_all : (classes : ℕ → Class) (targets : ℕ → Option Target) (drafts : List Draft) (i : ℕ)
+    (steps : List Step) → i ≡ length drafts → StepsTo classes targets drafts i steps →
+    AreStepsBy classes targets drafts steps
 steps_all classes targets drafts i steps e h = record { count = h.count ∙ e; own = h.own }
 
 -- ---- of all types
 
-step_drafted : (r : List TypeInfo) (refs : List ℕ) (Row : ℕ → ℕ → List Arm → Type 0) (cs : List Class) (ms : List (Option Target)) (c : Class) (d : TypeDef) (x : Draft) → ((t : ℕ) → known_class cs t ≡ class_of r t) → ((t : ℕ) → known_target ms t ≡ target_of r t) → IsDraft refs Row d x → IsStep r refs Row c d (step_by (known_class cs) (known_target ms) c x)
+step_drafted : (r : List TypeInfo) (refs : List ℕ) (Row : ℕ → ℕ → List Arm → Type 0)
+    (cs : List Class) (ms : List (Option Target)) (c : Class) (d : TypeDef) (x : Draft) →
+    ((t : ℕ) → known_class cs t ≡ class_of r t) → ((t : ℕ) → known_target ms t ≡ target_of r t) →
+    IsDraft refs Row d x → IsStep r refs Row c d (step_by (known_class cs) (known_target ms) c x)
 step_drafted r refs Row cs ms c (Def.Composite fs) x hc hm h = (h.0, h.1, rw h.2 refl, h.3)
 step_drafted r refs Row cs ms c (Def.Tuple ts) x hc hm h = (h.0, h.1, rw h.2 refl, h.3)
 step_drafted r refs Row cs ms c (Def.Variant arms) x hc hm h = (h.0, h.1, rw h.2 refl, h.3)
@@ -82,17 +104,22 @@ get_some [] t lt = absurd (omega (arith, lt))
 get_some (x ∷ xs) zero lt = (x, refl)
 get_some (x ∷ xs) (suc t) lt = get_some xs t (omega (arith, lt))
 
-pub table_all : (r : List TypeInfo) (cs : List Class) (ms : List (Option Target)) (refs : List ℕ) (rows : Rows) (drafts : List Draft) (steps : List Step) → IsSettled r cs ms refs rows drafts → AreStepsBy (known_class cs) (known_target ms) drafts steps → IsTable r refs rows steps
+pub table_all : (r : List TypeInfo) (cs : List Class) (ms : List (Option Target)) (refs : List ℕ)
+    (rows : Rows) (drafts : List Draft) (steps : List Step) → AreSettled r cs ms refs rows drafts →
+    AreStepsBy (known_class cs) (known_target ms) drafts steps → IsTable r refs rows steps
 table_all r cs ms refs rows drafts steps h k = record {
   all = h.all;
   paired = h.own.paired;
   count = k.count ∙ h.own.count;
   own = own;
 } where
-  own : (t : ℕ) (d : TypeDef) (s : Step) → shape r t ≡ Some d → slice_get steps t ≡ Some s → IsStep r (references_of r) (IsRow (references_of r) rows) (class_of r t) d s
+  own : (t : ℕ) (d : TypeDef) (s : Step) → shape r t ≡ Some d → slice_get steps t ≡ Some s →
+      IsStep r (references_of r) (IsRow (references_of r) rows) (class_of r t) d s
   own t d s e f =
       let lt = slice_get_within steps t s f in
       let x = get_some drafts t (omega (arith, lt, k.count)) in
-      let is : s ≡ step_by (known_class cs) (known_target ms) (known_class cs t) x.0 = k.own t x.0 s x.1 f in
+      let is : s ≡ step_by (known_class cs) (known_target ms) (known_class cs t) x.0 =
+          k.own t x.0 s x.1 f in
       let class_is : known_class cs t ≡ class_of r t = h.classes_are.1 t in
-      rw (is, class_is) (step_drafted r (references_of r) (IsRow (references_of r) rows) cs ms (class_of r t) d x.0 h.classes_are.1 h.targets_are (h.own.own t d x.0 e x.1))
+      rw (is, class_is) (step_drafted r (references_of r) (IsRow (references_of r) rows) cs ms
+          (class_of r t) d x.0 h.classes_are.1 h.targets_are (h.own.own t d x.0 e x.1))

@@ -1,8 +1,13 @@
 -- One pass over the types, type by type.
-use Rattle.std.proofs.Common.{◌≡◌, ℕ, zero, suc, ◌+◌, ◌≤◌, max, Bool, true, false, cond, List, [], ◌∷◌, ◌++◌, length, map, reverse, take, drop, Some, refl, sym, ap, ◌∙◌, arith}
+use Rattle.std.proofs.Common.{
+    ◌≡◌, ℕ, zero, suc, ◌+◌, ◌≤◌, max, Bool, true, false, cond, List, [], ◌∷◌, ◌++◌, length, map,
+    reverse, take, drop, Some, refl, sym, ap, ◌∙◌, arith
+}
 use Rattle.std.specs.Prelude.{◌==◌}
 use Rattle.std.proofs.lemmas.Bool.{eqb-true}
-use Rattle.std.proofs.lemmas.List.{append_assoc, append-nil, map-append, length-map, take_all, drop_all}
+use Rattle.std.proofs.lemmas.List.{
+    append_assoc, append-nil, map-append, length-map, take_all, drop_all
+}
 use Rattle.std.proofs.lemmas.Grind.{flat_map-append}
 use Rattle.registry_core.specs.declared.definition.TypeDef.{TypeDef}
 use Rattle.registry_core.specs.declared.type_info.TypeInfo.{TypeInfo}
@@ -13,10 +18,11 @@ use Rattle.graph_core.specs.Widths.{width, widest}
 use Rattle.graph_core.specs.Counts.{times}
 use Rattle.widths_core.specs.Rules.{Rule, rules_of, rules_from, counter_of, all_parts, numbers_from}
 use Rattle.graph_core.specs.Graphs.{refs, numbers, IsLinked, IsOpened, IsNew}
-use Rattle.widths_core.specs.Linking.{Adds, AreTypesLinked}
+use Rattle.widths_core.specs.Linking.{AddsRules, AreTypesLinked}
 use Rattle.widths_core.proofs.Adding.{numbers_from-append}
 
-rules_more : (r : List TypeInfo) (t i : ℕ) (d : TypeDef) → shape r i ≡ Some d → rules_from t (take (suc i) r) ≡ rules_from t (take i r) ++ rules_of (t + i) d
+rules_more : (r : List TypeInfo) (t i : ℕ) (d : TypeDef) → shape r i ≡ Some d →
+    rules_from t (take (suc i) r) ≡ rules_from t (take i r) ++ rules_of (t + i) d
 rules_more [] t i d e = absurd cc
 rules_more (x ∷ r) t zero d e =
     let is : x.shape ≡ d = cc in
@@ -24,22 +30,28 @@ rules_more (x ∷ r) t zero d e =
     rw (at, ← is) (append-nil (rules_of t x.shape))
 rules_more (x ∷ r) t (suc i) d e =
     let at : t + 1 + i ≡ t + suc i = omega arith in
-    ap (λ (xs : List Rule). rules_of t x.shape ++ xs) (rules_more r (t + 1) i d e ∙ ap (λ (k : ℕ). rules_from (t + 1) (take i r) ++ rules_of k d) at)
-    ∙ sym (append_assoc (rules_of t x.shape) (rules_from (t + 1) (take i r)) (rules_of (t + suc i) d))
+    ap (λ (xs : List Rule). rules_of t x.shape ++ xs)
+        (rules_more r (t + 1) i d e
+        ∙ ap (λ (k : ℕ). rules_from (t + 1) (take i r) ++ rules_of k d) at)
+    ∙ sym (append_assoc (rules_of t x.shape) (rules_from (t + 1) (take i r))
+        (rules_of (t + suc i) d))
 
-widest_more : (r : List TypeInfo) (i : ℕ) (d : TypeDef) → shape r i ≡ Some d → widest (drop i r) ≡ max (width d) (widest (drop (suc i) r))
+widest_more : (r : List TypeInfo) (i : ℕ) (d : TypeDef) → shape r i ≡ Some d →
+    widest (drop i r) ≡ max (width d) (widest (drop (suc i) r))
 widest_more [] i d e = absurd cc
 widest_more (x ∷ r) zero d e = let is : x.shape ≡ d = cc in rw is refl
 widest_more (x ∷ r) (suc i) d e = widest_more r i d e
 
 -- the first i types were read
-pub record TypesLinkedTo (r : List TypeInfo) (i : ℕ) (cs : List Counter) (d : Graph) (w : ℕ) : Type 0 where
+pub record TypesLinkedTo (r : List TypeInfo) (i : ℕ) (cs : List Counter) (d : Graph) (w : ℕ) : Type
+    0 where
   pub linked : IsLinked d
   pub types : d.types.now ≡ r
   pub counters : cs ≡ map counter_of (rules_from 0 (take i r))
   pub read : refs d ≡ all_parts (rules_from 0 (take i r))
   pub counted : numbers d ≡ numbers_from 0 (rules_from 0 (take i r))
-  pub opened : (t : ℕ) → (times t d.looks.opened.entries ≤ 2) × (i ≤ t → times t d.looks.opened.entries ≤ 1)
+  pub opened : (t : ℕ) → (times t d.looks.opened.entries ≤ 2)
+      × (i ≤ t → times t d.looks.opened.entries ≤ 1)
   pub listed : d.looks.listed.entries ≡ []
   pub wide : max w (widest (drop i r)) ≡ widest r
 
@@ -55,35 +67,54 @@ types_linked_none r d h = record {
   wide = omega arith;
 }
 
-pub again : (i t : ℕ) (log : List ℕ) → (times t log ≤ 2) × (i ≤ t → times t log ≤ 1) → (times t (i ∷ log) ≤ 2) × (i + 1 ≤ t → times t (i ∷ log) ≤ 1)
+pub again : (i t : ℕ) (log : List ℕ) → (times t log ≤ 2) × (i ≤ t → times t log ≤ 1) →
+    (times t (i ∷ log) ≤ 2) × (i + 1 ≤ t → times t (i ∷ log) ≤ 1)
 again i t log h = go (i == t) refl where
-  go : (b : Bool) → (i == t) ≡ b → (cond b 1 0 + times t log ≤ 2) × (i + 1 ≤ t → cond b 1 0 + times t log ≤ 1)
-  go true e = let same : i ≡ t = eqb-true i t e in (omega (arith, h.1 (omega arith), same), λ le. absurd (omega (arith, same, le)))
+  go : (b : Bool) → (i == t) ≡ b → (cond b 1 0 + times t log ≤ 2)
+      × (i + 1 ≤ t → cond b 1 0 + times t log ≤ 1)
+  go true e = let same : i ≡ t = eqb-true i t e in
+      (omega (arith, h.1 (omega arith), same), λ le. absurd (omega (arith, same, le)))
   go false e = (omega (arith, h.0), λ le. omega (arith, h.1 (omega arith)))
 
-pub types_linked_more : (r : List TypeInfo) (i : ℕ) (d : TypeDef) (cs ds : List Counter) (a b c : Graph) (w : ℕ) → shape r i ≡ Some d → TypesLinkedTo r i cs a w → IsOpened a b i → Adds (rules_of i d) cs ds b c → TypesLinkedTo r (i + 1) ds c (max w (width d))
+pub types_linked_more : (r : List TypeInfo) (i : ℕ) (d : TypeDef) (cs ds : List Counter)
+    (a b c : Graph) (w : ℕ) → shape r i ≡ Some d → TypesLinkedTo r i cs a w → IsOpened a b i →
+    AddsRules (rules_of i d) cs ds b c → TypesLinkedTo r (i + 1) ds c (max w (width d))
 types_linked_more r i d cs ds a b c w e h o k =
     let step : i + 1 ≡ suc i = omega arith in
     let old = rules_from 0 (take i r) in
-    let all : rules_from 0 (take (i + 1) r) ≡ old ++ rules_of i d = ap (λ (j : ℕ). rules_from 0 (take j r)) step ∙ rules_more r 0 i d e ∙ ap (λ (j : ℕ). old ++ rules_of j d) (omega arith) in
-    let len : length cs ≡ 0 + length old = ap length h.counters ∙ length-map old counter_of ∙ omega arith in
+    let all : rules_from 0 (take (i + 1) r) ≡ old ++ rules_of i d =
+        ap (λ (j : ℕ). rules_from 0 (take j r)) step ∙ rules_more r 0 i d e
+        ∙ ap (λ (j : ℕ). old ++ rules_of j d) (omega arith) in
+    let len : length cs ≡ 0 + length old = ap length h.counters ∙ length-map old counter_of
+        ∙ omega arith in
     record {
       linked = k.reads.linked;
       types = k.reads.types ∙ o.types ∙ h.types;
-      counters = rw all (k.counters ∙ ap (λ (xs : List Counter). xs ++ map counter_of (rules_of i d)) h.counters ∙ sym (map-append counter_of old (rules_of i d)));
-      read = rw all (k.reads.read ∙ ap (λ (xs : List ℕ). xs ++ all_parts (rules_of i d)) (ap reverse o.read ∙ h.read) ∙ sym (flat_map-append (λ (x : Rule). x.parts) old (rules_of i d)));
-      counted = rw all (k.reads.counted ∙ ap (λ (xs : List ℕ). xs ++ numbers_from (length cs) (rules_of i d)) (counted ∙ h.counted) ∙ ap (λ (n : ℕ). numbers_from 0 old ++ numbers_from n (rules_of i d)) len ∙ sym (numbers_from-append 0 old (rules_of i d)));
-      opened = λ t. let is : c.looks.opened.entries ≡ i ∷ a.looks.opened.entries = k.reads.opened ∙ o.opened in rw is (again i t a.looks.opened.entries (h.opened t));
+      counters = rw all (k.counters
+          ∙ ap (λ (xs : List Counter). xs ++ map counter_of (rules_of i d)) h.counters
+          ∙ sym (map-append counter_of old (rules_of i d)));
+      read = rw all (k.reads.read
+          ∙ ap (λ (xs : List ℕ). xs ++ all_parts (rules_of i d)) (ap reverse o.read ∙ h.read)
+          ∙ sym (flat_map-append (λ (x : Rule). x.parts) old (rules_of i d)));
+      counted = rw all (k.reads.counted
+          ∙ ap (λ (xs : List ℕ). xs ++ numbers_from (length cs) (rules_of i d))
+          (counted ∙ h.counted) ∙ ap (λ (n : ℕ). numbers_from 0 old ++ numbers_from n
+          (rules_of i d)) len ∙ sym (numbers_from-append 0 old (rules_of i d)));
+      opened = λ t. let is : c.looks.opened.entries ≡ i ∷ a.looks.opened.entries = k.reads.opened
+          ∙ o.opened in rw is (again i t a.looks.opened.entries (h.opened t));
       listed = k.reads.listed ∙ o.listed ∙ h.listed;
       wide = rw step (wide (drop (suc i) r) (widest_more r i d e));
     } where
       counted : numbers b ≡ numbers a
       counted = rw o.links refl
 
-      wide : (rest : List TypeInfo) → widest (drop i r) ≡ max (width d) (widest rest) → max (max w (width d)) (widest rest) ≡ widest r
-      wide rest more = let so_far : max w (max (width d) (widest rest)) ≡ widest r = rw more at h.wide in omega (arith, so_far)
+      wide : (rest : List TypeInfo) → widest (drop i r) ≡ max (width d) (widest rest) →
+          max (max w (width d)) (widest rest) ≡ widest r
+      wide rest more = let so_far : max w (max (width d) (widest rest)) ≡ widest r =
+          rw more at h.wide in omega (arith, so_far)
 
-pub types_linked_all : (r : List TypeInfo) (i : ℕ) (cs : List Counter) (d : Graph) (w : ℕ) → length r ≤ i → TypesLinkedTo r i cs d w → AreTypesLinked r cs d × (w ≡ widest r)
+pub types_linked_all : (r : List TypeInfo) (i : ℕ) (cs : List Counter) (d : Graph) (w : ℕ) →
+    length r ≤ i → TypesLinkedTo r i cs d w → AreTypesLinked r cs d × (w ≡ widest r)
 types_linked_all r i cs d w le h =
     let all : take i r ≡ r = take_all i r le in
     let none : drop i r ≡ [] = drop_all i r le in

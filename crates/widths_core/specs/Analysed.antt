@@ -6,7 +6,8 @@ use Rattle.graph_core.specs.References.{IsChecked, references}
 use Rattle.graph_core.specs.Widths.{widest}
 use Rattle.graph_core.specs.Counts.{times}
 
--- each type was looked at twice at most; the references were looked at in the definitions, all once and in the order of the registry's
+-- each type was looked at twice at most; the references were looked at in the definitions, all once
+-- and in the order of the registry's
 -- bytes, and each once at most in a list
 pub record HasFewLooks (r : List TypeInfo) (l : Looks) : Type 0 where
   pub types : (t : ℕ) → times t l.opened.entries ≤ 2

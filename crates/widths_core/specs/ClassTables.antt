@@ -1,5 +1,9 @@
--- Tables of targets and classes, with an entry for each type, and what follows for a type from those of its parts.
-use Rattle.std.specs.Prelude.{◌≡◌, ℕ, zero, suc, List, [], ◌∷◌, length, Bool, true, false, Option, None, slice_index_or, if◌then◌else◌}
+-- Tables of targets and classes, with an entry for each type, and what follows for a type from
+-- those of its parts.
+use Rattle.std.specs.Prelude.{
+    ◌≡◌, ℕ, zero, suc, List, [], ◌∷◌, length, Bool, true, false, Option, None, slice_index_or,
+    if◌then◌else◌
+}
 use Rattle.std.specs.List.{list_any}
 use Rattle.scale_core.specs.declared.compact.Target.{Target}
 use Rattle.registry_core.specs.declared.definition.Arm.{Arm}
@@ -44,13 +48,16 @@ has_value class.Sized = true
 
 -- some arm that counts has a value
 abbrev pub class_of_arms : (ℕ → Class) → List Arm → Class
-class_of_arms below arms = if list_any (λ a. has_value (class_of_parts below (field_types a.fields))) (live_arms [] arms) then class.Sized else class.NoValue
+class_of_arms below arms =
+    if list_any (λ a. has_value (class_of_parts below (field_types a.fields))) (live_arms [] arms)
+    then class.Sized else class.NoValue
 
 -- a compact takes no bytes where what it wraps takes none
 abbrev pub class_of_compact : Option Target → Class
 class_of_compact over = if is_unit over then class.Empty else class.Sized
 
--- the class of a type of this shape, with these targets, if the types that it refers to have the classes that below says
+-- the class of a type of this shape, with these targets, if the types that it refers to have the
+-- classes that below says
 abbrev pub class_step : (ℕ → Option Target) → (ℕ → Class) → TypeDef → Class
 class_step targets below (Def.Composite fs) = class_of_parts below (field_types fs)
 class_step targets below (Def.Variant arms) = class_of_arms below arms
@@ -64,4 +71,5 @@ class_step targets below (Def.BitSequence store order) = class.Sized
 
 -- the table has an entry for each type, its class
 abbrev pub TellsClasses : List TypeInfo → List Class → Type 0
-TellsClasses r classes = (length classes ≡ length r) × ((t : ℕ) → known_class classes t ≡ class_of r t)
+TellsClasses r classes = (length classes ≡ length r)
+    × ((t : ℕ) → known_class classes t ≡ class_of r t)

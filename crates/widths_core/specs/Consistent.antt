@@ -1,5 +1,8 @@
 -- What holds of the counters and tables, where some references were propagated.
-use Rattle.std.specs.Prelude.{◌≡◌, ℕ, ◌+◌, ◌<◌, List, [], ◌∷◌, length, Bool, true, false, None, ◌&&◌, ◌==◌, slice_index, slice_index_or, if◌then◌else◌}
+use Rattle.std.specs.Prelude.{
+    ◌≡◌, ℕ, ◌+◌, ◌<◌, List, [], ◌∷◌, length, Bool, true, false, None, ◌&&◌, ◌==◌, slice_index,
+    slice_index_or, if◌then◌else◌
+}
 use Rattle.std.specs.List.{list_any}
 use Rattle.registry_core.specs.declared.type_info.TypeInfo.{TypeInfo}
 use Rattle.widths_core.specs.declared.class.Class.{Class}
@@ -10,7 +13,7 @@ use Rattle.widths_core.specs.Classes.{class_of}
 use Rattle.widths_core.specs.ClassTables.{known_class, known_target, has_value}
 use Rattle.graph_core.specs.Counts.{times}
 use Rattle.widths_core.specs.Rules.{Rule, rule, rules, all_parts, numbers_from}
-use Rattle.widths_core.specs.Progress.{State, counter_at, is_sized}
+use Rattle.widths_core.specs.Progress.{Progress, counter_at, is_sized}
 
 abbrev pub nothing : Rule
 nothing = rule 0 kind.Idle []
@@ -24,13 +27,15 @@ abbrev pub to_at : List TypeInfo → ℕ → ℕ
 to_at r e = slice_index (all_parts (rules r)) e
 
 -- the number of the rule that it is a part of
-abbrev pub number_at : List TypeInfo → ℕ → ℕ
-number_at r e = slice_index (numbers_from 0 (rules r)) e
+abbrev pub rule_number : List TypeInfo → ℕ → ℕ
+rule_number r e = slice_index (numbers_from 0 (rules r)) e
 
--- how many of these numbers, of references from e on, are k and of a reference that was not propagated
+-- how many of these numbers, of references from e on, are k and of a reference that was not
+-- propagated
 abbrev pub waiting : ℕ → List ℕ → ℕ → List ℕ → ℕ
 waiting e [] k propagated = 0
-waiting e (x ∷ xs) k propagated = (if (x == k) && (times e propagated == 0) then 1 else 0) + waiting (e + 1) xs k propagated
+waiting e (x ∷ xs) k propagated =
+    (if (x == k) && (times e propagated == 0) then 1 else 0) + waiting (e + 1) xs k propagated
 
 -- how many types have not settled
 abbrev pub unsettled : List Class → ℕ
@@ -38,7 +43,7 @@ unsettled [] = 0
 unsettled (c ∷ cs) = (if has_value c then 0 else 1) + unsettled cs
 
 -- whether type t has settled
-abbrev pub has_settled : State → ℕ → Bool
+abbrev pub has_settled : Progress → ℕ → Bool
 has_settled s t = has_value (known_class s.classes t)
 
 -- whether a counter of this kind settles its owner
@@ -49,22 +54,26 @@ settles kind.Wrap = true
 settles kind.Compact = true
 settles (kind.Fixed f) = true
 
--- the counters count the references that were not propagated, and what was found of the types that have settled is right
-pub record IsConsistent (r : List TypeInfo) (propagated : List ℕ) (s : State) : Type 0 where
+-- the counters count the references that were not propagated, and what was found of the types that
+-- have settled is right
+pub record IsConsistent (r : List TypeInfo) (propagated : List ℕ) (s : Progress) : Type 0 where
   pub classes : length s.classes ≡ length r
   pub targets : length s.targets ≡ length r
   pub counters : length s.counters ≡ length (rules r)
   pub owner : (k : ℕ) → (counter_at s k).owner ≡ (rule_at r k).owner
   pub kind : (k : ℕ) → (counter_at s k).kind ≡ (rule_at r k).kind
   pub left : (k : ℕ) → (counter_at s k).left ≡ waiting 0 (numbers_from 0 (rules r)) k propagated
-  pub sized : (k : ℕ) → (counter_at s k).sized ≡ list_any (λ e. (number_at r e == k) && is_sized (class_of r (to_at r e))) propagated
+  pub sized : (k : ℕ) → (counter_at s k).sized
+      ≡ list_any (λ e. (rule_number r e == k) && is_sized (class_of r (to_at r e))) propagated
   pub known : (e : ℕ) → 0 < times e propagated → e < length (all_parts (rules r))
   pub part_settled : (e : ℕ) → 0 < times e propagated → has_settled s (to_at r e) ≡ true
-  pub right : (t : ℕ) → has_settled s t ≡ true → (known_class s.classes t ≡ class_of r t) × (known_target s.targets t ≡ target_of r t)
+  pub right : (t : ℕ) → has_settled s t ≡ true → (known_class s.classes t ≡ class_of r t)
+      × (known_target s.targets t ≡ target_of r t)
   pub unset : (t : ℕ) → has_settled s t ≡ false → known_target s.targets t ≡ None
   pub queue : (t : ℕ) → times t s.settled ≡ (if has_settled s t then 1 else 0)
   pub room : unsettled s.classes + length s.settled ≡ length r
 
 -- where all parts of a counter have settled, its owner has
-pub record IsClosed (r : List TypeInfo) (s : State) : Type 0 where
-  pub at : (k : ℕ) → settles (rule_at r k).kind ≡ true → (counter_at s k).left ≡ 0 → has_settled s (rule_at r k).owner ≡ true
+pub record IsClosed (r : List TypeInfo) (s : Progress) : Type 0 where
+  pub at : (k : ℕ) → settles (rule_at r k).kind ≡ true → (counter_at s k).left ≡ 0 →
+      has_settled s (rule_at r k).owner ≡ true

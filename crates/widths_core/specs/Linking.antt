@@ -1,16 +1,17 @@
--- The types of a registry as they are linked: the counters and the references of the rules that settle them.
+-- The types of a registry as they are linked: the counters and the references of the rules that
+-- settle them.
 use Rattle.std.specs.Prelude.{◌≡◌, ℕ, ◌≤◌, List, [], ◌++◌, length, map}
 use Rattle.registry_core.specs.declared.type_info.TypeInfo.{TypeInfo}
 use Rattle.graph_core.specs.declared.graph.Graph.{Graph}
 use Rattle.graph_core.specs.Counts.{times}
-use Rattle.graph_core.specs.Graphs.{refs, numbers, IsLinked, Reads}
+use Rattle.graph_core.specs.Graphs.{refs, numbers, IsLinked, ReadsReferences}
 use Rattle.widths_core.specs.declared.counter.Counter.{Counter}
 use Rattle.widths_core.specs.Rules.{Rule, rules, counter_of, all_parts, numbers_from}
 
 -- these rules were added
-pub record Adds (news : List Rule) (cs ds : List Counter) (a b : Graph) : Type 0 where
+pub record AddsRules (news : List Rule) (cs ds : List Counter) (a b : Graph) : Type 0 where
   pub counters : ds ≡ cs ++ map counter_of news
-  pub reads : Reads a b (all_parts news) (numbers_from (length cs) news)
+  pub reads : ReadsReferences a b (all_parts news) (numbers_from (length cs) news)
 
 -- all these types were read: their rules have counters, and their references are in the lists
 pub record AreTypesLinked (r : List TypeInfo) (cs : List Counter) (d : Graph) : Type 0 where

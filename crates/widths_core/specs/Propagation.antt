@@ -1,5 +1,7 @@
 -- References are propagated: what was found of the type that one is to is counted by its counter.
-use Rattle.std.specs.Prelude.{◌≡◌, ℕ, ◌+◌, ◌<◌, ◌≤◌, List, [], ◌++◌, length, take, true, false, None, ◌==◌, if◌then◌else◌}
+use Rattle.std.specs.Prelude.{
+    ◌≡◌, ℕ, ◌+◌, ◌<◌, ◌≤◌, List, [], ◌++◌, length, take, true, false, None, ◌==◌, if◌then◌else◌
+}
 use Rattle.registry_core.specs.declared.type_info.TypeInfo.{TypeInfo}
 use Rattle.widths_core.specs.declared.class.Class.TheVariants as class
 use Rattle.widths_core.specs.declared.counter.Kind.TheVariants as kind
@@ -9,11 +11,11 @@ use Rattle.widths_core.specs.Classes.{class_of}
 use Rattle.graph_core.specs.Counts.{times}
 use Rattle.widths_core.specs.Rules.{rules, all_parts, numbers_from}
 use Rattle.graph_core.specs.Graphs.{refs, numbers, IsLinked}
-use Rattle.widths_core.specs.Progress.{State}
+use Rattle.widths_core.specs.Progress.{Progress}
 use Rattle.widths_core.specs.Consistent.{rule_at, to_at, has_settled, IsConsistent, IsClosed}
 
 -- what had settled has settled, and more types come after it
-pub record Follows (s n : State) : Type 0 where
+pub record Follows (s n : Progress) : Type 0 where
   pub keeps : (t : ℕ) → has_settled s t ≡ true → has_settled n t ≡ true
   pub more : List ℕ
   pub settled : n.settled ≡ s.settled ++ more
@@ -31,47 +33,55 @@ pub record Lists (a b : Graph) : Type 0 where
   pub read : b.looks.read.entries ≡ a.looks.read.entries
 
 -- the counters are consistent with what was propagated, and each type whose parts have settled has
-pub record IsSteady (r : List TypeInfo) (d : Graph) (s : State) : Type 0 where
+pub record IsSteady (r : List TypeInfo) (d : Graph) (s : Progress) : Type 0 where
   pub ready : IsReady r d
   pub consistent : IsConsistent r d.looks.listed.entries s
   pub closed : IsClosed r s
 
 -- type t has settled, and no reference to it was propagated
-pub record IsPending (r : List TypeInfo) (d : Graph) (s : State) (t : ℕ) : Type 0 where
+pub record IsPending (r : List TypeInfo) (d : Graph) (s : Progress) (t : ℕ) : Type 0 where
   pub steady : IsSteady r d s
   pub settled : has_settled s t ≡ true
-  pub fresh : (e : ℕ) → e < length (all_parts (rules r)) → to_at r e ≡ t → times e d.looks.listed.entries ≡ 0
+  pub fresh : (e : ℕ) → e < length (all_parts (rules r)) → to_at r e ≡ t →
+      times e d.looks.listed.entries ≡ 0
 
 -- the references to type t were propagated, once each
-pub record Propagates (r : List TypeInfo) (a b : Graph) (s n : State) (t : ℕ) : Type 0 where
+pub record Propagates (r : List TypeInfo) (a b : Graph) (s n : Progress) (t : ℕ) : Type 0 where
   pub steady : IsSteady r b n
   pub follows : Follows s n
   pub lists : Lists a b
-  pub propagated : (e : ℕ) → e < length (all_parts (rules r)) → times e b.looks.listed.entries ≡ times e a.looks.listed.entries + (if to_at r e == t then 1 else 0)
+  pub propagated : (e : ℕ) → e < length (all_parts (rules r)) →
+      times e b.looks.listed.entries
+      ≡ times e a.looks.listed.entries + (if to_at r e == t then 1 else 0)
 
 -- the references to the first types that have settled were propagated, once each
-pub record IsPropagatedTo (r : List TypeInfo) (d : Graph) (s : State) (done : ℕ) : Type 0 where
+pub record IsPropagatedTo (r : List TypeInfo) (d : Graph) (s : Progress) (done : ℕ) : Type 0 where
   pub steady : IsSteady r d s
   pub within : done ≤ length s.settled
-  pub propagated : (e : ℕ) → e < length (all_parts (rules r)) → times e d.looks.listed.entries ≡ times (to_at r e) (take done s.settled)
+  pub propagated : (e : ℕ) → e < length (all_parts (rules r)) →
+      times e d.looks.listed.entries ≡ times (to_at r e) (take done s.settled)
 
 -- the compacts that have not settled have no target
-pub record IsBad (r : List TypeInfo) (s : State) : Type 0 where
-  pub at : (k : ℕ) → k < length (rules r) → (rule_at r k).kind ≡ kind.Compact → has_settled s (rule_at r k).owner ≡ false → (class_of r (rule_at r k).owner ≡ class.Sized) × (target_of r (rule_at r k).owner ≡ None)
+pub record IsBad (r : List TypeInfo) (s : Progress) : Type 0 where
+  pub at : (k : ℕ) → k < length (rules r) → (rule_at r k).kind ≡ kind.Compact →
+      has_settled s (rule_at r k).owner ≡ false → (class_of r (rule_at r k).owner ≡ class.Sized)
+      × (target_of r (rule_at r k).owner ≡ None)
 
 -- each compact has settled
-pub record AreCompactsSettled (r : List TypeInfo) (s : State) : Type 0 where
-  pub at : (k : ℕ) → k < length (rules r) → (rule_at r k).kind ≡ kind.Compact → has_settled s (rule_at r k).owner ≡ true
+pub record AreCompactsSettled (r : List TypeInfo) (s : Progress) : Type 0 where
+  pub at : (k : ℕ) → k < length (rules r) → (rule_at r k).kind ≡ kind.Compact →
+      has_settled s (rule_at r k).owner ≡ true
 
 -- the references to all types that have settled were propagated
-pub record PropagatesAll (r : List TypeInfo) (a b : Graph) (s n : State) (done : ℕ) : Type 0 where
+pub record PropagatesAll (r : List TypeInfo) (a b : Graph) (s n : Progress) (done : ℕ) : Type 0
+    where
   pub propagated : IsPropagatedTo r b n done
   pub all : done ≡ length n.settled
   pub follows : Follows s n
   pub lists : Lists a b
 
 -- nothing was propagated, and nothing has settled but what is right
-pub record IsStart (r : List TypeInfo) (d : Graph) (s : State) : Type 0 where
+pub record IsStart (r : List TypeInfo) (d : Graph) (s : Progress) : Type 0 where
   pub ready : IsReady r d
   pub listed : d.looks.listed.entries ≡ []
   pub consistent : IsConsistent r [] s

@@ -1,5 +1,8 @@
 -- Rows of arms by their index, one row after the other.
-use Rattle.std.specs.Prelude.{◌≡◌, ◌≢◌, ℕ, ◌+◌, ◌<◌, ◌≤◌, List, [], length, Option, Result, slice_index, slice_index_or, MatchOption, MatchResult}
+use Rattle.std.specs.Prelude.{
+    ◌≡◌, ◌≢◌, ℕ, ◌+◌, ◌<◌, ◌≤◌, List, [], length, Option, Result, slice_index, slice_index_or,
+    MatchOption, MatchResult
+}
 use Rattle.std.specs.List.{insert}
 use Rattle.widths_core.specs.declared.rows.Rows.{Rows}
 use Rattle.widths_core.specs.declared.step.ArmStep.{ArmStep}
@@ -20,7 +23,7 @@ abbrev pub IsPaired : Rows → Type 0
 IsPaired rows = length rows.arms.items ≡ length rows.indexes.items
 
 -- there is no arm
-pub record IsEmpty (rows : Rows) : Type 0 where
+pub record HasNoRow (rows : Rows) : Type 0 where
   pub indexes : rows.indexes.items ≡ []
   pub arms : rows.arms.items ≡ []
 
@@ -47,7 +50,8 @@ pub record BelongsAt (xs : List ℕ) (from x k : ℕ) : Type 0 where
 
 -- where the number is from place from on, or where it belongs
 abbrev pub IsSearched : List ℕ → ℕ → ℕ → Result ℕ ℕ → Type 0
-IsSearched xs from x result = MatchResult result (λ k. IsIn xs from (length xs) x k) (λ k. BelongsAt xs from x k)
+IsSearched xs from x result =
+    MatchResult result (λ k. IsIn xs from (length xs) x k) (λ k. BelongsAt xs from x k)
 
 -- an arm came to place k, and what was from there on is one place further
 pub record Inserts (a b : Rows) (k index : ℕ) (s : ArmStep) : Type 0 where
@@ -56,7 +60,9 @@ pub record Inserts (a b : Rows) (k index : ℕ) (s : ArmStep) : Type 0 where
 
 -- the arm of the index in the row of so many arms from place from on
 abbrev pub IsPlace : Rows → ℕ → ℕ → ℕ → Option ArmStep → Type 0
-IsPlace rows from count index found = MatchOption found (Lacks rows.indexes.items from (from + count) index) (λ s. (k : ℕ) × IsIn rows.indexes.items from (from + count) index k × (s ≡ arm_in rows k))
+IsPlace rows from count index found =
+    MatchOption found (Lacks rows.indexes.items from (from + count) index)
+    (λ s. (k : ℕ) × IsIn rows.indexes.items from (from + count) index k × (s ≡ arm_in rows k))
 
 -- what was there is there still
 pub record Keeps (a b : Rows) : Type 0 where

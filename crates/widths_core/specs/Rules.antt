@@ -1,5 +1,9 @@
--- What settles a type: rules over the types of its parts, in the order of the references in its definition.
-use Rattle.std.specs.Prelude.{ℕ, zero, suc, ◌+◌, List, [], ◌∷◌, ◌++◌, length, map, flat_map, Bool, true, false, Option, Some, None, ◌==◌, if◌then◌else◌}
+-- What settles a type: rules over the types of its parts, in the order of the references in its
+-- definition.
+use Rattle.std.specs.Prelude.{
+    ℕ, zero, suc, ◌+◌, List, [], ◌∷◌, ◌++◌, length, map, flat_map, Bool, true, false, Option, Some,
+    None, ◌==◌, if◌then◌else◌
+}
 use Rattle.std.specs.List.{list_any}
 use Rattle.scale_core.specs.declared.compact.Target.{Target}
 use Rattle.scale_core.specs.declared.compact.Target.TheVariants as target
@@ -23,7 +27,8 @@ abbrev pub class_by : Bool → Class
 class_by true = class.Sized
 class_by false = class.Empty
 
--- what is found of the owner, where a part takes bytes or none does, and a compact over the last part has this target
+-- what is found of the owner, where a part takes bytes or none does, and a compact over the last
+-- part has this target
 abbrev pub outcome : Kind → Bool → Option Target → Option Found
 outcome kind.Idle sized last = None
 outcome kind.Parts sized last = Some (record { class = class_by sized; target = None })
@@ -47,7 +52,8 @@ abbrev pub found_none : Found
 found_none = record { class = class.Empty; target = None }
 
 abbrev pub found_of_primitive : Primitive → Found
-found_of_primitive p = record { class = class.Sized; target = target_from (λ u. None) (leads_primitive p) }
+found_of_primitive p = record { class = class.Sized; target =
+    target_from (λ u. None) (leads_primitive p) }
 
 abbrev pub rule : ℕ → Kind → List ℕ → Rule
 rule t k ps = record { owner = t; kind = k; parts = ps }
@@ -61,7 +67,10 @@ kind_of_parts (suc (suc n)) = kind.Parts
 -- an arm settles its variant, unless one of these has its index
 abbrev pub arm_rules : ℕ → List ℕ → List Arm → List Rule
 arm_rules t seen [] = []
-arm_rules t seen (a ∷ arms) = if list_any (λ i. i == a.index) seen then rule t kind.Idle (field_types a.fields) ∷ arm_rules t seen arms else rule t (kind.Fixed found_sized) (field_types a.fields) ∷ arm_rules t (a.index ∷ seen) arms
+arm_rules t seen (a ∷ arms) =
+    if list_any (λ i. i == a.index) seen then rule t kind.Idle (field_types a.fields) ∷ arm_rules t
+    seen arms else rule t (kind.Fixed found_sized) (field_types a.fields) ∷ arm_rules t
+    (a.index ∷ seen) arms
 
 abbrev pub rules_of : ℕ → TypeDef → List Rule
 rules_of t (Def.Composite fs) = rule t (kind_of_parts (length fs)) (field_types fs) ∷ []

@@ -1,5 +1,8 @@
--- What a type is made of, in a few bytes: its parts are a piece of the list of all references, its arms a row by their index.
-use Rattle.std.specs.Prelude.{◌≡◌, ℕ, ◌+◌, ◌<◌, ◌≤◌, List, length, take, drop, flat_map, Option, Some, None, slice_get}
+-- What a type is made of, in a few bytes: its parts are a piece of the list of all references, its
+-- arms a row by their index.
+use Rattle.std.specs.Prelude.{
+    ◌≡◌, ℕ, ◌+◌, ◌<◌, ◌≤◌, List, length, take, drop, flat_map, Option, Some, None, slice_get
+}
 use Rattle.registry_core.specs.declared.definition.Arm.{Arm}
 use Rattle.registry_core.specs.declared.definition.TypeDef.{TypeDef}
 use Rattle.registry_core.specs.declared.definition.TypeDef.TheVariants as Def
@@ -34,22 +37,29 @@ pub record AreParts (refs : List ℕ) (from count : ℕ) (ts : List ℕ) : Type 
 -- this is the step of the arm, where there is one
 abbrev pub IsArm : List ℕ → Option ArmStep → Option (ℕ × Arm) → Type 0
 IsArm refs None None = Unit {0}
-IsArm refs (Some s) (Some x) = (s.position ≡ x.0) × AreParts refs s.from s.count (field_types x.1.fields)
+IsArm refs (Some s) (Some x) = (s.position ≡ x.0)
+    × AreParts refs s.from s.count (field_types x.1.fields)
 IsArm refs None (Some x) = ⊥
 IsArm refs (Some s) None = ⊥
 
--- the row of so many arms from there on has by ascending index the first arm of each index that an arm has
+-- the row of so many arms from there on has by ascending index the first arm of each index that an
+-- arm has
 pub record IsRow (refs : List ℕ) (rows : Rows) (from count : ℕ) (arms : List Arm) : Type 0 where
   pub within : from + count ≤ length rows.indexes.items
   pub rises : Rises rows.indexes.items from (from + count)
-  pub arm : (k : ℕ) → from ≤ k → k < from + count → IsArm refs (Some (arm_in rows k)) (arm_of arms (index_in rows k))
+  pub arm : (k : ℕ) → from ≤ k → k < from + count →
+      IsArm refs (Some (arm_in rows k)) (arm_of arms (index_in rows k))
   pub none : (x : ℕ) → Lacks rows.indexes.items from (from + count) x → arm_of arms x ≡ None
 
--- this is the draft of a type of this shape, where its parts are among these references, and the row of a variant is as Row says
+-- this is the draft of a type of this shape, where its parts are among these references, and the
+-- row of a variant is as Row says
 abbrev pub IsDraft : List ℕ → (ℕ → ℕ → List Arm → Type 0) → TypeDef → Draft → Type 0
-IsDraft refs Row (Def.Composite fs) s = (from count : ℕ) × (s ≡ draft.Parts from count) × AreParts refs from count (field_types fs)
-IsDraft refs Row (Def.Tuple ts) s = (from count : ℕ) × (s ≡ draft.Parts from count) × AreParts refs from count (ids ts)
-IsDraft refs Row (Def.Variant arms) s = (from count : ℕ) × (s ≡ draft.Arms from count) × Row from count arms
+IsDraft refs Row (Def.Composite fs) s = (from count : ℕ) × (s ≡ draft.Parts from count)
+    × AreParts refs from count (field_types fs)
+IsDraft refs Row (Def.Tuple ts) s = (from count : ℕ) × (s ≡ draft.Parts from count)
+    × AreParts refs from count (ids ts)
+IsDraft refs Row (Def.Variant arms) s = (from count : ℕ) × (s ≡ draft.Arms from count)
+    × Row from count arms
 IsDraft refs Row (Def.Sequence t) s = s ≡ draft.Sequence t.0
 IsDraft refs Row (Def.Array n t) s = s ≡ draft.Array n t.0
 IsDraft refs Row (Def.Primitive p) s = s ≡ draft.Primitive p
@@ -57,19 +67,24 @@ IsDraft refs Row (Def.Compact t) s = s ≡ draft.Compact t.0
 IsDraft refs Row (Def.BitSequence store order) s = s ≡ draft.BitSequence
 
 -- there is a draft for each type, its own
-pub record AreDrafts (r : List TypeInfo) (refs : List ℕ) (rows : Rows) (drafts : List Draft) : Type 0 where
+pub record AreDrafts (r : List TypeInfo) (refs : List ℕ) (rows : Rows) (drafts : List Draft) : Type
+    0 where
   pub paired : IsPaired rows
   pub count : length drafts ≡ length r
-  pub own : (t : ℕ) (d : TypeDef) (s : Draft) → shape r t ≡ Some d → slice_get drafts t ≡ Some s → IsDraft refs (IsRow refs rows) d s
+  pub own : (t : ℕ) (d : TypeDef) (s : Draft) → shape r t ≡ Some d → slice_get drafts t ≡ Some s →
+      IsDraft refs (IsRow refs rows) d s
 
--- these are the classes and targets of a registry, its references, and the drafts and rows over them
-pub record IsSettled (r : List TypeInfo) (classes : List Class) (targets : List (Option Target)) (refs : List ℕ) (rows : Rows) (drafts : List Draft) : Type 0 where
+-- these are the classes and targets of a registry, its references, and the drafts and rows over
+-- them
+pub record AreSettled (r : List TypeInfo) (classes : List Class) (targets : List (Option Target))
+    (refs : List ℕ) (rows : Rows) (drafts : List Draft) : Type 0 where
   pub classes_are : TellsClasses r classes
   pub targets_are : TellsTargets r targets
   pub all : refs ≡ references_of r
   pub own : AreDrafts r (references_of r) rows drafts
 
--- one of these by the class of a type: the first where it has no value, and the second where it takes bytes
+-- one of these by the class of a type: the first where it has no value, and the second where it
+-- takes bytes
 abbrev pub by_class : Class → Step → Step → Step
 by_class class.NoValue none sized = none
 by_class class.Empty none sized = step.Empty
@@ -85,38 +100,53 @@ sequence_step class.Sized t = step.Sequence t
 abbrev pub step_by : (ℕ → Class) → (ℕ → Option Target) → Class → Draft → Step
 step_by classes targets c (draft.Primitive p) = by_class c step.NoValue (step.Primitive p)
 step_by classes targets c (draft.Parts from count) = by_class c step.NoValue (step.Parts from count)
-step_by classes targets c (draft.Arms from count) = by_class c (step.NoArm from count) (step.Arms from count)
+step_by classes targets c (draft.Arms from count) =
+    by_class c (step.NoArm from count) (step.Arms from count)
 step_by classes targets c (draft.Array n t) = by_class c step.NoValue (step.Array n t)
 step_by classes targets c (draft.Sequence t) = by_class c step.NoValue (sequence_step (classes t) t)
 step_by classes targets c (draft.Compact t) = step.Compact (targets t)
 step_by classes targets c draft.BitSequence = by_class c step.NoValue step.BitSequence
 
 -- there is a step for each draft
-pub record AreStepsBy (classes : ℕ → Class) (targets : ℕ → Option Target) (drafts : List Draft) (steps : List Step) : Type 0 where
+pub record AreStepsBy (classes : ℕ → Class) (targets : ℕ → Option Target) (drafts : List Draft)
+    (steps : List Step) : Type 0 where
   pub count : length steps ≡ length drafts
-  pub own : (t : ℕ) (d : Draft) (s : Step) → slice_get drafts t ≡ Some d → slice_get steps t ≡ Some s → s ≡ step_by classes targets (classes t) d
+  pub own : (t : ℕ) (d : Draft) (s : Step) → slice_get drafts t ≡ Some d →
+      slice_get steps t ≡ Some s → s ≡ step_by classes targets (classes t) d
 
--- this is the step of a type of this class and shape, where its parts are among these references, and the row of a variant is as Row says
-abbrev pub IsStep : List TypeInfo → List ℕ → (ℕ → ℕ → List Arm → Type 0) → Class → TypeDef → Step → Type 0
-IsStep r refs Row c (Def.Composite fs) s = (from count : ℕ) × (s ≡ by_class c step.NoValue (step.Parts from count)) × AreParts refs from count (field_types fs)
-IsStep r refs Row c (Def.Tuple ts) s = (from count : ℕ) × (s ≡ by_class c step.NoValue (step.Parts from count)) × AreParts refs from count (ids ts)
-IsStep r refs Row c (Def.Variant arms) s = (from count : ℕ) × (s ≡ by_class c (step.NoArm from count) (step.Arms from count)) × Row from count arms
-IsStep r refs Row c (Def.Sequence t) s = s ≡ by_class c step.NoValue (sequence_step (class_of r t.0) t.0)
+-- this is the step of a type of this class and shape, where its parts are among these references,
+-- and the row of a variant is as Row says
+abbrev pub IsStep : List TypeInfo → List ℕ → (ℕ → ℕ → List Arm → Type 0) → Class → TypeDef → Step →
+    Type 0
+IsStep r refs Row c (Def.Composite fs) s = (from count : ℕ)
+    × (s ≡ by_class c step.NoValue (step.Parts from count))
+    × AreParts refs from count (field_types fs)
+IsStep r refs Row c (Def.Tuple ts) s = (from count : ℕ)
+    × (s ≡ by_class c step.NoValue (step.Parts from count)) × AreParts refs from count (ids ts)
+IsStep r refs Row c (Def.Variant arms) s = (from count : ℕ)
+    × (s ≡ by_class c (step.NoArm from count) (step.Arms from count)) × Row from count arms
+IsStep r refs Row c (Def.Sequence t) s =
+    s ≡ by_class c step.NoValue (sequence_step (class_of r t.0) t.0)
 IsStep r refs Row c (Def.Array n t) s = s ≡ by_class c step.NoValue (step.Array n t.0)
 IsStep r refs Row c (Def.Primitive p) s = s ≡ by_class c step.NoValue (step.Primitive p)
 IsStep r refs Row c (Def.Compact t) s = s ≡ step.Compact (target_of r t.0)
 IsStep r refs Row c (Def.BitSequence store order) s = s ≡ by_class c step.NoValue step.BitSequence
 
 -- these are the references, and the steps and rows over them
-pub record IsTable (r : List TypeInfo) (refs : List ℕ) (rows : Rows) (steps : List Step) : Type 0 where
+pub record IsTable (r : List TypeInfo) (refs : List ℕ) (rows : Rows) (steps : List Step) : Type 0
+    where
   pub all : refs ≡ references_of r
   pub paired : IsPaired rows
   pub count : length steps ≡ length r
-  pub own : (t : ℕ) (d : TypeDef) (s : Step) → shape r t ≡ Some d → slice_get steps t ≡ Some s → IsStep r (references_of r) (IsRow (references_of r) rows) (class_of r t) d s
+  pub own : (t : ℕ) (d : TypeDef) (s : Step) → shape r t ≡ Some d → slice_get steps t ≡ Some s →
+      IsStep r (references_of r) (IsRow (references_of r) rows) (class_of r t) d s
 
 -- the step of type t, with no word of where its row is
 abbrev pub IsStepAt : List TypeInfo → ℕ → Option Step → Type 0
-IsStepAt r t s = elim (shape r t) [ Some d ↦ (x : Step) × (s ≡ Some x) × IsStep r (references_of r) (λ from count arms. Unit {0}) (class_of r t) d x | None ↦ s ≡ None ]
+IsStepAt r t s = elim (shape r t)
+    [ Some d ↦ (x : Step) × (s ≡ Some x)
+    × IsStep r (references_of r) (λ from count arms. Unit {0}) (class_of r t) d x | None ↦
+    s ≡ None ]
 
 -- the class of a type of this step
 abbrev pub class_of_step : Step → Class

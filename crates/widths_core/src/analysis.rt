@@ -5,7 +5,7 @@ ghost use Rattle.registry_core.specs.Fits.{FitsRegistry};
 ghost use Rattle.widths_core.specs.Analysed.{IsAnalysed};
 ghost use Rattle.widths_core.specs.Checks.{IsFaultOf};
 ghost use Rattle.graph_core.specs.Graphs.{IsUnread};
-ghost use Rattle.widths_core.specs.Steps.{IsSettled, IsTable};
+ghost use Rattle.widths_core.specs.Steps.{AreSettled, IsTable};
 ghost use Rattle.graph_core.specs.References.{first_fault};
 ghost use Rattle.graph_core.specs.Stops.{IsRefusedFor};
 
@@ -54,7 +54,7 @@ pub(crate) struct Analysis {
 fn settled_types(alloc: Global, graph: &mut Graph<'_>) -> Result<Settled, CheckFault>
     requires fits { FitsRegistry graph.old.types.now }
     requires unread { IsUnread graph.old.types.now graph.old }
-    ensures settled { IfOk result (λ t. IsSettled graph.old.types.now t.classes.items t.targets.items graph.new.members.items t.rows t.drafts.items) }
+    ensures settled { IfOk result (λ t. AreSettled graph.old.types.now t.classes.items t.targets.items graph.new.members.items t.rows t.drafts.items) }
     ensures analysed { IfOk result (λ t. IsAnalysed graph.old.types.now t.widest graph.new.looks) }
     ensures refused { IfErr result (IsRefusedFor graph.old.types.now graph.new.looks) }
 {

@@ -3,13 +3,13 @@
 ghost use Rattle.std.specs.Prelude.{◌≡◌, ◌<◌, ◌++◌, ◌∷◌, [], ◌^◌, length, false, IfOk, IfErr};
 ghost use Rattle.registry_core.specs.Fits.{FitsDefinition, FitsRegistry};
 ghost use Rattle.graph_core.specs.Graphs.{IsLinked, IsNew, refs};
-ghost use Rattle.widths_core.specs.Linking.{Adds, AreTypesLinked};
+ghost use Rattle.widths_core.specs.Linking.{AddsRules, AreTypesLinked};
 ghost use Rattle.graph_core.specs.Lent.{id_of, shape_of};
 ghost use Rattle.widths_core.specs.Rows.{IsPaired, Keeps};
 ghost use Rattle.widths_core.specs.Steps.{AreParts, IsRow, IsDraft, AreDrafts};
 ghost use Rattle.widths_core.specs.Targets.{width_target};
 ghost use Rattle.widths_core.specs.Rules.{rule, kind_of_parts, found_of_primitive, found_sized, all_parts, arm_rules, rules_of};
-ghost use Rattle.graph_core.specs.Stops.{Stops, IsRefusedFor};
+ghost use Rattle.graph_core.specs.Stops.{StopsLinking, IsRefusedFor};
 ghost use Rattle.graph_core.specs.Types.{ids, field_types};
 ghost use Rattle.graph_core.specs.Widths.{widest};
 ghost use Rattle.graph_core.specs.declared.stop.Stop.TheVariants.{Memory};
@@ -29,7 +29,7 @@ const SIZED: Found = Found {
     target: None,
 };
 
-/// Adds a counter of so many parts, and answers its number.
+/// AddsRules a counter of so many parts, and answers its number.
 fn count_parts(
     counters: &mut Vec<Counter>,
     owner: u32,
@@ -61,9 +61,9 @@ fn link_fields(
     fields: &Fields<'_>,
 ) -> Result<Parts, Stop>
     requires { IsLinked graph.old }
-    ensures adds { IfOk result (λ _. Adds (rule owner kind (field_types fields.now.fields.now) ∷ []) counters.old.items counters.new.items graph.old graph.new) }
+    ensures adds { IfOk result (λ _. AddsRules (rule owner kind (field_types fields.now.fields.now) ∷ []) counters.old.items counters.new.items graph.old graph.new) }
     ensures parts { IfOk result (λ p. AreParts (refs graph.new) p.from p.count (field_types fields.now.fields.now)) }
-    ensures stops { IfErr result (Stops (all_parts (rule owner kind (field_types fields.now.fields.now) ∷ [])) graph.old graph.new) }
+    ensures stops { IfErr result (StopsLinking (all_parts (rule owner kind (field_types fields.now.fields.now) ∷ [])) graph.old graph.new) }
 {
     let from = graph.read();
     let counter = count_parts(counters, owner, kind, fields.len())?;
@@ -86,9 +86,9 @@ fn link_members(
     members: &Members<'_>,
 ) -> Result<Parts, Stop>
     requires { IsLinked graph.old }
-    ensures adds { IfOk result (λ _. Adds (rule owner kind (ids members.now.members.now) ∷ []) counters.old.items counters.new.items graph.old graph.new) }
+    ensures adds { IfOk result (λ _. AddsRules (rule owner kind (ids members.now.members.now) ∷ []) counters.old.items counters.new.items graph.old graph.new) }
     ensures parts { IfOk result (λ p. AreParts (refs graph.new) p.from p.count (ids members.now.members.now)) }
-    ensures stops { IfErr result (Stops (all_parts (rule owner kind (ids members.now.members.now) ∷ [])) graph.old graph.new) }
+    ensures stops { IfErr result (StopsLinking (all_parts (rule owner kind (ids members.now.members.now) ∷ [])) graph.old graph.new) }
 {
     let from = graph.read();
     let counter = count_parts(counters, owner, kind, members.len())?;
@@ -112,8 +112,8 @@ fn link_one(
 ) -> Result<u32, Stop>
     requires { IsLinked graph.old }
     ensures value { IfOk result (λ id. id ≡ id_of part.now) }
-    ensures adds { IfOk result (λ _. Adds (rule owner kind (id_of part.now ∷ []) ∷ []) counters.old.items counters.new.items graph.old graph.new) }
-    ensures stops { IfErr result (Stops (all_parts (rule owner kind (id_of part.now ∷ []) ∷ [])) graph.old graph.new) }
+    ensures adds { IfOk result (λ _. AddsRules (rule owner kind (id_of part.now ∷ []) ∷ []) counters.old.items counters.new.items graph.old graph.new) }
+    ensures stops { IfErr result (StopsLinking (all_parts (rule owner kind (id_of part.now ∷ []) ∷ [])) graph.old graph.new) }
 {
     let counter = count_parts(counters, owner, kind, 1)?;
     graph.add(part, counter)
@@ -138,11 +138,11 @@ fn link_arms(
 ) -> Result<Parts, Stop>
     requires linked { IsLinked graph.old }
     requires paired { IsPaired rows.old }
-    ensures adds { IfOk result (λ _. Adds (arm_rules owner [] arms.now.arms.now) counters.old.items counters.new.items graph.old graph.new) }
+    ensures adds { IfOk result (λ _. AddsRules (arm_rules owner [] arms.now.arms.now) counters.old.items counters.new.items graph.old graph.new) }
     ensures paired { IfOk result (λ _. IsPaired rows.new) }
     ensures keeps { IfOk result (λ _. Keeps rows.old rows.new) }
     ensures row { IfOk result (λ p. IsRow (refs graph.new) rows.new p.from p.count arms.now.arms.now) }
-    ensures stops { IfErr result (Stops (all_parts (arm_rules owner [] arms.now.arms.now)) graph.old graph.new) }
+    ensures stops { IfErr result (StopsLinking (all_parts (arm_rules owner [] arms.now.arms.now)) graph.old graph.new) }
 {
     let first = rows.len();
     'arms: for position in 0..arms.len() {
@@ -225,11 +225,11 @@ fn link_definition(
 ) -> Result<Draft, Stop>
     requires linked { IsLinked graph.old }
     requires paired { IsPaired rows.old }
-    ensures adds { IfOk result (λ _. Adds (rules_of owner (shape_of definition.now)) counters.old.items counters.new.items graph.old graph.new) }
+    ensures adds { IfOk result (λ _. AddsRules (rules_of owner (shape_of definition.now)) counters.old.items counters.new.items graph.old graph.new) }
     ensures paired { IfOk result (λ _. IsPaired rows.new) }
     ensures keeps { IfOk result (λ _. Keeps rows.old rows.new) }
     ensures draft { IfOk result (λ s. IsDraft (refs graph.new) (IsRow (refs graph.new) rows.new) (shape_of definition.now) s) }
-    ensures stops { IfErr result (Stops (all_parts (rules_of owner (shape_of definition.now))) graph.old graph.new) }
+    ensures stops { IfErr result (StopsLinking (all_parts (rules_of owner (shape_of definition.now))) graph.old graph.new) }
 {
     match definition {
         Definition::Composite(fields) => {

@@ -2,7 +2,7 @@
 
 ghost use Rattle.std.specs.Prelude.{◌≡◌, ◌≤◌, ◌+◌, length, slice_index, OnOk, IfOk, MatchOption, MatchResult};
 ghost use Rattle.std.specs.List.{insert};
-ghost use Rattle.widths_core.specs.Rows.{IsPlace, IsSearched, IsPaired, IsEmpty, IsIn, Lacks, Rises, Inserts, arm_in};
+ghost use Rattle.widths_core.specs.Rows.{IsPlace, IsSearched, IsPaired, HasNoRow, IsIn, Lacks, Rises, Inserts, arm_in};
 
 use crate::step::ArmStep;
 use std::alloc::{AllocError, Global};
@@ -35,7 +35,7 @@ fn place_of(row: &[u8], index: u8) -> Option<usize>
 impl Rows {
     /// No row yet, with memory for so many arms.
     pub(crate) fn with_capacity(alloc: Global, arms: usize) -> Result<Rows, AllocError>
-        ensures { IfOk result (λ rows. IsEmpty rows) }
+        ensures { IfOk result (λ rows. HasNoRow rows) }
     {
         Ok(Rows {
             indexes: Vec::with_capacity(alloc, arms)?,

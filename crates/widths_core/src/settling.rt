@@ -1,7 +1,7 @@
 //! Types settle one by one, each with its class and target, as soon as its parts have.
 
 ghost use Rattle.std.specs.Prelude.{◌≡◌, ◌<◌, length, replicate, [], None, OnOk, IfOk};
-ghost use Rattle.widths_core.specs.Progress.{state_of, settled_as, completed, part_settled, counter_at, HasType};
+ghost use Rattle.widths_core.specs.Progress.{state_of, settled_as, completed, part_settled, counter_at, KnowsType};
 ghost use Rattle.widths_core.specs.Propagation.{AreCompactsSettled, IsBad, IsPending, IsStart, IsPropagatedTo, Propagates, PropagatesAll};
 ghost use Rattle.widths_core.specs.declared.class.Class.TheVariants as class;
 
@@ -43,7 +43,7 @@ impl Settling {
 
     /// A type settles as this, unless it has settled before.
     fn settle(&mut self, owner: u32, found: Found) -> Result<(), AllocError>
-        requires { HasType (state_of self.old) owner }
+        requires { KnowsType (state_of self.old) owner }
         ensures { OnOk result (state_of self.new ≡ settled_as (state_of self.old) owner found) }
     {
         let position = owner as usize;
@@ -58,7 +58,7 @@ impl Settling {
 
     /// All parts of a counter have settled, and a compact over the last of them has this target.
     fn complete(&mut self, counter: Counter, last: Option<Target>) -> Result<(), AllocError>
-        requires { HasType (state_of self.old) counter.owner }
+        requires { KnowsType (state_of self.old) counter.owner }
         ensures { OnOk result (state_of self.new ≡ completed (state_of self.old) counter last) }
     {
         match counter.kind.outcome(counter.sized, last) {
@@ -70,7 +70,7 @@ impl Settling {
     /// A part of a counter has settled as this.
     fn settle_part(&mut self, number: u32, found: Found) -> Result<(), AllocError>
         requires number { number < length self.old.counters.items }
-        requires owner { HasType (state_of self.old) (counter_at (state_of self.old) number).owner }
+        requires owner { KnowsType (state_of self.old) (counter_at (state_of self.old) number).owner }
         requires left { 0 < (counter_at (state_of self.old) number).left }
         ensures { OnOk result (state_of self.new ≡ part_settled (state_of self.old) number found) }
     {

@@ -2,7 +2,7 @@
 
 ghost use Rattle.std.specs.Prelude.{◌≡◌};
 ghost use Rattle.registry_core.specs.Gives.{Gives};
-ghost use Rattle.registry_core.specs.Reading.{field_at, fields_at, arm_at, arms_at, primitive_at, array_at, bit_sequence_at, definition_at};
+ghost use Rattle.registry_core.specs.Reading.{field_at, fields_at, arm_read_at, arms_read_at, primitive_at, array_at, bit_sequence_at, definition_at};
 
 use super::atoms::{
     byte_of, length_of, optional_text_of, text_of, texts_of, type_id_of, type_ids_of, word_of,
@@ -49,9 +49,9 @@ fn fields_of(alloc: Global, bytes: &[u8]) -> Result<(Items<Field>, &[u8]), Stop<
 }
 
 /// An arm.
-#[tactic(auto, unfolding(crate::specs::Reading::arm_at))]
+#[tactic(auto, unfolding(crate::specs::Reading::arm_read_at))]
 fn arm_of(alloc: Global, bytes: &[u8]) -> Result<(Arm, &[u8]), Stop<'_>>
-    ensures { Gives (λ x. (x.0, x.1.now)) result (arm_at bytes.now) }
+    ensures { Gives (λ x. (x.0, x.1.now)) result (arm_read_at bytes.now) }
 {
     let (name, rest) = text_of(alloc, bytes)?;
     let (fields, rest) = fields_of(alloc, rest)?;
@@ -67,9 +67,9 @@ fn arm_of(alloc: Global, bytes: &[u8]) -> Result<(Arm, &[u8]), Stop<'_>>
 }
 
 /// Arms: how many, and one behind the other.
-#[tactic(auto, unfolding(crate::specs::Reading::arms_at))]
+#[tactic(auto, unfolding(crate::specs::Reading::arms_read_at))]
 fn arms_of(alloc: Global, bytes: &[u8]) -> Result<(Items<Arm>, &[u8]), Stop<'_>>
-    ensures { Gives (λ x. (x.0, x.1.now)) result (arms_at bytes.now) }
+    ensures { Gives (λ x. (x.0, x.1.now)) result (arms_read_at bytes.now) }
 {
     let (count, mut rest) = length_of(bytes)?;
     let mut arms = Vec::new(alloc);

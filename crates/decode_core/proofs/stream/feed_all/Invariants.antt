@@ -5,7 +5,8 @@ use Rattle.decode_core.proofs.stream.feed_all.Given as goal
 
 abbrev pub invariant-pieces : goal.invariant-pieces
 invariant-pieces g l = record {
-  so_far : (b : List ℕ) × IsUnderWay l.decoder b × Consumes (g.R.Read.remaining l.fn.source.device) (g.R.Read.remaining l.source.device) b;
+  so_far : (b : List ℕ) × IsUnderWay l.decoder b
+      × Consumes (g.R.Read.remaining l.fn.source.device) (g.R.Read.remaining l.source.device) b;
   job : l.decoder.job ≡ l.fn.decoder.job;
   quiet : l.source.failed ≡ l.fn.source.failed;
 }

@@ -4,4 +4,8 @@ use Rattle.graph_core.specs.References.{first_unknown}
 use Rattle.graph_core.proofs.references.unknown_in_arms.Given as goal
 
 abbrev pub invariant-arms : goal.invariant-arms
-invariant-arms l = (l.graph.types.now ≡ l.fn.graph.types.now) × (first_unknown (length l.fn.graph.types.now) (flat_map (λ a. field_types a.fields) (drop l.position l.arms.arms.now)) ≡ first_unknown (length l.fn.graph.types.now) (flat_map (λ a. field_types a.fields) l.arms.arms.now))
+invariant-arms l = (l.graph.types.now ≡ l.fn.graph.types.now)
+    × (first_unknown (length l.fn.graph.types.now)
+    (flat_map (λ a. field_types a.fields) (drop l.position l.arms.arms.now))
+    ≡ first_unknown (length l.fn.graph.types.now)
+    (flat_map (λ a. field_types a.fields) l.arms.arms.now))

@@ -4,4 +4,5 @@ use Rattle.registry_core.specs.Spelling.{arm}
 use Rattle.registry_core.proofs.writing.put_arms.Given as goal
 
 abbrev pub invariant-arms : goal.invariant-arms
-invariant-arms l = l.out.items ≡ l.fn.out.items ++ compact (length l.values) ++ flat_map arm (take l.value-index l.value-items)
+invariant-arms l = l.out.items
+    ≡ l.fn.out.items ++ compact (length l.values) ++ flat_map arm (take l.value-index l.value-items)

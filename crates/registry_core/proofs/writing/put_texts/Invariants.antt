@@ -4,4 +4,6 @@ use Rattle.registry_core.specs.Spelling.{text}
 use Rattle.registry_core.proofs.writing.put_texts.Given as goal
 
 abbrev pub invariant-texts : goal.invariant-texts
-invariant-texts l = l.out.items ≡ l.fn.out.items ++ compact (length l.values) ++ flat_map text (take l.value-index l.value-items)
+invariant-texts l = l.out.items
+    ≡ l.fn.out.items ++ compact (length l.values) ++ flat_map text
+    (take l.value-index l.value-items)

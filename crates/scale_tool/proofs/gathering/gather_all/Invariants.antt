@@ -1,11 +1,12 @@
 use Rattle.std.proofs.Common.{◌≡◌, ◌-◌, ◌≤◌, ◌^◌, vec_len}
-use Rattle.scale_tool.specs.Moved.{Takes}
+use Rattle.scale_tool.specs.Moved.{LeavesReader}
 use Rattle.scale_tool.proofs.gathering.gather_all.Given as goal
 
 abbrev pub invariant-pieces : goal.invariant-pieces
 invariant-pieces g l = record {
   grown : vec_len l.fn.out ≤ vec_len l.out;
-  taken : Takes (g.R.Read.remaining l.fn.source.device) (g.R.Read.remaining l.source.device) l.fn.out.items l.out.items (vec_len l.out - vec_len l.fn.out);
+  taken : LeavesReader (g.R.Read.remaining l.fn.source.device) (g.R.Read.remaining l.source.device)
+      l.fn.out.items l.out.items (vec_len l.out - vec_len l.fn.out);
   quiet : l.source.failed ≡ l.fn.source.failed;
 }
 

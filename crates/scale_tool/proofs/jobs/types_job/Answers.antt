@@ -13,7 +13,8 @@ returns-clause-job c =
       rows_of found,
       refl,
       record {
-        metadata_is = subst Metadata (one_text-rows found (codes "metadata")) (flag.none, flag.value, flag.other);
+        metadata_is = subst Metadata (one_text-rows found (codes "metadata"))
+            (flag.none, flag.value, flag.other);
         file_is = sym (c.in_ok-file.ensures ∙ first_value-rows found (codes "FILE"));
       },
     )
@@ -21,5 +22,7 @@ returns-clause-job c =
 pub returns-in_err-file-clause-none : goal.returns-in_err-file-clause-none
 returns-in_err-file-clause-none c =
     let found = found_of c.args.matches.now in
-    let none : None ≡ first_of (codes "FILE") (rows_of found) = c.in_err-file.ensures ∙ first_value-rows found (codes "FILE") in
-    if_none _ _ (none_of_types (rows_of found) (λ file is. let bad : None ≡ Some file = none ∙ is in absurd cc))
+    let none : None ≡ first_of (codes "FILE") (rows_of found) = c.in_err-file.ensures
+        ∙ first_value-rows found (codes "FILE") in
+    if_none _ _ (none_of_types (rows_of found)
+        (λ file is. let bad : None ≡ Some file = none ∙ is in absurd cc))

@@ -3,4 +3,5 @@ use Rattle.std.specs.Prelude.{flat_map, string_bytes}
 use Rattle.scale_tool.proofs.lines.joined.Given as goal
 
 abbrev pub invariant-segments : goal.invariant-segments
-invariant-segments l = string_bytes l.path ≡ string_bytes l.initial.path ++ flat_map (λ t. codes "::" ++ t) (take l.segment-index l.others)
+invariant-segments l = string_bytes l.path
+    ≡ string_bytes l.initial.path ++ flat_map (λ t. codes "::" ++ t) (take l.segment-index l.others)

@@ -7,9 +7,13 @@ use Rattle.value_core.proofs.writing.encode.Given as goal
 abbrev pub invariant-nodes : goal.invariant-nodes
 invariant-nodes g l =
     record {
-      sent : Appends (g.W.Write.contents l.fn.sink.device) (g.W.Write.contents l.sink.device) (flat_map (node_bytes l.value.types l.pool) (take l.node-index l.nodes));
-      written : l.written ≡ length (flat_map (node_bytes l.value.types l.pool) (take l.node-index l.nodes));
-      few : l.written ≤ 32 * l.node-index + entries_text_bytes (entries_shown l.pool (take l.node-index l.nodes));
+      sent : Appends (g.W.Write.contents l.fn.sink.device) (g.W.Write.contents l.sink.device)
+          (flat_map (node_bytes l.value.types l.pool) (take l.node-index l.nodes));
+      written : l.written ≡ length
+          (flat_map (node_bytes l.value.types l.pool) (take l.node-index l.nodes));
+      few : l.written ≤ 32 * l.node-index + entries_text_bytes
+          (entries_shown l.pool (take l.node-index l.nodes));
       quiet : l.sink.failed ≡ l.fn.sink.failed;
-      none : length (flat_map (node_bytes l.value.types l.pool) (take l.node-index l.nodes)) ≡ 0 → l.sink ≡ l.fn.sink;
+      none : length (flat_map (node_bytes l.value.types l.pool) (take l.node-index l.nodes)) ≡ 0 →
+          l.sink ≡ l.fn.sink;
     }

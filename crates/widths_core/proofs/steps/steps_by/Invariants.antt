@@ -3,4 +3,5 @@ use Rattle.widths_core.proofs.StepsOf.{StepsTo}
 use Rattle.widths_core.proofs.steps.steps_by.Given as goal
 
 abbrev pub invariant-types : goal.invariant-types
-invariant-types l = StepsTo (known_class l.classes) (known_target l.targets) l.drafts l.position l.steps.items
+invariant-types l = StepsTo (known_class l.classes) (known_target l.targets) l.drafts l.position
+    l.steps.items

@@ -9,8 +9,10 @@ invariant-turns g l = record {
   inside : l.at ≤ length l.piece;
   moves : Moves l.fn.self l.self (take l.at l.piece);
   whole : is_whole l.fn.self.built ≡ true → (l.at ≡ 0) × (l.self ≡ l.fn.self);
-  each : l.fn.turns.so_far + length l.self.built.entries ≤ l.turns.so_far + length l.fn.self.built.entries;
-  few : l.turns.so_far + length l.fn.self.built.entries ≤ l.fn.turns.so_far + l.at + length l.self.built.entries;
+  each : l.fn.turns.so_far + length l.self.built.entries
+      ≤ l.turns.so_far + length l.fn.self.built.entries;
+  few : l.turns.so_far + length l.fn.self.built.entries
+      ≤ l.fn.turns.so_far + l.at + length l.self.built.entries;
 }
 
 abbrev pub decreases-turns : goal.decreases-turns

@@ -4,30 +4,42 @@ use Rattle.std.proofs.Common.{refl, sym, ap, subst, ◌∙◌}
 use Rattle.grammar_core.specs.declared.form.Next.TheVariants as next
 use Rattle.decode_core.specs.Reasons.{reason_of, stop_refusal}
 use Rattle.decode_core.specs.Running.{Running}
-use Rattle.decode_core.specs.Turned.{Stops}
+use Rattle.decode_core.specs.Turned.{EndsTurns}
 use Rattle.decode_core.specs.declared.fault.DecodeReason.{DecodeReason}
 use Rattle.decode_core.specs.declared.turned.Stopped.TheVariants as stop
-use Rattle.decode_core.proofs.Endings.{finished_stops, stop_stops}
-use Rattle.decode_core.proofs.Sound.{sound_of}
+use Rattle.decode_core.proofs.steps.Endings.{finished_stops, stop_stops}
+use Rattle.decode_core.proofs.steps.Sound.{sound_of}
 use Rattle.decode_core.proofs.run.Run.turn.Goals as goal
 
 -- src/run.rt:180:5
 pub returns-in-Finished-clause-tells : goal.returns-in-Finished-clause-tells
 returns-in-Finished-clause-tells g c =
-    let is : next_of c.self.inside.builder.walk ≡ next.Finished = sym (ap next_of c.walk.ensures.same) ∙ sym c.in-Finished.ensures in
-    (refl, subst (λ (s : Running). Stops s c.args.piece.now stop.Finished) c.self.view_is (finished_stops c.self.inside.builder c.self.inside.carry c.self.inside.text c.args.piece.now c.self.invariant is))
+    let is : next_of c.self.inside.builder.walk ≡ next.Finished =
+        sym (ap next_of c.walk.ensures.same) ∙ sym c.in-Finished.ensures in
+    (refl, subst (λ (s : Running). EndsTurns s c.args.piece.now stop.Finished) c.self.view_is
+        (finished_stops c.self.inside.builder c.self.inside.carry c.self.inside.text
+        c.args.piece.now c.self.invariant is))
 
 -- src/run.rt:180:5
 pub returns-in-Stop-clause-tells : goal.returns-in-Stop-clause-tells
 returns-in-Stop-clause-tells g c =
-    let is : next_of c.self.inside.builder.walk ≡ next.Stop c.in-Stop.reason = sym (ap next_of c.walk.ensures.same) ∙ sym c.in-Stop.ensures in
-    subst (λ (told_reason : DecodeReason). Stops c.args.self.now c.args.piece.now (stop.Refused 0 told_reason 0 0)) (sym c.into.ensures)
-    (subst (λ (s : Running). Stops s c.args.piece.now (stop.Refused 0 (reason_of (stop_refusal c.in-Stop.reason)) 0 0)) c.self.view_is (stop_stops c.self.inside.builder c.self.inside.carry c.self.inside.text c.args.piece.now c.in-Stop.reason c.self.invariant is))
+    let is : next_of c.self.inside.builder.walk ≡ next.Stop c.in-Stop.reason =
+        sym (ap next_of c.walk.ensures.same) ∙ sym c.in-Stop.ensures in
+    subst (λ (told_reason : DecodeReason). EndsTurns c.args.self.now c.args.piece.now
+        (stop.Refused 0 told_reason 0 0)) (sym c.into.ensures)
+    (subst (λ (s : Running). EndsTurns s c.args.piece.now
+        (stop.Refused 0 (reason_of (stop_refusal c.in-Stop.reason)) 0 0)) c.self.view_is
+        (stop_stops c.self.inside.builder c.self.inside.carry c.self.inside.text c.args.piece.now
+        c.in-Stop.reason c.self.invariant is))
 
 -- src/run.rt:180:5
 pub returns-in-Finished-clause-sound : goal.returns-in-Finished-clause-sound
-returns-in-Finished-clause-sound g c = sound_of c.self.inside.builder c.self.inside.carry c.self.inside.text c.args.self.now c.self.view_is c.walk.ensures.begun c.self.invariant
+returns-in-Finished-clause-sound g c =
+    sound_of c.self.inside.builder c.self.inside.carry c.self.inside.text c.args.self.now
+    c.self.view_is c.walk.ensures.begun c.self.invariant
 
 -- src/run.rt:180:5
 pub returns-in-Stop-clause-sound : goal.returns-in-Stop-clause-sound
-returns-in-Stop-clause-sound g c = sound_of c.self.inside.builder c.self.inside.carry c.self.inside.text c.args.self.now c.self.view_is c.walk.ensures.begun c.self.invariant
+returns-in-Stop-clause-sound g c =
+    sound_of c.self.inside.builder c.self.inside.carry c.self.inside.text c.args.self.now
+    c.self.view_is c.walk.ensures.begun c.self.invariant

@@ -5,4 +5,5 @@ use Rattle.registry_core.proofs.Steady.{compact_inside}
 use Rattle.registry_core.proofs.reading.atoms.length_of.Goals as goal
 
 pub returns-in-Err : goal.returns-in-Err
-returns-in-Err c = stops_at c.args.bytes.now c.in-Err.fault (compact_at U32 c.args.bytes.now) c.at_fault.result (compact_inside c.args.bytes.now) c.in-Err.ensures.reads c.at_fault.ensures
+returns-in-Err c = stops_at c.args.bytes.now c.in-Err.fault (compact_at U32 c.args.bytes.now)
+    c.at_fault.result (compact_inside c.args.bytes.now) c.in-Err.ensures.reads c.at_fault.ensures

@@ -6,4 +6,8 @@ use Rattle.value_core.proofs.NextLeaf.{text_next}
 use Rattle.value_core.proofs.builder.Builder.text.Goals as goal
 
 pub add_leaf-requires-clause-next : goal.add_leaf-requires-clause-next
-add_leaf-requires-clause-next g c = text_next _ c.as_bytes.result.now (search rules) (is_utf8-from_IsUtf8 c.as_bytes.result.now c.as_bytes.ensures.utf8) (subst AreBytes (sym c.as_bytes.ensures.value) (are_bytes c.args.text.now (λ i. (c.type_inv.text i).fits))) (search rules)
+add_leaf-requires-clause-next g c =
+    text_next _ c.as_bytes.result.now (search rules)
+    (is_utf8-from_IsUtf8 c.as_bytes.result.now c.as_bytes.ensures.utf8)
+    (subst AreBytes (sym c.as_bytes.ensures.value)
+    (are_bytes c.args.text.now (λ i. (c.type_inv.text i).fits))) (search rules)

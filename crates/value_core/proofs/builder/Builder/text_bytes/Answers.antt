@@ -5,7 +5,17 @@ use Rattle.value_core.proofs.Begun.{is_begun}
 use Rattle.value_core.proofs.builder.Builder.text_bytes.Goals as goal
 
 pub returns-in-Some-clause-begun : goal.returns-in-Some-clause-begun
-returns-in-Some-clause-begun g c = subst IsBegun c.self.view_is (is_begun c.self.inside.root.0 c.self.inside.walk c.self.inside.pool.items c.self.inside.nodes.items c.self.inside.text_len (pieces_shown c.self.inside.pool.items c.self.inside.open_text) c.self.inside.turns.so_far c.self.invariant.0 c.self.invariant.3 c.self.invariant.2)
+returns-in-Some-clause-begun g c =
+    subst IsBegun c.self.view_is
+    (is_begun c.self.inside.root.0 c.self.inside.walk c.self.inside.pool.items
+    c.self.inside.nodes.items c.self.inside.text_len
+    (pieces_shown c.self.inside.pool.items c.self.inside.open_text) c.self.inside.turns.so_far
+    c.self.invariant.0 c.self.invariant.3 c.self.invariant.2)
 
 pub returns-in-None-clause-begun : goal.returns-in-None-clause-begun
-returns-in-None-clause-begun g c = subst IsBegun c.self.view_is (is_begun c.self.inside.root.0 c.self.inside.walk c.self.inside.pool.items c.self.inside.nodes.items c.self.inside.text_len (pieces_shown c.self.inside.pool.items c.self.inside.open_text) c.self.inside.turns.so_far c.self.invariant.0 c.self.invariant.3 c.self.invariant.2)
+returns-in-None-clause-begun g c =
+    subst IsBegun c.self.view_is
+    (is_begun c.self.inside.root.0 c.self.inside.walk c.self.inside.pool.items
+    c.self.inside.nodes.items c.self.inside.text_len
+    (pieces_shown c.self.inside.pool.items c.self.inside.open_text) c.self.inside.turns.so_far
+    c.self.invariant.0 c.self.invariant.3 c.self.invariant.2)

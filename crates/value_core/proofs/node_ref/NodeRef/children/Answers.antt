@@ -4,7 +4,8 @@ use Rattle.value_core.proofs.Below.{below_at, below_seen_at}
 use Rattle.value_core.proofs.node_ref.NodeRef.children.Goals as goal
 
 pub new-requires : goal.new-requires
-new-requires c = subst (IsForest c.self.inside.checked.now.types c.self.inside.pool.now) (sym c.split_at.ensures.back) (below_at _ _ c.self.inside.nodes.now c.self.invariant)
+new-requires c = subst (IsForest c.self.inside.checked.now.types c.self.inside.pool.now)
+    (sym c.split_at.ensures.back) (below_at _ _ c.self.inside.nodes.now c.self.invariant)
 
 pub returns : goal.returns
 returns c =

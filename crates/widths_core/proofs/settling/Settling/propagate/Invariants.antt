@@ -3,7 +3,9 @@ use Rattle.widths_core.proofs.PropagatesOne.{PropagatesSo}
 use Rattle.widths_core.proofs.settling.Settling.propagate.Given as goal
 
 abbrev pub invariant-references : goal.invariant-references
-invariant-references l = PropagatesSo l.fn.graph.types.now l.fn.graph l.graph (state_of l.fn.self) (state_of l.self) l.propagated l.found l.at
+invariant-references l =
+    PropagatesSo l.fn.graph.types.now l.fn.graph l.graph (state_of l.fn.self) (state_of l.self)
+    l.propagated l.found l.at
 
 abbrev pub decreases-references : goal.decreases-references
 decreases-references l = l.at

@@ -4,7 +4,9 @@ use Rattle.widths_core.proofs.PropagatesOne.{PropagatesSoFar}
 use Rattle.widths_core.proofs.settling.Settling.propagate_all.Given as goal
 
 abbrev pub invariant-propagated : goal.invariant-propagated
-invariant-propagated l = PropagatesSoFar l.fn.graph.types.now l.fn.graph l.graph (state_of l.fn.self) (state_of l.self) l.done
+invariant-propagated l =
+    PropagatesSoFar l.fn.graph.types.now l.fn.graph l.graph (state_of l.fn.self) (state_of l.self)
+    l.done
 
 abbrev pub decreases-propagated : goal.decreases-propagated
 decreases-propagated l = length l.fn.graph.types.now - l.done

@@ -1,0 +1,102 @@
+-- A decoder that has taken nothing, and what the end of its input makes of one.
+use Rattle.std.proofs.Common.{
+    ◌≡◌, ℕ, suc, ◌+◌, ◌-◌, List, [], ◌++◌, length, Option, Some, None, Ok, Err, refl, sym, ap,
+    subst, ◌∙◌, arith, inl, inr
+}
+use Rattle.std.specs.Prelude.{Result}
+use Rattle.std.proofs.lemmas.List.{append-nil}
+use Rattle.value_core.specs.Built.{Built, finished}
+use Rattle.value_core.specs.Refusals as built
+use Rattle.value_core.specs.Shown.{Seen}
+use Rattle.value_core.specs.declared.build_fault.BuildFault.{BuildFault}
+use Rattle.decode_core.specs.Decoding.{
+    AnswersPiece, Decoding, FinishesDecoder, IsEnded, IsGoing, IsOf, Led, RunLed, built_tree,
+    first_running
+}
+use Rattle.decode_core.specs.Machine.{State, start}
+use Rattle.decode_core.specs.Outcome.{Job, done, more, IsOutcome}
+use Rattle.decode_core.specs.Running.{Running, state_of}
+use Rattle.decode_core.specs.Turned.{TurnsLead}
+use Rattle.decode_core.specs.declared.decoder.Progress.{Progress}
+use Rattle.decode_core.specs.declared.decoder.Progress.TheVariants as progress
+use Rattle.decode_core.specs.declared.fault.DecodeFault.{DecodeFault}
+use Rattle.decode_core.specs.declared.fault.DecodeReason.TheVariants as reason
+
+abbrev first : Job → Running
+first j = first_running j.registry j.ty j.depth
+
+start_is : (j : Job) → state_of (first j).built ≡ start j.depth j.ty
+start_is j = let room : j.depth + 2 - 1 ≡ suc j.depth = omega arith in rw room refl
+
+pub opens_first : (o : Option BuildFault) (first b : Built) → built.Opens o first (Ok b) → b ≡ first
+opens_first None first b h = h
+opens_first (Some f) first b h = absurd h
+
+-- no bytes have led to it
+pub first_going : (j : Job) (s : Running) (b : Built) → s ≡ record { built = b; carry = [] } →
+    b ≡ (first j).built → IsGoing j [] s 0
+first_going j s b is same =
+    let whole : first j ≡ s =
+        sym (is ∙ ap (λ (x : Built). record { built = x; carry = [] }) same) in
+    let led : TurnsLead j.registry (start j.depth j.ty) (state_of (first j).built) [] =
+        subst (λ (x : State). TurnsLead j.registry (start j.depth j.ty) x []) (sym (start_is j))
+        (record { tells = λ later. refl; level = refl }) in
+    subst (λ (x : Running). IsGoing j [] x 0) whole
+        (record { same = record { types = refl; ty = refl; limit = refl }; own = []; is = refl;
+        are_bytes = tt; led = led; stands = inl refl; count = refl; fits = omega arith })
+
+-- ---- the end of the input
+
+pub ends_refused : (old new : Decoding) (b : List ℕ) (f : DecodeFault) → new.job ≡ old.job →
+    AnswersPiece old new (b ++ []) (Err f) → FinishesDecoder old.job b (Err f)
+ends_refused old new b f same h =
+    let at_end = subst (λ (l : List ℕ). IsEnded new.job l f new.taken) (append-nil b) h.1 in
+    inr (new.taken, subst (λ (j : Job). IsEnded j b f new.taken) same at_end)
+
+pub ends_short : (old new : Decoding) (b : List ℕ) (at : ℕ) → new.job ≡ old.job → at ≡ new.taken →
+    AnswersPiece old new (b ++ []) (Ok progress.More) →
+    FinishesDecoder old.job b (Err (record { reason = reason.Truncated; at = at }))
+ends_short old new b at same is h =
+    let at_end : IsOutcome old.job b more new.taken =
+        subst (λ (j : Job). IsOutcome j b more new.taken) same
+        (subst (λ (l : List ℕ). IsOutcome new.job l more new.taken) (append-nil b) h) in
+    let count : new.taken ≡ length b = at_end.2 in
+    inl (ap (λ (n : ℕ). record { reason = reason.Truncated; at = n }) (is ∙ count),
+        subst (IsOutcome old.job b more) count at_end)
+
+run_of : (j : Job) (b : List ℕ) (n : ℕ) (s : Running) → RunLed j b n (Ok s) → IsOf j s
+run_of j b n s (inl g) = g.same
+run_of j b n s (inr g) = g.same
+
+same_run : (s t : Running) (run : Result Running DecodeFault) → run ≡ Ok s → run ≡ Ok t → s ≡ t
+same_run s t run h k = let both = sym h ∙ k in cc
+
+pub ends_done : (old new : Decoding) (b : List ℕ) (used : ℕ) (s : Running) (v : Seen) →
+    new.job ≡ old.job → new.run ≡ Ok s → v ≡ finished s.built →
+    AnswersPiece old new (b ++ []) (Ok (progress.Done used)) → Led new (b ++ []) →
+    FinishesDecoder old.job b (Ok v)
+ends_done old new b used s v same run is h led =
+    let t = h.0 in
+    let one : t ≡ s = same_run t s new.run h.1 run in
+    let of : IsOf new.job s =
+        run_of new.job (b ++ []) new.taken s (subst (RunLed new.job (b ++ []) new.taken) run led) in
+    let of_old = subst (λ (j : Job). IsOf j s) same of in
+    let out : IsOutcome new.job (b ++ []) (done (built_tree s.built)) new.taken =
+        subst (λ (r : Running). IsOutcome new.job (b ++ []) (done (built_tree r.built)) new.taken)
+        one h.2 in
+    let out_old : IsOutcome old.job b (done (built_tree s.built)) new.taken =
+        subst (λ (j : Job). IsOutcome j b (done (built_tree s.built)) new.taken) same
+        (subst (λ (l : List ℕ). IsOutcome new.job l (done (built_tree s.built)) new.taken)
+        (append-nil b) out) in
+    (new.taken, ap (λ (x : Seen). x.types) is ∙ of_old.types, ap (λ (x : Seen). x.ty) is
+        ∙ of_old.ty, subst (λ (x : Seen). IsOutcome old.job b (done x.tree) new.taken) (sym is)
+        out_old)
+
+pub ends_by : (old new : Decoding) (b : List ℕ) (p : Progress) (s : Running) (v : Seen) →
+    new.job ≡ old.job → (p ≡ progress.More → ⊥) → new.run ≡ Ok s →
+    Some v ≡ Some (finished s.built) → AnswersPiece old new (b ++ []) (Ok p) × Led new (b ++ []) →
+    FinishesDecoder old.job b (Ok v)
+ends_by old new b progress.More s v same whole run is h = absurd (whole refl)
+ends_by old new b (progress.Done used) s v same whole run is h =
+    let value_is : v ≡ finished s.built = cc in
+    ends_done old new b used s v same run value_is h.0 h.1

@@ -1,0 +1,26 @@
+-- What readings on lists say of a value and its faults, node by node and as a whole.
+pub mod Deciding
+pub mod Shortest
+pub mod Outcomes
+pub mod Computed
+pub mod Missing
+pub mod Held
+pub mod Begins
+pub mod Kept
+pub mod HeldBound
+pub mod ByFault
+pub mod MoreIs
+pub mod Mets
+pub mod Tells
+pub mod Owns
+pub mod MachineTurns
+pub mod Left
+pub mod Decides
+pub mod FaultBegins
+pub mod HeldOne
+pub mod Nodes
+pub mod Holds
+pub mod Fed
+pub mod ReadFronts
+pub mod Targets
+pub mod ToldSpells

@@ -1,0 +1,293 @@
+-- What is taken, by the fault alone.
+use Rattle.std.proofs.Common.{
+    ◌≡◌, ℕ, zero, suc, ◌+◌, ◌^◌, ◌≤◌, Bool, true, false, cond, List, [], ◌∷◌, ◌++◌, length, take,
+    drop, Option, Some, None, Ok, Err, refl, ap, ◌∙◌, arith, inl, inr
+}
+use Rattle.std.specs.Prelude.{nat_lt, not}
+use Rattle.std.specs.Str.{bytes_eq, is_utf8}
+use Rattle.std.specs.Str.Lossy.{utf8_valid_len}
+use Rattle.std.proofs.lemmas.Bool.{ltb-false}
+use Rattle.scale_core.specs.Compact.{compact, target_bytes}
+use Rattle.scale_core.specs.Number.{number, signed_number, is_scalar}
+use Rattle.scale_core.specs.Read.{
+    Read, ◌>>=◌, bytes_at, compact_at, text_at, integer_at, form_from, form_number, is_too_long,
+    form_len
+}
+use Rattle.scale_core.specs.declared.compact.Target.{Target}
+use Rattle.scale_core.specs.declared.compact.Target.TheVariants as target
+use Rattle.scale_core.specs.declared.fault.Reason.{Reason}
+use Rattle.scale_core.specs.declared.fault.Reason.TheVariants as reasons
+use Rattle.scale_core.proofs.Results.{Takes, compact_takes}
+use Rattle.scale_core.specs.Read.{place}
+use Rattle.std.proofs.lemmas.Str.{utf8_valid_len_le}
+use Rattle.std.proofs.lemmas.List.{length-append, length-drop, length-take}
+use Rattle.registry_core.specs.declared.definition.Arm.{Arm}
+use Rattle.registry_core.specs.declared.type_info.TypeInfo.{TypeInfo}
+use Rattle.graph_core.specs.Types.{field_types}
+use Rattle.widths_core.specs.Arms.{arm_of}
+use Rattle.widths_core.specs.Classes.{is_finite}
+use Rattle.widths_core.specs.Layouts.{Plain, Layout, layout}
+use Rattle.widths_core.specs.Layouts as layout
+use Rattle.grammar_core.specs.Tree.{
+    Leaf, Branch, Tree, leaf, branch, char, text, unsigned, signed, wide, compact as compact_value,
+    fields, arm, list, count, Trees, and
+}
+use Rattle.grammar_core.specs.Reading.{
+    value_at, layout_at, leaf_at, bool_at, char_from, all_at, times_at, fields_behind_index,
+    arms_at, as_leaf, with_children, Refusal, basic, no_such_variant, too_deep, no_finite_value,
+    bit_sequence, bad_compact
+}
+use Rattle.grammar_core.proofs.Sound.{value_takes}
+use Rattle.decode_core.specs.Taken.{
+    leaf_taken, taken_after, compact_taken, text_taken, all_taken, times_taken, arm_taken,
+    arms_taken, layout_taken, value_taken
+}
+use Rattle.decode_core.specs.Outcome.{IsTakenBefore, TakenByFault}
+use Rattle.decode_core.proofs.lists.Deciding.{chain, finish, bind_chain}
+use Rattle.decode_core.proofs.lists.Shortest.{and_finish, elements_chain, body_at}
+
+-- the fault stands within b, and k is what it takes
+abbrev Told : {E X : Type 0} → (E → Refusal) → List ℕ → ℕ → Read E X → Type 0
+Told m b k (Ok x) = Unit {0}
+Told m b k (Err e) = (length e.1 ≤ length b) × IsTakenBefore (m e.0) e.1 (place b e.1) k
+
+moved : (reason : Refusal) (left : List ℕ) (c at k : ℕ) → IsTakenBefore reason left at k →
+    IsTakenBefore reason left (c + at) (c + k)
+moved (basic reasons.Truncated) left c at k h = h
+moved (basic reasons.BadBool) left c at k h = omega (arith, h)
+moved (basic reasons.BadChar) left c at k h = omega (arith, h)
+moved (basic reasons.BadUtf8) left c at k h = omega (arith, h)
+moved (basic reasons.CompactNotShortest) left c at k h = omega (arith, h)
+moved (basic reasons.CompactTooLarge) left c at k (inl h) = inl (omega (arith, h))
+moved (basic reasons.CompactTooLarge) left c at k (inr h) = inr (omega (arith, h))
+moved no_such_variant left c at k h = omega (arith, h)
+moved too_deep left c at k h = omega (arith, h)
+moved no_finite_value left c at k h = omega (arith, h)
+moved bit_sequence left c at k h = omega (arith, h)
+moved bad_compact left c at k h = omega (arith, h)
+
+-- taken_after c
+told_behind : {E X : Type 0} (m : E → Refusal) (b c rest : List ℕ) (k : ℕ) (read : Read E X) →
+    b ≡ c ++ rest → Told m rest k read → Told m b (length c + k) read
+told_behind m b c rest k (Ok x) eq h = tt
+told_behind m b c rest k (Err e) eq h =
+    let len : length b ≡ length c + length rest = ap length eq ∙ length-append c rest in
+    let at : length c + place rest e.1 ≡ place b e.1 = omega (arith, len, h.0) in
+    (omega (arith, len, h.0), rw (← at) (moved (m e.0) e.1 (length c) (place rest e.1) k h.1))
+
+finish_told : {E F X Y : Type 0} (m : E → F) (n : F → Refusal) (make : X → Y) (b : List ℕ) (k : ℕ)
+    (read : Read E X) → Told (λ e. n (m e)) b k read → Told n b k (finish m make read)
+finish_told m n make b k (Ok x) h = tt
+finish_told m n make b k (Err e) h = h
+
+chain_told : {E F X Y : Type 0} (m : E → F) (n : F → Refusal) (P : X → List ℕ → Type 0)
+    (h : X → List ℕ → Read F Y) (next : X × List ℕ → ℕ) (b : List ℕ) (own : ℕ) (read : Read E X) →
+    Takes P b read → Told (λ e. n (m e)) b own read →
+        ((x : X × List ℕ) → Told n x.1 (next x) (h x.0 x.1)) →
+        Told n b (taken_after b read own next) (chain m h read)
+chain_told m n P h next b own (Err e) takes first rest = first
+chain_told m n P h next b own (Ok x) takes first rest =
+    let len : length takes.0 ≡ place b x.1 =
+        omega (arith, ap length takes.1, length-append takes.0 x.1) in
+    rw (← len) (told_behind n b takes.0 x.1 (next x) (h x.0 x.1) takes.1 (rest x))
+
+-- ---- compacts and texts
+
+whole : (b : List ℕ) → place b b ≡ 0
+whole b = omega arith
+
+integer_told : (m : Target) (b : List ℕ) → Told basic b (compact_taken m b) (integer_at m b)
+integer_told m [] = (omega arith, refl)
+integer_told m (first ∷ tail) =
+    go (is_too_long m first) (nat_lt (length (first ∷ tail)) (form_len first)) where
+  judged : (a b : Bool) (x : List ℕ × List ℕ) →
+      Told basic (first ∷ tail) (form_len first)
+      (cond a (Err (reasons.CompactNotShortest, first ∷ tail))
+      (cond b (Ok (form_number x.0, x.1)) (Err (reasons.CompactTooLarge, first ∷ tail))))
+  judged true b x = (omega arith, omega arith)
+  judged false true x = tt
+  judged false false x = (omega arith, inr (omega arith))
+
+  go : (t short : Bool) → Told basic (first ∷ tail) (cond t 1 (form_len first))
+      (cond t (Err (reasons.CompactTooLarge, first ∷ tail))
+      (form_from m (first ∷ tail)
+      (cond short (Err (reasons.Truncated, []))
+      (Ok (take (form_len first) (first ∷ tail), drop (form_len first) (first ∷ tail))))))
+  go true short = (omega arith, inl (omega arith))
+  go false true = (omega arith, refl)
+  go false false = let form = take (form_len first) (first ∷ tail) in
+      judged (not (bytes_eq (compact (form_number form)) form))
+      (nat_lt (form_number form) (256 ^ target_bytes m))
+      (form, drop (form_len first) (first ∷ tail))
+
+compact_told : (m : Target) (b : List ℕ) → Told basic b (compact_taken m b) (compact_at m b)
+unfolding compact_at
+compact_told target.Unit b = tt
+compact_told target.U8 b = integer_told target.U8 b
+compact_told target.U16 b = integer_told target.U16 b
+compact_told target.U32 b = integer_told target.U32 b
+compact_told target.U64 b = integer_told target.U64 b
+compact_told target.U128 b = integer_told target.U128 b
+
+body_told : (n : ℕ) (b : List ℕ) → Told basic b n (body_at n b)
+body_told n b = go (nat_lt (length b) n) refl (is_utf8 (take n b)) where
+  go : (short : Bool) → nat_lt (length b) n ≡ short → (t : Bool) →
+      Told basic b n (cond short (Err (reasons.Truncated, [])) (Ok (take n b, drop n b)) >>=
+      λ s. cond (is_utf8 s.0) (Ok s) (Err (reasons.BadUtf8, drop (utf8_valid_len s.0) b)))
+  go true e t = (omega arith, refl)
+  go false e t = valid (is_utf8 (take n b)) (ltb-false _ _ e) where
+    valid : (t : Bool) → n ≤ length b →
+        Told basic b n (cond t (Ok (take n b, drop n b))
+        (Err (reasons.BadUtf8, drop (utf8_valid_len (take n b)) b)))
+    valid true le = tt
+    valid false le =
+        let front : utf8_valid_len (take n b) ≤ n =
+            omega (arith, utf8_valid_len_le (take n b), length-take n b) in
+        let rest = length-drop (utf8_valid_len (take n b)) b in
+        (omega (arith, rest), omega (arith, rest, front))
+
+text_told : (b : List ℕ) → Told basic b (text_taken b) (text_at b)
+unfolding text_at
+text_told b = rw (bind_chain body_at (compact_at target.U32 b))
+    (chain_told (λ e. e) basic _ body_at (λ n. n.0) b (compact_taken target.U32 b)
+    (compact_at target.U32 b) (compact_takes target.U32 b) (compact_told target.U32 b)
+    (λ n. body_told n.0 n.1))
+
+bytes_told : (k : ℕ) (b : List ℕ) → Told basic b 0 (bytes_at k b)
+bytes_told k b = go (nat_lt (length b) k) where
+  go : (short : Bool) → Told basic b 0
+      (cond short (Err (reasons.Truncated, [])) (Ok (take k b, drop k b)))
+  go true = (omega arith, refl)
+  go false = tt
+
+bool_told : (b : List ℕ) → Told (λ e. e) b 1 (bool_at b)
+bool_told [] = (omega arith, refl)
+bool_told (zero ∷ b) = tt
+bool_told (suc zero ∷ b) = tt
+bool_told (suc (suc x) ∷ b) = (omega arith, omega arith)
+
+char_told : (b : List ℕ) → Told (λ e. e) b 4 (char_from b (bytes_at 4 b))
+char_told b = go (nat_lt (length b) 4) where
+  valid : (t : Bool) → Told (λ e. e) b 4
+      (cond t (Ok (leaf (char (number (take 4 b))), drop 4 b)) (Err (basic reasons.BadChar, b)))
+  valid true = tt
+  valid false = (omega arith, omega arith)
+
+  go : (short : Bool) → Told (λ e. e) b 4
+      (char_from b (cond short (Err (reasons.Truncated, [])) (Ok (take 4 b, drop 4 b))))
+  go true = (omega arith, refl)
+  go false = valid (is_scalar (number (take 4 b)))
+
+-- ---- values
+
+abbrev ChildTold : List TypeInfo → ℕ → Type 0
+ChildTold r room = (t : ℕ) (b : List ℕ) →
+    Told (λ e. e) b (value_taken r room t b) (value_at r room t b)
+
+all_told : (r : List TypeInfo) (room : ℕ) → ChildTold r room → (ts : List ℕ) (b : List ℕ) →
+    Told (λ e. e) b (all_taken (value_at r room) (value_taken r room) ts b)
+    (all_at (value_at r room) ts b)
+all_told r room h [] b = tt
+all_told r room h (t ∷ ts) b = let child = value_at r room in
+    rw (bind_chain (λ v c. all_at child ts c >>= λ others. Ok (and v others.0, others.1))
+        (child t b))
+    (chain_told (λ e. e) (λ e. e) _
+        (λ v c. all_at child ts c >>= λ others. Ok (and v others.0, others.1))
+        (λ x. all_taken child (value_taken r room) ts x.1) b (value_taken r room t b) (child t b)
+        (value_takes r room t b) (h t b)
+    (λ x. rw (and_finish x.0 (all_at child ts x.1))
+        (finish_told (λ e. e) (λ e. e) (and x.0) x.1 (all_taken child (value_taken r room) ts x.1)
+        (all_at child ts x.1) (all_told r room h ts x.1))))
+
+times_told : (r : List TypeInfo) (room : ℕ) → ChildTold r room → (n t : ℕ) (b : List ℕ) →
+    Told (λ e. e) b (times_taken (value_at r room) (value_taken r room) n t b)
+    (times_at (value_at r room) n t b)
+times_told r room h zero t b = tt
+times_told r room h (suc n) t b = let child = value_at r room in
+    rw (bind_chain (λ v c. times_at child n t c >>= λ others. Ok (and v others.0, others.1))
+        (child t b))
+    (chain_told (λ e. e) (λ e. e) _
+        (λ v c. times_at child n t c >>= λ others. Ok (and v others.0, others.1))
+        (λ x. times_taken child (value_taken r room) n t x.1) b (value_taken r room t b) (child t b)
+        (value_takes r room t b) (h t b)
+    (λ x. rw (and_finish x.0 (times_at child n t x.1))
+        (finish_told (λ e. e) (λ e. e) (and x.0) x.1
+        (times_taken child (value_taken r room) n t x.1) (times_at child n t x.1)
+        (times_told r room h n t x.1))))
+
+parts_told : (kind : Branch) (b : List ℕ) (k : ℕ) (read : Read Refusal Trees) →
+    Told (λ e. e) b k read → Told (λ e. e) b k (with_children kind read)
+parts_told kind b k (Ok x) h = tt
+parts_told kind b k (Err e) h = h
+
+leaf_told : {X : Type 0} (make : X → Leaf) (b : List ℕ) (k : ℕ) (read : Read Reason X) →
+    Told basic b k read → Told (λ e. e) b k (as_leaf make read)
+leaf_told make b k (Ok x) h = tt
+leaf_told make b k (Err e) h = h
+
+arm_told : (r : List TypeInfo) (room : ℕ) → ChildTold r room →
+    (i : ℕ) (b : List ℕ) (found : Option (ℕ × Arm)) →
+    Told (λ e. e) (i ∷ b) (suc (arm_taken (value_at r room) (value_taken r room) found b))
+    (fields_behind_index (value_at r room) (i ∷ b) found b)
+arm_told r room h i b None = (omega arith, omega arith)
+arm_told r room h i b (Some a) =
+    let ts = field_types a.1.fields in
+    let k = all_taken (value_at r room) (value_taken r room) ts b in
+    let one : 1 + k ≡ suc k = omega arith in
+    rw one at (told_behind (λ e. e) (i ∷ b) (i ∷ []) b k _ refl
+        (parts_told (arm a.0) b k (all_at (value_at r room) ts b) (all_told r room h ts b)))
+
+arms_told : (r : List TypeInfo) (room : ℕ) → ChildTold r room → (arms : List Arm) (b : List ℕ) →
+    Told (λ e. e) b (arms_taken (value_at r room) (value_taken r room) arms b)
+    (arms_at (value_at r room) arms b)
+arms_told r room h arms [] = (omega arith, refl)
+arms_told r room h arms (i ∷ b) = arm_told r room h i b (arm_of arms i)
+
+-- the fault of a value without parts is told by the bytes that are taken
+plain_told : (p : Plain) (b : List ℕ) → Told (λ e. e) b (leaf_taken p b) (leaf_at p b)
+plain_told layout.empty b = tt
+plain_told layout.bool b = bool_told b
+plain_told layout.char b = char_told b
+plain_told layout.text b = leaf_told text b _ (text_at b) (text_told b)
+plain_told (layout.unsigned k) b =
+    leaf_told (λ b. unsigned (number b)) b _ (bytes_at k b) (bytes_told k b)
+plain_told (layout.signed k) b =
+    leaf_told (λ b. signed (signed_number b)) b _ (bytes_at k b) (bytes_told k b)
+plain_told layout.wide b = leaf_told wide b _ (bytes_at 32 b) (bytes_told 32 b)
+plain_told layout.counted b =
+    leaf_told count b _ (compact_at target.U32 b) (compact_told target.U32 b)
+plain_told (layout.compact m) b = leaf_told compact_value b _ (compact_at m b) (compact_told m b)
+
+layout_told : (r : List TypeInfo) (room : ℕ) → ChildTold r room → (f : Layout) (b : List ℕ) →
+    Told (λ e. e) b (layout_taken (value_at r room) (value_taken r room) f b)
+    (layout_at (value_at r room) f b)
+unfolding layout_at layout_taken
+layout_told r room h layout.unknown b = (omega arith, omega arith)
+layout_told r room h layout.bit_sequence b = (omega arith, omega arith)
+layout_told r room h layout.bad_compact b = (omega arith, omega arith)
+layout_told r room h (layout.plain p) b = plain_told p b
+layout_told r room h (layout.fields ts) b =
+    parts_told fields b _ (all_at (value_at r room) ts b) (all_told r room h ts b)
+layout_told r room h (layout.arms arms) b = arms_told r room h arms b
+layout_told r room h (layout.array n t) b =
+    parts_told list b _ (times_at (value_at r room) n t b) (times_told r room h n t b)
+layout_told r room h (layout.sequence t) b = let child = value_at r room in
+    rw (elements_chain child t (compact_at target.U32 b))
+    (chain_told basic (λ e. e) _ (λ n c. with_children list (times_at child n t c))
+        (λ n. times_taken child (value_taken r room) n.0 t n.1) b (compact_taken target.U32 b)
+        (compact_at target.U32 b) (compact_takes target.U32 b) (compact_told target.U32 b)
+    (λ n. parts_told list n.1 _ (times_at child n.0 t n.1) (times_told r room h n.0 t n.1)))
+
+value_told : (r : List TypeInfo) (room t : ℕ) (b : List ℕ) →
+    Told (λ e. e) b (value_taken r room t b) (value_at r room t b)
+unfolding value_at value_taken
+value_told r zero t b = (omega arith, omega arith)
+value_told r (suc room) t b = go (λ u c. value_told r room u c) (is_finite r t) where
+  go : ChildTold r room → (f : Bool) →
+      Told (λ e. e) b (cond f (layout_taken (value_at r room) (value_taken r room) (layout r t) b)
+      0) (cond f (layout_at (value_at r room) (layout r t) b) (Err (no_finite_value, b)))
+  go h true = layout_told r room h (layout r t) b
+  go h false = (omega arith, omega arith)
+
+pub taken_by_fault : TakenByFault
+taken_by_fault r room t b reason left e = (rw e at (value_told r room t b)).1

@@ -1,0 +1,149 @@
+-- A fault's place lies in the input.
+use Rattle.std.proofs.Common.{
+    ℕ, zero, suc, ◌≤◌, Bool, true, false, cond, List, [], ◌∷◌, length, drop, Option, Some, None, Ok,
+    Err, ap, arith, length-append, length-drop
+}
+use Rattle.std.specs.Str.{bytes_eq, is_utf8}
+use Rattle.std.specs.Str.Lossy.{utf8_valid_len}
+use Rattle.std.specs.Prelude.{nat_lt, not, ◌^◌}
+use Rattle.scale_core.specs.Number.{number, signed_number, is_scalar}
+use Rattle.scale_core.specs.Compact.{IsCompact, compact, target_bytes}
+use Rattle.scale_core.specs.Read.{
+    Read, ◌>>=◌, bytes_at, form_len, form_number, form_from, is_too_long, integer_at, compact_at,
+    text_at
+}
+use Rattle.scale_core.specs.declared.compact.Target.{Target}
+use Rattle.scale_core.specs.declared.compact.Target.TheVariants as target
+use Rattle.scale_core.specs.declared.fault.Reason.{Reason}
+use Rattle.scale_core.specs.declared.fault.Reason.TheVariants.{BadUtf8}
+use Rattle.scale_core.proofs.Results.{Takes, compact_takes}
+use Rattle.registry_core.specs.declared.definition.Arm.{Arm}
+use Rattle.widths_core.specs.Arms.{arm_of}
+use Rattle.widths_core.specs.Layouts.{Layout}
+use Rattle.widths_core.specs.Layouts as layout
+use Rattle.grammar_core.specs.Tree.{Leaf, Tree}
+use Rattle.grammar_core.specs.Tree as tree
+use Rattle.grammar_core.specs.Reading.{layout_at, bool_at, char_from, as_leaf, Refusal}
+use Rattle.decode_core.specs.Told.{leaf_own, arm_own, arms_own, length_own, own_at}
+
+-- what is left is no longer than the input
+abbrev pub Within : {E X : Type 0} → List ℕ → Read E X → Type 0
+Within b (Ok x) = Unit {0}
+Within b (Err e) = length e.1 ≤ length b
+
+cond_within : {E X : Type 0} (b : List ℕ) (t : Bool) (x y : Read E X) → Within b x → Within b y →
+    Within b (cond t x y)
+cond_within b true x y h k = h
+cond_within b false x y h k = k
+
+bytes_within : (k : ℕ) (b : List ℕ) → Within b (bytes_at k b)
+bytes_within k b = cond_within b (nat_lt (length b) k) _ _ (omega arith) tt
+
+form_within : (m : Target) (b : List ℕ) (read : Read Reason (List ℕ)) → Within b read →
+    Within b (form_from m b read)
+form_within m b (Err e) h = h
+form_within m b (Ok x) h =
+    cond_within b (not (bytes_eq (compact (form_number x.0)) x.0)) _ _ (omega arith)
+    (cond_within b (nat_lt (form_number x.0) (256 ^ target_bytes m)) _ _ tt (omega arith))
+
+integer_within : (m : Target) (b : List ℕ) → Within b (integer_at m b)
+integer_within m [] = omega arith
+integer_within m (i ∷ b) =
+    cond_within (i ∷ b) (is_too_long m i) _ _ (omega arith)
+    (form_within m (i ∷ b) (bytes_at (form_len i) (i ∷ b)) (bytes_within (form_len i) (i ∷ b)))
+
+compact_within : (m : Target) (b : List ℕ) → Within b (compact_at m b)
+unfolding compact_at
+compact_within target.Unit b = tt
+compact_within target.U8 b = integer_within target.U8 b
+compact_within target.U16 b = integer_within target.U16 b
+compact_within target.U32 b = integer_within target.U32 b
+compact_within target.U64 b = integer_within target.U64 b
+compact_within target.U128 b = integer_within target.U128 b
+
+judged_within : (b from : List ℕ) (read : Read Reason (List ℕ)) → length from ≤ length b →
+    Within from read → Within b
+    (read >>= λ s. cond (is_utf8 s.0) (Ok s) (Err (BadUtf8, drop (utf8_valid_len s.0) from)))
+judged_within b from (Err e) le h = omega (arith, le, h)
+judged_within b from (Ok s) le h =
+    cond_within b (is_utf8 s.0) _ _ tt (omega (arith, le, length-drop (utf8_valid_len s.0) from))
+
+text_from : (b : List ℕ) (read : Read Reason ℕ) → Takes (IsCompact target.U32) b read →
+    Within b read → Within b
+    (read >>= λ n. bytes_at n.0 n.1 >>= λ s. cond (is_utf8 s.0) (Ok s)
+    (Err (BadUtf8, drop (utf8_valid_len s.0) n.1)))
+text_from b (Err e) k h = h
+text_from b (Ok n) k h =
+    judged_within b n.1 (bytes_at n.0 n.1) (omega (arith, ap length k.1, length-append k.0 n.1))
+    (bytes_within n.0 n.1)
+
+text_within : (b : List ℕ) → Within b (text_at b)
+unfolding text_at
+text_within b = text_from b (compact_at target.U32 b) (compact_takes target.U32 b)
+    (compact_within target.U32 b)
+
+leaf_within : (b : List ℕ) (read : Read Refusal Tree) → Within b read → Within b (leaf_own read)
+leaf_within b (Ok x) h = tt
+leaf_within b (Err e) h = h
+
+value_within : {X : Type 0} (make : X → Leaf) (b : List ℕ) (read : Read Reason X) → Within b read →
+    Within b (as_leaf make read)
+value_within make b (Ok x) h = tt
+value_within make b (Err e) h = h
+
+bool_within : (b : List ℕ) → Within b (bool_at b)
+bool_within [] = omega arith
+bool_within (zero ∷ b) = tt
+bool_within (suc zero ∷ b) = tt
+bool_within (suc (suc x) ∷ b) = omega arith
+
+char_within : (b : List ℕ) (read : Read Reason (List ℕ)) → Within b read →
+    Within b (char_from b read)
+char_within b (Err e) h = h
+char_within b (Ok x) h = cond_within b (is_scalar (number x.0)) _ _ tt (omega arith)
+
+arm_within : (at b : List ℕ) (found : Option (ℕ × Arm)) → Within at (arm_own at found b)
+arm_within at b None = omega arith
+arm_within at b (Some a) = tt
+
+arms_within : (arms : List Arm) (b : List ℕ) → Within b (arms_own arms b)
+arms_within arms [] = omega arith
+arms_within arms (i ∷ b) = arm_within (i ∷ b) b (arm_of arms i)
+
+length_within : (t : ℕ) (b : List ℕ) (read : Read Reason ℕ) → Within b read →
+    Within b (length_own t read)
+length_within t b (Ok n) h = tt
+length_within t b (Err e) h = h
+
+pub own_within : (f : Layout) (b : List ℕ) → Within b (own_at f b)
+unfolding own_at layout_at
+own_within (layout.fields ts) b = tt
+own_within (layout.arms arms) b = arms_within arms b
+own_within (layout.sequence u) b =
+    length_within u b (compact_at target.U32 b) (compact_within target.U32 b)
+own_within (layout.array n u) b = tt
+own_within layout.unknown b = omega arith
+own_within layout.bit_sequence b = omega arith
+own_within layout.bad_compact b = omega arith
+own_within (layout.plain layout.empty) b = tt
+own_within (layout.plain layout.bool) b = leaf_within b (bool_at b) (bool_within b)
+own_within (layout.plain layout.char) b =
+    leaf_within b (char_from b (bytes_at 4 b)) (char_within b (bytes_at 4 b) (bytes_within 4 b))
+own_within (layout.plain layout.text) b =
+    leaf_within b (as_leaf tree.text (text_at b))
+    (value_within tree.text b (text_at b) (text_within b))
+own_within (layout.plain (layout.unsigned k)) b =
+    leaf_within b (as_leaf (λ c. tree.unsigned (number c)) (bytes_at k b))
+    (value_within (λ c. tree.unsigned (number c)) b (bytes_at k b) (bytes_within k b))
+own_within (layout.plain (layout.signed k)) b =
+    leaf_within b (as_leaf (λ c. tree.signed (signed_number c)) (bytes_at k b))
+    (value_within (λ c. tree.signed (signed_number c)) b (bytes_at k b) (bytes_within k b))
+own_within (layout.plain layout.wide) b =
+    leaf_within b (as_leaf tree.wide (bytes_at 32 b))
+    (value_within tree.wide b (bytes_at 32 b) (bytes_within 32 b))
+own_within (layout.plain layout.counted) b =
+    leaf_within b (as_leaf tree.count (compact_at target.U32 b))
+    (value_within tree.count b (compact_at target.U32 b) (compact_within target.U32 b))
+own_within (layout.plain (layout.compact m)) b =
+    leaf_within b (as_leaf tree.compact (compact_at m b))
+    (value_within tree.compact b (compact_at m b) (compact_within m b))

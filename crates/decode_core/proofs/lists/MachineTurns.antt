@@ -1,0 +1,71 @@
+-- Each turn of the machine keeps what the whole reading says.
+use Rattle.std.proofs.Common.{
+    ◌≡◌, ℕ, suc, ◌+◌, ◌<◌, List, [], ◌∷◌, ◌++◌, length, Some, None, Ok, refl, ap, arith,
+    length-append
+}
+use Rattle.registry_core.specs.declared.type_info.TypeInfo.{TypeInfo}
+use Rattle.grammar_core.specs.Parts.{Part, each, times}
+use Rattle.value_core.specs.Built.{Entry}
+use Rattle.grammar_core.specs.Preorder.{Head}
+use Rattle.decode_core.specs.Told.{
+    entry, Told, told, added, after, then, all_told, times_told, part_told, told_at, rest_told
+}
+use Rattle.decode_core.specs.Machine.{State, remain, to_go}
+use Rattle.decode_core.specs.Turned.{TurnLeads}
+use Rattle.decode_core.proofs.lists.Tells.{after-after, after-nil, then-after, then-then}
+use Rattle.decode_core.proofs.lists.Owns.{Spells}
+
+pub each_first : (r : List TypeInfo) (room t : ℕ) (ts : List ℕ) (ps : List Part) (b : List ℕ) →
+    rest_told r room (each (t ∷ ts) ∷ ps) b ≡ then (told_at r room t b)
+    (rest_told r room (each ts ∷ ps))
+unfolding rest_told
+each_first r room t ts ps b =
+    then-then (told_at r room t b) (all_told (told_at r room) ts) (rest_told r (suc room) ps)
+
+pub times_first : (r : List TypeInfo) (room n t : ℕ) (ps : List Part) (b : List ℕ) →
+    rest_told r room (times (suc n) t ∷ ps) b ≡ then (told_at r room t b)
+    (rest_told r room (times n t ∷ ps))
+unfolding rest_told
+times_first r room n t ps b =
+    then-then (told_at r room t b) (times_told (told_at r room) n t) (rest_told r (suc room) ps)
+
+pub closed : (r : List TypeInfo) (nodes : List Entry) (room : ℕ) (p : Part) (ps : List Part) →
+    ((b : List ℕ) → part_told (told_at r room) p b ≡ told [] (Ok b)) →
+    TurnLeads r (record { nodes = nodes; room = room; pending = p ∷ ps })
+    (record { nodes = nodes; room = suc room; pending = ps }) []
+unfolding rest_told
+closed r nodes room p ps e =
+    record { tells = λ more. rw (e more, after-nil) refl; level = omega arith; paid = omega arith }
+
+-- what is first of what is pending, and what is pending after it
+abbrev pub First : List TypeInfo → ℕ → ℕ → List Part → List Part → Type 0
+First r room t ps qs = (b : List ℕ) →
+    rest_told r room ps b ≡ then (told_at r room t b) (rest_told r room qs)
+
+pub own_leaf : (r : List TypeInfo) (nodes : List Entry) (room t : ℕ) (ps qs : List Part) (h : Head)
+    (c : List ℕ) → First r (suc room) t ps qs → length qs ≡ length ps → Spells r t (h, None) c →
+    TurnLeads r (record { nodes = nodes; room = suc room; pending = ps })
+        (record { nodes = nodes ++ entry t h ∷ []; room = suc room; pending = qs }) c
+unfolding told_at
+own_leaf r nodes room t ps qs h c f len is =
+    record { tells = λ more. rw (f (c ++ more), is more, after-after) refl; level = rw len refl;
+    paid = omega (arith, len, length-append nodes (entry t h ∷ [])) }
+
+pub own_opens : (r : List TypeInfo) (nodes : List Entry) (room t : ℕ) (ps qs : List Part) (h : Head)
+    (p : Part) (c : List ℕ) → First r (suc room) t ps qs → length qs ≡ length ps →
+    Spells r t (h, Some p) c →
+    TurnLeads r (record { nodes = nodes; room = suc room; pending = ps })
+        (record { nodes = nodes ++ entry t h ∷ []; room = room; pending = p ∷ qs }) c
+unfolding told_at rest_told
+own_opens r nodes room t ps qs h p c f len is =
+    record { tells = λ more. rw (f (c ++ more), is more, then-after, after-after) refl; level =
+    omega (arith, len); paid = omega (arith, len, length-append nodes (entry t h ∷ [])) }
+
+pub count_after : (xs : List Entry) (y : Told) →
+    length (added (after xs y)) ≡ length xs + length (added y)
+count_after xs (told ys end) = length-append xs ys
+
+pub nearer : (r : List TypeInfo) (s s' : State) (c y : List ℕ) → TurnLeads r s s' c →
+    to_go r s' y < to_go r s (c ++ y)
+nearer r s s' c y h = omega (arith, h.paid, count_after s.nodes (remain r s (c ++ y)),
+    count_after s'.nodes (remain r s' y), ap (λ (z : Told). length (added z)) (h.tells y))

@@ -1,0 +1,414 @@
+-- What is taken where a value is refused is the shortest front that is refused so.
+use Rattle.std.proofs.Common.{
+    ◌≡◌, ℕ, zero, suc, ◌+◌, ◌-◌, ◌/◌, ◌%◌, ◌^◌, ◌<◌, ◌≤◌, ◌⊎◌, Bool, true, false, cond, List, [],
+    ◌∷◌, length, take, drop, Option, Some, None, Ok, Err, refl, sym, ap, ◌∙◌, arith, inl, inr
+}
+use Rattle.std.specs.Prelude.{◌≢◌, ◌==◌, nat_lt, not}
+use Rattle.std.specs.Str.{bytes_eq, is_utf8}
+use Rattle.std.specs.Str.Lossy.{utf8_valid_len}
+use Rattle.std.proofs.lemmas.Bool.{cases_lt, le-ltb, lt-ltb}
+use Rattle.std.proofs.lemmas.List.{append-nil, length-take-le}
+use Rattle.scale_core.specs.Compact.{compact, target_bytes}
+use Rattle.scale_core.specs.Number.{number, signed_number, is_scalar}
+use Rattle.scale_core.specs.Read.{
+    Read, ◌>>=◌, bytes_at, compact_at, text_at, integer_at, checked_form, form_from, form_number,
+    is_too_long, form_len
+}
+use Rattle.scale_core.specs.declared.compact.Target.{Target}
+use Rattle.scale_core.specs.declared.compact.Target.TheVariants as target
+use Rattle.scale_core.specs.declared.fault.Reason.{Reason}
+use Rattle.scale_core.specs.declared.fault.Reason.TheVariants as reasons
+use Rattle.scale_core.proofs.Again.{bytes_again, compact_again}
+use Rattle.scale_core.proofs.Results.{Takes, compact_takes, compact_extends}
+use Rattle.registry_core.specs.declared.definition.Arm.{Arm}
+use Rattle.registry_core.specs.declared.type_info.TypeInfo.{TypeInfo}
+use Rattle.graph_core.specs.Types.{field_types}
+use Rattle.widths_core.specs.Arms.{arm_of}
+use Rattle.widths_core.specs.Classes.{is_finite}
+use Rattle.widths_core.specs.Layouts.{Plain, Layout, layout}
+use Rattle.widths_core.specs.Layouts as layout
+use Rattle.grammar_core.specs.Tree.{
+    Leaf, Branch, Tree, leaf, branch, char, text, unsigned, signed, wide, compact as compact_value,
+    fields, arm, list, count, Trees, and, levels
+}
+use Rattle.grammar_core.specs.Grammar.{Val}
+use Rattle.grammar_core.specs.Reading.{
+    value_at, layout_at, leaf_at, bool_at, char_from, all_at, times_at, fields_behind_index,
+    arms_at, elements_at, as_leaf, with_children, Refusal, basic, no_such_variant, too_deep,
+    no_finite_value, bit_sequence, bad_compact, truncated
+}
+use Rattle.grammar_core.proofs.Sound.{value_takes}
+use Rattle.grammar_core.proofs.Complete.{value_again}
+use Rattle.grammar_core.proofs.Stable.{value_extends}
+use Rattle.decode_core.specs.Taken.{
+    leaf_taken, compact_taken, text_taken, all_taken, times_taken, arm_taken, arms_taken,
+    layout_taken, value_taken
+}
+use Rattle.decode_core.proofs.lists.Deciding.{
+    Decided, IsSteady, chain, finish, bind_chain, finish_decided, chain_decided, cons_decided
+}
+
+-- ---- compacts
+
+pub reason_tells : (e : Reason) → (e ≡ reasons.Truncated) ⊎ (e ≢ reasons.Truncated)
+reason_tells reasons.Truncated = inl refl
+reason_tells reasons.BadBool = inr (λ e. absurd cc)
+reason_tells reasons.BadChar = inr (λ e. absurd cc)
+reason_tells reasons.BadUtf8 = inr (λ e. absurd cc)
+reason_tells reasons.CompactNotShortest = inr (λ e. absurd cc)
+reason_tells reasons.CompactTooLarge = inr (λ e. absurd cc)
+
+mapped : {E X : Type 0} (P Q : X → List ℕ → Type 0) (b : List ℕ) (r : Read E X) → Takes P b r →
+    ((x : X) (c : List ℕ) → P x c → Q x c) → Takes Q b r
+mapped P Q b (Ok x) h f = (h.0, h.1, f x.0 h.0 h.2)
+mapped P Q b (Err e) h f = tt
+
+compact_steady : (m : Target) → IsSteady reasons.Truncated (compact_at m)
+compact_steady m = record {
+  tells = reason_tells;
+  extends = compact_extends m;
+  exact = λ b. mapped _ _ b (compact_at m b) (compact_takes m b)
+      (λ x c is more. compact_again m x c more is);
+}
+
+form_len-pos : (first : ℕ) → 1 ≤ form_len first
+form_len-pos first = go (first % 4 == 0) (first % 4 == 1) (first % 4 == 2) where
+  go : (a b c : Bool) → 1 ≤ cond a 1 (cond b 2 (cond c 4 (first / 4 + 5)))
+  go true b c = omega arith
+  go false true c = omega arith
+  go false false true = omega arith
+  go false false false = omega arith
+
+short_bytes : (k : ℕ) (b : List ℕ) → length b < k → bytes_at k b ≡ Err (reasons.Truncated, [])
+short_bytes k b lt = rw (lt-ltb (length b) k lt) refl
+
+whole_bytes : (k : ℕ) (b : List ℕ) → length b ≡ k → bytes_at k b ≡ Ok (b, [])
+whole_bytes k b len = ap (bytes_at k) (sym (append-nil b)) ∙ bytes_again k b [] len
+
+taken_bytes : (k : ℕ) (b : List ℕ) → k ≤ length b → bytes_at k (take k b) ≡ Ok (take k b, [])
+taken_bytes k b le = whole_bytes k (take k b) (length-take-le k b le)
+
+short_form : (m : Target) (first : ℕ) (tail : List ℕ) → is_too_long m first ≡ false →
+    length (first ∷ tail) < form_len first →
+    integer_at m (first ∷ tail) ≡ Err (reasons.Truncated, [])
+short_form m first tail e lt = rw (e, short_bytes (form_len first) (first ∷ tail) lt) refl
+
+whole_form : (m : Target) (first : ℕ) (tail : List ℕ) → is_too_long m first ≡ false →
+    length (first ∷ tail) ≡ form_len first →
+    integer_at m (first ∷ tail) ≡ checked_form m (first ∷ tail) (form_number (first ∷ tail))
+    (first ∷ tail) []
+whole_form m first tail e len = rw (e, whole_bytes (form_len first) (first ∷ tail) len) refl
+
+take_cons : (k first : ℕ) (tail : List ℕ) → 1 ≤ k →
+    take k (first ∷ tail) ≡ first ∷ take (k - 1) tail
+take_cons zero first tail h = absurd (omega arith)
+take_cons (suc k) first tail h = ap (λ (i : ℕ). first ∷ take i tail) (omega arith)
+
+form_decided : (m : Target) (first : ℕ) (tail : List ℕ) → is_too_long m first ≡ false →
+    form_len first ≤ length (first ∷ tail) →
+    Decided reasons.Truncated (integer_at m) (first ∷ tail) (form_len first)
+        (checked_form m (first ∷ tail) (form_number (take (form_len first) (first ∷ tail)))
+        (take (form_len first) (first ∷ tail)) (drop (form_len first) (first ∷ tail)))
+form_decided m first tail e le =
+    go (not (bytes_eq (compact (form_number form)) form))
+    (nat_lt (form_number form) (256 ^ target_bytes m)) refl refl where
+  form : List ℕ
+  form = take (form_len first) (first ∷ tail)
+
+  split : form ≡ first ∷ take (form_len first - 1) tail
+  split = take_cons (form_len first) first tail (form_len-pos first)
+
+  whole : integer_at m form ≡ checked_form m form (form_number form) form []
+  whole =
+      let len : length (first ∷ take (form_len first - 1) tail) ≡ form_len first =
+          sym (ap length split) ∙ length-take-le (form_len first) (first ∷ tail) le in
+      ap (integer_at m) split ∙ whole_form m first (take (form_len first - 1) tail) e len
+          ∙ ap (λ (z : List ℕ). checked_form m z (form_number z) z []) (sym split)
+
+  early : (j : ℕ) → j < form_len first → (left : List ℕ)
+      × (integer_at m (take j (first ∷ tail)) ≡ Err (reasons.Truncated, left))
+  early zero lt = ([], refl)
+  early (suc j) lt = ([], short_form m first (take j tail) e
+      (omega (arith, length-take-le (suc j) (first ∷ tail) (omega arith))))
+
+  go : (a b : Bool) → not (bytes_eq (compact (form_number form)) form) ≡ a →
+      nat_lt (form_number form) (256 ^ target_bytes m) ≡ b →
+      Decided reasons.Truncated (integer_at m) (first ∷ tail) (form_len first)
+          (cond a (Err (reasons.CompactNotShortest, first ∷ tail))
+          (cond b (Ok (form_number form, drop (form_len first) (first ∷ tail)))
+          (Err (reasons.CompactTooLarge, first ∷ tail))))
+  go true b p q = λ ne. record { there = le; front = (form, whole ∙ rw p refl); early = early }
+  go false true p q = tt
+  go false false p q = λ ne. record { there = le; front = (form, whole ∙ rw (p, q) refl); early =
+      early }
+
+integer_decided : (m : Target) (b : List ℕ) →
+    Decided reasons.Truncated (integer_at m) b (compact_taken m b) (integer_at m b)
+integer_decided m [] = λ ne. absurd (ne refl)
+integer_decided m (first ∷ tail) = go (is_too_long m first) refl where
+  one : is_too_long m first ≡ true → (j : ℕ) → j < 1 → (left : List ℕ)
+      × (integer_at m (take j (first ∷ tail)) ≡ Err (reasons.Truncated, left))
+  one e zero lt = ([], refl)
+  one e (suc j) lt = absurd (omega arith)
+
+  go : (t : Bool) → is_too_long m first ≡ t →
+      Decided reasons.Truncated (integer_at m) (first ∷ tail) (cond t 1 (form_len first))
+      (cond t (Err (reasons.CompactTooLarge, first ∷ tail))
+      (form_from m (first ∷ tail) (bytes_at (form_len first) (first ∷ tail))))
+  go true e = λ ne. record { there = omega arith; front = (first ∷ [], rw e refl); early = one e }
+  go false e = elim (cases_lt (length (first ∷ tail)) (form_len first)) [
+    | inl lt ↦ rw (short_bytes (form_len first) (first ∷ tail) lt) (λ ne. absurd (ne refl))
+    | inr le ↦ rw (le-ltb (length (first ∷ tail)) (form_len first) le)
+        (form_decided m first tail e le)
+  ]
+
+compact_decided : (m : Target) (b : List ℕ) →
+    Decided reasons.Truncated (compact_at m) b (compact_taken m b) (compact_at m b)
+unfolding compact_at
+compact_decided target.Unit b = tt
+compact_decided target.U8 b = integer_decided target.U8 b
+compact_decided target.U16 b = integer_decided target.U16 b
+compact_decided target.U32 b = integer_decided target.U32 b
+compact_decided target.U64 b = integer_decided target.U64 b
+compact_decided target.U128 b = integer_decided target.U128 b
+
+-- ---- texts, bools, chars
+
+abbrev pub body_at : ℕ → List ℕ → Read Reason (List ℕ)
+body_at n b = bytes_at n b >>= λ s. cond (is_utf8 s.0) (Ok s)
+    (Err (reasons.BadUtf8, drop (utf8_valid_len s.0) b))
+
+body_decided : (n : ℕ) (b : List ℕ) → Decided reasons.Truncated (body_at n) b n (body_at n b)
+body_decided n b = elim (cases_lt (length b) n) [
+  | inl lt ↦ rw (short_bytes n b lt) (λ ne. absurd (ne refl))
+  | inr le ↦ rw (le-ltb (length b) n le) (go le (is_utf8 (take n b)) refl)
+] where
+  go : n ≤ length b → (t : Bool) → is_utf8 (take n b) ≡ t →
+      Decided reasons.Truncated (body_at n) b n
+      (cond t (Ok (take n b, drop n b)) (Err (reasons.BadUtf8, drop (utf8_valid_len (take n b)) b)))
+  go le true e = tt
+  go le false e = λ ne. record {
+    there = le;
+    front = (drop (utf8_valid_len (take n b)) (take n b), rw (taken_bytes n b le, e) refl);
+    early = λ j lt. ([], rw (short_bytes n (take j b)
+        (omega (arith, length-take-le j b (omega arith)))) refl);
+  }
+
+text_decided : (b : List ℕ) → Decided reasons.Truncated text_at b (text_taken b) (text_at b)
+unfolding text_at
+text_decided b = chain_decided reasons.Truncated (λ e. e) text_at (compact_at target.U32) body_at
+    (λ n. n.0) (λ b. bind_chain body_at (compact_at target.U32 b)) (compact_steady target.U32) b
+    (compact_taken target.U32 b) (compact_decided target.U32 b) (λ n. body_decided n.0 n.1)
+
+below_one : (b : List ℕ) (P : List ℕ → Type 0) → P [] → (j : ℕ) → j < 1 → P (take j b)
+below_one b P h zero lt = h
+below_one b P h (suc j) lt = absurd (omega arith)
+
+bool_decided : (b : List ℕ) → Decided truncated bool_at b 1 (bool_at b)
+bool_decided [] = λ ne. absurd (ne refl)
+bool_decided (zero ∷ b) = tt
+bool_decided (suc zero ∷ b) = tt
+bool_decided (suc (suc x) ∷ b) =
+    λ ne. record { there = omega arith; front = (suc (suc x) ∷ [], refl); early =
+    below_one (suc (suc x) ∷ b) (λ d. (left : List ℕ) × (bool_at d ≡ Err (truncated, left)))
+    ([], refl) }
+
+abbrev char_at : List ℕ → Read Refusal Tree
+char_at b = char_from b (bytes_at 4 b)
+
+char_decided : (b : List ℕ) → Decided truncated char_at b 4 (char_at b)
+char_decided b = elim (cases_lt (length b) 4) [
+  | inl lt ↦ rw (short_bytes 4 b lt) (λ ne. absurd (ne refl))
+  | inr le ↦ rw (le-ltb (length b) 4 le) (go le (is_scalar (number (take 4 b))) refl)
+] where
+  go : 4 ≤ length b → (t : Bool) → is_scalar (number (take 4 b)) ≡ t →
+      Decided truncated char_at b 4
+      (cond t (Ok (leaf (char (number (take 4 b))), drop 4 b)) (Err (basic reasons.BadChar, b)))
+  go le true e = tt
+  go le false e = λ ne. record {
+    there = le;
+    front = (take 4 b, rw (taken_bytes 4 b le, e) refl);
+    early = λ j lt. ([], rw (short_bytes 4 (take j b)
+        (omega (arith, length-take-le j b (omega arith)))) refl);
+  }
+
+-- ---- values
+
+pub refusal_tells : (e : Refusal) → (e ≡ truncated) ⊎ (e ≢ truncated)
+refusal_tells (basic reasons.Truncated) = inl refl
+refusal_tells (basic reasons.BadBool) = inr (λ e. absurd cc)
+refusal_tells (basic reasons.BadChar) = inr (λ e. absurd cc)
+refusal_tells (basic reasons.BadUtf8) = inr (λ e. absurd cc)
+refusal_tells (basic reasons.CompactNotShortest) = inr (λ e. absurd cc)
+refusal_tells (basic reasons.CompactTooLarge) = inr (λ e. absurd cc)
+refusal_tells no_such_variant = inr (λ e. absurd cc)
+refusal_tells too_deep = inr (λ e. absurd cc)
+refusal_tells no_finite_value = inr (λ e. absurd cc)
+refusal_tells bit_sequence = inr (λ e. absurd cc)
+refusal_tells bad_compact = inr (λ e. absurd cc)
+
+value_steady : (r : List TypeInfo) (room t : ℕ) → IsSteady truncated (value_at r room t)
+value_steady r room t = record {
+  tells = refusal_tells;
+  extends = value_extends r room t;
+  exact = λ b. mapped (λ v c. Val r t v c × (levels v ≤ room)) _ b (value_at r room t b)
+      (value_takes r room t b) (λ v c is more. value_again r room t v c more is.0 is.1);
+}
+
+pub as_leaf_finish : {X : Type 0} (make : X → Leaf) (r : Read Reason X) →
+    as_leaf make r ≡ finish basic (λ x. leaf (make x)) r
+as_leaf_finish make (Ok x) = refl
+as_leaf_finish make (Err e) = refl
+
+pub with_children_finish : (k : Branch) (r : Read Refusal Trees) →
+    with_children k r ≡ finish (λ e. e) (branch k) r
+with_children_finish k (Ok x) = refl
+with_children_finish k (Err e) = refl
+
+pub and_finish : (v : Tree) (r : Read Refusal Trees) →
+    (r >>= λ others. Ok (and v others.0, others.1)) ≡ finish (λ e. e) (and v) r
+and_finish v (Ok x) = refl
+and_finish v (Err e) = refl
+
+pub elements_chain : (child : ℕ → List ℕ → Read Refusal Tree) (t : ℕ) (r : Read Reason ℕ) →
+    elements_at child t r ≡ chain basic (λ n b. with_children list (times_at child n t b)) r
+elements_chain child t (Ok x) = refl
+elements_chain child t (Err e) = refl
+
+-- refused as it is met
+met_decided : (g : List ℕ → Read Refusal Tree) (b : List ℕ) (reason : Refusal) (left : List ℕ) →
+    g [] ≡ Err (reason, []) → Decided truncated g b 0 (Err (reason, left))
+met_decided g b reason left h =
+    λ ne. record { there = omega arith; front = ([], h); early = λ j lt. absurd (omega arith) }
+
+bytes_decided : (k : ℕ) (b : List ℕ) → Decided reasons.Truncated (bytes_at k) b 0 (bytes_at k b)
+bytes_decided k b = elim (cases_lt (length b) k) [
+  | inl lt ↦ rw (short_bytes k b lt) (λ ne. absurd (ne refl))
+  | inr le ↦ rw (le-ltb (length b) k le) tt
+]
+
+abbrev ChildDecided : List TypeInfo → ℕ → Type 0
+ChildDecided r room = (t : ℕ) (b : List ℕ) →
+    Decided truncated (value_at r room t) b (value_taken r room t b) (value_at r room t b)
+
+all_decided : (r : List TypeInfo) (room : ℕ) → ChildDecided r room → (ts : List ℕ) (b : List ℕ) →
+    Decided truncated (all_at (value_at r room) ts) b
+    (all_taken (value_at r room) (value_taken r room) ts b) (all_at (value_at r room) ts b)
+all_decided r room h [] b = tt
+all_decided r room h (t ∷ ts) b = let child = value_at r room in
+    chain_decided truncated (λ e. e) (all_at child (t ∷ ts)) (child t)
+        (λ v c. all_at child ts c >>= λ others. Ok (and v others.0, others.1))
+        (λ x. all_taken child (value_taken r room) ts x.1)
+    (λ c. bind_chain (λ v d. all_at child ts d >>= λ others. Ok (and v others.0, others.1))
+        (child t c)) (value_steady r room t) b (value_taken r room t b) (h t b)
+    (λ x. finish_decided truncated (λ e. e) (and x.0) _ (all_at child ts)
+        (λ c. and_finish x.0 (all_at child ts c)) x.1 (all_taken child (value_taken r room) ts x.1)
+        (all_decided r room h ts x.1))
+
+times_decided : (r : List TypeInfo) (room : ℕ) → ChildDecided r room → (n t : ℕ) (b : List ℕ) →
+    Decided truncated (times_at (value_at r room) n t) b
+    (times_taken (value_at r room) (value_taken r room) n t b) (times_at (value_at r room) n t b)
+times_decided r room h zero t b = tt
+times_decided r room h (suc n) t b = let child = value_at r room in
+    chain_decided truncated (λ e. e) (times_at child (suc n) t) (child t)
+        (λ v c. times_at child n t c >>= λ others. Ok (and v others.0, others.1))
+        (λ x. times_taken child (value_taken r room) n t x.1)
+    (λ c. bind_chain (λ v d. times_at child n t d >>= λ others. Ok (and v others.0, others.1))
+        (child t c)) (value_steady r room t) b (value_taken r room t b) (h t b)
+    (λ x. finish_decided truncated (λ e. e) (and x.0) _ (times_at child n t)
+        (λ c. and_finish x.0 (times_at child n t c)) x.1
+        (times_taken child (value_taken r room) n t x.1) (times_decided r room h n t x.1))
+
+arm_decided : (r : List TypeInfo) (room : ℕ) → ChildDecided r room →
+    (arms : List Arm) (i : ℕ) (b : List ℕ) (found : Option (ℕ × Arm)) → arm_of arms i ≡ found →
+    Decided truncated (arms_at (value_at r room) arms) (i ∷ b)
+    (suc (arm_taken (value_at r room) (value_taken r room) found b))
+    (fields_behind_index (value_at r room) (i ∷ b) found b)
+arm_decided r room h arms i b None e =
+    λ ne. record { there = omega arith; front = (i ∷ [], rw e refl); early =
+    below_one (i ∷ b) (λ d. (left : List ℕ)
+    × (arms_at (value_at r room) arms d ≡ Err (truncated, left))) ([], refl) }
+arm_decided r room h arms i b (Some a) e = let child = value_at r room in let ts =
+    field_types a.1.fields in
+    let inner = finish_decided truncated (λ x. x) (branch (arm a.0))
+        (λ c. with_children (arm a.0) (all_at child ts c)) (all_at child ts)
+        (λ c. with_children_finish (arm a.0) (all_at child ts c)) b
+        (all_taken child (value_taken r room) ts b) (all_decided r room h ts b) in
+    let is : (c : List ℕ) → arms_at child arms (i ∷ c) ≡ with_children (arm a.0)
+        (all_at child ts c) = λ c. rw e refl in
+    rw is at (cons_decided truncated (arms_at child arms)
+        (λ c. with_children (arm a.0) (all_at child ts c)) i is [] refl b
+        (all_taken child (value_taken r room) ts b) inner)
+
+arms_decided : (r : List TypeInfo) (room : ℕ) → ChildDecided r room →
+    (arms : List Arm) (b : List ℕ) →
+    Decided truncated (arms_at (value_at r room) arms) b
+    (arms_taken (value_at r room) (value_taken r room) arms b) (arms_at (value_at r room) arms b)
+arms_decided r room h arms [] = λ ne. absurd (ne refl)
+arms_decided r room h arms (i ∷ b) = arm_decided r room h arms i b (arm_of arms i) refl
+
+-- the fault of a value without parts is decided by the bytes that are taken
+plain_decided : (p : Plain) (b : List ℕ) →
+    Decided truncated (leaf_at p) b (leaf_taken p b) (leaf_at p b)
+plain_decided layout.empty b = tt
+plain_decided layout.bool b = bool_decided b
+plain_decided layout.char b = char_decided b
+plain_decided layout.text b =
+    finish_decided reasons.Truncated basic (λ x. leaf (text x)) _ text_at
+    (λ c. as_leaf_finish text (text_at c)) b (text_taken b) (text_decided b)
+plain_decided (layout.unsigned k) b =
+    finish_decided reasons.Truncated basic (λ b. leaf (unsigned (number b))) _ (bytes_at k)
+    (λ c. as_leaf_finish (λ b. unsigned (number b)) (bytes_at k c)) b 0 (bytes_decided _ b)
+plain_decided (layout.signed k) b =
+    finish_decided reasons.Truncated basic (λ b. leaf (signed (signed_number b))) _ (bytes_at k)
+    (λ c. as_leaf_finish (λ b. signed (signed_number b)) (bytes_at k c)) b 0 (bytes_decided _ b)
+plain_decided layout.wide b =
+    finish_decided reasons.Truncated basic (λ x. leaf (wide x)) _ (bytes_at 32)
+    (λ c. as_leaf_finish wide (bytes_at 32 c)) b 0 (bytes_decided _ b)
+plain_decided layout.counted b =
+    finish_decided reasons.Truncated basic (λ x. leaf (count x)) _ (compact_at target.U32)
+    (λ c. as_leaf_finish count (compact_at target.U32 c)) b (compact_taken target.U32 b)
+    (compact_decided target.U32 b)
+plain_decided (layout.compact m) b =
+    finish_decided reasons.Truncated basic (λ x. leaf (compact_value x)) _ (compact_at m)
+    (λ c. as_leaf_finish compact_value (compact_at m c)) b (compact_taken m b) (compact_decided m b)
+
+layout_decided : (r : List TypeInfo) (room : ℕ) → ChildDecided r room → (f : Layout) (b : List ℕ) →
+    Decided truncated (layout_at (value_at r room) f) b
+    (layout_taken (value_at r room) (value_taken r room) f b) (layout_at (value_at r room) f b)
+unfolding layout_at layout_taken
+layout_decided r room h layout.unknown b = met_decided _ b no_finite_value b refl
+layout_decided r room h layout.bit_sequence b = met_decided _ b bit_sequence b refl
+layout_decided r room h layout.bad_compact b = met_decided _ b bad_compact b refl
+layout_decided r room h (layout.plain p) b = plain_decided p b
+layout_decided r room h (layout.fields ts) b =
+    finish_decided truncated (λ e. e) (branch fields) _ (all_at (value_at r room) ts)
+    (λ c. with_children_finish fields (all_at (value_at r room) ts c)) b
+    (all_taken (value_at r room) (value_taken r room) ts b) (all_decided r room h ts b)
+layout_decided r room h (layout.arms arms) b = arms_decided r room h arms b
+layout_decided r room h (layout.array n t) b =
+    finish_decided truncated (λ e. e) (branch list) _ (times_at (value_at r room) n t)
+    (λ c. with_children_finish list (times_at (value_at r room) n t c)) b
+    (times_taken (value_at r room) (value_taken r room) n t b) (times_decided r room h n t b)
+layout_decided r room h (layout.sequence t) b = let child = value_at r room in
+    chain_decided reasons.Truncated basic (λ c. elements_at child t (compact_at target.U32 c))
+        (compact_at target.U32) (λ n c. with_children list (times_at child n t c))
+        (λ n. times_taken child (value_taken r room) n.0 t n.1)
+    (λ c. elements_chain child t (compact_at target.U32 c)) (compact_steady target.U32) b
+        (compact_taken target.U32 b) (compact_decided target.U32 b)
+    (λ n. finish_decided truncated (λ e. e) (branch list) _ (times_at child n.0 t)
+        (λ c. with_children_finish list (times_at child n.0 t c)) n.1
+        (times_taken child (value_taken r room) n.0 t n.1) (times_decided r room h n.0 t n.1))
+
+pub value_decided : (r : List TypeInfo) (room t : ℕ) (b : List ℕ) →
+    Decided truncated (value_at r room t) b (value_taken r room t b) (value_at r room t b)
+unfolding value_at value_taken
+value_decided r zero t b = met_decided _ b too_deep b refl
+value_decided r (suc room) t b = go (λ u c. value_decided r room u c) (is_finite r t) refl where
+  go : ChildDecided r room → (f : Bool) → is_finite r t ≡ f →
+      Decided truncated (λ c. cond (is_finite r t) (layout_at (value_at r room) (layout r t) c)
+      (Err (no_finite_value, c))) b
+      (cond f (layout_taken (value_at r room) (value_taken r room) (layout r t) b) 0)
+      (cond f (layout_at (value_at r room) (layout r t) b) (Err (no_finite_value, b)))
+  go h true e = rw e (layout_decided r room h (layout r t) b)
+  go h false e = met_decided _ b no_finite_value b (rw e refl)

@@ -1,0 +1,69 @@
+-- A compact that is wanted stands over an integer: over nothing it would take no bytes.
+use Rattle.std.proofs.Common.{
+    ◌≡◌, ℕ, suc, Bool, true, false, List, [], ◌∷◌, length, Option, Some, None, refl, sym, ap, ◌∙◌
+}
+use Rattle.std.specs.Prelude.{◌≢◌, if◌then◌else◌}
+use Rattle.scale_core.specs.declared.compact.Target.{Target}
+use Rattle.scale_core.specs.declared.compact.Target.TheVariants as target
+use Rattle.registry_core.specs.declared.definition.TypeDef.{TypeDef}
+use Rattle.registry_core.specs.declared.definition.TypeDef.TheVariants as Def
+use Rattle.registry_core.specs.declared.type_id.TypeId.{TypeId}
+use Rattle.registry_core.specs.declared.type_info.TypeInfo.{TypeInfo}
+use Rattle.graph_core.specs.Types.{shape}
+use Rattle.widths_core.specs.Targets.{target_of}
+use Rattle.widths_core.specs.Classes.{is_empty, empty_within, empty_step, holds_at, is_unit}
+use Rattle.grammar_core.specs.Forms.{form_of, form_of_shape, sequence_form, compact_form}
+use Rattle.grammar_core.specs.declared.form.Form.TheVariants as form
+use Rattle.grammar_core.specs.declared.form.Next.TheVariants as next
+
+-- the definition of a type of which a compact is wanted
+abbrev Over : List TypeInfo → Target → Option TypeDef → Type 0
+Over r m d = (u : TypeId) × (d ≡ Some (Def.Compact u)) × (target_of r u.0 ≡ Some m)
+
+no_sequence : {X : Type 0} (m : Target) (empty : Bool) →
+    sequence_form empty ≡ next.Wants (form.Compact m) → X
+no_sequence m true e = absurd cc
+no_sequence m false e = absurd cc
+
+same_target : (m : Target) (o : Option Target) → compact_form o ≡ next.Wants (form.Compact m) →
+    o ≡ Some m
+same_target m (Some n) e = cc
+same_target m None e = absurd cc
+
+over : (r : List TypeInfo) (m : Target) (d : Option TypeDef) →
+    form_of_shape r d ≡ next.Wants (form.Compact m) → Over r m d
+over r m None e = absurd cc
+over r m (Some (Def.Composite fs)) e = absurd cc
+over r m (Some (Def.Variant arms)) e = absurd cc
+over r m (Some (Def.Sequence u)) e = no_sequence m (is_empty r u.0) e
+over r m (Some (Def.Array n u)) e = absurd cc
+over r m (Some (Def.Tuple ts)) e = absurd cc
+over r m (Some (Def.Primitive p)) e = absurd cc
+over r m (Some (Def.Compact u)) e = (u, refl, same_target m (target_of r u.0) e)
+over r m (Some (Def.BitSequence store order)) e = absurd cc
+
+held_at : (r : List TypeInfo) (test : TypeDef → Bool) (t : ℕ) (d : TypeDef) → shape r t ≡ Some d →
+    holds_at r test t ≡ test d
+held_at r test t d s = ap (λ (o : Option TypeDef). elim o [ Some d ↦ test d | None ↦ false ]) s
+
+unit_is_empty : (r : List TypeInfo) (k t : ℕ) (u : TypeId) → shape r t ≡ Some (Def.Compact u) →
+    target_of r u.0 ≡ Some target.Unit → empty_within r (suc k) t ≡ true
+unfolding empty_within
+unit_is_empty r k t u s e = held_at r (empty_step r (empty_within r k)) t (Def.Compact u) s
+    ∙ ap is_unit e
+
+takes_no_bytes : (r : List TypeInfo) (t : ℕ) (u : TypeId) → shape r t ≡ Some (Def.Compact u) →
+    target_of r u.0 ≡ Some target.Unit → is_empty r t ≡ true
+takes_no_bytes [] t u s e = absurd cc
+takes_no_bytes (x ∷ r) t u s e = unit_is_empty (x ∷ r) (length r) t u s e
+
+-- the target of a compact that is wanted
+pub wanted_target : (r : List TypeInfo) (t : ℕ) (m : Target) →
+    form_of r t ≡ next.Wants (form.Compact m) → m ≢ target.Unit
+wanted_target r t m e is = by (is_empty r t) refl e where
+  by : (empty : Bool) → is_empty r t ≡ empty →
+      (if empty then next.Wants form.Empty else form_of_shape r (shape r t))
+      ≡ next.Wants (form.Compact m) → ⊥
+  by true h f = absurd cc
+  by false h f = let o = over r m (shape r t) f in let no = sym h
+      ∙ takes_no_bytes r t o.0 o.1 (o.2 ∙ ap (λ (n : Target). Some n) is) in absurd cc

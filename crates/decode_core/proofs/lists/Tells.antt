@@ -1,0 +1,212 @@
+-- Reading node by node is the big-step reading.
+use Rattle.std.proofs.Common.{
+    Bool, true, false, cond, ◌≡◌, ℕ, zero, suc, List, [], ◌∷◌, ◌++◌, length, Option, Some, None, Ok,
+    Err, refl, sym, ap, ◌∙◌, append_assoc
+}
+use Rattle.std.proofs.lemmas.List.{append-nil}
+use Rattle.scale_core.specs.Read.{bytes_at, text_at, Read, ◌>>=◌, compact_at}
+use Rattle.scale_core.specs.declared.compact.Target.TheVariants as target
+use Rattle.scale_core.specs.Number.{number, signed_number, is_scalar}
+use Rattle.scale_core.specs.declared.fault.Reason.{Reason}
+use Rattle.scale_core.specs.declared.fault.Reason.TheVariants as scale
+use Rattle.registry_core.specs.declared.definition.Arm.{Arm}
+use Rattle.registry_core.specs.declared.type_info.TypeInfo.{TypeInfo}
+use Rattle.graph_core.specs.Types.{field_types}
+use Rattle.widths_core.specs.Arms.{arm_of}
+use Rattle.widths_core.specs.Layouts.{Plain, Layout}
+use Rattle.widths_core.specs.Layouts as layout
+use Rattle.grammar_core.specs.Tree.{Leaf, Branch, Tree, Trees, none, and, how_many}
+use Rattle.grammar_core.specs.Tree as tree
+use Rattle.grammar_core.specs.Preorder.{Head, head_of, preorder, all_preorder}
+use Rattle.grammar_core.specs.Reading.{
+    as_leaf, basic, bool_at, char_from, value_at, layout_at, leaf_at, all_at, times_at,
+    fields_behind_index, arms_at, elements_at, with_children, Refusal
+}
+use Rattle.decode_core.specs.Met.{met_layout}
+use Rattle.decode_core.proofs.lists.Mets.{value_met}
+use Rattle.value_core.specs.Built.{Entry}
+use Rattle.decode_core.specs.Told.{
+    entry, shown, leaf_own, arm_own, arms_own, length_own, own_at, Told, told, added, ending, after,
+    then, all_told, times_told, own_told, told_at, Agrees
+}
+use Rattle.grammar_core.specs.Preorder as head
+
+pub shown-append : (xs ys : List Entry) → shown (xs ++ ys) ≡ shown xs ++ shown ys
+shown-append [] ys = refl
+shown-append (x ∷ xs) ys = ap (λ (hs : List Head). x.head ∷ hs) (shown-append xs ys)
+
+pub after-after : (xs ys : List Entry) (y : Told) → after xs (after ys y) ≡ after (xs ++ ys) y
+after-after xs ys (told zs end) = rw append_assoc refl
+
+pub after-nil : (y : Told) → after [] y ≡ y
+after-nil (told xs end) = refl
+
+pub then-after : (xs : List Entry) (y : Told) (f : List ℕ → Told) →
+    then (after xs y) f ≡ after xs (then y f)
+then-after xs (told ys (Ok rest)) f = sym (after-after xs ys (f rest))
+then-after xs (told ys (Err e)) f = refl
+
+pub then-then : (y : Told) (f g : List ℕ → Told) → then (then y f) g ≡ then y (λ b. then (f b) g)
+then-then (told ys (Err e)) f g = refl
+then-then (told ys (Ok rest)) f g = then-after ys (f rest) g
+
+pub then-end : (y : Told) → then y (λ b. told [] (Ok b)) ≡ y
+then-end (told ys (Err e)) = refl
+then-end (told ys (Ok rest)) = rw append-nil refl
+
+-- the same of a list of values
+abbrev pub AllAgree : (ℕ → Type 0) → Read Refusal Trees → Told → Type 0
+AllAgree P (Ok x) y = (shown (added y) ≡ all_preorder x.0) × (ending y ≡ Ok x.1) × P (how_many x.0)
+AllAgree P (Err e) y = (met : List ℕ) × (ending y ≡ Err (e, met))
+
+abbrev pub ChildAgrees : (ℕ → List ℕ → Read Refusal Tree) → (ℕ → List ℕ → Told) → Type 0
+ChildAgrees child one = (t : ℕ) (b : List ℕ) → Agrees (child t b) (one t b)
+
+and_agrees : (P Q : ℕ → Type 0) (first : Read Refusal Tree) (y : Told) → Agrees first y →
+    (others : List ℕ → Read Refusal Trees) (f : List ℕ → Told) →
+    ((b : List ℕ) → AllAgree P (others b) (f b)) → ((n : ℕ) → P n → Q (suc n)) →
+    AllAgree Q (first >>= λ x. others x.1 >>= λ z. Ok (and x.0 z.0, z.1)) (then y f)
+and_agrees P Q (Err e) (told xs end) h others f k s = (h.0, rw h.1 refl)
+and_agrees P Q (Ok x) (told xs end) h others f k s =
+    rw h.1 (more (others x.1) (f x.1) (k x.1)) where
+  more : (read : Read Refusal Trees) (y : Told) → AllAgree P read y →
+      AllAgree Q (read >>= λ z. Ok (and x.0 z.0, z.1)) (after xs y)
+  more (Err e) (told ys end') k = k
+  more (Ok z) (told ys end') k =
+      (shown-append xs ys ∙ rw (h.0, k.0) refl, k.1, s (how_many z.0) k.2)
+
+all_agree : (child : ℕ → List ℕ → Read Refusal Tree) (one : ℕ → List ℕ → Told) →
+    ChildAgrees child one → (ts : List ℕ) (b : List ℕ) →
+    AllAgree (λ n. n ≡ length ts) (all_at child ts b) (all_told one ts b)
+all_agree child one h [] b = (refl, refl, refl)
+all_agree child one h (t ∷ ts) b =
+    and_agrees (λ n. n ≡ length ts) (λ n. n ≡ suc (length ts)) (child t b) (one t b) (h t b)
+    (all_at child ts) (all_told one ts) (all_agree child one h ts) (λ n e. ap (λ (k : ℕ). suc k) e)
+
+times_agree : (child : ℕ → List ℕ → Read Refusal Tree) (one : ℕ → List ℕ → Told) →
+    ChildAgrees child one → (n t : ℕ) (b : List ℕ) →
+    AllAgree (λ k. k ≡ n) (times_at child n t b) (times_told one n t b)
+times_agree child one h zero t b = (refl, refl, refl)
+times_agree child one h (suc n) t b =
+    and_agrees (λ k. k ≡ n) (λ k. k ≡ suc n) (child t b) (one t b) (h t b) (times_at child n t)
+    (times_told one n t) (times_agree child one h n t) (λ k e. ap (λ (k : ℕ). suc k) e)
+
+with_agrees : (P : ℕ → Type 0) (b : Branch) (t : ℕ) (h : Head) (read : Read Refusal Trees)
+    (y : Told) → AllAgree P read y →
+    ((vs : Trees) → P (how_many vs) → preorder (tree.branch b vs) ≡ h ∷ all_preorder vs) →
+    Agrees (with_children b read) (after (entry t h ∷ []) y)
+with_agrees P b t h (Err e) (told xs end) k f = k
+with_agrees P b t h (Ok x) (told xs end) k f =
+    (ap (λ (ns : List Head). h ∷ ns) k.0 ∙ sym (f x.0 k.2), k.1)
+
+-- a value without children is its one node
+abbrev pub IsLeafTree : Tree → Type 0
+IsLeafTree (tree.leaf l) = Unit {0}
+IsLeafTree (tree.branch k vs) = ⊥
+
+abbrev pub IsLeafRead : Read Refusal Tree → Type 0
+IsLeafRead (Ok x) = IsLeafTree x.0
+IsLeafRead (Err e) = Unit {0}
+
+leaf_lone : (v : Tree) → IsLeafTree v → head_of v ∷ [] ≡ preorder v
+leaf_lone (tree.branch k vs) h = absurd h
+leaf_lone (tree.leaf l) h = refl
+
+value_leaf : {X : Type 0} (make : X → Leaf) → (read : Read Reason X) →
+    IsLeafRead (as_leaf make read)
+value_leaf make (Ok x) = tt
+value_leaf make (Err e) = tt
+
+bool_leaf : (b : List ℕ) → IsLeafRead (bool_at b)
+bool_leaf [] = tt
+bool_leaf (zero ∷ b) = tt
+bool_leaf (suc zero ∷ b) = tt
+bool_leaf (suc (suc x) ∷ b) = tt
+
+scalar_leaf : (at rest : List ℕ) (n : ℕ) (t : Bool) →
+    IsLeafRead (cond t (Ok (tree.leaf (tree.char n), rest)) (Err (basic scale.BadChar, at)))
+scalar_leaf at rest n true = tt
+scalar_leaf at rest n false = tt
+
+char_leaf : (at : List ℕ) (read : Read Reason (List ℕ)) → IsLeafRead (char_from at read)
+char_leaf at (Ok x) = scalar_leaf at x.1 (number x.0) (is_scalar (number x.0))
+char_leaf at (Err e) = tt
+
+-- what is read of a value without parts is a leaf
+pub reads_leaf : (p : Plain) (b : List ℕ) → IsLeafRead (leaf_at p b)
+reads_leaf layout.empty b = tt
+reads_leaf layout.bool b = (bool_leaf b)
+reads_leaf layout.char b = (char_leaf b (bytes_at 4 b))
+reads_leaf layout.text b = (value_leaf tree.text (text_at b))
+reads_leaf (layout.unsigned k) b = (value_leaf (λ c. tree.unsigned (number c)) (bytes_at k b))
+reads_leaf (layout.signed k) b = (value_leaf (λ c. tree.signed (signed_number c)) (bytes_at k b))
+reads_leaf layout.wide b = (value_leaf tree.wide (bytes_at 32 b))
+reads_leaf layout.counted b = (value_leaf tree.count (compact_at target.U32 b))
+reads_leaf (layout.compact m) b = (value_leaf tree.compact (compact_at m b))
+
+leaf_agrees : (one : ℕ → List ℕ → Told) (t : ℕ) (b : List ℕ) (read : Read Refusal Tree) →
+    IsLeafRead read → Agrees read (own_told one t b (leaf_own read))
+leaf_agrees one t b (Ok x) h = (leaf_lone x.0 h, refl)
+leaf_agrees one t b (Err e) h = (b, refl)
+
+arm_agrees : (child : ℕ → List ℕ → Read Refusal Tree) (one : ℕ → List ℕ → Told) →
+    ChildAgrees child one → (t : ℕ) (at b : List ℕ) (found : Option (ℕ × Arm)) →
+    Agrees (fields_behind_index child at found b) (own_told one t at (arm_own at found b))
+arm_agrees child one h t at b None = (at, refl)
+arm_agrees child one h t at b (Some a) =
+    with_agrees (λ n. n ≡ length (field_types a.1.fields)) (tree.arm a.0) t
+    (head.branch (tree.arm a.0) (length (field_types a.1.fields))) _ _
+    (all_agree child one h (field_types a.1.fields) b) (λ vs e. rw e refl)
+
+arms_agree : (child : ℕ → List ℕ → Read Refusal Tree) (one : ℕ → List ℕ → Told) →
+    ChildAgrees child one → (t : ℕ) (arms : List Arm) (b : List ℕ) →
+    Agrees (arms_at child arms b) (own_told one t b (arms_own arms b))
+arms_agree child one h t arms [] = ([], refl)
+arms_agree child one h t arms (i ∷ b) = arm_agrees child one h t (i ∷ b) b (arm_of arms i)
+
+elements_agree : (child : ℕ → List ℕ → Read Refusal Tree) (one : ℕ → List ℕ → Told) →
+    ChildAgrees child one → (t u : ℕ) (b : List ℕ) (read : Read Reason ℕ) →
+    Agrees (elements_at child u read) (own_told one t b (length_own u read))
+elements_agree child one h t u b (Err e) = (b, refl)
+elements_agree child one h t u b (Ok n) =
+    with_agrees (λ k. k ≡ n.0) tree.list t (head.branch tree.list n.0) _ _
+    (times_agree child one h n.0 u n.1) (λ vs e. rw e refl)
+
+layout_agrees : (child : ℕ → List ℕ → Read Refusal Tree) (one : ℕ → List ℕ → Told) →
+    ChildAgrees child one → (t : ℕ) (f : Layout) (b : List ℕ) →
+    Agrees (layout_at child f b) (own_told one t b (own_at f b))
+unfolding layout_at own_at
+layout_agrees child one h t (layout.fields ts) b =
+    with_agrees (λ n. n ≡ length ts) tree.fields t (head.branch tree.fields (length ts)) _ _
+    (all_agree child one h ts b) (λ vs e. rw e refl)
+layout_agrees child one h t (layout.arms arms) b = arms_agree child one h t arms b
+layout_agrees child one h t (layout.sequence u) b =
+    elements_agree child one h t u b (compact_at target.U32 b)
+layout_agrees child one h t (layout.array n u) b =
+    with_agrees (λ k. k ≡ n) tree.list t (head.branch tree.list n) _ _
+    (times_agree child one h n u b) (λ vs e. rw e refl)
+layout_agrees child one h t layout.unknown b =
+    leaf_agrees one t b (layout_at child layout.unknown b) tt
+layout_agrees child one h t layout.bit_sequence b =
+    leaf_agrees one t b (layout_at child layout.bit_sequence b) tt
+layout_agrees child one h t layout.bad_compact b =
+    leaf_agrees one t b (layout_at child layout.bad_compact b) tt
+layout_agrees child one h t (layout.plain p) b = leaf_agrees one t b (leaf_at p b) (reads_leaf p b)
+
+room_agrees : (r : List TypeInfo) (room t : ℕ) (b : List ℕ) →
+    ((u : ℕ) (c : List ℕ) → Agrees (value_at r room u c) (told_at r room u c)) →
+    Agrees (value_at r (suc room) t b) (told_at r (suc room) t b)
+unfolding told_at
+room_agrees r room t b h =
+    rw (value_met r room t b)
+    (layout_agrees (value_at r room) (told_at r room) h t (met_layout r t) b)
+
+no_room_agrees : (r : List TypeInfo) (t : ℕ) (b : List ℕ) →
+    Agrees (value_at r zero t b) (told_at r zero t b)
+unfolding value_at told_at
+no_room_agrees r t b = (b, refl)
+
+pub told_agrees : (r : List TypeInfo) (room t : ℕ) (b : List ℕ) →
+    Agrees (value_at r room t b) (told_at r room t b)
+told_agrees r zero t b = no_room_agrees r t b
+told_agrees r (suc room) t b = room_agrees r room t b (told_agrees r room)

@@ -1,0 +1,296 @@
+-- Why a turn adds nothing: bytes are missing, or the next node is refused.
+use Rattle.std.proofs.Common.{
+    ◌≡◌, ◌⊎◌, ℕ, zero, suc, ◌+◌, ◌-◌, ◌<◌, ◌≤◌, Bool, true, false, cond, List, [], ◌∷◌, ◌++◌,
+    length, take, Some, Err, refl, sym, ap, ◌∙◌, arith, length-append, inl, inr
+}
+use Rattle.std.specs.Prelude.{◌≢◌}
+use Rattle.std.proofs.lemmas.Bool.{lt-ltb}
+use Rattle.std.proofs.lemmas.List.{length-take, take-append-le}
+use Rattle.std.proofs.Math.Seq.{take-append_seam, drop-append_seam}
+use Rattle.scale_core.specs.Number.{number, signed_number}
+use Rattle.scale_core.specs.Read.{
+    bytes_at, form_len, form_from, is_too_long, integer_at, compact_at, text_at
+}
+use Rattle.scale_core.specs.declared.compact.Target.{Target}
+use Rattle.scale_core.specs.declared.compact.Target.TheVariants as target
+use Rattle.scale_core.specs.declared.fault.Reason.TheVariants as scale
+use Rattle.registry_core.specs.Kinds.{kind_of, width_bytes}
+use Rattle.registry_core.specs.declared.kind.PrimitiveKind.{PrimitiveKind}
+use Rattle.registry_core.specs.declared.kind.PrimitiveKind.TheVariants as K
+use Rattle.registry_core.proofs.Widths.{width_some}
+use Rattle.registry_core.specs.declared.type_info.TypeInfo.{TypeInfo}
+use Rattle.widths_core.specs.Layouts.{Layout, layout, kind_layout}
+use Rattle.widths_core.specs.Layouts as layout
+use Rattle.grammar_core.specs.Tree as tree
+use Rattle.value_core.specs.Built.{Built, next_layout}
+use Rattle.grammar_core.specs.Parts.{first_of, left_after}
+use Rattle.grammar_core.specs.Reading.{Refusal, truncated, too_deep, as_leaf, layout_at}
+use Rattle.value_core.specs.Walked.{OpenPart, next_of}
+use Rattle.grammar_core.specs.declared.form.Form.{Form}
+use Rattle.grammar_core.specs.declared.form.Form.TheVariants as form
+use Rattle.grammar_core.specs.declared.form.Next.TheVariants as next
+use Rattle.grammar_core.specs.declared.form.StopReason.{StopReason}
+use Rattle.grammar_core.specs.declared.form.StopReason.TheVariants as stop
+use Rattle.value_core.proofs.Forms.{HasForm, wanted, IsStoppedBy, stopped}
+use Rattle.decode_core.specs.Decided.{Decided}
+use Rattle.decode_core.specs.Machine.{State, remain, is_cut}
+use Rattle.decode_core.specs.Met.{met_layout}
+use Rattle.decode_core.specs.Needs.{compact_need, kind_need, need, AreOwn, HasBytes}
+use Rattle.decode_core.specs.Reasons.{stop_refusal}
+use Rattle.decode_core.specs.Running.{Running, held_of, state_of}
+use Rattle.decode_core.specs.Turned.{WantsBytes}
+use Rattle.decode_core.specs.Told.{leaf_own, own_at, told, then, told_at, rest_told}
+use Rattle.decode_core.proofs.lists.Left.{own_within}
+use Rattle.decode_core.proofs.steps.NodeAdding.{next_has}
+use Rattle.decode_core.proofs.lists.Owns.{own_extends}
+use Rattle.decode_core.proofs.steps.Stepping.{AtNext, at_next, top_of, first_is, parts_of, state_is}
+use Rattle.decode_core.proofs.lists.Targets.{wanted_target}
+use Rattle.decode_core.proofs.steps.Whole.{u32_is}
+
+-- ---- fewer bytes than a node needs
+
+bytes_short : (k : ℕ) (b : List ℕ) → length b < k → bytes_at k b ≡ Err (scale.Truncated, [])
+bytes_short k b h = rw (lt-ltb (length b) k h) refl
+
+-- fewer than are needed, or none
+abbrev pub IsShortOf : (ℕ → ℕ) → List ℕ → Type 0
+IsShortOf needed [] = Unit {0}
+IsShortOf needed (first ∷ rest) = length (first ∷ rest) < needed first
+
+integer_short : (m : Target) (b : List ℕ) → IsShortOf (compact_need m) b →
+    integer_at m b ≡ Err (scale.Truncated, [])
+integer_short m [] h = refl
+integer_short m (first ∷ rest) h = by (is_too_long m first) refl where
+  by : (long : Bool) → is_too_long m first ≡ long →
+      cond long (Err (scale.CompactTooLarge, first ∷ rest))
+      (form_from m (first ∷ rest) (bytes_at (form_len first) (first ∷ rest)))
+      ≡ Err (scale.Truncated, [])
+  by true e = let none : length (first ∷ rest) < 1 = (rw e at h) in absurd (omega (arith, none))
+  by false e = let few : length (first ∷ rest) < form_len first = (rw e at h) in
+      rw (bytes_short (form_len first) (first ∷ rest) few) refl
+
+pub compact_short : (m : Target) (b : List ℕ) → m ≢ target.Unit → IsShortOf (compact_need m) b →
+    compact_at m b ≡ Err (scale.Truncated, [])
+unfolding compact_at
+compact_short target.Unit b ne h = absurd (ne refl)
+compact_short target.U8 b ne h = integer_short target.U8 b h
+compact_short target.U16 b ne h = integer_short target.U16 b h
+compact_short target.U32 b ne h = integer_short target.U32 b h
+compact_short target.U64 b ne h = integer_short target.U64 b h
+compact_short target.U128 b ne h = integer_short target.U128 b h
+
+below : (k : ℕ) (b : List ℕ) → 1 ≤ k → IsShortOf (λ first. k) b → length b < k
+below k [] some h = omega (arith, some)
+below k (first ∷ rest) some h = h
+
+number_short : (make : List ℕ → tree.Leaf) (k : ℕ) (b : List ℕ) → 1 ≤ k → IsShortOf (λ first. k) b →
+    leaf_own (as_leaf make (bytes_at k b)) ≡ Err (truncated, [])
+number_short make k b some h = rw (bytes_short k b (below k b some h)) refl
+
+bool_short : (b : List ℕ) → IsShortOf (λ first. 1) b →
+    own_at (layout.plain layout.bool) b ≡ Err (truncated, [])
+unfolding own_at layout_at
+bool_short [] h = refl
+bool_short (first ∷ rest) h = absurd (omega (arith, h))
+
+char_short : (b : List ℕ) → IsShortOf (λ first. 4) b →
+    own_at (layout.plain layout.char) b ≡ Err (truncated, [])
+unfolding own_at layout_at
+char_short b h = rw (bytes_short 4 b (below 4 b (omega arith) h)) refl
+
+pub text_short : (b : List ℕ) → IsShortOf (compact_need target.U32) b →
+    own_at (layout.plain layout.text) b ≡ Err (truncated, [])
+unfolding own_at layout_at text_at
+text_short b h = rw (compact_short target.U32 b u32_is h) refl
+
+kind_short : (k : PrimitiveKind) (b : List ℕ) → IsShortOf (kind_need k) b →
+    own_at (kind_layout k) b ≡ Err (truncated, [])
+unfolding own_at layout_at
+kind_short K.Bool b h = bool_short b h
+kind_short K.Char b h = char_short b h
+kind_short K.Str b h = text_short b h
+kind_short (K.Unsigned w) b h =
+    number_short (λ c. tree.unsigned (number c)) (width_bytes w) b (width_some w) h
+kind_short (K.Signed w) b h =
+    number_short (λ c. tree.signed (signed_number c)) (width_bytes w) b (width_some w) h
+kind_short (K.Wide s) b h = number_short tree.wide 32 b (omega arith) h
+
+arms_short : (lay : Layout) (h : HasForm form.Arm lay) (b : List ℕ) → IsShortOf (λ first. 1) b →
+    own_at lay b ≡ Err (truncated, [])
+unfolding own_at
+arms_short lay h [] k = rw h.1 refl
+arms_short lay h (first ∷ rest) k = absurd (omega (arith, k))
+
+sequence_short : (lay : Layout) (h : HasForm form.Sequence lay) (b : List ℕ) →
+    IsShortOf (compact_need target.U32) b → own_at lay b ≡ Err (truncated, [])
+unfolding own_at
+sequence_short lay h b k = rw (h.1, compact_short target.U32 b u32_is k) refl
+
+count_short : (lay : Layout) (h : HasForm form.Count lay) (b : List ℕ) →
+    IsShortOf (compact_need target.U32) b → own_at lay b ≡ Err (truncated, [])
+unfolding own_at layout_at
+count_short lay h b k = rw (h, compact_short target.U32 b u32_is k) refl
+
+compact_own_short : (m : Target) (lay : Layout) → m ≢ target.Unit → HasForm (form.Compact m) lay →
+    (b : List ℕ) → IsShortOf (compact_need m) b → own_at lay b ≡ Err (truncated, [])
+unfolding own_at layout_at
+compact_own_short m lay ne h b k = rw (h, compact_short m b ne k) refl
+
+-- the next node's own bytes are not all there
+pub own_short : (b : Built) (f : Form) (x : List ℕ) → next_of b.walk ≡ next.Wants f → HasBytes f →
+    IsShortOf (need f) x → own_at (next_layout b) x ≡ Err (truncated, [])
+own_short b form.Empty x h s k = absurd s
+own_short b (form.Primitive p) x h s k =
+    rw (next_has b (form.Primitive p) h) (kind_short (kind_of p) x k)
+own_short b (form.Compact m) x h s k = let w = wanted b.walk (form.Compact m) h in
+    compact_own_short m (next_layout b) (wanted_target b.walk.types w.ty m w.form_is)
+    (next_has b (form.Compact m) h) x k
+own_short b form.Fields x h s k = absurd s
+own_short b form.Arm x h s k = arms_short (next_layout b) (next_has b form.Arm h) x k
+own_short b (form.Array n) x h s k = absurd s
+own_short b form.Sequence x h s k = sequence_short (next_layout b) (next_has b form.Sequence h) x k
+own_short b form.Count x h s k = count_short (next_layout b) (next_has b form.Count h) x k
+
+-- so it is of the first of a node's own bytes
+pub front_short : (f : Form) (own : List ℕ) (i : ℕ) → AreOwn f own → i < length own →
+    IsShortOf (need f) (take i own)
+front_short f own zero a lt = tt
+front_short f [] (suc i) a lt = absurd (omega (arith, lt))
+front_short f (x ∷ own) (suc i) a lt =
+    let first_is : x ≡ a.0 = ap (λ (l : List ℕ). elim l [ [] ↦ 0 | y ∷ ys ↦ y ]) a.2 in
+    omega (arith, length-take i own, lt, a.3, ap (need f) first_is)
+
+-- ---- what the machine tells where the next node fails
+
+fails_first : (r : List TypeInfo) (room t : ℕ) (lay : Layout) (rest : List ℕ → _) (x left : List ℕ)
+    (e : Refusal) → met_layout r t ≡ lay → own_at lay x ≡ Err (e, left) →
+    then (told_at r (suc room) t x) rest ≡ told [] (Err ((e, left), x))
+unfolding told_at
+fails_first r room t lay rest x left e m h = rw (m, h) refl
+
+pub remain_next : (b : Built) (n : AtNext b) (x left : List ℕ) (e : Refusal) →
+    own_at (next_layout b) x ≡ Err (e, left) →
+    remain b.walk.types (state_of b) x ≡ told [] (Err ((e, left), x))
+remain_next b n x left e h = ap (λ (s : State). remain b.walk.types s x) (state_is b n)
+    ∙ (first_is b.walk.types (suc n.room) n.ty n.top.left (parts_of n.around) n.first x
+    ∙ fails_first b.walk.types n.room n.ty (next_layout b)
+        (rest_told b.walk.types (suc n.room) (left_after n.top.left ∷ parts_of n.around)) x left e
+        n.laid h)
+
+-- what the machine tells of a node that is refused, whatever follows its own bytes; and that these
+-- decide it
+-- where bytes are missing, that is all that is told
+pub waits_told : (s : Running) → (w : WantsBytes s) →
+    remain s.built.walk.types (state_of s.built) (held_of s) ≡ told []
+    (Err ((truncated, w.left), held_of s))
+waits_told s w = remain_next s.built (at_next s.built w.form w.next) (held_of s) w.left truncated
+    w.short
+
+pub record Refuses (b : Built) (x : List ℕ) (e : Refusal) (left : List ℕ) (len : ℕ) : Type 0 where
+  pub tells : remain b.walk.types (state_of b) x ≡ told [] (Err ((e, left), x))
+  pub decided : Decided b.walk.types (state_of b) x e left len
+
+cut_not : (e : Refusal) → is_cut e ≡ false → e ≢ truncated
+cut_not e h is = let no : is_cut truncated ≡ false = ap is_cut (sym is) ∙ h in absurd cc
+
+-- by own bytes of which fewer are too few
+pub refuses_by : (b : Built) (n : AtNext b) (own more back : List ℕ) (e : Refusal) →
+    own_at (next_layout b) own ≡ Err (e, back) → is_cut e ≡ false →
+    ((i : ℕ) → i < length own → own_at (next_layout b) (take i own) ≡ Err (truncated, [])) →
+    Refuses b (own ++ more) e (back ++ more) (length own)
+refuses_by b n own more back e is cut few =
+    let lay = next_layout b in
+    let longer : own_at lay (own ++ more) ≡ Err (e, back ++ more) =
+        (rw is at (own_extends lay own more)) (cut_not e cut) in
+    let within : length back ≤ length own = (rw is at (own_within lay own)) in
+    let front : take (length own) (own ++ more) ≡ own = take-append_seam own more in
+    let parts = length-append own more in
+    record {
+      tells = remain_next b n (own ++ more) (back ++ more) e longer;
+      decided = record {
+        within = omega (arith, parts);
+        low = omega (arith, parts, length-append back more, within);
+        back = back;
+        holds = rw front (remain_next b n own back e is);
+        is = ap (λ (l : List ℕ). back ++ l) (sym (drop-append_seam own more));
+        least = λ i lt. (
+          [],
+          let same : take i (own ++ more) ≡ take i own =
+              take-append-le i own more (omega (arith, lt)) in
+              rw same (remain_next b n (take i own) [] truncated (few i lt)),
+        );
+      };
+    }
+
+pub refuses : (b : Built) (f : Form) (own more back : List ℕ) (e : Refusal) →
+    next_of b.walk ≡ next.Wants f → HasBytes f → AreOwn f own →
+    own_at (next_layout b) own ≡ Err (e, back) → is_cut e ≡ false →
+    Refuses b (own ++ more) e (back ++ more) (length own)
+refuses b f own more back e h s a is cut =
+    refuses_by b (at_next b f h) own more back e is cut
+    (λ i lt. own_short b f (take i own) h s (front_short f own i a lt))
+
+-- ---- a type that stops
+
+stop_laid : (told_reason : StopReason) (r : List TypeInfo) (t : ℕ) → IsStoppedBy told_reason r t →
+    (x : List ℕ) → own_at (met_layout r t) x ≡ Err (stop_refusal told_reason, x)
+unfolding own_at layout_at met_layout
+stop_laid stop.TooDeep r t h x = absurd h
+stop_laid stop.NoFiniteValue r t h x = rw h refl
+stop_laid stop.BitSequence r t h x = rw (h.0, h.1) refl
+stop_laid stop.BadCompact r t h x = rw (h.0, h.1) refl
+
+no_room_tells : (r : List TypeInfo) (t : ℕ) (rest : List ℕ → _) (x : List ℕ) →
+    then (told_at r zero t x) rest ≡ told [] (Err ((too_deep, x), x))
+unfolding told_at
+no_room_tells r t rest x = refl
+
+-- the innermost part, as the machine has it, with this room
+state_from : (b : Built) (top : OpenPart) (around : List OpenPart) (room : ℕ) →
+    b.walk.frames ≡ top ∷ around → b.walk.limit + 2 - length b.walk.frames ≡ room →
+    state_of b ≡ record { nodes = b.entries; room = room; pending = top.left ∷ parts_of around }
+state_from b top around room f k = rw (k, f) refl
+
+stop_by : (b : Built) (told_reason : StopReason) (t : ℕ) (top : OpenPart) (around : List OpenPart) →
+    b.walk.frames ≡ top ∷ around → first_of top.left ≡ Some t →
+    ((told_reason ≡ stop.TooDeep) × (b.walk.limit + 1 < length b.walk.frames))
+        ⊎ ((length b.walk.frames ≤ b.walk.limit + 1) × IsStoppedBy told_reason b.walk.types t) →
+        (x : List ℕ) → remain b.walk.types (state_of b) x ≡ told []
+        (Err ((stop_refusal told_reason, x), x))
+stop_by b told_reason t top around fs first (inl deep) x =
+    let is = state_from b top around 0 fs (omega (arith, deep.1)) in
+    ap (λ (s : State). remain b.walk.types s x) is
+        ∙ (first_is b.walk.types 0 t top.left (parts_of around) first x
+        ∙ no_room_tells b.walk.types t
+        (rest_told b.walk.types 0 (left_after top.left ∷ parts_of around)) x)
+    ∙ ap (λ (e : StopReason). told [] (Err ((stop_refusal e, x), x))) (sym deep.0)
+stop_by b told_reason t top around fs first (inr here) x =
+    let room = b.walk.limit + 1 - length b.walk.frames in
+    let is = state_from b top around (suc room) fs (omega (arith, here.0)) in
+    ap (λ (s : State). remain b.walk.types s x) is
+        ∙ (first_is b.walk.types (suc room) t top.left (parts_of around) first x
+    ∙ fails_first b.walk.types room t (met_layout b.walk.types t)
+        (rest_told b.walk.types (suc room) (left_after top.left ∷ parts_of around)) x x
+        (stop_refusal told_reason) refl (stop_laid told_reason b.walk.types t here.1 x))
+
+pub stop_tells : (b : Built) (told_reason : StopReason) → next_of b.walk ≡ next.Stop told_reason →
+    (x : List ℕ) → remain b.walk.types (state_of b) x ≡ told []
+    (Err ((stop_refusal told_reason, x), x))
+stop_tells b told_reason h x =
+    let s = stopped b.walk told_reason h in
+    let top = top_of b.walk.frames s.ty s.is_next in
+    stop_by b told_reason s.ty top.0 top.1 top.2 top.3 s.why x
+
+pub no_cut : (told_reason : StopReason) → is_cut (stop_refusal told_reason) ≡ false
+no_cut stop.TooDeep = refl
+no_cut stop.NoFiniteValue = refl
+no_cut stop.BitSequence = refl
+no_cut stop.BadCompact = refl
+
+pub stop_refuses : (b : Built) (told_reason : StopReason) → next_of b.walk ≡ next.Stop told_reason →
+    (x : List ℕ) → Refuses b x (stop_refusal told_reason) x 0
+stop_refuses b told_reason h x = record {
+  tells = stop_tells b told_reason h x;
+  decided = record { within = omega arith; low = omega arith; back = []; holds =
+      stop_tells b told_reason h []; is = refl; least = λ i lt. absurd (omega (arith, lt)) };
+}

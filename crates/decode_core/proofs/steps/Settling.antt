@@ -1,0 +1,85 @@
+-- A value that is built keeps to its shape: what is whole is closed, and something is open.
+use Rattle.std.proofs.Common.{
+    ◌≡◌, ℕ, ◌+◌, ◌≤◌, List, [], ◌∷◌, ◌++◌, length, Option, Some, None, refl, sym, ap, subst, ◌∙◌,
+    arith
+}
+use Rattle.value_core.specs.Built.{Built, next_entry, settled_in, settled}
+use Rattle.grammar_core.specs.Parts.{Part, first_of}
+use Rattle.grammar_core.specs.Preorder.{Head}
+use Rattle.value_core.specs.Walked.{OpenPart, advanced_in}
+use Rattle.decode_core.specs.NodeAdds.{IsAdded, with_own}
+use Rattle.decode_core.specs.Running.{IsRunning}
+use Rattle.decode_core.proofs.steps.Stepping.{AtNext, settles}
+
+settled_by : (f g : OpenPart) (fs : List OpenPart) →
+    settled_in (settled_in (g ∷ fs)) ≡ settled_in (g ∷ fs) → (o : Option ℕ) → first_of f.left ≡ o →
+    settled_in (elim o [ Some t ↦ f ∷ g ∷ fs | None ↦ settled_in (g ∷ fs) ])
+    ≡ elim o [ Some t ↦ f ∷ g ∷ fs | None ↦ settled_in (g ∷ fs) ]
+settled_by f g fs h (Some t) e =
+    ap (λ (o : Option ℕ). elim o [ Some t ↦ f ∷ g ∷ fs | None ↦ settled_in (g ∷ fs) ]) e
+settled_by f g fs h None e = h
+
+pub settled_twice : (fs : List OpenPart) → settled_in (settled_in fs) ≡ settled_in fs
+settled_twice [] = refl
+settled_twice (f ∷ []) = refl
+settled_twice (f ∷ g ∷ fs) = settled_by f g fs (settled_twice (g ∷ fs)) (first_of f.left) refl
+
+some_by : (f g : OpenPart) (fs : List OpenPart) → 1 ≤ length (settled_in (g ∷ fs)) →
+    (o : Option ℕ) → 1 ≤ length {A = OpenPart}
+    (elim o [ Some t ↦ f ∷ g ∷ fs | None ↦ settled_in (g ∷ fs) ])
+some_by f g fs h (Some t) = omega arith
+some_by f g fs h None = h
+
+pub settled_some : (fs : List OpenPart) → 1 ≤ length fs → 1 ≤ length (settled_in fs)
+settled_some [] h = h
+settled_some (f ∷ []) h = h
+settled_some (f ∷ g ∷ fs) h = some_by f g fs (settled_some (g ∷ fs) (omega arith)) (first_of f.left)
+
+pub settled_fewer : (fs : List OpenPart) → length (settled_in fs) ≤ length fs
+settled_fewer fs = (settles [] (length fs) fs (omega arith)).fewer
+
+advanced_count : (fs : List OpenPart) → length (advanced_in fs) ≡ length fs
+advanced_count [] = refl
+advanced_count (f ∷ fs) = refl
+
+-- nothing of it is carried, and no text is open
+settled_running : (s : Built) → 1 ≤ length s.walk.frames → length s.walk.frames ≤ s.walk.limit + 2 →
+    s.text ≡ None → IsRunning (settled s) [] None
+settled_running s some deep closed = record {
+  rooted = settled_some s.walk.frames some;
+  deep = omega (arith, settled_fewer s.walk.frames, deep);
+  settled = settled_twice s.walk.frames;
+  carried = tt;
+  is_text = rw closed tt;
+  text_next = rw closed tt;
+}
+
+own_running : (b : Built) (n : AtNext b) (x : Head × Option Part) → b.text ≡ None →
+    IsRunning (with_own b x) [] None
+own_running b n (h, None) closed =
+    let s : Built = record { ty = b.ty; walk =
+        record { types = b.walk.types; limit = b.walk.limit; frames = advanced_in b.walk.frames };
+        entries = b.entries ++ next_entry b h ∷ []; text = b.text; turns = b.turns } in
+    settled_running s (omega (arith, advanced_count b.walk.frames, ap length n.frames))
+        (omega (arith, advanced_count b.walk.frames, n.bound)) closed
+own_running b n (h, Some p) closed =
+    let opened_part : OpenPart = record { node = length b.entries; left = p } in
+    let s : Built = record { ty = b.ty; walk =
+        record { types = b.walk.types; limit = b.walk.limit; frames =
+        opened_part ∷ advanced_in b.walk.frames }; entries = b.entries ++ next_entry b h ∷ [];
+        text = b.text; turns = b.turns } in
+    settled_running s (omega arith) (omega (arith, advanced_count b.walk.frames, n.bound)) closed
+
+-- a node is added
+pub added_running : (b new : Built) (own : List ℕ) → AtNext b → b.text ≡ None → IsAdded b new own →
+    IsRunning new [] None
+added_running b new own n closed h =
+    subst (λ (s : Built). IsRunning s [] None) (sym h.2) (own_running b n h.0 closed)
+
+own_text : (b : Built) (x : Head × Option Part) → (with_own b x).text ≡ b.text
+own_text b (h, None) = refl
+own_text b (h, Some p) = refl
+
+pub added_text : (b new : Built) (own : List ℕ) → b.text ≡ None → IsAdded b new own →
+    new.text ≡ None
+added_text b new own closed h = ap (λ (s : Built). s.text) h.2 ∙ own_text b h.0 ∙ closed

@@ -1,0 +1,72 @@
+-- Few bytes are carried.
+use Rattle.std.proofs.Common.{
+    ◌≡◌, ℕ, zero, suc, ◌+◌, ◌/◌, ◌%◌, ◌<◌, ◌≤◌, Bool, true, false, cond, ltb, List, [], ◌∷◌, length,
+    refl, arith, inl, inr
+}
+use Rattle.std.specs.Prelude.{◌==◌}
+use Rattle.std.proofs.lemmas.Bool.{cases_lt, ltb-false}
+use Rattle.scale_core.specs.Compact.{target_bytes}
+use Rattle.scale_core.specs.Read.{form_len, is_too_long}
+use Rattle.scale_core.specs.declared.compact.Target.{Target}
+use Rattle.scale_core.specs.declared.compact.Target.TheVariants as target
+use Rattle.registry_core.specs.Kinds.{kind_of}
+use Rattle.registry_core.specs.declared.kind.PrimitiveKind.{PrimitiveKind}
+use Rattle.registry_core.specs.declared.kind.PrimitiveKind.TheVariants as K
+use Rattle.registry_core.proofs.Widths.{width_most}
+use Rattle.grammar_core.specs.declared.form.Form.{Form}
+use Rattle.grammar_core.specs.declared.form.Form.TheVariants as form
+use Rattle.value_core.specs.Built.{Built}
+use Rattle.decode_core.specs.Needs.{compact_need, kind_need, need}
+use Rattle.decode_core.specs.Running.{IsCarry}
+
+-- how long a compact is
+short_form : (m q : ℕ) → m < 3 → cond (m == 0) 1 (cond (m == 1) 2 (cond (m == 2) 4 q)) ≤ 17
+short_form zero q h = omega arith
+short_form (suc zero) q h = omega arith
+short_form (suc (suc zero)) q h = omega arith
+short_form (suc (suc (suc m))) q h = absurd (omega (arith, h))
+
+target_small : (m : Target) → target_bytes m ≤ 16
+target_small target.Unit = omega arith
+target_small target.U8 = omega arith
+target_small target.U16 = omega arith
+target_small target.U32 = omega arith
+target_small target.U64 = omega arith
+target_small target.U128 = omega arith
+
+form_len_small : (m : Target) (i : ℕ) → is_too_long m i ≡ false → form_len i ≤ 17
+form_len_small m i h = elim (cases_lt (i % 4) 3) [
+  | inl lt ↦ short_form (i % 4) (i / 4 + 5) lt
+  | inr ge ↦ let mode : i % 4 ≡ 3 = omega arith in
+      let fits : ltb (target_bytes m) (i / 4 + 4) ≡ false = (rw mode at h) in
+      rw mode (omega (arith, ltb-false _ _ fits, target_small m))
+]
+
+-- how many bytes a node needs
+compact_need_small : (m : Target) (first : ℕ) → compact_need m first ≤ 32
+compact_need_small m first = by (is_too_long m first) refl where
+  by : (long : Bool) → is_too_long m first ≡ long → cond long 1 (form_len first) ≤ 32
+  by true e = omega arith
+  by false e = omega (arith, form_len_small m first e)
+
+kind_need_small : (k : PrimitiveKind) (first : ℕ) → kind_need k first ≤ 32
+kind_need_small K.Bool first = omega arith
+kind_need_small K.Char first = omega arith
+kind_need_small K.Str first = compact_need_small target.U32 first
+kind_need_small (K.Unsigned w) first = omega (arith, width_most w)
+kind_need_small (K.Signed w) first = omega (arith, width_most w)
+kind_need_small (K.Wide s) first = omega arith
+
+need_small : (f : Form) (first : ℕ) → need f first ≤ 32
+need_small (form.Primitive p) first = kind_need_small (kind_of p) first
+need_small (form.Compact m) first = compact_need_small m first
+need_small form.Sequence first = compact_need_small target.U32 first
+need_small form.Count first = compact_need_small target.U32 first
+need_small form.Empty first = omega arith
+need_small form.Fields first = omega arith
+need_small form.Arm first = omega arith
+need_small (form.Array n) first = omega arith
+
+pub carry_small : (b : Built) (carry : List ℕ) → IsCarry b carry → length carry ≤ 32
+carry_small b [] h = omega arith
+carry_small b (first ∷ rest) h = omega (arith, h.4, need_small h.0 first)

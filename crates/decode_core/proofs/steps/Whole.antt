@@ -1,0 +1,164 @@
+-- As many bytes as a node needs are its own, and none is left over; or they are enough to refuse
+-- it.
+use Rattle.std.proofs.Common.{
+    ◌≡◌, ℕ, zero, suc, ◌^◌, Bool, true, false, cond, List, [], ◌∷◌, length, Option, Some, None, Ok,
+    Err, refl, arith
+}
+use Rattle.std.specs.Prelude.{◌≢◌, nat_lt, not}
+use Rattle.std.proofs.lemmas.Bool.{le-ltb}
+use Rattle.std.proofs.lemmas.List.{take_all, drop_all}
+use Rattle.std.specs.Str.{bytes_eq}
+use Rattle.scale_core.specs.Number.{number, signed_number, is_scalar}
+use Rattle.scale_core.specs.Compact.{compact, target_bytes}
+use Rattle.scale_core.specs.Read.{
+    Read, bytes_at, form_len, form_number, form_from, checked_form, is_too_long, integer_at,
+    compact_at
+}
+use Rattle.scale_core.specs.declared.compact.Target.{Target}
+use Rattle.scale_core.specs.declared.compact.Target.TheVariants as target
+use Rattle.scale_core.specs.declared.fault.Reason.{Reason}
+use Rattle.scale_core.specs.declared.fault.Reason.TheVariants as scale
+use Rattle.registry_core.specs.declared.definition.Arm.{Arm}
+use Rattle.registry_core.specs.Kinds.{kind_of, width_bytes}
+use Rattle.registry_core.specs.declared.kind.PrimitiveKind.{PrimitiveKind}
+use Rattle.registry_core.specs.declared.kind.PrimitiveKind.TheVariants as K
+use Rattle.widths_core.specs.Arms.{arm_of}
+use Rattle.widths_core.specs.Layouts.{Layout, kind_layout}
+use Rattle.grammar_core.specs.Tree.{Leaf, Tree}
+use Rattle.grammar_core.specs.Tree as tree
+use Rattle.grammar_core.specs.Reading.{layout_at, bool_at, char_from, as_leaf, Refusal, basic}
+use Rattle.grammar_core.specs.declared.form.Form.{Form}
+use Rattle.grammar_core.specs.declared.form.Form.TheVariants as form
+use Rattle.value_core.proofs.Forms.{HasForm}
+use Rattle.decode_core.specs.Machine.{is_cut}
+use Rattle.decode_core.specs.Needs.{compact_need, kind_need, AreOwn, HasBytes, IsNoText}
+use Rattle.decode_core.specs.Told.{leaf_own, arm_own, arms_own, length_own, own_at}
+
+-- nothing is left, or the refusal does not wait for more bytes
+abbrev pub IsWhole : {X : Type 0} → Read Refusal X → Type 0
+IsWhole (Ok x) = x.1 ≡ []
+IsWhole (Err e) = is_cut e.0 ≡ false
+
+-- the same of a part
+abbrev pub IsSettled : {X : Type 0} → Read Reason X → Type 0
+IsSettled (Ok x) = x.1 ≡ []
+IsSettled (Err e) = e.0 ≢ scale.Truncated
+
+pub bytes_whole : (k : ℕ) (b : List ℕ) → length b ≡ k → bytes_at k b ≡ Ok (b, [])
+bytes_whole k b h = rw (le-ltb (length b) k (omega (arith, h)), take_all k b (omega (arith, h)),
+    drop_all k b (omega (arith, h))) refl
+
+checked_settled : (m : Target) (at form : List ℕ) (n : ℕ) → IsSettled (checked_form m at n form [])
+checked_settled m at form n =
+    by (not (bytes_eq (compact n) form)) (nat_lt n (256 ^ target_bytes m)) where
+  by : (long fits : Bool) →
+      IsSettled {X = ℕ} (cond long (Err (scale.CompactNotShortest, at))
+      (cond fits (Ok (n, [])) (Err (scale.CompactTooLarge, at))))
+  by true fits = λ e. absurd cc
+  by false true = refl
+  by false false = λ e. absurd cc
+
+integer_settled : (m : Target) (first : ℕ) (rest : List ℕ) →
+    length (first ∷ rest) ≡ compact_need m first → IsSettled (integer_at m (first ∷ rest))
+integer_settled m first rest h = by (is_too_long m first) refl where
+  by : (long : Bool) → is_too_long m first ≡ long →
+      IsSettled (cond long (Err (scale.CompactTooLarge, first ∷ rest))
+      (form_from m (first ∷ rest) (bytes_at (form_len first) (first ∷ rest))))
+  by true e = λ no. absurd cc
+  by false e = rw (bytes_whole (form_len first) (first ∷ rest) (rw e at h))
+      (checked_settled m (first ∷ rest) (first ∷ rest) (form_number (first ∷ rest)))
+
+pub compact_settled : (m : Target) (first : ℕ) (rest : List ℕ) → m ≢ target.Unit →
+    length (first ∷ rest) ≡ compact_need m first → IsSettled (compact_at m (first ∷ rest))
+unfolding compact_at
+compact_settled target.Unit first rest ne h = absurd (ne refl)
+compact_settled target.U8 first rest ne h = integer_settled target.U8 first rest h
+compact_settled target.U16 first rest ne h = integer_settled target.U16 first rest h
+compact_settled target.U32 first rest ne h = integer_settled target.U32 first rest h
+compact_settled target.U64 first rest ne h = integer_settled target.U64 first rest h
+compact_settled target.U128 first rest ne h = integer_settled target.U128 first rest h
+
+pub basic_whole : (e : Reason) → e ≢ scale.Truncated → is_cut (basic e) ≡ false
+basic_whole scale.Truncated h = absurd (h refl)
+basic_whole scale.BadBool h = refl
+basic_whole scale.BadChar h = refl
+basic_whole scale.BadUtf8 h = refl
+basic_whole scale.CompactNotShortest h = refl
+basic_whole scale.CompactTooLarge h = refl
+
+value_whole : {X : Type 0} (make : X → Leaf) (read : Read Reason X) → IsSettled read →
+    IsWhole (leaf_own (as_leaf make read))
+value_whole make (Ok x) h = h
+value_whole make (Err e) h = basic_whole e.0 h
+
+length_whole : (t : ℕ) (read : Read Reason ℕ) → IsSettled read → IsWhole (length_own t read)
+length_whole t (Ok n) h = h
+length_whole t (Err e) h = basic_whole e.0 h
+
+bool_whole : (b : List ℕ) → length b ≡ 1 → IsWhole (leaf_own (bool_at b))
+bool_whole [] h = absurd (omega (arith, h))
+bool_whole (x ∷ y ∷ b) h = absurd (omega (arith, h))
+bool_whole (zero ∷ []) h = refl
+bool_whole (suc zero ∷ []) h = refl
+bool_whole (suc (suc x) ∷ []) h = refl
+
+char_whole : (b : List ℕ) → length b ≡ 4 → IsWhole (leaf_own (char_from b (bytes_at 4 b)))
+char_whole b h = rw (bytes_whole 4 b h) (by (is_scalar (number b))) where
+  by : (c : Bool) → IsWhole
+      (leaf_own (cond c (Ok (tree.leaf (tree.char (number b)), [])) (Err (basic scale.BadChar, b))))
+  by true = refl
+  by false = refl
+
+number_whole : (make : List ℕ → Leaf) (k : ℕ) (b : List ℕ) → length b ≡ k →
+    IsWhole (leaf_own (as_leaf make (bytes_at k b)))
+number_whole make k b h = rw (bytes_whole k b h) refl
+
+arms_whole : (arms : List Arm) (b : List ℕ) → length b ≡ 1 → IsWhole (arms_own arms b)
+arms_whole arms [] h = absurd (omega (arith, h))
+arms_whole arms (x ∷ y ∷ b) h = absurd (omega (arith, h))
+arms_whole arms (x ∷ []) h = by (arm_of arms x) where
+  by : (found : Option (ℕ × Arm)) → IsWhole (arm_own (x ∷ []) found [])
+  by None = refl
+  by (Some a) = refl
+
+-- the layouts of nodes that have bytes of their own, other than a text's
+abbrev pub NeedsThese : Form → List ℕ → Type 0
+NeedsThese (form.Primitive p) b = IsNoText (kind_of p) × AreOwn (form.Primitive p) b
+NeedsThese (form.Compact m) b = (m ≢ target.Unit) × AreOwn (form.Compact m) b
+NeedsThese f b = HasBytes f × AreOwn f b
+
+kind_whole : (k : PrimitiveKind) (b : List ℕ) (first : ℕ) → IsNoText k →
+    length b ≡ kind_need k first → IsWhole (own_at (kind_layout k) b)
+unfolding own_at layout_at
+kind_whole K.Bool b first n h = bool_whole b h
+kind_whole K.Char b first n h = char_whole b h
+kind_whole K.Str b first n h = absurd n
+kind_whole (K.Unsigned w) b first n h =
+    number_whole (λ c. tree.unsigned (number c)) (width_bytes w) b h
+kind_whole (K.Signed w) b first n h =
+    number_whole (λ c. tree.signed (signed_number c)) (width_bytes w) b h
+kind_whole (K.Wide s) b first n h = number_whole tree.wide 32 b h
+
+pub u32_is : target.U32 ≢ target.Unit
+u32_is = λ e. absurd cc
+
+pub settled_at : (m : Target) (b : List ℕ) → m ≢ target.Unit → (first : ℕ) (rest : List ℕ) →
+    b ≡ first ∷ rest → length b ≡ compact_need m first → IsSettled (compact_at m b)
+settled_at m b ne first rest is len = rw is (compact_settled m first rest ne (rw is at len))
+
+pub form_whole : (f : Form) (lay : Layout) (b : List ℕ) → HasForm f lay → NeedsThese f b →
+    IsWhole (own_at lay b)
+unfolding own_at layout_at
+form_whole form.Empty lay b h k = absurd k.0
+form_whole (form.Primitive p) lay b h k = rw h (kind_whole (kind_of p) b k.1.0 k.0 k.1.3)
+form_whole (form.Compact m) lay b h k =
+    rw h (value_whole tree.compact (compact_at m b) (settled_at m b k.0 k.1.0 k.1.1 k.1.2 k.1.3))
+form_whole form.Fields lay b h k = absurd k.0
+form_whole form.Arm lay b h k = rw h.1 (arms_whole h.0 b k.1.3)
+form_whole (form.Array n) lay b h k = absurd k.0
+form_whole form.Sequence lay b h k =
+    rw h.1 (length_whole h.0 (compact_at target.U32 b)
+    (settled_at target.U32 b u32_is k.1.0 k.1.1 k.1.2 k.1.3))
+form_whole form.Count lay b h k =
+    rw h (value_whole tree.count (compact_at target.U32 b)
+    (settled_at target.U32 b u32_is k.1.0 k.1.1 k.1.2 k.1.3))
