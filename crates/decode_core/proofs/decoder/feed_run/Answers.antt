@@ -7,7 +7,6 @@ use Rattle.decode_core.proofs.calls.FeedRun.{
 }
 use Rattle.decode_core.proofs.decoder.feed_run.Goals as goal
 
--- src/decoder.rt:81:17
 pub returns-then-offered-piece-clause-answers : goal.returns-then-offered-piece-clause-answers
 returns-then-offered-piece-clause-answers g c =
     λ j b e led. run_long j b c.args.piece.now c.within-offered.result.now c.args.run.now
@@ -15,7 +14,6 @@ returns-then-offered-piece-clause-answers g c =
     c.in-Ok-default-Wants.field-0-1 e c.within-offered.ensures led
     c.in-Ok-default-Wants.ensures.tells c.in-Ok-default-Wants.field-0-1-is c.if-offered-piece.true
 
--- src/decoder.rt:102:24
 pub overflow_sub-node : goal.overflow_sub-node
 overflow_sub-node g c = run_held c.requires.led.job c.requires.led.bytes c.args.piece.now
     c.within-offered.result.now c.args.run.now c.feed.new.self c.args.limit c.args.taken
@@ -24,7 +22,6 @@ overflow_sub-node g c = run_held c.requires.led.job c.requires.led.bytes c.args.
     c.requires.led.is_limit c.within-offered.ensures c.requires.led.led
     c.in-Ok-default-Refused.ensures.tells c.in-Ok-default-Refused.field-0-1-is
 
--- src/decoder.rt:72:1
 pub returns-in-Ok-default-Finished-clause-answers :
     goal.returns-in-Ok-default-Finished-clause-answers
 returns-in-Ok-default-Finished-clause-answers g c =
@@ -33,7 +30,6 @@ returns-in-Ok-default-Finished-clause-answers g c =
     c.in-Ok-default-Finished.field-0-1 e c.within-offered.ensures led
     c.in-Ok-default-Finished.ensures.tells c.in-Ok-default-Finished.field-0-1-is
 
--- src/decoder.rt:72:1
 pub returns-else-offered-piece-clause-answers : goal.returns-else-offered-piece-clause-answers
 returns-else-offered-piece-clause-answers g c =
     λ j b e led. run_more j b c.args.piece.now c.within-offered.result.now c.args.run.now
@@ -42,7 +38,6 @@ returns-else-offered-piece-clause-answers g c =
     c.in-Ok-default-Wants.ensures.tells c.in-Ok-default-Wants.field-0-1-is
     (are_bytes c.args.piece.now (λ i. omega (arith, c.type_inv.piece i))) c.if-offered-piece.false
 
--- src/decoder.rt:72:1
 pub returns-in-Ok-default-Refused-clause-answers : goal.returns-in-Ok-default-Refused-clause-answers
 returns-in-Ok-default-Refused-clause-answers g c =
     λ j b e led. run_refused j b c.args.piece.now c.within-offered.result.now c.args.run.now
@@ -51,7 +46,6 @@ returns-in-Ok-default-Refused-clause-answers g c =
     c.in-Ok-default-Refused.len c.in-Ok-default-Refused.field-0-1 e c.within-offered.ensures led
     c.in-Ok-default-Refused.ensures.tells c.in-Ok-default-Refused.field-0-1-is
 
--- src/decoder.rt:99:17
 pub returns-then-offered-piece-clause-counts : goal.returns-then-offered-piece-clause-counts
 returns-then-offered-piece-clause-counts g c = λ j b calls e led before.
     counts_long j b c.args.piece.now c.within-offered.result.now c.args.run.now c.feed.new.self
@@ -60,7 +54,6 @@ returns-then-offered-piece-clause-counts g c = λ j b calls e led before.
         c.in-Ok-default-Wants.ensures.tells c.in-Ok-default-Wants.field-0-1-is
         c.in-Ok-default-Wants.ensures.counts before.1
 
--- src/decoder.rt:83:1
 pub returns-in-Ok-default-Refused-clause-counts : goal.returns-in-Ok-default-Refused-clause-counts
 returns-in-Ok-default-Refused-clause-counts g c = λ j b calls e led before.
     let r = c.in-Ok-default-Refused in
@@ -71,14 +64,12 @@ returns-in-Ok-default-Refused-clause-counts g c = λ j b calls e led before.
         r.count r.held r.reason r.at r.len c.args.turns.now.so_far c.feed.new.turns.so_far calls
         r.field-0-1 led r.ensures.tells r.field-0-1-is within r.ensures.counts before.1
 
--- src/decoder.rt:83:1
 pub returns-in-Err-clause-counts : goal.returns-in-Err-clause-counts
 returns-in-Err-clause-counts g c = λ j b calls e led before.
     counts_short j b c.within-offered.result.now c.args.run.now c.feed.new.self c.args.taken
         c.in-Err.count c.args.turns.now.so_far c.feed.new.turns.so_far calls led
         c.in-Err.ensures.counts before.1
 
--- src/decoder.rt:86:1
 pub returns-in-Ok-default-Refused-clause-takes : goal.returns-in-Ok-default-Refused-clause-takes
 returns-in-Ok-default-Refused-clause-takes g c =
     let r = c.in-Ok-default-Refused in
@@ -91,7 +82,6 @@ returns-in-Ok-default-Refused-clause-takes g c =
     (few.0, omega (arith, few.1, ap length c.within-offered.ensures,
         length-take (c.args.limit - c.args.taken) c.args.piece.now))
 
--- src/decoder.rt:86:1
 pub returns-in-Err-clause-answers : goal.returns-in-Err-clause-answers
 returns-in-Err-clause-answers g c = λ j b e led.
     run_short j b c.args.piece.now c.within-offered.result.now c.args.run.now c.args.limit

@@ -7,12 +7,10 @@ use Rattle.std.specs.Prelude.{slice_index_or}
 use Rattle.decode_core.proofs.steps.LengthAdding.{arm_added, arm_refused, arm_short}
 use Rattle.decode_core.proofs.node.add_arm.Goals as goal
 
--- src/node.rt:140:1
 pub returns-in-Ok : goal.returns-in-Ok
 returns-in-Ok g c = arm_added c.args.builder.now c.arm.new.self c.args.own.now c.arm.result
     c.requires.next c.requires.closed c.requires.whole c.arm.ensures (search rules)
 
--- src/node.rt:140:1
 pub returns-in-NoSuchVariant : goal.returns-in-NoSuchVariant
 returns-in-NoSuchVariant g c =
     let b = c.args.builder.now in
@@ -21,7 +19,6 @@ returns-in-NoSuchVariant g c =
     arm_refused b c.arm.new.self c.args.own.now c.requires.next c.requires.closed c.requires.whole
         (subst (Adds (judged_arm b i) (with_arm b i) b c.arm.new.self) is c.arm.ensures)
 
--- src/node.rt:140:1
 pub returns-in-OutOfMemory : goal.returns-in-OutOfMemory
 returns-in-OutOfMemory g c =
     let b = c.args.builder.now in

@@ -15,7 +15,6 @@ use Rattle.decode_core.proofs.steps.LengthAdding.{
 }
 use Rattle.decode_core.proofs.node.add_bare.Goals as goal
 
--- src/node.rt:173:1
 pub returns-in-Empty-clause-adds : goal.returns-in-Empty-clause-adds
 returns-in-Empty-clause-adds g c =
     let wants = subst (λ (f : Form). next_of c.args.builder.now.walk ≡ next.Wants f) c.in-Empty.is
@@ -25,7 +24,6 @@ returns-in-Empty-clause-adds g c =
         (empty_read c.args.builder.now wants) refl c.empty.ensures c.kept.ensures.ok
         c.kept.ensures.err
 
--- src/node.rt:173:1
 pub returns-in-Fields-clause-adds : goal.returns-in-Fields-clause-adds
 returns-in-Fields-clause-adds g c =
     let wants = subst (λ (f : Form). next_of c.args.builder.now.walk ≡ next.Wants f) c.in-Fields.is
@@ -36,7 +34,6 @@ returns-in-Fields-clause-adds g c =
         c.kept-in-Fields.result wants c.requires.closed (fields_read c.args.builder.now wants) refl
         c.fields.ensures c.kept-in-Fields.ensures.ok c.kept-in-Fields.ensures.err
 
--- src/node.rt:173:1
 pub returns-in-Array-clause-adds : goal.returns-in-Array-clause-adds
 returns-in-Array-clause-adds g c =
     let wants = subst (λ (f : Form). next_of c.args.builder.now.walk ≡ next.Wants f) c.in-Array.is

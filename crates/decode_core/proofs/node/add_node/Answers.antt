@@ -20,7 +20,6 @@ use Rattle.decode_core.proofs.steps.LengthAdding.{
 }
 use Rattle.decode_core.proofs.node.add_node.Goals as goal
 
--- src/node.rt:164:55
 pub returns-in_err-read_compact-in-Compact : goal.returns-in_err-read_compact-in-Compact
 returns-in_err-read_compact-in-Compact g c =
     let p = err_from_is_err_and c.from_residual.result c.from_residual.ensures.1 in
@@ -35,7 +34,6 @@ returns-in_err-read_compact-in-Compact g c =
         c.in_err-read_compact-in-Compact.field-0.0.at wants
         c.in_err-read_compact-in-Compact.ensures.reads) p.2)
 
--- src/node.rt:166:45
 pub returns-in_err-read_length-in-Sequence : goal.returns-in_err-read_length-in-Sequence
 returns-in_err-read_length-in-Sequence g c =
     let p = err_from_is_err_and c.from_residual-in_err-read_length-in-Sequence.result
@@ -51,7 +49,6 @@ returns-in_err-read_length-in-Sequence g c =
         c.in_err-read_length-in-Sequence.field-0.0.at wants
         c.in_err-read_length-in-Sequence.ensures) p.2)
 
--- src/node.rt:167:43
 pub returns-in_err-read_length-in-Count : goal.returns-in_err-read_length-in-Count
 returns-in_err-read_length-in-Count g c =
     let p = err_from_is_err_and c.from_residual-in_err-read_length-in-Count.result
@@ -66,7 +63,6 @@ returns-in_err-read_length-in-Count g c =
         c.in_err-read_length-in-Count.field-0.0.reason c.in_err-read_length-in-Count.field-0.0.at
         wants c.in_err-read_length-in-Count.ensures) p.2)
 
--- src/node.rt:150:1
 pub returns-in_ok-read_compact-in-Compact : goal.returns-in_ok-read_compact-in-Compact
 returns-in_ok-read_compact-in-Compact g c =
     let wants = subst (λ (f : Form). next_of c.args.builder.now.walk ≡ next.Wants f) c.in-Compact.is
@@ -83,7 +79,6 @@ returns-in_ok-read_compact-in-Compact g c =
         c.in_ok-read_compact-in-Compact.ensures.fits) c.compact.ensures c.kept.ensures.ok
         c.kept.ensures.err
 
--- src/node.rt:150:1
 pub returns-in_ok-read_length-in-Sequence : goal.returns-in_ok-read_length-in-Sequence
 returns-in_ok-read_length-in-Sequence g c =
     let wants = subst (λ (f : Form). next_of c.args.builder.now.walk ≡ next.Wants f)
@@ -98,7 +93,6 @@ returns-in_ok-read_length-in-Sequence g c =
         c.in_ok-read_length-in-Sequence.ensures) refl c.list.ensures c.kept-in-Sequence.ensures.ok
         c.kept-in-Sequence.ensures.err
 
--- src/node.rt:150:1
 pub returns-in_ok-read_length-in-Count : goal.returns-in_ok-read_length-in-Count
 returns-in_ok-read_length-in-Count g c =
     let wants = subst (λ (f : Form). next_of c.args.builder.now.walk ≡ next.Wants f) c.in-Count.is

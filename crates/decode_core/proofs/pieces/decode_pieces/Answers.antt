@@ -6,7 +6,6 @@ use Rattle.decode_core.proofs.calls.Answering.{joins_fault, joins_refused, joins
 use Rattle.decode_core.proofs.calls.Streaming.{opened}
 use Rattle.decode_core.proofs.pieces.decode_pieces.Goals as goal
 
--- src/pieces.rt:80:5
 pub returns-in_err-feed_pieces : goal.returns-in_err-feed_pieces
 returns-in_err-feed_pieces g c =
     let fault = opening_fault c.args.checked.now.types c.args.root.0 c.args.limits in
@@ -19,7 +18,6 @@ returns-in_err-feed_pieces g c =
         c.feed_pieces.new.decoder _ c.in_err-feed_pieces.field-0.0 first.0 job
         c.in_err-feed_pieces.ensures.refused)
 
--- src/pieces.rt:82:9
 pub returns-in_err-finish : goal.returns-in_err-finish
 returns-in_err-finish g c =
     let fault = opening_fault c.args.checked.now.types c.args.root.0 c.args.limits in
@@ -33,7 +31,6 @@ returns-in_err-finish g c =
         c.feed_pieces.new.decoder _ c.in_err-finish.field-0.0 first.0 job fed
         (c.in_err-finish.ensures.finishes fed.front fed.led))
 
--- src/pieces.rt:70:1
 pub returns : goal.returns
 returns g c =
     let fault = opening_fault c.args.checked.now.types c.args.root.0 c.args.limits in

@@ -8,7 +8,6 @@ use Rattle.decode_core.proofs.calls.Answering.{
 use Rattle.decode_core.proofs.calls.Streaming.{more_by, under_way_by, whole_by}
 use Rattle.decode_core.proofs.pieces.feed_pieces.Goals as goal
 
--- src/pieces.rt:54:40
 pub returns-in_err-feed-clause-refused : goal.returns-in_err-feed-clause-refused
 returns-in_err-feed-clause-refused g c =
     let none : Bor (List ℕ) = record { ref_ptr = (0, 0); now = [] } in
@@ -19,7 +18,6 @@ returns-in_err-feed-clause-refused g c =
     rw (p.1, p.2) (refused_within c.feed.new.self.job _ _ _ c.in_err-feed.field-0.0
         c.feed.new.self.taken split answers.0.1)
 
--- src/pieces.rt:55:13
 pub returns-in-Done-clause-fed : goal.returns-in-Done-clause-fed
 returns-in-Done-clause-fed g c =
     let none : Bor (List ℕ) = record { ref_ptr = (0, 0); now = [] } in
@@ -30,7 +28,6 @@ returns-in-Done-clause-fed g c =
         (whole_by c.pieces.decoder c.feed.new.self _ c.in_ok-feed.field-0 c.in-Done.used
         c.in-Done.is answers.0) answers.1
 
--- src/pieces.rt:53:5
 pub pieces-preserved : goal.pieces-preserved
 pieces-preserved g c =
     let none : Bor (List ℕ) = record { ref_ptr = (0, 0); now = [] } in
@@ -47,7 +44,6 @@ pieces-preserved g c =
       job = c.in_ok-feed.ensures.job ∙ c.pieces.invariant.job;
     }
 
--- src/pieces.rt:44:1
 pub returns-clause-fed : goal.returns-clause-fed
 returns-clause-fed g c =
     let all = take_all c.pieces.piece-index c.args.pieces.now c.pieces-test.false in

@@ -9,7 +9,6 @@ use Rattle.decode_core.proofs.calls.Answering.{
 use Rattle.decode_core.proofs.calls.Streaming.{opened}
 use Rattle.decode_core.proofs.stream.decode_all.Goals as goal
 
--- src/stream.rt:125:8
 pub returns-in_err-feed_all-clause-answers : goal.returns-in_err-feed_all-clause-answers
 returns-in_err-feed_all-clause-answers g c =
     let fault = opening_fault c.args.checked.now.types c.args.root.0 c.args.limits in
@@ -23,7 +22,6 @@ returns-in_err-feed_all-clause-answers g c =
         (job_of c.args.checked.now.types c.args.root.0 c.args.limits) c.feed_all.new.decoder
         c.in_err-feed_all.field-0.0 first.0 job c.in_err-feed_all.ensures.answers)
 
--- src/stream.rt:130:8
 pub returns-in_err-finish-clause-answers : goal.returns-in_err-finish-clause-answers
 returns-in_err-finish-clause-answers g c =
     let fault = opening_fault c.args.checked.now.types c.args.root.0 c.args.limits in
@@ -40,7 +38,6 @@ returns-in_err-finish-clause-answers g c =
         (job_of c.args.checked.now.types c.args.root.0 c.args.limits) c.feed_all.new.decoder fed.0
         c.in_err-finish.field-0.0 first.0 job fed.3 (c.in_err-finish.ensures.finishes fed.0 fed.1))
 
--- src/stream.rt:111:1
 pub returns-clause-answers : goal.returns-clause-answers
 returns-clause-answers g c =
     let fault = opening_fault c.args.checked.now.types c.args.root.0 c.args.limits in
@@ -55,7 +52,6 @@ returns-clause-answers g c =
         c.feed_all.new.decoder fed.0 c.in_ok-finish.field-0 first.0 job fed.2 fed.3
         (c.in_ok-finish.ensures.finishes fed.0 fed.1)
 
--- src/stream.rt:111:1
 pub returns-clause-same : goal.returns-clause-same
 returns-clause-same g c =
     let first = opened (opening_fault c.args.checked.now.types c.args.root.0 c.args.limits)
@@ -69,7 +65,6 @@ returns-clause-same g c =
     let value = c.in_ok-finish.ensures.finishes fed.0 fed.1 in
     (value.1 ∙ ap (λ (j : Job). j.registry) job, value.2 ∙ ap (λ (j : Job). j.ty) job)
 
--- src/stream.rt:127:8
 pub returns-in_err-feed_all-clause-stopped : goal.returns-in_err-feed_all-clause-stopped
 returns-in_err-feed_all-clause-stopped g c =
     let fault = opening_fault c.args.checked.now.types c.args.root.0 c.args.limits in

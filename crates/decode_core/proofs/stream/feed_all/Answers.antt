@@ -9,7 +9,6 @@ use Rattle.decode_core.proofs.calls.Streaming.{
 }
 use Rattle.decode_core.proofs.stream.feed_all.Goals as goal
 
--- src/stream.rt:92:13
 pub returns-then-count-eq0-clause-answers : goal.returns-then-count-eq0-clause-answers
 returns-then-count-eq0-clause-answers g c =
     let so_far = c.pieces.invariant.so_far in
@@ -18,7 +17,6 @@ returns-then-count-eq0-clause-answers g c =
         end_known _ _ _ so_far.0 c.pull.new.part c.in_ok-count.count c.if-count-eq0.true so_far.2
         read.0 (read.1 c.if-count-eq0.true (search rules)))
 
--- src/stream.rt:94:42
 pub returns-in_err-used-clause-answers : goal.returns-in_err-used-clause-answers
 returns-in_err-used-clause-answers g c =
     let so_far = c.pieces.invariant.so_far in
@@ -29,7 +27,6 @@ returns-in_err-used-clause-answers g c =
         c.feed.new.self.taken (Consumes-trans _ _ _ so_far.0 part so_far.2
         c.in_ok-count.ensures.bytes.0) (c.in_err-used.ensures.answers so_far.0 so_far.1.led).0.1)
 
--- src/stream.rt:96:17
 pub returns-then-used-count-clause-answers : goal.returns-then-used-count-clause-answers
 returns-then-used-count-clause-answers g c =
     let so_far = c.pieces.invariant.so_far in
@@ -41,7 +38,6 @@ returns-then-used-count-clause-answers g c =
     (omega (arith, w.count, so_far.1.count, c.if-used-count.true, length-append so_far.0 part,
         length-take c.in_ok-count.count c.pull.new.part, c.in_ok-count.ensures.count))
 
--- src/stream.rt:98:13
 pub returns-in-Done-clause-answers : goal.returns-in-Done-clause-answers
 returns-in-Done-clause-answers g c =
     let so_far = c.pieces.invariant.so_far in
@@ -56,7 +52,6 @@ returns-in-Done-clause-answers g c =
         length-take c.in_ok-count.count c.pull.new.part, c.in_ok-count.ensures.count))
     c.has_more.ensures.answers
 
--- src/stream.rt:89:5
 pub pieces-smaller : goal.pieces-smaller
 pieces-smaller g c =
     let so_far = c.pieces.invariant.so_far in
@@ -68,7 +63,6 @@ pieces-smaller g c =
         c.if-count-eq0.false, ap (λ (j : Job). j.bytes)
         (c.in_ok-used.ensures.job ∙ c.pieces.invariant.job))
 
--- src/stream.rt:89:5
 pub pieces-preserved : goal.pieces-preserved
 pieces-preserved g c =
     let so_far = c.pieces.invariant.so_far in
@@ -84,7 +78,6 @@ pieces-preserved g c =
       quiet = search rules;
     }
 
--- src/stream.rt:91:21
 pub returns-in_err-count-clause-answers : goal.returns-in_err-count-clause-answers
 returns-in_err-count-clause-answers g c =
     let so_far = c.pieces.invariant.so_far in

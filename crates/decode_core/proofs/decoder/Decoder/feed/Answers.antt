@@ -9,7 +9,6 @@ use Rattle.decode_core.proofs.calls.Feeding.{ended_stays}
 use Rattle.decode_core.proofs.steps.Sound.{done_counts, done_small, led_small}
 use Rattle.decode_core.proofs.decoder.Decoder.feed.Goals as goal
 
--- src/decoder.rt:128:27
 pub returns-in-Err-clause-answers : goal.returns-in-Err-clause-answers
 returns-in-Err-clause-answers g c = λ b led.
     let d = c.self.inside in
@@ -21,7 +20,6 @@ returns-in-Err-clause-answers g c = λ b led.
         (subst (RunLed j b d.taken) c.in-Err.is before) in
     ((refl, stays), stays)
 
--- src/decoder.rt:138:17
 pub invariant_of-self-in-Done : goal.invariant_of-self-in-Done
 invariant_of-self-in-Done g c =
     let d = c.self.inside in
@@ -38,7 +36,6 @@ invariant_of-self-in-Done g c =
         led = inr told; counted =
         (omega (arith, counts.0, c.tick.ensures), omega (arith, counts.1, c.tick.ensures)) }
 
--- src/decoder.rt:123:5
 pub returns-in-Ended-clause-answers : goal.returns-in-Ended-clause-answers
 returns-in-Ended-clause-answers g c = λ b led.
     let d = c.self.inside in
@@ -52,7 +49,6 @@ returns-in-Ended-clause-answers g c = λ b led.
         subst (RunLed j (b ++ c.args.piece.now) c.in-Ended.taken) (sym c.replace.ensures.after)
         ended)
 
--- src/decoder.rt:203:5
 pub returns-in-More-clause-held : goal.returns-in-More-clause-held
 returns-in-More-clause-held g c = λ b led.
     let d = c.self.inside in
@@ -63,7 +59,6 @@ returns-in-More-clause-held g c = λ b led.
     let told = c.in-More.ensures.answers j b refl (subst (RunLed j b d.taken) c.in-Ok.is before) in
     (c.feed_run-fed.new.run, refl, told.2)
 
--- src/decoder.rt:203:5
 pub returns-in-More-clause-small : goal.returns-in-More-clause-small
 returns-in-More-clause-small g c =
     let d = c.self.inside in
@@ -82,7 +77,6 @@ returns-in-More-clause-small g c =
         c.tick.new.self.so_far (inl told.0)
         (omega (arith, counts.0, c.tick.ensures), omega (arith, counts.1, c.tick.ensures))
 
--- src/decoder.rt:203:5
 pub returns-in-More-clause-answers : goal.returns-in-More-clause-answers
 returns-in-More-clause-answers g c = λ b led.
     let d = c.self.inside in
@@ -93,7 +87,6 @@ returns-in-More-clause-answers g c = λ b led.
     let told = c.in-More.ensures.answers j b refl (subst (RunLed j b d.taken) c.in-Ok.is before) in
     (told.1, inl told.0)
 
--- src/decoder.rt:203:5
 pub returns-in-Done-clause-small : goal.returns-in-Done-clause-small
 returns-in-Done-clause-small g c =
     let d = c.self.inside in
@@ -112,7 +105,6 @@ returns-in-Done-clause-small g c =
         c.tick.new.self.so_far (inr told)
         (omega (arith, counts.0, c.tick.ensures), omega (arith, counts.1, c.tick.ensures))
 
--- src/decoder.rt:203:5
 pub returns-in-Done-clause-small_at_end : goal.returns-in-Done-clause-small_at_end
 returns-in-Done-clause-small_at_end g c =
     let d = c.self.inside in
@@ -123,7 +115,6 @@ returns-in-Done-clause-small_at_end g c =
     (done_small j (c.self.invariant.bytes ++ c.args.piece.now) (d.taken + c.in-Done.used)
         c.feed_run-fed.new.run told).0
 
--- src/decoder.rt:203:5
 pub returns-in-Done-clause-answers : goal.returns-in-Done-clause-answers
 returns-in-Done-clause-answers g c = λ b led.
     let d = c.self.inside in
@@ -135,7 +126,6 @@ returns-in-Done-clause-answers g c = λ b led.
     ((c.feed_run-fed.new.run, refl, told.outcome,
         ap (λ (x : Decoding). x.taken + c.in-Done.used) c.self.view_is), inr told)
 
--- src/decoder.rt:215:5
 pub invariant_of-self-in-More : goal.invariant_of-self-in-More
 invariant_of-self-in-More g c =
     let d = c.self.inside in
@@ -152,7 +142,6 @@ invariant_of-self-in-More g c =
         led = inl told.0; counted =
         (omega (arith, counts.0, c.tick.ensures), omega (arith, counts.1, c.tick.ensures)) }
 
--- src/decoder.rt:215:5
 pub invariant_of-self-in-Ended : goal.invariant_of-self-in-Ended
 invariant_of-self-in-Ended g c =
     let d = c.self.inside in
@@ -179,7 +168,6 @@ invariant_of-self-in-Ended g c =
           (omega (arith, counts, gone, c.tick.ensures));
     }
 
--- src/decoder.rt:215:5
 pub returns-in-Ended-clause-small : goal.returns-in-Ended-clause-small
 returns-in-Ended-clause-small g c =
     let d = c.self.inside in
@@ -203,7 +191,6 @@ returns-in-Ended-clause-small g c =
         (Err c.in-Ended.fault) (c.feed_run-fed.new.turns.so_far + c.into_turns.result.so_far)
         c.tick.new.self.so_far told (omega (arith, counts, gone, c.tick.ensures)))
 
--- src/decoder.rt:215:5
 pub returns-in-More-clause-counted : goal.returns-in-More-clause-counted
 returns-in-More-clause-counted g c =
     let d = c.self.inside in
@@ -217,7 +204,6 @@ returns-in-More-clause-counted g c =
         (omega (arith, counted.0), omega (arith, counted.1)) in
     omega (arith, counts.0, c.tick.ensures)
 
--- src/decoder.rt:215:5
 pub returns-in-Done-clause-counted : goal.returns-in-Done-clause-counted
 returns-in-Done-clause-counted g c =
     let d = c.self.inside in
@@ -231,7 +217,6 @@ returns-in-Done-clause-counted g c =
         (omega (arith, counted.0), omega (arith, counted.1)) in
     omega (arith, counts.0, c.tick.ensures)
 
--- src/decoder.rt:222:5
 pub returns-in-Done-clause-value_counts : goal.returns-in-Done-clause-value_counts
 returns-in-Done-clause-value_counts g c =
     let d = c.self.inside in

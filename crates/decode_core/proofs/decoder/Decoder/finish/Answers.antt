@@ -7,14 +7,12 @@ use Rattle.decode_core.proofs.calls.Opening.{ends_by, ends_refused, ends_short}
 use Rattle.decode_core.proofs.steps.Sound.{value_small}
 use Rattle.decode_core.proofs.decoder.Decoder.finish.Goals as goal
 
--- src/decoder.rt:217:33
 pub returns-in_err-feed-clause-finishes : goal.returns-in_err-feed-clause-finishes
 returns-in_err-feed-clause-finishes g c = λ b led.
     let p = err_from_is_err_and c.from_residual.result c.from_residual.ensures.1 in
     rw (p.1, p.2) (ends_refused c.args.self c.feed.new.self b c.in_err-feed.field-0.0
         c.in_err-feed.ensures.job (c.in_err-feed.ensures.answers b led).0)
 
--- src/decoder.rt:218:13
 pub returns-in-More-clause-finishes : goal.returns-in-More-clause-finishes
 returns-in-More-clause-finishes g c = λ b led.
     let answers = subst (λ (p : Progress). AnswersPiece c.args.self c.feed.new.self (b ++ [])
@@ -22,7 +20,6 @@ returns-in-More-clause-finishes g c = λ b led.
     ends_short c.args.self c.feed.new.self b c.decoder.inside.taken c.in_ok-feed.ensures.job
         (ap (λ (d : Decoding). d.taken) c.decoder.view_is) answers
 
--- src/decoder.rt:213:5
 pub returns-clause-finishes : goal.returns-clause-finishes
 returns-clause-finishes g c = λ b led.
     let run = sym (ap (λ (d : Decoding). d.run) c.decoder.view_is) ∙ c.in_ok-run.was in
@@ -30,7 +27,6 @@ returns-clause-finishes g c = λ b led.
         c.in_ok-feed.ensures.job c.in_default.not-More run (sym c.in-Some.is ∙ c.into_value.ensures)
         (c.in_ok-feed.ensures.answers b led)
 
--- src/decoder.rt:213:5
 pub returns-clause-small : goal.returns-clause-small
 returns-clause-small g c = λ b led.
     let run = sym (ap (λ (d : Decoding). d.run) c.decoder.view_is) ∙ c.in_ok-run.was in

@@ -8,7 +8,6 @@ use Rattle.value_core.specs.Walked.{start_of}
 use Rattle.decode_core.proofs.calls.Opening.{first_going, opens_first}
 use Rattle.decode_core.proofs.decoder.Decoder.new.Goals as goal
 
--- src/decoder.rt:145:28
 pub invariant_of-result : goal.invariant_of-result
 invariant_of-result g c =
     let j : Job = record { registry = c.args.checked.now.types; ty = c.args.root.0; depth =
@@ -28,7 +27,6 @@ invariant_of-result g c =
         counted = (omega (arith, nodes, closed, c.new-in-Ok-2.ensures, c.new-in-Ok-4.ensures),
         omega (arith, nodes, closed, c.new-in-Ok-2.ensures, c.new-in-Ok-4.ensures)) }
 
--- src/decoder.rt:129:5
 pub returns-in-Ok-clause-led : goal.returns-in-Ok-clause-led
 returns-in-Ok-clause-led g c =
     let j : Job = record { registry = c.args.checked.now.types; ty = c.args.root.0; depth =

@@ -10,7 +10,6 @@ use Rattle.decode_core.specs.declared.fault.DecodeFault.{DecodeFault}
 use Rattle.decode_core.proofs.steps.Sound.{led_small}
 use Rattle.decode_core.proofs.decoder.Decoder.node_count.Goals as goal
 
--- src/decoder.rt:173:5
 pub returns-in-Ok-clause-bound : goal.returns-in-Ok-clause-bound
 returns-in-Ok-clause-bound g c =
     let d = c.self.inside in

@@ -11,7 +11,6 @@ use Rattle.decode_core.proofs.steps.RunTurns.{bare_running, bare_tells, bare_wan
 use Rattle.decode_core.proofs.run.Run.bare_turn.Goals as goal
 use Rattle.decode_core.proofs.run.Run.bare_turn.Goals.{in-Ok, in-Err-OutOfMemory}
 
--- src/run.rt:89:5
 pub invariant_of-self : goal.invariant_of-self
 invariant_of-self g c =
     let b = c.self.inside.builder in
@@ -23,7 +22,6 @@ invariant_of-self g c =
     bare_running b c.add_bare.new.builder c.self.inside.carry c.self.inside.text c.args.form
         c.add_bare.result c.self.invariant wants c.requires.bare closed c.add_bare.ensures.adds
 
--- src/run.rt:89:5
 pub returns-clause-tells : goal.returns-clause-tells
 returns-clause-tells g c =
     let b = c.self.inside.builder in

@@ -8,7 +8,6 @@ use Rattle.decode_core.specs.Running.{Running, IsRunning}
 use Rattle.decode_core.proofs.steps.RunTurns.{of_fields, cut_own, cut_tells, node_running}
 use Rattle.decode_core.proofs.run.Run.cut_turn.Goals as goal
 
--- src/run.rt:142:13
 pub take_node-taken-requires-clause-whole : goal.take_node-taken-requires-clause-whole
 take_node-taken-requires-clause-whole g c =
     let k = c.self.inside.carry in
@@ -27,7 +26,6 @@ take_node-taken-requires-clause-whole g c =
     cut_own c.args.form k c.args.piece.now c.as_slice.result.now c.args.len c.fill-count.result
         needed own_is short c.fill-count.ensures.count enough
 
--- src/run.rt:127:5
 pub invariant_of-self-2 : goal.invariant_of-self-2
 invariant_of-self-2 g c =
     let b = c.self.inside.builder in
@@ -57,7 +55,6 @@ invariant_of-self-2 g c =
         c.take_node-taken.new.text c.as_slice.result.now c.take_node-taken.result c.self.invariant
         wants closed whole c.take_node-taken.ensures)
 
--- src/run.rt:127:5
 pub returns-clause-tells : goal.returns-clause-tells
 returns-clause-tells g c =
     let b = c.self.inside.builder in

@@ -6,7 +6,6 @@ use Rattle.decode_core.proofs.steps.Moving.{
 }
 use Rattle.decode_core.proofs.run.Run.feed.Goals as goal
 
--- src/run.rt:241:9
 pub turns-smaller : goal.turns-smaller
 turns-smaller g c =
     let tells = subst (StepTells c.turns.self c.turn.new.self
@@ -14,7 +13,6 @@ turns-smaller g c =
         c.turn.ensures.tells in
     turn_nearer c.turns.self c.turn.new.self c.args.piece.now c.turns.at c.in-On.count tells
 
--- src/run.rt:241:9
 pub turns-preserved : goal.turns-preserved
 turns-preserved g c =
     let tells = subst (StepTells c.turns.self c.turn.new.self

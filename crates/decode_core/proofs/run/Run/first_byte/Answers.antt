@@ -6,7 +6,6 @@ use Rattle.decode_core.specs.Running.{Running}
 use Rattle.decode_core.proofs.steps.RunTurns.{first_carried, first_of_piece}
 use Rattle.decode_core.proofs.run.Run.first_byte.Goals as goal
 
--- src/run.rt:102:5
 pub returns-in-Some : goal.returns-in-Some
 returns-in-Some g c =
     let k = c.self.inside.carry in
@@ -15,7 +14,6 @@ returns-in-Some g c =
     subst (λ (s : Running). IsFirst c.in-Some.first.now (s.carry ++ c.args.piece.now))
         c.self.view_is (first_carried k c.args.piece.now c.in-Some.first.now got)
 
--- src/run.rt:102:5
 pub returns-in-None : goal.returns-in-None
 returns-in-None g c =
     let k = c.self.inside.carry in

@@ -7,14 +7,12 @@ use Rattle.decode_core.specs.Running.{Running}
 use Rattle.decode_core.proofs.steps.RunTurns.{none_of, wants_more, whole_own}
 use Rattle.decode_core.proofs.run.Run.own_turn.Goals as goal
 
--- src/run.rt:155:13
 pub returns-then-is_empty-clause-tells : goal.returns-then-is_empty-clause-tells
 returns-then-is_empty-clause-tells g c =
     let more = wants_more c.args.self.now.built c.args.self.now.carry c.args.form c.requires.carried
         c.requires.next c.requires.some c.requires.closed in
     (refl, (none_of c.args.piece.now c.if-is_empty.ensures, more.1))
 
--- src/run.rt:159:13
 pub whole_turn-requires-clause-whole : goal.whole_turn-requires-clause-whole
 whole_turn-requires-clause-whole g c =
     let k = c.self.inside.carry in
@@ -26,7 +24,6 @@ whole_turn-requires-clause-whole g c =
     whole_own c.args.form k c.args.piece.now c.need-len.result c.first_byte.result none first
         c.need-len.ensures.exact c.need-len.ensures.some c.if-len-piece.true
 
--- src/run.rt:159:13
 pub returns-then-len-piece-clause-tells : goal.returns-then-len-piece-clause-tells
 returns-then-len-piece-clause-tells g c =
     subst (λ (l : List ℕ). StepTells c.args.self.now c.whole_turn.new.self l c.whole_turn.result)

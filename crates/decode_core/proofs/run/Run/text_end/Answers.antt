@@ -18,7 +18,6 @@ use Rattle.decode_core.proofs.steps.TextTurns.{
 }
 use Rattle.decode_core.proofs.run.Run.text_end.Goals as goal
 
--- src/run.rt:259:29
 pub invariant_of-self : goal.invariant_of-self
 invariant_of-self g c =
     let b = c.self.inside.builder in
@@ -35,7 +34,6 @@ invariant_of-self g c =
         c.text_end.ensures) in
     ended_running b c.text_end.new.self k end.0 end.1 e.0 e.1
 
--- src/run.rt:268:25
 pub overflow_add-result : goal.overflow_add-result
 overflow_add-result g c =
     let b = c.self.inside.builder in
@@ -56,7 +54,6 @@ overflow_add-result g c =
     record { fits = omega (arith, c.compact_len-before.ensures.bound, e.1,
         utf8_valid_len_le end.0.pieces.bytes, end.0.all, len, small) }
 
--- src/run.rt:248:5
 pub returns-in-Ok-clause-tells : goal.returns-in-Ok-clause-tells
 returns-in-Ok-clause-tells g c =
     let b = c.self.inside.builder in
@@ -74,7 +71,6 @@ returns-in-Ok-clause-tells g c =
     subst (λ (s : Running). EndTells s (of_fields c.text_end.new.self k) (turned.On 0))
         c.self.view_is (ended_tells b c.text_end.new.self k end.0 end.1 e.0 e.1)
 
--- src/run.rt:248:5
 pub returns-in-Err-BadText-clause-tells : goal.returns-in-Err-BadText-clause-tells
 returns-in-Err-BadText-clause-tells g c =
     let b = c.self.inside.builder in
@@ -104,7 +100,6 @@ returns-in-Err-BadText-clause-tells g c =
         len (bad_text b k end.0 c.in-Err-BadText.valid c.compact_len-before.result e.0 e.1 count
         rest))
 
--- src/run.rt:248:5
 pub returns-in-Err-OutOfMemory-clause-tells : goal.returns-in-Err-OutOfMemory-clause-tells
 returns-in-Err-OutOfMemory-clause-tells g c =
     let b = c.self.inside.builder in

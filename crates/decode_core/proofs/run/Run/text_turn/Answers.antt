@@ -3,14 +3,12 @@ use Rattle.decode_core.proofs.steps.RunTurns.{none_of, some_missing, some_of}
 use Rattle.decode_core.proofs.steps.TextTurns.{piece_wants, text_waits}
 use Rattle.decode_core.proofs.run.Run.text_turn.Goals as goal
 
--- src/run.rt:175:13
 pub returns-then-is_empty-clause-tells : goal.returns-then-is_empty-clause-tells
 returns-then-is_empty-clause-tells g c =
     (refl, (none_of c.args.piece.now c.if-is_empty.ensures,
     text_waits c.args.self.now.built c.args.self.now.carry c.args.text c.requires.next
     c.requires.open c.if-text-eq0.false))
 
--- src/run.rt:208:5
 pub returns-in-Err-OutOfMemory-clause-tells : goal.returns-in-Err-OutOfMemory-clause-tells
 returns-in-Err-OutOfMemory-clause-tells g c =
     let few : c.min-count.result ≤ c.args.text.missing = search rules in

@@ -11,7 +11,6 @@ use Rattle.decode_core.proofs.steps.Endings.{finished_stops, stop_stops}
 use Rattle.decode_core.proofs.steps.Sound.{sound_of}
 use Rattle.decode_core.proofs.run.Run.turn.Goals as goal
 
--- src/run.rt:180:5
 pub returns-in-Finished-clause-tells : goal.returns-in-Finished-clause-tells
 returns-in-Finished-clause-tells g c =
     let is : next_of c.self.inside.builder.walk ≡ next.Finished =
@@ -20,7 +19,6 @@ returns-in-Finished-clause-tells g c =
         (finished_stops c.self.inside.builder c.self.inside.carry c.self.inside.text
         c.args.piece.now c.self.invariant is))
 
--- src/run.rt:180:5
 pub returns-in-Stop-clause-tells : goal.returns-in-Stop-clause-tells
 returns-in-Stop-clause-tells g c =
     let is : next_of c.self.inside.builder.walk ≡ next.Stop c.in-Stop.reason =
@@ -32,13 +30,11 @@ returns-in-Stop-clause-tells g c =
         (stop_stops c.self.inside.builder c.self.inside.carry c.self.inside.text c.args.piece.now
         c.in-Stop.reason c.self.invariant is))
 
--- src/run.rt:180:5
 pub returns-in-Finished-clause-sound : goal.returns-in-Finished-clause-sound
 returns-in-Finished-clause-sound g c =
     sound_of c.self.inside.builder c.self.inside.carry c.self.inside.text c.args.self.now
     c.self.view_is c.walk.ensures.begun c.self.invariant
 
--- src/run.rt:180:5
 pub returns-in-Stop-clause-sound : goal.returns-in-Stop-clause-sound
 returns-in-Stop-clause-sound g c =
     sound_of c.self.inside.builder c.self.inside.carry c.self.inside.text c.args.self.now

@@ -7,7 +7,6 @@ use Rattle.decode_core.specs.Running.{Running}
 use Rattle.decode_core.proofs.steps.RunTurns.{of_fields, whole_running, whole_tells}
 use Rattle.decode_core.proofs.run.Run.whole_turn.Goals as goal
 
--- src/run.rt:113:5
 pub invariant_of-self : goal.invariant_of-self
 invariant_of-self g c =
     let b = c.self.inside.builder in
@@ -22,7 +21,6 @@ invariant_of-self g c =
         c.self.inside.text c.take_node-taken.new.text c.take_node-taken.result c.self.invariant none
         wants closed c.requires.whole c.take_node-taken.ensures
 
--- src/run.rt:113:5
 pub returns-clause-tells : goal.returns-clause-tells
 returns-clause-tells g c =
     let b = c.self.inside.builder in
