@@ -1,8 +1,5 @@
 -- What contracts see of a decoder, and which bytes have led to it.
-use Rattle.std.specs.Prelude.{
-    ◌≡◌, ℕ, suc, ◌+◌, ◌*◌, ◌-◌, ◌≤◌, ◌^◌, ◌⊎◌, List, [], ◌++◌, length, map, take, Result, Ok, Err,
-    true, Option, Some, None, nat_lt, not, ◌||◌, if◌then◌else◌
-}
+use Rattle.std.specs.Prelude.{◌≡◌, ℕ, suc, ◌+◌, ◌*◌, ◌-◌, ◌≤◌, ◌^◌, ◌⊎◌, List, [], ◌++◌, length, map, take, Result, Ok, Err, true, Option, Some, None, nat_lt, not, ◌||◌, if◌then◌else◌}
 use Rattle.scale_core.specs.Number.{AreBytes}
 use Rattle.registry_core.specs.declared.type_info.TypeInfo.{TypeInfo}
 use Rattle.grammar_core.specs.Preorder.{tree_of}
@@ -47,8 +44,17 @@ pub record Decoding : Type 0 where
 -- a value of which nothing came
 abbrev pub first_running : List TypeInfo → ℕ → ℕ → Running
 first_running types root depth =
-    record { built = record { ty = root; walk = start_of types root depth; entries = []; text =
-    None; turns = 0 }; carry = [] }
+    record {
+      built = record {
+        ty = root;
+        walk = start_of types root depth;
+        entries = [];
+        text =
+            None;
+        turns = 0;
+      };
+      carry = [];
+    }
 
 -- the tree of the nodes, where they are a whole value
 abbrev pub built_tree : Built → Tree
@@ -107,7 +113,7 @@ abbrev pub IsEnded : Job → List ℕ → DecodeFault → ℕ → Type 0
 IsEnded j b f n = ((f ≡ record { reason = reason.OutOfMemory; at = 0 }) × RanOut j b n)
     ⊎ (((f ≡ record { reason = reason.TooLong; at = j.bytes }) × IsOutcome j b too_long n)
     ⊎ ((e : Refusal) × (at : ℕ) × (f ≡ record { reason = reason_of e; at = at })
-        × IsOutcome j b (refused e at) n))
+    × IsOutcome j b (refused e at) n))
 
 abbrev pub RunLed : Job → List ℕ → ℕ → Result Running DecodeFault → Type 0
 RunLed j b n (Ok s) = IsGoing j b s n ⊎ IsDone j b s n
@@ -224,7 +230,7 @@ abbrev pub opening_fault : List TypeInfo → ℕ → Limits → Option OpenFault
 opening_fault types root limits =
     if not (nat_lt root (length types)) then Some opening.UnknownType
     else (if nat_lt 1024 limits.depth || nat_lt (2 ^ 40) limits.bytes then Some
-        opening.LimitOutOfRange else None)
+    opening.LimitOutOfRange else None)
 
 abbrev pub OpensDecoder : Option OpenFault → Decoding → Result Decoding OpenFault → Type 0
 OpensDecoder None first (Ok d) = d ≡ first
@@ -264,8 +270,10 @@ pub record IsSmall (d : Decoding) : Type 0 where
 
 -- no turn goes uncounted that added a node which is held, closed one, or ended a call
 abbrev pub HasCounted : Decoding → Type 0
-HasCounted d = elim d.run [ Ok s ↦ length s.built.entries + s.built.turns + d.calls ≤ d.turns
-    | Err f ↦ Unit {0} ]
+HasCounted d = elim d.run [
+  | Ok s ↦ length s.built.entries + s.built.turns + d.calls ≤ d.turns
+  | Err f ↦ Unit {0}
+]
 
 -- and of a whole value still less
 abbrev pub IsSmallAtEnd : Decoding → Result Progress DecodeFault → Type 0

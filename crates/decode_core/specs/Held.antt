@@ -32,18 +32,18 @@ OneBegun = (r : List TypeInfo) (room t : ℕ) (b : List ℕ) (g h : Begun) (e f 
 abbrev pub HeldIsBounded : Type 0
 HeldIsBounded = (j : Job) (input : List ℕ) (n : ℕ) →
     ((v : Tree) → IsOutcome j input (done v) n →
-        (nodes v ≤ value_bound n j.depth (widest j.registry)) × (text_bytes v ≤ n))
+    (nodes v ≤ value_bound n j.depth (widest j.registry)) × (text_bytes v ≤ n))
     × (IsOutcome j input more n →
-        (g : Begun) (e : List ℕ) (h : Holds j.registry (suc j.depth) j.ty input g e) →
+    (g : Begun) (e : List ℕ) (h : Holds j.registry (suc j.depth) j.ty input g e) →
     (begun_nodes g ≤ node_bound n j.depth (widest j.registry))
-        × (begun_text_bytes g + open_text (layout j.registry h.2) e ≤ n))
+    × (begun_text_bytes g + open_text (layout j.registry h.2) e ≤ n))
 
 -- more is wanted exactly where a begun tree is held, within the byte limit, and it is the one that
 -- is computed
 abbrev pub MoreHolds : Type 0
 MoreHolds = (j : Job) (input : List ℕ) →
     (IsOutcome j input more (length input) → (length input ≤ j.bytes)
-        × Holds j.registry (suc j.depth) j.ty input (held j.registry (suc j.depth) j.ty input).0
-        (held j.registry (suc j.depth) j.ty input).1)
+    × Holds j.registry (suc j.depth) j.ty input (held j.registry (suc j.depth) j.ty input).0
+    (held j.registry (suc j.depth) j.ty input).1)
     × ((g : Begun) (e : List ℕ) → length input ≤ j.bytes →
-        Holds j.registry (suc j.depth) j.ty input g e → IsOutcome j input more (length input))
+    Holds j.registry (suc j.depth) j.ty input g e → IsOutcome j input more (length input))

@@ -1,8 +1,6 @@
 -- What is held of an input in which bytes are missing: a begun tree, and the bytes of the node that
 -- is not there yet.
-use Rattle.std.specs.Prelude.{
-    true, ◌≡◌, ℕ, zero, suc, ◌+◌, ◌≤◌, ◌*◌, List, [], ◌∷◌, ◌++◌, length, Option, Some, None, Ok, Err
-}
+use Rattle.std.specs.Prelude.{true, ◌≡◌, ℕ, zero, suc, ◌+◌, ◌≤◌, ◌*◌, List, [], ◌∷◌, ◌++◌, length, Option, Some, None, Ok, Err}
 use Rattle.scale_core.specs.Read.{Read, compact_at}
 use Rattle.scale_core.specs.declared.compact.Target.TheVariants as target
 use Rattle.scale_core.specs.declared.fault.Reason.{Reason}
@@ -17,10 +15,7 @@ use Rattle.widths_core.specs.Layouts.{Layout, layout}
 use Rattle.widths_core.specs.Layouts as layout
 use Rattle.grammar_core.specs.Tree.{Tree, Trees, none, and}
 use Rattle.grammar_core.specs.Reading.{Reader, value_at, layout_at, Refusal, truncated, too_deep}
-use Rattle.grammar_core.specs.Begun.{
-    Begun, nothing, in_fields, in_arm, in_list, IsPart, Grows, begun_nodes, begun_text_bytes,
-    begun_levels
-}
+use Rattle.grammar_core.specs.Begun.{Begun, nothing, in_fields, in_arm, in_list, IsPart, Grows, begun_nodes, begun_text_bytes, begun_levels}
 
 -- the node's own bytes are not all there: a node whose children alone have bytes has its own at
 -- once
@@ -116,4 +111,4 @@ abbrev pub BegunIsBounded : Type 0
 BegunIsBounded = (r : List TypeInfo) (room t : ℕ) (g : Begun) (b : List ℕ) (next : Option (ℕ × ℕ)) →
     Grows r room t g b next →
     (begun_levels g ≤ room) × (begun_nodes g ≤ (length b + 1) * (room * (widest r + 1)))
-        × (begun_text_bytes g ≤ length b)
+    × (begun_text_bytes g ≤ length b)

@@ -68,8 +68,8 @@ OpensText old new own (Err fault.OutOfMemory) = AreLength own × (new ≡ old)
 abbrev pub TakesTextLength : Form → Built → Built → Option OpenText → List ℕ → Type 0
 TakesTextLength f old new text own = (IsAdded old new own × (text ≡ None))
     ⊎ ((f ≡ form.Primitive P.Str)
-        × ((n : ℕ) × (compact_at target.U32 own ≡ Ok (n, [])) × (new ≡ with_text_opened old n)
-        × (text ≡ Some (record { len = n; missing = n }))))
+    × ((n : ℕ) × (compact_at target.U32 own ≡ Ok (n, [])) × (new ≡ with_text_opened old n)
+    × (text ≡ Some (record { len = n; missing = n }))))
 
 -- what the next node's own bytes make of it, be it a text or not
 abbrev pub TakesNode : Form → Built → Built → Option OpenText → List ℕ →

@@ -1,17 +1,11 @@
 -- What a decoder answers for all the bytes that it was fed.
-use Rattle.std.specs.Prelude.{
-    ◌≡◌, ◌≢◌, ℕ, suc, ◌+◌, ◌<◌, ◌≤◌, List, [], ◌∷◌, ◌++◌, length, take, Ok, Err, nat_lt,
-    if◌then◌else◌, ◌⊎◌
-}
+use Rattle.std.specs.Prelude.{◌≡◌, ◌≢◌, ℕ, suc, ◌+◌, ◌<◌, ◌≤◌, List, [], ◌∷◌, ◌++◌, length, take, Ok, Err, nat_lt, if◌then◌else◌, ◌⊎◌}
 use Rattle.scale_core.specs.Read.{Read, place, form_len}
 use Rattle.scale_core.specs.declared.fault.Reason.TheVariants as scale
 use Rattle.registry_core.specs.declared.type_info.TypeInfo.{TypeInfo}
 use Rattle.grammar_core.specs.Tree.{Tree, levels}
 use Rattle.grammar_core.specs.Grammar.{Val}
-use Rattle.grammar_core.specs.Reading.{
-    value_at, Refusal, basic, no_such_variant, too_deep, no_finite_value, bit_sequence, bad_compact,
-    truncated
-}
+use Rattle.grammar_core.specs.Reading.{value_at, Refusal, basic, no_such_variant, too_deep, no_finite_value, bit_sequence, bad_compact, truncated}
 use Rattle.grammar_core.specs.Laws.{Fails}
 use Rattle.decode_core.specs.Taken.{value_taken}
 
@@ -70,9 +64,10 @@ missing j input = if nat_lt j.bytes (length input) then (too_long, j.bytes) else
 
 abbrev pub refusal : Job → List ℕ → Refusal → List ℕ → Outcome × ℕ
 refusal j input (basic scale.Truncated) left = missing j input
-refusal j input reason left =
-    (refused reason (place (take j.bytes input) left),
-    value_taken j.registry (suc j.depth) j.ty (take j.bytes input))
+refusal j input reason left = (
+  refused reason (place (take j.bytes input) left),
+  value_taken j.registry (suc j.depth) j.ty (take j.bytes input),
+)
 
 abbrev pub answer : Job → List ℕ → Read Refusal Tree → Outcome × ℕ
 answer j input (Ok x) = (done x.0, place (take j.bytes input) x.1)

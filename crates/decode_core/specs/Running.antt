@@ -1,7 +1,5 @@
 -- What contracts see of a decoder on its way, and the state of the machine that it is in.
-use Rattle.std.specs.Prelude.{
-    ◌≡◌, ℕ, ◌+◌, ◌-◌, ◌<◌, ◌≤◌, List, [], ◌∷◌, ◌++◌, length, map, Option, Some, None, Ok
-}
+use Rattle.std.specs.Prelude.{◌≡◌, ℕ, ◌+◌, ◌-◌, ◌<◌, ◌≤◌, List, [], ◌∷◌, ◌++◌, length, map, Option, Some, None, Ok}
 use Rattle.scale_core.specs.Compact.{compact}
 use Rattle.scale_core.specs.Read.{compact_at}
 use Rattle.scale_core.specs.declared.compact.Target.TheVariants as target
@@ -22,8 +20,12 @@ pub record Running : Type 0 where
 
 -- the nodes so far, and what is left of the open parts with the room that there is
 abbrev pub state_of : Built → State
-state_of b = record { nodes = b.entries; room = b.walk.limit + 2 - length b.walk.frames; pending =
-    map (λ f. f.left) b.walk.frames }
+state_of b = record {
+  nodes = b.entries;
+  room = b.walk.limit + 2 - length b.walk.frames;
+  pending =
+      map (λ f. f.left) b.walk.frames;
+}
 
 -- the bytes that came and are no node's yet: those of a text that is open, or the carry
 abbrev pub held_of : Running → List ℕ

@@ -1,7 +1,5 @@
 -- Reading a value node by node: what is added in preorder before the reading ends, and how it ends.
-use Rattle.std.specs.Prelude.{
-    ◌≡◌, ℕ, zero, suc, List, [], ◌∷◌, ◌++◌, length, map, Option, Some, None, Result, Ok, Err
-}
+use Rattle.std.specs.Prelude.{◌≡◌, ℕ, zero, suc, List, [], ◌∷◌, ◌++◌, length, map, Option, Some, None, Result, Ok, Err}
 use Rattle.scale_core.specs.Read.{Read, compact_at}
 use Rattle.scale_core.specs.declared.compact.Target.TheVariants as target
 use Rattle.scale_core.specs.declared.fault.Reason.{Reason}
@@ -18,9 +16,7 @@ use Rattle.grammar_core.specs.Preorder as head
 use Rattle.grammar_core.specs.Tree as tree
 use Rattle.grammar_core.specs.Parts.{Part, each, times}
 use Rattle.decode_core.specs.Met.{met_layout}
-use Rattle.grammar_core.specs.Reading.{
-    layout_at, Refusal, basic, truncated, too_deep, no_such_variant
-}
+use Rattle.grammar_core.specs.Reading.{layout_at, Refusal, basic, truncated, too_deep, no_such_variant}
 
 abbrev pub entry : ℕ → Head → Entry
 entry t h = record { ty = t; head = h }
@@ -39,8 +35,13 @@ leaf_own (Err e) = Err e
 
 abbrev pub arm_own : List ℕ → Option (ℕ × Arm) → List ℕ → Own
 arm_own at (Some found) rest =
-    Ok ((head.branch (tree.arm found.0) (length (field_types found.1.fields)),
-    Some (each (field_types found.1.fields))), rest)
+    Ok (
+      (
+        head.branch (tree.arm found.0) (length (field_types found.1.fields)),
+        Some (each (field_types found.1.fields)),
+      ),
+      rest,
+    )
 arm_own at None rest = Err (no_such_variant, at)
 
 abbrev pub arms_own : List Arm → List ℕ → Own

@@ -1,8 +1,5 @@
 -- One piece of input, turn by turn.
-use Rattle.std.specs.Prelude.{
-    ◌≡◌, ℕ, suc, ◌*◌, ◌+◌, ◌-◌, ◌≤◌, ◌⊎◌, List, [], ◌++◌, length, take, drop, false, true, Result,
-    Ok, Err
-}
+use Rattle.std.specs.Prelude.{◌≡◌, ℕ, suc, ◌*◌, ◌+◌, ◌-◌, ◌≤◌, ◌⊎◌, List, [], ◌++◌, length, take, drop, false, true, Result, Ok, Err}
 use Rattle.scale_core.specs.Read.{compact_at}
 use Rattle.scale_core.specs.declared.compact.Target.TheVariants as target
 use Rattle.registry_core.specs.declared.type_info.TypeInfo.{TypeInfo}
@@ -79,9 +76,9 @@ EndsTurns s rest stop.Finished =
 EndsTurns s rest stop.Wants = (rest ≡ []) × WantsBytes s
 EndsTurns s rest (stop.Refused held told_reason at len) = let x = held_of s ++ rest in
     (e : Refusal) × (left : List ℕ) × (is_cut e ≡ false) × (told_reason ≡ reason_of e)
-        × (held ≡ length (held_of s)) × (at ≡ length x - length left)
+    × (held ≡ length (held_of s)) × (at ≡ length x - length left)
     × (remain (types_of s) (state_of s.built) x ≡ told [] (Err ((e, left), x)))
-        × Decided (types_of s) (state_of s.built) x e left len × (held ≤ len)
+    × Decided (types_of s) (state_of s.built) x e left len × (held ≤ len)
 
 -- the bytes that are held and these spell the next node
 abbrev pub KeepsNode : Running → List ℕ → Type 0
@@ -92,7 +89,7 @@ KeepsNode s bytes = IsSpelled s.built (held_of s ++ bytes)
 abbrev pub KeepsText : Running → List ℕ → Type 0
 KeepsText s bytes = (next_layout s.built ≡ (layout.plain layout.text)) × (1 ≤ length bytes)
     × ((n : ℕ) × (came : List ℕ) × (compact_at target.U32 (held_of s ++ bytes) ≡ Ok (n, came))
-        × (length came ≤ n))
+    × (length came ≤ n))
 
 -- memory is wanted, where rest is left of the piece: a value can stand next, and by the first bytes
 -- of the rest its node is to be
@@ -110,7 +107,7 @@ abbrev pub Steps : Running → Running → List ℕ → Type 0
 Steps old new bytes = ((1 ≤ length bytes) × (state_of new.built ≡ state_of old.built)
     × (held_of new ≡ held_of old ++ bytes))
     ⊎ ((held_of new ≡ []) × TurnLeads (types_of old) (state_of old.built) (state_of new.built)
-        (held_of old ++ bytes) × (length new.built.entries ≡ suc (length old.built.entries)))
+    (held_of old ++ bytes) × (length new.built.entries ≡ suc (length old.built.entries)))
 
 -- what a turn does, by its step
 abbrev pub StepTells : Running → Running → List ℕ → Turned → Type 0

@@ -1,11 +1,6 @@
 -- How deep a begun tree is.
-use Rattle.std.proofs.Common.{
-    ◌≡◌, ℕ, zero, suc, ◌+◌, ◌≤◌, true, false, Option, Some, None, refl, sym, ap, ◌∙◌, arith
-}
-use Rattle.grammar_core.specs.Begun.{
-    Begun, nothing, whole, in_fields, in_arm, in_list, IsPart, Grows, begun_levels, begun_depth,
-    is_whole_tree
-}
+use Rattle.std.proofs.Common.{◌≡◌, ℕ, zero, suc, ◌+◌, ◌≤◌, true, false, Option, Some, None, refl, sym, ap, ◌∙◌, arith}
+use Rattle.grammar_core.specs.Begun.{Begun, nothing, whole, in_fields, in_arm, in_list, IsPart, Grows, begun_levels, begun_depth, is_whole_tree}
 use Rattle.grammar_core.specs.Laws.{BegunTreesFit}
 
 abbrev Fits : ℕ → Begun → Option (ℕ × ℕ) → Type 0
@@ -29,23 +24,31 @@ never_whole g part e = let no = sym (missing g part) ∙ e in absurd cc
 
 pub begun_trees_fit : BegunTreesFit
 unfolding Grows
-begun_trees_fit r room t nothing b next h =
-    (omega arith, λ left u e. (refl, omega (arith, room_is (room, t) (left, u) (sym h.1 ∙ e))),
-    λ e. let no = sym e ∙ h.1 in absurd cc)
+begun_trees_fit r room t nothing b next h = (
+  omega arith,
+  λ left u e. (refl, omega (arith, room_is (room, t) (left, u) (sym h.1 ∙ e))),
+  λ e. let no = sym e ∙ h.1 in absurd cc,
+)
 begun_trees_fit r room t (whole v) b next h =
     (h.1, (λ left u e. let no = sym h.2 ∙ e in absurd cc), λ e. refl)
 begun_trees_fit r zero t (in_fields vs g) b next h = absurd h
 begun_trees_fit r zero t (in_arm q vs g) b next h = absurd h
 begun_trees_fit r zero t (in_list n vs g) b next h = absurd h
 begun_trees_fit r (suc room) t (in_fields vs g) b next h =
-    let below = begun_trees_fit r room h.1 g h.4 next h.11 in
-    (omega (arith, below.0, h.9), (λ left u e. (refl, omega (arith, (below.1 left u e).1))),
-        λ e. never_whole g h.10 (below.2 e))
+    let below = begun_trees_fit r room h.1 g h.4 next h.11 in (
+      omega (arith, below.0, h.9),
+      (λ left u e. (refl, omega (arith, (below.1 left u e).1))),
+      λ e. never_whole g h.10 (below.2 e),
+    )
 begun_trees_fit r (suc room) t (in_arm q vs g) b next h =
-    let below = begun_trees_fit r room h.4 g h.7 next h.16 in
-    (omega (arith, below.0, h.14), (λ left u e. (refl, omega (arith, (below.1 left u e).1))),
-        λ e. never_whole g h.15 (below.2 e))
+    let below = begun_trees_fit r room h.4 g h.7 next h.16 in (
+      omega (arith, below.0, h.14),
+      (λ left u e. (refl, omega (arith, (below.1 left u e).1))),
+      λ e. never_whole g h.15 (below.2 e),
+    )
 begun_trees_fit r (suc room) t (in_list n vs g) b next h =
-    let below = begun_trees_fit r room h.0 g h.3 next h.11 in
-    (omega (arith, below.0, h.9), (λ left u e. (refl, omega (arith, (below.1 left u e).1))),
-        λ e. never_whole g h.10 (below.2 e))
+    let below = begun_trees_fit r room h.0 g h.3 next h.11 in (
+      omega (arith, below.0, h.9),
+      (λ left u e. (refl, omega (arith, (below.1 left u e).1))),
+      λ e. never_whole g h.10 (below.2 e),
+    )

@@ -1,8 +1,5 @@
 -- A value has few nodes for its bytes, its levels and the width of its registry.
-use Rattle.std.proofs.Common.{
-    ◌≡◌, ℕ, zero, suc, ◌+◌, ◌*◌, ◌≤◌, ◌⊎◌, List, [], ◌∷◌, length, refl, sym, ap, ◌∙◌, arith, inl,
-    inr, length-append
-}
+use Rattle.std.proofs.Common.{◌≡◌, ℕ, zero, suc, ◌+◌, ◌*◌, ◌≤◌, ◌⊎◌, List, [], ◌∷◌, length, refl, sym, ap, ◌∙◌, arith, inl, inr, length-append}
 use Rattle.std.proofs.Math.Nat.{mul-add, add-mul, mul-le-mul_right}
 use Rattle.registry_core.specs.declared.type_info.TypeInfo.{TypeInfo}
 use Rattle.widths_core.specs.declared.class.Class.TheVariants as class
@@ -13,11 +10,7 @@ use Rattle.widths_core.specs.Layouts.{Layout, layout}
 use Rattle.widths_core.specs.Layouts as layout
 use Rattle.widths_core.proofs.Known.{empty_class, class_empty, layout_empty}
 use Rattle.widths_core.proofs.Wide.{narrow_at, arm-width}
-use Rattle.grammar_core.specs.Tree.{
-    Tree, leaf, branch, unit, bool, char, text, unsigned, signed, wide, compact, fields, arm, list,
-    count, Trees, none, and, how_many, nodes, all_nodes, levels, most_levels, text_bytes,
-    all_text_bytes, Leaf, bytes_of_text
-}
+use Rattle.grammar_core.specs.Tree.{Tree, leaf, branch, unit, bool, char, text, unsigned, signed, wide, compact, fields, arm, list, count, Trees, none, and, how_many, nodes, all_nodes, levels, most_levels, text_bytes, all_text_bytes, Leaf, bytes_of_text}
 use Rattle.grammar_core.specs.Preorder.{levels-pos}
 use Rattle.grammar_core.specs.Grammar.{Val, Vals, Each, SpellsLeaf}
 use Rattle.grammar_core.specs.Laws.{ValuesAreBounded}
@@ -75,14 +68,17 @@ pub array_element : (r : List TypeInfo) (t n u : ℕ) → layout r t ≡ layout.
     class_of r u ≡ class.Empty → ⊥
 array_element r t n u e h =
     let empty = layout_empty r t
-        (empty_class r t ((known_at r t (layout.array n u) e).1 (class_empty r u h))) in
+    (empty_class r t ((known_at r t (layout.array n u) e).1 (class_empty r u h))) in
     let both = sym empty ∙ e in absurd cc
 
 leaf_le : (r : List TypeInfo) (room : ℕ) (b : List ℕ) → 1 ≤ length b →
     1 ≤ length b * per (widest r + 1) (suc room)
 leaf_le r room b pos = rw (per-suc (widest r + 1) room)
-    (omega (arith, pay (length b) 0 0 (per (widest r + 1) room) (widest r + 1) pos (omega arith)
-    (omega arith)))
+    (omega (
+      arith,
+      pay (length b) 0 0 (per (widest r + 1) room) (widest r + 1) pos (omega arith)
+          (omega arith),
+    ))
 
 mutual
   unfolding Val
@@ -93,28 +89,36 @@ mutual
   node_le r room t (branch fields vs) b h l pos =
       let few = narrow_at r t (layout.fields h.0) h.1 in
       let paid = pay (length b) (length b) (how_many vs) (per (widest r + 1) room) (widest r + 1)
-          pos (omega arith) (omega (arith, few, same_length r h.0 vs b h.2)) in
+      pos (omega arith) (omega (arith, few, same_length r h.0 vs b h.2)) in
       rw (per-suc (widest r + 1) room)
-          (omega (arith, paid, vals_le r room h.0 vs b h.2 (omega arith)))
+      (omega (arith, paid, vals_le r room h.0 vs b h.2 (omega arith)))
   node_le r room t (branch (arm q) vs) b h l pos =
       let ts = field_types h.2.fields in
       let few = arm-width r t h.0 h.1 q h.2 h.4 h.5 in
       let paid = pay (length b) (length h.3) (how_many vs) (per (widest r + 1) room) (widest r + 1)
-          pos (omega (arith, ap length h.6)) (omega (arith, few, same_length r ts vs h.3 h.7)) in
+      pos (omega (arith, ap length h.6)) (omega (arith, few, same_length r ts vs h.3 h.7)) in
       rw (per-suc (widest r + 1) room)
-          (omega (arith, paid, vals_le r room ts vs h.3 h.7 (omega arith)))
+      (omega (arith, paid, vals_le r room ts vs h.3 h.7 (omega arith)))
   node_le r room t (branch list vs) b (inl h) l pos =
       let paid = pay (length b) (length b) 0 (per (widest r + 1) room) (widest r + 1) pos
-          (omega arith) (omega arith) in
+      (omega arith) (omega arith) in
       rw (per-suc (widest r + 1) room)
-          (omega (arith, paid, each_le r room h.1 vs b (array_element r t h.0 h.1 h.2) h.4
-          (omega arith)))
+      (omega (
+        arith,
+        paid,
+        each_le r room h.1 vs b (array_element r t h.0 h.1 h.2) h.4
+            (omega arith),
+      ))
   node_le r room t (branch list vs) b (inr h) l pos =
       let paid = pay (length b) (length h.2) 0 (per (widest r + 1) room) (widest r + 1) pos
-          (omega (arith, ap length h.5, length-append h.1 h.2)) (omega arith) in
+      (omega (arith, ap length h.5, length-append h.1 h.2)) (omega arith) in
       rw (per-suc (widest r + 1) room)
-          (omega (arith, paid, each_le r room h.0 vs h.2 (known_at r t (layout.sequence h.0) h.3)
-          h.6 (omega arith)))
+      (omega (
+        arith,
+        paid,
+        each_le r room h.0 vs h.2 (known_at r t (layout.sequence h.0) h.3)
+            h.6 (omega arith),
+      ))
 
   pub vals_le : (r : List TypeInfo) (room : ℕ) (ts : List ℕ) (vs : Trees) (b : List ℕ) →
       Vals r ts vs b → most_levels vs ≤ room →
@@ -126,9 +130,14 @@ mutual
   vals_le r (suc room) (t ∷ ts) (and v vs) b h l =
       let p = per (widest r + 1) (suc room) in
       let one = or_unit r t v h.0 p h.3 (node_le r room t v h.0 h.3 (omega arith)) in
-      omega (arith, one, vals_le r (suc room) ts vs h.1 h.4 (omega arith),
-          ap (λ (x : List ℕ). length x * p) h.2, two (length h.0) (length h.1) p,
-          ap (λ (n : ℕ). n * p) (length-append h.0 h.1))
+      omega (
+        arith,
+        one,
+        vals_le r (suc room) ts vs h.1 h.4 (omega arith),
+        ap (λ (x : List ℕ). length x * p) h.2,
+        two (length h.0) (length h.1) p,
+        ap (λ (n : ℕ). n * p) (length-append h.0 h.1),
+      )
 
   pub each_le : (r : List TypeInfo) (room t : ℕ) (vs : Trees) (b : List ℕ) →
       (class_of r t ≡ class.Empty → ⊥) → Each r t vs b → most_levels vs ≤ room →
@@ -137,9 +146,14 @@ mutual
   each_le r zero t (and v vs) b ne h l = absurd (omega (arith, levels-pos v))
   each_le r (suc room) t (and v vs) b ne h l =
       let p = per (widest r + 1) (suc room) in
-      omega (arith, node_le r room t v h.0 h.3 (omega arith) (not_empty r t v h.0 ne h.3),
-          each_le r (suc room) t vs h.1 ne h.4 (omega arith), ap (λ (x : List ℕ). length x * p) h.2,
-          two (length h.0) (length h.1) p, ap (λ (n : ℕ). n * p) (length-append h.0 h.1))
+      omega (
+        arith,
+        node_le r room t v h.0 h.3 (omega arith) (not_empty r t v h.0 ne h.3),
+        each_le r (suc room) t vs h.1 ne h.4 (omega arith),
+        ap (λ (x : List ℕ). length x * p) h.2,
+        two (length h.0) (length h.1) p,
+        ap (λ (n : ℕ). n * p) (length-append h.0 h.1),
+      )
 
 -- a text has no more bytes than its spelling
 leaf_text_le : (f : Layout) (l : Leaf) (b : List ℕ) → SpellsLeaf f l b → bytes_of_text l ≤ length b
@@ -172,18 +186,33 @@ mutual
   all_text_le r (t ∷ ts) none b h = absurd h
   all_text_le r [] (and v vs) b h = absurd h
   all_text_le r (t ∷ ts) (and v vs) b h =
-      omega (arith, ap length h.2, length-append h.0 h.1, text_le r t v h.0 h.3,
-      all_text_le r ts vs h.1 h.4)
+      omega (
+        arith,
+        ap length h.2,
+        length-append h.0 h.1,
+        text_le r t v h.0 h.3,
+        all_text_le r ts vs h.1 h.4,
+      )
 
   pub each_text_le : (r : List TypeInfo) (t : ℕ) (vs : Trees) (b : List ℕ) → Each r t vs b →
       all_text_bytes vs ≤ length b
   each_text_le r t none b h = omega arith
   each_text_le r t (and v vs) b h =
-      omega (arith, ap length h.2, length-append h.0 h.1, text_le r t v h.0 h.3,
-      each_text_le r t vs h.1 h.4)
+      omega (
+        arith,
+        ap length h.2,
+        length-append h.0 h.1,
+        text_le r t v h.0 h.3,
+        each_text_le r t vs h.1 h.4,
+      )
 
 pub values_are_bounded : ValuesAreBounded
 values_are_bounded r zero t v b h l = absurd (omega (arith, levels-pos v))
-values_are_bounded r (suc room) t v b h l =
-    (omega (arith, or_unit r t v b (per (widest r + 1) (suc room)) h (node_le r room t v b h l),
-        ap (λ (n : ℕ). length b * n) (per-mul (widest r + 1) (suc room))), text_le r t v b h)
+values_are_bounded r (suc room) t v b h l = (
+  omega (
+    arith,
+    or_unit r t v b (per (widest r + 1) (suc room)) h (node_le r room t v b h l),
+    ap (λ (n : ℕ). length b * n) (per-mul (widest r + 1) (suc room)),
+  ),
+  text_le r t v b h,
+)

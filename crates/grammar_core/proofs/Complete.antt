@@ -1,8 +1,5 @@
 -- What has a value is read, whatever follows it.
-use Rattle.std.proofs.Common.{
-    ◌≡◌, ℕ, zero, suc, ◌≤◌, true, false, List, [], ◌∷◌, ◌++◌, Ok, refl, append_assoc, arith, inl,
-    inr
-}
+use Rattle.std.proofs.Common.{◌≡◌, ℕ, zero, suc, ◌≤◌, true, false, List, [], ◌∷◌, ◌++◌, Ok, refl, append_assoc, arith, inl, inr}
 use Rattle.scale_core.specs.Read.{Read}
 use Rattle.scale_core.specs.declared.compact.Target.TheVariants as target
 use Rattle.scale_core.proofs.Again.{bytes_again, compact_again, text_again}
@@ -10,10 +7,7 @@ use Rattle.registry_core.specs.declared.type_info.TypeInfo.{TypeInfo}
 use Rattle.graph_core.specs.Types.{field_types}
 use Rattle.widths_core.specs.Layouts.{Layout, layout}
 use Rattle.widths_core.specs.Layouts as layout
-use Rattle.grammar_core.specs.Tree.{
-    Tree, leaf, branch, unit, bool, char, text, unsigned, signed, wide, compact, fields, arm, list,
-    count, Trees, none, and, how_many, levels, most_levels, Leaf
-}
+use Rattle.grammar_core.specs.Tree.{Tree, leaf, branch, unit, bool, char, text, unsigned, signed, wide, compact, fields, arm, list, count, Trees, none, and, how_many, levels, most_levels, Leaf}
 use Rattle.grammar_core.specs.Grammar.{Val, Vals, Each, SpellsLeaf}
 use Rattle.grammar_core.proofs.Grounded.{finite}
 use Rattle.grammar_core.specs.Preorder.{levels-pos}
@@ -46,15 +40,29 @@ mutual
       rw (finite r t (branch fields vs) b h, h.1, all_again r room h.0 vs b rest h.2 (omega arith))
       refl
   value_again r (suc room) t (branch (arm q) vs) b rest h l =
-      rw (finite r t (branch (arm q) vs) b h, h.4, h.6, h.5,
-      all_again r room (field_types h.2.fields) vs h.3 rest h.7 (omega arith)) refl
+      rw (
+        finite r t (branch (arm q) vs) b h,
+        h.4,
+        h.6,
+        h.5,
+        all_again r room (field_types h.2.fields) vs h.3 rest h.7 (omega arith),
+      ) refl
   value_again r (suc room) t (branch list vs) b rest (inl h) l =
-      rw (finite r t (branch list vs) b (inl h), h.2, ← h.3,
-      times_again r room h.1 vs b rest h.4 (omega arith)) refl
+      rw (
+        finite r t (branch list vs) b (inl h),
+        h.2,
+        ← h.3,
+        times_again r room h.1 vs b rest h.4 (omega arith),
+      ) refl
   value_again r (suc room) t (branch list vs) b rest (inr h) l =
-      rw (finite r t (branch list vs) b (inr h), h.3, h.5, append_assoc,
-      compact_again target.U32 (how_many vs) h.1 (h.2 ++ rest) h.4,
-      times_again r room h.0 vs h.2 rest h.6 (omega arith)) refl
+      rw (
+        finite r t (branch list vs) b (inr h),
+        h.3,
+        h.5,
+        append_assoc,
+        compact_again target.U32 (how_many vs) h.1 (h.2 ++ rest) h.4,
+        times_again r room h.0 vs h.2 rest h.6 (omega arith),
+      ) refl
 
   pub all_again : (r : List TypeInfo) (room : ℕ) (ts : List ℕ) (vs : Trees) (b rest : List ℕ) →
       Vals r ts vs b → most_levels vs ≤ room →
@@ -63,13 +71,21 @@ mutual
   all_again r room (t ∷ ts) none b rest h l = absurd h
   all_again r room [] (and v vs) b rest h l = absurd h
   all_again r room (t ∷ ts) (and v vs) b rest h l =
-      rw (h.2, append_assoc, value_again r room t v h.0 (h.1 ++ rest) h.3 (omega arith),
-      all_again r room ts vs h.1 rest h.4 (omega arith)) refl
+      rw (
+        h.2,
+        append_assoc,
+        value_again r room t v h.0 (h.1 ++ rest) h.3 (omega arith),
+        all_again r room ts vs h.1 rest h.4 (omega arith),
+      ) refl
 
   pub times_again : (r : List TypeInfo) (room t : ℕ) (vs : Trees) (b rest : List ℕ) →
       Each r t vs b → most_levels vs ≤ room →
       times_at (value_at r room) (how_many vs) t (b ++ rest) ≡ Ok (vs, rest)
   times_again r room t none b rest h l = rw h refl
   times_again r room t (and v vs) b rest h l =
-      rw (h.2, append_assoc, value_again r room t v h.0 (h.1 ++ rest) h.3 (omega arith),
-      times_again r room t vs h.1 rest h.4 (omega arith)) refl
+      rw (
+        h.2,
+        append_assoc,
+        value_again r room t v h.0 (h.1 ++ rest) h.3 (omega arith),
+        times_again r room t vs h.1 rest h.4 (omega arith),
+      ) refl

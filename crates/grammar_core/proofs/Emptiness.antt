@@ -1,8 +1,5 @@
 -- Which values take no bytes.
-use Rattle.std.proofs.Common.{
-    ◌≡◌, ℕ, suc, ◌≤◌, Bool, true, false, List, [], ◌∷◌, ◌++◌, length, refl, sym, ap, subst, ◌∙◌,
-    arith, inl, inr
-}
+use Rattle.std.proofs.Common.{◌≡◌, ℕ, suc, ◌≤◌, Bool, true, false, List, [], ◌∷◌, ◌++◌, length, refl, sym, ap, subst, ◌∙◌, arith, inl, inr}
 use Rattle.std.specs.List.{list_all}
 use Rattle.scale_core.specs.Compact.{IsCompact}
 use Rattle.scale_core.specs.declared.compact.Target.{Target}
@@ -13,13 +10,8 @@ use Rattle.widths_core.specs.declared.class.Class.TheVariants as class
 use Rattle.widths_core.specs.Classes.{class_of, empty_within}
 use Rattle.widths_core.specs.Layouts.{Layout, layout}
 use Rattle.widths_core.specs.Layouts as layout
-use Rattle.widths_core.proofs.Known.{
-    Known, known, empty_class, class_empty, class_finite, layout_empty
-}
-use Rattle.grammar_core.specs.Tree.{
-    Tree, leaf, branch, unit, bool, char, text, unsigned, signed, wide, compact, fields, arm, list,
-    count, Trees, none, and, how_many, Leaf
-}
+use Rattle.widths_core.proofs.Known.{Known, known, empty_class, class_empty, class_finite, layout_empty}
+use Rattle.grammar_core.specs.Tree.{Tree, leaf, branch, unit, bool, char, text, unsigned, signed, wide, compact, fields, arm, list, count, Trees, none, and, how_many, Leaf}
 use Rattle.grammar_core.specs.Grammar.{Val, Vals, SpellsLeaf}
 use Rattle.grammar_core.specs.Laws.{EmptyHasUnit, SizedHasBytes}
 
@@ -52,11 +44,19 @@ leaf_no_bytes r t (char c) b e h = let no = sym (ap length e) ∙ h.1 in absurd 
 leaf_no_bytes r t (text s) b e h =
     compact_has_byte (length s) h.1.0 h.1.1 (nil_parts h.1.0 s (sym h.1.3 ∙ e)).0
 leaf_no_bytes r t (unsigned x) b e h =
-    absurd (omega (arith, known_at r t (layout.plain (layout.unsigned h.0)) h.1, sym (ap length e)
-    ∙ h.2))
+    absurd (omega (
+      arith,
+      known_at r t (layout.plain (layout.unsigned h.0)) h.1,
+      sym (ap length e)
+          ∙ h.2,
+    ))
 leaf_no_bytes r t (signed x) b e h =
-    absurd (omega (arith, known_at r t (layout.plain (layout.signed h.0)) h.1, sym (ap length e)
-    ∙ h.2))
+    absurd (omega (
+      arith,
+      known_at r t (layout.plain (layout.signed h.0)) h.1,
+      sym (ap length e)
+          ∙ h.2,
+    ))
 leaf_no_bytes r t (wide x) b e h = let no = sym (ap length e) ∙ h.1 in absurd (omega (arith, no))
 leaf_no_bytes r t (compact x) b e h =
     empty_class r t (known_at r t (layout.plain (layout.compact h.0)) h.1
@@ -104,7 +104,7 @@ mutual
   all_no_bytes r (t ∷ ts) (and v vs) b e h =
       let parts = nil_parts h.0 h.1 (sym h.2 ∙ e) in
       rw (class_empty r t (no_bytes r t v h.0 parts.0 h.3), all_no_bytes r ts vs h.1 parts.1 h.4)
-          refl
+      refl
 
 not_nil : (b : List ℕ) → (b ≡ [] → ⊥) → 1 ≤ length b
 not_nil [] h = absurd (h refl)
@@ -126,6 +126,8 @@ empty_unique r t (branch list vs) b e (inr h) = let no = sym e ∙ h.3 in absurd
 pub empty_has_unit : EmptyHasUnit
 unfolding Val
 empty_has_unit r t e =
-    let is = empty_class r t e in
-    (class_finite r t (λ no. let both = sym is ∙ no in absurd cc), (layout_empty r t is, refl),
-        λ v b. empty_unique r t v b (layout_empty r t is))
+    let is = empty_class r t e in (
+      class_finite r t (λ no. let both = sym is ∙ no in absurd cc),
+      (layout_empty r t is, refl),
+      λ v b. empty_unique r t v b (layout_empty r t is),
+    )

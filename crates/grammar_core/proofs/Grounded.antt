@@ -7,10 +7,7 @@ use Rattle.widths_core.specs.Classes.{is_finite}
 use Rattle.widths_core.specs.Layouts.{Layout, layout}
 use Rattle.widths_core.specs.Layouts as layout
 use Rattle.widths_core.proofs.Known.{finite_at}
-use Rattle.grammar_core.specs.Tree.{
-    Tree, leaf, branch, unit, bool, char, text, unsigned, signed, wide, compact, fields, arm, list,
-    count, Trees, none, and, Leaf
-}
+use Rattle.grammar_core.specs.Tree.{Tree, leaf, branch, unit, bool, char, text, unsigned, signed, wide, compact, fields, arm, list, count, Trees, none, and, Leaf}
 use Rattle.grammar_core.specs.Grammar.{Val, Vals, SpellsLeaf}
 use Rattle.grammar_core.specs.Laws.{ValuesAreFinite}
 

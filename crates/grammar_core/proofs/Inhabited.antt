@@ -1,8 +1,5 @@
 -- A finite type has a value, unless a definition can be reached whose values are left out.
-use Rattle.std.proofs.Common.{
-    ◌≡◌, ℕ, zero, suc, ◌+◌, ◌<◌, ◌⊎◌, Bool, true, false, cond, List, [], ◌∷◌, ◌++◌, length, Option,
-    Some, None, refl, sym, ap, subst, ◌∙◌, arith, inl, inr
-}
+use Rattle.std.proofs.Common.{◌≡◌, ℕ, zero, suc, ◌+◌, ◌<◌, ◌⊎◌, Bool, true, false, cond, List, [], ◌∷◌, ◌++◌, length, Option, Some, None, refl, sym, ap, subst, ◌∙◌, arith, inl, inr}
 use Rattle.std.specs.Prelude.{◌==◌, ◌||◌, flat_map}
 use Rattle.std.specs.List.{list_all, list_any, AllByRecursion}
 use Rattle.std.specs.Str.{is_utf8, chars}
@@ -26,15 +23,10 @@ use Rattle.graph_core.specs.References.{references}
 use Rattle.widths_core.specs.Targets.{target_of}
 use Rattle.widths_core.specs.Reach.{IsAmong, here, there, IsPlain}
 use Rattle.widths_core.specs.Classes.{finite_within, finite_step, holds_at, is_empty}
-use Rattle.widths_core.specs.Layouts.{
-    Layout, layout, sized_layout, kind_layout, sequence_layout, compact_layout
-}
+use Rattle.widths_core.specs.Layouts.{Layout, layout, sized_layout, kind_layout, sequence_layout, compact_layout}
 use Rattle.widths_core.specs.Layouts as layout
 use Rattle.widths_core.proofs.Ranks.{and_parts, or_parts}
-use Rattle.grammar_core.specs.Tree.{
-    Tree, leaf, branch, unit, bool, char, text, unsigned, signed, wide, compact as compact_value,
-    fields, arm, list, count, Trees, none, and, how_many
-}
+use Rattle.grammar_core.specs.Tree.{Tree, leaf, branch, unit, bool, char, text, unsigned, signed, wide, compact as compact_value, fields, arm, list, count, Trees, none, and, how_many}
 use Rattle.grammar_core.specs.Grammar.{Val, Vals, Each}
 use Rattle.grammar_core.specs.Laws.{FiniteHasValue}
 
@@ -51,18 +43,25 @@ all_values r f [] h e = (none, [], tt, refl)
 all_values r f (t ∷ ts) h e =
     let p = and_parts (f t) (list_all f ts) e in
     let one = h t (inl refl) p.0 in
-    let rest = all_values r f ts (λ u m. h u (inr m)) p.1 in
-    (and one.0 rest.0, one.1 ++ rest.1, both_bytes one.1 rest.1 one.2 rest.2,
-        (one.1, rest.1, refl, one.3, rest.3))
+    let rest = all_values r f ts (λ u m. h u (inr m)) p.1 in (
+      and one.0 rest.0,
+      one.1 ++ rest.1,
+      both_bytes one.1 rest.1 one.2 rest.2,
+      (one.1, rest.1, refl, one.3, rest.3),
+    )
 
 repeated : (r : List TypeInfo) (t n : ℕ) → HasValue r t → (vs : Trees) × (b : List ℕ) × AreBytes b
     × (how_many vs ≡ n) × Each r t vs b
 unfolding Val
 repeated r t zero h = (none, [], tt, refl, refl)
 repeated r t (suc n) h =
-    let rest = repeated r t n h in
-    (and h.0 rest.0, h.1 ++ rest.1, both_bytes h.1 rest.1 h.2 rest.2, ap (λ (k : ℕ). suc k) rest.3,
-        (h.1, rest.1, refl, h.3, rest.4))
+    let rest = repeated r t n h in (
+      and h.0 rest.0,
+      h.1 ++ rest.1,
+      both_bytes h.1 rest.1 h.2 rest.2,
+      ap (λ (k : ℕ). suc k) rest.3,
+      (h.1, rest.1, refl, h.3, rest.4),
+    )
 
 -- ---- arms
 
@@ -112,39 +111,47 @@ live : (p : Arm → Bool) (arms : List Arm) (seen : List ℕ) (j : ℕ) → AllB
 live p [] seen j fits e = absurd cc
 live p (x ∷ arms) seen j fits e =
     go (list_any (λ s. s == x.index) seen) refl e (λ more k. live p arms more (j + 1) fits.1 k)
-    where
-  seen_before : list_any (λ s. s == x.index) seen ≡ true → Live p arms seen (j + 1) →
-      Live p (x ∷ arms) seen j
-  seen_before g l = elim (bool_cases (x.index == l.arm.index)) [
-    | inl same ↦ let yes : list_any (λ s. s == l.arm.index) seen ≡ true =
-        rw (← eqb-true x.index l.arm.index same) g in let both = sym yes ∙ l.new in absurd cc
-    | inr ne ↦ behind p x arms seen j l ne
-  ]
+  where
+    seen_before : list_any (λ s. s == x.index) seen ≡ true → Live p arms seen (j + 1) →
+        Live p (x ∷ arms) seen j
+    seen_before g l = elim (bool_cases (x.index == l.arm.index)) [
+      | inl same ↦ let yes : list_any (λ s. s == l.arm.index) seen ≡ true =
+          rw (← eqb-true x.index l.arm.index same) g in let both = sym yes ∙ l.new in absurd cc
+      | inr ne ↦ behind p x arms seen j l ne
+    ]
 
-  fresh : Live p arms (x.index ∷ seen) (j + 1) → Live p (x ∷ arms) seen j
-  fresh l = let parts = or_false (x.index == l.arm.index) (list_any (λ s. s == l.arm.index) seen)
-      l.new in
-      behind p x arms seen j (record { arm = l.arm; position = l.position; holds = l.holds; is =
-          l.is; new = parts.1; refers = l.refers; byte = l.byte }) parts.0
+    fresh : Live p arms (x.index ∷ seen) (j + 1) → Live p (x ∷ arms) seen j
+    fresh l = let parts = or_false (x.index == l.arm.index) (list_any (λ s. s == l.arm.index) seen)
+        l.new in
+        behind p x arms seen j (record {
+          arm = l.arm;
+          position = l.position;
+          holds = l.holds;
+          is =
+              l.is;
+          new = parts.1;
+          refers = l.refers;
+          byte = l.byte;
+        }) parts.0
 
-  go : (b : Bool) → list_any (λ s. s == x.index) seen ≡ b →
-      list_any p (cond b (live_arms seen arms) (x ∷ live_arms (x.index ∷ seen) arms)) ≡ true →
-      ((more : List ℕ) → list_any p (live_arms more arms) ≡ true → Live p arms more (j + 1)) →
-      Live p (x ∷ arms) seen j
-  go true g k r = seen_before g (r seen k)
-  go false g k r = elim (or_parts (p x) (list_any p (live_arms (x.index ∷ seen) arms)) k) [
-    | inl px ↦ record {
-      arm = x;
-      position = j;
-      holds = px;
-      is = rw (eq-eqb x.index x.index refl) refl;
-      new = g;
-      refers = λ u m. among_left u (field_types x.fields)
-          (flat_map (λ a. field_types a.fields) arms) m;
-      byte = fits.0.2;
-    }
-    | inr later ↦ fresh (r (x.index ∷ seen) later)
-  ]
+    go : (b : Bool) → list_any (λ s. s == x.index) seen ≡ b →
+        list_any p (cond b (live_arms seen arms) (x ∷ live_arms (x.index ∷ seen) arms)) ≡ true →
+        ((more : List ℕ) → list_any p (live_arms more arms) ≡ true → Live p arms more (j + 1)) →
+        Live p (x ∷ arms) seen j
+    go true g k r = seen_before g (r seen k)
+    go false g k r = elim (or_parts (p x) (list_any p (live_arms (x.index ∷ seen) arms)) k) [
+      | inl px ↦ record {
+        arm = x;
+        position = j;
+        holds = px;
+        is = rw (eq-eqb x.index x.index refl) refl;
+        new = g;
+        refers = λ u m. among_left u (field_types x.fields)
+            (flat_map (λ a. field_types a.fields) arms) m;
+        byte = fits.0.2;
+      }
+      | inr later ↦ fresh (r (x.index ∷ seen) later)
+    ]
 
 -- ---- the least value of each definition
 
@@ -182,8 +189,12 @@ unsigned_value r t k e =
 signed_value : (r : List TypeInfo) (t k : ℕ) → layout r t ≡ layout.plain (layout.signed k) →
     HasValue r t
 unfolding Val
-signed_value r t k e = (leaf (signed (signed_number (zeros k))), zeros k, zeros-bytes k,
-    (k, e, length-zeros k, refl))
+signed_value r t k e = (
+  leaf (signed (signed_number (zeros k))),
+  zeros k,
+  zeros-bytes k,
+  (k, e, length-zeros k, refl),
+)
 
 wide_value : (r : List TypeInfo) (t : ℕ) → layout r t ≡ (layout.plain layout.wide) → HasValue r t
 unfolding Val
@@ -198,9 +209,12 @@ kind_value : (r : List TypeInfo) (t : ℕ) (k : PrimitiveKind) → layout r t �
 unfolding Val
 kind_value r t K.Bool e = (leaf (bool false), 0 ∷ [], (omega arith, tt), (e, refl))
 kind_value r t K.Char e = char_value r t e
-kind_value r t K.Str e =
-    (leaf (text []), compact 0 ++ [], both_bytes (compact 0) [] zero-bytes tt,
-    (e, (compact 0, u32_zero, no_text, refl)))
+kind_value r t K.Str e = (
+  leaf (text []),
+  compact 0 ++ [],
+  both_bytes (compact 0) [] zero-bytes tt,
+  (e, (compact 0, u32_zero, no_text, refl)),
+)
 kind_value r t (K.Unsigned w) e = unsigned_value r t (width_bytes w) e
 kind_value r t (K.Signed w) e = signed_value r t (width_bytes w) e
 kind_value r t (K.Wide s) e = wide_value r t e
@@ -209,9 +223,12 @@ sequence_value : (r : List TypeInfo) (t u : ℕ) (b : Bool) → layout r t ≡ s
     HasValue r t
 unfolding Val
 sequence_value r t u true e = (leaf (count 0), compact 0, zero-bytes, (e, u32_zero))
-sequence_value r t u false e =
-    (branch list none, compact 0 ++ [], both_bytes (compact 0) [] zero-bytes tt,
-    inr (u, compact 0, [], e, u32_zero, refl, refl))
+sequence_value r t u false e = (
+  branch list none,
+  compact 0 ++ [],
+  both_bytes (compact 0) [] zero-bytes tt,
+  inr (u, compact 0, [], e, u32_zero, refl, refl),
+)
 
 zero_of : (m : Target) → (b : List ℕ) × AreBytes b × IsCompact m 0 b
 zero_of target.Unit = ([], tt, (refl, refl))
@@ -239,9 +256,12 @@ sized_value r k t (Def.Composite fs) fits plain is child e h = let all =
 sized_value r k t (Def.Variant arms) fits plain is child e h =
     let l = live (λ a. list_all (finite_within r k) (field_types a.fields)) arms [] 0 fits.1 h in
     let all = all_values r (finite_within r k) (field_types l.arm.fields)
-        (λ u m. child u (l.refers u m)) l.holds in
-    (branch (arm l.position) all.0, l.arm.index ∷ all.1, (l.byte, all.2),
-        (arms, l.arm.index, l.arm, all.1, e, l.is, refl, all.3))
+    (λ u m. child u (l.refers u m)) l.holds in (
+      branch (arm l.position) all.0,
+      l.arm.index ∷ all.1,
+      (l.byte, all.2),
+      (arms, l.arm.index, l.arm, all.1, e, l.is, refl, all.3),
+    )
 sized_value r k t (Def.Sequence u) fits plain is child e h =
     sequence_value r t u.0 (is_empty r u.0) e
 sized_value r k t (Def.Array zero u) fits plain is child e h =
@@ -288,8 +308,8 @@ value_within r fits zero t e plain = absurd cc
 value_within r fits (suc k) t e plain =
     let s = shape_of r (finite_step (finite_within r k)) t e in
     some_value r k t s.0 (fits_at r t s.0 fits s.1) plain s.1
-        (λ u m f. value_within r fits k u f (λ w d reach. plain w d (there s.1 m reach))) s.2
-        (is_empty r t) refl
+    (λ u m f. value_within r fits k u f (λ w d reach. plain w d (there s.1 m reach))) s.2
+    (is_empty r t) refl
 
 pub finite_has_value : FiniteHasValue
 finite_has_value r t fits finite plain = value_within r fits.1 finite.0 t finite.1 plain

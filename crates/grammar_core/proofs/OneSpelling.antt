@@ -11,10 +11,7 @@ use Rattle.graph_core.specs.Types.{field_types}
 use Rattle.widths_core.specs.Layouts.{Layout, layout}
 use Rattle.widths_core.specs.Layouts as layout
 use Rattle.widths_core.proofs.Wide.{arm-index}
-use Rattle.grammar_core.specs.Tree.{
-    Tree, leaf, branch, unit, bool, char, text, unsigned, signed, wide, compact, fields, arm, list,
-    count, Trees, none, and, how_many, Leaf
-}
+use Rattle.grammar_core.specs.Tree.{Tree, leaf, branch, unit, bool, char, text, unsigned, signed, wide, compact, fields, arm, list, count, Trees, none, and, how_many, Leaf}
 use Rattle.grammar_core.specs.Grammar.{Val, Vals, Each, SpellsLeaf}
 use Rattle.grammar_core.specs.Laws.{OneSpelling}
 
@@ -86,7 +83,7 @@ mutual
       let arms = arms_are r t h.0 k.0 h.4 k.4 in
       let same = arm-index h.0 h.1 k.1 i h.2 k.2 h.5 (rw arms k.5) in
       let rests = all_one r (field_types h.2.fields) vs h.3 k.3 (rest_of a (h.1 ∷ []) h.3 h.6 p)
-          (rest_of b (k.1 ∷ []) k.3 k.6 q) h.7 (rw same.1 k.7) in
+      (rest_of b (k.1 ∷ []) k.3 k.6 q) h.7 (rw same.1 k.7) in
       h.6 ∙ (rw (same.0, rests) refl) ∙ sym k.6
   one r t (branch list vs) a b p q (inl h) (inl k) =
       each_one r h.1 vs a b p q h.4 (rw (elements_are r t h.0 k.0 h.1 k.1 h.2 k.2) k.4)
@@ -95,7 +92,7 @@ mutual
   one r t (branch list vs) a b p q (inr h) (inr k) =
       let lens = one_spelling target.U32 (how_many vs) h.1 k.1 h.4 k.4 in
       let rests = each_one r h.0 vs h.2 k.2 (rest_of a h.1 h.2 h.5 p) (rest_of b k.1 k.2 k.5 q) h.6
-          (rw (sequence_is r t h.0 k.0 h.3 k.3) k.6) in
+      (rw (sequence_is r t h.0 k.0 h.3 k.3) k.6) in
       h.5 ∙ (rw (lens, rests) refl) ∙ sym k.5
 
   all_one : (r : List TypeInfo) (ts : List ℕ) (vs : Trees) (a b : List ℕ) → AreBytes a →
@@ -105,9 +102,9 @@ mutual
   all_one r [] (and v vs) a b p q h k = absurd h
   all_one r (t ∷ ts) (and v vs) a b p q h k =
       let firsts = one r t v h.0 k.0 (front_of a h.0 h.1 h.2 p) (front_of b k.0 k.1 k.2 q) h.3
-          k.3 in
+      k.3 in
       let rests = all_one r ts vs h.1 k.1 (rest_of a h.0 h.1 h.2 p) (rest_of b k.0 k.1 k.2 q) h.4
-          k.4 in
+      k.4 in
       h.2 ∙ (rw (firsts, rests) refl) ∙ sym k.2
 
   each_one : (r : List TypeInfo) (t : ℕ) (vs : Trees) (a b : List ℕ) → AreBytes a → AreBytes b →
@@ -115,9 +112,9 @@ mutual
   each_one r t none a b p q h k = h ∙ sym k
   each_one r t (and v vs) a b p q h k =
       let firsts = one r t v h.0 k.0 (front_of a h.0 h.1 h.2 p) (front_of b k.0 k.1 k.2 q) h.3
-          k.3 in
+      k.3 in
       let rests = each_one r t vs h.1 k.1 (rest_of a h.0 h.1 h.2 p) (rest_of b k.0 k.1 k.2 q) h.4
-          k.4 in
+      k.4 in
       h.2 ∙ (rw (firsts, rests) refl) ∙ sym k.2
 
 pub one_spelling_of : OneSpelling

@@ -1,8 +1,5 @@
 -- A list of parts fails where its next part does.
-use Rattle.std.proofs.Common.{
-    ◌≡◌, ℕ, zero, suc, ◌<◌, ◌≤◌, List, [], ◌∷◌, ◌++◌, Ok, Err, refl, sym, ap, ◌∙◌, append_assoc,
-    arith
-}
+use Rattle.std.proofs.Common.{◌≡◌, ℕ, zero, suc, ◌<◌, ◌≤◌, List, [], ◌∷◌, ◌++◌, Ok, Err, refl, sym, ap, ◌∙◌, append_assoc, arith}
 use Rattle.scale_core.specs.Read.{Read, ◌>>=◌}
 use Rattle.scale_core.proofs.Results.{Takes}
 use Rattle.registry_core.specs.declared.type_info.TypeInfo.{TypeInfo}
@@ -35,19 +32,41 @@ next_part r room [] input reason left e = absurd cc
 next_part r room (t ∷ ts) input reason left e =
     go (value_at r room t input) refl (value_takes r room t input) e
     (λ c. next_part r room ts c reason left) where
-  go : (read : Read Refusal Tree) → value_at r room t input ≡ read →
-      Takes (One r room t) input read →
-      (read >>= λ first. all_at (value_at r room) ts first.1 >>= λ others. Ok
-      (and first.0 others.0, others.1)) ≡ Err (reason, left) →
-      ((c : List ℕ) → all_at (value_at r room) ts c ≡ Err (reason, left) →
+      go : (read : Read Refusal Tree) → value_at r room t input ≡ read →
+          Takes (One r room t) input read →
+          (read >>= λ first. all_at (value_at r room) ts first.1 >>= λ others. Ok
+          (and first.0 others.0, others.1)) ≡ Err (reason, left) →
+          ((c : List ℕ) → all_at (value_at r room) ts c ≡ Err (reason, left) →
           NextPartFails r room ts c reason left) → NextPartFails r room (t ∷ ts) input reason left
-  go (Err x) is k f h = ([], t, ts, none, [], input, refl, refl, refl, omega arith, is
-      ∙ ap refused (refused_is x (reason, left) f))
-  go (Ok x) is k f h =
-      let s = h x.1 (then_fails x.0 (all_at (value_at r room) ts x.1) (reason, left) f) in
-      (t ∷ s.0, s.1, s.2, and x.0 s.3, k.0 ++ s.4, s.5, ap (λ (us : List ℕ). t ∷ us) s.6, k.1
-          ∙ ap (λ (y : List ℕ). k.0 ++ y) s.7 ∙ sym (append_assoc k.0 s.4 s.5),
-          (k.0, s.4, refl, k.2.0, s.8), omega (arith, k.2.1, s.9), s.10)
+      go (Err x) is k f h = (
+        [],
+        t,
+        ts,
+        none,
+        [],
+        input,
+        refl,
+        refl,
+        refl,
+        omega arith,
+        is
+            ∙ ap refused (refused_is x (reason, left) f),
+      )
+      go (Ok x) is k f h =
+          let s = h x.1 (then_fails x.0 (all_at (value_at r room) ts x.1) (reason, left) f) in (
+            t ∷ s.0,
+            s.1,
+            s.2,
+            and x.0 s.3,
+            k.0 ++ s.4,
+            s.5,
+            ap (λ (us : List ℕ). t ∷ us) s.6,
+            k.1
+                ∙ ap (λ (y : List ℕ). k.0 ++ y) s.7 ∙ sym (append_assoc k.0 s.4 s.5),
+            (k.0, s.4, refl, k.2.0, s.8),
+            omega (arith, k.2.1, s.9),
+            s.10,
+          )
 
 part_fails : (r : List TypeInfo) (room : ℕ) (front : List ℕ) (u : ℕ) (back : List ℕ) (vs : Trees)
     (b c : List ℕ) (e : Refusal × List ℕ) → Vals r front vs b → most_levels vs ≤ room →
@@ -57,8 +76,12 @@ part_fails r room [] u back none b c e h l f = rw (h, f) refl
 part_fails r room (t ∷ front) u back none b c e h l f = absurd h
 part_fails r room [] u back (and v vs) b c e h l f = absurd h
 part_fails r room (t ∷ front) u back (and v vs) b c e h l f =
-    rw (h.2, append_assoc h.0 h.1 c, value_again r room t v h.0 (h.1 ++ c) h.3 (omega arith),
-    part_fails r room front u back vs h.1 c e h.4 (omega arith) f) refl
+    rw (
+      h.2,
+      append_assoc h.0 h.1 c,
+      value_again r room t v h.0 (h.1 ++ c) h.3 (omega arith),
+      part_fails r room front u back vs h.1 c e h.4 (omega arith) f,
+    ) refl
 
 next_element : (r : List TypeInfo) (room n t : ℕ) (input : List ℕ) (reason : Refusal)
     (left : List ℕ) → times_at (value_at r room) n t input ≡ Err (reason, left) →
@@ -68,20 +91,36 @@ next_element r room zero t input reason left e = absurd cc
 next_element r room (suc n) t input reason left e =
     go (value_at r room t input) refl (value_takes r room t input) e
     (λ c. next_element r room n t c reason left) where
-  go : (read : Read Refusal Tree) → value_at r room t input ≡ read →
-      Takes (One r room t) input read →
-      (read >>= λ first. times_at (value_at r room) n t first.1 >>= λ others. Ok
-      (and first.0 others.0, others.1)) ≡ Err (reason, left) →
-      ((c : List ℕ) → times_at (value_at r room) n t c ≡ Err (reason, left) →
+      go : (read : Read Refusal Tree) → value_at r room t input ≡ read →
+          Takes (One r room t) input read →
+          (read >>= λ first. times_at (value_at r room) n t first.1 >>= λ others. Ok
+          (and first.0 others.0, others.1)) ≡ Err (reason, left) →
+          ((c : List ℕ) → times_at (value_at r room) n t c ≡ Err (reason, left) →
           NextElementFails r room n t c reason left) →
           NextElementFails r room (suc n) t input reason left
-  go (Err x) is k f h = (none, [], input, omega arith, refl, refl, omega arith, is
-      ∙ ap refused (refused_is x (reason, left) f))
-  go (Ok x) is k f h =
-      let s = h x.1 (then_fails x.0 (times_at (value_at r room) n t x.1) (reason, left) f) in
-      (and x.0 s.0, k.0 ++ s.1, s.2, omega (arith, s.3), k.1 ∙ ap (λ (y : List ℕ). k.0 ++ y) s.4
-          ∙ sym (append_assoc k.0 s.1 s.2), (k.0, s.1, refl, k.2.0, s.5), omega (arith, k.2.1, s.6),
-          s.7)
+      go (Err x) is k f h = (
+        none,
+        [],
+        input,
+        omega arith,
+        refl,
+        refl,
+        omega arith,
+        is
+            ∙ ap refused (refused_is x (reason, left) f),
+      )
+      go (Ok x) is k f h =
+          let s = h x.1 (then_fails x.0 (times_at (value_at r room) n t x.1) (reason, left) f) in (
+            and x.0 s.0,
+            k.0 ++ s.1,
+            s.2,
+            omega (arith, s.3),
+            k.1 ∙ ap (λ (y : List ℕ). k.0 ++ y) s.4
+                ∙ sym (append_assoc k.0 s.1 s.2),
+            (k.0, s.1, refl, k.2.0, s.5),
+            omega (arith, k.2.1, s.6),
+            s.7,
+          )
 
 element_fails : (r : List TypeInfo) (room n t : ℕ) (vs : Trees) (b c : List ℕ)
     (e : Refusal × List ℕ) → Each r t vs b → how_many vs < n → most_levels vs ≤ room →
@@ -90,13 +129,21 @@ unfolding Val
 element_fails r room zero t vs b c e h lt l f = absurd (omega arith)
 element_fails r room (suc n) t none b c e h lt l f = rw (h, f) refl
 element_fails r room (suc n) t (and v vs) b c e h lt l f =
-    rw (h.2, append_assoc h.0 h.1 c, value_again r room t v h.0 (h.1 ++ c) h.3 (omega arith),
-    element_fails r room n t vs h.1 c e h.4 (omega arith) (omega arith) f) refl
+    rw (
+      h.2,
+      append_assoc h.0 h.1 c,
+      value_again r room t v h.0 (h.1 ++ c) h.3 (omega arith),
+      element_fails r room n t vs h.1 c e h.4 (omega arith) (omega arith) f,
+    ) refl
 
 pub parts_fail : PartsFail
 parts_fail r room input reason left = (
-  λ ts. (next_part r room ts input reason left,
-      λ s. rw (s.6, s.7) (part_fails r room s.0 s.1 s.2 s.3 s.4 s.5 (reason, left) s.8 s.9 s.10)),
-  λ n t. (next_element r room n t input reason left,
-      λ s. rw s.4 (element_fails r room n t s.0 s.1 s.2 (reason, left) s.5 s.3 s.6 s.7)),
+  λ ts. (
+    next_part r room ts input reason left,
+    λ s. rw (s.6, s.7) (part_fails r room s.0 s.1 s.2 s.3 s.4 s.5 (reason, left) s.8 s.9 s.10),
+  ),
+  λ n t. (
+    next_element r room n t input reason left,
+    λ s. rw s.4 (element_fails r room n t s.0 s.1 s.2 (reason, left) s.5 s.3 s.6 s.7),
+  ),
 )

@@ -1,7 +1,5 @@
 -- The laws of values.
-use Rattle.std.proofs.Common.{
-    ◌≡◌, ℕ, ◌≤◌, max, ◌⊎◌, List, ◌++◌, Ok, Err, refl, sym, ap, ◌∙◌, arith, inl, inr
-}
+use Rattle.std.proofs.Common.{◌≡◌, ℕ, ◌≤◌, max, ◌⊎◌, List, ◌++◌, Ok, Err, refl, sym, ap, ◌∙◌, arith, inl, inr}
 use Rattle.std.specs.Prelude.{◌≢◌}
 use Rattle.std.proofs.lemmas.List.{append_cancel_right}
 use Rattle.scale_core.specs.Read.{Read}
@@ -10,10 +8,7 @@ use Rattle.registry_core.specs.declared.type_info.TypeInfo.{TypeInfo}
 use Rattle.grammar_core.specs.Tree.{Tree, levels}
 use Rattle.grammar_core.specs.Grammar.{Val}
 use Rattle.grammar_core.specs.Reading.{value_at, Refusal, truncated}
-use Rattle.grammar_core.specs.Laws.{
-    Stands, Fails, ValueIsRead, ReadIsValue, ValuesArePrefixFree, ValueOrFault, ValueOrFaultNotBoth,
-    FaultsAreStable
-}
+use Rattle.grammar_core.specs.Laws.{Stands, Fails, ValueIsRead, ReadIsValue, ValuesArePrefixFree, ValueOrFault, ValueOrFaultNotBoth, FaultsAreStable}
 use Rattle.grammar_core.proofs.Complete.{value_again}
 use Rattle.grammar_core.proofs.Sound.{value_takes}
 use Rattle.grammar_core.proofs.Stable.{value_extends}
@@ -26,10 +21,12 @@ stands_of : (r : List TypeInfo) (room t : ℕ) (b : List ℕ) (read : Read Refus
     Stands r room t b v rest
 stands_of r room t b (Err e) v rest h eq = absurd cc
 stands_of r room t b (Ok x) v rest h eq =
-    let same = done_is {E = Refusal} x (v, rest) eq in
-    (h.0, rw (← ap (λ (p : Tree × List ℕ). p.1) same) h.1,
-        rw (← ap (λ (p : Tree × List ℕ). p.0) same) h.2.0,
-        rw (← ap (λ (p : Tree × List ℕ). p.0) same) h.2.1)
+    let same = done_is {E = Refusal} x (v, rest) eq in (
+      h.0,
+      rw (← ap (λ (p : Tree × List ℕ). p.1) same) h.1,
+      rw (← ap (λ (p : Tree × List ℕ). p.0) same) h.2.0,
+      rw (← ap (λ (p : Tree × List ℕ). p.0) same) h.2.1,
+    )
 
 pub read_is_value : ReadIsValue
 read_is_value r room t b v rest e =
@@ -41,10 +38,11 @@ prefix_free r t v w a b rest more h k e =
     let one = value_again r room t v a rest h (omega arith) in
     let two = value_again r room t w b more k (omega arith) in
     let same = done_is {E = Refusal} (v, rest) (w, more)
-        (sym one ∙ ap (value_at r room t) e ∙ two) in
-    (ap (λ (p : Tree × List ℕ). p.0) same,
-        append_cancel_right a b rest (e
-        ∙ ap (λ (x : List ℕ). b ++ x) (sym (ap (λ (p : Tree × List ℕ). p.1) same))))
+    (sym one ∙ ap (value_at r room t) e ∙ two) in (
+      ap (λ (p : Tree × List ℕ). p.0) same,
+      append_cancel_right a b rest (e
+          ∙ ap (λ (x : List ℕ). b ++ x) (sym (ap (λ (p : Tree × List ℕ). p.1) same))),
+    )
 
 either : (r : List TypeInfo) (room t : ℕ) (b : List ℕ) (read : Read Refusal Tree) →
     value_at r room t b ≡ read → ((v : Tree) × (rest : List ℕ) × Stands r room t b v rest)

@@ -1,8 +1,5 @@
 -- What is read is a value, and its bytes stood on the front.
-use Rattle.std.proofs.Common.{
-    ◌≡◌, ℕ, zero, suc, ◌≤◌, List, [], ◌∷◌, ◌++◌, length, Option, Some, None, Ok, Err, refl, ap,
-    arith, inl, inr
-}
+use Rattle.std.proofs.Common.{◌≡◌, ℕ, zero, suc, ◌≤◌, List, [], ◌∷◌, ◌++◌, length, Option, Some, None, Ok, Err, refl, ap, arith, inl, inr}
 use Rattle.std.proofs.lemmas.List.{append-nil}
 use Rattle.scale_core.specs.Number.{number, signed_number, is_scalar}
 use Rattle.scale_core.specs.Compact.{IsCompact}
@@ -11,9 +8,7 @@ use Rattle.scale_core.specs.Read.{Read, compact_at, text_at, bytes_at}
 use Rattle.scale_core.specs.declared.compact.Target.TheVariants as target
 use Rattle.scale_core.specs.declared.fault.Reason.{Reason}
 use Rattle.scale_core.specs.declared.fault.Reason.TheVariants as reasons
-use Rattle.scale_core.proofs.Results.{
-    Takes, cond_takes, then_takes, bind_takes, bytes_takes, compact_takes, text_takes
-}
+use Rattle.scale_core.proofs.Results.{Takes, cond_takes, then_takes, bind_takes, bytes_takes, compact_takes, text_takes}
 use Rattle.registry_core.specs.declared.definition.Arm.{Arm}
 use Rattle.registry_core.specs.declared.type_info.TypeInfo.{TypeInfo}
 use Rattle.graph_core.specs.Types.{field_types}
@@ -21,15 +16,9 @@ use Rattle.widths_core.specs.Arms.{arm_of}
 use Rattle.widths_core.specs.Classes.{is_finite}
 use Rattle.widths_core.specs.Layouts.{Layout, layout}
 use Rattle.widths_core.specs.Layouts as layout
-use Rattle.grammar_core.specs.Tree.{
-    Leaf, Branch, Tree, leaf, branch, char, text, unsigned, signed, wide, compact, fields, arm,
-    list, count, Trees, how_many, levels, most_levels
-}
+use Rattle.grammar_core.specs.Tree.{Leaf, Branch, Tree, leaf, branch, char, text, unsigned, signed, wide, compact, fields, arm, list, count, Trees, how_many, levels, most_levels}
 use Rattle.grammar_core.specs.Grammar.{Val, Vals, Each}
-use Rattle.grammar_core.specs.Reading.{
-    value_at, layout_at, bool_at, char_from, all_at, times_at, fields_behind_index, arms_at,
-    elements_at, as_leaf, with_children, Refusal, basic
-}
+use Rattle.grammar_core.specs.Reading.{value_at, layout_at, bool_at, char_from, all_at, times_at, fields_behind_index, arms_at, elements_at, as_leaf, with_children, Refusal, basic}
 
 as_leaf_takes : {X : Type 0} (P : X → List ℕ → Type 0) (Q : Tree → List ℕ → Type 0)
     (make : X → Leaf) (b : List ℕ) (read : Read Reason X) → Takes P b read →
@@ -64,7 +53,7 @@ all_takes r room child h [] b = ([], refl, (refl, omega arith))
 all_takes r room child h (t ∷ ts) b =
     bind_takes (One r room t) (Some_of r room (t ∷ ts)) b (child t b) _ (h t b) (λ v c val.
     bind_takes (Some_of r room ts) (λ vs d. Some_of r room (t ∷ ts) vs (c ++ d)) v.1
-        (all_at child ts v.1) _ (all_takes r room child h ts v.1) (λ vs d vals.
+    (all_at child ts v.1) _ (all_takes r room child h ts v.1) (λ vs d vals.
     ([], refl, ((c, d, rw append-nil refl, val.0, vals.0), omega arith))))
 
 times_takes : (r : List TypeInfo) (room : ℕ) (child : ℕ → List ℕ → Read Refusal Tree) →
@@ -75,9 +64,15 @@ times_takes r room child h zero t b = ([], refl, (refl, refl, omega arith))
 times_takes r room child h (suc n) t b =
     bind_takes (One r room t) (Times r room (suc n) t) b (child t b) _ (h t b) (λ v c val.
     bind_takes (Times r room n t) (λ vs d. Times r room (suc n) t vs (c ++ d)) v.1
-        (times_at child n t v.1) _ (times_takes r room child h n t v.1) (λ vs d vals.
-    ([], refl, ((c, d, rw append-nil refl, val.0, vals.0), ap (λ (k : ℕ). suc k) vals.1,
-        omega arith))))
+    (times_at child n t v.1) _ (times_takes r room child h n t v.1) (λ vs d vals. (
+      [],
+      refl,
+      (
+        (c, d, rw append-nil refl, val.0, vals.0),
+        ap (λ (k : ℕ). suc k) vals.1,
+        omega arith,
+      ),
+    )))
 
 bool_takes : (r : List TypeInfo) (room t : ℕ) (b : List ℕ) →
     layout r t ≡ (layout.plain layout.bool) → Takes (One r (suc room) t) b (bool_at b)
@@ -106,8 +101,8 @@ arm_takes r room t child h arms f i b None e = tt
 arm_takes r room t child h arms f i b (Some a) e =
     then_takes (One r (suc room) t) (i ∷ b) (i ∷ []) b _ refl
     (with_children_takes (Some_of r room (field_types a.1.fields))
-        (λ v d. One r (suc room) t v (i ∷ d)) (arm a.0) b (all_at child (field_types a.1.fields) b)
-        (all_takes r room child h (field_types a.1.fields) b) (λ vs c vals.
+    (λ v d. One r (suc room) t v (i ∷ d)) (arm a.0) b (all_at child (field_types a.1.fields) b)
+    (all_takes r room child h (field_types a.1.fields) b) (λ vs c vals.
     ((arms, i, a.1, c, f, e, refl, vals.0), omega arith)))
 
 arms_takes : (r : List TypeInfo) (room t : ℕ) (child : ℕ → List ℕ → Read Refusal Tree) →
@@ -124,7 +119,7 @@ unfolding Val
 elements_takes r room t u child h f b (Err e) k = tt
 elements_takes r room t u child h f b (Ok n) k = then_takes (One r (suc room) t) b k.0 n.1 _ k.1
     (with_children_takes (Times r room n.0 u) (λ v d. One r (suc room) t v (k.0 ++ d)) list n.1
-        (times_at child n.0 u n.1) (times_takes r room child h n.0 u n.1) (λ vs c vals.
+    (times_at child n.0 u n.1) (times_takes r room child h n.0 u n.1) (λ vs c vals.
     (inr (u, k.0, c, f, rw vals.1 k.2, refl, vals.0), omega arith)))
 
 layout_takes : (r : List TypeInfo) (room t : ℕ) (child : ℕ → List ℕ → Read Refusal Tree) →

@@ -1,8 +1,5 @@
 -- The bytes that spell a value by the grammar are those of its nodes.
-use Rattle.std.proofs.Common.{
-    ◌≡◌, ℕ, zero, suc, ◌+◌, ◌-◌, ◌*◌, ◌/◌, ◌%◌, ◌^◌, ◌<◌, ◌≤◌, Bool, true, false, cond, List, [],
-    ◌∷◌, ◌++◌, length, flat_map, Option, Some, None, refl, sym, ap, subst, ◌∙◌, arith, inl, inr
-}
+use Rattle.std.proofs.Common.{◌≡◌, ℕ, zero, suc, ◌+◌, ◌-◌, ◌*◌, ◌/◌, ◌%◌, ◌^◌, ◌<◌, ◌≤◌, Bool, true, false, cond, List, [], ◌∷◌, ◌++◌, length, flat_map, Option, Some, None, refl, sym, ap, subst, ◌∙◌, arith, inl, inr}
 use Rattle.std.specs.Prelude.{ℤ, pos, neg_ℤ, nat_lt, slice_get}
 use Rattle.std.proofs.lemmas.List.{append-nil}
 use Rattle.std.proofs.lemmas.Nat.{pow-add}
@@ -12,9 +9,7 @@ use Rattle.scale_core.specs.Number.{AreBytes, number, signed_number, le_bytes}
 use Rattle.scale_core.specs.Compact.{compact, IsCompact}
 use Rattle.scale_core.specs.declared.compact.Target.{Target}
 use Rattle.scale_core.specs.declared.compact.Target.TheVariants as target
-use Rattle.scale_core.proofs.Numbers.{
-    le_bytes-number, number-bound, front_bytes, rest_bytes, neg-pos
-}
+use Rattle.scale_core.proofs.Numbers.{le_bytes-number, number-bound, front_bytes, rest_bytes, neg-pos}
 use Rattle.registry_core.specs.declared.definition.Arm.{Arm}
 use Rattle.registry_core.specs.Kinds.{kind_of}
 use Rattle.registry_core.specs.declared.kind.PrimitiveKind.{PrimitiveKind}
@@ -27,25 +22,17 @@ use Rattle.graph_core.specs.Types.{shape, field_types}
 use Rattle.widths_core.specs.Arms.{arm_of}
 use Rattle.widths_core.specs.Targets.{target_of}
 use Rattle.widths_core.specs.Classes.{is_empty}
-use Rattle.widths_core.specs.Layouts.{
-    Layout, layout, layout_of_shape, sized_layout, kind_layout, sequence_layout, compact_layout
-}
+use Rattle.widths_core.specs.Layouts.{Layout, layout, layout_of_shape, sized_layout, kind_layout, sequence_layout, compact_layout}
 use Rattle.widths_core.specs.Layouts as layout
 use Rattle.widths_core.proofs.Known.{empty_class, layout_empty}
 use Rattle.widths_core.proofs.FirstArm.{arm_is_first}
-use Rattle.grammar_core.specs.Tree.{
-    Tree, leaf, branch, unit, bool, char, text, unsigned, signed, wide, fields, arm, list, count,
-    Trees, none, and, how_many, Leaf
-}
+use Rattle.grammar_core.specs.Tree.{Tree, leaf, branch, unit, bool, char, text, unsigned, signed, wide, fields, arm, list, count, Trees, none, and, how_many, Leaf}
 use Rattle.grammar_core.specs.Tree as tree
 use Rattle.grammar_core.specs.Grammar.{Val, Vals, Each, SpellsLeaf}
 use Rattle.grammar_core.specs.Parts.{each, times}
 use Rattle.grammar_core.specs.Cells.{cells, all_cells}
 use Rattle.grammar_core.proofs.Emptiness.{known_at}
-use Rattle.grammar_core.specs.Spelled.{
-    leaf_spelling, kind_width, width_of, word, index_of, index_byte, is_sequence, length_bytes,
-    cell_bytes, spelled, EncodedIsValue
-}
+use Rattle.grammar_core.specs.Spelled.{leaf_spelling, kind_width, width_of, word, index_of, index_byte, is_sequence, length_bytes, cell_bytes, spelled, EncodedIsValue}
 
 -- ---- what the layout of a type says of its definition
 
@@ -129,21 +116,21 @@ signed_by b false range h small is =
     let above : ℕ = 256 ^ (16 - k) in
     let sixteen : k + (16 - k) ≡ 16 = omega arith in
     let whole : range * above ≡ 2 ^ 128 = ap (λ (x : ℕ). x * above) is
-        ∙ sym (pow-add 256 k (16 - k)) ∙ ap (λ (x : ℕ). 256 ^ x) sixteen in
+    ∙ sym (pow-add 256 k (16 - k)) ∙ ap (λ (x : ℕ). 256 ^ x) sixteen in
     let some : 0 < above = pow-pos (16 - k) in
     let split : range * above ≡ range * (above - 1) + range = mul-pred range above some in
     let spelled : word (neg_ℤ (pos (range - n))) ≡ n + range * (above - 1) =
-        ap word (neg-pos (range - n) (omega arith)) ∙ omega (arith, whole, split, less) in
+    ap word (neg-pos (range - n) (omega arith)) ∙ omega (arith, whole, split, less) in
     ap (le_bytes k) (spelled ∙ ap (λ (x : ℕ). n + x * (above - 1)) is)
-        ∙ le_bytes-above k n (above - 1) ∙ le_bytes-number b h
+    ∙ le_bytes-above k n (above - 1) ∙ le_bytes-number b h
 
 signed_bytes_are : (k : ℕ) (z : ℤ) (b : List ℕ) → AreBytes b → k ≤ 16 → length b ≡ k →
     signed_number b ≡ z → le_bytes k (word z) ≡ b
 signed_bytes_are k z b h small len e =
     ap (λ (x : ℕ). le_bytes x (word z)) (sym len)
-        ∙ ap (λ (y : ℤ). le_bytes (length b) (word y)) (sym e)
+    ∙ ap (λ (y : ℤ). le_bytes (length b) (word y)) (sym e)
     ∙ signed_by b (nat_lt (2 * number b) (256 ^ length b)) (256 ^ length b) h (omega (arith, len))
-        refl
+    refl
 
 unsigned_bytes_are : (k n : ℕ) (b : List ℕ) → AreBytes b → length b ≡ k → number b ≡ n →
     le_bytes k n ≡ b
@@ -156,7 +143,7 @@ compact_is : (r : List TypeInfo) (t : ℕ) (m : Target) (x : ℕ) (b : List ℕ)
     layout r t ≡ layout.plain (layout.compact m) → IsCompact m x b → compact x ≡ b
 compact_is r t target.Unit x b e h =
     let empty = layout_empty r t
-        (empty_class r t (known_at r t (layout.plain (layout.compact target.Unit)) e refl)) in
+    (empty_class r t (known_at r t (layout.plain (layout.compact target.Unit)) e refl)) in
     let no = sym empty ∙ e in absurd cc
 compact_is r t target.U8 x b e h = sym h.1
 compact_is r t target.U16 x b e h = sym h.1
@@ -176,7 +163,7 @@ arm_get : (arms : List Arm) (i q : ℕ) (a : Arm) → arm_of arms i ≡ Some (q,
 arm_get arms i q a e =
     let s = (arm_is_first arms i q a).0 e in
     ap (λ (x : List Arm). slice_get x q) s.2 ∙ ap (slice_get (s.0 ++ a ∷ s.1)) s.3
-        ∙ get_at s.0 a s.1
+    ∙ get_at s.0 a s.1
 
 index_at : (arms : List Arm) (i q : ℕ) (a : Arm) → arm_of arms i ≡ Some (q, a) →
     index_byte (index_of (Some (Def.Variant arms)) q) ≡ i ∷ []
@@ -237,7 +224,7 @@ mutual
   spells r t (branch list vs) b p (inr h) =
       let rest = spells_each r h.0 vs h.2 (rest_bytes h.1 h.2 (rw (← h.5) p)) h.6 in
       rw (shaped_at r t (layout.sequence h.0) h.3, h.3, rest)
-          (ap (λ (x : List ℕ). x ++ h.2) (sym h.4.1) ∙ sym h.5)
+      (ap (λ (x : List ℕ). x ++ h.2) (sym h.4.1) ∙ sym h.5)
 
   pub spells_vals : (r : List TypeInfo) (ts : List ℕ) (vs : Trees) (b : List ℕ) → AreBytes b →
       Vals r ts vs b → flat_map (cell_bytes r) (all_cells r (each ts) vs) ≡ b
@@ -247,8 +234,10 @@ mutual
   spells_vals r (t ∷ ts) (and v vs) b p h =
       let q : AreBytes (h.0 ++ h.1) = rw (← h.2) p in
       flat_map-append (cell_bytes r) (cells r t v) (all_cells r (each ts) vs)
-      ∙ rw (spells r t v h.0 (front_bytes h.0 h.1 q) h.3,
-          spells_vals r ts vs h.1 (rest_bytes h.0 h.1 q) h.4) (sym h.2)
+      ∙ rw (
+        spells r t v h.0 (front_bytes h.0 h.1 q) h.3,
+        spells_vals r ts vs h.1 (rest_bytes h.0 h.1 q) h.4,
+      ) (sym h.2)
 
   pub spells_each : (r : List TypeInfo) (t : ℕ) (vs : Trees) (b : List ℕ) → AreBytes b →
       Each r t vs b → flat_map (cell_bytes r) (all_cells r (times (how_many vs) t) vs) ≡ b
@@ -256,8 +245,10 @@ mutual
   spells_each r t (and v vs) b p h =
       let q : AreBytes (h.0 ++ h.1) = rw (← h.2) p in
       flat_map-append (cell_bytes r) (cells r t v) (all_cells r (times (how_many vs) t) vs)
-      ∙ rw (spells r t v h.0 (front_bytes h.0 h.1 q) h.3,
-          spells_each r t vs h.1 (rest_bytes h.0 h.1 q) h.4) (sym h.2)
+      ∙ rw (
+        spells r t v h.0 (front_bytes h.0 h.1 q) h.3,
+        spells_each r t vs h.1 (rest_bytes h.0 h.1 q) h.4,
+      ) (sym h.2)
 
 pub encoded_is_value : EncodedIsValue
 encoded_is_value = spells

@@ -1,15 +1,11 @@
 -- More bytes behind the input change no value and no fault but a missing end.
-use Rattle.std.proofs.Common.{
-    ℕ, zero, suc, List, [], ◌∷◌, ◌++◌, Option, Some, None, Ok, Err, refl, ap
-}
+use Rattle.std.proofs.Common.{ℕ, zero, suc, List, [], ◌∷◌, ◌++◌, Option, Some, None, Ok, Err, refl, ap}
 use Rattle.scale_core.specs.Number.{number, signed_number, is_scalar}
 use Rattle.scale_core.specs.Read.{Read}
 use Rattle.scale_core.specs.declared.compact.Target.TheVariants as target
 use Rattle.scale_core.specs.declared.fault.Reason.{Reason}
 use Rattle.scale_core.specs.declared.fault.Reason.TheVariants as reasons
-use Rattle.scale_core.proofs.Results.{
-    Extends, bind_extends, cond_extends, bytes_extends, compact_extends, text_extends
-}
+use Rattle.scale_core.proofs.Results.{Extends, bind_extends, cond_extends, bytes_extends, compact_extends, text_extends}
 use Rattle.registry_core.specs.declared.definition.Arm.{Arm}
 use Rattle.registry_core.specs.declared.type_info.TypeInfo.{TypeInfo}
 use Rattle.graph_core.specs.Types.{field_types}
@@ -17,14 +13,8 @@ use Rattle.widths_core.specs.Arms.{arm_of}
 use Rattle.widths_core.specs.Classes.{is_finite}
 use Rattle.widths_core.specs.Layouts.{Plain, Layout, layout}
 use Rattle.widths_core.specs.Layouts as layout
-use Rattle.grammar_core.specs.Tree.{
-    Leaf, Branch, Tree, leaf, branch, text, unsigned, signed, wide, compact, fields, arm, list,
-    count, Trees
-}
-use Rattle.grammar_core.specs.Reading.{
-    value_at, layout_at, leaf_at, bool_at, char_from, all_at, times_at, fields_behind_index,
-    arms_at, elements_at, as_leaf, with_children, Refusal, basic, truncated
-}
+use Rattle.grammar_core.specs.Tree.{Leaf, Branch, Tree, leaf, branch, text, unsigned, signed, wide, compact, fields, arm, list, count, Trees}
+use Rattle.grammar_core.specs.Reading.{value_at, layout_at, leaf_at, bool_at, char_from, all_at, times_at, fields_behind_index, arms_at, elements_at, as_leaf, with_children, Refusal, basic, truncated}
 
 as_leaf_extends : {X : Type 0} (make : X → Leaf) (more : List ℕ) (read read' : Read Reason X) →
     Extends reasons.Truncated more read read' →
@@ -49,7 +39,7 @@ all_extends more child h [] b = refl
 all_extends more child h (t ∷ ts) b =
     bind_extends truncated more (child t b) (child t (b ++ more)) _ _ (h t b) (λ v.
     bind_extends truncated more (all_at child ts v.1) (all_at child ts (v.1 ++ more)) _ _
-        (all_extends more child h ts v.1) (λ vs. refl))
+    (all_extends more child h ts v.1) (λ vs. refl))
 
 times_extends : (more : List ℕ) (child : ℕ → List ℕ → Read Refusal Tree) → ChildExtends more child →
     (n t : ℕ) (b : List ℕ) →
@@ -58,7 +48,7 @@ times_extends more child h zero t b = refl
 times_extends more child h (suc n) t b =
     bind_extends truncated more (child t b) (child t (b ++ more)) _ _ (h t b) (λ v.
     bind_extends truncated more (times_at child n t v.1) (times_at child n t (v.1 ++ more)) _ _
-        (times_extends more child h n t v.1) (λ vs. refl))
+    (times_extends more child h n t v.1) (λ vs. refl))
 
 bool_extends : (b more : List ℕ) → Extends truncated more (bool_at b) (bool_at (b ++ more))
 bool_extends [] more = λ ne. absurd (ne refl)

@@ -68,7 +68,7 @@ step_next r t (Def.Variant arms) s e h =
 step_next r t (Def.Sequence u) s e h =
     let below = sequence_next (is_finite r u.0) (is_empty r u.0) u.0 (empty_finite r u.0) in
     rw (h, e) (class_next (is_finite r t) (is_empty r t) step.NoValue
-        (sequence_step (class_of r u.0) u.0) (sequence_form (is_empty r u.0)) refl below)
+    (sequence_step (class_of r u.0) u.0) (sequence_form (is_empty r u.0)) refl below)
 step_next r t (Def.Array n u) s e h =
     rw (h, e) (class_next (is_finite r t) (is_empty r t) step.NoValue (step.Array n u.0)
     (next.Wants (form.Array n)) refl refl)

@@ -1,8 +1,5 @@
 -- A value that is not whole yet, and the bytes that its nodes came from.
-use Rattle.std.specs.Prelude.{
-    ◌≡◌, ℕ, zero, suc, ◌+◌, ◌<◌, ◌≤◌, max, ◌⊎◌, List, [], ◌∷◌, ◌++◌, Option, Some, None, Bool, true,
-    false
-}
+use Rattle.std.specs.Prelude.{◌≡◌, ℕ, zero, suc, ◌+◌, ◌<◌, ◌≤◌, max, ◌⊎◌, List, [], ◌∷◌, ◌++◌, Option, Some, None, Bool, true, false}
 use Rattle.scale_core.specs.Compact.{IsCompact}
 use Rattle.scale_core.specs.declared.compact.Target.TheVariants as target
 use Rattle.registry_core.specs.declared.definition.Arm.{Arm}
@@ -12,9 +9,7 @@ use Rattle.widths_core.specs.Arms.{arm_of}
 use Rattle.widths_core.specs.Classes.{is_finite}
 use Rattle.widths_core.specs.Layouts.{layout}
 use Rattle.widths_core.specs.Layouts as layout
-use Rattle.grammar_core.specs.Tree.{
-    Tree, Trees, how_many, nodes, all_nodes, text_bytes, all_text_bytes, levels, most_levels
-}
+use Rattle.grammar_core.specs.Tree.{Tree, Trees, how_many, nodes, all_nodes, text_bytes, all_text_bytes, levels, most_levels}
 use Rattle.grammar_core.specs.Grammar.{Val, Vals, Each}
 use Rattle.grammar_core.specs.Preorder as head
 use Rattle.grammar_core.specs.Tree as tree
@@ -51,12 +46,12 @@ Grows r (suc room) t (in_arm q vs g) b next = (arms : List Arm) × (i : ℕ) × 
     × (layout r t ≡ layout.arms arms) × (arm_of arms i ≡ Some (q, a))
     × (field_types a.fields ≡ front ++ u ∷ back)
     × (b ≡ i ∷ (b1 ++ b2)) × Vals r front vs b1 × (most_levels vs ≤ room) × IsPart g
-        × Grows r room u g b2 next
+    × Grows r room u g b2 next
 Grows r (suc room) t (in_list n vs g) b next = (u : ℕ) × (c b1 b2 : List ℕ) × (is_finite r t ≡ true)
     × (((layout r t ≡ layout.array n u) × (c ≡ []))
     ⊎ ((layout r t ≡ layout.sequence u) × IsCompact target.U32 n c))
     × (b ≡ c ++ (b1 ++ b2)) × (how_many vs < n) × Each r u vs b1 × (most_levels vs ≤ room)
-        × IsPart g × Grows r room u g b2 next
+    × IsPart g × Grows r room u g b2 next
 
 -- the nodes that are there, in preorder: a node that is begun with how many children it is to have
 abbrev pub IsBegunPreorder : Begun → List Head → Type 0

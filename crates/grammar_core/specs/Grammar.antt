@@ -11,10 +11,7 @@ use Rattle.graph_core.specs.Types.{field_types}
 use Rattle.widths_core.specs.Arms.{arm_of}
 use Rattle.widths_core.specs.Layouts.{Layout, layout}
 use Rattle.widths_core.specs.Layouts as layout
-use Rattle.grammar_core.specs.Tree.{
-    Leaf, Tree, leaf, branch, unit, bool, char, text, unsigned, signed, wide, compact, fields, arm,
-    list, count, Trees, none, and, how_many
-}
+use Rattle.grammar_core.specs.Tree.{Leaf, Tree, leaf, branch, unit, bool, char, text, unsigned, signed, wide, compact, fields, arm, list, count, Trees, none, and, how_many}
 
 -- k bytes
 abbrev pub IsLong : ℕ → List ℕ → Type 0
@@ -46,7 +43,7 @@ unfoldable mutual
   Val r t (branch list vs) b =
       ((n u : ℕ) × (layout r t ≡ layout.array n u) × (how_many vs ≡ n) × Each r u vs b)
       ⊎ ((u : ℕ) × (c rest : List ℕ) × (layout r t ≡ layout.sequence u)
-          × IsCompact target.U32 (how_many vs) c × (b ≡ c ++ rest) × Each r u vs rest)
+      × IsCompact target.U32 (how_many vs) c × (b ≡ c ++ rest) × Each r u vs rest)
 
   -- values of these types, one behind the other
   pub Vals : List TypeInfo → List ℕ → Trees → List ℕ → Type 0

@@ -1,8 +1,5 @@
 -- What holds of every value and its bytes.
-use Rattle.std.specs.Prelude.{
-    ◌≡◌, ◌≢◌, ℕ, ◌+◌, ◌*◌, ◌≤◌, List, [], ◌++◌, length, Ok, Err, ◌⊎◌, ◌∷◌, ◌<◌, Option, Some, None,
-    true, false
-}
+use Rattle.std.specs.Prelude.{◌≡◌, ◌≢◌, ℕ, ◌+◌, ◌*◌, ◌≤◌, List, [], ◌++◌, length, Ok, Err, ◌⊎◌, ◌∷◌, ◌<◌, Option, Some, None, true, false}
 use Rattle.scale_core.specs.Number.{AreBytes}
 use Rattle.registry_core.specs.declared.type_info.TypeInfo.{TypeInfo}
 use Rattle.registry_core.specs.Fits.{FitsText, FitsRegistry}
@@ -10,10 +7,7 @@ use Rattle.graph_core.specs.Widths.{widest}
 use Rattle.widths_core.specs.Reach.{IsPlain}
 use Rattle.widths_core.specs.Classes.{IsFinite, IsEmpty, class_of}
 use Rattle.widths_core.specs.declared.class.Class.TheVariants as class
-use Rattle.grammar_core.specs.Tree.{
-    Leaf, Tree, leaf, branch, unit, text, Trees, none, and, levels, nodes, text_bytes, how_many,
-    most_levels
-}
+use Rattle.grammar_core.specs.Tree.{Leaf, Tree, leaf, branch, unit, text, Trees, none, and, levels, nodes, text_bytes, how_many, most_levels}
 use Rattle.grammar_core.specs.Grammar.{Val, Vals, Each}
 use Rattle.grammar_core.specs.Begun.{Begun, Grows, begun_levels, begun_depth, is_whole_tree}
 use Rattle.grammar_core.specs.Reading.{value_at, all_at, times_at, Refusal, truncated}
@@ -51,7 +45,7 @@ OneSpelling = (r : List TypeInfo) (t : ℕ) (v : Tree) (a b : List ℕ) → AreB
 abbrev pub ValueOrFault : Type 0
 ValueOrFault = (r : List TypeInfo) (room t : ℕ) (input : List ℕ) →
     ((v : Tree) × (rest : List ℕ) × Stands r room t input v rest)
-        ⊎ ((reason : Refusal) × (left : List ℕ) × Fails r room t input reason left)
+    ⊎ ((reason : Refusal) × (left : List ℕ) × Fails r room t input reason left)
 
 -- and not both
 abbrev pub ValueOrFaultNotBoth : Type 0
@@ -123,13 +117,13 @@ NextElementFails r room n t input reason left = (vs : Trees) × (b1 b2 : List �
 abbrev pub PartsFail : Type 0
 PartsFail = (r : List TypeInfo) (room : ℕ) (input : List ℕ) (reason : Refusal) (left : List ℕ) →
     ((ts : List ℕ) → (all_at (value_at r room) ts input ≡ Err (reason, left) →
-        NextPartFails r room ts input reason left)
-        × (NextPartFails r room ts input reason left →
-        all_at (value_at r room) ts input ≡ Err (reason, left)))
+    NextPartFails r room ts input reason left)
+    × (NextPartFails r room ts input reason left →
+    all_at (value_at r room) ts input ≡ Err (reason, left)))
     × ((n t : ℕ) → (times_at (value_at r room) n t input ≡ Err (reason, left) →
-        NextElementFails r room n t input reason left)
-        × (NextElementFails r room n t input reason left →
-        times_at (value_at r room) n t input ≡ Err (reason, left)))
+    NextElementFails r room n t input reason left)
+    × (NextElementFails r room n t input reason left →
+    times_at (value_at r room) n t input ≡ Err (reason, left)))
 
 -- the levels of a begun tree fit, what is missing first is as deep as the room that is left there
 -- says, and it is a value
@@ -138,4 +132,4 @@ abbrev pub BegunTreesFit : Type 0
 BegunTreesFit = (r : List TypeInfo) (room t : ℕ) (g : Begun) (b : List ℕ) (next : Option (ℕ × ℕ)) →
     Grows r room t g b next →
     (begun_levels g ≤ room) × ((left u : ℕ) → next ≡ Some (left, u) → (is_whole_tree g ≡ false)
-        × (left + begun_depth g ≡ room)) × (next ≡ None → is_whole_tree g ≡ true)
+    × (left + begun_depth g ≡ room)) × (next ≡ None → is_whole_tree g ≡ true)

@@ -1,15 +1,10 @@
 -- A tree as the list of its nodes in preorder, each with how many children it has.
-use Rattle.std.specs.Prelude.{
-    ◌≡◌, ℕ, zero, suc, ◌≤◌, ℤ, pos, List, [], ◌∷◌, ◌++◌, length, Bool, true, false, refl,
-    if◌then◌else◌, ◌==◌
-}
+use Rattle.std.specs.Prelude.{◌≡◌, ℕ, zero, suc, ◌≤◌, ℤ, pos, List, [], ◌∷◌, ◌++◌, length, Bool, true, false, refl, if◌then◌else◌, ◌==◌}
 use Rattle.std.specs.Coded.{Coded, code_by, coded×, coded_ℕ, coded_ℤ, coded_list}
 use Rattle.std.proofs.Common.{arith, append_assoc, ap, sym, ◌∙◌, length-append}
 use Rattle.std.proofs.lemmas.List.{append-nil}
 use Rattle.grammar_core.specs.Tree as tree
-use Rattle.grammar_core.specs.Tree.{
-    Leaf, Branch, Tree, Trees, none, and, how_many, levels, most_levels
-}
+use Rattle.grammar_core.specs.Tree.{Leaf, Branch, Tree, Trees, none, and, how_many, levels, most_levels}
 
 -- a node by itself: what it is, and how many children it has or is to have
 pub data Head : Type 0 where
@@ -81,8 +76,11 @@ mutual
       many (grow k) (how_many vs) (all_preorder vs ++ rest) ≡ (vs, rest)
   many-preorder none k rest h = refl
   many-preorder (and v vs) k rest h =
-      rw (append_assoc, grow-preorder v k (all_preorder vs ++ rest) (omega arith),
-      many-preorder vs k rest (omega arith)) refl
+      rw (
+        append_assoc,
+        grow-preorder v k (all_preorder vs ++ rest) (omega arith),
+        many-preorder vs k rest (omega arith),
+      ) refl
 
 pub tree_of-preorder : (v : Tree) → tree_of (preorder v) ≡ v
 tree_of-preorder v = ap (λ (hs : List Head). (grow (length (preorder v)) hs).0)

@@ -1,15 +1,9 @@
 -- The first reference to no position.
-use Rattle.std.proofs.Common.{
-    ◌≡◌, ℕ, ◌+◌, ◌<◌, ◌≤◌, Bool, true, false, cond, List, [], ◌∷◌, ◌++◌, length, Option, Some, None,
-    refl, ap, ◌∙◌, arith
-}
+use Rattle.std.proofs.Common.{◌≡◌, ℕ, ◌+◌, ◌<◌, ◌≤◌, Bool, true, false, cond, List, [], ◌∷◌, ◌++◌, length, Option, Some, None, refl, ap, ◌∙◌, arith}
 use Rattle.std.specs.Prelude.{nat_lt}
 use Rattle.std.proofs.lemmas.Bool.{ltb-true, ltb-false, lt-ltb, le-ltb}
 use Rattle.registry_core.specs.declared.type_info.TypeInfo.{TypeInfo}
-use Rattle.graph_core.specs.References.{
-    references, AreKnown, AreChecked, IsFirstUnknown, first_unknown, fault_or, unknown_from,
-    first_fault, FaultIsFirst
-}
+use Rattle.graph_core.specs.References.{references, AreKnown, AreChecked, IsFirstUnknown, first_unknown, fault_or, unknown_from, first_fault, FaultIsFirst}
 
 known_none : (n : ℕ) (ts : List ℕ) → AreKnown n ts → first_unknown n ts ≡ None
 known_none n [] h = refl
@@ -50,11 +44,11 @@ none_checked : (n j : ℕ) (r : List TypeInfo) → unknown_from n j r ≡ None �
 none_checked n j [] e = tt
 none_checked n j (x ∷ r) e =
     go (first_unknown n (references x.shape)) refl e (none_checked n (j + 1) r) where
-  go : (o : Option ℕ) → first_unknown n (references x.shape) ≡ o →
-      fault_or j o (unknown_from n (j + 1) r) ≡ None →
-      (unknown_from n (j + 1) r ≡ None → AreChecked n r) → AreChecked n (x ∷ r)
-  go (Some u) f g h = absurd cc
-  go None f g h = (none_known n (references x.shape) f, h g)
+      go : (o : Option ℕ) → first_unknown n (references x.shape) ≡ o →
+          fault_or j o (unknown_from n (j + 1) r) ≡ None →
+          (unknown_from n (j + 1) r ≡ None → AreChecked n r) → AreChecked n (x ∷ r)
+      go (Some u) f g h = absurd cc
+      go None f g h = (none_known n (references x.shape) f, h g)
 
 abbrev First : ℕ → ℕ → List TypeInfo → ℕ → ℕ → Type 0
 First n j r i u = (before : List TypeInfo) × (x : TypeInfo) × (after : List TypeInfo)
@@ -72,17 +66,27 @@ some_first : (n j : ℕ) (r : List TypeInfo) (i u : ℕ) → unknown_from n j r 
 some_first n j [] i u e = absurd cc
 some_first n j (x ∷ r) i u e =
     go (first_unknown n (references x.shape)) refl e (some_first n (j + 1) r i u) where
-  go : (o : Option ℕ) → first_unknown n (references x.shape) ≡ o →
-      fault_or j o (unknown_from n (j + 1) r) ≡ Some (i, u) →
-      (unknown_from n (j + 1) r ≡ Some (i, u) → First n (j + 1) r i u) → First n j (x ∷ r) i u
-  go (Some v) f g h =
-      let same = some_is (j, v) (i, u) g in
-      let s = some_split n (references x.shape) u (f ∙ ap (λ (p : ℕ × ℕ). Some p.1) same) in
-      ([], x, r, s.0, s.1, refl, omega (arith, ap (λ (p : ℕ × ℕ). p.0) same), s.2, tt, s.3, s.4)
-  go None f g h =
-      let s = h g in
-      (x ∷ s.0, s.1, s.2, s.3, s.4, ap (λ (y : List TypeInfo). x ∷ y) s.5, omega (arith, s.6), s.7,
-          (none_known n (references x.shape) f, s.8), s.9, s.10)
+      go : (o : Option ℕ) → first_unknown n (references x.shape) ≡ o →
+          fault_or j o (unknown_from n (j + 1) r) ≡ Some (i, u) →
+          (unknown_from n (j + 1) r ≡ Some (i, u) → First n (j + 1) r i u) → First n j (x ∷ r) i u
+      go (Some v) f g h =
+          let same = some_is (j, v) (i, u) g in
+          let s = some_split n (references x.shape) u (f ∙ ap (λ (p : ℕ × ℕ). Some p.1) same) in
+          ([], x, r, s.0, s.1, refl, omega (arith, ap (λ (p : ℕ × ℕ). p.0) same), s.2, tt, s.3, s.4)
+      go None f g h =
+          let s = h g in (
+            x ∷ s.0,
+            s.1,
+            s.2,
+            s.3,
+            s.4,
+            ap (λ (y : List TypeInfo). x ∷ y) s.5,
+            omega (arith, s.6),
+            s.7,
+            (none_known n (references x.shape) f, s.8),
+            s.9,
+            s.10,
+          )
 
 first_some : (n j : ℕ) (before : List TypeInfo) (x : TypeInfo) (after : List TypeInfo)
     (front back : List ℕ) (u : ℕ) → references x.shape ≡ front ++ u ∷ back → AreChecked n before →
@@ -95,8 +99,11 @@ first_some n j (y ∷ before) x after front back u e h k le =
     ∙ ap (λ (i : ℕ). found (i, u)) (omega arith))
 
 pub fault_is_first : FaultIsFirst
-fault_is_first r = (none_checked (length r) 0 r, checked_none (length r) 0 r,
-    λ i u. (forth i u, back i u)) where
+fault_is_first r = (
+  none_checked (length r) 0 r,
+  checked_none (length r) 0 r,
+  λ i u. (forth i u, back i u),
+) where
   forth : (i u : ℕ) → first_fault r ≡ Some (i, u) → IsFirstUnknown r i u
   forth i u e = let s = some_first (length r) 0 r i u e in
       (s.0, s.1, s.2, s.3, s.4, s.5, omega (arith, s.6), s.7, s.8, s.9, s.10)

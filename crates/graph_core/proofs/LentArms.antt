@@ -1,8 +1,5 @@
 -- What loops over lent arms and types keep.
-use Rattle.std.proofs.Common.{
-    ◌≡◌, ℕ, zero, suc, ◌+◌, ◌<◌, ◌^◌, max, true, false, List, [], ◌∷◌, ◌++◌, length, map, get_or,
-    drop, flat_map, Option, Some, None, refl, sym, ap, ◌∙◌, arith
-}
+use Rattle.std.proofs.Common.{◌≡◌, ℕ, zero, suc, ◌+◌, ◌<◌, ◌^◌, max, true, false, List, [], ◌∷◌, ◌++◌, length, map, get_or, drop, flat_map, Option, Some, None, refl, sym, ap, ◌∙◌, arith}
 use Rattle.std.specs.Prelude.{is_some}
 use Rattle.std.specs.List.{AllByRecursion}
 use Rattle.std.proofs.lemmas.List.{at_drop_more, length-append, length-map}
@@ -34,15 +31,21 @@ pub count_passed : (n total i : ℕ) (arms : List Arm) (a : Arm) → i < length 
 count_passed n total i arms a lt at h =
     let rest = flat_map (λ (x : Arm). field_types x.fields) (drop (i + 1) arms) in
     let one : length (flat_map (λ (x : Arm). field_types x.fields) (drop i arms))
-        ≡ length (flat_map (λ (x : Arm). field_types x.fields)
-        (get_or arms i a ∷ drop (i + 1) arms)) =
-        at_drop_more (λ (xs : List Arm). length (flat_map (λ (x : Arm). field_types x.fields) xs))
-        arms i a lt in
+    ≡ length (flat_map (λ (x : Arm). field_types x.fields)
+    (get_or arms i a ∷ drop (i + 1) arms)) =
+    at_drop_more (λ (xs : List Arm). length (flat_map (λ (x : Arm). field_types x.fields) xs))
+    arms i a lt in
     let two : length (flat_map (λ (x : Arm). field_types x.fields)
-        (get_or arms i a ∷ drop (i + 1) arms)) ≡ length (field_types a.fields ++ rest) =
-        ap (λ (b : Arm). length (field_types b.fields ++ rest)) (sym at) in
-    omega (arith, h, one, two, length-append (field_types a.fields) rest,
-        length-map a.fields (λ (f : Field). f.ty.0))
+    (get_or arms i a ∷ drop (i + 1) arms)) ≡ length (field_types a.fields ++ rest) =
+    ap (λ (b : Arm). length (field_types b.fields ++ rest)) (sym at) in
+    omega (
+      arith,
+      h,
+      one,
+      two,
+      length-append (field_types a.fields) rest,
+      length-map a.fields (λ (f : Field). f.ty.0),
+    )
 
 pub width_passed : (w total i : ℕ) (arms : List Arm) (a : Arm) → i < length arms →
     a ≡ get_or arms i a → max w (greatest (map (λ x. length x.fields) (drop i arms))) ≡ total →
@@ -51,11 +54,11 @@ pub width_passed : (w total i : ℕ) (arms : List Arm) (a : Arm) → i < length 
 width_passed w total i arms a lt at h =
     let rest = greatest (map (λ (x : Arm). length x.fields) (drop (i + 1) arms)) in
     let one : greatest (map (λ (x : Arm). length x.fields) (drop i arms))
-        ≡ greatest (map (λ (x : Arm). length x.fields) (get_or arms i a ∷ drop (i + 1) arms)) =
-        at_drop_more (λ (xs : List Arm). greatest (map (λ (x : Arm). length x.fields) xs)) arms i a
-        lt in
+    ≡ greatest (map (λ (x : Arm). length x.fields) (get_or arms i a ∷ drop (i + 1) arms)) =
+    at_drop_more (λ (xs : List Arm). greatest (map (λ (x : Arm). length x.fields) xs)) arms i a
+    lt in
     let two : greatest (map (λ (x : Arm). length x.fields) (get_or arms i a ∷ drop (i + 1) arms))
-        ≡ max (length a.fields) rest = ap (λ (b : Arm). max (length b.fields) rest) (sym at) in
+    ≡ max (length a.fields) rest = ap (λ (b : Arm). max (length b.fields) rest) (sym at) in
     let so_far : max w (max (length a.fields) rest) ≡ total = rw (one ∙ two) at h in
     omega (arith, so_far)
 
@@ -94,6 +97,6 @@ pub type_lacks : (n i : ℕ) (r : List TypeInfo) (d : TypeDef) (total : Option (
 type_lacks n i r d total e is h =
     let step : i + 1 ≡ suc i = omega arith in
     let next : unknown_from n (i + 1) (drop (suc i) r) ≡ total =
-        ap (λ (o : Option ℕ). fault_or i o (unknown_from n (i + 1) (drop (suc i) r))) is
-        ∙ sym (from_shape n i i r d e) ∙ h in
+    ap (λ (o : Option ℕ). fault_or i o (unknown_from n (i + 1) (drop (suc i) r))) is
+    ∙ sym (from_shape n i i r d e) ∙ h in
     ap (λ (j : ℕ). unknown_from n (i + 1) (drop j r)) step ∙ next

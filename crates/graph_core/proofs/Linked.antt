@@ -1,22 +1,14 @@
 -- Lists of the references to each type, as references are read.
-use Rattle.std.proofs.Common.{
-    ◌≡◌, ◌≢◌, ℕ, ◌+◌, ◌<◌, ◌≤◌, ◌^◌, List, [], ◌∷◌, ◌++◌, length, map, reverse, get_or, set, take,
-    refl, sym, ap, ◌∙◌, arith, inl, inr
-}
+use Rattle.std.proofs.Common.{◌≡◌, ◌≢◌, ℕ, ◌+◌, ◌<◌, ◌≤◌, ◌^◌, List, [], ◌∷◌, ◌++◌, length, map, reverse, get_or, set, take, refl, sym, ap, ◌∙◌, arith, inl, inr}
 use Rattle.std.proofs.lemmas.Bool.{cases_lt, cases_eq}
-use Rattle.std.proofs.lemmas.List.{
-    append_assoc, append-nil, map-append, length-map, length-set, length_push, get_or_append_left,
-    get_or_push, get_or-map, get_or-set_same, get_or-set_other, take_more, reverse-append
-}
+use Rattle.std.proofs.lemmas.List.{append_assoc, append-nil, map-append, length-map, length-set, length_push, get_or_append_left, get_or_push, get_or-map, get_or-set_same, get_or-set_other, take_more, reverse-append}
 use Rattle.registry_core.specs.declared.definition.Field.{Field}
 use Rattle.registry_core.specs.declared.type_id.TypeId.{TypeId}
 use Rattle.graph_core.specs.Types.{ids, field_types}
 use Rattle.graph_core.specs.declared.graph.Graph.{Graph}
 use Rattle.graph_core.specs.declared.graph.Link.{Link}
 use Rattle.graph_core.specs.References.{AreKnown}
-use Rattle.graph_core.specs.Graphs.{
-    refs, numbers, befores, IsLast, IsLinked, ReadsReferences, IsOpened
-}
+use Rattle.graph_core.specs.Graphs.{refs, numbers, befores, IsLast, IsLinked, ReadsReferences, IsOpened}
 
 -- ---- the last reference to a type
 
@@ -86,8 +78,12 @@ linked_more a b v c h lt small types read links members newest =
           IsLast (refs a ++ v ∷ []) (length (refs a) + 1) u
           (get_or (set a.newest.items v (length a.links.items + 1)) u 0)
       heads u within = elim (cases_eq u v) [
-        | inl same ↦ rw (same, get_or-set_same a.newest.items v (length a.links.items + 1) 0
-            (omega (arith, h.heads, lt)), h.links) (last_same (refs a) v)
+        | inl same ↦ rw (
+          same,
+          get_or-set_same a.newest.items v (length a.links.items + 1) 0
+              (omega (arith, h.heads, lt)),
+          h.links,
+        ) (last_same (refs a) v)
         | inr other ↦ rw (get_or-set_other a.newest.items v u (length a.links.items + 1) 0 other)
             (last_other (refs a) v u (get_or a.newest.items u 0) (λ is. other (sym is))
             (h.newest u within))
@@ -97,20 +93,27 @@ linked_more a b v c h lt small types read links members newest =
           IsLast (refs a ++ v ∷ []) e (get_or (refs a ++ v ∷ []) e 0) (get_or (befores b) e 0)
       before e within =
           let all : befores b ≡ befores a ++ get_or a.newest.items v 0 ∷ [] =
-              ap (λ (ls : List Link). map (λ l. l.before) ls) links
-              ∙ map-append (λ (l : Link). l.before) a.links.items (link a v c ∷ []) in
+          ap (λ (ls : List Link). map (λ l. l.before) ls) links
+          ∙ map-append (λ (l : Link). l.before) a.links.items (link a v c ∷ []) in
           let count : length (befores a) ≡ length (refs a) =
-              length-map a.links.items (λ (l : Link). l.before) ∙ h.links in
+          length-map a.links.items (λ (l : Link). l.before) ∙ h.links in
           elim (cases_lt e (length (refs a))) [
             | inl below ↦ let below' : e < length (befores a) = omega (arith, count, below) in
-                rw (all, get_or_append_left (befores a) (get_or a.newest.items v 0 ∷ []) 0 e below',
-                get_or_append_left (refs a) (v ∷ []) 0 e below)
+                rw (
+                  all,
+                  get_or_append_left (befores a) (get_or a.newest.items v 0 ∷ []) 0 e below',
+                  get_or_append_left (refs a) (v ∷ []) 0 e below,
+                )
                 (last_kept (refs a) v e (get_or (refs a) e 0) (get_or (befores a) e 0)
                 (omega (arith, below)) (h.before e below))
             | inr ge ↦ let last : e ≡ length (refs a) = omega arith in
-                rw (all, get_or_push (befores a) (get_or a.newest.items v 0) 0 e
-                (omega (arith, count, last)), get_or_push (refs a) v 0 e (omega (arith, last)),
-                last) (last_kept (refs a) v (length (refs a)) v (get_or a.newest.items v 0)
+                rw (
+                  all,
+                  get_or_push (befores a) (get_or a.newest.items v 0) 0 e
+                      (omega (arith, count, last)),
+                  get_or_push (refs a) v 0 e (omega (arith, last)),
+                  last,
+                ) (last_kept (refs a) v (length (refs a)) v (get_or a.newest.items v 0)
                 (omega arith) (h.newest v lt))
           ]
 
@@ -134,8 +137,15 @@ read_one a b v c h lt small types read links members newest opened listed = reco
 -- ---- reading on
 
 pub reads_none : (a : Graph) → IsLinked a → ReadsReferences a a [] []
-reads_none a h = record { linked = h; types = refl; read = sym (append-nil (refs a)); counted =
-    sym (append-nil (numbers a)); opened = refl; listed = refl }
+reads_none a h = record {
+  linked = h;
+  types = refl;
+  read = sym (append-nil (refs a));
+  counted =
+      sym (append-nil (numbers a));
+  opened = refl;
+  listed = refl;
+}
 
 pub reads_on : (a b c : Graph) (xs ys ks ls : List ℕ) → ReadsReferences a b xs ks →
     ReadsReferences b c ys ls → ReadsReferences a c (xs ++ ys) (ks ++ ls)
@@ -157,9 +167,9 @@ pub parts_more : (a b c : Graph) (s i : ℕ) (ps : List ℕ) (p : ℕ) → i < l
     ReadsParts a c s (i + 1) ps
 parts_more a b c s i ps p lt is h k =
     let more : take (i + 1) ps ≡ take i ps ++ p ∷ [] = take_more ps i 0 lt
-        ∙ ap (λ (q : ℕ). take i ps ++ q ∷ []) (sym is) in
+    ∙ ap (λ (q : ℕ). take i ps ++ q ∷ []) (sym is) in
     let counted : map (λ _. s) (take i ps ++ p ∷ []) ≡ map (λ _. s) (take i ps) ++ s ∷ [] =
-        map-append (λ (q : ℕ). s) (take i ps) (p ∷ []) in
+    map-append (λ (q : ℕ). s) (take i ps) (p ∷ []) in
     rw (more, counted) (reads_on a b c (take i ps) (p ∷ []) (map (λ _. s) (take i ps)) (s ∷ []) h k)
 
 pub field_at : (fs : List Field) (i : ℕ) (x : Field) → i < length fs → x ≡ get_or fs i x →

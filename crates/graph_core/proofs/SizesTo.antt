@@ -1,8 +1,5 @@
 -- The references and arms of the types that were passed.
-use Rattle.std.proofs.Common.{
-    ◌≡◌, ℕ, zero, suc, ◌+◌, ◌≤◌, Bool, true, false, cond, List, [], ◌∷◌, length, take, flat_map,
-    Some, refl, sym, ap, ◌∙◌, arith
-}
+use Rattle.std.proofs.Common.{◌≡◌, ℕ, zero, suc, ◌+◌, ◌≤◌, Bool, true, false, cond, List, [], ◌∷◌, length, take, flat_map, Some, refl, sym, ap, ◌∙◌, arith}
 use Rattle.std.specs.Prelude.{◌==◌}
 use Rattle.std.proofs.lemmas.Bool.{eqb-true}
 use Rattle.std.proofs.lemmas.List.{length-append, take_all}
@@ -33,9 +30,11 @@ references_more (x ∷ r) zero d e =
     rw (length-append (references x.shape) [], is) (omega arith)
 references_more (x ∷ r) (suc i) d e =
     let more = references_more r i d e in
-    rw (length-append (references x.shape) (flat_map (λ y. references y.shape) (take (suc i) r)),
-        length-append (references x.shape) (flat_map (λ y. references y.shape) (take i r)))
-        (omega (arith, more))
+    rw (
+      length-append (references x.shape) (flat_map (λ y. references y.shape) (take (suc i) r)),
+      length-append (references x.shape) (flat_map (λ y. references y.shape) (take i r)),
+    )
+    (omega (arith, more))
 
 arms_more : (r : List TypeInfo) (i : ℕ) (d : TypeDef) → shape r i ≡ Some d →
     arm_counts (take (suc i) r) ≡ arm_counts (take i r) + arm_count d

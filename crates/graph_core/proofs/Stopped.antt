@@ -1,8 +1,5 @@
 -- Where the reading of references stops: the first that is no position.
-use Rattle.std.proofs.Common.{
-    ◌≡◌, ℕ, ◌+◌, ◌<◌, ◌≤◌, List, [], ◌∷◌, ◌++◌, length, get_or, take, drop, Result, Ok, Err, refl,
-    sym, ap, subst, ◌∙◌
-}
+use Rattle.std.proofs.Common.{◌≡◌, ℕ, ◌+◌, ◌<◌, ◌≤◌, List, [], ◌∷◌, ◌++◌, length, get_or, take, drop, Result, Ok, Err, refl, sym, ap, subst, ◌∙◌}
 use Rattle.std.specs.Prelude.{IfErr}
 use Rattle.std.specs.Result.{IsErrAnd}
 use Rattle.std.specs.List.{AllByRecursion}
@@ -28,8 +25,18 @@ pub stops_one : (a b : Graph) (u : ℕ) → length a.types.now ≤ u →
     b.looks.opened.entries ≡ a.looks.opened.entries →
     b.looks.listed.entries ≡ a.looks.listed.entries → StopsAt (u ∷ []) a b u
 stops_one a b u past read types opened listed =
-    record { front = []; back = []; tos_are = refl; known = tt; unknown = past; read =
-    refs_more a b u read; types = types; opened = opened; listed = listed }
+    record {
+      front = [];
+      back = [];
+      tos_are = refl;
+      known = tt;
+      unknown = past;
+      read =
+          refs_more a b u read;
+      types = types;
+      opened = opened;
+      listed = listed;
+    }
 
 -- ---- references one behind the other
 
@@ -49,7 +56,7 @@ read_known : (a b : Graph) (xs ks : List ℕ) → ReadsReferences a b xs ks →
     AreKnown (length a.types.now) xs
 read_known a b xs ks h =
     let known : AreKnown (length a.types.now) (refs a ++ xs) =
-        rw (h.types, h.read) at h.linked.known in
+    rw (h.types, h.read) at h.linked.known in
     (all_front (λ t. t < length a.types.now) (refs a) xs known).1
 
 stops_behind : (xs ys zs tos ks : List ℕ) (a b c : Graph) (u : ℕ) → tos ≡ xs ++ (ys ++ zs) →
@@ -83,7 +90,7 @@ pub stops_parts : (a b c : Graph) (s i : ℕ) (ps : List ℕ) (p : ℕ) (o : Sto
     StopsLinking (ps ++ []) a c o
 stops_parts a b c s i ps p o lt is h k =
     let rest : drop i ps ≡ p ∷ drop (i + 1) ps = drop_more ps i 0 lt
-        ∙ ap (λ (q : ℕ). q ∷ drop (i + 1) ps) (sym is) in
+    ∙ ap (λ (q : ℕ). q ∷ drop (i + 1) ps) (sym is) in
     let all : ps ++ [] ≡ take i ps ++ ((p ∷ []) ++ drop (i + 1) ps) = append-nil ps
-        ∙ sym (take-append-drop i ps) ∙ ap (λ (ws : List ℕ). take i ps ++ ws) rest in
+    ∙ sym (take-append-drop i ps) ∙ ap (λ (ws : List ℕ). take i ps ++ ws) rest in
     stops_after (take i ps) (p ∷ []) (drop (i + 1) ps) (ps ++ []) _ a b c o all h k

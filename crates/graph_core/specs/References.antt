@@ -1,8 +1,5 @@
 -- Which references have to be positions, and the first that is none.
-use Rattle.std.specs.Prelude.{
-    ◌≡◌, ℕ, ◌+◌, ◌<◌, ◌≤◌, List, [], ◌∷◌, ◌++◌, length, flat_map, Option, Some, None, nat_lt,
-    if◌then◌else◌
-}
+use Rattle.std.specs.Prelude.{◌≡◌, ℕ, ◌+◌, ◌<◌, ◌≤◌, List, [], ◌∷◌, ◌++◌, length, flat_map, Option, Some, None, nat_lt, if◌then◌else◌}
 use Rattle.std.specs.List.{AllByRecursion}
 use Rattle.registry_core.specs.declared.definition.TypeDef.{TypeDef}
 use Rattle.registry_core.specs.declared.definition.TypeDef.TheVariants as Def
@@ -68,4 +65,4 @@ abbrev pub FaultIsFirst : Type 0
 FaultIsFirst = (r : List TypeInfo) → (first_fault r ≡ None → IsChecked r)
     × (IsChecked r → first_fault r ≡ None)
     × ((i u : ℕ) → (first_fault r ≡ Some (i, u) → IsFirstUnknown r i u)
-        × (IsFirstUnknown r i u → first_fault r ≡ Some (i, u)))
+    × (IsFirstUnknown r i u → first_fault r ≡ Some (i, u)))

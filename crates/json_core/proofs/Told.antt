@@ -1,9 +1,6 @@
 -- A node of a value, by what it is: the JSON that its definition and its children give is that of
 -- the value.
-use Rattle.std.proofs.Common.{
-    ◌≡◌, ℕ, ◌-◌, ◌*◌, ◌^◌, ◌<◌, ◌≤◌, ◌⊎◌, Bool, true, false, cond, List, length, Option, Some, None,
-    refl, sym, ap, subst, ◌∙◌, arith, inl, inr, true≢false, Bor, Result, option_map
-}
+use Rattle.std.proofs.Common.{◌≡◌, ℕ, ◌-◌, ◌*◌, ◌^◌, ◌<◌, ◌≤◌, ◌⊎◌, Bool, true, false, cond, List, length, Option, Some, None, refl, sym, ap, subst, ◌∙◌, arith, inl, inr, true≢false, Bor, Result, option_map}
 use Rattle.std.specs.Option.{IsSome}
 use Rattle.std.specs.Result.{IfOk}
 use Rattle.std.proofs.lemmas.Bool.{ltb-true, ltb-false}
@@ -30,9 +27,7 @@ use Rattle.graph_core.specs.Types.{shape, field_types}
 use Rattle.widths_core.specs.Arms.{arm_of}
 use Rattle.widths_core.specs.Classes.{is_empty}
 use Rattle.widths_core.specs.Targets.{target_of, compact_target_of, compact_target_of_shape}
-use Rattle.widths_core.specs.Layouts.{
-    Layout, layout, layout_of_shape, sized_layout, kind_layout, sequence_layout, compact_layout
-}
+use Rattle.widths_core.specs.Layouts.{Layout, layout, layout_of_shape, sized_layout, kind_layout, sequence_layout, compact_layout}
 use Rattle.widths_core.specs.Layouts as layout
 use Rattle.grammar_core.specs.Tree.{Tree, Trees, how_many}
 use Rattle.grammar_core.specs.Tree as tree
@@ -44,14 +39,8 @@ use Rattle.value_core.specs.Whats.{what_of}
 use Rattle.value_core.specs.declared.what.What.{What}
 use Rattle.value_core.specs.declared.what.What.TheVariants as what
 use Rattle.value_core.proofs.Below.{arm_get, arm_part_is}
-use Rattle.json_core.specs.Defined.{
-    unsigned_by, signed_by, is_long_kind, is_long, is_long_target, defined_arm
-}
-use Rattle.json_core.specs.Json.{
-    json_of, json_seen, all_json, each_json, unsigned_json, signed_json, unsigned_of, signed_of,
-    wide_json, parts_json, fields_json, arm_json, arm_at_position, arm_types, part_types,
-    element_type
-}
+use Rattle.json_core.specs.Defined.{unsigned_by, signed_by, is_long_kind, is_long, is_long_target, defined_arm}
+use Rattle.json_core.specs.Json.{json_of, json_seen, all_json, each_json, unsigned_json, signed_json, unsigned_of, signed_of, wide_json, parts_json, fields_json, arm_json, arm_at_position, arm_types, part_types, element_type}
 use Rattle.json_core.proofs.Children.{jsons, all_is, each_is}
 
 -- ---- what the layout of a type says of its definition
@@ -209,7 +198,7 @@ unfolding json_of
 compact_told r t x m b e h =
     let is : compact_target_of r t ≡ Some m = defined_at r t (layout.plain (layout.compact m)) e in
     let long : Long (target_bytes m) (is_long_target (compact_target_of r t)) =
-        rw is (long_target m) in (
+    rw is (long_target m) in (
       λ s. omega (arith, compact_bound m x b h, short (target_bytes m) _ long s),
       ap (λ (f : Layout). unsigned_of f x) e ∙ unsigned_same (target_bytes m) x _ long,
     )
@@ -220,7 +209,7 @@ fields_told : (r : List TypeInfo) (t : ℕ) (ts : List ℕ) (vs : Trees) (b : Li
 unfolding json_of
 fields_told r t ts vs b e h =
     let parts : jsons (seen_parts r (fields_part (layout r t)) vs) ≡ all_json r ts vs =
-        ap (λ (f : Layout). jsons (seen_parts r (fields_part f) vs)) e ∙ all_is r ts vs b h in
+    ap (λ (f : Layout). jsons (seen_parts r (fields_part f) vs)) e ∙ all_is r ts vs b h in
     ap (parts_json (shape r t)) (ap (λ (f : Layout). all_json r (part_types f) vs) e ∙ sym parts)
 
 arm_told : (r : List TypeInfo) (t q i : ℕ) (arms : List Arm) (a : Arm) (vs : Trees) (b : List ℕ) →
@@ -230,11 +219,11 @@ unfolding json_of
 arm_told r t q i arms a vs b e f h =
     let got : slice_get arms q ≡ Some a = arm_get arms i q a f in
     let at : arm_at_position (layout r t) q ≡ Some a = ap (λ (g : Layout). arm_at_position g q) e
-        ∙ got in
+    ∙ got in
     let parts : jsons (seen_parts r (arm_part (layout r t) q) vs)
-        ≡ all_json r (field_types a.fields) vs =
-        ap (λ (p : Part). jsons (seen_parts r p vs)) (arm_part_is r t q arms i a e f)
-        ∙ all_is r (field_types a.fields) vs b h in (
+    ≡ all_json r (field_types a.fields) vs =
+    ap (λ (p : Part). jsons (seen_parts r p vs)) (arm_part_is r t q arms i a e f)
+    ∙ all_is r (field_types a.fields) vs b h in (
       a,
       ap (λ (d : Option TypeDef). defined_arm d q) (defined_at r t (layout.arms arms) e) ∙ got,
       ap (λ (o : Option Arm). arm_json o (all_json r (arm_types o) vs)) at
@@ -293,7 +282,7 @@ pub text_here : {E X : Type 0} (s : Seen) (found : Option (Bor (List ℕ))) (tex
     → IfOk made (λ v. seen v ≡ json.string text.now) → IfOk made (λ v. seen v ≡ json_seen s)
 text_here s found text made seen e f h g =
     let same : Some text.now ≡ Some h.0 = ap (option_map (λ (x : Bor (List ℕ)). x.now)) (sym f) ∙ e
-        ∙ h.1 in
+    ∙ h.1 in
     let is : text.now ≡ h.0 = cc in
     rw (h.2, ← is) g
 
@@ -311,11 +300,11 @@ pub arm_here : {E X : Type 0} (s : Seen) (q : ℕ) (types : List TypeInfo) (t : 
     found ≡ Some a
     → Told s.types s.ty s.tree (what.Arm q) → items ≡ jsons (children_of s)
     → IfOk made (λ v. seen v
-        ≡ json.object (member a.now.name (fields_json a.now.fields items) no_members)) →
-        IfOk made (λ v. seen v ≡ json_seen s)
+    ≡ json.object (member a.now.name (fields_json a.now.fields items) no_members)) →
+    IfOk made (λ v. seen v ≡ json_seen s)
 arm_here s q types t found a made seen items at e f h i g =
     let same : Some a.now ≡ Some h.0 = ap (option_map (λ (x : Bor Arm). x.now)) (sym f) ∙ e
-        ∙ ap (λ (r : List TypeInfo). defined_arm (shape r t) q) at.0
-        ∙ ap (λ (u : ℕ). defined_arm (shape s.types u) q) at.1 ∙ h.1 in
+    ∙ ap (λ (r : List TypeInfo). defined_arm (shape r t) q) at.0
+    ∙ ap (λ (u : ℕ). defined_arm (shape s.types u) q) at.1 ∙ h.1 in
     let is : a.now ≡ h.0 = cc in
     rw (h.2, ← is, ← i) g

@@ -1,8 +1,5 @@
 -- Each part of a registry is read as it is spelled.
-use Rattle.std.proofs.Common.{
-    ◌≡◌, ℕ, ◌+◌, ◌<◌, ◌≤◌, ◌^◌, List, [], ◌∷◌, ◌++◌, length, Option, Some, None, Ok, refl,
-    append_assoc, arith
-}
+use Rattle.std.proofs.Common.{◌≡◌, ℕ, ◌+◌, ◌<◌, ◌≤◌, ◌^◌, List, [], ◌∷◌, ◌++◌, length, Option, Some, None, Ok, refl, append_assoc, arith}
 use Rattle.std.specs.Prelude.{flat_map}
 use Rattle.std.specs.List.{AllByRecursion}
 use Rattle.std.proofs.lemmas.Bool.{eq-eqb}
@@ -17,21 +14,10 @@ use Rattle.registry_core.specs.declared.primitive.Primitive.TheVariants as P
 use Rattle.registry_core.specs.declared.definition.TypeDef.{TypeDef}
 use Rattle.registry_core.specs.declared.definition.TypeDef.TheVariants as def
 use Rattle.registry_core.specs.declared.type_info.TypeInfo.{TypeInfo}
-use Rattle.registry_core.specs.Fits.{
-    FitsList, FitsText, FitsTexts, FitsOption, FitsId, FitsParam, FitsField, FitsArm,
-    FitsDefinition, FitsType, FitsRegistry
-}
+use Rattle.registry_core.specs.Fits.{FitsList, FitsText, FitsTexts, FitsOption, FitsId, FitsParam, FitsField, FitsArm, FitsDefinition, FitsType, FitsRegistry}
 use Rattle.registry_core.specs.Bytes.{primitive_byte}
-use Rattle.registry_core.specs.Spelling.{
-    sequence, text, texts, option, type_id, param, field, arm, definition, type_info, types_from,
-    spelling, metadata
-}
-use Rattle.registry_core.specs.Reading.{
-    Reader, length_at, repeated, sequence_at, string_at, texts_at, option_at, type_id_at,
-    type_ids_at, param_at, params_at, field_at, fields_at, arm_read_at, arms_read_at, primitive_at,
-    array_at, bit_sequence_at, definition_at, type_info_at, types_at, registry_at, prefix_at,
-    metadata_at
-}
+use Rattle.registry_core.specs.Spelling.{sequence, text, texts, option, type_id, param, field, arm, definition, type_info, types_from, spelling, metadata}
+use Rattle.registry_core.specs.Reading.{Reader, length_at, repeated, sequence_at, string_at, texts_at, option_at, type_id_at, type_ids_at, param_at, params_at, field_at, fields_at, arm_read_at, arms_read_at, primitive_at, array_at, bit_sequence_at, definition_at, type_info_at, types_at, registry_at, prefix_at, metadata_at}
 use Rattle.registry_core.specs.Laws.{SpelledIsRead}
 
 -- what is spelled is read, whatever follows it
@@ -42,28 +28,39 @@ length_again : (n : ℕ) (rest : List ℕ) → n < 2 ^ 32 → length_at (compact
 length_again n rest h = rw (compact_again u32_target n (compact n) rest (h, refl)) refl
 
 text_is : Again FitsText text string_at
-text_is = record { read =
-    λ s rest h. rw (text_again s (text s) rest (compact (length s), (h.0, refl), h.1, refl)) refl }
+text_is = record {
+  read =
+      λ s rest h. rw (text_again s (text s) rest (compact (length s), (h.0, refl), h.1, refl)) refl;
+}
 
 times_again : {X : Type 0} (P : X → Type 0) (spell : X → List ℕ) (part : Reader X) →
     Again P spell part → (xs : List X) (rest : List ℕ) → AllByRecursion P xs →
     repeated (length xs) part (flat_map spell xs ++ rest) ≡ Ok (xs, rest)
 times_again P spell part h [] rest fits = refl
 times_again P spell part h (x ∷ xs) rest fits =
-    rw (append_assoc, h.read x (flat_map spell xs ++ rest) fits.0,
-    times_again P spell part h xs rest fits.1) refl
+    rw (
+      append_assoc,
+      h.read x (flat_map spell xs ++ rest) fits.0,
+      times_again P spell part h xs rest fits.1,
+    ) refl
 
 sequence_is : {X : Type 0} (P : X → Type 0) (spell : X → List ℕ) (part : Reader X) →
     Again P spell part → Again (FitsList P) (sequence spell) (sequence_at part)
 sequence_is P spell part h =
-    record { read = λ xs rest fits. rw (append_assoc,
-    length_again (length xs) (flat_map spell xs ++ rest) fits.0,
-    times_again P spell part h xs rest fits.1) refl }
+    record {
+      read = λ xs rest fits. rw (
+        append_assoc,
+        length_again (length xs) (flat_map spell xs ++ rest) fits.0,
+        times_again P spell part h xs rest fits.1,
+      ) refl;
+    }
 
 texts_are : Again FitsTexts texts texts_at
 unfolding texts_at
-texts_are = record { read =
-    λ ss rest fits. (sequence_is FitsText text string_at text_is).read ss rest fits }
+texts_are = record {
+  read =
+      λ ss rest fits. (sequence_is FitsText text string_at text_is).read ss rest fits;
+}
 
 option_again : {X : Type 0} (P : X → Type 0) (spell : X → List ℕ) (part : Reader X) →
     Again P spell part → (o : Option X) (rest : List ℕ) → FitsOption P o →
@@ -80,19 +77,28 @@ id_is = record { read = λ t rest h. rw (length_again t.0 rest h) refl }
 
 ids_are : Again (FitsList FitsId) (sequence type_id) type_ids_at
 unfolding type_ids_at
-ids_are = record { read =
-    λ xs rest fits. (sequence_is FitsId type_id type_id_at id_is).read xs rest fits }
+ids_are = record {
+  read =
+      λ xs rest fits. (sequence_is FitsId type_id type_id_at id_is).read xs rest fits;
+}
 
 param_is : Again FitsParam param param_at
 unfolding param_at
-param_is = record { read =
-    λ p rest h. rw (append_assoc, text_is.read p.name (option type_id p.ty ++ rest) h.0,
-    (option_is FitsId type_id type_id_at id_is).read p.ty rest h.1) refl }
+param_is = record {
+  read =
+      λ p rest h. rw (
+        append_assoc,
+        text_is.read p.name (option type_id p.ty ++ rest) h.0,
+        (option_is FitsId type_id type_id_at id_is).read p.ty rest h.1,
+      ) refl;
+}
 
 params_are : Again (FitsList FitsParam) (sequence param) params_at
 unfolding params_at
-params_are = record { read =
-    λ xs rest fits. (sequence_is FitsParam param param_at param_is).read xs rest fits }
+params_are = record {
+  read =
+      λ xs rest fits. (sequence_is FitsParam param param_at param_is).read xs rest fits;
+}
 
 three : (a b c rest : List ℕ) → ((a ++ b) ++ c) ++ rest ≡ a ++ (b ++ (c ++ rest))
 three a b c rest = simp append_assoc
@@ -116,8 +122,10 @@ field_is = record {
 
 fields_are : Again (FitsList FitsField) (sequence field) fields_at
 unfolding fields_at
-fields_are = record { read =
-    λ xs rest fits. (sequence_is FitsField field field_at field_is).read xs rest fits }
+fields_are = record {
+  read =
+      λ xs rest fits. (sequence_is FitsField field field_at field_is).read xs rest fits;
+}
 
 arm_is : Again FitsArm arm arm_read_at
 unfolding arm_read_at
@@ -133,8 +141,10 @@ arm_is = record {
 
 arms_are : Again (FitsList FitsArm) (sequence arm) arms_read_at
 unfolding arms_read_at
-arms_are = record { read =
-    λ xs rest fits. (sequence_is FitsArm arm arm_read_at arm_is).read xs rest fits }
+arms_are = record {
+  read =
+      λ xs rest fits. (sequence_is FitsArm arm arm_read_at arm_is).read xs rest fits;
+}
 
 primitive_again : (p : Primitive) (rest : List ℕ) →
     primitive_at (primitive_byte p ∷ rest) ≡ Ok (p, rest)
@@ -155,8 +165,10 @@ primitive_again P.I128 rest = refl
 primitive_again P.I256 rest = refl
 
 u32_again : (n : ℕ) (rest : List ℕ) → n < 2 ^ 32 → number_at 4 (le_bytes 4 n ++ rest) ≡ Ok (n, rest)
-u32_again n rest h = rw (number_again 4 (le_bytes 4 n) rest (length-le_bytes 4 n),
-    number-le_bytes 4 n h) refl
+u32_again n rest h = rw (
+  number_again 4 (le_bytes 4 n) rest (length-le_bytes 4 n),
+  number-le_bytes 4 n h,
+) refl
 
 definition_again : (d : TypeDef) (rest : List ℕ) → FitsDefinition d →
     definition_at (definition d ++ rest) ≡ Ok (d, rest)
@@ -165,14 +177,20 @@ definition_again (def.Composite fs) rest h = rw (fields_are.read fs rest h) refl
 definition_again (def.Variant arms) rest h = rw (arms_are.read arms rest h) refl
 definition_again (def.Sequence t) rest h = rw (id_is.read t rest h) refl
 definition_again (def.Array n t) rest h =
-    rw (append_assoc (le_bytes 4 n) (type_id t) rest, u32_again n (type_id t ++ rest) h.0,
-    id_is.read t rest h.1) refl
+    rw (
+      append_assoc (le_bytes 4 n) (type_id t) rest,
+      u32_again n (type_id t ++ rest) h.0,
+      id_is.read t rest h.1,
+    ) refl
 definition_again (def.Tuple ts) rest h = rw (ids_are.read ts rest h) refl
 definition_again (def.Primitive p) rest h = rw (primitive_again p rest) refl
 definition_again (def.Compact t) rest h = rw (id_is.read t rest h) refl
 definition_again (def.BitSequence store order) rest h =
-    rw (append_assoc (type_id store) (type_id order) rest,
-    id_is.read store (type_id order ++ rest) h.0, id_is.read order rest h.1) refl
+    rw (
+      append_assoc (type_id store) (type_id order) rest,
+      id_is.read store (type_id order ++ rest) h.0,
+      id_is.read order rest h.1,
+    ) refl
 
 type_is : Again FitsType type_info type_info_at
 unfolding type_info_at
@@ -203,9 +221,11 @@ types_again (t ∷ r) i rest h small =
 pub spelled_is_read : SpelledIsRead
 unfolding registry_at spelling
 spelled_is_read r rest h =
-    rw (append_assoc (compact (length r)) (types_from 0 r) rest,
-    length_again (length r) (types_from 0 r ++ rest) h.0,
-    types_again r 0 rest h.1 (omega (arith, h.0))) refl
+    rw (
+      append_assoc (compact (length r)) (types_from 0 r) rest,
+      length_again (length r) (types_from 0 r ++ rest) h.0,
+      types_again r 0 rest h.1 (omega (arith, h.0)),
+    ) refl
 
 pub metadata_again : (r : List TypeInfo) (rest : List ℕ) → FitsRegistry r →
     metadata_at (metadata r ++ rest) ≡ Ok (r, rest)

@@ -62,6 +62,6 @@ cut_of r front more (Err e) inside extends whole ne = elim (is_cut e.0) [
 pub front_is_cut : FrontIsCut
 front_is_cut r front more fits split ne =
     let whole : registry_at (front ++ more) ≡ Ok (r, []) =
-        rw (← split) (rw append-nil at (spelled_is_read r [] fits)) in
+    rw (← split) (rw append-nil at (spelled_is_read r [] fits)) in
     cut_of r front more (registry_at front) (registry_steady.inside front)
-        (registry_steady.extends front more) whole ne
+    (registry_steady.extends front more) whole ne

@@ -1,7 +1,5 @@
 -- A length or an id below 64, which is one byte.
-use Rattle.std.proofs.Common.{
-    ◌≡◌, ℕ, ◌-◌, ◌*◌, ◌/◌, ◌%◌, ◌<◌, ◌≤◌, List, [], ◌∷◌, length, get_or, take, drop, Ok, refl, arith
-}
+use Rattle.std.proofs.Common.{◌≡◌, ℕ, ◌-◌, ◌*◌, ◌/◌, ◌%◌, ◌<◌, ◌≤◌, List, [], ◌∷◌, length, get_or, take, drop, Ok, refl, arith}
 use Rattle.std.proofs.lemmas.Bool.{lt-ltb}
 use Rattle.std.proofs.lemmas.List.{take_rest}
 use Rattle.scale_core.specs.Compact.{compact}
@@ -20,7 +18,11 @@ pub byte_is_read : (bytes : List ℕ) → 1 ≤ length bytes → get_or bytes 0 
     length_at bytes ≡ Ok (get_or bytes 0 0 / 4, take (length bytes - 1) (drop 1 bytes))
 byte_is_read [] one byte mode = absurd (omega arith)
 byte_is_read (first ∷ rest) one byte mode =
-    rw (take_rest (first ∷ rest) 1,
-        compact_again U32 (first / 4) (first ∷ []) rest
-        (omega (arith, byte), byte-compact first (first / 4) (omega (arith, mode))
-        (omega (arith, byte)))) refl
+    rw (
+      take_rest (first ∷ rest) 1,
+      compact_again U32 (first / 4) (first ∷ []) rest (
+        omega (arith, byte),
+        byte-compact first (first / 4) (omega (arith, mode))
+            (omega (arith, byte)),
+      ),
+    ) refl

@@ -1,8 +1,5 @@
 -- Reading parts one behind the other, as a loop does.
-use Rattle.std.proofs.Common.{
-    ◌≡◌, ℕ, suc, ◌-◌, ◌+◌, ◌≤◌, ◌<◌, List, [], ◌∷◌, ◌++◌, Ok, Err, refl, sym, ap, ◌∙◌, append_assoc,
-    arith
-}
+use Rattle.std.proofs.Common.{◌≡◌, ℕ, suc, ◌-◌, ◌+◌, ◌≤◌, ◌<◌, List, [], ◌∷◌, ◌++◌, Ok, Err, refl, sym, ap, ◌∙◌, append_assoc, arith}
 use Rattle.std.proofs.lemmas.List.{append-nil}
 use Rattle.scale_core.specs.Read.{Read, ◌>>=◌}
 use Rattle.registry_core.specs.declared.fault.RegistryReason.{RegistryReason}
@@ -33,12 +30,12 @@ regroup front x (Err e) = refl
 pub goes_on : {X : Type 0} (part : Reader X) (front : List X) (count i : ℕ) (bytes : List ℕ) (x : X)
     (after : List ℕ) (total : Read RegistryReason (List X)) → i < count → part bytes ≡ Ok (x, after)
     → with_front front (repeated (count - i) part bytes) ≡ total →
-        with_front (front ++ x ∷ []) (repeated (count - (i + 1)) part after) ≡ total
+    with_front (front ++ x ∷ []) (repeated (count - (i + 1)) part after) ≡ total
 goes_on part front count i bytes x after total lt h so_far =
     let k : count - i ≡ suc (count - (i + 1)) = omega arith in
     let one : with_front front (repeated (count - i) part bytes) ≡ with_front (front ++ x ∷ [])
-        (repeated (count - (i + 1)) part after) =
-        rw (k, h) (regroup front x (repeated (count - (i + 1)) part after)) in
+    (repeated (count - (i + 1)) part after) =
+    rw (k, h) (regroup front x (repeated (count - (i + 1)) part after)) in
     sym one ∙ so_far
 
 pub ends : {X : Type 0} (part : Reader X) (stop : Stop) (front : List X) (count i : ℕ)
@@ -49,7 +46,7 @@ ends part Memory front count i bytes total lt h so_far = tt
 ends part (Fault reason left) front count i bytes total lt h so_far =
     let k : count - i ≡ suc (count - (i + 1)) = omega arith in
     let one : with_front front (repeated (count - i) part bytes) ≡ Err (reason, left.now) =
-        rw (k, h) refl in
+    rw (k, h) refl in
     sym so_far ∙ one
 
 pub is_done : {X : Type 0} (part : Reader X) (front : List X) (count i : ℕ) (bytes : List ℕ)
@@ -58,7 +55,7 @@ pub is_done : {X : Type 0} (part : Reader X) (front : List X) (count i : ℕ) (b
 is_done part front count i bytes total le so_far =
     let k : count - i ≡ 0 = omega arith in
     let one : with_front front (repeated (count - i) part bytes) ≡ Ok (front, bytes) =
-        rw k (ap (λ (xs : List _). Ok (xs, bytes)) (append-nil front)) in
+    rw k (ap (λ (xs : List _). Ok (xs, bytes)) (append-nil front)) in
     sym so_far ∙ one
 
 -- ---- types, each behind its position
@@ -67,12 +64,12 @@ pub type_goes_on : (front : List TypeInfo) (count i : ℕ) (bytes behind : List 
     (after : List ℕ) (total : Read RegistryReason (List TypeInfo)) → i < count
     → id_at i bytes ≡ Ok (i, behind) → type_info_at behind ≡ Ok (x, after)
     → with_front front (types_at (count - i) i bytes) ≡ total →
-        with_front (front ++ x ∷ []) (types_at (count - (i + 1)) (i + 1) after) ≡ total
+    with_front (front ++ x ∷ []) (types_at (count - (i + 1)) (i + 1) after) ≡ total
 type_goes_on front count i bytes behind x after total lt at h so_far =
     let k : count - i ≡ suc (count - (i + 1)) = omega arith in
     let one : with_front front (types_at (count - i) i bytes) ≡ with_front (front ++ x ∷ [])
-        (types_at (count - (i + 1)) (i + 1) after) =
-        rw (k, at, h) (regroup front x (types_at (count - (i + 1)) (i + 1) after)) in
+    (types_at (count - (i + 1)) (i + 1) after) =
+    rw (k, at, h) (regroup front x (types_at (count - (i + 1)) (i + 1) after)) in
     sym one ∙ so_far
 
 pub id_ends : (stop : Stop) (front : List TypeInfo) (count i : ℕ) (bytes : List ℕ)
@@ -82,7 +79,7 @@ id_ends Memory front count i bytes total lt h so_far = tt
 id_ends (Fault reason left) front count i bytes total lt h so_far =
     let k : count - i ≡ suc (count - (i + 1)) = omega arith in
     let one : with_front front (types_at (count - i) i bytes) ≡ Err (reason, left.now) =
-        rw (k, h) refl in
+    rw (k, h) refl in
     sym so_far ∙ one
 
 pub type_ends : (stop : Stop) (front : List TypeInfo) (count i : ℕ) (bytes behind : List ℕ)
@@ -93,5 +90,5 @@ type_ends Memory front count i bytes behind total lt at h so_far = tt
 type_ends (Fault reason left) front count i bytes behind total lt at h so_far =
     let k : count - i ≡ suc (count - (i + 1)) = omega arith in
     let one : with_front front (types_at (count - i) i bytes) ≡ Err (reason, left.now) =
-        rw (k, at, h) refl in
+    rw (k, at, h) refl in
     sym so_far ∙ one

@@ -1,7 +1,5 @@
 -- Where a fault stands, from what it leaves.
-use Rattle.std.proofs.Common.{
-    ◌≡◌, ℕ, ◌≤◌, List, ◌++◌, length, drop, Err, refl, ap, arith, length-append
-}
+use Rattle.std.proofs.Common.{◌≡◌, ℕ, ◌≤◌, List, ◌++◌, length, drop, Err, refl, ap, arith, length-append}
 use Rattle.std.proofs.lemmas.List.{drop_at}
 use Rattle.scale_core.specs.Read.{Read, place}
 use Rattle.scale_core.specs.declared.fault.Fault.{Fault as ScaleFault}
@@ -29,7 +27,7 @@ err_behind b read reason left h e = (rw e at h).0
 pub stops_at : {X : Type 0} (b : List ℕ) (fault : ScaleFault) (read : Read Reason X) (stop : Stop) →
     Inside CutAtEnd b read →
     (left : List ℕ) × (read ≡ Err (fault.reason, left)) × (fault.at ≡ place b left) →
-        IsFaultAt (reason_of fault.reason) (drop fault.at b) stop → StopsReading stop (lifted read)
+    IsFaultAt (reason_of fault.reason) (drop fault.at b) stop → StopsReading stop (lifted read)
 stops_at b fault read Memory h told is = absurd is
 stops_at b fault read (Fault reason left) h told is =
     let same = drop-place b told.0 (err_behind b read fault.reason told.0 h told.1) in

@@ -1,8 +1,5 @@
 -- Each part of a registry that is read was spelled so.
-use Rattle.std.proofs.Common.{
-    ◌≡◌, ℕ, zero, suc, ◌+◌, ◌<◌, ◌≤◌, ◌^◌, ltb, List, [], ◌∷◌, ◌++◌, length, take, drop, Ok, Err,
-    refl, sym, ap, subst, ◌∙◌, append_assoc, arith
-}
+use Rattle.std.proofs.Common.{◌≡◌, ℕ, zero, suc, ◌+◌, ◌<◌, ◌≤◌, ◌^◌, ltb, List, [], ◌∷◌, ◌++◌, length, take, drop, Ok, Err, refl, sym, ap, subst, ◌∙◌, append_assoc, arith}
 use Rattle.std.specs.Prelude.{flat_map, ◌==◌}
 use Rattle.std.specs.List.{AllByRecursion}
 use Rattle.std.proofs.lemmas.Bool.{eqb-true, ltb-false}
@@ -14,36 +11,23 @@ use Rattle.scale_core.specs.Read.{Read, ◌>>=◌, compact_at, text_at, number_a
 use Rattle.scale_core.specs.declared.compact.Target.TheVariants.{U32 as u32_target}
 use Rattle.scale_core.specs.declared.fault.Reason.{Reason}
 use Rattle.scale_core.proofs.Numbers.{rest_bytes, front_bytes, le_bytes-number, number-bound}
-use Rattle.scale_core.proofs.Results.{
-    Takes, cond_takes, then_takes, compact_takes, text_takes, done_is
-}
+use Rattle.scale_core.proofs.Results.{Takes, cond_takes, then_takes, compact_takes, text_takes, done_is}
 use Rattle.registry_core.specs.declared.definition.TypeDef.{TypeDef}
 use Rattle.registry_core.specs.declared.definition.TypeDef.TheVariants as def
 use Rattle.registry_core.specs.declared.type_info.TypeInfo.{TypeInfo}
 use Rattle.registry_core.specs.declared.fault.RegistryReason.{RegistryReason}
 use Rattle.registry_core.specs.declared.fault.RegistryReason.TheVariants as registry
-use Rattle.registry_core.specs.Fits.{
-    FitsList, FitsText, FitsTexts, FitsOption, FitsId, FitsParam, FitsField, FitsArm,
-    FitsDefinition, FitsType, FitsRegistry
-}
+use Rattle.registry_core.specs.Fits.{FitsList, FitsText, FitsTexts, FitsOption, FitsId, FitsParam, FitsField, FitsArm, FitsDefinition, FitsType, FitsRegistry}
 use Rattle.registry_core.specs.Bytes.{primitive_byte, magic, version}
-use Rattle.registry_core.specs.Spelling.{
-    sequence, text, texts, option, type_id, param, field, arm, definition, type_info, types_from,
-    spelling, metadata
-}
-use Rattle.registry_core.specs.Reading.{
-    Reader, lifted, length_at, repeated, sequence_at, string_at, texts_at, option_at, type_id_at,
-    type_ids_at, param_at, params_at, field_at, fields_at, arm_read_at, arms_read_at, byte_at,
-    primitive_at, definition_at, type_info_at, id_at, types_at, registry_at, as_definition,
-    array_at, bit_sequence_at, mark_at, letters_at, prefix_at, metadata_at
-}
+use Rattle.registry_core.specs.Spelling.{sequence, text, texts, option, type_id, param, field, arm, definition, type_info, types_from, spelling, metadata}
+use Rattle.registry_core.specs.Reading.{Reader, lifted, length_at, repeated, sequence_at, string_at, texts_at, option_at, type_id_at, type_ids_at, param_at, params_at, field_at, fields_at, arm_read_at, arms_read_at, byte_at, primitive_at, definition_at, type_info_at, id_at, types_at, registry_at, as_definition, array_at, bit_sequence_at, mark_at, letters_at, prefix_at, metadata_at}
 use Rattle.registry_core.specs.Laws.{ReadIsSpelled}
 
 bind_in : {X Y : Type 0} (P : X → List ℕ → Type 0) (Q : Y → List ℕ → Type 0) (b : List ℕ)
     (r : Read RegistryReason X) (f : X × List ℕ → Read RegistryReason Y) →
     AreBytes b → Takes P b r →
-        ((x : X × List ℕ) (c : List ℕ) → AreBytes x.1 → P x.0 c →
-        Takes (λ y d. Q y (c ++ d)) x.1 (f x)) → Takes Q b (r >>= f)
+    ((x : X × List ℕ) (c : List ℕ) → AreBytes x.1 → P x.0 c →
+    Takes (λ y d. Q y (c ++ d)) x.1 (f x)) → Takes Q b (r >>= f)
 bind_in P Q b (Err e) f bytes h g = tt
 bind_in P Q b (Ok x) f bytes h g = let both : AreBytes (h.0 ++ x.1) = rw (← h.1) bytes in
     then_takes Q b h.0 x.1 (f x) h.1 (g x h.0 (rest_bytes h.0 x.1 both) h.2)
@@ -66,15 +50,19 @@ mapped P Q b (Ok x) h f = (h.0, h.1, f x.0 h.0 h.2)
 mapped P Q b (Err e) h f = tt
 
 length_good : Good (λ n. n < 2 ^ 32) compact length_at
-length_good = record { takes =
-    λ b bytes. lifted_takes (Spelled (λ n. n < 2 ^ 32) compact) b (compact_at u32_target b)
-    (compact_takes u32_target b) }
+length_good = record {
+  takes =
+      λ b bytes. lifted_takes (Spelled (λ n. n < 2 ^ 32) compact) b (compact_at u32_target b)
+      (compact_takes u32_target b);
+}
 
 text_good : Good FitsText text string_at
-text_good = record { takes =
-    λ b bytes. lifted_takes (Spelled FitsText text) b (text_at b)
-    (mapped IsText (Spelled FitsText text) b (text_at b) (text_takes b)
-    (λ s c h. ((h.1.0, h.2), h.3 ∙ ap (λ (x : List ℕ). x ++ s) h.1.1))) }
+text_good = record {
+  takes =
+      λ b bytes. lifted_takes (Spelled FitsText text) b (text_at b)
+      (mapped IsText (Spelled FitsText text) b (text_at b) (text_takes b)
+      (λ s c h. ((h.1.0, h.2), h.3 ∙ ap (λ (x : List ℕ). x ++ s) h.1.1)));
+}
 
 times_good : {X : Type 0} (P : X → Type 0) (spell : X → List ℕ) (part : Reader X) →
     Good P spell part → (n : ℕ) (b : List ℕ) → AreBytes b →
@@ -86,8 +74,8 @@ times_good P spell part h (suc n) b bytes =
     (λ xs c. AllByRecursion P xs × (length xs ≡ suc n) × (c ≡ flat_map spell xs)) b (part b) _ bytes
     (h.takes b bytes) (λ x c rest k.
     bind_in (λ xs c. AllByRecursion P xs × (length xs ≡ n) × (c ≡ flat_map spell xs))
-        (λ xs d. AllByRecursion P xs × (length xs ≡ suc n) × (c ++ d ≡ flat_map spell xs)) x.1
-        (repeated n part x.1) _ rest (times_good P spell part h n x.1 rest) (λ xs d more m.
+    (λ xs d. AllByRecursion P xs × (length xs ≡ suc n) × (c ++ d ≡ flat_map spell xs)) x.1
+    (repeated n part x.1) _ rest (times_good P spell part h n x.1 rest) (λ xs d more m.
     ([], refl, ((k.0, m.0), ap (λ (i : ℕ). suc i) m.1, rw (append-nil, k.1, m.2) refl))))
 
 sequence_good : {X : Type 0} (P : X → Type 0) (spell : X → List ℕ) (part : Reader X) →
@@ -97,15 +85,17 @@ sequence_good P spell part h = record {
       (Spelled (FitsList P) (sequence spell)) b (length_at b) _ bytes (length_good.takes b bytes)
       (λ n c rest k.
       mapped (λ xs d. AllByRecursion P xs × (length xs ≡ n.0) × (d ≡ flat_map spell xs))
-          (λ xs d. Spelled (FitsList P) (sequence spell) xs (c ++ d)) n.1 (repeated n.0 part n.1)
-          (times_good P spell part h n.0 n.1 rest) (λ xs d m.
+      (λ xs d. Spelled (FitsList P) (sequence spell) xs (c ++ d)) n.1 (repeated n.0 part n.1)
+      (times_good P spell part h n.0 n.1 rest) (λ xs d m.
       ((omega (arith, m.1, k.0), m.0), rw (k.1, m.2, m.1) refl)));
 }
 
 texts_good : Good FitsTexts texts texts_at
 unfolding texts_at
-texts_good = record { takes =
-    λ b bytes. (sequence_good FitsText text string_at text_good).takes b bytes }
+texts_good = record {
+  takes =
+      λ b bytes. (sequence_good FitsText text string_at text_good).takes b bytes;
+}
 
 option_takes : {X : Type 0} (P : X → Type 0) (spell : X → List ℕ) (part : Reader X) →
     Good P spell part → (b : List ℕ) → AreBytes b →
@@ -115,7 +105,7 @@ option_takes P spell part h (zero ∷ b) bytes = (0 ∷ [], refl, (tt, refl))
 option_takes P spell part h (suc zero ∷ b) bytes =
     then_takes (Spelled (FitsOption P) (option spell)) (1 ∷ b) (1 ∷ []) b _ refl
     (bind_in (Spelled P spell) (λ o d. Spelled (FitsOption P) (option spell) o (1 ∷ d)) b (part b) _
-        bytes.1 (h.takes b bytes.1) (λ x c rest k. ([], refl, (k.0, rw (append-nil, k.1) refl))))
+    bytes.1 (h.takes b bytes.1) (λ x c rest k. ([], refl, (k.0, rw (append-nil, k.1) refl))))
 option_takes P spell part h (suc (suc x) ∷ b) bytes = tt
 
 option_good : {X : Type 0} (P : X → Type 0) (spell : X → List ℕ) (part : Reader X) →
@@ -123,14 +113,18 @@ option_good : {X : Type 0} (P : X → Type 0) (spell : X → List ℕ) (part : R
 option_good P spell part h = record { takes = option_takes P spell part h }
 
 id_good : Good FitsId type_id type_id_at
-id_good = record { takes =
-    λ b bytes. bind_in (Spelled (λ n. n < 2 ^ 32) compact) (Spelled FitsId type_id) b (length_at b)
-    _ bytes (length_good.takes b bytes) (λ n c rest k. ([], refl, (k.0, rw append-nil k.1))) }
+id_good = record {
+  takes =
+      λ b bytes. bind_in (Spelled (λ n. n < 2 ^ 32) compact) (Spelled FitsId type_id) b (length_at b)
+      _ bytes (length_good.takes b bytes) (λ n c rest k. ([], refl, (k.0, rw append-nil k.1)));
+}
 
 ids_good : Good (FitsList FitsId) (sequence type_id) type_ids_at
 unfolding type_ids_at
-ids_good = record { takes =
-    λ b bytes. (sequence_good FitsId type_id type_id_at id_good).takes b bytes }
+ids_good = record {
+  takes =
+      λ b bytes. (sequence_good FitsId type_id type_id_at id_good).takes b bytes;
+}
 
 param_good : Good FitsParam param param_at
 unfolding param_at
@@ -138,15 +132,17 @@ param_good = record {
   takes = λ b bytes. bind_in (Spelled FitsText text) (Spelled FitsParam param) b (string_at b) _
       bytes (text_good.takes b bytes) (λ name c1 r1 k1.
       bind_in (Spelled (FitsOption FitsId) (option type_id))
-          (λ p d. Spelled FitsParam param p (c1 ++ d)) name.1 (option_at type_id_at name.1) _ r1
-          ((option_good FitsId type_id type_id_at id_good).takes name.1 r1) (λ ty c2 r2 k2.
+      (λ p d. Spelled FitsParam param p (c1 ++ d)) name.1 (option_at type_id_at name.1) _ r1
+      ((option_good FitsId type_id type_id_at id_good).takes name.1 r1) (λ ty c2 r2 k2.
       ([], refl, ((k1.0, k2.0), rw (append-nil, k1.1, k2.1) refl))));
 }
 
 params_good : Good (FitsList FitsParam) (sequence param) params_at
 unfolding params_at
-params_good = record { takes =
-    λ b bytes. (sequence_good FitsParam param param_at param_good).takes b bytes }
+params_good = record {
+  takes =
+      λ b bytes. (sequence_good FitsParam param param_at param_good).takes b bytes;
+}
 
 four_nil : (a b c d : List ℕ) → a ++ (b ++ (c ++ (d ++ []))) ≡ ((a ++ b) ++ c) ++ d
 four_nil a b c d = simp (append_assoc, append-nil)
@@ -158,21 +154,28 @@ field_good = record {
       b (option_at string_at b) _ bytes
       ((option_good FitsText text string_at text_good).takes b bytes) (λ name c1 r1 k1.
       bind_in (Spelled FitsId type_id) (λ f d. Spelled FitsField field f (c1 ++ d)) name.1
-          (type_id_at name.1) _ r1 (id_good.takes name.1 r1) (λ ty c2 r2 k2.
+      (type_id_at name.1) _ r1 (id_good.takes name.1 r1) (λ ty c2 r2 k2.
       bind_in (Spelled (FitsOption FitsText) (option text))
-          (λ f d. Spelled FitsField field f (c1 ++ (c2 ++ d))) ty.1 (option_at string_at ty.1) _ r2
-          ((option_good FitsText text string_at text_good).takes ty.1 r2) (λ tn c3 r3 k3.
+      (λ f d. Spelled FitsField field f (c1 ++ (c2 ++ d))) ty.1 (option_at string_at ty.1) _ r2
+      ((option_good FitsText text string_at text_good).takes ty.1 r2) (λ tn c3 r3 k3.
       bind_in (Spelled FitsTexts texts) (λ f d. Spelled FitsField field f (c1 ++ (c2 ++ (c3 ++ d))))
-          tn.1 (texts_at tn.1) _ r3 (texts_good.takes tn.1 r3) (λ docs c4 r4 k4.
-      ([], refl, ((k1.0, k2.0, k3.0, k4.0),
+      tn.1 (texts_at tn.1) _ r3 (texts_good.takes tn.1 r3) (λ docs c4 r4 k4. (
+        [],
+        refl,
+        (
+          (k1.0, k2.0, k3.0, k4.0),
           rw (k1.1, k2.1, k3.1, k4.1)
-          (four_nil (option text name.0) (type_id ty.0) (option text tn.0) (texts docs.0))))))));
+              (four_nil (option text name.0) (type_id ty.0) (option text tn.0) (texts docs.0)),
+        ),
+      )))));
 }
 
 fields_good : Good (FitsList FitsField) (sequence field) fields_at
 unfolding fields_at
-fields_good = record { takes =
-    λ b bytes. (sequence_good FitsField field field_at field_good).takes b bytes }
+fields_good = record {
+  takes =
+      λ b bytes. (sequence_good FitsField field field_at field_good).takes b bytes;
+}
 
 byte_takes : (b : List ℕ) → AreBytes b → Takes (λ i c. (i < 256) × (c ≡ i ∷ [])) b (byte_at b)
 byte_takes [] bytes = tt
@@ -187,21 +190,28 @@ arm_good = record {
   takes = λ b bytes. bind_in (Spelled FitsText text) (Spelled FitsArm arm) b (string_at b) _ bytes
       (text_good.takes b bytes) (λ name c1 r1 k1.
       bind_in (Spelled (FitsList FitsField) (sequence field))
-          (λ a d. Spelled FitsArm arm a (c1 ++ d)) name.1 (fields_at name.1) _ r1
-          (fields_good.takes name.1 r1) (λ fs c2 r2 k2.
+      (λ a d. Spelled FitsArm arm a (c1 ++ d)) name.1 (fields_at name.1) _ r1
+      (fields_good.takes name.1 r1) (λ fs c2 r2 k2.
       bind_in (λ i c. (i < 256) × (c ≡ i ∷ [])) (λ a d. Spelled FitsArm arm a (c1 ++ (c2 ++ d)))
-          fs.1 (byte_at fs.1) _ r2 (byte_takes fs.1 r2) (λ i c3 r3 k3.
+      fs.1 (byte_at fs.1) _ r2 (byte_takes fs.1 r2) (λ i c3 r3 k3.
       bind_in (Spelled FitsTexts texts) (λ a d. Spelled FitsArm arm a (c1 ++ (c2 ++ (c3 ++ d)))) i.1
-          (texts_at i.1) _ r3 (texts_good.takes i.1 r3) (λ docs c4 r4 k4.
-      ([], refl, ((k1.0, k2.0, k3.0, k4.0),
+      (texts_at i.1) _ r3 (texts_good.takes i.1 r3) (λ docs c4 r4 k4. (
+        [],
+        refl,
+        (
+          (k1.0, k2.0, k3.0, k4.0),
           rw (k1.1, k2.1, k3.1, k4.1)
-          (arm_nil (text name.0) (sequence field fs.0) (texts docs.0) i.0)))))));
+              (arm_nil (text name.0) (sequence field fs.0) (texts docs.0) i.0),
+        ),
+      )))));
 }
 
 arms_good : Good (FitsList FitsArm) (sequence arm) arms_read_at
 unfolding arms_read_at
-arms_good = record { takes =
-    λ b bytes. (sequence_good FitsArm arm arm_read_at arm_good).takes b bytes }
+arms_good = record {
+  takes =
+      λ b bytes. (sequence_good FitsArm arm arm_read_at arm_good).takes b bytes;
+}
 
 primitive_takes : (b : List ℕ) → Takes (λ p c. c ≡ primitive_byte p ∷ []) b (primitive_at b)
 primitive_takes [] = tt
@@ -238,8 +248,11 @@ as_good : {X : Type 0} (P : X → Type 0) (spell : X → List ℕ) (part : Reade
 as_good P spell part make byte h fits is b bytes =
     then_takes (Spelled FitsDefinition definition) (byte ∷ b) (byte ∷ []) b _ refl
     (bind_in (Spelled P spell) (λ d c. Spelled FitsDefinition definition d (byte ∷ c)) b (part b) _
-        bytes (h.takes b bytes) (λ x c rest k. ([], refl,
-        (fits x.0 k.0, rw (append-nil, k.1) (is x.0)))))
+    bytes (h.takes b bytes) (λ x c rest k. (
+      [],
+      refl,
+      (fits x.0 k.0, rw (append-nil, k.1) (is x.0)),
+    )))
 
 u32_takes : (b : List ℕ) → AreBytes b →
     Takes (λ n c. (n < 2 ^ 32) × (c ≡ le_bytes 4 n)) b (number_at 4 b)
@@ -249,21 +262,26 @@ u32_takes b bytes = cond_takes (λ n c. (n < 2 ^ 32) × (c ≡ le_bytes 4 n)) b 
     let len : length (take 4 b) ≡ 4 = omega (arith, length-take 4 b) in
     let split = sym (take-append-drop 4 b) in
     let both : AreBytes (take 4 b ++ drop 4 b) = rw (← split) bytes in
-    let front = front_bytes (take 4 b) (drop 4 b) both in
-    (take 4 b, split, (rw len at (number-bound (take 4 b) front),
-        sym (rw len at (le_bytes-number (take 4 b) front)))))
+    let front = front_bytes (take 4 b) (drop 4 b) both in (
+      take 4 b,
+      split,
+      (
+        rw len at (number-bound (take 4 b) front),
+        sym (rw len at (le_bytes-number (take 4 b) front)),
+      ),
+    ))
 
 array_takes : (b : List ℕ) → AreBytes b →
     Takes (Spelled FitsDefinition definition) (3 ∷ b) (array_at b)
 unfolding array_at
 array_takes b bytes = then_takes (Spelled FitsDefinition definition) (3 ∷ b) (3 ∷ []) b _ refl
     (bind_in (λ n c. (n < 2 ^ 32) × (c ≡ le_bytes 4 n))
-        (λ d c. Spelled FitsDefinition definition d (3 ∷ c)) b (lifted (number_at 4 b)) _ bytes
-        (lifted_takes (λ n c. (n < 2 ^ 32) × (c ≡ le_bytes 4 n)) b (number_at 4 b)
-        (u32_takes b bytes)) (λ n c1 r1 k1.
+    (λ d c. Spelled FitsDefinition definition d (3 ∷ c)) b (lifted (number_at 4 b)) _ bytes
+    (lifted_takes (λ n c. (n < 2 ^ 32) × (c ≡ le_bytes 4 n)) b (number_at 4 b)
+    (u32_takes b bytes)) (λ n c1 r1 k1.
     bind_in (Spelled FitsId type_id) (λ d c. Spelled FitsDefinition definition d (3 ∷ (c1 ++ c)))
-        n.1 (type_id_at n.1) _ r1 (id_good.takes n.1 r1)
-        (λ t c2 r2 k2. ([], refl, ((k1.0, k2.0), rw (append-nil, k1.1, k2.1) refl)))))
+    n.1 (type_id_at n.1) _ r1 (id_good.takes n.1 r1)
+    (λ t c2 r2 k2. ([], refl, ((k1.0, k2.0), rw (append-nil, k1.1, k2.1) refl)))))
 
 bit_sequence_takes : (b : List ℕ) → AreBytes b →
     Takes (Spelled FitsDefinition definition) (7 ∷ b) (bit_sequence_at b)
@@ -271,17 +289,17 @@ unfolding bit_sequence_at
 bit_sequence_takes b bytes =
     then_takes (Spelled FitsDefinition definition) (7 ∷ b) (7 ∷ []) b _ refl
     (bind_in (Spelled FitsId type_id) (λ d c. Spelled FitsDefinition definition d (7 ∷ c)) b
-        (type_id_at b) _ bytes (id_good.takes b bytes) (λ n c1 r1 k1.
+    (type_id_at b) _ bytes (id_good.takes b bytes) (λ n c1 r1 k1.
     bind_in (Spelled FitsId type_id) (λ d c. Spelled FitsDefinition definition d (7 ∷ (c1 ++ c)))
-        n.1 (type_id_at n.1) _ r1 (id_good.takes n.1 r1)
-        (λ t c2 r2 k2. ([], refl, ((k1.0, k2.0), rw (append-nil, k1.1, k2.1) refl)))))
+    n.1 (type_id_at n.1) _ r1 (id_good.takes n.1 r1)
+    (λ t c2 r2 k2. ([], refl, ((k1.0, k2.0), rw (append-nil, k1.1, k2.1) refl)))))
 
 primitive_good : (b : List ℕ) → AreBytes b →
     Takes (Spelled FitsDefinition definition) (5 ∷ b) (as_definition def.Primitive primitive_at b)
 primitive_good b bytes = then_takes (Spelled FitsDefinition definition) (5 ∷ b) (5 ∷ []) b _ refl
     (bind_in (λ p c. c ≡ primitive_byte p ∷ []) (λ d c. Spelled FitsDefinition definition d (5 ∷ c))
-        b (primitive_at b) _ bytes (primitive_takes b)
-        (λ x c rest k. ([], refl, (tt, rw (append-nil, k) refl))))
+    b (primitive_at b) _ bytes (primitive_takes b)
+    (λ x c rest k. ([], refl, (tt, rw (append-nil, k) refl))))
 
 definition_takes : (b : List ℕ) → AreBytes b →
     Takes (Spelled FitsDefinition definition) b (definition_at b)
@@ -312,24 +330,29 @@ type_good = record {
   takes = λ b bytes. bind_in (Spelled FitsTexts texts) (Spelled FitsType type_info) b (texts_at b) _
       bytes (texts_good.takes b bytes) (λ path c1 r1 k1.
       bind_in (Spelled (FitsList FitsParam) (sequence param))
-          (λ t d. Spelled FitsType type_info t (c1 ++ d)) path.1 (params_at path.1) _ r1
-          (params_good.takes path.1 r1) (λ ps c2 r2 k2.
+      (λ t d. Spelled FitsType type_info t (c1 ++ d)) path.1 (params_at path.1) _ r1
+      (params_good.takes path.1 r1) (λ ps c2 r2 k2.
       bind_in (Spelled FitsDefinition definition)
-          (λ t d. Spelled FitsType type_info t (c1 ++ (c2 ++ d))) ps.1 (definition_at ps.1) _ r2
-          (definition_takes ps.1 r2) (λ d c3 r3 k3.
+      (λ t d. Spelled FitsType type_info t (c1 ++ (c2 ++ d))) ps.1 (definition_at ps.1) _ r2
+      (definition_takes ps.1 r2) (λ d c3 r3 k3.
       bind_in (Spelled FitsTexts texts)
-          (λ t d. Spelled FitsType type_info t (c1 ++ (c2 ++ (c3 ++ d)))) d.1 (texts_at d.1) _ r3
-          (texts_good.takes d.1 r3) (λ docs c4 r4 k4.
-      ([], refl, ((k1.0, k2.0, k3.0, k4.0),
+      (λ t d. Spelled FitsType type_info t (c1 ++ (c2 ++ (c3 ++ d)))) d.1 (texts_at d.1) _ r3
+      (texts_good.takes d.1 r3) (λ docs c4 r4 k4. (
+        [],
+        refl,
+        (
+          (k1.0, k2.0, k3.0, k4.0),
           rw (k1.1, k2.1, k3.1, k4.1)
-          (four_nil (texts path.0) (sequence param ps.0) (definition d.0) (texts docs.0))))))));
+              (four_nil (texts path.0) (sequence param ps.0) (definition d.0) (texts docs.0)),
+        ),
+      )))));
 }
 
 id_takes : (i : ℕ) (b : List ℕ) → AreBytes b → Takes (λ n c. c ≡ compact i) b (id_at i b)
 id_takes i b bytes = bind_in (Spelled (λ n. n < 2 ^ 32) compact) (λ n c. c ≡ compact i) b
     (length_at b) _ bytes (length_good.takes b bytes) (λ n c rest k.
     cond_takes (λ m d. c ++ d ≡ compact i) n.1 (n.0 == i) (Ok n) (Err (registry.IdOutOfPlace, b))
-        (λ e. ([], refl, rw (append-nil, k.1, eqb-true n.0 i e) refl)) (λ e. tt))
+    (λ e. ([], refl, rw (append-nil, k.1, eqb-true n.0 i e) refl)) (λ e. tt))
 
 three_nil : (a b c : List ℕ) → a ++ (b ++ (c ++ [])) ≡ (a ++ b) ++ c
 three_nil a b c = simp (append_assoc, append-nil)
@@ -343,13 +366,19 @@ types_takes (suc n) i b bytes =
     (λ r c. AllByRecursion FitsType r × (length r ≡ suc n) × (c ≡ types_from i r)) b (id_at i b) _
     bytes (id_takes i b bytes) (λ id c1 r1 k1.
     bind_in (Spelled FitsType type_info)
-        (λ r c. AllByRecursion FitsType r × (length r ≡ suc n) × (c1 ++ c ≡ types_from i r)) id.1
-        (type_info_at id.1) _ r1 (type_good.takes id.1 r1) (λ t c2 r2 k2.
+    (λ r c. AllByRecursion FitsType r × (length r ≡ suc n) × (c1 ++ c ≡ types_from i r)) id.1
+    (type_info_at id.1) _ r1 (type_good.takes id.1 r1) (λ t c2 r2 k2.
     bind_in (λ r c. AllByRecursion FitsType r × (length r ≡ n) × (c ≡ types_from (i + 1) r))
-        (λ r c. AllByRecursion FitsType r × (length r ≡ suc n) × (c1 ++ (c2 ++ c) ≡ types_from i r))
-        t.1 (types_at n (i + 1) t.1) _ r2 (types_takes n (i + 1) t.1 r2) (λ ts c3 r3 k3.
-    ([], refl, ((k2.0, k3.0), ap (λ (x : ℕ). suc x) k3.1,
-        rw (k1, k2.1, k3.2) (three_nil (compact i) (type_info t.0) (types_from (i + 1) ts.0)))))))
+    (λ r c. AllByRecursion FitsType r × (length r ≡ suc n) × (c1 ++ (c2 ++ c) ≡ types_from i r))
+    t.1 (types_at n (i + 1) t.1) _ r2 (types_takes n (i + 1) t.1 r2) (λ ts c3 r3 k3. (
+      [],
+      refl,
+      (
+        (k2.0, k3.0),
+        ap (λ (x : ℕ). suc x) k3.1,
+        rw (k1, k2.1, k3.2) (three_nil (compact i) (type_info t.0) (types_from (i + 1) ts.0)),
+      ),
+    ))))
 
 registry_takes : (b : List ℕ) → AreBytes b → Takes (Spelled FitsRegistry spelling) b (registry_at b)
 unfolding registry_at spelling
@@ -357,8 +386,8 @@ registry_takes b bytes =
     bind_in (Spelled (λ n. n < 2 ^ 32) compact) (Spelled FitsRegistry spelling) b (length_at b) _
     bytes (length_good.takes b bytes) (λ n c1 r1 k1.
     mapped (λ r c. AllByRecursion FitsType r × (length r ≡ n.0) × (c ≡ types_from 0 r))
-        (λ r c. Spelled FitsRegistry spelling r (c1 ++ c)) n.1 (types_at n.0 0 n.1)
-        (types_takes n.0 0 n.1 r1) (λ r c k.
+    (λ r c. Spelled FitsRegistry spelling r (c1 ++ c)) n.1 (types_at n.0 0 n.1)
+    (types_takes n.0 0 n.1 r1) (λ r c k.
     ((omega (arith, k.1, k1.0), k.0), rw (k1.1, k.2, k.1) refl)))
 
 spelled_of : (spell : List TypeInfo → List ℕ) (b : List ℕ)
@@ -369,7 +398,7 @@ spelled_of spell b (Err e) r rest h eq = absurd cc
 spelled_of spell b (Ok x) r rest h eq =
     let same = done_is {E = RegistryReason} x (r, rest) eq in
     subst (λ (p : List TypeInfo × List ℕ). FitsRegistry p.0 × (b ≡ spell p.0 ++ p.1)) same
-        (h.2.0, rw (← h.2.1) h.1)
+    (h.2.0, rw (← h.2.1) h.1)
 
 pub read_is_spelled : ReadIsSpelled
 read_is_spelled b r rest bytes e =
@@ -392,8 +421,8 @@ letters_take (letter ∷ letters) b bytes =
     (mark_at registry.NotMetadata letter b) (λ first. letters_at letters first.1) bytes
     (mark_takes registry.NotMetadata letter b) (λ first c rest k.
     mapped (λ read d. d ≡ letters) (λ read d. c ++ d ≡ letter ∷ letters) first.1
-        (letters_at letters first.1) (letters_take letters first.1 rest)
-        (λ read d m. rw (k, m) refl))
+    (letters_at letters first.1) (letters_take letters first.1 rest)
+    (λ read d m. rw (k, m) refl))
 
 prefix_takes : (b : List ℕ) → AreBytes b →
     Takes (λ read c. c ≡ magic ++ version ∷ []) b (prefix_at b)
@@ -402,8 +431,8 @@ prefix_takes b bytes = bind_in (λ read c. c ≡ magic) (λ read c. c ≡ magic 
     (letters_at magic b) (λ letters. mark_at registry.WrongVersion version letters.1) bytes
     (letters_take magic b bytes) (λ letters c rest k.
     mapped (λ read d. d ≡ version ∷ []) (λ read d. c ++ d ≡ magic ++ version ∷ []) letters.1
-        (mark_at registry.WrongVersion version letters.1)
-        (mark_takes registry.WrongVersion version letters.1) (λ read d m. rw (k, m) refl))
+    (mark_at registry.WrongVersion version letters.1)
+    (mark_takes registry.WrongVersion version letters.1) (λ read d m. rw (k, m) refl))
 
 metadata_takes : (b : List ℕ) → AreBytes b → Takes (Spelled FitsRegistry metadata) b (metadata_at b)
 unfolding metadata_at
@@ -411,8 +440,8 @@ metadata_takes b bytes =
     bind_in (λ read c. c ≡ magic ++ version ∷ []) (Spelled FitsRegistry metadata) b (prefix_at b)
     (λ prefix. registry_at prefix.1) bytes (prefix_takes b bytes) (λ prefix c rest k.
     mapped (Spelled FitsRegistry spelling) (λ r d. Spelled FitsRegistry metadata r (c ++ d))
-        prefix.1 (registry_at prefix.1) (registry_takes prefix.1 rest)
-        (λ r d m. (m.0, rw (k, m.1) refl)))
+    prefix.1 (registry_at prefix.1) (registry_takes prefix.1 rest)
+    (λ r d m. (m.0, rw (k, m.1) refl)))
 
 pub metadata_is_spelled : (b : List ℕ) (r : List TypeInfo) (rest : List ℕ) → AreBytes b →
     metadata_at b ≡ Ok (r, rest) → FitsRegistry r × (b ≡ metadata r ++ rest)

@@ -1,9 +1,6 @@
 -- Each part's fault stands within the input, and is the same fault however the input goes on,
 -- unless the input was cut.
-use Rattle.std.proofs.Common.{
-    ◌≡◌, ℕ, zero, suc, ◌+◌, ◌^◌, Bool, true, false, cond, List, [], ◌∷◌, ◌++◌, length, take, drop,
-    Ok, Err, refl, sym, ap, append_assoc, arith, inl, inr, length-append
-}
+use Rattle.std.proofs.Common.{◌≡◌, ℕ, zero, suc, ◌+◌, ◌^◌, Bool, true, false, cond, List, [], ◌∷◌, ◌++◌, length, take, drop, Ok, Err, refl, sym, ap, append_assoc, arith, inl, inr, length-append}
 use Rattle.std.specs.Prelude.{◌≢◌, Option, Some, None, nat_lt, not, slice_get, ◌==◌}
 use Rattle.std.specs.Str.{bytes_eq, is_utf8}
 use Rattle.std.specs.Str.Lossy.{utf8_valid_len}
@@ -11,29 +8,19 @@ use Rattle.std.proofs.lemmas.List.{append-nil, take-append-drop, take-append-le,
 use Rattle.std.proofs.lemmas.Bool.{cases_lt, le-ltb, lt-ltb}
 use Rattle.scale_core.specs.Number.{number}
 use Rattle.scale_core.specs.Compact.{compact, target_bytes}
-use Rattle.scale_core.specs.Read.{
-    Read, ◌>>=◌, bytes_at, number_at, form_len, form_number, form_from, is_too_long, integer_at,
-    compact_at, text_at
-}
+use Rattle.scale_core.specs.Read.{Read, ◌>>=◌, bytes_at, number_at, form_len, form_number, form_from, is_too_long, integer_at, compact_at, text_at}
 use Rattle.scale_core.specs.declared.compact.Target.{Target}
 use Rattle.scale_core.specs.declared.compact.Target.TheVariants.{U32 as u32_target}
 use Rattle.scale_core.specs.declared.fault.Reason.{Reason}
 use Rattle.scale_core.specs.declared.fault.Reason.TheVariants as scale
-use Rattle.scale_core.proofs.Results.{
-    Extends, bind_extends, cond_extends, compact_extends, text_extends
-}
+use Rattle.scale_core.proofs.Results.{Extends, bind_extends, cond_extends, compact_extends, text_extends}
 use Rattle.registry_core.specs.declared.definition.TypeDef.{TypeDef}
 use Rattle.registry_core.specs.declared.definition.TypeDef.TheVariants as def
 use Rattle.registry_core.specs.declared.fault.RegistryReason.{RegistryReason}
 use Rattle.registry_core.specs.declared.fault.RegistryReason.TheVariants as registry
 use Rattle.registry_core.specs.Bytes.{primitives, magic, version}
 use Rattle.registry_core.specs.Laws.{IsBehind}
-use Rattle.registry_core.specs.Reading.{
-    Reader, reason_of, lifted, length_at, repeated, sequence_at, string_at, texts_at, option_at,
-    type_id_at, type_ids_at, byte_at, param_at, params_at, field_at, fields_at, arm_read_at,
-    arms_read_at, named, primitive_at, as_definition, array_at, bit_sequence_at, definition_at,
-    type_info_at, id_at, types_at, registry_at, mark_at, letters_at, prefix_at, metadata_at
-}
+use Rattle.registry_core.specs.Reading.{Reader, reason_of, lifted, length_at, repeated, sequence_at, string_at, texts_at, option_at, type_id_at, type_ids_at, byte_at, param_at, params_at, field_at, fields_at, arm_read_at, arms_read_at, named, primitive_at, as_definition, array_at, bit_sequence_at, definition_at, type_info_at, id_at, types_at, registry_at, mark_at, letters_at, prefix_at, metadata_at}
 
 at_end : (b : List ℕ) → IsBehind b []
 at_end b = (b, sym (append-nil b))
@@ -92,10 +79,10 @@ form_inside : (m : Target) (b : List ℕ) (r : Read Reason (List ℕ)) → Insid
 form_inside m b (Err e) h = h
 form_inside m b (Ok x) h = let n = form_number x.0 in
     inside_cond CutAtEnd b (not (bytes_eq (compact n) x.0)) (Err (scale.CompactNotShortest, b))
-        (cond (nat_lt n (256 ^ target_bytes m)) (Ok (n, x.1)) (Err (scale.CompactTooLarge, b)))
-        (at_front b, λ e. absurd cc)
+    (cond (nat_lt n (256 ^ target_bytes m)) (Ok (n, x.1)) (Err (scale.CompactTooLarge, b)))
+    (at_front b, λ e. absurd cc)
     (inside_cond CutAtEnd b (nat_lt n (256 ^ target_bytes m)) (Ok (n, x.1))
-        (Err (scale.CompactTooLarge, b)) h (at_front b, λ e. absurd cc))
+    (Err (scale.CompactTooLarge, b)) h (at_front b, λ e. absurd cc))
 
 integer_inside : (m : Target) (b : List ℕ) → Inside CutAtEnd b (integer_at m b)
 integer_inside m [] = (at_end [], λ e. refl)
@@ -105,7 +92,7 @@ integer_inside m (first ∷ rest) =
     (form_from m (first ∷ rest) (bytes_at (form_len first) (first ∷ rest)))
     (at_front (first ∷ rest), λ e. absurd cc)
     (form_inside m (first ∷ rest) (bytes_at (form_len first) (first ∷ rest))
-        (bytes_inside (form_len first) (first ∷ rest)))
+    (bytes_inside (form_len first) (first ∷ rest)))
 
 pub compact_inside : (b : List ℕ) → Inside CutAtEnd b (compact_at u32_target b)
 unfolding compact_at
@@ -178,9 +165,12 @@ number_extends : (k : ℕ) (b more : List ℕ) →
     Extends scale.Truncated more (number_at k b) (number_at k (b ++ more))
 number_extends k b more = elim (cases_lt (length b) k) [
   | inl lt ↦ rw (lt-ltb (length b) k lt) (λ ne. absurd (ne refl))
-  | inr le ↦ rw (le-ltb (length b) k le,
-      le-ltb (length (b ++ more)) k (omega (arith, length-append b more)),
-      take-append-le k b more le, drop-append-le k b more le) refl
+  | inr le ↦ rw (
+    le-ltb (length b) k le,
+    le-ltb (length (b ++ more)) k (omega (arith, length-append b more)),
+    take-append-le k b more le,
+    drop-append-le k b more le,
+  ) refl
 ]
 
 word_steady : IsSteady (λ bytes. lifted (number_at 4 bytes))
@@ -266,12 +256,14 @@ param_steady : IsSteady param_at
 unfolding param_at
 param_steady =
     let s = then_steady string_at
-        (λ name bytes. option_at type_id_at bytes >>= λ ty. Ok (record { name = name; ty = ty.0 },
-        ty.1)) text_steady (λ name.
+    (λ name bytes. option_at type_id_at bytes >>= λ ty. Ok (
+      record { name = name; ty = ty.0 },
+      ty.1,
+    )) text_steady (λ name.
     then_steady (option_at type_id_at) (λ ty bytes. Ok (record { name = name; ty = ty }, bytes))
-        (option_steady type_id_at id_steady) (λ ty.
+    (option_steady type_id_at id_steady) (λ ty.
     done_steady (record { name = name; ty = ty }))) in
-        record { inside = s.inside; extends = s.extends }
+    record { inside = s.inside; extends = s.extends }
 
 params_steady : IsSteady params_at
 unfolding params_at
@@ -282,23 +274,23 @@ field_steady : IsSteady field_at
 unfolding field_at
 field_steady =
     let s = then_steady (option_at string_at)
-        (λ name bytes. type_id_at bytes >>= λ ty. option_at string_at ty.1 >>= λ type_name. texts_at
-        type_name.1 >>= λ docs. Ok
-        (record { name = name; ty = ty.0; type_name = type_name.0; docs = docs.0 }, docs.1))
-        (option_steady string_at text_steady) (λ name.
+    (λ name bytes. type_id_at bytes >>= λ ty. option_at string_at ty.1 >>= λ type_name. texts_at
+    type_name.1 >>= λ docs. Ok
+    (record { name = name; ty = ty.0; type_name = type_name.0; docs = docs.0 }, docs.1))
+    (option_steady string_at text_steady) (λ name.
     then_steady type_id_at (λ ty bytes. option_at string_at bytes >>= λ type_name. texts_at
-        type_name.1 >>= λ docs. Ok
-        (record { name = name; ty = ty; type_name = type_name.0; docs = docs.0 }, docs.1)) id_steady
-        (λ ty.
+    type_name.1 >>= λ docs. Ok
+    (record { name = name; ty = ty; type_name = type_name.0; docs = docs.0 }, docs.1)) id_steady
+    (λ ty.
     then_steady (option_at string_at)
-        (λ type_name bytes. texts_at bytes >>= λ docs. Ok
-        (record { name = name; ty = ty; type_name = type_name; docs = docs.0 }, docs.1))
-        (option_steady string_at text_steady) (λ type_name.
+    (λ type_name bytes. texts_at bytes >>= λ docs. Ok
+    (record { name = name; ty = ty; type_name = type_name; docs = docs.0 }, docs.1))
+    (option_steady string_at text_steady) (λ type_name.
     then_steady texts_at (λ docs bytes. Ok
-        (record { name = name; ty = ty; type_name = type_name; docs = docs }, bytes)) texts_steady
-        (λ docs.
+    (record { name = name; ty = ty; type_name = type_name; docs = docs }, bytes)) texts_steady
+    (λ docs.
     done_steady (record { name = name; ty = ty; type_name = type_name; docs = docs }))))) in
-        record { inside = s.inside; extends = s.extends }
+    record { inside = s.inside; extends = s.extends }
 
 fields_steady : IsSteady fields_at
 unfolding fields_at
@@ -309,20 +301,24 @@ arm_steady : IsSteady arm_read_at
 unfolding arm_read_at
 arm_steady =
     let s = then_steady string_at
-        (λ name bytes. fields_at bytes >>= λ fields. byte_at fields.1 >>= λ index. texts_at index.1
-        >>= λ docs. Ok (record { name = name; fields = fields.0; index = index.0; docs = docs.0 },
-        docs.1)) text_steady (λ name.
+    (λ name bytes. fields_at bytes >>= λ fields. byte_at fields.1 >>= λ index. texts_at index.1
+    >>= λ docs. Ok (
+      record { name = name; fields = fields.0; index = index.0; docs = docs.0 },
+      docs.1,
+    )) text_steady (λ name.
     then_steady fields_at (λ fields bytes. byte_at bytes >>= λ index. texts_at index.1 >>=
-        λ docs. Ok (record { name = name; fields = fields; index = index.0; docs = docs.0 },
-        docs.1)) fields_steady (λ fields.
+    λ docs. Ok (
+      record { name = name; fields = fields; index = index.0; docs = docs.0 },
+      docs.1,
+    )) fields_steady (λ fields.
     then_steady byte_at (λ index bytes. texts_at bytes >>= λ docs. Ok
-        (record { name = name; fields = fields; index = index; docs = docs.0 }, docs.1)) byte_steady
-        (λ index.
+    (record { name = name; fields = fields; index = index; docs = docs.0 }, docs.1)) byte_steady
+    (λ index.
     then_steady texts_at (λ docs bytes. Ok
-        (record { name = name; fields = fields; index = index; docs = docs }, bytes)) texts_steady
-        (λ docs.
+    (record { name = name; fields = fields; index = index; docs = docs }, bytes)) texts_steady
+    (λ docs.
     done_steady (record { name = name; fields = fields; index = index; docs = docs }))))) in
-        record { inside = s.inside; extends = s.extends }
+    record { inside = s.inside; extends = s.extends }
 
 arms_steady : IsSteady arms_read_at
 unfolding arms_read_at
@@ -368,21 +364,21 @@ array_steady : IsSteady array_at
 unfolding array_at
 array_steady =
     let s = then_steady (λ bytes. lifted (number_at 4 bytes))
-        (λ len bytes. type_id_at bytes >>= λ element. Ok (def.Array len element.0, element.1))
-        word_steady (λ len.
+    (λ len bytes. type_id_at bytes >>= λ element. Ok (def.Array len element.0, element.1))
+    word_steady (λ len.
     then_steady type_id_at (λ element bytes. Ok (def.Array len element, bytes)) id_steady
-        (λ element. done_steady (def.Array len element))) in
-        record { inside = s.inside; extends = s.extends }
+    (λ element. done_steady (def.Array len element))) in
+    record { inside = s.inside; extends = s.extends }
 
 bit_sequence_steady : IsSteady bit_sequence_at
 unfolding bit_sequence_at
 bit_sequence_steady =
     let s = then_steady type_id_at
-        (λ store bytes. type_id_at bytes >>= λ order. Ok (def.BitSequence store order.0, order.1))
-        id_steady (λ store.
+    (λ store bytes. type_id_at bytes >>= λ order. Ok (def.BitSequence store order.0, order.1))
+    id_steady (λ store.
     then_steady type_id_at (λ order bytes. Ok (def.BitSequence store order, bytes)) id_steady
-        (λ order. done_steady (def.BitSequence store order))) in
-        record { inside = s.inside; extends = s.extends }
+    (λ order. done_steady (def.BitSequence store order))) in
+    record { inside = s.inside; extends = s.extends }
 
 definition_inside : (b : List ℕ) → Inside IsTold b (definition_at b)
 unfolding definition_at
@@ -435,21 +431,31 @@ type_steady : IsSteady type_info_at
 unfolding type_info_at
 type_steady =
     let s = then_steady texts_at
-        (λ path bytes. params_at bytes >>= λ params. definition_at params.1 >>= λ shape. texts_at
-        shape.1 >>= λ docs. Ok (record { path = path; params = params.0; shape = shape.0; docs =
-        docs.0 }, docs.1)) texts_steady (λ path.
+    (λ path bytes. params_at bytes >>= λ params. definition_at params.1 >>= λ shape. texts_at
+    shape.1 >>= λ docs. Ok (
+      record {
+        path = path;
+        params = params.0;
+        shape = shape.0;
+        docs =
+            docs.0;
+      },
+      docs.1,
+    )) texts_steady (λ path.
     then_steady params_at (λ params bytes. definition_at bytes >>= λ shape. texts_at shape.1 >>=
-        λ docs. Ok (record { path = path; params = params; shape = shape.0; docs = docs.0 },
-        docs.1)) params_steady (λ params.
+    λ docs. Ok (
+      record { path = path; params = params; shape = shape.0; docs = docs.0 },
+      docs.1,
+    )) params_steady (λ params.
     then_steady definition_at
-        (λ shape bytes. texts_at bytes >>= λ docs. Ok
-        (record { path = path; params = params; shape = shape; docs = docs.0 }, docs.1))
-        definition_steady (λ shape.
+    (λ shape bytes. texts_at bytes >>= λ docs. Ok
+    (record { path = path; params = params; shape = shape; docs = docs.0 }, docs.1))
+    definition_steady (λ shape.
     then_steady texts_at (λ docs bytes. Ok
-        (record { path = path; params = params; shape = shape; docs = docs }, bytes)) texts_steady
-        (λ docs.
+    (record { path = path; params = params; shape = shape; docs = docs }, bytes)) texts_steady
+    (λ docs.
     done_steady (record { path = path; params = params; shape = shape; docs = docs }))))) in
-        record { inside = s.inside; extends = s.extends }
+    record { inside = s.inside; extends = s.extends }
 
 -- an id's test, on what was read of the id
 abbrev tested : ℕ → List ℕ → ℕ × List ℕ → Read RegistryReason ℕ
@@ -474,12 +480,12 @@ types_steady : (n i : ℕ) → IsSteady (types_at n i)
 types_steady zero i = record { inside = at_front; extends = λ b more. refl }
 types_steady (suc n) i =
     then_steady (id_at i) (λ id bytes. type_info_at bytes >>= λ first. types_at n (i + 1) first.1
-        >>= λ others. Ok (first.0 ∷ others.0, others.1)) (id_at_steady i) (λ id.
+    >>= λ others. Ok (first.0 ∷ others.0, others.1)) (id_at_steady i) (λ id.
     then_steady type_info_at
-        (λ first bytes. types_at n (i + 1) bytes >>= λ others. Ok (first ∷ others.0, others.1))
-        type_steady (λ first.
+    (λ first bytes. types_at n (i + 1) bytes >>= λ others. Ok (first ∷ others.0, others.1))
+    type_steady (λ first.
     then_steady (types_at n (i + 1)) (λ others bytes. Ok (first ∷ others, bytes))
-        (types_steady n (i + 1)) (λ others.
+    (types_steady n (i + 1)) (λ others.
     done_steady (first ∷ others))))
 
 pub registry_steady : IsSteady registry_at

@@ -1,8 +1,5 @@
 -- What reading a whole registry answers, from what reading it as a part gave.
-use Rattle.std.proofs.Common.{
-    ◌≡◌, ℕ, suc, ◌-◌, ◌<◌, ◌≤◌, List, [], ◌∷◌, ◌++◌, length, get_or, take, Ok, Err, refl, sym, ap,
-    ◌∙◌, arith, inl, inr, length-append
-}
+use Rattle.std.proofs.Common.{◌≡◌, ℕ, suc, ◌-◌, ◌<◌, ◌≤◌, List, [], ◌∷◌, ◌++◌, length, get_or, take, Ok, Err, refl, sym, ap, ◌∙◌, arith, inl, inr, length-append}
 use Rattle.std.proofs.lemmas.List.{take_at}
 use Rattle.scale_core.specs.Number.{AreBytes}
 use Rattle.scale_core.specs.Read.{Read}
@@ -34,12 +31,20 @@ pub record IsCodec (spell : List TypeInfo → List ℕ) (part : Reader (List Typ
       part (spell types ++ rest) ≡ Ok (types, rest)
 
 pub registry_codec : IsCodec spelling registry_at
-registry_codec = record { steady = registry_steady; spelled = read_is_spelled; again =
-    spelled_is_read }
+registry_codec = record {
+  steady = registry_steady;
+  spelled = read_is_spelled;
+  again =
+      spelled_is_read;
+}
 
 pub metadata_codec : IsCodec metadata metadata_at
-metadata_codec = record { steady = metadata_steady; spelled = metadata_is_spelled; again =
-    metadata_again }
+metadata_codec = record {
+  steady = metadata_steady;
+  spelled = metadata_is_spelled;
+  again =
+      metadata_again;
+}
 
 -- ---- where it was read
 
@@ -66,21 +71,25 @@ pub ok_found : (spell : List TypeInfo → List ℕ) (part : Reader (List TypeInf
 ok_found spell part codec b types rest bytes e =
     let s = codec.spelled b types rest bytes e in
     let len : length (spell types ++ rest) - length rest ≡ length (spell types) =
-        omega (arith, length-append (spell types) rest) in
+    omega (arith, length-append (spell types) rest) in
     (s.0, rw (s.1, len) (take_at (spell types) rest (length (spell types)) refl))
 
 pub ok_only : (spell : List TypeInfo → List ℕ) (part : Reader (List TypeInfo)) →
     IsCodec spell part → (b : List ℕ) (types : List TypeInfo) (rest : List ℕ) →
     part b ≡ Ok (types, rest) →
     (others : List TypeInfo) (more : List ℕ) → FitsRegistry others → b ≡ spell others ++ more →
-        IsUnlessMemory (others, length (spell others)) (Ok (types, length b - length rest))
+    IsUnlessMemory (others, length (spell others)) (Ok (types, length b - length rest))
 ok_only spell part codec b types rest e others more fits is =
     let one : done {E = RegistryReason} (types, rest) ≡ done (others, more) = sym e
-        ∙ (ap part is ∙ codec.again others more fits) in
+    ∙ (ap part is ∙ codec.again others more fits) in
     let same = done_is {E = RegistryReason} (types, rest) (others, more) one in
     let len : length b - length rest ≡ length (spell others) =
-        omega (arith, ap (λ (x : List ℕ). length x) is, length-append (spell others) more,
-        ap (λ (p : List TypeInfo × List ℕ). length p.1) same) in
+    omega (
+      arith,
+      ap (λ (x : List ℕ). length x) is,
+      length-append (spell others) more,
+      ap (λ (p : List TypeInfo × List ℕ). length p.1) same,
+    ) in
     let first : types ≡ others = ap (λ (p : List TypeInfo × List ℕ). p.0) same in
     cc
 
@@ -107,7 +116,7 @@ stopped (Fault reason left) b x h = absurd cc
 pub err_only : (spell : List TypeInfo → List ℕ) (part : Reader (List TypeInfo)) →
     IsCodec spell part → (b : List ℕ) (stop : Stop) → StopsReading stop (part b) →
     (others : List TypeInfo) (more : List ℕ) → FitsRegistry others → b ≡ spell others ++ more →
-        IsUnlessMemory (others, length (spell others)) (Err (fault_of (length b) stop))
+    IsUnlessMemory (others, length (spell others)) (Err (fault_of (length b) stop))
 err_only spell part codec b stop h others more fits is =
     let read : part b ≡ Ok (others, more) = ap part is ∙ codec.again others more fits in
     stopped stop b (others, more) (rw read at h)

@@ -6,9 +6,7 @@ use Rattle.registry_core.specs.declared.definition.TypeDef.TheVariants as def
 use Rattle.registry_core.specs.declared.primitive.Primitive.TheVariants.{U8}
 use Rattle.registry_core.specs.declared.type_info.TypeInfo.{TypeInfo}
 use Rattle.registry_core.specs.declared.fault.RegistryReason.{RegistryReason}
-use Rattle.registry_core.specs.declared.fault.RegistryReason.TheVariants.{
-    BadUtf8, CompactTooLarge, IdOutOfPlace, NotMetadata, Truncated, WrongVersion
-}
+use Rattle.registry_core.specs.declared.fault.RegistryReason.TheVariants.{BadUtf8, CompactTooLarge, IdOutOfPlace, NotMetadata, Truncated, WrongVersion}
 use Rattle.registry_core.specs.Reading.{registry_at, metadata_at}
 use Rattle.registry_core.specs.Spelling.{spelling}
 
@@ -21,7 +19,7 @@ abbrev pub option_bytes : List ℕ
 option_bytes = 0x08 ∷ 0x00 ∷ 0x00 ∷ 0x00 ∷ 0x05 ∷ 0x05 ∷ 0x00 ∷ 0x04 ∷ 0x04 ∷ 0x18 ∷ 0x4f ∷ 0x70 ∷
     0x74 ∷ 0x69 ∷ 0x6f ∷ 0x6e ∷ 0x04 ∷ 0x04 ∷ 0x54 ∷ 0x01 ∷ 0x00 ∷ 0x01
     ∷ 0x08 ∷ 0x10 ∷ 0x4e ∷ 0x6f ∷ 0x6e ∷ 0x65 ∷ 0x00 ∷ 0x00 ∷ 0x00 ∷ 0x10 ∷ 0x53 ∷ 0x6f ∷ 0x6d ∷
-        0x65 ∷ 0x04 ∷ 0x00 ∷ 0x00 ∷ 0x01 ∷ 0x04 ∷ 0x54 ∷ 0x00 ∷ 0x01 ∷ 0x00 ∷ 0x00 ∷ []
+    0x65 ∷ 0x04 ∷ 0x00 ∷ 0x00 ∷ 0x01 ∷ 0x04 ∷ 0x54 ∷ 0x00 ∷ 0x01 ∷ 0x00 ∷ 0x00 ∷ []
 
 -- a tuple of the type before it twice, behind its position
 abbrev pub pair_bytes : ℕ → List ℕ

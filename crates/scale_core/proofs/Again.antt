@@ -1,8 +1,5 @@
 -- What is spelled is read again.
-use Rattle.std.proofs.Common.{
-    ◌≡◌, ℕ, ◌+◌, ◌-◌, ◌*◌, ◌/◌, ◌%◌, ◌^◌, ◌<◌, ◌≤◌, Bool, true, false, ltb, List, [], ◌∷◌, ◌++◌,
-    length, Ok, refl, sym, ◌∙◌, append_assoc, arith, inl, inr
-}
+use Rattle.std.proofs.Common.{◌≡◌, ℕ, ◌+◌, ◌-◌, ◌*◌, ◌/◌, ◌%◌, ◌^◌, ◌<◌, ◌≤◌, Bool, true, false, ltb, List, [], ◌∷◌, ◌++◌, length, Ok, refl, sym, ◌∙◌, append_assoc, arith, inl, inr}
 use Rattle.std.specs.Prelude.{nat_lt, ◌==◌, ◌&&◌}
 use Rattle.std.specs.Str.{bytes_eq}
 use Rattle.std.proofs.lemmas.Bool.{cases_lt, le-ltb, lt-ltb, eqb-true}
@@ -11,22 +8,16 @@ use Rattle.std.proofs.lemmas.List.{take_at, drop_at, length-append}
 use Rattle.std.proofs.Math.Nat.{pow-le-pow_right}
 use Rattle.scale_core.specs.Number.{number, le_bytes}
 use Rattle.scale_core.specs.Compact.{compact, bytes_needed, big_bytes, target_bytes, IsCompact}
-use Rattle.scale_core.specs.Read.{
-    bytes_at, number_at, form_len, form_number, is_too_long, integer_at, compact_at, text_at
-}
+use Rattle.scale_core.specs.Read.{bytes_at, number_at, form_len, form_number, is_too_long, integer_at, compact_at, text_at}
 use Rattle.scale_core.specs.declared.compact.Target.{Target}
-use Rattle.scale_core.specs.declared.compact.Target.TheVariants.{
-    Unit as TUnit, U8, U16, U32, U64, U128
-}
+use Rattle.scale_core.specs.declared.compact.Target.TheVariants.{Unit as TUnit, U8, U16, U32, U64, U128}
 use Rattle.scale_core.specs.Text.{IsText}
-use Rattle.scale_core.proofs.Numbers.{
-    length-le_bytes, number-le_bytes, bytes_needed-le, bytes_needed-enough
-}
+use Rattle.scale_core.proofs.Numbers.{length-le_bytes, number-le_bytes, bytes_needed-le, bytes_needed-enough}
 
 pub bytes_again : (k : ℕ) (b rest : List ℕ) → length b ≡ k → bytes_at k (b ++ rest) ≡ Ok (b, rest)
 bytes_again k b rest len =
     let long : ltb (length (b ++ rest)) k ≡ false =
-        le-ltb _ _ (omega (arith, length-append b rest)) in
+    le-ltb _ _ (omega (arith, length-append b rest)) in
     rw (long, take_at b rest k len, drop_at b rest k len) refl
 
 -- a form, by its first byte
@@ -41,8 +32,14 @@ small_form : (n : ℕ) → n < 64 → IsForm n (4 * n) []
 unfolding compact
 small_form n h =
     let mode : (4 * n) % 4 ≡ 0 = omega arith in
-    record { is = rw (lt-ltb n 64 h) refl; len = rw mode refl; value = rw mode (omega arith); big =
-        λ e. absurd (omega (arith, e)); is_big = λ e. absurd (omega (arith, e)) }
+    record {
+      is = rw (lt-ltb n 64 h) refl;
+      len = rw mode refl;
+      value = rw mode (omega arith);
+      big =
+          λ e. absurd (omega (arith, e));
+      is_big = λ e. absurd (omega (arith, e));
+    }
 
 two_form : (n : ℕ) → 64 ≤ n → n < 2 ^ 14 →
     IsForm n ((4 * n + 1) % 256) (le_bytes 1 ((4 * n + 1) / 256))
@@ -50,10 +47,16 @@ unfolding compact
 two_form n ge h =
     let mode : ((4 * n + 1) % 256) % 4 ≡ 1 = omega arith in
     let all : number (le_bytes 2 (4 * n + 1)) ≡ 4 * n + 1 =
-        number-le_bytes 2 (4 * n + 1) (omega arith) in
-    record { is = rw (le-ltb n 64 ge, lt-ltb n (2 ^ 14) h) refl; len = rw mode refl; value =
-        rw (mode, all) (omega arith); big = λ e. absurd (omega (arith, e)); is_big =
-        λ e. absurd (omega (arith, e)) }
+    number-le_bytes 2 (4 * n + 1) (omega arith) in
+    record {
+      is = rw (le-ltb n 64 ge, lt-ltb n (2 ^ 14) h) refl;
+      len = rw mode refl;
+      value =
+          rw (mode, all) (omega arith);
+      big = λ e. absurd (omega (arith, e));
+      is_big =
+          λ e. absurd (omega (arith, e));
+    }
 
 four_form : (n : ℕ) → 2 ^ 14 ≤ n → n < 2 ^ 30 →
     IsForm n ((4 * n + 2) % 256) (le_bytes 3 ((4 * n + 2) / 256))
@@ -61,16 +64,25 @@ unfolding compact
 four_form n ge h =
     let mode : ((4 * n + 2) % 256) % 4 ≡ 2 = omega arith in
     let all : number (le_bytes 4 (4 * n + 2)) ≡ 4 * n + 2 =
-        number-le_bytes 4 (4 * n + 2) (omega arith) in
-    record { is = rw (le-ltb n 64 (omega arith), le-ltb n (2 ^ 14) ge, lt-ltb n (2 ^ 30) h) refl;
-        len = rw mode refl; value = rw (mode, all) (omega arith); big =
-        λ e. absurd (omega (arith, e)); is_big = λ e. absurd (omega (arith, e)) }
+    number-le_bytes 4 (4 * n + 2) (omega arith) in
+    record {
+      is = rw (le-ltb n 64 (omega arith), le-ltb n (2 ^ 14) ge, lt-ltb n (2 ^ 30) h) refl;
+      len = rw mode refl;
+      value = rw (mode, all) (omega arith);
+      big =
+          λ e. absurd (omega (arith, e));
+      is_big = λ e. absurd (omega (arith, e));
+    }
 
 big_enough : (n : ℕ) → n < 2 ^ 128 → n < 256 ^ big_bytes n
 big_enough n h =
     let enough : n < 256 ^ bytes_needed 16 n = bytes_needed-enough 16 n h in
-    omega (arith, enough, pow-le-pow_right {n = 256} (omega arith) {i = bytes_needed 16 n}
-        {j = big_bytes n} (omega arith))
+    omega (
+      arith,
+      enough,
+      pow-le-pow_right {n = 256} (omega arith) {i = bytes_needed 16 n}
+          {j = big_bytes n} (omega arith),
+    )
 
 big_form : (n : ℕ) → 2 ^ 30 ≤ n → n < 2 ^ 128 →
     IsForm n (4 * (big_bytes n - 4) + 3) (le_bytes (big_bytes n) n)
@@ -79,9 +91,18 @@ big_form n ge h =
     let k = big_bytes n in
     let mode : (4 * (k - 4) + 3) % 4 ≡ 3 = omega arith in
     let quarter : (4 * (k - 4) + 3) / 4 + 4 ≡ k = omega arith in
-    record { is = rw (le-ltb n 64 (omega arith), le-ltb n (2 ^ 14) (omega arith),
-        le-ltb n (2 ^ 30) ge) refl; len = rw mode (omega (arith, length-le_bytes k n)); value =
-        rw mode (number-le_bytes k n (big_enough n h)); big = λ e. quarter; is_big = λ e. ge }
+    record {
+      is = rw (
+        le-ltb n 64 (omega arith),
+        le-ltb n (2 ^ 14) (omega arith),
+        le-ltb n (2 ^ 30) ge,
+      ) refl;
+      len = rw mode (omega (arith, length-le_bytes k n));
+      value =
+          rw mode (number-le_bytes k n (big_enough n h));
+      big = λ e. quarter;
+      is_big = λ e. ge;
+    }
 
 pub form_of : (n : ℕ) → n < 2 ^ 128 → (first : ℕ) × (tail : List ℕ) × IsForm n first tail
 form_of n h = elim (cases_lt n 64) [
@@ -118,14 +139,25 @@ pub integer_again : (m : Target) (n first : ℕ) (tail rest : List ℕ) → IsFo
     n < 256 ^ target_bytes m → integer_at m (first ∷ tail ++ rest) ≡ Ok (n, rest)
 integer_again m n first tail rest f h =
     let same : bytes_eq (compact n) (first ∷ tail) ≡ true =
-        (bytes_eq-Decides (compact n) (first ∷ tail)).1 f.is in
-    rw (fits_target m n first tail f h, bytes_again (form_len first) (first ∷ tail) rest f.len,
-        f.value, same, lt-ltb n (256 ^ target_bytes m) h) refl
+    (bytes_eq-Decides (compact n) (first ∷ tail)).1 f.is in
+    rw (
+      fits_target m n first tail f h,
+      bytes_again (form_len first) (first ∷ tail) rest f.len,
+      f.value,
+      same,
+      lt-ltb n (256 ^ target_bytes m) h,
+    ) refl
 
 pub below_128 : (m : Target) (n : ℕ) → n < 256 ^ target_bytes m → n < 2 ^ 128
-below_128 m n h = elim m as (λ m. n < 256 ^ target_bytes m → n < 2 ^ 128)
-    [ TUnit ↦ λ h. omega arith | U8 ↦ λ h. omega arith | U16 ↦ λ h. omega arith | U32 ↦
-    λ h. omega arith | U64 ↦ λ h. omega arith | U128 ↦ λ h. omega arith ] h
+below_128 m n h = elim m as (λ m. n < 256 ^ target_bytes m → n < 2 ^ 128) [
+  | TUnit ↦ λ h. omega arith
+  | U8 ↦ λ h. omega arith
+  | U16 ↦ λ h. omega arith
+  | U32 ↦
+      λ h. omega arith
+  | U64 ↦ λ h. omega arith
+  | U128 ↦ λ h. omega arith
+] h
 
 pub compact_again : (m : Target) (x : ℕ) (a rest : List ℕ) → IsCompact m x a →
     compact_at m (a ++ rest) ≡ Ok (x, rest)
@@ -144,8 +176,13 @@ compact_again U128 x a rest h = let f = form_of x (below_128 U128 x h.0) in
 
 pub text_again : (s b rest : List ℕ) → IsText s b → text_at (b ++ rest) ≡ Ok (s, rest)
 unfolding text_at
-text_again s b rest h = rw (h.3, append_assoc, compact_again U32 (length s) h.0 (s ++ rest) h.1,
-    bytes_again (length s) s rest refl, h.2) refl
+text_again s b rest h = rw (
+  h.3,
+  append_assoc,
+  compact_again U32 (length s) h.0 (s ++ rest) h.1,
+  bytes_again (length s) s rest refl,
+  h.2,
+) refl
 
 -- a spelling of an integer has a byte
 pub compact-bytes : (m : Target) (x : ℕ) (a : List ℕ) → IsCompact m x a → a ≡ [] → m ≡ TUnit
@@ -165,5 +202,5 @@ pub number_again : (k : ℕ) (b rest : List ℕ) → length b ≡ k →
     number_at k (b ++ rest) ≡ Ok (number b, rest)
 number_again k b rest len =
     let long : ltb (length (b ++ rest)) k ≡ false =
-        le-ltb _ _ (omega (arith, length-append b rest)) in
+    le-ltb _ _ (omega (arith, length-append b rest)) in
     rw (long, take_at b rest k len, drop_at b rest k len) refl

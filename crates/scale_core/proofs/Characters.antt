@@ -7,5 +7,8 @@ use Rattle.scale_core.specs.Number.{is_scalar}
 pub out_of_range : (c : ℕ) → OutOfScalarRange c → is_scalar c ≡ false
 out_of_range c (inl h) = rw (le-ltb c 0xd800 (omega arith), le-ltb 0xdfff c (omega arith)) refl
 out_of_range c (inr h) =
-    rw (le-ltb c 0xd800 (omega arith), lt-ltb 0xdfff c (omega arith),
-    le-ltb c 0x110000 (omega arith)) refl
+    rw (
+      le-ltb c 0xd800 (omega arith),
+      lt-ltb 0xdfff c (omega arith),
+      le-ltb c 0x110000 (omega arith),
+    ) refl

@@ -1,9 +1,6 @@
 -- The forms of compact integers: how long the shortest is, and that no other form of its length has
 -- its number.
-use Rattle.std.proofs.Common.{
-    ◌≡◌, ℕ, zero, suc, ◌+◌, ◌-◌, ◌*◌, ◌/◌, ◌%◌, ◌^◌, ◌<◌, ◌≤◌, List, [], ◌∷◌, length, refl, sym, ap,
-    ◌∙◌, arith, inl, inr
-}
+use Rattle.std.proofs.Common.{◌≡◌, ℕ, zero, suc, ◌+◌, ◌-◌, ◌*◌, ◌/◌, ◌%◌, ◌^◌, ◌<◌, ◌≤◌, List, [], ◌∷◌, length, refl, sym, ap, ◌∙◌, arith, inl, inr}
 use Rattle.std.proofs.lemmas.Bool.{cases_lt, le-ltb, lt-ltb, ne_eqb}
 use Rattle.std.proofs.lemmas.Bool.Decides.{nat_tests}
 use Rattle.std.proofs.Math.Nat.{pow-suc, pow-le-pow_right}
@@ -13,9 +10,7 @@ use Rattle.scale_core.specs.Compact.{compact, bytes_needed, big_bytes}
 use Rattle.scale_core.specs.Number.{AreBytes, number, le_bytes}
 use Rattle.scale_core.specs.Read.{form_len, form_number}
 use Rattle.scale_core.proofs.Again.{form_of}
-use Rattle.scale_core.proofs.Numbers.{
-    length-le_bytes, number_one, bytes_needed-le, bytes_needed-enough
-}
+use Rattle.scale_core.proofs.Numbers.{length-le_bytes, number_one, bytes_needed-le, bytes_needed-enough}
 
 pow-bytes : (k : ℕ) → 2 ^ (8 * k) ≡ 256 ^ k
 pow-bytes zero = refl
@@ -28,13 +23,15 @@ bytes_needed-is : (w k n : ℕ) → k < w → 256 ^ k ≤ n → n < 256 ^ suc k 
 bytes_needed-is w k n less ge h =
     let most : bytes_needed w n ≤ suc k = bytes_needed-le w (suc k) n h in
     let fits : n < 256 ^ w =
-        omega (arith, h, pow-le-pow_right {n = 256} (omega arith) {i = suc k} {j = w} (omega arith))
-        in
+    omega (arith, h, pow-le-pow_right {n = 256} (omega arith) {i = suc k} {j = w} (omega arith))
+    in
     let enough : n < 256 ^ bytes_needed w n = bytes_needed-enough w n fits in
     elim (cases_lt k (bytes_needed w n)) [
       | inl more ↦ omega arith
-      | inr fewer ↦ absurd (omega (arith,
-          pow-le-pow_right {n = 256} (omega arith) {i = bytes_needed w n} {j = k} fewer))
+      | inr fewer ↦ absurd (omega (
+        arith,
+        pow-le-pow_right {n = 256} (omega arith) {i = bytes_needed w n} {j = k} fewer,
+      ))
     ]
 
 -- ---- the shortest form, and how long it is
@@ -54,8 +51,11 @@ compact-four n ge h = rw (le-ltb n 64 (omega arith), le-ltb n (2 ^ 14) ge, lt-lt
 pub compact-big : (n : ℕ) → 2 ^ 30 ≤ n →
     compact n ≡ (4 * (big_bytes n - 4) + 3) ∷ le_bytes (big_bytes n) n
 unfolding compact
-compact-big n ge = rw (le-ltb n 64 (omega arith), le-ltb n (2 ^ 14) (omega arith),
-    le-ltb n (2 ^ 30) ge) refl
+compact-big n ge = rw (
+  le-ltb n 64 (omega arith),
+  le-ltb n (2 ^ 14) (omega arith),
+  le-ltb n (2 ^ 30) ge,
+) refl
 
 pub length-compact-one : (n : ℕ) → n < 64 → length (compact n) ≡ 1
 length-compact-one n h = ap length (compact-one n h)
@@ -82,12 +82,12 @@ pub big_bytes-bits : (n r : ℕ) → 2 ^ 30 ≤ n → 2 ^ r ≤ n → n < 2 * 2 
 big_bytes-bits n r big ge h small =
     let k = r / 8 in
     let low : 256 ^ k ≤ 2 ^ r =
-        rw (sym (pow-bytes k)) (pow_mono {i = 8 * k} {j = r} (omega arith)) in
+    rw (sym (pow-bytes k)) (pow_mono {i = 8 * k} {j = r} (omega arith)) in
     let double : 2 ^ suc r ≡ 2 ^ r * 2 = pow-suc 2 r in
     let high : 2 ^ suc r ≤ 256 ^ suc k =
-        rw (sym (pow-bytes (suc k))) (pow_mono {i = suc r} {j = 8 * suc k} (omega arith)) in
+    rw (sym (pow-bytes (suc k))) (pow_mono {i = suc r} {j = 8 * suc k} (omega arith)) in
     let needed : bytes_needed 16 n ≡ suc k =
-        bytes_needed-is 16 k n (omega arith) (omega arith) (omega arith) in
+    bytes_needed-is 16 k n (omega arith) (omega arith) (omega arith) in
     omega (arith, needed, bits-least n r big h)
 
 -- ---- which form is the shortest
@@ -129,8 +129,8 @@ same_form a s b t h k len len' one same =
     elim (cases_lt (a % 4) 3) [
       | inl lt ↦
           let e : number (a ∷ s) / 4 ≡ number (b ∷ t) / 4 =
-              rw (ne_eqb (a % 4) 3 (λ e. omega arith), ne_eqb (b % 4) 3 (λ e. omega arith)) at
-              same in
+          rw (ne_eqb (a % 4) 3 (λ e. omega arith), ne_eqb (b % 4) 3 (λ e. omega arith)) at
+          same in
           number_one (a ∷ s) (b ∷ t) h k (len ∙ one ∙ sym len') (omega (arith, e))
       | inr ge ↦
           let three : a % 4 ≡ 3 = omega arith in

@@ -1,13 +1,7 @@
 -- What std's conversions of bytes spell.
-use Rattle.std.proofs.Common.{
-    ◌≡◌, ℕ, zero, suc, ◌+◌, ◌*◌, ◌/◌, ◌%◌, ◌^◌, ◌<◌, ◌≤◌, List, [], ◌∷◌, ◌++◌, length, take, drop,
-    replicate, get_or, refl, ap, ◌∙◌, arith
-}
+use Rattle.std.proofs.Common.{◌≡◌, ℕ, zero, suc, ◌+◌, ◌*◌, ◌/◌, ◌%◌, ◌^◌, ◌<◌, ◌≤◌, List, [], ◌∷◌, ◌++◌, length, take, drop, replicate, get_or, refl, ap, ◌∙◌, arith}
 use Rattle.std.specs.Prelude.{Result, Ok, Err, is_ok, OnOk, slice_index, if◌then◌else◌}
-use Rattle.std.specs.Int.{
-    Width, w8, w16, w32, w64, w128, byte_len, byte_at, byte_worth, bytes_low_first, sum_through,
-    to_le_bytes, from_le_bytes
-}
+use Rattle.std.specs.Int.{Width, w8, w16, w32, w64, w128, byte_len, byte_at, byte_worth, bytes_low_first, sum_through, to_le_bytes, from_le_bytes}
 use Rattle.std.proofs.Math.Nat.{pow-suc, div-div-eq-div-mul}
 use Rattle.std.proofs.lemmas.List.{take_all, length-append, length-drop}
 use Rattle.std.proofs.Math.ListN.{set}
@@ -58,10 +52,14 @@ from_le_bytes-padded spelled front n short same e =
     let rest = drop (length spelled) (replicate 16 0) in
     let zeros : number rest ≡ 0 = number-drop-zeros (length spelled) 16 in
     let len : length (front ++ rest) ≡ 16 =
-        omega (arith, ap length same, length-append front rest,
-        length-drop {A = ℕ} (length spelled) (replicate 16 0)) in
+    omega (
+      arith,
+      ap length same,
+      length-append front rest,
+      length-drop {A = ℕ} (length spelled) (replicate 16 0),
+    ) in
     e ∙ from_le_bytes-number w128 (front ++ rest) len ∙ number-append front rest
-        ∙ rw zeros (omega (arith, ap number same))
+    ∙ rw zeros (omega (arith, ap number same))
 
 -- ---- and back
 

@@ -1,8 +1,5 @@
 -- Bytes of numbers, and back.
-use Rattle.std.proofs.Common.{
-    ◌≡◌, ℕ, zero, suc, ◌+◌, ◌-◌, ◌*◌, ◌/◌, ◌%◌, ◌^◌, ◌<◌, ◌≤◌, Bool, true, false, cond, List, [],
-    ◌∷◌, ◌++◌, length, refl, sym, ap, ◌∙◌, arith, inl, inr
-}
+use Rattle.std.proofs.Common.{◌≡◌, ℕ, zero, suc, ◌+◌, ◌-◌, ◌*◌, ◌/◌, ◌%◌, ◌^◌, ◌<◌, ◌≤◌, Bool, true, false, cond, List, [], ◌∷◌, ◌++◌, length, refl, sym, ap, ◌∙◌, arith, inl, inr}
 use Rattle.std.specs.Prelude.{ℤ, pos, negsuc, neg_ℤ, nat_lt}
 use Rattle.std.proofs.lemmas.Bool.{cases_lt, le-ltb, lt-ltb}
 use Rattle.std.proofs.Math.Nat.{pow-suc, pow-le-pow_right}
@@ -25,8 +22,11 @@ bytes_needed-le zero j n h = omega arith
 bytes_needed-le (suc k) j n h = elim (cases_lt n (256 ^ k)) [
   | inl lt ↦ rw (lt-ltb n (256 ^ k) lt) (bytes_needed-le k j n h)
   | inr le ↦ rw (le-ltb n (256 ^ k) le)
-      (elim (cases_lt k j) [ inl k-lt ↦ omega arith | inr j-le ↦
-      absurd (omega (arith, pow-le-pow_right {n = 256} (omega arith) {i = j} {j = k} j-le)) ])
+      (elim (cases_lt k j) [
+        | inl k-lt ↦ omega arith
+        | inr j-le ↦
+            absurd (omega (arith, pow-le-pow_right {n = 256} (omega arith) {i = j} {j = k} j-le))
+      ])
 ]
 
 pub bytes_needed-enough : (k n : ℕ) → n < 256 ^ k → n < 256 ^ bytes_needed k n
@@ -83,7 +83,7 @@ signed_same range m n false true h k e = let e' : pos n ≡ negsuc (range - m - 
     ∙ neg-pos (range - m) (omega arith) in absurd cc
 signed_same range m n false false h k e =
     let e' : negsuc (range - m - 1) ≡ negsuc (range - n - 1) =
-        sym (neg-pos (range - m) (omega arith)) ∙ e ∙ neg-pos (range - n) (omega arith) in
+    sym (neg-pos (range - m) (omega arith)) ∙ e ∙ neg-pos (range - n) (omega arith) in
     let same : range - m - 1 ≡ range - n - 1 = cc in omega (arith, same)
 
 pub signed_one : (a b : List ℕ) → AreBytes a → AreBytes b → length a ≡ length b →
@@ -92,7 +92,7 @@ signed_one a b h k len e =
     let range = 256 ^ length a in
     let less : number b < range = rw len (number-bound b k) in
     let e' : signed_from (nat_lt (2 * number a) range) range (number a)
-        ≡ signed_from (nat_lt (2 * number b) range) range (number b) = e
-        ∙ ap (λ (l : ℕ). signed_from (nat_lt (2 * number b) (256 ^ l)) (256 ^ l) (number b))
-        (sym len) in
+    ≡ signed_from (nat_lt (2 * number b) range) range (number b) = e
+    ∙ ap (λ (l : ℕ). signed_from (nat_lt (2 * number b) (256 ^ l)) (256 ^ l) (number b))
+    (sym len) in
     number_one a b h k len (signed_same range (number a) (number b) _ _ (number-bound a h) less e')

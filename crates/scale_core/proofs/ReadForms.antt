@@ -1,8 +1,5 @@
 -- What is read where a compact integer stands, by what its first byte names.
-use Rattle.std.proofs.Common.{
-    ◌≡◌, ℕ, zero, suc, ◌-◌, ◌^◌, ◌<◌, ◌≤◌, Bool, true, false, cond, List, [], ◌∷◌, length, get_or,
-    take, drop, Ok, Err, refl, sym, ap, ◌∙◌, arith, inl, inr
-}
+use Rattle.std.proofs.Common.{◌≡◌, ℕ, zero, suc, ◌-◌, ◌^◌, ◌<◌, ◌≤◌, Bool, true, false, cond, List, [], ◌∷◌, length, get_or, take, drop, Ok, Err, refl, sym, ap, ◌∙◌, arith, inl, inr}
 use Rattle.std.specs.Prelude.{◌≢◌, not, nat_lt, ◌==◌, if◌then◌else◌}
 use Rattle.std.specs.Str.{bytes_eq}
 use Rattle.std.proofs.lemmas.Bool.{false_from_ne_true, cases_eq, le-ltb, lt-ltb, ne_eqb, eq-eqb}
@@ -11,17 +8,11 @@ use Rattle.std.proofs.lemmas.Slice.Eq.{bytes_eq-Decides}
 use Rattle.std.proofs.lemmas.List.{length-take}
 use Rattle.scale_core.specs.Compact.{compact, target_bytes}
 use Rattle.scale_core.specs.Number.{AreBytes}
-use Rattle.scale_core.specs.Read.{
-    Read, form_len, form_number, checked_form, is_too_long, integer_at, compact_at
-}
+use Rattle.scale_core.specs.Read.{Read, form_len, form_number, checked_form, is_too_long, integer_at, compact_at}
 use Rattle.scale_core.specs.declared.compact.Target.{Target}
-use Rattle.scale_core.specs.declared.compact.Target.TheVariants.{
-    Unit as TUnit, U8, U16, U32, U64, U128
-}
+use Rattle.scale_core.specs.declared.compact.Target.TheVariants.{Unit as TUnit, U8, U16, U32, U64, U128}
 use Rattle.scale_core.specs.declared.fault.Reason.{Reason}
-use Rattle.scale_core.specs.declared.fault.Reason.TheVariants.{
-    Truncated, CompactNotShortest, CompactTooLarge
-}
+use Rattle.scale_core.specs.declared.fault.Reason.TheVariants.{Truncated, CompactNotShortest, CompactTooLarge}
 use Rattle.scale_core.proofs.Forms.{shortest_form}
 
 pub compact_at-unit : (m : Target) (bytes : List ℕ) → m ≡ TUnit → compact_at m bytes ≡ Ok (0, bytes)
@@ -48,7 +39,7 @@ pub compact_at-too_long : (m : Target) (bytes : List ℕ) (first : ℕ) → m �
     compact_at m bytes ≡ Err (CompactTooLarge, bytes)
 compact_at-too_long m bytes first ne is long =
     compact_at-integer m bytes ne ∙ ap (integer_at m) is
-        ∙ rw long (ap (λ (left : List ℕ). Err (CompactTooLarge, left)) (sym is))
+    ∙ rw long (ap (λ (left : List ℕ). Err (CompactTooLarge, left)) (sym is))
 
 pub compact_at-cut : (m : Target) (bytes : List ℕ) (first : ℕ) → m ≢ TUnit →
     bytes ≡ first ∷ drop 1 bytes → is_too_long m first ≡ false → length bytes < form_len first →
@@ -56,14 +47,14 @@ pub compact_at-cut : (m : Target) (bytes : List ℕ) (first : ℕ) → m ≢ TUn
 compact_at-cut m bytes first ne is fits short =
     let less : length (first ∷ drop 1 bytes) < form_len first = rw is at short in
     compact_at-integer m bytes ne ∙ ap (integer_at m) is
-        ∙ rw (fits, lt-ltb (length (first ∷ drop 1 bytes)) (form_len first) less) refl
+    ∙ rw (fits, lt-ltb (length (first ∷ drop 1 bytes)) (form_len first) less) refl
 
 -- what the form of len bytes and of the number n is judged to be
 abbrev pub judged_form : Target → List ℕ → ℕ → ℕ → Read Reason ℕ
 judged_form m bytes n len =
     if len == length (compact n) then
-        (if nat_lt n (256 ^ target_bytes m) then Ok (n, drop len bytes) else Err
-        (CompactTooLarge, bytes))
+    (if nat_lt n (256 ^ target_bytes m) then Ok (n, drop len bytes) else Err
+    (CompactTooLarge, bytes))
     else Err (CompactNotShortest, bytes)
 
 cond-not : {A : Type 0} (t : Bool) (x y : A) → cond (not t) x y ≡ cond t y x
@@ -97,7 +88,7 @@ are_front (suc k) (b ∷ bytes) h = (h.0, are_front k bytes h.1)
 integer_at-judged : (m : Target) (first : ℕ) (rest : List ℕ) (n : ℕ) → is_too_long m first ≡ false →
     AreBytes (first ∷ rest) → form_len first ≤ length (first ∷ rest) →
     n ≡ form_number (take (form_len first) (first ∷ rest)) → n < 2 ^ 128 →
-        integer_at m (first ∷ rest) ≡ judged_form m (first ∷ rest) n (form_len first)
+    integer_at m (first ∷ rest) ≡ judged_form m (first ∷ rest) n (form_len first)
 integer_at-judged m first rest n fits h long value small =
     let k = form_len first in
     let form = take k (first ∷ rest) in
@@ -108,27 +99,27 @@ integer_at-judged m first rest n fits h long value small =
     let whole : length (first ∷ take (k - 1) rest) ≡ k = ap length (sym shape) ∙ len in
     let named : n ≡ form_number (first ∷ take (k - 1) rest) = value ∙ ap form_number shape in
     let reads : integer_at m (first ∷ rest) ≡ checked_form m (first ∷ rest) (form_number form)
-        form (drop k (first ∷ rest)) = rw (fits, le-ltb (length (first ∷ rest)) k long) refl in
+    form (drop k (first ∷ rest)) = rw (fits, le-ltb (length (first ∷ rest)) k long) refl in
     reads ∙ ap (λ (x : ℕ). checked_form m (first ∷ rest) x form (drop k (first ∷ rest))) (sym value)
     ∙ checked-judged m (first ∷ rest) form n k len
-        (λ same. shortest_form first (take (k - 1) rest) n are whole named small same ∙ sym shape)
+    (λ same. shortest_form first (take (k - 1) rest) n are whole named small same ∙ sym shape)
 
 -- a form that is there whole
 pub compact_at-judged : (m : Target) (bytes : List ℕ) (first n len : ℕ) → m ≢ TUnit →
     AreBytes bytes → bytes ≡ first ∷ drop 1 bytes → is_too_long m first ≡ false →
     len ≡ form_len first → len ≤ length bytes → n ≡ form_number (take len bytes) → n < 2 ^ 128 →
-        compact_at m bytes ≡ judged_form m bytes n len
+    compact_at m bytes ≡ judged_form m bytes n len
 compact_at-judged m bytes first n len ne h is fits long there value small =
     let are : AreBytes (first ∷ drop 1 bytes) = rw is at h in
     let enough : form_len first ≤ length (first ∷ drop 1 bytes) =
-        omega (arith, long, there, ap length is) in
+    omega (arith, long, there, ap length is) in
     let named : n ≡ form_number (take (form_len first) (first ∷ drop 1 bytes)) = value
-        ∙ ap (λ (xs : List ℕ). form_number (take len xs)) is
-        ∙ ap (λ (k : ℕ). form_number (take k (first ∷ drop 1 bytes))) long in
+    ∙ ap (λ (xs : List ℕ). form_number (take len xs)) is
+    ∙ ap (λ (k : ℕ). form_number (take k (first ∷ drop 1 bytes))) long in
     let judged = integer_at-judged m first (drop 1 bytes) n fits are enough named small in
     compact_at-integer m bytes ne ∙ ap (integer_at m) is ∙ judged
-        ∙ ap (λ (xs : List ℕ). judged_form m xs n (form_len first)) (sym is)
-        ∙ ap (judged_form m bytes n) (sym long)
+    ∙ ap (λ (xs : List ℕ). judged_form m xs n (form_len first)) (sym is)
+    ∙ ap (judged_form m bytes n) (sym long)
 
 -- ---- the first byte, and bytes at large
 

@@ -1,8 +1,5 @@
 -- What is read where a text stands, by its length and its bytes.
-use Rattle.std.proofs.Common.{
-    ◌≡◌, ℕ, ◌+◌, ◌-◌, ◌<◌, ◌≤◌, false, cond, List, [], length, take, drop, Ok, Err, refl, sym, ap,
-    ◌∙◌, arith, inl, inr
-}
+use Rattle.std.proofs.Common.{◌≡◌, ℕ, ◌+◌, ◌-◌, ◌<◌, ◌≤◌, false, cond, List, [], length, take, drop, Ok, Err, refl, sym, ap, ◌∙◌, arith, inl, inr}
 use Rattle.std.specs.Prelude.{◌⊎◌}
 use Rattle.std.specs.List.{slice_range}
 use Rattle.std.specs.Str.{is_utf8, IsUtf8}
@@ -60,14 +57,14 @@ judged-whole bytes spelled start n w =
     let rest = drop start bytes in
     let long : n ≤ length rest = rw behind-drop at w.there in
     let front : spelled ≡ take n rest = w.is
-        ∙ ap (λ (xs : List ℕ). slice_range xs 0 n) (behind-drop bytes start)
-        ∙ between_from_start rest n in
+    ∙ ap (λ (xs : List ℕ). slice_range xs 0 n) (behind-drop bytes start)
+    ∙ between_from_start rest n in
     let count : n ≡ length spelled = omega (arith, w.len) in
     let after : drop n rest ≡ drop (start + length spelled) bytes = drop-drop n start bytes
-        ∙ ap (λ (k : ℕ). drop (start + k) bytes) count in
+    ∙ ap (λ (k : ℕ). drop (start + k) bytes) count in
     text_at-whole bytes rest n w.length_is long
-        ∙ ap (λ (s : List ℕ). judged_text s rest (drop n rest)) (sym front)
-        ∙ ap (judged_text spelled rest) after
+    ∙ ap (λ (s : List ℕ). judged_text s rest (drop n rest)) (sym front)
+    ∙ ap (judged_text spelled rest) after
 
 pub text_at-valid : (bytes spelled text : List ℕ) (start n : ℕ) → IsWhole bytes spelled start n →
     text ≡ spelled → IsUtf8 spelled →
@@ -80,7 +77,7 @@ pub text_at-bad : (bytes spelled : List ℕ) (start n : ℕ) → IsWhole bytes s
     text_at bytes ≡ Err (BadUtf8, drop (utf8_valid_len spelled) (drop start bytes))
 text_at-bad bytes spelled start n w bad =
     let no : is_utf8 spelled ≡ false =
-        false_from_ne_true _ (λ e. bad (IsUtf8-from_is_utf8 spelled e)) in
+    false_from_ne_true _ (λ e. bad (IsUtf8-from_is_utf8 spelled e)) in
     judged-whole bytes spelled start n w ∙ rw no refl
 
 pub whole-bound : (bytes spelled : List ℕ) (start n : ℕ) → start ≤ length bytes →
@@ -93,5 +90,10 @@ pub place-bad : (bytes spelled : List ℕ) (start n : ℕ) → start ≤ length 
     place bytes (drop (utf8_valid_len spelled) (drop start bytes)) ≡ start + utf8_valid_len spelled
 place-bad bytes spelled start n h w =
     let k = utf8_valid_len spelled in
-    omega (arith, whole-bound bytes spelled start n h w, utf8_valid_len_le spelled,
-        length-drop k (drop start bytes), length-drop start bytes)
+    omega (
+      arith,
+      whole-bound bytes spelled start n h w,
+      utf8_valid_len_le spelled,
+      length-drop k (drop start bytes),
+      length-drop start bytes,
+    )

@@ -1,31 +1,19 @@
 -- What was read stood on the front, and what is read of a longer input.
-use Rattle.std.proofs.Common.{
-    ◌≡◌, ℕ, ◌^◌, ◌<◌, ◌≤◌, Bool, true, false, cond, ltb, List, [], ◌∷◌, ◌++◌, length, take, drop,
-    Ok, Err, refl, sym, ◌∙◌, append_assoc, arith, inl, inr
-}
+use Rattle.std.proofs.Common.{◌≡◌, ℕ, ◌^◌, ◌<◌, ◌≤◌, Bool, true, false, cond, ltb, List, [], ◌∷◌, ◌++◌, length, take, drop, Ok, Err, refl, sym, ◌∙◌, append_assoc, arith, inl, inr}
 use Rattle.std.specs.Prelude.{◌≢◌, nat_lt, not}
 use Rattle.std.specs.Str.{bytes_eq, is_utf8}
 use Rattle.std.specs.Str.Lossy.{utf8_valid_len}
 use Rattle.std.proofs.lemmas.Bool.{not-false, cases_lt, ltb-false, ltb-true, le-ltb, lt-ltb}
 use Rattle.std.proofs.lemmas.Slice.Eq.{bytes_eq-Decides}
-use Rattle.std.proofs.lemmas.List.{
-    take-append-drop, length-append, length-take, take-append-le, drop-append-le, append-nil
-}
+use Rattle.std.proofs.lemmas.List.{take-append-drop, length-append, length-take, take-append-le, drop-append-le, append-nil}
 use Rattle.std.proofs.lemmas.Str.{utf8_valid_len_le}
 use Rattle.scale_core.specs.Compact.{compact, target_bytes, IsCompact}
 use Rattle.scale_core.specs.Text.{IsText}
-use Rattle.scale_core.specs.Read.{
-    Read, ◌>>=◌, bytes_at, form_len, form_number, form_from, is_too_long, integer_at, compact_at,
-    text_at
-}
+use Rattle.scale_core.specs.Read.{Read, ◌>>=◌, bytes_at, form_len, form_number, form_from, is_too_long, integer_at, compact_at, text_at}
 use Rattle.scale_core.specs.declared.compact.Target.{Target}
-use Rattle.scale_core.specs.declared.compact.Target.TheVariants.{
-    Unit as TUnit, U8, U16, U32, U64, U128
-}
+use Rattle.scale_core.specs.declared.compact.Target.TheVariants.{Unit as TUnit, U8, U16, U32, U64, U128}
 use Rattle.scale_core.specs.declared.fault.Reason.{Reason}
-use Rattle.scale_core.specs.declared.fault.Reason.TheVariants.{
-    Truncated, BadUtf8, CompactNotShortest, CompactTooLarge
-}
+use Rattle.scale_core.specs.declared.fault.Reason.TheVariants.{Truncated, BadUtf8, CompactNotShortest, CompactTooLarge}
 
 -- what was read stood on the front of b
 abbrev pub Takes : {E X : Type 0} → (X → List ℕ → Type 0) → List ℕ → Read E X → Type 0
@@ -41,7 +29,7 @@ pub bytes_takes : (k : ℕ) (b : List ℕ) → Takes (λ x c. (c ≡ x) × (leng
 bytes_takes k b = cond_takes (λ x c. (c ≡ x) × (length c ≡ k)) b (ltb (length b) k)
     (Err (Truncated, [])) (Ok (take k b, drop k b)) (λ e. tt)
     (λ e. let long : k ≤ length b = ltb-false _ _ e in
-        (take k b, sym (take-append-drop k b), (refl, omega (arith, length-take k b))))
+    (take k b, sym (take-append-drop k b), (refl, omega (arith, length-take k b))))
 
 abbrev pub Fits : Target → ℕ → List ℕ → Type 0
 Fits m x c = (x < 256 ^ target_bytes m) × (c ≡ compact x)
@@ -51,12 +39,18 @@ form_takes : (m : Target) (b : List ℕ) (k : ℕ) (r : Read Reason (List ℕ)) 
 form_takes m b k (Err e) h = tt
 form_takes m b k (Ok x) h = let n = form_number x.0 in
     cond_takes (Fits m) b (not (bytes_eq (compact n) x.0)) (Err (CompactNotShortest, b))
-        (cond (nat_lt n (256 ^ target_bytes m)) (Ok (n, x.1)) (Err (CompactTooLarge, b))) (λ e. tt)
-        (λ e.
+    (cond (nat_lt n (256 ^ target_bytes m)) (Ok (n, x.1)) (Err (CompactTooLarge, b))) (λ e. tt)
+    (λ e.
     cond_takes (Fits m) b (nat_lt n (256 ^ target_bytes m)) (Ok (n, x.1)) (Err (CompactTooLarge, b))
-        (λ small.
-    (h.0, h.1, (ltb-true _ _ small, h.2.0
-        ∙ sym ((bytes_eq-Decides (compact n) x.0).0 (not-false _ e))))) (λ e. tt))
+    (λ small. (
+      h.0,
+      h.1,
+      (
+        ltb-true _ _ small,
+        h.2.0
+            ∙ sym ((bytes_eq-Decides (compact n) x.0).0 (not-false _ e)),
+      ),
+    )) (λ e. tt))
 
 integer_takes : (m : Target) (b : List ℕ) → Takes (Fits m) b (integer_at m b)
 integer_takes m [] = tt
@@ -64,7 +58,7 @@ integer_takes m (first ∷ rest) =
     cond_takes (Fits m) (first ∷ rest) (is_too_long m first) (Err (CompactTooLarge, first ∷ rest))
     (form_from m (first ∷ rest) (bytes_at (form_len first) (first ∷ rest))) (λ e. tt)
     (λ e. form_takes m (first ∷ rest) (form_len first) (bytes_at (form_len first) (first ∷ rest))
-        (bytes_takes (form_len first) (first ∷ rest)))
+    (bytes_takes (form_len first) (first ∷ rest)))
 
 pub compact_takes : (m : Target) (b : List ℕ) → Takes (IsCompact m) b (compact_at m b)
 unfolding compact_at
@@ -85,7 +79,7 @@ then_takes Q b c rest (Ok y) eq h = (c ++ h.0, rw (eq, h.1) (sym (append_assoc c
 pub bind_takes : {E X Y : Type 0} (P : X → List ℕ → Type 0) (Q : Y → List ℕ → Type 0) (b : List ℕ)
     (r : Read E X) (f : X × List ℕ → Read E Y) →
     Takes P b r → ((x : X × List ℕ) (c : List ℕ) → P x.0 c →
-        Takes (λ y d. Q y (c ++ d)) x.1 (f x)) → Takes Q b (r >>= f)
+    Takes (λ y d. Q y (c ++ d)) x.1 (f x)) → Takes Q b (r >>= f)
 bind_takes P Q b (Err e) f h g = tt
 bind_takes P Q b (Ok x) f h g = then_takes Q b h.0 x.1 (f x) h.1 (g x h.0 h.2)
 
@@ -105,15 +99,18 @@ pub bytes_extends : (k : ℕ) (b more : List ℕ) →
     Extends Truncated more (bytes_at k b) (bytes_at k (b ++ more))
 bytes_extends k b more = elim (cases_lt (length b) k) [
   | inl lt ↦ rw (lt-ltb (length b) k lt) (λ ne. absurd (ne refl))
-  | inr le ↦ rw (le-ltb (length b) k le,
-      le-ltb (length (b ++ more)) k (omega (arith, length-append b more)),
-      take-append-le k b more le, drop-append-le k b more le) refl
+  | inr le ↦ rw (
+    le-ltb (length b) k le,
+    le-ltb (length (b ++ more)) k (omega (arith, length-append b more)),
+    take-append-le k b more le,
+    drop-append-le k b more le,
+  ) refl
 ]
 
 pub bind_extends : {E X Y : Type 0} (cut : E) (more : List ℕ) (r s : Read E X)
     (f g : X × List ℕ → Read E Y) →
     Extends cut more r s → ((x : X × List ℕ) → Extends cut more (f x) (g (x.0, x.1 ++ more))) →
-        Extends cut more (r >>= f) (s >>= g)
+    Extends cut more (r >>= f) (s >>= g)
 bind_extends cut more (Ok x) s f g h k = rw h (k x)
 bind_extends cut more (Err e) s f g h k = λ ne. rw (h ne) refl
 
@@ -133,7 +130,7 @@ form_extends : (m : Target) (b more : List ℕ) (r s : Read Reason (List ℕ)) �
 form_extends m b more (Err e) s h = λ ne. rw (h ne) refl
 form_extends m b more (Ok x) s h = rw h (let n = form_number x.0 in
     cond_extends Truncated more (not (bytes_eq (compact n) x.0)) _ _ _ _ (λ ne. refl)
-        (cond_extends Truncated more (nat_lt n (256 ^ target_bytes m)) _ _ _ _ refl (λ ne. refl)))
+    (cond_extends Truncated more (nat_lt n (256 ^ target_bytes m)) _ _ _ _ refl (λ ne. refl)))
 
 integer_extends : (m : Target) (b more : List ℕ) →
     Extends Truncated more (integer_at m b) (integer_at m (b ++ more))
@@ -141,8 +138,8 @@ integer_extends m [] more = λ ne. absurd (ne refl)
 integer_extends m (first ∷ rest) more =
     cond_extends Truncated more (is_too_long m first) _ _ _ _ (λ ne. refl)
     (form_extends m (first ∷ rest) more (bytes_at (form_len first) (first ∷ rest))
-        (bytes_at (form_len first) (first ∷ rest ++ more))
-        (bytes_extends (form_len first) (first ∷ rest) more))
+    (bytes_at (form_len first) (first ∷ rest ++ more))
+    (bytes_extends (form_len first) (first ∷ rest) more))
 
 pub compact_extends : (m : Target) (b more : List ℕ) →
     Extends Truncated more (compact_at m b) (compact_at m (b ++ more))
@@ -159,11 +156,11 @@ unfolding text_at
 text_takes b = bind_takes (IsCompact U32) IsText b (compact_at U32 b) _ (compact_takes U32 b)
     (λ n c is.
     bind_takes (λ x d. (d ≡ x) × (length d ≡ n.0)) (λ s d. IsText s (c ++ d)) n.1 (bytes_at n.0 n.1)
-        _ (bytes_takes n.0 n.1) (λ s d at.
+    _ (bytes_takes n.0 n.1) (λ s d at.
     cond_takes (λ s' d'. IsText s' (c ++ (d ++ d'))) s.1 (is_utf8 s.0) (Ok s)
-        (Err (BadUtf8, drop (utf8_valid_len s.0) n.1))
-        (λ valid. let len : length s.0 ≡ n.0 = rw (← at.0) at.1 in
-        ([], refl, (c, rw len is, valid, rw (append-nil, at.0) refl))) (λ e. tt)))
+    (Err (BadUtf8, drop (utf8_valid_len s.0) n.1))
+    (λ valid. let len : length s.0 ≡ n.0 = rw (← at.0) at.1 in
+    ([], refl, (c, rw len is, valid, rw (append-nil, at.0) refl))) (λ e. tt)))
 
 abbrev judged : List ℕ → List ℕ × List ℕ → Read Reason (List ℕ)
 judged from s = cond (is_utf8 s.0) (Ok s) (Err (BadUtf8, drop (utf8_valid_len s.0) from))
@@ -176,11 +173,14 @@ judged_extends k from more = elim (cases_lt (length from) k) [
   | inr le ↦
       let front = take k from in
       let short : utf8_valid_len front ≤ length from =
-          omega (arith, utf8_valid_len_le front, length-take k from) in
-      rw (le-ltb (length from) k le,
-          le-ltb (length (from ++ more)) k (omega (arith, length-append from more)),
-          take-append-le k from more le, drop-append-le k from more le,
-          drop-append-le (utf8_valid_len front) from more short)
+      omega (arith, utf8_valid_len_le front, length-take k from) in
+      rw (
+        le-ltb (length from) k le,
+        le-ltb (length (from ++ more)) k (omega (arith, length-append from more)),
+        take-append-le k from more le,
+        drop-append-le k from more le,
+        drop-append-le (utf8_valid_len front) from more short,
+      )
       (cond_extends Truncated more (is_utf8 front) _ _ _ _ refl (λ ne. refl))
 ]
 

@@ -3,13 +3,9 @@ use Rattle.std.proofs.Common.{◌≡◌, ℕ, List, ◌++◌, sym, ap, ◌∙◌
 use Rattle.scale_core.specs.Compact.{IsCompact}
 use Rattle.scale_core.specs.Text.{IsText}
 use Rattle.scale_core.specs.Read.{compact_at, text_at}
-use Rattle.scale_core.specs.Laws.{
-    CompactIsPrefixFree, CompactIsSpelled, TextIsPrefixFree, TextIsSpelled
-}
+use Rattle.scale_core.specs.Laws.{CompactIsPrefixFree, CompactIsSpelled, TextIsPrefixFree, TextIsSpelled}
 use Rattle.scale_core.specs.declared.compact.Target.{Target}
-use Rattle.scale_core.specs.declared.compact.Target.TheVariants.{
-    Unit as TUnit, U8, U16, U32, U64, U128
-}
+use Rattle.scale_core.specs.declared.compact.Target.TheVariants.{Unit as TUnit, U8, U16, U32, U64, U128}
 use Rattle.scale_core.specs.declared.fault.Reason.{Reason}
 use Rattle.scale_core.proofs.Again.{compact_again, text_again}
 use Rattle.scale_core.proofs.Results.{done_is, compact_takes, text_takes}
@@ -27,7 +23,7 @@ prefix_free m x y a b rest more h k e =
     let one = compact_again m x a rest h in
     let two = compact_again m y b more k in
     let same : x ≡ y = ap (λ (p : ℕ × List ℕ). p.0)
-        (done_is {E = Reason} (x, rest) (y, more) (sym one ∙ ap (compact_at m) e ∙ two)) in
+    (done_is {E = Reason} (x, rest) (y, more) (sym one ∙ ap (compact_at m) e ∙ two)) in
     (same, one_spelling m x a b h (rw same k))
 
 pub compact_spelled : CompactIsSpelled
@@ -42,7 +38,7 @@ text_prefix_free s t a b rest more h k e =
     let one = text_again s a rest h in
     let two = text_again t b more k in
     let same : s ≡ t = ap (λ (p : List ℕ × List ℕ). p.0)
-        (done_is {E = Reason} (s, rest) (t, more) (sym one ∙ ap text_at e ∙ two)) in
+    (done_is {E = Reason} (s, rest) (t, more) (sym one ∙ ap text_at e ∙ two)) in
     (same, one_text s a b h (rw same k))
 
 pub text_spelled : TextIsSpelled

@@ -1,8 +1,5 @@
 -- What the decoder's answer says of the value that all the bytes spell.
-use Rattle.std.proofs.Common.{
-    ◌≡◌, ◌==◌, ℕ, ◌<◌, ◌≤◌, List, [], ◌++◌, length, Bool, true, false, Option, Some, None,
-    option_map, option_and_then, Result, Ok, Err, refl, sym, ap, ◌∙◌, arith, subst, inl, inr, take
-}
+use Rattle.std.proofs.Common.{◌≡◌, ◌==◌, ℕ, ◌<◌, ◌≤◌, List, [], ◌++◌, length, Bool, true, false, Option, Some, None, option_map, option_and_then, Result, Ok, Err, refl, sym, ap, ◌∙◌, arith, subst, inl, inr, take}
 use Rattle.std.specs.Prelude.{IfSome, if◌then◌else◌, nat_lt}
 use Rattle.std.proofs.lemmas.Bool.{cases_lt, eq-eqb, ne_eqb}
 use Rattle.std.proofs.lemmas.List.{append-nil, length-append, length-take}
@@ -23,18 +20,13 @@ use Rattle.decode_core.specs.declared.pieces.PiecesFault.TheVariants as pieces
 use Rattle.decode_core.specs.declared.stream.StreamFault.{StreamFault}
 use Rattle.decode_core.specs.declared.stream.StreamFault.TheVariants as stream
 use Rattle.decode_core.proofs.lists.Computed.{outcome_is_computed}
-use Rattle.scale_tool.specs.Refused.{
-    bytes_in_value, bytes_refusal, bytes_refusal_by, pieces_refusal, stream_refusal,
-    status_of_bytes, status_of_value
-}
+use Rattle.scale_tool.specs.Refused.{bytes_in_value, bytes_refusal, bytes_refusal_by, pieces_refusal, stream_refusal, status_of_bytes, status_of_value}
 use Rattle.scale_tool.specs.declared.refusal.BytesRefusal.{BytesRefusal}
 use Rattle.scale_tool.specs.declared.refusal.HexFault.{HexFault}
 use Rattle.scale_tool.specs.declared.refusal.BytesRefusal.TheVariants as bytes
 use Rattle.scale_tool.specs.declared.refusal.ValueRefusal.{ValueRefusal}
 use Rattle.scale_tool.specs.HexText.{hex_bytes}
-use Rattle.scale_tool.specs.Values.{
-    TellsBytes, TellsFile, decoding, file_value, told, value_bytes, value_in, whole
-}
+use Rattle.scale_tool.specs.Values.{TellsBytes, TellsFile, decoding, file_value, told, value_bytes, value_in, whole}
 
 -- the value that an outcome gives to so many bytes
 abbrev value_by : ℕ → List TypeInfo → ℕ → Outcome × ℕ → Option Seen
@@ -62,7 +54,7 @@ pub spelled : (id depth : ℕ) (types : List TypeInfo) (b : List ℕ) (v : Seen)
 spelled id depth types b v n all of h =
     by_outcome id depth types b (done v.tree) n h
     ∙ ap (option_map (λ t. record { types = types; ty = id; tree = t }))
-        (whole_where (length b) n v.tree true (eq-eqb n (length b) all))
+    (whole_where (length b) n v.tree true (eq-eqb n (length b) all))
     ∙ ap Some (seen_is types id v of.0 of.1)
 
 -- some of them are not
@@ -72,7 +64,7 @@ pub not_all : (id depth : ℕ) (types : List TypeInfo) (b : List ℕ) (v : Tree)
 not_all id depth types b v n some h =
     by_outcome id depth types b (done v) n h
     ∙ ap (option_map (λ t. record { types = types; ty = id; tree = t }))
-        (whole_where (length b) n v false (ne_eqb n (length b) some))
+    (whole_where (length b) n v false (ne_eqb n (length b) some))
 
 -- the limits of a value
 abbrev made : ℕ → Limits
@@ -134,22 +126,22 @@ pieced id depth types forbidden b (pieces.Decode f) none h one = faulted id dept
 pub stream_value : (id depth : ℕ) (types : List TypeInfo) (limits : Limits) (b : List ℕ)
     (v : Seen) → limits ≡ made depth →
     Streams (opening_fault types id limits) (job_of types id limits) b (Ok v) →
-        value_in id depth types b ≡ Some v
+    value_in id depth types b ≡ Some v
 stream_value id depth types limits b v is h =
     let P : Limits → Type 0 =
-        λ l. Streams (opening_fault types id l) (job_of types id l) b (Ok v) in
+    λ l. Streams (opening_fault types id l) (job_of types id l) b (Ok v) in
     let s = subst P is h in
     spelled id depth types b v (length b) refl s.1 s.2
 
 pub stream_fault : (id depth : ℕ) (types : List TypeInfo) (limits : Limits) (b : List ℕ)
     (f : StreamFault) → limits ≡ made depth → id < length types → depth ≤ 1024 →
     Streams (opening_fault types id limits) (job_of types id limits) b (Err f) →
-        status_of_value (stream_refusal f) ≡ 1 → value_in id depth types b ≡ None
+    status_of_value (stream_refusal f) ≡ 1 → value_in id depth types b ≡ None
 stream_fault id depth types limits b f is known served h =
     let P : Limits → Type 0 =
-        λ l. Streams (opening_fault types id l) (job_of types id l) b (Err f) in
+    λ l. Streams (opening_fault types id l) (job_of types id l) b (Err f) in
     streamed id depth types (opening_fault types id (made depth)) b f
-        (none_forbids id depth types known served) (subst P is h)
+    (none_forbids id depth types known served) (subst P is h)
 
 abbrev JoinsBy : ℕ → List TypeInfo → Result (Seen × ℕ) PiecesFault → Limits → List ℕ → Type 0
 JoinsBy id types r limits joined =
@@ -179,10 +171,10 @@ joined_front id depth types limits b v n is some h =
 pub joined_fault : (id depth : ℕ) (types : List TypeInfo) (limits : Limits) (b : List ℕ)
     (f : PiecesFault) → limits ≡ made depth → id < length types → depth ≤ 1024 →
     JoinsBy id types (Err f) limits (b ++ []) → status_of_bytes (pieces_refusal f) ≡ 1 →
-        value_in id depth types b ≡ None
+    value_in id depth types b ≡ None
 joined_fault id depth types limits b f is known served h =
     pieced id depth types (opening_fault types id (made depth)) b f
-        (none_forbids id depth types known served) (joins_made id depth types limits b (Err f) is h)
+    (none_forbids id depth types known served) (joins_made id depth types limits b (Err f) is h)
 
 -- a fact about bytes that may be known gives another
 pub where_known : (bytes : Option (List ℕ)) (P Q : List ℕ → Type 0) → ((b : List ℕ) → P b → Q b) →
@@ -231,40 +223,40 @@ pieces_told j forbidden b (pieces.Decode f) none h = by_reason f.reason j b f h.
 pub stream_tells : (id depth : ℕ) (types : List TypeInfo) (limits : Limits) (b : List ℕ)
     (f : StreamFault) → limits ≡ made depth → id < length types → depth ≤ 1024 →
     Streams (opening_fault types id limits) (job_of types id limits) b (Err f) →
-        TellsFile false (decoding id depth types) b (stream_refusal f)
+    TellsFile false (decoding id depth types) b (stream_refusal f)
 stream_tells id depth types limits b f is known served h =
     let P : Limits → Type 0 =
-        λ l. Streams (opening_fault types id l) (job_of types id l) b (Err f) in
+    λ l. Streams (opening_fault types id l) (job_of types id l) b (Err f) in
     stream_told (decoding id depth types) (opening_fault types id (made depth)) b f
-        (none_forbids id depth types known served) (subst P is h)
+    (none_forbids id depth types known served) (subst P is h)
 
 pub joined_tells : (id depth : ℕ) (types : List TypeInfo) (limits : Limits) (b : List ℕ)
     (f : PiecesFault) → limits ≡ made depth → id < length types → depth ≤ 1024 →
     JoinsBy id types (Err f) limits (b ++ []) →
-        TellsBytes (decoding id depth types) b (pieces_refusal f)
+    TellsBytes (decoding id depth types) b (pieces_refusal f)
 joined_tells id depth types limits b f is known served h =
     pieces_told (decoding id depth types) (opening_fault types id (made depth)) b f
-        (none_forbids id depth types known served) (joins_made id depth types limits b (Err f) is h)
+    (none_forbids id depth types known served) (joins_made id depth types limits b (Err f) is h)
 
 -- a reader's bytes are fed but for want of memory
 pub stream_opens : (id depth : ℕ) (types : List TypeInfo) (limits : Limits) (f : StreamFault) →
     limits ≡ made depth → id < length types → depth ≤ 1024 →
     ((why : OpenFault) → f ≡ stream.Open why → Forbids (opening_fault types id limits) why) →
-        (why : OpenFault) → f ≡ stream.Open why → why ≡ opening.OutOfMemory
+    (why : OpenFault) → f ≡ stream.Open why → why ≡ opening.OutOfMemory
 stream_opens id depth types limits f is known served h why opened =
     only_memory (opening_fault types id (made depth)) why (none_forbids id depth types known served)
-        (subst (λ l. Forbids (opening_fault types id l) why) is (h why opened))
+    (subst (λ l. Forbids (opening_fault types id l) why) is (h why opened))
 
 -- pieces that are joined are opened but for want of memory
 pub joined_opens : (id depth : ℕ) (types : List TypeInfo) (limits : Limits) (b : List ℕ)
     (f : PiecesFault) → limits ≡ made depth → id < length types → depth ≤ 1024 →
     JoinsBy id types (Err f) limits b → (why : OpenFault) → f ≡ pieces.Open why →
-        why ≡ opening.OutOfMemory
+    why ≡ opening.OutOfMemory
 joined_opens id depth types limits b f is known served h why opened =
     let P : Limits → Type 0 = λ l. JoinsBy id types (Err f) l b in
     let at : JoinsBy id types (Err f) (made depth) b = subst P is h in
     only_memory (opening_fault types id (made depth)) why (none_forbids id depth types known served)
-        (subst (λ x. JoinsBy id types (Err x) (made depth) b) opened at)
+    (subst (λ x. JoinsBy id types (Err x) (made depth) b) opened at)
 
 -- ---- the value of a text of digits
 
@@ -287,18 +279,18 @@ pub hex_refused : (id depth : ℕ) (types : List TypeInfo) (old new text file b 
     (e : BytesRefusal) (r : ValueRefusal) → old ≡ [] → new ≡ old ++ file → text ≡ new →
     hex_bytes text ≡ Ok b →
     r ≡ bytes_in_value e → (status_of_bytes e ≡ 1 → value_in id depth types b ≡ None) →
-        status_of_value r ≡ 1 → file_value true id depth types file ≡ None
+    status_of_value r ≡ 1 → file_value true id depth types file ≡ None
 hex_refused id depth types old new text file b e r none all same is made h one =
     hex_some id depth types file b (ap hex_bytes (sym (gathered old new text file none all same))
-        ∙ is) ∙ h (sym (ap status_of_value made) ∙ one)
+    ∙ is) ∙ h (sym (ap status_of_value made) ∙ one)
 
 pub hex_tells : (j : Job) (old new text file b : List ℕ) (e : BytesRefusal) (r : ValueRefusal) →
     old ≡ [] → new ≡ old ++ file → text ≡ new → hex_bytes text ≡ Ok b →
     r ≡ bytes_in_value e → TellsBytes j b e → TellsFile true j file r
 hex_tells j old new text file b e r none all same is made h =
     subst (λ x. TellsFile true j file x) (sym made)
-        (tells_file true j file b e
-        (ap told (ap hex_bytes (sym (gathered old new text file none all same)) ∙ is)) h)
+    (tells_file true j file b e
+    (ap told (ap hex_bytes (sym (gathered old new text file none all same)) ∙ is)) h)
 
 short : (n len : ℕ) → n ≤ len → (n ≡ len → ⊥) → n < len
 short n len le some = elim (cases_lt n len)

@@ -1,18 +1,11 @@
 -- What a hexadecimal text holds, by its digits, and where it is refused.
-use Rattle.std.proofs.Common.{
-    ◌≡◌, ℕ, suc, ◌+◌, ◌-◌, ◌*◌, ◌<◌, ◌≤◌, ◌%◌, ◌==◌, List, [], ◌∷◌, length, Bool, true, false,
-    Option, Some, None, Result, Ok, Err, arith, refl, sym, ◌∙◌, ap, take, drop, inl, inr
-}
+use Rattle.std.proofs.Common.{◌≡◌, ℕ, suc, ◌+◌, ◌-◌, ◌*◌, ◌<◌, ◌≤◌, ◌%◌, ◌==◌, List, [], ◌∷◌, length, Bool, true, false, Option, Some, None, Result, Ok, Err, arith, refl, sym, ◌∙◌, ap, take, drop, inl, inr}
 use Rattle.std.specs.Prelude.{if◌then◌else◌, ◌⊎◌}
 use Rattle.std.proofs.lemmas.List.{length-drop, length-take, take_all}
 use Rattle.scale_tool.specs.HexText.{digits_end, hex_bytes, placed, prefix_len}
-use Rattle.hex.specs.Hex.{
-    decode_of, decode_pairs, digit_or_error, hex_digit_value, pair_value, ◌>>=◌
-}
+use Rattle.hex.specs.Hex.{decode_of, decode_pairs, digit_or_error, hex_digit_value, pair_value, ◌>>=◌}
 use Rattle.hex.specs.declared.error.FromHexError.{FromHexError}
-use Rattle.hex.specs.declared.error.FromHexError.TheVariants.{
-    InvalidHexCharacter, InvalidStringLength, OddLength, OutOfMemory
-}
+use Rattle.hex.specs.declared.error.FromHexError.TheVariants.{InvalidHexCharacter, InvalidStringLength, OddLength, OutOfMemory}
 
 -- the byte of two digits is refused at one of them
 pair_within : (high low from c i : ℕ) (h l : Option ℕ) →
@@ -41,7 +34,7 @@ pairs_within from (digit ∷ []) c i e = absurd cc
 pairs_within from (high ∷ low ∷ rest) c i e =
     next_within from c i (length rest) (pair_value high low from) (decode_pairs (from + 2) rest)
     (λ p. pair_within high low from c i (hex_digit_value high) (hex_digit_value low) p)
-        (λ p. pairs_within (from + 2) rest c i p) e
+    (λ p. pairs_within (from + 2) rest c i p) e
 
 either_within : (odd : Bool) (text : List ℕ) (c i : ℕ) →
     (if odd then Err OddLength else decode_pairs 0 text) ≡ Err (InvalidHexCharacter c i) →
@@ -83,8 +76,14 @@ pub place_within : (text rest : List ℕ) (start end c i : ℕ) → start ≤ le
     rest ≡ drop start text → decode_of (take end rest) ≡ Err (InvalidHexCharacter c i) →
     start + i < length text
 place_within text rest start end c i inside is e =
-    omega (arith, inside, bad_within (take end rest) c i e, length-take end rest, ap length is,
-    length-drop start text)
+    omega (
+      arith,
+      inside,
+      bad_within (take end rest) c i e,
+      length-take end rest,
+      ap length is,
+      length-drop start text,
+    )
 
 -- the bytes by what was decoded
 pub hex_is : (text rest : List ℕ) (start end : ℕ) (r : Result (List ℕ) FromHexError) →

@@ -1,8 +1,5 @@
 -- The lines of the first types, and of one more.
-use Rattle.std.proofs.Common.{
-    ◌≡◌, ◌<◌, ◌+◌, ℕ, zero, suc, List, [], ◌∷◌, ◌++◌, length, take, get_or, sym, ap, ◌∙◌,
-    append_assoc, append-nil, arith, add-one, subst, Option, Some, ◌≤◌
-}
+use Rattle.std.proofs.Common.{◌≡◌, ◌<◌, ◌+◌, ℕ, zero, suc, List, [], ◌∷◌, ◌++◌, length, take, get_or, sym, ap, ◌∙◌, append_assoc, append-nil, arith, add-one, subst, Option, Some, ◌≤◌}
 use Rattle.std.specs.Prelude.{SomeIff}
 use Rattle.std.proofs.lemmas.List.{take_all}
 use Rattle.registry_core.specs.declared.type_info.TypeInfo.{TypeInfo}
@@ -21,11 +18,11 @@ lines_from-take r k [] i d short = absurd (omega arith)
 lines_from-take r k (x ∷ xs) zero d short = append-nil _ ∙ lines_at r k (k + 0) x (omega arith)
 lines_from-take r k (x ∷ xs) (suc i) d short =
     ap (λ v. line_of_type k (class_of r k) x ++ v)
-        (lines_from-take r (k + 1) xs i d (omega arith)
-        ∙ ap (λ v. lines_from r (k + 1) (take i xs) ++ v)
-        (lines_at r (k + 1 + i) (k + suc i) (get_or xs i d) (omega arith)))
+    (lines_from-take r (k + 1) xs i d (omega arith)
+    ∙ ap (λ v. lines_from r (k + 1) (take i xs) ++ v)
+    (lines_at r (k + 1 + i) (k + suc i) (get_or xs i d) (omega arith)))
     ∙ sym (append_assoc (line_of_type k (class_of r k) x) (lines_from r (k + 1) (take i xs))
-        (line_of_type (k + suc i) (class_of r (k + suc i)) (get_or xs i d)))
+    (line_of_type (k + suc i) (class_of r (k + suc i)) (get_or xs i d)))
 
 pub class_is : (o : Option Class) (P : Type 0) (class known : Class) → SomeIff o P known →
     o ≡ Some class → class ≡ known
@@ -42,8 +39,8 @@ lines_next r xs i x class so_far new inside item is before added =
     ∙ ap (λ c. lines_from r 0 (take i xs) ++ line_of_type i c x) is
     ∙ ap (λ y. lines_from r 0 (take i xs) ++ line_of_type i (class_of r i) y) item
     ∙ sym (ap (λ n. lines_from r 0 (take n xs)) (add-one i) ∙ lines_from-take r 0 xs i x inside
-        ∙ ap (λ v. lines_from r 0 (take i xs) ++ v)
-        (lines_at r (0 + i) i (get_or xs i x) (omega arith)))
+    ∙ ap (λ v. lines_from r 0 (take i xs) ++ v)
+    (lines_at r (0 + i) i (get_or xs i x) (omega arith)))
 
 -- the lines of all
 pub lines_whole : (r xs : List TypeInfo) (i : ℕ) (so_far : List ℕ) → length xs ≤ i → xs ≡ r →

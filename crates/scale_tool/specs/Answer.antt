@@ -1,8 +1,5 @@
 -- What the command writes for its job.
-use Rattle.std.specs.Prelude.{
-    ◌≡◌, ◌≤◌, nat_lt, if◌then◌else◌, ℕ, List, [], ◌∷◌, ◌++◌, length, take, Option, Some, None, Ok,
-    Err, Bool, true, option_map, option_and_then, false
-}
+use Rattle.std.specs.Prelude.{◌≡◌, ◌≤◌, nat_lt, if◌then◌else◌, ℕ, List, [], ◌∷◌, ◌++◌, length, take, Option, Some, None, Ok, Err, Bool, true, option_map, option_and_then, false}
 use Rattle.std.specs.Io.KnownBytes.{Appends, Keeps}
 use Rattle.scale_core.specs.Read.{Read}
 use Rattle.registry_core.specs.Reading.{registry_at, metadata_at}
@@ -57,7 +54,7 @@ line_of v = json_text v ++ 10 ∷ []
 abbrev pub value_text : Bool → Bool → ℕ → ℕ → List ℕ → List ℕ → Option (List ℕ)
 value_text metadata hex id depth registry value =
     option_and_then (λ types. option_map line_of (file_value hex id depth types value))
-        (types_with metadata id registry)
+    (types_with metadata id registry)
 
 -- the text of a registry's types, where its bytes are not refused
 abbrev pub types_text : Bool → List ℕ → Option (List ℕ)

@@ -1,10 +1,6 @@
 -- The command line, and the job that its words name.
-use Rattle.std.specs.Prelude.{
-    ◌≡◌, ◌<◌, ◌≤◌, ◌^◌, ℕ, List, Some, None, Option, true, false, Bool, codes
-}
-use Rattle.clap.specs.Words.{
-    App, Row, Rule, Text, first_of, one_of, new_app, new_rule, with_rule, with_subcommand
-}
+use Rattle.std.specs.Prelude.{◌≡◌, ◌<◌, ◌≤◌, ◌^◌, ℕ, List, Some, None, Option, true, false, Bool, codes}
+use Rattle.clap.specs.Words.{App, Row, Rule, Text, first_of, one_of, new_app, new_rule, with_rule, with_subcommand}
 use Rattle.std.specs.Str.Parse.{IsNumeral, digits_value}
 use Rattle.scale_tool.specs.declared.task.Job.{Job}
 use Rattle.scale_tool.specs.declared.task.Job.TheVariants as jobs
@@ -84,7 +80,7 @@ IsJob (jobs.Types from_metadata) file_name (Some value_name) sub = ⊥
 IsJob (jobs.Decode position from_metadata from_hex greatest_depth) file_name None sub = ⊥
 IsJob (jobs.Decode position from_metadata from_hex greatest_depth) file_name (Some value_name) sub =
     (rows : List Row) × (sub ≡ Some (codes "decode", rows))
-        × IsDecode position from_metadata from_hex greatest_depth file_name value_name rows
+    × IsDecode position from_metadata from_hex greatest_depth file_name value_name rows
 
 -- the job's numbers, where it has some, are within their ranges
 abbrev pub FitsJob : Job → Type 0

@@ -52,8 +52,8 @@ joined (s ∷ ss) = s ++ flat_map (λ t. codes "::" ++ t) ss
 abbrev pub line_of_type : ℕ → Class → TypeInfo → List ℕ
 line_of_type i class info =
     decimal i ++ 32 ∷ (class_name
-        class ++ 32 ∷ (kind_name
-        info.shape ++ 32 ∷ (compact_text (string (joined info.path)) ++ 10 ∷ [])))
+    class ++ 32 ∷ (kind_name
+    info.shape ++ 32 ∷ (compact_text (string (joined info.path)) ++ 10 ∷ [])))
 
 -- the lines of these types of r, from position i on
 abbrev pub lines_from : List TypeInfo → ℕ → List TypeInfo → List ℕ

@@ -1,8 +1,5 @@
 -- The value of a job, by what its file holds.
-use Rattle.std.specs.Prelude.{
-    ◌≡◌, ◌==◌, ℕ, List, length, Bool, true, false, if◌then◌else◌, Option, Some, None, option_map,
-    option_and_then, Result, Ok, Err
-}
+use Rattle.std.specs.Prelude.{◌≡◌, ◌==◌, ℕ, List, length, Bool, true, false, if◌then◌else◌, Option, Some, None, option_map, option_and_then, Result, Ok, Err}
 use Rattle.registry_core.specs.declared.type_info.TypeInfo.{TypeInfo}
 use Rattle.grammar_core.specs.Tree.{Tree}
 use Rattle.value_core.specs.Shown.{Seen}
@@ -34,7 +31,7 @@ abbrev pub value_in : ℕ → ℕ → List TypeInfo → List ℕ → Option Seen
 value_in id depth types bytes =
     option_map (λ v. record { types = types; ty = id; tree = v })
     (whole (length bytes) (outcome_of (decoding id depth types) bytes).0
-        (outcome_of (decoding id depth types) bytes).1)
+    (outcome_of (decoding id depth types) bytes).1)
 
 abbrev pub told : Result (List ℕ) HexFault → Option (List ℕ)
 told (Ok bytes) = Some bytes

@@ -1,8 +1,5 @@
 -- A node more: the value that is being built stays one.
-use Rattle.std.proofs.Common.{
-    Option, None, drop, ◌≡◌, ℕ, zero, suc, ◌+◌, ◌-◌, ◌≤◌, List, [], ◌∷◌, ◌++◌, Bool, true, false,
-    length, take, drop, slice_range, Some, refl, ap, ◌∙◌, arith, length-append
-}
+use Rattle.std.proofs.Common.{Option, None, drop, ◌≡◌, ℕ, zero, suc, ◌+◌, ◌-◌, ◌≤◌, List, [], ◌∷◌, ◌++◌, Bool, true, false, length, take, drop, slice_range, Some, refl, ap, ◌∙◌, arith, length-append}
 use Rattle.std.proofs.lemmas.List.{length-map, map-append, take-append-le}
 use Rattle.scale_core.specs.Number.{AreBytes}
 use Rattle.scale_core.proofs.Numbers.{both_bytes}
@@ -17,9 +14,7 @@ use Rattle.grammar_core.specs.Cells.{Cell, cells}
 use Rattle.value_core.specs.Shown.{head_shown, cell_shown, cells_shown, IsInPool, AreInPool}
 use Rattle.value_core.specs.Spine.{OpenNode, open_part, open_cell, open_cells, IsOpen, Spine}
 use Rattle.value_core.specs.Walked.{OpenPart, Walked, first_in, advanced, opened, next_of}
-use Rattle.value_core.specs.Built.{
-    Entry, entries_shown, head_text_bytes, entries_text_bytes, IsLeaf, IsNextLeaf, IsNextOpen
-}
+use Rattle.value_core.specs.Built.{Entry, entries_shown, head_text_bytes, entries_text_bytes, IsLeaf, IsNextLeaf, IsNextOpen}
 use Rattle.value_core.specs.Building.{IsBuilding, IsOpenAt, IsOpenText, pieces_shown}
 use Rattle.value_core.specs.Refusals.{missing_at}
 use Rattle.value_core.specs.declared.open_text.OpenText.{OpenText}
@@ -34,20 +29,23 @@ use Rattle.value_core.proofs.Spines.{Grown, value_added, node_opened}
 range_more : (pool more : List ℕ) (start end : ℕ) → start ≤ end → end ≤ length pool →
     slice_range (pool ++ more) start end ≡ slice_range pool start end
 range_more pool more start end h k =
-    rw (range_front (pool ++ more) start end h, range_front pool start end h,
-    take-append-le end pool more k) refl where
-  nothing : (k start : ℕ) → take {A = ℕ} k [] ≡ []
-  nothing zero start = refl
-  nothing (suc k) start = refl
+    rw (
+      range_front (pool ++ more) start end h,
+      range_front pool start end h,
+      take-append-le end pool more k,
+    ) refl where
+      nothing : (k start : ℕ) → take {A = ℕ} k [] ≡ []
+      nothing zero start = refl
+      nothing (suc k) start = refl
 
-  range_front : (xs : List ℕ) (start end : ℕ) → start ≤ end →
-      slice_range xs start end ≡ drop start (take end xs)
-  range_front xs zero end h = ap (λ (k : ℕ). take k xs) (omega arith)
-  range_front [] (suc start) zero h = absurd (omega arith)
-  range_front [] (suc start) (suc end) h = nothing (suc end - suc start) start
-  range_front (x ∷ xs) (suc start) zero h = absurd (omega arith)
-  range_front (x ∷ xs) (suc start) (suc end) h =
-      ap (λ (k : ℕ). take k (drop start xs)) (omega arith) ∙ range_front xs start end (omega arith)
+      range_front : (xs : List ℕ) (start end : ℕ) → start ≤ end →
+          slice_range xs start end ≡ drop start (take end xs)
+      range_front xs zero end h = ap (λ (k : ℕ). take k xs) (omega arith)
+      range_front [] (suc start) zero h = absurd (omega arith)
+      range_front [] (suc start) (suc end) h = nothing (suc end - suc start) start
+      range_front (x ∷ xs) (suc start) zero h = absurd (omega arith)
+      range_front (x ∷ xs) (suc start) (suc end) h =
+          ap (λ (k : ℕ). take k (drop start xs)) (omega arith) ∙ range_front xs start end (omega arith)
 
 head_more : (pool more : List ℕ) (c : Content) → IsInPool pool c →
     head_shown (pool ++ more) c ≡ head_shown pool c
@@ -132,7 +130,7 @@ leaf_grown : (r : List TypeInfo) (room ty : ℕ) (os : List OpenNode) (fs : List
     (cs : List Cell) (own : List ℕ) (t : ℕ) (v : Tree) (c : List ℕ) → first_in fs ≡ Some t →
     Spine r room ty os fs cs own → Val r t v c → levels v ≤ room →
     Grown r room ty (advanced (record { types = r; limit = 0; frames = fs })).frames
-        (cs ++ cells r t v) (own ++ c)
+    (cs ++ cells r t v) (own ++ c)
 leaf_grown r room ty os [] cs own t v c e h k l = absurd cc
 leaf_grown r room ty os (f ∷ fs) cs own t v c e h k l =
     value_added r room ty os f fs cs own t v c h e k l
@@ -152,9 +150,9 @@ pub leaf_added : (ty : ℕ) (w : Walked) (pool more : List ℕ) (ns : List Node)
 leaf_added ty w pool more ns n text_len more_len h b l at shows size within texts short =
     let leaf = leaf_cells w.types l.ty h l.leaf in
     let g = leaf_grown w.types b.room ty b.opens w.frames (cells_shown pool ns) b.own l.ty
-        (tree_with h none) l.own l.next b.spine l.value (omega (arith, leaf.1, b.level, l.room)) in
+    (tree_with h none) l.own l.next b.spine l.value (omega (arith, leaf.1, b.level, l.room)) in
     let cell : cell_shown (pool ++ more) n ≡ record { ty = l.ty; head = h; size = 1 } =
-        rw (at, shows, size) refl in
+    rw (at, shows, size) refl in
     record {
       room = b.room;
       level = omega (arith, b.level, advanced_length w.frames);
@@ -204,8 +202,8 @@ open_grown : (r : List TypeInfo) (room ty : ℕ) (os : List OpenNode) (fs : List
     (cs : List Cell) (own : List ℕ) (o : OpenNode) (p : Part) → first_in fs ≡ Some o.ty →
     Spine r (suc room) ty os fs cs own → IsOpen r o p → most_levels o.done ≤ room →
     Spine r room ty (o ∷ os)
-        (open_part (length cs) p ∷ (advanced (record { types = r; limit = 0; frames = fs })).frames)
-        (cs ++ open_cells r o) (own ++ o.own)
+    (open_part (length cs) p ∷ (advanced (record { types = r; limit = 0; frames = fs })).frames)
+    (cs ++ open_cells r o) (own ++ o.own)
 open_grown r room ty os [] cs own o p e h k l = absurd cc
 open_grown r room ty os (f ∷ fs) cs own o p e h k l =
     node_opened r room ty os f p fs cs own o h e k l
@@ -224,20 +222,26 @@ open_added ty w pool ns n text_len p b l at size = by b.room refl where
       IsBuilding ty (opened (advanced w) (length ns) p) pool (ns ++ n ∷ []) text_len
   by zero e = absurd (omega (arith, e, b.level, l.room))
   by (suc room) e =
-      let o : OpenNode = record { ty = l.ty; kind = l.kind; all = l.count; done = none; own =
-          l.own } in
+      let o : OpenNode = record {
+        ty = l.ty;
+        kind = l.kind;
+        all = l.count;
+        done = none;
+        own =
+            l.own;
+      } in
       let shown = open_shown pool n.content l.kind l.count l.head_is in
       let spine : Spine w.types (suc room) ty b.opens w.frames (cells_shown pool ns) b.own =
-          rw (← e) b.spine in
+      rw (← e) b.spine in
       let g = open_grown w.types room ty b.opens w.frames (cells_shown pool ns) b.own o p l.next
-          spine (l.finite, l.is_open) (omega arith) in
+      spine (l.finite, l.is_open) (omega arith) in
       let cell : cell_shown pool n ≡ open_cell o = rw (at, shown.0, l.head_is, size) refl in
       let cells_are : cells_shown pool (ns ++ n ∷ []) ≡ cells_shown pool ns ++ open_cell o ∷ [] =
-          map-append (cell_shown pool) ns (n ∷ [])
-          ∙ ap (λ (c : Cell). cells_shown pool ns ++ c ∷ []) cell in
+      map-append (cell_shown pool) ns (n ∷ [])
+      ∙ ap (λ (c : Cell). cells_shown pool ns ++ c ∷ []) cell in
       let entries_are : entries_shown pool (ns ++ n ∷ [])
-          ≡ entries_shown pool ns ++ entry_of l.ty (head.branch l.kind l.count) ∷ [] =
-          map-append _ ns (n ∷ []) ∙ rw (at, shown.0, l.head_is) refl in
+      ≡ entries_shown pool ns ++ entry_of l.ty (head.branch l.kind l.count) ∷ [] =
+      map-append _ ns (n ∷ []) ∙ rw (at, shown.0, l.head_is) refl in
       record {
         room = room;
         level = omega (arith, e, b.level, advanced_length w.frames);
@@ -246,9 +250,12 @@ open_added ty w pool ns n text_len p b l at size = by b.room refl where
         opens = o ∷ b.opens;
         spine = rw (cells_are, ← length-map ns (cell_shown pool)) g;
         inside = inside_after pool ns n b.inside shown.1;
-        texts = rw entries_are (omega (arith, b.texts,
-            text_snoc (entries_shown pool ns) (entry_of l.ty (head.branch l.kind l.count)),
-            kind_text l.kind l.count));
+        texts = rw entries_are (omega (
+          arith,
+          b.texts,
+          text_snoc (entries_shown pool ns) (entry_of l.ty (head.branch l.kind l.count)),
+          kind_text l.kind l.count,
+        ));
         fits = b.fits;
       }
 
@@ -258,9 +265,10 @@ pub open_entries : (pool : List ℕ) (ns : List Node) (n : Node) (t : ℕ) (kind
     (entries_shown pool (ns ++ n ∷ [])
     ≡ entries_shown pool ns ++ entry_of t (head_shown [] n.content) ∷ [])
     × (length (entries_shown pool ns) ≡ length ns)
-open_entries pool ns n t kind count at e =
-    (map-append _ ns (n ∷ []) ∙ rw (at, (open_shown pool n.content kind count e).0) refl,
-    length-map ns _)
+open_entries pool ns n t kind count at e = (
+  map-append _ ns (n ∷ []) ∙ rw (at, (open_shown pool n.content kind count e).0) refl,
+  length-map ns _,
+)
 
 -- ---- bytes of an open text
 
@@ -294,17 +302,29 @@ pub open_longer : (w : Walked) (pool more : List ℕ) (text_len : ℕ) (text : O
     AreBytes more → IsOpenText w pool text_len text →
     IfOk (missing_at (pieces_shown pool text) (next_of w)) (λ n. length more ≤ n) →
     IsOpenText w (pool ++ more) text_len text
-        × (pieces_shown (pool ++ more) text
-        ≡ option_map (λ t. record { len = t.len; bytes = t.bytes ++ more })
-        (pieces_shown pool text))
+    × (pieces_shown (pool ++ more) text
+    ≡ option_map (λ t. record { len = t.len; bytes = t.bytes ++ more })
+    (pieces_shown pool text))
 open_longer w pool more text_len None p h k = (tt, refl)
 open_longer w pool more text_len (Some o) p h k =
     let lacks : length more ≤ o.len - length (drop o.start pool) = rw h.is_next at k in (
-      record { is_next = h.is_next; inside = omega (arith, h.inside, length-append pool more);
-          short = omega (arith, h.inside, h.short, lacks, length-append pool more,
-          length-drop o.start pool); behind = h.behind; are_bytes =
-          rw (drop_more o.start pool more h.inside)
-          (both_bytes (drop o.start pool) more h.are_bytes p); spelled = h.spelled },
+      record {
+        is_next = h.is_next;
+        inside = omega (arith, h.inside, length-append pool more);
+        short = omega (
+          arith,
+          h.inside,
+          h.short,
+          lacks,
+          length-append pool more,
+          length-drop o.start pool,
+        );
+        behind = h.behind;
+        are_bytes =
+            rw (drop_more o.start pool more h.inside)
+            (both_bytes (drop o.start pool) more h.are_bytes p);
+        spelled = h.spelled;
+      },
       ap (λ (b : List ℕ). Some (record { len = o.len; bytes = b }))
           (drop_more o.start pool more h.inside),
     )
@@ -321,9 +341,11 @@ pub open_whole : (w : Walked) (pool : List ℕ) (text_len : ℕ) (o : OpenText) 
 open_whole w pool text_len o h e =
     let lacks : o.len - length (drop o.start pool) ≡ 0 = ok_is (rw h.is_next at e) in
     let whole : o.start + o.len ≡ length pool =
-        omega (arith, lacks, h.inside, h.short, length-drop o.start pool) in
-    (whole, ap (λ (k : ℕ). take k (drop o.start pool))
-        (omega (arith, whole, length-drop o.start pool))
-        ∙ take_all (length (drop o.start pool)) (drop o.start pool) (omega arith)) where
+    omega (arith, lacks, h.inside, h.short, length-drop o.start pool) in (
+      whole,
+      ap (λ (k : ℕ). take k (drop o.start pool))
+          (omega (arith, whole, length-drop o.start pool))
+          ∙ take_all (length (drop o.start pool)) (drop o.start pool) (omega arith),
+    ) where
       ok_is : {E : Type 0} {n : ℕ} → ◌≡◌ {A = Result ℕ E} (Ok n) (Ok 0) → n ≡ 0
       ok_is e = cc

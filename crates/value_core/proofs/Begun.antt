@@ -1,9 +1,6 @@
 -- What a builder holds is a begun tree.
 use Rattle.widths_core.specs.Layouts.{layout}
-use Rattle.std.proofs.Common.{
-    ◌≡◌, ℕ, zero, suc, ◌+◌, ◌-◌, ◌≤◌, Bool, true, false, List, [], ◌∷◌, ◌++◌, length, map, Option,
-    Some, None, refl, sym, ap, flat_map, subst, ◌∙◌, append_assoc, arith, inl, inr, length-append
-}
+use Rattle.std.proofs.Common.{◌≡◌, ℕ, zero, suc, ◌+◌, ◌-◌, ◌≤◌, Bool, true, false, List, [], ◌∷◌, ◌++◌, length, map, Option, Some, None, refl, sym, ap, flat_map, subst, ◌∙◌, append_assoc, arith, inl, inr, length-append}
 use Rattle.std.specs.Prelude.{nat_lt, if◌then◌else◌}
 use Rattle.std.proofs.lemmas.Bool.{lt-ltb, le-ltb, ltb-true, ltb-false}
 use Rattle.std.proofs.lemmas.List.{append-nil, map-append, length-map}
@@ -15,18 +12,13 @@ use Rattle.registry_core.specs.declared.type_info.TypeInfo.{TypeInfo}
 use Rattle.graph_core.specs.Types.{shape}
 use Rattle.widths_core.specs.Classes.{is_finite}
 use Rattle.widths_core.specs.Layouts as layout
-use Rattle.grammar_core.specs.Tree.{
-    Branch, Tree, Trees, nodes, all_nodes, all_text_bytes, most_levels
-}
+use Rattle.grammar_core.specs.Tree.{Branch, Tree, Trees, nodes, all_nodes, all_text_bytes, most_levels}
 use Rattle.grammar_core.specs.Preorder as head
 use Rattle.grammar_core.specs.Tree as tree
 use Rattle.grammar_core.specs.Preorder.{Head, preorder, all_preorder}
 use Rattle.grammar_core.specs.Parts.{Part, each, times, first_of, left_after}
 use Rattle.grammar_core.specs.Cells.{Cell, cells, all_cells}
-use Rattle.grammar_core.specs.Begun.{
-    Begun, nothing, whole, in_fields, in_arm, in_list, IsPart, Grows, IsBegunPreorder, begun_nodes,
-    begun_text_bytes
-}
+use Rattle.grammar_core.specs.Begun.{Begun, nothing, whole, in_fields, in_arm, in_list, IsPart, Grows, IsBegunPreorder, begun_nodes, begun_text_bytes}
 use Rattle.grammar_core.specs.Spelled.{own_bytes, cell_bytes}
 use Rattle.grammar_core.specs.Forms.{next_at}
 use Rattle.grammar_core.specs.declared.form.StopReason.TheVariants as stop
@@ -36,19 +28,13 @@ use Rattle.value_core.specs.Shown.{cell_shown, cells_shown}
 use Rattle.value_core.specs.Spine.{OpenNode, open_cells, IsOpenAs, open_part, Spine}
 use Rattle.grammar_core.specs.Cells.{part_of}
 use Rattle.value_core.specs.Walked.{OpenPart, Walked}
-use Rattle.value_core.specs.Built.{
-    Entry, Pieces, IsSettled, entries_shown, head_text_bytes, settled_in
-}
+use Rattle.value_core.specs.Built.{Entry, Pieces, IsSettled, entries_shown, head_text_bytes, settled_in}
 use Rattle.value_core.specs.Building.{IsPaid, IsBuilding}
 use Rattle.value_core.specs.Refusals.{is_whole_in}
 use Rattle.value_core.specs.Begun.{IsBegun, next_in}
 use Rattle.value_core.specs.declared.node.Node.{Node}
-use Rattle.value_core.proofs.CellsOf.{
-    bare, cells_length, all_cells_length, cells_preorder, all_cells_preorder
-}
-use Rattle.value_core.proofs.Finished.{
-    heads_text, heads_text-append, text_of_preorder, text_of_all_preorder, text_of_entries
-}
+use Rattle.value_core.proofs.CellsOf.{bare, cells_length, all_cells_length, cells_preorder, all_cells_preorder}
+use Rattle.value_core.proofs.Finished.{heads_text, heads_text-append, text_of_preorder, text_of_all_preorder, text_of_entries}
 use Rattle.value_core.proofs.OwnBytes.{spine_bytes}
 use Rattle.value_core.proofs.Spines.{is_cons, spine_is_whole, spine_length}
 
@@ -71,24 +57,73 @@ times_first (suc n) u w e = (omega arith, same_Some u w e)
 around_grows : (r : List TypeInfo) (room : ℕ) (kind : Branch) (t n : ℕ) (vs : Trees) (b : List ℕ)
     (p : Part) (w : ℕ) (g : Begun) (c : List ℕ) (next : Option (ℕ × ℕ)) (hs : List Head) →
     is_finite r t ≡ true → IsOpenAs r kind t n vs b p → most_levels vs ≤ room →
-        first_of p ≡ Some w → Grows r room w g c next → IsPart g → IsBegunPreorder g hs →
+    first_of p ≡ Some w → Grows r room w g c next → IsPart g → IsBegunPreorder g hs →
     Grows r (suc room) t (around kind n vs g) (b ++ c) next × IsPart (around kind n vs g)
-        × IsBegunPreorder (around kind n vs g) (head.branch kind n ∷ (all_preorder vs ++ hs))
+    × IsBegunPreorder (around kind n vs g) (head.branch kind n ∷ (all_preorder vs ++ hs))
 unfolding Grows
 around_grows r room tree.fields t n vs b p w g c next hs finite h l f k part shows =
-    let back = each_first h.1 w (sym (ap first_of h.4) ∙ f) in
-    ((h.0, w, back.0, b, c, finite, h.2 ∙ ap (λ (x : List ℕ). layout.fields (h.0 ++ x)) back.1,
-        refl, h.5, l, part, k), tt, (n, hs, refl, shows))
+    let back = each_first h.1 w (sym (ap first_of h.4) ∙ f) in (
+      (
+        h.0,
+        w,
+        back.0,
+        b,
+        c,
+        finite,
+        h.2 ∙ ap (λ (x : List ℕ). layout.fields (h.0 ++ x)) back.1,
+        refl,
+        h.5,
+        l,
+        part,
+        k,
+      ),
+      tt,
+      (n, hs, refl, shows),
+    )
 around_grows r room (tree.arm q) t n vs b p w g c next hs finite h l f k part shows =
-    let back = each_first h.4 w (sym (ap first_of h.10) ∙ f) in
-    ((h.0, h.1, h.2, h.3, w, back.0, h.5, c, finite, h.6, h.7, h.8
-        ∙ ap (λ (x : List ℕ). h.3 ++ x) back.1, ap (λ (x : List ℕ). x ++ c) h.11, h.12, l, part, k),
-        tt, (n, hs, refl, shows))
+    let back = each_first h.4 w (sym (ap first_of h.10) ∙ f) in (
+      (
+        h.0,
+        h.1,
+        h.2,
+        h.3,
+        w,
+        back.0,
+        h.5,
+        c,
+        finite,
+        h.6,
+        h.7,
+        h.8
+            ∙ ap (λ (x : List ℕ). h.3 ++ x) back.1,
+        ap (λ (x : List ℕ). x ++ c) h.11,
+        h.12,
+        l,
+        part,
+        k,
+      ),
+      tt,
+      (n, hs, refl, shows),
+    )
 around_grows r room tree.list t n vs b p w g c next hs finite h l f k part shows =
-    let some = times_first h.1 h.0 w (sym (ap first_of h.5) ∙ f) in
-    ((h.0, h.2, h.3, c, finite, h.4, ap (λ (x : List ℕ). x ++ c) h.7 ∙ append_assoc h.2 h.3 c,
-        omega (arith, h.6, some.0), h.8, l, part,
-        subst (λ (z : ℕ). Grows r room z g c next) (sym some.1) k), tt, (hs, refl, shows))
+    let some = times_first h.1 h.0 w (sym (ap first_of h.5) ∙ f) in (
+      (
+        h.0,
+        h.2,
+        h.3,
+        c,
+        finite,
+        h.4,
+        ap (λ (x : List ℕ). x ++ c) h.7 ∙ append_assoc h.2 h.3 c,
+        omega (arith, h.6, some.0),
+        h.8,
+        l,
+        part,
+        subst (λ (z : ℕ). Grows r room z g c next) (sym some.1) k,
+      ),
+      tt,
+      (hs, refl, shows),
+    )
 
 -- ---- all open nodes
 
@@ -105,33 +140,33 @@ heads_behind r o cs cs1 hs e =
     ∙ ap (λ (x : List Head). x ++ hs) (map-append (λ (c : Cell). c.head) cs1 (open_cells r o))
     ∙ append_assoc (bare cs1) (bare (open_cells r o)) hs
     ∙ ap (λ (x : List Head). bare cs1 ++ (head.branch o.kind o.all ∷ (x ++ hs)))
-        (all_cells_preorder r (part_of (layout r o.ty) o.kind o.all) o.done)
+    (all_cells_preorder r (part_of (layout r o.ty) o.kind o.all) o.done)
 
 plugged : (r : List TypeInfo) (top room t : ℕ) (os : List OpenNode) (f : OpenPart)
     (fs : List OpenPart) (cs : List Cell) (own : List ℕ) (w : ℕ) (g : Begun) (c : List ℕ)
     (next : Option (ℕ × ℕ)) (hs : List Head) →
     room + length os ≡ top → Spine r room t os (f ∷ fs) cs own → first_of f.left ≡ Some w →
-        Grows r room w g c next → IsPart g → IsBegunPreorder g hs →
-        BegunAs r top t (bare cs ++ hs) (own ++ c) next
+    Grows r room w g c next → IsPart g → IsBegunPreorder g hs →
+    BegunAs r top t (bare cs ++ hs) (own ++ c) next
 plugged r top room t [] f fs cs own w g c next hs e (inl h) first k part shows =
     let parts = is_cons f (open_part 0 (times 1 t)) fs [] h.0 in
     let same : t ≡ w = same_Some t w (sym (ap (λ (x : OpenPart). first_of x.left) parts.0)
-        ∙ first) in
+    ∙ first) in
     let level : top ≡ room = omega (arith, e) in
     (g, rw (h.2, same, level) k, part, rw h.1 shows)
 plugged r top room t [] f fs cs own w g c next hs e (inr h) first k part shows =
     let parts = is_cons f (open_part 0 (times 0 t)) fs [] h.1 in
     let no : None ≡ Some w = sym (ap (λ (x : OpenPart). first_of x.left) parts.0) ∙ first in
-        absurd cc
+    absurd cc
 plugged r top room t (o ∷ os) f fs cs own w g c next hs e h first k part shows =
     let parts = is_cons f (open_part (length h.4) h.0) fs (open_part h.2 (left_after h.1) ∷ h.3)
-        h.6 in
+    h.6 in
     let a = around_grows r room o.kind o.ty o.all o.done o.own h.0 w g c next hs h.9.0 h.9.1 h.10
-        (sym (ap (λ (x : OpenPart). first_of x.left) parts.0) ∙ first) k part shows in
+    (sym (ap (λ (x : OpenPart). first_of x.left) parts.0) ∙ first) k part shows in
     let g' = plugged r top (suc room) t os (open_part h.2 h.1) h.3 h.4 h.5 o.ty
-        (around o.kind o.all o.done g) (o.own ++ c) next
-        (head.branch o.kind o.all ∷ (all_preorder o.done ++ hs)) (omega (arith, e)) h.8 h.7 a.0 a.1
-        a.2 in
+    (around o.kind o.all o.done g) (o.own ++ c) next
+    (head.branch o.kind o.all ∷ (all_preorder o.done ++ hs)) (omega (arith, e)) h.8 h.7 a.0 a.1
+    a.2 in
     (g'.0, rw (h.12, append_assoc) g'.1, g'.2, rw (heads_behind r o cs h.4 hs h.11) g'.3)
 
 same_begun : (r : List TypeInfo) (top t : ℕ) (hs hs' : List Head) (own own' : List ℕ)
@@ -147,9 +182,9 @@ spine_is_begun : (r : List TypeInfo) (top room t : ℕ) (os : List OpenNode) (f 
 unfolding Grows
 spine_is_begun r top room t os f fs cs own u e h first =
     let g = plugged r top room t os f fs cs own u nothing [] (Some (room, u)) [] e h first
-        (refl, refl) tt refl in
+    (refl, refl) tt refl in
     same_begun r top t (bare cs ++ []) (bare cs) (own ++ []) own (Some (room, u))
-        (append-nil (bare cs)) (append-nil own) g
+    (append-nil (bare cs)) (append-nil own) g
 
 -- ---- its counts
 
@@ -238,18 +273,23 @@ part_begun : (ty : ℕ) (types : List TypeInfo) (limit : ℕ) (f : OpenPart) (fs
     IsBuilding ty (record { types = types; limit = limit; frames = f ∷ fs }) pool ns text_len →
     IsPaid (record { types = types; limit = limit; frames = f ∷ fs }) ns turns →
     first_of f.left ≡ Some u →
-    IsBegun (record { ty = ty; walk = record { types = types; limit = limit; frames = f ∷ fs };
-        entries = entries_shown pool ns; text = text; turns = turns })
+    IsBegun (record {
+      ty = ty;
+      walk = record { types = types; limit = limit; frames = f ∷ fs };
+      entries = entries_shown pool ns;
+      text = text;
+      turns = turns;
+    })
 part_begun ty types limit f fs pool ns text_len text turns u b paid e =
     let parts = spine_length types b.room ty b.opens (f ∷ fs) (cells_shown pool ns) b.own b.spine in
     let g = spine_is_begun types (limit + 1) b.room ty b.opens f fs (cells_shown pool ns) b.own u
-        (omega (arith, b.level, parts)) b.spine e in
+    (omega (arith, b.level, parts)) b.spine e in
     let left : limit + 2 - length (f ∷ fs) ≡ b.room = omega (arith, b.level) in
     let fit = (begun_trees_fit types (limit + 1) ty g.0 b.own (Some (b.room, u)) g.1).1 b.room u
-        refl in
+    refl in
     let own = own_is types pool ns b.own
-        (spine_bytes types b.room ty b.opens (f ∷ fs) (cells_shown pool ns) b.own b.are_bytes
-        b.spine) in
+    (spine_bytes types b.room ty b.opens (f ∷ fs) (cells_shown pool ns) b.own b.are_bytes
+    b.spine) in
     let count = counts g.0 (bare (cells_shown pool ns)) g.3 in
     record {
       tree = g.0;
@@ -275,23 +315,33 @@ whole_begun : (ty : ℕ) (types : List TypeInfo) (limit : ℕ) (f : OpenPart) (p
     IsBuilding ty (record { types = types; limit = limit; frames = f ∷ [] }) pool ns text_len →
     IsPaid (record { types = types; limit = limit; frames = f ∷ [] }) ns turns →
     first_of f.left ≡ None →
-    IsBegun (record { ty = ty; walk = record { types = types; limit = limit; frames = f ∷ [] };
-        entries = entries_shown pool ns; text = text; turns = turns })
+    IsBegun (record {
+      ty = ty;
+      walk = record { types = types; limit = limit; frames = f ∷ [] };
+      entries = entries_shown pool ns;
+      text = text;
+      turns = turns;
+    })
 unfolding Grows
 whole_begun ty types limit f pool ns text_len text turns b paid e = by b.opens refl where
   by : (os : List OpenNode) → b.opens ≡ os →
-      IsBegun (record { ty = ty; walk = record { types = types; limit = limit; frames = f ∷ [] };
-      entries = entries_shown pool ns; text = text; turns = turns })
+      IsBegun (record {
+        ty = ty;
+        walk = record { types = types; limit = limit; frames = f ∷ [] };
+        entries = entries_shown pool ns;
+        text = text;
+        turns = turns;
+      })
   by [] o =
       let spine : Spine types b.room ty [] (f ∷ []) (cells_shown pool ns) b.own =
-          subst (λ (x : List OpenNode). Spine types b.room ty x (f ∷ []) (cells_shown pool ns)
-          b.own) o b.spine in
+      subst (λ (x : List OpenNode). Spine types b.room ty x (f ∷ []) (cells_shown pool ns)
+      b.own) o b.spine in
       let v = spine_is_whole types b.room ty f (cells_shown pool ns) b.own spine e in
       let shows : bare (cells_shown pool ns) ≡ preorder v.0 = ap bare v.1
-          ∙ cells_preorder types ty v.0 in
+      ∙ cells_preorder types ty v.0 in
       let own = own_is types pool ns b.own
-          (spine_bytes types b.room ty b.opens (f ∷ []) (cells_shown pool ns) b.own b.are_bytes
-          b.spine) in
+      (spine_bytes types b.room ty b.opens (f ∷ []) (cells_shown pool ns) b.own b.are_bytes
+      b.spine) in
       let count = counts (whole v.0) (bare (cells_shown pool ns)) shows in
       record {
         tree = whole v.0;
@@ -306,33 +356,54 @@ whole_begun ty types limit f pool ns text_len text turns b paid e = by b.opens r
         whole = rw e refl;
         turns = omega (arith, paid, entries_length pool ns);
       }
-  by (x ∷ os) o = absurd (omega (arith, ap length o,
-      spine_length types b.room ty b.opens (f ∷ []) (cells_shown pool ns) b.own b.spine))
+  by (x ∷ os) o = absurd (omega (
+    arith,
+    ap length o,
+    spine_length types b.room ty b.opens (f ∷ []) (cells_shown pool ns) b.own b.spine,
+  ))
 
 begun_by : (ty : ℕ) (types : List TypeInfo) (limit : ℕ) (fs : List OpenPart) (pool : List ℕ)
     (ns : List Node) (text_len : ℕ) (text : Option Pieces) (turns : ℕ) →
     IsBuilding ty (record { types = types; limit = limit; frames = fs }) pool ns text_len →
     IsPaid (record { types = types; limit = limit; frames = fs }) ns turns → settled_in fs ≡ fs →
-    IsBegun (record { ty = ty; walk = record { types = types; limit = limit; frames = fs };
-        entries = entries_shown pool ns; text = text; turns = turns })
+    IsBegun (record {
+      ty = ty;
+      walk = record { types = types; limit = limit; frames = fs };
+      entries = entries_shown pool ns;
+      text = text;
+      turns = turns;
+    })
 begun_by ty types limit [] pool ns text_len text turns b paid s =
-    absurd (omega (arith, spine_length types b.room ty b.opens [] (cells_shown pool ns) b.own
-    b.spine))
+    absurd (omega (
+      arith,
+      spine_length types b.room ty b.opens [] (cells_shown pool ns) b.own
+          b.spine,
+    ))
 begun_by ty types limit (f ∷ []) pool ns text_len text turns b paid s =
     by (first_of f.left) refl where
-  by : (x : Option ℕ) → first_of f.left ≡ x →
-      IsBegun (record { ty = ty; walk = record { types = types; limit = limit; frames = f ∷ [] };
-      entries = entries_shown pool ns; text = text; turns = turns })
-  by (Some u) e = part_begun ty types limit f [] pool ns text_len text turns u b paid e
-  by None e = whole_begun ty types limit f pool ns text_len text turns b paid e
+      by : (x : Option ℕ) → first_of f.left ≡ x →
+          IsBegun (record {
+            ty = ty;
+            walk = record { types = types; limit = limit; frames = f ∷ [] };
+            entries = entries_shown pool ns;
+            text = text;
+            turns = turns;
+          })
+      by (Some u) e = part_begun ty types limit f [] pool ns text_len text turns u b paid e
+      by None e = whole_begun ty types limit f pool ns text_len text turns b paid e
 begun_by ty types limit (f ∷ g ∷ fs) pool ns text_len text turns b paid s = let u =
     innermost f g fs s in part_begun ty types limit f (g ∷ fs) pool ns text_len text turns u.0 b
     paid u.1
 
 pub is_begun : (ty : ℕ) (w : Walked) (pool : List ℕ) (ns : List Node) (text_len : ℕ)
     (text : Option Pieces) (turns : ℕ) → IsBuilding ty w pool ns text_len → IsPaid w ns turns →
-    IsSettled w → IsBegun (record { ty = ty; walk = w; entries = entries_shown pool ns; text = text;
-    turns = turns })
+    IsSettled w → IsBegun (record {
+      ty = ty;
+      walk = w;
+      entries = entries_shown pool ns;
+      text = text;
+      turns = turns;
+    })
 is_begun ty w pool ns text_len text turns b paid s =
     begun_by ty w.types w.limit w.frames pool ns text_len text turns b paid
     (ap (λ (x : Walked). x.frames) s)

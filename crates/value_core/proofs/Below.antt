@@ -1,8 +1,5 @@
 -- What stands below the first node of a value.
-use Rattle.std.proofs.Common.{
-    ◌≡◌, ℕ, ◌+◌, ◌≤◌, List, [], ◌∷◌, ◌++◌, length, take, drop, Some, refl, sym, ap, subst, ◌∙◌,
-    arith, inl, inr
-}
+use Rattle.std.proofs.Common.{◌≡◌, ℕ, ◌+◌, ◌≤◌, List, [], ◌∷◌, ◌++◌, length, take, drop, Some, refl, sym, ap, subst, ◌∙◌, arith, inl, inr}
 use Rattle.std.specs.Prelude.{slice_get, slice_range, slice_index_or, IsUtf8}
 use Rattle.std.proofs.lemmas.Str.{IsUtf8-from_is_utf8}
 use Rattle.scale_core.specs.Number.{AreBytes}
@@ -18,14 +15,9 @@ use Rattle.grammar_core.specs.Tree as tree
 use Rattle.grammar_core.specs.Tree.{Tree, Trees, none, and, how_many}
 use Rattle.grammar_core.specs.Grammar.{Val, Vals, Each}
 use Rattle.grammar_core.specs.Parts.{Part, each, times, left_after}
-use Rattle.grammar_core.specs.Cells.{
-    Cell, cells, all_cells, child_type, fields_part, arm_part, list_part, part_of
-}
+use Rattle.grammar_core.specs.Cells.{Cell, cells, all_cells, child_type, fields_part, arm_part, list_part, part_of}
 use Rattle.grammar_core.proofs.Texts.{texts_are_text}
-use Rattle.value_core.specs.Shown.{
-    seen, seen_parts, children_by, cells_shown, tree_shown, type_shown, AreInPool, IsWhole,
-    AreValues, IsForest, all_seen
-}
+use Rattle.value_core.specs.Shown.{seen, seen_parts, children_by, cells_shown, tree_shown, type_shown, AreInPool, IsWhole, AreValues, IsForest, all_seen}
 use Rattle.value_core.specs.declared.node.Node.{Node}
 use Rattle.value_core.specs.declared.node.Content.TheVariants as content
 use Rattle.value_core.proofs.CellsOf.{cells_length, some_node, seen_is, split, all_seen_is}
@@ -59,7 +51,7 @@ pub arm_get : (arms : List Arm) (i q : ℕ) (a : Arm) → arm_of arms i ≡ Some
 arm_get arms i q a e =
     let s = (arm_is_first arms i q a).0 e in
     ap (λ (x : List Arm). slice_get x q) s.2 ∙ ap (slice_get (s.0 ++ a ∷ s.1)) s.3
-        ∙ get_at s.0 a s.1
+    ∙ get_at s.0 a s.1
 
 -- the types of an arm's fields
 pub arm_part_is : (r : List TypeInfo) (t q : ℕ) (arms : List Arm) (i : ℕ) (a : Arm) →
@@ -127,7 +119,7 @@ unfolding below
 below_seen r pool n ns h =
     let f = below r pool n ns h in
     all_seen_is r pool ns f.part f.values f.inside f.nodes
-        ∙ sym (children_seen r (type_shown (n ∷ ns)) (tree_shown pool (n ∷ ns)))
+    ∙ sym (children_seen r (type_shown (n ∷ ns)) (tree_shown pool (n ∷ ns)))
 
 -- the first of them, and those behind it
 pub record First (r : List TypeInfo) (pool : List ℕ) (n : Node) (ns : List Node) : Type 0 where
@@ -146,13 +138,25 @@ first_by r pool n ns p (and v vs) inside e are =
     let is = seen_is r pool (take n.size (n ∷ ns)) (child_type p) v s.front in
     record {
       within = s.within;
-      whole = record { nodes = s.front ∙ sym (rw (is.0, is.1) refl); inside = s.front_inside;
-          value = rw (is.0, is.1) are.0 };
-      rest = record { part = left_after p; values = vs; nodes = s.back; inside = s.back_inside;
-          are_values = are.1 };
+      whole = record {
+        nodes = s.front ∙ sym (rw (is.0, is.1) refl);
+        inside = s.front_inside;
+        value = rw (is.0, is.1) are.0;
+      };
+      rest = record {
+        part = left_after p;
+        values = vs;
+        nodes = s.back;
+        inside = s.back_inside;
+        are_values = are.1;
+      };
       steps = all_seen_is r pool (n ∷ ns) p (and v vs) inside e
-          ∙ sym (rw (is.0, is.1, all_seen_is r pool (drop n.size (n ∷ ns)) (left_after p) vs
-          s.back_inside s.back) refl);
+          ∙ sym (rw (
+            is.0,
+            is.1,
+            all_seen_is r pool (drop n.size (n ∷ ns)) (left_after p) vs
+                s.back_inside s.back,
+          ) refl);
     }
 
 pub first : (r : List TypeInfo) (pool : List ℕ) (n : Node) (ns : List Node) →
@@ -182,7 +186,7 @@ pub text_at : (r : List TypeInfo) (pool : List ℕ) (ns : List Node) (d : Node) 
 text_at r pool [] d start len h e = absurd (no_cells r (tree_shown pool []) h.nodes)
 text_at r pool (n ∷ ns) d start len h e =
     let texts = texts_are_text r (type_shown (n ∷ ns)) (tree_shown pool (n ∷ ns)) h.value.0
-        h.value.2 in
+    h.value.2 in
     IsUtf8-from_is_utf8 (slice_range pool start (start + len)) (rw e at texts).1
 
 -- the first of the values whose nodes these are, told by its place
@@ -192,5 +196,9 @@ first_at r pool [] n e h = absurd cc
 first_at r pool (m ∷ ns) n e h =
     let same : m ≡ n = cc in
     let f = first r pool m ns h in
-    record { within = rw (← same) f.within; whole = rw (← same) f.whole; rest = rw (← same) f.rest;
-        steps = rw (← same) f.steps }
+    record {
+      within = rw (← same) f.within;
+      whole = rw (← same) f.whole;
+      rest = rw (← same) f.rest;
+      steps = rw (← same) f.steps;
+    }

@@ -1,26 +1,15 @@
 -- The nodes of a value, with their types and sizes.
-use Rattle.std.proofs.Common.{
-    ◌≡◌, ℕ, zero, suc, ◌≤◌, List, [], ◌∷◌, ◌++◌, length, map, take, drop, refl, sym, ap, ◌∙◌, arith,
-    length-append
-}
+use Rattle.std.proofs.Common.{◌≡◌, ℕ, zero, suc, ◌≤◌, List, [], ◌∷◌, ◌++◌, length, map, take, drop, refl, sym, ap, ◌∙◌, arith, length-append}
 use Rattle.std.proofs.lemmas.List.{map-append, length-map, append-nil}
 use Rattle.std.proofs.lemmas.Simd.{map-map}
 use Rattle.std.proofs.Math.Seq.{take-append_seam, drop-append_seam}
 use Rattle.registry_core.specs.declared.type_info.TypeInfo.{TypeInfo}
 use Rattle.widths_core.specs.Layouts.{layout}
-use Rattle.grammar_core.specs.Tree.{
-    Tree, leaf, branch, unit, bool, char, text, unsigned, signed, wide, compact, fields, arm, list,
-    count, Trees, none, and, how_many, nodes, all_nodes
-}
+use Rattle.grammar_core.specs.Tree.{Tree, leaf, branch, unit, bool, char, text, unsigned, signed, wide, compact, fields, arm, list, count, Trees, none, and, how_many, nodes, all_nodes}
 use Rattle.grammar_core.specs.Preorder.{Head, preorder, all_preorder, tree_of, tree_of-preorder}
 use Rattle.grammar_core.specs.Parts.{Part, left_after}
-use Rattle.grammar_core.specs.Cells.{
-    Cell, cells, all_cells, child_type, fields_part, arm_part, list_part
-}
-use Rattle.value_core.specs.Shown.{
-    seen_parts, cell_shown, cells_shown, tree_shown, type_shown, AreInPool, IsWhole, forest,
-    all_seen
-}
+use Rattle.grammar_core.specs.Cells.{Cell, cells, all_cells, child_type, fields_part, arm_part, list_part}
+use Rattle.value_core.specs.Shown.{seen_parts, cell_shown, cells_shown, tree_shown, type_shown, AreInPool, IsWhole, forest, all_seen}
 use Rattle.value_core.specs.declared.node.Node.{Node}
 
 mutual
@@ -37,8 +26,12 @@ mutual
       length (all_cells r p vs) ≡ all_nodes vs
   all_cells_length r p none = refl
   all_cells_length r p (and v vs) =
-      omega (arith, cells_length r (child_type p) v, all_cells_length r (left_after p) vs,
-      length-append (cells r (child_type p) v) (all_cells r (left_after p) vs))
+      omega (
+        arith,
+        cells_length r (child_type p) v,
+        all_cells_length r (left_after p) vs,
+        length-append (cells r (child_type p) v) (all_cells r (left_after p) vs),
+      )
 
 -- the nodes by themselves
 abbrev pub bare : List Cell → List Head
@@ -133,10 +126,15 @@ split r pool n ns p v vs inside e =
     let first = cells r (child_type p) v in
     let others = all_cells r (left_after p) vs in
     let size : n.size ≡ length first = ap first_size e ∙ (starts r (child_type p) v others).1
-        ∙ sym (cells_length r (child_type p) v) in
+    ∙ sym (cells_length r (child_type p) v) in
     record {
-      within = omega (arith, size, ap length e, length-append first others,
-          length-map all (cell_shown pool));
+      within = omega (
+        arith,
+        size,
+        ap length e,
+        length-append first others,
+        length-map all (cell_shown pool),
+      );
       front = shown_take pool n.size all ∙ ap (take n.size) e
           ∙ ap (λ (k : ℕ). take k (first ++ others)) size ∙ take-append_seam first others;
       back = shown_drop pool n.size all ∙ ap (drop n.size) e
@@ -160,7 +158,7 @@ forest_is r pool (suc k) (n ∷ ns) p (and v vs) le inside e =
     let s = split r pool n ns p v vs inside e in
     let is = seen_is r pool (take n.size (n ∷ ns)) (child_type p) v s.front in
     let rest = forest_is r pool k (drop n.size (n ∷ ns)) (left_after p) vs (omega (arith, le))
-        s.back_inside s.back in
+    s.back_inside s.back in
     rw (is.0, is.1, rest) refl
 
 pub many_nodes : (vs : Trees) → how_many vs ≤ all_nodes vs
@@ -172,7 +170,7 @@ pub all_seen_is : (r : List TypeInfo) (pool : List ℕ) (ns : List Node) (p : Pa
     all_seen r pool ns ≡ seen_parts r p vs
 all_seen_is r pool ns p vs inside e =
     let count : length ns ≡ all_nodes vs = sym (length-map ns (cell_shown pool)) ∙ ap length e
-        ∙ all_cells_length r p vs in
+    ∙ all_cells_length r p vs in
     forest_is r pool (length ns) ns p vs (omega (arith, count, many_nodes vs)) inside e
 
 pub nodes_shown : (r : List TypeInfo) (pool : List ℕ) (ns : List Node) → IsWhole r pool ns →

@@ -1,8 +1,5 @@
 -- The innermost open node gets its size.
-use Rattle.std.proofs.Common.{
-    Option, ◌≡◌, ℕ, zero, suc, ◌+◌, ◌-◌, ◌<◌, ◌≤◌, List, [], ◌∷◌, ◌++◌, length, Some, None, refl,
-    sym, ap, subst, ◌∙◌, arith, inl, inr, length-append
-}
+use Rattle.std.proofs.Common.{Option, ◌≡◌, ℕ, zero, suc, ◌+◌, ◌-◌, ◌<◌, ◌≤◌, List, [], ◌∷◌, ◌++◌, length, Some, None, refl, sym, ap, subst, ◌∙◌, arith, inl, inr, length-append}
 use Rattle.std.specs.Prelude.{slice_get, slice_set}
 use Rattle.std.proofs.lemmas.List.{length-map}
 use Rattle.registry_core.specs.declared.type_info.TypeInfo.{TypeInfo}
@@ -11,9 +8,7 @@ use Rattle.grammar_core.specs.Cells.{Cell}
 use Rattle.value_core.specs.Shown.{cell_shown, cells_shown, IsInPool, AreInPool}
 use Rattle.value_core.specs.Spine.{OpenNode, open_part, Spine}
 use Rattle.value_core.specs.Walked.{OpenPart, Walked, Closes, advanced, advanced_in, opened}
-use Rattle.value_core.specs.Built.{
-    IsSettled, closings, entries_shown, entries_text_bytes, settled_in, settled_walk
-}
+use Rattle.value_core.specs.Built.{IsSettled, closings, entries_shown, entries_text_bytes, settled_in, settled_walk}
 use Rattle.value_core.specs.Building.{IsBuilding, IsPaid, AreBuilt, Settles, pieces_shown}
 use Rattle.value_core.specs.declared.open_text.OpenText.{OpenText}
 use Rattle.value_core.specs.declared.node.Node.{Node}
@@ -83,12 +78,12 @@ pub closing : (ty : ℕ) (old new : Walked) (pool : List ℕ) (ns : List Node) (
     IsClosing ty new pool ns text_len place
 closing ty old new pool ns text_len place b c =
     let spine : Spine old.types b.room ty b.opens (open_part place c.part ∷ new.frames)
-        (cells_shown pool ns) b.own = rw (← c.frames) b.spine in
+    (cells_shown pool ns) b.own = rw (← c.frames) b.spine in
     let k = opened_one old.types b.room ty place c.part b.opens new.frames (cells_shown pool ns)
-        b.own spine c.not_root c.whole in
+    b.own spine c.not_root c.whole in
     let long : length ns ≡ length k.front + length (k.cell ∷ k.back) =
-        sym (length-map ns (cell_shown pool)) ∙ ap length k.cells_are
-        ∙ length-append k.front (k.cell ∷ k.back) in
+    sym (length-map ns (cell_shown pool)) ∙ ap length k.cells_are
+    ∙ length-append k.front (k.cell ∷ k.back) in
     record {
       inside = omega (arith, long, k.place_is);
       builds = λ n size g e.
@@ -99,8 +94,12 @@ closing ty old new pool ns text_len place b c =
             own = b.own;
             are_bytes = b.are_bytes;
             opens = k.grown.0;
-            spine = rw (c.types, resized pool ns n size place k.front k.cell k.back g k.cells_are
-                k.place_is, sized) k.grown.1;
+            spine = rw (
+              c.types,
+              resized pool ns n size place k.front k.cell k.back g k.cells_are
+                  k.place_is,
+              sized,
+            ) k.grown.1;
             inside = inside_resized pool ns n size place g b.inside;
             texts = b.texts ∙ sym (ap entries_text_bytes (entries_resized pool ns n size place g));
             fits = b.fits;
@@ -124,8 +123,12 @@ closing_settles old new ns n k place g e c = record {
 }
 
 pub nothing_settles : (w : Walked) (ns : List Node) → Settles w ns w ns
-nothing_settles w ns = record { walk = refl; entries = λ pool. refl; builds =
-    λ ty pool text_len b. b }
+nothing_settles w ns = record {
+  walk = refl;
+  entries = λ pool. refl;
+  builds =
+      λ ty pool text_len b. b;
+}
 
 pub settles_on : (u v w : Walked) (xs ys zs : List Node) → Settles u xs v ys → Settles v ys w zs →
     Settles u xs w zs
@@ -191,8 +194,14 @@ pub settled_paid : (old new : Walked) (before after : List Node) (turns paid : �
     Settles old before new after → new ≡ settled_walk old → paid ≡ turns + closings old.frames →
     IsPaid old before turns → IsPaid new after paid
 settled_paid old new before after turns paid h is e p =
-    omega (arith, e, p, ap (λ (x : Walked). length x.frames) is, settled_shorter old.frames,
-        settled_length old new before after h)
+    omega (
+      arith,
+      e,
+      p,
+      ap (λ (x : Walked). length x.frames) is,
+      settled_shorter old.frames,
+      settled_length old new before after h,
+    )
 
 advanced_length : (fs : List OpenPart) → length (advanced_in fs) ≡ length fs
 advanced_length [] = refl

@@ -1,8 +1,5 @@
 -- A value of which nothing is missing.
-use Rattle.std.proofs.Common.{
-    ◌≡◌, ℕ, ◌+◌, ◌≤◌, List, [], ◌∷◌, ◌++◌, length, map, true, Some, None, Option, refl, sym, ap,
-    subst, ◌∙◌, arith, inl
-}
+use Rattle.std.proofs.Common.{◌≡◌, ℕ, ◌+◌, ◌≤◌, List, [], ◌∷◌, ◌++◌, length, map, true, Some, None, Option, refl, sym, ap, subst, ◌∙◌, arith, inl}
 use Rattle.std.proofs.lemmas.Simd.{map-map}
 use Rattle.std.specs.Prelude.{is_none}
 use Rattle.registry_core.specs.declared.type_info.TypeInfo.{TypeInfo}
@@ -14,9 +11,7 @@ use Rattle.grammar_core.specs.Cells.{Cell, cells}
 use Rattle.value_core.specs.Shown.{seen, cells_shown, tree_shown, type_shown, head_shown, IsWhole}
 use Rattle.value_core.specs.Spine.{OpenNode, Spine}
 use Rattle.value_core.specs.Walked.{OpenPart, Walked}
-use Rattle.value_core.specs.Built.{
-    Entry, Pieces, entries_shown, head_text_bytes, entries_text_bytes, finished
-}
+use Rattle.value_core.specs.Built.{Entry, Pieces, entries_shown, head_text_bytes, entries_text_bytes, finished}
 use Rattle.value_core.specs.Building.{IsBuilding}
 use Rattle.value_core.specs.Refusals.{is_whole_in}
 use Rattle.value_core.specs.declared.node.Node.{Node}
@@ -40,8 +35,12 @@ mutual
   pub text_of_all_preorder : (vs : Trees) → heads_text (all_preorder vs) ≡ all_text_bytes vs
   text_of_all_preorder none = refl
   text_of_all_preorder (and v vs) =
-      omega (arith, heads_text-append (preorder v) (all_preorder vs), text_of_preorder v,
-      text_of_all_preorder vs)
+      omega (
+        arith,
+        heads_text-append (preorder v) (all_preorder vs),
+        text_of_preorder v,
+        text_of_all_preorder vs,
+      )
 
 pub text_of_entries : (pool : List ℕ) (ns : List Node) →
     entries_text_bytes (entries_shown pool ns) ≡ heads_text (bare (cells_shown pool ns))
@@ -81,20 +80,27 @@ finished_by ty types limit (f ∷ []) pool ns text_len b e = by b.opens refl whe
   by : (os : List OpenNode) → b.opens ≡ os → IsFinished types ty pool ns text_len
   by [] o =
       let spine : Spine types b.room ty [] (f ∷ []) (cells_shown pool ns) b.own =
-          subst (λ (x : List OpenNode). Spine types b.room ty x (f ∷ []) (cells_shown pool ns)
-          b.own) o b.spine in
+      subst (λ (x : List OpenNode). Spine types b.room ty x (f ∷ []) (cells_shown pool ns)
+      b.own) o b.spine in
       let v = spine_is_whole types b.room ty f (cells_shown pool ns) b.own spine
-          (none_of (first_of f.left) e) in
+      (none_of (first_of f.left) e) in
       let is = seen_is types pool ns ty v.0 v.1 in
       record {
-        whole = record { nodes = v.1 ∙ sym (rw (is.0, is.1) refl); inside = b.inside; value =
-            rw (is.0, is.1) (b.own, b.are_bytes, v.2) };
+        whole = record {
+          nodes = v.1 ∙ sym (rw (is.0, is.1) refl);
+          inside = b.inside;
+          value =
+              rw (is.0, is.1) (b.own, b.are_bytes, v.2);
+        };
         type_is = is.0;
         texts = b.texts ∙ text_of_value types ty v.0 pool ns v.1 ∙ ap text_bytes (sym is.1);
         fits = b.fits;
       }
-  by (x ∷ os) o = absurd (omega (arith, ap length o,
-      spine_length types b.room ty b.opens (f ∷ []) (cells_shown pool ns) b.own b.spine))
+  by (x ∷ os) o = absurd (omega (
+    arith,
+    ap length o,
+    spine_length types b.room ty b.opens (f ∷ []) (cells_shown pool ns) b.own b.spine,
+  ))
 
 pub is_finished : (ty : ℕ) (w : Walked) (pool : List ℕ) (ns : List Node) (text_len : ℕ) →
     IsBuilding ty w pool ns text_len → is_whole_in w.frames ≡ true →
@@ -115,8 +121,22 @@ seen_finished text turns ty w pool ns e = rw (e, heads_are pool ns) refl
 
 -- nothing is there yet
 pub nothing_built : (ty : ℕ) (types : List TypeInfo) (limit : ℕ) →
-    IsBuilding ty (record { types = types; limit = limit; frames =
-    record { node = 0; left = times 1 ty } ∷ [] }) [] [] 0
+    IsBuilding ty (record {
+      types = types;
+      limit = limit;
+      frames =
+          record { node = 0; left = times 1 ty } ∷ [];
+    }) [] [] 0
 nothing_built ty types limit =
-    record { room = limit + 1; level = omega arith; own = []; are_bytes = tt; opens = []; spine =
-    inl (refl, refl, refl); inside = tt; texts = refl; fits = omega arith }
+    record {
+      room = limit + 1;
+      level = omega arith;
+      own = [];
+      are_bytes = tt;
+      opens = [];
+      spine =
+          inl (refl, refl, refl);
+      inside = tt;
+      texts = refl;
+      fits = omega arith;
+    }

@@ -1,8 +1,5 @@
 -- What the next form says of the layout of the next type, and what a reason to stop says of it.
-use Rattle.std.proofs.Common.{
-    ◌≡◌, ℕ, ◌+◌, ◌<◌, ◌≤◌, ◌⊎◌, inl, inr, Bool, true, false, List, length, Option, Some, None, refl,
-    subst, arith
-}
+use Rattle.std.proofs.Common.{◌≡◌, ℕ, ◌+◌, ◌<◌, ◌≤◌, ◌⊎◌, inl, inr, Bool, true, false, List, length, Option, Some, None, refl, subst, arith}
 use Rattle.std.specs.Prelude.{nat_lt, if◌then◌else◌}
 use Rattle.scale_core.specs.declared.compact.Target.{Target}
 use Rattle.registry_core.specs.declared.definition.Arm.{Arm}
@@ -13,9 +10,7 @@ use Rattle.registry_core.specs.declared.type_info.TypeInfo.{TypeInfo}
 use Rattle.graph_core.specs.Types.{shape, ids, field_types}
 use Rattle.widths_core.specs.Targets.{target_of}
 use Rattle.widths_core.specs.Classes.{is_finite, is_empty}
-use Rattle.widths_core.specs.Layouts.{
-    Layout, layout, layout_of_shape, sized_layout, primitive_layout, sequence_layout, compact_layout
-}
+use Rattle.widths_core.specs.Layouts.{Layout, layout, layout_of_shape, sized_layout, primitive_layout, sequence_layout, compact_layout}
 use Rattle.widths_core.specs.Layouts as layout
 use Rattle.grammar_core.specs.declared.form.Form.{Form}
 use Rattle.grammar_core.specs.declared.form.Form.TheVariants as form
@@ -130,15 +125,21 @@ wanted_from : (w : Walked) (wanted : Form) (o : Option ℕ) → next_type w ≡ 
 wanted_from w wanted None e h = absurd cc
 wanted_from w wanted (Some t) e h =
     go (nat_lt (w.limit + 1) (length w.frames)) (is_finite w.types t) refl refl h where
-  go : (deep finite : Bool) → nat_lt (w.limit + 1) (length w.frames) ≡ deep →
-      is_finite w.types t ≡ finite →
-      (if deep then next.Stop stop.TooDeep else
-      (if finite then form_of w.types t else next.Stop stop.NoFiniteValue)) ≡ next.Wants wanted →
-      Wanted w wanted
-  go true finite d f h = absurd cc
-  go false false d f h = absurd cc
-  go false true d f h = record { ty = t; is_next = e; finite = f; form_is = h; room =
-      grind (arith, d) }
+      go : (deep finite : Bool) → nat_lt (w.limit + 1) (length w.frames) ≡ deep →
+          is_finite w.types t ≡ finite →
+          (if deep then next.Stop stop.TooDeep else
+          (if finite then form_of w.types t else next.Stop stop.NoFiniteValue)) ≡ next.Wants wanted →
+          Wanted w wanted
+      go true finite d f h = absurd cc
+      go false false d f h = absurd cc
+      go false true d f h = record {
+        ty = t;
+        is_next = e;
+        finite = f;
+        form_is = h;
+        room =
+            grind (arith, d);
+      }
 
 pub wanted : (w : Walked) (wanted : Form) → next_of w ≡ next.Wants wanted → Wanted w wanted
 wanted w f h = wanted_from w f (next_type w) refl h
@@ -235,8 +236,12 @@ stopped_from w told (Some t) e h = go (nat_lt (w.limit + 1) (length w.frames)) r
       (if deep then next.Stop stop.TooDeep else next_at w.types t) ≡ next.Stop told → Stopped w told
   go true d h = let same : told ≡ stop.TooDeep = cc in
       record { ty = t; is_next = e; why = inl (same, grind (arith, d)) }
-  go false d h = record { ty = t; is_next = e; why =
-      inr (grind (arith, d), stops w.types t told h) }
+  go false d h = record {
+    ty = t;
+    is_next = e;
+    why =
+        inr (grind (arith, d), stops w.types t told h);
+  }
 
 pub stopped : (w : Walked) (told : StopReason) → next_of w ≡ next.Stop told → Stopped w told
 stopped w told h = stopped_from w told (next_type w) refl h

@@ -1,14 +1,9 @@
 -- The values that a node without children may be, by the form that is next.
-use Rattle.std.proofs.Common.{
-    ◌≡◌, ◌-◌, ℕ, suc, ◌*◌, ℤ, pos, negsuc, ◌/◌, ◌<◌, ◌≤◌, ◌^◌, List, [], ◌∷◌, ◌++◌, Bool, true,
-    false, length, refl, ap, ◌∙◌, arith
-}
+use Rattle.std.proofs.Common.{◌≡◌, ◌-◌, ℕ, suc, ◌*◌, ℤ, pos, negsuc, ◌/◌, ◌<◌, ◌≤◌, ◌^◌, List, [], ◌∷◌, ◌++◌, Bool, true, false, length, refl, ap, ◌∙◌, arith}
 use Rattle.std.specs.Prelude.{not, nat_lt, ◌||◌, ◌&&◌, if◌then◌else◌}
 use Rattle.std.specs.Str.{is_utf8}
 use Rattle.std.proofs.lemmas.Bool.{lt-ltb, le-ltb, ltb-false}
-use Rattle.scale_core.specs.Number.{
-    AreBytes, number, signed_number, le_bytes, signed_bytes, bool_byte, is_scalar
-}
+use Rattle.scale_core.specs.Number.{AreBytes, number, signed_number, le_bytes, signed_bytes, bool_byte, is_scalar}
 use Rattle.scale_core.specs.Compact.{IsCompact, compact, target_bytes}
 use Rattle.scale_core.specs.declared.compact.Target.{Target}
 use Rattle.scale_core.specs.declared.compact.Target.TheVariants as target
@@ -30,16 +25,21 @@ use Rattle.grammar_core.specs.declared.form.Next.TheVariants as next
 use Rattle.value_core.specs.Built.{IsNextLeaf}
 use Rattle.value_core.specs.Refusals.{most_unsigned, most_signed, is_within}
 use Rattle.value_core.specs.Walked.{Walked, next_of}
-use Rattle.value_core.proofs.Forms.{
-    wanted, empty_layout, primitive_has_layout, compact_has_layout, count_layout
-}
+use Rattle.value_core.proofs.Forms.{wanted, empty_layout, primitive_has_layout, compact_has_layout, count_layout}
 
 pub empty_next : (w : Walked) → next_of w ≡ next.Wants form.Empty →
     IsNextLeaf w (head.leaf tree.unit)
 unfolding Val
 empty_next w e = let k = wanted w form.Empty e in
-    record { ty = k.ty; next = k.is_next; room = k.room; leaf = tt; own = []; are_bytes = tt;
-    value = (empty_layout w.types k.ty k.form_is, refl) }
+    record {
+      ty = k.ty;
+      next = k.is_next;
+      room = k.room;
+      leaf = tt;
+      own = [];
+      are_bytes = tt;
+      value = (empty_layout w.types k.ty k.form_is, refl);
+    }
 
 bool_is_byte : (x : Bool) → bool_byte x < 256
 bool_is_byte true = omega arith
@@ -49,16 +49,31 @@ pub bool_next : (w : Walked) (x : Bool) → next_of w ≡ next.Wants (form.Primi
     IsNextLeaf w (head.leaf (tree.bool x))
 unfolding Val
 bool_next w x e = let k = wanted w (form.Primitive P.Bool) e in
-    record { ty = k.ty; next = k.is_next; room = k.room; leaf = tt; own = bool_byte x ∷ [];
-    are_bytes = (bool_is_byte x, tt); value =
-    (primitive_has_layout w.types k.ty P.Bool k.form_is, refl) }
+    record {
+      ty = k.ty;
+      next = k.is_next;
+      room = k.room;
+      leaf = tt;
+      own = bool_byte x ∷ [];
+      are_bytes = (bool_is_byte x, tt);
+      value =
+          (primitive_has_layout w.types k.ty P.Bool k.form_is, refl);
+    }
 
 pub count_next : (w : Walked) (n : ℕ) → n < 2 ^ 32 → next_of w ≡ next.Wants form.Count →
     IsNextLeaf w (head.leaf (tree.count n))
 unfolding Val
 count_next w n h e = let k = wanted w form.Count e in
-    record { ty = k.ty; next = k.is_next; room = k.room; leaf = tt; own = compact n; are_bytes =
-    are_compact n; value = (count_layout w.types k.ty k.form_is, (omega (arith, h), refl)) }
+    record {
+      ty = k.ty;
+      next = k.is_next;
+      room = k.room;
+      leaf = tt;
+      own = compact n;
+      are_bytes =
+          are_compact n;
+      value = (count_layout w.types k.ty k.form_is, (omega (arith, h), refl));
+    }
 
 -- numbers up to the greatest are those that fit the width
 fits_width : (k n : ℕ) → 0 < k → n ≤ k - 1 → n < k
@@ -78,9 +93,12 @@ unsigned_next w p v n e f h =
       leaf = tt;
       own = le_bytes bytes n;
       are_bytes = are_le_bytes bytes n;
-      value = (bytes, primitive_has_layout w.types k.ty p k.form_is ∙ ap kind_layout f,
-          length-le_bytes bytes n,
-          number-le_bytes bytes n (fits_width (256 ^ bytes) n (omega (arith, width_numbers v)) h));
+      value = (
+        bytes,
+        primitive_has_layout w.types k.ty p k.form_is ∙ ap kind_layout f,
+        length-le_bytes bytes n,
+        number-le_bytes bytes n (fits_width (256 ^ bytes) n (omega (arith, width_numbers v)) h),
+      );
     }
 
 pub text_next : (w : Walked) (s : List ℕ) → next_of w ≡ next.Wants (form.Primitive P.Str) →
@@ -95,8 +113,10 @@ text_next w s e f a h =
       leaf = tt;
       own = compact (length s) ++ s;
       are_bytes = both_bytes (compact (length s)) s (are_compact (length s)) a;
-      value = (primitive_has_layout w.types k.ty P.Str k.form_is,
-          (compact (length s), (omega (arith, h), refl), f, refl));
+      value = (
+        primitive_has_layout w.types k.ty P.Str k.form_is,
+        (compact (length s), (omega (arith, h), refl), f, refl),
+      );
     }
 
 pub wide_next : (w : Walked) (p : Primitive) (s : Signedness) (b : List ℕ) →
@@ -105,8 +125,16 @@ pub wide_next : (w : Walked) (p : Primitive) (s : Signedness) (b : List ℕ) →
 unfolding Val
 wide_next w p s b e f h a =
     let k = wanted w (form.Primitive p) e in
-    record { ty = k.ty; next = k.is_next; room = k.room; leaf = tt; own = b; are_bytes = a; value =
-        (primitive_has_layout w.types k.ty p k.form_is ∙ ap kind_layout f, h, refl) }
+    record {
+      ty = k.ty;
+      next = k.is_next;
+      room = k.room;
+      leaf = tt;
+      own = b;
+      are_bytes = a;
+      value =
+          (primitive_has_layout w.types k.ty p k.form_is ∙ ap kind_layout f, h, refl);
+    }
 
 compact_own : (m : Target) (n : ℕ) → n < 256 ^ target_bytes m → (b : List ℕ) × AreBytes b
     × IsCompact m n b
@@ -123,8 +151,15 @@ unfolding Val
 compact_next w m n e h =
     let k = wanted w (form.Compact m) e in
     let own = compact_own m n h in
-    record { ty = k.ty; next = k.is_next; room = k.room; leaf = tt; own = own.0; are_bytes = own.1;
-        value = (m, compact_has_layout w.types k.ty m k.form_is, own.2) }
+    record {
+      ty = k.ty;
+      next = k.is_next;
+      room = k.room;
+      leaf = tt;
+      own = own.0;
+      are_bytes = own.1;
+      value = (m, compact_has_layout w.types k.ty m k.form_is, own.2);
+    }
 
 -- ---- characters
 
@@ -148,8 +183,12 @@ char_next w c e f h =
       leaf = tt;
       own = le_bytes 4 c;
       are_bytes = are_le_bytes 4 c;
-      value = (primitive_has_layout w.types k.ty P.Char k.form_is, length-le_bytes 4 c,
-          number-le_bytes 4 c h, f);
+      value = (
+        primitive_has_layout w.types k.ty P.Char k.form_is,
+        length-le_bytes 4 c,
+        number-le_bytes 4 c h,
+        f,
+      );
     }
 
 -- ---- signed integers
@@ -170,10 +209,14 @@ signed_again k half (pos n) e h some =
 signed_again k half (negsuc m) e h some =
     let small : m < half = omega (arith, within_is m (half - 1) h, some) in
     let word : number (le_bytes k (256 ^ k - suc m)) ≡ 256 ^ k - suc m =
-        number-le_bytes k (256 ^ k - suc m) (omega (arith, e, small)) in
+    number-le_bytes k (256 ^ k - suc m) (omega (arith, e, small)) in
     let back : 256 ^ k - (256 ^ k - suc m) ≡ suc m = omega (arith, e, small) in
-    rw (length-le_bytes k (256 ^ k - suc m), word,
-        le-ltb (2 * (256 ^ k - suc m)) (256 ^ k) (omega (arith, e, small)), back) refl
+    rw (
+      length-le_bytes k (256 ^ k - suc m),
+      word,
+      le-ltb (2 * (256 ^ k - suc m)) (256 ^ k) (omega (arith, e, small)),
+      back,
+    ) refl
 
 signed_long : (k : ℕ) (z : ℤ) → length (signed_bytes k z) ≡ k
 signed_long k (pos n) = length-le_bytes k n
@@ -197,7 +240,11 @@ signed_next w p v z e f h =
       leaf = tt;
       own = signed_bytes bytes z;
       are_bytes = are_signed_bytes bytes z;
-      value = (bytes, primitive_has_layout w.types k.ty p k.form_is ∙ ap kind_layout f,
-          signed_long bytes z, signed_again bytes (256 ^ bytes / 2) z (width_halves v) h
-          (omega (arith, width_halves v, width_numbers v)));
+      value = (
+        bytes,
+        primitive_has_layout w.types k.ty p k.form_is ∙ ap kind_layout f,
+        signed_long bytes z,
+        signed_again bytes (256 ^ bytes / 2) z (width_halves v) h
+            (omega (arith, width_halves v, width_numbers v)),
+      );
     }

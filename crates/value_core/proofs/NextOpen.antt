@@ -1,7 +1,5 @@
 -- The nodes whose children come next, by the form that is next.
-use Rattle.std.proofs.Common.{
-    ◌≡◌, ℕ, ◌<◌, ◌^◌, [], ◌∷◌, Option, Some, None, refl, sym, ap, ◌∙◌, arith, inl, inr
-}
+use Rattle.std.proofs.Common.{◌≡◌, ℕ, ◌<◌, ◌^◌, [], ◌∷◌, Option, Some, None, refl, sym, ap, ◌∙◌, arith, inl, inr}
 use Rattle.std.specs.Prelude.{option_map}
 use Rattle.std.proofs.lemmas.List.{append-nil}
 use Rattle.std.proofs.lemmas.Option.{same_Some}
@@ -76,8 +74,17 @@ sequence_next w n p h e o =
       own = compact n;
       are_bytes = are_compact n;
       finite = rw (← same) k.finite;
-      is_open = (o.element, n, compact n, [], inr (o.laid, (omega (arith, h), refl)), o.part_is,
-          omega arith, sym (append-nil (compact n)), refl);
+      is_open = (
+        o.element,
+        n,
+        compact n,
+        [],
+        inr (o.laid, (omega (arith, h), refl)),
+        o.part_is,
+        omega arith,
+        sym (append-nil (compact n)),
+        refl,
+      );
     }
 
 pair_is : (x y : ℕ × Part) → Some x ≡ Some y → x ≡ y
@@ -110,6 +117,19 @@ arm_next w index q p h e o = by (arm_of o.arms index) refl o.found_is where
         own = index ∷ [];
         are_bytes = (h, tt);
         finite = rw (← same) k.finite;
-        is_open = (o.arms, index, a.1, [], field_types a.1.fields, [], o.laid, rw position f, refl,
-            ap how_many_left part, part, refl, refl);
+        is_open = (
+          o.arms,
+          index,
+          a.1,
+          [],
+          field_types a.1.fields,
+          [],
+          o.laid,
+          rw position f,
+          refl,
+          ap how_many_left part,
+          part,
+          refl,
+          refl,
+        );
       }

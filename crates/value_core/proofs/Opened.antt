@@ -1,7 +1,5 @@
 -- What the next type is made of says its layout.
-use Rattle.std.proofs.Common.{
-    ◌≡◌, ℕ, Bool, true, false, List, Option, Some, None, refl, sym, ap, ◌∙◌
-}
+use Rattle.std.proofs.Common.{◌≡◌, ℕ, Bool, true, false, List, Option, Some, None, refl, sym, ap, ◌∙◌}
 use Rattle.std.specs.Prelude.{if◌then◌else◌, option_map}
 use Rattle.scale_core.specs.declared.compact.Target.{Target}
 use Rattle.registry_core.specs.declared.definition.Arm.{Arm}
@@ -14,9 +12,7 @@ use Rattle.graph_core.specs.Types.{shape, ids, field_types}
 use Rattle.widths_core.specs.Arms.{arm_of, arm_at, arm_of_shape}
 use Rattle.widths_core.specs.Classes.{is_empty}
 use Rattle.widths_core.specs.Targets.{target_of}
-use Rattle.widths_core.specs.Layouts.{
-    Layout, layout, layout_of_shape, sized_layout, sequence_layout
-}
+use Rattle.widths_core.specs.Layouts.{Layout, layout, layout_of_shape, sized_layout, sequence_layout}
 use Rattle.widths_core.specs.Layouts as layout
 use Rattle.grammar_core.specs.declared.form.Form.{Form}
 use Rattle.grammar_core.specs.declared.form.Form.TheVariants as form
@@ -24,9 +20,7 @@ use Rattle.grammar_core.specs.declared.form.Next.TheVariants as next
 use Rattle.grammar_core.specs.Forms.{form_of, form_of_shape, sequence_form, compact_form}
 use Rattle.grammar_core.specs.Parts.{each, times}
 use Rattle.value_core.specs.Walked.{Walked, next_type, next_of}
-use Rattle.value_core.specs.Opened.{
-    shape_at, next_shape, OpensFields, OpensArm, OpensArray, OpensSequence
-}
+use Rattle.value_core.specs.Opened.{shape_at, next_shape, OpensFields, OpensArm, OpensArray, OpensSequence}
 use Rattle.value_core.proofs.Forms.{wanted}
 
 -- the next type is of this shape, is of the form, and has the layout of its shape
@@ -51,13 +45,19 @@ laid w f d sized h s =
     let at = wanted w f h in
     let shape_is : shape w.types at.ty ≡ Some d = sym (s ∙ ap (shape_at w.types) at.is_next) in
     laid_at w f d at.ty (is_empty w.types at.ty) sized at.is_next shape_is refl
-        (rw shape_is at at.form_is)
+    (rw shape_is at at.form_is)
 
 pub composite_opens : (w : Walked) (fs : List Field) → next_of w ≡ next.Wants form.Fields →
     Some (Def.Composite fs) ≡ next_shape w → OpensFields w (each (field_types fs))
 composite_opens w fs h s = let is = laid w form.Fields (Def.Composite fs) (λ e. absurd cc) h s in
-    record { ty = is.ty; next = is.is_next; members = field_types fs; laid = is.layout_is; part_is =
-    refl }
+    record {
+      ty = is.ty;
+      next = is.is_next;
+      members = field_types fs;
+      laid = is.layout_is;
+      part_is =
+          refl;
+    }
 
 pub tuple_opens : (w : Walked) (ts : List TypeId) → next_of w ≡ next.Wants form.Fields →
     Some (Def.Tuple ts) ≡ next_shape w → OpensFields w (each (ids ts))
@@ -70,8 +70,14 @@ array_opens w n m u h s =
     let is = laid w (form.Array n) (Def.Array m u) (λ e. absurd cc) h s in
     let form_is : next.Wants (form.Array m) ≡ next.Wants (form.Array n) = is.form_is in
     let same : m ≡ n = cc in
-    record { ty = is.ty; next = is.is_next; element = u.0; laid = is.layout_is
-        ∙ ap (λ (k : ℕ). layout.array k u.0) same; part_is = refl }
+    record {
+      ty = is.ty;
+      next = is.is_next;
+      element = u.0;
+      laid = is.layout_is
+          ∙ ap (λ (k : ℕ). layout.array k u.0) same;
+      part_is = refl;
+    }
 
 sequence_is : (u : ℕ) (empty : Bool) → sequence_form empty ≡ next.Wants form.Sequence →
     sequence_layout u empty ≡ layout.sequence u
@@ -82,8 +88,14 @@ pub sequence_opens : (w : Walked) (n : ℕ) (u : TypeId) → next_of w ≡ next.
     Some (Def.Sequence u) ≡ next_shape w → OpensSequence w n (times n u.0)
 sequence_opens w n u h s =
     let is = laid w form.Sequence (Def.Sequence u) (λ e. absurd cc) h s in
-    record { ty = is.ty; next = is.is_next; element = u.0; laid = is.layout_is
-        ∙ sequence_is u.0 (is_empty w.types u.0) is.form_is; part_is = refl }
+    record {
+      ty = is.ty;
+      next = is.is_next;
+      element = u.0;
+      laid = is.layout_is
+          ∙ sequence_is u.0 (is_empty w.types u.0) is.form_is;
+      part_is = refl;
+    }
 
 -- ---- arms
 
@@ -126,6 +138,12 @@ arm_opens w t index found h e f =
     let same : t ≡ at.ty = cc in
     let is = arms_of w.types at.ty at.form_is in
     let found_is : found ≡ arm_of is.0 index = f ∙ ap (λ (u : ℕ). arm_at w.types u index) same
-        ∙ ap (λ (d : Option TypeDef). arm_of_shape d index) is.1 in
-    record { ty = at.ty; next = at.is_next; arms = is.0; laid = is.2; found_is =
-        ap (option_map (λ (x : ℕ × Arm). (x.0, each (field_types x.1.fields)))) found_is }
+    ∙ ap (λ (d : Option TypeDef). arm_of_shape d index) is.1 in
+    record {
+      ty = at.ty;
+      next = at.is_next;
+      arms = is.0;
+      laid = is.2;
+      found_is =
+          ap (option_map (λ (x : ℕ × Arm). (x.0, each (field_types x.1.fields)))) found_is;
+    }

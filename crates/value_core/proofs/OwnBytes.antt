@@ -1,10 +1,7 @@
 -- The nodes of a value that is being built spell its own bytes.
 use Rattle.grammar_core.specs.Preorder as head
 use Rattle.grammar_core.specs.Tree as tree
-use Rattle.std.proofs.Common.{
-    ◌≡◌, ℕ, zero, suc, ◌≤◌, flat_map, List, [], ◌∷◌, ◌++◌, refl, sym, ap, subst, ◌∙◌, arith, inl,
-    inr
-}
+use Rattle.std.proofs.Common.{◌≡◌, ℕ, zero, suc, ◌≤◌, flat_map, List, [], ◌∷◌, ◌++◌, refl, sym, ap, subst, ◌∙◌, arith, inl, inr}
 use Rattle.std.proofs.lemmas.Grind.{flat_map-append}
 use Rattle.scale_core.specs.Number.{AreBytes}
 use Rattle.scale_core.proofs.Numbers.{front_bytes, rest_bytes}
@@ -16,12 +13,8 @@ use Rattle.grammar_core.specs.Grammar.{Vals}
 use Rattle.grammar_core.specs.Parts.{Part, each, times}
 use Rattle.grammar_core.specs.Cells.{Cell, cells, all_cells, fields_part, arm_part, list_part}
 use Rattle.grammar_core.specs.Spelled.{cell_bytes, own_bytes, length_bytes}
-use Rattle.grammar_core.proofs.Spelled.{
-    encoded_is_value, spells_vals, spells_each, arm_byte, array_length, sequence_length
-}
-use Rattle.value_core.specs.Spine.{
-    OpenNode, open_cells, IsOpenAs, Spine, IsFieldsOpen, IsArmOpen, IsListOpen
-}
+use Rattle.grammar_core.proofs.Spelled.{encoded_is_value, spells_vals, spells_each, arm_byte, array_length, sequence_length}
+use Rattle.value_core.specs.Spine.{OpenNode, open_cells, IsOpenAs, Spine, IsFieldsOpen, IsArmOpen, IsListOpen}
 use Rattle.grammar_core.specs.Cells.{part_of}
 use Rattle.value_core.specs.Walked.{OpenPart}
 use Rattle.value_core.proofs.Below.{arm_part_is}
@@ -49,7 +42,7 @@ fields_bytes : (r : List TypeInfo) (t n : ℕ) (vs : Trees) (b : List ℕ) (p : 
     flat_map (cell_bytes r) (all_cells r (fields_part (layout r t)) vs) ≡ b
 fields_bytes r t n vs b p are h =
     let cells_are = ap (λ (q : Part). all_cells r q vs) (ap fields_part h.2)
-        ∙ front_cells r h.0 h.1 vs b h.5 in
+    ∙ front_cells r h.0 h.1 vs b h.5 in
     ap (flat_map (cell_bytes r)) cells_are ∙ spells_vals r h.0 vs b are h.5
 
 arm_bytes : (r : List TypeInfo) (t q n : ℕ) (vs : Trees) (b : List ℕ) (p : Part) → AreBytes b →
@@ -59,11 +52,11 @@ arm_bytes : (r : List TypeInfo) (t q n : ℕ) (vs : Trees) (b : List ℕ) (p : P
 arm_bytes r t q n vs b p are h =
     let first = arm_byte r t h.0 h.1 q h.2 h.6 h.7 in
     let cells_are = ap (λ (x : Part). all_cells r x vs)
-        (arm_part_is r t q h.0 h.1 h.2 h.6 h.7 ∙ ap each h.8) ∙ front_cells r h.3 h.4 vs h.5 h.12 in
+    (arm_part_is r t q h.0 h.1 h.2 h.6 h.7 ∙ ap each h.8) ∙ front_cells r h.3 h.4 vs h.5 h.12 in
     let rest = ap (flat_map (cell_bytes r)) cells_are
-        ∙ spells_vals r h.3 vs h.5 (subst AreBytes h.11 are).1 h.12 in
+    ∙ spells_vals r h.3 vs h.5 (subst AreBytes h.11 are).1 h.12 in
     ap (λ (x : List ℕ). x ++ flat_map (cell_bytes r) (all_cells r (arm_part (layout r t) q) vs))
-        first ∙ ap (λ (x : List ℕ). h.1 ∷ x) rest ∙ sym h.11
+    first ∙ ap (λ (x : List ℕ). h.1 ∷ x) rest ∙ sym h.11
 
 list_bytes : (r : List TypeInfo) (t n : ℕ) (vs : Trees) (b : List ℕ) (p : Part) → AreBytes b →
     IsListOpen r t n vs b p →
@@ -71,14 +64,17 @@ list_bytes : (r : List TypeInfo) (t n : ℕ) (vs : Trees) (b : List ℕ) (p : Pa
     (all_cells r (list_part (layout r t) n) vs) ≡ b
 list_bytes r t n vs b p are h =
     let first : length_bytes (shape r t) n ≡ h.2 =
-        elim h.4 [ inl a ↦ array_length r t n h.0 n a.0 ∙ sym a.1 | inr s ↦
-        sequence_length r t h.0 n s.0 ∙ sym s.1.1 ] in
+    elim h.4 [
+      | inl a ↦ array_length r t n h.0 n a.0 ∙ sym a.1
+      | inr s ↦
+          sequence_length r t h.0 n s.0 ∙ sym s.1.1
+    ] in
     let cells_are = ap (λ (q : Part). all_cells r q vs) (list_part_is r t n h.0 vs b p h)
-        ∙ times_front r n h.0 vs (omega (arith, h.6)) in
+    ∙ times_front r n h.0 vs (omega (arith, h.6)) in
     let rest = ap (flat_map (cell_bytes r)) cells_are
-        ∙ spells_each r h.0 vs h.3 (rest_bytes h.2 h.3 (subst AreBytes h.7 are)) h.8 in
+    ∙ spells_each r h.0 vs h.3 (rest_bytes h.2 h.3 (subst AreBytes h.7 are)) h.8 in
     ap (λ (x : List ℕ). x ++ flat_map (cell_bytes r) (all_cells r (list_part (layout r t) n) vs))
-        first ∙ ap (λ (x : List ℕ). h.2 ++ x) rest ∙ sym h.7
+    first ∙ ap (λ (x : List ℕ). h.2 ++ x) rest ∙ sym h.7
 
 open_bytes : (r : List TypeInfo) (kind : Branch) (t n : ℕ) (vs : Trees) (b : List ℕ) (p : Part) →
     AreBytes b → IsOpenAs r kind t n vs b p →
@@ -99,5 +95,5 @@ spine_bytes r room t (o ∷ os) fs cs own are h =
     let outer = spine_bytes r (suc room) t os _ h.4 h.5 (front_bytes h.5 o.own both) h.8 in
     let inner = open_bytes r o.kind o.ty o.all o.done o.own h.0 (rest_bytes h.5 o.own both) h.9.1 in
     ap (flat_map (cell_bytes r)) h.11 ∙ flat_map-append (cell_bytes r) h.4 (open_cells r o)
-        ∙ ap (λ (x : List ℕ). x ++ flat_map (cell_bytes r) (open_cells r o)) outer
-        ∙ ap (λ (x : List ℕ). h.5 ++ x) inner ∙ sym h.12
+    ∙ ap (λ (x : List ℕ). x ++ flat_map (cell_bytes r) (open_cells r o)) outer
+    ∙ ap (λ (x : List ℕ). h.5 ++ x) inner ∙ sym h.12

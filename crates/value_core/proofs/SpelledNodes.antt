@@ -1,8 +1,5 @@
 -- The bytes of a node as it is kept: what is computed, and behind it what lies in the pool.
-use Rattle.std.proofs.Common.{
-    ◌≡◌, ℕ, ◌+◌, ◌-◌, ◌*◌, ◌^◌, ◌≤◌, ◌<◌, Bool, true, false, cond, List, [], ◌∷◌, ◌++◌, length,
-    take, drop, Option, refl, sym, ap, subst, ◌∙◌, arith
-}
+use Rattle.std.proofs.Common.{◌≡◌, ℕ, ◌+◌, ◌-◌, ◌*◌, ◌^◌, ◌≤◌, ◌<◌, Bool, true, false, cond, List, [], ◌∷◌, ◌++◌, length, take, drop, Option, refl, sym, ap, subst, ◌∙◌, arith}
 use Rattle.std.specs.Prelude.{pos, neg_ℤ, nat_lt, slice_set, slice_range}
 use mir.Val.{bool_byte as byte_of}
 use Rattle.std.specs.Int.{w32, w128, from_le_bytes, to_le_bytes}
@@ -106,8 +103,11 @@ starts_list f d n e = λ pool inside. append-nil f ∙ e
 length-range : (pool : List ℕ) (start len : ℕ) → start + len ≤ length pool →
     length (slice_range pool start (start + len)) ≡ len
 length-range pool start len h =
-    omega (arith, length-take (start + len - start) (drop start pool),
-    length-drop {A = ℕ} start pool)
+    omega (
+      arith,
+      length-take (start + len - start) (drop start pool),
+      length-drop {A = ℕ} start pool,
+    )
 
 pub starts_text : (f : List ℕ) (d : Option TypeDef) (start len : ℕ) → f ≡ compact len →
     Starts f d (is.Text start len)

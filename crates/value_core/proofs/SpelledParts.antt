@@ -1,8 +1,5 @@
 -- The bytes of a value go out in parts.
-use Rattle.std.proofs.Common.{
-    ◌≡◌, ℕ, zero, suc, ◌+◌, ◌*◌, ◌^◌, ◌<◌, ◌≤◌, flat_map, List, [], ◌∷◌, ◌++◌, length, take, drop,
-    get_or, Option, Some, None, refl, append_assoc, sym, subst, ◌∙◌, ap, arith, length-append
-}
+use Rattle.std.proofs.Common.{◌≡◌, ℕ, zero, suc, ◌+◌, ◌*◌, ◌^◌, ◌<◌, ◌≤◌, flat_map, List, [], ◌∷◌, ◌++◌, length, take, drop, get_or, Option, Some, None, refl, append_assoc, sym, subst, ◌∙◌, ap, arith, length-append}
 use Rattle.std.proofs.Math.Seq.{take-add}
 use Rattle.std.proofs.lemmas.List.Folds.{flat_map-map}
 use Rattle.scale_core.specs.Number.{AreBytes}
@@ -26,7 +23,7 @@ appends_next (Some a) None c xs w n p q = absurd p
 appends_next (Some a) (Some b) None xs w n p q = absurd q
 appends_next (Some a) (Some b) (Some c) xs w n p q =
     q ∙ ap (λ v. v ++ take n (drop w xs)) p ∙ append_assoc a (take w xs) (take n (drop w xs))
-        ∙ ap (λ v. a ++ v) (sym (take-add w n xs))
+    ∙ ap (λ v. a ++ v) (sym (take-add w n xs))
 
 -- one append behind another is an append of both
 pub appends_both : (a b c : Option (List ℕ)) (xs ys : List ℕ) → Appends a b xs → Appends b c ys →
@@ -61,7 +58,7 @@ pub sent_more : (a b c : Option (List ℕ)) (front back whole : List ℕ) (len w
     Appends a c (take (len + w) whole)
 sent_more a b c front back whole len w long e p q =
     subst (Appends a c) (take-past front back w ∙ ap (λ (n : ℕ). take (n + w) (front ++ back)) long
-        ∙ ap (take (len + w)) e) (appends_both a b c front (take w back) p q)
+    ∙ ap (take (len + w)) e) (appends_both a b c front (take w back) p q)
 
 pub sent_all : (a b c : Option (List ℕ)) (front back whole : List ℕ) → front ++ back ≡ whole →
     Appends a b front → Appends b c back → Appends a c whole
@@ -95,9 +92,11 @@ within : {X : Type 0} (f : X → List ℕ) (ns : List X) (i : ℕ) (d : X) → i
 within f [] i d h = absurd (omega arith)
 within f (m ∷ ns) zero d h = (flat_map f ns, refl)
 within f (m ∷ ns) (suc i) d h =
-    let s = within f ns i d (omega arith) in
-    (s.0, ap (λ (xs : List ℕ). f m ++ xs) s.1
-        ∙ sym (append_assoc (f m) (flat_map f (take i ns)) (f (get_or ns i d) ++ s.0)))
+    let s = within f ns i d (omega arith) in (
+      s.0,
+      ap (λ (xs : List ℕ). f m ++ xs) s.1
+          ∙ sym (append_assoc (f m) (flat_map f (take i ns)) (f (get_or ns i d) ++ s.0)),
+    )
 
 -- what a front of one node makes of the bytes of the nodes before it, which went out
 pub record Stops (a c : Option (List ℕ)) (whole : List ℕ) (told : ℕ) : Type 0 where
@@ -108,9 +107,9 @@ pub stops : (a b c : Option (List ℕ)) (r s : List TypeInfo) (pool : List ℕ) 
     (d : Node) (whole : List ℕ) (w before : ℕ) →
     s ≡ r → i < length ns → flat_map (node_bytes r pool) ns ≡ whole →
     Appends a b (flat_map (node_bytes r pool) (take i ns)) →
-        before ≡ length (flat_map (node_bytes r pool) (take i ns)) →
+    before ≡ length (flat_map (node_bytes r pool) (take i ns)) →
     w ≤ length (node_bytes s pool (get_or ns i d)) →
-        Appends b c (take w (node_bytes s pool (get_or ns i d))) → Stops a c whole (before + w)
+    Appends b c (take w (node_bytes s pool (get_or ns i d))) → Stops a c whole (before + w)
 stops a b c r s pool ns i d whole w before same h all sent counted le more =
     let f = node_bytes r pool in
     let done = flat_map f (take i ns) in
@@ -120,7 +119,7 @@ stops a b c r s pool ns i d whole w before same h all sent counted le more =
     let x = within f ns i d h in
     let e : done ++ (own ++ x.0) ≡ whole = sym x.1 ∙ all in
     let long : length whole ≡ length done + length (own ++ x.0) =
-        long_whole done (own ++ x.0) whole e in
+    long_whole done (own ++ x.0) whole e in
     record {
       part = omega (arith, long, le', counted, length-append own x.0);
       sent = sent_more a b c done (own ++ x.0) whole before w (sym counted) e sent
@@ -130,10 +129,10 @@ stops a b c r s pool ns i d whole w before same h all sent counted le more =
 -- the texts of the nodes up to one of them
 pub texts_up_to : (pool : List ℕ) (ns : List Node) (i : ℕ) (d : Node) → i < length ns →
     (entries_text_bytes (entries_shown pool (take (suc i) ns))
-        ≡ entries_text_bytes (entries_shown pool (take i ns)) + head_text_bytes
-        (head_shown pool (get_or ns i d).content))
+    ≡ entries_text_bytes (entries_shown pool (take i ns)) + head_text_bytes
+    (head_shown pool (get_or ns i d).content))
     × (entries_text_bytes (entries_shown pool (take (suc i) ns))
-        ≤ entries_text_bytes (entries_shown pool ns))
+    ≤ entries_text_bytes (entries_shown pool ns))
 texts_up_to pool [] i d h = absurd (omega arith)
 texts_up_to pool (m ∷ ns) zero d h = (omega arith, omega arith)
 texts_up_to pool (m ∷ ns) (suc i) d h = let t = texts_up_to pool ns i d (omega arith) in
@@ -148,19 +147,19 @@ pub record IsFew (pool : List ℕ) (ns : List Node) (i count : ℕ) : Type 0 whe
 pub is_few : (r s : List TypeInfo) (pool : List ℕ) (ns : List Node) (v : Seen) (i : ℕ) (d : Node)
     (before w : ℕ) →
     s ≡ r → IsWhole r pool ns → seen r pool ns ≡ v → text_bytes v.tree ≤ length pool →
-        length pool < 2 ^ 63 → length ns * 40 < 2 ^ 63 → i < length ns →
+    length pool < 2 ^ 63 → length ns * 40 < 2 ^ 63 → i < length ns →
     before ≤ 32 * i + entries_text_bytes (entries_shown pool (take i ns)) →
-        w ≤ length (node_bytes s pool (get_or ns i d)) →
+    w ≤ length (node_bytes s pool (get_or ns i d)) →
     length (node_bytes s pool (get_or ns i d))
-        ≤ 32 + head_text_bytes (head_shown pool (get_or ns i d).content) →
-        IsFew pool ns i (before + w)
+    ≤ 32 + head_text_bytes (head_shown pool (get_or ns i d).content) →
+    IsFew pool ns i (before + w)
 is_few r s pool ns v i d before w same whole is fits small few h le part bound =
     let next : suc i ≡ i + 1 = omega arith in
     let t = texts_up_to pool ns i d h in
     let all : entries_text_bytes (entries_shown pool ns) ≡ text_bytes v.tree =
-        text_of_nodes r pool ns whole ∙ ap (λ (x : Seen). text_bytes x.tree) is in
+    text_of_nodes r pool ns whole ∙ ap (λ (x : Seen). text_bytes x.tree) is in
     let up : before + w ≤ 32 * suc i + entries_text_bytes (entries_shown pool (take (suc i) ns)) =
-        omega (arith, le, part, bound, t.0) in
+    omega (arith, le, part, bound, t.0) in
     record { few = rw (← next) up; fits = omega (arith, up, t.1, all, fits, small, few, h) }
 
 -- each node of a value without bytes has none
@@ -173,6 +172,10 @@ no_own r s pool ns i d whole same h all nil =
     let done = flat_map f (take i ns) in
     let own = f (get_or ns i d) in
     let short : length own ≡ 0 =
-        omega (arith, ap length (sym x.1 ∙ all ∙ nil), length-append done (own ++ x.0),
-        length-append own x.0) in
+    omega (
+      arith,
+      ap length (sym x.1 ∙ all ∙ nil),
+      length-append done (own ++ x.0),
+      length-append own x.0,
+    ) in
     rw same short

@@ -1,27 +1,19 @@
 -- A value that is being built stays one at each step.
 use Rattle.grammar_core.specs.Preorder as head
 use Rattle.grammar_core.specs.Tree as tree
-use Rattle.std.proofs.Common.{
-    ◌≡◌, ℕ, zero, suc, ◌+◌, ◌<◌, ◌≤◌, List, [], ◌∷◌, ◌++◌, length, Some, None, refl, sym, ap, subst,
-    ◌∙◌, append_assoc, arith, inl, inr
-}
+use Rattle.std.proofs.Common.{◌≡◌, ℕ, zero, suc, ◌+◌, ◌<◌, ◌≤◌, List, [], ◌∷◌, ◌++◌, length, Some, None, refl, sym, ap, subst, ◌∙◌, append_assoc, arith, inl, inr}
 use Rattle.std.proofs.lemmas.List.{append-nil}
 use Rattle.std.proofs.lemmas.Option.{same_Some}
 use Rattle.registry_core.specs.declared.type_info.TypeInfo.{TypeInfo}
 use Rattle.widths_core.specs.Layouts.{layout}
 use Rattle.widths_core.specs.Layouts as layout
-use Rattle.grammar_core.specs.Tree.{
-    Branch, Tree, Trees, none, and, how_many, levels, most_levels, all_nodes
-}
+use Rattle.grammar_core.specs.Tree.{Branch, Tree, Trees, none, and, how_many, levels, most_levels, all_nodes}
 use Rattle.grammar_core.specs.Grammar.{Val, Vals, Each}
 use Rattle.grammar_core.specs.Parts.{Part, each, times, first_of, left_after}
 use Rattle.grammar_core.specs.Cells.{Cell, cells, all_cells, fields_part, arm_part, list_part}
 use Rattle.grammar_core.proofs.Bounds.{same_length}
 use Rattle.value_core.specs.Walked.{OpenPart}
-use Rattle.value_core.specs.Spine.{
-    OpenNode, open_cell, open_cells, IsFieldsOpen, IsArmOpen, IsListOpen, IsOpenAs, IsOpen,
-    open_part, Spine
-}
+use Rattle.value_core.specs.Spine.{OpenNode, open_cell, open_cells, IsFieldsOpen, IsArmOpen, IsListOpen, IsOpenAs, IsOpen, open_part, Spine}
 use Rattle.grammar_core.specs.Cells.{part_of}
 use Rattle.value_core.proofs.Below.{arm_part_is}
 use Rattle.value_core.proofs.CellsOf.{all_cells_length}
@@ -50,17 +42,25 @@ unfolding Val
 snoc_vals r [] none b u v c h k = (c, [], rw (h, append-nil) refl, k, refl)
 snoc_vals r (t ∷ ts) none b u v c h k = absurd h
 snoc_vals r [] (and w ws) b u v c h k = absurd h
-snoc_vals r (t ∷ ts) (and w ws) b u v c h k =
-    (h.0, h.1 ++ c, ap (λ (x : List ℕ). x ++ c) h.2 ∙ append_assoc h.0 h.1 c, h.3,
-    snoc_vals r ts ws h.1 u v c h.4 k)
+snoc_vals r (t ∷ ts) (and w ws) b u v c h k = (
+  h.0,
+  h.1 ++ c,
+  ap (λ (x : List ℕ). x ++ c) h.2 ∙ append_assoc h.0 h.1 c,
+  h.3,
+  snoc_vals r ts ws h.1 u v c h.4 k,
+)
 
 snoc_each : (r : List TypeInfo) (u : ℕ) (vs : Trees) (b : List ℕ) (v : Tree) (c : List ℕ) →
     Each r u vs b → Val r u v c → Each r u (snoc vs v) (b ++ c)
 unfolding Val
 snoc_each r u none b v c h k = (c, [], rw (h, append-nil) refl, k, refl)
-snoc_each r u (and w ws) b v c h k =
-    (h.0, h.1 ++ c, ap (λ (x : List ℕ). x ++ c) h.2 ∙ append_assoc h.0 h.1 c, h.3,
-    snoc_each r u ws h.1 v c h.4 k)
+snoc_each r u (and w ws) b v c h k = (
+  h.0,
+  h.1 ++ c,
+  ap (λ (x : List ℕ). x ++ c) h.2 ∙ append_assoc h.0 h.1 c,
+  h.3,
+  snoc_each r u ws h.1 v c h.4 k,
+)
 
 -- its nodes stand behind those of the others
 each_cells : (r : List TypeInfo) (front : List ℕ) (u : ℕ) (back : List ℕ) (vs : Trees) (b : List ℕ)
@@ -98,13 +98,19 @@ grown_fields r t n vs b p u v c (w ∷ back) h e f k =
     let is : p ≡ each (w ∷ back) = h.4 ∙ ap each e in
     let same : w ≡ u = same_Some w u (sym (ap first_of is) ∙ f) in
     let split : h.0 ++ h.1 ≡ h.0 ++ u ∷ back =
-        ap (λ (x : List ℕ). h.0 ++ x) (e ∙ ap (λ (z : ℕ). z ∷ back) same) in
+    ap (λ (x : List ℕ). h.0 ++ x) (e ∙ ap (λ (z : ℕ). z ∷ back) same) in
     let joined : h.0 ++ h.1 ≡ (h.0 ++ u ∷ []) ++ back = split
-        ∙ sym (append_assoc h.0 (u ∷ []) back) in
+    ∙ sym (append_assoc h.0 (u ∷ []) back) in
     let parts : fields_part (layout r t) ≡ each (h.0 ++ u ∷ back) = ap fields_part h.2
-        ∙ ap each split in (
-      (h.0 ++ u ∷ [], back, h.2 ∙ ap layout.fields joined, h.3 ∙ ap length joined, ap left_after is,
-          snoc_vals r h.0 vs b u v c h.5 k),
+    ∙ ap each split in (
+      (
+        h.0 ++ u ∷ [],
+        back,
+        h.2 ∙ ap layout.fields joined,
+        h.3 ∙ ap length joined,
+        ap left_after is,
+        snoc_vals r h.0 vs b u v c h.5 k,
+      ),
       rw parts (each_cells r h.0 u back vs b v h.5),
     )
 
@@ -117,13 +123,26 @@ grown_arm r t q n vs b p u v c (w ∷ back) h e f k =
     let is : p ≡ each (w ∷ back) = h.10 ∙ ap each e in
     let same : w ≡ u = same_Some w u (sym (ap first_of is) ∙ f) in
     let split : h.3 ++ h.4 ≡ h.3 ++ u ∷ back =
-        ap (λ (x : List ℕ). h.3 ++ x) (e ∙ ap (λ (z : ℕ). z ∷ back) same) in
+    ap (λ (x : List ℕ). h.3 ++ x) (e ∙ ap (λ (z : ℕ). z ∷ back) same) in
     let joined : h.3 ++ h.4 ≡ (h.3 ++ u ∷ []) ++ back = split
-        ∙ sym (append_assoc h.3 (u ∷ []) back) in
+    ∙ sym (append_assoc h.3 (u ∷ []) back) in
     let parts : arm_part (layout r t) q ≡ each (h.3 ++ u ∷ back) =
-        arm_part_is r t q h.0 h.1 h.2 h.6 h.7 ∙ ap each (h.8 ∙ split) in (
-      (h.0, h.1, h.2, h.3 ++ u ∷ [], back, h.5 ++ c, h.6, h.7, h.8 ∙ joined, h.9 ∙ ap length joined,
-          ap left_after is, ap (λ (x : List ℕ). x ++ c) h.11, snoc_vals r h.3 vs h.5 u v c h.12 k),
+    arm_part_is r t q h.0 h.1 h.2 h.6 h.7 ∙ ap each (h.8 ∙ split) in (
+      (
+        h.0,
+        h.1,
+        h.2,
+        h.3 ++ u ∷ [],
+        back,
+        h.5 ++ c,
+        h.6,
+        h.7,
+        h.8 ∙ joined,
+        h.9 ∙ ap length joined,
+        ap left_after is,
+        ap (λ (x : List ℕ). x ++ c) h.11,
+        snoc_vals r h.3 vs h.5 u v c h.12 k,
+      ),
       rw parts (each_cells r h.3 u back vs h.5 v h.12),
     )
 
@@ -143,10 +162,18 @@ grown_list r t n vs b p u v c (suc left) h e f k =
     let is : p ≡ times (suc left) h.0 = h.5 ∙ ap (λ (z : ℕ). times z h.0) e in
     let same : h.0 ≡ u = same_Some h.0 u (sym (ap first_of is) ∙ f) in
     let parts : list_part (layout r t) n ≡ times n u = list_part_is r t n u vs b p h
-        ∙ ap (times n) same in (
-      (h.0, left, h.2, h.3 ++ c, h.4, ap left_after is, omega (arith, snoc_many vs v, h.6, e),
-          ap (λ (x : List ℕ). x ++ c) h.7 ∙ append_assoc h.2 h.3 c,
-          snoc_each r h.0 vs h.3 v c h.8 (subst (λ (z : ℕ). Val r z v c) (sym same) k)),
+    ∙ ap (times n) same in (
+      (
+        h.0,
+        left,
+        h.2,
+        h.3 ++ c,
+        h.4,
+        ap left_after is,
+        omega (arith, snoc_many vs v, h.6, e),
+        ap (λ (x : List ℕ). x ++ c) h.7 ∙ append_assoc h.2 h.3 c,
+        snoc_each r h.0 vs h.3 v c h.8 (subst (λ (z : ℕ). Val r z v c) (sym same) k),
+      ),
       rw parts (times_cells r n u vs v (omega (arith, h.6, e))),
     )
 
@@ -172,21 +199,38 @@ whole_as : (r : List TypeInfo) (kind : Branch) (t n : ℕ) (vs : Trees) (b : Lis
 unfolding Val
 whole_as r tree.fields t n vs b p h f =
     let nil = no_each h.1 (sym (ap first_of h.4) ∙ f) in
-    let front : h.0 ++ h.1 ≡ h.0 = ap (λ (x : List ℕ). h.0 ++ x) nil ∙ append-nil h.0 in
-    ((h.0, h.2 ∙ ap layout.fields front, h.5), h.3 ∙ ap length front
-        ∙ sym (same_length r h.0 vs b h.5))
+    let front : h.0 ++ h.1 ≡ h.0 = ap (λ (x : List ℕ). h.0 ++ x) nil ∙ append-nil h.0 in (
+      (h.0, h.2 ∙ ap layout.fields front, h.5),
+      h.3 ∙ ap length front
+          ∙ sym (same_length r h.0 vs b h.5),
+    )
 whole_as r (tree.arm q) t n vs b p h f =
     let nil = no_each h.4 (sym (ap first_of h.10) ∙ f) in
-    let front : h.3 ++ h.4 ≡ h.3 = ap (λ (x : List ℕ). h.3 ++ x) nil ∙ append-nil h.3 in
-    ((h.0, h.1, h.2, h.5, h.6, h.7, h.11,
-        subst (λ (ts : List ℕ). Vals r ts vs h.5) (sym (h.8 ∙ front)) h.12), h.9 ∙ ap length front
-        ∙ sym (same_length r h.3 vs h.5 h.12))
+    let front : h.3 ++ h.4 ≡ h.3 = ap (λ (x : List ℕ). h.3 ++ x) nil ∙ append-nil h.3 in (
+      (
+        h.0,
+        h.1,
+        h.2,
+        h.5,
+        h.6,
+        h.7,
+        h.11,
+        subst (λ (ts : List ℕ). Vals r ts vs h.5) (sym (h.8 ∙ front)) h.12,
+      ),
+      h.9 ∙ ap length front
+          ∙ sym (same_length r h.3 vs h.5 h.12),
+    )
 whole_as r tree.list t n vs b p h f =
     let nil = no_times h.1 h.0 (sym (ap first_of h.5) ∙ f) in
     let count : how_many vs ≡ n = omega (arith, h.6, nil) in (
       elim h.4 [
-        | inl a ↦ inl (n, h.0, a.0, count,
-            subst (Each r h.0 vs) (sym (h.7 ∙ ap (λ (c : List ℕ). c ++ h.3) a.1)) h.8)
+        | inl a ↦ inl (
+          n,
+          h.0,
+          a.0,
+          count,
+          subst (Each r h.0 vs) (sym (h.7 ∙ ap (λ (c : List ℕ). c ++ h.3) a.1)) h.8,
+        )
         | inr s ↦ inr (h.0, h.2, h.3, s.0, rw count s.1, h.7, h.8)
       ],
       sym count,
@@ -206,20 +250,33 @@ pub value_added : (r : List TypeInfo) (room t : ℕ) (os : List OpenNode) (f : O
     Grown r room t (open_part f.node (left_after f.left) ∷ fs) (cs ++ cells r u v) (own ++ c)
 value_added r room t [] f fs cs own u v c (inl h) e k l =
     let parts = is_cons f (open_part 0 (times 1 t)) fs [] h.0 in
-    let same : t ≡ u = same_Some t u (sym (ap (λ (x : OpenPart). first_of x.left) parts.0) ∙ e) in
-    ([], inr (v, rw (parts.0, parts.1) refl, rw (h.1, same) refl,
+    let same : t ≡ u = same_Some t u (sym (ap (λ (x : OpenPart). first_of x.left) parts.0) ∙ e) in (
+      [],
+      inr (
+        v,
+        rw (parts.0, parts.1) refl,
+        rw (h.1, same) refl,
         subst (λ (b : List ℕ). Val r t v b) (sym (ap (λ (b : List ℕ). b ++ c) h.2))
-        (subst (λ (z : ℕ). Val r z v c) (sym same) k), l))
+            (subst (λ (z : ℕ). Val r z v c) (sym same) k),
+        l,
+      ),
+    )
 value_added r room t [] f fs cs own u v c (inr h) e k l =
     let parts = is_cons f (open_part 0 (times 0 t)) fs [] h.1 in
     let no : None ≡ Some u = sym (ap (λ (x : OpenPart). first_of x.left) parts.0) ∙ e in absurd cc
 value_added r room t (o ∷ os) f fs cs own u v c h e k l =
     let parts = is_cons f (open_part (length h.4) h.0) fs (open_part h.2 (left_after h.1) ∷ h.3)
-        h.6 in
+    h.6 in
     let e' : first_of h.0 ≡ Some u = sym (ap (λ (x : OpenPart). first_of x.left) parts.0) ∙ e in
     let g = grown_as r o.kind o.ty o.all o.done o.own h.0 u v c h.9.1 e' k in
-    let o' : OpenNode = record { ty = o.ty; kind = o.kind; all = o.all; done = snoc o.done v; own =
-        o.own ++ c } in (
+    let o' : OpenNode = record {
+      ty = o.ty;
+      kind = o.kind;
+      all = o.all;
+      done = snoc o.done v;
+      own =
+          o.own ++ c;
+    } in (
       o' ∷ os,
       (
         left_after h.0,
@@ -246,7 +303,7 @@ pub node_opened : (r : List TypeInfo) (room t : ℕ) (os : List OpenNode) (f : O
     Spine r (suc room) t os (f ∷ fs) cs own → first_of f.left ≡ Some o.ty → IsOpen r o q →
     most_levels o.done ≤ room →
     Spine r room t (o ∷ os) (open_part (length cs) q ∷ open_part f.node (left_after f.left) ∷ fs)
-        (cs ++ open_cells r o) (own ++ o.own)
+    (cs ++ open_cells r o) (own ++ o.own)
 node_opened r room t os f q fs cs own o h e k l =
     (q, f.left, f.node, fs, cs, own, refl, e, h, k, l, refl, refl)
 
@@ -279,19 +336,27 @@ pub node_closed : (r : List TypeInfo) (room t : ℕ) (o : OpenNode) (os : List O
     Closed r room t f.node fs cs own
 node_closed r room t o os f fs cs own h e =
     let parts = is_cons f (open_part (length h.4) h.0) fs (open_part h.2 (left_after h.1) ∷ h.3)
-        h.6 in
+    h.6 in
     let whole = whole_as r o.kind o.ty o.all o.done o.own h.0 h.9.1
-        (sym (ap (λ (x : OpenPart). first_of x.left) parts.0) ∙ e) in
+    (sym (ap (λ (x : OpenPart). first_of x.left) parts.0) ∙ e) in
     let g = value_added r (suc room) t os (open_part h.2 h.1) h.3 h.4 h.5 o.ty
-        (tree.branch o.kind o.done) o.own h.8 h.7 whole.0 (kind_levels o.kind o.done room h.10) in
+    (tree.branch o.kind o.done) o.own h.8 h.7 whole.0 (kind_levels o.kind o.done room h.10) in
     let back = all_cells r (part_of (layout r o.ty) o.kind o.all) o.done in
     let size : 1 + length back ≡ 1 + all_nodes o.done =
-        ap (λ (k : ℕ). 1 + k) (all_cells_length r (part_of (layout r o.ty) o.kind o.all) o.done) in
-    let is : h.4 ++ record { ty = o.ty; head = head.branch o.kind o.all; size =
-        1 + length back } ∷ back ≡ h.4 ++ cells r o.ty (tree.branch o.kind o.done) =
-        ap (λ (k : ℕ). h.4 ++ record { ty = o.ty; head = head.branch o.kind o.all; size =
-        k } ∷ back) size ∙ ap (λ (x : List Cell). h.4 ++ x)
-        (kind_cells r o.ty o.kind o.all o.done whole.1) in
+    ap (λ (k : ℕ). 1 + k) (all_cells_length r (part_of (layout r o.ty) o.kind o.all) o.done) in
+    let is : h.4 ++ record {
+      ty = o.ty;
+      head = head.branch o.kind o.all;
+      size =
+          1 + length back;
+    } ∷ back ≡ h.4 ++ cells r o.ty (tree.branch o.kind o.done) =
+    ap (λ (k : ℕ). h.4 ++ record {
+      ty = o.ty;
+      head = head.branch o.kind o.all;
+      size =
+          k;
+    } ∷ back) size ∙ ap (λ (x : List Cell). h.4 ++ x)
+    (kind_cells r o.ty o.kind o.all o.done whole.1) in
     record {
       front = h.4;
       cell = open_cell o;
@@ -299,8 +364,12 @@ node_closed r room t o os f fs cs own h e =
       cells_are = h.11;
       place_is = ap (λ (x : OpenPart). x.node) parts.0;
       grown = same_grown r (suc room) t fs (open_part h.2 (left_after h.1) ∷ h.3)
-          (h.4 ++ record { ty = o.ty; head = head.branch o.kind o.all; size =
-          1 + length back } ∷ back) (h.4 ++ cells r o.ty (tree.branch o.kind o.done)) own
+          (h.4 ++ record {
+            ty = o.ty;
+            head = head.branch o.kind o.all;
+            size =
+                1 + length back;
+          } ∷ back) (h.4 ++ cells r o.ty (tree.branch o.kind o.done)) own
           (h.5 ++ o.own) parts.1 is h.12 g;
     }
 
@@ -319,5 +388,8 @@ pub spine_length : (r : List TypeInfo) (room t : ℕ) (os : List OpenNode) (fs :
 spine_length r room t [] fs cs own (inl h) = ap length h.0
 spine_length r room t [] fs cs own (inr h) = ap length h.1
 spine_length r room t (o ∷ os) fs cs own h =
-    omega (arith, ap length h.6,
-    spine_length r (suc room) t os (open_part h.2 h.1 ∷ h.3) h.4 h.5 h.8)
+    omega (
+      arith,
+      ap length h.6,
+      spine_length r (suc room) t os (open_part h.2 h.1 ∷ h.3) h.4 h.5 h.8,
+    )

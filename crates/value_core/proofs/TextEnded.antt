@@ -1,8 +1,5 @@
 -- An open text that lacks nothing becomes the next node.
-use Rattle.std.proofs.Common.{
-    ◌≡◌, ◌+◌, ◌++◌, ◌∷◌, ◌∙◌, Bool, true, false, Option, Some, None, Ok, List, [], ℕ, length, drop,
-    ap, sym, subst, refl, arith
-}
+use Rattle.std.proofs.Common.{◌≡◌, ◌+◌, ◌++◌, ◌∷◌, ◌∙◌, Bool, true, false, Option, Some, None, Ok, List, [], ℕ, length, drop, ap, sym, subst, refl, arith}
 use Rattle.std.proofs.lemmas.List.{append-nil, length-drop}
 use Rattle.std.specs.Str.{is_utf8}
 use Rattle.std.proofs.lemmas.Option.{same_Some}
@@ -30,23 +27,23 @@ pub text_ended : (ty : ℕ) (w : Walked) (pool : List ℕ) (ns : List Node) (tex
     (text : Option OpenText) (o : OpenText) (t : TypeId) → IsBuilding ty w pool ns text_len →
     IsOpenText w pool text_len text → text ≡ Some o →
     missing_at (pieces_shown pool text) (next_of w) ≡ Ok 0 →
-        text_fault (pieces_bytes (pieces_shown pool text)) ≡ None → Some t.0 ≡ next_type w →
+    text_fault (pieces_bytes (pieces_shown pool text)) ≡ None → Some t.0 ≡ next_type w →
     IsBuilding ty (advanced w) (pool ++ [])
-        (ns ++ record { ty = t; content = content.Text o.start o.len; size = 1 } ∷ [])
-        (text_len + o.len)
+    (ns ++ record { ty = t; content = content.Text o.start o.len; size = 1 } ∷ [])
+    (text_len + o.len)
 text_ended ty w pool ns text_len text o t b h is lacks fault next =
     let place : IsOpenAt w pool text_len o.start o.len = subst (IsOpenText w pool text_len) is h in
     let all = open_whole w pool text_len o place
-        (subst (λ (x : Option OpenText). missing_at (pieces_shown pool x) (next_of w) ≡ Ok 0) is
-        lacks) in
+    (subst (λ (x : Option OpenText). missing_at (pieces_shown pool x) (next_of w) ≡ Ok 0) is
+    lacks) in
     let s = drop o.start pool in
     let utf8 = is_valid s (subst
-        (λ (x : Option OpenText). text_fault (pieces_bytes (pieces_shown pool x)) ≡ None) is fault)
-        in
+    (λ (x : Option OpenText). text_fault (pieces_bytes (pieces_shown pool x)) ≡ None) is fault)
+    in
     let long : length s ≡ o.len = omega (arith, all.0, length-drop o.start pool) in
     let l = text_next w s place.is_next utf8 place.are_bytes (omega (arith, long, place.spelled)) in
     let n : Node = record { ty = t; content = content.Text o.start o.len; size = 1 } in
     leaf_added ty w pool [] ns n text_len o.len (head.leaf (tree.text s)) b l
-        (same_Some t.0 l.ty (next ∙ l.next))
+    (same_Some t.0 l.ty (next ∙ l.next))
     (rw append-nil (ap (λ (x : List ℕ). head.leaf (tree.text x)) all.1)) refl
-        (rw append-nil (omega (arith, all.0))) (sym long) (omega (arith, place.behind, all.0))
+    (rw append-nil (omega (arith, all.0))) (sym long) (omega (arith, place.behind, all.0))

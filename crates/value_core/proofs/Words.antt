@@ -1,8 +1,5 @@
 -- Words of sixteen bytes, and the integers that they stand for.
-use Rattle.std.proofs.Common.{
-    ◌≡◌, ℕ, ◌+◌, ◌-◌, ◌<◌, ◌^◌, ℤ, List, ◌++◌, length, take, drop, ◌*◌, pos, negsuc, suc, false,
-    refl, slice_range, ap, sym, ◌∙◌, arith
-}
+use Rattle.std.proofs.Common.{◌≡◌, ℕ, ◌+◌, ◌-◌, ◌<◌, ◌^◌, ℤ, List, ◌++◌, length, take, drop, ◌*◌, pos, negsuc, suc, false, refl, slice_range, ap, sym, ◌∙◌, arith}
 use Rattle.std.proofs.Math.Facts.{Fits-of_z}
 use Rattle.std.proofs.Math.Seq.{drop-append_seam}
 use Rattle.std.proofs.lemmas.Bool.{lt-ltb, le-ltb}
@@ -24,7 +21,7 @@ signed_same : (z : ℤ) → FitsSigned w128 z → signed_from (cast_unsigned w12
 signed_same (pos m) h = rw (lt-ltb (2 * m) (2 ^ 128) (omega (arith, h))) refl
 signed_same (negsuc m) h =
     let high : ltb (2 * (2 ^ 128 - suc m)) (2 ^ 128) ≡ false =
-        le-ltb (2 * (2 ^ 128 - suc m)) (2 ^ 128) (omega (arith, h)) in
+    le-ltb (2 * (2 ^ 128 - suc m)) (2 ^ 128) (omega (arith, h)) in
     let back : 2 ^ 128 - (2 ^ 128 - suc m) ≡ suc m = omega (arith, h) in
     rw (high, back) refl
 
@@ -38,6 +35,6 @@ pub slice-append : (pool more : List ℕ) (start len : ℕ) → length pool ≡ 
 slice-append pool more start len e f =
     let long : start + len - start ≡ length more = omega (arith, f) in
     ap (λ (k : ℕ). take k (drop start (pool ++ more))) long
-        ∙ ap (λ (k : ℕ). take (length more) (drop k (pool ++ more))) (sym e)
-        ∙ ap (take (length more)) (drop-append_seam pool more)
-        ∙ take_all (length more) more (omega arith)
+    ∙ ap (λ (k : ℕ). take (length more) (drop k (pool ++ more))) (sym e)
+    ∙ ap (take (length more)) (drop-append_seam pool more)
+    ∙ take_all (length more) more (omega arith)

@@ -1,7 +1,5 @@
 -- What a builder keeps to: its nodes are those of a value that is being built.
-use Rattle.std.specs.Prelude.{
-    ◌≡◌, ℕ, ◌+◌, ◌≤◌, ◌<◌, ◌^◌, List, length, drop, Option, Some, None, option_map
-}
+use Rattle.std.specs.Prelude.{◌≡◌, ℕ, ◌+◌, ◌≤◌, ◌<◌, ◌^◌, List, length, drop, Option, Some, None, option_map}
 use Rattle.scale_core.specs.Number.{AreBytes}
 use Rattle.value_core.specs.Built.{Pieces, entries_shown, entries_text_bytes, settled_walk}
 use Rattle.value_core.specs.Shown.{cells_shown, AreInPool}
@@ -14,16 +12,16 @@ use Rattle.value_core.specs.declared.node.Node.{Node}
 use Rattle.value_core.specs.declared.open_text.OpenText.{OpenText}
 
 pub record IsBuilding (ty : ℕ) (w : Walked) (pool : List ℕ) (ns : List Node) (text_len : ℕ) : Type 0
-    where
-  pub room : ℕ
-  pub level : room + length w.frames ≡ w.limit + 2
-  pub own : List ℕ
-  pub are_bytes : AreBytes own
-  pub opens : List OpenNode
-  pub spine : Spine w.types room ty opens w.frames (cells_shown pool ns) own
-  pub inside : AreInPool pool ns
-  pub texts : text_len ≡ entries_text_bytes (entries_shown pool ns)
-  pub fits : text_len ≤ length pool
+  where
+    pub room : ℕ
+    pub level : room + length w.frames ≡ w.limit + 2
+    pub own : List ℕ
+    pub are_bytes : AreBytes own
+    pub opens : List OpenNode
+    pub spine : Spine w.types room ty opens w.frames (cells_shown pool ns) own
+    pub inside : AreInPool pool ns
+    pub texts : text_len ≡ entries_text_bytes (entries_shown pool ns)
+    pub fits : text_len ≤ length pool
 
 -- these nodes are those of some value that is being built
 abbrev pub AreBuilt : Walked → List Node → Type 0
@@ -31,11 +29,11 @@ AreBuilt w ns = (ty : ℕ) × (pool : List ℕ) × (text_len : ℕ) × IsBuildin
 
 -- open nodes that are whole were closed: some of them, or all, or none
 pub record Settles (old : Walked) (before : List Node) (new : Walked) (after : List Node) : Type 0
-    where
-  pub walk : settled_walk new ≡ settled_walk old
-  pub entries : (pool : List ℕ) → entries_shown pool after ≡ entries_shown pool before
-  pub builds : (ty : ℕ) (pool : List ℕ) (text_len : ℕ) → IsBuilding ty old pool before text_len →
-      IsBuilding ty new pool after text_len
+  where
+    pub walk : settled_walk new ≡ settled_walk old
+    pub entries : (pool : List ℕ) → entries_shown pool after ≡ entries_shown pool before
+    pub builds : (ty : ℕ) (pool : List ℕ) (text_len : ℕ) → IsBuilding ty old pool before text_len →
+        IsBuilding ty new pool after text_len
 
 -- an open text is what the pool has from its place on
 abbrev pub pieces_shown : List ℕ → Option OpenText → Option Pieces

@@ -1,7 +1,5 @@
 -- What contracts see of a value that is being built, and what adding a node makes of it.
-use Rattle.std.specs.Prelude.{
-    ◌≡◌, ℕ, ◌+◌, ◌-◌, ◌≤◌, List, [], ◌∷◌, ◌++◌, length, map, Option, Some, None, option_map, true
-}
+use Rattle.std.specs.Prelude.{◌≡◌, ℕ, ◌+◌, ◌-◌, ◌≤◌, List, [], ◌∷◌, ◌++◌, length, map, Option, Some, None, option_map, true}
 use Rattle.scale_core.specs.Number.{AreBytes}
 use Rattle.registry_core.specs.declared.definition.Arm.{Arm}
 use Rattle.graph_core.specs.Types.{field_types}
@@ -96,14 +94,20 @@ next_entry b h = record { ty = type_or_0 (next_type b.walk); head = h }
 
 -- the value with a node without children, which is next
 abbrev pub with_leaf : Built → Head → Built
-with_leaf b h = settled (record b { walk = advanced b.walk; entries =
-    b.entries ++ next_entry b h ∷ [] })
+with_leaf b h = settled (record b {
+  walk = advanced b.walk;
+  entries =
+      b.entries ++ next_entry b h ∷ [];
+})
 
 -- the value with a node whose children come next
 abbrev pub with_open : Built → Head → Part → Built
 with_open b h p = settled
-    (record b { walk = opened (advanced b.walk) (length b.entries) p; entries =
-    b.entries ++ next_entry b h ∷ [] })
+    (record b {
+      walk = opened (advanced b.walk) (length b.entries) p;
+      entries =
+          b.entries ++ next_entry b h ∷ [];
+    })
 
 -- a node that has no children
 abbrev pub IsLeaf : Head → Type 0
@@ -167,8 +171,10 @@ abbrev pub with_text_opened : Built → ℕ → Built
 with_text_opened b len = record b { text = Some (record { len = len; bytes = [] }) }
 
 abbrev pub with_piece : Built → List ℕ → Built
-with_piece b piece = record b { text =
-    option_map (λ t. record { len = t.len; bytes = t.bytes ++ piece }) b.text }
+with_piece b piece = record b {
+  text =
+      option_map (λ t. record { len = t.len; bytes = t.bytes ++ piece }) b.text;
+}
 
 -- the text that came is the next node
 abbrev pub with_text_ended : Built → Built
@@ -181,5 +187,9 @@ built_text_bytes b = entries_text_bytes b.entries + length (pieces_bytes b.text)
 
 -- the value that is handed out
 abbrev pub finished : Built → Seen
-finished b = record { types = b.walk.types; ty = b.ty; tree =
-    tree_of (map (λ e. e.head) b.entries) }
+finished b = record {
+  types = b.walk.types;
+  ty = b.ty;
+  tree =
+      tree_of (map (λ e. e.head) b.entries);
+}

@@ -1,8 +1,5 @@
 -- Which call a builder refuses, and with what: the first reason that applies.
-use Rattle.std.specs.Prelude.{
-    ◌≡◌, ℕ, ◌-◌, ◌/◌, ◌^◌, ℤ, pos, negsuc, List, [], ◌∷◌, length, Bool, true, false, Option, Some,
-    None, Result, Ok, Err, nat_lt, ◌==◌, not, is_none, if◌then◌else◌
-}
+use Rattle.std.specs.Prelude.{◌≡◌, ℕ, ◌-◌, ◌/◌, ◌^◌, ℤ, pos, negsuc, List, [], ◌∷◌, length, Bool, true, false, Option, Some, None, Result, Ok, Err, nat_lt, ◌==◌, not, is_none, if◌then◌else◌}
 use Rattle.std.specs.Str.{is_utf8}
 use Rattle.std.specs.Str.Lossy.{utf8_valid_len}
 use Rattle.scale_core.specs.Compact.{target_bytes}
@@ -190,9 +187,10 @@ text_fault s = if is_utf8 s then None else Some (fault.BadText (utf8_valid_len s
 
 -- bytes that are missing first, and then bytes that are no text
 abbrev pub judged_end : Built → Option BuildFault
-judged_end b = elim (missing_of b)
-    [ Ok n ↦ if nat_lt 0 n then Some fault.UnfinishedValue else text_fault (pieces_bytes b.text)
-    | Err e ↦ Some e ]
+judged_end b = elim (missing_of b) [
+  | Ok n ↦ if nat_lt 0 n then Some fault.UnfinishedValue else text_fault (pieces_bytes b.text)
+  | Err e ↦ Some e
+]
 
 -- where no refusal applies the value is the one with the node, unless memory is refused; and after
 -- a refusal it is as it was

@@ -76,4 +76,4 @@ Spine r room t (o ∷ os) fs cs own = (p before : Part) × (m : ℕ) × (rest : 
     × (fs ≡ open_part (length cs1) p ∷ open_part m (left_after before) ∷ rest)
     × (first_of before ≡ Some o.ty)
     × Spine r (suc room) t os (open_part m before ∷ rest) cs1 own1 × IsOpen r o p
-        × (most_levels o.done ≤ room) × (cs ≡ cs1 ++ open_cells r o) × (own ≡ own1 ++ o.own)
+    × (most_levels o.done ≤ room) × (cs ≡ cs1 ++ open_cells r o) × (own ≡ own1 ++ o.own)

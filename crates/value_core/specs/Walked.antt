@@ -1,7 +1,5 @@
 -- What contracts see of a walk through a value, and what is next there.
-use Rattle.std.specs.Prelude.{
-    ◌≡◌, ◌≢◌, ℕ, ◌+◌, ◌-◌, ◌≤◌, List, [], ◌∷◌, length, Option, Some, None, nat_lt, if◌then◌else◌
-}
+use Rattle.std.specs.Prelude.{◌≡◌, ◌≢◌, ℕ, ◌+◌, ◌-◌, ◌≤◌, List, [], ◌∷◌, length, Option, Some, None, nat_lt, if◌then◌else◌}
 use Rattle.registry_core.specs.declared.type_info.TypeInfo.{TypeInfo}
 use Rattle.grammar_core.specs.Parts.{Part, times, first_of, left_after}
 use Rattle.grammar_core.specs.Forms.{next_at}
@@ -69,8 +67,12 @@ advanced w = record { types = w.types; limit = w.limit; frames = advanced_in w.f
 
 -- one more node is open, with these parts to come
 abbrev pub opened : Walked → ℕ → Part → Walked
-opened w node part = record { types = w.types; limit = w.limit; frames =
-    record { node = node; left = part } ∷ w.frames }
+opened w node part = record {
+  types = w.types;
+  limit = w.limit;
+  frames =
+      record { node = node; left = part } ∷ w.frames;
+}
 
 -- nothing is left of the innermost part, which is this node's and not the root's, and it is gone
 pub record Closes (old new : Walked) (node : ℕ) : Type 0 where

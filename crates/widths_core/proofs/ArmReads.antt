@@ -1,9 +1,6 @@
 -- The row that is read is that of the variant, and the arm that is found there is that of the
 -- index.
-use Rattle.std.proofs.Common.{
-    ◌≡◌, ℕ, suc, ◌+◌, Bool, true, false, cond, List, [], ◌∷◌, Option, Some, None, refl, sym, ap,
-    ◌∙◌, arith
-}
+use Rattle.std.proofs.Common.{◌≡◌, ℕ, suc, ◌+◌, Bool, true, false, cond, List, [], ◌∷◌, Option, Some, None, refl, sym, ap, ◌∙◌, arith}
 use Rattle.std.specs.Prelude.{◌==◌, slice_get}
 use Rattle.registry_core.specs.declared.definition.Arm.{Arm}
 use Rattle.registry_core.specs.declared.definition.TypeDef.{TypeDef}
@@ -20,9 +17,7 @@ use Rattle.graph_core.specs.Types.{shape}
 use Rattle.widths_core.specs.Arms.{arm_of, arm_from, arm_of_shape, arm_at}
 use Rattle.widths_core.specs.Classes.{class_of}
 use Rattle.widths_core.specs.Rows.{IsPlace}
-use Rattle.widths_core.specs.Steps.{
-    references_of, IsArm, IsRow, IsStep, IsTable, by_class, sequence_step, row_of_step
-}
+use Rattle.widths_core.specs.Steps.{references_of, IsArm, IsRow, IsStep, IsTable, by_class, sequence_step, row_of_step}
 use Rattle.widths_core.proofs.Settled.{is_empty_class, is_empty-arms}
 use Rattle.widths_core.proofs.Stable.{class_stable}
 use Rattle.widths_core.proofs.StepReads.{shape_none, get_none, definition_of}
@@ -80,8 +75,8 @@ row_of r refs rows t (Def.Tuple ts) s p e h f = let no =
     ∙ f in absurd cc
 row_of r refs rows t (Def.Variant arms) s p e h f =
     let all : Some (record { from = h.0; count = h.1 }) ≡ Some p =
-        sym (variant_row (class_of r t) h.0 h.1 (variant_class r t arms e))
-        ∙ ap row_of_step (sym h.2) ∙ f in
+    sym (variant_row (class_of r t) h.0 h.1 (variant_class r t arms e))
+    ∙ ap row_of_step (sym h.2) ∙ f in
     let same : record { from = h.0; count = h.1 } ≡ p = cc in
     let from : h.0 ≡ p.from = ap (λ (q : Parts). q.from) same in
     let count : h.1 ≡ p.count = ap (λ (q : Parts). q.count) same in
@@ -178,5 +173,5 @@ pub arm_read : (r : List TypeInfo) (refs : List ℕ) (t i : ℕ) (s : ArmStep) (
 arm_read r refs t i s arms e h =
     let a = arm_known refs s (arm_at r t i) h in
     let of_shape : arm_of arms i ≡ Some (s.position, a.0) =
-        ap (λ (o : Option TypeDef). arm_of_shape o i) (sym e) ∙ a.1 in
+    ap (λ (o : Option TypeDef). arm_of_shape o i) (sym e) ∙ a.1 in
     (a.0, a.1, arm_position arms i s.position a.0 of_shape)

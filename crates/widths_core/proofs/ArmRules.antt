@@ -1,8 +1,5 @@
 -- The rules of the arms that were passed, and those of the arms that are left.
-use Rattle.std.proofs.Common.{
-    ◌≡◌, ℕ, ◌+◌, ◌<◌, ◌≤◌, Bool, true, false, cond, List, [], ◌∷◌, ◌++◌, length, get_or, take, drop,
-    Option, Some, refl, sym, ap, ◌∙◌
-}
+use Rattle.std.proofs.Common.{◌≡◌, ℕ, ◌+◌, ◌<◌, ◌≤◌, Bool, true, false, cond, List, [], ◌∷◌, ◌++◌, length, get_or, take, drop, Option, Some, refl, sym, ap, ◌∙◌}
 use Rattle.std.specs.Prelude.{◌==◌, ◌||◌, is_some}
 use Rattle.std.specs.List.{list_any}
 use Rattle.std.proofs.lemmas.List.{at_drop_more, at_drop_all, append_assoc, append-nil}
@@ -45,7 +42,7 @@ arms_shadowed t i arms x cs ds es a b c lt at has h k =
     let old : list_any (λ s. s == x.index) h.seen ≡ true = h.marks x.index ∙ has in
     let new : Rule = rule t kind.Idle (field_types x.fields) in
     let next : arm_rules t h.seen (x ∷ drop (i + 1) arms)
-        ≡ new ∷ arm_rules t h.seen (drop (i + 1) arms) = rw old refl in
+    ≡ new ∷ arm_rules t h.seen (drop (i + 1) arms) = rw old refl in
     record {
       done = h.done ++ new ∷ [];
       seen = h.seen;
@@ -65,7 +62,7 @@ arms_counted t i arms x cs ds es a b c lt at lacks h k =
     let fresh : list_any (λ s. s == x.index) h.seen ≡ false = h.marks x.index ∙ lacks in
     let new : Rule = rule t (kind.Fixed found_sized) (field_types x.fields) in
     let next : arm_rules t h.seen (x ∷ drop (i + 1) arms) ≡ new ∷ arm_rules t (x.index ∷ h.seen)
-        (drop (i + 1) arms) = rw fresh refl in
+    (drop (i + 1) arms) = rw fresh refl in
     record {
       done = h.done ++ new ∷ [];
       seen = x.index ∷ h.seen;

@@ -1,8 +1,5 @@
 -- The first arm of an index among the arms that were passed.
-use Rattle.std.proofs.Common.{
-    ◌≡◌, ℕ, zero, suc, ◌+◌, ◌<◌, Bool, true, false, cond, List, [], ◌∷◌, length, get_or, take,
-    Option, Some, None, refl, ap, ◌∙◌, arith
-}
+use Rattle.std.proofs.Common.{◌≡◌, ℕ, zero, suc, ◌+◌, ◌<◌, Bool, true, false, cond, List, [], ◌∷◌, length, get_or, take, Option, Some, None, refl, ap, ◌∙◌, arith}
 use Rattle.std.specs.Prelude.{◌==◌, is_some}
 use Rattle.std.proofs.lemmas.Bool.{eqb-true}
 use Rattle.registry_core.specs.declared.definition.Arm.{Arm}
@@ -33,8 +30,8 @@ one_more k zero j (y ∷ arms) x lt is = let same : x ≡ y = is in let at : k +
 one_more k (suc i) j (y ∷ arms) x lt is =
     let at : k + 1 + i ≡ k + suc i = omega arith in
     go (y.index == j) (one_more (k + 1) i j arms x (omega (arith, lt)) is
-        ∙ ap (λ (n : ℕ). or_new (arm_from (k + 1) (take i arms) j)
-        (cond (x.index == j) (Some (n, x)) None)) at) where
+    ∙ ap (λ (n : ℕ). or_new (arm_from (k + 1) (take i arms) j)
+    (cond (x.index == j) (Some (n, x)) None)) at) where
       go : (q : Bool) → arm_from (k + 1) (take (suc i) arms) j
           ≡ or_new (arm_from (k + 1) (take i arms) j)
           (cond (x.index == j) (Some (k + suc i, x)) None) →
@@ -51,8 +48,8 @@ next i j arms x lt is =
     let step : i + 1 ≡ suc i = omega arith in
     let at : 0 + i ≡ i = omega arith in
     rw step (one_more 0 i j arms x lt is
-        ∙ ap (λ (n : ℕ). or_new (arm_of (take i arms) j) (cond (x.index == j) (Some (n, x)) None))
-        at)
+    ∙ ap (λ (n : ℕ). or_new (arm_of (take i arms) j) (cond (x.index == j) (Some (n, x)) None))
+    at)
 
 pub shadowed : (i j : ℕ) (arms : List Arm) (x : Arm) → i < length arms → x ≡ get_or arms i x →
     is_some (arm_of (take i arms) x.index) ≡ true →

@@ -1,9 +1,6 @@
 -- Before anything has settled, and when nothing more settles: what has not settled has no value,
 -- and is no target.
-use Rattle.std.proofs.Common.{
-    ◌≡◌, ℕ, zero, suc, ◌+◌, ◌<◌, ◌≤◌, Bool, true, false, cond, List, [], ◌∷◌, length, map, get_or,
-    replicate, take, flat_map, Option, Some, None, refl, sym, ap, ◌∙◌, arith, inl, inr
-}
+use Rattle.std.proofs.Common.{◌≡◌, ℕ, zero, suc, ◌+◌, ◌<◌, ◌≤◌, Bool, true, false, cond, List, [], ◌∷◌, length, map, get_or, replicate, take, flat_map, Option, Some, None, refl, sym, ap, ◌∙◌, arith, inl, inr}
 use Rattle.std.specs.Prelude.{◌==◌}
 use Rattle.std.specs.List.{AllByRecursion, list_all, list_any}
 use Rattle.std.proofs.lemmas.Bool.{cases_lt}
@@ -22,24 +19,15 @@ use Rattle.graph_core.specs.declared.graph.Graph.{Graph}
 use Rattle.graph_core.specs.Types.{shape, ids, field_types}
 use Rattle.widths_core.specs.Arms.{live_arms}
 use Rattle.graph_core.specs.References.{references, AreKnown, IsChecked}
-use Rattle.widths_core.specs.Targets.{
-    nowhere, leads_shape, leads_members, target_from, target_within, target_of
-}
+use Rattle.widths_core.specs.Targets.{nowhere, leads_shape, leads_members, target_from, target_within, target_of}
 use Rattle.widths_core.specs.Classes.{holds_at, finite_step, finite_within, is_finite, class_of}
-use Rattle.widths_core.specs.ClassTables.{
-    known_class, known_target, has_value, class_of_compact, TellsClasses, TellsTargets
-}
+use Rattle.widths_core.specs.ClassTables.{known_class, known_target, has_value, class_of_compact, TellsClasses, TellsTargets}
 use Rattle.graph_core.specs.Counts.{times}
-use Rattle.widths_core.specs.Rules.{
-    Rule, rule, rules, rules_of, rules_from, arm_rules, kind_of_parts, found_sized, counter_of,
-    all_parts, numbers_from
-}
+use Rattle.widths_core.specs.Rules.{Rule, rule, rules, rules_of, rules_from, arm_rules, kind_of_parts, found_sized, counter_of, all_parts, numbers_from}
 use Rattle.graph_core.specs.Graphs.{refs}
 use Rattle.widths_core.specs.Linking.{AreTypesLinked}
 use Rattle.widths_core.specs.Progress.{Progress, counter_at}
-use Rattle.widths_core.specs.Consistent.{
-    nothing, rule_at, to_at, unsettled, waiting, has_settled, settles, IsConsistent
-}
+use Rattle.widths_core.specs.Consistent.{nothing, rule_at, to_at, unsettled, waiting, has_settled, settles, IsConsistent}
 use Rattle.widths_core.specs.Propagation.{IsStart, PropagatesAll, IsBad, AreCompactsSettled}
 use Rattle.graph_core.proofs.Stopped.{all_front}
 use Rattle.widths_core.proofs.PartsOf.{all_references, checked_by}
@@ -60,8 +48,13 @@ unsettled_all zero = refl
 unsettled_all (suc n) = omega (arith, unsettled_all n)
 
 abbrev fresh : List TypeInfo → Progress
-fresh r = record { counters = map counter_of (rules r); classes =
-    replicate (length r) class.NoValue; targets = replicate (length r) None; settled = [] }
+fresh r = record {
+  counters = map counter_of (rules r);
+  classes =
+      replicate (length r) class.NoValue;
+  targets = replicate (length r) None;
+  settled = [];
+}
 
 none_settled : (r : List TypeInfo) (t : ℕ) → has_settled (fresh r) t ≡ false
 none_settled r t = rw (same_all (length r) t class.NoValue) refl
@@ -88,8 +81,13 @@ start_consistent r = record {
 
 pub start : (r : List TypeInfo) (cs : List Counter) (d : Graph) (s : Progress) →
     AreTypesLinked r cs d → s
-    ≡ record { counters = cs; classes = replicate (length r) class.NoValue; targets =
-    replicate (length r) None; settled = [] } → IsStart r d s
+    ≡ record {
+      counters = cs;
+      classes = replicate (length r) class.NoValue;
+      targets =
+          replicate (length r) None;
+      settled = [];
+    } → IsStart r d s
 start r cs d s h is = record {
   ready = record { linked = h.linked; types = h.types; read = h.read; counted = h.counted };
   listed = h.listed;
@@ -112,22 +110,22 @@ propagated_if : (r : List TypeInfo) (a b : Graph) (s n : Progress) (done e : ℕ
 propagated_if r a b s n done e h small =
     let all : take done n.settled ≡ n.settled = take_all done n.settled (omega (arith, h.all)) in
     h.propagated.propagated e small ∙ ap (times (to_at r e)) all
-        ∙ h.propagated.steady.consistent.queue (to_at r e)
+    ∙ h.propagated.steady.consistent.queue (to_at r e)
 
 closes : (r : List TypeInfo) (a b : Graph) (s n : Progress) (done : ℕ) →
     PropagatesAll r a b s n done → (k : ℕ) → k < length (rules r) →
     ClosesRule (has_settled n) (rule_at r k)
 closes r a b s n done h k lt =
     record { at = λ e all. h.propagated.steady.closed.at k e (left all) } where
-  left : list_all (has_settled n) (rule_at r k).parts ≡ true → (counter_at n k).left ≡ 0
-  left all = h.propagated.steady.consistent.left k
-      ∙ waiting-zero 0 (numbers_from 0 (rules r)) k b.looks.listed.entries (λ j small is.
-      let small' : j < length (all_parts (rules r)) =
+      left : list_all (has_settled n) (rule_at r k).parts ≡ true → (counter_at n k).left ≡ 0
+      left all = h.propagated.steady.consistent.left k
+          ∙ waiting-zero 0 (numbers_from 0 (rules r)) k b.looks.listed.entries (λ j small is.
+          let small' : j < length (all_parts (rules r)) =
           omega (arith, small, numbers-length 0 (rules r)) in
-      let settled : has_settled n (to_at r j) ≡ true =
+          let settled : has_settled n (to_at r j) ≡ true =
           parts_all (has_settled n) 0 (rules r) j k small' (is ∙ omega arith) all in
-      let at : 0 + j ≡ j = omega arith in
-      rw at (one_is (has_settled n (to_at r j)) (times j b.looks.listed.entries)
+          let at : 0 + j ≡ j = omega arith in
+          rw at (one_is (has_settled n (to_at r j)) (times j b.looks.listed.entries)
           (propagated_if r a b s n done j h small') settled))
 
 all_from : {X : Type 0} (P : X → Type 0) (xs : List X) (d : X) →
@@ -148,7 +146,7 @@ rules_at P (x ∷ r) i zero d h e =
 rules_at P (x ∷ r) i (suc t) d h e =
     let at : i + 1 + t ≡ i + suc t = omega arith in
     rw at at (rules_at P r (i + 1) t d (all_front P (rules_of i x.shape) (rules_from (i + 1) r) h).1
-        e)
+    e)
 
 settles_parts : (n : ℕ) → settles (kind_of_parts n) ≡ true
 settles_parts zero = refl
@@ -161,21 +159,21 @@ arms_close : (f : ℕ → Bool) (t : ℕ) (seen : List ℕ) (arms : List Arm) �
 arms_close f t seen [] h e = absurd cc
 arms_close f t seen (a ∷ arms) h e =
     go (list_any (λ i. i == a.index) seen) refl h e (λ s. arms_close f t s arms) where
-  go : (b : Bool) → list_any (λ i. i == a.index) seen ≡ b →
-      AllByRecursion (ClosesRule f)
-      (cond b (rule t kind.Idle (field_types a.fields) ∷ arm_rules t seen arms)
-      (rule t (kind.Fixed found_sized) (field_types a.fields) ∷ arm_rules t (a.index ∷ seen) arms))
-      → list_any (λ x. list_all f (field_types x.fields))
-      (cond b (live_arms seen arms) (a ∷ live_arms (a.index ∷ seen) arms)) ≡ true →
-      ((s : List ℕ) → AllByRecursion (ClosesRule f) (arm_rules t s arms) →
-      list_any (λ x. list_all f (field_types x.fields)) (live_arms s arms) ≡ true → f t ≡ true) →
-      f t ≡ true
-  go true p k e' more = more seen k.1 e'
-  go false p k e' more = elim (or_parts (list_all f (field_types a.fields))
-      (list_any (λ x. list_all f (field_types x.fields)) (live_arms (a.index ∷ seen) arms)) e') [
-    | inl here ↦ k.0.at refl here
-    | inr there ↦ more (a.index ∷ seen) k.1 there
-  ]
+      go : (b : Bool) → list_any (λ i. i == a.index) seen ≡ b →
+          AllByRecursion (ClosesRule f)
+          (cond b (rule t kind.Idle (field_types a.fields) ∷ arm_rules t seen arms)
+          (rule t (kind.Fixed found_sized) (field_types a.fields) ∷ arm_rules t (a.index ∷ seen) arms))
+          → list_any (λ x. list_all f (field_types x.fields))
+          (cond b (live_arms seen arms) (a ∷ live_arms (a.index ∷ seen) arms)) ≡ true →
+          ((s : List ℕ) → AllByRecursion (ClosesRule f) (arm_rules t s arms) →
+          list_any (λ x. list_all f (field_types x.fields)) (live_arms s arms) ≡ true → f t ≡ true) →
+          f t ≡ true
+      go true p k e' more = more seen k.1 e'
+      go false p k e' more = elim (or_parts (list_all f (field_types a.fields))
+          (list_any (λ x. list_all f (field_types x.fields)) (live_arms (a.index ∷ seen) arms)) e') [
+            | inl here ↦ k.0.at refl here
+            | inr there ↦ more (a.index ∷ seen) k.1 there
+          ]
 
 -- a compact settles
 pub record SettlesCompact (f : ℕ → Bool) (x : Rule) : Type 0 where
@@ -208,9 +206,9 @@ finite_settled r f h c (suc k) = record {
   at = λ t e. by_shape r t (f t ≡ true) (finite_step (finite_within r k)) e (λ d is q.
       let at : 0 + t ≡ t = omega arith in
       let hs : AllByRecursion (ClosesRule f) (rules_of t d) =
-          rw at at (rules_at (ClosesRule f) r 0 t d h is) in
+      rw at at (rules_at (ClosesRule f) r 0 t d h is) in
       let cs : AllByRecursion (SettlesCompact f) (rules_of t d) =
-          rw at at (rules_at (SettlesCompact f) r 0 t d c is) in
+      rw at at (rules_at (SettlesCompact f) r 0 t d c is) in
       step_closed f t d hs cs (finite_grows (finite_within r k) f (finite_settled r f h c k) d q));
 }
 
@@ -248,7 +246,7 @@ target_settled r f h (suc k) t m e = go (shape r t) refl e (target_settled r f h
   go (Some d) p q more =
       let at : 0 + t ≡ t = omega arith in
       let hs : AllByRecursion (ClosesRule f) (rules_of t d) =
-          rw at at (rules_at (ClosesRule f) r 0 t d h p) in
+      rw at at (rules_at (ClosesRule f) r 0 t d h p) in
       target_closed f t d (target_within r k) m hs (λ u. more u m) q
   go None p q more = absurd cc
 
@@ -267,7 +265,7 @@ bad r a b s n done h = record { at = λ k lt e unset. go k lt e unset } where
   compact k u e one lt unset (Some m) is =
       let there : has_settled n u ≡ true = target_settled r (has_settled n) all (length r) u m is in
       let yes : has_settled n (rule_at r k).owner ≡ true =
-          (closes r a b s n done h k lt).at (rw e refl) (rw (one, there) refl) in
+      (closes r a b s n done h k lt).at (rw e refl) (rw (one, there) refl) in
       absurd (let no = sym unset ∙ yes in cc)
 
   go : (k : ℕ) → k < length (rules r) → (rule_at r k).kind ≡ kind.Compact →
@@ -276,7 +274,7 @@ bad r a b s n done h = record { at = λ k lt e unset. go k lt e unset } where
   go k lt e unset =
       let right = rw e at (rule_right r k lt).right in
       let none : target_of r right.0 ≡ None =
-          compact k right.0 e right.1 lt unset (target_of r right.0) refl in
+      compact k right.0 e right.1 lt unset (target_of r right.0) refl in
       (right.2 ∙ ap class_of_compact none, right.3)
 
 -- ---- where nothing more settles
@@ -291,39 +289,39 @@ pub classes_told : (r : List TypeInfo) (a b : Graph) (s n : Progress) (done : �
     × TellsTargets r n.targets
 classes_told r a b s n done h c =
     ((st.classes, λ t. class_at t (has_settled n t) refl), λ t. target_at t (has_settled n t) refl)
-    where
-  st : IsConsistent r b.looks.listed.entries n
-  st = h.propagated.steady.consistent
+  where
+    st : IsConsistent r b.looks.listed.entries n
+    st = h.propagated.steady.consistent
 
-  all : AllByRecursion (ClosesRule (has_settled n)) (rules r)
-  all = all_from (ClosesRule (has_settled n)) (rules r) nothing (closes r a b s n done h)
+    all : AllByRecursion (ClosesRule (has_settled n)) (rules r)
+    all = all_from (ClosesRule (has_settled n)) (rules r) nothing (closes r a b s n done h)
 
-  compacts : AllByRecursion (SettlesCompact (has_settled n)) (rules r)
-  compacts = all_from (SettlesCompact (has_settled n)) (rules r) nothing
-      (λ k lt. record { at = c.at k lt })
+    compacts : AllByRecursion (SettlesCompact (has_settled n)) (rules r)
+    compacts = all_from (SettlesCompact (has_settled n)) (rules r) nothing
+        (λ k lt. record { at = c.at k lt })
 
-  class_at : (t : ℕ) (x : Bool) → has_settled n t ≡ x → known_class n.classes t ≡ class_of r t
-  class_at t true e = (h.propagated.steady.consistent.right t e).0
-  class_at t false e = no_value (known_class n.classes t) e
-      ∙ sym (no_value (class_of r t) (has_value-class_of r t ∙ go (is_finite r t) refl)) where
-    go : (x : Bool) → is_finite r t ≡ x → is_finite r t ≡ false
-    go false p = p
-    go true p = let yes = (finite_settled r (has_settled n)
-        (all_from (ClosesRule (has_settled n)) (rules r) nothing (closes r a b s n done h))
-        (all_from (SettlesCompact (has_settled n)) (rules r) nothing
-        (λ k lt. record { at = c.at k lt })) (length r)).at t p in
-        absurd (let no = sym e ∙ yes in cc)
+    class_at : (t : ℕ) (x : Bool) → has_settled n t ≡ x → known_class n.classes t ≡ class_of r t
+    class_at t true e = (h.propagated.steady.consistent.right t e).0
+    class_at t false e = no_value (known_class n.classes t) e
+        ∙ sym (no_value (class_of r t) (has_value-class_of r t ∙ go (is_finite r t) refl)) where
+          go : (x : Bool) → is_finite r t ≡ x → is_finite r t ≡ false
+          go false p = p
+          go true p = let yes = (finite_settled r (has_settled n)
+              (all_from (ClosesRule (has_settled n)) (rules r) nothing (closes r a b s n done h))
+              (all_from (SettlesCompact (has_settled n)) (rules r) nothing
+              (λ k lt. record { at = c.at k lt })) (length r)).at t p in
+              absurd (let no = sym e ∙ yes in cc)
 
-  target_at : (t : ℕ) (x : Bool) → has_settled n t ≡ x → known_target n.targets t ≡ target_of r t
-  target_at t true e = (h.propagated.steady.consistent.right t e).1
-  target_at t false e = h.propagated.steady.consistent.unset t e
-      ∙ sym (go (target_of r t) refl) where
-    go : (o : Option Target) → target_of r t ≡ o → target_of r t ≡ None
-    go None p = p
-    go (Some m) p = let yes =
-        target_settled r (has_settled n)
-        (all_from (ClosesRule (has_settled n)) (rules r) nothing (closes r a b s n done h))
-        (length r) t m p in absurd (let no = sym e ∙ yes in cc)
+    target_at : (t : ℕ) (x : Bool) → has_settled n t ≡ x → known_target n.targets t ≡ target_of r t
+    target_at t true e = (h.propagated.steady.consistent.right t e).1
+    target_at t false e = h.propagated.steady.consistent.unset t e
+        ∙ sym (go (target_of r t) refl) where
+          go : (o : Option Target) → target_of r t ≡ o → target_of r t ≡ None
+          go None p = p
+          go (Some m) p = let yes =
+              target_settled r (has_settled n)
+              (all_from (ClosesRule (has_settled n)) (rules r) nothing (closes r a b s n done h))
+              (length r) t m p in absurd (let no = sym e ∙ yes in cc)
 
 -- ---- references and looks
 
@@ -332,7 +330,7 @@ pub types_linked_checked : (r : List TypeInfo) (cs : List Counter) (d : Graph) �
 types_linked_checked r cs d h =
     let known : AreKnown (length d.types.now) (refs d) = h.linked.known in
     let known' : AreKnown (length r) (flat_map (λ i. references i.shape) r) =
-        rw (h.types, h.read ∙ all_references r) at known in
+    rw (h.types, h.read ∙ all_references r) at known in
     checked_by (length r) r known'
 
 few : (b : Bool) (n : ℕ) → n ≡ cond b 1 0 → n ≤ 1
@@ -344,7 +342,8 @@ pub listed_once : (r : List TypeInfo) (a b : Graph) (s n : Progress) (done : ℕ
 listed_once r a b s n done h e = elim (cases_lt e (length (all_parts (rules r)))) [
   | inl small ↦ few (has_settled n (to_at r e)) (times e b.looks.listed.entries)
       (propagated_if r a b s n done e h small)
-  | inr past ↦ elim (cases_lt 0 (times e b.looks.listed.entries))
-      [ inl more ↦ absurd (omega (arith, past, h.propagated.steady.consistent.known e more))
-      | inr none ↦ omega (arith, none) ]
+  | inr past ↦ elim (cases_lt 0 (times e b.looks.listed.entries)) [
+    | inl more ↦ absurd (omega (arith, past, h.propagated.steady.consistent.known e more))
+    | inr none ↦ omega (arith, none)
+  ]
 ]

@@ -1,8 +1,5 @@
 -- The drafts of the types that were passed.
-use Rattle.std.proofs.Common.{
-    ◌≡◌, ℕ, zero, suc, ◌+◌, ◌<◌, ◌≤◌, List, [], ◌∷◌, ◌++◌, length, Some, refl, sym, ap, ◌∙◌, arith,
-    inl, inr
-}
+use Rattle.std.proofs.Common.{◌≡◌, ℕ, zero, suc, ◌+◌, ◌<◌, ◌≤◌, List, [], ◌∷◌, ◌++◌, length, Some, refl, sym, ap, ◌∙◌, arith, inl, inr}
 use Rattle.std.specs.Prelude.{slice_get}
 use Rattle.std.proofs.lemmas.Bool.{cases_lt}
 use Rattle.std.proofs.lemmas.List.{length_push}
@@ -43,8 +40,13 @@ pub record DraftsTo (r : List TypeInfo) (refs : List ℕ) (rows : Rows) (i : ℕ
 pub drafts_none : (r : List TypeInfo) (refs : List ℕ) (rows : Rows) → HasNoRow rows →
     DraftsTo r refs rows 0 []
 drafts_none r refs rows h =
-    record { paired = rw (h.indexes, h.arms) refl; count = refl; within = omega arith; own =
-    λ t d s e f. absurd cc }
+    record {
+      paired = rw (h.indexes, h.arms) refl;
+      count = refl;
+      within = omega arith;
+      own =
+          λ t d s e f. absurd cc;
+    }
 
 pub drafts_more : (r : List TypeInfo) (xs ys zs : List ℕ) (a b : Rows) (i : ℕ) (drafts : List Draft)
     (d : TypeDef) (s : Draft) → shape r i ≡ Some d → zs ≡ xs ++ ys → IsPaired b → Keeps a b →
@@ -65,9 +67,9 @@ drafts_more r xs ys zs a b i drafts d s e read paired k new h = record {
         let lt = slice_get_within (drafts ++ s ∷ []) t s' at in
         let same : t ≡ length drafts = omega (arith, ge, lt, length_push drafts s, h.count) in
         let last : Some s ≡ Some s' = sym (get_last drafts s)
-            ∙ ap (λ (n : ℕ). slice_get (drafts ++ s ∷ []) n) (sym same) ∙ at in
+        ∙ ap (λ (n : ℕ). slice_get (drafts ++ s ∷ []) n) (sym same) ∙ at in
         let shapes : Some d ≡ Some d' = sym e ∙ ap (λ (n : ℕ). shape r n) (sym (same ∙ h.count))
-            ∙ is in
+        ∙ is in
         let same_draft : s ≡ s' = cc in
         let def : d ≡ d' = cc in
         rw (← same_draft, ← def) new

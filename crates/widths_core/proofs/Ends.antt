@@ -1,21 +1,14 @@
 -- Types without a part that has to settle first, and compacts without a target.
-use Rattle.std.proofs.Common.{
-    ◌≡◌, ◌≢◌, ℕ, ◌+◌, ◌<◌, ◌≤◌, Bool, true, false, List, [], ◌∷◌, length, take, None, refl, sym, ap,
-    ◌∙◌, arith, inl, inr
-}
+use Rattle.std.proofs.Common.{◌≡◌, ◌≢◌, ℕ, ◌+◌, ◌<◌, ◌≤◌, Bool, true, false, List, [], ◌∷◌, length, take, None, refl, sym, ap, ◌∙◌, arith, inl, inr}
 use Rattle.std.proofs.lemmas.Bool.{cases_lt, cases_eq}
 use Rattle.std.proofs.lemmas.List.{get_or_past, length-append, take-append-le}
 use Rattle.registry_core.specs.declared.type_info.TypeInfo.{TypeInfo}
 use Rattle.widths_core.specs.declared.counter.Kind.TheVariants as kind
 use Rattle.widths_core.specs.Rules.{rules, numbers_from, found_sized}
 use Rattle.widths_core.specs.Progress.{Progress, counter_at, completed, settled_as, KnowsType}
-use Rattle.widths_core.specs.Consistent.{
-    nothing, rule_at, waiting, has_settled, settles, IsConsistent, IsClosed
-}
+use Rattle.widths_core.specs.Consistent.{nothing, rule_at, waiting, has_settled, settles, IsConsistent, IsClosed}
 use Rattle.graph_core.specs.declared.graph.Graph.{Graph}
-use Rattle.widths_core.specs.Propagation.{
-    Follows, IsStart, IsPropagatedTo, PropagatesAll, IsBad, AreCompactsSettled
-}
+use Rattle.widths_core.specs.Propagation.{Follows, IsStart, IsPropagatedTo, PropagatesAll, IsBad, AreCompactsSettled}
 use Rattle.widths_core.proofs.RuleRight.{rule_right}
 use Rattle.widths_core.proofs.Settles.{follows_same, follows_on, completes_to, settles_to}
 use Rattle.widths_core.proofs.Waiting.{waiting_start}
@@ -23,9 +16,10 @@ use Rattle.widths_core.proofs.Waiting.{waiting_start}
 pub placed : (r : List TypeInfo) (propagated : List ℕ) (s : Progress) (k : ℕ) →
     IsConsistent r propagated s → k < length s.counters → KnowsType s (counter_at s k).owner
 placed r propagated s k h lt =
-    let right = rule_right r k (omega (arith, h.counters, lt)) in
-    (omega (arith, h.owner k, right.owner, h.classes),
-        omega (arith, h.owner k, right.owner, h.targets))
+    let right = rule_right r k (omega (arith, h.counters, lt)) in (
+      omega (arith, h.owner k, right.owner, h.classes),
+      omega (arith, h.owner k, right.owner, h.targets),
+    )
 
 past_rule : (r : List TypeInfo) (k : ℕ) → length (rules r) ≤ k → rule_at r k ≡ nothing
 past_rule r k le = get_or_past (rules r) k nothing le
@@ -38,15 +32,19 @@ pub record BeginsTo (r : List TypeInfo) (o s : Progress) (i : ℕ) : Type 0 wher
       has_settled s (rule_at r k).owner ≡ true
 
 pub begins_first : (r : List TypeInfo) (s : Progress) → IsConsistent r [] s → BeginsTo r s s 0
-begins_first r s h = record { consistent = h; follows = follows_same s; closed =
-    λ k lt. absurd (omega (arith, lt)) }
+begins_first r s h = record {
+  consistent = h;
+  follows = follows_same s;
+  closed =
+      λ k lt. absurd (omega (arith, lt));
+}
 
 no_parts : (r : List TypeInfo) (s : Progress) (k u : ℕ) → IsConsistent r [] s →
     (counter_at s k).left ≡ 0 → (rule_at r k).parts ≡ u ∷ [] → ⊥
 no_parts r s k u h none one =
     let at : 0 + k ≡ k = omega arith in
     let start : waiting 0 (numbers_from 0 (rules r)) k [] ≡ length (rule_at r k).parts =
-        rw at at (waiting_start 0 0 (rules r) k) in
+    rw at at (waiting_start 0 0 (rules r) k) in
     omega (arith, h.left k, none, start, ap length one)
 
 pub begins_done : (r : List TypeInfo) (o s n : Progress) (i : ℕ) → i < length s.counters →
@@ -54,7 +52,7 @@ pub begins_done : (r : List TypeInfo) (o s n : Progress) (i : ℕ) → i < lengt
     BeginsTo r o n (i + 1)
 begins_done r o s n i lt h none is =
     let done = completes_to r [] s i None h.consistent (omega (arith, h.consistent.counters, lt))
-        none (λ u one. absurd (no_parts r s i u h.consistent none one)) in
+    none (λ u one. absurd (no_parts r s i u h.consistent none one)) in
     rw is (record {
       consistent = done.consistent;
       follows = follows_on o s (completed s (counter_at s i) None) h.follows done.follows;
@@ -91,8 +89,12 @@ begins_all r o s i le h = record {
 pub begun : (r : List TypeInfo) (d : Graph) (s n : Progress) (i : ℕ) → IsStart r d s →
     length n.counters ≤ i → BeginsTo r s n i → IsPropagatedTo r d n 0
 begun r d s n i h le b = record {
-  steady = record { ready = h.ready; consistent = rw h.listed b.consistent; closed =
-      begins_all r s n i le b };
+  steady = record {
+    ready = h.ready;
+    consistent = rw h.listed b.consistent;
+    closed =
+        begins_all r s n i le b;
+  };
   within = omega arith;
   propagated = λ e small. rw h.listed refl;
 }
@@ -100,19 +102,25 @@ begun r d s n i h le b = record {
 -- ---- compacts
 
 pub record SettlesBadTo (r : List TypeInfo) (propagated : List ℕ) (s n : Progress) (i : ℕ) : Type 0
-    where
-  pub consistent : IsConsistent r propagated n
-  pub closed : IsClosed r n
-  pub bad : IsBad r n
-  pub follows : Follows s n
-  pub compacts : (k : ℕ) → k < i → k < length (rules r) → (rule_at r k).kind ≡ kind.Compact →
-      has_settled n (rule_at r k).owner ≡ true
+  where
+    pub consistent : IsConsistent r propagated n
+    pub closed : IsClosed r n
+    pub bad : IsBad r n
+    pub follows : Follows s n
+    pub compacts : (k : ℕ) → k < i → k < length (rules r) → (rule_at r k).kind ≡ kind.Compact →
+        has_settled n (rule_at r k).owner ≡ true
 
 pub settles_bad_first : (r : List TypeInfo) (propagated : List ℕ) (s : Progress) →
     IsConsistent r propagated s → IsClosed r s → IsBad r s → SettlesBadTo r propagated s s 0
 settles_bad_first r propagated s h closed bad =
-    record { consistent = h; closed = closed; bad = bad; follows = follows_same s; compacts =
-    λ k lt. absurd (omega (arith, lt)) }
+    record {
+      consistent = h;
+      closed = closed;
+      bad = bad;
+      follows = follows_same s;
+      compacts =
+          λ k lt. absurd (omega (arith, lt));
+    }
 
 unsettled_before : (b c : Bool) → (b ≡ true → c ≡ true) → c ≡ false → b ≡ false
 unsettled_before true c f e = let t = f refl in let no = sym t ∙ e in absurd cc
@@ -126,16 +134,20 @@ settles_bad_done r propagated s n m i lt h compact is =
     let right = rule_right r i small in
     let kind_is : (rule_at r i).kind ≡ kind.Compact = sym (h.consistent.kind i) ∙ compact in
     let done = settles_to r propagated n (rule_at r i).owner found_sized h.consistent right.owner
-        (λ e. let bad = h.bad.at i small kind_is e in
-        record { class = bad.0; target = bad.1; value = refl }) in
+    (λ e. let bad = h.bad.at i small kind_is e in
+    record { class = bad.0; target = bad.1; value = refl }) in
     rw (is, h.consistent.owner i) (record {
       consistent = done.consistent;
-      closed = record { at = λ k e left. done.follows.keeps (rule_at r k).owner
-          (h.closed.at k e (rw done.counters at left)) };
-      bad = record { at = λ k small' e unset. h.bad.at k small' e
-          (unsettled_before (has_settled n (rule_at r k).owner)
-          (has_settled (settled_as n (rule_at r i).owner found_sized) (rule_at r k).owner)
-          (done.follows.keeps (rule_at r k).owner) unset) };
+      closed = record {
+        at = λ k e left. done.follows.keeps (rule_at r k).owner
+            (h.closed.at k e (rw done.counters at left));
+      };
+      bad = record {
+        at = λ k small' e unset. h.bad.at k small' e
+            (unsettled_before (has_settled n (rule_at r k).owner)
+            (has_settled (settled_as n (rule_at r i).owner found_sized) (rule_at r k).owner)
+            (done.follows.keeps (rule_at r k).owner) unset);
+      };
       follows = follows_on s n (settled_as n (rule_at r i).owner found_sized) h.follows
           done.follows;
       compacts = λ k lt' small' e. elim (cases_eq k i) [
@@ -165,9 +177,9 @@ pub bad_settled : (r : List TypeInfo) (d : Graph) (s n : Progress) (first i : �
     SettlesBadTo r d.looks.listed.entries s n i → IsPropagatedTo r d n first
 bad_settled r d s n first i h le g =
     let grown : length n.settled ≡ length s.settled + length g.follows.more =
-        ap length g.follows.settled ∙ length-append s.settled g.follows.more in
+    ap length g.follows.settled ∙ length-append s.settled g.follows.more in
     let front : take first n.settled ≡ take first s.settled = ap (take first) g.follows.settled
-        ∙ take-append-le first s.settled g.follows.more h.within in
+    ∙ take-append-le first s.settled g.follows.more h.within in
     record {
       steady = record { ready = h.steady.ready; consistent = g.consistent; closed = g.closed };
       within = omega (arith, h.within, grown);
@@ -177,18 +189,29 @@ bad_settled r d s n first i h le g =
 pub compacts_all : (r : List TypeInfo) (propagated : List ℕ) (s n m : Progress) (i : ℕ) →
     length n.counters ≤ i → SettlesBadTo r propagated s n i → Follows n m → AreCompactsSettled r m
 compacts_all r propagated s n m i le h f =
-    record { at = λ k small e. f.keeps (rule_at r k).owner
-    (h.compacts k (omega (arith, h.consistent.counters, le, small)) small e) }
+    record {
+      at = λ k small e. f.keeps (rule_at r k).owner
+          (h.compacts k (omega (arith, h.consistent.counters, le, small)) small e);
+    }
 
 pub bad_settled_on : (r : List TypeInfo) (propagated : List ℕ) (a b : Graph) (s n m : Progress)
     (i done : ℕ) → SettlesBadTo r propagated s n i → PropagatesAll r a b n m done →
     PropagatesAll r a b s m done
 bad_settled_on r propagated a b s n m i done g h =
-    record { propagated = h.propagated; all = h.all; follows = follows_on s n m g.follows h.follows;
-    lists = h.lists }
+    record {
+      propagated = h.propagated;
+      all = h.all;
+      follows = follows_on s n m g.follows h.follows;
+      lists = h.lists;
+    }
 
 pub begun_on : (r : List TypeInfo) (a b : Graph) (s n m : Progress) (done : ℕ) → Follows s n →
     PropagatesAll r a b n m done → PropagatesAll r a b s m done
 begun_on r a b s n m done g h =
-    record { propagated = h.propagated; all = h.all; follows = follows_on s n m g h.follows; lists =
-    h.lists }
+    record {
+      propagated = h.propagated;
+      all = h.all;
+      follows = follows_on s n m g h.follows;
+      lists =
+          h.lists;
+    }

@@ -1,7 +1,5 @@
 -- Parts, rows and drafts stay what they are while references and arms come after them.
-use Rattle.std.proofs.Common.{
-    ◌≡◌, ℕ, ◌≤◌, List, ◌++◌, length, take, drop, Option, Some, None, refl, ap, ◌∙◌, arith
-}
+use Rattle.std.proofs.Common.{◌≡◌, ℕ, ◌≤◌, List, ◌++◌, length, take, drop, Option, Some, None, refl, ap, ◌∙◌, arith}
 use Rattle.std.proofs.lemmas.List.{length-append, length-drop, drop-append-le, take-append-le}
 use Rattle.std.proofs.Math.Seq.{drop-append_seam, take-length}
 use Rattle.registry_core.specs.declared.definition.Arm.{Arm}
@@ -59,10 +57,14 @@ pub row_kept : (xs ys : List ℕ) (a b : Rows) (from count : ℕ) (arms : List A
     IsRow xs a from count arms → IsRow (xs ++ ys) b from count arms
 row_kept xs ys a b from count arms k h = record {
   within = omega (arith, h.within, k.count);
-  rises = λ i j ge lt end. rw (k.indexes i (omega (arith, lt, end, h.within)),
-      k.indexes j (omega (arith, end, h.within))) (h.rises i j ge lt end);
-  arm = λ i ge lt. rw (k.indexes i (omega (arith, lt, h.within)),
-      k.arms i (omega (arith, lt, h.within)))
+  rises = λ i j ge lt end. rw (
+    k.indexes i (omega (arith, lt, end, h.within)),
+    k.indexes j (omega (arith, end, h.within)),
+  ) (h.rises i j ge lt end);
+  arm = λ i ge lt. rw (
+    k.indexes i (omega (arith, lt, h.within)),
+    k.arms i (omega (arith, lt, h.within)),
+  )
       (arm_kept xs ys (Some (arm_in a i)) (arm_of arms (index_in a i)) (h.arm i ge lt));
   none = λ x lacks. h.none x
       (λ i ge lt is. lacks i ge lt (k.indexes i (omega (arith, lt, h.within)) ∙ is));

@@ -1,8 +1,5 @@
 -- A counter counts a part that has settled.
-use Rattle.std.proofs.Common.{
-    ◌≡◌, ◌≢◌, ℕ, ◌+◌, ◌<◌, Bool, true, false, cond, List, [], ◌∷◌, length, refl, sym, ap, subst,
-    ◌∙◌, ◌⊎◌, arith, inl, inr
-}
+use Rattle.std.proofs.Common.{◌≡◌, ◌≢◌, ℕ, ◌+◌, ◌<◌, Bool, true, false, cond, List, [], ◌∷◌, length, refl, sym, ap, subst, ◌∙◌, ◌⊎◌, arith, inl, inr}
 use Rattle.std.specs.Prelude.{◌==◌, ◌&&◌, ◌||◌}
 use Rattle.std.specs.List.{list_any}
 use Rattle.std.proofs.lemmas.Bool.{eqb-true, eq-eqb, cases_eq}
@@ -14,17 +11,11 @@ use Rattle.widths_core.specs.Targets.{target_of}
 use Rattle.widths_core.specs.Classes.{class_of}
 use Rattle.graph_core.specs.Counts.{times}
 use Rattle.widths_core.specs.Rules.{rules, all_parts, numbers_from}
-use Rattle.widths_core.specs.Progress.{
-    Progress, counter_at, no_counter, is_sized, counted, counters_set, completed, part_settled
-}
-use Rattle.widths_core.specs.Consistent.{
-    rule_at, to_at, rule_number, waiting, has_settled, settles, IsConsistent, IsClosed
-}
+use Rattle.widths_core.specs.Progress.{Progress, counter_at, no_counter, is_sized, counted, counters_set, completed, part_settled}
+use Rattle.widths_core.specs.Consistent.{rule_at, to_at, rule_number, waiting, has_settled, settles, IsConsistent, IsClosed}
 use Rattle.widths_core.specs.Propagation.{Follows}
 use Rattle.widths_core.proofs.Settles.{completes_to}
-use Rattle.widths_core.proofs.Waiting.{
-    differ, times-other, waiting-propagated, numbers-length, numbers-within, parts_any
-}
+use Rattle.widths_core.proofs.Waiting.{differ, times-other, waiting-propagated, numbers-length, numbers-within, parts_any}
 
 pub number-lt : (r : List TypeInfo) (e : ℕ) → e < length (all_parts (rules r)) →
     rule_number r e < length (rules r)
@@ -38,16 +29,20 @@ propagated_left : (r : List TypeInfo) (propagated : List ℕ) (e k : ℕ) →
 propagated_left r propagated e k lt none =
     let at : 0 + e ≡ e = omega arith in
     rw at at (waiting-propagated e 0 (numbers_from 0 (rules r)) k propagated
-        (omega (arith, lt, numbers-length 0 (rules r))) (rw at none))
+    (omega (arith, lt, numbers-length 0 (rules r))) (rw at none))
 
 pub left_some : (r : List TypeInfo) (propagated : List ℕ) (s : Progress) (e : ℕ) →
     IsConsistent r propagated s → e < length (all_parts (rules r)) → times e propagated ≡ 0 →
     0 < (counter_at s (rule_number r e)).left
 left_some r propagated s e h lt none =
     let one : ◌≡◌ {A = ℕ} (cond (rule_number r e == rule_number r e) 1 0) 1 =
-        rw (eq-eqb (rule_number r e) (rule_number r e) refl) refl in
-    omega (arith, h.left (rule_number r e),
-        propagated_left r propagated e (rule_number r e) lt none, one)
+    rw (eq-eqb (rule_number r e) (rule_number r e) refl) refl in
+    omega (
+      arith,
+      h.left (rule_number r e),
+      propagated_left r propagated e (rule_number r e) lt none,
+      one,
+    )
 
 or_comm : (a b : Bool) → (a || b) ≡ (b || a)
 or_comm true true = refl
@@ -90,8 +85,10 @@ counted_consistent r propagated s e f h lt none settled is = record {
   owner : (k : ℕ) → (k ≡ rule_number r e) ⊎ (k ≢ rule_number r e) →
       (counter_at (counters_set s (rule_number r e)
       (counted (counter_at s (rule_number r e)) f.class)) k).owner ≡ (rule_at r k).owner
-  owner k (inl same) = rw (same,
-      counter_same s (rule_number r e) (counted (counter_at s (rule_number r e)) f.class) small)
+  owner k (inl same) = rw (
+    same,
+    counter_same s (rule_number r e) (counted (counter_at s (rule_number r e)) f.class) small,
+  )
       (h.owner (rule_number r e))
   owner k (inr other) = rw (counter_other s (rule_number r e) k
       (counted (counter_at s (rule_number r e)) f.class) other) (h.owner k)
@@ -99,8 +96,10 @@ counted_consistent r propagated s e f h lt none settled is = record {
   kind : (k : ℕ) → (k ≡ rule_number r e) ⊎ (k ≢ rule_number r e) →
       (counter_at (counters_set s (rule_number r e)
       (counted (counter_at s (rule_number r e)) f.class)) k).kind ≡ (rule_at r k).kind
-  kind k (inl same) = rw (same,
-      counter_same s (rule_number r e) (counted (counter_at s (rule_number r e)) f.class) small)
+  kind k (inl same) = rw (
+    same,
+    counter_same s (rule_number r e) (counted (counter_at s (rule_number r e)) f.class) small,
+  )
       (h.kind (rule_number r e))
   kind k (inr other) = rw (counter_other s (rule_number r e) k
       (counted (counter_at s (rule_number r e)) f.class) other) (h.kind k)
@@ -111,15 +110,22 @@ counted_consistent r propagated s e f h lt none settled is = record {
       ≡ waiting 0 (numbers_from 0 (rules r)) k (e ∷ propagated)
   left k (inl same) =
       let one : ◌≡◌ {A = ℕ} (cond (rule_number r e == rule_number r e) 1 0) 1 =
-          rw (eq-eqb (rule_number r e) (rule_number r e) refl) refl in
-      rw (same, counter_same s (rule_number r e) (counted (counter_at s (rule_number r e)) f.class)
-          small) (omega (arith, h.left (rule_number r e),
-          propagated_left r propagated e (rule_number r e) lt none, one))
+      rw (eq-eqb (rule_number r e) (rule_number r e) refl) refl in
+      rw (
+        same,
+        counter_same s (rule_number r e) (counted (counter_at s (rule_number r e)) f.class)
+            small,
+      ) (omega (
+        arith,
+        h.left (rule_number r e),
+        propagated_left r propagated e (rule_number r e) lt none,
+        one,
+      ))
   left k (inr other) =
       let no : ◌≡◌ {A = ℕ} (cond (rule_number r e == k) 1 0) 0 =
-          rw (differ (rule_number r e) k (λ i. other (sym i))) refl in
+      rw (differ (rule_number r e) k (λ i. other (sym i))) refl in
       rw (counter_other s (rule_number r e) k (counted (counter_at s (rule_number r e)) f.class)
-          other) (omega (arith, h.left k, propagated_left r propagated e k lt none, no))
+      other) (omega (arith, h.left k, propagated_left r propagated e k lt none, no))
 
   sized : (k : ℕ) → (k ≡ rule_number r e) ⊎ (k ≢ rule_number r e) →
       (counter_at (counters_set s (rule_number r e)
@@ -127,18 +133,25 @@ counted_consistent r propagated s e f h lt none settled is = record {
       ≡ list_any (λ x. (rule_number r x == k) && is_sized (class_of r (to_at r x))) (e ∷ propagated)
   sized k (inl same) =
       let P : ℕ → Type 0 = λ j. (counter_at
-          (counters_set s (rule_number r e) (counted (counter_at s (rule_number r e)) f.class))
-          j).sized ≡ list_any (λ x. (rule_number r x == j) && is_sized (class_of r (to_at r x)))
-          (e ∷ propagated) in
+      (counters_set s (rule_number r e) (counted (counter_at s (rule_number r e)) f.class))
+      j).sized ≡ list_any (λ x. (rule_number r x == j) && is_sized (class_of r (to_at r x)))
+      (e ∷ propagated) in
       let there : P (rule_number r e) =
-          rw (counter_same s (rule_number r e) (counted (counter_at s (rule_number r e)) f.class)
-          small, eq-eqb (rule_number r e) (rule_number r e) refl, is, h.sized (rule_number r e))
-          (or_comm (list_any (λ x. (rule_number r x == rule_number r e) && is_sized
-          (class_of r (to_at r x))) propagated) (is_sized (class_of r (to_at r e)))) in
+      rw (
+        counter_same s (rule_number r e) (counted (counter_at s (rule_number r e)) f.class)
+            small,
+        eq-eqb (rule_number r e) (rule_number r e) refl,
+        is,
+        h.sized (rule_number r e),
+      )
+      (or_comm (list_any (λ x. (rule_number r x == rule_number r e) && is_sized
+      (class_of r (to_at r x))) propagated) (is_sized (class_of r (to_at r e)))) in
       subst P (sym same) there
-  sized k (inr other) = rw (counter_other s (rule_number r e) k
-      (counted (counter_at s (rule_number r e)) f.class) other,
-      differ (rule_number r e) k (λ i. other (sym i))) (h.sized k)
+  sized k (inr other) = rw (
+    counter_other s (rule_number r e) k
+        (counted (counter_at s (rule_number r e)) f.class) other,
+    differ (rule_number r e) k (λ i. other (sym i)),
+  ) (h.sized k)
 
   known : (x : ℕ) → (e ≡ x) ⊎ (e ≢ x) → 0 < times x (e ∷ propagated) →
       x < length (all_parts (rules r))
@@ -153,18 +166,18 @@ counted_consistent r propagated s e f h lt none settled is = record {
 
 -- reference e was propagated
 pub record SettlesPart (r : List TypeInfo) (propagated : List ℕ) (e : ℕ) (s n : Progress) : Type 0
-    where
-  pub consistent : IsConsistent r (e ∷ propagated) n
-  pub closed : IsClosed r n
-  pub follows : Follows s n
+  where
+    pub consistent : IsConsistent r (e ∷ propagated) n
+    pub closed : IsClosed r n
+    pub follows : Follows s n
 
 -- the one part of a rule is what each reference for it is to
 only_part : (r : List TypeInfo) (e u : ℕ) → e < length (all_parts (rules r)) →
     (rule_at r (rule_number r e)).parts ≡ u ∷ [] → to_at r e ≡ u
 only_part r e u lt one =
     let among : list_any (λ p. p == to_at r e) (rule_at r (rule_number r e)).parts ≡ true =
-        parts_any (λ p. p == to_at r e) 0 (rules r) e (rule_number r e) lt (omega arith)
-        (eq-eqb (to_at r e) (to_at r e) refl) in
+    parts_any (λ p. p == to_at r e) 0 (rules r) e (rule_number r e) lt (omega arith)
+    (eq-eqb (to_at r e) (to_at r e) refl) in
     let here : ((u == to_at r e) || false) ≡ true = rw one at among in
     go (u == to_at r e) refl here where
       go : (b : Bool) → (u == to_at r e) ≡ b → (b || false) ≡ true → to_at r e ≡ u
@@ -178,61 +191,65 @@ pub settles_part : (r : List TypeInfo) (propagated : List ℕ) (s : Progress) (e
     SettlesPart r propagated e s (part_settled s (rule_number r e) f)
 settles_part r propagated s e f h closed lt none settled is target =
     go ((counted (counter_at s (rule_number r e)) f.class).left == 0) refl where
-  st : IsConsistent r (e ∷ propagated)
-      (counters_set s (rule_number r e) (counted (counter_at s (rule_number r e)) f.class))
-  st = counted_consistent r propagated s e f h lt none settled is
+      st : IsConsistent r (e ∷ propagated)
+          (counters_set s (rule_number r e) (counted (counter_at s (rule_number r e)) f.class))
+      st = counted_consistent r propagated s e f h lt none settled is
 
-  at : counter_at (counters_set s (rule_number r e)
-      (counted (counter_at s (rule_number r e)) f.class)) (rule_number r e)
-      ≡ counted (counter_at s (rule_number r e)) f.class
-  at = counter_same s (rule_number r e) (counted (counter_at s (rule_number r e)) f.class)
-      (omega (arith, h.counters, number-lt r e lt))
+      at : counter_at (counters_set s (rule_number r e)
+          (counted (counter_at s (rule_number r e)) f.class)) (rule_number r e)
+          ≡ counted (counter_at s (rule_number r e)) f.class
+      at = counter_same s (rule_number r e) (counted (counter_at s (rule_number r e)) f.class)
+          (omega (arith, h.counters, number-lt r e lt))
 
-  others : (j : ℕ) → j ≢ rule_number r e → settles (rule_at r j).kind ≡ true →
-      (counter_at (counters_set s (rule_number r e)
-      (counted (counter_at s (rule_number r e)) f.class)) j).left ≡ 0 →
-      has_settled s (rule_at r j).owner ≡ true
-  others j other e' left =
-      closed.at j e' (rw (counter_other s (rule_number r e) j
-      (counted (counter_at s (rule_number r e)) f.class) other) at left)
+      others : (j : ℕ) → j ≢ rule_number r e → settles (rule_at r j).kind ≡ true →
+          (counter_at (counters_set s (rule_number r e)
+          (counted (counter_at s (rule_number r e)) f.class)) j).left ≡ 0 →
+          has_settled s (rule_at r j).owner ≡ true
+      others j other e' left =
+          closed.at j e' (rw (counter_other s (rule_number r e) j
+          (counted (counter_at s (rule_number r e)) f.class) other) at left)
 
-  go : (b : Bool) → ((counted (counter_at s (rule_number r e)) f.class).left == 0) ≡ b →
-      SettlesPart r propagated e s
-      (cond b (completed (counters_set s (rule_number r e)
-      (counted (counter_at s (rule_number r e)) f.class))
-      (counted (counter_at s (rule_number r e)) f.class) f.target)
-      (counters_set s (rule_number r e) (counted (counter_at s (rule_number r e)) f.class)))
-  go true p =
-      let zero_is : (counted (counter_at s (rule_number r e)) f.class).left ≡ 0 =
+      go : (b : Bool) → ((counted (counter_at s (rule_number r e)) f.class).left == 0) ≡ b →
+          SettlesPart r propagated e s
+          (cond b (completed (counters_set s (rule_number r e)
+          (counted (counter_at s (rule_number r e)) f.class))
+          (counted (counter_at s (rule_number r e)) f.class) f.target)
+          (counters_set s (rule_number r e) (counted (counter_at s (rule_number r e)) f.class)))
+      go true p =
+          let zero_is : (counted (counter_at s (rule_number r e)) f.class).left ≡ 0 =
           eqb-true (counted (counter_at s (rule_number r e)) f.class).left 0 p in
-      let left : (counter_at (counters_set s (rule_number r e)
+          let left : (counter_at (counters_set s (rule_number r e)
           (counted (counter_at s (rule_number r e)) f.class)) (rule_number r e)).left ≡ 0 =
           rw at zero_is in
-      let done = rw at at (completes_to r (e ∷ propagated)
+          let done = rw at at (completes_to r (e ∷ propagated)
           (counters_set s (rule_number r e) (counted (counter_at s (rule_number r e)) f.class))
           (rule_number r e) f.target st (number-lt r e lt) left
           (λ u one. target ∙ ap (target_of r) (only_part r e u lt one))) in
-      record {
-        consistent = done.consistent;
+          record {
+            consistent = done.consistent;
+            closed = record {
+              at = λ j e' none'. elim (cases_eq j (rule_number r e)) [
+                | inl same ↦ let e'' : settles (rule_at r (rule_number r e)).kind ≡ true =
+                    rw same at e' in rw same (done.settled e'')
+                | inr other ↦ done.follows.keeps (rule_at r j).owner
+                    (others j other e' (rw done.counters at none'))
+              ];
+            };
+            follows = record {
+              keeps = done.follows.keeps;
+              more = done.follows.more;
+              settled =
+                  done.follows.settled;
+            };
+          }
+      go false p = record {
+        consistent = st;
         closed = record {
           at = λ j e' none'. elim (cases_eq j (rule_number r e)) [
-            | inl same ↦ let e'' : settles (rule_at r (rule_number r e)).kind ≡ true =
-                rw same at e' in rw same (done.settled e'')
-            | inr other ↦ done.follows.keeps (rule_at r j).owner
-                (others j other e' (rw done.counters at none'))
+            | inl same ↦ absurd (let zero_is = rw (same, at) at none' in let no = sym p
+                ∙ eq-eqb (counted (counter_at s (rule_number r e)) f.class).left 0 zero_is in cc)
+            | inr other ↦ others j other e' none'
           ];
         };
-        follows = record { keeps = done.follows.keeps; more = done.follows.more; settled =
-            done.follows.settled };
+        follows = record { keeps = λ t x. x; more = []; settled = sym (append-nil s.settled) };
       }
-  go false p = record {
-    consistent = st;
-    closed = record {
-      at = λ j e' none'. elim (cases_eq j (rule_number r e)) [
-        | inl same ↦ absurd (let zero_is = rw (same, at) at none' in let no = sym p
-            ∙ eq-eqb (counted (counter_at s (rule_number r e)) f.class).left 0 zero_is in cc)
-        | inr other ↦ others j other e' none'
-      ];
-    };
-    follows = record { keeps = λ t x. x; more = []; settled = sym (append-nil s.settled) };
-  }

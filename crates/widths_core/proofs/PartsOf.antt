@@ -1,8 +1,5 @@
 -- The parts of rules are the references of the definitions.
-use Rattle.std.proofs.Common.{
-    ◌≡◌, ℕ, zero, suc, ◌+◌, ◌<◌, Bool, true, false, cond, List, [], ◌∷◌, ◌++◌, flat_map, refl, ap,
-    ◌∙◌
-}
+use Rattle.std.proofs.Common.{◌≡◌, ℕ, zero, suc, ◌+◌, ◌<◌, Bool, true, false, cond, List, [], ◌∷◌, ◌++◌, flat_map, refl, ap, ◌∙◌}
 use Rattle.std.specs.Prelude.{◌==◌}
 use Rattle.std.specs.List.{list_any}
 use Rattle.std.proofs.lemmas.List.{append-nil}
@@ -15,22 +12,20 @@ use Rattle.widths_core.specs.declared.counter.Kind.TheVariants as kind
 use Rattle.graph_core.specs.Types.{ids, field_types}
 use Rattle.graph_core.specs.References.{references, AreKnown, AreChecked}
 use Rattle.graph_core.proofs.Stopped.{all_front}
-use Rattle.widths_core.specs.Rules.{
-    Rule, rule, rules, rules_of, rules_from, arm_rules, found_sized, all_parts
-}
+use Rattle.widths_core.specs.Rules.{Rule, rule, rules, rules_of, rules_from, arm_rules, found_sized, all_parts}
 
 pub parts_of_arms : (t : ℕ) (seen : List ℕ) (arms : List Arm) →
     all_parts (arm_rules t seen arms) ≡ flat_map (λ a. field_types a.fields) arms
 parts_of_arms t seen [] = refl
 parts_of_arms t seen (a ∷ arms) =
     go (list_any (λ i. i == a.index) seen) (λ s. parts_of_arms t s arms) where
-  go : (b : Bool) → ((s : List ℕ) →
-      all_parts (arm_rules t s arms) ≡ flat_map (λ x. field_types x.fields) arms) →
-      all_parts (cond b (rule t kind.Idle (field_types a.fields) ∷ arm_rules t seen arms)
-      (rule t (kind.Fixed found_sized) (field_types a.fields) ∷ arm_rules t (a.index ∷ seen) arms))
-      ≡ field_types a.fields ++ flat_map (λ x. field_types x.fields) arms
-  go true more = ap (λ (xs : List ℕ). field_types a.fields ++ xs) (more seen)
-  go false more = ap (λ (xs : List ℕ). field_types a.fields ++ xs) (more (a.index ∷ seen))
+      go : (b : Bool) → ((s : List ℕ) →
+          all_parts (arm_rules t s arms) ≡ flat_map (λ x. field_types x.fields) arms) →
+          all_parts (cond b (rule t kind.Idle (field_types a.fields) ∷ arm_rules t seen arms)
+          (rule t (kind.Fixed found_sized) (field_types a.fields) ∷ arm_rules t (a.index ∷ seen) arms))
+          ≡ field_types a.fields ++ flat_map (λ x. field_types x.fields) arms
+      go true more = ap (λ (xs : List ℕ). field_types a.fields ++ xs) (more seen)
+      go false more = ap (λ (xs : List ℕ). field_types a.fields ++ xs) (more (a.index ∷ seen))
 
 pub parts_of : (t : ℕ) (d : TypeDef) → all_parts (rules_of t d) ≡ references d
 parts_of t (Def.Composite fs) = append-nil (field_types fs)

@@ -1,8 +1,5 @@
 -- The list of the references to a type, one by one.
-use Rattle.std.proofs.Common.{
-    ◌≡◌, ◌≢◌, ℕ, zero, suc, ◌+◌, ◌-◌, ◌<◌, ◌≤◌, Bool, true, false, cond, List, [], ◌∷◌, ◌++◌,
-    length, get_or, take, reverse, refl, sym, ap, subst, ◌∙◌, ◌⊎◌, arith, inl, inr
-}
+use Rattle.std.proofs.Common.{◌≡◌, ◌≢◌, ℕ, zero, suc, ◌+◌, ◌-◌, ◌<◌, ◌≤◌, Bool, true, false, cond, List, [], ◌∷◌, ◌++◌, length, get_or, take, reverse, refl, sym, ap, subst, ◌∙◌, ◌⊎◌, arith, inl, inr}
 use Rattle.std.specs.Prelude.{◌==◌}
 use Rattle.std.proofs.lemmas.Bool.{eq-eqb, cases_lt, cases_eq}
 use Rattle.std.proofs.lemmas.List.{take-append-le, take_more, length-append, get_or_past}
@@ -18,9 +15,7 @@ use Rattle.widths_core.specs.Rules.{rules, all_parts}
 use Rattle.graph_core.specs.Graphs.{refs, numbers, befores, IsLast, IsListed}
 use Rattle.widths_core.specs.Progress.{Progress, counter_at, part_settled, KnowsType}
 use Rattle.widths_core.specs.Consistent.{to_at, rule_number, has_settled, IsConsistent}
-use Rattle.widths_core.specs.Propagation.{
-    Follows, Lists, IsSteady, IsPending, Propagates, IsPropagatedTo, PropagatesAll
-}
+use Rattle.widths_core.specs.Propagation.{Follows, Lists, IsSteady, IsPending, Propagates, IsPropagatedTo, PropagatesAll}
 use Rattle.widths_core.proofs.RuleRight.{rule_right}
 use Rattle.widths_core.proofs.Settles.{follows_same, follows_on}
 use Rattle.widths_core.proofs.Waiting.{differ, times-same, times-other, times-append}
@@ -73,7 +68,7 @@ propagates_first r d s t f at h c m is =
     let ready = h.steady.ready in
     let lt : t < length d.types.now = omega (arith, pending-lt r d s t h, ap length ready.types) in
     let last : IsLast (all_parts (rules r)) (length (all_parts (rules r))) t at =
-        rw (is, ← ready.read) (ready.linked.newest t lt) in
+    rw (is, ← ready.read) (ready.linked.newest t lt) in
     let right = h.steady.consistent.right t h.settled in
     record {
       steady = h.steady;
@@ -114,7 +109,7 @@ next_is r a b s n t f e h =
     let fresh = h.left e small to (omega arith) in
     let right = rule_right r (rule_number r e) number in
     let before : IsLast (refs b) e (get_or (refs b) e 0) (get_or (befores b) e 0) =
-        ready.linked.before e (omega (arith, small, count)) in
+    ready.linked.before e (omega (arith, small, count)) in
     record {
       small = small;
       to = to;
@@ -122,8 +117,10 @@ next_is r a b s n t f e h =
       linked = omega (arith, ready.linked.links, small, count);
       number = ap (λ (xs : List ℕ). get_or xs e 0) ready.counted;
       counter = omega (arith, st.counters, number);
-      owner = (omega (arith, st.owner (rule_number r e), right.owner, st.classes),
-          omega (arith, st.owner (rule_number r e), right.owner, st.targets));
+      owner = (
+        omega (arith, st.owner (rule_number r e), right.owner, st.classes),
+        omega (arith, st.owner (rule_number r e), right.owner, st.targets),
+      );
       left = left_some r b.looks.listed.entries n e st small fresh;
       before = rw (← to, ← ready.read) before;
     }
@@ -135,8 +132,8 @@ pub propagates_more : (r : List TypeInfo) (a b c : Graph) (s n m : Progress) (t 
 propagates_more r a b c s n m t f e to h listed is before =
     let it = next_is r a b s n t f e h in
     let done : SettlesPart r b.looks.listed.entries e n m =
-        rw is (settles_part r b.looks.listed.entries n e f h.steady.consistent h.steady.closed
-        it.small it.fresh (rw it.to h.settled) (rw it.to h.class) (rw it.to h.target)) in
+    rw is (settles_part r b.looks.listed.entries n e f h.steady.consistent h.steady.closed
+    it.small it.fresh (rw it.to h.settled) (rw it.to h.class) (rw it.to h.target)) in
     let last : IsLast (all_parts (rules r)) e t to = rw before it.before in
     let ready = h.steady.ready in
     record {
@@ -181,8 +178,12 @@ propagates_more r a b c s n m t f e to h listed is before =
           ⊎ (e ≢ x) → (x < e → to_at r x ≡ t → x < to) →
           times x (e ∷ b.looks.listed.entries) ≡ times x a.looks.listed.entries + 1
       propagated x small is' ge (inl same) last =
-          rw same (omega (arith, times-same x b.looks.listed.entries, h.fresh x small is',
-          h.left x small is' (omega (arith, same))))
+          rw same (omega (
+            arith,
+            times-same x b.looks.listed.entries,
+            h.fresh x small is',
+            h.left x small is' (omega (arith, same)),
+          ))
       propagated x small is' ge (inr other) last = elim (cases_lt x e) [
         | inl lt ↦ absurd (omega (arith, last lt is', ge))
         | inr le ↦ times-other x e b.looks.listed.entries other
@@ -207,10 +208,10 @@ propagates_all_of r a b s n t f at h none = record {
 
 -- the references to the first types that have settled were propagated
 pub record PropagatesSoFar (r : List TypeInfo) (a b : Graph) (s n : Progress) (done : ℕ) : Type 0
-    where
-  pub propagated : IsPropagatedTo r b n done
-  pub follows : Follows s n
-  pub lists : Lists a b
+  where
+    pub propagated : IsPropagatedTo r b n done
+    pub follows : Follows s n
+    pub lists : Lists a b
 
 pub so_far_first : (r : List TypeInfo) (a : Graph) (s : Progress) (done : ℕ) →
     IsPropagatedTo r a s done → PropagatesSoFar r a a s s done
@@ -250,11 +251,11 @@ pub so_far_more : (r : List TypeInfo) (a b c : Graph) (s n m : Progress) (done :
     Propagates r b c n m (get_or n.settled done 0) → PropagatesSoFar r a c s m (done + 1)
 so_far_more r a b c s n m done h lt k =
     let grown : length m.settled ≡ length n.settled + length k.follows.more =
-        ap length k.follows.settled ∙ length-append n.settled k.follows.more in
+    ap length k.follows.settled ∙ length-append n.settled k.follows.more in
     let front : take (done + 1) m.settled ≡ take done n.settled ++ get_or n.settled done 0 ∷ [] =
-        ap (take (done + 1)) k.follows.settled
-        ∙ take-append-le (done + 1) n.settled k.follows.more (omega (arith, lt))
-        ∙ take_more n.settled done 0 lt in
+    ap (take (done + 1)) k.follows.settled
+    ∙ take-append-le (done + 1) n.settled k.follows.more (omega (arith, lt))
+    ∙ take_more n.settled done 0 lt in
     record {
       propagated = record {
         steady = k.steady;
@@ -273,15 +274,23 @@ so_far_more r a b c s n m done h lt k =
       propagated : (e : ℕ) → e < length (all_parts (rules r)) →
           times e c.looks.listed.entries ≡ times (to_at r e)
           (take done n.settled ++ get_or n.settled done 0 ∷ [])
-      propagated e small = rw (times-append (to_at r e) (take done n.settled)
-          (get_or n.settled done 0 ∷ []), swap (get_or n.settled done 0) (to_at r e))
+      propagated e small = rw (
+        times-append (to_at r e) (take done n.settled)
+            (get_or n.settled done 0 ∷ []),
+        swap (get_or n.settled done 0) (to_at r e),
+      )
           (omega (arith, k.propagated e small, h.propagated.propagated e small))
 
 pub so_far_all : (r : List TypeInfo) (a b : Graph) (s n : Progress) (done : ℕ) →
     PropagatesSoFar r a b s n done → length n.settled ≤ done → PropagatesAll r a b s n done
 so_far_all r a b s n done h le =
-    record { propagated = h.propagated; all = omega (arith, le, h.propagated.within); follows =
-    h.follows; lists = h.lists }
+    record {
+      propagated = h.propagated;
+      all = omega (arith, le, h.propagated.within);
+      follows =
+          h.follows;
+      lists = h.lists;
+    }
 
 -- fewer types are left
 pub fewer : (r : List TypeInfo) (d : Graph) (s : Progress) (done : ℕ) → IsPropagatedTo r d s done →

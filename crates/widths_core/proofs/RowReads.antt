@@ -1,8 +1,5 @@
 -- What is found in a row of arms.
-use Rattle.std.proofs.Common.{
-    ◌≡◌, ℕ, ◌+◌, ◌-◌, ◌<◌, ◌≤◌, List, length, get_or, take, drop, Option, Result, Ok, Err, refl,
-    sym, ap, ◌∙◌, arith, inl, inr
-}
+use Rattle.std.proofs.Common.{◌≡◌, ℕ, ◌+◌, ◌-◌, ◌<◌, ◌≤◌, List, length, get_or, take, drop, Option, Result, Ok, Err, refl, sym, ap, ◌∙◌, arith, inl, inr}
 use Rattle.std.specs.List.Sorted.{IsBinarySearchResult}
 use Rattle.std.specs.Ordering.{nat_cmp}
 use Rattle.std.specs.Prelude.{MatchOption}
@@ -88,9 +85,11 @@ pub row_rises : (xs : List ℕ) (f n : ℕ) → f + n ≤ length xs → Rises xs
     Rises (take n (drop f xs)) 0 (length (take n (drop f xs)))
 row_rises xs f n le h i j ge lt end =
     let len = row_length xs f n le in
-    rw (read_row xs f n i (omega (arith, lt, end, len)),
-        read_row xs f n j (omega (arith, end, len)))
-        (h (f + i) (f + j) (omega arith) (omega (arith, lt)) (omega (arith, end, len)))
+    rw (
+      read_row xs f n i (omega (arith, lt, end, len)),
+      read_row xs f n j (omega (arith, end, len)),
+    )
+    (h (f + i) (f + j) (omega arith) (omega (arith, lt)) (omega (arith, end, len)))
 
 pub row_lacks_all : (xs : List ℕ) (f n v : ℕ) → f + n ≤ length xs →
     Lacks (take n (drop f xs)) 0 (length (take n (drop f xs))) v → Lacks xs f (f + n) v
@@ -98,15 +97,19 @@ row_lacks_all xs f n v le h j ge lt is =
     let back : f + (j - f) ≡ j = omega (arith, ge) in
     let len = row_length xs f n le in
     h (j - f) (omega arith) (omega (arith, ge, lt, len))
-        (read_row xs f n (j - f) (omega (arith, ge, lt)) ∙ ap (λ (k : ℕ). get_or xs k 0) back ∙ is)
+    (read_row xs f n (j - f) (omega (arith, ge, lt)) ∙ ap (λ (k : ℕ). get_or xs k 0) back ∙ is)
 
 pub row_is_in : (xs : List ℕ) (f n v p : ℕ) → f + n ≤ length xs →
     IsIn (take n (drop f xs)) 0 (length (take n (drop f xs))) v p → IsIn xs f (f + n) v (f + p)
 row_is_in xs f n v p le h =
     let len = row_length xs f n le in
     let lt : p < n = omega (arith, h.below, len) in
-    record { above = omega arith; below = omega (arith, lt); is = sym (read_row xs f n p lt)
-        ∙ h.is }
+    record {
+      above = omega arith;
+      below = omega (arith, lt);
+      is = sym (read_row xs f n p lt)
+          ∙ h.is;
+    }
 
 -- ---- a whole row
 

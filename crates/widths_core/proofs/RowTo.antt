@@ -1,23 +1,16 @@
 -- The row of the arms that were passed.
-use Rattle.std.proofs.Common.{
-    ◌≡◌, ◌≢◌, ℕ, ◌+◌, ◌-◌, ◌<◌, ◌≤◌, Bool, true, false, cond, List, ◌++◌, length, get_or, take,
-    Option, Some, None, refl, sym, ◌∙◌, ◌⊎◌, arith, inl, inr
-}
+use Rattle.std.proofs.Common.{◌≡◌, ◌≢◌, ℕ, ◌+◌, ◌-◌, ◌<◌, ◌≤◌, Bool, true, false, cond, List, ◌++◌, length, get_or, take, Option, Some, None, refl, sym, ◌∙◌, ◌⊎◌, arith, inl, inr}
 use Rattle.std.specs.Prelude.{◌==◌, is_some}
 use Rattle.std.specs.List.{insert}
 use Rattle.std.proofs.lemmas.Bool.{eqb-true, eq-eqb, cases_lt, cases_eq}
 use Rattle.std.proofs.lemmas.List.{take_all}
-use Rattle.std.proofs.lemmas.List.Edits.{
-    length-insert, get_or-insert_below, get_or-insert_at, get_or-insert_above
-}
+use Rattle.std.proofs.lemmas.List.Edits.{length-insert, get_or-insert_below, get_or-insert_at, get_or-insert_above}
 use Rattle.registry_core.specs.declared.definition.Arm.{Arm}
 use Rattle.widths_core.specs.declared.rows.Rows.{Rows}
 use Rattle.widths_core.specs.declared.step.ArmStep.{ArmStep}
 use Rattle.graph_core.specs.Types.{field_types}
 use Rattle.widths_core.specs.Arms.{arm_of}
-use Rattle.widths_core.specs.Rows.{
-    Keeps, IsPaired, IsIn, Lacks, BelongsAt, Rises, Inserts, arm_in, index_in, no_arm
-}
+use Rattle.widths_core.specs.Rows.{Keeps, IsPaired, IsIn, Lacks, BelongsAt, Rises, Inserts, arm_in, index_in, no_arm}
 use Rattle.widths_core.specs.Steps.{AreParts, IsArm, IsRow}
 use Rattle.widths_core.proofs.ArmsTo.{shadowed, counted}
 use Rattle.widths_core.proofs.Kept.{arm_kept, keeps_all}
@@ -55,7 +48,7 @@ pub row_has : (refs : List ℕ) (f i : ℕ) (arms : List Arm) (a b : Rows) (v k 
     is_some (arm_of (take i arms) v) ≡ true
 row_has refs f i arms a b v k h is =
     rw is.is at (some_arm refs (arm_in b k) (arm_of (take i arms) (index_in b k))
-        (h.arm k is.above is.below))
+    (h.arm k is.above is.below))
 
 -- an arm whose index belongs into the row is the first of its index
 pub row_lacks : (refs : List ℕ) (f i : ℕ) (arms : List Arm) (a b : Rows) (v k : ℕ) →
@@ -108,12 +101,18 @@ reads : (b c : Rows) (at v : ℕ) (s : ArmStep) → IsPaired b → at ≤ length
 reads b c at v s paired le h =
     let le' : at ≤ length b.arms.items = omega (arith, le, paired) in
     record {
-      below = λ k lt. (rw h.indexes (get_or-insert_below b.indexes.items at v 0 k lt le),
-          rw h.arms (get_or-insert_below b.arms.items at s no_arm k lt le'));
-      here = (rw h.indexes (get_or-insert_at b.indexes.items at v 0 le),
-          rw h.arms (get_or-insert_at b.arms.items at s no_arm le'));
-      after = λ k lt. (rw h.indexes (above b.indexes.items at v 0 k lt le),
-          rw h.arms (above b.arms.items at s no_arm k lt le'));
+      below = λ k lt. (
+        rw h.indexes (get_or-insert_below b.indexes.items at v 0 k lt le),
+        rw h.arms (get_or-insert_below b.arms.items at s no_arm k lt le'),
+      );
+      here = (
+        rw h.indexes (get_or-insert_at b.indexes.items at v 0 le),
+        rw h.arms (get_or-insert_at b.arms.items at s no_arm le'),
+      );
+      after = λ k lt. (
+        rw h.indexes (above b.indexes.items at v 0 k lt le),
+        rw h.arms (above b.arms.items at s no_arm k lt le'),
+      );
       size = rw h.indexes (length-insert b.indexes.items at v le);
       sizes = rw h.arms (length-insert b.arms.items at s le');
     }
@@ -184,8 +183,8 @@ row_counted xs ys zs f i at arms x s a b c lt is e new position parts k h = reco
   arm j ge end (inl below) eq =
       let less = new.less j ge below in
       rw ((now.below j below).0, (now.below j below).1)
-          (old j (arm_in b j) (λ eq. omega (arith, less, eq))
-          (h.arm j ge (omega (arith, below, new.within))))
+      (old j (arm_in b j) (λ eq. omega (arith, less, eq))
+      (h.arm j ge (omega (arith, below, new.within))))
   arm j ge end (inr past) (inl same) =
       rw (same, now.here.0, now.here.1, eq-eqb x.index x.index refl) (position, parts)
   arm j ge end (inr past) (inr other) =
@@ -193,14 +192,14 @@ row_counted xs ys zs f i at arms x s a b c lt is e new position parts k h = reco
       let within : j - 1 < length b.indexes.items = omega (arith, end, now.size, far) in
       let more = new.greater (j - 1) (omega (arith, far)) within in
       rw ((now.after j far).0, (now.after j far).1)
-          (old (j - 1) (arm_in b (j - 1)) (λ eq. omega (arith, more, eq))
-          (h.arm (j - 1) (omega (arith, far, new.above)) within))
+      (old (j - 1) (arm_in b (j - 1)) (λ eq. omega (arith, more, eq))
+      (h.arm (j - 1) (omega (arith, far, new.above)) within))
 
   none : (y : ℕ) → Lacks c.indexes.items f (length c.indexes.items) y →
       cond (x.index == y) (Some (i, x)) (arm_of (take i arms) y) ≡ None
   none y lacks =
       let ne : x.index ≢ y = λ eq. lacks at new.above (omega (arith, new.within, now.size))
-          (now.here.0 ∙ eq) in
+      (now.here.0 ∙ eq) in
       rw (differs x.index y ne) (h.none y (λ j ge end is. elim (cases_lt j at) [
         | inl below ↦ lacks j ge (omega (arith, end, now.size)) ((now.below j below).0 ∙ is)
         | inr past ↦ lacks (j + 1) (omega (arith, ge)) (omega (arith, end, now.size))

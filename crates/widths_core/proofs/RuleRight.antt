@@ -1,8 +1,5 @@
 -- Each rule of a registry is right: where the parts have values, the owner is what the rule finds.
-use Rattle.std.proofs.Common.{
-    ◌≡◌, ℕ, zero, suc, ◌+◌, ◌<◌, Bool, true, false, cond, List, [], ◌∷◌, ◌++◌, length, get_or, Some,
-    None, refl, sym, ap, ◌∙◌, arith
-}
+use Rattle.std.proofs.Common.{◌≡◌, ℕ, zero, suc, ◌+◌, ◌<◌, Bool, true, false, cond, List, [], ◌∷◌, ◌++◌, length, get_or, Some, None, refl, sym, ap, ◌∙◌, arith}
 use Rattle.std.specs.Prelude.{◌==◌}
 use Rattle.std.specs.List.{AllByRecursion, list_all, list_any}
 use Rattle.registry_core.specs.Kinds.{kind_of}
@@ -20,16 +17,10 @@ use Rattle.widths_core.specs.declared.counter.Kind.{Kind}
 use Rattle.widths_core.specs.declared.counter.Kind.TheVariants as kind
 use Rattle.graph_core.specs.Types.{shape, ids, field_types}
 use Rattle.widths_core.specs.Arms.{live_arms}
-use Rattle.widths_core.specs.Targets.{
-    leads_kind, leads_members, leads_shape, target_from, target_of
-}
+use Rattle.widths_core.specs.Targets.{leads_kind, leads_members, leads_shape, target_from, target_of}
 use Rattle.widths_core.specs.Classes.{class_of}
-use Rattle.widths_core.specs.ClassTables.{
-    joined, class_of_parts, has_value, class_of_arms, class_of_compact, class_step
-}
-use Rattle.widths_core.specs.Rules.{
-    Rule, rule, rules, rules_of, rules_from, arm_rules, kind_of_parts, found_sized
-}
+use Rattle.widths_core.specs.ClassTables.{joined, class_of_parts, has_value, class_of_arms, class_of_compact, class_step}
+use Rattle.widths_core.specs.Rules.{Rule, rule, rules, rules_of, rules_from, arm_rules, kind_of_parts, found_sized}
 use Rattle.widths_core.specs.Consistent.{nothing, rule_at}
 use Rattle.widths_core.proofs.Ranks.{or_left, or_right}
 use Rattle.widths_core.proofs.Settled.{has_value-parts}
@@ -74,19 +65,27 @@ arms_right : (r : List TypeInfo) (t : ℕ) → t < length r → target_of r t �
 arms_right r t lt m [] seen h = tt
 arms_right r t lt m (a ∷ arms) seen h =
     go (list_any (λ i. i == a.index) seen) refl h (arms_right r t lt m arms) where
-  go : (c : Bool) → list_any (λ i. i == a.index) seen ≡ c →
-      (list_any (arm_test r) (cond c (live_arms seen arms) (a ∷ live_arms (a.index ∷ seen) arms))
-      ≡ true → class_of r t ≡ class.Sized) →
-      ((s : List ℕ) → (list_any (arm_test r) (live_arms s arms) ≡ true →
-      class_of r t ≡ class.Sized) → AllByRecursion (IsRightRule r) (arm_rules t s arms)) →
-      AllByRecursion (IsRightRule r)
-      (cond c (rule t kind.Idle (field_types a.fields) ∷ arm_rules t seen arms)
-      (rule t (kind.Fixed found_sized) (field_types a.fields) ∷ arm_rules t (a.index ∷ seen) arms))
-  go true e k more = (record { owner = lt; right = tt }, more seen k)
-  go false e k more = (record { owner = lt; right =
-      (refl, (λ all. k (or_left (arm_test r a) _
-      (has_value-parts (class_of r) (field_types a.fields) ∙ all))), m) },
-      more (a.index ∷ seen) (λ f. k (or_right (arm_test r a) _ f)))
+      go : (c : Bool) → list_any (λ i. i == a.index) seen ≡ c →
+          (list_any (arm_test r) (cond c (live_arms seen arms) (a ∷ live_arms (a.index ∷ seen) arms))
+          ≡ true → class_of r t ≡ class.Sized) →
+          ((s : List ℕ) → (list_any (arm_test r) (live_arms s arms) ≡ true →
+          class_of r t ≡ class.Sized) → AllByRecursion (IsRightRule r) (arm_rules t s arms)) →
+          AllByRecursion (IsRightRule r)
+          (cond c (rule t kind.Idle (field_types a.fields) ∷ arm_rules t seen arms)
+          (rule t (kind.Fixed found_sized) (field_types a.fields) ∷ arm_rules t (a.index ∷ seen) arms))
+      go true e k more = (record { owner = lt; right = tt }, more seen k)
+      go false e k more = (
+        record {
+          owner = lt;
+          right = (
+            refl,
+            (λ all. k (or_left (arm_test r a) _
+                (has_value-parts (class_of r) (field_types a.fields) ∙ all))),
+            m,
+          );
+        },
+        more (a.index ∷ seen) (λ f. k (or_right (arm_test r a) _ f)),
+      )
 
 arms_class : (r : List TypeInfo) (t : ℕ) (arms : List Arm) →
     class_of r t ≡ class_of_arms (class_of r) arms →
@@ -114,9 +113,10 @@ rules_right : (r : List TypeInfo) (t : ℕ) (d : TypeDef) → t < length r →
     class_of r t ≡ class_step (target_of r) (class_of r) d →
     target_of r t ≡ target_from (target_of r) (leads_shape d) →
     AllByRecursion (IsRightRule r) (rules_of t d)
-rules_right r t (Def.Composite fs) lt c m =
-    (record { owner = lt; right = rw (length-fields fs) (parts_right r t (field_types fs) c m) },
-    tt)
+rules_right r t (Def.Composite fs) lt c m = (
+  record { owner = lt; right = rw (length-fields fs) (parts_right r t (field_types fs) c m) },
+  tt,
+)
 rules_right r t (Def.Variant arms) lt c m = arms_right r t lt m arms [] (arms_class r t arms c)
 rules_right r t (Def.Sequence u) lt c m =
     (record { owner = lt; right = (refl, (λ h. c), m) }, (record { owner = lt; right = tt }, tt))
@@ -157,9 +157,9 @@ rules_from_right r [] t h = tt
 rules_from_right r (x ∷ s) t h =
     let here : shape r t ≡ Some x.shape = ap (shape r) (omega arith) ∙ h 0 x.shape refl in
     all_append (IsRightRule r) (rules_of t x.shape) (rules_from (t + 1) s)
-        (rules_right r t x.shape (shape-bound r t x.shape here) (class_stable r t x.shape here)
-        (target_stable r t x.shape here))
-        (rules_from_right r s (t + 1) (λ j d e. ap (shape r) (omega arith) ∙ h (suc j) d e))
+    (rules_right r t x.shape (shape-bound r t x.shape here) (class_stable r t x.shape here)
+    (target_stable r t x.shape here))
+    (rules_from_right r s (t + 1) (λ j d e. ap (shape r) (omega arith) ∙ h (suc j) d e))
 
 pub rule_right : (r : List TypeInfo) (k : ℕ) → k < length (rules r) → IsRightRule r (rule_at r k)
 rule_right r k lt = all_at (IsRightRule r) (rules r) k nothing

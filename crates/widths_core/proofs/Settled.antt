@@ -1,7 +1,5 @@
 -- What a step says of a class: whether there is a value, and whether one takes no bytes.
-use Rattle.std.proofs.Common.{
-    ◌≡◌, ℕ, zero, suc, Bool, true, false, cond, List, [], ◌∷◌, Option, refl, ap, ◌∙◌
-}
+use Rattle.std.proofs.Common.{◌≡◌, ℕ, zero, suc, Bool, true, false, cond, List, [], ◌∷◌, Option, refl, ap, ◌∙◌}
 use Rattle.std.specs.Prelude.{◌&&◌}
 use Rattle.std.specs.List.{list_all, list_any}
 use Rattle.scale_core.specs.declared.compact.Target.{Target}
@@ -15,9 +13,7 @@ use Rattle.graph_core.specs.Types.{ids, field_types}
 use Rattle.widths_core.specs.Arms.{live_arms}
 use Rattle.widths_core.specs.Targets.{target_of}
 use Rattle.widths_core.specs.Classes.{is_unit, finite_step, empty_step, class_from}
-use Rattle.widths_core.specs.ClassTables.{
-    joined, class_of_parts, has_value, class_of_arms, class_step
-}
+use Rattle.widths_core.specs.ClassTables.{joined, class_of_parts, has_value, class_of_arms, class_step}
 
 abbrev pub is_empty_class : Class → Bool
 is_empty_class class.NoValue = false
@@ -63,17 +59,17 @@ has_value-arms : (f : ℕ → Class) (arms : List Arm) →
 has_value-arms f arms = go
     (list_any (λ a. has_value (class_of_parts f (field_types a.fields))) (live_arms [] arms))
     ∙ any_parts f (live_arms [] arms) where
-  go : (b : Bool) → has_value (cond b class.Sized class.NoValue) ≡ b
-  go true = refl
-  go false = refl
+      go : (b : Bool) → has_value (cond b class.Sized class.NoValue) ≡ b
+      go true = refl
+      go false = refl
 
 pub is_empty-arms : (f : ℕ → Class) (arms : List Arm) →
     is_empty_class (class_of_arms f arms) ≡ false
 is_empty-arms f arms = go
     (list_any (λ a. has_value (class_of_parts f (field_types a.fields))) (live_arms [] arms)) where
-  go : (b : Bool) → is_empty_class (cond b class.Sized class.NoValue) ≡ false
-  go true = refl
-  go false = refl
+      go : (b : Bool) → is_empty_class (cond b class.Sized class.NoValue) ≡ false
+      go true = refl
+      go false = refl
 
 compact_class : (b : Bool) → (has_value (cond b class.Empty class.Sized) ≡ true)
     × (is_empty_class (cond b class.Empty class.Sized) ≡ b)

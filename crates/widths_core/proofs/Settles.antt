@@ -1,14 +1,9 @@
 -- A type settles.
-use Rattle.std.proofs.Common.{
-    ◌≡◌, ◌≢◌, ℕ, zero, suc, ◌+◌, ◌<◌, Bool, true, false, cond, List, [], ◌∷◌, ◌++◌, length, set,
-    Option, Some, None, refl, sym, ap, ◌∙◌, ◌⊎◌, arith, inl, inr
-}
+use Rattle.std.proofs.Common.{◌≡◌, ◌≢◌, ℕ, zero, suc, ◌+◌, ◌<◌, Bool, true, false, cond, List, [], ◌∷◌, ◌++◌, length, set, Option, Some, None, refl, sym, ap, ◌∙◌, ◌⊎◌, arith, inl, inr}
 use Rattle.std.specs.Prelude.{◌==◌, ◌&&◌, ◌||◌, not}
 use Rattle.std.specs.List.{list_all, list_any}
 use Rattle.std.proofs.lemmas.Bool.{eqb-true, eq-eqb, cases_eq}
-use Rattle.std.proofs.lemmas.List.{
-    append_assoc, append-nil, length-set, length_push, get_or-set_same, get_or-set_other
-}
+use Rattle.std.proofs.lemmas.List.{append_assoc, append-nil, length-set, length_push, get_or-set_same, get_or-set_other}
 use Rattle.scale_core.specs.declared.compact.Target.{Target}
 use Rattle.registry_core.specs.declared.type_info.TypeInfo.{TypeInfo}
 use Rattle.widths_core.specs.declared.class.Class.{Class}
@@ -18,23 +13,15 @@ use Rattle.widths_core.specs.declared.counter.Kind.{Kind}
 use Rattle.widths_core.specs.declared.counter.Kind.TheVariants as kind
 use Rattle.widths_core.specs.Targets.{target_of}
 use Rattle.widths_core.specs.Classes.{class_of, is_unit}
-use Rattle.widths_core.specs.ClassTables.{
-    joined, class_of_parts, class_of_compact, known_class, known_target, has_value
-}
+use Rattle.widths_core.specs.ClassTables.{joined, class_of_parts, class_of_compact, known_class, known_target, has_value}
 use Rattle.graph_core.specs.Counts.{times}
 use Rattle.widths_core.specs.Rules.{rules, class_by, outcome, all_parts, numbers_from}
-use Rattle.widths_core.specs.Progress.{
-    Progress, counter_at, is_sized, settled_as, settled_by, completed
-}
-use Rattle.widths_core.specs.Consistent.{
-    rule_at, to_at, rule_number, unsettled, has_settled, settles, IsConsistent
-}
+use Rattle.widths_core.specs.Progress.{Progress, counter_at, is_sized, settled_as, settled_by, completed}
+use Rattle.widths_core.specs.Consistent.{rule_at, to_at, rule_number, unsettled, has_settled, settles, IsConsistent}
 use Rattle.widths_core.specs.Propagation.{Follows}
 use Rattle.widths_core.proofs.Ranks.{and_parts, or_parts}
 use Rattle.widths_core.proofs.RuleRight.{IsRightBy, rule_right}
-use Rattle.widths_core.proofs.Waiting.{
-    times-append, times-other, waiting-none, numbers-length, parts_any, parts_each
-}
+use Rattle.widths_core.proofs.Waiting.{times-append, times-other, waiting-none, numbers-length, parts_any, parts_each}
 
 pub follows_same : (s : Progress) → Follows s s
 follows_same s = record { keeps = λ t e. e; more = []; settled = sym (append-nil s.settled) }
@@ -54,8 +41,13 @@ pub record IsFound (r : List TypeInfo) (t : ℕ) (f : Found) : Type 0 where
   pub value : has_value f.class ≡ true
 
 abbrev with_found : Progress → ℕ → Found → Progress
-with_found s t f = record { counters = s.counters; classes = set s.classes t f.class; targets =
-    set s.targets t f.target; settled = s.settled ++ t ∷ [] }
+with_found s t f = record {
+  counters = s.counters;
+  classes = set s.classes t f.class;
+  targets =
+      set s.targets t f.target;
+  settled = s.settled ++ t ∷ [];
+}
 
 pub class_same : (cs : List Class) (t : ℕ) (c : Class) → t < length cs →
     known_class (set cs t c) t ≡ c
@@ -103,8 +95,12 @@ with_consistent r propagated s t f h lt e found =
       right = λ u v. right in_classes in_targets u (cases_eq u t) v;
       unset = λ u v. unset in_classes in_targets u (cases_eq u t) v;
       queue = λ u. queue in_classes u (cases_eq u t);
-      room = omega (arith, h.room, length_push s.settled t,
-          unsettled-set s.classes t f.class in_classes e found.value);
+      room = omega (
+        arith,
+        h.room,
+        length_push s.settled t,
+        unsettled-set s.classes t f.class in_classes e found.value,
+      );
     } where
       right : t < length s.classes → t < length s.targets → (u : ℕ) → (u ≡ t) ⊎ (u ≢ t) →
           has_settled (with_found s t f) u ≡ true →
@@ -115,8 +111,10 @@ with_consistent r propagated s t f h lt e found =
           (sym found.class, sym found.target)
       right a b u (inr other) v = let v' : has_settled s u ≡ true =
           rw (class_other s.classes t u f.class other) at v in
-          rw (class_other s.classes t u f.class other,
-          get_or-set_other s.targets t u f.target None other) (h.right u v')
+          rw (
+            class_other s.classes t u f.class other,
+            get_or-set_other s.targets t u f.target None other,
+          ) (h.right u v')
 
       unset : t < length s.classes → t < length s.targets → (u : ℕ) → (u ≡ t) ⊎ (u ≢ t) →
           has_settled (with_found s t f) u ≡ false →
@@ -131,19 +129,28 @@ with_consistent r propagated s t f h lt e found =
       queue : t < length s.classes → (u : ℕ) → (u ≡ t) ⊎ (u ≢ t) →
           times u (s.settled ++ t ∷ []) ≡ cond (has_settled (with_found s t f) u) 1 0
       queue a u (inl same) = let none : times u s.settled ≡ 0 = h.queue u ∙ rw (same, e) refl in
-          rw (times-append u s.settled (t ∷ []), none, same, class_same s.classes t f.class a,
-          found.value, eq-eqb t t refl) refl
-      queue a u (inr other) = rw (times-append u s.settled (t ∷ []),
-          times-other u t [] (λ is. other (sym is)), class_other s.classes t u f.class other)
+          rw (
+            times-append u s.settled (t ∷ []),
+            none,
+            same,
+            class_same s.classes t f.class a,
+            found.value,
+            eq-eqb t t refl,
+          ) refl
+      queue a u (inr other) = rw (
+        times-append u s.settled (t ∷ []),
+        times-other u t [] (λ is. other (sym is)),
+        class_other s.classes t u f.class other,
+      )
           (omega (arith, h.queue u))
 
 -- what a type that settles does
 pub record SettlesTo (r : List TypeInfo) (propagated : List ℕ) (s n : Progress) (t : ℕ) : Type 0
-    where
-  pub consistent : IsConsistent r propagated n
-  pub follows : Follows s n
-  pub counters : n.counters ≡ s.counters
-  pub settled : has_settled n t ≡ true
+  where
+    pub consistent : IsConsistent r propagated n
+    pub follows : Follows s n
+    pub counters : n.counters ≡ s.counters
+    pub settled : has_settled n t ≡ true
 
 pub settles_to : (r : List TypeInfo) (propagated : List ℕ) (s : Progress) (t : ℕ) (f : Found) →
     IsConsistent r propagated s → t < length r → (has_settled s t ≡ false → IsFound r t f) →
@@ -156,8 +163,12 @@ settles_to r propagated s t f h lt found = go (has_settled s t) refl where
       let in_classes : t < length s.classes = omega (arith, h.classes, lt) in
       record {
         consistent = with_consistent r propagated s t f h lt e is;
-        follows = record { keeps = with_keeps s t f in_classes is.value; more = t ∷ []; settled =
-            refl };
+        follows = record {
+          keeps = with_keeps s t f in_classes is.value;
+          more = t ∷ [];
+          settled =
+              refl;
+        };
         counters = refl;
         settled = rw (class_same s.classes t f.class in_classes) is.value;
       }
@@ -170,12 +181,12 @@ parts_sized f [] h = refl
 parts_sized f (p ∷ ps) h = let parts =
     and_parts (has_value (f p)) (list_all (λ q. has_value (f q)) ps) h in
     go (f p) (list_any (λ q. is_sized (f q)) ps) parts.0 (parts_sized f ps parts.1) where
-  go : (c : Class) (b : Bool) → has_value c ≡ true → class_of_parts f ps ≡ class_by b →
-      joined c (class_of_parts f ps) ≡ class_by (is_sized c || b)
-  go class.NoValue b v e = absurd cc
-  go class.Empty b v e = e
-  go class.Sized true v e = rw e refl
-  go class.Sized false v e = rw e refl
+      go : (c : Class) (b : Bool) → has_value c ≡ true → class_of_parts f ps ≡ class_by b →
+          joined c (class_of_parts f ps) ≡ class_by (is_sized c || b)
+      go class.NoValue b v e = absurd cc
+      go class.Empty b v e = e
+      go class.Sized true v e = rw e refl
+      go class.Sized false v e = rw e refl
 
 any_not : (test : ℕ → Bool) (ps : List ℕ) → list_all (λ p. not (test p)) ps ≡ true →
     list_any test ps ≡ false
@@ -183,9 +194,9 @@ any_not test [] h = refl
 any_not test (p ∷ ps) h = let parts =
     and_parts (not (test p)) (list_all (λ q. not (test q)) ps) h in
     go (test p) parts.0 (any_not test ps parts.1) where
-  go : (b : Bool) → not b ≡ true → list_any test ps ≡ false → (b || list_any test ps) ≡ false
-  go true v e = absurd cc
-  go false v e = e
+      go : (b : Bool) → not b ≡ true → list_any test ps ≡ false → (b || list_any test ps) ≡ false
+      go true v e = absurd cc
+      go false v e = e
 
 -- one of these that passes
 some_propagated : (test : ℕ → Bool) (xs : List ℕ) → list_any test xs ≡ true → (e : ℕ)
@@ -201,12 +212,12 @@ none_propagated : (test : ℕ → Bool) (xs : List ℕ) (e : ℕ) → list_any t
 none_propagated test [] e h lt = absurd (omega (arith, lt))
 none_propagated test (x ∷ xs) e h lt =
     go (test x) (list_any test xs) refl refl (cases_eq x e) h (none_propagated test xs e) where
-  go : (a b : Bool) → test x ≡ a → list_any test xs ≡ b → (x ≡ e) ⊎ (x ≢ e) → (a || b) ≡ false →
-      (list_any test xs ≡ false → 0 < times e xs → test e ≡ false) → test e ≡ false
-  go true b p q c f rest = absurd cc
-  go false true p q c f rest = absurd cc
-  go false false p q (inl same) f rest = rw same at p
-  go false false p q (inr other) f rest = rest q (omega (arith, lt, times-other e x xs other))
+      go : (a b : Bool) → test x ≡ a → list_any test xs ≡ b → (x ≡ e) ⊎ (x ≢ e) → (a || b) ≡ false →
+          (list_any test xs ≡ false → 0 < times e xs → test e ≡ false) → test e ≡ false
+      go true b p q c f rest = absurd cc
+      go false true p q c f rest = absurd cc
+      go false false p q (inl same) f rest = rw same at p
+      go false false p q (inr other) f rest = rest q (omega (arith, lt, times-other e x xs other))
 
 -- ---- a counter none of whose parts is left
 
@@ -218,43 +229,43 @@ pub whole : (r : List TypeInfo) (propagated : List ℕ) (s : Progress) (k : ℕ)
     IsConsistent r propagated s → (counter_at s k).left ≡ 0 → IsWhole r propagated s k
 whole r propagated s k h none =
     record { values = values; sized = h.sized k ∙ sized (list_any for_k propagated) refl } where
-  for_k : ℕ → Bool
-  for_k e = (rule_number r e == k) && is_sized (class_of r (to_at r e))
+      for_k : ℕ → Bool
+      for_k e = (rule_number r e == k) && is_sized (class_of r (to_at r e))
 
-  all_propagated : (j : ℕ) → j < length (all_parts (rules r)) → rule_number r j ≡ k →
-      0 < times j propagated
-  all_propagated j lt is =
-      let more : 0 < times (0 + j) propagated =
+      all_propagated : (j : ℕ) → j < length (all_parts (rules r)) → rule_number r j ≡ k →
+          0 < times j propagated
+      all_propagated j lt is =
+          let more : 0 < times (0 + j) propagated =
           waiting-none 0 (numbers_from 0 (rules r)) k propagated (sym (h.left k) ∙ none) j
           (omega (arith, lt, numbers-length 0 (rules r))) is in
-      let at : 0 + j ≡ j = omega arith in
-      rw at at more
+          let at : 0 + j ≡ j = omega arith in
+          rw at at more
 
-  class_at : (j : ℕ) → 0 < times j propagated → has_value (class_of r (to_at r j)) ≡ true
-  class_at j more = let s_at = h.part_settled j more in rw (h.right (to_at r j) s_at).0 at s_at
+      class_at : (j : ℕ) → 0 < times j propagated → has_value (class_of r (to_at r j)) ≡ true
+      class_at j more = let s_at = h.part_settled j more in rw (h.right (to_at r j) s_at).0 at s_at
 
-  values : list_all (λ p. has_value (class_of r p)) (rule_at r k).parts ≡ true
-  values = parts_each (λ p. has_value (class_of r p)) 0 (rules r) k
-      (λ j lt is. class_at j (all_propagated j lt (is ∙ omega arith)))
+      values : list_all (λ p. has_value (class_of r p)) (rule_at r k).parts ≡ true
+      values = parts_each (λ p. has_value (class_of r p)) 0 (rules r) k
+          (λ j lt is. class_at j (all_propagated j lt (is ∙ omega arith)))
 
-  sized : (b : Bool) → list_any for_k propagated ≡ b →
-      b ≡ list_any (λ p. is_sized (class_of r p)) (rule_at r k).parts
-  sized true e =
-      let s = some_propagated for_k propagated e in
-      let parts = and_parts (rule_number r s.0 == k) (is_sized (class_of r (to_at r s.0))) s.2 in
-      sym (parts_any (λ p. is_sized (class_of r p)) 0 (rules r) s.0 k (h.known s.0 s.1)
+      sized : (b : Bool) → list_any for_k propagated ≡ b →
+          b ≡ list_any (λ p. is_sized (class_of r p)) (rule_at r k).parts
+      sized true e =
+          let s = some_propagated for_k propagated e in
+          let parts = and_parts (rule_number r s.0 == k) (is_sized (class_of r (to_at r s.0))) s.2 in
+          sym (parts_any (λ p. is_sized (class_of r p)) 0 (rules r) s.0 k (h.known s.0 s.1)
           (eqb-true (rule_number r s.0) k parts.0 ∙ omega arith) parts.1)
-  sized false e = sym (any_not (λ p. is_sized (class_of r p)) (rule_at r k).parts
-      (parts_each (λ p. not (is_sized (class_of r p))) 0 (rules r) k
-      (λ j lt is. one j (is ∙ omega arith)
-      (none_propagated for_k propagated j e (all_propagated j lt (is ∙ omega arith)))))) where
-    one : (j : ℕ) → rule_number r j ≡ k → for_k j ≡ false →
-        not (is_sized (class_of r (to_at r j))) ≡ true
-    one j is f = go (is_sized (class_of r (to_at r j))) (rw (eq-eqb (rule_number r j) k is) at f)
-        where
-      go : (b : Bool) → b ≡ false → not b ≡ true
-      go true p = sym p
-      go false p = refl
+      sized false e = sym (any_not (λ p. is_sized (class_of r p)) (rule_at r k).parts
+          (parts_each (λ p. not (is_sized (class_of r p))) 0 (rules r) k
+          (λ j lt is. one j (is ∙ omega arith)
+          (none_propagated for_k propagated j e (all_propagated j lt (is ∙ omega arith)))))) where
+            one : (j : ℕ) → rule_number r j ≡ k → for_k j ≡ false →
+                not (is_sized (class_of r (to_at r j))) ≡ true
+            one j is f = go (is_sized (class_of r (to_at r j))) (rw (eq-eqb (rule_number r j) k is) at f)
+              where
+                go : (b : Bool) → b ≡ false → not b ≡ true
+                go true p = sym p
+                go false p = refl
 
 class_by-value : (b : Bool) → has_value (class_by b) ≡ true
 class_by-value true = refl
@@ -280,30 +291,34 @@ found_by r t ps kind.Idle b last h v s m f e = absurd cc
 found_by r t ps kind.Parts b last h v s m f e =
     let is : record { class = class_by b; target = None } ≡ f = cc in
     let class : class_of r t ≡ class_by b = h.0 ∙ parts_sized (class_of r) ps v
-        ∙ ap class_by (sym s) in
+    ∙ ap class_by (sym s) in
     rw (← is) (record { class = class; target = h.1; value = class_by-value b })
 found_by r t ps kind.Wrap b last h v s m f e =
     let is : record { class = class_by b; target = last } ≡ f = cc in
     let one : class_of_parts (class_of r) ps ≡ class_of r h.0 =
-        rw h.1 (one_part (class_of r h.0)) in
+    rw h.1 (one_part (class_of r h.0)) in
     let class : class_of r t ≡ class_by b = h.2 ∙ sym one ∙ parts_sized (class_of r) ps v
-        ∙ ap class_by (sym s) in
+    ∙ ap class_by (sym s) in
     rw (← is) (record { class = class; target = h.3 ∙ sym (m h.0 h.1); value = class_by-value b })
 found_by r t ps kind.Compact b last h v s m f e =
     let is : record { class = class_of_compact last; target = None } ≡ f = cc in
-    rw (← is) (record { class = h.2 ∙ ap class_of_compact (sym (m h.0 h.1)); target = h.3; value =
-        compact-value last })
+    rw (← is) (record {
+      class = h.2 ∙ ap class_of_compact (sym (m h.0 h.1));
+      target = h.3;
+      value =
+          compact-value last;
+    })
 found_by r t ps (kind.Fixed g) b last h v s m f e =
     let is : g ≡ f = cc in
     rw (← is) (record { class = h.1 v; target = h.2; value = h.0 })
 
 -- a counter none of whose parts is left settles its owner
 pub record CompletesTo (r : List TypeInfo) (propagated : List ℕ) (s n : Progress) (k : ℕ) : Type 0
-    where
-  pub consistent : IsConsistent r propagated n
-  pub follows : Follows s n
-  pub counters : n.counters ≡ s.counters
-  pub settled : settles (rule_at r k).kind ≡ true → has_settled n (rule_at r k).owner ≡ true
+  where
+    pub consistent : IsConsistent r propagated n
+    pub follows : Follows s n
+    pub counters : n.counters ≡ s.counters
+    pub settled : settles (rule_at r k).kind ≡ true → has_settled n (rule_at r k).owner ≡ true
 
 by_outcome : (r : List TypeInfo) (propagated : List ℕ) (s : Progress) (k : ℕ) (o : Option Found) →
     IsConsistent r propagated s → (rule_at r k).owner < length r →
@@ -311,12 +326,21 @@ by_outcome : (r : List TypeInfo) (propagated : List ℕ) (s : Progress) (k : ℕ
     (o ≡ None → settles (rule_at r k).kind ≡ false) →
     CompletesTo r propagated s (settled_by s (rule_at r k).owner o) k
 by_outcome r propagated s k None h lt found idle =
-    record { consistent = h; follows = follows_same s; counters = refl; settled =
-    λ e. absurd (both (settles (rule_at r k).kind) e (idle refl)) }
+    record {
+      consistent = h;
+      follows = follows_same s;
+      counters = refl;
+      settled =
+          λ e. absurd (both (settles (rule_at r k).kind) e (idle refl));
+    }
 by_outcome r propagated s k (Some f) h lt found idle =
     let done = settles_to r propagated s (rule_at r k).owner f h lt (λ _. found f refl) in
-    record { consistent = done.consistent; follows = done.follows; counters = done.counters;
-        settled = λ _. done.settled }
+    record {
+      consistent = done.consistent;
+      follows = done.follows;
+      counters = done.counters;
+      settled = λ _. done.settled;
+    }
 
 idle_only : (k : Kind) (b : Bool) (last : Option Target) → outcome k b last ≡ None →
     settles k ≡ false
@@ -334,7 +358,7 @@ completes_to r propagated s k last h lt none m =
     let right = rule_right r k lt in
     let all = whole r propagated s k h none in
     rw (h.owner k, h.kind k)
-        (by_outcome r propagated s k (outcome (rule_at r k).kind (counter_at s k).sized last) h
-        right.owner (found_by r (rule_at r k).owner (rule_at r k).parts (rule_at r k).kind
-        (counter_at s k).sized last right.right all.values all.sized m)
-        (idle_only (rule_at r k).kind (counter_at s k).sized last))
+    (by_outcome r propagated s k (outcome (rule_at r k).kind (counter_at s k).sized last) h
+    right.owner (found_by r (rule_at r k).owner (rule_at r k).parts (rule_at r k).kind
+    (counter_at s k).sized last right.right all.values all.sized m)
+    (idle_only (rule_at r k).kind (counter_at s k).sized last))

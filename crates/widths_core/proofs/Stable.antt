@@ -1,19 +1,12 @@
 -- The class and the target of a type follow from those of its parts by one step.
-use Rattle.std.proofs.Common.{
-    ◌≡◌, ℕ, Bool, true, false, List, length, Option, Some, None, refl, sym, ap, subst, ◌∙◌
-}
+use Rattle.std.proofs.Common.{◌≡◌, ℕ, Bool, true, false, List, length, Option, Some, None, refl, sym, ap, subst, ◌∙◌}
 use Rattle.std.proofs.Math.Path.{fun_ext}
 use Rattle.scale_core.specs.declared.compact.Target.{Target}
 use Rattle.registry_core.specs.declared.definition.TypeDef.{TypeDef}
 use Rattle.registry_core.specs.declared.type_info.TypeInfo.{TypeInfo}
 use Rattle.graph_core.specs.Types.{shape}
-use Rattle.widths_core.specs.Targets.{
-    Leads, ends, through, nowhere, leads, leads_shape, HasTarget, here, there, target_from,
-    target_of
-}
-use Rattle.widths_core.specs.Classes.{
-    finite_step, empty_step, finite_within, empty_within, is_finite, is_empty, class_from, class_of
-}
+use Rattle.widths_core.specs.Targets.{Leads, ends, through, nowhere, leads, leads_shape, HasTarget, here, there, target_from, target_of}
+use Rattle.widths_core.specs.Classes.{finite_step, empty_step, finite_within, empty_within, is_finite, is_empty, class_from, class_of}
 use Rattle.widths_core.specs.ClassTables.{has_value, class_step}
 use Rattle.widths_core.proofs.Ranks.{ranks_settle, finite_up, empty_up, holds_at-shape}
 use Rattle.widths_core.proofs.Known.{empty_finite, empty_next, finite_next}
@@ -30,9 +23,9 @@ finite_stable : (r : List TypeInfo) (t : ℕ) (d : TypeDef) → shape r t ≡ So
 unfolding finite_within
 finite_stable r t d e = same_test (is_finite r t) (finite_step (is_finite r) d) forth
     (finite_next r t d e) where
-  forth : is_finite r t ≡ true → finite_step (is_finite r) d ≡ true
-  forth h = sym (holds_at-shape r (finite_step (finite_within r (length r))) t d e)
-      ∙ finite_up r (length r) t h
+      forth : is_finite r t ≡ true → finite_step (is_finite r) d ≡ true
+      forth h = sym (holds_at-shape r (finite_step (finite_within r (length r))) t d e)
+          ∙ finite_up r (length r) t h
 
 empty_stable : (r : List TypeInfo) (t : ℕ) (d : TypeDef) → shape r t ≡ Some d →
     is_empty r t ≡ empty_step r (is_empty r) d
@@ -65,11 +58,11 @@ class_stable r t d e =
     let fs : (λ u. has_value (class_of r u)) ≡ is_finite r = fun_ext (has_value-class_of r) in
     let es : (λ u. is_empty_class (class_of r u)) ≡ is_empty r = fun_ext (is_empty-class_of r) in
     let finite : has_value next ≡ is_finite r t = has_value-step (target_of r) (class_of r) d
-        ∙ ap (λ (f : ℕ → Bool). finite_step f d) fs ∙ sym (finite_stable r t d e) in
+    ∙ ap (λ (f : ℕ → Bool). finite_step f d) fs ∙ sym (finite_stable r t d e) in
     let empty : is_empty_class next ≡ is_empty r t = is_empty-step r (class_of r) d
-        ∙ ap (λ (f : ℕ → Bool). empty_step r f d) es ∙ sym (empty_stable r t d e) in
+    ∙ ap (λ (f : ℕ → Bool). empty_step r f d) es ∙ sym (empty_stable r t d e) in
     sym (class_is next ∙ ap (λ (b : Bool). class_from b (is_empty_class next)) finite
-        ∙ ap (class_from (is_finite r t)) empty)
+    ∙ ap (class_from (is_finite r t)) empty)
 
 -- ---- targets
 

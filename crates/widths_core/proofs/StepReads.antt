@@ -1,8 +1,5 @@
 -- The step that is read is that of the type, and says its class and what a compact stands for.
-use Rattle.std.proofs.Common.{
-    ◌≡◌, ℕ, zero, suc, ◌<◌, ◌≤◌, List, [], ◌∷◌, length, Option, Some, None, refl, sym, subst, ◌∙◌,
-    arith, inl, inr
-}
+use Rattle.std.proofs.Common.{◌≡◌, ℕ, zero, suc, ◌<◌, ◌≤◌, List, [], ◌∷◌, length, Option, Some, None, refl, sym, subst, ◌∙◌, arith, inl, inr}
 use Rattle.std.specs.Prelude.{slice_get}
 use Rattle.std.proofs.lemmas.Bool.{cases_lt}
 use Rattle.std.proofs.lemmas.Option.{slice_get_within}
@@ -19,10 +16,7 @@ use Rattle.widths_core.specs.declared.step.Step.TheVariants as step
 use Rattle.graph_core.specs.Types.{shape}
 use Rattle.widths_core.specs.Targets.{compact_target_of_shape, compact_target_of}
 use Rattle.widths_core.specs.Classes.{class_of}
-use Rattle.widths_core.specs.Steps.{
-    references_of, IsRow, IsStep, IsTable, IsStepAt, by_class, sequence_step, class_of_step,
-    compact_of_step
-}
+use Rattle.widths_core.specs.Steps.{references_of, IsRow, IsStep, IsTable, IsStepAt, by_class, sequence_step, class_of_step, compact_of_step}
 use Rattle.widths_core.proofs.Stable.{class_stable}
 use Rattle.widths_core.proofs.DraftsTo.{shape_within}
 
@@ -72,8 +66,11 @@ step_at r refs rows steps t h = go (slice_get steps t) refl where
       rw (IsStepAt, shape_none r t (omega (arith, le, h.count))) refl
   go (Some s) e =
       let d = definition_of r refs rows steps t s h e in
-      rw (IsStepAt, d.1) (s, refl,
-          weaker r (references_of r) (IsRow (references_of r) rows) (class_of r t) d.0 s d.2)
+      rw (IsStepAt, d.1) (
+        s,
+        refl,
+        weaker r (references_of r) (IsRow (references_of r) rows) (class_of r t) d.0 s d.2,
+      )
 
 -- ---- the class and the target of a compact
 
@@ -147,9 +144,11 @@ class_read r t o s h f = go (shape r t) refl where
   go (Some d) e =
       let x = rw (IsStepAt, e) at h in
       let is = x.1 in
-      let same : s ≡ x.0 = cc in
-      (shape_within r t d e, rw same
-          (class_is r (references_of r) (λ from count arms. Unit {0}) t d x.0 e x.2))
+      let same : s ≡ x.0 = cc in (
+        shape_within r t d e,
+        rw same
+            (class_is r (references_of r) (λ from count arms. Unit {0}) t d x.0 e x.2),
+      )
 
 pub class_unknown : (r : List TypeInfo) (t : ℕ) → IsStepAt r t None → length r ≤ t
 class_unknown r t h = elim (cases_lt t (length r)) [
@@ -167,7 +166,7 @@ compact_read r t o m h some none = go (shape r t) refl where
   go (Some d) e =
       let x = rw (IsStepAt, e) at h in
       some x.0 x.1 ∙ compact_is r (references_of r) (λ from count arms. Unit {0}) (class_of r t) d
-          x.0 x.2 ∙ sym (rw e refl)
+      x.0 x.2 ∙ sym (rw e refl)
 
 pub step_read : (r q : List TypeInfo) (t : ℕ) (o p : Option Step) → q ≡ r → p ≡ o → IsStepAt r t o →
     IsStepAt q t p

@@ -1,8 +1,5 @@
 -- The step of each type is that of its draft, its class and what was found of others.
-use Rattle.std.proofs.Common.{
-    ◌≡◌, ℕ, zero, suc, ◌+◌, ◌<◌, List, [], ◌∷◌, ◌++◌, length, get_or, Option, Some, refl, sym, ap,
-    ◌∙◌, arith, inl, inr
-}
+use Rattle.std.proofs.Common.{◌≡◌, ℕ, zero, suc, ◌+◌, ◌<◌, List, [], ◌∷◌, ◌++◌, length, get_or, Option, Some, refl, sym, ap, ◌∙◌, arith, inl, inr}
 use Rattle.std.specs.Prelude.{slice_get}
 use Rattle.std.proofs.lemmas.Bool.{cases_lt}
 use Rattle.std.proofs.lemmas.List.{length_push}
@@ -20,9 +17,7 @@ use Rattle.graph_core.specs.Types.{shape}
 use Rattle.widths_core.specs.Targets.{target_of}
 use Rattle.widths_core.specs.Classes.{class_of}
 use Rattle.widths_core.specs.ClassTables.{known_class, known_target}
-use Rattle.widths_core.specs.Steps.{
-    references_of, IsRow, IsDraft, IsStep, AreSettled, IsTable, AreStepsBy, step_by
-}
+use Rattle.widths_core.specs.Steps.{references_of, IsRow, IsDraft, IsStep, AreSettled, IsTable, AreStepsBy, step_by}
 
 -- ---- of the drafts that were passed
 
@@ -70,9 +65,9 @@ steps_more classes targets drafts i steps d s e is h = record {
         let lt = slice_get_within (steps ++ s ∷ []) t s' at in
         let same : t ≡ length steps = omega (arith, ge, lt, length_push steps s, h.count) in
         let last : Some s ≡ Some s' = sym (get_last steps s)
-            ∙ ap (λ (n : ℕ). slice_get (steps ++ s ∷ []) n) (sym same) ∙ at in
+        ∙ ap (λ (n : ℕ). slice_get (steps ++ s ∷ []) n) (sym same) ∙ at in
         let drafted : Some d ≡ Some d' = sym e
-            ∙ ap (λ (n : ℕ). slice_get drafts n) (sym (same ∙ h.count)) ∙ there in
+        ∙ ap (λ (n : ℕ). slice_get drafts n) (sym (same ∙ h.count)) ∙ there in
         let same_step : s ≡ s' = cc in
         let same_draft : d ≡ d' = cc in
         let here : i ≡ t = sym (same ∙ h.count) in
@@ -119,7 +114,7 @@ table_all r cs ms refs rows drafts steps h k = record {
       let lt = slice_get_within steps t s f in
       let x = get_some drafts t (omega (arith, lt, k.count)) in
       let is : s ≡ step_by (known_class cs) (known_target ms) (known_class cs t) x.0 =
-          k.own t x.0 s x.1 f in
+      k.own t x.0 s x.1 f in
       let class_is : known_class cs t ≡ class_of r t = h.classes_are.1 t in
       rw (is, class_is) (step_drafted r (references_of r) (IsRow (references_of r) rows) cs ms
-          (class_of r t) d x.0 h.classes_are.1 h.targets_are (h.own.own t d x.0 e x.1))
+      (class_of r t) d x.0 h.classes_are.1 h.targets_are (h.own.own t d x.0 e x.1))

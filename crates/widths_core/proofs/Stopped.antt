@@ -1,8 +1,5 @@
 -- Where linking stops: the first reference that is no position, and what was looked at until then.
-use Rattle.std.proofs.Common.{
-    ◌≡◌, ℕ, zero, suc, ◌+◌, ◌<◌, List, [], ◌∷◌, ◌++◌, length, get_or, take, drop, flat_map, reverse,
-    Some, refl, sym, ap, ◌∙◌
-}
+use Rattle.std.proofs.Common.{◌≡◌, ℕ, zero, suc, ◌+◌, ◌<◌, List, [], ◌∷◌, ◌++◌, length, get_or, take, drop, flat_map, reverse, Some, refl, sym, ap, ◌∙◌}
 use Rattle.std.proofs.lemmas.List.{append_assoc, append-nil, at_drop_more}
 use Rattle.std.proofs.lemmas.Grind.{flat_map-append}
 use Rattle.registry_core.specs.declared.definition.Arm.{Arm}
@@ -33,17 +30,17 @@ pub stops_arms : (t i : ℕ) (k : Kind) (arms : List Arm) (x : Arm) (cs ds : Lis
 stops_arms t i k arms x cs ds a b c o lt at h stops =
     let rest = flat_map (λ (y : Arm). field_types y.fields) (drop (i + 1) arms) in
     let joined : all_parts (arm_rules t [] arms)
-        ≡ all_parts h.done ++ all_parts (arm_rules t h.seen (drop i arms)) = ap all_parts h.left
-        ∙ flat_map-append (λ (y : Rule). y.parts) h.done (arm_rules t h.seen (drop i arms)) in
+    ≡ all_parts h.done ++ all_parts (arm_rules t h.seen (drop i arms)) = ap all_parts h.left
+    ∙ flat_map-append (λ (y : Rule). y.parts) h.done (arm_rules t h.seen (drop i arms)) in
     let left : all_parts (arm_rules t h.seen (drop i arms)) ≡ field_types x.fields ++ rest =
-        parts_of_arms t h.seen (drop i arms)
-        ∙ at_drop_more (flat_map (λ (y : Arm). field_types y.fields)) arms i x lt
-        ∙ ap (λ (y : Arm). field_types y.fields ++ rest) (sym at) in
+    parts_of_arms t h.seen (drop i arms)
+    ∙ at_drop_more (flat_map (λ (y : Arm). field_types y.fields)) arms i x lt
+    ∙ ap (λ (y : Arm). field_types y.fields ++ rest) (sym at) in
     let next : field_types x.fields ++ rest ≡ (field_types x.fields ++ []) ++ rest =
-        ap (λ (ws : List ℕ). ws ++ rest) (sym (append-nil (field_types x.fields))) in
+    ap (λ (ws : List ℕ). ws ++ rest) (sym (append-nil (field_types x.fields))) in
     stops_after (all_parts h.done) (field_types x.fields ++ []) rest
-        (all_parts (arm_rules t [] arms)) _ a b c o
-        (joined ∙ ap (λ (ws : List ℕ). all_parts h.done ++ ws) (left ∙ next)) h.adds.reads stops
+    (all_parts (arm_rules t [] arms)) _ a b c o
+    (joined ∙ ap (λ (ws : List ℕ). all_parts h.done ++ ws) (left ∙ next)) h.adds.reads stops
 
 -- ---- in one of the types
 
@@ -67,26 +64,36 @@ stops_types r i d cs a b c w (stop.Unknown u) e h opened stops =
     let passed : refs a ≡ before = h.read ∙ parts_from 0 (take i r) in
     let known : AreKnown (length r) before = rw (h.types, passed) at h.linked.known in
     let own : references s.0.shape ≡ stops.front ++ u ∷ stops.back = ap references s.3
-        ∙ sym (parts_of i d) ∙ stops.tos_are in
-    let first : IsFirstUnknown r i u =
-        (take i r, s.0, drop (suc i) r, stops.front, stops.back, s.1, s.2, own,
-        checked_by (length r) (take i r) known, rw same at stops.known, rw same at stops.unknown) in
+    ∙ sym (parts_of i d) ∙ stops.tos_are in
+    let first : IsFirstUnknown r i u = (
+      take i r,
+      s.0,
+      drop (suc i) r,
+      stops.front,
+      stops.back,
+      s.1,
+      s.2,
+      own,
+      checked_by (length r) (take i r) known,
+      rw same at stops.known,
+      rw same at stops.unknown,
+    ) in
     let all : flat_map (λ (x : TypeInfo). references x.shape) r
-        ≡ before ++ (references s.0.shape ++ behind) =
-        ap (flat_map (λ (x : TypeInfo). references x.shape)) s.1
-        ∙ flat_map-append (λ (x : TypeInfo). references x.shape) (take i r)
-        (s.0 ∷ drop (suc i) r) in
+    ≡ before ++ (references s.0.shape ++ behind) =
+    ap (flat_map (λ (x : TypeInfo). references x.shape)) s.1
+    ∙ flat_map-append (λ (x : TypeInfo). references x.shape) (take i r)
+    (s.0 ∷ drop (suc i) r) in
     let next : before ++ (references s.0.shape ++ behind)
-        ≡ before ++ (stops.front ++ u ∷ (stops.back ++ behind)) =
-        ap (λ (ws : List ℕ). before ++ (ws ++ behind)) own
-        ∙ ap (λ (ws : List ℕ). before ++ ws) (append_assoc stops.front (u ∷ stops.back) behind) in
+    ≡ before ++ (stops.front ++ u ∷ (stops.back ++ behind)) =
+    ap (λ (ws : List ℕ). before ++ (ws ++ behind)) own
+    ∙ ap (λ (ws : List ℕ). before ++ ws) (append_assoc stops.front (u ∷ stops.back) behind) in
     let seam : before ++ (stops.front ++ u ∷ (stops.back ++ behind))
-        ≡ (before ++ (stops.front ++ u ∷ [])) ++ (stops.back ++ behind) =
-        ap (λ (ws : List ℕ). before ++ ws)
-        (sym (append_assoc stops.front (u ∷ []) (stops.back ++ behind)))
-        ∙ sym (append_assoc before (stops.front ++ u ∷ []) (stops.back ++ behind)) in
+    ≡ (before ++ (stops.front ++ u ∷ [])) ++ (stops.back ++ behind) =
+    ap (λ (ws : List ℕ). before ++ ws)
+    (sym (append_assoc stops.front (u ∷ []) (stops.back ++ behind)))
+    ∙ sym (append_assoc before (stops.front ++ u ∷ []) (stops.back ++ behind)) in
     let read : refs c ≡ before ++ (stops.front ++ u ∷ []) = stops.read
-        ∙ ap (λ (ws : List ℕ). ws ++ (stops.front ++ u ∷ [])) (ap reverse opened.read ∙ passed) in (
+    ∙ ap (λ (ws : List ℕ). ws ++ (stops.front ++ u ∷ [])) (ap reverse opened.read ∙ passed) in (
       ((fault_is_first r).2 i u).1 first,
       record {
         types = λ t. let is : c.looks.opened.entries ≡ i ∷ a.looks.opened.entries = stops.opened

@@ -1,13 +1,8 @@
 -- One pass over the types, type by type.
-use Rattle.std.proofs.Common.{
-    ◌≡◌, ℕ, zero, suc, ◌+◌, ◌≤◌, max, Bool, true, false, cond, List, [], ◌∷◌, ◌++◌, length, map,
-    reverse, take, drop, Some, refl, sym, ap, ◌∙◌, arith
-}
+use Rattle.std.proofs.Common.{◌≡◌, ℕ, zero, suc, ◌+◌, ◌≤◌, max, Bool, true, false, cond, List, [], ◌∷◌, ◌++◌, length, map, reverse, take, drop, Some, refl, sym, ap, ◌∙◌, arith}
 use Rattle.std.specs.Prelude.{◌==◌}
 use Rattle.std.proofs.lemmas.Bool.{eqb-true}
-use Rattle.std.proofs.lemmas.List.{
-    append_assoc, append-nil, map-append, length-map, take_all, drop_all
-}
+use Rattle.std.proofs.lemmas.List.{append_assoc, append-nil, map-append, length-map, take_all, drop_all}
 use Rattle.std.proofs.lemmas.Grind.{flat_map-append}
 use Rattle.registry_core.specs.declared.definition.TypeDef.{TypeDef}
 use Rattle.registry_core.specs.declared.type_info.TypeInfo.{TypeInfo}
@@ -31,10 +26,10 @@ rules_more (x ∷ r) t zero d e =
 rules_more (x ∷ r) t (suc i) d e =
     let at : t + 1 + i ≡ t + suc i = omega arith in
     ap (λ (xs : List Rule). rules_of t x.shape ++ xs)
-        (rules_more r (t + 1) i d e
-        ∙ ap (λ (k : ℕ). rules_from (t + 1) (take i r) ++ rules_of k d) at)
+    (rules_more r (t + 1) i d e
+    ∙ ap (λ (k : ℕ). rules_from (t + 1) (take i r) ++ rules_of k d) at)
     ∙ sym (append_assoc (rules_of t x.shape) (rules_from (t + 1) (take i r))
-        (rules_of (t + suc i) d))
+    (rules_of (t + suc i) d))
 
 widest_more : (r : List TypeInfo) (i : ℕ) (d : TypeDef) → shape r i ≡ Some d →
     widest (drop i r) ≡ max (width d) (widest (drop (suc i) r))
@@ -83,10 +78,10 @@ types_linked_more r i d cs ds a b c w e h o k =
     let step : i + 1 ≡ suc i = omega arith in
     let old = rules_from 0 (take i r) in
     let all : rules_from 0 (take (i + 1) r) ≡ old ++ rules_of i d =
-        ap (λ (j : ℕ). rules_from 0 (take j r)) step ∙ rules_more r 0 i d e
-        ∙ ap (λ (j : ℕ). old ++ rules_of j d) (omega arith) in
+    ap (λ (j : ℕ). rules_from 0 (take j r)) step ∙ rules_more r 0 i d e
+    ∙ ap (λ (j : ℕ). old ++ rules_of j d) (omega arith) in
     let len : length cs ≡ 0 + length old = ap length h.counters ∙ length-map old counter_of
-        ∙ omega arith in
+    ∙ omega arith in
     record {
       linked = k.reads.linked;
       types = k.reads.types ∙ o.types ∙ h.types;

@@ -1,14 +1,9 @@
 -- References that were not propagated, and the parts of rules.
-use Rattle.std.proofs.Common.{
-    ◌≡◌, ◌≢◌, ℕ, zero, suc, ◌+◌, ◌-◌, ◌<◌, ◌≤◌, Bool, true, false, cond, List, [], ◌∷◌, ◌++◌,
-    length, map, get_or, refl, sym, ap, ◌∙◌, ◌⊎◌, add-zero, arith, inl, inr
-}
+use Rattle.std.proofs.Common.{◌≡◌, ◌≢◌, ℕ, zero, suc, ◌+◌, ◌-◌, ◌<◌, ◌≤◌, Bool, true, false, cond, List, [], ◌∷◌, ◌++◌, length, map, get_or, refl, sym, ap, ◌∙◌, ◌⊎◌, add-zero, arith, inl, inr}
 use Rattle.std.specs.Prelude.{◌==◌, ◌&&◌}
 use Rattle.std.specs.List.{list_all, list_any}
 use Rattle.std.proofs.lemmas.Bool.{eqb-true, eq-eqb, cases_lt, cases_eq}
-use Rattle.std.proofs.lemmas.List.{
-    length-append, length-map, get_or_append_left, get_or-append_right, get_or-append-add
-}
+use Rattle.std.proofs.lemmas.List.{length-append, length-map, get_or_append_left, get_or-append_right, get_or-append-add}
 use Rattle.graph_core.specs.Counts.{times}
 use Rattle.widths_core.specs.Rules.{Rule, all_parts, numbers_from}
 use Rattle.widths_core.specs.Consistent.{nothing, waiting}
@@ -46,8 +41,10 @@ waiting-past : (e i : ℕ) (xs : List ℕ) (k : ℕ) (propagated : List ℕ) →
     waiting e xs k (i ∷ propagated) ≡ waiting e xs k propagated
 waiting-past e i [] k propagated lt = refl
 waiting-past e i (x ∷ xs) k propagated lt =
-    rw (times-other e i propagated (omega (arith, lt)),
-    waiting-past (e + 1) i xs k propagated (omega (arith, lt))) refl
+    rw (
+      times-other e i propagated (omega (arith, lt)),
+      waiting-past (e + 1) i xs k propagated (omega (arith, lt)),
+    ) refl
 
 -- reference e + j is propagated
 pub waiting-propagated : (j e : ℕ) (xs : List ℕ) (k : ℕ) (propagated : List ℕ) → j < length xs →
@@ -60,16 +57,16 @@ waiting-propagated zero e (x ∷ xs) k propagated lt none =
     let none' : times e propagated ≡ 0 = rw at at none in
     let before : (times e propagated == 0) ≡ true = eq-eqb (times e propagated) 0 none' in
     let after : (times e (e ∷ propagated) == 0) ≡ false =
-        differ (times e (e ∷ propagated)) 0 (omega (arith, times-same e propagated)) in
+    differ (times e (e ∷ propagated)) 0 (omega (arith, times-same e propagated)) in
     let rest : waiting (e + 1) xs k (e ∷ propagated) ≡ waiting (e + 1) xs k propagated =
-        waiting-past (e + 1) e xs k propagated (omega arith) in
+    waiting-past (e + 1) e xs k propagated (omega arith) in
     rw (at, before, after, and_true (x == k), and_false (x == k), rest) (omega arith)
 waiting-propagated (suc j) e (x ∷ xs) k propagated lt none =
     let at : e + 1 + j ≡ e + suc j = omega arith in
     let more = rw at at (waiting-propagated j (e + 1) xs k propagated (omega (arith, lt))
-        (rw at none)) in
+    (rw at none)) in
     let here : times e ((e + suc j) ∷ propagated) ≡ times e propagated =
-        times-other e (e + suc j) propagated (omega arith) in
+    times-other e (e + suc j) propagated (omega arith) in
     rw here (omega (arith, more))
 
 pub waiting-none : (e : ℕ) (xs : List ℕ) (k : ℕ) (propagated : List ℕ) →
@@ -78,15 +75,15 @@ pub waiting-none : (e : ℕ) (xs : List ℕ) (k : ℕ) (propagated : List ℕ) �
 waiting-none e [] k propagated none j lt is = absurd (omega (arith, lt))
 waiting-none e (x ∷ xs) k propagated none zero lt is =
     go (times e propagated == 0) refl (omega (arith, none)) where
-  go : (b : Bool) → (times e propagated == 0) ≡ b →
-      ◌≡◌ {A = ℕ} (cond ((x == k) && (times e propagated == 0)) 1 0) 0 →
-      0 < times (e + zero) propagated
-  go true f g = let one : ◌≡◌ {A = ℕ} (cond ((x == k) && (times e propagated == 0)) 1 0) 1 =
-      rw (eq-eqb x k is, f) refl in absurd (omega (arith, one, g))
-  go false f g = elim (cases_eq (times e propagated) 0) [
-    | inl zero_is ↦ let no = sym f ∙ eq-eqb (times e propagated) 0 zero_is in absurd cc
-    | inr more ↦ omega (arith, ap (λ (i : ℕ). times i propagated) (add-zero e), more)
-  ]
+      go : (b : Bool) → (times e propagated == 0) ≡ b →
+          ◌≡◌ {A = ℕ} (cond ((x == k) && (times e propagated == 0)) 1 0) 0 →
+          0 < times (e + zero) propagated
+      go true f g = let one : ◌≡◌ {A = ℕ} (cond ((x == k) && (times e propagated == 0)) 1 0) 1 =
+          rw (eq-eqb x k is, f) refl in absurd (omega (arith, one, g))
+      go false f g = elim (cases_eq (times e propagated) 0) [
+        | inl zero_is ↦ let no = sym f ∙ eq-eqb (times e propagated) 0 zero_is in absurd cc
+        | inr more ↦ omega (arith, ap (λ (i : ℕ). times i propagated) (add-zero e), more)
+      ]
 waiting-none e (x ∷ xs) k propagated none (suc j) lt is =
     let at : e + 1 + j ≡ e + suc j = omega arith in
     rw at at (waiting-none (e + 1) xs k propagated (omega (arith, none)) j (omega (arith, lt)) is)
@@ -99,12 +96,12 @@ waiting-zero e (x ∷ xs) k propagated h =
     here (cases_eq x k) (waiting-zero (e + 1) xs k propagated
     (λ j lt is. let at : e + suc j ≡ e + 1 + j = omega arith in
     rw at at (h (suc j) (omega (arith, lt)) is))) where
-  here : (x ≡ k) ⊎ (x ≢ k) → waiting (e + 1) xs k propagated ≡ 0 →
-      cond ((x == k) && (times e propagated == 0)) 1 0 + waiting (e + 1) xs k propagated ≡ 0
-  here (inl is) rest = let more : 0 < times e propagated =
-      omega (arith, ap (λ (i : ℕ). times i propagated) (add-zero e), h 0 (omega arith) is) in
-      rw (differ (times e propagated) 0 (omega arith), and_false (x == k), rest) refl
-  here (inr other) rest = rw (differ x k other, rest) refl
+      here : (x ≡ k) ⊎ (x ≢ k) → waiting (e + 1) xs k propagated ≡ 0 →
+          cond ((x == k) && (times e propagated == 0)) 1 0 + waiting (e + 1) xs k propagated ≡ 0
+      here (inl is) rest = let more : 0 < times e propagated =
+          omega (arith, ap (λ (i : ℕ). times i propagated) (add-zero e), h 0 (omega arith) is) in
+          rw (differ (times e propagated) 0 (omega arith), and_false (x == k), rest) refl
+      here (inr other) rest = rw (differ x k other, rest) refl
 
 pub waiting-append : (e : ℕ) (xs ys : List ℕ) (k : ℕ) (propagated : List ℕ) →
     waiting e (xs ++ ys) k propagated ≡ waiting e xs k propagated + waiting (e + length xs)
@@ -120,8 +117,13 @@ waiting-append e (x ∷ xs) ys k propagated =
 pub numbers-length : (s : ℕ) (xs : List Rule) → length (numbers_from s xs) ≡ length (all_parts xs)
 numbers-length s [] = refl
 numbers-length s (x ∷ xs) =
-    omega (arith, length-append (map (λ _. s) x.parts) (numbers_from (s + 1) xs),
-    length-append x.parts (all_parts xs), length-map x.parts (λ _. s), numbers-length (s + 1) xs)
+    omega (
+      arith,
+      length-append (map (λ _. s) x.parts) (numbers_from (s + 1) xs),
+      length-append x.parts (all_parts xs),
+      length-map x.parts (λ _. s),
+      numbers-length (s + 1) xs,
+    )
 
 same_at : (s : ℕ) (ps rest : List ℕ) (j : ℕ) → j < length ps →
     get_or (map (λ _. s) ps ++ rest) j 0 ≡ s
@@ -183,13 +185,16 @@ parts_any test s (x ∷ xs) j zero lt is h = elim (cases_lt j (length x.parts)) 
       omega (arith, more.0, is, later_at s x.parts (numbers_from (s + 1) xs) j behind))
 ]
 parts_any test s (x ∷ xs) j (suc k) lt is h = elim (cases_lt j (length x.parts)) [
-  | inl in_front ↦ absurd (omega (arith, is,
-      same_at s x.parts (numbers_from (s + 1) xs) j in_front))
+  | inl in_front ↦ absurd (omega (
+    arith,
+    is,
+    same_at s x.parts (numbers_from (s + 1) xs) j in_front,
+  ))
   | inr behind ↦
       parts_any test (s + 1) xs (j - length x.parts) k
-          (omega (arith, lt, behind, length-append x.parts (all_parts xs)))
-          (omega (arith, is, later_at s x.parts (numbers_from (s + 1) xs) j behind))
-          (rw (get_or-append_right x.parts (all_parts xs) (length x.parts) j 0 refl behind) at h)
+      (omega (arith, lt, behind, length-append x.parts (all_parts xs)))
+      (omega (arith, is, later_at s x.parts (numbers_from (s + 1) xs) j behind))
+      (rw (get_or-append_right x.parts (all_parts xs) (length x.parts) j 0 refl behind) at h)
 ]
 
 -- what holds of all parts of rule s + k holds of a reference for it
@@ -206,13 +211,16 @@ parts_all test s (x ∷ xs) j zero lt is h = elim (cases_lt j (length x.parts)) 
       omega (arith, more.0, is, later_at s x.parts (numbers_from (s + 1) xs) j behind))
 ]
 parts_all test s (x ∷ xs) j (suc k) lt is h = elim (cases_lt j (length x.parts)) [
-  | inl in_front ↦ absurd (omega (arith, is,
-      same_at s x.parts (numbers_from (s + 1) xs) j in_front))
+  | inl in_front ↦ absurd (omega (
+    arith,
+    is,
+    same_at s x.parts (numbers_from (s + 1) xs) j in_front,
+  ))
   | inr behind ↦
       ap test (get_or-append_right x.parts (all_parts xs) (length x.parts) j 0 refl behind)
-          ∙ parts_all test (s + 1) xs (j - length x.parts) k
-          (omega (arith, lt, behind, length-append x.parts (all_parts xs)))
-          (omega (arith, is, later_at s x.parts (numbers_from (s + 1) xs) j behind)) h
+      ∙ parts_all test (s + 1) xs (j - length x.parts) k
+      (omega (arith, lt, behind, length-append x.parts (all_parts xs)))
+      (omega (arith, is, later_at s x.parts (numbers_from (s + 1) xs) j behind)) h
 ]
 
 -- what holds of each reference for rule s + k holds of all its parts
@@ -228,12 +236,12 @@ parts_each test s (x ∷ xs) zero h =
 parts_each test s (x ∷ xs) (suc k) h = parts_each test (s + 1) xs k (λ j lt is.
     let there : length x.parts + j - length x.parts ≡ j = omega arith in
     let at : get_or (numbers_from s (x ∷ xs)) (length x.parts + j) 0
-        ≡ get_or (numbers_from (s + 1) xs) j 0 =
-        later_at s x.parts (numbers_from (s + 1) xs) (length x.parts + j) (omega arith)
-        ∙ ap (λ (i : ℕ). get_or (numbers_from (s + 1) xs) i 0) there in
+    ≡ get_or (numbers_from (s + 1) xs) j 0 =
+    later_at s x.parts (numbers_from (s + 1) xs) (length x.parts + j) (omega arith)
+    ∙ ap (λ (i : ℕ). get_or (numbers_from (s + 1) xs) i 0) there in
     ap test (sym (get_or-append-add x.parts (all_parts xs) j 0))
-        ∙ h (length x.parts + j) (omega (arith, lt, length-append x.parts (all_parts xs)))
-        (omega (arith, at, is)))
+    ∙ h (length x.parts + j) (omega (arith, lt, length-append x.parts (all_parts xs)))
+    (omega (arith, at, is)))
 
 -- ---- before anything is propagated
 
@@ -251,19 +259,30 @@ waiting_start e s [] k = refl
 waiting_start e s (x ∷ xs) zero =
     let at : s + zero ≡ s = omega arith in
     let front : waiting e (map (λ _. s) x.parts) (s + zero) [] ≡ length x.parts =
-        rw at (waiting_same e s x.parts) in
+    rw at (waiting_same e s x.parts) in
     let back : waiting (e + length (map (λ _. s) x.parts)) (numbers_from (s + 1) xs) (s + zero) []
-        ≡ 0 = waiting-zero (e + length (map (λ _. s) x.parts)) (numbers_from (s + 1) xs) (s + zero)
-        [] (λ j lt is. absurd (omega (arith, is,
-        (numbers-within (s + 1) xs j (omega (arith, lt, numbers-length (s + 1) xs))).0))) in
-    omega (arith, front, back,
-        waiting-append e (map (λ _. s) x.parts) (numbers_from (s + 1) xs) (s + zero) [])
+    ≡ 0 = waiting-zero (e + length (map (λ _. s) x.parts)) (numbers_from (s + 1) xs) (s + zero)
+    [] (λ j lt is. absurd (omega (
+      arith,
+      is,
+      (numbers-within (s + 1) xs j (omega (arith, lt, numbers-length (s + 1) xs))).0,
+    ))) in
+    omega (
+      arith,
+      front,
+      back,
+      waiting-append e (map (λ _. s) x.parts) (numbers_from (s + 1) xs) (s + zero) [],
+    )
 waiting_start e s (x ∷ xs) (suc k) =
     let at : s + 1 + k ≡ s + suc k = omega arith in
     let front : waiting e (map (λ _. s) x.parts) (s + suc k) [] ≡ 0 =
-        waiting_other e s (s + suc k) x.parts (omega arith) in
+    waiting_other e s (s + suc k) x.parts (omega arith) in
     let back : waiting (e + length (map (λ _. s) x.parts)) (numbers_from (s + 1) xs) (s + suc k) []
-        ≡ length (get_or xs k nothing).parts =
-        rw at at (waiting_start (e + length (map (λ _. s) x.parts)) (s + 1) xs k) in
-    omega (arith, front, back,
-        waiting-append e (map (λ _. s) x.parts) (numbers_from (s + 1) xs) (s + suc k) [])
+    ≡ length (get_or xs k nothing).parts =
+    rw at at (waiting_start (e + length (map (λ _. s) x.parts)) (s + 1) xs k) in
+    omega (
+      arith,
+      front,
+      back,
+      waiting-append e (map (λ _. s) x.parts) (numbers_from (s + 1) xs) (s + suc k) [],
+    )

@@ -1,8 +1,5 @@
 -- What is found so far, and what each step makes of it.
-use Rattle.std.specs.Prelude.{
-    ℕ, ◌<◌, length, ◌-◌, List, ◌∷◌, [], ◌++◌, Bool, true, false, ◌||◌, ◌==◌, Option, Some, None,
-    slice_index_or, slice_set, if◌then◌else◌
-}
+use Rattle.std.specs.Prelude.{ℕ, ◌<◌, length, ◌-◌, List, ◌∷◌, [], ◌++◌, Bool, true, false, ◌||◌, ◌==◌, Option, Some, None, slice_index_or, slice_set, if◌then◌else◌}
 use Rattle.scale_core.specs.declared.compact.Target.{Target}
 use Rattle.widths_core.specs.declared.class.Class.{Class}
 use Rattle.widths_core.specs.declared.class.Class.TheVariants as class
@@ -20,8 +17,13 @@ pub record Progress : Type 0 where
   pub settled : List ℕ
 
 abbrev pub state_of : Settling → Progress
-state_of s = record { counters = s.counters.items; classes = s.classes.items; targets =
-    s.targets.items; settled = s.settled.items }
+state_of s = record {
+  counters = s.counters.items;
+  classes = s.classes.items;
+  targets =
+      s.targets.items;
+  settled = s.settled.items;
+}
 
 abbrev pub no_counter : Counter
 no_counter = record { owner = 0; kind = kind.Idle; left = 0; sized = false }
@@ -36,9 +38,13 @@ is_sized class.Sized = true
 
 -- this was found of type t, which settles unless it has
 abbrev pub settled_as : Progress → ℕ → Found → Progress
-settled_as s t f = if has_value (known_class s.classes t) then s else record
-    { counters = s.counters; classes = slice_set s.classes t f.class; targets =
-    slice_set s.targets t f.target; settled = s.settled ++ t ∷ [] }
+settled_as s t f = if has_value (known_class s.classes t) then s else record {
+  counters = s.counters;
+  classes = slice_set s.classes t f.class;
+  targets =
+      slice_set s.targets t f.target;
+  settled = s.settled ++ t ∷ [];
+}
 
 abbrev pub settled_by : Progress → ℕ → Option Found → Progress
 settled_by s t None = s
@@ -49,12 +55,22 @@ abbrev pub completed : Progress → Counter → Option Target → Progress
 completed s c last = settled_by s c.owner (outcome c.kind c.sized last)
 
 abbrev pub counted : Counter → Class → Counter
-counted c part = record { owner = c.owner; kind = c.kind; left = c.left - 1; sized =
-    c.sized || is_sized part }
+counted c part = record {
+  owner = c.owner;
+  kind = c.kind;
+  left = c.left - 1;
+  sized =
+      c.sized || is_sized part;
+}
 
 abbrev pub counters_set : Progress → ℕ → Counter → Progress
-counters_set s k c = record { counters = slice_set s.counters k c; classes = s.classes; targets =
-    s.targets; settled = s.settled }
+counters_set s k c = record {
+  counters = slice_set s.counters k c;
+  classes = s.classes;
+  targets =
+      s.targets;
+  settled = s.settled;
+}
 
 -- a part of counter k has settled as this
 abbrev pub part_settled : Progress → ℕ → Found → Progress

@@ -1,7 +1,5 @@
 -- References are propagated: what was found of the type that one is to is counted by its counter.
-use Rattle.std.specs.Prelude.{
-    ◌≡◌, ℕ, ◌+◌, ◌<◌, ◌≤◌, List, [], ◌++◌, length, take, true, false, None, ◌==◌, if◌then◌else◌
-}
+use Rattle.std.specs.Prelude.{◌≡◌, ℕ, ◌+◌, ◌<◌, ◌≤◌, List, [], ◌++◌, length, take, true, false, None, ◌==◌, if◌then◌else◌}
 use Rattle.registry_core.specs.declared.type_info.TypeInfo.{TypeInfo}
 use Rattle.widths_core.specs.declared.class.Class.TheVariants as class
 use Rattle.widths_core.specs.declared.counter.Kind.TheVariants as kind
@@ -74,11 +72,11 @@ pub record AreCompactsSettled (r : List TypeInfo) (s : Progress) : Type 0 where
 
 -- the references to all types that have settled were propagated
 pub record PropagatesAll (r : List TypeInfo) (a b : Graph) (s n : Progress) (done : ℕ) : Type 0
-    where
-  pub propagated : IsPropagatedTo r b n done
-  pub all : done ≡ length n.settled
-  pub follows : Follows s n
-  pub lists : Lists a b
+  where
+    pub propagated : IsPropagatedTo r b n done
+    pub all : done ≡ length n.settled
+    pub follows : Follows s n
+    pub lists : Lists a b
 
 -- nothing was propagated, and nothing has settled but what is right
 pub record IsStart (r : List TypeInfo) (d : Graph) (s : Progress) : Type 0 where

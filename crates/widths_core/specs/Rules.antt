@@ -1,9 +1,6 @@
 -- What settles a type: rules over the types of its parts, in the order of the references in its
 -- definition.
-use Rattle.std.specs.Prelude.{
-    ℕ, zero, suc, ◌+◌, List, [], ◌∷◌, ◌++◌, length, map, flat_map, Bool, true, false, Option, Some,
-    None, ◌==◌, if◌then◌else◌
-}
+use Rattle.std.specs.Prelude.{ℕ, zero, suc, ◌+◌, List, [], ◌∷◌, ◌++◌, length, map, flat_map, Bool, true, false, Option, Some, None, ◌==◌, if◌then◌else◌}
 use Rattle.std.specs.List.{list_any}
 use Rattle.scale_core.specs.declared.compact.Target.{Target}
 use Rattle.scale_core.specs.declared.compact.Target.TheVariants as target
@@ -52,8 +49,11 @@ abbrev pub found_none : Found
 found_none = record { class = class.Empty; target = None }
 
 abbrev pub found_of_primitive : Primitive → Found
-found_of_primitive p = record { class = class.Sized; target =
-    target_from (λ u. None) (leads_primitive p) }
+found_of_primitive p = record {
+  class = class.Sized;
+  target =
+      target_from (λ u. None) (leads_primitive p);
+}
 
 abbrev pub rule : ℕ → Kind → List ℕ → Rule
 rule t k ps = record { owner = t; kind = k; parts = ps }

@@ -1,8 +1,6 @@
 -- What a type is made of, in a few bytes: its parts are a piece of the list of all references, its
 -- arms a row by their index.
-use Rattle.std.specs.Prelude.{
-    ◌≡◌, ℕ, ◌+◌, ◌<◌, ◌≤◌, List, length, take, drop, flat_map, Option, Some, None, slice_get
-}
+use Rattle.std.specs.Prelude.{◌≡◌, ℕ, ◌+◌, ◌<◌, ◌≤◌, List, length, take, drop, flat_map, Option, Some, None, slice_get}
 use Rattle.registry_core.specs.declared.definition.Arm.{Arm}
 use Rattle.registry_core.specs.declared.definition.TypeDef.{TypeDef}
 use Rattle.registry_core.specs.declared.definition.TypeDef.TheVariants as Def
@@ -134,19 +132,21 @@ IsStep r refs Row c (Def.BitSequence store order) s = s ≡ by_class c step.NoVa
 
 -- these are the references, and the steps and rows over them
 pub record IsTable (r : List TypeInfo) (refs : List ℕ) (rows : Rows) (steps : List Step) : Type 0
-    where
-  pub all : refs ≡ references_of r
-  pub paired : IsPaired rows
-  pub count : length steps ≡ length r
-  pub own : (t : ℕ) (d : TypeDef) (s : Step) → shape r t ≡ Some d → slice_get steps t ≡ Some s →
-      IsStep r (references_of r) (IsRow (references_of r) rows) (class_of r t) d s
+  where
+    pub all : refs ≡ references_of r
+    pub paired : IsPaired rows
+    pub count : length steps ≡ length r
+    pub own : (t : ℕ) (d : TypeDef) (s : Step) → shape r t ≡ Some d → slice_get steps t ≡ Some s →
+        IsStep r (references_of r) (IsRow (references_of r) rows) (class_of r t) d s
 
 -- the step of type t, with no word of where its row is
 abbrev pub IsStepAt : List TypeInfo → ℕ → Option Step → Type 0
-IsStepAt r t s = elim (shape r t)
-    [ Some d ↦ (x : Step) × (s ≡ Some x)
-    × IsStep r (references_of r) (λ from count arms. Unit {0}) (class_of r t) d x | None ↦
-    s ≡ None ]
+IsStepAt r t s = elim (shape r t) [
+  | Some d ↦ (x : Step) × (s ≡ Some x)
+      × IsStep r (references_of r) (λ from count arms. Unit {0}) (class_of r t) d x
+  | None ↦
+      s ≡ None
+]
 
 -- the class of a type of this step
 abbrev pub class_of_step : Step → Class

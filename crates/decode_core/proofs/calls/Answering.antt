@@ -1,8 +1,5 @@
 -- The answers of the runs as a whole, to a reader and to pieces, by what was fed.
-use Rattle.std.proofs.Common.{
-    ◌≡◌, ℕ, ◌+◌, ◌<◌, true, List, [], ◌∷◌, ◌++◌, length, take, drop, get_or, Option, Some, None, Ok,
-    Err, refl, sym, ap, subst, ◌∙◌, append-nil, inl, inr, flat_map
-}
+use Rattle.std.proofs.Common.{◌≡◌, ℕ, ◌+◌, ◌<◌, true, List, [], ◌∷◌, ◌++◌, length, take, drop, get_or, Option, Some, None, Ok, Err, refl, sym, ap, subst, ◌∙◌, append-nil, inl, inr, flat_map}
 use Rattle.std.specs.Prelude.{IfSome, Result, ◌⊎◌}
 use Rattle.std.proofs.lemmas.Grind.{flat_map-append}
 use Rattle.std.proofs.lemmas.List.{take-append-drop, take_more}
@@ -10,9 +7,7 @@ use Rattle.grammar_core.specs.Tree.{Tree}
 use Rattle.value_core.specs.Shown.{Seen}
 use Rattle.decode_core.specs.Decoding.{Decoding, FinishesDecoder, IsEnded, Led}
 use Rattle.decode_core.specs.Outcome.{Job, done, more, IsOutcome}
-use Rattle.decode_core.specs.Streaming.{
-    EndsAt, FeedsAll, IsFed, IsUnderWay, Joins, StopsOpen, Streams, Trails
-}
+use Rattle.decode_core.specs.Streaming.{EndsAt, FeedsAll, IsFed, IsUnderWay, Joins, StopsOpen, Streams, Trails}
 use Rattle.decode_core.specs.declared.fault.DecodeFault.{DecodeFault}
 use Rattle.decode_core.specs.declared.fault.OpenFault.{OpenFault}
 use Rattle.decode_core.specs.declared.pieces.PiecesFault.TheVariants as pieces
@@ -21,9 +16,7 @@ use Rattle.decode_core.specs.declared.stream.StreamFault.TheVariants as stream
 use Rattle.decode_core.proofs.calls.Feeding.{ended_stays}
 use Rattle.decode_core.proofs.lists.HeldBound.{held_is_bounded}
 use Rattle.decode_core.proofs.lists.Outcomes.{one_outcome}
-use Rattle.decode_core.proofs.calls.Streaming.{
-    Whole, done_ends, done_stays, no_value, under_way_ends
-}
+use Rattle.decode_core.proofs.calls.Streaming.{Whole, done_ends, done_stays, no_value, under_way_ends}
 
 -- ---- to a reader
 
@@ -46,9 +39,11 @@ pub end_streams : (known : Option (List ℕ)) (o : Option OpenFault) (j : Job) (
     FinishesDecoder d.job b (Err f) →
     IfSome known (λ bytes. Streams o j bytes (Err (stream.Decode f)))
 end_streams None o j d b f none same is h = tt
-end_streams (Some xs) o j d b f none same is h =
-    (none, subst (λ (i : Job). FinishesDecoder i xs (Err f)) same
-    (subst (λ (l : List ℕ). FinishesDecoder d.job l (Err f)) (sym is) h))
+end_streams (Some xs) o j d b f none same is h = (
+  none,
+  subst (λ (i : Job). FinishesDecoder i xs (Err f)) same
+      (subst (λ (l : List ℕ). FinishesDecoder d.job l (Err f)) (sym is) h),
+)
 
 pub trailing_streams : (known left : Option (List ℕ)) (o : Option OpenFault) (j : Job)
     (d : Decoding) → o ≡ None → d.job ≡ j → FeedsAll d known left (Ok true) →
@@ -156,11 +151,11 @@ pub joins_value : (o : Option OpenFault) (j : Job) (d : Decoding) (b : List ℕ)
     Joins o j b (Ok (v, n))
 joins_value o j d b v n none same h count f =
     let all : IsOutcome d.job b (done v.tree) f.0 =
-        subst (λ (l : List ℕ). IsOutcome d.job l (done v.tree) f.0) (sym h.is)
-        (done_stays d.job h.front h.rest v.tree f.0 f.3) in
+    subst (λ (l : List ℕ). IsOutcome d.job l (done v.tree) f.0) (sym h.is)
+    (done_stays d.job h.front h.rest v.tree f.0 f.3) in
     let out : IsOutcome d.job b (done v.tree) n =
-        subst (λ (m : ℕ). IsOutcome d.job b (done v.tree) m) (h.ends v.tree f.0 f.3 ∙ sym count)
-        all in
+    subst (λ (m : ℕ). IsOutcome d.job b (done v.tree) m) (h.ends v.tree f.0 f.3 ∙ sym count)
+    all in
     subst (λ (i : Job). Joins o i b (Ok (v, n))) same (joins_done o d.job b v n none f.1 f.2 out)
 
 fault_stays : (j : Job) (front rest : List ℕ) (n : ℕ) (f : DecodeFault) →
@@ -179,8 +174,8 @@ pub joins_fault : (o : Option OpenFault) (j : Job) (d : Decoding) (b : List ℕ)
     Joins o j b (Err (pieces.Decode f))
 joins_fault o j d b f none same h fault =
     let all : FinishesDecoder d.job b (Err f) =
-        subst (λ (l : List ℕ). FinishesDecoder d.job l (Err f)) (sym h.is)
-        (fault_stays d.job h.front h.rest d.taken f h.whole fault) in
+    subst (λ (l : List ℕ). FinishesDecoder d.job l (Err f)) (sym h.is)
+    (fault_stays d.job h.front h.rest d.taken f h.whole fault) in
     (none, subst (λ (i : Job). FinishesDecoder i b (Err f)) same all)
 
 pub joins_refused : (o : Option OpenFault) (j : Job) (d : Decoding) (b : List ℕ) (f : DecodeFault) →

@@ -1,16 +1,11 @@
 -- What turns on a piece tell is the outcome of all bytes so far.
-use Rattle.std.proofs.Common.{
-    ◌≡◌, ℕ, suc, ◌+◌, ◌-◌, ◌<◌, ◌≤◌, List, [], ◌++◌, length, take, drop, refl, sym, ap, subst, ◌∙◌,
-    append_assoc, Ok, Err, arith, inr, length-append, length-drop
-}
+use Rattle.std.proofs.Common.{◌≡◌, ℕ, suc, ◌+◌, ◌-◌, ◌<◌, ◌≤◌, List, [], ◌++◌, length, take, drop, refl, sym, ap, subst, ◌∙◌, append_assoc, Ok, Err, arith, inr, length-append, length-drop}
 use Rattle.std.proofs.lemmas.List.{append-nil, take_all, take-append-drop, length-take}
 use Rattle.registry_core.specs.declared.type_info.TypeInfo.{TypeInfo}
 use Rattle.grammar_core.specs.Reading.{Refusal, truncated}
 use Rattle.scale_core.specs.Number.{AreBytes}
 use Rattle.scale_core.proofs.Numbers.{both_bytes}
-use Rattle.decode_core.specs.Decoding.{
-    HoldsOf, IsDone, IsGoing, IsOf, IsWaiting, RanOut, built_tree
-}
+use Rattle.decode_core.specs.Decoding.{HoldsOf, IsDone, IsGoing, IsOf, IsWaiting, RanOut, built_tree}
 use Rattle.decode_core.specs.Decided.{Decided}
 use Rattle.decode_core.specs.Machine.{remain, start}
 use Rattle.decode_core.specs.Outcome.{Job, done, refused, more, too_long, IsOutcome}
@@ -24,17 +19,19 @@ use Rattle.decode_core.specs.declared.turned.Stopped.TheVariants as stop
 use Rattle.decode_core.proofs.lists.Decides.{not_cut}
 use Rattle.decode_core.proofs.steps.Holding.{holds_of}
 use Rattle.decode_core.proofs.steps.Refusing.{waits_told}
-use Rattle.decode_core.proofs.lists.Fed.{
-    Here, cut_here, done_here, refused_here, take_split, led_on, whole_told
-}
+use Rattle.decode_core.proofs.lists.Fed.{Here, cut_here, done_here, refused_here, take_split, led_on, whole_told}
 
 -- the bytes that are offered within the limit
 abbrev pub offered : Job → ℕ → List ℕ → List ℕ
 offered j n piece = take (j.bytes - n) piece
 
 pub of_moved : (j : Job) (s last : Running) → IsOf j s → IsSame s last → IsOf j last
-of_moved j s last h k = record { types = k.types ∙ h.types; ty = k.ty ∙ h.ty; limit = k.limit
-    ∙ h.limit }
+of_moved j s last h k = record {
+  types = k.types ∙ h.types;
+  ty = k.ty ∙ h.ty;
+  limit = k.limit
+      ∙ h.limit;
+}
 
 front_is : (j : Job) (b piece : List ℕ) (s : Running) (n : ℕ) → IsGoing j b s n →
     take j.bytes (b ++ piece) ≡ b ++ offered j n piece
@@ -48,37 +45,44 @@ moved_own : (j : Job) (b cut : List ℕ) (s last : Running) (n k : ℕ) → (g :
     (m : Moves s last (take k cut)) → b ++ cut ≡ (g.own ++ m.own) ++ (held_of last ++ drop k cut)
 moved_own j b cut s last n k g m =
     ap (λ (l : List ℕ). l ++ cut) g.is ∙ append_assoc g.own (held_of s) cut
-        ∙ ap (λ (l : List ℕ). g.own ++ (held_of s ++ l)) (sym (take-append-drop k cut))
+    ∙ ap (λ (l : List ℕ). g.own ++ (held_of s ++ l)) (sym (take-append-drop k cut))
     ∙ ap (λ (l : List ℕ). g.own ++ l)
-        (sym (append_assoc (held_of s) (take k cut) (drop k cut))
-        ∙ ap (λ (l : List ℕ). l ++ drop k cut) m.is
-        ∙ append_assoc m.own (held_of last) (drop k cut))
-        ∙ sym (append_assoc g.own m.own (held_of last ++ drop k cut))
+    (sym (append_assoc (held_of s) (take k cut) (drop k cut))
+    ∙ ap (λ (l : List ℕ). l ++ drop k cut) m.is
+    ∙ append_assoc m.own (held_of last) (drop k cut))
+    ∙ sym (append_assoc g.own m.own (held_of last ++ drop k cut))
 
 pub moved_led : (j : Job) (b : List ℕ) (s last : Running) (n : ℕ) (x : List ℕ) →
     (g : IsGoing j b s n) → (m : Moves s last x) →
     TurnsLead j.registry (start j.depth j.ty) (state_of last.built) (g.own ++ m.own)
 moved_led j b s last n x g m =
     let one : TurnsLead j.registry (state_of s.built) (state_of last.built) m.own =
-        subst (λ (r : List TypeInfo). TurnsLead r (state_of s.built) (state_of last.built) m.own)
-        g.same.types (record { tells = m.tells; level = m.level }) in
+    subst (λ (r : List TypeInfo). TurnsLead r (state_of s.built) (state_of last.built) m.own)
+    g.same.types (record { tells = m.tells; level = m.level }) in
     led_on j.registry (start j.depth j.ty) (state_of s.built) (state_of last.built) g.own m.own
-        g.led one
+    g.led one
 
 -- where the turns stopped in the input
 here : (j : Job) (b piece : List ℕ) (s last : Running) (n k : ℕ) → (g : IsGoing j b s n) →
     (m : Moves s last (take k (offered j n piece))) →
     Here j (b ++ piece) (state_of last.built) (held_of last ++ drop k (offered j n piece))
 here j b piece s last n k g m =
-    record { own = g.own ++ m.own; led = moved_led j b s last n (take k (offered j n piece)) g m;
-    is = front_is j b piece s n g ∙ moved_own j b (offered j n piece) s last n k g m }
+    record {
+      own = g.own ++ m.own;
+      led = moved_led j b s last n (take k (offered j n piece)) g m;
+      is = front_is j b piece s n g ∙ moved_own j b (offered j n piece) s last n k g m;
+    }
 
 -- how many bytes there are within the limit
 front_count : (j : Job) (b piece : List ℕ) (s : Running) (n : ℕ) → (g : IsGoing j b s n) →
     n + length (offered j n piece) ≡ length (take j.bytes (b ++ piece))
 front_count j b piece s n g =
-    omega (arith, g.count, ap length (front_is j b piece s n g),
-    length-append b (offered j n piece))
+    omega (
+      arith,
+      g.count,
+      ap length (front_is j b piece s n g),
+      length-append b (offered j n piece),
+    )
 
 -- ---- the value is whole
 
@@ -91,16 +95,23 @@ fed_done j b piece s last n k g le m st sound =
     let rest = held_of last ++ drop k cut in
     let of = of_moved j s last g.same m.same in
     let tells : (x : List ℕ) → remain j.registry (state_of last.built) x ≡ told [] (Ok x) =
-        λ x. ap (λ (r : List TypeInfo). remain r (state_of last.built) x) (sym of.types) ∙ st.0 x in
+    λ x. ap (λ (r : List TypeInfo). remain r (state_of last.built) x) (sym of.types) ∙ st.0 x in
     let one = done_here j (b ++ piece) (state_of last.built) rest (n + length cut)
-        (here j b piece s last n k g m) (tells rest) (front_count j b piece s n g) in
+    (here j b piece s last n k g m) (tells rest) (front_count j b piece s n g) in
     let left : length rest ≡ length cut - k = ap (λ (l : List ℕ). length (l ++ drop k cut)) st.1
-        ∙ length-drop k cut in
+    ∙ length-drop k cut in
     let count : n + length cut - length rest ≡ n + k = omega (arith, left, le) in
     let few : length cut ≤ j.bytes - n = omega (arith, length-take (j.bytes - n) piece) in
-    record { same = of; whole = tells; nothing = st.1; is_whole = st.2; sound = sound; outcome =
-        subst (λ (c : ℕ). IsOutcome j (b ++ piece) (done (built_tree last.built)) c) count one;
-        fits = omega (arith, le, few, g.fits) }
+    record {
+      same = of;
+      whole = tells;
+      nothing = st.1;
+      is_whole = st.2;
+      sound = sound;
+      outcome =
+          subst (λ (c : ℕ). IsOutcome j (b ++ piece) (done (built_tree last.built)) c) count one;
+      fits = omega (arith, le, few, g.fits);
+    }
 
 -- ---- bytes are missing
 
@@ -116,40 +127,48 @@ fed_more j b piece s last n k g le m st sound are short =
     let of = of_moved j s last g.same m.same in
     let h = here j b piece s last n k g m in
     let input_is : b ++ piece ≡ (g.own ++ m.own) ++ held_of last =
-        ap (λ (l : List ℕ). b ++ l) (sym whole) ∙ moved_own j b cut s last n k g m
-        ∙ ap (λ (l : List ℕ). (g.own ++ m.own) ++ l)
-        (ap (λ (l : List ℕ). held_of last ++ l) st.0 ∙ append-nil (held_of last)) in
+    ap (λ (l : List ℕ). b ++ l) (sym whole) ∙ moved_own j b cut s last n k g m
+    ∙ ap (λ (l : List ℕ). (g.own ++ m.own) ++ l)
+    (ap (λ (l : List ℕ). held_of last ++ l) st.0 ∙ append-nil (held_of last)) in
     let count : n + k ≡ length (b ++ piece) =
-        omega (arith, g.count, length-append b piece, all, ap length whole) in
+    omega (arith, g.count, length-append b piece, all, ap length whole) in
     let rest = held_of last ++ drop k cut in
     let nil : rest ≡ held_of last = ap (λ (l : List ℕ). held_of last ++ l) st.0
-        ∙ append-nil (held_of last) in
+    ∙ append-nil (held_of last) in
     let tells : remain j.registry (state_of last.built) rest ≡ told []
-        (Err ((truncated, st.1.left), rest)) =
-        rw nil (ap (λ (r : List TypeInfo). remain r (state_of last.built) (held_of last))
-        (sym of.types) ∙ waits_told last st.1) in
+    (Err ((truncated, st.1.left), rest)) =
+    rw nil (ap (λ (r : List TypeInfo). remain r (state_of last.built) (held_of last))
+    (sym of.types) ∙ waits_told last st.1) in
     let one = cut_here j (b ++ piece) (state_of last.built) rest st.1.left h tells in
     let led = moved_led j b s last n (take k cut) g m in
     let stops : remain j.registry (state_of last.built) (held_of last) ≡ told []
-        (Err ((truncated, st.1.left), held_of last)) =
-        ap (λ (r : List TypeInfo). remain r (state_of last.built) (held_of last)) (sym of.types)
-        ∙ waits_told last st.1 in
+    (Err ((truncated, st.1.left), held_of last)) =
+    ap (λ (r : List TypeInfo). remain r (state_of last.built) (held_of last)) (sym of.types)
+    ∙ waits_told last st.1 in
     let reads : told_at j.registry (suc j.depth) j.ty (b ++ piece)
-        ≡ told last.built.entries (Err ((truncated, st.1.left), held_of last)) =
+    ≡ told last.built.entries (Err ((truncated, st.1.left), held_of last)) =
     ap (told_at j.registry (suc j.depth) j.ty) input_is
-        ∙ whole_told j.registry j.depth j.ty (state_of last.built) (g.own ++ m.own) (held_of last)
-        led ∙ ap (after last.built.entries) stops
-        ∙ ap (λ (xs : List Entry). told xs (Err ((truncated, st.1.left), held_of last)))
-        (append-nil last.built.entries) in
+    ∙ whole_told j.registry j.depth j.ty (state_of last.built) (g.own ++ m.own) (held_of last)
+    led ∙ ap (after last.built.entries) stops
+    ∙ ap (λ (xs : List Entry). told xs (Err ((truncated, st.1.left), held_of last)))
+    (append-nil last.built.entries) in
     let all_bytes = both_bytes b piece g.are_bytes are in
     let waiting : IsWaiting j (b ++ piece) last =
-        record { wants = st.1; reads = reads; sound = sound } in
+    record { wants = st.1; reads = reads; sound = sound } in
     let full : take j.bytes (b ++ piece) ≡ b ++ piece =
-        take_all j.bytes (b ++ piece)
-        (omega (arith, length-append b piece, g.count, g.fits, short)) in (
-      record { same = of; own = g.own ++ m.own; is = input_is; are_bytes = all_bytes; led = led;
-          stands = inr waiting; count = count; fits =
-          omega (arith, count, length-append b piece, g.count, g.fits, short) },
+    take_all j.bytes (b ++ piece)
+    (omega (arith, length-append b piece, g.count, g.fits, short)) in (
+      record {
+        same = of;
+        own = g.own ++ m.own;
+        is = input_is;
+        are_bytes = all_bytes;
+        led = led;
+        stands = inr waiting;
+        count = count;
+        fits =
+            omega (arith, count, length-append b piece, g.count, g.fits, short);
+      },
       (rw full at one, omega (arith, length-append b piece, g.count, g.fits, short), count),
       holds_of j (b ++ piece) last of all_bytes waiting,
     )
@@ -164,13 +183,15 @@ fed_long j b piece s last n k g le m st long =
     let h = here j b piece s last n k g m in
     let rest = held_of last ++ drop k cut in
     let nil : rest ≡ held_of last = ap (λ (l : List ℕ). held_of last ++ l) st.0
-        ∙ append-nil (held_of last) in
+    ∙ append-nil (held_of last) in
     let tells : remain j.registry (state_of last.built) rest ≡ told []
-        (Err ((truncated, st.1.left), rest)) =
-        rw nil (ap (λ (r : List TypeInfo). remain r (state_of last.built) (held_of last))
-        (sym of.types) ∙ waits_told last st.1) in
-    (cut_here j (b ++ piece) (state_of last.built) rest st.1.left h tells,
-        omega (arith, length-append b piece, g.count, g.fits, long), refl)
+    (Err ((truncated, st.1.left), rest)) =
+    rw nil (ap (λ (r : List TypeInfo). remain r (state_of last.built) (held_of last))
+    (sym of.types) ∙ waits_told last st.1) in (
+      cut_here j (b ++ piece) (state_of last.built) rest st.1.left h tells,
+      omega (arith, length-append b piece, g.count, g.fits, long),
+      refl,
+    )
 
 -- ---- the next node is refused
 
@@ -179,7 +200,7 @@ pub fed_refused : (j : Job) (b piece : List ℕ) (s last : Running) (n k held : 
     k ≤ length (offered j n piece) → Moves s last (take k (offered j n piece)) →
     EndsTurns last (drop k (offered j n piece)) (stop.Refused held told_reason at len) →
     (held ≤ n + k) × ((e : Refusal) × (told_reason ≡ reason_of e)
-        × IsOutcome j (b ++ piece) (refused e (n + k - held + at)) (n + k - held + len))
+    × IsOutcome j (b ++ piece) (refused e (n + k - held + at)) (n + k - held + len))
 fed_refused j b piece s last n k held told_reason at len g le m st =
     let cut = offered j n piece in
     let x = held_of last ++ drop k cut in
@@ -189,24 +210,37 @@ fed_refused j b piece s last n k held told_reason at len g le m st =
     let e = st.0 in
     let left = st.1 in
     let tells : remain j.registry (state_of last.built) x ≡ told [] (Err ((e, left), x)) =
-        ap (λ (r : List TypeInfo). remain r (state_of last.built) x) (sym of.types) ∙ st.6 in
+    ap (λ (r : List TypeInfo). remain r (state_of last.built) x) (sym of.types) ∙ st.6 in
     let decided = subst (λ (r : List TypeInfo). Decided r (state_of last.built) x e left len)
-        of.types st.7 in
+    of.types st.7 in
     let one = refused_here j (b ++ piece) (state_of last.built) x (n + length cut) len e left h
-        counted (not_cut e st.2) decided tells in
+    counted (not_cut e st.2) decided tells in
     let x_count : length x ≡ held + (length cut - k) =
-        omega (arith, length-append (held_of last) (drop k cut), length-drop k cut, st.4) in
+    omega (arith, length-append (held_of last) (drop k cut), length-drop k cut, st.4) in
     let own_count = ap length (moved_own j b cut s last n k g m) in
     let within : held ≤ n + k =
-        omega (arith, own_count, length-append b cut, length-append (g.own ++ m.own) x, x_count,
-        g.count, le) in
+    omega (
+      arith,
+      own_count,
+      length-append b cut,
+      length-append (g.own ++ m.own) x,
+      x_count,
+      g.count,
+      le,
+    ) in
     let place_is : n + length cut - length left ≡ n + k - held + at =
-        omega (arith, x_count, st.5, decided.low, le, within) in
+    omega (arith, x_count, st.5, decided.low, le, within) in
     let taken_is : n + length cut - length x + len ≡ n + k - held + len =
-        omega (arith, x_count, le, within) in
-    (within, (e, st.3, subst (λ (c : ℕ). IsOutcome j (b ++ piece) (refused e (n + k - held + at)) c)
-        taken_is (subst (λ (p : ℕ). IsOutcome j (b ++ piece) (refused e p)
-        (n + length cut - length x + len)) place_is one)))
+    omega (arith, x_count, le, within) in (
+      within,
+      (
+        e,
+        st.3,
+        subst (λ (c : ℕ). IsOutcome j (b ++ piece) (refused e (n + k - held + at)) c)
+            taken_is (subst (λ (p : ℕ). IsOutcome j (b ++ piece) (refused e p)
+            (n + length cut - length x + len)) place_is one),
+      ),
+    )
 
 -- ---- memory is wanted
 
@@ -221,7 +255,24 @@ fed_short j b piece s last n k g le m w =
     let all = ap length (moved_own j b cut s last n k g m) in
     let own = g.own ++ m.own in
     let count : n + k ≡ length own + length (held_of last) =
-        omega (arith, all, length-append b cut, length-append own rest,
-        length-append (held_of last) (drop k cut), length-drop k cut, g.count, le) in
-    record { s = last; same = of_moved j s last g.same m.same; own = own; rest = drop k cut; is =
-        h.is; led = h.led; count = count; wants = w }
+    omega (
+      arith,
+      all,
+      length-append b cut,
+      length-append own rest,
+      length-append (held_of last) (drop k cut),
+      length-drop k cut,
+      g.count,
+      le,
+    ) in
+    record {
+      s = last;
+      same = of_moved j s last g.same m.same;
+      own = own;
+      rest = drop k cut;
+      is =
+          h.is;
+      led = h.led;
+      count = count;
+      wants = w;
+    }

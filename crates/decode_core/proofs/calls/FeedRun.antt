@@ -1,8 +1,5 @@
 -- What the turns on a piece made of a value on its way, by the limit of bytes.
-use Rattle.std.proofs.Common.{
-    ◌≡◌, ℕ, ◌+◌, ◌-◌, ◌<◌, ◌≤◌, true, List, ◌++◌, length, take, drop, Ok, refl, sym, ap, subst, ◌∙◌,
-    arith, inl, inr, length-append, length-drop
-}
+use Rattle.std.proofs.Common.{◌≡◌, ℕ, ◌+◌, ◌-◌, ◌<◌, ◌≤◌, true, List, ◌++◌, length, take, drop, Ok, refl, sym, ap, subst, ◌∙◌, arith, inl, inr, length-append, length-drop}
 use Rattle.std.proofs.lemmas.List.{length-take}
 use Rattle.scale_core.specs.Number.{AreBytes}
 use Rattle.decode_core.specs.Decoding.{HoldsOf, IsDone, IsEnded, IsGoing, RunLed}
@@ -23,7 +20,7 @@ tells_offered : (j : Job) (piece slice : List ℕ) (s new : Running) (limit take
     FeedTells s new slice k why → FeedTells s new (offered j taken piece) k why
 tells_offered j piece slice s new limit taken k why e is f =
     let same : slice ≡ offered j taken piece = is
-        ∙ ap (λ (l : ℕ). take (l - taken) piece) (sym e) in
+    ∙ ap (λ (l : ℕ). take (l - taken) piece) (sym e) in
     subst (λ (l : List ℕ). FeedTells s new l k why) same f
 
 pub run_done : (j : Job) (b piece slice : List ℕ) (s new : Running) (limit taken k : ℕ)
@@ -42,12 +39,12 @@ pub run_long : (j : Job) (b piece slice : List ℕ) (s new : Running) (limit tak
     IsEnded j (b ++ piece) (record { reason = reason.TooLong; at = limit }) limit
 run_long j b piece slice s new limit taken k why e is led f w cut =
     let long : j.bytes - taken < length piece =
-        omega (arith, e, ap length is, length-take (limit - taken) piece, cut) in
+    omega (arith, e, ap length is, length-take (limit - taken) piece, cut) in
     let out = led_long j b piece s new taken k led
-        (subst (FeedTells s new (offered j taken piece) k) w
-        (tells_offered j piece slice s new limit taken k why e is f)) long in
+    (subst (FeedTells s new (offered j taken piece) k) w
+    (tells_offered j piece slice s new limit taken k why e is f)) long in
     subst (λ (l : ℕ). IsEnded j (b ++ piece) (record { reason = reason.TooLong; at = l }) l) e
-        (inr (inl (refl, out)))
+    (inr (inl (refl, out)))
 
 pub run_more : (j : Job) (b piece slice : List ℕ) (s new : Running) (limit taken k : ℕ)
     (why : Stopped) → j.bytes ≡ limit → slice ≡ take (limit - taken) piece →
@@ -56,10 +53,10 @@ pub run_more : (j : Job) (b piece slice : List ℕ) (s new : Running) (limit tak
     × IsOutcome j (b ++ piece) more (taken + k) × HoldsOf j (b ++ piece) new
 run_more j b piece slice s new limit taken k why e is led f w are all =
     let short : length piece ≤ j.bytes - taken =
-        omega (arith, e, ap length is, length-take (limit - taken) piece, all) in
+    omega (arith, e, ap length is, length-take (limit - taken) piece, all) in
     led_more j b piece s new taken k led
-        (subst (FeedTells s new (offered j taken piece) k) w
-        (tells_offered j piece slice s new limit taken k why e is f)) are short
+    (subst (FeedTells s new (offered j taken piece) k) w
+    (tells_offered j piece slice s new limit taken k why e is f)) are short
 
 pub run_held : (j : Job) (b piece slice : List ℕ) (s new : Running) (limit taken k held : ℕ)
     (told_reason : DecodeReason) (at len : ℕ) (why : Stopped) → j.bytes ≡ limit →
@@ -67,8 +64,8 @@ pub run_held : (j : Job) (b piece slice : List ℕ) (s new : Running) (limit tak
     why ≡ stop.Refused held told_reason at len → held ≤ taken + k
 run_held j b piece slice s new limit taken k held told_reason at len why e is led f w =
     (led_refused j b piece s new taken k held told_reason at len led
-        (subst (FeedTells s new (offered j taken piece) k) w
-        (tells_offered j piece slice s new limit taken k why e is f))).0
+    (subst (FeedTells s new (offered j taken piece) k) w
+    (tells_offered j piece slice s new limit taken k why e is f))).0
 
 pub run_refused : (j : Job) (b piece slice : List ℕ) (s new : Running) (limit taken k held : ℕ)
     (told_reason : DecodeReason) (at len : ℕ) (why : Stopped) → j.bytes ≡ limit →
@@ -78,10 +75,14 @@ pub run_refused : (j : Job) (b piece slice : List ℕ) (s new : Running) (limit 
     (taken + k - held + len)
 run_refused j b piece slice s new limit taken k held told_reason at len why e is led f w =
     let r = led_refused j b piece s new taken k held told_reason at len led
-        (subst (FeedTells s new (offered j taken piece) k) w
-        (tells_offered j piece slice s new limit taken k why e is f)) in
-    inr (inr (r.1.0, taken + k - held + at,
-        ap (λ (q : DecodeReason). record { reason = q; at = taken + k - held + at }) r.1.1, r.1.2))
+    (subst (FeedTells s new (offered j taken piece) k) w
+    (tells_offered j piece slice s new limit taken k why e is f)) in
+    inr (inr (
+      r.1.0,
+      taken + k - held + at,
+      ap (λ (q : DecodeReason). record { reason = q; at = taken + k - held + at }) r.1.1,
+      r.1.2,
+    ))
 
 -- ---- memory is refused
 
@@ -92,7 +93,7 @@ pub run_short : (j : Job) (b piece slice : List ℕ) (s : Running) (limit taken 
 run_short j b piece slice s limit taken k e is (inr g) going f = absurd (going g.is_whole)
 run_short j b piece slice s limit taken k e is (inl g) going f =
     let same : slice ≡ offered j taken piece = is
-        ∙ ap (λ (l : ℕ). take (l - taken) piece) (sym e) in
+    ∙ ap (λ (l : ℕ). take (l - taken) piece) (sym e) in
     let at = subst (λ (l : List ℕ). RunsOut s l k) same f in
     inl (refl, fed_short j b piece s at.1.0 taken k g at.0 at.1.1 at.1.2)
 
@@ -103,9 +104,16 @@ refused_by : (last new : Running) (piece : List ℕ) (k held : ℕ) (told_reason
     (at len : ℕ) → k ≤ length piece →
     EndsTurns last (drop k piece) (stop.Refused held told_reason at len) → (held ≤ len)
     × (len ≤ held + (length piece - k))
-refused_by last new piece k held told_reason at len le st =
-    (st.8, omega (arith, st.7.within, st.4, length-append (held_of last) (drop k piece),
-    length-drop k piece))
+refused_by last new piece k held told_reason at len le st = (
+  st.8,
+  omega (
+    arith,
+    st.7.within,
+    st.4,
+    length-append (held_of last) (drop k piece),
+    length-drop k piece,
+  ),
+)
 
 pub takes_refused : (s new : Running) (slice : List ℕ) (k held taken len : ℕ)
     (told_reason : DecodeReason) (at : ℕ) (why : Stopped) → FeedTells s new slice k why →

@@ -1,16 +1,11 @@
 -- What a decoder answers to a piece, be its value on the way or whole.
-use Rattle.std.proofs.Common.{
-    ◌≡◌, ℕ, ◌+◌, ◌-◌, ◌<◌, ◌≤◌, List, [], ◌++◌, length, take, drop, Ok, Err, sym, ap, subst, ◌∙◌,
-    append_assoc, arith, inl, inr, length-append
-}
+use Rattle.std.proofs.Common.{◌≡◌, ℕ, ◌+◌, ◌-◌, ◌<◌, ◌≤◌, List, [], ◌++◌, length, take, drop, Ok, Err, sym, ap, subst, ◌∙◌, append_assoc, arith, inl, inr, length-append}
 use Rattle.std.proofs.lemmas.List.{append-nil, length-take}
 use Rattle.registry_core.specs.declared.type_info.TypeInfo.{TypeInfo}
 use Rattle.grammar_core.specs.Reading.{Refusal, truncated}
 use Rattle.value_core.specs.Built.{Entry}
 use Rattle.scale_core.specs.Number.{AreBytes}
-use Rattle.decode_core.specs.Decoding.{
-    HoldsOf, IsDone, IsEnded, IsGoing, RanOut, RunLed, built_tree
-}
+use Rattle.decode_core.specs.Decoding.{HoldsOf, IsDone, IsEnded, IsGoing, RanOut, RunLed, built_tree}
 use Rattle.decode_core.specs.Machine.{remain}
 use Rattle.decode_core.specs.Outcome.{Job, done, refused, more, too_long, IsOutcome}
 use Rattle.decode_core.specs.Reasons.{reason_of}
@@ -20,9 +15,7 @@ use Rattle.decode_core.specs.Turned.{FeedTells, IsSound, Moves, EndsTurns, Wants
 use Rattle.decode_core.specs.declared.fault.DecodeFault.{DecodeFault}
 use Rattle.decode_core.specs.declared.fault.DecodeReason.{DecodeReason}
 use Rattle.decode_core.specs.declared.turned.Stopped.TheVariants as stop
-use Rattle.decode_core.proofs.calls.Bridge.{
-    offered, of_moved, fed_done, fed_more, fed_long, fed_refused
-}
+use Rattle.decode_core.proofs.calls.Bridge.{offered, of_moved, fed_done, fed_more, fed_long, fed_refused}
 use Rattle.decode_core.proofs.lists.Fed.{outcome_stays, take_split}
 use Rattle.decode_core.proofs.steps.Refusing.{waits_told}
 
@@ -35,10 +28,10 @@ pub done_told : (j : Job) (b : List ℕ) (s last : Running) (n : ℕ) (x : List 
     ≡ after last.built.entries (remain (types_of s) (state_of last.built) later)
 done_told j b s last n x g m later =
     let whole : remain (types_of s) (state_of s.built) (m.own ++ later) ≡ told []
-        (Ok (m.own ++ later)) = ap (λ (r : List TypeInfo). remain r (state_of s.built)
-        (m.own ++ later)) g.same.types ∙ g.whole (m.own ++ later) in
+    (Ok (m.own ++ later)) = ap (λ (r : List TypeInfo). remain r (state_of s.built)
+    (m.own ++ later)) g.same.types ∙ g.whole (m.own ++ later) in
     ap (λ (xs : List Entry). told xs (Ok (m.own ++ later))) (sym (append-nil s.built.entries))
-        ∙ sym (ap (after s.built.entries) whole) ∙ m.tells later
+    ∙ sym (ap (after s.built.entries) whole) ∙ m.tells later
 
 no_fault : {X : Type 0} (xs ys : List Entry) (rest x left : List ℕ) (e : Refusal) →
     told xs (Ok rest) ≡ after ys (told [] (Err ((e, left), x))) → X
@@ -50,9 +43,9 @@ done_cannot_fail : {X : Type 0} (j : Job) (b : List ℕ) (s last : Running) (n :
     remain (types_of last) (state_of last.built) y ≡ told [] (Err ((e, left), y)) → X
 done_cannot_fail j b s last n x y left e g m h =
     let there : remain (types_of s) (state_of last.built) y ≡ told [] (Err ((e, left), y)) =
-        ap (λ (r : List TypeInfo). remain r (state_of last.built) y) (sym m.same.types) ∙ h in
+    ap (λ (r : List TypeInfo). remain r (state_of last.built) y) (sym m.same.types) ∙ h in
     no_fault s.built.entries last.built.entries (m.own ++ y) y left e
-        (done_told j b s last n x g m y ∙ ap (after last.built.entries) there)
+    (done_told j b s last n x g m y ∙ ap (after last.built.entries) there)
 
 ok_is : (x y : List ℕ) → ◌≡◌ {A = Ending} (Ok x) (Ok y) → x ≡ y
 ok_is x y h = cc
@@ -66,19 +59,28 @@ done_again j b piece s last n k g le m st sound =
     let cut = offered j n piece in
     let of = of_moved j s last g.same m.same in
     let tells : (x : List ℕ) → remain j.registry (state_of last.built) x ≡ told [] (Ok x) =
-        λ x. ap (λ (r : List TypeInfo). remain r (state_of last.built) x) (sym of.types) ∙ st.0 x in
+    λ x. ap (λ (r : List TypeInfo). remain r (state_of last.built) x) (sym of.types) ∙ st.0 x in
     let all : told s.built.entries (Ok (m.own ++ [])) ≡ after last.built.entries (told [] (Ok [])) =
-        done_told j b s last n (take k cut) g m []
-        ∙ ap (λ (r : List TypeInfo). after last.built.entries (remain r (state_of last.built) []))
-        (sym m.same.types) ∙ ap (after last.built.entries) (st.0 []) in
+    done_told j b s last n (take k cut) g m []
+    ∙ ap (λ (r : List TypeInfo). after last.built.entries (remain r (state_of last.built) []))
+    (sym m.same.types) ∙ ap (after last.built.entries) (st.0 []) in
     let own : length (m.own ++ []) ≡ 0 = ap length (ok_is (m.own ++ []) [] (ap ending all)) in
-    let none : k ≡ 0 = omega (arith, own, length-append m.own [], ap length m.is,
-        ap length g.nothing, ap length st.1, length-append (held_of s) (take k cut),
-        length-append m.own (held_of last), length-take k cut, le) in
+    let none : k ≡ 0 = omega (
+      arith,
+      own,
+      length-append m.own [],
+      ap length m.is,
+      ap length g.nothing,
+      ap length st.1,
+      length-append (held_of s) (take k cut),
+      length-append m.own (held_of last),
+      length-take k cut,
+      le,
+    ) in
     let same : s.built.entries ≡ last.built.entries = ap added all
-        ∙ append-nil last.built.entries in
+    ∙ append-nil last.built.entries in
     let tree : built_tree s.built ≡ built_tree last.built =
-        ap (λ (xs : List Entry). built_tree (record s.built { entries = xs })) same in
+    ap (λ (xs : List Entry). built_tree (record s.built { entries = xs })) same in
     let count : n ≡ n + k = omega (arith, none) in
     let kept = outcome_stays j b piece (done (built_tree s.built)) n g.outcome (λ e. absurd cc) in
     record {
@@ -127,7 +129,7 @@ pub led_refused : (j : Job) (b piece : List ℕ) (s new : Running) (n k held : �
     (told_reason : DecodeReason) (at len : ℕ) → RunLed j b n (Ok s) →
     FeedTells s new (offered j n piece) k (stop.Refused held told_reason at len) →
     (held ≤ n + k) × ((e : Refusal) × (told_reason ≡ reason_of e)
-        × IsOutcome j (b ++ piece) (refused e (n + k - held + at)) (n + k - held + len))
+    × IsOutcome j (b ++ piece) (refused e (n + k - held + at)) (n + k - held + len))
 led_refused j b piece s new n k held told_reason at len (inl g) f =
     fed_refused j b piece s f.1.0 n k held told_reason at len g f.0 f.1.1 f.1.2
 led_refused j b piece s new n k held told_reason at len (inr g) f =
@@ -140,8 +142,15 @@ led_fits j b s n (inr g) = g.fits
 
 wants_on : (s : Running) (rest back : List ℕ) → WantsMemory s rest → WantsMemory s (rest ++ back)
 wants_on s rest back h =
-    record { form = h.form; next = h.next; bytes = h.bytes; later = h.later ++ back; is =
-    ap (λ (l : List ℕ). l ++ back) h.is ∙ append_assoc h.bytes h.later back; keeps = h.keeps }
+    record {
+      form = h.form;
+      next = h.next;
+      bytes = h.bytes;
+      later = h.later ++ back;
+      is =
+          ap (λ (l : List ℕ). l ++ back) h.is ∙ append_assoc h.bytes h.later back;
+      keeps = h.keeps;
+    }
 
 -- memory that was wanted was so, whatever bytes follow
 ran_out_stays : (j : Job) (b piece : List ℕ) (n : ℕ) → RanOut j b n → RanOut j (b ++ piece) n

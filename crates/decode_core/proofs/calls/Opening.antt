@@ -1,18 +1,12 @@
 -- A decoder that has taken nothing, and what the end of its input makes of one.
-use Rattle.std.proofs.Common.{
-    ◌≡◌, ℕ, suc, ◌+◌, ◌-◌, List, [], ◌++◌, length, Option, Some, None, Ok, Err, refl, sym, ap,
-    subst, ◌∙◌, arith, inl, inr
-}
+use Rattle.std.proofs.Common.{◌≡◌, ℕ, suc, ◌+◌, ◌-◌, List, [], ◌++◌, length, Option, Some, None, Ok, Err, refl, sym, ap, subst, ◌∙◌, arith, inl, inr}
 use Rattle.std.specs.Prelude.{Result}
 use Rattle.std.proofs.lemmas.List.{append-nil}
 use Rattle.value_core.specs.Built.{Built, finished}
 use Rattle.value_core.specs.Refusals as built
 use Rattle.value_core.specs.Shown.{Seen}
 use Rattle.value_core.specs.declared.build_fault.BuildFault.{BuildFault}
-use Rattle.decode_core.specs.Decoding.{
-    AnswersPiece, Decoding, FinishesDecoder, IsEnded, IsGoing, IsOf, Led, RunLed, built_tree,
-    first_running
-}
+use Rattle.decode_core.specs.Decoding.{AnswersPiece, Decoding, FinishesDecoder, IsEnded, IsGoing, IsOf, Led, RunLed, built_tree, first_running}
 use Rattle.decode_core.specs.Machine.{State, start}
 use Rattle.decode_core.specs.Outcome.{Job, done, more, IsOutcome}
 use Rattle.decode_core.specs.Running.{Running, state_of}
@@ -37,13 +31,21 @@ pub first_going : (j : Job) (s : Running) (b : Built) → s ≡ record { built =
     b ≡ (first j).built → IsGoing j [] s 0
 first_going j s b is same =
     let whole : first j ≡ s =
-        sym (is ∙ ap (λ (x : Built). record { built = x; carry = [] }) same) in
+    sym (is ∙ ap (λ (x : Built). record { built = x; carry = [] }) same) in
     let led : TurnsLead j.registry (start j.depth j.ty) (state_of (first j).built) [] =
-        subst (λ (x : State). TurnsLead j.registry (start j.depth j.ty) x []) (sym (start_is j))
-        (record { tells = λ later. refl; level = refl }) in
+    subst (λ (x : State). TurnsLead j.registry (start j.depth j.ty) x []) (sym (start_is j))
+    (record { tells = λ later. refl; level = refl }) in
     subst (λ (x : Running). IsGoing j [] x 0) whole
-        (record { same = record { types = refl; ty = refl; limit = refl }; own = []; is = refl;
-        are_bytes = tt; led = led; stands = inl refl; count = refl; fits = omega arith })
+    (record {
+      same = record { types = refl; ty = refl; limit = refl };
+      own = [];
+      is = refl;
+      are_bytes = tt;
+      led = led;
+      stands = inl refl;
+      count = refl;
+      fits = omega arith;
+    })
 
 -- ---- the end of the input
 
@@ -58,11 +60,13 @@ pub ends_short : (old new : Decoding) (b : List ℕ) (at : ℕ) → new.job ≡ 
     FinishesDecoder old.job b (Err (record { reason = reason.Truncated; at = at }))
 ends_short old new b at same is h =
     let at_end : IsOutcome old.job b more new.taken =
-        subst (λ (j : Job). IsOutcome j b more new.taken) same
-        (subst (λ (l : List ℕ). IsOutcome new.job l more new.taken) (append-nil b) h) in
+    subst (λ (j : Job). IsOutcome j b more new.taken) same
+    (subst (λ (l : List ℕ). IsOutcome new.job l more new.taken) (append-nil b) h) in
     let count : new.taken ≡ length b = at_end.2 in
-    inl (ap (λ (n : ℕ). record { reason = reason.Truncated; at = n }) (is ∙ count),
-        subst (IsOutcome old.job b more) count at_end)
+    inl (
+      ap (λ (n : ℕ). record { reason = reason.Truncated; at = n }) (is ∙ count),
+      subst (IsOutcome old.job b more) count at_end,
+    )
 
 run_of : (j : Job) (b : List ℕ) (n : ℕ) (s : Running) → RunLed j b n (Ok s) → IsOf j s
 run_of j b n s (inl g) = g.same
@@ -79,18 +83,22 @@ ends_done old new b used s v same run is h led =
     let t = h.0 in
     let one : t ≡ s = same_run t s new.run h.1 run in
     let of : IsOf new.job s =
-        run_of new.job (b ++ []) new.taken s (subst (RunLed new.job (b ++ []) new.taken) run led) in
+    run_of new.job (b ++ []) new.taken s (subst (RunLed new.job (b ++ []) new.taken) run led) in
     let of_old = subst (λ (j : Job). IsOf j s) same of in
     let out : IsOutcome new.job (b ++ []) (done (built_tree s.built)) new.taken =
-        subst (λ (r : Running). IsOutcome new.job (b ++ []) (done (built_tree r.built)) new.taken)
-        one h.2 in
+    subst (λ (r : Running). IsOutcome new.job (b ++ []) (done (built_tree r.built)) new.taken)
+    one h.2 in
     let out_old : IsOutcome old.job b (done (built_tree s.built)) new.taken =
-        subst (λ (j : Job). IsOutcome j b (done (built_tree s.built)) new.taken) same
-        (subst (λ (l : List ℕ). IsOutcome new.job l (done (built_tree s.built)) new.taken)
-        (append-nil b) out) in
-    (new.taken, ap (λ (x : Seen). x.types) is ∙ of_old.types, ap (λ (x : Seen). x.ty) is
-        ∙ of_old.ty, subst (λ (x : Seen). IsOutcome old.job b (done x.tree) new.taken) (sym is)
-        out_old)
+    subst (λ (j : Job). IsOutcome j b (done (built_tree s.built)) new.taken) same
+    (subst (λ (l : List ℕ). IsOutcome new.job l (done (built_tree s.built)) new.taken)
+    (append-nil b) out) in (
+      new.taken,
+      ap (λ (x : Seen). x.types) is ∙ of_old.types,
+      ap (λ (x : Seen). x.ty) is
+          ∙ of_old.ty,
+      subst (λ (x : Seen). IsOutcome old.job b (done x.tree) new.taken) (sym is)
+          out_old,
+    )
 
 pub ends_by : (old new : Decoding) (b : List ℕ) (p : Progress) (s : Running) (v : Seen) →
     new.job ≡ old.job → (p ≡ progress.More → ⊥) → new.run ≡ Ok s →

@@ -1,8 +1,5 @@
 -- What a decoder's answers to the parts of an input say of the whole input.
-use Rattle.std.proofs.Common.{
-    ◌≡◌, ℕ, ◌+◌, ◌<◌, ◌≤◌, Bool, true, false, List, [], ◌++◌, length, Option, Some, None, Ok, Err,
-    refl, sym, ap, subst, ◌∙◌, append-nil, arith, take, inl, inr, length-append
-}
+use Rattle.std.proofs.Common.{◌≡◌, ℕ, ◌+◌, ◌<◌, ◌≤◌, Bool, true, false, List, [], ◌++◌, length, Option, Some, None, Ok, Err, refl, sym, ap, subst, ◌∙◌, append-nil, arith, take, inl, inr, length-append}
 use Rattle.std.specs.Prelude.{IfSome, ◌⊎◌, Result}
 use Rattle.std.specs.Io.KnownBytes.{Consumes, IsAtEnd, Keeps}
 use Rattle.std.proofs.KnownBytes.{Consumes-kept}
@@ -10,13 +7,9 @@ use Rattle.std.proofs.lemmas.List.{length-take, nil_from_length}
 use Rattle.registry_core.specs.declared.type_info.TypeInfo.{TypeInfo}
 use Rattle.grammar_core.specs.declared.limits.Limits.{Limits}
 use Rattle.grammar_core.specs.Tree.{Tree}
-use Rattle.decode_core.specs.Decoding.{
-    AnswersPiece, Decoding, FinishesDecoder, IsEnded, Led, OpensDecoder, first_of_all
-}
+use Rattle.decode_core.specs.Decoding.{AnswersPiece, Decoding, FinishesDecoder, IsEnded, Led, OpensDecoder, first_of_all}
 use Rattle.decode_core.specs.Outcome.{Job, done, more, IsOutcome}
-use Rattle.decode_core.specs.Streaming.{
-    EndsAt, FeedsAll, Forbids, IsUnderWay, LeavesOpen, Looks, StopsOpen, Trails
-}
+use Rattle.decode_core.specs.Streaming.{EndsAt, FeedsAll, Forbids, IsUnderWay, LeavesOpen, Looks, StopsOpen, Trails}
 use Rattle.decode_core.specs.declared.decoder.Progress.{Progress}
 use Rattle.decode_core.specs.declared.decoder.Progress.TheVariants as progress
 use Rattle.decode_core.specs.declared.fault.DecodeFault.{DecodeFault}
@@ -52,8 +45,13 @@ starts types root limits d is led = record {
 
 -- a value has no more bytes than are there
 pub done_fits : (j : Job) (b : List ℕ) (v : Tree) (n : ℕ) → IsOutcome j b (done v) n → n ≤ length b
-done_fits j b v n h = omega (arith, h.5, ap length h.2, length-append h.0 h.1,
-    length-take j.bytes b)
+done_fits j b v n h = omega (
+  arith,
+  h.5,
+  ap length h.2,
+  length-append h.0 h.1,
+  length-take j.bytes b,
+)
 
 pub done_ends : (j : Job) (b : List ℕ) (v : Tree) (n : ℕ) → IsOutcome j b (done v) n → EndsAt j b n
 done_ends j b v n h w m k = (one_outcome j b (done w) (done v) m n k h).1
@@ -152,8 +150,14 @@ end_known (Some xs) None left b part n none c d end = absurd c
 end_known (Some xs) (Some ys) None b part n none c d end = absurd d
 end_known (Some xs) (Some ys) (Some zs) b part n none c d end =
     let nothing : ys ≡ [] = nil_from_length ys
-        (omega (arith, none, ap length d, ap length end, length-append (take n part) zs,
-        length-take n part)) in
+    (omega (
+      arith,
+      none,
+      ap length d,
+      ap length end,
+      length-append (take n part) zs,
+      length-take n part,
+    )) in
     c ∙ ap (λ (l : List ℕ). b ++ l) nothing ∙ append-nil b
 
 pub all_known : (known left : Option (List ℕ)) (b : List ℕ) → Consumes known left b → IsAtEnd left →
@@ -186,9 +190,12 @@ pub look_feeds : (known left end : Option (List ℕ)) (d : Decoding) (b : List �
 look_feeds known left end d b v (Ok true) c out led long look =
     trails_left known left d.job b v d.taken c out look
 look_feeds known left end d b v (Ok false) c out led long look =
-    let all : d.taken ≡ length b = omega (arith, long, done_fits d.job b v d.taken out) in
-    (b, led, subst (EndsAt d.job b) all (done_ends d.job b v d.taken out),
-        all_known known left b c look)
+    let all : d.taken ≡ length b = omega (arith, long, done_fits d.job b v d.taken out) in (
+      b,
+      led,
+      subst (EndsAt d.job b) all (done_ends d.job b v d.taken out),
+      all_known known left b c look,
+    )
 look_feeds known left end d b v (Err stream.Device) c out led long look =
     stops_open known left end d.job b c look (done_open d.job b v d.taken out long)
 look_feeds known left end d b v (Err (stream.Open e)) c out led long look = absurd look

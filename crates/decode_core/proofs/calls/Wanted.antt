@@ -1,8 +1,5 @@
 -- Where memory was wanted, the grammar refuses nothing of the bytes taken.
-use Rattle.std.proofs.Common.{
-    ◌≡◌, ℕ, suc, ◌<◌, ◌≤◌, List, [], ◌∷◌, ◌++◌, length, take, Option, Some, None, Ok, Err, refl,
-    sym, ap, subst, ◌∙◌, append_assoc, append-nil, arith, inl, inr, length-append
-}
+use Rattle.std.proofs.Common.{◌≡◌, ℕ, suc, ◌<◌, ◌≤◌, List, [], ◌∷◌, ◌++◌, length, take, Option, Some, None, Ok, Err, refl, sym, ap, subst, ◌∙◌, append_assoc, append-nil, arith, inl, inr, length-append}
 use Rattle.std.specs.Prelude.{◌⊎◌}
 use Rattle.std.proofs.lemmas.Bool.{lt-ltb}
 use Rattle.std.proofs.lemmas.List.{length-take}
@@ -61,9 +58,11 @@ text_short held bytes came n (Ok y) read' at h is some few =
     let both : ◌≡◌ {A = Read Reason ℕ} (Ok (y.0, y.1 ++ bytes)) (Ok (n, came)) = sym h ∙ is in
     let pair : (y.0, y.1 ++ bytes) ≡ (n, came) = done_is (y.0, y.1 ++ bytes) (n, came) both in
     let same : y.0 ≡ n = ap (λ (p : ℕ × List ℕ). p.0) pair in
-    let parts : y.1 ++ bytes ≡ came = ap (λ (p : ℕ × List ℕ). p.1) pair in
-    ([], text_few held y.1 y.0 at
-        (omega (arith, same, ap length parts, length-append y.1 bytes, some, few)))
+    let parts : y.1 ++ bytes ≡ came = ap (λ (p : ℕ × List ℕ). p.1) pair in (
+      [],
+      text_few held y.1 y.0 at
+          (omega (arith, same, ap length parts, length-append y.1 bytes, some, few)),
+    )
 text_short held bytes came n (Err e) read' at h is some few = elim (reason_tells e.0) [
   | inl cut ↦ (e.1, text_cut held scale.Truncated e.1 (at ∙ ap (λ r. Err (r, e.1)) cut))
   | inr other ↦ let both = sym (h other) ∙ is in absurd cc
@@ -74,8 +73,10 @@ text_short held bytes came n (Err e) read' at h is some few = elim (reason_tells
 -- the bytes taken, and those after them
 front_is : (j : Job) (b : List ℕ) (n : ℕ) (h : RanOut j b n) →
     (take j.bytes b ≡ (h.own ++ held_of h.s) ++ h.rest) × (length (h.own ++ held_of h.s) ≡ n)
-front_is j b n h = (h.is ∙ sym (append_assoc h.own (held_of h.s) h.rest),
-    length-append h.own (held_of h.s) ∙ sym h.count)
+front_is j b n h = (
+  h.is ∙ sym (append_assoc h.own (held_of h.s) h.rest),
+  length-append h.own (held_of h.s) ∙ sym h.count,
+)
 
 -- more are wanted where they are too few for the next node
 cut_goes_on : (j : Job) (b left : List ℕ) (n : ℕ) (h : RanOut j b n) →
@@ -85,18 +86,27 @@ cut_goes_on j b left n h short =
     let s = state_of h.s.built in
     let front = h.own ++ held_of h.s in
     let stops : remain j.registry s (held_of h.s) ≡ told [] (Err ((truncated, left), held_of h.s)) =
-        ap (λ (r : List TypeInfo). remain r s (held_of h.s)) (sym h.same.types)
-        ∙ remain_next h.s.built (at_next h.s.built h.wants.form h.wants.next) (held_of h.s) left
-        truncated short in
+    ap (λ (r : List TypeInfo). remain r s (held_of h.s)) (sym h.same.types)
+    ∙ remain_next h.s.built (at_next h.s.built h.wants.form h.wants.next) (held_of h.s) left
+    truncated short in
     let reads : told_at j.registry (suc j.depth) j.ty front ≡ told (s.nodes ++ [])
-        (Err ((truncated, left), held_of h.s)) =
-        whole_told j.registry j.depth j.ty s h.own (held_of h.s) h.led ∙ ap (after s.nodes) stops in
+    (Err ((truncated, left), held_of h.s)) =
+    whole_told j.registry j.depth j.ty s h.own (held_of h.s) h.led ∙ ap (after s.nodes) stops in
     let within = front_is j b n h in
     let fits : length front ≤ j.bytes =
-        omega (arith, ap length within.0, length-append front h.rest, length-take j.bytes b) in
-    ((place front left, (left,
-        fault_value j.registry (suc j.depth) j.ty front (s.nodes ++ []) truncated left (held_of h.s)
-        reads, refl)), fits, refl)
+    omega (arith, ap length within.0, length-append front h.rest, length-take j.bytes b) in (
+      (
+        place front left,
+        (
+          left,
+          fault_value j.registry (suc j.depth) j.ty front (s.nodes ++ []) truncated left (held_of h.s)
+              reads,
+          refl,
+        ),
+      ),
+      fits,
+      refl,
+    )
 
 entries_with : (b : Built) (x : Head × Option Part) →
     (with_own b x).entries ≡ b.entries ++ next_entry b x.0 ∷ []
@@ -107,16 +117,16 @@ entries_with b (h, Some p) = refl
 node_goes_on : (j : Job) (b : List ℕ) (n : ℕ) (h : RanOut j b n) (x : Head × Option Part) →
     own_at (next_layout h.s.built) (held_of h.s) ≡ Ok (x, []) → (later : List ℕ) →
     (rest : Told) × (told_at j.registry (suc j.depth) j.ty ((h.own ++ held_of h.s) ++ later)
-        ≡ after (h.s.built.entries ++ next_entry h.s.built x.0 ∷ []) rest)
+    ≡ after (h.s.built.entries ++ next_entry h.s.built x.0 ∷ []) rest)
 node_goes_on j b n h x is later =
     let s = state_of h.s.built in
     let s' = state_of (with_own h.s.built x) in
     let leads = added_leads h.s.built (with_own h.s.built x) (held_of h.s)
-        (at_next h.s.built h.wants.form h.wants.next) (x, is, refl) in
+    (at_next h.s.built h.wants.form h.wants.next) (x, is, refl) in
     let one : after s.nodes (remain j.registry s (held_of h.s ++ later))
-        ≡ after s'.nodes (remain j.registry s' later) =
-        subst (λ (r : List TypeInfo). after s.nodes (remain r s (held_of h.s ++ later))
-        ≡ after s'.nodes (remain r s' later)) h.same.types (leads.tells later) in (
+    ≡ after s'.nodes (remain j.registry s' later) =
+    subst (λ (r : List TypeInfo). after s.nodes (remain r s (held_of h.s ++ later))
+    ≡ after s'.nodes (remain r s' later)) h.same.types (leads.tells later) in (
       remain j.registry s' later,
       ap (told_at j.registry (suc j.depth) j.ty) (append_assoc h.own (held_of h.s) later)
           ∙ whole_told j.registry j.depth j.ty s h.own (held_of h.s ++ later) h.led ∙ one
@@ -131,16 +141,21 @@ some_left rest bytes later is some = omega (arith, ap length is, length-append b
 node_by : (j : Job) (b : List ℕ) (n : ℕ) (h : RanOut j b n) (bytes : List ℕ) →
     bytes ≡ h.wants.bytes → KeepsNode h.s bytes → GoesOn j (h.own ++ held_of h.s) h.rest
 node_by j b n h [] none keeps =
-    inr (h.s.built.entries, next_entry h.s.built keeps.0.0,
-    node_goes_on j b n h keeps.0
-    (ap (own_at (next_layout h.s.built)) (sym (append-nil (held_of h.s))) ∙ keeps.1))
+    inr (
+      h.s.built.entries,
+      next_entry h.s.built keeps.0.0,
+      node_goes_on j b n h keeps.0
+          (ap (own_at (next_layout h.s.built)) (sym (append-nil (held_of h.s))) ∙ keeps.1),
+    )
 node_by j b n h (y ∷ bytes) same keeps =
     let some : 1 ≤ length (y ∷ bytes) = omega arith in
     let short = node_short (y ∷ bytes) keeps.0 _ _
-        (own_extends (next_layout h.s.built) (held_of h.s) (y ∷ bytes)) keeps.1 some in
-    inl (cut_goes_on j b short.0 n h short.1,
-        some_left h.rest (y ∷ bytes) h.wants.later
-        (h.wants.is ∙ ap (λ (l : List ℕ). l ++ h.wants.later) (sym same)) some)
+    (own_extends (next_layout h.s.built) (held_of h.s) (y ∷ bytes)) keeps.1 some in
+    inl (
+      cut_goes_on j b short.0 n h short.1,
+      some_left h.rest (y ∷ bytes) h.wants.later
+          (h.wants.is ∙ ap (λ (l : List ℕ). l ++ h.wants.later) (sym same)) some,
+    )
 
 goes_by : (j : Job) (b : List ℕ) (n : ℕ) (h : RanOut j b n) → KeepsNode h.s h.wants.bytes
     ⊎ KeepsText h.s h.wants.bytes → GoesOn j (h.own ++ held_of h.s) h.rest
@@ -148,7 +163,7 @@ goes_by j b n h (inl keeps) = node_by j b n h h.wants.bytes refl keeps
 goes_by j b n h (inr keeps) =
     let bytes = h.wants.bytes in
     let short = text_short (held_of h.s) bytes keeps.2.1 keeps.2.0 _ _ refl
-        (compact_extends target.U32 (held_of h.s) bytes) keeps.2.2 keeps.1 keeps.2.3 in
+    (compact_extends target.U32 (held_of h.s) bytes) keeps.2.2 keeps.1 keeps.2.3 in
     let laid = ap (λ (f : Layout). own_at f (held_of h.s)) keeps.0 ∙ short.1 in
     inl (cut_goes_on j b short.0 n h laid, some_left h.rest bytes h.wants.later h.wants.is keeps.1)
 

@@ -1,18 +1,12 @@
 -- What is taken, by the fault alone.
-use Rattle.std.proofs.Common.{
-    ◌≡◌, ℕ, zero, suc, ◌+◌, ◌^◌, ◌≤◌, Bool, true, false, cond, List, [], ◌∷◌, ◌++◌, length, take,
-    drop, Option, Some, None, Ok, Err, refl, ap, ◌∙◌, arith, inl, inr
-}
+use Rattle.std.proofs.Common.{◌≡◌, ℕ, zero, suc, ◌+◌, ◌^◌, ◌≤◌, Bool, true, false, cond, List, [], ◌∷◌, ◌++◌, length, take, drop, Option, Some, None, Ok, Err, refl, ap, ◌∙◌, arith, inl, inr}
 use Rattle.std.specs.Prelude.{nat_lt, not}
 use Rattle.std.specs.Str.{bytes_eq, is_utf8}
 use Rattle.std.specs.Str.Lossy.{utf8_valid_len}
 use Rattle.std.proofs.lemmas.Bool.{ltb-false}
 use Rattle.scale_core.specs.Compact.{compact, target_bytes}
 use Rattle.scale_core.specs.Number.{number, signed_number, is_scalar}
-use Rattle.scale_core.specs.Read.{
-    Read, ◌>>=◌, bytes_at, compact_at, text_at, integer_at, form_from, form_number, is_too_long,
-    form_len
-}
+use Rattle.scale_core.specs.Read.{Read, ◌>>=◌, bytes_at, compact_at, text_at, integer_at, form_from, form_number, is_too_long, form_len}
 use Rattle.scale_core.specs.declared.compact.Target.{Target}
 use Rattle.scale_core.specs.declared.compact.Target.TheVariants as target
 use Rattle.scale_core.specs.declared.fault.Reason.{Reason}
@@ -28,20 +22,10 @@ use Rattle.widths_core.specs.Arms.{arm_of}
 use Rattle.widths_core.specs.Classes.{is_finite}
 use Rattle.widths_core.specs.Layouts.{Plain, Layout, layout}
 use Rattle.widths_core.specs.Layouts as layout
-use Rattle.grammar_core.specs.Tree.{
-    Leaf, Branch, Tree, leaf, branch, char, text, unsigned, signed, wide, compact as compact_value,
-    fields, arm, list, count, Trees, and
-}
-use Rattle.grammar_core.specs.Reading.{
-    value_at, layout_at, leaf_at, bool_at, char_from, all_at, times_at, fields_behind_index,
-    arms_at, as_leaf, with_children, Refusal, basic, no_such_variant, too_deep, no_finite_value,
-    bit_sequence, bad_compact
-}
+use Rattle.grammar_core.specs.Tree.{Leaf, Branch, Tree, leaf, branch, char, text, unsigned, signed, wide, compact as compact_value, fields, arm, list, count, Trees, and}
+use Rattle.grammar_core.specs.Reading.{value_at, layout_at, leaf_at, bool_at, char_from, all_at, times_at, fields_behind_index, arms_at, as_leaf, with_children, Refusal, basic, no_such_variant, too_deep, no_finite_value, bit_sequence, bad_compact}
 use Rattle.grammar_core.proofs.Sound.{value_takes}
-use Rattle.decode_core.specs.Taken.{
-    leaf_taken, taken_after, compact_taken, text_taken, all_taken, times_taken, arm_taken,
-    arms_taken, layout_taken, value_taken
-}
+use Rattle.decode_core.specs.Taken.{leaf_taken, taken_after, compact_taken, text_taken, all_taken, times_taken, arm_taken, arms_taken, layout_taken, value_taken}
 use Rattle.decode_core.specs.Outcome.{IsTakenBefore, TakenByFault}
 use Rattle.decode_core.proofs.lists.Deciding.{chain, finish, bind_chain}
 use Rattle.decode_core.proofs.lists.Shortest.{and_finish, elements_chain, body_at}
@@ -83,12 +67,12 @@ finish_told m n make b k (Err e) h = h
 chain_told : {E F X Y : Type 0} (m : E → F) (n : F → Refusal) (P : X → List ℕ → Type 0)
     (h : X → List ℕ → Read F Y) (next : X × List ℕ → ℕ) (b : List ℕ) (own : ℕ) (read : Read E X) →
     Takes P b read → Told (λ e. n (m e)) b own read →
-        ((x : X × List ℕ) → Told n x.1 (next x) (h x.0 x.1)) →
-        Told n b (taken_after b read own next) (chain m h read)
+    ((x : X × List ℕ) → Told n x.1 (next x) (h x.0 x.1)) →
+    Told n b (taken_after b read own next) (chain m h read)
 chain_told m n P h next b own (Err e) takes first rest = first
 chain_told m n P h next b own (Ok x) takes first rest =
     let len : length takes.0 ≡ place b x.1 =
-        omega (arith, ap length takes.1, length-append takes.0 x.1) in
+    omega (arith, ap length takes.1, length-append takes.0 x.1) in
     rw (← len) (told_behind n b takes.0 x.1 (next x) (h x.0 x.1) takes.1 (rest x))
 
 -- ---- compacts and texts
@@ -100,25 +84,25 @@ integer_told : (m : Target) (b : List ℕ) → Told basic b (compact_taken m b) 
 integer_told m [] = (omega arith, refl)
 integer_told m (first ∷ tail) =
     go (is_too_long m first) (nat_lt (length (first ∷ tail)) (form_len first)) where
-  judged : (a b : Bool) (x : List ℕ × List ℕ) →
-      Told basic (first ∷ tail) (form_len first)
-      (cond a (Err (reasons.CompactNotShortest, first ∷ tail))
-      (cond b (Ok (form_number x.0, x.1)) (Err (reasons.CompactTooLarge, first ∷ tail))))
-  judged true b x = (omega arith, omega arith)
-  judged false true x = tt
-  judged false false x = (omega arith, inr (omega arith))
+      judged : (a b : Bool) (x : List ℕ × List ℕ) →
+          Told basic (first ∷ tail) (form_len first)
+          (cond a (Err (reasons.CompactNotShortest, first ∷ tail))
+          (cond b (Ok (form_number x.0, x.1)) (Err (reasons.CompactTooLarge, first ∷ tail))))
+      judged true b x = (omega arith, omega arith)
+      judged false true x = tt
+      judged false false x = (omega arith, inr (omega arith))
 
-  go : (t short : Bool) → Told basic (first ∷ tail) (cond t 1 (form_len first))
-      (cond t (Err (reasons.CompactTooLarge, first ∷ tail))
-      (form_from m (first ∷ tail)
-      (cond short (Err (reasons.Truncated, []))
-      (Ok (take (form_len first) (first ∷ tail), drop (form_len first) (first ∷ tail))))))
-  go true short = (omega arith, inl (omega arith))
-  go false true = (omega arith, refl)
-  go false false = let form = take (form_len first) (first ∷ tail) in
-      judged (not (bytes_eq (compact (form_number form)) form))
-      (nat_lt (form_number form) (256 ^ target_bytes m))
-      (form, drop (form_len first) (first ∷ tail))
+      go : (t short : Bool) → Told basic (first ∷ tail) (cond t 1 (form_len first))
+          (cond t (Err (reasons.CompactTooLarge, first ∷ tail))
+          (form_from m (first ∷ tail)
+          (cond short (Err (reasons.Truncated, []))
+          (Ok (take (form_len first) (first ∷ tail), drop (form_len first) (first ∷ tail))))))
+      go true short = (omega arith, inl (omega arith))
+      go false true = (omega arith, refl)
+      go false false = let form = take (form_len first) (first ∷ tail) in
+          judged (not (bytes_eq (compact (form_number form)) form))
+          (nat_lt (form_number form) (256 ^ target_bytes m))
+          (form, drop (form_len first) (first ∷ tail))
 
 compact_told : (m : Target) (b : List ℕ) → Told basic b (compact_taken m b) (compact_at m b)
 unfolding compact_at
@@ -142,7 +126,7 @@ body_told n b = go (nat_lt (length b) n) refl (is_utf8 (take n b)) where
     valid true le = tt
     valid false le =
         let front : utf8_valid_len (take n b) ≤ n =
-            omega (arith, utf8_valid_len_le (take n b), length-take n b) in
+        omega (arith, utf8_valid_len_le (take n b), length-take n b) in
         let rest = length-drop (utf8_valid_len (take n b)) b in
         (omega (arith, rest), omega (arith, rest, front))
 
@@ -190,14 +174,14 @@ all_told : (r : List TypeInfo) (room : ℕ) → ChildTold r room → (ts : List 
 all_told r room h [] b = tt
 all_told r room h (t ∷ ts) b = let child = value_at r room in
     rw (bind_chain (λ v c. all_at child ts c >>= λ others. Ok (and v others.0, others.1))
-        (child t b))
+    (child t b))
     (chain_told (λ e. e) (λ e. e) _
-        (λ v c. all_at child ts c >>= λ others. Ok (and v others.0, others.1))
-        (λ x. all_taken child (value_taken r room) ts x.1) b (value_taken r room t b) (child t b)
-        (value_takes r room t b) (h t b)
+    (λ v c. all_at child ts c >>= λ others. Ok (and v others.0, others.1))
+    (λ x. all_taken child (value_taken r room) ts x.1) b (value_taken r room t b) (child t b)
+    (value_takes r room t b) (h t b)
     (λ x. rw (and_finish x.0 (all_at child ts x.1))
-        (finish_told (λ e. e) (λ e. e) (and x.0) x.1 (all_taken child (value_taken r room) ts x.1)
-        (all_at child ts x.1) (all_told r room h ts x.1))))
+    (finish_told (λ e. e) (λ e. e) (and x.0) x.1 (all_taken child (value_taken r room) ts x.1)
+    (all_at child ts x.1) (all_told r room h ts x.1))))
 
 times_told : (r : List TypeInfo) (room : ℕ) → ChildTold r room → (n t : ℕ) (b : List ℕ) →
     Told (λ e. e) b (times_taken (value_at r room) (value_taken r room) n t b)
@@ -205,15 +189,15 @@ times_told : (r : List TypeInfo) (room : ℕ) → ChildTold r room → (n t : �
 times_told r room h zero t b = tt
 times_told r room h (suc n) t b = let child = value_at r room in
     rw (bind_chain (λ v c. times_at child n t c >>= λ others. Ok (and v others.0, others.1))
-        (child t b))
+    (child t b))
     (chain_told (λ e. e) (λ e. e) _
-        (λ v c. times_at child n t c >>= λ others. Ok (and v others.0, others.1))
-        (λ x. times_taken child (value_taken r room) n t x.1) b (value_taken r room t b) (child t b)
-        (value_takes r room t b) (h t b)
+    (λ v c. times_at child n t c >>= λ others. Ok (and v others.0, others.1))
+    (λ x. times_taken child (value_taken r room) n t x.1) b (value_taken r room t b) (child t b)
+    (value_takes r room t b) (h t b)
     (λ x. rw (and_finish x.0 (times_at child n t x.1))
-        (finish_told (λ e. e) (λ e. e) (and x.0) x.1
-        (times_taken child (value_taken r room) n t x.1) (times_at child n t x.1)
-        (times_told r room h n t x.1))))
+    (finish_told (λ e. e) (λ e. e) (and x.0) x.1
+    (times_taken child (value_taken r room) n t x.1) (times_at child n t x.1)
+    (times_told r room h n t x.1))))
 
 parts_told : (kind : Branch) (b : List ℕ) (k : ℕ) (read : Read Refusal Trees) →
     Told (λ e. e) b k read → Told (λ e. e) b k (with_children kind read)
@@ -235,7 +219,7 @@ arm_told r room h i b (Some a) =
     let k = all_taken (value_at r room) (value_taken r room) ts b in
     let one : 1 + k ≡ suc k = omega arith in
     rw one at (told_behind (λ e. e) (i ∷ b) (i ∷ []) b k _ refl
-        (parts_told (arm a.0) b k (all_at (value_at r room) ts b) (all_told r room h ts b)))
+    (parts_told (arm a.0) b k (all_at (value_at r room) ts b) (all_told r room h ts b)))
 
 arms_told : (r : List TypeInfo) (room : ℕ) → ChildTold r room → (arms : List Arm) (b : List ℕ) →
     Told (λ e. e) b (arms_taken (value_at r room) (value_taken r room) arms b)
@@ -274,8 +258,8 @@ layout_told r room h (layout.array n t) b =
 layout_told r room h (layout.sequence t) b = let child = value_at r room in
     rw (elements_chain child t (compact_at target.U32 b))
     (chain_told basic (λ e. e) _ (λ n c. with_children list (times_at child n t c))
-        (λ n. times_taken child (value_taken r room) n.0 t n.1) b (compact_taken target.U32 b)
-        (compact_at target.U32 b) (compact_takes target.U32 b) (compact_told target.U32 b)
+    (λ n. times_taken child (value_taken r room) n.0 t n.1) b (compact_taken target.U32 b)
+    (compact_at target.U32 b) (compact_takes target.U32 b) (compact_told target.U32 b)
     (λ n. parts_told list n.1 _ (times_at child n.0 t n.1) (times_told r room h n.0 t n.1)))
 
 value_told : (r : List TypeInfo) (room t : ℕ) (b : List ℕ) →

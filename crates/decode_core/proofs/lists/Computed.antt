@@ -1,23 +1,15 @@
 -- Every input has the outcome that is computed.
-use Rattle.std.proofs.Common.{
-    ◌≡◌, ℕ, suc, List, ◌++◌, length, take, drop, Ok, Err, refl, sym, ap, ◌∙◌, arith, inl, inr
-}
+use Rattle.std.proofs.Common.{◌≡◌, ℕ, suc, List, ◌++◌, length, take, drop, Ok, Err, refl, sym, ap, ◌∙◌, arith, inl, inr}
 use Rattle.std.specs.Prelude.{◌≢◌}
 use Rattle.std.proofs.lemmas.Bool.{cases_lt, lt-ltb, le-ltb}
 use Rattle.std.proofs.lemmas.List.{take_all, take-append-drop, length-append}
 use Rattle.scale_core.specs.Read.{Read, place}
 use Rattle.scale_core.specs.declared.fault.Reason.TheVariants as scale
 use Rattle.grammar_core.specs.Tree.{Tree}
-use Rattle.grammar_core.specs.Reading.{
-    value_at, Refusal, basic, no_such_variant, too_deep, no_finite_value, bit_sequence, bad_compact,
-    truncated
-}
+use Rattle.grammar_core.specs.Reading.{value_at, Refusal, basic, no_such_variant, too_deep, no_finite_value, bit_sequence, bad_compact, truncated}
 use Rattle.grammar_core.proofs.Proved.{read_is_value, stable}
 use Rattle.decode_core.specs.Taken.{value_taken}
-use Rattle.decode_core.specs.Outcome.{
-    Outcome, refused, Job, IsShortest, FailsAt, IsOutcome, missing, refusal, answer, outcome_of,
-    OutcomeIsComputed, TakenIsShortest
-}
+use Rattle.decode_core.specs.Outcome.{Outcome, refused, Job, IsShortest, FailsAt, IsOutcome, missing, refusal, answer, outcome_of, OutcomeIsComputed, TakenIsShortest}
 use Rattle.decode_core.proofs.lists.Deciding.{Decides}
 use Rattle.decode_core.proofs.lists.Shortest.{value_decided}
 use Rattle.decode_core.proofs.lists.Outcomes.{one_outcome, failed_is}
@@ -35,18 +27,26 @@ shortest j b reason left ne e =
     let k = value_taken j.registry (suc j.depth) j.ty b in
     let d = decides j b reason left ne e in
     let longer = stable j.registry (suc j.depth) j.ty (take k b) (drop k b) reason d.front.0 ne
-        d.front.1 in
+    d.front.1 in
     let split : take k b ++ drop k b ≡ b = take-append-drop k b in
     let same : value_at j.registry (suc j.depth) j.ty b ≡ Err (reason, d.front.0 ++ drop k b) =
-        ap (value_at j.registry (suc j.depth) j.ty) (sym split) ∙ longer in
+    ap (value_at j.registry (suc j.depth) j.ty) (sym split) ∙ longer in
     let lefts : left ≡ d.front.0 ++ drop k b =
-        ap (λ (p : Refusal × List ℕ). p.1)
-        (failed_is (reason, left) (reason, d.front.0 ++ drop k b) (sym e ∙ same)) in
+    ap (λ (p : Refusal × List ℕ). p.1)
+    (failed_is (reason, left) (reason, d.front.0 ++ drop k b) (sym e ∙ same)) in
     record {
       there = d.there;
-      holds = (d.front.0, d.front.1,
-          omega (arith, ap length split, length-append (take k b) (drop k b), ap length lefts,
-          length-append d.front.0 (drop k b)));
+      holds = (
+        d.front.0,
+        d.front.1,
+        omega (
+          arith,
+          ap length split,
+          length-append (take k b) (drop k b),
+          ap length lefts,
+          length-append d.front.0 (drop k b),
+        ),
+      );
       least = λ i lt f. let early = d.early i lt in
           ne (ap (λ (p : Refusal × List ℕ). p.0)
           (failed_is (reason, f.0) (truncated, early.0) (sym f.1 ∙ early.1)));
@@ -60,8 +60,10 @@ Is j input o = IsOutcome j input o.0 o.1
 
 refused_is : (j : Job) (input : List ℕ) (reason : Refusal) (left : List ℕ) → reason ≢ truncated →
     value_at j.registry (suc j.depth) j.ty (take j.bytes input) ≡ Err (reason, left) →
-    Is j input (refused reason (place (take j.bytes input) left),
-    value_taken j.registry (suc j.depth) j.ty (take j.bytes input))
+    Is j input (
+      refused reason (place (take j.bytes input) left),
+      value_taken j.registry (suc j.depth) j.ty (take j.bytes input),
+    )
 refused_is j input reason left ne e =
     (ne, (left, e, refl), shortest j (take j.bytes input) reason left ne e)
 
@@ -111,7 +113,9 @@ computed j input = answer_is j input (value_at j.registry (suc j.depth) j.ty (ta
     refl
 
 pub outcome_is_computed : OutcomeIsComputed
-outcome_is_computed j input =
-    (computed j input, λ o n h. let same =
-    one_outcome j input (outcome_of j input).0 o (outcome_of j input).1 n (computed j input) h in
-    rw (← same.0, ← same.1) refl)
+outcome_is_computed j input = (
+  computed j input,
+  λ o n h. let same =
+      one_outcome j input (outcome_of j input).0 o (outcome_of j input).1 n (computed j input) h in
+      rw (← same.0, ← same.1) refl,
+)

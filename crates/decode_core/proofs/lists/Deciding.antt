@@ -1,13 +1,8 @@
 -- Readers whose refusals are decided by a front of the input.
-use Rattle.std.proofs.Common.{
-    ◌≡◌, ℕ, zero, suc, ◌+◌, ◌-◌, ◌<◌, ◌≤◌, ◌⊎◌, List, [], ◌∷◌, ◌++◌, length, take, drop, Ok, Err,
-    refl, sym, ap, ◌∙◌, arith, inl, inr
-}
+use Rattle.std.proofs.Common.{◌≡◌, ℕ, zero, suc, ◌+◌, ◌-◌, ◌<◌, ◌≤◌, ◌⊎◌, List, [], ◌∷◌, ◌++◌, length, take, drop, Ok, Err, refl, sym, ap, ◌∙◌, arith, inl, inr}
 use Rattle.std.specs.Prelude.{◌≢◌}
 use Rattle.std.proofs.lemmas.Bool.{cases_lt}
-use Rattle.std.proofs.lemmas.List.{
-    append-nil, take-append-drop, take-append-le, length-append, length-take-le
-}
+use Rattle.std.proofs.lemmas.List.{append-nil, take-append-drop, take-append-le, length-append, length-take-le}
 use Rattle.std.proofs.Math.Seq.{take-append-add}
 use Rattle.scale_core.specs.Read.{Read, ◌>>=◌, place}
 use Rattle.scale_core.proofs.Results.{Takes, Extends, done_is}
@@ -51,7 +46,7 @@ early_cut {E = E} {X = X} cut g s d e x full some = go (g d) refl (s.extends d e
       × (g d ≡ Err (cut, left))
   go (Ok y) is ext =
       let same = ap (λ (p : X × List ℕ). length p.1)
-          (done_is {E = E} (x, []) (y.0, y.1 ++ e) (sym all ∙ ext)) in
+      (done_is {E = E} (x, []) (y.0, y.1 ++ e) (sym all ∙ ext)) in
       absurd (omega (arith, same, length-append y.1 e, some))
   go (Err f) is ext = told f is ext (s.tells f.0)
 
@@ -74,71 +69,82 @@ pub finish_decided : {E F X Y : Type 0} (cut : E) (m : E → F) (make : X → Y)
     (b : List ℕ) (k : ℕ) → Decided cut g b k (g b) → Decided (m cut) G b k (G b)
 finish_decided {E = E} {F = F} {X = X} {Y = Y} cut m make G g is b k h =
     rw (is b) (go (g b) h) where
-  go : (read : Read E X) → Decided cut g b k read → Decided (m cut) G b k (finish m make read)
-  go (Ok x) h = tt
-  go (Err e) h = λ ne. let d = h (λ eq. ne (ap m eq)) in
-      record {
-        there = d.there;
-        front = (d.front.0, is (take k b) ∙ ap (finish m make) d.front.1);
-        early = λ j lt. let f = d.early j lt in (f.0, is (take j b) ∙ ap (finish m make) f.1);
-      }
+      go : (read : Read E X) → Decided cut g b k read → Decided (m cut) G b k (finish m make read)
+      go (Ok x) h = tt
+      go (Err e) h = λ ne. let d = h (λ eq. ne (ap m eq)) in
+          record {
+            there = d.there;
+            front = (d.front.0, is (take k b) ∙ ap (finish m make) d.front.1);
+            early = λ j lt. let f = d.early j lt in (f.0, is (take j b) ∙ ap (finish m make) f.1);
+          }
 
 pub chain_decided : {E F X Y : Type 0} (cut : E) (m : E → F) (G : List ℕ → Read F Y)
     (g : List ℕ → Read E X) (h : X → List ℕ → Read F Y) (next : X × List ℕ → ℕ) →
     ((b : List ℕ) → G b ≡ chain m h (g b)) → IsSteady cut g →
     (b : List ℕ) (own : ℕ) → Decided cut g b own (g b) →
-        ((x : X × List ℕ) → Decided (m cut) (h x.0) x.1 (next x) (h x.0 x.1)) →
-        Decided (m cut) G b (taken_after b (g b) own next) (G b)
+    ((x : X × List ℕ) → Decided (m cut) (h x.0) x.1 (next x) (h x.0 x.1)) →
+    Decided (m cut) G b (taken_after b (g b) own next) (G b)
 chain_decided {E = E} {F = F} {X = X} {Y = Y} cut m G g h next is steady b own first rest =
     rw (is b) (go (g b) first (steady.exact b)) where
-  then : (x : X × List ℕ) (c : List ℕ) → b ≡ c ++ x.1 →
-      ((more : List ℕ) → g (c ++ more) ≡ Ok (x.0, more)) → (read : Read F Y) →
-      Decided (m cut) (h x.0) x.1 (next x) read → Decided (m cut) G b (place b x.1 + next x) read
-  then x c eq full (Ok y) d = tt
-  then x c eq full (Err e) d = λ ne. made (d ne) where
-    len : place b x.1 ≡ length c
-    len = omega (arith, ap length eq, length-append c x.1)
+      then : (x : X × List ℕ) (c : List ℕ) → b ≡ c ++ x.1 →
+          ((more : List ℕ) → g (c ++ more) ≡ Ok (x.0, more)) → (read : Read F Y) →
+          Decided (m cut) (h x.0) x.1 (next x) read → Decided (m cut) G b (place b x.1 + next x) read
+      then x c eq full (Ok y) d = tt
+      then x c eq full (Err e) d = λ ne. made (d ne) where
+        len : place b x.1 ≡ length c
+        len = omega (arith, ap length eq, length-append c x.1)
 
-    early : Decides (m cut) (h x.0) x.1 (next x) e.0 → (j : ℕ) → j < length c + next x →
-        (left : List ℕ) × (G (take j (c ++ x.1)) ≡ Err (m cut, left))
-    early k j lt = elim (cases_lt j (length c)) [
-      | inl less ↦
-          let split : take j c ++ drop j c ≡ c = take-append-drop j c in
-          let long : 1 ≤ length (drop j c) =
-              omega (arith, ap length split, length-append (take j c) (drop j c),
-              length-take-le j c (omega arith)) in
-          let short = early_cut cut g steady (take j c) (drop j c) x.0 (rw split full) long in
-          (short.0, is (take j (c ++ x.1))
-              ∙ ap (λ (z : List ℕ). chain m h (g z)) (take-append-le j c x.1 (omega arith))
-              ∙ ap (chain m h) short.1)
-      | inr ge ↦
-          let f = k.early (j - length c) (omega arith) in
-          let at : take j (c ++ x.1) ≡ c ++ take (j - length c) x.1 =
+        early : Decides (m cut) (h x.0) x.1 (next x) e.0 → (j : ℕ) → j < length c + next x →
+            (left : List ℕ) × (G (take j (c ++ x.1)) ≡ Err (m cut, left))
+        early k j lt = elim (cases_lt j (length c)) [
+          | inl less ↦
+              let split : take j c ++ drop j c ≡ c = take-append-drop j c in
+              let long : 1 ≤ length (drop j c) =
+              omega (
+                arith,
+                ap length split,
+                length-append (take j c) (drop j c),
+                length-take-le j c (omega arith),
+              ) in
+              let short = early_cut cut g steady (take j c) (drop j c) x.0 (rw split full) long in (
+                short.0,
+                is (take j (c ++ x.1))
+                    ∙ ap (λ (z : List ℕ). chain m h (g z)) (take-append-le j c x.1 (omega arith))
+                    ∙ ap (chain m h) short.1,
+              )
+          | inr ge ↦
+              let f = k.early (j - length c) (omega arith) in
+              let at : take j (c ++ x.1) ≡ c ++ take (j - length c) x.1 =
               ap (λ (i : ℕ). take i (c ++ x.1)) (omega arith)
-              ∙ take-append-add c x.1 (j - length c) in
-          (f.0, is (take j (c ++ x.1)) ∙ ap (λ (z : List ℕ). chain m h (g z)) at
-              ∙ ap (chain m h) (full (take (j - length c) x.1)) ∙ f.1)
-    ]
+              ∙ take-append-add c x.1 (j - length c) in (
+                f.0,
+                is (take j (c ++ x.1)) ∙ ap (λ (z : List ℕ). chain m h (g z)) at
+                    ∙ ap (chain m h) (full (take (j - length c) x.1)) ∙ f.1,
+              )
+        ]
 
-    made : Decides (m cut) (h x.0) x.1 (next x) e.0 → Decides (m cut) G b (place b x.1 + next x) e.0
-    made k = rw (len, eq) (record {
-      there = omega (arith, k.there, length-append c x.1);
-      front = (k.front.0, is (take (length c + next x) (c ++ x.1))
-          ∙ ap (λ (z : List ℕ). chain m h (g z)) (take-append-add c x.1 (next x))
-          ∙ ap (chain m h) (full (take (next x) x.1)) ∙ k.front.1);
-      early = early k;
-    })
+        made : Decides (m cut) (h x.0) x.1 (next x) e.0 → Decides (m cut) G b (place b x.1 + next x) e.0
+        made k = rw (len, eq) (record {
+          there = omega (arith, k.there, length-append c x.1);
+          front = (
+            k.front.0,
+            is (take (length c + next x) (c ++ x.1))
+                ∙ ap (λ (z : List ℕ). chain m h (g z)) (take-append-add c x.1 (next x))
+                ∙ ap (chain m h) (full (take (next x) x.1)) ∙ k.front.1,
+          );
+          early = early k;
+        })
 
-  go : (read : Read E X) → Decided cut g b own read →
-      Takes (λ x c. (more : List ℕ) → g (c ++ more) ≡ Ok (x, more)) b read →
-      Decided (m cut) G b (taken_after b read own next) (chain m h read)
-  go (Ok x) d k = then x k.0 k.1 k.2 (h x.0 x.1) (rest x)
-  go (Err e) d k = λ ne. let f = d (λ eq. ne (ap m eq)) in
-      record {
-        there = f.there;
-        front = (f.front.0, is (take own b) ∙ ap (chain m h) f.front.1);
-        early = λ j lt. let s = f.early j lt in (s.0, is (take j b) ∙ ap (chain m h) s.1);
-      }
+      go : (read : Read E X) → Decided cut g b own read →
+          Takes (λ x c. (more : List ℕ) → g (c ++ more) ≡ Ok (x, more)) b read →
+          Decided (m cut) G b (taken_after b read own next) (chain m h read)
+      go (Ok x) d k = then x k.0 k.1 k.2 (h x.0 x.1) (rest x)
+      go (Err e) d k = λ ne. let f = d (λ eq. ne (ap m eq)) in
+          record {
+            there = f.there;
+            front = (f.front.0, is (take own b) ∙ ap (chain m h) f.front.1);
+            early = λ j lt. let s = f.early j lt in (s.0, is (take j b) ∙ ap (chain m h) s.1);
+          }
 
 -- taken_after one byte
 pub cons_decided : {E Y : Type 0} (cut : E) (G g : List ℕ → Read E Y) (i : ℕ) →

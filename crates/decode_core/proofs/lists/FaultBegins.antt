@@ -1,8 +1,5 @@
 -- What was added before a fault is a begun tree.
-use Rattle.std.proofs.Common.{
-    ◌≡◌, ℕ, zero, suc, ◌<◌, ◌≤◌, ◌⊎◌, List, [], ◌∷◌, ◌++◌, length, Option, Some, None, Ok, Err,
-    refl, sym, ap, ◌∙◌, append_assoc, arith, inl, inr
-}
+use Rattle.std.proofs.Common.{◌≡◌, ℕ, zero, suc, ◌<◌, ◌≤◌, ◌⊎◌, List, [], ◌∷◌, ◌++◌, length, Option, Some, None, Ok, Err, refl, sym, ap, ◌∙◌, append_assoc, arith, inl, inr}
 use Rattle.scale_core.specs.Compact.{IsCompact}
 use Rattle.scale_core.specs.Read.{Read, compact_at}
 use Rattle.scale_core.specs.declared.compact.Target.TheVariants as target
@@ -22,10 +19,7 @@ use Rattle.grammar_core.specs.Grammar.{Val, Vals, Each}
 use Rattle.grammar_core.specs.Reading.{value_at, layout_at, Refusal}
 use Rattle.grammar_core.proofs.Proved.{read_is_value}
 use Rattle.value_core.specs.Built.{Entry}
-use Rattle.decode_core.specs.Told.{
-    entry, shown, leaf_own, arm_own, arms_own, length_own, shallow, own_at, Ending, Fault, Told,
-    told, after, then, all_told, times_told, own_told, told_at
-}
+use Rattle.decode_core.specs.Told.{entry, shown, leaf_own, arm_own, arms_own, length_own, shallow, own_at, Ending, Fault, Told, told, after, then, all_told, times_told, own_told, told_at}
 use Rattle.grammar_core.specs.Begun.{nothing, in_fields, in_arm, in_list, Grows}
 use Rattle.decode_core.specs.Begins.{Begins, FaultIsBegun}
 use Rattle.decode_core.specs.Met.{met_layout}
@@ -63,7 +57,7 @@ IsValue r room t b y = (xs : List Entry) (rest : List ℕ) → y ≡ told xs (Ok
 told_value : (r : List TypeInfo) (room t : ℕ) (b : List ℕ) → IsValue r room t b (told_at r room t b)
 told_value r room t b xs rest is =
     let v = value_of (value_at r room t b) (told_at r room t b) xs rest (told_agrees r room t b)
-        is in
+    is in
     let st = read_is_value r room t b v.0 rest v.1 in
     record { v = v.0; c = st.0; is = st.1; val = st.2; low = st.3; shows = v.2 }
 
@@ -111,34 +105,47 @@ unfolding Val
 all_begin r room h [] b = tt
 all_begin r room h (t ∷ ts) b =
     first (told_at r room t b) (h t b) (told_value r room t b) (λ c. all_begin r room h ts c) where
-  next : (xs : List Entry) (rest : List ℕ) → Read_value r room t b xs rest →
-      (ys : List Entry) (e : Fault) → AllBegin r room ts rest ys e →
-      AllBegin r room (t ∷ ts) b (xs ++ ys) e
-  next xs rest k ys e s = record {
-    before = t ∷ s.before;
-    ty = s.ty;
-    behind = s.behind;
-    vs = and k.v s.vs;
-    b1 = k.c ++ s.b1;
-    b2 = s.b2;
-    ys = s.ys;
-    types = ap (λ (us : List ℕ). t ∷ us) s.types;
-    vals = (k.c, s.b1, refl, k.val, s.vals);
-    is = rw (k.is, s.is) (sym (append_assoc k.c s.b1 s.b2));
-    begins = s.begins;
-    low = omega (arith, k.low, s.low);
-    shows = shows_more xs ys s.ys k.v s.vs k.shows s.shows;
-  }
+      next : (xs : List Entry) (rest : List ℕ) → Read_value r room t b xs rest →
+          (ys : List Entry) (e : Fault) → AllBegin r room ts rest ys e →
+          AllBegin r room (t ∷ ts) b (xs ++ ys) e
+      next xs rest k ys e s = record {
+        before = t ∷ s.before;
+        ty = s.ty;
+        behind = s.behind;
+        vs = and k.v s.vs;
+        b1 = k.c ++ s.b1;
+        b2 = s.b2;
+        ys = s.ys;
+        types = ap (λ (us : List ℕ). t ∷ us) s.types;
+        vals = (k.c, s.b1, refl, k.val, s.vals);
+        is = rw (k.is, s.is) (sym (append_assoc k.c s.b1 s.b2));
+        begins = s.begins;
+        low = omega (arith, k.low, s.low);
+        shows = shows_more xs ys s.ys k.v s.vs k.shows s.shows;
+      }
 
-  first : (y : Told) → EndsTold (Begins r room t b) y → IsValue r room t b y →
-      ((c : List ℕ) → EndsTold (AllBegin r room ts c) (all_told (told_at r room) ts c)) →
-      EndsTold (AllBegin r room (t ∷ ts) b) (then y (all_told (told_at r room) ts))
-  first (told xs (Err e)) w k m =
-      record { before = []; ty = t; behind = ts; vs = none; b1 = []; b2 = b; ys = xs; types = refl;
-      vals = refl; is = refl; begins = w; low = omega arith; shows = refl }
-  first (told xs (Ok rest)) w k m =
-      after_ends (AllBegin r room ts rest) (AllBegin r room (t ∷ ts) b) xs
-      (all_told (told_at r room) ts rest) (m rest) (next xs rest (k xs rest refl))
+      first : (y : Told) → EndsTold (Begins r room t b) y → IsValue r room t b y →
+          ((c : List ℕ) → EndsTold (AllBegin r room ts c) (all_told (told_at r room) ts c)) →
+          EndsTold (AllBegin r room (t ∷ ts) b) (then y (all_told (told_at r room) ts))
+      first (told xs (Err e)) w k m =
+          record {
+            before = [];
+            ty = t;
+            behind = ts;
+            vs = none;
+            b1 = [];
+            b2 = b;
+            ys = xs;
+            types = refl;
+            vals = refl;
+            is = refl;
+            begins = w;
+            low = omega arith;
+            shows = refl;
+          }
+      first (told xs (Ok rest)) w k m =
+          after_ends (AllBegin r room ts rest) (AllBegin r room (t ∷ ts) b) xs
+          (all_told (told_at r room) ts rest) (m rest) (next xs rest (k xs rest refl))
 
 times_begin : (r : List TypeInfo) (room : ℕ) → ChildBegins r room → (n t : ℕ) (b : List ℕ) →
     EndsTold (TimesBegin r room n t b) (times_told (told_at r room) n t b)
@@ -146,39 +153,59 @@ unfolding Val
 times_begin r room h zero t b = tt
 times_begin r room h (suc n) t b =
     first (told_at r room t b) (h t b) (told_value r room t b) (λ c. times_begin r room h n t c)
-    where
-  next : (xs : List Entry) (rest : List ℕ) → Read_value r room t b xs rest →
-      (ys : List Entry) (e : Fault) → TimesBegin r room n t rest ys e →
-      TimesBegin r room (suc n) t b (xs ++ ys) e
-  next xs rest k ys e s = record {
-    vs = and k.v s.vs;
-    b1 = k.c ++ s.b1;
-    b2 = s.b2;
-    ys = s.ys;
-    fewer = omega (arith, s.fewer);
-    vals = (k.c, s.b1, refl, k.val, s.vals);
-    is = rw (k.is, s.is) (sym (append_assoc k.c s.b1 s.b2));
-    begins = s.begins;
-    low = omega (arith, k.low, s.low);
-    shows = shows_more xs ys s.ys k.v s.vs k.shows s.shows;
-  }
+  where
+    next : (xs : List Entry) (rest : List ℕ) → Read_value r room t b xs rest →
+        (ys : List Entry) (e : Fault) → TimesBegin r room n t rest ys e →
+        TimesBegin r room (suc n) t b (xs ++ ys) e
+    next xs rest k ys e s = record {
+      vs = and k.v s.vs;
+      b1 = k.c ++ s.b1;
+      b2 = s.b2;
+      ys = s.ys;
+      fewer = omega (arith, s.fewer);
+      vals = (k.c, s.b1, refl, k.val, s.vals);
+      is = rw (k.is, s.is) (sym (append_assoc k.c s.b1 s.b2));
+      begins = s.begins;
+      low = omega (arith, k.low, s.low);
+      shows = shows_more xs ys s.ys k.v s.vs k.shows s.shows;
+    }
 
-  first : (y : Told) → EndsTold (Begins r room t b) y → IsValue r room t b y →
-      ((c : List ℕ) → EndsTold (TimesBegin r room n t c) (times_told (told_at r room) n t c)) →
-      EndsTold (TimesBegin r room (suc n) t b) (then y (times_told (told_at r room) n t))
-  first (told xs (Err e)) w k m =
-      record { vs = none; b1 = []; b2 = b; ys = xs; fewer = omega arith; vals = refl; is = refl;
-      begins = w; low = omega arith; shows = refl }
-  first (told xs (Ok rest)) w k m =
-      after_ends (TimesBegin r room n t rest) (TimesBegin r room (suc n) t b) xs
-      (times_told (told_at r room) n t rest) (m rest) (next xs rest (k xs rest refl))
+    first : (y : Told) → EndsTold (Begins r room t b) y → IsValue r room t b y →
+        ((c : List ℕ) → EndsTold (TimesBegin r room n t c) (times_told (told_at r room) n t c)) →
+        EndsTold (TimesBegin r room (suc n) t b) (then y (times_told (told_at r room) n t))
+    first (told xs (Err e)) w k m =
+        record {
+          vs = none;
+          b1 = [];
+          b2 = b;
+          ys = xs;
+          fewer = omega arith;
+          vals = refl;
+          is = refl;
+          begins = w;
+          low = omega arith;
+          shows = refl;
+        }
+    first (told xs (Ok rest)) w k m =
+        after_ends (TimesBegin r room n t rest) (TimesBegin r room (suc n) t b) xs
+        (times_told (told_at r room) n t rest) (m rest) (next xs rest (k xs rest refl))
 
 -- the node itself is not there
 bare : (r : List TypeInfo) (room t : ℕ) (b : List ℕ) (e : Refusal × List ℕ) →
     told_at r room t b ≡ told [] (Err (e, b)) → Begins r room t b [] (e, b)
 unfolding Grows
-bare r room t b e h = record { tree = nothing; own = []; next = t; below = room; part = tt; is =
-    refl; grows = (refl, refl); shows = refl; meets = h }
+bare r room t b e h = record {
+  tree = nothing;
+  own = [];
+  next = t;
+  below = room;
+  part = tt;
+  is =
+      refl;
+  grows = (refl, refl);
+  shows = refl;
+  meets = h;
+}
 
 fields_begin : (r : List TypeInfo) (room t : ℕ) (ts : List ℕ) (b : List ℕ) →
     met_layout r t ≡ layout.fields ts → (xs : List Entry) (e : Fault) → AllBegin r room ts b xs e →
@@ -193,10 +220,26 @@ fields_begin r room t ts b f xs e s = let h = s.begins in let m =
       below = h.below;
       part = tt;
       is = rw (s.is, h.is) (sym (append_assoc s.b1 h.own e.1));
-      grows = (s.before, s.ty, s.behind, s.b1, h.own, m.0, m.1 ∙ ap layout.fields s.types, refl,
-          s.vals, s.low, h.part, h.grows);
-      shows = (length ts, shown s.ys,
-          ap (λ (ns : List Head). head.branch tree.fields (length ts) ∷ ns) s.shows, h.shows);
+      grows = (
+        s.before,
+        s.ty,
+        s.behind,
+        s.b1,
+        h.own,
+        m.0,
+        m.1 ∙ ap layout.fields s.types,
+        refl,
+        s.vals,
+        s.low,
+        h.part,
+        h.grows,
+      );
+      shows = (
+        length ts,
+        shown s.ys,
+        ap (λ (ns : List Head). head.branch tree.fields (length ts) ∷ ns) s.shows,
+        h.shows,
+      );
       meets = h.meets;
     }
 
@@ -215,11 +258,32 @@ arm_begins r room t arms i q a b f is xs e s = let h = s.begins in let m =
       below = h.below;
       part = tt;
       is = rw (s.is, h.is) (ap (λ (x : List ℕ). i ∷ x) (sym (append_assoc s.b1 h.own e.1)));
-      grows = (arms, i, a, s.before, s.ty, s.behind, s.b1, h.own, m.0, m.1, is, s.types, refl,
-          s.vals, s.low, h.part, h.grows);
-      shows = (length (field_types a.fields), shown s.ys,
-          ap (λ (ns : List Head). head.branch (tree.arm q) (length (field_types a.fields)) ∷ ns)
-          s.shows, h.shows);
+      grows = (
+        arms,
+        i,
+        a,
+        s.before,
+        s.ty,
+        s.behind,
+        s.b1,
+        h.own,
+        m.0,
+        m.1,
+        is,
+        s.types,
+        refl,
+        s.vals,
+        s.low,
+        h.part,
+        h.grows,
+      );
+      shows = (
+        length (field_types a.fields),
+        shown s.ys,
+        ap (λ (ns : List Head). head.branch (tree.arm q) (length (field_types a.fields)) ∷ ns)
+            s.shows,
+        h.shows,
+      );
       meets = h.meets;
     }
 

@@ -1,8 +1,5 @@
 -- What a state that bytes led to tells of them: where the reading ends there, that is the outcome.
-use Rattle.std.proofs.Common.{
-    ◌≡◌, ℕ, suc, ◌+◌, ◌-◌, ◌<◌, ◌≤◌, List, [], ◌++◌, length, take, drop, Ok, Err, refl, sym, ap,
-    subst, ◌∙◌, append_assoc, arith, inl, inr, length-append, length-drop
-}
+use Rattle.std.proofs.Common.{◌≡◌, ℕ, suc, ◌+◌, ◌-◌, ◌<◌, ◌≤◌, List, [], ◌++◌, length, take, drop, Ok, Err, refl, sym, ap, subst, ◌∙◌, append_assoc, arith, inl, inr, length-append, length-drop}
 use Rattle.std.specs.Prelude.{◌≢◌}
 use Rattle.std.proofs.lemmas.Bool.{cases_lt}
 use Rattle.std.proofs.lemmas.List.{append-nil, take_all, take-append-le, length-take}
@@ -13,14 +10,9 @@ use Rattle.grammar_core.specs.Tree.{Tree}
 use Rattle.grammar_core.specs.Preorder.{preorder, tree_of, tree_of-preorder}
 use Rattle.grammar_core.specs.Reading.{value_at, Refusal, truncated}
 use Rattle.grammar_core.proofs.Proved.{read_is_value, stable}
-use Rattle.decode_core.specs.Outcome.{
-    Outcome, done, refused, more, too_long, Job, IsShortest, FailsAt, IsOutcome
-}
+use Rattle.decode_core.specs.Outcome.{Outcome, done, refused, more, too_long, Job, IsShortest, FailsAt, IsOutcome}
 use Rattle.value_core.specs.Built.{Entry}
-use Rattle.decode_core.specs.Told.{
-    shown, Ending, Fault, Told, told, added, ending, after, then, times_told, told_at, rest_told,
-    Agrees
-}
+use Rattle.decode_core.specs.Told.{shown, Ending, Fault, Told, told, added, ending, after, then, times_told, told_at, rest_told, Agrees}
 use Rattle.decode_core.specs.Machine.{State, remain, start}
 use Rattle.decode_core.proofs.lists.Tells.{after-nil, then-end, told_agrees}
 use Rattle.decode_core.specs.Turned.{TurnsLead}
@@ -66,9 +58,11 @@ pub value_of : (read : Read Refusal Tree) (y : Told) (xs : List Entry) (rest : L
     Agrees read y → y ≡ told xs (Ok rest) → (v : Tree) × (read ≡ Ok (v, rest))
     × (shown xs ≡ preorder v)
 value_of (Err x) y xs rest h is = let both = sym h.1 ∙ ap ending is in absurd cc
-value_of (Ok x) y xs rest h is =
-    (x.0, ap (λ (z : List ℕ). Ok (x.0, z)) (ok_is x.1 rest (ending y) h.1 (ap ending is)),
-    sym (ap (λ (z : Told). shown (added z)) is) ∙ h.0)
+value_of (Ok x) y xs rest h is = (
+  x.0,
+  ap (λ (z : List ℕ). Ok (x.0, z)) (ok_is x.1 rest (ending y) h.1 (ap ending is)),
+  sym (ap (λ (z : Told). shown (added z)) is) ∙ h.0,
+)
 
 -- where a run stands in the input
 pub record Here (j : Job) (input : List ℕ) (s : State) (rest : List ℕ) : Type 0 where
@@ -82,15 +76,21 @@ pub done_here : (j : Job) (input : List ℕ) (s : State) (rest : List ℕ) (m : 
     IsOutcome j input (done (tree_of (shown s.nodes))) (m - length rest)
 done_here j input s rest m h k len =
     let all : told_at j.registry (suc j.depth) j.ty (h.own ++ rest) ≡ told s.nodes (Ok rest) =
-        whole_told j.registry j.depth j.ty s h.own rest h.led ∙ ap (after s.nodes) k
-        ∙ ap (λ (xs : List Entry). told xs (Ok rest)) (append-nil s.nodes) in
+    whole_told j.registry j.depth j.ty s h.own rest h.led ∙ ap (after s.nodes) k
+    ∙ ap (λ (xs : List Entry). told xs (Ok rest)) (append-nil s.nodes) in
     let v = value_of (value_at j.registry (suc j.depth) j.ty (h.own ++ rest))
-        (told_at j.registry (suc j.depth) j.ty (h.own ++ rest)) s.nodes rest
-        (told_agrees j.registry (suc j.depth) j.ty (h.own ++ rest)) all in
+    (told_at j.registry (suc j.depth) j.ty (h.own ++ rest)) s.nodes rest
+    (told_agrees j.registry (suc j.depth) j.ty (h.own ++ rest)) all in
     let tree : v.0 ≡ tree_of (shown s.nodes) = sym (ap tree_of v.2 ∙ tree_of-preorder v.0) in
     let st = read_is_value j.registry (suc j.depth) j.ty (h.own ++ rest) v.0 rest v.1 in
-    rw (← tree) (st.0, rest, h.is ∙ st.1, st.2, st.3,
-        omega (arith, len, ap length h.is, ap length st.1, length-append st.0 rest))
+    rw (← tree) (
+      st.0,
+      rest,
+      h.is ∙ st.1,
+      st.2,
+      st.3,
+      omega (arith, len, ap length h.is, ap length st.1, length-append st.0 rest),
+    )
 
 fault_here : (j : Job) (input : List ℕ) (s : State) (rest new : List ℕ) (e : Refusal)
     (left : List ℕ) (h : Here j input s rest) →
@@ -103,9 +103,10 @@ fault_here j input s rest new e left h k =
 pub cut_here : (j : Job) (input : List ℕ) (s : State) (rest left : List ℕ) → Here j input s rest →
     remain j.registry s rest ≡ told [] (Err ((truncated, left), rest)) → (at : ℕ)
     × FailsAt j truncated at (take j.bytes input)
-cut_here j input s rest left h k =
-    (place (take j.bytes input) left,
-    (left, rw h.is (fault_here j input s rest rest truncated left h k), refl))
+cut_here j input s rest left h k = (
+  place (take j.bytes input) left,
+  (left, rw h.is (fault_here j input s rest rest truncated left h k), refl),
+)
 
 reason_is : (x y : Refusal × List ℕ) (read : Read Refusal Tree) → read ≡ Err x → read ≡ Err y →
     x ≡ y
@@ -118,46 +119,56 @@ pub refused_here : (j : Job) (input : List ℕ) (s : State) (rest : List ℕ) (m
     IsOutcome j input (refused e (m - length left)) (m - length rest + n)
 refused_here j input s rest m n e left h len ne d k =
     (ne, at_front, record { there = there; holds = holds; least = least }) where
-  front : List ℕ
-  front = take j.bytes input
+      front : List ℕ
+      front = take j.bytes input
 
-  all : length front ≡ length h.own + length rest
-  all = ap length h.is ∙ length-append h.own rest
+      all : length front ≡ length h.own + length rest
+      all = ap length h.is ∙ length-append h.own rest
 
-  at_front : FailsAt j e (m - length left) front
-  at_front = (left, rw h.is (fault_here j input s rest rest e left h k), rw len refl)
+      at_front : FailsAt j e (m - length left) front
+      at_front = (left, rw h.is (fault_here j input s rest rest e left h k), rw len refl)
 
-  count : m - length rest + n ≡ length h.own + n
-  count = omega (arith, len, all)
+      count : m - length rest + n ≡ length h.own + n
+      count = omega (arith, len, all)
 
-  there : m - length rest + n ≤ length front
-  there = omega (arith, count, all, d.within)
+      there : m - length rest + n ≤ length front
+      there = omega (arith, count, all, d.within)
 
-  parts : (i : ℕ) → take (length h.own + i) front ≡ h.own ++ take i rest
-  parts i = ap (take (length h.own + i)) h.is ∙ take-append-add h.own rest i
+      parts : (i : ℕ) → take (length h.own + i) front ≡ h.own ++ take i rest
+      parts i = ap (take (length h.own + i)) h.is ∙ take-append-add h.own rest i
 
-  holds : FailsAt j e (m - length left) (take (m - length rest + n) front)
-  holds = (
-    d.back,
-    ap (value_at j.registry (suc j.depth) j.ty) (ap (λ (i : ℕ). take i front) count ∙ parts n)
-        ∙ fault_here j input s rest (take n rest) e d.back h d.holds,
-    omega (arith, len, all, d.low, d.within, ap length d.is, length-append d.back (drop n rest),
-        length-drop n rest, length-take (m - length rest + n) front, count),
-  )
+      holds : FailsAt j e (m - length left) (take (m - length rest + n) front)
+      holds = (
+        d.back,
+        ap (value_at j.registry (suc j.depth) j.ty) (ap (λ (i : ℕ). take i front) count ∙ parts n)
+            ∙ fault_here j input s rest (take n rest) e d.back h d.holds,
+        omega (
+          arith,
+          len,
+          all,
+          d.low,
+          d.within,
+          ap length d.is,
+          length-append d.back (drop n rest),
+          length-drop n rest,
+          length-take (m - length rest + n) front,
+          count,
+        ),
+      )
 
-  least : (i : ℕ) → i < m - length rest + n → ¬ FailsAt j e (m - length left) (take i front)
-  least i lt = elim (cases_lt i (length h.own)) [
-    | inl low ↦ λ f. omega (arith, f.2, length-take i front, len, all, d.low)
-    | inr ge ↦ λ f.
-        let same : length h.own + (i - length h.own) ≡ i = omega arith in
-        let cut = d.least (i - length h.own) (omega (arith, count)) in
-        let short = ap (value_at j.registry (suc j.depth) j.ty)
+      least : (i : ℕ) → i < m - length rest + n → ¬ FailsAt j e (m - length left) (take i front)
+      least i lt = elim (cases_lt i (length h.own)) [
+        | inl low ↦ λ f. omega (arith, f.2, length-take i front, len, all, d.low)
+        | inr ge ↦ λ f.
+            let same : length h.own + (i - length h.own) ≡ i = omega arith in
+            let cut = d.least (i - length h.own) (omega (arith, count)) in
+            let short = ap (value_at j.registry (suc j.depth) j.ty)
             (ap (λ (i : ℕ). take i front) (sym same) ∙ parts (i - length h.own))
             ∙ fault_here j input s rest (take (i - length h.own) rest) truncated cut.0 h cut.1 in
-        ne (ap (λ (p : Refusal × List ℕ). p.0)
+            ne (ap (λ (p : Refusal × List ℕ). p.0)
             (reason_is (e, f.0) (truncated, cut.0)
             (value_at j.registry (suc j.depth) j.ty (take i front)) f.1 short))
-  ]
+      ]
 
 pub take_split : (n : ℕ) (b p : List ℕ) → take n (b ++ p) ≡ take n b ++ take (n - length b) p
 take_split n b p = elim (cases_lt n (length b)) [
@@ -171,9 +182,11 @@ take_split n b p = elim (cases_lt n (length b)) [
 -- what is decided stays so
 failing_stays : (j : Job) (e : Refusal) (at : ℕ) (x y : List ℕ) → e ≢ truncated → FailsAt j e at x →
     FailsAt j e at (x ++ y)
-failing_stays j e at x y ne f =
-    (f.0 ++ y, stable j.registry (suc j.depth) j.ty x y e f.0 ne f.1,
-    omega (arith, f.2, length-append x y, length-append f.0 y))
+failing_stays j e at x y ne f = (
+  f.0 ++ y,
+  stable j.registry (suc j.depth) j.ty x y e f.0 ne f.1,
+  omega (arith, f.2, length-append x y, length-append f.0 y),
+)
 
 shortest_stays : (P : List ℕ → Type 0) (x y : List ℕ) (n : ℕ) → IsShortest P x n →
     IsShortest P (x ++ y) n
@@ -185,23 +198,36 @@ shortest_stays P x y n h = record {
 
 pub outcome_stays : (j : Job) (b piece : List ℕ) (o : Outcome) (n : ℕ) → IsOutcome j b o n →
     o ≢ more → IsOutcome j (b ++ piece) o n
-outcome_stays j b piece (done v) n h ne = let back = take (j.bytes - length b) piece in
-    (h.0, h.1 ++ back, take_split j.bytes b piece ∙ ap (λ (x : List ℕ). x ++ back) h.2
-        ∙ append_assoc h.0 h.1 back, h.3, h.4, h.5)
-outcome_stays j b piece (refused e at) n h ne = let back = take (j.bytes - length b) piece in
-    (h.0, rw (take_split j.bytes b piece) (failing_stays j e at (take j.bytes b) back h.0 h.1),
-        rw (take_split j.bytes b piece)
-        (shortest_stays (FailsAt j e at) (take j.bytes b) back n h.2))
+outcome_stays j b piece (done v) n h ne = let back = take (j.bytes - length b) piece in (
+  h.0,
+  h.1 ++ back,
+  take_split j.bytes b piece ∙ ap (λ (x : List ℕ). x ++ back) h.2
+      ∙ append_assoc h.0 h.1 back,
+  h.3,
+  h.4,
+  h.5,
+)
+outcome_stays j b piece (refused e at) n h ne = let back = take (j.bytes - length b) piece in (
+  h.0,
+  rw (take_split j.bytes b piece) (failing_stays j e at (take j.bytes b) back h.0 h.1),
+  rw (take_split j.bytes b piece)
+      (shortest_stays (FailsAt j e at) (take j.bytes b) back n h.2),
+)
 outcome_stays j b piece more n h ne = absurd (ne refl)
 outcome_stays j b piece too_long n h ne =
     let same : take j.bytes (b ++ piece) ≡ take j.bytes b =
-        take-append-le j.bytes b piece (omega (arith, h.1)) in
-    ((h.0.0, (h.0.1.0, rw same h.0.1.1, rw same h.0.1.2)),
-        omega (arith, h.1, length-append b piece), h.2)
+    take-append-le j.bytes b piece (omega (arith, h.1)) in (
+      (h.0.0, (h.0.1.0, rw same h.0.1.1, rw same h.0.1.2)),
+      omega (arith, h.1, length-append b piece),
+      h.2,
+    )
 
 -- one way behind the other
 pub led_on : (r : List TypeInfo) (s s' s'' : State) (c d : List ℕ) → TurnsLead r s s' c →
     TurnsLead r s' s'' d → TurnsLead r s s'' (c ++ d)
 led_on r s s' s'' c d h k =
-    record { tells = λ rest. ap (λ (b : List ℕ). after s.nodes (remain r s b))
-    (append_assoc c d rest) ∙ h.tells (d ++ rest) ∙ k.tells rest; level = k.level ∙ h.level }
+    record {
+      tells = λ rest. ap (λ (b : List ℕ). after s.nodes (remain r s b))
+          (append_assoc c d rest) ∙ h.tells (d ++ rest) ∙ k.tells rest;
+      level = k.level ∙ h.level;
+    }

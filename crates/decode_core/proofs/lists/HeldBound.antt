@@ -1,7 +1,5 @@
 -- What is held of an input is little for the bytes taken.
-use Rattle.std.proofs.Common.{
-    ◌≡◌, ℕ, suc, ◌+◌, ◌*◌, ◌≤◌, List, length, Some, Ok, Err, sym, ap, ◌∙◌, arith, length-append
-}
+use Rattle.std.proofs.Common.{◌≡◌, ℕ, suc, ◌+◌, ◌*◌, ◌≤◌, List, length, Some, Ok, Err, sym, ap, ◌∙◌, arith, length-append}
 use Rattle.std.proofs.Math.Nat.{mul_assoc, mul-le-mul_right}
 use Rattle.scale_core.specs.Read.{Read, compact_at}
 use Rattle.scale_core.specs.Compact.{IsCompact}
@@ -24,7 +22,7 @@ use Rattle.decode_core.proofs.lists.Held.{begun_is_bounded}
 pub one_begun : OneBegun
 one_begun r room t b g h e f one two =
     let same = sym (begun_is_missing r room t b g e one).1
-        ∙ (begun_is_missing r room t b h f two).1 in
+    ∙ (begun_is_missing r room t b h f two).1 in
     (ap (λ (p : Begun × List ℕ). p.0) same, ap (λ (p : Begun × List ℕ). p.1) same)
 
 past-le : (e : List ℕ) (read : Read Reason ℕ) → Takes (IsCompact target.U32) e read →
@@ -60,9 +58,10 @@ value_le : (j : Job) (input : List ℕ) (n : ℕ) (v : Tree) → IsOutcome j inp
     (nodes v ≤ value_bound n j.depth (widest j.registry)) × (text_bytes v ≤ n)
 value_le j input n v h =
     let b = values_are_bounded j.registry (suc j.depth) j.ty v h.0 h.3 h.4 in
-    let w = widest j.registry in
-    (omega (arith, b.0, spread n j.depth w, ap (λ (k : ℕ). k * (suc j.depth * (w + 1))) h.5),
-        omega (arith, h.5, b.1))
+    let w = widest j.registry in (
+      omega (arith, b.0, spread n j.depth w, ap (λ (k : ℕ). k * (suc j.depth * (w + 1))) h.5),
+      omega (arith, h.5, b.1),
+    )
 
 begun_le : (j : Job) (input : List ℕ) (n : ℕ) → IsOutcome j input more n →
     (g : Begun) (e : List ℕ) (h : Holds j.registry (suc j.depth) j.ty input g e) →
@@ -72,9 +71,10 @@ begun_le j input n o g e h =
     let b = begun_is_bounded j.registry (suc j.depth) j.ty g h.0 (Some (h.1, h.2)) h.4 in
     let w = widest j.registry in
     let len : length input ≡ length h.0 + length e = ap length h.3 ∙ length-append h.0 e in
-    let small : length h.0 + 1 ≤ n + 1 = omega (arith, len, o.2) in
-    (omega (arith, b.1, spread (n + 1) j.depth w, mul-le-mul_right (suc j.depth * (w + 1)) small),
-        omega (arith, b.2, len, o.2, open-le (layout j.registry h.2) e))
+    let small : length h.0 + 1 ≤ n + 1 = omega (arith, len, o.2) in (
+      omega (arith, b.1, spread (n + 1) j.depth w, mul-le-mul_right (suc j.depth * (w + 1)) small),
+      omega (arith, b.2, len, o.2, open-le (layout j.registry h.2) e),
+    )
 
 pub held_is_bounded : HeldIsBounded
 held_is_bounded j input n = (value_le j input n, begun_le j input n)

@@ -1,7 +1,5 @@
 -- What the machine holds is a begun tree, and small.
-use Rattle.std.proofs.Common.{
-    ◌≡◌, ℕ, suc, ◌+◌, ◌*◌, ◌≤◌, List, length, Some, Err, ap, ◌∙◌, arith, length-append
-}
+use Rattle.std.proofs.Common.{◌≡◌, ℕ, suc, ◌+◌, ◌*◌, ◌≤◌, List, length, Some, Err, ap, ◌∙◌, arith, length-append}
 use Rattle.std.proofs.lemmas.List.{length-map}
 use Rattle.std.proofs.Math.Nat.{mul-le-mul_right}
 use Rattle.registry_core.specs.declared.type_info.TypeInfo.{TypeInfo}
@@ -20,14 +18,29 @@ count_begun : (g : Begun) (ns : List Head) → IsBegunPreorder g ns → length n
 count_begun nothing ns h = ap length h
 count_begun (whole v) ns h = ap length h ∙ length-preorder v
 count_begun (in_fields vs g) ns h =
-    omega (arith, ap length h.2, length-append (all_preorder vs) h.1, length-all_preorder vs,
-    count_begun g h.1 h.3)
+    omega (
+      arith,
+      ap length h.2,
+      length-append (all_preorder vs) h.1,
+      length-all_preorder vs,
+      count_begun g h.1 h.3,
+    )
 count_begun (in_arm q vs g) ns h =
-    omega (arith, ap length h.2, length-append (all_preorder vs) h.1, length-all_preorder vs,
-    count_begun g h.1 h.3)
+    omega (
+      arith,
+      ap length h.2,
+      length-append (all_preorder vs) h.1,
+      length-all_preorder vs,
+      count_begun g h.1 h.3,
+    )
 count_begun (in_list n vs g) ns h =
-    omega (arith, ap length h.1, length-append (all_preorder vs) h.0, length-all_preorder vs,
-    count_begun g h.0 h.2)
+    omega (
+      arith,
+      ap length h.1,
+      length-append (all_preorder vs) h.0,
+      length-all_preorder vs,
+      count_begun g h.0 h.2,
+    )
 
 same_bound : (n depth width : ℕ) →
     (n + 1) * (suc depth * (width + 1)) ≡ (n + 1) * (depth + 1) * (width + 1)
@@ -37,9 +50,13 @@ pub begins_small : (r : List TypeInfo) (depth t : ℕ) (b : List ℕ) (xs : List
     told_at r (suc depth) t b ≡ told xs (Err e) → (h : Begins r (suc depth) t b xs e) →
     length xs ≤ node_bound (length h.own) depth (widest r)
 begins_small r depth t b xs e is h =
-    omega (arith, length-map xs (λ (e : Entry). e.head), count_begun h.tree (shown xs) h.shows,
-        (begun_is_bounded r (suc depth) t h.tree h.own (Some (h.below, h.next)) h.grows).1,
-        same_bound (length h.own) depth (widest r))
+    omega (
+      arith,
+      length-map xs (λ (e : Entry). e.head),
+      count_begun h.tree (shown xs) h.shows,
+      (begun_is_bounded r (suc depth) t h.tree h.own (Some (h.below, h.next)) h.grows).1,
+      same_bound (length h.own) depth (widest r),
+    )
 
 pub more_bytes : (n m depth width : ℕ) → n ≤ m → node_bound n depth width ≤ node_bound m depth width
 more_bytes n m depth width h =

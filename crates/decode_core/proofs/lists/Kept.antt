@@ -1,17 +1,12 @@
 -- An outcome that is decided is kept.
-use Rattle.std.proofs.Common.{
-    ◌≡◌, ℕ, suc, ◌-◌, List, [], ◌++◌, length, take, refl, sym, ap, ◌∙◌, append_assoc, arith, inl,
-    inr
-}
+use Rattle.std.proofs.Common.{◌≡◌, ℕ, suc, ◌-◌, List, [], ◌++◌, length, take, refl, sym, ap, ◌∙◌, append_assoc, arith, inl, inr}
 use Rattle.std.specs.Prelude.{◌≢◌}
 use Rattle.std.proofs.lemmas.Bool.{cases_lt}
 use Rattle.std.proofs.lemmas.List.{take-append-le, length-append, take_all, append-nil}
 use Rattle.std.proofs.Math.Seq.{take-append-add}
 use Rattle.grammar_core.specs.Reading.{Refusal, truncated}
 use Rattle.grammar_core.proofs.Proved.{stable}
-use Rattle.decode_core.specs.Outcome.{
-    done, refused, more, too_long, Job, IsShortest, FailsAt, OutcomeIsKept
-}
+use Rattle.decode_core.specs.Outcome.{done, refused, more, too_long, Job, IsShortest, FailsAt, OutcomeIsKept}
 
 take_more : (n : ℕ) (input later : List ℕ) → (m : List ℕ)
     × (take n (input ++ later) ≡ take n input ++ m)
@@ -19,17 +14,21 @@ take_more n input later = elim (cases_lt n (length input)) [
   | inl lt ↦ ([], take-append-le n input later (omega arith) ∙ sym (append-nil (take n input)))
   | inr le ↦
       let at : take n (input ++ later) ≡ input ++ take (n - length input) later =
-          ap (λ (i : ℕ). take i (input ++ later)) (omega arith)
-          ∙ take-append-add input later (n - length input) in
-      (take (n - length input) later, at
-          ∙ ap (λ (x : List ℕ). x ++ take (n - length input) later) (sym (take_all n input le)))
+      ap (λ (i : ℕ). take i (input ++ later)) (omega arith)
+      ∙ take-append-add input later (n - length input) in (
+        take (n - length input) later,
+        at
+            ∙ ap (λ (x : List ℕ). x ++ take (n - length input) later) (sym (take_all n input le)),
+      )
 ]
 
 fails_more : (j : Job) (reason : Refusal) (at : ℕ) (input m : List ℕ) → reason ≢ truncated →
     FailsAt j reason at input → FailsAt j reason at (input ++ m)
-fails_more j reason at input m ne f =
-    (f.0 ++ m, stable j.registry (suc j.depth) j.ty input m reason f.0 ne f.1,
-    omega (arith, f.2, length-append input m, length-append f.0 m))
+fails_more j reason at input m ne f = (
+  f.0 ++ m,
+  stable j.registry (suc j.depth) j.ty input m reason f.0 ne f.1,
+  omega (arith, f.2, length-append input m, length-append f.0 m),
+)
 
 shortest_more : (P : List ℕ → Type 0) (input m : List ℕ) (n : ℕ) → IsShortest P input n →
     IsShortest P (input ++ m) n
@@ -45,9 +44,14 @@ outcome_is_kept j input later (done v) n ne h =
     (h.0, h.1 ++ t.0, rw (t.1, h.2) (append_assoc h.0 h.1 t.0), h.3, h.4, h.5)
 outcome_is_kept j input later (refused reason at) n ne h =
     let t = take_more j.bytes input later in
-    rw t.1 (h.0, fails_more j reason at (take j.bytes input) t.0 h.0 h.1,
-        shortest_more (FailsAt j reason at) (take j.bytes input) t.0 n h.2)
+    rw t.1 (
+      h.0,
+      fails_more j reason at (take j.bytes input) t.0 h.0 h.1,
+      shortest_more (FailsAt j reason at) (take j.bytes input) t.0 n h.2,
+    )
 outcome_is_kept j input later more n ne h = absurd (ne refl)
-outcome_is_kept j input later too_long n ne h =
-    (rw (take-append-le j.bytes input later (omega (arith, h.1))) h.0,
-        omega (arith, h.1, length-append input later), h.2)
+outcome_is_kept j input later too_long n ne h = (
+  rw (take-append-le j.bytes input later (omega (arith, h.1))) h.0,
+  omega (arith, h.1, length-append input later),
+  h.2,
+)

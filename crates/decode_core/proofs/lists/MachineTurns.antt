@@ -1,15 +1,10 @@
 -- Each turn of the machine keeps what the whole reading says.
-use Rattle.std.proofs.Common.{
-    ◌≡◌, ℕ, suc, ◌+◌, ◌<◌, List, [], ◌∷◌, ◌++◌, length, Some, None, Ok, refl, ap, arith,
-    length-append
-}
+use Rattle.std.proofs.Common.{◌≡◌, ℕ, suc, ◌+◌, ◌<◌, List, [], ◌∷◌, ◌++◌, length, Some, None, Ok, refl, ap, arith, length-append}
 use Rattle.registry_core.specs.declared.type_info.TypeInfo.{TypeInfo}
 use Rattle.grammar_core.specs.Parts.{Part, each, times}
 use Rattle.value_core.specs.Built.{Entry}
 use Rattle.grammar_core.specs.Preorder.{Head}
-use Rattle.decode_core.specs.Told.{
-    entry, Told, told, added, after, then, all_told, times_told, part_told, told_at, rest_told
-}
+use Rattle.decode_core.specs.Told.{entry, Told, told, added, after, then, all_told, times_told, part_told, told_at, rest_told}
 use Rattle.decode_core.specs.Machine.{State, remain, to_go}
 use Rattle.decode_core.specs.Turned.{TurnLeads}
 use Rattle.decode_core.proofs.lists.Tells.{after-after, after-nil, then-after, then-then}
@@ -45,21 +40,28 @@ First r room t ps qs = (b : List ℕ) →
 pub own_leaf : (r : List TypeInfo) (nodes : List Entry) (room t : ℕ) (ps qs : List Part) (h : Head)
     (c : List ℕ) → First r (suc room) t ps qs → length qs ≡ length ps → Spells r t (h, None) c →
     TurnLeads r (record { nodes = nodes; room = suc room; pending = ps })
-        (record { nodes = nodes ++ entry t h ∷ []; room = suc room; pending = qs }) c
+    (record { nodes = nodes ++ entry t h ∷ []; room = suc room; pending = qs }) c
 unfolding told_at
 own_leaf r nodes room t ps qs h c f len is =
-    record { tells = λ more. rw (f (c ++ more), is more, after-after) refl; level = rw len refl;
-    paid = omega (arith, len, length-append nodes (entry t h ∷ [])) }
+    record {
+      tells = λ more. rw (f (c ++ more), is more, after-after) refl;
+      level = rw len refl;
+      paid = omega (arith, len, length-append nodes (entry t h ∷ []));
+    }
 
 pub own_opens : (r : List TypeInfo) (nodes : List Entry) (room t : ℕ) (ps qs : List Part) (h : Head)
     (p : Part) (c : List ℕ) → First r (suc room) t ps qs → length qs ≡ length ps →
     Spells r t (h, Some p) c →
     TurnLeads r (record { nodes = nodes; room = suc room; pending = ps })
-        (record { nodes = nodes ++ entry t h ∷ []; room = room; pending = p ∷ qs }) c
+    (record { nodes = nodes ++ entry t h ∷ []; room = room; pending = p ∷ qs }) c
 unfolding told_at rest_told
 own_opens r nodes room t ps qs h p c f len is =
-    record { tells = λ more. rw (f (c ++ more), is more, then-after, after-after) refl; level =
-    omega (arith, len); paid = omega (arith, len, length-append nodes (entry t h ∷ [])) }
+    record {
+      tells = λ more. rw (f (c ++ more), is more, then-after, after-after) refl;
+      level =
+          omega (arith, len);
+      paid = omega (arith, len, length-append nodes (entry t h ∷ []));
+    }
 
 pub count_after : (xs : List Entry) (y : Told) →
     length (added (after xs y)) ≡ length xs + length (added y)
@@ -67,5 +69,10 @@ count_after xs (told ys end) = length-append xs ys
 
 pub nearer : (r : List TypeInfo) (s s' : State) (c y : List ℕ) → TurnLeads r s s' c →
     to_go r s' y < to_go r s (c ++ y)
-nearer r s s' c y h = omega (arith, h.paid, count_after s.nodes (remain r s (c ++ y)),
-    count_after s'.nodes (remain r s' y), ap (λ (z : Told). length (added z)) (h.tells y))
+nearer r s s' c y h = omega (
+  arith,
+  h.paid,
+  count_after s.nodes (remain r s (c ++ y)),
+  count_after s'.nodes (remain r s' y),
+  ap (λ (z : Told). length (added z)) (h.tells y),
+)

@@ -1,8 +1,5 @@
 -- Where bytes are missing, a begun tree is held.
-use Rattle.std.proofs.Common.{
-    ◌≡◌, ℕ, zero, suc, ◌<◌, ◌≤◌, ◌⊎◌, Bool, true, false, cond, List, [], ◌∷◌, ◌++◌, Option, Some,
-    None, Ok, Err, refl, sym, ap, ◌∙◌, append_assoc, arith, inl, inr
-}
+use Rattle.std.proofs.Common.{◌≡◌, ℕ, zero, suc, ◌<◌, ◌≤◌, ◌⊎◌, Bool, true, false, cond, List, [], ◌∷◌, ◌++◌, Option, Some, None, Ok, Err, refl, sym, ap, ◌∙◌, append_assoc, arith, inl, inr}
 use Rattle.scale_core.specs.Compact.{IsCompact}
 use Rattle.scale_core.specs.Read.{Read, ◌>>=◌, compact_at}
 use Rattle.scale_core.specs.declared.compact.Target.TheVariants as target
@@ -15,14 +12,9 @@ use Rattle.widths_core.specs.Arms.{arm_of}
 use Rattle.widths_core.specs.Classes.{is_finite}
 use Rattle.widths_core.specs.Layouts.{Layout, layout}
 use Rattle.widths_core.specs.Layouts as layout
-use Rattle.grammar_core.specs.Tree.{
-    Branch, Tree, leaf, branch, fields, arm, list, Trees, none, and, how_many, levels, most_levels
-}
+use Rattle.grammar_core.specs.Tree.{Branch, Tree, leaf, branch, fields, arm, list, Trees, none, and, how_many, levels, most_levels}
 use Rattle.grammar_core.specs.Grammar.{Val, Vals, Each}
-use Rattle.grammar_core.specs.Reading.{
-    value_at, layout_at, leaf_at, all_at, times_at, fields_behind_index, arms_at, elements_at,
-    with_children, Refusal, truncated, too_deep
-}
+use Rattle.grammar_core.specs.Reading.{value_at, layout_at, leaf_at, all_at, times_at, fields_behind_index, arms_at, elements_at, with_children, Refusal, truncated, too_deep}
 use Rattle.grammar_core.proofs.Sound.{value_takes}
 use Rattle.grammar_core.specs.Begun.{Begun, nothing, in_fields, in_arm, in_list, IsPart, Grows}
 use Rattle.decode_core.specs.Holds.{OwnIsShort, IsShort, MissingIsBegun}
@@ -67,23 +59,32 @@ unfolding Val
 all_waits r room h [] b = tt
 all_waits r room h (t ∷ ts) b =
     first (value_at r room t b) (h t b) (value_takes r room t b) (λ c. all_waits r room h ts c)
-    where
-  more : (x : Tree × List ℕ) → Takes (One r room t) b (done {E = Refusal} x) →
-      (read : Read Refusal Trees) → Waits (AllHolding r room ts x.1) read →
-      Waits (AllHolding r room (t ∷ ts) b) (read >>= λ others. Ok (and x.0 others.0, others.1))
-  more x k (Ok y) w = tt
-  more x k (Err e) w = λ cut. let s = w cut in
-      (t ∷ s.0, s.1, s.2, and x.0 s.3, k.0 ++ s.4, s.5, ap (λ (us : List ℕ). t ∷ us) s.6,
-          (k.0, s.4, refl, k.2.0, s.7), rw (k.1, s.8) (sym (append_assoc k.0 s.4 s.5)), s.9,
-          omega (arith, k.2.1, s.10))
+  where
+    more : (x : Tree × List ℕ) → Takes (One r room t) b (done {E = Refusal} x) →
+        (read : Read Refusal Trees) → Waits (AllHolding r room ts x.1) read →
+        Waits (AllHolding r room (t ∷ ts) b) (read >>= λ others. Ok (and x.0 others.0, others.1))
+    more x k (Ok y) w = tt
+    more x k (Err e) w = λ cut. let s = w cut in (
+      t ∷ s.0,
+      s.1,
+      s.2,
+      and x.0 s.3,
+      k.0 ++ s.4,
+      s.5,
+      ap (λ (us : List ℕ). t ∷ us) s.6,
+      (k.0, s.4, refl, k.2.0, s.7),
+      rw (k.1, s.8) (sym (append_assoc k.0 s.4 s.5)),
+      s.9,
+      omega (arith, k.2.1, s.10),
+    )
 
-  first : (read : Read Refusal Tree) → Waits (Holding r room t b) read →
-      Takes (One r room t) b read →
-      ((c : List ℕ) → Waits (AllHolding r room ts c) (all_at (value_at r room) ts c)) →
-      Waits (AllHolding r room (t ∷ ts) b)
-      (read >>= λ x. all_at (value_at r room) ts x.1 >>= λ others. Ok (and x.0 others.0, others.1))
-  first (Err e) w k m = λ cut. ([], t, ts, none, [], b, refl, refl, refl, w cut, omega arith)
-  first (Ok x) w k m = more x k (all_at (value_at r room) ts x.1) (m x.1)
+    first : (read : Read Refusal Tree) → Waits (Holding r room t b) read →
+        Takes (One r room t) b read →
+        ((c : List ℕ) → Waits (AllHolding r room ts c) (all_at (value_at r room) ts c)) →
+        Waits (AllHolding r room (t ∷ ts) b)
+        (read >>= λ x. all_at (value_at r room) ts x.1 >>= λ others. Ok (and x.0 others.0, others.1))
+    first (Err e) w k m = λ cut. ([], t, ts, none, [], b, refl, refl, refl, w cut, omega arith)
+    first (Ok x) w k m = more x k (all_at (value_at r room) ts x.1) (m x.1)
 
 times_waits : (r : List TypeInfo) (room : ℕ) → ChildWaits r room → (n t : ℕ) (b : List ℕ) →
     Waits (TimesHolding r room n t b) (times_at (value_at r room) n t b)
@@ -91,23 +92,30 @@ unfolding Val
 times_waits r room h zero t b = tt
 times_waits r room h (suc n) t b =
     first (value_at r room t b) (h t b) (value_takes r room t b) (λ c. times_waits r room h n t c)
-    where
-  more : (x : Tree × List ℕ) → Takes (One r room t) b (done {E = Refusal} x) →
-      (read : Read Refusal Trees) → Waits (TimesHolding r room n t x.1) read →
-      Waits (TimesHolding r room (suc n) t b) (read >>= λ others. Ok (and x.0 others.0, others.1))
-  more x k (Ok y) w = tt
-  more x k (Err e) w = λ cut. let s = w cut in
-      (and x.0 s.0, k.0 ++ s.1, s.2, omega (arith, s.3), (k.0, s.1, refl, k.2.0, s.4),
-          rw (k.1, s.5) (sym (append_assoc k.0 s.1 s.2)), s.6, omega (arith, k.2.1, s.7))
+  where
+    more : (x : Tree × List ℕ) → Takes (One r room t) b (done {E = Refusal} x) →
+        (read : Read Refusal Trees) → Waits (TimesHolding r room n t x.1) read →
+        Waits (TimesHolding r room (suc n) t b) (read >>= λ others. Ok (and x.0 others.0, others.1))
+    more x k (Ok y) w = tt
+    more x k (Err e) w = λ cut. let s = w cut in (
+      and x.0 s.0,
+      k.0 ++ s.1,
+      s.2,
+      omega (arith, s.3),
+      (k.0, s.1, refl, k.2.0, s.4),
+      rw (k.1, s.5) (sym (append_assoc k.0 s.1 s.2)),
+      s.6,
+      omega (arith, k.2.1, s.7),
+    )
 
-  first : (read : Read Refusal Tree) → Waits (Holding r room t b) read →
-      Takes (One r room t) b read →
-      ((c : List ℕ) → Waits (TimesHolding r room n t c) (times_at (value_at r room) n t c)) →
-      Waits (TimesHolding r room (suc n) t b)
-      (read >>= λ x. times_at (value_at r room) n t x.1 >>= λ others. Ok
-      (and x.0 others.0, others.1))
-  first (Err e) w k m = λ cut. (none, [], b, omega arith, refl, refl, w cut, omega arith)
-  first (Ok x) w k m = more x k (times_at (value_at r room) n t x.1) (m x.1)
+    first : (read : Read Refusal Tree) → Waits (Holding r room t b) read →
+        Takes (One r room t) b read →
+        ((c : List ℕ) → Waits (TimesHolding r room n t c) (times_at (value_at r room) n t c)) →
+        Waits (TimesHolding r room (suc n) t b)
+        (read >>= λ x. times_at (value_at r room) n t x.1 >>= λ others. Ok
+        (and x.0 others.0, others.1))
+    first (Err e) w k m = λ cut. (none, [], b, omega arith, refl, refl, w cut, omega arith)
+    first (Ok x) w k m = more x k (times_at (value_at r room) n t x.1) (m x.1)
 
 -- the node itself is not there
 bare : (r : List TypeInfo) (room t : ℕ) (b : List ℕ) → is_finite r t ≡ true →
@@ -118,28 +126,50 @@ bare r room t b fin h = (nothing, [], b, suc room, t, tt, refl, (refl, refl), (o
 in_fields_of : (r : List TypeInfo) (room t : ℕ) (ts : List ℕ) (b : List ℕ) → is_finite r t ≡ true →
     layout r t ≡ layout.fields ts → AllHolding r room ts b → Holding r (suc room) t b
 unfolding Grows
-in_fields_of r room t ts b fin f s = let h = s.9 in
-    (in_fields s.3 h.0, s.4 ++ h.1, h.2, h.3, h.4, tt,
-        rw (s.8, h.6) (sym (append_assoc s.4 h.1 h.2)),
-        (s.0, s.1, s.2, s.4, h.1, fin, f ∙ ap layout.fields s.6, refl, s.7, s.10, h.5, h.7), h.8)
+in_fields_of r room t ts b fin f s = let h = s.9 in (
+  in_fields s.3 h.0,
+  s.4 ++ h.1,
+  h.2,
+  h.3,
+  h.4,
+  tt,
+  rw (s.8, h.6) (sym (append_assoc s.4 h.1 h.2)),
+  (s.0, s.1, s.2, s.4, h.1, fin, f ∙ ap layout.fields s.6, refl, s.7, s.10, h.5, h.7),
+  h.8,
+)
 
 in_arm_of : (r : List TypeInfo) (room t : ℕ) (arms : List Arm) (i q : ℕ) (a : Arm) (b : List ℕ) →
     is_finite r t ≡ true → layout r t ≡ layout.arms arms → arm_of arms i ≡ Some (q, a) →
     AllHolding r room (field_types a.fields) b → Holding r (suc room) t (i ∷ b)
 unfolding Grows
-in_arm_of r room t arms i q a b fin f e s = let h = s.9 in
-    (in_arm q s.3 h.0, i ∷ (s.4 ++ h.1), h.2, h.3, h.4, tt,
-        rw (s.8, h.6) (ap (λ (x : List ℕ). i ∷ x) (sym (append_assoc s.4 h.1 h.2))),
-        (arms, i, a, s.0, s.1, s.2, s.4, h.1, fin, f, e, s.6, refl, s.7, s.10, h.5, h.7), h.8)
+in_arm_of r room t arms i q a b fin f e s = let h = s.9 in (
+  in_arm q s.3 h.0,
+  i ∷ (s.4 ++ h.1),
+  h.2,
+  h.3,
+  h.4,
+  tt,
+  rw (s.8, h.6) (ap (λ (x : List ℕ). i ∷ x) (sym (append_assoc s.4 h.1 h.2))),
+  (arms, i, a, s.0, s.1, s.2, s.4, h.1, fin, f, e, s.6, refl, s.7, s.10, h.5, h.7),
+  h.8,
+)
 
 in_list_of : (r : List TypeInfo) (room t n u : ℕ) (c b : List ℕ) → is_finite r t ≡ true →
     ((layout r t ≡ layout.array n u) × (c ≡ []))
     ⊎ ((layout r t ≡ layout.sequence u) × IsCompact target.U32 n c) → TimesHolding r room n u b →
     Holding r (suc room) t (c ++ b)
 unfolding Grows
-in_list_of r room t n u c b fin f s = let h = s.6 in
-    (in_list n s.0 h.0, c ++ (s.1 ++ h.1), h.2, h.3, h.4, tt, rw (s.5, h.6) (simp append_assoc),
-        (u, c, s.1, h.1, fin, f, refl, s.3, s.4, s.7, h.5, h.7), h.8)
+in_list_of r room t n u c b fin f s = let h = s.6 in (
+  in_list n s.0 h.0,
+  c ++ (s.1 ++ h.1),
+  h.2,
+  h.3,
+  h.4,
+  tt,
+  rw (s.5, h.6) (simp append_assoc),
+  (u, c, s.1, h.1, fin, f, refl, s.3, s.4, s.7, h.5, h.7),
+  h.8,
+)
 
 arm_waits : (r : List TypeInfo) (room t : ℕ) → ChildWaits r room → is_finite r t ≡ true →
     (arms : List Arm) → layout r t ≡ layout.arms arms →

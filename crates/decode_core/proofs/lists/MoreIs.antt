@@ -14,9 +14,11 @@ forth : (j : Job) (input : List ℕ) → IsOutcome j input more (length input) �
     (held j.registry (suc j.depth) j.ty input).1
 forth j input h =
     let b = missing_is_begun j.registry (suc j.depth) j.ty input h.0.1.0 h.0.1.1 in
-    let is = (begun_is_missing j.registry (suc j.depth) j.ty input b.0 b.1 b.3).1 in
-    (h.1, subst (λ (p : Begun × List ℕ). Holds j.registry (suc j.depth) j.ty input p.0 p.1) (sym is)
-        b.3)
+    let is = (begun_is_missing j.registry (suc j.depth) j.ty input b.0 b.1 b.3).1 in (
+      h.1,
+      subst (λ (p : Begun × List ℕ). Holds j.registry (suc j.depth) j.ty input p.0 p.1) (sym is)
+          b.3,
+    )
 
 back : (j : Job) (input : List ℕ) (g : Begun) (e : List ℕ) → length input ≤ j.bytes →
     Holds j.registry (suc j.depth) j.ty input g e → IsOutcome j input more (length input)

@@ -1,9 +1,6 @@
 -- The nodes of a tree are as many as its list of nodes is long.
 use Rattle.std.proofs.Common.{◌≡◌, length, refl, arith, length-append}
-use Rattle.grammar_core.specs.Tree.{
-    Tree, leaf, branch, unit, bool, char, text, unsigned, signed, wide, compact, fields, arm, list,
-    count, Trees, none, and, nodes, all_nodes
-}
+use Rattle.grammar_core.specs.Tree.{Tree, leaf, branch, unit, bool, char, text, unsigned, signed, wide, compact, fields, arm, list, count, Trees, none, and, nodes, all_nodes}
 use Rattle.grammar_core.specs.Preorder.{preorder, all_preorder}
 
 mutual
@@ -14,5 +11,9 @@ mutual
   pub length-all_preorder : (vs : Trees) → length (all_preorder vs) ≡ all_nodes vs
   length-all_preorder none = refl
   length-all_preorder (and v vs) =
-      omega (arith, length-preorder v, length-all_preorder vs,
-      length-append (preorder v) (all_preorder vs))
+      omega (
+        arith,
+        length-preorder v,
+        length-all_preorder vs,
+        length-append (preorder v) (all_preorder vs),
+      )

@@ -1,7 +1,5 @@
 -- The outcome of what was encoded, and that there is one outcome alone.
-use Rattle.std.proofs.Common.{
-    ◌≡◌, ℕ, suc, ◌≤◌, List, [], ◌++◌, length, take, Result, Err, refl, sym, ap, ◌∙◌, arith, inl, inr
-}
+use Rattle.std.proofs.Common.{◌≡◌, ℕ, suc, ◌≤◌, List, [], ◌++◌, length, take, Result, Err, refl, sym, ap, ◌∙◌, arith, inl, inr}
 use Rattle.std.proofs.lemmas.Bool.{cases_lt}
 use Rattle.std.proofs.lemmas.List.{append-nil, take_all}
 use Rattle.scale_core.specs.Read.{place}
@@ -10,9 +8,7 @@ use Rattle.grammar_core.specs.Tree.{Tree, levels}
 use Rattle.grammar_core.specs.Grammar.{Val}
 use Rattle.grammar_core.specs.Reading.{Refusal, truncated}
 use Rattle.grammar_core.proofs.Proved.{not_both, prefix_free}
-use Rattle.decode_core.specs.Outcome.{
-    done, refused, more, too_long, Job, IsShortest, FailsAt, EncodedIsDone, OneOutcome
-}
+use Rattle.decode_core.specs.Outcome.{done, refused, more, too_long, Job, IsShortest, FailsAt, EncodedIsDone, OneOutcome}
 
 pub encoded_is_done : EncodedIsDone
 encoded_is_done j v b h l s = (b, [], take_all j.bytes b s ∙ sym (append-nil b), h, l, refl)
@@ -41,9 +37,11 @@ failed_is x y e = cc
 one_fault : (j : Job) (input : List ℕ) (one two : Refusal) (n m : ℕ) → FailsAt j one n input →
     FailsAt j two m input → (one ≡ two) × (n ≡ m)
 one_fault j input one two n m f g =
-    let same = failed_is (one, f.0) (two, g.0) (sym f.1 ∙ g.1) in
-    (ap (λ (p : Refusal × List ℕ). p.0) same, sym f.2
-        ∙ ap (λ (p : Refusal × List ℕ). place input p.1) same ∙ g.2)
+    let same = failed_is (one, f.0) (two, g.0) (sym f.1 ∙ g.1) in (
+      ap (λ (p : Refusal × List ℕ). p.0) same,
+      sym f.2
+          ∙ ap (λ (p : Refusal × List ℕ). place input p.1) same ∙ g.2,
+    )
 
 done_once : (r : List TypeInfo) (t n m : ℕ) (v w : Tree) (input a rest b left : List ℕ) →
     input ≡ a ++ rest → input ≡ b ++ left → Val r t v a → Val r t w b → n ≡ length a →

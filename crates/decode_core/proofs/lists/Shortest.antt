@@ -1,8 +1,5 @@
 -- What is taken where a value is refused is the shortest front that is refused so.
-use Rattle.std.proofs.Common.{
-    ◌≡◌, ℕ, zero, suc, ◌+◌, ◌-◌, ◌/◌, ◌%◌, ◌^◌, ◌<◌, ◌≤◌, ◌⊎◌, Bool, true, false, cond, List, [],
-    ◌∷◌, length, take, drop, Option, Some, None, Ok, Err, refl, sym, ap, ◌∙◌, arith, inl, inr
-}
+use Rattle.std.proofs.Common.{◌≡◌, ℕ, zero, suc, ◌+◌, ◌-◌, ◌/◌, ◌%◌, ◌^◌, ◌<◌, ◌≤◌, ◌⊎◌, Bool, true, false, cond, List, [], ◌∷◌, length, take, drop, Option, Some, None, Ok, Err, refl, sym, ap, ◌∙◌, arith, inl, inr}
 use Rattle.std.specs.Prelude.{◌≢◌, ◌==◌, nat_lt, not}
 use Rattle.std.specs.Str.{bytes_eq, is_utf8}
 use Rattle.std.specs.Str.Lossy.{utf8_valid_len}
@@ -10,10 +7,7 @@ use Rattle.std.proofs.lemmas.Bool.{cases_lt, le-ltb, lt-ltb}
 use Rattle.std.proofs.lemmas.List.{append-nil, length-take-le}
 use Rattle.scale_core.specs.Compact.{compact, target_bytes}
 use Rattle.scale_core.specs.Number.{number, signed_number, is_scalar}
-use Rattle.scale_core.specs.Read.{
-    Read, ◌>>=◌, bytes_at, compact_at, text_at, integer_at, checked_form, form_from, form_number,
-    is_too_long, form_len
-}
+use Rattle.scale_core.specs.Read.{Read, ◌>>=◌, bytes_at, compact_at, text_at, integer_at, checked_form, form_from, form_number, is_too_long, form_len}
 use Rattle.scale_core.specs.declared.compact.Target.{Target}
 use Rattle.scale_core.specs.declared.compact.Target.TheVariants as target
 use Rattle.scale_core.specs.declared.fault.Reason.{Reason}
@@ -27,26 +21,14 @@ use Rattle.widths_core.specs.Arms.{arm_of}
 use Rattle.widths_core.specs.Classes.{is_finite}
 use Rattle.widths_core.specs.Layouts.{Plain, Layout, layout}
 use Rattle.widths_core.specs.Layouts as layout
-use Rattle.grammar_core.specs.Tree.{
-    Leaf, Branch, Tree, leaf, branch, char, text, unsigned, signed, wide, compact as compact_value,
-    fields, arm, list, count, Trees, and, levels
-}
+use Rattle.grammar_core.specs.Tree.{Leaf, Branch, Tree, leaf, branch, char, text, unsigned, signed, wide, compact as compact_value, fields, arm, list, count, Trees, and, levels}
 use Rattle.grammar_core.specs.Grammar.{Val}
-use Rattle.grammar_core.specs.Reading.{
-    value_at, layout_at, leaf_at, bool_at, char_from, all_at, times_at, fields_behind_index,
-    arms_at, elements_at, as_leaf, with_children, Refusal, basic, no_such_variant, too_deep,
-    no_finite_value, bit_sequence, bad_compact, truncated
-}
+use Rattle.grammar_core.specs.Reading.{value_at, layout_at, leaf_at, bool_at, char_from, all_at, times_at, fields_behind_index, arms_at, elements_at, as_leaf, with_children, Refusal, basic, no_such_variant, too_deep, no_finite_value, bit_sequence, bad_compact, truncated}
 use Rattle.grammar_core.proofs.Sound.{value_takes}
 use Rattle.grammar_core.proofs.Complete.{value_again}
 use Rattle.grammar_core.proofs.Stable.{value_extends}
-use Rattle.decode_core.specs.Taken.{
-    leaf_taken, compact_taken, text_taken, all_taken, times_taken, arm_taken, arms_taken,
-    layout_taken, value_taken
-}
-use Rattle.decode_core.proofs.lists.Deciding.{
-    Decided, IsSteady, chain, finish, bind_chain, finish_decided, chain_decided, cons_decided
-}
+use Rattle.decode_core.specs.Taken.{leaf_taken, compact_taken, text_taken, all_taken, times_taken, arm_taken, arms_taken, layout_taken, value_taken}
+use Rattle.decode_core.proofs.lists.Deciding.{Decided, IsSteady, chain, finish, bind_chain, finish_decided, chain_decided, cons_decided}
 
 -- ---- compacts
 
@@ -107,40 +89,47 @@ take_cons (suc k) first tail h = ap (λ (i : ℕ). first ∷ take i tail) (omega
 form_decided : (m : Target) (first : ℕ) (tail : List ℕ) → is_too_long m first ≡ false →
     form_len first ≤ length (first ∷ tail) →
     Decided reasons.Truncated (integer_at m) (first ∷ tail) (form_len first)
-        (checked_form m (first ∷ tail) (form_number (take (form_len first) (first ∷ tail)))
-        (take (form_len first) (first ∷ tail)) (drop (form_len first) (first ∷ tail)))
+    (checked_form m (first ∷ tail) (form_number (take (form_len first) (first ∷ tail)))
+    (take (form_len first) (first ∷ tail)) (drop (form_len first) (first ∷ tail)))
 form_decided m first tail e le =
     go (not (bytes_eq (compact (form_number form)) form))
     (nat_lt (form_number form) (256 ^ target_bytes m)) refl refl where
-  form : List ℕ
-  form = take (form_len first) (first ∷ tail)
+      form : List ℕ
+      form = take (form_len first) (first ∷ tail)
 
-  split : form ≡ first ∷ take (form_len first - 1) tail
-  split = take_cons (form_len first) first tail (form_len-pos first)
+      split : form ≡ first ∷ take (form_len first - 1) tail
+      split = take_cons (form_len first) first tail (form_len-pos first)
 
-  whole : integer_at m form ≡ checked_form m form (form_number form) form []
-  whole =
-      let len : length (first ∷ take (form_len first - 1) tail) ≡ form_len first =
+      whole : integer_at m form ≡ checked_form m form (form_number form) form []
+      whole =
+          let len : length (first ∷ take (form_len first - 1) tail) ≡ form_len first =
           sym (ap length split) ∙ length-take-le (form_len first) (first ∷ tail) le in
-      ap (integer_at m) split ∙ whole_form m first (take (form_len first - 1) tail) e len
+          ap (integer_at m) split ∙ whole_form m first (take (form_len first - 1) tail) e len
           ∙ ap (λ (z : List ℕ). checked_form m z (form_number z) z []) (sym split)
 
-  early : (j : ℕ) → j < form_len first → (left : List ℕ)
-      × (integer_at m (take j (first ∷ tail)) ≡ Err (reasons.Truncated, left))
-  early zero lt = ([], refl)
-  early (suc j) lt = ([], short_form m first (take j tail) e
-      (omega (arith, length-take-le (suc j) (first ∷ tail) (omega arith))))
+      early : (j : ℕ) → j < form_len first → (left : List ℕ)
+          × (integer_at m (take j (first ∷ tail)) ≡ Err (reasons.Truncated, left))
+      early zero lt = ([], refl)
+      early (suc j) lt = (
+        [],
+        short_form m first (take j tail) e
+            (omega (arith, length-take-le (suc j) (first ∷ tail) (omega arith))),
+      )
 
-  go : (a b : Bool) → not (bytes_eq (compact (form_number form)) form) ≡ a →
-      nat_lt (form_number form) (256 ^ target_bytes m) ≡ b →
-      Decided reasons.Truncated (integer_at m) (first ∷ tail) (form_len first)
+      go : (a b : Bool) → not (bytes_eq (compact (form_number form)) form) ≡ a →
+          nat_lt (form_number form) (256 ^ target_bytes m) ≡ b →
+          Decided reasons.Truncated (integer_at m) (first ∷ tail) (form_len first)
           (cond a (Err (reasons.CompactNotShortest, first ∷ tail))
           (cond b (Ok (form_number form, drop (form_len first) (first ∷ tail)))
           (Err (reasons.CompactTooLarge, first ∷ tail))))
-  go true b p q = λ ne. record { there = le; front = (form, whole ∙ rw p refl); early = early }
-  go false true p q = tt
-  go false false p q = λ ne. record { there = le; front = (form, whole ∙ rw (p, q) refl); early =
-      early }
+      go true b p q = λ ne. record { there = le; front = (form, whole ∙ rw p refl); early = early }
+      go false true p q = tt
+      go false false p q = λ ne. record {
+        there = le;
+        front = (form, whole ∙ rw (p, q) refl);
+        early =
+            early;
+      }
 
 integer_decided : (m : Target) (b : List ℕ) →
     Decided reasons.Truncated (integer_at m) b (compact_taken m b) (integer_at m b)
@@ -190,8 +179,11 @@ body_decided n b = elim (cases_lt (length b) n) [
   go le false e = λ ne. record {
     there = le;
     front = (drop (utf8_valid_len (take n b)) (take n b), rw (taken_bytes n b le, e) refl);
-    early = λ j lt. ([], rw (short_bytes n (take j b)
-        (omega (arith, length-take-le j b (omega arith)))) refl);
+    early = λ j lt. (
+      [],
+      rw (short_bytes n (take j b)
+          (omega (arith, length-take-le j b (omega arith)))) refl,
+    );
   }
 
 text_decided : (b : List ℕ) → Decided reasons.Truncated text_at b (text_taken b) (text_at b)
@@ -209,9 +201,13 @@ bool_decided [] = λ ne. absurd (ne refl)
 bool_decided (zero ∷ b) = tt
 bool_decided (suc zero ∷ b) = tt
 bool_decided (suc (suc x) ∷ b) =
-    λ ne. record { there = omega arith; front = (suc (suc x) ∷ [], refl); early =
-    below_one (suc (suc x) ∷ b) (λ d. (left : List ℕ) × (bool_at d ≡ Err (truncated, left)))
-    ([], refl) }
+    λ ne. record {
+      there = omega arith;
+      front = (suc (suc x) ∷ [], refl);
+      early =
+          below_one (suc (suc x) ∷ b) (λ d. (left : List ℕ) × (bool_at d ≡ Err (truncated, left)))
+          ([], refl);
+    }
 
 abbrev char_at : List ℕ → Read Refusal Tree
 char_at b = char_from b (bytes_at 4 b)
@@ -228,8 +224,11 @@ char_decided b = elim (cases_lt (length b) 4) [
   go le false e = λ ne. record {
     there = le;
     front = (take 4 b, rw (taken_bytes 4 b le, e) refl);
-    early = λ j lt. ([], rw (short_bytes 4 (take j b)
-        (omega (arith, length-take-le j b (omega arith)))) refl);
+    early = λ j lt. (
+      [],
+      rw (short_bytes 4 (take j b)
+          (omega (arith, length-take-le j b (omega arith)))) refl,
+    );
   }
 
 -- ---- values
@@ -297,13 +296,13 @@ all_decided : (r : List TypeInfo) (room : ℕ) → ChildDecided r room → (ts :
 all_decided r room h [] b = tt
 all_decided r room h (t ∷ ts) b = let child = value_at r room in
     chain_decided truncated (λ e. e) (all_at child (t ∷ ts)) (child t)
-        (λ v c. all_at child ts c >>= λ others. Ok (and v others.0, others.1))
-        (λ x. all_taken child (value_taken r room) ts x.1)
+    (λ v c. all_at child ts c >>= λ others. Ok (and v others.0, others.1))
+    (λ x. all_taken child (value_taken r room) ts x.1)
     (λ c. bind_chain (λ v d. all_at child ts d >>= λ others. Ok (and v others.0, others.1))
-        (child t c)) (value_steady r room t) b (value_taken r room t b) (h t b)
+    (child t c)) (value_steady r room t) b (value_taken r room t b) (h t b)
     (λ x. finish_decided truncated (λ e. e) (and x.0) _ (all_at child ts)
-        (λ c. and_finish x.0 (all_at child ts c)) x.1 (all_taken child (value_taken r room) ts x.1)
-        (all_decided r room h ts x.1))
+    (λ c. and_finish x.0 (all_at child ts c)) x.1 (all_taken child (value_taken r room) ts x.1)
+    (all_decided r room h ts x.1))
 
 times_decided : (r : List TypeInfo) (room : ℕ) → ChildDecided r room → (n t : ℕ) (b : List ℕ) →
     Decided truncated (times_at (value_at r room) n t) b
@@ -311,13 +310,13 @@ times_decided : (r : List TypeInfo) (room : ℕ) → ChildDecided r room → (n 
 times_decided r room h zero t b = tt
 times_decided r room h (suc n) t b = let child = value_at r room in
     chain_decided truncated (λ e. e) (times_at child (suc n) t) (child t)
-        (λ v c. times_at child n t c >>= λ others. Ok (and v others.0, others.1))
-        (λ x. times_taken child (value_taken r room) n t x.1)
+    (λ v c. times_at child n t c >>= λ others. Ok (and v others.0, others.1))
+    (λ x. times_taken child (value_taken r room) n t x.1)
     (λ c. bind_chain (λ v d. times_at child n t d >>= λ others. Ok (and v others.0, others.1))
-        (child t c)) (value_steady r room t) b (value_taken r room t b) (h t b)
+    (child t c)) (value_steady r room t) b (value_taken r room t b) (h t b)
     (λ x. finish_decided truncated (λ e. e) (and x.0) _ (times_at child n t)
-        (λ c. and_finish x.0 (times_at child n t c)) x.1
-        (times_taken child (value_taken r room) n t x.1) (times_decided r room h n t x.1))
+    (λ c. and_finish x.0 (times_at child n t c)) x.1
+    (times_taken child (value_taken r room) n t x.1) (times_decided r room h n t x.1))
 
 arm_decided : (r : List TypeInfo) (room : ℕ) → ChildDecided r room →
     (arms : List Arm) (i : ℕ) (b : List ℕ) (found : Option (ℕ × Arm)) → arm_of arms i ≡ found →
@@ -325,20 +324,24 @@ arm_decided : (r : List TypeInfo) (room : ℕ) → ChildDecided r room →
     (suc (arm_taken (value_at r room) (value_taken r room) found b))
     (fields_behind_index (value_at r room) (i ∷ b) found b)
 arm_decided r room h arms i b None e =
-    λ ne. record { there = omega arith; front = (i ∷ [], rw e refl); early =
-    below_one (i ∷ b) (λ d. (left : List ℕ)
-    × (arms_at (value_at r room) arms d ≡ Err (truncated, left))) ([], refl) }
+    λ ne. record {
+      there = omega arith;
+      front = (i ∷ [], rw e refl);
+      early =
+          below_one (i ∷ b) (λ d. (left : List ℕ)
+          × (arms_at (value_at r room) arms d ≡ Err (truncated, left))) ([], refl);
+    }
 arm_decided r room h arms i b (Some a) e = let child = value_at r room in let ts =
     field_types a.1.fields in
     let inner = finish_decided truncated (λ x. x) (branch (arm a.0))
-        (λ c. with_children (arm a.0) (all_at child ts c)) (all_at child ts)
-        (λ c. with_children_finish (arm a.0) (all_at child ts c)) b
-        (all_taken child (value_taken r room) ts b) (all_decided r room h ts b) in
+    (λ c. with_children (arm a.0) (all_at child ts c)) (all_at child ts)
+    (λ c. with_children_finish (arm a.0) (all_at child ts c)) b
+    (all_taken child (value_taken r room) ts b) (all_decided r room h ts b) in
     let is : (c : List ℕ) → arms_at child arms (i ∷ c) ≡ with_children (arm a.0)
-        (all_at child ts c) = λ c. rw e refl in
+    (all_at child ts c) = λ c. rw e refl in
     rw is at (cons_decided truncated (arms_at child arms)
-        (λ c. with_children (arm a.0) (all_at child ts c)) i is [] refl b
-        (all_taken child (value_taken r room) ts b) inner)
+    (λ c. with_children (arm a.0) (all_at child ts c)) i is [] refl b
+    (all_taken child (value_taken r room) ts b) inner)
 
 arms_decided : (r : List TypeInfo) (room : ℕ) → ChildDecided r room →
     (arms : List Arm) (b : List ℕ) →
@@ -392,13 +395,13 @@ layout_decided r room h (layout.array n t) b =
     (times_taken (value_at r room) (value_taken r room) n t b) (times_decided r room h n t b)
 layout_decided r room h (layout.sequence t) b = let child = value_at r room in
     chain_decided reasons.Truncated basic (λ c. elements_at child t (compact_at target.U32 c))
-        (compact_at target.U32) (λ n c. with_children list (times_at child n t c))
-        (λ n. times_taken child (value_taken r room) n.0 t n.1)
+    (compact_at target.U32) (λ n c. with_children list (times_at child n t c))
+    (λ n. times_taken child (value_taken r room) n.0 t n.1)
     (λ c. elements_chain child t (compact_at target.U32 c)) (compact_steady target.U32) b
-        (compact_taken target.U32 b) (compact_decided target.U32 b)
+    (compact_taken target.U32 b) (compact_decided target.U32 b)
     (λ n. finish_decided truncated (λ e. e) (branch list) _ (times_at child n.0 t)
-        (λ c. with_children_finish list (times_at child n.0 t c)) n.1
-        (times_taken child (value_taken r room) n.0 t n.1) (times_decided r room h n.0 t n.1))
+    (λ c. with_children_finish list (times_at child n.0 t c)) n.1
+    (times_taken child (value_taken r room) n.0 t n.1) (times_decided r room h n.0 t n.1))
 
 pub value_decided : (r : List TypeInfo) (room t : ℕ) (b : List ℕ) →
     Decided truncated (value_at r room t) b (value_taken r room t b) (value_at r room t b)

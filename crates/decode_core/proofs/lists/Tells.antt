@@ -1,8 +1,5 @@
 -- Reading node by node is the big-step reading.
-use Rattle.std.proofs.Common.{
-    Bool, true, false, cond, ◌≡◌, ℕ, zero, suc, List, [], ◌∷◌, ◌++◌, length, Option, Some, None, Ok,
-    Err, refl, sym, ap, ◌∙◌, append_assoc
-}
+use Rattle.std.proofs.Common.{Bool, true, false, cond, ◌≡◌, ℕ, zero, suc, List, [], ◌∷◌, ◌++◌, length, Option, Some, None, Ok, Err, refl, sym, ap, ◌∙◌, append_assoc}
 use Rattle.std.proofs.lemmas.List.{append-nil}
 use Rattle.scale_core.specs.Read.{bytes_at, text_at, Read, ◌>>=◌, compact_at}
 use Rattle.scale_core.specs.declared.compact.Target.TheVariants as target
@@ -18,17 +15,11 @@ use Rattle.widths_core.specs.Layouts as layout
 use Rattle.grammar_core.specs.Tree.{Leaf, Branch, Tree, Trees, none, and, how_many}
 use Rattle.grammar_core.specs.Tree as tree
 use Rattle.grammar_core.specs.Preorder.{Head, head_of, preorder, all_preorder}
-use Rattle.grammar_core.specs.Reading.{
-    as_leaf, basic, bool_at, char_from, value_at, layout_at, leaf_at, all_at, times_at,
-    fields_behind_index, arms_at, elements_at, with_children, Refusal
-}
+use Rattle.grammar_core.specs.Reading.{as_leaf, basic, bool_at, char_from, value_at, layout_at, leaf_at, all_at, times_at, fields_behind_index, arms_at, elements_at, with_children, Refusal}
 use Rattle.decode_core.specs.Met.{met_layout}
 use Rattle.decode_core.proofs.lists.Mets.{value_met}
 use Rattle.value_core.specs.Built.{Entry}
-use Rattle.decode_core.specs.Told.{
-    entry, shown, leaf_own, arm_own, arms_own, length_own, own_at, Told, told, added, ending, after,
-    then, all_told, times_told, own_told, told_at, Agrees
-}
+use Rattle.decode_core.specs.Told.{entry, shown, leaf_own, arm_own, arms_own, length_own, own_at, Told, told, added, ending, after, then, all_told, times_told, own_told, told_at, Agrees}
 use Rattle.grammar_core.specs.Preorder as head
 
 pub shown-append : (xs ys : List Entry) → shown (xs ++ ys) ≡ shown xs ++ shown ys
@@ -69,11 +60,11 @@ and_agrees : (P Q : ℕ → Type 0) (first : Read Refusal Tree) (y : Told) → A
 and_agrees P Q (Err e) (told xs end) h others f k s = (h.0, rw h.1 refl)
 and_agrees P Q (Ok x) (told xs end) h others f k s =
     rw h.1 (more (others x.1) (f x.1) (k x.1)) where
-  more : (read : Read Refusal Trees) (y : Told) → AllAgree P read y →
-      AllAgree Q (read >>= λ z. Ok (and x.0 z.0, z.1)) (after xs y)
-  more (Err e) (told ys end') k = k
-  more (Ok z) (told ys end') k =
-      (shown-append xs ys ∙ rw (h.0, k.0) refl, k.1, s (how_many z.0) k.2)
+      more : (read : Read Refusal Trees) (y : Told) → AllAgree P read y →
+          AllAgree Q (read >>= λ z. Ok (and x.0 z.0, z.1)) (after xs y)
+      more (Err e) (told ys end') k = k
+      more (Ok z) (told ys end') k =
+          (shown-append xs ys ∙ rw (h.0, k.0) refl, k.1, s (how_many z.0) k.2)
 
 all_agree : (child : ℕ → List ℕ → Read Refusal Tree) (one : ℕ → List ℕ → Told) →
     ChildAgrees child one → (ts : List ℕ) (b : List ℕ) →

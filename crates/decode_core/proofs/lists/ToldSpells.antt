@@ -1,8 +1,5 @@
 -- The nodes that a reading adds spell the bytes in front of where it ends.
-use Rattle.std.proofs.Common.{
-    ◌≡◌, ℕ, zero, suc, ◌≤◌, List, [], ◌∷◌, ◌++◌, Option, Some, None, Ok, Err, refl, sym, ap,
-    flat_map, subst, ◌∙◌, append_assoc
-}
+use Rattle.std.proofs.Common.{◌≡◌, ℕ, zero, suc, ◌≤◌, List, [], ◌∷◌, ◌++◌, Option, Some, None, Ok, Err, refl, sym, ap, flat_map, subst, ◌∙◌, append_assoc}
 use Rattle.std.proofs.lemmas.Grind.{flat_map-append}
 use Rattle.std.proofs.lemmas.List.{append-nil}
 use Rattle.scale_core.specs.Compact.{IsCompact}
@@ -29,10 +26,7 @@ use Rattle.grammar_core.specs.Tree as tree
 use Rattle.grammar_core.proofs.Spelled.{encoded_is_value, arm_byte, array_length, sequence_length}
 use Rattle.value_core.specs.Built.{Entry}
 use Rattle.decode_core.specs.Met.{met_layout}
-use Rattle.decode_core.specs.Told.{
-    entry, Own, leaf_own, arm_own, arms_own, length_own, shallow, own_at, Told, told, after, then,
-    all_told, times_told, opened_told, own_told, told_at
-}
+use Rattle.decode_core.specs.Told.{entry, Own, leaf_own, arm_own, arms_own, length_own, shallow, own_at, Told, told, after, then, all_told, times_told, opened_told, own_told, told_at}
 use Rattle.decode_core.proofs.lists.Mets.{met_is, met_takes}
 use Rattle.decode_core.proofs.lists.Tells.{IsLeafTree, IsLeafRead, reads_leaf}
 
@@ -106,7 +100,7 @@ leaf_tells r t b (Err e) are k leaf = tt
 leaf_tells r t b (Ok x) are k leaf =
     let front = front_bytes k.0 x.1 (subst AreBytes k.1 are) in
     k.1 ∙ ap (λ (c : List ℕ). c ++ x.1)
-        (sym (encoded_is_value r t x.0 k.0 front k.2.0) ∙ leaf_spelled r t x.0 leaf)
+    (sym (encoded_is_value r t x.0 k.0 front k.2.0) ∙ leaf_spelled r t x.0 leaf)
 
 met_arms : (r : List TypeInfo) (t : ℕ) (arms : List Arm) → met_layout r t ≡ layout.arms arms →
     layout r t ≡ layout.arms arms
@@ -158,9 +152,9 @@ own_bytes_told r child h t b (Err e) are k = refl
 own_bytes_told r child h t b (Ok x) are k =
     let rest = rest_bytes (own_bytes (shape r t) x.0.0) x.1 (subst AreBytes k are) in
     let front : b ≡ bytes_of r (entry t x.0.0 ∷ []) ++ x.1 = k
-        ∙ ap (λ (c : List ℕ). c ++ x.1) (sym (append-nil (own_bytes (shape r t) x.0.0))) in
+    ∙ ap (λ (c : List ℕ). c ++ x.1) (sym (append-nil (own_bytes (shape r t) x.0.0))) in
     after_bytes r b x.1 (entry t x.0.0 ∷ []) (opened_told child x.0.1 x.1) front
-        (opened_bytes r child h x.0.1 x.1 rest)
+    (opened_bytes r child h x.0.1 x.1 rest)
 
 -- ---- a value
 

@@ -1,8 +1,5 @@
 -- Turns that need no bytes and add nothing: the value is whole, or the next type cannot be read.
-use Rattle.std.proofs.Common.{
-    ◌≡◌, ℕ, ◌+◌, ◌-◌, ◌≤◌, Bool, true, false, List, [], ◌∷◌, ◌++◌, length, Option, Some, None, Ok,
-    refl, sym, ap, ◌∙◌, arith
-}
+use Rattle.std.proofs.Common.{◌≡◌, ℕ, ◌+◌, ◌-◌, ◌≤◌, Bool, true, false, List, [], ◌∷◌, ◌++◌, length, Option, Some, None, Ok, refl, sym, ap, ◌∙◌, arith}
 use Rattle.std.specs.Prelude.{is_none, nat_lt, if◌then◌else◌}
 use Rattle.scale_core.specs.Compact.{compact}
 use Rattle.scale_core.specs.declared.compact.Target.{Target}
@@ -63,12 +60,12 @@ type_goes_on : (w : Walked) (o : Option ℕ) → next_from w o ≡ next.Finished
 type_goes_on w None e = refl
 type_goes_on w (Some t) e =
     absurd (by (nat_lt (w.limit + 1) (length w.frames)) (is_finite w.types t) e) where
-  by : (deep finite : Bool) →
-      (if deep then next.Stop stopped.TooDeep else
-      (if finite then form_of w.types t else next.Stop stopped.NoFiniteValue)) ≡ next.Finished → ⊥
-  by true finite h = absurd cc
-  by false false h = absurd cc
-  by false true h = form_goes_on w.types t h
+      by : (deep finite : Bool) →
+          (if deep then next.Stop stopped.TooDeep else
+          (if finite then form_of w.types t else next.Stop stopped.NoFiniteValue)) ≡ next.Finished → ⊥
+      by true finite h = absurd cc
+      by false false h = absurd cc
+      by false true h = form_goes_on w.types t h
 
 -- ---- nothing is held
 
@@ -96,7 +93,7 @@ alone [] some h e = absurd (omega (arith, some))
 alone (f ∷ []) some h e = (f, refl, e)
 alone (f ∷ g ∷ fs) some h e =
     let closed : settled_in (f ∷ g ∷ fs) ≡ settled_in (g ∷ fs) =
-        ap (λ (o : Option ℕ). elim o [ Some t ↦ f ∷ g ∷ fs | None ↦ settled_in (g ∷ fs) ]) e in
+    ap (λ (o : Option ℕ). elim o [ Some t ↦ f ∷ g ∷ fs | None ↦ settled_in (g ∷ fs) ]) e in
     absurd (omega (arith, ap length (sym h ∙ closed), settled_fewer (g ∷ fs)))
 
 one_part : (r : List TypeInfo) (room : ℕ) (p : Part) (x : List ℕ) → first_of p ≡ None →
@@ -112,8 +109,7 @@ pub finished_stops : (b : Built) (c : List ℕ) (text : Option OpenText) (piece 
     IsRunning b c text → next_of b.walk ≡ next.Finished →
     EndsTurns (record { built = b; carry = c }) piece stop.Finished
 finished_stops b c text piece h is =
-    let one = alone b.walk.frames h.rooted h.settled (type_goes_on b.walk (next_type b.walk) is) in
-        (
+    let one = alone b.walk.frames h.rooted h.settled (type_goes_on b.walk (next_type b.walk) is) in (
       λ x. ap (λ (s : State). remain b.walk.types s x) (finished_state b one.0 one.1)
           ∙ one_part b.walk.types (b.walk.limit + 2 - 1) one.0.left x one.2,
       nothing_held b c text h (λ f e. let both = sym is ∙ e in absurd cc),
@@ -129,6 +125,14 @@ pub stop_stops : (b : Built) (c : List ℕ) (text : Option OpenText) (piece : Li
 stop_stops b c text piece why h is =
     let none = nothing_held b c text h (λ f e. let both = sym is ∙ e in absurd cc) in
     let x = held_of (record { built = b; carry = c }) ++ piece in
-    let r = stop_refuses b why is x in
-    (stop_refusal why, x, no_cut why, refl, sym (ap length none), omega arith, r.tells, r.decided,
-        omega arith)
+    let r = stop_refuses b why is x in (
+      stop_refusal why,
+      x,
+      no_cut why,
+      refl,
+      sym (ap length none),
+      omega arith,
+      r.tells,
+      r.decided,
+      omega arith,
+    )

@@ -1,7 +1,5 @@
 -- What is held where bytes are missing is the begun tree of all bytes so far.
-use Rattle.std.proofs.Common.{
-    ◌≡◌, ℕ, suc, ◌+◌, true, List, ◌++◌, length, Option, Some, None, refl, sym, ap, subst, ◌∙◌, arith
-}
+use Rattle.std.proofs.Common.{◌≡◌, ℕ, suc, ◌+◌, true, List, ◌++◌, length, Option, Some, None, refl, sym, ap, subst, ◌∙◌, arith}
 use Rattle.std.specs.Prelude.{◌-◌, option_map}
 use Rattle.scale_core.specs.Compact.{compact}
 use Rattle.scale_core.specs.Number.{AreBytes}
@@ -44,7 +42,7 @@ own_is : (j : Job) (b : List ℕ) (s : Running) → IsOf j s → AreBytes b → 
     b ≡ built_bytes s.built ++ held_of s
 own_is j b s of are w =
     let read = subst (TellsBytes j.registry b) w.reads
-        (told_spells j.registry (suc j.depth) j.ty b are) in
+    (told_spells j.registry (suc j.depth) j.ty b are) in
     read ∙ ap (λ (r : List TypeInfo). bytes_of r s.built.entries ++ held_of s) (sym of.types)
 
 -- the tree grows up to the walk's next type
@@ -53,19 +51,19 @@ grows_to : (j : Job) (s : Running) (u : ℕ) (g : Begun) → IsOf j s →
     Grows s.built.walk.types (s.built.walk.limit + 1) s.built.ty g (built_bytes s.built)
     (next_with_room s.built.walk) →
     Grows j.registry (suc j.depth) j.ty g (built_bytes s.built)
-        (Some (s.built.walk.limit + 2 - length s.built.walk.frames, u))
+    (Some (s.built.walk.limit + 2 - length s.built.walk.frames, u))
 grows_to j s u g of is h =
     let own = built_bytes s.built in
     let at = s.built.walk.limit + 2 - length s.built.walk.frames in
     let next : next_with_room s.built.walk ≡ Some (at, u) =
-        ap (λ (o : Option ℕ). option_map (λ (t : ℕ). (at, t)) o) is in
+    ap (λ (o : Option ℕ). option_map (λ (t : ℕ). (at, t)) o) is in
     let levels : s.built.walk.limit + 1 ≡ suc j.depth = omega (arith, of.limit) in
     subst (λ (t : ℕ). Grows j.registry (suc j.depth) t g own (Some (at, u))) of.ty
     (subst (λ (n : ℕ). Grows j.registry n s.built.ty g own (Some (at, u))) levels
     (subst (λ (r : List TypeInfo). Grows r (s.built.walk.limit + 1) s.built.ty g own (Some (at, u)))
-        of.types
+    of.types
     (subst (λ (o : Option (ℕ × ℕ)). Grows s.built.walk.types (s.built.walk.limit + 1) s.built.ty g
-        own o) next h)))
+    own o) next h)))
 
 layout_is : (j : Job) (s : Running) (u : ℕ) → IsOf j s → next_type s.built.walk ≡ Some u →
     next_layout s.built ≡ layout j.registry u
@@ -77,10 +75,12 @@ short_to : (j : Job) (b : List ℕ) (s : Running) → IsOf j s → (w : IsWaitin
     IsShort j.registry (s.built.walk.limit + 2 - length s.built.walk.frames) n.ty (held_of s)
 short_to j b s of w n =
     let finite : is_finite j.registry n.ty ≡ true =
-        subst (λ (r : List TypeInfo). is_finite r n.ty ≡ true) of.types n.finite in
-    let laid = ap (λ (f : Layout). own_at f (held_of s)) (sym (layout_is j s n.ty of n.is_next)) in
-    (omega (arith, n.room), finite,
-        own_short (layout j.registry n.ty) (held_of s) w.wants.left (laid ∙ w.wants.short))
+    subst (λ (r : List TypeInfo). is_finite r n.ty ≡ true) of.types n.finite in
+    let laid = ap (λ (f : Layout). own_at f (held_of s)) (sym (layout_is j s n.ty of n.is_next)) in (
+      omega (arith, n.room),
+      finite,
+      own_short (layout j.registry n.ty) (held_of s) w.wants.left (laid ∙ w.wants.short),
+    )
 
 -- ---- the bytes of texts
 
@@ -130,13 +130,13 @@ carried_text f (layout.plain (layout.compact m)) c h k = refl
 open_is : (b : Built) (c : List ℕ) (f : Form) (text : Option Pieces) →
     next_of b.walk ≡ next.Wants f → IsCarry b c → IsTextNext b c text →
     length (pieces_bytes text) ≡ open_text (next_layout b)
-        (elim text [ Some t ↦ compact t.len ++ t.bytes | None ↦ c ])
+    (elim text [ Some t ↦ compact t.len ++ t.bytes | None ↦ c ])
 open_is b c f None wants carried h =
     sym (carried_text f (next_layout b) c (next_has b f wants) (short_of b c f carried wants))
 open_is b c f (Some t) wants carried h =
     let laid : next_layout b ≡ (layout.plain layout.text) = next_has b (form.Primitive P.Str) h.0 in
     sym (ap (λ (lay : Layout). open_text lay (compact t.len ++ t.bytes)) laid
-        ∙ ap past_length (length_again t.len t.bytes h.2))
+    ∙ ap past_length (length_again t.len t.bytes h.2))
 
 pub holds_of : (j : Job) (b : List ℕ) (s : Running) → IsOf j s → AreBytes b → IsWaiting j b s →
     HoldsOf j b s
@@ -145,13 +145,19 @@ holds_of j b s of are w =
     let begun = w.sound.begun in
     let at = s.built.walk.limit + 2 - length s.built.walk.frames in
     let texts : length (pieces_bytes s.built.text) ≡ open_text (layout j.registry n.ty)
-        (held_of s) =
+    (held_of s) =
     open_is s.built s.carry w.wants.form s.built.text w.wants.next w.sound.carried w.sound.text_next
-        ∙ ap (λ (lay : Layout). open_text lay (held_of s)) (layout_is j s n.ty of n.is_next) in
+    ∙ ap (λ (lay : Layout). open_text lay (held_of s)) (layout_is j s n.ty of n.is_next) in
     record {
       tree = begun.tree;
-      holds = (built_bytes s.built, at, n.ty, own_is j b s of are w,
-          grows_to j s n.ty begun.tree of n.is_next begun.grows, short_to j b s of w n);
+      holds = (
+        built_bytes s.built,
+        at,
+        n.ty,
+        own_is j b s of are w,
+        grows_to j s n.ty begun.tree of n.is_next begun.grows,
+        short_to j b s of w n,
+      );
       shows = begun.shows;
       nodes = begun.nodes;
       texts = omega (arith, begun.text_bytes, texts);

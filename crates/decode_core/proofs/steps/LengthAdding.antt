@@ -1,8 +1,5 @@
 -- A list, a count, an arm, and a text's length, by their own bytes.
-use Rattle.std.proofs.Common.{
-    ◌≡◌, ℕ, ◌^◌, ◌<◌, true, List, [], ◌∷◌, length, Option, Some, None, Result, Ok, Err, is_ok, refl,
-    sym, ap, subst, ◌∙◌, arith
-}
+use Rattle.std.proofs.Common.{◌≡◌, ℕ, ◌^◌, ◌<◌, true, List, [], ◌∷◌, length, Option, Some, None, Result, Ok, Err, is_ok, refl, sym, ap, subst, ◌∙◌, arith}
 use Rattle.std.specs.Prelude.{◌≢◌, IfErr, slice_index_or}
 use Rattle.std.proofs.lemmas.Bool.{eq-eqb, lt-ltb}
 use Rattle.scale_core.specs.Compact.{target_bytes}
@@ -24,9 +21,7 @@ use Rattle.grammar_core.specs.Parts.{Part, each, how_many_left}
 use Rattle.grammar_core.specs.Preorder.{Head}
 use Rattle.grammar_core.specs.Preorder as head
 use Rattle.grammar_core.specs.Reading.{basic, as_leaf, layout_at, no_such_variant}
-use Rattle.value_core.specs.Refusals.{
-    Adds, judged, judged_arm, suits_arm, suits_compact, suits_list
-}
+use Rattle.value_core.specs.Refusals.{Adds, judged, judged_arm, suits_arm, suits_compact, suits_list}
 use Rattle.value_core.specs.Walked.{next_of}
 use Rattle.value_core.specs.declared.build_fault.BuildFault.{BuildFault}
 use Rattle.value_core.specs.declared.build_fault.BuildFault.TheVariants as build
@@ -39,9 +34,7 @@ use Rattle.decode_core.specs.Reasons.{reason_of}
 use Rattle.decode_core.specs.Told.{leaf_own, length_own, own_at}
 use Rattle.decode_core.specs.declared.node.NodeFault.{NodeFault}
 use Rattle.decode_core.specs.declared.node.NodeFault.TheVariants as fault
-use Rattle.decode_core.proofs.steps.NodeAdding.{
-    next_has, judged_by, count_own, adds_none, refused_same
-}
+use Rattle.decode_core.proofs.steps.NodeAdding.{next_has, judged_by, count_own, adds_none, refused_same}
 use Rattle.decode_core.proofs.steps.Whole.{IsSettled, settled_at, u32_is, basic_whole}
 
 -- ---- lists and counts
@@ -130,9 +123,9 @@ arm_answer : (b new : Built) (i : ℕ) (arms : List Arm) (result : Result (Unit 
 arm_answer b new i arms result lay h k adds =
     let found : arm_in (next_layout b) i ≡ arm_of arms i = ap (λ (f : Layout). arm_in f i) lay in
     let one = subst (λ (o : Option BuildFault). Adds o (with_arm b i) b new result)
-        (judged_by (suits_arm (arm_in (next_layout b) i)) b form.Arm h k) adds in
+    (judged_by (suits_arm (arm_in (next_layout b) i)) b form.Arm h k) adds in
     subst (λ (o : Option (ℕ × Arm)). Adds (suits_arm o form.Arm) (with_found b o) b new result)
-        found one
+    found one
 
 one_byte : (own : List ℕ) → AreOwn form.Arm own → own ≡ slice_index_or own 0 0 ∷ []
 one_byte [] h = let no = h.2 in absurd cc
@@ -147,8 +140,8 @@ arm_added b new own result h k a adds ok =
     let i = slice_index_or own 0 0 in
     let s = next_has b form.Arm h in
     subst (IsAdded b new) (sym (one_byte own a))
-        (arm_found b new s.0 i (arm_of s.0 i) result s.1 refl h k
-        (arm_answer b new i s.0 result s.1 h k adds) ok)
+    (arm_found b new s.0 i (arm_of s.0 i) result s.1 refl h k
+    (arm_answer b new i s.0 result s.1 h k adds) ok)
 
 pub arm_refused : (b new : Built) (own : List ℕ) → next_of b.walk ≡ next.Wants form.Arm →
     b.text ≡ None → AreOwn form.Arm own →
@@ -159,9 +152,9 @@ arm_refused b new own h k a adds =
     let i = slice_index_or own 0 0 in
     let s = next_has b form.Arm h in
     subst (λ (o : List ℕ). IsRefused b o (reason_of no_such_variant) 0 × (new ≡ b))
-        (sym (one_byte own a))
+    (sym (one_byte own a))
     (arm_missing b new s.0 i (arm_of s.0 i) s.1 refl
-        (arm_answer b new i s.0 (Err build.NoSuchVariant) s.1 h k adds))
+    (arm_answer b new i s.0 (Err build.NoSuchVariant) s.1 h k adds))
 
 arm_wanted : (b new : Built) (arms : List Arm) (i : ℕ) (found : Option (ℕ × Arm)) →
     next_layout b ≡ layout.arms arms → arm_of arms i ≡ found →
@@ -182,7 +175,7 @@ arm_short b new own h k a adds =
     let s = next_has b form.Arm h in
     subst (λ (o : List ℕ). IsSpelled b o × (new ≡ b)) (sym (one_byte own a))
     (arm_wanted b new s.0 i (arm_of s.0 i) s.1 refl
-        (arm_answer b new i s.0 (Err build.OutOfMemory) s.1 h k adds))
+    (arm_answer b new i s.0 (Err build.OutOfMemory) s.1 h k adds))
 
 -- ---- the length of a text
 
@@ -215,9 +208,15 @@ pub length_refused : (b : Built) (own : List ℕ) (e : Reason) (at : ℕ) →
     IsRefused b own (reason_of (basic e)) at
 length_refused b own e at h a k =
     let cut = ap (λ (f : Layout). own_at f own) (next_has b (form.Primitive P.Str) h)
-        ∙ text_cut own e k.0 k.1 in
-    (basic e, k.0, cut, basic_whole e
-        (settled_err (compact_at target.U32 own) e k.0 (length_settled own a) k.1), refl, k.2)
+    ∙ text_cut own e k.0 k.1 in (
+      basic e,
+      k.0,
+      cut,
+      basic_whole e
+          (settled_err (compact_at target.U32 own) e k.0 (length_settled own a) k.1),
+      refl,
+      k.2,
+    )
 
 -- ---- nodes without bytes of their own
 
@@ -227,8 +226,13 @@ unfolding own_at layout_at
 empty_by lay e = rw e refl
 
 fields_by : (lay : Layout) (ts : List ℕ) → lay ≡ layout.fields ts →
-    own_at lay [] ≡ Ok ((head.branch tree.fields (how_many_left (fields_part lay)),
-    Some (fields_part lay)), [])
+    own_at lay [] ≡ Ok (
+      (
+        head.branch tree.fields (how_many_left (fields_part lay)),
+        Some (fields_part lay),
+      ),
+      [],
+    )
 unfolding own_at
 fields_by lay ts e = rw e refl
 
@@ -243,8 +247,13 @@ empty_read b h = empty_by (next_layout b) (next_has b form.Empty h)
 
 pub fields_read : (b : Built) → next_of b.walk ≡ next.Wants form.Fields →
     own_at (next_layout b) []
-    ≡ Ok ((head.branch tree.fields (how_many_left (fields_part (next_layout b))),
-    Some (fields_part (next_layout b))), [])
+    ≡ Ok (
+      (
+        head.branch tree.fields (how_many_left (fields_part (next_layout b))),
+        Some (fields_part (next_layout b)),
+      ),
+      [],
+    )
 fields_read b h = let f = next_has b form.Fields h in fields_by (next_layout b) f.0 f.1
 
 pub array_read : (b : Built) (n : ℕ) → next_of b.walk ≡ next.Wants (form.Array n) →
@@ -259,12 +268,17 @@ pub bare_added : (f : Form) (b new : Built) (x : Head × Option Part)
     (suits : Form → Option BuildFault) (added : Result (Unit {0}) BuildFault)
     (kept : Result (Unit {0}) NodeFault) →
     next_of b.walk ≡ next.Wants f → b.text ≡ None → own_at (next_layout b) [] ≡ Ok (x, []) →
-        suits f ≡ None → Adds (judged suits b) (with_own b x) b new added →
-        is_ok kept ≡ is_ok added → IfErr kept (λ e. e ≡ fault.OutOfMemory) → AddsNode b new [] kept
-bare_added f b new x suits added (Ok u) h k r fits adds ok err =
-    (x, r, adds_none (with_own b x) b new (judged suits b) added (judged_by suits b f h k ∙ fits)
-    adds (sym ok))
-bare_added f b new x suits added (Err fault.OutOfMemory) h k r fits adds ok err =
-    ((x, r), refused_same (with_own b x) b new (judged suits b) added
-    (judged_by suits b f h k ∙ fits) adds (sym ok))
+    suits f ≡ None → Adds (judged suits b) (with_own b x) b new added →
+    is_ok kept ≡ is_ok added → IfErr kept (λ e. e ≡ fault.OutOfMemory) → AddsNode b new [] kept
+bare_added f b new x suits added (Ok u) h k r fits adds ok err = (
+  x,
+  r,
+  adds_none (with_own b x) b new (judged suits b) added (judged_by suits b f h k ∙ fits)
+      adds (sym ok),
+)
+bare_added f b new x suits added (Err fault.OutOfMemory) h k r fits adds ok err = (
+  (x, r),
+  refused_same (with_own b x) b new (judged suits b) added
+      (judged_by suits b f h k ∙ fits) adds (sym ok),
+)
 bare_added f b new x suits added (Err (fault.Refused told at)) h k r fits adds ok err = absurd cc

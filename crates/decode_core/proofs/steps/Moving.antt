@@ -1,8 +1,5 @@
 -- One turn behind the other.
-use Rattle.std.proofs.Common.{
-    ◌≡◌, ℕ, suc, ◌+◌, ◌-◌, ◌<◌, ◌≤◌, ◌⊎◌, List, [], ◌++◌, length, take, drop, refl, sym, ap, subst,
-    ◌∙◌, append_assoc, arith, inl, inr, length-drop
-}
+use Rattle.std.proofs.Common.{◌≡◌, ℕ, suc, ◌+◌, ◌-◌, ◌<◌, ◌≤◌, ◌⊎◌, List, [], ◌++◌, length, take, drop, refl, sym, ap, subst, ◌∙◌, append_assoc, arith, inl, inr, length-drop}
 use Rattle.std.proofs.lemmas.List.{append-nil, drop-drop, take_rest, take-append-drop, length-take}
 use Rattle.std.proofs.Math.Seq.{take-add}
 use Rattle.std.specs.Prelude.{true}
@@ -11,9 +8,7 @@ use Rattle.value_core.specs.Refusals.{is_whole}
 use Rattle.decode_core.specs.Machine.{State, remain, to_go}
 use Rattle.decode_core.specs.Running.{Running, held_of, state_of}
 use Rattle.decode_core.specs.Told.{after}
-use Rattle.decode_core.specs.Turned.{
-    FeedTells, IsSame, IsSound, Moves, Steps, StepTells, left_to_do, types_of
-}
+use Rattle.decode_core.specs.Turned.{FeedTells, IsSame, IsSound, Moves, Steps, StepTells, left_to_do, types_of}
 use Rattle.decode_core.specs.declared.turned.Stopped.{Stopped}
 use Rattle.decode_core.specs.declared.turned.Stopped.TheVariants as stop
 use Rattle.decode_core.specs.declared.turned.Turned.{Turned}
@@ -21,12 +16,22 @@ use Rattle.decode_core.specs.declared.turned.Turned.TheVariants as turned
 use Rattle.decode_core.proofs.lists.MachineTurns.{nearer}
 
 pub moves_none : (s : Running) → Moves s s []
-moves_none s = record { same = record { types = refl; limit = refl; ty = refl }; own = []; is =
-    append-nil (held_of s); tells = λ more. refl; level = refl }
+moves_none s = record {
+  same = record { types = refl; limit = refl; ty = refl };
+  own = [];
+  is =
+      append-nil (held_of s);
+  tells = λ more. refl;
+  level = refl;
+}
 
 same_on : (a b c : Running) → IsSame a b → IsSame b c → IsSame a c
-same_on a b c h k = record { types = k.types ∙ h.types; limit = k.limit ∙ h.limit; ty = k.ty
-    ∙ h.ty }
+same_on a b c h k = record {
+  types = k.types ∙ h.types;
+  limit = k.limit ∙ h.limit;
+  ty = k.ty
+      ∙ h.ty;
+}
 
 pub moves_on : (a b c : Running) (x y : List ℕ) → Moves a b x → Moves b c y → Moves a c (x ++ y)
 moves_on a b c x y h k = record {
@@ -39,9 +44,9 @@ moves_on a b c x y h k = record {
       (remain (types_of a) (state_of a.built) z)) (append_assoc h.own k.own more)
       ∙ h.tells (k.own ++ more)
       ∙ subst (λ (r : List TypeInfo). after (state_of b.built).nodes
-          (remain r (state_of b.built) (k.own ++ more))
-          ≡ after (state_of c.built).nodes (remain r (state_of c.built) more)) h.same.types
-          (k.tells more);
+      (remain r (state_of b.built) (k.own ++ more))
+      ≡ after (state_of c.built).nodes (remain r (state_of c.built) more)) h.same.types
+      (k.tells more);
   level = k.level ∙ h.level;
 }
 
@@ -71,24 +76,24 @@ pub step_nearer : (a b : Running) (piece : List ℕ) (n : ℕ) → n ≤ length 
     Steps a b (take n piece) → left_to_do b (drop n piece) < left_to_do a piece
 step_nearer a b piece n le same (inl h) =
     let bytes : held_of b ++ drop n piece ≡ held_of a ++ piece =
-        ap (λ (l : List ℕ). l ++ drop n piece) h.2 ∙ all_bytes (held_of a) piece n in
+    ap (λ (l : List ℕ). l ++ drop n piece) h.2 ∙ all_bytes (held_of a) piece n in
     let work : to_go (types_of b) (state_of b.built) (held_of b ++ drop n piece)
-        ≡ to_go (types_of a) (state_of a.built) (held_of a ++ piece) =
-        ap (λ (r : List TypeInfo). to_go r (state_of b.built) (held_of b ++ drop n piece))
-        same.types ∙ ap (λ (s : State). to_go (types_of a) s (held_of b ++ drop n piece)) h.1
-        ∙ ap (to_go (types_of a) (state_of a.built)) bytes in
+    ≡ to_go (types_of a) (state_of a.built) (held_of a ++ piece) =
+    ap (λ (r : List TypeInfo). to_go r (state_of b.built) (held_of b ++ drop n piece))
+    same.types ∙ ap (λ (s : State). to_go (types_of a) s (held_of b ++ drop n piece)) h.1
+    ∙ ap (to_go (types_of a) (state_of a.built)) bytes in
     omega (arith, work, length-drop n piece, length-take n piece, h.0, le)
 step_nearer a b piece n le same (inr h) =
     let less = nearer (types_of a) (state_of a.built) (state_of b.built) (held_of a ++ take n piece)
-        (drop n piece) h.1 in
+    (drop n piece) h.1 in
     let before : to_go (types_of a) (state_of a.built) ((held_of a ++ take n piece) ++ drop n piece)
-        ≡ to_go (types_of a) (state_of a.built) (held_of a ++ piece) =
-        ap (to_go (types_of a) (state_of a.built)) (all_bytes (held_of a) piece n) in
+    ≡ to_go (types_of a) (state_of a.built) (held_of a ++ piece) =
+    ap (to_go (types_of a) (state_of a.built)) (all_bytes (held_of a) piece n) in
     let now : to_go (types_of b) (state_of b.built) (held_of b ++ drop n piece) ≡ to_go (types_of a)
-        (state_of b.built) (drop n piece) =
-        ap (λ (r : List TypeInfo). to_go r (state_of b.built) (held_of b ++ drop n piece))
-        same.types ∙ ap (λ (l : List ℕ). to_go (types_of a) (state_of b.built) (l ++ drop n piece))
-        h.0 in
+    (state_of b.built) (drop n piece) =
+    ap (λ (r : List TypeInfo). to_go r (state_of b.built) (held_of b ++ drop n piece))
+    same.types ∙ ap (λ (l : List ℕ). to_go (types_of a) (state_of b.built) (l ++ drop n piece))
+    h.0 in
     omega (arith, less, before, now, length-drop n piece)
 
 -- the turns so far, and one more
@@ -145,7 +150,7 @@ pub turn_nearer : (b c : Running) (piece : List ℕ) (at n : ℕ) →
 turn_nearer b c piece at n k =
     let one = rest_tells b c piece at n k in
     subst (λ (l : List ℕ). left_to_do c l < left_to_do b (drop at piece)) (drop_more piece at n)
-        (step_nearer b c (drop at piece) n one.0 one.1 one.2)
+    (step_nearer b c (drop at piece) n one.0 one.1 one.2)
 
 -- ---- the turns are counted
 

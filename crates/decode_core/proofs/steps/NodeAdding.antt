@@ -1,8 +1,5 @@
 -- A node that is added by its own bytes, or refused.
-use Rattle.std.proofs.Common.{
-    ◌≡◌, ℕ, zero, suc, ◌≤◌, ℤ, Bool, true, false, cond, List, [], ◌∷◌, length, take, drop, Option,
-    Some, None, Result, Ok, Err, is_ok, refl, sym, ap, ◌∙◌, arith
-}
+use Rattle.std.proofs.Common.{◌≡◌, ℕ, zero, suc, ◌≤◌, ℤ, Bool, true, false, cond, List, [], ◌∷◌, length, take, drop, Option, Some, None, Result, Ok, Err, is_ok, refl, sym, ap, ◌∙◌, arith}
 use Rattle.std.specs.Prelude.{IfErr, nat_lt}
 use Rattle.std.proofs.lemmas.Bool.{le-ltb, ne_eqb}
 use Rattle.scale_core.specs.Number.{number, signed_number, is_scalar}
@@ -28,11 +25,7 @@ use Rattle.grammar_core.specs.Preorder.{Head, head_of}
 use Rattle.grammar_core.specs.Preorder as head
 use Rattle.grammar_core.specs.Reading.{Refusal, basic, as_leaf, layout_at}
 use Rattle.grammar_core.specs.Reading as reading
-use Rattle.value_core.specs.Refusals.{
-    Adds, judged, wanted_of, wanted_from, bool_kind, suits_bool, char_kind, suits_char, wide_kind,
-    suits_wide, up_to, most_unsigned, unsigned_kind, suits_unsigned, within, most_signed,
-    signed_kind, suits_signed
-}
+use Rattle.value_core.specs.Refusals.{Adds, judged, wanted_of, wanted_from, bool_kind, suits_bool, char_kind, suits_char, wide_kind, suits_wide, up_to, most_unsigned, unsigned_kind, suits_unsigned, within, most_signed, signed_kind, suits_signed}
 use Rattle.value_core.specs.Walked.{next_of}
 use Rattle.value_core.specs.declared.build_fault.BuildFault.{BuildFault}
 use Rattle.grammar_core.specs.declared.form.Form.{Form}
@@ -104,7 +97,7 @@ pub judged_by : (suits : Form → Option BuildFault) (b : Built) (f : Form) →
     next_of b.walk ≡ next.Wants f → b.text ≡ None → judged suits b ≡ suits f
 judged_by suits b f h k =
     let wanted_is : wanted_of b ≡ Ok f =
-        ap (λ (t : Option Pieces). wanted_from t (next_of b.walk)) k ∙ ap (wanted_from None) h in
+    ap (λ (t : Option Pieces). wanted_from t (next_of b.walk)) k ∙ ap (wanted_from None) h in
     ap (λ (w : Result Form BuildFault). elim w [ Ok g ↦ suits g | Err e ↦ Some e ]) wanted_is
 
 -- what was read of a node is added
@@ -112,17 +105,20 @@ pub node_added : (f : Form) (b new : Built) (own : List ℕ) (x : Head × Option
     (suits : Form → Option BuildFault) (added : Result (Unit {0}) BuildFault)
     (kept : Result (Unit {0}) NodeFault) →
     next_of b.walk ≡ next.Wants f → HasBytes f → NoText f → b.text ≡ None → AreOwn f own →
-        ((rest : List ℕ) × (own_at (next_layout b) own ≡ Ok (x, rest))) → suits f ≡ None →
-        Adds (judged suits b) (with_own b x) b new added → is_ok kept ≡ is_ok added →
-        IfErr kept (λ e. e ≡ fault.OutOfMemory) → AddsNode b new own kept
-node_added f b new own x suits added (Ok u) h s n k a r fits adds ok err =
-    (x, none_left (own_at (next_layout b) own) x r.0 (own_whole b f own h s n a) r.1,
-        adds_none (with_own b x) b new (judged suits b) added (judged_by suits b f h k ∙ fits) adds
-        (sym ok))
-node_added f b new own x suits added (Err fault.OutOfMemory) h s n k a r fits adds ok err =
-    ((x, none_left (own_at (next_layout b) own) x r.0 (own_whole b f own h s n a) r.1),
-        refused_same (with_own b x) b new (judged suits b) added (judged_by suits b f h k ∙ fits)
-        adds (sym ok))
+    ((rest : List ℕ) × (own_at (next_layout b) own ≡ Ok (x, rest))) → suits f ≡ None →
+    Adds (judged suits b) (with_own b x) b new added → is_ok kept ≡ is_ok added →
+    IfErr kept (λ e. e ≡ fault.OutOfMemory) → AddsNode b new own kept
+node_added f b new own x suits added (Ok u) h s n k a r fits adds ok err = (
+  x,
+  none_left (own_at (next_layout b) own) x r.0 (own_whole b f own h s n a) r.1,
+  adds_none (with_own b x) b new (judged suits b) added (judged_by suits b f h k ∙ fits) adds
+      (sym ok),
+)
+node_added f b new own x suits added (Err fault.OutOfMemory) h s n k a r fits adds ok err = (
+  (x, none_left (own_at (next_layout b) own) x r.0 (own_whole b f own h s n a) r.1),
+  refused_same (with_own b x) b new (judged suits b) added (judged_by suits b f h k ∙ fits)
+      adds (sym ok),
+)
 node_added f b new own x suits added (Err (fault.Refused told at)) h s n k a r fits adds ok err =
     absurd cc
 
@@ -132,8 +128,17 @@ pub node_refused : (f : Form) (b : Built) (own : List ℕ) (e : Refusal) (at : �
     ((left : List ℕ) × (own_at (next_layout b) own ≡ Err (e, left)) × (at ≡ place own left)) →
     told ≡ fault.Refused (reason_of e) at → AddsNode b b own (Err told)
 node_refused f b own e at told h s n a r is =
-    rw is ((e, r.0, r.1, no_wait (own_at (next_layout b) own) e r.0 (own_whole b f own h s n a) r.1,
-    refl, r.2), refl)
+    rw is (
+      (
+        e,
+        r.0,
+        r.1,
+        no_wait (own_at (next_layout b) own) e r.0 (own_whole b f own h s n a) r.1,
+        refl,
+        r.2,
+      ),
+      refl,
+    )
 
 -- ---- what is read of a node is what its type's layout reads
 

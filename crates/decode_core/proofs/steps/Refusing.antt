@@ -1,16 +1,11 @@
 -- Why a turn adds nothing: bytes are missing, or the next node is refused.
-use Rattle.std.proofs.Common.{
-    ◌≡◌, ◌⊎◌, ℕ, zero, suc, ◌+◌, ◌-◌, ◌<◌, ◌≤◌, Bool, true, false, cond, List, [], ◌∷◌, ◌++◌,
-    length, take, Some, Err, refl, sym, ap, ◌∙◌, arith, length-append, inl, inr
-}
+use Rattle.std.proofs.Common.{◌≡◌, ◌⊎◌, ℕ, zero, suc, ◌+◌, ◌-◌, ◌<◌, ◌≤◌, Bool, true, false, cond, List, [], ◌∷◌, ◌++◌, length, take, Some, Err, refl, sym, ap, ◌∙◌, arith, length-append, inl, inr}
 use Rattle.std.specs.Prelude.{◌≢◌}
 use Rattle.std.proofs.lemmas.Bool.{lt-ltb}
 use Rattle.std.proofs.lemmas.List.{length-take, take-append-le}
 use Rattle.std.proofs.Math.Seq.{take-append_seam, drop-append_seam}
 use Rattle.scale_core.specs.Number.{number, signed_number}
-use Rattle.scale_core.specs.Read.{
-    bytes_at, form_len, form_from, is_too_long, integer_at, compact_at, text_at
-}
+use Rattle.scale_core.specs.Read.{bytes_at, form_len, form_from, is_too_long, integer_at, compact_at, text_at}
 use Rattle.scale_core.specs.declared.compact.Target.{Target}
 use Rattle.scale_core.specs.declared.compact.Target.TheVariants as target
 use Rattle.scale_core.specs.declared.fault.Reason.TheVariants as scale
@@ -174,8 +169,8 @@ pub remain_next : (b : Built) (n : AtNext b) (x left : List ℕ) (e : Refusal) �
 remain_next b n x left e h = ap (λ (s : State). remain b.walk.types s x) (state_is b n)
     ∙ (first_is b.walk.types (suc n.room) n.ty n.top.left (parts_of n.around) n.first x
     ∙ fails_first b.walk.types n.room n.ty (next_layout b)
-        (rest_told b.walk.types (suc n.room) (left_after n.top.left ∷ parts_of n.around)) x left e
-        n.laid h)
+    (rest_told b.walk.types (suc n.room) (left_after n.top.left ∷ parts_of n.around)) x left e
+    n.laid h)
 
 -- what the machine tells of a node that is refused, whatever follows its own bytes; and that these
 -- decide it
@@ -201,7 +196,7 @@ pub refuses_by : (b : Built) (n : AtNext b) (own more back : List ℕ) (e : Refu
 refuses_by b n own more back e is cut few =
     let lay = next_layout b in
     let longer : own_at lay (own ++ more) ≡ Err (e, back ++ more) =
-        (rw is at (own_extends lay own more)) (cut_not e cut) in
+    (rw is at (own_extends lay own more)) (cut_not e cut) in
     let within : length back ≤ length own = (rw is at (own_within lay own)) in
     let front : take (length own) (own ++ more) ≡ own = take-append_seam own more in
     let parts = length-append own more in
@@ -254,24 +249,24 @@ state_from b top around room f k = rw (k, f) refl
 stop_by : (b : Built) (told_reason : StopReason) (t : ℕ) (top : OpenPart) (around : List OpenPart) →
     b.walk.frames ≡ top ∷ around → first_of top.left ≡ Some t →
     ((told_reason ≡ stop.TooDeep) × (b.walk.limit + 1 < length b.walk.frames))
-        ⊎ ((length b.walk.frames ≤ b.walk.limit + 1) × IsStoppedBy told_reason b.walk.types t) →
-        (x : List ℕ) → remain b.walk.types (state_of b) x ≡ told []
-        (Err ((stop_refusal told_reason, x), x))
+    ⊎ ((length b.walk.frames ≤ b.walk.limit + 1) × IsStoppedBy told_reason b.walk.types t) →
+    (x : List ℕ) → remain b.walk.types (state_of b) x ≡ told []
+    (Err ((stop_refusal told_reason, x), x))
 stop_by b told_reason t top around fs first (inl deep) x =
     let is = state_from b top around 0 fs (omega (arith, deep.1)) in
     ap (λ (s : State). remain b.walk.types s x) is
-        ∙ (first_is b.walk.types 0 t top.left (parts_of around) first x
-        ∙ no_room_tells b.walk.types t
-        (rest_told b.walk.types 0 (left_after top.left ∷ parts_of around)) x)
+    ∙ (first_is b.walk.types 0 t top.left (parts_of around) first x
+    ∙ no_room_tells b.walk.types t
+    (rest_told b.walk.types 0 (left_after top.left ∷ parts_of around)) x)
     ∙ ap (λ (e : StopReason). told [] (Err ((stop_refusal e, x), x))) (sym deep.0)
 stop_by b told_reason t top around fs first (inr here) x =
     let room = b.walk.limit + 1 - length b.walk.frames in
     let is = state_from b top around (suc room) fs (omega (arith, here.0)) in
     ap (λ (s : State). remain b.walk.types s x) is
-        ∙ (first_is b.walk.types (suc room) t top.left (parts_of around) first x
+    ∙ (first_is b.walk.types (suc room) t top.left (parts_of around) first x
     ∙ fails_first b.walk.types room t (met_layout b.walk.types t)
-        (rest_told b.walk.types (suc room) (left_after top.left ∷ parts_of around)) x x
-        (stop_refusal told_reason) refl (stop_laid told_reason b.walk.types t here.1 x))
+    (rest_told b.walk.types (suc room) (left_after top.left ∷ parts_of around)) x x
+    (stop_refusal told_reason) refl (stop_laid told_reason b.walk.types t here.1 x))
 
 pub stop_tells : (b : Built) (told_reason : StopReason) → next_of b.walk ≡ next.Stop told_reason →
     (x : List ℕ) → remain b.walk.types (state_of b) x ≡ told []
@@ -291,6 +286,13 @@ pub stop_refuses : (b : Built) (told_reason : StopReason) → next_of b.walk ≡
     (x : List ℕ) → Refuses b x (stop_refusal told_reason) x 0
 stop_refuses b told_reason h x = record {
   tells = stop_tells b told_reason h x;
-  decided = record { within = omega arith; low = omega arith; back = []; holds =
-      stop_tells b told_reason h []; is = refl; least = λ i lt. absurd (omega (arith, lt)) };
+  decided = record {
+    within = omega arith;
+    low = omega arith;
+    back = [];
+    holds =
+        stop_tells b told_reason h [];
+    is = refl;
+    least = λ i lt. absurd (omega (arith, lt));
+  };
 }

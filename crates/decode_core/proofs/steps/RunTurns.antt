@@ -1,9 +1,5 @@
 -- What a turn does and keeps, by what it called.
-use Rattle.std.proofs.Common.{
-    ◌≡◌, ℕ, zero, suc, ◌+◌, ◌-◌, ◌<◌, ◌≤◌, List, [], ◌∷◌, ◌++◌, length, take, drop, min, Option,
-    Some, None, Result, Ok, Err, refl, sym, ap, subst, ◌∙◌, append_assoc, arith, inl, inr,
-    length-append
-}
+use Rattle.std.proofs.Common.{◌≡◌, ℕ, zero, suc, ◌+◌, ◌-◌, ◌<◌, ◌≤◌, List, [], ◌∷◌, ◌++◌, length, take, drop, min, Option, Some, None, Result, Ok, Err, refl, sym, ap, subst, ◌∙◌, append_assoc, arith, inl, inr, length-append}
 use Rattle.std.specs.Prelude.{slice_get, slice_index_or, ◌==◌, ◌⊎◌, false, true}
 use Rattle.std.proofs.lemmas.Bool.{eqb-true}
 use Rattle.std.proofs.lemmas.List.{take-append-drop, length-take}
@@ -20,9 +16,7 @@ use Rattle.grammar_core.specs.declared.form.Next.TheVariants as next
 use Rattle.decode_core.specs.Needs.{need, AreOwn, HasBytes, IsFirst, IsNeeded}
 use Rattle.decode_core.specs.NodeAdds.{AddsNode, AreLength, IsRefused, IsSpelled, TakesNode}
 use Rattle.decode_core.specs.Running.{Running, IsRunning, IsCarry, IsKeptText, held_of}
-use Rattle.decode_core.specs.Turned.{
-    KeepsNode, KeepsText, Steps, BareTells, StepTells, EndsTurns, WantsMemory, node_turned
-}
+use Rattle.decode_core.specs.Turned.{KeepsNode, KeepsText, Steps, BareTells, StepTells, EndsTurns, WantsMemory, node_turned}
 use Rattle.decode_core.specs.Told.{own_at}
 use Rattle.grammar_core.specs.Reading.{truncated}
 use Rattle.decode_core.specs.declared.fault.DecodeReason.{DecodeReason}
@@ -36,9 +30,7 @@ use Rattle.decode_core.proofs.steps.NodeAdding.{next_has}
 use Rattle.decode_core.proofs.steps.Refusing.{IsShortOf, own_short, refuses}
 use Rattle.decode_core.proofs.steps.Settling.{added_running}
 use Rattle.decode_core.proofs.steps.Stepping.{at_next}
-use Rattle.decode_core.proofs.steps.Steps.{
-    added_same, added_steps, held_closed, taken_running, taken_same, taken_steps
-}
+use Rattle.decode_core.proofs.steps.Steps.{added_same, added_steps, held_closed, taken_running, taken_same, taken_steps}
 
 same_form : (w : Next) (f g : Form) → w ≡ next.Wants f → w ≡ next.Wants g → f ≡ g
 same_form w f g h k = let both = sym h ∙ k in cc
@@ -84,9 +76,11 @@ pub bare_tells : (b new : Built) (carry : List ℕ) (text : Option OpenText) (f 
 bare_tells b new carry text f h k bare closed adds =
     let none = carry_none b carry f h.carried k bare in
     subst (λ (c : List ℕ). BareTells (record { built = b; carry = c })
-        (record { built = new; carry = c }) (turned.On 0)) (sym none)
-        (refl, added_same b new [] [] [] adds,
-        added_steps b new [] [] [] (at_next b f k) closed refl adds)
+    (record { built = new; carry = c }) (turned.On 0)) (sym none) (
+      refl,
+      added_same b new [] [] [] adds,
+      added_steps b new [] [] [] (at_next b f k) closed refl adds,
+    )
 
 -- memory is wanted for a node without bytes of its own
 pub bare_wants : (b : Built) (carry : List ℕ) (text : Option OpenText) (f : Form) →
@@ -94,9 +88,16 @@ pub bare_wants : (b : Built) (carry : List ℕ) (text : Option OpenText) (f : Fo
     IsSpelled b [] → (rest : List ℕ) → WantsMemory (record { built = b; carry = carry }) rest
 bare_wants b carry text f h k bare closed is rest =
     let held : held_of (record { built = b; carry = carry }) ≡ [] = held_closed b carry closed
-        ∙ carry_none b carry f h.carried k bare in
-    record { form = f; next = k; bytes = []; later = rest; is = refl; keeps =
-        inl (is.0, ap (λ (l : List ℕ). own_at (next_layout b) (l ++ [])) held ∙ is.1) }
+    ∙ carry_none b carry f h.carried k bare in
+    record {
+      form = f;
+      next = k;
+      bytes = [];
+      later = rest;
+      is = refl;
+      keeps =
+          inl (is.0, ap (λ (l : List ℕ). own_at (next_layout b) (l ++ [])) held ∙ is.1);
+    }
 
 -- ---- a node's own bytes
 
@@ -107,24 +108,34 @@ node_wants : (f : Form) (b : Built) (c bytes rest own : List ℕ) → next_of b.
     WantsMemory (record { built = b; carry = c }) (bytes ++ rest)
 node_wants f b c bytes rest own wants closed is some k =
     record { form = f; next = wants; bytes = bytes; later = rest; is = refl; keeps = by k } where
-  s : Running
-  s = record { built = b; carry = c }
+      s : Running
+      s = record { built = b; carry = c }
 
-  held_is : held_of s ++ bytes ≡ own
-  held_is = ap (λ (l : List ℕ). l ++ bytes) (held_closed b c closed) ∙ is
+      held_is : held_of s ++ bytes ≡ own
+      held_is = ap (λ (l : List ℕ). l ++ bytes) (held_closed b c closed) ∙ is
 
-  by : IsSpelled b own ⊎ ((f ≡ form.Primitive P.Str) × AreLength own) → KeepsNode s bytes
-      ⊎ KeepsText s bytes
-  by (inl x) = inl (x.0, ap (own_at (next_layout b)) held_is ∙ x.1)
-  by (inr x) = inr (next_has b (form.Primitive P.Str)
-      (subst (λ (g : Form). next_of b.walk ≡ next.Wants g) x.0 wants), some,
-      (x.1.0, [], ap (compact_at target.U32) held_is ∙ x.1.1, omega arith))
+      by : IsSpelled b own ⊎ ((f ≡ form.Primitive P.Str) × AreLength own) → KeepsNode s bytes
+          ⊎ KeepsText s bytes
+      by (inl x) = inl (x.0, ap (own_at (next_layout b)) held_is ∙ x.1)
+      by (inr x) = inr (
+        next_has b (form.Primitive P.Str)
+            (subst (λ (g : Form). next_of b.walk ≡ next.Wants g) x.0 wants),
+        some,
+        (x.1.0, [], ap (compact_at target.U32) held_is ∙ x.1.1, omega arith),
+      )
 
 dropped : (b : Built) (c : List ℕ) (text : Option OpenText) → IsRunning b c text → b.text ≡ None →
     IsRunning b [] None
 dropped b c text h closed =
-    record { rooted = h.rooted; deep = h.deep; settled = h.settled; carried = tt; is_text =
-    rw closed tt; text_next = rw closed tt }
+    record {
+      rooted = h.rooted;
+      deep = h.deep;
+      settled = h.settled;
+      carried = tt;
+      is_text =
+          rw closed tt;
+      text_next = rw closed tt;
+    }
 
 same_running : (b new : Built) (c : List ℕ) (old text : Option OpenText) → IsRunning b c old →
     b.text ≡ None → new ≡ b → text ≡ None → IsRunning new [] text
@@ -145,23 +156,31 @@ refused_tells : (b new : Built) (c bytes rest own : List ℕ) (f : Form) (told_r
     (at : ℕ) → next_of b.walk ≡ next.Wants f → HasBytes f → b.text ≡ None → AreOwn f own →
     c ++ bytes ≡ own → IsRefused b own told_reason at →
     EndsTurns (record { built = b; carry = c }) (bytes ++ rest)
-        (stop.Refused (length c) told_reason at (length own))
+    (stop.Refused (length c) told_reason at (length own))
 refused_tells b new c bytes rest own f told_reason at wants some closed a is h =
     let x = held_of (record { built = b; carry = c }) ++ (bytes ++ rest) in
     let whole : x ≡ own ++ rest = ap (λ (l : List ℕ). l ++ (bytes ++ rest)) (held_closed b c closed)
-        ∙ sym (append_assoc c bytes rest) ∙ ap (λ (l : List ℕ). l ++ rest) is in
+    ∙ sym (append_assoc c bytes rest) ∙ ap (λ (l : List ℕ). l ++ rest) is in
     let r = refuses b f own rest h.1 h.0 wants some a h.2 h.3 in
     let place_is : at ≡ length x - length (h.1 ++ rest) =
-        omega (arith, h.5, ap length whole, length-append own rest, length-append h.1 rest) in
-    (h.0, h.1 ++ rest, h.3, h.4, ap length (sym (held_closed b c closed)), place_is,
-        rw whole r.tells, rw whole r.decided, omega (arith, ap length is, length-append c bytes))
+    omega (arith, h.5, ap length whole, length-append own rest, length-append h.1 rest) in (
+      h.0,
+      h.1 ++ rest,
+      h.3,
+      h.4,
+      ap length (sym (held_closed b c closed)),
+      place_is,
+      rw whole r.tells,
+      rw whole r.decided,
+      omega (arith, ap length is, length-append c bytes),
+    )
 
 pub node_tells : (f : Form) (b new : Built) (c bytes rest own : List ℕ) (text : Option OpenText)
     (taken : Result (Unit {0}) NodeFault) → next_of b.walk ≡ next.Wants f → HasBytes f →
     b.text ≡ None → AreOwn f own → c ++ bytes ≡ own → 1 ≤ length bytes →
     TakesNode f b new text own taken →
     StepTells (record { built = b; carry = c }) (record { built = new; carry = [] }) (bytes ++ rest)
-        (node_turned taken (length c) (length bytes) (length own))
+    (node_turned taken (length c) (length bytes) (length own))
 node_tells f b new c bytes rest own text (Ok u) wants some closed a is one k = (
   omega (arith, length-append bytes rest),
   taken_same f b new text c [] own k,
@@ -186,10 +205,17 @@ short_of b (x ∷ xs) f h wants =
 pub wants_more : (b : Built) (c : List ℕ) (f : Form) → IsCarry b c → next_of b.walk ≡ next.Wants f →
     HasBytes f → b.text ≡ None → EndsTurns (record { built = b; carry = c }) [] stop.Wants
 wants_more b c f h wants some closed =
-    let held = held_closed b c closed in
-    (refl, record { form = f; next = wants; left = []; short =
-        subst (λ (x : List ℕ). own_at (next_layout b) x ≡ Err (truncated, [])) (sym held)
-        (own_short b f c wants some (short_of b c f h wants)) })
+    let held = held_closed b c closed in (
+      refl,
+      record {
+        form = f;
+        next = wants;
+        left = [];
+        short =
+            subst (λ (x : List ℕ). own_at (next_layout b) x ≡ Err (truncated, [])) (sym held)
+            (own_short b f c wants some (short_of b c f h wants));
+      },
+    )
 
 -- ---- by the piece
 
@@ -216,9 +242,9 @@ pub whole_tells : (f : Form) (b new : Built) (c own rest : List ℕ) (text : Opt
     StepTells (of_fields b c) (of_fields new c) (own ++ rest) result
 whole_tells f b new c own rest text taken result none wants some closed a k is =
     rw is (subst (λ (l : List ℕ). StepTells (of_fields b l) (of_fields new l) (own ++ rest)
-        (node_turned taken 0 (length own) (length own))) (sym none)
-        (node_tells f b new [] own rest own text taken wants some closed a refl (some_own f own a)
-        k))
+    (node_turned taken 0 (length own) (length own))) (sym none)
+    (node_tells f b new [] own rest own text taken wants some closed a refl (some_own f own a)
+    k))
 
 -- the bytes that were missing came
 pub count_is : (c piece : List ℕ) (len count : ℕ) → length c < len →
@@ -239,12 +265,18 @@ pub cut_own : (f : Form) (c piece own : List ℕ) (len count : ℕ) → IsNeeded
 cut_own f c piece own len count n is short count_of enough =
     let k = count_is c piece len count short count_of enough in
     let long : length own ≡ len =
-        omega (arith, ap length is, length-append c (take count piece), length-take count piece,
-        k.0, k.1) in
+    omega (
+      arith,
+      ap length is,
+      length-append c (take count piece),
+      length-take count piece,
+      k.0,
+      k.1,
+    ) in
     let parts : own ++ drop count piece ≡ n.0 ∷ n.1.0 =
-        ap (λ (l : List ℕ). l ++ drop count piece) is
-        ∙ append_assoc c (take count piece) (drop count piece)
-        ∙ ap (λ (l : List ℕ). c ++ l) (take-append-drop count piece) ∙ n.1.1 in
+    ap (λ (l : List ℕ). l ++ drop count piece) is
+    ∙ append_assoc c (take count piece) (drop count piece)
+    ∙ ap (λ (l : List ℕ). c ++ l) (take-append-drop count piece) ∙ n.1.1 in
     let front = front_is own (drop count piece) n.1.0 n.0 (omega (arith, long, short)) parts in
     (n.0, front.0, front.1, long ∙ n.2)
 
@@ -254,7 +286,7 @@ pub cut_tells : (f : Form) (b new : Built) (c cleared piece own : List ℕ) (tex
     own ≡ c ++ take count piece → length c < len → count ≡ min (len - length c) (length piece) →
     len ≤ length c + count → held ≡ length c → cleared ≡ [] →
     TakesNode f b new text own taken → result ≡ node_turned taken held count len →
-        StepTells (of_fields b c) (of_fields new cleared) piece result
+    StepTells (of_fields b c) (of_fields new cleared) piece result
 cut_tells f b new c cleared piece own text taken result held count len wants some closed n is short
     count_of enough held_is clear k result_is =
     let counts = count_is c piece len count short count_of enough in
@@ -262,18 +294,18 @@ cut_tells f b new c cleared piece own text taken result held count len wants som
     let bytes = take count piece in
     let bytes_count : length bytes ≡ count = omega (arith, length-take count piece, counts.1) in
     let own_count : length own ≡ len =
-        omega (arith, ap length is, length-append c bytes, bytes_count, counts.0) in
+    omega (arith, ap length is, length-append c bytes, bytes_count, counts.0) in
     let one = node_tells f b new c bytes (drop count piece) own text taken wants some closed a
-        (sym is) (omega (arith, bytes_count, counts.2)) k in
+    (sym is) (omega (arith, bytes_count, counts.2)) k in
     let named : node_turned taken (length c) (length bytes) (length own) ≡ result =
-        ap (λ (h : ℕ). node_turned taken h (length bytes) (length own)) (sym held_is)
-        ∙ ap (λ (m : ℕ). node_turned taken held m (length own)) bytes_count
-        ∙ ap (node_turned taken held count) own_count ∙ sym result_is in
+    ap (λ (h : ℕ). node_turned taken h (length bytes) (length own)) (sym held_is)
+    ∙ ap (λ (m : ℕ). node_turned taken held m (length own)) bytes_count
+    ∙ ap (node_turned taken held count) own_count ∙ sym result_is in
     subst (λ (t : Turned). StepTells (of_fields b c) (of_fields new cleared) piece t) named
     (subst (λ (l : List ℕ). StepTells (of_fields b c) (of_fields new cleared) l
-        (node_turned taken (length c) (length bytes) (length own))) (take-append-drop count piece)
+    (node_turned taken (length c) (length bytes) (length own))) (take-append-drop count piece)
     (subst (λ (l : List ℕ). StepTells (of_fields b c) (of_fields new l) (bytes ++ drop count piece)
-        (node_turned taken (length c) (length bytes) (length own))) (sym clear) one))
+    (node_turned taken (length c) (length bytes) (length own))) (sym clear) one))
 
 -- the first byte of what is carried and of the piece
 pub first_carried : (c piece : List ℕ) (first : ℕ) → Some first ≡ slice_get c 0 →
@@ -308,7 +340,7 @@ pub whole_own : (f : Form) (c piece : List ℕ) (len first : ℕ) → c ≡ [] �
 whole_own f c piece len first none h is some there =
     let count : length (take len piece) ≡ len = omega (arith, length-take len piece, there) in
     let whole : take len piece ++ drop len piece ≡ first ∷ h.0 = take-append-drop len piece
-        ∙ ap (λ (l : List ℕ). l ++ piece) (sym none) ∙ h.1 in
+    ∙ ap (λ (l : List ℕ). l ++ piece) (sym none) ∙ h.1 in
     let front = front_is (take len piece) (drop len piece) h.0 first (omega (arith, count, some))
-        whole in
+    whole in
     (first, front.0, front.1, count ∙ is)

@@ -1,8 +1,5 @@
 -- A value that is built keeps to its shape: what is whole is closed, and something is open.
-use Rattle.std.proofs.Common.{
-    ◌≡◌, ℕ, ◌+◌, ◌≤◌, List, [], ◌∷◌, ◌++◌, length, Option, Some, None, refl, sym, ap, subst, ◌∙◌,
-    arith
-}
+use Rattle.std.proofs.Common.{◌≡◌, ℕ, ◌+◌, ◌≤◌, List, [], ◌∷◌, ◌++◌, length, Option, Some, None, refl, sym, ap, subst, ◌∙◌, arith}
 use Rattle.value_core.specs.Built.{Built, next_entry, settled_in, settled}
 use Rattle.grammar_core.specs.Parts.{Part, first_of}
 use Rattle.grammar_core.specs.Preorder.{Head}
@@ -57,17 +54,31 @@ settled_running s some deep closed = record {
 own_running : (b : Built) (n : AtNext b) (x : Head × Option Part) → b.text ≡ None →
     IsRunning (with_own b x) [] None
 own_running b n (h, None) closed =
-    let s : Built = record { ty = b.ty; walk =
-        record { types = b.walk.types; limit = b.walk.limit; frames = advanced_in b.walk.frames };
-        entries = b.entries ++ next_entry b h ∷ []; text = b.text; turns = b.turns } in
+    let s : Built = record {
+      ty = b.ty;
+      walk =
+          record { types = b.walk.types; limit = b.walk.limit; frames = advanced_in b.walk.frames };
+      entries = b.entries ++ next_entry b h ∷ [];
+      text = b.text;
+      turns = b.turns;
+    } in
     settled_running s (omega (arith, advanced_count b.walk.frames, ap length n.frames))
-        (omega (arith, advanced_count b.walk.frames, n.bound)) closed
+    (omega (arith, advanced_count b.walk.frames, n.bound)) closed
 own_running b n (h, Some p) closed =
     let opened_part : OpenPart = record { node = length b.entries; left = p } in
-    let s : Built = record { ty = b.ty; walk =
-        record { types = b.walk.types; limit = b.walk.limit; frames =
-        opened_part ∷ advanced_in b.walk.frames }; entries = b.entries ++ next_entry b h ∷ [];
-        text = b.text; turns = b.turns } in
+    let s : Built = record {
+      ty = b.ty;
+      walk =
+          record {
+            types = b.walk.types;
+            limit = b.walk.limit;
+            frames =
+                opened_part ∷ advanced_in b.walk.frames;
+          };
+      entries = b.entries ++ next_entry b h ∷ [];
+      text = b.text;
+      turns = b.turns;
+    } in
     settled_running s (omega arith) (omega (arith, advanced_count b.walk.frames, n.bound)) closed
 
 -- a node is added

@@ -1,30 +1,19 @@
 -- What holds of every value on its way, and that what it holds is little.
-use Rattle.std.proofs.Common.{
-    ◌≡◌, ℕ, suc, ◌+◌, ◌*◌, ◌≤◌, ◌⊎◌, true, List, [], ◌∷◌, ◌++◌, length, Option, Some, None, Ok, Err,
-    refl, sym, ap, subst, ◌∙◌, arith, inl, inr, length-append
-}
+use Rattle.std.proofs.Common.{◌≡◌, ℕ, suc, ◌+◌, ◌*◌, ◌≤◌, ◌⊎◌, true, List, [], ◌∷◌, ◌++◌, length, Option, Some, None, Ok, Err, refl, sym, ap, subst, ◌∙◌, arith, inl, inr, length-append}
 use Rattle.std.specs.Prelude.{Result}
 use Rattle.scale_core.specs.Compact.{compact}
 use Rattle.graph_core.specs.Widths.{widest}
-use Rattle.grammar_core.specs.Begun.{
-    Begun, nothing, whole, in_fields, in_arm, in_list, IsBegunPreorder, begun_nodes,
-    begun_text_bytes, is_whole_tree
-}
+use Rattle.grammar_core.specs.Begun.{Begun, nothing, whole, in_fields, in_arm, in_list, IsBegunPreorder, begun_nodes, begun_text_bytes, is_whole_tree}
 use Rattle.grammar_core.specs.Preorder.{Head, tree_of, tree_of-preorder}
 use Rattle.grammar_core.specs.Reading.{truncated}
 use Rattle.grammar_core.specs.Tree.{nodes, text_bytes}
 use Rattle.value_core.specs.Begun.{IsBegun}
-use Rattle.value_core.specs.Built.{
-    Built, Entry, Pieces, entries_text_bytes, built_text_bytes, pieces_bytes
-}
+use Rattle.value_core.specs.Built.{Built, Entry, Pieces, entries_text_bytes, built_text_bytes, pieces_bytes}
 use Rattle.value_core.proofs.Begun.{counts}
 use Rattle.value_core.proofs.Finished.{heads_text}
 use Rattle.decode_core.specs.Bound.{node_bound, value_bound}
 use Rattle.value_core.specs.Shown.{Seen}
-use Rattle.decode_core.specs.Decoding.{
-    FinishesDecoder, IsSmallValue, IsDone, IsSmall, IsWaiting, RunCounted, RunLed, built_tree,
-    first_running
-}
+use Rattle.decode_core.specs.Decoding.{FinishesDecoder, IsSmallValue, IsDone, IsSmall, IsWaiting, RunCounted, RunLed, built_tree, first_running}
 use Rattle.decode_core.specs.Outcome.{Job}
 use Rattle.decode_core.specs.Running.{Running, IsRunning, held_of}
 use Rattle.decode_core.specs.Told.{Fault, shown}
@@ -40,8 +29,13 @@ use Rattle.decode_core.proofs.steps.Short.{carry_small}
 pub sound_of : (b : Built) (carry : List ℕ) (text : Option OpenText) (s : Running) →
     record { built = b; carry = carry } ≡ s → IsBegun b → IsRunning b carry text → IsSound s
 sound_of b carry text s is begun run =
-    subst IsSound is (record { begun = begun; frames = run.deep; carried = run.carried; text_next =
-    run.text_next })
+    subst IsSound is (record {
+      begun = begun;
+      frames = run.deep;
+      carried = run.carried;
+      text_next =
+          run.text_next;
+    })
 
 -- ---- few nodes and texts are held
 
@@ -65,13 +59,20 @@ waiting_small j b n s count h =
     let g = fault_is_begun j.registry (suc j.depth) j.ty b s.built.entries e h.reads in
     let few = begins_small j.registry j.depth j.ty b s.built.entries e h.reads g in
     let len : length b ≡ length g.own + length (held_of s) = ap length g.is
-        ∙ length-append g.own (held_of s) in
+    ∙ length-append g.own (held_of s) in
     let less : length g.own ≤ n = omega (arith, len, count) in
     let texts = (begun_is_bounded j.registry (suc j.depth) j.ty g.tree g.own
-        (Some (g.below, g.next)) g.grows).2 in (
+    (Some (g.below, g.next)) g.grows).2 in (
       omega (arith, few, more_bytes (length g.own) n j.depth (widest j.registry) less),
-      omega (arith, texts, (counts g.tree (shown s.built.entries) g.shows).1,
-          texts_shown s.built.entries, pieces_held s, len, count),
+      omega (
+        arith,
+        texts,
+        (counts g.tree (shown s.built.entries) g.shows).1,
+        texts_shown s.built.entries,
+        pieces_held s,
+        len,
+        count,
+      ),
     )
 
 whole_counts : (g : Begun) (hs : List Head) → is_whole_tree g ≡ true → IsBegunPreorder g hs →
@@ -89,10 +90,11 @@ pub done_small : (j : Job) (b : List ℕ) (n : ℕ) (s : Running) → IsDone j b
 done_small j b n s h =
     let begun = h.sound.begun in
     let count = whole_counts begun.tree (shown s.built.entries) (sym begun.whole ∙ h.is_whole)
-        begun.shows in
-    let few = (held_is_bounded j b n).0 (built_tree s.built) h.outcome in
-    (omega (arith, begun.nodes, count.0, few.0),
-        omega (arith, begun.text_bytes, count.1, few.1, pieces_held s, ap length h.nothing))
+    begun.shows in
+    let few = (held_is_bounded j b n).0 (built_tree s.built) h.outcome in (
+      omega (arith, begun.nodes, count.0, few.0),
+      omega (arith, begun.text_bytes, count.1, few.1, pieces_held s, ap length h.nothing),
+    )
 
 -- a whole value has just its own nodes and texts
 pub done_counts : (j : Job) (b : List ℕ) (n : ℕ) (s : Running) → IsDone j b s n →
@@ -101,14 +103,15 @@ pub done_counts : (j : Job) (b : List ℕ) (n : ℕ) (s : Running) → IsDone j 
 done_counts j b n s h =
     let begun = h.sound.begun in
     let count = whole_counts begun.tree (shown s.built.entries) (sym begun.whole ∙ h.is_whole)
-        begun.shows in
-    (omega (arith, begun.nodes, count.0),
-        omega (arith, begun.text_bytes, count.1, pieces_held s, ap length h.nothing))
+    begun.shows in (
+      omega (arith, begun.nodes, count.0),
+      omega (arith, begun.text_bytes, count.1, pieces_held s, ap length h.nothing),
+    )
 
 pub value_le_nodes : (n depth width : ℕ) → value_bound n depth width ≤ node_bound n depth width
 value_le_nodes n depth width =
     let spread : (n + 1) * (depth + 1) * (width + 1) ≡ n * (depth + 1) * (width + 1)
-        + (depth * width + depth + width + 1) = grind (arith) in
+    + (depth * width + depth + width + 1) = grind (arith) in
     omega (arith, spread)
 
 -- as much as is held of a value with these nodes, texts and open parts
@@ -118,9 +121,15 @@ running_small : (j : Job) (n : ℕ) (s : Running) (turns calls : ℕ) →
     RunCounted j n (Ok s) turns calls →
     IsSmall (record { job = j; taken = n; run = Ok s; turns = turns; calls = calls })
 running_small j n s turns calls few texts limit sound counted =
-    record { nodes = few; texts = texts; frames = omega (arith, sound.frames, limit); carry =
-    carry_small s.built s.carry sound.carried; turns =
-    omega (arith, counted.1, few, sound.begun.turns) }
+    record {
+      nodes = few;
+      texts = texts;
+      frames = omega (arith, sound.frames, limit);
+      carry =
+          carry_small s.built s.carry sound.carried;
+      turns =
+          omega (arith, counted.1, few, sound.begun.turns);
+    }
 
 first_small : (j : Job) (n : ℕ) (s : Running) (turns calls : ℕ) →
     s ≡ first_running j.registry j.ty j.depth → RunCounted j n (Ok s) turns calls →
@@ -128,21 +137,32 @@ first_small : (j : Job) (n : ℕ) (s : Running) (turns calls : ℕ) →
 first_small j n s turns calls is counted =
     let none : length s.built.entries ≡ 0 = ap (λ (x : Running). length x.built.entries) is in
     let no_text : built_text_bytes s.built ≡ 0 =
-        ap (λ (x : Running). built_text_bytes x.built) is in
+    ap (λ (x : Running). built_text_bytes x.built) is in
     let root : length s.built.walk.frames ≡ 1 =
-        ap (λ (x : Running). length x.built.walk.frames) is in
+    ap (λ (x : Running). length x.built.walk.frames) is in
     let empty : length s.carry ≡ 0 = ap (λ (x : Running). length x.carry) is in
     let closed : s.built.turns ≡ 0 = ap (λ (x : Running). x.built.turns) is in
-    record { nodes = omega (arith, none); texts = omega (arith, no_text); frames =
-        omega (arith, root); carry = omega (arith, empty); turns =
-        omega (arith, counted.1, none, closed) }
+    record {
+      nodes = omega (arith, none);
+      texts = omega (arith, no_text);
+      frames =
+          omega (arith, root);
+      carry = omega (arith, empty);
+      turns =
+          omega (arith, counted.1, none, closed);
+    }
 
 pub led_small : (j : Job) (b : List ℕ) (n : ℕ) (run : Result Running DecodeFault)
     (turns calls : ℕ) → RunLed j b n run → RunCounted j n run turns calls →
     IsSmall (record { job = j; taken = n; run = run; turns = turns; calls = calls })
 led_small j b n (Err f) turns calls h counted =
-    record { nodes = omega arith; texts = omega arith; frames = omega arith; carry = omega arith;
-    turns = counted }
+    record {
+      nodes = omega arith;
+      texts = omega arith;
+      frames = omega arith;
+      carry = omega arith;
+      turns = counted;
+    }
 led_small j b n (Ok s) turns calls (inr h) counted = let few = done_small j b n s h in
     running_small j n s turns calls
     (omega (arith, few.0, value_le_nodes n j.depth (widest j.registry))) few.1 h.same.limit h.sound

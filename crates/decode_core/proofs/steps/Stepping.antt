@@ -1,16 +1,11 @@
 -- Adding a node to a value that is built is a turn of the machine, and the closing of what is
 -- whole.
-use Rattle.std.proofs.Common.{
-    ◌≡◌, ℕ, zero, suc, ◌+◌, ◌-◌, ◌≤◌, true, List, [], ◌∷◌, ◌++◌, length, map, Option, Some, None,
-    Ok, refl, sym, ap, subst, ◌∙◌, arith
-}
+use Rattle.std.proofs.Common.{◌≡◌, ℕ, zero, suc, ◌+◌, ◌-◌, ◌≤◌, true, List, [], ◌∷◌, ◌++◌, length, map, Option, Some, None, Ok, refl, sym, ap, subst, ◌∙◌, arith}
 use Rattle.std.proofs.lemmas.List.{length-map}
 use Rattle.registry_core.specs.declared.type_info.TypeInfo.{TypeInfo}
 use Rattle.widths_core.specs.Classes.{is_finite}
 use Rattle.widths_core.specs.Layouts.{Layout, layout}
-use Rattle.value_core.specs.Built.{
-    Built, next_layout, settled_in, settled, with_leaf, with_open, type_or_0
-}
+use Rattle.value_core.specs.Built.{Built, next_layout, settled_in, settled, with_leaf, with_open, type_or_0}
 use Rattle.grammar_core.specs.Parts.{Part, each, times, first_of, left_after}
 use Rattle.grammar_core.specs.Preorder.{Head}
 use Rattle.value_core.specs.Walked.{OpenPart, first_in, next_type, next_of, advanced_in}
@@ -24,9 +19,7 @@ use Rattle.decode_core.specs.Told.{entry, own_at, told, after, part_told, told_a
 use Rattle.decode_core.specs.Turned.{TurnLeads}
 use Rattle.decode_core.proofs.lists.Owns.{own_extends, Spells}
 use Rattle.decode_core.proofs.lists.Tells.{after-nil}
-use Rattle.decode_core.proofs.lists.MachineTurns.{
-    First, each_first, times_first, own_leaf, own_opens
-}
+use Rattle.decode_core.proofs.lists.MachineTurns.{First, each_first, times_first, own_leaf, own_opens}
 
 -- what is next: the innermost open part, its next type, and the room for it
 pub record AtNext (b : Built) : Type 0 where
@@ -155,15 +148,19 @@ parts_are b n = rw n.frames refl
 
 -- the machine's state, spelled out
 pub state_is : (b : Built) (n : AtNext b) →
-    state_of b ≡ record { nodes = b.entries; room = suc n.room; pending =
-    n.top.left ∷ parts_of n.around }
+    state_of b ≡ record {
+      nodes = b.entries;
+      room = suc n.room;
+      pending =
+          n.top.left ∷ parts_of n.around;
+    }
 state_is b n = rw (n.rooms, parts_are b n) refl
 
 spells : (b : Built) (n : AtNext b) (own : List ℕ) (x : Head × Option Part) →
     own_at (next_layout b) own ≡ Ok (x, []) → Spells b.walk.types n.ty x own
 spells b n own x h more =
     let here : own_at (met_layout b.walk.types n.ty) own ≡ Ok (x, []) =
-        ap (λ (f : Layout). own_at f own) n.laid ∙ h in
+    ap (λ (f : Layout). own_at f own) n.laid ∙ h in
     (rw here at (own_extends (met_layout b.walk.types n.ty) own more))
 
 same_length : (p : Part) (ps : List Part) → length (left_after p ∷ ps) ≡ length (p ∷ ps)
@@ -181,45 +178,68 @@ leaf_leads : (b : Built) (n : AtNext b) (own : List ℕ) (h : Head) →
     own_at (next_layout b) own ≡ Ok ((h, None), []) →
     TurnLeads b.walk.types (state_of b) (state_of (with_leaf b h)) own
 leaf_leads b n own h is =
-    let before : Built = record { ty = b.ty; walk =
-        record { types = b.walk.types; limit = b.walk.limit; frames = advanced_in b.walk.frames };
-        entries = b.entries ++ entry (type_or_0 (next_type b.walk)) h ∷ []; text = b.text; turns =
-        b.turns } in
+    let before : Built = record {
+      ty = b.ty;
+      walk =
+          record { types = b.walk.types; limit = b.walk.limit; frames = advanced_in b.walk.frames };
+      entries = b.entries ++ entry (type_or_0 (next_type b.walk)) h ∷ [];
+      text = b.text;
+      turns =
+          b.turns;
+    } in
     let rooms : b.walk.limit + 2 - length (advanced_in b.walk.frames) ≡ suc n.room =
-        ap (λ (k : ℕ). b.walk.limit + 2 - k) (next_frame_count b.walk.frames) ∙ n.rooms in
+    ap (λ (k : ℕ). b.walk.limit + 2 - k) (next_frame_count b.walk.frames) ∙ n.rooms in
     let after_is : state_of before
-        ≡ record { nodes = b.entries ++ entry n.ty h ∷ []; room = suc n.room; pending =
-        left_after n.top.left ∷ parts_of n.around } =
-        rw (rooms, parts_after b n, entry_is b n h) refl in
+    ≡ record {
+      nodes = b.entries ++ entry n.ty h ∷ [];
+      room = suc n.room;
+      pending =
+          left_after n.top.left ∷ parts_of n.around;
+    } =
+    rw (rooms, parts_after b n, entry_is b n h) refl in
     let one = own_leaf b.walk.types b.entries n.room n.ty (n.top.left ∷ parts_of n.around)
-        (left_after n.top.left ∷ parts_of n.around) h own
-        (first_is b.walk.types (suc n.room) n.ty n.top.left (parts_of n.around) n.first) refl
-        (spells b n own (h, None) is) in
+    (left_after n.top.left ∷ parts_of n.around) h own
+    (first_is b.walk.types (suc n.room) n.ty n.top.left (parts_of n.around) n.first) refl
+    (spells b n own (h, None) is) in
     leads_settled b before own refl (omega (arith, next_frame_count b.walk.frames, n.bound))
-        (rw (state_is b n, after_is) one)
+    (rw (state_is b n, after_is) one)
 
 open_leads : (b : Built) (n : AtNext b) (own : List ℕ) (h : Head) (p : Part) →
     own_at (next_layout b) own ≡ Ok ((h, Some p), []) →
     TurnLeads b.walk.types (state_of b) (state_of (with_open b h p)) own
 open_leads b n own h p is =
     let opened_part : OpenPart = record { node = length b.entries; left = p } in
-    let before : Built = record { ty = b.ty; walk =
-        record { types = b.walk.types; limit = b.walk.limit; frames =
-        opened_part ∷ advanced_in b.walk.frames }; entries =
-        b.entries ++ entry (type_or_0 (next_type b.walk)) h ∷ []; text = b.text; turns =
-        b.turns } in
+    let before : Built = record {
+      ty = b.ty;
+      walk =
+          record {
+            types = b.walk.types;
+            limit = b.walk.limit;
+            frames =
+                opened_part ∷ advanced_in b.walk.frames;
+          };
+      entries =
+          b.entries ++ entry (type_or_0 (next_type b.walk)) h ∷ [];
+      text = b.text;
+      turns =
+          b.turns;
+    } in
     let rooms : b.walk.limit + 2 - suc (length (advanced_in b.walk.frames)) ≡ n.room =
-        omega (arith, next_frame_count b.walk.frames, n.rooms) in
+    omega (arith, next_frame_count b.walk.frames, n.rooms) in
     let after_is : state_of before
-        ≡ record { nodes = b.entries ++ entry n.ty h ∷ []; room = n.room; pending =
-        p ∷ left_after n.top.left ∷ parts_of n.around } =
-        rw (rooms, parts_after b n, entry_is b n h) refl in
+    ≡ record {
+      nodes = b.entries ++ entry n.ty h ∷ [];
+      room = n.room;
+      pending =
+          p ∷ left_after n.top.left ∷ parts_of n.around;
+    } =
+    rw (rooms, parts_after b n, entry_is b n h) refl in
     let one = own_opens b.walk.types b.entries n.room n.ty (n.top.left ∷ parts_of n.around)
-        (left_after n.top.left ∷ parts_of n.around) h p own
-        (first_is b.walk.types (suc n.room) n.ty n.top.left (parts_of n.around) n.first) refl
-        (spells b n own (h, Some p) is) in
+    (left_after n.top.left ∷ parts_of n.around) h p own
+    (first_is b.walk.types (suc n.room) n.ty n.top.left (parts_of n.around) n.first) refl
+    (spells b n own (h, Some p) is) in
     leads_settled b before own refl (omega (arith, next_frame_count b.walk.frames, n.bound))
-        (rw (state_is b n, after_is) one)
+    (rw (state_is b n, after_is) one)
 
 own_leads : (b : Built) (n : AtNext b) (own : List ℕ) (x : Head × Option Part) →
     own_at (next_layout b) own ≡ Ok (x, []) →

@@ -1,8 +1,5 @@
 -- What a turn does to a decoder on its way: it holds bytes, or adds a node.
-use Rattle.std.proofs.Common.{
-    ◌≡◌, ℕ, suc, ◌≤◌, List, [], ◌∷◌, ◌++◌, length, Option, Some, None, Ok, Err, refl, sym, ap,
-    subst, ◌∙◌, arith, inl, inr, length-append
-}
+use Rattle.std.proofs.Common.{◌≡◌, ℕ, suc, ◌≤◌, List, [], ◌∷◌, ◌++◌, length, Option, Some, None, Ok, Err, refl, sym, ap, subst, ◌∙◌, arith, inl, inr, length-append}
 use Rattle.std.proofs.lemmas.List.{append-nil}
 use Rattle.scale_core.specs.Compact.{compact, IsCompact}
 use Rattle.scale_core.specs.Read.{Read, compact_at}
@@ -39,8 +36,11 @@ added_same b new c d own h =
 -- nothing is held where nothing is carried and no text is open
 pub held_closed : (b : Built) (c : List ℕ) → b.text ≡ None →
     held_of (record { built = b; carry = c }) ≡ c
-held_closed b c h = ap (λ (o : Option Pieces). elim o [ Some t ↦ compact t.len ++ t.bytes | None ↦
-    c ]) h
+held_closed b c h = ap (λ (o : Option Pieces). elim o [
+  | Some t ↦ compact t.len ++ t.bytes
+  | None ↦
+      c
+]) h
 
 own_count : (b : Built) (x : Head × Option Part) →
     length (with_own b x).entries ≡ suc (length b.entries)
@@ -57,8 +57,11 @@ pub added_steps : (b new : Built) (c own bytes : List ℕ) → AtNext b → b.te
     c ++ bytes ≡ own → IsAdded b new own →
     Steps (record { built = b; carry = c }) (record { built = new; carry = [] }) bytes
 added_steps b new c own bytes n closed is h =
-    inr (held_closed new [] (added_text b new own closed h),
-    rw (held_closed b c closed, is) (added_leads b new own n h), added_count b new own h)
+    inr (
+      held_closed new [] (added_text b new own closed h),
+      rw (held_closed b c closed, is) (added_leads b new own n h),
+      added_count b new own h,
+    )
 
 spelled_of : (own : List ℕ) (n : ℕ) (read : Read Reason ℕ) → Takes (IsCompact target.U32) own read →
     read ≡ Ok (n, []) → own ≡ compact n
@@ -78,8 +81,12 @@ pub opened_steps : (b : Built) (c own bytes : List ℕ) (n : ℕ) → b.text ≡
     Steps (record { built = b; carry = c }) (record { built = with_text_opened b n; carry = [] })
     bytes
 opened_steps b c own bytes n closed is some h =
-    inl (some, refl, append-nil (compact n) ∙ sym (spelled_length own n h) ∙ sym is
-    ∙ ap (λ (l : List ℕ). l ++ bytes) (sym (held_closed b c closed)))
+    inl (
+      some,
+      refl,
+      append-nil (compact n) ∙ sym (spelled_length own n h) ∙ sym is
+          ∙ ap (λ (l : List ℕ). l ++ bytes) (sym (held_closed b c closed)),
+    )
 
 -- what a node's own bytes make of a decoder, be it a text or not
 pub taken_steps : (f : Form) (b new : Built) (text : Option OpenText) (c own bytes : List ℕ) →
@@ -105,8 +112,15 @@ opened_running : (b : Built) (c : List ℕ) (old : Option OpenText) (n : ℕ) �
     next_of b.walk ≡ next.Wants (form.Primitive P.Str) → IsLength n →
     IsRunning (with_text_opened b n) [] (Some (record { len = n; missing = n }))
 opened_running b c old n h wants len =
-    record { rooted = h.rooted; deep = h.deep; settled = h.settled; carried = tt; is_text =
-    (refl, omega arith); text_next = (wants, refl, len) }
+    record {
+      rooted = h.rooted;
+      deep = h.deep;
+      settled = h.settled;
+      carried = tt;
+      is_text =
+          (refl, omega arith);
+      text_next = (wants, refl, len);
+    }
 
 pub taken_running : (f : Form) (b new : Built) (c : List ℕ) (old text : Option OpenText)
     (own : List ℕ) → IsRunning b c old → next_of b.walk ≡ next.Wants f → b.text ≡ None →
@@ -118,13 +132,20 @@ taken_running f b new c old text own h wants closed a (inr k) =
     let spelled = spelled_length own k.1.0 k.1.1 in
     let of_text : AreOwn (form.Primitive P.Str) own = subst (λ (g : Form). AreOwn g own) k.0 a in
     let len : IsLength k.1.0 =
-        record { own = subst (AreOwn (form.Primitive P.Str)) spelled of_text; read =
-        ap (compact_at target.U32) (sym spelled) ∙ k.1.1 } in
+    record {
+      own = subst (AreOwn (form.Primitive P.Str)) spelled of_text;
+      read =
+          ap (compact_at target.U32) (sym spelled) ∙ k.1.1;
+    } in
     rw (k.1.2, k.1.3) (opened_running b c old k.1.0 h str len)
 
 -- bytes are held
 pub carried_steps : (b : Built) (c bytes : List ℕ) → b.text ≡ None → 1 ≤ length bytes →
     Steps (record { built = b; carry = c }) (record { built = b; carry = c ++ bytes }) bytes
 carried_steps b c bytes closed some =
-    inl (some, refl, held_closed b (c ++ bytes) closed
-    ∙ ap (λ (l : List ℕ). l ++ bytes) (sym (held_closed b c closed)))
+    inl (
+      some,
+      refl,
+      held_closed b (c ++ bytes) closed
+          ∙ ap (λ (l : List ℕ). l ++ bytes) (sym (held_closed b c closed)),
+    )

@@ -1,9 +1,5 @@
 -- Turns on a text that is open.
-use Rattle.std.proofs.Common.{
-    ◌≡◌, ℕ, zero, suc, ◌+◌, ◌-◌, ◌<◌, ◌≤◌, Bool, true, false, cond, List, [], ◌++◌, length, take,
-    drop, Option, Some, None, Result, Ok, Err, refl, sym, ap, subst, ◌∙◌, append_assoc, arith, inl,
-    inr, length-append, length-drop
-}
+use Rattle.std.proofs.Common.{◌≡◌, ℕ, zero, suc, ◌+◌, ◌-◌, ◌<◌, ◌≤◌, Bool, true, false, cond, List, [], ◌++◌, length, take, drop, Option, Some, None, Result, Ok, Err, refl, sym, ap, subst, ◌∙◌, append_assoc, arith, inl, inr, length-append, length-drop}
 use Rattle.std.specs.Prelude.{nat_lt, if◌then◌else◌}
 use Rattle.std.specs.Str.{is_utf8}
 use Rattle.std.specs.Str.Lossy.{utf8_valid_len}
@@ -25,16 +21,12 @@ use Rattle.grammar_core.specs.Preorder as head
 use Rattle.grammar_core.specs.Reading.{basic, truncated, as_leaf, layout_at}
 use Rattle.grammar_core.specs.declared.form.Form.TheVariants as form
 use Rattle.grammar_core.specs.declared.form.Next.TheVariants as next
-use Rattle.value_core.specs.Built.{
-    Built, Pieces, next_layout, pieces_bytes, with_leaf, with_text_ended
-}
+use Rattle.value_core.specs.Built.{Built, Pieces, next_layout, pieces_bytes, with_leaf, with_text_ended}
 use Rattle.value_core.specs.Refusals.{Adds, judged_end, missing_of, missing_at, text_fault}
 use Rattle.value_core.specs.declared.build_fault.BuildFault.{BuildFault}
 use Rattle.value_core.specs.declared.build_fault.BuildFault.TheVariants as build
 use Rattle.value_core.specs.Walked.{next_of}
-use Rattle.decode_core.specs.Running.{
-    IsLength, IsRunning, IsKeptText, IsTextNext, held_of, state_of
-}
+use Rattle.decode_core.specs.Running.{IsLength, IsRunning, IsKeptText, IsTextNext, held_of, state_of}
 use Rattle.decode_core.specs.declared.run.OpenText.{OpenText}
 use Rattle.decode_core.specs.NodeAdds.{IsAdded}
 use Rattle.decode_core.specs.Turned.{EndTells, TurnLeads, EndsTurns, WantsBytes, WantsMemory}
@@ -109,10 +101,10 @@ text_front n bytes i h all lt = elim (cases_lt i (length (compact n))) [
       let k = i - length (compact n) in
       let same : i ≡ length (compact n) + k = omega (arith, ge) in
       let few : length (take k bytes) < n =
-          omega (arith, length-take k bytes, all, lt, length-append (compact n) bytes, ge) in
+      omega (arith, length-take k bytes, all, lt, length-append (compact n) bytes, ge) in
       ap (λ (j : ℕ). own_at (layout.plain layout.text) (take j (compact n ++ bytes))) same
-          ∙ ap (own_at (layout.plain layout.text)) (take-append-add (compact n) bytes k)
-          ∙ text_missing n (take k bytes) h few
+      ∙ ap (own_at (layout.plain layout.text)) (take-append-add (compact n) bytes k)
+      ∙ text_missing n (take k bytes) h few
 ]
 
 -- ---- the end of a text
@@ -127,20 +119,25 @@ pub record AtEnd (b : Built) : Type 0 where
 
 pub end_bytes : (b : Built) (n : AtEnd b) (c : List ℕ) →
     held_of (record { built = b; carry = c }) ≡ compact n.pieces.len ++ n.pieces.bytes
-end_bytes b n c = ap (λ (o : Option Pieces). elim o [ Some t ↦ compact t.len ++ t.bytes | None ↦
-    c ]) n.open_is
+end_bytes b n c = ap (λ (o : Option Pieces). elim o [
+  | Some t ↦ compact t.len ++ t.bytes
+  | None ↦
+      c
+]) n.open_is
 
 end_judged : (b : Built) (n : AtEnd b) → judged_end b ≡ text_fault n.pieces.bytes
 end_judged b n =
     let t = n.pieces in
     let none : t.len - length t.bytes ≡ 0 = omega (arith, n.all) in
     let missing : missing_of b ≡ Ok 0 =
-        ap (λ (o : Option Pieces). missing_at o (next_of b.walk)) n.open_is
-        ∙ ap (missing_at (Some t)) n.wants ∙ ap (λ (k : ℕ). Ok k) none in
-    ap (λ (r : Result ℕ BuildFault). elim r [ Ok n ↦
-        if nat_lt 0 n then Some build.UnfinishedValue else text_fault (pieces_bytes b.text)
-        | Err e ↦ Some e ]) missing
-        ∙ ap (λ (o : Option Pieces). text_fault (pieces_bytes o)) n.open_is
+    ap (λ (o : Option Pieces). missing_at o (next_of b.walk)) n.open_is
+    ∙ ap (missing_at (Some t)) n.wants ∙ ap (λ (k : ℕ). Ok k) none in
+    ap (λ (r : Result ℕ BuildFault). elim r [
+      | Ok n ↦
+          if nat_lt 0 n then Some build.UnfinishedValue else text_fault (pieces_bytes b.text)
+      | Err e ↦ Some e
+    ]) missing
+    ∙ ap (λ (o : Option Pieces). text_fault (pieces_bytes o)) n.open_is
 
 ended_by : (s : List ℕ) (with old new : Built) (u : Unit {0}) (c : Bool) → is_utf8 s ≡ c →
     Adds (cond c None (Some (build.BadText (utf8_valid_len s)))) with old new (Ok u) →
@@ -204,12 +201,14 @@ ended_tells b new c n none utf8 is =
     let a = text_added b new n utf8 is in
     let same = added_same (closed_of b) new c c own a in
     let led : TurnLeads b.walk.types (state_of b) (state_of new) own =
-        added_leads (closed_of b) new own (at_next (closed_of b) (form.Primitive P.Str) n.wants)
-        a in
+    added_leads (closed_of b) new own (at_next (closed_of b) (form.Primitive P.Str) n.wants)
+    a in
     let nothing : held_of (record { built = new; carry = c }) ≡ [] =
-        held_closed new c (added_text (closed_of b) new own refl a) ∙ none in
-    (refl, record { types = same.types; limit = same.limit; ty = same.ty },
-        inr (nothing, rw (end_bytes b n c, append-nil) led, added_count (closed_of b) new own a))
+    held_closed new c (added_text (closed_of b) new own refl a) ∙ none in (
+      refl,
+      record { types = same.types; limit = same.limit; ty = same.ty },
+      inr (nothing, rw (end_bytes b n c, append-nil) led, added_count (closed_of b) new own a),
+    )
 
 -- ---- a text that is refused
 
@@ -217,8 +216,8 @@ pub bad_text : (b : Built) (c : List ℕ) (n : AtEnd b) (valid before : ℕ) →
     is_utf8 n.pieces.bytes ≡ false → valid ≡ utf8_valid_len n.pieces.bytes →
     before ≡ length (compact n.pieces.len) → (rest : List ℕ) →
     EndsTurns (record { built = b; carry = c }) rest
-        (stop.Refused (before + n.pieces.len) reason.BadUtf8 (before + valid)
-        (before + n.pieces.len))
+    (stop.Refused (before + n.pieces.len) reason.BadUtf8 (before + valid)
+    (before + n.pieces.len))
 bad_text b c n valid before utf8 is count rest =
     let t = n.pieces in
     let own = compact t.len ++ t.bytes in
@@ -228,26 +227,44 @@ bad_text b c n valid before utf8 is count rest =
     let x = held_of (record { built = b; carry = c }) ++ rest in
     let whole : x ≡ own ++ rest = ap (λ (l : List ℕ). l ++ rest) held_is in
     let laid = ap (λ (f : Layout). own_at f own) (laid_text b n)
-        ∙ text_bad t.len t.bytes n.len n.all utf8 in
+    ∙ text_bad t.len t.bytes n.len n.all utf8 in
     let few : (i : ℕ) → i < length own → own_at (next_layout b) (take i own) ≡ Err (truncated, []) =
-        λ i lt. ap (λ (f : Layout). own_at f (take i own)) (laid_text b n)
-        ∙ text_front t.len t.bytes i n.len n.all lt in
+    λ i lt. ap (λ (f : Layout). own_at f (take i own)) (laid_text b n)
+    ∙ text_front t.len t.bytes i n.len n.all lt in
     let r = refuses_by b at own rest left (basic scale.BadUtf8) laid refl few in
     let own_count : length own ≡ before + t.len =
-        omega (arith, length-append (compact t.len) t.bytes, n.all, count) in
+    omega (arith, length-append (compact t.len) t.bytes, n.all, count) in
     let valid_le : utf8_valid_len t.bytes ≤ length t.bytes = utf8_valid_len_le t.bytes in
     let place_is : before + valid ≡ length x - length (left ++ rest) =
-        omega (arith, ap length whole, length-append own rest, own_count, length-append left rest,
-        length-drop (utf8_valid_len t.bytes) t.bytes, is, n.all, valid_le) in
-    (basic scale.BadUtf8, left ++ rest, refl, refl, sym own_count ∙ ap length (sym held_is),
-        place_is, rw whole r.tells, rw (whole, ← own_count) r.decided, omega arith)
+    omega (
+      arith,
+      ap length whole,
+      length-append own rest,
+      own_count,
+      length-append left rest,
+      length-drop (utf8_valid_len t.bytes) t.bytes,
+      is,
+      n.all,
+      valid_le,
+    ) in (
+      basic scale.BadUtf8,
+      left ++ rest,
+      refl,
+      refl,
+      sym own_count ∙ ap length (sym held_is),
+      place_is,
+      rw whole r.tells,
+      rw (whole, ← own_count) r.decided,
+      omega arith,
+    )
 
 at_end_by : (b : Built) (c : List ℕ) (o : OpenText) (text : Option Pieces) → b.text ≡ text →
     IsTextNext b c text → IsKeptText text (Some o) → o.missing ≡ 0 → AtEnd b × (c ≡ [])
 at_end_by b c o None e h k none = absurd k
-at_end_by b c o (Some t) e h k none =
-    (record { pieces = t; open_is = e; wants = h.0; len = h.2; all = omega (arith, k.1, none) },
-    h.1)
+at_end_by b c o (Some t) e h k none = (
+  record { pieces = t; open_is = e; wants = h.0; len = h.2; all = omega (arith, k.1, none) },
+  h.1,
+)
 
 -- a text that lacks nothing is at its end, and nothing is carried
 pub at_end : (b : Built) (c : List ℕ) (o : OpenText) → IsTextNext b c b.text →
@@ -269,10 +286,10 @@ missing_by : (b : Built) (c : List ℕ) (o : OpenText) (text : Option Pieces) �
 missing_by b c o None e h k some = absurd k
 missing_by b c o (Some t) e h k some =
     let held_is : held_of (record { built = b; carry = c }) ≡ compact t.len ++ t.bytes =
-        ap (λ (p : Option Pieces). elim p [ Some t ↦ compact t.len ++ t.bytes | None ↦ c ]) e in
+    ap (λ (p : Option Pieces). elim p [ Some t ↦ compact t.len ++ t.bytes | None ↦ c ]) e in
     let few : length t.bytes < t.len = lacks (length t.bytes) t.len o.missing k.1 some in
     let laid = ap (λ (f : Layout). own_at f (compact t.len ++ t.bytes))
-        (next_has b (form.Primitive P.Str) h.0) ∙ text_missing t.len t.bytes h.2 few in
+    (next_has b (form.Primitive P.Str) h.0) ∙ text_missing t.len t.bytes h.2 few in
     record { form = form.Primitive P.Str; next = h.0; left = []; short = rw held_is laid } where
       lacks : (n all missing : ℕ) → n + missing ≡ all → (missing ≡ 0 → ⊥) → n < all
       lacks n all zero h k = absurd (k refl)
@@ -292,23 +309,30 @@ piece_by : (b : Built) (c : List ℕ) (o : OpenText) (piece : List ℕ) (count :
 piece_by b c o piece count None e h k few there some = absurd k
 piece_by b c o piece count (Some t) e h k few there some =
     let held_is : held_of (record { built = b; carry = c }) ≡ compact t.len ++ t.bytes =
-        ap (λ (p : Option Pieces). elim p [ Some t ↦ compact t.len ++ t.bytes | None ↦ c ]) e in
+    ap (λ (p : Option Pieces). elim p [ Some t ↦ compact t.len ++ t.bytes | None ↦ c ]) e in
     let front = take count piece in
     let len : length front ≡ count = omega (arith, length-take count piece, there) in
     let read : compact_at target.U32 (held_of (record { built = b; carry = c }) ++ front)
-        ≡ Ok (t.len, t.bytes ++ front) =
+    ≡ Ok (t.len, t.bytes ++ front) =
     ap (λ (l : List ℕ). compact_at target.U32 (l ++ front)) held_is
-        ∙ ap (compact_at target.U32) (append_assoc (compact t.len) t.bytes front)
-        ∙ length_again t.len (t.bytes ++ front) h.2 in
+    ∙ ap (compact_at target.U32) (append_assoc (compact t.len) t.bytes front)
+    ∙ length_again t.len (t.bytes ++ front) h.2 in
     record {
       form = form.Primitive P.Str;
       next = h.0;
       bytes = front;
       later = drop count piece;
       is = sym (take-append-drop count piece);
-      keeps = inr (next_has b (form.Primitive P.Str) h.0, omega (arith, len, some),
-          (t.len, t.bytes ++ front, read,
-          omega (arith, length-append t.bytes front, len, k.1, few)));
+      keeps = inr (
+        next_has b (form.Primitive P.Str) h.0,
+        omega (arith, len, some),
+        (
+          t.len,
+          t.bytes ++ front,
+          read,
+          omega (arith, length-append t.bytes front, len, k.1, few),
+        ),
+      );
     }
 
 -- some of its bytes are to be kept
@@ -331,14 +355,19 @@ pub end_wants : (b new : Built) (c : List ℕ) (n : AtEnd b) →
 end_wants b new c n h rest =
     let t = n.pieces in
     let utf8 = short_by t.bytes (with_text_ended b) b new (is_utf8 t.bytes) refl
-        (subst (λ (o : Option BuildFault). Adds o (with_text_ended b) b new (Err build.OutOfMemory))
-        (end_judged b n) h) in
+    (subst (λ (o : Option BuildFault). Adds o (with_text_ended b) b new (Err build.OutOfMemory))
+    (end_judged b n) h) in
     let held : held_of (record { built = b; carry = c }) ++ [] ≡ compact t.len ++ t.bytes =
-        append-nil (held_of (record { built = b; carry = c })) ∙ end_bytes b n c in
+    append-nil (held_of (record { built = b; carry = c })) ∙ end_bytes b n c in
     let laid : own_at (next_layout b) (compact t.len ++ t.bytes)
-        ≡ Ok ((head.leaf (tree.text t.bytes), None), []) =
-        ap (λ (f : Layout). own_at f (compact t.len ++ t.bytes)) (laid_text b n)
-        ∙ text_whole t.len t.bytes n.len n.all utf8 in
-    record { form = form.Primitive P.Str; next = n.wants; bytes = []; later = rest; is = refl;
-        keeps = inl ((head.leaf (tree.text t.bytes), None), ap (own_at (next_layout b)) held ∙ laid)
-        }
+    ≡ Ok ((head.leaf (tree.text t.bytes), None), []) =
+    ap (λ (f : Layout). own_at f (compact t.len ++ t.bytes)) (laid_text b n)
+    ∙ text_whole t.len t.bytes n.len n.all utf8 in
+    record {
+      form = form.Primitive P.Str;
+      next = n.wants;
+      bytes = [];
+      later = rest;
+      is = refl;
+      keeps = inl ((head.leaf (tree.text t.bytes), None), ap (own_at (next_layout b)) held ∙ laid);
+    }

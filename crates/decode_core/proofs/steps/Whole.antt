@@ -1,19 +1,13 @@
 -- As many bytes as a node needs are its own, and none is left over; or they are enough to refuse
 -- it.
-use Rattle.std.proofs.Common.{
-    ◌≡◌, ℕ, zero, suc, ◌^◌, Bool, true, false, cond, List, [], ◌∷◌, length, Option, Some, None, Ok,
-    Err, refl, arith
-}
+use Rattle.std.proofs.Common.{◌≡◌, ℕ, zero, suc, ◌^◌, Bool, true, false, cond, List, [], ◌∷◌, length, Option, Some, None, Ok, Err, refl, arith}
 use Rattle.std.specs.Prelude.{◌≢◌, nat_lt, not}
 use Rattle.std.proofs.lemmas.Bool.{le-ltb}
 use Rattle.std.proofs.lemmas.List.{take_all, drop_all}
 use Rattle.std.specs.Str.{bytes_eq}
 use Rattle.scale_core.specs.Number.{number, signed_number, is_scalar}
 use Rattle.scale_core.specs.Compact.{compact, target_bytes}
-use Rattle.scale_core.specs.Read.{
-    Read, bytes_at, form_len, form_number, form_from, checked_form, is_too_long, integer_at,
-    compact_at
-}
+use Rattle.scale_core.specs.Read.{Read, bytes_at, form_len, form_number, form_from, checked_form, is_too_long, integer_at, compact_at}
 use Rattle.scale_core.specs.declared.compact.Target.{Target}
 use Rattle.scale_core.specs.declared.compact.Target.TheVariants as target
 use Rattle.scale_core.specs.declared.fault.Reason.{Reason}
@@ -45,18 +39,21 @@ IsSettled (Ok x) = x.1 ≡ []
 IsSettled (Err e) = e.0 ≢ scale.Truncated
 
 pub bytes_whole : (k : ℕ) (b : List ℕ) → length b ≡ k → bytes_at k b ≡ Ok (b, [])
-bytes_whole k b h = rw (le-ltb (length b) k (omega (arith, h)), take_all k b (omega (arith, h)),
-    drop_all k b (omega (arith, h))) refl
+bytes_whole k b h = rw (
+  le-ltb (length b) k (omega (arith, h)),
+  take_all k b (omega (arith, h)),
+  drop_all k b (omega (arith, h)),
+) refl
 
 checked_settled : (m : Target) (at form : List ℕ) (n : ℕ) → IsSettled (checked_form m at n form [])
 checked_settled m at form n =
     by (not (bytes_eq (compact n) form)) (nat_lt n (256 ^ target_bytes m)) where
-  by : (long fits : Bool) →
-      IsSettled {X = ℕ} (cond long (Err (scale.CompactNotShortest, at))
-      (cond fits (Ok (n, [])) (Err (scale.CompactTooLarge, at))))
-  by true fits = λ e. absurd cc
-  by false true = refl
-  by false false = λ e. absurd cc
+      by : (long fits : Bool) →
+          IsSettled {X = ℕ} (cond long (Err (scale.CompactNotShortest, at))
+          (cond fits (Ok (n, [])) (Err (scale.CompactTooLarge, at))))
+      by true fits = λ e. absurd cc
+      by false true = refl
+      by false false = λ e. absurd cc
 
 integer_settled : (m : Target) (first : ℕ) (rest : List ℕ) →
     length (first ∷ rest) ≡ compact_need m first → IsSettled (integer_at m (first ∷ rest))

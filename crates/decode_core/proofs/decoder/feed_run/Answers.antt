@@ -2,9 +2,7 @@ use Rattle.std.proofs.Common.{◌-◌, arith, ap, length}
 use Rattle.std.proofs.lemmas.List.{length-take}
 use Rattle.scale_core.proofs.ReadForms.{are_bytes}
 use Rattle.decode_core.proofs.steps.Counting.{counts_long, counts_refused, counts_short}
-use Rattle.decode_core.proofs.calls.FeedRun.{
-    run_done, run_long, run_more, run_held, run_refused, run_short, takes_refused
-}
+use Rattle.decode_core.proofs.calls.FeedRun.{run_done, run_long, run_more, run_held, run_refused, run_short, takes_refused}
 use Rattle.decode_core.proofs.decoder.feed_run.Goals as goal
 
 pub returns-then-offered-piece-clause-answers : goal.returns-then-offered-piece-clause-answers
@@ -49,41 +47,47 @@ returns-in-Ok-default-Refused-clause-answers g c =
 pub returns-then-offered-piece-clause-counts : goal.returns-then-offered-piece-clause-counts
 returns-then-offered-piece-clause-counts g c = λ j b calls e led before.
     counts_long j b c.args.piece.now c.within-offered.result.now c.args.run.now c.feed.new.self
-        c.args.limit c.args.taken c.in-Ok-default-Wants.count c.args.turns.now.so_far
-        c.feed.new.turns.so_far calls c.in-Ok-default-Wants.field-0-1 e c.within-offered.ensures led
-        c.in-Ok-default-Wants.ensures.tells c.in-Ok-default-Wants.field-0-1-is
-        c.in-Ok-default-Wants.ensures.counts before.1
+    c.args.limit c.args.taken c.in-Ok-default-Wants.count c.args.turns.now.so_far
+    c.feed.new.turns.so_far calls c.in-Ok-default-Wants.field-0-1 e c.within-offered.ensures led
+    c.in-Ok-default-Wants.ensures.tells c.in-Ok-default-Wants.field-0-1-is
+    c.in-Ok-default-Wants.ensures.counts before.1
 
 pub returns-in-Ok-default-Refused-clause-counts : goal.returns-in-Ok-default-Refused-clause-counts
 returns-in-Ok-default-Refused-clause-counts g c = λ j b calls e led before.
     let r = c.in-Ok-default-Refused in
     let within = run_held j b c.args.piece.now c.within-offered.result.now c.args.run.now
-        c.feed.new.self c.args.limit c.args.taken r.count r.held r.reason r.at r.len r.field-0-1 e
-        c.within-offered.ensures led r.ensures.tells r.field-0-1-is in
+    c.feed.new.self c.args.limit c.args.taken r.count r.held r.reason r.at r.len r.field-0-1 e
+    c.within-offered.ensures led r.ensures.tells r.field-0-1-is in
     counts_refused j b c.within-offered.result.now c.args.run.now c.feed.new.self c.args.taken
-        r.count r.held r.reason r.at r.len c.args.turns.now.so_far c.feed.new.turns.so_far calls
-        r.field-0-1 led r.ensures.tells r.field-0-1-is within r.ensures.counts before.1
+    r.count r.held r.reason r.at r.len c.args.turns.now.so_far c.feed.new.turns.so_far calls
+    r.field-0-1 led r.ensures.tells r.field-0-1-is within r.ensures.counts before.1
 
 pub returns-in-Err-clause-counts : goal.returns-in-Err-clause-counts
 returns-in-Err-clause-counts g c = λ j b calls e led before.
     counts_short j b c.within-offered.result.now c.args.run.now c.feed.new.self c.args.taken
-        c.in-Err.count c.args.turns.now.so_far c.feed.new.turns.so_far calls led
-        c.in-Err.ensures.counts before.1
+    c.in-Err.count c.args.turns.now.so_far c.feed.new.turns.so_far calls led
+    c.in-Err.ensures.counts before.1
 
 pub returns-in-Ok-default-Refused-clause-takes : goal.returns-in-Ok-default-Refused-clause-takes
 returns-in-Ok-default-Refused-clause-takes g c =
     let r = c.in-Ok-default-Refused in
     let within = run_held c.requires.led.job c.requires.led.bytes c.args.piece.now
-        c.within-offered.result.now c.args.run.now c.feed.new.self c.args.limit c.args.taken r.count
-        r.held r.reason r.at r.len r.field-0-1 c.requires.led.is_limit c.within-offered.ensures
-        c.requires.led.led r.ensures.tells r.field-0-1-is in
+    c.within-offered.result.now c.args.run.now c.feed.new.self c.args.limit c.args.taken r.count
+    r.held r.reason r.at r.len r.field-0-1 c.requires.led.is_limit c.within-offered.ensures
+    c.requires.led.led r.ensures.tells r.field-0-1-is in
     let few = takes_refused c.args.run.now c.feed.new.self c.within-offered.result.now r.count
-        r.held c.args.taken r.len r.reason r.at r.field-0-1 r.ensures.tells r.field-0-1-is within in
-    (few.0, omega (arith, few.1, ap length c.within-offered.ensures,
-        length-take (c.args.limit - c.args.taken) c.args.piece.now))
+    r.held c.args.taken r.len r.reason r.at r.field-0-1 r.ensures.tells r.field-0-1-is within in (
+      few.0,
+      omega (
+        arith,
+        few.1,
+        ap length c.within-offered.ensures,
+        length-take (c.args.limit - c.args.taken) c.args.piece.now,
+      ),
+    )
 
 pub returns-in-Err-clause-answers : goal.returns-in-Err-clause-answers
 returns-in-Err-clause-answers g c = λ j b e led.
     run_short j b c.args.piece.now c.within-offered.result.now c.args.run.now c.args.limit
-        c.args.taken c.in-Err.count e c.within-offered.ensures led (λ w. let no =
-        (c.in-Err.ensures.whole w).0 in absurd cc) c.in-Err.ensures.short
+    c.args.taken c.in-Err.count e c.within-offered.ensures led (λ w. let no =
+    (c.in-Err.ensures.whole w).0 in absurd cc) c.in-Err.ensures.short

@@ -17,7 +17,7 @@ returns-in-NoSuchVariant g c =
     let i = slice_index_or c.args.own.now 0 0 in
     let is = c.in-Err.is ∙ ap (λ (e : BuildFault). Err e) c.in-NoSuchVariant.is in
     arm_refused b c.arm.new.self c.args.own.now c.requires.next c.requires.closed c.requires.whole
-        (subst (Adds (judged_arm b i) (with_arm b i) b c.arm.new.self) is c.arm.ensures)
+    (subst (Adds (judged_arm b i) (with_arm b i) b c.arm.new.self) is c.arm.ensures)
 
 pub returns-in-OutOfMemory : goal.returns-in-OutOfMemory
 returns-in-OutOfMemory g c =
@@ -25,4 +25,4 @@ returns-in-OutOfMemory g c =
     let i = slice_index_or c.args.own.now 0 0 in
     let is = c.in-Err.is ∙ ap (λ (e : BuildFault). Err e) c.in-OutOfMemory.is in
     arm_short b c.arm.new.self c.args.own.now c.requires.next c.requires.closed c.requires.whole
-        (subst (Adds (judged_arm b i) (with_arm b i) b c.arm.new.self) is c.arm.ensures)
+    (subst (Adds (judged_arm b i) (with_arm b i) b c.arm.new.self) is c.arm.ensures)

@@ -7,17 +7,23 @@ use Rattle.decode_core.proofs.node.open_text.Goals as goal
 pub returns-in_err-length : goal.returns-in_err-length
 returns-in_err-length g c =
     let p = err_from_is_err_and c.from_residual.result c.from_residual.ensures.1 in
-    rw (p.1, p.2) (length_refused c.args.builder.now c.args.own.now c.in_err-length.field-0.0.reason
-        c.in_err-length.field-0.0.at c.requires.next c.requires.whole c.in_err-length.ensures, refl)
+    rw (p.1, p.2) (
+      length_refused c.args.builder.now c.args.own.now c.in_err-length.field-0.0.reason
+          c.in_err-length.field-0.0.at c.requires.next c.requires.whole c.in_err-length.ensures,
+      refl,
+    )
 
 pub returns : goal.returns
-returns g c = (length_read c.args.own.now c.in_ok-length.length c.requires.whole
-    c.in_ok-length.ensures, search rules)
+returns g c = (
+  length_read c.args.own.now c.in_ok-length.length c.requires.whole
+      c.in_ok-length.ensures,
+  search rules,
+)
 
 pub returns-in_err-kept : goal.returns-in_err-kept
 returns-in_err-kept g c =
     let n = c.in_ok-length.length in
     let p = err_from_is_err_and c.from_residual-in_err-kept.result
-        c.from_residual-in_err-kept.ensures.1 in
+    c.from_residual-in_err-kept.ensures.1 in
     rw (p.1, p.2, c.in_err-kept.ensures.err)
-        ((n, length_read c.args.own.now n c.requires.whole c.in_ok-length.ensures), search rules)
+    ((n, length_read c.args.own.now n c.requires.whole c.in_ok-length.ensures), search rules)

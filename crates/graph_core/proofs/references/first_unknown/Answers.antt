@@ -12,7 +12,7 @@ returns-in-Some c =
     let found = c.definition-definition.ensures in
     let e : shape r c.types.position ≡ Some d = rw (← c.types.invariant.0) found.found in
     let is : Some c.in-Some.to ≡ first_unknown (length r) (references d) =
-        rw (found.opened.types ∙ c.types.invariant.0) at c.in-Some.ensures.unknown in
+    rw (found.opened.types ∙ c.types.invariant.0) at c.in-Some.ensures.unknown in
     type_has (length r) c.types.position r d c.in-Some.to _ e is c.types.invariant.1
 
 pub types-preserved : goal.types-preserved
@@ -22,6 +22,7 @@ types-preserved c =
     let found = c.definition-definition.ensures in
     let e : shape r c.types.position ≡ Some d = rw (← c.types.invariant.0) found.found in
     let is : None ≡ first_unknown (length r) (references d) =
-        rw (found.opened.types ∙ c.types.invariant.0) at c.in_default.ensures.unknown in
-    (c.unknown_in.ensures.types ∙ found.opened.types ∙ c.types.invariant.0,
-        type_lacks (length r) c.types.position r d _ e is c.types.invariant.1)
+    rw (found.opened.types ∙ c.types.invariant.0) at c.in_default.ensures.unknown in (
+      c.unknown_in.ensures.types ∙ found.opened.types ∙ c.types.invariant.0,
+      type_lacks (length r) c.types.position r d _ e is c.types.invariant.1,
+    )

@@ -10,22 +10,23 @@ returns-then-is_some-clause-unknown c =
     let l = c.arm.ensures in
     let n = length c.args.graph.now.types.now in
     let lt : c.arms.position < length c.args.arms.now.arms.now =
-        omega (arith, c.arms-test.true, c.len-position-end.ensures) in
+    omega (arith, c.arms-test.true, c.len-position-end.ensures) in
     let some : is_some c.unknown_in_fields-unknown.result ≡ true = search rules in
     let is : c.unknown_in_fields-unknown.result ≡ first_unknown n (field_types l.arm.fields) =
-        rw (c.arms.invariant.0, l.fields_are) at c.unknown_in_fields-unknown.ensures.unknown in
+    rw (c.arms.invariant.0, l.fields_are) at c.unknown_in_fields-unknown.ensures.unknown in
     arm_has n c.arms.position c.args.arms.now.arms.now l.arm c.unknown_in_fields-unknown.result lt
-        l.at some is c.arms.invariant.1
+    l.at some is c.arms.invariant.1
 
 pub arms-preserved : goal.arms-preserved
 arms-preserved c =
     let l = c.arm.ensures in
     let n = length c.args.graph.now.types.now in
     let lt : c.arms.position < length c.args.arms.now.arms.now =
-        omega (arith, c.arms-test.true, c.len-position-end.ensures) in
+    omega (arith, c.arms-test.true, c.len-position-end.ensures) in
     let none : is_some c.unknown_in_fields-unknown.result ≡ false = search rules in
     let is : c.unknown_in_fields-unknown.result ≡ first_unknown n (field_types l.arm.fields) =
-        rw (c.arms.invariant.0, l.fields_are) at c.unknown_in_fields-unknown.ensures.unknown in
-    (c.unknown_in_fields-unknown.ensures.types ∙ c.arms.invariant.0,
-        arm_lacks n c.arms.position c.args.arms.now.arms.now l.arm
-        c.unknown_in_fields-unknown.result lt l.at none is c.arms.invariant.1)
+    rw (c.arms.invariant.0, l.fields_are) at c.unknown_in_fields-unknown.ensures.unknown in (
+      c.unknown_in_fields-unknown.ensures.types ∙ c.arms.invariant.0,
+      arm_lacks n c.arms.position c.args.arms.now.arms.now l.arm
+          c.unknown_in_fields-unknown.result lt l.at none is c.arms.invariant.1,
+    )

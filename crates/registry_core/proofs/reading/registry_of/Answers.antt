@@ -8,7 +8,7 @@ pub from_types-requires : goal.from_types-requires
 unfolding registry_at
 from_types-requires c =
     let read : registry_at c.args.bytes.now
-        ≡ Ok (c.in_ok-types.types.items, c.in_ok-types.rest.now) =
-        rw (c.in_ok-count.ensures, c.in_ok-types.ensures) refl in
+    ≡ Ok (c.in_ok-types.types.items, c.in_ok-types.rest.now) =
+    rw (c.in_ok-count.ensures, c.in_ok-types.ensures) refl in
     (read_is_spelled c.args.bytes.now c.in_ok-types.types.items c.in_ok-types.rest.now
-        (are_bytes c.args.bytes.now (λ i. omega (arith, c.type_inv.bytes i))) read).0
+    (are_bytes c.args.bytes.now (λ i. omega (arith, c.type_inv.bytes i))) read).0

@@ -8,4 +8,4 @@ types-preserved c =
     let types = c.types-types.result.now in
     rw (c.in_ok-put_type_info.ensures, c.in_ok-write_compact-2.ensures.ok, c.types.invariant)
     (types_from-take (compact (length types)) types c.types.position c.index-types-position.result
-        c.types-test.true c.index-types-position.is)
+    c.types-test.true c.index-types-position.is)

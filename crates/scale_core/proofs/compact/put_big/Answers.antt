@@ -1,6 +1,4 @@
-use Rattle.std.proofs.Common.{
-    ◌≡◌, ℕ, ◌+◌, ◌-◌, ◌*◌, ◌^◌, ◌<◌, ◌≤◌, List, ◌∷◌, ◌++◌, length, take, drop, sym, ap, ◌∙◌, arith
-}
+use Rattle.std.proofs.Common.{◌≡◌, ℕ, ◌+◌, ◌-◌, ◌*◌, ◌^◌, ◌<◌, ◌≤◌, List, ◌∷◌, ◌++◌, length, take, drop, sym, ap, ◌∙◌, arith}
 use Rattle.std.proofs.Math.ListN.{set}
 use Rattle.std.specs.Int.{w128, to_le_bytes}
 use borrow.Rule.Slice.PartMut.{put_mid}
@@ -16,20 +14,23 @@ put_big : (n k : ℕ) (out part spelled : List ℕ) → 2 ^ 30 ≤ n → k ≡ b
 put_big n k out part spelled big count small long front all =
     let first : 4 * (big_bytes n - 4) + 3 ≡ (k - 4) * 4 + 3 = omega (arith, count) in
     let rest : part ≡ le_bytes (big_bytes n) n = front ∙ ap (take k) all
-        ∙ take-to_le_bytes_16 k n small ∙ ap (λ (j : ℕ). le_bytes j n) count in
+    ∙ take-to_le_bytes_16 k n small ∙ ap (λ (j : ℕ). le_bytes j n) count in
     let is : compact n ≡ ((k - 4) * 4 + 3) ∷ part = compact-big n big
-        ∙ ap (λ (x : ℕ). x ∷ le_bytes (big_bytes n) n) first
-        ∙ ap (λ (xs : List ℕ). ((k - 4) * 4 + 3) ∷ xs) (sym rest) in
+    ∙ ap (λ (x : ℕ). x ∷ le_bytes (big_bytes n) n) first
+    ∙ ap (λ (xs : List ℕ). ((k - 4) * 4 + 3) ∷ xs) (sym rest) in
     put_mid-front out part (compact n) ((k - 4) * 4 + 3) k (k + 1 - 1) (k + 1) long is (omega arith)
-        (omega arith)
+    (omega arith)
 
 pub returns-clause-len : goal.returns-clause-len
-returns-clause-len c = omega (arith, length-compact-big c.args.value c.requires,
-    c.big_bytes-count.ensures.exact)
+returns-clause-len c = omega (
+  arith,
+  length-compact-big c.args.value c.requires,
+  c.big_bytes-count.ensures.exact,
+)
 
 pub returns-clause-bytes : goal.returns-clause-bytes
 returns-clause-bytes c =
     put_big c.args.value c.big_bytes-count.result c.args.out.now c.copy_from_slice.new.self
-        c.to_le_bytes.result c.requires c.big_bytes-count.ensures.exact
-        c.big_bytes-count.ensures.most (omega arith)
+    c.to_le_bytes.result c.requires c.big_bytes-count.ensures.exact
+    c.big_bytes-count.ensures.most (omega arith)
     c.copy_from_slice.ensures.after c.to_le_bytes.ensures

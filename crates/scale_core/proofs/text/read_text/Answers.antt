@@ -1,9 +1,7 @@
 use Rattle.std.proofs.Common.{◌∙◌, sym, ap, ◌+◌, ℕ, [], drop, arith}
 use Rattle.std.specs.Str.Lossy.{utf8_valid_len}
 use Rattle.std.proofs.lemmas.Result.{err_from_is_err_and}
-use Rattle.scale_core.proofs.ReadTexts.{
-    IsWhole, text_at-fault, text_at-cut, text_at-valid, text_at-bad, whole-bound, place-bad
-}
+use Rattle.scale_core.proofs.ReadTexts.{IsWhole, text_at-fault, text_at-cut, text_at-valid, text_at-bad, whole-bound, place-bad}
 use Rattle.scale_core.proofs.text.read_text.Goals as goal
 
 pub returns-in_err-count-clause-reads : goal.returns-in_err-count-clause-reads
@@ -13,16 +11,19 @@ returns-in_err-count-clause-reads c =
     rw (p.1, p.2) (h.0, text_at-fault c.args.bytes.now _ h.1, h.2)
 
 pub returns-in_default-clause-reads : goal.returns-in_default-clause-reads
-returns-in_default-clause-reads c =
-    ([], text_at-cut c.args.bytes.now c.in_ok-count.start c.in_ok-count.count
-    c.in_ok-count.ensures.reads.1 c.in_default.ensures.lookup.0, omega arith)
+returns-in_default-clause-reads c = (
+  [],
+  text_at-cut c.args.bytes.now c.in_ok-count.start c.in_ok-count.count
+      c.in_ok-count.ensures.reads.1 c.in_default.ensures.lookup.0,
+  omega arith,
+)
 
 pub returns-in-Ok-clause-reads : goal.returns-in-Ok-clause-reads
 returns-in-Ok-clause-reads c =
     let reads = c.in_ok-count.ensures.reads in
     let part = c.in-Some.ensures.lookup.0 in
     let w : IsWhole c.args.bytes.now c.in-Some.spelled.now c.in_ok-count.start c.in_ok-count.count =
-        record { length_is = reads.1; there = part.1; is = part.2; len = part.3 } in (
+    record { length_is = reads.1; there = part.1; is = part.2; len = part.3 } in (
       whole-bound c.args.bytes.now c.in-Some.spelled.now c.in_ok-count.start c.in_ok-count.count
           reads.0 w,
       text_at-valid c.args.bytes.now c.in-Some.spelled.now c.in-Ok.text.now c.in_ok-count.start
@@ -34,7 +35,7 @@ returns-in-Err-clause-reads c =
     let reads = c.in_ok-count.ensures.reads in
     let part = c.in-Some.ensures.lookup.0 in
     let w : IsWhole c.args.bytes.now c.in-Some.spelled.now c.in_ok-count.start c.in_ok-count.count =
-        record { length_is = reads.1; there = part.1; is = part.2; len = part.3 } in (
+    record { length_is = reads.1; there = part.1; is = part.2; len = part.3 } in (
       drop (utf8_valid_len c.in-Some.spelled.now) (drop c.in_ok-count.start c.args.bytes.now),
       text_at-bad c.args.bytes.now c.in-Some.spelled.now c.in_ok-count.start c.in_ok-count.count w
           c.in-Err.ensures.cases.0,

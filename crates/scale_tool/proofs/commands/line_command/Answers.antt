@@ -9,7 +9,7 @@ returns c =
     c.in_ok-command.ensures.shape c.in_ok-decode.ensures.local
     ∙ ap₂ with_subcommand (c.in_ok-subcommand.ensures.shape c.in_ok-types.ensures.local
     ∙ ap₂ with_subcommand (ap app_of_fields c.subcommand_required.ensures
-        ∙ ap with_required_subcommand (ap app_of_fields c.after_help.ensures
-        ∙ ap app_of_fields c.about.ensures ∙ c.new.ensures.app))
-        (ap (λ (a : App). a.top) c.in_ok-types.ensures.app))
-        (ap (λ (a : App). a.top) c.in_ok-decode.ensures.app)
+    ∙ ap with_required_subcommand (ap app_of_fields c.after_help.ensures
+    ∙ ap app_of_fields c.about.ensures ∙ c.new.ensures.app))
+    (ap (λ (a : App). a.top) c.in_ok-types.ensures.app))
+    (ap (λ (a : App). a.top) c.in_ok-decode.ensures.app)

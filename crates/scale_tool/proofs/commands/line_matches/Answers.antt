@@ -1,8 +1,6 @@
 use Rattle.std.proofs.Common.{◌≡◌, ◌∙◌, ap, map, subst, true, refl}
 use Rattle.std.proofs.lemmas.Result.{IfErr-weaker, IfOk-weaker}
-use Rattle.clap.specs.Words.{
-    FailsBy, fault_of, is_simple, is_simple_and_free, matches_of, subcommand_of, takes
-}
+use Rattle.clap.specs.Words.{FailsBy, fault_of, is_simple, is_simple_and_free, matches_of, subcommand_of, takes}
 use Rattle.clap.proofs.OnLiterals.{clap_on_literals}
 use Rattle.scale_tool.specs.Line.{line}
 use Rattle.scale_tool.proofs.commands.line_matches.Goals as goal
@@ -14,22 +12,22 @@ simple = refl
 pub returns-clause-found : goal.returns-clause-found
 returns-clause-found c =
     IfOk-weaker c.try_get_matches_from.result _ _
-        (λ m h. (h (ap is_simple c.in_ok-line.ensures ∙ simple)).0
-        ∙ ap (λ a. matches_of a (map (λ s. s.now) c.args.words.now)) c.in_ok-line.ensures)
-        c.try_get_matches_from.ensures.matches
+    (λ m h. (h (ap is_simple c.in_ok-line.ensures ∙ simple)).0
+    ∙ ap (λ a. matches_of a (map (λ s. s.now) c.args.words.now)) c.in_ok-line.ensures)
+    c.try_get_matches_from.ensures.matches
 
 pub returns-clause-subcommand : goal.returns-clause-subcommand
 returns-clause-subcommand c =
     IfOk-weaker c.try_get_matches_from.result _ _
-        (λ m h. (h (ap is_simple c.in_ok-line.ensures ∙ simple)).1
-        ∙ ap (λ a. subcommand_of a (map (λ s. s.now) c.args.words.now)) c.in_ok-line.ensures)
-        c.try_get_matches_from.ensures.matches
+    (λ m h. (h (ap is_simple c.in_ok-line.ensures ∙ simple)).1
+    ∙ ap (λ a. subcommand_of a (map (λ s. s.now) c.args.words.now)) c.in_ok-line.ensures)
+    c.try_get_matches_from.ensures.matches
 
 pub returns-clause-taken : goal.returns-clause-taken
 returns-clause-taken c =
     IfErr-weaker c.try_get_matches_from.result _ _
-        (λ e h taken. h (ap (λ a. takes a (map (λ s. s.now) c.args.words.now)) c.in_ok-line.ensures
-        ∙ taken)) c.try_get_matches_from.ensures.passes
+    (λ e h taken. h (ap (λ a. takes a (map (λ s. s.now) c.args.words.now)) c.in_ok-line.ensures
+    ∙ taken)) c.try_get_matches_from.ensures.passes
 
 free : is_simple_and_free line ≡ true
 unfolding clap_on_literals
@@ -38,5 +36,5 @@ free = refl
 pub returns-clause-kinds : goal.returns-clause-kinds
 returns-clause-kinds c =
     subst (λ a. FailsBy (fault_of a (map (λ s. s.now) c.args.words.now))
-        c.try_get_matches_from.result) c.in_ok-line.ensures
+    c.try_get_matches_from.result) c.in_ok-line.ensures
     (c.try_get_matches_from.ensures.kinds (ap is_simple_and_free c.in_ok-line.ensures ∙ free))

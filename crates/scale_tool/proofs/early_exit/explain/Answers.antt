@@ -3,8 +3,10 @@ use Rattle.scale_tool.proofs.early_exit.explain.Goals as goal
 
 pub returns-in-Line-clause-front : goal.returns-in-Line-clause-front
 returns-in-Line-clause-front g c =
-    λ three. (c.in-Err.field-0.written,
-    rw (c.in-Line.is, sym c.as_bytes.ensures.value) c.in-Err.ensures.err)
+    λ three. (
+      c.in-Err.field-0.written,
+      rw (c.in-Line.is, sym c.as_bytes.ensures.value) c.in-Err.ensures.err,
+    )
 
 pub returns-in-Usage-clause-told : goal.returns-in-Usage-clause-told
 returns-in-Usage-clause-told g c = λ other. rw c.in-Usage.is c.report-in-Usage.ensures

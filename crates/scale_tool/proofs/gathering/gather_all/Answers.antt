@@ -6,9 +6,9 @@ pub returns-then-branch-eq0-clause-ok : goal.returns-then-branch-eq0-clause-ok
 returns-then-branch-eq0-clause-ok g c =
     let so_far = vec_len c.pieces.out - vec_len c.args.out.now in
     takes_all _ _ _ _ so_far
-        (takes_next _ _ _ _ _ _ so_far c.in_ok-pull_onto.field-0 so_far
-        (omega (arith, c.if-branch-eq0.true)) c.pieces.invariant.taken
-        c.in_ok-pull_onto.ensures.bytes) (c.in_ok-pull_onto.ensures.end c.if-branch-eq0.true)
+    (takes_next _ _ _ _ _ _ so_far c.in_ok-pull_onto.field-0 so_far
+    (omega (arith, c.if-branch-eq0.true)) c.pieces.invariant.taken
+    c.in_ok-pull_onto.ensures.bytes) (c.in_ok-pull_onto.ensures.end c.if-branch-eq0.true)
 
 pub pieces-preserved : goal.pieces-preserved
 pieces-preserved g c = record {

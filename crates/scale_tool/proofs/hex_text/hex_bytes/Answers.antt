@@ -1,24 +1,25 @@
 use Rattle.std.proofs.Common.{arith}
-use Rattle.scale_tool.proofs.HexPlaces.{
-    behind_prefix, hex_is, place_within, told_bad, told_length, told_odd
-}
+use Rattle.scale_tool.proofs.HexPlaces.{behind_prefix, hex_is, place_within, told_bad, told_length, told_odd}
 use Rattle.scale_tool.proofs.hex_text.hex_bytes.Goals as goal
 
 pub overflow_add-result : goal.overflow_add-result
 overflow_add-result c =
     let text = c.args.text.now in
     let start = c.prefix_len-start.result in
-    omega (arith, c.type_inv.text,
-        place_within text _ start _ _ _ c.prefix_len-start.ensures.bound (behind_prefix text start)
-        (told_bad _ c.in-Err-InvalidHexCharacter.field-0 _ _ c.in-Err-InvalidHexCharacter.field-0-is
-        c.in-Err-InvalidHexCharacter.ensures.err))
+    omega (
+      arith,
+      c.type_inv.text,
+      place_within text _ start _ _ _ c.prefix_len-start.ensures.bound (behind_prefix text start)
+          (told_bad _ c.in-Err-InvalidHexCharacter.field-0 _ _ c.in-Err-InvalidHexCharacter.field-0-is
+          c.in-Err-InvalidHexCharacter.ensures.err),
+    )
 
 pub returns-in-Ok-clause-ok : goal.returns-in-Ok-clause-ok
 returns-in-Ok-clause-ok c =
     let text = c.args.text.now in
     let start = c.prefix_len-start.result in
     hex_is text _ start _ _ c.prefix_len-start.ensures.value (behind_prefix text start)
-        c.digits_end-end.ensures.value c.in-Ok.ensures.ok
+    c.digits_end-end.ensures.value c.in-Ok.ensures.ok
 
 pub returns-in-Err-InvalidHexCharacter-clause-err :
     goal.returns-in-Err-InvalidHexCharacter-clause-err
@@ -26,18 +27,18 @@ returns-in-Err-InvalidHexCharacter-clause-err c =
     let text = c.args.text.now in
     let start = c.prefix_len-start.result in
     hex_is text _ start _ _ c.prefix_len-start.ensures.value (behind_prefix text start)
-        c.digits_end-end.ensures.value
-        (told_bad _ c.in-Err-InvalidHexCharacter.field-0 _ _ c.in-Err-InvalidHexCharacter.field-0-is
-        c.in-Err-InvalidHexCharacter.ensures.err)
+    c.digits_end-end.ensures.value
+    (told_bad _ c.in-Err-InvalidHexCharacter.field-0 _ _ c.in-Err-InvalidHexCharacter.field-0-is
+    c.in-Err-InvalidHexCharacter.ensures.err)
 
 pub returns-in-Err-OddLength-clause-err : goal.returns-in-Err-OddLength-clause-err
 returns-in-Err-OddLength-clause-err c =
     let text = c.args.text.now in
     let start = c.prefix_len-start.result in
     hex_is text _ start _ _ c.prefix_len-start.ensures.value (behind_prefix text start)
-        c.digits_end-end.ensures.value
-        (told_odd _ c.in-Err-OddLength.field-0 c.in-Err-OddLength.field-0-is
-        c.in-Err-OddLength.ensures.err)
+    c.digits_end-end.ensures.value
+    (told_odd _ c.in-Err-OddLength.field-0 c.in-Err-OddLength.field-0-is
+    c.in-Err-OddLength.ensures.err)
 
 pub returns-in-Err-InvalidStringLength-clause-err :
     goal.returns-in-Err-InvalidStringLength-clause-err
@@ -45,6 +46,6 @@ returns-in-Err-InvalidStringLength-clause-err c =
     let text = c.args.text.now in
     let start = c.prefix_len-start.result in
     hex_is text _ start _ _ c.prefix_len-start.ensures.value (behind_prefix text start)
-        c.digits_end-end.ensures.value
-        (told_length _ c.in-Err-InvalidStringLength.field-0 c.in-Err-InvalidStringLength.field-0-is
-        c.in-Err-InvalidStringLength.ensures.err)
+    c.digits_end-end.ensures.value
+    (told_length _ c.in-Err-InvalidStringLength.field-0 c.in-Err-InvalidStringLength.field-0-is
+    c.in-Err-InvalidStringLength.ensures.err)

@@ -33,39 +33,39 @@ pub returns-in_err-get_str-clause-none : goal.returns-in_err-get_str-clause-none
 returns-in_err-get_str-clause-none c =
     let found = found_of c.args.matches.now in
     let none : None ≡ first_of (codes "ID") (rows_of found) = c.in_err-get_str.ensures
-        ∙ first_value-rows found (codes "ID") in
+    ∙ first_value-rows found (codes "ID") in
     if_none _ _ (none_of_decode (rows_of found)
-        (λ p d file value n. subst (λ o. Spells o p) (sym none) n.position_is))
+    (λ p d file value n. subst (λ o. Spells o p) (sym none) n.position_is))
 
 pub returns-in_err-id-clause-none : goal.returns-in_err-id-clause-none
 returns-in_err-id-clause-none c =
     let found = found_of c.args.matches.now in
     let said : Some c.in_ok-get_str.field-0.now ≡ first_of (codes "ID") (rows_of found) =
-        c.in_ok-get_str.ensures ∙ first_value-rows found (codes "ID") in
+    c.in_ok-get_str.ensures ∙ first_value-rows found (codes "ID") in
     if_none _ _ (none_of_decode (rows_of found)
-        (λ p d file value n. no_number _ _ p (sym said) c.in_err-id.ensures n.position_fits
-        n.position_is))
+    (λ p d file value n. no_number _ _ p (sym said) c.in_err-id.ensures n.position_fits
+    n.position_is))
 
 pub returns-in_err-depth-clause-none : goal.returns-in_err-depth-clause-none
 returns-in_err-depth-clause-none c =
     let found = found_of c.args.matches.now in
     let said = c.get_str-2.ensures ∙ first_value-rows found (codes "depth") in
     if_none _ _ (none_of_decode (rows_of found)
-        (λ p d file value n. c.in_err-depth.ensures.none d n.depth_fits
-        (subst (λ o. SpellsDepth o d) (sym said) n.depth_is)))
+    (λ p d file value n. c.in_err-depth.ensures.none d n.depth_fits
+    (subst (λ o. SpellsDepth o d) (sym said) n.depth_is)))
 
 pub returns-in_err-file-clause-none : goal.returns-in_err-file-clause-none
 returns-in_err-file-clause-none c =
     let found = found_of c.args.matches.now in
     let none : None ≡ first_of (codes "FILE") (rows_of found) = c.in_err-file.ensures
-        ∙ first_value-rows found (codes "FILE") in
+    ∙ first_value-rows found (codes "FILE") in
     if_none _ _ (none_of_decode (rows_of found)
-        (λ p d file value n. let bad : None ≡ Some file = none ∙ n.file_is in absurd cc))
+    (λ p d file value n. let bad : None ≡ Some file = none ∙ n.file_is in absurd cc))
 
 pub returns-in_err-value_file-clause-none : goal.returns-in_err-value_file-clause-none
 returns-in_err-value_file-clause-none c =
     let found = found_of c.args.matches.now in
     let none : None ≡ first_of (codes "VALUEFILE") (rows_of found) = c.in_err-value_file.ensures
-        ∙ first_value-rows found (codes "VALUEFILE") in
+    ∙ first_value-rows found (codes "VALUEFILE") in
     if_none _ _ (none_of_decode (rows_of found)
-        (λ p d file value n. let bad : None ≡ Some value = none ∙ n.value_is in absurd cc))
+    (λ p d file value n. let bad : None ≡ Some value = none ∙ n.value_is in absurd cc))

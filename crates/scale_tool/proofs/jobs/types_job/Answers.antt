@@ -23,6 +23,6 @@ pub returns-in_err-file-clause-none : goal.returns-in_err-file-clause-none
 returns-in_err-file-clause-none c =
     let found = found_of c.args.matches.now in
     let none : None ≡ first_of (codes "FILE") (rows_of found) = c.in_err-file.ensures
-        ∙ first_value-rows found (codes "FILE") in
+    ∙ first_value-rows found (codes "FILE") in
     if_none _ _ (none_of_types (rows_of found)
-        (λ file is. let bad : None ≡ Some file = none ∙ is in absurd cc))
+    (λ file is. let bad : None ≡ Some file = none ∙ is in absurd cc))

@@ -5,11 +5,11 @@ use Rattle.scale_tool.proofs.lines.type_lines.Goals as goal
 pub types-preserved : goal.types-preserved
 types-preserved c =
     lines_next c.args.checked.now.types c.types-info-items.result.now c.types.i c.info-item.result _
-        _ _ (omega arith) c.info-item.is
+    _ _ (omega arith) c.info-item.is
     (class_is c.class.result _ _ _ c.class.ensures c.unwrap-class.ensures) c.types.invariant
-        c.in_ok-push_line.ensures
+    c.in_ok-push_line.ensures
 
 pub returns : goal.returns
 returns c =
     lines_whole c.args.checked.now.types c.types-info-items.result.now c.types.i _ (omega arith)
-        (c.types-info-items.ensures.same ∙ c.registry.ensures.same) c.types.invariant
+    (c.types-info-items.ensures.same ∙ c.registry.ensures.same) c.types.invariant

@@ -8,5 +8,5 @@ returns-then-len-bytes-clause-err c =
     let len = c.in_ok-registry-2.len in
     let bytes = c.args.bytes.now in
     λ one. rw c.if-metadata.false
-        (not_alone _ (drop len bytes) _ c.in_ok-registry-2.ensures.exact.1
-        (omega (arith, length-drop len bytes)))
+    (not_alone _ (drop len bytes) _ c.in_ok-registry-2.ensures.exact.1
+    (omega (arith, length-drop len bytes)))

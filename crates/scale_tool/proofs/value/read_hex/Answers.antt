@@ -6,10 +6,10 @@ use Rattle.scale_tool.proofs.value.read_hex.Goals as goal
 pub returns-clause-tells : goal.returns-clause-tells
 returns-clause-tells g c =
     where_known _ _ (λ file. TellsFile true
-        (decoding c.args.id c.args.depth c.args.checked.now.types) file c.from.result)
+    (decoding c.args.id c.args.depth c.args.checked.now.types) file c.from.result)
     (λ file all. hex_tells (decoding c.args.id c.args.depth c.args.checked.now.types)
-        c.new-text.result.items c.gather_all.new.out.items c.as_slice.result.now file
-        c.as_slice-2.result.now c.in-Err.refusal c.from.result
+    c.new-text.result.items c.gather_all.new.out.items c.as_slice.result.now file
+    c.as_slice-2.result.now c.in-Err.refusal c.from.result
     c.new-text.ensures.items all c.as_slice.ensures.value (c.in_ok-bytes.ensures.ok
-        ∙ ap Ok (sym c.as_slice-2.ensures.value)) c.from.ensures c.in-Err.ensures.tells)
-        c.in_ok-gather_all.ensures.ok
+    ∙ ap Ok (sym c.as_slice-2.ensures.value)) c.from.ensures c.in-Err.ensures.tells)
+    c.in_ok-gather_all.ensures.ok

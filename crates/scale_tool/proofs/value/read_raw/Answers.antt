@@ -1,35 +1,33 @@
 use Rattle.std.proofs.Common.{◌≡◌, Err, None, ap, false}
 use Rattle.scale_tool.specs.Refused.{status_of_value}
 use Rattle.scale_tool.specs.Values.{TellsFile, decoding, value_in}
-use Rattle.scale_tool.proofs.Decoded.{
-    stream_fault, stream_opens, stream_tells, stream_value, where_known
-}
+use Rattle.scale_tool.proofs.Decoded.{stream_fault, stream_opens, stream_tells, stream_value, where_known}
 use Rattle.scale_tool.proofs.value.read_raw.Goals as goal
 
 pub returns-in-Ok-clause-value : goal.returns-in-Ok-clause-value
 returns-in-Ok-clause-value g c =
     where_known _ _ _ (λ b h. stream_value c.args.id c.args.depth c.args.checked.now.types
-        c.limits.result b c.in-Ok.value c.limits.ensures h) c.in-Ok.ensures.answers
+    c.limits.result b c.in-Ok.value c.limits.ensures h) c.in-Ok.ensures.answers
 
 pub returns-in-Err-clause-value : goal.returns-in-Err-clause-value
 returns-in-Err-clause-value g c =
     where_known _ _ (λ b. status_of_value c.of_stream.result ≡ 1 →
-        value_in c.args.id c.args.depth c.args.checked.now.types b ≡ None)
-        (λ b h one. stream_fault c.args.id c.args.depth c.args.checked.now.types c.limits.result b
-        c.in-Err.fault c.limits.ensures c.requires.known c.requires.depth h
+    value_in c.args.id c.args.depth c.args.checked.now.types b ≡ None)
+    (λ b h one. stream_fault c.args.id c.args.depth c.args.checked.now.types c.limits.result b
+    c.in-Err.fault c.limits.ensures c.requires.known c.requires.depth h
     (rw c.of_stream.ensures at one)) c.in-Err.ensures.answers
 
 pub returns-in-Err-clause-tells : goal.returns-in-Err-clause-tells
 returns-in-Err-clause-tells g c =
     where_known _ _ (λ b. TellsFile false (decoding c.args.id c.args.depth c.args.checked.now.types)
-        b c.of_stream.result)
+    b c.of_stream.result)
     (λ b h. rw c.of_stream.ensures
-        (stream_tells c.args.id c.args.depth c.args.checked.now.types c.limits.result b
-        c.in-Err.fault c.limits.ensures c.requires.known c.requires.depth h))
-        c.in-Err.ensures.answers
+    (stream_tells c.args.id c.args.depth c.args.checked.now.types c.limits.result b
+    c.in-Err.fault c.limits.ensures c.requires.known c.requires.depth h))
+    c.in-Err.ensures.answers
 
 pub of_stream-requires : goal.of_stream-requires
 of_stream-requires g c =
     stream_opens c.args.id c.args.depth c.args.checked.now.types c.limits.result c.in-Err.fault
-        c.limits.ensures c.requires.known c.requires.depth
-        (λ why is. c.in-Err.ensures.open why (ap Err is))
+    c.limits.ensures c.requires.known c.requires.depth
+    (λ why is. c.in-Err.ensures.open why (ap Err is))

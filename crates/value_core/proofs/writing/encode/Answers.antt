@@ -1,6 +1,4 @@
-use Rattle.std.proofs.Common.{
-    rules, ◌+◌, ◌*◌, ◌^◌, ◌<◌, flat_map, subst, refl, length, ap, ◌∙◌, arith
-}
+use Rattle.std.proofs.Common.{rules, ◌+◌, ◌*◌, ◌^◌, ◌<◌, flat_map, subst, refl, length, ap, ◌∙◌, arith}
 use Rattle.std.specs.Io.KnownBytes.{Appends}
 use Rattle.std.proofs.lemmas.Grind.{common_steps}
 use Rattle.std.proofs.lemmas.List.{take_all}
@@ -18,9 +16,9 @@ overflow_add-written g c =
     let small : length c.parts.result.1.now < 2 ^ 63 = search rules in
     let few : length c.parts.result.0.now * 40 < 2 ^ 63 = search rules in
     let fits : c.nodes.written + c.in-Ok.sent < 2 ^ 64 =
-        (is_few _ _ c.parts.result.1.now c.parts.result.0.now _ c.nodes.node-index _ c.nodes.written
-        c.in-Ok.sent c.checked.ensures c.parts.ensures.whole c.parts.ensures.same
-        c.parts.ensures.fits small few c.nodes-test.true
+    (is_few _ _ c.parts.result.1.now c.parts.result.0.now _ c.nodes.node-index _ c.nodes.written
+    c.in-Ok.sent c.checked.ensures c.parts.ensures.whole c.parts.ensures.same
+    c.parts.ensures.fits small few c.nodes-test.true
     c.nodes.invariant.few (omega (arith, c.in-Ok.ensures.count)) c.in-Ok.ensures.bound).fits in
     search rules
 
@@ -29,9 +27,9 @@ overflow_add-result g c =
     let small : length c.parts.result.1.now < 2 ^ 63 = search rules in
     let few : length c.parts.result.0.now * 40 < 2 ^ 63 = search rules in
     let fits : c.nodes.written + c.in-Err.fault.written < 2 ^ 64 =
-        (is_few _ _ c.parts.result.1.now c.parts.result.0.now _ c.nodes.node-index _ c.nodes.written
-        c.in-Err.fault.written c.checked.ensures c.parts.ensures.whole c.parts.ensures.same
-        c.parts.ensures.fits small few c.nodes-test.true
+    (is_few _ _ c.parts.result.1.now c.parts.result.0.now _ c.nodes.node-index _ c.nodes.written
+    c.in-Err.fault.written c.checked.ensures c.parts.ensures.whole c.parts.ensures.same
+    c.parts.ensures.fits small few c.nodes-test.true
     c.nodes.invariant.few c.in-Err.ensures.part c.in-Err.ensures.bound).fits in
     search rules
 
@@ -53,16 +51,16 @@ nodes-preserved g c =
 pub returns-in-Err-clause-part : goal.returns-in-Err-clause-part
 returns-in-Err-clause-part g c =
     (stops _ _ _ _ _ c.parts.result.1.now c.parts.result.0.now c.nodes.node-index _ _
-        c.in-Err.fault.written c.nodes.written c.checked.ensures c.nodes-test.true
+    c.in-Err.fault.written c.nodes.written c.checked.ensures c.nodes-test.true
     (nodes_spell _ _ _ _ c.parts.ensures.whole c.parts.ensures.same) c.nodes.invariant.sent
-        c.nodes.invariant.written c.in-Err.ensures.part c.in-Err.ensures.err).part
+    c.nodes.invariant.written c.in-Err.ensures.part c.in-Err.ensures.err).part
 
 pub returns-in-Err-clause-err : goal.returns-in-Err-clause-err
 returns-in-Err-clause-err g c =
     (stops _ _ _ _ _ c.parts.result.1.now c.parts.result.0.now c.nodes.node-index _ _
-        c.in-Err.fault.written c.nodes.written c.checked.ensures c.nodes-test.true
+    c.in-Err.fault.written c.nodes.written c.checked.ensures c.nodes-test.true
     (nodes_spell _ _ _ _ c.parts.ensures.whole c.parts.ensures.same) c.nodes.invariant.sent
-        c.nodes.invariant.written c.in-Err.ensures.part c.in-Err.ensures.err).sent
+    c.nodes.invariant.written c.in-Err.ensures.part c.in-Err.ensures.err).sent
 
 pub returns-clause-value : goal.returns-clause-value
 returns-clause-value g c =
@@ -72,21 +70,23 @@ pub returns-clause-ok : goal.returns-clause-ok
 returns-clause-ok g c =
     let all = take_all c.nodes.node-index c.parts.result.0.now (omega arith) in
     subst (Appends (g.W.Write.contents c.args.sink.now.device)
-        (g.W.Write.contents c.nodes.sink.device))
+    (g.W.Write.contents c.nodes.sink.device))
     (ap (flat_map (node_bytes c.args.value.now.types c.parts.result.1.now)) all
-        ∙ nodes_spell _ _ _ _ c.parts.ensures.whole c.parts.ensures.same)
+    ∙ nodes_spell _ _ _ _ c.parts.ensures.whole c.parts.ensures.same)
     c.nodes.invariant.sent
 
 pub returns-in-Err-clause-none : goal.returns-in-Err-clause-none
 returns-in-Err-clause-none g c = λ e.
     let no = (c.in-Err.ensures.none
-        (no_own _ _ c.parts.result.1.now c.parts.result.0.now c.nodes.node-index _ _
-        c.checked.ensures c.nodes-test.true
-        (nodes_spell _ _ _ _ c.parts.ensures.whole c.parts.ensures.same) e)).1 in absurd cc
+    (no_own _ _ c.parts.result.1.now c.parts.result.0.now c.nodes.node-index _ _
+    c.checked.ensures c.nodes-test.true
+    (nodes_spell _ _ _ _ c.parts.ensures.whole c.parts.ensures.same) e)).1 in absurd cc
 
 pub returns-clause-none : goal.returns-clause-none
 returns-clause-none g c = λ e.
-    let all = take_all c.nodes.node-index c.parts.result.0.now (omega arith) in
-    (c.nodes.invariant.none (ap length
-        (ap (flat_map (node_bytes c.args.value.now.types c.parts.result.1.now)) all
-        ∙ nodes_spell _ _ _ _ c.parts.ensures.whole c.parts.ensures.same ∙ e)), refl)
+    let all = take_all c.nodes.node-index c.parts.result.0.now (omega arith) in (
+      c.nodes.invariant.none (ap length
+          (ap (flat_map (node_bytes c.args.value.now.types c.parts.result.1.now)) all
+          ∙ nodes_spell _ _ _ _ c.parts.ensures.whole c.parts.ensures.same ∙ e)),
+      refl,
+    )

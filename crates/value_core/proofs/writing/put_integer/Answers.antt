@@ -7,7 +7,7 @@ use Rattle.value_core.proofs.writing.put_integer.Goals as goal
 pub returns-clause-bytes : goal.returns-clause-bytes
 returns-clause-bytes c =
     integer_front c.copy_from_slice.new.self _ c.to_le_bytes.result c.width_of-width.result
-        c.from_le_bytes-number.result c.width_of-width.ensures.bound c.copy_from_slice.ensures.after
-        c.to_le_bytes.ensures
+    c.from_le_bytes-number.result c.width_of-width.ensures.bound c.copy_from_slice.ensures.after
+    c.to_le_bytes.ensures
     ∙ ap (le_bytes c.width_of-width.result) c.from_le_bytes-number.ensures
     ∙ ap (λ (k : ℕ). le_bytes k (from_le_bytes w128 c.args.bytes)) c.width_of-width.ensures.exact

@@ -1,8 +1,5 @@
 use Rattle.std.proofs.Common.{ap, ◌∙◌, ℕ, [], ◌∷◌, arith}
-use Rattle.value_core.proofs.SpelledNodes.{
-    one_front, compact_front, char_front, starts_as, starts_bool, starts_char, starts_text,
-    starts_unsigned, starts_signed, starts_compact, starts_count, starts_arm, starts_list
-}
+use Rattle.value_core.proofs.SpelledNodes.{one_front, compact_front, char_front, starts_as, starts_bool, starts_char, starts_text, starts_unsigned, starts_signed, starts_compact, starts_count, starts_arm, starts_list}
 use Rattle.graph_core.specs.Types.{shape}
 use Rattle.value_core.proofs.writing.put_node.Goals as goal
 
@@ -15,16 +12,16 @@ returns-in-Bool-clause-bytes c =
 pub returns-in-Char-clause-bytes : goal.returns-in-Char-clause-bytes
 returns-in-Char-clause-bytes c =
     starts_as _ _ _ _ c.in-Char.is
-        (starts_char _ (shape c.args.checked.now.types c.args.node.now.ty.0) c.in-Char.x
-        (char_front c.copy_from_slice.new.self _ c.to_le_bytes.result c.from-in-Char.result
-        c.in-Char.x c.copy_from_slice.ensures.after c.to_le_bytes.ensures c.from-in-Char.ensures))
+    (starts_char _ (shape c.args.checked.now.types c.args.node.now.ty.0) c.in-Char.x
+    (char_front c.copy_from_slice.new.self _ c.to_le_bytes.result c.from-in-Char.result
+    c.in-Char.x c.copy_from_slice.ensures.after c.to_le_bytes.ensures c.from-in-Char.ensures))
 
 pub returns-in-Text-clause-bytes : goal.returns-in-Text-clause-bytes
 returns-in-Text-clause-bytes c =
     starts_as _ _ _ _ c.in-Text.is
-        (starts_text _ (shape c.args.checked.now.types c.args.node.now.ty.0) c.in-Text.start
-        c.in-Text.len (compact_front _ c.args.out.now c.from-in-Text.result c.put_compact.result
-        c.in-Text.len c.put_compact.ensures.len c.put_compact.ensures.bytes c.from-in-Text.ensures))
+    (starts_text _ (shape c.args.checked.now.types c.args.node.now.ty.0) c.in-Text.start
+    c.in-Text.len (compact_front _ c.args.out.now c.from-in-Text.result c.put_compact.result
+    c.in-Text.len c.put_compact.ensures.len c.put_compact.ensures.bytes c.from-in-Text.ensures))
 
 pub returns-in-Unsigned-clause-bytes : goal.returns-in-Unsigned-clause-bytes
 returns-in-Unsigned-clause-bytes c =
@@ -41,10 +38,10 @@ returns-in-Signed-clause-bytes c =
 pub returns-in-Compact-clause-bytes : goal.returns-in-Compact-clause-bytes
 returns-in-Compact-clause-bytes c =
     starts_as _ _ _ _ c.in-Compact.is
-        (starts_compact _ (shape c.args.checked.now.types c.args.node.now.ty.0) c.in-Compact.bytes
-        (compact_front _ c.args.out.now c.from_le_bytes.result c.put_compact-in-Compact.result _
-        c.put_compact-in-Compact.ensures.len c.put_compact-in-Compact.ensures.bytes
-        c.from_le_bytes.ensures))
+    (starts_compact _ (shape c.args.checked.now.types c.args.node.now.ty.0) c.in-Compact.bytes
+    (compact_front _ c.args.out.now c.from_le_bytes.result c.put_compact-in-Compact.result _
+    c.put_compact-in-Compact.ensures.len c.put_compact-in-Compact.ensures.bytes
+    c.from_le_bytes.ensures))
 
 pub returns-in-Arm-clause-bytes : goal.returns-in-Arm-clause-bytes
 returns-in-Arm-clause-bytes c =
@@ -61,7 +58,7 @@ returns-in-List-clause-bytes c =
 pub returns-in-Count-clause-bytes : goal.returns-in-Count-clause-bytes
 returns-in-Count-clause-bytes c =
     starts_as _ _ _ _ c.in-Count.is
-        (starts_count _ (shape c.args.checked.now.types c.args.node.now.ty.0) c.in-Count.count
-        (compact_front _ c.args.out.now c.from-in-Count.result c.put_compact-in-Count.result
-        c.in-Count.count c.put_compact-in-Count.ensures.len c.put_compact-in-Count.ensures.bytes
-        c.from-in-Count.ensures))
+    (starts_count _ (shape c.args.checked.now.types c.args.node.now.ty.0) c.in-Count.count
+    (compact_front _ c.args.out.now c.from-in-Count.result c.put_compact-in-Count.result
+    c.in-Count.count c.put_compact-in-Count.ensures.len c.put_compact-in-Count.ensures.bytes
+    c.from-in-Count.ensures))

@@ -9,25 +9,33 @@ pub returns-in-Err-clause-err : goal.returns-in-Err-clause-err
 returns-in-Err-clause-err g c =
     let front = take c.put_node-len.result c.put_node-len.new.out in
     let long : length front ≡ c.put_node-len.result =
-        omega (arith, length-take c.put_node-len.result c.put_node-len.new.out,
-        c.put_node-len.array_long, c.put_node-len.ensures.bound) in
+    omega (
+      arith,
+      length-take c.put_node-len.result c.put_node-len.new.out,
+      c.put_node-len.array_long,
+      c.put_node-len.ensures.bound,
+    ) in
     let whole : front ++ c.pooled-back.result.now
-        ≡ node_bytes c.args.checked.now.types c.args.pool.now c.args.node.now =
-        ap (λ x. front ++ x) c.pooled-back.ensures
-        ∙ c.put_node-len.ensures.bytes c.args.pool.now c.requires in
+    ≡ node_bytes c.args.checked.now.types c.args.pool.now c.args.node.now =
+    ap (λ x. front ++ x) c.pooled-back.ensures
+    ∙ c.put_node-len.ensures.bytes c.args.pool.now c.requires in
     sent_more _ _ _ front c.pooled-back.result.now _ _ c.in-Err.fault.written long whole
-        c.in_ok-send.ensures.ok c.in-Err.ensures.err
+    c.in_ok-send.ensures.ok c.in-Err.ensures.err
 
 pub returns-in-Err-clause-part : goal.returns-in-Err-clause-part
 returns-in-Err-clause-part g c =
     let front = take c.put_node-len.result c.put_node-len.new.out in
     let long : length front ≡ c.put_node-len.result =
-        omega (arith, length-take c.put_node-len.result c.put_node-len.new.out,
-        c.put_node-len.array_long, c.put_node-len.ensures.bound) in
+    omega (
+      arith,
+      length-take c.put_node-len.result c.put_node-len.new.out,
+      c.put_node-len.array_long,
+      c.put_node-len.ensures.bound,
+    ) in
     let whole : front ++ c.pooled-back.result.now
-        ≡ node_bytes c.args.checked.now.types c.args.pool.now c.args.node.now =
-        ap (λ x. front ++ x) c.pooled-back.ensures
-        ∙ c.put_node-len.ensures.bytes c.args.pool.now c.requires in
+    ≡ node_bytes c.args.checked.now.types c.args.pool.now c.args.node.now =
+    ap (λ x. front ++ x) c.pooled-back.ensures
+    ∙ c.put_node-len.ensures.bytes c.args.pool.now c.requires in
     let part : c.in-Err.fault.written ≤ length c.pooled-back.result.now = c.in-Err.ensures.part in
     omega (arith, long, part, long_whole front c.pooled-back.result.now _ whole)
 
@@ -35,21 +43,25 @@ pub returns-in-Ok-clause-count : goal.returns-in-Ok-clause-count
 returns-in-Ok-clause-count g c =
     let front = take c.put_node-len.result c.put_node-len.new.out in
     let long : length front ≡ c.put_node-len.result =
-        omega (arith, length-take c.put_node-len.result c.put_node-len.new.out,
-        c.put_node-len.array_long, c.put_node-len.ensures.bound) in
+    omega (
+      arith,
+      length-take c.put_node-len.result c.put_node-len.new.out,
+      c.put_node-len.array_long,
+      c.put_node-len.ensures.bound,
+    ) in
     let whole : front ++ c.pooled-back.result.now
-        ≡ node_bytes c.args.checked.now.types c.args.pool.now c.args.node.now =
-        ap (λ x. front ++ x) c.pooled-back.ensures
-        ∙ c.put_node-len.ensures.bytes c.args.pool.now c.requires in
+    ≡ node_bytes c.args.checked.now.types c.args.pool.now c.args.node.now =
+    ap (λ x. front ++ x) c.pooled-back.ensures
+    ∙ c.put_node-len.ensures.bytes c.args.pool.now c.requires in
     omega (arith, long, long_whole front c.pooled-back.result.now _ whole)
 
 pub returns-in-Ok-clause-ok : goal.returns-in-Ok-clause-ok
 returns-in-Ok-clause-ok g c =
     let front = take c.put_node-len.result c.put_node-len.new.out in
     let whole : front ++ c.pooled-back.result.now
-        ≡ node_bytes c.args.checked.now.types c.args.pool.now c.args.node.now =
-        ap (λ x. front ++ x) c.pooled-back.ensures
-        ∙ c.put_node-len.ensures.bytes c.args.pool.now c.requires in
+    ≡ node_bytes c.args.checked.now.types c.args.pool.now c.args.node.now =
+    ap (λ x. front ++ x) c.pooled-back.ensures
+    ∙ c.put_node-len.ensures.bytes c.args.pool.now c.requires in
     sent_all _ _ _ front c.pooled-back.result.now _ whole c.in_ok-send.ensures.ok c.in-Ok.ensures.ok
 
 pub returns-in_err-send-clause-part : goal.returns-in_err-send-clause-part
@@ -67,4 +79,4 @@ returns-in_err-send-clause-err g c =
     let whole = c.put_node-len.ensures.bytes c.args.pool.now c.requires in
     let p = err_from_is_err_and c.from_residual.result c.from_residual.ensures.1 in
     rw (p.1, p.2) (sent_front _ _ front back _ _ whole c.in_err-send.ensures.part
-        c.in_err-send.ensures.err)
+    c.in_err-send.ensures.err)

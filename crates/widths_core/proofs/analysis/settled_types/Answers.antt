@@ -13,50 +13,50 @@ pub begin-requires : goal.begin-requires
 begin-requires c =
     let r = c.args.graph.now.types.now in
     let measured : IsMeasured r c.sizes_of.new.graph =
-        rw c.in_ok-references.ensures.ok_part at c.sizes_of.ensures.measured in
+    rw c.in_ok-references.ensures.ok_part at c.sizes_of.ensures.measured in
     let types = c.in_ok-prepare.ensures.types ∙ measured.types in
     let linked : AreTypesLinked r c.in_ok-counters.field-0.counters.items c.link_types.new.graph =
-        rw types at c.in_ok-counters.ensures.linked in
+    rw types at c.in_ok-counters.ensures.linked in
     let count : c.count.result ≡ length r = c.count.ensures ∙ ap length linked.types in
     let is = rw count at c.in_ok-settling.ensures in
     subst (λ (q : List TypeInfo). IsStart q c.link_types.new.graph
-        (state_of c.in_ok-settling.settling)) (sym linked.types)
-        (start r c.in_ok-counters.field-0.counters.items c.link_types.new.graph
-        (state_of c.in_ok-settling.settling) linked is)
+    (state_of c.in_ok-settling.settling)) (sym linked.types)
+    (start r c.in_ok-counters.field-0.counters.items c.link_types.new.graph
+    (state_of c.in_ok-settling.settling) linked is)
 
 pub settle_bad_compacts-requires-clause-bad : goal.settle_bad_compacts-requires-clause-bad
 settle_bad_compacts-requires-clause-bad c =
     let r = c.args.graph.now.types.now in
     let measured : IsMeasured r c.sizes_of.new.graph =
-        rw c.in_ok-references.ensures.ok_part at c.sizes_of.ensures.measured in
+    rw c.in_ok-references.ensures.ok_part at c.sizes_of.ensures.measured in
     let types = c.in_ok-prepare.ensures.types ∙ measured.types in
     let linked : AreTypesLinked r c.in_ok-counters.field-0.counters.items c.link_types.new.graph =
-        rw types at c.in_ok-counters.ensures.linked in
+    rw types at c.in_ok-counters.ensures.linked in
     let propagated = c.in_ok-done.ensures in
     subst (λ (q : List TypeInfo). IsBad q (state_of c.begin.new.self))
-        (sym propagated.propagated.steady.ready.types)
-        (bad c.link_types.new.graph.types.now c.link_types.new.graph c.begin.new.graph
-        (state_of c.in_ok-settling.settling) (state_of c.begin.new.self) c.in_ok-done.done
-        propagated)
+    (sym propagated.propagated.steady.ready.types)
+    (bad c.link_types.new.graph.types.now c.link_types.new.graph c.begin.new.graph
+    (state_of c.in_ok-settling.settling) (state_of c.begin.new.self) c.in_ok-done.done
+    propagated)
 
 pub returns-clause-analysed : goal.returns-clause-analysed
 returns-clause-analysed c =
     let r = c.args.graph.now.types.now in
     let measured : IsMeasured r c.sizes_of.new.graph =
-        rw c.in_ok-references.ensures.ok_part at c.sizes_of.ensures.measured in
+    rw c.in_ok-references.ensures.ok_part at c.sizes_of.ensures.measured in
     let types = c.in_ok-prepare.ensures.types ∙ measured.types in
     let linked : AreTypesLinked r c.in_ok-counters.field-0.counters.items c.link_types.new.graph =
-        rw types at c.in_ok-counters.ensures.linked in
+    rw types at c.in_ok-counters.ensures.linked in
     let propagated = c.in_ok-done.ensures in
     let ended = c.in_ok-settle_bad_compacts.ensures.propagated in
     let same : c.begin.new.graph.types.now ≡ r = propagated.propagated.steady.ready.types
-        ∙ linked.types in
+    ∙ linked.types in
     let all : PropagatesAll r c.begin.new.graph c.settle_bad_compacts.new.graph
-        (state_of c.begin.new.self) (state_of c.settle_bad_compacts.new.self)
-        c.in_ok-settle_bad_compacts.field-0 =
-        subst (λ (q : List TypeInfo). PropagatesAll q c.begin.new.graph
-        c.settle_bad_compacts.new.graph (state_of c.begin.new.self)
-        (state_of c.settle_bad_compacts.new.self) c.in_ok-settle_bad_compacts.field-0) same ended in
+    (state_of c.begin.new.self) (state_of c.settle_bad_compacts.new.self)
+    c.in_ok-settle_bad_compacts.field-0 =
+    subst (λ (q : List TypeInfo). PropagatesAll q c.begin.new.graph
+    c.settle_bad_compacts.new.graph (state_of c.begin.new.self)
+    (state_of c.settle_bad_compacts.new.self) c.in_ok-settle_bad_compacts.field-0) same ended in
     record {
       checked = types_linked_checked r c.in_ok-counters.field-0.counters.items
           c.link_types.new.graph linked;
@@ -74,29 +74,29 @@ pub returns-clause-settled : goal.returns-clause-settled
 returns-clause-settled c =
     let r = c.args.graph.now.types.now in
     let measured : IsMeasured r c.sizes_of.new.graph =
-        rw c.in_ok-references.ensures.ok_part at c.sizes_of.ensures.measured in
+    rw c.in_ok-references.ensures.ok_part at c.sizes_of.ensures.measured in
     let types = c.in_ok-prepare.ensures.types ∙ measured.types in
     let linked : AreTypesLinked r c.in_ok-counters.field-0.counters.items c.link_types.new.graph =
-        rw types at c.in_ok-counters.ensures.linked in
+    rw types at c.in_ok-counters.ensures.linked in
     let drafts : AreDrafts r (refs c.link_types.new.graph) c.in_ok-counters.field-0.rows
-        c.in_ok-counters.field-0.drafts.items = rw types at c.in_ok-counters.ensures.drafts in
+    c.in_ok-counters.field-0.drafts.items = rw types at c.in_ok-counters.ensures.drafts in
     let ended = c.in_ok-settle_bad_compacts.ensures.propagated in
     let propagated = c.in_ok-done.ensures in
     let compacts = c.in_ok-settle_bad_compacts.ensures.compacts in
     let same : c.begin.new.graph.types.now ≡ r = propagated.propagated.steady.ready.types
-        ∙ linked.types in
+    ∙ linked.types in
     let all : PropagatesAll r c.begin.new.graph c.settle_bad_compacts.new.graph
-        (state_of c.begin.new.self) (state_of c.settle_bad_compacts.new.self)
-        c.in_ok-settle_bad_compacts.field-0 =
-        subst (λ (q : List TypeInfo). PropagatesAll q c.begin.new.graph
-        c.settle_bad_compacts.new.graph (state_of c.begin.new.self)
-        (state_of c.settle_bad_compacts.new.self) c.in_ok-settle_bad_compacts.field-0) same ended in
+    (state_of c.begin.new.self) (state_of c.settle_bad_compacts.new.self)
+    c.in_ok-settle_bad_compacts.field-0 =
+    subst (λ (q : List TypeInfo). PropagatesAll q c.begin.new.graph
+    c.settle_bad_compacts.new.graph (state_of c.begin.new.self)
+    (state_of c.settle_bad_compacts.new.self) c.in_ok-settle_bad_compacts.field-0) same ended in
     let settled : AreCompactsSettled r (state_of c.settle_bad_compacts.new.self) =
-        subst (λ (q : List TypeInfo). AreCompactsSettled q
-        (state_of c.settle_bad_compacts.new.self)) same compacts in
+    subst (λ (q : List TypeInfo). AreCompactsSettled q
+    (state_of c.settle_bad_compacts.new.self)) same compacts in
     let tables = classes_told r c.begin.new.graph c.settle_bad_compacts.new.graph
-        (state_of c.begin.new.self) (state_of c.settle_bad_compacts.new.self)
-        c.in_ok-settle_bad_compacts.field-0 all settled in
+    (state_of c.begin.new.self) (state_of c.settle_bad_compacts.new.self)
+    c.in_ok-settle_bad_compacts.field-0 all settled in
     record {
       classes_are = tables.0;
       targets_are = tables.1;

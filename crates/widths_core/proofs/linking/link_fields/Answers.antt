@@ -12,9 +12,9 @@ fields-preserved c =
     let i = c.fields.position in
     let xs = c.args.fields.now.fields.now in
     parts_more c.args.graph.now c.fields.graph c.add.new.self c.in_ok-counter.counter i
-        (field_types xs) (id_of c.place.result)
-        (omega (arith, length-map xs (λ x. x.ty.0), c.fields-test.true, c.len-position-end.ensures))
-        c.place.ensures c.fields.invariant c.in_ok-add.ensures.reads
+    (field_types xs) (id_of c.place.result)
+    (omega (arith, length-map xs (λ x. x.ty.0), c.fields-test.true, c.len-position-end.ensures))
+    c.place.ensures c.fields.invariant c.in_ok-add.ensures.reads
 
 pub returns-in_err-add-clause-stops : goal.returns-in_err-add-clause-stops
 returns-in_err-add-clause-stops c =
@@ -22,9 +22,9 @@ returns-in_err-add-clause-stops c =
     let xs = c.args.fields.now.fields.now in
     let o = c.in_err-add.field-0.0 in
     let stops = stops_parts c.args.graph.now c.fields.graph c.add.new.self c.in_ok-counter.counter i
-        (field_types xs) (id_of c.place.result) o
-        (omega (arith, length-map xs (λ x. x.ty.0), c.fields-test.true, c.len-position-end.ensures))
-        c.place.ensures c.fields.invariant c.in_err-add.ensures.stops in
+    (field_types xs) (id_of c.place.result) o
+    (omega (arith, length-map xs (λ x. x.ty.0), c.fields-test.true, c.len-position-end.ensures))
+    c.place.ensures c.fields.invariant c.in_err-add.ensures.stops in
     stop_kept c.from_residual-in_err-add.result o
-        (StopsLinking (field_types xs ++ []) c.args.graph.now c.add.new.self)
-        c.from_residual-in_err-add.ensures.1 stops
+    (StopsLinking (field_types xs ++ []) c.args.graph.now c.add.new.self)
+    c.from_residual-in_err-add.ensures.1 stops

@@ -9,7 +9,7 @@ types-preserved c =
     let i = c.types.position in
     let lt : i < length xs = search rules in
     let pushed : c.push.new.self.items ≡ c.types.steps.items ++ c.step_by.result ∷ [] =
-        search rules in
+    search rules in
     rw pushed (steps_more (known_class c.args.classes.now) (known_target c.args.targets.now) xs i
-        c.types.steps.items _ c.step_by.result (get_at xs i _ lt)
-        (rw c.known_class-class.ensures at c.step_by.ensures) c.types.invariant)
+    c.types.steps.items _ c.step_by.result (get_at xs i _ lt)
+    (rw c.known_class-class.ensures at c.step_by.ensures) c.types.invariant)

@@ -69,15 +69,15 @@ module _ {M : Type 1} {𝓤 : Ura M} (𝓛 : Logic 𝓤) (𝓜 : Model 𝓤 𝓛
     walks : Goes passed
     walks =
         qed 𝓛 ((‵ ftrue ⊛ ‵ args) ∷ raw asked ∷ []) ∵ keep ! [] $ enter ! 𝓣.C 𝓣.Λ function [] _ $
-            alloc_all ! (λ l. pass_all ! refl tt $
+        alloc_all ! (λ l. pass_all ! refl tt $
         sets ! (agg ! (no_more !)) refl (tt, tt) $ sets !
-            (agg ! (and_then ! (get ! refl) (no_more !))) refl (tt, (tt, tt)) $
+        (agg ! (and_then ! (get ! refl) (no_more !))) refl (tt, (tt, tt)) $
         returns ! (look_at ! 0 refl) $ free_all ! refl $ suffices ! _
-            (ends_at 𝓛 ended stayed held (At passed) token record { marker = record {}; so_far = 0 }
-            tt tt) $
+        (ends_at 𝓛 ended stayed held (At passed) token record { marker = record {}; so_far = 0 }
+        tt tt) $
         use0 𝓛 (‵ ((Mark (count.the_type).name [] unit).own_val (tt, tt) (token ∷ [])))
-            (made (count.the_type).name [] unit 𝓛) $ nothing ! $ move ! (1 ∷ 0 ∷ []) $ fjoin ! $
-            nothing ! $ join ! $ nothing ! $ join ! $ frame ! $ tells_last ! refl)
+        (made (count.the_type).name [] unit 𝓛) $ nothing ! $ move ! (1 ∷ 0 ∷ []) $ fjoin ! $
+        nothing ! $ join ! $ nothing ! $ join ! $ frame ! $ tells_last ! refl)
 
   meets : Meets 𝓛 ended.signature (WpFn 𝓤 H 𝓣.C 𝓣.Λ function) (closing 𝓛 ended held)
   unfolding tables_of contract.CodeStep.c_Tables
@@ -89,5 +89,5 @@ module _ {M : Type 1} {𝓤 : Ura M} (𝓛 : Logic 𝓤) (𝓜 : Model 𝓤 𝓛
 pub new_spec : {M : Type 1} → stated.statement M
 new_spec 𝓤 𝓛 𝓜 𝓡 wired = let 𝓣' = tables 𝓤 𝓛.H 𝓜 𝓡 𝓡.env in
     entered 𝓤 𝓛.H (triple_of 𝓛 ended.signature (closing 𝓛 ended (held 𝓛 𝓜 𝓡))) 𝓣'.C 𝓣'.Λ #self
-        (function 𝓛 𝓜 𝓡)
+    (function 𝓛 𝓜 𝓡)
     (code.unfolded 𝓤 𝓛.H 𝓜 𝓡 wired) (meets 𝓛 𝓜 𝓡)

@@ -14,10 +14,7 @@ use types.Logic.{Logic, sem}
 use contract.Monad.{fact_use}
 use contract.Running.{Running, MachineTables, tables, tables_of}
 use sound.WpLaws.{WpFn-mono}
-use types.Kit.{
-    ‵, raw, ◌⊛◌, ◌$◌, ◌∵◌, !, qed, move, keep, split, join, fsplit, fsplit3, fjoin, fjoin3,
-    suffices, frame, feq_i
-}
+use types.Kit.{‵, raw, ◌⊛◌, ◌$◌, ◌∵◌, !, qed, move, keep, split, join, fsplit, fsplit3, fjoin, fjoin3, suffices, frame, feq_i}
 use types.Run.{returns, enter, unit_lit, of_opd}
 use types.ByLocal.{alloc_all, pass_all, free_all, look_at, sets}
 use Prim.Native.Nat.{ℕ, ◌<◌, ◌^◌}
@@ -29,9 +26,7 @@ use denote.Triple.Clauses.{Clauses, closing}
 use denote.Triple.Entry.{on_entry, alive}
 use denote.Triple.Spec.{Meets, triple_of}
 use denote.Triple.Table.{entered}
-use denote.Triple.Walked.{
-    Stays, stay_dropped, stay_ref, walk_of, ends_at, Goes-dropped, Goes-ref, walk_Meets
-}
+use denote.Triple.Walked.{Stays, stay_dropped, stay_ref, walk_of, ends_at, Goes-dropped, Goes-ref, walk_Meets}
 use contract.CodeStep
 use Rattle.count_core.specs.contracts.log.Log as log
 use Rattle.count_core.proofs.Tokens.{tells_last}
@@ -91,38 +86,40 @@ module _ {M : Type 1} {𝓤 : Ura M} (𝓛 : Logic 𝓤) (𝓜 : Model 𝓤 𝓛
     walks : n < 2 ^ 32 → Goes passed
     walks fits =
         let r = z.0.3.0 in let a' : A.Denot =
-            record { marker = a.marker; entries = n ∷ a.entries } in
+        record { marker = a.marker; entries = n ∷ a.entries } in
         qed 𝓛 (((‵ (flft z.0.0.0 z.0.1.0) ⊛ ‵ ftrue) ⊛ ‵ args) ∷ raw asked ∷ []) ∵ split ! $ split !
-            $ move ! (2 ∷ []) $ fsplit ! $ fsplit3 ! $ keep ! (1 ∷ 2 ∷ 4 ∷ 5 ∷ []) $
+        $ move ! (2 ∷ []) $ fsplit ! $ fsplit3 ! $ keep ! (1 ∷ 2 ∷ 4 ∷ 5 ∷ []) $
         enter ! 𝓣.C 𝓣.Λ function (u ∷ vint w32 n ∷ []) _ $ alloc_all !
-            (λ l. pass_all ! refl ((tt, tt), ((tt, record { fits = fits }), tt)) $ opens ! tt A
-            r.ref_ptr.0 r.ref_ptr.1 (λ cs.
+        (λ l. pass_all ! refl ((tt, tt), ((tt, record { fits = fits }), tt)) $ opens ! tt A
+        r.ref_ptr.0 r.ref_ptr.1 (λ cs.
         closes ! tt A a' cs r.ref_ptr.0 r.ref_ptr.1 $ sets ! (of_opd ! (unit_lit !)) refl (tt, tt) $
-            returns ! (look_at ! 0 refl) $ free_all ! refl $ suffices ! _
-            (ends_at 𝓛 ended stayed held (At passed) vunit tt (a', (tt, tt)) (tt, (tt, tt))) $
+        returns ! (look_at ! 0 refl) $ free_all ! refl $ suffices ! _
+        (ends_at 𝓛 ended stayed held (At passed) vunit tt (a', (tt, tt)) (tt, (tt, tt))) $
         feq_i ! (List Val) (u ∷ []) (u ∷ []) refl $ fjoin3 ! $ nothing ! $ nothing ! $ fjoin ! $
-            move ! (1 ∷ 0 ∷ []) $ fjoin ! $ feq_i ! (List Val) (vunit ∷ []) (vunit ∷ []) refl $ move
-            ! (1 ∷ 0 ∷ []) $ join ! $
+        move ! (1 ∷ 0 ∷ []) $ fjoin ! $ feq_i ! (List Val) (vunit ∷ []) (vunit ∷ []) refl $ move
+        ! (1 ∷ 0 ∷ []) $ join ! $
         move ! (1 ∷ 2 ∷ []) $ join ! $ join ! $ frame ! $ tells_last ! refl))
 
   meets : Meets 𝓛 ended.signature (WpFn 𝓤 H 𝓣.C 𝓣.Λ function) (closing 𝓛 ended held)
   unfolding tables_of contract.CodeStep.c_Tables
   meets =
-      walk_Meets 𝓛 ended stayed (Goes-ref 𝓛 1 0 tt (plain (λ _. A)),
-          (Goes-dropped 𝓛 1 (plain (λ _. u32)) yes (λ κs x f. refl), tt)) held
+      walk_Meets 𝓛 ended stayed (
+        Goes-ref 𝓛 1 0 tt (plain (λ _. A)),
+        (Goes-dropped 𝓛 1 (plain (λ _. u32)) yes (λ κs x f. refl), tt),
+      ) held
       (WpFn 𝓤 H 𝓣.C 𝓣.Λ function) (WpFn-mono 𝓤 H 𝓛.laws (tables_of 𝓤 H 𝓜 𝓣) function)
       (λ z. let a = z.0.3 in let vss = z.0.4 in let Rs : List RattleType =
-          types_at ended.signature.params z.0.0 in let On : SProp 𝓤 =
-          on_entry 𝓛 ended.signature z.0.0 z.0.1 a vss in
+      types_at ended.signature.params z.0.0 in let On : SProp 𝓤 =
+      on_entry 𝓛 ended.signature z.0.0 z.0.1 a vss in
       fact_use 𝓤 (Are Rs (Ises Rs) a vss)
-          (via 𝓤 (sem 𝓛 (owns Rs a vss))
-          (via 𝓤 On (fst∗ 𝓤 On (asked z))
-          (snd∗ 𝓤 (alive 𝓛 ended.signature z.0.0 z.0.1) (sem 𝓛 (owns Rs a vss))))
-          (owns_show 𝓛 Rs (Ises Rs) (showss 𝓛 Rs) a vss)) (λ are.
+      (via 𝓤 (sem 𝓛 (owns Rs a vss))
+      (via 𝓤 On (fst∗ 𝓤 On (asked z))
+      (snd∗ 𝓤 (alive 𝓛 ended.signature z.0.0 z.0.1) (sem 𝓛 (owns Rs a vss))))
+      (owns_show 𝓛 Rs (Ises Rs) (showss 𝓛 Rs) a vss)) (λ are.
       subst (Goes z) (λ i. (sym are.0.0 i, (sym are.1.0.0 i, tt))) (walks z are.1.0.1)))
 
 pub add_spec : {M : Type 1} → stated.statement M
 add_spec 𝓤 𝓛 𝓜 𝓡 wired = let 𝓣' = tables 𝓤 𝓛.H 𝓜 𝓡 𝓡.env in
     entered 𝓤 𝓛.H (triple_of 𝓛 ended.signature (closing 𝓛 ended (held 𝓛 𝓜 𝓡))) 𝓣'.C 𝓣'.Λ #self
-        (function 𝓛 𝓜 𝓡)
+    (function 𝓛 𝓜 𝓡)
     (code.unfolded 𝓤 𝓛.H 𝓜 𝓡 wired) (meets 𝓛 𝓜 𝓡)

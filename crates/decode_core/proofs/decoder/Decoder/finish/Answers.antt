@@ -11,26 +11,26 @@ pub returns-in_err-feed-clause-finishes : goal.returns-in_err-feed-clause-finish
 returns-in_err-feed-clause-finishes g c = λ b led.
     let p = err_from_is_err_and c.from_residual.result c.from_residual.ensures.1 in
     rw (p.1, p.2) (ends_refused c.args.self c.feed.new.self b c.in_err-feed.field-0.0
-        c.in_err-feed.ensures.job (c.in_err-feed.ensures.answers b led).0)
+    c.in_err-feed.ensures.job (c.in_err-feed.ensures.answers b led).0)
 
 pub returns-in-More-clause-finishes : goal.returns-in-More-clause-finishes
 returns-in-More-clause-finishes g c = λ b led.
     let answers = subst (λ (p : Progress). AnswersPiece c.args.self c.feed.new.self (b ++ [])
-        (Ok p)) c.in-More.is (c.in_ok-feed.ensures.answers b led).0 in
+    (Ok p)) c.in-More.is (c.in_ok-feed.ensures.answers b led).0 in
     ends_short c.args.self c.feed.new.self b c.decoder.inside.taken c.in_ok-feed.ensures.job
-        (ap (λ (d : Decoding). d.taken) c.decoder.view_is) answers
+    (ap (λ (d : Decoding). d.taken) c.decoder.view_is) answers
 
 pub returns-clause-finishes : goal.returns-clause-finishes
 returns-clause-finishes g c = λ b led.
     let run = sym (ap (λ (d : Decoding). d.run) c.decoder.view_is) ∙ c.in_ok-run.was in
     ends_by c.args.self c.feed.new.self b c.in_ok-feed.field-0 c.in_ok-run.field-0 c.in-Some.value
-        c.in_ok-feed.ensures.job c.in_default.not-More run (sym c.in-Some.is ∙ c.into_value.ensures)
-        (c.in_ok-feed.ensures.answers b led)
+    c.in_ok-feed.ensures.job c.in_default.not-More run (sym c.in-Some.is ∙ c.into_value.ensures)
+    (c.in_ok-feed.ensures.answers b led)
 
 pub returns-clause-small : goal.returns-clause-small
 returns-clause-small g c = λ b led.
     let run = sym (ap (λ (d : Decoding). d.run) c.decoder.view_is) ∙ c.in_ok-run.was in
     value_small c.args.self.job b c.in-Some.value
-        (ends_by c.args.self c.feed.new.self b c.in_ok-feed.field-0 c.in_ok-run.field-0
-        c.in-Some.value c.in_ok-feed.ensures.job c.in_default.not-More run (sym c.in-Some.is
-        ∙ c.into_value.ensures) (c.in_ok-feed.ensures.answers b led))
+    (ends_by c.args.self c.feed.new.self b c.in_ok-feed.field-0 c.in_ok-run.field-0
+    c.in-Some.value c.in_ok-feed.ensures.job c.in_default.not-More run (sym c.in-Some.is
+    ∙ c.into_value.ensures) (c.in_ok-feed.ensures.answers b led))

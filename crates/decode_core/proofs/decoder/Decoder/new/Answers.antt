@@ -10,30 +10,58 @@ use Rattle.decode_core.proofs.decoder.Decoder.new.Goals as goal
 
 pub invariant_of-result : goal.invariant_of-result
 invariant_of-result g c =
-    let j : Job = record { registry = c.args.checked.now.types; ty = c.args.root.0; depth =
-        c.args.limits.depth; bytes = c.args.limits.bytes } in
+    let j : Job = record {
+      registry = c.args.checked.now.types;
+      ty = c.args.root.0;
+      depth =
+          c.args.limits.depth;
+      bytes = c.args.limits.bytes;
+    } in
     let first = opens_first (built.opening_fault c.args.checked.now.types c.args.root.0
-        c.args.limits.depth) (record { ty = c.args.root.0; walk =
-        start_of c.args.checked.now.types c.args.root.0 c.args.limits.depth; entries = []; text =
-        None; turns = 0 }) c.in-Ok.builder c.in-Ok.ensures in
+    c.args.limits.depth) (record {
+      ty = c.args.root.0;
+      walk =
+          start_of c.args.checked.now.types c.args.root.0 c.args.limits.depth;
+      entries = [];
+      text =
+          None;
+      turns = 0;
+    }) c.in-Ok.builder c.in-Ok.ensures in
     let going = first_going j c.new-in-Ok.result c.in-Ok.builder c.new-in-Ok.ensures first in
     let nodes : length c.new-in-Ok.result.built.entries ≡ 0 =
-        ap (λ (r : Running). length r.built.entries) c.new-in-Ok.ensures
-        ∙ ap (λ (b : Built). length b.entries) first in
+    ap (λ (r : Running). length r.built.entries) c.new-in-Ok.ensures
+    ∙ ap (λ (b : Built). length b.entries) first in
     let closed : c.new-in-Ok.result.built.turns ≡ 0 =
-        ap (λ (r : Running). r.built.turns) c.new-in-Ok.ensures
-        ∙ ap (λ (b : Built). b.turns) first in
-    record { limit = omega (arith, c.if-limits-gt-MAX_BYTES.false); bytes = []; led = inl going;
-        counted = (omega (arith, nodes, closed, c.new-in-Ok-2.ensures, c.new-in-Ok-4.ensures),
-        omega (arith, nodes, closed, c.new-in-Ok-2.ensures, c.new-in-Ok-4.ensures)) }
+    ap (λ (r : Running). r.built.turns) c.new-in-Ok.ensures
+    ∙ ap (λ (b : Built). b.turns) first in
+    record {
+      limit = omega (arith, c.if-limits-gt-MAX_BYTES.false);
+      bytes = [];
+      led = inl going;
+      counted = (
+        omega (arith, nodes, closed, c.new-in-Ok-2.ensures, c.new-in-Ok-4.ensures),
+        omega (arith, nodes, closed, c.new-in-Ok-2.ensures, c.new-in-Ok-4.ensures),
+      );
+    }
 
 pub returns-in-Ok-clause-led : goal.returns-in-Ok-clause-led
 returns-in-Ok-clause-led g c =
-    let j : Job = record { registry = c.args.checked.now.types; ty = c.args.root.0; depth =
-        c.args.limits.depth; bytes = c.args.limits.bytes } in
+    let j : Job = record {
+      registry = c.args.checked.now.types;
+      ty = c.args.root.0;
+      depth =
+          c.args.limits.depth;
+      bytes = c.args.limits.bytes;
+    } in
     let first = opens_first (built.opening_fault c.args.checked.now.types c.args.root.0
-        c.args.limits.depth) (record { ty = c.args.root.0; walk =
-        start_of c.args.checked.now.types c.args.root.0 c.args.limits.depth; entries = []; text =
-        None; turns = 0 }) c.in-Ok.builder c.in-Ok.ensures in
+    c.args.limits.depth) (record {
+      ty = c.args.root.0;
+      walk =
+          start_of c.args.checked.now.types c.args.root.0 c.args.limits.depth;
+      entries = [];
+      text =
+          None;
+      turns = 0;
+    }) c.in-Ok.builder c.in-Ok.ensures in
     let going = first_going j c.new-in-Ok.result c.in-Ok.builder c.new-in-Ok.ensures first in
     inl going

@@ -11,13 +11,23 @@ use Rattle.decode_core.proofs.decoder.Decoder.text_bytes.Goals as goal
 pub returns-in-Ok-clause-bound : goal.returns-in-Ok-clause-bound
 returns-in-Ok-clause-bound g c =
     let d = c.self.inside in
-    let j : Job = record { registry = d.checked.now.types; ty = d.root.0; depth = d.limits.depth;
-        bytes = d.limits.bytes } in
+    let j : Job = record {
+      registry = d.checked.now.types;
+      ty = d.root.0;
+      depth = d.limits.depth;
+      bytes = d.limits.bytes;
+    } in
     let small = subst (λ (r : Result Running DecodeFault). IsSmall
-        (record { job = j; taken = d.taken; run = r; turns =
-        d.turns.so_far + closing_turns r d.closings.so_far; calls = d.calls.so_far })) c.in-Ok.is
-        (led_small j c.self.invariant.bytes d.taken d.run
-        (d.turns.so_far + closing_turns d.run d.closings.so_far) d.calls.so_far c.self.invariant.led
-        c.self.invariant.counted) in
+    (record {
+      job = j;
+      taken = d.taken;
+      run = r;
+      turns =
+          d.turns.so_far + closing_turns r d.closings.so_far;
+      calls = d.calls.so_far;
+    })) c.in-Ok.is
+    (led_small j c.self.invariant.bytes d.taken d.run
+    (d.turns.so_far + closing_turns d.run d.closings.so_far) d.calls.so_far c.self.invariant.led
+    c.self.invariant.counted) in
     let few : c.text_bytes.result ≤ d.taken = omega (arith, small.texts, c.text_bytes.ensures) in
     subst (λ (x : Decoding). c.text_bytes.result ≤ x.taken) c.self.view_is few

@@ -12,74 +12,74 @@ pub take_node-taken-requires-clause-whole : goal.take_node-taken-requires-clause
 take_node-taken-requires-clause-whole g c =
     let k = c.self.inside.carry in
     let needed : IsNeeded c.args.form c.args.len (k ++ c.args.piece.now) =
-        subst (λ (s : Running). IsNeeded c.args.form c.args.len (s.carry ++ c.args.piece.now))
-        (sym c.self.view_is) c.requires.len in
+    subst (λ (s : Running). IsNeeded c.args.form c.args.len (s.carry ++ c.args.piece.now))
+    (sym c.self.view_is) c.requires.len in
     let short : length k < c.args.len =
-        subst (λ (s : Running). length s.carry < c.args.len) (sym c.self.view_is)
-        c.requires.short in
+    subst (λ (s : Running). length s.carry < c.args.len) (sym c.self.view_is)
+    c.requires.short in
     let held_is : length c.as_slice-held.result.now ≡ length k =
-        ap length c.as_slice-held.ensures.bytes in
+    ap length c.as_slice-held.ensures.bytes in
     let own_is : c.as_slice.result.now ≡ k ++ take c.fill-count.result c.args.piece.now =
-        c.as_slice.ensures.bytes ∙ c.fill-count.ensures.held in
+    c.as_slice.ensures.bytes ∙ c.fill-count.ensures.held in
     let enough : c.args.len ≤ length k + c.fill-count.result =
-        subst (λ (h : ℕ). c.args.len ≤ h + c.fill-count.result) held_is c.if-held-count.false in
+    subst (λ (h : ℕ). c.args.len ≤ h + c.fill-count.result) held_is c.if-held-count.false in
     cut_own c.args.form k c.args.piece.now c.as_slice.result.now c.args.len c.fill-count.result
-        needed own_is short c.fill-count.ensures.count enough
+    needed own_is short c.fill-count.ensures.count enough
 
 pub invariant_of-self-2 : goal.invariant_of-self-2
 invariant_of-self-2 g c =
     let b = c.self.inside.builder in
     let wants : next_of b.walk ≡ next.Wants c.args.form =
-        subst (λ (s : Running). next_of s.built.walk ≡ next.Wants c.args.form) (sym c.self.view_is)
-        c.requires.next in
+    subst (λ (s : Running). next_of s.built.walk ≡ next.Wants c.args.form) (sym c.self.view_is)
+    c.requires.next in
     let closed : b.text ≡ None =
-        subst (λ (s : Running). s.built.text ≡ None) (sym c.self.view_is) c.requires.closed in
+    subst (λ (s : Running). s.built.text ≡ None) (sym c.self.view_is) c.requires.closed in
     let k = c.self.inside.carry in
     let needed : IsNeeded c.args.form c.args.len (k ++ c.args.piece.now) =
-        subst (λ (s : Running). IsNeeded c.args.form c.args.len (s.carry ++ c.args.piece.now))
-        (sym c.self.view_is) c.requires.len in
+    subst (λ (s : Running). IsNeeded c.args.form c.args.len (s.carry ++ c.args.piece.now))
+    (sym c.self.view_is) c.requires.len in
     let short : length k < c.args.len =
-        subst (λ (s : Running). length s.carry < c.args.len) (sym c.self.view_is)
-        c.requires.short in
+    subst (λ (s : Running). length s.carry < c.args.len) (sym c.self.view_is)
+    c.requires.short in
     let held_is : length c.as_slice-held.result.now ≡ length k =
-        ap length c.as_slice-held.ensures.bytes in
+    ap length c.as_slice-held.ensures.bytes in
     let own_is : c.as_slice.result.now ≡ k ++ take c.fill-count.result c.args.piece.now =
-        c.as_slice.ensures.bytes ∙ c.fill-count.ensures.held in
+    c.as_slice.ensures.bytes ∙ c.fill-count.ensures.held in
     let enough : c.args.len ≤ length k + c.fill-count.result =
-        subst (λ (h : ℕ). c.args.len ≤ h + c.fill-count.result) held_is c.if-held-count.false in
+    subst (λ (h : ℕ). c.args.len ≤ h + c.fill-count.result) held_is c.if-held-count.false in
     let whole = cut_own c.args.form k c.args.piece.now c.as_slice.result.now c.args.len
-        c.fill-count.result needed own_is short c.fill-count.ensures.count enough in
+    c.fill-count.result needed own_is short c.fill-count.ensures.count enough in
     subst (λ (l : List ℕ). IsRunning c.take_node-taken.new.builder l c.take_node-taken.new.text)
-        (sym c.clear.ensures)
+    (sym c.clear.ensures)
     (node_running c.args.form b c.take_node-taken.new.builder c.self.inside.carry c.self.inside.text
-        c.take_node-taken.new.text c.as_slice.result.now c.take_node-taken.result c.self.invariant
-        wants closed whole c.take_node-taken.ensures)
+    c.take_node-taken.new.text c.as_slice.result.now c.take_node-taken.result c.self.invariant
+    wants closed whole c.take_node-taken.ensures)
 
 pub returns-clause-tells : goal.returns-clause-tells
 returns-clause-tells g c =
     let b = c.self.inside.builder in
     let wants : next_of b.walk ≡ next.Wants c.args.form =
-        subst (λ (s : Running). next_of s.built.walk ≡ next.Wants c.args.form) (sym c.self.view_is)
-        c.requires.next in
+    subst (λ (s : Running). next_of s.built.walk ≡ next.Wants c.args.form) (sym c.self.view_is)
+    c.requires.next in
     let closed : b.text ≡ None =
-        subst (λ (s : Running). s.built.text ≡ None) (sym c.self.view_is) c.requires.closed in
+    subst (λ (s : Running). s.built.text ≡ None) (sym c.self.view_is) c.requires.closed in
     let k = c.self.inside.carry in
     let needed : IsNeeded c.args.form c.args.len (k ++ c.args.piece.now) =
-        subst (λ (s : Running). IsNeeded c.args.form c.args.len (s.carry ++ c.args.piece.now))
-        (sym c.self.view_is) c.requires.len in
+    subst (λ (s : Running). IsNeeded c.args.form c.args.len (s.carry ++ c.args.piece.now))
+    (sym c.self.view_is) c.requires.len in
     let short : length k < c.args.len =
-        subst (λ (s : Running). length s.carry < c.args.len) (sym c.self.view_is)
-        c.requires.short in
+    subst (λ (s : Running). length s.carry < c.args.len) (sym c.self.view_is)
+    c.requires.short in
     let held_is : length c.as_slice-held.result.now ≡ length k =
-        ap length c.as_slice-held.ensures.bytes in
+    ap length c.as_slice-held.ensures.bytes in
     let own_is : c.as_slice.result.now ≡ k ++ take c.fill-count.result c.args.piece.now =
-        c.as_slice.ensures.bytes ∙ c.fill-count.ensures.held in
+    c.as_slice.ensures.bytes ∙ c.fill-count.ensures.held in
     let enough : c.args.len ≤ length k + c.fill-count.result =
-        subst (λ (h : ℕ). c.args.len ≤ h + c.fill-count.result) held_is c.if-held-count.false in
+    subst (λ (h : ℕ). c.args.len ≤ h + c.fill-count.result) held_is c.if-held-count.false in
     subst (λ (s : Running). StepTells s (of_fields c.take_node-taken.new.builder c.clear.new.self)
-        c.args.piece.now c.node_turn.result) c.self.view_is
+    c.args.piece.now c.node_turn.result) c.self.view_is
     (cut_tells c.args.form b c.take_node-taken.new.builder k c.clear.new.self c.args.piece.now
-        c.as_slice.result.now c.take_node-taken.new.text c.take_node-taken.result c.node_turn.result
-        (length c.as_slice-held.result.now) c.fill-count.result c.args.len wants c.requires.some
-        closed needed own_is short c.fill-count.ensures.count enough held_is c.clear.ensures
-        c.take_node-taken.ensures c.node_turn.ensures)
+    c.as_slice.result.now c.take_node-taken.new.text c.take_node-taken.result c.node_turn.result
+    (length c.as_slice-held.result.now) c.fill-count.result c.args.len wants c.requires.some
+    closed needed own_is short c.fill-count.ensures.count enough held_is c.clear.ensures
+    c.take_node-taken.ensures c.node_turn.ensures)

@@ -10,22 +10,22 @@ use Rattle.decode_core.proofs.run.Run.own_turn.Goals as goal
 pub returns-then-is_empty-clause-tells : goal.returns-then-is_empty-clause-tells
 returns-then-is_empty-clause-tells g c =
     let more = wants_more c.args.self.now.built c.args.self.now.carry c.args.form c.requires.carried
-        c.requires.next c.requires.some c.requires.closed in
+    c.requires.next c.requires.some c.requires.closed in
     (refl, (none_of c.args.piece.now c.if-is_empty.ensures, more.1))
 
 pub whole_turn-requires-clause-whole : goal.whole_turn-requires-clause-whole
 whole_turn-requires-clause-whole g c =
     let k = c.self.inside.carry in
     let none : k ≡ [] = sym c.as_slice.ensures.bytes
-        ∙ none_of c.as_slice.result.now c.if-is_empty-2.ensures in
+    ∙ none_of c.as_slice.result.now c.if-is_empty-2.ensures in
     let first : IsFirst c.first_byte.result (k ++ c.args.piece.now) =
-        subst (λ (s : Running). IsFirst c.first_byte.result (s.carry ++ c.args.piece.now))
-        (sym c.self.view_is) c.first_byte.ensures in
+    subst (λ (s : Running). IsFirst c.first_byte.result (s.carry ++ c.args.piece.now))
+    (sym c.self.view_is) c.first_byte.ensures in
     whole_own c.args.form k c.args.piece.now c.need-len.result c.first_byte.result none first
-        c.need-len.ensures.exact c.need-len.ensures.some c.if-len-piece.true
+    c.need-len.ensures.exact c.need-len.ensures.some c.if-len-piece.true
 
 pub returns-then-len-piece-clause-tells : goal.returns-then-len-piece-clause-tells
 returns-then-len-piece-clause-tells g c =
     subst (λ (l : List ℕ). StepTells c.args.self.now c.whole_turn.new.self l c.whole_turn.result)
-        (take-append-drop c.need-len.result c.args.piece.now)
-        (c.whole_turn.ensures.tells (drop c.need-len.result c.args.piece.now))
+    (take-append-drop c.need-len.result c.args.piece.now)
+    (c.whole_turn.ensures.tells (drop c.need-len.result c.args.piece.now))

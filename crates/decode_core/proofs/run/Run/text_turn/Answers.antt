@@ -4,10 +4,14 @@ use Rattle.decode_core.proofs.steps.TextTurns.{piece_wants, text_waits}
 use Rattle.decode_core.proofs.run.Run.text_turn.Goals as goal
 
 pub returns-then-is_empty-clause-tells : goal.returns-then-is_empty-clause-tells
-returns-then-is_empty-clause-tells g c =
-    (refl, (none_of c.args.piece.now c.if-is_empty.ensures,
+returns-then-is_empty-clause-tells g c = (
+  refl,
+  (
+    none_of c.args.piece.now c.if-is_empty.ensures,
     text_waits c.args.self.now.built c.args.self.now.carry c.args.text c.requires.next
-    c.requires.open c.if-text-eq0.false))
+        c.requires.open c.if-text-eq0.false,
+  ),
+)
 
 pub returns-in-Err-OutOfMemory-clause-tells : goal.returns-in-Err-OutOfMemory-clause-tells
 returns-in-Err-OutOfMemory-clause-tells g c =
@@ -17,4 +21,4 @@ returns-in-Err-OutOfMemory-clause-tells g c =
     let missing = some_missing c.args.text.missing c.if-text-eq0.false in
     let some : 1 ≤ c.min-count.result = omega (arith, c.min-count.ensures, bytes, missing) in
     piece_wants c.args.self.now.built c.args.self.now.carry c.args.text c.args.piece.now
-        c.min-count.result c.requires.next c.requires.open few there some
+    c.min-count.result c.requires.next c.requires.open few there some

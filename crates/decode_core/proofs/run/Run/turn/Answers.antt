@@ -14,21 +14,23 @@ use Rattle.decode_core.proofs.run.Run.turn.Goals as goal
 pub returns-in-Finished-clause-tells : goal.returns-in-Finished-clause-tells
 returns-in-Finished-clause-tells g c =
     let is : next_of c.self.inside.builder.walk ≡ next.Finished =
-        sym (ap next_of c.walk.ensures.same) ∙ sym c.in-Finished.ensures in
-    (refl, subst (λ (s : Running). EndsTurns s c.args.piece.now stop.Finished) c.self.view_is
-        (finished_stops c.self.inside.builder c.self.inside.carry c.self.inside.text
-        c.args.piece.now c.self.invariant is))
+    sym (ap next_of c.walk.ensures.same) ∙ sym c.in-Finished.ensures in (
+      refl,
+      subst (λ (s : Running). EndsTurns s c.args.piece.now stop.Finished) c.self.view_is
+          (finished_stops c.self.inside.builder c.self.inside.carry c.self.inside.text
+          c.args.piece.now c.self.invariant is),
+    )
 
 pub returns-in-Stop-clause-tells : goal.returns-in-Stop-clause-tells
 returns-in-Stop-clause-tells g c =
     let is : next_of c.self.inside.builder.walk ≡ next.Stop c.in-Stop.reason =
-        sym (ap next_of c.walk.ensures.same) ∙ sym c.in-Stop.ensures in
+    sym (ap next_of c.walk.ensures.same) ∙ sym c.in-Stop.ensures in
     subst (λ (told_reason : DecodeReason). EndsTurns c.args.self.now c.args.piece.now
-        (stop.Refused 0 told_reason 0 0)) (sym c.into.ensures)
+    (stop.Refused 0 told_reason 0 0)) (sym c.into.ensures)
     (subst (λ (s : Running). EndsTurns s c.args.piece.now
-        (stop.Refused 0 (reason_of (stop_refusal c.in-Stop.reason)) 0 0)) c.self.view_is
-        (stop_stops c.self.inside.builder c.self.inside.carry c.self.inside.text c.args.piece.now
-        c.in-Stop.reason c.self.invariant is))
+    (stop.Refused 0 (reason_of (stop_refusal c.in-Stop.reason)) 0 0)) c.self.view_is
+    (stop_stops c.self.inside.builder c.self.inside.carry c.self.inside.text c.args.piece.now
+    c.in-Stop.reason c.self.invariant is))
 
 pub returns-in-Finished-clause-sound : goal.returns-in-Finished-clause-sound
 returns-in-Finished-clause-sound g c =

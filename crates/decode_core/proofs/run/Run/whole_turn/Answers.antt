@@ -11,29 +11,29 @@ pub invariant_of-self : goal.invariant_of-self
 invariant_of-self g c =
     let b = c.self.inside.builder in
     let wants : next_of b.walk ≡ next.Wants c.args.form =
-        subst (λ (s : Running). next_of s.built.walk ≡ next.Wants c.args.form) (sym c.self.view_is)
-        c.requires.next in
+    subst (λ (s : Running). next_of s.built.walk ≡ next.Wants c.args.form) (sym c.self.view_is)
+    c.requires.next in
     let closed : b.text ≡ None =
-        subst (λ (s : Running). s.built.text ≡ None) (sym c.self.view_is) c.requires.closed in
+    subst (λ (s : Running). s.built.text ≡ None) (sym c.self.view_is) c.requires.closed in
     let none : c.self.inside.carry ≡ [] =
-        subst (λ (s : Running). s.carry ≡ []) (sym c.self.view_is) c.requires.empty in
+    subst (λ (s : Running). s.carry ≡ []) (sym c.self.view_is) c.requires.empty in
     whole_running c.args.form b c.take_node-taken.new.builder c.self.inside.carry c.args.own.now
-        c.self.inside.text c.take_node-taken.new.text c.take_node-taken.result c.self.invariant none
-        wants closed c.requires.whole c.take_node-taken.ensures
+    c.self.inside.text c.take_node-taken.new.text c.take_node-taken.result c.self.invariant none
+    wants closed c.requires.whole c.take_node-taken.ensures
 
 pub returns-clause-tells : goal.returns-clause-tells
 returns-clause-tells g c =
     let b = c.self.inside.builder in
     let wants : next_of b.walk ≡ next.Wants c.args.form =
-        subst (λ (s : Running). next_of s.built.walk ≡ next.Wants c.args.form) (sym c.self.view_is)
-        c.requires.next in
+    subst (λ (s : Running). next_of s.built.walk ≡ next.Wants c.args.form) (sym c.self.view_is)
+    c.requires.next in
     let closed : b.text ≡ None =
-        subst (λ (s : Running). s.built.text ≡ None) (sym c.self.view_is) c.requires.closed in
+    subst (λ (s : Running). s.built.text ≡ None) (sym c.self.view_is) c.requires.closed in
     let none : c.self.inside.carry ≡ [] =
-        subst (λ (s : Running). s.carry ≡ []) (sym c.self.view_is) c.requires.empty in
+    subst (λ (s : Running). s.carry ≡ []) (sym c.self.view_is) c.requires.empty in
     λ rest. subst (λ (s : Running). StepTells s
-        (of_fields c.take_node-taken.new.builder c.self.inside.carry) (c.args.own.now ++ rest)
-        c.node_turn.result) c.self.view_is
+    (of_fields c.take_node-taken.new.builder c.self.inside.carry) (c.args.own.now ++ rest)
+    c.node_turn.result) c.self.view_is
     (whole_tells c.args.form b c.take_node-taken.new.builder c.self.inside.carry c.args.own.now rest
-        c.take_node-taken.new.text c.take_node-taken.result c.node_turn.result none wants
-        c.requires.some closed c.requires.whole c.take_node-taken.ensures c.node_turn.ensures)
+    c.take_node-taken.new.text c.take_node-taken.result c.node_turn.result none wants
+    c.requires.some closed c.requires.whole c.take_node-taken.ensures c.node_turn.ensures)

@@ -7,11 +7,11 @@ pub returns-in_err-id : goal.returns-in_err-id
 unfolding type_ids_at
 returns-in_err-id c =
     let p = err_from_is_err_and c.from_residual-in_err-id.result
-        c.from_residual-in_err-id.ensures.1 in
+    c.from_residual-in_err-id.ensures.1 in
     rw (p.1, p.2, c.in_ok-count.ensures)
-        (ends type_id_at c.in_err-id.field-0.0 c.ids.ids.items c.in_ok-count.count c.ids.counter
-        c.ids.rest.now (repeated c.in_ok-count.count type_id_at c.in_ok-count.rest.now)
-        c.ids-test.true c.in_err-id.ensures c.ids.invariant)
+    (ends type_id_at c.in_err-id.field-0.0 c.ids.ids.items c.in_ok-count.count c.ids.counter
+    c.ids.rest.now (repeated c.in_ok-count.count type_id_at c.in_ok-count.rest.now)
+    c.ids-test.true c.in_err-id.ensures c.ids.invariant)
 
 pub ids-preserved : goal.ids-preserved
 ids-preserved c = rw c.in_ok-append.ensures.items

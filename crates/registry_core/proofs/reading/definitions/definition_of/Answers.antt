@@ -9,10 +9,10 @@ pub returns-in_err-element-in-2 : goal.returns-in_err-element-in-2
 unfolding definition_at
 returns-in_err-element-in-2 c =
     let p = err_from_is_err_and c.from_residual-in_err-element-in-2.result
-        c.from_residual-in_err-element-in-2.ensures.1 in
+    c.from_residual-in_err-element-in-2.ensures.1 in
     rw (p.1, p.2, c.in_ok-kind.ensures, c.in-2.is)
-        (stops_then c.in_err-element-in-2.field-0.0 (type_id_at c.in_ok-kind.rest.now)
-        (λ element. Ok (def.Sequence element.0, element.1)) c.in_err-element-in-2.ensures)
+    (stops_then c.in_err-element-in-2.field-0.0 (type_id_at c.in_ok-kind.rest.now)
+    (λ element. Ok (def.Sequence element.0, element.1)) c.in_err-element-in-2.ensures)
 
 pub returns-in_ok-element-in-2 : goal.returns-in_ok-element-in-2
 unfolding definition_at

@@ -7,12 +7,12 @@ pub returns-in_err-field : goal.returns-in_err-field
 unfolding fields_at
 returns-in_err-field c =
     let p = err_from_is_err_and c.from_residual-in_err-field.result
-        c.from_residual-in_err-field.ensures.1 in
+    c.from_residual-in_err-field.ensures.1 in
     rw (p.1, p.2, c.in_ok-count.ensures)
-        (ends field_at c.in_err-field.field-0.0 c.fields.fields.items c.in_ok-count.count
-        c.fields.counter c.fields.rest.now
-        (repeated c.in_ok-count.count field_at c.in_ok-count.rest.now) c.fields-test.true
-        c.in_err-field.ensures c.fields.invariant)
+    (ends field_at c.in_err-field.field-0.0 c.fields.fields.items c.in_ok-count.count
+    c.fields.counter c.fields.rest.now
+    (repeated c.in_ok-count.count field_at c.in_ok-count.rest.now) c.fields-test.true
+    c.in_err-field.ensures c.fields.invariant)
 
 pub fields-preserved : goal.fields-preserved
 fields-preserved c = rw c.in_ok-append.ensures.items

@@ -1,8 +1,6 @@
 -- The request is counted; the one to be refused is, and any other is the inner allocator's to
 -- answer. Assumes `Logic`.
-use Rattle.std.proofs.Common.{
-    ◌≡◌, ℕ, ◌^◌, ◌<◌, true, false, Bool, List, [], ◌∷◌, Ok, Err, refl, w64, Bor
-}
+use Rattle.std.proofs.Common.{◌≡◌, ℕ, ◌^◌, ◌<◌, true, false, Bool, List, [], ◌∷◌, Ok, Err, refl, w64, Bor}
 use seplogic.Ra.Ura.{Ura}
 use mir.Syntax.{Ty, Fn, Place}
 use mir.Val.{Val, vbool, vint, vptr}
@@ -13,18 +11,10 @@ use prog.Memory.{Memory, size, align, capped}
 use prog.Routine.{Routine}
 use prog.Wp.{WpFn, Tables, Env}
 use types.Logic.{Logic, sem}
-use types.ByLocal.{
-    alloc_all, pass_all, free_all, look_at, get, through, sets, sets_last, lands_as, lands_last, env
-}
-use types.Kit.{
-    Item, Post, Step, settles, regoal, ‵, raw, ◌⊛◌, some, later, given, at_ret, ◌$◌, ◌∵◌, !, qed,
-    move, keep, use0, use1, use2, use3, split, join, learn, pick, fsplit, fjoin, suffices, await,
-    done
-}
+use types.ByLocal.{alloc_all, pass_all, free_all, look_at, get, through, sets, sets_last, lands_as, lands_last, env}
+use types.Kit.{Item, Post, Step, settles, regoal, ‵, raw, ◌⊛◌, some, later, given, at_ret, ◌$◌, ◌∵◌, !, qed, move, keep, use0, use1, use2, use3, split, join, learn, pick, fsplit, fjoin, suffices, await, done}
 use types.Part.{agg}
-use types.Run.{
-    stop, fld, addr, of_opd, lit, no_more, and_then, first, branches, exec, returns, enter
-}
+use types.Run.{stop, fld, addr, of_opd, lit, no_more, and_then, first, branches, exec, returns, enter}
 use contract.BorrowLft.{◌⊑◌, ⊑_trans}
 use contract.Monad.{Fun, fact}
 use contract.Running.{tables, tables_of}
@@ -44,14 +34,9 @@ use denote.Triple.Spec.{triple_of}
 use denote.Triple.Statement.{Triple}
 use denote.Triple.Table.{entered, cited}
 use denote.Triple.Walked.{Stays, stay_dropped, walk_of, ends_at, walked, Goes-dropped, walk_Meets}
-use Rattle.std.proofs.alloc.Calls.{
-    Al, seen, token, got, Answer, answer_val, Answer-typed, Answer-Ok, Answer-err, takes_key, Takes,
-    at_takes, Answered, Takes-goes, Takes-gives, answers
-}
+use Rattle.std.proofs.alloc.Calls.{Al, seen, token, got, Answer, answer_val, Answer-typed, Answer-Ok, Answer-err, takes_key, Takes, at_takes, Answered, Takes-goes, Takes-gives, answers}
 use Rattle.std.proofs.alloc.Shapes.{after}
-use Rattle.scale_tests.proofs.Rationing.{
-    lent, at_its_type, inner_of, count_of, Counts, at_count, count_goes, count_gives
-}
+use Rattle.scale_tests.proofs.Rationing.{lent, at_its_type, inner_of, count_of, Counts, at_count, count_goes, count_gives}
 use Rattle.scale_tests.proofs.rationed.is_refused.Met as count_met
 use Rattle.scale_tests.proofs.rationed.is_refused.Symbol as count_key
 use Rattle.scale_tests.specs.contracts.rationed.Rationed as rationed
@@ -74,8 +59,10 @@ module _ (Z : Al) where
   ended = contract_of.ended Z.row Z.g Z.d Z.drops
 
   abbrev stayed : Stays ended.signature.params ended.kept
-  stayed = (stay_dropped (lent Z) yes,
-      (stay_dropped (plain (λ _. usize)) yes, (stay_dropped (plain (λ _. usize)) yes, tt)))
+  stayed = (
+    stay_dropped (lent Z) yes,
+    (stay_dropped (plain (λ _. usize)) yes, (stay_dropped (plain (λ _. usize)) yes, tt)),
+  )
 
 module _ (Z : Al) {M : Type 1} {𝓤 : Ura M} (𝓛 : Logic 𝓤) (at_mem : Memory → SProp 𝓤)
     (run : Routine → Fun 𝓤) (𝓣 : Tables 𝓤 𝓛.H)
@@ -89,8 +76,16 @@ module _ (Z : Al) {M : Type 1} {𝓤 : Ura M} (𝓛 : Logic 𝓤) (at_mem : Memo
   module _ (κ₁ κ₂ : Lft) (q₁ q₂ : Share) (inside : κ₁ ⊑ κ₂)
       (self : Bor (rationed.the_row Z.row).Denot) (bytes aligned : ℕ) (τ : Ty) where
     abbrev bound : (walk_of 𝓛 (ended Z) (stayed Z) clauses).Ghost
-    bound = (((κ₁, (κ₂, tt)), (q₁, (q₂, tt)), (inside, tt), (self, (bytes, (aligned, tt))),
-        (shr_vals self, (vint w64 bytes ∷ [], (vint w64 aligned ∷ [], tt)))), τ)
+    bound = (
+      (
+        (κ₁, (κ₂, tt)),
+        (q₁, (q₂, tt)),
+        (inside, tt),
+        (self, (bytes, (aligned, tt))),
+        (shr_vals self, (vint w64 bytes ∷ [], (vint w64 aligned ∷ [], tt))),
+      ),
+      τ,
+    )
 
     abbrev handed : List Val
     handed = vptr self.ref_ptr.0 self.ref_ptr.1 ∷ vint w64 bytes ∷ vint w64 aligned ∷ []
@@ -109,10 +104,10 @@ module _ (Z : Al) {M : Type 1} {𝓤 : Ura M} (𝓛 : Logic 𝓤) (at_mem : Memo
     refused =
         qed 𝓛 (‵ (flft κ₁ q₁) ∷ (‵ (flft κ₂ q₂) ⊛ ‵ ftrue) ∷ []) ∵
         suffices ! _ (ends_at 𝓛 (ended Z) (stayed Z) clauses bound (answer_val false 0 0)
-            (Err (record {})) (tt, (tt, (tt, tt))) (tt, (tt, (tt, tt)))) $
+        (Err (record {})) (tt, (tt, (tt, tt))) (tt, (tt, (tt, tt)))) $
         nothing ! $ use0 𝓛 (‵ (Answer.own_val (Err (record {})) (answer_val false 0 0 ∷ [])))
-            (Answer-err 𝓛) $ nothing ! $ nothing ! $ fjoin ! $ nothing ! $ fjoin ! $ nothing ! $
-            fjoin ! $ join ! $
+        (Answer-err 𝓛) $ nothing ! $ nothing ! $ fjoin ! $ nothing ! $ fjoin ! $ nothing ! $
+        fjoin ! $ join ! $
         move ! (2 ∷ 3 ∷ []) $ join ! $ join ! $ done !
 
     -- and where there is a block
@@ -121,12 +116,12 @@ module _ (Z : Al) {M : Type 1} {𝓤 : Ura M} (𝓛 : Logic 𝓤) (at_mem : Memo
         (Owed (answer_val true block offset))
     served block offset =
         qed 𝓛 (‵ (got (token Z self.now.inner) τ true block offset) ∷ ‵
-            (flft κ₁ q₁) ∷ (‵ (flft κ₂ q₂) ⊛ ‵ ftrue) ∷ []) ∵
+        (flft κ₁ q₁) ∷ (‵ (flft κ₂ q₂) ⊛ ‵ ftrue) ∷ []) ∵
         suffices ! _ (ends_at 𝓛 (ended Z) (stayed Z) clauses bound (answer_val true block offset)
-            (Ok (block_ptr block offset)) (tt, (tt, (tt, tt))) (tt, (tt, (tt, tt)))) $
+        (Ok (block_ptr block offset)) (tt, (tt, (tt, tt))) (tt, (tt, (tt, tt)))) $
         use0 𝓛 (‵ (Answer.own_val (Ok (block_ptr block offset))
-            (answer_val true block offset ∷ []))) (Answer-Ok 𝓛 block offset) $ nothing ! $ nothing !
-            $ fjoin ! $ nothing ! $ fjoin ! $ nothing ! $ fjoin ! $ join ! $
+        (answer_val true block offset ∷ []))) (Answer-Ok 𝓛 block offset) $ nothing ! $ nothing !
+        $ fjoin ! $ nothing ! $ fjoin ! $ nothing ! $ fjoin ! $ join ! $
         move ! (2 ∷ 3 ∷ []) $ join ! $ join ! $ done !
 
     walk : bytes < 2 ^ 64 → aligned < 2 ^ 64 →
@@ -137,61 +132,63 @@ module _ (Z : Al) {M : Type 1} {𝓤 : Ura M} (𝓛 : Logic 𝓤) (at_mem : Memo
         let count : ℕ × ℕ = count_of Z self.ref_ptr in
         let taken = at_takes Z 𝓛 at_mem run κ₁ q₁ from self.now.inner bytes aligned τ in
         qed 𝓛 (((‵ (flft κ₁ q₁) ⊛ ‵ (flft κ₂ q₂) ⊛ ‵ ftrue) ⊛ ‵
-            (owns (types_at (ended Z).signature.params bound.0.0) bound.0.3 bound.0.4)) ∷ (raw
-            (fact 𝓤 (κ₂ ⊑ Z.row.lives)) ⊛ raw (fact 𝓤 Fitting)) ∷ []) ∵
+        (owns (types_at (ended Z).signature.params bound.0.0) bound.0.3 bound.0.4)) ∷ (raw
+        (fact 𝓤 (κ₂ ⊑ Z.row.lives)) ⊛ raw (fact 𝓤 Fitting)) ∷ []) ∵
         move ! (1 ∷ []) $ split ! $ heard ! (κ₂ ⊑ Z.row.lives) (λ lives. heard ! Fitting (λ fitting.
         -- the inner allocator, the count, and the tokens of both lifetimes
         split ! $ split ! $ move ! (2 ∷ []) $ fsplit ! $ fsplit ! $ move ! (1 ∷ []) $ unhide ! $
-            fsplit ! $ fsplit ! $
+        fsplit ! $ fsplit ! $
         use1 𝓛 (‵ (seen Z κ₁ from self.now.inner)) (id⊢ 𝓤 _) $ move ! (1 ∷ []) $ fsplit ! $ keep !
-            (0 ∷ 6 ∷ 2 ∷ 7 ∷ []) $
+        (0 ∷ 6 ∷ 2 ∷ 7 ∷ []) $
         enter ! 𝓣.C 𝓣.Λ (itself Z) handed _ $ alloc_all !
-            (λ l. pass_all ! refl ((tt, tt),
-            ((tt, record { fits = few }), ((tt, record { fits = small }), tt))) $
+        (λ l. pass_all ! refl (
+          (tt, tt),
+          ((tt, record { fits = few }), ((tt, record { fits = small }), tt)),
+        ) $
         -- the request is counted
         sets ! (addr ! (through ! refl (fld ! refl (stop !)))) refl (tt, tt) $
         use2 𝓛 (raw ((Counts 𝓛 at_mem run).pre (at_count 𝓛 at_mem run κ₁ q₁ count)))
-            (count_goes 𝓛 at_mem run κ₁ q₁ count) $
+        (count_goes 𝓛 at_mem run κ₁ q₁ count) $
         calls_at ! (fm_of 𝓤 H 𝓛.laws 𝓣) (Counts 𝓛 at_mem run) counts
-            (at_count 𝓛 at_mem run κ₁ q₁ count) (and_then ! (get ! refl) (no_more !)) (λ u.
+        (at_count 𝓛 at_mem run κ₁ q₁ count) (and_then ! (get ! refl) (no_more !)) (λ u.
         use1 𝓛 (later (some (λ (is_it : Bool). given (u ≡ vbool is_it) (‵ (flft κ₁ q₁)))))
-            (count_gives 𝓛 at_mem run κ₁ q₁ count u) $ await ! tt $ pick !
-            (λ is_it. learn ! (λ eu. lands_as ! eu refl (tt, tt) $
+        (count_gives 𝓛 at_mem run κ₁ q₁ count u) $ await ! tt $ pick !
+        (λ is_it. learn ! (λ eu. lands_as ! eu refl (tt, tt) $
         first ! $ branches ! (get ! refl)
         -- it is refused
         (λ _. sets ! (agg ! (no_more !)) refl (tt, tt) $ sets_last !
-            (agg ! (and_then ! (lit ! tt) (and_then ! (get ! refl) (no_more !)))) refl
-            (Answer-typed false 0 0) $
+        (agg ! (and_then ! (lit ! tt) (and_then ! (get ! refl) (no_more !)))) refl
+        (Answer-typed false 0 0) $
         exec ! 𝓣.C 𝓣.Λ (env (itself Z).locals l) (after 3 (itself Z).body)
-            (at_ret (env (itself Z).locals l) Owed) $
+        (at_ret (env (itself Z).locals l) Owed) $
         sets ! (of_opd ! (get ! refl)) refl (Answer-typed false 0 0) $ returns ! (look_at ! 0 refl)
-            $ free_all ! refl $ keep ! (0 ∷ 2 ∷ []) $
+        $ free_all ! refl $ keep ! (0 ∷ 2 ∷ []) $
         use2 𝓛 (raw (Owed (answer_val false 0 0))) refused $ done !)
         -- it is the inner allocator's to answer
         (λ _. move ! (1 ∷ []) $ sets ! (addr ! (through ! refl (fld ! refl (stop !)))) refl (tt, tt)
-            $
+        $
         use2 𝓛 (raw ((Takes Z 𝓛 at_mem run).pre taken))
-            (Takes-goes Z 𝓛 at_mem run κ₁ q₁ from self.now.inner
-            (⊑_trans κ₁ κ₂ Z.row.lives inside lives) bytes aligned τ fitting.0 fitting.1 few small)
-            $
+        (Takes-goes Z 𝓛 at_mem run κ₁ q₁ from self.now.inner
+        (⊑_trans κ₁ κ₂ Z.row.lives inside lives) bytes aligned τ fitting.0 fitting.1 few small)
+        $
         calls_at_last ! (fm_of 𝓤 H 𝓛.laws 𝓣) (Takes Z 𝓛 at_mem run) takes taken
-            (and_then ! (get ! refl)
-            (and_then ! (get ! refl) (and_then ! (get ! refl) (no_more !)))) (λ v.
+        (and_then ! (get ! refl)
+        (and_then ! (get ! refl) (and_then ! (get ! refl) (no_more !)))) (λ v.
         use1 𝓛 (later (raw (Answered Z 𝓛 at_mem run self.now.inner τ v) ⊛ ‵ (flft κ₁ q₁)))
-            (Takes-gives Z 𝓛 at_mem run κ₁ q₁ from self.now.inner bytes aligned τ v) $ await ! tt $
-            split ! $
+        (Takes-gives Z 𝓛 at_mem run κ₁ q₁ from self.now.inner bytes aligned τ v) $ await ! tt $
+        split ! $
         answers Z ! at_mem run self.now.inner τ v
         (λ block offset e. lands_as_last ! e $ lands_last ! refl (Answer-typed true block offset) $
         exec ! 𝓣.C 𝓣.Λ (env (itself Z).locals l) (after 3 (itself Z).body)
-            (at_ret (env (itself Z).locals l) Owed) $
+        (at_ret (env (itself Z).locals l) Owed) $
         sets ! (of_opd ! (get ! refl)) refl (Answer-typed true block offset) $ returns !
-            (look_at ! 0 refl) $ free_all ! refl $ fjoin ! $ keep ! (0 ∷ 1 ∷ 2 ∷ []) $
+        (look_at ! 0 refl) $ free_all ! refl $ fjoin ! $ keep ! (0 ∷ 1 ∷ 2 ∷ []) $
         use3 𝓛 (raw (Owed (answer_val true block offset))) (served block offset) $ done !)
         (λ e. lands_as_last ! e $ lands_last ! refl (Answer-typed false 0 0) $
         exec ! 𝓣.C 𝓣.Λ (env (itself Z).locals l) (after 3 (itself Z).body)
-            (at_ret (env (itself Z).locals l) Owed) $
+        (at_ret (env (itself Z).locals l) Owed) $
         sets ! (of_opd ! (get ! refl)) refl (Answer-typed false 0 0) $ returns ! (look_at ! 0 refl)
-            $ free_all ! refl $ keep ! (0 ∷ 1 ∷ []) $
+        $ free_all ! refl $ keep ! (0 ∷ 1 ∷ []) $
         use2 𝓛 (raw (Owed (answer_val false 0 0))) refused $ done !)))))))))
 
 pub allocate_spec : {M : Type 1} → stated.statement M
@@ -203,18 +200,21 @@ allocate_spec 𝓤 𝓛 𝓜 𝓡 wired row laws ghosts methods drops met _ =
     let number = plain (λ _. usize) in
     let Body = WpFn 𝓤 𝓛.H 𝓣.C 𝓣.Λ (itself Z) in
     let counts = cited 𝓤 𝓛.H _ 𝓜 𝓡 𝓡.env count_key.name (𝓡.env count_key.name) refl
-        (count_met.met 𝓤 𝓛 𝓜 𝓡 (code.calls-scale_tests::rationed::is_refused 𝓡.env wired)) in
+    (count_met.met 𝓤 𝓛 𝓜 𝓡 (code.calls-scale_tests::rationed::is_refused 𝓡.env wired)) in
     entered 𝓤 𝓛.H (triple_of 𝓛 (contract_of.signature row)
-        (contract_of.spec row ghosts methods drops 𝓛 𝓜.mem 𝓡.returns)) 𝓣.C 𝓣.Λ
-        (key.name (at_its_type Z)) (itself Z)
-        (code.unfolded 𝓤 𝓛.H 𝓜 𝓡 wired (row, tt) methods drops)
-    (walk_Meets 𝓛 (ended Z) (stayed Z)
-    (Goes-dropped 𝓛 2 (lent Z) yes (λ κs x f. refl),
-        (Goes-dropped 𝓛 2 number yes (λ κs x f. refl),
-        (Goes-dropped 𝓛 2 number yes (λ κs x f. refl), tt)))
+    (contract_of.spec row ghosts methods drops 𝓛 𝓜.mem 𝓡.returns)) 𝓣.C 𝓣.Λ
+    (key.name (at_its_type Z)) (itself Z)
+    (code.unfolded 𝓤 𝓛.H 𝓜 𝓡 wired (row, tt) methods drops)
+    (walk_Meets 𝓛 (ended Z) (stayed Z) (
+      Goes-dropped 𝓛 2 (lent Z) yes (λ κs x f. refl),
+      (
+        Goes-dropped 𝓛 2 number yes (λ κs x f. refl),
+        (Goes-dropped 𝓛 2 number yes (λ κs x f. refl), tt),
+      ),
+    )
     clauses Body (WpFn-mono 𝓤 𝓛.H 𝓛.laws 𝓣 (itself Z))
     (walked 𝓛 (ended Z) (stayed Z) clauses Body
-        (λ κs. (shr_vals, (uint_vals w64, (uint_vals w64, tt))))
-        (λ κs. ((λ r vs s. s.0), (uint_Tells w64, (uint_Tells w64, tt))))
+    (λ κs. (shr_vals, (uint_vals w64, (uint_vals w64, tt))))
+    (λ κs. ((λ r vs s. s.0), (uint_Tells w64, (uint_Tells w64, tt))))
     (λ κs qs bounds a τ are. walk Z 𝓛 𝓜.mem 𝓡.returns 𝓣 (met.allocate drops) counts κs.0 κs.1.0 qs.0
-        qs.1.0 bounds.0 a.0 a.1.0 a.1.1.0 τ are.1.0.1 are.1.1.0.1)))
+    qs.1.0 bounds.0 a.0 a.1.0 a.1.1.0 τ are.1.0.1 are.1.1.0.1)))

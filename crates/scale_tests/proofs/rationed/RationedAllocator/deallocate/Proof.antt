@@ -11,10 +11,7 @@ use prog.Routine.{Routine}
 use prog.Wp.{WpFn, Tables}
 use types.Logic.{Logic}
 use types.ByLocal.{alloc_all, pass_all, free_all, look_at, get, through, sets, lands_as}
-use types.Kit.{
-    Item, ‵, raw, ◌⊛◌, later, given, ◌$◌, ◌∵◌, !, qed, by, move, keep, use1, split, split3, join,
-    learn, fsplit, fjoin, feq_i, suffices, await, done
-}
+use types.Kit.{Item, ‵, raw, ◌⊛◌, later, given, ◌$◌, ◌∵◌, !, qed, by, move, keep, use1, split, split3, join, learn, fsplit, fjoin, feq_i, suffices, await, done}
 use types.Run.{stop, fld, addr, no_more, and_then, of_opd, unit_lit, returns, enter}
 use contract.BorrowLft.{◌⊑◌, ⊑_trans}
 use contract.Monad.{Fun, fact}
@@ -35,9 +32,7 @@ use denote.Triple.Spec.{triple_of}
 use denote.Triple.Statement.{Triple}
 use denote.Triple.Table.{entered}
 use denote.Triple.Walked.{Stays, stay_dropped, walk_of, ends_at, walked, Goes-dropped, walk_Meets}
-use Rattle.std.proofs.alloc.Calls.{
-    Al, seen, token, gives_key, Gives, at_gives, Gives-goes, Gives-Gives
-}
+use Rattle.std.proofs.alloc.Calls.{Al, seen, token, gives_key, Gives, at_gives, Gives-goes, Gives-Gives}
 use Rattle.scale_tests.proofs.Rationing.{lent, at_its_type, inner_of}
 use Rattle.scale_tests.specs.contracts.rationed.Rationed as rationed
 use Rattle.scale_tests.specs.contracts.rationed.RationedAllocator.deallocate as contract_of
@@ -53,9 +48,13 @@ module _ (Z : Al) where
   ended = contract_of.ended Z.row Z.g Z.d Z.drops
 
   abbrev stayed : Stays ended.signature.params ended.kept
-  stayed = (stay_dropped (lent Z) yes,
-      (stay_dropped (plain (λ _. RawPtr)) yes,
-      (stay_dropped (plain (λ _. usize)) yes, (stay_dropped (plain (λ _. usize)) yes, tt))))
+  stayed = (
+    stay_dropped (lent Z) yes,
+    (
+      stay_dropped (plain (λ _. RawPtr)) yes,
+      (stay_dropped (plain (λ _. usize)) yes, (stay_dropped (plain (λ _. usize)) yes, tt)),
+    ),
+  )
 
 module _ (Z : Al) {M : Type 1} {𝓤 : Ura M} (𝓛 : Logic 𝓤) (at_mem : Memory → SProp 𝓤)
     (run : Routine → Fun 𝓤) (𝓣 : Tables 𝓤 𝓛.H)
@@ -68,9 +67,16 @@ module _ (Z : Al) {M : Type 1} {𝓤 : Ura M} (𝓛 : Logic 𝓤) (at_mem : Memo
   module _ (κ₁ κ₂ : Lft) (q₁ q₂ : Share) (inside : κ₁ ⊑ κ₂)
       (self : Bor (rationed.the_row Z.row).Denot) (bytes aligned : ℕ) (τ : Ty) where
     abbrev bound : Ptr → (walk_of 𝓛 (ended Z) (stayed Z) clauses).Ghost
-    bound ptr = (((κ₁, (κ₂, tt)), (q₁, (q₂, tt)), (inside, tt),
+    bound ptr = (
+      (
+        (κ₁, (κ₂, tt)),
+        (q₁, (q₂, tt)),
+        (inside, tt),
         (self, (ptr, (bytes, (aligned, tt)))),
-        (shr_vals self, (rawptr_vals ptr, (vint w64 bytes ∷ [], (vint w64 aligned ∷ [], tt))))), τ)
+        (shr_vals self, (rawptr_vals ptr, (vint w64 bytes ∷ [], (vint w64 aligned ∷ [], tt)))),
+      ),
+      τ,
+    )
 
     abbrev handed : Ptr → List Val
     handed ptr = vptr self.ref_ptr.0 self.ref_ptr.1 ∷ ptr_val ptr ∷ vint w64 bytes ∷ vint w64
@@ -91,48 +97,50 @@ module _ (Z : Al) {M : Type 1} {𝓤 : Ura M} (𝓛 : Logic 𝓤) (at_mem : Memo
         (WpFn 𝓤 H 𝓣.C 𝓣.Λ (itself Z) (handed ptr) (Post ptr))
     walk few small null_ptr =
         qed 𝓛 (entry null_ptr ∷ (raw (fact 𝓤 (κ₂ ⊑ Z.row.lives)) ⊛ raw (fact 𝓤 Fitting) ⊛ ‵
-            (fsep ffalse (token Z self.now.inner τ null_ptr))) ∷ []) ∵
+        (fsep ffalse (token Z self.now.inner τ null_ptr))) ∷ []) ∵
         move ! (1 ∷ []) $ split3 ! $ move ! (2 ∷ []) $ fsplit ! $ keep ! (0 ∷ []) $ by !
-            (never_e 𝓤 _)
+        (never_e 𝓤 _)
     walk few small (block_ptr block offset) =
         let ptr : Ptr = block_ptr block offset in
         let to : ℕ × ℕ = inner_of Z self.ref_ptr in
         let given_back = at_gives Z 𝓛 at_mem run κ₁ q₁ to self.now.inner block offset bytes aligned
-            τ in
+        τ in
         qed 𝓛 (entry ptr ∷ (raw (fact 𝓤 (κ₂ ⊑ Z.row.lives)) ⊛ raw (fact 𝓤 Fitting) ⊛ ‵
-            (fsep (froom τ block offset) (token Z self.now.inner τ ptr))) ∷ []) ∵
+        (fsep (froom τ block offset) (token Z self.now.inner τ ptr))) ∷ []) ∵
         move ! (1 ∷ []) $ split3 ! $ heard ! (κ₂ ⊑ Z.row.lives)
-            (λ lives. heard ! Fitting (λ fitting.
+        (λ lives. heard ! Fitting (λ fitting.
         -- the block, the inner allocator, and the tokens of both lifetimes
         move ! (1 ∷ []) $ split ! $ split ! $ move ! (2 ∷ []) $ fsplit ! $ fsplit ! $ move !
-            (1 ∷ []) $ unhide ! $ fsplit ! $ fsplit ! $
+        (1 ∷ []) $ unhide ! $ fsplit ! $ fsplit ! $
         use1 𝓛 (‵ (seen Z κ₁ to self.now.inner)) (id⊢ 𝓤 _) $ keep ! (0 ∷ 5 ∷ 6 ∷ 7 ∷ []) $
         enter ! 𝓣.C 𝓣.Λ (itself Z) (handed ptr) _ $ alloc_all !
-            (λ l. pass_all ! refl ((tt, tt),
-            ((tt, tt), ((tt, record { fits = few }), ((tt, record { fits = small }), tt)))) $
+        (λ l. pass_all ! refl (
+          (tt, tt),
+          ((tt, tt), ((tt, record { fits = few }), ((tt, record { fits = small }), tt))),
+        ) $
         -- the `&` to the inner allocator
         sets ! (addr ! (through ! refl (fld ! refl (stop !)))) refl (tt, tt) $
         -- the call
         join ! $ move ! (2 ∷ []) $ fsplit ! $ move ! (1 ∷ 2 ∷ []) $ join ! $ move ! (1 ∷ 0 ∷ []) $
-            join ! $
+        join ! $
         use1 𝓛 (raw ((Gives Z 𝓛 at_mem run).pre given_back))
-            (Gives-goes Z 𝓛 at_mem run κ₁ q₁ to self.now.inner
-            (⊑_trans κ₁ κ₂ Z.row.lives inside lives) block offset bytes aligned τ fitting.0
-            fitting.1 few small) $
+        (Gives-goes Z 𝓛 at_mem run κ₁ q₁ to self.now.inner
+        (⊑_trans κ₁ κ₂ Z.row.lives inside lives) block offset bytes aligned τ fitting.0
+        fitting.1 few small) $
         calls_at ! (fm_of 𝓤 H 𝓛.laws 𝓣) (Gives Z 𝓛 at_mem run) gives given_back
-            (and_then ! (get ! refl)
-            (and_then ! (get ! refl)
-            (and_then ! (get ! refl) (and_then ! (get ! refl) (no_more !))))) (λ v.
+        (and_then ! (get ! refl)
+        (and_then ! (get ! refl)
+        (and_then ! (get ! refl) (and_then ! (get ! refl) (no_more !))))) (λ v.
         use1 𝓛 (later (given (v ≡ vunit) (‵ (flft κ₁ q₁))))
-            (Gives-Gives Z 𝓛 at_mem run κ₁ q₁ to self.now.inner block offset bytes aligned τ v) $
-            await ! tt $ learn ! (λ e.
+        (Gives-Gives Z 𝓛 at_mem run κ₁ q₁ to self.now.inner block offset bytes aligned τ v) $
+        await ! tt $ learn ! (λ e.
         -- the return
         lands_as ! e refl (tt, tt) $ sets ! (of_opd ! (unit_lit !)) refl (tt, tt) $ returns !
-            (look_at ! 0 refl) $ free_all ! refl $
+        (look_at ! 0 refl) $ free_all ! refl $
         suffices ! _ (ends_at 𝓛 (ended Z) (stayed Z) clauses (bound ptr) vunit tt
-            (tt, (tt, (tt, (tt, tt)))) (tt, (tt, (tt, (tt, tt))))) $
+        (tt, (tt, (tt, (tt, tt)))) (tt, (tt, (tt, (tt, tt))))) $
         nothing ! $ feq_i ! (List Val) (vunit ∷ []) (vunit ∷ []) refl $ nothing ! $ nothing ! $
-            fjoin ! $ nothing ! $ fjoin ! $ nothing ! $ fjoin ! $ nothing ! $ fjoin ! $ join ! $
+        fjoin ! $ nothing ! $ fjoin ! $ nothing ! $ fjoin ! $ nothing ! $ fjoin ! $ join ! $
         move ! (2 ∷ 3 ∷ []) $ join ! $ join ! $ done !)))))
 
 pub deallocate_spec : {M : Type 1} → stated.statement M
@@ -144,17 +152,22 @@ deallocate_spec 𝓤 𝓛 𝓜 𝓡 wired row laws ghosts methods drops met _ =
     let number = plain (λ _. usize) in
     let Body = WpFn 𝓤 𝓛.H 𝓣.C 𝓣.Λ (itself Z) in
     entered 𝓤 𝓛.H (triple_of 𝓛 (contract_of.signature row)
-        (contract_of.spec row ghosts methods drops 𝓛 𝓜.mem 𝓡.returns)) 𝓣.C 𝓣.Λ
-        (key.name (at_its_type Z)) (itself Z)
-        (code.unfolded 𝓤 𝓛.H 𝓜 𝓡 wired (row, tt) methods drops)
-    (walk_Meets 𝓛 (ended Z) (stayed Z)
-    (Goes-dropped 𝓛 2 (lent Z) yes (λ κs x f. refl),
-        (Goes-dropped 𝓛 2 (plain (λ _. RawPtr)) yes (λ κs x f. refl),
-        (Goes-dropped 𝓛 2 number yes (λ κs x f. refl),
-        (Goes-dropped 𝓛 2 number yes (λ κs x f. refl), tt))))
+    (contract_of.spec row ghosts methods drops 𝓛 𝓜.mem 𝓡.returns)) 𝓣.C 𝓣.Λ
+    (key.name (at_its_type Z)) (itself Z)
+    (code.unfolded 𝓤 𝓛.H 𝓜 𝓡 wired (row, tt) methods drops)
+    (walk_Meets 𝓛 (ended Z) (stayed Z) (
+      Goes-dropped 𝓛 2 (lent Z) yes (λ κs x f. refl),
+      (
+        Goes-dropped 𝓛 2 (plain (λ _. RawPtr)) yes (λ κs x f. refl),
+        (
+          Goes-dropped 𝓛 2 number yes (λ κs x f. refl),
+          (Goes-dropped 𝓛 2 number yes (λ κs x f. refl), tt),
+        ),
+      ),
+    )
     clauses Body (WpFn-mono 𝓤 𝓛.H 𝓛.laws 𝓣 (itself Z))
     (walked 𝓛 (ended Z) (stayed Z) clauses Body
-        (λ κs. (shr_vals, (rawptr_vals, (uint_vals w64, (uint_vals w64, tt)))))
-        (λ κs. ((λ r vs s. s.0), (rawptr_Tells, (uint_Tells w64, (uint_Tells w64, tt)))))
+    (λ κs. (shr_vals, (rawptr_vals, (uint_vals w64, (uint_vals w64, tt)))))
+    (λ κs. ((λ r vs s. s.0), (rawptr_Tells, (uint_Tells w64, (uint_Tells w64, tt)))))
     (λ κs qs bounds a τ are. walk Z 𝓛 𝓜.mem 𝓡.returns 𝓣 (met.deallocate drops) κs.0 κs.1.0 qs.0
-        qs.1.0 bounds.0 a.0 a.1.1.0 a.1.1.1.0 τ are.1.1.0.1 are.1.1.1.0.1 a.1.0)))
+    qs.1.0 bounds.0 a.0 a.1.1.0 a.1.1.1.0 τ are.1.1.0.1 are.1.1.1.0.1 a.1.0)))

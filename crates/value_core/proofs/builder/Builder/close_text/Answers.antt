@@ -9,24 +9,26 @@ pub settle-requires : goal.settle-requires
 settle-requires g c =
     let lacks = subst (λ (b : Built). missing_of b ≡ Ok 0) (sym c.self.view_is) c.requires.whole in
     let utf8 = subst (λ (b : Built). text_fault (pieces_bytes b.text) ≡ None) (sym c.self.view_is)
-        c.requires.utf8 in
+    c.requires.utf8 in
     let b = text_ended c.self.inside.root.0 c.self.inside.walk c.self.inside.pool.items
-        c.self.inside.nodes.items c.self.inside.text_len c.self.inside.open_text c.in-Some.text
-        c.in-Some-next_type.ty c.self.invariant.0 c.self.invariant.1 c.in-Some.is lacks utf8
-        c.in-Some-next_type.ensures in
-    (c.self.inside.root.0, c.self.inside.pool.items ++ [],
-        c.self.inside.text_len + c.in-Some.text.len,
-        rw (c.advance.ensures, c.in_ok-append.ensures.nodes) b)
+    c.self.inside.nodes.items c.self.inside.text_len c.self.inside.open_text c.in-Some.text
+    c.in-Some-next_type.ty c.self.invariant.0 c.self.invariant.1 c.in-Some.is lacks utf8
+    c.in-Some-next_type.ensures in (
+      c.self.inside.root.0,
+      c.self.inside.pool.items ++ [],
+      c.self.inside.text_len + c.in-Some.text.len,
+      rw (c.advance.ensures, c.in_ok-append.ensures.nodes) b,
+    )
 
 pub invariant_of-self-2 : goal.invariant_of-self-2
 invariant_of-self-2 g c =
     let lacks = subst (λ (b : Built). missing_of b ≡ Ok 0) (sym c.self.view_is) c.requires.whole in
     let utf8 = subst (λ (b : Built). text_fault (pieces_bytes b.text) ≡ None) (sym c.self.view_is)
-        c.requires.utf8 in
+    c.requires.utf8 in
     let b = text_ended c.self.inside.root.0 c.self.inside.walk c.self.inside.pool.items
-        c.self.inside.nodes.items c.self.inside.text_len c.self.inside.open_text c.in-Some.text
-        c.in-Some-next_type.ty c.self.invariant.0 c.self.invariant.1 c.in-Some.is lacks utf8
-        c.in-Some-next_type.ensures in (
+    c.self.inside.nodes.items c.self.inside.text_len c.self.inside.open_text c.in-Some.text
+    c.in-Some-next_type.ty c.self.invariant.0 c.self.invariant.1 c.in-Some.is lacks utf8
+    c.in-Some-next_type.ensures in (
       c.settle.ensures.settles.builds _ _ _
           (rw (c.advance.ensures, c.in_ok-append.ensures.pool, c.in_ok-append.ensures.nodes) b),
       tt,

@@ -9,22 +9,29 @@ use Rattle.value_core.proofs.builder.Builder.extend_text.Goals as goal
 pub invariant_of-self-2 : goal.invariant_of-self-2
 invariant_of-self-2 g c =
     let lacks = subst (λ (b : Built). IfOk (missing_of b) (λ n. length c.args.piece.now ≤ n))
-        (sym c.self.view_is) c.requires in
+    (sym c.self.view_is) c.requires in
     let o = open_longer c.self.inside.walk c.self.inside.pool.items c.args.piece.now
-        c.self.inside.text_len c.self.inside.open_text
-        (are_bytes c.args.piece.now (λ i. (c.type_inv.piece i).fits)) c.self.invariant.1 lacks in
-    rw c.in_ok-extend.ensures.ok
-        (bytes_added _ _ c.self.inside.pool.items c.args.piece.now c.self.inside.nodes.items
-        c.self.inside.text_len c.self.invariant.0, o.0, c.self.invariant.2, c.self.invariant.3)
+    c.self.inside.text_len c.self.inside.open_text
+    (are_bytes c.args.piece.now (λ i. (c.type_inv.piece i).fits)) c.self.invariant.1 lacks in
+    rw c.in_ok-extend.ensures.ok (
+      bytes_added _ _ c.self.inside.pool.items c.args.piece.now c.self.inside.nodes.items
+          c.self.inside.text_len c.self.invariant.0,
+      o.0,
+      c.self.invariant.2,
+      c.self.invariant.3,
+    )
 
 pub returns-clause-ok : goal.returns-clause-ok
 returns-clause-ok g c =
     let lacks = subst (λ (b : Built). IfOk (missing_of b) (λ n. length c.args.piece.now ≤ n))
-        (sym c.self.view_is) c.requires in
+    (sym c.self.view_is) c.requires in
     let o = open_longer c.self.inside.walk c.self.inside.pool.items c.args.piece.now
-        c.self.inside.text_len c.self.inside.open_text
-        (are_bytes c.args.piece.now (λ i. (c.type_inv.piece i).fits)) c.self.invariant.1 lacks in
-    (rw (c.in_ok-extend.ensures.ok,
-        longer_entries c.self.inside.pool.items c.args.piece.now c.self.inside.nodes.items
-        c.self.invariant.0.inside, o.1) refl)
-        ∙ ap (λ (b : Built). with_piece b c.args.piece.now) c.self.view_is
+    c.self.inside.text_len c.self.inside.open_text
+    (are_bytes c.args.piece.now (λ i. (c.type_inv.piece i).fits)) c.self.invariant.1 lacks in
+    (rw (
+      c.in_ok-extend.ensures.ok,
+      longer_entries c.self.inside.pool.items c.args.piece.now c.self.inside.nodes.items
+          c.self.invariant.0.inside,
+      o.1,
+    ) refl)
+    ∙ ap (λ (b : Built). with_piece b c.args.piece.now) c.self.view_is

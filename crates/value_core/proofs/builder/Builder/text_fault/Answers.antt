@@ -1,6 +1,4 @@
-use Rattle.std.proofs.Common.{
-    [], ◌≡◌, ◌∙◌, ◌-◌, Bool, true, false, List, ℕ, length, take, drop, ap, subst, refl
-}
+use Rattle.std.proofs.Common.{[], ◌≡◌, ◌∙◌, ◌-◌, Bool, true, false, List, ℕ, length, take, drop, ap, subst, refl}
 use Rattle.std.specs.Str.{IsUtf8, is_utf8}
 use Rattle.std.specs.Str.Lossy.{utf8_valid_len}
 use Rattle.std.proofs.lemmas.List.{take_rest}
@@ -21,22 +19,22 @@ pub returns-in-Ok : goal.returns-in-Ok
 returns-in-Ok g c =
     let start = c.in_ok-text.text.start in
     let spelled : take (length c.deref.result.now - start) (drop start c.deref.result.now)
-        ≡ drop start c.self.inside.pool.items = take_rest c.deref.result.now start
-        ∙ ap (drop start) c.deref.ensures.value in
+    ≡ drop start c.self.inside.pool.items = take_rest c.deref.result.now start
+    ∙ ap (drop start) c.deref.ensures.value in
     let valid : is_utf8 (drop start c.self.inside.pool.items) ≡ true =
-        is_utf8-from_IsUtf8 (drop start c.self.inside.pool.items)
-        (subst IsUtf8 spelled c.in-Ok.ensures.cases.1) in
+    is_utf8-from_IsUtf8 (drop start c.self.inside.pool.items)
+    (subst IsUtf8 spelled c.in-Ok.ensures.cases.1) in
     rw (← c.self.view_is, c.in_ok-text.was, valid) refl
 
 pub returns-in-Err : goal.returns-in-Err
 returns-in-Err g c =
     let start = c.in_ok-text.text.start in
     let spelled : take (length c.deref.result.now - start) (drop start c.deref.result.now)
-        ≡ drop start c.self.inside.pool.items = take_rest c.deref.result.now start
-        ∙ ap (drop start) c.deref.ensures.value in
+    ≡ drop start c.self.inside.pool.items = take_rest c.deref.result.now start
+    ∙ ap (drop start) c.deref.ensures.value in
     let invalid : is_utf8 (drop start c.self.inside.pool.items) ≡ false =
-        not_utf8 (drop start c.self.inside.pool.items)
-        (subst (λ (s : List ℕ). IsUtf8 s → ⊥) spelled c.in-Err.ensures.cases.0) in
+    not_utf8 (drop start c.self.inside.pool.items)
+    (subst (λ (s : List ℕ). IsUtf8 s → ⊥) spelled c.in-Err.ensures.cases.0) in
     let len : c.valid_up_to.result ≡ utf8_valid_len (drop start c.self.inside.pool.items) =
-        c.valid_up_to.ensures ∙ c.in-Err.ensures.valid_len ∙ ap utf8_valid_len spelled in
+    c.valid_up_to.ensures ∙ c.in-Err.ensures.valid_len ∙ ap utf8_valid_len spelled in
     rw (← c.self.view_is, c.in_ok-text.was, invalid, len) refl

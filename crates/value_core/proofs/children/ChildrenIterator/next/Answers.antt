@@ -22,11 +22,11 @@ invariant_of-self c = subst (IsForest c.self.inside.checked.now.types c.self.ins
 pub returns-clause-steps : goal.returns-clause-steps
 returns-clause-steps c =
     let f = first_at _ _ c.self.inside.nodes.now c.in_ok-first.first.now
-        (sym c.in_ok-first.ensures.value) c.self.invariant in
+    (sym c.in_ok-first.ensures.value) c.self.invariant in
     sym c.self.view_is ∙ f.steps
-        ∙ sym (rw (c.new.ensures, c.split_at.ensures.front, c.split_at.ensures.back) refl)
+    ∙ sym (rw (c.new.ensures, c.split_at.ensures.front, c.split_at.ensures.back) refl)
 
 pub returns-clause-goes : goal.returns-clause-goes
 returns-clause-goes c =
     let steps = returns-clause-steps c in
-        record { on = λ _. (tt, tt, rw steps (search rules)); keeps = tt; rests = λ _. tt }
+    record { on = λ _. (tt, tt, rw steps (search rules)); keeps = tt; rests = λ _. tt }

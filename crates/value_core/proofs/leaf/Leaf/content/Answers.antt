@@ -34,8 +34,13 @@ returns-in-Wide-clause-shows c =
 
 pub returns-in-Wide-clause-inside : goal.returns-in-Wide-clause-inside
 returns-in-Wide-clause-inside c =
-    λ pool e. omega (arith, e, length-append pool (leaf_bytes c.args.self),
-    ap (λ l. length (leaf_bytes l)) c.in-Wide.is, subst FitsLeaf c.in-Wide.is c.requires)
+    λ pool e. omega (
+      arith,
+      e,
+      length-append pool (leaf_bytes c.args.self),
+      ap (λ l. length (leaf_bytes l)) c.in-Wide.is,
+      subst FitsLeaf c.in-Wide.is c.requires,
+    )
 
 pub returns-in-Compact-clause-shows : goal.returns-in-Compact-clause-shows
 returns-in-Compact-clause-shows c =

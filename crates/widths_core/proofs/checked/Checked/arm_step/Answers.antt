@@ -14,8 +14,12 @@ returns-in_err-from c =
     let got : slice_get own.steps.items c.args.id.0 ≡ Some s = search rules in
     let none : c.row.result ≡ None = search rules in
     let empty : c.from_residual-in_err-from.result ≡ None = search rules in
-    rw (empty, same, arm_none own.registry own.members.items own.rows own.steps.items c.args.id.0
-        c.args.index s c.self.invariant.table got (sym c.row.ensures ∙ none)) tt
+    rw (
+      empty,
+      same,
+      arm_none own.registry own.members.items own.rows own.steps.items c.args.id.0
+          c.args.index s c.self.invariant.table got (sym c.row.ensures ∙ none),
+    ) tt
 
 row : (c : goal.In_ok-from) → (arms : List Arm)
     × (shape c.self.inside.registry c.args.id.0 ≡ Some (Def.Variant arms))
@@ -27,7 +31,7 @@ row c =
     let got : slice_get own.steps.items c.args.id.0 ≡ Some s = search rules in
     let some : c.row.result ≡ Some c.in_ok-from.field-0 = search rules in
     row_at own.registry own.members.items own.rows own.steps.items c.args.id.0 s
-        c.in_ok-from.field-0 c.self.invariant.table got (sym c.row.ensures ∙ some)
+    c.in_ok-from.field-0 c.self.invariant.table got (sym c.row.ensures ∙ some)
 
 pub find-requires-clause-within : goal.find-requires-clause-within
 find-requires-clause-within c = (row c).2.within
@@ -43,6 +47,6 @@ returns c =
     let got : slice_get own.steps.items c.args.id.0 ≡ Some s = search rules in
     let some : c.row.result ≡ Some c.in_ok-from.field-0 = search rules in
     let r = row_at own.registry own.members.items own.rows own.steps.items c.args.id.0 s
-        c.in_ok-from.field-0 c.self.invariant.table got (sym c.row.ensures ∙ some) in
+    c.in_ok-from.field-0 c.self.invariant.table got (sym c.row.ensures ∙ some) in
     rw (same, r.1) (arm_found (references_of own.registry) own.rows c.in_ok-from.field-0.from
-        c.in_ok-from.field-0.count c.args.index r.0 c.find.result r.2 c.find.ensures)
+    c.in_ok-from.field-0.count c.args.index r.0 c.find.result r.2 c.find.ensures)

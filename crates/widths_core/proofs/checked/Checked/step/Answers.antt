@@ -8,6 +8,6 @@ returns c =
     let same : c.args.self.now.types ≡ own.registry = search rules in
     let got : c.step_of.result ≡ slice_get own.steps.items c.args.id.0 = search rules in
     step_read own.registry c.args.self.now.types c.args.id.0 (slice_get own.steps.items c.args.id.0)
-        c.step_of.result same got
-        (step_at own.registry own.members.items own.rows own.steps.items c.args.id.0
-        c.self.invariant.table)
+    c.step_of.result same got
+    (step_at own.registry own.members.items own.rows own.steps.items c.args.id.0
+    c.self.invariant.table)

@@ -5,34 +5,42 @@ use Rattle.widths_core.specs.Progress.{state_of, counter_at, no_counter}
 use Rattle.widths_core.proofs.Ends.{placed, begins_done, begins_passed, begun, begun_on}
 use Rattle.widths_core.proofs.Results.{map_ok}
 use Rattle.widths_core.proofs.settling.Settling.begin.Goals as goal
-use Rattle.widths_core.proofs.settling.Settling.begin.Goals.{
-    then-counter-eq0+in_ok-complete, else-counter-eq0
-}
+use Rattle.widths_core.proofs.settling.Settling.begin.Goals.{then-counter-eq0+in_ok-complete, else-counter-eq0}
 
 pub complete-requires : goal.complete-requires
 complete-requires c =
     let s = c.counters.self in
     let lt : c.counters.number < length s.counters.items =
-        omega (arith, c.counters-test.true, c.len-number-end.ensures,
-        c.counters.invariant.consistent.counters, c.requires.consistent.counters,
-        c.args.self.now.counters.ok.0) in
+    omega (
+      arith,
+      c.counters-test.true,
+      c.len-number-end.ensures,
+      c.counters.invariant.consistent.counters,
+      c.requires.consistent.counters,
+      c.args.self.now.counters.ok.0,
+    ) in
     let is : c.index-counter.result.now ≡ counter_at (state_of s) c.counters.number =
-        get_or_read s.counters.items c.counters.number c.index-counter.result.now lt
-        c.index-counter.ensures no_counter in
+    get_or_read s.counters.items c.counters.number c.index-counter.result.now lt
+    c.index-counter.ensures no_counter in
     rw is (placed c.args.graph.now.types.now _ (state_of s) c.counters.number
-        c.counters.invariant.consistent lt)
+    c.counters.invariant.consistent lt)
 
 pub counters-preserved : goal.counters-preserved
 counters-preserved c =
     let r = c.args.graph.now.types.now in
     let s = c.counters.self in
     let lt : c.counters.number < length s.counters.items =
-        omega (arith, c.counters-test.true, c.len-number-end.ensures,
-        c.counters.invariant.consistent.counters, c.requires.consistent.counters,
-        c.args.self.now.counters.ok.0) in
+    omega (
+      arith,
+      c.counters-test.true,
+      c.len-number-end.ensures,
+      c.counters.invariant.consistent.counters,
+      c.requires.consistent.counters,
+      c.args.self.now.counters.ok.0,
+    ) in
     let is : c.index-counter.result.now ≡ counter_at (state_of s) c.counters.number =
-        get_or_read s.counters.items c.counters.number c.index-counter.result.now lt
-        c.index-counter.ensures no_counter in
+    get_or_read s.counters.items c.counters.number c.index-counter.result.now lt
+    c.index-counter.ensures no_counter in
     elim c.if-counter-eq0.branch [
       | then-counter-eq0+in_ok-complete w ↦
           rw w.self-is (begins_done r (state_of c.args.self.now) (state_of s)
@@ -48,14 +56,19 @@ counters-preserved c =
 pub propagate_all-requires : goal.propagate_all-requires
 propagate_all-requires c =
     begun c.args.graph.now.types.now c.args.graph.now (state_of c.args.self.now)
-        (state_of c.counters.self) c.counters.number c.requires
-        (omega (arith, c.counters-test.false, c.len-number-end.ensures,
-        c.counters.invariant.consistent.counters, c.requires.consistent.counters,
-        c.args.self.now.counters.ok.0)) c.counters.invariant
+    (state_of c.counters.self) c.counters.number c.requires
+    (omega (
+      arith,
+      c.counters-test.false,
+      c.len-number-end.ensures,
+      c.counters.invariant.consistent.counters,
+      c.requires.consistent.counters,
+      c.args.self.now.counters.ok.0,
+    )) c.counters.invariant
 
 pub returns : goal.returns
 returns c =
     map_ok c.propagate_all.result _ _
-        (λ done. begun_on c.args.graph.now.types.now c.args.graph.now c.propagate_all.new.graph
-        (state_of c.args.self.now) (state_of c.counters.self) (state_of c.propagate_all.new.self)
-        done c.counters.invariant.follows) c.propagate_all.ensures
+    (λ done. begun_on c.args.graph.now.types.now c.args.graph.now c.propagate_all.new.graph
+    (state_of c.args.self.now) (state_of c.counters.self) (state_of c.propagate_all.new.self)
+    done c.counters.invariant.follows) c.propagate_all.ensures

@@ -13,44 +13,44 @@ references-init c =
     let lt = pending-lt r c.args.graph.now (state_of s) c.args.propagated c.requires in
     let st = c.requires.steady.consistent in
     let f : c.index.result.now ≡ known_class s.classes.items c.args.propagated =
-        get_or_read s.classes.items c.args.propagated c.index.result.now
-        (omega (arith, lt, st.classes)) c.index.ensures class.NoValue in
+    get_or_read s.classes.items c.args.propagated c.index.result.now
+    (omega (arith, lt, st.classes)) c.index.ensures class.NoValue in
     let m : c.index-2.result.now ≡ known_target s.targets.items c.args.propagated =
-        get_or_read s.targets.items c.args.propagated c.index-2.result.now
-        (omega (arith, lt, st.targets)) c.index-2.ensures None in
+    get_or_read s.targets.items c.args.propagated c.index-2.result.now
+    (omega (arith, lt, st.targets)) c.index-2.ensures None in
     propagates_first r c.args.graph.now (state_of s) c.args.propagated _ c.newest-at.result
-        c.requires f m c.newest-at.ensures
+    c.requires f m c.newest-at.ensures
 
 pub settle_part-requires-clause-number : goal.settle_part-requires-clause-number
 settle_part-requires-clause-number c =
     let it = next_at c.args.graph.now.types.now c.args.graph.now c.references.graph
-        (state_of c.args.self.now) (state_of c.references.self) c.args.propagated _ c.references.at
-        c.references.invariant c.references-test.true in
+    (state_of c.args.self.now) (state_of c.references.self) c.args.propagated _ c.references.at
+    c.references.invariant c.references-test.true in
     rw (c.link-link.ensures.counter ∙ it.number) it.counter
 
 pub settle_part-requires-clause-owner : goal.settle_part-requires-clause-owner
 settle_part-requires-clause-owner c =
     let it = next_at c.args.graph.now.types.now c.args.graph.now c.references.graph
-        (state_of c.args.self.now) (state_of c.references.self) c.args.propagated _ c.references.at
-        c.references.invariant c.references-test.true in
+    (state_of c.args.self.now) (state_of c.references.self) c.args.propagated _ c.references.at
+    c.references.invariant c.references-test.true in
     rw (c.link-link.ensures.counter ∙ it.number) it.owner
 
 pub settle_part-requires-clause-left : goal.settle_part-requires-clause-left
 settle_part-requires-clause-left c =
     let it = next_at c.args.graph.now.types.now c.args.graph.now c.references.graph
-        (state_of c.args.self.now) (state_of c.references.self) c.args.propagated _ c.references.at
-        c.references.invariant c.references-test.true in
+    (state_of c.args.self.now) (state_of c.references.self) c.args.propagated _ c.references.at
+    c.references.invariant c.references-test.true in
     rw (c.link-link.ensures.counter ∙ it.number) it.left
 
 pub references-preserved : goal.references-preserved
 references-preserved c =
     let r = c.args.graph.now.types.now in
     let it = next_at r c.args.graph.now c.references.graph (state_of c.args.self.now)
-        (state_of c.references.self) c.args.propagated _ c.references.at c.references.invariant
-        c.references-test.true in
+    (state_of c.references.self) c.args.propagated _ c.references.at c.references.invariant
+    c.references-test.true in
     propagates_at r c.args.graph.now c.references.graph c.link-link.new.self
-        (state_of c.args.self.now) (state_of c.references.self) (state_of c.settle_part.new.self)
-        c.args.propagated _ c.references.at c.link-link.result.before c.references.invariant
-        c.references-test.true c.link-link.ensures.listed
-        (rw (c.link-link.ensures.counter ∙ it.number) at c.in_ok-settle_part.ensures)
-        c.link-link.ensures.before
+    (state_of c.args.self.now) (state_of c.references.self) (state_of c.settle_part.new.self)
+    c.args.propagated _ c.references.at c.link-link.result.before c.references.invariant
+    c.references-test.true c.link-link.ensures.listed
+    (rw (c.link-link.ensures.counter ∙ it.number) at c.in_ok-settle_part.ensures)
+    c.link-link.ensures.before

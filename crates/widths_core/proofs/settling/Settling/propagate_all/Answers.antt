@@ -12,13 +12,13 @@ propagate-requires c =
     let s = c.propagated.self in
     let propagated = c.propagated.invariant.propagated in
     let lt : c.propagated.done < length s.settled.items =
-        omega (arith, c.propagated-test.true, c.len.ensures, s.settled.ok.0) in
+    omega (arith, c.propagated-test.true, c.len.ensures, s.settled.ok.0) in
     let is : c.index-propagated.result.now ≡ get_or s.settled.items c.propagated.done 0 =
-        get_or_read s.settled.items c.propagated.done c.index-propagated.result.now lt
-        c.index-propagated.ensures 0 in
+    get_or_read s.settled.items c.propagated.done c.index-propagated.result.now lt
+    c.index-propagated.ensures 0 in
     rw is (subst (λ (q : List TypeInfo). IsPending q d (state_of s)
-        (get_or s.settled.items c.propagated.done 0)) (sym propagated.steady.ready.types)
-        (pending_is c.args.graph.now.types.now d (state_of s) c.propagated.done propagated lt))
+    (get_or s.settled.items c.propagated.done 0)) (sym propagated.steady.ready.types)
+    (pending_is c.args.graph.now.types.now d (state_of s) c.propagated.done propagated lt))
 
 pub propagated-preserved : goal.propagated-preserved
 propagated-preserved c =
@@ -26,14 +26,14 @@ propagated-preserved c =
     let s = c.propagated.self in
     let propagated = c.propagated.invariant.propagated in
     let lt : c.propagated.done < length s.settled.items =
-        omega (arith, c.propagated-test.true, c.len.ensures, s.settled.ok.0) in
+    omega (arith, c.propagated-test.true, c.len.ensures, s.settled.ok.0) in
     let is : c.index-propagated.result.now ≡ get_or s.settled.items c.propagated.done 0 =
-        get_or_read s.settled.items c.propagated.done c.index-propagated.result.now lt
-        c.index-propagated.ensures 0 in
+    get_or_read s.settled.items c.propagated.done c.index-propagated.result.now lt
+    c.index-propagated.ensures 0 in
     let propagates = rw is at c.in_ok-propagate.ensures in
     so_far_more c.args.graph.now.types.now c.args.graph.now d c.propagate.new.graph
-        (state_of c.args.self.now) (state_of s) (state_of c.propagate.new.self) c.propagated.done
-        c.propagated.invariant lt
-        (subst (λ (q : List TypeInfo). Propagates q d c.propagate.new.graph (state_of s)
-        (state_of c.propagate.new.self) (get_or s.settled.items c.propagated.done 0))
-        propagated.steady.ready.types propagates)
+    (state_of c.args.self.now) (state_of s) (state_of c.propagate.new.self) c.propagated.done
+    c.propagated.invariant lt
+    (subst (λ (q : List TypeInfo). Propagates q d c.propagate.new.graph (state_of s)
+    (state_of c.propagate.new.self) (get_or s.settled.items c.propagated.done 0))
+    propagated.steady.ready.types propagates)
