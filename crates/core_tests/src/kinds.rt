@@ -8,14 +8,20 @@ fn each_primitive_has_its_kind(rt: HostRuntime) {
         (Primitive::Bool, PrimitiveKind::Bool),
         (Primitive::Char, PrimitiveKind::Char),
         (Primitive::Str, PrimitiveKind::Str),
-        (Primitive::U16, PrimitiveKind::Unsigned(IntegerWidth::W16)),
-        (Primitive::U128, PrimitiveKind::Unsigned(IntegerWidth::W128)),
+        (
+            Primitive::U16,
+            PrimitiveKind::Unsigned(IntegerWidth::Bits16),
+        ),
+        (
+            Primitive::U128,
+            PrimitiveKind::Unsigned(IntegerWidth::Bits128),
+        ),
         (Primitive::U256, PrimitiveKind::Wide(Signedness::Unsigned)),
-        (Primitive::I8, PrimitiveKind::Signed(IntegerWidth::W8)),
-        (Primitive::I64, PrimitiveKind::Signed(IntegerWidth::W64)),
+        (Primitive::I8, PrimitiveKind::Signed(IntegerWidth::Bits8)),
+        (Primitive::I64, PrimitiveKind::Signed(IntegerWidth::Bits64)),
         (Primitive::I256, PrimitiveKind::Wide(Signedness::Signed)),
     ];
-    for (primitive, kind) in rows {
+    'rows: for (primitive, kind) in rows {
         assert_eq!(rt; primitive.kind(), kind, "{primitive:?}");
     }
 }
@@ -23,13 +29,13 @@ fn each_primitive_has_its_kind(rt: HostRuntime) {
 #[test]
 fn each_width_has_an_eighth_of_its_bits_in_bytes(rt: HostRuntime) {
     let rows = [
-        (IntegerWidth::W8, 1),
-        (IntegerWidth::W16, 2),
-        (IntegerWidth::W32, 4),
-        (IntegerWidth::W64, 8),
-        (IntegerWidth::W128, 16),
+        (IntegerWidth::Bits8, 1),
+        (IntegerWidth::Bits16, 2),
+        (IntegerWidth::Bits32, 4),
+        (IntegerWidth::Bits64, 8),
+        (IntegerWidth::Bits128, 16),
     ];
-    for (width, bytes) in rows {
+    'rows: for (width, bytes) in rows {
         assert_eq!(rt; width.bytes(), bytes, "{width:?}");
     }
 }

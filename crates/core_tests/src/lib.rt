@@ -6,6 +6,8 @@ mod compact;
 #[cfg(test)]
 mod devices;
 #[cfg(test)]
+mod graph;
+#[cfg(test)]
 mod integers;
 #[cfg(test)]
 mod kinds;

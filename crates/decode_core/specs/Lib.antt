@@ -16,3 +16,4 @@ pub mod Decided
 pub mod Decoding
 pub mod Streaming
 pub mod Wanted
+pub mod Viewed

@@ -53,14 +53,14 @@ pub struct Decoder<'r, A: Allocator> {
 }
 
 impl<'r, A: Allocator> Model for Decoder<'r, A> {
-    ghost use Rattle.std.specs.Prelude.{◌+◌};
-    ghost use Rattle.decode_core.specs.Decoding.{Decoding, IsDecoding, closing_turns};
+    ghost use Rattle.decode_core.specs.Decoding.{Decoding, IsDecoding};
+    ghost use Rattle.decode_core.specs.Viewed.{decoding_of};
 
     ghost Value = { Decoding };
 
-    ghost view = { λ d. record { job = record { registry = d.checked.now.types; ty = d.root.0; depth = d.limits.depth; bytes = d.limits.bytes }; taken = d.taken; run = d.run; turns = d.turns.so_far + closing_turns d.run d.closings.so_far; calls = d.calls.so_far } };
+    ghost view = { decoding_of };
 
-    ghost invariant = { λ d. IsDecoding (record { job = record { registry = d.checked.now.types; ty = d.root.0; depth = d.limits.depth; bytes = d.limits.bytes }; taken = d.taken; run = d.run; turns = d.turns.so_far + closing_turns d.run d.closings.so_far; calls = d.calls.so_far }) };
+    ghost invariant = { λ d. IsDecoding (decoding_of d) };
 }
 
 /// What a piece made of a value on its way.

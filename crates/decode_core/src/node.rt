@@ -48,11 +48,11 @@ fn read_unsigned(width: IntegerWidth, own: &[u8]) -> Result<u128, Fault>
     ensures fits { IfOk result (λ n. up_to n (Some (most_unsigned width)) ≡ None) }
 {
     Ok(match width {
-        IntegerWidth::W8 => u128::from(read_u8(own)?.0),
-        IntegerWidth::W16 => u128::from(read_u16(own)?.0),
-        IntegerWidth::W32 => u128::from(read_u32(own)?.0),
-        IntegerWidth::W64 => u128::from(read_u64(own)?.0),
-        IntegerWidth::W128 => read_u128(own)?.0,
+        IntegerWidth::Bits8 => u128::from(read_u8(own)?.0),
+        IntegerWidth::Bits16 => u128::from(read_u16(own)?.0),
+        IntegerWidth::Bits32 => u128::from(read_u32(own)?.0),
+        IntegerWidth::Bits64 => u128::from(read_u64(own)?.0),
+        IntegerWidth::Bits128 => read_u128(own)?.0,
     })
 }
 
@@ -63,11 +63,11 @@ fn read_signed(width: IntegerWidth, own: &[u8]) -> Result<i128, Fault>
     ensures fits { IfOk result (λ z. within z (Some (most_signed width)) ≡ None) }
 {
     Ok(match width {
-        IntegerWidth::W8 => i128::from(read_i8(own)?.0),
-        IntegerWidth::W16 => i128::from(read_i16(own)?.0),
-        IntegerWidth::W32 => i128::from(read_i32(own)?.0),
-        IntegerWidth::W64 => i128::from(read_i64(own)?.0),
-        IntegerWidth::W128 => read_i128(own)?.0,
+        IntegerWidth::Bits8 => i128::from(read_i8(own)?.0),
+        IntegerWidth::Bits16 => i128::from(read_i16(own)?.0),
+        IntegerWidth::Bits32 => i128::from(read_i32(own)?.0),
+        IntegerWidth::Bits64 => i128::from(read_i64(own)?.0),
+        IntegerWidth::Bits128 => read_i128(own)?.0,
     })
 }
 

@@ -58,11 +58,11 @@ Defined r (layout.plain (layout.compact m)) d = compact_target_of_shape r d ≡ 
 Defined r _ d = Unit {0}
 
 long_width : (w : IntegerWidth) → Long (width_bytes w) (nat_lt 8 (width_bytes w))
-long_width width.W8 = inr (refl, refl, omega arith)
-long_width width.W16 = inr (refl, refl, omega arith)
-long_width width.W32 = inr (refl, refl, omega arith)
-long_width width.W64 = inr (refl, refl, omega arith)
-long_width width.W128 = inl (refl, refl)
+long_width width.Bits8 = inr (refl, refl, omega arith)
+long_width width.Bits16 = inr (refl, refl, omega arith)
+long_width width.Bits32 = inr (refl, refl, omega arith)
+long_width width.Bits64 = inr (refl, refl, omega arith)
+long_width width.Bits128 = inl (refl, refl)
 
 defined_kind : (r : List TypeInfo) (k : PrimitiveKind) (d : Option TypeDef) →
     is_long d ≡ is_long_kind k → Defined r (kind_layout k) d

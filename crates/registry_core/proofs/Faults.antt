@@ -10,7 +10,8 @@ use Rattle.registry_core.specs.declared.fault.RegistryReason.TheVariants as reas
 use Rattle.registry_core.specs.Reading.{registry_at}
 use Rattle.registry_core.specs.Laws.{IsBehind, FaultIsWithin, FaultIsKept, FrontIsCut}
 use Rattle.registry_core.proofs.Again.{spelled_is_read}
-use Rattle.registry_core.proofs.Steady.{Inside, IsTold, registry_steady}
+use Rattle.registry_core.proofs.Inside.{Inside}
+use Rattle.registry_core.proofs.Steady.{IsTold, registry_steady}
 
 told_at : {X : Type 0} (b : List ℕ) (read : Read RegistryReason X) (reason : RegistryReason)
     (left : List ℕ) → Inside IsTold b read → read ≡ Err (reason, left) → IsBehind b left

@@ -1,4 +1,5 @@
 pub mod Again
+pub mod Inside
 pub mod Faults
 pub mod Lengths
 pub mod Loops

@@ -9,7 +9,7 @@ use Rattle.registry_core.specs.declared.reading.stop.Stop.TheVariants.{Memory, F
 use Rattle.registry_core.specs.Gives.{StopsReading, IsFaultAt}
 use Rattle.registry_core.specs.Laws.{IsBehind}
 use Rattle.registry_core.specs.Reading.{reason_of, lifted}
-use Rattle.registry_core.proofs.Steady.{Inside, CutAtEnd}
+use Rattle.registry_core.proofs.Inside.{Inside, CutAtEnd}
 
 pub behind-length : (b left : List ℕ) → IsBehind b left → length left ≤ length b
 behind-length b left h = omega (arith, ap (λ (x : List ℕ). length x) h.1, length-append h.0 left)

@@ -1,15 +1,9 @@
 -- Each part's fault stands within the input, and is the same fault however the input goes on,
--- unless the input was cut.
-use Rattle.std.proofs.Common.{◌≡◌, ℕ, zero, suc, ◌+◌, ◌^◌, Bool, true, false, cond, List, [], ◌∷◌, ◌++◌, length, take, drop, Ok, Err, refl, sym, ap, append_assoc, arith, inl, inr, length-append}
-use Rattle.std.specs.Prelude.{◌≢◌, Option, Some, None, nat_lt, not, slice_get, ◌==◌}
-use Rattle.std.specs.Str.{bytes_eq, is_utf8}
-use Rattle.std.specs.Str.Lossy.{utf8_valid_len}
-use Rattle.std.proofs.lemmas.List.{append-nil, take-append-drop, take-append-le, drop-append-le}
+use Rattle.std.proofs.Common.{◌≡◌, ℕ, zero, suc, ◌+◌, cond, List, [], ◌∷◌, ◌++◌, length, Ok, Err, refl, ap, arith, inl, inr, length-append}
+use Rattle.std.specs.Prelude.{◌≢◌, Option, Some, None, slice_get, ◌==◌}
+use Rattle.std.proofs.lemmas.List.{take-append-le, drop-append-le}
 use Rattle.std.proofs.lemmas.Bool.{cases_lt, le-ltb, lt-ltb}
-use Rattle.scale_core.specs.Number.{number}
-use Rattle.scale_core.specs.Compact.{compact, target_bytes}
-use Rattle.scale_core.specs.Read.{Read, ◌>>=◌, bytes_at, number_at, form_len, form_number, form_from, is_too_long, integer_at, compact_at, text_at}
-use Rattle.scale_core.specs.declared.compact.Target.{Target}
+use Rattle.scale_core.specs.Read.{Read, ◌>>=◌, number_at, compact_at, text_at}
 use Rattle.scale_core.specs.declared.compact.Target.TheVariants.{U32 as u32_target}
 use Rattle.scale_core.specs.declared.fault.Reason.{Reason}
 use Rattle.scale_core.specs.declared.fault.Reason.TheVariants as scale
@@ -21,96 +15,7 @@ use Rattle.registry_core.specs.declared.fault.RegistryReason.TheVariants as regi
 use Rattle.registry_core.specs.Bytes.{primitives, magic, version}
 use Rattle.registry_core.specs.Laws.{IsBehind}
 use Rattle.registry_core.specs.Reading.{Reader, reason_of, lifted, length_at, repeated, sequence_at, string_at, texts_at, option_at, type_id_at, type_ids_at, byte_at, param_at, params_at, field_at, fields_at, arm_read_at, arms_read_at, named, primitive_at, as_definition, array_at, bit_sequence_at, definition_at, type_info_at, id_at, types_at, registry_at, mark_at, letters_at, prefix_at, metadata_at}
-
-at_end : (b : List ℕ) → IsBehind b []
-at_end b = (b, sym (append-nil b))
-
-at_front : (b : List ℕ) → IsBehind b b
-at_front b = ([], refl)
-
-behind_drop : (k : ℕ) (b : List ℕ) → IsBehind b (drop k b)
-behind_drop k b = (take k b, sym (take-append-drop k b))
-
--- what is left stands behind a front of the input, be it behind a value or from a fault on, and the
--- fault is so
-abbrev pub Inside : {E X : Type 0} → (E → List ℕ → Type 0) → List ℕ → Read E X → Type 0
-Inside Q b (Ok x) = IsBehind b x.1
-Inside Q b (Err e) = IsBehind b e.1 × Q e.0 e.1
-
-behind : (b c a left : List ℕ) → b ≡ c ++ a → IsBehind a left → IsBehind b left
-behind b c a left e h = (c ++ h.0, rw (e, h.1) (sym (append_assoc c h.0 left)))
-
-after : {E X : Type 0} (Q : E → List ℕ → Type 0) (b c a : List ℕ) (r : Read E X) → b ≡ c ++ a →
-    Inside Q a r → Inside Q b r
-after Q b c a (Ok x) e h = behind b c a x.1 e h
-after Q b c a (Err f) e h = (behind b c a f.1 e h.0, h.1)
-
-after_byte : {E X : Type 0} (Q : E → List ℕ → Type 0) (byte : ℕ) (a : List ℕ) (r : Read E X) →
-    Inside Q a r → Inside Q (byte ∷ a) r
-after_byte Q byte a r h = after Q (byte ∷ a) (byte ∷ []) a r refl h
-
-inside_then : {E X Y : Type 0} (Q : E → List ℕ → Type 0) (b : List ℕ) (r : Read E X)
-    (f : X × List ℕ → Read E Y) → Inside Q b r → ((x : X × List ℕ) → Inside Q x.1 (f x)) →
-    Inside Q b (r >>= f)
-inside_then Q b (Ok x) f h g = after Q b h.0 x.1 (f x) h.1 (g x)
-inside_then Q b (Err e) f h g = h
-
-inside_cond : {E X : Type 0} (Q : E → List ℕ → Type 0) (b : List ℕ) (t : Bool) (x y : Read E X) →
-    Inside Q b x → Inside Q b y → Inside Q b (cond t x y)
-inside_cond Q b true x y f g = f
-inside_cond Q b false x y f g = g
-
--- ---- integers and texts
-
--- a cut leaves nothing
-abbrev pub CutAtEnd : Reason → List ℕ → Type 0
-CutAtEnd reason left = reason ≡ scale.Truncated → left ≡ []
-
-bytes_inside : (k : ℕ) (b : List ℕ) → Inside CutAtEnd b (bytes_at k b)
-bytes_inside k b = inside_cond CutAtEnd b (nat_lt (length b) k) (Err (scale.Truncated, []))
-    (Ok (take k b, drop k b)) (at_end b, λ e. refl) (behind_drop k b)
-
-pub number_inside : (k : ℕ) (b : List ℕ) → Inside CutAtEnd b (number_at k b)
-number_inside k b = inside_cond CutAtEnd b (nat_lt (length b) k) (Err (scale.Truncated, []))
-    (Ok (number (take k b), drop k b)) (at_end b, λ e. refl) (behind_drop k b)
-
-form_inside : (m : Target) (b : List ℕ) (r : Read Reason (List ℕ)) → Inside CutAtEnd b r →
-    Inside CutAtEnd b (form_from m b r)
-form_inside m b (Err e) h = h
-form_inside m b (Ok x) h = let n = form_number x.0 in
-    inside_cond CutAtEnd b (not (bytes_eq (compact n) x.0)) (Err (scale.CompactNotShortest, b))
-    (cond (nat_lt n (256 ^ target_bytes m)) (Ok (n, x.1)) (Err (scale.CompactTooLarge, b)))
-    (at_front b, λ e. absurd cc)
-    (inside_cond CutAtEnd b (nat_lt n (256 ^ target_bytes m)) (Ok (n, x.1))
-    (Err (scale.CompactTooLarge, b)) h (at_front b, λ e. absurd cc))
-
-integer_inside : (m : Target) (b : List ℕ) → Inside CutAtEnd b (integer_at m b)
-integer_inside m [] = (at_end [], λ e. refl)
-integer_inside m (first ∷ rest) =
-    inside_cond CutAtEnd (first ∷ rest) (is_too_long m first)
-    (Err (scale.CompactTooLarge, first ∷ rest))
-    (form_from m (first ∷ rest) (bytes_at (form_len first) (first ∷ rest)))
-    (at_front (first ∷ rest), λ e. absurd cc)
-    (form_inside m (first ∷ rest) (bytes_at (form_len first) (first ∷ rest))
-    (bytes_inside (form_len first) (first ∷ rest)))
-
-pub compact_inside : (b : List ℕ) → Inside CutAtEnd b (compact_at u32_target b)
-unfolding compact_at
-compact_inside b = integer_inside u32_target b
-
-judged_inside : (from : List ℕ) (r : Read Reason (List ℕ)) → Inside CutAtEnd from r →
-    Inside CutAtEnd from (r >>= λ text. cond (is_utf8 text.0) (Ok text)
-    (Err (scale.BadUtf8, drop (utf8_valid_len text.0) from)))
-judged_inside from (Err e) h = h
-judged_inside from (Ok text) h =
-    inside_cond CutAtEnd from (is_utf8 text.0) (Ok text)
-    (Err (scale.BadUtf8, drop (utf8_valid_len text.0) from)) h
-    (behind_drop (utf8_valid_len text.0) from, λ e. absurd cc)
-
-pub text_inside : (b : List ℕ) → Inside CutAtEnd b (text_at b)
-unfolding text_at
-text_inside b = inside_then CutAtEnd b (compact_at u32_target b) _ (compact_inside b)
-    (λ n. judged_inside n.1 (bytes_at n.0 n.1) (bytes_inside n.0 n.1))
+use Rattle.registry_core.proofs.Inside.{at_end, at_front, Inside, after_byte, inside_then, inside_cond, CutAtEnd, number_inside, compact_inside, text_inside}
 
 -- ---- parts
 

@@ -5,11 +5,11 @@ ghost use Rattle.std.specs.Prelude.{◌≡◌, ◌≤◌};
 /// How many bits an integer of at most 128 has (SCALE codec specification, fixed-width integers).
 #[derive(Clone, Copy, Debug, PartialEq, Eq)]
 pub enum IntegerWidth {
-    W8,
-    W16,
-    W32,
-    W64,
-    W128,
+    Bits8,
+    Bits16,
+    Bits32,
+    Bits64,
+    Bits128,
 }
 
 impl IntegerWidth {
@@ -22,11 +22,11 @@ impl IntegerWidth {
         ensures bound { result ≤ 16 }
     {
         match self {
-            IntegerWidth::W8 => 1,
-            IntegerWidth::W16 => 2,
-            IntegerWidth::W32 => 4,
-            IntegerWidth::W64 => 8,
-            IntegerWidth::W128 => 16,
+            IntegerWidth::Bits8 => 1,
+            IntegerWidth::Bits16 => 2,
+            IntegerWidth::Bits32 => 4,
+            IntegerWidth::Bits64 => 8,
+            IntegerWidth::Bits128 => 16,
         }
     }
 }

@@ -19,11 +19,11 @@ fn most_unsigned(width: IntegerWidth) -> u128
     ensures { result ≡ most_unsigned width }
 {
     match width {
-        IntegerWidth::W8 => u128::from(u8::MAX),
-        IntegerWidth::W16 => u128::from(u16::MAX),
-        IntegerWidth::W32 => u128::from(u32::MAX),
-        IntegerWidth::W64 => u128::from(u64::MAX),
-        IntegerWidth::W128 => u128::MAX,
+        IntegerWidth::Bits8 => u128::from(u8::MAX),
+        IntegerWidth::Bits16 => u128::from(u16::MAX),
+        IntegerWidth::Bits32 => u128::from(u32::MAX),
+        IntegerWidth::Bits64 => u128::from(u64::MAX),
+        IntegerWidth::Bits128 => u128::MAX,
     }
 }
 

@@ -193,11 +193,11 @@ fn width_target(width: IntegerWidth) -> Target
     ensures { result ≡ width_target width }
 {
     match width {
-        IntegerWidth::W8 => Target::U8,
-        IntegerWidth::W16 => Target::U16,
-        IntegerWidth::W32 => Target::U32,
-        IntegerWidth::W64 => Target::U64,
-        IntegerWidth::W128 => Target::U128,
+        IntegerWidth::Bits8 => Target::U8,
+        IntegerWidth::Bits16 => Target::U16,
+        IntegerWidth::Bits32 => Target::U32,
+        IntegerWidth::Bits64 => Target::U64,
+        IntegerWidth::Bits128 => Target::U128,
     }
 }
 

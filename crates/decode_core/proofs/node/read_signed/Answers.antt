@@ -4,32 +4,32 @@ use Rattle.std.specs.Int.{w16}
 use Rattle.decode_core.proofs.lists.ReadFronts.{same_is, widened_is}
 use Rattle.decode_core.proofs.node.read_signed.Goals as goal
 
-pub returns-in_ok-read_i8-in-W8-clause-reads : goal.returns-in_ok-read_i8-in-W8-clause-reads
-returns-in_ok-read_i8-in-W8-clause-reads c =
-    rw c.in-W8.is (widened_is w8 c.args.own.now c.in_ok-read_i8-in-W8.field-0.1
-    c.in_ok-read_i8-in-W8.field-0.0 c.from.result (signed_at 1 c.args.own.now) (search rules)
-    (search rules) c.from.ensures c.in_ok-read_i8-in-W8.ensures)
+pub returns-in_ok-read_i8-in-Bits8-clause-reads : goal.returns-in_ok-read_i8-in-Bits8-clause-reads
+returns-in_ok-read_i8-in-Bits8-clause-reads c =
+    rw c.in-Bits8.is (widened_is w8 c.args.own.now c.in_ok-read_i8-in-Bits8.field-0.1
+    c.in_ok-read_i8-in-Bits8.field-0.0 c.from.result (signed_at 1 c.args.own.now) (search rules)
+    (search rules) c.from.ensures c.in_ok-read_i8-in-Bits8.ensures)
 
-pub returns-in_ok-read_i16-in-W16-clause-reads : goal.returns-in_ok-read_i16-in-W16-clause-reads
-returns-in_ok-read_i16-in-W16-clause-reads c =
-    rw c.in-W16.is (widened_is w16 c.args.own.now c.in_ok-read_i16-in-W16.field-0.1
-    c.in_ok-read_i16-in-W16.field-0.0 c.from-in-W16.result (signed_at 2 c.args.own.now)
-    (search rules) (search rules) c.from-in-W16.ensures c.in_ok-read_i16-in-W16.ensures)
+pub returns-in_ok-read_i16-in-Bits16-clause-reads : goal.returns-in_ok-read_i16-in-Bits16-clause-reads
+returns-in_ok-read_i16-in-Bits16-clause-reads c =
+    rw c.in-Bits16.is (widened_is w16 c.args.own.now c.in_ok-read_i16-in-Bits16.field-0.1
+    c.in_ok-read_i16-in-Bits16.field-0.0 c.from-in-Bits16.result (signed_at 2 c.args.own.now)
+    (search rules) (search rules) c.from-in-Bits16.ensures c.in_ok-read_i16-in-Bits16.ensures)
 
-pub returns-in_ok-read_i32-in-W32-clause-reads : goal.returns-in_ok-read_i32-in-W32-clause-reads
-returns-in_ok-read_i32-in-W32-clause-reads c =
-    rw c.in-W32.is (widened_is w32 c.args.own.now c.in_ok-read_i32-in-W32.field-0.1
-    c.in_ok-read_i32-in-W32.field-0.0 c.from-in-W32.result (signed_at 4 c.args.own.now)
-    (search rules) (search rules) c.from-in-W32.ensures c.in_ok-read_i32-in-W32.ensures)
+pub returns-in_ok-read_i32-in-Bits32-clause-reads : goal.returns-in_ok-read_i32-in-Bits32-clause-reads
+returns-in_ok-read_i32-in-Bits32-clause-reads c =
+    rw c.in-Bits32.is (widened_is w32 c.args.own.now c.in_ok-read_i32-in-Bits32.field-0.1
+    c.in_ok-read_i32-in-Bits32.field-0.0 c.from-in-Bits32.result (signed_at 4 c.args.own.now)
+    (search rules) (search rules) c.from-in-Bits32.ensures c.in_ok-read_i32-in-Bits32.ensures)
 
-pub returns-in_ok-read_i64-in-W64-clause-reads : goal.returns-in_ok-read_i64-in-W64-clause-reads
-returns-in_ok-read_i64-in-W64-clause-reads c =
-    rw c.in-W64.is (widened_is w64 c.args.own.now c.in_ok-read_i64-in-W64.field-0.1
-    c.in_ok-read_i64-in-W64.field-0.0 c.from-in-W64.result (signed_at 8 c.args.own.now)
-    (search rules) (search rules) c.from-in-W64.ensures c.in_ok-read_i64-in-W64.ensures)
+pub returns-in_ok-read_i64-in-Bits64-clause-reads : goal.returns-in_ok-read_i64-in-Bits64-clause-reads
+returns-in_ok-read_i64-in-Bits64-clause-reads c =
+    rw c.in-Bits64.is (widened_is w64 c.args.own.now c.in_ok-read_i64-in-Bits64.field-0.1
+    c.in_ok-read_i64-in-Bits64.field-0.0 c.from-in-Bits64.result (signed_at 8 c.args.own.now)
+    (search rules) (search rules) c.from-in-Bits64.ensures c.in_ok-read_i64-in-Bits64.ensures)
 
-pub returns-in_ok-read_i128-in-W128-clause-reads : goal.returns-in_ok-read_i128-in-W128-clause-reads
-returns-in_ok-read_i128-in-W128-clause-reads c =
-    rw c.in-W128.is (same_is c.args.own.now c.in_ok-read_i128-in-W128.field-0.1
-    c.in_ok-read_i128-in-W128.field-0.0 (signed_at 16 c.args.own.now) (search rules)
-    c.in_ok-read_i128-in-W128.ensures)
+pub returns-in_ok-read_i128-in-Bits128-clause-reads : goal.returns-in_ok-read_i128-in-Bits128-clause-reads
+returns-in_ok-read_i128-in-Bits128-clause-reads c =
+    rw c.in-Bits128.is (same_is c.args.own.now c.in_ok-read_i128-in-Bits128.field-0.1
+    c.in_ok-read_i128-in-Bits128.field-0.0 (signed_at 16 c.args.own.now) (search rules)
+    c.in_ok-read_i128-in-Bits128.ensures)

@@ -1,6 +1,7 @@
 use Rattle.std.proofs.Common.{◌+◌, ◌≤◌}
 use Rattle.std.specs.Prelude.{Result}
 use Rattle.graph_core.specs.Widths.{widest}
+use Rattle.decode_core.specs.Viewed.{job_of}
 use Rattle.decode_core.specs.Bound.{node_bound}
 use Rattle.decode_core.specs.Decoding.{Decoding, IsSmall, closing_turns}
 use Rattle.decode_core.specs.Outcome.{Job}
@@ -13,12 +14,7 @@ use Rattle.decode_core.proofs.decoder.Decoder.node_count.Goals as goal
 pub returns-in-Ok-clause-bound : goal.returns-in-Ok-clause-bound
 returns-in-Ok-clause-bound g c =
     let d = c.self.inside in
-    let j : Job = record {
-      registry = d.checked.now.types;
-      ty = d.root.0;
-      depth = d.limits.depth;
-      bytes = d.limits.bytes;
-    } in
+    let j = job_of d in
     let small = subst (λ (r : Result Running DecodeFault). IsSmall
     (record {
       job = j;

@@ -1,7 +1,7 @@
 use Rattle.scale_core.specs.Read.{compact_at}
 use Rattle.scale_core.specs.declared.compact.Target.TheVariants.{U32}
 use Rattle.registry_core.proofs.Places.{stops_at}
-use Rattle.registry_core.proofs.Steady.{compact_inside}
+use Rattle.registry_core.proofs.Inside.{compact_inside}
 use Rattle.registry_core.proofs.reading.atoms.length_of.Goals as goal
 
 pub returns-in-Err : goal.returns-in-Err

@@ -1,6 +1,6 @@
 use Rattle.scale_core.specs.Read.{text_at}
 use Rattle.registry_core.proofs.Places.{stops_at}
-use Rattle.registry_core.proofs.Steady.{text_inside}
+use Rattle.registry_core.proofs.Inside.{text_inside}
 use Rattle.registry_core.proofs.reading.atoms.text_of.Goals as goal
 
 pub returns-in-Err : goal.returns-in-Err

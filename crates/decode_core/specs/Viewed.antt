@@ -1,0 +1,24 @@
+-- What contracts see of a decoder.
+use Rattle.std.specs.Prelude.{◌+◌}
+use Rattle.decode_core.specs.declared.decoder.Decoder.TheInside.{Inside}
+use Rattle.decode_core.specs.Outcome.{Job}
+use Rattle.decode_core.specs.Decoding.{Decoding, closing_turns}
+
+-- what is decoded: a value of which type, within which limits
+abbrev pub job_of : Inside → Job
+job_of d = record {
+  registry = d.checked.now.types;
+  ty = d.root.0;
+  depth = d.limits.depth;
+  bytes = d.limits.bytes;
+}
+
+-- the job, how many bytes were taken, the value on its way or the fault, and how many turns and calls there were
+abbrev pub decoding_of : Inside → Decoding
+decoding_of d = record {
+  job = job_of d;
+  taken = d.taken;
+  run = d.run;
+  turns = d.turns.so_far + closing_turns d.run d.closings.so_far;
+  calls = d.calls.so_far;
+}
