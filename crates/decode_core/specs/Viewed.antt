@@ -5,7 +5,7 @@ use Rattle.decode_core.specs.Outcome.{Job}
 use Rattle.decode_core.specs.Decoding.{Decoding, closing_turns}
 
 -- what is decoded: a value of which type, within which limits
-abbrev pub job_of : Inside → Job
+abbrev pub job_of : {A : Type 0} → Inside A → Job
 job_of d = record {
   registry = d.checked.now.types;
   ty = d.root.0;
@@ -14,7 +14,7 @@ job_of d = record {
 }
 
 -- the job, how many bytes were taken, the value on its way or the fault, and how many turns and calls there were
-abbrev pub decoding_of : Inside → Decoding
+abbrev pub decoding_of : {A : Type 0} → Inside A → Decoding
 decoding_of d = record {
   job = job_of d;
   taken = d.taken;
