@@ -63,8 +63,9 @@ pub fn shape(checked: &Checked, ty: TypeId) -> Option<&TypeDef>
     Some(&info.shape)
 }
 
-/// What a value of a type of this step begins with, or why there is none.
-fn next_of_step(step: Step) -> Next
+/// What a value of a type of this step begins with, or why there is none, where its depth is within the limit (SCALE
+/// codec, "Types"). It takes no look-up.
+pub fn next_of_step(step: Step) -> Next
     ensures { result ≡ next_of_step step }
 {
     match step {

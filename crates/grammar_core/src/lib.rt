@@ -5,5 +5,5 @@ mod form;
 pub mod laws;
 mod limits;
 
-pub use form::{Form, Next, StopReason, next_at, shape};
+pub use form::{Form, Next, StopReason, next_at, next_of_step, shape};
 pub use limits::{Limits, MAX_DEPTH};

@@ -1,4 +1,5 @@
 pub mod Adding
+pub mod Ahead
 pub mod Begun
 pub mod Below
 pub mod CellsOf
@@ -8,6 +9,7 @@ pub mod TextEnded
 pub mod Finished
 pub mod Forms
 pub mod Leaves
+pub mod Members
 pub mod NextLeaf
 pub mod NextOpen
 pub mod OwnBytes

@@ -1,6 +1,6 @@
 -- The nodes whose children come next, by the form that is next.
-use Rattle.std.proofs.Common.{◌≡◌, ℕ, ◌<◌, ◌^◌, [], ◌∷◌, Option, Some, None, refl, sym, ap, ◌∙◌, arith, inl, inr}
-use Rattle.std.specs.Prelude.{option_map}
+use Rattle.std.proofs.Common.{◌≡◌, ℕ, ◌+◌, ◌<◌, ◌≤◌, ◌^◌, ◌⊎◌, Bool, true, [], ◌∷◌, length, Option, Some, None, refl, sym, ap, ◌∙◌, arith, inl, inr}
+use Rattle.std.specs.Prelude.{option_map, is_some}
 use Rattle.std.proofs.lemmas.List.{append-nil}
 use Rattle.std.proofs.lemmas.Option.{same_Some}
 use Rattle.scale_core.specs.Compact.{compact}
@@ -8,15 +8,20 @@ use Rattle.scale_core.proofs.Forms.{are_compact}
 use Rattle.registry_core.specs.declared.definition.Arm.{Arm}
 use Rattle.graph_core.specs.Types.{field_types}
 use Rattle.widths_core.specs.Arms.{arm_of}
+use Rattle.widths_core.specs.Classes.{is_finite}
+use Rattle.widths_core.specs.Layouts.{Layout, layout}
+use Rattle.widths_core.specs.Layouts as layout
 use Rattle.grammar_core.specs.Grammar.{Val}
-use Rattle.grammar_core.specs.Parts.{Part, each, how_many_left}
+use Rattle.grammar_core.specs.Parts.{Part, each, times, how_many_left}
 use Rattle.grammar_core.specs.Preorder as head
 use Rattle.grammar_core.specs.Tree as tree
+use Rattle.grammar_core.specs.declared.form.Form.{Form}
 use Rattle.grammar_core.specs.declared.form.Form.TheVariants as form
 use Rattle.grammar_core.specs.declared.form.Next.TheVariants as next
-use Rattle.value_core.specs.Built.{IsNextOpen}
-use Rattle.value_core.specs.Opened.{OpensFields, OpensArm, OpensArray, OpensSequence}
-use Rattle.value_core.specs.Walked.{Walked, next_of}
+use Rattle.grammar_core.specs.Cells.{fields_part, list_part}
+use Rattle.value_core.specs.Built.{Built, IsNextOpen, arm_in, next_layout, type_or_0, with_arm, with_fields, with_list, with_open}
+use Rattle.value_core.specs.Opened.{OpensFields, OpensArm, OpensElements, IsListNext}
+use Rattle.value_core.specs.Walked.{Walked, next_of, next_type}
 use Rattle.value_core.proofs.Forms.{wanted}
 
 pub fields_next : (w : Walked) (p : Part) → next_of w ≡ next.Wants form.Fields → OpensFields w p →
@@ -38,54 +43,60 @@ fields_next w p e o =
       is_open = ([], o.members, o.laid, ap how_many_left o.part_is, o.part_is, refl);
     }
 
-pub array_next : (w : Walked) (n : ℕ) (p : Part) → next_of w ≡ next.Wants (form.Array n) →
-    OpensArray w n p → IsNextOpen w (head.branch tree.list n) p
+-- an array of this length or a sequence, whose elements these are
+pub list_next : (w : Walked) (n : ℕ) (p : Part) → n < 2 ^ 32 → IsListNext w n →
+    OpensElements w n p → IsNextOpen w (head.branch tree.list n) p
 unfolding Val
-array_next w n p e o =
-    let k = wanted w (form.Array n) e in
-    let same : k.ty ≡ o.ty = same_Some k.ty o.ty (sym k.is_next ∙ o.next) in
-    record {
-      ty = o.ty;
-      next = o.next;
-      room = k.room;
-      kind = tree.list;
-      count = n;
-      head_is = refl;
-      own = [];
-      are_bytes = tt;
-      finite = rw (← same) k.finite;
-      is_open = (o.element, n, [], [], inl (o.laid, refl), o.part_is, omega arith, refl, refl);
-    }
+list_next w n p h e o = by (ready e) o.laid where
+  ready_for : (f : Form) → next_of w ≡ next.Wants f → (length w.frames ≤ w.limit + 1)
+      × (is_finite w.types o.ty ≡ true)
+  ready_for f e =
+      let k = wanted w f e in
+      let same : k.ty ≡ o.ty = same_Some k.ty o.ty (sym k.is_next ∙ o.next) in
+      (k.room, rw (← same) k.finite)
 
-pub sequence_next : (w : Walked) (n : ℕ) (p : Part) → n < 2 ^ 32 →
-    next_of w ≡ next.Wants form.Sequence → OpensSequence w n p →
-    IsNextOpen w (head.branch tree.list n) p
-unfolding Val
-sequence_next w n p h e o =
-    let k = wanted w form.Sequence e in
-    let same : k.ty ≡ o.ty = same_Some k.ty o.ty (sym k.is_next ∙ o.next) in
-    record {
-      ty = o.ty;
-      next = o.next;
-      room = k.room;
-      kind = tree.list;
-      count = n;
-      head_is = refl;
-      own = compact n;
-      are_bytes = are_compact n;
-      finite = rw (← same) k.finite;
-      is_open = (
-        o.element,
-        n,
-        compact n,
-        [],
-        inr (o.laid, (omega (arith, h), refl)),
-        o.part_is,
-        omega arith,
-        sym (append-nil (compact n)),
-        refl,
-      );
-    }
+  ready : IsListNext w n → (length w.frames ≤ w.limit + 1) × (is_finite w.types o.ty ≡ true)
+  ready (inl e) = ready_for (form.Array n) e
+  ready (inr e) = ready_for form.Sequence e
+
+  by : (length w.frames ≤ w.limit + 1) × (is_finite w.types o.ty ≡ true) →
+      (layout w.types o.ty ≡ layout.array n o.element)
+      ⊎ (layout w.types o.ty ≡ layout.sequence o.element) →
+      IsNextOpen w (head.branch tree.list n) p
+  by k (inl laid) = record {
+    ty = o.ty;
+    next = o.next;
+    room = k.0;
+    kind = tree.list;
+    count = n;
+    head_is = refl;
+    own = [];
+    are_bytes = tt;
+    finite = k.1;
+    is_open = (o.element, n, [], [], inl (laid, refl), o.part_is, omega arith, refl, refl);
+  }
+  by k (inr laid) = record {
+    ty = o.ty;
+    next = o.next;
+    room = k.0;
+    kind = tree.list;
+    count = n;
+    head_is = refl;
+    own = compact n;
+    are_bytes = are_compact n;
+    finite = k.1;
+    is_open = (
+      o.element,
+      n,
+      compact n,
+      [],
+      inr (laid, (omega (arith, h), refl)),
+      o.part_is,
+      omega arith,
+      sym (append-nil (compact n)),
+      refl,
+    );
+  }
 
 pair_is : (x y : ℕ × Part) → Some x ≡ Some y → x ≡ y
 pair_is x y e = cc
@@ -133,3 +144,55 @@ arm_next w index q p h e o = by (arm_of o.arms index) refl o.found_is where
           refl,
         );
       }
+
+-- ---- what is opened, by the layout of the next type
+
+laid_next : (b : Built) (t : ℕ) → next_type b.walk ≡ Some t →
+    next_layout b ≡ layout b.walk.types t
+laid_next b t e = ap (λ (o : Option ℕ). layout b.walk.types (type_or_0 o)) e
+
+pub with_fields_is : (b : Built) (p : Part) → OpensFields b.walk p →
+    with_open b (head.branch tree.fields (how_many_left p)) p ≡ with_fields b
+with_fields_is b p o = ap (λ (q : Part). with_open b (head.branch tree.fields (how_many_left q)) q)
+    (o.part_is ∙ sym (ap fields_part (laid_next b o.ty o.next ∙ o.laid)))
+
+pub with_list_is : (b : Built) (n : ℕ) (p : Part) → OpensElements b.walk n p →
+    with_open b (head.branch tree.list n) p ≡ with_list b n
+with_list_is b n p o = ap (with_open b (head.branch tree.list n)) (o.part_is ∙ sym (by o.laid)) where
+  by : (layout b.walk.types o.ty ≡ layout.array n o.element)
+      ⊎ (layout b.walk.types o.ty ≡ layout.sequence o.element) →
+      list_part (next_layout b) n ≡ times n o.element
+  by (inl laid) = ap (λ (f : Layout). list_part f n) (laid_next b o.ty o.next ∙ laid)
+  by (inr laid) = ap (λ (f : Layout). list_part f n) (laid_next b o.ty o.next ∙ laid)
+
+-- an arm was found where the next layout has one
+abbrev arm_opening : ℕ × Arm → ℕ × Part
+arm_opening x = (x.0, each (field_types x.1.fields))
+
+arm_is : (b : Built) (index : ℕ) (found : Option (ℕ × Part)) → OpensArm b.walk index found →
+    found ≡ option_map arm_opening (arm_in (next_layout b) index)
+arm_is b index found o = o.found_is
+    ∙ sym (ap (λ (f : Layout). option_map arm_opening (arm_in f index))
+    (laid_next b o.ty o.next ∙ o.laid))
+
+pub with_arm_is : (b : Built) (index q : ℕ) (p : Part) → OpensArm b.walk index (Some (q, p)) →
+    with_open b (head.branch (tree.arm q) (how_many_left p)) p ≡ with_arm b index
+with_arm_is b index q p o = by (arm_in (next_layout b) index) refl (arm_is b index (Some (q, p)) o)
+  where
+    by : (found : Option (ℕ × Arm)) → arm_in (next_layout b) index ≡ found →
+        ◌≡◌ {A = Option (ℕ × Part)} (Some (q, p)) (option_map arm_opening found) →
+        with_open b (head.branch (tree.arm q) (how_many_left p)) p ≡ with_arm b index
+    by None f is = absurd cc
+    by (Some x) f is =
+        let both = pair_is (q, p) (arm_opening x) is in
+        rw f (ap (λ (y : ℕ × Part). with_open b (head.branch (tree.arm y.0) (how_many_left y.1)) y.1)
+        both)
+
+pub arm_found : (b : Built) (index : ℕ) (found : Option (ℕ × Part)) → OpensArm b.walk index found →
+    is_some (arm_in (next_layout b) index) ≡ is_some found
+arm_found b index found o = sym (ap is_some (arm_is b index found o)
+    ∙ mapped (arm_in (next_layout b) index))
+  where
+    mapped : (x : Option (ℕ × Arm)) → is_some (option_map arm_opening x) ≡ is_some x
+    mapped None = refl
+    mapped (Some x) = refl

@@ -1,5 +1,5 @@
 -- What the next type is made of says its layout.
-use Rattle.std.proofs.Common.{◌≡◌, ℕ, Bool, true, false, List, Option, Some, None, refl, sym, ap, ◌∙◌}
+use Rattle.std.proofs.Common.{◌≡◌, ℕ, Bool, true, false, List, Option, Some, None, refl, sym, ap, ◌∙◌, inl, inr}
 use Rattle.std.specs.Prelude.{if◌then◌else◌, option_map}
 use Rattle.scale_core.specs.declared.compact.Target.{Target}
 use Rattle.registry_core.specs.declared.definition.Arm.{Arm}
@@ -20,7 +20,7 @@ use Rattle.grammar_core.specs.declared.form.Next.TheVariants as next
 use Rattle.grammar_core.specs.Forms.{form_of, form_of_shape, sequence_form, compact_form}
 use Rattle.grammar_core.specs.Parts.{each, times}
 use Rattle.value_core.specs.Walked.{Walked, next_type, next_of}
-use Rattle.value_core.specs.Opened.{shape_at, next_shape, OpensFields, OpensArm, OpensArray, OpensSequence}
+use Rattle.value_core.specs.Opened.{shape_at, next_shape, OpensFields, OpensArm, OpensElements}
 use Rattle.value_core.proofs.Forms.{wanted}
 
 -- the next type is of this shape, is of the form, and has the layout of its shape
@@ -65,7 +65,7 @@ tuple_opens w ts h s = let is = laid w form.Fields (Def.Tuple ts) (λ e. absurd 
     record { ty = is.ty; next = is.is_next; members = ids ts; laid = is.layout_is; part_is = refl }
 
 pub array_opens : (w : Walked) (n m : ℕ) (u : TypeId) → next_of w ≡ next.Wants (form.Array n) →
-    Some (Def.Array m u) ≡ next_shape w → OpensArray w n (times n u.0)
+    Some (Def.Array m u) ≡ next_shape w → OpensElements w n (times n u.0)
 array_opens w n m u h s =
     let is = laid w (form.Array n) (Def.Array m u) (λ e. absurd cc) h s in
     let form_is : next.Wants (form.Array m) ≡ next.Wants (form.Array n) = is.form_is in
@@ -74,8 +74,8 @@ array_opens w n m u h s =
       ty = is.ty;
       next = is.is_next;
       element = u.0;
-      laid = is.layout_is
-          ∙ ap (λ (k : ℕ). layout.array k u.0) same;
+      laid =
+          inl (is.layout_is ∙ ap (λ (k : ℕ). layout.array k u.0) same);
       part_is = refl;
     }
 
@@ -85,15 +85,15 @@ sequence_is u true e = absurd cc
 sequence_is u false e = refl
 
 pub sequence_opens : (w : Walked) (n : ℕ) (u : TypeId) → next_of w ≡ next.Wants form.Sequence →
-    Some (Def.Sequence u) ≡ next_shape w → OpensSequence w n (times n u.0)
+    Some (Def.Sequence u) ≡ next_shape w → OpensElements w n (times n u.0)
 sequence_opens w n u h s =
     let is = laid w form.Sequence (Def.Sequence u) (λ e. absurd cc) h s in
     record {
       ty = is.ty;
       next = is.is_next;
       element = u.0;
-      laid = is.layout_is
-          ∙ sequence_is u.0 (is_empty w.types u.0) is.form_is;
+      laid =
+          inr (is.layout_is ∙ sequence_is u.0 (is_empty w.types u.0) is.form_is);
       part_is = refl;
     }
 

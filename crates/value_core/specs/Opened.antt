@@ -1,5 +1,5 @@
 -- The parts that the next node opens, by the layout of its type.
-use Rattle.std.specs.Prelude.{◌≡◌, ℕ, List, Option, Some, None, option_map}
+use Rattle.std.specs.Prelude.{◌≡◌, ◌⊎◌, ℕ, List, Option, Some, None, option_map}
 use Rattle.registry_core.specs.declared.definition.Arm.{Arm}
 use Rattle.registry_core.specs.declared.definition.TypeDef.{TypeDef}
 use Rattle.registry_core.specs.declared.type_info.TypeInfo.{TypeInfo}
@@ -8,7 +8,9 @@ use Rattle.widths_core.specs.Layouts.{layout}
 use Rattle.widths_core.specs.Layouts as layout
 use Rattle.graph_core.specs.Types.{shape, field_types}
 use Rattle.grammar_core.specs.Parts.{Part, each, times}
-use Rattle.value_core.specs.Walked.{Walked, next_type}
+use Rattle.grammar_core.specs.declared.form.Form.TheVariants as form
+use Rattle.grammar_core.specs.declared.form.Next.TheVariants as next
+use Rattle.value_core.specs.Walked.{Walked, next_of, next_type}
 
 abbrev pub shape_at : List TypeInfo → Option ℕ → Option TypeDef
 shape_at r (Some t) = shape r t
@@ -34,18 +36,15 @@ pub record OpensArm (w : Walked) (index : ℕ) (found : Option (ℕ × Part)) : 
   pub laid : layout w.types ty ≡ layout.arms arms
   pub found_is : found ≡ option_map (λ x. (x.0, each (field_types x.1.fields))) (arm_of arms index)
 
--- so many elements of the next type, an array
-pub record OpensArray (w : Walked) (count : ℕ) (part : Part) : Type 0 where
-  pub ty : ℕ
-  pub next : next_type w ≡ Some ty
-  pub element : ℕ
-  pub laid : layout w.types ty ≡ layout.array count element
-  pub part_is : part ≡ times count element
+-- an array of this length is next, or a sequence
+abbrev pub IsListNext : Walked → ℕ → Type 0
+IsListNext w n = (next_of w ≡ next.Wants (form.Array n)) ⊎ (next_of w ≡ next.Wants form.Sequence)
 
--- so many elements of the next type, a sequence
-pub record OpensSequence (w : Walked) (count : ℕ) (part : Part) : Type 0 where
+-- so many elements of the next type, an array of this length or a sequence
+pub record OpensElements (w : Walked) (count : ℕ) (part : Part) : Type 0 where
   pub ty : ℕ
   pub next : next_type w ≡ Some ty
   pub element : ℕ
-  pub laid : layout w.types ty ≡ layout.sequence element
+  pub laid : (layout w.types ty ≡ layout.array count element)
+      ⊎ (layout w.types ty ≡ layout.sequence element)
   pub part_is : part ≡ times count element

@@ -9,7 +9,6 @@ ghost use Rattle.value_core.specs.Refusals.{Adds, judged, judged_arm, most_unsig
 use crate::build_fault::BuildFault;
 use crate::builder::Builder;
 use crate::leaf::Leaf;
-use crate::node::Content;
 use grammar_core::Form;
 use registry_core::{IntegerWidth, Primitive, PrimitiveKind};
 use std::alloc::Allocator;
@@ -52,7 +51,7 @@ impl<'r, A: Allocator> Builder<'r, A> {
         ensures { Adds (judged suits_empty self.old) (with_leaf self.old (head.leaf tree.unit)) self.old self.new result }
     {
         match self.wanted()? {
-            Form::Empty => self.add_leaf(Leaf::Empty),
+            Form::Empty => Ok(self.add_leaf(Leaf::Empty)?),
             _ => Err(BuildFault::WrongKind),
         }
     }
@@ -65,7 +64,7 @@ impl<'r, A: Allocator> Builder<'r, A> {
         ensures { Adds (judged suits_bool self.old) (with_leaf self.old (head.leaf (tree.bool value))) self.old self.new result }
     {
         match self.wanted()? {
-            Form::Primitive(Primitive::Bool) => self.add_leaf(Leaf::Bool(value)),
+            Form::Primitive(Primitive::Bool) => Ok(self.add_leaf(Leaf::Bool(value))?),
             _ => Err(BuildFault::WrongKind),
         }
     }
@@ -86,7 +85,8 @@ impl<'r, A: Allocator> Builder<'r, A> {
         if value > most_unsigned(width) {
             return Err(BuildFault::OutOfRange);
         }
-        self.add_leaf(Leaf::Unsigned(value))
+        self.add_leaf(Leaf::Unsigned(value))?;
+        Ok(())
     }
 
     /// Adds a sequence of elements that take no bytes: their count alone.
@@ -97,7 +97,7 @@ impl<'r, A: Allocator> Builder<'r, A> {
         ensures { Adds (judged suits_count self.old) (with_leaf self.old (head.leaf (tree.count count))) self.old self.new result }
     {
         match self.wanted()? {
-            Form::Count => self.add_leaf(Leaf::Count(count)),
+            Form::Count => Ok(self.add_leaf(Leaf::Count(count))?),
             _ => Err(BuildFault::WrongKind),
         }
     }
@@ -113,7 +113,7 @@ impl<'r, A: Allocator> Builder<'r, A> {
             return Err(BuildFault::WrongKind);
         };
         match primitive.kind() {
-            PrimitiveKind::Wide(_) => self.add_leaf(Leaf::Wide(&value)),
+            PrimitiveKind::Wide(_) => Ok(self.add_leaf(Leaf::Wide(&value))?),
             _ => Err(BuildFault::WrongKind),
         }
     }
@@ -133,7 +133,8 @@ impl<'r, A: Allocator> Builder<'r, A> {
         if !is_within(value, most_signed(width)) {
             return Err(BuildFault::OutOfRange);
         }
-        self.add_leaf(Leaf::Signed(value))
+        self.add_leaf(Leaf::Signed(value))?;
+        Ok(())
     }
 
     /// Adds a character.
@@ -144,7 +145,7 @@ impl<'r, A: Allocator> Builder<'r, A> {
         ensures { Adds (judged suits_char self.old) (with_leaf self.old (head.leaf (tree.char value))) self.old self.new result }
     {
         match self.wanted()? {
-            Form::Primitive(Primitive::Char) => self.add_leaf(Leaf::Char(value)),
+            Form::Primitive(Primitive::Char) => Ok(self.add_leaf(Leaf::Char(value))?),
             _ => Err(BuildFault::WrongKind),
         }
     }
@@ -162,7 +163,8 @@ impl<'r, A: Allocator> Builder<'r, A> {
         if text.len() > u32::MAX as usize {
             return Err(BuildFault::OutOfRange);
         }
-        self.add_leaf(Leaf::Text(text.as_bytes()))
+        self.add_leaf(Leaf::Text(text.as_bytes()))?;
+        Ok(())
     }
 
     /// Adds a compact integer.
@@ -178,58 +180,53 @@ impl<'r, A: Allocator> Builder<'r, A> {
         if !target.holds(value) {
             return Err(BuildFault::OutOfRange);
         }
-        self.add_leaf(Leaf::Compact(value))
+        self.add_leaf(Leaf::Compact(value))?;
+        Ok(())
     }
 
     /// Adds a composite or a tuple, whose fields or members come next.
     ///
     /// Refuses as `empty` does.
-    #[tactic(auto, using(crate::proofs::Wanted::wanted_next, crate::proofs::Wanted::wanted_closed, crate::proofs::NextOpen::fields_next))]
+    #[tactic(auto, using(crate::proofs::Wanted::wanted_next, crate::proofs::Wanted::wanted_closed))]
     pub fn fields(&mut self) -> Result<(), BuildFault>
         ensures { Adds (judged suits_fields self.old) (with_fields self.old) self.old self.new result }
     {
         let Form::Fields = self.wanted()? else {
             return Err(BuildFault::WrongKind);
         };
-        let left = self.walk().fields();
-        let children = left.len();
-        self.add_open(Content::Fields { children }, left)
+        self.add_fields()?;
+        Ok(())
     }
 
     /// Adds a variant by the index of its arm, whose fields come next.
     ///
     /// Refuses as `empty` does, and with `NoSuchVariant` an index that no arm has.
-    #[tactic(auto, using(crate::proofs::Wanted::wanted_next, crate::proofs::Wanted::wanted_closed, crate::proofs::NextOpen::arm_next))]
+    #[tactic(auto, using(crate::proofs::Wanted::wanted_next, crate::proofs::Wanted::wanted_closed))]
     pub fn arm(&mut self, index: u8) -> Result<(), BuildFault>
         ensures { Adds (judged_arm self.old index) (with_arm self.old index) self.old self.new result }
     {
         let Form::Arm = self.wanted()? else {
             return Err(BuildFault::WrongKind);
         };
-        let Some((position, left)) = self.walk().arm(index) else {
+        if !self.add_arm(index)? {
             return Err(BuildFault::NoSuchVariant);
-        };
-        let children = left.len();
-        self.add_open(Content::Arm { position, children }, left)
+        }
+        Ok(())
     }
 
     /// Adds an array, or a sequence of elements that take bytes; its elements come next.
     ///
     /// Refuses as `empty` does, and with `OutOfRange` a count that is not the array's length.
-    #[tactic(auto, using(crate::proofs::Wanted::wanted_next, crate::proofs::Wanted::wanted_closed, crate::proofs::NextOpen::array_next, crate::proofs::NextOpen::sequence_next))]
+    #[tactic(auto, using(crate::proofs::Wanted::wanted_next, crate::proofs::Wanted::wanted_closed))]
     pub fn list(&mut self, count: u32) -> Result<(), BuildFault>
         ensures { Adds (judged (suits_list count) self.old) (with_list self.old count) self.old self.new result }
     {
-        let left = match self.wanted()? {
-            Form::Array(length) => {
-                if count != length {
-                    return Err(BuildFault::OutOfRange);
-                }
-                self.walk().array(count)
-            }
-            Form::Sequence => self.walk().sequence(count),
+        match self.wanted()? {
+            Form::Array(length) if count != length => return Err(BuildFault::OutOfRange),
+            Form::Array(_) | Form::Sequence => {}
             _ => return Err(BuildFault::WrongKind),
-        };
-        self.add_open(Content::List { children: count }, left)
+        }
+        self.add_list(count)?;
+        Ok(())
     }
 }

@@ -84,15 +84,15 @@ fn append<A: Allocator>(
 }
 
 /// Appends a node, the next of the walk, whose parts come next: both, or where memory is refused neither.
-fn open_node<'r, A: Allocator>(
+fn open_node<A: Allocator>(
     nodes: &mut Vec<Node, A>,
-    walk: &mut Walk<'r, A>,
+    walk: &mut Walk<'_, A>,
     node: Node,
-    left: Left<'r>,
+    left: Left,
 ) -> Result<(), AllocError>
     requires { length walk.old.frames ≤ walk.old.limit + 1 }
     ensures nodes { OnOk result (nodes.new.items ≡ nodes.old.items ++ node ∷ []) }
-    ensures walk { OnOk result (walk.new ≡ opened (advanced walk.old) (length nodes.old.items) (left_of left.entry)) }
+    ensures walk { OnOk result (walk.new ≡ opened (advanced walk.old) (length nodes.old.items) (left_of walk.old.types left)) }
     ensures err { OnErr result ((nodes.new.items ≡ nodes.old.items) × (walk.new ≡ walk.old)) }
 {
     nodes.reserve(1)?;
@@ -228,14 +228,14 @@ impl<'r, A: Allocator> Builder<'r, A> {
         }
     }
 
-    /// Adds a node without children, the value of the next type. Where memory is refused nothing changes.
-    pub(crate) fn add_leaf(&mut self, leaf: Leaf<'_>) -> Result<(), BuildFault>
+    /// Adds a node without children, which the caller knows to be a value of the next type: what `bool`, `unsigned` and
+    /// the other calls do once they have judged. Where memory is refused nothing changes.
+    pub fn add_leaf(&mut self, leaf: Leaf<'_>) -> Result<(), AllocError>
         requires closed { self.old.text ≡ None }
         requires next { IsNextLeaf self.old.walk (leaf_head leaf) }
         requires fits { FitsLeaf leaf }
         ensures ok { OnOk result (self.new ≡ with_leaf self.old (leaf_head leaf.entry)) }
         ensures err { OnErr result (self.new ≡ self.old) }
-        ensures memory { IfErr result (λ e. e ≡ BuildFault.OutOfMemory) }
     {
         let Some(ty) = self.walk.next_type() else {
             unreachable!()
@@ -254,12 +254,11 @@ impl<'r, A: Allocator> Builder<'r, A> {
     }
 
     /// Adds a node whose children come next, for the value of the next type. Where memory is refused nothing changes.
-    pub(crate) fn add_open(&mut self, content: Content, left: Left<'r>) -> Result<(), BuildFault>
+    pub(crate) fn add_open(&mut self, content: Content, left: Left) -> Result<(), AllocError>
         requires closed { self.old.text ≡ None }
-        requires next { IsNextOpen self.old.walk (head_shown [] content) (left_of left) }
-        ensures ok { OnOk result (self.new ≡ with_open self.old (head_shown [] content) (left_of left.entry)) }
+        requires next { IsNextOpen self.old.walk (head_shown [] content) (left_of self.old.walk.types left) }
+        ensures ok { OnOk result (self.new ≡ with_open self.old (head_shown [] content) (left_of self.old.walk.types left)) }
         ensures err { OnErr result (self.new ≡ self.old) }
-        ensures memory { IfErr result (λ e. e ≡ BuildFault.OutOfMemory) }
     {
         let Some(ty) = self.walk.next_type() else {
             unreachable!()
@@ -274,8 +273,8 @@ impl<'r, A: Allocator> Builder<'r, A> {
         Ok(())
     }
 
-    /// Opens a text of so many bytes, which is next.
-    pub(crate) fn open_text(&mut self, len: u32)
+    /// Begins a text of so many bytes, which the caller knows to be next: what `text_start` does once it has judged.
+    pub fn open_text(&mut self, len: u32)
         requires closed { self.old.text ≡ None }
         requires next { next_of self.old.walk ≡ Next.Wants (Form.Primitive Primitive.Str) }
         ensures { self.new ≡ with_text_opened self.old len }
@@ -297,12 +296,12 @@ impl<'r, A: Allocator> Builder<'r, A> {
         }
     }
 
-    /// Appends bytes to the open text, where no more came than it lacks. Where memory is refused nothing changes.
-    pub(crate) fn extend_text(&mut self, piece: &[u8]) -> Result<(), BuildFault>
+    /// Appends bytes to the open text, which lacks as many: what `text_piece` does once it has judged. Where memory is
+    /// refused nothing changes.
+    pub fn extend_text(&mut self, piece: &[u8]) -> Result<(), AllocError>
         requires { IfOk (missing_of self.old) (λ n. length piece.now ≤ n) }
         ensures ok { OnOk result (self.new ≡ with_piece self.old piece.now) }
         ensures err { OnErr result (self.new ≡ self.old) }
-        ensures memory { IfErr result (λ e. e ≡ BuildFault.OutOfMemory) }
     {
         extend(&mut self.pool, piece)?;
         Ok(())
@@ -322,12 +321,11 @@ impl<'r, A: Allocator> Builder<'r, A> {
     }
 
     /// Takes the text that is open, which lacks nothing, as the next node. Where memory is refused nothing changes.
-    pub(crate) fn close_text(&mut self) -> Result<(), BuildFault>
+    pub(crate) fn close_text(&mut self) -> Result<(), AllocError>
         requires whole { missing_of self.old ≡ Ok 0 }
         requires utf8 { text_fault (pieces_bytes self.old.text) ≡ None }
         ensures ok { OnOk result (self.new ≡ with_text_ended self.old) }
         ensures err { OnErr result (self.new ≡ self.old) }
-        ensures memory { IfErr result (λ e. e ≡ BuildFault.OutOfMemory) }
     {
         let Some(text) = self.open_text else {
             unreachable!()

@@ -8,15 +8,24 @@ use crate::node::Content;
 
 /// A node without children, before it is added to a value.
 #[derive(Clone, Copy)]
-pub(crate) enum Leaf<'b> {
+pub enum Leaf<'b> {
+    /// The one value of a type that takes no bytes.
     Empty,
+    /// A boolean.
     Bool(bool),
+    /// A character.
     Char(char),
+    /// A text, by its bytes in UTF-8, fewer than 2^32.
     Text(&'b [u8]),
+    /// An unsigned integer of at most sixteen bytes.
     Unsigned(u128),
+    /// A signed integer of at most sixteen bytes.
     Signed(i128),
+    /// A 256-bit integer, by its bytes, the lowest first.
     Wide(&'b [u8; 32]),
+    /// A compact integer.
     Compact(u128),
+    /// A sequence of elements that take no bytes, by their count.
     Count(u32),
 }
 

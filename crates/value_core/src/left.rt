@@ -1,71 +1,82 @@
-//! What is left of the parts of an open node, lent from the registry.
+//! What is left of the parts of an open node, by the references of the registry.
 
-ghost use Rattle.std.specs.Prelude.{◌≡◌, option_map};
-ghost use Rattle.grammar_core.specs.Parts.{first_of, left_after, how_many_left};
-ghost use Rattle.value_core.specs.Frames.{left_of};
+ghost use Rattle.std.specs.Prelude.{◌≡◌, ℕ, List};
+ghost use Rattle.grammar_core.specs.Parts.{first_of, left_after};
+ghost use Rattle.value_core.specs.Frames.{left_by, copies_of, members_of, repeats};
 
-use registry_core::{Field, TypeId};
-
-/// The parts of an open node that are still to come.
+/// Which types the parts of an open node have, given as their numbers.
 #[derive(Clone, Copy)]
-pub(crate) enum Left<'r> {
-    /// A value for each of these fields.
-    Fields(&'r [Field]),
-    /// A value of each of these types.
-    Types(&'r [TypeId]),
-    /// So many values of one type.
-    Copies(u32, TypeId),
+pub(crate) enum PartTypes {
+    /// Those of the references before number `end`, one each.
+    Members { end: usize },
+    /// All of them the same.
+    Copies { element: u32 },
+}
+
+/// The parts of an open node that are still to come: so many, the last of these.
+#[derive(Clone, Copy)]
+pub(crate) struct Left {
+    pub(crate) count: u32,
+    pub(crate) types: PartTypes,
 }
 
 /// An open node: its place among the nodes, and what is left of its parts.
 #[derive(Clone, Copy)]
-pub(crate) struct Frame<'r> {
+pub(crate) struct Frame {
     pub(crate) node: usize,
-    pub(crate) left: Left<'r>,
+    pub(crate) left: Left,
 }
 
-impl<'r> Left<'r> {
-    /// The type that is next, if anything is left.
-    pub(crate) fn peek(&self) -> Option<TypeId>
-        ensures { option_map (λ t. t.0) result ≡ first_of (left_of self.now) }
+impl Left {
+    /// A value of each of `count` references from number `from` on.
+    pub(crate) fn members(from: u32, count: u32) -> Left
+        ensures { result ≡ members_of from count }
     {
-        match self {
-            Left::Fields(fields) => fields.first().map(|field| field.ty),
-            Left::Types(types) => types.first().copied(),
-            Left::Copies(0, _) => None,
-            Left::Copies(_, ty) => Some(*ty),
+        let end = from as usize + count as usize;
+        Left {
+            count,
+            types: PartTypes::Members { end },
+        }
+    }
+
+    /// So many values of one type.
+    pub(crate) fn copies(count: u32, element: u32) -> Left
+        ensures { result ≡ copies_of count element }
+    {
+        Left {
+            count,
+            types: PartTypes::Copies { element },
+        }
+    }
+
+    /// The type that is next, if anything is left, by the references of the registry.
+    pub(crate) fn first(&self, references: &[u32]) -> Option<u32>
+        ensures { result ≡ first_of (left_by references.now self.now) }
+    {
+        if self.count == 0 {
+            return None;
+        }
+        match self.types {
+            PartTypes::Members { end } => {
+                let at = end.saturating_sub(self.count as usize);
+                references.get(at).copied()
+            }
+            PartTypes::Copies { element } => Some(element),
         }
     }
 
     /// The next type is no longer left. Where nothing is left, nothing changes.
+    #[tactic(auto, using(crate::proofs::Members::one_less))]
     pub(crate) fn advance(&mut self)
-        ensures { left_of self.new ≡ left_after (left_of self.old) }
+        ensures { (references : List ℕ) → left_by references self.new ≡ left_after (left_by references self.old) }
     {
-        match *self {
-            Left::Fields(fields) => {
-                if let Some((_, others)) = fields.split_first() {
-                    *self = Left::Fields(others);
-                }
-            }
-            Left::Types(types) => {
-                if let Some((_, others)) = types.split_first() {
-                    *self = Left::Types(others);
-                }
-            }
-            Left::Copies(left, ty) => {
-                *self = Left::Copies(left.saturating_sub(1), ty);
-            }
-        }
+        self.count = self.count.saturating_sub(1);
     }
 
-    /// How many values are left.
-    pub(crate) fn len(&self) -> usize
-        ensures { result ≡ how_many_left (left_of self.now) }
+    /// Is something left, of the same type as what was before it?
+    pub(crate) fn repeats(&self) -> bool
+        ensures { result ≡ repeats self.now }
     {
-        match self {
-            Left::Fields(fields) => fields.len(),
-            Left::Types(types) => types.len(),
-            Left::Copies(left, _) => *left as usize,
-        }
+        self.count != 0 && matches!(self.types, PartTypes::Copies { .. })
     }
 }

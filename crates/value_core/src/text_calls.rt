@@ -34,7 +34,8 @@ impl<'r, A: Allocator> Builder<'r, A> {
         if piece.len() > self.missing()? {
             return Err(BuildFault::OutOfRange);
         }
-        self.extend_text(piece)
+        self.extend_text(piece)?;
+        Ok(())
     }
 
     /// Ends the text that is open, which is the next node then.
@@ -49,7 +50,7 @@ impl<'r, A: Allocator> Builder<'r, A> {
         }
         match self.text_fault() {
             Some(fault) => Err(fault),
-            None => self.close_text(),
+            None => Ok(self.close_text()?),
         }
     }
 }

@@ -1,28 +1,67 @@
 //! The place in a value that comes next, and what is wanted there: the one thing that says it.
 
 ghost use Rattle.std.specs.Prelude.{◌≡◌, ◌⊎◌, ◌+◌, ◌≤◌, length, is_none, option_map, OnOk, OnErr, IfSome, IfNone, IsSome};
+ghost use Rattle.grammar_core.specs.Parts.{first_of, how_many_left};
+ghost use Rattle.value_core.specs.Ahead.{IsAhead, IsStepAhead, element_in, members_in};
 ghost use Rattle.value_core.specs.Frames.{left_of};
-ghost use Rattle.value_core.specs.Opened.{next_shape, OpensFields, OpensArm, OpensArray, OpensSequence};
+ghost use Rattle.value_core.specs.Opened.{OpensFields, OpensArm, OpensElements, IsListNext};
 ghost use Rattle.value_core.specs.Refusals.{is_whole_in};
 ghost use Rattle.value_core.specs.Walked.{start_of, next_type, next_of, depth_of, advanced, opened, Closes, IsBounded};
 
 use crate::left::{Frame, Left};
-use grammar_core::{Form, MAX_DEPTH, Next, StopReason, next_at, shape};
-use registry_core::{TypeDef, TypeId};
+use grammar_core::{Form, MAX_DEPTH, Next, StopReason, next_of_step};
+use registry_core::TypeId;
 use std::alloc::{AllocError, Allocator};
 use std::marker::Model;
-use widths_core::Checked;
+use widths_core::{Checked, Step};
+
+/// The type of the node that comes next, and its step in the table of the registry.
+#[derive(Clone, Copy)]
+struct Ahead {
+    ty: TypeId,
+    step: Step,
+}
+
+/// The type that is next in an open node, and its step, if any is left: two look-ups.
+fn ahead_in(checked: &Checked, left: &Left) -> Option<Ahead>
+    ensures { IsAhead checked.now.types (first_of (left_of checked.now.types left.now)) result }
+{
+    let ty = TypeId(left.first(checked.members())?);
+    let step = checked.step(ty).unwrap_or(Step::NoValue);
+    Some(Ahead { ty, step })
+}
+
+/// The parts of a composite or a tuple of this step.
+fn members_in(step: Option<Step>) -> Option<Left>
+    ensures { result ≡ members_in step }
+{
+    match step? {
+        Step::Parts { from, count } => Some(Left::members(from, count)),
+        _ => None,
+    }
+}
+
+/// The type of the elements of an array or a sequence of this step.
+fn element_in(step: Option<Step>) -> Option<u32>
+    ensures { result ≡ element_in step }
+{
+    match step? {
+        Step::Array { element, .. } | Step::Sequence { element } => Some(element),
+        _ => None,
+    }
+}
 
 /// A walk through a value of a type, node by node in the order of their bytes (SCALE codec, "Types": parts stand one
 /// behind the other, behind the index or the length that says which and how many they are).
 ///
-/// It keeps the innermost node that is open and those around it, at most as many as the depth limit and two; what is
-/// left of their parts is lent from the registry.
+/// It keeps the innermost node that is open and those around it, at most as many as the depth limit and two, and the
+/// step of the type that is next: it is looked up once, when the walk comes to it.
 #[derive(Drop)]
 pub struct Walk<'r, A: Allocator> {
     checked: &'r Checked,
-    top: Frame<'r>,
-    around: Vec<Frame<'r>, A>,
+    top: Frame,
+    around: Vec<Frame, A>,
+    ahead: Option<Ahead>,
     limit: u16,
 }
 
@@ -32,11 +71,13 @@ impl<'r, A: Allocator> Model for Walk<'r, A> {
 
     ghost Value = { Walked };
 
-    ghost use Rattle.value_core.specs.Frames.{frames_of};
+    ghost use Rattle.grammar_core.specs.Parts.{first_of};
+    ghost use Rattle.value_core.specs.Ahead.{IsAhead};
+    ghost use Rattle.value_core.specs.Frames.{frames_of, left_of};
 
-    ghost view = { λ w. record { types = w.checked.now.types; limit = w.limit; frames = frames_of w.top w.around.items } };
+    ghost view = { λ w. record { types = w.checked.now.types; limit = w.limit; frames = frames_of w.checked.now.types w.top w.around.items } };
 
-    ghost invariant = { λ w. (w.limit ≤ 1024) × (length w.around.items ≤ w.limit + 1) };
+    ghost invariant = { λ w. (w.limit ≤ 1024) × (length w.around.items ≤ w.limit + 1) × IsAhead w.checked.now.types (first_of (left_of w.checked.now.types w.top.left)) w.ahead };
 }
 
 impl<'r, A: Allocator> Walk<'r, A> {
@@ -45,13 +86,12 @@ impl<'r, A: Allocator> Walk<'r, A> {
         requires { limit ≤ MAX_DEPTH }
         ensures { result ≡ start_of checked.now.types root.0 limit }
     {
+        let left = Left::copies(1, root.0);
         Walk {
             checked,
-            top: Frame {
-                node: 0,
-                left: Left::Copies(1, root),
-            },
+            top: Frame { node: 0, left },
             around: Vec::new(alloc),
+            ahead: ahead_in(checked, &left),
             limit,
         }
     }
@@ -60,17 +100,17 @@ impl<'r, A: Allocator> Walk<'r, A> {
     /// form of the value that is wanted (SCALE codec, "Types").
     ///
     /// Of several reasons the first is told: a depth above the limit, a type without a finite value, a bit sequence, a
-    /// compact that stands over no unsigned integer. It takes a few look-ups and no memory, and changes nothing.
+    /// compact that stands over no unsigned integer. It takes no look-up and no memory, and changes nothing.
     pub fn next(&self) -> Next
         ensures { result ≡ next_of self.now }
     {
-        let Some(ty) = self.top.left.peek() else {
+        let Some(ahead) = self.ahead else {
             return Next::Finished;
         };
         if self.around.len() > usize::from(self.limit) {
             return Next::Stop(StopReason::TooDeep);
         }
-        next_at(self.checked, ty)
+        next_of_step(ahead.step)
     }
 
     /// The depth of the node that comes next: 0 for the root, and one more than that of the node it is part of for any
@@ -90,7 +130,7 @@ impl<'r, A: Allocator> Walk<'r, A> {
     pub(crate) fn is_finished(&self) -> bool
         ensures { result ≡ is_none (next_type self.now) }
     {
-        self.top.left.peek().is_none()
+        self.ahead.is_none()
     }
 
     /// Is nothing left, and no node open?
@@ -105,18 +145,22 @@ impl<'r, A: Allocator> Walk<'r, A> {
         ensures { self.new ≡ advanced self.old }
     {
         self.top.left.advance();
+        if !self.top.left.repeats() {
+            self.ahead = ahead_in(self.checked, &self.top.left);
+        }
     }
 
     /// The next node is open, and its parts come next. Where memory is refused, nothing changes.
-    pub(crate) fn enter(&mut self, node: usize, left: Left<'r>) -> Result<(), AllocError>
+    pub(crate) fn enter(&mut self, node: usize, left: Left) -> Result<(), AllocError>
         requires { length self.old.frames ≤ self.old.limit + 1 }
-        ensures ok { OnOk result (self.new ≡ opened (advanced self.old) node (left_of left.entry)) }
+        ensures ok { OnOk result (self.new ≡ opened (advanced self.old) node (left_of self.old.types left)) }
         ensures err { OnErr result (self.new ≡ self.old) }
     {
         let mut outer = self.top;
         outer.left.advance();
         self.around.push(outer)?;
         self.top = Frame { node, left };
+        self.ahead = ahead_in(self.checked, &left);
         Ok(())
     }
 
@@ -127,12 +171,13 @@ impl<'r, A: Allocator> Walk<'r, A> {
         ensures unchanged { IfNone result (self.new ≡ self.old) }
         ensures none { IfNone result (IsSome (next_type self.old) ⊎ (length self.old.frames ≡ 1)) }
     {
-        if self.top.left.peek().is_some() {
+        if self.ahead.is_some() {
             return None;
         }
         let frame = self.around.pop()?;
         let node = self.top.node;
         self.top = frame;
+        self.ahead = ahead_in(self.checked, &frame.left);
         Some(node)
     }
 
@@ -147,62 +192,49 @@ impl<'r, A: Allocator> Walk<'r, A> {
     pub(crate) fn next_type(&self) -> Option<TypeId>
         ensures { option_map (λ t. t.0) result ≡ next_type self.now }
     {
-        self.top.left.peek()
+        Some(self.ahead?.ty)
     }
 
-    /// What the type of the next node is made of, where one is next and its type is a position.
-    fn next_shape(&self) -> Option<&'r TypeDef>
-        ensures { option_map (λ d. d.now) result ≡ next_shape self.now }
+    /// The step of the type that comes next, if any does.
+    fn next_step(&self) -> Option<Step>
+        ensures { IsStepAhead self.now.types (next_type self.now) result }
     {
-        let ty = self.next_type()?;
-        shape(self.checked(), ty)
+        Some(self.ahead?.step)
     }
 
     /// A value of each field or member of the next type.
-    pub(crate) fn fields(&self) -> Left<'r>
+    pub(crate) fn fields(&self) -> Left
         requires { next_of self.now ≡ Next.Wants Form.Fields }
-        ensures { OpensFields self.now (left_of result) }
+        ensures opens { OpensFields self.now (left_of self.now.types result) }
+        ensures counts { how_many_left (left_of self.now.types result) ≡ result.count }
     {
-        let Some(shape) = self.next_shape() else {
+        let Some(left) = members_in(self.next_step()) else {
             unreachable!()
         };
-        match shape {
-            TypeDef::Composite(fields) => Left::Fields(fields.as_slice()),
-            TypeDef::Tuple(members) => Left::Types(members.as_slice()),
-            _ => unreachable!(),
-        }
+        left
     }
 
     /// The first arm of the index in the next type, by its position, and a value of each of its fields. There is none
     /// where the next type has no arm of the index.
-    pub(crate) fn arm(&self, index: u8) -> Option<(u32, Left<'r>)>
+    pub(crate) fn arm(&self, index: u8) -> Option<(u32, Left)>
         requires { next_of self.now ≡ Next.Wants Form.Arm }
-        ensures { OpensArm self.now index (option_map (λ x. (x.0, left_of x.1)) result) }
+        ensures opens { OpensArm self.now index (option_map (λ x. (x.0, left_of self.now.types x.1)) result) }
+        ensures counts { IfSome result (λ x. how_many_left (left_of self.now.types x.1) ≡ x.1.count) }
     {
         let ty = self.next_type()?;
-        let (position, arm) = self.checked().arm(ty, index)?;
-        Some((position, Left::Fields(arm.fields.as_slice())))
+        let arm = self.checked().arm_step(ty, index)?;
+        Some((arm.position, Left::members(arm.from, arm.count)))
     }
 
-    /// So many elements of the next type, where this is the array's length.
-    pub(crate) fn array(&self, length: u32) -> Left<'r>
-        requires { next_of self.now ≡ Next.Wants (Form.Array length) }
-        ensures { OpensArray self.now length (left_of result) }
+    /// So many elements of the next type, which is an array of this length or a sequence.
+    pub(crate) fn elements(&self, length: u32) -> Left
+        requires { IsListNext self.now length }
+        ensures opens { OpensElements self.now length (left_of self.now.types result) }
+        ensures counts { result.count ≡ length }
     {
-        let Some(TypeDef::Array(_, element)) = self.next_shape() else {
+        let Some(element) = element_in(self.next_step()) else {
             unreachable!()
         };
-        Left::Copies(length, *element)
-    }
-
-    /// So many elements of the next type, which is a sequence.
-    pub(crate) fn sequence(&self, length: u32) -> Left<'r>
-        requires { next_of self.now ≡ Next.Wants Form.Sequence }
-        ensures { OpensSequence self.now length (left_of result) }
-    {
-        let Some(TypeDef::Sequence(element)) = self.next_shape() else {
-            unreachable!()
-        };
-        Left::Copies(length, *element)
+        Left::copies(length, element)
     }
 }

@@ -1,12 +1,15 @@
-use Rattle.value_core.proofs.Opened.{composite_opens, tuple_opens}
+use Rattle.std.proofs.Common.{◌∙◌, sym}
+use Rattle.value_core.proofs.Ahead.{members_there, members_opened}
 use Rattle.value_core.proofs.walk.Walk.fields.Goals as goal
 
-pub returns-in-Composite : goal.returns-in-Composite
-returns-in-Composite g c =
-    rw c.as_slice.ensures (composite_opens c.args.self.now c.in-Composite.fields c.requires
-    (rw c.in-Composite.is at c.in-Some.ensures))
+pub unreachable-requires : goal.unreachable-requires
+unreachable-requires g c = members_there c.args.self.now c.next_step.result c.requires
+    c.next_step.ensures (sym c.members_in.ensures ∙ c.in_default.is)
 
-pub returns-in-Tuple : goal.returns-in-Tuple
-returns-in-Tuple g c = rw c.as_slice-in-Tuple.ensures
-    (tuple_opens c.args.self.now c.in-Tuple.members c.requires
-    (rw c.in-Tuple.is at c.in-Some.ensures))
+pub returns-clause-opens : goal.returns-clause-opens
+returns-clause-opens g c = (members_opened c.args.self.now c.next_step.result c.in-Some.left
+    c.requires c.next_step.ensures (sym c.members_in.ensures ∙ c.in-Some.is)).opens
+
+pub returns-clause-counts : goal.returns-clause-counts
+returns-clause-counts g c = (members_opened c.args.self.now c.next_step.result c.in-Some.left
+    c.requires c.next_step.ensures (sym c.members_in.ensures ∙ c.in-Some.is)).counts

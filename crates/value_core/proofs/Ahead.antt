@@ -1,0 +1,358 @@
+-- What the step of the next type says of what comes next, and of the parts that it opens.
+use Rattle.std.proofs.Common.{◌≡◌, ℕ, ◌+◌, ◌≤◌, Bool, true, false, List, length, Option, Some, None, refl, sym, ap, subst, ◌∙◌, arith, inl, inr}
+use Rattle.std.specs.Prelude.{option_map, nat_lt, if◌then◌else◌}
+use Rattle.scale_core.specs.declared.compact.Target.{Target}
+use Rattle.std.proofs.lemmas.Option.{none-some, same_Some}
+use Rattle.registry_core.specs.declared.definition.TypeDef.{TypeDef}
+use Rattle.registry_core.specs.declared.definition.TypeDef.TheVariants as Def
+use Rattle.registry_core.specs.declared.type_info.TypeInfo.{TypeInfo}
+use Rattle.graph_core.specs.Types.{shape, ids, field_types}
+use Rattle.widths_core.specs.declared.class.Class.{Class}
+use Rattle.widths_core.specs.declared.class.Class.TheVariants as class
+use Rattle.widths_core.specs.declared.step.ArmStep.{ArmStep}
+use Rattle.widths_core.specs.declared.step.Step.{Step}
+use Rattle.widths_core.specs.declared.step.Step.TheVariants as step
+use Rattle.widths_core.specs.Arms.{arm_at}
+use Rattle.widths_core.specs.Classes.{class_of, is_unit}
+use Rattle.widths_core.specs.Steps.{references_of, AreParts, IsArm, IsStep, IsStepAt, by_class, sequence_step}
+use Rattle.registry_core.specs.declared.definition.Arm.{Arm}
+use Rattle.grammar_core.proofs.Steps.{some_next, none_next}
+use Rattle.grammar_core.specs.Forms.{compact_next, next_at, next_of_step}
+use Rattle.grammar_core.specs.Parts.{Part, each, times, how_many_left}
+use Rattle.grammar_core.specs.declared.form.Form.{Form}
+use Rattle.grammar_core.specs.declared.form.Form.TheVariants as form
+use Rattle.grammar_core.specs.declared.form.Next.TheVariants as next
+use Rattle.value_core.specs.Ahead.{IsStepAhead, IsStepOf, element_in, members_in}
+use Rattle.value_core.specs.declared.left.Left.{Left}
+use Rattle.value_core.specs.Frames.{left_of, members_of}
+use Rattle.value_core.specs.Opened.{OpensFields, OpensArm, OpensElements, IsListNext, shape_at, next_shape}
+use Rattle.value_core.specs.Walked.{Walked, next_type, next_of}
+use Rattle.value_core.proofs.Forms.{wanted}
+use Rattle.value_core.proofs.Members.{parts_left, parts_counted}
+use Rattle.value_core.proofs.Opened.{composite_opens, tuple_opens, array_opens, sequence_opens, arm_opens}
+
+-- the step of a type says what comes next, whether the type is known or not
+pub next_by_step : (r : List TypeInfo) (t : ℕ) (s : Step) → IsStepOf r t s →
+    next_of_step s ≡ next_at r t
+next_by_step r t s h = go (shape r t) refl where
+  go : (x : Option TypeDef) → shape r t ≡ x → next_of_step s ≡ next_at r t
+  go None e =
+      let none : s ≡ step.NoValue = rw (IsStepOf, e) at h in
+      rw none (none_next r t None (rw (IsStepAt, e) refl) refl)
+  go (Some d) e =
+      let is = rw (IsStepOf, e) at h in
+      some_next r t (Some s) s (rw (IsStepAt, e) (s, refl, is)) refl
+
+-- where there is room for it, what comes next is what the step of the next type says
+pub next_in_room : (w : Walked) (s : Step) → length w.frames ≤ w.limit + 1 →
+    IsStepAhead w.types (next_type w) (Some s) → next_of_step s ≡ next_of w
+next_in_room w s h a = go (next_type w) (nat_lt (w.limit + 1) (length w.frames)) refl refl where
+  go : (o : Option ℕ) (deep : Bool) → next_type w ≡ o →
+      nat_lt (w.limit + 1) (length w.frames) ≡ deep → next_of_step s ≡ next_of w
+  go None deep e d = absurd (rw e at a)
+  go (Some t) true e d = absurd (grind (arith, d, h))
+  go (Some t) false e d = rw (e, d) (next_by_step w.types t s (rw e at a))
+
+-- a step by class that opens parts is the one of a type that takes bytes
+parts_sized : (c : Class) (sized : Step) (from count : ℕ) →
+    step.Parts from count ≡ by_class c step.NoValue sized → step.Parts from count ≡ sized
+parts_sized class.NoValue sized from count e = absurd cc
+parts_sized class.Empty sized from count e = absurd cc
+parts_sized class.Sized sized from count e = e
+
+array_sized : (c : Class) (sized : Step) (n t : ℕ) →
+    step.Array n t ≡ by_class c step.NoValue sized → step.Array n t ≡ sized
+array_sized class.NoValue sized n t e = absurd cc
+array_sized class.Empty sized n t e = absurd cc
+array_sized class.Sized sized n t e = e
+
+sequence_sized : (c : Class) (sized : Step) (t : ℕ) →
+    step.Sequence t ≡ by_class c step.NoValue sized → step.Sequence t ≡ sized
+sequence_sized class.NoValue sized t e = absurd cc
+sequence_sized class.Empty sized t e = absurd cc
+sequence_sized class.Sized sized t e = e
+
+sequence_is : (c : Class) (t u : ℕ) → step.Sequence t ≡ sequence_step c u → t ≡ u
+sequence_is class.NoValue t u e = cc
+sequence_is class.Empty t u e = absurd cc
+sequence_is class.Sized t u e = cc
+
+-- a step that is none of these is not by class
+other_step : (c : Class) (none sized s : Step) → (s ≡ none → ⊥) → (s ≡ step.Empty → ⊥) →
+    (s ≡ sized → ⊥) → s ≡ by_class c none sized → ⊥
+other_step class.NoValue none sized s f g h e = f e
+other_step class.Empty none sized s f g h e = g e
+other_step class.Sized none sized s f g h e = h e
+
+-- nor that of a sequence
+other_sequence : (c : Class) (t : ℕ) (s : Step) → (s ≡ step.Count → ⊥) →
+    (s ≡ step.Sequence t → ⊥) → s ≡ sequence_step c t → ⊥
+other_sequence class.NoValue t s f g e = g e
+other_sequence class.Empty t s f g e = f e
+other_sequence class.Sized t s f g e = g e
+
+-- the type that is next, which is known, by a step that is not that of a type without values
+record Known (w : Walked) (s : Step) : Type 0 where
+  pub ty : ℕ
+  pub is_next : next_type w ≡ Some ty
+  pub d : TypeDef
+  pub shape_is : Some d ≡ next_shape w
+  pub is : IsStep w.types (references_of w.types) (λ from count arms. Unit {0})
+      (class_of w.types ty) d s
+
+known : (w : Walked) (s : Step) → (s ≡ step.NoValue → ⊥) →
+    IsStepAhead w.types (next_type w) (Some s) → Known w s
+known w s some h = go (next_type w) refl where
+  at : (t : ℕ) (x : Option TypeDef) → next_type w ≡ Some t → shape w.types t ≡ x →
+      IsStepOf w.types t s → Known w s
+  at t None e f is = absurd (some (rw (IsStepOf, f) at is))
+  at t (Some d) e f is = record {
+    ty = t;
+    is_next = e;
+    d = d;
+    shape_is = sym (ap (shape_at w.types) e ∙ f);
+    is =
+        rw (IsStepOf, f) at is;
+  }
+
+  go : (o : Option ℕ) → next_type w ≡ o → Known w s
+  go None e = absurd (rw e at h)
+  go (Some t) e = at t (shape w.types t) e refl (rw e at h)
+
+abbrev opened_parts : Walked → ℕ → ℕ → Part
+opened_parts w from count = left_of w.types (members_of from count)
+
+-- these are the parts of the next type, and there are as many as they say
+pub record Opens (w : Walked) (left : Left) : Type 0 where
+  pub opens : OpensFields w (left_of w.types left)
+  pub counts : how_many_left (left_of w.types left) ≡ left.count
+
+parts_open : (w : Walked) (from count from' count' : ℕ) (c : Class) (ts : List ℕ) →
+    step.Parts from count ≡ by_class c step.NoValue (step.Parts from' count') →
+    AreParts (references_of w.types) from' count' ts → OpensFields w (each ts) →
+    Opens w (members_of from count)
+parts_open w from count from' count' c ts e parts o =
+    let is = parts_sized c (step.Parts from' count') from count e in
+    let from_is : from ≡ from' = cc in
+    let count_is : count ≡ count' = cc in
+    let left = parts_left (references_of w.types) from' count' ts parts in
+    let counted = parts_counted (references_of w.types) from' count' ts parts in
+    rw (from_is, count_is) (record {
+      opens = subst (OpensFields w) (sym left) o;
+      counts = ap how_many_left left ∙ counted;
+    })
+
+fields_open : (w : Walked) (from count : ℕ) → next_of w ≡ next.Wants form.Fields →
+    IsStepAhead w.types (next_type w) (Some (step.Parts from count)) → Opens w (members_of from count)
+fields_open w from count h a =
+    let k = known w (step.Parts from count) (λ e. absurd cc) a in
+    go (class_of w.types k.ty) k.d k.shape_is k.is where
+  go : (c : Class) (d : TypeDef) → Some d ≡ next_shape w → IsStep w.types (references_of w.types)
+      (λ from count arms. Unit {0}) c d (step.Parts from count) →
+      Opens w (members_of from count)
+  go c (Def.Composite fs) s is = parts_open w from count is.0 is.1 c
+      (field_types fs) is.2 is.3 (composite_opens w fs h s)
+  go c (Def.Tuple ts) s is = parts_open w from count is.0 is.1 c (ids ts) is.2
+      is.3 (tuple_opens w ts h s)
+  go c (Def.Variant arms) s is = absurd (other_step c (step.NoArm is.0 is.1) (step.Arms is.0 is.1) (step.Parts from count) (λ e. absurd cc) (λ e. absurd cc) (λ e. absurd cc) is.2)
+  go c (Def.Sequence u) s is = absurd (other_step c step.NoValue (sequence_step (class_of w.types u.0) u.0) (step.Parts from count) (λ e. absurd cc) (λ e. absurd cc) (λ e. other_sequence (class_of w.types u.0) u.0 (step.Parts from count) (λ e. absurd cc) (λ e. absurd cc) e) is)
+  go c (Def.Array m u) s is = absurd (other_step c step.NoValue (step.Array m u.0) (step.Parts from count) (λ e. absurd cc) (λ e. absurd cc) (λ e. absurd cc) is)
+  go c (Def.Primitive p) s is = absurd (other_step c step.NoValue (step.Primitive p) (step.Parts from count) (λ e. absurd cc) (λ e. absurd cc) (λ e. absurd cc) is)
+  go c (Def.Compact u) s is = absurd cc
+  go c (Def.BitSequence store order) s is = absurd (other_step c step.NoValue step.BitSequence (step.Parts from count) (λ e. absurd cc) (λ e. absurd cc) (λ e. absurd cc) is)
+
+elements_open : (w : Walked) (n m t : ℕ) → next_of w ≡ next.Wants (form.Array n) →
+    IsStepAhead w.types (next_type w) (Some (step.Array m t)) → OpensElements w n (times n t)
+elements_open w n m t h a =
+    let k = known w (step.Array m t) (λ e. absurd cc) a in
+    go (class_of w.types k.ty) k.d k.shape_is k.is where
+  go : (c : Class) (d : TypeDef) → Some d ≡ next_shape w → IsStep w.types (references_of w.types)
+      (λ from count arms. Unit {0}) c d (step.Array m t) →
+      OpensElements w n (times n t)
+  go c (Def.Array m' u) s is =
+      let same = array_sized c (step.Array m' u.0) m t is in
+      let t_is : t ≡ u.0 = cc in
+      rw t_is (array_opens w n m' u h s)
+  go c (Def.Composite fs) s is = absurd (other_step c step.NoValue (step.Parts is.0 is.1) (step.Array m t) (λ e. absurd cc) (λ e. absurd cc) (λ e. absurd cc) is.2)
+  go c (Def.Variant arms) s is = absurd (other_step c (step.NoArm is.0 is.1) (step.Arms is.0 is.1) (step.Array m t) (λ e. absurd cc) (λ e. absurd cc) (λ e. absurd cc) is.2)
+  go c (Def.Sequence u) s is = absurd (other_step c step.NoValue (sequence_step (class_of w.types u.0) u.0) (step.Array m t) (λ e. absurd cc) (λ e. absurd cc) (λ e. other_sequence (class_of w.types u.0) u.0 (step.Array m t) (λ e. absurd cc) (λ e. absurd cc) e) is)
+  go c (Def.Tuple ts) s is = absurd (other_step c step.NoValue (step.Parts is.0 is.1) (step.Array m t) (λ e. absurd cc) (λ e. absurd cc) (λ e. absurd cc) is.2)
+  go c (Def.Primitive p) s is = absurd (other_step c step.NoValue (step.Primitive p) (step.Array m t) (λ e. absurd cc) (λ e. absurd cc) (λ e. absurd cc) is)
+  go c (Def.Compact u) s is = absurd cc
+  go c (Def.BitSequence store order) s is = absurd (other_step c step.NoValue step.BitSequence (step.Array m t) (λ e. absurd cc) (λ e. absurd cc) (λ e. absurd cc) is)
+
+sequence_elements_open : (w : Walked) (n t : ℕ) → next_of w ≡ next.Wants form.Sequence →
+    IsStepAhead w.types (next_type w) (Some (step.Sequence t)) → OpensElements w n (times n t)
+sequence_elements_open w n t h a =
+    let k = known w (step.Sequence t) (λ e. absurd cc) a in
+    go (class_of w.types k.ty) k.d k.shape_is k.is where
+  go : (c : Class) (d : TypeDef) → Some d ≡ next_shape w → IsStep w.types (references_of w.types)
+      (λ from count arms. Unit {0}) c d (step.Sequence t) →
+      OpensElements w n (times n t)
+  go c (Def.Sequence u) s is =
+      let sized = sequence_step (class_of w.types u.0) u.0 in
+      let same = sequence_sized c sized t is in
+      rw (sequence_is (class_of w.types u.0) t u.0 same) (sequence_opens w n u h s)
+  go c (Def.Composite fs) s is = absurd (other_step c step.NoValue (step.Parts is.0 is.1) (step.Sequence t) (λ e. absurd cc) (λ e. absurd cc) (λ e. absurd cc) is.2)
+  go c (Def.Variant arms) s is = absurd (other_step c (step.NoArm is.0 is.1) (step.Arms is.0 is.1) (step.Sequence t) (λ e. absurd cc) (λ e. absurd cc) (λ e. absurd cc) is.2)
+  go c (Def.Array m u) s is = absurd (other_step c step.NoValue (step.Array m u.0) (step.Sequence t) (λ e. absurd cc) (λ e. absurd cc) (λ e. absurd cc) is)
+  go c (Def.Tuple ts) s is = absurd (other_step c step.NoValue (step.Parts is.0 is.1) (step.Sequence t) (λ e. absurd cc) (λ e. absurd cc) (λ e. absurd cc) is.2)
+  go c (Def.Primitive p) s is = absurd (other_step c step.NoValue (step.Primitive p) (step.Sequence t) (λ e. absurd cc) (λ e. absurd cc) (λ e. absurd cc) is)
+  go c (Def.Compact u) s is = absurd cc
+  go c (Def.BitSequence store order) s is = absurd (other_step c step.NoValue step.BitSequence (step.Sequence t) (λ e. absurd cc) (λ e. absurd cc) (λ e. absurd cc) is)
+
+-- the arm that is found, with the parts that it opens
+abbrev opened_arm : Walked → ArmStep → ℕ × Part
+opened_arm w s = (s.position, opened_parts w s.from s.count)
+
+pub found_arm_opens : (w : Walked) (t index : ℕ) (o : Option ArmStep) →
+    next_of w ≡ next.Wants form.Arm → Some t ≡ next_type w →
+    IsArm (references_of w.types) o (arm_at w.types t index) →
+    OpensArm w index (option_map (opened_arm w) o)
+found_arm_opens w t index o h e a =
+    let opens = arm_opens w t index (arm_at w.types t index) h e refl in
+    subst (OpensArm w index) (sym (go o (arm_at w.types t index) a)) opens where
+  go : (o : Option ArmStep) (x : Option (ℕ × Arm)) → IsArm (references_of w.types) o x →
+      option_map (opened_arm w) o ≡ option_map (λ (y : ℕ × Arm). (y.0, each (field_types y.1.fields))) x
+  go None None a = refl
+  go None (Some x) a = elim a [ ]
+  go (Some s) None a = elim a [ ]
+  go (Some s) (Some x) a =
+      rw (a.0, parts_left (references_of w.types) s.from s.count (field_types x.1.fields) a.1) refl
+
+pub found_arm_counts : (w : Walked) (s : ArmStep) (x : Option (ℕ × Arm)) →
+    IsArm (references_of w.types) (Some s) x →
+    how_many_left (opened_parts w s.from s.count) ≡ s.count
+found_arm_counts w s None a = elim a [ ]
+found_arm_counts w s (Some x) a =
+    let refs = references_of w.types in
+    ap how_many_left (parts_left refs s.from s.count (field_types x.1.fields) a.1)
+    ∙ parts_counted refs s.from s.count (field_types x.1.fields) a.1
+
+-- ---- the step that has a form
+
+-- where a form is wanted, the step of the next type has it
+with_form : (w : Walked) (f : Form) (s : Step) → next_of w ≡ next.Wants f →
+    IsStepAhead w.types (next_type w) (Some s) → next_of_step s ≡ next.Wants f
+with_form w f s h a = next_in_room w s (wanted w f h).room a ∙ h
+
+-- no compact is wanted as a value with parts
+compact_no_parts : (m : Option Target) (f : Form) → (f ≡ form.Empty → ⊥) →
+    ((t : Target) → f ≡ form.Compact t → ⊥) → compact_next m ≡ next.Wants f → ⊥
+compact_no_parts None f empty compact e = absurd cc
+compact_no_parts (Some m) f empty compact e = go (is_unit (Some m)) e where
+  go : (unit : Bool) → (if unit then next.Wants form.Empty else next.Wants (form.Compact m))
+      ≡ next.Wants f → ⊥
+  go true e = empty cc
+  go false e = compact m cc
+
+-- where a form is wanted, a type is next
+none_ahead : (w : Walked) (f : Form) → next_of w ≡ next.Wants f →
+    IsStepAhead w.types (next_type w) None → ⊥
+none_ahead w f h a = rw (wanted w f h).is_next at a
+
+fields_known : (w : Walked) (o : Option Step) → next_of w ≡ next.Wants form.Fields →
+    IsStepAhead w.types (next_type w) o → (from count : ℕ) × (o ≡ Some (step.Parts from count))
+fields_known w None h a = absurd (none_ahead w form.Fields h a)
+fields_known w (Some s) h a = go s (with_form w form.Fields s h a) where
+  go : (s : Step) → next_of_step s ≡ next.Wants form.Fields → (from count : ℕ)
+      × (Some s ≡ Some (step.Parts from count))
+  go (step.Compact m) e = absurd (compact_no_parts m form.Fields (λ f. absurd cc) (λ t f. absurd cc) e)
+  go (step.NoArm from count) e = absurd cc
+  go step.NoValue e = absurd cc
+  go step.Empty e = absurd cc
+  go (step.Primitive p) e = absurd cc
+  go (step.Parts from count) e = (from, count, refl)
+  go (step.Arms from count) e = absurd cc
+  go (step.Array n t) e = absurd cc
+  go (step.Sequence t) e = absurd cc
+  go step.Count e = absurd cc
+  go step.BitSequence e = absurd cc
+
+array_known : (w : Walked) (n : ℕ) (o : Option Step) → next_of w ≡ next.Wants (form.Array n) →
+    IsStepAhead w.types (next_type w) o → (m t : ℕ) × (o ≡ Some (step.Array m t))
+array_known w n None h a = absurd (none_ahead w (form.Array n) h a)
+array_known w n (Some s) h a = go s (with_form w (form.Array n) s h a) where
+  go : (s : Step) → next_of_step s ≡ next.Wants (form.Array n) → (m t : ℕ)
+      × (Some s ≡ Some (step.Array m t))
+  go (step.Compact m) e =
+      absurd (compact_no_parts m (form.Array n) (λ f. absurd cc) (λ t f. absurd cc) e)
+  go (step.NoArm from count) e = absurd cc
+  go step.NoValue e = absurd cc
+  go step.Empty e = absurd cc
+  go (step.Primitive p) e = absurd cc
+  go (step.Parts from count) e = absurd cc
+  go (step.Arms from count) e = absurd cc
+  go (step.Array m t) e = (m, t, refl)
+  go (step.Sequence t) e = absurd cc
+  go step.Count e = absurd cc
+  go step.BitSequence e = absurd cc
+
+sequence_known : (w : Walked) (o : Option Step) → next_of w ≡ next.Wants form.Sequence →
+    IsStepAhead w.types (next_type w) o → (t : ℕ) × (o ≡ Some (step.Sequence t))
+sequence_known w None h a = absurd (none_ahead w form.Sequence h a)
+sequence_known w (Some s) h a = go s (with_form w form.Sequence s h a) where
+  go : (s : Step) → next_of_step s ≡ next.Wants form.Sequence → (t : ℕ)
+      × (Some s ≡ Some (step.Sequence t))
+  go (step.Compact m) e =
+      absurd (compact_no_parts m form.Sequence (λ f. absurd cc) (λ t f. absurd cc) e)
+  go (step.NoArm from count) e = absurd cc
+  go step.NoValue e = absurd cc
+  go step.Empty e = absurd cc
+  go (step.Primitive p) e = absurd cc
+  go (step.Parts from count) e = absurd cc
+  go (step.Arms from count) e = absurd cc
+  go (step.Array m t) e = absurd cc
+  go (step.Sequence t) e = (t, refl)
+  go step.Count e = absurd cc
+  go step.BitSequence e = absurd cc
+
+-- ---- what is found of the step that is ahead
+
+pub members_there : (w : Walked) (o : Option Step) → next_of w ≡ next.Wants form.Fields →
+    IsStepAhead w.types (next_type w) o → members_in o ≡ None → ⊥
+members_there w o h a e =
+    let k = fields_known w o h a in
+    absurd (none-some (members_of k.0 k.1) (sym e ∙ ap members_in k.2))
+
+pub members_opened : (w : Walked) (o : Option Step) (left : Left) →
+    next_of w ≡ next.Wants form.Fields → IsStepAhead w.types (next_type w) o →
+    members_in o ≡ Some left → Opens w left
+members_opened w o left h a e =
+    let k = fields_known w o h a in
+    let is : left ≡ members_of k.0 k.1 =
+    same_Some left (members_of k.0 k.1) (sym e ∙ ap members_in k.2) in
+    rw is (fields_open w k.0 k.1 h (rw k.2 at a))
+
+array_opened : (w : Walked) (n : ℕ) (o : Option Step) → next_of w ≡ next.Wants (form.Array n) →
+    IsStepAhead w.types (next_type w) o → (t : ℕ) × (element_in o ≡ Some t)
+    × OpensElements w n (times n t)
+array_opened w n o h a =
+    let k = array_known w n o h a in
+    (k.1, ap element_in k.2, elements_open w n k.0 k.1 h (rw k.2 at a))
+
+sequence_opened : (w : Walked) (n : ℕ) (o : Option Step) → next_of w ≡ next.Wants form.Sequence →
+    IsStepAhead w.types (next_type w) o → (t : ℕ) × (element_in o ≡ Some t)
+    × OpensElements w n (times n t)
+sequence_opened w n o h a =
+    let k = sequence_known w o h a in
+    (k.0, ap element_in k.1, sequence_elements_open w n k.0 h (rw k.1 at a))
+
+list_opened : (w : Walked) (n : ℕ) (o : Option Step) → IsListNext w n →
+    IsStepAhead w.types (next_type w) o → (t : ℕ) × (element_in o ≡ Some t)
+    × OpensElements w n (times n t)
+list_opened w n o (inl h) a = array_opened w n o h a
+list_opened w n o (inr h) a = sequence_opened w n o h a
+
+pub elements_there : (w : Walked) (n : ℕ) (o : Option Step) → IsListNext w n →
+    IsStepAhead w.types (next_type w) o → element_in o ≡ None → ⊥
+elements_there w n o h a e =
+    let k = list_opened w n o h a in
+    absurd (none-some k.0 (sym e ∙ k.1))
+
+pub elements_opened : (w : Walked) (n : ℕ) (o : Option Step) (t : ℕ) → IsListNext w n →
+    IsStepAhead w.types (next_type w) o → element_in o ≡ Some t → OpensElements w n (times n t)
+elements_opened w n o t h a e =
+    let k = list_opened w n o h a in
+    let is : t ≡ k.0 = same_Some t k.0 (sym e ∙ k.1) in
+    rw is k.2

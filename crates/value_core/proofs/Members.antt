@@ -1,0 +1,73 @@
+-- The references that are left of an open node, one after the other.
+use Rattle.std.proofs.Common.{◌≡◌, ℕ, zero, suc, ◌+◌, ◌-◌, ◌<◌, ◌≤◌, List, [], ◌∷◌, length, take, drop, Option, Some, None, refl, ap, ◌∙◌, arith, drop-cons, inl, inr}
+use Rattle.std.specs.Prelude.{slice_get, map, reverse}
+use Rattle.std.proofs.lemmas.List.{length-drop, length-map, length-reverse, length-take-le}
+use Rattle.std.proofs.lemmas.Option.{slice_get-get_or, slice_get_cases, slice_get_past}
+use Rattle.registry_core.specs.declared.type_info.TypeInfo.{TypeInfo}
+use Rattle.grammar_core.specs.Parts.{Part, each, left_after, how_many_left}
+use Rattle.widths_core.specs.Steps.{AreParts}
+use Rattle.value_core.specs.Frames.{followed_by, left_by, members_before, members_of, open_part, parts_by}
+use Rattle.value_core.specs.declared.left.Frame.{Frame}
+use Rattle.value_core.specs.declared.left.PartTypes.{PartTypes}
+use Rattle.value_core.specs.declared.left.PartTypes.TheVariants as types
+
+-- none is left past the last reference
+none_past : (refs : List ℕ) (end n : ℕ) → length refs ≤ end - n → members_before refs end n ≡ []
+none_past refs end zero h = refl
+none_past refs end (suc n) h =
+    ap (λ (o : Option ℕ). followed_by o (members_before refs end n))
+    (slice_get_past refs (end - suc n) h)
+
+-- with one less to come the first is gone
+one_less_member : (refs : List ℕ) (end n : ℕ) →
+    each (members_before refs end n) ≡ left_after (each (members_before refs end (suc n)))
+one_less_member refs end n = elim (slice_get_cases refs (end - suc n)).1 [
+  | inl there ↦ rw there.2 refl
+  | inr past ↦ rw (past.1, none_past refs end n (omega (arith, past.0))) refl
+]
+
+pub one_less : (refs : List ℕ) (n : ℕ) (ts : PartTypes) →
+    parts_by refs (n - 1) ts ≡ left_after (parts_by refs n ts)
+one_less refs zero (types.Members end) = refl
+one_less refs zero (types.Copies t) = refl
+one_less refs (suc n) (types.Members end) =
+    let down : suc n - 1 ≡ n = omega arith in
+    rw down (one_less_member refs end n)
+one_less refs (suc n) (types.Copies t) =
+    let down : suc n - 1 ≡ n = omega arith in
+    rw down refl
+
+-- those that are left are a piece of all references
+members_are : (refs : List ℕ) (end n : ℕ) → n ≤ end → end ≤ length refs →
+    members_before refs end n ≡ take n (drop (end - n) refs)
+members_are refs end zero h w = refl
+members_are refs end (suc n) h w =
+    let inside : end - suc n < length refs = omega (arith, h, w) in
+    let up : suc (end - suc n) ≡ end - n = omega (arith, h) in
+    rw (
+      slice_get-get_or refs (end - suc n) 0 inside,
+      drop-cons refs (end - suc n) 0 inside,
+      up,
+      members_are refs end n (omega (arith, h)) w,
+    ) refl
+
+-- so many from there on are left as these types are
+pub parts_left : (refs : List ℕ) (from count : ℕ) (ts : List ℕ) → AreParts refs from count ts →
+    left_by refs (members_of from count) ≡ each ts
+parts_left refs from count ts h =
+    let at : from + count - count ≡ from = omega arith in
+    ap each (members_are refs (from + count) count (omega arith) h.within
+    ∙ ap (λ (k : ℕ). take count (drop k refs)) at ∙ h.are)
+
+-- and there are so many of them
+pub parts_counted : (refs : List ℕ) (from count : ℕ) (ts : List ℕ) → AreParts refs from count ts →
+    length ts ≡ count
+parts_counted refs from count ts h =
+    rw (← h.are) (length-take-le count (drop from refs)
+    (omega (arith, length-drop from refs, h.within)))
+
+-- there are as many open parts around the innermost one as are kept
+pub frames_counted : (r : List TypeInfo) (around : List Frame) →
+    length (map (open_part r) (reverse around)) ≡ length around
+frames_counted r around =
+    length-map (reverse around) (open_part r) ∙ length-reverse around

@@ -1,0 +1,15 @@
+use Rattle.std.proofs.Common.{subst}
+use Rattle.value_core.specs.Frames.{left_of}
+use Rattle.value_core.specs.Opened.{OpensElements}
+use Rattle.value_core.specs.Walked.{Walked}
+use Rattle.value_core.proofs.NextOpen.{list_next}
+use Rattle.value_core.proofs.builder.Builder.add_list.Goals as goal
+
+pub add_open-requires-clause-next : goal.add_open-requires-clause-next
+add_open-requires-clause-next g c =
+    let w = c.args.self.now.walk in
+    let opens : OpensElements w c.args.count (left_of w.types c.elements-left.result) =
+    subst (λ (v : Walked). OpensElements v c.args.count (left_of v.types c.elements-left.result))
+    c.walk.ensures.same c.elements-left.ensures.opens in
+    list_next w c.args.count (left_of w.types c.elements-left.result) c.ranges.count.fits
+    c.requires.next opens

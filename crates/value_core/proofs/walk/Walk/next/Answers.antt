@@ -1,0 +1,17 @@
+use Rattle.std.proofs.Common.{◌≡◌, ◌∙◌, ◌≤◌, ◌+◌, length, subst, Some, arith}
+use Rattle.value_core.specs.Ahead.{IsStepAhead}
+use Rattle.value_core.specs.Walked.{Walked, next_type}
+use Rattle.value_core.proofs.Ahead.{next_in_room}
+use Rattle.value_core.proofs.Members.{frames_counted}
+use Rattle.value_core.proofs.walk.Walk.next.Goals as goal
+
+pub returns : goal.returns
+returns g c =
+    let around = frames_counted c.self.inside.checked.now.types c.self.inside.around.items in
+    let room : length c.args.self.now.frames ≤ c.args.self.now.limit + 1 =
+    subst (λ (w : Walked). length w.frames ≤ w.limit + 1) c.self.view_is (omega (arith, around, c.if-len-from.false, c.from.ensures, c.len.ensures)) in
+    let ahead : IsStepAhead c.args.self.now.types (next_type c.args.self.now)
+    (Some c.in-Some.ahead.step) =
+    subst (λ (w : Walked). IsStepAhead w.types (next_type w) (Some c.in-Some.ahead.step))
+    c.self.view_is (rw c.in-Some.is at c.self.invariant.2.1) in
+    c.next_of_step.ensures ∙ next_in_room c.args.self.now c.in-Some.ahead.step room ahead

@@ -1,0 +1,57 @@
+//! Opening the next node of a value that is built, where the caller knows its form.
+
+ghost use Rattle.std.specs.Prelude.{◌≡◌, OnOk, OnErr, IfOk, true, false, Ok, None, is_some};
+ghost use Rattle.value_core.specs.Built.{arm_in, next_layout, with_fields, with_arm, with_list};
+ghost use Rattle.value_core.specs.Opened.{IsListNext};
+ghost use Rattle.value_core.specs.Walked.{next_of};
+
+use crate::builder::Builder;
+use crate::node::Content;
+use grammar_core::{Form, Next};
+use std::alloc::{AllocError, Allocator};
+
+impl<'r, A: Allocator> Builder<'r, A> {
+    /// Adds a composite or a tuple, which the caller knows to be next: what `fields` does once it has judged. Where
+    /// memory is refused nothing changes.
+    pub fn add_fields(&mut self) -> Result<(), AllocError>
+        requires closed { self.old.text ≡ None }
+        requires next { next_of self.old.walk ≡ Next.Wants Form.Fields }
+        ensures ok { OnOk result (self.new ≡ with_fields self.old) }
+        ensures err { OnErr result (self.new ≡ self.old) }
+    {
+        let left = self.walk().fields();
+        let children = left.count as usize;
+        self.add_open(Content::Fields { children }, left)
+    }
+
+    /// Adds a variant, which the caller knows to be next, by the index of its arm: what `arm` does once it has judged.
+    /// Tells whether there is an arm of the index; where there is none, and where memory is refused, nothing changes.
+    pub fn add_arm(&mut self, index: u8) -> Result<bool, AllocError>
+        requires closed { self.old.text ≡ None }
+        requires next { next_of self.old.walk ≡ Next.Wants Form.Arm }
+        ensures found { IfOk result (λ b. b ≡ is_some (arm_in (next_layout self.old) index)) }
+        ensures ok { result ≡ Ok true → self.new ≡ with_arm self.old index }
+        ensures none { result ≡ Ok false → self.new ≡ self.old }
+        ensures err { OnErr result (self.new ≡ self.old) }
+        ensures memory { OnErr result (is_some (arm_in (next_layout self.old) index) ≡ true) }
+    {
+        let Some((position, left)) = self.walk().arm(index) else {
+            return Ok(false);
+        };
+        let children = left.count as usize;
+        self.add_open(Content::Arm { position, children }, left)?;
+        Ok(true)
+    }
+
+    /// Adds an array of this length, or a sequence of so many elements that take bytes, which the caller knows to be
+    /// next: what `list` does once it has judged. Where memory is refused nothing changes.
+    pub fn add_list(&mut self, count: u32) -> Result<(), AllocError>
+        requires closed { self.old.text ≡ None }
+        requires next { IsListNext self.old.walk count }
+        ensures ok { OnOk result (self.new ≡ with_list self.old count) }
+        ensures err { OnErr result (self.new ≡ self.old) }
+    {
+        let left = self.walk().elements(count);
+        self.add_open(Content::List { children: count }, left)
+    }
+}
