@@ -2,6 +2,9 @@
 pub mod Short
 pub mod Whole
 pub mod NodeAdding
+pub mod PlainReads
+pub mod PlainAdding
+pub mod FormSplits
 pub mod LengthAdding
 pub mod Stepping
 pub mod Refusing

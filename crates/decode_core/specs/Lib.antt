@@ -8,6 +8,7 @@ pub mod Told
 pub mod Machine
 pub mod Begins
 pub mod Needs
+pub mod NodeForms
 pub mod Reasons
 pub mod NodeAdds
 pub mod Running

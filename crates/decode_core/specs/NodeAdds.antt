@@ -56,6 +56,11 @@ AddsNode old new own (Ok _) = IsAdded old new own
 AddsNode old new own (Err (fault.Refused told at)) = IsRefused old own told at × (new ≡ old)
 AddsNode old new own (Err fault.OutOfMemory) = IsSpelled old own × (new ≡ old)
 
+-- the same of a node without bytes of its own
+abbrev pub AddsBare : {E : Type 0} → Built → Built → Result (Unit {0}) E → Type 0
+AddsBare old new (Ok _) = IsAdded old new []
+AddsBare old new (Err e) = IsSpelled old [] × (new ≡ old)
+
 -- the bytes are a text's length, and the text is open
 -- what the bytes of a text's length make of it
 abbrev pub OpensText : Built → Built → List ℕ → Result ℕ NodeFault → Type 0

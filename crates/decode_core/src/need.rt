@@ -1,11 +1,11 @@
 //! How many bytes a node has of its own, by its form and its first byte.
 
 ghost use Rattle.std.specs.Prelude.{◌≡◌, ◌≤◌};
-ghost use Rattle.decode_core.specs.Needs.{compact_need, primitive_need, need, HasBytes};
+ghost use Rattle.decode_core.specs.NodeForms.{form_of_bytes, form_of_plain};
+ghost use Rattle.decode_core.specs.Needs.{compact_need, need};
 
-use registry_core::{Primitive, PrimitiveKind};
+use crate::forms::{BytesForm, PlainForm};
 use scale_core::Target;
-use value_core::Form;
 
 /// How many bytes a compact integer has, or decide that it is refused.
 fn compact_need(target: Target, first: u8) -> usize
@@ -28,33 +28,32 @@ fn compact_need(target: Target, first: u8) -> usize
     }
 }
 
-/// How many bytes a value of a primitive type has, or decide that it is refused; of a text its length alone.
-fn primitive_need(primitive: Primitive, first: u8) -> usize
-    ensures exact { result ≡ primitive_need primitive first }
-    ensures some { 1 ≤ result }
-    ensures bound { result ≤ 32 }
-{
-    match primitive.kind() {
-        PrimitiveKind::Bool => 1,
-        PrimitiveKind::Char => 4,
-        PrimitiveKind::Str => compact_need(Target::U32, first),
-        PrimitiveKind::Unsigned(width) | PrimitiveKind::Signed(width) => width.bytes(),
-        PrimitiveKind::Wide(_) => 32,
-    }
-}
-
-/// How many bytes a node of this form has of its own, by the first of them, or how many decide that it is refused.
-pub(crate) fn need(form: Form, first: u8) -> usize
-    requires { HasBytes form }
-    ensures exact { result ≡ need form first }
+/// How many bytes a node without parts has, or how many decide that it is refused.
+fn plain_need(form: PlainForm, first: u8) -> usize
+    ensures exact { result ≡ need (form_of_plain form) first }
     ensures some { 1 ≤ result }
     ensures bound { result ≤ 32 }
 {
     match form {
-        Form::Primitive(primitive) => primitive_need(primitive, first),
-        Form::Compact(target) => compact_need(target, first),
-        Form::Arm => 1,
-        Form::Sequence | Form::Count => compact_need(Target::U32, first),
-        Form::Empty | Form::Fields | Form::Array(_) => unreachable!(),
+        PlainForm::Bool => 1,
+        PlainForm::Char => 4,
+        PlainForm::Unsigned(width) | PlainForm::Signed(width) => width.bytes(),
+        PlainForm::Wide(_) => 32,
+        PlainForm::Compact(target) => compact_need(target, first),
+        PlainForm::Count => compact_need(Target::U32, first),
+    }
+}
+
+/// How many bytes a node of this form has of its own, by the first of them, or how many decide that it is refused; of a
+/// text its length alone.
+pub(crate) fn need(form: BytesForm, first: u8) -> usize
+    ensures exact { result ≡ need (form_of_bytes form) first }
+    ensures some { 1 ≤ result }
+    ensures bound { result ≤ 32 }
+{
+    match form {
+        BytesForm::Plain(plain) => plain_need(plain, first),
+        BytesForm::Arm => 1,
+        BytesForm::Text | BytesForm::Sequence => compact_need(Target::U32, first),
     }
 }

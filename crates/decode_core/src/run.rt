@@ -5,21 +5,22 @@ ghost use Rattle.decode_core.specs.Running.{IsCarry, IsFresh, IsKeptText, IsText
 ghost use Rattle.value_core.specs.Walked.{next_of};
 ghost use Rattle.value_core.specs.Built.{built_text_bytes, finished};
 ghost use Rattle.value_core.specs.Refusals.{is_whole};
-ghost use Rattle.decode_core.specs.Needs.{AreOwn, HasBytes, IsFirst, IsNeeded};
+ghost use Rattle.decode_core.specs.Needs.{AreOwn, IsFirst, IsNeeded};
+ghost use Rattle.decode_core.specs.NodeForms.{form_of_bare, form_of_bytes};
 ghost use Rattle.decode_core.specs.NodeAdds.{TakesNode};
 ghost use Rattle.decode_core.specs.Turned.{BareTells, EndTells, FeedCounts, FeedTells, IsSound, KeepsTurns, RunsOut, StepTells, node_turned};
 
 use crate::carry::Carry;
 use crate::fault::DecodeReason;
+use crate::forms::{BareForm, BytesForm, split_form};
 use crate::need::need;
-use crate::node::{NodeFault, add_bare, add_node, open_text};
+use crate::node::{NodeFault, add_arm, add_bare, add_plain, add_sequence, open_text};
 use crate::turned::{Stopped, Turned};
 use count_core::Count;
-use registry_core::Primitive;
 use scale_core::compact_len;
 use std::alloc::Allocator;
 use std::marker::Model;
-use value_core::{BuildFault, Builder, Form, Next, Value};
+use value_core::{BuildFault, Builder, Next, Value};
 
 /// A text that is open: how many bytes it is to have, and how many of them are missing.
 #[derive(Clone, Copy)]
@@ -51,23 +52,24 @@ impl<'r, A: Allocator> Model for Run<'r, A> {
 fn take_node<A: Allocator>(
     builder: &mut Builder<'_, A>,
     text: &mut Option<OpenText>,
-    form: Form,
+    form: BytesForm,
     own: &[u8],
 ) -> Result<(), NodeFault>
-    requires next { next_of builder.old.walk ≡ Next.Wants form }
-    requires some { HasBytes form }
+    requires next { next_of builder.old.walk ≡ Next.Wants (form_of_bytes form) }
     requires closed { builder.old.text ≡ None }
     requires no_text { text.old ≡ None }
-    requires whole { AreOwn form own.now }
-    ensures { TakesNode form builder.old builder.new text.new own.now result }
+    requires whole { AreOwn (form_of_bytes form) own.now }
+    ensures { TakesNode (form_of_bytes form) builder.old builder.new text.new own.now result }
 {
     match form {
-        Form::Primitive(Primitive::Str) => {
+        BytesForm::Plain(plain) => add_plain(builder, plain, own),
+        BytesForm::Arm => add_arm(builder, own),
+        BytesForm::Sequence => add_sequence(builder, own),
+        BytesForm::Text => {
             let len = open_text(builder, own)?;
             *text = Some(OpenText { len, missing: len });
             Ok(())
         }
-        _ => add_node(builder, form, own),
     }
 }
 
@@ -130,17 +132,15 @@ impl<'r, A: Allocator> Run<'r, A> {
     }
 
     /// A turn on a node without bytes of its own.
-    fn bare_turn(&mut self, form: Form) -> Turned
-        requires next { next_of self.old.built.walk ≡ Next.Wants form }
-        requires bare { HasBytes form → ⊥ }
+    fn bare_turn(&mut self, form: BareForm) -> Turned
+        requires next { next_of self.old.built.walk ≡ Next.Wants (form_of_bare form) }
         requires closed { self.old.built.text ≡ None }
         ensures tells { BareTells self.old self.new result }
         ensures kept { KeepsTurns self.old self.new result }
     {
         match add_bare(&mut self.builder, form) {
             Ok(()) => Turned::On(0),
-            Err(NodeFault::OutOfMemory) => Turned::OutOfMemory,
-            Err(NodeFault::Refused(_, _)) => unreachable!(),
+            Err(_) => Turned::OutOfMemory,
         }
     }
 
@@ -156,12 +156,11 @@ impl<'r, A: Allocator> Run<'r, A> {
     }
 
     /// A turn on a node whose own bytes the piece has whole.
-    fn whole_turn(&mut self, form: Form, own: &[u8]) -> Turned
-        requires next { next_of self.old.built.walk ≡ Next.Wants form }
-        requires some { HasBytes form }
+    fn whole_turn(&mut self, form: BytesForm, own: &[u8]) -> Turned
+        requires next { next_of self.old.built.walk ≡ Next.Wants (form_of_bytes form) }
         requires closed { self.old.built.text ≡ None }
         requires empty { self.old.carry ≡ [] }
-        requires whole { AreOwn form own.now }
+        requires whole { AreOwn (form_of_bytes form) own.now }
         ensures tells { (rest : List ℕ) → StepTells self.old self.new (own.now ++ rest) result }
         ensures kept { KeepsTurns self.old self.new result }
     {
@@ -171,12 +170,11 @@ impl<'r, A: Allocator> Run<'r, A> {
 
     /// A turn on a node of `len` own bytes that pieces cut: those that are carried, and as many of the piece's as are
     /// missing or there.
-    fn cut_turn(&mut self, form: Form, len: usize, piece: &[u8]) -> Turned
-        requires next { next_of self.old.built.walk ≡ Next.Wants form }
-        requires some { HasBytes form }
+    fn cut_turn(&mut self, form: BytesForm, len: usize, piece: &[u8]) -> Turned
+        requires next { next_of self.old.built.walk ≡ Next.Wants (form_of_bytes form) }
         requires closed { self.old.built.text ≡ None }
         requires piece { 1 ≤ length piece.now }
-        requires len { IsNeeded form len (self.old.carry ++ piece.now) }
+        requires len { IsNeeded (form_of_bytes form) len (self.old.carry ++ piece.now) }
         requires short { length self.old.carry < len }
         requires bound { len ≤ 32 }
         ensures tells { StepTells self.old self.new piece.now result }
@@ -198,9 +196,8 @@ impl<'r, A: Allocator> Run<'r, A> {
     }
 
     /// A turn on a node with bytes of its own, other than a text that is open.
-    fn own_turn(&mut self, form: Form, piece: &[u8]) -> Turned
-        requires next { next_of self.old.built.walk ≡ Next.Wants form }
-        requires some { HasBytes form }
+    fn own_turn(&mut self, form: BytesForm, piece: &[u8]) -> Turned
+        requires next { next_of self.old.built.walk ≡ Next.Wants (form_of_bytes form) }
         requires closed { self.old.built.text ≡ None }
         requires carried { IsCarry self.old.built self.old.carry }
         ensures tells { StepTells self.old self.new piece.now result }
@@ -230,7 +227,7 @@ impl<'r, A: Allocator> Run<'r, A> {
             return Turned::Stopped(Stopped::Wants);
         }
         let count = piece.len().min(text.missing as usize);
-        match self.builder.text_piece(&piece[..count]) {
+        match self.builder.extend_text(&piece[..count]) {
             Ok(()) => {
                 let missing = text.missing - count as u32;
                 self.text = Some(OpenText {
@@ -239,8 +236,7 @@ impl<'r, A: Allocator> Run<'r, A> {
                 });
                 Turned::On(count)
             }
-            Err(BuildFault::OutOfMemory) => Turned::OutOfMemory,
-            Err(_) => unreachable!(),
+            Err(_) => Turned::OutOfMemory,
         }
     }
 
@@ -289,9 +285,9 @@ impl<'r, A: Allocator> Run<'r, A> {
             }),
             Next::Wants(form) => match self.text {
                 Some(text) => self.text_turn(text, piece),
-                None => match form {
-                    Form::Empty | Form::Fields | Form::Array(_) => self.bare_turn(form),
-                    _ => self.own_turn(form, piece),
+                None => match split_form(form) {
+                    Ok(form) => self.own_turn(form, piece),
+                    Err(form) => self.bare_turn(form),
                 },
             },
         }

@@ -21,8 +21,8 @@ pub enum Leaf<'b> {
     Unsigned(u128),
     /// A signed integer of at most sixteen bytes.
     Signed(i128),
-    /// A 256-bit integer, by its bytes, the lowest first.
-    Wide(&'b [u8; 32]),
+    /// A 256-bit integer, by its 32 bytes, the lowest first.
+    Wide(&'b [u8]),
     /// A compact integer.
     Compact(u128),
     /// A sequence of elements that take no bytes, by their count.

@@ -1,6 +1,6 @@
 -- A list, a count, an arm, and a text's length, by their own bytes.
-use Rattle.std.proofs.Common.{◌≡◌, ℕ, ◌^◌, ◌<◌, true, List, [], ◌∷◌, length, Option, Some, None, Result, Ok, Err, is_ok, refl, sym, ap, subst, ◌∙◌, arith}
-use Rattle.std.specs.Prelude.{◌≢◌, IfErr, slice_index_or}
+use Rattle.std.proofs.Common.{◌≡◌, ℕ, ◌^◌, ◌<◌, true, false, List, [], ◌∷◌, length, Option, Some, None, Result, Ok, Err, is_ok, refl, sym, ap, subst, ◌∙◌, arith}
+use Rattle.std.specs.Prelude.{◌≢◌, OnErr, OnOk, is_some, slice_index_or}
 use Rattle.std.proofs.lemmas.Bool.{eq-eqb, lt-ltb}
 use Rattle.scale_core.specs.Compact.{target_bytes}
 use Rattle.scale_core.specs.Read.{Read, place, compact_at, text_at}
@@ -29,12 +29,12 @@ use Rattle.grammar_core.specs.declared.form.Form.{Form}
 use Rattle.grammar_core.specs.declared.form.Form.TheVariants as form
 use Rattle.grammar_core.specs.declared.form.Next.TheVariants as next
 use Rattle.decode_core.specs.Needs.{AreOwn}
-use Rattle.decode_core.specs.NodeAdds.{AddsNode, IsAdded, IsRefused, IsSpelled, with_own}
+use Rattle.decode_core.specs.NodeAdds.{AddsBare, IsAdded, IsRefused, IsSpelled, with_own}
 use Rattle.decode_core.specs.Reasons.{reason_of}
 use Rattle.decode_core.specs.Told.{leaf_own, length_own, own_at}
 use Rattle.decode_core.specs.declared.node.NodeFault.{NodeFault}
 use Rattle.decode_core.specs.declared.node.NodeFault.TheVariants as fault
-use Rattle.decode_core.proofs.steps.NodeAdding.{next_has, judged_by, count_own, adds_none, refused_same}
+use Rattle.decode_core.proofs.steps.NodeAdding.{all_read, next_has}
 use Rattle.decode_core.proofs.steps.Whole.{IsSettled, settled_at, u32_is, basic_whole}
 
 -- ---- lists and counts
@@ -66,116 +66,74 @@ pub list_refused : (b : Built) (own : List ℕ) (e : Reason) (at : ℕ) →
 list_refused b own e at h k = let s = next_has b form.Sequence h in
     list_refused_by (next_layout b) s.0 own e at s.1 k
 
-count_by : (lay : Layout) (own : List ℕ) (n : ℕ) → lay ≡ (layout.plain layout.counted) →
-    ((rest : List ℕ) × (compact_at target.U32 own ≡ Ok (n, rest))) → (rest : List ℕ)
-    × (own_at lay own ≡ Ok ((head.leaf (tree.count n), None), rest))
-count_by lay own n e h = rw e (h.0, count_own own ∙ ap (λ r. leaf_own (as_leaf tree.count r)) h.1)
-
-pub count_read : (b : Built) (own : List ℕ) (n : ℕ) → next_of b.walk ≡ next.Wants form.Count →
-    (rest : List ℕ) × (compact_at target.U32 own ≡ Ok (n, rest)) → (rest : List ℕ)
-    × (own_at (next_layout b) own ≡ Ok ((head.leaf (tree.count n), None), rest))
-count_read b own n h k = count_by (next_layout b) own n (next_has b form.Count h) k
-
-count_refused_by : (lay : Layout) (own : List ℕ) (e : Reason) (at : ℕ) →
-    lay ≡ (layout.plain layout.counted) →
-    ((left : List ℕ) × (compact_at target.U32 own ≡ Err (e, left)) × (at ≡ place own left)) →
-    (left : List ℕ) × (own_at lay own ≡ Err (basic e, left)) × (at ≡ place own left)
-count_refused_by lay own e at is h =
-    rw is (h.0, count_own own ∙ ap (λ r. leaf_own (as_leaf tree.count r)) h.1, h.2)
-
-pub count_refused : (b : Built) (own : List ℕ) (e : Reason) (at : ℕ) →
-    next_of b.walk ≡ next.Wants form.Count → (left : List ℕ)
-    × (compact_at target.U32 own ≡ Err (e, left)) × (at ≡ place own left) → (left : List ℕ)
-    × (own_at (next_layout b) own ≡ Err (basic e, left)) × (at ≡ place own left)
-count_refused b own e at h k = count_refused_by (next_layout b) own e at (next_has b form.Count h) k
-
-pub compact_fits : (m : Target) (n : ℕ) → n < 256 ^ target_bytes m →
-    suits_compact n (form.Compact m) ≡ None
-compact_fits m n h = rw (lt-ltb n (256 ^ target_bytes m) h) refl
+pub list_all : (b : Built) (own : List ℕ) (n : ℕ) → next_of b.walk ≡ next.Wants form.Sequence →
+    AreOwn form.Sequence own → (rest : List ℕ) × (compact_at target.U32 own ≡ Ok (n, rest)) →
+    own_at (next_layout b) own
+    ≡ Ok ((head.branch tree.list n, Some (list_part (next_layout b) n)), [])
+list_all b own n h a k =
+    all_read form.Sequence b own (head.branch tree.list n, Some (list_part (next_layout b) n)) h tt
+    tt a (list_read b own n h k)
 
 -- ---- arms
-
-arm_found : (b new : Built) (arms : List Arm) (i : ℕ) (found : Option (ℕ × Arm))
-    (result : Result (Unit {0}) BuildFault) → next_layout b ≡ layout.arms arms →
-    arm_of arms i ≡ found → next_of b.walk ≡ next.Wants form.Arm → b.text ≡ None →
-    Adds (suits_arm found form.Arm) (with_found b found) b new result → is_ok result ≡ true →
-    IsAdded b new (i ∷ [])
-unfolding own_at
-arm_found b new arms i (Some a) (Ok u) lay is h k adds ok =
-    ((head.branch (tree.arm a.0) _, Some _), rw (lay, is) refl, adds)
-arm_found b new arms i None (Ok u) lay is h k adds ok = absurd adds
-arm_found b new arms i found (Err e) lay is h k adds ok = absurd cc
-
-arm_missing : (b new : Built) (arms : List Arm) (i : ℕ) (found : Option (ℕ × Arm)) →
-    next_layout b ≡ layout.arms arms → arm_of arms i ≡ found →
-    Adds (suits_arm found form.Arm) (with_found b found) b new (Err build.NoSuchVariant) →
-    IsRefused b (i ∷ []) (reason_of no_such_variant) 0 × (new ≡ b)
-unfolding own_at
-arm_missing b new arms i (Some a) lay is adds = let no = adds.0 in absurd cc
-arm_missing b new arms i None lay is adds =
-    ((no_such_variant, i ∷ [], rw (lay, is) refl, refl, refl, omega arith), adds.1)
-
--- the call's answer, by the arm that the index has
-arm_answer : (b new : Built) (i : ℕ) (arms : List Arm) (result : Result (Unit {0}) BuildFault) →
-    next_layout b ≡ layout.arms arms → next_of b.walk ≡ next.Wants form.Arm → b.text ≡ None →
-    Adds (judged_arm b i) (with_arm b i) b new result →
-    Adds (suits_arm (arm_of arms i) form.Arm) (with_found b (arm_of arms i)) b new result
-arm_answer b new i arms result lay h k adds =
-    let found : arm_in (next_layout b) i ≡ arm_of arms i = ap (λ (f : Layout). arm_in f i) lay in
-    let one = subst (λ (o : Option BuildFault). Adds o (with_arm b i) b new result)
-    (judged_by (suits_arm (arm_in (next_layout b) i)) b form.Arm h k) adds in
-    subst (λ (o : Option (ℕ × Arm)). Adds (suits_arm o form.Arm) (with_found b o) b new result)
-    found one
 
 one_byte : (own : List ℕ) → AreOwn form.Arm own → own ≡ slice_index_or own 0 0 ∷ []
 one_byte [] h = let no = h.2 in absurd cc
 one_byte (x ∷ []) h = refl
 one_byte (x ∷ y ∷ own) h = absurd (omega (arith, h.3))
 
-pub arm_added : (b new : Built) (own : List ℕ) (result : Result (Unit {0}) BuildFault) →
-    next_of b.walk ≡ next.Wants form.Arm → b.text ≡ None → AreOwn form.Arm own →
-    Adds (judged_arm b (slice_index_or own 0 0)) (with_arm b (slice_index_or own 0 0)) b new
-    result → is_ok result ≡ true → IsAdded b new own
-arm_added b new own result h k a adds ok =
-    let i = slice_index_or own 0 0 in
-    let s = next_has b form.Arm h in
-    subst (IsAdded b new) (sym (one_byte own a))
-    (arm_found b new s.0 i (arm_of s.0 i) result s.1 refl h k
-    (arm_answer b new i s.0 result s.1 h k adds) ok)
-
-pub arm_refused : (b new : Built) (own : List ℕ) → next_of b.walk ≡ next.Wants form.Arm →
-    b.text ≡ None → AreOwn form.Arm own →
-    Adds (judged_arm b (slice_index_or own 0 0)) (with_arm b (slice_index_or own 0 0)) b new
-    (Err build.NoSuchVariant) →
-    IsRefused b own (reason_of no_such_variant) 0 × (new ≡ b)
-arm_refused b new own h k a adds =
-    let i = slice_index_or own 0 0 in
-    let s = next_has b form.Arm h in
-    subst (λ (o : List ℕ). IsRefused b o (reason_of no_such_variant) 0 × (new ≡ b))
-    (sym (one_byte own a))
-    (arm_missing b new s.0 i (arm_of s.0 i) s.1 refl
-    (arm_answer b new i s.0 (Err build.NoSuchVariant) s.1 h k adds))
-
-arm_wanted : (b new : Built) (arms : List Arm) (i : ℕ) (found : Option (ℕ × Arm)) →
-    next_layout b ≡ layout.arms arms → arm_of arms i ≡ found →
-    Adds (suits_arm found form.Arm) (with_found b found) b new (Err build.OutOfMemory) →
-    IsSpelled b (i ∷ []) × (new ≡ b)
+-- an arm of the index is there, and its node is what the byte spells
+arm_spells : (b : Built) (i : ℕ) (found : Option (ℕ × Arm)) →
+    next_of b.walk ≡ next.Wants form.Arm → arm_in (next_layout b) i ≡ found →
+    is_some found ≡ true → (a : ℕ × Arm) × (found ≡ Some a)
+    × (own_at (next_layout b) (i ∷ [])
+    ≡ Ok (
+      (
+        head.branch (tree.arm a.0) (length (field_types a.1.fields)),
+        Some (each (field_types a.1.fields)),
+      ),
+      [],
+    ))
 unfolding own_at
-arm_wanted b new arms i (Some a) lay is adds = let ts = field_types a.1.fields in
-    (((head.branch (tree.arm a.0) (length ts), Some (each ts)), rw (lay, is) refl), adds.1)
-arm_wanted b new arms i None lay is adds = let no = adds.0 in absurd cc
-
--- memory is refused for an arm that is there alone
-pub arm_short : (b new : Built) (own : List ℕ) → next_of b.walk ≡ next.Wants form.Arm →
-    b.text ≡ None → AreOwn form.Arm own →
-    Adds (judged_arm b (slice_index_or own 0 0)) (with_arm b (slice_index_or own 0 0)) b new
-    (Err build.OutOfMemory) → IsSpelled b own × (new ≡ b)
-arm_short b new own h k a adds =
-    let i = slice_index_or own 0 0 in
+arm_spells b i None h e there = absurd cc
+arm_spells b i (Some a) h e there =
     let s = next_has b form.Arm h in
-    subst (λ (o : List ℕ). IsSpelled b o × (new ≡ b)) (sym (one_byte own a))
-    (arm_wanted b new s.0 i (arm_of s.0 i) s.1 refl
-    (arm_answer b new i s.0 (Err build.OutOfMemory) s.1 h k adds))
+    let is : arm_of s.0 i ≡ Some a = sym (ap (λ (f : Layout). arm_in f i) s.1) ∙ e in
+    (a, refl, rw (s.1, is) refl)
+
+pub arm_added : (b new : Built) (own : List ℕ) → next_of b.walk ≡ next.Wants form.Arm →
+    AreOwn form.Arm own → is_some (arm_in (next_layout b) (slice_index_or own 0 0)) ≡ true →
+    new ≡ with_arm b (slice_index_or own 0 0) → IsAdded b new own
+arm_added b new own h a there is =
+    let i = slice_index_or own 0 0 in
+    let s = arm_spells b i (arm_in (next_layout b) i) h refl there in
+    subst (IsAdded b new) (sym (one_byte own a))
+    ((_, _), s.2, is ∙ ap (with_found b) s.1)
+
+pub arm_spelled : (b : Built) (own : List ℕ) → next_of b.walk ≡ next.Wants form.Arm →
+    AreOwn form.Arm own → is_some (arm_in (next_layout b) (slice_index_or own 0 0)) ≡ true →
+    IsSpelled b own
+arm_spelled b own h a there =
+    let i = slice_index_or own 0 0 in
+    let s = arm_spells b i (arm_in (next_layout b) i) h refl there in
+    subst (IsSpelled b) (sym (one_byte own a)) (_, s.2)
+
+arm_missing : (b : Built) (i : ℕ) (found : Option (ℕ × Arm)) →
+    next_of b.walk ≡ next.Wants form.Arm → arm_in (next_layout b) i ≡ found →
+    is_some found ≡ false → IsRefused b (i ∷ []) (reason_of no_such_variant) 0
+unfolding own_at
+arm_missing b i (Some a) h e none = absurd cc
+arm_missing b i None h e none =
+    let s = next_has b form.Arm h in
+    let is : arm_of s.0 i ≡ None = sym (ap (λ (f : Layout). arm_in f i) s.1) ∙ e in
+    (no_such_variant, i ∷ [], rw (s.1, is) refl, refl, refl, omega arith)
+
+pub arm_refused : (b : Built) (own : List ℕ) → next_of b.walk ≡ next.Wants form.Arm →
+    AreOwn form.Arm own → is_some (arm_in (next_layout b) (slice_index_or own 0 0)) ≡ false →
+    IsRefused b own (reason_of no_such_variant) 0
+arm_refused b own h a none =
+    let i = slice_index_or own 0 0 in
+    subst (λ (o : List ℕ). IsRefused b o (reason_of no_such_variant) 0) (sym (one_byte own a))
+    (arm_missing b i (arm_in (next_layout b) i) h refl none)
 
 -- ---- the length of a text
 
@@ -261,24 +219,9 @@ pub array_read : (b : Built) (n : ℕ) → next_of b.walk ≡ next.Wants (form.A
     ≡ Ok ((head.branch tree.list n, Some (list_part (next_layout b) n)), [])
 array_read b n h = let f = next_has b (form.Array n) h in array_by (next_layout b) n f.0 f.1
 
-pub array_fits : (n : ℕ) → suits_list n (form.Array n) ≡ None
-array_fits n = rw (eq-eqb n n refl) refl
-
-pub bare_added : (f : Form) (b new : Built) (x : Head × Option Part)
-    (suits : Form → Option BuildFault) (added : Result (Unit {0}) BuildFault)
-    (kept : Result (Unit {0}) NodeFault) →
-    next_of b.walk ≡ next.Wants f → b.text ≡ None → own_at (next_layout b) [] ≡ Ok (x, []) →
-    suits f ≡ None → Adds (judged suits b) (with_own b x) b new added →
-    is_ok kept ≡ is_ok added → IfErr kept (λ e. e ≡ fault.OutOfMemory) → AddsNode b new [] kept
-bare_added f b new x suits added (Ok u) h k r fits adds ok err = (
-  x,
-  r,
-  adds_none (with_own b x) b new (judged suits b) added (judged_by suits b f h k ∙ fits)
-      adds (sym ok),
-)
-bare_added f b new x suits added (Err fault.OutOfMemory) h k r fits adds ok err = (
-  (x, r),
-  refused_same (with_own b x) b new (judged suits b) added
-      (judged_by suits b f h k ∙ fits) adds (sym ok),
-)
-bare_added f b new x suits added (Err (fault.Refused told at)) h k r fits adds ok err = absurd cc
+-- a node without bytes of its own is added, or memory was refused for it
+pub bare_added : {E : Type 0} (b new : Built) (x : Head × Option Part)
+    (added : Result (Unit {0}) E) → own_at (next_layout b) [] ≡ Ok (x, []) →
+    OnOk added (new ≡ with_own b x) → OnErr added (new ≡ b) → AddsBare b new added
+bare_added b new x (Ok u) r ok err = (x, r, ok)
+bare_added b new x (Err e) r ok err = ((x, r), err)

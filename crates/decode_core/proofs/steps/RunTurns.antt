@@ -14,7 +14,7 @@ use Rattle.grammar_core.specs.declared.form.Form.TheVariants as form
 use Rattle.grammar_core.specs.declared.form.Next.{Next}
 use Rattle.grammar_core.specs.declared.form.Next.TheVariants as next
 use Rattle.decode_core.specs.Needs.{need, AreOwn, HasBytes, IsFirst, IsNeeded}
-use Rattle.decode_core.specs.NodeAdds.{AddsNode, AreLength, IsRefused, IsSpelled, TakesNode}
+use Rattle.decode_core.specs.NodeAdds.{AddsNode, AreLength, IsRefused, IsSpelled, TakesNode, AddsBare, IsAdded}
 use Rattle.decode_core.specs.Running.{Running, IsRunning, IsCarry, IsKeptText, held_of}
 use Rattle.decode_core.specs.Turned.{KeepsNode, KeepsText, Steps, BareTells, StepTells, EndsTurns, WantsMemory, node_turned}
 use Rattle.decode_core.specs.Told.{own_at}
@@ -52,17 +52,15 @@ pub no_text : (b : Built) (carry : List ℕ) (text : Option OpenText) → IsRunn
     b.text ≡ None → text ≡ None
 no_text b carry text h closed = text_none b.text text closed h.is_text
 
-bare_by : (b new : Built) (f : Form) (added : Result (Unit {0}) NodeFault) → IsRunning b [] None →
-    next_of b.walk ≡ next.Wants f → b.text ≡ None → AddsNode b new [] added → IsRunning new [] None
+bare_by : {E : Type 0} (b new : Built) (f : Form) (added : Result (Unit {0}) E) →
+    IsRunning b [] None → next_of b.walk ≡ next.Wants f → b.text ≡ None → AddsBare b new added →
+    IsRunning new [] None
 bare_by b new f (Ok u) h k closed adds = added_running b new [] (at_next b f k) closed adds
-bare_by b new f (Err (fault.Refused told_reason at)) h k closed adds =
-    subst (λ (s : Built). IsRunning s [] None) (sym adds.1) h
-bare_by b new f (Err fault.OutOfMemory) h k closed adds =
-    subst (λ (s : Built). IsRunning s [] None) (sym adds.1) h
+bare_by b new f (Err e) h k closed adds = subst (λ (s : Built). IsRunning s [] None) (sym adds.1) h
 
-pub bare_running : (b new : Built) (carry : List ℕ) (text : Option OpenText) (f : Form)
-    (added : Result (Unit {0}) NodeFault) → IsRunning b carry text → next_of b.walk ≡ next.Wants f →
-    (HasBytes f → ⊥) → b.text ≡ None → AddsNode b new [] added → IsRunning new carry text
+pub bare_running : {E : Type 0} (b new : Built) (carry : List ℕ) (text : Option OpenText) (f : Form)
+    (added : Result (Unit {0}) E) → IsRunning b carry text → next_of b.walk ≡ next.Wants f →
+    (HasBytes f → ⊥) → b.text ≡ None → AddsBare b new added → IsRunning new carry text
 bare_running b new carry text f added h k bare closed adds =
     let none = carry_none b carry f h.carried k bare in
     let no = no_text b carry text h closed in
@@ -70,7 +68,7 @@ bare_running b new carry text f added h k bare closed adds =
 
 pub bare_tells : (b new : Built) (carry : List ℕ) (text : Option OpenText) (f : Form) →
     IsRunning b carry text → next_of b.walk ≡ next.Wants f → (HasBytes f → ⊥) → b.text ≡ None →
-    AddsNode b new [] (Ok tt) →
+    IsAdded b new [] →
     BareTells (record { built = b; carry = carry }) (record { built = new; carry = carry })
     (turned.On 0)
 bare_tells b new carry text f h k bare closed adds =

@@ -19,11 +19,3 @@ returns g c = (
       c.in_ok-length.ensures,
   search rules,
 )
-
-pub returns-in_err-kept : goal.returns-in_err-kept
-returns-in_err-kept g c =
-    let n = c.in_ok-length.length in
-    let p = err_from_is_err_and c.from_residual-in_err-kept.result
-    c.from_residual-in_err-kept.ensures.1 in
-    rw (p.1, p.2, c.in_err-kept.ensures.err)
-    ((n, length_read c.args.own.now n c.requires.whole c.in_ok-length.ensures), search rules)

@@ -1,16 +1,18 @@
 use Rattle.std.proofs.Common.{ℕ, List, ◌≡◌, ◌++◌, [], drop}
 use Rattle.decode_core.specs.Needs.{IsFirst}
+use Rattle.decode_core.specs.NodeForms.{form_of_bytes}
 use Rattle.decode_core.specs.Turned.{StepTells}
 use Rattle.std.proofs.Common.{refl, sym, subst, ◌∙◌}
 use Rattle.std.proofs.lemmas.List.{take-append-drop}
 use Rattle.decode_core.specs.Running.{Running}
 use Rattle.decode_core.proofs.steps.RunTurns.{none_of, wants_more, whole_own}
+use Rattle.decode_core.proofs.steps.FormSplits.{have_bytes}
 use Rattle.decode_core.proofs.run.Run.own_turn.Goals as goal
 
 pub returns-then-is_empty-clause-tells : goal.returns-then-is_empty-clause-tells
 returns-then-is_empty-clause-tells g c =
-    let more = wants_more c.args.self.now.built c.args.self.now.carry c.args.form c.requires.carried
-    c.requires.next c.requires.some c.requires.closed in
+    let more = wants_more c.args.self.now.built c.args.self.now.carry (form_of_bytes c.args.form) c.requires.carried
+    c.requires.next (have_bytes c.args.form) c.requires.closed in
     (refl, (none_of c.args.piece.now c.if-is_empty.ensures, more.1))
 
 pub whole_turn-requires-clause-whole : goal.whole_turn-requires-clause-whole
@@ -21,7 +23,7 @@ whole_turn-requires-clause-whole g c =
     let first : IsFirst c.first_byte.result (k ++ c.args.piece.now) =
     subst (λ (s : Running). IsFirst c.first_byte.result (s.carry ++ c.args.piece.now))
     (sym c.self.view_is) c.first_byte.ensures in
-    whole_own c.args.form k c.args.piece.now c.need-len.result c.first_byte.result none first
+    whole_own (form_of_bytes c.args.form) k c.args.piece.now c.need-len.result c.first_byte.result none first
     c.need-len.ensures.exact c.need-len.ensures.some c.if-len-piece.true
 
 pub returns-then-len-piece-clause-tells : goal.returns-then-len-piece-clause-tells

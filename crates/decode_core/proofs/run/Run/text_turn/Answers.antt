@@ -13,8 +13,8 @@ returns-then-is_empty-clause-tells g c = (
   ),
 )
 
-pub returns-in-Err-OutOfMemory-clause-tells : goal.returns-in-Err-OutOfMemory-clause-tells
-returns-in-Err-OutOfMemory-clause-tells g c =
+pub returns-in-Err-clause-tells : goal.returns-in-Err-clause-tells
+returns-in-Err-clause-tells g c =
     let few : c.min-count.result ≤ c.args.text.missing = search rules in
     let there : c.min-count.result ≤ length c.args.piece.now = search rules in
     let bytes = some_of c.args.piece.now c.if-is_empty.ensures in

@@ -1,0 +1,23 @@
+use Rattle.std.proofs.Common.{Ok, refl, subst, sym}
+use Rattle.value_core.specs.declared.leaf.Leaf.TheVariants as leaf
+use Rattle.decode_core.specs.Needs.{AreOwn}
+use Rattle.decode_core.specs.NodeForms.{ReadsPlain, form_of_plain}
+use Rattle.decode_core.specs.declared.forms.PlainForm.{PlainForm}
+use Rattle.decode_core.proofs.steps.PlainReads.{compact_reads, wide_reads}
+use Rattle.decode_core.proofs.node.read_plain.Goals as goal
+
+pub returns-in-Wide-clause-reads : goal.returns-in-Wide-clause-reads
+returns-in-Wide-clause-reads c =
+    let own = c.args.own.now in
+    let whole = subst (λ (p : PlainForm). AreOwn (form_of_plain p) own) c.in-Wide.is c.requires in
+    subst (λ (p : PlainForm). ReadsPlain p own (Ok (leaf.Wide c.args.own))) (sym c.in-Wide.is)
+    (wide_reads c.in-Wide.field-0 own (leaf.Wide c.args.own) whole refl)
+
+pub returns-in_ok-read_compact-in-Compact-clause-reads :
+    goal.returns-in_ok-read_compact-in-Compact-clause-reads
+returns-in_ok-read_compact-in-Compact-clause-reads c =
+    let own = c.args.own.now in
+    let n = c.in_ok-read_compact-in-Compact.field-0.0 in
+    subst (λ (p : PlainForm). ReadsPlain p own (Ok (leaf.Compact n))) (sym c.in-Compact.is)
+    (compact_reads c.in-Compact.target own n c.in_ok-read_compact-in-Compact.field-0.1
+    c.in_ok-read_compact-in-Compact.ensures.reads)

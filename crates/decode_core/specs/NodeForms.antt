@@ -1,0 +1,85 @@
+-- The forms of nodes with bytes of their own and of those without, as forms.
+use Rattle.std.specs.Prelude.{◌≡◌, ℕ, List, Option, None, Result, Ok, Err}
+use Rattle.scale_core.specs.Read.{place}
+use Rattle.scale_core.specs.declared.fault.Fault.{Fault}
+use Rattle.registry_core.specs.Kinds.{kind_of, width_bytes}
+use Rattle.registry_core.specs.declared.kind.IntegerWidth.{IntegerWidth}
+use Rattle.registry_core.specs.declared.kind.IntegerWidth.TheVariants as width
+use Rattle.registry_core.specs.declared.kind.PrimitiveKind.{PrimitiveKind}
+use Rattle.registry_core.specs.declared.kind.PrimitiveKind.TheVariants as K
+use Rattle.registry_core.specs.declared.kind.Signedness.{Signedness}
+use Rattle.registry_core.specs.declared.kind.Signedness.TheVariants as sign
+use Rattle.registry_core.specs.declared.primitive.Primitive.{Primitive}
+use Rattle.registry_core.specs.declared.primitive.Primitive.TheVariants as P
+use Rattle.widths_core.specs.Layouts.{Plain}
+use Rattle.widths_core.specs.Layouts as layout
+use Rattle.grammar_core.specs.Preorder as head
+use Rattle.grammar_core.specs.Reading.{Refusal, basic, leaf_at}
+use Rattle.grammar_core.specs.declared.form.Form.{Form}
+use Rattle.grammar_core.specs.declared.form.Form.TheVariants as form
+use Rattle.value_core.specs.Leaves.{leaf_head}
+use Rattle.value_core.specs.declared.leaf.Leaf.{Leaf}
+use Rattle.decode_core.specs.Told.{leaf_own}
+use Rattle.decode_core.specs.declared.forms.PlainForm.{PlainForm}
+use Rattle.decode_core.specs.declared.forms.PlainForm.TheVariants as plain
+use Rattle.decode_core.specs.declared.forms.BytesForm.{BytesForm}
+use Rattle.decode_core.specs.declared.forms.BytesForm.TheVariants as bytes
+use Rattle.decode_core.specs.declared.forms.BareForm.{BareForm}
+use Rattle.decode_core.specs.declared.forms.BareForm.TheVariants as bare
+
+-- the primitive types of integers
+abbrev pub unsigned_of : IntegerWidth → Primitive
+unsigned_of width.Bits8 = P.U8
+unsigned_of width.Bits16 = P.U16
+unsigned_of width.Bits32 = P.U32
+unsigned_of width.Bits64 = P.U64
+unsigned_of width.Bits128 = P.U128
+
+abbrev pub signed_of : IntegerWidth → Primitive
+signed_of width.Bits8 = P.I8
+signed_of width.Bits16 = P.I16
+signed_of width.Bits32 = P.I32
+signed_of width.Bits64 = P.I64
+signed_of width.Bits128 = P.I128
+
+abbrev pub wide_of : Signedness → Primitive
+wide_of sign.Unsigned = P.U256
+wide_of sign.Signed = P.I256
+
+abbrev pub form_of_plain : PlainForm → Form
+form_of_plain plain.Bool = form.Primitive P.Bool
+form_of_plain plain.Char = form.Primitive P.Char
+form_of_plain (plain.Unsigned w) = form.Primitive (unsigned_of w)
+form_of_plain (plain.Signed w) = form.Primitive (signed_of w)
+form_of_plain (plain.Wide s) = form.Primitive (wide_of s)
+form_of_plain (plain.Compact m) = form.Compact m
+form_of_plain plain.Count = form.Count
+
+abbrev pub form_of_bytes : BytesForm → Form
+form_of_bytes (bytes.Plain p) = form_of_plain p
+form_of_bytes bytes.Text = form.Primitive P.Str
+form_of_bytes bytes.Arm = form.Arm
+form_of_bytes bytes.Sequence = form.Sequence
+
+abbrev pub form_of_bare : BareForm → Form
+form_of_bare bare.Empty = form.Empty
+form_of_bare bare.Fields = form.Fields
+form_of_bare (bare.Array n) = form.Array n
+
+-- how the bytes of a node without parts are laid out
+abbrev pub plain_layout : PlainForm → Plain
+plain_layout plain.Bool = layout.bool
+plain_layout plain.Char = layout.char
+plain_layout (plain.Unsigned w) = layout.unsigned (width_bytes w)
+plain_layout (plain.Signed w) = layout.signed (width_bytes w)
+plain_layout (plain.Wide s) = layout.wide
+plain_layout (plain.Compact m) = layout.compact m
+plain_layout plain.Count = layout.counted
+
+-- the answer is what the layout reads on the front of the bytes
+abbrev pub ReadsPlain : PlainForm → List ℕ → Result Leaf Fault → Type 0
+ReadsPlain p own (Ok l) = (rest : List ℕ)
+    × (leaf_own (leaf_at (plain_layout p) own) ≡ Ok ((leaf_head l, None), rest))
+ReadsPlain p own (Err f) = (left : List ℕ)
+    × (leaf_own (leaf_at (plain_layout p) own) ≡ Err (basic f.reason, left))
+    × (f.at ≡ place own left)
