@@ -1,20 +1,17 @@
 -- The forms of nodes with bytes of their own and of those without, as forms.
-use Rattle.std.specs.Prelude.{◌≡◌, ℕ, List, Option, None, Result, Ok, Err}
+use Rattle.std.specs.Prelude.{◌≡◌, ℕ, List, None, Result, Ok, Err}
 use Rattle.scale_core.specs.Read.{place}
 use Rattle.scale_core.specs.declared.fault.Fault.{Fault}
-use Rattle.registry_core.specs.Kinds.{kind_of, width_bytes}
+use Rattle.registry_core.specs.Kinds.{width_bytes}
 use Rattle.registry_core.specs.declared.kind.IntegerWidth.{IntegerWidth}
 use Rattle.registry_core.specs.declared.kind.IntegerWidth.TheVariants as width
-use Rattle.registry_core.specs.declared.kind.PrimitiveKind.{PrimitiveKind}
-use Rattle.registry_core.specs.declared.kind.PrimitiveKind.TheVariants as K
 use Rattle.registry_core.specs.declared.kind.Signedness.{Signedness}
 use Rattle.registry_core.specs.declared.kind.Signedness.TheVariants as sign
 use Rattle.registry_core.specs.declared.primitive.Primitive.{Primitive}
 use Rattle.registry_core.specs.declared.primitive.Primitive.TheVariants as P
 use Rattle.widths_core.specs.Layouts.{Plain}
 use Rattle.widths_core.specs.Layouts as layout
-use Rattle.grammar_core.specs.Preorder as head
-use Rattle.grammar_core.specs.Reading.{Refusal, basic, leaf_at}
+use Rattle.grammar_core.specs.Reading.{basic, leaf_at}
 use Rattle.grammar_core.specs.declared.form.Form.{Form}
 use Rattle.grammar_core.specs.declared.form.Form.TheVariants as form
 use Rattle.value_core.specs.Leaves.{leaf_head}

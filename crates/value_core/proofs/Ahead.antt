@@ -147,59 +147,59 @@ fields_open : (w : Walked) (from count : ℕ) → next_of w ≡ next.Wants form.
 fields_open w from count h a =
     let k = known w (step.Parts from count) (λ e. absurd cc) a in
     go (class_of w.types k.ty) k.d k.shape_is k.is where
-  go : (c : Class) (d : TypeDef) → Some d ≡ next_shape w → IsStep w.types (references_of w.types)
-      (λ from count arms. Unit {0}) c d (step.Parts from count) →
-      Opens w (members_of from count)
-  go c (Def.Composite fs) s is = parts_open w from count is.0 is.1 c
-      (field_types fs) is.2 is.3 (composite_opens w fs h s)
-  go c (Def.Tuple ts) s is = parts_open w from count is.0 is.1 c (ids ts) is.2
-      is.3 (tuple_opens w ts h s)
-  go c (Def.Variant arms) s is = absurd (other_step c (step.NoArm is.0 is.1) (step.Arms is.0 is.1) (step.Parts from count) (λ e. absurd cc) (λ e. absurd cc) (λ e. absurd cc) is.2)
-  go c (Def.Sequence u) s is = absurd (other_step c step.NoValue (sequence_step (class_of w.types u.0) u.0) (step.Parts from count) (λ e. absurd cc) (λ e. absurd cc) (λ e. other_sequence (class_of w.types u.0) u.0 (step.Parts from count) (λ e. absurd cc) (λ e. absurd cc) e) is)
-  go c (Def.Array m u) s is = absurd (other_step c step.NoValue (step.Array m u.0) (step.Parts from count) (λ e. absurd cc) (λ e. absurd cc) (λ e. absurd cc) is)
-  go c (Def.Primitive p) s is = absurd (other_step c step.NoValue (step.Primitive p) (step.Parts from count) (λ e. absurd cc) (λ e. absurd cc) (λ e. absurd cc) is)
-  go c (Def.Compact u) s is = absurd cc
-  go c (Def.BitSequence store order) s is = absurd (other_step c step.NoValue step.BitSequence (step.Parts from count) (λ e. absurd cc) (λ e. absurd cc) (λ e. absurd cc) is)
+      go : (c : Class) (d : TypeDef) → Some d ≡ next_shape w → IsStep w.types (references_of w.types)
+          (λ from count arms. Unit {0}) c d (step.Parts from count) →
+          Opens w (members_of from count)
+      go c (Def.Composite fs) s is = parts_open w from count is.0 is.1 c
+          (field_types fs) is.2 is.3 (composite_opens w fs h s)
+      go c (Def.Tuple ts) s is = parts_open w from count is.0 is.1 c (ids ts) is.2
+          is.3 (tuple_opens w ts h s)
+      go c (Def.Variant arms) s is = absurd (other_step c (step.NoArm is.0 is.1) (step.Arms is.0 is.1) (step.Parts from count) (λ e. absurd cc) (λ e. absurd cc) (λ e. absurd cc) is.2)
+      go c (Def.Sequence u) s is = absurd (other_step c step.NoValue (sequence_step (class_of w.types u.0) u.0) (step.Parts from count) (λ e. absurd cc) (λ e. absurd cc) (λ e. other_sequence (class_of w.types u.0) u.0 (step.Parts from count) (λ e. absurd cc) (λ e. absurd cc) e) is)
+      go c (Def.Array m u) s is = absurd (other_step c step.NoValue (step.Array m u.0) (step.Parts from count) (λ e. absurd cc) (λ e. absurd cc) (λ e. absurd cc) is)
+      go c (Def.Primitive p) s is = absurd (other_step c step.NoValue (step.Primitive p) (step.Parts from count) (λ e. absurd cc) (λ e. absurd cc) (λ e. absurd cc) is)
+      go c (Def.Compact u) s is = absurd cc
+      go c (Def.BitSequence store order) s is = absurd (other_step c step.NoValue step.BitSequence (step.Parts from count) (λ e. absurd cc) (λ e. absurd cc) (λ e. absurd cc) is)
 
 elements_open : (w : Walked) (n m t : ℕ) → next_of w ≡ next.Wants (form.Array n) →
     IsStepAhead w.types (next_type w) (Some (step.Array m t)) → OpensElements w n (times n t)
 elements_open w n m t h a =
     let k = known w (step.Array m t) (λ e. absurd cc) a in
     go (class_of w.types k.ty) k.d k.shape_is k.is where
-  go : (c : Class) (d : TypeDef) → Some d ≡ next_shape w → IsStep w.types (references_of w.types)
-      (λ from count arms. Unit {0}) c d (step.Array m t) →
-      OpensElements w n (times n t)
-  go c (Def.Array m' u) s is =
-      let same = array_sized c (step.Array m' u.0) m t is in
-      let t_is : t ≡ u.0 = cc in
-      rw t_is (array_opens w n m' u h s)
-  go c (Def.Composite fs) s is = absurd (other_step c step.NoValue (step.Parts is.0 is.1) (step.Array m t) (λ e. absurd cc) (λ e. absurd cc) (λ e. absurd cc) is.2)
-  go c (Def.Variant arms) s is = absurd (other_step c (step.NoArm is.0 is.1) (step.Arms is.0 is.1) (step.Array m t) (λ e. absurd cc) (λ e. absurd cc) (λ e. absurd cc) is.2)
-  go c (Def.Sequence u) s is = absurd (other_step c step.NoValue (sequence_step (class_of w.types u.0) u.0) (step.Array m t) (λ e. absurd cc) (λ e. absurd cc) (λ e. other_sequence (class_of w.types u.0) u.0 (step.Array m t) (λ e. absurd cc) (λ e. absurd cc) e) is)
-  go c (Def.Tuple ts) s is = absurd (other_step c step.NoValue (step.Parts is.0 is.1) (step.Array m t) (λ e. absurd cc) (λ e. absurd cc) (λ e. absurd cc) is.2)
-  go c (Def.Primitive p) s is = absurd (other_step c step.NoValue (step.Primitive p) (step.Array m t) (λ e. absurd cc) (λ e. absurd cc) (λ e. absurd cc) is)
-  go c (Def.Compact u) s is = absurd cc
-  go c (Def.BitSequence store order) s is = absurd (other_step c step.NoValue step.BitSequence (step.Array m t) (λ e. absurd cc) (λ e. absurd cc) (λ e. absurd cc) is)
+      go : (c : Class) (d : TypeDef) → Some d ≡ next_shape w → IsStep w.types (references_of w.types)
+          (λ from count arms. Unit {0}) c d (step.Array m t) →
+          OpensElements w n (times n t)
+      go c (Def.Array m' u) s is =
+          let same = array_sized c (step.Array m' u.0) m t is in
+          let t_is : t ≡ u.0 = cc in
+          rw t_is (array_opens w n m' u h s)
+      go c (Def.Composite fs) s is = absurd (other_step c step.NoValue (step.Parts is.0 is.1) (step.Array m t) (λ e. absurd cc) (λ e. absurd cc) (λ e. absurd cc) is.2)
+      go c (Def.Variant arms) s is = absurd (other_step c (step.NoArm is.0 is.1) (step.Arms is.0 is.1) (step.Array m t) (λ e. absurd cc) (λ e. absurd cc) (λ e. absurd cc) is.2)
+      go c (Def.Sequence u) s is = absurd (other_step c step.NoValue (sequence_step (class_of w.types u.0) u.0) (step.Array m t) (λ e. absurd cc) (λ e. absurd cc) (λ e. other_sequence (class_of w.types u.0) u.0 (step.Array m t) (λ e. absurd cc) (λ e. absurd cc) e) is)
+      go c (Def.Tuple ts) s is = absurd (other_step c step.NoValue (step.Parts is.0 is.1) (step.Array m t) (λ e. absurd cc) (λ e. absurd cc) (λ e. absurd cc) is.2)
+      go c (Def.Primitive p) s is = absurd (other_step c step.NoValue (step.Primitive p) (step.Array m t) (λ e. absurd cc) (λ e. absurd cc) (λ e. absurd cc) is)
+      go c (Def.Compact u) s is = absurd cc
+      go c (Def.BitSequence store order) s is = absurd (other_step c step.NoValue step.BitSequence (step.Array m t) (λ e. absurd cc) (λ e. absurd cc) (λ e. absurd cc) is)
 
 sequence_elements_open : (w : Walked) (n t : ℕ) → next_of w ≡ next.Wants form.Sequence →
     IsStepAhead w.types (next_type w) (Some (step.Sequence t)) → OpensElements w n (times n t)
 sequence_elements_open w n t h a =
     let k = known w (step.Sequence t) (λ e. absurd cc) a in
     go (class_of w.types k.ty) k.d k.shape_is k.is where
-  go : (c : Class) (d : TypeDef) → Some d ≡ next_shape w → IsStep w.types (references_of w.types)
-      (λ from count arms. Unit {0}) c d (step.Sequence t) →
-      OpensElements w n (times n t)
-  go c (Def.Sequence u) s is =
-      let sized = sequence_step (class_of w.types u.0) u.0 in
-      let same = sequence_sized c sized t is in
-      rw (sequence_is (class_of w.types u.0) t u.0 same) (sequence_opens w n u h s)
-  go c (Def.Composite fs) s is = absurd (other_step c step.NoValue (step.Parts is.0 is.1) (step.Sequence t) (λ e. absurd cc) (λ e. absurd cc) (λ e. absurd cc) is.2)
-  go c (Def.Variant arms) s is = absurd (other_step c (step.NoArm is.0 is.1) (step.Arms is.0 is.1) (step.Sequence t) (λ e. absurd cc) (λ e. absurd cc) (λ e. absurd cc) is.2)
-  go c (Def.Array m u) s is = absurd (other_step c step.NoValue (step.Array m u.0) (step.Sequence t) (λ e. absurd cc) (λ e. absurd cc) (λ e. absurd cc) is)
-  go c (Def.Tuple ts) s is = absurd (other_step c step.NoValue (step.Parts is.0 is.1) (step.Sequence t) (λ e. absurd cc) (λ e. absurd cc) (λ e. absurd cc) is.2)
-  go c (Def.Primitive p) s is = absurd (other_step c step.NoValue (step.Primitive p) (step.Sequence t) (λ e. absurd cc) (λ e. absurd cc) (λ e. absurd cc) is)
-  go c (Def.Compact u) s is = absurd cc
-  go c (Def.BitSequence store order) s is = absurd (other_step c step.NoValue step.BitSequence (step.Sequence t) (λ e. absurd cc) (λ e. absurd cc) (λ e. absurd cc) is)
+      go : (c : Class) (d : TypeDef) → Some d ≡ next_shape w → IsStep w.types (references_of w.types)
+          (λ from count arms. Unit {0}) c d (step.Sequence t) →
+          OpensElements w n (times n t)
+      go c (Def.Sequence u) s is =
+          let sized = sequence_step (class_of w.types u.0) u.0 in
+          let same = sequence_sized c sized t is in
+          rw (sequence_is (class_of w.types u.0) t u.0 same) (sequence_opens w n u h s)
+      go c (Def.Composite fs) s is = absurd (other_step c step.NoValue (step.Parts is.0 is.1) (step.Sequence t) (λ e. absurd cc) (λ e. absurd cc) (λ e. absurd cc) is.2)
+      go c (Def.Variant arms) s is = absurd (other_step c (step.NoArm is.0 is.1) (step.Arms is.0 is.1) (step.Sequence t) (λ e. absurd cc) (λ e. absurd cc) (λ e. absurd cc) is.2)
+      go c (Def.Array m u) s is = absurd (other_step c step.NoValue (step.Array m u.0) (step.Sequence t) (λ e. absurd cc) (λ e. absurd cc) (λ e. absurd cc) is)
+      go c (Def.Tuple ts) s is = absurd (other_step c step.NoValue (step.Parts is.0 is.1) (step.Sequence t) (λ e. absurd cc) (λ e. absurd cc) (λ e. absurd cc) is.2)
+      go c (Def.Primitive p) s is = absurd (other_step c step.NoValue (step.Primitive p) (step.Sequence t) (λ e. absurd cc) (λ e. absurd cc) (λ e. absurd cc) is)
+      go c (Def.Compact u) s is = absurd cc
+      go c (Def.BitSequence store order) s is = absurd (other_step c step.NoValue step.BitSequence (step.Sequence t) (λ e. absurd cc) (λ e. absurd cc) (λ e. absurd cc) is)
 
 -- the arm that is found, with the parts that it opens
 abbrev opened_arm : Walked → ArmStep → ℕ × Part
@@ -212,13 +212,13 @@ pub found_arm_opens : (w : Walked) (t index : ℕ) (o : Option ArmStep) →
 found_arm_opens w t index o h e a =
     let opens = arm_opens w t index (arm_at w.types t index) h e refl in
     subst (OpensArm w index) (sym (go o (arm_at w.types t index) a)) opens where
-  go : (o : Option ArmStep) (x : Option (ℕ × Arm)) → IsArm (references_of w.types) o x →
-      option_map (opened_arm w) o ≡ option_map (λ (y : ℕ × Arm). (y.0, each (field_types y.1.fields))) x
-  go None None a = refl
-  go None (Some x) a = elim a [ ]
-  go (Some s) None a = elim a [ ]
-  go (Some s) (Some x) a =
-      rw (a.0, parts_left (references_of w.types) s.from s.count (field_types x.1.fields) a.1) refl
+      go : (o : Option ArmStep) (x : Option (ℕ × Arm)) → IsArm (references_of w.types) o x →
+          option_map (opened_arm w) o ≡ option_map (λ (y : ℕ × Arm). (y.0, each (field_types y.1.fields))) x
+      go None None a = refl
+      go None (Some x) a = elim a [ ]
+      go (Some s) None a = elim a [ ]
+      go (Some s) (Some x) a =
+          rw (a.0, parts_left (references_of w.types) s.from s.count (field_types x.1.fields) a.1) refl
 
 pub found_arm_counts : (w : Walked) (s : ArmStep) (x : Option (ℕ × Arm)) →
     IsArm (references_of w.types) (Some s) x →

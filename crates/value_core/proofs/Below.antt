@@ -15,7 +15,7 @@ use Rattle.grammar_core.specs.Tree as tree
 use Rattle.grammar_core.specs.Tree.{Tree, Trees, none, and, how_many}
 use Rattle.grammar_core.specs.Grammar.{Val, Vals, Each}
 use Rattle.grammar_core.specs.Parts.{Part, each, times, left_after}
-use Rattle.grammar_core.specs.Cells.{Cell, cells, all_cells, child_type, fields_part, arm_part, list_part, part_of}
+use Rattle.grammar_core.specs.Cells.{Cell, cells, all_cells, child_type, arm_part, part_of}
 use Rattle.grammar_core.proofs.Texts.{texts_are_text}
 use Rattle.value_core.specs.Shown.{seen, seen_parts, children_by, cells_shown, tree_shown, type_shown, AreInPool, IsWhole, AreValues, IsForest, all_seen}
 use Rattle.value_core.specs.declared.node.Node.{Node}

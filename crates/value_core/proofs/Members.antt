@@ -1,10 +1,10 @@
 -- The references that are left of an open node, one after the other.
-use Rattle.std.proofs.Common.{◌≡◌, ℕ, zero, suc, ◌+◌, ◌-◌, ◌<◌, ◌≤◌, List, [], ◌∷◌, length, take, drop, Option, Some, None, refl, ap, ◌∙◌, arith, drop-cons, inl, inr}
-use Rattle.std.specs.Prelude.{slice_get, map, reverse}
+use Rattle.std.proofs.Common.{◌≡◌, ℕ, zero, suc, ◌+◌, ◌-◌, ◌<◌, ◌≤◌, List, [], length, take, drop, Option, refl, ap, ◌∙◌, arith, drop-cons, inl, inr}
+use Rattle.std.specs.Prelude.{map, reverse}
 use Rattle.std.proofs.lemmas.List.{length-drop, length-map, length-reverse, length-take-le}
 use Rattle.std.proofs.lemmas.Option.{slice_get-get_or, slice_get_cases, slice_get_past}
 use Rattle.registry_core.specs.declared.type_info.TypeInfo.{TypeInfo}
-use Rattle.grammar_core.specs.Parts.{Part, each, left_after, how_many_left}
+use Rattle.grammar_core.specs.Parts.{each, left_after}
 use Rattle.widths_core.specs.Steps.{AreParts}
 use Rattle.value_core.specs.Frames.{followed_by, left_by, members_before, members_of, open_part, parts_by}
 use Rattle.value_core.specs.declared.left.Frame.{Frame}

@@ -22,7 +22,7 @@ use Rattle.widths_core.specs.Arms.{arm_of}
 use Rattle.widths_core.specs.Classes.{is_finite}
 use Rattle.widths_core.specs.Layouts.{Plain, Layout, layout}
 use Rattle.widths_core.specs.Layouts as layout
-use Rattle.grammar_core.specs.Tree.{Leaf, Branch, Tree, leaf, branch, char, text, unsigned, signed, wide, compact as compact_value, fields, arm, list, count, Trees, and}
+use Rattle.grammar_core.specs.Tree.{Leaf, Branch, leaf, char, text, unsigned, signed, wide, compact as compact_value, fields, arm, list, count, Trees, and}
 use Rattle.grammar_core.specs.Reading.{value_at, layout_at, leaf_at, bool_at, char_from, all_at, times_at, fields_behind_index, arms_at, as_leaf, with_children, Refusal, basic, no_such_variant, too_deep, no_finite_value, bit_sequence, bad_compact}
 use Rattle.grammar_core.proofs.Sound.{value_takes}
 use Rattle.decode_core.specs.Taken.{leaf_taken, taken_after, compact_taken, text_taken, all_taken, times_taken, arm_taken, arms_taken, layout_taken, value_taken}

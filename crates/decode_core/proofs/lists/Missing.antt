@@ -12,7 +12,7 @@ use Rattle.widths_core.specs.Arms.{arm_of}
 use Rattle.widths_core.specs.Classes.{is_finite}
 use Rattle.widths_core.specs.Layouts.{Layout, layout}
 use Rattle.widths_core.specs.Layouts as layout
-use Rattle.grammar_core.specs.Tree.{Branch, Tree, leaf, branch, fields, arm, list, Trees, none, and, how_many, levels, most_levels}
+use Rattle.grammar_core.specs.Tree.{Branch, Tree, fields, arm, list, Trees, none, and, how_many, levels, most_levels}
 use Rattle.grammar_core.specs.Grammar.{Val, Vals, Each}
 use Rattle.grammar_core.specs.Reading.{value_at, layout_at, leaf_at, all_at, times_at, fields_behind_index, arms_at, elements_at, with_children, Refusal, truncated, too_deep}
 use Rattle.grammar_core.proofs.Sound.{value_takes}

@@ -1,6 +1,6 @@
 -- The nodes of a tree are as many as its list of nodes is long.
 use Rattle.std.proofs.Common.{◌≡◌, length, refl, arith, length-append}
-use Rattle.grammar_core.specs.Tree.{Tree, leaf, branch, unit, bool, char, text, unsigned, signed, wide, compact, fields, arm, list, count, Trees, none, and, nodes, all_nodes}
+use Rattle.grammar_core.specs.Tree.{Tree, leaf, branch, Trees, none, and, nodes, all_nodes}
 use Rattle.grammar_core.specs.Preorder.{preorder, all_preorder}
 
 mutual

@@ -3,8 +3,8 @@ use Rattle.std.proofs.Common.{◌≡◌, ℕ, zero, suc, ◌≤◌, List, [], �
 use Rattle.std.proofs.lemmas.Grind.{flat_map-append}
 use Rattle.std.proofs.lemmas.List.{append-nil}
 use Rattle.scale_core.specs.Compact.{IsCompact}
-use Rattle.scale_core.specs.Number.{AreBytes, number, signed_number}
-use Rattle.scale_core.specs.Read.{Read, bytes_at, compact_at, text_at}
+use Rattle.scale_core.specs.Number.{AreBytes}
+use Rattle.scale_core.specs.Read.{Read, compact_at}
 use Rattle.scale_core.specs.declared.compact.Target.TheVariants as target
 use Rattle.scale_core.specs.declared.fault.Reason.{Reason}
 use Rattle.scale_core.proofs.Numbers.{front_bytes, rest_bytes}
@@ -26,7 +26,7 @@ use Rattle.grammar_core.specs.Tree as tree
 use Rattle.grammar_core.proofs.Spelled.{encoded_is_value, arm_byte, array_length, sequence_length}
 use Rattle.value_core.specs.Built.{Entry}
 use Rattle.decode_core.specs.Met.{met_layout}
-use Rattle.decode_core.specs.Told.{entry, Own, leaf_own, arm_own, arms_own, length_own, shallow, own_at, Told, told, after, then, all_told, times_told, opened_told, own_told, told_at}
+use Rattle.decode_core.specs.Told.{entry, Own, leaf_own, arm_own, arms_own, length_own, own_at, Told, told, after, then, all_told, times_told, opened_told, own_told, told_at}
 use Rattle.decode_core.proofs.lists.Mets.{met_is, met_takes}
 use Rattle.decode_core.proofs.lists.Tells.{IsLeafTree, IsLeafRead, reads_leaf}
 

@@ -1,5 +1,4 @@
 -- Which forms have bytes of their own.
-use Rattle.std.proofs.Common.{◌≡◌}
 use Rattle.decode_core.specs.Needs.{HasBytes}
 use Rattle.decode_core.specs.NodeForms.{form_of_bare, form_of_bytes}
 use Rattle.decode_core.specs.declared.forms.BareForm.{BareForm}

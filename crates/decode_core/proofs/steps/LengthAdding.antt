@@ -1,10 +1,7 @@
 -- A list, a count, an arm, and a text's length, by their own bytes.
-use Rattle.std.proofs.Common.{◌≡◌, ℕ, ◌^◌, ◌<◌, true, false, List, [], ◌∷◌, length, Option, Some, None, Result, Ok, Err, is_ok, refl, sym, ap, subst, ◌∙◌, arith}
+use Rattle.std.proofs.Common.{◌≡◌, ℕ, true, false, List, [], ◌∷◌, length, Option, Some, None, Result, Ok, Err, refl, sym, ap, subst, ◌∙◌, arith}
 use Rattle.std.specs.Prelude.{◌≢◌, OnErr, OnOk, is_some, slice_index_or}
-use Rattle.std.proofs.lemmas.Bool.{eq-eqb, lt-ltb}
-use Rattle.scale_core.specs.Compact.{target_bytes}
 use Rattle.scale_core.specs.Read.{Read, place, compact_at, text_at}
-use Rattle.scale_core.specs.declared.compact.Target.{Target}
 use Rattle.scale_core.specs.declared.compact.Target.TheVariants as target
 use Rattle.scale_core.specs.declared.fault.Reason.{Reason}
 use Rattle.scale_core.specs.declared.fault.Reason.TheVariants as scale
@@ -20,20 +17,14 @@ use Rattle.grammar_core.specs.Cells.{fields_part, list_part}
 use Rattle.grammar_core.specs.Parts.{Part, each, how_many_left}
 use Rattle.grammar_core.specs.Preorder.{Head}
 use Rattle.grammar_core.specs.Preorder as head
-use Rattle.grammar_core.specs.Reading.{basic, as_leaf, layout_at, no_such_variant}
-use Rattle.value_core.specs.Refusals.{Adds, judged, judged_arm, suits_arm, suits_compact, suits_list}
+use Rattle.grammar_core.specs.Reading.{basic, layout_at, no_such_variant}
 use Rattle.value_core.specs.Walked.{next_of}
-use Rattle.value_core.specs.declared.build_fault.BuildFault.{BuildFault}
-use Rattle.value_core.specs.declared.build_fault.BuildFault.TheVariants as build
-use Rattle.grammar_core.specs.declared.form.Form.{Form}
 use Rattle.grammar_core.specs.declared.form.Form.TheVariants as form
 use Rattle.grammar_core.specs.declared.form.Next.TheVariants as next
 use Rattle.decode_core.specs.Needs.{AreOwn}
 use Rattle.decode_core.specs.NodeAdds.{AddsBare, IsAdded, IsRefused, IsSpelled, with_own}
 use Rattle.decode_core.specs.Reasons.{reason_of}
-use Rattle.decode_core.specs.Told.{leaf_own, length_own, own_at}
-use Rattle.decode_core.specs.declared.node.NodeFault.{NodeFault}
-use Rattle.decode_core.specs.declared.node.NodeFault.TheVariants as fault
+use Rattle.decode_core.specs.Told.{length_own, own_at}
 use Rattle.decode_core.proofs.steps.NodeAdding.{all_read, next_has}
 use Rattle.decode_core.proofs.steps.Whole.{IsSettled, settled_at, u32_is, basic_whole}
 

@@ -1,42 +1,24 @@
 -- A node that is added by its own bytes, or refused.
-use Rattle.std.proofs.Common.{◌≡◌, ℕ, zero, suc, ◌≤◌, ℤ, Bool, true, false, cond, List, [], ◌∷◌, length, take, drop, Option, Some, None, Result, Ok, Err, is_ok, refl, sym, ap, ◌∙◌, arith}
-use Rattle.std.specs.Prelude.{IfErr, nat_lt}
-use Rattle.std.proofs.lemmas.Bool.{le-ltb, ne_eqb}
-use Rattle.scale_core.specs.Number.{number, signed_number, is_scalar}
-use Rattle.scale_core.specs.Read.{Read, place, bytes_at, number_at, signed_at, compact_at}
-use Rattle.scale_core.specs.Read as scale_read
-use Rattle.scale_core.specs.declared.compact.Target.{Target}
-use Rattle.scale_core.specs.declared.compact.Target.TheVariants as target
-use Rattle.scale_core.specs.declared.fault.Reason.{Reason}
-use Rattle.scale_core.specs.declared.fault.Reason.TheVariants as scale
-use Rattle.registry_core.specs.Kinds.{kind_of, width_bytes}
+use Rattle.std.proofs.Common.{◌≡◌, ℕ, false, List, [], Option, Ok, Err, refl, ap, ◌∙◌}
+use Rattle.scale_core.specs.Read.{Read, place}
+use Rattle.registry_core.specs.Kinds.{kind_of}
 use Rattle.registry_core.specs.declared.kind.PrimitiveKind.{PrimitiveKind}
-use Rattle.registry_core.specs.declared.kind.PrimitiveKind.TheVariants as K
-use Rattle.registry_core.specs.declared.kind.IntegerWidth.{IntegerWidth}
-use Rattle.registry_core.specs.declared.kind.Signedness.{Signedness}
 use Rattle.registry_core.specs.declared.primitive.Primitive.{Primitive}
-use Rattle.widths_core.specs.Layouts.{Layout, layout, kind_layout}
-use Rattle.widths_core.specs.Layouts as layout
-use Rattle.grammar_core.specs.Tree.{Leaf, Tree}
-use Rattle.grammar_core.specs.Tree as tree
-use Rattle.value_core.specs.Built.{Pieces, Built, next_layout}
+use Rattle.widths_core.specs.Layouts.{kind_layout}
+use Rattle.value_core.specs.Built.{Built, next_layout}
 use Rattle.grammar_core.specs.Parts.{Part}
-use Rattle.grammar_core.specs.Preorder.{Head, head_of}
-use Rattle.grammar_core.specs.Preorder as head
-use Rattle.grammar_core.specs.Reading.{Refusal, basic, as_leaf, layout_at}
-use Rattle.grammar_core.specs.Reading as reading
-use Rattle.value_core.specs.Refusals.{Adds, judged, wanted_of, wanted_from, bool_kind, suits_bool, char_kind, suits_char, wide_kind, suits_wide, up_to, most_unsigned, unsigned_kind, suits_unsigned, within, most_signed, signed_kind, suits_signed}
+use Rattle.grammar_core.specs.Preorder.{Head}
+use Rattle.grammar_core.specs.Reading.{Refusal}
 use Rattle.value_core.specs.Walked.{next_of}
-use Rattle.value_core.specs.declared.build_fault.BuildFault.{BuildFault}
 use Rattle.grammar_core.specs.declared.form.Form.{Form}
 use Rattle.grammar_core.specs.declared.form.Form.TheVariants as form
 use Rattle.grammar_core.specs.declared.form.Next.TheVariants as next
 use Rattle.value_core.proofs.Forms.{HasForm, form_layout, wanted}
 use Rattle.decode_core.specs.Machine.{is_cut}
 use Rattle.decode_core.specs.Needs.{AreOwn, HasBytes, NoText}
-use Rattle.decode_core.specs.NodeAdds.{with_own, AddsNode}
+use Rattle.decode_core.specs.NodeAdds.{AddsNode}
 use Rattle.decode_core.specs.Reasons.{reason_of}
-use Rattle.decode_core.specs.Told.{leaf_own, own_at}
+use Rattle.decode_core.specs.Told.{own_at}
 use Rattle.decode_core.specs.declared.node.NodeFault.{NodeFault}
 use Rattle.decode_core.specs.declared.node.NodeFault.TheVariants as fault
 use Rattle.decode_core.proofs.lists.Targets.{wanted_target}

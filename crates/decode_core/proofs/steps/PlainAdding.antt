@@ -1,10 +1,9 @@
 -- A node without parts that is added by its own bytes, or refused.
-use Rattle.std.proofs.Common.{◌≡◌, ℕ, Bool, true, List, [], ◌++◌, Option, Some, None, Result, Ok, Err, refl, sym, ap, subst, ◌∙◌}
+use Rattle.std.proofs.Common.{◌≡◌, ℕ, true, List, [], Option, None, Ok, Err, refl, sym, ap, ◌∙◌}
 use Rattle.std.proofs.lemmas.List.{append-nil}
 use Rattle.scale_core.specs.Number.{AreBytes}
-use Rattle.scale_core.specs.Read.{Read, place}
+use Rattle.scale_core.specs.Read.{Read}
 use Rattle.scale_core.specs.declared.fault.Fault.{Fault}
-use Rattle.registry_core.specs.declared.kind.IntegerWidth.{IntegerWidth}
 use Rattle.registry_core.specs.declared.kind.IntegerWidth.TheVariants as width
 use Rattle.registry_core.specs.declared.kind.Signedness.TheVariants as sign
 use Rattle.registry_core.specs.declared.type_info.TypeInfo.{TypeInfo}
@@ -18,7 +17,6 @@ use Rattle.grammar_core.specs.Preorder as head
 use Rattle.grammar_core.specs.Reading.{Refusal, basic, layout_at, leaf_at, value_at}
 use Rattle.grammar_core.specs.Tree.{Tree, none}
 use Rattle.grammar_core.specs.Tree as tree
-use Rattle.grammar_core.specs.declared.form.Form.TheVariants as form
 use Rattle.grammar_core.specs.declared.form.Next.TheVariants as next
 use Rattle.grammar_core.proofs.Sound.{value_takes}
 use Rattle.value_core.specs.Built.{Built, IsNextLeaf, next_layout, with_leaf}
@@ -147,20 +145,20 @@ leaf_only (Ok x) t e =
     ((head.leaf t, None), []) e) in
     ap (λ (y : Tree × List ℕ). Ok y) (pair_is x t (ap (λ (y : Head × List ℕ). y.0) both)
     (ap (λ (y : Head × List ℕ). y.1) both)) where
-  ok_is : (x y : (Head × Option Part) × List ℕ) → ◌≡◌ {A = Read Refusal (Head × Option Part)} (Ok x)
-      (Ok y) → x ≡ y
-  ok_is x y e = cc
+      ok_is : (x y : (Head × Option Part) × List ℕ) → ◌≡◌ {A = Read Refusal (Head × Option Part)} (Ok x)
+          (Ok y) → x ≡ y
+      ok_is x y e = cc
 
-  leaf_is : (l t : tree.Leaf) → head.leaf l ≡ head.leaf t → l ≡ t
-  leaf_is l t e = cc
+      leaf_is : (l t : tree.Leaf) → head.leaf l ≡ head.leaf t → l ≡ t
+      leaf_is l t e = cc
 
-  tree_is : (v : Tree) (t : tree.Leaf) → head_of v ≡ head.leaf t → v ≡ tree.leaf t
-  tree_is (tree.leaf l) t e = ap tree.leaf (leaf_is l t e)
-  tree_is (tree.branch k vs) t e = absurd cc
+      tree_is : (v : Tree) (t : tree.Leaf) → head_of v ≡ head.leaf t → v ≡ tree.leaf t
+      tree_is (tree.leaf l) t e = ap tree.leaf (leaf_is l t e)
+      tree_is (tree.branch k vs) t e = absurd cc
 
-  pair_is : (x : Tree × List ℕ) (t : tree.Leaf) → head_of x.0 ≡ head.leaf t → x.1 ≡ [] →
-      x ≡ (tree.leaf t, [])
-  pair_is x t e f = rw (← tree_is x.0 t e, ← f) refl
+      pair_is : (x : Tree × List ℕ) (t : tree.Leaf) → head_of x.0 ≡ head.leaf t → x.1 ≡ [] →
+          x ≡ (tree.leaf t, [])
+      pair_is x t e f = rw (← tree_is x.0 t e, ← f) refl
 leaf_only (Err f) t e = absurd cc
 
 -- a type of this layout has the value that is read

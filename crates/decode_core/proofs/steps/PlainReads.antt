@@ -30,8 +30,11 @@ wide_reads s own l a same =
     let taken : bytes_at 32 own ≡ Ok (take 32 own, drop 32 own) =
     rw (le-ltb (length own) 32 (omega (arith, h))) refl in
     let all : take 32 own ≡ own = take_all 32 own (omega (arith, h)) in
-    rw same (drop 32 own, ap (λ r. leaf_own (as_leaf tree.wide r))
-    (taken ∙ ap (λ (b : List ℕ). Ok (b, drop 32 own)) all))
+    rw same (
+      drop 32 own,
+      ap (λ r. leaf_own (as_leaf tree.wide r))
+          (taken ∙ ap (λ (b : List ℕ). Ok (b, drop 32 own)) all),
+    )
 
 -- a compact that was read off the front
 pub compact_reads : (m : Target) (own : List ℕ) (n taken : ℕ) → (taken ≤ length own)

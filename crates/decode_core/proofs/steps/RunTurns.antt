@@ -14,7 +14,7 @@ use Rattle.grammar_core.specs.declared.form.Form.TheVariants as form
 use Rattle.grammar_core.specs.declared.form.Next.{Next}
 use Rattle.grammar_core.specs.declared.form.Next.TheVariants as next
 use Rattle.decode_core.specs.Needs.{need, AreOwn, HasBytes, IsFirst, IsNeeded}
-use Rattle.decode_core.specs.NodeAdds.{AddsNode, AreLength, IsRefused, IsSpelled, TakesNode, AddsBare, IsAdded}
+use Rattle.decode_core.specs.NodeAdds.{AreLength, IsRefused, IsSpelled, TakesNode, AddsBare, IsAdded}
 use Rattle.decode_core.specs.Running.{Running, IsRunning, IsCarry, IsKeptText, held_of}
 use Rattle.decode_core.specs.Turned.{KeepsNode, KeepsText, Steps, BareTells, StepTells, EndsTurns, WantsMemory, node_turned}
 use Rattle.decode_core.specs.Told.{own_at}

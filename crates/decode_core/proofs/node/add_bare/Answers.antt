@@ -1,11 +1,9 @@
-use Rattle.std.proofs.Common.{◌≡◌, inl, subst}
+use Rattle.std.proofs.Common.{◌≡◌, subst}
 use Rattle.value_core.specs.Walked.{next_of}
 use Rattle.value_core.proofs.NextLeaf.{empty_next}
-use Rattle.grammar_core.specs.declared.form.Form.TheVariants as form
 use Rattle.grammar_core.specs.declared.form.Next.TheVariants as next
 use Rattle.decode_core.specs.NodeForms.{form_of_bare}
 use Rattle.decode_core.specs.declared.forms.BareForm.{BareForm}
-use Rattle.decode_core.specs.declared.forms.BareForm.TheVariants as bare
 use Rattle.decode_core.proofs.steps.LengthAdding.{array_read, bare_added, empty_read, fields_read}
 use Rattle.decode_core.proofs.node.add_bare.Goals as goal
 

@@ -1,4 +1,4 @@
-use Rattle.std.proofs.Common.{sym, arith}
+use Rattle.std.proofs.Common.{arith}
 use Rattle.std.proofs.lemmas.Result.{err_from_is_err_and}
 use Rattle.scale_core.proofs.ReadForms.{are_bytes}
 use Rattle.decode_core.proofs.steps.PlainAdding.{plain_added, plain_next, plain_refused, plain_spelled}

@@ -1,7 +1,6 @@
 use Rattle.std.proofs.Common.{◌≡◌, ◌∙◌, ◌+◌, ◌++◌, Ok, Err}
 use Rattle.std.specs.Prelude.{Result}
 use Rattle.decode_core.specs.Viewed.{job_of}
-use Rattle.decode_core.specs.Outcome.{Job}
 use Rattle.decode_core.specs.Decoding.{Decoding, IsSmall, Led, RunCounted, RunLed, closing_turns}
 use Rattle.decode_core.specs.Running.{Running}
 use Rattle.decode_core.specs.declared.fault.DecodeFault.{DecodeFault}

@@ -4,7 +4,6 @@ use Rattle.graph_core.specs.Widths.{widest}
 use Rattle.decode_core.specs.Viewed.{job_of}
 use Rattle.decode_core.specs.Bound.{node_bound}
 use Rattle.decode_core.specs.Decoding.{Decoding, IsSmall, closing_turns}
-use Rattle.decode_core.specs.Outcome.{Job}
 use Rattle.std.proofs.Common.{arith, subst}
 use Rattle.decode_core.specs.Running.{Running}
 use Rattle.decode_core.specs.declared.fault.DecodeFault.{DecodeFault}

@@ -2,7 +2,6 @@ use Rattle.std.proofs.Common.{◌+◌, ◌≤◌}
 use Rattle.std.specs.Prelude.{Result}
 use Rattle.decode_core.specs.Viewed.{job_of}
 use Rattle.decode_core.specs.Decoding.{Decoding, IsSmall, closing_turns}
-use Rattle.decode_core.specs.Outcome.{Job}
 use Rattle.std.proofs.Common.{arith, subst}
 use Rattle.decode_core.specs.Running.{Running}
 use Rattle.decode_core.specs.declared.fault.DecodeFault.{DecodeFault}

@@ -1,4 +1,4 @@
-use Rattle.std.proofs.Common.{◌≡◌, ◌∙◌, ◌≤◌, ◌+◌, length, subst, Some, arith}
+use Rattle.std.proofs.Common.{◌∙◌, ◌≤◌, ◌+◌, length, subst, Some, arith}
 use Rattle.value_core.specs.Ahead.{IsStepAhead}
 use Rattle.value_core.specs.Walked.{Walked, next_type}
 use Rattle.value_core.proofs.Ahead.{next_in_room}
