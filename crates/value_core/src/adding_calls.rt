@@ -192,8 +192,8 @@ impl<'r, A: Allocator> Builder<'r, A> {
             return Err(BuildFault::WrongKind);
         };
         let left = self.walk().fields();
-        let children = left.len();
-        self.add_open(Content::Fields { children }, left)
+        let children = left.len() as u32;
+        self.add_open(Content::Fields { size: 0 }, children, left)
     }
 
     /// Adds a variant by the index of its arm, whose fields come next.
@@ -209,8 +209,8 @@ impl<'r, A: Allocator> Builder<'r, A> {
         let Some((position, left)) = self.walk().arm(index) else {
             return Err(BuildFault::NoSuchVariant);
         };
-        let children = left.len();
-        self.add_open(Content::Arm { position, children }, left)
+        let children = left.len() as u32;
+        self.add_open(Content::Arm { position, size: 0 }, children, left)
     }
 
     /// Adds an array, or a sequence of elements that take bytes; its elements come next.
@@ -230,6 +230,6 @@ impl<'r, A: Allocator> Builder<'r, A> {
             Form::Sequence => self.walk().sequence(count),
             _ => return Err(BuildFault::WrongKind),
         };
-        self.add_open(Content::List { children: count }, left)
+        self.add_open(Content::List { size: 0 }, count, left)
     }
 }

@@ -10,6 +10,7 @@ mod left;
 mod node;
 mod node_ref;
 mod open_text;
+mod pool;
 mod text_calls;
 mod value;
 mod walk;
