@@ -15,7 +15,7 @@ use Rattle.grammar_core.specs.Tree as tree
 use Rattle.grammar_core.specs.Tree.{Tree, Trees, none, and, how_many}
 use Rattle.grammar_core.specs.Grammar.{Val, Vals, Each}
 use Rattle.grammar_core.specs.Parts.{Part, each, times, left_after}
-use Rattle.grammar_core.specs.Cells.{Cell, cells, all_cells, child_type, fields_part, arm_part, list_part, part_of}
+use Rattle.grammar_core.specs.Cells.{Cell, cells, all_cells, child_type, arm_part, part_of}
 use Rattle.grammar_core.proofs.Texts.{texts_are_text}
 use Rattle.value_core.specs.Shown.{seen, seen_parts, children_by, cells_shown, tree_shown, type_shown, AreInPool, IsWhole, AreValues, IsForest, all_seen, size_shown}
 use Rattle.value_core.specs.declared.node.Node.{Node}
@@ -127,7 +127,8 @@ pub record First (r : List TypeInfo) (pool : List ℕ) (n : Node) (ns : List Nod
   pub whole : IsWhole r pool (take (size_shown n.content) (n ∷ ns))
   pub rest : IsForest r pool (drop (size_shown n.content) (n ∷ ns))
   pub steps : all_seen r pool (n ∷ ns)
-      ≡ seen r pool (take (size_shown n.content) (n ∷ ns)) ∷ all_seen r pool (drop (size_shown n.content) (n ∷ ns))
+      ≡ seen r pool (take (size_shown n.content) (n ∷ ns)) ∷ all_seen r pool
+      (drop (size_shown n.content) (n ∷ ns))
 
 first_by : (r : List TypeInfo) (pool : List ℕ) (n : Node) (ns : List Node) (p : Part) (vs : Trees) →
     AreInPool pool (n ∷ ns) → cells_shown pool (n ∷ ns) ≡ all_cells r p vs → AreValues r p vs →
@@ -167,7 +168,9 @@ pub record FirstAt (r : List TypeInfo) (pool : List ℕ) (ns : List Node) (n : N
   pub within : size_shown n.content ≤ length ns
   pub whole : IsWhole r pool (take (size_shown n.content) ns)
   pub rest : IsForest r pool (drop (size_shown n.content) ns)
-  pub steps : all_seen r pool ns ≡ seen r pool (take (size_shown n.content) ns) ∷ all_seen r pool (drop (size_shown n.content) ns)
+  pub steps : all_seen r pool ns
+      ≡ seen r pool (take (size_shown n.content) ns) ∷ all_seen r pool
+      (drop (size_shown n.content) ns)
 
 -- the same of a list whose first node is told by its place
 pub below_at : (r : List TypeInfo) (pool : List ℕ) (ns : List Node) → IsWhole r pool ns →

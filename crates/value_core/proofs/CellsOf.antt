@@ -5,7 +5,7 @@ use Rattle.std.proofs.lemmas.Simd.{map-map}
 use Rattle.std.proofs.Math.Seq.{take-append_seam, drop-append_seam}
 use Rattle.registry_core.specs.declared.type_info.TypeInfo.{TypeInfo}
 use Rattle.widths_core.specs.Layouts.{layout}
-use Rattle.grammar_core.specs.Tree.{Tree, leaf, branch, unit, bool, char, text, unsigned, signed, wide, compact, fields, arm, list, count, Trees, none, and, how_many, nodes, all_nodes}
+use Rattle.grammar_core.specs.Tree.{Tree, leaf, branch, fields, arm, list, Trees, none, and, how_many, nodes, all_nodes}
 use Rattle.grammar_core.specs.Preorder.{Head, preorder, all_preorder, tree_of, tree_of-preorder}
 use Rattle.grammar_core.specs.Parts.{Part, left_after}
 use Rattle.grammar_core.specs.Cells.{Cell, cells, all_cells, child_type, fields_part, arm_part, list_part}

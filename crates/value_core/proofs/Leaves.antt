@@ -1,11 +1,11 @@
 -- The bytes of text of a node, and a leaf that is kept as the last node.
-use Rattle.std.proofs.Common.{◌≡◌, ℕ, ◌+◌, ◌-◌, ◌^◌, ◌≤◌, ◌<◌, List, [], ◌∷◌, ◌++◌, length, drop, Some, refl, sym, ap, subst, ◌∙◌, arith}
+use Rattle.std.proofs.Common.{◌≡◌, ℕ, ◌+◌, ◌-◌, ◌^◌, ◌≤◌, ◌<◌, List, [], ◌∷◌, ◌++◌, drop, Some, refl, ◌∙◌, arith}
 use Rattle.std.proofs.lemmas.List.{length-take}
 use Rattle.std.proofs.lemmas.Option.{same_Some}
 use Rattle.registry_core.specs.declared.type_id.TypeId.{TypeId}
-use Rattle.value_core.specs.Built.{Entry, IsNextLeaf, head_text_bytes, entries_shown, entries_text_bytes}
+use Rattle.value_core.specs.Built.{IsNextLeaf, head_text_bytes, entries_shown, entries_text_bytes}
 use Rattle.value_core.specs.Building.{IsBuilding, IsPaid}
-use Rattle.value_core.specs.Leaves.{leaf_head, leaf_text_bytes, FitsLeaf, IsKept, IsAppended}
+use Rattle.value_core.specs.Leaves.{leaf_head, leaf_text_bytes, FitsLeaf, IsAppended}
 use Rattle.value_core.specs.Shown.{head_shown, kept_bytes, all_kept, IsInPool}
 use Rattle.value_core.specs.Walked.{Walked, advanced, next_type}
 use Rattle.value_core.specs.declared.leaf.Leaf.{Leaf}

@@ -45,7 +45,7 @@ text_ended ty w pool ns text_len text o t b h is lacks fault next =
     let long : length s ≡ o.len = omega (arith, all.0, length-drop o.start pool) in
     let l = text_next w s place.is_next utf8 place.are_bytes (omega (arith, long, place.spelled)) in
     let n : Node = record { ty = t; children = 0; content = content.Text o.len o.start } in
-    rw (← append-nil pool) (leaf_added ty w pool [] ns n text_len o.len (head.leaf (tree.text s)) b l
-    (same_Some t.0 l.ty (next ∙ l.next))
+    rw (← append-nil pool) (leaf_added ty w pool [] ns n text_len o.len (head.leaf (tree.text s))
+    b l (same_Some t.0 l.ty (next ∙ l.next))
     (rw append-nil (ap (λ (x : List ℕ). head.leaf (tree.text x)) all.1))
     (rw append-nil (omega (arith, all.0))) (sym long) (omega (arith, place.behind, all.0)))

@@ -213,7 +213,7 @@ impl<'r, A: Allocator> Builder<'r, A> {
         self.nodes.as_slice().len() as u64
     }
 
-    /// How many bytes of text it holds, those that came of an open text too; 256-bit integers are no texts.
+    /// How many bytes of text it holds, those that came of an open text too; long integers are no texts.
     pub fn text_bytes(&self) -> u64
         ensures count { result ≡ built_text_bytes self.now }
         ensures begun { IsBegun self.now }

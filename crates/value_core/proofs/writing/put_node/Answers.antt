@@ -1,5 +1,5 @@
 use Rattle.std.proofs.Common.{rules, ◌≡◌, FitsSigned, ap, subst, ◌∙◌, ℕ, [], ◌∷◌, arith}
-use Rattle.value_core.proofs.SpelledNodes.{one_front, compact_front, char_front, starts_as, starts_bool, starts_char, starts_text, starts_unsigned, starts_signed, starts_compact, starts_long_unsigned, starts_long_signed, starts_long_compact, starts_count, starts_arm, starts_list}
+use Rattle.value_core.proofs.SpelledNodes.{one_front, compact_front, char_front, starts_as, starts_bool, starts_char, starts_text, starts_unsigned, starts_signed, starts_compact, starts_count, starts_arm, starts_list}
 use Rattle.std.specs.Int.{w128, cast_unsigned}
 use Rattle.std.proofs.lemmas.Int.{to_z-of_z}
 use Rattle.graph_core.specs.Types.{shape}
@@ -26,8 +26,9 @@ returns-in-Text-clause-bytes c =
     starts_as _ _ _ _ _ _ c.in-Text.is
     (starts_text _ (shape c.args.checked.now.types c.args.node.now.ty.0) c.args.pool.now
     c.args.node.now.children c.in-Text.len c.in-Text.start
-    (subst (IsInPool c.args.pool.now) c.in-Text.is c.requires) (compact_front _ c.args.out.now c.from-in-Text.result c.put_compact.result
-    c.in-Text.len c.put_compact.ensures.len c.put_compact.ensures.bytes c.from-in-Text.ensures))
+    (subst (IsInPool c.args.pool.now) c.in-Text.is c.requires)
+    (compact_front _ c.args.out.now c.from-in-Text.result c.put_compact.result c.in-Text.len
+    c.put_compact.ensures.len c.put_compact.ensures.bytes c.from-in-Text.ensures))
 
 pub returns-in-Unsigned-clause-bytes : goal.returns-in-Unsigned-clause-bytes
 returns-in-Unsigned-clause-bytes c =

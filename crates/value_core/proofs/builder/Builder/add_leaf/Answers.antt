@@ -1,4 +1,4 @@
-use Rattle.std.proofs.Common.{rules, ◌≡◌, ◌+◌, ◌^◌, ◌<◌, length, arith, ◌∙◌, None, sym, ap, subst, refl}
+use Rattle.std.proofs.Common.{rules, ◌+◌, ◌^◌, ◌<◌, length, arith, ◌∙◌, sym, ap, subst, refl}
 use Rattle.value_core.specs.Built.{Built, IsNextLeaf, with_leaf}
 use Rattle.value_core.specs.Leaves.{leaf_head, leaf_text_bytes}
 use Rattle.value_core.proofs.Closing.{none_open, settled_again, settled_paid}

@@ -1,4 +1,4 @@
-use Rattle.std.proofs.Common.{◌≡◌, ◌∙◌, sym, ap, subst, [], length, refl}
+use Rattle.std.proofs.Common.{◌≡◌, ◌∙◌, sym, ap, subst, [], length}
 use Rattle.std.proofs.lemmas.Option.{same_Some}
 use Rattle.value_core.specs.Built.{Built, IsNextOpen}
 use Rattle.value_core.specs.Frames.{left_of}
@@ -10,7 +10,8 @@ use Rattle.value_core.proofs.builder.Builder.add_open.Goals as goal
 
 pub settle-requires : goal.settle-requires
 settle-requires g c =
-    let l : IsNextOpen c.self.inside.walk (head_shown [] c.args.children c.args.content) (left_of c.args.left) =
+    let l : IsNextOpen c.self.inside.walk (head_shown [] c.args.children c.args.content)
+    (left_of c.args.left) =
     subst (λ (b : Built). IsNextOpen b.walk (head_shown [] c.args.children c.args.content)
     (left_of c.args.left)) (sym c.self.view_is) c.requires.next in
     let n : Node = record {
@@ -30,7 +31,8 @@ settle-requires g c =
 
 pub invariant_of-self-2 : goal.invariant_of-self-2
 invariant_of-self-2 g c =
-    let l : IsNextOpen c.self.inside.walk (head_shown [] c.args.children c.args.content) (left_of c.args.left) =
+    let l : IsNextOpen c.self.inside.walk (head_shown [] c.args.children c.args.content)
+    (left_of c.args.left) =
     subst (λ (b : Built). IsNextOpen b.walk (head_shown [] c.args.children c.args.content)
     (left_of c.args.left)) (sym c.self.view_is) c.requires.next in
     let n : Node = record {
