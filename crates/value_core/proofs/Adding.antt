@@ -1,6 +1,7 @@
 -- A node more: the value that is being built stays one.
-use Rattle.std.proofs.Common.{Option, None, drop, ◌≡◌, ℕ, zero, suc, ◌+◌, ◌-◌, ◌≤◌, List, [], ◌∷◌, ◌++◌, Bool, true, false, length, take, drop, slice_range, Some, refl, ap, ◌∙◌, arith, length-append}
+use Rattle.std.proofs.Common.{Option, None, drop, ◌≡◌, ℕ, zero, suc, ◌+◌, ◌-◌, ◌≤◌, List, [], ◌∷◌, ◌++◌, Bool, true, false, length, take, drop, slice_range, Some, refl, sym, ap, subst, ◌∙◌, arith, length-append}
 use Rattle.std.proofs.lemmas.List.{length-map, map-append, take-append-le}
+use Rattle.std.specs.Int.{w128, from_le_bytes}
 use Rattle.scale_core.specs.Number.{AreBytes}
 use Rattle.scale_core.proofs.Numbers.{both_bytes}
 use Rattle.registry_core.specs.declared.type_info.TypeInfo.{TypeInfo}
@@ -11,7 +12,7 @@ use Rattle.grammar_core.specs.Preorder as head
 use Rattle.grammar_core.specs.Tree as tree
 use Rattle.grammar_core.specs.Preorder.{Head, head_of, tree_with}
 use Rattle.grammar_core.specs.Cells.{Cell, cells}
-use Rattle.value_core.specs.Shown.{head_shown, cell_shown, cells_shown, IsInPool, AreInPool}
+use Rattle.value_core.specs.Shown.{head_shown, cell_shown, cells_shown, size_shown, signed_from, kept_bytes, all_kept, IsInPool, AreInPool}
 use Rattle.value_core.specs.Spine.{OpenNode, open_part, open_cell, open_cells, IsOpen, Spine}
 use Rattle.value_core.specs.Walked.{OpenPart, Walked, first_in, advanced, opened, next_of}
 use Rattle.value_core.specs.Built.{Entry, entries_shown, head_text_bytes, entries_text_bytes, IsLeaf, IsNextLeaf, IsNextOpen}
@@ -47,50 +48,62 @@ range_more pool more start end h k =
       range_front (x ∷ xs) (suc start) (suc end) h =
           ap (λ (k : ℕ). take k (drop start xs)) (omega arith) ∙ range_front xs start end (omega arith)
 
-head_more : (pool more : List ℕ) (c : Content) → IsInPool pool c →
-    head_shown (pool ++ more) c ≡ head_shown pool c
-head_more pool more content.Empty h = refl
-head_more pool more (content.Bool b) h = refl
-head_more pool more (content.Char c) h = refl
-head_more pool more (content.Text start len) h =
+head_more : (pool more : List ℕ) (n : ℕ) (c : Content) → IsInPool pool c →
+    head_shown (pool ++ more) n c ≡ head_shown pool n c
+head_more pool more n content.Empty h = refl
+head_more pool more n (content.Bool b) h = refl
+head_more pool more n (content.Char c) h = refl
+head_more pool more n (content.Count k) h = refl
+head_more pool more n (content.Text len start) h =
     ap (λ (x : List ℕ). head.leaf (tree.text x))
     (range_more pool more start (start + len) (omega arith) h)
-head_more pool more (content.Unsigned b) h = refl
-head_more pool more (content.Signed b) h = refl
-head_more pool more (content.Wide start) h =
+head_more pool more n (content.Unsigned k) h = refl
+head_more pool more n (content.Compact k) h = refl
+head_more pool more n (content.Signed z) h = refl
+head_more pool more n (content.LongUnsigned start) h =
+    ap (λ (x : List ℕ). head.leaf (tree.unsigned (from_le_bytes w128 x)))
+    (range_more pool more start (start + 16) (omega arith) h)
+head_more pool more n (content.LongCompact start) h =
+    ap (λ (x : List ℕ). head.leaf (tree.compact (from_le_bytes w128 x)))
+    (range_more pool more start (start + 16) (omega arith) h)
+head_more pool more n (content.LongSigned start) h =
+    ap (λ (x : List ℕ). head.leaf (tree.signed (signed_from (from_le_bytes w128 x))))
+    (range_more pool more start (start + 16) (omega arith) h)
+head_more pool more n (content.Wide start) h =
     ap (λ (x : List ℕ). head.leaf (tree.wide x))
     (range_more pool more start (start + 32) (omega arith) h)
-head_more pool more (content.Compact b) h = refl
-head_more pool more (content.Fields n) h = refl
-head_more pool more (content.Arm q n) h = refl
-head_more pool more (content.List n) h = refl
-head_more pool more (content.Count n) h = refl
+head_more pool more n (content.Fields size) h = refl
+head_more pool more n (content.Arm q size) h = refl
+head_more pool more n (content.List size) h = refl
 
 within_more : (pool more : List ℕ) (c : Content) → IsInPool pool c → IsInPool (pool ++ more) c
-within_more pool more (content.Text start len) h = omega (arith, h, length-append pool more)
+within_more pool more (content.Text len start) h = omega (arith, h, length-append pool more)
+within_more pool more (content.LongUnsigned start) h = omega (arith, h, length-append pool more)
+within_more pool more (content.LongCompact start) h = omega (arith, h, length-append pool more)
+within_more pool more (content.LongSigned start) h = omega (arith, h, length-append pool more)
 within_more pool more (content.Wide start) h = omega (arith, h, length-append pool more)
 within_more pool more content.Empty h = tt
 within_more pool more (content.Bool b) h = tt
 within_more pool more (content.Char c) h = tt
-within_more pool more (content.Unsigned b) h = tt
-within_more pool more (content.Signed b) h = tt
-within_more pool more (content.Compact b) h = tt
-within_more pool more (content.Fields n) h = tt
-within_more pool more (content.Arm q n) h = tt
-within_more pool more (content.List n) h = tt
 within_more pool more (content.Count n) h = tt
+within_more pool more (content.Unsigned n) h = tt
+within_more pool more (content.Compact n) h = tt
+within_more pool more (content.Signed z) h = tt
+within_more pool more (content.Fields size) h = tt
+within_more pool more (content.Arm q size) h = tt
+within_more pool more (content.List size) h = tt
 
 cells_more : (pool more : List ℕ) (ns : List Node) → AreInPool pool ns →
     cells_shown (pool ++ more) ns ≡ cells_shown pool ns
 cells_more pool more [] h = refl
 cells_more pool more (n ∷ ns) h =
-    rw (head_more pool more n.content h.0, cells_more pool more ns h.1) refl
+    rw (head_more pool more n.children n.content h.0, cells_more pool more ns h.1) refl
 
 entries_more : (pool more : List ℕ) (ns : List Node) → AreInPool pool ns →
     entries_shown (pool ++ more) ns ≡ entries_shown pool ns
 entries_more pool more [] h = refl
 entries_more pool more (n ∷ ns) h =
-    rw (head_more pool more n.content h.0, entries_more pool more ns h.1) refl
+    rw (head_more pool more n.children n.content h.0, entries_more pool more ns h.1) refl
 
 inside_more : (pool more : List ℕ) (ns : List Node) (n : Node) → AreInPool pool ns →
     IsInPool (pool ++ more) n.content → AreInPool (pool ++ more) (ns ++ n ∷ [])
@@ -103,12 +116,17 @@ text_snoc : (es : List Entry) (e : Entry) →
 text_snoc [] e = omega arith
 text_snoc (x ∷ es) e = omega (arith, text_snoc es e)
 
+kept_snoc : (ns : List Node) (n : Node) →
+    all_kept (ns ++ n ∷ []) ≡ all_kept ns + kept_bytes n.content
+kept_snoc [] n = omega arith
+kept_snoc (m ∷ ns) n = omega (arith, kept_snoc ns n)
+
 -- the node that is added
 abbrev entry_of : ℕ → Head → Entry
 entry_of t h = record { ty = t; head = h }
 
 pub entries_added : (pool more : List ℕ) (ns : List Node) (n : Node) (t : ℕ) (h : Head) →
-    AreInPool pool ns → n.ty.0 ≡ t → head_shown (pool ++ more) n.content ≡ h →
+    AreInPool pool ns → n.ty.0 ≡ t → head_shown (pool ++ more) n.children n.content ≡ h →
     entries_shown (pool ++ more) (ns ++ n ∷ []) ≡ entries_shown pool ns ++ entry_of t h ∷ []
 entries_added pool more ns n t h inside e f = map-append _ ns (n ∷ [])
     ∙ rw (entries_more pool more ns inside, e, f) refl
@@ -140,19 +158,42 @@ advanced_length : (fs : List OpenPart) →
 advanced_length [] = refl
 advanced_length (f ∷ fs) = refl
 
+-- and it has the size of one
+leaf_size : (pool : List ℕ) (n : ℕ) (c : Content) → IsLeaf (head_shown pool n c) →
+    size_shown c ≡ 1
+leaf_size pool n content.Empty h = refl
+leaf_size pool n (content.Bool b) h = refl
+leaf_size pool n (content.Char c) h = refl
+leaf_size pool n (content.Count k) h = refl
+leaf_size pool n (content.Text len start) h = refl
+leaf_size pool n (content.Unsigned k) h = refl
+leaf_size pool n (content.Compact k) h = refl
+leaf_size pool n (content.Signed z) h = refl
+leaf_size pool n (content.LongUnsigned start) h = refl
+leaf_size pool n (content.LongCompact start) h = refl
+leaf_size pool n (content.LongSigned start) h = refl
+leaf_size pool n (content.Wide start) h = refl
+leaf_size pool n (content.Fields size) h = absurd h
+leaf_size pool n (content.Arm q size) h = absurd h
+leaf_size pool n (content.List size) h = absurd h
+
 -- a node without children is added
 pub leaf_added : (ty : ℕ) (w : Walked) (pool more : List ℕ) (ns : List Node) (n : Node)
     (text_len more_len : ℕ) (h : Head) (b : IsBuilding ty w pool ns text_len) (l : IsNextLeaf w h) →
-    n.ty.0 ≡ l.ty → head_shown (pool ++ more) n.content ≡ h → n.size ≡ 1 →
+    n.ty.0 ≡ l.ty → head_shown (pool ++ more) n.children n.content ≡ h →
     IsInPool (pool ++ more) n.content → more_len ≡ head_text_bytes h →
-    text_len + more_len ≤ length pool + length more →
+    all_kept ns + kept_bytes n.content ≤ length pool + length more →
     IsBuilding ty (advanced w) (pool ++ more) (ns ++ n ∷ []) (text_len + more_len)
-leaf_added ty w pool more ns n text_len more_len h b l at shows size within texts short =
+leaf_added ty w pool more ns n text_len more_len h b l at shows within texts room =
     let leaf = leaf_cells w.types l.ty h l.leaf in
     let g = leaf_grown w.types b.room ty b.opens w.frames (cells_shown pool ns) b.own l.ty
     (tree_with h none) l.own l.next b.spine l.value (omega (arith, leaf.1, b.level, l.room)) in
     let cell : cell_shown (pool ++ more) n ≡ record { ty = l.ty; head = h; size = 1 } =
-    rw (at, shows, size) refl in
+    rw (
+      at,
+      shows,
+      leaf_size (pool ++ more) n.children n.content (subst IsLeaf (sym shows) l.leaf),
+    ) refl in
     record {
       room = b.room;
       level = omega (arith, b.level, advanced_length w.frames);
@@ -163,7 +204,7 @@ leaf_added ty w pool more ns n text_len more_len h b l at shows size within text
       inside = inside_more pool more ns n b.inside within;
       texts = rw (entries_added pool more ns n l.ty h b.inside at shows)
           (omega (arith, b.texts, texts, text_snoc (entries_shown pool ns) (entry_of l.ty h)));
-      fits = omega (arith, b.fits, short, length-append pool more);
+      fits = omega (arith, room, kept_snoc ns n, length-append pool more);
     }
 
 -- ---- a node whose children come next
@@ -175,25 +216,33 @@ is_open _ = false
 kind_is_open : (kind : Branch) (n : ℕ) → is_open (head.branch kind n) ≡ true
 kind_is_open k n = refl
 
-open_by : (pool : List ℕ) (c : Content) → is_open (head_shown [] c) ≡ true →
-    (head_shown pool c ≡ head_shown [] c) × IsInPool pool c
-open_by pool (content.Fields n) e = (refl, tt)
-open_by pool (content.Arm q n) e = (refl, tt)
-open_by pool (content.List n) e = (refl, tt)
-open_by pool content.Empty e = absurd cc
-open_by pool (content.Bool b) e = absurd cc
-open_by pool (content.Char c) e = absurd cc
-open_by pool (content.Text start len) e = absurd cc
-open_by pool (content.Unsigned b) e = absurd cc
-open_by pool (content.Signed b) e = absurd cc
-open_by pool (content.Wide start) e = absurd cc
-open_by pool (content.Compact b) e = absurd cc
-open_by pool (content.Count n) e = absurd cc
-
 -- it is kept by no bytes of the pool
-pub open_shown : (pool : List ℕ) (c : Content) (kind : Branch) (n : ℕ) →
-    head_shown [] c ≡ head.branch kind n → (head_shown pool c ≡ head_shown [] c) × IsInPool pool c
-open_shown pool c kind n e = open_by pool c (ap is_open e ∙ kind_is_open kind n)
+pub record IsApart (pool : List ℕ) (n : ℕ) (c : Content) : Type 0 where
+  pub same : head_shown pool n c ≡ head_shown [] n c
+  pub inside : IsInPool pool c
+  pub none_kept : kept_bytes c ≡ 0
+
+open_by : (pool : List ℕ) (n : ℕ) (c : Content) → is_open (head_shown [] n c) ≡ true →
+    IsApart pool n c
+open_by pool n (content.Fields size) e = record { same = refl; inside = tt; none_kept = refl }
+open_by pool n (content.Arm q size) e = record { same = refl; inside = tt; none_kept = refl }
+open_by pool n (content.List size) e = record { same = refl; inside = tt; none_kept = refl }
+open_by pool n content.Empty e = absurd cc
+open_by pool n (content.Bool b) e = absurd cc
+open_by pool n (content.Char c) e = absurd cc
+open_by pool n (content.Count k) e = absurd cc
+open_by pool n (content.Text len start) e = absurd cc
+open_by pool n (content.Unsigned k) e = absurd cc
+open_by pool n (content.Compact k) e = absurd cc
+open_by pool n (content.Signed z) e = absurd cc
+open_by pool n (content.LongUnsigned start) e = absurd cc
+open_by pool n (content.LongCompact start) e = absurd cc
+open_by pool n (content.LongSigned start) e = absurd cc
+open_by pool n (content.Wide start) e = absurd cc
+
+pub open_shown : (pool : List ℕ) (children : ℕ) (c : Content) (kind : Branch) (n : ℕ) →
+    head_shown [] children c ≡ head.branch kind n → IsApart pool children c
+open_shown pool children c kind n e = open_by pool children c (ap is_open e ∙ kind_is_open kind n)
 
 kind_text : (kind : Branch) (n : ℕ) → head_text_bytes (head.branch kind n) ≡ 0
 kind_text k n = refl
@@ -210,7 +259,8 @@ open_grown r room ty os (f ∷ fs) cs own o p e h k l =
 
 pub open_added : (ty : ℕ) (w : Walked) (pool : List ℕ) (ns : List Node) (n : Node) (text_len : ℕ)
     (p : Part) (b : IsBuilding ty w pool ns text_len)
-    (l : IsNextOpen w (head_shown [] n.content) p) → n.ty.0 ≡ l.ty → n.size ≡ 0 →
+    (l : IsNextOpen w (head_shown [] n.children n.content) p) → n.ty.0 ≡ l.ty →
+    size_shown n.content ≡ 0 →
     IsBuilding ty (opened (advanced w) (length ns) p) pool (ns ++ n ∷ []) text_len
 open_added ty w pool ns n text_len p b l at size = by b.room refl where
   inside_after : (pool : List ℕ) (ns : List Node) (n : Node) → AreInPool pool ns →
@@ -230,18 +280,18 @@ open_added ty w pool ns n text_len p b l at size = by b.room refl where
         own =
             l.own;
       } in
-      let shown = open_shown pool n.content l.kind l.count l.head_is in
+      let shown = open_shown pool n.children n.content l.kind l.count l.head_is in
       let spine : Spine w.types (suc room) ty b.opens w.frames (cells_shown pool ns) b.own =
       rw (← e) b.spine in
       let g = open_grown w.types room ty b.opens w.frames (cells_shown pool ns) b.own o p l.next
       spine (l.finite, l.is_open) (omega arith) in
-      let cell : cell_shown pool n ≡ open_cell o = rw (at, shown.0, l.head_is, size) refl in
+      let cell : cell_shown pool n ≡ open_cell o = rw (at, shown.same, l.head_is, size) refl in
       let cells_are : cells_shown pool (ns ++ n ∷ []) ≡ cells_shown pool ns ++ open_cell o ∷ [] =
       map-append (cell_shown pool) ns (n ∷ [])
       ∙ ap (λ (c : Cell). cells_shown pool ns ++ c ∷ []) cell in
       let entries_are : entries_shown pool (ns ++ n ∷ [])
       ≡ entries_shown pool ns ++ entry_of l.ty (head.branch l.kind l.count) ∷ [] =
-      map-append _ ns (n ∷ []) ∙ rw (at, shown.0, l.head_is) refl in
+      map-append _ ns (n ∷ []) ∙ rw (at, shown.same, l.head_is) refl in
       record {
         room = room;
         level = omega (arith, e, b.level, advanced_length w.frames);
@@ -249,24 +299,24 @@ open_added ty w pool ns n text_len p b l at size = by b.room refl where
         are_bytes = both_bytes b.own l.own b.are_bytes l.are_bytes;
         opens = o ∷ b.opens;
         spine = rw (cells_are, ← length-map ns (cell_shown pool)) g;
-        inside = inside_after pool ns n b.inside shown.1;
+        inside = inside_after pool ns n b.inside shown.inside;
         texts = rw entries_are (omega (
           arith,
           b.texts,
           text_snoc (entries_shown pool ns) (entry_of l.ty (head.branch l.kind l.count)),
           kind_text l.kind l.count,
         ));
-        fits = b.fits;
+        fits = omega (arith, b.fits, kept_snoc ns n, shown.none_kept);
       }
 
 -- the entries are one more, and as many as the nodes
 pub open_entries : (pool : List ℕ) (ns : List Node) (n : Node) (t : ℕ) (kind : Branch) (count : ℕ) →
-    n.ty.0 ≡ t → head_shown [] n.content ≡ head.branch kind count →
+    n.ty.0 ≡ t → head_shown [] n.children n.content ≡ head.branch kind count →
     (entries_shown pool (ns ++ n ∷ [])
-    ≡ entries_shown pool ns ++ entry_of t (head_shown [] n.content) ∷ [])
+    ≡ entries_shown pool ns ++ entry_of t (head_shown [] n.children n.content) ∷ [])
     × (length (entries_shown pool ns) ≡ length ns)
 open_entries pool ns n t kind count at e = (
-  map-append _ ns (n ∷ []) ∙ rw (at, (open_shown pool n.content kind count e).0) refl,
+  map-append _ ns (n ∷ []) ∙ rw (at, (open_shown pool n.children n.content kind count e).same) refl,
   length-map ns _,
 )
 
@@ -298,15 +348,15 @@ drop_more zero pool more h = refl
 drop_more (suc k) [] more h = absurd (omega (arith, h))
 drop_more (suc k) (x ∷ pool) more h = drop_more k pool more (omega (arith, h))
 
-pub open_longer : (w : Walked) (pool more : List ℕ) (text_len : ℕ) (text : Option OpenText) →
-    AreBytes more → IsOpenText w pool text_len text →
+pub open_longer : (w : Walked) (pool more : List ℕ) (kept : ℕ) (text : Option OpenText) →
+    AreBytes more → IsOpenText w pool kept text →
     IfOk (missing_at (pieces_shown pool text) (next_of w)) (λ n. length more ≤ n) →
-    IsOpenText w (pool ++ more) text_len text
+    IsOpenText w (pool ++ more) kept text
     × (pieces_shown (pool ++ more) text
     ≡ option_map (λ t. record { len = t.len; bytes = t.bytes ++ more })
     (pieces_shown pool text))
-open_longer w pool more text_len None p h k = (tt, refl)
-open_longer w pool more text_len (Some o) p h k =
+open_longer w pool more kept None p h k = (tt, refl)
+open_longer w pool more kept (Some o) p h k =
     let lacks : length more ≤ o.len - length (drop o.start pool) = rw h.is_next at k in (
       record {
         is_next = h.is_next;
@@ -334,11 +384,11 @@ pub longer_entries : (pool more : List ℕ) (ns : List Node) → AreInPool pool 
 longer_entries = entries_more
 
 -- the whole of an open text is what its place in the pool shows
-pub open_whole : (w : Walked) (pool : List ℕ) (text_len : ℕ) (o : OpenText) →
-    IsOpenAt w pool text_len o.start o.len →
+pub open_whole : (w : Walked) (pool : List ℕ) (kept : ℕ) (o : OpenText) →
+    IsOpenAt w pool kept o.start o.len →
     missing_at (pieces_shown pool (Some o)) (next_of w) ≡ Ok 0 → (o.start + o.len ≡ length pool)
     × (slice_range pool o.start (o.start + o.len) ≡ drop o.start pool)
-open_whole w pool text_len o h e =
+open_whole w pool kept o h e =
     let lacks : o.len - length (drop o.start pool) ≡ 0 = ok_is (rw h.is_next at e) in
     let whole : o.start + o.len ≡ length pool =
     omega (arith, lacks, h.inside, h.short, length-drop o.start pool) in (

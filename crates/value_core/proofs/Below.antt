@@ -17,7 +17,7 @@ use Rattle.grammar_core.specs.Grammar.{Val, Vals, Each}
 use Rattle.grammar_core.specs.Parts.{Part, each, times, left_after}
 use Rattle.grammar_core.specs.Cells.{Cell, cells, all_cells, child_type, arm_part, part_of}
 use Rattle.grammar_core.proofs.Texts.{texts_are_text}
-use Rattle.value_core.specs.Shown.{seen, seen_parts, children_by, cells_shown, tree_shown, type_shown, AreInPool, IsWhole, AreValues, IsForest, all_seen}
+use Rattle.value_core.specs.Shown.{seen, seen_parts, children_by, cells_shown, tree_shown, type_shown, AreInPool, IsWhole, AreValues, IsForest, all_seen, size_shown}
 use Rattle.value_core.specs.declared.node.Node.{Node}
 use Rattle.value_core.specs.declared.node.Content.TheVariants as content
 use Rattle.value_core.proofs.CellsOf.{cells_length, some_node, seen_is, split, all_seen_is}
@@ -123,11 +123,12 @@ below_seen r pool n ns h =
 
 -- the first of them, and those behind it
 pub record First (r : List TypeInfo) (pool : List ℕ) (n : Node) (ns : List Node) : Type 0 where
-  pub within : n.size ≤ length (n ∷ ns)
-  pub whole : IsWhole r pool (take n.size (n ∷ ns))
-  pub rest : IsForest r pool (drop n.size (n ∷ ns))
+  pub within : size_shown n.content ≤ length (n ∷ ns)
+  pub whole : IsWhole r pool (take (size_shown n.content) (n ∷ ns))
+  pub rest : IsForest r pool (drop (size_shown n.content) (n ∷ ns))
   pub steps : all_seen r pool (n ∷ ns)
-      ≡ seen r pool (take n.size (n ∷ ns)) ∷ all_seen r pool (drop n.size (n ∷ ns))
+      ≡ seen r pool (take (size_shown n.content) (n ∷ ns)) ∷ all_seen r pool
+      (drop (size_shown n.content) (n ∷ ns))
 
 first_by : (r : List TypeInfo) (pool : List ℕ) (n : Node) (ns : List Node) (p : Part) (vs : Trees) →
     AreInPool pool (n ∷ ns) → cells_shown pool (n ∷ ns) ≡ all_cells r p vs → AreValues r p vs →
@@ -135,7 +136,7 @@ first_by : (r : List TypeInfo) (pool : List ℕ) (n : Node) (ns : List Node) (p 
 first_by r pool n ns p none inside e are = absurd cc
 first_by r pool n ns p (and v vs) inside e are =
     let s = split r pool n ns p v vs inside e in
-    let is = seen_is r pool (take n.size (n ∷ ns)) (child_type p) v s.front in
+    let is = seen_is r pool (take (size_shown n.content) (n ∷ ns)) (child_type p) v s.front in
     record {
       within = s.within;
       whole = record {
@@ -154,7 +155,7 @@ first_by r pool n ns p (and v vs) inside e are =
           ∙ sym (rw (
             is.0,
             is.1,
-            all_seen_is r pool (drop n.size (n ∷ ns)) (left_after p) vs
+            all_seen_is r pool (drop (size_shown n.content) (n ∷ ns)) (left_after p) vs
                 s.back_inside s.back,
           ) refl);
     }
@@ -164,10 +165,12 @@ pub first : (r : List TypeInfo) (pool : List ℕ) (n : Node) (ns : List Node) �
 first r pool n ns h = first_by r pool n ns h.part h.values h.inside h.nodes h.are_values
 
 pub record FirstAt (r : List TypeInfo) (pool : List ℕ) (ns : List Node) (n : Node) : Type 0 where
-  pub within : n.size ≤ length ns
-  pub whole : IsWhole r pool (take n.size ns)
-  pub rest : IsForest r pool (drop n.size ns)
-  pub steps : all_seen r pool ns ≡ seen r pool (take n.size ns) ∷ all_seen r pool (drop n.size ns)
+  pub within : size_shown n.content ≤ length ns
+  pub whole : IsWhole r pool (take (size_shown n.content) ns)
+  pub rest : IsForest r pool (drop (size_shown n.content) ns)
+  pub steps : all_seen r pool ns
+      ≡ seen r pool (take (size_shown n.content) ns) ∷ all_seen r pool
+      (drop (size_shown n.content) ns)
 
 -- the same of a list whose first node is told by its place
 pub below_at : (r : List TypeInfo) (pool : List ℕ) (ns : List Node) → IsWhole r pool ns →
@@ -181,7 +184,7 @@ below_seen_at r pool [] h = absurd (no_cells r (tree_shown pool []) h.nodes)
 below_seen_at r pool (n ∷ ns) h = below_seen r pool n ns h
 
 pub text_at : (r : List TypeInfo) (pool : List ℕ) (ns : List Node) (d : Node) (start len : ℕ) →
-    IsWhole r pool ns → (slice_index_or ns 0 d).content ≡ content.Text start len →
+    IsWhole r pool ns → (slice_index_or ns 0 d).content ≡ content.Text len start →
     IsUtf8 (slice_range pool start (start + len))
 text_at r pool [] d start len h e = absurd (no_cells r (tree_shown pool []) h.nodes)
 text_at r pool (n ∷ ns) d start len h e =

@@ -9,7 +9,7 @@ use Rattle.grammar_core.specs.Tree.{Tree, leaf, branch, fields, arm, list, Trees
 use Rattle.grammar_core.specs.Preorder.{Head, preorder, all_preorder, tree_of, tree_of-preorder}
 use Rattle.grammar_core.specs.Parts.{Part, left_after}
 use Rattle.grammar_core.specs.Cells.{Cell, cells, all_cells, child_type, fields_part, arm_part, list_part}
-use Rattle.value_core.specs.Shown.{seen_parts, cell_shown, cells_shown, tree_shown, type_shown, AreInPool, IsWhole, forest, all_seen}
+use Rattle.value_core.specs.Shown.{seen_parts, cell_shown, cells_shown, tree_shown, type_shown, size_shown, AreInPool, IsWhole, forest, all_seen}
 use Rattle.value_core.specs.declared.node.Node.{Node}
 
 mutual
@@ -112,11 +112,11 @@ inside_drop pool (suc k) (n ∷ ns) h = inside_drop pool k ns h.1
 -- where the first value's nodes end
 pub record Split (r : List TypeInfo) (pool : List ℕ) (n : Node) (ns : List Node) (p : Part)
     (v : Tree) (vs : Trees) : Type 0 where
-  pub within : n.size ≤ length (n ∷ ns)
-  pub front : cells_shown pool (take n.size (n ∷ ns)) ≡ cells r (child_type p) v
-  pub back : cells_shown pool (drop n.size (n ∷ ns)) ≡ all_cells r (left_after p) vs
-  pub front_inside : AreInPool pool (take n.size (n ∷ ns))
-  pub back_inside : AreInPool pool (drop n.size (n ∷ ns))
+  pub within : size_shown n.content ≤ length (n ∷ ns)
+  pub front : cells_shown pool (take (size_shown n.content) (n ∷ ns)) ≡ cells r (child_type p) v
+  pub back : cells_shown pool (drop (size_shown n.content) (n ∷ ns)) ≡ all_cells r (left_after p) vs
+  pub front_inside : AreInPool pool (take (size_shown n.content) (n ∷ ns))
+  pub back_inside : AreInPool pool (drop (size_shown n.content) (n ∷ ns))
 
 pub split : (r : List TypeInfo) (pool : List ℕ) (n : Node) (ns : List Node) (p : Part) (v : Tree)
     (vs : Trees) → AreInPool pool (n ∷ ns) → cells_shown pool (n ∷ ns) ≡ all_cells r p (and v vs) →
@@ -125,7 +125,8 @@ split r pool n ns p v vs inside e =
     let all = n ∷ ns in
     let first = cells r (child_type p) v in
     let others = all_cells r (left_after p) vs in
-    let size : n.size ≡ length first = ap first_size e ∙ (starts r (child_type p) v others).1
+    let told = size_shown n.content in
+    let size : told ≡ length first = ap first_size e ∙ (starts r (child_type p) v others).1
     ∙ sym (cells_length r (child_type p) v) in
     record {
       within = omega (
@@ -135,12 +136,12 @@ split r pool n ns p v vs inside e =
         length-append first others,
         length-map all (cell_shown pool),
       );
-      front = shown_take pool n.size all ∙ ap (take n.size) e
+      front = shown_take pool told all ∙ ap (take told) e
           ∙ ap (λ (k : ℕ). take k (first ++ others)) size ∙ take-append_seam first others;
-      back = shown_drop pool n.size all ∙ ap (drop n.size) e
+      back = shown_drop pool told all ∙ ap (drop told) e
           ∙ ap (λ (k : ℕ). drop k (first ++ others)) size ∙ drop-append_seam first others;
-      front_inside = inside_take pool n.size all inside;
-      back_inside = inside_drop pool n.size all inside;
+      front_inside = inside_take pool told all inside;
+      back_inside = inside_drop pool told all inside;
     }
 
 -- the nodes of values one behind the other show those values
@@ -156,8 +157,9 @@ forest_is r pool (suc k) [] p (and v vs) le inside e =
     absurd (omega (arith, some, all_cells_length r p (and v vs), (starts r (child_type p) v []).2))
 forest_is r pool (suc k) (n ∷ ns) p (and v vs) le inside e =
     let s = split r pool n ns p v vs inside e in
-    let is = seen_is r pool (take n.size (n ∷ ns)) (child_type p) v s.front in
-    let rest = forest_is r pool k (drop n.size (n ∷ ns)) (left_after p) vs (omega (arith, le))
+    let size = size_shown n.content in
+    let is = seen_is r pool (take size (n ∷ ns)) (child_type p) v s.front in
+    let rest = forest_is r pool k (drop size (n ∷ ns)) (left_after p) vs (omega (arith, le))
     s.back_inside s.back in
     rw (is.0, is.1, rest) refl
 

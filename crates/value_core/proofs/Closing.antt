@@ -5,54 +5,117 @@ use Rattle.std.proofs.lemmas.List.{length-map}
 use Rattle.registry_core.specs.declared.type_info.TypeInfo.{TypeInfo}
 use Rattle.grammar_core.specs.Parts.{Part, times, first_of}
 use Rattle.grammar_core.specs.Cells.{Cell}
-use Rattle.value_core.specs.Shown.{cell_shown, cells_shown, IsInPool, AreInPool}
+use Rattle.value_core.specs.Shown.{cell_shown, cells_shown, head_shown, size_shown, closed_as, kept_bytes, all_kept, IsInPool, AreInPool}
 use Rattle.value_core.specs.Spine.{OpenNode, open_part, Spine}
 use Rattle.value_core.specs.Walked.{OpenPart, Walked, Closes, advanced, advanced_in, opened}
 use Rattle.value_core.specs.Built.{IsSettled, closings, entries_shown, entries_text_bytes, settled_in, settled_walk}
 use Rattle.value_core.specs.Building.{IsBuilding, IsPaid, AreBuilt, Settles, pieces_shown}
 use Rattle.value_core.specs.declared.open_text.OpenText.{OpenText}
+use Rattle.value_core.specs.declared.node.Content.{Content}
+use Rattle.value_core.specs.declared.node.Content.TheVariants as content
 use Rattle.value_core.specs.declared.node.Node.{Node}
 use Rattle.value_core.proofs.Spines.{Closed, is_cons, node_closed}
 
 abbrev with_size : Node → ℕ → Node
-with_size n k = record { ty = n.ty; content = n.content; size = k }
+with_size n k =
+    record { ty = n.ty; children = n.children; content = closed_as n.content k }
 
 abbrev cell_with_size : Cell → ℕ → Cell
 cell_with_size c k = record { ty = c.ty; head = c.head; size = k }
 
--- the cells are those of before, with another size at one place
+-- with another size a node stays what it is, and keeps what it has in the pool
+record Resized (pool : List ℕ) (children : ℕ) (c : Content) (k : ℕ) : Type 0 where
+  pub head : head_shown pool children (closed_as c k) ≡ head_shown pool children c
+  pub kept : kept_bytes (closed_as c k) ≡ kept_bytes c
+  pub inside : IsInPool pool c → IsInPool pool (closed_as c k)
+
+same : (pool : List ℕ) (children : ℕ) (c : Content) (k : ℕ) → Resized pool children c k
+same pool m content.Empty k = record { head = refl; kept = refl; inside = λ h. h }
+same pool m (content.Bool b) k = record { head = refl; kept = refl; inside = λ h. h }
+same pool m (content.Char x) k = record { head = refl; kept = refl; inside = λ h. h }
+same pool m (content.Count n) k = record { head = refl; kept = refl; inside = λ h. h }
+same pool m (content.Text len start) k = record { head = refl; kept = refl; inside = λ h. h }
+same pool m (content.Unsigned n) k = record { head = refl; kept = refl; inside = λ h. h }
+same pool m (content.Compact n) k = record { head = refl; kept = refl; inside = λ h. h }
+same pool m (content.Signed z) k = record { head = refl; kept = refl; inside = λ h. h }
+same pool m (content.LongUnsigned start) k = record { head = refl; kept = refl; inside = λ h. h }
+same pool m (content.LongCompact start) k = record { head = refl; kept = refl; inside = λ h. h }
+same pool m (content.LongSigned start) k = record { head = refl; kept = refl; inside = λ h. h }
+same pool m (content.Wide start) k = record { head = refl; kept = refl; inside = λ h. h }
+same pool m (content.Fields size) k = record { head = refl; kept = refl; inside = λ h. h }
+same pool m (content.Arm q size) k = record { head = refl; kept = refl; inside = λ h. h }
+same pool m (content.List size) k = record { head = refl; kept = refl; inside = λ h. h }
+
+-- a node that is open has parts, so it gets its size
+sized : (c : Content) (k : ℕ) → size_shown c ≡ 0 → size_shown (closed_as c k) ≡ k
+sized (content.Fields size) k h = refl
+sized (content.Arm q size) k h = refl
+sized (content.List size) k h = refl
+sized content.Empty k h = absurd (omega (arith, h))
+sized (content.Bool b) k h = absurd (omega (arith, h))
+sized (content.Char x) k h = absurd (omega (arith, h))
+sized (content.Count n) k h = absurd (omega (arith, h))
+sized (content.Text len start) k h = absurd (omega (arith, h))
+sized (content.Unsigned n) k h = absurd (omega (arith, h))
+sized (content.Compact n) k h = absurd (omega (arith, h))
+sized (content.Signed z) k h = absurd (omega (arith, h))
+sized (content.LongUnsigned start) k h = absurd (omega (arith, h))
+sized (content.LongCompact start) k h = absurd (omega (arith, h))
+sized (content.LongSigned start) k h = absurd (omega (arith, h))
+sized (content.Wide start) k h = absurd (omega (arith, h))
+
+-- the cells are those of before, with the size of the open node at one place
 resized : (pool : List ℕ) (ns : List Node) (n : Node) (k place : ℕ) (front : List Cell) (c : Cell)
-    (back : List Cell) → slice_get ns place ≡ Some n → cells_shown pool ns ≡ front ++ c ∷ back →
-    place ≡ length front → cells_shown pool (slice_set ns place (with_size n k))
-    ≡ front ++ cell_with_size c k ∷ back
-resized pool [] n k place front c back g e p = absurd cc
-resized pool (m ∷ ns) n k zero [] c back g e p =
-    let same : m ≡ n = cc in
+    (back : List Cell) → c.size ≡ 0 → slice_get ns place ≡ Some n →
+    cells_shown pool ns ≡ front ++ c ∷ back → place ≡ length front →
+    cells_shown pool (slice_set ns place (with_size n k)) ≡ front ++ cell_with_size c k ∷ back
+resized pool [] n k place front c back z g e p = absurd cc
+resized pool (m ∷ ns) n k zero [] c back z g e p =
+    let is : m ≡ n = cc in
     let first : cell_shown pool m ≡ c = cc in
     let rest : cells_shown pool ns ≡ back = cc in
-    rw (← same, ← first, ← rest) refl
-resized pool (m ∷ ns) n k zero (d ∷ front) c back g e p = absurd cc
-resized pool (m ∷ ns) n k (suc place) [] c back g e p = absurd cc
-resized pool (m ∷ ns) n k (suc place) (d ∷ front) c back g e p =
+    let unsized : size_shown m.content ≡ 0 = ap (λ (x : Cell). x.size) first ∙ z in
+    rw (
+      ← is,
+      ← first,
+      ← rest,
+      (same pool m.children m.content k).head,
+      sized m.content k unsized,
+    ) refl
+resized pool (m ∷ ns) n k zero (d ∷ front) c back z g e p = absurd cc
+resized pool (m ∷ ns) n k (suc place) [] c back z g e p = absurd cc
+resized pool (m ∷ ns) n k (suc place) (d ∷ front) c back z g e p =
     let first : cell_shown pool m ≡ d = cc in
     let rest : cells_shown pool ns ≡ front ++ c ∷ back = cc in
     let at : place ≡ length front = omega (arith, p) in
-    rw (resized pool ns n k place front c back g rest at, first) refl
+    rw (resized pool ns n k place front c back z g rest at, first) refl
 
 entries_resized : (pool : List ℕ) (ns : List Node) (n : Node) (k place : ℕ) →
     slice_get ns place ≡ Some n →
     entries_shown pool (slice_set ns place (with_size n k)) ≡ entries_shown pool ns
 entries_resized pool [] n k place g = absurd cc
-entries_resized pool (m ∷ ns) n k zero g = let same : m ≡ n = cc in rw same refl
+entries_resized pool (m ∷ ns) n k zero g = let is : m ≡ n = cc in
+    rw (is, (same pool n.children n.content k).head) refl
 entries_resized pool (m ∷ ns) n k (suc place) g = rw (entries_resized pool ns n k place g) refl
 
 inside_resized : (pool : List ℕ) (ns : List Node) (n : Node) (k place : ℕ) →
     slice_get ns place ≡ Some n → AreInPool pool ns →
     AreInPool pool (slice_set ns place (with_size n k))
 inside_resized pool [] n k place g h = absurd cc
-inside_resized pool (m ∷ ns) n k zero g h = let same : m ≡ n = cc in
-    (subst (λ (x : Node). IsInPool pool x.content) same h.0, h.1)
+inside_resized pool (m ∷ ns) n k zero g h =
+    let is : m ≡ n = cc in (
+      (same pool n.children n.content k).inside
+          (subst (λ (x : Node). IsInPool pool x.content) is h.0),
+      h.1,
+    )
 inside_resized pool (m ∷ ns) n k (suc place) g h = (h.0, inside_resized pool ns n k place g h.1)
+
+kept_resized : (ns : List Node) (n : Node) (k place : ℕ) → slice_get ns place ≡ Some n →
+    all_kept (slice_set ns place (with_size n k)) ≡ all_kept ns
+kept_resized [] n k place g = absurd cc
+kept_resized (m ∷ ns) n k zero g = let is : m ≡ n = cc in
+    rw (is, (same [] n.children n.content k).kept) refl
+kept_resized (m ∷ ns) n k (suc place) g = rw (kept_resized ns n k place g) refl
 
 -- where a node is closed, one is open
 opened_one : (r : List TypeInfo) (room t place : ℕ) (p : Part) (os : List OpenNode)
@@ -96,13 +159,13 @@ closing ty old new pool ns text_len place b c =
             opens = k.grown.0;
             spine = rw (
               c.types,
-              resized pool ns n size place k.front k.cell k.back g k.cells_are
+              resized pool ns n size place k.front k.cell k.back k.unsized g k.cells_are
                   k.place_is,
               sized,
             ) k.grown.1;
             inside = inside_resized pool ns n size place g b.inside;
             texts = b.texts ∙ sym (ap entries_text_bytes (entries_resized pool ns n size place g));
-            fits = b.fits;
+            fits = rw (kept_resized ns n size place g) b.fits;
           };
     }
 

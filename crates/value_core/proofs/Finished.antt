@@ -8,7 +8,7 @@ use Rattle.grammar_core.specs.Tree.{Tree, Trees, none, and, text_bytes, all_text
 use Rattle.grammar_core.specs.Preorder.{Head, preorder, all_preorder}
 use Rattle.grammar_core.specs.Parts.{times, first_of}
 use Rattle.grammar_core.specs.Cells.{Cell, cells}
-use Rattle.value_core.specs.Shown.{seen, cells_shown, tree_shown, type_shown, head_shown, IsWhole}
+use Rattle.value_core.specs.Shown.{seen, cells_shown, tree_shown, type_shown, head_shown, all_kept, IsWhole}
 use Rattle.value_core.specs.Spine.{OpenNode, Spine}
 use Rattle.value_core.specs.Walked.{OpenPart, Walked}
 use Rattle.value_core.specs.Built.{Entry, Pieces, entries_shown, head_text_bytes, entries_text_bytes, finished}
@@ -64,7 +64,7 @@ pub record IsFinished (types : List TypeInfo) (ty : ℕ) (pool : List ℕ) (ns :
   pub whole : IsWhole types pool ns
   pub type_is : type_shown ns ≡ ty
   pub texts : text_len ≡ text_bytes (tree_shown pool ns)
-  pub fits : text_len ≤ length pool
+  pub fits : all_kept ns ≤ length pool
 
 finished_by : (ty : ℕ) (types : List TypeInfo) (limit : ℕ) (fs : List OpenPart) (pool : List ℕ)
     (ns : List Node) (text_len : ℕ) →
@@ -109,7 +109,7 @@ is_finished ty w pool ns text_len b e = finished_by ty w.types w.limit w.frames 
 
 heads_are : (pool : List ℕ) (ns : List Node) →
     map (λ (e : Entry). e.head) (entries_shown pool ns)
-    ≡ map (λ (n : Node). head_shown pool n.content) ns
+    ≡ map (λ (n : Node). head_shown pool n.children n.content) ns
 heads_are pool ns = map-map (λ (e : Entry). e.head) _ ns
 
 -- what is seen of the value that is handed out

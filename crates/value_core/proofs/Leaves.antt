@@ -1,11 +1,22 @@
--- The bytes of text of a node without children.
-use Rattle.std.proofs.Common.{◌≡◌, ◌≤◌, length, refl, arith}
-use Rattle.value_core.specs.Built.{head_text_bytes}
-use Rattle.value_core.specs.Leaves.{leaf_head, leaf_bytes, leaf_text_bytes}
+-- The bytes of text of a node, and a leaf that is kept as the last node.
+use Rattle.std.proofs.Common.{◌≡◌, ℕ, ◌+◌, ◌-◌, ◌^◌, ◌≤◌, ◌<◌, List, [], ◌∷◌, ◌++◌, drop, Some, refl, ◌∙◌, arith}
+use Rattle.std.proofs.lemmas.List.{length-take}
+use Rattle.std.proofs.lemmas.Option.{same_Some}
+use Rattle.registry_core.specs.declared.type_id.TypeId.{TypeId}
+use Rattle.value_core.specs.Built.{IsNextLeaf, head_text_bytes, entries_shown, entries_text_bytes}
+use Rattle.value_core.specs.Building.{IsBuilding, IsPaid}
+use Rattle.value_core.specs.Leaves.{leaf_head, leaf_text_bytes, FitsLeaf, IsAppended}
+use Rattle.value_core.specs.Shown.{head_shown, kept_bytes, all_kept, IsInPool}
+use Rattle.value_core.specs.Walked.{Walked, advanced, next_type}
 use Rattle.value_core.specs.declared.leaf.Leaf.{Leaf}
 use Rattle.value_core.specs.declared.leaf.Leaf.TheVariants as leaf
+use Rattle.value_core.specs.declared.node.Content.{Content}
+use Rattle.value_core.specs.declared.node.Content.TheVariants as content
+use Rattle.value_core.specs.declared.node.Node.{Node}
+use Rattle.value_core.proofs.Adding.{leaf_added, entries_added}
+use Rattle.value_core.proofs.Closing.{leaf_paid}
 
-pub text_is : (l : Leaf) → leaf_text_bytes l ≡ head_text_bytes (leaf_head l)
+text_is : (l : Leaf) → leaf_text_bytes l ≡ head_text_bytes (leaf_head l)
 text_is leaf.Empty = refl
 text_is (leaf.Bool b) = refl
 text_is (leaf.Char c) = refl
@@ -16,13 +27,65 @@ text_is (leaf.Wide b) = refl
 text_is (leaf.Compact n) = refl
 text_is (leaf.Count n) = refl
 
-pub text_fits : (l : Leaf) → leaf_text_bytes l ≤ length (leaf_bytes l)
-text_fits leaf.Empty = omega arith
-text_fits (leaf.Bool b) = omega arith
-text_fits (leaf.Char c) = omega arith
-text_fits (leaf.Text s) = omega arith
-text_fits (leaf.Unsigned n) = omega arith
-text_fits (leaf.Signed z) = omega arith
-text_fits (leaf.Wide b) = omega arith
-text_fits (leaf.Compact n) = omega arith
-text_fits (leaf.Count n) = omega arith
+pub text_short : (l : Leaf) → FitsLeaf l → leaf_text_bytes l < 2 ^ 32
+text_short leaf.Empty h = omega arith
+text_short (leaf.Bool b) h = omega arith
+text_short (leaf.Char c) h = omega arith
+text_short (leaf.Text s) h = h
+text_short (leaf.Unsigned n) h = omega arith
+text_short (leaf.Signed z) h = omega arith
+text_short (leaf.Wide b) h = omega arith
+text_short (leaf.Compact n) h = omega arith
+text_short (leaf.Count n) h = omega arith
+
+-- a text has its bytes in the pool
+text_kept : (pool : List ℕ) (n : ℕ) (c : Content) →
+    head_text_bytes (head_shown pool n c) ≤ kept_bytes c
+text_kept pool n (content.Text len start) =
+    omega (arith, length-take (start + len - start) (drop start pool))
+text_kept pool n content.Empty = omega arith
+text_kept pool n (content.Bool b) = omega arith
+text_kept pool n (content.Char c) = omega arith
+text_kept pool n (content.Count k) = omega arith
+text_kept pool n (content.Unsigned k) = omega arith
+text_kept pool n (content.Compact k) = omega arith
+text_kept pool n (content.Signed z) = omega arith
+text_kept pool n (content.LongUnsigned start) = omega arith
+text_kept pool n (content.LongCompact start) = omega arith
+text_kept pool n (content.LongSigned start) = omega arith
+text_kept pool n (content.Wide start) = omega arith
+text_kept pool n (content.Fields size) = omega arith
+text_kept pool n (content.Arm q size) = omega arith
+text_kept pool n (content.List size) = omega arith
+
+-- so all texts have no more bytes than all nodes have there
+pub texts_kept : (pool : List ℕ) (ns : List Node) →
+    entries_text_bytes (entries_shown pool ns) ≤ all_kept ns
+texts_kept pool [] = omega arith
+texts_kept pool (n ∷ ns) = omega (arith, text_kept pool n.children n.content, texts_kept pool ns)
+
+-- the value that is being built with a leaf as its last node
+pub record IsWithLeaf (ty : ℕ) (w : Walked) (l : Leaf) (old_pool pool : List ℕ)
+    (old_ns ns : List Node) (text_len t : ℕ) : Type 0 where
+  pub builds : IsBuilding ty (advanced w) pool ns (text_len + leaf_text_bytes l)
+  pub entries : entries_shown pool ns
+      ≡ entries_shown old_pool old_ns ++ record { ty = t; head = leaf_head l } ∷ []
+  pub paid : (turns : ℕ) → IsPaid w old_ns turns → IsPaid (advanced w) ns turns
+
+pub leaf_appended : (ty : ℕ) (w : Walked) (l : Leaf) (pool new_pool : List ℕ)
+    (ns new_ns : List Node) (text_len : ℕ) (t : TypeId) → IsBuilding ty w pool ns text_len →
+    (h : IsNextLeaf w (leaf_head l)) → Some t.0 ≡ next_type w →
+    IsAppended t l ns pool new_ns new_pool →
+    IsWithLeaf ty w l pool new_pool ns new_ns text_len h.ty
+leaf_appended ty w l pool new_pool ns new_ns text_len t b h next a =
+    let k = a.kept in
+    let n : Node = record { ty = t; children = 0; content = a.content } in
+    let at : t.0 ≡ h.ty = same_Some t.0 h.ty (next ∙ h.next) in
+    let shows : head_shown (pool ++ k.more) 0 a.content ≡ leaf_head l = rw k.grown at k.shows in
+    let inside : IsInPool (pool ++ k.more) a.content = rw k.grown at k.inside in
+    rw (k.grown, a.nodes_are) (record {
+      builds = leaf_added ty w pool k.more ns n text_len (leaf_text_bytes l) (leaf_head l) b h at
+          shows inside (text_is l) (omega (arith, b.fits, k.kept));
+      entries = entries_added pool k.more ns n h.ty (leaf_head l) b.inside at shows;
+      paid = λ turns p. leaf_paid w ns n turns p;
+    })

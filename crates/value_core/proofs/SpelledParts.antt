@@ -5,14 +5,11 @@ use Rattle.std.proofs.lemmas.List.Folds.{flat_map-map}
 use Rattle.scale_core.specs.Number.{AreBytes}
 use Rattle.registry_core.specs.declared.type_info.TypeInfo.{TypeInfo}
 use Rattle.grammar_core.specs.Spelled.{cell_bytes}
-use Rattle.grammar_core.specs.Tree.{text_bytes}
 use Rattle.grammar_core.specs.Grammar.{Val}
 use Rattle.grammar_core.proofs.Spelled.{encoded_is_value}
-use Rattle.value_core.specs.Shown.{Seen, seen, head_shown, cell_shown, IsValue, IsWhole}
-use Rattle.value_core.specs.Built.{entries_shown, entries_text_bytes, head_text_bytes}
+use Rattle.value_core.specs.Shown.{Seen, seen, cell_shown, kept_bytes, all_kept, IsValue, IsWhole}
 use Rattle.value_core.specs.Encoding.{encoding, IsEncoding, node_bytes}
 use Rattle.value_core.specs.declared.node.Node.{Node}
-use Rattle.value_core.proofs.Finished.{text_of_nodes}
 use Rattle.std.specs.Io.KnownBytes.{Appends}
 
 -- two appends of neighbouring parts are one
@@ -126,41 +123,31 @@ stops a b c r s pool ns i d whole w before same h all sent counted le more =
           (subst (Appends b c) (take-front own x.0 w le') more');
     }
 
--- the texts of the nodes up to one of them
-pub texts_up_to : (pool : List ℕ) (ns : List Node) (i : ℕ) (d : Node) → i < length ns →
-    (entries_text_bytes (entries_shown pool (take (suc i) ns))
-    ≡ entries_text_bytes (entries_shown pool (take i ns)) + head_text_bytes
-    (head_shown pool (get_or ns i d).content))
-    × (entries_text_bytes (entries_shown pool (take (suc i) ns))
-    ≤ entries_text_bytes (entries_shown pool ns))
-texts_up_to pool [] i d h = absurd (omega arith)
-texts_up_to pool (m ∷ ns) zero d h = (omega arith, omega arith)
-texts_up_to pool (m ∷ ns) (suc i) d h = let t = texts_up_to pool ns i d (omega arith) in
+-- what the nodes up to one of them have in the pool
+kept_up_to : (ns : List Node) (i : ℕ) (d : Node) → i < length ns →
+    (all_kept (take (suc i) ns) ≡ all_kept (take i ns) + kept_bytes (get_or ns i d).content)
+    × (all_kept (take (suc i) ns) ≤ all_kept ns)
+kept_up_to [] i d h = absurd (omega arith)
+kept_up_to (m ∷ ns) zero d h = (omega arith, omega arith)
+kept_up_to (m ∷ ns) (suc i) d h = let t = kept_up_to ns i d (omega arith) in
     (omega (arith, t.0), omega (arith, t.1))
 
--- the bytes of the nodes up to one of them, of which the node before are as few as their texts and
--- 32 more each
-pub record IsFew (pool : List ℕ) (ns : List Node) (i count : ℕ) : Type 0 where
-  pub few : count ≤ 32 * (i + 1) + entries_text_bytes (entries_shown pool (take (i + 1) ns))
+-- the bytes of the nodes up to one of them are as few as what they have in the pool and 17 more
+-- each
+pub record IsFew (ns : List Node) (i count : ℕ) : Type 0 where
+  pub few : count ≤ 17 * (i + 1) + all_kept (take (i + 1) ns)
   pub fits : count < 2 ^ 64
 
-pub is_few : (r s : List TypeInfo) (pool : List ℕ) (ns : List Node) (v : Seen) (i : ℕ) (d : Node)
-    (before w : ℕ) →
-    s ≡ r → IsWhole r pool ns → seen r pool ns ≡ v → text_bytes v.tree ≤ length pool →
-    length pool < 2 ^ 63 → length ns * 40 < 2 ^ 63 → i < length ns →
-    before ≤ 32 * i + entries_text_bytes (entries_shown pool (take i ns)) →
-    w ≤ length (node_bytes s pool (get_or ns i d)) →
-    length (node_bytes s pool (get_or ns i d))
-    ≤ 32 + head_text_bytes (head_shown pool (get_or ns i d).content) →
-    IsFew pool ns i (before + w)
-is_few r s pool ns v i d before w same whole is fits small few h le part bound =
+pub is_few : (ns : List Node) (i : ℕ) (d : Node) (before w own pool : ℕ) → all_kept ns ≤ pool →
+    pool < 2 ^ 63 → length ns * 24 < 2 ^ 63 → i < length ns →
+    before ≤ 17 * i + all_kept (take i ns) → w ≤ own →
+    own ≤ 17 + kept_bytes (get_or ns i d).content → IsFew ns i (before + w)
+is_few ns i d before w own pool fits small few h le part bound =
     let next : suc i ≡ i + 1 = omega arith in
-    let t = texts_up_to pool ns i d h in
-    let all : entries_text_bytes (entries_shown pool ns) ≡ text_bytes v.tree =
-    text_of_nodes r pool ns whole ∙ ap (λ (x : Seen). text_bytes x.tree) is in
-    let up : before + w ≤ 32 * suc i + entries_text_bytes (entries_shown pool (take (suc i) ns)) =
+    let t = kept_up_to ns i d h in
+    let up : before + w ≤ 17 * suc i + all_kept (take (suc i) ns) =
     omega (arith, le, part, bound, t.0) in
-    record { few = rw (← next) up; fits = omega (arith, up, t.1, all, fits, small, few, h) }
+    record { few = rw (← next) up; fits = omega (arith, up, t.1, fits, small, few, h) }
 
 -- each node of a value without bytes has none
 pub no_own : (r s : List TypeInfo) (pool : List ℕ) (ns : List Node) (i : ℕ) (d : Node)

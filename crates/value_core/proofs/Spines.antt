@@ -323,6 +323,7 @@ pub record Closed (r : List TypeInfo) (room t : ℕ) (place : ℕ) (fs : List Op
     (own : List ℕ) : Type 0 where
   pub front : List Cell
   pub cell : Cell
+  pub unsized : cell.size ≡ 0
   pub back : List Cell
   pub cells_are : cs ≡ front ++ cell ∷ back
   pub place_is : place ≡ length front
@@ -360,6 +361,7 @@ node_closed r room t o os f fs cs own h e =
     record {
       front = h.4;
       cell = open_cell o;
+      unsized = refl;
       back = back;
       cells_are = h.11;
       place_is = ap (λ (x : OpenPart). x.node) parts.0;

@@ -1,5 +1,5 @@
 -- Words of sixteen bytes, and the integers that they stand for.
-use Rattle.std.proofs.Common.{◌≡◌, ℕ, ◌+◌, ◌-◌, ◌<◌, ◌^◌, ℤ, List, ◌++◌, length, take, drop, ◌*◌, pos, negsuc, suc, false, refl, slice_range, ap, sym, ◌∙◌, arith}
+use Rattle.std.proofs.Common.{◌≡◌, ℕ, ◌+◌, ◌-◌, ◌<◌, ◌≤◌, ◌^◌, ℤ, List, ◌++◌, length, take, drop, ◌*◌, pos, negsuc, suc, false, refl, slice_range, ap, sym, ◌∙◌, arith, length-append}
 use Rattle.std.proofs.Math.Facts.{Fits-of_z}
 use Rattle.std.proofs.Math.Seq.{drop-append_seam}
 use Rattle.std.proofs.lemmas.Bool.{lt-ltb, le-ltb}
@@ -8,7 +8,7 @@ use Rattle.std.proofs.lemmas.List.{take_all}
 use Rattle.std.specs.Int.{w128, to_le_bytes, from_le_bytes, cast_unsigned}
 use Rattle.std.specs.Prelude.{FitsSigned}
 use Rattle.scale_core.specs.Number.{number}
-use Rattle.value_core.specs.Shown.{signed_from}
+use Rattle.value_core.specs.Shown.{signed_from, long_shown}
 use Rattle.scale_core.proofs.Fronts.{to_le_bytes_16, from_le_bytes-number}
 use Rattle.scale_core.proofs.Numbers.{length-le_bytes, number-le_bytes}
 
@@ -25,9 +25,10 @@ signed_same (negsuc m) h =
     let back : 2 ^ 128 - (2 ^ 128 - suc m) ≡ suc m = omega (arith, h) in
     rw (high, back) refl
 
-pub signed_back : (z : ℤ) (n : ℕ) → FitsSigned w128 z → n ≡ cast_unsigned w128 z →
-    signed_from (from_le_bytes w128 (to_le_bytes w128 n)) ≡ z
-signed_back z n h e = ap signed_from (word_back n (rw e (Fits-of_z h).fits) ∙ e) ∙ signed_same z h
+pub signed_back : (z : ℤ) (n m : ℕ) → FitsSigned w128 z → n ≡ cast_unsigned w128 z →
+    m ≡ from_le_bytes w128 (to_le_bytes w128 n) → signed_from m ≡ z
+signed_back z n m h e same =
+    ap signed_from (same ∙ word_back n (rw e (Fits-of_z h).fits) ∙ e) ∙ signed_same z h
 
 -- a range of a list that begins where another ends
 pub slice-append : (pool more : List ℕ) (start len : ℕ) → length pool ≡ start → length more ≡ len →
@@ -38,3 +39,21 @@ slice-append pool more start len e f =
     ∙ ap (λ (k : ℕ). take (length more) (drop k (pool ++ more))) (sym e)
     ∙ ap (take (length more)) (drop-append_seam pool more)
     ∙ take_all (length more) more (omega arith)
+
+-- a long integer stands where its bytes were appended
+pub record IsPut (new : List ℕ) (start n : ℕ) : Type 0 where
+  pub shows : long_shown new start ≡ from_le_bytes w128 (to_le_bytes w128 n)
+  pub inside : start + 16 ≤ length new
+  pub long : 16 ≡ length (to_le_bytes w128 n)
+
+pub long_put : (old new : List ℕ) (start n : ℕ) → start ≡ length old →
+    new ≡ old ++ to_le_bytes w128 n → IsPut new start n
+long_put old new start n at e =
+    let long : length (to_le_bytes w128 n) ≡ 16 =
+    ap length (to_le_bytes_16 n) ∙ length-le_bytes 16 n in
+    record {
+      shows = rw e (ap (from_le_bytes w128)
+          (slice-append old (to_le_bytes w128 n) start 16 (sym at) long));
+      inside = rw e (omega (arith, at, long, length-append old (to_le_bytes w128 n)));
+      long = sym long;
+    }

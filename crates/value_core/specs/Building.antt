@@ -2,7 +2,7 @@
 use Rattle.std.specs.Prelude.{◌≡◌, ℕ, ◌+◌, ◌≤◌, ◌<◌, ◌^◌, List, length, drop, Option, Some, None, option_map}
 use Rattle.scale_core.specs.Number.{AreBytes}
 use Rattle.value_core.specs.Built.{Pieces, entries_shown, entries_text_bytes, settled_walk}
-use Rattle.value_core.specs.Shown.{cells_shown, AreInPool}
+use Rattle.value_core.specs.Shown.{cells_shown, AreInPool, all_kept}
 use Rattle.value_core.specs.Spine.{OpenNode, Spine}
 use Rattle.value_core.specs.Walked.{Walked, next_of}
 use Rattle.registry_core.specs.declared.primitive.Primitive.TheVariants as P
@@ -21,7 +21,7 @@ pub record IsBuilding (ty : ℕ) (w : Walked) (pool : List ℕ) (ns : List Node)
     pub spine : Spine w.types room ty opens w.frames (cells_shown pool ns) own
     pub inside : AreInPool pool ns
     pub texts : text_len ≡ entries_text_bytes (entries_shown pool ns)
-    pub fits : text_len ≤ length pool
+    pub fits : all_kept ns ≤ length pool
 
 -- these nodes are those of some value that is being built
 abbrev pub AreBuilt : Walked → List Node → Type 0
@@ -40,18 +40,18 @@ abbrev pub pieces_shown : List ℕ → Option OpenText → Option Pieces
 pieces_shown pool open_text =
     option_map (λ o. record { len = o.len; bytes = drop o.start pool }) open_text
 
--- it is next, has no more bytes than it is to have, and lies behind all other texts
-pub record IsOpenAt (w : Walked) (pool : List ℕ) (text_len start len : ℕ) : Type 0 where
+-- it is next, has no more bytes than it is to have, and lies behind the bytes of all nodes
+pub record IsOpenAt (w : Walked) (pool : List ℕ) (kept start len : ℕ) : Type 0 where
   pub is_next : next_of w ≡ next.Wants (form.Primitive P.Str)
   pub inside : start ≤ length pool
   pub short : length pool ≤ start + len
-  pub behind : text_len ≤ start
+  pub behind : kept ≤ start
   pub are_bytes : AreBytes (drop start pool)
   pub spelled : len < 2 ^ 32
 
 abbrev pub IsOpenText : Walked → List ℕ → ℕ → Option OpenText → Type 0
-IsOpenText w pool text_len (Some o) = IsOpenAt w pool text_len o.start o.len
-IsOpenText w pool text_len None = Unit {0}
+IsOpenText w pool kept (Some o) = IsOpenAt w pool kept o.start o.len
+IsOpenText w pool kept None = Unit {0}
 
 -- each turn of the closing loop closed a node that had been opened, so there are no more than
 -- nodes, less those still open

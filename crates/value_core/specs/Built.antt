@@ -40,7 +40,8 @@ pub record Built : Type 0 where
   pub turns : ℕ
 
 abbrev pub entries_shown : List ℕ → List Node → List Entry
-entries_shown pool ns = map (λ n. record { ty = n.ty.0; head = head_shown pool n.content }) ns
+entries_shown pool ns =
+    map (λ n. record { ty = n.ty.0; head = head_shown pool n.children n.content }) ns
 
 abbrev pub head_text_bytes : Head → ℕ
 head_text_bytes (head.leaf (tree.text s)) = length s

@@ -1,11 +1,15 @@
 -- A node without children, before it is added to a value.
-use Rattle.std.specs.Prelude.{◌≡◌, ℕ, ◌<◌, ◌^◌, List, [], length, FitsSigned}
+use Rattle.std.specs.Prelude.{◌≡◌, ℕ, ◌<◌, ◌^◌, List, [], ◌∷◌, ◌++◌, length, FitsSigned}
 use Rattle.std.specs.Int.{w128}
 use Rattle.grammar_core.specs.Preorder as head
 use Rattle.grammar_core.specs.Tree as tree
 use Rattle.grammar_core.specs.Preorder.{Head}
+use Rattle.registry_core.specs.declared.type_id.TypeId.{TypeId}
+use Rattle.value_core.specs.Shown.{head_shown, IsInPool, kept_bytes}
 use Rattle.value_core.specs.declared.leaf.Leaf.{Leaf}
 use Rattle.value_core.specs.declared.leaf.Leaf.TheVariants as leaf
+use Rattle.value_core.specs.declared.node.Content.{Content}
+use Rattle.value_core.specs.declared.node.Node.{Node}
 
 abbrev pub leaf_head : Leaf → Head
 leaf_head leaf.Empty = head.leaf tree.unit
@@ -17,12 +21,6 @@ leaf_head (leaf.Signed z) = head.leaf (tree.signed z)
 leaf_head (leaf.Wide b) = head.leaf (tree.wide b.now)
 leaf_head (leaf.Compact n) = head.leaf (tree.compact n)
 leaf_head (leaf.Count n) = head.leaf (tree.count n)
-
--- what it keeps in the pool of bytes
-abbrev pub leaf_bytes : Leaf → List ℕ
-leaf_bytes (leaf.Text s) = s.now
-leaf_bytes (leaf.Wide b) = b.now
-leaf_bytes _ = []
 
 abbrev pub leaf_text_bytes : Leaf → ℕ
 leaf_text_bytes (leaf.Text s) = length s.now
@@ -36,3 +34,19 @@ FitsLeaf (leaf.Compact n) = n < 2 ^ 128
 FitsLeaf (leaf.Signed z) = FitsSigned w128 z
 FitsLeaf (leaf.Wide b) = length b.now ≡ 32
 FitsLeaf _ = Unit {0}
+
+-- the leaf is kept as this node, and the pool has grown by what the node has there
+pub record IsKept (l : Leaf) (old new : List ℕ) (content : Content) : Type 0 where
+  pub more : List ℕ
+  pub grown : new ≡ old ++ more
+  pub shows : head_shown new 0 content ≡ leaf_head l
+  pub inside : IsInPool new content
+  pub kept : kept_bytes content ≡ length more
+
+-- and it is the last of the nodes
+pub record IsAppended (ty : TypeId) (l : Leaf) (nodes : List Node) (pool : List ℕ)
+    (new_nodes : List Node) (new_pool : List ℕ) : Type 0
+  where
+    pub content : Content
+    pub nodes_are : new_nodes ≡ nodes ++ record { ty = ty; children = 0; content = content } ∷ []
+    pub kept : IsKept l pool new_pool content

@@ -50,24 +50,63 @@ text_of _ = None
 abbrev pub signed_from : ℕ → ℤ
 signed_from n = if nat_lt (2 * n) (2 ^ 128) then pos n else neg_ℤ (pos (2 ^ 128 - n))
 
--- a node by itself, with the bytes that it has in the pool
-abbrev pub head_shown : List ℕ → Content → Head
-head_shown pool is.Empty = head.leaf tree.unit
-head_shown pool (is.Bool b) = head.leaf (tree.bool b)
-head_shown pool (is.Char c) = head.leaf (tree.char c)
-head_shown pool (is.Text start len) = head.leaf (tree.text (slice_range pool start (start + len)))
-head_shown pool (is.Unsigned b) = head.leaf (tree.unsigned (from_le_bytes w128 b))
-head_shown pool (is.Signed b) = head.leaf (tree.signed (signed_from (from_le_bytes w128 b)))
-head_shown pool (is.Wide start) = head.leaf (tree.wide (slice_range pool start (start + 32)))
-head_shown pool (is.Compact b) = head.leaf (tree.compact (from_le_bytes w128 b))
-head_shown pool (is.Count n) = head.leaf (tree.count n)
-head_shown pool (is.Fields n) = head.branch tree.fields n
-head_shown pool (is.Arm q n) = head.branch (tree.arm q) n
-head_shown pool (is.List n) = head.branch tree.list n
+-- the number of the sixteen bytes at a place of the pool
+abbrev pub long_shown : List ℕ → ℕ → ℕ
+long_shown pool start = from_le_bytes w128 (slice_range pool start (start + 16))
+
+-- a node by itself, with so many children and the bytes that it has in the pool
+abbrev pub head_shown : List ℕ → ℕ → Content → Head
+head_shown pool n is.Empty = head.leaf tree.unit
+head_shown pool n (is.Bool b) = head.leaf (tree.bool b)
+head_shown pool n (is.Char c) = head.leaf (tree.char c)
+head_shown pool n (is.Count k) = head.leaf (tree.count k)
+head_shown pool n (is.Text len start) = head.leaf (tree.text (slice_range pool start (start + len)))
+head_shown pool n (is.Unsigned k) = head.leaf (tree.unsigned k)
+head_shown pool n (is.Compact k) = head.leaf (tree.compact k)
+head_shown pool n (is.Signed z) = head.leaf (tree.signed z)
+head_shown pool n (is.LongUnsigned start) = head.leaf (tree.unsigned (long_shown pool start))
+head_shown pool n (is.LongCompact start) = head.leaf (tree.compact (long_shown pool start))
+head_shown pool n (is.LongSigned start) =
+    head.leaf (tree.signed (signed_from (long_shown pool start)))
+head_shown pool n (is.Wide start) = head.leaf (tree.wide (slice_range pool start (start + 32)))
+head_shown pool n (is.Fields size) = head.branch tree.fields n
+head_shown pool n (is.Arm q size) = head.branch (tree.arm q) n
+head_shown pool n (is.List size) = head.branch tree.list n
+
+-- how many nodes its subtree has: a leaf is one, and a node with parts tells it, 0 while it is open
+abbrev pub size_shown : Content → ℕ
+size_shown (is.Fields size) = size
+size_shown (is.Arm q size) = size
+size_shown (is.List size) = size
+size_shown _ = 1
+
+-- a node with parts, of which its subtree has so many
+abbrev pub closed_as : Content → ℕ → Content
+closed_as (is.Fields size) k = is.Fields k
+closed_as (is.Arm q size) k = is.Arm q k
+closed_as (is.List size) k = is.List k
+closed_as c k = c
+
+-- how many bytes it has in the pool
+abbrev pub kept_bytes : Content → ℕ
+kept_bytes (is.Text len start) = len
+kept_bytes (is.LongUnsigned start) = 16
+kept_bytes (is.LongCompact start) = 16
+kept_bytes (is.LongSigned start) = 16
+kept_bytes (is.Wide start) = 32
+kept_bytes _ = 0
+
+-- the same of all nodes
+abbrev pub all_kept : List Node → ℕ
+all_kept [] = 0
+all_kept (n ∷ ns) = kept_bytes n.content + all_kept ns
 
 -- its bytes lie in the pool
 abbrev pub IsInPool : List ℕ → Content → Type 0
-IsInPool pool (is.Text start len) = start + len ≤ length pool
+IsInPool pool (is.Text len start) = start + len ≤ length pool
+IsInPool pool (is.LongUnsigned start) = start + 16 ≤ length pool
+IsInPool pool (is.LongCompact start) = start + 16 ≤ length pool
+IsInPool pool (is.LongSigned start) = start + 16 ≤ length pool
 IsInPool pool (is.Wide start) = start + 32 ≤ length pool
 IsInPool pool _ = Unit {0}
 
@@ -75,14 +114,18 @@ abbrev pub AreInPool : List ℕ → List Node → Type 0
 AreInPool pool ns = AllByRecursion (λ n. IsInPool pool n.content) ns
 
 abbrev pub cell_shown : List ℕ → Node → Cell
-cell_shown pool n = record { ty = n.ty.0; head = head_shown pool n.content; size = n.size }
+cell_shown pool n = record {
+  ty = n.ty.0;
+  head = head_shown pool n.children n.content;
+  size = size_shown n.content;
+}
 
 abbrev pub cells_shown : List ℕ → List Node → List Cell
 cells_shown pool ns = map (cell_shown pool) ns
 
 -- the tree of the nodes, and the type of the first one
 abbrev pub tree_shown : List ℕ → List Node → Tree
-tree_shown pool ns = tree_of (map (λ n. head_shown pool n.content) ns)
+tree_shown pool ns = tree_of (map (λ n. head_shown pool n.children n.content) ns)
 
 abbrev pub type_shown : List Node → ℕ
 type_shown [] = 0
@@ -102,7 +145,8 @@ abbrev pub forest : List TypeInfo → List ℕ → ℕ → List Node → List Se
 forest types pool zero ns = []
 forest types pool (suc k) [] = []
 forest types pool (suc k) (n ∷ ns) =
-    seen types pool (take n.size (n ∷ ns)) ∷ forest types pool k (drop n.size (n ∷ ns))
+    let size = size_shown n.content in
+    seen types pool (take size (n ∷ ns)) ∷ forest types pool k (drop size (n ∷ ns))
 
 abbrev pub all_seen : List TypeInfo → List ℕ → List Node → List Seen
 all_seen types pool ns = forest types pool (length ns) ns

@@ -5,10 +5,10 @@ ghost use Rattle.value_core.specs.Begun.{IsBegun};
 ghost use Rattle.value_core.specs.Building.{AreBuilt, Settles};
 ghost use Rattle.value_core.specs.Built.{IsSettled, built_text_bytes, closings, finished, settled_walk, with_leaf, with_open, with_piece, with_text_ended, with_text_opened, pieces_bytes, IsNextLeaf, IsNextOpen};
 ghost use Rattle.value_core.specs.Frames.{left_of};
-ghost use Rattle.value_core.specs.Shown.{head_shown};
+ghost use Rattle.value_core.specs.Shown.{head_shown, size_shown};
 ghost use Rattle.value_core.specs.Refusals.{Finishes, Opens, missing_of, other_fault, text_fault, wanted_of, is_whole, opening_fault};
 ghost use Rattle.value_core.specs.Walked.{advanced, next_of, opened, start_of};
-ghost use Rattle.value_core.specs.Leaves.{leaf_head, FitsLeaf};
+ghost use Rattle.value_core.specs.Leaves.{leaf_head, FitsLeaf, IsAppended};
 
 use crate::build_fault::BuildFault;
 use crate::leaf::Leaf;
@@ -40,12 +40,13 @@ pub struct Builder<'r, A: Allocator> {
 impl<'r, A: Allocator> Model for Builder<'r, A> {
     ghost use Rattle.value_core.specs.Built.{Built, IsSettled, entries_shown};
     ghost use Rattle.value_core.specs.Building.{IsBuilding, IsOpenText, IsPaid, pieces_shown};
+    ghost use Rattle.value_core.specs.Shown.{all_kept};
 
     ghost Value = { Built };
 
     ghost view = { λ b. record { ty = b.root.0; walk = b.walk; entries = entries_shown b.pool.items b.nodes.items; text = pieces_shown b.pool.items b.open_text; turns = b.turns.so_far } };
 
-    ghost invariant = { λ b. IsBuilding b.root.0 b.walk b.pool.items b.nodes.items b.text_len × IsOpenText b.walk b.pool.items b.text_len b.open_text × IsSettled b.walk × IsPaid b.walk b.nodes.items b.turns.so_far };
+    ghost invariant = { λ b. IsBuilding b.root.0 b.walk b.pool.items b.nodes.items b.text_len × IsOpenText b.walk b.pool.items (all_kept b.nodes.items) b.open_text × IsSettled b.walk × IsPaid b.walk b.nodes.items b.turns.so_far };
 }
 
 /// The refusal of a call that is not the one for what comes next.
@@ -66,19 +67,34 @@ fn extend<A: Allocator>(pool: &mut Vec<u8, A>, bytes: &[u8]) -> Result<(), Alloc
     pool.extend_from_slice(bytes)
 }
 
-/// Appends a node and the bytes that it has in the pool: both, or where memory is refused neither.
+/// Appends a node without children, and to the pool what does not fit it: both, or where memory is refused neither.
 fn append<A: Allocator>(
     nodes: &mut Vec<Node, A>,
     pool: &mut Vec<u8, A>,
-    node: Node,
-    bytes: &[u8],
+    ty: TypeId,
+    leaf: Leaf<'_>,
 ) -> Result<(), AllocError>
-    ensures nodes { OnOk result (nodes.new.items ≡ nodes.old.items ++ node ∷ []) }
-    ensures pool { OnOk result (pool.new.items ≡ pool.old.items ++ bytes.now) }
+    requires { FitsLeaf leaf }
+    ensures ok { OnOk result (IsAppended ty leaf.entry nodes.old.items pool.old.items nodes.new.items pool.new.items) }
     ensures err { OnErr result ((nodes.new.items ≡ nodes.old.items) × (pool.new.items ≡ pool.old.items)) }
 {
     nodes.reserve(1)?;
-    pool.extend_from_slice(bytes)?;
+    let content = leaf.keep(pool)?;
+    let node = Node {
+        ty,
+        children: 0,
+        content,
+    };
+    nodes.push(node).unwrap();
+    Ok(())
+}
+
+/// Appends a node: it, or where memory is refused nothing.
+fn append_node<A: Allocator>(nodes: &mut Vec<Node, A>, node: Node) -> Result<(), AllocError>
+    ensures ok { OnOk result (nodes.new.items ≡ nodes.old.items ++ node ∷ []) }
+    ensures err { OnErr result (nodes.new.items ≡ nodes.old.items) }
+{
+    nodes.reserve(1)?;
     nodes.push(node).unwrap();
     Ok(())
 }
@@ -112,7 +128,7 @@ fn close_one<A: Allocator>(walk: &mut Walk<'_, A>, nodes: &mut Vec<Node, A>) -> 
         return false;
     };
     let size = nodes.as_slice().len() - place;
-    nodes[place].size = size;
+    nodes[place].content.close(size);
     true
 }
 
@@ -197,7 +213,7 @@ impl<'r, A: Allocator> Builder<'r, A> {
         self.nodes.as_slice().len() as u64
     }
 
-    /// How many bytes of text it holds, those that came of an open text too; 256-bit integers are no texts.
+    /// How many bytes of text it holds, those that came of an open text too; long integers are no texts.
     pub fn text_bytes(&self) -> u64
         ensures count { result ≡ built_text_bytes self.now }
         ensures begun { IsBegun self.now }
@@ -240,13 +256,7 @@ impl<'r, A: Allocator> Builder<'r, A> {
         let Some(ty) = self.walk.next_type() else {
             unreachable!()
         };
-        let content = leaf.content(self.pool.as_slice().len());
-        let node = Node {
-            ty,
-            content,
-            size: 1,
-        };
-        append(&mut self.nodes, &mut self.pool, node, leaf.bytes())?;
+        append(&mut self.nodes, &mut self.pool, ty, leaf)?;
         self.text_len += leaf.text_len();
         self.walk.advance();
         settle(&mut self.walk, &mut self.nodes, &mut self.turns);
@@ -256,8 +266,9 @@ impl<'r, A: Allocator> Builder<'r, A> {
     /// Adds a node whose children come next, for the value of the next type. Where memory is refused nothing changes.
     pub(crate) fn add_open(&mut self, content: Content, left: Left) -> Result<(), AllocError>
         requires closed { self.old.text ≡ None }
-        requires next { IsNextOpen self.old.walk (head_shown [] content) (left_of self.old.walk.types left) }
-        ensures ok { OnOk result (self.new ≡ with_open self.old (head_shown [] content) (left_of self.old.walk.types left)) }
+        requires opened { size_shown content ≡ 0 }
+        requires next { IsNextOpen self.old.walk (head_shown [] left.count content) (left_of self.old.walk.types left) }
+        ensures ok { OnOk result (self.new ≡ with_open self.old (head_shown [] left.count content) (left_of self.old.walk.types left)) }
         ensures err { OnErr result (self.new ≡ self.old) }
     {
         let Some(ty) = self.walk.next_type() else {
@@ -265,8 +276,8 @@ impl<'r, A: Allocator> Builder<'r, A> {
         };
         let node = Node {
             ty,
+            children: left.count,
             content,
-            size: 0,
         };
         open_node(&mut self.nodes, &mut self.walk, node, left)?;
         settle(&mut self.walk, &mut self.nodes, &mut self.turns);
@@ -339,10 +350,10 @@ impl<'r, A: Allocator> Builder<'r, A> {
         };
         let node = Node {
             ty,
+            children: 0,
             content,
-            size: 1,
         };
-        append(&mut self.nodes, &mut self.pool, node, &[])?;
+        append_node(&mut self.nodes, node)?;
         self.text_len += text.len as usize;
         self.open_text = None;
         self.walk.advance();

@@ -55,7 +55,7 @@ impl<'v, 'r> Iterator for Children<'v, 'r> {
 
     fn next(&mut self) -> Option<NodeRef<'v, 'r>> {
         let first = self.nodes.first()?;
-        let (subtree, rest) = self.nodes.split_at(first.size);
+        let (subtree, rest) = self.nodes.split_at(first.content.size());
         self.nodes = rest;
         Some(NodeRef::new(self.checked, subtree, self.pool))
     }

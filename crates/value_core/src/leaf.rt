@@ -1,10 +1,11 @@
 //! A node without children, before it is added to a value.
 
-ghost use Rattle.std.specs.Prelude.{◌≡◌, ◌++◌, ℕ, List, length};
-ghost use Rattle.value_core.specs.Leaves.{leaf_head, leaf_bytes, leaf_text_bytes, FitsLeaf};
-ghost use Rattle.value_core.specs.Shown.{head_shown, IsInPool};
+ghost use Rattle.std.specs.Prelude.{◌≡◌, IfOk, IfErr, IfSome};
+ghost use Rattle.value_core.specs.Leaves.{leaf_text_bytes, FitsLeaf, IsKept};
 
 use crate::node::Content;
+use crate::pool::put_long;
+use std::alloc::{AllocError, Allocator};
 
 /// A node without children, before it is added to a value.
 #[derive(Clone, Copy)]
@@ -29,18 +30,29 @@ pub enum Leaf<'b> {
     Count(u32),
 }
 
-impl<'b> Leaf<'b> {
-    /// What it keeps in the pool.
-    pub(crate) fn bytes(self) -> &'b [u8]
-        ensures { result.now ≡ leaf_bytes self.entry }
-    {
-        match self {
-            Leaf::Text(bytes) => bytes,
-            Leaf::Wide(bytes) => bytes,
-            _ => &[],
-        }
+/// The same number in 64 bits, where it fits.
+fn short(number: u128) -> Option<u64>
+    ensures { IfSome result (λ n. n ≡ number) }
+{
+    if number <= u128::from(u64::MAX) {
+        Some(number as u64)
+    } else {
+        None
     }
+}
 
+/// The same number in 64 bits, where it fits.
+fn short_signed(number: i128) -> Option<i64>
+    ensures { IfSome result (λ z. z ≡ number) }
+{
+    if i128::from(i64::MIN) <= number && number <= i128::from(i64::MAX) {
+        Some(number as i64)
+    } else {
+        None
+    }
+}
+
+impl<'b> Leaf<'b> {
     /// How many bytes of text it has.
     pub(crate) fn text_len(self) -> usize
         ensures { result ≡ leaf_text_bytes self.entry }
@@ -51,25 +63,48 @@ impl<'b> Leaf<'b> {
         }
     }
 
-    /// What it is as a node whose bytes stand at this place of the pool.
-    pub(crate) fn content(self, start: usize) -> Content
+    /// What it is as a node, with what does not fit the node appended to the pool. Where memory is refused nothing
+    /// changes.
+    pub(crate) fn keep<A: Allocator>(self, pool: &mut Vec<u8, A>) -> Result<Content, AllocError>
         requires { FitsLeaf self }
-        ensures shows { (pool : List ℕ) → length pool ≡ start → head_shown (pool ++ leaf_bytes self.entry) result ≡ leaf_head self.entry }
-        ensures inside { (pool : List ℕ) → length pool ≡ start → IsInPool (pool ++ leaf_bytes self.entry) result }
+        ensures ok { IfOk result (λ content. IsKept self.entry pool.old.items pool.new.items content) }
+        ensures err { IfErr result (λ _. pool.new.items ≡ pool.old.items) }
     {
+        let start = pool.as_slice().len();
         match self {
-            Leaf::Empty => Content::Empty,
-            Leaf::Bool(x) => Content::Bool(x),
-            Leaf::Char(x) => Content::Char(x),
-            Leaf::Text(bytes) => Content::Text {
-                start,
-                len: bytes.len() as u32,
+            Leaf::Empty => Ok(Content::Empty),
+            Leaf::Bool(x) => Ok(Content::Bool(x)),
+            Leaf::Char(x) => Ok(Content::Char(x)),
+            Leaf::Count(x) => Ok(Content::Count(x)),
+            Leaf::Text(bytes) => {
+                pool.extend_from_slice(bytes)?;
+                Ok(Content::Text {
+                    start,
+                    len: bytes.len() as u32,
+                })
+            }
+            Leaf::Wide(bytes) => {
+                pool.extend_from_slice(bytes)?;
+                Ok(Content::Wide { start })
+            }
+            Leaf::Unsigned(x) => match short(x) {
+                Some(x) => Ok(Content::Unsigned(x)),
+                None => Ok(Content::LongUnsigned {
+                    start: put_long(pool, x)?,
+                }),
             },
-            Leaf::Unsigned(x) => Content::Unsigned(x.to_le_bytes()),
-            Leaf::Signed(x) => Content::Signed(x.cast_unsigned().to_le_bytes()),
-            Leaf::Wide(_) => Content::Wide { start },
-            Leaf::Compact(x) => Content::Compact(x.to_le_bytes()),
-            Leaf::Count(x) => Content::Count(x),
+            Leaf::Compact(x) => match short(x) {
+                Some(x) => Ok(Content::Compact(x)),
+                None => Ok(Content::LongCompact {
+                    start: put_long(pool, x)?,
+                }),
+            },
+            Leaf::Signed(x) => match short_signed(x) {
+                Some(x) => Ok(Content::Signed(x)),
+                None => Ok(Content::LongSigned {
+                    start: put_long(pool, x.cast_unsigned())?,
+                }),
+            },
         }
     }
 }

@@ -11,6 +11,7 @@ mod node;
 mod node_ref;
 mod open_text;
 mod opening;
+mod pool;
 mod text_calls;
 mod value;
 mod walk;

@@ -1,35 +1,69 @@
 //! A node of a value as it is kept.
 
+ghost use Rattle.std.specs.Prelude.{◌≡◌};
+ghost use Rattle.value_core.specs.Shown.{size_shown, closed_as};
+
 use registry_core::TypeId;
 
 /// How many bytes of memory a node of a value or a builder takes, whatever it is. Beside its nodes a value has the bytes
-/// of its texts, and 32 for each 256-bit integer; vectors may have room for as much again while they grow.
-pub const NODE_BYTES: usize = 40;
+/// of its texts, 32 for each 256-bit integer, and 16 for each other integer that does not fit 64 bits; vectors may have
+/// room for as much again while they grow.
+pub const NODE_BYTES: usize = 24;
 
 const _: () = prove!(size_of::<Node>() == NODE_BYTES);
 
-/// What a node is, with integers as their sixteen bytes, the lowest first, and texts and wide integers by their place
-/// in the pool of bytes.
+/// What a node is, with its number where that fits 64 bits. Texts and longer integers are told by their place in the pool
+/// of bytes, where an integer has its lowest byte first: sixteen bytes of a long one, 32 of a wide one.
+///
+/// A node with parts tells how many nodes its subtree has: 0 while it is open. Numbers of four bytes stand in front of
+/// those of eight, so that they share a word with the mark of the variant.
 #[derive(Clone, Copy)]
 pub(crate) enum Content {
     Empty,
     Bool(bool),
     Char(char),
-    Text { start: usize, len: u32 },
-    Unsigned([u8; 16]),
-    Signed([u8; 16]),
-    Wide { start: usize },
-    Compact([u8; 16]),
-    Fields { children: usize },
-    Arm { position: u32, children: usize },
-    List { children: u32 },
     Count(u32),
+    Text { len: u32, start: usize },
+    Unsigned(u64),
+    Compact(u64),
+    Signed(i64),
+    LongUnsigned { start: usize },
+    LongCompact { start: usize },
+    LongSigned { start: usize },
+    Wide { start: usize },
+    Fields { size: usize },
+    Arm { position: u32, size: usize },
+    List { size: usize },
 }
 
-/// A node, with the number of nodes of its subtree: 0 while it is open.
+/// A node: its type, how many children it has, and what it is.
 #[derive(Clone, Copy)]
 pub(crate) struct Node {
     pub(crate) ty: TypeId,
+    pub(crate) children: u32,
     pub(crate) content: Content,
-    pub(crate) size: usize,
+}
+
+impl Content {
+    /// How many nodes the subtree has: 1 of a leaf, and 0 of a node that is open.
+    pub(crate) fn size(&self) -> usize
+        ensures { result ≡ size_shown self.now }
+    {
+        match *self {
+            Content::Fields { size } | Content::Arm { size, .. } | Content::List { size } => size,
+            _ => 1,
+        }
+    }
+
+    /// The subtree has so many nodes; that of a leaf stays as it is.
+    pub(crate) fn close(&mut self, nodes: usize)
+        ensures { self.new ≡ closed_as self.old nodes }
+    {
+        match self {
+            Content::Fields { size } => *size = nodes,
+            Content::Arm { size, .. } => *size = nodes,
+            Content::List { size } => *size = nodes,
+            _ => {}
+        }
+    }
 }

@@ -6,6 +6,7 @@ ghost use Rattle.value_core.specs.Whats.{what_of};
 
 use crate::children::Children;
 use crate::node::{Content, Node};
+use crate::pool::long_at;
 use crate::what::What;
 use registry_core::TypeId;
 use std::marker::Model;
@@ -64,14 +65,17 @@ impl<'v, 'r> NodeRef<'v, 'r> {
             Content::Bool(x) => What::Bool(x),
             Content::Char(x) => What::Char(x),
             Content::Text { .. } => What::Text,
-            Content::Unsigned(bytes) => What::Unsigned(u128::from_le_bytes(bytes)),
-            Content::Signed(bytes) => What::Signed(u128::from_le_bytes(bytes).cast_signed()),
+            Content::Unsigned(x) => What::Unsigned(u128::from(x)),
+            Content::Compact(x) => What::Compact(u128::from(x)),
+            Content::Signed(x) => What::Signed(i128::from(x)),
+            Content::LongUnsigned { start } => What::Unsigned(long_at(self.pool, start)),
+            Content::LongCompact { start } => What::Compact(long_at(self.pool, start)),
+            Content::LongSigned { start } => What::Signed(long_at(self.pool, start).cast_signed()),
             Content::Wide { start } => {
                 let mut bytes = [0; 32];
                 bytes.copy_from_slice(&self.pool[start..start + 32]);
                 What::Wide(bytes)
             }
-            Content::Compact(bytes) => What::Compact(u128::from_le_bytes(bytes)),
             Content::Fields { .. } => What::Fields,
             Content::Arm { position, .. } => What::Arm { position },
             Content::List { .. } => What::List,

@@ -20,8 +20,7 @@ impl<'r, A: Allocator> Builder<'r, A> {
         ensures err { OnErr result (self.new ≡ self.old) }
     {
         let left = self.walk().fields();
-        let children = left.count as usize;
-        self.add_open(Content::Fields { children }, left)
+        self.add_open(Content::Fields { size: 0 }, left)
     }
 
     /// Adds a variant, which the caller knows to be next, by the index of its arm: what `arm` does once it has judged.
@@ -38,8 +37,7 @@ impl<'r, A: Allocator> Builder<'r, A> {
         let Some((position, left)) = self.walk().arm(index) else {
             return Ok(false);
         };
-        let children = left.count as usize;
-        self.add_open(Content::Arm { position, children }, left)?;
+        self.add_open(Content::Arm { position, size: 0 }, left)?;
         Ok(true)
     }
 
@@ -52,6 +50,6 @@ impl<'r, A: Allocator> Builder<'r, A> {
         ensures err { OnErr result (self.new ≡ self.old) }
     {
         let left = self.walk().elements(count);
-        self.add_open(Content::List { children: count }, left)
+        self.add_open(Content::List { size: 0 }, left)
     }
 }

@@ -2,7 +2,7 @@
 
 ghost use Rattle.std.specs.Prelude.{◌≡◌, ◌≤◌, length};
 ghost use Rattle.grammar_core.specs.Tree.{nodes, text_bytes};
-ghost use Rattle.value_core.specs.Shown.{IsValue, IsWhole, seen, tree_shown};
+ghost use Rattle.value_core.specs.Shown.{IsValue, IsWhole, all_kept, seen, tree_shown};
 
 use crate::node::Node;
 use crate::node_ref::NodeRef;
@@ -11,7 +11,7 @@ use std::marker::Model;
 use widths_core::Checked;
 
 /// A value of a type of a checked registry: a flat list of its nodes, each before its children, and a pool of the bytes
-/// of its texts and of its 256-bit integers. A node takes `NODE_BYTES` bytes of memory. Dropping it drops these two.
+/// of its texts and of its integers that do not fit 64 bits. A node takes `NODE_BYTES` bytes of memory. Dropping it drops these two.
 #[derive(Drop)]
 pub struct Value<'r, A: Allocator> {
     checked: &'r Checked,
@@ -25,7 +25,7 @@ impl<'r, A: Allocator> Model for Value<'r, A> {
     ghost use Rattle.std.specs.Prelude.{◌≡◌, ◌≤◌, length};
     ghost use Rattle.grammar_core.specs.Tree.{text_bytes};
     ghost use Rattle.grammar_core.specs.Preorder.{tree_code};
-    ghost use Rattle.value_core.specs.Shown.{Seen, seen, tree_shown, IsWhole};
+    ghost use Rattle.value_core.specs.Shown.{Seen, seen, tree_shown, IsWhole, all_kept};
 
     ghost Value = { Seen };
 
@@ -33,7 +33,7 @@ impl<'r, A: Allocator> Model for Value<'r, A> {
 
     ghost view = { λ v. seen v.checked.now.types v.pool.items v.nodes.items };
 
-    ghost invariant = { λ v. IsWhole v.checked.now.types v.pool.items v.nodes.items × (v.text_len ≡ text_bytes (tree_shown v.pool.items v.nodes.items)) × (v.text_len ≤ length v.pool.items) };
+    ghost invariant = { λ v. IsWhole v.checked.now.types v.pool.items v.nodes.items × (v.text_len ≡ text_bytes (tree_shown v.pool.items v.nodes.items)) × (all_kept v.nodes.items ≤ length v.pool.items) };
 }
 
 impl<'r, A: Allocator> Value<'r, A> {
@@ -46,7 +46,7 @@ impl<'r, A: Allocator> Value<'r, A> {
     ) -> Value<'r, A>
         requires whole { IsWhole checked.now.types pool.items nodes.items }
         requires texts { text_len ≡ text_bytes (tree_shown pool.items nodes.items) }
-        requires fits { text_len ≤ length pool.items }
+        requires fits { all_kept nodes.items ≤ length pool.items }
         ensures { result ≡ seen checked.now.types pool.items nodes.items }
     {
         Value {
@@ -72,11 +72,11 @@ impl<'r, A: Allocator> Value<'r, A> {
         NodeRef::new(self.checked, &self.nodes, &self.pool)
     }
 
-    /// Its nodes, each before its children, and the pool of the bytes of their texts and 256-bit integers, lent.
+    /// Its nodes, each before its children, and the pool of the bytes of their texts and long integers, lent.
     pub(crate) fn parts(&self) -> (&[Node], &[u8])
         ensures whole { IsWhole self.now.types result.1.now result.0.now }
         ensures same { seen self.now.types result.1.now result.0.now ≡ self.now }
-        ensures fits { text_bytes self.now.tree ≤ length result.1.now }
+        ensures fits { all_kept result.0.now ≤ length result.1.now }
     {
         (self.nodes.as_slice(), self.pool.as_slice())
     }

@@ -1,16 +1,15 @@
 //! A value's bytes, written to a sink.
 
 ghost use Rattle.std.specs.Prelude.{◌≡◌, ◌≤◌, ◌<◌, ◌+◌, ◌^◌, ◌||◌, [], true, length, take, IfOk, IfErr, OnOk, is_ok, not};
-ghost use Rattle.std.specs.Int.{w128, from_le_bytes};
 ghost use Rattle.std.specs.Io.KnownBytes.{Appends};
 ghost use Rattle.scale_core.specs.Number.{le_bytes};
 ghost use Rattle.graph_core.specs.Types.{shape};
 ghost use Rattle.grammar_core.specs.Spelled.{byte_width, width_of, index_of, index_byte, is_sequence, length_bytes};
-ghost use Rattle.value_core.specs.Built.{head_text_bytes};
-ghost use Rattle.value_core.specs.Shown.{IsInPool, head_shown};
+ghost use Rattle.value_core.specs.Shown.{IsInPool, kept_bytes};
 ghost use Rattle.value_core.specs.Encoding.{node_bytes, pool_bytes, Starts, encoding, IsEncoding};
 
 use crate::node::{Content, Node};
+use crate::pool::long_at;
 use crate::value::Value;
 use grammar_core::shape;
 use registry_core::{Primitive, PrimitiveKind, TypeDef, TypeId};
@@ -70,13 +69,12 @@ fn is_sequence(checked: &Checked, ty: TypeId) -> bool
 }
 
 /// Puts the low bytes of an integer's sixteen, as many as its type has, at the front of the array: how many they are.
-fn put_integer(checked: &Checked, ty: TypeId, bytes: [u8; 16], out: &mut [u8; 17]) -> usize
+fn put_integer(checked: &Checked, ty: TypeId, number: u128, out: &mut [u8; 17]) -> usize
     ensures bound { result ≤ 17 }
-    ensures bytes { take result out.new ≡ le_bytes (width_of (shape checked.now.types ty.0)) (from_le_bytes w128 bytes) }
-    ensures range { from_le_bytes w128 bytes < 2 ^ 128 }
+    ensures bytes { take result out.new ≡ le_bytes (width_of (shape checked.now.types ty.0)) number }
+    ensures range { number < 2 ^ 128 }
 {
     let width = width_of(checked, ty);
-    let number = u128::from_le_bytes(bytes);
     out[..width].copy_from_slice(&number.to_le_bytes()[..width]);
     width
 }
@@ -108,10 +106,12 @@ fn put_length(checked: &Checked, ty: TypeId, length: u32, out: &mut [u8; 17]) ->
     }
 }
 
-/// Puts the bytes of a node that do not lie in the pool at the front of the array: how many they are.
-fn put_node(checked: &Checked, node: &Node, out: &mut [u8; 17]) -> usize
+/// Puts the bytes of a node in front of those that lie in the pool as they are at the front of the array: how many they
+/// are.
+fn put_node(checked: &Checked, node: &Node, pool: &[u8], out: &mut [u8; 17]) -> usize
+    requires { IsInPool pool.now node.now.content }
     ensures bound { result ≤ 17 }
-    ensures bytes { Starts (take result out.new) (shape checked.now.types node.now.ty.0) node.now.content }
+    ensures bytes { Starts (take result out.new) (shape checked.now.types node.now.ty.0) pool.now node.now.children node.now.content }
 {
     match node.content {
         Content::Empty | Content::Fields { .. } | Content::Wide { .. } => 0,
@@ -124,16 +124,21 @@ fn put_node(checked: &Checked, node: &Node, out: &mut [u8; 17]) -> usize
             4
         }
         Content::Text { len, .. } => put_compact(u128::from(len), out),
-        Content::Unsigned(bytes) => put_integer(checked, node.ty, bytes, out),
-        Content::Signed(bytes) => put_integer(checked, node.ty, bytes, out),
-        Content::Compact(bytes) => put_compact(u128::from_le_bytes(bytes), out),
+        Content::Unsigned(x) => put_integer(checked, node.ty, u128::from(x), out),
+        Content::Compact(x) => put_compact(u128::from(x), out),
+        Content::Signed(x) => put_integer(checked, node.ty, i128::from(x).cast_unsigned(), out),
+        Content::LongUnsigned { start } => {
+            put_integer(checked, node.ty, long_at(pool, start), out)
+        }
+        Content::LongCompact { start } => put_compact(long_at(pool, start), out),
+        Content::LongSigned { start } => put_integer(checked, node.ty, long_at(pool, start), out),
         Content::Arm { position, .. } => put_index(checked, node.ty, position, out),
-        Content::List { children } => put_length(checked, node.ty, children, out),
+        Content::List { .. } => put_length(checked, node.ty, node.children, out),
         Content::Count(count) => put_compact(u128::from(count), out),
     }
 }
 
-/// The bytes of a node that lie in the pool.
+/// The bytes of a node that lie in the pool as they are written.
 fn pooled<'v>(node: &Node, pool: &'v [u8]) -> &'v [u8]
     requires { IsInPool pool.now node.now.content }
     ensures { result.now ≡ pool_bytes pool.now node.now.content }
@@ -185,7 +190,7 @@ fn send_node<W: Write>(
 ) -> Result<u64, WriteFault>
     requires { IsInPool pool.now node.now.content }
     ensures count { IfOk result (λ n. n ≡ length (node_bytes checked.now.types pool.now node.now)) }
-    ensures bound { length (node_bytes checked.now.types pool.now node.now) ≤ 32 + head_text_bytes (head_shown pool.now node.now.content) }
+    ensures bound { length (node_bytes checked.now.types pool.now node.now) ≤ 17 + kept_bytes node.now.content }
     ensures ok { OnOk result (Appends (W.contents sink.old.device) (W.contents sink.new.device) (node_bytes checked.now.types pool.now node.now)) }
     ensures part { IfErr result (λ f. f.written ≤ length (node_bytes checked.now.types pool.now node.now)) }
     ensures err { IfErr result (λ f. Appends (W.contents sink.old.device) (W.contents sink.new.device) (take f.written (node_bytes checked.now.types pool.now node.now))) }
@@ -193,7 +198,7 @@ fn send_node<W: Write>(
     ensures none { length (node_bytes checked.now.types pool.now node.now) ≡ 0 → (sink.new ≡ sink.old) × (is_ok result ≡ true) }
 {
     let mut front = [0; 17];
-    let len = put_node(checked, node, &mut front);
+    let len = put_node(checked, node, pool, &mut front);
     send(sink, &front[..len])?;
     let back = pooled(node, pool);
     match send(sink, back) {

@@ -12,6 +12,8 @@ mod builder_texts;
 #[cfg(test)]
 mod encoder_devices;
 #[cfg(test)]
+mod long_numbers;
+#[cfg(test)]
 mod row;
 #[cfg(test)]
 mod values;

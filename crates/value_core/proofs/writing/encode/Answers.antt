@@ -14,35 +14,32 @@ returns-in-Err-clause-value g c =
 pub overflow_add-written : goal.overflow_add-written
 overflow_add-written g c =
     let small : length c.parts.result.1.now < 2 ^ 63 = search rules in
-    let few : length c.parts.result.0.now * 40 < 2 ^ 63 = search rules in
+    let few : length c.parts.result.0.now * 24 < 2 ^ 63 = search rules in
     let fits : c.nodes.written + c.in-Ok.sent < 2 ^ 64 =
-    (is_few _ _ c.parts.result.1.now c.parts.result.0.now _ c.nodes.node-index _ c.nodes.written
-    c.in-Ok.sent c.checked.ensures c.parts.ensures.whole c.parts.ensures.same
-    c.parts.ensures.fits small few c.nodes-test.true
+    (is_few c.parts.result.0.now c.nodes.node-index _ c.nodes.written c.in-Ok.sent _
+    (length c.parts.result.1.now) c.parts.ensures.fits small few c.nodes-test.true
     c.nodes.invariant.few (omega (arith, c.in-Ok.ensures.count)) c.in-Ok.ensures.bound).fits in
     search rules
 
 pub overflow_add-result : goal.overflow_add-result
 overflow_add-result g c =
     let small : length c.parts.result.1.now < 2 ^ 63 = search rules in
-    let few : length c.parts.result.0.now * 40 < 2 ^ 63 = search rules in
+    let few : length c.parts.result.0.now * 24 < 2 ^ 63 = search rules in
     let fits : c.nodes.written + c.in-Err.fault.written < 2 ^ 64 =
-    (is_few _ _ c.parts.result.1.now c.parts.result.0.now _ c.nodes.node-index _ c.nodes.written
-    c.in-Err.fault.written c.checked.ensures c.parts.ensures.whole c.parts.ensures.same
-    c.parts.ensures.fits small few c.nodes-test.true
+    (is_few c.parts.result.0.now c.nodes.node-index _ c.nodes.written c.in-Err.fault.written _
+    (length c.parts.result.1.now) c.parts.ensures.fits small few c.nodes-test.true
     c.nodes.invariant.few c.in-Err.ensures.part c.in-Err.ensures.bound).fits in
     search rules
 
 pub nodes-preserved : goal.nodes-preserved
 nodes-preserved g c =
     let small : length c.parts.result.1.now < 2 ^ 63 = search rules in
-    let few : length c.parts.result.0.now * 40 < 2 ^ 63 = search rules in
+    let few : length c.parts.result.0.now * 24 < 2 ^ 63 = search rules in
     record {
       sent = grind (arith, common_steps);
       written = grind (arith, common_steps);
-      few = (is_few _ _ c.parts.result.1.now c.parts.result.0.now _ c.nodes.node-index _
-          c.nodes.written c.in-Ok.sent c.checked.ensures c.parts.ensures.whole c.parts.ensures.same
-          c.parts.ensures.fits small few c.nodes-test.true
+      few = (is_few c.parts.result.0.now c.nodes.node-index _ c.nodes.written c.in-Ok.sent _
+          (length c.parts.result.1.now) c.parts.ensures.fits small few c.nodes-test.true
           c.nodes.invariant.few (omega (arith, c.in-Ok.ensures.count)) c.in-Ok.ensures.bound).few;
       quiet = grind (arith, common_steps);
       none = grind (arith, common_steps);

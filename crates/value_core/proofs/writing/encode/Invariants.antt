@@ -1,6 +1,6 @@
 use Rattle.std.proofs.Common.{◌≡◌, ◌+◌, ◌*◌, ◌≤◌, length, take, flat_map}
 use Rattle.std.specs.Io.KnownBytes.{Appends}
-use Rattle.value_core.specs.Built.{entries_shown, entries_text_bytes}
+use Rattle.value_core.specs.Shown.{all_kept}
 use Rattle.value_core.specs.Encoding.{node_bytes}
 use Rattle.value_core.proofs.writing.encode.Given as goal
 
@@ -11,8 +11,7 @@ invariant-nodes g l =
           (flat_map (node_bytes l.value.types l.pool) (take l.node-index l.nodes));
       written : l.written ≡ length
           (flat_map (node_bytes l.value.types l.pool) (take l.node-index l.nodes));
-      few : l.written ≤ 32 * l.node-index + entries_text_bytes
-          (entries_shown l.pool (take l.node-index l.nodes));
+      few : l.written ≤ 17 * l.node-index + all_kept (take l.node-index l.nodes);
       quiet : l.sink.failed ≡ l.fn.sink.failed;
       none : length (flat_map (node_bytes l.value.types l.pool) (take l.node-index l.nodes)) ≡ 0 →
           l.sink ≡ l.fn.sink;

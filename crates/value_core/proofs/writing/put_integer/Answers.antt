@@ -1,5 +1,4 @@
 use Rattle.std.proofs.Common.{ap, ◌∙◌, ℕ}
-use Rattle.std.specs.Int.{w128, from_le_bytes}
 use Rattle.scale_core.specs.Number.{le_bytes}
 use Rattle.value_core.proofs.SpelledNodes.{integer_front}
 use Rattle.value_core.proofs.writing.put_integer.Goals as goal
@@ -7,7 +6,6 @@ use Rattle.value_core.proofs.writing.put_integer.Goals as goal
 pub returns-clause-bytes : goal.returns-clause-bytes
 returns-clause-bytes c =
     integer_front c.copy_from_slice.new.self _ c.to_le_bytes.result c.width_of-width.result
-    c.from_le_bytes-number.result c.width_of-width.ensures.bound c.copy_from_slice.ensures.after
+    c.args.number c.width_of-width.ensures.bound c.copy_from_slice.ensures.after
     c.to_le_bytes.ensures
-    ∙ ap (le_bytes c.width_of-width.result) c.from_le_bytes-number.ensures
-    ∙ ap (λ (k : ℕ). le_bytes k (from_le_bytes w128 c.args.bytes)) c.width_of-width.ensures.exact
+    ∙ ap (λ (k : ℕ). le_bytes k c.args.number) c.width_of-width.ensures.exact

@@ -1,4 +1,4 @@
-use Rattle.std.proofs.Common.{◌≡◌, ◌∙◌, sym, ap, subst, [], length, refl}
+use Rattle.std.proofs.Common.{◌≡◌, ◌∙◌, sym, ap, subst, [], length}
 use Rattle.std.proofs.lemmas.Option.{same_Some}
 use Rattle.value_core.specs.Built.{Built, IsNextOpen}
 use Rattle.value_core.specs.Frames.{left_of}
@@ -10,14 +10,19 @@ use Rattle.value_core.proofs.builder.Builder.add_open.Goals as goal
 
 pub settle-requires : goal.settle-requires
 settle-requires g c =
-    let l : IsNextOpen c.self.inside.walk (head_shown [] c.args.content) (left_of c.self.inside.walk.types c.args.left) =
-    subst (λ (b : Built). IsNextOpen b.walk (head_shown [] c.args.content)
+    let l : IsNextOpen c.self.inside.walk (head_shown [] c.args.left.count c.args.content)
+    (left_of c.self.inside.walk.types c.args.left) =
+    subst (λ (b : Built). IsNextOpen b.walk (head_shown [] c.args.left.count c.args.content)
     (left_of b.walk.types c.args.left)) (sym c.self.view_is) c.requires.next in
-    let n : Node = record { ty = c.in-Some.ty; content = c.args.content; size = 0 } in
+    let n : Node = record {
+      ty = c.in-Some.ty;
+      children = c.args.left.count;
+      content = c.args.content;
+    } in
     let at : n.ty.0 ≡ l.ty = same_Some n.ty.0 l.ty (c.in-Some.ensures ∙ l.next) in
     let b = open_added c.self.inside.root.0 c.self.inside.walk c.self.inside.pool.items
     c.self.inside.nodes.items n c.self.inside.text_len (left_of c.self.inside.walk.types c.args.left) c.self.invariant.0
-    l at refl in (
+    l at c.requires.opened in (
       c.self.inside.root.0,
       c.self.inside.pool.items,
       c.self.inside.text_len,
@@ -26,14 +31,19 @@ settle-requires g c =
 
 pub invariant_of-self-2 : goal.invariant_of-self-2
 invariant_of-self-2 g c =
-    let l : IsNextOpen c.self.inside.walk (head_shown [] c.args.content) (left_of c.self.inside.walk.types c.args.left) =
-    subst (λ (b : Built). IsNextOpen b.walk (head_shown [] c.args.content)
+    let l : IsNextOpen c.self.inside.walk (head_shown [] c.args.left.count c.args.content)
+    (left_of c.self.inside.walk.types c.args.left) =
+    subst (λ (b : Built). IsNextOpen b.walk (head_shown [] c.args.left.count c.args.content)
     (left_of b.walk.types c.args.left)) (sym c.self.view_is) c.requires.next in
-    let n : Node = record { ty = c.in-Some.ty; content = c.args.content; size = 0 } in
+    let n : Node = record {
+      ty = c.in-Some.ty;
+      children = c.args.left.count;
+      content = c.args.content;
+    } in
     let at : n.ty.0 ≡ l.ty = same_Some n.ty.0 l.ty (c.in-Some.ensures ∙ l.next) in
     let b = open_added c.self.inside.root.0 c.self.inside.walk c.self.inside.pool.items
     c.self.inside.nodes.items n c.self.inside.text_len (left_of c.self.inside.walk.types c.args.left) c.self.invariant.0
-    l at refl in
+    l at c.requires.opened in
     let closed = none_open c.self.inside.pool.items c.self.inside.open_text
     (ap (λ (b : Built). b.text) c.self.view_is ∙ c.requires.closed) in (
       c.settle.ensures.settles.builds _ _ _

@@ -1,7 +1,10 @@
-use Rattle.std.proofs.Common.{◌≡◌, ◌+◌, ◌++◌, None, Ok, [], sym, subst}
+use Rattle.std.proofs.Common.{rules, ◌≡◌, ◌+◌, ◌^◌, ◌<◌, length, arith, None, Ok, sym, subst}
 use Rattle.value_core.specs.Built.{Built, pieces_bytes}
+use Rattle.value_core.specs.Building.{IsOpenText}
 use Rattle.value_core.specs.Refusals.{missing_of, text_fault}
+use Rattle.value_core.specs.Shown.{all_kept}
 use Rattle.value_core.proofs.Closing.{leaf_paid, settled_again, settled_paid}
+use Rattle.value_core.proofs.Leaves.{texts_kept}
 use Rattle.value_core.proofs.TextEnded.{text_ended}
 use Rattle.value_core.proofs.builder.Builder.close_text.Goals as goal
 
@@ -15,9 +18,9 @@ settle-requires g c =
     c.in-Some-next_type.ty c.self.invariant.0 c.self.invariant.1 c.in-Some.is lacks utf8
     c.in-Some-next_type.ensures in (
       c.self.inside.root.0,
-      c.self.inside.pool.items ++ [],
+      c.self.inside.pool.items,
       c.self.inside.text_len + c.in-Some.text.len,
-      rw (c.advance.ensures, c.in_ok-append.ensures.nodes) b,
+      rw (c.advance.ensures, c.in_ok-append_node.ensures.ok) b,
     )
 
 pub invariant_of-self-2 : goal.invariant_of-self-2
@@ -30,11 +33,27 @@ invariant_of-self-2 g c =
     c.in-Some-next_type.ty c.self.invariant.0 c.self.invariant.1 c.in-Some.is lacks utf8
     c.in-Some-next_type.ensures in (
       c.settle.ensures.settles.builds _ _ _
-          (rw (c.advance.ensures, c.in_ok-append.ensures.pool, c.in_ok-append.ensures.nodes) b),
+          (rw (c.advance.ensures, c.in_ok-append_node.ensures.ok) b),
       tt,
       rw c.settle.ensures.walk (settled_again c.advance.new.self),
       settled_paid _ _ _ _ _ _ c.settle.ensures.settles c.settle.ensures.walk c.settle.ensures.turns
-          (rw (c.advance.ensures, c.in_ok-append.ensures.nodes)
+          (rw (c.advance.ensures, c.in_ok-append_node.ensures.ok)
           (leaf_paid c.self.inside.walk c.self.inside.nodes.items _ c.self.inside.turns.so_far
           c.self.invariant.3)),
     )
+
+pub overflow_add-self : goal.overflow_add-self
+overflow_add-self g c =
+    let place = subst (IsOpenText c.self.inside.walk c.self.inside.pool.items
+    (all_kept c.self.inside.nodes.items)) c.in-Some.is c.self.invariant.1 in
+    let small : length c.self.inside.pool.items < 2 ^ 63 = search rules in
+    let fits : c.self.inside.text_len + c.in-Some.text.len < 2 ^ 64 =
+    omega (
+      arith,
+      small,
+      place.spelled,
+      c.self.invariant.0.texts,
+      c.self.invariant.0.fits,
+      texts_kept c.self.inside.pool.items c.self.inside.nodes.items,
+    ) in
+    search rules

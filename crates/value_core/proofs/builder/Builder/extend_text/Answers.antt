@@ -3,6 +3,7 @@ use Rattle.std.specs.Prelude.{IfOk}
 use Rattle.scale_core.proofs.ReadForms.{are_bytes}
 use Rattle.value_core.specs.Built.{Built, with_piece}
 use Rattle.value_core.specs.Refusals.{missing_of}
+use Rattle.value_core.specs.Shown.{all_kept}
 use Rattle.value_core.proofs.Adding.{bytes_added, open_longer, longer_entries}
 use Rattle.value_core.proofs.builder.Builder.extend_text.Goals as goal
 
@@ -11,7 +12,7 @@ invariant_of-self-2 g c =
     let lacks = subst (λ (b : Built). IfOk (missing_of b) (λ n. length c.args.piece.now ≤ n))
     (sym c.self.view_is) c.requires in
     let o = open_longer c.self.inside.walk c.self.inside.pool.items c.args.piece.now
-    c.self.inside.text_len c.self.inside.open_text
+    (all_kept c.self.inside.nodes.items) c.self.inside.open_text
     (are_bytes c.args.piece.now (λ i. (c.type_inv.piece i).fits)) c.self.invariant.1 lacks in
     rw c.in_ok-extend.ensures.ok (
       bytes_added _ _ c.self.inside.pool.items c.args.piece.now c.self.inside.nodes.items
@@ -26,7 +27,7 @@ returns-clause-ok g c =
     let lacks = subst (λ (b : Built). IfOk (missing_of b) (λ n. length c.args.piece.now ≤ n))
     (sym c.self.view_is) c.requires in
     let o = open_longer c.self.inside.walk c.self.inside.pool.items c.args.piece.now
-    c.self.inside.text_len c.self.inside.open_text
+    (all_kept c.self.inside.nodes.items) c.self.inside.open_text
     (are_bytes c.args.piece.now (λ i. (c.type_inv.piece i).fits)) c.self.invariant.1 lacks in
     (rw (
       c.in_ok-extend.ensures.ok,

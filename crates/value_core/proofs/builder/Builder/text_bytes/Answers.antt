@@ -1,7 +1,9 @@
-use Rattle.std.proofs.Common.{subst}
+use Rattle.std.proofs.Common.{rules, ◌+◌, ◌-◌, ◌^◌, ◌<◌, length, ap, subst, arith}
 use Rattle.value_core.specs.Begun.{IsBegun}
-use Rattle.value_core.specs.Building.{pieces_shown}
+use Rattle.value_core.specs.Building.{IsOpenText, pieces_shown}
+use Rattle.value_core.specs.Shown.{all_kept}
 use Rattle.value_core.proofs.Begun.{is_begun}
+use Rattle.value_core.proofs.Leaves.{texts_kept}
 use Rattle.value_core.proofs.builder.Builder.text_bytes.Goals as goal
 
 pub returns-in-Some-clause-begun : goal.returns-in-Some-clause-begun
@@ -19,3 +21,20 @@ returns-in-None-clause-begun g c =
     c.self.inside.nodes.items c.self.inside.text_len
     (pieces_shown c.self.inside.pool.items c.self.inside.open_text) c.self.inside.turns.so_far
     c.self.invariant.0 c.self.invariant.3 c.self.invariant.2)
+
+pub overflow_add-result : goal.overflow_add-result
+overflow_add-result g c =
+    let place = subst (IsOpenText c.self.inside.walk c.self.inside.pool.items
+    (all_kept c.self.inside.nodes.items)) c.in-Some.is c.self.invariant.1 in
+    let small : length c.as_slice.result.now < 2 ^ 63 = search rules in
+    let fits : c.self.inside.text_len + (length c.as_slice.result.now - c.in-Some.text.start)
+    < 2 ^ 64 =
+    omega (
+      arith,
+      small,
+      ap length c.as_slice.ensures.value,
+      place.behind,
+      c.self.invariant.0.texts,
+      texts_kept c.self.inside.pool.items c.self.inside.nodes.items,
+    ) in
+    search rules

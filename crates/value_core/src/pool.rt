@@ -1,0 +1,31 @@
+//! Long integers in the pool of bytes beside a value's nodes.
+
+ghost use Rattle.std.specs.Prelude.{◌≡◌, ◌≤◌, ◌+◌, ◌++◌, length, IfOk, IfErr};
+ghost use Rattle.std.specs.Int.{w128, to_le_bytes};
+ghost use Rattle.value_core.specs.Shown.{long_shown};
+
+use std::alloc::{AllocError, Allocator};
+
+/// Appends the sixteen bytes of an integer, the lowest first: its place. Where memory is refused nothing changes.
+pub(crate) fn put_long<A: Allocator>(
+    pool: &mut Vec<u8, A>,
+    number: u128,
+) -> Result<usize, AllocError>
+    ensures place { IfOk result (λ start. start ≡ length pool.old.items) }
+    ensures ok { IfOk result (λ _. pool.new.items ≡ pool.old.items ++ to_le_bytes w128 number) }
+    ensures err { IfErr result (λ _. pool.new.items ≡ pool.old.items) }
+{
+    let start = pool.as_slice().len();
+    pool.extend_from_slice(&number.to_le_bytes())?;
+    Ok(start)
+}
+
+/// The integer whose sixteen bytes stand at a place.
+pub(crate) fn long_at(pool: &[u8], start: usize) -> u128
+    requires { start + 16 ≤ length pool.now }
+    ensures { result ≡ long_shown pool.now start }
+{
+    let mut bytes = [0; 16];
+    bytes.copy_from_slice(&pool[start..start + 16]);
+    u128::from_le_bytes(bytes)
+}
