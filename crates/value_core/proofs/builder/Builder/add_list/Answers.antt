@@ -1,4 +1,4 @@
-use Rattle.std.proofs.Common.{◌≡◌, subst, sym}
+use Rattle.std.proofs.Common.{subst, sym}
 use Rattle.grammar_core.specs.Preorder.{branch}
 use Rattle.grammar_core.specs.Tree.{list}
 use Rattle.value_core.specs.Built.{IsNextOpen}
