@@ -85,7 +85,7 @@ fn append<A: Allocator>(
         children: 0,
         content,
     };
-    nodes.push(node).unwrap();
+    nodes.push_reserved(node);
     Ok(())
 }
 
@@ -95,7 +95,7 @@ fn append_node<A: Allocator>(nodes: &mut Vec<Node, A>, node: Node) -> Result<(),
     ensures err { OnErr result (nodes.new.items ≡ nodes.old.items) }
 {
     nodes.reserve(1)?;
-    nodes.push(node).unwrap();
+    nodes.push_reserved(node);
     Ok(())
 }
 
@@ -113,7 +113,7 @@ fn open_node<A: Allocator>(
 {
     nodes.reserve(1)?;
     walk.enter(nodes.as_slice().len(), left)?;
-    nodes.push(node).unwrap();
+    nodes.push_reserved(node);
     Ok(())
 }
 
