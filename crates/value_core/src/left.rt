@@ -80,3 +80,5 @@ impl Left {
         self.count != 0 && matches!(self.types, PartTypes::Copies { .. })
     }
 }
+
+const _: () = prove!(size_of::<Frame>() == 32);
