@@ -37,6 +37,7 @@ pub(crate) enum BareForm {
 }
 
 /// The form of a primitive type.
+#[inline(always)]
 fn primitive_form(primitive: Primitive) -> BytesForm
     ensures { form_of_bytes result ≡ Form.Primitive primitive }
 {
@@ -51,6 +52,7 @@ fn primitive_form(primitive: Primitive) -> BytesForm
 }
 
 /// The form by its bytes, or where it has none of its own, by its parts.
+#[inline(always)]
 pub(crate) fn split_form(form: Form) -> Result<BytesForm, BareForm>
     ensures { MatchResult result (λ f. form_of_bytes f ≡ form) (λ f. form_of_bare f ≡ form) }
 {

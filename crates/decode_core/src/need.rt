@@ -8,6 +8,7 @@ use crate::forms::{BytesForm, PlainForm};
 use scale_core::Target;
 
 /// How many bytes a compact integer has, or decide that it is refused.
+#[inline(always)]
 fn compact_need(target: Target, first: u8) -> usize
     ensures exact { result ≡ compact_need target first }
     ensures some { 1 ≤ result }
@@ -29,6 +30,7 @@ fn compact_need(target: Target, first: u8) -> usize
 }
 
 /// How many bytes a node without parts has, or how many decide that it is refused.
+#[inline(always)]
 fn plain_need(form: PlainForm, first: u8) -> usize
     ensures exact { result ≡ need (form_of_plain form) first }
     ensures some { 1 ≤ result }
@@ -46,6 +48,7 @@ fn plain_need(form: PlainForm, first: u8) -> usize
 
 /// How many bytes a node of this form has of its own, by the first of them, or how many decide that it is refused; of a
 /// text its length alone.
+#[inline(always)]
 pub(crate) fn need(form: BytesForm, first: u8) -> usize
     ensures exact { result ≡ need (form_of_bytes form) first }
     ensures some { 1 ≤ result }

@@ -55,6 +55,7 @@ impl From<AllocError> for NodeFault {
 
 /// Reads an unsigned integer of this width off the front of the bytes.
 #[tactic(auto, using(crate::proofs::lists::ReadFronts::read_is))]
+#[inline(always)]
 fn read_unsigned(width: IntegerWidth, own: &[u8]) -> Result<u128, Fault>
     ensures reads { ReadsFront own.now result (number_at (width_bytes width) own.now) }
     ensures fits { IfOk result (λ n. up_to n (Some (most_unsigned width)) ≡ None) }
@@ -107,6 +108,7 @@ pub(crate) fn open_text<A: Allocator>(
 }
 
 /// A node without parts, by its bytes.
+#[inline(always)]
 fn read_plain<'b>(form: PlainForm, own: &'b [u8]) -> Result<Leaf<'b>, Fault>
     requires { AreOwn (form_of_plain form) own.now }
     ensures reads { ReadsPlain form own.now result }
@@ -124,6 +126,7 @@ fn read_plain<'b>(form: PlainForm, own: &'b [u8]) -> Result<Leaf<'b>, Fault>
 }
 
 /// Adds the next node, which has no parts, by its bytes.
+#[inline(always)]
 pub(crate) fn add_plain<A: Allocator>(
     builder: &mut Builder<'_, A>,
     form: PlainForm,

@@ -49,6 +49,7 @@ impl<'r, A: Allocator> Model for Run<'r, A> {
 }
 
 /// Adds the next node by its own bytes, or opens the text that is next by those of its length.
+#[inline(always)]
 fn take_node<A: Allocator>(
     builder: &mut Builder<'_, A>,
     text: &mut Option<OpenText>,
@@ -74,6 +75,7 @@ fn take_node<A: Allocator>(
 }
 
 /// What a turn did that took the next node's own bytes, of which the last `count` are the piece's.
+#[inline(always)]
 fn node_turn(taken: Result<(), NodeFault>, held: usize, count: usize, len: usize) -> Turned
     ensures { result ≡ node_turned taken held count len }
 {
@@ -170,6 +172,7 @@ impl<'r, A: Allocator> Run<'r, A> {
 
     /// A turn on a node of `len` own bytes that pieces cut: those that are carried, and as many of the piece's as are
     /// missing or there.
+    #[inline(never)]
     fn cut_turn(&mut self, form: BytesForm, len: usize, piece: &[u8]) -> Turned
         requires next { next_of self.old.built.walk ≡ Next.Wants (form_of_bytes form) }
         requires closed { self.old.built.text ≡ None }
@@ -214,6 +217,7 @@ impl<'r, A: Allocator> Run<'r, A> {
     }
 
     /// A turn on the bytes of the text that is open.
+    #[inline(never)]
     fn text_turn(&mut self, text: OpenText, piece: &[u8]) -> Turned
         requires next { IsTextNext self.old.built self.old.carry self.old.built.text }
         requires open { IsKeptText self.old.built.text (Some text) }

@@ -68,6 +68,7 @@ fn extend<A: Allocator>(pool: &mut Vec<u8, A>, bytes: &[u8]) -> Result<(), Alloc
 }
 
 /// Appends a node without children, and to the pool what does not fit it: both, or where memory is refused neither.
+#[inline(always)]
 fn append<A: Allocator>(
     nodes: &mut Vec<Node, A>,
     pool: &mut Vec<u8, A>,
@@ -246,6 +247,7 @@ impl<'r, A: Allocator> Builder<'r, A> {
 
     /// Adds a node without children, which the caller knows to be a value of the next type: what `bool`, `unsigned` and
     /// the other calls do once they have judged. Where memory is refused nothing changes.
+    #[inline(always)]
     pub fn add_leaf(&mut self, leaf: Leaf<'_>) -> Result<(), AllocError>
         requires closed { self.old.text ≡ None }
         requires next { IsNextLeaf self.old.walk (leaf_head leaf) }

@@ -31,6 +31,7 @@ pub enum Leaf<'b> {
 }
 
 /// The same number in 64 bits, where it fits.
+#[inline(always)]
 fn short(number: u128) -> Option<u64>
     ensures { IfSome result (λ n. n ≡ number) }
 {
@@ -54,6 +55,7 @@ fn short_signed(number: i128) -> Option<i64>
 
 impl<'b> Leaf<'b> {
     /// How many bytes of text it has.
+    #[inline(always)]
     pub(crate) fn text_len(self) -> usize
         ensures { result ≡ leaf_text_bytes self.entry }
     {
@@ -65,6 +67,7 @@ impl<'b> Leaf<'b> {
 
     /// What it is as a node, with what does not fit the node appended to the pool. Where memory is refused nothing
     /// changes.
+    #[inline(always)]
     pub(crate) fn keep<A: Allocator>(self, pool: &mut Vec<u8, A>) -> Result<Content, AllocError>
         requires { FitsLeaf self }
         ensures ok { IfOk result (λ content. IsKept self.entry pool.old.items pool.new.items content) }

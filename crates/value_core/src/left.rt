@@ -50,6 +50,7 @@ impl Left {
     }
 
     /// The type that is next, if anything is left, by the references of the registry.
+    #[inline(always)]
     pub(crate) fn first(&self, references: &[u32]) -> Option<u32>
         ensures { result ≡ first_of (left_by references.now self.now) }
     {
@@ -67,6 +68,7 @@ impl Left {
 
     /// The next type is no longer left. Where nothing is left, nothing changes.
     #[tactic(auto, using(crate::proofs::Members::one_less))]
+    #[inline(always)]
     pub(crate) fn advance(&mut self)
         ensures { (references : List ℕ) → left_by references self.new ≡ left_after (left_by references self.old) }
     {
@@ -74,6 +76,7 @@ impl Left {
     }
 
     /// Is something left, of the same type as what was before it?
+    #[inline(always)]
     pub(crate) fn repeats(&self) -> bool
         ensures { result ≡ repeats self.now }
     {

@@ -7,6 +7,7 @@ ghost use Rattle.value_core.specs.Shown.{long_shown};
 use std::alloc::{AllocError, Allocator};
 
 /// Appends the sixteen bytes of an integer, the lowest first: its place. Where memory is refused nothing changes.
+#[inline(never)]
 pub(crate) fn put_long<A: Allocator>(
     pool: &mut Vec<u8, A>,
     number: u128,

@@ -101,6 +101,7 @@ impl<'r, A: Allocator> Walk<'r, A> {
     ///
     /// Of several reasons the first is told: a depth above the limit, a type without a finite value, a bit sequence, a
     /// compact that stands over no unsigned integer. It takes no look-up and no memory, and changes nothing.
+    #[inline(always)]
     pub fn next(&self) -> Next
         ensures { result ≡ next_of self.now }
     {
@@ -141,6 +142,7 @@ impl<'r, A: Allocator> Walk<'r, A> {
     }
 
     /// The next node is there: it is no longer left in the innermost part. Where nothing is next, nothing changes.
+    #[inline(always)]
     pub(crate) fn advance(&mut self)
         ensures { self.new ≡ advanced self.old }
     {
@@ -189,6 +191,7 @@ impl<'r, A: Allocator> Walk<'r, A> {
     }
 
     /// The type of the node that comes next, if any does.
+    #[inline(always)]
     pub(crate) fn next_type(&self) -> Option<TypeId>
         ensures { option_map (λ t. t.0) result ≡ next_type self.now }
     {
