@@ -1,5 +1,5 @@
 -- What is read where a compact integer stands, by what its first byte names.
-use Rattle.std.proofs.Common.{◌≡◌, ℕ, zero, suc, ◌-◌, ◌^◌, ◌<◌, ◌≤◌, Bool, true, false, cond, List, [], ◌∷◌, length, get_or, take, drop, Ok, Err, refl, sym, ap, ◌∙◌, arith, inl, inr}
+use Rattle.std.proofs.Common.{◌≡◌, ℕ, zero, suc, ◌-◌, ◌/◌, ◌%◌, ◌^◌, ◌<◌, ◌≤◌, Bool, true, false, cond, List, [], ◌∷◌, length, get_or, take, drop, Ok, Err, refl, sym, ap, ◌∙◌, arith, inl, inr}
 use Rattle.std.specs.Prelude.{◌≢◌, not, nat_lt, ◌==◌, if◌then◌else◌}
 use Rattle.std.specs.Str.{bytes_eq}
 use Rattle.std.proofs.lemmas.Bool.{false_from_ne_true, cases_eq, le-ltb, lt-ltb, ne_eqb, eq-eqb}
@@ -120,6 +120,46 @@ compact_at-judged m bytes first n len ne h is fits long there value small =
     compact_at-integer m bytes ne ∙ ap (integer_at m) is ∙ judged
     ∙ ap (λ (xs : List ℕ). judged_form m xs n (form_len first)) (sym is)
     ∙ ap (judged_form m bytes n) (sym long)
+
+-- a number of six bits fits every target that takes bytes
+pub one_fits : (m : Target) (n : ℕ) → m ≢ TUnit → n < 64 → n < 256 ^ target_bytes m
+one_fits TUnit n ne h = absurd (ne refl)
+one_fits U8 n ne h = omega (arith, h)
+one_fits U16 n ne h = omega (arith, h)
+one_fits U32 n ne h = omega (arith, h)
+one_fits U64 n ne h = omega (arith, h)
+one_fits U128 n ne h = omega (arith, h)
+
+one_long : (n : ℕ) → n < 64 → length (compact n) ≡ 1
+unfolding compact
+one_long n h = rw (lt-ltb n 64 h) refl
+
+one_form : (first : ℕ) → first % 4 ≡ 0 → form_len first ≡ 1
+one_form first h = rw h refl
+
+not_long : (m : Target) (first : ℕ) → first % 4 ≡ 0 → is_too_long m first ≡ false
+not_long m first h = rw h refl
+
+one_number : (first : ℕ) → first % 4 ≡ 0 → form_number (first ∷ []) ≡ first / 4
+one_number first h = rw h (omega arith)
+
+-- the form of one byte
+pub compact_at-one : (m : Target) (bytes : List ℕ) (first : ℕ) → m ≢ TUnit → AreBytes bytes →
+    bytes ≡ first ∷ drop 1 bytes → first % 4 ≡ 0 → first < 256 →
+    compact_at m bytes ≡ Ok (first / 4, drop 1 bytes)
+compact_at-one m bytes first ne are is h byte =
+    let some : 1 ≤ length bytes = omega (arith, ap length is) in
+    let front : take 1 bytes ≡ first ∷ [] = ap (take 1) is in
+    let value : first / 4 ≡ form_number (take 1 bytes) = sym (ap form_number front
+    ∙ one_number first h) in
+    let small : first / 4 < 64 = omega (arith, byte) in
+    let judged = compact_at-judged m bytes first (first / 4) 1 ne are is (not_long m first h)
+    (sym (one_form first h)) some value (omega (arith, small)) in
+    judged ∙ rw (
+      one_long (first / 4) small,
+      lt-ltb (first / 4) (256 ^ target_bytes m)
+          (one_fits m (first / 4) ne small),
+    ) refl
 
 -- ---- the first byte, and bytes at large
 

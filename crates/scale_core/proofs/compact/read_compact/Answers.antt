@@ -1,4 +1,4 @@
-use Rattle.std.proofs.Common.{rules, refl, arith, sym, ◌∙◌, ◌≡◌, [], false, length, ne_eqb, eq-eqb}
+use Rattle.std.proofs.Common.{rules, refl, arith, sym, ap, ℕ, Ok, drop, ◌∙◌, ◌≡◌, [], false, length, ne_eqb, eq-eqb}
 use Rattle.std.specs.Prelude.{◌≢◌}
 use Rattle.std.proofs.lemmas.Result.{err_from_is_err_and}
 use Rattle.scale_core.specs.Compact.{compact}
@@ -6,7 +6,7 @@ use Rattle.scale_core.specs.contracts.compact.Target.{the_type}
 use Rattle.scale_core.specs.declared.compact.Target.{Target}
 use Rattle.scale_core.specs.declared.compact.Target.TheVariants.{Unit as TUnit}
 use denote.Enum.Bare.{same_true, sameb}
-use Rattle.scale_core.proofs.ReadForms.{compact_at-unit, compact_at-empty, compact_at-too_long, compact_at-cut, compact_at-judged, front_is, are_bytes}
+use Rattle.scale_core.proofs.ReadForms.{compact_at-unit, compact_at-empty, compact_at-too_long, compact_at-cut, compact_at-judged, compact_at-one, one_fits, front_is, are_bytes}
 use Rattle.scale_core.proofs.compact.read_compact.Goals as goal
 
 is_other : (m : Target) → false ≡ sameb the_type m TUnit → m ≢ TUnit
@@ -25,6 +25,27 @@ returns-in_err-first-clause-reads c =
     let none = compact_at-empty c.args.target c.args.bytes.now (is_other _ c.if-eq.ensures)
     (omega (arith, c.in_err-first.ensures)) in
     rw (p.1, p.2, c.in_err-first.ensures.1) ([], none, omega arith)
+
+pub returns-then-first-eq0-clause-reads : goal.returns-then-first-eq0-clause-reads
+returns-then-first-eq0-clause-reads c =
+    let front = c.in_ok-first.ensures in
+    let is = front_is c.args.bytes.now c.in_ok-first.field-0 front.0 front.1 in
+    let are = are_bytes c.args.bytes.now (λ i. omega (arith, c.type_inv.bytes i)) in
+    let byte = rw is at are in (
+      front.0,
+      compact_at-one c.args.target c.args.bytes.now _ (is_other _ c.if-eq.ensures) are is
+          c.if-first-eq0.true byte.0 ∙ ap (λ (n : ℕ). Ok (n, drop 1 c.args.bytes.now))
+          (sym c.from.ensures),
+    )
+
+pub returns-then-first-eq0-clause-fits : goal.returns-then-first-eq0-clause-fits
+returns-then-first-eq0-clause-fits c =
+    let front = c.in_ok-first.ensures in
+    let is = front_is c.args.bytes.now c.in_ok-first.field-0 front.0 front.1 in
+    let are = are_bytes c.args.bytes.now (λ i. omega (arith, c.type_inv.bytes i)) in
+    let byte = rw is at are in
+    one_fits c.args.target c.from.result (is_other _ c.if-eq.ensures)
+    (omega (arith, c.from.ensures, byte.0))
 
 pub returns-then-is_exceeded_by-clause-reads : goal.returns-then-is_exceeded_by-clause-reads
 returns-then-is_exceeded_by-clause-reads c =
