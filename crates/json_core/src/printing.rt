@@ -5,7 +5,9 @@ ghost use Rattle.std.specs.Io.KnownBytes.{Appends};
 ghost use Rattle.json_core.specs.Json.{json_text};
 ghost use Rattle.json_core.specs.Printed.{written_of, is_write};
 
-use crate::nodes::to_json;
+use crate::orders::Orders;
+use crate::writing::write_node;
+use json::Writer;
 use scale_core::Sink;
 use std::alloc::{AllocError, Allocator, Global};
 use std::io::Write;
@@ -27,8 +29,10 @@ pub enum PrintFault {
 pub fn json_text<A: Allocator>(alloc: Global, value: &Value<'_, A>) -> Result<String, AllocError>
     ensures { IfOk result (λ text. string_bytes text ≡ json_text value.now) }
 {
-    let json = to_json(alloc, value)?;
-    json.to_string(alloc)
+    let mut out = Writer::new(Vec::new(alloc));
+    let mut orders = Orders::new(alloc, value.checked());
+    write_node(alloc, &mut out, &mut orders, &value.root())?;
+    Ok(unsafe { String::from_utf8_unchecked(out.into_inner()) })
 }
 
 /// Writes a value as JSON: the text that `json_text` gives, without a line end. It is made whole before the first
