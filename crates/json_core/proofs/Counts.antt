@@ -1,8 +1,8 @@
 -- A value has as many children as its type has fields, and a child by its position.
-use Rattle.std.proofs.Common.{◌≡◌, ℕ, zero, suc, ◌<◌, Bool, true, false, List, [], ◌∷◌, length, map, Option, Some, None, option_map, refl, sym, ap, subst, ◌∙◌, arith, Bor}
+use Rattle.std.proofs.Common.{◌≡◌, ℕ, zero, suc, ◌<◌, Bool, true, false, List, [], ◌∷◌, length, map, get_or, Option, Some, None, option_map, refl, sym, ap, subst, ◌∙◌, arith, Bor}
 use Rattle.std.specs.Prelude.{slice_get, unwrap_or}
 use Rattle.std.proofs.lemmas.List.{length-map}
-use Rattle.std.proofs.lemmas.Option.{slice_get-map}
+use Rattle.std.proofs.lemmas.Option.{slice_get-map, slice_get_read}
 use Rattle.serde_json.specs.Data.{null}
 use Rattle.registry_core.specs.declared.definition.Arm.{Arm}
 use Rattle.registry_core.specs.declared.definition.Field.{Field}
@@ -125,6 +125,14 @@ pub arm_count : (s : Seen) (q : ℕ) (a : Arm) → IsValue s → what.Arm q ≡ 
 arm_count s q a h e f = counted s (what.Arm q) h e a f
 
 -- ---- a child by its position
+
+-- the child that is read there
+pub child_read : (s : Seen) (items : List Seen) (i : ℕ) (child : Seen) → items ≡ children_of s →
+    i < length (children_of s) → child ≡ get_or items i child →
+    slice_get (children_of s) i ≡ Some child
+child_read s items i child e h is =
+    slice_get_read (children_of s) (length (children_of s)) i child refl h
+    (is ∙ ap (λ l. get_or l i child) e)
 
 below_at : (r : List TypeInfo) (n : ℕ) (ss : List Seen) (i : ℕ) (s : Seen) → AreBelow r n ss →
     slice_get ss i ≡ Some s → (s.types ≡ r) × (nodes s.tree < n)

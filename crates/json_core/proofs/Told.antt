@@ -289,10 +289,18 @@ text_is s found text e f h =
 
 -- the fields that were found are those of the node's type
 pub fields_at_node : (s : Seen) (types : List TypeInfo) (t : ℕ)
-    (found : Option (Bor (List Field))) (o : Option (List Field)) → AtNode s types t →
-    option_map (λ x. x.now) found ≡ composite_fields (shape types t) →
-    o ≡ option_map (λ x. x.now) found → composite_fields (shape s.types s.ty) ≡ o
-fields_at_node s types t found o at e f = rw (← at.0, ← at.1) (sym (f ∙ e))
+    (found : Option (Bor (List Field))) (fs : Bor (List Field)) → AtNode s types t →
+    option_map (λ x. x.now) found ≡ composite_fields (shape types t) → found ≡ Some fs →
+    composite_fields (shape s.types s.ty) ≡ Some fs.now
+fields_at_node s types t found fs at e f =
+    rw (← at.0, ← at.1) (sym e ∙ ap (option_map (λ (x : Bor (List Field)). x.now)) f)
+
+pub no_fields_at_node : (s : Seen) (types : List TypeInfo) (t : ℕ)
+    (found : Option (Bor (List Field))) → AtNode s types t →
+    option_map (λ x. x.now) found ≡ composite_fields (shape types t) → found ≡ None →
+    composite_fields (shape s.types s.ty) ≡ None
+no_fields_at_node s types t found at e f =
+    rw (← at.0, ← at.1) (sym e ∙ ap (option_map (λ (x : Bor (List Field)). x.now)) f)
 
 -- a composite's value has the JSON of its fields
 pub fields_are : (s : Seen) (fs : List Field) → composite_fields (shape s.types s.ty) ≡ Some fs →
