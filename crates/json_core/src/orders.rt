@@ -1,6 +1,6 @@
 //! The orders of keys that are known in one call: each is found once, for each composite and each arm that is met.
 
-ghost use Rattle.std.specs.Prelude.{◌≡◌, ◌+◌, ◌<◌, ◌^◌, ℕ, List, [], ◌++◌, Some, length, slice_index, IfOk};
+ghost use Rattle.std.specs.Prelude.{◌≡◌, ◌+◌, ◌<◌, ◌^◌, ℕ, List, [], ◌++◌, Some, length, slice_index, IfOk, IfSome};
 ghost use Rattle.json_core.specs.Ordered.{fields_at, AreKeys, Grows};
 
 use crate::names::{counts_up, key_order};
@@ -28,6 +28,18 @@ pub(crate) enum Keys {
     InOrder,
     /// As an object; the positions of the fields in the order of their names' bytes are kept from `start` on.
     Sorted { start: usize },
+}
+
+/// How the value of one field is shown, or of none.
+fn keys_of_few(fields: &[Field]) -> Option<Keys>
+    ensures { IfSome result (λ keys. (positions : List ℕ) → AreKeys positions fields.now keys) }
+{
+    match fields {
+        [] => Some(Keys::Unnamed),
+        [field] if field.name.is_none() => Some(Keys::Unnamed),
+        [_] => Some(Keys::InOrder),
+        _ => None,
+    }
 }
 
 /// How the values of the fields are shown. The order of names that are out of order is kept behind the positions.
@@ -108,6 +120,9 @@ impl<'r> Orders<'r> {
         ensures grows { Grows self.old self.new }
         ensures keys { IfOk result (AreKeys self.new.positions fields.now) }
     {
+        if let Some(keys) = keys_of_few(fields) {
+            return Ok(keys);
+        }
         if let Some(keys) = self.known.get(&place) {
             return Ok(*keys);
         }

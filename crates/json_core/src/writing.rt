@@ -185,6 +185,7 @@ fn write_fields(
 
 /// A node and all that is below it.
 #[cycle(write)]
+#[inline(always)]
 pub(crate) fn write_node(
     alloc: Global,
     out: &mut Writer,
