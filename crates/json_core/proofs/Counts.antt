@@ -1,5 +1,5 @@
 -- A value has as many children as its type has fields, and a child by its position.
-use Rattle.std.proofs.Common.{◌≡◌, ℕ, zero, suc, ◌<◌, Bool, true, false, List, [], ◌∷◌, length, map, get_or, Option, Some, None, option_map, refl, sym, ap, subst, ◌∙◌, arith, Bor}
+use Rattle.std.proofs.Common.{◌≡◌, ℕ, zero, suc, ◌<◌, Bool, true, false, List, [], ◌∷◌, length, map, get_or, Option, Some, None, option_map, refl, sym, ap, subst, ◌∙◌}
 use Rattle.std.specs.Prelude.{slice_get, unwrap_or}
 use Rattle.std.proofs.lemmas.List.{length-map}
 use Rattle.std.proofs.lemmas.Option.{slice_get-map, slice_get_read}
@@ -28,7 +28,7 @@ use Rattle.json_core.specs.Defined.{defined_arm, composite_fields}
 use Rattle.json_core.specs.Json.{json_seen}
 use Rattle.json_core.specs.Tokens.{data_at}
 use Rattle.json_core.proofs.Children.{AreBelow, children_below}
-use Rattle.json_core.proofs.Told.{AtNode, defined_at}
+use Rattle.json_core.proofs.Told.{defined_at}
 
 -- ---- how many children there are
 

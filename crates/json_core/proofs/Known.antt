@@ -1,7 +1,7 @@
 -- What is known of the orders of keys, as more become known.
-use Rattle.std.proofs.Common.{◌≡◌, ℕ, ◌+◌, ◌-◌, ◌≤◌, Bool, true, false, cond, List, [], ◌∷◌, ◌++◌, length, take, drop, Option, Some, None, Ordering, Less, Equal, Greater, nat_cmp, is_eq, Bor, refl, sym, ap, ap₂, ◌∙◌, subst, arith, length-append, append_assoc, length-drop, true≢false}
+use Rattle.std.proofs.Common.{◌≡◌, ℕ, ◌+◌, ◌-◌, ◌≤◌, cond, List, [], ◌∷◌, ◌++◌, length, take, drop, Option, Some, None, Ordering, Less, Equal, Greater, nat_cmp, is_eq, Bor, refl, sym, ap, ap₂, ◌∙◌, subst, arith, length-append, append_assoc, length-drop}
 use Rattle.std.specs.Prelude.{slice_range, option_copied}
-use Rattle.std.specs.List.{AllByRecursion, range_with_len}
+use Rattle.std.specs.List.{range_with_len}
 use Rattle.json_core.proofs.Ordered.{positions_count}
 use Rattle.std.specs.Map.{lookup}
 use Rattle.std.specs.Ordering.{match_ordering, ordering_then}
@@ -62,7 +62,6 @@ keys_grown old new fs k g h =
 
 pub grows_not : (o : OrdersView) → Grows o o
 grows_not o = record { types = refl; more = []; positions = sym (append-nil o.positions) }
-
 
 pub grows_again : (a b c : OrdersView) → Grows a b → Grows b c → Grows a c
 grows_again a b c g h = record {

@@ -13,7 +13,7 @@ use Rattle.serde_json.specs.Data.{Data, null, Items, Members, no_members, member
 use Rattle.serde_json.specs.View.{items_of}
 use Rattle.registry_core.specs.declared.definition.Field.{Field}
 use Rattle.json_core.specs.Json.{with_name, names, is_new, all_differ, with_members, named_json, fields_json}
-use Rattle.json_core.specs.Ordered.{is_there, order_from, name_order, key_order, AreNamed, names_of}
+use Rattle.json_core.specs.Ordered.{is_there, order_from, key_order, AreNamed, names_of}
 use Rattle.json_core.specs.Tokens.{data_at, name_at, members_at, members_in_order}
 
 abbrev pub Entries : Type 0
@@ -309,11 +309,11 @@ has_names fs es e = go (names fs) refl (sym (order_from_is fs 0 []) ∙ e) where
   go None is h = absurd cc
   go (Some ns) is h = differ (all_differ ns) refl
       (sym (ap (λ b. cond (b && all_differ ns) (Some (placed ns 0 [])) None) (all_new_none ns)) ∙ h)
-      where
-        differ : (b : Bool) → all_differ ns ≡ b → cond b (Some (placed ns 0 [])) None ≡ Some es →
-            HasNames fs es
-        differ true d g = record { all = ns; are = is; differ = d; placed_are = cc }
-        differ false d g = absurd cc
+    where
+      differ : (b : Bool) → all_differ ns ≡ b → cond b (Some (placed ns 0 [])) None ≡ Some es →
+          HasNames fs es
+      differ true d g = record { all = ns; are = is; differ = d; placed_are = cc }
+      differ false d g = absurd cc
 
 -- there is a field at the position, and it has a name
 abbrev pub IsNamedAt : List Field → ℕ → Type 0

@@ -43,11 +43,7 @@ fn keys_of_few(fields: &[Field]) -> Option<Keys>
 }
 
 /// How the values of the fields are shown. The order of names that are out of order is kept behind the positions.
-fn find_keys(
-    alloc: Global,
-    fields: &[Field],
-    positions: &mut Vec<u32>,
-) -> Result<Keys, AllocError>
+fn find_keys(alloc: Global, fields: &[Field], positions: &mut Vec<u32>) -> Result<Keys, AllocError>
     requires { length fields.now < 2 ^ 32 }
     ensures more { (more : List ℕ) × (positions.new.items ≡ positions.old.items ++ more) }
     ensures keys { IfOk result (AreKeys positions.new.items fields.now) }
@@ -108,7 +104,8 @@ impl<'r> Orders<'r> {
         self.positions[start + turn]
     }
 
-    /// How the values of the fields at a place are shown. It is found where it is not known.
+    /// How the values of the fields at a place are shown: at most one look-up, and a search where it is not known.
+    #[inline(always)]
     pub(crate) fn keys(
         &mut self,
         alloc: Global,
@@ -120,9 +117,24 @@ impl<'r> Orders<'r> {
         ensures grows { Grows self.old self.new }
         ensures keys { IfOk result (AreKeys self.new.positions fields.now) }
     {
-        if let Some(keys) = keys_of_few(fields) {
-            return Ok(keys);
+        match keys_of_few(fields) {
+            Some(keys) => Ok(keys),
+            None => self.kept_keys(alloc, place, fields),
         }
+    }
+
+    /// How the values of the fields at a place are shown, as it is known, or as it is found and kept.
+    fn kept_keys(
+        &mut self,
+        alloc: Global,
+        place: Place,
+        fields: &[Field],
+    ) -> Result<Keys, AllocError>
+        requires fields { fields_at self.old.types place ≡ Some fields.now }
+        requires few { length fields.now < 2 ^ 32 }
+        ensures grows { Grows self.old self.new }
+        ensures keys { IfOk result (AreKeys self.new.positions fields.now) }
+    {
         if let Some(keys) = self.known.get(&place) {
             return Ok(*keys);
         }

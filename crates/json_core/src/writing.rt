@@ -183,7 +183,7 @@ fn write_fields(
     }
 }
 
-/// A node and all that is below it.
+/// A node and all that is below it. It stands in the loops over children, so that a leaf costs no call of its own.
 #[cycle(write)]
 #[inline(always)]
 pub(crate) fn write_node(

@@ -1,7 +1,6 @@
-use Rattle.std.proofs.Common.{inl, inr, ap, sym, ◌∙◌, subst}
+use Rattle.std.proofs.Common.{inl, inr, sym, ◌∙◌}
 use Rattle.serde_json.specs.View.{items_view}
 use Rattle.serde_json.proofs.Views.{view-Array}
-use Rattle.json_core.specs.Ordered.{AreKeys}
 use Rattle.json_core.proofs.Ordered.{are_named, named_json_is, unnamed_json_is}
 use Rattle.json_core.proofs.fields.fields_json.Goals as goal
 

@@ -1,4 +1,4 @@
-use Rattle.std.proofs.Common.{◌≡◌, ℕ, List, [], ◌∷◌, ◌++◌, ◌+◌, Some, length, map, option_map, drop, get_or, rules, arith, inl, inr, refl, ap, ap₂, sym, ◌∙◌, subst}
+use Rattle.std.proofs.Common.{◌≡◌, [], ◌∷◌, ◌++◌, ◌+◌, length, map, drop, rules, arith, inl, inr, refl, ap, ap₂, sym, ◌∙◌}
 use Rattle.std.specs.Prelude.{slice_range}
 use Rattle.std.specs.Slice.Iter.{iter_rest}
 use Rattle.std.specs.Int.{w128}
@@ -64,13 +64,12 @@ write_in_order-returns-clause-adds t c =
     let none : members_in_order rest left ≡ no_members = elim ending [
       | inl h ↦ no_field_left rest left h.1.0
       | inr h ↦ no_item_left rest left (ap (λ l. length (map json_seen l)) h.1.0)
-    ] in
-    (
+    ] in (
       on_ok_weaker c.end_object.result (λ e. object_whole c.args.out.now.tokens
-      c.begin_object.new.self.tokens c.members.out.tokens c.end_object.new.self.tokens
-      (members_in_order fs ds) (members_in_order rest left) (fields_json fs (items_of ds))
-      c.in_ok-begin_object.ensures.ok c.members.invariant.told none e
-      (in_order_json_is fs ds c.requires.keys count)) c.end_object.ensures.ok,
+          c.begin_object.new.self.tokens c.members.out.tokens c.end_object.new.self.tokens
+          (members_in_order fs ds) (members_in_order rest left) (fields_json fs (items_of ds))
+          c.in_ok-begin_object.ensures.ok c.members.invariant.told none e
+          (in_order_json_is fs ds c.requires.keys count)) c.end_object.ensures.ok,
       c.end_object.ensures.room.0 ∙ c.members.invariant.before ∙ c.begin_object.ensures.room.0,
     )
 
@@ -152,14 +151,13 @@ write_sorted-returns-clause-adds t c =
     let order = slice_range c.args.orders.now.positions c.args.start (c.args.start + length fs) in
     let count : length fs ≡ length ds = c.requires.count
     ∙ sym (length-map (children_of c.args.node.now) json_seen) in
-    let many : length order ≡ length fs = positions_count fs order c.requires.keys.1 in
-    (
+    let many : length order ≡ length fs = positions_count fs order c.requires.keys.1 in (
       on_ok_weaker c.end_object.result (λ e. object_whole c.args.out.now.tokens
-      c.begin_object.new.self.tokens c.members.out.tokens c.end_object.new.self.tokens
-      (members_at fs ds order) (members_at fs ds (drop c.members.turn order))
-      (fields_json fs (items_of ds)) c.in_ok-begin_object.ensures.ok c.members.invariant.told
-      (no_position_left fs ds order c.members.turn (omega (arith, many))) e
-      (sorted_json_is fs order ds c.requires.keys.1 count)) c.end_object.ensures.ok,
+          c.begin_object.new.self.tokens c.members.out.tokens c.end_object.new.self.tokens
+          (members_at fs ds order) (members_at fs ds (drop c.members.turn order))
+          (fields_json fs (items_of ds)) c.in_ok-begin_object.ensures.ok c.members.invariant.told
+          (no_position_left fs ds order c.members.turn (omega (arith, many))) e
+          (sorted_json_is fs order ds c.requires.keys.1 count)) c.end_object.ensures.ok,
       c.end_object.ensures.room.0 ∙ c.members.invariant.before ∙ c.begin_object.ensures.room.0,
     )
 
@@ -172,22 +170,28 @@ write_fields-returns-in-Unnamed-clause-adds t c =
 pub write_node-write_unsigned-requires : goal.write_node-write_unsigned-requires
 write_node-write_unsigned-requires t c =
     λ e. (told c.args.node.now _ c.in-Unsigned.ensures.value c.in-Unsigned.ensures.same).0
-    (sym (long_here c.args.node.now _ _ _ (c.checked-checked.ensures ∙ c.requires,
-    c.type_id-ty.ensures.same) c.is_long.ensures) ∙ e)
+    (sym (long_here c.args.node.now _ _ _ (
+      c.checked-checked.ensures ∙ c.requires,
+      c.type_id-ty.ensures.same,
+    ) c.is_long.ensures) ∙ e)
 
 pub write_node-write_signed-requires : goal.write_node-write_signed-requires
 write_node-write_signed-requires t c =
     λ e. rw (to_z-of_z w128 c.in-Signed.n (search rules))
     ((told c.args.node.now _ c.in-Signed.ensures.value c.in-Signed.ensures.same).0
-    (sym (long_here c.args.node.now _ _ _ (c.checked-checked.ensures ∙ c.requires,
-    c.type_id-ty.ensures.same) c.is_long-in-Signed.ensures) ∙ e))
+    (sym (long_here c.args.node.now _ _ _ (
+      c.checked-checked.ensures ∙ c.requires,
+      c.type_id-ty.ensures.same,
+    ) c.is_long-in-Signed.ensures) ∙ e))
 
 pub write_node-write_unsigned-requires-in-Compact :
     goal.write_node-write_unsigned-requires-in-Compact
 write_node-write_unsigned-requires-in-Compact t c =
     λ e. (told c.args.node.now _ c.in-Compact.ensures.value c.in-Compact.ensures.same).0
-    (sym (long_compact_here c.args.node.now _ _ _ (c.checked-checked.ensures ∙ c.requires,
-    c.type_id-ty.ensures.same) c.is_long_compact.ensures) ∙ e)
+    (sym (long_compact_here c.args.node.now _ _ _ (
+      c.checked-checked.ensures ∙ c.requires,
+      c.type_id-ty.ensures.same,
+    ) c.is_long_compact.ensures) ∙ e)
 
 pub write_node-write_fields-requires : goal.write_node-write_fields-requires
 write_node-write_fields-requires t c =
@@ -234,7 +238,7 @@ write_node-write_fields-requires-in-Arm t c =
           (
             rw c.as_slice.ensures (rw c.unwrap-arm.ensures at few),
             rw c.as_slice.ensures (arm_count s c.in-Arm.position a c.in-Arm.ensures.value
-            c.in-Arm.ensures.same at),
+                c.in-Arm.ensures.same at),
           ),
         ),
       ),
@@ -265,16 +269,20 @@ pub write_node-returns-in-Unsigned-clause-adds : goal.write_node-returns-in-Unsi
 write_node-returns-in-Unsigned-clause-adds t c = rw (
   (told c.args.node.now _ c.in-Unsigned.ensures.value c.in-Unsigned.ensures.same).1,
   ←
-      long_here c.args.node.now _ _ _ (c.checked-checked.ensures ∙ c.requires,
-      c.type_id-ty.ensures.same) c.is_long.ensures,
+      long_here c.args.node.now _ _ _ (
+        c.checked-checked.ensures ∙ c.requires,
+        c.type_id-ty.ensures.same,
+      ) c.is_long.ensures,
 ) c.write_unsigned.ensures
 
 pub write_node-returns-in-Signed-clause-adds : goal.write_node-returns-in-Signed-clause-adds
 write_node-returns-in-Signed-clause-adds t c = rw (
   (told c.args.node.now _ c.in-Signed.ensures.value c.in-Signed.ensures.same).1,
   ←
-      long_here c.args.node.now _ _ _ (c.checked-checked.ensures ∙ c.requires,
-      c.type_id-ty.ensures.same) c.is_long-in-Signed.ensures,
+      long_here c.args.node.now _ _ _ (
+        c.checked-checked.ensures ∙ c.requires,
+        c.type_id-ty.ensures.same,
+      ) c.is_long-in-Signed.ensures,
 ) (rw (to_z-of_z w128 c.in-Signed.n (search rules)) at c.write_signed.ensures)
 
 pub write_node-returns-in-Wide-clause-adds : goal.write_node-returns-in-Wide-clause-adds
@@ -286,8 +294,10 @@ pub write_node-returns-in-Compact-clause-adds : goal.write_node-returns-in-Compa
 write_node-returns-in-Compact-clause-adds t c = rw (
   (told c.args.node.now _ c.in-Compact.ensures.value c.in-Compact.ensures.same).1,
   ←
-      long_compact_here c.args.node.now _ _ _ (c.checked-checked.ensures ∙ c.requires,
-      c.type_id-ty.ensures.same) c.is_long_compact.ensures,
+      long_compact_here c.args.node.now _ _ _ (
+        c.checked-checked.ensures ∙ c.requires,
+        c.type_id-ty.ensures.same,
+      ) c.is_long_compact.ensures,
 ) c.write_unsigned-in-Compact.ensures
 
 pub write_node-returns-in-Some-clause-adds : goal.write_node-returns-in-Some-clause-adds
@@ -305,8 +315,10 @@ write_node-returns-in-None-clause-adds t c =
     let at = no_fields_at_node s _ _ c.composite_fields.result
     (c.checked-checked.ensures ∙ c.requires, c.type_id-ty.ensures.same)
     c.composite_fields.ensures.same c.in-None.is in
-    rw (told s _ c.in-Fields.ensures.value c.in-Fields.ensures.same,
-    no_fields_json (shape s.types s.ty) (jsons (children_of s)) at) c.write_items.ensures.adds
+    rw (
+      told s _ c.in-Fields.ensures.value c.in-Fields.ensures.same,
+      no_fields_json (shape s.types s.ty) (jsons (children_of s)) at,
+    ) c.write_items.ensures.adds
 
 pub write_node-returns-in_ok-write_fields-in-Arm-clause-adds :
     goal.write_node-returns-in_ok-write_fields-in-Arm-clause-adds
@@ -331,7 +343,7 @@ write_node-returns-in_ok-write_fields-in-Arm-clause-adds t c =
     ∙ ap (λ us. us ++ key n ∷ []) c.in_ok-begin_object-in-Arm.ensures.ok) in
     rw shows (
       on_ok_weaker c.end_object.result (λ e. e ∙ ap (λ us. us ++ end_object ∷ []) said
-      ∙ one_member old ts n) c.end_object.ensures.ok,
+          ∙ one_member old ts n) c.end_object.ensures.ok,
       c.end_object.ensures.room.0 ∙ c.in_ok-write_fields-in-Arm.ensures.adds.1
           ∙ c.key.ensures.room.0 ∙ c.begin_object.ensures.room.0,
     )

@@ -1,16 +1,16 @@
-use Rattle.std.proofs.Common.{◌≡◌, ◌++◌, Some, ap, sym, ◌∙◌, subst}
+use Rattle.std.proofs.Common.{ap, sym, ◌∙◌, subst}
 use Rattle.json_core.specs.Ordered.{fields_at, AreKeys, AreKnown, OrdersView}
 use Rattle.json_core.proofs.Known.{keys_found, keys_put, known_more, same_place}
-use Rattle.json_core.proofs.orders.Orders.keys.Goals as goal
+use Rattle.json_core.proofs.orders.Orders.kept_keys.Goals as goal
 
-pub returns-in-Some-get-clause-keys : goal.returns-in-Some-get-clause-keys
-returns-in-Some-get-clause-keys c =
+pub returns-in-Some-clause-keys : goal.returns-in-Some-clause-keys
+returns-in-Some-clause-keys c =
     let at = ap (λ (o : OrdersView). fields_at o.types c.args.place) c.self.view_is
     ∙ c.requires.fields in
-    subst (λ (o : OrdersView). AreKeys o.positions c.args.fields.now c.in-Some-get.keys.now)
+    subst (λ (o : OrdersView). AreKeys o.positions c.args.fields.now c.in-Some.keys.now)
     c.self.view_is (keys_found same_place c.self.inside.checked.now.types
     c.self.inside.positions.items c.self.inside.known.entries c.args.place c.args.fields.now
-    c.get.result c.in-Some-get.keys c.self.invariant at c.get.ensures.value c.in-Some-get.is)
+    c.get.result c.in-Some.keys c.self.invariant at c.get.ensures.value c.in-Some.is)
 
 pub invariant_of-self : goal.invariant_of-self
 invariant_of-self c = known_more c.self.inside.checked.now.types c.self.inside.positions.items _
