@@ -74,7 +74,8 @@ arm_counted r t q i arms a vs b e f h other is =
     ∙ arm_get arms i q a f in
     let both : Some a ≡ Some other = sym found ∙ is in
     let same : a ≡ other = cc in
-    let many : length (children_by r t (tree.branch (tree.arm q) vs)) ≡ length (field_types a.fields) =
+    let many : length (children_by r t (tree.branch (tree.arm q) vs))
+    ≡ length (field_types a.fields) =
     ap (λ (p : Part). length (seen_parts r p vs)) (arm_part_is r t q arms i a e f)
     ∙ parts_count r (field_types a.fields) vs b h in
     let count : length (field_types a.fields) ≡ length other.fields =

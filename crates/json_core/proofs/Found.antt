@@ -37,7 +37,8 @@ shown_insert (e ∷ es) k i = shown_match (kept_cmp k e.0) _ _ _
     ((e.0.now, i) ∷ shown es) ((e.0.now, e.1) ∷ s)) (shown_insert es k i)
 
 shown_lookup : (es : Kept) (n : List ℕ) →
-    lookup (is_at (λ k. slice_cmp nat_cmp n k.now)) es ≡ lookup (is_at (slice_cmp nat_cmp n)) (shown es)
+    lookup (is_at (λ k. slice_cmp nat_cmp n k.now)) es
+    ≡ lookup (is_at (slice_cmp nat_cmp n)) (shown es)
 shown_lookup [] n = refl
 shown_lookup (e ∷ es) n =
     ap (λ o. cond (is_eq (slice_cmp nat_cmp n e.0.now)) (Some e.1) o) (shown_lookup es n)
@@ -53,8 +54,8 @@ next_field fs p f n es e is =
     ∙ ap (λ q. cond (is_there n es) None (order_from (drop (p + 1) fs) q (insert n p es)))
     (omega arith)
 
-there : (k : Bor (List ℕ)) (old : Kept) (found : Option ℕ) → found ≡ lookup (is_at (kept_cmp k)) old →
-    is_some found ≡ is_there k.now (shown old)
+there : (k : Bor (List ℕ)) (old : Kept) (found : Option ℕ) →
+    found ≡ lookup (is_at (kept_cmp k)) old → is_some found ≡ is_there k.now (shown old)
 there k old found e = ap is_some (e ∙ shown_lookup old k.now)
 
 -- a name that is there already

@@ -121,11 +121,14 @@ module _ {R : Place → Place → Ordering} (exact : CmpEqualImpliesEq R) where
       (subst (λ o. AreKeysOf ps o k) (sym at) keys))
 
 -- a place is the two numbers in it
-pub same_place : CmpEqualImpliesEq (λ (p q : Place). ordering_then (nat_cmp p.ty q.ty) (nat_cmp p.arm q.arm))
+pub same_place : CmpEqualImpliesEq
+    (λ (p q : Place). ordering_then (nat_cmp p.ty q.ty) (nat_cmp p.arm q.arm))
 same_place p q e = go (nat_cmp p.ty q.ty) refl e where
-  go : (o : Ordering) → nat_cmp p.ty q.ty ≡ o → ordering_then o (nat_cmp p.arm q.arm) ≡ Equal → p ≡ q
+  go : (o : Ordering) → nat_cmp p.ty q.ty ≡ o →
+      ordering_then o (nat_cmp p.arm q.arm) ≡ Equal → p ≡ q
   go Less is h = absurd cc
-  go Equal is h = ap₂ (λ t a. record { ty = t; arm = a }) (exact_unsigned p.ty q.ty is) (exact_unsigned p.arm q.arm h)
+  go Equal is h = ap₂ (λ t a. record { ty = t; arm = a }) (exact_unsigned p.ty q.ty is)
+      (exact_unsigned p.arm q.arm h)
   go Greater is h = absurd cc
 
 -- ---- keys that are found

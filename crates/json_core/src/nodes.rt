@@ -125,7 +125,8 @@ fn node_json(
 
 /// A value as a tree of `serde_json` (this project's own table, `docs/FORMATS.md`, "JSON").
 ///
-/// The calls nest as deep as the value's levels, which are at most 1025.
+/// It takes time in proportion to the tree, and for each type that it meets to sort its names. The calls nest as deep as
+/// the value's levels, which are at most 1025. The tree nests at most twice as deep.
 ///
 /// Refuses with `AllocError` where memory was refused. The value stays as it was in either case.
 pub fn to_json<A: Allocator>(

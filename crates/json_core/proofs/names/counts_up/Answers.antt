@@ -11,7 +11,8 @@ returns-then-position-place c =
     let within : i < length xs = omega arith in (
       λ h. absurd (true≢false (sym h)),
       λ e. absurd (c.if-position-place.true
-          (ap (λ l. get_or l i 0) e ∙ get_or-range_with_len 0 (length xs) i 0 within ∙ omega arith)),
+          (ap (λ l. get_or l i 0) e ∙ get_or-range_with_len 0 (length xs) i 0 within
+          ∙ omega arith)),
     )
 
 pub returns : goal.returns
