@@ -1,6 +1,6 @@
 //! Values as JSON: their trees and texts, and texts printed to writers that fail.
 
-use json_core::{PrintFault, print, to_json};
+use json_core::{PrintFault, json_text, print, to_json};
 use registry_core::TypeId;
 use scale_core::{Sink, SinkFault};
 use scale_tests::building::{
@@ -215,7 +215,93 @@ const FORMS: [Row; 12] = [
     },
 ];
 
-/// The tree has the row's text, and that text is printed to a writer that fails right behind it.
+/// Fields and arms whose keys stand in an order of their own, met more than once in a value.
+const ORDERS: [Row; 6] = [
+    Row {
+        name: "two composites of one type, with keys in another order than the fields",
+        registry: b"\x0c\x00\x00\x00\x05\x03\x00\x04\x00\x00\x00\x0c\x01\x04b\x00\x00\x00\x01\x04c\x00\x00\x00\x01\x04a\x00\x00\x00\x00\x08\x00\x00\x02\x04\x00",
+        ty: 2,
+        calls: &[
+            Call::List(2),
+            Call::Fields,
+            Call::Unsigned(1),
+            Call::Unsigned(2),
+            Call::Unsigned(3),
+            Call::Fields,
+            Call::Unsigned(4),
+            Call::Unsigned(5),
+            Call::Unsigned(6),
+        ],
+        text: "[{\"a\":3,\"b\":1,\"c\":2},{\"a\":6,\"b\":4,\"c\":5}]",
+    },
+    Row {
+        name: "two arms of one type, each with an order of its own",
+        registry: b"\x0c\x00\x00\x00\x05\x03\x00\x04\x00\x00\x01\x08\x04P\x08\x01\x04y\x00\x00\x00\x01\x04x\x00\x00\x00\x00\x00\x04Q\x08\x01\x04x\x00\x00\x00\x01\x04y\x00\x00\x00\x01\x00\x00\x08\x00\x00\x02\x04\x00",
+        ty: 2,
+        calls: &[
+            Call::List(3),
+            Call::Arm(0),
+            Call::Unsigned(1),
+            Call::Unsigned(2),
+            Call::Arm(1),
+            Call::Unsigned(3),
+            Call::Unsigned(4),
+            Call::Arm(0),
+            Call::Unsigned(5),
+            Call::Unsigned(6),
+        ],
+        text: "[{\"P\":{\"x\":2,\"y\":1}},{\"Q\":{\"x\":3,\"y\":4}},{\"P\":{\"x\":6,\"y\":5}}]",
+    },
+    Row {
+        name: "a composite within another, both with keys in another order than the fields",
+        registry: b"\x0c\x00\x00\x00\x05\x03\x00\x04\x00\x00\x00\x08\x01\x04d\x00\x00\x00\x01\x04c\x00\x00\x00\x00\x08\x00\x00\x00\x0c\x01\x04z\x04\x00\x00\x01\x04y\x04\x00\x00\x01\x04x\x00\x00\x00\x00",
+        ty: 2,
+        calls: &[
+            Call::Fields,
+            Call::Fields,
+            Call::Unsigned(1),
+            Call::Unsigned(2),
+            Call::Fields,
+            Call::Unsigned(3),
+            Call::Unsigned(4),
+            Call::Unsigned(5),
+        ],
+        text: "{\"x\":5,\"y\":{\"c\":4,\"d\":3},\"z\":{\"c\":2,\"d\":1}}",
+    },
+    Row {
+        name: "a name that is the beginning of another, and one that is escaped",
+        registry: b"\x08\x00\x00\x00\x05\x03\x00\x04\x00\x00\x00\x0c\x01\x08ab\x00\x00\x00\x01\x04a\x00\x00\x00\x01\x04\"\x00\x00\x00\x00",
+        ty: 1,
+        calls: &[
+            Call::Fields,
+            Call::Unsigned(1),
+            Call::Unsigned(2),
+            Call::Unsigned(3),
+        ],
+        text: "{\"\\\"\":3,\"a\":2,\"ab\":1}",
+    },
+    Row {
+        name: "one field with a name",
+        registry: b"\x08\x00\x00\x00\x05\x03\x00\x04\x00\x00\x00\x04\x01\x04a\x00\x00\x00\x00",
+        ty: 1,
+        calls: &[Call::Fields, Call::Unsigned(1)],
+        text: "{\"a\":1}",
+    },
+    Row {
+        name: "the first and the last of three fields have one name",
+        registry: b"\x08\x00\x00\x00\x05\x03\x00\x04\x00\x00\x00\x0c\x01\x04b\x00\x00\x00\x01\x04a\x00\x00\x00\x01\x04b\x00\x00\x00\x00",
+        ty: 1,
+        calls: &[
+            Call::Fields,
+            Call::Unsigned(1),
+            Call::Unsigned(2),
+            Call::Unsigned(3),
+        ],
+        text: "[1,2,3]",
+    },
+];
+
+/// The tree has the row's text, and so has the text itself, which is printed to a writer that fails right behind it.
 fn check_text(
     rt: &impl Abort,
     alloc: Global,
@@ -226,6 +312,8 @@ fn check_text(
     let tree = to_json(alloc, value)?;
     let text = tree.to_string(alloc)?;
     assert_eq!(rt; text.as_str(), row.text, "the tree of {name}");
+    let text = json_text(alloc, value)?;
+    assert_eq!(rt; text.as_str(), row.text, "{name}");
     let mut sink = Sink::new(PacedWriter::new(alloc, row.text.len(), 1, Then::Fails));
     assert_eq!(rt; print(alloc, value, &mut sink), Ok(()), "{name}");
     assert!(rt; !sink.failed(), "{name}");
@@ -286,6 +374,14 @@ fn worked_rows_have_their_text(rt: HostRuntime) -> Result<(), Fail> {
 #[test]
 fn each_form_has_its_text(rt: HostRuntime) -> Result<(), Fail> {
     'rows: for row in &FORMS {
+        check_row(&rt, rt.alloc(), row)?;
+    }
+    Ok(())
+}
+
+#[test]
+fn each_order_has_its_text(rt: HostRuntime) -> Result<(), Fail> {
+    'rows: for row in &ORDERS {
         check_row(&rt, rt.alloc(), row)?;
     }
     Ok(())

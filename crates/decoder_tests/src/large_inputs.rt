@@ -1,7 +1,7 @@
 //! Inputs that are large: a decoder to which memory is granted answers them, and never says that it was refused.
 
 use decode_core::{DecodeFault, DecodeReason, Decoder, Progress};
-use json_core::print;
+use json_core::{json_text, print};
 use registry_core::TypeId;
 use scale_core::{Sink, write_compact};
 use scale_tests::building::{BYTES, CHAIN, TEXT, TWO_UNITS_AND_A_BYTE, UNITS, checked, written};
@@ -126,6 +126,41 @@ fn the_deepest_value_is_taken(rt: HostRuntime) -> Result<(), Fail> {
     }
     assert_eq!(rt; node.what(), What::Arm { position: 0 });
     assert!(rt; node.children().next().is_none());
+    Ok(())
+}
+
+/// Each of 1024 arms that hold another is an object around an array.
+fn shown_arms(alloc: Global) -> Result<String, AllocError> {
+    let mut text = String::new(alloc);
+    'arms: for _ in 0..1024 {
+        text.push_str("{\"Next\":[")?;
+    }
+    text.push_str("{\"End\":[]}")?;
+    'ends: for _ in 0..1024 {
+        text.push_str("]}")?;
+    }
+    Ok(text)
+}
+
+// The calls that write a value nest as deep as it does.
+#[test]
+fn the_deepest_value_is_shown(rt: HostRuntime) -> Result<(), Fail> {
+    let checked = checked(rt.alloc(), CHAIN)?;
+    let deepest = Limits {
+        depth: 1024,
+        bytes: 2048,
+    };
+    let input = arms(rt.alloc(), 1024)?;
+    let Ok(mut decoder) = Decoder::new(rt.alloc(), &checked, TypeId(0), deepest) else {
+        return Err("no decoder")?;
+    };
+    assert_eq!(rt; decoder.feed(&input), Ok(Progress::Done { used: 1025 }));
+    let Ok(value) = decoder.finish() else {
+        return Err("no value")?;
+    };
+    let text = json_text(rt.alloc(), &value)?;
+    let wanted = shown_arms(rt.alloc())?;
+    assert!(rt; text.as_str() == wanted.as_str());
     Ok(())
 }
 

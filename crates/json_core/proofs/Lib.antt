@@ -1,5 +1,9 @@
 pub mod Children
+pub mod Counts
 pub mod Floats
-pub mod Names
-pub mod Printed
+pub mod Found
+pub mod Known
+pub mod Members
+pub mod Ordered
 pub mod Told
+pub mod Turns

@@ -1,8 +1,7 @@
 -- A node of a value, by what it is: the JSON that its definition and its children give is that of
 -- the value.
-use Rattle.std.proofs.Common.{◌≡◌, ℕ, ◌-◌, ◌*◌, ◌^◌, ◌<◌, ◌≤◌, ◌⊎◌, Bool, true, false, cond, List, length, Option, Some, None, refl, sym, ap, subst, ◌∙◌, arith, inl, inr, true≢false, Bor, Result, option_map}
+use Rattle.std.proofs.Common.{◌≡◌, ℕ, ◌-◌, ◌*◌, ◌^◌, ◌<◌, ◌≤◌, ◌⊎◌, Bool, true, false, cond, List, length, Option, Some, None, refl, sym, ap, subst, ◌∙◌, arith, inl, inr, true≢false, Bor, option_map}
 use Rattle.std.specs.Option.{IsSome}
-use Rattle.std.specs.Result.{IfOk}
 use Rattle.std.proofs.lemmas.Bool.{ltb-true, ltb-false}
 use Rattle.std.specs.Int.{w64}
 use Rattle.std.specs.Prelude.{ℤ, pos, neg_ℤ, nat_lt, nat_le, codes, FitsSigned, slice_get}
@@ -15,6 +14,7 @@ use Rattle.scale_core.specs.declared.compact.Target.{Target}
 use Rattle.scale_core.specs.declared.compact.Target.TheVariants as target
 use Rattle.scale_core.proofs.Numbers.{number-bound, neg-pos}
 use Rattle.registry_core.specs.declared.definition.Arm.{Arm}
+use Rattle.registry_core.specs.declared.definition.Field.{Field}
 use Rattle.registry_core.specs.declared.definition.TypeDef.{TypeDef}
 use Rattle.registry_core.specs.declared.definition.TypeDef.TheVariants as Def
 use Rattle.registry_core.specs.Kinds.{kind_of, width_bytes}
@@ -39,18 +39,19 @@ use Rattle.value_core.specs.Whats.{what_of}
 use Rattle.value_core.specs.declared.what.What.{What}
 use Rattle.value_core.specs.declared.what.What.TheVariants as what
 use Rattle.value_core.proofs.Below.{arm_get, arm_part_is}
-use Rattle.json_core.specs.Defined.{unsigned_by, signed_by, is_long_kind, is_long, is_long_target, defined_arm}
+use Rattle.json_core.specs.Defined.{unsigned_by, signed_by, is_long_kind, is_long, is_long_target, defined_arm, composite_fields}
 use Rattle.json_core.specs.Json.{json_of, json_seen, all_json, each_json, unsigned_json, signed_json, unsigned_of, signed_of, wide_json, parts_json, fields_json, arm_json, arm_at_position, arm_types, part_types, element_type}
+use Rattle.json_core.specs.Ordered.{fields_in}
 use Rattle.json_core.proofs.Children.{jsons, all_is, each_is}
 
 -- ---- what the layout of a type says of its definition
 
 -- integers of k bytes are long, or so many numbers fit 64 bits
-abbrev Long : ℕ → Bool → Type 0
+abbrev pub Long : ℕ → Bool → Type 0
 Long k is = ((is ≡ true) × (nat_le k 8 ≡ false))
     ⊎ ((is ≡ false) × (nat_le k 8 ≡ true) × (256 ^ k ≤ 2 ^ 64))
 
-abbrev Defined : List TypeInfo → Layout → Option TypeDef → Type 0
+abbrev pub Defined : List TypeInfo → Layout → Option TypeDef → Type 0
 Defined r (layout.plain (layout.unsigned k)) d = Long k (is_long d)
 Defined r (layout.plain (layout.signed k)) d = Long k (is_long d)
 Defined r (layout.arms as') d = d ≡ Some (Def.Variant as')
@@ -103,7 +104,7 @@ defined : (r : List TypeInfo) (t : ℕ) → Defined r (layout r t) (shape r t)
 unfolding layout
 defined r t = defined_from r (is_empty r t) (shape r t)
 
-defined_at : (r : List TypeInfo) (t : ℕ) (f : Layout) → layout r t ≡ f → Defined r f (shape r t)
+pub defined_at : (r : List TypeInfo) (t : ℕ) (f : Layout) → layout r t ≡ f → Defined r f (shape r t)
 defined_at r t f e = subst (λ (g : Layout). Defined r g (shape r t)) e (defined r t)
 
 -- ---- integers
@@ -274,17 +275,61 @@ pub long_compact_here : (s : Seen) (types : List TypeInfo) (t : ℕ) (found : Bo
     found ≡ is_long_target (compact_target_of s.types s.ty)
 long_compact_here s types t found at e = rw (← at.0, ← at.1) e
 
--- ---- what the code has made of a node's text and of its arm
+-- ---- what the code has found of a node's text, of its fields and of its arm
 
-pub text_here : {E X : Type 0} (s : Seen) (found : Option (Bor (List ℕ))) (text : Bor (List ℕ))
-    (made : Result X E) (seen : X → Data) → option_map (λ x. x.now) found ≡ text_of s.tree →
-    found ≡ Some text → Told s.types s.ty s.tree what.Text
-    → IfOk made (λ v. seen v ≡ json.string text.now) → IfOk made (λ v. seen v ≡ json_seen s)
-text_here s found text made seen e f h g =
+pub text_is : (s : Seen) (found : Option (Bor (List ℕ))) (text : Bor (List ℕ)) →
+    option_map (λ x. x.now) found ≡ text_of s.tree → found ≡ Some text →
+    Told s.types s.ty s.tree what.Text → json_seen s ≡ json.string text.now
+text_is s found text e f h =
     let same : Some text.now ≡ Some h.0 = ap (option_map (λ (x : Bor (List ℕ)). x.now)) (sym f) ∙ e
     ∙ h.1 in
     let is : text.now ≡ h.0 = cc in
-    rw (h.2, ← is) g
+    h.2 ∙ ap json.string (sym is)
+
+-- the fields that were found are those of the node's type
+pub fields_at_node : (s : Seen) (types : List TypeInfo) (t : ℕ)
+    (found : Option (Bor (List Field))) (fs : Bor (List Field)) → AtNode s types t →
+    option_map (λ x. x.now) found ≡ composite_fields (shape types t) → found ≡ Some fs →
+    composite_fields (shape s.types s.ty) ≡ Some fs.now
+fields_at_node s types t found fs at e f =
+    rw (← at.0, ← at.1) (sym e ∙ ap (option_map (λ (x : Bor (List Field)). x.now)) f)
+
+pub no_fields_at_node : (s : Seen) (types : List TypeInfo) (t : ℕ)
+    (found : Option (Bor (List Field))) → AtNode s types t →
+    option_map (λ x. x.now) found ≡ composite_fields (shape types t) → found ≡ None →
+    composite_fields (shape s.types s.ty) ≡ None
+no_fields_at_node s types t found at e f =
+    rw (← at.0, ← at.1) (sym e ∙ ap (option_map (λ (x : Bor (List Field)). x.now)) f)
+
+-- a composite's value has the JSON of its fields
+pub fields_are : (s : Seen) (fs : List Field) → composite_fields (shape s.types s.ty) ≡ Some fs →
+    Told s.types s.ty s.tree what.Fields → json_seen s ≡ fields_json fs (jsons (children_of s))
+fields_are s fs e h = h ∙ go (shape s.types s.ty) e where
+  go : (d : Option TypeDef) → composite_fields d ≡ Some fs →
+      parts_json d (jsons (children_of s)) ≡ fields_json fs (jsons (children_of s))
+  go None f = absurd cc
+  go (Some (Def.Composite gs)) f = let same : gs ≡ fs = cc in
+      ap (λ (l : List Field). fields_json l (jsons (children_of s))) same
+  go (Some (Def.Variant arms)) f = absurd cc
+  go (Some (Def.Sequence t)) f = absurd cc
+  go (Some (Def.Array n t)) f = absurd cc
+  go (Some (Def.Tuple ts)) f = absurd cc
+  go (Some (Def.Primitive p)) f = absurd cc
+  go (Some (Def.Compact t)) f = absurd cc
+  go (Some (Def.BitSequence store order)) f = absurd cc
+
+-- what is no composite has no names
+pub no_fields_json : (d : Option TypeDef) (ds : Items) → composite_fields d ≡ None →
+    parts_json d ds ≡ json.array ds
+no_fields_json None ds e = refl
+no_fields_json (Some (Def.Composite gs)) ds e = absurd cc
+no_fields_json (Some (Def.Variant arms)) ds e = refl
+no_fields_json (Some (Def.Sequence t)) ds e = refl
+no_fields_json (Some (Def.Array n t)) ds e = refl
+no_fields_json (Some (Def.Tuple ts)) ds e = refl
+no_fields_json (Some (Def.Primitive p)) ds e = refl
+no_fields_json (Some (Def.Compact t)) ds e = refl
+no_fields_json (Some (Def.BitSequence store order)) ds e = refl
 
 pub arm_there : (s : Seen) (q : ℕ) (types : List TypeInfo) (t : ℕ) (found : Option (Bor Arm)) →
     AtNode s types t → option_map (λ x. x.now) found ≡ defined_arm (shape types t) q →
@@ -294,17 +339,45 @@ arm_there s q types t None at e h = let no : None ≡ Some h.0 = e
     ∙ ap (λ (u : ℕ). defined_arm (shape s.types u) q) at.1 ∙ h.1 in absurd cc
 arm_there s q types t (Some a) at e h = refl
 
-pub arm_here : {E X : Type 0} (s : Seen) (q : ℕ) (types : List TypeInfo) (t : ℕ)
-    (found : Option (Bor Arm)) (a : Bor Arm) (made : Result X E) (seen : X → Data) (items : Items) →
-    AtNode s types t → option_map (λ x. x.now) found ≡ defined_arm (shape types t) q →
-    found ≡ Some a
-    → Told s.types s.ty s.tree (what.Arm q) → items ≡ jsons (children_of s)
-    → IfOk made (λ v. seen v
-    ≡ json.object (member a.now.name (fields_json a.now.fields items) no_members)) →
-    IfOk made (λ v. seen v ≡ json_seen s)
-arm_here s q types t found a made seen items at e f h i g =
-    let same : Some a.now ≡ Some h.0 = ap (option_map (λ (x : Bor Arm). x.now)) (sym f) ∙ e
-    ∙ ap (λ (r : List TypeInfo). defined_arm (shape r t) q) at.0
-    ∙ ap (λ (u : ℕ). defined_arm (shape s.types u) q) at.1 ∙ h.1 in
-    let is : a.now ≡ h.0 = cc in
-    rw (h.2, ← is, ← i) g
+-- the arm that was found is the node's
+pub arm_at_node : (s : Seen) (q : ℕ) (types : List TypeInfo) (t : ℕ) (found : Option (Bor Arm))
+    (a : Bor Arm) → AtNode s types t →
+    option_map (λ x. x.now) found ≡ defined_arm (shape types t) q → found ≡ Some a →
+    defined_arm (shape s.types s.ty) q ≡ Some a.now
+arm_at_node s q types t found a at e f =
+    rw (← at.0, ← at.1) (sym e ∙ ap (option_map (λ (x : Bor Arm). x.now)) f)
+
+pub arm_is : (s : Seen) (q : ℕ) (a : Arm) → defined_arm (shape s.types s.ty) q ≡ Some a →
+    Told s.types s.ty s.tree (what.Arm q) → json_seen s
+    ≡ json.object (member a.name (fields_json a.fields (jsons (children_of s))) no_members)
+arm_is s q a e h =
+    let both : Some h.0 ≡ Some a = sym h.1 ∙ e in
+    let is : h.0 ≡ a = cc in
+    h.2 ∙ ap (λ (x : Arm). json.object
+    (member x.name (fields_json x.fields (jsons (children_of s))) no_members)) is
+
+-- ---- the fields at a place
+
+pub composite_place : (d : Option TypeDef) (q : ℕ) (fs : List Field) →
+    composite_fields d ≡ Some fs → fields_in d q ≡ Some fs
+composite_place None q fs e = absurd cc
+composite_place (Some (Def.Composite gs)) q fs e = e
+composite_place (Some (Def.Variant arms)) q fs e = absurd cc
+composite_place (Some (Def.Sequence t)) q fs e = absurd cc
+composite_place (Some (Def.Array n t)) q fs e = absurd cc
+composite_place (Some (Def.Tuple ts)) q fs e = absurd cc
+composite_place (Some (Def.Primitive p)) q fs e = absurd cc
+composite_place (Some (Def.Compact t)) q fs e = absurd cc
+composite_place (Some (Def.BitSequence store order)) q fs e = absurd cc
+
+pub arm_place : (d : Option TypeDef) (q : ℕ) (a : Arm) → defined_arm d q ≡ Some a →
+    fields_in d q ≡ Some a.fields
+arm_place None q a e = absurd cc
+arm_place (Some (Def.Composite gs)) q a e = absurd cc
+arm_place (Some (Def.Variant arms)) q a e = ap (option_map (λ (x : Arm). x.fields)) e
+arm_place (Some (Def.Sequence t)) q a e = absurd cc
+arm_place (Some (Def.Array n t)) q a e = absurd cc
+arm_place (Some (Def.Tuple ts)) q a e = absurd cc
+arm_place (Some (Def.Primitive p)) q a e = absurd cc
+arm_place (Some (Def.Compact t)) q a e = absurd cc
+arm_place (Some (Def.BitSequence store order)) q a e = absurd cc

@@ -1,11 +1,15 @@
 //! A value as JSON: as a tree of `serde_json`, as its text, and as that text written to a sink.
 #![tactic(auto)]
 
+mod defined;
 mod fields;
 mod integers;
 pub mod laws;
+mod names;
 mod nodes;
+mod orders;
 mod printing;
+mod writing;
 
 pub use nodes::to_json;
 pub use printing::{PrintFault, json_text, print};

@@ -1,0 +1,155 @@
+-- What is known of the orders of keys, as more become known.
+use Rattle.std.proofs.Common.{◌≡◌, ℕ, ◌+◌, ◌-◌, ◌≤◌, cond, List, [], ◌∷◌, ◌++◌, length, take, drop, Option, Some, None, Ordering, Less, Equal, Greater, nat_cmp, is_eq, Bor, refl, sym, ap, ap₂, ◌∙◌, subst, arith, length-append, append_assoc, length-drop}
+use Rattle.std.specs.Prelude.{slice_range, option_copied}
+use Rattle.std.specs.List.{range_with_len}
+use Rattle.json_core.proofs.Ordered.{positions_count}
+use Rattle.std.specs.Map.{lookup}
+use Rattle.std.specs.Ordering.{match_ordering, ordering_then}
+use Rattle.std.specs.BTreeMap.{insert_entry, is_at}
+use Rattle.std.proofs.lemmas.List.{take-append-le, drop-append-le, append-nil}
+use Rattle.std.proofs.Math.Seq.{drop-append_seam, take-length}
+use Rattle.std.proofs.lemmas.Map.Lookups.{CmpEqualImpliesEq, exact_unsigned}
+use Rattle.registry_core.specs.declared.definition.Field.{Field}
+use Rattle.registry_core.specs.declared.type_info.TypeInfo.{TypeInfo}
+use Rattle.json_core.specs.declared.orders.Place.{Place}
+use Rattle.json_core.specs.declared.orders.Keys.{Keys}
+use Rattle.json_core.specs.declared.orders.Keys.TheVariants as keys
+use Rattle.json_core.specs.Ordered.{key_order, fields_at, OrdersView, AreKeys, AreKeysOf, AreKnown, Grows}
+
+-- ---- positions that are added change nothing of the others
+
+same_range : (ps more : List ℕ) (start count : ℕ) → start + count ≤ length ps →
+    slice_range (ps ++ more) start (start + count) ≡ slice_range ps start (start + count)
+same_range ps more start count h =
+    let within : start ≤ length ps = omega (arith, h) in
+    let room : (start + count) - start ≤ length (drop start ps) =
+    simp length-drop (omega (arith, h)) in
+    ap (take ((start + count) - start)) (drop-append-le start ps more within)
+    ∙ take-append-le ((start + count) - start) (drop start ps) more room
+
+pub keys_stay : (ps more : List ℕ) (fs : List Field) (k : Keys) → AreKeys ps fs k →
+    AreKeys (ps ++ more) fs k
+keys_stay ps more fs keys.Unnamed h = h
+keys_stay ps more fs keys.InOrder h = h
+keys_stay ps more fs (keys.Sorted start) h = (
+  omega (arith, length-append ps more, h.0),
+  h.1 ∙ ap Some (sym (same_range ps more start (length fs) h.0)),
+)
+
+keys_of_stay : (ps more : List ℕ) (o : Option (List Field)) (k : Keys) → AreKeysOf ps o k →
+    AreKeysOf (ps ++ more) o k
+keys_of_stay ps more None k h = tt
+keys_of_stay ps more (Some fs) k h = keys_stay ps more fs k h
+
+known_stay : (r : List TypeInfo) (ps more : List ℕ) (es : List (Place × Keys)) →
+    AreKnown r ps es → AreKnown r (ps ++ more) es
+known_stay r ps more [] h = tt
+known_stay r ps more (e ∷ es) h =
+    (keys_of_stay ps more (fields_at r e.0) e.1 h.0, known_stay r ps more es h.1)
+
+pub known_more : (r : List TypeInfo) (old new more : List ℕ) (es : List (Place × Keys)) →
+    AreKnown r old es → new ≡ old ++ more → AreKnown r new es
+known_more r old new more es h e =
+    subst (λ ps. AreKnown r ps es) (sym e) (known_stay r old more es h)
+
+-- behind those that grew the keys stand as before
+pub keys_grown : (old new : OrdersView) (fs : List Field) (k : Keys) → Grows old new →
+    AreKeys old.positions fs k → AreKeys new.positions fs k
+keys_grown old new fs k g h =
+    subst (λ ps. AreKeys ps fs k) (sym g.positions) (keys_stay old.positions g.more fs k h)
+
+-- ---- growth
+
+pub grows_not : (o : OrdersView) → Grows o o
+grows_not o = record { types = refl; more = []; positions = sym (append-nil o.positions) }
+
+pub grows_again : (a b c : OrdersView) → Grows a b → Grows b c → Grows a c
+grows_again a b c g h = record {
+  types = h.types ∙ g.types;
+  more = g.more ++ h.more;
+  positions = h.positions ∙ ap (λ ps. ps ++ h.more) g.positions
+      ∙ append_assoc a.positions g.more h.more;
+}
+
+-- ---- by the place
+
+module _ {R : Place → Place → Ordering} (exact : CmpEqualImpliesEq R) where
+  -- what is found is known
+  known_found : (r : List TypeInfo) (ps : List ℕ) (es : List (Place × Keys)) (p : Place)
+      (k : Keys) → AreKnown r ps es → lookup (is_at (R p)) es ≡ Some k →
+      AreKeysOf ps (fields_at r p) k
+  known_found r ps [] p k h e = absurd cc
+  known_found r ps (x ∷ es) p k h e = go (R p x.0) refl (known_found r ps es p k h.1) e where
+    go : (o : Ordering) → R p x.0 ≡ o →
+        (lookup (is_at (R p)) es ≡ Some k → AreKeysOf ps (fields_at r p) k) →
+        cond (is_eq o) (Some x.1) (lookup (is_at (R p)) es) ≡ Some k →
+        AreKeysOf ps (fields_at r p) k
+    go Less is later f = later f
+    go Equal is later f =
+        let same : x.1 ≡ k = cc in
+        subst (λ q. AreKeysOf ps (fields_at r q) k) (sym (exact p x.0 is))
+        (subst (AreKeysOf ps (fields_at r x.0)) same h.0)
+    go Greater is later f = later f
+
+  known_insert : (r : List TypeInfo) (ps : List ℕ) (es : List (Place × Keys)) (p : Place)
+      (k : Keys) → AreKnown r ps es → AreKeysOf ps (fields_at r p) k →
+      AreKnown r ps (insert_entry R es p k)
+  known_insert r ps [] p k h e = (e, tt)
+  known_insert r ps (x ∷ es) p k h e = go (R p x.0) refl (known_insert r ps es p k h.1 e) where
+    go : (o : Ordering) → R p x.0 ≡ o → AreKnown r ps (insert_entry R es p k) →
+        AreKnown r ps
+        (match_ordering o ((p, k) ∷ x ∷ es) ((x.0, k) ∷ es) (x ∷ insert_entry R es p k))
+    go Less is later = (e, h)
+    go Equal is later = (subst (λ q. AreKeysOf ps (fields_at r q) k) (exact p x.0 is) e, h.1)
+    go Greater is later = (h.0, later)
+
+  -- what a look-up lends
+  pub keys_found : (r : List TypeInfo) (ps : List ℕ) (es : List (Place × Keys)) (p : Place)
+      (fs : List Field) (found : Option (Bor Keys)) (k : Bor Keys) → AreKnown r ps es →
+      fields_at r p ≡ Some fs → option_copied found ≡ lookup (is_at (R p)) es → found ≡ Some k →
+      AreKeys ps fs k.now
+  keys_found r ps es p fs found k h at e f =
+      subst (λ o. AreKeysOf ps o k.now) at
+      (known_found r ps es p k.now h (sym e ∙ ap option_copied f))
+
+  -- what is found anew becomes known
+  pub keys_put : (r : List TypeInfo) (old ps more : List ℕ) (es new : List (Place × Keys))
+      (p : Place) (fs : List Field) (k : Keys) → AreKnown r old es → ps ≡ old ++ more →
+      fields_at r p ≡ Some fs → AreKeys ps fs k → new ≡ insert_entry R es p k → AreKnown r ps new
+  keys_put r old ps more es new p fs k h e at keys is =
+      subst (AreKnown r ps) (sym is) (known_insert r ps es p k (known_more r old ps more es h e)
+      (subst (λ o. AreKeysOf ps o k) (sym at) keys))
+
+-- a place is the two numbers in it
+pub same_place : CmpEqualImpliesEq
+    (λ (p q : Place). ordering_then (nat_cmp p.ty q.ty) (nat_cmp p.arm q.arm))
+same_place p q e = go (nat_cmp p.ty q.ty) refl e where
+  go : (o : Ordering) → nat_cmp p.ty q.ty ≡ o →
+      ordering_then o (nat_cmp p.arm q.arm) ≡ Equal → p ≡ q
+  go Less is h = absurd cc
+  go Equal is h = ap₂ (λ t a. record { ty = t; arm = a }) (exact_unsigned p.ty q.ty is)
+      (exact_unsigned p.arm q.arm h)
+  go Greater is h = absurd cc
+
+-- ---- keys that are found
+
+-- the positions are counted up
+pub counted_keys : (ps : List ℕ) (fs : List Field) (order : List ℕ) → key_order fs ≡ Some order →
+    order ≡ range_with_len 0 (length order) → AreKeys ps fs keys.InOrder
+counted_keys ps fs order e up = e
+    ∙ ap Some (up ∙ ap (range_with_len 0) (positions_count fs order e))
+
+-- the positions are put behind the others
+pub sorted_keys : (old new : List ℕ) (start : ℕ) (fs : List Field) (order : List ℕ) →
+    key_order fs ≡ Some order → new ≡ old ++ order → start ≡ length old →
+    AreKeys new fs (keys.Sorted start)
+sorted_keys old new start fs order e is at =
+    let count = positions_count fs order e in
+    let len : length new ≡ length old + length order = ap length is ∙ length-append old order in
+    let room : (length old + length fs) - length old ≡ length order = omega (arith, count) in
+    let whole : slice_range (old ++ order) (length old) (length old + length fs) ≡ order =
+    ap (take ((length old + length fs) - length old)) (drop-append_seam old order)
+    ∙ ap (λ n. take n order) room ∙ take-length order in (
+      omega (arith, at, count, len),
+      e ∙ ap Some (sym (ap₂ (λ l a. slice_range l a (a + length fs)) is at ∙ whole)),
+    )

@@ -1,0 +1,16 @@
+use Rattle.std.proofs.Common.{◌≡◌, ◌++◌, map, drop}
+use Rattle.json_core.specs.Ordered.{name_order, order_from}
+use Rattle.json_core.proofs.Found.{shown}
+use Rattle.json_core.proofs.names.key_order.Given as goal
+
+abbrev pub invariant-fields : goal.invariant-fields
+invariant-fields l = name_order l.fields
+    ≡ order_from (drop l.position l.fields) l.position (shown l.positions.entries)
+
+abbrev pub invariant-names : goal.invariant-names
+invariant-names l = record {
+  can : (goal.iterator-names).can_next l.position-iterator;
+  ends : (goal.iterator-names).is_finite l.position-iterator;
+  told : l.order.items ++ map (λ e. e.1) l.position-iterator
+      ≡ map (λ e. e.1) l.initial.position-iterator;
+}

@@ -1,0 +1,359 @@
+use Rattle.std.proofs.Common.{◌≡◌, [], ◌∷◌, ◌++◌, ◌+◌, length, map, drop, rules, arith, inl, inr, refl, ap, ap₂, sym, ◌∙◌}
+use Rattle.std.specs.Prelude.{slice_range}
+use Rattle.std.specs.Slice.Iter.{iter_rest}
+use Rattle.std.specs.Int.{w128}
+use Rattle.std.proofs.lemmas.Int.{to_z-of_z}
+use Rattle.std.proofs.lemmas.List.{length-map}
+use Rattle.std.proofs.lemmas.Result.{on_ok_weaker}
+use Rattle.json.specs.Token.{begin_object, end_object, key}
+use Rattle.json.specs.Tree.{json_tokens}
+use Rattle.serde_json.specs.Data.{object, member, no_members}
+use Rattle.serde_json.specs.Written.{outline}
+use Rattle.serde_json.specs.View.{items_of}
+use Rattle.graph_core.specs.Types.{shape}
+use Rattle.value_core.specs.Shown.{children_of}
+use Rattle.json_core.specs.Json.{json_seen, fields_json}
+use Rattle.json_core.specs.Tokens.{members_at, members_in_order}
+use Rattle.json_core.proofs.Children.{children_below, jsons}
+use Rattle.json_core.proofs.Counts.{fields_count, arm_count, child_read, child_below, child_data}
+use Rattle.json_core.proofs.Known.{grows_not, grows_again}
+use Rattle.json_core.proofs.Ordered.{are_named, positions_are_named, positions_count, unnamed_json_is, in_order_json_is, sorted_json_is}
+use Rattle.json_core.proofs.Told.{told, long_here, long_compact_here, text_is, fields_at_node, no_fields_at_node, fields_are, no_fields_json, arm_there, arm_at_node, arm_is, arm_place, composite_place}
+use Rattle.json_core.proofs.Turns.{turn_at, named_behind, name_read, sorted_turn, one_member, object_whole, no_field_left, no_item_left, no_position_left}
+use Rattle.json_core.proofs.writing.+write.Goals as goal
+
+pub write_items-children-init : goal.write_items-children-init
+write_items-children-init t c = record {
+  can = tt;
+  ends = tt;
+  before = refl;
+  told = search rules;
+  below = rw (
+    c.into_iter-child-iterator.ensures.into_iter_gives,
+    c.children-child-items.ensures,
+    c.requires,
+  ) (children_below c.args.node.now);
+  grows = grows_not c.args.orders.now;
+}
+
+pub write_in_order-members-init : goal.write_in_order-members-init
+write_in_order-members-init t c =
+    let gives = c.into_iter-field-iterator.ensures.into_iter_gives in
+    let first = c.zip-field-items.ensures.first in
+    let second = c.zip-field-items.ensures.second in record {
+      can = (tt, tt);
+      ends = tt;
+      named = rw (gives, first, c.iter.ensures.rest)
+          (are_named c.args.fields.now _ c.requires.keys);
+      before = refl;
+      told = rw (gives, first, second, c.iter.ensures.rest, c.children.ensures) refl;
+      below = rw (gives, second, c.children.ensures, c.requires.types)
+          (children_below c.args.node.now);
+      grows = grows_not c.args.orders.now;
+    }
+
+pub write_in_order-returns-clause-adds : goal.write_in_order-returns-clause-adds
+write_in_order-returns-clause-adds t c =
+    let fs = c.args.fields.now in
+    let ds = map json_seen (children_of c.args.node.now) in
+    let rest = iter_rest c.members.field-iterator.a in
+    let left = map json_seen c.members.field-iterator.b in
+    let count : length fs ≡ length ds = c.requires.count
+    ∙ sym (length-map (children_of c.args.node.now) json_seen) in
+    let ending = c.in-None.ensures.steps in
+    let none : members_in_order rest left ≡ no_members = elim ending [
+      | inl h ↦ no_field_left rest left h.1.0
+      | inr h ↦ no_item_left rest left (ap (λ l. length (map json_seen l)) h.1.0)
+    ] in (
+      on_ok_weaker c.end_object.result (λ e. object_whole c.args.out.now.tokens
+          c.begin_object.new.self.tokens c.members.out.tokens c.end_object.new.self.tokens
+          (members_in_order fs ds) (members_in_order rest left) (fields_json fs (items_of ds))
+          c.in_ok-begin_object.ensures.ok c.members.invariant.told none e
+          (in_order_json_is fs ds c.requires.keys count)) c.end_object.ensures.ok,
+      c.end_object.ensures.room.0 ∙ c.members.invariant.before ∙ c.begin_object.ensures.room.0,
+    )
+
+pub write_sorted-members-init : goal.write_sorted-members-init
+write_sorted-members-init t c = record {
+  named = positions_are_named c.args.fields.now _ c.requires.keys.1;
+  before = refl;
+  told = refl;
+  types = c.requires.types;
+  grows = grows_not c.args.orders.now;
+}
+
+pub write_sorted-bounds-fields-position : goal.write_sorted-bounds-fields-position
+write_sorted-bounds-fields-position t c = (turn_at c.args.fields.now c.args.orders.now
+    c.members.orders c.args.start c.members.turn c.position-position.result
+    c.members.invariant.grows c.requires.keys (omega arith) c.members.invariant.named
+    c.position-position.ensures).within
+
+pub write_sorted-name_of-requires : goal.write_sorted-name_of-requires
+write_sorted-name_of-requires t c =
+    let turn = turn_at c.args.fields.now c.args.orders.now c.members.orders c.args.start
+    c.members.turn c.position-position.result c.members.invariant.grows c.requires.keys
+    (omega arith) c.members.invariant.named c.position-position.ensures in
+    name_read c.args.fields.now c.position-position.result c.index-fields-position.result turn.field
+    c.index-fields-position.is
+
+pub write_sorted-index-requires : goal.write_sorted-index-requires
+write_sorted-index-requires t c =
+    let turn = turn_at c.args.fields.now c.args.orders.now c.members.orders c.args.start
+    c.members.turn c.position-position.result c.members.invariant.grows c.requires.keys
+    (omega arith) c.members.invariant.named c.position-position.ensures in
+    let count = ap length c.in_ok-children.ensures in
+    omega (arith, turn.within, count, c.requires.count, c.in_ok-children.children.ok.0)
+
+pub write_sorted-write_node-requires : goal.write_sorted-write_node-requires
+write_sorted-write_node-requires t c =
+    let turn = turn_at c.args.fields.now c.args.orders.now c.members.orders c.args.start
+    c.members.turn c.position-position.result c.members.invariant.grows c.requires.keys
+    (omega arith) c.members.invariant.named c.position-position.ensures in
+    let got = child_read c.args.node.now c.in_ok-children.children.items
+    c.position-position.result c.index.result.now c.in_ok-children.ensures
+    (omega (arith, turn.within, c.requires.count)) c.index.ensures in
+    let h = child_below c.args.node.now c.position-position.result c.index.result.now got in
+    (omega (arith, h.1), c.members.invariant.types ∙ sym h.0)
+
+pub write_sorted-members-preserved : goal.write_sorted-members-preserved
+write_sorted-members-preserved t c =
+    let fs = c.args.fields.now in
+    let ds = map json_seen (children_of c.args.node.now) in
+    let order = slice_range c.args.orders.now.positions c.args.start (c.args.start + length fs) in
+    let p = c.position-position.result in
+    let n = c.name_of.result.now in
+    let child = c.index.result.now in
+    let turn = turn_at fs c.args.orders.now c.members.orders c.args.start c.members.turn p
+    c.members.invariant.grows c.requires.keys (omega arith) c.members.invariant.named
+    c.position-position.ensures in
+    let got = child_read c.args.node.now c.in_ok-children.children.items p child
+    c.in_ok-children.ensures (omega (arith, turn.within, c.requires.count)) c.index.ensures in
+    let said : c.write_node.new.out.tokens
+    ≡ (c.members.out.tokens ++ key n ∷ []) ++ json_tokens (outline (json_seen child)) =
+    c.in_ok-write_node.ensures.adds.0
+    ∙ ap (λ us. us ++ json_tokens (outline (json_seen child))) c.in_ok-key.ensures.ok in
+    record {
+      named = named_behind fs order c.members.turn p turn c.members.invariant.named;
+      before = c.write_node.ensures.adds.1 ∙ c.key.ensures.room.0 ∙ c.members.invariant.before;
+      told = sorted_turn fs ds order c.members.turn p c.index-fields-position.result n
+          (json_seen child) c.members.out.tokens c.write_node.new.out.tokens turn
+          c.index-fields-position.is c.name_of.ensures (child_data c.args.node.now p child got) said
+          ∙ c.members.invariant.told;
+      types = c.write_node.ensures.grows.types ∙ c.members.invariant.types;
+      grows = grows_again c.args.orders.now c.members.orders c.write_node.new.orders
+          c.members.invariant.grows c.write_node.ensures.grows;
+    }
+
+pub write_sorted-returns-clause-adds : goal.write_sorted-returns-clause-adds
+write_sorted-returns-clause-adds t c =
+    let fs = c.args.fields.now in
+    let ds = map json_seen (children_of c.args.node.now) in
+    let order = slice_range c.args.orders.now.positions c.args.start (c.args.start + length fs) in
+    let count : length fs ≡ length ds = c.requires.count
+    ∙ sym (length-map (children_of c.args.node.now) json_seen) in
+    let many : length order ≡ length fs = positions_count fs order c.requires.keys.1 in (
+      on_ok_weaker c.end_object.result (λ e. object_whole c.args.out.now.tokens
+          c.begin_object.new.self.tokens c.members.out.tokens c.end_object.new.self.tokens
+          (members_at fs ds order) (members_at fs ds (drop c.members.turn order))
+          (fields_json fs (items_of ds)) c.in_ok-begin_object.ensures.ok c.members.invariant.told
+          (no_position_left fs ds order c.members.turn (omega (arith, many))) e
+          (sorted_json_is fs order ds c.requires.keys.1 count)) c.end_object.ensures.ok,
+      c.end_object.ensures.room.0 ∙ c.members.invariant.before ∙ c.begin_object.ensures.room.0,
+    )
+
+pub write_fields-returns-in-Unnamed-clause-adds : goal.write_fields-returns-in-Unnamed-clause-adds
+write_fields-returns-in-Unnamed-clause-adds t c =
+    let keys = c.in_ok-keys.ensures.keys in
+    rw (unnamed_json_is c.args.fields.now (jsons (children_of c.args.node.now))
+    (rw c.in-Unnamed.is at keys)) c.write_items.ensures.adds
+
+pub write_node-write_unsigned-requires : goal.write_node-write_unsigned-requires
+write_node-write_unsigned-requires t c =
+    λ e. (told c.args.node.now _ c.in-Unsigned.ensures.value c.in-Unsigned.ensures.same).0
+    (sym (long_here c.args.node.now _ _ _ (
+      c.checked-checked.ensures ∙ c.requires,
+      c.type_id-ty.ensures.same,
+    ) c.is_long.ensures) ∙ e)
+
+pub write_node-write_signed-requires : goal.write_node-write_signed-requires
+write_node-write_signed-requires t c =
+    λ e. rw (to_z-of_z w128 c.in-Signed.n (search rules))
+    ((told c.args.node.now _ c.in-Signed.ensures.value c.in-Signed.ensures.same).0
+    (sym (long_here c.args.node.now _ _ _ (
+      c.checked-checked.ensures ∙ c.requires,
+      c.type_id-ty.ensures.same,
+    ) c.is_long-in-Signed.ensures) ∙ e))
+
+pub write_node-write_unsigned-requires-in-Compact :
+    goal.write_node-write_unsigned-requires-in-Compact
+write_node-write_unsigned-requires-in-Compact t c =
+    λ e. (told c.args.node.now _ c.in-Compact.ensures.value c.in-Compact.ensures.same).0
+    (sym (long_compact_here c.args.node.now _ _ _ (
+      c.checked-checked.ensures ∙ c.requires,
+      c.type_id-ty.ensures.same,
+    ) c.is_long_compact.ensures) ∙ e)
+
+pub write_node-write_fields-requires : goal.write_node-write_fields-requires
+write_node-write_fields-requires t c =
+    let s = c.args.node.now in
+    let fs = c.in-Some.fields.now in
+    let at = fields_at_node s _ _ c.composite_fields.result c.in-Some.fields
+    (c.checked-checked.ensures ∙ c.requires, c.type_id-ty.ensures.same)
+    c.composite_fields.ensures.same c.in-Some.is in
+    let few = c.composite_fields.ensures.few in (
+      omega arith,
+      (
+        c.requires,
+        (
+          rw (c.requires, c.type_id-ty.ensures.same) (composite_place (shape s.types s.ty) 0 fs at),
+          (
+            rw c.in-Some.is at few,
+            fields_count s fs c.in-Fields.ensures.value c.in-Fields.ensures.same at,
+          ),
+        ),
+      ),
+    )
+
+pub write_node-unwrap-arm-requires : goal.write_node-unwrap-arm-requires
+write_node-unwrap-arm-requires t c = arm_there c.args.node.now _ _ _ c.defined_arm.result (
+  c.checked-checked.ensures ∙ c.requires,
+  c.type_id-ty.ensures.same,
+) c.defined_arm.ensures.same
+    (told c.args.node.now _ c.in-Arm.ensures.value c.in-Arm.ensures.same)
+
+pub write_node-write_fields-requires-in-Arm : goal.write_node-write_fields-requires-in-Arm
+write_node-write_fields-requires-in-Arm t c =
+    let s = c.args.node.now in
+    let a = c.unwrap-arm.result.now in
+    let at = arm_at_node s _ _ _ c.defined_arm.result c.unwrap-arm.result
+    (c.checked-checked.ensures ∙ c.requires, c.type_id-ty.ensures.same)
+    c.defined_arm.ensures.same c.unwrap-arm.ensures in
+    let few = c.defined_arm.ensures.few in (
+      omega arith,
+      (
+        c.requires,
+        (
+          rw (c.requires, c.type_id-ty.ensures.same, c.as_slice.ensures)
+              (arm_place (shape s.types s.ty) c.in-Arm.position a at),
+          (
+            rw c.as_slice.ensures (rw c.unwrap-arm.ensures at few),
+            rw c.as_slice.ensures (arm_count s c.in-Arm.position a c.in-Arm.ensures.value
+                c.in-Arm.ensures.same at),
+          ),
+        ),
+      ),
+    )
+
+pub write_node-returns-in-Empty-clause-adds : goal.write_node-returns-in-Empty-clause-adds
+write_node-returns-in-Empty-clause-adds t c =
+    rw (told c.args.node.now _ c.in-Empty.ensures.value c.in-Empty.ensures.same)
+    (c.null.ensures.ok, c.null.ensures.room.0)
+
+pub write_node-returns-in-Bool-clause-adds : goal.write_node-returns-in-Bool-clause-adds
+write_node-returns-in-Bool-clause-adds t c =
+    rw (told c.args.node.now _ c.in-Bool.ensures.value c.in-Bool.ensures.same)
+    (c.boolean.ensures.ok, c.boolean.ensures.room.0)
+
+pub write_node-returns-in-Char-clause-adds : goal.write_node-returns-in-Char-clause-adds
+write_node-returns-in-Char-clause-adds t c =
+    rw (told c.args.node.now _ c.in-Char.ensures.value c.in-Char.ensures.same)
+    c.write_char.ensures
+
+pub write_node-returns-in-Text-clause-adds : goal.write_node-returns-in-Text-clause-adds
+write_node-returns-in-Text-clause-adds t c = rw (text_is c.args.node.now c.text.result
+    c.unwrap.result c.text.ensures c.unwrap.ensures
+    (told c.args.node.now _ c.in-Text.ensures.value c.in-Text.ensures.same))
+    (c.string.ensures.ok, c.string.ensures.room.0)
+
+pub write_node-returns-in-Unsigned-clause-adds : goal.write_node-returns-in-Unsigned-clause-adds
+write_node-returns-in-Unsigned-clause-adds t c = rw (
+  (told c.args.node.now _ c.in-Unsigned.ensures.value c.in-Unsigned.ensures.same).1,
+  ←
+      long_here c.args.node.now _ _ _ (
+        c.checked-checked.ensures ∙ c.requires,
+        c.type_id-ty.ensures.same,
+      ) c.is_long.ensures,
+) c.write_unsigned.ensures
+
+pub write_node-returns-in-Signed-clause-adds : goal.write_node-returns-in-Signed-clause-adds
+write_node-returns-in-Signed-clause-adds t c = rw (
+  (told c.args.node.now _ c.in-Signed.ensures.value c.in-Signed.ensures.same).1,
+  ←
+      long_here c.args.node.now _ _ _ (
+        c.checked-checked.ensures ∙ c.requires,
+        c.type_id-ty.ensures.same,
+      ) c.is_long-in-Signed.ensures,
+) (rw (to_z-of_z w128 c.in-Signed.n (search rules)) at c.write_signed.ensures)
+
+pub write_node-returns-in-Wide-clause-adds : goal.write_node-returns-in-Wide-clause-adds
+write_node-returns-in-Wide-clause-adds t c =
+    rw (told c.args.node.now _ c.in-Wide.ensures.value c.in-Wide.ensures.same)
+    c.write_wide.ensures
+
+pub write_node-returns-in-Compact-clause-adds : goal.write_node-returns-in-Compact-clause-adds
+write_node-returns-in-Compact-clause-adds t c = rw (
+  (told c.args.node.now _ c.in-Compact.ensures.value c.in-Compact.ensures.same).1,
+  ←
+      long_compact_here c.args.node.now _ _ _ (
+        c.checked-checked.ensures ∙ c.requires,
+        c.type_id-ty.ensures.same,
+      ) c.is_long_compact.ensures,
+) c.write_unsigned-in-Compact.ensures
+
+pub write_node-returns-in-Some-clause-adds : goal.write_node-returns-in-Some-clause-adds
+write_node-returns-in-Some-clause-adds t c =
+    let s = c.args.node.now in
+    let at = fields_at_node s _ _ c.composite_fields.result c.in-Some.fields
+    (c.checked-checked.ensures ∙ c.requires, c.type_id-ty.ensures.same)
+    c.composite_fields.ensures.same c.in-Some.is in
+    rw (fields_are s c.in-Some.fields.now at
+    (told s _ c.in-Fields.ensures.value c.in-Fields.ensures.same)) c.write_fields.ensures.adds
+
+pub write_node-returns-in-None-clause-adds : goal.write_node-returns-in-None-clause-adds
+write_node-returns-in-None-clause-adds t c =
+    let s = c.args.node.now in
+    let at = no_fields_at_node s _ _ c.composite_fields.result
+    (c.checked-checked.ensures ∙ c.requires, c.type_id-ty.ensures.same)
+    c.composite_fields.ensures.same c.in-None.is in
+    rw (
+      told s _ c.in-Fields.ensures.value c.in-Fields.ensures.same,
+      no_fields_json (shape s.types s.ty) (jsons (children_of s)) at,
+    ) c.write_items.ensures.adds
+
+pub write_node-returns-in_ok-write_fields-in-Arm-clause-adds :
+    goal.write_node-returns-in_ok-write_fields-in-Arm-clause-adds
+write_node-returns-in_ok-write_fields-in-Arm-clause-adds t c =
+    let s = c.args.node.now in
+    let old = c.args.out.now.tokens in
+    let n = c.as_str.result.now in
+    let d = fields_json c.as_slice.result.now (jsons (children_of s)) in
+    let at = arm_at_node s _ _ _ c.defined_arm.result c.unwrap-arm.result
+    (c.checked-checked.ensures ∙ c.requires, c.type_id-ty.ensures.same)
+    c.defined_arm.ensures.same c.unwrap-arm.ensures in
+    let shows : json_seen s ≡ object (member n d no_members) =
+    arm_is s c.in-Arm.position c.unwrap-arm.result.now at
+    (told s _ c.in-Arm.ensures.value c.in-Arm.ensures.same)
+    ∙ ap₂ (λ m gs. object (member m (fields_json gs (jsons (children_of s))) no_members))
+    (sym c.as_str.ensures.same) (sym c.as_slice.ensures) in
+    let ts = json_tokens (outline d) in
+    let said : c.write_fields-in-Arm.new.out.tokens
+    ≡ ((old ++ begin_object ∷ []) ++ key n ∷ []) ++ ts =
+    c.in_ok-write_fields-in-Arm.ensures.adds.0 ∙ ap (λ us. us ++ ts)
+    (c.in_ok-key-in-Arm.ensures.ok
+    ∙ ap (λ us. us ++ key n ∷ []) c.in_ok-begin_object-in-Arm.ensures.ok) in
+    rw shows (
+      on_ok_weaker c.end_object.result (λ e. e ∙ ap (λ us. us ++ end_object ∷ []) said
+          ∙ one_member old ts n) c.end_object.ensures.ok,
+      c.end_object.ensures.room.0 ∙ c.in_ok-write_fields-in-Arm.ensures.adds.1
+          ∙ c.key.ensures.room.0 ∙ c.begin_object.ensures.room.0,
+    )
+
+pub write_node-returns-in-List-clause-adds : goal.write_node-returns-in-List-clause-adds
+write_node-returns-in-List-clause-adds t c =
+    rw (told c.args.node.now _ c.in-List.ensures.value c.in-List.ensures.same)
+    c.write_items-in-List.ensures.adds
+
+pub write_node-returns-in-Count-clause-adds : goal.write_node-returns-in-Count-clause-adds
+write_node-returns-in-Count-clause-adds t c =
+    rw (told c.args.node.now _ c.in-Count.ensures.value c.in-Count.ensures.same)
+    c.write_count.ensures

@@ -1,0 +1,72 @@
+use Rattle.std.proofs.Common.{◌≡◌, ◌+◌, ◌*◌, ◌++◌, length, map, drop}
+use Rattle.std.specs.Prelude.{slice_range}
+use Rattle.std.specs.List.{AllByRecursion}
+use Rattle.std.specs.Slice.Iter.{iter_rest}
+use Rattle.json.specs.Tree.{items_tokens, members_tokens}
+use Rattle.serde_json.specs.View.{items_of}
+use Rattle.serde_json.specs.Written.{items_outline, members_outline}
+use Rattle.grammar_core.specs.Tree.{nodes}
+use Rattle.value_core.specs.Shown.{children_of}
+use Rattle.json_core.specs.Json.{json_seen}
+use Rattle.json_core.specs.Ordered.{AreNamed, Grows}
+use Rattle.json_core.specs.Tokens.{members_at, members_in_order}
+use Rattle.json_core.proofs.Children.{AreBelow}
+use Rattle.json_core.proofs.Ordered.{IsNamedAt}
+use Rattle.json_core.proofs.writing.+write.Given as goal
+
+abbrev pub decreases-write_node : goal.decreases-write_node
+decreases-write_node l = 3 * nodes l.node.now.tree + 2
+
+abbrev pub decreases-write_fields : goal.decreases-write_fields
+decreases-write_fields l = 3 * nodes l.node.now.tree + 1
+
+abbrev pub decreases-write_items : goal.decreases-write_items
+decreases-write_items l = 3 * nodes l.node.now.tree
+
+abbrev pub decreases-write_in_order : goal.decreases-write_in_order
+decreases-write_in_order l = 3 * nodes l.node.now.tree
+
+abbrev pub decreases-write_sorted : goal.decreases-write_sorted
+decreases-write_sorted l = 3 * nodes l.node.now.tree
+
+-- what is left to write, behind what is written
+abbrev pub invariant-write_items-children : goal.invariant-write_items-children
+invariant-write_items-children l = record {
+  can : (goal.iterator-write_items-children).can_next l.child-iterator;
+  ends : (goal.iterator-write_items-children).is_finite l.child-iterator;
+  before : l.out.before ≡ l.initial.out.before;
+  told : l.out.tokens ++ items_tokens (items_outline (items_of (map json_seen l.child-iterator)))
+      ≡ l.initial.out.tokens
+      ++ items_tokens (items_outline (items_of (map json_seen (children_of l.node))));
+  below : AreBelow l.orders.types (nodes l.node.tree) l.child-iterator;
+  grows : Grows l.fn.orders l.orders;
+}
+
+abbrev pub invariant-write_in_order-members : goal.invariant-write_in_order-members
+invariant-write_in_order-members l = record {
+  can : (goal.iterator-write_in_order-members).can_next l.field-iterator;
+  ends : (goal.iterator-write_in_order-members).is_finite l.field-iterator;
+  named : AreNamed (iter_rest l.field-iterator.a);
+  before : l.out.before ≡ l.initial.out.before;
+  told : l.out.tokens ++ members_tokens (members_outline
+      (members_in_order (iter_rest l.field-iterator.a) (map json_seen l.field-iterator.b)))
+      ≡ l.initial.out.tokens ++ members_tokens (members_outline
+      (members_in_order l.fields (map json_seen (children_of l.node))));
+  below : AreBelow l.orders.types (nodes l.node.tree) l.field-iterator.b;
+  grows : Grows l.fn.orders l.orders;
+}
+
+-- the positions that are left of the order
+abbrev pub invariant-write_sorted-members : goal.invariant-write_sorted-members
+invariant-write_sorted-members l =
+    let order = slice_range l.fn.orders.positions l.start (l.start + length l.fields) in
+    record {
+      named : AllByRecursion (IsNamedAt l.fields) (drop l.turn order);
+      before : l.out.before ≡ l.initial.out.before;
+      told : l.out.tokens ++ members_tokens (members_outline
+          (members_at l.fields (map json_seen (children_of l.node)) (drop l.turn order)))
+          ≡ l.initial.out.tokens ++ members_tokens (members_outline
+          (members_at l.fields (map json_seen (children_of l.node)) order));
+      types : l.orders.types ≡ l.node.types;
+      grows : Grows l.fn.orders l.orders;
+    }

@@ -1,0 +1,35 @@
+-- What is written of a value: the tokens of its JSON.
+use Rattle.std.specs.Prelude.{◌≡◌, ℕ, List, [], ◌∷◌, ◌++◌, option_and_then, unwrap_or, slice_get, Result, OnOk}
+use Rattle.json.specs.Token.{Token}
+use Rattle.json.specs.Tree.{json_tokens}
+use Rattle.json.specs.Written.{Written}
+use Rattle.serde_json.specs.Data.{Data, null, Members, no_members, member}
+use Rattle.serde_json.specs.Written.{outline}
+use Rattle.registry_core.specs.declared.definition.Field.{Field}
+
+-- the tokens are appended, and what stood before stays
+abbrev pub Adds : {E : Type 0} → Result (Unit {0}) E → Written → Written → List Token → Type 0
+Adds r old new ts = OnOk r (new.tokens ≡ old.tokens ++ ts) × (new.before ≡ old.before)
+
+-- those of a value are
+abbrev pub AddsValue : {E : Type 0} → Result (Unit {0}) E → Written → Written → Data → Type 0
+AddsValue r old new d = Adds r old new (json_tokens (outline d))
+
+-- the name of the field at a position
+abbrev pub name_at : List Field → ℕ → List ℕ
+name_at fs p = unwrap_or (option_and_then (λ f. f.name) (slice_get fs p)) []
+
+-- the item at a position
+abbrev pub data_at : List Data → ℕ → Data
+data_at ds p = unwrap_or (slice_get ds p) null
+
+-- the members at these positions, in this order
+abbrev pub members_at : List Field → List Data → List ℕ → Members
+members_at fs ds [] = no_members
+members_at fs ds (p ∷ ps) = member (name_at fs p) (data_at ds p) (members_at fs ds ps)
+
+-- the members in the order of the fields
+abbrev pub members_in_order : List Field → List Data → Members
+members_in_order [] ds = no_members
+members_in_order (f ∷ fs) [] = no_members
+members_in_order (f ∷ fs) (d ∷ ds) = member (unwrap_or f.name []) d (members_in_order fs ds)

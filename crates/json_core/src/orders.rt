@@ -1,0 +1,145 @@
+//! The orders of keys that are known in one call: each is found once, for each composite and each arm that is met.
+
+ghost use Rattle.std.specs.Prelude.{◌≡◌, ◌+◌, ◌<◌, ◌^◌, ℕ, List, [], ◌++◌, Some, length, slice_index, IfOk, IfSome};
+ghost use Rattle.json_core.specs.Ordered.{fields_at, AreKeys, Grows};
+
+use crate::names::{counts_up, key_order};
+use registry_core::Field;
+use std::alloc::{AllocError, Global};
+use std::collections::BTreeMap;
+use std::marker::Model;
+use widths_core::Checked;
+
+/// Where fields are defined: in a composite, or in an arm of a variant.
+#[derive(Clone, Copy, PartialEq, Eq, PartialOrd, Ord)]
+pub(crate) struct Place {
+    /// The position of the type.
+    pub(crate) ty: u32,
+    /// The position of the arm among the arms; 0 in a composite.
+    pub(crate) arm: u32,
+}
+
+/// How the values of fields are shown.
+#[derive(Clone, Copy)]
+pub(crate) enum Keys {
+    /// As an array, since there is no field, one has no name, or two have the same.
+    Unnamed,
+    /// As an object, and the names stand in the order of their bytes.
+    InOrder,
+    /// As an object; the positions of the fields in the order of their names' bytes are kept from `start` on.
+    Sorted { start: usize },
+}
+
+/// How the value of one field is shown, or of none.
+fn keys_of_few(fields: &[Field]) -> Option<Keys>
+    ensures { IfSome result (λ keys. (positions : List ℕ) → AreKeys positions fields.now keys) }
+{
+    match fields {
+        [] => Some(Keys::Unnamed),
+        [field] if field.name.is_none() => Some(Keys::Unnamed),
+        [_] => Some(Keys::InOrder),
+        _ => None,
+    }
+}
+
+/// How the values of the fields are shown. The order of names that are out of order is kept behind the positions.
+fn find_keys(alloc: Global, fields: &[Field], positions: &mut Vec<u32>) -> Result<Keys, AllocError>
+    requires { length fields.now < 2 ^ 32 }
+    ensures more { (more : List ℕ) × (positions.new.items ≡ positions.old.items ++ more) }
+    ensures keys { IfOk result (AreKeys positions.new.items fields.now) }
+{
+    let Some(order) = key_order(alloc, fields)? else {
+        return Ok(Keys::Unnamed);
+    };
+    if counts_up(&order) {
+        return Ok(Keys::InOrder);
+    }
+    let start = positions.len();
+    positions.extend_from_slice(&order)?;
+    Ok(Keys::Sorted { start })
+}
+
+/// The orders of keys that are known, four bytes a field and a small entry for each place that was met.
+#[derive(Drop)]
+pub(crate) struct Orders<'r> {
+    checked: &'r Checked,
+    known: BTreeMap<Place, Keys>,
+    positions: Vec<u32>,
+}
+
+impl<'r> Model for Orders<'r> {
+    ghost use Rattle.json_core.specs.Ordered.{OrdersView, AreKnown};
+
+    ghost Value = { OrdersView };
+
+    ghost view = { λ o. record { types = o.checked.now.types; positions = o.positions.items } };
+
+    ghost invariant = { λ o. AreKnown o.checked.now.types o.positions.items o.known.entries };
+}
+
+impl<'r> Orders<'r> {
+    /// No order is known.
+    pub(crate) fn new(alloc: Global, checked: &'r Checked) -> Orders<'r>
+        ensures { result ≡ record { types = checked.now.types; positions = [] } }
+    {
+        Orders {
+            checked,
+            known: BTreeMap::new(alloc),
+            positions: Vec::new(alloc),
+        }
+    }
+
+    /// The registry that the places are of.
+    pub(crate) fn checked(&self) -> &'r Checked
+        ensures { result.now.types ≡ self.now.types }
+    {
+        self.checked
+    }
+
+    /// The position of a field in the order that is kept from `start` on.
+    pub(crate) fn position(&self, start: usize, turn: usize) -> u32
+        requires { start + turn < length self.now.positions }
+        ensures { result ≡ slice_index self.now.positions (start + turn) }
+    {
+        self.positions[start + turn]
+    }
+
+    /// How the values of the fields at a place are shown: at most one look-up, and a search where it is not known.
+    #[inline(always)]
+    pub(crate) fn keys(
+        &mut self,
+        alloc: Global,
+        place: Place,
+        fields: &[Field],
+    ) -> Result<Keys, AllocError>
+        requires fields { fields_at self.old.types place ≡ Some fields.now }
+        requires few { length fields.now < 2 ^ 32 }
+        ensures grows { Grows self.old self.new }
+        ensures keys { IfOk result (AreKeys self.new.positions fields.now) }
+    {
+        match keys_of_few(fields) {
+            Some(keys) => Ok(keys),
+            None => self.kept_keys(alloc, place, fields),
+        }
+    }
+
+    /// How the values of the fields at a place are shown, as it is known, or as it is found and kept.
+    fn kept_keys(
+        &mut self,
+        alloc: Global,
+        place: Place,
+        fields: &[Field],
+    ) -> Result<Keys, AllocError>
+        requires fields { fields_at self.old.types place ≡ Some fields.now }
+        requires few { length fields.now < 2 ^ 32 }
+        ensures grows { Grows self.old self.new }
+        ensures keys { IfOk result (AreKeys self.new.positions fields.now) }
+    {
+        if let Some(keys) = self.known.get(&place) {
+            return Ok(*keys);
+        }
+        let keys = find_keys(alloc, fields, &mut self.positions)?;
+        self.known.insert(place, keys)?;
+        Ok(keys)
+    }
+}

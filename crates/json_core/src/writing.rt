@@ -1,0 +1,231 @@
+//! A node's JSON, written token by token.
+
+ghost use Rattle.std.specs.Prelude.{◌≡◌, ◌<◌, ◌^◌, [], ◌∷◌, Some, length, map, false, codes, IfOk, FitsSigned};
+ghost use Rattle.std.specs.Int.{w64};
+ghost use Rattle.std.specs.Char.{encode_utf8};
+ghost use Rattle.json.specs.Token.{string};
+ghost use Rattle.serde_json.specs.Data.{array, object, number, unsigned, member, no_members};
+ghost use Rattle.serde_json.specs.View.{items_of};
+ghost use Rattle.value_core.specs.Shown.{children_of};
+ghost use Rattle.json_core.specs.Defined.{unsigned_by, signed_by};
+ghost use Rattle.json_core.specs.Json.{wide_json, json_seen, fields_json};
+ghost use Rattle.json_core.specs.Ordered.{fields_at, AreKeys, Grows};
+ghost use Rattle.json_core.specs.Tokens.{Adds, AddsValue};
+ghost use Rattle.json_core.specs.declared.orders.Keys.TheVariants.{InOrder, Sorted};
+
+use crate::defined::{composite_fields, defined_arm, is_long, is_long_compact};
+use crate::names::name_of;
+use crate::orders::{Keys, Orders, Place};
+use json::Writer;
+use registry_core::Field;
+use std::alloc::{AllocError, Global};
+use value_core::{NodeRef, What};
+
+/// An unsigned integer: a number, or a text of its decimal digits where it is long.
+fn write_unsigned(out: &mut Writer, is_long: bool, n: u128) -> Result<(), AllocError>
+    requires { is_long ≡ false → n < 2 ^ 64 }
+    ensures { AddsValue result out.old out.new (unsigned_by is_long n) }
+{
+    if is_long {
+        let mut buffer = itoa::Buffer::new();
+        out.string(buffer.format(n))
+    } else {
+        out.u64(n as u64)
+    }
+}
+
+/// A signed integer: a number, or a text of its decimal digits where it is long.
+fn write_signed(out: &mut Writer, is_long: bool, n: i128) -> Result<(), AllocError>
+    requires { is_long ≡ false → FitsSigned w64 n }
+    ensures { AddsValue result out.old out.new (signed_by is_long n) }
+{
+    if is_long {
+        let mut buffer = itoa::Buffer::new();
+        out.string(buffer.format(n))
+    } else {
+        out.i64(n as i64)
+    }
+}
+
+/// An integer of 256 bits, whose bytes are here with the lowest first.
+fn write_wide(alloc: Global, out: &mut Writer, bytes: [u8; 32]) -> Result<(), AllocError>
+    ensures { AddsValue result out.old out.new (wide_json bytes) }
+{
+    let mut highest_first = bytes;
+    highest_first.reverse();
+    let digits = hex::encode(alloc, highest_first.as_slice())?;
+    let text = format!(in alloc; "0x{digits}")?;
+    out.string(text.as_str())
+}
+
+/// A text of one character.
+fn write_char(out: &mut Writer, x: char) -> Result<(), AllocError>
+    ensures { Adds result out.old out.new (string (encode_utf8 x) ∷ []) }
+{
+    let mut bytes = [0; 4];
+    out.string(x.encode_utf8(&mut bytes))
+}
+
+/// How many there are, where the elements take no bytes.
+fn write_count(out: &mut Writer, count: u32) -> Result<(), AllocError>
+    ensures { AddsValue result out.old out.new (object (member (codes "count") (number (unsigned count)) no_members)) }
+{
+    out.begin_object()?;
+    out.key("count")?;
+    out.u64(u64::from(count))?;
+    out.end_object()
+}
+
+/// The children of a node, in order, where there are so many of them.
+fn children<'v, 'r>(
+    alloc: Global,
+    count: usize,
+    node: &NodeRef<'v, 'r>,
+) -> Result<Vec<NodeRef<'v, 'r>>, AllocError>
+    ensures { IfOk result (λ v. v.items ≡ children_of node.now) }
+{
+    let mut children = Vec::with_capacity(alloc, count)?;
+    'children: for child in node.children() {
+        children.push(child)?;
+    }
+    Ok(children)
+}
+
+/// The children of a node as an array.
+#[cycle(write)]
+fn write_items(
+    alloc: Global,
+    out: &mut Writer,
+    orders: &mut Orders<'_>,
+    node: &NodeRef<'_, '_>,
+) -> Result<(), AllocError>
+    requires { orders.old.types ≡ node.now.types }
+    ensures adds { AddsValue result out.old out.new (array (items_of (map json_seen (children_of node.now)))) }
+    ensures grows { Grows orders.old orders.new }
+{
+    out.begin_array()?;
+    'children: for child in node.children() {
+        write_node(alloc, out, orders, &child)?;
+    }
+    out.end_array()
+}
+
+/// The children of a node as an object, each at the name of its field, where the names are in order.
+#[cycle(write)]
+fn write_in_order(
+    alloc: Global,
+    out: &mut Writer,
+    orders: &mut Orders<'_>,
+    fields: &[Field],
+    node: &NodeRef<'_, '_>,
+) -> Result<(), AllocError>
+    requires types { orders.old.types ≡ node.now.types }
+    requires keys { AreKeys orders.old.positions fields.now InOrder }
+    requires count { length fields.now ≡ length (children_of node.now) }
+    ensures adds { AddsValue result out.old out.new (fields_json fields.now (items_of (map json_seen (children_of node.now)))) }
+    ensures grows { Grows orders.old orders.new }
+{
+    out.begin_object()?;
+    'members: for (field, child) in fields.iter().zip(node.children()) {
+        out.key(name_of(field))?;
+        write_node(alloc, out, orders, &child)?;
+    }
+    out.end_object()
+}
+
+/// The children of a node as an object, each at the name of its field, in the order that is kept from `start` on.
+#[cycle(write)]
+fn write_sorted(
+    alloc: Global,
+    out: &mut Writer,
+    orders: &mut Orders<'_>,
+    fields: &[Field],
+    start: usize,
+    node: &NodeRef<'_, '_>,
+) -> Result<(), AllocError>
+    requires types { orders.old.types ≡ node.now.types }
+    requires keys { AreKeys orders.old.positions fields.now (Sorted start) }
+    requires count { length fields.now ≡ length (children_of node.now) }
+    ensures adds { AddsValue result out.old out.new (fields_json fields.now (items_of (map json_seen (children_of node.now)))) }
+    ensures grows { Grows orders.old orders.new }
+{
+    let children = children(alloc, fields.len(), node)?;
+    out.begin_object()?;
+    'members: for turn in 0..fields.len() {
+        let position = orders.position(start, turn) as usize;
+        out.key(name_of(&fields[position]))?;
+        write_node(alloc, out, orders, &children[position])?;
+    }
+    out.end_object()
+}
+
+/// The children of a node as the values of the fields at a place.
+#[cycle(write)]
+fn write_fields(
+    alloc: Global,
+    out: &mut Writer,
+    orders: &mut Orders<'_>,
+    place: Place,
+    fields: &[Field],
+    node: &NodeRef<'_, '_>,
+) -> Result<(), AllocError>
+    requires types { orders.old.types ≡ node.now.types }
+    requires fields { fields_at orders.old.types place ≡ Some fields.now }
+    requires few { length fields.now < 2 ^ 32 }
+    requires count { length fields.now ≡ length (children_of node.now) }
+    ensures adds { AddsValue result out.old out.new (fields_json fields.now (items_of (map json_seen (children_of node.now)))) }
+    ensures grows { Grows orders.old orders.new }
+{
+    match orders.keys(alloc, place, fields)? {
+        Keys::Unnamed => write_items(alloc, out, orders, node),
+        Keys::InOrder => write_in_order(alloc, out, orders, fields, node),
+        Keys::Sorted { start } => write_sorted(alloc, out, orders, fields, start, node),
+    }
+}
+
+/// A node and all that is below it. It stands in the loops over children, so that a leaf costs no call of its own.
+#[cycle(write)]
+#[inline(always)]
+pub(crate) fn write_node(
+    alloc: Global,
+    out: &mut Writer,
+    orders: &mut Orders<'_>,
+    node: &NodeRef<'_, '_>,
+) -> Result<(), AllocError>
+    requires { orders.old.types ≡ node.now.types }
+    ensures adds { AddsValue result out.old out.new (json_seen node.now) }
+    ensures grows { Grows orders.old orders.new }
+{
+    let checked = orders.checked();
+    let ty = node.type_id();
+    match node.what() {
+        What::Empty => out.null(),
+        What::Bool(x) => out.boolean(x),
+        What::Char(x) => write_char(out, x),
+        What::Text => out.string(node.text().unwrap()),
+        What::Unsigned(n) => write_unsigned(out, is_long(checked, ty), n),
+        What::Signed(n) => write_signed(out, is_long(checked, ty), n),
+        What::Wide(bytes) => write_wide(alloc, out, bytes),
+        What::Compact(n) => write_unsigned(out, is_long_compact(checked, ty), n),
+        What::Fields => match composite_fields(checked, ty) {
+            Some(fields) => {
+                let place = Place { ty: ty.0, arm: 0 };
+                write_fields(alloc, out, orders, place, fields, node)
+            }
+            None => write_items(alloc, out, orders, node),
+        },
+        What::Arm { position } => {
+            let arm = defined_arm(checked, ty, position).unwrap();
+            let place = Place {
+                ty: ty.0,
+                arm: position,
+            };
+            out.begin_object()?;
+            out.key(arm.name.as_str())?;
+            write_fields(alloc, out, orders, place, arm.fields.as_slice(), node)?;
+            out.end_object()
+        }
+        What::List => write_items(alloc, out, orders, node),
+        What::Count(count) => write_count(out, count),
+    }
+}
