@@ -5,6 +5,7 @@ use Rattle.scale_core.specs.declared.compact.Target.{Target}
 use Rattle.std.proofs.lemmas.Option.{none-some, same_Some}
 use Rattle.registry_core.specs.declared.definition.TypeDef.{TypeDef}
 use Rattle.registry_core.specs.declared.definition.TypeDef.TheVariants as Def
+use Rattle.registry_core.specs.declared.type_id.TypeId.{TypeId}
 use Rattle.registry_core.specs.declared.type_info.TypeInfo.{TypeInfo}
 use Rattle.graph_core.specs.Types.{shape, ids, field_types}
 use Rattle.widths_core.specs.declared.class.Class.{Class}
@@ -77,19 +78,55 @@ sequence_is class.NoValue t u e = cc
 sequence_is class.Empty t u e = absurd cc
 sequence_is class.Sized t u e = cc
 
--- a step that is none of these is not by class
-other_step : (c : Class) (none sized s : Step) → (s ≡ none → ⊥) → (s ≡ step.Empty → ⊥) →
-    (s ≡ sized → ⊥) → s ≡ by_class c none sized → ⊥
-other_step class.NoValue none sized s f g h e = f e
-other_step class.Empty none sized s f g h e = g e
-other_step class.Sized none sized s f g h e = h e
+-- the steps that open parts of the next type, and of which definitions
+abbrev opens_parts : Step → Bool
+opens_parts (step.Parts from count) = true
+opens_parts (step.Array n t) = true
+opens_parts (step.Sequence t) = true
+opens_parts _ = false
 
--- nor that of a sequence
-other_sequence : (c : Class) (t : ℕ) (s : Step) → (s ≡ step.Count → ⊥) →
-    (s ≡ step.Sequence t → ⊥) → s ≡ sequence_step c t → ⊥
-other_sequence class.NoValue t s f g e = g e
-other_sequence class.Empty t s f g e = f e
-other_sequence class.Sized t s f g e = g e
+abbrev suits : Step → TypeDef → Bool
+suits (step.Parts from count) (Def.Composite fs) = true
+suits (step.Parts from count) (Def.Tuple ts) = true
+suits (step.Array n t) (Def.Array m u) = true
+suits (step.Sequence t) (Def.Sequence u) = true
+suits _ _ = false
+
+suits_by_class : (c : Class) (none sized s : Step) (d : TypeDef) → opens_parts none ≡ false →
+    (opens_parts sized ≡ true → suits sized d ≡ true) → s ≡ by_class c none sized →
+    opens_parts s ≡ true → suits s d ≡ true
+suits_by_class class.NoValue none sized s d f g e o = let no = rw e at o in absurd cc
+suits_by_class class.Empty none sized s d f g e o = let no = rw e at o in absurd cc
+suits_by_class class.Sized none sized s d f g e o = rw e (g (rw e at o))
+
+suits_sequence : (c : Class) (u : TypeId) → opens_parts (sequence_step c u.0) ≡ true →
+    suits (sequence_step c u.0) (Def.Sequence u) ≡ true
+suits_sequence class.NoValue u o = refl
+suits_sequence class.Empty u o = absurd cc
+suits_sequence class.Sized u o = refl
+
+-- a step that opens parts is that of a definition with such parts
+step_suits : (r : List TypeInfo) (c : Class) (d : TypeDef) (s : Step) →
+    IsStep r (references_of r) (λ from count arms. Unit {0}) c d s → opens_parts s ≡ true →
+    suits s d ≡ true
+step_suits r c (Def.Composite fs) s is o =
+    suits_by_class c step.NoValue (step.Parts is.0 is.1) s (Def.Composite fs) refl (λ e. refl) is.2 o
+step_suits r c (Def.Tuple ts) s is o =
+    suits_by_class c step.NoValue (step.Parts is.0 is.1) s (Def.Tuple ts) refl (λ e. refl) is.2 o
+step_suits r c (Def.Variant arms) s is o =
+    suits_by_class c (step.NoArm is.0 is.1) (step.Arms is.0 is.1) s (Def.Variant arms) refl
+    (λ e. absurd cc) is.2 o
+step_suits r c (Def.Sequence u) s is o =
+    suits_by_class c step.NoValue (sequence_step (class_of r u.0) u.0) s (Def.Sequence u) refl
+    (suits_sequence (class_of r u.0) u) is o
+step_suits r c (Def.Array n u) s is o =
+    suits_by_class c step.NoValue (step.Array n u.0) s (Def.Array n u) refl (λ e. refl) is o
+step_suits r c (Def.Primitive p) s is o =
+    suits_by_class c step.NoValue (step.Primitive p) s (Def.Primitive p) refl (λ e. absurd cc) is o
+step_suits r c (Def.Compact u) s is o = let no = rw is at o in absurd cc
+step_suits r c (Def.BitSequence store order) s is o =
+    suits_by_class c step.NoValue step.BitSequence s (Def.BitSequence store order) refl
+    (λ e. absurd cc) is o
 
 -- the type that is next, which is known, by a step that is not that of a type without values
 record Known (w : Walked) (s : Step) : Type 0 where
@@ -146,60 +183,63 @@ fields_open : (w : Walked) (from count : ℕ) → next_of w ≡ next.Wants form.
     IsStepAhead w.types (next_type w) (Some (step.Parts from count)) → Opens w (members_of from count)
 fields_open w from count h a =
     let k = known w (step.Parts from count) (λ e. absurd cc) a in
-    go (class_of w.types k.ty) k.d k.shape_is k.is where
+    let c = class_of w.types k.ty in
+    go c k.d k.shape_is k.is (step_suits w.types c k.d (step.Parts from count) k.is refl) where
       go : (c : Class) (d : TypeDef) → Some d ≡ next_shape w → IsStep w.types (references_of w.types)
-          (λ from count arms. Unit {0}) c d (step.Parts from count) →
+          (λ from count arms. Unit {0}) c d (step.Parts from count) → suits (step.Parts from count) d ≡ true →
           Opens w (members_of from count)
-      go c (Def.Composite fs) s is = parts_open w from count is.0 is.1 c
+      go c (Def.Composite fs) s is f = parts_open w from count is.0 is.1 c
           (field_types fs) is.2 is.3 (composite_opens w fs h s)
-      go c (Def.Tuple ts) s is = parts_open w from count is.0 is.1 c (ids ts) is.2
+      go c (Def.Tuple ts) s is f = parts_open w from count is.0 is.1 c (ids ts) is.2
           is.3 (tuple_opens w ts h s)
-      go c (Def.Variant arms) s is = absurd (other_step c (step.NoArm is.0 is.1) (step.Arms is.0 is.1) (step.Parts from count) (λ e. absurd cc) (λ e. absurd cc) (λ e. absurd cc) is.2)
-      go c (Def.Sequence u) s is = absurd (other_step c step.NoValue (sequence_step (class_of w.types u.0) u.0) (step.Parts from count) (λ e. absurd cc) (λ e. absurd cc) (λ e. other_sequence (class_of w.types u.0) u.0 (step.Parts from count) (λ e. absurd cc) (λ e. absurd cc) e) is)
-      go c (Def.Array m u) s is = absurd (other_step c step.NoValue (step.Array m u.0) (step.Parts from count) (λ e. absurd cc) (λ e. absurd cc) (λ e. absurd cc) is)
-      go c (Def.Primitive p) s is = absurd (other_step c step.NoValue (step.Primitive p) (step.Parts from count) (λ e. absurd cc) (λ e. absurd cc) (λ e. absurd cc) is)
-      go c (Def.Compact u) s is = absurd cc
-      go c (Def.BitSequence store order) s is = absurd (other_step c step.NoValue step.BitSequence (step.Parts from count) (λ e. absurd cc) (λ e. absurd cc) (λ e. absurd cc) is)
+      go c (Def.Variant arms) s is f = absurd cc
+      go c (Def.Sequence u) s is f = absurd cc
+      go c (Def.Array m u) s is f = absurd cc
+      go c (Def.Primitive p) s is f = absurd cc
+      go c (Def.Compact u) s is f = absurd cc
+      go c (Def.BitSequence store order) s is f = absurd cc
 
 elements_open : (w : Walked) (n m t : ℕ) → next_of w ≡ next.Wants (form.Array n) →
     IsStepAhead w.types (next_type w) (Some (step.Array m t)) → OpensElements w n (times n t)
 elements_open w n m t h a =
     let k = known w (step.Array m t) (λ e. absurd cc) a in
-    go (class_of w.types k.ty) k.d k.shape_is k.is where
+    let c = class_of w.types k.ty in
+    go c k.d k.shape_is k.is (step_suits w.types c k.d (step.Array m t) k.is refl) where
       go : (c : Class) (d : TypeDef) → Some d ≡ next_shape w → IsStep w.types (references_of w.types)
-          (λ from count arms. Unit {0}) c d (step.Array m t) →
+          (λ from count arms. Unit {0}) c d (step.Array m t) → suits (step.Array m t) d ≡ true →
           OpensElements w n (times n t)
-      go c (Def.Array m' u) s is =
+      go c (Def.Array m' u) s is f =
           let same = array_sized c (step.Array m' u.0) m t is in
           let t_is : t ≡ u.0 = cc in
           rw t_is (array_opens w n m' u h s)
-      go c (Def.Composite fs) s is = absurd (other_step c step.NoValue (step.Parts is.0 is.1) (step.Array m t) (λ e. absurd cc) (λ e. absurd cc) (λ e. absurd cc) is.2)
-      go c (Def.Variant arms) s is = absurd (other_step c (step.NoArm is.0 is.1) (step.Arms is.0 is.1) (step.Array m t) (λ e. absurd cc) (λ e. absurd cc) (λ e. absurd cc) is.2)
-      go c (Def.Sequence u) s is = absurd (other_step c step.NoValue (sequence_step (class_of w.types u.0) u.0) (step.Array m t) (λ e. absurd cc) (λ e. absurd cc) (λ e. other_sequence (class_of w.types u.0) u.0 (step.Array m t) (λ e. absurd cc) (λ e. absurd cc) e) is)
-      go c (Def.Tuple ts) s is = absurd (other_step c step.NoValue (step.Parts is.0 is.1) (step.Array m t) (λ e. absurd cc) (λ e. absurd cc) (λ e. absurd cc) is.2)
-      go c (Def.Primitive p) s is = absurd (other_step c step.NoValue (step.Primitive p) (step.Array m t) (λ e. absurd cc) (λ e. absurd cc) (λ e. absurd cc) is)
-      go c (Def.Compact u) s is = absurd cc
-      go c (Def.BitSequence store order) s is = absurd (other_step c step.NoValue step.BitSequence (step.Array m t) (λ e. absurd cc) (λ e. absurd cc) (λ e. absurd cc) is)
+      go c (Def.Composite fs) s is f = absurd cc
+      go c (Def.Variant arms) s is f = absurd cc
+      go c (Def.Sequence u) s is f = absurd cc
+      go c (Def.Tuple ts) s is f = absurd cc
+      go c (Def.Primitive p) s is f = absurd cc
+      go c (Def.Compact u) s is f = absurd cc
+      go c (Def.BitSequence store order) s is f = absurd cc
 
 sequence_elements_open : (w : Walked) (n t : ℕ) → next_of w ≡ next.Wants form.Sequence →
     IsStepAhead w.types (next_type w) (Some (step.Sequence t)) → OpensElements w n (times n t)
 sequence_elements_open w n t h a =
     let k = known w (step.Sequence t) (λ e. absurd cc) a in
-    go (class_of w.types k.ty) k.d k.shape_is k.is where
+    let c = class_of w.types k.ty in
+    go c k.d k.shape_is k.is (step_suits w.types c k.d (step.Sequence t) k.is refl) where
       go : (c : Class) (d : TypeDef) → Some d ≡ next_shape w → IsStep w.types (references_of w.types)
-          (λ from count arms. Unit {0}) c d (step.Sequence t) →
+          (λ from count arms. Unit {0}) c d (step.Sequence t) → suits (step.Sequence t) d ≡ true →
           OpensElements w n (times n t)
-      go c (Def.Sequence u) s is =
+      go c (Def.Sequence u) s is f =
           let sized = sequence_step (class_of w.types u.0) u.0 in
           let same = sequence_sized c sized t is in
           rw (sequence_is (class_of w.types u.0) t u.0 same) (sequence_opens w n u h s)
-      go c (Def.Composite fs) s is = absurd (other_step c step.NoValue (step.Parts is.0 is.1) (step.Sequence t) (λ e. absurd cc) (λ e. absurd cc) (λ e. absurd cc) is.2)
-      go c (Def.Variant arms) s is = absurd (other_step c (step.NoArm is.0 is.1) (step.Arms is.0 is.1) (step.Sequence t) (λ e. absurd cc) (λ e. absurd cc) (λ e. absurd cc) is.2)
-      go c (Def.Array m u) s is = absurd (other_step c step.NoValue (step.Array m u.0) (step.Sequence t) (λ e. absurd cc) (λ e. absurd cc) (λ e. absurd cc) is)
-      go c (Def.Tuple ts) s is = absurd (other_step c step.NoValue (step.Parts is.0 is.1) (step.Sequence t) (λ e. absurd cc) (λ e. absurd cc) (λ e. absurd cc) is.2)
-      go c (Def.Primitive p) s is = absurd (other_step c step.NoValue (step.Primitive p) (step.Sequence t) (λ e. absurd cc) (λ e. absurd cc) (λ e. absurd cc) is)
-      go c (Def.Compact u) s is = absurd cc
-      go c (Def.BitSequence store order) s is = absurd (other_step c step.NoValue step.BitSequence (step.Sequence t) (λ e. absurd cc) (λ e. absurd cc) (λ e. absurd cc) is)
+      go c (Def.Composite fs) s is f = absurd cc
+      go c (Def.Variant arms) s is f = absurd cc
+      go c (Def.Array m u) s is f = absurd cc
+      go c (Def.Tuple ts) s is f = absurd cc
+      go c (Def.Primitive p) s is f = absurd cc
+      go c (Def.Compact u) s is f = absurd cc
+      go c (Def.BitSequence store order) s is f = absurd cc
 
 -- the arm that is found, with the parts that it opens
 abbrev opened_arm : Walked → ArmStep → ℕ × Part
@@ -213,7 +253,8 @@ found_arm_opens w t index o h e a =
     let opens = arm_opens w t index (arm_at w.types t index) h e refl in
     subst (OpensArm w index) (sym (go o (arm_at w.types t index) a)) opens where
       go : (o : Option ArmStep) (x : Option (ℕ × Arm)) → IsArm (references_of w.types) o x →
-          option_map (opened_arm w) o ≡ option_map (λ (y : ℕ × Arm). (y.0, each (field_types y.1.fields))) x
+          option_map (opened_arm w) o
+          ≡ option_map (λ (y : ℕ × Arm). (y.0, each (field_types y.1.fields))) x
       go None None a = refl
       go None (Some x) a = elim a [ ]
       go (Some s) None a = elim a [ ]

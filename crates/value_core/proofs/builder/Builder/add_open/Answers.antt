@@ -21,8 +21,8 @@ settle-requires g c =
     } in
     let at : n.ty.0 ≡ l.ty = same_Some n.ty.0 l.ty (c.in-Some.ensures ∙ l.next) in
     let b = open_added c.self.inside.root.0 c.self.inside.walk c.self.inside.pool.items
-    c.self.inside.nodes.items n c.self.inside.text_len (left_of c.self.inside.walk.types c.args.left) c.self.invariant.0
-    l at c.requires.opened in (
+    c.self.inside.nodes.items n c.self.inside.text_len
+    (left_of c.self.inside.walk.types c.args.left) c.self.invariant.0 l at c.requires.opened in (
       c.self.inside.root.0,
       c.self.inside.pool.items,
       c.self.inside.text_len,
@@ -42,8 +42,8 @@ invariant_of-self-2 g c =
     } in
     let at : n.ty.0 ≡ l.ty = same_Some n.ty.0 l.ty (c.in-Some.ensures ∙ l.next) in
     let b = open_added c.self.inside.root.0 c.self.inside.walk c.self.inside.pool.items
-    c.self.inside.nodes.items n c.self.inside.text_len (left_of c.self.inside.walk.types c.args.left) c.self.invariant.0
-    l at c.requires.opened in
+    c.self.inside.nodes.items n c.self.inside.text_len
+    (left_of c.self.inside.walk.types c.args.left) c.self.invariant.0 l at c.requires.opened in
     let closed = none_open c.self.inside.pool.items c.self.inside.open_text
     (ap (λ (b : Built). b.text) c.self.view_is ∙ c.requires.closed) in (
       c.settle.ensures.settles.builds _ _ _
@@ -53,6 +53,6 @@ invariant_of-self-2 g c =
       settled_paid _ _ _ _ _ _ c.settle.ensures.settles c.settle.ensures.walk c.settle.ensures.turns
           (rw (c.in_ok-open_node.ensures.walk, c.in_ok-open_node.ensures.nodes)
           (open_paid c.self.inside.walk c.self.inside.nodes.items n
-          (length c.self.inside.nodes.items) c.self.inside.turns.so_far (left_of c.self.inside.walk.types c.args.left)
-          c.self.invariant.3)),
+          (length c.self.inside.nodes.items) c.self.inside.turns.so_far
+          (left_of c.self.inside.walk.types c.args.left) c.self.invariant.3)),
     )

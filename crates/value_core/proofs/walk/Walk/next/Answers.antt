@@ -9,7 +9,8 @@ pub returns : goal.returns
 returns g c =
     let around = frames_counted c.self.inside.checked.now.types c.self.inside.around.items in
     let room : length c.args.self.now.frames ≤ c.args.self.now.limit + 1 =
-    subst (λ (w : Walked). length w.frames ≤ w.limit + 1) c.self.view_is (omega (arith, around, c.if-len-from.false, c.from.ensures, c.len.ensures)) in
+    subst (λ (w : Walked). length w.frames ≤ w.limit + 1) c.self.view_is
+    (omega (arith, around, c.if-len-from.false, c.from.ensures, c.len.ensures)) in
     let ahead : IsStepAhead c.args.self.now.types (next_type c.args.self.now)
     (Some c.in-Some.ahead.step) =
     subst (λ (w : Walked). IsStepAhead w.types (next_type w) (Some c.in-Some.ahead.step))
