@@ -34,6 +34,7 @@ impl<'v, 'r> Model for Children<'v, 'r> {
 
 impl<'v, 'r> Children<'v, 'r> {
     /// The nodes whose subtrees these are, one behind the other.
+    #[inline(always)]
     pub(crate) fn new(checked: &'r Checked, nodes: &'v [Node], pool: &'v [u8]) -> Children<'v, 'r>
         requires { IsForest checked.now.types pool.now nodes.now }
         ensures { result ≡ all_seen checked.now.types pool.now nodes.now }
@@ -53,6 +54,7 @@ impl<'v, 'r> Iterator for Children<'v, 'r> {
 
     ghost remaining = { item_count (λ s. s) };
 
+    #[inline(always)]
     fn next(&mut self) -> Option<NodeRef<'v, 'r>> {
         let first = self.nodes.first()?;
         let (subtree, rest) = self.nodes.split_at(first.content.size());

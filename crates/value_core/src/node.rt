@@ -46,6 +46,7 @@ pub(crate) struct Node {
 
 impl Content {
     /// How many nodes the subtree has: 1 of a leaf, and 0 of a node that is open.
+    #[inline(always)]
     pub(crate) fn size(&self) -> usize
         ensures { result ≡ size_shown self.now }
     {

@@ -48,6 +48,7 @@ impl<'v, 'r> NodeRef<'v, 'r> {
     }
 
     /// The type of the node.
+    #[inline(always)]
     pub fn type_id(&self) -> TypeId
         ensures same { result.0 ≡ self.now.ty }
         ensures value { IsValue self.now }
@@ -56,6 +57,7 @@ impl<'v, 'r> NodeRef<'v, 'r> {
     }
 
     /// What the node is.
+    #[inline(always)]
     pub fn what(&self) -> What
         ensures same { result ≡ what_of self.now.tree }
         ensures value { IsValue self.now }
@@ -84,6 +86,7 @@ impl<'v, 'r> NodeRef<'v, 'r> {
     }
 
     /// The node's text, where it is one, lent.
+    #[inline(always)]
     pub fn text(&self) -> Option<&'v str>
         ensures { option_map (λ s. s.now) result ≡ text_of self.now.tree }
     {
@@ -97,6 +100,7 @@ impl<'v, 'r> NodeRef<'v, 'r> {
     }
 
     /// The nodes directly below this one, in order.
+    #[inline(always)]
     pub fn children(&self) -> Children<'v, 'r>
         ensures { result ≡ children_of self.now }
     {

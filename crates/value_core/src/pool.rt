@@ -22,6 +22,7 @@ pub(crate) fn put_long<A: Allocator>(
 }
 
 /// The integer whose sixteen bytes stand at a place.
+#[inline(never)]
 pub(crate) fn long_at(pool: &[u8], start: usize) -> u128
     requires { start + 16 ≤ length pool.now }
     ensures { result ≡ long_shown pool.now start }
