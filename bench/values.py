@@ -1,9 +1,13 @@
-"""Writes the registries and values that the counts are of, and a list of them: NAME ID FILE BYTES LABEL."""
+"""Writes the registries and values that the counts are of, and a list of them: NAME ID FILE BYTES LABEL.
+
+The first word names the folder, and the others the values' lengths where they are not those of `run`.
+"""
 
 import pathlib
 import sys
 
 folder = pathlib.Path(sys.argv[1])
+sizes = [int(size) for size in sys.argv[2:]]
 
 
 def compact(number):
@@ -55,7 +59,7 @@ def write(name, types, ty, value, label):
     rows.append(f"{name} {ty} {file} {len(value)} {label}")
 
 
-for size in 1 << 16, 1 << 22:
+for size in sizes or (1 << 16, 1 << 22):
     for name, (types, ty, element), label in (
         ("u32s", u32s, "sequence of u32"),
         ("small", small, "sequence of composites of a u8, a u16 and a u32"),
@@ -63,7 +67,9 @@ for size in 1 << 16, 1 << 22:
     ):
         count = size // len(element(0))
         write(name, types, ty, compact(count) + b"".join(map(element, range(count))), label)
-for size in 1 << 16, 1 << 20, 1 << 22:
+for size in sizes or (1 << 16, 1 << 20, 1 << 22):
     write("text", registry(primitive(STR)), 0, compact(size) + b"a" * size, "one text")
+for size in sizes:
+    write("bytes", registry(primitive(U8), sequence(0)), 1, compact(size) + b"a" * size, "one run of bytes")
 
 (folder / "list").write_text("".join(f"{row}\n" for row in rows))

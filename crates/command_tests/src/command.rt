@@ -230,8 +230,37 @@ fn metadata_is_read_behind_its_prefix(rt: HostRuntime) {
             b"\x2a",
             "42\n",
         ),
+        shown(
+            "metadata of version 15",
+            b"\x6d\x65\x74\x61\x0f\x04\x00\x00\x00\x05\x03\x00\xff",
+            0,
+            b"\x2a",
+            "42\n",
+        ),
+        types(
+            "the types of version 14",
+            b"\x6d\x65\x74\x61\x0e\x04\x00\x00\x00\x05\x03\x00\xff\xff",
+            "metadata 14\n0 Sized u8 \"\"\n",
+        ),
+        types(
+            "the types of version 15",
+            b"\x6d\x65\x74\x61\x0f\x04\x00\x00\x00\x05\x03\x00\xff",
+            "metadata 15\n0 Sized u8 \"\"\n",
+        ),
+        types(
+            "no types of version 15",
+            b"\x6d\x65\x74\x61\x0f\x00",
+            "metadata 15\n",
+        ),
         refused(
-            "another version",
+            "a later version",
+            b"\x6d\x65\x74\x61\x10",
+            0,
+            b"\x2a",
+            "scaleview: registry: WrongVersion at 4\n",
+        ),
+        refused(
+            "an earlier version",
             b"\x6d\x65\x74\x61\x0d",
             0,
             b"\x2a",

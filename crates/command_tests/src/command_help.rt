@@ -50,7 +50,7 @@ Arguments:
 \x20 <FILE>  The file of the registry, as raw bytes
 
 Options:
-\x20     --metadata  FILE is metadata of version 14; what follows its registry is ignored
+\x20     --metadata  FILE is metadata of version 14 or 15; what follows its registry is ignored
 \x20 -h, --help      Print help
 
 ";
@@ -67,7 +67,7 @@ Arguments:
 \x20 <VALUEFILE>  The file of the value, as raw bytes or, with --hex, as text
 
 Options:
-\x20     --metadata   FILE is metadata of version 14; what follows its registry is ignored
+\x20     --metadata   FILE is metadata of version 14 or 15; what follows its registry is ignored
 \x20     --hex        VALUEFILE is hexadecimal text; 0x in front and a line end are optional
 \x20     --depth <D>  The greatest depth of a part of the value, from 0 to 1024; 64 where absent
 \x20 -h, --help       Print help

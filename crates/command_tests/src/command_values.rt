@@ -1,14 +1,13 @@
 //! Values of all kinds of types through the command, and what it refuses in them.
 
 use crate::command_row::{Row, check_row, refused, shown, within};
+use scale_tests::building::{BYTES, NO_BYTES, WRAPPED_BYTES};
 use std::process::Abort;
 
 const COMPACT_U128: &[u8] = b"\x08\x00\x00\x00\x05\x07\x00\x04\x00\x00\x06\x00\x00";
 
 const UNITS: &[u8] =
     b"\x0c\x00\x00\x00\x05\x03\x00\x04\x00\x00\x04\x00\x00\x08\x00\x00\x02\x04\x00";
-
-const BYTES: &[u8] = b"\x08\x00\x00\x00\x05\x03\x00\x04\x00\x00\x02\x00\x00";
 
 const LONGEST_ARRAY: &[u8] =
     b"\x08\x00\x00\x00\x05\x03\x00\x04\x00\x00\x03\xff\xff\xff\xff\x00\x00";
@@ -146,6 +145,14 @@ fn lists_and_fields_are_shown(rt: HostRuntime) {
             b"\x01\x02\x03",
             "scaleview: value: Truncated at 3\n",
         ),
+        shown("bytes", BYTES, 1, b"\x0c\x01\x02\xff", "\"0x0102ff\"\n"),
+        shown("no bytes", BYTES, 1, b"\x00", "\"0x\"\n"),
+        within(
+            &shown("bytes without depth", BYTES, 1, b"\x04\x07", "\"0x07\"\n"),
+            0,
+        ),
+        shown("wrapped bytes", WRAPPED_BYTES, 2, b"\x04\x07", "[[7]]\n"),
+        shown("an array of no bytes", NO_BYTES, 1, b"", "null\n"),
         shown("a tuple", TUPLE, 2, b"\x2a", "[null,null,42]\n"),
         within(
             &refused(

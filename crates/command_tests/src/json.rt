@@ -4,8 +4,8 @@ use json_core::{PrintFault, json_text, print, to_json};
 use registry_core::TypeId;
 use scale_core::{Sink, SinkFault};
 use scale_tests::building::{
-    BITS_IN_AN_ARM, BYTES, CHAIN, COMPACT_U128, Call, OPTION, SHADOWED_ARM, TEXT,
-    TWO_UNITS_AND_A_BYTE, U8, UNITS, WIDE, add, checked,
+    BITS_IN_AN_ARM, BYTES, CHAIN, COMPACT_U128, Call, NO_BYTES, OPTION, SHADOWED_ARM, TEXT,
+    TWO_UNITS_AND_A_BYTE, U8, UNITS, WIDE, WORDS, WRAPPED_BYTES, add, checked,
 };
 use scale_tests::paced::{PacedWriter, Then};
 use std::alloc::Global;
@@ -128,7 +128,7 @@ const ROWS: [Row; 14] = [
 ];
 
 /// The other lines of the table, each by itself.
-const FORMS: [Row; 12] = [
+const FORMS: [Row; 17] = [
     Row {
         name: "a boolean",
         registry: b"\x04\x00\x00\x00\x05\x00\x00",
@@ -188,6 +188,41 @@ const FORMS: [Row; 12] = [
     Row {
         name: "a sequence of bytes",
         registry: BYTES,
+        ty: 1,
+        calls: &[Call::Bytes(b"\x01\x02\xff")],
+        text: "\"0x0102ff\"",
+    },
+    Row {
+        name: "a sequence of no bytes",
+        registry: BYTES,
+        ty: 1,
+        calls: &[Call::Bytes(b"")],
+        text: "\"0x\"",
+    },
+    Row {
+        name: "an array of bytes",
+        registry: b"\x08\x00\x00\x00\x05\x03\x00\x04\x00\x00\x03\x02\x00\x00\x00\x00\x00",
+        ty: 1,
+        calls: &[Call::Bytes(b"\x00\xa9")],
+        text: "\"0x00a9\"",
+    },
+    Row {
+        name: "an array of no bytes",
+        registry: NO_BYTES,
+        ty: 1,
+        calls: &[Call::Empty],
+        text: "null",
+    },
+    Row {
+        name: "a sequence of wrapped bytes",
+        registry: WRAPPED_BYTES,
+        ty: 2,
+        calls: &[Call::List(1), Call::Fields, Call::Unsigned(7)],
+        text: "[[7]]",
+    },
+    Row {
+        name: "a sequence of words",
+        registry: WORDS,
         ty: 1,
         calls: &[Call::List(2), Call::Unsigned(7), Call::Unsigned(255)],
         text: "[7,255]",

@@ -1,6 +1,6 @@
 //! Registries that are large: where memory is granted they are read, checked and written back, and none is refused for want of it.
 
-use registry_core::{TypeId, read_metadata, read_registry, write_registry};
+use registry_core::{TypeId, Version, read_metadata, read_registry, write_registry};
 use scale_core::write_compact;
 use std::alloc::{AllocError, Global};
 use std::process::Abort;
@@ -22,12 +22,12 @@ fn check_registry(rt: &impl Abort, alloc: Global, bytes: &[u8], types: u32) -> R
     let last = TypeId(types.saturating_sub(1));
     assert_eq!(rt; checked.class(last), Some(Class::Sized));
     assert_eq!(rt; checked.widest(), 0);
-    let mut metadata = Vec::from_slice(alloc, b"\x6d\x65\x74\x61\x0e")?;
+    let mut metadata = Vec::from_slice(alloc, b"\x6d\x65\x74\x61\x0f")?;
     metadata.extend_from_slice(bytes)?;
-    let (registry, count) = read_metadata(alloc, &metadata)?;
+    let (registry, count, version) = read_metadata(alloc, &metadata)?;
     assert_eq!(rt;
-        (registry.types().len(), count),
-        (types as usize, metadata.len())
+        (registry.types().len(), count, version),
+        (types as usize, metadata.len(), Version::V15)
     );
     Ok(())
 }

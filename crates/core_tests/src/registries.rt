@@ -1,7 +1,7 @@
 //! Registries: rows that are read and written back, cut at each byte, and rows that are refused.
 
 use registry_core::{
-    Arm, Field, Items, Registry, RegistryFault, RegistryReason, Text, TypeDef, TypeId,
+    Arm, Field, Items, Registry, RegistryFault, RegistryReason, Text, TypeDef, TypeId, Version,
     read_metadata, read_registry, write_registry,
 };
 use std::alloc::{AllocError, Global};
@@ -250,18 +250,40 @@ fn refused_registries_are_told(rt: HostRuntime) {
 
 #[test]
 fn metadata_is_read_behind_its_prefix(rt: HostRuntime) -> Result<(), Fail> {
+    let rows = [
+        (
+            b"\x6d\x65\x74\x61\x0e\x04\x00\x00\x00\x05\x03\x00\xff\xff".as_slice(),
+            Version::V14,
+            14,
+        ),
+        (
+            b"\x6d\x65\x74\x61\x0f\x04\x00\x00\x00\x05\x03\x00\xff".as_slice(),
+            Version::V15,
+            15,
+        ),
+    ];
+    for (bytes, version, number) in rows {
+        let (registry, count, told) = read_metadata(rt.alloc(), bytes)?;
+        assert_eq!(rt; (count, told), (12, version));
+        assert_eq!(rt; told.number(), number);
+        let written = write_registry(rt.alloc(), &registry)?;
+        assert_eq!(rt;
+            written.as_slice(),
+            b"\x04\x00\x00\x00\x05\x03\x00".as_slice()
+        );
+    }
+    Ok(())
+}
+
+#[test]
+fn metadata_is_no_registry(rt: HostRuntime) {
     let bytes = b"\x6d\x65\x74\x61\x0e\x04\x00\x00\x00\x05\x03\x00\xff\xff";
-    let (registry, count) = read_metadata(rt.alloc(), bytes)?;
-    assert_eq!(rt; count, 12);
-    let written = write_registry(rt.alloc(), &registry)?;
-    assert_eq!(rt; written.as_slice(), &bytes[5..12]);
     // Without the prefix 6491 types are claimed, and the first id is 29.
     let fault = RegistryFault {
         reason: RegistryReason::IdOutOfPlace,
         at: 2,
     };
     assert_eq!(rt; refusal(rt.alloc(), bytes), Some(fault));
-    Ok(())
 }
 
 #[test]
@@ -283,12 +305,22 @@ fn refused_metadata_is_told(rt: HostRuntime) {
             3,
         ),
         (
+            b"\x6d\x65\x74\x61\x0f".as_slice(),
+            RegistryReason::Truncated,
+            5,
+        ),
+        (
             b"\x6d\x65\x74\x61\x0d".as_slice(),
             RegistryReason::WrongVersion,
             4,
         ),
         (
-            b"\x6d\x65\x74\x61\x0f\x04".as_slice(),
+            b"\x6d\x65\x74\x61\x10".as_slice(),
+            RegistryReason::WrongVersion,
+            4,
+        ),
+        (
+            b"\x6d\x65\x74\x61\x10\x04".as_slice(),
             RegistryReason::WrongVersion,
             4,
         ),

@@ -395,7 +395,7 @@ const EACH_DEFINITION: &[u8] =
 const STEPS: [Step; 8] = [
     Step::Primitive(Primitive::U8),
     Step::Parts { from: 0, count: 2 },
-    Step::Sequence { element: 0 },
+    Step::Bytes,
     Step::Array { len: 7, element: 1 },
     Step::Parts { from: 4, count: 2 },
     Step::Compact(Some(Target::U8)),
@@ -419,31 +419,52 @@ const STEPS_WITHOUT: [Step; 8] = [
     Step::NoArm { from: 0, count: 1 },
 ];
 
+/// A sequence of the u8 behind it, that u8, an array of three, a composite of one, a sequence and an array of three of
+/// the composite, an array of no u8, an i8 and a sequence of it.
+const BYTES_AND_WRAPPERS: &[u8] =
+    b"\x24\x00\x00\x00\x02\x04\x00\x04\x00\x00\x05\x03\x00\x08\x00\x00\x03\x03\x00\x00\x00\x04\x00\x0c\x00\x00\x00\x04\x00\x04\x00\x00\x00\x10\x00\x00\x02\x0c\x00\x14\x00\x00\x03\x03\x00\x00\x00\x0c\x00\x18\x00\x00\x03\x00\x00\x00\x00\x04\x00\x1c\x00\x00\x05\x09\x00\x20\x00\x00\x02\x1c\x00";
+
+const STEPS_OF_BYTES: [Step; 9] = [
+    Step::Bytes,
+    Step::Primitive(Primitive::U8),
+    Step::ByteArray { len: 3 },
+    Step::Parts { from: 2, count: 1 },
+    Step::Sequence { element: 3 },
+    Step::Array { len: 3, element: 3 },
+    Step::Empty,
+    Step::Primitive(Primitive::I8),
+    Step::Sequence { element: 7 },
+];
+
 const MEMBERS: [u32; 8] = [0, 2, 0, 1, 1, 3, 0, 5];
+
+/// The types of the registry have these steps, and there is none behind them.
+fn check_steps(rt: &impl Abort, registry: &Checked, steps: &[Step], name: &str) {
+    let mut id = 0u32;
+    for step in steps {
+        assert_eq!(rt;
+            registry.step(TypeId(id)),
+            Some(*step),
+            "step {id} of {name}"
+        );
+        id = id.saturating_add(1);
+    }
+    assert_eq!(rt; registry.step(TypeId(id)), None, "step behind {name}");
+}
+
+#[test]
+fn only_u8_itself_is_read_in_runs_of_bytes(rt: HostRuntime) -> Result<(), Fail> {
+    let registry = checked(rt.alloc(), BYTES_AND_WRAPPERS)?;
+    check_steps(&rt, &registry, &STEPS_OF_BYTES, "bytes and wrappers");
+    Ok(())
+}
 
 #[test]
 fn types_have_their_steps_and_members(rt: HostRuntime) -> Result<(), Fail> {
     let registry = checked(rt.alloc(), EACH_DEFINITION)?;
-    let mut id = 0u32;
-    for step in &STEPS {
-        assert_eq!(rt;
-            registry.step(TypeId(id)),
-            Some(*step),
-            "the step of type {id}"
-        );
-        id = id.saturating_add(1);
-    }
-    assert_eq!(rt; registry.step(TypeId(id)), None);
+    check_steps(&rt, &registry, &STEPS, "each definition");
     let without = checked(rt.alloc(), NO_BYTES_AND_NO_VALUES)?;
-    let mut id = 0u32;
-    for step in &STEPS_WITHOUT {
-        assert_eq!(rt;
-            without.step(TypeId(id)),
-            Some(*step),
-            "the step of type {id} without"
-        );
-        id = id.saturating_add(1);
-    }
+    check_steps(&rt, &without, &STEPS_WITHOUT, "no bytes and no values");
     let arm = ArmStep {
         position: 0,
         from: 5,

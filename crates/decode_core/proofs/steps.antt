@@ -11,9 +11,11 @@ pub mod Refusing
 pub mod Settling
 pub mod Steps
 pub mod RunTurns
-pub mod TextTurns
+pub mod RunSteps
+pub mod ByteArrays
 pub mod Endings
 pub mod Moving
+pub mod Calls
 pub mod Holding
 pub mod Sound
 pub mod Counting

@@ -20,7 +20,7 @@ use Rattle.decode_core.specs.Machine.{remain, start}
 use Rattle.decode_core.specs.Outcome.{Job, done, refused, more, too_long, IsOutcome}
 use Rattle.decode_core.specs.Reasons.{reason_of}
 use Rattle.decode_core.specs.Running.{Running, held_of, state_of}
-use Rattle.decode_core.specs.Held.{open_text}
+use Rattle.decode_core.specs.Held.{open_run}
 use Rattle.decode_core.specs.Holds.{Holds}
 use Rattle.decode_core.specs.Told.{told, told_at, shown}
 use Rattle.decode_core.specs.Turned.{IsSound, TurnsLead, WantsBytes, WantsMemory}
@@ -49,7 +49,7 @@ first_running types root depth =
         ty = root;
         walk = start_of types root depth;
         entries = [];
-        text =
+        run =
             None;
         turns = 0;
       };
@@ -97,7 +97,7 @@ pub record IsDone (j : Job) (b : List ℕ) (s : Running) (n : ℕ) : Type 0 wher
 -- memory was wanted: the first n of these bytes, within the limit, are those of the nodes of a
 -- value on its way and those that
 -- it holds; and what comes next is refused by nothing, but a node that bytes spell was to be added,
--- or bytes of a text were to be kept
+-- or bytes of a text or a run of bytes were to be kept
 pub record RanOut (j : Job) (b : List ℕ) (n : ℕ) : Type 0 where
   pub s : Running
   pub same : IsOf j s
@@ -132,15 +132,15 @@ AnswersPiece old new b (Err f) = (new.run ≡ Err f) × IsEnded new.job b f new.
 
 -- what is held at More: the one begun tree that these bytes make, its nodes and no others, and the
 -- bytes behind its own, which
--- are too few for the node that is missing first; texts have the bytes of the tree's texts, and of
--- an open one those that came
+-- are too few for the node that is missing first; texts and runs of bytes have the bytes of the
+-- tree's, and of an open one those that came past its length
 pub record HoldsOf (j : Job) (b : List ℕ) (s : Running) : Type 0 where
   pub tree : Begun
   pub holds : Holds j.registry (suc j.depth) j.ty b tree (held_of s)
   pub shows : IsBegunPreorder tree (shown s.built.entries)
   pub nodes : length s.built.entries ≡ begun_nodes tree
   pub texts : built_text_bytes s.built
-      ≡ begun_text_bytes tree + open_text (layout j.registry holds.2) (held_of s)
+      ≡ begun_text_bytes tree + open_run (layout j.registry holds.2) (held_of s)
 
 abbrev pub HoldsAt : Decoding → List ℕ → Result Progress DecodeFault → Type 0
 HoldsAt d b (Ok progress.More) = (s : Running) × (d.run ≡ Ok s) × HoldsOf d.job b s
@@ -244,7 +244,7 @@ node_count d = elim d.run [ Ok s ↦ length s.built.entries | Err f ↦ 0 ]
 abbrev pub text_bytes : Decoding → ℕ
 text_bytes d = elim d.run [ Ok s ↦ built_text_bytes s.built | Err f ↦ 0 ]
 
--- where the value is whole, its own nodes and bytes of text are counted
+-- where the value is whole, its own nodes and bytes of texts and of runs are counted
 abbrev pub CountsValue : Decoding → Result Progress DecodeFault → Type 0
 CountsValue d (Ok (progress.Done used)) = (s : Running) × (d.run ≡ Ok s)
     × (node_count d ≡ nodes (finished s.built).tree)
@@ -281,7 +281,7 @@ IsSmallAtEnd d (Ok (progress.Done used)) =
     node_count d ≤ value_bound d.taken d.job.depth (widest d.job.registry)
 IsSmallAtEnd d _ = Unit {0}
 
--- a value that is handed out has few nodes and texts for its bytes
+-- a value that is handed out has few nodes and bytes of runs for its bytes
 abbrev pub IsSmallValue : Job → List ℕ → Result Seen DecodeFault → Type 0
 IsSmallValue j b (Ok v) = (n : ℕ) × IsOutcome j b (done v.tree) n
     × (nodes v.tree ≤ value_bound n j.depth (widest j.registry)) × (tree_text_bytes v.tree ≤ n)

@@ -106,7 +106,7 @@ BegunIsMissing = (r : List TypeInfo) (room t : ℕ) (b : List ℕ) (g : Begun) (
     × (held r room t b ≡ (g, e))
 
 -- its levels fit, and it has few nodes for its bytes, its levels and the width of the registry, and
--- no more bytes of text than bytes
+-- no more bytes of texts and runs of bytes than bytes
 abbrev pub BegunIsBounded : Type 0
 BegunIsBounded = (r : List TypeInfo) (room t : ℕ) (g : Begun) (b : List ℕ) (next : Option (ℕ × ℕ)) →
     Grows r room t g b next →

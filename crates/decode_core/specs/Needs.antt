@@ -16,7 +16,7 @@ use Rattle.grammar_core.specs.declared.form.Form.TheVariants as form
 abbrev pub compact_need : Target → ℕ → ℕ
 compact_need m first = if is_too_long m first then 1 else form_len first
 
--- of a text the length alone
+-- of a text or a run of bytes the length alone, where it has one in front
 abbrev pub kind_need : PrimitiveKind → ℕ → ℕ
 kind_need K.Bool first = 1
 kind_need K.Char first = 4
@@ -35,23 +35,29 @@ need (form.Compact m) first = compact_need m first
 need form.Fields first = 0
 need form.Arm first = 1
 need (form.Array n) first = 0
+need (form.ByteArray n) first = n
 need form.Sequence first = compact_need target.U32 first
+need form.Bytes first = compact_need target.U32 first
 need form.Count first = compact_need target.U32 first
 
--- the forms of nodes that have bytes of their own
+-- the forms of nodes that have a few bytes of their own, which are carried where a piece cuts them
 abbrev pub HasBytes : Form → Type 0
 HasBytes form.Empty = ⊥
 HasBytes form.Fields = ⊥
 HasBytes (form.Array n) = ⊥
+HasBytes (form.ByteArray n) = ⊥
 HasBytes _ = Unit {0}
 
 abbrev pub IsNoText : PrimitiveKind → Type 0
 IsNoText K.Str = ⊥
 IsNoText _ = Unit {0}
 
-abbrev pub NoText : Form → Type 0
-NoText (form.Primitive p) = IsNoText (kind_of p)
-NoText _ = Unit {0}
+-- neither a text nor a run of bytes
+abbrev pub NoRun : Form → Type 0
+NoRun (form.Primitive p) = IsNoText (kind_of p)
+NoRun form.Bytes = ⊥
+NoRun (form.ByteArray n) = ⊥
+NoRun _ = Unit {0}
 
 -- as many as are needed, and no more
 abbrev pub AreOwn : Form → List ℕ → Type 0

@@ -1,22 +1,21 @@
 -- What the bytes of the next node make of a value that is built: the value with the node, or a
 -- refusal.
 use Rattle.std.specs.Prelude.{false, ◌⊎◌, ◌≡◌, ℕ, List, [], Option, Some, None, Result, Ok, Err}
-use Rattle.scale_core.specs.Read.{Read, place, compact_at}
-use Rattle.scale_core.specs.declared.compact.Target.TheVariants as target
+use Rattle.scale_core.specs.Read.{Read, place}
 use Rattle.scale_core.specs.declared.fault.Fault.{Fault}
 use Rattle.scale_core.specs.declared.fault.Reason.{Reason}
-use Rattle.registry_core.specs.declared.primitive.Primitive.TheVariants as P
-use Rattle.value_core.specs.Built.{Built, with_leaf, with_open, with_text_opened, next_layout}
+use Rattle.widths_core.specs.declared.run_kind.RunKind.{RunKind}
+use Rattle.value_core.specs.Built.{Built, with_leaf, with_open, with_run_opened, next_layout}
 use Rattle.grammar_core.specs.Parts.{Part}
 use Rattle.grammar_core.specs.Preorder.{Head}
 use Rattle.grammar_core.specs.Reading.{Refusal}
+use Rattle.grammar_core.specs.Runs.{run_form, run_length_at}
 use Rattle.grammar_core.specs.declared.form.Form.{Form}
-use Rattle.grammar_core.specs.declared.form.Form.TheVariants as form
 use Rattle.decode_core.specs.Machine.{is_cut}
 use Rattle.decode_core.specs.Reasons.{reason_of}
 use Rattle.decode_core.specs.Told.{own_at}
 use Rattle.decode_core.specs.declared.fault.DecodeReason.{DecodeReason}
-use Rattle.decode_core.specs.declared.run.OpenText.{OpenText}
+use Rattle.decode_core.specs.declared.run.OpenRun.{OpenRun}
 use Rattle.decode_core.specs.declared.node.NodeFault.{NodeFault}
 use Rattle.decode_core.specs.declared.node.NodeFault.TheVariants as fault
 
@@ -46,41 +45,39 @@ IsRefused b own told at = (e : Refusal) × (left : List ℕ)
 abbrev pub IsSpelled : Built → List ℕ → Type 0
 IsSpelled b own = (x : Head × Option Part) × (own_at (next_layout b) own ≡ Ok (x, []))
 
--- the bytes are a length, and nothing else
-abbrev pub AreLength : List ℕ → Type 0
-AreLength own = (n : ℕ) × (compact_at target.U32 own ≡ Ok (n, []))
-
 -- what the next node's bytes make of a value; memory is refused only for a node that they spell
 abbrev pub AddsNode : Built → Built → List ℕ → Result (Unit {0}) NodeFault → Type 0
 AddsNode old new own (Ok _) = IsAdded old new own
 AddsNode old new own (Err (fault.Refused told at)) = IsRefused old own told at × (new ≡ old)
 AddsNode old new own (Err fault.OutOfMemory) = IsSpelled old own × (new ≡ old)
 
+-- the same of bytes that spell it
+abbrev pub AddsBytes : {E : Type 0} → Built → Built → List ℕ → Result (Unit {0}) E → Type 0
+AddsBytes old new own (Ok _) = IsAdded old new own
+AddsBytes old new own (Err e) = IsSpelled old own × (new ≡ old)
+
 -- the same of a node without bytes of its own
 abbrev pub AddsBare : {E : Type 0} → Built → Built → Result (Unit {0}) E → Type 0
-AddsBare old new (Ok _) = IsAdded old new []
-AddsBare old new (Err e) = IsSpelled old [] × (new ≡ old)
+AddsBare old new added = AddsBytes old new [] added
 
--- the bytes are a text's length, and the text is open
--- what the bytes of a text's length make of it
-abbrev pub OpensText : Built → Built → List ℕ → Result ℕ NodeFault → Type 0
-OpensText old new own (Ok n) = (compact_at target.U32 own ≡ Ok (n, []))
-    × (new ≡ with_text_opened old n)
-OpensText old new own (Err (fault.Refused told at)) = IsRefused old own told at × (new ≡ old)
-OpensText old new own (Err fault.OutOfMemory) = AreLength own × (new ≡ old)
+-- what the bytes of a run's length make of it; no memory is wanted for them
+abbrev pub OpensRun : RunKind → Built → Built → List ℕ → Result ℕ NodeFault → Type 0
+OpensRun k old new own (Ok n) = (run_length_at k own ≡ Ok (n, [])) × (new ≡ with_run_opened old k n)
+OpensRun k old new own (Err (fault.Refused told at)) = IsRefused old own told at × (new ≡ old)
+OpensRun k old new own (Err fault.OutOfMemory) = ⊥
 
--- the node is added, or the text that is next is open and lacks all its bytes
-abbrev pub TakesTextLength : Form → Built → Built → Option OpenText → List ℕ → Type 0
-TakesTextLength f old new text own = (IsAdded old new own × (text ≡ None))
-    ⊎ ((f ≡ form.Primitive P.Str)
-    × ((n : ℕ) × (compact_at target.U32 own ≡ Ok (n, [])) × (new ≡ with_text_opened old n)
-    × (text ≡ Some (record { len = n; missing = n }))))
+-- the bytes are the length of the run that is next, which is open and lacks all its bytes
+abbrev pub IsOpened : Form → Built → Built → Option OpenRun → List ℕ → Type 0
+IsOpened f old new kept own = (k : RunKind) × (n : ℕ) × (f ≡ run_form k)
+    × (run_length_at k own ≡ Ok (n, [])) × (new ≡ with_run_opened old k n)
+    × (kept ≡ Some (record { len = n; missing = n }))
 
--- what the next node's own bytes make of it, be it a text or not
-abbrev pub TakesNode : Form → Built → Built → Option OpenText → List ℕ →
+-- what the next node's own bytes make of it, be it a run or not
+abbrev pub TakesNode : Form → Built → Built → Option OpenRun → List ℕ →
     Result (Unit {0}) NodeFault → Type 0
-TakesNode f old new text own (Ok _) = TakesTextLength f old new text own
-TakesNode f old new text own (Err (fault.Refused told at)) = IsRefused old own told at × (new ≡ old)
-    × (text ≡ None)
-TakesNode f old new text own (Err fault.OutOfMemory) =
-    (IsSpelled old own ⊎ ((f ≡ form.Primitive P.Str) × AreLength own)) × (new ≡ old) × (text ≡ None)
+TakesNode f old new kept own (Ok _) = (IsAdded old new own × (kept ≡ None))
+    ⊎ IsOpened f old new kept own
+TakesNode f old new kept own (Err (fault.Refused told at)) = IsRefused old own told at × (new ≡ old)
+    × (kept ≡ None)
+TakesNode f old new kept own (Err fault.OutOfMemory) = IsSpelled old own × (new ≡ old)
+    × (kept ≡ None)

@@ -11,7 +11,10 @@ use Rattle.registry_core.specs.declared.primitive.Primitive.{Primitive}
 use Rattle.registry_core.specs.declared.primitive.Primitive.TheVariants as P
 use Rattle.widths_core.specs.Layouts.{Plain}
 use Rattle.widths_core.specs.Layouts as layout
+use Rattle.widths_core.specs.declared.run_kind.RunKind.{RunKind}
+use Rattle.widths_core.specs.declared.run_kind.RunKind.TheVariants as kind
 use Rattle.grammar_core.specs.Reading.{basic, leaf_at}
+use Rattle.grammar_core.specs.Runs.{run_form}
 use Rattle.grammar_core.specs.declared.form.Form.{Form}
 use Rattle.grammar_core.specs.declared.form.Form.TheVariants as form
 use Rattle.value_core.specs.Leaves.{leaf_head}
@@ -23,6 +26,8 @@ use Rattle.decode_core.specs.declared.forms.BytesForm.{BytesForm}
 use Rattle.decode_core.specs.declared.forms.BytesForm.TheVariants as bytes
 use Rattle.decode_core.specs.declared.forms.BareForm.{BareForm}
 use Rattle.decode_core.specs.declared.forms.BareForm.TheVariants as bare
+use Rattle.decode_core.specs.declared.forms.PrefixedRun.{PrefixedRun}
+use Rattle.decode_core.specs.declared.forms.PrefixedRun.TheVariants as prefixed
 
 -- the primitive types of integers
 abbrev pub unsigned_of : IntegerWidth → Primitive
@@ -52,9 +57,13 @@ form_of_plain (plain.Wide s) = form.Primitive (wide_of s)
 form_of_plain (plain.Compact m) = form.Compact m
 form_of_plain plain.Count = form.Count
 
+abbrev pub prefixed_kind : PrefixedRun → RunKind
+prefixed_kind prefixed.Text = kind.Text
+prefixed_kind prefixed.Bytes = kind.Bytes
+
 abbrev pub form_of_bytes : BytesForm → Form
 form_of_bytes (bytes.Plain p) = form_of_plain p
-form_of_bytes bytes.Text = form.Primitive P.Str
+form_of_bytes (bytes.Run p) = run_form (prefixed_kind p)
 form_of_bytes bytes.Arm = form.Arm
 form_of_bytes bytes.Sequence = form.Sequence
 

@@ -10,8 +10,11 @@ use Rattle.widths_core.specs.Arms.{arm_of}
 use Rattle.widths_core.specs.Classes.{is_finite}
 use Rattle.widths_core.specs.Layouts.{Plain, Layout, layout}
 use Rattle.widths_core.specs.Layouts as layout
+use Rattle.widths_core.specs.declared.run_kind.RunKind.{RunKind}
+use Rattle.widths_core.specs.declared.run_kind.RunKind.TheVariants as kind
 use Rattle.grammar_core.specs.Tree.{Tree}
 use Rattle.grammar_core.specs.Reading.{Reader, value_at}
+use Rattle.grammar_core.specs.Runs.{run_length_at}
 
 -- what the first part takes, where it is refused; else its bytes, and what the parts taken_after it
 -- take
@@ -24,9 +27,14 @@ abbrev pub compact_taken : Target → List ℕ → ℕ
 compact_taken m [] = 0
 compact_taken m (first ∷ rest) = if is_too_long m first then 1 else form_len first
 
+-- where the length of a run is refused
+abbrev pub run_length_taken : RunKind → List ℕ → ℕ
+run_length_taken (kind.ByteArray n) b = 0
+run_length_taken _ b = compact_taken target.U32 b
+
 -- a text is judged at its end
-abbrev pub text_taken : List ℕ → ℕ
-text_taken b = taken_after b (compact_at target.U32 b) (compact_taken target.U32 b) (λ n. n.0)
+abbrev pub run_taken : RunKind → List ℕ → ℕ
+run_taken k b = taken_after b (run_length_at k b) (run_length_taken k b) (λ n. n.0)
 
 abbrev pub all_taken : (ℕ → Reader Tree) → (ℕ → List ℕ → ℕ) → List ℕ → List ℕ → ℕ
 all_taken child taken [] b = 0
@@ -51,7 +59,7 @@ arms_taken child taken arms (index ∷ rest) = suc (arm_taken child taken (arm_o
 abbrev pub leaf_taken : Plain → List ℕ → ℕ
 leaf_taken layout.bool b = 1
 leaf_taken layout.char b = 4
-leaf_taken layout.text b = text_taken b
+leaf_taken (layout.run k) b = run_taken k b
 leaf_taken layout.counted b = compact_taken target.U32 b
 leaf_taken (layout.compact m) b = compact_taken m b
 leaf_taken _ b = 0

@@ -1,9 +1,9 @@
 -- One piece of input, turn by turn.
-use Rattle.std.specs.Prelude.{◌≡◌, ℕ, suc, ◌*◌, ◌+◌, ◌-◌, ◌≤◌, ◌⊎◌, List, [], ◌++◌, length, take, drop, false, true, Result, Ok, Err}
-use Rattle.scale_core.specs.Read.{compact_at}
-use Rattle.scale_core.specs.declared.compact.Target.TheVariants as target
+use Rattle.std.specs.Prelude.{◌≡◌, ℕ, suc, ◌*◌, ◌+◌, ◌-◌, ◌≤◌, ◌⊎◌, List, [], ◌++◌, length, take, drop, false, true, None, Result, Ok, Err}
 use Rattle.registry_core.specs.declared.type_info.TypeInfo.{TypeInfo}
 use Rattle.widths_core.specs.Layouts as layout
+use Rattle.widths_core.specs.declared.run_kind.RunKind.{RunKind}
+use Rattle.grammar_core.specs.Runs.{run_length_at}
 use Rattle.grammar_core.specs.declared.form.Form.{Form}
 use Rattle.grammar_core.specs.declared.form.Next.TheVariants as next
 use Rattle.value_core.specs.Begun.{IsBegun}
@@ -15,7 +15,7 @@ use Rattle.decode_core.specs.Decided.{Decided}
 use Rattle.decode_core.specs.Machine.{State, remain, to_go, is_cut}
 use Rattle.decode_core.specs.NodeAdds.{IsSpelled}
 use Rattle.decode_core.specs.Reasons.{reason_of}
-use Rattle.decode_core.specs.Running.{Running, IsCarry, IsTextNext, state_of, held_of}
+use Rattle.decode_core.specs.Running.{Running, IsCarry, IsRunNext, state_of, held_of}
 use Rattle.decode_core.specs.Told.{told, after, own_at}
 use Rattle.decode_core.specs.declared.node.NodeFault.{NodeFault}
 use Rattle.decode_core.specs.declared.node.NodeFault.TheVariants as fault
@@ -84,23 +84,24 @@ EndsTurns s rest (stop.Refused held told_reason at len) = let x = held_of s ++ r
 abbrev pub KeepsNode : Running → List ℕ → Type 0
 KeepsNode s bytes = IsSpelled s.built (held_of s ++ bytes)
 
--- a text is next, and the bytes that are held and these are its length and some of its bytes, or
--- none; these are not none
-abbrev pub KeepsText : Running → List ℕ → Type 0
-KeepsText s bytes = (next_layout s.built ≡ (layout.plain layout.text)) × (1 ≤ length bytes)
-    × ((n : ℕ) × (came : List ℕ) × (compact_at target.U32 (held_of s ++ bytes) ≡ Ok (n, came))
+-- a text or a run of bytes is next, and the bytes that are held and these are its length and some
+-- of its bytes, or none; these are not none
+abbrev pub KeepsRun : Running → List ℕ → Type 0
+KeepsRun s bytes = (k : RunKind) × (next_layout s.built ≡ layout.plain (layout.run k))
+    × (1 ≤ length bytes)
+    × ((n : ℕ) × (came : List ℕ) × (run_length_at k (held_of s ++ bytes) ≡ Ok (n, came))
     × (length came ≤ n))
 
 -- memory is wanted, where rest is left of the piece: a value can stand next, and by the first bytes
 -- of the rest its node is to be
--- added, which they spell, or bytes of a text are to be kept
+-- added, which they spell, or bytes of a run are to be kept
 pub record WantsMemory (s : Running) (rest : List ℕ) : Type 0 where
   pub form : Form
   pub next : next_of s.built.walk ≡ next.Wants form
   pub bytes : List ℕ
   pub later : List ℕ
   pub is : rest ≡ bytes ++ later
-  pub keeps : KeepsNode s bytes ⊎ KeepsText s bytes
+  pub keeps : KeepsNode s bytes ⊎ KeepsRun s bytes
 
 -- bytes are held, or a node is added and none are
 abbrev pub Steps : Running → Running → List ℕ → Type 0
@@ -130,7 +131,7 @@ pub record IsSound (s : Running) : Type 0 where
   pub begun : IsBegun s.built
   pub frames : length s.built.walk.frames ≤ s.built.walk.limit + 2
   pub carried : IsCarry s.built s.carry
-  pub text_next : IsTextNext s.built s.carry s.built.text
+  pub run_next : IsRunNext s.built s.carry s.built.run
 
 -- what turns on a piece do, of which n bytes were taken
 abbrev pub FeedTells : Running → Running → List ℕ → ℕ → Stopped → Type 0
@@ -175,6 +176,27 @@ abbrev pub FeedCounts : Running → Running → List ℕ → ℕ → ℕ → Res
 FeedCounts old new piece from to (Ok x) = StopCounts old new piece from to x.0 x.1
 FeedCounts old new piece from to (Err n) = StopsShort old new piece n from to
 
+-- a value of this form is next, and no run is open
+pub record Awaits (s : Running) (f : Form) : Type 0 where
+  pub next : next_of s.built.walk ≡ next.Wants f
+  pub closed : s.built.run ≡ None
+  pub sound : IsSound s
+
+-- turns on a piece, of which those before the last one took n bytes and did not stop, and what the last
+-- one did
+pub record TurnsTell (old new : Running) (piece : List ℕ) (from to n : ℕ) (last : Turned)
+    : Type 0 where
+  pub before : Running
+  pub within : n ≤ length piece
+  pub moves : Moves old before (take n piece)
+  pub nearer : left_to_do before (drop n piece) ≤ left_to_do old piece
+  pub few : FewTurns old before n from to
+  pub sound : IsSound before
+  pub tells : StepTells before new (drop n piece) last
+  pub kept : KeepsTurns before new last
+  pub whole : is_whole old.built ≡ true →
+      (n ≡ 0) × (before ≡ old) × (last ≡ turned.Stopped stop.Finished)
+
 -- a turn that needs no bytes
 abbrev pub BareTells : Running → Running → Turned → Type 0
 BareTells old new (turned.On n) = (n ≡ 0) × IsSame old new × Steps old new []
@@ -188,7 +210,15 @@ node_turned (Err (fault.Refused told_reason at)) held count len =
     turned.Stopped (stop.Refused held told_reason at len)
 node_turned (Err fault.OutOfMemory) held count len = turned.OutOfMemory
 
--- a turn that ends a text, whatever follows it
+-- a turn that takes bytes of the piece for an open run
+abbrev pub PieceTells : Running → Running → List ℕ → Turned → Type 0
+PieceTells old new piece (turned.On n) = (n ≤ length piece) × IsSame old new
+    × (1 ≤ length (take n piece)) × (state_of new.built ≡ state_of old.built)
+    × (held_of new ≡ held_of old ++ take n piece)
+PieceTells old new piece (turned.Stopped s) = ⊥
+PieceTells old new piece turned.OutOfMemory = WantsMemory old piece
+
+-- a turn that ends a run, whatever follows it
 abbrev pub EndTells : Running → Running → Turned → Type 0
 EndTells old new (turned.On n) = (n ≡ 0) × IsSame old new × Steps old new []
 EndTells old new (turned.Stopped (stop.Refused held told_reason at len)) = (rest : List ℕ) →

@@ -38,7 +38,8 @@ pub enum Progress {
 
 /// A decoder of one value of a type, whose bytes come in any pieces.
 ///
-/// It keeps the nodes that are there, the open ones among them, and at most 32 bytes beside; no input.
+/// It keeps the nodes that are there, the open ones among them, those bytes of an open text or run of bytes that came,
+/// and at most 32 bytes beside; no input.
 #[derive(Drop)]
 pub struct Decoder<'r, A: Allocator> {
     checked: &'r Checked,
@@ -154,8 +155,8 @@ fn into_turns<A: Allocator>(run: Result<Run<'_, A>, DecodeFault>) -> Count
 }
 
 impl<'r, A: Allocator + Clone> Decoder<'r, A> {
-    /// A decoder of a value of the root's type, within these limits, that has taken nothing. Nodes, texts and open
-    /// parts will come from the allocator and its clones.
+    /// A decoder of a value of the root's type, within these limits, that has taken nothing. Nodes, texts, runs of
+    /// bytes and open parts will come from the allocator and its clones.
     ///
     /// Refuses, in this order: with `UnknownType` an id that is no position of the registry, with `LimitOutOfRange` a
     /// depth above 1024 or more than 2^40 bytes, and with `OutOfMemory`. Nothing is made then.
@@ -213,8 +214,8 @@ impl<'r, A: Allocator> Decoder<'r, A> {
         }
     }
 
-    /// How many bytes of text it holds, those of a text that is not there whole too; 0 after a refusal. They are at most
-    /// as many as were taken.
+    /// How many bytes of texts and runs of bytes it holds, those of one that is not there whole too, past its length; 0
+    /// after a refusal. They are at most as many as were taken.
     pub fn text_bytes(&self) -> u64
         ensures count { result ≡ text_bytes self.now }
         ensures bound { result ≤ self.now.taken }
@@ -235,7 +236,7 @@ impl<'r, A: Allocator> Decoder<'r, A> {
     /// Refuses in the call that brings the deciding byte, with the place from the value's first byte: what the grammar
     /// refuses first; `TooLong` at the limit of bytes where the value is unfinished there and one more is offered; and
     /// `OutOfMemory` at 0, only where after the bytes of `taken()` a node was to be added whose own bytes are there and
-    /// that the grammar does not refuse, or bytes of a text were to be kept. It then holds no node and no text.
+    /// that the grammar does not refuse, or bytes of a text or a run of bytes were to be kept. It then holds no node and no such bytes.
     pub fn feed(&mut self, piece: &[u8]) -> Result<Progress, DecodeFault>
         ensures job { self.new.job ≡ self.old.job }
         ensures calls { self.new.calls ≡ self.old.calls + 1 }

@@ -1,13 +1,13 @@
 //! The form of what comes next, by whether a node of it has bytes of its own.
 
-ghost use Rattle.std.specs.Prelude.{◌≡◌, MatchResult};
-ghost use Rattle.decode_core.specs.NodeForms.{form_of_bare, form_of_bytes};
+ghost use Rattle.std.specs.Prelude.{◌≡◌};
+ghost use Rattle.decode_core.specs.NodeForms.{form_of_bytes, prefixed_kind};
 
 use registry_core::{IntegerWidth, Primitive, PrimitiveKind, Signedness};
 use scale_core::Target;
-use value_core::Form;
+use value_core::{Form, RunKind};
 
-/// The form of a node without parts that is no text, whose bytes say it whole.
+/// The form of a node without parts that is neither a text nor a run of bytes: few bytes say it whole.
 #[derive(Clone, Copy)]
 pub(crate) enum PlainForm {
     Bool,
@@ -19,11 +19,30 @@ pub(crate) enum PlainForm {
     Count,
 }
 
-/// The form of a node that has bytes of its own.
+/// The form of a text or a run of bytes whose length stands before it.
+#[derive(Clone, Copy)]
+pub(crate) enum PrefixedRun {
+    Text,
+    Bytes,
+}
+
+impl PrefixedRun {
+    /// Which run it is.
+    pub(crate) fn kind(self) -> RunKind
+        ensures { result ≡ prefixed_kind self }
+    {
+        match self {
+            PrefixedRun::Text => RunKind::Text,
+            PrefixedRun::Bytes => RunKind::Bytes,
+        }
+    }
+}
+
+/// The form of a node that has few bytes of its own, or a run by the bytes of its length.
 #[derive(Clone, Copy)]
 pub(crate) enum BytesForm {
     Plain(PlainForm),
-    Text,
+    Run(PrefixedRun),
     Arm,
     Sequence,
 }
@@ -38,11 +57,11 @@ pub(crate) enum BareForm {
 
 /// The form of a primitive type.
 #[inline(always)]
-fn primitive_form(primitive: Primitive) -> BytesForm
+pub(crate) fn primitive_form(primitive: Primitive) -> BytesForm
     ensures { form_of_bytes result ≡ Form.Primitive primitive }
 {
     BytesForm::Plain(match primitive.kind() {
-        PrimitiveKind::Str => return BytesForm::Text,
+        PrimitiveKind::Str => return BytesForm::Run(PrefixedRun::Text),
         PrimitiveKind::Bool => PlainForm::Bool,
         PrimitiveKind::Char => PlainForm::Char,
         PrimitiveKind::Unsigned(width) => PlainForm::Unsigned(width),
@@ -51,19 +70,10 @@ fn primitive_form(primitive: Primitive) -> BytesForm
     })
 }
 
-/// The form by its bytes, or where it has none of its own, by its parts.
+/// The form of a compact integer that fits the target.
 #[inline(always)]
-pub(crate) fn split_form(form: Form) -> Result<BytesForm, BareForm>
-    ensures { MatchResult result (λ f. form_of_bytes f ≡ form) (λ f. form_of_bare f ≡ form) }
+pub(crate) fn compact_form(target: Target) -> BytesForm
+    ensures { form_of_bytes result ≡ Form.Compact target }
 {
-    match form {
-        Form::Empty => Err(BareForm::Empty),
-        Form::Fields => Err(BareForm::Fields),
-        Form::Array(length) => Err(BareForm::Array(length)),
-        Form::Primitive(primitive) => Ok(primitive_form(primitive)),
-        Form::Compact(target) => Ok(BytesForm::Plain(PlainForm::Compact(target))),
-        Form::Count => Ok(BytesForm::Plain(PlainForm::Count)),
-        Form::Arm => Ok(BytesForm::Arm),
-        Form::Sequence => Ok(BytesForm::Sequence),
-    }
+    BytesForm::Plain(PlainForm::Compact(target))
 }

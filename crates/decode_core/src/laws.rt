@@ -21,7 +21,7 @@ pub fn missing_is_begun()
     ensures { MissingIsBegun }
 {}
 
-/// A begun tree has few levels, nodes and texts for its bytes.
+/// A begun tree has few levels, nodes, texts and runs of bytes for its bytes.
 pub fn begun_is_bounded()
     ensures { BegunIsBounded }
 {}

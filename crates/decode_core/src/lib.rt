@@ -4,6 +4,7 @@
 mod carry;
 mod decoder;
 mod fault;
+mod feeding;
 mod forms;
 pub mod laws;
 mod need;

@@ -47,7 +47,7 @@ fn plain_need(form: PlainForm, first: u8) -> usize
 }
 
 /// How many bytes a node of this form has of its own, by the first of them, or how many decide that it is refused; of a
-/// text its length alone.
+/// text or a run of bytes its length alone.
 #[inline(always)]
 pub(crate) fn need(form: BytesForm, first: u8) -> usize
     ensures exact { result ≡ need (form_of_bytes form) first }
@@ -57,6 +57,6 @@ pub(crate) fn need(form: BytesForm, first: u8) -> usize
     match form {
         BytesForm::Plain(plain) => plain_need(plain, first),
         BytesForm::Arm => 1,
-        BytesForm::Text | BytesForm::Sequence => compact_need(Target::U32, first),
+        BytesForm::Run(_) | BytesForm::Sequence => compact_need(Target::U32, first),
     }
 }

@@ -1,18 +1,19 @@
 //! Adding a node by the bytes that are its own.
 
-ghost use Rattle.std.specs.Prelude.{◌≡◌, IfOk, Some, None};
+ghost use Rattle.std.specs.Prelude.{◌≡◌, IfOk, Some, None, length};
+ghost use Rattle.grammar_core.specs.Runs.{run_form};
 ghost use Rattle.scale_core.specs.Read.{compact_at, number_at, signed_at};
 ghost use Rattle.registry_core.specs.Kinds.{width_bytes};
 ghost use Rattle.value_core.specs.Leaves.{FitsLeaf};
 ghost use Rattle.value_core.specs.Refusals.{up_to, most_unsigned, within, most_signed};
 ghost use Rattle.value_core.specs.Walked.{next_of};
 ghost use Rattle.decode_core.specs.Needs.{AreOwn};
-ghost use Rattle.decode_core.specs.NodeAdds.{ReadsFront, AddsBare, AddsNode, OpensText};
-ghost use Rattle.decode_core.specs.NodeForms.{ReadsPlain, form_of_bare, form_of_plain};
+ghost use Rattle.decode_core.specs.NodeAdds.{ReadsFront, AddsBare, AddsBytes, AddsNode, OpensRun};
+ghost use Rattle.decode_core.specs.NodeForms.{ReadsPlain, form_of_bare, form_of_plain, prefixed_kind};
 
 use crate::fault::DecodeReason;
-use crate::forms::{BareForm, PlainForm};
-use registry_core::{IntegerWidth, Primitive};
+use crate::forms::{BareForm, PlainForm, PrefixedRun};
+use registry_core::IntegerWidth;
 use scale_core::{
     Fault, Target, read_bool, read_char, read_compact, read_i8, read_i16, read_i32, read_i64,
     read_i128, read_u8, read_u16, read_u32, read_u64, read_u128,
@@ -92,18 +93,19 @@ fn read_length(own: &[u8]) -> Result<u32, Fault>
     Ok(length as u32)
 }
 
-/// Opens the text that is next, by the bytes of its length: how long it is.
-pub(crate) fn open_text<A: Allocator>(
+/// Opens the text or the run of bytes that is next, by the bytes of its length: how long it is.
+pub(crate) fn start_run<A: Allocator>(
     builder: &mut Builder<'_, A>,
+    run: PrefixedRun,
     own: &[u8],
 ) -> Result<u32, NodeFault>
-    requires next { next_of builder.old.walk ≡ Next.Wants (Form.Primitive Primitive.Str) }
-    requires closed { builder.old.text ≡ None }
-    requires whole { AreOwn (Form.Primitive Primitive.Str) own.now }
-    ensures { OpensText builder.old builder.new own.now result }
+    requires next { next_of builder.old.walk ≡ Next.Wants (run_form (prefixed_kind run)) }
+    requires closed { builder.old.run ≡ None }
+    requires whole { AreOwn (run_form (prefixed_kind run)) own.now }
+    ensures { OpensRun (prefixed_kind run) builder.old builder.new own.now result }
 {
     let length = read_length(own)?;
-    builder.open_text(length);
+    builder.open_run(run.kind(), length);
     Ok(length)
 }
 
@@ -133,7 +135,7 @@ pub(crate) fn add_plain<A: Allocator>(
     own: &[u8],
 ) -> Result<(), NodeFault>
     requires next { next_of builder.old.walk ≡ Next.Wants (form_of_plain form) }
-    requires closed { builder.old.text ≡ None }
+    requires closed { builder.old.run ≡ None }
     requires whole { AreOwn (form_of_plain form) own.now }
     ensures { AddsNode builder.old builder.new own.now result }
 {
@@ -148,7 +150,7 @@ pub(crate) fn add_arm<A: Allocator>(
     own: &[u8],
 ) -> Result<(), NodeFault>
     requires next { next_of builder.old.walk ≡ Next.Wants Form.Arm }
-    requires closed { builder.old.text ≡ None }
+    requires closed { builder.old.run ≡ None }
     requires whole { AreOwn Form.Arm own.now }
     ensures { AddsNode builder.old builder.new own.now result }
 {
@@ -164,7 +166,7 @@ pub(crate) fn add_sequence<A: Allocator>(
     own: &[u8],
 ) -> Result<(), NodeFault>
     requires next { next_of builder.old.walk ≡ Next.Wants Form.Sequence }
-    requires closed { builder.old.text ≡ None }
+    requires closed { builder.old.run ≡ None }
     requires whole { AreOwn Form.Sequence own.now }
     ensures { AddsNode builder.old builder.new own.now result }
 {
@@ -173,13 +175,27 @@ pub(crate) fn add_sequence<A: Allocator>(
     Ok(())
 }
 
+/// Adds the array of u8 that is next, by all its bytes.
+pub(crate) fn add_byte_array<A: Allocator>(
+    builder: &mut Builder<'_, A>,
+    len: u32,
+    own: &[u8],
+) -> Result<(), AllocError>
+    requires next { next_of builder.old.walk ≡ Next.Wants (Form.ByteArray len) }
+    requires closed { builder.old.run ≡ None }
+    requires whole { length own.now ≡ len }
+    ensures { AddsBytes builder.old builder.new own.now result }
+{
+    builder.add_leaf(Leaf::Bytes(own))
+}
+
 /// Adds the next node, which has no bytes of its own.
 pub(crate) fn add_bare<A: Allocator>(
     builder: &mut Builder<'_, A>,
     form: BareForm,
 ) -> Result<(), AllocError>
     requires next { next_of builder.old.walk ≡ Next.Wants (form_of_bare form) }
-    requires closed { builder.old.text ≡ None }
+    requires closed { builder.old.run ≡ None }
     ensures { AddsBare builder.old builder.new result }
 {
     match form {

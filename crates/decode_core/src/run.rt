@@ -1,41 +1,43 @@
 //! A decoder on its way: it takes its input turn by turn.
 
-ghost use Rattle.std.specs.Prelude.{ℕ, List, true, ◌≡◌, ◌<◌, ◌≤◌, ◌+◌, ◌++◌, [], length, take, drop, None, Some, suc, IfErr, IfOk, Ok, OnOk, OnErr};
-ghost use Rattle.decode_core.specs.Running.{IsCarry, IsFresh, IsKeptText, IsTextNext};
+ghost use Rattle.std.specs.Prelude.{ℕ, List, true, ◌≡◌, ◌<◌, ◌≤◌, ◌+◌, ◌++◌, [], length, take, drop, None, Some, suc, IfSome, IfErr, IfOk, Ok, OnOk, OnErr};
+ghost use Rattle.decode_core.specs.Running.{IsCarry, IsFresh, IsKeptRun, IsRunNext};
 ghost use Rattle.value_core.specs.Walked.{next_of};
 ghost use Rattle.value_core.specs.Built.{built_text_bytes, finished};
 ghost use Rattle.value_core.specs.Refusals.{is_whole};
 ghost use Rattle.decode_core.specs.Needs.{AreOwn, IsFirst, IsNeeded};
 ghost use Rattle.decode_core.specs.NodeForms.{form_of_bare, form_of_bytes};
 ghost use Rattle.decode_core.specs.NodeAdds.{TakesNode};
-ghost use Rattle.decode_core.specs.Turned.{BareTells, EndTells, FeedCounts, FeedTells, IsSound, KeepsTurns, RunsOut, StepTells, node_turned};
+ghost use Rattle.decode_core.specs.Turned.{BareTells, Awaits, EndTells, IsSound, KeepsTurns, PieceTells, StepTells, node_turned};
 
 use crate::carry::Carry;
 use crate::fault::DecodeReason;
-use crate::forms::{BareForm, BytesForm, split_form};
+use crate::forms::{BareForm, BytesForm, PlainForm, PrefixedRun, compact_form, primitive_form};
 use crate::need::need;
-use crate::node::{NodeFault, add_arm, add_bare, add_plain, add_sequence, open_text};
+use crate::node::{
+    NodeFault, add_arm, add_bare, add_byte_array, add_plain, add_sequence, start_run,
+};
 use crate::turned::{Stopped, Turned};
 use count_core::Count;
 use scale_core::compact_len;
 use std::alloc::Allocator;
 use std::marker::Model;
-use value_core::{BuildFault, Builder, Next, Value};
+use value_core::{Builder, Form, Next, RunKind, Value};
 
-/// A text that is open: how many bytes it is to have, and how many of them are missing.
+/// A text or a run of bytes that is open: how many bytes it is to have, and how many of them are missing.
 #[derive(Clone, Copy)]
-pub(crate) struct OpenText {
+pub(crate) struct OpenRun {
     pub(crate) len: u32,
     pub(crate) missing: u32,
 }
 
-/// A value on its way: what is built of it, and the bytes that are not enough for the next node. The bytes of a text
-/// that is open are in the builder.
+/// A value on its way: what is built of it, and the bytes that are not enough for the next node. The bytes of a run that
+/// is open are in the builder.
 #[derive(Drop)]
 pub(crate) struct Run<'r, A: Allocator> {
     builder: Builder<'r, A>,
     carry: Carry,
-    text: Option<OpenText>,
+    open_run: Option<OpenRun>,
 }
 
 impl<'r, A: Allocator> Model for Run<'r, A> {
@@ -45,30 +47,30 @@ impl<'r, A: Allocator> Model for Run<'r, A> {
 
     ghost view = { λ s. record { built = s.builder; carry = s.carry } };
 
-    ghost invariant = { λ s. IsRunning s.builder s.carry s.text };
+    ghost invariant = { λ s. IsRunning s.builder s.carry s.open_run };
 }
 
-/// Adds the next node by its own bytes, or opens the text that is next by those of its length.
+/// Adds the next node by its own bytes, or opens the run that is next by those of its length.
 #[inline(always)]
 fn take_node<A: Allocator>(
     builder: &mut Builder<'_, A>,
-    text: &mut Option<OpenText>,
+    open_run: &mut Option<OpenRun>,
     form: BytesForm,
     own: &[u8],
 ) -> Result<(), NodeFault>
     requires next { next_of builder.old.walk ≡ Next.Wants (form_of_bytes form) }
-    requires closed { builder.old.text ≡ None }
-    requires no_text { text.old ≡ None }
+    requires closed { builder.old.run ≡ None }
+    requires no_run { open_run.old ≡ None }
     requires whole { AreOwn (form_of_bytes form) own.now }
-    ensures { TakesNode (form_of_bytes form) builder.old builder.new text.new own.now result }
+    ensures { TakesNode (form_of_bytes form) builder.old builder.new open_run.new own.now result }
 {
     match form {
         BytesForm::Plain(plain) => add_plain(builder, plain, own),
         BytesForm::Arm => add_arm(builder, own),
         BytesForm::Sequence => add_sequence(builder, own),
-        BytesForm::Text => {
-            let len = open_text(builder, own)?;
-            *text = Some(OpenText { len, missing: len });
+        BytesForm::Run(run) => {
+            let len = start_run(builder, run, own)?;
+            *open_run = Some(OpenRun { len, missing: len });
             Ok(())
         }
     }
@@ -100,7 +102,7 @@ impl<'r, A: Allocator> Run<'r, A> {
         Run {
             builder,
             carry: Carry::new(),
-            text: None,
+            open_run: None,
         }
     }
 
@@ -126,7 +128,7 @@ impl<'r, A: Allocator> Run<'r, A> {
         self.builder.node_count()
     }
 
-    /// How many bytes of text it has, those of an open text too.
+    /// How many bytes of texts and runs of bytes it has, those of an open one too.
     pub(crate) fn text_bytes(&self) -> u64
         ensures { result ≡ built_text_bytes self.now.built }
     {
@@ -134,9 +136,9 @@ impl<'r, A: Allocator> Run<'r, A> {
     }
 
     /// A turn on a node without bytes of its own.
-    fn bare_turn(&mut self, form: BareForm) -> Turned
+    pub(crate) fn bare_turn(&mut self, form: BareForm) -> Turned
         requires next { next_of self.old.built.walk ≡ Next.Wants (form_of_bare form) }
-        requires closed { self.old.built.text ≡ None }
+        requires closed { self.old.built.run ≡ None }
         ensures tells { BareTells self.old self.new result }
         ensures kept { KeepsTurns self.old self.new result }
     {
@@ -158,15 +160,16 @@ impl<'r, A: Allocator> Run<'r, A> {
     }
 
     /// A turn on a node whose own bytes the piece has whole.
+    #[inline(always)]
     fn whole_turn(&mut self, form: BytesForm, own: &[u8]) -> Turned
         requires next { next_of self.old.built.walk ≡ Next.Wants (form_of_bytes form) }
-        requires closed { self.old.built.text ≡ None }
+        requires closed { self.old.built.run ≡ None }
         requires empty { self.old.carry ≡ [] }
         requires whole { AreOwn (form_of_bytes form) own.now }
         ensures tells { (rest : List ℕ) → StepTells self.old self.new (own.now ++ rest) result }
         ensures kept { KeepsTurns self.old self.new result }
     {
-        let taken = take_node(&mut self.builder, &mut self.text, form, own);
+        let taken = take_node(&mut self.builder, &mut self.open_run, form, own);
         node_turn(taken, 0, own.len(), own.len())
     }
 
@@ -175,7 +178,7 @@ impl<'r, A: Allocator> Run<'r, A> {
     #[inline(never)]
     fn cut_turn(&mut self, form: BytesForm, len: usize, piece: &[u8]) -> Turned
         requires next { next_of self.old.built.walk ≡ Next.Wants (form_of_bytes form) }
-        requires closed { self.old.built.text ≡ None }
+        requires closed { self.old.built.run ≡ None }
         requires piece { 1 ≤ length piece.now }
         requires len { IsNeeded (form_of_bytes form) len (self.old.carry ++ piece.now) }
         requires short { length self.old.carry < len }
@@ -190,7 +193,7 @@ impl<'r, A: Allocator> Run<'r, A> {
         }
         let taken = take_node(
             &mut self.builder,
-            &mut self.text,
+            &mut self.open_run,
             form,
             self.carry.as_slice(),
         );
@@ -198,10 +201,11 @@ impl<'r, A: Allocator> Run<'r, A> {
         node_turn(taken, held, count, len)
     }
 
-    /// A turn on a node with bytes of its own, other than a text that is open.
-    fn own_turn(&mut self, form: BytesForm, piece: &[u8]) -> Turned
+    /// A turn on a node with bytes of its own, other than a run that is open.
+    #[inline(always)]
+    pub(crate) fn own_turn(&mut self, form: BytesForm, piece: &[u8]) -> Turned
         requires next { next_of self.old.built.walk ≡ Next.Wants (form_of_bytes form) }
-        requires closed { self.old.built.text ≡ None }
+        requires closed { self.old.built.run ≡ None }
         requires carried { IsCarry self.old.built self.old.carry }
         ensures tells { StepTells self.old self.new piece.now result }
         ensures kept { KeepsTurns self.old self.new result }
@@ -216,27 +220,62 @@ impl<'r, A: Allocator> Run<'r, A> {
         self.cut_turn(form, len, piece)
     }
 
-    /// A turn on the bytes of the text that is open.
-    #[inline(never)]
-    fn text_turn(&mut self, text: OpenText, piece: &[u8]) -> Turned
-        requires next { IsTextNext self.old.built self.old.carry self.old.built.text }
-        requires open { IsKeptText self.old.built.text (Some text) }
+    /// A turn on an array of u8 of which no byte came: it is added where the piece has it whole, and else it is opened
+    /// with the bytes that are there.
+    pub(crate) fn byte_array_turn(&mut self, len: u32, piece: &[u8]) -> Turned
+        requires next { next_of self.old.built.walk ≡ Next.Wants (Form.ByteArray len) }
+        requires closed { self.old.built.run ≡ None }
         ensures tells { StepTells self.old self.new piece.now result }
         ensures kept { KeepsTurns self.old self.new result }
     {
-        if text.missing == 0 {
-            return self.text_end(text);
+        let count = len as usize;
+        if count <= piece.len() {
+            let Ok(()) = add_byte_array(&mut self.builder, len, &piece[..count]) else {
+                return Turned::OutOfMemory;
+            };
+            return Turned::On(count);
         }
         if piece.is_empty() {
             return Turned::Stopped(Stopped::Wants);
         }
-        let count = piece.len().min(text.missing as usize);
-        match self.builder.extend_text(&piece[..count]) {
+        self.builder.open_run(RunKind::ByteArray(len), len);
+        let run = OpenRun { len, missing: len };
+        self.open_run = Some(run);
+        self.run_piece(run, piece)
+    }
+
+    /// A turn on the bytes of the run that is open.
+    #[inline(never)]
+    fn run_turn(&mut self, run: OpenRun, piece: &[u8]) -> Turned
+        requires next { IsRunNext self.old.built self.old.carry self.old.built.run }
+        requires open { IsKeptRun self.old.built.run (Some run) }
+        ensures tells { StepTells self.old self.new piece.now result }
+        ensures kept { KeepsTurns self.old self.new result }
+    {
+        if run.missing == 0 {
+            return self.run_end(run);
+        }
+        if piece.is_empty() {
+            return Turned::Stopped(Stopped::Wants);
+        }
+        self.run_piece(run, piece)
+    }
+
+    /// Takes the bytes that the open run lacks off the piece, or those that are there.
+    fn run_piece(&mut self, run: OpenRun, piece: &[u8]) -> Turned
+        requires next { IsRunNext self.old.built self.old.carry self.old.built.run }
+        requires open { IsKeptRun self.old.built.run (Some run) }
+        requires lacks { 1 ≤ run.missing }
+        requires there { 1 ≤ length piece.now }
+        ensures tells { PieceTells self.old self.new piece.now result }
+        ensures kept { KeepsTurns self.old self.new result }
+    {
+        let count = piece.len().min(run.missing as usize);
+        match self.builder.extend_run(&piece[..count]) {
             Ok(()) => {
-                let missing = text.missing - count as u32;
-                self.text = Some(OpenText {
-                    len: text.len,
-                    missing,
+                self.open_run = Some(OpenRun {
+                    len: run.len,
+                    missing: run.missing - count as u32,
                 });
                 Turned::On(count)
             }
@@ -244,36 +283,57 @@ impl<'r, A: Allocator> Run<'r, A> {
         }
     }
 
-    /// A turn that ends the text that is open, whose bytes are all there.
-    fn text_end(&mut self, text: OpenText) -> Turned
-        requires next { IsTextNext self.old.built self.old.carry self.old.built.text }
-        requires open { IsKeptText self.old.built.text (Some text) }
-        requires whole { text.missing ≡ 0 }
+    /// A turn that ends the run that is open, whose bytes are all there.
+    fn run_end(&mut self, run: OpenRun) -> Turned
+        requires next { IsRunNext self.old.built self.old.carry self.old.built.run }
+        requires open { IsKeptRun self.old.built.run (Some run) }
+        requires whole { run.missing ≡ 0 }
         ensures tells { EndTells self.old self.new result }
         ensures kept { KeepsTurns self.old self.new result }
     {
-        match self.builder.text_end() {
+        if let Some(valid) = self.builder.bad_text() {
+            let before = compact_len(u128::from(run.len));
+            let len = before + run.len as usize;
+            return Turned::Stopped(Stopped::Refused {
+                held: len,
+                reason: DecodeReason::BadUtf8,
+                at: before as u64 + valid,
+                len,
+            });
+        }
+        match self.builder.close_run() {
             Ok(()) => {
-                self.text = None;
+                self.open_run = None;
                 Turned::On(0)
             }
-            Err(BuildFault::BadText { valid }) => {
-                let before = compact_len(u128::from(text.len));
-                let len = before + text.len as usize;
-                Turned::Stopped(Stopped::Refused {
-                    held: len,
-                    reason: DecodeReason::BadUtf8,
-                    at: before as u64 + valid,
-                    len,
-                })
-            }
-            Err(BuildFault::OutOfMemory) => Turned::OutOfMemory,
-            Err(_) => unreachable!(),
+            Err(_) => Turned::OutOfMemory,
+        }
+    }
+
+    /// A turn on a node of this form, which is next, where no run is open.
+    fn form_turn(&mut self, form: Form, piece: &[u8]) -> Turned
+        requires next { next_of self.old.built.walk ≡ Next.Wants form }
+        requires closed { self.old.built.run ≡ None }
+        requires carried { IsCarry self.old.built self.old.carry }
+        ensures tells { StepTells self.old self.new piece.now result }
+        ensures kept { KeepsTurns self.old self.new result }
+    {
+        match form {
+            Form::Primitive(primitive) => self.own_turn(primitive_form(primitive), piece),
+            Form::Compact(target) => self.own_turn(compact_form(target), piece),
+            Form::Count => self.own_turn(BytesForm::Plain(PlainForm::Count), piece),
+            Form::Arm => self.own_turn(BytesForm::Arm, piece),
+            Form::Sequence => self.own_turn(BytesForm::Sequence, piece),
+            Form::Bytes => self.own_turn(BytesForm::Run(PrefixedRun::Bytes), piece),
+            Form::ByteArray(len) => self.byte_array_turn(len, piece),
+            Form::Empty => self.bare_turn(BareForm::Empty),
+            Form::Fields => self.bare_turn(BareForm::Fields),
+            Form::Array(len) => self.bare_turn(BareForm::Array(len)),
         }
     }
 
     /// One turn: takes bytes of the piece, adds a node, or stops.
-    fn turn(&mut self, piece: &[u8]) -> Turned
+    pub(crate) fn turn(&mut self, piece: &[u8]) -> Turned
         ensures tells { StepTells self.old self.new piece.now result }
         ensures kept { KeepsTurns self.old self.new result }
         ensures sound { IsSound self.old }
@@ -287,36 +347,21 @@ impl<'r, A: Allocator> Run<'r, A> {
                 at: 0,
                 len: 0,
             }),
-            Next::Wants(form) => match self.text {
-                Some(text) => self.text_turn(text, piece),
-                None => match split_form(form) {
-                    Ok(form) => self.own_turn(form, piece),
-                    Err(form) => self.bare_turn(form),
-                },
+            Next::Wants(form) => match self.open_run {
+                Some(run) => self.run_turn(run, piece),
+                None => self.form_turn(form, piece),
             },
         }
     }
 
-    /// Takes turns until one stops, and counts each: how many bytes of the piece they took, and why they stopped; where
-    /// memory was refused, the bytes alone. The turns that close nodes are the builder's own, and counted there.
-    pub(crate) fn feed(
-        &mut self,
-        piece: &[u8],
-        turns: &mut Count,
-    ) -> Result<(usize, Stopped), usize>
-        ensures tells { IfOk result (λ x. FeedTells self.old self.new piece.now x.0 x.1) }
-        ensures short { IfErr result (λ n. RunsOut self.old piece.now n) }
-        ensures whole { is_whole self.old.built ≡ true → (result ≡ Ok (0, Stopped.Finished)) × (self.new ≡ self.old) }
-        ensures counts { FeedCounts self.old self.new piece.now turns.old.so_far turns.new.so_far result }
+    /// The form of the node that is next, where one can be and no run is open.
+    #[inline(always)]
+    pub(crate) fn next_form(&self) -> Option<Form>
+        ensures { IfSome result (λ form. Awaits self.now form) }
     {
-        let mut at = 0;
-        'turns: loop {
-            turns.tick();
-            match self.turn(&piece[at..]) {
-                Turned::On(count) => at += count,
-                Turned::Stopped(stopped) => return Ok((at, stopped)),
-                Turned::OutOfMemory => return Err(at),
-            }
+        match self.builder.walk().next() {
+            Next::Wants(form) if self.open_run.is_none() => Some(form),
+            _ => None,
         }
     }
 }

@@ -100,7 +100,7 @@ fn feed_all<A: Allocator, R: Read>(
     }
 }
 
-/// The value of the root's type, within these limits, whose bytes are all bytes of the reader. Nodes, texts and open
+/// The value of the root's type, within these limits, whose bytes are all bytes of the reader. Nodes, texts, runs of bytes and open
 /// parts come from the allocator and its clones; no input is kept, and one read asks for at most 4096 bytes.
 ///
 /// Refuses with `Open`, before it reads, what `Decoder::new` refuses; and with `Decode` what a decoder refuses in these

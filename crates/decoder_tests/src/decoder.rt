@@ -4,8 +4,9 @@ use decode_core::{DecodeFault, DecodeReason, Decoder, OpenFault, Progress};
 use linked_list_allocator::LocalHeap;
 use registry_core::TypeId;
 use scale_tests::building::{
-    BITS_IN_AN_ARM, BYTES, CHAIN, COMPACT_OF_A_BOOL, COMPACT_U128, ENDLESS, LONG_ARRAY, OPTION,
-    SHADOWED_ARM, TEXT, TWO_UNITS_AND_A_BYTE, U8, UNITS, checked, written,
+    BITS_IN_AN_ARM, BYTES, CHAIN, COMPACT_OF_A_BOOL, COMPACT_U128, ENDLESS, LONG_ARRAY,
+    LONG_ARRAY_OF_WORDS, NO_BYTES, OPTION, SHADOWED_ARM, TEXT, TWO_UNITS_AND_A_BYTE, U8, UNITS,
+    WORDS, WRAPPED_BYTES, checked, written,
 };
 use std::alloc::{Allocator, Global};
 use std::process::Abort;
@@ -39,9 +40,17 @@ const AMPLE: Limits = Limits {
     bytes: 16_777_216,
 };
 
+const NO_DEPTH: Limits = Limits {
+    depth: 0,
+    bytes: 16_777_216,
+};
+
+/// An array of three u8.
+const THREE_BYTES: &[u8] = b"\x08\x00\x00\x00\x05\x03\x00\x04\x00\x00\x03\x03\x00\x00\x00\x00\x00";
+
 const MORE: Result<Progress, DecodeFault> = Ok(Progress::More);
 
-const ROWS: [Row; 34] = [
+const ROWS: [Row; 47] = [
     Row {
         name: "count of units",
         registry: UNITS,
@@ -58,7 +67,7 @@ const ROWS: [Row; 34] = [
         limits: AMPLE,
         pieces: &[b"\xfe\xff\xff\xff\x01\x02"],
         answer: MORE,
-        held: (3, 0, 6),
+        held: (0, 2, 6),
     },
     Row {
         name: "length of an array",
@@ -67,7 +76,133 @@ const ROWS: [Row; 34] = [
         limits: AMPLE,
         pieces: &[b"\x01\x02\x03"],
         answer: MORE,
-        held: (4, 0, 3),
+        held: (0, 3, 3),
+    },
+    Row {
+        name: "claimed length of words",
+        registry: WORDS,
+        ty: 1,
+        limits: AMPLE,
+        pieces: &[b"\xfe\xff\xff\xff\x01\x02"],
+        answer: MORE,
+        held: (2, 0, 6),
+    },
+    Row {
+        name: "length of an array of words",
+        registry: LONG_ARRAY_OF_WORDS,
+        ty: 1,
+        limits: AMPLE,
+        pieces: &[b"\x01\x02\x03"],
+        answer: MORE,
+        held: (2, 0, 3),
+    },
+    Row {
+        name: "run of bytes",
+        registry: BYTES,
+        ty: 1,
+        limits: AMPLE,
+        pieces: &[b"\x0c\x01\x02\xff"],
+        answer: Ok(Progress::Done { used: 4 }),
+        held: (1, 3, 4),
+    },
+    Row {
+        name: "run of no bytes",
+        registry: BYTES,
+        ty: 1,
+        limits: AMPLE,
+        pieces: &[b"\x00"],
+        answer: Ok(Progress::Done { used: 1 }),
+        held: (1, 0, 1),
+    },
+    Row {
+        name: "run of bytes without depth",
+        registry: BYTES,
+        ty: 1,
+        limits: NO_DEPTH,
+        pieces: &[b"\x04\x07"],
+        answer: Ok(Progress::Done { used: 2 }),
+        held: (1, 1, 2),
+    },
+    Row {
+        name: "words without depth",
+        registry: WORDS,
+        ty: 1,
+        limits: NO_DEPTH,
+        pieces: &[b"\x04\x07\x00"],
+        answer: Err(DecodeFault {
+            reason: DecodeReason::TooDeep,
+            at: 1,
+        }),
+        held: (0, 0, 1),
+    },
+    Row {
+        name: "run of bytes in pieces",
+        registry: BYTES,
+        ty: 1,
+        limits: AMPLE,
+        pieces: &[b"\x0c", b"\x01", b"", b"\x02\xff\x00"],
+        answer: Ok(Progress::Done { used: 2 }),
+        held: (1, 3, 4),
+    },
+    Row {
+        name: "run of bytes with a long length in pieces",
+        registry: BYTES,
+        ty: 1,
+        limits: AMPLE,
+        pieces: &[b"\x01", b"\x01\x07"],
+        answer: MORE,
+        held: (0, 1, 3),
+    },
+    Row {
+        name: "array of bytes",
+        registry: THREE_BYTES,
+        ty: 1,
+        limits: NO_DEPTH,
+        pieces: &[b"\x01\x02\xff\x00"],
+        answer: Ok(Progress::Done { used: 3 }),
+        held: (1, 3, 3),
+    },
+    Row {
+        name: "array of bytes in pieces",
+        registry: THREE_BYTES,
+        ty: 1,
+        limits: AMPLE,
+        pieces: &[b"", b"\x01", b"", b"\x02\xff\x00"],
+        answer: Ok(Progress::Done { used: 2 }),
+        held: (1, 3, 3),
+    },
+    Row {
+        name: "wrapped bytes",
+        registry: WRAPPED_BYTES,
+        ty: 2,
+        limits: AMPLE,
+        pieces: &[b"\x04\x07"],
+        answer: Ok(Progress::Done { used: 2 }),
+        held: (3, 0, 2),
+    },
+    Row {
+        name: "array of no bytes",
+        registry: NO_BYTES,
+        ty: 1,
+        limits: AMPLE,
+        pieces: &[b""],
+        answer: Ok(Progress::Done { used: 0 }),
+        held: (1, 0, 0),
+    },
+    Row {
+        name: "run of bytes past the limit",
+        registry: BYTES,
+        ty: 1,
+        limits: Limits {
+            depth: 64,
+            bytes: 2,
+        },
+        pieces: &[b"\x0c\x01\x02"],
+        answer: Err(DecodeFault {
+            reason: DecodeReason::TooLong,
+            at: 2,
+        }),
+        held: (0, 0, 2),
     },
     Row {
         name: "units alone",
@@ -91,10 +226,7 @@ const ROWS: [Row; 34] = [
         name: "no depth",
         registry: TWO_UNITS_AND_A_BYTE,
         ty: 2,
-        limits: Limits {
-            depth: 0,
-            bytes: 16_777_216,
-        },
+        limits: NO_DEPTH,
         pieces: &[b""],
         answer: Err(DecodeFault {
             reason: DecodeReason::TooDeep,
@@ -572,7 +704,7 @@ fn a_heap_of_fixed_size_bounds_a_decoder(rt: HostRuntime) -> Result<(), Fail> {
     };
     let mut decoder = open(&heap, &checked, &claim)?;
     assert_eq!(rt; decoder.feed(b"\xfe\xff\xff\xff\x01\x02"), MORE);
-    assert_eq!(rt; held(&decoder), (3, 0, 6));
+    assert_eq!(rt; held(&decoder), (0, 2, 6));
     drop(decoder);
     let mut full = open(&heap, &checked, &claim)?;
     let refused = Err(DecodeFault {
@@ -580,7 +712,7 @@ fn a_heap_of_fixed_size_bounds_a_decoder(rt: HostRuntime) -> Result<(), Fail> {
         at: 0,
     });
     let mut many = Vec::from_slice(rt.alloc(), b"\x02\x00\x04\x00")?;
-    'elements: for _ in 0..65_536 {
+    'bytes: for _ in 0..65_536 {
         many.push(7)?;
     }
     assert_eq!(rt; full.feed(&many), refused);

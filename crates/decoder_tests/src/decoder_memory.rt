@@ -5,7 +5,7 @@ use json_core::{print, to_json};
 use linked_list_allocator::LocalHeap;
 use registry_core::TypeId;
 use scale_core::Sink;
-use scale_tests::building::{BYTES, LONG_ARRAY, checked, written};
+use scale_tests::building::{BYTES, LONG_ARRAY, LONG_ARRAY_OF_WORDS, WORDS, checked, written};
 use scale_tests::rationed::Rationed;
 use std::alloc::{AllocError, Allocator, Global};
 use std::process::Abort;
@@ -17,7 +17,7 @@ use widths_core::Checked;
 pub(crate) const NESTED: &[u8] =
     b"\x18\x00\x00\x00\x05\x03\x00\x04\x00\x00\x05\x02\x00\x08\x00\x00\x02\x00\x00\x0c\x00\x00\x02\x08\x00\x10\x00\x00\x01\x08\x0cEnd\x00\x00\x00\x10Next\x04\x00\x10\x00\x00\x01\x00\x00\x14\x00\x00\x04\x10\x04\x0c\x10\x04\x00";
 
-/// The texts ab and éé, three lists of one, two and no bytes, and a chain of four arms.
+/// The texts ab and éé, three runs of one, two and no bytes, and a chain of four arms.
 pub(crate) const NESTED_BYTES: &[u8] =
     b"\x08ab\x0c\x04\x01\x08\x02\x03\x00\x01\x01\x01\x00\x10\xc3\xa9\xc3\xa9";
 
@@ -83,20 +83,20 @@ fn a_value_of_two_to_the_fortieth_units_is_one_node(rt: HostRuntime) -> Result<(
     Ok(())
 }
 
-/// Over a heap of 65536 bytes the bytes are too few for the value, and these nodes are held.
+/// Over a heap of 65536 bytes the bytes are too few for the value, and so many nodes and bytes of runs are held.
 fn check_claim(
     rt: &impl Abort,
     alloc: Global,
     registry: &[u8],
     bytes: &[u8],
-    nodes: u64,
+    (nodes, texts): (u64, u64),
 ) -> Result<(), Fail> {
     let checked = checked(alloc, registry)?;
     let heap = LocalHeap::new(alloc, 65_536)?;
     let mut decoder = open(&heap, &checked, 1)?;
     assert_eq!(rt; decoder.feed(bytes), Ok(Progress::More));
     let taken = bytes.len() as u64;
-    assert_eq!(rt; held(&decoder), (nodes, 0, taken));
+    assert_eq!(rt; held(&decoder), (nodes, texts, taken));
     let cut = DecodeFault {
         reason: DecodeReason::Truncated,
         at: taken,
@@ -106,11 +106,15 @@ fn check_claim(
     Ok(())
 }
 
-// A list of 2^30 - 1 elements and an array of 2^32 - 1 are claimed, and a few elements are there.
+// A sequence of 2^30 - 1 elements and an array of 2^32 - 1 are claimed, and a few bytes are there.
 #[test]
 fn claimed_lengths_fit_a_small_heap(rt: HostRuntime) -> Result<(), Fail> {
-    check_claim(&rt, rt.alloc(), BYTES, b"\xfe\xff\xff\xff\x01\x02", 3)?;
-    check_claim(&rt, rt.alloc(), LONG_ARRAY, b"\x01\x02\x03", 4)
+    let sequence = b"\xfe\xff\xff\xff\x01\x02";
+    let array = b"\x01\x02\x03";
+    check_claim(&rt, rt.alloc(), BYTES, sequence, (0, 2))?;
+    check_claim(&rt, rt.alloc(), LONG_ARRAY, array, (0, 3))?;
+    check_claim(&rt, rt.alloc(), WORDS, sequence, (2, 0))?;
+    check_claim(&rt, rt.alloc(), LONG_ARRAY_OF_WORDS, array, (2, 0))
 }
 
 /// Decodes the nested value byte by byte: where memory is refused, nothing is held and each later call is refused too.
@@ -124,7 +128,13 @@ fn is_refused<A: Allocator + Clone>(
     'bytes: for (place, byte) in NESTED_BYTES.iter().enumerate() {
         let told = decoder.feed(&[*byte]);
         if told == Err(REFUSED) {
-            let taken = place as u64;
+            // The last byte of a run is taken before memory is wanted for its node.
+            let taken = decoder.taken();
+            let before = place as u64;
+            assert!(rt;
+                taken == before || taken == before.saturating_add(1),
+                "byte {place}"
+            );
             assert_eq!(rt; held(&decoder), (0, 0, taken), "byte {place}");
             assert_eq!(rt; decoder.feed(b""), Err(REFUSED), "byte {place}");
             assert_eq!(rt; decoder.feed(NESTED_BYTES), Err(REFUSED), "byte {place}");
@@ -140,7 +150,7 @@ fn is_refused<A: Allocator + Clone>(
         };
         assert_eq!(rt; told, Ok(wanted), "byte {place}");
     }
-    assert_eq!(rt; held(&decoder), (14, 6, 19));
+    assert_eq!(rt; held(&decoder), (11, 9, 19));
     let Ok(value) = decoder.finish() else {
         return Err("no value")?;
     };
@@ -149,7 +159,7 @@ fn is_refused<A: Allocator + Clone>(
     Ok(false)
 }
 
-// Nodes, the bytes of texts and the nodes that are open are kept apart, and each grows at least once.
+// Nodes, the bytes of texts and runs and the nodes that are open are kept apart, and each grows at least once.
 #[test]
 fn each_refused_growth_ends_the_decoder(rt: HostRuntime) -> Result<(), Fail> {
     let checked = checked(rt.alloc(), NESTED)?;

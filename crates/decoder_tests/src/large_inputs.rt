@@ -4,17 +4,19 @@ use decode_core::{DecodeFault, DecodeReason, Decoder, Progress};
 use json_core::{json_text, print};
 use registry_core::TypeId;
 use scale_core::{Sink, write_compact};
-use scale_tests::building::{BYTES, CHAIN, TEXT, TWO_UNITS_AND_A_BYTE, UNITS, checked, written};
+use scale_tests::building::{
+    BYTES, CHAIN, TEXT, TWO_UNITS_AND_A_BYTE, UNITS, WORDS, checked, written,
+};
 use std::alloc::{AllocError, Global};
 use std::process::Abort;
 use std::test::Fail;
 use value_core::{Limits, What};
 use widths_core::Checked;
 
-/// The length of a text or sequence of bytes, and so many bytes that are an `a` each.
-fn letters(alloc: Global, count: u32) -> Result<Vec<u8>, AllocError> {
+/// The length of a text or a sequence, and so many bytes that are an `a` each.
+fn letters(alloc: Global, length: u32, count: u32) -> Result<Vec<u8>, AllocError> {
     let mut bytes = Vec::new(alloc);
-    write_compact(&mut bytes, u128::from(count))?;
+    write_compact(&mut bytes, u128::from(length))?;
     'letters: for _ in 0..count {
         bytes.push(b'a')?;
     }
@@ -64,26 +66,20 @@ fn a_long_piece_is_taken_at_once(rt: HostRuntime) -> Result<(), Fail> {
     let bytes = checked(rt.alloc(), BYTES)?;
     let text = checked(rt.alloc(), TEXT)?;
     'lengths: for (count, len) in [(4_998, 5_000), (1_048_572, 1_048_576)] {
-        let input = letters(rt.alloc(), count)?;
+        let input = letters(rt.alloc(), count, count)?;
         assert_eq!(rt; input.len(), len);
-        check_feed(
-            &rt,
-            rt.alloc(),
-            &bytes,
-            1,
-            &input,
-            (u64::from(count).saturating_add(1), 0),
-        )?;
-        check_feed(&rt, rt.alloc(), &text, 0, &input, (1, u64::from(count)))?;
+        let held = (1, u64::from(count));
+        check_feed(&rt, rt.alloc(), &bytes, 1, &input, held)?;
+        check_feed(&rt, rt.alloc(), &text, 0, &input, held)?;
     }
     Ok(())
 }
 
-// A sequence of 100,000 bytes has 100,001 nodes.
+// A sequence of 100,000 words has 100,001 nodes.
 #[test]
 fn many_nodes_are_finished(rt: HostRuntime) -> Result<(), Fail> {
-    let checked = checked(rt.alloc(), BYTES)?;
-    let input = letters(rt.alloc(), 100_000)?;
+    let checked = checked(rt.alloc(), WORDS)?;
+    let input = letters(rt.alloc(), 100_000, 200_000)?;
     check_feed(&rt, rt.alloc(), &checked, 1, &input, (100_001, 0))
 }
 
@@ -270,7 +266,7 @@ fn a_sequence_of_units_is_its_count(rt: HostRuntime) -> Result<(), Fail> {
 #[test]
 fn a_long_text_is_shown(rt: HostRuntime) -> Result<(), Fail> {
     let checked = checked(rt.alloc(), TEXT)?;
-    let input = letters(rt.alloc(), 70_000)?;
+    let input = letters(rt.alloc(), 70_000, 70_000)?;
     let Ok(mut decoder) = Decoder::new(rt.alloc(), &checked, TypeId(0), Limits::default_limits())
     else {
         return Err("no decoder")?;
@@ -285,5 +281,28 @@ fn a_long_text_is_shown(rt: HostRuntime) -> Result<(), Fail> {
     assert_eq!(rt; text.len(), 70_002);
     assert!(rt; text.first() == Some(&b'"') && text.last() == Some(&b'"'));
     assert!(rt; text.as_slice().get(1..70_001) == input.as_slice().get(4..));
+    Ok(())
+}
+
+// A run of 70,000 bytes is shown by two digits each, behind the mark of hexadecimal digits.
+#[test]
+fn a_long_run_is_shown(rt: HostRuntime) -> Result<(), Fail> {
+    let checked = checked(rt.alloc(), BYTES)?;
+    let input = letters(rt.alloc(), 70_000, 70_000)?;
+    let Ok(mut decoder) = Decoder::new(rt.alloc(), &checked, TypeId(1), Limits::default_limits())
+    else {
+        return Err("no decoder")?;
+    };
+    assert_eq!(rt; decoder.feed(&input), Ok(Progress::Done { used: 70_004 }));
+    let Ok(value) = decoder.finish() else {
+        return Err("no value")?;
+    };
+    let mut shown = Vec::from_slice(rt.alloc(), b"\"0x")?;
+    'bytes: for _ in 0..70_000 {
+        shown.extend_from_slice(b"61")?;
+    }
+    shown.push(b'"')?;
+    let text = json_text(rt.alloc(), &value)?;
+    assert!(rt; text.as_bytes() == shown.as_slice());
     Ok(())
 }

@@ -10,7 +10,7 @@ use Rattle.widths_core.specs.Layouts.{Layout, layout}
 use Rattle.widths_core.specs.Layouts as layout
 use Rattle.widths_core.proofs.Known.{empty_class, class_empty, layout_empty}
 use Rattle.widths_core.proofs.Wide.{narrow_at, arm-width}
-use Rattle.grammar_core.specs.Tree.{Tree, leaf, branch, unit, bool, char, text, unsigned, signed, wide, compact, fields, arm, list, count, Trees, none, and, how_many, nodes, all_nodes, levels, most_levels, text_bytes, all_text_bytes, Leaf, bytes_of_text}
+use Rattle.grammar_core.specs.Tree.{Tree, leaf, branch, unit, bool, char, text, bytes, unsigned, signed, wide, compact, fields, arm, list, count, Trees, none, and, how_many, nodes, all_nodes, levels, most_levels, text_bytes, all_text_bytes, Leaf, bytes_of_text}
 use Rattle.grammar_core.specs.Preorder.{levels-pos}
 use Rattle.grammar_core.specs.Grammar.{Val, Vals, Each, SpellsLeaf}
 use Rattle.grammar_core.specs.Laws.{ValuesAreBounded}
@@ -155,12 +155,13 @@ mutual
         ap (λ (n : ℕ). n * p) (length-append h.0 h.1),
       )
 
--- a text has no more bytes than its spelling
+-- a text or a run of bytes has no more bytes than its spelling
 leaf_text_le : (f : Layout) (l : Leaf) (b : List ℕ) → SpellsLeaf f l b → bytes_of_text l ≤ length b
 leaf_text_le f unit b h = omega arith
 leaf_text_le f (bool x) b h = omega arith
 leaf_text_le f (char c) b h = omega arith
 leaf_text_le f (text s) b h = omega (arith, ap length h.1.3, length-append h.1.0 s)
+leaf_text_le f (bytes s) b h = omega (arith, ap length h.3.3, length-append h.3.0 s)
 leaf_text_le f (unsigned x) b h = omega arith
 leaf_text_le f (signed x) b h = omega arith
 leaf_text_le f (wide x) b h = omega arith

@@ -7,11 +7,22 @@ use Rattle.registry_core.specs.declared.type_info.TypeInfo.{TypeInfo}
 use Rattle.graph_core.specs.Types.{field_types}
 use Rattle.widths_core.specs.Layouts.{Layout, layout}
 use Rattle.widths_core.specs.Layouts as layout
-use Rattle.grammar_core.specs.Tree.{Tree, leaf, branch, unit, bool, char, text, unsigned, signed, wide, compact, fields, arm, list, count, Trees, none, and, how_many, levels, most_levels, Leaf}
+use Rattle.widths_core.specs.declared.run_kind.RunKind.{RunKind}
+use Rattle.widths_core.specs.declared.run_kind.RunKind.TheVariants as kind
+use Rattle.grammar_core.specs.Runs.{IsByteRun, SpellsRun}
+use Rattle.grammar_core.proofs.Runs.{run_text, run_again}
+use Rattle.grammar_core.specs.Tree.{Tree, leaf, branch, unit, bool, char, text, bytes, unsigned, signed, wide, compact, fields, arm, list, count, Trees, none, and, how_many, levels, most_levels, Leaf}
 use Rattle.grammar_core.specs.Grammar.{Val, Vals, Each, SpellsLeaf}
 use Rattle.grammar_core.proofs.Grounded.{finite}
 use Rattle.grammar_core.specs.Preorder.{levels-pos}
-use Rattle.grammar_core.specs.Reading.{value_at, layout_at, all_at, times_at, Refusal}
+use Rattle.grammar_core.specs.Reading.{value_at, layout_at, leaf_at, all_at, times_at, Refusal}
+
+-- what spells a run of bytes is read as it, whatever follows
+bytes_again_as : (k : RunKind) (s b rest : List ℕ) → IsByteRun k → SpellsRun k s b →
+    leaf_at (layout.run k) (b ++ rest) ≡ Ok (leaf (bytes s), rest)
+bytes_again_as kind.Text s b rest x h = absurd x
+bytes_again_as kind.Bytes s b rest is h = rw (run_again kind.Bytes s b rest h) refl
+bytes_again_as (kind.ByteArray n) s b rest is h = rw (run_again (kind.ByteArray n) s b rest h) refl
 
 -- what spells a leaf is read as it, whatever follows
 leaf_again : (child : ℕ → List ℕ → Read Refusal Tree) (f : Layout) (l : Leaf) (b rest : List ℕ) →
@@ -21,7 +32,9 @@ leaf_again child f unit b rest h = rw (h.0, h.1) refl
 leaf_again child f (bool true) b rest h = rw (h.0, h.1) refl
 leaf_again child f (bool false) b rest h = rw (h.0, h.1) refl
 leaf_again child f (char c) b rest h = rw (h.0, bytes_again 4 b rest h.1, h.2, h.3) refl
-leaf_again child f (text s) b rest h = rw (h.0, text_again s b rest h.1) refl
+leaf_again child f (text s) b rest h =
+    rw (h.0, run_text (b ++ rest), text_again s b rest h.1) refl
+leaf_again child f (bytes s) b rest h = rw h.2 (bytes_again_as h.0 s b rest h.1 h.3)
 leaf_again child f (unsigned x) b rest h = rw (h.1, bytes_again h.0 b rest h.2, h.3) refl
 leaf_again child f (signed x) b rest h = rw (h.1, bytes_again h.0 b rest h.2, h.3) refl
 leaf_again child f (wide x) b rest h = rw (h.0, bytes_again 32 b rest h.1, h.2) refl

@@ -2,7 +2,6 @@
 use Rattle.std.proofs.Common.{◌≡◌, ℕ, suc, ◌≤◌, Bool, true, false, List, [], ◌∷◌, ◌++◌, length, refl, sym, ap, subst, ◌∙◌, arith, inl, inr}
 use Rattle.std.specs.List.{list_all}
 use Rattle.scale_core.specs.Compact.{IsCompact}
-use Rattle.scale_core.specs.declared.compact.Target.{Target}
 use Rattle.scale_core.specs.declared.compact.Target.TheVariants as target
 use Rattle.scale_core.proofs.Again.{compact-bytes}
 use Rattle.registry_core.specs.declared.type_info.TypeInfo.{TypeInfo}
@@ -10,8 +9,11 @@ use Rattle.widths_core.specs.declared.class.Class.TheVariants as class
 use Rattle.widths_core.specs.Classes.{class_of, empty_within}
 use Rattle.widths_core.specs.Layouts.{Layout, layout}
 use Rattle.widths_core.specs.Layouts as layout
+use Rattle.widths_core.specs.declared.run_kind.RunKind.{RunKind}
+use Rattle.widths_core.specs.declared.run_kind.RunKind.TheVariants as kind
+use Rattle.grammar_core.specs.Runs.{SpellsRun}
 use Rattle.widths_core.proofs.Known.{Known, known, empty_class, class_empty, class_finite, layout_empty}
-use Rattle.grammar_core.specs.Tree.{Tree, leaf, branch, unit, bool, char, text, unsigned, signed, wide, compact, fields, arm, list, count, Trees, none, and, how_many, Leaf}
+use Rattle.grammar_core.specs.Tree.{Tree, leaf, branch, unit, bool, char, text, bytes, unsigned, signed, wide, compact, fields, arm, list, count, Trees, none, and, how_many, Leaf}
 use Rattle.grammar_core.specs.Grammar.{Val, Vals, SpellsLeaf}
 use Rattle.grammar_core.specs.Laws.{EmptyHasUnit, SizedHasBytes}
 
@@ -35,6 +37,18 @@ known_at r t f e = subst (Known r t) e (known r t)
 compact_has_byte : {X : Type 0} (x : ℕ) (b : List ℕ) → IsCompact target.U32 x b → b ≡ [] → X
 compact_has_byte x b h e = let no = compact-bytes target.U32 x b h e in absurd cc
 
+-- a run of bytes without any is of a type that takes none
+run_no_bytes : (r : List TypeInfo) (t : ℕ) (k : RunKind) (s b : List ℕ) → b ≡ [] →
+    layout r t ≡ layout.plain (layout.run k) → SpellsRun k s b → class_of r t ≡ class.Empty
+run_no_bytes r t kind.Text s b e f h =
+    compact_has_byte (length s) h.0 h.1 (nil_parts h.0 s (sym h.3 ∙ e)).0
+run_no_bytes r t kind.Bytes s b e f h =
+    compact_has_byte (length s) h.0 h.1 (nil_parts h.0 s (sym h.3 ∙ e)).0
+run_no_bytes r t (kind.ByteArray n) s b e f h =
+    let none : s ≡ [] = (nil_parts h.0 s (sym h.3 ∙ e)).1 in
+    empty_class r t (known_at r t (layout.plain (layout.run (kind.ByteArray n))) f
+    (sym h.1.0 ∙ ap length none))
+
 -- a leaf of no bytes is of a type that takes none
 leaf_no_bytes : (r : List TypeInfo) (t : ℕ) (l : Leaf) (b : List ℕ) → b ≡ [] →
     SpellsLeaf (layout r t) l b → class_of r t ≡ class.Empty
@@ -43,6 +57,7 @@ leaf_no_bytes r t (bool x) b e h = let no = sym e ∙ h.1 in absurd cc
 leaf_no_bytes r t (char c) b e h = let no = sym (ap length e) ∙ h.1 in absurd (omega (arith, no))
 leaf_no_bytes r t (text s) b e h =
     compact_has_byte (length s) h.1.0 h.1.1 (nil_parts h.1.0 s (sym h.1.3 ∙ e)).0
+leaf_no_bytes r t (bytes s) b e h = run_no_bytes r t h.0 s b e h.2 h.3
 leaf_no_bytes r t (unsigned x) b e h =
     absurd (omega (
       arith,
@@ -70,6 +85,7 @@ leaf_unique unit f b e h = (refl, h.1)
 leaf_unique (bool x) f b e h = let no = sym e ∙ h.0 in absurd cc
 leaf_unique (char c) f b e h = let no = sym e ∙ h.0 in absurd cc
 leaf_unique (text s) f b e h = let no = sym e ∙ h.0 in absurd cc
+leaf_unique (bytes s) f b e h = let no = sym e ∙ h.2 in absurd cc
 leaf_unique (unsigned x) f b e h = let no = sym e ∙ h.1 in absurd cc
 leaf_unique (signed x) f b e h = let no = sym e ∙ h.1 in absurd cc
 leaf_unique (wide x) f b e h = let no = sym e ∙ h.0 in absurd cc

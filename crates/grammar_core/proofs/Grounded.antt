@@ -6,8 +6,9 @@ use Rattle.graph_core.specs.Types.{field_types}
 use Rattle.widths_core.specs.Classes.{is_finite}
 use Rattle.widths_core.specs.Layouts.{Layout, layout}
 use Rattle.widths_core.specs.Layouts as layout
+use Rattle.widths_core.specs.declared.run_kind.RunKind.TheVariants as kind
 use Rattle.widths_core.proofs.Known.{finite_at}
-use Rattle.grammar_core.specs.Tree.{Tree, leaf, branch, unit, bool, char, text, unsigned, signed, wide, compact, fields, arm, list, count, Trees, none, and, Leaf}
+use Rattle.grammar_core.specs.Tree.{Tree, leaf, branch, unit, bool, char, text, bytes, unsigned, signed, wide, compact, fields, arm, list, count, Trees, none, and, Leaf}
 use Rattle.grammar_core.specs.Grammar.{Val, Vals, SpellsLeaf}
 use Rattle.grammar_core.specs.Laws.{ValuesAreFinite}
 
@@ -17,7 +18,8 @@ leaf_finite : (r : List TypeInfo) (t : ℕ) (l : Leaf) (b : List ℕ) → Spells
 leaf_finite r t unit b h = finite_at r t (layout.plain layout.empty) h.0
 leaf_finite r t (bool x) b h = finite_at r t (layout.plain layout.bool) h.0
 leaf_finite r t (char c) b h = finite_at r t (layout.plain layout.char) h.0
-leaf_finite r t (text s) b h = finite_at r t (layout.plain layout.text) h.0
+leaf_finite r t (text s) b h = finite_at r t (layout.plain (layout.run kind.Text)) h.0
+leaf_finite r t (bytes s) b h = finite_at r t (layout.plain (layout.run h.0)) h.2
 leaf_finite r t (unsigned x) b h = finite_at r t (layout.plain (layout.unsigned h.0)) h.1
 leaf_finite r t (signed x) b h = finite_at r t (layout.plain (layout.signed h.0)) h.1
 leaf_finite r t (wide x) b h = finite_at r t (layout.plain layout.wide) h.0

@@ -23,10 +23,11 @@ use Rattle.graph_core.specs.References.{references}
 use Rattle.widths_core.specs.Targets.{target_of}
 use Rattle.widths_core.specs.Reach.{IsAmong, here, there, IsPlain}
 use Rattle.widths_core.specs.Classes.{finite_within, finite_step, holds_at, is_empty}
-use Rattle.widths_core.specs.Layouts.{Layout, layout, sized_layout, kind_layout, sequence_layout, compact_layout}
+use Rattle.widths_core.specs.Layouts.{Layout, layout, sized_layout, kind_layout, sequence_layout, array_layout, is_byte, compact_layout}
 use Rattle.widths_core.specs.Layouts as layout
+use Rattle.widths_core.specs.declared.run_kind.RunKind.TheVariants as kind
 use Rattle.widths_core.proofs.Ranks.{and_parts, or_parts}
-use Rattle.grammar_core.specs.Tree.{Tree, leaf, branch, unit, bool, char, text, unsigned, signed, wide, compact as compact_value, fields, arm, list, count, Trees, none, and, how_many}
+use Rattle.grammar_core.specs.Tree.{Tree, leaf, branch, unit, bool, char, text, bytes, unsigned, signed, wide, compact as compact_value, fields, arm, list, count, Trees, none, and, how_many}
 use Rattle.grammar_core.specs.Grammar.{Val, Vals, Each}
 use Rattle.grammar_core.specs.Laws.{FiniteHasValue}
 
@@ -219,16 +220,35 @@ kind_value r t (K.Unsigned w) e = unsigned_value r t (width_bytes w) e
 kind_value r t (K.Signed w) e = signed_value r t (width_bytes w) e
 kind_value r t (K.Wide s) e = wide_value r t e
 
-sequence_value : (r : List TypeInfo) (t u : ℕ) (b : Bool) → layout r t ≡ sequence_layout u b →
-    HasValue r t
+sequence_value : (r : List TypeInfo) (t u : ℕ) (b byte : Bool) →
+    layout r t ≡ sequence_layout u b byte → HasValue r t
 unfolding Val
-sequence_value r t u true e = (leaf (count 0), compact 0, zero-bytes, (e, u32_zero))
-sequence_value r t u false e = (
+sequence_value r t u true byte e = (leaf (count 0), compact 0, zero-bytes, (e, u32_zero))
+sequence_value r t u false true e = (
+  leaf (bytes []),
+  compact 0 ++ [],
+  both_bytes (compact 0) [] zero-bytes tt,
+  (kind.Bytes, tt, e, (compact 0, u32_zero, tt, refl)),
+)
+sequence_value r t u false false e = (
   branch list none,
   compact 0 ++ [],
   both_bytes (compact 0) [] zero-bytes tt,
   inr (u, compact 0, [], e, u32_zero, refl, refl),
 )
+
+array_value : (r : List TypeInfo) (t n u : ℕ) (byte : Bool) → layout r t ≡ array_layout n u byte →
+    (byte ≡ false → (vs : Trees) × (b : List ℕ) × AreBytes b × (how_many vs ≡ n) × Each r u vs b) →
+    HasValue r t
+unfolding Val
+array_value r t n u true e each = (
+  leaf (bytes (zeros n)),
+  zeros n,
+  zeros-bytes n,
+  (kind.ByteArray n, tt, e, ([], (length-zeros n, refl), tt, refl)),
+)
+array_value r t n u false e each = let all = each refl in
+    (branch list all.0, all.1, all.2, inl (n, u, e, all.3, all.4))
 
 zero_of : (m : Target) → (b : List ℕ) × AreBytes b × IsCompact m 0 b
 zero_of target.Unit = ([], tt, (refl, refl))
@@ -263,12 +283,12 @@ sized_value r k t (Def.Variant arms) fits plain is child e h =
       (arms, l.arm.index, l.arm, all.1, e, l.is, refl, all.3),
     )
 sized_value r k t (Def.Sequence u) fits plain is child e h =
-    sequence_value r t u.0 (is_empty r u.0) e
+    sequence_value r t u.0 (is_empty r u.0) (is_byte (shape r u.0)) e
 sized_value r k t (Def.Array zero u) fits plain is child e h =
-    (branch list none, [], tt, inl (0, u.0, e, refl, refl))
-sized_value r k t (Def.Array (suc n) u) fits plain is child e h = let all =
-    repeated r u.0 (suc n) (child u.0 (inl refl) h) in
-    (branch list all.0, all.1, all.2, inl (suc n, u.0, e, all.3, all.4))
+    array_value r t zero u.0 (is_byte (shape r u.0)) e (λ is. (none, [], tt, refl, refl))
+sized_value r k t (Def.Array (suc n) u) fits plain is child e h =
+    array_value r t (suc n) u.0 (is_byte (shape r u.0)) e
+    (λ is. repeated r u.0 (suc n) (child u.0 (inl refl) h))
 sized_value r k t (Def.Tuple ts) fits plain is child e h = let all =
     all_values r (finite_within r k) (ids ts) child h in
     (branch fields all.0, all.1, all.2, (ids ts, e, all.3))

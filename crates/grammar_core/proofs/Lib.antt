@@ -8,6 +8,7 @@ pub mod Inhabited
 pub mod OneSpelling
 pub mod Parts
 pub mod Proved
+pub mod Runs
 pub mod Sound
 pub mod Spelled
 pub mod Stable

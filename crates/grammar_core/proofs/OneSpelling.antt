@@ -10,8 +10,10 @@ use Rattle.registry_core.specs.declared.type_info.TypeInfo.{TypeInfo}
 use Rattle.graph_core.specs.Types.{field_types}
 use Rattle.widths_core.specs.Layouts.{Layout, layout}
 use Rattle.widths_core.specs.Layouts as layout
+use Rattle.widths_core.specs.declared.run_kind.RunKind.{RunKind}
+use Rattle.grammar_core.proofs.Runs.{run_one}
 use Rattle.widths_core.proofs.Wide.{arm-index}
-use Rattle.grammar_core.specs.Tree.{Tree, leaf, branch, unit, bool, char, text, unsigned, signed, wide, compact, fields, arm, list, count, Trees, none, and, how_many, Leaf}
+use Rattle.grammar_core.specs.Tree.{Tree, leaf, branch, unit, bool, char, text, bytes, unsigned, signed, wide, compact, fields, arm, list, count, Trees, none, and, how_many, Leaf}
 use Rattle.grammar_core.specs.Grammar.{Val, Vals, Each, SpellsLeaf}
 use Rattle.grammar_core.specs.Laws.{OneSpelling}
 
@@ -36,6 +38,11 @@ compact_is : (r : List TypeInfo) (t : ℕ) (x y : Target) →
     x ≡ y
 compact_is r t x y e f =
     let same : layout.plain (layout.compact x) ≡ layout.plain (layout.compact y) = sym e ∙ f in cc
+
+run_is : (r : List TypeInfo) (t : ℕ) (x y : RunKind) → layout r t ≡ layout.plain (layout.run x) →
+    layout r t ≡ layout.plain (layout.run y) → x ≡ y
+run_is r t x y e f =
+    let same : layout.plain (layout.run x) ≡ layout.plain (layout.run y) = sym e ∙ f in cc
 
 unsigned_is : (r : List TypeInfo) (t x y : ℕ) → layout r t ≡ layout.plain (layout.unsigned x) →
     layout r t ≡ layout.plain (layout.unsigned y) → x ≡ y
@@ -62,6 +69,8 @@ leaf_one r t (char c) a b p q h k = number_one a b p q (h.1 ∙ sym k.1) (h.2 �
 leaf_one r t (text s) a b p q h k = let same =
     one_spelling target.U32 (length s) h.1.0 k.1.0 h.1.1 k.1.1 in h.1.3
     ∙ ap (λ (x : List ℕ). x ++ s) same ∙ sym k.1.3
+leaf_one r t (bytes s) a b p q h k =
+    run_one h.0 s a b h.3 (rw (run_is r t h.0 k.0 h.2 k.2) k.3)
 leaf_one r t (unsigned x) a b p q h k =
     number_one a b p q (h.2 ∙ unsigned_is r t h.0 k.0 h.1 k.1 ∙ sym k.2) (h.3 ∙ sym k.3)
 leaf_one r t (signed x) a b p q h k =

@@ -3,12 +3,11 @@ use Rattle.std.proofs.Common.{◌≡◌, ℕ, zero, suc, ◌≤◌, List, [], �
 use Rattle.std.proofs.lemmas.List.{append-nil}
 use Rattle.scale_core.specs.Number.{number, signed_number, is_scalar}
 use Rattle.scale_core.specs.Compact.{IsCompact}
-use Rattle.scale_core.specs.Text.{IsText}
-use Rattle.scale_core.specs.Read.{Read, compact_at, text_at, bytes_at}
+use Rattle.scale_core.specs.Read.{Read, compact_at, bytes_at}
 use Rattle.scale_core.specs.declared.compact.Target.TheVariants as target
 use Rattle.scale_core.specs.declared.fault.Reason.{Reason}
 use Rattle.scale_core.specs.declared.fault.Reason.TheVariants as reasons
-use Rattle.scale_core.proofs.Results.{Takes, cond_takes, then_takes, bind_takes, bytes_takes, compact_takes, text_takes}
+use Rattle.scale_core.proofs.Results.{Takes, cond_takes, then_takes, bind_takes, bytes_takes, compact_takes}
 use Rattle.registry_core.specs.declared.definition.Arm.{Arm}
 use Rattle.registry_core.specs.declared.type_info.TypeInfo.{TypeInfo}
 use Rattle.graph_core.specs.Types.{field_types}
@@ -16,7 +15,11 @@ use Rattle.widths_core.specs.Arms.{arm_of}
 use Rattle.widths_core.specs.Classes.{is_finite}
 use Rattle.widths_core.specs.Layouts.{Layout, layout}
 use Rattle.widths_core.specs.Layouts as layout
-use Rattle.grammar_core.specs.Tree.{Leaf, Branch, Tree, leaf, branch, char, text, unsigned, signed, wide, compact, fields, arm, list, count, Trees, how_many, levels, most_levels}
+use Rattle.widths_core.specs.declared.run_kind.RunKind.{RunKind}
+use Rattle.widths_core.specs.declared.run_kind.RunKind.TheVariants as kind
+use Rattle.grammar_core.specs.Runs.{SpellsRun, run_leaf, run_at}
+use Rattle.grammar_core.proofs.Runs.{run_takes}
+use Rattle.grammar_core.specs.Tree.{Leaf, Branch, Tree, leaf, branch, char, unsigned, signed, wide, compact, fields, arm, list, count, Trees, how_many, levels, most_levels}
 use Rattle.grammar_core.specs.Grammar.{Val, Vals, Each}
 use Rattle.grammar_core.specs.Reading.{value_at, layout_at, bool_at, char_from, all_at, times_at, fields_behind_index, arms_at, elements_at, as_leaf, with_children, Refusal, basic}
 
@@ -122,6 +125,14 @@ elements_takes r room t u child h f b (Ok n) k = then_takes (One r (suc room) t)
     (times_at child n.0 u n.1) (times_takes r room child h n.0 u n.1) (λ vs c vals.
     (inr (u, k.0, c, f, rw vals.1 k.2, refl, vals.0), omega arith)))
 
+-- what spells a run is a value of its type
+run_value : (r : List TypeInfo) (room t : ℕ) (k : RunKind) → layout r t ≡ layout.plain (layout.run k) →
+    (s c : List ℕ) → SpellsRun k s c → One r (suc room) t (leaf (run_leaf k s)) c
+unfolding Val
+run_value r room t kind.Text e s c is = ((e, is), omega arith)
+run_value r room t kind.Bytes e s c is = ((kind.Bytes, tt, e, is), omega arith)
+run_value r room t (kind.ByteArray n) e s c is = ((kind.ByteArray n, tt, e, is), omega arith)
+
 layout_takes : (r : List TypeInfo) (room t : ℕ) (child : ℕ → List ℕ → Read Refusal Tree) →
     ChildTakes r room child → (f : Layout) → layout r t ≡ f → (b : List ℕ) →
     Takes (One r (suc room) t) b (layout_at child f b)
@@ -133,9 +144,9 @@ layout_takes r room t child h (layout.plain layout.empty) e b = ([], refl, ((e, 
 layout_takes r room t child h (layout.plain layout.bool) e b = bool_takes r room t b e
 layout_takes r room t child h (layout.plain layout.char) e b =
     char_takes r room t b (bytes_at 4 b) e (bytes_takes 4 b)
-layout_takes r room t child h (layout.plain layout.text) e b =
-    as_leaf_takes IsText (One r (suc room) t) text b (text_at b) (text_takes b)
-    (λ s c is. ((e, is), omega arith))
+layout_takes r room t child h (layout.plain (layout.run k)) e b =
+    as_leaf_takes (SpellsRun k) (One r (suc room) t) (run_leaf k) b (run_at k b) (run_takes k b)
+    (λ s c is. run_value r room t k e s c is)
 layout_takes r room t child h (layout.plain (layout.unsigned k)) e b =
     as_leaf_takes (λ x c. (c ≡ x) × (length c ≡ k)) (One r (suc room) t) (λ b. unsigned (number b))
     b (bytes_at k b) (bytes_takes k b) (λ x c is. ((k, e, is.1, ap number is.0), omega arith))

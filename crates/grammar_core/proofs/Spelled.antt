@@ -22,11 +22,14 @@ use Rattle.graph_core.specs.Types.{shape, field_types}
 use Rattle.widths_core.specs.Arms.{arm_of}
 use Rattle.widths_core.specs.Targets.{target_of}
 use Rattle.widths_core.specs.Classes.{is_empty}
-use Rattle.widths_core.specs.Layouts.{Layout, layout, layout_of_shape, sized_layout, kind_layout, sequence_layout, compact_layout}
+use Rattle.widths_core.specs.Layouts.{Layout, layout, layout_of_shape, sized_layout, kind_layout, sequence_layout, array_layout, is_byte, compact_layout}
 use Rattle.widths_core.specs.Layouts as layout
+use Rattle.widths_core.specs.declared.run_kind.RunKind.{RunKind}
+use Rattle.widths_core.specs.declared.run_kind.RunKind.TheVariants as kind
+use Rattle.grammar_core.specs.Runs.{IsByteRun, IsRunLength}
 use Rattle.widths_core.proofs.Known.{empty_class, layout_empty}
 use Rattle.widths_core.proofs.FirstArm.{arm_is_first}
-use Rattle.grammar_core.specs.Tree.{Tree, leaf, branch, unit, bool, char, text, unsigned, signed, wide, fields, arm, list, count, Trees, none, and, how_many, Leaf}
+use Rattle.grammar_core.specs.Tree.{Tree, leaf, branch, unit, bool, char, text, bytes, unsigned, signed, wide, fields, arm, list, count, Trees, none, and, how_many, Leaf}
 use Rattle.grammar_core.specs.Tree as tree
 use Rattle.grammar_core.specs.Grammar.{Val, Vals, Each, SpellsLeaf}
 use Rattle.grammar_core.specs.Parts.{each, times}
@@ -40,6 +43,8 @@ abbrev Shaped : Layout → Option TypeDef → Type 0
 Shaped (layout.plain (layout.unsigned k)) d = width_of d ≡ k
 Shaped (layout.plain (layout.signed k)) d = (width_of d ≡ k) × (k ≤ 16)
 Shaped (layout.arms as') d = d ≡ Some (Def.Variant as')
+Shaped (layout.plain (layout.run kind.Bytes)) d = is_sequence d ≡ true
+Shaped (layout.plain (layout.run (kind.ByteArray n))) d = is_sequence d ≡ false
 Shaped (layout.sequence t) d = is_sequence d ≡ true
 Shaped (layout.array n t) d = is_sequence d ≡ false
 Shaped _ d = Unit {0}
@@ -53,10 +58,16 @@ shaped_kind (K.Unsigned w) d h = h
 shaped_kind (K.Signed w) d h = (h, width_most w)
 shaped_kind (K.Wide s) d h = tt
 
-shaped_sequence : (t : ℕ) (e : Bool) (d : Option TypeDef) → is_sequence d ≡ true →
-    Shaped (sequence_layout t e) d
-shaped_sequence t true d h = tt
-shaped_sequence t false d h = h
+shaped_sequence : (t : ℕ) (e byte : Bool) (d : Option TypeDef) → is_sequence d ≡ true →
+    Shaped (sequence_layout t e byte) d
+shaped_sequence t true byte d h = tt
+shaped_sequence t false true d h = h
+shaped_sequence t false false d h = h
+
+shaped_array : (n t : ℕ) (byte : Bool) (d : Option TypeDef) → is_sequence d ≡ false →
+    Shaped (array_layout n t byte) d
+shaped_array n t true d h = h
+shaped_array n t false d h = h
 
 shaped_compact : (o : Option Target) (d : Option TypeDef) → Shaped (compact_layout o) d
 shaped_compact (Some m) d = tt
@@ -65,8 +76,9 @@ shaped_compact None d = tt
 shaped_sized : (r : List TypeInfo) (d : TypeDef) → Shaped (sized_layout r d) (Some d)
 shaped_sized r (Def.Composite fs) = tt
 shaped_sized r (Def.Variant as') = refl
-shaped_sized r (Def.Sequence t) = shaped_sequence t.0 (is_empty r t.0) (Some (Def.Sequence t)) refl
-shaped_sized r (Def.Array n t) = refl
+shaped_sized r (Def.Sequence t) = shaped_sequence t.0 (is_empty r t.0) (is_byte (shape r t.0))
+    (Some (Def.Sequence t)) refl
+shaped_sized r (Def.Array n t) = shaped_array n t.0 (is_byte (shape r t.0)) (Some (Def.Array n t)) refl
 shaped_sized r (Def.Tuple ts) = tt
 shaped_sized r (Def.Primitive p) = shaped_kind (kind_of p) (Some (Def.Primitive p)) refl
 shaped_sized r (Def.Compact t) = shaped_compact (target_of r t.0) (Some (Def.Compact t))
@@ -188,6 +200,15 @@ pub sequence_length : (r : List TypeInfo) (t u k : ℕ) → layout r t ≡ layou
     length_bytes (shape r t) k ≡ compact k
 sequence_length r t u k e = rw (shaped_at r t (layout.sequence u) e) refl
 
+-- what stands in front of a run of bytes is its length, where its type does not say it
+run_length : (r : List TypeInfo) (t : ℕ) (k : RunKind) (n : ℕ) (c : List ℕ) → IsByteRun k →
+    layout r t ≡ layout.plain (layout.run k) → IsRunLength k n c → length_bytes (shape r t) n ≡ c
+run_length r t kind.Text n c x e h = absurd x
+run_length r t kind.Bytes n c is e h =
+    rw (shaped_at r t (layout.plain (layout.run kind.Bytes)) e) (sym h.1)
+run_length r t (kind.ByteArray k) n c is e h =
+    rw (shaped_at r t (layout.plain (layout.run (kind.ByteArray k))) e) (sym h.1)
+
 -- ---- all nodes
 
 -- the bytes of a leaf by itself are those that spell it
@@ -198,6 +219,8 @@ leaf_spells r t (bool x) b p h = sym h.1
 leaf_spells r t (char c) b p h = unsigned_bytes_are 4 c b p h.1 h.2
 leaf_spells r t (text s) b p h = append-nil (compact (length s) ++ s)
     ∙ ap (λ (x : List ℕ). x ++ s) (sym h.1.1.1) ∙ sym h.1.3
+leaf_spells r t (bytes s) b p h = append-nil (length_bytes (shape r t) (length s) ++ s)
+    ∙ ap (λ (x : List ℕ). x ++ s) (run_length r t h.0 (length s) h.3.0 h.1 h.2 h.3.1) ∙ sym h.3.3
 leaf_spells r t (unsigned x) b p h = append-nil _
     ∙ ap (λ (k : ℕ). le_bytes k x) (shaped_at r t (layout.plain (layout.unsigned h.0)) h.1)
     ∙ unsigned_bytes_are h.0 x b p h.2 h.3

@@ -5,7 +5,7 @@ use Rattle.scale_core.specs.Read.{Read}
 use Rattle.scale_core.specs.declared.compact.Target.TheVariants as target
 use Rattle.scale_core.specs.declared.fault.Reason.{Reason}
 use Rattle.scale_core.specs.declared.fault.Reason.TheVariants as reasons
-use Rattle.scale_core.proofs.Results.{Extends, bind_extends, cond_extends, bytes_extends, compact_extends, text_extends}
+use Rattle.scale_core.proofs.Results.{Extends, bind_extends, cond_extends, bytes_extends, compact_extends}
 use Rattle.registry_core.specs.declared.definition.Arm.{Arm}
 use Rattle.registry_core.specs.declared.type_info.TypeInfo.{TypeInfo}
 use Rattle.graph_core.specs.Types.{field_types}
@@ -13,7 +13,9 @@ use Rattle.widths_core.specs.Arms.{arm_of}
 use Rattle.widths_core.specs.Classes.{is_finite}
 use Rattle.widths_core.specs.Layouts.{Plain, Layout, layout}
 use Rattle.widths_core.specs.Layouts as layout
-use Rattle.grammar_core.specs.Tree.{Leaf, Branch, Tree, leaf, branch, text, unsigned, signed, wide, compact, fields, arm, list, count, Trees}
+use Rattle.grammar_core.specs.Runs.{run_leaf}
+use Rattle.grammar_core.proofs.Runs.{run_extends}
+use Rattle.grammar_core.specs.Tree.{Leaf, Branch, Tree, unsigned, signed, wide, compact, fields, arm, list, count, Trees}
 use Rattle.grammar_core.specs.Reading.{value_at, layout_at, leaf_at, bool_at, char_from, all_at, times_at, fields_behind_index, arms_at, elements_at, as_leaf, with_children, Refusal, basic, truncated}
 
 as_leaf_extends : {X : Type 0} (make : X → Leaf) (more : List ℕ) (read read' : Read Reason X) →
@@ -91,7 +93,7 @@ leaf_extends : (more : List ℕ) (p : Plain) (b : List ℕ) →
 leaf_extends more layout.empty b = refl
 leaf_extends more layout.bool b = bool_extends b more
 leaf_extends more layout.char b = char_extends b more _ _ (bytes_extends 4 b more)
-leaf_extends more layout.text b = as_leaf_extends text more _ _ (text_extends b more)
+leaf_extends more (layout.run k) b = as_leaf_extends (run_leaf k) more _ _ (run_extends k b more)
 leaf_extends more (layout.unsigned k) b =
     as_leaf_extends (λ b. unsigned (number b)) more _ _ (bytes_extends k b more)
 leaf_extends more (layout.signed k) b =

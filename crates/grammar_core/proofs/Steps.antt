@@ -10,14 +10,15 @@ use Rattle.widths_core.specs.declared.step.Step.TheVariants as step
 use Rattle.graph_core.specs.Types.{shape}
 use Rattle.widths_core.specs.Targets.{target_of}
 use Rattle.widths_core.specs.Classes.{is_finite, is_empty, is_unit, class_from, class_of}
-use Rattle.widths_core.specs.Steps.{references_of, IsStep, IsStepAt, by_class, sequence_step}
+use Rattle.widths_core.specs.Steps.{references_of, IsStep, IsStepAt, array_step, by_class, sequence_step}
 use Rattle.widths_core.proofs.Known.{empty_finite}
 use Rattle.widths_core.proofs.Stable.{class_stable}
 use Rattle.grammar_core.specs.declared.form.Form.TheVariants as form
 use Rattle.grammar_core.specs.declared.form.StopReason.TheVariants as stop
 use Rattle.grammar_core.specs.declared.form.Next.{Next}
 use Rattle.grammar_core.specs.declared.form.Next.TheVariants as next
-use Rattle.grammar_core.specs.Forms.{sequence_form, compact_form, next_at, next_of_step}
+use Rattle.widths_core.specs.Layouts.{is_byte}
+use Rattle.grammar_core.specs.Forms.{array_form, sequence_form, compact_form, next_at, next_of_step}
 use Rattle.grammar_core.proofs.Classes.{shapeless}
 
 -- what comes next by the two tests of a class, where f comes next at a type that takes bytes
@@ -34,12 +35,19 @@ class_next true true none sized f e h = refl
 class_next true false none sized f e h = h
 
 -- the elements of a sequence are left out where they take no bytes
-sequence_next : (finite empty : Bool) (t : ℕ) → (empty ≡ true → finite ≡ true) →
-    next_of_step (sequence_step (class_from finite empty) t) ≡ sequence_form empty
-sequence_next true true t h = refl
-sequence_next true false t h = refl
-sequence_next false false t h = refl
-sequence_next false true t h = let no = h refl in absurd cc
+sequence_next : (finite empty byte : Bool) (t : ℕ) → (empty ≡ true → finite ≡ true) →
+    next_of_step (sequence_step (class_from finite empty) byte t) ≡ sequence_form empty byte
+sequence_next true true byte t h = refl
+sequence_next true false true t h = refl
+sequence_next true false false t h = refl
+sequence_next false false true t h = refl
+sequence_next false false false t h = refl
+sequence_next false true byte t h = let no = h refl in absurd cc
+
+-- an array of u8 is a run of bytes
+array_next : (byte : Bool) (n t : ℕ) → next_of_step (array_step byte n t) ≡ array_form n byte
+array_next true n t = refl
+array_next false n t = refl
 
 -- a compact has the class that its target says
 compact_tests : (finite empty unit : Bool) (f : Next) →
@@ -66,12 +74,14 @@ step_next r t (Def.Variant arms) s e h =
     rw (h.2, e) (class_next (is_finite r t) (is_empty r t) (step.NoArm h.0 h.1) (step.Arms h.0 h.1)
     (next.Wants form.Arm) refl refl)
 step_next r t (Def.Sequence u) s e h =
-    let below = sequence_next (is_finite r u.0) (is_empty r u.0) u.0 (empty_finite r u.0) in
+    let byte = is_byte (shape r u.0) in
+    let below = sequence_next (is_finite r u.0) (is_empty r u.0) byte u.0 (empty_finite r u.0) in
     rw (h, e) (class_next (is_finite r t) (is_empty r t) step.NoValue
-    (sequence_step (class_of r u.0) u.0) (sequence_form (is_empty r u.0)) refl below)
+    (sequence_step (class_of r u.0) byte u.0) (sequence_form (is_empty r u.0) byte) refl below)
 step_next r t (Def.Array n u) s e h =
-    rw (h, e) (class_next (is_finite r t) (is_empty r t) step.NoValue (step.Array n u.0)
-    (next.Wants (form.Array n)) refl refl)
+    let byte = is_byte (shape r u.0) in
+    rw (h, e) (class_next (is_finite r t) (is_empty r t) step.NoValue (array_step byte n u.0)
+    (array_form n byte) refl (array_next byte n u.0))
 step_next r t (Def.Primitive p) s e h =
     rw (h, e) (class_next (is_finite r t) (is_empty r t) step.NoValue (step.Primitive p)
     (next.Wants (form.Primitive p)) refl refl)

@@ -3,7 +3,7 @@ use Rattle.std.proofs.Common.{ℕ, List, [], ◌∷◌, inl, inr}
 use Rattle.registry_core.specs.declared.type_info.TypeInfo.{TypeInfo}
 use Rattle.graph_core.specs.Types.{field_types}
 use Rattle.widths_core.specs.Layouts.{Layout, layout}
-use Rattle.grammar_core.specs.Tree.{leaf, branch, unit, bool, char, text, unsigned, signed, wide, compact, fields, arm, list, count, Trees, none, and, Leaf}
+use Rattle.grammar_core.specs.Tree.{leaf, branch, unit, bool, char, text, bytes, unsigned, signed, wide, compact, fields, arm, list, count, Trees, none, and, Leaf}
 use Rattle.grammar_core.specs.Grammar.{Val, Vals, Each, SpellsLeaf}
 use Rattle.grammar_core.specs.Laws.{AllHaveText, TextsAreText, LeafHasText}
 
@@ -13,6 +13,7 @@ leaf_is_text f unit b h = tt
 leaf_is_text f (bool x) b h = tt
 leaf_is_text f (char c) b h = tt
 leaf_is_text f (text s) b h = (h.1.1.0, h.1.2)
+leaf_is_text f (bytes s) b h = tt
 leaf_is_text f (unsigned x) b h = tt
 leaf_is_text f (signed x) b h = tt
 leaf_is_text f (wide x) b h = tt

@@ -7,6 +7,7 @@ use Rattle.registry_core.specs.declared.definition.TypeDef.TheVariants as Def
 use Rattle.registry_core.specs.declared.type_info.TypeInfo.{TypeInfo}
 use Rattle.graph_core.specs.Types.{shape}
 use Rattle.widths_core.specs.Targets.{target_of}
+use Rattle.widths_core.specs.Layouts.{is_byte}
 use Rattle.widths_core.specs.Classes.{is_finite, is_empty, is_unit}
 use Rattle.widths_core.specs.declared.step.Step.{Step}
 use Rattle.widths_core.specs.declared.step.Step.TheVariants as step
@@ -15,9 +16,14 @@ use Rattle.grammar_core.specs.declared.form.StopReason.TheVariants as stop
 use Rattle.grammar_core.specs.declared.form.Next.{Next}
 use Rattle.grammar_core.specs.declared.form.Next.TheVariants as next
 
--- a sequence of elements that take no bytes is its length alone
-abbrev pub sequence_form : Bool → Next
-sequence_form empty = next.Wants (if empty then form.Count else form.Sequence)
+-- a sequence of elements that take no bytes is its length alone, and one of u8 a run of bytes
+abbrev pub sequence_form : Bool → Bool → Next
+sequence_form empty byte =
+    next.Wants (if empty then form.Count else (if byte then form.Bytes else form.Sequence))
+
+-- an array of u8 is a run of bytes
+abbrev pub array_form : ℕ → Bool → Next
+array_form n byte = next.Wants (if byte then form.ByteArray n else form.Array n)
 
 abbrev pub compact_form : Option Target → Next
 compact_form (Some m) = next.Wants (form.Compact m)
@@ -28,8 +34,8 @@ abbrev pub form_of_shape : List TypeInfo → Option TypeDef → Next
 form_of_shape r None = next.Stop stop.NoFiniteValue
 form_of_shape r (Some (Def.Composite fs)) = next.Wants form.Fields
 form_of_shape r (Some (Def.Variant arms)) = next.Wants form.Arm
-form_of_shape r (Some (Def.Sequence t)) = sequence_form (is_empty r t.0)
-form_of_shape r (Some (Def.Array n t)) = next.Wants (form.Array n)
+form_of_shape r (Some (Def.Sequence t)) = sequence_form (is_empty r t.0) (is_byte (shape r t.0))
+form_of_shape r (Some (Def.Array n t)) = array_form n (is_byte (shape r t.0))
 form_of_shape r (Some (Def.Tuple ts)) = next.Wants form.Fields
 form_of_shape r (Some (Def.Primitive p)) = next.Wants (form.Primitive p)
 form_of_shape r (Some (Def.Compact t)) = compact_form (target_of r t.0)
@@ -60,6 +66,8 @@ next_of_step (step.Primitive p) = next.Wants (form.Primitive p)
 next_of_step (step.Parts from count) = next.Wants form.Fields
 next_of_step (step.Arms from count) = next.Wants form.Arm
 next_of_step (step.Array n t) = next.Wants (form.Array n)
+next_of_step (step.ByteArray n) = next.Wants (form.ByteArray n)
 next_of_step (step.Sequence t) = next.Wants form.Sequence
+next_of_step step.Bytes = next.Wants form.Bytes
 next_of_step step.Count = next.Wants form.Count
 next_of_step step.BitSequence = next.Stop stop.BitSequence

@@ -73,7 +73,7 @@ SizedHasBytes = (r : List TypeInfo) (t : ℕ) (v : Tree) (b : List ℕ) → clas
 abbrev pub ValuesAreFinite : Type 0
 ValuesAreFinite = (r : List TypeInfo) (t : ℕ) (v : Tree) (b : List ℕ) → Val r t v b → IsFinite r t
 
--- no more nodes than this, and no more bytes of text than bytes
+-- no more nodes than this, and no more bytes of texts and runs than bytes
 abbrev pub ValuesAreBounded : Type 0
 ValuesAreBounded = (r : List TypeInfo) (room t : ℕ) (v : Tree) (b : List ℕ) → Val r t v b →
     levels v ≤ room → (nodes v ≤ 1 + length b * (room * (widest r + 1))) × (text_bytes v ≤ length b)

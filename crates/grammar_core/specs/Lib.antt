@@ -6,5 +6,6 @@ pub mod Laws
 pub mod Parts
 pub mod Preorder
 pub mod Reading
+pub mod Runs
 pub mod Spelled
 pub mod Tree

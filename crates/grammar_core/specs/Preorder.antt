@@ -1,5 +1,5 @@
 -- A tree as the list of its nodes in preorder, each with how many children it has.
-use Rattle.std.specs.Prelude.{◌≡◌, ℕ, zero, suc, ◌≤◌, ℤ, pos, List, [], ◌∷◌, ◌++◌, length, Bool, true, false, refl, if◌then◌else◌, ◌==◌}
+use Rattle.std.specs.Prelude.{◌≡◌, ℕ, zero, suc, ◌≤◌, ℤ, pos, List, [], ◌∷◌, ◌++◌, length, true, false, refl, if◌then◌else◌, ◌==◌}
 use Rattle.std.specs.Coded.{Coded, code_by, coded×, coded_ℕ, coded_ℤ, coded_list}
 use Rattle.std.proofs.Common.{arith, append_assoc, ap, sym, ◌∙◌, length-append}
 use Rattle.std.proofs.lemmas.List.{append-nil}
@@ -98,30 +98,30 @@ stored (leaf tree.unit) = (0, (0, (0, (pos 0, []))))
 stored (leaf (tree.bool b)) = (1, ((if b then 1 else 0), (0, (pos 0, []))))
 stored (leaf (tree.char c)) = (2, (c, (0, (pos 0, []))))
 stored (leaf (tree.text s)) = (3, (0, (0, (pos 0, s))))
-stored (leaf (tree.unsigned n)) = (4, (n, (0, (pos 0, []))))
-stored (leaf (tree.signed z)) = (5, (0, (0, (z, []))))
-stored (leaf (tree.wide s)) = (6, (0, (0, (pos 0, s))))
-stored (leaf (tree.compact n)) = (7, (n, (0, (pos 0, []))))
-stored (leaf (tree.count n)) = (8, (n, (0, (pos 0, []))))
-stored (branch tree.fields n) = (9, (n, (0, (pos 0, []))))
-stored (branch (tree.arm q) n) = (10, (q, (n, (pos 0, []))))
-stored (branch tree.list n) = (11, (n, (0, (pos 0, []))))
+stored (leaf (tree.bytes s)) = (4, (0, (0, (pos 0, s))))
+stored (leaf (tree.unsigned n)) = (5, (n, (0, (pos 0, []))))
+stored (leaf (tree.signed z)) = (6, (0, (0, (z, []))))
+stored (leaf (tree.wide s)) = (7, (0, (0, (pos 0, s))))
+stored (leaf (tree.compact n)) = (8, (n, (0, (pos 0, []))))
+stored (leaf (tree.count n)) = (9, (n, (0, (pos 0, []))))
+stored (branch tree.fields n) = (10, (n, (0, (pos 0, []))))
+stored (branch (tree.arm q) n) = (11, (q, (n, (pos 0, []))))
+stored (branch tree.list n) = (12, (n, (0, (pos 0, []))))
 
 abbrev form_from : ℕ → ℕ → ℕ → ℤ → List ℕ → Head
 form_from zero n m z s = leaf tree.unit
 form_from (suc zero) n m z s = leaf (tree.bool (n == 1))
 form_from (suc (suc zero)) n m z s = leaf (tree.char n)
 form_from (suc (suc (suc zero))) n m z s = leaf (tree.text s)
-form_from (suc (suc (suc (suc zero)))) n m z s = leaf (tree.unsigned n)
-form_from (suc (suc (suc (suc (suc zero))))) n m z s = leaf (tree.signed z)
-form_from (suc (suc (suc (suc (suc (suc zero)))))) n m z s = leaf (tree.wide s)
-form_from (suc (suc (suc (suc (suc (suc (suc zero))))))) n m z s = leaf (tree.compact n)
-form_from (suc (suc (suc (suc (suc (suc (suc (suc zero)))))))) n m z s = leaf (tree.count n)
-form_from (suc (suc (suc (suc (suc (suc (suc (suc (suc zero))))))))) n m z s = branch tree.fields n
-form_from (suc (suc (suc (suc (suc (suc (suc (suc (suc (suc zero)))))))))) n m z s =
-    branch (tree.arm n) m
-form_from (suc (suc (suc (suc (suc (suc (suc (suc (suc (suc (suc k))))))))))) n m z s =
-    branch tree.list n
+form_from (suc (suc (suc (suc zero)))) n m z s = leaf (tree.bytes s)
+form_from (suc (suc (suc (suc (suc zero))))) n m z s = leaf (tree.unsigned n)
+form_from (suc (suc (suc (suc (suc (suc zero)))))) n m z s = leaf (tree.signed z)
+form_from (suc (suc (suc (suc (suc (suc (suc zero))))))) n m z s = leaf (tree.wide s)
+form_from (suc (suc (suc (suc (suc (suc (suc (suc zero)))))))) n m z s = leaf (tree.compact n)
+form_from (suc (suc (suc (suc (suc (suc (suc (suc (suc zero))))))))) n m z s = leaf (tree.count n)
+form_from (suc (suc (suc (suc (suc (suc (suc (suc (suc (suc zero)))))))))) n m z s = branch tree.fields n
+form_from (suc (suc (suc (suc (suc (suc (suc (suc (suc (suc (suc zero))))))))))) n m z s = branch (tree.arm n) m
+form_from (suc (suc (suc (suc (suc (suc (suc (suc (suc (suc (suc (suc k)))))))))))) n m z s = branch tree.list n
 
 abbrev head_from : Stored → Head
 head_from x = form_from x.0 x.1.0 x.1.1.0 x.1.1.1.0 x.1.1.1.1
@@ -132,6 +132,7 @@ head_from-stored (leaf (tree.bool true)) = refl
 head_from-stored (leaf (tree.bool false)) = refl
 head_from-stored (leaf (tree.char c)) = refl
 head_from-stored (leaf (tree.text s)) = refl
+head_from-stored (leaf (tree.bytes s)) = refl
 head_from-stored (leaf (tree.unsigned n)) = refl
 head_from-stored (leaf (tree.signed z)) = refl
 head_from-stored (leaf (tree.wide s)) = refl

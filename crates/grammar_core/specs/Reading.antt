@@ -2,7 +2,8 @@
 -- bytes from its place on.
 use Rattle.std.specs.Prelude.{ℕ, zero, suc, List, [], ◌∷◌, true, false, Option, Some, None, Ok, Err, if◌then◌else◌}
 use Rattle.scale_core.specs.Number.{number, signed_number, is_scalar}
-use Rattle.scale_core.specs.Read.{Read, ◌>>=◌, compact_at, text_at, bytes_at}
+use Rattle.scale_core.specs.Read.{Read, ◌>>=◌, compact_at, bytes_at}
+use Rattle.grammar_core.specs.Runs.{run_leaf, run_at}
 use Rattle.scale_core.specs.declared.compact.Target.TheVariants as target
 use Rattle.scale_core.specs.declared.fault.Reason.{Reason}
 use Rattle.scale_core.specs.declared.fault.Reason.TheVariants as scale
@@ -13,7 +14,7 @@ use Rattle.widths_core.specs.Arms.{arm_of}
 use Rattle.widths_core.specs.Classes.{is_finite}
 use Rattle.widths_core.specs.Layouts.{Plain, Layout, layout}
 use Rattle.widths_core.specs.Layouts as layout
-use Rattle.grammar_core.specs.Tree.{Leaf, Branch, Tree, leaf, branch, unit, bool, char, text, unsigned, signed, wide, compact, fields, arm, list, count, Trees, none, and}
+use Rattle.grammar_core.specs.Tree.{Leaf, Branch, Tree, leaf, branch, unit, bool, char, unsigned, signed, wide, compact, fields, arm, list, count, Trees, none, and}
 
 pub data Refusal : Type 0 where
   basic : Reason → Refusal
@@ -87,7 +88,7 @@ abbrev pub leaf_at : Plain → Reader Tree
 leaf_at layout.empty bytes = Ok (leaf unit, bytes)
 leaf_at layout.bool bytes = bool_at bytes
 leaf_at layout.char bytes = char_from bytes (bytes_at 4 bytes)
-leaf_at layout.text bytes = as_leaf text (text_at bytes)
+leaf_at (layout.run k) bytes = as_leaf (run_leaf k) (run_at k bytes)
 leaf_at (layout.unsigned k) bytes = as_leaf (λ b. unsigned (number b)) (bytes_at k bytes)
 leaf_at (layout.signed k) bytes = as_leaf (λ b. signed (signed_number b)) (bytes_at k bytes)
 leaf_at layout.wide bytes = as_leaf wide (bytes_at 32 bytes)

@@ -21,10 +21,14 @@ pub enum Form {
     Fields,
     /// The index byte of an arm, and a value of each field of the first arm that has this index, in order.
     Arm,
-    /// This many values of one type, at least one, with no length before them.
+    /// This many values of one type other than u8, at least one, with no length before them.
     Array(u32),
-    /// A compact length, and so many values of one type.
+    /// This many bytes, at least one, with no length before them: an array of u8. It has no parts.
+    ByteArray(u32),
+    /// A compact length, and so many values of one type other than u8.
     Sequence,
+    /// A compact length, and so many bytes: a sequence of u8. It has no parts.
+    Bytes,
     /// A compact length alone: the elements take no bytes.
     Count,
 }
@@ -77,7 +81,9 @@ pub fn next_of_step(step: Step) -> Next
         Step::Parts { .. } => Next::Wants(Form::Fields),
         Step::Arms { .. } => Next::Wants(Form::Arm),
         Step::Array { len, .. } => Next::Wants(Form::Array(len)),
+        Step::ByteArray { len } => Next::Wants(Form::ByteArray(len)),
         Step::Sequence { .. } => Next::Wants(Form::Sequence),
+        Step::Bytes => Next::Wants(Form::Bytes),
         Step::Count => Next::Wants(Form::Count),
         Step::BitSequence => Next::Stop(StopReason::BitSequence),
     }

@@ -7,3 +7,4 @@ mod limits;
 
 pub use form::{Form, Next, StopReason, next_at, next_of_step, shape};
 pub use limits::{Limits, MAX_DEPTH};
+pub use widths_core::RunKind;

@@ -15,10 +15,12 @@ use Rattle.registry_core.specs.declared.definition.TypeDef.{TypeDef}
 use Rattle.registry_core.specs.declared.definition.TypeDef.TheVariants as def
 use Rattle.registry_core.specs.declared.type_info.TypeInfo.{TypeInfo}
 use Rattle.registry_core.specs.Fits.{FitsList, FitsText, FitsTexts, FitsOption, FitsId, FitsParam, FitsField, FitsArm, FitsDefinition, FitsType, FitsRegistry}
-use Rattle.registry_core.specs.Bytes.{primitive_byte}
-use Rattle.registry_core.specs.Spelling.{sequence, text, texts, option, type_id, param, field, arm, definition, type_info, types_from, spelling, metadata}
-use Rattle.registry_core.specs.Reading.{Reader, length_at, repeated, sequence_at, string_at, texts_at, option_at, type_id_at, type_ids_at, param_at, params_at, field_at, fields_at, arm_read_at, arms_read_at, primitive_at, array_at, bit_sequence_at, definition_at, type_info_at, types_at, registry_at, prefix_at, metadata_at}
-use Rattle.registry_core.specs.Laws.{SpelledIsRead}
+use Rattle.registry_core.specs.declared.version.Version.{Version}
+use Rattle.registry_core.specs.declared.version.Version.TheVariants.{V14, V15}
+use Rattle.registry_core.specs.Bytes.{primitive_byte, magic, version_byte}
+use Rattle.registry_core.specs.Spelling.{sequence, text, texts, option, type_id, param, field, arm, definition, type_info, types_from, spelling}
+use Rattle.registry_core.specs.Reading.{Reader, length_at, repeated, sequence_at, string_at, texts_at, option_at, type_id_at, type_ids_at, param_at, params_at, field_at, fields_at, arm_read_at, arms_read_at, primitive_at, array_at, bit_sequence_at, definition_at, type_info_at, types_at, registry_at, version_at, prefix_at, metadata_at}
+use Rattle.registry_core.specs.Laws.{FitsMetadata, SpelledIsRead, metadata_of}
 
 -- what is spelled is read, whatever follows it
 pub record Again {X : Type 0} (P : X → Type 0) (spell : X → List ℕ) (part : Reader X) : Type 0 where
@@ -218,7 +220,7 @@ types_again (t ∷ r) i rest h small =
       types_again r (i + 1) rest h.1 (omega arith),
     ) refl
 
-pub spelled_is_read : SpelledIsRead
+pub spelled_is_read : SpelledIsRead FitsRegistry spelling registry_at
 unfolding registry_at spelling
 spelled_is_read r rest h =
     rw (
@@ -227,7 +229,17 @@ spelled_is_read r rest h =
       types_again r 0 rest h.1 (omega (arith, h.0)),
     ) refl
 
-pub metadata_again : (r : List TypeInfo) (rest : List ℕ) → FitsRegistry r →
-    metadata_at (metadata r ++ rest) ≡ Ok (r, rest)
-unfolding metadata_at prefix_at
-metadata_again r rest h = spelled_is_read r rest h
+version_again : (v : Version) (rest : List ℕ) → version_at (version_byte v ∷ rest) ≡ Ok (v, rest)
+version_again V14 rest = refl
+version_again V15 rest = refl
+
+-- what a front with the letters gives is what the version behind them gives
+prefix_again : (v : Version) (rest : List ℕ) →
+    prefix_at (magic ++ version_byte v ∷ rest) ≡ Ok (v, rest)
+unfolding prefix_at
+prefix_again v rest = version_again v rest
+
+pub metadata_again : SpelledIsRead FitsMetadata metadata_of metadata_at
+unfolding metadata_at
+metadata_again m rest h =
+    rw (prefix_again m.1 (spelling m.0 ++ rest), spelled_is_read m.0 rest h) refl

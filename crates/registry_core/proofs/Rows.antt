@@ -37,7 +37,9 @@ pub metadata_rows : MetadataRows
 unfolding metadata_at prefix_at registry_at type_info_at params_at definition_at texts_at compact_at
     compact
 metadata_rows = record {
-  metadata_is_read = refl;
+  fourteen_is_read = refl;
+  fifteen_is_read = refl;
   other_letter_is_refused = refl;
-  other_version_is_refused = refl;
+  thirteen_is_refused = refl;
+  sixteen_is_refused = refl;
 }

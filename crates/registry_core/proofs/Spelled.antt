@@ -1,5 +1,5 @@
 -- Each part of a registry that is read was spelled so.
-use Rattle.std.proofs.Common.{◌≡◌, ℕ, zero, suc, ◌+◌, ◌<◌, ◌≤◌, ◌^◌, ltb, List, [], ◌∷◌, ◌++◌, length, take, drop, Ok, Err, refl, sym, ap, subst, ◌∙◌, append_assoc, arith}
+use Rattle.std.proofs.Common.{◌≡◌, ℕ, zero, suc, ◌+◌, ◌<◌, ◌≤◌, ◌^◌, ltb, Bool, true, false, cond, List, [], ◌∷◌, ◌++◌, length, take, drop, Option, Some, None, Ok, Err, refl, sym, ap, subst, ◌∙◌, append_assoc, arith}
 use Rattle.std.specs.Prelude.{flat_map, ◌==◌}
 use Rattle.std.specs.List.{AllByRecursion}
 use Rattle.std.proofs.lemmas.Bool.{eqb-true, ltb-false}
@@ -14,14 +14,15 @@ use Rattle.scale_core.proofs.Numbers.{rest_bytes, front_bytes, le_bytes-number, 
 use Rattle.scale_core.proofs.Results.{Takes, cond_takes, then_takes, compact_takes, text_takes, done_is}
 use Rattle.registry_core.specs.declared.definition.TypeDef.{TypeDef}
 use Rattle.registry_core.specs.declared.definition.TypeDef.TheVariants as def
-use Rattle.registry_core.specs.declared.type_info.TypeInfo.{TypeInfo}
 use Rattle.registry_core.specs.declared.fault.RegistryReason.{RegistryReason}
 use Rattle.registry_core.specs.declared.fault.RegistryReason.TheVariants as registry
 use Rattle.registry_core.specs.Fits.{FitsList, FitsText, FitsTexts, FitsOption, FitsId, FitsParam, FitsField, FitsArm, FitsDefinition, FitsType, FitsRegistry}
-use Rattle.registry_core.specs.Bytes.{primitive_byte, magic, version}
-use Rattle.registry_core.specs.Spelling.{sequence, text, texts, option, type_id, param, field, arm, definition, type_info, types_from, spelling, metadata}
-use Rattle.registry_core.specs.Reading.{Reader, lifted, length_at, repeated, sequence_at, string_at, texts_at, option_at, type_id_at, type_ids_at, param_at, params_at, field_at, fields_at, arm_read_at, arms_read_at, byte_at, primitive_at, definition_at, type_info_at, id_at, types_at, registry_at, as_definition, array_at, bit_sequence_at, mark_at, letters_at, prefix_at, metadata_at}
-use Rattle.registry_core.specs.Laws.{ReadIsSpelled}
+use Rattle.registry_core.specs.declared.version.Version.{Version}
+use Rattle.registry_core.specs.declared.version.Version.TheVariants.{V14, V15}
+use Rattle.registry_core.specs.Bytes.{primitive_byte, magic, version_byte, version_of}
+use Rattle.registry_core.specs.Spelling.{sequence, text, texts, option, type_id, param, field, arm, definition, type_info, types_from, spelling}
+use Rattle.registry_core.specs.Reading.{Reader, lifted, length_at, repeated, sequence_at, string_at, texts_at, option_at, type_id_at, type_ids_at, param_at, params_at, field_at, fields_at, arm_read_at, arms_read_at, byte_at, primitive_at, definition_at, type_info_at, id_at, types_at, registry_at, as_definition, array_at, bit_sequence_at, letter_at, letters_at, named, version_at, prefix_at, metadata_at}
+use Rattle.registry_core.specs.Laws.{FitsMetadata, ReadIsSpelled, metadata_of}
 
 bind_in : {X Y : Type 0} (P : X → List ℕ → Type 0) (Q : Y → List ℕ → Type 0) (b : List ℕ)
     (r : Read RegistryReason X) (f : X × List ℕ → Read RegistryReason Y) →
@@ -390,60 +391,77 @@ registry_takes b bytes =
     (types_takes n.0 0 n.1 r1) (λ r c k.
     ((omega (arith, k.1, k1.0), k.0), rw (k1.1, k.2, k.1) refl)))
 
-spelled_of : (spell : List TypeInfo → List ℕ) (b : List ℕ)
-    (read : Read RegistryReason (List TypeInfo)) (r : List TypeInfo) (rest : List ℕ) →
-    Takes (Spelled FitsRegistry spell) b read → read ≡ Ok (r, rest) → FitsRegistry r
-    × (b ≡ spell r ++ rest)
-spelled_of spell b (Err e) r rest h eq = absurd cc
-spelled_of spell b (Ok x) r rest h eq =
-    let same = done_is {E = RegistryReason} x (r, rest) eq in
-    subst (λ (p : List TypeInfo × List ℕ). FitsRegistry p.0 × (b ≡ spell p.0 ++ p.1)) same
-    (h.2.0, rw (← h.2.1) h.1)
+spelled_of : {X : Type 0} (P : X → Type 0) (spell : X → List ℕ) (b : List ℕ)
+    (read : Read RegistryReason X) (x : X) (rest : List ℕ) →
+    Takes (Spelled P spell) b read → read ≡ Ok (x, rest) → P x × (b ≡ spell x ++ rest)
+spelled_of P spell b (Err e) x rest h eq = absurd cc
+spelled_of {X = X} P spell b (Ok y) x rest h eq =
+    let same = done_is {E = RegistryReason} y (x, rest) eq in
+    subst (λ (p : X × List ℕ). P p.0 × (b ≡ spell p.0 ++ p.1)) same (h.2.0, rw (← h.2.1) h.1)
 
-pub read_is_spelled : ReadIsSpelled
+pub read_is_spelled : ReadIsSpelled FitsRegistry spelling registry_at
 read_is_spelled b r rest bytes e =
-    spelled_of spelling b (registry_at b) r rest (registry_takes b bytes) e
+    spelled_of FitsRegistry spelling b (registry_at b) r rest (registry_takes b bytes) e
 
 -- ---- metadata
 
-mark_takes : (reason : RegistryReason) (mark : ℕ) (b : List ℕ) →
-    Takes (λ read c. c ≡ mark ∷ []) b (mark_at reason mark b)
-mark_takes reason mark [] = tt
-mark_takes reason mark (x ∷ b) =
-    cond_takes (λ read c. c ≡ mark ∷ []) (x ∷ b) (x == mark) (Ok (tt, b)) (Err (reason, x ∷ b))
-    (λ e. (x ∷ [], refl, rw (eqb-true x mark e) refl)) (λ e. tt)
+letter_takes : (letter : ℕ) (b : List ℕ) →
+    Takes (λ read c. c ≡ letter ∷ []) b (letter_at letter b)
+letter_takes letter [] = tt
+letter_takes letter (x ∷ b) =
+    cond_takes (λ read c. c ≡ letter ∷ []) (x ∷ b) (x == letter) (Ok (tt, b))
+    (Err (registry.NotMetadata, x ∷ b)) (λ e. (x ∷ [], refl, rw (eqb-true x letter e) refl)) (λ e. tt)
 
 letters_take : (letters b : List ℕ) → AreBytes b →
     Takes (λ read c. c ≡ letters) b (letters_at letters b)
 letters_take [] b bytes = ([], refl, refl)
 letters_take (letter ∷ letters) b bytes =
-    bind_in (λ read c. c ≡ letter ∷ []) (λ read c. c ≡ letter ∷ letters) b
-    (mark_at registry.NotMetadata letter b) (λ first. letters_at letters first.1) bytes
-    (mark_takes registry.NotMetadata letter b) (λ first c rest k.
+    bind_in (λ read c. c ≡ letter ∷ []) (λ read c. c ≡ letter ∷ letters) b (letter_at letter b)
+    (λ first. letters_at letters first.1) bytes (letter_takes letter b) (λ first c rest k.
     mapped (λ read d. d ≡ letters) (λ read d. c ++ d ≡ letter ∷ letters) first.1
     (letters_at letters first.1) (letters_take letters first.1 rest)
     (λ read d m. rw (k, m) refl))
 
-prefix_takes : (b : List ℕ) → AreBytes b →
-    Takes (λ read c. c ≡ magic ++ version ∷ []) b (prefix_at b)
-unfolding prefix_at
-prefix_takes b bytes = bind_in (λ read c. c ≡ magic) (λ read c. c ≡ magic ++ version ∷ []) b
-    (letters_at magic b) (λ letters. mark_at registry.WrongVersion version letters.1) bytes
-    (letters_take magic b bytes) (λ letters c rest k.
-    mapped (λ read d. d ≡ version ∷ []) (λ read d. c ++ d ≡ magic ++ version ∷ []) letters.1
-    (mark_at registry.WrongVersion version letters.1)
-    (mark_takes registry.WrongVersion version letters.1) (λ read d m. rw (k, m) refl))
+-- a byte that tells a version is that version's
+told_by : (fourteen fifteen : Bool) (x : ℕ) (v : Version) → (fourteen ≡ true → x ≡ 14) →
+    (fifteen ≡ true → x ≡ 15) → cond fourteen (Some V14) (cond fifteen (Some V15) None) ≡ Some v →
+    x ≡ version_byte v
+told_by true fifteen x v first second e =
+    let same : V14 ≡ v = cc in first refl ∙ ap version_byte same
+told_by false true x v first second e =
+    let same : V15 ≡ v = cc in second refl ∙ ap version_byte same
+told_by false false x v first second e = absurd cc
 
-metadata_takes : (b : List ℕ) → AreBytes b → Takes (Spelled FitsRegistry metadata) b (metadata_at b)
+named_takes : (b : List ℕ) (x : ℕ) (o : Option Version) →
+    ((v : Version) → o ≡ Some v → x ≡ version_byte v) →
+    Takes (λ v c. c ≡ version_byte v ∷ []) (x ∷ b) (named registry.WrongVersion (x ∷ b) o b)
+named_takes b x (Some v) h = (x ∷ [], refl, ap (λ (n : ℕ). n ∷ []) (h v refl))
+named_takes b x None h = tt
+
+version_takes : (b : List ℕ) → Takes (λ v c. c ≡ version_byte v ∷ []) b (version_at b)
+version_takes [] = tt
+version_takes (x ∷ b) = named_takes b x (version_of x)
+    (λ v. told_by (x == 14) (x == 15) x v (eqb-true x 14) (eqb-true x 15))
+
+prefix_takes : (b : List ℕ) → AreBytes b →
+    Takes (λ v c. c ≡ magic ++ version_byte v ∷ []) b (prefix_at b)
+unfolding prefix_at
+prefix_takes b bytes =
+    bind_in (λ read c. c ≡ magic) (λ v c. c ≡ magic ++ version_byte v ∷ []) b (letters_at magic b)
+    (λ letters. version_at letters.1) bytes (letters_take magic b bytes) (λ letters c rest k.
+    mapped (λ v d. d ≡ version_byte v ∷ []) (λ v d. c ++ d ≡ magic ++ version_byte v ∷ []) letters.1
+    (version_at letters.1) (version_takes letters.1) (λ v d m. rw (k, m) refl))
+
+metadata_takes : (b : List ℕ) → AreBytes b →
+    Takes (Spelled FitsMetadata metadata_of) b (metadata_at b)
 unfolding metadata_at
 metadata_takes b bytes =
-    bind_in (λ read c. c ≡ magic ++ version ∷ []) (Spelled FitsRegistry metadata) b (prefix_at b)
-    (λ prefix. registry_at prefix.1) bytes (prefix_takes b bytes) (λ prefix c rest k.
-    mapped (Spelled FitsRegistry spelling) (λ r d. Spelled FitsRegistry metadata r (c ++ d))
-    prefix.1 (registry_at prefix.1) (registry_takes prefix.1 rest)
-    (λ r d m. (m.0, rw (k, m.1) refl)))
+    bind_in (λ v c. c ≡ magic ++ version_byte v ∷ []) (Spelled FitsMetadata metadata_of) b
+    (prefix_at b) _ bytes (prefix_takes b bytes) (λ version c rest k.
+    bind_in (Spelled FitsRegistry spelling) (λ m d. Spelled FitsMetadata metadata_of m (c ++ d))
+    version.1 (registry_at version.1) _ rest (registry_takes version.1 rest) (λ types d more m.
+    ([], refl, (m.0, rw (append-nil, k, m.1) refl))))
 
-pub metadata_is_spelled : (b : List ℕ) (r : List TypeInfo) (rest : List ℕ) → AreBytes b →
-    metadata_at b ≡ Ok (r, rest) → FitsRegistry r × (b ≡ metadata r ++ rest)
-metadata_is_spelled b r rest bytes e =
-    spelled_of metadata b (metadata_at b) r rest (metadata_takes b bytes) e
+pub metadata_is_spelled : ReadIsSpelled FitsMetadata metadata_of metadata_at
+metadata_is_spelled b m rest bytes e =
+    spelled_of FitsMetadata metadata_of b (metadata_at b) m rest (metadata_takes b bytes) e

@@ -12,9 +12,9 @@ use Rattle.registry_core.specs.declared.definition.TypeDef.{TypeDef}
 use Rattle.registry_core.specs.declared.definition.TypeDef.TheVariants as def
 use Rattle.registry_core.specs.declared.fault.RegistryReason.{RegistryReason}
 use Rattle.registry_core.specs.declared.fault.RegistryReason.TheVariants as registry
-use Rattle.registry_core.specs.Bytes.{primitives, magic, version}
+use Rattle.registry_core.specs.Bytes.{primitives, magic, version_of}
 use Rattle.registry_core.specs.Laws.{IsBehind}
-use Rattle.registry_core.specs.Reading.{Reader, reason_of, lifted, length_at, repeated, sequence_at, string_at, texts_at, option_at, type_id_at, type_ids_at, byte_at, param_at, params_at, field_at, fields_at, arm_read_at, arms_read_at, named, primitive_at, as_definition, array_at, bit_sequence_at, definition_at, type_info_at, id_at, types_at, registry_at, mark_at, letters_at, prefix_at, metadata_at}
+use Rattle.registry_core.specs.Reading.{Reader, reason_of, lifted, length_at, repeated, sequence_at, string_at, texts_at, option_at, type_id_at, type_ids_at, byte_at, param_at, params_at, field_at, fields_at, arm_read_at, arms_read_at, named, primitive_at, as_definition, array_at, bit_sequence_at, definition_at, type_info_at, id_at, types_at, registry_at, letter_at, letters_at, version_at, prefix_at, metadata_at}
 use Rattle.registry_core.proofs.Inside.{at_end, at_front, Inside, after_byte, inside_then, inside_cond, CutAtEnd, number_inside, compact_inside, text_inside}
 
 -- ---- parts
@@ -401,41 +401,55 @@ registry_steady = let s =
 
 -- ---- the prefix of metadata
 
-mark_inside : (reason : RegistryReason) (mark : ℕ) → reason ≢ registry.OutOfMemory →
-    reason ≢ registry.Truncated → (b : List ℕ) → Inside IsTold b (mark_at reason mark b)
-mark_inside reason mark no_memory no_cut [] = (at_end [], (λ e. absurd cc, λ e. refl))
-mark_inside reason mark no_memory no_cut (x ∷ b) =
-    inside_cond IsTold (x ∷ b) (x == mark) (Ok (tt, b)) (Err (reason, x ∷ b)) (x ∷ [], refl)
-    (at_front (x ∷ b), (no_memory, λ e. absurd (no_cut e)))
+letter_inside : (letter : ℕ) (b : List ℕ) → Inside IsTold b (letter_at letter b)
+letter_inside letter [] = (at_end [], (λ e. absurd cc, λ e. refl))
+letter_inside letter (x ∷ b) =
+    inside_cond IsTold (x ∷ b) (x == letter) (Ok (tt, b)) (Err (registry.NotMetadata, x ∷ b))
+    (x ∷ [], refl) (at_front (x ∷ b), (λ e. absurd cc, λ e. absurd cc))
 
-mark_extends : (reason : RegistryReason) (mark : ℕ) (b more : List ℕ) →
-    Extends registry.Truncated more (mark_at reason mark b) (mark_at reason mark (b ++ more))
-mark_extends reason mark [] more = λ ne. absurd (ne refl)
-mark_extends reason mark (x ∷ b) more =
-    cond_extends registry.Truncated more (x == mark) (Ok (tt, b)) (Err (reason, x ∷ b))
-    (Ok (tt, b ++ more)) (Err (reason, x ∷ b ++ more)) refl (λ ne. refl)
+letter_extends : (letter : ℕ) (b more : List ℕ) →
+    Extends registry.Truncated more (letter_at letter b) (letter_at letter (b ++ more))
+letter_extends letter [] more = λ ne. absurd (ne refl)
+letter_extends letter (x ∷ b) more =
+    cond_extends registry.Truncated more (x == letter) (Ok (tt, b))
+    (Err (registry.NotMetadata, x ∷ b)) (Ok (tt, b ++ more))
+    (Err (registry.NotMetadata, x ∷ b ++ more)) refl (λ ne. refl)
 
-mark_steady : (reason : RegistryReason) (mark : ℕ) → reason ≢ registry.OutOfMemory →
-    reason ≢ registry.Truncated → IsSteady (mark_at reason mark)
-mark_steady reason mark no_memory no_cut =
-    record { inside = mark_inside reason mark no_memory no_cut; extends = mark_extends reason mark }
+letter_steady : (letter : ℕ) → IsSteady (letter_at letter)
+letter_steady letter = record { inside = letter_inside letter; extends = letter_extends letter }
 
 letters_steady : (letters : List ℕ) → IsSteady (letters_at letters)
 letters_steady [] = done_steady tt
 letters_steady (letter ∷ letters) =
-    then_steady (mark_at registry.NotMetadata letter) (λ first bytes. letters_at letters bytes)
-    (mark_steady registry.NotMetadata letter (λ e. absurd cc) (λ e. absurd cc))
+    then_steady (letter_at letter) (λ first bytes. letters_at letters bytes) (letter_steady letter)
     (λ first. letters_steady letters)
+
+version_inside : (b : List ℕ) → Inside IsTold b (version_at b)
+version_inside [] = (at_end [], (λ e. absurd cc, λ e. refl))
+version_inside (x ∷ b) =
+    named_inside registry.WrongVersion (x ∷ b) (version_of x) b (λ e. absurd cc) (λ e. absurd cc)
+    (x ∷ [], refl)
+
+version_extends : (b more : List ℕ) →
+    Extends registry.Truncated more (version_at b) (version_at (b ++ more))
+version_extends [] more = λ ne. absurd (ne refl)
+version_extends (x ∷ b) more =
+    named_extends registry.WrongVersion (x ∷ b) (version_of x) b more
+
+version_steady : IsSteady version_at
+version_steady = record { inside = version_inside; extends = version_extends }
 
 prefix_steady : IsSteady prefix_at
 unfolding prefix_at
-prefix_steady = let s = then_steady (letters_at magic)
-    (λ letters bytes. mark_at registry.WrongVersion version bytes) (letters_steady magic)
-    (λ letters. mark_steady registry.WrongVersion version (λ e. absurd cc) (λ e. absurd cc)) in
-    record { inside = s.inside; extends = s.extends }
+prefix_steady = let s =
+    then_steady (letters_at magic) (λ letters bytes. version_at bytes) (letters_steady magic)
+    (λ letters. version_steady) in record { inside = s.inside; extends = s.extends }
 
 pub metadata_steady : IsSteady metadata_at
 unfolding metadata_at
 metadata_steady = let s =
-    then_steady prefix_at (λ prefix bytes. registry_at bytes) prefix_steady
-    (λ prefix. registry_steady) in record { inside = s.inside; extends = s.extends }
+    then_steady prefix_at
+    (λ version bytes. registry_at bytes >>= λ types. Ok ((types.0, version), types.1)) prefix_steady
+    (λ version.
+    then_steady registry_at (λ types bytes. Ok ((types, version), bytes)) registry_steady
+    (λ types. done_steady (types, version))) in record { inside = s.inside; extends = s.extends }

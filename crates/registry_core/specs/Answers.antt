@@ -5,21 +5,31 @@ use Rattle.registry_core.specs.declared.fault.RegistryFault.{RegistryFault}
 use Rattle.registry_core.specs.declared.fault.RegistryReason.{RegistryReason}
 use Rattle.registry_core.specs.declared.fault.RegistryReason.TheVariants.{OutOfMemory}
 use Rattle.registry_core.specs.declared.type_info.TypeInfo.{TypeInfo}
+use Rattle.registry_core.specs.declared.version.Version.{Version}
 
 -- the answer where memory was refused
 abbrev pub out_of_memory : RegistryFault
 out_of_memory = record { reason = OutOfMemory; at = 0 }
 
--- the registry and how many bytes it took, or the first fault and its place, unless memory was
--- refused
-abbrev pub RegistryAnswers : List ℕ → Result (List TypeInfo × ℕ) RegistryFault →
-    Read RegistryReason (List TypeInfo) → Type 0
-RegistryAnswers input (Ok x) read = (x.1 ≤ length input) × (read ≡ Ok (x.0, drop x.1 input))
-RegistryAnswers input (Err f) read = (f ≡ out_of_memory)
+-- the fault is the first one that reading meets, at its place, unless memory was refused
+abbrev pub FaultAnswers : {X : Type 0} → List ℕ → RegistryFault → Read RegistryReason X → Type 0
+FaultAnswers input f read = (f ≡ out_of_memory)
     ⊎ ((left : List ℕ) × (read ≡ Err (f.reason, left)) × (f.at ≡ place input left)
     × (f.reason ≢ OutOfMemory))
 
+-- the registry and how many bytes it took, or the fault
+abbrev pub RegistryAnswers : List ℕ → Result (List TypeInfo × ℕ) RegistryFault →
+    Read RegistryReason (List TypeInfo) → Type 0
+RegistryAnswers input (Ok x) read = (x.1 ≤ length input) × (read ≡ Ok (x.0, drop x.1 input))
+RegistryAnswers input (Err f) read = FaultAnswers input f read
+
+-- the registry, how many bytes it and the prefix took, and the version, or the fault
+abbrev pub MetadataAnswers : List ℕ → Result (List TypeInfo × ℕ × Version) RegistryFault →
+    Read RegistryReason (List TypeInfo × Version) → Type 0
+MetadataAnswers input (Ok x) read = (x.1 ≤ length input) × (read ≡ Ok ((x.0, x.2), drop x.1 input))
+MetadataAnswers input (Err f) read = FaultAnswers input f read
+
 -- this answer, unless memory was refused
-abbrev pub IsUnlessMemory : List TypeInfo × ℕ → Result (List TypeInfo × ℕ) RegistryFault → Type 0
+abbrev pub IsUnlessMemory : {X : Type 0} → X → Result X RegistryFault → Type 0
 IsUnlessMemory x (Ok y) = y ≡ x
 IsUnlessMemory x (Err f) = f ≡ out_of_memory

@@ -1,7 +1,9 @@
 -- The bytes that stand for themselves: those of the primitives, and the prefix of metadata.
-use Rattle.std.specs.Prelude.{ℕ, List, [], ◌∷◌}
+use Rattle.std.specs.Prelude.{ℕ, List, [], ◌∷◌, Option, Some, None, ◌==◌, if◌then◌else◌}
 use Rattle.registry_core.specs.declared.primitive.Primitive.{Primitive}
 use Rattle.registry_core.specs.declared.primitive.Primitive.TheVariants.{Bool, Char, Str, U8, U16, U32, U64, U128, U256, I8, I16, I32, I64, I128, I256}
+use Rattle.registry_core.specs.declared.version.Version.{Version}
+use Rattle.registry_core.specs.declared.version.Version.TheVariants.{V14, V15}
 
 -- the primitives in the order of their bytes, from 0
 abbrev pub primitives : List Primitive
@@ -30,6 +32,11 @@ primitive_byte I256 = 14
 abbrev pub magic : List ℕ
 magic = 0x6d ∷ 0x65 ∷ 0x74 ∷ 0x61 ∷ []
 
--- the version of the metadata that is read
-abbrev pub version : ℕ
-version = 14
+-- the byte of a version of metadata, which is the version's number
+abbrev pub version_byte : Version → ℕ
+version_byte V14 = 14
+version_byte V15 = 15
+
+-- the version of a byte, where it is one that is read
+abbrev pub version_of : ℕ → Option Version
+version_of b = if b == 14 then Some V14 else if b == 15 then Some V15 else None

@@ -14,7 +14,8 @@ use Rattle.registry_core.specs.declared.type_id.TypeId.{TypeId}
 use Rattle.registry_core.specs.declared.primitive.Primitive.{Primitive}
 use Rattle.registry_core.specs.declared.fault.RegistryReason.{RegistryReason}
 use Rattle.registry_core.specs.declared.fault.RegistryReason.TheVariants as registry
-use Rattle.registry_core.specs.Bytes.{primitives, magic, version}
+use Rattle.registry_core.specs.declared.version.Version.{Version}
+use Rattle.registry_core.specs.Bytes.{primitives, magic, version_of}
 
 -- why a length, an id or a text is refused, as a reason of the registry; none is refused for the
 -- last two, as the clauses
@@ -199,26 +200,34 @@ registry_at bytes = do
 
 -- ---- the prefix of metadata
 
--- this byte, or the refusal of another
-abbrev pub mark_at : RegistryReason → ℕ → Reader (Unit {0})
-mark_at reason mark bytes = do
+-- this letter, or the refusal of another
+abbrev pub letter_at : ℕ → Reader (Unit {0})
+letter_at letter bytes = do
   b ← byte_at bytes
-  if b.0 == mark then Ok (tt, b.1) else Err (reason, bytes)
+  if b.0 == letter then Ok (tt, b.1) else Err (registry.NotMetadata, bytes)
 
 -- these letters, one by one
 abbrev pub letters_at : List ℕ → Reader (Unit {0})
 letters_at [] bytes = Ok (tt, bytes)
 letters_at (letter ∷ letters) bytes = do
-  first ← mark_at registry.NotMetadata letter bytes
+  first ← letter_at letter bytes
   letters_at letters first.1
 
-unfoldable pub prefix_at : Reader (Unit {0})
+-- the version that a byte tells
+abbrev pub version_at : Reader Version
+version_at bytes = do
+  b ← byte_at bytes
+  named registry.WrongVersion bytes (version_of b.0) b.1
+
+-- the letters, and the version behind them
+unfoldable pub prefix_at : Reader Version
 prefix_at bytes = do
   letters ← letters_at magic bytes
-  mark_at registry.WrongVersion version letters.1
+  version_at letters.1
 
--- the prefix of metadata and the registry behind it
-unfoldable pub metadata_at : Reader (List TypeInfo)
+-- the prefix of metadata and the registry behind it: its types, and the version
+unfoldable pub metadata_at : Reader (List TypeInfo × Version)
 metadata_at bytes = do
-  prefix ← prefix_at bytes
-  registry_at prefix.1
+  version ← prefix_at bytes
+  types ← registry_at version.1
+  Ok ((types.0, version.0), types.1)

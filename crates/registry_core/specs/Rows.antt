@@ -7,6 +7,7 @@ use Rattle.registry_core.specs.declared.primitive.Primitive.TheVariants.{U8}
 use Rattle.registry_core.specs.declared.type_info.TypeInfo.{TypeInfo}
 use Rattle.registry_core.specs.declared.fault.RegistryReason.{RegistryReason}
 use Rattle.registry_core.specs.declared.fault.RegistryReason.TheVariants.{BadUtf8, CompactTooLarge, IdOutOfPlace, NotMetadata, Truncated, WrongVersion}
+use Rattle.registry_core.specs.declared.version.Version.TheVariants.{V14, V15}
 use Rattle.registry_core.specs.Reading.{registry_at, metadata_at}
 use Rattle.registry_core.specs.Spelling.{spelling}
 
@@ -61,9 +62,14 @@ pub record FaultRows : Type 0 where
 
 -- behind the prefix of metadata: what follows is left, and another letter or version is refused
 pub record MetadataRows : Type 0 where
-  pub metadata_is_read : metadata_at
+  pub fourteen_is_read : metadata_at
       (0x6d ∷ 0x65 ∷ 0x74 ∷ 0x61 ∷ 0x0e ∷ 0x04 ∷ 0x00 ∷ 0x00 ∷ 0x00 ∷ 0x05 ∷ 0x03 ∷ 0x00 ∷ 0xff ∷
-      []) ≡ Ok (bare (def.Primitive U8) ∷ [], 0xff ∷ [])
+      []) ≡ Ok ((bare (def.Primitive U8) ∷ [], V14), 0xff ∷ [])
+  pub fifteen_is_read : metadata_at
+      (0x6d ∷ 0x65 ∷ 0x74 ∷ 0x61 ∷ 0x0f ∷ 0x04 ∷ 0x00 ∷ 0x00 ∷ 0x00 ∷ 0x05 ∷ 0x03 ∷ 0x00 ∷ 0xff ∷
+      []) ≡ Ok ((bare (def.Primitive U8) ∷ [], V15), 0xff ∷ [])
   pub other_letter_is_refused : metadata_at (0x6d ∷ 0x66 ∷ []) ≡ Err (NotMetadata, 0x66 ∷ [])
-  pub other_version_is_refused : metadata_at (0x6d ∷ 0x65 ∷ 0x74 ∷ 0x61 ∷ 0x0d ∷ [])
+  pub thirteen_is_refused : metadata_at (0x6d ∷ 0x65 ∷ 0x74 ∷ 0x61 ∷ 0x0d ∷ [])
       ≡ Err (WrongVersion, 0x0d ∷ [])
+  pub sixteen_is_refused : metadata_at (0x6d ∷ 0x65 ∷ 0x74 ∷ 0x61 ∷ 0x10 ∷ [])
+      ≡ Err (WrongVersion, 0x10 ∷ [])

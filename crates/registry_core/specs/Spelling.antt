@@ -9,7 +9,8 @@ use Rattle.registry_core.specs.declared.definition.TypeDef.TheVariants as def
 use Rattle.registry_core.specs.declared.type_info.Param.{Param}
 use Rattle.registry_core.specs.declared.type_info.TypeInfo.{TypeInfo}
 use Rattle.registry_core.specs.declared.type_id.TypeId.{TypeId}
-use Rattle.registry_core.specs.Bytes.{primitive_byte, magic, version}
+use Rattle.registry_core.specs.declared.version.Version.{Version}
+use Rattle.registry_core.specs.Bytes.{primitive_byte, magic, version_byte}
 
 -- a sequence: its length, and its elements
 abbrev pub sequence : {X : Type 0} → (X → List ℕ) → List X → List ℕ
@@ -61,6 +62,6 @@ types_from i (t ∷ ts) = compact i ++ type_info t ++ types_from (i + 1) ts
 unfoldable pub spelling : List TypeInfo → List ℕ
 spelling r = compact (length r) ++ types_from 0 r
 
--- a registry behind the prefix of metadata
-abbrev pub metadata : List TypeInfo → List ℕ
-metadata r = magic ++ version ∷ spelling r
+-- a registry behind the prefix of metadata of a version
+abbrev pub metadata : Version → List TypeInfo → List ℕ
+metadata version r = magic ++ version_byte version ∷ spelling r

@@ -34,7 +34,7 @@ pub enum RegistryReason {
     /// One of the first four bytes of metadata is not that of `meta`.
     #[error("NotMetadata")]
     NotMetadata,
-    /// Metadata of a version other than 14.
+    /// Metadata of a version other than 14 and 15.
     #[error("WrongVersion")]
     WrongVersion,
     /// Memory was refused.

@@ -13,6 +13,7 @@ mod registry;
 mod text;
 mod type_id;
 mod type_info;
+mod version;
 mod writing;
 
 pub use definition::{Arm, Field, TypeDef};
@@ -25,4 +26,5 @@ pub use registry::Registry;
 pub use text::Text;
 pub use type_id::TypeId;
 pub use type_info::{Param, TypeInfo};
+pub use version::Version;
 pub use writing::write_registry;

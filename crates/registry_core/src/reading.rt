@@ -1,12 +1,13 @@
 //! Registries, read from left to right in one pass.
 
 ghost use Rattle.std.specs.Prelude.{◌≡◌, ◌++◌, ℕ, List, length, take, IfOk};
-ghost use Rattle.registry_core.specs.Answers.{RegistryAnswers, IsUnlessMemory};
+ghost use Rattle.registry_core.specs.Answers.{RegistryAnswers, MetadataAnswers, IsUnlessMemory};
 ghost use Rattle.registry_core.specs.Fits.{FitsRegistry};
 ghost use Rattle.registry_core.specs.Gives.{Gives};
 ghost use Rattle.registry_core.specs.Reading.{registry_at, metadata_at};
 ghost use Rattle.registry_core.specs.Spelling.{spelling, metadata};
 ghost use Rattle.registry_core.specs.declared.type_info.TypeInfo.{TypeInfo};
+ghost use Rattle.registry_core.specs.declared.version.Version.{Version as AVersion};
 
 mod atoms;
 mod definitions;
@@ -17,8 +18,9 @@ mod types;
 
 use crate::fault::RegistryFault;
 use crate::registry::Registry;
+use crate::version::Version;
 use atoms::length_of;
-use prefix::behind_prefix;
+use prefix::prefix_of;
 use std::alloc::Global;
 use stop::Stop;
 use types::types_of;
@@ -33,12 +35,14 @@ fn registry_of(alloc: Global, bytes: &[u8]) -> Result<(Registry, &[u8]), Stop<'_
     Ok((Registry::from_types(types), rest))
 }
 
-/// A registry behind the prefix of metadata.
+/// A registry behind the prefix of metadata, and the version that the prefix tells.
 #[tactic(auto, unfolding(crate::specs::Reading::metadata_at))]
-fn metadata_of(alloc: Global, bytes: &[u8]) -> Result<(Registry, &[u8]), Stop<'_>>
-    ensures { Gives (λ x. (x.0, x.1.now)) result (metadata_at bytes.now) }
+fn metadata_of(alloc: Global, bytes: &[u8]) -> Result<(Registry, Version, &[u8]), Stop<'_>>
+    ensures { Gives (λ x. ((x.0, x.1), x.2.now)) result (metadata_at bytes.now) }
 {
-    registry_of(alloc, behind_prefix(bytes)?)
+    let (version, rest) = prefix_of(bytes)?;
+    let (registry, rest) = registry_of(alloc, rest)?;
+    Ok((registry, version, rest))
 }
 
 /// Reads a registry off the front of the bytes, and answers it with how many bytes it took
@@ -75,29 +79,33 @@ pub fn read_registry(alloc: Global, bytes: &[u8]) -> Result<(Registry, usize), R
     }
 }
 
-/// Reads the registry of metadata version 14, which begins `6d 65 74 61 0e` (Substrate, `RuntimeMetadataPrefixed`),
-/// and answers it with how many bytes it and the prefix took. What follows is not looked at.
+/// Reads the registry of metadata (Substrate, `RuntimeMetadataPrefixed`), and answers it with how many bytes it and the
+/// prefix took, and with the version. Version 14 begins `6d 65 74 61 0e` and version 15 `6d 65 74 61 0f`; in both the
+/// registry follows at once. What follows it is not looked at.
 ///
 /// Refuses, in this order:
 /// - `NotMetadata`, at the first of the first four bytes that is there and differs;
 /// - `Truncated`, at the input's length, where fewer than five bytes are there;
-/// - `WrongVersion`, at 4, where the fifth byte is not `0e`;
+/// - `WrongVersion`, at 4, where the fifth byte is neither `0e` nor `0f`;
 /// - what `read_registry` refuses behind the prefix, with places counted from the front of the input.
 ///
 /// Where memory is refused the answer is `OutOfMemory` at 0. After a refusal nothing is kept.
-pub fn read_metadata(alloc: Global, bytes: &[u8]) -> Result<(Registry, usize), RegistryFault>
-    // Which registry or fault it is.
-    ensures exact { RegistryAnswers bytes.now result (metadata_at bytes.now) }
+pub fn read_metadata(
+    alloc: Global,
+    bytes: &[u8],
+) -> Result<(Registry, usize, Version), RegistryFault>
+    // Which registry and version, or which fault it is.
+    ensures exact { MetadataAnswers bytes.now result (metadata_at bytes.now) }
     // What is read is spelled by the bytes that it took.
-    ensures found { IfOk result (λ x. FitsRegistry x.0 × (take x.1 bytes.now ≡ metadata x.0)) }
+    ensures found { IfOk result (λ x. FitsRegistry x.0 × (take x.1 bytes.now ≡ metadata x.2 x.0)) }
     // What is spelled is read, whatever follows it.
-    ensures only { (types : List TypeInfo) (rest : List ℕ)
+    ensures only { (types : List TypeInfo) (version : AVersion) (rest : List ℕ)
         → FitsRegistry types
-        → bytes.now ≡ metadata types ++ rest
-        → IsUnlessMemory (types, length (metadata types)) result }
+        → bytes.now ≡ metadata version types ++ rest
+        → IsUnlessMemory (types, length (metadata version types), version) result }
 {
     match metadata_of(alloc, bytes) {
-        Ok((registry, rest)) => Ok((registry, bytes.len() - rest.len())),
+        Ok((registry, version, rest)) => Ok((registry, bytes.len() - rest.len(), version)),
         Err(stop) => Err(stop.into_fault(bytes)),
     }
 }

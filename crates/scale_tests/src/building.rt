@@ -7,7 +7,7 @@ use std::test::Fail;
 use value_core::{BuildFault, Builder, Next, Value, encode};
 use widths_core::Checked;
 
-/// A call that adds a node, or a part of a text.
+/// A call that adds a node, or a part of a text or of a run of bytes.
 #[derive(Clone, Copy, Debug)]
 pub enum Call {
     Empty,
@@ -17,6 +17,10 @@ pub enum Call {
     TextStart(u32),
     TextPiece(&'static [u8]),
     TextEnd,
+    Bytes(&'static [u8]),
+    BytesStart(u32),
+    BytesPiece(&'static [u8]),
+    BytesEnd,
     Unsigned(u128),
     Signed(i128),
     Wide([u8; 32]),
@@ -47,6 +51,20 @@ pub const BYTES: &[u8] = b"\x08\x00\x00\x00\x05\x03\x00\x04\x00\x00\x02\x00\x00"
 
 pub const LONG_ARRAY: &[u8] =
     b"\x08\x00\x00\x00\x05\x03\x00\x04\x00\x00\x03\xff\xff\xff\xff\x00\x00";
+
+/// A sequence of u16.
+pub const WORDS: &[u8] = b"\x08\x00\x00\x00\x05\x04\x00\x04\x00\x00\x02\x00\x00";
+
+/// An array of 4294967295 u16.
+pub const LONG_ARRAY_OF_WORDS: &[u8] =
+    b"\x08\x00\x00\x00\x05\x04\x00\x04\x00\x00\x03\xff\xff\xff\xff\x00\x00";
+
+/// A sequence of composites of one u8.
+pub const WRAPPED_BYTES: &[u8] =
+    b"\x0c\x00\x00\x00\x05\x03\x00\x04\x00\x00\x00\x04\x00\x00\x00\x00\x00\x08\x00\x00\x02\x04\x00";
+
+/// An array of no u8.
+pub const NO_BYTES: &[u8] = b"\x08\x00\x00\x00\x05\x03\x00\x04\x00\x00\x03\x00\x00\x00\x00\x00\x00";
 
 pub const TWO_UNITS_AND_A_BYTE: &[u8] =
     b"\x0c\x00\x00\x00\x05\x03\x00\x04\x00\x00\x04\x00\x00\x08\x00\x00\x04\x0c\x04\x04\x00\x00";
@@ -90,6 +108,10 @@ pub fn add<A: Allocator>(builder: &mut Builder<'_, A>, call: Call) -> Result<(),
         Call::TextStart(len) => builder.text_start(len),
         Call::TextPiece(piece) => builder.text_piece(piece),
         Call::TextEnd => builder.text_end(),
+        Call::Bytes(bytes) => builder.bytes(bytes),
+        Call::BytesStart(len) => builder.bytes_start(len),
+        Call::BytesPiece(piece) => builder.bytes_piece(piece),
+        Call::BytesEnd => builder.bytes_end(),
         Call::Unsigned(value) => builder.unsigned(value),
         Call::Signed(value) => builder.signed(value),
         Call::Wide(value) => builder.wide(value),

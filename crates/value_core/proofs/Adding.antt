@@ -16,9 +16,10 @@ use Rattle.value_core.specs.Shown.{head_shown, cell_shown, cells_shown, size_sho
 use Rattle.value_core.specs.Spine.{OpenNode, open_part, open_cell, open_cells, IsOpen, Spine}
 use Rattle.value_core.specs.Walked.{OpenPart, Walked, first_in, advanced, opened, next_of}
 use Rattle.value_core.specs.Built.{Entry, entries_shown, head_text_bytes, entries_text_bytes, IsLeaf, IsNextLeaf, IsNextOpen}
-use Rattle.value_core.specs.Building.{IsBuilding, IsOpenAt, IsOpenText, pieces_shown}
+use Rattle.value_core.specs.Building.{IsBuilding, IsOpenAt, IsOpenRun, pieces_shown}
 use Rattle.value_core.specs.Refusals.{missing_at}
-use Rattle.value_core.specs.declared.open_text.OpenText.{OpenText}
+use Rattle.value_core.specs.declared.open_run.OpenRun.{OpenRun}
+use Rattle.widths_core.specs.declared.run_kind.RunKind.{RunKind}
 use Rattle.std.specs.Prelude.{IfOk, option_map, Result, Ok}
 use Rattle.std.proofs.lemmas.List.{length-drop, take_all}
 use Rattle.value_core.specs.declared.node.Node.{Node}
@@ -57,6 +58,9 @@ head_more pool more n (content.Count k) h = refl
 head_more pool more n (content.Text len start) h =
     ap (λ (x : List ℕ). head.leaf (tree.text x))
     (range_more pool more start (start + len) (omega arith) h)
+head_more pool more n (content.Bytes len start) h =
+    ap (λ (x : List ℕ). head.leaf (tree.bytes x))
+    (range_more pool more start (start + len) (omega arith) h)
 head_more pool more n (content.Unsigned k) h = refl
 head_more pool more n (content.Compact k) h = refl
 head_more pool more n (content.Signed z) h = refl
@@ -78,6 +82,7 @@ head_more pool more n (content.List size) h = refl
 
 within_more : (pool more : List ℕ) (c : Content) → IsInPool pool c → IsInPool (pool ++ more) c
 within_more pool more (content.Text len start) h = omega (arith, h, length-append pool more)
+within_more pool more (content.Bytes len start) h = omega (arith, h, length-append pool more)
 within_more pool more (content.LongUnsigned start) h = omega (arith, h, length-append pool more)
 within_more pool more (content.LongCompact start) h = omega (arith, h, length-append pool more)
 within_more pool more (content.LongSigned start) h = omega (arith, h, length-append pool more)
@@ -166,6 +171,7 @@ leaf_size pool n (content.Bool b) h = refl
 leaf_size pool n (content.Char c) h = refl
 leaf_size pool n (content.Count k) h = refl
 leaf_size pool n (content.Text len start) h = refl
+leaf_size pool n (content.Bytes len start) h = refl
 leaf_size pool n (content.Unsigned k) h = refl
 leaf_size pool n (content.Compact k) h = refl
 leaf_size pool n (content.Signed z) h = refl
@@ -232,6 +238,7 @@ open_by pool n (content.Bool b) e = absurd cc
 open_by pool n (content.Char c) e = absurd cc
 open_by pool n (content.Count k) e = absurd cc
 open_by pool n (content.Text len start) e = absurd cc
+open_by pool n (content.Bytes len start) e = absurd cc
 open_by pool n (content.Unsigned k) e = absurd cc
 open_by pool n (content.Compact k) e = absurd cc
 open_by pool n (content.Signed z) e = absurd cc
@@ -320,7 +327,7 @@ open_entries pool ns n t kind count at e = (
   length-map ns _,
 )
 
--- ---- bytes of an open text
+-- ---- bytes of an open run
 
 inside_longer : (pool more : List ℕ) (ns : List Node) → AreInPool pool ns →
     AreInPool (pool ++ more) ns
@@ -348,13 +355,13 @@ drop_more zero pool more h = refl
 drop_more (suc k) [] more h = absurd (omega (arith, h))
 drop_more (suc k) (x ∷ pool) more h = drop_more k pool more (omega (arith, h))
 
-pub open_longer : (w : Walked) (pool more : List ℕ) (kept : ℕ) (text : Option OpenText) →
-    AreBytes more → IsOpenText w pool kept text →
-    IfOk (missing_at (pieces_shown pool text) (next_of w)) (λ n. length more ≤ n) →
-    IsOpenText w (pool ++ more) kept text
-    × (pieces_shown (pool ++ more) text
-    ≡ option_map (λ t. record { len = t.len; bytes = t.bytes ++ more })
-    (pieces_shown pool text))
+pub open_longer : (w : Walked) (pool more : List ℕ) (kept : ℕ) (run : Option OpenRun) →
+    AreBytes more → IsOpenRun w pool kept run →
+    IfOk (missing_at (pieces_shown pool run) (next_of w)) (λ m. length more ≤ m.1) →
+    IsOpenRun w (pool ++ more) kept run
+    × (pieces_shown (pool ++ more) run
+    ≡ option_map (λ t. record { kind = t.kind; len = t.len; bytes = t.bytes ++ more })
+    (pieces_shown pool run))
 open_longer w pool more kept None p h k = (tt, refl)
 open_longer w pool more kept (Some o) p h k =
     let lacks : length more ≤ o.len - length (drop o.start pool) = rw h.is_next at k in (
@@ -374,8 +381,9 @@ open_longer w pool more kept (Some o) p h k =
             rw (drop_more o.start pool more h.inside)
             (both_bytes (drop o.start pool) more h.are_bytes p);
         spelled = h.spelled;
+        fits = h.fits;
       },
-      ap (λ (b : List ℕ). Some (record { len = o.len; bytes = b }))
+      ap (λ (b : List ℕ). Some (record { kind = o.kind; len = o.len; bytes = b }))
           (drop_more o.start pool more h.inside),
     )
 
@@ -383,12 +391,13 @@ pub longer_entries : (pool more : List ℕ) (ns : List Node) → AreInPool pool 
     entries_shown (pool ++ more) ns ≡ entries_shown pool ns
 longer_entries = entries_more
 
--- the whole of an open text is what its place in the pool shows
-pub open_whole : (w : Walked) (pool : List ℕ) (kept : ℕ) (o : OpenText) →
-    IsOpenAt w pool kept o.start o.len →
-    missing_at (pieces_shown pool (Some o)) (next_of w) ≡ Ok 0 → (o.start + o.len ≡ length pool)
+-- the whole of an open run is what its place in the pool shows
+pub open_whole : (w : Walked) (pool : List ℕ) (kept : ℕ) (o : OpenRun) (k : RunKind) →
+    IsOpenAt w pool kept o.kind o.start o.len →
+    missing_at (pieces_shown pool (Some o)) (next_of w) ≡ Ok (k, 0) →
+    (o.start + o.len ≡ length pool)
     × (slice_range pool o.start (o.start + o.len) ≡ drop o.start pool)
-open_whole w pool kept o h e =
+open_whole w pool kept o k h e =
     let lacks : o.len - length (drop o.start pool) ≡ 0 = ok_is (rw h.is_next at e) in
     let whole : o.start + o.len ≡ length pool =
     omega (arith, lacks, h.inside, h.short, length-drop o.start pool) in (
@@ -397,5 +406,6 @@ open_whole w pool kept o h e =
           (omega (arith, whole, length-drop o.start pool))
           ∙ take_all (length (drop o.start pool)) (drop o.start pool) (omega arith),
     ) where
-      ok_is : {E : Type 0} {n : ℕ} → ◌≡◌ {A = Result ℕ E} (Ok n) (Ok 0) → n ≡ 0
-      ok_is e = cc
+      ok_is : {E : Type 0} {j : RunKind} {n : ℕ} →
+          ◌≡◌ {A = Result (RunKind × ℕ) E} (Ok (j, n)) (Ok (k, 0)) → n ≡ 0
+      ok_is {j = j} {n = n} e = let same : (j, n) ≡ (k, 0) = cc in ap (λ (p : RunKind × ℕ). p.1) same

@@ -15,7 +15,8 @@ use Rattle.widths_core.specs.declared.step.Step.{Step}
 use Rattle.widths_core.specs.declared.step.Step.TheVariants as step
 use Rattle.widths_core.specs.Arms.{arm_at}
 use Rattle.widths_core.specs.Classes.{class_of, is_unit}
-use Rattle.widths_core.specs.Steps.{references_of, AreParts, IsArm, IsStep, IsStepAt, by_class, sequence_step}
+use Rattle.widths_core.specs.Steps.{references_of, AreParts, IsArm, IsStep, IsStepAt, array_step, by_class, sequence_step}
+use Rattle.widths_core.specs.Layouts.{is_byte}
 use Rattle.registry_core.specs.declared.definition.Arm.{Arm}
 use Rattle.grammar_core.proofs.Steps.{some_next, none_next}
 use Rattle.grammar_core.specs.Forms.{compact_next, next_at, next_of_step}
@@ -73,10 +74,16 @@ sequence_sized class.NoValue sized t e = absurd cc
 sequence_sized class.Empty sized t e = absurd cc
 sequence_sized class.Sized sized t e = e
 
-sequence_is : (c : Class) (t u : ℕ) → step.Sequence t ≡ sequence_step c u → t ≡ u
-sequence_is class.NoValue t u e = cc
-sequence_is class.Empty t u e = absurd cc
-sequence_is class.Sized t u e = cc
+sequence_is : (c : Class) (byte : Bool) (t u : ℕ) → step.Sequence t ≡ sequence_step c byte u → t ≡ u
+sequence_is class.NoValue true t u e = absurd cc
+sequence_is class.NoValue false t u e = cc
+sequence_is class.Empty byte t u e = absurd cc
+sequence_is class.Sized true t u e = absurd cc
+sequence_is class.Sized false t u e = cc
+
+array_is : (byte : Bool) (n m t u : ℕ) → step.Array n t ≡ array_step byte m u → t ≡ u
+array_is true n m t u e = absurd cc
+array_is false n m t u e = cc
 
 -- the steps that open parts of the next type, and of which definitions
 abbrev opens_parts : Step → Bool
@@ -99,11 +106,19 @@ suits_by_class class.NoValue none sized s d f g e o = let no = rw e at o in absu
 suits_by_class class.Empty none sized s d f g e o = let no = rw e at o in absurd cc
 suits_by_class class.Sized none sized s d f g e o = rw e (g (rw e at o))
 
-suits_sequence : (c : Class) (u : TypeId) → opens_parts (sequence_step c u.0) ≡ true →
-    suits (sequence_step c u.0) (Def.Sequence u) ≡ true
-suits_sequence class.NoValue u o = refl
-suits_sequence class.Empty u o = absurd cc
-suits_sequence class.Sized u o = refl
+suits_sequence : (c : Class) (byte : Bool) (u : TypeId) →
+    opens_parts (sequence_step c byte u.0) ≡ true →
+    suits (sequence_step c byte u.0) (Def.Sequence u) ≡ true
+suits_sequence class.NoValue true u o = absurd cc
+suits_sequence class.NoValue false u o = refl
+suits_sequence class.Empty byte u o = absurd cc
+suits_sequence class.Sized true u o = absurd cc
+suits_sequence class.Sized false u o = refl
+
+suits_array : (byte : Bool) (n : ℕ) (u : TypeId) → opens_parts (array_step byte n u.0) ≡ true →
+    suits (array_step byte n u.0) (Def.Array n u) ≡ true
+suits_array true n u o = absurd cc
+suits_array false n u o = refl
 
 -- a step that opens parts is that of a definition with such parts
 step_suits : (r : List TypeInfo) (c : Class) (d : TypeDef) (s : Step) →
@@ -117,10 +132,13 @@ step_suits r c (Def.Variant arms) s is o =
     suits_by_class c (step.NoArm is.0 is.1) (step.Arms is.0 is.1) s (Def.Variant arms) refl
     (λ e. absurd cc) is.2 o
 step_suits r c (Def.Sequence u) s is o =
-    suits_by_class c step.NoValue (sequence_step (class_of r u.0) u.0) s (Def.Sequence u) refl
-    (suits_sequence (class_of r u.0) u) is o
+    let byte = is_byte (shape r u.0) in
+    suits_by_class c step.NoValue (sequence_step (class_of r u.0) byte u.0) s (Def.Sequence u) refl
+    (suits_sequence (class_of r u.0) byte u) is o
 step_suits r c (Def.Array n u) s is o =
-    suits_by_class c step.NoValue (step.Array n u.0) s (Def.Array n u) refl (λ e. refl) is o
+    let byte = is_byte (shape r u.0) in
+    suits_by_class c step.NoValue (array_step byte n u.0) s (Def.Array n u) refl
+    (suits_array byte n u) is o
 step_suits r c (Def.Primitive p) s is o =
     suits_by_class c step.NoValue (step.Primitive p) s (Def.Primitive p) refl (λ e. absurd cc) is o
 step_suits r c (Def.Compact u) s is o = let no = rw is at o in absurd cc
@@ -209,9 +227,9 @@ elements_open w n m t h a =
           (λ from count arms. Unit {0}) c d (step.Array m t) → suits (step.Array m t) d ≡ true →
           OpensElements w n (times n t)
       go c (Def.Array m' u) s is f =
-          let same = array_sized c (step.Array m' u.0) m t is in
-          let t_is : t ≡ u.0 = cc in
-          rw t_is (array_opens w n m' u h s)
+          let byte = is_byte (shape w.types u.0) in
+          let same = array_sized c (array_step byte m' u.0) m t is in
+          rw (array_is byte m m' t u.0 same) (array_opens w n m' u h s)
       go c (Def.Composite fs) s is f = absurd cc
       go c (Def.Variant arms) s is f = absurd cc
       go c (Def.Sequence u) s is f = absurd cc
@@ -230,9 +248,10 @@ sequence_elements_open w n t h a =
           (λ from count arms. Unit {0}) c d (step.Sequence t) → suits (step.Sequence t) d ≡ true →
           OpensElements w n (times n t)
       go c (Def.Sequence u) s is f =
-          let sized = sequence_step (class_of w.types u.0) u.0 in
+          let byte = is_byte (shape w.types u.0) in
+          let sized = sequence_step (class_of w.types u.0) byte u.0 in
           let same = sequence_sized c sized t is in
-          rw (sequence_is (class_of w.types u.0) t u.0 same) (sequence_opens w n u h s)
+          rw (sequence_is (class_of w.types u.0) byte t u.0 same) (sequence_opens w n u h s)
       go c (Def.Composite fs) s is f = absurd cc
       go c (Def.Variant arms) s is f = absurd cc
       go c (Def.Array m u) s is f = absurd cc
@@ -307,6 +326,8 @@ fields_known w (Some s) h a = go s (with_form w form.Fields s h a) where
   go (step.Arms from count) e = absurd cc
   go (step.Array n t) e = absurd cc
   go (step.Sequence t) e = absurd cc
+  go (step.ByteArray n) e = absurd cc
+  go step.Bytes e = absurd cc
   go step.Count e = absurd cc
   go step.BitSequence e = absurd cc
 
@@ -326,6 +347,8 @@ array_known w n (Some s) h a = go s (with_form w (form.Array n) s h a) where
   go (step.Arms from count) e = absurd cc
   go (step.Array m t) e = (m, t, refl)
   go (step.Sequence t) e = absurd cc
+  go (step.ByteArray n) e = absurd cc
+  go step.Bytes e = absurd cc
   go step.Count e = absurd cc
   go step.BitSequence e = absurd cc
 
@@ -345,6 +368,8 @@ sequence_known w (Some s) h a = go s (with_form w form.Sequence s h a) where
   go (step.Arms from count) e = absurd cc
   go (step.Array m t) e = absurd cc
   go (step.Sequence t) e = (t, refl)
+  go (step.ByteArray n) e = absurd cc
+  go step.Bytes e = absurd cc
   go step.Count e = absurd cc
   go step.BitSequence e = absurd cc
 

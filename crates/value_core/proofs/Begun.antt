@@ -269,7 +269,7 @@ entries_length pool ns = length-map ns _
 
 -- where a type is next
 part_begun : (ty : ℕ) (types : List TypeInfo) (limit : ℕ) (f : OpenPart) (fs : List OpenPart)
-    (pool : List ℕ) (ns : List Node) (text_len : ℕ) (text : Option Pieces) (turns : ℕ) (u : ℕ) →
+    (pool : List ℕ) (ns : List Node) (text_len : ℕ) (run : Option Pieces) (turns : ℕ) (u : ℕ) →
     IsBuilding ty (record { types = types; limit = limit; frames = f ∷ fs }) pool ns text_len →
     IsPaid (record { types = types; limit = limit; frames = f ∷ fs }) ns turns →
     first_of f.left ≡ Some u →
@@ -277,10 +277,10 @@ part_begun : (ty : ℕ) (types : List TypeInfo) (limit : ℕ) (f : OpenPart) (fs
       ty = ty;
       walk = record { types = types; limit = limit; frames = f ∷ fs };
       entries = entries_shown pool ns;
-      text = text;
+      run = run;
       turns = turns;
     })
-part_begun ty types limit f fs pool ns text_len text turns u b paid e =
+part_begun ty types limit f fs pool ns text_len run turns u b paid e =
     let parts = spine_length types b.room ty b.opens (f ∷ fs) (cells_shown pool ns) b.own b.spine in
     let g = spine_is_begun types (limit + 1) b.room ty b.opens f fs (cells_shown pool ns) b.own u
     (omega (arith, b.level, parts)) b.spine e in
@@ -311,7 +311,7 @@ part_begun ty types limit f fs pool ns text_len text turns u b paid e =
 
 -- where nothing is missing
 whole_begun : (ty : ℕ) (types : List TypeInfo) (limit : ℕ) (f : OpenPart) (pool : List ℕ)
-    (ns : List Node) (text_len : ℕ) (text : Option Pieces) (turns : ℕ) →
+    (ns : List Node) (text_len : ℕ) (run : Option Pieces) (turns : ℕ) →
     IsBuilding ty (record { types = types; limit = limit; frames = f ∷ [] }) pool ns text_len →
     IsPaid (record { types = types; limit = limit; frames = f ∷ [] }) ns turns →
     first_of f.left ≡ None →
@@ -319,17 +319,17 @@ whole_begun : (ty : ℕ) (types : List TypeInfo) (limit : ℕ) (f : OpenPart) (p
       ty = ty;
       walk = record { types = types; limit = limit; frames = f ∷ [] };
       entries = entries_shown pool ns;
-      text = text;
+      run = run;
       turns = turns;
     })
 unfolding Grows
-whole_begun ty types limit f pool ns text_len text turns b paid e = by b.opens refl where
+whole_begun ty types limit f pool ns text_len run turns b paid e = by b.opens refl where
   by : (os : List OpenNode) → b.opens ≡ os →
       IsBegun (record {
         ty = ty;
         walk = record { types = types; limit = limit; frames = f ∷ [] };
         entries = entries_shown pool ns;
-        text = text;
+        run = run;
         turns = turns;
       })
   by [] o =
@@ -363,47 +363,47 @@ whole_begun ty types limit f pool ns text_len text turns b paid e = by b.opens r
   ))
 
 begun_by : (ty : ℕ) (types : List TypeInfo) (limit : ℕ) (fs : List OpenPart) (pool : List ℕ)
-    (ns : List Node) (text_len : ℕ) (text : Option Pieces) (turns : ℕ) →
+    (ns : List Node) (text_len : ℕ) (run : Option Pieces) (turns : ℕ) →
     IsBuilding ty (record { types = types; limit = limit; frames = fs }) pool ns text_len →
     IsPaid (record { types = types; limit = limit; frames = fs }) ns turns → settled_in fs ≡ fs →
     IsBegun (record {
       ty = ty;
       walk = record { types = types; limit = limit; frames = fs };
       entries = entries_shown pool ns;
-      text = text;
+      run = run;
       turns = turns;
     })
-begun_by ty types limit [] pool ns text_len text turns b paid s =
+begun_by ty types limit [] pool ns text_len run turns b paid s =
     absurd (omega (
       arith,
       spine_length types b.room ty b.opens [] (cells_shown pool ns) b.own
           b.spine,
     ))
-begun_by ty types limit (f ∷ []) pool ns text_len text turns b paid s =
+begun_by ty types limit (f ∷ []) pool ns text_len run turns b paid s =
     by (first_of f.left) refl where
       by : (x : Option ℕ) → first_of f.left ≡ x →
           IsBegun (record {
             ty = ty;
             walk = record { types = types; limit = limit; frames = f ∷ [] };
             entries = entries_shown pool ns;
-            text = text;
+            run = run;
             turns = turns;
           })
-      by (Some u) e = part_begun ty types limit f [] pool ns text_len text turns u b paid e
-      by None e = whole_begun ty types limit f pool ns text_len text turns b paid e
-begun_by ty types limit (f ∷ g ∷ fs) pool ns text_len text turns b paid s = let u =
-    innermost f g fs s in part_begun ty types limit f (g ∷ fs) pool ns text_len text turns u.0 b
+      by (Some u) e = part_begun ty types limit f [] pool ns text_len run turns u b paid e
+      by None e = whole_begun ty types limit f pool ns text_len run turns b paid e
+begun_by ty types limit (f ∷ g ∷ fs) pool ns text_len run turns b paid s = let u =
+    innermost f g fs s in part_begun ty types limit f (g ∷ fs) pool ns text_len run turns u.0 b
     paid u.1
 
 pub is_begun : (ty : ℕ) (w : Walked) (pool : List ℕ) (ns : List Node) (text_len : ℕ)
-    (text : Option Pieces) (turns : ℕ) → IsBuilding ty w pool ns text_len → IsPaid w ns turns →
+    (run : Option Pieces) (turns : ℕ) → IsBuilding ty w pool ns text_len → IsPaid w ns turns →
     IsSettled w → IsBegun (record {
       ty = ty;
       walk = w;
       entries = entries_shown pool ns;
-      text = text;
+      run = run;
       turns = turns;
     })
-is_begun ty w pool ns text_len text turns b paid s =
-    begun_by ty w.types w.limit w.frames pool ns text_len text turns b paid
+is_begun ty w pool ns text_len run turns b paid s =
+    begun_by ty w.types w.limit w.frames pool ns text_len run turns b paid
     (ap (λ (x : Walked). x.frames) s)

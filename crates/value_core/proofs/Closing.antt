@@ -10,7 +10,7 @@ use Rattle.value_core.specs.Spine.{OpenNode, open_part, Spine}
 use Rattle.value_core.specs.Walked.{OpenPart, Walked, Closes, advanced, advanced_in, opened}
 use Rattle.value_core.specs.Built.{IsSettled, closings, entries_shown, entries_text_bytes, settled_in, settled_walk}
 use Rattle.value_core.specs.Building.{IsBuilding, IsPaid, AreBuilt, Settles, pieces_shown}
-use Rattle.value_core.specs.declared.open_text.OpenText.{OpenText}
+use Rattle.value_core.specs.declared.open_run.OpenRun.{OpenRun}
 use Rattle.value_core.specs.declared.node.Content.{Content}
 use Rattle.value_core.specs.declared.node.Content.TheVariants as content
 use Rattle.value_core.specs.declared.node.Node.{Node}
@@ -35,6 +35,7 @@ same pool m (content.Bool b) k = record { head = refl; kept = refl; inside = λ 
 same pool m (content.Char x) k = record { head = refl; kept = refl; inside = λ h. h }
 same pool m (content.Count n) k = record { head = refl; kept = refl; inside = λ h. h }
 same pool m (content.Text len start) k = record { head = refl; kept = refl; inside = λ h. h }
+same pool m (content.Bytes len start) k = record { head = refl; kept = refl; inside = λ h. h }
 same pool m (content.Unsigned n) k = record { head = refl; kept = refl; inside = λ h. h }
 same pool m (content.Compact n) k = record { head = refl; kept = refl; inside = λ h. h }
 same pool m (content.Signed z) k = record { head = refl; kept = refl; inside = λ h. h }
@@ -56,6 +57,7 @@ sized (content.Bool b) k h = absurd (omega (arith, h))
 sized (content.Char x) k h = absurd (omega (arith, h))
 sized (content.Count n) k h = absurd (omega (arith, h))
 sized (content.Text len start) k h = absurd (omega (arith, h))
+sized (content.Bytes len start) k h = absurd (omega (arith, h))
 sized (content.Unsigned n) k h = absurd (omega (arith, h))
 sized (content.Compact n) k h = absurd (omega (arith, h))
 sized (content.Signed z) k h = absurd (omega (arith, h))
@@ -221,7 +223,7 @@ again (f ∷ g ∷ fs) = by (first_of f.left) refl (again (g ∷ fs)) where
 pub settled_again : (w : Walked) → IsSettled (settled_walk w)
 settled_again w = rw (again w.frames) refl
 
-pub none_open : (pool : List ℕ) (text : Option OpenText) → pieces_shown pool text ≡ None →
+pub none_open : (pool : List ℕ) (text : Option OpenRun) → pieces_shown pool text ≡ None →
     text ≡ None
 none_open pool None e = refl
 none_open pool (Some o) e = absurd cc

@@ -113,11 +113,11 @@ heads_are : (pool : List ℕ) (ns : List Node) →
 heads_are pool ns = map-map (λ (e : Entry). e.head) _ ns
 
 -- what is seen of the value that is handed out
-pub seen_finished : (text : Option Pieces) (turns ty : ℕ) (w : Walked) (pool : List ℕ)
+pub seen_finished : (run : Option Pieces) (turns ty : ℕ) (w : Walked) (pool : List ℕ)
     (ns : List Node) → type_shown ns ≡ ty →
     seen w.types pool ns ≡ finished
-    (record { ty = ty; walk = w; entries = entries_shown pool ns; text = text; turns = turns })
-seen_finished text turns ty w pool ns e = rw (e, heads_are pool ns) refl
+    (record { ty = ty; walk = w; entries = entries_shown pool ns; run = run; turns = turns })
+seen_finished run turns ty w pool ns e = rw (e, heads_are pool ns) refl
 
 -- nothing is there yet
 pub nothing_built : (ty : ℕ) (types : List TypeInfo) (limit : ℕ) →

@@ -10,15 +10,20 @@ use Rattle.registry_core.specs.declared.type_info.TypeInfo.{TypeInfo}
 use Rattle.graph_core.specs.Types.{shape, ids, field_types}
 use Rattle.widths_core.specs.Targets.{target_of}
 use Rattle.widths_core.specs.Classes.{is_finite, is_empty}
-use Rattle.widths_core.specs.Layouts.{Layout, layout, layout_of_shape, sized_layout, primitive_layout, sequence_layout, compact_layout}
+use Rattle.widths_core.specs.Layouts.{Layout, layout, layout_of_shape, is_byte, sized_layout, primitive_layout, sequence_layout, compact_layout}
 use Rattle.widths_core.specs.Layouts as layout
+use Rattle.widths_core.specs.Layouts.{array_layout as array_layout_of}
 use Rattle.grammar_core.specs.declared.form.Form.{Form}
 use Rattle.grammar_core.specs.declared.form.Form.TheVariants as form
 use Rattle.grammar_core.specs.declared.form.StopReason.{StopReason}
 use Rattle.grammar_core.specs.declared.form.StopReason.TheVariants as stop
 use Rattle.grammar_core.specs.declared.form.Next.TheVariants as next
-use Rattle.grammar_core.specs.Forms.{form_of, form_of_shape, sequence_form, compact_form, next_at}
+use Rattle.grammar_core.specs.Forms.{form_of, form_of_shape, array_form, sequence_form, compact_form, next_at}
+use Rattle.grammar_core.specs.Runs.{run_form}
 use Rattle.grammar_core.proofs.Classes.{shapeless}
+use Rattle.widths_core.specs.declared.run_kind.RunKind.{RunKind}
+use Rattle.widths_core.specs.declared.run_kind.RunKind.TheVariants as kind
+use Rattle.registry_core.specs.declared.primitive.Primitive.TheVariants as P
 use Rattle.value_core.specs.Walked.{Walked, next_type, next_of, next_from}
 
 -- ---- forms
@@ -31,6 +36,8 @@ HasForm (form.Compact m) f = f ≡ layout.plain (layout.compact m)
 HasForm form.Fields f = (ts : List ℕ) × (f ≡ layout.fields ts)
 HasForm form.Arm f = (arms : List Arm) × (f ≡ layout.arms arms)
 HasForm (form.Array n) f = (u : ℕ) × (f ≡ layout.array n u)
+HasForm (form.ByteArray n) f = f ≡ layout.plain (layout.run (kind.ByteArray n))
+HasForm form.Bytes f = f ≡ layout.plain (layout.run kind.Bytes)
 HasForm form.Sequence f = (u : ℕ) × (f ≡ layout.sequence u)
 HasForm form.Count f = f ≡ (layout.plain layout.counted)
 
@@ -39,10 +46,18 @@ has_form : (wanted is : Form) (f : Layout) → next.Wants is ≡ next.Wants want
     HasForm wanted f
 has_form wanted is f e h = let same : is ≡ wanted = cc in subst (λ (x : Form). HasForm x f) same h
 
-sequence_has : (wanted : Form) (u : ℕ) (empty : Bool) → sequence_form empty ≡ next.Wants wanted →
-    HasForm wanted (sequence_layout u empty)
-sequence_has wanted u true e = has_form wanted form.Count (layout.plain layout.counted) e refl
-sequence_has wanted u false e = has_form wanted form.Sequence (layout.sequence u) e (u, refl)
+sequence_has : (wanted : Form) (u : ℕ) (empty byte : Bool) →
+    sequence_form empty byte ≡ next.Wants wanted → HasForm wanted (sequence_layout u empty byte)
+sequence_has wanted u true byte e = has_form wanted form.Count (layout.plain layout.counted) e refl
+sequence_has wanted u false true e =
+    has_form wanted form.Bytes (layout.plain (layout.run kind.Bytes)) e refl
+sequence_has wanted u false false e = has_form wanted form.Sequence (layout.sequence u) e (u, refl)
+
+array_has : (wanted : Form) (n u : ℕ) (byte : Bool) → array_form n byte ≡ next.Wants wanted →
+    HasForm wanted (array_layout_of n u byte)
+array_has wanted n u true e =
+    has_form wanted (form.ByteArray n) (layout.plain (layout.run (kind.ByteArray n))) e refl
+array_has wanted n u false e = has_form wanted (form.Array n) (layout.array n u) e (u, refl)
 
 compact_has : (wanted : Form) (m : Option Target) → compact_form m ≡ next.Wants wanted →
     HasForm wanted (compact_layout m)
@@ -55,9 +70,9 @@ sized_has : (r : List TypeInfo) (wanted : Form) (d : TypeDef) →
 sized_has r wanted (Def.Composite fs) e =
     has_form wanted form.Fields (layout.fields (field_types fs)) e (field_types fs, refl)
 sized_has r wanted (Def.Variant arms) e = has_form wanted form.Arm (layout.arms arms) e (arms, refl)
-sized_has r wanted (Def.Sequence u) e = sequence_has wanted u.0 (is_empty r u.0) e
-sized_has r wanted (Def.Array n u) e =
-    has_form wanted (form.Array n) (layout.array n u.0) e (u.0, refl)
+sized_has r wanted (Def.Sequence u) e =
+    sequence_has wanted u.0 (is_empty r u.0) (is_byte (shape r u.0)) e
+sized_has r wanted (Def.Array n u) e = array_has wanted n u.0 (is_byte (shape r u.0)) e
 sized_has r wanted (Def.Tuple ts) e =
     has_form wanted form.Fields (layout.fields (ids ts)) e (ids ts, refl)
 sized_has r wanted (Def.Primitive p) e =
@@ -85,6 +100,12 @@ empty_layout r t e = form_layout r t form.Empty e
 pub primitive_has_layout : (r : List TypeInfo) (t : ℕ) (p : Primitive) →
     form_of r t ≡ next.Wants (form.Primitive p) → layout r t ≡ primitive_layout p
 primitive_has_layout r t p e = form_layout r t (form.Primitive p) e
+
+pub run_layout : (r : List TypeInfo) (t : ℕ) (k : RunKind) → form_of r t ≡ next.Wants (run_form k) →
+    layout r t ≡ layout.plain (layout.run k)
+run_layout r t kind.Text e = form_layout r t (form.Primitive P.Str) e
+run_layout r t kind.Bytes e = form_layout r t form.Bytes e
+run_layout r t (kind.ByteArray n) e = form_layout r t (form.ByteArray n) e
 
 pub compact_has_layout : (r : List TypeInfo) (t : ℕ) (m : Target) →
     form_of r t ≡ next.Wants (form.Compact m) → layout r t ≡ layout.plain (layout.compact m)
@@ -164,9 +185,15 @@ has_reason : (told is : StopReason) (d : Option TypeDef) (f : Layout) →
 has_reason told is d f e h = let same : is ≡ told = cc in
     subst (λ (x : StopReason). HasReason x d f) same h
 
-sequence_goes_on : (told : StopReason) (empty : Bool) → sequence_form empty ≡ next.Stop told → ⊥
-sequence_goes_on told true e = absurd cc
-sequence_goes_on told false e = absurd cc
+sequence_goes_on : (told : StopReason) (empty byte : Bool) →
+    sequence_form empty byte ≡ next.Stop told → ⊥
+sequence_goes_on told true byte e = absurd cc
+sequence_goes_on told false true e = absurd cc
+sequence_goes_on told false false e = absurd cc
+
+array_goes_on : (told : StopReason) (n : ℕ) (byte : Bool) → array_form n byte ≡ next.Stop told → ⊥
+array_goes_on told n true e = absurd cc
+array_goes_on told n false e = absurd cc
 
 compact_has_reason : (told : StopReason) (d : Option TypeDef) (m : Option Target) →
     compact_form m ≡ next.Stop told → HasReason told d (compact_layout m)
@@ -181,8 +208,9 @@ known_has_reason r told false None e = has_reason told stop.NoFiniteValue None l
 known_has_reason r told false (Some (Def.Composite fs)) e = absurd cc
 known_has_reason r told false (Some (Def.Variant arms)) e = absurd cc
 known_has_reason r told false (Some (Def.Sequence u)) e =
-    absurd (sequence_goes_on told (is_empty r u.0) e)
-known_has_reason r told false (Some (Def.Array n u)) e = absurd cc
+    absurd (sequence_goes_on told (is_empty r u.0) (is_byte (shape r u.0)) e)
+known_has_reason r told false (Some (Def.Array n u)) e =
+    absurd (array_goes_on told n (is_byte (shape r u.0)) e)
 known_has_reason r told false (Some (Def.Tuple ts)) e = absurd cc
 known_has_reason r told false (Some (Def.Primitive p)) e = absurd cc
 known_has_reason r told false (Some (Def.Compact u)) e =

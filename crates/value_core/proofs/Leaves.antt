@@ -21,6 +21,7 @@ text_is leaf.Empty = refl
 text_is (leaf.Bool b) = refl
 text_is (leaf.Char c) = refl
 text_is (leaf.Text s) = refl
+text_is (leaf.Bytes s) = refl
 text_is (leaf.Unsigned n) = refl
 text_is (leaf.Signed z) = refl
 text_is (leaf.Wide b) = refl
@@ -32,16 +33,19 @@ text_short leaf.Empty h = omega arith
 text_short (leaf.Bool b) h = omega arith
 text_short (leaf.Char c) h = omega arith
 text_short (leaf.Text s) h = h
+text_short (leaf.Bytes s) h = h
 text_short (leaf.Unsigned n) h = omega arith
 text_short (leaf.Signed z) h = omega arith
 text_short (leaf.Wide b) h = omega arith
 text_short (leaf.Compact n) h = omega arith
 text_short (leaf.Count n) h = omega arith
 
--- a text has its bytes in the pool
+-- a text or a run of bytes has its bytes in the pool
 text_kept : (pool : List ℕ) (n : ℕ) (c : Content) →
     head_text_bytes (head_shown pool n c) ≤ kept_bytes c
 text_kept pool n (content.Text len start) =
+    omega (arith, length-take (start + len - start) (drop start pool))
+text_kept pool n (content.Bytes len start) =
     omega (arith, length-take (start + len - start) (drop start pool))
 text_kept pool n content.Empty = omega arith
 text_kept pool n (content.Bool b) = omega arith

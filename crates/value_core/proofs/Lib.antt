@@ -5,7 +5,7 @@ pub mod Below
 pub mod CellsOf
 pub mod Closing
 pub mod Spines
-pub mod TextEnded
+pub mod RunEnded
 pub mod Finished
 pub mod Forms
 pub mod Leaves

@@ -1,12 +1,12 @@
 -- The references that are left of an open node, one after the other.
-use Rattle.std.proofs.Common.{◌≡◌, ℕ, zero, suc, ◌+◌, ◌-◌, ◌<◌, ◌≤◌, List, [], length, take, drop, Option, refl, ap, ◌∙◌, arith, drop-cons, inl, inr}
+use Rattle.std.proofs.Common.{◌≡◌, ℕ, zero, suc, ◌+◌, ◌-◌, ◌<◌, ◌≤◌, List, [], ◌∷◌, ◌++◌, length, take, drop, Option, refl, ap, ◌∙◌, arith, drop-cons, inl, inr}
 use Rattle.std.specs.Prelude.{map, reverse}
-use Rattle.std.proofs.lemmas.List.{length-drop, length-map, length-reverse, length-take-le}
+use Rattle.std.proofs.lemmas.List.{length-drop, length-map, length-reverse, length-take-le, reverse-append}
 use Rattle.std.proofs.lemmas.Option.{slice_get-get_or, slice_get_cases, slice_get_past}
 use Rattle.registry_core.specs.declared.type_info.TypeInfo.{TypeInfo}
 use Rattle.grammar_core.specs.Parts.{each, left_after}
 use Rattle.widths_core.specs.Steps.{AreParts}
-use Rattle.value_core.specs.Frames.{followed_by, left_by, members_before, members_of, open_part, parts_by}
+use Rattle.value_core.specs.Frames.{followed_by, frames_of, left_by, members_before, members_of, open_part, parts_by}
 use Rattle.value_core.specs.declared.left.Frame.{Frame}
 use Rattle.value_core.specs.declared.left.PartTypes.{PartTypes}
 use Rattle.value_core.specs.declared.left.PartTypes.TheVariants as types
@@ -71,3 +71,10 @@ pub frames_counted : (r : List TypeInfo) (around : List Frame) →
     length (map (open_part r) (reverse around)) ≡ length around
 frames_counted r around =
     length-map (reverse around) (open_part r) ∙ length-reverse around
+
+-- where the last of the frames around is taken away, it is the innermost of those that are left
+pub frames_popped : (r : List TypeInfo) (top last : Frame) (around rest : List Frame) →
+    around ≡ rest ++ last ∷ [] → frames_of r top around ≡ open_part r top ∷ frames_of r last rest
+frames_popped r top last around rest e =
+    ap (λ (fs : List Frame). open_part r top ∷ map (open_part r) fs)
+    (ap reverse e ∙ reverse-append rest (last ∷ []))

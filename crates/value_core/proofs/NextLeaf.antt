@@ -16,16 +16,21 @@ use Rattle.registry_core.specs.declared.kind.PrimitiveKind.TheVariants as K
 use Rattle.registry_core.proofs.Widths.{width_halves, width_numbers}
 use Rattle.registry_core.specs.declared.primitive.Primitive.{Primitive}
 use Rattle.registry_core.specs.declared.primitive.Primitive.TheVariants as P
-use Rattle.widths_core.specs.Layouts.{kind_layout}
+use Rattle.widths_core.specs.Layouts.{kind_layout, layout}
+use Rattle.widths_core.specs.Layouts as layout
 use Rattle.grammar_core.specs.Grammar.{Val}
 use Rattle.grammar_core.specs.Preorder as head
 use Rattle.grammar_core.specs.Tree as tree
 use Rattle.grammar_core.specs.declared.form.Form.TheVariants as form
 use Rattle.grammar_core.specs.declared.form.Next.TheVariants as next
-use Rattle.value_core.specs.Built.{IsNextLeaf}
+use Rattle.value_core.specs.Built.{FitsKind, IsNextLeaf}
+use Rattle.widths_core.specs.declared.run_kind.RunKind.{RunKind}
+use Rattle.widths_core.specs.declared.run_kind.RunKind.TheVariants as kind
+use Rattle.registry_core.specs.declared.type_info.TypeInfo.{TypeInfo}
+use Rattle.grammar_core.specs.Runs.{IsRun, IsRunLength, run_form, run_leaf}
 use Rattle.value_core.specs.Refusals.{most_unsigned, most_signed, is_within}
 use Rattle.value_core.specs.Walked.{Walked, next_of}
-use Rattle.value_core.proofs.Forms.{wanted, empty_layout, primitive_has_layout, compact_has_layout, count_layout}
+use Rattle.value_core.proofs.Forms.{wanted, run_layout, empty_layout, primitive_has_layout, compact_has_layout, count_layout}
 
 pub empty_next : (w : Walked) → next_of w ≡ next.Wants form.Empty →
     IsNextLeaf w (head.leaf tree.unit)
@@ -117,6 +122,37 @@ text_next w s e f a h =
         primitive_has_layout w.types k.ty P.Str k.form_is,
         (compact (length s), (omega (arith, h), refl), f, refl),
       );
+    }
+
+-- the length that stands in front of a run
+run_own : (k : RunKind) (n : ℕ) → n < 2 ^ 32 → FitsKind k n → (c : List ℕ) × AreBytes c
+    × IsRunLength k n c
+run_own kind.Text n h f = (compact n, are_compact n, (omega (arith, h), refl))
+run_own kind.Bytes n h f = (compact n, are_compact n, (omega (arith, h), refl))
+run_own (kind.ByteArray m) n h f = ([], tt, (f, refl))
+
+run_value : (r : List TypeInfo) (t : ℕ) (k : RunKind) (s c : List ℕ) →
+    layout r t ≡ layout.plain (layout.run k) → IsRun k s → IsRunLength k (length s) c →
+    Val r t (tree.leaf (run_leaf k s)) (c ++ s)
+unfolding Val
+run_value r t kind.Text s c e f h = (e, (c, h, f, refl))
+run_value r t kind.Bytes s c e f h = (kind.Bytes, tt, e, (c, h, tt, refl))
+run_value r t (kind.ByteArray n) s c e f h = (kind.ByteArray n, tt, e, (c, h, tt, refl))
+
+pub run_next : (w : Walked) (k : RunKind) (s : List ℕ) → next_of w ≡ next.Wants (run_form k) →
+    IsRun k s → AreBytes s → length s < 2 ^ 32 → FitsKind k (length s) →
+    IsNextLeaf w (head.leaf (run_leaf k s))
+run_next w k s e f a h fits =
+    let x = wanted w (run_form k) e in
+    let own = run_own k (length s) h fits in
+    record {
+      ty = x.ty;
+      next = x.is_next;
+      room = x.room;
+      leaf = tt;
+      own = own.0 ++ s;
+      are_bytes = both_bytes own.0 s own.1 a;
+      value = run_value w.types x.ty k s own.0 (run_layout w.types x.ty k x.form_is) f own.2;
     }
 
 pub wide_next : (w : Walked) (p : Primitive) (s : Signedness) (b : List ℕ) →

@@ -12,12 +12,12 @@ use Rattle.graph_core.specs.Types.{shape, ids, field_types}
 use Rattle.widths_core.specs.Arms.{arm_of, arm_at, arm_of_shape}
 use Rattle.widths_core.specs.Classes.{is_empty}
 use Rattle.widths_core.specs.Targets.{target_of}
-use Rattle.widths_core.specs.Layouts.{Layout, layout, layout_of_shape, sized_layout, sequence_layout}
+use Rattle.widths_core.specs.Layouts.{Layout, layout, array_layout, is_byte, layout_of_shape, sized_layout, sequence_layout}
 use Rattle.widths_core.specs.Layouts as layout
 use Rattle.grammar_core.specs.declared.form.Form.{Form}
 use Rattle.grammar_core.specs.declared.form.Form.TheVariants as form
 use Rattle.grammar_core.specs.declared.form.Next.TheVariants as next
-use Rattle.grammar_core.specs.Forms.{form_of, form_of_shape, sequence_form, compact_form}
+use Rattle.grammar_core.specs.Forms.{form_of, form_of_shape, array_form, sequence_form, compact_form}
 use Rattle.grammar_core.specs.Parts.{each, times}
 use Rattle.value_core.specs.Walked.{Walked, next_type, next_of}
 use Rattle.value_core.specs.Opened.{shape_at, next_shape, OpensFields, OpensArm, OpensElements}
@@ -64,25 +64,29 @@ pub tuple_opens : (w : Walked) (ts : List TypeId) → next_of w ≡ next.Wants f
 tuple_opens w ts h s = let is = laid w form.Fields (Def.Tuple ts) (λ e. absurd cc) h s in
     record { ty = is.ty; next = is.is_next; members = ids ts; laid = is.layout_is; part_is = refl }
 
+array_is : (m n u : ℕ) (byte : Bool) → array_form m byte ≡ next.Wants (form.Array n) →
+    array_layout m u byte ≡ layout.array n u
+array_is m n u true e = absurd cc
+array_is m n u false e = let same : m ≡ n = cc in ap (λ (k : ℕ). layout.array k u) same
+
 pub array_opens : (w : Walked) (n m : ℕ) (u : TypeId) → next_of w ≡ next.Wants (form.Array n) →
     Some (Def.Array m u) ≡ next_shape w → OpensElements w n (times n u.0)
 array_opens w n m u h s =
     let is = laid w (form.Array n) (Def.Array m u) (λ e. absurd cc) h s in
-    let form_is : next.Wants (form.Array m) ≡ next.Wants (form.Array n) = is.form_is in
-    let same : m ≡ n = cc in
     record {
       ty = is.ty;
       next = is.is_next;
       element = u.0;
       laid =
-          inl (is.layout_is ∙ ap (λ (k : ℕ). layout.array k u.0) same);
+          inl (is.layout_is ∙ array_is m n u.0 (is_byte (shape w.types u.0)) is.form_is);
       part_is = refl;
     }
 
-sequence_is : (u : ℕ) (empty : Bool) → sequence_form empty ≡ next.Wants form.Sequence →
-    sequence_layout u empty ≡ layout.sequence u
-sequence_is u true e = absurd cc
-sequence_is u false e = refl
+sequence_is : (u : ℕ) (empty byte : Bool) → sequence_form empty byte ≡ next.Wants form.Sequence →
+    sequence_layout u empty byte ≡ layout.sequence u
+sequence_is u true byte e = absurd cc
+sequence_is u false true e = absurd cc
+sequence_is u false false e = refl
 
 pub sequence_opens : (w : Walked) (n : ℕ) (u : TypeId) → next_of w ≡ next.Wants form.Sequence →
     Some (Def.Sequence u) ≡ next_shape w → OpensElements w n (times n u.0)
@@ -93,15 +97,21 @@ sequence_opens w n u h s =
       next = is.is_next;
       element = u.0;
       laid =
-          inr (is.layout_is ∙ sequence_is u.0 (is_empty w.types u.0) is.form_is);
+          inr (is.layout_is ∙ sequence_is u.0 (is_empty w.types u.0) (is_byte (shape w.types u.0))
+          is.form_is);
       part_is = refl;
     }
 
 -- ---- arms
 
-sequence_no_arm : (empty : Bool) → sequence_form empty ≡ next.Wants form.Arm → ⊥
-sequence_no_arm true e = absurd cc
-sequence_no_arm false e = absurd cc
+sequence_no_arm : (empty byte : Bool) → sequence_form empty byte ≡ next.Wants form.Arm → ⊥
+sequence_no_arm true byte e = absurd cc
+sequence_no_arm false true e = absurd cc
+sequence_no_arm false false e = absurd cc
+
+array_no_arm : (n : ℕ) (byte : Bool) → array_form n byte ≡ next.Wants form.Arm → ⊥
+array_no_arm n true e = absurd cc
+array_no_arm n false e = absurd cc
 
 compact_no_arm : (m : Option Target) → compact_form m ≡ next.Wants form.Arm → ⊥
 compact_no_arm (Some m) e = absurd cc
@@ -117,8 +127,9 @@ arm_shape r true d e = absurd cc
 arm_shape r false None e = absurd cc
 arm_shape r false (Some (Def.Composite fs)) e = absurd cc
 arm_shape r false (Some (Def.Variant arms)) e = (arms, refl, refl)
-arm_shape r false (Some (Def.Sequence u)) e = absurd (sequence_no_arm (is_empty r u.0) e)
-arm_shape r false (Some (Def.Array n u)) e = absurd cc
+arm_shape r false (Some (Def.Sequence u)) e =
+    absurd (sequence_no_arm (is_empty r u.0) (is_byte (shape r u.0)) e)
+arm_shape r false (Some (Def.Array n u)) e = absurd (array_no_arm n (is_byte (shape r u.0)) e)
 arm_shape r false (Some (Def.Tuple ts)) e = absurd cc
 arm_shape r false (Some (Def.Primitive p)) e = absurd cc
 arm_shape r false (Some (Def.Compact u)) e = absurd (compact_no_arm (target_of r u.0) e)

@@ -125,9 +125,17 @@ starts_text f d pool k len start h e =
     ap (λ (x : List ℕ). x ++ slice_range pool start (start + len))
     (e ∙ ap compact (sym (length-range pool start len h)))
 
+pub starts_bytes : (f : List ℕ) (d : Option TypeDef) (pool : List ℕ) (k len start : ℕ) →
+    start + len ≤ length pool → f ≡ length_bytes d len → Starts f d pool k (is.Bytes len start)
+starts_bytes f d pool k len start h e =
+    ap (λ (x : List ℕ). x ++ slice_range pool start (start + len))
+    (e ∙ ap (length_bytes d) (sym (length-range pool start len h)))
+
 -- what lies in the pool as it is written is no more than the node keeps there
 pub few_pooled : (pool : List ℕ) (c : Content) → length (pool_bytes pool c) ≤ kept_bytes c
 few_pooled pool (is.Text len start) =
+    omega (arith, length-take (start + len - start) (drop start pool))
+few_pooled pool (is.Bytes len start) =
     omega (arith, length-take (start + len - start) (drop start pool))
 few_pooled pool (is.Wide start) =
     omega (arith, length-take (start + 32 - start) (drop start pool))

@@ -1,15 +1,18 @@
 -- What a builder keeps to: its nodes are those of a value that is being built.
 use Rattle.std.specs.Prelude.{◌≡◌, ℕ, ◌+◌, ◌≤◌, ◌<◌, ◌^◌, List, length, drop, Option, Some, None, option_map}
 use Rattle.scale_core.specs.Number.{AreBytes}
-use Rattle.value_core.specs.Built.{Pieces, entries_shown, entries_text_bytes, settled_walk}
+use Rattle.value_core.specs.Built.{FitsKind, Pieces, entries_shown, entries_text_bytes, settled_walk}
 use Rattle.value_core.specs.Shown.{cells_shown, AreInPool, all_kept}
 use Rattle.value_core.specs.Spine.{OpenNode, Spine}
 use Rattle.value_core.specs.Walked.{Walked, next_of}
-use Rattle.registry_core.specs.declared.primitive.Primitive.TheVariants as P
-use Rattle.grammar_core.specs.declared.form.Form.TheVariants as form
+use Rattle.grammar_core.specs.Runs.{run_form}
 use Rattle.grammar_core.specs.declared.form.Next.TheVariants as next
 use Rattle.value_core.specs.declared.node.Node.{Node}
-use Rattle.value_core.specs.declared.open_text.OpenText.{OpenText}
+use Rattle.widths_core.specs.declared.run_kind.RunKind.{RunKind}
+use Rattle.widths_core.specs.declared.run_kind.RunKind.TheVariants as kind
+use Rattle.value_core.specs.declared.open_run.OpenRun.{OpenRun}
+use Rattle.value_core.specs.declared.node.Content.{Content}
+use Rattle.value_core.specs.declared.node.Content.TheVariants as content
 
 pub record IsBuilding (ty : ℕ) (w : Walked) (pool : List ℕ) (ns : List Node) (text_len : ℕ) : Type 0
   where
@@ -35,23 +38,33 @@ pub record Settles (old : Walked) (before : List Node) (new : Walked) (after : L
     pub builds : (ty : ℕ) (pool : List ℕ) (text_len : ℕ) → IsBuilding ty old pool before text_len →
         IsBuilding ty new pool after text_len
 
--- an open text is what the pool has from its place on
-abbrev pub pieces_shown : List ℕ → Option OpenText → Option Pieces
-pieces_shown pool open_text =
-    option_map (λ o. record { len = o.len; bytes = drop o.start pool }) open_text
+-- an open run is what the pool has from its place on
+abbrev pub pieces_shown : List ℕ → Option OpenRun → Option Pieces
+pieces_shown pool open_run =
+    option_map (λ o. record { kind = o.kind; len = o.len; bytes = drop o.start pool }) open_run
 
 -- it is next, has no more bytes than it is to have, and lies behind the bytes of all nodes
-pub record IsOpenAt (w : Walked) (pool : List ℕ) (kept start len : ℕ) : Type 0 where
-  pub is_next : next_of w ≡ next.Wants (form.Primitive P.Str)
-  pub inside : start ≤ length pool
-  pub short : length pool ≤ start + len
-  pub behind : kept ≤ start
-  pub are_bytes : AreBytes (drop start pool)
-  pub spelled : len < 2 ^ 32
+pub record IsOpenAt (w : Walked) (pool : List ℕ) (kept : ℕ) (k : RunKind) (start len : ℕ) : Type 0
+  where
+    pub is_next : next_of w ≡ next.Wants (run_form k)
+    pub inside : start ≤ length pool
+    pub short : length pool ≤ start + len
+    pub behind : kept ≤ start
+    pub are_bytes : AreBytes (drop start pool)
+    pub spelled : len < 2 ^ 32
+    pub fits : FitsKind k len
 
-abbrev pub IsOpenText : Walked → List ℕ → ℕ → Option OpenText → Type 0
-IsOpenText w pool kept (Some o) = IsOpenAt w pool kept o.start o.len
-IsOpenText w pool kept None = Unit {0}
+abbrev pub IsOpenRun : Walked → List ℕ → ℕ → Option OpenRun → Type 0
+IsOpenRun w pool kept (Some o) = IsOpenAt w pool kept o.kind o.start o.len
+IsOpenRun w pool kept None = Unit {0}
+
+-- the node that an open run is when all its bytes are there
+abbrev pub run_content_of : RunKind → ℕ → ℕ → Content
+run_content_of kind.Text len start = content.Text len start
+run_content_of _ len start = content.Bytes len start
+
+abbrev pub run_content : OpenRun → Content
+run_content o = run_content_of o.kind o.len o.start
 
 -- each turn of the closing loop closed a node that had been opened, so there are no more than
 -- nodes, less those still open

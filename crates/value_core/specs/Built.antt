@@ -7,6 +7,12 @@ use Rattle.widths_core.specs.Arms.{arm_of}
 use Rattle.widths_core.specs.Classes.{is_finite}
 use Rattle.widths_core.specs.Layouts.{Layout, layout}
 use Rattle.widths_core.specs.Layouts as layout
+use Rattle.widths_core.specs.declared.run_kind.RunKind.{RunKind}
+use Rattle.widths_core.specs.declared.run_kind.RunKind.TheVariants as kind
+use Rattle.grammar_core.specs.Runs.{run_leaf}
+use Rattle.grammar_core.specs.declared.form.Form.TheVariants as form
+use Rattle.grammar_core.specs.declared.form.Next.{Next}
+use Rattle.grammar_core.specs.declared.form.Next.TheVariants as next
 use Rattle.grammar_core.specs.Tree.{Branch, none}
 use Rattle.grammar_core.specs.Grammar.{Val}
 use Rattle.grammar_core.specs.Cells.{fields_part, list_part}
@@ -16,7 +22,7 @@ use Rattle.grammar_core.specs.Tree as tree
 use Rattle.grammar_core.specs.Preorder.{Head, tree_with, tree_of}
 use Rattle.value_core.specs.Shown.{Seen, head_shown}
 use Rattle.value_core.specs.Spine.{IsOpenAs}
-use Rattle.value_core.specs.Walked.{OpenPart, Walked, next_type, advanced, opened}
+use Rattle.value_core.specs.Walked.{OpenPart, Walked, next_of, next_type, advanced, opened}
 use Rattle.value_core.specs.declared.node.Node.{Node}
 
 -- a node with its type
@@ -24,19 +30,21 @@ pub record Entry : Type 0 where
   pub ty : ℕ
   pub head : Head
 
--- a text that comes in pieces: how many bytes it is to have, and those that came
+-- a text or a run of bytes that comes in pieces: which it is, how many bytes it is to have, and those
+-- that came
 pub record Pieces : Type 0 where
+  pub kind : RunKind
   pub len : ℕ
   pub bytes : List ℕ
 
 -- a value of type ty that is being built: the walk through it, the nodes that it has, each before
--- its children, the text
--- that is open, and how many turns the loop of its calls has taken, which closes nodes
+-- its children, the run that is open, and how many turns the loop of its calls has taken, which
+-- closes nodes
 pub record Built : Type 0 where
   pub ty : ℕ
   pub walk : Walked
   pub entries : List Entry
-  pub text : Option Pieces
+  pub run : Option Pieces
   pub turns : ℕ
 
 abbrev pub entries_shown : List ℕ → List Node → List Entry
@@ -45,9 +53,10 @@ entries_shown pool ns =
 
 abbrev pub head_text_bytes : Head → ℕ
 head_text_bytes (head.leaf (tree.text s)) = length s
+head_text_bytes (head.leaf (tree.bytes s)) = length s
 head_text_bytes _ = 0
 
--- the bytes of all texts
+-- the bytes of all texts and runs of bytes
 abbrev pub entries_text_bytes : List Entry → ℕ
 entries_text_bytes [] = 0
 entries_text_bytes (e ∷ es) = head_text_bytes e.head + entries_text_bytes es
@@ -76,7 +85,7 @@ settled b = record {
   ty = b.ty;
   walk = settled_walk b.walk;
   entries = b.entries;
-  text = b.text;
+  run = b.run;
   turns = b.turns + closings b.walk.frames;
 }
 
@@ -162,29 +171,47 @@ with_arm b index = with_found b (arm_in (next_layout b) index)
 abbrev pub with_list : Built → ℕ → Built
 with_list b n = with_open b (head.branch tree.list n) (list_part (next_layout b) n)
 
--- ---- a text in pieces
+-- ---- a run in pieces
+
+-- the length is one that a run of this kind may have: an array's is known
+abbrev pub FitsKind : RunKind → ℕ → Type 0
+FitsKind (kind.ByteArray n) len = len ≡ n
+FitsKind _ len = Unit {0}
 
 abbrev pub pieces_bytes : Option Pieces → List ℕ
 pieces_bytes (Some t) = t.bytes
 pieces_bytes None = []
 
-abbrev pub with_text_opened : Built → ℕ → Built
-with_text_opened b len = record b { text = Some (record { len = len; bytes = [] }) }
+abbrev pub with_run_opened : Built → RunKind → ℕ → Built
+with_run_opened b k len =
+    record b { run = Some (record { kind = k; len = len; bytes = [] }) }
+
+-- which run of bytes is next
+abbrev pub bytes_kind : Next → RunKind
+bytes_kind (next.Wants (form.ByteArray n)) = kind.ByteArray n
+bytes_kind _ = kind.Bytes
+
+abbrev pub with_bytes_opened : Built → ℕ → Built
+with_bytes_opened b len = with_run_opened b (bytes_kind (next_of b.walk)) len
 
 abbrev pub with_piece : Built → List ℕ → Built
 with_piece b piece = record b {
-  text =
-      option_map (λ t. record { len = t.len; bytes = t.bytes ++ piece }) b.text;
+  run =
+      option_map (λ t. record { kind = t.kind; len = t.len; bytes = t.bytes ++ piece }) b.run;
 }
 
--- the text that came is the next node
-abbrev pub with_text_ended : Built → Built
-with_text_ended b = with_leaf (record b { text = None })
-    (head.leaf (tree.text (pieces_bytes b.text)))
+-- the node that the open run is
+abbrev pub run_head : Option Pieces → Head
+run_head (Some t) = head.leaf (run_leaf t.kind t.bytes)
+run_head None = head.leaf tree.unit
 
--- the bytes of all texts, those of the open one too
+-- the run that came is the next node
+abbrev pub with_run_ended : Built → Built
+with_run_ended b = with_leaf (record b { run = None }) (run_head b.run)
+
+-- the bytes of all texts and runs of bytes, those of the open one too
 abbrev pub built_text_bytes : Built → ℕ
-built_text_bytes b = entries_text_bytes b.entries + length (pieces_bytes b.text)
+built_text_bytes b = entries_text_bytes b.entries + length (pieces_bytes b.run)
 
 -- the value that is handed out
 abbrev pub finished : Built → Seen

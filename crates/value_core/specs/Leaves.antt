@@ -16,6 +16,7 @@ leaf_head leaf.Empty = head.leaf tree.unit
 leaf_head (leaf.Bool b) = head.leaf (tree.bool b)
 leaf_head (leaf.Char c) = head.leaf (tree.char c)
 leaf_head (leaf.Text s) = head.leaf (tree.text s.now)
+leaf_head (leaf.Bytes s) = head.leaf (tree.bytes s.now)
 leaf_head (leaf.Unsigned n) = head.leaf (tree.unsigned n)
 leaf_head (leaf.Signed z) = head.leaf (tree.signed z)
 leaf_head (leaf.Wide b) = head.leaf (tree.wide b.now)
@@ -24,11 +25,13 @@ leaf_head (leaf.Count n) = head.leaf (tree.count n)
 
 abbrev pub leaf_text_bytes : Leaf → ℕ
 leaf_text_bytes (leaf.Text s) = length s.now
+leaf_text_bytes (leaf.Bytes s) = length s.now
 leaf_text_bytes _ = 0
 
--- a text has a length that can be spelled, an integer fits its word, and a wide one has 32 bytes
+-- a text or a run has a length that can be spelled, an integer fits its word, and a wide one has 32 bytes
 abbrev pub FitsLeaf : Leaf → Type 0
 FitsLeaf (leaf.Text s) = length s.now < 2 ^ 32
+FitsLeaf (leaf.Bytes s) = length s.now < 2 ^ 32
 FitsLeaf (leaf.Unsigned n) = n < 2 ^ 128
 FitsLeaf (leaf.Compact n) = n < 2 ^ 128
 FitsLeaf (leaf.Signed z) = FitsSigned w128 z

@@ -1,5 +1,5 @@
 -- Which call a builder refuses, and with what: the first reason that applies.
-use Rattle.std.specs.Prelude.{◌≡◌, ℕ, ◌-◌, ◌/◌, ◌^◌, ℤ, pos, negsuc, List, [], ◌∷◌, length, Bool, true, false, Option, Some, None, Result, Ok, Err, nat_lt, ◌==◌, not, is_none, if◌then◌else◌}
+use Rattle.std.specs.Prelude.{◌≡◌, ℕ, ◌-◌, ◌/◌, ◌^◌, ℤ, pos, negsuc, List, [], ◌∷◌, length, Bool, true, false, Option, Some, None, Result, Ok, Err, nat_lt, ◌==◌, not, is_none, option_map, if◌then◌else◌}
 use Rattle.std.specs.Str.{is_utf8}
 use Rattle.std.specs.Str.Lossy.{utf8_valid_len}
 use Rattle.scale_core.specs.Compact.{target_bytes}
@@ -18,7 +18,9 @@ use Rattle.grammar_core.specs.declared.form.Next.{Next}
 use Rattle.grammar_core.specs.declared.form.Next.TheVariants as next
 use Rattle.grammar_core.specs.declared.form.StopReason.{StopReason}
 use Rattle.grammar_core.specs.declared.form.StopReason.TheVariants as stop
-use Rattle.value_core.specs.Built.{Built, Pieces, pieces_bytes, arm_in, next_layout}
+use Rattle.widths_core.specs.declared.run_kind.RunKind.{RunKind}
+use Rattle.widths_core.specs.declared.run_kind.RunKind.TheVariants as kind
+use Rattle.value_core.specs.Built.{Built, Pieces, arm_in, next_layout}
 use Rattle.value_core.specs.Shown.{Seen}
 use Rattle.value_core.specs.Walked.{OpenPart, next_of}
 use Rattle.value_core.specs.declared.build_fault.BuildFault.{BuildFault}
@@ -38,18 +40,18 @@ other_fault _ = fault.WrongKind
 abbrev pub wrong : Option BuildFault
 wrong = Some fault.WrongKind
 
--- the form of what comes next for a call that adds a whole node: there is none while a text is open
+-- the form of what comes next for a call that adds a whole node: there is none while a run is open
 abbrev pub while_closed : Option Pieces → Form → Result Form BuildFault
 while_closed None f = Ok f
 while_closed (Some t) f = Err fault.WrongKind
 
 abbrev pub wanted_from : Option Pieces → Next → Result Form BuildFault
-wanted_from text (next.Wants f) = while_closed text f
-wanted_from text next.Finished = Err fault.WrongKind
-wanted_from text (next.Stop r) = Err (fault_of r)
+wanted_from run (next.Wants f) = while_closed run f
+wanted_from run next.Finished = Err fault.WrongKind
+wanted_from run (next.Stop r) = Err (fault_of r)
 
 abbrev pub wanted_of : Built → Result Form BuildFault
-wanted_of b = wanted_from b.text (next_of b.walk)
+wanted_of b = wanted_from b.run (next_of b.walk)
 
 -- what comes next is the first to be judged, and then whether the call suits its form
 abbrev pub judged : (Form → Option BuildFault) → Built → Option BuildFault
@@ -150,45 +152,86 @@ suits_list n (form.Array len) = in_range (len == n)
 suits_list n form.Sequence = None
 suits_list n _ = wrong
 
+abbrev pub found_fault : Option (ℕ × Arm) → Option BuildFault
+found_fault (Some found) = None
+found_fault None = Some fault.NoSuchVariant
+
 abbrev pub suits_arm : Option (ℕ × Arm) → Form → Option BuildFault
-suits_arm (Some found) form.Arm = None
-suits_arm None form.Arm = Some fault.NoSuchVariant
+suits_arm found form.Arm = found_fault found
 suits_arm found _ = wrong
 
 abbrev pub judged_arm : Built → ℕ → Option BuildFault
 judged_arm b index = judged (suits_arm (arm_in (next_layout b) index)) b
 
--- ---- a text in pieces
+-- ---- a text or a run of bytes, whole or in pieces
+
+abbrev pub suits_bytes : List ℕ → Form → Option BuildFault
+suits_bytes s form.Bytes = in_range (nat_lt (length s) (2 ^ 32))
+suits_bytes s (form.ByteArray n) = in_range (length s == n)
+suits_bytes s _ = wrong
 
 abbrev pub suits_text_start : Form → Option BuildFault
 suits_text_start (form.Primitive P.Str) = None
 suits_text_start _ = wrong
 
--- how many bytes the open text lacks
-abbrev pub missing_from : Option Pieces → Result ℕ BuildFault
-missing_from (Some t) = Ok (t.len - length t.bytes)
+abbrev pub suits_bytes_start : ℕ → Form → Option BuildFault
+suits_bytes_start len form.Bytes = None
+suits_bytes_start len (form.ByteArray n) = in_range (n == len)
+suits_bytes_start len _ = wrong
+
+-- what the open run is, and how many bytes it lacks
+abbrev pub missing_from : Option Pieces → Result (RunKind × ℕ) BuildFault
+missing_from (Some t) = Ok (t.kind, t.len - length t.bytes)
 missing_from None = Err fault.WrongKind
 
-abbrev pub missing_at : Option Pieces → Next → Result ℕ BuildFault
-missing_at text (next.Wants f) = missing_from text
-missing_at text next.Finished = Err fault.WrongKind
-missing_at text (next.Stop r) = Err (fault_of r)
+abbrev pub missing_at : Option Pieces → Next → Result (RunKind × ℕ) BuildFault
+missing_at run (next.Wants f) = missing_from run
+missing_at run next.Finished = Err fault.WrongKind
+missing_at run (next.Stop r) = Err (fault_of r)
 
-abbrev pub missing_of : Built → Result ℕ BuildFault
-missing_of b = missing_at b.text (next_of b.walk)
+abbrev pub missing_of : Built → Result (RunKind × ℕ) BuildFault
+missing_of b = missing_at b.run (next_of b.walk)
 
-abbrev pub judged_piece : Built → List ℕ → Option BuildFault
-judged_piece b piece = elim (missing_of b)
+-- the open run lacks nothing
+abbrev pub IsRunWhole : Built → Type 0
+IsRunWhole b = (k : RunKind) × (missing_of b ≡ Ok (k, 0))
+
+-- how many bytes the open run lacks, where it is a text, and where it is a run of bytes
+abbrev pub of_text : RunKind → ℕ → Result ℕ BuildFault
+of_text kind.Text n = Ok n
+of_text _ n = Err fault.WrongKind
+
+abbrev pub missing_text : Built → Result ℕ BuildFault
+missing_text b = elim (missing_of b) [ Ok m ↦ of_text m.0 m.1 | Err e ↦ Err e ]
+
+abbrev pub of_bytes : RunKind → ℕ → Result ℕ BuildFault
+of_bytes kind.Text n = Err fault.WrongKind
+of_bytes _ n = Ok n
+
+abbrev pub missing_bytes : Built → Result ℕ BuildFault
+missing_bytes b = elim (missing_of b) [ Ok m ↦ of_bytes m.0 m.1 | Err e ↦ Err e ]
+
+-- a piece of a run that lacks so many bytes
+abbrev pub judged_piece : Result ℕ BuildFault → List ℕ → Option BuildFault
+judged_piece missing piece = elim missing
     [ Ok n ↦ in_range (not (nat_lt n (length piece))) | Err e ↦ Some e ]
 
--- bytes that are no text
-abbrev pub text_fault : List ℕ → Option BuildFault
-text_fault s = if is_utf8 s then None else Some (fault.BadText (utf8_valid_len s))
+-- how long the longest valid front of a text is that is not UTF-8; a run of bytes may be any
+abbrev pub bad_bytes : RunKind → List ℕ → Option ℕ
+bad_bytes kind.Text s = if is_utf8 s then None else Some (utf8_valid_len s)
+bad_bytes _ s = None
 
--- bytes that are missing first, and then bytes that are no text
-abbrev pub judged_end : Built → Option BuildFault
-judged_end b = elim (missing_of b) [
-  | Ok n ↦ if nat_lt 0 n then Some fault.UnfinishedValue else text_fault (pieces_bytes b.text)
+abbrev pub bad_text : Option Pieces → Option ℕ
+bad_text (Some t) = bad_bytes t.kind t.bytes
+bad_text None = None
+
+abbrev pub run_fault : Option Pieces → Option BuildFault
+run_fault run = option_map fault.BadText (bad_text run)
+
+-- the end of a run that lacks so many bytes: those first, and then bytes that are no text
+abbrev pub judged_end : Result ℕ BuildFault → Built → Option BuildFault
+judged_end missing b = elim missing [
+  | Ok n ↦ if nat_lt 0 n then Some fault.UnfinishedValue else run_fault b.run
   | Err e ↦ Some e
 ]
 

@@ -44,6 +44,10 @@ abbrev pub text_of : Tree → Option (List ℕ)
 text_of (tree.leaf (tree.text s)) = Some s
 text_of _ = None
 
+abbrev pub bytes_of : Tree → Option (List ℕ)
+bytes_of (tree.leaf (tree.bytes s)) = Some s
+bytes_of _ = None
+
 -- ---- how it is kept
 
 -- the integer of a word of sixteen bytes in two's complement
@@ -61,6 +65,8 @@ head_shown pool n (is.Bool b) = head.leaf (tree.bool b)
 head_shown pool n (is.Char c) = head.leaf (tree.char c)
 head_shown pool n (is.Count k) = head.leaf (tree.count k)
 head_shown pool n (is.Text len start) = head.leaf (tree.text (slice_range pool start (start + len)))
+head_shown pool n (is.Bytes len start) =
+    head.leaf (tree.bytes (slice_range pool start (start + len)))
 head_shown pool n (is.Unsigned k) = head.leaf (tree.unsigned k)
 head_shown pool n (is.Compact k) = head.leaf (tree.compact k)
 head_shown pool n (is.Signed z) = head.leaf (tree.signed z)
@@ -90,6 +96,7 @@ closed_as c k = c
 -- how many bytes it has in the pool
 abbrev pub kept_bytes : Content → ℕ
 kept_bytes (is.Text len start) = len
+kept_bytes (is.Bytes len start) = len
 kept_bytes (is.LongUnsigned start) = 16
 kept_bytes (is.LongCompact start) = 16
 kept_bytes (is.LongSigned start) = 16
@@ -104,6 +111,7 @@ all_kept (n ∷ ns) = kept_bytes n.content + all_kept ns
 -- its bytes lie in the pool
 abbrev pub IsInPool : List ℕ → Content → Type 0
 IsInPool pool (is.Text len start) = start + len ≤ length pool
+IsInPool pool (is.Bytes len start) = start + len ≤ length pool
 IsInPool pool (is.LongUnsigned start) = start + 16 ≤ length pool
 IsInPool pool (is.LongCompact start) = start + 16 ≤ length pool
 IsInPool pool (is.LongSigned start) = start + 16 ≤ length pool

@@ -1,5 +1,5 @@
 -- What a node is, as callers see it.
-use Rattle.grammar_core.specs.Tree.{Tree, leaf, branch, unit, bool, char, text, unsigned, signed, wide, compact, fields, arm, list, count}
+use Rattle.grammar_core.specs.Tree.{Tree, leaf, branch, unit, bool, char, text, bytes, unsigned, signed, wide, compact, fields, arm, list, count}
 use Rattle.value_core.specs.declared.what.What.{What}
 use Rattle.value_core.specs.declared.what.What.TheVariants as what
 
@@ -8,6 +8,7 @@ what_of (leaf unit) = what.Empty
 what_of (leaf (bool b)) = what.Bool b
 what_of (leaf (char c)) = what.Char c
 what_of (leaf (text s)) = what.Text
+what_of (leaf (bytes s)) = what.Bytes
 what_of (leaf (unsigned n)) = what.Unsigned n
 what_of (leaf (signed z)) = what.Signed z
 what_of (leaf (wide s)) = what.Wide s

@@ -4,7 +4,7 @@ ghost use Rattle.std.specs.Prelude.{◌≡◌};
 ghost use Rattle.grammar_core.specs.Preorder as head;
 ghost use Rattle.grammar_core.specs.Tree as tree;
 ghost use Rattle.value_core.specs.Built.{with_leaf, with_fields, with_arm, with_list};
-ghost use Rattle.value_core.specs.Refusals.{Adds, judged, judged_arm, most_unsigned, most_signed, is_within, suits_char, suits_signed, suits_empty, suits_bool, suits_text, suits_unsigned, suits_wide, suits_compact, suits_count, suits_fields, suits_list};
+ghost use Rattle.value_core.specs.Refusals.{Adds, judged, judged_arm, most_unsigned, most_signed, is_within, suits_char, suits_signed, suits_empty, suits_bool, suits_unsigned, suits_wide, suits_compact, suits_count, suits_fields, suits_list};
 
 use crate::build_fault::BuildFault;
 use crate::builder::Builder;
@@ -150,23 +150,6 @@ impl<'r, A: Allocator> Builder<'r, A> {
         }
     }
 
-    /// Adds a text.
-    ///
-    /// Refuses as `empty` does, and with `OutOfRange` a text of more than 4294967295 bytes.
-    #[tactic(auto, using(crate::proofs::Wanted::wanted_next, crate::proofs::Wanted::wanted_closed, crate::proofs::NextLeaf::text_next))]
-    pub fn text(&mut self, text: &str) -> Result<(), BuildFault>
-        ensures { Adds (judged (suits_text text.now) self.old) (with_leaf self.old (head.leaf (tree.text text.now))) self.old self.new result }
-    {
-        let Form::Primitive(Primitive::Str) = self.wanted()? else {
-            return Err(BuildFault::WrongKind);
-        };
-        if text.len() > u32::MAX as usize {
-            return Err(BuildFault::OutOfRange);
-        }
-        self.add_leaf(Leaf::Text(text.as_bytes()))?;
-        Ok(())
-    }
-
     /// Adds a compact integer.
     ///
     /// Refuses as `empty` does, and with `OutOfRange` a number that is too great for what the compact stands over.
@@ -214,7 +197,7 @@ impl<'r, A: Allocator> Builder<'r, A> {
         Ok(())
     }
 
-    /// Adds an array, or a sequence of elements that take bytes; its elements come next.
+    /// Adds an array, or a sequence of elements that take bytes; its elements come next. Those of u8 are added by `bytes`.
     ///
     /// Refuses as `empty` does, and with `OutOfRange` a count that is not the array's length.
     #[tactic(auto, using(crate::proofs::Wanted::wanted_next, crate::proofs::Wanted::wanted_closed))]

@@ -1,12 +1,13 @@
 //! A value that is built node by node.
 
 ghost use Rattle.std.specs.Prelude.{◌≡◌, ◌<◌, ◌≤◌, ◌+◌, ◌++◌, ◌∷◌, [], length, true, false, OnOk, OnErr, IfOk, IfErr, Ok, None};
+ghost use Rattle.grammar_core.specs.Runs.{run_form};
 ghost use Rattle.value_core.specs.Begun.{IsBegun};
 ghost use Rattle.value_core.specs.Building.{AreBuilt, Settles};
-ghost use Rattle.value_core.specs.Built.{IsSettled, built_text_bytes, closings, finished, settled_walk, with_leaf, with_open, with_piece, with_text_ended, with_text_opened, pieces_bytes, IsNextLeaf, IsNextOpen};
+ghost use Rattle.value_core.specs.Built.{IsSettled, built_text_bytes, closings, finished, settled_walk, with_leaf, with_open, with_piece, with_run_ended, with_run_opened, FitsKind, IsNextLeaf, IsNextOpen};
 ghost use Rattle.value_core.specs.Frames.{left_of};
 ghost use Rattle.value_core.specs.Shown.{head_shown, size_shown};
-ghost use Rattle.value_core.specs.Refusals.{Finishes, Opens, missing_of, other_fault, text_fault, wanted_of, is_whole, opening_fault};
+ghost use Rattle.value_core.specs.Refusals.{Finishes, Opens, IsRunWhole, bad_text, missing_of, other_fault, wanted_of, is_whole, opening_fault};
 ghost use Rattle.value_core.specs.Walked.{advanced, next_of, opened, start_of};
 ghost use Rattle.value_core.specs.Leaves.{leaf_head, FitsLeaf, IsAppended};
 
@@ -14,12 +15,12 @@ use crate::build_fault::BuildFault;
 use crate::leaf::Leaf;
 use crate::left::Left;
 use crate::node::{Content, Node};
-use crate::open_text::OpenText;
+use crate::open_run::OpenRun;
 use crate::value::Value;
 use crate::walk::Walk;
 use count_core::Count;
-use grammar_core::{Form, MAX_DEPTH, Next};
-use registry_core::{Primitive, TypeId};
+use grammar_core::{Form, MAX_DEPTH, Next, RunKind};
+use registry_core::TypeId;
 use simdutf8::compat::from_utf8;
 use std::alloc::{AllocError, Allocator};
 use std::marker::Model;
@@ -33,20 +34,20 @@ pub struct Builder<'r, A: Allocator> {
     nodes: Vec<Node, A>,
     pool: Vec<u8, A>,
     text_len: usize,
-    open_text: Option<OpenText>,
+    open_run: Option<OpenRun>,
     turns: Count,
 }
 
 impl<'r, A: Allocator> Model for Builder<'r, A> {
     ghost use Rattle.value_core.specs.Built.{Built, IsSettled, entries_shown};
-    ghost use Rattle.value_core.specs.Building.{IsBuilding, IsOpenText, IsPaid, pieces_shown};
+    ghost use Rattle.value_core.specs.Building.{IsBuilding, IsOpenRun, IsPaid, pieces_shown};
     ghost use Rattle.value_core.specs.Shown.{all_kept};
 
     ghost Value = { Built };
 
-    ghost view = { λ b. record { ty = b.root.0; walk = b.walk; entries = entries_shown b.pool.items b.nodes.items; text = pieces_shown b.pool.items b.open_text; turns = b.turns.so_far } };
+    ghost view = { λ b. record { ty = b.root.0; walk = b.walk; entries = entries_shown b.pool.items b.nodes.items; run = pieces_shown b.pool.items b.open_run; turns = b.turns.so_far } };
 
-    ghost invariant = { λ b. IsBuilding b.root.0 b.walk b.pool.items b.nodes.items b.text_len × IsOpenText b.walk b.pool.items (all_kept b.nodes.items) b.open_text × IsSettled b.walk × IsPaid b.walk b.nodes.items b.turns.so_far };
+    ghost invariant = { λ b. IsBuilding b.root.0 b.walk b.pool.items b.nodes.items b.text_len × IsOpenRun b.walk b.pool.items (all_kept b.nodes.items) b.open_run × IsSettled b.walk × IsPaid b.walk b.nodes.items b.turns.so_far };
 }
 
 /// The refusal of a call that is not the one for what comes next.
@@ -156,7 +157,7 @@ impl<'r, A: Allocator + Clone> Builder<'r, A> {
         root: TypeId,
         depth: u16,
     ) -> Result<Builder<'r, A>, BuildFault>
-        ensures { Opens (opening_fault checked.now.types root.0 depth) (record { ty = root.0; walk = start_of checked.now.types root.0 depth; entries = []; text = None; turns = 0 }) result }
+        ensures { Opens (opening_fault checked.now.types root.0 depth) (record { ty = root.0; walk = start_of checked.now.types root.0 depth; entries = []; run = None; turns = 0 }) result }
     {
         if checked.class(root).is_none() {
             return Err(BuildFault::UnknownType);
@@ -172,7 +173,7 @@ impl<'r, A: Allocator + Clone> Builder<'r, A> {
             nodes,
             pool,
             text_len: 0,
-            open_text: None,
+            open_run: None,
             turns: Count::new(),
         })
     }
@@ -192,7 +193,7 @@ impl<'r, A: Allocator> Builder<'r, A> {
             nodes,
             pool,
             text_len,
-            open_text: _,
+            open_run: _,
             turns: _,
         } = self;
         Ok(Value::new(walk.checked(), nodes, pool, text_len))
@@ -214,13 +215,13 @@ impl<'r, A: Allocator> Builder<'r, A> {
         self.nodes.as_slice().len() as u64
     }
 
-    /// How many bytes of text it holds, those that came of an open text too; long integers are no texts.
+    /// How many bytes of texts and runs of bytes it holds, those that came of an open one too; long integers are neither.
     pub fn text_bytes(&self) -> u64
         ensures count { result ≡ built_text_bytes self.now }
         ensures begun { IsBegun self.now }
     {
-        match self.open_text {
-            Some(text) => (self.text_len + (self.pool.as_slice().len() - text.start)) as u64,
+        match self.open_run {
+            Some(open) => (self.text_len + (self.pool.as_slice().len() - open.start)) as u64,
             None => self.text_len as u64,
         }
     }
@@ -235,12 +236,12 @@ impl<'r, A: Allocator> Builder<'r, A> {
     }
 
     /// The form of what comes next, for a call that adds a whole node; refused with what the walk stops at, and with
-    /// `WrongKind` where nothing is next or a text is open.
+    /// `WrongKind` where nothing is next, or a text or a run of bytes is open.
     pub(crate) fn wanted(&self) -> Result<Form, BuildFault>
         ensures { result ≡ wanted_of self.now }
     {
         match self.walk.next() {
-            Next::Wants(form) if self.open_text.is_none() => Ok(form),
+            Next::Wants(form) if self.open_run.is_none() => Ok(form),
             other => Err(other_fault(other)),
         }
     }
@@ -249,7 +250,7 @@ impl<'r, A: Allocator> Builder<'r, A> {
     /// the other calls do once they have judged. Where memory is refused nothing changes.
     #[inline(always)]
     pub fn add_leaf(&mut self, leaf: Leaf<'_>) -> Result<(), AllocError>
-        requires closed { self.old.text ≡ None }
+        requires closed { self.old.run ≡ None }
         requires next { IsNextLeaf self.old.walk (leaf_head leaf) }
         requires fits { FitsLeaf leaf }
         ensures ok { OnOk result (self.new ≡ with_leaf self.old (leaf_head leaf.entry)) }
@@ -267,7 +268,7 @@ impl<'r, A: Allocator> Builder<'r, A> {
 
     /// Adds a node whose children come next, for the value of the next type. Where memory is refused nothing changes.
     pub(crate) fn add_open(&mut self, content: Content, left: Left) -> Result<(), AllocError>
-        requires closed { self.old.text ≡ None }
+        requires closed { self.old.run ≡ None }
         requires opened { size_shown content ≡ 0 }
         requires next { IsNextOpen self.old.walk (head_shown [] left.count content) (left_of self.old.walk.types left) }
         ensures ok { OnOk result (self.new ≡ with_open self.old (head_shown [] left.count content) (left_of self.old.walk.types left)) }
@@ -286,33 +287,36 @@ impl<'r, A: Allocator> Builder<'r, A> {
         Ok(())
     }
 
-    /// Begins a text of so many bytes, which the caller knows to be next: what `text_start` does once it has judged.
-    pub fn open_text(&mut self, len: u32)
-        requires closed { self.old.text ≡ None }
-        requires next { next_of self.old.walk ≡ Next.Wants (Form.Primitive Primitive.Str) }
-        ensures { self.new ≡ with_text_opened self.old len }
+    /// Begins a text or a run of so many bytes, which the caller knows to be next: what `text_start` and `bytes_start` do
+    /// once they have judged.
+    pub fn open_run(&mut self, kind: RunKind, len: u32)
+        requires closed { self.old.run ≡ None }
+        requires next { next_of self.old.walk ≡ Next.Wants (run_form kind) }
+        requires fits { FitsKind kind len }
+        ensures { self.new ≡ with_run_opened self.old kind len }
     {
         let start = self.pool.as_slice().len();
-        self.open_text = Some(OpenText { start, len });
+        self.open_run = Some(OpenRun { kind, start, len });
     }
 
-    /// How many bytes the open text still lacks; refused with what the walk stops at, and with `WrongKind` where no text
-    /// is open.
-    pub(crate) fn missing(&self) -> Result<usize, BuildFault>
+    /// What the open run is, and how many bytes it still lacks; refused with what the walk stops at, and with `WrongKind`
+    /// where none is open.
+    pub(crate) fn missing(&self) -> Result<(RunKind, usize), BuildFault>
         ensures { result ≡ missing_of self.now }
     {
-        match (self.walk.next(), self.open_text) {
-            (Next::Wants(_), Some(text)) => {
-                Ok(text.len as usize - (self.pool.as_slice().len() - text.start))
+        match (self.walk.next(), self.open_run) {
+            (Next::Wants(_), Some(open)) => {
+                let came = self.pool.as_slice().len() - open.start;
+                Ok((open.kind, open.len as usize - came))
             }
             (other, _) => Err(other_fault(other)),
         }
     }
 
-    /// Appends bytes to the open text, which lacks as many: what `text_piece` does once it has judged. Where memory is
-    /// refused nothing changes.
-    pub fn extend_text(&mut self, piece: &[u8]) -> Result<(), AllocError>
-        requires { IfOk (missing_of self.old) (λ n. length piece.now ≤ n) }
+    /// Appends bytes to the open run, which lacks as many: what `text_piece` and `bytes_piece` do once they have judged.
+    /// Where memory is refused nothing changes.
+    pub fn extend_run(&mut self, piece: &[u8]) -> Result<(), AllocError>
+        requires { IfOk (missing_of self.old) (λ m. length piece.now ≤ m.1) }
         ensures ok { OnOk result (self.new ≡ with_piece self.old piece.now) }
         ensures err { OnErr result (self.new ≡ self.old) }
     {
@@ -320,44 +324,42 @@ impl<'r, A: Allocator> Builder<'r, A> {
         Ok(())
     }
 
-    /// What is wrong with the bytes of the open text, if anything is.
-    pub(crate) fn text_fault(&self) -> Option<BuildFault>
-        ensures { result ≡ text_fault (pieces_bytes self.now.text) }
+    /// Where a text is open whose bytes are not UTF-8: how long their longest valid front is, in bytes.
+    pub fn bad_text(&self) -> Option<u64>
+        ensures { result ≡ bad_text self.now.run }
     {
-        let text = self.open_text?;
-        match from_utf8(&self.pool[text.start..]) {
-            Ok(_) => None,
-            Err(fault) => Some(BuildFault::BadText {
-                valid: fault.valid_up_to() as u64,
-            }),
+        let open = self.open_run?;
+        match open.kind {
+            RunKind::Text => match from_utf8(&self.pool[open.start..]) {
+                Ok(_) => None,
+                Err(fault) => Some(fault.valid_up_to() as u64),
+            },
+            RunKind::Bytes | RunKind::ByteArray(_) => None,
         }
     }
 
-    /// Takes the text that is open, which lacks nothing, as the next node. Where memory is refused nothing changes.
-    pub(crate) fn close_text(&mut self) -> Result<(), AllocError>
-        requires whole { missing_of self.old ≡ Ok 0 }
-        requires utf8 { text_fault (pieces_bytes self.old.text) ≡ None }
-        ensures ok { OnOk result (self.new ≡ with_text_ended self.old) }
+    /// Takes the run that is open, which lacks nothing and is no text that is not UTF-8, as the next node: what `text_end`
+    /// and `bytes_end` do once they have judged. Where memory is refused nothing changes.
+    pub fn close_run(&mut self) -> Result<(), AllocError>
+        requires whole { IsRunWhole self.old }
+        requires valid { bad_text self.old.run ≡ None }
+        ensures ok { OnOk result (self.new ≡ with_run_ended self.old) }
         ensures err { OnErr result (self.new ≡ self.old) }
     {
-        let Some(text) = self.open_text else {
+        let Some(open) = self.open_run else {
             unreachable!()
         };
         let Some(ty) = self.walk.next_type() else {
             unreachable!()
         };
-        let content = Content::Text {
-            start: text.start,
-            len: text.len,
-        };
         let node = Node {
             ty,
             children: 0,
-            content,
+            content: open.content(),
         };
         append_node(&mut self.nodes, node)?;
-        self.text_len += text.len as usize;
-        self.open_text = None;
+        self.text_len += open.len as usize;
+        self.open_run = None;
         self.walk.advance();
         settle(&mut self.walk, &mut self.nodes, &mut self.turns);
         Ok(())

@@ -18,6 +18,8 @@ pub enum Leaf<'b> {
     Char(char),
     /// A text, by its bytes in UTF-8, fewer than 2^32.
     Text(&'b [u8]),
+    /// A sequence or an array of u8, by its bytes, fewer than 2^32.
+    Bytes(&'b [u8]),
     /// An unsigned integer of at most sixteen bytes.
     Unsigned(u128),
     /// A signed integer of at most sixteen bytes.
@@ -54,13 +56,13 @@ fn short_signed(number: i128) -> Option<i64>
 }
 
 impl<'b> Leaf<'b> {
-    /// How many bytes of text it has.
+    /// How many bytes it has of a text or of a run of bytes.
     #[inline(always)]
     pub(crate) fn text_len(self) -> usize
         ensures { result ≡ leaf_text_bytes self.entry }
     {
         match self {
-            Leaf::Text(bytes) => bytes.len(),
+            Leaf::Text(bytes) | Leaf::Bytes(bytes) => bytes.len(),
             _ => 0,
         }
     }
@@ -82,6 +84,13 @@ impl<'b> Leaf<'b> {
             Leaf::Text(bytes) => {
                 pool.extend_from_slice(bytes)?;
                 Ok(Content::Text {
+                    start,
+                    len: bytes.len() as u32,
+                })
+            }
+            Leaf::Bytes(bytes) => {
+                pool.extend_from_slice(bytes)?;
+                Ok(Content::Bytes {
                     start,
                     len: bytes.len() as u32,
                 })

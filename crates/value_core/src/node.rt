@@ -6,13 +6,13 @@ ghost use Rattle.value_core.specs.Shown.{size_shown, closed_as};
 use registry_core::TypeId;
 
 /// How many bytes of memory a node of a value or a builder takes, whatever it is. Beside its nodes a value has the bytes
-/// of its texts, 32 for each 256-bit integer, and 16 for each other integer that does not fit 64 bits; vectors may have
+/// of its texts and runs of bytes, 32 for each 256-bit integer, and 16 for each other integer that does not fit 64 bits; vectors may have
 /// room for as much again while they grow.
 pub const NODE_BYTES: usize = 24;
 
 const _: () = prove!(size_of::<Node>() == NODE_BYTES);
 
-/// What a node is, with its number where that fits 64 bits. Texts and longer integers are told by their place in the pool
+/// What a node is, with its number where that fits 64 bits. Texts, runs of bytes and longer integers are told by their place in the pool
 /// of bytes, where an integer has its lowest byte first: sixteen bytes of a long one, 32 of a wide one.
 ///
 /// A node with parts tells how many nodes its subtree has: 0 while it is open. Numbers of four bytes stand in front of
@@ -24,6 +24,7 @@ pub(crate) enum Content {
     Char(char),
     Count(u32),
     Text { len: u32, start: usize },
+    Bytes { len: u32, start: usize },
     Unsigned(u64),
     Compact(u64),
     Signed(i64),

@@ -1,7 +1,7 @@
 //! A node of a value, lent.
 
 ghost use Rattle.std.specs.Prelude.{◌≡◌, option_map};
-ghost use Rattle.value_core.specs.Shown.{IsWhole, IsValue, seen, children_of, text_of};
+ghost use Rattle.value_core.specs.Shown.{IsWhole, IsValue, seen, bytes_of, children_of, text_of};
 ghost use Rattle.value_core.specs.Whats.{what_of};
 
 use crate::children::Children;
@@ -67,6 +67,7 @@ impl<'v, 'r> NodeRef<'v, 'r> {
             Content::Bool(x) => What::Bool(x),
             Content::Char(x) => What::Char(x),
             Content::Text { .. } => What::Text,
+            Content::Bytes { .. } => What::Bytes,
             Content::Unsigned(x) => What::Unsigned(u128::from(x)),
             Content::Compact(x) => What::Compact(u128::from(x)),
             Content::Signed(x) => What::Signed(i128::from(x)),
@@ -85,7 +86,7 @@ impl<'v, 'r> NodeRef<'v, 'r> {
         }
     }
 
-    /// The node's text, where it is one, lent.
+    /// The node's text, where it is one, lent. A run of bytes is none.
     #[inline(always)]
     pub fn text(&self) -> Option<&'v str>
         ensures { option_map (λ s. s.now) result ≡ text_of self.now.tree }
@@ -95,6 +96,17 @@ impl<'v, 'r> NodeRef<'v, 'r> {
                 let bytes = &self.pool[start..start + len as usize];
                 Some(unsafe { std::str::from_utf8_unchecked(bytes) })
             }
+            _ => None,
+        }
+    }
+
+    /// The node's bytes, where it is a sequence or an array of u8, lent.
+    #[inline(always)]
+    pub fn bytes(&self) -> Option<&'v [u8]>
+        ensures { option_map (λ s. s.now) result ≡ bytes_of self.now.tree }
+    {
+        match self.nodes[0].content {
+            Content::Bytes { start, len } => Some(&self.pool[start..start + len as usize]),
             _ => None,
         }
     }

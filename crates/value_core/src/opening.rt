@@ -14,7 +14,7 @@ impl<'r, A: Allocator> Builder<'r, A> {
     /// Adds a composite or a tuple, which the caller knows to be next: what `fields` does once it has judged. Where
     /// memory is refused nothing changes.
     pub fn add_fields(&mut self) -> Result<(), AllocError>
-        requires closed { self.old.text ≡ None }
+        requires closed { self.old.run ≡ None }
         requires next { next_of self.old.walk ≡ Next.Wants Form.Fields }
         ensures ok { OnOk result (self.new ≡ with_fields self.old) }
         ensures err { OnErr result (self.new ≡ self.old) }
@@ -26,7 +26,7 @@ impl<'r, A: Allocator> Builder<'r, A> {
     /// Adds a variant, which the caller knows to be next, by the index of its arm: what `arm` does once it has judged.
     /// Tells whether there is an arm of the index; where there is none, and where memory is refused, nothing changes.
     pub fn add_arm(&mut self, index: u8) -> Result<bool, AllocError>
-        requires closed { self.old.text ≡ None }
+        requires closed { self.old.run ≡ None }
         requires next { next_of self.old.walk ≡ Next.Wants Form.Arm }
         ensures found { IfOk result (λ b. b ≡ is_some (arm_in (next_layout self.old) index)) }
         ensures ok { result ≡ Ok true → self.new ≡ with_arm self.old index }
@@ -44,7 +44,7 @@ impl<'r, A: Allocator> Builder<'r, A> {
     /// Adds an array of this length, or a sequence of so many elements that take bytes, which the caller knows to be
     /// next: what `list` does once it has judged. Where memory is refused nothing changes.
     pub fn add_list(&mut self, count: u32) -> Result<(), AllocError>
-        requires closed { self.old.text ≡ None }
+        requires closed { self.old.run ≡ None }
         requires next { IsListNext self.old.walk count }
         ensures ok { OnOk result (self.new ≡ with_list self.old count) }
         ensures err { OnErr result (self.new ≡ self.old) }

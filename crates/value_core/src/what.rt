@@ -11,6 +11,8 @@ pub enum What {
     Char(char),
     /// A text; the node lends it.
     Text,
+    /// A sequence or an array of u8; the node lends its bytes.
+    Bytes,
     /// A u8, u16, u32, u64 or u128.
     Unsigned(u128),
     /// An i8, i16, i32, i64 or i128.
@@ -26,7 +28,7 @@ pub enum What {
         /// The position of the arm in the list of arms, which is not its index.
         position: u32,
     },
-    /// An array or a sequence; its elements are the node's children.
+    /// An array or a sequence of another type than u8; its elements are the node's children.
     List,
     /// A sequence of so many elements that take no bytes.
     Count(u32),

@@ -124,6 +124,7 @@ fn put_node(checked: &Checked, node: &Node, pool: &[u8], out: &mut [u8; 17]) -> 
             4
         }
         Content::Text { len, .. } => put_compact(u128::from(len), out),
+        Content::Bytes { len, .. } => put_length(checked, node.ty, len, out),
         Content::Unsigned(x) => put_integer(checked, node.ty, u128::from(x), out),
         Content::Compact(x) => put_compact(u128::from(x), out),
         Content::Signed(x) => put_integer(checked, node.ty, i128::from(x).cast_unsigned(), out),
@@ -144,7 +145,9 @@ fn pooled<'v>(node: &Node, pool: &'v [u8]) -> &'v [u8]
     ensures { result.now ≡ pool_bytes pool.now node.now.content }
 {
     match node.content {
-        Content::Text { start, len } => &pool[start..start + len as usize],
+        Content::Text { start, len } | Content::Bytes { start, len } => {
+            &pool[start..start + len as usize]
+        }
         Content::Wide { start } => &pool[start..start + 32],
         _ => &pool[..0],
     }

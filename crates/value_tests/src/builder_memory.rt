@@ -2,7 +2,9 @@
 
 use linked_list_allocator::LocalHeap;
 use registry_core::TypeId;
-use scale_tests::building::{BYTES, Call, Standing, TEXT, U8, add, checked, what_stands, written};
+use scale_tests::building::{
+    BYTES, Call, Standing, TEXT, U8, WORDS, add, checked, what_stands, written,
+};
 use scale_tests::rationed::Rationed;
 use std::alloc::{Allocator, Global};
 use std::process::Abort;
@@ -17,10 +19,10 @@ const MIXED: &[u8] =
 const MIXED_CALLS: [Call; 18] = [
     Call::Fields,
     Call::Text("ab"),
-    Call::List(3),
-    Call::Unsigned(1),
-    Call::Unsigned(2),
-    Call::Unsigned(3),
+    Call::BytesStart(3),
+    Call::BytesPiece(b"\x01"),
+    Call::BytesPiece(b"\x02\x03"),
+    Call::BytesEnd,
     Call::Wide([7; 32]),
     Call::Arm(1),
     Call::Arm(1),
@@ -70,7 +72,7 @@ fn refused_calls<A: Allocator + Clone>(
     let Ok(value) = builder.finish() else {
         return Err("no value")?;
     };
-    assert_eq!(rt; (value.node_count(), value.text_bytes()), (14, 6));
+    assert_eq!(rt; (value.node_count(), value.text_bytes()), (11, 9));
     let bytes = written(alloc, &value)?;
     assert_eq!(rt; bytes.as_slice(), MIXED_BYTES);
     Ok(refused)
@@ -168,12 +170,23 @@ fn check_full_heap(
 
 #[test]
 fn a_builder_on_a_full_heap_goes_on_when_there_is_room(rt: HostRuntime) -> Result<(), Fail> {
+    let words = checked(rt.alloc(), WORDS)?;
     let bytes = checked(rt.alloc(), BYTES)?;
     let text = checked(rt.alloc(), TEXT)?;
     let piece = Call::TextPiece(b"0123456789abcdef");
     'sizes: for size in [4096, 65_536] {
         let list = Call::List(65_536);
-        check_full_heap(&rt, rt.alloc(), &bytes, 1, list, Call::Unsigned(7), size)?;
+        check_full_heap(&rt, rt.alloc(), &words, 1, list, Call::Unsigned(7), size)?;
+        let run = Call::BytesStart(65_536);
+        check_full_heap(
+            &rt,
+            rt.alloc(),
+            &bytes,
+            1,
+            run,
+            Call::BytesPiece(b"0123456789abcdef"),
+            size,
+        )?;
         let start = Call::TextStart(65_536);
         check_full_heap(&rt, rt.alloc(), &text, 0, start, piece, size)?;
     }
@@ -183,7 +196,7 @@ fn a_builder_on_a_full_heap_goes_on_when_there_is_room(rt: HostRuntime) -> Resul
 // The heap is enough for the value, and not for what its length claims.
 #[test]
 fn a_claimed_length_takes_no_memory(rt: HostRuntime) -> Result<(), Fail> {
-    let checked = checked(rt.alloc(), BYTES)?;
+    let checked = checked(rt.alloc(), WORDS)?;
     let heap = LocalHeap::new(rt.alloc(), 4096)?;
     let Ok(mut builder) = Builder::new(&heap, &checked, TypeId(1), 64) else {
         return Err("no builder")?;
@@ -196,5 +209,23 @@ fn a_claimed_length_takes_no_memory(rt: HostRuntime) -> Result<(), Fail> {
         assert_eq!(rt; add(&mut builder, call), Ok(()), "{call:?}");
     }
     assert_eq!(rt; builder.node_count(), 3);
+    Ok(())
+}
+
+#[test]
+fn a_claimed_run_takes_no_memory(rt: HostRuntime) -> Result<(), Fail> {
+    let checked = checked(rt.alloc(), BYTES)?;
+    let heap = LocalHeap::new(rt.alloc(), 4096)?;
+    let Ok(mut builder) = Builder::new(&heap, &checked, TypeId(1), 64) else {
+        return Err("no builder")?;
+    };
+    'calls: for call in [
+        Call::BytesStart(4_294_967_295),
+        Call::BytesPiece(b"\x01"),
+        Call::BytesPiece(b"\x02\x03"),
+    ] {
+        assert_eq!(rt; add(&mut builder, call), Ok(()), "{call:?}");
+    }
+    assert_eq!(rt; (builder.node_count(), builder.text_bytes()), (0, 3));
     Ok(())
 }

@@ -14,7 +14,8 @@ const COUNTING_UP: [u8; 32] = [
 
 const OUT_OF_RANGE: Option<BuildFault> = Some(BuildFault::OutOfRange);
 
-/// Each is an array of two or three values of one primitive type.
+/// Each is an array of two or three values of one primitive type, but for bytes, whose array is one node: they are the
+/// members of a tuple.
 const ARRAYS: [Row; 14] = [
     Row {
         name: "booleans",
@@ -43,11 +44,11 @@ const ARRAYS: [Row; 14] = [
     },
     Row {
         name: "unsigned integers of one byte",
-        registry: b"\x08\x00\x00\x00\x05\x03\x00\x04\x00\x00\x03\x02\x00\x00\x00\x00\x00",
+        registry: b"\x08\x00\x00\x00\x05\x03\x00\x04\x00\x00\x04\x08\x00\x00\x00",
         ty: 1,
         depth: 64,
         calls: &[
-            (Call::List(2), None),
+            (Call::Fields, None),
             (Call::Unsigned(256), OUT_OF_RANGE),
             (Call::Unsigned(255), None),
             (Call::Unsigned(0), None),

@@ -2,8 +2,9 @@
 
 use registry_core::TypeId;
 use scale_tests::building::{
-    BITS_IN_AN_ARM, BYTES, CHAIN, COMPACT_OF_A_BOOL, Call, ENDLESS, LONG_ARRAY, OPTION, TEXT,
-    TWO_UNITS_AND_A_BYTE, U8, UNITS, WIDE, add, checked, what_stands,
+    BITS_IN_AN_ARM, BYTES, CHAIN, COMPACT_OF_A_BOOL, Call, ENDLESS, LONG_ARRAY,
+    LONG_ARRAY_OF_WORDS, NO_BYTES, OPTION, TEXT, TWO_UNITS_AND_A_BYTE, U8, UNITS, WIDE, WORDS,
+    WRAPPED_BYTES, add, checked, what_stands,
 };
 use std::alloc::Global;
 use std::process::Abort;
@@ -11,7 +12,7 @@ use std::test::Fail;
 use value_core::{BuildFault, Builder};
 
 /// Each call, with a number, an index or a length that is outside the range of most types.
-const CALLS: [(&str, Call); 15] = [
+const CALLS: [(&str, Call); 19] = [
     ("empty", Call::Empty),
     ("bool", Call::Bool(true)),
     ("char", Call::Char('a')),
@@ -19,6 +20,10 @@ const CALLS: [(&str, Call); 15] = [
     ("text_start", Call::TextStart(4_294_967_295)),
     ("text_piece", Call::TextPiece(b"\xff")),
     ("text_end", Call::TextEnd),
+    ("bytes", Call::Bytes(b"\xff")),
+    ("bytes_start", Call::BytesStart(4_294_967_295)),
+    ("bytes_piece", Call::BytesPiece(b"\xff")),
+    ("bytes_end", Call::BytesEnd),
     (
         "unsigned",
         Call::Unsigned(340_282_366_920_938_463_463_374_607_431_768_211_455),
@@ -47,7 +52,7 @@ struct Suits {
     calls: &'static [&'static str],
 }
 
-const TYPES: [Suits; 16] = [
+const TYPES: [Suits; 19] = [
     Suits {
         name: "a unit",
         registry: UNITS,
@@ -56,7 +61,7 @@ const TYPES: [Suits; 16] = [
     },
     Suits {
         name: "an array of no elements",
-        registry: b"\x08\x00\x00\x00\x05\x03\x00\x04\x00\x00\x03\x00\x00\x00\x00\x00\x00",
+        registry: NO_BYTES,
         ty: 1,
         calls: &["empty"],
     },
@@ -127,15 +132,33 @@ const TYPES: [Suits; 16] = [
         calls: &["arm"],
     },
     Suits {
-        name: "a long array",
+        name: "a long array of bytes",
         registry: LONG_ARRAY,
         ty: 1,
-        calls: &["list"],
+        calls: &["bytes", "bytes_start"],
     },
     Suits {
         name: "a sequence of bytes",
         registry: BYTES,
         ty: 1,
+        calls: &["bytes", "bytes_start"],
+    },
+    Suits {
+        name: "a long array of words",
+        registry: LONG_ARRAY_OF_WORDS,
+        ty: 1,
+        calls: &["list"],
+    },
+    Suits {
+        name: "a sequence of words",
+        registry: WORDS,
+        ty: 1,
+        calls: &["list"],
+    },
+    Suits {
+        name: "a sequence of wrapped bytes",
+        registry: WRAPPED_BYTES,
+        ty: 2,
         calls: &["list"],
     },
     Suits {
@@ -327,5 +350,26 @@ fn no_node_is_added_while_a_text_is_open(rt: HostRuntime) -> Result<(), Fail> {
     }
     assert_eq!(rt; builder.text_piece(b"a"), Ok(()));
     assert_eq!(rt; builder.text_end(), Ok(()));
+    Ok(())
+}
+
+#[test]
+fn no_node_is_added_while_bytes_are_open(rt: HostRuntime) -> Result<(), Fail> {
+    let checked = checked(rt.alloc(), BYTES)?;
+    let Ok(mut builder) = Builder::new(rt.alloc(), &checked, TypeId(1), 64) else {
+        return Err("no builder")?;
+    };
+    assert_eq!(rt; builder.bytes_start(1), Ok(()));
+    let before = what_stands(&builder);
+    'calls: for (word, call) in CALLS {
+        let fault = match word {
+            "bytes_piece" | "bytes_end" => continue,
+            _ => BuildFault::WrongKind,
+        };
+        assert_eq!(rt; add(&mut builder, call), Err(fault), "{word}");
+        assert_eq!(rt; what_stands(&builder), before, "what stands behind {word}");
+    }
+    assert_eq!(rt; builder.bytes_piece(b"\xff"), Ok(()));
+    assert_eq!(rt; builder.bytes_end(), Ok(()));
     Ok(())
 }

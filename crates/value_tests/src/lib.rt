@@ -2,6 +2,8 @@
 #![tactic(auto)]
 
 #[cfg(test)]
+mod builder_bytes;
+#[cfg(test)]
 mod builder_memory;
 #[cfg(test)]
 mod builder_numbers;

@@ -4,7 +4,8 @@ use crate::row::{Row, check_row};
 use registry_core::TypeId;
 use scale_tests::building::{
     BITS_IN_AN_ARM, BYTES, CHAIN, COMPACT_OF_A_BOOL, COMPACT_U128, Call, ENDLESS, LONG_ARRAY,
-    OPTION, SHADOWED_ARM, TEXT, TWO_UNITS_AND_A_BYTE, U8, UNITS, WIDE, add, checked, written,
+    LONG_ARRAY_OF_WORDS, NO_BYTES, OPTION, SHADOWED_ARM, TEXT, TWO_UNITS_AND_A_BYTE, U8, UNITS,
+    WIDE, WORDS, WRAPPED_BYTES, add, checked, written,
 };
 use std::test::Fail;
 use value_core::{BuildFault, Builder, What};
@@ -13,7 +14,7 @@ const ONE: [u8; 32] = [
     1, 0, 0, 0, 0, 0, 0, 0, 0, 0, 0, 0, 0, 0, 0, 0, 0, 0, 0, 0, 0, 0, 0, 0, 0, 0, 0, 0, 0, 0, 0, 0,
 ];
 
-const ROWS: [Row; 16] = [
+const ROWS: [Row; 20] = [
     Row {
         name: "a byte",
         registry: U8,
@@ -66,16 +67,68 @@ const ROWS: [Row; 16] = [
         depth: 64,
         calls: &[
             (Call::Count(2), Some(BuildFault::WrongKind)),
-            (Call::List(2), None),
-            (Call::Unsigned(7), None),
-            (Call::Unsigned(255), None),
-            (Call::Unsigned(7), Some(BuildFault::WrongKind)),
+            (Call::List(2), Some(BuildFault::WrongKind)),
+            (Call::Bytes(b"\x07\xff"), None),
+            (Call::Bytes(b""), Some(BuildFault::WrongKind)),
         ],
         bytes: Some(b"\x08\x07\xff"),
     },
     Row {
-        name: "a long array",
+        name: "a long array of bytes",
         registry: LONG_ARRAY,
+        ty: 1,
+        depth: 64,
+        calls: &[
+            (Call::List(4_294_967_295), Some(BuildFault::WrongKind)),
+            (Call::Bytes(b"\x01"), Some(BuildFault::OutOfRange)),
+            (Call::BytesStart(5), Some(BuildFault::OutOfRange)),
+            (Call::BytesStart(4_294_967_295), None),
+            (Call::BytesPiece(b"\x01"), None),
+            (Call::BytesEnd, Some(BuildFault::UnfinishedValue)),
+        ],
+        bytes: None,
+    },
+    Row {
+        name: "an array of no bytes",
+        registry: NO_BYTES,
+        ty: 1,
+        depth: 0,
+        calls: &[
+            (Call::Bytes(b""), Some(BuildFault::WrongKind)),
+            (Call::Empty, None),
+        ],
+        bytes: Some(b""),
+    },
+    Row {
+        name: "a sequence of wrapped bytes",
+        registry: WRAPPED_BYTES,
+        ty: 2,
+        depth: 2,
+        calls: &[
+            (Call::Bytes(b"\x07"), Some(BuildFault::WrongKind)),
+            (Call::List(1), None),
+            (Call::Fields, None),
+            (Call::Unsigned(7), None),
+        ],
+        bytes: Some(b"\x04\x07"),
+    },
+    Row {
+        name: "a sequence of words",
+        registry: WORDS,
+        ty: 1,
+        depth: 64,
+        calls: &[
+            (Call::Count(2), Some(BuildFault::WrongKind)),
+            (Call::List(2), None),
+            (Call::Unsigned(7), None),
+            (Call::Unsigned(256), None),
+            (Call::Unsigned(7), Some(BuildFault::WrongKind)),
+        ],
+        bytes: Some(b"\x08\x07\x00\x00\x01"),
+    },
+    Row {
+        name: "a long array of words",
+        registry: LONG_ARRAY_OF_WORDS,
         ty: 1,
         depth: 64,
         calls: &[
@@ -287,6 +340,26 @@ fn a_text_is_lent(rt: HostRuntime) -> Result<(), Fail> {
     };
     assert_eq!(rt; value.root().what(), What::Text);
     assert_eq!(rt; value.root().text(), Some("\u{e9}a"));
+    assert!(rt; value.root().bytes().is_none());
     assert_eq!(rt; (value.node_count(), value.text_bytes()), (1, 3));
+    Ok(())
+}
+
+#[test]
+fn bytes_are_lent(rt: HostRuntime) -> Result<(), Fail> {
+    let checked = checked(rt.alloc(), BYTES)?;
+    let Ok(mut builder) = Builder::new(rt.alloc(), &checked, TypeId(1), 0) else {
+        return Err("no builder")?;
+    };
+    assert_eq!(rt; builder.bytes(b"\x61\xff"), Ok(()));
+    let Ok(value) = builder.finish() else {
+        return Err("no value")?;
+    };
+    assert_eq!(rt; value.root().what(), What::Bytes);
+    let run = value.root().bytes().ok_or("no bytes")?;
+    assert!(rt; run == b"\x61\xff".as_slice());
+    assert!(rt; value.root().text().is_none());
+    assert!(rt; value.root().children().next().is_none());
+    assert_eq!(rt; (value.node_count(), value.text_bytes()), (1, 2));
     Ok(())
 }

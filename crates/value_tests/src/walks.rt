@@ -4,7 +4,8 @@ use registry_core::{Primitive, TypeId};
 use scale_core::Target;
 use scale_tests::building::{
     BITS_IN_AN_ARM, BYTES, CHAIN, COMPACT_OF_A_BOOL, COMPACT_U128, Call, ENDLESS, LONG_ARRAY,
-    OPTION, SHADOWED_ARM, TEXT, TWO_UNITS_AND_A_BYTE, UNITS, add, checked, what_stands, written,
+    LONG_ARRAY_OF_WORDS, OPTION, SHADOWED_ARM, TEXT, TWO_UNITS_AND_A_BYTE, UNITS, WORDS, add,
+    checked, what_stands, written,
 };
 use std::alloc::Global;
 use std::process::Abort;
@@ -23,13 +24,19 @@ struct Row {
     calls: &'static [(Call, Next, u16)],
 }
 
-/// A tuple of a sequence of bytes and a byte.
-const BYTES_AND_A_BYTE: &[u8] =
-    b"\x0c\x00\x00\x00\x05\x03\x00\x04\x00\x00\x02\x00\x00\x08\x00\x00\x04\x08\x04\x00\x00";
+/// Type 3 is a tuple of a sequence of u16, type 2, and a u8.
+const WORDS_AND_A_BYTE: &[u8] =
+    b"\x10\x00\x00\x00\x05\x03\x00\x04\x00\x00\x05\x04\x00\x08\x00\x00\x02\x04\x00\x0c\x00\x00\x04\x08\x08\x00\x00";
 
 const BYTE: Next = Next::Wants(Form::Primitive(Primitive::U8));
 
+const SHORT: Next = Next::Wants(Form::Primitive(Primitive::U16));
+
 const WORD: Next = Next::Wants(Form::Primitive(Primitive::U32));
+
+const RUN: Next = Next::Wants(Form::Bytes);
+
+const LONG_RUN: Next = Next::Wants(Form::ByteArray(4_294_967_295));
 
 const WRITTEN: Next = Next::Wants(Form::Primitive(Primitive::Str));
 
@@ -37,25 +44,25 @@ const UNIT: Next = Next::Wants(Form::Empty);
 
 const ARM: Next = Next::Wants(Form::Arm);
 
-const ROWS: [Row; 13] = [
+const ROWS: [Row; 16] = [
     Row {
-        name: "bytes and a byte",
-        registry: BYTES_AND_A_BYTE,
-        ty: 2,
+        name: "words and a byte",
+        registry: WORDS_AND_A_BYTE,
+        ty: 3,
         depth: 2,
         first: Next::Wants(Form::Fields),
         calls: &[
             (Call::Fields, Next::Wants(Form::Sequence), 1),
-            (Call::List(2), BYTE, 2),
-            (Call::Unsigned(7), BYTE, 2),
+            (Call::List(2), SHORT, 2),
+            (Call::Unsigned(7), SHORT, 2),
             (Call::Unsigned(255), BYTE, 1),
             (Call::Unsigned(42), Next::Finished, 0),
         ],
     },
     Row {
-        name: "no bytes and a byte",
-        registry: BYTES_AND_A_BYTE,
-        ty: 2,
+        name: "no words and a byte",
+        registry: WORDS_AND_A_BYTE,
+        ty: 3,
         depth: 1,
         first: Next::Wants(Form::Fields),
         calls: &[
@@ -65,12 +72,32 @@ const ROWS: [Row; 13] = [
         ],
     },
     Row {
-        name: "bytes that are too deep",
-        registry: BYTES,
+        name: "words that are too deep",
+        registry: WORDS,
         ty: 1,
         depth: 0,
         first: Next::Wants(Form::Sequence),
         calls: &[(Call::List(1), Next::Stop(StopReason::TooDeep), 1)],
+    },
+    Row {
+        name: "bytes, which have no depth of their own",
+        registry: BYTES,
+        ty: 1,
+        depth: 0,
+        first: RUN,
+        calls: &[(Call::Bytes(b"\x07"), Next::Finished, 0)],
+    },
+    Row {
+        name: "bytes in pieces",
+        registry: BYTES,
+        ty: 1,
+        depth: 0,
+        first: RUN,
+        calls: &[
+            (Call::BytesStart(1), RUN, 0),
+            (Call::BytesPiece(b"\xff"), RUN, 0),
+            (Call::BytesEnd, Next::Finished, 0),
+        ],
     },
     Row {
         name: "two units and a byte",
@@ -124,12 +151,20 @@ const ROWS: [Row; 13] = [
         calls: &[(Call::Count(3), Next::Finished, 0)],
     },
     Row {
-        name: "a long array",
+        name: "a long array of bytes",
         registry: LONG_ARRAY,
         ty: 1,
         depth: 64,
+        first: LONG_RUN,
+        calls: &[(Call::BytesStart(4_294_967_295), LONG_RUN, 0)],
+    },
+    Row {
+        name: "a long array of words",
+        registry: LONG_ARRAY_OF_WORDS,
+        ty: 1,
+        depth: 64,
         first: Next::Wants(Form::Array(4_294_967_295)),
-        calls: &[(Call::List(4_294_967_295), BYTE, 1)],
+        calls: &[(Call::List(4_294_967_295), SHORT, 1)],
     },
     Row {
         name: "a compact integer",
@@ -250,8 +285,8 @@ fn the_first_of_two_arms_with_one_index_is_told(rt: HostRuntime) -> Result<(), F
 // A subtree of two nodes is passed over in one step, and what stands behind it is still told.
 #[test]
 fn children_are_told_behind_a_subtree(rt: HostRuntime) -> Result<(), Fail> {
-    let checked = checked(rt.alloc(), BYTES_AND_A_BYTE)?;
-    let Ok(mut builder) = Builder::new(rt.alloc(), &checked, TypeId(2), 64) else {
+    let checked = checked(rt.alloc(), WORDS_AND_A_BYTE)?;
+    let Ok(mut builder) = Builder::new(rt.alloc(), &checked, TypeId(3), 64) else {
         return Err("no builder")?;
     };
     let calls = [
@@ -276,14 +311,14 @@ fn children_are_told_behind_a_subtree(rt: HostRuntime) -> Result<(), Fail> {
         }
     }
     let wanted = [
-        (TypeId(1), What::List),
-        (TypeId(0), What::Unsigned(7)),
-        (TypeId(0), What::Unsigned(255)),
+        (TypeId(2), What::List),
+        (TypeId(1), What::Unsigned(7)),
+        (TypeId(1), What::Unsigned(255)),
         (TypeId(0), What::Unsigned(42)),
     ];
     assert_eq!(rt; seen.as_slice(), wanted.as_slice());
     let bytes = written(rt.alloc(), &value)?;
-    assert_eq!(rt; bytes.as_slice(), b"\x08\x07\xff\x2a".as_slice());
+    assert_eq!(rt; bytes.as_slice(), b"\x08\x07\x00\xff\x00\x2a".as_slice());
     Ok(())
 }
 

@@ -16,8 +16,9 @@ use Rattle.widths_core.specs.declared.step.Step.TheVariants as step
 use Rattle.graph_core.specs.Types.{shape}
 use Rattle.widths_core.specs.Arms.{arm_of, arm_from, arm_of_shape, arm_at}
 use Rattle.widths_core.specs.Classes.{class_of}
+use Rattle.widths_core.specs.Layouts.{is_byte}
 use Rattle.widths_core.specs.Rows.{IsPlace}
-use Rattle.widths_core.specs.Steps.{references_of, IsArm, IsRow, IsStep, IsTable, by_class, sequence_step, row_of_step}
+use Rattle.widths_core.specs.Steps.{references_of, IsArm, IsRow, IsStep, IsTable, by_class, sequence_step, array_step, row_of_step}
 use Rattle.widths_core.proofs.Settled.{is_empty_class, is_empty-arms}
 use Rattle.widths_core.proofs.Stable.{class_stable}
 use Rattle.widths_core.proofs.StepReads.{shape_none, get_none, definition_of}
@@ -31,10 +32,16 @@ row_by class.NoValue sized e = refl
 row_by class.Empty sized e = refl
 row_by class.Sized sized e = e
 
-no_row : (c : Class) (t : ℕ) → row_of_step (sequence_step c t) ≡ None
-no_row class.NoValue t = refl
-no_row class.Empty t = refl
-no_row class.Sized t = refl
+sequence_no_row : (c : Class) (byte : Bool) (t : ℕ) → row_of_step (sequence_step c byte t) ≡ None
+sequence_no_row class.NoValue true t = refl
+sequence_no_row class.NoValue false t = refl
+sequence_no_row class.Empty byte t = refl
+sequence_no_row class.Sized true t = refl
+sequence_no_row class.Sized false t = refl
+
+array_no_row : (byte : Bool) (n t : ℕ) → row_of_step (array_step byte n t) ≡ None
+array_no_row true n t = refl
+array_no_row false n t = refl
 
 variant_row : (c : Class) (from count : ℕ) → is_empty_class c ≡ false →
     row_of_step (by_class c (step.NoArm from count) (step.Arms from count))
@@ -57,8 +64,11 @@ rowless r refs Row c (Def.Composite fs) s other h = rw h.2 (row_by c (step.Parts
 rowless r refs Row c (Def.Tuple ts) s other h = rw h.2 (row_by c (step.Parts h.0 h.1) refl)
 rowless r refs Row c (Def.Variant arms) s other h = absurd (other arms refl)
 rowless r refs Row c (Def.Sequence u) s other h =
-    rw h (row_by c (sequence_step (class_of r u.0) u.0) (no_row (class_of r u.0) u.0))
-rowless r refs Row c (Def.Array n u) s other h = rw h (row_by c (step.Array n u.0) refl)
+    rw h (row_by c (sequence_step (class_of r u.0) (is_byte (shape r u.0)) u.0)
+    (sequence_no_row (class_of r u.0) (is_byte (shape r u.0)) u.0))
+rowless r refs Row c (Def.Array n u) s other h =
+    rw h (row_by c (array_step (is_byte (shape r u.0)) n u.0)
+    (array_no_row (is_byte (shape r u.0)) n u.0))
 rowless r refs Row c (Def.Primitive p) s other h = rw h (row_by c (step.Primitive p) refl)
 rowless r refs Row c (Def.Compact u) s other h = rw h refl
 rowless r refs Row c (Def.BitSequence store order) s other h = rw h (row_by c step.BitSequence refl)

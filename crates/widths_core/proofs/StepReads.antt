@@ -1,5 +1,5 @@
 -- The step that is read is that of the type, and says its class and what a compact stands for.
-use Rattle.std.proofs.Common.{◌≡◌, ℕ, zero, suc, ◌<◌, ◌≤◌, List, [], ◌∷◌, length, Option, Some, None, refl, sym, subst, ◌∙◌, arith, inl, inr}
+use Rattle.std.proofs.Common.{◌≡◌, ℕ, zero, suc, ◌<◌, ◌≤◌, Bool, true, false, List, [], ◌∷◌, length, Option, Some, None, refl, sym, subst, ◌∙◌, arith, inl, inr}
 use Rattle.std.specs.Prelude.{slice_get}
 use Rattle.std.proofs.lemmas.Bool.{cases_lt}
 use Rattle.std.proofs.lemmas.Option.{slice_get_within}
@@ -16,7 +16,8 @@ use Rattle.widths_core.specs.declared.step.Step.TheVariants as step
 use Rattle.graph_core.specs.Types.{shape}
 use Rattle.widths_core.specs.Targets.{compact_target_of_shape, compact_target_of}
 use Rattle.widths_core.specs.Classes.{class_of}
-use Rattle.widths_core.specs.Steps.{references_of, IsRow, IsStep, IsTable, IsStepAt, by_class, sequence_step, class_of_step, compact_of_step}
+use Rattle.widths_core.specs.Layouts.{is_byte}
+use Rattle.widths_core.specs.Steps.{references_of, IsRow, IsStep, IsTable, IsStepAt, by_class, sequence_step, array_step, class_of_step, compact_of_step}
 use Rattle.widths_core.proofs.Stable.{class_stable}
 use Rattle.widths_core.proofs.DraftsTo.{shape_within}
 
@@ -80,10 +81,17 @@ class_by class.NoValue none sized e f = e
 class_by class.Empty none sized e f = refl
 class_by class.Sized none sized e f = f
 
-sized_sequence : (c : Class) (t : ℕ) → class_of_step (sequence_step c t) ≡ class.Sized
-sized_sequence class.NoValue t = refl
-sized_sequence class.Empty t = refl
-sized_sequence class.Sized t = refl
+sized_sequence : (c : Class) (byte : Bool) (t : ℕ) →
+    class_of_step (sequence_step c byte t) ≡ class.Sized
+sized_sequence class.NoValue true t = refl
+sized_sequence class.NoValue false t = refl
+sized_sequence class.Empty byte t = refl
+sized_sequence class.Sized true t = refl
+sized_sequence class.Sized false t = refl
+
+sized_array : (byte : Bool) (n t : ℕ) → class_of_step (array_step byte n t) ≡ class.Sized
+sized_array true n t = refl
+sized_array false n t = refl
 
 class_is : (r : List TypeInfo) (refs : List ℕ) (Row : ℕ → ℕ → List Arm → Type 0) (t : ℕ)
     (d : TypeDef) (s : Step) → shape r t ≡ Some d → IsStep r refs Row (class_of r t) d s →
@@ -95,10 +103,12 @@ class_is r refs Row t (Def.Tuple ts) s e h =
 class_is r refs Row t (Def.Variant arms) s e h =
     rw h.2 (class_by (class_of r t) (step.NoArm h.0 h.1) (step.Arms h.0 h.1) refl refl)
 class_is r refs Row t (Def.Sequence u) s e h =
-    rw h (class_by (class_of r t) step.NoValue (sequence_step (class_of r u.0) u.0) refl
-    (sized_sequence (class_of r u.0) u.0))
+    rw h (class_by (class_of r t) step.NoValue
+    (sequence_step (class_of r u.0) (is_byte (shape r u.0)) u.0) refl
+    (sized_sequence (class_of r u.0) (is_byte (shape r u.0)) u.0))
 class_is r refs Row t (Def.Array n u) s e h =
-    rw h (class_by (class_of r t) step.NoValue (step.Array n u.0) refl refl)
+    rw h (class_by (class_of r t) step.NoValue (array_step (is_byte (shape r u.0)) n u.0) refl
+    (sized_array (is_byte (shape r u.0)) n u.0))
 class_is r refs Row t (Def.Primitive p) s e h =
     rw h (class_by (class_of r t) step.NoValue (step.Primitive p) refl refl)
 class_is r refs Row t (Def.Compact u) s e h = rw h (sym (class_stable r t (Def.Compact u) e))
@@ -111,10 +121,17 @@ compact_by class.NoValue none sized e f = e
 compact_by class.Empty none sized e f = refl
 compact_by class.Sized none sized e f = f
 
-no_compact : (c : Class) (t : ℕ) → compact_of_step (sequence_step c t) ≡ None
-no_compact class.NoValue t = refl
-no_compact class.Empty t = refl
-no_compact class.Sized t = refl
+sequence_no_compact : (c : Class) (byte : Bool) (t : ℕ) →
+    compact_of_step (sequence_step c byte t) ≡ None
+sequence_no_compact class.NoValue true t = refl
+sequence_no_compact class.NoValue false t = refl
+sequence_no_compact class.Empty byte t = refl
+sequence_no_compact class.Sized true t = refl
+sequence_no_compact class.Sized false t = refl
+
+array_no_compact : (byte : Bool) (n t : ℕ) → compact_of_step (array_step byte n t) ≡ None
+array_no_compact true n t = refl
+array_no_compact false n t = refl
 
 compact_is : (r : List TypeInfo) (refs : List ℕ) (Row : ℕ → ℕ → List Arm → Type 0) (c : Class)
     (d : TypeDef) (s : Step) → IsStep r refs Row c d s →
@@ -126,10 +143,11 @@ compact_is r refs Row c (Def.Tuple ts) s h =
 compact_is r refs Row c (Def.Variant arms) s h =
     rw h.2 (compact_by c (step.NoArm h.0 h.1) (step.Arms h.0 h.1) refl refl)
 compact_is r refs Row c (Def.Sequence u) s h =
-    rw h (compact_by c step.NoValue (sequence_step (class_of r u.0) u.0) refl
-    (no_compact (class_of r u.0) u.0))
+    rw h (compact_by c step.NoValue (sequence_step (class_of r u.0) (is_byte (shape r u.0)) u.0)
+    refl (sequence_no_compact (class_of r u.0) (is_byte (shape r u.0)) u.0))
 compact_is r refs Row c (Def.Array n u) s h =
-    rw h (compact_by c step.NoValue (step.Array n u.0) refl refl)
+    rw h (compact_by c step.NoValue (array_step (is_byte (shape r u.0)) n u.0) refl
+    (array_no_compact (is_byte (shape r u.0)) n u.0))
 compact_is r refs Row c (Def.Primitive p) s h =
     rw h (compact_by c step.NoValue (step.Primitive p) refl refl)
 compact_is r refs Row c (Def.Compact u) s h = rw h refl

@@ -1,5 +1,5 @@
 -- The step of each type is that of its draft, its class and what was found of others.
-use Rattle.std.proofs.Common.{◌≡◌, ℕ, zero, suc, ◌+◌, ◌<◌, List, [], ◌∷◌, ◌++◌, length, get_or, Option, Some, refl, sym, ap, ◌∙◌, arith, inl, inr}
+use Rattle.std.proofs.Common.{◌≡◌, ℕ, zero, suc, ◌+◌, ◌<◌, ◌≤◌, Bool, List, [], ◌∷◌, ◌++◌, length, get_or, Option, Some, None, refl, sym, ap, ◌∙◌, arith, inl, inr}
 use Rattle.std.specs.Prelude.{slice_get}
 use Rattle.std.proofs.lemmas.Bool.{cases_lt}
 use Rattle.std.proofs.lemmas.List.{length_push}
@@ -8,16 +8,21 @@ use Rattle.scale_core.specs.declared.compact.Target.{Target}
 use Rattle.registry_core.specs.declared.definition.Arm.{Arm}
 use Rattle.registry_core.specs.declared.definition.TypeDef.{TypeDef}
 use Rattle.registry_core.specs.declared.definition.TypeDef.TheVariants as Def
+use Rattle.registry_core.specs.declared.primitive.Primitive.{Primitive}
+use Rattle.registry_core.specs.declared.primitive.Primitive.TheVariants as P
 use Rattle.registry_core.specs.declared.type_info.TypeInfo.{TypeInfo}
 use Rattle.widths_core.specs.declared.class.Class.{Class}
 use Rattle.widths_core.specs.declared.rows.Rows.{Rows}
 use Rattle.widths_core.specs.declared.step.Draft.{Draft}
+use Rattle.widths_core.specs.declared.step.Draft.TheVariants as draft
 use Rattle.widths_core.specs.declared.step.Step.{Step}
 use Rattle.graph_core.specs.Types.{shape}
 use Rattle.widths_core.specs.Targets.{target_of}
 use Rattle.widths_core.specs.Classes.{class_of}
 use Rattle.widths_core.specs.ClassTables.{known_class, known_target}
-use Rattle.widths_core.specs.Steps.{references_of, IsRow, IsDraft, IsStep, AreSettled, IsTable, AreStepsBy, step_by}
+use Rattle.widths_core.specs.Layouts.{is_byte}
+use Rattle.widths_core.specs.Steps.{references_of, IsRow, IsDraft, AreDrafts, IsStep, AreSettled, IsTable, AreStepsBy, is_byte_draft, known_byte, step_by}
+use Rattle.widths_core.proofs.StepReads.{shape_none, shape_some}
 
 -- ---- of the drafts that were passed
 
@@ -38,26 +43,27 @@ get_at (x ∷ xs) zero d lt = refl
 get_at (x ∷ xs) (suc t) d lt = get_at xs t d (omega (arith, lt))
 
 -- the first i drafts have their steps
-pub record StepsTo (classes : ℕ → Class) (targets : ℕ → Option Target) (drafts : List Draft) (i : ℕ)
-    (steps : List Step) : Type 0 where
+pub record StepsTo (classes : ℕ → Class) (targets : ℕ → Option Target) (bytes : ℕ → Bool)
+    (drafts : List Draft) (i : ℕ) (steps : List Step) : Type 0 where
   pub count : length steps ≡ i
   pub own : (t : ℕ) (d : Draft) (s : Step) → slice_get drafts t ≡ Some d →
-      slice_get steps t ≡ Some s → s ≡ step_by classes targets (classes t) d
+      slice_get steps t ≡ Some s → s ≡ step_by classes targets bytes (classes t) d
 
-pub steps_none : (classes : ℕ → Class) (targets : ℕ → Option Target) (drafts : List Draft) →
-    StepsTo classes targets drafts 0 []
-steps_none classes targets drafts = record { count = refl; own = λ t d s e f. absurd cc }
+pub steps_none : (classes : ℕ → Class) (targets : ℕ → Option Target) (bytes : ℕ → Bool)
+    (drafts : List Draft) → StepsTo classes targets bytes drafts 0 []
+steps_none classes targets bytes drafts = record { count = refl; own = λ t d s e f. absurd cc }
 
-pub steps_more : (classes : ℕ → Class) (targets : ℕ → Option Target) (drafts : List Draft) (i : ℕ)
-    (steps : List Step) (d : Draft) (s : Step) → slice_get drafts i ≡ Some d →
-    s ≡ step_by classes targets (classes i) d → StepsTo classes targets drafts i steps →
-    StepsTo classes targets drafts (i + 1) (steps ++ s ∷ [])
-steps_more classes targets drafts i steps d s e is h = record {
+pub steps_more : (classes : ℕ → Class) (targets : ℕ → Option Target) (bytes : ℕ → Bool)
+    (drafts : List Draft) (i : ℕ) (steps : List Step) (d : Draft) (s : Step) →
+    slice_get drafts i ≡ Some d → s ≡ step_by classes targets bytes (classes i) d →
+    StepsTo classes targets bytes drafts i steps →
+    StepsTo classes targets bytes drafts (i + 1) (steps ++ s ∷ [])
+steps_more classes targets bytes drafts i steps d s e is h = record {
   count = length_push steps s ∙ ap (λ (n : ℕ). n + 1) h.count;
   own = own;
 } where
   own : (t : ℕ) (d' : Draft) (s' : Step) → slice_get drafts t ≡ Some d' →
-      slice_get (steps ++ s ∷ []) t ≡ Some s' → s' ≡ step_by classes targets (classes t) d'
+      slice_get (steps ++ s ∷ []) t ≡ Some s' → s' ≡ step_by classes targets bytes (classes t) d'
   own t d' s' there at = elim (cases_lt t i) [
     | inl below ↦ h.own t d' s' there (sym (get_left steps s t (omega (arith, below, h.count)))
         ∙ at)
@@ -74,34 +80,83 @@ steps_more classes targets drafts i steps d s e is h = record {
         rw (← same_step, ← same_draft, ← here) is
   ]
 
-pub steps_all : (classes : ℕ → Class) (targets : ℕ → Option Target) (drafts : List Draft) (i : ℕ)
-    (steps : List Step) → i ≡ length drafts → StepsTo classes targets drafts i steps →
-    AreStepsBy classes targets drafts steps
-steps_all classes targets drafts i steps e h = record { count = h.count ∙ e; own = h.own }
+pub steps_all : (classes : ℕ → Class) (targets : ℕ → Option Target) (bytes : ℕ → Bool)
+    (drafts : List Draft) (i : ℕ) (steps : List Step) → i ≡ length drafts →
+    StepsTo classes targets bytes drafts i steps → AreStepsBy classes targets bytes drafts steps
+steps_all classes targets bytes drafts i steps e h = record { count = h.count ∙ e; own = h.own }
 
 -- ---- of all types
 
 step_drafted : (r : List TypeInfo) (refs : List ℕ) (Row : ℕ → ℕ → List Arm → Type 0)
-    (cs : List Class) (ms : List (Option Target)) (c : Class) (d : TypeDef) (x : Draft) →
-    ((t : ℕ) → known_class cs t ≡ class_of r t) → ((t : ℕ) → known_target ms t ≡ target_of r t) →
-    IsDraft refs Row d x → IsStep r refs Row c d (step_by (known_class cs) (known_target ms) c x)
-step_drafted r refs Row cs ms c (Def.Composite fs) x hc hm h = (h.0, h.1, rw h.2 refl, h.3)
-step_drafted r refs Row cs ms c (Def.Tuple ts) x hc hm h = (h.0, h.1, rw h.2 refl, h.3)
-step_drafted r refs Row cs ms c (Def.Variant arms) x hc hm h = (h.0, h.1, rw h.2 refl, h.3)
-step_drafted r refs Row cs ms c (Def.Sequence t) x hc hm h = rw (h, hc t.0) refl
-step_drafted r refs Row cs ms c (Def.Array n t) x hc hm h = rw h refl
-step_drafted r refs Row cs ms c (Def.Primitive p) x hc hm h = rw h refl
-step_drafted r refs Row cs ms c (Def.Compact t) x hc hm h = rw (h, hm t.0) refl
-step_drafted r refs Row cs ms c (Def.BitSequence store order) x hc hm h = rw h refl
+    (classes : ℕ → Class) (targets : ℕ → Option Target) (bytes : ℕ → Bool) (c : Class) (d : TypeDef)
+    (x : Draft) → ((t : ℕ) → classes t ≡ class_of r t) → ((t : ℕ) → targets t ≡ target_of r t) →
+    ((t : ℕ) → bytes t ≡ is_byte (shape r t)) → IsDraft refs Row d x →
+    IsStep r refs Row c d (step_by classes targets bytes c x)
+step_drafted r refs Row cs ms bs c (Def.Composite fs) x hc hm hb h = (h.0, h.1, rw h.2 refl, h.3)
+step_drafted r refs Row cs ms bs c (Def.Tuple ts) x hc hm hb h = (h.0, h.1, rw h.2 refl, h.3)
+step_drafted r refs Row cs ms bs c (Def.Variant arms) x hc hm hb h = (h.0, h.1, rw h.2 refl, h.3)
+step_drafted r refs Row cs ms bs c (Def.Sequence t) x hc hm hb h = rw (h, hc t.0, hb t.0) refl
+step_drafted r refs Row cs ms bs c (Def.Array n t) x hc hm hb h = rw (h, hb t.0) refl
+step_drafted r refs Row cs ms bs c (Def.Primitive p) x hc hm hb h = rw h refl
+step_drafted r refs Row cs ms bs c (Def.Compact t) x hc hm hb h = rw (h, hm t.0) refl
+step_drafted r refs Row cs ms bs c (Def.BitSequence store order) x hc hm hb h = rw h refl
+
+byte_same : (p : Primitive) →
+    is_byte_draft (Some (draft.Primitive p)) ≡ is_byte (Some (Def.Primitive p))
+byte_same P.Bool = refl
+byte_same P.Char = refl
+byte_same P.Str = refl
+byte_same P.U8 = refl
+byte_same P.U16 = refl
+byte_same P.U32 = refl
+byte_same P.U64 = refl
+byte_same P.U128 = refl
+byte_same P.U256 = refl
+byte_same P.I8 = refl
+byte_same P.I16 = refl
+byte_same P.I32 = refl
+byte_same P.I64 = refl
+byte_same P.I128 = refl
+byte_same P.I256 = refl
+
+-- a draft is u8's exactly where the definition is
+byte_drafted : (refs : List ℕ) (Row : ℕ → ℕ → List Arm → Type 0) (d : TypeDef) (x : Draft) →
+    IsDraft refs Row d x → is_byte_draft (Some x) ≡ is_byte (Some d)
+byte_drafted refs Row (Def.Composite fs) x h = rw h.2 refl
+byte_drafted refs Row (Def.Tuple ts) x h = rw h.2 refl
+byte_drafted refs Row (Def.Variant arms) x h = rw h.2 refl
+byte_drafted refs Row (Def.Sequence t) x h = rw h refl
+byte_drafted refs Row (Def.Array n t) x h = rw h refl
+byte_drafted refs Row (Def.Primitive p) x h = rw h (byte_same p)
+byte_drafted refs Row (Def.Compact t) x h = rw h refl
+byte_drafted refs Row (Def.BitSequence store order) x h = rw h refl
 
 get_some : (xs : List Draft) (t : ℕ) → t < length xs → (x : Draft) × (slice_get xs t ≡ Some x)
 get_some [] t lt = absurd (omega (arith, lt))
 get_some (x ∷ xs) zero lt = (x, refl)
 get_some (x ∷ xs) (suc t) lt = get_some xs t (omega (arith, lt))
 
+get_past : (xs : List Draft) (t : ℕ) → length xs ≤ t → slice_get xs t ≡ None
+get_past [] t le = refl
+get_past (x ∷ xs) zero le = absurd (omega (arith, le))
+get_past (x ∷ xs) (suc t) le = get_past xs t (omega (arith, le))
+
+-- a type's draft is u8's exactly where its definition is; past the types there is neither
+pub known_byte_is : (r : List TypeInfo) (refs : List ℕ) (rows : Rows) (drafts : List Draft) →
+    AreDrafts r refs rows drafts → (t : ℕ) → known_byte drafts t ≡ is_byte (shape r t)
+known_byte_is r refs rows drafts h t = elim (cases_lt t (length r)) [
+  | inl below ↦
+      let d = shape_some r t below in
+      let x = get_some drafts t (omega (arith, below, h.count)) in
+      rw (d.1, x.1) (byte_drafted refs (IsRow refs rows) d.0 x.0 (h.own t d.0 x.0 d.1 x.1))
+  | inr past ↦
+      rw (shape_none r t past, get_past drafts t (omega (arith, past, h.count))) refl
+]
+
 pub table_all : (r : List TypeInfo) (cs : List Class) (ms : List (Option Target)) (refs : List ℕ)
     (rows : Rows) (drafts : List Draft) (steps : List Step) → AreSettled r cs ms refs rows drafts →
-    AreStepsBy (known_class cs) (known_target ms) drafts steps → IsTable r refs rows steps
+    AreStepsBy (known_class cs) (known_target ms) (known_byte drafts) drafts steps →
+    IsTable r refs rows steps
 table_all r cs ms refs rows drafts steps h k = record {
   all = h.all;
   paired = h.own.paired;
@@ -113,8 +168,10 @@ table_all r cs ms refs rows drafts steps h k = record {
   own t d s e f =
       let lt = slice_get_within steps t s f in
       let x = get_some drafts t (omega (arith, lt, k.count)) in
-      let is : s ≡ step_by (known_class cs) (known_target ms) (known_class cs t) x.0 =
-      k.own t x.0 s x.1 f in
+      let is : s ≡ step_by (known_class cs) (known_target ms) (known_byte drafts) (known_class cs t)
+      x.0 = k.own t x.0 s x.1 f in
       let class_is : known_class cs t ≡ class_of r t = h.classes_are.1 t in
-      rw (is, class_is) (step_drafted r (references_of r) (IsRow (references_of r) rows) cs ms
-      (class_of r t) d x.0 h.classes_are.1 h.targets_are (h.own.own t d x.0 e x.1))
+      rw (is, class_is) (step_drafted r (references_of r) (IsRow (references_of r) rows)
+      (known_class cs) (known_target ms) (known_byte drafts) (class_of r t) d x.0 h.classes_are.1
+      h.targets_are (known_byte_is r (references_of r) rows drafts h.own)
+      (h.own.own t d x.0 e x.1))

@@ -1,9 +1,10 @@
 -- What a type is made of, in a few bytes: its parts are a piece of the list of all references, its
 -- arms a row by their index.
-use Rattle.std.specs.Prelude.{◌≡◌, ℕ, ◌+◌, ◌<◌, ◌≤◌, List, length, take, drop, flat_map, Option, Some, None, slice_get}
+use Rattle.std.specs.Prelude.{◌≡◌, ℕ, ◌+◌, ◌<◌, ◌≤◌, List, length, take, drop, flat_map, Bool, true, false, if◌then◌else◌, Option, Some, None, slice_get}
 use Rattle.registry_core.specs.declared.definition.Arm.{Arm}
 use Rattle.registry_core.specs.declared.definition.TypeDef.{TypeDef}
 use Rattle.registry_core.specs.declared.definition.TypeDef.TheVariants as Def
+use Rattle.registry_core.specs.declared.primitive.Primitive.TheVariants as P
 use Rattle.registry_core.specs.declared.type_info.TypeInfo.{TypeInfo}
 use Rattle.widths_core.specs.declared.rows.Rows.{Rows}
 use Rattle.widths_core.specs.declared.step.ArmStep.{ArmStep}
@@ -21,6 +22,7 @@ use Rattle.graph_core.specs.References.{references}
 use Rattle.widths_core.specs.Targets.{target_of}
 use Rattle.widths_core.specs.Classes.{class_of}
 use Rattle.widths_core.specs.ClassTables.{class_of_compact, TellsClasses, TellsTargets}
+use Rattle.widths_core.specs.Layouts.{is_byte}
 use Rattle.widths_core.specs.Rows.{IsPaired, Lacks, Rises, arm_in, index_in}
 
 -- the references of a registry, in the order of its bytes
@@ -88,29 +90,46 @@ by_class class.NoValue none sized = none
 by_class class.Empty none sized = step.Empty
 by_class class.Sized none sized = sized
 
--- the step of a sequence that has values, by the class of its elements
-abbrev pub sequence_step : Class → ℕ → Step
-sequence_step class.NoValue t = step.Sequence t
-sequence_step class.Empty t = step.Count
-sequence_step class.Sized t = step.Sequence t
+-- the step of a sequence that has values, by the class of its elements, and by whether they are u8
+abbrev pub sequence_step : Class → Bool → ℕ → Step
+sequence_step class.NoValue byte t = if byte then step.Bytes else step.Sequence t
+sequence_step class.Empty byte t = step.Count
+sequence_step class.Sized byte t = if byte then step.Bytes else step.Sequence t
 
--- the step of a type of this class, where other types have these classes and targets
-abbrev pub step_by : (ℕ → Class) → (ℕ → Option Target) → Class → Draft → Step
-step_by classes targets c (draft.Primitive p) = by_class c step.NoValue (step.Primitive p)
-step_by classes targets c (draft.Parts from count) = by_class c step.NoValue (step.Parts from count)
-step_by classes targets c (draft.Arms from count) =
+-- the step of an array that takes bytes, by whether its elements are u8
+abbrev pub array_step : Bool → ℕ → ℕ → Step
+array_step byte n t = if byte then step.ByteArray n else step.Array n t
+
+-- the draft is that of u8 itself
+abbrev pub is_byte_draft : Option Draft → Bool
+is_byte_draft (Some (draft.Primitive P.U8)) = true
+is_byte_draft _ = false
+
+-- the type of this number is u8 itself, by its draft
+abbrev pub known_byte : List Draft → ℕ → Bool
+known_byte drafts t = is_byte_draft (slice_get drafts t)
+
+-- the step of a type of this class, where other types have these classes and targets, and bytes
+-- says which of them are u8
+abbrev pub step_by : (ℕ → Class) → (ℕ → Option Target) → (ℕ → Bool) → Class → Draft → Step
+step_by classes targets bytes c (draft.Primitive p) = by_class c step.NoValue (step.Primitive p)
+step_by classes targets bytes c (draft.Parts from count) =
+    by_class c step.NoValue (step.Parts from count)
+step_by classes targets bytes c (draft.Arms from count) =
     by_class c (step.NoArm from count) (step.Arms from count)
-step_by classes targets c (draft.Array n t) = by_class c step.NoValue (step.Array n t)
-step_by classes targets c (draft.Sequence t) = by_class c step.NoValue (sequence_step (classes t) t)
-step_by classes targets c (draft.Compact t) = step.Compact (targets t)
-step_by classes targets c draft.BitSequence = by_class c step.NoValue step.BitSequence
+step_by classes targets bytes c (draft.Array n t) =
+    by_class c step.NoValue (array_step (bytes t) n t)
+step_by classes targets bytes c (draft.Sequence t) =
+    by_class c step.NoValue (sequence_step (classes t) (bytes t) t)
+step_by classes targets bytes c (draft.Compact t) = step.Compact (targets t)
+step_by classes targets bytes c draft.BitSequence = by_class c step.NoValue step.BitSequence
 
 -- there is a step for each draft
-pub record AreStepsBy (classes : ℕ → Class) (targets : ℕ → Option Target) (drafts : List Draft)
-    (steps : List Step) : Type 0 where
+pub record AreStepsBy (classes : ℕ → Class) (targets : ℕ → Option Target) (bytes : ℕ → Bool)
+    (drafts : List Draft) (steps : List Step) : Type 0 where
   pub count : length steps ≡ length drafts
   pub own : (t : ℕ) (d : Draft) (s : Step) → slice_get drafts t ≡ Some d →
-      slice_get steps t ≡ Some s → s ≡ step_by classes targets (classes t) d
+      slice_get steps t ≡ Some s → s ≡ step_by classes targets bytes (classes t) d
 
 -- this is the step of a type of this class and shape, where its parts are among these references,
 -- and the row of a variant is as Row says
@@ -124,8 +143,9 @@ IsStep r refs Row c (Def.Tuple ts) s = (from count : ℕ)
 IsStep r refs Row c (Def.Variant arms) s = (from count : ℕ)
     × (s ≡ by_class c (step.NoArm from count) (step.Arms from count)) × Row from count arms
 IsStep r refs Row c (Def.Sequence t) s =
-    s ≡ by_class c step.NoValue (sequence_step (class_of r t.0) t.0)
-IsStep r refs Row c (Def.Array n t) s = s ≡ by_class c step.NoValue (step.Array n t.0)
+    s ≡ by_class c step.NoValue (sequence_step (class_of r t.0) (is_byte (shape r t.0)) t.0)
+IsStep r refs Row c (Def.Array n t) s =
+    s ≡ by_class c step.NoValue (array_step (is_byte (shape r t.0)) n t.0)
 IsStep r refs Row c (Def.Primitive p) s = s ≡ by_class c step.NoValue (step.Primitive p)
 IsStep r refs Row c (Def.Compact t) s = s ≡ step.Compact (target_of r t.0)
 IsStep r refs Row c (Def.BitSequence store order) s = s ≡ by_class c step.NoValue step.BitSequence
@@ -158,7 +178,9 @@ class_of_step (step.Primitive p) = class.Sized
 class_of_step (step.Parts from count) = class.Sized
 class_of_step (step.Arms from count) = class.Sized
 class_of_step (step.Array n t) = class.Sized
+class_of_step (step.ByteArray n) = class.Sized
 class_of_step (step.Sequence t) = class.Sized
+class_of_step step.Bytes = class.Sized
 class_of_step step.Count = class.Sized
 class_of_step step.BitSequence = class.Sized
 
@@ -172,7 +194,9 @@ compact_of_step (step.Primitive p) = None
 compact_of_step (step.Parts from count) = None
 compact_of_step (step.Arms from count) = None
 compact_of_step (step.Array n t) = None
+compact_of_step (step.ByteArray n) = None
 compact_of_step (step.Sequence t) = None
+compact_of_step step.Bytes = None
 compact_of_step step.Count = None
 compact_of_step step.BitSequence = None
 
@@ -186,6 +210,8 @@ row_of_step (step.Primitive p) = None
 row_of_step (step.Parts from count) = None
 row_of_step (step.Arms from count) = Some (record { from = from; count = count })
 row_of_step (step.Array n t) = None
+row_of_step (step.ByteArray n) = None
 row_of_step (step.Sequence t) = None
+row_of_step step.Bytes = None
 row_of_step step.Count = None
 row_of_step step.BitSequence = None

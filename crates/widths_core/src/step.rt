@@ -45,10 +45,15 @@ pub enum Step {
     Parts { from: u32, count: u32 },
     /// As an arm of a variant: its arms are those of `Checked::arm_step`.
     Arms { from: u32, count: u32 },
-    /// As this many values of one type.
+    /// As this many values of one type, which is not the primitive u8 itself.
     Array { len: u32, element: u32 },
-    /// As a length, and so many values of one type.
+    /// As this many bytes, at least one: an array of the primitive u8 itself, and not of a wrapper around it.
+    ByteArray { len: u32 },
+    /// As a length, and so many values of one type, which takes bytes or has no value, and is not the primitive u8
+    /// itself.
     Sequence { element: u32 },
+    /// As a length, and so many bytes: a sequence of the primitive u8 itself, and not of a wrapper around it.
+    Bytes,
     /// As a length alone, since the elements take no bytes.
     Count,
     /// As bits.

@@ -2,10 +2,11 @@
 
 ghost use Rattle.std.specs.Prelude.{◌≡◌, ◌<◌, ◌^◌, IfOk, length};
 ghost use Rattle.widths_core.specs.ClassTables.{known_class, known_target};
-ghost use Rattle.widths_core.specs.Steps.{AreStepsBy, by_class, sequence_step, step_by};
+ghost use Rattle.widths_core.specs.Steps.{AreStepsBy, array_step, by_class, known_byte, sequence_step, step_by};
 
 use crate::class::Class;
 use crate::step::{Draft, Step};
+use registry_core::Primitive;
 use scale_core::Target;
 use std::alloc::{AllocError, Global};
 
@@ -20,13 +21,25 @@ fn by_class(class: Class, none: Step, sized: Step) -> Step
     }
 }
 
-/// The step of a sequence that has values, by the class of its elements.
-fn sequence_step(class: Class, element: u32) -> Step
-    ensures { result ≡ sequence_step class element }
+/// The step of a sequence that has values, by the class of its elements, and by whether they are u8.
+fn sequence_step(class: Class, byte: bool, element: u32) -> Step
+    ensures { result ≡ sequence_step class byte element }
 {
     match class {
         Class::Empty => Step::Count,
+        Class::NoValue | Class::Sized if byte => Step::Bytes,
         Class::NoValue | Class::Sized => Step::Sequence { element },
+    }
+}
+
+/// The step of an array that takes bytes, by whether its elements are u8.
+fn array_step(byte: bool, len: u32, element: u32) -> Step
+    ensures { result ≡ array_step byte len element }
+{
+    if byte {
+        Step::ByteArray { len }
+    } else {
+        Step::Array { len, element }
     }
 }
 
@@ -44,9 +57,25 @@ fn known_target(targets: &[Option<Target>], id: u32) -> Option<Target>
     targets.get(id as usize).copied().flatten()
 }
 
+/// Is the type of this number u8 itself, by its draft?
+fn known_byte(drafts: &[Draft], id: u32) -> bool
+    ensures { result ≡ known_byte drafts.now id }
+{
+    matches!(
+        drafts.get(id as usize),
+        Some(Draft::Primitive(Primitive::U8))
+    )
+}
+
 /// The step of a type of this class, by its draft and what was found of others.
-fn step_by(classes: &[Class], targets: &[Option<Target>], class: Class, draft: Draft) -> Step
-    ensures { result ≡ step_by (known_class classes.now) (known_target targets.now) class draft }
+fn step_by(
+    classes: &[Class],
+    targets: &[Option<Target>],
+    drafts: &[Draft],
+    class: Class,
+    draft: Draft,
+) -> Step
+    ensures { result ≡ step_by (known_class classes.now) (known_target targets.now) (known_byte drafts.now) class draft }
 {
     match draft {
         Draft::Primitive(primitive) => by_class(class, Step::NoValue, Step::Primitive(primitive)),
@@ -59,10 +88,12 @@ fn step_by(classes: &[Class], targets: &[Option<Target>], class: Class, draft: D
             Step::Arms { from, count },
         ),
         Draft::Array { len, element } => {
-            by_class(class, Step::NoValue, Step::Array { len, element })
+            let sized = array_step(known_byte(drafts, element), len, element);
+            by_class(class, Step::NoValue, sized)
         }
         Draft::Sequence { element } => {
-            let sized = sequence_step(known_class(classes, element), element);
+            let byte = known_byte(drafts, element);
+            let sized = sequence_step(known_class(classes, element), byte, element);
             by_class(class, Step::NoValue, sized)
         }
         Draft::Compact { over } => Step::Compact(known_target(targets, over)),
@@ -78,12 +109,12 @@ pub(crate) fn steps_by(
     drafts: &[Draft],
 ) -> Result<Vec<Step>, AllocError>
     requires { length drafts.now < 2 ^ 32 }
-    ensures { IfOk result (λ steps. AreStepsBy (known_class classes.now) (known_target targets.now) drafts.now steps.items) }
+    ensures { IfOk result (λ steps. AreStepsBy (known_class classes.now) (known_target targets.now) (known_byte drafts.now) drafts.now steps.items) }
 {
     let mut steps = Vec::with_capacity(alloc, drafts.len())?;
     'types: for (position, draft) in drafts.iter().enumerate() {
         let class = known_class(classes, position as u32);
-        steps.push(step_by(classes, targets, class, *draft))?;
+        steps.push(step_by(classes, targets, drafts, class, *draft))?;
     }
     Ok(steps)
 }

@@ -3,14 +3,16 @@ use Rattle.std.proofs.Common.{◌≡◌, ℕ, suc, ◌<◌, ◌≤◌, List, [],
 use Rattle.std.specs.Prelude.{◌⊎◌}
 use Rattle.std.proofs.lemmas.Bool.{lt-ltb}
 use Rattle.std.proofs.lemmas.List.{length-take}
-use Rattle.scale_core.specs.Read.{Read, place, compact_at}
-use Rattle.scale_core.specs.declared.compact.Target.TheVariants as target
+use Rattle.scale_core.specs.Read.{Read, place}
 use Rattle.scale_core.specs.declared.fault.Reason.{Reason}
 use Rattle.scale_core.specs.declared.fault.Reason.TheVariants as scale
-use Rattle.scale_core.proofs.Results.{Extends, compact_extends, done_is}
+use Rattle.scale_core.proofs.Results.{Extends, done_is}
 use Rattle.registry_core.specs.declared.type_info.TypeInfo.{TypeInfo}
 use Rattle.widths_core.specs.Layouts.{Layout}
 use Rattle.widths_core.specs.Layouts as layout
+use Rattle.widths_core.specs.declared.run_kind.RunKind.{RunKind}
+use Rattle.grammar_core.specs.Runs.{run_at, run_length_at}
+use Rattle.grammar_core.proofs.Runs.{length_extends}
 use Rattle.grammar_core.specs.Parts.{Part}
 use Rattle.grammar_core.specs.Preorder.{Head}
 use Rattle.grammar_core.specs.Reading.{truncated, layout_at}
@@ -21,16 +23,16 @@ use Rattle.decode_core.specs.NodeAdds.{with_own}
 use Rattle.decode_core.specs.Outcome.{Job, more, IsOutcome}
 use Rattle.decode_core.specs.Running.{held_of, state_of}
 use Rattle.decode_core.specs.Told.{Own, Told, told, after, own_at, told_at}
-use Rattle.decode_core.specs.Turned.{KeepsNode, KeepsText}
+use Rattle.decode_core.specs.Turned.{KeepsNode, KeepsRun}
 use Rattle.decode_core.specs.Wanted.{GoesOn, WantedGoesOn}
 use Rattle.decode_core.proofs.lists.Fed.{fault_value, whole_told}
-use Rattle.decode_core.proofs.steps.LengthAdding.{text_cut}
+use Rattle.decode_core.proofs.steps.LengthAdding.{run_cut}
 use Rattle.decode_core.proofs.lists.Owns.{own_extends}
 use Rattle.decode_core.proofs.steps.Refusing.{remain_next}
 use Rattle.decode_core.proofs.lists.Shortest.{reason_tells, refusal_tells}
 use Rattle.decode_core.proofs.steps.Stepping.{added_leads, at_next}
 
--- ---- fewer bytes than spell a node, or begin a text, are too few
+-- ---- fewer bytes than spell a node, or begin a run, are too few
 
 node_short : (bytes : List ℕ) (x : Head × Option Part) (read read' : Own) →
     Extends truncated bytes read read' → read' ≡ Ok (x, []) → 1 ≤ length bytes → (left : List ℕ)
@@ -45,26 +47,26 @@ node_short bytes x (Err e) read' h is some = elim (refusal_tells e.0) [
   | inr other ↦ let both = sym (h other) ∙ is in absurd cc
 ]
 
-text_few : (held rest : List ℕ) (n : ℕ) → compact_at target.U32 held ≡ Ok (n, rest) →
-    length rest < n → own_at (layout.plain layout.text) held ≡ Err (truncated, [])
-unfolding own_at layout_at Rattle.scale_core.specs.Read.text_at
-text_few held rest n h few = rw (h, lt-ltb (length rest) n few) refl
+run_few : (k : RunKind) (held rest : List ℕ) (n : ℕ) → run_length_at k held ≡ Ok (n, rest) →
+    length rest < n → own_at (layout.plain (layout.run k)) held ≡ Err (truncated, [])
+unfolding own_at layout_at run_at
+run_few k held rest n h few = rw (h, lt-ltb (length rest) n few) refl
 
-text_short : (held bytes came : List ℕ) (n : ℕ) (read read' : Read Reason ℕ) →
-    compact_at target.U32 held ≡ read → Extends scale.Truncated bytes read read' →
+run_begun : (k : RunKind) (held bytes came : List ℕ) (n : ℕ) (read read' : Read Reason ℕ) →
+    run_length_at k held ≡ read → Extends scale.Truncated bytes read read' →
     read' ≡ Ok (n, came) → 1 ≤ length bytes → length came ≤ n → (left : List ℕ)
-    × (own_at (layout.plain layout.text) held ≡ Err (truncated, left))
-text_short held bytes came n (Ok y) read' at h is some few =
+    × (own_at (layout.plain (layout.run k)) held ≡ Err (truncated, left))
+run_begun k held bytes came n (Ok y) read' at h is some few =
     let both : ◌≡◌ {A = Read Reason ℕ} (Ok (y.0, y.1 ++ bytes)) (Ok (n, came)) = sym h ∙ is in
     let pair : (y.0, y.1 ++ bytes) ≡ (n, came) = done_is (y.0, y.1 ++ bytes) (n, came) both in
     let same : y.0 ≡ n = ap (λ (p : ℕ × List ℕ). p.0) pair in
     let parts : y.1 ++ bytes ≡ came = ap (λ (p : ℕ × List ℕ). p.1) pair in (
       [],
-      text_few held y.1 y.0 at
+      run_few k held y.1 y.0 at
           (omega (arith, same, ap length parts, length-append y.1 bytes, some, few)),
     )
-text_short held bytes came n (Err e) read' at h is some few = elim (reason_tells e.0) [
-  | inl cut ↦ (e.1, text_cut held scale.Truncated e.1 (at ∙ ap (λ r. Err (r, e.1)) cut))
+run_begun k held bytes came n (Err e) read' at h is some few = elim (reason_tells e.0) [
+  | inl cut ↦ (e.1, run_cut k held scale.Truncated e.1 (at ∙ ap (λ r. Err (r, e.1)) cut))
   | inr other ↦ let both = sym (h other) ∙ is in absurd cc
 ]
 
@@ -158,14 +160,14 @@ node_by j b n h (y ∷ bytes) same keeps =
     )
 
 goes_by : (j : Job) (b : List ℕ) (n : ℕ) (h : RanOut j b n) → KeepsNode h.s h.wants.bytes
-    ⊎ KeepsText h.s h.wants.bytes → GoesOn j (h.own ++ held_of h.s) h.rest
+    ⊎ KeepsRun h.s h.wants.bytes → GoesOn j (h.own ++ held_of h.s) h.rest
 goes_by j b n h (inl keeps) = node_by j b n h h.wants.bytes refl keeps
 goes_by j b n h (inr keeps) =
     let bytes = h.wants.bytes in
-    let short = text_short (held_of h.s) bytes keeps.2.1 keeps.2.0 _ _ refl
-    (compact_extends target.U32 (held_of h.s) bytes) keeps.2.2 keeps.1 keeps.2.3 in
-    let laid = ap (λ (f : Layout). own_at f (held_of h.s)) keeps.0 ∙ short.1 in
-    inl (cut_goes_on j b short.0 n h laid, some_left h.rest bytes h.wants.later h.wants.is keeps.1)
+    let short = run_begun keeps.0 (held_of h.s) bytes keeps.3.1 keeps.3.0 _ _ refl
+    (length_extends keeps.0 (held_of h.s) bytes) keeps.3.2 keeps.2 keeps.3.3 in
+    let laid = ap (λ (f : Layout). own_at f (held_of h.s)) keeps.1 ∙ short.1 in
+    inl (cut_goes_on j b short.0 n h laid, some_left h.rest bytes h.wants.later h.wants.is keeps.2)
 
 pub wanted_goes_on : WantedGoesOn
 wanted_goes_on j b n h = let front = front_is j b n h in

@@ -6,7 +6,7 @@ use Rattle.std.specs.Str.Lossy.{utf8_valid_len}
 use Rattle.std.proofs.lemmas.Bool.{ltb-false}
 use Rattle.scale_core.specs.Compact.{compact, target_bytes}
 use Rattle.scale_core.specs.Number.{number, signed_number, is_scalar}
-use Rattle.scale_core.specs.Read.{Read, ◌>>=◌, bytes_at, compact_at, text_at, integer_at, form_from, form_number, is_too_long, form_len}
+use Rattle.scale_core.specs.Read.{Read, ◌>>=◌, bytes_at, compact_at, integer_at, form_from, form_number, is_too_long, form_len}
 use Rattle.scale_core.specs.declared.compact.Target.{Target}
 use Rattle.scale_core.specs.declared.compact.Target.TheVariants as target
 use Rattle.scale_core.specs.declared.fault.Reason.{Reason}
@@ -22,10 +22,14 @@ use Rattle.widths_core.specs.Arms.{arm_of}
 use Rattle.widths_core.specs.Classes.{is_finite}
 use Rattle.widths_core.specs.Layouts.{Plain, Layout, layout}
 use Rattle.widths_core.specs.Layouts as layout
-use Rattle.grammar_core.specs.Tree.{Leaf, Branch, leaf, char, text, unsigned, signed, wide, compact as compact_value, fields, arm, list, count, Trees, and}
+use Rattle.widths_core.specs.declared.run_kind.RunKind.{RunKind}
+use Rattle.widths_core.specs.declared.run_kind.RunKind.TheVariants as kind
+use Rattle.grammar_core.specs.Tree.{Leaf, Branch, leaf, char, unsigned, signed, wide, compact as compact_value, fields, arm, list, count, Trees, and}
 use Rattle.grammar_core.specs.Reading.{value_at, layout_at, leaf_at, bool_at, char_from, all_at, times_at, fields_behind_index, arms_at, as_leaf, with_children, Refusal, basic, no_such_variant, too_deep, no_finite_value, bit_sequence, bad_compact}
+use Rattle.grammar_core.specs.Runs.{run_at, run_judged, run_leaf, run_length_at}
+use Rattle.grammar_core.proofs.Runs.{length_takes}
 use Rattle.grammar_core.proofs.Sound.{value_takes}
-use Rattle.decode_core.specs.Taken.{leaf_taken, taken_after, compact_taken, text_taken, all_taken, times_taken, arm_taken, arms_taken, layout_taken, value_taken}
+use Rattle.decode_core.specs.Taken.{leaf_taken, taken_after, compact_taken, run_length_taken, run_taken, all_taken, times_taken, arm_taken, arms_taken, layout_taken, value_taken}
 use Rattle.decode_core.specs.Outcome.{IsTakenBefore, TakenByFault}
 use Rattle.decode_core.proofs.lists.Deciding.{chain, finish, bind_chain}
 use Rattle.decode_core.proofs.lists.Shortest.{and_finish, elements_chain, body_at}
@@ -75,7 +79,7 @@ chain_told m n P h next b own (Ok x) takes first rest =
     omega (arith, ap length takes.1, length-append takes.0 x.1) in
     rw (← len) (told_behind n b takes.0 x.1 (next x) (h x.0 x.1) takes.1 (rest x))
 
--- ---- compacts and texts
+-- ---- compacts and runs
 
 whole : (b : List ℕ) → place b b ≡ 0
 whole b = omega arith
@@ -113,29 +117,40 @@ compact_told target.U32 b = integer_told target.U32 b
 compact_told target.U64 b = integer_told target.U64 b
 compact_told target.U128 b = integer_told target.U128 b
 
-body_told : (n : ℕ) (b : List ℕ) → Told basic b n (body_at n b)
-body_told n b = go (nat_lt (length b) n) refl (is_utf8 (take n b)) where
-  go : (short : Bool) → nat_lt (length b) n ≡ short → (t : Bool) →
-      Told basic b n (cond short (Err (reasons.Truncated, [])) (Ok (take n b, drop n b)) >>=
-      λ s. cond (is_utf8 s.0) (Ok s) (Err (reasons.BadUtf8, drop (utf8_valid_len s.0) b)))
-  go true e t = (omega arith, refl)
-  go false e t = valid (is_utf8 (take n b)) (ltb-false _ _ e) where
-    valid : (t : Bool) → n ≤ length b →
-        Told basic b n (cond t (Ok (take n b, drop n b))
-        (Err (reasons.BadUtf8, drop (utf8_valid_len (take n b)) b)))
-    valid true le = tt
-    valid false le =
-        let front : utf8_valid_len (take n b) ≤ n =
-        omega (arith, utf8_valid_len_le (take n b), length-take n b) in
-        let rest = length-drop (utf8_valid_len (take n b)) b in
-        (omega (arith, rest), omega (arith, rest, front))
+run_length_told : (k : RunKind) (b : List ℕ) →
+    Told basic b (run_length_taken k b) (run_length_at k b)
+run_length_told kind.Text b = compact_told target.U32 b
+run_length_told kind.Bytes b = compact_told target.U32 b
+run_length_told (kind.ByteArray n) b = tt
 
-text_told : (b : List ℕ) → Told basic b (text_taken b) (text_at b)
-unfolding text_at
-text_told b = rw (bind_chain body_at (compact_at target.U32 b))
-    (chain_told (λ e. e) basic _ body_at (λ n. n.0) b (compact_taken target.U32 b)
-    (compact_at target.U32 b) (compact_takes target.U32 b) (compact_told target.U32 b)
-    (λ n. body_told n.0 n.1))
+judged_told : (k : RunKind) (n : ℕ) (b : List ℕ) → n ≤ length b →
+    Told basic b n (run_judged k b (take n b, drop n b))
+judged_told kind.Text n b le = valid (is_utf8 (take n b)) where
+  valid : (t : Bool) →
+      Told basic b n (cond t (Ok (take n b, drop n b))
+      (Err (reasons.BadUtf8, drop (utf8_valid_len (take n b)) b)))
+  valid true = tt
+  valid false =
+      let front : utf8_valid_len (take n b) ≤ n =
+      omega (arith, utf8_valid_len_le (take n b), length-take n b) in
+      let rest = length-drop (utf8_valid_len (take n b)) b in
+      (omega (arith, rest), omega (arith, rest, front))
+judged_told kind.Bytes n b le = tt
+judged_told (kind.ByteArray m) n b le = tt
+
+body_told : (k : RunKind) (n : ℕ) (b : List ℕ) → Told basic b n (body_at k n b)
+body_told k n b = go (nat_lt (length b) n) refl where
+  go : (short : Bool) → nat_lt (length b) n ≡ short →
+      Told basic b n (cond short (Err (reasons.Truncated, [])) (Ok (take n b, drop n b)) >>=
+      λ s. run_judged k b s)
+  go true e = (omega arith, refl)
+  go false e = judged_told k n b (ltb-false _ _ e)
+
+run_told : (k : RunKind) (b : List ℕ) → Told basic b (run_taken k b) (run_at k b)
+unfolding run_at
+run_told k b = rw (bind_chain (body_at k) (run_length_at k b))
+    (chain_told (λ e. e) basic _ (body_at k) (λ n. n.0) b (run_length_taken k b)
+    (run_length_at k b) (length_takes k b) (run_length_told k b) (λ n. body_told k n.0 n.1))
 
 bytes_told : (k : ℕ) (b : List ℕ) → Told basic b 0 (bytes_at k b)
 bytes_told k b = go (nat_lt (length b) k) where
@@ -232,7 +247,7 @@ plain_told : (p : Plain) (b : List ℕ) → Told (λ e. e) b (leaf_taken p b) (l
 plain_told layout.empty b = tt
 plain_told layout.bool b = bool_told b
 plain_told layout.char b = char_told b
-plain_told layout.text b = leaf_told text b _ (text_at b) (text_told b)
+plain_told (layout.run k) b = leaf_told (run_leaf k) b _ (run_at k b) (run_told k b)
 plain_told (layout.unsigned k) b =
     leaf_told (λ b. unsigned (number b)) b _ (bytes_at k b) (bytes_told k b)
 plain_told (layout.signed k) b =

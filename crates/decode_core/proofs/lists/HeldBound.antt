@@ -1,20 +1,21 @@
 -- What is held of an input is little for the bytes taken.
 use Rattle.std.proofs.Common.{◌≡◌, ℕ, suc, ◌+◌, ◌*◌, ◌≤◌, List, length, Some, Ok, Err, sym, ap, ◌∙◌, arith, length-append}
 use Rattle.std.proofs.Math.Nat.{mul_assoc, mul-le-mul_right}
-use Rattle.scale_core.specs.Read.{Read, compact_at}
-use Rattle.scale_core.specs.Compact.{IsCompact}
+use Rattle.scale_core.specs.Read.{Read}
 use Rattle.scale_core.specs.declared.fault.Reason.{Reason}
-use Rattle.scale_core.specs.declared.compact.Target.TheVariants as target
-use Rattle.scale_core.proofs.Results.{Takes, compact_takes}
+use Rattle.scale_core.proofs.Results.{Takes}
 use Rattle.graph_core.specs.Widths.{widest}
 use Rattle.widths_core.specs.Layouts.{Layout, layout}
 use Rattle.widths_core.specs.Layouts as layout
+use Rattle.widths_core.specs.declared.run_kind.RunKind.{RunKind}
 use Rattle.grammar_core.specs.Tree.{Tree, nodes, text_bytes}
+use Rattle.grammar_core.specs.Runs.{IsRunLength, run_length_at}
+use Rattle.grammar_core.proofs.Runs.{length_takes}
 use Rattle.grammar_core.proofs.Bounds.{values_are_bounded}
 use Rattle.grammar_core.specs.Begun.{Begun, begun_nodes, begun_text_bytes}
 use Rattle.decode_core.specs.Holds.{Holds}
 use Rattle.decode_core.specs.Bound.{node_bound, value_bound}
-use Rattle.decode_core.specs.Held.{past_length, open_text, OneBegun, HeldIsBounded}
+use Rattle.decode_core.specs.Held.{past_length, open_run, OneBegun, HeldIsBounded}
 use Rattle.decode_core.specs.Outcome.{done, more, Job, IsOutcome}
 use Rattle.decode_core.proofs.lists.Begins.{begun_is_missing}
 use Rattle.decode_core.proofs.lists.Held.{begun_is_bounded}
@@ -25,14 +26,13 @@ one_begun r room t b g h e f one two =
     ∙ (begun_is_missing r room t b h f two).1 in
     (ap (λ (p : Begun × List ℕ). p.0) same, ap (λ (p : Begun × List ℕ). p.1) same)
 
-past-le : (e : List ℕ) (read : Read Reason ℕ) → Takes (IsCompact target.U32) e read →
+past-le : (k : RunKind) (e : List ℕ) (read : Read Reason ℕ) → Takes (IsRunLength k) e read →
     past_length read ≤ length e
-past-le e (Ok n) h = omega (arith, ap length h.1, length-append h.0 n.1)
-past-le e (Err x) h = omega arith
+past-le k e (Ok n) h = omega (arith, ap length h.1, length-append h.0 n.1)
+past-le k e (Err x) h = omega arith
 
-open-le : (f : Layout) (e : List ℕ) → open_text f e ≤ length e
-open-le (layout.plain layout.text) e =
-    past-le e (compact_at target.U32 e) (compact_takes target.U32 e)
+open-le : (f : Layout) (e : List ℕ) → open_run f e ≤ length e
+open-le (layout.plain (layout.run k)) e = past-le k e (run_length_at k e) (length_takes k e)
 open-le layout.unknown e = omega arith
 open-le layout.bit_sequence e = omega arith
 open-le layout.bad_compact e = omega arith
@@ -66,7 +66,7 @@ value_le j input n v h =
 begun_le : (j : Job) (input : List ℕ) (n : ℕ) → IsOutcome j input more n →
     (g : Begun) (e : List ℕ) (h : Holds j.registry (suc j.depth) j.ty input g e) →
     (begun_nodes g ≤ node_bound n j.depth (widest j.registry))
-    × (begun_text_bytes g + open_text (layout j.registry h.2) e ≤ n)
+    × (begun_text_bytes g + open_run (layout j.registry h.2) e ≤ n)
 begun_le j input n o g e h =
     let b = begun_is_bounded j.registry (suc j.depth) j.ty g h.0 (Some (h.1, h.2)) h.4 in
     let w = widest j.registry in

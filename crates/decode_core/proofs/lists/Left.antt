@@ -1,23 +1,26 @@
 -- A fault's place lies in the input.
-use Rattle.std.proofs.Common.{ℕ, zero, suc, ◌≤◌, Bool, true, false, cond, List, [], ◌∷◌, length, drop, Option, Some, None, Ok, Err, ap, arith, length-append, length-drop}
+use Rattle.std.proofs.Common.{ℕ, zero, suc, ◌≤◌, Bool, true, false, cond, List, [], ◌∷◌, length, Option, Some, None, Ok, Err, ap, arith, length-append, length-drop}
 use Rattle.std.specs.Str.{bytes_eq, is_utf8}
 use Rattle.std.specs.Str.Lossy.{utf8_valid_len}
 use Rattle.std.specs.Prelude.{nat_lt, not, ◌^◌}
 use Rattle.scale_core.specs.Number.{number, signed_number, is_scalar}
-use Rattle.scale_core.specs.Compact.{IsCompact, compact, target_bytes}
-use Rattle.scale_core.specs.Read.{Read, ◌>>=◌, bytes_at, form_len, form_number, form_from, is_too_long, integer_at, compact_at, text_at}
+use Rattle.scale_core.specs.Compact.{compact, target_bytes}
+use Rattle.scale_core.specs.Read.{Read, ◌>>=◌, bytes_at, form_len, form_number, form_from, is_too_long, integer_at, compact_at}
 use Rattle.scale_core.specs.declared.compact.Target.{Target}
 use Rattle.scale_core.specs.declared.compact.Target.TheVariants as target
 use Rattle.scale_core.specs.declared.fault.Reason.{Reason}
-use Rattle.scale_core.specs.declared.fault.Reason.TheVariants.{BadUtf8}
-use Rattle.scale_core.proofs.Results.{Takes, compact_takes}
+use Rattle.scale_core.proofs.Results.{Takes}
 use Rattle.registry_core.specs.declared.definition.Arm.{Arm}
 use Rattle.widths_core.specs.Arms.{arm_of}
 use Rattle.widths_core.specs.Layouts.{Layout}
 use Rattle.widths_core.specs.Layouts as layout
+use Rattle.widths_core.specs.declared.run_kind.RunKind.{RunKind}
+use Rattle.widths_core.specs.declared.run_kind.RunKind.TheVariants as kind
 use Rattle.grammar_core.specs.Tree.{Leaf, Tree}
 use Rattle.grammar_core.specs.Tree as tree
 use Rattle.grammar_core.specs.Reading.{layout_at, bool_at, char_from, as_leaf, Refusal}
+use Rattle.grammar_core.specs.Runs.{IsRunLength, run_at, run_judged, run_leaf, run_length_at}
+use Rattle.grammar_core.proofs.Runs.{length_takes}
 use Rattle.decode_core.specs.Told.{leaf_own, arm_own, arms_own, length_own, own_at}
 
 -- what is left is no longer than the input
@@ -55,26 +58,34 @@ compact_within target.U32 b = integer_within target.U32 b
 compact_within target.U64 b = integer_within target.U64 b
 compact_within target.U128 b = integer_within target.U128 b
 
-judged_within : (b from : List ℕ) (read : Read Reason (List ℕ)) → length from ≤ length b →
-    Within from read → Within b
-    (read >>= λ s. cond (is_utf8 s.0) (Ok s) (Err (BadUtf8, drop (utf8_valid_len s.0) from)))
-judged_within b from (Err e) le h = omega (arith, le, h)
-judged_within b from (Ok s) le h =
-    cond_within b (is_utf8 s.0) _ _ tt (omega (arith, le, length-drop (utf8_valid_len s.0) from))
+run_length_within : (k : RunKind) (b : List ℕ) → Within b (run_length_at k b)
+run_length_within kind.Text b = compact_within target.U32 b
+run_length_within kind.Bytes b = compact_within target.U32 b
+run_length_within (kind.ByteArray n) b = tt
 
-text_from : (b : List ℕ) (read : Read Reason ℕ) → Takes (IsCompact target.U32) b read →
+judged_within : (k : RunKind) (b from : List ℕ) (s : List ℕ × List ℕ) → length from ≤ length b →
+    Within b (run_judged k from s)
+judged_within kind.Text b from s le =
+    cond_within b (is_utf8 s.0) _ _ tt (omega (arith, le, length-drop (utf8_valid_len s.0) from))
+judged_within kind.Bytes b from s le = tt
+judged_within (kind.ByteArray n) b from s le = tt
+
+behind_within : (k : RunKind) (b from : List ℕ) (read : Read Reason (List ℕ)) →
+    length from ≤ length b → Within from read → Within b (read >>= λ s. run_judged k from s)
+behind_within k b from (Err e) le h = omega (arith, le, h)
+behind_within k b from (Ok s) le h = judged_within k b from s le
+
+run_from : (k : RunKind) (b : List ℕ) (read : Read Reason ℕ) → Takes (IsRunLength k) b read →
     Within b read → Within b
-    (read >>= λ n. bytes_at n.0 n.1 >>= λ s. cond (is_utf8 s.0) (Ok s)
-    (Err (BadUtf8, drop (utf8_valid_len s.0) n.1)))
-text_from b (Err e) k h = h
-text_from b (Ok n) k h =
-    judged_within b n.1 (bytes_at n.0 n.1) (omega (arith, ap length k.1, length-append k.0 n.1))
+    (read >>= λ n. bytes_at n.0 n.1 >>= λ s. run_judged k n.1 s)
+run_from k b (Err e) h within = within
+run_from k b (Ok n) h within =
+    behind_within k b n.1 (bytes_at n.0 n.1) (omega (arith, ap length h.1, length-append h.0 n.1))
     (bytes_within n.0 n.1)
 
-text_within : (b : List ℕ) → Within b (text_at b)
-unfolding text_at
-text_within b = text_from b (compact_at target.U32 b) (compact_takes target.U32 b)
-    (compact_within target.U32 b)
+run_within : (k : RunKind) (b : List ℕ) → Within b (run_at k b)
+unfolding run_at
+run_within k b = run_from k b (run_length_at k b) (length_takes k b) (run_length_within k b)
 
 leaf_within : (b : List ℕ) (read : Read Refusal Tree) → Within b read → Within b (leaf_own read)
 leaf_within b (Ok x) h = tt
@@ -123,9 +134,9 @@ own_within (layout.plain layout.empty) b = tt
 own_within (layout.plain layout.bool) b = leaf_within b (bool_at b) (bool_within b)
 own_within (layout.plain layout.char) b =
     leaf_within b (char_from b (bytes_at 4 b)) (char_within b (bytes_at 4 b) (bytes_within 4 b))
-own_within (layout.plain layout.text) b =
-    leaf_within b (as_leaf tree.text (text_at b))
-    (value_within tree.text b (text_at b) (text_within b))
+own_within (layout.plain (layout.run k)) b =
+    leaf_within b (as_leaf (run_leaf k) (run_at k b))
+    (value_within (run_leaf k) b (run_at k b) (run_within k b))
 own_within (layout.plain (layout.unsigned k)) b =
     leaf_within b (as_leaf (λ c. tree.unsigned (number c)) (bytes_at k b))
     (value_within (λ c. tree.unsigned (number c)) b (bytes_at k b) (bytes_within k b))

@@ -7,7 +7,7 @@ use Rattle.std.proofs.lemmas.Bool.{cases_lt, le-ltb, lt-ltb}
 use Rattle.std.proofs.lemmas.List.{append-nil, length-take-le}
 use Rattle.scale_core.specs.Compact.{compact, target_bytes}
 use Rattle.scale_core.specs.Number.{number, signed_number, is_scalar}
-use Rattle.scale_core.specs.Read.{Read, ◌>>=◌, bytes_at, compact_at, text_at, integer_at, checked_form, form_from, form_number, is_too_long, form_len}
+use Rattle.scale_core.specs.Read.{Read, ◌>>=◌, bytes_at, compact_at, integer_at, checked_form, form_from, form_number, is_too_long, form_len}
 use Rattle.scale_core.specs.declared.compact.Target.{Target}
 use Rattle.scale_core.specs.declared.compact.Target.TheVariants as target
 use Rattle.scale_core.specs.declared.fault.Reason.{Reason}
@@ -21,13 +21,17 @@ use Rattle.widths_core.specs.Arms.{arm_of}
 use Rattle.widths_core.specs.Classes.{is_finite}
 use Rattle.widths_core.specs.Layouts.{Plain, Layout, layout}
 use Rattle.widths_core.specs.Layouts as layout
-use Rattle.grammar_core.specs.Tree.{Leaf, Branch, Tree, leaf, branch, char, text, unsigned, signed, wide, compact as compact_value, fields, arm, list, count, Trees, and, levels}
+use Rattle.widths_core.specs.declared.run_kind.RunKind.{RunKind}
+use Rattle.widths_core.specs.declared.run_kind.RunKind.TheVariants as kind
+use Rattle.grammar_core.specs.Tree.{Leaf, Branch, Tree, leaf, branch, char, unsigned, signed, wide, compact as compact_value, fields, arm, list, count, Trees, and, levels}
 use Rattle.grammar_core.specs.Grammar.{Val}
 use Rattle.grammar_core.specs.Reading.{value_at, layout_at, leaf_at, bool_at, char_from, all_at, times_at, fields_behind_index, arms_at, elements_at, as_leaf, with_children, Refusal, basic, no_such_variant, too_deep, no_finite_value, bit_sequence, bad_compact, truncated}
+use Rattle.grammar_core.specs.Runs.{run_at, run_judged, run_leaf, run_length_at}
+use Rattle.grammar_core.proofs.Runs.{length_again, length_extends, length_takes}
 use Rattle.grammar_core.proofs.Sound.{value_takes}
 use Rattle.grammar_core.proofs.Complete.{value_again}
 use Rattle.grammar_core.proofs.Stable.{value_extends}
-use Rattle.decode_core.specs.Taken.{leaf_taken, compact_taken, text_taken, all_taken, times_taken, arm_taken, arms_taken, layout_taken, value_taken}
+use Rattle.decode_core.specs.Taken.{leaf_taken, compact_taken, run_length_taken, run_taken, all_taken, times_taken, arm_taken, arms_taken, layout_taken, value_taken}
 use Rattle.decode_core.proofs.lists.Deciding.{Decided, IsSteady, chain, finish, bind_chain, finish_decided, chain_decided, cons_decided}
 
 -- ---- compacts
@@ -161,22 +165,34 @@ compact_decided target.U32 b = integer_decided target.U32 b
 compact_decided target.U64 b = integer_decided target.U64 b
 compact_decided target.U128 b = integer_decided target.U128 b
 
--- ---- texts, bools, chars
+-- ---- runs, bools, chars
 
-abbrev pub body_at : ℕ → List ℕ → Read Reason (List ℕ)
-body_at n b = bytes_at n b >>= λ s. cond (is_utf8 s.0) (Ok s)
-    (Err (reasons.BadUtf8, drop (utf8_valid_len s.0) b))
+run_length_steady : (k : RunKind) → IsSteady reasons.Truncated (run_length_at k)
+run_length_steady k = record {
+  tells = reason_tells;
+  extends = length_extends k;
+  exact = λ b. mapped _ _ b (run_length_at k b) (length_takes k b)
+      (λ n c is more. length_again k n c more is);
+}
 
-body_decided : (n : ℕ) (b : List ℕ) → Decided reasons.Truncated (body_at n) b n (body_at n b)
-body_decided n b = elim (cases_lt (length b) n) [
-  | inl lt ↦ rw (short_bytes n b lt) (λ ne. absurd (ne refl))
-  | inr le ↦ rw (le-ltb (length b) n le) (go le (is_utf8 (take n b)) refl)
-] where
-  go : n ≤ length b → (t : Bool) → is_utf8 (take n b) ≡ t →
-      Decided reasons.Truncated (body_at n) b n
+run_length_decided : (k : RunKind) (b : List ℕ) →
+    Decided reasons.Truncated (run_length_at k) b (run_length_taken k b) (run_length_at k b)
+run_length_decided kind.Text b = compact_decided target.U32 b
+run_length_decided kind.Bytes b = compact_decided target.U32 b
+run_length_decided (kind.ByteArray n) b = tt
+
+-- the bytes of a run behind its length
+abbrev pub body_at : RunKind → ℕ → List ℕ → Read Reason (List ℕ)
+body_at k n b = bytes_at n b >>= λ s. run_judged k b s
+
+judged_decided : (k : RunKind) (n : ℕ) (b : List ℕ) → n ≤ length b →
+    Decided reasons.Truncated (body_at k n) b n (run_judged k b (take n b, drop n b))
+judged_decided kind.Text n b le = go (is_utf8 (take n b)) refl where
+  go : (t : Bool) → is_utf8 (take n b) ≡ t →
+      Decided reasons.Truncated (body_at kind.Text n) b n
       (cond t (Ok (take n b, drop n b)) (Err (reasons.BadUtf8, drop (utf8_valid_len (take n b)) b)))
-  go le true e = tt
-  go le false e = λ ne. record {
+  go true e = tt
+  go false e = λ ne. record {
     there = le;
     front = (drop (utf8_valid_len (take n b)) (take n b), rw (taken_bytes n b le, e) refl);
     early = λ j lt. (
@@ -185,12 +201,22 @@ body_decided n b = elim (cases_lt (length b) n) [
           (omega (arith, length-take-le j b (omega arith)))) refl,
     );
   }
+judged_decided kind.Bytes n b le = tt
+judged_decided (kind.ByteArray m) n b le = tt
 
-text_decided : (b : List ℕ) → Decided reasons.Truncated text_at b (text_taken b) (text_at b)
-unfolding text_at
-text_decided b = chain_decided reasons.Truncated (λ e. e) text_at (compact_at target.U32) body_at
-    (λ n. n.0) (λ b. bind_chain body_at (compact_at target.U32 b)) (compact_steady target.U32) b
-    (compact_taken target.U32 b) (compact_decided target.U32 b) (λ n. body_decided n.0 n.1)
+body_decided : (k : RunKind) (n : ℕ) (b : List ℕ) →
+    Decided reasons.Truncated (body_at k n) b n (body_at k n b)
+body_decided k n b = elim (cases_lt (length b) n) [
+  | inl lt ↦ rw (short_bytes n b lt) (λ ne. absurd (ne refl))
+  | inr le ↦ rw (le-ltb (length b) n le) (judged_decided k n b le)
+]
+
+run_decided : (k : RunKind) (b : List ℕ) →
+    Decided reasons.Truncated (run_at k) b (run_taken k b) (run_at k b)
+unfolding run_at
+run_decided k b = chain_decided reasons.Truncated (λ e. e) (run_at k) (run_length_at k) (body_at k)
+    (λ n. n.0) (λ b. bind_chain (body_at k) (run_length_at k b)) (run_length_steady k) b
+    (run_length_taken k b) (run_length_decided k b) (λ n. body_decided k n.0 n.1)
 
 below_one : (b : List ℕ) (P : List ℕ → Type 0) → P [] → (j : ℕ) → j < 1 → P (take j b)
 below_one b P h zero lt = h
@@ -356,9 +382,9 @@ plain_decided : (p : Plain) (b : List ℕ) →
 plain_decided layout.empty b = tt
 plain_decided layout.bool b = bool_decided b
 plain_decided layout.char b = char_decided b
-plain_decided layout.text b =
-    finish_decided reasons.Truncated basic (λ x. leaf (text x)) _ text_at
-    (λ c. as_leaf_finish text (text_at c)) b (text_taken b) (text_decided b)
+plain_decided (layout.run k) b =
+    finish_decided reasons.Truncated basic (λ x. leaf (run_leaf k x)) _ (run_at k)
+    (λ c. as_leaf_finish (run_leaf k) (run_at k c)) b (run_taken k b) (run_decided k b)
 plain_decided (layout.unsigned k) b =
     finish_decided reasons.Truncated basic (λ b. leaf (unsigned (number b))) _ (bytes_at k)
     (λ c. as_leaf_finish (λ b. unsigned (number b)) (bytes_at k c)) b 0 (bytes_decided _ b)

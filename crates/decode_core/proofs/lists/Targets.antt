@@ -8,9 +8,10 @@ use Rattle.registry_core.specs.declared.definition.TypeDef.TheVariants as Def
 use Rattle.registry_core.specs.declared.type_id.TypeId.{TypeId}
 use Rattle.registry_core.specs.declared.type_info.TypeInfo.{TypeInfo}
 use Rattle.graph_core.specs.Types.{shape}
+use Rattle.widths_core.specs.Layouts.{is_byte}
 use Rattle.widths_core.specs.Targets.{target_of}
 use Rattle.widths_core.specs.Classes.{is_empty, empty_within, empty_step, holds_at, is_unit}
-use Rattle.grammar_core.specs.Forms.{form_of, form_of_shape, sequence_form, compact_form}
+use Rattle.grammar_core.specs.Forms.{form_of, form_of_shape, array_form, sequence_form, compact_form}
 use Rattle.grammar_core.specs.declared.form.Form.TheVariants as form
 use Rattle.grammar_core.specs.declared.form.Next.TheVariants as next
 
@@ -18,10 +19,16 @@ use Rattle.grammar_core.specs.declared.form.Next.TheVariants as next
 abbrev Over : List TypeInfo → Target → Option TypeDef → Type 0
 Over r m d = (u : TypeId) × (d ≡ Some (Def.Compact u)) × (target_of r u.0 ≡ Some m)
 
-no_sequence : {X : Type 0} (m : Target) (empty : Bool) →
-    sequence_form empty ≡ next.Wants (form.Compact m) → X
-no_sequence m true e = absurd cc
-no_sequence m false e = absurd cc
+no_sequence : {X : Type 0} (m : Target) (empty byte : Bool) →
+    sequence_form empty byte ≡ next.Wants (form.Compact m) → X
+no_sequence m true byte e = absurd cc
+no_sequence m false true e = absurd cc
+no_sequence m false false e = absurd cc
+
+no_array : {X : Type 0} (m : Target) (n : ℕ) (byte : Bool) →
+    array_form n byte ≡ next.Wants (form.Compact m) → X
+no_array m n true e = absurd cc
+no_array m n false e = absurd cc
 
 same_target : (m : Target) (o : Option Target) → compact_form o ≡ next.Wants (form.Compact m) →
     o ≡ Some m
@@ -33,8 +40,9 @@ over : (r : List TypeInfo) (m : Target) (d : Option TypeDef) →
 over r m None e = absurd cc
 over r m (Some (Def.Composite fs)) e = absurd cc
 over r m (Some (Def.Variant arms)) e = absurd cc
-over r m (Some (Def.Sequence u)) e = no_sequence m (is_empty r u.0) e
-over r m (Some (Def.Array n u)) e = absurd cc
+over r m (Some (Def.Sequence u)) e =
+    no_sequence m (is_empty r u.0) (is_byte (shape r u.0)) e
+over r m (Some (Def.Array n u)) e = no_array m n (is_byte (shape r u.0)) e
 over r m (Some (Def.Tuple ts)) e = absurd cc
 over r m (Some (Def.Primitive p)) e = absurd cc
 over r m (Some (Def.Compact u)) e = (u, refl, same_target m (target_of r u.0) e)

@@ -1,7 +1,7 @@
 -- Reading node by node is the big-step reading.
 use Rattle.std.proofs.Common.{Bool, true, false, cond, ◌≡◌, ℕ, zero, suc, List, [], ◌∷◌, ◌++◌, length, Option, Some, None, Ok, Err, refl, sym, ap, ◌∙◌, append_assoc}
 use Rattle.std.proofs.lemmas.List.{append-nil}
-use Rattle.scale_core.specs.Read.{bytes_at, text_at, Read, ◌>>=◌, compact_at}
+use Rattle.scale_core.specs.Read.{bytes_at, Read, ◌>>=◌, compact_at}
 use Rattle.scale_core.specs.declared.compact.Target.TheVariants as target
 use Rattle.scale_core.specs.Number.{number, signed_number, is_scalar}
 use Rattle.scale_core.specs.declared.fault.Reason.{Reason}
@@ -16,6 +16,7 @@ use Rattle.grammar_core.specs.Tree.{Leaf, Branch, Tree, Trees, none, and, how_ma
 use Rattle.grammar_core.specs.Tree as tree
 use Rattle.grammar_core.specs.Preorder.{Head, head_of, preorder, all_preorder}
 use Rattle.grammar_core.specs.Reading.{as_leaf, basic, bool_at, char_from, value_at, layout_at, leaf_at, all_at, times_at, fields_behind_index, arms_at, elements_at, with_children, Refusal}
+use Rattle.grammar_core.specs.Runs.{run_at, run_leaf}
 use Rattle.decode_core.specs.Met.{met_layout}
 use Rattle.decode_core.proofs.lists.Mets.{value_met}
 use Rattle.value_core.specs.Built.{Entry}
@@ -128,7 +129,7 @@ pub reads_leaf : (p : Plain) (b : List ℕ) → IsLeafRead (leaf_at p b)
 reads_leaf layout.empty b = tt
 reads_leaf layout.bool b = (bool_leaf b)
 reads_leaf layout.char b = (char_leaf b (bytes_at 4 b))
-reads_leaf layout.text b = (value_leaf tree.text (text_at b))
+reads_leaf (layout.run k) b = value_leaf (run_leaf k) (run_at k b)
 reads_leaf (layout.unsigned k) b = (value_leaf (λ c. tree.unsigned (number c)) (bytes_at k b))
 reads_leaf (layout.signed k) b = (value_leaf (λ c. tree.signed (signed_number c)) (bytes_at k b))
 reads_leaf layout.wide b = (value_leaf tree.wide (bytes_at 32 b))

@@ -1,15 +1,15 @@
 -- Turns that need no bytes and add nothing: the value is whole, or the next type cannot be read.
 use Rattle.std.proofs.Common.{◌≡◌, ℕ, ◌+◌, ◌-◌, ◌≤◌, Bool, true, false, List, [], ◌∷◌, ◌++◌, length, Option, Some, None, Ok, refl, sym, ap, ◌∙◌, arith}
 use Rattle.std.specs.Prelude.{is_none, nat_lt, if◌then◌else◌}
-use Rattle.scale_core.specs.Compact.{compact}
 use Rattle.scale_core.specs.declared.compact.Target.{Target}
 use Rattle.registry_core.specs.declared.definition.TypeDef.{TypeDef}
 use Rattle.registry_core.specs.declared.definition.TypeDef.TheVariants as Def
 use Rattle.registry_core.specs.declared.type_info.TypeInfo.{TypeInfo}
 use Rattle.graph_core.specs.Types.{shape}
+use Rattle.widths_core.specs.Layouts.{is_byte}
 use Rattle.widths_core.specs.Targets.{target_of}
 use Rattle.widths_core.specs.Classes.{is_finite, is_empty}
-use Rattle.grammar_core.specs.Forms.{form_of, form_of_shape, sequence_form, compact_form}
+use Rattle.grammar_core.specs.Forms.{form_of, form_of_shape, array_form, sequence_form, compact_form}
 use Rattle.grammar_core.specs.Parts.{Part, first_of}
 use Rattle.grammar_core.specs.declared.form.Form.{Form}
 use Rattle.grammar_core.specs.declared.form.Form.TheVariants as form
@@ -21,10 +21,10 @@ use Rattle.value_core.specs.Refusals.{is_whole_in}
 use Rattle.value_core.specs.Walked.{OpenPart, Walked, first_in, next_from, next_of, next_type}
 use Rattle.decode_core.specs.Machine.{State, remain}
 use Rattle.decode_core.specs.Reasons.{reason_of, stop_refusal}
-use Rattle.decode_core.specs.Running.{IsCarry, IsRunning, IsTextNext, held_of, state_of}
+use Rattle.decode_core.specs.Running.{IsCarry, IsRunning, IsRunNext, held_of, run_held, state_of}
 use Rattle.decode_core.specs.Told.{told, rest_told}
 use Rattle.decode_core.specs.Turned.{EndsTurns}
-use Rattle.decode_core.specs.declared.run.OpenText.{OpenText}
+use Rattle.decode_core.specs.declared.run.OpenRun.{OpenRun}
 use Rattle.decode_core.specs.declared.turned.Stopped.TheVariants as stop
 use Rattle.decode_core.proofs.steps.Refusing.{no_cut, stop_refuses}
 use Rattle.decode_core.proofs.steps.Settling.{settled_fewer}
@@ -36,11 +36,15 @@ shape_goes_on : (r : List TypeInfo) (d : Option TypeDef) → form_of_shape r d �
 shape_goes_on r None e = absurd cc
 shape_goes_on r (Some (Def.Composite fs)) e = absurd cc
 shape_goes_on r (Some (Def.Variant arms)) e = absurd cc
-shape_goes_on r (Some (Def.Sequence t)) e = by (is_empty r t.0) e where
-  by : (empty : Bool) → sequence_form empty ≡ next.Finished → ⊥
+shape_goes_on r (Some (Def.Sequence t)) e = by (is_empty r t.0) (is_byte (shape r t.0)) e where
+  by : (empty byte : Bool) → sequence_form empty byte ≡ next.Finished → ⊥
+  by true byte h = absurd cc
+  by false true h = absurd cc
+  by false false h = absurd cc
+shape_goes_on r (Some (Def.Array n t)) e = by (is_byte (shape r t.0)) e where
+  by : (byte : Bool) → array_form n byte ≡ next.Finished → ⊥
   by true h = absurd cc
   by false h = absurd cc
-shape_goes_on r (Some (Def.Array n t)) e = absurd cc
 shape_goes_on r (Some (Def.Tuple ts)) e = absurd cc
 shape_goes_on r (Some (Def.Primitive p)) e = absurd cc
 shape_goes_on r (Some (Def.Compact t)) e = by (target_of r t.0) e where
@@ -74,16 +78,15 @@ no_carry : (b : Built) (c : List ℕ) → IsCarry b c →
 no_carry b [] h never = refl
 no_carry b (x ∷ c) h never = absurd (never h.0 h.1)
 
-nothing_by : (b : Built) (c : List ℕ) (text : Option Pieces) → IsCarry b c → IsTextNext b c text →
-    ((f : Form) → next_of b.walk ≡ next.Wants f → ⊥) →
-    ◌≡◌ {A = List ℕ} (elim text [ Some t ↦ compact t.len ++ t.bytes | None ↦ c ]) []
+nothing_by : (b : Built) (c : List ℕ) (run : Option Pieces) → IsCarry b c → IsRunNext b c run →
+    ((f : Form) → next_of b.walk ≡ next.Wants f → ⊥) → run_held run c ≡ []
 nothing_by b c None h k never = no_carry b c h never
 nothing_by b c (Some t) h k never = absurd (never _ k.0)
 
-nothing_held : (b : Built) (c : List ℕ) (text : Option OpenText) → IsRunning b c text →
+nothing_held : (b : Built) (c : List ℕ) (kept : Option OpenRun) → IsRunning b c kept →
     ((f : Form) → next_of b.walk ≡ next.Wants f → ⊥) →
     held_of (record { built = b; carry = c }) ≡ []
-nothing_held b c text h never = nothing_by b c b.text h.carried h.text_next never
+nothing_held b c kept h never = nothing_by b c b.run h.carried h.run_next never
 
 -- ---- the value is whole
 
@@ -105,25 +108,25 @@ finished_state : (b : Built) (f : OpenPart) → b.walk.frames ≡ f ∷ [] →
     state_of b ≡ record { nodes = b.entries; room = b.walk.limit + 2 - 1; pending = f.left ∷ [] }
 finished_state b f h = rw h refl
 
-pub finished_stops : (b : Built) (c : List ℕ) (text : Option OpenText) (piece : List ℕ) →
-    IsRunning b c text → next_of b.walk ≡ next.Finished →
+pub finished_stops : (b : Built) (c : List ℕ) (kept : Option OpenRun) (piece : List ℕ) →
+    IsRunning b c kept → next_of b.walk ≡ next.Finished →
     EndsTurns (record { built = b; carry = c }) piece stop.Finished
-finished_stops b c text piece h is =
+finished_stops b c kept piece h is =
     let one = alone b.walk.frames h.rooted h.settled (type_goes_on b.walk (next_type b.walk) is) in (
       λ x. ap (λ (s : State). remain b.walk.types s x) (finished_state b one.0 one.1)
           ∙ one_part b.walk.types (b.walk.limit + 2 - 1) one.0.left x one.2,
-      nothing_held b c text h (λ f e. let both = sym is ∙ e in absurd cc),
+      nothing_held b c kept h (λ f e. let both = sym is ∙ e in absurd cc),
       ap is_whole_in one.1 ∙ ap is_none one.2,
     )
 
 -- ---- the next type stops
 
-pub stop_stops : (b : Built) (c : List ℕ) (text : Option OpenText) (piece : List ℕ)
-    (why : StopReason) → IsRunning b c text → next_of b.walk ≡ next.Stop why →
+pub stop_stops : (b : Built) (c : List ℕ) (kept : Option OpenRun) (piece : List ℕ)
+    (why : StopReason) → IsRunning b c kept → next_of b.walk ≡ next.Stop why →
     EndsTurns (record { built = b; carry = c }) piece
     (stop.Refused 0 (reason_of (stop_refusal why)) 0 0)
-stop_stops b c text piece why h is =
-    let none = nothing_held b c text h (λ f e. let both = sym is ∙ e in absurd cc) in
+stop_stops b c kept piece why h is =
+    let none = nothing_held b c kept h (λ f e. let both = sym is ∙ e in absurd cc) in
     let x = held_of (record { built = b; carry = c }) ++ piece in
     let r = stop_refuses b why is x in (
       stop_refusal why,

@@ -1,15 +1,32 @@
 -- Which forms have bytes of their own.
+use Rattle.std.proofs.Common.{◌≡◌, ℕ, List, refl}
+use Rattle.scale_core.specs.Read.{compact_at}
+use Rattle.scale_core.specs.declared.compact.Target.TheVariants as target
+use Rattle.grammar_core.specs.Runs.{run_form, run_length_at}
 use Rattle.decode_core.specs.Needs.{HasBytes}
-use Rattle.decode_core.specs.NodeForms.{form_of_bare, form_of_bytes}
+use Rattle.decode_core.specs.NodeForms.{form_of_bare, form_of_bytes, prefixed_kind}
+use Rattle.decode_core.specs.declared.forms.PrefixedRun.{PrefixedRun}
+use Rattle.decode_core.specs.declared.forms.PrefixedRun.TheVariants as prefixed
 use Rattle.decode_core.specs.declared.forms.BareForm.{BareForm}
 use Rattle.decode_core.specs.declared.forms.BareForm.TheVariants as bare
 use Rattle.decode_core.specs.declared.forms.BytesForm.{BytesForm}
 use Rattle.decode_core.specs.declared.forms.BytesForm.TheVariants as bytes
 use Rattle.decode_core.proofs.steps.PlainAdding.{plain_bytes}
 
+-- a run whose length stands before it has the bytes of the length
+pub prefixed_bytes : (p : PrefixedRun) → HasBytes (run_form (prefixed_kind p))
+prefixed_bytes prefixed.Text = tt
+prefixed_bytes prefixed.Bytes = tt
+
+-- and its length is a compact
+pub prefixed_length : (p : PrefixedRun) (own : List ℕ) →
+    run_length_at (prefixed_kind p) own ≡ compact_at target.U32 own
+prefixed_length prefixed.Text own = refl
+prefixed_length prefixed.Bytes own = refl
+
 pub have_bytes : (f : BytesForm) → HasBytes (form_of_bytes f)
 have_bytes (bytes.Plain p) = plain_bytes p
-have_bytes bytes.Text = tt
+have_bytes (bytes.Run p) = prefixed_bytes p
 have_bytes bytes.Arm = tt
 have_bytes bytes.Sequence = tt
 

@@ -1,38 +1,36 @@
 -- What is held where bytes are missing is the begun tree of all bytes so far.
-use Rattle.std.proofs.Common.{◌≡◌, ℕ, suc, ◌+◌, true, List, ◌++◌, length, Option, Some, None, refl, sym, ap, subst, ◌∙◌, arith}
+use Rattle.std.proofs.Common.{◌≡◌, ℕ, suc, ◌+◌, true, List, [], ◌∷◌, ◌++◌, length, Option, Some, None, Err, refl, sym, ap, subst, ◌∙◌, arith}
 use Rattle.std.specs.Prelude.{◌-◌, option_map}
-use Rattle.scale_core.specs.Compact.{compact}
 use Rattle.scale_core.specs.Number.{AreBytes}
-use Rattle.scale_core.specs.declared.compact.Target.TheVariants as target
+use Rattle.scale_core.specs.declared.fault.Reason.TheVariants as scale
 use Rattle.registry_core.specs.Kinds.{kind_of}
 use Rattle.registry_core.specs.declared.kind.PrimitiveKind.{PrimitiveKind}
 use Rattle.registry_core.specs.declared.kind.PrimitiveKind.TheVariants as K
-use Rattle.registry_core.specs.declared.primitive.Primitive.TheVariants as P
 use Rattle.registry_core.specs.declared.type_info.TypeInfo.{TypeInfo}
 use Rattle.widths_core.specs.Classes.{is_finite}
 use Rattle.widths_core.specs.Layouts.{Layout, layout, kind_layout}
 use Rattle.widths_core.specs.Layouts as layout
+use Rattle.widths_core.specs.declared.run_kind.RunKind.{RunKind}
+use Rattle.widths_core.specs.declared.run_kind.RunKind.TheVariants as kind
+use Rattle.grammar_core.specs.Runs.{run_length_at}
 use Rattle.grammar_core.specs.Begun.{Begun, Grows}
 use Rattle.grammar_core.specs.declared.form.Form.{Form}
 use Rattle.grammar_core.specs.declared.form.Form.TheVariants as form
-use Rattle.grammar_core.specs.declared.form.Next.TheVariants as next
 use Rattle.value_core.specs.Begun.{built_bytes, next_with_room}
 use Rattle.value_core.specs.Built.{Built, Pieces, next_layout, pieces_bytes, type_or_0}
-use Rattle.value_core.specs.Walked.{next_of, next_type}
+use Rattle.value_core.specs.Walked.{next_type}
 use Rattle.value_core.proofs.Forms.{HasForm, Wanted, wanted}
 use Rattle.decode_core.specs.Decoding.{HoldsOf, IsOf, IsWaiting}
-use Rattle.decode_core.specs.Held.{open_text, past_length}
+use Rattle.decode_core.specs.Held.{open_run, past_length}
 use Rattle.decode_core.specs.Holds.{IsShort}
-use Rattle.decode_core.specs.Needs.{compact_need, kind_need, need}
+use Rattle.decode_core.specs.Needs.{HasBytes, kind_need, need}
 use Rattle.decode_core.specs.Outcome.{Job}
-use Rattle.decode_core.specs.Running.{Running, IsCarry, IsTextNext, held_of}
+use Rattle.decode_core.specs.Running.{Running, IsCarry, IsRunNext, held_of, run_held}
 use Rattle.decode_core.specs.Told.{own_at}
 use Rattle.decode_core.proofs.lists.HeldOne.{own_short}
-use Rattle.decode_core.proofs.steps.NodeAdding.{next_has}
-use Rattle.decode_core.proofs.steps.Refusing.{IsShortOf, compact_short}
-use Rattle.decode_core.proofs.steps.RunTurns.{short_of}
-use Rattle.decode_core.proofs.steps.TextTurns.{length_again}
-use Rattle.decode_core.proofs.steps.Whole.{u32_is}
+use Rattle.decode_core.proofs.steps.NodeAdding.{next_has, next_run}
+use Rattle.decode_core.proofs.steps.Refusing.{IsShortOf, run_length_short}
+use Rattle.decode_core.proofs.steps.RunSteps.{length_again, own_of}
 use Rattle.decode_core.proofs.lists.ToldSpells.{TellsBytes, bytes_of, told_spells}
 
 -- ---- the tree and its bytes
@@ -82,61 +80,75 @@ short_to j b s of w n =
       own_short (layout j.registry n.ty) (held_of s) w.wants.left (laid ∙ w.wants.short),
     )
 
--- ---- the bytes of texts
+-- ---- the bytes of runs
 
--- what is short for a kind or a form that has the layout of a text is short for a text
-kind_alone : (k : PrimitiveKind) (c : List ℕ) → (layout.plain layout.text) ≡ kind_layout k →
-    IsShortOf (kind_need k) c → IsShortOf (compact_need target.U32) c
-kind_alone K.Str c h k = k
-kind_alone K.Bool c h k = absurd cc
-kind_alone K.Char c h k = absurd cc
-kind_alone (K.Unsigned w) c h k = absurd cc
-kind_alone (K.Signed w) c h k = absurd cc
-kind_alone (K.Wide s) c h k = absurd cc
+same_run : (k l : RunKind) → layout.plain (layout.run k) ≡ layout.plain (layout.run l) → k ≡ l
+same_run k l h = cc
 
-text_alone : (f : Form) (c : List ℕ) → HasForm f (layout.plain layout.text) → IsShortOf (need f) c →
-    IsShortOf (compact_need target.U32) c
-text_alone (form.Primitive p) c h k = kind_alone (kind_of p) c h k
-text_alone form.Empty c h k = absurd cc
-text_alone (form.Compact m) c h k = absurd cc
-text_alone form.Fields c h k = let no = h.1 in absurd cc
-text_alone form.Arm c h k = let no = h.1 in absurd cc
-text_alone (form.Array n) c h k = let no = h.1 in absurd cc
-text_alone form.Sequence c h k = let no = h.1 in absurd cc
-text_alone form.Count c h k = absurd cc
+-- what is short for a kind or a form that has the layout of a run is short for the run's length
+kind_alone : (p : PrimitiveKind) (k : RunKind) (c : List ℕ) →
+    layout.plain (layout.run k) ≡ kind_layout p → IsShortOf (kind_need p) c →
+    run_length_at k c ≡ Err (scale.Truncated, [])
+kind_alone K.Str k c h s = rw (same_run k kind.Text h) (run_length_short kind.Text c tt s)
+kind_alone K.Bool k c h s = absurd cc
+kind_alone K.Char k c h s = absurd cc
+kind_alone (K.Unsigned w) k c h s = absurd cc
+kind_alone (K.Signed w) k c h s = absurd cc
+kind_alone (K.Wide x) k c h s = absurd cc
 
--- no text is open: what is carried is not even a text's length
-carried_text : (f : Form) (lay : Layout) (c : List ℕ) → HasForm f lay → IsShortOf (need f) c →
-    open_text lay c ≡ 0
-carried_text f (layout.plain layout.text) c h k =
-    ap past_length (compact_short target.U32 c u32_is (text_alone f c h k))
-carried_text f layout.unknown c h k = refl
-carried_text f layout.bit_sequence c h k = refl
-carried_text f layout.bad_compact c h k = refl
-carried_text f (layout.plain layout.empty) c h k = refl
-carried_text f (layout.plain layout.bool) c h k = refl
-carried_text f (layout.plain layout.char) c h k = refl
-carried_text f (layout.plain (layout.unsigned n)) c h k = refl
-carried_text f (layout.plain (layout.signed n)) c h k = refl
-carried_text f (layout.plain layout.wide) c h k = refl
-carried_text f (layout.fields ts) c h k = refl
-carried_text f (layout.arms arms) c h k = refl
-carried_text f (layout.plain layout.counted) c h k = refl
-carried_text f (layout.sequence t) c h k = refl
-carried_text f (layout.array n t) c h k = refl
-carried_text f (layout.plain (layout.compact m)) c h k = refl
+run_alone : (f : Form) (k : RunKind) (c : List ℕ) → HasForm f (layout.plain (layout.run k)) →
+    HasBytes f → IsShortOf (need f) c → run_length_at k c ≡ Err (scale.Truncated, [])
+run_alone (form.Primitive p) k c h some s = kind_alone (kind_of p) k c h s
+run_alone form.Bytes k c h some s =
+    rw (same_run k kind.Bytes h) (run_length_short kind.Bytes c tt s)
+run_alone (form.ByteArray n) k c h some s = absurd some
+run_alone form.Empty k c h some s = absurd some
+run_alone (form.Compact m) k c h some s = absurd cc
+run_alone form.Fields k c h some s = absurd some
+run_alone form.Arm k c h some s = let no = h.1 in absurd cc
+run_alone (form.Array n) k c h some s = absurd some
+run_alone form.Sequence k c h some s = let no = h.1 in absurd cc
+run_alone form.Count k c h some s = absurd cc
 
--- a text that is open has the bytes that came behind its length
-open_is : (b : Built) (c : List ℕ) (f : Form) (text : Option Pieces) →
-    next_of b.walk ≡ next.Wants f → IsCarry b c → IsTextNext b c text →
-    length (pieces_bytes text) ≡ open_text (next_layout b)
-    (elim text [ Some t ↦ compact t.len ++ t.bytes | None ↦ c ])
-open_is b c f None wants carried h =
-    sym (carried_text f (next_layout b) c (next_has b f wants) (short_of b c f carried wants))
-open_is b c f (Some t) wants carried h =
-    let laid : next_layout b ≡ (layout.plain layout.text) = next_has b (form.Primitive P.Str) h.0 in
-    sym (ap (λ (lay : Layout). open_text lay (compact t.len ++ t.bytes)) laid
-    ∙ ap past_length (length_again t.len t.bytes h.2))
+nothing_past : (k : RunKind) → past_length (run_length_at k []) ≡ 0
+nothing_past kind.Text = ap past_length (run_length_short kind.Text [] tt tt)
+nothing_past kind.Bytes = ap past_length (run_length_short kind.Bytes [] tt tt)
+nothing_past (kind.ByteArray n) = refl
+
+-- what is carried is not even a run's length
+carried_past : (b : Built) (c : List ℕ) (k : RunKind) → IsCarry b c →
+    next_layout b ≡ layout.plain (layout.run k) → past_length (run_length_at k c) ≡ 0
+carried_past b [] k h laid = nothing_past k
+carried_past b (x ∷ c) k h laid =
+    ap past_length (run_alone h.0 k (x ∷ c) (rw laid at (next_has b h.0 h.1)) h.2 h.4)
+
+-- no run is open
+carried_run : (b : Built) (c : List ℕ) (lay : Layout) → IsCarry b c → next_layout b ≡ lay →
+    open_run lay c ≡ 0
+carried_run b c (layout.plain (layout.run k)) h e = carried_past b c k h e
+carried_run b c layout.unknown h e = refl
+carried_run b c layout.bit_sequence h e = refl
+carried_run b c layout.bad_compact h e = refl
+carried_run b c (layout.plain layout.empty) h e = refl
+carried_run b c (layout.plain layout.bool) h e = refl
+carried_run b c (layout.plain layout.char) h e = refl
+carried_run b c (layout.plain (layout.unsigned n)) h e = refl
+carried_run b c (layout.plain (layout.signed n)) h e = refl
+carried_run b c (layout.plain layout.wide) h e = refl
+carried_run b c (layout.fields ts) h e = refl
+carried_run b c (layout.arms arms) h e = refl
+carried_run b c (layout.plain layout.counted) h e = refl
+carried_run b c (layout.sequence t) h e = refl
+carried_run b c (layout.array n t) h e = refl
+carried_run b c (layout.plain (layout.compact m)) h e = refl
+
+-- a run that is open has the bytes that came behind its length
+open_is : (b : Built) (c : List ℕ) (run : Option Pieces) → IsCarry b c → IsRunNext b c run →
+    length (pieces_bytes run) ≡ open_run (next_layout b) (run_held run c)
+open_is b c None carried h = sym (carried_run b c (next_layout b) carried refl)
+open_is b c (Some t) carried h =
+    sym (ap (λ (lay : Layout). open_run lay (own_of t)) (next_run b t.kind h.0)
+    ∙ ap past_length (length_again t.kind t.len t.bytes h.2))
 
 pub holds_of : (j : Job) (b : List ℕ) (s : Running) → IsOf j s → AreBytes b → IsWaiting j b s →
     HoldsOf j b s
@@ -144,10 +156,10 @@ holds_of j b s of are w =
     let n = wanted s.built.walk w.wants.form w.wants.next in
     let begun = w.sound.begun in
     let at = s.built.walk.limit + 2 - length s.built.walk.frames in
-    let texts : length (pieces_bytes s.built.text) ≡ open_text (layout j.registry n.ty)
+    let texts : length (pieces_bytes s.built.run) ≡ open_run (layout j.registry n.ty)
     (held_of s) =
-    open_is s.built s.carry w.wants.form s.built.text w.wants.next w.sound.carried w.sound.text_next
-    ∙ ap (λ (lay : Layout). open_text lay (held_of s)) (layout_is j s n.ty of n.is_next) in
+    open_is s.built s.carry s.built.run w.sound.carried w.sound.run_next
+    ∙ ap (λ (lay : Layout). open_run lay (held_of s)) (layout_is j s n.ty of n.is_next) in
     record {
       tree = begun.tree;
       holds = (

@@ -1,16 +1,18 @@
--- A list, a count, an arm, and a text's length, by their own bytes.
+-- A list, a count, an arm, and a run's length, by their own bytes.
 use Rattle.std.proofs.Common.{◌≡◌, ℕ, true, false, List, [], ◌∷◌, length, Option, Some, None, Result, Ok, Err, refl, sym, ap, subst, ◌∙◌, arith}
 use Rattle.std.specs.Prelude.{◌≢◌, OnErr, OnOk, is_some, slice_index_or}
-use Rattle.scale_core.specs.Read.{Read, place, compact_at, text_at}
+use Rattle.scale_core.specs.Read.{Read, place, compact_at}
 use Rattle.scale_core.specs.declared.compact.Target.TheVariants as target
 use Rattle.scale_core.specs.declared.fault.Reason.{Reason}
 use Rattle.scale_core.specs.declared.fault.Reason.TheVariants as scale
 use Rattle.registry_core.specs.declared.definition.Arm.{Arm}
-use Rattle.registry_core.specs.declared.primitive.Primitive.TheVariants as P
 use Rattle.widths_core.specs.Arms.{arm_of}
 use Rattle.graph_core.specs.Types.{field_types}
 use Rattle.widths_core.specs.Layouts.{Layout}
 use Rattle.widths_core.specs.Layouts as layout
+use Rattle.widths_core.specs.declared.run_kind.RunKind.{RunKind}
+use Rattle.widths_core.specs.declared.run_kind.RunKind.TheVariants as kind
+use Rattle.grammar_core.specs.Runs.{run_at, run_form, run_length_at}
 use Rattle.grammar_core.specs.Tree as tree
 use Rattle.value_core.specs.Built.{Built, next_layout, arm_in, with_arm, with_found}
 use Rattle.grammar_core.specs.Cells.{fields_part, list_part}
@@ -21,11 +23,11 @@ use Rattle.grammar_core.specs.Reading.{basic, layout_at, no_such_variant}
 use Rattle.value_core.specs.Walked.{next_of}
 use Rattle.grammar_core.specs.declared.form.Form.TheVariants as form
 use Rattle.grammar_core.specs.declared.form.Next.TheVariants as next
-use Rattle.decode_core.specs.Needs.{AreOwn}
-use Rattle.decode_core.specs.NodeAdds.{AddsBare, IsAdded, IsRefused, IsSpelled, with_own}
+use Rattle.decode_core.specs.Needs.{AreOwn, HasBytes}
+use Rattle.decode_core.specs.NodeAdds.{AddsBare, AddsBytes, IsAdded, IsRefused, IsSpelled, with_own}
 use Rattle.decode_core.specs.Reasons.{reason_of}
 use Rattle.decode_core.specs.Told.{length_own, own_at}
-use Rattle.decode_core.proofs.steps.NodeAdding.{all_read, next_has}
+use Rattle.decode_core.proofs.steps.NodeAdding.{all_read, next_has, next_run}
 use Rattle.decode_core.proofs.steps.Whole.{IsSettled, settled_at, u32_is, basic_whole}
 
 -- ---- lists and counts
@@ -126,11 +128,13 @@ arm_refused b own h a none =
     subst (λ (o : List ℕ). IsRefused b o (reason_of no_such_variant) 0) (sym (one_byte own a))
     (arm_missing b i (arm_in (next_layout b) i) h refl none)
 
--- ---- the length of a text
+-- ---- the length of a run
 
-length_settled : (own : List ℕ) → AreOwn (form.Primitive P.Str) own →
-    IsSettled (compact_at target.U32 own)
-length_settled own a = settled_at target.U32 own u32_is a.0 a.1 a.2 a.3
+length_settled : (k : RunKind) (own : List ℕ) → HasBytes (run_form k) → AreOwn (run_form k) own →
+    IsSettled (run_length_at k own)
+length_settled kind.Text own s a = settled_at target.U32 own u32_is a.0 a.1 a.2 a.3
+length_settled kind.Bytes own s a = settled_at target.U32 own u32_is a.0 a.1 a.2 a.3
+length_settled (kind.ByteArray n) own s a = absurd s
 
 settled_ok : (read : Read Reason ℕ) (n : ℕ) (rest : List ℕ) → IsSettled read → read ≡ Ok (n, rest) →
     read ≡ Ok (n, [])
@@ -141,30 +145,30 @@ settled_err : (read : Read Reason ℕ) (e : Reason) (left : List ℕ) → IsSett
     read ≡ Err (e, left) → e ≢ scale.Truncated
 settled_err read e left h is = (rw is at h)
 
-pub length_read : (own : List ℕ) (n : ℕ) → AreOwn (form.Primitive P.Str) own → (rest : List ℕ)
-    × (compact_at target.U32 own ≡ Ok (n, rest)) → compact_at target.U32 own ≡ Ok (n, [])
-length_read own n a h = settled_ok (compact_at target.U32 own) n h.0 (length_settled own a) h.1
+pub length_read : (k : RunKind) (own : List ℕ) (n : ℕ) → HasBytes (run_form k) →
+    AreOwn (run_form k) own → (rest : List ℕ) × (run_length_at k own ≡ Ok (n, rest)) →
+    run_length_at k own ≡ Ok (n, [])
+length_read k own n s a h =
+    settled_ok (run_length_at k own) n h.0 (length_settled k own s a) h.1
 
-pub text_cut : (own : List ℕ) (e : Reason) (left : List ℕ) →
-    compact_at target.U32 own ≡ Err (e, left) →
-    own_at (layout.plain layout.text) own ≡ Err (basic e, left)
-unfolding own_at layout_at text_at
-text_cut own e left h = rw h refl
+pub run_cut : (k : RunKind) (own : List ℕ) (e : Reason) (left : List ℕ) →
+    run_length_at k own ≡ Err (e, left) →
+    own_at (layout.plain (layout.run k)) own ≡ Err (basic e, left)
+unfolding own_at layout_at run_at
+run_cut k own e left h = rw h refl
 
-pub length_refused : (b : Built) (own : List ℕ) (e : Reason) (at : ℕ) →
-    next_of b.walk ≡ next.Wants (form.Primitive P.Str) → AreOwn (form.Primitive P.Str) own →
-    (left : List ℕ) × (compact_at target.U32 own ≡ Err (e, left)) × (at ≡ place own left) →
+pub length_refused : (k : RunKind) (b : Built) (own : List ℕ) (e : Reason) (at : ℕ) →
+    next_of b.walk ≡ next.Wants (run_form k) → HasBytes (run_form k) → AreOwn (run_form k) own →
+    (left : List ℕ) × (run_length_at k own ≡ Err (e, left)) × (at ≡ place own left) →
     IsRefused b own (reason_of (basic e)) at
-length_refused b own e at h a k =
-    let cut = ap (λ (f : Layout). own_at f own) (next_has b (form.Primitive P.Str) h)
-    ∙ text_cut own e k.0 k.1 in (
+length_refused k b own e at h s a r =
+    let cut = ap (λ (f : Layout). own_at f own) (next_run b k h) ∙ run_cut k own e r.0 r.1 in (
       basic e,
-      k.0,
+      r.0,
       cut,
-      basic_whole e
-          (settled_err (compact_at target.U32 own) e k.0 (length_settled own a) k.1),
+      basic_whole e (settled_err (run_length_at k own) e r.0 (length_settled k own s a) r.1),
       refl,
-      k.2,
+      r.2,
     )
 
 -- ---- nodes without bytes of their own
@@ -210,9 +214,14 @@ pub array_read : (b : Built) (n : ℕ) → next_of b.walk ≡ next.Wants (form.A
     ≡ Ok ((head.branch tree.list n, Some (list_part (next_layout b) n)), [])
 array_read b n h = let f = next_has b (form.Array n) h in array_by (next_layout b) n f.0 f.1
 
--- a node without bytes of its own is added, or memory was refused for it
+-- a node is added by these bytes, or memory was refused for it
+pub bytes_added : {E : Type 0} (b new : Built) (own : List ℕ) (x : Head × Option Part)
+    (added : Result (Unit {0}) E) → own_at (next_layout b) own ≡ Ok (x, []) →
+    OnOk added (new ≡ with_own b x) → OnErr added (new ≡ b) → AddsBytes b new own added
+bytes_added b new own x (Ok u) r ok err = (x, r, ok)
+bytes_added b new own x (Err e) r ok err = ((x, r), err)
+
 pub bare_added : {E : Type 0} (b new : Built) (x : Head × Option Part)
     (added : Result (Unit {0}) E) → own_at (next_layout b) [] ≡ Ok (x, []) →
     OnOk added (new ≡ with_own b x) → OnErr added (new ≡ b) → AddsBare b new added
-bare_added b new x (Ok u) r ok err = (x, r, ok)
-bare_added b new x (Err e) r ok err = ((x, r), err)
+bare_added b new x added r ok err = bytes_added b new [] x added r ok err

@@ -2,16 +2,19 @@
 use Rattle.std.proofs.Common.{◌≡◌, ℕ, suc, ◌+◌, ◌-◌, ◌<◌, ◌≤◌, ◌⊎◌, List, [], ◌++◌, length, take, drop, refl, sym, ap, subst, ◌∙◌, append_assoc, arith, inl, inr, length-drop}
 use Rattle.std.proofs.lemmas.List.{append-nil, drop-drop, take_rest, take-append-drop, length-take}
 use Rattle.std.proofs.Math.Seq.{take-add}
-use Rattle.std.specs.Prelude.{true}
+use Rattle.std.specs.Prelude.{true, is_none, Option, Some, None, ◌∷◌}
+use Rattle.grammar_core.specs.Parts.{first_of}
+use Rattle.grammar_core.specs.declared.form.Form.{Form}
+use Rattle.grammar_core.specs.declared.form.Next.TheVariants as next
 use Rattle.registry_core.specs.declared.type_info.TypeInfo.{TypeInfo}
-use Rattle.value_core.specs.Refusals.{is_whole}
+use Rattle.value_core.specs.Refusals.{is_whole, is_whole_in}
+use Rattle.value_core.specs.Walked.{OpenPart, first_in, next_from}
 use Rattle.decode_core.specs.Machine.{State, remain, to_go}
 use Rattle.decode_core.specs.Running.{Running, held_of, state_of}
 use Rattle.decode_core.specs.Told.{after}
-use Rattle.decode_core.specs.Turned.{FeedTells, IsSame, IsSound, Moves, Steps, StepTells, left_to_do, types_of}
+use Rattle.decode_core.specs.Turned.{Awaits, FeedTells, IsSame, IsSound, Moves, StepTells, Steps, left_to_do, types_of}
 use Rattle.decode_core.specs.declared.turned.Stopped.{Stopped}
 use Rattle.decode_core.specs.declared.turned.Stopped.TheVariants as stop
-use Rattle.decode_core.specs.declared.turned.Turned.{Turned}
 use Rattle.decode_core.specs.declared.turned.Turned.TheVariants as turned
 use Rattle.decode_core.proofs.lists.MachineTurns.{nearer}
 
@@ -120,16 +123,9 @@ turns_stop a b c piece at (stop.Refused held told_reason place len) le h k sound
     (le, (b, h, k, tt, sound))
 
 -- a whole value has one turn, which stops
-stays_whole : (fn self : Running) (at : ℕ) → (is_whole fn.built ≡ true → (at ≡ 0) × (self ≡ fn)) →
+pub stays_whole : (fn self : Running) (at : ℕ) → (is_whole fn.built ≡ true → (at ≡ 0) × (self ≡ fn)) →
     is_whole fn.built ≡ true → is_whole self.built ≡ true
 stays_whole fn self at h w = subst (λ (s : Running). is_whole s.built ≡ true) (sym (h w).1) w
-
-pub whole_goes_on : {X : Type 0} (fn self : Running) (at n : ℕ) (t : Turned) →
-    (is_whole fn.built ≡ true → (at ≡ 0) × (self ≡ fn)) →
-    (is_whole self.built ≡ true → t ≡ turned.Stopped stop.Finished) → t ≡ turned.On n →
-    is_whole fn.built ≡ true → X
-whole_goes_on fn self at n t h k is w = let both = sym is ∙ k (stays_whole fn self at h w) in
-    absurd cc
 
 -- what is left of a piece, as a slice of it
 rest_tells : (b c : Running) (piece : List ℕ) (at n : ℕ) →
@@ -152,9 +148,26 @@ turn_nearer b c piece at n k =
     subst (λ (l : List ℕ). left_to_do c l < left_to_do b (drop at piece)) (drop_more piece at n)
     (step_nearer b c (drop at piece) n one.0 one.1 one.2)
 
+-- ---- turns that are taken together
+
+-- where a value is next that has not come, none is whole
+pub awaits_goes_on : {X : Type 0} (s : Running) (f : Form) → Awaits s f →
+    is_whole s.built ≡ true → X
+awaits_goes_on s f h w = by s.built.walk.frames h.next w where
+  none : {X : Type 0} (t : Option ℕ) → next_from s.built.walk t ≡ next.Wants f →
+      is_none t ≡ true → X
+  none None e k = absurd cc
+  none (Some t) e k = absurd cc
+
+  by : {X : Type 0} (fs : List OpenPart) → next_from s.built.walk (first_in fs) ≡ next.Wants f →
+      is_whole_in fs ≡ true → X
+  by [] e k = absurd cc
+  by (o ∷ []) e k = none (first_of o.left) e k
+  by (o ∷ p ∷ ps) e k = absurd cc
+
 -- ---- the turns are counted
 
-grows_by : (a b : Running) (bytes : List ℕ) → Steps a b bytes →
+pub grows_by : (a b : Running) (bytes : List ℕ) → Steps a b bytes →
     (length b.built.entries ≡ length a.built.entries)
     ⊎ (length b.built.entries ≡ suc (length a.built.entries))
 grows_by a b bytes (inl k) = inl (ap (λ (s : State). length s.nodes) k.1)
@@ -169,7 +182,7 @@ each_turn old a b piece from so_far one n h is k =
     elim (grows_by a b (take n piece) k.2)
     [ inl same ↦ omega (arith, h, is, same) | inr more ↦ omega (arith, h, is, more) ]
 
-one_or_bytes : (a b : Running) (bytes : List ℕ) → Steps a b bytes →
+pub one_or_bytes : (a b : Running) (bytes : List ℕ) → Steps a b bytes →
     suc (length a.built.entries) ≤ length bytes + length b.built.entries
 one_or_bytes a b bytes (inl k) = omega (arith, k.0, ap (λ (s : State). length s.nodes) k.1)
 one_or_bytes a b bytes (inr k) = omega (arith, k.2)

@@ -5,17 +5,20 @@ use Rattle.registry_core.specs.Kinds.{kind_of}
 use Rattle.registry_core.specs.declared.kind.PrimitiveKind.{PrimitiveKind}
 use Rattle.registry_core.specs.declared.primitive.Primitive.{Primitive}
 use Rattle.widths_core.specs.Layouts.{kind_layout}
+use Rattle.widths_core.specs.Layouts as layout
+use Rattle.widths_core.specs.declared.run_kind.RunKind.{RunKind}
 use Rattle.value_core.specs.Built.{Built, next_layout}
 use Rattle.grammar_core.specs.Parts.{Part}
 use Rattle.grammar_core.specs.Preorder.{Head}
 use Rattle.grammar_core.specs.Reading.{Refusal}
+use Rattle.grammar_core.specs.Runs.{run_form}
 use Rattle.value_core.specs.Walked.{next_of}
 use Rattle.grammar_core.specs.declared.form.Form.{Form}
 use Rattle.grammar_core.specs.declared.form.Form.TheVariants as form
 use Rattle.grammar_core.specs.declared.form.Next.TheVariants as next
-use Rattle.value_core.proofs.Forms.{HasForm, form_layout, wanted}
+use Rattle.value_core.proofs.Forms.{HasForm, form_layout, run_layout, wanted}
 use Rattle.decode_core.specs.Machine.{is_cut}
-use Rattle.decode_core.specs.Needs.{AreOwn, HasBytes, NoText}
+use Rattle.decode_core.specs.Needs.{AreOwn, HasBytes, NoRun}
 use Rattle.decode_core.specs.NodeAdds.{AddsNode}
 use Rattle.decode_core.specs.Reasons.{reason_of}
 use Rattle.decode_core.specs.Told.{own_at}
@@ -29,12 +32,18 @@ pub next_has : (b : Built) (f : Form) → next_of b.walk ≡ next.Wants f → Ha
 next_has b f h = let w = wanted b.walk f h in
     rw w.is_next (form_layout b.walk.types w.ty f w.form_is)
 
+-- so has that of a run
+pub next_run : (b : Built) (k : RunKind) → next_of b.walk ≡ next.Wants (run_form k) →
+    next_layout b ≡ layout.plain (layout.run k)
+next_run b k h = let w = wanted b.walk (run_form k) h in
+    rw w.is_next (run_layout b.walk.types w.ty k w.form_is)
+
 kind_next : (b : Built) (p : Primitive) (k : PrimitiveKind) →
     next_of b.walk ≡ next.Wants (form.Primitive p) → kind_of p ≡ k → next_layout b ≡ kind_layout k
 kind_next b p k h e = next_has b (form.Primitive p) h ∙ ap kind_layout e
 
 needs_these : (b : Built) (f : Form) (own : List ℕ) → next_of b.walk ≡ next.Wants f → HasBytes f →
-    NoText f → AreOwn f own → NeedsThese f own
+    NoRun f → AreOwn f own → NeedsThese f own
 needs_these b form.Empty own h s n k = (s, k)
 needs_these b (form.Primitive p) own h s n k = (n, k)
 needs_these b (form.Compact m) own h s n k = let w = wanted b.walk (form.Compact m) h in
@@ -42,12 +51,14 @@ needs_these b (form.Compact m) own h s n k = let w = wanted b.walk (form.Compact
 needs_these b form.Fields own h s n k = (s, k)
 needs_these b form.Arm own h s n k = (s, k)
 needs_these b (form.Array n') own h s n k = (s, k)
+needs_these b (form.ByteArray n') own h s n k = absurd n
+needs_these b form.Bytes own h s n k = n
 needs_these b form.Sequence own h s n k = (s, k)
 needs_these b form.Count own h s n k = (s, k)
 
 -- nothing of these bytes is left over, and no more are waited for
 pub own_whole : (b : Built) (f : Form) (own : List ℕ) → next_of b.walk ≡ next.Wants f → HasBytes f →
-    NoText f → AreOwn f own → IsWhole (own_at (next_layout b) own)
+    NoRun f → AreOwn f own → IsWhole (own_at (next_layout b) own)
 own_whole b f own h s n k =
     form_whole f (next_layout b) own (next_has b f h) (needs_these b f own h s n k)
 
@@ -62,7 +73,7 @@ no_wait read e left h is = (rw is at h)
 
 -- what was read of a node is all that its bytes spell
 pub all_read : (f : Form) (b : Built) (own : List ℕ) (x : Head × Option Part) →
-    next_of b.walk ≡ next.Wants f → HasBytes f → NoText f → AreOwn f own →
+    next_of b.walk ≡ next.Wants f → HasBytes f → NoRun f → AreOwn f own →
     ((rest : List ℕ) × (own_at (next_layout b) own ≡ Ok (x, rest))) →
     own_at (next_layout b) own ≡ Ok (x, [])
 all_read f b own x h s n a r =
@@ -70,7 +81,7 @@ all_read f b own x h s n a r =
 
 -- a node whose reading is refused
 pub node_refused : (f : Form) (b : Built) (own : List ℕ) (e : Refusal) (at : ℕ) (told : NodeFault) →
-    next_of b.walk ≡ next.Wants f → HasBytes f → NoText f → AreOwn f own →
+    next_of b.walk ≡ next.Wants f → HasBytes f → NoRun f → AreOwn f own →
     ((left : List ℕ) × (own_at (next_layout b) own ≡ Err (e, left)) × (at ≡ place own left)) →
     told ≡ fault.Refused (reason_of e) at → AddsNode b b own (Err told)
 node_refused f b own e at told h s n a r is =

@@ -25,7 +25,7 @@ use Rattle.value_core.specs.Walked.{next_of}
 use Rattle.value_core.specs.declared.leaf.Leaf.{Leaf}
 use Rattle.value_core.specs.declared.leaf.Leaf.TheVariants as leaf
 use Rattle.value_core.proofs.Forms.{HasForm, wanted}
-use Rattle.decode_core.specs.Needs.{AreOwn, HasBytes, NoText}
+use Rattle.decode_core.specs.Needs.{AreOwn, HasBytes, NoRun}
 use Rattle.decode_core.specs.NodeAdds.{AddsNode, IsAdded, IsSpelled}
 use Rattle.decode_core.specs.NodeForms.{ReadsPlain, form_of_plain, plain_layout}
 use Rattle.decode_core.specs.Reasons.{reason_of}
@@ -45,23 +45,23 @@ plain_bytes (plain.Wide s) = tt
 plain_bytes (plain.Compact m) = tt
 plain_bytes plain.Count = tt
 
-no_text : (p : PlainForm) → NoText (form_of_plain p)
-no_text plain.Bool = tt
-no_text plain.Char = tt
-no_text (plain.Unsigned width.Bits8) = tt
-no_text (plain.Unsigned width.Bits16) = tt
-no_text (plain.Unsigned width.Bits32) = tt
-no_text (plain.Unsigned width.Bits64) = tt
-no_text (plain.Unsigned width.Bits128) = tt
-no_text (plain.Signed width.Bits8) = tt
-no_text (plain.Signed width.Bits16) = tt
-no_text (plain.Signed width.Bits32) = tt
-no_text (plain.Signed width.Bits64) = tt
-no_text (plain.Signed width.Bits128) = tt
-no_text (plain.Wide sign.Unsigned) = tt
-no_text (plain.Wide sign.Signed) = tt
-no_text (plain.Compact m) = tt
-no_text plain.Count = tt
+no_run : (p : PlainForm) → NoRun (form_of_plain p)
+no_run plain.Bool = tt
+no_run plain.Char = tt
+no_run (plain.Unsigned width.Bits8) = tt
+no_run (plain.Unsigned width.Bits16) = tt
+no_run (plain.Unsigned width.Bits32) = tt
+no_run (plain.Unsigned width.Bits64) = tt
+no_run (plain.Unsigned width.Bits128) = tt
+no_run (plain.Signed width.Bits8) = tt
+no_run (plain.Signed width.Bits16) = tt
+no_run (plain.Signed width.Bits32) = tt
+no_run (plain.Signed width.Bits64) = tt
+no_run (plain.Signed width.Bits128) = tt
+no_run (plain.Wide sign.Unsigned) = tt
+no_run (plain.Wide sign.Signed) = tt
+no_run (plain.Compact m) = tt
+no_run plain.Count = tt
 
 -- the layout of the next type is the one of the form
 plain_next_layout : (b : Built) (p : PlainForm) → next_of b.walk ≡ next.Wants (form_of_plain p) →
@@ -102,7 +102,7 @@ spells : (b : Built) (p : PlainForm) (own : List ℕ) (l : Leaf) →
     next_of b.walk ≡ next.Wants (form_of_plain p) → AreOwn (form_of_plain p) own →
     ReadsPlain p own (Ok l) → own_at (next_layout b) own ≡ Ok ((leaf_head l, None), [])
 spells b p own l h a r =
-    all_read (form_of_plain p) b own (leaf_head l, None) h (plain_bytes p) (no_text p) a
+    all_read (form_of_plain p) b own (leaf_head l, None) h (plain_bytes p) (no_run p) a
     (r.0, next_own b p own h ∙ r.1)
 
 pub plain_spelled : (b : Built) (p : PlainForm) (own : List ℕ) (l : Leaf) →
@@ -120,7 +120,7 @@ pub plain_refused : (b : Built) (p : PlainForm) (own : List ℕ) (f : Fault) (to
     ReadsPlain p own (Err f) → told ≡ fault.Refused (reason_of (basic f.reason)) f.at →
     AddsNode b b own (Err told)
 plain_refused b p own f told h a r is =
-    node_refused (form_of_plain p) b own (basic f.reason) f.at told h (plain_bytes p) (no_text p) a
+    node_refused (form_of_plain p) b own (basic f.reason) f.at told h (plain_bytes p) (no_run p) a
     (r.0, next_own b p own h ∙ r.1, r.2) is
 
 -- ---- the value that the bytes are
@@ -131,6 +131,7 @@ leaf_tree leaf.Empty = (tree.unit, refl)
 leaf_tree (leaf.Bool x) = (tree.bool x, refl)
 leaf_tree (leaf.Char x) = (tree.char x, refl)
 leaf_tree (leaf.Text s) = (tree.text s.now, refl)
+leaf_tree (leaf.Bytes s) = (tree.bytes s.now, refl)
 leaf_tree (leaf.Unsigned n) = (tree.unsigned n, refl)
 leaf_tree (leaf.Signed z) = (tree.signed z, refl)
 leaf_tree (leaf.Wide s) = (tree.wide s.now, refl)

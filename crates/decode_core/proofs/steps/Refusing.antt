@@ -5,7 +5,7 @@ use Rattle.std.proofs.lemmas.Bool.{lt-ltb}
 use Rattle.std.proofs.lemmas.List.{length-take, take-append-le}
 use Rattle.std.proofs.Math.Seq.{take-append_seam, drop-append_seam}
 use Rattle.scale_core.specs.Number.{number, signed_number}
-use Rattle.scale_core.specs.Read.{bytes_at, form_len, form_from, is_too_long, integer_at, compact_at, text_at}
+use Rattle.scale_core.specs.Read.{bytes_at, form_len, form_from, is_too_long, integer_at, compact_at}
 use Rattle.scale_core.specs.declared.compact.Target.{Target}
 use Rattle.scale_core.specs.declared.compact.Target.TheVariants as target
 use Rattle.scale_core.specs.declared.fault.Reason.TheVariants as scale
@@ -16,6 +16,9 @@ use Rattle.registry_core.proofs.Widths.{width_some}
 use Rattle.registry_core.specs.declared.type_info.TypeInfo.{TypeInfo}
 use Rattle.widths_core.specs.Layouts.{Layout, layout, kind_layout}
 use Rattle.widths_core.specs.Layouts as layout
+use Rattle.widths_core.specs.declared.run_kind.RunKind.{RunKind}
+use Rattle.widths_core.specs.declared.run_kind.RunKind.TheVariants as kind
+use Rattle.grammar_core.specs.Runs.{run_at, run_form, run_length_at}
 use Rattle.grammar_core.specs.Tree as tree
 use Rattle.value_core.specs.Built.{Built, next_layout}
 use Rattle.grammar_core.specs.Parts.{first_of, left_after}
@@ -93,17 +96,24 @@ char_short : (b : List ℕ) → IsShortOf (λ first. 4) b →
 unfolding own_at layout_at
 char_short b h = rw (bytes_short 4 b (below 4 b (omega arith) h)) refl
 
-pub text_short : (b : List ℕ) → IsShortOf (compact_need target.U32) b →
-    own_at (layout.plain layout.text) b ≡ Err (truncated, [])
-unfolding own_at layout_at text_at
-text_short b h = rw (compact_short target.U32 b u32_is h) refl
+-- the length of a run
+pub run_length_short : (k : RunKind) (b : List ℕ) → HasBytes (run_form k) →
+    IsShortOf (need (run_form k)) b → run_length_at k b ≡ Err (scale.Truncated, [])
+run_length_short kind.Text b s h = compact_short target.U32 b u32_is h
+run_length_short kind.Bytes b s h = compact_short target.U32 b u32_is h
+run_length_short (kind.ByteArray n) b s h = absurd s
+
+pub run_short : (k : RunKind) (b : List ℕ) → HasBytes (run_form k) →
+    IsShortOf (need (run_form k)) b → own_at (layout.plain (layout.run k)) b ≡ Err (truncated, [])
+unfolding own_at layout_at run_at
+run_short k b s h = rw (run_length_short k b s h) refl
 
 kind_short : (k : PrimitiveKind) (b : List ℕ) → IsShortOf (kind_need k) b →
     own_at (kind_layout k) b ≡ Err (truncated, [])
 unfolding own_at layout_at
 kind_short K.Bool b h = bool_short b h
 kind_short K.Char b h = char_short b h
-kind_short K.Str b h = text_short b h
+kind_short K.Str b h = run_short kind.Text b tt h
 kind_short (K.Unsigned w) b h =
     number_short (λ c. tree.unsigned (number c)) (width_bytes w) b (width_some w) h
 kind_short (K.Signed w) b h =
@@ -143,6 +153,8 @@ own_short b (form.Compact m) x h s k = let w = wanted b.walk (form.Compact m) h 
 own_short b form.Fields x h s k = absurd s
 own_short b form.Arm x h s k = arms_short (next_layout b) (next_has b form.Arm h) x k
 own_short b (form.Array n) x h s k = absurd s
+own_short b (form.ByteArray n) x h s k = absurd s
+own_short b form.Bytes x h s k = rw (next_has b form.Bytes h) (run_short kind.Bytes x s k)
 own_short b form.Sequence x h s k = sequence_short (next_layout b) (next_has b form.Sequence h) x k
 own_short b form.Count x h s k = count_short (next_layout b) (next_has b form.Count h) x k
 

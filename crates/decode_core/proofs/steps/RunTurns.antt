@@ -1,32 +1,27 @@
 -- What a turn does and keeps, by what it called.
-use Rattle.std.proofs.Common.{◌≡◌, ℕ, zero, suc, ◌+◌, ◌-◌, ◌<◌, ◌≤◌, List, [], ◌∷◌, ◌++◌, length, take, drop, min, Option, Some, None, Result, Ok, Err, refl, sym, ap, subst, ◌∙◌, append_assoc, arith, inl, inr, length-append}
-use Rattle.std.specs.Prelude.{slice_get, slice_index_or, ◌==◌, ◌⊎◌, false, true}
+use Rattle.std.proofs.Common.{◌≡◌, ℕ, zero, suc, ◌+◌, ◌-◌, ◌<◌, ◌≤◌, List, [], ◌∷◌, ◌++◌, length, take, drop, min, Option, Some, None, Result, Ok, Err, refl, sym, ap, subst, ◌∙◌, append_assoc, arith, inl, length-append}
+use Rattle.std.specs.Prelude.{slice_get, slice_index_or, ◌==◌, true}
 use Rattle.std.proofs.lemmas.Bool.{eqb-true}
 use Rattle.std.proofs.lemmas.List.{take-append-drop, length-take}
 use Rattle.std.proofs.Math.Seq.{take-append_seam}
-use Rattle.scale_core.specs.Read.{compact_at}
-use Rattle.scale_core.specs.declared.compact.Target.TheVariants as target
-use Rattle.registry_core.specs.declared.primitive.Primitive.TheVariants as P
 use Rattle.value_core.specs.Built.{Built, Pieces, next_layout}
 use Rattle.value_core.specs.Walked.{next_of}
 use Rattle.grammar_core.specs.declared.form.Form.{Form}
-use Rattle.grammar_core.specs.declared.form.Form.TheVariants as form
 use Rattle.grammar_core.specs.declared.form.Next.{Next}
 use Rattle.grammar_core.specs.declared.form.Next.TheVariants as next
 use Rattle.decode_core.specs.Needs.{need, AreOwn, HasBytes, IsFirst, IsNeeded}
-use Rattle.decode_core.specs.NodeAdds.{AreLength, IsRefused, IsSpelled, TakesNode, AddsBare, IsAdded}
-use Rattle.decode_core.specs.Running.{Running, IsRunning, IsCarry, IsKeptText, held_of}
-use Rattle.decode_core.specs.Turned.{KeepsNode, KeepsText, Steps, BareTells, StepTells, EndsTurns, WantsMemory, node_turned}
+use Rattle.decode_core.specs.NodeAdds.{IsRefused, IsSpelled, TakesNode, AddsBare, IsAdded}
+use Rattle.decode_core.specs.Running.{Running, IsRunning, IsCarry, IsKeptRun, held_of}
+use Rattle.decode_core.specs.Turned.{Steps, BareTells, StepTells, EndsTurns, WantsMemory, node_turned}
 use Rattle.decode_core.specs.Told.{own_at}
 use Rattle.grammar_core.specs.Reading.{truncated}
 use Rattle.decode_core.specs.declared.fault.DecodeReason.{DecodeReason}
 use Rattle.decode_core.specs.declared.node.NodeFault.{NodeFault}
 use Rattle.decode_core.specs.declared.node.NodeFault.TheVariants as fault
-use Rattle.decode_core.specs.declared.run.OpenText.{OpenText}
+use Rattle.decode_core.specs.declared.run.OpenRun.{OpenRun}
 use Rattle.decode_core.specs.declared.turned.Stopped.TheVariants as stop
 use Rattle.decode_core.specs.declared.turned.Turned.{Turned}
 use Rattle.decode_core.specs.declared.turned.Turned.TheVariants as turned
-use Rattle.decode_core.proofs.steps.NodeAdding.{next_has}
 use Rattle.decode_core.proofs.steps.Refusing.{IsShortOf, own_short, refuses}
 use Rattle.decode_core.proofs.steps.Settling.{added_running}
 use Rattle.decode_core.proofs.steps.Stepping.{at_next}
@@ -36,42 +31,42 @@ same_form : (w : Next) (f g : Form) → w ≡ next.Wants f → w ≡ next.Wants 
 same_form w f g h k = let both = sym h ∙ k in cc
 
 -- nothing is carried for a node without bytes of its own
-carry_none : (b : Built) (carry : List ℕ) (f : Form) → IsCarry b carry →
+pub carry_none : (b : Built) (carry : List ℕ) (f : Form) → IsCarry b carry →
     next_of b.walk ≡ next.Wants f → (HasBytes f → ⊥) → carry ≡ []
 carry_none b [] f h k bare = refl
 carry_none b (x ∷ xs) f h k bare =
     absurd (bare (subst HasBytes (same_form (next_of b.walk) h.0 f h.1 k) h.2))
 
-text_none : (o : Option Pieces) (text : Option OpenText) → o ≡ None → IsKeptText o text →
-    text ≡ None
-text_none o None e h = refl
-text_none (Some t) (Some o') e h = absurd cc
-text_none None (Some o') e h = absurd h
+kept_none : (o : Option Pieces) (kept : Option OpenRun) → o ≡ None → IsKeptRun o kept →
+    kept ≡ None
+kept_none o None e h = refl
+kept_none (Some t) (Some o') e h = absurd cc
+kept_none None (Some o') e h = absurd h
 
-pub no_text : (b : Built) (carry : List ℕ) (text : Option OpenText) → IsRunning b carry text →
-    b.text ≡ None → text ≡ None
-no_text b carry text h closed = text_none b.text text closed h.is_text
+pub no_run : (b : Built) (carry : List ℕ) (kept : Option OpenRun) → IsRunning b carry kept →
+    b.run ≡ None → kept ≡ None
+no_run b carry kept h closed = kept_none b.run kept closed h.is_kept
 
 bare_by : {E : Type 0} (b new : Built) (f : Form) (added : Result (Unit {0}) E) →
-    IsRunning b [] None → next_of b.walk ≡ next.Wants f → b.text ≡ None → AddsBare b new added →
+    IsRunning b [] None → next_of b.walk ≡ next.Wants f → b.run ≡ None → AddsBare b new added →
     IsRunning new [] None
 bare_by b new f (Ok u) h k closed adds = added_running b new [] (at_next b f k) closed adds
 bare_by b new f (Err e) h k closed adds = subst (λ (s : Built). IsRunning s [] None) (sym adds.1) h
 
-pub bare_running : {E : Type 0} (b new : Built) (carry : List ℕ) (text : Option OpenText) (f : Form)
-    (added : Result (Unit {0}) E) → IsRunning b carry text → next_of b.walk ≡ next.Wants f →
-    (HasBytes f → ⊥) → b.text ≡ None → AddsBare b new added → IsRunning new carry text
-bare_running b new carry text f added h k bare closed adds =
+pub bare_running : {E : Type 0} (b new : Built) (carry : List ℕ) (kept : Option OpenRun) (f : Form)
+    (added : Result (Unit {0}) E) → IsRunning b carry kept → next_of b.walk ≡ next.Wants f →
+    (HasBytes f → ⊥) → b.run ≡ None → AddsBare b new added → IsRunning new carry kept
+bare_running b new carry kept f added h k bare closed adds =
     let none = carry_none b carry f h.carried k bare in
-    let no = no_text b carry text h closed in
+    let no = no_run b carry kept h closed in
     rw (none, no) (bare_by b new f added (rw (none, no) at h) k closed adds)
 
-pub bare_tells : (b new : Built) (carry : List ℕ) (text : Option OpenText) (f : Form) →
-    IsRunning b carry text → next_of b.walk ≡ next.Wants f → (HasBytes f → ⊥) → b.text ≡ None →
+pub bare_tells : (b new : Built) (carry : List ℕ) (kept : Option OpenRun) (f : Form) →
+    IsRunning b carry kept → next_of b.walk ≡ next.Wants f → (HasBytes f → ⊥) → b.run ≡ None →
     IsAdded b new [] →
     BareTells (record { built = b; carry = carry }) (record { built = new; carry = carry })
     (turned.On 0)
-bare_tells b new carry text f h k bare closed adds =
+bare_tells b new carry kept f h k bare closed adds =
     let none = carry_none b carry f h.carried k bare in
     subst (λ (c : List ℕ). BareTells (record { built = b; carry = c })
     (record { built = new; carry = c }) (turned.On 0)) (sym none) (
@@ -81,10 +76,10 @@ bare_tells b new carry text f h k bare closed adds =
     )
 
 -- memory is wanted for a node without bytes of its own
-pub bare_wants : (b : Built) (carry : List ℕ) (text : Option OpenText) (f : Form) →
-    IsRunning b carry text → next_of b.walk ≡ next.Wants f → (HasBytes f → ⊥) → b.text ≡ None →
+pub bare_wants : (b : Built) (carry : List ℕ) (kept : Option OpenRun) (f : Form) →
+    IsRunning b carry kept → next_of b.walk ≡ next.Wants f → (HasBytes f → ⊥) → b.run ≡ None →
     IsSpelled b [] → (rest : List ℕ) → WantsMemory (record { built = b; carry = carry }) rest
-bare_wants b carry text f h k bare closed is rest =
+bare_wants b carry kept f h k bare closed is rest =
     let held : held_of (record { built = b; carry = carry }) ≡ [] = held_closed b carry closed
     ∙ carry_none b carry f h.carried k bare in
     record {
@@ -99,59 +94,54 @@ bare_wants b carry text f h k bare closed is rest =
 
 -- ---- a node's own bytes
 
--- memory is wanted for a node that its bytes spell, or for a text whose length they are
-node_wants : (f : Form) (b : Built) (c bytes rest own : List ℕ) → next_of b.walk ≡ next.Wants f →
-    b.text ≡ None → c ++ bytes ≡ own → 1 ≤ length bytes → IsSpelled b own
-    ⊎ ((f ≡ form.Primitive P.Str) × AreLength own) →
+-- memory is wanted for a node that its bytes spell
+pub node_wants : (f : Form) (b : Built) (c bytes rest own : List ℕ) → next_of b.walk ≡ next.Wants f →
+    b.run ≡ None → c ++ bytes ≡ own → IsSpelled b own →
     WantsMemory (record { built = b; carry = c }) (bytes ++ rest)
-node_wants f b c bytes rest own wants closed is some k =
-    record { form = f; next = wants; bytes = bytes; later = rest; is = refl; keeps = by k } where
-      s : Running
-      s = record { built = b; carry = c }
+node_wants f b c bytes rest own wants closed is k = record {
+  form = f;
+  next = wants;
+  bytes = bytes;
+  later = rest;
+  is = refl;
+  keeps = inl (
+    k.0,
+    ap (own_at (next_layout b))
+        (ap (λ (l : List ℕ). l ++ bytes) (held_closed b c closed) ∙ is)
+        ∙ k.1,
+  );
+}
 
-      held_is : held_of s ++ bytes ≡ own
-      held_is = ap (λ (l : List ℕ). l ++ bytes) (held_closed b c closed) ∙ is
-
-      by : IsSpelled b own ⊎ ((f ≡ form.Primitive P.Str) × AreLength own) → KeepsNode s bytes
-          ⊎ KeepsText s bytes
-      by (inl x) = inl (x.0, ap (own_at (next_layout b)) held_is ∙ x.1)
-      by (inr x) = inr (
-        next_has b (form.Primitive P.Str)
-            (subst (λ (g : Form). next_of b.walk ≡ next.Wants g) x.0 wants),
-        some,
-        (x.1.0, [], ap (compact_at target.U32) held_is ∙ x.1.1, omega arith),
-      )
-
-dropped : (b : Built) (c : List ℕ) (text : Option OpenText) → IsRunning b c text → b.text ≡ None →
+dropped : (b : Built) (c : List ℕ) (kept : Option OpenRun) → IsRunning b c kept → b.run ≡ None →
     IsRunning b [] None
-dropped b c text h closed =
+dropped b c kept h closed =
     record {
       rooted = h.rooted;
       deep = h.deep;
       settled = h.settled;
       carried = tt;
-      is_text =
+      is_kept =
           rw closed tt;
-      text_next = rw closed tt;
+      run_next = rw closed tt;
     }
 
-same_running : (b new : Built) (c : List ℕ) (old text : Option OpenText) → IsRunning b c old →
-    b.text ≡ None → new ≡ b → text ≡ None → IsRunning new [] text
-same_running b new c old text h closed e k = rw (e, k) (dropped b c old h closed)
+same_running : (b new : Built) (c : List ℕ) (old kept : Option OpenRun) → IsRunning b c old →
+    b.run ≡ None → new ≡ b → kept ≡ None → IsRunning new [] kept
+same_running b new c old kept h closed e k = rw (e, k) (dropped b c old h closed)
 
-pub node_running : (f : Form) (b new : Built) (c : List ℕ) (old text : Option OpenText)
+pub node_running : (f : Form) (b new : Built) (c : List ℕ) (old kept : Option OpenRun)
     (own : List ℕ) (taken : Result (Unit {0}) NodeFault) → IsRunning b c old →
-    next_of b.walk ≡ next.Wants f → b.text ≡ None → AreOwn f own →
-    TakesNode f b new text own taken → IsRunning new [] text
-node_running f b new c old text own (Ok u) h wants closed a k =
-    taken_running f b new c old text own h wants closed a k
-node_running f b new c old text own (Err (fault.Refused told_reason at)) h wants closed a k =
-    same_running b new c old text h closed k.1 k.2
-node_running f b new c old text own (Err fault.OutOfMemory) h wants closed a k =
-    same_running b new c old text h closed k.1 k.2
+    next_of b.walk ≡ next.Wants f → b.run ≡ None → AreOwn f own →
+    TakesNode f b new kept own taken → IsRunning new [] kept
+node_running f b new c old kept own (Ok u) h wants closed a k =
+    taken_running f b new c old kept own h wants closed a k
+node_running f b new c old kept own (Err (fault.Refused told_reason at)) h wants closed a k =
+    same_running b new c old kept h closed k.1 k.2
+node_running f b new c old kept own (Err fault.OutOfMemory) h wants closed a k =
+    same_running b new c old kept h closed k.1 k.2
 
 refused_tells : (b new : Built) (c bytes rest own : List ℕ) (f : Form) (told_reason : DecodeReason)
-    (at : ℕ) → next_of b.walk ≡ next.Wants f → HasBytes f → b.text ≡ None → AreOwn f own →
+    (at : ℕ) → next_of b.walk ≡ next.Wants f → HasBytes f → b.run ≡ None → AreOwn f own →
     c ++ bytes ≡ own → IsRefused b own told_reason at →
     EndsTurns (record { built = b; carry = c }) (bytes ++ rest)
     (stop.Refused (length c) told_reason at (length own))
@@ -173,23 +163,23 @@ refused_tells b new c bytes rest own f told_reason at wants some closed a is h =
       omega (arith, ap length is, length-append c bytes),
     )
 
-pub node_tells : (f : Form) (b new : Built) (c bytes rest own : List ℕ) (text : Option OpenText)
+pub node_tells : (f : Form) (b new : Built) (c bytes rest own : List ℕ) (kept : Option OpenRun)
     (taken : Result (Unit {0}) NodeFault) → next_of b.walk ≡ next.Wants f → HasBytes f →
-    b.text ≡ None → AreOwn f own → c ++ bytes ≡ own → 1 ≤ length bytes →
-    TakesNode f b new text own taken →
+    b.run ≡ None → AreOwn f own → c ++ bytes ≡ own → 1 ≤ length bytes →
+    TakesNode f b new kept own taken →
     StepTells (record { built = b; carry = c }) (record { built = new; carry = [] }) (bytes ++ rest)
     (node_turned taken (length c) (length bytes) (length own))
-node_tells f b new c bytes rest own text (Ok u) wants some closed a is one k = (
+node_tells f b new c bytes rest own kept (Ok u) wants some closed a is one k = (
   omega (arith, length-append bytes rest),
-  taken_same f b new text c [] own k,
+  taken_same f b new kept c [] own k,
   subst (Steps (record { built = b; carry = c }) (record { built = new; carry = [] }))
       (sym (take-append_seam bytes rest))
-      (taken_steps f b new text c own bytes (at_next b f wants) closed is one k),
+      (taken_steps f b new kept c own bytes (at_next b f wants) closed is one k),
 )
-node_tells f b new c bytes rest own text (Err (fault.Refused told_reason at)) wants some closed a is
+node_tells f b new c bytes rest own kept (Err (fault.Refused told_reason at)) wants some closed a is
     one k = refused_tells b new c bytes rest own f told_reason at wants some closed a is k.0
-node_tells f b new c bytes rest own text (Err fault.OutOfMemory) wants some closed a is one k =
-    node_wants f b c bytes rest own wants closed is one k.0
+node_tells f b new c bytes rest own kept (Err fault.OutOfMemory) wants some closed a is one k =
+    node_wants f b c bytes rest own wants closed is k.0
 
 -- ---- fewer bytes than the node needs
 
@@ -201,7 +191,7 @@ short_of b (x ∷ xs) f h wants =
     h.4
 
 pub wants_more : (b : Built) (c : List ℕ) (f : Form) → IsCarry b c → next_of b.walk ≡ next.Wants f →
-    HasBytes f → b.text ≡ None → EndsTurns (record { built = b; carry = c }) [] stop.Wants
+    HasBytes f → b.run ≡ None → EndsTurns (record { built = b; carry = c }) [] stop.Wants
 wants_more b c f h wants some closed =
     let held = held_closed b c closed in (
       refl,
@@ -225,23 +215,23 @@ some_own : (f : Form) (own : List ℕ) → AreOwn f own → 1 ≤ length own
 some_own f [] a = let no = a.2 in absurd cc
 some_own f (x ∷ own) a = omega arith
 
-pub whole_running : (f : Form) (b new : Built) (c own : List ℕ) (old text : Option OpenText)
+pub whole_running : (f : Form) (b new : Built) (c own : List ℕ) (old kept : Option OpenRun)
     (taken : Result (Unit {0}) NodeFault) → IsRunning b c old → c ≡ [] →
-    next_of b.walk ≡ next.Wants f → b.text ≡ None → AreOwn f own →
-    TakesNode f b new text own taken → IsRunning new c text
-whole_running f b new c own old text taken h none wants closed a k =
-    subst (λ (l : List ℕ). IsRunning new l text) (sym none)
-    (node_running f b new c old text own taken h wants closed a k)
+    next_of b.walk ≡ next.Wants f → b.run ≡ None → AreOwn f own →
+    TakesNode f b new kept own taken → IsRunning new c kept
+whole_running f b new c own old kept taken h none wants closed a k =
+    subst (λ (l : List ℕ). IsRunning new l kept) (sym none)
+    (node_running f b new c old kept own taken h wants closed a k)
 
-pub whole_tells : (f : Form) (b new : Built) (c own rest : List ℕ) (text : Option OpenText)
+pub whole_tells : (f : Form) (b new : Built) (c own rest : List ℕ) (kept : Option OpenRun)
     (taken : Result (Unit {0}) NodeFault) (result : Turned) → c ≡ [] →
-    next_of b.walk ≡ next.Wants f → HasBytes f → b.text ≡ None → AreOwn f own →
-    TakesNode f b new text own taken → result ≡ node_turned taken 0 (length own) (length own) →
+    next_of b.walk ≡ next.Wants f → HasBytes f → b.run ≡ None → AreOwn f own →
+    TakesNode f b new kept own taken → result ≡ node_turned taken 0 (length own) (length own) →
     StepTells (of_fields b c) (of_fields new c) (own ++ rest) result
-whole_tells f b new c own rest text taken result none wants some closed a k is =
+whole_tells f b new c own rest kept taken result none wants some closed a k is =
     rw is (subst (λ (l : List ℕ). StepTells (of_fields b l) (of_fields new l) (own ++ rest)
     (node_turned taken 0 (length own) (length own))) (sym none)
-    (node_tells f b new [] own rest own text taken wants some closed a refl (some_own f own a)
+    (node_tells f b new [] own rest own kept taken wants some closed a refl (some_own f own a)
     k))
 
 -- the bytes that were missing came
@@ -278,14 +268,14 @@ cut_own f c piece own len count n is short count_of enough =
     let front = front_is own (drop count piece) n.1.0 n.0 (omega (arith, long, short)) parts in
     (n.0, front.0, front.1, long ∙ n.2)
 
-pub cut_tells : (f : Form) (b new : Built) (c cleared piece own : List ℕ) (text : Option OpenText)
+pub cut_tells : (f : Form) (b new : Built) (c cleared piece own : List ℕ) (kept : Option OpenRun)
     (taken : Result (Unit {0}) NodeFault) (result : Turned) (held count len : ℕ) →
-    next_of b.walk ≡ next.Wants f → HasBytes f → b.text ≡ None → IsNeeded f len (c ++ piece) →
+    next_of b.walk ≡ next.Wants f → HasBytes f → b.run ≡ None → IsNeeded f len (c ++ piece) →
     own ≡ c ++ take count piece → length c < len → count ≡ min (len - length c) (length piece) →
     len ≤ length c + count → held ≡ length c → cleared ≡ [] →
-    TakesNode f b new text own taken → result ≡ node_turned taken held count len →
+    TakesNode f b new kept own taken → result ≡ node_turned taken held count len →
     StepTells (of_fields b c) (of_fields new cleared) piece result
-cut_tells f b new c cleared piece own text taken result held count len wants some closed n is short
+cut_tells f b new c cleared piece own kept taken result held count len wants some closed n is short
     count_of enough held_is clear k result_is =
     let counts = count_is c piece len count short count_of enough in
     let a = cut_own f c piece own len count n is short count_of enough in
@@ -293,7 +283,7 @@ cut_tells f b new c cleared piece own text taken result held count len wants som
     let bytes_count : length bytes ≡ count = omega (arith, length-take count piece, counts.1) in
     let own_count : length own ≡ len =
     omega (arith, ap length is, length-append c bytes, bytes_count, counts.0) in
-    let one = node_tells f b new c bytes (drop count piece) own text taken wants some closed a
+    let one = node_tells f b new c bytes (drop count piece) own kept taken wants some closed a
     (sym is) (omega (arith, bytes_count, counts.2)) k in
     let named : node_turned taken (length c) (length bytes) (length own) ≡ result =
     ap (λ (h : ℕ). node_turned taken h (length bytes) (length own)) (sym held_is)
@@ -323,10 +313,6 @@ none_of bytes h = nil_of bytes (eqb-true (length bytes) 0 (sym h)) where
   nil_of : (l : List ℕ) → length l ≡ 0 → l ≡ []
   nil_of [] e = refl
   nil_of (x ∷ l) e = absurd (omega (arith, e))
-
-pub some_of : (bytes : List ℕ) → false ≡ (length bytes == 0) → 1 ≤ length bytes
-some_of [] h = absurd cc
-some_of (x ∷ bytes) h = omega arith
 
 pub some_missing : (n : ℕ) → (n ≡ 0 → ⊥) → 1 ≤ n
 some_missing zero h = absurd (h refl)

@@ -39,19 +39,19 @@ advanced_count : (fs : List OpenPart) → length (advanced_in fs) ≡ length fs
 advanced_count [] = refl
 advanced_count (f ∷ fs) = refl
 
--- nothing of it is carried, and no text is open
+-- nothing of it is carried, and no run is open
 settled_running : (s : Built) → 1 ≤ length s.walk.frames → length s.walk.frames ≤ s.walk.limit + 2 →
-    s.text ≡ None → IsRunning (settled s) [] None
+    s.run ≡ None → IsRunning (settled s) [] None
 settled_running s some deep closed = record {
   rooted = settled_some s.walk.frames some;
   deep = omega (arith, settled_fewer s.walk.frames, deep);
   settled = settled_twice s.walk.frames;
   carried = tt;
-  is_text = rw closed tt;
-  text_next = rw closed tt;
+  is_kept = rw closed tt;
+  run_next = rw closed tt;
 }
 
-own_running : (b : Built) (n : AtNext b) (x : Head × Option Part) → b.text ≡ None →
+own_running : (b : Built) (n : AtNext b) (x : Head × Option Part) → b.run ≡ None →
     IsRunning (with_own b x) [] None
 own_running b n (h, None) closed =
     let s : Built = record {
@@ -59,7 +59,7 @@ own_running b n (h, None) closed =
       walk =
           record { types = b.walk.types; limit = b.walk.limit; frames = advanced_in b.walk.frames };
       entries = b.entries ++ next_entry b h ∷ [];
-      text = b.text;
+      run = b.run;
       turns = b.turns;
     } in
     settled_running s (omega (arith, advanced_count b.walk.frames, ap length n.frames))
@@ -76,21 +76,21 @@ own_running b n (h, Some p) closed =
                 opened_part ∷ advanced_in b.walk.frames;
           };
       entries = b.entries ++ next_entry b h ∷ [];
-      text = b.text;
+      run = b.run;
       turns = b.turns;
     } in
     settled_running s (omega arith) (omega (arith, advanced_count b.walk.frames, n.bound)) closed
 
 -- a node is added
-pub added_running : (b new : Built) (own : List ℕ) → AtNext b → b.text ≡ None → IsAdded b new own →
+pub added_running : (b new : Built) (own : List ℕ) → AtNext b → b.run ≡ None → IsAdded b new own →
     IsRunning new [] None
 added_running b new own n closed h =
     subst (λ (s : Built). IsRunning s [] None) (sym h.2) (own_running b n h.0 closed)
 
-own_text : (b : Built) (x : Head × Option Part) → (with_own b x).text ≡ b.text
-own_text b (h, None) = refl
-own_text b (h, Some p) = refl
+own_run : (b : Built) (x : Head × Option Part) → (with_own b x).run ≡ b.run
+own_run b (h, None) = refl
+own_run b (h, Some p) = refl
 
-pub added_text : (b new : Built) (own : List ℕ) → b.text ≡ None → IsAdded b new own →
-    new.text ≡ None
-added_text b new own closed h = ap (λ (s : Built). s.text) h.2 ∙ own_text b h.0 ∙ closed
+pub added_run : (b new : Built) (own : List ℕ) → b.run ≡ None → IsAdded b new own →
+    new.run ≡ None
+added_run b new own closed h = ap (λ (s : Built). s.run) h.2 ∙ own_run b h.0 ∙ closed

@@ -13,7 +13,7 @@ use Rattle.registry_core.proofs.Widths.{width_most}
 use Rattle.grammar_core.specs.declared.form.Form.{Form}
 use Rattle.grammar_core.specs.declared.form.Form.TheVariants as form
 use Rattle.value_core.specs.Built.{Built}
-use Rattle.decode_core.specs.Needs.{compact_need, kind_need, need}
+use Rattle.decode_core.specs.Needs.{HasBytes, compact_need, kind_need, need}
 use Rattle.decode_core.specs.Running.{IsCarry}
 
 -- how long a compact is
@@ -54,16 +54,18 @@ kind_need_small (K.Unsigned w) first = omega (arith, width_most w)
 kind_need_small (K.Signed w) first = omega (arith, width_most w)
 kind_need_small (K.Wide s) first = omega arith
 
-need_small : (f : Form) (first : ℕ) → need f first ≤ 32
-need_small (form.Primitive p) first = kind_need_small (kind_of p) first
-need_small (form.Compact m) first = compact_need_small m first
-need_small form.Sequence first = compact_need_small target.U32 first
-need_small form.Count first = compact_need_small target.U32 first
-need_small form.Empty first = omega arith
-need_small form.Fields first = omega arith
-need_small form.Arm first = omega arith
-need_small (form.Array n) first = omega arith
+need_small : (f : Form) (first : ℕ) → HasBytes f → need f first ≤ 32
+need_small (form.Primitive p) first h = kind_need_small (kind_of p) first
+need_small (form.Compact m) first h = compact_need_small m first
+need_small form.Sequence first h = compact_need_small target.U32 first
+need_small form.Bytes first h = compact_need_small target.U32 first
+need_small form.Count first h = compact_need_small target.U32 first
+need_small form.Empty first h = omega arith
+need_small form.Fields first h = omega arith
+need_small form.Arm first h = omega arith
+need_small (form.Array n) first h = omega arith
+need_small (form.ByteArray n) first h = absurd h
 
 pub carry_small : (b : Built) (carry : List ℕ) → IsCarry b carry → length carry ≤ 32
 carry_small b [] h = omega arith
-carry_small b (first ∷ rest) h = omega (arith, h.4, need_small h.0 first)
+carry_small b (first ∷ rest) h = omega (arith, h.4, need_small h.0 first h.2)

@@ -1,7 +1,7 @@
 -- What holds of every value on its way, and that what it holds is little.
-use Rattle.std.proofs.Common.{◌≡◌, ℕ, suc, ◌+◌, ◌*◌, ◌≤◌, ◌⊎◌, true, List, [], ◌∷◌, ◌++◌, length, Option, Some, None, Ok, Err, refl, sym, ap, subst, ◌∙◌, arith, inl, inr, length-append}
+use Rattle.std.proofs.Common.{◌≡◌, ℕ, suc, ◌+◌, ◌*◌, ◌≤◌, ◌⊎◌, true, List, [], ◌∷◌, length, Option, Some, None, Ok, Err, refl, sym, ap, subst, ◌∙◌, arith, inl, inr, length-append}
 use Rattle.std.specs.Prelude.{Result}
-use Rattle.scale_core.specs.Compact.{compact}
+use Rattle.grammar_core.specs.Runs.{run_front}
 use Rattle.graph_core.specs.Widths.{widest}
 use Rattle.grammar_core.specs.Begun.{Begun, nothing, whole, in_fields, in_arm, in_list, IsBegunPreorder, begun_nodes, begun_text_bytes, is_whole_tree}
 use Rattle.grammar_core.specs.Preorder.{Head, tree_of, tree_of-preorder}
@@ -15,41 +15,40 @@ use Rattle.decode_core.specs.Bound.{node_bound, value_bound}
 use Rattle.value_core.specs.Shown.{Seen}
 use Rattle.decode_core.specs.Decoding.{FinishesDecoder, IsSmallValue, IsDone, IsSmall, IsWaiting, RunCounted, RunLed, built_tree, first_running}
 use Rattle.decode_core.specs.Outcome.{Job}
-use Rattle.decode_core.specs.Running.{Running, IsRunning, held_of}
+use Rattle.decode_core.specs.Running.{Running, IsRunning, held_of, run_held}
 use Rattle.decode_core.specs.Told.{Fault, shown}
 use Rattle.decode_core.specs.Turned.{IsSound}
 use Rattle.decode_core.specs.declared.fault.DecodeFault.{DecodeFault}
-use Rattle.decode_core.specs.declared.run.OpenText.{OpenText}
+use Rattle.decode_core.specs.declared.run.OpenRun.{OpenRun}
 use Rattle.decode_core.proofs.lists.FaultBegins.{fault_is_begun}
 use Rattle.decode_core.proofs.lists.HeldBound.{held_is_bounded}
 use Rattle.decode_core.proofs.lists.Holds.{begins_small, more_bytes}
 use Rattle.decode_core.proofs.lists.Held.{begun_is_bounded}
 use Rattle.decode_core.proofs.steps.Short.{carry_small}
 
-pub sound_of : (b : Built) (carry : List ℕ) (text : Option OpenText) (s : Running) →
-    record { built = b; carry = carry } ≡ s → IsBegun b → IsRunning b carry text → IsSound s
-sound_of b carry text s is begun run =
+pub sound_of : (b : Built) (carry : List ℕ) (kept : Option OpenRun) (s : Running) →
+    record { built = b; carry = carry } ≡ s → IsBegun b → IsRunning b carry kept → IsSound s
+sound_of b carry kept s is begun run =
     subst IsSound is (record {
       begun = begun;
       frames = run.deep;
       carried = run.carried;
-      text_next =
-          run.text_next;
+      run_next =
+          run.run_next;
     })
 
--- ---- few nodes and texts are held
+-- ---- few nodes and bytes of runs are held
 
 texts_shown : (xs : List Entry) → entries_text_bytes xs ≡ heads_text (shown xs)
 texts_shown [] = refl
 texts_shown (x ∷ xs) = omega (arith, texts_shown xs)
 
-pieces_held : (s : Running) → length (pieces_bytes s.built.text) ≤ length (held_of s)
-pieces_held s = by s.built.text where
+pieces_held : (s : Running) → length (pieces_bytes s.built.run) ≤ length (held_of s)
+pieces_held s = by s.built.run where
   by : (t : Option Pieces) →
-      length (pieces_bytes t) ≤ length {A = ℕ}
-      (elim t [ Some t ↦ compact t.len ++ t.bytes | None ↦ s.carry ])
+      length (pieces_bytes t) ≤ length (run_held t s.carry)
   by None = omega arith
-  by (Some t) = omega (arith, length-append (compact t.len) t.bytes)
+  by (Some t) = omega (arith, length-append (run_front t.kind t.len) t.bytes)
 
 waiting_small : (j : Job) (b : List ℕ) (n : ℕ) (s : Running) → n ≡ length b → IsWaiting j b s →
     (length s.built.entries ≤ node_bound n j.depth (widest j.registry))
@@ -96,7 +95,7 @@ done_small j b n s h =
       omega (arith, begun.text_bytes, count.1, few.1, pieces_held s, ap length h.nothing),
     )
 
--- a whole value has just its own nodes and texts
+-- a whole value has just its own nodes and bytes of runs
 pub done_counts : (j : Job) (b : List ℕ) (n : ℕ) (s : Running) → IsDone j b s n →
     (length s.built.entries ≡ nodes (built_tree s.built))
     × (built_text_bytes s.built ≡ text_bytes (built_tree s.built))
@@ -114,7 +113,7 @@ value_le_nodes n depth width =
     + (depth * width + depth + width + 1) = grind (arith) in
     omega (arith, spread)
 
--- as much as is held of a value with these nodes, texts and open parts
+-- as much as is held of a value with these nodes, bytes of runs and open parts
 running_small : (j : Job) (n : ℕ) (s : Running) (turns calls : ℕ) →
     length s.built.entries ≤ node_bound n j.depth (widest j.registry) →
     built_text_bytes s.built ≤ n → s.built.walk.limit ≡ j.depth → IsSound s →

@@ -183,7 +183,7 @@ leaf_leads b n own h is =
       walk =
           record { types = b.walk.types; limit = b.walk.limit; frames = advanced_in b.walk.frames };
       entries = b.entries ++ entry (type_or_0 (next_type b.walk)) h ∷ [];
-      text = b.text;
+      run = b.run;
       turns =
           b.turns;
     } in
@@ -220,7 +220,7 @@ open_leads b n own h p is =
           };
       entries =
           b.entries ++ entry (type_or_0 (next_type b.walk)) h ∷ [];
-      text = b.text;
+      run = b.run;
       turns =
           b.turns;
     } in

@@ -118,10 +118,11 @@ arms_whole arms (x ∷ []) h = by (arm_of arms x) where
   by None = refl
   by (Some a) = refl
 
--- the layouts of nodes that have bytes of their own, other than a text's
+-- the layouts of nodes that have bytes of their own, other than those of runs
 abbrev pub NeedsThese : Form → List ℕ → Type 0
 NeedsThese (form.Primitive p) b = IsNoText (kind_of p) × AreOwn (form.Primitive p) b
 NeedsThese (form.Compact m) b = (m ≢ target.Unit) × AreOwn (form.Compact m) b
+NeedsThese form.Bytes b = ⊥
 NeedsThese f b = HasBytes f × AreOwn f b
 
 kind_whole : (k : PrimitiveKind) (b : List ℕ) (first : ℕ) → IsNoText k →
@@ -153,6 +154,8 @@ form_whole (form.Compact m) lay b h k =
 form_whole form.Fields lay b h k = absurd k.0
 form_whole form.Arm lay b h k = rw h.1 (arms_whole h.0 b k.1.3)
 form_whole (form.Array n) lay b h k = absurd k.0
+form_whole (form.ByteArray n) lay b h k = absurd k.0
+form_whole form.Bytes lay b h k = absurd k
 form_whole form.Sequence lay b h k =
     rw h.1 (length_whole h.0 (compact_at target.U32 b)
     (settled_at target.U32 b u32_is k.1.0 k.1.1 k.1.2 k.1.3))

@@ -2,34 +2,43 @@
 
 ghost use Rattle.std.specs.Prelude.{◌≡◌};
 ghost use Rattle.registry_core.specs.Gives.{Gives};
-ghost use Rattle.registry_core.specs.Reading.{mark_at, prefix_at};
+ghost use Rattle.registry_core.specs.Reading.{letter_at, prefix_at, version_at};
 
 use super::atoms::byte_of;
 use super::stop::Stop;
 use crate::fault::RegistryReason;
+use crate::version::Version;
 
-/// The version of metadata that is read.
-const VERSION: u8 = 14;
-
-/// The bytes behind this one; another in its place is refused for this reason.
-fn behind_mark(mark: u8, reason: RegistryReason, bytes: &[u8]) -> Result<&[u8], Stop<'_>>
-    ensures { Gives (λ rest. (tt, rest.now)) result (mark_at reason mark bytes.now) }
+/// The bytes behind this letter; another in its place is refused.
+fn behind_letter(letter: u8, bytes: &[u8]) -> Result<&[u8], Stop<'_>>
+    ensures { Gives (λ rest. (tt, rest.now)) result (letter_at letter bytes.now) }
 {
     let (byte, rest) = byte_of(bytes)?;
-    if byte != mark {
-        return Err(Stop::Fault(reason, bytes));
+    if byte != letter {
+        return Err(Stop::Fault(RegistryReason::NotMetadata, bytes));
     }
     Ok(rest)
 }
 
-/// The bytes behind the letters `meta` and the version.
-#[tactic(auto, unfolding(crate::specs::Reading::prefix_at))]
-pub(crate) fn behind_prefix(bytes: &[u8]) -> Result<&[u8], Stop<'_>>
-    ensures { Gives (λ rest. (tt, rest.now)) result (prefix_at bytes.now) }
+/// The version that the first byte tells, and the bytes behind it.
+fn version_of(bytes: &[u8]) -> Result<(Version, &[u8]), Stop<'_>>
+    ensures { Gives (λ x. (x.0, x.1.now)) result (version_at bytes.now) }
 {
-    let rest = behind_mark(b'm', RegistryReason::NotMetadata, bytes)?;
-    let rest = behind_mark(b'e', RegistryReason::NotMetadata, rest)?;
-    let rest = behind_mark(b't', RegistryReason::NotMetadata, rest)?;
-    let rest = behind_mark(b'a', RegistryReason::NotMetadata, rest)?;
-    behind_mark(VERSION, RegistryReason::WrongVersion, rest)
+    let (byte, rest) = byte_of(bytes)?;
+    match Version::from_byte(byte) {
+        Some(version) => Ok((version, rest)),
+        None => Err(Stop::Fault(RegistryReason::WrongVersion, bytes)),
+    }
+}
+
+/// The version behind the letters `meta`, and the bytes behind it.
+#[tactic(auto, unfolding(crate::specs::Reading::prefix_at))]
+pub(crate) fn prefix_of(bytes: &[u8]) -> Result<(Version, &[u8]), Stop<'_>>
+    ensures { Gives (λ x. (x.0, x.1.now)) result (prefix_at bytes.now) }
+{
+    let rest = behind_letter(b'm', bytes)?;
+    let rest = behind_letter(b'e', rest)?;
+    let rest = behind_letter(b't', rest)?;
+    let rest = behind_letter(b'a', rest)?;
+    version_of(rest)
 }

@@ -1,5 +1,5 @@
 use Rattle.std.proofs.Common.{rules, ◌≡◌, FitsSigned, ap, subst, ◌∙◌, ℕ, [], ◌∷◌, arith}
-use Rattle.value_core.proofs.SpelledNodes.{one_front, compact_front, char_front, starts_as, starts_bool, starts_char, starts_text, starts_unsigned, starts_signed, starts_compact, starts_count, starts_arm, starts_list}
+use Rattle.value_core.proofs.SpelledNodes.{one_front, compact_front, char_front, starts_as, starts_bool, starts_bytes, starts_char, starts_text, starts_unsigned, starts_signed, starts_compact, starts_count, starts_arm, starts_list}
 use Rattle.std.specs.Int.{w128, cast_unsigned}
 use Rattle.std.proofs.lemmas.Int.{to_z-of_z}
 use Rattle.graph_core.specs.Types.{shape}
@@ -29,6 +29,14 @@ returns-in-Text-clause-bytes c =
     (subst (IsInPool c.args.pool.now) c.in-Text.is c.requires)
     (compact_front _ c.args.out.now c.from-in-Text.result c.put_compact.result c.in-Text.len
     c.put_compact.ensures.len c.put_compact.ensures.bytes c.from-in-Text.ensures))
+
+pub returns-in-Bytes-clause-bytes : goal.returns-in-Bytes-clause-bytes
+returns-in-Bytes-clause-bytes c =
+    starts_as _ _ _ _ _ _ c.in-Bytes.is
+    (starts_bytes _ (shape c.args.checked.now.types c.args.node.now.ty.0) c.args.pool.now
+    c.args.node.now.children c.in-Bytes.len c.in-Bytes.start
+    (subst (IsInPool c.args.pool.now) c.in-Bytes.is c.requires)
+    c.put_length.ensures.bytes)
 
 pub returns-in-Unsigned-clause-bytes : goal.returns-in-Unsigned-clause-bytes
 returns-in-Unsigned-clause-bytes c =
@@ -67,7 +75,7 @@ returns-in-List-clause-bytes c =
     starts_as _ _ _ _ _ _ c.in-List.is
     (starts_list _ (shape c.args.checked.now.types c.args.node.now.ty.0) c.args.pool.now
     c.args.node.now.children c.in-List.size
-    c.put_length.ensures.bytes)
+    c.put_length-in-List.ensures.bytes)
 
 pub returns-in-Count-clause-bytes : goal.returns-in-Count-clause-bytes
 returns-in-Count-clause-bytes c =

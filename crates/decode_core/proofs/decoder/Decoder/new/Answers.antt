@@ -23,7 +23,7 @@ invariant_of-result g c =
       walk =
           start_of c.args.checked.now.types c.args.root.0 c.args.limits.depth;
       entries = [];
-      text =
+      run =
           None;
       turns = 0;
     }) c.in-Ok.builder c.in-Ok.ensures in
@@ -59,7 +59,7 @@ returns-in-Ok-clause-led g c =
       walk =
           start_of c.args.checked.now.types c.args.root.0 c.args.limits.depth;
       entries = [];
-      text =
+      run =
           None;
       turns = 0;
     }) c.in-Ok.builder c.in-Ok.ensures in

@@ -17,9 +17,9 @@ invariant_of-self g c =
     let wants : next_of b.walk ≡ next.Wants f =
     subst (λ (s : Running). next_of s.built.walk ≡ next.Wants f) (sym c.self.view_is)
     c.requires.next in
-    let closed : b.text ≡ None =
-    subst (λ (s : Running). s.built.text ≡ None) (sym c.self.view_is) c.requires.closed in
-    bare_running b c.add_bare.new.builder c.self.inside.carry c.self.inside.text f
+    let closed : b.run ≡ None =
+    subst (λ (s : Running). s.built.run ≡ None) (sym c.self.view_is) c.requires.closed in
+    bare_running b c.add_bare.new.builder c.self.inside.carry c.self.inside.open_run f
     c.add_bare.result c.self.invariant wants (have_none c.args.form) closed c.add_bare.ensures
 
 pub returns-clause-tells : goal.returns-clause-tells
@@ -30,16 +30,16 @@ returns-clause-tells g c =
     let wants : next_of b.walk ≡ next.Wants f =
     subst (λ (s : Running). next_of s.built.walk ≡ next.Wants f) (sym c.self.view_is)
     c.requires.next in
-    let closed : b.text ≡ None =
-    subst (λ (s : Running). s.built.text ≡ None) (sym c.self.view_is) c.requires.closed in
+    let closed : b.run ≡ None =
+    subst (λ (s : Running). s.built.run ≡ None) (sym c.self.view_is) c.requires.closed in
     subst (λ (s : Running). BareTells s
     (record { built = c.add_bare.new.builder; carry = c.self.inside.carry })
     c.match-add_bare.result) c.self.view_is (elim c.match-add_bare.branch [
       | in-Ok w ↦ rw w.result-is
-          (bare_tells b c.add_bare.new.builder c.self.inside.carry c.self.inside.text f
+          (bare_tells b c.add_bare.new.builder c.self.inside.carry c.self.inside.open_run f
           c.self.invariant wants none closed
           (subst (AddsBare b c.add_bare.new.builder) w.in-Ok.is c.add_bare.ensures))
       | in-Err w ↦ rw w.result-is
-          (bare_wants b c.self.inside.carry c.self.inside.text f c.self.invariant wants none closed
+          (bare_wants b c.self.inside.carry c.self.inside.open_run f c.self.invariant wants none closed
           (subst (AddsBare b c.add_bare.new.builder) w.in-Err.is c.add_bare.ensures).0)
     ])

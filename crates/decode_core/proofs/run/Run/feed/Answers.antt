@@ -1,35 +1,75 @@
-use Rattle.std.proofs.Common.{◌-◌, length, take, drop}
-use Rattle.decode_core.specs.Turned.{StepTells}
-use Rattle.std.proofs.Common.{refl, subst}
-use Rattle.decode_core.proofs.steps.Moving.{each_turn, few_turn, turn_goes_on, turn_nearer, whole_goes_on}
+use Rattle.std.proofs.Common.{drop, refl}
+use Rattle.decode_core.specs.declared.turned.Turned.TheVariants as turned
+use Rattle.decode_core.proofs.steps.Calls.{call_counts, call_counts_short, call_each, call_few, call_goes_on, call_nearer, call_runs_out, call_stops, told_of, whole_call_stops}
 use Rattle.decode_core.proofs.run.Run.feed.Goals as goal
 
 pub turns-smaller : goal.turns-smaller
 turns-smaller g c =
-    let tells = subst (StepTells c.turns.self c.turn.new.self
-    (take (length c.args.piece.now - c.turns.at) (drop c.turns.at c.args.piece.now))) c.in-On.is
-    c.turn.ensures.tells in
-    turn_nearer c.turns.self c.turn.new.self c.args.piece.now c.turns.at c.in-On.count tells
+    let t = c.take_turns-before in
+    let told = told_of c.turns.self t.new.self c.args.piece.now c.turns.at c.turns.turns.so_far
+    t.new.turns.so_far t.result.0 t.result.1 (turned.On c.in-On.count) c.in-On.is t.ensures in
+    call_nearer c.turns.self t.new.self c.args.piece.now c.turns.at c.turns.turns.so_far
+    t.new.turns.so_far t.result.0 c.in-On.count told
 
 pub turns-preserved : goal.turns-preserved
 turns-preserved g c =
-    let tells = subst (StepTells c.turns.self c.turn.new.self
-    (take (length c.args.piece.now - c.turns.at) (drop c.turns.at c.args.piece.now))) c.in-On.is
-    c.turn.ensures.tells in
-    let on = turn_goes_on c.args.self.now c.turns.self c.turn.new.self c.args.piece.now c.turns.at
-    c.in-On.count c.turns.invariant.inside c.turns.invariant.moves tells in
+    let t = c.take_turns-before in
+    let from = c.turns.turns.so_far in
+    let to = t.new.turns.so_far in
+    let k = c.in-On.count in
+    let told = told_of c.turns.self t.new.self c.args.piece.now c.turns.at from to t.result.0
+    t.result.1 (turned.On k) c.in-On.is t.ensures in
+    let on = call_goes_on c.args.self.now c.turns.self t.new.self c.args.piece.now c.turns.at from
+    to t.result.0 k c.turns.invariant.inside c.turns.invariant.moves told in
     record {
       piece = refl;
       inside = on.0;
       moves = on.1;
-      whole = λ w. whole_goes_on c.args.self.now c.turns.self c.turns.at c.in-On.count c.turn.result
-          c.turns.invariant.whole c.turn.ensures.whole c.in-On.is w;
-      each = each_turn c.args.self.now c.turns.self c.turn.new.self
-          (take (length c.args.piece.now - c.turns.at) (drop c.turns.at c.args.piece.now))
-          c.args.turns.now.so_far c.turns.turns.so_far c.tick.new.self.so_far c.in-On.count
-          c.turns.invariant.each c.tick.ensures tells;
-      few = few_turn c.args.self.now c.turns.self c.turn.new.self
-          (take (length c.args.piece.now - c.turns.at) (drop c.turns.at c.args.piece.now))
-          c.args.turns.now.so_far c.turns.turns.so_far c.tick.new.self.so_far c.turns.at
-          c.in-On.count c.turns.invariant.few c.tick.ensures tells;
+      whole = λ w. whole_call_stops c.args.self.now c.turns.self t.new.self
+          (drop c.turns.at c.args.piece.now) c.turns.at from to t.result.0 k
+          c.turns.invariant.whole told w;
+      each = call_each c.args.self.now c.turns.self t.new.self (drop c.turns.at c.args.piece.now)
+          c.args.turns.now.so_far from to t.result.0 k c.turns.invariant.each told;
+      few = call_few c.args.self.now c.turns.self t.new.self (drop c.turns.at c.args.piece.now)
+          c.args.turns.now.so_far from to c.turns.at t.result.0 k c.turns.invariant.few told;
     }
+
+pub returns-in-Stopped-clause-tells : goal.returns-in-Stopped-clause-tells
+returns-in-Stopped-clause-tells g c =
+    let t = c.take_turns-before in
+    let told = told_of c.turns.self t.new.self c.args.piece.now c.turns.at c.turns.turns.so_far
+    t.new.turns.so_far t.result.0 t.result.1 (turned.Stopped c.in-Stopped.stopped)
+    c.in-Stopped.is t.ensures in
+    call_stops c.args.self.now c.turns.self t.new.self c.args.piece.now c.turns.at
+    c.turns.turns.so_far t.new.turns.so_far t.result.0 c.in-Stopped.stopped
+    c.turns.invariant.inside c.turns.invariant.moves told
+
+pub returns-in-Stopped-clause-counts : goal.returns-in-Stopped-clause-counts
+returns-in-Stopped-clause-counts g c =
+    let t = c.take_turns-before in
+    let told = told_of c.turns.self t.new.self c.args.piece.now c.turns.at c.turns.turns.so_far
+    t.new.turns.so_far t.result.0 t.result.1 (turned.Stopped c.in-Stopped.stopped)
+    c.in-Stopped.is t.ensures in
+    call_counts c.args.self.now c.turns.self t.new.self c.args.piece.now c.turns.at
+    c.args.turns.now.so_far c.turns.turns.so_far t.new.turns.so_far t.result.0 c.in-Stopped.stopped
+    c.turns.invariant.inside c.turns.invariant.moves c.turns.invariant.each c.turns.invariant.few
+    told
+
+pub returns-in-OutOfMemory-clause-short : goal.returns-in-OutOfMemory-clause-short
+returns-in-OutOfMemory-clause-short g c =
+    let t = c.take_turns-before in
+    let told = told_of c.turns.self t.new.self c.args.piece.now c.turns.at c.turns.turns.so_far
+    t.new.turns.so_far t.result.0 t.result.1 turned.OutOfMemory c.in-OutOfMemory.is t.ensures in
+    call_runs_out c.args.self.now c.turns.self t.new.self c.args.piece.now c.turns.at
+    c.turns.turns.so_far t.new.turns.so_far t.result.0 c.turns.invariant.inside
+    c.turns.invariant.moves told
+
+pub returns-in-OutOfMemory-clause-counts : goal.returns-in-OutOfMemory-clause-counts
+returns-in-OutOfMemory-clause-counts g c =
+    let t = c.take_turns-before in
+    let told = told_of c.turns.self t.new.self c.args.piece.now c.turns.at c.turns.turns.so_far
+    t.new.turns.so_far t.result.0 t.result.1 turned.OutOfMemory c.in-OutOfMemory.is t.ensures in
+    call_counts_short c.args.self.now c.turns.self t.new.self c.args.piece.now c.turns.at
+    c.args.turns.now.so_far c.turns.turns.so_far t.new.turns.so_far t.result.0
+    c.turns.invariant.inside c.turns.invariant.moves c.turns.invariant.each c.turns.invariant.few
+    told

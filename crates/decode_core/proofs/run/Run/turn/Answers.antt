@@ -17,7 +17,7 @@ returns-in-Finished-clause-tells g c =
     sym (ap next_of c.walk.ensures.same) ∙ sym c.in-Finished.ensures in (
       refl,
       subst (λ (s : Running). EndsTurns s c.args.piece.now stop.Finished) c.self.view_is
-          (finished_stops c.self.inside.builder c.self.inside.carry c.self.inside.text
+          (finished_stops c.self.inside.builder c.self.inside.carry c.self.inside.open_run
           c.args.piece.now c.self.invariant is),
     )
 
@@ -29,15 +29,15 @@ returns-in-Stop-clause-tells g c =
     (stop.Refused 0 told_reason 0 0)) (sym c.into.ensures)
     (subst (λ (s : Running). EndsTurns s c.args.piece.now
     (stop.Refused 0 (reason_of (stop_refusal c.in-Stop.reason)) 0 0)) c.self.view_is
-    (stop_stops c.self.inside.builder c.self.inside.carry c.self.inside.text c.args.piece.now
+    (stop_stops c.self.inside.builder c.self.inside.carry c.self.inside.open_run c.args.piece.now
     c.in-Stop.reason c.self.invariant is))
 
 pub returns-in-Finished-clause-sound : goal.returns-in-Finished-clause-sound
 returns-in-Finished-clause-sound g c =
-    sound_of c.self.inside.builder c.self.inside.carry c.self.inside.text c.args.self.now
+    sound_of c.self.inside.builder c.self.inside.carry c.self.inside.open_run c.args.self.now
     c.self.view_is c.walk.ensures.begun c.self.invariant
 
 pub returns-in-Stop-clause-sound : goal.returns-in-Stop-clause-sound
 returns-in-Stop-clause-sound g c =
-    sound_of c.self.inside.builder c.self.inside.carry c.self.inside.text c.args.self.now
+    sound_of c.self.inside.builder c.self.inside.carry c.self.inside.open_run c.args.self.now
     c.self.view_is c.walk.ensures.begun c.self.invariant

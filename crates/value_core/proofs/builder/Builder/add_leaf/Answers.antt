@@ -29,8 +29,8 @@ invariant_of-self-2 g c =
     c.self.inside.pool.items c.append.new.pool.items c.self.inside.nodes.items
     c.append.new.nodes.items c.self.inside.text_len c.in-Some.ty c.self.invariant.0 l
     c.in-Some.ensures c.in_ok-append.ensures.ok in
-    let closed = none_open c.self.inside.pool.items c.self.inside.open_text
-    (ap (λ (b : Built). b.text) c.self.view_is ∙ c.requires.closed) in (
+    let closed = none_open c.self.inside.pool.items c.self.inside.open_run
+    (ap (λ (b : Built). b.run) c.self.view_is ∙ c.requires.closed) in (
       c.settle.ensures.settles.builds _ _ _
           (rw (c.advance.ensures, c.text_len.ensures) with.builds),
       rw closed tt,
@@ -49,8 +49,8 @@ returns-clause-ok g c =
     c.self.inside.pool.items c.append.new.pool.items c.self.inside.nodes.items
     c.append.new.nodes.items c.self.inside.text_len c.in-Some.ty c.self.invariant.0 l
     c.in-Some.ensures c.in_ok-append.ensures.ok in
-    let closed = none_open c.self.inside.pool.items c.self.inside.open_text
-    (ap (λ (b : Built). b.text) c.self.view_is ∙ c.requires.closed) in
+    let closed = none_open c.self.inside.pool.items c.self.inside.open_run
+    (ap (λ (b : Built). b.run) c.self.view_is ∙ c.requires.closed) in
     rw (
       c.settle.ensures.turns,
       c.settle.ensures.walk,

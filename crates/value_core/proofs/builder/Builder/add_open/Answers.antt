@@ -44,8 +44,8 @@ invariant_of-self-2 g c =
     let b = open_added c.self.inside.root.0 c.self.inside.walk c.self.inside.pool.items
     c.self.inside.nodes.items n c.self.inside.text_len
     (left_of c.self.inside.walk.types c.args.left) c.self.invariant.0 l at c.requires.opened in
-    let closed = none_open c.self.inside.pool.items c.self.inside.open_text
-    (ap (λ (b : Built). b.text) c.self.view_is ∙ c.requires.closed) in (
+    let closed = none_open c.self.inside.pool.items c.self.inside.open_run
+    (ap (λ (b : Built). b.run) c.self.view_is ∙ c.requires.closed) in (
       c.settle.ensures.settles.builds _ _ _
           (rw (c.in_ok-open_node.ensures.walk, c.in_ok-open_node.ensures.nodes) b),
       rw closed tt,

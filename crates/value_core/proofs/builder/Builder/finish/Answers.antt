@@ -34,7 +34,7 @@ returns g c =
     let value = c.new.ensures
     ∙ ap (λ (r : List TypeInfo). seen r c.self.inside.pool.items c.self.inside.nodes.items)
     c.checked.ensures ∙ seen_finished
-    (pieces_shown c.self.inside.pool.items c.self.inside.open_text) c.self.inside.turns.so_far
+    (pieces_shown c.self.inside.pool.items c.self.inside.open_run) c.self.inside.turns.so_far
     c.self.inside.root.0 c.self.inside.walk c.self.inside.pool.items c.self.inside.nodes.items
     f.type_is in
     rw (← c.self.view_is, w) value

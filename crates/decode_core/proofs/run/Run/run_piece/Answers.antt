@@ -1,0 +1,14 @@
+use Rattle.std.proofs.Common.{rules, arith, ◌≤◌, length}
+use Rattle.decode_core.proofs.steps.RunSteps.{is_open, piece_wants}
+use Rattle.decode_core.proofs.run.Run.run_piece.Goals as goal
+
+pub returns-in-Err-clause-tells : goal.returns-in-Err-clause-tells
+returns-in-Err-clause-tells g c =
+    let few : c.min-count.result ≤ c.args.run.missing = search rules in
+    let there : c.min-count.result ≤ length c.args.piece.now = search rules in
+    let some : 1 ≤ c.min-count.result =
+    omega (arith, c.min-count.ensures, c.requires.there, c.requires.lacks) in
+    piece_wants c.args.self.now.built c.args.self.now.carry c.args.run c.args.piece.now
+    c.min-count.result
+    (is_open c.args.self.now.built c.args.self.now.carry c.args.run c.requires.next c.requires.open)
+    few there some

@@ -1,0 +1,147 @@
+-- Turns on an array of u8 of which no byte came.
+use Rattle.std.proofs.Common.{◌≡◌, ℕ, ◌≤◌, List, [], ◌++◌, take, drop, Option, Some, None, refl, sym, ap, subst, ◌∙◌, arith, inl, inr}
+use Rattle.std.specs.Prelude.{◌⊎◌}
+use Rattle.std.proofs.lemmas.List.{take-append-drop}
+use Rattle.widths_core.specs.Layouts.{Layout}
+use Rattle.widths_core.specs.declared.run_kind.RunKind.TheVariants as kind
+use Rattle.grammar_core.specs.Runs.{run_length_at}
+use Rattle.grammar_core.specs.declared.form.Form.TheVariants as form
+use Rattle.grammar_core.specs.declared.form.Next.TheVariants as next
+use Rattle.value_core.specs.Built.{Built, next_layout, with_run_opened}
+use Rattle.value_core.specs.Walked.{next_of}
+use Rattle.decode_core.specs.NodeAdds.{IsAdded, IsSpelled}
+use Rattle.decode_core.specs.Running.{Running, IsRunning, held_of}
+use Rattle.decode_core.specs.Told.{own_at}
+use Rattle.decode_core.specs.Turned.{IsSame, KeepsNode, KeepsRun, PieceTells, StepTells, Steps, WantsBytes, WantsMemory}
+use Rattle.decode_core.specs.declared.run.OpenRun.{OpenRun}
+use Rattle.decode_core.specs.declared.turned.Turned.{Turned}
+use Rattle.decode_core.specs.declared.turned.Turned.TheVariants as turned
+use Rattle.decode_core.proofs.steps.NodeAdding.{next_run}
+use Rattle.decode_core.proofs.steps.RunSteps.{byte_array_length, run_missing}
+use Rattle.decode_core.proofs.steps.RunTurns.{carry_none, no_run, node_wants}
+use Rattle.decode_core.proofs.steps.Settling.{added_running}
+use Rattle.decode_core.proofs.steps.Stepping.{at_next}
+use Rattle.decode_core.proofs.steps.Steps.{added_same, added_steps, held_closed, opened_running}
+
+-- what is known of a decoder to which the array is next, by its fields
+pub record AtArray (b : Built) (c : List ℕ) (kept : Option OpenRun) (n : ℕ) : Type 0 where
+  pub running : IsRunning b c kept
+  pub wants : next_of b.walk ≡ next.Wants (form.ByteArray n)
+  pub closed : b.run ≡ None
+
+pub at_array : (b : Built) (c : List ℕ) (kept : Option OpenRun) (n : ℕ) (s : Running) →
+    record { built = b; carry = c } ≡ s → IsRunning b c kept →
+    next_of s.built.walk ≡ next.Wants (form.ByteArray n) → s.built.run ≡ None → AtArray b c kept n
+at_array b c kept n s is h wants closed = record {
+  running = h;
+  wants = subst (λ (x : Running). next_of x.built.walk ≡ next.Wants (form.ByteArray n)) (sym is)
+      wants;
+  closed =
+      subst (λ (x : Running). x.built.run ≡ None) (sym is) closed;
+}
+
+none_carried : (b : Built) (c : List ℕ) (kept : Option OpenRun) (n : ℕ) → AtArray b c kept n →
+    c ≡ []
+none_carried b c kept n a = carry_none b c (form.ByteArray n) a.running.carried a.wants (λ no. no)
+
+none_held : (b : Built) (c : List ℕ) (kept : Option OpenRun) (n : ℕ) → AtArray b c kept n →
+    held_of (record { built = b; carry = c }) ≡ []
+none_held b c kept n a = held_closed b c a.closed ∙ none_carried b c kept n a
+
+-- ---- all its bytes are there
+
+pub array_running : (b new : Built) (c : List ℕ) (kept : Option OpenRun) (n : ℕ)
+    (own : List ℕ) → AtArray b c kept n → IsAdded b new own → IsRunning new c kept
+array_running b new c kept n own a adds =
+    rw (none_carried b c kept n a, no_run b c kept a.running a.closed)
+    (added_running b new own (at_next b (form.ByteArray n) a.wants) a.closed adds)
+
+pub array_tells : (b new : Built) (c : List ℕ) (kept : Option OpenRun) (n : ℕ)
+    (own : List ℕ) → AtArray b c kept n → IsAdded b new own →
+    IsSame (record { built = b; carry = c }) (record { built = new; carry = c })
+    × Steps (record { built = b; carry = c }) (record { built = new; carry = c }) own
+array_tells b new c kept n own a adds =
+    subst (λ (l : List ℕ). IsSame (record { built = b; carry = l })
+    (record { built = new; carry = l })
+    × Steps (record { built = b; carry = l }) (record { built = new; carry = l }) own)
+    (sym (none_carried b c kept n a)) (
+      added_same b new [] [] own adds,
+      added_steps b new [] own own (at_next b (form.ByteArray n) a.wants) a.closed refl adds,
+    )
+
+-- memory is wanted for its node
+pub array_wants : (b : Built) (c : List ℕ) (kept : Option OpenRun) (n : ℕ) (piece : List ℕ) →
+    AtArray b c kept n → IsSpelled b (take n piece) →
+    WantsMemory (record { built = b; carry = c }) piece
+array_wants b c kept n piece a spelled =
+    subst (WantsMemory (record { built = b; carry = c })) (take-append-drop n piece)
+    (node_wants (form.ByteArray n) b c (take n piece) (drop n piece) (take n piece) a.wants a.closed
+    (ap (λ (l : List ℕ). l ++ take n piece) (none_carried b c kept n a)) spelled)
+
+-- ---- not all are
+
+-- it waits for its first byte
+pub array_waits : (b : Built) (c : List ℕ) (kept : Option OpenRun) (n : ℕ) → AtArray b c kept n →
+    1 ≤ n → WantsBytes (record { built = b; carry = c })
+array_waits b c kept n a some = record {
+  form = form.ByteArray n;
+  next = a.wants;
+  left = [];
+  short = ap (own_at (next_layout b)) (none_held b c kept n a)
+      ∙ ap (λ (f : Layout). own_at f []) (next_run b (kind.ByteArray n) a.wants)
+      ∙ run_missing (kind.ByteArray n) n [] (byte_array_length n) (omega (arith, some));
+}
+
+-- it is open, and lacks all its bytes
+pub array_opened : (b : Built) (c : List ℕ) (kept : Option OpenRun) (n : ℕ) → AtArray b c kept n →
+    IsRunning (with_run_opened b (kind.ByteArray n) n) c (Some (record { len = n; missing = n }))
+array_opened b c kept n a =
+    subst (λ (l : List ℕ). IsRunning (with_run_opened b (kind.ByteArray n) n) l
+    (Some (record { len = n; missing = n }))) (sym (none_carried b c kept n a))
+    (opened_running b c kept (kind.ByteArray n) n a.running a.wants (byte_array_length n))
+
+-- to open it changes nothing of what the bytes say
+pub array_piece : (b : Built) (c : List ℕ) (kept : Option OpenRun) (n : ℕ) (new : Running)
+    (piece : List ℕ) (result : Turned) → AtArray b c kept n →
+    PieceTells (record { built = with_run_opened b (kind.ByteArray n) n; carry = c }) new piece
+    result → StepTells (record { built = b; carry = c }) new piece result
+array_piece b c kept n new piece (turned.On m) a h = (
+  h.0,
+  record { types = h.1.types; limit = h.1.limit; ty = h.1.ty },
+  inl (
+    h.2,
+    h.3,
+    h.4 ∙ ap (λ (l : List ℕ). l ++ take m piece) (sym (none_held b c kept n a)),
+  ),
+)
+array_piece b c kept n new piece (turned.Stopped s) a h = absurd h
+array_piece b c kept n new piece turned.OutOfMemory a h = record {
+  form = h.form;
+  next = h.next;
+  bytes = h.bytes;
+  later = h.later;
+  is = h.is;
+  keeps = by h.keeps;
+} where
+  s : Running
+  s = record { built = b; carry = c }
+
+  opened : Running
+  opened = record { built = with_run_opened b (kind.ByteArray n) n; carry = c }
+
+  by : KeepsNode opened h.bytes ⊎ KeepsRun opened h.bytes → KeepsNode s h.bytes ⊎ KeepsRun s h.bytes
+  by (inl k) = inl (
+    k.0,
+    ap (λ (l : List ℕ). own_at (next_layout b) (l ++ h.bytes)) (none_held b c kept n a) ∙ k.1,
+  )
+  by (inr k) = inr (
+    k.0,
+    k.1,
+    k.2,
+    (
+      k.3.0,
+      k.3.1,
+      ap (λ (l : List ℕ). run_length_at k.0 (l ++ h.bytes)) (none_held b c kept n a) ∙ k.3.2,
+      k.3.3,
+    ),
+  )

@@ -1,0 +1,134 @@
+//! The turns on a piece: those on nodes of one form that follow one another are taken together.
+
+ghost use Rattle.std.specs.Prelude.{true, ◌≡◌, IfErr, IfOk, Ok};
+ghost use Rattle.value_core.specs.Refusals.{is_whole};
+ghost use Rattle.decode_core.specs.NodeForms.{form_of_bytes};
+ghost use Rattle.decode_core.specs.Turned.{Awaits, FeedCounts, FeedTells, RunsOut, TurnsTell};
+
+use crate::forms::{BareForm, BytesForm, compact_form, primitive_form};
+use crate::run::Run;
+use crate::turned::{Stopped, Turned};
+use count_core::Count;
+use registry_core::Primitive;
+use scale_core::Target;
+use std::alloc::Allocator;
+use value_core::Form;
+
+impl<'r, A: Allocator> Run<'r, A> {
+    /// Is a node of this form next, and no run open?
+    #[inline(always)]
+    fn awaits(&self, form: Form) -> bool
+        ensures { result ≡ true → Awaits self.now form }
+    {
+        self.next_form() == Some(form)
+    }
+
+    /// Takes turns on nodes of this form, one of which is next, as long as another follows: how many bytes those before
+    /// the last one took, and what the last one did.
+    #[inline(always)]
+    fn repeat(
+        &mut self,
+        form: Form,
+        own: BytesForm,
+        piece: &[u8],
+        turns: &mut Count,
+    ) -> (usize, Turned)
+        requires own { form_of_bytes own ≡ form }
+        requires next { Awaits self.old form }
+        ensures { TurnsTell self.old self.new piece.now turns.old.so_far turns.new.so_far result.0 result.1 }
+    {
+        let mut at = 0;
+        'nodes: loop {
+            turns.tick();
+            let last = self.own_turn(own, &piece[at..]);
+            let Turned::On(count) = last else {
+                return (at, last);
+            };
+            if !self.awaits(form) {
+                return (at, last);
+            }
+            at += count;
+        }
+    }
+
+    /// Takes one turn, and counts it.
+    fn one_turn(&mut self, piece: &[u8], turns: &mut Count) -> (usize, Turned)
+        ensures { TurnsTell self.old self.new piece.now turns.old.so_far turns.new.so_far result.0 result.1 }
+    {
+        turns.tick();
+        (0, self.turn(piece))
+    }
+
+    /// Takes turns on values of this primitive type, one of which is next, as long as another follows.
+    #[inline(always)]
+    fn integers(&mut self, primitive: Primitive, piece: &[u8], turns: &mut Count) -> (usize, Turned)
+        requires { Awaits self.old (Form.Primitive primitive) }
+        ensures { TurnsTell self.old self.new piece.now turns.old.so_far turns.new.so_far result.0 result.1 }
+    {
+        let form = Form::Primitive(primitive);
+        self.repeat(form, primitive_form(primitive), piece, turns)
+    }
+
+    /// Takes turns on compact integers of this target, one of which is next, as long as another follows.
+    #[inline(always)]
+    fn compacts(&mut self, target: Target, piece: &[u8], turns: &mut Count) -> (usize, Turned)
+        requires { Awaits self.old (Form.Compact target) }
+        ensures { TurnsTell self.old self.new piece.now turns.old.so_far turns.new.so_far result.0 result.1 }
+    {
+        self.repeat(Form::Compact(target), compact_form(target), piece, turns)
+    }
+
+    /// Takes turns, and counts each: as many as there are integers of one type, or one. How many bytes those before the
+    /// last one took, and what the last one did. Each arm names its form anew, so that its turns are made for it alone.
+    #[inline(always)]
+    fn take_turns(&mut self, piece: &[u8], turns: &mut Count) -> (usize, Turned)
+        ensures { TurnsTell self.old self.new piece.now turns.old.so_far turns.new.so_far result.0 result.1 }
+    {
+        match self.next_form() {
+            Some(Form::Primitive(Primitive::U8)) => self.integers(Primitive::U8, piece, turns),
+            Some(Form::Primitive(Primitive::U16)) => self.integers(Primitive::U16, piece, turns),
+            Some(Form::Primitive(Primitive::U32)) => self.integers(Primitive::U32, piece, turns),
+            Some(Form::Primitive(Primitive::U64)) => self.integers(Primitive::U64, piece, turns),
+            Some(Form::Primitive(Primitive::U128)) => self.integers(Primitive::U128, piece, turns),
+            Some(Form::Compact(Target::U32)) => self.compacts(Target::U32, piece, turns),
+            Some(Form::Compact(Target::U128)) => self.compacts(Target::U128, piece, turns),
+            Some(Form::Arm) => {
+                turns.tick();
+                (0, self.own_turn(BytesForm::Arm, piece))
+            }
+            Some(Form::Fields) => {
+                turns.tick();
+                (0, self.bare_turn(BareForm::Fields))
+            }
+            Some(Form::ByteArray(len)) => {
+                turns.tick();
+                (0, self.byte_array_turn(len, piece))
+            }
+            _ => self.one_turn(piece, turns),
+        }
+    }
+
+    /// Takes turns until one stops, and counts each: how many bytes of the piece they took, and why they stopped; where
+    /// memory was refused, the bytes alone. The turns that close nodes are the builder's own, and counted there.
+    pub(crate) fn feed(
+        &mut self,
+        piece: &[u8],
+        turns: &mut Count,
+    ) -> Result<(usize, Stopped), usize>
+        ensures tells { IfOk result (λ x. FeedTells self.old self.new piece.now x.0 x.1) }
+        ensures short { IfErr result (λ n. RunsOut self.old piece.now n) }
+        ensures whole { is_whole self.old.built ≡ true → (result ≡ Ok (0, Stopped.Finished)) × (self.new ≡ self.old) }
+        ensures counts { FeedCounts self.old self.new piece.now turns.old.so_far turns.new.so_far result }
+    {
+        let mut at = 0;
+        'turns: loop {
+            let (before, last) = self.take_turns(&piece[at..], turns);
+            at += before;
+            match last {
+                Turned::On(count) => at += count,
+                Turned::Stopped(stopped) => return Ok((at, stopped)),
+                Turned::OutOfMemory => return Err(at),
+            }
+        }
+    }
+}

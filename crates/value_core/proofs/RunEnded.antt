@@ -1,0 +1,81 @@
+-- An open run that lacks nothing becomes the next node.
+use Rattle.std.proofs.Common.{◌≡◌, ◌+◌, ◌≤◌, ◌++◌, ◌∷◌, ◌∙◌, Bool, true, false, Option, Some, None, Ok, List, [], ℕ, length, drop, ap, sym, subst, refl, arith}
+use Rattle.std.specs.Prelude.{slice_range}
+use Rattle.std.proofs.lemmas.List.{append-nil, length-drop}
+use Rattle.std.specs.Str.{is_utf8}
+use Rattle.std.proofs.lemmas.Option.{same_Some}
+use Rattle.registry_core.specs.declared.type_id.TypeId.{TypeId}
+use Rattle.widths_core.specs.declared.run_kind.RunKind.{RunKind}
+use Rattle.widths_core.specs.declared.run_kind.RunKind.TheVariants as kind
+use Rattle.grammar_core.specs.Preorder as head
+use Rattle.grammar_core.specs.Preorder.{Head}
+use Rattle.grammar_core.specs.Runs.{IsRun, run_leaf}
+use Rattle.value_core.specs.Building.{IsBuilding, IsOpenAt, IsOpenRun, pieces_shown, run_content, run_content_of}
+use Rattle.value_core.specs.Built.{FitsKind, head_text_bytes}
+use Rattle.value_core.specs.Refusals.{missing_at, bad_bytes, bad_text}
+use Rattle.value_core.specs.Walked.{Walked, advanced, next_type, next_of}
+use Rattle.value_core.specs.Shown.{IsInPool, all_kept, head_shown, kept_bytes}
+use Rattle.value_core.specs.declared.node.Node.{Node}
+use Rattle.value_core.specs.declared.open_run.OpenRun.{OpenRun}
+use Rattle.value_core.proofs.Adding.{leaf_added, open_whole}
+use Rattle.value_core.proofs.NextLeaf.{run_next}
+
+-- where nothing is wrong with the bytes of a run, they are one of its kind
+is_run : (k : RunKind) (s : List ℕ) → bad_bytes k s ≡ None → IsRun k s
+is_run kind.Text s e = by (is_utf8 s) refl where
+  by : (b : Bool) → is_utf8 s ≡ b → is_utf8 s ≡ true
+  by true f = f
+  by false f = let no = rw f at e in absurd cc
+is_run kind.Bytes s e = tt
+is_run (kind.ByteArray n) s e = tt
+
+-- an array has its length
+fits_length : (k : RunKind) (n m : ℕ) → m ≡ n → FitsKind k n → FitsKind k m
+fits_length k n m e h = subst (FitsKind k) (sym e) h
+
+-- the node of a run shows its bytes in the pool, and keeps as many
+pub record IsRunNode (pool : List ℕ) (k : RunKind) (len start : ℕ) : Type 0 where
+  pub shows : head_shown pool 0 (run_content_of k len start)
+      ≡ head.leaf (run_leaf k (slice_range pool start (start + len)))
+  pub inside : start + len ≤ length pool → IsInPool pool (run_content_of k len start)
+  pub kept : kept_bytes (run_content_of k len start) ≡ len
+
+run_node : (pool : List ℕ) (k : RunKind) (len start : ℕ) → IsRunNode pool k len start
+run_node pool kind.Text len start = record { shows = refl; inside = λ h. h; kept = refl }
+run_node pool kind.Bytes len start = record { shows = refl; inside = λ h. h; kept = refl }
+run_node pool (kind.ByteArray n) len start = record { shows = refl; inside = λ h. h; kept = refl }
+
+run_text_bytes : (k : RunKind) (s : List ℕ) → head_text_bytes (head.leaf (run_leaf k s)) ≡ length s
+run_text_bytes kind.Text s = refl
+run_text_bytes kind.Bytes s = refl
+run_text_bytes (kind.ByteArray n) s = refl
+
+-- its bytes lie in the pool already
+pub run_ended : (ty : ℕ) (w : Walked) (pool : List ℕ) (ns : List Node) (text_len : ℕ)
+    (run : Option OpenRun) (o : OpenRun) (k : RunKind) (t : TypeId) →
+    IsBuilding ty w pool ns text_len → IsOpenRun w pool (all_kept ns) run → run ≡ Some o →
+    missing_at (pieces_shown pool run) (next_of w) ≡ Ok (k, 0) →
+    bad_text (pieces_shown pool run) ≡ None → Some t.0 ≡ next_type w →
+    IsBuilding ty (advanced w) pool
+    (ns ++ record { ty = t; children = 0; content = run_content o } ∷ [])
+    (text_len + o.len)
+run_ended ty w pool ns text_len run o k t b h is lacks fault next =
+    let place : IsOpenAt w pool (all_kept ns) o.kind o.start o.len =
+    subst (IsOpenRun w pool (all_kept ns)) is h in
+    let all = open_whole w pool (all_kept ns) o k place
+    (subst (λ (x : Option OpenRun). missing_at (pieces_shown pool x) (next_of w) ≡ Ok (k, 0)) is
+    lacks) in
+    let s = drop o.start pool in
+    let valid = is_run o.kind s (subst
+    (λ (x : Option OpenRun). bad_text (pieces_shown pool x) ≡ None) is fault) in
+    let long : length s ≡ o.len = omega (arith, all.0, length-drop o.start pool) in
+    let l = run_next w o.kind s place.is_next valid place.are_bytes
+    (omega (arith, long, place.spelled)) (fits_length o.kind o.len (length s) long place.fits) in
+    let n : Node = record { ty = t; children = 0; content = run_content o } in
+    let node = run_node pool o.kind o.len o.start in
+    rw (← append-nil pool) (leaf_added ty w pool [] ns n text_len o.len
+    (head.leaf (run_leaf o.kind s)) b l (same_Some t.0 l.ty (next ∙ l.next))
+    (rw append-nil
+    (node.shows ∙ ap (λ (x : List ℕ). head.leaf (run_leaf o.kind x)) all.1))
+    (rw append-nil (node.inside (omega (arith, all.0))))
+    (sym (run_text_bytes o.kind s ∙ long)) (omega (arith, place.behind, all.0, node.kept)))

@@ -1,0 +1,171 @@
+//! The calls that add a text or a run of bytes, whole or in pieces.
+
+ghost use Rattle.std.specs.Prelude.{◌≡◌};
+ghost use Rattle.grammar_core.specs.Preorder as head;
+ghost use Rattle.grammar_core.specs.Tree as tree;
+ghost use Rattle.value_core.specs.Built.{with_bytes_opened, with_leaf, with_piece, with_run_ended, with_run_opened};
+ghost use Rattle.value_core.specs.Refusals.{Adds, IsRunWhole, judged, judged_end, judged_piece, missing_bytes, missing_text, run_fault, suits_bytes, suits_bytes_start, suits_text, suits_text_start};
+
+use crate::build_fault::BuildFault;
+use crate::builder::Builder;
+use crate::leaf::Leaf;
+use grammar_core::{Form, RunKind};
+use registry_core::Primitive;
+use std::alloc::Allocator;
+
+impl<'r, A: Allocator> Builder<'r, A> {
+    /// Adds a text.
+    ///
+    /// Refuses as `empty` does, and with `OutOfRange` a text of more than 4294967295 bytes.
+    #[tactic(auto, using(crate::proofs::Wanted::wanted_next, crate::proofs::Wanted::wanted_closed, crate::proofs::NextLeaf::text_next))]
+    pub fn text(&mut self, text: &str) -> Result<(), BuildFault>
+        ensures { Adds (judged (suits_text text.now) self.old) (with_leaf self.old (head.leaf (tree.text text.now))) self.old self.new result }
+    {
+        let Form::Primitive(Primitive::Str) = self.wanted()? else {
+            return Err(BuildFault::WrongKind);
+        };
+        if text.len() > u32::MAX as usize {
+            return Err(BuildFault::OutOfRange);
+        }
+        self.add_leaf(Leaf::Text(text.as_bytes()))?;
+        Ok(())
+    }
+
+    /// Adds a sequence or an array of u8: its bytes.
+    ///
+    /// Refuses as `empty` does, and with `OutOfRange` more than 4294967295 bytes for a sequence, and for an array another
+    /// number of bytes than its length.
+    #[tactic(auto, using(crate::proofs::Wanted::wanted_next, crate::proofs::Wanted::wanted_closed))]
+    pub fn bytes(&mut self, bytes: &[u8]) -> Result<(), BuildFault>
+        ensures { Adds (judged (suits_bytes bytes.now) self.old) (with_leaf self.old (head.leaf (tree.bytes bytes.now))) self.old self.new result }
+    {
+        let fits = match self.wanted()? {
+            Form::Bytes => bytes.len() <= u32::MAX as usize,
+            Form::ByteArray(len) => bytes.len() == len as usize,
+            _ => return Err(BuildFault::WrongKind),
+        };
+        if !fits {
+            return Err(BuildFault::OutOfRange);
+        }
+        self.add_leaf(Leaf::Bytes(bytes))?;
+        Ok(())
+    }
+
+    /// Begins a text of so many bytes, which come in pieces. Until `text_end` takes them, every call that adds a whole
+    /// node is refused, and so are the calls for bytes.
+    ///
+    /// Refuses as `empty` does.
+    pub fn text_start(&mut self, len: u32) -> Result<(), BuildFault>
+        ensures { Adds (judged suits_text_start self.old) (with_run_opened self.old RunKind.Text len) self.old self.new result }
+    {
+        let Form::Primitive(Primitive::Str) = self.wanted()? else {
+            return Err(BuildFault::WrongKind);
+        };
+        self.open_run(RunKind::Text, len);
+        Ok(())
+    }
+
+    /// Adds bytes to the text that is open; they may end inside a character.
+    ///
+    /// Refuses, and leaves the builder as it was: what the next type stops at, `WrongKind` where no text is open,
+    /// `OutOfRange` where more bytes came than the text is to have, and `OutOfMemory`.
+    pub fn text_piece(&mut self, piece: &[u8]) -> Result<(), BuildFault>
+        ensures { Adds (judged_piece (missing_text self.old) piece.now) (with_piece self.old piece.now) self.old self.new result }
+    {
+        if piece.len() > self.missing_text()? {
+            return Err(BuildFault::OutOfRange);
+        }
+        self.extend_run(piece)?;
+        Ok(())
+    }
+
+    /// Ends the text that is open, which is the next node then.
+    ///
+    /// Refuses, and leaves the builder as it was: what the next type stops at, `WrongKind` where no text is open,
+    /// `UnfinishedValue` where bytes of it are missing, `BadText` where its bytes are not UTF-8, and `OutOfMemory`.
+    pub fn text_end(&mut self) -> Result<(), BuildFault>
+        ensures { Adds (judged_end (missing_text self.old) self.old) (with_run_ended self.old) self.old self.new result }
+    {
+        if self.missing_text()? > 0 {
+            return Err(BuildFault::UnfinishedValue);
+        }
+        self.end_run()
+    }
+
+    /// Begins a sequence or an array of u8 of so many bytes, which come in pieces. Until `bytes_end` takes them, every
+    /// call that adds a whole node is refused, and so are the calls for texts.
+    ///
+    /// Refuses as `empty` does, and with `OutOfRange` a number that is not the array's length.
+    pub fn bytes_start(&mut self, len: u32) -> Result<(), BuildFault>
+        ensures { Adds (judged (suits_bytes_start len) self.old) (with_bytes_opened self.old len) self.old self.new result }
+    {
+        let kind = match self.wanted()? {
+            Form::Bytes => RunKind::Bytes,
+            Form::ByteArray(length) if length == len => RunKind::ByteArray(length),
+            Form::ByteArray(_) => return Err(BuildFault::OutOfRange),
+            _ => return Err(BuildFault::WrongKind),
+        };
+        self.open_run(kind, len);
+        Ok(())
+    }
+
+    /// Adds bytes to the run of bytes that is open.
+    ///
+    /// Refuses, and leaves the builder as it was: what the next type stops at, `WrongKind` where no run of bytes is open,
+    /// `OutOfRange` where more bytes came than it is to have, and `OutOfMemory`.
+    pub fn bytes_piece(&mut self, piece: &[u8]) -> Result<(), BuildFault>
+        ensures { Adds (judged_piece (missing_bytes self.old) piece.now) (with_piece self.old piece.now) self.old self.new result }
+    {
+        if piece.len() > self.missing_bytes()? {
+            return Err(BuildFault::OutOfRange);
+        }
+        self.extend_run(piece)?;
+        Ok(())
+    }
+
+    /// Ends the run of bytes that is open, which is the next node then.
+    ///
+    /// Refuses, and leaves the builder as it was: what the next type stops at, `WrongKind` where no run of bytes is open,
+    /// `UnfinishedValue` where bytes of it are missing, and `OutOfMemory`.
+    pub fn bytes_end(&mut self) -> Result<(), BuildFault>
+        ensures { Adds (judged_end (missing_bytes self.old) self.old) (with_run_ended self.old) self.old self.new result }
+    {
+        if self.missing_bytes()? > 0 {
+            return Err(BuildFault::UnfinishedValue);
+        }
+        self.end_run()
+    }
+
+    /// How many bytes the open text still lacks; refused with what the walk stops at, and with `WrongKind` where no text
+    /// is open.
+    fn missing_text(&self) -> Result<usize, BuildFault>
+        ensures { result ≡ missing_text self.now }
+    {
+        match self.missing()? {
+            (RunKind::Text, missing) => Ok(missing),
+            _ => Err(BuildFault::WrongKind),
+        }
+    }
+
+    /// How many bytes the open run of bytes still lacks; refused with what the walk stops at, and with `WrongKind` where
+    /// none is open.
+    fn missing_bytes(&self) -> Result<usize, BuildFault>
+        ensures { result ≡ missing_bytes self.now }
+    {
+        match self.missing()? {
+            (RunKind::Text, _) => Err(BuildFault::WrongKind),
+            (_, missing) => Ok(missing),
+        }
+    }
+
+    /// Ends the open run, which lacks nothing: refused where it is a text that is not UTF-8, and with want of memory.
+    fn end_run(&mut self) -> Result<(), BuildFault>
+        requires { IsRunWhole self.old }
+        ensures { Adds (run_fault self.old.run) (with_run_ended self.old) self.old self.new result }
+    {
+        match self.bad_text() {
+            Some(valid) => Err(BuildFault::BadText { valid }),
+            None => Ok(self.close_run()?),
+        }
+    }
+}
