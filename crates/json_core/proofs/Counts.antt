@@ -89,6 +89,7 @@ counted_by r t (tree.leaf tree.unit) b h = tt
 counted_by r t (tree.leaf (tree.bool x)) b h = tt
 counted_by r t (tree.leaf (tree.char c)) b h = tt
 counted_by r t (tree.leaf (tree.text s)) b h = tt
+counted_by r t (tree.leaf (tree.bytes s)) b h = tt
 counted_by r t (tree.leaf (tree.unsigned n)) b h = tt
 counted_by r t (tree.leaf (tree.signed z)) b h = tt
 counted_by r t (tree.leaf (tree.wide s)) b h = tt

@@ -12,9 +12,10 @@ use Rattle.std.proofs.lemmas.Map.Lookups.{CmpEqualImpliesEq, exact_unsigned}
 use Rattle.registry_core.specs.declared.definition.Field.{Field}
 use Rattle.registry_core.specs.declared.type_info.TypeInfo.{TypeInfo}
 use Rattle.json_core.specs.declared.orders.Place.{Place}
+use Rattle.json_core.specs.declared.orders.Known.{Known}
 use Rattle.json_core.specs.declared.orders.Keys.{Keys}
 use Rattle.json_core.specs.declared.orders.Keys.TheVariants as keys
-use Rattle.json_core.specs.Ordered.{key_order, fields_at, OrdersView, AreKeys, AreKeysOf, AreKnown, Grows}
+use Rattle.json_core.specs.Ordered.{key_order, fields_at, OrdersView, AreKeys, IsKnown, AreKeysOf, AreKnown, Grows}
 
 -- ---- positions that are added change nothing of the others
 
@@ -36,27 +37,21 @@ keys_stay ps more fs (keys.Sorted start) h = (
   h.1 ∙ ap Some (sym (same_range ps more start (length fs) h.0)),
 )
 
-keys_of_stay : (ps more : List ℕ) (o : Option (List Field)) (k : Keys) → AreKeysOf ps o k →
+keys_of_stay : (ps more : List ℕ) (o : Option (List Field)) (k : Known) → AreKeysOf ps o k →
     AreKeysOf (ps ++ more) o k
 keys_of_stay ps more None k h = tt
-keys_of_stay ps more (Some fs) k h = keys_stay ps more fs k h
+keys_of_stay ps more (Some fs) k h = (keys_stay ps more fs k.keys h.0, h.1)
 
-known_stay : (r : List TypeInfo) (ps more : List ℕ) (es : List (Place × Keys)) →
+known_stay : (r : List TypeInfo) (ps more : List ℕ) (es : List (Place × Known)) →
     AreKnown r ps es → AreKnown r (ps ++ more) es
 known_stay r ps more [] h = tt
 known_stay r ps more (e ∷ es) h =
     (keys_of_stay ps more (fields_at r e.0) e.1 h.0, known_stay r ps more es h.1)
 
-pub known_more : (r : List TypeInfo) (old new more : List ℕ) (es : List (Place × Keys)) →
+pub known_more : (r : List TypeInfo) (old new more : List ℕ) (es : List (Place × Known)) →
     AreKnown r old es → new ≡ old ++ more → AreKnown r new es
 known_more r old new more es h e =
     subst (λ ps. AreKnown r ps es) (sym e) (known_stay r old more es h)
-
--- behind those that grew the keys stand as before
-pub keys_grown : (old new : OrdersView) (fs : List Field) (k : Keys) → Grows old new →
-    AreKeys old.positions fs k → AreKeys new.positions fs k
-keys_grown old new fs k g h =
-    subst (λ ps. AreKeys ps fs k) (sym g.positions) (keys_stay old.positions g.more fs k h)
 
 -- ---- growth
 
@@ -75,8 +70,8 @@ grows_again a b c g h = record {
 
 module _ {R : Place → Place → Ordering} (exact : CmpEqualImpliesEq R) where
   -- what is found is known
-  known_found : (r : List TypeInfo) (ps : List ℕ) (es : List (Place × Keys)) (p : Place)
-      (k : Keys) → AreKnown r ps es → lookup (is_at (R p)) es ≡ Some k →
+  known_found : (r : List TypeInfo) (ps : List ℕ) (es : List (Place × Known)) (p : Place)
+      (k : Known) → AreKnown r ps es → lookup (is_at (R p)) es ≡ Some k →
       AreKeysOf ps (fields_at r p) k
   known_found r ps [] p k h e = absurd cc
   known_found r ps (x ∷ es) p k h e = go (R p x.0) refl (known_found r ps es p k h.1) e where
@@ -91,8 +86,8 @@ module _ {R : Place → Place → Ordering} (exact : CmpEqualImpliesEq R) where
         (subst (AreKeysOf ps (fields_at r x.0)) same h.0)
     go Greater is later f = later f
 
-  known_insert : (r : List TypeInfo) (ps : List ℕ) (es : List (Place × Keys)) (p : Place)
-      (k : Keys) → AreKnown r ps es → AreKeysOf ps (fields_at r p) k →
+  known_insert : (r : List TypeInfo) (ps : List ℕ) (es : List (Place × Known)) (p : Place)
+      (k : Known) → AreKnown r ps es → AreKeysOf ps (fields_at r p) k →
       AreKnown r ps (insert_entry R es p k)
   known_insert r ps [] p k h e = (e, tt)
   known_insert r ps (x ∷ es) p k h e = go (R p x.0) refl (known_insert r ps es p k h.1 e) where
@@ -104,18 +99,18 @@ module _ {R : Place → Place → Ordering} (exact : CmpEqualImpliesEq R) where
     go Greater is later = (h.0, later)
 
   -- what a look-up lends
-  pub keys_found : (r : List TypeInfo) (ps : List ℕ) (es : List (Place × Keys)) (p : Place)
-      (fs : List Field) (found : Option (Bor Keys)) (k : Bor Keys) → AreKnown r ps es →
+  pub keys_found : (r : List TypeInfo) (ps : List ℕ) (es : List (Place × Known)) (p : Place)
+      (fs : List Field) (found : Option (Bor Known)) (k : Bor Known) → AreKnown r ps es →
       fields_at r p ≡ Some fs → option_copied found ≡ lookup (is_at (R p)) es → found ≡ Some k →
-      AreKeys ps fs k.now
+      IsKnown ps fs k.now
   keys_found r ps es p fs found k h at e f =
       subst (λ o. AreKeysOf ps o k.now) at
       (known_found r ps es p k.now h (sym e ∙ ap option_copied f))
 
   -- what is found anew becomes known
-  pub keys_put : (r : List TypeInfo) (old ps more : List ℕ) (es new : List (Place × Keys))
-      (p : Place) (fs : List Field) (k : Keys) → AreKnown r old es → ps ≡ old ++ more →
-      fields_at r p ≡ Some fs → AreKeys ps fs k → new ≡ insert_entry R es p k → AreKnown r ps new
+  pub keys_put : (r : List TypeInfo) (old ps more : List ℕ) (es new : List (Place × Known))
+      (p : Place) (fs : List Field) (k : Known) → AreKnown r old es → ps ≡ old ++ more →
+      fields_at r p ≡ Some fs → IsKnown ps fs k → new ≡ insert_entry R es p k → AreKnown r ps new
   keys_put r old ps more es new p fs k h e at keys is =
       subst (AreKnown r ps) (sym is) (known_insert r ps es p k (known_more r old ps more es h e)
       (subst (λ o. AreKeysOf ps o k) (sym at) keys))

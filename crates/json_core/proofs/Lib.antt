@@ -5,5 +5,8 @@ pub mod Found
 pub mod Known
 pub mod Members
 pub mod Ordered
+pub mod Outputs
+pub mod Placing
+pub mod PlainNames
 pub mod Told
 pub mod Turns

@@ -27,20 +27,20 @@ use Rattle.graph_core.specs.Types.{shape, field_types}
 use Rattle.widths_core.specs.Arms.{arm_of}
 use Rattle.widths_core.specs.Classes.{is_empty}
 use Rattle.widths_core.specs.Targets.{target_of, compact_target_of, compact_target_of_shape}
-use Rattle.widths_core.specs.Layouts.{Layout, layout, layout_of_shape, sized_layout, kind_layout, sequence_layout, compact_layout}
+use Rattle.widths_core.specs.Layouts.{Layout, layout, layout_of_shape, sized_layout, kind_layout, sequence_layout, array_layout, is_byte, compact_layout}
 use Rattle.widths_core.specs.Layouts as layout
 use Rattle.grammar_core.specs.Tree.{Tree, Trees, how_many}
 use Rattle.grammar_core.specs.Tree as tree
 use Rattle.grammar_core.specs.Grammar.{Val, Vals}
 use Rattle.grammar_core.specs.Parts.{Part, times}
 use Rattle.grammar_core.specs.Cells.{fields_part, arm_part, list_part}
-use Rattle.value_core.specs.Shown.{Seen, IsValue, seen_parts, children_by, children_of, text_of}
+use Rattle.value_core.specs.Shown.{Seen, IsValue, seen_parts, children_by, bytes_of, children_of, text_of}
 use Rattle.value_core.specs.Whats.{what_of}
 use Rattle.value_core.specs.declared.what.What.{What}
 use Rattle.value_core.specs.declared.what.What.TheVariants as what
 use Rattle.value_core.proofs.Below.{arm_get, arm_part_is}
 use Rattle.json_core.specs.Defined.{unsigned_by, signed_by, is_long_kind, is_long, is_long_target, defined_arm, composite_fields}
-use Rattle.json_core.specs.Json.{json_of, json_seen, all_json, each_json, unsigned_json, signed_json, unsigned_of, signed_of, wide_json, parts_json, fields_json, arm_json, arm_at_position, arm_types, part_types, element_type}
+use Rattle.json_core.specs.Json.{json_of, json_seen, all_json, each_json, unsigned_json, signed_json, unsigned_of, signed_of, bytes_json, wide_json, parts_json, fields_json, arm_json, arm_at_position, arm_types, part_types, element_type}
 use Rattle.json_core.specs.Ordered.{fields_in}
 use Rattle.json_core.proofs.Children.{jsons, all_is, each_is}
 
@@ -74,10 +74,16 @@ defined_kind r (K.Unsigned w) d h = rw h (long_width w)
 defined_kind r (K.Signed w) d h = rw h (long_width w)
 defined_kind r (K.Wide s) d h = tt
 
-defined_sequence : (r : List TypeInfo) (t : ℕ) (e : Bool) (d : Option TypeDef) →
-    Defined r (sequence_layout t e) d
-defined_sequence r t true d = tt
-defined_sequence r t false d = tt
+defined_sequence : (r : List TypeInfo) (t : ℕ) (e byte : Bool) (d : Option TypeDef) →
+    Defined r (sequence_layout t e byte) d
+defined_sequence r t true byte d = tt
+defined_sequence r t false true d = tt
+defined_sequence r t false false d = tt
+
+defined_array : (r : List TypeInfo) (n t : ℕ) (byte : Bool) (d : Option TypeDef) →
+    Defined r (array_layout n t byte) d
+defined_array r n t true d = tt
+defined_array r n t false d = tt
 
 defined_compact : (r : List TypeInfo) (o : Option Target) (d : Option TypeDef) →
     compact_target_of_shape r d ≡ o → Defined r (compact_layout o) d
@@ -87,8 +93,10 @@ defined_compact r None d e = tt
 defined_sized : (r : List TypeInfo) (d : TypeDef) → Defined r (sized_layout r d) (Some d)
 defined_sized r (Def.Composite fs) = tt
 defined_sized r (Def.Variant as') = refl
-defined_sized r (Def.Sequence t) = defined_sequence r t.0 (is_empty r t.0) (Some (Def.Sequence t))
-defined_sized r (Def.Array n t) = tt
+defined_sized r (Def.Sequence t) =
+    defined_sequence r t.0 (is_empty r t.0) (is_byte (shape r t.0)) (Some (Def.Sequence t))
+defined_sized r (Def.Array n t) =
+    defined_array r n t.0 (is_byte (shape r t.0)) (Some (Def.Array n t))
 defined_sized r (Def.Tuple ts) = tt
 defined_sized r (Def.Primitive p) = defined_kind r (kind_of p) (Some (Def.Primitive p)) refl
 defined_sized r (Def.Compact t) = defined_compact r (target_of r t.0) (Some (Def.Compact t)) refl
@@ -156,6 +164,7 @@ Told r t v what.Empty = json_of r t v ≡ json.null
 Told r t v (what.Bool b) = json_of r t v ≡ json.boolean b
 Told r t v (what.Char c) = json_of r t v ≡ json.string (encode_utf8 c)
 Told r t v what.Text = (s : List ℕ) × (text_of v ≡ Some s) × (json_of r t v ≡ json.string s)
+Told r t v what.Bytes = (s : List ℕ) × (bytes_of v ≡ Some s) × (json_of r t v ≡ bytes_json s)
 Told r t v (what.Unsigned n) = (is_long (shape r t) ≡ false → n < 2 ^ 64)
     × (json_of r t v ≡ unsigned_by (is_long (shape r t)) n)
 Told r t v (what.Signed z) = (is_long (shape r t) ≡ false → FitsSigned w64 z)
@@ -246,6 +255,7 @@ told_by r t (tree.leaf tree.unit) b are h = refl
 told_by r t (tree.leaf (tree.bool x)) b are h = refl
 told_by r t (tree.leaf (tree.char c)) b are h = refl
 told_by r t (tree.leaf (tree.text s)) b are h = (s, refl, refl)
+told_by r t (tree.leaf (tree.bytes s)) b are h = (s, refl, refl)
 told_by r t (tree.leaf (tree.unsigned n)) b are h = unsigned_told r t n h.0 b are h.1 h.2 h.3
 told_by r t (tree.leaf (tree.signed z)) b are h = signed_told r t h.0 z b are h.1 h.2 h.3
 told_by r t (tree.leaf (tree.wide s)) b are h = refl
@@ -285,6 +295,15 @@ text_is s found text e f h =
     ∙ h.1 in
     let is : text.now ≡ h.0 = cc in
     h.2 ∙ ap json.string (sym is)
+
+pub bytes_are : (s : Seen) (found : Option (Bor (List ℕ))) (bytes : Bor (List ℕ)) →
+    option_map (λ x. x.now) found ≡ bytes_of s.tree → found ≡ Some bytes →
+    Told s.types s.ty s.tree what.Bytes → json_seen s ≡ bytes_json bytes.now
+bytes_are s found bytes e f h =
+    let same : Some bytes.now ≡ Some h.0 = ap (option_map (λ (x : Bor (List ℕ)). x.now)) (sym f) ∙ e
+    ∙ h.1 in
+    let is : bytes.now ≡ h.0 = cc in
+    h.2 ∙ ap bytes_json (sym is)
 
 -- the fields that were found are those of the node's type
 pub fields_at_node : (s : Seen) (types : List TypeInfo) (t : ℕ)

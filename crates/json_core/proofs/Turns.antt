@@ -1,42 +1,43 @@
 -- The tokens of an object as its members are written one after the other.
-use Rattle.std.proofs.Common.{◌≡◌, ℕ, zero, suc, ◌+◌, ◌-◌, ◌<◌, ◌≤◌, List, [], ◌∷◌, ◌++◌, length, drop, get_or, Some, refl, sym, ap, ap₂, ◌∙◌, subst, arith, append_assoc, get_or-take, get_or-drop}
+use Rattle.std.proofs.Common.{◌≡◌, ℕ, zero, suc, ◌+◌, ◌-◌, ◌<◌, ◌≤◌, List, [], ◌∷◌, ◌++◌, length, drop, get_or, Some, refl, sym, ap, ap₂, ◌∙◌, subst, arith, get_or-take, get_or-drop}
 use Rattle.std.specs.Prelude.{slice_range, slice_get, unwrap_or, option_and_then, IsSome}
 use Rattle.std.specs.List.{AllByRecursion}
 use Rattle.std.proofs.lemmas.List.{drop_more}
 use Rattle.std.proofs.lemmas.Option.{get_or_from_slice_get}
 use Rattle.std.proofs.Math.ListN.{get_or-append, drop_of_length-le}
-use Rattle.json.specs.Token.{Token, begin_object, end_object, key}
-use Rattle.json.specs.Tree.{json_tokens, members_tokens}
-use Rattle.serde_json.specs.Data.{Data, Members, no_members, object}
-use Rattle.serde_json.specs.Written.{outline, members_outline}
+use Rattle.json.specs.Token.{Token, begin_object, end_object, begin_array, end_array, key, number}
+use Rattle.json.specs.Tree.{json_tokens, items_tokens, members_tokens}
+use Rattle.serde_json.specs.Data.{Data, Items, Members, no_items, item, no_members, array, object}
+use Rattle.serde_json.specs.Written.{outline, items_outline, members_outline}
 use Rattle.registry_core.specs.declared.definition.Field.{Field}
 use Rattle.json_core.specs.declared.orders.Keys.TheVariants as keys
 use Rattle.json_core.specs.Ordered.{OrdersView, AreKeys, Grows}
-use Rattle.json_core.specs.Tokens.{name_at, data_at, members_at, members_in_order}
+use Rattle.json_core.specs.Tokens.{Text, prints, name_at, data_at, members_at, members_in_order}
+use Rattle.json_core.proofs.Outputs.{prints_again}
 use Rattle.json_core.proofs.Ordered.{IsNamedAt, positions_count}
 
-pub one_member : (old ts : List Token) (k : List ℕ) →
-    (((old ++ begin_object ∷ []) ++ key k ∷ []) ++ ts) ++ end_object ∷ []
-    ≡ old ++ (begin_object ∷ key k ∷ (ts ++ end_object ∷ []))
-one_member old ts k = simp append_assoc
+pub one_member : (old : Text) (ts : List Token) (k : List ℕ) →
+    prints (prints (prints (prints old (begin_object ∷ [])) (key k ∷ [])) ts) (end_object ∷ [])
+    ≡ prints old (begin_object ∷ key k ∷ (ts ++ end_object ∷ []))
+one_member old ts k = simp prints_again
 
-next_member : (old ts us : List Token) (k : List ℕ) →
-    ((old ++ key k ∷ []) ++ ts) ++ us ≡ old ++ (key k ∷ (ts ++ us))
-next_member old ts us k = simp append_assoc
+next_member : (old : Text) (ts us : List Token) (k : List ℕ) →
+    prints (prints (prints old (key k ∷ [])) ts) us ≡ prints old (key k ∷ (ts ++ us))
+next_member old ts us k = simp prints_again
 
 -- ---- in the order of the fields
 
 -- a member that is written is no longer left
-pub in_order_turn : (old new : List Token) (f : Field) (fs : List Field) (d : Data)
+pub in_order_turn : (old new : Text) (f : Field) (fs : List Field) (d : Data)
     (ds : List Data) (n : List ℕ) → Some n ≡ f.name →
-    new ≡ (old ++ key n ∷ []) ++ json_tokens (outline d) →
-    new ++ members_tokens (members_outline (members_in_order fs ds))
-    ≡ old ++ members_tokens (members_outline (members_in_order (f ∷ fs) (d ∷ ds)))
+    new ≡ prints (prints old (key n ∷ [])) (json_tokens (outline d)) →
+    prints new (members_tokens (members_outline (members_in_order fs ds)))
+    ≡ prints old (members_tokens (members_outline (members_in_order (f ∷ fs) (d ∷ ds))))
 in_order_turn old new f fs d ds n e said =
-    ap (λ ts. ts ++ members_tokens (members_outline (members_in_order fs ds))) said
+    ap (λ w. prints w (members_tokens (members_outline (members_in_order fs ds)))) said
     ∙ next_member old (json_tokens (outline d))
     (members_tokens (members_outline (members_in_order fs ds))) n
-    ∙ ap (λ o. old ++ (key (unwrap_or o []) ∷ (json_tokens (outline d)
+    ∙ ap (λ o. prints old (key (unwrap_or o []) ∷ (json_tokens (outline d)
     ++ members_tokens (members_outline (members_in_order fs ds))))) e
 
 -- ---- in the order of keys
@@ -91,7 +92,7 @@ pub name_read : (fs : List Field) (p : ℕ) (f : Field) → IsNamedAt fs p → f
 name_read fs p f h is = let same : f ≡ h.0 = is ∙ get_or_from_slice_get fs p h.0 f h.1 in
     subst (λ (g : Field). IsSome g.name) (sym same) h.2
 
-name_is : (fs : List Field) (p : ℕ) (f : Field) (n : List ℕ) → IsNamedAt fs p →
+pub name_is : (fs : List Field) (p : ℕ) (f : Field) (n : List ℕ) → IsNamedAt fs p →
     f ≡ get_or fs p f → Some n ≡ f.name → name_at fs p ≡ n
 name_is fs p f n h is e = let same : f ≡ h.0 = is ∙ get_or_from_slice_get fs p h.0 f h.1 in
     ap (λ o. unwrap_or (option_and_then (λ (g : Field). g.name) o) []) (h.1 ∙ ap Some (sym same))
@@ -99,29 +100,31 @@ name_is fs p f n h is e = let same : f ≡ h.0 = is ∙ get_or_from_slice_get fs
 
 -- a member that is written is no longer left
 pub sorted_turn : (fs : List Field) (ds : List Data) (order : List ℕ) (turn p : ℕ) (f : Field)
-    (n : List ℕ) (d : Data) (old new : List Token) → Turn fs order turn p → f ≡ get_or fs p f →
-    Some n ≡ f.name → data_at ds p ≡ d → new ≡ (old ++ key n ∷ []) ++ json_tokens (outline d) →
-    new ++ members_tokens (members_outline (members_at fs ds (drop (turn + 1) order)))
-    ≡ old ++ members_tokens (members_outline (members_at fs ds (drop turn order)))
-sorted_turn fs ds order turn p f n d old new t is named item said =
+    (n : List ℕ) (d : Data) (old new : Text) → Turn fs order turn p → f ≡ get_or fs p f →
+    Some n ≡ f.name → data_at ds p ≡ d →
+    new ≡ prints (prints old (key n ∷ [])) (json_tokens (outline d)) →
+    prints new (members_tokens (members_outline (members_at fs ds (drop (turn + 1) order))))
+    ≡ prints old (members_tokens (members_outline (members_at fs ds (drop turn order))))
+sorted_turn fs ds order turn p f n d old new t is named read said =
     let ms = members_tokens (members_outline (members_at fs ds (drop (turn + 1) order))) in
-    ap (λ ts. ts ++ ms) said ∙ next_member old (json_tokens (outline d)) ms n
-    ∙ ap₂ (λ m x. old ++ (key m ∷ (json_tokens (outline x) ++ ms)))
-    (sym (name_is fs p f n t.field is named)) (sym item)
-    ∙ ap (λ ps. old ++ members_tokens (members_outline (members_at fs ds ps))) (sym t.here)
+    ap (λ w. prints w ms) said ∙ next_member old (json_tokens (outline d)) ms n
+    ∙ ap₂ (λ m x. prints old (key m ∷ (json_tokens (outline x) ++ ms)))
+    (sym (name_is fs p f n t.field is named)) (sym read)
+    ∙ ap (λ ps. prints old (members_tokens (members_outline (members_at fs ds ps)))) (sym t.here)
 
 -- ---- the whole object
 
 -- where no member is left, the object is written
-pub object_whole : (old begun last new : List Token) (all left : Members) (d : Data) →
-    begun ≡ old ++ begin_object ∷ [] → last ++ members_tokens (members_outline left)
-    ≡ begun ++ members_tokens (members_outline all) → left ≡ no_members →
-    new ≡ last ++ end_object ∷ [] → d ≡ object all → new ≡ old ++ json_tokens (outline d)
+pub object_whole : (old begun last new : Text) (all left : Members) (d : Data) →
+    begun ≡ prints old (begin_object ∷ []) → prints last (members_tokens (members_outline left))
+    ≡ prints begun (members_tokens (members_outline all)) → left ≡ no_members →
+    new ≡ prints last (end_object ∷ []) → d ≡ object all →
+    new ≡ prints old (json_tokens (outline d))
 object_whole old begun last new all left d begins told none ends is =
     let ms = members_tokens (members_outline all) in
-    ends ∙ ap (λ l. last ++ members_tokens (members_outline l)) (sym none) ∙ told
-    ∙ ap (λ ts. ts ++ ms) begins ∙ append_assoc old (begin_object ∷ []) ms
-    ∙ ap (λ x. old ++ json_tokens (outline x)) (sym is)
+    ends ∙ ap (λ l. prints last (members_tokens (members_outline l))) (sym none) ∙ told
+    ∙ ap (λ w. prints w ms) begins ∙ prints_again old (begin_object ∷ []) ms
+    ∙ ap (λ x. prints old (json_tokens (outline x))) (sym is)
 
 -- nothing is left behind the last field or the last child
 pub no_field_left : (fs : List Field) (ds : List Data) → length fs ≡ 0 →
@@ -138,3 +141,32 @@ no_item_left (f ∷ fs) (d ∷ ds) e = absurd cc
 pub no_position_left : (fs : List Field) (ds : List Data) (order : List ℕ) (turn : ℕ) →
     length order ≤ turn → members_at fs ds (drop turn order) ≡ no_members
 no_position_left fs ds order turn h = ap (members_at fs ds) (drop_of_length-le order h)
+
+-- ---- an array
+
+-- an item that is written is no longer left
+pub item_turn : (old new : Text) (d : Data) (ds : Items) →
+    new ≡ prints old (json_tokens (outline d)) →
+    prints new (items_tokens (items_outline ds))
+    ≡ prints old (items_tokens (items_outline (item d ds)))
+item_turn old new d ds said = ap (λ w. prints w (items_tokens (items_outline ds))) said
+    ∙ prints_again old (json_tokens (outline d)) (items_tokens (items_outline ds))
+
+-- where no item is left, the array is written
+pub array_whole : (old begun last new : Text) (all : Items) →
+    begun ≡ prints old (begin_array ∷ []) → prints last (items_tokens (items_outline no_items))
+    ≡ prints begun (items_tokens (items_outline all)) → new ≡ prints last (end_array ∷ []) →
+    new ≡ prints old (json_tokens (outline (array all)))
+array_whole old begun last new all begins told ends =
+    ends ∙ told ∙ ap (λ w. prints w (items_tokens (items_outline all))) begins
+    ∙ prints_again old (begin_array ∷ []) (items_tokens (items_outline all))
+
+-- ---- a count
+
+pub count_whole : (old begun named said new : Text) (k : List ℕ) (n : List ℕ) →
+    begun ≡ prints old (begin_object ∷ []) → named ≡ prints begun (key k ∷ []) →
+    said ≡ prints named (number n ∷ []) → new ≡ prints said (end_object ∷ []) →
+    new ≡ prints old (begin_object ∷ key k ∷ number n ∷ end_object ∷ [])
+count_whole old begun named said new k n e f g h = h
+    ∙ ap (λ w. prints w (end_object ∷ [])) (g ∙ ap (λ w. prints w (number n ∷ []))
+    (f ∙ ap (λ w. prints w (key k ∷ [])) e)) ∙ one_member old (number n ∷ []) k

@@ -1,5 +1,6 @@
 -- The positions of fields in the order of their names' bytes, and what is kept of them.
-use Rattle.std.specs.Prelude.{◌≡◌, ℕ, suc, ◌+◌, ◌≤◌, List, [], ◌∷◌, ◌++◌, length, map, slice_range, Bool, if◌then◌else◌, Option, Some, None, option_map, option_and_then, is_some, IsSome, unwrap_or, slice_get}
+use Rattle.std.specs.Prelude.{◌≡◌, ℕ, suc, ◌+◌, ◌<◌, ◌≤◌, List, [], ◌∷◌, ◌++◌, length, map, slice_range, Bool, if◌then◌else◌, Option, Some, None, option_map, option_and_then, is_some, IsSome, unwrap_or, slice_get}
+use Rattle.std.specs.Bool.{OnTrue}
 use Rattle.std.specs.List.{AllByRecursion, range_with_len}
 use Rattle.std.specs.Ordering.{nat_cmp}
 use Rattle.std.specs.Cmp.Lexicographic.{slice_cmp}
@@ -11,6 +12,9 @@ use Rattle.registry_core.specs.declared.definition.TypeDef.TheVariants as Def
 use Rattle.registry_core.specs.declared.type_info.TypeInfo.{TypeInfo}
 use Rattle.graph_core.specs.Types.{shape}
 use Rattle.json_core.specs.declared.orders.Place.{Place}
+use Rattle.json.specs.Print.{escape}
+use Rattle.json_core.specs.Tokens.{name_at}
+use Rattle.json_core.specs.declared.orders.Known.{Known}
 use Rattle.json_core.specs.declared.orders.Keys.{Keys}
 use Rattle.json_core.specs.declared.orders.Keys.TheVariants as keys
 
@@ -67,13 +71,21 @@ AreKeys ps fs keys.InOrder = key_order fs ≡ Some (range_with_len 0 (length fs)
 AreKeys ps fs (keys.Sorted start) = (start + length fs ≤ length ps)
     × (key_order fs ≡ Some (slice_range ps start (start + length fs)))
 
+-- no name needs an escape
+abbrev pub ArePlain : List Field → Type 0
+ArePlain fs = (i : ℕ) → i < length fs → escape (name_at fs i) ≡ name_at fs i
+
+-- and if it is said, no name of them needs an escape
+abbrev pub IsKnown : List ℕ → List Field → Known → Type 0
+IsKnown ps fs k = AreKeys ps fs k.keys × OnTrue k.plain (ArePlain fs)
+
 -- those of the fields at a place, where it has any
-abbrev pub AreKeysOf : List ℕ → Option (List Field) → Keys → Type 0
+abbrev pub AreKeysOf : List ℕ → Option (List Field) → Known → Type 0
 AreKeysOf ps None k = Unit {0}
-AreKeysOf ps (Some fs) k = AreKeys ps fs k
+AreKeysOf ps (Some fs) k = IsKnown ps fs k
 
 -- all that are known are
-abbrev pub AreKnown : List TypeInfo → List ℕ → List (Place × Keys) → Type 0
+abbrev pub AreKnown : List TypeInfo → List ℕ → List (Place × Known) → Type 0
 AreKnown r ps es = AllByRecursion (λ e. AreKeysOf ps (fields_at r e.0) e.1) es
 
 -- of the same registry, and positions were added behind the others, if any

@@ -3,11 +3,15 @@
 
 mod defined;
 mod fields;
+mod hexadecimal;
 mod integers;
 pub mod laws;
 mod names;
 mod nodes;
 mod orders;
+mod output;
+mod places;
+mod plain;
 mod printing;
 mod writing;
 

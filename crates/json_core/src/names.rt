@@ -2,8 +2,10 @@
 
 ghost use Rattle.std.specs.Prelude.{◌≡◌, ◌<◌, ◌^◌, ◌↔◌, Some, map, length, option_map, IfOk, IsSome, IsTrue};
 ghost use Rattle.std.specs.List.{range_with_len};
-ghost use Rattle.json_core.specs.Ordered.{key_order};
+ghost use Rattle.std.specs.Bool.{OnTrue};
+ghost use Rattle.json_core.specs.Ordered.{ArePlain, key_order};
 
+use crate::plain::is_plain;
 use registry_core::Field;
 use std::alloc::{AllocError, Global};
 use std::collections::BTreeMap;
@@ -48,6 +50,20 @@ pub(crate) fn counts_up(order: &[u32]) -> bool
     'places: for (place, position) in order.iter().enumerate() {
         if *position as usize != place {
             return false;
+        }
+    }
+    true
+}
+
+/// Does none of the names need an escape? A field without one is none that does.
+pub(crate) fn are_plain(fields: &[Field]) -> bool
+    ensures { OnTrue result (ArePlain fields.now) }
+{
+    'fields: for field in fields {
+        if let Some(name) = &field.name {
+            if !is_plain(name.as_str()) {
+                return false;
+            }
         }
     }
     true

@@ -11,6 +11,7 @@ ghost use Rattle.json_core.specs.Ordered.{fields_at, Grows};
 
 use crate::defined::{composite_fields, defined_arm, is_long, is_long_compact};
 use crate::fields::fields_json;
+use crate::hexadecimal::bytes_json;
 use crate::integers::{signed_json, unsigned_json, wide_json};
 use crate::orders::{Orders, Place};
 use registry_core::{Arm, TypeId};
@@ -88,6 +89,7 @@ fn with_items(
         What::Bool(x) => Ok(Value::Bool(x)),
         What::Char(x) => char_json(alloc, x),
         What::Text => Value::try_from_str(alloc, node.text().unwrap()),
+        What::Bytes => bytes_json(alloc, node.bytes().unwrap()),
         What::Unsigned(n) => unsigned_json(alloc, is_long(checked, ty), n),
         What::Signed(n) => signed_json(alloc, is_long(checked, ty), n),
         What::Wide(bytes) => wide_json(alloc, bytes),

@@ -1,9 +1,9 @@
 //! The orders of keys that are known in one call: each is found once, for each composite and each arm that is met.
 
 ghost use Rattle.std.specs.Prelude.{◌≡◌, ◌+◌, ◌<◌, ◌^◌, ℕ, List, [], ◌++◌, Some, length, slice_index, IfOk, IfSome};
-ghost use Rattle.json_core.specs.Ordered.{fields_at, AreKeys, Grows};
+ghost use Rattle.json_core.specs.Ordered.{fields_at, AreKeys, IsKnown, Grows};
 
-use crate::names::{counts_up, key_order};
+use crate::names::{are_plain, counts_up, key_order};
 use registry_core::Field;
 use std::alloc::{AllocError, Global};
 use std::collections::BTreeMap;
@@ -30,6 +30,15 @@ pub(crate) enum Keys {
     Sorted { start: usize },
 }
 
+/// What is known of the fields at a place.
+#[derive(Clone, Copy)]
+pub(crate) struct Known {
+    /// How their values are shown.
+    pub(crate) keys: Keys,
+    /// No name needs an escape; it isn't said of a single field.
+    pub(crate) plain: bool,
+}
+
 /// How the value of one field is shown, or of none.
 fn keys_of_few(fields: &[Field]) -> Option<Keys>
     ensures { IfSome result (λ keys. (positions : List ℕ) → AreKeys positions fields.now keys) }
@@ -43,27 +52,37 @@ fn keys_of_few(fields: &[Field]) -> Option<Keys>
 }
 
 /// How the values of the fields are shown. The order of names that are out of order is kept behind the positions.
-fn find_keys(alloc: Global, fields: &[Field], positions: &mut Vec<u32>) -> Result<Keys, AllocError>
+fn find_keys(alloc: Global, fields: &[Field], positions: &mut Vec<u32>) -> Result<Known, AllocError>
     requires { length fields.now < 2 ^ 32 }
     ensures more { (more : List ℕ) × (positions.new.items ≡ positions.old.items ++ more) }
-    ensures keys { IfOk result (AreKeys positions.new.items fields.now) }
+    ensures keys { IfOk result (IsKnown positions.new.items fields.now) }
 {
     let Some(order) = key_order(alloc, fields)? else {
-        return Ok(Keys::Unnamed);
+        return Ok(Known {
+            keys: Keys::Unnamed,
+            plain: false,
+        });
     };
+    let plain = are_plain(fields);
     if counts_up(&order) {
-        return Ok(Keys::InOrder);
+        return Ok(Known {
+            keys: Keys::InOrder,
+            plain,
+        });
     }
     let start = positions.len();
     positions.extend_from_slice(&order)?;
-    Ok(Keys::Sorted { start })
+    Ok(Known {
+        keys: Keys::Sorted { start },
+        plain,
+    })
 }
 
 /// The orders of keys that are known, four bytes a field and a small entry for each place that was met.
 #[derive(Drop)]
 pub(crate) struct Orders<'r> {
     checked: &'r Checked,
-    known: BTreeMap<Place, Keys>,
+    known: BTreeMap<Place, Known>,
     positions: Vec<u32>,
 }
 
@@ -111,14 +130,14 @@ impl<'r> Orders<'r> {
         alloc: Global,
         place: Place,
         fields: &[Field],
-    ) -> Result<Keys, AllocError>
+    ) -> Result<Known, AllocError>
         requires fields { fields_at self.old.types place ≡ Some fields.now }
         requires few { length fields.now < 2 ^ 32 }
         ensures grows { Grows self.old self.new }
-        ensures keys { IfOk result (AreKeys self.new.positions fields.now) }
+        ensures keys { IfOk result (IsKnown self.new.positions fields.now) }
     {
         match keys_of_few(fields) {
-            Some(keys) => Ok(keys),
+            Some(keys) => Ok(Known { keys, plain: false }),
             None => self.kept_keys(alloc, place, fields),
         }
     }
@@ -129,17 +148,17 @@ impl<'r> Orders<'r> {
         alloc: Global,
         place: Place,
         fields: &[Field],
-    ) -> Result<Keys, AllocError>
+    ) -> Result<Known, AllocError>
         requires fields { fields_at self.old.types place ≡ Some fields.now }
         requires few { length fields.now < 2 ^ 32 }
         ensures grows { Grows self.old self.new }
-        ensures keys { IfOk result (AreKeys self.new.positions fields.now) }
+        ensures keys { IfOk result (IsKnown self.new.positions fields.now) }
     {
-        if let Some(keys) = self.known.get(&place) {
-            return Ok(*keys);
+        if let Some(known) = self.known.get(&place) {
+            return Ok(*known);
         }
-        let keys = find_keys(alloc, fields, &mut self.positions)?;
-        self.known.insert(place, keys)?;
-        Ok(keys)
+        let known = find_keys(alloc, fields, &mut self.positions)?;
+        self.known.insert(place, known)?;
+        Ok(known)
     }
 }

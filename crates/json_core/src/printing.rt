@@ -6,12 +6,15 @@ ghost use Rattle.json_core.specs.Json.{json_text};
 ghost use Rattle.json_core.specs.Printed.{written_of, is_write};
 
 use crate::orders::Orders;
+use crate::output::Output;
 use crate::writing::write_node;
-use json::Writer;
 use scale_core::Sink;
 use std::alloc::{AllocError, Allocator, Global};
 use std::io::Write;
 use value_core::{Value, WriteFault, send};
+
+/// Room for the text of a small value, in bytes.
+const FIRST_ROOM: usize = 256;
 
 /// Why a value was not printed whole.
 #[derive(Clone, Copy, Debug, PartialEq, Eq)]
@@ -25,20 +28,21 @@ pub enum PrintFault {
 /// A value's JSON as text: `serde_json`'s compact text of `to_json`, with no space and no line end. The value stays as
 /// it was.
 ///
-/// It is written straight from the value into the one text. Beside that text it takes memory for the orders of keys that
-/// it meets, four bytes a field and an entry for each composite and each arm, and 40 bytes for each child of an object
-/// that is open, where the names of its fields are out of order. It takes time in proportion to the text, a look-up for
-/// each composite and each arm of two fields or more, and the time to sort the names of each type that it meets. The calls
-/// nest as deep as the value's levels, which are at most 1025; those take some 650 KiB of stack.
+/// It is written straight from the value into the one text, whose room may be up to twice as long, and a quarter longer above a mebibyte. Beside
+/// that text it takes memory for the orders of keys that it meets, four bytes a field and an entry for each composite and
+/// each arm; 40 bytes for each child of an object that is open, where the names of its fields are out of order; and room
+/// for the longest of the texts that have an escape. It takes time in proportion to the text, a look-up for each composite
+/// and each arm of two fields or more, and the time to sort the names of each type that it meets. The calls nest as deep
+/// as the value's levels, which are at most 1025; those take some 650 KiB of stack.
 ///
 /// Refuses want of memory, and nothing is kept then.
 pub fn json_text<A: Allocator>(alloc: Global, value: &Value<'_, A>) -> Result<String, AllocError>
     ensures { IfOk result (λ text. string_bytes text ≡ json_text value.now) }
 {
-    let mut out = Writer::new(Vec::new(alloc));
+    let mut out = Output::with_room(alloc, FIRST_ROOM)?;
     let mut orders = Orders::new(alloc, value.checked());
     write_node(alloc, &mut out, &mut orders, &value.root())?;
-    Ok(unsafe { String::from_utf8_unchecked(out.into_inner()) })
+    Ok(out.into_text())
 }
 
 /// Writes a value as JSON: the text that `json_text` gives, without a line end. It is made whole before the first
@@ -65,9 +69,10 @@ pub fn print<A: Allocator, W: Write>(
     ensures memory { IsErrOf result PrintFault.OutOfMemory → sink.new ≡ sink.old }
     ensures failed { sink.new.failed ≡ sink.old.failed || is_write result }
 {
-    let Ok(text) = json_text(alloc, value) else {
+    let Ok(mut text) = json_text(alloc, value) else {
         return Err(PrintFault::OutOfMemory);
     };
+    text.shrink_to_fit();
     match send(sink, text.as_bytes()) {
         Ok(()) => Ok(()),
         Err(fault) => Err(PrintFault::Write(fault)),

@@ -3,76 +3,80 @@
 ghost use Rattle.std.specs.Prelude.{◌≡◌, ◌<◌, ◌^◌, [], ◌∷◌, Some, length, map, false, codes, IfOk, FitsSigned};
 ghost use Rattle.std.specs.Int.{w64};
 ghost use Rattle.std.specs.Char.{encode_utf8};
+ghost use Rattle.std.specs.Bool.{OnTrue};
 ghost use Rattle.json.specs.Token.{string};
 ghost use Rattle.serde_json.specs.Data.{array, object, number, unsigned, member, no_members};
 ghost use Rattle.serde_json.specs.View.{items_of};
 ghost use Rattle.value_core.specs.Shown.{children_of};
 ghost use Rattle.json_core.specs.Defined.{unsigned_by, signed_by};
-ghost use Rattle.json_core.specs.Json.{wide_json, json_seen, fields_json};
-ghost use Rattle.json_core.specs.Ordered.{fields_at, AreKeys, Grows};
+ghost use Rattle.json_core.specs.Json.{bytes_json, wide_json, json_seen, fields_json};
+ghost use Rattle.json_core.specs.Ordered.{fields_at, AreKeys, ArePlain, Grows};
 ghost use Rattle.json_core.specs.Tokens.{Adds, AddsValue};
 ghost use Rattle.json_core.specs.declared.orders.Keys.TheVariants.{InOrder, Sorted};
 
 use crate::defined::{composite_fields, defined_arm, is_long, is_long_compact};
 use crate::names::name_of;
-use crate::orders::{Keys, Orders, Place};
-use json::Writer;
+use crate::orders::{Keys, Known, Orders, Place};
+use crate::output::Output;
 use registry_core::Field;
 use std::alloc::{AllocError, Global};
 use value_core::{NodeRef, What};
 
 /// An unsigned integer: a number, or a text of its decimal digits where it is long.
-fn write_unsigned(out: &mut Writer, is_long: bool, n: u128) -> Result<(), AllocError>
+fn write_unsigned(out: &mut Output, is_long: bool, n: u128) -> Result<(), AllocError>
     requires { is_long ≡ false → n < 2 ^ 64 }
     ensures { AddsValue result out.old out.new (unsigned_by is_long n) }
 {
     if is_long {
-        let mut buffer = itoa::Buffer::new();
-        out.string(buffer.format(n))
+        out.quoted_unsigned(n)
     } else {
-        out.u64(n as u64)
+        out.unsigned(n as u64)
     }
 }
 
 /// A signed integer: a number, or a text of its decimal digits where it is long.
-fn write_signed(out: &mut Writer, is_long: bool, n: i128) -> Result<(), AllocError>
+fn write_signed(out: &mut Output, is_long: bool, n: i128) -> Result<(), AllocError>
     requires { is_long ≡ false → FitsSigned w64 n }
     ensures { AddsValue result out.old out.new (signed_by is_long n) }
 {
     if is_long {
-        let mut buffer = itoa::Buffer::new();
-        out.string(buffer.format(n))
+        out.quoted_signed(n)
     } else {
-        out.i64(n as i64)
+        out.signed(n as i64)
     }
 }
 
+/// A run of bytes, in hexadecimal.
+fn write_bytes(out: &mut Output, bytes: &[u8]) -> Result<(), AllocError>
+    ensures { AddsValue result out.old out.new (bytes_json bytes.now) }
+{
+    out.hex(bytes)
+}
+
 /// An integer of 256 bits, whose bytes are here with the lowest first.
-fn write_wide(alloc: Global, out: &mut Writer, bytes: [u8; 32]) -> Result<(), AllocError>
+fn write_wide(out: &mut Output, bytes: [u8; 32]) -> Result<(), AllocError>
     ensures { AddsValue result out.old out.new (wide_json bytes) }
 {
     let mut highest_first = bytes;
     highest_first.reverse();
-    let digits = hex::encode(alloc, highest_first.as_slice())?;
-    let text = format!(in alloc; "0x{digits}")?;
-    out.string(text.as_str())
+    write_bytes(out, &highest_first)
 }
 
 /// A text of one character.
-fn write_char(out: &mut Writer, x: char) -> Result<(), AllocError>
+fn write_char(alloc: Global, out: &mut Output, x: char) -> Result<(), AllocError>
     ensures { Adds result out.old out.new (string (encode_utf8 x) ∷ []) }
 {
     let mut bytes = [0; 4];
-    out.string(x.encode_utf8(&mut bytes))
+    out.string(alloc, x.encode_utf8(&mut bytes))
 }
 
 /// How many there are, where the elements take no bytes.
-fn write_count(out: &mut Writer, count: u32) -> Result<(), AllocError>
+fn write_count(alloc: Global, out: &mut Output, count: u32) -> Result<(), AllocError>
     ensures { AddsValue result out.old out.new (object (member (codes "count") (number (unsigned count)) no_members)) }
 {
     out.begin_object()?;
-    out.key("count")?;
-    out.u64(u64::from(count))?;
+    out.key(alloc, "count", true)?;
+    out.unsigned(u64::from(count))?;
     out.end_object()
 }
 
@@ -95,7 +99,7 @@ fn children<'v, 'r>(
 #[cycle(write)]
 fn write_items(
     alloc: Global,
-    out: &mut Writer,
+    out: &mut Output,
     orders: &mut Orders<'_>,
     node: &NodeRef<'_, '_>,
 ) -> Result<(), AllocError>
@@ -110,24 +114,27 @@ fn write_items(
     out.end_array()
 }
 
-/// The children of a node as an object, each at the name of its field, where the names are in order.
+/// The children of a node as an object, each at the name of its field, where the names are in order; `plain` says that no
+/// name needs an escape.
 #[cycle(write)]
 fn write_in_order(
     alloc: Global,
-    out: &mut Writer,
+    out: &mut Output,
     orders: &mut Orders<'_>,
     fields: &[Field],
+    plain: bool,
     node: &NodeRef<'_, '_>,
 ) -> Result<(), AllocError>
     requires types { orders.old.types ≡ node.now.types }
     requires keys { AreKeys orders.old.positions fields.now InOrder }
+    requires plain { OnTrue plain (ArePlain fields.now) }
     requires count { length fields.now ≡ length (children_of node.now) }
     ensures adds { AddsValue result out.old out.new (fields_json fields.now (items_of (map json_seen (children_of node.now)))) }
     ensures grows { Grows orders.old orders.new }
 {
     out.begin_object()?;
     'members: for (field, child) in fields.iter().zip(node.children()) {
-        out.key(name_of(field))?;
+        out.key(alloc, name_of(field), plain)?;
         write_node(alloc, out, orders, &child)?;
     }
     out.end_object()
@@ -137,14 +144,16 @@ fn write_in_order(
 #[cycle(write)]
 fn write_sorted(
     alloc: Global,
-    out: &mut Writer,
+    out: &mut Output,
     orders: &mut Orders<'_>,
     fields: &[Field],
     start: usize,
+    plain: bool,
     node: &NodeRef<'_, '_>,
 ) -> Result<(), AllocError>
     requires types { orders.old.types ≡ node.now.types }
     requires keys { AreKeys orders.old.positions fields.now (Sorted start) }
+    requires plain { OnTrue plain (ArePlain fields.now) }
     requires count { length fields.now ≡ length (children_of node.now) }
     ensures adds { AddsValue result out.old out.new (fields_json fields.now (items_of (map json_seen (children_of node.now)))) }
     ensures grows { Grows orders.old orders.new }
@@ -153,7 +162,7 @@ fn write_sorted(
     out.begin_object()?;
     'members: for turn in 0..fields.len() {
         let position = orders.position(start, turn) as usize;
-        out.key(name_of(&fields[position]))?;
+        out.key(alloc, name_of(&fields[position]), plain)?;
         write_node(alloc, out, orders, &children[position])?;
     }
     out.end_object()
@@ -163,7 +172,7 @@ fn write_sorted(
 #[cycle(write)]
 fn write_fields(
     alloc: Global,
-    out: &mut Writer,
+    out: &mut Output,
     orders: &mut Orders<'_>,
     place: Place,
     fields: &[Field],
@@ -176,10 +185,11 @@ fn write_fields(
     ensures adds { AddsValue result out.old out.new (fields_json fields.now (items_of (map json_seen (children_of node.now)))) }
     ensures grows { Grows orders.old orders.new }
 {
-    match orders.keys(alloc, place, fields)? {
+    let Known { keys, plain } = orders.keys(alloc, place, fields)?;
+    match keys {
         Keys::Unnamed => write_items(alloc, out, orders, node),
-        Keys::InOrder => write_in_order(alloc, out, orders, fields, node),
-        Keys::Sorted { start } => write_sorted(alloc, out, orders, fields, start, node),
+        Keys::InOrder => write_in_order(alloc, out, orders, fields, plain, node),
+        Keys::Sorted { start } => write_sorted(alloc, out, orders, fields, start, plain, node),
     }
 }
 
@@ -188,7 +198,7 @@ fn write_fields(
 #[inline(always)]
 pub(crate) fn write_node(
     alloc: Global,
-    out: &mut Writer,
+    out: &mut Output,
     orders: &mut Orders<'_>,
     node: &NodeRef<'_, '_>,
 ) -> Result<(), AllocError>
@@ -201,11 +211,12 @@ pub(crate) fn write_node(
     match node.what() {
         What::Empty => out.null(),
         What::Bool(x) => out.boolean(x),
-        What::Char(x) => write_char(out, x),
-        What::Text => out.string(node.text().unwrap()),
+        What::Char(x) => write_char(alloc, out, x),
+        What::Text => out.string(alloc, node.text().unwrap()),
+        What::Bytes => write_bytes(out, node.bytes().unwrap()),
         What::Unsigned(n) => write_unsigned(out, is_long(checked, ty), n),
         What::Signed(n) => write_signed(out, is_long(checked, ty), n),
-        What::Wide(bytes) => write_wide(alloc, out, bytes),
+        What::Wide(bytes) => write_wide(out, bytes),
         What::Compact(n) => write_unsigned(out, is_long_compact(checked, ty), n),
         What::Fields => match composite_fields(checked, ty) {
             Some(fields) => {
@@ -221,11 +232,11 @@ pub(crate) fn write_node(
                 arm: position,
             };
             out.begin_object()?;
-            out.key(arm.name.as_str())?;
+            out.key(alloc, arm.name.as_str(), false)?;
             write_fields(alloc, out, orders, place, arm.fields.as_slice(), node)?;
             out.end_object()
         }
         What::List => write_items(alloc, out, orders, node),
-        What::Count(count) => write_count(out, count),
+        What::Count(count) => write_count(alloc, out, count),
     }
 }

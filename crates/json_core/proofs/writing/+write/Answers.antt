@@ -1,32 +1,33 @@
-use Rattle.std.proofs.Common.{◌≡◌, [], ◌∷◌, ◌++◌, ◌+◌, length, map, drop, rules, arith, inl, inr, refl, ap, ap₂, sym, ◌∙◌}
+use Rattle.std.proofs.Common.{◌≡◌, [], ◌∷◌, ◌+◌, length, map, drop, rules, arith, inl, inr, refl, ap, ap₂, sym, ◌∙◌, subst}
 use Rattle.std.specs.Prelude.{slice_range}
+use Rattle.std.specs.Bool.{OnTrue}
 use Rattle.std.specs.Slice.Iter.{iter_rest}
 use Rattle.std.specs.Int.{w128}
 use Rattle.std.proofs.lemmas.Int.{to_z-of_z}
 use Rattle.std.proofs.lemmas.List.{length-map}
 use Rattle.std.proofs.lemmas.Result.{on_ok_weaker}
 use Rattle.json.specs.Token.{begin_object, end_object, key}
-use Rattle.json.specs.Tree.{json_tokens}
+use Rattle.json.specs.Tree.{json_tokens, items_tokens, members_tokens}
 use Rattle.serde_json.specs.Data.{object, member, no_members}
-use Rattle.serde_json.specs.Written.{outline}
+use Rattle.serde_json.specs.Written.{outline, items_outline, members_outline}
 use Rattle.serde_json.specs.View.{items_of}
 use Rattle.graph_core.specs.Types.{shape}
 use Rattle.value_core.specs.Shown.{children_of}
 use Rattle.json_core.specs.Json.{json_seen, fields_json}
-use Rattle.json_core.specs.Tokens.{members_at, members_in_order}
+use Rattle.json_core.specs.Tokens.{prints, members_at, members_in_order}
 use Rattle.json_core.proofs.Children.{children_below, jsons}
 use Rattle.json_core.proofs.Counts.{fields_count, arm_count, child_read, child_below, child_data}
 use Rattle.json_core.proofs.Known.{grows_not, grows_again}
+use Rattle.json_core.proofs.PlainNames.{AllPlain, plain_names, plain_rest, plain_first, plain_at}
 use Rattle.json_core.proofs.Ordered.{are_named, positions_are_named, positions_count, unnamed_json_is, in_order_json_is, sorted_json_is}
-use Rattle.json_core.proofs.Told.{told, long_here, long_compact_here, text_is, fields_at_node, no_fields_at_node, fields_are, no_fields_json, arm_there, arm_at_node, arm_is, arm_place, composite_place}
-use Rattle.json_core.proofs.Turns.{turn_at, named_behind, name_read, sorted_turn, one_member, object_whole, no_field_left, no_item_left, no_position_left}
+use Rattle.json_core.proofs.Told.{told, long_here, long_compact_here, text_is, bytes_are, fields_at_node, no_fields_at_node, fields_are, no_fields_json, arm_there, arm_at_node, arm_is, arm_place, composite_place}
+use Rattle.json_core.proofs.Turns.{name_is, in_order_turn, item_turn, array_whole, turn_at, named_behind, name_read, sorted_turn, one_member, object_whole, no_field_left, no_item_left, no_position_left}
 use Rattle.json_core.proofs.writing.+write.Goals as goal
 
 pub write_items-children-init : goal.write_items-children-init
 write_items-children-init t c = record {
   can = tt;
   ends = tt;
-  before = refl;
   told = search rules;
   below = rw (
     c.into_iter-child-iterator.ensures.into_iter_gives,
@@ -45,7 +46,8 @@ write_in_order-members-init t c =
       ends = tt;
       named = rw (gives, first, c.iter.ensures.rest)
           (are_named c.args.fields.now _ c.requires.keys);
-      before = refl;
+      plain = rw (gives, first, c.iter.ensures.rest)
+          (plain_names c.args.plain c.args.fields.now c.requires.plain);
       told = rw (gives, first, second, c.iter.ensures.rest, c.children.ensures) refl;
       below = rw (gives, second, c.children.ensures, c.requires.types)
           (children_below c.args.node.now);
@@ -64,19 +66,15 @@ write_in_order-returns-clause-adds t c =
     let none : members_in_order rest left ≡ no_members = elim ending [
       | inl h ↦ no_field_left rest left h.1.0
       | inr h ↦ no_item_left rest left (ap (λ l. length (map json_seen l)) h.1.0)
-    ] in (
-      on_ok_weaker c.end_object.result (λ e. object_whole c.args.out.now.tokens
-          c.begin_object.new.self.tokens c.members.out.tokens c.end_object.new.self.tokens
-          (members_in_order fs ds) (members_in_order rest left) (fields_json fs (items_of ds))
-          c.in_ok-begin_object.ensures.ok c.members.invariant.told none e
-          (in_order_json_is fs ds c.requires.keys count)) c.end_object.ensures.ok,
-      c.end_object.ensures.room.0 ∙ c.members.invariant.before ∙ c.begin_object.ensures.room.0,
-    )
+    ] in
+    on_ok_weaker c.end_object.result (λ e. object_whole c.args.out.now c.begin_object.new.self
+    c.members.out c.end_object.new.self (members_in_order fs ds) (members_in_order rest left)
+    (fields_json fs (items_of ds)) c.in_ok-begin_object.ensures c.members.invariant.told none e
+    (in_order_json_is fs ds c.requires.keys count)) c.end_object.ensures
 
 pub write_sorted-members-init : goal.write_sorted-members-init
 write_sorted-members-init t c = record {
   named = positions_are_named c.args.fields.now _ c.requires.keys.1;
-  before = refl;
   told = refl;
   types = c.requires.types;
   grows = grows_not c.args.orders.now;
@@ -128,15 +126,14 @@ write_sorted-members-preserved t c =
     c.position-position.ensures in
     let got = child_read c.args.node.now c.in_ok-children.children.items p child
     c.in_ok-children.ensures (omega (arith, turn.within, c.requires.count)) c.index.ensures in
-    let said : c.write_node.new.out.tokens
-    ≡ (c.members.out.tokens ++ key n ∷ []) ++ json_tokens (outline (json_seen child)) =
-    c.in_ok-write_node.ensures.adds.0
-    ∙ ap (λ us. us ++ json_tokens (outline (json_seen child))) c.in_ok-key.ensures.ok in
+    let said : c.write_node.new.out
+    ≡ prints (prints c.members.out (key n ∷ [])) (json_tokens (outline (json_seen child))) =
+    c.in_ok-write_node.ensures.adds
+    ∙ ap (λ w. prints w (json_tokens (outline (json_seen child)))) c.in_ok-key.ensures in
     record {
       named = named_behind fs order c.members.turn p turn c.members.invariant.named;
-      before = c.write_node.ensures.adds.1 ∙ c.key.ensures.room.0 ∙ c.members.invariant.before;
       told = sorted_turn fs ds order c.members.turn p c.index-fields-position.result n
-          (json_seen child) c.members.out.tokens c.write_node.new.out.tokens turn
+          (json_seen child) c.members.out c.write_node.new.out turn
           c.index-fields-position.is c.name_of.ensures (child_data c.args.node.now p child got) said
           ∙ c.members.invariant.told;
       types = c.write_node.ensures.grows.types ∙ c.members.invariant.types;
@@ -151,19 +148,17 @@ write_sorted-returns-clause-adds t c =
     let order = slice_range c.args.orders.now.positions c.args.start (c.args.start + length fs) in
     let count : length fs ≡ length ds = c.requires.count
     ∙ sym (length-map (children_of c.args.node.now) json_seen) in
-    let many : length order ≡ length fs = positions_count fs order c.requires.keys.1 in (
-      on_ok_weaker c.end_object.result (λ e. object_whole c.args.out.now.tokens
-          c.begin_object.new.self.tokens c.members.out.tokens c.end_object.new.self.tokens
-          (members_at fs ds order) (members_at fs ds (drop c.members.turn order))
-          (fields_json fs (items_of ds)) c.in_ok-begin_object.ensures.ok c.members.invariant.told
-          (no_position_left fs ds order c.members.turn (omega (arith, many))) e
-          (sorted_json_is fs order ds c.requires.keys.1 count)) c.end_object.ensures.ok,
-      c.end_object.ensures.room.0 ∙ c.members.invariant.before ∙ c.begin_object.ensures.room.0,
-    )
+    let many : length order ≡ length fs = positions_count fs order c.requires.keys.1 in
+    on_ok_weaker c.end_object.result (λ e. object_whole c.args.out.now c.begin_object.new.self
+    c.members.out c.end_object.new.self (members_at fs ds order)
+    (members_at fs ds (drop c.members.turn order)) (fields_json fs (items_of ds))
+    c.in_ok-begin_object.ensures c.members.invariant.told
+    (no_position_left fs ds order c.members.turn (omega (arith, many))) e
+    (sorted_json_is fs order ds c.requires.keys.1 count)) c.end_object.ensures
 
 pub write_fields-returns-in-Unnamed-clause-adds : goal.write_fields-returns-in-Unnamed-clause-adds
 write_fields-returns-in-Unnamed-clause-adds t c =
-    let keys = c.in_ok-keys.ensures.keys in
+    let keys = c.in_ok-keys.ensures.keys.0 in
     rw (unnamed_json_is c.args.fields.now (jsons (children_of c.args.node.now))
     (rw c.in-Unnamed.is at keys)) c.write_items.ensures.adds
 
@@ -247,12 +242,12 @@ write_node-write_fields-requires-in-Arm t c =
 pub write_node-returns-in-Empty-clause-adds : goal.write_node-returns-in-Empty-clause-adds
 write_node-returns-in-Empty-clause-adds t c =
     rw (told c.args.node.now _ c.in-Empty.ensures.value c.in-Empty.ensures.same)
-    (c.null.ensures.ok, c.null.ensures.room.0)
+    c.null.ensures
 
 pub write_node-returns-in-Bool-clause-adds : goal.write_node-returns-in-Bool-clause-adds
 write_node-returns-in-Bool-clause-adds t c =
     rw (told c.args.node.now _ c.in-Bool.ensures.value c.in-Bool.ensures.same)
-    (c.boolean.ensures.ok, c.boolean.ensures.room.0)
+    c.boolean.ensures
 
 pub write_node-returns-in-Char-clause-adds : goal.write_node-returns-in-Char-clause-adds
 write_node-returns-in-Char-clause-adds t c =
@@ -263,7 +258,13 @@ pub write_node-returns-in-Text-clause-adds : goal.write_node-returns-in-Text-cla
 write_node-returns-in-Text-clause-adds t c = rw (text_is c.args.node.now c.text.result
     c.unwrap.result c.text.ensures c.unwrap.ensures
     (told c.args.node.now _ c.in-Text.ensures.value c.in-Text.ensures.same))
-    (c.string.ensures.ok, c.string.ensures.room.0)
+    c.string.ensures
+
+pub write_node-returns-in-Bytes-clause-adds : goal.write_node-returns-in-Bytes-clause-adds
+write_node-returns-in-Bytes-clause-adds t c =
+    rw (bytes_are c.args.node.now c.bytes.result c.unwrap-in-Bytes.result c.bytes.ensures
+    c.unwrap-in-Bytes.ensures
+    (told c.args.node.now _ c.in-Bytes.ensures.value c.in-Bytes.ensures.same)) c.write_bytes.ensures
 
 pub write_node-returns-in-Unsigned-clause-adds : goal.write_node-returns-in-Unsigned-clause-adds
 write_node-returns-in-Unsigned-clause-adds t c = rw (
@@ -324,7 +325,7 @@ pub write_node-returns-in_ok-write_fields-in-Arm-clause-adds :
     goal.write_node-returns-in_ok-write_fields-in-Arm-clause-adds
 write_node-returns-in_ok-write_fields-in-Arm-clause-adds t c =
     let s = c.args.node.now in
-    let old = c.args.out.now.tokens in
+    let old = c.args.out.now in
     let n = c.as_str.result.now in
     let d = fields_json c.as_slice.result.now (jsons (children_of s)) in
     let at = arm_at_node s _ _ _ c.defined_arm.result c.unwrap-arm.result
@@ -336,17 +337,12 @@ write_node-returns-in_ok-write_fields-in-Arm-clause-adds t c =
     ∙ ap₂ (λ m gs. object (member m (fields_json gs (jsons (children_of s))) no_members))
     (sym c.as_str.ensures.same) (sym c.as_slice.ensures) in
     let ts = json_tokens (outline d) in
-    let said : c.write_fields-in-Arm.new.out.tokens
-    ≡ ((old ++ begin_object ∷ []) ++ key n ∷ []) ++ ts =
-    c.in_ok-write_fields-in-Arm.ensures.adds.0 ∙ ap (λ us. us ++ ts)
-    (c.in_ok-key-in-Arm.ensures.ok
-    ∙ ap (λ us. us ++ key n ∷ []) c.in_ok-begin_object-in-Arm.ensures.ok) in
-    rw shows (
-      on_ok_weaker c.end_object.result (λ e. e ∙ ap (λ us. us ++ end_object ∷ []) said
-          ∙ one_member old ts n) c.end_object.ensures.ok,
-      c.end_object.ensures.room.0 ∙ c.in_ok-write_fields-in-Arm.ensures.adds.1
-          ∙ c.key.ensures.room.0 ∙ c.begin_object.ensures.room.0,
-    )
+    let said : c.write_fields-in-Arm.new.out
+    ≡ prints (prints (prints old (begin_object ∷ [])) (key n ∷ [])) ts =
+    c.in_ok-write_fields-in-Arm.ensures.adds ∙ ap (λ w. prints w ts) (c.in_ok-key-in-Arm.ensures
+    ∙ ap (λ w. prints w (key n ∷ [])) c.in_ok-begin_object-in-Arm.ensures) in
+    rw shows (on_ok_weaker c.end_object.result (λ e. e ∙ ap (λ w. prints w (end_object ∷ [])) said
+    ∙ one_member old ts n) c.end_object.ensures)
 
 pub write_node-returns-in-List-clause-adds : goal.write_node-returns-in-List-clause-adds
 write_node-returns-in-List-clause-adds t c =
@@ -357,3 +353,71 @@ pub write_node-returns-in-Count-clause-adds : goal.write_node-returns-in-Count-c
 write_node-returns-in-Count-clause-adds t c =
     rw (told c.args.node.now _ c.in-Count.ensures.value c.in-Count.ensures.same)
     c.write_count.ensures
+
+pub write_in_order-members-preserved : goal.write_in_order-members-preserved
+write_in_order-members-preserved t c =
+    let fs = iter_rest c.next.new.self.a in
+    let ss = c.next.new.self.b in
+    let field : iter_rest c.members.field-iterator.a ≡ c.in-Some.field.now ∷ fs = search rules in
+    let child : c.members.field-iterator.b ≡ c.in-Some.child ∷ ss = search rules in
+    let n = c.name_of.result.now in
+    let said : c.write_node.new.out
+    ≡ prints (prints c.members.out (key n ∷ [])) (json_tokens (outline (json_seen c.in-Some.child)))
+    = c.in_ok-write_node.ensures.adds
+    ∙ ap (λ w. prints w (json_tokens (outline (json_seen c.in-Some.child)))) c.in_ok-key.ensures in
+    record {
+      can = search rules;
+      ends = search rules;
+      named = search rules;
+      plain = plain_rest c.args.plain c.in-Some.field.now fs
+          (subst (λ gs. OnTrue c.args.plain (AllPlain gs)) field c.members.invariant.plain);
+      told = in_order_turn c.members.out c.write_node.new.out c.in-Some.field.now fs
+          (json_seen c.in-Some.child) (map json_seen ss) n c.name_of.ensures said
+          ∙ ap₂ (λ gs us. prints c.members.out
+          (members_tokens (members_outline (members_in_order gs (map json_seen us)))))
+          (sym field) (sym child) ∙ c.members.invariant.told;
+      below = search rules;
+      grows = grows_again c.args.orders.now c.members.orders c.write_node.new.orders
+          c.members.invariant.grows c.write_node.ensures.grows;
+    }
+
+pub write_items-children-preserved : goal.write_items-children-preserved
+write_items-children-preserved t c =
+    let child : c.children.child-iterator ≡ c.in-Some.child ∷ c.next.new.self = search rules in
+    record {
+      can = search rules;
+      ends = search rules;
+      told = item_turn c.children.out c.write_node.new.out (json_seen c.in-Some.child)
+          (items_of (map json_seen c.next.new.self)) c.in_ok-write_node.ensures.adds
+          ∙ ap (λ ss. prints c.children.out (items_tokens (items_outline (items_of (map json_seen ss)))))
+          (sym child) ∙ c.children.invariant.told;
+      below = search rules;
+      grows = grows_again c.args.orders.now c.children.orders c.write_node.new.orders
+          c.children.invariant.grows c.write_node.ensures.grows;
+    }
+
+pub write_items-returns-clause-adds : goal.write_items-returns-clause-adds
+write_items-returns-clause-adds t c =
+    let none : c.children.child-iterator ≡ [] = search rules in
+    on_ok_weaker c.end_array.result (λ e. array_whole c.args.out.now c.begin_array.new.self
+    c.children.out c.end_array.new.self (items_of (map json_seen (children_of c.args.node.now)))
+    c.in_ok-begin_array.ensures (ap (λ ss. prints c.children.out
+    (items_tokens (items_outline (items_of (map json_seen ss))))) (sym none)
+    ∙ c.children.invariant.told) e) c.end_array.ensures
+
+pub write_in_order-key-requires : goal.write_in_order-key-requires
+write_in_order-key-requires t c =
+    let fs = iter_rest c.next.new.self.a in
+    let field : iter_rest c.members.field-iterator.a ≡ c.in-Some.field.now ∷ fs = search rules in
+    plain_first c.args.plain c.in-Some.field.now fs c.name_of.result.now c.name_of.ensures
+    (subst (λ gs. OnTrue c.args.plain (AllPlain gs)) field c.members.invariant.plain)
+
+pub write_sorted-key-requires : goal.write_sorted-key-requires
+write_sorted-key-requires t c =
+    let turn = turn_at c.args.fields.now c.args.orders.now c.members.orders c.args.start
+    c.members.turn c.position-position.result c.members.invariant.grows c.requires.keys
+    (omega arith) c.members.invariant.named c.position-position.ensures in
+    plain_at c.args.plain c.args.fields.now c.position-position.result c.name_of.result.now
+    (name_is c.args.fields.now c.position-position.result c.index-fields-position.result
+    c.name_of.result.now turn.field c.index-fields-position.is c.name_of.ensures) turn.within
+    c.requires.plain

@@ -1,5 +1,6 @@
-use Rattle.std.proofs.Common.{◌≡◌, ◌+◌, ◌*◌, ◌++◌, length, map, drop}
+use Rattle.std.proofs.Common.{◌≡◌, ◌+◌, ◌*◌, length, map, drop}
 use Rattle.std.specs.Prelude.{slice_range}
+use Rattle.std.specs.Bool.{OnTrue}
 use Rattle.std.specs.List.{AllByRecursion}
 use Rattle.std.specs.Slice.Iter.{iter_rest}
 use Rattle.json.specs.Tree.{items_tokens, members_tokens}
@@ -9,8 +10,9 @@ use Rattle.grammar_core.specs.Tree.{nodes}
 use Rattle.value_core.specs.Shown.{children_of}
 use Rattle.json_core.specs.Json.{json_seen}
 use Rattle.json_core.specs.Ordered.{AreNamed, Grows}
-use Rattle.json_core.specs.Tokens.{members_at, members_in_order}
+use Rattle.json_core.specs.Tokens.{prints, members_at, members_in_order}
 use Rattle.json_core.proofs.Children.{AreBelow}
+use Rattle.json_core.proofs.PlainNames.{AllPlain}
 use Rattle.json_core.proofs.Ordered.{IsNamedAt}
 use Rattle.json_core.proofs.writing.+write.Given as goal
 
@@ -34,10 +36,9 @@ abbrev pub invariant-write_items-children : goal.invariant-write_items-children
 invariant-write_items-children l = record {
   can : (goal.iterator-write_items-children).can_next l.child-iterator;
   ends : (goal.iterator-write_items-children).is_finite l.child-iterator;
-  before : l.out.before ≡ l.initial.out.before;
-  told : l.out.tokens ++ items_tokens (items_outline (items_of (map json_seen l.child-iterator)))
-      ≡ l.initial.out.tokens
-      ++ items_tokens (items_outline (items_of (map json_seen (children_of l.node))));
+  told : prints l.out (items_tokens (items_outline (items_of (map json_seen l.child-iterator))))
+      ≡ prints l.initial.out
+      (items_tokens (items_outline (items_of (map json_seen (children_of l.node)))));
   below : AreBelow l.orders.types (nodes l.node.tree) l.child-iterator;
   grows : Grows l.fn.orders l.orders;
 }
@@ -47,11 +48,11 @@ invariant-write_in_order-members l = record {
   can : (goal.iterator-write_in_order-members).can_next l.field-iterator;
   ends : (goal.iterator-write_in_order-members).is_finite l.field-iterator;
   named : AreNamed (iter_rest l.field-iterator.a);
-  before : l.out.before ≡ l.initial.out.before;
-  told : l.out.tokens ++ members_tokens (members_outline
-      (members_in_order (iter_rest l.field-iterator.a) (map json_seen l.field-iterator.b)))
-      ≡ l.initial.out.tokens ++ members_tokens (members_outline
-      (members_in_order l.fields (map json_seen (children_of l.node))));
+  plain : OnTrue l.plain (AllPlain (iter_rest l.field-iterator.a));
+  told : prints l.out (members_tokens (members_outline
+      (members_in_order (iter_rest l.field-iterator.a) (map json_seen l.field-iterator.b))))
+      ≡ prints l.initial.out (members_tokens (members_outline
+      (members_in_order l.fields (map json_seen (children_of l.node)))));
   below : AreBelow l.orders.types (nodes l.node.tree) l.field-iterator.b;
   grows : Grows l.fn.orders l.orders;
 }
@@ -62,11 +63,10 @@ invariant-write_sorted-members l =
     let order = slice_range l.fn.orders.positions l.start (l.start + length l.fields) in
     record {
       named : AllByRecursion (IsNamedAt l.fields) (drop l.turn order);
-      before : l.out.before ≡ l.initial.out.before;
-      told : l.out.tokens ++ members_tokens (members_outline
-          (members_at l.fields (map json_seen (children_of l.node)) (drop l.turn order)))
-          ≡ l.initial.out.tokens ++ members_tokens (members_outline
-          (members_at l.fields (map json_seen (children_of l.node)) order));
+      told : prints l.out (members_tokens (members_outline
+          (members_at l.fields (map json_seen (children_of l.node)) (drop l.turn order))))
+          ≡ prints l.initial.out (members_tokens (members_outline
+          (members_at l.fields (map json_seen (children_of l.node)) order)));
       types : l.orders.types ≡ l.node.types;
       grows : Grows l.fn.orders l.orders;
     }

@@ -1,0 +1,18 @@
+use Rattle.std.proofs.Common.{◌∷◌, [], codes, refl, ap, ◌∙◌, decimal}
+use Rattle.std.proofs.lemmas.Result.{on_ok_weaker}
+use Rattle.json.specs.Token.{number}
+use Rattle.json.specs.Print.{escape_byte}
+use Rattle.json_core.specs.Tokens.{prints}
+use Rattle.json_core.proofs.Turns.{count_whole}
+use Rattle.json_core.proofs.writing.write_count.Goals as goal
+
+pub key-requires : goal.key-requires
+unfolding escape_byte
+key-requires c = refl
+
+pub returns : goal.returns
+returns c = on_ok_weaker c.end_object.result (λ e. count_whole c.args.out.now
+    c.begin_object.new.self c.key.new.self c.unsigned.new.self c.end_object.new.self
+    (codes "count") (decimal c.args.count) c.in_ok-begin_object.ensures c.in_ok-key.ensures
+    (c.in_ok-unsigned.ensures
+    ∙ ap (λ k. prints c.key.new.self (number (decimal k) ∷ [])) c.from.ensures) e) c.end_object.ensures
