@@ -4,6 +4,7 @@
 #include <errno.h>
 #include <fcntl.h>
 #include <limits.h>
+#include <malloc.h>
 #include <stdio.h>
 #include <stdlib.h>
 #include <unistd.h>
@@ -45,9 +46,18 @@ void *calloc(size_t count, size_t size)
     return NEXT(calloc)(count, size);
 }
 
+/* A block has at most so many bytes more than were asked for. */
+enum { MOST_SPARE = 24 };
+
+/* Whether a block gives bytes back and so takes no memory. Where it is not clear, it is taken for a request. */
+static int is_smaller(void *old, size_t size)
+{
+    return old && size + MOST_SPARE < malloc_usable_size(old);
+}
+
 void *realloc(void *old, size_t size)
 {
-    if (is_refused()) {
+    if (!is_smaller(old, size) && is_refused()) {
         errno = ENOMEM;
         return NULL;
     }

@@ -3,7 +3,7 @@
 use crate::sample;
 use json_core::{PrintFault, json_text, print, to_json};
 use registry_core::{
-    Registry, RegistryFault, RegistryReason, read_metadata, read_registry, write_registry,
+    Registry, RegistryFault, RegistryReason, Version, read_metadata, read_registry, write_registry,
 };
 use scale_core::Sink;
 use scale_tool::{Job, JobFault, job};
@@ -115,8 +115,13 @@ pub(crate) fn read_registry_line(alloc: Global) -> &'static str {
 }
 
 pub(crate) fn read_metadata_line(alloc: Global) -> &'static str {
+    let read = match read_metadata(alloc, sample::METADATA) {
+        Ok((registry, taken, Version::V14)) => Ok((registry, taken)),
+        Ok((_, _, Version::V15)) => return OTHER,
+        Err(fault) => Err(fault),
+    };
     read_line(
-        read_metadata(alloc, sample::METADATA),
+        read,
         sample::METADATA.len(),
         "read_metadata: read\n",
         "read_metadata: OutOfMemory at 0\n",

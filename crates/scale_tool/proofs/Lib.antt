@@ -1,5 +1,4 @@
 pub mod Moves
-pub mod TypeLines
 pub mod Registries
 pub mod Locals
 pub mod Entered

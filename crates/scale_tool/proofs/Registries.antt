@@ -1,10 +1,13 @@
--- What is read of a registry, and what follows it.
-use Rattle.std.proofs.Common.{◌≡◌, ◌<◌, ℕ, List, [], ◌∷◌, length, None, Ok, arith, ap}
-use Rattle.scale_core.specs.Read.{Read}
-use Rattle.scale_tool.specs.Answer.{alone}
+-- Why a registry's bytes are refused with status 1: they hold none.
+use Rattle.std.proofs.Common.{◌≡◌, ℕ, List, None, Bool}
+use Rattle.scale_calls.specs.Opened.{RefusesRegistry, checked_of}
+use Rattle.scale_calls.specs.declared.refusal.RegistryRefusal.{RegistryRefusal}
+use Rattle.scale_calls.specs.declared.refusal.RegistryRefusal.TheVariants as refusal
+use Rattle.scale_tool.specs.Refused.{status_of_registry}
 
--- what is followed by bytes does not stand alone
-pub not_alone : {E X : Type 0} (x : X) (left : List ℕ) (read : Read E X) → read ≡ Ok (x, left) →
-    0 < length left → alone read ≡ None
-not_alone x [] read is some = absurd (omega arith)
-not_alone x (b ∷ left) read is some = ap alone is
+pub holds_none : (metadata : Bool) (b : List ℕ) (e : RegistryRefusal) →
+    RefusesRegistry metadata b e → status_of_registry e ≡ 1 → checked_of metadata b ≡ None
+holds_none metadata b (refusal.Fault f) h one = h.0
+holds_none metadata b (refusal.TrailingBytes at) h one = h.0
+holds_none metadata b (refusal.Check unknown) h one = h.0
+holds_none metadata b refusal.Memory h one = absurd cc

@@ -1,48 +1,20 @@
 -- What the command writes for its job.
 use Rattle.std.specs.Prelude.{◌≡◌, ◌≤◌, nat_lt, if◌then◌else◌, ℕ, List, [], ◌∷◌, ◌++◌, length, take, Option, Some, None, Ok, Err, Bool, true, option_map, option_and_then, false}
 use Rattle.std.specs.Io.KnownBytes.{Appends, Keeps}
-use Rattle.scale_core.specs.Read.{Read}
-use Rattle.registry_core.specs.Reading.{registry_at, metadata_at}
 use Rattle.registry_core.specs.declared.type_info.TypeInfo.{TypeInfo}
-use Rattle.graph_core.specs.References.{first_fault}
-use Rattle.scale_tool.specs.Lines.{type_lines}
+use Rattle.scale_calls.specs.Lines.{type_lines, version_line}
+use Rattle.scale_calls.specs.Opened.{checked_of, version_of}
 use Rattle.json_core.specs.Json.{json_text}
 use Rattle.value_core.specs.Shown.{Seen}
 use Rattle.scale_tool.specs.Values.{file_value}
 use Rattle.scale_tool.specs.declared.task.Job.{Job}
 use Rattle.scale_tool.specs.declared.task.Job.TheVariants as job
 
--- what is read, where nothing follows it
-abbrev pub alone : {E X : Type 0} → Read E X → Option X
-alone (Ok (x, [])) = Some x
-alone (Ok (x, b ∷ bs)) = None
-alone (Err e) = None
-
--- what is read, whatever follows it
-abbrev pub in_front : {E X : Type 0} → Read E X → Option X
-in_front (Ok x) = Some x.0
-in_front (Err e) = None
-
--- the types of a registry's file: metadata, of which only the type section is read, or a registry
--- alone
-abbrev pub types_of : Bool → List ℕ → Option (List TypeInfo)
-types_of true bytes = in_front (metadata_at bytes)
-types_of false bytes = alone (registry_at bytes)
-
-abbrev pub unless_fault : Option (ℕ × ℕ) → List TypeInfo → Option (List TypeInfo)
-unless_fault None types = Some types
-unless_fault (Some fault) types = None
-
--- the same where every reference is a position
-unfoldable pub checked_of : Bool → List ℕ → Option (List TypeInfo)
-checked_of metadata bytes =
-    option_and_then (λ types. unless_fault (first_fault types) types) (types_of metadata bytes)
-
 -- the types, where the position is one of theirs
 abbrev pub with_position : ℕ → List TypeInfo → Option (List TypeInfo)
 with_position id types = if nat_lt id (length types) then Some types else None
 
--- the same of a registry's file
+-- the types of a registry's file, checked, where the position is one of theirs
 abbrev pub types_with : Bool → ℕ → List ℕ → Option (List TypeInfo)
 types_with metadata id registry = option_and_then (with_position id) (checked_of metadata registry)
 
@@ -56,9 +28,12 @@ value_text metadata hex id depth registry value =
     option_and_then (λ types. option_map line_of (file_value hex id depth types value))
     (types_with metadata id registry)
 
--- the text of a registry's types, where its bytes are not refused
+-- the text of a registry's types, where its bytes are not refused: the line of the version, where
+-- one is told, and a line for each type
 abbrev pub types_text : Bool → List ℕ → Option (List ℕ)
-types_text metadata registry = option_map type_lines (checked_of metadata registry)
+types_text metadata registry =
+    option_map (λ types. version_line (version_of metadata registry) ++ type_lines types)
+    (checked_of metadata registry)
 
 -- a fact about the text of the job, where the bytes that it goes by are known
 abbrev pub OnText : Job → Option (List ℕ) → Option (List ℕ) → (Option (List ℕ) → Type 0) → Type 0

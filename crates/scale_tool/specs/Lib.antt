@@ -2,7 +2,6 @@ pub mod Answer
 pub mod Explained
 pub mod HexText
 pub mod Line
-pub mod Lines
 pub mod Moved
 pub mod Refused
 pub mod Values

@@ -1,16 +1,9 @@
 -- What each part of a job is refused for, as the refusal of the whole, and its exit status and
 -- line.
 use Rattle.std.specs.Prelude.{ℕ, List, Option, Some, None, codes}
-use Rattle.registry_core.specs.declared.fault.RegistryFault.{RegistryFault}
-use Rattle.registry_core.specs.declared.fault.RegistryReason.{RegistryReason}
-use Rattle.registry_core.specs.declared.fault.RegistryReason.TheVariants as registry
-use Rattle.graph_core.specs.declared.fault.CheckFault.{CheckFault}
-use Rattle.graph_core.specs.declared.fault.CheckFault.TheVariants as check
 use Rattle.decode_core.specs.declared.fault.DecodeFault.{DecodeFault}
 use Rattle.decode_core.specs.declared.fault.DecodeReason.{DecodeReason}
 use Rattle.decode_core.specs.declared.fault.DecodeReason.TheVariants as reason
-use Rattle.decode_core.specs.declared.pieces.PiecesFault.{PiecesFault}
-use Rattle.decode_core.specs.declared.pieces.PiecesFault.TheVariants as pieces
 use Rattle.decode_core.specs.declared.stream.StreamFault.{StreamFault}
 use Rattle.decode_core.specs.declared.stream.StreamFault.TheVariants as stream
 use Rattle.scale_tool.specs.declared.gathering.GatherFault.{GatherFault}
@@ -21,8 +14,10 @@ use Rattle.scale_tool.specs.declared.refusal.BytesRefusal.{BytesRefusal}
 use Rattle.scale_tool.specs.declared.refusal.BytesRefusal.TheVariants as bytes
 use Rattle.scale_tool.specs.declared.refusal.HexRefusal.{HexRefusal}
 use Rattle.scale_tool.specs.declared.refusal.HexRefusal.TheVariants as hex
-use Rattle.scale_tool.specs.declared.refusal.RegistryRefusal.{RegistryRefusal}
-use Rattle.scale_tool.specs.declared.refusal.RegistryRefusal.TheVariants as types
+use Rattle.scale_calls.specs.declared.refusal.RegistryRefusal.{RegistryRefusal}
+use Rattle.scale_calls.specs.declared.refusal.RegistryRefusal.TheVariants as types
+use Rattle.scale_calls.specs.declared.refusal.ValueRefusal as calls
+use Rattle.scale_calls.specs.declared.refusal.ValueRefusal.TheVariants as call
 use Rattle.scale_tool.specs.declared.refusal.ValueRefusal.{ValueRefusal}
 use Rattle.scale_tool.specs.declared.refusal.ValueRefusal.TheVariants as value
 use Rattle.scale_tool.specs.declared.refusal.Refusal.{Refusal}
@@ -62,20 +57,6 @@ fixed_line (refusal.TrailingValue at) = None
 
 -- ---- registries
 
--- a fault with this reason
-abbrev pub registry_refusal_by : RegistryReason → RegistryFault → RegistryRefusal
-registry_refusal_by registry.OutOfMemory f = types.Memory
-registry_refusal_by _ f = types.Fault f
-
--- a registry's fault, where want of memory is no fault of its bytes
-abbrev pub registry_refusal : RegistryFault → RegistryRefusal
-registry_refusal f = registry_refusal_by f.reason f
-
--- a check's fault, where want of memory is none of the registry's
-abbrev pub check_refusal : CheckFault → RegistryRefusal
-check_refusal (check.UnknownType from to) = types.Check (record { from = from.0; to = to.0 })
-check_refusal check.OutOfMemory = types.Memory
-
 -- the refusal of the whole
 abbrev pub refusal_of_registry : RegistryRefusal → Refusal
 refusal_of_registry (types.Fault fault) = refusal.Registry fault
@@ -94,10 +75,21 @@ bytes_refusal_by _ f = bytes.Fault f
 abbrev pub bytes_refusal : DecodeFault → BytesRefusal
 bytes_refusal f = bytes_refusal_by f.reason f
 
--- why bytes that are all there are none, where a decoder is refused for want of memory alone
-abbrev pub pieces_refusal : PiecesFault → BytesRefusal
-pieces_refusal (pieces.Open f) = bytes.Memory
-pieces_refusal (pieces.Decode f) = bytes_refusal f
+-- the refusal is one of the bytes, and not of the type or the limits
+abbrev pub IsOfBytes : calls.ValueRefusal → Type 0
+IsOfBytes call.UnknownType = ⊥
+IsOfBytes call.LimitOutOfRange = ⊥
+IsOfBytes (call.Fault f) = Unit {0}
+IsOfBytes (call.TrailingBytes at) = Unit {0}
+IsOfBytes call.Memory = Unit {0}
+
+-- why bytes that are all there are none
+abbrev pub calls_refusal : calls.ValueRefusal → BytesRefusal
+calls_refusal (call.Fault f) = bytes.Fault f
+calls_refusal (call.TrailingBytes at) = bytes.TrailingBytes at
+calls_refusal call.Memory = bytes.Memory
+calls_refusal call.UnknownType = bytes.Memory
+calls_refusal call.LimitOutOfRange = bytes.Memory
 
 -- what digits are refused for, as a value's refusal
 abbrev pub hex_in_value : HexRefusal → ValueRefusal

@@ -1,12 +1,11 @@
 -- The value of a job, by what its file holds.
-use Rattle.std.specs.Prelude.{◌≡◌, ◌==◌, ℕ, List, length, Bool, true, false, if◌then◌else◌, Option, Some, None, option_map, option_and_then, Result, Ok, Err}
+use Rattle.std.specs.Prelude.{◌≡◌, ℕ, List, Bool, true, false, Option, Some, None, option_and_then, Result, Ok, Err}
 use Rattle.registry_core.specs.declared.type_info.TypeInfo.{TypeInfo}
-use Rattle.grammar_core.specs.Tree.{Tree}
 use Rattle.value_core.specs.Shown.{Seen}
-use Rattle.decode_core.specs.Outcome.{Outcome, done, refused, more, too_long, outcome_of}
 use Rattle.decode_core.specs.Outcome as decoder
 use Rattle.decode_core.specs.Decoding.{FinishesDecoder}
 use Rattle.decode_core.specs.Streaming.{Trails}
+use Rattle.scale_calls.specs.Values as calls
 use Rattle.scale_tool.specs.HexText.{hex_bytes}
 use Rattle.scale_tool.specs.Refused.{status_of_bytes, status_of_value}
 use Rattle.scale_tool.specs.declared.refusal.BytesRefusal.{BytesRefusal}
@@ -19,19 +18,9 @@ use Rattle.scale_tool.specs.declared.refusal.ValueRefusal.TheVariants as value
 abbrev pub decoding : ℕ → ℕ → List TypeInfo → decoder.Job
 decoding id depth types = record { registry = types; ty = id; depth = depth; bytes = 16777216 }
 
--- the value, where so many bytes are its own
-abbrev pub whole : ℕ → Outcome → ℕ → Option Tree
-whole len (done v) taken = if taken == len then Some v else None
-whole len (refused reason at) taken = None
-whole len more taken = None
-whole len too_long taken = None
-
 -- the value of that type that all the bytes spell
 abbrev pub value_in : ℕ → ℕ → List TypeInfo → List ℕ → Option Seen
-value_in id depth types bytes =
-    option_map (λ v. record { types = types; ty = id; tree = v })
-    (whole (length bytes) (outcome_of (decoding id depth types) bytes).0
-    (outcome_of (decoding id depth types) bytes).1)
+value_in id depth types bytes = calls.value_in (decoding id depth types) bytes
 
 abbrev pub told : Result (List ℕ) HexFault → Option (List ℕ)
 told (Ok bytes) = Some bytes

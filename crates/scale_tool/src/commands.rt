@@ -62,7 +62,7 @@ fn metadata_arg<'a>(alloc: Global) -> Arg<'a>
     Arg::new(alloc, "metadata")
         .long("metadata")
         .action(ArgAction::SetTrue)
-        .help("FILE is metadata of version 14; what follows its registry is ignored")
+        .help("FILE is metadata of version 14 or 15; what follows its registry is ignored")
 }
 
 fn hex_arg<'a>(alloc: Global) -> Arg<'a>

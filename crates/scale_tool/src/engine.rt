@@ -7,12 +7,12 @@ ghost use Rattle.scale_tool.specs.Answer.{HasJobType, IsServed, OnText, ReadsNoV
 ghost use Rattle.scale_tool.specs.Refused.{status_of};
 
 use crate::early_exit::unopened;
-use crate::lines::type_lines;
 use crate::refusal::{Device, Refusal};
 use crate::registry::{read_types, read_types_with};
 use crate::task::Job;
 use crate::value::read_value;
 use json_core::json_text;
+use scale_calls::{push_type_lines, version_line};
 use scale_core::{Sink, Source};
 use std::alloc::{AllocError, Global};
 use std::io::{Read, Write};
@@ -27,7 +27,7 @@ fn line_text(alloc: Global, value: &Value<'_, Global>) -> Result<String, AllocEr
     Ok(text)
 }
 
-/// The lines of a registry's types.
+/// The line of the metadata's version, where the registry stands in metadata, and the lines of the types.
 fn types_text<R: Read>(
     alloc: Global,
     metadata: bool,
@@ -39,8 +39,10 @@ fn types_text<R: Read>(
     ensures told { IsErrOf result Refusal.RegistryDevice → registry.new.failed ≡ true }
     ensures quiet { IsErrOf result Refusal.RegistryDevice ⊎ (registry.new.failed ≡ registry.old.failed) }
 {
-    let checked = read_types(alloc, metadata, registry)?;
-    Ok(type_lines(alloc, &checked)?)
+    let (checked, version) = read_types(alloc, metadata, registry)?;
+    let mut text = version_line(alloc, version)?;
+    push_type_lines(alloc, &mut text, &checked)?;
+    Ok(text)
 }
 
 /// The line of a value.

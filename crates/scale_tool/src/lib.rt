@@ -7,7 +7,6 @@ mod engine;
 mod gathering;
 mod hex_text;
 mod jobs;
-mod lines;
 mod refusal;
 mod registry;
 mod task;

@@ -2,15 +2,15 @@
 //! standard error and the exit status.
 
 ghost use Rattle.std.specs.Prelude.{◌≡◌, IfNone, option_map};
-ghost use Rattle.scale_tool.specs.Refused.{device_line, fixed_line, refusal_of_registry, refusal_of_value, registry_refusal, check_refusal, bytes_refusal, hex_in_value, bytes_in_value, gathered_refusal, status_of};
+ghost use Rattle.scale_tool.specs.Refused.{device_line, fixed_line, refusal_of_registry, refusal_of_value, bytes_refusal, hex_in_value, bytes_in_value, gathered_refusal, status_of};
 ghost use Rattle.scale_tool.specs.declared.refusal.Refusal.TheVariants.{Memory};
 
 use crate::gathering::GatherFault;
 use decode_core::{DecodeFault, DecodeReason};
-use registry_core::{RegistryFault, RegistryReason};
+use registry_core::RegistryFault;
+use scale_calls::{RegistryRefusal, UnknownReference};
 use std::alloc::AllocError;
 use thiserror::Error;
-use widths_core::CheckFault;
 
 /// A file that does not open, or that a read or write fails on.
 #[derive(Clone, Copy, Debug, PartialEq, Eq)]
@@ -29,52 +29,6 @@ impl Device {
             Device::Registry => "scaleview: device: registry\n",
             Device::Value => "scaleview: device: value\n",
             Device::Output => "scaleview: device: output\n",
-        }
-    }
-}
-
-/// The type `from` refers to the type `to`, which is not there.
-#[derive(Clone, Copy, Debug, Error)]
-#[error("UnknownType {to} in type {from}")]
-pub(crate) struct UnknownReference {
-    pub(crate) from: u32,
-    pub(crate) to: u32,
-}
-
-/// Why bytes hold no checked registry.
-#[derive(Clone, Copy)]
-pub(crate) enum RegistryRefusal {
-    /// The first fault of the bytes.
-    Fault(RegistryFault),
-    /// Bytes follow the registry, which has so many.
-    TrailingBytes(u64),
-    /// A type refers to one that is not there.
-    Check(UnknownReference),
-    /// Memory was refused.
-    Memory,
-}
-
-impl From<RegistryFault> for RegistryRefusal {
-    ghost from_gives = { λ f r. r ≡ registry_refusal f };
-
-    fn from(fault: RegistryFault) -> RegistryRefusal {
-        match fault.reason {
-            RegistryReason::OutOfMemory => RegistryRefusal::Memory,
-            _ => RegistryRefusal::Fault(fault),
-        }
-    }
-}
-
-impl From<CheckFault> for RegistryRefusal {
-    ghost from_gives = { λ f r. r ≡ check_refusal f };
-
-    fn from(fault: CheckFault) -> RegistryRefusal {
-        match fault {
-            CheckFault::UnknownType { from, to } => RegistryRefusal::Check(UnknownReference {
-                from: from.0,
-                to: to.0,
-            }),
-            CheckFault::OutOfMemory => RegistryRefusal::Memory,
         }
     }
 }

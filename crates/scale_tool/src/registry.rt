@@ -1,62 +1,40 @@
-//! The registry of a job, checked.
+//! The registry of a job, checked, and the version of the metadata that it stood in.
 
 ghost use Rattle.std.specs.Prelude.{◌≡◌, ◌⊎◌, ◌<◌, length, true, None, Some, IfOk, IfErr, IfSome, IsErrOf};
-ghost use Rattle.scale_tool.specs.Answer.{checked_of, types_of, types_with, unless_fault, with_position};
+ghost use Rattle.scale_calls.specs.Opened.{checked_of, version_of};
+ghost use Rattle.scale_tool.specs.Answer.{types_with, with_position};
 ghost use Rattle.scale_tool.specs.Refused.{status_of, status_of_registry};
-ghost use Rattle.graph_core.specs.References.{first_fault};
 
 use crate::gathering::{GatherFault, gather_all};
-use crate::refusal::{Refusal, RegistryRefusal};
-use registry_core::{Registry, TypeId, read_metadata, read_registry};
+use crate::refusal::Refusal;
+use registry_core::{TypeId, Version};
+use scale_calls::{RegistryRefusal, open_registry};
 use scale_core::Source;
 use std::alloc::Global;
 use std::io::Read;
 use widths_core::Checked;
 
-/// The registry that all the bytes spell, or where they are metadata the one behind its prefix.
-fn registry_of(alloc: Global, metadata: bool, bytes: &[u8]) -> Result<Registry, RegistryRefusal>
-    ensures ok { IfOk result (λ types. types_of metadata bytes.now ≡ Some types) }
-    ensures err { IfErr result (λ e. status_of_registry e ≡ 1 → types_of metadata bytes.now ≡ None) }
-{
-    if metadata {
-        let (registry, _) = read_metadata(alloc, bytes)?;
-        return Ok(registry);
-    }
-    let (registry, len) = read_registry(alloc, bytes)?;
-    if len < bytes.len() {
-        return Err(RegistryRefusal::TrailingBytes(len as u64));
-    }
-    Ok(registry)
-}
-
-/// The registry with its references checked.
-fn checked(alloc: Global, registry: Registry) -> Result<Checked, RegistryRefusal>
-    ensures ok { IfOk result (λ types. unless_fault (first_fault registry) registry ≡ Some types.types) }
-    ensures err { IfErr result (λ e. status_of_registry e ≡ 1 → unless_fault (first_fault registry) registry ≡ None) }
-{
-    match Checked::new(alloc, registry) {
-        Ok(checked) => Ok(checked),
-        Err((fault, _)) => Err(RegistryRefusal::from(fault)),
-    }
-}
-
-/// The registry that all the bytes hold, checked.
-#[tactic(auto, unfolding(crate::specs::Answer::checked_of))]
-fn checked_registry(alloc: Global, metadata: bool, bytes: &[u8]) -> Result<Checked, RegistryRefusal>
-    ensures ok { IfOk result (λ types. checked_of metadata bytes.now ≡ Some types.types) }
+/// The registry that all the bytes hold, checked, and of metadata the version.
+fn checked_registry(
+    alloc: Global,
+    metadata: bool,
+    bytes: &[u8],
+) -> Result<(Checked, Option<Version>), RegistryRefusal>
+    ensures ok { IfOk result (λ x. checked_of metadata bytes.now ≡ Some x.0.types) }
+    ensures version { IfOk result (λ x. version_of metadata bytes.now ≡ x.1) }
     ensures err { IfErr result (λ e. status_of_registry e ≡ 1 → checked_of metadata bytes.now ≡ None) }
 {
-    let registry = registry_of(alloc, metadata, bytes)?;
-    checked(alloc, registry)
+    open_registry(alloc, metadata, bytes)
 }
 
-/// The registry that the source holds, checked.
+/// The registry that the source holds, checked, and of metadata the version.
 pub(crate) fn read_types<R: Read>(
     alloc: Global,
     metadata: bool,
     source: &mut Source<R>,
-) -> Result<Checked, Refusal>
-    ensures ok { IfOk result (λ types. IfSome (R.remaining source.old.device) (λ bytes. checked_of metadata bytes ≡ Some types.types)) }
+) -> Result<(Checked, Option<Version>), Refusal>
+    ensures ok { IfOk result (λ x. IfSome (R.remaining source.old.device) (λ bytes. checked_of metadata bytes ≡ Some x.0.types)) }
+    ensures version { IfOk result (λ x. IfSome (R.remaining source.old.device) (λ bytes. version_of metadata bytes ≡ x.1)) }
     ensures refused { IfErr result (λ e. status_of e ≡ 1 → IfSome (R.remaining source.old.device) (λ bytes. checked_of metadata bytes ≡ None)) }
     ensures device { IfErr result (λ e. status_of e ≡ 3 → e ≡ Refusal.RegistryDevice) }
     ensures told { IsErrOf result Refusal.RegistryDevice → source.new.failed ≡ true }
@@ -95,6 +73,6 @@ pub(crate) fn read_types_with<R: Read>(
     ensures told { IsErrOf result Refusal.RegistryDevice → source.new.failed ≡ true }
     ensures quiet { IsErrOf result Refusal.RegistryDevice ⊎ (source.new.failed ≡ source.old.failed) }
 {
-    let checked = read_types(alloc, metadata, source)?;
+    let (checked, _) = read_types(alloc, metadata, source)?;
     with_position(checked, id)
 }

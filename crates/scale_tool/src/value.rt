@@ -1,15 +1,16 @@
 //! The value of a job, decoded from its file.
 
 ghost use Rattle.std.specs.Prelude.{◌≡◌, ◌⊎◌, ◌<◌, ◌≤◌, length, true, false, IfErr, IfSome, IsErrOf};
-ghost use Rattle.scale_tool.specs.Refused.{pieces_refusal, stream_refusal};
+ghost use Rattle.scale_tool.specs.Refused.{IsOfBytes, calls_refusal, stream_refusal};
 ghost use Rattle.scale_tool.specs.Values.{ReadsBytes, ReadsValue, TellsBytes, TellsFile, decoding, file_value, value_in};
 ghost use Rattle.decode_core.specs.declared.fault.OpenFault.{OpenFault as AnOpenFault};
 
 use crate::gathering::gather_all;
 use crate::hex_text::hex_bytes;
 use crate::refusal::{BytesRefusal, ValueRefusal};
-use decode_core::{OpenFault, PiecesFault, StreamFault, decode_all, decode_pieces};
+use decode_core::{OpenFault, StreamFault, decode_all};
 use registry_core::TypeId;
+use scale_calls as calls;
 use scale_core::Source;
 use std::alloc::Global;
 use std::io::Read;
@@ -40,15 +41,16 @@ fn of_stream(fault: StreamFault) -> ValueRefusal
     }
 }
 
-/// The refusal of a value whose bytes are all there. A decoder of its type was refused for want of memory alone.
-fn of_pieces(fault: PiecesFault) -> BytesRefusal
-    requires { (why : AnOpenFault) → fault ≡ PiecesFault.Open why → why ≡ OpenFault.OutOfMemory }
-    ensures { result ≡ pieces_refusal fault }
+/// The refusal of a value whose bytes are all there. Its type is one of the registry's, and the limits are in their range.
+fn of_calls(refusal: calls::ValueRefusal) -> BytesRefusal
+    requires { IsOfBytes refusal }
+    ensures { result ≡ calls_refusal refusal }
 {
-    match fault {
-        PiecesFault::Open(OpenFault::OutOfMemory) => BytesRefusal::Memory,
-        PiecesFault::Open(_) => unreachable!(),
-        PiecesFault::Decode(fault) => BytesRefusal::from(fault),
+    match refusal {
+        calls::ValueRefusal::Fault(fault) => BytesRefusal::Fault(fault),
+        calls::ValueRefusal::TrailingBytes(at) => BytesRefusal::TrailingBytes(at),
+        calls::ValueRefusal::Memory => BytesRefusal::Memory,
+        calls::ValueRefusal::UnknownType | calls::ValueRefusal::LimitOutOfRange => unreachable!(),
     }
 }
 
@@ -86,15 +88,9 @@ fn value_of<'r>(
     ensures value { ReadsBytes (value_in id depth checked.now.types bytes.now) result }
     ensures tells { IfErr result (TellsBytes (decoding id depth checked.now.types) bytes.now) }
 {
-    match decode_pieces(alloc, checked, TypeId(id), limits(depth), &[bytes]) {
-        Ok((value, taken)) => {
-            if taken == bytes.len() as u64 {
-                Ok(value)
-            } else {
-                Err(BytesRefusal::TrailingBytes(taken))
-            }
-        }
-        Err(fault) => Err(of_pieces(fault)),
+    match calls::read_value(alloc, checked, id, limits(depth), bytes) {
+        Ok(value) => Ok(value),
+        Err(refusal) => Err(of_calls(refusal)),
     }
 }
 

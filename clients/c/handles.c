@@ -1,0 +1,244 @@
+/* What handles do: sessions beside each other, a registry that is lent, wrong kinds, none, every order of freeing, numbers
+ * of codes, too little room. */
+#include "scaleview.h"
+#include <stdio.h>
+#include <string.h>
+
+static int failures = 0;
+
+static void check(const char *what, bool is_so) {
+    if (!is_so) {
+        printf("handles: not so: %s\n", what);
+        failures++;
+    }
+}
+
+static const uint8_t u16_registry[] = {0x04, 0x00, 0x00, 0x00, 0x05, 0x04, 0x00};
+
+static void check_lending(void) {
+    scaleview_registry registry = {NULL};
+    scaleview_session first = {NULL}, second = {NULL};
+    scaleview_answer answer;
+    check("opened", scaleview_open(u16_registry, sizeof u16_registry, false, &registry, &answer) == SCALEVIEW_OK);
+    check("one type", answer.length == 1);
+    check("first", scaleview_start(registry, 0, 64, 1 << 24, &first, &answer) == SCALEVIEW_OK);
+    check("second", scaleview_start(registry, 0, 64, 1 << 24, &second, &answer) == SCALEVIEW_OK);
+    check("lent twice", scaleview_close(&registry) == SCALEVIEW_LENT && registry.inside);
+    check("more", scaleview_feed(&first, (const uint8_t *)"\x01", 1, &answer) == SCALEVIEW_MORE);
+    check("whole", scaleview_feed(&second, (const uint8_t *)"\x02\x00\xff", 3, &answer) == SCALEVIEW_OK);
+    check("two bytes used", answer.length == 2);
+    check("taken", scaleview_taken(&first, &answer) == SCALEVIEW_OK && answer.length == 1);
+    check("freed", scaleview_free(&first) == SCALEVIEW_OK && !first.inside);
+    check("lent once", scaleview_close(&registry) == SCALEVIEW_LENT);
+
+    uint8_t out[2] = {'?', '?'};
+    check("no room", scaleview_finish(&second, out, 0, &answer) == SCALEVIEW_NO_ROOM && answer.length == 1);
+    check("room", scaleview_finish(&second, out, 1, &answer) == SCALEVIEW_OK && answer.length == 1);
+    check("the text and no more", !memcmp(out, "2?", 2));
+    check("the text again", scaleview_finish(&second, out, 2, &answer) == SCALEVIEW_OK && out[0] == '2');
+    check("freed", scaleview_free(&second) == SCALEVIEW_OK);
+    check("closed", scaleview_close(&registry) == SCALEVIEW_OK && !registry.inside);
+}
+
+/* A handle of the other kind is told, and stays. */
+static void check_kinds(void) {
+    scaleview_registry registry = {NULL};
+    scaleview_session session = {NULL}, other = {NULL};
+    scaleview_answer answer;
+    uint8_t out[64];
+    scaleview_open(u16_registry, sizeof u16_registry, false, &registry, &answer);
+    scaleview_start(registry, 0, 64, 1 << 24, &session, &answer);
+    scaleview_registry wrong = {session.inside};
+    check("types of a session", scaleview_types(wrong, &answer) == SCALEVIEW_NO_HANDLE);
+    check("a line of a session", scaleview_type_line(wrong, 0, out, sizeof out, &answer) == SCALEVIEW_NO_HANDLE);
+    check("a value of a session", scaleview_decode(wrong, 0, 64, 1, out, 0, out, 0, &answer) == SCALEVIEW_NO_HANDLE);
+    check("a session of one", scaleview_start(wrong, 0, 64, 1, &other, &answer) == SCALEVIEW_NO_HANDLE && !other.inside);
+    check("a session closed", scaleview_close(&wrong) == SCALEVIEW_NO_HANDLE && wrong.inside == session.inside);
+    scaleview_session none = {registry.inside};
+    check("a registry fed", scaleview_feed(&none, out, 0, &answer) == SCALEVIEW_NO_HANDLE && none.inside == registry.inside);
+    check("a registry's bytes", scaleview_taken(&none, &answer) == SCALEVIEW_NO_HANDLE);
+    check("a registry ended", scaleview_finish(&none, out, 0, &answer) == SCALEVIEW_NO_HANDLE);
+    check("a registry freed", scaleview_free(&none) == SCALEVIEW_NO_HANDLE && none.inside == registry.inside);
+    check("freed", scaleview_free(&session) == SCALEVIEW_OK);
+    check("closed", scaleview_close(&registry) == SCALEVIEW_OK);
+}
+
+/* None is told, and stays. */
+static void check_none(void) {
+    scaleview_registry registry = {NULL};
+    scaleview_session session = {NULL};
+    scaleview_answer answer;
+    uint8_t out[64] = {'?'};
+    check("types of none", scaleview_types(registry, &answer) == SCALEVIEW_NO_HANDLE && answer.code == SCALEVIEW_NO_HANDLE);
+    check("a line of none", scaleview_type_line(registry, 0, out, sizeof out, &answer) == SCALEVIEW_NO_HANDLE);
+    check("a value of none", scaleview_decode(registry, 0, 64, 9, out, 1, out + 1, 9, &answer) == SCALEVIEW_NO_HANDLE);
+    check("nothing is written", out[0] == '?' && out[1] == 0);
+    check("a session of none", scaleview_start(registry, 0, 64, 9, &session, &answer) == SCALEVIEW_NO_HANDLE && !session.inside);
+    check("none is closed", scaleview_close(&registry) == SCALEVIEW_NO_HANDLE && !registry.inside);
+    check("none is fed", scaleview_feed(&session, out, 1, &answer) == SCALEVIEW_NO_HANDLE && !session.inside);
+    check("taken of none", scaleview_taken(&session, &answer) == SCALEVIEW_NO_HANDLE && answer.length == 0);
+    check("nodes of none", scaleview_nodes(&session, &answer) == SCALEVIEW_NO_HANDLE && answer.length == 0);
+    check("texts of none", scaleview_text_bytes(&session, &answer) == SCALEVIEW_NO_HANDLE && answer.length == 0);
+    check("none is ended", scaleview_finish(&session, out, 1, &answer) == SCALEVIEW_NO_HANDLE && out[0] == '?');
+    check("none is freed", scaleview_free(&session) == SCALEVIEW_NO_HANDLE && !session.inside);
+}
+
+/* A handle that is not none isn't set, so nothing is lost. */
+static void check_taken(void) {
+    scaleview_registry registry = {NULL};
+    scaleview_session session = {NULL};
+    scaleview_answer answer;
+    scaleview_open(u16_registry, sizeof u16_registry, false, &registry, &answer);
+    void *inside = registry.inside;
+    check("opened over another", scaleview_open(u16_registry, sizeof u16_registry, false, &registry, &answer) == SCALEVIEW_TAKEN);
+    check("the one before", registry.inside == inside && answer.code == SCALEVIEW_TAKEN);
+    scaleview_start(registry, 0, 64, 9, &session, &answer);
+    inside = session.inside;
+    check("started over another", scaleview_start(registry, 0, 64, 9, &session, &answer) == SCALEVIEW_TAKEN);
+    check("the session before", session.inside == inside);
+    check("freed", scaleview_free(&session) == SCALEVIEW_OK);
+    check("closed", scaleview_close(&registry) == SCALEVIEW_OK);
+}
+
+/* Bytes of texts and of runs are held, and given back. */
+static void check_counts(void) {
+    static const uint8_t bytes_registry[] = {0x08, 0x00, 0x00, 0x00, 0x05, 0x03, 0x00, 0x04, 0x00, 0x00, 0x02, 0x00, 0x00};
+    scaleview_registry registry = {NULL};
+    scaleview_session session = {NULL};
+    scaleview_answer answer;
+    uint8_t out[8];
+    scaleview_open(bytes_registry, sizeof bytes_registry, false, &registry, &answer);
+    scaleview_start(registry, 1, 64, 99, &session, &answer);
+    check("a run goes on", scaleview_feed(&session, (const uint8_t *)"\x0c\x01", 2, &answer) == SCALEVIEW_MORE);
+    check("one byte of it", scaleview_text_bytes(&session, &answer) == SCALEVIEW_OK && answer.length == 1);
+    check("no node yet", scaleview_nodes(&session, &answer) == SCALEVIEW_OK && answer.length == 0);
+    check("the run is whole", scaleview_feed(&session, (const uint8_t *)"\x02\xff", 2, &answer) == SCALEVIEW_OK && answer.length == 2);
+    check("three bytes", scaleview_text_bytes(&session, &answer) == SCALEVIEW_OK && answer.length == 3);
+    check("one node", scaleview_nodes(&session, &answer) == SCALEVIEW_OK && answer.length == 1);
+    check("the run's text", scaleview_finish(&session, out, sizeof out, &answer) == SCALEVIEW_NO_ROOM && answer.length == 10);
+    check("no node is held", scaleview_nodes(&session, &answer) == SCALEVIEW_OK && answer.length == 0);
+    scaleview_free(&session);
+    scaleview_close(&registry);
+}
+
+enum { FRESH, MORE, WHOLE, REFUSED, ENDED, CUT, STATES };
+
+/* A session of a text, as far as this. */
+static scaleview_session started(scaleview_registry registry, int state) {
+    static const struct {
+        const char *bytes;
+        size_t length;
+    } fed[STATES] = {{"", 0}, {"\x08h", 2}, {"\x08hi", 3}, {"\x08\xc3\x28", 3}, {"\x08hi", 3}, {"\x08h", 2}};
+    scaleview_session session = {NULL};
+    scaleview_answer answer;
+    uint8_t out[8];
+    check("started", scaleview_start(registry, 0, 64, 99, &session, &answer) == SCALEVIEW_OK);
+    if (state != FRESH) scaleview_feed(&session, (const uint8_t *)fed[state].bytes, fed[state].length, &answer);
+    if (state == ENDED) check("ended", scaleview_finish(&session, out, sizeof out, &answer) == SCALEVIEW_OK && answer.length == 4);
+    if (state == CUT) check("cut", scaleview_finish(&session, out, sizeof out, &answer) == SCALEVIEW_VALUE_TRUNCATED && answer.at == 2);
+    if (state == REFUSED) check("refused", answer.code == SCALEVIEW_VALUE_BAD_UTF8 && answer.at == 1);
+    return session;
+}
+
+/* Two sessions in every two states are freed in both orders; the registry is closed behind them, and not before. */
+static void check_orders(void) {
+    static const uint8_t str_registry[] = {0x04, 0x00, 0x00, 0x00, 0x05, 0x02, 0x00};
+    for (int order = 0; order < STATES * STATES * 4; order++) {
+        bool asks = order & 1, second_first = order & 2;
+        scaleview_registry registry = {NULL};
+        scaleview_answer answer;
+        scaleview_open(str_registry, sizeof str_registry, false, &registry, &answer);
+        scaleview_session a = started(registry, order / 4 / STATES), b = started(registry, order / 4 % STATES);
+        check("both have it", !asks || scaleview_close(&registry) == SCALEVIEW_LENT);
+        check("one is freed", scaleview_free(second_first ? &b : &a) == SCALEVIEW_OK);
+        check("one has it", !asks || scaleview_close(&registry) == SCALEVIEW_LENT);
+        check("none is freed", scaleview_free(second_first ? &b : &a) == SCALEVIEW_NO_HANDLE);
+        check("the other is freed", scaleview_free(second_first ? &a : &b) == SCALEVIEW_OK);
+        check("it is closed", scaleview_close(&registry) == SCALEVIEW_OK && !registry.inside);
+        check("none is closed", scaleview_close(&registry) == SCALEVIEW_NO_HANDLE);
+    }
+}
+
+/* The numbers that callers may have written down. */
+static void check_numbers(void) {
+    check("answers", SCALEVIEW_OK == 0 && SCALEVIEW_MORE == 1 && SCALEVIEW_NO_ROOM == 2 && SCALEVIEW_MEMORY == 3 &&
+                         SCALEVIEW_LENT == 4 && SCALEVIEW_NO_HANDLE == 5 && SCALEVIEW_TAKEN == 6);
+    struct {
+        const char *bytes;
+        size_t length;
+        bool metadata;
+        uint32_t code;
+        uint64_t at;
+    } registries[] = {
+        {"\x04", 1, false, 101, 1},
+        {"\x04\x00\x04\x04\xff", 5, false, 102, 4},
+        {"\x01\x00", 2, false, 103, 0},
+        {"\x07", 1, false, 104, 0},
+        {"\x04\x00\x00\x00\x00\x04\x02", 7, false, 105, 6},
+        {"\x04\x00\x00\x00\x08\x00", 6, false, 106, 4},
+        {"\x04\x00\x00\x00\x05\x0f\x00", 7, false, 107, 5},
+        {"\x04\x04\x00\x00\x05\x03\x00", 7, false, 108, 1},
+        {"\x6d\x66", 2, true, 109, 1},
+        {"\x6d\x65\x74\x61\x10", 5, true, 110, 4},
+        {"\x04\x00\x00\x00\x05\x03\x00\xff", 8, false, 111, 7},
+        {"\x04\x00\x00\x00\x02\x04\x00", 7, false, 112, 1},
+    };
+    for (size_t i = 0; i < sizeof registries / sizeof *registries; i++) {
+        scaleview_registry registry = {NULL};
+        scaleview_answer answer;
+        uint32_t code = scaleview_open((const uint8_t *)registries[i].bytes, registries[i].length, registries[i].metadata,
+                                       &registry, &answer);
+        check("a registry's code", code == registries[i].code && answer.code == code && answer.from == 0);
+        check("a registry's place", answer.at == registries[i].at && !registry.inside);
+    }
+    struct {
+        const char *registry;
+        size_t registry_length;
+        const char *bytes;
+        size_t length;
+        uint16_t depth;
+        uint64_t limit;
+        uint32_t code;
+        uint64_t at;
+    } values[] = {
+        {"\x04\x00\x00\x00\x05\x04\x00", 7, "\x01", 1, 64, 99, 301, 1},
+        {"\x04\x00\x00\x00\x05\x00\x00", 7, "\x02", 1, 64, 99, 302, 0},
+        {"\x04\x00\x00\x00\x05\x01\x00", 7, "\x00\xd8\x00\x00", 4, 64, 99, 303, 0},
+        {"\x04\x00\x00\x00\x05\x02\x00", 7, "\x08\xc3\x28", 3, 64, 99, 304, 1},
+        {"\x04\x00\x00\x00\x05\x02\x00", 7, "\x01\x00", 2, 64, 99, 305, 0},
+        {"\x04\x00\x00\x00\x05\x02\x00", 7, "\x07", 1, 64, 99, 306, 0},
+        {"\x04\x00\x00\x00\x01\x04\x04\x41\x00\x03\x00\x00", 12, "\x00", 1, 64, 99, 307, 0},
+        {"\x04\x00\x00\x00\x01\x08\x0c\x45\x6e\x64\x00\x00\x00\x10\x4e\x65\x78\x74\x04\x00\x00\x00\x00\x01\x00\x00", 26,
+         "\x01\x01\x01", 3, 2, 99, 308, 3},
+        {"\x04\x00\x00\x00\x00\x04\x00\x00\x00\x00\x00", 11, "", 0, 64, 99, 309, 0},
+        {"\x04\x00\x00\x00\x07\x00\x00\x00", 8, "", 0, 64, 99, 310, 0},
+        {"\x04\x00\x00\x00\x06\x00\x00", 7, "", 0, 64, 99, 311, 0},
+        {"\x04\x00\x00\x00\x05\x04\x00", 7, "\x01\x00", 2, 64, 1, 312, 1},
+        {"\x04\x00\x00\x00\x05\x04\x00", 7, "\x01\x00\xff", 3, 64, 99, 313, 2},
+        {"\x00", 1, "", 0, 64, 99, 201, 0},
+        {"\x04\x00\x00\x00\x05\x04\x00", 7, "\x01\x00", 2, 1025, 99, 202, 0},
+    };
+    for (size_t i = 0; i < sizeof values / sizeof *values; i++) {
+        scaleview_registry registry = {NULL};
+        scaleview_answer answer;
+        uint8_t out[64];
+        check("a registry", scaleview_open((const uint8_t *)values[i].registry, values[i].registry_length, false, &registry,
+                                           &answer) == SCALEVIEW_OK);
+        scaleview_decode(registry, 0, values[i].depth, values[i].limit, (const uint8_t *)values[i].bytes, values[i].length,
+                         out, sizeof out, &answer);
+        if (answer.code != values[i].code || answer.at != values[i].at) printf("handles: code %u for %u\n", answer.code, values[i].code);
+        check("a value's code and place", answer.code == values[i].code && answer.at == values[i].at);
+        scaleview_close(&registry);
+    }
+}
+
+int main(void) {
+    check_lending();
+    check_kinds();
+    check_none();
+    check_taken();
+    check_counts();
+    check_orders();
+    check_numbers();
+    return failures > 0;
+}

@@ -1,0 +1,107 @@
+/* Refuses each request for memory of a run in turn: memory REGISTRY ID VALUE. The call that makes it says so, and when all is
+ * freed no block is left. It is linked so that the library's requests come here (--wrap). */
+#include "scaleview.h"
+#include <stdio.h>
+#include <stdlib.h>
+
+void *__real_malloc(size_t size);
+void *__real_realloc(void *block, size_t size);
+void __real_free(void *block);
+
+/* The request that is refused, by how many come before it; and the blocks that are not freed yet. */
+static long before = -1, blocks = 0;
+
+static bool is_refused(void) { return before >= 0 && before-- == 0; }
+
+void *__wrap_malloc(size_t size) {
+    void *block = is_refused() ? NULL : __real_malloc(size);
+    blocks += block != NULL;
+    return block;
+}
+
+void *__wrap_realloc(void *block, size_t size) {
+    void *moved = is_refused() ? NULL : __real_realloc(block, size);
+    blocks += !block && moved;
+    return moved;
+}
+
+void __wrap_free(void *block) {
+    blocks -= block != NULL;
+    __real_free(block);
+}
+
+static int failures = 0;
+
+static void check(const char *what, bool is_so, long request) {
+    if (!is_so) {
+        printf("memory: request %ld refused, and not so: %s\n", request, what);
+        failures++;
+    }
+}
+
+static uint8_t bytes[2][1 << 16], out[1 << 20];
+
+static size_t read_file(const char *path, uint8_t *to) {
+    FILE *file = fopen(path, "rb");
+    if (!file) {
+        perror(path);
+        exit(3);
+    }
+    size_t length = fread(to, 1, sizeof bytes[0], file);
+    fclose(file);
+    return length;
+}
+
+static bool is_answer(uint32_t code) { return code == SCALEVIEW_OK || code == SCALEVIEW_MORE || code == SCALEVIEW_MEMORY; }
+
+/* A value by one call and in pieces. Says how many calls wanted memory. */
+static int run(size_t registry_length, uint32_t type, size_t length, long request) {
+    scaleview_registry registry = {NULL};
+    scaleview_session session = {NULL};
+    scaleview_answer answer;
+    uint32_t code = scaleview_open(bytes[0], registry_length, false, &registry, &answer);
+    int wants = code == SCALEVIEW_MEMORY;
+    check("opened or not", code == SCALEVIEW_OK ? registry.inside != NULL : code == SCALEVIEW_MEMORY && !registry.inside, request);
+    if (code != SCALEVIEW_OK) return wants;
+    code = scaleview_type_line(registry, type, out, sizeof out, &answer);
+    check("a line", is_answer(code), request);
+    wants += code == SCALEVIEW_MEMORY;
+    code = scaleview_decode(registry, type, 64, 1 << 24, bytes[1], length, out, sizeof out, &answer);
+    check("a value", is_answer(code), request);
+    wants += code == SCALEVIEW_MEMORY;
+    code = scaleview_start(registry, type, 64, 1 << 24, &session, &answer);
+    check("started or not", code == SCALEVIEW_OK ? session.inside != NULL : code == SCALEVIEW_MEMORY && !session.inside, request);
+    bool wanted = code == SCALEVIEW_MEMORY;
+    if (!wanted) {
+        for (size_t at = 0; at < length; at += 7) {
+            code = scaleview_feed(&session, bytes[1] + at, length - at < 7 ? length - at : 7, &answer);
+            check("a piece", is_answer(code) && (!wanted || code == SCALEVIEW_MEMORY), request);
+            wanted = wanted || code == SCALEVIEW_MEMORY;
+        }
+        code = scaleview_finish(&session, out, sizeof out, &answer);
+        check("the end", is_answer(code) && (!wanted || code == SCALEVIEW_MEMORY), request);
+        wanted = wanted || code == SCALEVIEW_MEMORY;
+        check("freed", scaleview_free(&session) == SCALEVIEW_OK, request);
+    }
+    check("closed", scaleview_close(&registry) == SCALEVIEW_OK, request);
+    return wants + wanted;
+}
+
+int main(int count, char **words) {
+    if (count != 4) return 2;
+    size_t registry_length = read_file(words[1], bytes[0]), length = read_file(words[3], bytes[1]);
+    uint32_t type = (uint32_t)strtoul(words[2], NULL, 10);
+    int wants = 0;
+    for (long request = 0;; request++) {
+        before = request;
+        int now = run(registry_length, type, length, request);
+        bool is_last = before >= 0;
+        check("one call at most wants memory", now <= 1, request);
+        check("nothing is refused, so nothing is wanted", !is_last || now == 0, request);
+        check("every block is freed", blocks == 0, request);
+        wants += now;
+        if (is_last || failures > 0) break;
+    }
+    check("memory was wanted", wants > 0, -1);
+    return failures > 0;
+}

@@ -1,0 +1,80 @@
+//! The calls of the library, as `clients/c/scaleview.h` tells them.
+
+use std::ffi::c_void;
+
+pub const OK: u32 = 0;
+pub const MORE: u32 = 1;
+pub const NO_ROOM: u32 = 2;
+
+/// What a call tells beside its code.
+#[repr(C)]
+#[derive(Clone, Copy, Debug, Default)]
+pub struct Answer {
+    pub code: u32,
+    pub from: u32,
+    pub at: u64,
+    pub length: u64,
+}
+
+/// A registry's or a session's pointer, null where there is none.
+#[repr(C)]
+#[derive(Clone, Copy, Debug)]
+pub struct Handle {
+    pub inside: *mut c_void,
+}
+
+impl Handle {
+    pub const NONE: Handle = Handle { inside: std::ptr::null_mut() };
+}
+
+unsafe extern "C" {
+    pub fn scaleview_open(bytes: *const u8, length: usize, metadata: bool, registry: *mut Handle, answer: *mut Answer) -> u32;
+    pub fn scaleview_close(registry: *mut Handle) -> u32;
+    pub fn scaleview_type_line(registry: Handle, id: u32, out: *mut u8, room: usize, answer: *mut Answer) -> u32;
+    pub fn scaleview_decode(
+        registry: Handle,
+        id: u32,
+        depth: u16,
+        limit: u64,
+        bytes: *const u8,
+        length: usize,
+        out: *mut u8,
+        room: usize,
+        answer: *mut Answer,
+    ) -> u32;
+    pub fn scaleview_start(
+        registry: Handle,
+        id: u32,
+        depth: u16,
+        limit: u64,
+        session: *mut Handle,
+        answer: *mut Answer,
+    ) -> u32;
+    pub fn scaleview_feed(session: *mut Handle, piece: *const u8, length: usize, answer: *mut Answer) -> u32;
+    pub fn scaleview_taken(session: *mut Handle, answer: *mut Answer) -> u32;
+    pub fn scaleview_nodes(session: *mut Handle, answer: *mut Answer) -> u32;
+    pub fn scaleview_text_bytes(session: *mut Handle, answer: *mut Answer) -> u32;
+    pub fn scaleview_finish(session: *mut Handle, out: *mut u8, room: usize, answer: *mut Answer) -> u32;
+    pub fn scaleview_free(session: *mut Handle) -> u32;
+}
+
+/// The room that a text is offered at first.
+const ROOM: usize = 4096;
+
+/// The text that a call writes, with more room where it asks for that.
+pub fn text(mut call: impl FnMut(*mut u8, usize, &mut Answer) -> u32) -> Result<String, Answer> {
+    let (mut room, mut answer) = ([0; ROOM], Answer::default());
+    let mut out = match call(room.as_mut_ptr(), ROOM, &mut answer) {
+        OK => room[..answer.length as usize].to_vec(),
+        NO_ROOM => {
+            let mut out = vec![0; answer.length as usize];
+            match call(out.as_mut_ptr(), out.len(), &mut answer) {
+                OK => out,
+                _ => return Err(answer),
+            }
+        }
+        _ => return Err(answer),
+    };
+    out.truncate(answer.length as usize);
+    Ok(String::from_utf8(out).expect("the library writes UTF-8"))
+}

@@ -1,0 +1,139 @@
+-- What the decoder's answer says of the value that all the bytes spell.
+use Rattle.std.proofs.Common.{◌≡◌, ◌==◌, ℕ, ◌<◌, ◌≤◌, List, [], ◌++◌, length, Bool, true, false, Option, Some, None, option_map, Ok, Err, refl, ap, ◌∙◌, arith, subst, inl, inr, take}
+use Rattle.std.specs.Prelude.{if◌then◌else◌, ◌≢◌}
+use Rattle.std.proofs.lemmas.Bool.{cases_lt, eq-eqb, ne_eqb}
+use Rattle.std.proofs.lemmas.List.{append-nil, length-append, length-take}
+use Rattle.registry_core.specs.declared.type_info.TypeInfo.{TypeInfo}
+use Rattle.grammar_core.specs.Tree.{Tree}
+use Rattle.value_core.specs.Shown.{Seen}
+use Rattle.decode_core.specs.Decoding.{FinishesDecoder, IsEnded}
+use Rattle.decode_core.specs.Outcome.{Job, Outcome, done, refused, more, too_long, IsOutcome}
+use Rattle.decode_core.specs.Streaming.{Forbids, IsOfJob, Joins, Trails}
+use Rattle.decode_core.specs.declared.fault.DecodeFault.{DecodeFault}
+use Rattle.decode_core.specs.declared.fault.DecodeReason.{DecodeReason}
+use Rattle.decode_core.specs.declared.fault.DecodeReason.TheVariants as reason
+use Rattle.decode_core.specs.declared.fault.OpenFault.{OpenFault}
+use Rattle.decode_core.specs.declared.fault.OpenFault.TheVariants as opening
+use Rattle.decode_core.specs.declared.pieces.PiecesFault.{PiecesFault}
+use Rattle.decode_core.specs.declared.pieces.PiecesFault.TheVariants as pieces
+use Rattle.decode_core.proofs.lists.Computed.{outcome_is_computed}
+use Rattle.scale_calls.specs.Refused.{opening_refusal, pieces_refusal, value_refusal_by}
+use Rattle.scale_calls.specs.Values.{RefusesValue, value_in, whole}
+
+-- the value that an outcome gives to so many bytes
+abbrev value_by : Job → ℕ → Outcome × ℕ → Option Seen
+value_by j len o =
+    option_map (λ v. record { types = j.registry; ty = j.ty; tree = v }) (whole len o.0 o.1)
+
+pub by_outcome : (j : Job) (b : List ℕ) (one : Outcome) (n : ℕ) → IsOutcome j b one n →
+    value_in j b ≡ value_by j (length b) (one, n)
+by_outcome j b one n h = ap (value_by j (length b)) ((outcome_is_computed j b).1 one n h)
+
+whole_where : (len taken : ℕ) (v : Tree) (same : Bool) → (taken == len) ≡ same →
+    whole len (done v) taken ≡ (if same then Some v else None)
+whole_where len taken v same e = ap (λ (t : Bool). if t then Some v else None) e
+
+seen_is : (types : List TypeInfo) (id : ℕ) (v : Seen) → v.types ≡ types → v.ty ≡ id →
+    record { types = types; ty = id; tree = v.tree } ≡ v
+seen_is types id v a b = rw (← a, ← b) refl
+
+-- all the bytes are those of the value
+pub spelled : (j : Job) (b : List ℕ) (v : Seen) (n : ℕ) → n ≡ length b → IsOfJob j v →
+    IsOutcome j b (done v.tree) n → value_in j b ≡ Some v
+spelled j b v n all of h = by_outcome j b (done v.tree) n h
+    ∙ ap (option_map (λ t. record { types = j.registry; ty = j.ty; tree = t }))
+    (whole_where (length b) n v.tree true (eq-eqb n (length b) all))
+    ∙ ap Some (seen_is j.registry j.ty v of.0 of.1)
+
+-- some of them are not
+pub not_all : (j : Job) (b : List ℕ) (v : Tree) (n : ℕ) → (n ≡ length b → ⊥) →
+    IsOutcome j b (done v) n → value_in j b ≡ None
+not_all j b v n some h = by_outcome j b (done v) n h
+    ∙ ap (option_map (λ t. record { types = j.registry; ty = j.ty; tree = t }))
+    (whole_where (length b) n v false (ne_eqb n (length b) some))
+
+-- a fault of the bytes, which is no want of memory
+ended : (j : Job) (b : List ℕ) (f : DecodeFault) (n : ℕ) → f.reason ≢ reason.OutOfMemory →
+    IsEnded j b f n → value_in j b ≡ None
+ended j b f n other (inl is) = absurd (other (ap (λ (x : DecodeFault). x.reason) is.0))
+ended j b f n other (inr (inl h)) = by_outcome j b too_long n h.1
+ended j b f n other (inr (inr h)) = by_outcome j b (refused h.0 h.1) n h.3
+
+pub faulted : (j : Job) (b : List ℕ) (f : DecodeFault) → f.reason ≢ reason.OutOfMemory →
+    FinishesDecoder j b (Err f) → value_in j b ≡ None
+faulted j b f other (inl h) = by_outcome j b more (length b) h.1
+faulted j b f other (inr h) = ended j b f h.0 other h.1
+
+-- ---- what a refusal says
+
+told_fault : (forbidden : Option OpenFault) (j : Job) (b : List ℕ) (f : DecodeFault) →
+    forbidden ≡ None → f.reason ≢ reason.OutOfMemory → FinishesDecoder j b (Err f) →
+    (forbidden ≡ None) × (value_in j b ≡ None) × FinishesDecoder j b (Err f)
+told_fault forbidden j b f none other h = (none, faulted j b f other h, h)
+
+by_reason : (r : DecodeReason) (forbidden : Option OpenFault) (j : Job) (b : List ℕ)
+    (f : DecodeFault) → r ≡ f.reason → forbidden ≡ None → FinishesDecoder j b (Err f) →
+    RefusesValue forbidden j b (value_refusal_by r f)
+by_reason reason.Truncated forbidden j b f is none h = told_fault forbidden j b f none (λ e. let bad = is ∙ e in cc) h
+by_reason reason.BadBool forbidden j b f is none h = told_fault forbidden j b f none (λ e. let bad = is ∙ e in cc) h
+by_reason reason.BadChar forbidden j b f is none h = told_fault forbidden j b f none (λ e. let bad = is ∙ e in cc) h
+by_reason reason.BadUtf8 forbidden j b f is none h = told_fault forbidden j b f none (λ e. let bad = is ∙ e in cc) h
+by_reason reason.CompactNotShortest forbidden j b f is none h = told_fault forbidden j b f none (λ e. let bad = is ∙ e in cc) h
+by_reason reason.CompactTooLarge forbidden j b f is none h = told_fault forbidden j b f none (λ e. let bad = is ∙ e in cc) h
+by_reason reason.NoSuchVariant forbidden j b f is none h = told_fault forbidden j b f none (λ e. let bad = is ∙ e in cc) h
+by_reason reason.TooDeep forbidden j b f is none h = told_fault forbidden j b f none (λ e. let bad = is ∙ e in cc) h
+by_reason reason.NoFiniteValue forbidden j b f is none h = told_fault forbidden j b f none (λ e. let bad = is ∙ e in cc) h
+by_reason reason.BitSequence forbidden j b f is none h = told_fault forbidden j b f none (λ e. let bad = is ∙ e in cc) h
+by_reason reason.BadCompact forbidden j b f is none h = told_fault forbidden j b f none (λ e. let bad = is ∙ e in cc) h
+by_reason reason.TooLong forbidden j b f is none h = told_fault forbidden j b f none (λ e. let bad = is ∙ e in cc) h
+by_reason reason.OutOfMemory forbidden j b f is none h = tt
+
+by_opening : (forbidden : Option OpenFault) (j : Job) (b : List ℕ) (f : OpenFault) →
+    Forbids forbidden f → RefusesValue forbidden j b (opening_refusal f)
+by_opening forbidden j b opening.UnknownType (inl is) = is
+by_opening forbidden j b opening.UnknownType (inr is) = let bad = is.0 in absurd cc
+by_opening forbidden j b opening.LimitOutOfRange (inl is) = is
+by_opening forbidden j b opening.LimitOutOfRange (inr is) = let bad = is.0 in absurd cc
+by_opening forbidden j b opening.OutOfMemory h = tt
+
+-- what one piece is refused for
+pub refused_by : (forbidden : Option OpenFault) (j : Job) (b : List ℕ) (f : PiecesFault) →
+    Joins forbidden j b (Err f) → RefusesValue forbidden j b (pieces_refusal f)
+refused_by forbidden j b (pieces.Open f) h = by_opening forbidden j b f h
+refused_by forbidden j b (pieces.Decode f) h = by_reason f.reason forbidden j b f refl h.0 h.1
+
+-- the pieces are one, and nothing follows it
+pub one_piece : (forbidden : Option OpenFault) (j : Job) (b : List ℕ) (f : PiecesFault) →
+    Joins forbidden j (b ++ []) (Err f) → RefusesValue forbidden j b (pieces_refusal f)
+one_piece forbidden j b f h = refused_by forbidden j b f
+    (subst (λ x. Joins forbidden j x (Err f)) (append-nil b) h)
+
+abbrev JoinsTo : Option OpenFault → Job → Seen → ℕ → List ℕ → Type 0
+JoinsTo forbidden j v n joined = Joins forbidden j joined (Ok (v, n))
+
+pub one_value : (forbidden : Option OpenFault) (j : Job) (b : List ℕ) (v : Seen) (n : ℕ) →
+    n ≡ length b → JoinsTo forbidden j v n (b ++ []) →
+    (forbidden ≡ None) × (value_in j b ≡ Some v)
+one_value forbidden j b v n all h =
+    let s = subst (λ x. JoinsTo forbidden j v n x) (append-nil b) h in
+    (s.0, spelled j b v n all s.1 s.2)
+
+short : (n len : ℕ) → n ≤ len → (n ≡ len → ⊥) → n < len
+short n len le some = elim (cases_lt n len)
+    [ inl lt ↦ lt | inr ge ↦ absurd (some (omega (arith, le, ge))) ]
+
+-- a value's own bytes are some of all
+within : (n limit : ℕ) (b front rest : List ℕ) → take limit b ≡ front ++ rest → n ≡ length front →
+    n ≤ length b
+within n limit b front rest is own =
+    omega (arith, own, ap length is, length-append front rest, length-take limit b)
+
+pub one_front : (forbidden : Option OpenFault) (j : Job) (b : List ℕ) (v : Seen) (n : ℕ) →
+    (n ≡ length b → ⊥) → JoinsTo forbidden j v n (b ++ []) →
+    (forbidden ≡ None) × (value_in j b ≡ None) × Trails j n b
+one_front forbidden j b v n some h =
+    let s = subst (λ x. JoinsTo forbidden j v n x) (append-nil b) h in (
+      s.0,
+      not_all j b v.tree n some s.2,
+      (v.tree, s.2, short n (length b) (within n j.bytes b s.2.0 s.2.1 s.2.2 s.2.5) some),
+    )

@@ -1,0 +1,4 @@
+pub mod Lines
+pub mod Opened
+pub mod Refused
+pub mod Values

@@ -1,0 +1,77 @@
+-- The registry that bytes hold, and why they hold none.
+use Rattle.std.specs.Prelude.{◌≡◌, ◌<◌, ℕ, List, [], ◌∷◌, length, drop, Option, Some, None, Ok, Err, Bool, true, false, option_map, option_and_then}
+use Rattle.scale_core.specs.Read.{Read}
+use Rattle.registry_core.specs.Answers.{FaultAnswers}
+use Rattle.registry_core.specs.Reading.{registry_at, metadata_at}
+use Rattle.registry_core.specs.declared.fault.RegistryFault.{RegistryFault}
+use Rattle.registry_core.specs.declared.type_info.TypeInfo.{TypeInfo}
+use Rattle.registry_core.specs.declared.version.Version.{Version}
+use Rattle.graph_core.specs.References.{first_fault}
+use Rattle.scale_calls.specs.declared.refusal.RegistryRefusal.{RegistryRefusal}
+use Rattle.scale_calls.specs.declared.refusal.RegistryRefusal.TheVariants as refusal
+
+-- what is read, where nothing follows it
+abbrev pub alone : {E X : Type 0} → Read E X → Option X
+alone (Ok (x, [])) = Some x
+alone (Ok (x, b ∷ bs)) = None
+alone (Err e) = None
+
+-- what is read, whatever follows it
+abbrev pub in_front : {E X : Type 0} → Read E X → Option X
+in_front (Ok x) = Some x.0
+in_front (Err e) = None
+
+-- the types of a registry's file: metadata, of which only the type section is read, or a registry
+-- alone
+abbrev pub types_of : Bool → List ℕ → Option (List TypeInfo)
+types_of true bytes = option_map (λ m. m.0) (in_front (metadata_at bytes))
+types_of false bytes = alone (registry_at bytes)
+
+-- the version that a registry's file tells, which it does where it is metadata
+abbrev pub version_of : Bool → List ℕ → Option Version
+version_of true bytes = option_map (λ m. m.1) (in_front (metadata_at bytes))
+version_of false bytes = None
+
+abbrev pub unless_fault : Option (ℕ × ℕ) → List TypeInfo → Option (List TypeInfo)
+unless_fault None types = Some types
+unless_fault (Some fault) types = None
+
+-- the same where every reference is a position
+unfoldable pub checked_of : Bool → List ℕ → Option (List TypeInfo)
+checked_of metadata bytes =
+    option_and_then (λ types. unless_fault (first_fault types) types) (types_of metadata bytes)
+
+-- the first fault of such a file
+abbrev pub IsFirst : Bool → List ℕ → RegistryFault → Type 0
+IsFirst true bytes f = FaultAnswers bytes f (metadata_at bytes)
+IsFirst false bytes f = FaultAnswers bytes f (registry_at bytes)
+
+-- why no types are read: the first fault, or bytes that follow the registry, unless memory was
+-- refused
+abbrev pub RefusesTypes : Bool → List ℕ → RegistryRefusal → Type 0
+RefusesTypes metadata bytes (refusal.Fault f) = (types_of metadata bytes ≡ None)
+    × IsFirst metadata bytes f
+RefusesTypes metadata bytes (refusal.TrailingBytes at) = (types_of metadata bytes ≡ None)
+    × (metadata ≡ false) × (at < length bytes)
+    × ((types : List TypeInfo) × (registry_at bytes ≡ Ok (types, drop at bytes)))
+RefusesTypes metadata bytes (refusal.Check unknown) = ⊥
+RefusesTypes metadata bytes refusal.Memory = Unit {0}
+
+-- why types are refused: the first reference that is no position, unless memory was refused
+abbrev pub RefusesCheck : List TypeInfo → RegistryRefusal → Type 0
+RefusesCheck types (refusal.Check unknown) = first_fault types ≡ Some (unknown.from, unknown.to)
+RefusesCheck types refusal.Memory = Unit {0}
+RefusesCheck types (refusal.Fault f) = ⊥
+RefusesCheck types (refusal.TrailingBytes at) = ⊥
+
+-- why a registry's file is refused
+abbrev pub RefusesRegistry : Bool → List ℕ → RegistryRefusal → Type 0
+RefusesRegistry metadata bytes (refusal.Fault f) = (checked_of metadata bytes ≡ None)
+    × IsFirst metadata bytes f
+RefusesRegistry metadata bytes (refusal.TrailingBytes at) = (checked_of metadata bytes ≡ None)
+    × (metadata ≡ false) × (at < length bytes)
+    × ((types : List TypeInfo) × (registry_at bytes ≡ Ok (types, drop at bytes)))
+RefusesRegistry metadata bytes (refusal.Check unknown) = (checked_of metadata bytes ≡ None)
+    × ((types : List TypeInfo) × (types_of metadata bytes ≡ Some types)
+    × (first_fault types ≡ Some (unknown.from, unknown.to)))
+RefusesRegistry metadata bytes refusal.Memory = Unit {0}

@@ -1,0 +1,51 @@
+-- What the readers below refuse, as the refusal of the whole call.
+use Rattle.registry_core.specs.declared.fault.RegistryFault.{RegistryFault}
+use Rattle.registry_core.specs.declared.fault.RegistryReason.{RegistryReason}
+use Rattle.registry_core.specs.declared.fault.RegistryReason.TheVariants as registry
+use Rattle.graph_core.specs.declared.fault.CheckFault.{CheckFault}
+use Rattle.graph_core.specs.declared.fault.CheckFault.TheVariants as check
+use Rattle.decode_core.specs.declared.fault.DecodeFault.{DecodeFault}
+use Rattle.decode_core.specs.declared.fault.DecodeReason.{DecodeReason}
+use Rattle.decode_core.specs.declared.fault.DecodeReason.TheVariants as reason
+use Rattle.decode_core.specs.declared.fault.OpenFault.{OpenFault}
+use Rattle.decode_core.specs.declared.fault.OpenFault.TheVariants as opening
+use Rattle.decode_core.specs.declared.pieces.PiecesFault.{PiecesFault}
+use Rattle.decode_core.specs.declared.pieces.PiecesFault.TheVariants as pieces
+use Rattle.scale_calls.specs.declared.refusal.RegistryRefusal.{RegistryRefusal}
+use Rattle.scale_calls.specs.declared.refusal.RegistryRefusal.TheVariants as types
+use Rattle.scale_calls.specs.declared.refusal.ValueRefusal.{ValueRefusal}
+use Rattle.scale_calls.specs.declared.refusal.ValueRefusal.TheVariants as value
+
+-- a fault with this reason
+abbrev pub registry_refusal_by : RegistryReason → RegistryFault → RegistryRefusal
+registry_refusal_by registry.OutOfMemory f = types.Memory
+registry_refusal_by _ f = types.Fault f
+
+-- a registry's fault, where want of memory is no fault of its bytes
+abbrev pub registry_refusal : RegistryFault → RegistryRefusal
+registry_refusal f = registry_refusal_by f.reason f
+
+-- a check's fault, where want of memory is none of the registry's
+abbrev pub check_refusal : CheckFault → RegistryRefusal
+check_refusal (check.UnknownType from to) = types.Check (record { from = from.0; to = to.0 })
+check_refusal check.OutOfMemory = types.Memory
+
+-- a fault with this reason
+abbrev pub value_refusal_by : DecodeReason → DecodeFault → ValueRefusal
+value_refusal_by reason.OutOfMemory f = value.Memory
+value_refusal_by _ f = value.Fault f
+
+-- a value's fault, where want of memory is no fault of its bytes
+abbrev pub value_refusal : DecodeFault → ValueRefusal
+value_refusal f = value_refusal_by f.reason f
+
+-- why no decoder is made
+abbrev pub opening_refusal : OpenFault → ValueRefusal
+opening_refusal opening.UnknownType = value.UnknownType
+opening_refusal opening.LimitOutOfRange = value.LimitOutOfRange
+opening_refusal opening.OutOfMemory = value.Memory
+
+-- why pieces that are all there give no value
+abbrev pub pieces_refusal : PiecesFault → ValueRefusal
+pieces_refusal (pieces.Open f) = opening_refusal f
+pieces_refusal (pieces.Decode f) = value_refusal f

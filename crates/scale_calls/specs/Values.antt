@@ -1,0 +1,47 @@
+-- The value that all bytes spell, and why they spell none.
+use Rattle.std.specs.Prelude.{◌≡◌, ◌==◌, ℕ, List, length, if◌then◌else◌, Option, Some, None, option_map, Result, Ok, Err}
+use Rattle.grammar_core.specs.Tree.{Tree}
+use Rattle.value_core.specs.Shown.{Seen}
+use Rattle.json_core.specs.Json.{json_text}
+use Rattle.decode_core.specs.Outcome.{Job, Outcome, done, refused, more, too_long, outcome_of}
+use Rattle.decode_core.specs.Decoding.{FinishesDecoder}
+use Rattle.decode_core.specs.Streaming.{Trails}
+use Rattle.decode_core.specs.declared.fault.OpenFault.{OpenFault}
+use Rattle.decode_core.specs.declared.fault.OpenFault.TheVariants as opening
+use Rattle.scale_calls.specs.declared.refusal.ValueRefusal.{ValueRefusal}
+use Rattle.scale_calls.specs.declared.refusal.ValueRefusal.TheVariants as refusal
+
+-- the value, where so many bytes are its own
+abbrev pub whole : ℕ → Outcome → ℕ → Option Tree
+whole len (done v) taken = if taken == len then Some v else None
+whole len (refused reason at) taken = None
+whole len more taken = None
+whole len too_long taken = None
+
+-- the value of the job's type that all the bytes spell
+abbrev pub value_in : Job → List ℕ → Option Seen
+value_in j bytes = option_map (λ v. record { types = j.registry; ty = j.ty; tree = v })
+    (whole (length bytes) (outcome_of j bytes).0 (outcome_of j bytes).1)
+
+-- why bytes are refused: the type or a limit, the fault of the bytes, or that some follow the
+-- value, unless memory was refused
+abbrev pub RefusesValue : Option OpenFault → Job → List ℕ → ValueRefusal → Type 0
+RefusesValue forbidden j b refusal.UnknownType = forbidden ≡ Some opening.UnknownType
+RefusesValue forbidden j b refusal.LimitOutOfRange = forbidden ≡ Some opening.LimitOutOfRange
+RefusesValue forbidden j b (refusal.Fault f) = (forbidden ≡ None) × (value_in j b ≡ None)
+    × FinishesDecoder j b (Err f)
+RefusesValue forbidden j b (refusal.TrailingBytes at) = (forbidden ≡ None) × (value_in j b ≡ None)
+    × Trails j at b
+RefusesValue forbidden j b refusal.Memory = Unit {0}
+
+-- the value, or why there is none
+abbrev pub ReadsValue : Option OpenFault → Job → List ℕ → Result Seen ValueRefusal → Type 0
+ReadsValue forbidden j b (Ok v) = (forbidden ≡ None) × (value_in j b ≡ Some v)
+ReadsValue forbidden j b (Err e) = RefusesValue forbidden j b e
+
+-- the text of its JSON, by the bytes of what was made, or why there is none
+abbrev pub ShowsValue : {X : Type 0} → (X → List ℕ) → Option OpenFault → Job → List ℕ →
+    Result X ValueRefusal → Type 0
+ShowsValue bytes_of forbidden j b (Ok text) = (forbidden ≡ None)
+    × (option_map json_text (value_in j b) ≡ Some (bytes_of text))
+ShowsValue bytes_of forbidden j b (Err e) = RefusesValue forbidden j b e

@@ -1,0 +1,146 @@
+//! The lines that tell the types of a registry, and the version of the metadata around it.
+
+ghost use Rattle.std.specs.Prelude.{◌≡◌, ◌<◌, ◌++◌, length, IfOk, OnOk, option_map, string_bytes};
+ghost use Rattle.serde_json.specs.Data.{string};
+ghost use Rattle.serde_json.specs.Written.{compact_text};
+ghost use Rattle.scale_calls.specs.Lines.{class_name, joined, kind_name, line_of_type, primitive_name, type_line, type_lines, version_line};
+
+use registry_core::{Primitive, Text, TypeDef, TypeId, TypeInfo, Version};
+use serde_json::Value;
+use std::alloc::{AllocError, Global};
+use widths_core::{Checked, Class};
+
+/// A class's name.
+fn class_name(class: Class) -> &'static str
+    ensures { result.now ≡ class_name class }
+{
+    match class {
+        Class::NoValue => "NoValue",
+        Class::Empty => "Empty",
+        Class::Sized => "Sized",
+    }
+}
+
+/// A primitive's name in small letters.
+fn primitive_name(primitive: Primitive) -> &'static str
+    ensures { result.now ≡ primitive_name primitive }
+{
+    match primitive {
+        Primitive::Bool => "bool",
+        Primitive::Char => "char",
+        Primitive::Str => "str",
+        Primitive::U8 => "u8",
+        Primitive::U16 => "u16",
+        Primitive::U32 => "u32",
+        Primitive::U64 => "u64",
+        Primitive::U128 => "u128",
+        Primitive::U256 => "u256",
+        Primitive::I8 => "i8",
+        Primitive::I16 => "i16",
+        Primitive::I32 => "i32",
+        Primitive::I64 => "i64",
+        Primitive::I128 => "i128",
+        Primitive::I256 => "i256",
+    }
+}
+
+/// What kind of definition it is; of a primitive, which one.
+fn kind_name(shape: &TypeDef) -> &'static str
+    ensures { result.now ≡ kind_name shape.now }
+{
+    match shape {
+        TypeDef::Composite(_) => "composite",
+        TypeDef::Variant(_) => "variant",
+        TypeDef::Sequence(_) => "sequence",
+        TypeDef::Array(_, _) => "array",
+        TypeDef::Tuple(_) => "tuple",
+        TypeDef::Primitive(primitive) => primitive_name(*primitive),
+        TypeDef::Compact(_) => "compact",
+        TypeDef::BitSequence { .. } => "bitsequence",
+    }
+}
+
+/// The segments, with two colons between one and the next.
+fn joined(alloc: Global, segments: &[Text]) -> Result<String, AllocError>
+    ensures { IfOk result (λ path. string_bytes path ≡ joined segments.now) }
+{
+    let Some((first, others)) = segments.split_first() else {
+        return Ok(String::new(alloc));
+    };
+    let mut path = String::from_str(alloc, first.as_str())?;
+    'segments: for segment in others {
+        path.push_str("::")?;
+        path.push_str(segment.as_str())?;
+    }
+    Ok(path)
+}
+
+/// A path as a JSON text.
+fn path_text(alloc: Global, segments: &[Text]) -> Result<String, AllocError>
+    ensures { IfOk result (λ text. string_bytes text ≡ compact_text (string (joined segments.now))) }
+{
+    let path = joined(alloc, segments)?;
+    Value::String(path).to_string(alloc)
+}
+
+/// Appends the line of a type: its position, class, kind and path, with one space between.
+fn push_line(
+    alloc: Global,
+    lines: &mut String,
+    id: u32,
+    class: Class,
+    info: &TypeInfo,
+) -> Result<(), AllocError>
+    ensures { OnOk result (string_bytes lines.new ≡ string_bytes lines.old ++ line_of_type id class info.now) }
+{
+    let class = class_name(class);
+    let kind = kind_name(&info.shape);
+    let path = path_text(alloc, info.path.as_slice())?;
+    let line = format!(in alloc; "{id} {class} {kind} {path}\n")?;
+    lines.push_str(line.as_str())
+}
+
+/// Appends the lines of all types, in order of position, each with a line feed. Where memory is refused a beginning of
+/// them may have been appended.
+pub fn push_type_lines(
+    alloc: Global,
+    lines: &mut String,
+    checked: &Checked,
+) -> Result<(), AllocError>
+    ensures { OnOk result (string_bytes lines.new ≡ string_bytes lines.old ++ type_lines checked.now.types) }
+{
+    'types: for (i, info) in checked.registry().types().iter().enumerate() {
+        let id = i as u32;
+        let class = checked.class(TypeId(id)).unwrap();
+        push_line(alloc, lines, id, class, info)?;
+    }
+    Ok(())
+}
+
+/// The line of the type at a position, with a line feed; none where the registry has no such type. Refuses want of memory.
+pub fn type_line(alloc: Global, checked: &Checked, id: u32) -> Result<Option<String>, AllocError>
+    ensures { IfOk result (λ line. option_map string_bytes line ≡ type_line checked.now.types id) }
+{
+    let Some(class) = checked.class(TypeId(id)) else {
+        return Ok(None);
+    };
+    let Some(info) = checked.registry().types().get(id as usize) else {
+        return Ok(None);
+    };
+    let mut line = String::new(alloc);
+    push_line(alloc, &mut line, id, class, info)?;
+    Ok(Some(line))
+}
+
+/// The line of the version of metadata, with a line feed, or no line where there is none. Refuses want of memory.
+pub fn version_line(alloc: Global, version: Option<Version>) -> Result<String, AllocError>
+    ensures { IfOk result (λ line. string_bytes line ≡ version_line version) }
+{
+    match version {
+        Some(version) => {
+            let number = version.number();
+            format!(in alloc; "metadata {number}\n")
+        }
+        None => Ok(String::new(alloc)),
+    }
+}

@@ -1,0 +1,114 @@
+//! Why bytes hold no registry, or no value of one of its types.
+
+ghost use Rattle.std.specs.Prelude.{◌≡◌};
+ghost use Rattle.scale_calls.specs.Refused.{check_refusal, opening_refusal, pieces_refusal, registry_refusal, value_refusal};
+ghost use Rattle.scale_calls.specs.declared.refusal.ValueRefusal.TheVariants.{Memory};
+
+use decode_core::{DecodeFault, DecodeReason, OpenFault, PiecesFault};
+use registry_core::{RegistryFault, RegistryReason};
+use std::alloc::AllocError;
+use thiserror::Error;
+use widths_core::CheckFault;
+
+/// The type `from` refers to the type `to`, which is not there.
+#[derive(Clone, Copy, Debug, PartialEq, Eq, Error)]
+#[error("UnknownType {to} in type {from}")]
+pub struct UnknownReference {
+    pub from: u32,
+    pub to: u32,
+}
+
+/// Why bytes hold no checked registry.
+#[derive(Clone, Copy, Debug, PartialEq, Eq)]
+pub enum RegistryRefusal {
+    /// The first fault of the bytes.
+    Fault(RegistryFault),
+    /// Bytes follow the registry, which has so many.
+    TrailingBytes(u64),
+    /// A type refers to one that is not there.
+    Check(UnknownReference),
+    /// Memory was refused.
+    Memory,
+}
+
+impl From<RegistryFault> for RegistryRefusal {
+    ghost from_gives = { λ f r. r ≡ registry_refusal f };
+
+    fn from(fault: RegistryFault) -> RegistryRefusal {
+        match fault.reason {
+            RegistryReason::OutOfMemory => RegistryRefusal::Memory,
+            _ => RegistryRefusal::Fault(fault),
+        }
+    }
+}
+
+impl From<CheckFault> for RegistryRefusal {
+    ghost from_gives = { λ f r. r ≡ check_refusal f };
+
+    fn from(fault: CheckFault) -> RegistryRefusal {
+        match fault {
+            CheckFault::UnknownType { from, to } => RegistryRefusal::Check(UnknownReference {
+                from: from.0,
+                to: to.0,
+            }),
+            CheckFault::OutOfMemory => RegistryRefusal::Memory,
+        }
+    }
+}
+
+/// Why bytes that are all there are no value of a type of the registry.
+#[derive(Clone, Copy, Debug, PartialEq, Eq)]
+pub enum ValueRefusal {
+    /// The registry has no type at the position.
+    UnknownType,
+    /// The depth is above 1024, or the limit of bytes above 2^40.
+    LimitOutOfRange,
+    /// The first fault of the bytes.
+    Fault(DecodeFault),
+    /// Bytes follow the value, which has so many.
+    TrailingBytes(u64),
+    /// Memory was refused.
+    Memory,
+}
+
+impl From<OpenFault> for ValueRefusal {
+    ghost from_gives = { λ f r. r ≡ opening_refusal f };
+
+    fn from(fault: OpenFault) -> ValueRefusal {
+        match fault {
+            OpenFault::UnknownType => ValueRefusal::UnknownType,
+            OpenFault::LimitOutOfRange => ValueRefusal::LimitOutOfRange,
+            OpenFault::OutOfMemory => ValueRefusal::Memory,
+        }
+    }
+}
+
+impl From<DecodeFault> for ValueRefusal {
+    ghost from_gives = { λ f r. r ≡ value_refusal f };
+
+    fn from(fault: DecodeFault) -> ValueRefusal {
+        match fault.reason {
+            DecodeReason::OutOfMemory => ValueRefusal::Memory,
+            _ => ValueRefusal::Fault(fault),
+        }
+    }
+}
+
+impl From<PiecesFault> for ValueRefusal {
+    ghost from_gives = { λ f r. r ≡ pieces_refusal f };
+
+    fn from(fault: PiecesFault) -> ValueRefusal {
+        match fault {
+            PiecesFault::Open(fault) => ValueRefusal::from(fault),
+            PiecesFault::Decode(fault) => ValueRefusal::from(fault),
+        }
+    }
+}
+
+impl From<AllocError> for ValueRefusal {
+    ghost from_gives = { λ _ r. r ≡ Memory };
+
+    fn from(_error: AllocError) -> ValueRefusal {
+        ValueRefusal::Memory
+    }
+}

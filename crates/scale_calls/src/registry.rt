@@ -1,0 +1,61 @@
+//! A registry from bytes that are all there, checked, and the version of the metadata that it stood in.
+
+ghost use Rattle.std.specs.Prelude.{◌≡◌, Some, IfOk, IfErr};
+ghost use Rattle.graph_core.specs.References.{first_fault};
+ghost use Rattle.scale_calls.specs.Opened.{RefusesCheck, RefusesRegistry, RefusesTypes, checked_of, types_of, unless_fault, version_of};
+
+use crate::refusal::RegistryRefusal;
+use registry_core::{Registry, Version, read_metadata, read_registry};
+use std::alloc::Global;
+use widths_core::Checked;
+
+/// The registry that all the bytes spell, or where they are metadata the one behind its prefix, and its version.
+fn registry_of(
+    alloc: Global,
+    metadata: bool,
+    bytes: &[u8],
+) -> Result<(Registry, Option<Version>), RegistryRefusal>
+    ensures ok { IfOk result (λ x. types_of metadata bytes.now ≡ Some x.0) }
+    ensures version { IfOk result (λ x. version_of metadata bytes.now ≡ x.1) }
+    ensures err { IfErr result (RefusesTypes metadata bytes.now) }
+{
+    if metadata {
+        let (registry, _, version) = read_metadata(alloc, bytes)?;
+        return Ok((registry, Some(version)));
+    }
+    let (registry, len) = read_registry(alloc, bytes)?;
+    if len < bytes.len() {
+        return Err(RegistryRefusal::TrailingBytes(len as u64));
+    }
+    Ok((registry, None))
+}
+
+/// The registry with its references checked.
+fn checked(alloc: Global, registry: Registry) -> Result<Checked, RegistryRefusal>
+    ensures ok { IfOk result (λ types. unless_fault (first_fault registry) registry ≡ Some types.types) }
+    ensures err { IfErr result (RefusesCheck registry) }
+{
+    match Checked::new(alloc, registry) {
+        Ok(checked) => Ok(checked),
+        Err((fault, _)) => Err(RegistryRefusal::from(fault)),
+    }
+}
+
+/// Opens the registry that all the bytes hold, with its references checked; of metadata the one behind its prefix, and its
+/// version. What follows the registry in metadata is not looked at.
+///
+/// Refuses, in this order: the first fault of the bytes as `Fault`, bytes after a registry that stands alone as
+/// `TrailingBytes` at its length, and the first reference that is no position as `Check`; want of memory as `Memory`.
+#[tactic(auto, unfolding(crate::specs::Opened::checked_of))]
+pub fn open_registry(
+    alloc: Global,
+    metadata: bool,
+    bytes: &[u8],
+) -> Result<(Checked, Option<Version>), RegistryRefusal>
+    ensures ok { IfOk result (λ x. checked_of metadata bytes.now ≡ Some x.0.types) }
+    ensures version { IfOk result (λ x. version_of metadata bytes.now ≡ x.1) }
+    ensures err { IfErr result (RefusesRegistry metadata bytes.now) }
+{
+    let (registry, version) = registry_of(alloc, metadata, bytes)?;
+    Ok((checked(alloc, registry)?, version))
+}

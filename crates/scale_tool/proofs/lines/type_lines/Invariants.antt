@@ -1,7 +1,0 @@
-use Rattle.std.proofs.Common.{◌≡◌, take}
-use Rattle.std.specs.Prelude.{string_bytes}
-use Rattle.scale_tool.specs.Lines.{lines_from}
-use Rattle.scale_tool.proofs.lines.type_lines.Given as goal
-
-abbrev pub invariant-types : goal.invariant-types
-invariant-types l = string_bytes l.lines ≡ lines_from l.checked.types 0 (take l.i l.info-items)

@@ -1,0 +1,4 @@
+pub mod Ended
+pub mod Handles
+pub mod Lents
+pub mod Pointers

@@ -1,0 +1,218 @@
+-- What each call does to what is behind its handles, and what it tells.
+use Rattle.std.specs.Prelude.{◌≡◌, ℕ, ◌<◌, ◌≤◌, ◌⊎◌, List, [], ◌++◌, length, drop, Bool, Option, Some, None, MatchOption, Result, Ok, Err, string_bytes}
+use Rattle.grammar_core.specs.declared.limits.Limits.{Limits}
+use Rattle.value_core.specs.Shown.{Seen}
+use Rattle.json_core.specs.Json.{json_text}
+use Rattle.decode_core.specs.Outcome.{Job}
+use Rattle.decode_core.specs.Decoding.{AnswersPiece, Decoding, FinishesDecoder, Led, first_of_all, opening_fault}
+use Rattle.decode_core.specs.Streaming.{job_of}
+use Rattle.decode_core.specs.declared.decoder.Progress.{Progress}
+use Rattle.decode_core.specs.declared.fault.DecodeFault.{DecodeFault}
+use Rattle.decode_core.specs.declared.fault.OpenFault.{OpenFault}
+use Rattle.scale_calls.specs.Lines.{type_line}
+use Rattle.scale_calls.specs.Opened.{RefusesRegistry, checked_of}
+use Rattle.scale_calls.specs.Refused.{opening_refusal, value_refusal}
+use Rattle.scale_calls.specs.Values.{ShowsValue}
+use Rattle.scale_calls.specs.declared.refusal.RegistryRefusal.{RegistryRefusal}
+use Rattle.scale_calls.specs.declared.refusal.ValueRefusal.{ValueRefusal}
+use Rattle.scale_calls.specs.declared.refusal.ValueRefusal.TheVariants as value
+use Rattle.scaleview_c.specs.Codes.{counted, plain, progress_answer, registry_answer, value_answer}
+use Rattle.scaleview_c.specs.declared.codes.Answer.{Answer}
+use Rattle.scaleview_c.specs.declared.held.Held.{Held}
+use Rattle.scaleview_c.specs.declared.held.Held.TheVariants as held
+use Rattle.scaleview_c.specs.declared.opened.Opened.{Opened}
+use Rattle.scaleview_c.specs.declared.session.Stage.{Stage}
+use Rattle.scaleview_c.specs.declared.session.Stage.TheVariants as stage
+
+-- the text stands at the front of what is written to; or it has no room there, and nothing is
+-- written
+abbrev pub Writes : List ℕ → List ℕ → List ℕ → Answer → Type 0
+Writes text old new a = ((length text ≤ length old) × (new ≡ text ++ drop (length text) old)
+    × (a ≡ counted 0 (length text)))
+    ⊎ ((length old < length text) × (new ≡ old) × (a ≡ counted 2 (length text)))
+
+-- the code alone is told
+abbrev pub Leaves : List ℕ → List ℕ → Answer → Answer → Type 0
+Leaves old new told a = (new ≡ old) × (a ≡ told)
+
+-- ---- registries
+
+-- the registry that the bytes hold is behind the handle; or nothing is, and it is told why
+abbrev pub Opens : Bool → List ℕ → Option Held → Answer → Type 0
+Opens metadata b (Some (held.Registry o)) a = (checked_of metadata b ≡ Some o.checked.types)
+    × (a ≡ counted 0 (length o.checked.types))
+Opens metadata b (Some (held.Session s)) a = ⊥
+Opens metadata b None a = (e : RegistryRefusal) × RefusesRegistry metadata b e
+    × (a ≡ registry_answer e)
+
+-- it is told that the handle is not none, and what is behind it stays
+abbrev pub Stays : Option Held → Option Held → Answer → Type 0
+Stays old new a = (new ≡ old) × (a ≡ plain 6)
+
+-- the registry is opened behind a handle that is none
+abbrev pub OpensHandle : Option Held → Bool → List ℕ → Option Held → Answer → Type 0
+OpensHandle (Some old) metadata b new a = Stays (Some old) new a
+OpensHandle None metadata b new a = Opens metadata b new a
+
+-- the same of a box, by what it holds
+abbrev pub OpensBox : {X : Type 0} → (X → Held) → Bool → List ℕ → Result (X × ℕ) RegistryRefusal →
+    Type 0
+OpensBox value_of metadata b (Ok x) =
+    Opens metadata b (Some (value_of x.0)) (counted 0 x.1)
+OpensBox value_of metadata b (Err e) = RefusesRegistry metadata b e
+
+-- nothing is behind the handle any more; or it stays, since a session has the registry, or since
+-- it is no registry
+abbrev pub Closes : Option Held → Option Held → ℕ → Type 0
+Closes (Some (held.Registry o)) new code = ((code ≡ 0) × (new ≡ None))
+    ⊎ ((code ≡ 4) × (new ≡ Some (held.Registry o)))
+Closes (Some (held.Session s)) new code = (code ≡ 5) × (new ≡ Some (held.Session s))
+Closes None new code = (code ≡ 5) × (new ≡ None)
+
+-- how many types there are
+abbrev pub TellsTypes : Option Held → Answer → Type 0
+TellsTypes (Some (held.Registry o)) a = a ≡ counted 0 (length o.checked.types)
+TellsTypes (Some (held.Session s)) a = a ≡ plain 5
+TellsTypes None a = a ≡ plain 5
+
+-- the line of the type is written, where there is one, unless memory was refused
+abbrev pub WritesLine : Option Held → ℕ → List ℕ → List ℕ → Answer → Type 0
+WritesLine (Some (held.Registry o)) id old new a = Leaves old new (plain 3) a
+    ⊎ MatchOption (type_line o.checked.types id) (Leaves old new (plain 201) a)
+    (λ line. Writes line old new a)
+WritesLine (Some (held.Session s)) id old new a = Leaves old new (plain 5) a
+WritesLine None id old new a = Leaves old new (plain 5) a
+
+-- a text is written, or it is told why there is none
+abbrev pub WritesResult : Result (List ℕ) ValueRefusal → List ℕ → List ℕ → Answer → Type 0
+WritesResult (Ok text) old new a = Writes text old new a
+WritesResult (Err e) old new a = Leaves old new (value_answer e) a
+
+-- the JSON of the value that the bytes spell is written, or it is told why there is none
+abbrev pub WritesJson : Opened → ℕ → Limits → List ℕ → List ℕ → List ℕ → Answer → Type 0
+WritesJson o id limits b old new a = (r : Result (List ℕ) ValueRefusal)
+    × ShowsValue (λ (text : List ℕ). text) (opening_fault o.checked.types id limits)
+    (job_of o.checked.types id limits) b r × WritesResult r old new a
+
+abbrev pub WritesValue : Option Held → ℕ → Limits → List ℕ → List ℕ → List ℕ → Answer → Type 0
+WritesValue (Some (held.Registry o)) id limits b old new a = WritesJson o id limits b old new a
+WritesValue (Some (held.Session s)) id limits b old new a = Leaves old new (plain 5) a
+WritesValue None id limits b old new a = Leaves old new (plain 5) a
+
+-- ---- sessions
+
+-- why no session is started, unless memory was refused
+abbrev pub ForbidsStart : Option OpenFault → Answer → Type 0
+ForbidsStart forbidden a = ((f : OpenFault) × (forbidden ≡ Some f)
+    × (a ≡ value_answer (opening_refusal f))) ⊎ (a ≡ plain 3)
+
+-- a decoder of the type that has taken nothing
+abbrev pub IsStarted : Opened → ℕ → Limits → Stage → Type 0
+IsStarted o id limits (stage.Decoding d) = (opening_fault o.checked.types id limits ≡ None)
+    × (d ≡ first_of_all o.checked.types id limits) × Led d []
+IsStarted o id limits (stage.Shown text) = ⊥
+IsStarted o id limits (stage.Refused e) = ⊥
+
+-- what a box holds is such a session; or it is told why there is none
+abbrev pub IsSession : Opened → ℕ → Limits → Held → Type 0
+IsSession o id limits (held.Session s) = IsStarted o id limits s.stage
+IsSession o id limits (held.Registry other) = ⊥
+
+abbrev pub StartsBox : {X : Type 0} → (X → Held) → Opened → ℕ → Limits →
+    Result X ValueRefusal → Type 0
+StartsBox value_of o id limits (Ok x) = IsSession o id limits (value_of x)
+StartsBox value_of o id limits (Err e) =
+    ForbidsStart (opening_fault o.checked.types id limits) (value_answer e)
+
+-- such a session is behind the handle; or nothing is, and it is told why
+abbrev pub Starts : Option Held → ℕ → Limits → Option Held → Answer → Type 0
+Starts (Some (held.Registry o)) id limits (Some (held.Session s)) a = IsStarted o id limits s.stage
+    × (a ≡ plain 0)
+Starts (Some (held.Registry o)) id limits (Some (held.Registry other)) a = ⊥
+Starts (Some (held.Registry o)) id limits None a =
+    ForbidsStart (opening_fault o.checked.types id limits) a
+Starts (Some (held.Session s)) id limits new a = (new ≡ None) × (a ≡ plain 5)
+Starts None id limits new a = (new ≡ None) × (a ≡ plain 5)
+
+-- the session is started behind a handle that is none
+abbrev pub StartsHandle : Option Held → Option Held → ℕ → Limits → Option Held → Answer → Type 0
+StartsHandle (Some old) registry id limits new a = Stays (Some old) new a
+StartsHandle None registry id limits new a = Starts registry id limits new a
+
+-- the answer to a piece as numbers
+abbrev pub fed_answer : Result Progress DecodeFault → Answer
+fed_answer (Ok progress) = progress_answer progress
+fed_answer (Err f) = value_answer (value_refusal f)
+
+-- the decoder took the piece, and its answer is told; a value that was ended stays
+abbrev pub FeedsStage : Stage → List ℕ → Stage → Answer → Type 0
+FeedsStage (stage.Decoding d) piece (stage.Decoding e) a = (r : Result Progress DecodeFault)
+    × ((b : List ℕ) → Led d b → AnswersPiece d e (b ++ piece) r × Led e (b ++ piece))
+    × (a ≡ fed_answer r)
+FeedsStage (stage.Decoding d) piece (stage.Shown text) a = ⊥
+FeedsStage (stage.Decoding d) piece (stage.Refused e) a = ⊥
+FeedsStage (stage.Shown text) piece new a = (new ≡ stage.Shown text) × (a ≡ counted 0 0)
+FeedsStage (stage.Refused e) piece new a = (new ≡ stage.Refused e) × (a ≡ value_answer e)
+
+-- there is no session, which is told, and nothing changes
+abbrev pub IsNone : Option Held → Option Held → Answer → Type 0
+IsNone old new a = (new ≡ old) × (a ≡ plain 5)
+
+abbrev pub Feeds : Option Held → List ℕ → Option Held → Answer → Type 0
+Feeds (Some (held.Session s)) piece (Some (held.Session t)) a = FeedsStage s.stage piece t.stage a
+Feeds (Some (held.Session s)) piece (Some (held.Registry o)) a = ⊥
+Feeds (Some (held.Session s)) piece None a = ⊥
+Feeds (Some (held.Registry o)) piece new a = IsNone (Some (held.Registry o)) new a
+Feeds None piece new a = IsNone None new a
+
+-- a number of a decoder that is on its way
+abbrev pub number_by : (Decoding → ℕ) → Stage → ℕ
+number_by count (stage.Decoding d) = count d
+number_by count (stage.Shown text) = 0
+number_by count (stage.Refused e) = 0
+
+abbrev pub taken_of : Decoding → ℕ
+taken_of d = d.taken
+
+-- it is told, and nothing changes
+abbrev pub Tells : (Decoding → ℕ) → Option Held → Option Held → Answer → Type 0
+Tells count (Some (held.Session s)) new a = (new ≡ Some (held.Session s))
+    × (a ≡ counted 0 (number_by count s.stage))
+Tells count (Some (held.Registry o)) new a = IsNone (Some (held.Registry o)) new a
+Tells count None new a = IsNone None new a
+
+-- the end of these bytes: the JSON of their value, or why there is none, unless memory was refused
+abbrev pub EndsAs : Job → List ℕ → Stage → Type 0
+EndsAs j b (stage.Shown text) = (v : Seen) × FinishesDecoder j b (Ok v)
+    × (string_bytes text ≡ json_text v)
+EndsAs j b (stage.Refused (value.Fault f)) = FinishesDecoder j b (Err f)
+EndsAs j b (stage.Refused value.Memory) = Unit {0}
+EndsAs j b (stage.Refused _) = ⊥
+EndsAs j b (stage.Decoding d) = ⊥
+
+-- a value on its way is ended, and one that was ended stays
+abbrev pub Ends : Stage → Stage → Type 0
+Ends (stage.Decoding d) new = (b : List ℕ) → Led d b → EndsAs d.job b new
+Ends (stage.Shown text) new = new ≡ stage.Shown text
+Ends (stage.Refused e) new = new ≡ stage.Refused e
+
+-- its text is written, or it is told why there is none
+abbrev pub WritesStage : Stage → List ℕ → List ℕ → Answer → Type 0
+WritesStage (stage.Decoding d) old new a = Leaves old new (plain 1) a
+WritesStage (stage.Shown text) old new a = Writes (string_bytes text) old new a
+WritesStage (stage.Refused e) old new a = Leaves old new (value_answer e) a
+
+abbrev pub Finishes : Option Held → Option Held → List ℕ → List ℕ → Answer → Type 0
+Finishes (Some (held.Session s)) (Some (held.Session t)) old new a = Ends s.stage t.stage
+    × WritesStage t.stage old new a
+Finishes (Some (held.Session s)) (Some (held.Registry o)) old new a = ⊥
+Finishes (Some (held.Session s)) None old new a = ⊥
+Finishes (Some (held.Registry o)) kept old new a = IsNone (Some (held.Registry o)) kept a
+    × (new ≡ old)
+Finishes None kept old new a = IsNone None kept a × (new ≡ old)
+
+-- nothing is behind the handle any more, or the registry that was there
+abbrev pub Frees : Option Held → Option Held → ℕ → Type 0
+Frees (Some (held.Session s)) new code = (new ≡ None) × (code ≡ 0)
+Frees (Some (held.Registry o)) new code = (new ≡ Some (held.Registry o)) × (code ≡ 5)
+Frees None new code = (new ≡ None) × (code ≡ 5)

@@ -1,0 +1,74 @@
+-- Answers as numbers.
+use Rattle.std.specs.Prelude.{ℕ}
+use Rattle.registry_core.specs.declared.fault.RegistryReason.{RegistryReason}
+use Rattle.registry_core.specs.declared.fault.RegistryReason.TheVariants as registry
+use Rattle.decode_core.specs.declared.fault.DecodeReason.{DecodeReason}
+use Rattle.decode_core.specs.declared.fault.DecodeReason.TheVariants as reason
+use Rattle.decode_core.specs.declared.decoder.Progress.{Progress}
+use Rattle.decode_core.specs.declared.decoder.Progress.TheVariants as progress
+use Rattle.scale_calls.specs.declared.refusal.RegistryRefusal.{RegistryRefusal}
+use Rattle.scale_calls.specs.declared.refusal.RegistryRefusal.TheVariants as types
+use Rattle.scale_calls.specs.declared.refusal.ValueRefusal.{ValueRefusal}
+use Rattle.scale_calls.specs.declared.refusal.ValueRefusal.TheVariants as value
+use Rattle.scaleview_c.specs.declared.codes.Answer.{Answer}
+
+-- the number of a reason: from 101 for a registry's bytes, from 301 for a value's, and 3 for want of
+-- memory
+abbrev pub registry_code : RegistryReason → ℕ
+registry_code registry.Truncated = 101
+registry_code registry.BadUtf8 = 102
+registry_code registry.CompactNotShortest = 103
+registry_code registry.CompactTooLarge = 104
+registry_code registry.BadOption = 105
+registry_code registry.BadDefinition = 106
+registry_code registry.BadPrimitive = 107
+registry_code registry.IdOutOfPlace = 108
+registry_code registry.NotMetadata = 109
+registry_code registry.WrongVersion = 110
+registry_code registry.OutOfMemory = 3
+
+abbrev pub value_code : DecodeReason → ℕ
+value_code reason.Truncated = 301
+value_code reason.BadBool = 302
+value_code reason.BadChar = 303
+value_code reason.BadUtf8 = 304
+value_code reason.CompactNotShortest = 305
+value_code reason.CompactTooLarge = 306
+value_code reason.NoSuchVariant = 307
+value_code reason.TooDeep = 308
+value_code reason.NoFiniteValue = 309
+value_code reason.BitSequence = 310
+value_code reason.BadCompact = 311
+value_code reason.TooLong = 312
+value_code reason.OutOfMemory = 3
+
+-- a code alone, with a number, and with a place
+abbrev pub plain : ℕ → Answer
+plain code = record { code = code; from = 0; at = 0; length = 0 }
+
+abbrev pub counted : ℕ → ℕ → Answer
+counted code length = record { code = code; from = 0; at = 0; length = length }
+
+abbrev pub refused : ℕ → ℕ → Answer
+refused code at = record { code = code; from = 0; at = at; length = 0 }
+
+-- why there is no registry
+abbrev pub registry_answer : RegistryRefusal → Answer
+registry_answer (types.Fault fault) = refused (registry_code fault.reason) fault.at
+registry_answer (types.TrailingBytes at) = refused 111 at
+registry_answer (types.Check unknown) =
+    record { code = 112; from = unknown.from; at = unknown.to; length = 0 }
+registry_answer types.Memory = plain 3
+
+-- why there is no value
+abbrev pub value_answer : ValueRefusal → Answer
+value_answer value.UnknownType = plain 201
+value_answer value.LimitOutOfRange = plain 202
+value_answer (value.Fault fault) = refused (value_code fault.reason) fault.at
+value_answer (value.TrailingBytes at) = refused 313 at
+value_answer value.Memory = plain 3
+
+-- how far a value is
+abbrev pub progress_answer : Progress → Answer
+progress_answer progress.More = plain 1
+progress_answer (progress.Done used) = counted 0 used

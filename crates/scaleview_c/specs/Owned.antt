@@ -1,0 +1,18 @@
+-- What a handle owns, and what a lent one has.
+use Rattle.std.specs.Prelude.{◌≡◌, Option, Some, None, []}
+use base.Fml.{Fml, ftrue, fsep, fex}
+use denote.RattleType.{RattleType}
+use denote.RawPtr.{Ptr, null_ptr, Testable}
+use denote.Struct.Lending.{lent_at}
+use Rattle.libc.specs.Heap.{chunk}
+use Rattle.std.specs.Box.Ownership.{box_owns}
+
+-- null, or the value at the pointer and the right to free its block
+abbrev pub owned : (R : RattleType) → Ptr → Option R.Denot → Fml
+owned R p None = fex (p ≡ null_ptr) (λ _. ftrue)
+owned R p (Some x) = box_owns chunk R p x
+
+-- null, or the value at the pointer, shared for a lifetime that does not end
+abbrev pub lent : (R : RattleType) → Ptr → Option R.Denot → Fml
+lent R p None = fex (p ≡ null_ptr) (λ _. ftrue)
+lent R p (Some x) = fsep (fex (Testable p) (λ _. ftrue)) (lent_at R p x [])

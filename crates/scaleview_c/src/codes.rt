@@ -1,0 +1,154 @@
+//! Answers as numbers, for callers that have no enums. The numbers are those of `clients/c/scaleview.h`, and stay.
+
+ghost use Rattle.std.specs.Prelude.{◌≡◌};
+ghost use Rattle.scaleview_c.specs.Codes.{counted, plain, progress_answer, refused, registry_answer, registry_code, value_answer, value_code};
+
+use decode_core::{DecodeReason, Progress};
+use registry_core::RegistryReason;
+use scale_calls::{RegistryRefusal, ValueRefusal};
+
+/// The answer is there.
+pub const OK: u32 = 0;
+/// The piece was taken, and the value goes on.
+pub const MORE: u32 = 1;
+/// The text has more bytes than there is room for.
+pub const NO_ROOM: u32 = 2;
+/// Memory was refused.
+pub const MEMORY: u32 = 3;
+/// A session of the registry is not freed yet.
+pub const LENT: u32 = 4;
+/// The handle is none, or one of the other kind.
+pub const NO_HANDLE: u32 = 5;
+/// The handle that is to be set is not none.
+pub const TAKEN: u32 = 6;
+/// The registry has no type at the position.
+pub const UNKNOWN_TYPE: u32 = 201;
+
+/// What a call tells: its code, and numbers of which those that the code does not speak of are 0.
+#[repr(C)]
+#[derive(Clone, Copy, Debug, PartialEq, Eq)]
+pub struct Answer {
+    pub code: u32,
+    /// The position of the type that refers to one that is not there.
+    pub from: u32,
+    /// The place of a refusal in bytes.
+    pub at: u64,
+    /// How many bytes a text has, how many types there are, or how many bytes of a piece are the value's.
+    pub length: u64,
+}
+
+fn registry_code(reason: RegistryReason) -> u32
+    ensures { result ≡ registry_code reason }
+{
+    match reason {
+        RegistryReason::Truncated => 101,
+        RegistryReason::BadUtf8 => 102,
+        RegistryReason::CompactNotShortest => 103,
+        RegistryReason::CompactTooLarge => 104,
+        RegistryReason::BadOption => 105,
+        RegistryReason::BadDefinition => 106,
+        RegistryReason::BadPrimitive => 107,
+        RegistryReason::IdOutOfPlace => 108,
+        RegistryReason::NotMetadata => 109,
+        RegistryReason::WrongVersion => 110,
+        RegistryReason::OutOfMemory => MEMORY,
+    }
+}
+
+fn value_code(reason: DecodeReason) -> u32
+    ensures { result ≡ value_code reason }
+{
+    match reason {
+        DecodeReason::Truncated => 301,
+        DecodeReason::BadBool => 302,
+        DecodeReason::BadChar => 303,
+        DecodeReason::BadUtf8 => 304,
+        DecodeReason::CompactNotShortest => 305,
+        DecodeReason::CompactTooLarge => 306,
+        DecodeReason::NoSuchVariant => 307,
+        DecodeReason::TooDeep => 308,
+        DecodeReason::NoFiniteValue => 309,
+        DecodeReason::BitSequence => 310,
+        DecodeReason::BadCompact => 311,
+        DecodeReason::TooLong => 312,
+        DecodeReason::OutOfMemory => MEMORY,
+    }
+}
+
+impl Answer {
+    /// A code alone.
+    pub(crate) fn plain(code: u32) -> Answer
+        ensures { result ≡ plain code }
+    {
+        Answer {
+            code,
+            from: 0,
+            at: 0,
+            length: 0,
+        }
+    }
+
+    /// A code and a number.
+    pub(crate) fn counted(code: u32, length: u64) -> Answer
+        ensures { result ≡ counted code length }
+    {
+        Answer {
+            code,
+            from: 0,
+            at: 0,
+            length,
+        }
+    }
+
+    /// A refusal and its place.
+    fn refused(code: u32, at: u64) -> Answer
+        ensures { result ≡ refused code at }
+    {
+        Answer {
+            code,
+            from: 0,
+            at,
+            length: 0,
+        }
+    }
+
+    /// Why there is no registry.
+    pub(crate) fn of_registry(refusal: RegistryRefusal) -> Answer
+        ensures { result ≡ registry_answer refusal }
+    {
+        match refusal {
+            RegistryRefusal::Fault(fault) => Answer::refused(registry_code(fault.reason), fault.at),
+            RegistryRefusal::TrailingBytes(at) => Answer::refused(111, at),
+            RegistryRefusal::Check(unknown) => Answer {
+                code: 112,
+                from: unknown.from,
+                at: unknown.to as u64,
+                length: 0,
+            },
+            RegistryRefusal::Memory => Answer::plain(MEMORY),
+        }
+    }
+
+    /// Why there is no value.
+    pub(crate) fn of_value(refusal: ValueRefusal) -> Answer
+        ensures { result ≡ value_answer refusal }
+    {
+        match refusal {
+            ValueRefusal::UnknownType => Answer::plain(UNKNOWN_TYPE),
+            ValueRefusal::LimitOutOfRange => Answer::plain(202),
+            ValueRefusal::Fault(fault) => Answer::refused(value_code(fault.reason), fault.at),
+            ValueRefusal::TrailingBytes(at) => Answer::refused(313, at),
+            ValueRefusal::Memory => Answer::plain(MEMORY),
+        }
+    }
+
+    /// How far a value is.
+    pub(crate) fn of_progress(progress: Progress) -> Answer
+        ensures { result ≡ progress_answer progress }
+    {
+        match progress {
+            Progress::More => Answer::plain(MORE),
+            Progress::Done { used } => Answer::counted(OK, used),
+        }
+    }
+}

@@ -1,0 +1,11 @@
+//! What a handle holds.
+
+use crate::opened::Opened;
+use crate::session::Session;
+
+/// A registry that is open, or a session of one.
+#[derive(Drop)]
+pub enum Held {
+    Registry(Opened),
+    Session(Session),
+}

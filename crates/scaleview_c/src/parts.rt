@@ -1,0 +1,34 @@
+//! A box taken apart into its pointer and its allocator, and put together again.
+
+ghost use Rattle.std.specs.Prelude.{◌≡◌};
+ghost use Rattle.std_alloc.specs.Box.Ownership.{box_owns};
+
+use std::alloc::Allocator;
+use std::marker::Model;
+
+/// The parts of a box. Who has them has what it holds, and the right to free its block.
+pub struct Parts<T, A: Allocator> {
+    pub(crate) at: *mut T,
+    pub(crate) alloc: A,
+    pub ghost held: { T },
+}
+
+impl<T, A: Allocator> Model for Parts<T, A> {
+    ghost also_owns = { λ parts. box_owns (A.dealloc_token parts.alloc) T.row parts.at parts.held };
+}
+
+/// Takes a box apart.
+pub(crate) fn take_apart<T: Drop, A: Allocator>(whole: Box<T, A>) -> Parts<T, A>
+    ensures { result.held ≡ whole.value }
+{
+    let (at, alloc) = Box::into_raw_with_allocator(whole);
+    Parts { at, alloc }
+}
+
+/// Puts a box together from its parts.
+pub(crate) fn put_together<T: Drop, A: Allocator>(parts: Parts<T, A>) -> Box<T, A>
+    ensures { result.value ≡ parts.held }
+{
+    let Parts { at, alloc } = parts;
+    unsafe { Box::from_raw(alloc, at) }
+}

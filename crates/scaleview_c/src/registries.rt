@@ -1,0 +1,156 @@
+//! The calls on a registry.
+
+ghost use Rattle.std.specs.Prelude.{◌≡◌, None, Some};
+ghost use Rattle.scale_calls.specs.Opened.{RefusesRegistry, checked_of};
+ghost use Rattle.scaleview_c.specs.Calls.{Closes, OpensBox, OpensHandle, TellsTypes, WritesJson, WritesLine, WritesValue};
+
+use crate::codes::{Answer, LENT, MEMORY, NO_HANDLE, OK, TAKEN, UNKNOWN_TYPE};
+use crate::handle::{Handle, handle_of, held_by};
+use crate::held::Held;
+use crate::lent::Lent;
+use crate::opened::Opened;
+use crate::text::put;
+use scale_calls::{RegistryRefusal, open_registry, type_line, value_text};
+use std::alloc::Global;
+use std::mem;
+use value_core::Limits;
+
+/// The registry that the bytes hold, and how many types it has.
+fn opened(alloc: Global, metadata: bool, bytes: &[u8]) -> Result<(Box<Held>, u64), RegistryRefusal>
+    ensures { OpensBox (λ held. held.value) metadata bytes.now result }
+{
+    let (checked, _) = open_registry(alloc, metadata, bytes)?;
+    let types = checked.registry().types().len() as u64;
+    match Box::new(alloc, Held::Registry(Opened::new(checked))) {
+        Ok(held) => Ok((held, types)),
+        Err(_) => Err(RegistryRefusal::Memory),
+    }
+}
+
+/// Opens the registry that the bytes hold, alone or in metadata, behind a handle that is none.
+#[unsafe(no_mangle)]
+pub extern "C" fn scaleview_open(
+    alloc: Global,
+    bytes: &[u8],
+    metadata: bool,
+    registry: &mut Handle,
+    answer: &mut Answer,
+) -> u32
+    ensures opened { OpensHandle registry.old.value metadata bytes.now registry.new.value answer.new }
+    ensures code { result ≡ answer.new.code }
+{
+    if let Some(held) = held_by(alloc, mem::replace(registry, Handle::none())) {
+        *registry = handle_of(held);
+        *answer = Answer::plain(TAKEN);
+        return TAKEN;
+    }
+    match opened(alloc, metadata, bytes) {
+        Ok((held, types)) => {
+            *registry = handle_of(held);
+            *answer = Answer::counted(OK, types);
+        }
+        Err(refusal) => *answer = Answer::of_registry(refusal),
+    }
+    answer.code
+}
+
+/// Frees a registry that no session has.
+#[unsafe(no_mangle)]
+pub extern "C" fn scaleview_close(alloc: Global, registry: &mut Handle) -> u32
+    ensures { Closes registry.old.value registry.new.value result }
+{
+    let Some(held) = held_by(alloc, mem::replace(registry, Handle::none())) else {
+        return NO_HANDLE;
+    };
+    let code = match &*held {
+        Held::Registry(opened) => { if opened.is_lent() { LENT } else { OK } }
+        Held::Session(_) => NO_HANDLE,
+    };
+    if code == OK {
+        drop(held);
+    } else {
+        *registry = handle_of(held);
+    }
+    code
+}
+
+/// How many types a registry has.
+#[unsafe(no_mangle)]
+pub extern "C" fn scaleview_types(registry: Lent, answer: &mut Answer) -> u32
+    ensures types { TellsTypes registry.value answer.new }
+    ensures code { result ≡ answer.new.code }
+{
+    *answer = match registry.get() {
+        Some(Held::Registry(opened)) => {
+            Answer::counted(OK, opened.checked.registry().types().len() as u64)
+        }
+        Some(Held::Session(_)) | None => Answer::plain(NO_HANDLE),
+    };
+    answer.code
+}
+
+/// Writes the line of the type at a position.
+#[unsafe(no_mangle)]
+pub extern "C" fn scaleview_type_line(
+    alloc: Global,
+    registry: Lent,
+    id: u32,
+    out: &mut [u8],
+    answer: &mut Answer,
+) -> u32
+    ensures line { WritesLine registry.value id out.old out.new answer.new }
+    ensures code { result ≡ answer.new.code }
+{
+    *answer = match registry.get() {
+        Some(Held::Registry(opened)) => match type_line(alloc, &opened.checked, id) {
+            Ok(Some(line)) => put(out, line.as_bytes()),
+            Ok(None) => Answer::plain(UNKNOWN_TYPE),
+            Err(_) => Answer::plain(MEMORY),
+        },
+        Some(Held::Session(_)) | None => Answer::plain(NO_HANDLE),
+    };
+    answer.code
+}
+
+/// Writes the JSON of the value that the bytes spell.
+fn write_value(
+    alloc: Global,
+    opened: &Opened,
+    id: u32,
+    limits: Limits,
+    bytes: &[u8],
+    out: &mut [u8],
+) -> Answer
+    ensures { WritesJson opened.now id limits bytes.now out.old out.new result }
+{
+    match value_text(alloc, &opened.checked, id, limits, bytes) {
+        Ok(text) => put(out, text.as_bytes()),
+        Err(refusal) => Answer::of_value(refusal),
+    }
+}
+
+/// Writes the JSON of the value of the type at a position that the bytes spell.
+#[unsafe(no_mangle)]
+pub extern "C" fn scaleview_decode(
+    alloc: Global,
+    registry: Lent,
+    id: u32,
+    depth: u16,
+    limit: u64,
+    bytes: &[u8],
+    out: &mut [u8],
+    answer: &mut Answer,
+) -> u32
+    ensures value { WritesValue registry.value id (record { depth = depth; bytes = limit }) bytes.now out.old out.new answer.new }
+    ensures code { result ≡ answer.new.code }
+{
+    let limits = Limits {
+        depth,
+        bytes: limit,
+    };
+    *answer = match registry.get() {
+        Some(Held::Registry(opened)) => write_value(alloc, opened, id, limits, bytes, out),
+        Some(Held::Session(_)) | None => Answer::plain(NO_HANDLE),
+    };
+    answer.code
+}

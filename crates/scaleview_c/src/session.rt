@@ -1,0 +1,104 @@
+//! A value on its way, over a registry that is lent.
+
+ghost use Rattle.std.specs.Prelude.{◌≡◌, ◌++◌, ℕ, List};
+ghost use Rattle.decode_core.specs.Decoding.{node_count, text_bytes};
+ghost use Rattle.scaleview_c.specs.Calls.{Ends, FeedsStage, WritesStage, number_by, taken_of};
+
+use crate::codes::{Answer, MORE, OK};
+use crate::opened::Opened;
+use crate::text::put;
+use decode_core::Decoder;
+use json_core::json_text;
+use scale_calls::ValueRefusal;
+use std::alloc::Global;
+
+/// How far a value is.
+#[derive(Drop)]
+pub enum Stage {
+    /// Bytes are taken.
+    Decoding(Decoder<'static, Global>),
+    /// It was ended, and this is its JSON.
+    Shown(String),
+    /// It was ended, and is refused.
+    Refused(ValueRefusal),
+}
+
+/// A value on its way. It has no parameters, so its handle has none.
+#[derive(Drop)]
+pub struct Session {
+    pub stage: Stage,
+    pub registry: &'static Opened,
+}
+
+impl Stage {
+    /// Takes the next piece, and tells how far the value is.
+    pub(crate) fn feed(&mut self, piece: &[u8]) -> Answer
+        ensures { FeedsStage self.old piece.now self.new result }
+    {
+        match self {
+            Stage::Decoding(decoder) => match decoder.feed(piece) {
+                Ok(progress) => Answer::of_progress(progress),
+                Err(fault) => Answer::of_value(ValueRefusal::from(fault)),
+            },
+            Stage::Shown(_) => Answer::counted(OK, 0),
+            Stage::Refused(refusal) => Answer::of_value(*refusal),
+        }
+    }
+
+    /// How many bytes were taken.
+    pub(crate) fn taken(&self) -> u64
+        ensures { result ≡ number_by taken_of self.now }
+    {
+        match self {
+            Stage::Decoding(decoder) => decoder.taken(),
+            Stage::Shown(_) | Stage::Refused(_) => 0,
+        }
+    }
+
+    /// How many nodes are held.
+    pub(crate) fn nodes(&self) -> u64
+        ensures { result ≡ number_by node_count self.now }
+    {
+        match self {
+            Stage::Decoding(decoder) => decoder.node_count(),
+            Stage::Shown(_) | Stage::Refused(_) => 0,
+        }
+    }
+
+    /// How many bytes of texts are held.
+    pub(crate) fn text_bytes(&self) -> u64
+        ensures { result ≡ number_by text_bytes self.now }
+    {
+        match self {
+            Stage::Decoding(decoder) => decoder.text_bytes(),
+            Stage::Shown(_) | Stage::Refused(_) => 0,
+        }
+    }
+
+    /// Ends the value, where it is on its way.
+    pub(crate) fn ended(self, alloc: Global) -> Stage
+        ensures { Ends self result }
+    {
+        match self {
+            Stage::Decoding(decoder) => match decoder.finish() {
+                Ok(value) => match json_text(alloc, &value) {
+                    Ok(text) => Stage::Shown(text),
+                    Err(_) => Stage::Refused(ValueRefusal::Memory),
+                },
+                Err(fault) => Stage::Refused(ValueRefusal::from(fault)),
+            },
+            ended => ended,
+        }
+    }
+
+    /// Writes the text of a value that was ended to the front of `out`.
+    pub(crate) fn put(&self, out: &mut [u8]) -> Answer
+        ensures { WritesStage self.now out.old out.new result }
+    {
+        match self {
+            Stage::Decoding(_) => Answer::plain(MORE),
+            Stage::Shown(text) => put(out, text.as_bytes()),
+            Stage::Refused(refusal) => Answer::of_value(*refusal),
+        }
+    }
+}

@@ -1,0 +1,200 @@
+//! The calls on a session, a value whose bytes come in pieces.
+
+ghost use Rattle.std.specs.Prelude.{◌≡◌, None, Some};
+ghost use Rattle.decode_core.specs.Decoding.{node_count, text_bytes};
+ghost use Rattle.scaleview_c.specs.Calls.{Feeds, Finishes, Frees, StartsBox, StartsHandle, Tells, taken_of};
+
+use crate::codes::{Answer, NO_HANDLE, OK, TAKEN};
+use crate::handle::{Handle, handle_of, held_by};
+use crate::held::Held;
+use crate::lent::Lent;
+use crate::opened::Opened;
+use crate::session::{Session, Stage};
+use decode_core::Decoder;
+use registry_core::TypeId;
+use scale_calls::ValueRefusal;
+use std::alloc::Global;
+use std::mem;
+use value_core::Limits;
+
+/// A session that has taken nothing.
+fn started(
+    alloc: Global,
+    registry: &'static Opened,
+    id: u32,
+    limits: Limits,
+) -> Result<Box<Held>, ValueRefusal>
+    ensures { StartsBox (λ held. held.value) registry.now id limits result }
+{
+    let decoder = Decoder::new(alloc, &registry.checked, TypeId(id), limits)?;
+    let session = Session {
+        stage: Stage::Decoding(decoder),
+        registry,
+    };
+    match Box::new(alloc, Held::Session(session)) {
+        Ok(held) => Ok(held),
+        Err(_) => Err(ValueRefusal::Memory),
+    }
+}
+
+/// Starts a value of the type at a position, behind a handle that is none.
+#[unsafe(no_mangle)]
+pub extern "C" fn scaleview_start(
+    alloc: Global,
+    registry: Lent,
+    id: u32,
+    depth: u16,
+    limit: u64,
+    session: &mut Handle,
+    answer: &mut Answer,
+) -> u32
+    ensures started { StartsHandle session.old.value registry.value id (record { depth = depth; bytes = limit }) session.new.value answer.new }
+    ensures code { result ≡ answer.new.code }
+{
+    if let Some(held) = held_by(alloc, mem::replace(session, Handle::none())) {
+        *session = handle_of(held);
+        *answer = Answer::plain(TAKEN);
+        return TAKEN;
+    }
+    let limits = Limits {
+        depth,
+        bytes: limit,
+    };
+    match registry.get() {
+        Some(Held::Registry(opened)) => match started(alloc, opened, id, limits) {
+            Ok(held) => {
+                opened.lend();
+                *session = handle_of(held);
+                *answer = Answer::plain(OK);
+            }
+            Err(refusal) => *answer = Answer::of_value(refusal),
+        },
+        Some(Held::Session(_)) | None => *answer = Answer::plain(NO_HANDLE),
+    }
+    answer.code
+}
+
+/// Takes the next piece.
+#[unsafe(no_mangle)]
+pub extern "C" fn scaleview_feed(
+    alloc: Global,
+    session: &mut Handle,
+    piece: &[u8],
+    answer: &mut Answer,
+) -> u32
+    ensures fed { Feeds session.old.value piece.now session.new.value answer.new }
+    ensures code { result ≡ answer.new.code }
+{
+    let Some(mut held) = held_by(alloc, mem::replace(session, Handle::none())) else {
+        *answer = Answer::plain(NO_HANDLE);
+        return NO_HANDLE;
+    };
+    *answer = match &mut *held {
+        Held::Session(session) => session.stage.feed(piece),
+        Held::Registry(_) => Answer::plain(NO_HANDLE),
+    };
+    *session = handle_of(held);
+    answer.code
+}
+
+/// How many bytes of all pieces were taken.
+#[unsafe(no_mangle)]
+pub extern "C" fn scaleview_taken(alloc: Global, session: &mut Handle, answer: &mut Answer) -> u32
+    ensures told { Tells taken_of session.old.value session.new.value answer.new }
+    ensures code { result ≡ answer.new.code }
+{
+    let Some(held) = held_by(alloc, mem::replace(session, Handle::none())) else {
+        *answer = Answer::plain(NO_HANDLE);
+        return NO_HANDLE;
+    };
+    *answer = match &*held {
+        Held::Session(session) => Answer::counted(OK, session.stage.taken()),
+        Held::Registry(_) => Answer::plain(NO_HANDLE),
+    };
+    *session = handle_of(held);
+    answer.code
+}
+
+/// How many nodes of the value are held.
+#[unsafe(no_mangle)]
+pub extern "C" fn scaleview_nodes(alloc: Global, session: &mut Handle, answer: &mut Answer) -> u32
+    ensures told { Tells node_count session.old.value session.new.value answer.new }
+    ensures code { result ≡ answer.new.code }
+{
+    let Some(held) = held_by(alloc, mem::replace(session, Handle::none())) else {
+        *answer = Answer::plain(NO_HANDLE);
+        return NO_HANDLE;
+    };
+    *answer = match &*held {
+        Held::Session(session) => Answer::counted(OK, session.stage.nodes()),
+        Held::Registry(_) => Answer::plain(NO_HANDLE),
+    };
+    *session = handle_of(held);
+    answer.code
+}
+
+/// How many bytes of the value's texts are held.
+#[unsafe(no_mangle)]
+pub extern "C" fn scaleview_text_bytes(
+    alloc: Global,
+    session: &mut Handle,
+    answer: &mut Answer,
+) -> u32
+    ensures told { Tells text_bytes session.old.value session.new.value answer.new }
+    ensures code { result ≡ answer.new.code }
+{
+    let Some(held) = held_by(alloc, mem::replace(session, Handle::none())) else {
+        *answer = Answer::plain(NO_HANDLE);
+        return NO_HANDLE;
+    };
+    *answer = match &*held {
+        Held::Session(session) => Answer::counted(OK, session.stage.text_bytes()),
+        Held::Registry(_) => Answer::plain(NO_HANDLE),
+    };
+    *session = handle_of(held);
+    answer.code
+}
+
+/// Ends the value, and writes its JSON.
+#[unsafe(no_mangle)]
+pub extern "C" fn scaleview_finish(
+    alloc: Global,
+    session: &mut Handle,
+    out: &mut [u8],
+    answer: &mut Answer,
+) -> u32
+    ensures finished { Finishes session.old.value session.new.value out.old out.new answer.new }
+    ensures code { result ≡ answer.new.code }
+{
+    let Some(mut held) = held_by(alloc, mem::replace(session, Handle::none())) else {
+        *answer = Answer::plain(NO_HANDLE);
+        return NO_HANDLE;
+    };
+    *answer = match &mut *held {
+        Held::Session(session) => {
+            let stage = mem::replace(&mut session.stage, Stage::Refused(ValueRefusal::Memory));
+            session.stage = stage.ended(alloc);
+            session.stage.put(out)
+        }
+        Held::Registry(_) => Answer::plain(NO_HANDLE),
+    };
+    *session = handle_of(held);
+    answer.code
+}
+
+/// Frees a session.
+#[unsafe(no_mangle)]
+pub extern "C" fn scaleview_free(alloc: Global, session: &mut Handle) -> u32
+    ensures { Frees session.old.value session.new.value result }
+{
+    let Some(held) = held_by(alloc, mem::replace(session, Handle::none())) else {
+        return NO_HANDLE;
+    };
+    if let Held::Session(ended) = &*held {
+        ended.registry.take_back();
+        drop(held);
+        return OK;
+    }
+    *session = handle_of(held);
+    NO_HANDLE
+}
