@@ -16,11 +16,10 @@ use base.Fml.{ftrue}
 use denote.Steps.{nothing}
 use denote.Struct.Struct.{within}
 use denote.Struct.Owning.{shape}
-use Rattle.libc.specs.Heap.{chunk}
 use Rattle.std_heap.proofs.GlobalToken.{dealloc_token-Testable}
 use Rattle.std_alloc.specs.Box.Ownership.{box_owns}
 use Rattle.std_heap.specs.declared.Global.{Global}
-use Rattle.scaleview_c.specs.Owned.{owned}
+use Rattle.scaleview_c.specs.Owned.{owned, heap_token}
 use Rattle.scaleview_c.specs.contracts.held.Held.{the_row as R}
 use Rattle.scaleview_c.specs.contracts.handle.Handle as handle
 
@@ -32,7 +31,7 @@ null_word = vstruct (vcons vnull vnil)
 
 module _ {M : Type 1} {𝓤 : Ura M} {𝓛 : Logic 𝓤} {K : Type 0} {Γ : List (Item 𝓤)} {G : Goal 𝓤 𝓛.H} where
   pub handle_in : K → (b o : ℕ) (x : R.Denot)
-      → Step K 𝓛 (‵ (handle.the_row.own_val (record { at = block_ptr b o; value = Some x }) (word b o ∷ [])) ∷ Γ) G (‵ (box_owns chunk R (block_ptr b o) x) ∷ Γ) G
+      → Step K 𝓛 (‵ (handle.the_row.own_val (record { at = block_ptr b o; value = Some x }) (word b o ∷ [])) ∷ Γ) G (‵ (box_owns heap_token R (block_ptr b o) x) ∷ Γ) G
   handle_in t b o x = step (λ s.
       nothing t $ feq_i t (List Val) (vptr b o ∷ []) (vptr b o ∷ []) refl $ fjoin t $ feq_i t (List Val) (word b o ∷ []) (word b o ∷ []) refl $ fjoin t $
       fpack t (Valss (RawPtr ∷ [])) (within (shape handle.the_type) (block_ptr b o, tt) (word b o ∷ [])) (vptr b o ∷ [], tt) $ fjoin t $ s)
@@ -45,18 +44,18 @@ module _ {M : Type 1} {𝓤 : Ura M} {𝓛 : Logic 𝓤} {K : Type 0} {Γ : List
 
   -- what is owned is behind a pointer that may be compared with null, and else the pointer is null
   either : K → (a : Global) → (p : Ptr) (v : Option R.Denot) → (v ≡ None → p ≡ null_ptr → Seq K 𝓛 Γ G)
-      → ((b o : ℕ) (x : R.Denot) → v ≡ Some x → p ≡ block_ptr b o → Testable (block_ptr b o) → Seq K 𝓛 (‵ (box_owns chunk R (block_ptr b o) x) ∷ Γ) G)
+      → ((b o : ℕ) (x : R.Denot) → v ≡ Some x → p ≡ block_ptr b o → Testable (block_ptr b o) → Seq K 𝓛 (‵ (box_owns heap_token R (block_ptr b o) x) ∷ Γ) G)
       → Seq K 𝓛 (‵ (owned R p v) ∷ Γ) G
   either t a p None none one = fpick t (λ e. drop t $ none refl e)
   either t a p (Some x) none one =
-      use1 𝓛 (given (Testable p) (‵ (box_owns chunk R p x)))
-      (fact_use 𝓤 (Testable p) (via 𝓤 _ (snd∗ 𝓤 (sem 𝓛 (lies_at R full_share p x)) (sem 𝓛 (chunk (bare (lone R.mir)) p))) (dealloc_token-Testable 𝓛 a (bare (lone R.mir)) p)) (guard_i 𝓤 (Testable p) (sem 𝓛 (box_owns chunk R p x)))) $
-      learn t (λ may. in_a_block t p (λ q. box_owns chunk R q x) (fst∗ 𝓤 (never 𝓤) (sem 𝓛 (chunk (bare (lone R.mir)) null_ptr)))
+      use1 𝓛 (given (Testable p) (‵ (box_owns heap_token R p x)))
+      (fact_use 𝓤 (Testable p) (via 𝓤 _ (snd∗ 𝓤 (sem 𝓛 (lies_at R full_share p x)) (sem 𝓛 (heap_token (bare (lone R.mir)) p))) (dealloc_token-Testable 𝓛 a (bare (lone R.mir)) p)) (guard_i 𝓤 (Testable p) (sem 𝓛 (box_owns heap_token R p x)))) $
+      learn t (λ may. in_a_block t p (λ q. box_owns heap_token R q x) (fst∗ 𝓤 (never 𝓤) (sem 𝓛 (heap_token (bare (lone R.mir)) null_ptr)))
       (λ b o e. one b o x refl e (subst Testable e may)))
 
   pub handle_out : K → (a : Global) → (d : handle.the_row.Denot) (vs : List Val)
       → (d.value ≡ None → vs ≡ null_word ∷ [] → Seq K 𝓛 Γ G)
-      → ((b o : ℕ) (x : R.Denot) → d.value ≡ Some x → Testable (block_ptr b o) → vs ≡ word b o ∷ [] → Seq K 𝓛 (‵ (box_owns chunk R (block_ptr b o) x) ∷ Γ) G)
+      → ((b o : ℕ) (x : R.Denot) → d.value ≡ Some x → Testable (block_ptr b o) → vs ≡ word b o ∷ [] → Seq K 𝓛 (‵ (box_owns heap_token R (block_ptr b o) x) ∷ Γ) G)
       → Seq K 𝓛 (‵ (handle.the_row.own_val d vs) ∷ Γ) G
   handle_out t a d vs none one =
       fsplit t $ fpick t (λ vss. fsplit t $ feq_l t (λ ev. fsplit t $ feq_l t (λ ep. drop t $

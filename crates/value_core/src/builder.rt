@@ -16,6 +16,7 @@ use crate::leaf::Leaf;
 use crate::left::Left;
 use crate::node::{Content, Node};
 use crate::open_run::OpenRun;
+use crate::room::make_room;
 use crate::value::Value;
 use crate::walk::Walk;
 use count_core::Count;
@@ -80,7 +81,7 @@ fn append<A: Allocator>(
     ensures ok { OnOk result (IsAppended ty leaf.entry nodes.old.items pool.old.items nodes.new.items pool.new.items) }
     ensures err { OnErr result ((nodes.new.items ≡ nodes.old.items) × (pool.new.items ≡ pool.old.items)) }
 {
-    nodes.reserve(1)?;
+    make_room(nodes)?;
     let content = leaf.keep(pool)?;
     let node = Node {
         ty,
@@ -96,7 +97,7 @@ fn append_node<A: Allocator>(nodes: &mut Vec<Node, A>, node: Node) -> Result<(),
     ensures ok { OnOk result (nodes.new.items ≡ nodes.old.items ++ node ∷ []) }
     ensures err { OnErr result (nodes.new.items ≡ nodes.old.items) }
 {
-    nodes.reserve(1)?;
+    make_room(nodes)?;
     nodes.push_reserved(node);
     Ok(())
 }
@@ -113,7 +114,7 @@ fn open_node<A: Allocator>(
     ensures walk { OnOk result (walk.new ≡ opened (advanced walk.old) (length nodes.old.items) (left_of walk.old.types left)) }
     ensures err { OnErr result ((nodes.new.items ≡ nodes.old.items) × (walk.new ≡ walk.old)) }
 {
-    nodes.reserve(1)?;
+    make_room(nodes)?;
     walk.enter(nodes.as_slice().len(), left)?;
     nodes.push_reserved(node);
     Ok(())

@@ -12,6 +12,7 @@ mod node_ref;
 mod open_run;
 mod opening;
 mod pool;
+mod room;
 mod run_calls;
 mod value;
 mod walk;
