@@ -12,6 +12,8 @@ mod command_limits;
 #[cfg(test)]
 mod command_line;
 #[cfg(test)]
+mod command_registries;
+#[cfg(test)]
 mod command_row;
 #[cfg(test)]
 mod command_values;
