@@ -1,6 +1,6 @@
 //! The decoder: worked rows, whole and in every two pieces, its limits, and its memory.
 
-use crate::decoder_rows::{AMPLE, MORE, ROWS, Row, UNITS_IN_UNITS};
+use crate::decoder_rows::{AMPLE, Answer, ROWS, Row, UNITS_IN_UNITS};
 use decode_core::{DecodeFault, DecodeReason, Decoder, OpenFault, Progress};
 use linked_list_allocator::LocalHeap;
 use registry_core::TypeId;
@@ -10,6 +10,17 @@ use std::process::Abort;
 use std::test::Fail;
 use value_core::{Limits, What};
 use widths_core::Checked;
+
+const MORE: Result<Progress, DecodeFault> = Ok(Progress::More);
+
+/// What a decoder answers.
+fn told(answer: Answer) -> Result<Progress, DecodeFault> {
+    match answer {
+        Answer::More => MORE,
+        Answer::Done(used) => Ok(Progress::Done { used }),
+        Answer::Refused(reason, at) => Err(DecodeFault { reason, at }),
+    }
+}
 
 /// A decoder of the row's type.
 fn open<'r, A: Allocator + Clone>(
@@ -39,10 +50,14 @@ fn pieces_are_answered(rt: HostRuntime) -> Result<(), Fail> {
             assert_eq!(rt; answer, MORE, "{name}");
             answer = decoder.feed(piece);
         }
-        assert_eq!(rt; answer, row.answer, "{name}");
+        assert_eq!(rt; answer, told(row.answer), "{name}");
         assert_eq!(rt; held(&decoder), row.held, "{name}");
         if answer.is_err() {
-            assert_eq!(rt; decoder.feed(b"\x00"), row.answer, "{name}, once more");
+            assert_eq!(rt;
+                decoder.feed(b"\x00"),
+                told(row.answer),
+                "{name}, once more"
+            );
             assert_eq!(rt; held(&decoder), row.held, "{name}, once more");
         }
         if let Ok(Progress::Done { .. }) = answer {
@@ -95,7 +110,7 @@ fn each_cut_ends_the_same_way(rt: HostRuntime) -> Result<(), Fail> {
         let name = row.name;
         let checked = checked(rt.alloc(), row.registry)?;
         let bytes = joined(rt.alloc(), row.pieces)?;
-        let fault = match row.answer {
+        let fault = match told(row.answer) {
             Ok(Progress::More) => Some(DecodeFault {
                 reason: DecodeReason::Truncated,
                 at: row.held.2,
@@ -132,7 +147,7 @@ fn single_bytes_end_the_same_way(rt: HostRuntime) -> Result<(), Fail> {
             assert_eq!(rt; decoder.feed(b""), MORE, "{name}");
             answer = decoder.feed(&[*byte]);
         }
-        let last = match row.answer {
+        let last = match told(row.answer) {
             Ok(Progress::Done { .. }) => Ok(Progress::Done {
                 used: u64::from(!bytes.is_empty()),
             }),
@@ -174,7 +189,7 @@ fn a_heap_of_fixed_size_bounds_a_decoder(rt: HostRuntime) -> Result<(), Fail> {
         ty: 1,
         limits: AMPLE,
         pieces: &[],
-        answer: MORE,
+        answer: Answer::More,
         held: (0, 0, 0),
     };
     let mut decoder = open(&heap, &checked, &claim)?;

@@ -1,12 +1,20 @@
 //! Worked rows of decoders that are fed pieces.
 
-use decode_core::{DecodeFault, DecodeReason, Progress};
+use decode_core::DecodeReason;
 use scale_tests::building::{
     BITS_IN_AN_ARM, BYTES, CHAIN, COMPACT_OF_A_BOOL, COMPACT_U128, ENDLESS, LONG_ARRAY,
     LONG_ARRAY_OF_WORDS, NO_BYTES, OPTION, SHADOWED_ARM, TEXT, TWO_UNITS_AND_A_BYTE, UNITS, WORDS,
     WRAPPED_BYTES,
 };
 use value_core::Limits;
+
+/// What the last piece is answered: how many of its bytes belong to the value that is whole, or the reason and the place.
+#[derive(Clone, Copy)]
+pub(crate) enum Answer {
+    More,
+    Done(u64),
+    Refused(DecodeReason, u64),
+}
 
 /// Pieces that are fed, what the last of them answers, and what is held then: nodes, bytes of text, bytes taken.
 #[derive(Clone, Copy)]
@@ -16,7 +24,7 @@ pub(crate) struct Row {
     pub(crate) ty: u32,
     pub(crate) limits: Limits,
     pub(crate) pieces: &'static [&'static [u8]],
-    pub(crate) answer: Result<Progress, DecodeFault>,
+    pub(crate) answer: Answer,
     pub(crate) held: (u64, u64, u64),
 }
 
@@ -42,13 +50,6 @@ const NO_DEPTH: Limits = Limits {
 /// An array of three u8.
 const THREE_BYTES: &[u8] = b"\x08\x00\x00\x00\x05\x03\x00\x04\x00\x00\x03\x03\x00\x00\x00\x00\x00";
 
-pub(crate) const MORE: Result<Progress, DecodeFault> = Ok(Progress::More);
-
-/// The refusal by this reason at this place.
-const fn refused(reason: DecodeReason, at: u64) -> Result<Progress, DecodeFault> {
-    Err(DecodeFault { reason, at })
-}
-
 pub(crate) const ROWS: [Row; 47] = [
     Row {
         name: "count of units",
@@ -56,7 +57,7 @@ pub(crate) const ROWS: [Row; 47] = [
         ty: 2,
         limits: AMPLE,
         pieces: &[b"\x03\x00\x00\x00\x40"],
-        answer: Ok(Progress::Done { used: 5 }),
+        answer: Answer::Done(5),
         held: (1, 0, 5),
     },
     Row {
@@ -65,7 +66,7 @@ pub(crate) const ROWS: [Row; 47] = [
         ty: 1,
         limits: AMPLE,
         pieces: &[b"\xfe\xff\xff\xff\x01\x02"],
-        answer: MORE,
+        answer: Answer::More,
         held: (0, 2, 6),
     },
     Row {
@@ -74,7 +75,7 @@ pub(crate) const ROWS: [Row; 47] = [
         ty: 1,
         limits: AMPLE,
         pieces: &[b"\x01\x02\x03"],
-        answer: MORE,
+        answer: Answer::More,
         held: (0, 3, 3),
     },
     Row {
@@ -83,7 +84,7 @@ pub(crate) const ROWS: [Row; 47] = [
         ty: 1,
         limits: AMPLE,
         pieces: &[b"\xfe\xff\xff\xff\x01\x02"],
-        answer: MORE,
+        answer: Answer::More,
         held: (2, 0, 6),
     },
     Row {
@@ -92,7 +93,7 @@ pub(crate) const ROWS: [Row; 47] = [
         ty: 1,
         limits: AMPLE,
         pieces: &[b"\x01\x02\x03"],
-        answer: MORE,
+        answer: Answer::More,
         held: (2, 0, 3),
     },
     Row {
@@ -101,7 +102,7 @@ pub(crate) const ROWS: [Row; 47] = [
         ty: 1,
         limits: AMPLE,
         pieces: &[b"\x0c\x01\x02\xff"],
-        answer: Ok(Progress::Done { used: 4 }),
+        answer: Answer::Done(4),
         held: (1, 3, 4),
     },
     Row {
@@ -110,7 +111,7 @@ pub(crate) const ROWS: [Row; 47] = [
         ty: 1,
         limits: AMPLE,
         pieces: &[b"\x00"],
-        answer: Ok(Progress::Done { used: 1 }),
+        answer: Answer::Done(1),
         held: (1, 0, 1),
     },
     Row {
@@ -119,7 +120,7 @@ pub(crate) const ROWS: [Row; 47] = [
         ty: 1,
         limits: NO_DEPTH,
         pieces: &[b"\x04\x07"],
-        answer: Ok(Progress::Done { used: 2 }),
+        answer: Answer::Done(2),
         held: (1, 1, 2),
     },
     Row {
@@ -128,7 +129,7 @@ pub(crate) const ROWS: [Row; 47] = [
         ty: 1,
         limits: NO_DEPTH,
         pieces: &[b"\x04\x07\x00"],
-        answer: refused(DecodeReason::TooDeep, 1),
+        answer: Answer::Refused(DecodeReason::TooDeep, 1),
         held: (0, 0, 1),
     },
     Row {
@@ -137,7 +138,7 @@ pub(crate) const ROWS: [Row; 47] = [
         ty: 1,
         limits: AMPLE,
         pieces: &[b"\x0c", b"\x01", b"", b"\x02\xff\x00"],
-        answer: Ok(Progress::Done { used: 2 }),
+        answer: Answer::Done(2),
         held: (1, 3, 4),
     },
     Row {
@@ -146,7 +147,7 @@ pub(crate) const ROWS: [Row; 47] = [
         ty: 1,
         limits: AMPLE,
         pieces: &[b"\x01", b"\x01\x07"],
-        answer: MORE,
+        answer: Answer::More,
         held: (0, 1, 3),
     },
     Row {
@@ -155,7 +156,7 @@ pub(crate) const ROWS: [Row; 47] = [
         ty: 1,
         limits: NO_DEPTH,
         pieces: &[b"\x01\x02\xff\x00"],
-        answer: Ok(Progress::Done { used: 3 }),
+        answer: Answer::Done(3),
         held: (1, 3, 3),
     },
     Row {
@@ -164,7 +165,7 @@ pub(crate) const ROWS: [Row; 47] = [
         ty: 1,
         limits: AMPLE,
         pieces: &[b"", b"\x01", b"", b"\x02\xff\x00"],
-        answer: Ok(Progress::Done { used: 2 }),
+        answer: Answer::Done(2),
         held: (1, 3, 3),
     },
     Row {
@@ -173,7 +174,7 @@ pub(crate) const ROWS: [Row; 47] = [
         ty: 2,
         limits: AMPLE,
         pieces: &[b"\x04\x07"],
-        answer: Ok(Progress::Done { used: 2 }),
+        answer: Answer::Done(2),
         held: (3, 0, 2),
     },
     Row {
@@ -182,7 +183,7 @@ pub(crate) const ROWS: [Row; 47] = [
         ty: 1,
         limits: AMPLE,
         pieces: &[b""],
-        answer: Ok(Progress::Done { used: 0 }),
+        answer: Answer::Done(0),
         held: (1, 0, 0),
     },
     Row {
@@ -194,7 +195,7 @@ pub(crate) const ROWS: [Row; 47] = [
             bytes: 2,
         },
         pieces: &[b"\x0c\x01\x02"],
-        answer: refused(DecodeReason::TooLong, 2),
+        answer: Answer::Refused(DecodeReason::TooLong, 2),
         held: (0, 0, 2),
     },
     Row {
@@ -203,7 +204,7 @@ pub(crate) const ROWS: [Row; 47] = [
         ty: 2,
         limits: AMPLE,
         pieces: &[b""],
-        answer: MORE,
+        answer: Answer::More,
         held: (3, 0, 0),
     },
     Row {
@@ -212,7 +213,7 @@ pub(crate) const ROWS: [Row; 47] = [
         ty: 2,
         limits: AMPLE,
         pieces: &[b"", b"\x2a"],
-        answer: Ok(Progress::Done { used: 1 }),
+        answer: Answer::Done(1),
         held: (4, 0, 1),
     },
     Row {
@@ -221,7 +222,7 @@ pub(crate) const ROWS: [Row; 47] = [
         ty: 2,
         limits: NO_DEPTH,
         pieces: &[b""],
-        answer: refused(DecodeReason::TooDeep, 0),
+        answer: Answer::Refused(DecodeReason::TooDeep, 0),
         held: (0, 0, 0),
     },
     Row {
@@ -230,7 +231,7 @@ pub(crate) const ROWS: [Row; 47] = [
         ty: 1,
         limits: AMPLE,
         pieces: &[b"\x01\x2a\x00\x00\x00"],
-        answer: Ok(Progress::Done { used: 5 }),
+        answer: Answer::Done(5),
         held: (2, 0, 5),
     },
     Row {
@@ -239,7 +240,7 @@ pub(crate) const ROWS: [Row; 47] = [
         ty: 1,
         limits: AMPLE,
         pieces: &[b"\x00"],
-        answer: Ok(Progress::Done { used: 1 }),
+        answer: Answer::Done(1),
         held: (1, 0, 1),
     },
     Row {
@@ -248,7 +249,7 @@ pub(crate) const ROWS: [Row; 47] = [
         ty: 1,
         limits: AMPLE,
         pieces: &[b"\x02"],
-        answer: refused(DecodeReason::NoSuchVariant, 0),
+        answer: Answer::Refused(DecodeReason::NoSuchVariant, 0),
         held: (0, 0, 1),
     },
     Row {
@@ -257,7 +258,7 @@ pub(crate) const ROWS: [Row; 47] = [
         ty: 0,
         limits: AMPLE,
         pieces: &[b""],
-        answer: refused(DecodeReason::NoFiniteValue, 0),
+        answer: Answer::Refused(DecodeReason::NoFiniteValue, 0),
         held: (0, 0, 0),
     },
     Row {
@@ -266,7 +267,7 @@ pub(crate) const ROWS: [Row; 47] = [
         ty: 1,
         limits: AMPLE,
         pieces: &[b"\x00"],
-        answer: Ok(Progress::Done { used: 1 }),
+        answer: Answer::Done(1),
         held: (1, 0, 1),
     },
     Row {
@@ -275,7 +276,7 @@ pub(crate) const ROWS: [Row; 47] = [
         ty: 1,
         limits: AMPLE,
         pieces: &[b"\x04"],
-        answer: refused(DecodeReason::NoFiniteValue, 1),
+        answer: Answer::Refused(DecodeReason::NoFiniteValue, 1),
         held: (0, 0, 1),
     },
     Row {
@@ -284,7 +285,7 @@ pub(crate) const ROWS: [Row; 47] = [
         ty: 1,
         limits: AMPLE,
         pieces: &[b"\x00"],
-        answer: Ok(Progress::Done { used: 1 }),
+        answer: Answer::Done(1),
         held: (1, 0, 1),
     },
     Row {
@@ -293,7 +294,7 @@ pub(crate) const ROWS: [Row; 47] = [
         ty: 1,
         limits: AMPLE,
         pieces: &[b"\x01"],
-        answer: refused(DecodeReason::BitSequence, 1),
+        answer: Answer::Refused(DecodeReason::BitSequence, 1),
         held: (0, 0, 1),
     },
     Row {
@@ -302,7 +303,7 @@ pub(crate) const ROWS: [Row; 47] = [
         ty: 0,
         limits: AMPLE,
         pieces: &[b"\x10\xc3"],
-        answer: MORE,
+        answer: Answer::More,
         held: (0, 1, 2),
     },
     Row {
@@ -311,7 +312,7 @@ pub(crate) const ROWS: [Row; 47] = [
         ty: 0,
         limits: AMPLE,
         pieces: &[b"\x10\xc3", b"\xa9\xc3"],
-        answer: MORE,
+        answer: Answer::More,
         held: (0, 3, 4),
     },
     Row {
@@ -320,7 +321,7 @@ pub(crate) const ROWS: [Row; 47] = [
         ty: 0,
         limits: AMPLE,
         pieces: &[b"\x10\xc3", b"\xa9\xc3", b"\xa9"],
-        answer: Ok(Progress::Done { used: 1 }),
+        answer: Answer::Done(1),
         held: (1, 4, 5),
     },
     Row {
@@ -329,7 +330,7 @@ pub(crate) const ROWS: [Row; 47] = [
         ty: 0,
         limits: AMPLE,
         pieces: &[b"\x08\xc3\x28"],
-        answer: refused(DecodeReason::BadUtf8, 1),
+        answer: Answer::Refused(DecodeReason::BadUtf8, 1),
         held: (0, 0, 3),
     },
     Row {
@@ -338,7 +339,7 @@ pub(crate) const ROWS: [Row; 47] = [
         ty: 0,
         limits: AMPLE,
         pieces: &[b"\x08\xc3"],
-        answer: MORE,
+        answer: Answer::More,
         held: (0, 1, 2),
     },
     Row {
@@ -347,7 +348,7 @@ pub(crate) const ROWS: [Row; 47] = [
         ty: 0,
         limits: AMPLE,
         pieces: &[b"\x02", b"\x00\x01"],
-        answer: MORE,
+        answer: Answer::More,
         held: (0, 0, 3),
     },
     Row {
@@ -356,7 +357,7 @@ pub(crate) const ROWS: [Row; 47] = [
         ty: 0,
         limits: AMPLE,
         pieces: &[b"\x00"],
-        answer: Ok(Progress::Done { used: 1 }),
+        answer: Answer::Done(1),
         held: (1, 0, 1),
     },
     Row {
@@ -365,7 +366,7 @@ pub(crate) const ROWS: [Row; 47] = [
         ty: 0,
         limits: AMPLE,
         pieces: &[b"\x01\x01"],
-        answer: MORE,
+        answer: Answer::More,
         held: (2, 0, 2),
     },
     Row {
@@ -377,7 +378,7 @@ pub(crate) const ROWS: [Row; 47] = [
             bytes: 16_777_216,
         },
         pieces: &[b"\x01\x01\x00"],
-        answer: Ok(Progress::Done { used: 3 }),
+        answer: Answer::Done(3),
         held: (3, 0, 3),
     },
     Row {
@@ -389,7 +390,7 @@ pub(crate) const ROWS: [Row; 47] = [
             bytes: 16_777_216,
         },
         pieces: &[b"\x01\x01\x01"],
-        answer: refused(DecodeReason::TooDeep, 3),
+        answer: Answer::Refused(DecodeReason::TooDeep, 3),
         held: (0, 0, 3),
     },
     Row {
@@ -398,7 +399,7 @@ pub(crate) const ROWS: [Row; 47] = [
         ty: 0,
         limits: AMPLE,
         pieces: &[b"\x2a\x00\xff"],
-        answer: Ok(Progress::Done { used: 2 }),
+        answer: Answer::Done(2),
         held: (1, 0, 2),
     },
     Row {
@@ -410,7 +411,7 @@ pub(crate) const ROWS: [Row; 47] = [
             bytes: 2,
         },
         pieces: &[b"\x01\x02"],
-        answer: MORE,
+        answer: Answer::More,
         held: (0, 0, 2),
     },
     Row {
@@ -422,7 +423,7 @@ pub(crate) const ROWS: [Row; 47] = [
             bytes: 2,
         },
         pieces: &[b"\x01\x02\x03"],
-        answer: refused(DecodeReason::TooLong, 2),
+        answer: Answer::Refused(DecodeReason::TooLong, 2),
         held: (0, 0, 2),
     },
     Row {
@@ -431,7 +432,7 @@ pub(crate) const ROWS: [Row; 47] = [
         ty: 1,
         limits: AMPLE,
         pieces: &[b"\x03"],
-        answer: Ok(Progress::Done { used: 1 }),
+        answer: Answer::Done(1),
         held: (1, 0, 1),
     },
     Row {
@@ -440,7 +441,7 @@ pub(crate) const ROWS: [Row; 47] = [
         ty: 1,
         limits: AMPLE,
         pieces: &[b""],
-        answer: refused(DecodeReason::BadCompact, 0),
+        answer: Answer::Refused(DecodeReason::BadCompact, 0),
         held: (0, 0, 0),
     },
     Row {
@@ -449,7 +450,7 @@ pub(crate) const ROWS: [Row; 47] = [
         ty: 0,
         limits: AMPLE,
         pieces: &[b"\x02"],
-        answer: refused(DecodeReason::BadBool, 0),
+        answer: Answer::Refused(DecodeReason::BadBool, 0),
         held: (0, 0, 1),
     },
     Row {
@@ -458,7 +459,7 @@ pub(crate) const ROWS: [Row; 47] = [
         ty: 1,
         limits: AMPLE,
         pieces: &[b"\x01\x00"],
-        answer: refused(DecodeReason::CompactNotShortest, 0),
+        answer: Answer::Refused(DecodeReason::CompactNotShortest, 0),
         held: (0, 0, 2),
     },
     Row {
@@ -467,7 +468,7 @@ pub(crate) const ROWS: [Row; 47] = [
         ty: 1,
         limits: AMPLE,
         pieces: &[b"\x07"],
-        answer: refused(DecodeReason::CompactTooLarge, 0),
+        answer: Answer::Refused(DecodeReason::CompactTooLarge, 0),
         held: (0, 0, 1),
     },
     Row {
@@ -476,7 +477,7 @@ pub(crate) const ROWS: [Row; 47] = [
         ty: 1,
         limits: AMPLE,
         pieces: &[b"\x33\xff\xff\xff\xff\xff\xff\xff\xff\xff\xff\xff\xff\xff\xff\xff\xff"],
-        answer: Ok(Progress::Done { used: 17 }),
+        answer: Answer::Done(17),
         held: (1, 0, 17),
     },
     Row {
@@ -485,7 +486,7 @@ pub(crate) const ROWS: [Row; 47] = [
         ty: 1,
         limits: AMPLE,
         pieces: &[b"\x37"],
-        answer: refused(DecodeReason::CompactTooLarge, 0),
+        answer: Answer::Refused(DecodeReason::CompactTooLarge, 0),
         held: (0, 0, 1),
     },
 ];
