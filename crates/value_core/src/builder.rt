@@ -66,6 +66,7 @@ fn extend<A: Allocator>(pool: &mut Vec<u8, A>, bytes: &[u8]) -> Result<(), Alloc
     ensures ok { OnOk result (pool.new.items ≡ pool.old.items ++ bytes.now) }
     ensures err { OnErr result (pool.new.items ≡ pool.old.items) }
 {
+    make_room(pool, bytes.len())?;
     pool.extend_from_slice(bytes)
 }
 
@@ -81,7 +82,7 @@ fn append<A: Allocator>(
     ensures ok { OnOk result (IsAppended ty leaf.entry nodes.old.items pool.old.items nodes.new.items pool.new.items) }
     ensures err { OnErr result ((nodes.new.items ≡ nodes.old.items) × (pool.new.items ≡ pool.old.items)) }
 {
-    make_room(nodes)?;
+    make_room(nodes, 1)?;
     let content = leaf.keep(pool)?;
     let node = Node {
         ty,
@@ -97,7 +98,7 @@ fn append_node<A: Allocator>(nodes: &mut Vec<Node, A>, node: Node) -> Result<(),
     ensures ok { OnOk result (nodes.new.items ≡ nodes.old.items ++ node ∷ []) }
     ensures err { OnErr result (nodes.new.items ≡ nodes.old.items) }
 {
-    make_room(nodes)?;
+    make_room(nodes, 1)?;
     nodes.push_reserved(node);
     Ok(())
 }
@@ -114,7 +115,7 @@ fn open_node<A: Allocator>(
     ensures walk { OnOk result (walk.new ≡ opened (advanced walk.old) (length nodes.old.items) (left_of walk.old.types left)) }
     ensures err { OnErr result ((nodes.new.items ≡ nodes.old.items) × (walk.new ≡ walk.old)) }
 {
-    make_room(nodes)?;
+    make_room(nodes, 1)?;
     walk.enter(nodes.as_slice().len(), left)?;
     nodes.push_reserved(node);
     Ok(())

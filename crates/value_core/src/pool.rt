@@ -4,6 +4,7 @@ ghost use Rattle.std.specs.Prelude.{◌≡◌, ◌≤◌, ◌+◌, ◌++◌, len
 ghost use Rattle.std.specs.Int.{w128, to_le_bytes};
 ghost use Rattle.value_core.specs.Shown.{long_shown};
 
+use crate::room::make_room;
 use std::alloc::{AllocError, Allocator};
 
 /// Appends the sixteen bytes of an integer, the lowest first: its place. Where memory is refused nothing changes.
@@ -17,7 +18,9 @@ pub(crate) fn put_long<A: Allocator>(
     ensures err { IfErr result (λ _. pool.new.items ≡ pool.old.items) }
 {
     let start = pool.as_slice().len();
-    pool.extend_from_slice(&number.to_le_bytes())?;
+    let bytes = number.to_le_bytes();
+    make_room(pool, bytes.len())?;
+    pool.extend_from_slice(&bytes)?;
     Ok(start)
 }
 

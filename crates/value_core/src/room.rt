@@ -1,34 +1,37 @@
-//! Room for the nodes of a value.
+//! Room for the nodes of a value, and for the bytes beside them.
 
-ghost use Rattle.std.specs.Prelude.{◌≡◌, ◌<◌, ◌≤◌, ◌+◌, ◌/◌, max, OnOk, vec_len, vec_capacity};
+ghost use Rattle.std.specs.Prelude.{◌≡◌, ◌≤◌, ◌+◌, ◌/◌, max, OnOk, vec_len, vec_capacity};
 
-use crate::node::Node;
 use std::alloc::{AllocError, Allocator};
 
-/// So many nodes have room at first.
+/// So many have room at first.
 const FIRST: usize = 4;
 
-/// Makes room for one more node, where there is none.
+/// Makes room for so many more, where there is none.
 #[inline(always)]
-pub(crate) fn make_room<A: Allocator>(nodes: &mut Vec<Node, A>) -> Result<(), AllocError>
-    ensures items { nodes.new.items ≡ nodes.old.items }
-    ensures room { OnOk result (vec_len nodes.new < vec_capacity nodes.new) }
-    ensures half { vec_capacity nodes.new ≤ max (vec_capacity nodes.old) (vec_len nodes.old + max FIRST (vec_len nodes.old / 2)) }
+pub(crate) fn make_room<T, A: Allocator>(
+    list: &mut Vec<T, A>,
+    more: usize,
+) -> Result<(), AllocError>
+    ensures items { list.new.items ≡ list.old.items }
+    ensures room { OnOk result (vec_len list.new + more ≤ vec_capacity list.new) }
+    ensures half { vec_capacity list.new ≤ max (vec_capacity list.old) (vec_len list.old + max more (max FIRST (vec_len list.old / 2))) }
 {
-    if nodes.len() < nodes.capacity() {
+    if more <= list.capacity() - list.len() {
         return Ok(());
     }
-    grow(nodes)
+    grow(list, more)
 }
 
-/// Room for half as many nodes more. By doubling a value would keep up to as much room to spare as it has nodes.
+/// Room for half as many more as there are, or for as many as are wanted. By doubling a value would keep up to as much room
+/// to spare as it takes.
 #[cold]
 #[inline(never)]
-fn grow<A: Allocator>(nodes: &mut Vec<Node, A>) -> Result<(), AllocError>
-    ensures items { nodes.new.items ≡ nodes.old.items }
-    ensures room { OnOk result (vec_len nodes.new < vec_capacity nodes.new) }
-    ensures half { vec_capacity nodes.new ≤ max (vec_capacity nodes.old) (vec_len nodes.old + max FIRST (vec_len nodes.old / 2)) }
+fn grow<T, A: Allocator>(list: &mut Vec<T, A>, more: usize) -> Result<(), AllocError>
+    ensures items { list.new.items ≡ list.old.items }
+    ensures room { OnOk result (vec_len list.new + more ≤ vec_capacity list.new) }
+    ensures half { vec_capacity list.new ≤ max (vec_capacity list.old) (vec_len list.old + max more (max FIRST (vec_len list.old / 2))) }
 {
-    let half = nodes.len() / 2;
-    nodes.reserve_exact(half.max(FIRST))
+    let half = list.len() / 2;
+    list.reserve_exact(more.max(half.max(FIRST)))
 }
