@@ -18,7 +18,7 @@ use registry_core::TypeId;
 use std::alloc::Allocator;
 use std::marker::Model;
 use std::mem;
-use value_core::{BuildFault, Builder, Limits, Value};
+use value_core::{Builder, Limits, Value};
 use widths_core::Checked;
 
 /// The greatest limit of bytes, 2^40.
@@ -175,20 +175,17 @@ impl<'r, A: Allocator + Clone> Decoder<'r, A> {
         if limits.depth > MAX_DEPTH || limits.bytes > MAX_BYTES {
             return Err(OpenFault::LimitOutOfRange);
         }
-        match Builder::new(alloc, checked, root, limits.depth) {
-            Ok(builder) => Ok(Decoder {
-                checked,
-                root,
-                limits,
-                taken: 0,
-                run: Ok(Run::new(builder)),
-                turns: Count::new(),
-                closings: Count::new(),
-                calls: Count::new(),
-            }),
-            Err(BuildFault::OutOfMemory) => Err(OpenFault::OutOfMemory),
-            Err(_) => unreachable!(),
-        }
+        let builder = Builder::begin(alloc, checked, root, limits.depth)?;
+        Ok(Decoder {
+            checked,
+            root,
+            limits,
+            taken: 0,
+            run: Ok(Run::new(builder)),
+            turns: Count::new(),
+            closings: Count::new(),
+            calls: Count::new(),
+        })
     }
 }
 
@@ -292,9 +289,6 @@ impl<'r, A: Allocator> Decoder<'r, A> {
             });
         }
         let Decoder { run, .. } = decoder;
-        match run?.into_value() {
-            Some(value) => Ok(value),
-            None => unreachable!(),
-        }
+        Ok(run?.into_value())
     }
 }

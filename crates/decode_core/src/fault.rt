@@ -5,6 +5,7 @@ ghost use Rattle.grammar_core.specs.Reading.{basic};
 ghost use Rattle.decode_core.specs.Reasons.{reason_of, stop_refusal};
 
 use scale_core::Reason;
+use std::alloc::AllocError;
 use thiserror::Error;
 use value_core::StopReason;
 
@@ -73,6 +74,17 @@ pub enum OpenFault {
     /// Memory was refused.
     #[error("OutOfMemory")]
     OutOfMemory,
+}
+
+impl From<AllocError> for OpenFault {
+    ghost use Rattle.std.specs.Prelude.{◌≡◌};
+    ghost use Rattle.decode_core.specs.declared.fault.OpenFault.TheVariants.{OutOfMemory};
+
+    ghost from_gives = { λ _ r. r ≡ OutOfMemory };
+
+    fn from(_: AllocError) -> OpenFault {
+        OpenFault::OutOfMemory
+    }
 }
 
 impl From<Reason> for DecodeReason {

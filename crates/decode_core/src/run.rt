@@ -107,11 +107,11 @@ impl<'r, A: Allocator> Run<'r, A> {
     }
 
     /// The value that is whole.
-    pub(crate) fn into_value(self) -> Option<Value<'r, A>>
+    pub(crate) fn into_value(self) -> Value<'r, A>
         requires { is_whole self.built ≡ true }
-        ensures { result ≡ Some (finished self.entry.built) }
+        ensures { result ≡ finished self.entry.built }
     {
-        self.builder.finish().ok()
+        self.builder.into_value()
     }
 
     /// How many turns the builder's loop has taken, of a value that is given up.

@@ -167,6 +167,22 @@ impl<'r, A: Allocator + Clone> Builder<'r, A> {
         if depth > MAX_DEPTH {
             return Err(BuildFault::OutOfRange);
         }
+        Ok(Builder::begin(alloc, checked, root, depth)?)
+    }
+
+    /// A builder of a value of the root's type, of which nothing is there yet, down to a depth that is at most 1024: what
+    /// `new` makes once it has judged. Of an id that is no position it is a builder that nothing can be added to.
+    ///
+    /// Refuses want of memory.
+    pub fn begin(
+        alloc: A,
+        checked: &'r Checked,
+        root: TypeId,
+        depth: u16,
+    ) -> Result<Builder<'r, A>, AllocError>
+        requires { depth ≤ MAX_DEPTH }
+        ensures { IfOk result (λ b. b ≡ record { ty = root.0; walk = start_of checked.now.types root.0 depth; entries = []; run = None; turns = 0 }) }
+    {
         let nodes = Vec::new(alloc.clone()?);
         let pool = Vec::new(alloc.clone()?);
         Ok(Builder {
@@ -189,6 +205,15 @@ impl<'r, A: Allocator> Builder<'r, A> {
         if !self.walk.is_whole() {
             return Err((BuildFault::UnfinishedValue, self));
         }
+        Ok(self.into_value())
+    }
+
+    /// The value, of which the caller knows that nothing is missing: what `finish` hands out once it has judged. It takes
+    /// no memory.
+    pub fn into_value(self) -> Value<'r, A>
+        requires { is_whole self ≡ true }
+        ensures { result ≡ finished self.entry }
+    {
         let Builder {
             root: _,
             walk,
@@ -198,7 +223,7 @@ impl<'r, A: Allocator> Builder<'r, A> {
             open_run: _,
             turns: _,
         } = self;
-        Ok(Value::new(walk.checked(), nodes, pool, text_len))
+        Value::new(walk.checked(), nodes, pool, text_len)
     }
 
     /// What comes next, lent: the first type that is missing in what it holds.

@@ -324,9 +324,7 @@ fn a_type_without_a_value_is_refused_at_the_root(rt: HostRuntime) -> Result<(), 
 #[test]
 fn nothing_is_added_to_a_whole_value(rt: HostRuntime) -> Result<(), Fail> {
     let checked = checked(rt.alloc(), TEXT)?;
-    let Ok(mut builder) = Builder::new(rt.alloc(), &checked, TypeId(0), 64) else {
-        return Err("no builder")?;
-    };
+    let mut builder = Builder::begin(rt.alloc(), &checked, TypeId(0), 64)?;
     assert_eq!(rt; builder.text("a"), Ok(()));
     check_all_refused(&rt, &mut builder, "a whole text", BuildFault::WrongKind);
     Ok(())

@@ -1,11 +1,9 @@
 -- A decoder that has taken nothing, and what the end of its input makes of one.
-use Rattle.std.proofs.Common.{◌≡◌, ℕ, suc, ◌+◌, ◌-◌, List, [], ◌++◌, length, Option, Some, None, Ok, Err, refl, sym, ap, subst, ◌∙◌, arith, inl, inr}
+use Rattle.std.proofs.Common.{◌≡◌, ℕ, suc, ◌+◌, ◌-◌, List, [], ◌++◌, length, Ok, Err, refl, sym, ap, subst, ◌∙◌, arith, inl, inr}
 use Rattle.std.specs.Prelude.{Result}
 use Rattle.std.proofs.lemmas.List.{append-nil}
 use Rattle.value_core.specs.Built.{Built, finished}
-use Rattle.value_core.specs.Refusals as built
 use Rattle.value_core.specs.Shown.{Seen}
-use Rattle.value_core.specs.declared.build_fault.BuildFault.{BuildFault}
 use Rattle.decode_core.specs.Decoding.{AnswersPiece, Decoding, FinishesDecoder, IsEnded, IsGoing, IsOf, Led, RunLed, built_tree, first_running}
 use Rattle.decode_core.specs.Machine.{State, start}
 use Rattle.decode_core.specs.Outcome.{Job, done, more, IsOutcome}
@@ -21,10 +19,6 @@ first j = first_running j.registry j.ty j.depth
 
 start_is : (j : Job) → state_of (first j).built ≡ start j.depth j.ty
 start_is j = let room : j.depth + 2 - 1 ≡ suc j.depth = omega arith in rw room refl
-
-pub opens_first : (o : Option BuildFault) (first b : Built) → built.Opens o first (Ok b) → b ≡ first
-opens_first None first b h = h
-opens_first (Some f) first b h = absurd h
 
 -- no bytes have led to it
 pub first_going : (j : Job) (s : Running) (b : Built) → s ≡ record { built = b; carry = [] } →
@@ -102,9 +96,8 @@ ends_done old new b used s v same run is h led =
 
 pub ends_by : (old new : Decoding) (b : List ℕ) (p : Progress) (s : Running) (v : Seen) →
     new.job ≡ old.job → (p ≡ progress.More → ⊥) → new.run ≡ Ok s →
-    Some v ≡ Some (finished s.built) → AnswersPiece old new (b ++ []) (Ok p) × Led new (b ++ []) →
+    v ≡ finished s.built → AnswersPiece old new (b ++ []) (Ok p) × Led new (b ++ []) →
     FinishesDecoder old.job b (Ok v)
 ends_by old new b progress.More s v same whole run is h = absurd (whole refl)
 ends_by old new b (progress.Done used) s v same whole run is h =
-    let value_is : v ≡ finished s.built = cc in
-    ends_done old new b used s v same run value_is h.0 h.1
+    ends_done old new b used s v same run is h.0 h.1

@@ -23,14 +23,14 @@ returns-in-More-clause-finishes g c = λ b led.
 pub returns-clause-finishes : goal.returns-clause-finishes
 returns-clause-finishes g c = λ b led.
     let run = sym (ap (λ (d : Decoding). d.run) c.decoder.view_is) ∙ c.in_ok-run.was in
-    ends_by c.args.self c.feed.new.self b c.in_ok-feed.field-0 c.in_ok-run.field-0 c.in-Some.value
-    c.in_ok-feed.ensures.job c.in_default.not-More run (sym c.in-Some.is ∙ c.into_value.ensures)
+    ends_by c.args.self c.feed.new.self b c.in_ok-feed.field-0 c.in_ok-run.field-0
+    c.into_value.result c.in_ok-feed.ensures.job c.in_default.not-More run c.into_value.ensures
     (c.in_ok-feed.ensures.answers b led)
 
 pub returns-clause-small : goal.returns-clause-small
 returns-clause-small g c = λ b led.
     let run = sym (ap (λ (d : Decoding). d.run) c.decoder.view_is) ∙ c.in_ok-run.was in
-    value_small c.args.self.job b c.in-Some.value
+    value_small c.args.self.job b c.into_value.result
     (ends_by c.args.self c.feed.new.self b c.in_ok-feed.field-0 c.in_ok-run.field-0
-    c.in-Some.value c.in_ok-feed.ensures.job c.in_default.not-More run (sym c.in-Some.is
-    ∙ c.into_value.ensures) (c.in_ok-feed.ensures.answers b led))
+    c.into_value.result c.in_ok-feed.ensures.job c.in_default.not-More run c.into_value.ensures
+    (c.in_ok-feed.ensures.answers b led))

@@ -1,6 +1,6 @@
 use Rattle.std.proofs.Common.{refl, arith}
 use Rattle.value_core.proofs.Finished.{nothing_built}
-use Rattle.value_core.proofs.builder.Builder.new.Goals as goal
+use Rattle.value_core.proofs.builder.Builder.begin.Goals as goal
 
 pub invariant_of-result : goal.invariant_of-result
 invariant_of-result g c = (

@@ -4,7 +4,7 @@ use Rattle.value_core.specs.Shown.{IsWhole, seen}
 use Rattle.value_core.specs.Building.{pieces_shown}
 use Rattle.value_core.specs.Refusals.{is_whole_in}
 use Rattle.value_core.proofs.Finished.{is_finished, seen_finished}
-use Rattle.value_core.proofs.builder.Builder.finish.Goals as goal
+use Rattle.value_core.proofs.builder.Builder.into_value.Goals as goal
 
 pub new-requires-clause-whole : goal.new-requires-clause-whole
 new-requires-clause-whole g c =
@@ -37,4 +37,4 @@ returns g c =
     (pieces_shown c.self.inside.pool.items c.self.inside.open_run) c.self.inside.turns.so_far
     c.self.inside.root.0 c.self.inside.walk c.self.inside.pool.items c.self.inside.nodes.items
     f.type_is in
-    rw (← c.self.view_is, w) value
+    rw (← c.self.view_is) value
