@@ -163,32 +163,70 @@ static void check_orders(void) {
 static void check_numbers(void) {
     check("answers", SCALEVIEW_OK == 0 && SCALEVIEW_MORE == 1 && SCALEVIEW_NO_ROOM == 2 && SCALEVIEW_MEMORY == 3 &&
                          SCALEVIEW_LENT == 4 && SCALEVIEW_NO_HANDLE == 5 && SCALEVIEW_TAKEN == 6);
+    check("types and limits", SCALEVIEW_UNKNOWN_TYPE == 201 && SCALEVIEW_LIMIT_OUT_OF_RANGE == 202);
+    const uint32_t of_registries[] = {
+        SCALEVIEW_REGISTRY_TRUNCATED,
+        SCALEVIEW_REGISTRY_BAD_UTF8,
+        SCALEVIEW_REGISTRY_COMPACT_NOT_SHORTEST,
+        SCALEVIEW_REGISTRY_COMPACT_TOO_LARGE,
+        SCALEVIEW_REGISTRY_BAD_OPTION,
+        SCALEVIEW_REGISTRY_BAD_DEFINITION,
+        SCALEVIEW_REGISTRY_BAD_PRIMITIVE,
+        SCALEVIEW_REGISTRY_ID_OUT_OF_PLACE,
+        SCALEVIEW_REGISTRY_NOT_METADATA,
+        SCALEVIEW_REGISTRY_WRONG_VERSION,
+        SCALEVIEW_REGISTRY_TRAILING_BYTES,
+        SCALEVIEW_REGISTRY_UNKNOWN_REFERENCE,
+    };
+    for (uint32_t i = 0; i < sizeof of_registries / sizeof *of_registries; i++) {
+        check("a name of a registry's refusal", of_registries[i] == 101 + i);
+    }
+    const uint32_t of_values[] = {
+        SCALEVIEW_VALUE_TRUNCATED,
+        SCALEVIEW_VALUE_BAD_BOOL,
+        SCALEVIEW_VALUE_BAD_CHAR,
+        SCALEVIEW_VALUE_BAD_UTF8,
+        SCALEVIEW_VALUE_COMPACT_NOT_SHORTEST,
+        SCALEVIEW_VALUE_COMPACT_TOO_LARGE,
+        SCALEVIEW_VALUE_NO_SUCH_VARIANT,
+        SCALEVIEW_VALUE_TOO_DEEP,
+        SCALEVIEW_VALUE_NO_FINITE_VALUE,
+        SCALEVIEW_VALUE_BIT_SEQUENCE,
+        SCALEVIEW_VALUE_BAD_COMPACT,
+        SCALEVIEW_VALUE_TOO_LONG,
+        SCALEVIEW_VALUE_TRAILING_BYTES,
+    };
+    for (uint32_t i = 0; i < sizeof of_values / sizeof *of_values; i++) {
+        check("a name of a value's refusal", of_values[i] == 301 + i);
+    }
     struct {
         const char *bytes;
         size_t length;
         bool metadata;
         uint32_t code;
         uint64_t at;
+        uint32_t from;
     } registries[] = {
-        {"\x04", 1, false, 101, 1},
-        {"\x04\x00\x04\x04\xff", 5, false, 102, 4},
-        {"\x01\x00", 2, false, 103, 0},
-        {"\x07", 1, false, 104, 0},
-        {"\x04\x00\x00\x00\x00\x04\x02", 7, false, 105, 6},
-        {"\x04\x00\x00\x00\x08\x00", 6, false, 106, 4},
-        {"\x04\x00\x00\x00\x05\x0f\x00", 7, false, 107, 5},
-        {"\x04\x04\x00\x00\x05\x03\x00", 7, false, 108, 1},
-        {"\x6d\x66", 2, true, 109, 1},
-        {"\x6d\x65\x74\x61\x10", 5, true, 110, 4},
-        {"\x04\x00\x00\x00\x05\x03\x00\xff", 8, false, 111, 7},
-        {"\x04\x00\x00\x00\x02\x04\x00", 7, false, 112, 1},
+        {"\x04", 1, false, 101, 1, 0},
+        {"\x04\x00\x04\x04\xff", 5, false, 102, 4, 0},
+        {"\x01\x00", 2, false, 103, 0, 0},
+        {"\x07", 1, false, 104, 0, 0},
+        {"\x04\x00\x00\x00\x00\x04\x02", 7, false, 105, 6, 0},
+        {"\x04\x00\x00\x00\x08\x00", 6, false, 106, 4, 0},
+        {"\x04\x00\x00\x00\x05\x0f\x00", 7, false, 107, 5, 0},
+        {"\x04\x04\x00\x00\x05\x03\x00", 7, false, 108, 1, 0},
+        {"\x6d\x66", 2, true, 109, 1, 0},
+        {"\x6d\x65\x74\x61\x10", 5, true, 110, 4, 0},
+        {"\x04\x00\x00\x00\x05\x03\x00\xff", 8, false, 111, 7, 0},
+        {"\x04\x00\x00\x00\x02\x04\x00", 7, false, 112, 1, 0},
+        {"\x08\x00\x00\x00\x05\x03\x00\x04\x00\x00\x02\x08\x00", 13, false, 112, 2, 1},
     };
     for (size_t i = 0; i < sizeof registries / sizeof *registries; i++) {
         scaleview_registry registry = {NULL};
         scaleview_answer answer;
         uint32_t code = scaleview_open((const uint8_t *)registries[i].bytes, registries[i].length, registries[i].metadata,
                                        &registry, &answer);
-        check("a registry's code", code == registries[i].code && answer.code == code && answer.from == 0);
+        check("a registry's code", code == registries[i].code && answer.code == code && answer.from == registries[i].from);
         check("a registry's place", answer.at == registries[i].at && !registry.inside);
     }
     struct {
@@ -217,6 +255,7 @@ static void check_numbers(void) {
         {"\x04\x00\x00\x00\x05\x04\x00", 7, "\x01\x00\xff", 3, 64, 99, 313, 2},
         {"\x00", 1, "", 0, 64, 99, 201, 0},
         {"\x04\x00\x00\x00\x05\x04\x00", 7, "\x01\x00", 2, 1025, 99, 202, 0},
+        {"\x04\x00\x00\x00\x05\x04\x00", 7, "\x01\x00", 2, 64, 1099511627777, 202, 0},
     };
     for (size_t i = 0; i < sizeof values / sizeof *values; i++) {
         scaleview_registry registry = {NULL};

@@ -130,8 +130,8 @@ uint32_t scaleview_start(scaleview_registry registry, uint32_t type, uint16_t de
  * SCALEVIEW_NO_HANDLE. */
 uint32_t scaleview_feed(scaleview_session *session, const uint8_t *piece, size_t length, scaleview_answer *answer);
 
-/* How many bytes of all pieces were taken, how many nodes of the value are held, and how many bytes of its texts, as
- * `answer->length`. After a refusal no node and no text is held; after scaleview_finish all three are 0. Else
+/* How many bytes of all pieces were taken, how many nodes of the value are held, and how many bytes of its texts and byte runs,
+ * as `answer->length`. After a refusal no node and no such byte is held; after scaleview_finish all three are 0. Else
  * SCALEVIEW_NO_HANDLE. */
 uint32_t scaleview_taken(scaleview_session *session, scaleview_answer *answer);
 uint32_t scaleview_nodes(scaleview_session *session, scaleview_answer *answer);
