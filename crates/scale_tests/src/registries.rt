@@ -1,0 +1,226 @@
+//! The registries that tests use, and the bytes that spell each.
+
+use std::alloc::{AllocError, Global};
+
+/// No type at all.
+pub const NO_TYPES: &[u8] = b"\x00";
+
+/// The type 0 is a bool.
+pub const BOOL: &[u8] = b"\x04\x00\x00\x00\x05\x00\x00";
+
+/// The type 0 is a char.
+pub const CHARACTER: &[u8] = b"\x04\x00\x00\x00\x05\x01\x00";
+
+/// The type 0 is a str.
+pub const TEXT: &[u8] = b"\x04\x00\x00\x00\x05\x02\x00";
+
+/// The type 0 is a u8.
+pub const U8: &[u8] = b"\x04\x00\x00\x00\x05\x03\x00";
+
+/// The type 0 is a u16.
+pub const U16: &[u8] = b"\x04\x00\x00\x00\x05\x04\x00";
+
+/// The type 0 is a u64.
+pub const U64: &[u8] = b"\x04\x00\x00\x00\x05\x06\x00";
+
+/// The type 0 is a u128.
+pub const U128: &[u8] = b"\x04\x00\x00\x00\x05\x07\x00";
+
+/// The type 0 is a u256.
+pub const WIDE: &[u8] = b"\x04\x00\x00\x00\x05\x08\x00";
+
+/// The type 0 is an i64.
+pub const I64: &[u8] = b"\x04\x00\x00\x00\x05\x0c\x00";
+
+/// The type 0 is an i128.
+pub const I128: &[u8] = b"\x04\x00\x00\x00\x05\x0d\x00";
+
+/// The type 0 is a u8, and the type 1 an i32.
+pub const U8_AND_I32: &[u8] = b"\x08\x00\x00\x00\x05\x03\x00\x04\x00\x00\x05\x0b\x00";
+
+/// The type 1 is a compact of a u8.
+pub const COMPACT_U8: &[u8] = b"\x08\x00\x00\x00\x05\x03\x00\x04\x00\x00\x06\x00\x00";
+
+/// The type 1 is a compact of a u16.
+pub const COMPACT_U16: &[u8] = b"\x08\x00\x00\x00\x05\x04\x00\x04\x00\x00\x06\x00\x00";
+
+/// The type 1 is a compact of a u32.
+pub const COMPACT_U32: &[u8] = b"\x08\x00\x00\x00\x05\x05\x00\x04\x00\x00\x06\x00\x00";
+
+/// The type 1 is a compact of a u64.
+pub const COMPACT_U64: &[u8] = b"\x08\x00\x00\x00\x05\x06\x00\x04\x00\x00\x06\x00\x00";
+
+/// The type 1 is a compact of a u128.
+pub const COMPACT_U128: &[u8] = b"\x08\x00\x00\x00\x05\x07\x00\x04\x00\x00\x06\x00\x00";
+
+/// The type 1 is a compact of a bool, the type 0.
+pub const COMPACT_OF_A_BOOL: &[u8] = b"\x08\x00\x00\x00\x05\x00\x00\x04\x00\x00\x06\x00\x00";
+
+/// The type 1 is a compact of the empty tuple.
+pub const COMPACT_OF_A_UNIT: &[u8] = b"\x08\x00\x00\x00\x04\x00\x00\x04\x00\x00\x06\x00\x00";
+
+/// A u32, a composite of it, and as the type 2 a compact of the composite.
+pub const COMPACT_OF_A_COMPOSITE: &[u8] =
+    b"\x0c\x00\x00\x00\x05\x05\x00\x04\x00\x00\x00\x04\x00\x00\x00\x00\x00\x08\x00\x00\x06\x04\x00";
+
+/// A u8, a compact of it, and as the type 2 a compact of the compact.
+pub const COMPACT_OF_A_COMPACT: &[u8] =
+    b"\x0c\x00\x00\x00\x05\x03\x00\x04\x00\x00\x06\x00\x00\x08\x00\x00\x06\x04\x00";
+
+/// Two composites, each of which holds the other alone, and as the type 2 a compact of the first.
+pub const COMPACT_OF_ENDLESS: &[u8] =
+    b"\x0c\x00\x00\x00\x00\x04\x00\x04\x00\x00\x00\x04\x00\x00\x00\x04\x00\x00\x00\x00\x00\x08\x00\x00\x06\x00\x00";
+
+/// The type 0 is a composite of the type 1, which is a compact of the composite.
+pub const COMPACT_OF_ITSELF: &[u8] =
+    b"\x08\x00\x00\x00\x00\x04\x00\x04\x00\x00\x00\x04\x00\x00\x06\x00\x00";
+
+/// The type 0 is a composite of the empty tuple, the type 1.
+pub const EMPTY_COMPOSITE: &[u8] =
+    b"\x08\x00\x00\x00\x00\x04\x00\x04\x00\x00\x00\x04\x00\x00\x04\x00\x00";
+
+/// A u8, the empty tuple, and as the type 2 a sequence of empty tuples.
+pub const UNITS: &[u8] =
+    b"\x0c\x00\x00\x00\x05\x03\x00\x04\x00\x00\x04\x00\x00\x08\x00\x00\x02\x04\x00";
+
+/// The type 2 is a sequence of sequences of empty tuples.
+pub const UNITS_IN_UNITS: &[u8] =
+    b"\x0c\x00\x00\x00\x04\x00\x00\x04\x00\x00\x02\x00\x00\x08\x00\x00\x02\x04\x00";
+
+/// The type 1 is a sequence of u8, the type 0.
+pub const BYTES: &[u8] = b"\x08\x00\x00\x00\x05\x03\x00\x04\x00\x00\x02\x00\x00";
+
+/// The type 1 is a sequence of u16.
+pub const WORDS: &[u8] = b"\x08\x00\x00\x00\x05\x04\x00\x04\x00\x00\x02\x00\x00";
+
+/// The type 1 is a sequence of str.
+pub const TEXTS: &[u8] = b"\x08\x00\x00\x00\x05\x02\x00\x04\x00\x00\x02\x00\x00";
+
+/// The type 2 is a sequence of composites of one u8.
+pub const WRAPPED_BYTES: &[u8] =
+    b"\x0c\x00\x00\x00\x05\x03\x00\x04\x00\x00\x00\x04\x00\x00\x00\x00\x00\x08\x00\x00\x02\x04\x00";
+
+/// A u32, an option of it, and as the type 2 a sequence of options.
+pub const OPTIONS: &[u8] =
+    b"\x0c\x00\x00\x00\x05\x05\x00\x04\x04\x18Option\x04\x04T\x01\x00\x01\x08\x10None\x00\x00\x00\x10Some\x04\x00\x00\x01\x04T\x00\x01\x00\x00\x08\x00\x00\x02\x04\x00";
+
+/// The type 1 is an array of no u8.
+pub const NO_BYTES: &[u8] = b"\x08\x00\x00\x00\x05\x03\x00\x04\x00\x00\x03\x00\x00\x00\x00\x00\x00";
+
+/// The type 1 is an array of two u8.
+pub const TWO_BYTES: &[u8] =
+    b"\x08\x00\x00\x00\x05\x03\x00\x04\x00\x00\x03\x02\x00\x00\x00\x00\x00";
+
+/// The type 1 is an array of three u8.
+pub const THREE_BYTES: &[u8] =
+    b"\x08\x00\x00\x00\x05\x03\x00\x04\x00\x00\x03\x03\x00\x00\x00\x00\x00";
+
+/// The type 1 is an array of 10000 u8.
+pub const TEN_THOUSAND_BYTES: &[u8] =
+    b"\x08\x00\x00\x00\x05\x03\x00\x04\x00\x00\x03\x10\x27\x00\x00\x00\x00";
+
+/// The type 1 is an array of 4294967295 u8.
+pub const LONG_ARRAY: &[u8] =
+    b"\x08\x00\x00\x00\x05\x03\x00\x04\x00\x00\x03\xff\xff\xff\xff\x00\x00";
+
+/// The type 1 is an array of 4294967295 u16.
+pub const LONG_ARRAY_OF_WORDS: &[u8] =
+    b"\x08\x00\x00\x00\x05\x04\x00\x04\x00\x00\x03\xff\xff\xff\xff\x00\x00";
+
+/// The type 1 is an array of 65 u16.
+pub const SIXTY_FIVE_WORDS: &[u8] =
+    b"\x08\x00\x00\x00\x05\x04\x00\x04\x00\x00\x03\x41\x00\x00\x00\x00\x00";
+
+/// A variant without arms, and as the type 1 a sequence of it.
+pub const NEVER: &[u8] = b"\x08\x00\x00\x00\x01\x00\x00\x04\x00\x00\x02\x00\x00";
+
+/// A u8, the empty tuple, and as the type 2 a tuple of two empty tuples and the u8.
+pub const TWO_UNITS_AND_A_BYTE: &[u8] =
+    b"\x0c\x00\x00\x00\x05\x03\x00\x04\x00\x00\x04\x00\x00\x08\x00\x00\x04\x0c\x04\x04\x00\x00";
+
+/// The type 0 is a composite of itself, in a field a.
+pub const ENDLESS: &[u8] = b"\x04\x00\x00\x00\x00\x04\x01\x04a\x00\x00\x00\x00";
+
+/// The type 1 is a composite of two u8, b and a.
+pub const FIELDS: &[u8] =
+    b"\x08\x00\x00\x00\x05\x03\x00\x04\x00\x00\x00\x08\x01\x04b\x00\x00\x00\x01\x04a\x00\x00\x00\x00";
+
+/// The type 1 is a composite of two u8 that are both named a.
+pub const FIELDS_OF_ONE_NAME: &[u8] =
+    b"\x08\x00\x00\x00\x05\x03\x00\x04\x00\x00\x00\x08\x01\x04a\x00\x00\x00\x01\x04a\x00\x00\x00\x00";
+
+/// The type 1 is a composite of one u8, a.
+pub const ONE_FIELD: &[u8] =
+    b"\x08\x00\x00\x00\x05\x03\x00\x04\x00\x00\x00\x04\x01\x04a\x00\x00\x00\x00";
+
+/// The type 1 is a composite of two u8, the first of which is named a.
+pub const NAMED_AND_UNNAMED: &[u8] =
+    b"\x08\x00\x00\x00\x05\x03\x00\x04\x00\x00\x00\x08\x01\x04a\x00\x00\x00\x00\x00\x00\x00\x00";
+
+/// The type 1 is a composite of three u8, b, a and b.
+pub const FIRST_AND_LAST_OF_ONE_NAME: &[u8] =
+    b"\x08\x00\x00\x00\x05\x03\x00\x04\x00\x00\x00\x0c\x01\x04b\x00\x00\x00\x01\x04a\x00\x00\x00\x01\x04b\x00\x00\x00\x00";
+
+/// The type 1 is a composite of three u8: ab, a and a quote.
+pub const ESCAPED_NAME: &[u8] =
+    b"\x08\x00\x00\x00\x05\x03\x00\x04\x00\x00\x00\x0c\x01\x08ab\x00\x00\x00\x01\x04a\x00\x00\x00\x01\x04\x22\x00\x00\x00\x00";
+
+/// A u8, a composite of three, b, c and a, and as the type 2 a sequence of composites.
+pub const ROTATED_FIELDS: &[u8] =
+    b"\x0c\x00\x00\x00\x05\x03\x00\x04\x00\x00\x00\x0c\x01\x04b\x00\x00\x00\x01\x04c\x00\x00\x00\x01\x04a\x00\x00\x00\x00\x08\x00\x00\x02\x04\x00";
+
+/// A u8, a composite of two, d and c, and as the type 2 a composite of two such, z and y, and a u8, x.
+pub const NESTED_FIELDS: &[u8] =
+    b"\x0c\x00\x00\x00\x05\x03\x00\x04\x00\x00\x00\x08\x01\x04d\x00\x00\x00\x01\x04c\x00\x00\x00\x00\x08\x00\x00\x00\x0c\x01\x04z\x04\x00\x00\x01\x04y\x04\x00\x00\x01\x04x\x00\x00\x00\x00";
+
+/// A u32, and as the type 1 an option of it.
+pub const OPTION: &[u8] =
+    b"\x08\x00\x00\x00\x05\x05\x00\x04\x04\x18Option\x04\x04T\x01\x00\x01\x08\x10None\x00\x00\x00\x10Some\x04\x00\x00\x01\x04T\x00\x01\x00\x00";
+
+/// A bit sequence, and as the type 1 a variant of A, and B with a bit sequence.
+pub const BITS_IN_AN_ARM: &[u8] =
+    b"\x08\x00\x00\x00\x07\x00\x00\x00\x04\x00\x00\x01\x08\x04A\x00\x00\x00\x04B\x04\x00\x00\x00\x00\x01\x00\x00";
+
+/// The type 0 is a variant of End, and Next with another such.
+pub const CHAIN: &[u8] =
+    b"\x04\x00\x00\x00\x01\x08\x0cEnd\x00\x00\x00\x10Next\x04\x00\x00\x00\x00\x01\x00\x00";
+
+/// The type 1 is a variant of A and B, both with the index 3, B with a u8.
+pub const SHADOWED_ARM: &[u8] =
+    b"\x08\x00\x00\x00\x05\x03\x00\x04\x00\x00\x01\x08\x04A\x00\x03\x00\x04B\x04\x00\x00\x00\x00\x03\x00\x00";
+
+/// The type 0 is a variant of one arm whose name is a line feed.
+pub const LINE_FEED_ARM: &[u8] = b"\x04\x00\x00\x00\x01\x04\x04\x0a\x00\x00\x00\x00";
+
+/// The type 1 is a variant of P with two u8, y and x.
+pub const FIELDS_IN_AN_ARM: &[u8] =
+    b"\x08\x00\x00\x00\x05\x03\x00\x04\x00\x00\x01\x04\x04P\x08\x01\x04y\x00\x00\x00\x01\x04x\x00\x00\x00\x00\x00\x00";
+
+/// The type 1 is a variant of P with two u8, y and x, and Q with x and y, and the type 2 a sequence of it.
+pub const FIELDS_IN_TWO_ARMS: &[u8] =
+    b"\x0c\x00\x00\x00\x05\x03\x00\x04\x00\x00\x01\x08\x04P\x08\x01\x04y\x00\x00\x00\x01\x04x\x00\x00\x00\x00\x00\x04Q\x08\x01\x04x\x00\x00\x00\x01\x04y\x00\x00\x00\x01\x00\x00\x08\x00\x00\x02\x04\x00";
+
+/// The type 5 is a tuple of a str, a sequence of sequences of u8, a variant of End, and Next with another such, and a
+/// str.
+pub const NESTED: &[u8] =
+    b"\x18\x00\x00\x00\x05\x03\x00\x04\x00\x00\x05\x02\x00\x08\x00\x00\x02\x00\x00\x0c\x00\x00\x02\x08\x00\x10\x00\x00\x01\x08\x0cEnd\x00\x00\x00\x10Next\x04\x00\x10\x00\x00\x01\x00\x00\x14\x00\x00\x04\x10\x04\x0c\x10\x04\x00";
+
+/// The type 0 is a u8 whose path is the text a, quote, b.
+pub const QUOTE_IN_A_PATH: &[u8] = b"\x04\x00\x04\x0c\x61\x22\x62\x00\x05\x03\x00";
+
+/// The type 0 is a bool whose path is a and b.
+pub const TWO_SEGMENTS: &[u8] = b"\x04\x00\x08\x04a\x04b\x00\x05\x00\x00";
+
+/// The type 0 is a sequence of the type 1, which is not there.
+pub const UNKNOWN_ELEMENT: &[u8] = b"\x04\x00\x00\x00\x02\x04\x00";
+
+/// The empty tuple, and 40 tuples, each of the tuple before it twice: the last takes no bytes, and a value of it would
+/// have 2^40 parts if it was taken apart.
+pub fn nested_pairs(alloc: Global) -> Result<Vec<u8>, AllocError> {
+    let mut bytes = Vec::from_slice(alloc, b"\xa4\x00\x00\x00\x04\x00\x00")?;
+    'types: for before in 0..40u8 {
+        let (id, member) = (4 * (before + 1), 4 * before);
+        bytes.extend_from_slice(&[id, 0, 0, 4, 8, member, member, 0])?;
+    }
+    Ok(bytes)
+}
