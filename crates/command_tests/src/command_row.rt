@@ -2,9 +2,9 @@
 
 ghost use Rattle.scale_tool.specs.Answer.{IsServed};
 
-use scale_core::{Sink, Source};
-use scale_tests::paced::{PacedReader, PacedWriter, Then};
-use scale_tool::{Job, run};
+use crate::ran::{check_ran, run_paced};
+use scale_tool::Job;
+use std::alloc::Global;
 use std::process::Abort;
 
 /// A job's input, and what it must answer.
@@ -18,16 +18,6 @@ pub struct Row {
     pub out: &'static str,
     pub err: &'static str,
 }
-
-pub const U8: &[u8] = b"\x04\x00\x00\x00\x05\x03\x00";
-
-pub const U16: &[u8] = b"\x04\x00\x00\x00\x05\x04\x00";
-
-pub const STR: &[u8] = b"\x04\x00\x00\x00\x05\x02\x00";
-
-pub const BOOL: &[u8] = b"\x04\x00\x00\x00\x05\x00\x00";
-
-pub const U8_AND_I32: &[u8] = b"\x08\x00\x00\x00\x05\x03\x00\x04\x00\x00\x05\x0b\x00";
 
 /// The job of a value's bytes, within the depth that holds where none is told.
 pub fn decode(id: u32) -> Job
@@ -139,36 +129,11 @@ pub fn served(job: Job) -> Job
     }
 }
 
-/// Runs a row with so many bytes a call, over devices that do not fail.
-pub fn check_row(rt: &(impl Abort + AllocGlobal), row: &Row, step: usize) {
-    let name = row.name;
-    let alloc = rt.alloc();
-    let mut registry = Source::new(PacedReader::new(row.registry, step, Then::GoesOn));
-    let mut value = Source::new(PacedReader::new(row.value, step, Then::GoesOn));
-    let mut out = Sink::new(PacedWriter::new(alloc, 0, step, Then::GoesOn));
-    let mut err = Sink::new(PacedWriter::new(alloc, 0, step, Then::GoesOn));
-    let status = run(
-        alloc,
-        served(row.job),
-        &mut registry,
-        &mut value,
-        &mut out,
-        &mut err,
-    );
-    assert_eq!(rt; status, row.status, "the status of {name}");
-    assert_eq!(rt; registry.failed(), false, "the registry of {name}");
-    assert_eq!(rt; value.failed(), false, "the value of {name}");
-    assert_eq!(rt; out.failed(), false, "the output of {name}");
-    let out = out.into_inner();
-    let err = err.into_inner();
-    assert_eq!(rt;
-        out.taken.as_slice(),
-        row.out.as_bytes(),
-        "what {name} writes"
-    );
-    assert_eq!(rt;
-        err.taken.as_slice(),
-        row.err.as_bytes(),
-        "what {name} tells"
-    );
+/// Runs a row with a byte a call and with many, over devices that do not fail.
+pub fn check_row(rt: &impl Abort, alloc: Global, row: &Row) {
+    'steps: for step in [1, 4096] {
+        let found = run_paced(rt, alloc, row.job, row.registry, row.value, step);
+        let (out, err) = (row.out.as_bytes(), row.err.as_bytes());
+        check_ran(rt, row.name, &found, row.status, out, err);
+    }
 }

@@ -3,11 +3,15 @@
 use json_core::{PrintFault, json_text, print, to_json};
 use registry_core::TypeId;
 use scale_core::{Sink, SinkFault};
-use scale_tests::building::{
-    BITS_IN_AN_ARM, BYTES, CHAIN, COMPACT_U128, Call, NO_BYTES, OPTION, SHADOWED_ARM, TEXT,
-    TWO_UNITS_AND_A_BYTE, U8, UNITS, WIDE, WORDS, WRAPPED_BYTES, add, checked,
-};
+use scale_tests::building::{Call, add, checked};
 use scale_tests::paced::{PacedWriter, Then};
+use scale_tests::registries::{
+    BITS_IN_AN_ARM, BOOL, BYTES, CHAIN, CHARACTER, COMPACT_U8, COMPACT_U128, ESCAPED_NAME, FIELDS,
+    FIELDS_IN_AN_ARM, FIELDS_IN_TWO_ARMS, FIELDS_OF_ONE_NAME, FIRST_AND_LAST_OF_ONE_NAME, I64,
+    I128, NAMED_AND_UNNAMED, NESTED_FIELDS, NEVER, NO_BYTES, ONE_FIELD, OPTION, ROTATED_FIELDS,
+    SHADOWED_ARM, TEXT, TWO_BYTES, TWO_UNITS_AND_A_BYTE, U8, U64, U128, UNITS, WIDE, WORDS,
+    WRAPPED_BYTES,
+};
 use std::alloc::Global;
 use std::process::Abort;
 use std::test::Fail;
@@ -75,7 +79,7 @@ const ROWS: [Row; 14] = [
     },
     Row {
         name: "an empty sequence of a type without values",
-        registry: b"\x08\x00\x00\x00\x01\x00\x00\x04\x00\x00\x02\x00\x00",
+        registry: NEVER,
         ty: 1,
         calls: &[Call::List(0)],
         text: "[]",
@@ -103,7 +107,7 @@ const ROWS: [Row; 14] = [
     },
     Row {
         name: "fields whose names are out of order",
-        registry: b"\x08\x00\x00\x00\x05\x03\x00\x04\x00\x00\x00\x08\x01\x04b\x00\x00\x00\x01\x04a\x00\x00\x00\x00",
+        registry: FIELDS,
         ty: 1,
         calls: &[Call::Fields, Call::Unsigned(1), Call::Unsigned(2)],
         text: "{\"a\":2,\"b\":1}",
@@ -131,14 +135,14 @@ const ROWS: [Row; 14] = [
 const FORMS: [Row; 17] = [
     Row {
         name: "a boolean",
-        registry: b"\x04\x00\x00\x00\x05\x00\x00",
+        registry: BOOL,
         ty: 0,
         calls: &[Call::Bool(true)],
         text: "true",
     },
     Row {
         name: "a character",
-        registry: b"\x04\x00\x00\x00\x05\x01\x00",
+        registry: CHARACTER,
         ty: 0,
         calls: &[Call::Char('\u{e9}')],
         text: "\"\u{e9}\"",
@@ -152,35 +156,35 @@ const FORMS: [Row; 17] = [
     },
     Row {
         name: "the greatest u64",
-        registry: b"\x04\x00\x00\x00\x05\x06\x00",
+        registry: U64,
         ty: 0,
         calls: &[Call::Unsigned(18_446_744_073_709_551_615)],
         text: "18446744073709551615",
     },
     Row {
         name: "a small u128",
-        registry: b"\x04\x00\x00\x00\x05\x07\x00",
+        registry: U128,
         ty: 0,
         calls: &[Call::Unsigned(0)],
         text: "\"0\"",
     },
     Row {
         name: "the least i64",
-        registry: b"\x04\x00\x00\x00\x05\x0c\x00",
+        registry: I64,
         ty: 0,
         calls: &[Call::Signed(-9_223_372_036_854_775_808)],
         text: "-9223372036854775808",
     },
     Row {
         name: "an i128 below zero",
-        registry: b"\x04\x00\x00\x00\x05\x0d\x00",
+        registry: I128,
         ty: 0,
         calls: &[Call::Signed(-1)],
         text: "\"-1\"",
     },
     Row {
         name: "a small compact integer",
-        registry: b"\x08\x00\x00\x00\x05\x03\x00\x04\x00\x00\x06\x00\x00",
+        registry: COMPACT_U8,
         ty: 1,
         calls: &[Call::Compact(255)],
         text: "255",
@@ -201,7 +205,7 @@ const FORMS: [Row; 17] = [
     },
     Row {
         name: "an array of bytes",
-        registry: b"\x08\x00\x00\x00\x05\x03\x00\x04\x00\x00\x03\x02\x00\x00\x00\x00\x00",
+        registry: TWO_BYTES,
         ty: 1,
         calls: &[Call::Bytes(b"\x00\xa9")],
         text: "\"0x00a9\"",
@@ -229,21 +233,21 @@ const FORMS: [Row; 17] = [
     },
     Row {
         name: "two fields of one name",
-        registry: b"\x08\x00\x00\x00\x05\x03\x00\x04\x00\x00\x00\x08\x01\x04a\x00\x00\x00\x01\x04a\x00\x00\x00\x00",
+        registry: FIELDS_OF_ONE_NAME,
         ty: 1,
         calls: &[Call::Fields, Call::Unsigned(1), Call::Unsigned(2)],
         text: "[1,2]",
     },
     Row {
         name: "a field with a name and one without",
-        registry: b"\x08\x00\x00\x00\x05\x03\x00\x04\x00\x00\x00\x08\x01\x04a\x00\x00\x00\x00\x00\x00\x00\x00",
+        registry: NAMED_AND_UNNAMED,
         ty: 1,
         calls: &[Call::Fields, Call::Unsigned(1), Call::Unsigned(2)],
         text: "[1,2]",
     },
     Row {
         name: "an arm whose fields have names",
-        registry: b"\x08\x00\x00\x00\x05\x03\x00\x04\x00\x00\x01\x04\x04P\x08\x01\x04y\x00\x00\x00\x01\x04x\x00\x00\x00\x00\x00\x00",
+        registry: FIELDS_IN_AN_ARM,
         ty: 1,
         calls: &[Call::Arm(0), Call::Unsigned(1), Call::Unsigned(2)],
         text: "{\"P\":{\"x\":2,\"y\":1}}",
@@ -254,7 +258,7 @@ const FORMS: [Row; 17] = [
 const ORDERS: [Row; 6] = [
     Row {
         name: "two composites of one type, with keys in another order than the fields",
-        registry: b"\x0c\x00\x00\x00\x05\x03\x00\x04\x00\x00\x00\x0c\x01\x04b\x00\x00\x00\x01\x04c\x00\x00\x00\x01\x04a\x00\x00\x00\x00\x08\x00\x00\x02\x04\x00",
+        registry: ROTATED_FIELDS,
         ty: 2,
         calls: &[
             Call::List(2),
@@ -271,7 +275,7 @@ const ORDERS: [Row; 6] = [
     },
     Row {
         name: "two arms of one type, each with an order of its own",
-        registry: b"\x0c\x00\x00\x00\x05\x03\x00\x04\x00\x00\x01\x08\x04P\x08\x01\x04y\x00\x00\x00\x01\x04x\x00\x00\x00\x00\x00\x04Q\x08\x01\x04x\x00\x00\x00\x01\x04y\x00\x00\x00\x01\x00\x00\x08\x00\x00\x02\x04\x00",
+        registry: FIELDS_IN_TWO_ARMS,
         ty: 2,
         calls: &[
             Call::List(3),
@@ -289,7 +293,7 @@ const ORDERS: [Row; 6] = [
     },
     Row {
         name: "a composite within another, both with keys in another order than the fields",
-        registry: b"\x0c\x00\x00\x00\x05\x03\x00\x04\x00\x00\x00\x08\x01\x04d\x00\x00\x00\x01\x04c\x00\x00\x00\x00\x08\x00\x00\x00\x0c\x01\x04z\x04\x00\x00\x01\x04y\x04\x00\x00\x01\x04x\x00\x00\x00\x00",
+        registry: NESTED_FIELDS,
         ty: 2,
         calls: &[
             Call::Fields,
@@ -305,7 +309,7 @@ const ORDERS: [Row; 6] = [
     },
     Row {
         name: "a name that is the beginning of another, and one that is escaped",
-        registry: b"\x08\x00\x00\x00\x05\x03\x00\x04\x00\x00\x00\x0c\x01\x08ab\x00\x00\x00\x01\x04a\x00\x00\x00\x01\x04\"\x00\x00\x00\x00",
+        registry: ESCAPED_NAME,
         ty: 1,
         calls: &[
             Call::Fields,
@@ -317,14 +321,14 @@ const ORDERS: [Row; 6] = [
     },
     Row {
         name: "one field with a name",
-        registry: b"\x08\x00\x00\x00\x05\x03\x00\x04\x00\x00\x00\x04\x01\x04a\x00\x00\x00\x00",
+        registry: ONE_FIELD,
         ty: 1,
         calls: &[Call::Fields, Call::Unsigned(1)],
         text: "{\"a\":1}",
     },
     Row {
         name: "the first and the last of three fields have one name",
-        registry: b"\x08\x00\x00\x00\x05\x03\x00\x04\x00\x00\x00\x0c\x01\x04b\x00\x00\x00\x01\x04a\x00\x00\x00\x01\x04b\x00\x00\x00\x00",
+        registry: FIRST_AND_LAST_OF_ONE_NAME,
         ty: 1,
         calls: &[
             Call::Fields,

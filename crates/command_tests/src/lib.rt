@@ -18,4 +18,8 @@ mod command_row;
 #[cfg(test)]
 mod command_values;
 #[cfg(test)]
+mod failing_devices;
+#[cfg(test)]
 mod json;
+#[cfg(test)]
+mod ran;
