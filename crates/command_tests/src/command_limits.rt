@@ -1,9 +1,9 @@
 //! The command's engine at its limits: each primitive type, the greatest depth, and the longest lines.
 
-use crate::command_row::decode;
+use crate::command_row::{decode, served};
 use scale_core::{Sink, Source, write_compact};
-use scale_tests::building::CHAIN;
 use scale_tests::primitives::{BAD_CHARACTERS, PRIMITIVES, ROWS};
+use scale_tests::registries::CHAIN;
 use scale_tool::{Job, run};
 use std::alloc::{AllocError, Global};
 use std::process::Abort;
@@ -18,8 +18,8 @@ fn answer(rt: &impl Abort, alloc: Global, job: Job, registry: &[u8], value: &[u8
     let mut value = Source::new(value);
     let mut out = Sink::new(Vec::new(alloc));
     let mut err = Sink::new(Vec::new(alloc));
-    let served = crate::command_row::served(job);
-    let status = run(alloc, served, &mut registry, &mut value, &mut out, &mut err);
+    let job = served(job);
+    let status = run(alloc, job, &mut registry, &mut value, &mut out, &mut err);
     assert!(rt; !registry.failed() && !value.failed() && !out.failed());
     (status, out.into_inner(), err.into_inner())
 }
@@ -69,18 +69,35 @@ fn within(depth: u16) -> Job {
     }
 }
 
-// 1024 arms around the last one, which has depth 1024.
+/// 1024 arms around the last one, which has depth 1024.
+fn deepest(alloc: Global) -> Result<Vec<u8>, AllocError> {
+    let mut value = repeated(alloc, &[1], 1024)?;
+    value.push(0)?;
+    Ok(value)
+}
+
+/// What is written of it.
+fn line_of_deepest(alloc: Global) -> Result<Vec<u8>, AllocError> {
+    let mut line = repeated(alloc, b"{\"Next\":[", 1024)?;
+    line.extend_from_slice(b"{\"End\":[]}")?;
+    line.extend_from_slice(&repeated(alloc, b"]}", 1024)?)?;
+    line.push(b'\n')?;
+    Ok(line)
+}
+
 #[test]
 fn the_deepest_value_is_shown(rt: HostRuntime) -> Result<(), Fail> {
-    let mut value = repeated(rt.alloc(), &[1], 1024)?;
-    value.push(0)?;
+    let value = deepest(rt.alloc())?;
     let (status, out, err) = answer(&rt, rt.alloc(), within(1024), CHAIN, &value);
     assert_eq!(rt; (status, err.len()), (0, 0));
-    let mut line = repeated(rt.alloc(), b"{\"Next\":[", 1024)?;
-    line.extend_from_slice(b"{\"End\":[]}")?;
-    line.extend_from_slice(&repeated(rt.alloc(), b"]}", 1024)?)?;
-    line.push(b'\n')?;
+    let line = line_of_deepest(rt.alloc())?;
     assert!(rt; out.as_slice() == line.as_slice());
+    Ok(())
+}
+
+#[test]
+fn a_value_below_the_depth_is_refused(rt: HostRuntime) -> Result<(), Fail> {
+    let value = deepest(rt.alloc())?;
     let (status, out, err) = answer(&rt, rt.alloc(), within(1023), CHAIN, &value);
     assert_eq!(rt; (status, out.len()), (1, 0));
     let told = b"scaleview: value: TooDeep at 1024\n".as_slice();
@@ -88,10 +105,9 @@ fn the_deepest_value_is_shown(rt: HostRuntime) -> Result<(), Fail> {
     Ok(())
 }
 
-// Type 65536 of 65,537 refers to the greatest id, so no refusal has more digits.
-#[test]
-fn the_longest_refusal_is_told_whole(rt: HostRuntime) -> Result<(), Fail> {
-    let mut registry = Vec::new(rt.alloc());
+/// A registry of 65,537 types, whose last refers to the greatest id.
+fn long_registry(alloc: Global) -> Result<Vec<u8>, Fail> {
+    let mut registry = Vec::new(alloc);
     write_compact(&mut registry, 65_537)?;
     'types: for id in 0..65_536u32 {
         write_compact(&mut registry, u128::from(id))?;
@@ -99,13 +115,15 @@ fn the_longest_refusal_is_told_whole(rt: HostRuntime) -> Result<(), Fail> {
     }
     write_compact(&mut registry, 65_536)?;
     registry.extend_from_slice(&[0, 0, 2, 3, 0xff, 0xff, 0xff, 0xff, 0])?;
-    let (status, out, err) = answer(
-        &rt,
-        rt.alloc(),
-        Job::Types { metadata: false },
-        &registry,
-        &[],
-    );
+    Ok(registry)
+}
+
+// No refusal has more digits.
+#[test]
+fn the_longest_refusal_is_told_whole(rt: HostRuntime) -> Result<(), Fail> {
+    let registry = long_registry(rt.alloc())?;
+    let job = Job::Types { metadata: false };
+    let (status, out, err) = answer(&rt, rt.alloc(), job, &registry, &[]);
     assert_eq!(rt; (status, out.len()), (1, 0));
     let told = b"scaleview: check: UnknownType 4294967295 in type 65536\n".as_slice();
     assert_eq!(rt; err.as_slice(), told);
