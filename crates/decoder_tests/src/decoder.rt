@@ -1,160 +1,217 @@
-//! The decoder: worked rows, whole and in every two pieces, its limits, and its memory.
+//! The decoder over worked rows: whole, in every two pieces, byte by byte, and each shorter front of a value.
 
-use crate::decoder_rows::{AMPLE, Answer, ROWS, Row, UNITS_IN_UNITS};
+use crate::calls::{feed, finish, held, open};
+use crate::checks::{check_end, check_line, value_len, wanted_held};
 use decode_core::{DecodeFault, DecodeReason, Decoder, OpenFault, Progress};
-use linked_list_allocator::LocalHeap;
 use registry_core::TypeId;
-use scale_tests::building::{BYTES, U8, checked, written};
-use std::alloc::{Allocator, Global};
+use scale_tests::building::checked;
+use scale_tests::registries::U8;
+use scale_tests::rows::{Outcome, ROWS, Row};
+use std::alloc::Global;
 use std::process::Abort;
 use std::test::Fail;
-use value_core::{Limits, What};
+use value_core::Limits;
 use widths_core::Checked;
 
-const MORE: Result<Progress, DecodeFault> = Ok(Progress::More);
+/// What the pieces so far are answered, with the bytes that were used of them in all.
+#[derive(Clone, Copy, Debug, PartialEq, Eq)]
+enum Fed {
+    More(u64),
+    Done(u64),
+    Refused(DecodeFault),
+}
 
-/// What a decoder answers.
-fn told(answer: Answer) -> Result<Progress, DecodeFault> {
-    match answer {
-        Answer::More => MORE,
-        Answer::Done(used) => Ok(Progress::Done { used }),
-        Answer::Refused(reason, at) => Err(DecodeFault { reason, at }),
+/// How many bytes were used.
+fn used(fed: Fed) -> u64 {
+    match fed {
+        Fed::More(used) | Fed::Done(used) => used,
+        Fed::Refused(_) => 0,
     }
 }
 
-/// A decoder of the row's type.
-fn open<'r, A: Allocator + Clone>(
-    memory: A,
-    checked: &'r Checked,
+/// Feeds the next piece.
+fn feed_next(decoder: &mut Decoder<'_, Global>, fed: Fed, piece: &[u8]) -> Fed {
+    let before = used(fed);
+    match feed(decoder, piece) {
+        Ok(Progress::More) => Fed::More(before.saturating_add(piece.len() as u64)),
+        Ok(Progress::Done { used }) => Fed::Done(before.saturating_add(used)),
+        Err(fault) => Fed::Refused(fault),
+    }
+}
+
+/// The row's bytes are answered so, and all that are the value's were used.
+fn check_fed(rt: &impl Abort, alloc: Global, row: &Row, fed: Fed) -> Result<(), Fail> {
+    let name = row.name;
+    match (row.outcome, fed) {
+        (Outcome::Value { .. }, Fed::Done(used)) | (Outcome::Cut { .. }, Fed::More(used)) => {
+            assert_eq!(rt; used, wanted_held(row).taken, "{name}");
+        }
+        (Outcome::Refused { fault, .. }, Fed::Refused(told)) => {
+            let line = format!(in alloc; "{told}")?;
+            check_line(rt, row, &line, fault);
+        }
+        _ => Err(name)?,
+    }
+    Ok(())
+}
+
+/// The decoder was fed the row's bytes, and was answered so: it holds what the row says, and ends as it says.
+fn check_ending(
+    rt: &impl Abort,
+    alloc: Global,
     row: &Row,
-) -> Result<Decoder<'r, A>, Fail> {
-    match Decoder::new(memory, checked, TypeId(row.ty), row.limits) {
-        Ok(decoder) => Ok(decoder),
-        Err(_) => Err("no decoder")?,
+    fed: Fed,
+    decoder: Decoder<'_, Global>,
+) -> Result<(), Fail> {
+    let name = row.name;
+    check_fed(rt, alloc, row, fed)?;
+    assert_eq!(rt; held(&decoder), wanted_held(row), "{name}");
+    check_end(rt, alloc, row, finish(decoder))
+}
+
+/// The decoder that was fed the row's bytes is fed once more, and nothing changes.
+fn check_again(
+    rt: &impl Abort,
+    alloc: Global,
+    row: &Row,
+    decoder: &mut Decoder<'_, Global>,
+    fed: Fed,
+    piece: &[u8],
+) -> Result<(), Fail> {
+    let name = row.name;
+    let again = feed_next(decoder, fed, piece);
+    check_fed(rt, alloc, row, again)?;
+    assert_eq!(rt; held(decoder), wanted_held(row), "{name}, once more");
+    Ok(())
+}
+
+/// A piece that changes nothing behind the row's bytes: any where they are decided, and else one of no bytes.
+fn idle_piece(row: &Row) -> &'static [u8] {
+    match row.outcome {
+        Outcome::Cut { .. } => b"",
+        _ => b"\x00\x01",
     }
 }
 
-/// What the decoder holds: nodes, bytes of text, bytes taken.
-fn held<A: Allocator>(decoder: &Decoder<'_, A>) -> (u64, u64, u64) {
-    (decoder.node_count(), decoder.text_bytes(), decoder.taken())
+/// The row's bytes in one piece.
+fn check_whole(rt: &impl Abort, alloc: Global, row: &Row) -> Result<(), Fail> {
+    let checked = checked(alloc, row.registry)?;
+    let mut decoder = open(alloc, &checked, row.ty, row.limits)?;
+    let fed = feed_next(&mut decoder, Fed::More(0), row.bytes);
+    check_again(rt, alloc, row, &mut decoder, fed, b"")?;
+    check_again(rt, alloc, row, &mut decoder, fed, idle_piece(row))?;
+    check_ending(rt, alloc, row, fed, decoder)
 }
 
 #[test]
-fn pieces_are_answered(rt: HostRuntime) -> Result<(), Fail> {
-    'rows: for row in &ROWS {
-        let name = row.name;
-        let checked = checked(rt.alloc(), row.registry)?;
-        let mut decoder = open(rt.alloc(), &checked, row)?;
-        let mut answer = MORE;
-        'pieces: for piece in row.pieces {
-            assert_eq!(rt; answer, MORE, "{name}");
-            answer = decoder.feed(piece);
-        }
-        assert_eq!(rt; answer, told(row.answer), "{name}");
-        assert_eq!(rt; held(&decoder), row.held, "{name}");
-        if answer.is_err() {
-            assert_eq!(rt;
-                decoder.feed(b"\x00"),
-                told(row.answer),
-                "{name}, once more"
-            );
-            assert_eq!(rt; held(&decoder), row.held, "{name}, once more");
-        }
-        if let Ok(Progress::Done { .. }) = answer {
-            assert_eq!(rt;
-                decoder.feed(b"\x00"),
-                Ok(Progress::Done { used: 0 }),
-                "{name}, once more"
-            );
-            assert_eq!(rt; held(&decoder), row.held, "{name}, once more");
+fn whole_rows_are_answered(rt: HostRuntime) -> Result<(), Fail> {
+    'kinds: for rows in ROWS {
+        'rows: for row in rows {
+            check_whole(&rt, rt.alloc(), row)?;
         }
     }
     Ok(())
 }
 
-/// The bytes of all pieces.
-fn joined(alloc: Global, pieces: &[&[u8]]) -> Result<Vec<u8>, Fail> {
-    let mut bytes = Vec::new(alloc);
-    'pieces: for piece in pieces {
-        bytes.extend_from_slice(piece)?;
-    }
-    Ok(bytes)
-}
-
-/// How the row's bytes end, fed in two pieces: the value's bytes, or the fault.
-fn end_in_two(
+/// The row's bytes in two pieces.
+fn check_two(
+    rt: &impl Abort,
     alloc: Global,
     checked: &Checked,
     row: &Row,
-    bytes: &[u8],
-    cut: usize,
-) -> Result<(Option<Vec<u8>>, Option<DecodeFault>, u64), Fail> {
-    let mut decoder = open(alloc, checked, row)?;
-    let (front, rest) = match (bytes.get(..cut), bytes.get(cut..)) {
-        (Some(front), Some(rest)) => (front, rest),
-        _ => return Err("no such cut")?,
-    };
-    let _first = decoder.feed(front);
-    let _second = decoder.feed(rest);
-    let taken = decoder.taken();
-    match decoder.finish() {
-        Ok(value) => Ok((Some(written(alloc, &value)?), None, taken)),
-        Err(fault) => Ok((None, Some(fault), taken)),
-    }
+    (front, rest): (&[u8], &[u8]),
+) -> Result<(), Fail> {
+    let mut decoder = open(alloc, checked, row.ty, row.limits)?;
+    let first = feed_next(&mut decoder, Fed::More(0), front);
+    let fed = feed_next(&mut decoder, first, rest);
+    check_ending(rt, alloc, row, fed, decoder)
 }
 
-// A value whose bytes are too few is refused as truncated at their end.
-#[test]
-fn each_cut_ends_the_same_way(rt: HostRuntime) -> Result<(), Fail> {
-    'rows: for row in &ROWS {
-        let name = row.name;
-        let checked = checked(rt.alloc(), row.registry)?;
-        let bytes = joined(rt.alloc(), row.pieces)?;
-        let fault = match told(row.answer) {
-            Ok(Progress::More) => Some(DecodeFault {
-                reason: DecodeReason::Truncated,
-                at: row.held.2,
-            }),
-            Ok(Progress::Done { .. }) => None,
-            Err(fault) => Some(fault),
-        };
-        'cuts: for cut in 0..=bytes.len() {
-            let (value, told, taken) = end_in_two(rt.alloc(), &checked, row, &bytes, cut)?;
-            assert_eq!(rt; told, fault, "{name}, cut at {cut}");
-            assert_eq!(rt; taken, row.held.2, "{name}, cut at {cut}");
-            if let Some(value) = value {
-                let whole = bytes.get(..value.len());
-                assert_eq!(rt; whole, Some(value.as_slice()), "{name}, cut at {cut}");
-                assert_eq!(rt; value.len() as u64, taken, "{name}, cut at {cut}");
-            }
-        }
+/// The row's bytes in each two pieces.
+fn check_cuts(rt: &impl Abort, alloc: Global, row: &Row) -> Result<(), Fail> {
+    let checked = checked(alloc, row.registry)?;
+    'cuts: for cut in 0..=row.bytes.len() {
+        check_two(rt, alloc, &checked, row, row.bytes.split_at(cut))?;
     }
     Ok(())
 }
 
 #[test]
-fn single_bytes_end_the_same_way(rt: HostRuntime) -> Result<(), Fail> {
-    'rows: for row in &ROWS {
-        let name = row.name;
-        let checked = checked(rt.alloc(), row.registry)?;
-        let bytes = joined(rt.alloc(), row.pieces)?;
-        let mut decoder = open(rt.alloc(), &checked, row)?;
-        let mut answer = decoder.feed(b"");
-        'bytes: for byte in bytes.as_slice() {
-            if answer != MORE {
-                break 'bytes;
-            }
-            assert_eq!(rt; decoder.feed(b""), MORE, "{name}");
-            answer = decoder.feed(&[*byte]);
+fn rows_in_two_pieces_are_answered(rt: HostRuntime) -> Result<(), Fail> {
+    'kinds: for rows in ROWS {
+        'rows: for row in rows {
+            check_cuts(&rt, rt.alloc(), row)?;
         }
-        let last = match told(row.answer) {
-            Ok(Progress::Done { .. }) => Ok(Progress::Done {
-                used: u64::from(!bytes.is_empty()),
-            }),
-            other => other,
-        };
-        assert_eq!(rt; answer, last, "{name}");
-        assert_eq!(rt; held(&decoder), row.held, "{name}");
+    }
+    Ok(())
+}
+
+/// Feeds the bytes one by one, each between two pieces of no bytes.
+fn feed_singly(decoder: &mut Decoder<'_, Global>, bytes: &[u8]) -> Fed {
+    let mut fed = feed_next(decoder, Fed::More(0), b"");
+    'bytes: for byte in bytes {
+        fed = feed_next(decoder, fed, &[*byte]);
+        fed = feed_next(decoder, fed, b"");
+    }
+    fed
+}
+
+/// The row's bytes one by one.
+fn check_singly(rt: &impl Abort, alloc: Global, row: &Row) -> Result<(), Fail> {
+    let checked = checked(alloc, row.registry)?;
+    let mut decoder = open(alloc, &checked, row.ty, row.limits)?;
+    let fed = feed_singly(&mut decoder, row.bytes);
+    check_ending(rt, alloc, row, fed, decoder)
+}
+
+#[test]
+fn rows_byte_by_byte_are_answered(rt: HostRuntime) -> Result<(), Fail> {
+    'kinds: for rows in ROWS {
+        'rows: for row in rows {
+            check_singly(&rt, rt.alloc(), row)?;
+        }
+    }
+    Ok(())
+}
+
+/// The front goes on, and is refused as truncated where no more bytes come.
+fn check_front(
+    rt: &impl Abort,
+    alloc: Global,
+    checked: &Checked,
+    row: &Row,
+    front: &[u8],
+) -> Result<(), Fail> {
+    let at = front.len() as u64;
+    let mut decoder = open(alloc, checked, row.ty, row.limits)?;
+    let fed = feed_next(&mut decoder, Fed::More(0), front);
+    assert_eq!(rt; fed, Fed::More(at));
+    let cut = DecodeFault {
+        reason: DecodeReason::Truncated,
+        at,
+    };
+    assert_eq!(rt; finish(decoder).err(), Some(cut));
+    Ok(())
+}
+
+/// Each front of the row's value that is shorter.
+fn check_fronts(rt: &impl Abort, alloc: Global, row: &Row, len: usize) -> Result<(), Fail> {
+    let checked = checked(alloc, row.registry)?;
+    'fronts: for shorter in 0..len {
+        let front = row.bytes.get(..shorter).ok_or(row.name)?;
+        check_front(rt, alloc, &checked, row, front)?;
+    }
+    Ok(())
+}
+
+#[test]
+fn shorter_fronts_are_truncated(rt: HostRuntime) -> Result<(), Fail> {
+    'kinds: for rows in ROWS {
+        'rows: for row in rows {
+            if let Some(len) = value_len(row) {
+                check_fronts(&rt, rt.alloc(), row, len)?;
+            }
+        }
     }
     Ok(())
 }
@@ -175,69 +232,5 @@ fn a_decoder_opens_within_its_limits(rt: HostRuntime) -> Result<(), Fail> {
         let told = Decoder::new(rt.alloc(), &checked, TypeId(ty), Limits { depth, bytes }).err();
         assert_eq!(rt; told, fault, "type {ty}, depth {depth}, {bytes} bytes");
     }
-    Ok(())
-}
-
-// A length that is claimed takes no memory, and memory that is refused ends a decoder for good.
-#[test]
-fn a_heap_of_fixed_size_bounds_a_decoder(rt: HostRuntime) -> Result<(), Fail> {
-    let checked = checked(rt.alloc(), BYTES)?;
-    let heap = LocalHeap::new(rt.alloc(), 4096)?;
-    let claim = Row {
-        name: "claim",
-        registry: BYTES,
-        ty: 1,
-        limits: AMPLE,
-        pieces: &[],
-        answer: Answer::More,
-        held: (0, 0, 0),
-    };
-    let mut decoder = open(&heap, &checked, &claim)?;
-    assert_eq!(rt; decoder.feed(b"\xfe\xff\xff\xff\x01\x02"), MORE);
-    assert_eq!(rt; held(&decoder), (0, 2, 6));
-    drop(decoder);
-    let mut full = open(&heap, &checked, &claim)?;
-    let refused = Err(DecodeFault {
-        reason: DecodeReason::OutOfMemory,
-        at: 0,
-    });
-    let mut many = Vec::from_slice(rt.alloc(), b"\x02\x00\x04\x00")?;
-    'bytes: for _ in 0..65_536 {
-        many.push(7)?;
-    }
-    assert_eq!(rt; full.feed(&many), refused);
-    assert_eq!(rt; (full.node_count(), full.text_bytes()), (0, 0));
-    'later: for piece in [b"".as_slice(), b"\x07", &many] {
-        assert_eq!(rt; full.feed(piece), refused);
-        assert_eq!(rt; (full.node_count(), full.text_bytes()), (0, 0));
-    }
-    assert_eq!(rt; Err(full.finish().err()), refused.map_err(Some));
-    let mut next = open(&heap, &checked, &Row { ty: 0, ..claim })?;
-    assert_eq!(rt; next.feed(b"\x2a"), Ok(Progress::Done { used: 1 }));
-    let Ok(value) = next.finish() else {
-        return Err("no value")?;
-    };
-    assert_eq!(rt; value.root().what(), What::Unsigned(42));
-    Ok(())
-}
-
-// A sequence of units is one node, however many it claims.
-#[test]
-fn counts_are_no_nodes(rt: HostRuntime) -> Result<(), Fail> {
-    let alloc = rt.alloc();
-    let checked = checked(alloc, UNITS_IN_UNITS)?;
-    let Ok(mut decoder) = Decoder::new(alloc, &checked, TypeId(2), AMPLE) else {
-        return Err("no decoder")?;
-    };
-    assert_eq!(rt; decoder.feed(b"\xa1\x0f"), MORE);
-    'elements: for element in 1..1000_u64 {
-        assert_eq!(rt; decoder.feed(b"\x03\xff\xff\xff\xff"), MORE);
-        assert_eq!(rt; held(&decoder), (element + 1, 0, 5 * element + 2));
-    }
-    assert_eq!(rt;
-        decoder.feed(b"\x03\xff\xff\xff\xff"),
-        Ok(Progress::Done { used: 5 })
-    );
-    assert_eq!(rt; held(&decoder), (1001, 0, 5002));
     Ok(())
 }

@@ -1,162 +1,135 @@
-//! Decoders over heaps of fixed size, and decoders whose memory is refused.
+//! Decoders whose memory is refused: where one is made, where it is fed, and where it is finished.
 
-use decode_core::{DecodeFault, DecodeReason, Decoder, Progress};
-use json_core::{print, to_json};
+use crate::calls::{Holding, feed, finish, held, open};
+use decode_core::{DecodeFault, DecodeReason, Decoder, OpenFault, Progress};
 use linked_list_allocator::LocalHeap;
 use registry_core::TypeId;
-use scale_core::Sink;
-use scale_tests::building::{BYTES, LONG_ARRAY, LONG_ARRAY_OF_WORDS, WORDS, checked, written};
+use scale_tests::building::{checked, written};
 use scale_tests::rationed::Rationed;
-use std::alloc::{AllocError, Allocator, Global};
+use scale_tests::registries::{NESTED, TWO_UNITS_AND_A_BYTE, nested_pairs};
+use scale_tests::rows::AMPLE;
+use std::alloc::{Allocator, Global};
 use std::process::Abort;
 use std::test::Fail;
-use value_core::Limits;
 use widths_core::Checked;
-
-/// A tuple of a text, a sequence of sequences of bytes, a chain of arms and a text.
-pub(crate) const NESTED: &[u8] =
-    b"\x18\x00\x00\x00\x05\x03\x00\x04\x00\x00\x05\x02\x00\x08\x00\x00\x02\x00\x00\x0c\x00\x00\x02\x08\x00\x10\x00\x00\x01\x08\x0cEnd\x00\x00\x00\x10Next\x04\x00\x10\x00\x00\x01\x00\x00\x14\x00\x00\x04\x10\x04\x0c\x10\x04\x00";
 
 /// The texts ab and éé, three runs of one, two and no bytes, and a chain of four arms.
 pub(crate) const NESTED_BYTES: &[u8] =
     b"\x08ab\x0c\x04\x01\x08\x02\x03\x00\x01\x01\x01\x00\x10\xc3\xa9\xc3\xa9";
 
-const AMPLE: Limits = Limits {
-    depth: 64,
-    bytes: 16_777_216,
-};
-
-const REFUSED: DecodeFault = DecodeFault {
+pub(crate) const REFUSED: DecodeFault = DecodeFault {
     reason: DecodeReason::OutOfMemory,
     at: 0,
 };
 
-/// A unit, and 40 tuples, each of the tuple before it twice.
-pub(crate) fn nested_pairs(alloc: Global) -> Result<Vec<u8>, AllocError> {
-    let mut bytes = Vec::from_slice(alloc, b"\xa4\x00\x00\x00\x04\x00\x00")?;
-    'types: for before in 0..40u8 {
-        let (id, member) = (4 * (before + 1), 4 * before);
-        bytes.extend_from_slice(&[id, 0, 0, 4, 8, member, member, 0])?;
-    }
-    Ok(bytes)
+/// Why no decoder is made where this request for memory is refused.
+fn opening_fault(alloc: Global, checked: &Checked, request: u64) -> Option<OpenFault> {
+    let memory = Rationed::new(alloc, request);
+    Decoder::new(memory, checked, TypeId(5), AMPLE).err()
 }
 
-/// A decoder of the type.
-fn open<'r, A: Allocator + Clone>(
-    memory: A,
-    checked: &'r Checked,
-    ty: u32,
-) -> Result<Decoder<'r, A>, Fail> {
-    match Decoder::new(memory, checked, TypeId(ty), AMPLE) {
-        Ok(decoder) => Ok(decoder),
-        Err(_) => Err("no decoder")?,
-    }
-}
-
-/// What the decoder holds: nodes, bytes of text, bytes taken.
-fn held<A: Allocator>(decoder: &Decoder<'_, A>) -> (u64, u64, u64) {
-    (decoder.node_count(), decoder.text_bytes(), decoder.taken())
-}
-
+// A decoder takes memory for its nodes and for its bytes through a clone each of what it is handed, and no more at first.
 #[test]
-fn a_value_of_two_to_the_fortieth_units_is_one_node(rt: HostRuntime) -> Result<(), Fail> {
-    let registry = nested_pairs(rt.alloc())?;
-    let checked = checked(rt.alloc(), &registry)?;
-    let heap = LocalHeap::new(rt.alloc(), 65_536)?;
-    let mut decoder = open(&heap, &checked, 40)?;
-    assert_eq!(rt; decoder.feed(b""), Ok(Progress::Done { used: 0 }));
-    assert_eq!(rt; held(&decoder), (1, 0, 0));
-    assert_eq!(rt; decoder.feed(b"\x00"), Ok(Progress::Done { used: 0 }));
-    let Ok(value) = decoder.finish() else {
-        return Err("no value")?;
-    };
-    assert_eq!(rt; (value.node_count(), value.text_bytes()), (1, 0));
-    let bytes = written(rt.alloc(), &value)?;
-    assert_eq!(rt; bytes.len(), 0);
-    let tree = to_json(rt.alloc(), &value)?;
-    assert_eq!(rt; tree.to_string(rt.alloc())?.as_str(), "null");
-    let mut sink = Sink::new(Vec::new(rt.alloc()));
-    assert_eq!(rt; print(rt.alloc(), &value, &mut sink), Ok(()));
-    assert_eq!(rt; sink.into_inner().as_slice(), b"null".as_slice());
-    drop(value);
-    assert_eq!(rt; heap.used(), 0);
+fn memory_that_is_refused_at_first_makes_no_decoder(rt: HostRuntime) -> Result<(), Fail> {
+    let checked = checked(rt.alloc(), NESTED)?;
+    let refused = Some(OpenFault::OutOfMemory);
+    'requests: for (request, fault) in [(1, refused), (2, refused), (3, None), (0, None)] {
+        let told = opening_fault(rt.alloc(), &checked, request);
+        assert_eq!(rt; told, fault, "request {request}");
+    }
     Ok(())
 }
 
-/// Over a heap of 65536 bytes the bytes are too few for the value, and so many nodes and bytes of runs are held.
-fn check_claim(
+/// What the byte at this place is answered where memory is granted.
+fn wanted_progress(place: usize) -> Progress {
+    if place.saturating_add(1) == NESTED_BYTES.len() {
+        Progress::Done { used: 1 }
+    } else {
+        Progress::More
+    }
+}
+
+/// Feeds the nested value byte by byte: the place of the byte at which memory is refused, where it is.
+fn place_of_refusal<A: Allocator>(rt: &impl Abort, decoder: &mut Decoder<'_, A>) -> Option<u64> {
+    'bytes: for (place, byte) in NESTED_BYTES.iter().enumerate() {
+        let told = feed(decoder, &[*byte]);
+        if told == Err(REFUSED) {
+            return Some(place as u64);
+        }
+        assert_eq!(rt; told, Ok(wanted_progress(place)), "byte {place}");
+    }
+    None
+}
+
+/// The decoder that was refused memory at this byte holds nothing, and each later call is refused too.
+fn check_refused<A: Allocator>(rt: &impl Abort, decoder: Decoder<'_, A>, place: u64) {
+    let mut decoder = decoder;
+    let nothing = Holding {
+        nodes: 0,
+        texts: 0,
+        taken: held(&decoder).taken,
+    };
+    // The last byte of a run is taken before memory is wanted for its node.
+    assert!(rt; nothing.taken.abs_diff(place) <= 1, "byte {place}");
+    assert_eq!(rt; held(&decoder), nothing, "byte {place}");
+    'pieces: for piece in [b"".as_slice(), NESTED_BYTES] {
+        assert_eq!(rt; feed(&mut decoder, piece), Err(REFUSED), "byte {place}");
+        assert_eq!(rt; held(&decoder), nothing, "byte {place}");
+    }
+    assert_eq!(rt; finish(decoder).err(), Some(REFUSED), "byte {place}");
+}
+
+/// The decoder has the nested value.
+fn check_untroubled<A: Allocator>(
     rt: &impl Abort,
     alloc: Global,
-    registry: &[u8],
-    bytes: &[u8],
-    (nodes, texts): (u64, u64),
+    decoder: Decoder<'_, A>,
 ) -> Result<(), Fail> {
-    let checked = checked(alloc, registry)?;
-    let heap = LocalHeap::new(alloc, 65_536)?;
-    let mut decoder = open(&heap, &checked, 1)?;
-    assert_eq!(rt; decoder.feed(bytes), Ok(Progress::More));
-    let taken = bytes.len() as u64;
-    assert_eq!(rt; held(&decoder), (nodes, texts, taken));
-    let cut = DecodeFault {
-        reason: DecodeReason::Truncated,
-        at: taken,
+    let whole = Holding {
+        nodes: 11,
+        texts: 9,
+        taken: 19,
     };
-    assert_eq!(rt; decoder.finish().err(), Some(cut));
-    assert_eq!(rt; heap.used(), 0);
+    assert_eq!(rt; held(&decoder), whole);
+    let value = finish(decoder).ok().ok_or("no value")?;
+    let bytes = written(alloc, &value)?;
+    assert_eq!(rt; bytes.as_slice(), NESTED_BYTES);
     Ok(())
 }
 
-// A sequence of 2^30 - 1 elements and an array of 2^32 - 1 are claimed, and a few bytes are there.
-#[test]
-fn claimed_lengths_fit_a_small_heap(rt: HostRuntime) -> Result<(), Fail> {
-    let sequence = b"\xfe\xff\xff\xff\x01\x02";
-    let array = b"\x01\x02\x03";
-    check_claim(&rt, rt.alloc(), BYTES, sequence, (0, 2))?;
-    check_claim(&rt, rt.alloc(), LONG_ARRAY, array, (0, 3))?;
-    check_claim(&rt, rt.alloc(), WORDS, sequence, (2, 0))?;
-    check_claim(&rt, rt.alloc(), LONG_ARRAY_OF_WORDS, array, (2, 0))
-}
-
-/// Decodes the nested value byte by byte: where memory is refused, nothing is held and each later call is refused too.
+/// Decodes the nested value: was memory refused on the way?
 fn is_refused<A: Allocator + Clone>(
     rt: &impl Abort,
     alloc: Global,
     checked: &Checked,
     memory: A,
 ) -> Result<bool, Fail> {
-    let mut decoder = open(memory, checked, 5)?;
-    'bytes: for (place, byte) in NESTED_BYTES.iter().enumerate() {
-        let told = decoder.feed(&[*byte]);
-        if told == Err(REFUSED) {
-            // The last byte of a run is taken before memory is wanted for its node.
-            let taken = decoder.taken();
-            let before = place as u64;
-            assert!(rt;
-                taken == before || taken == before.saturating_add(1),
-                "byte {place}"
-            );
-            assert_eq!(rt; held(&decoder), (0, 0, taken), "byte {place}");
-            assert_eq!(rt; decoder.feed(b""), Err(REFUSED), "byte {place}");
-            assert_eq!(rt; decoder.feed(NESTED_BYTES), Err(REFUSED), "byte {place}");
-            assert_eq!(rt; held(&decoder), (0, 0, taken), "byte {place}");
-            assert_eq!(rt; decoder.finish().err(), Some(REFUSED), "byte {place}");
-            return Ok(true);
+    let mut decoder = open(memory, checked, 5, AMPLE)?;
+    match place_of_refusal(rt, &mut decoder) {
+        Some(place) => {
+            check_refused(rt, decoder, place);
+            Ok(true)
         }
-        let last = place.saturating_add(1) == NESTED_BYTES.len();
-        let wanted = if last {
-            Progress::Done { used: 1 }
-        } else {
-            Progress::More
-        };
-        assert_eq!(rt; told, Ok(wanted), "byte {place}");
+        None => {
+            check_untroubled(rt, alloc, decoder)?;
+            Ok(false)
+        }
     }
-    assert_eq!(rt; held(&decoder), (11, 9, 19));
-    let Ok(value) = decoder.finish() else {
-        return Err("no value")?;
-    };
-    let bytes = written(alloc, &value)?;
-    assert_eq!(rt; bytes.as_slice(), NESTED_BYTES);
-    Ok(false)
+}
+
+/// Decodes the nested value over memory of which this request is refused: was it made?
+fn check_feeds(
+    rt: &impl Abort,
+    alloc: Global,
+    checked: &Checked,
+    heap: &LocalHeap,
+    request: u64,
+) -> Result<bool, Fail> {
+    let memory = Rationed::new(heap, request);
+    let refused = is_refused(rt, alloc, checked, &memory)?;
+    assert_eq!(rt; refused, memory.is_past_refusal(), "request {request}");
+    assert_eq!(rt; heap.used(), 0, "what is kept behind request {request}");
+    Ok(refused)
 }
 
 // Nodes, the bytes of texts and runs and the nodes that are open are kept apart, and each grows at least once.
@@ -165,14 +138,66 @@ fn each_refused_growth_ends_the_decoder(rt: HostRuntime) -> Result<(), Fail> {
     let checked = checked(rt.alloc(), NESTED)?;
     let heap = LocalHeap::new(rt.alloc(), 65_536)?;
     'requests: for request in 1..1000 {
-        let memory = Rationed::new(&heap, request);
-        let refused = is_refused(&rt, rt.alloc(), &checked, &memory)?;
-        assert_eq!(rt; refused, memory.is_past_refusal(), "request {request}");
-        assert_eq!(rt; heap.used(), 0, "what is kept behind request {request}");
-        if !refused {
+        if !check_feeds(&rt, rt.alloc(), &checked, &heap, request)? {
             assert!(rt; request > 3, "{request} requests were made");
             return Ok(());
         }
     }
     Err("each run is refused memory")?
+}
+
+/// Finishes a decoder that was fed nothing, over memory of which this request is refused: was it made?
+fn check_finish(
+    rt: &impl Abort,
+    checked: &Checked,
+    heap: &LocalHeap,
+    ty: u32,
+    request: u64,
+    untroubled: Option<DecodeFault>,
+) -> Result<bool, Fail> {
+    let memory = Rationed::new(heap, request);
+    let decoder = open(&memory, checked, ty, AMPLE)?;
+    let told = finish(decoder).err();
+    let refused = memory.is_past_refusal();
+    let wanted = if refused { Some(REFUSED) } else { untroubled };
+    assert_eq!(rt; told, wanted, "request {request}");
+    assert_eq!(rt; heap.used(), 0, "what is kept behind request {request}");
+    Ok(refused)
+}
+
+/// Finishes a decoder that was fed nothing, where each request in turn is refused, and then none.
+fn check_finishes(
+    rt: &impl Abort,
+    alloc: Global,
+    checked: &Checked,
+    ty: u32,
+    untroubled: Option<DecodeFault>,
+) -> Result<(), Fail> {
+    let heap = LocalHeap::new(alloc, 65_536)?;
+    'requests: for request in 1..1000 {
+        if !check_finish(rt, checked, &heap, ty, request, untroubled)? {
+            assert!(rt; request > 1, "no request was made");
+            return Ok(());
+        }
+    }
+    Err("each run is refused memory")?
+}
+
+// A value without bytes is made where the decoder is finished, if it was not fed before.
+#[test]
+fn a_value_without_bytes_may_be_refused_memory(rt: HostRuntime) -> Result<(), Fail> {
+    let registry = nested_pairs(rt.alloc())?;
+    let checked = checked(rt.alloc(), &registry)?;
+    check_finishes(&rt, rt.alloc(), &checked, 40, None)
+}
+
+// So are the nodes before the first byte, and only then it is told that the byte is missing.
+#[test]
+fn nodes_before_the_first_byte_may_be_refused_memory(rt: HostRuntime) -> Result<(), Fail> {
+    let checked = checked(rt.alloc(), TWO_UNITS_AND_A_BYTE)?;
+    let cut = DecodeFault {
+        reason: DecodeReason::Truncated,
+        at: 0,
+    };
+    check_finishes(&rt, rt.alloc(), &checked, 2, Some(cut))
 }

@@ -1,16 +1,18 @@
 //! Inputs that are large: a decoder to which memory is granted answers them, and never says that it was refused.
 
-use decode_core::{DecodeFault, DecodeReason, Decoder, Progress};
+use crate::calls::{Holding, feed, finish, held, open};
+use decode_core::{DecodeFault, DecodeReason, Progress};
 use json_core::{json_text, print};
-use registry_core::TypeId;
 use scale_core::{Sink, write_compact};
-use scale_tests::building::{
-    BYTES, CHAIN, TEXT, TWO_UNITS_AND_A_BYTE, UNITS, WORDS, checked, written,
+use scale_tests::building::{checked, written};
+use scale_tests::registries::{
+    BYTES, CHAIN, TEXT, TWO_UNITS_AND_A_BYTE, UNITS, UNITS_IN_UNITS, WORDS,
 };
+use scale_tests::rows::AMPLE;
 use std::alloc::{AllocError, Global};
 use std::process::Abort;
 use std::test::Fail;
-use value_core::{Limits, What};
+use value_core::{Limits, NodeRef, Value, What};
 use widths_core::Checked;
 
 /// The length of a text or a sequence, and so many bytes that are an `a` each.
@@ -23,6 +25,45 @@ fn letters(alloc: Global, length: u32, count: u32) -> Result<Vec<u8>, AllocError
     Ok(bytes)
 }
 
+/// The value of the type whose bytes these are, fed at once.
+fn value_of<'r>(
+    rt: &impl Abort,
+    alloc: Global,
+    checked: &'r Checked,
+    (ty, limits): (u32, Limits),
+    bytes: &[u8],
+) -> Result<Value<'r, Global>, Fail> {
+    let used = bytes.len() as u64;
+    let mut decoder = open(alloc, checked, ty, limits)?;
+    let told = feed(&mut decoder, bytes);
+    assert_eq!(rt; told, Ok(Progress::Done { used }));
+    assert_eq!(rt; held(&decoder).taken, used);
+    let value = finish(decoder).ok().ok_or("no value")?;
+    Ok(value)
+}
+
+/// The decoder that took all bytes in one feed holds so many nodes and bytes of text.
+fn check_held(
+    rt: &impl Abort,
+    alloc: Global,
+    checked: &Checked,
+    ty: u32,
+    bytes: &[u8],
+    (nodes, texts): (u64, u64),
+) -> Result<(), Fail> {
+    let taken = bytes.len() as u64;
+    let mut decoder = open(alloc, checked, ty, AMPLE)?;
+    let told = feed(&mut decoder, bytes);
+    assert_eq!(rt; told, Ok(Progress::Done { used: taken }));
+    let wanted = Holding {
+        nodes,
+        texts,
+        taken,
+    };
+    assert_eq!(rt; held(&decoder), wanted, "{taken} bytes");
+    Ok(())
+}
+
 /// All bytes are taken in one feed, and so many nodes and bytes of text are there.
 fn check_feed(
     rt: &impl Abort,
@@ -30,33 +71,13 @@ fn check_feed(
     checked: &Checked,
     ty: u32,
     bytes: &[u8],
-    held: (u64, u64),
+    counts: (u64, u64),
 ) -> Result<(), Fail> {
-    let len = bytes.len() as u64;
-    let Ok(mut decoder) = Decoder::new(alloc, checked, TypeId(ty), Limits::default_limits()) else {
-        return Err("no decoder")?;
-    };
-    assert_eq!(rt;
-        decoder.feed(bytes),
-        Ok(Progress::Done { used: len }),
-        "{len} bytes"
-    );
-    assert_eq!(rt; decoder.taken(), len);
-    assert_eq!(rt;
-        (decoder.node_count(), decoder.text_bytes()),
-        held,
-        "{len} bytes"
-    );
-    let Ok(value) = decoder.finish() else {
-        return Err("no value")?;
-    };
-    assert_eq!(rt;
-        (value.node_count(), value.text_bytes()),
-        held,
-        "{len} bytes"
-    );
+    check_held(rt, alloc, checked, ty, bytes, counts)?;
+    let value = value_of(rt, alloc, checked, (ty, AMPLE), bytes)?;
+    assert_eq!(rt; (value.node_count(), value.text_bytes()), counts);
     let back = written(alloc, &value)?;
-    assert!(rt; back.as_slice() == bytes, "{len} bytes");
+    assert!(rt; back.as_slice() == bytes);
     Ok(())
 }
 
@@ -68,9 +89,9 @@ fn a_long_piece_is_taken_at_once(rt: HostRuntime) -> Result<(), Fail> {
     'lengths: for (count, len) in [(4_998, 5_000), (1_048_572, 1_048_576)] {
         let input = letters(rt.alloc(), count, count)?;
         assert_eq!(rt; input.len(), len);
-        let held = (1, u64::from(count));
-        check_feed(&rt, rt.alloc(), &bytes, 1, &input, held)?;
-        check_feed(&rt, rt.alloc(), &text, 0, &input, held)?;
+        let counts = (1, u64::from(count));
+        check_feed(&rt, rt.alloc(), &bytes, 1, &input, counts)?;
+        check_feed(&rt, rt.alloc(), &text, 0, &input, counts)?;
     }
     Ok(())
 }
@@ -83,6 +104,11 @@ fn many_nodes_are_finished(rt: HostRuntime) -> Result<(), Fail> {
     check_feed(&rt, rt.alloc(), &checked, 1, &input, (100_001, 0))
 }
 
+const DEEPEST: Limits = Limits {
+    depth: 1024,
+    bytes: 2048,
+};
+
 /// So many arms that hold another, and one that holds none.
 fn arms(alloc: Global, count: u16) -> Result<Vec<u8>, AllocError> {
     let mut bytes = Vec::new(alloc);
@@ -93,32 +119,25 @@ fn arms(alloc: Global, count: u16) -> Result<Vec<u8>, AllocError> {
     Ok(bytes)
 }
 
+/// The only part of an arm that holds another.
+fn next_arm<'v, 'r>(rt: &impl Abort, node: &NodeRef<'v, 'r>) -> Result<NodeRef<'v, 'r>, Fail> {
+    assert_eq!(rt; node.what(), What::Arm { position: 1 });
+    let mut children = node.children();
+    let child = children.next().ok_or("no child")?;
+    assert!(rt; children.next().is_none());
+    Ok(child)
+}
+
 // The root has depth 0, so the last of 1025 nodes has depth 1024.
 #[test]
 fn the_deepest_value_is_taken(rt: HostRuntime) -> Result<(), Fail> {
     let checked = checked(rt.alloc(), CHAIN)?;
-    let deepest = Limits {
-        depth: 1024,
-        bytes: 2048,
-    };
     let input = arms(rt.alloc(), 1024)?;
-    let Ok(mut decoder) = Decoder::new(rt.alloc(), &checked, TypeId(0), deepest) else {
-        return Err("no decoder")?;
-    };
-    assert_eq!(rt; decoder.feed(&input), Ok(Progress::Done { used: 1025 }));
-    let Ok(value) = decoder.finish() else {
-        return Err("no value")?;
-    };
+    let value = value_of(&rt, rt.alloc(), &checked, (0, DEEPEST), &input)?;
     assert_eq!(rt; value.node_count(), 1025);
     let mut node = value.root();
     'levels: for _ in 0..1024 {
-        assert_eq!(rt; node.what(), What::Arm { position: 1 });
-        let mut children = node.children();
-        let Some(child) = children.next() else {
-            return Err("no child")?;
-        };
-        assert!(rt; children.next().is_none());
-        node = child;
+        node = next_arm(&rt, &node)?;
     }
     assert_eq!(rt; node.what(), What::Arm { position: 0 });
     assert!(rt; node.children().next().is_none());
@@ -142,18 +161,8 @@ fn shown_arms(alloc: Global) -> Result<String, AllocError> {
 #[test]
 fn the_deepest_value_is_shown(rt: HostRuntime) -> Result<(), Fail> {
     let checked = checked(rt.alloc(), CHAIN)?;
-    let deepest = Limits {
-        depth: 1024,
-        bytes: 2048,
-    };
     let input = arms(rt.alloc(), 1024)?;
-    let Ok(mut decoder) = Decoder::new(rt.alloc(), &checked, TypeId(0), deepest) else {
-        return Err("no decoder")?;
-    };
-    assert_eq!(rt; decoder.feed(&input), Ok(Progress::Done { used: 1025 }));
-    let Ok(value) = decoder.finish() else {
-        return Err("no value")?;
-    };
+    let value = value_of(&rt, rt.alloc(), &checked, (0, DEEPEST), &input)?;
     let text = json_text(rt.alloc(), &value)?;
     let wanted = shown_arms(rt.alloc())?;
     assert!(rt; text.as_str() == wanted.as_str());
@@ -163,20 +172,15 @@ fn the_deepest_value_is_shown(rt: HostRuntime) -> Result<(), Fail> {
 #[test]
 fn one_level_past_the_deepest_is_refused(rt: HostRuntime) -> Result<(), Fail> {
     let checked = checked(rt.alloc(), CHAIN)?;
-    let deepest = Limits {
-        depth: 1024,
-        bytes: 2048,
-    };
     let input = arms(rt.alloc(), 1025)?;
     let refused = DecodeFault {
         reason: DecodeReason::TooDeep,
         at: 1025,
     };
-    let Ok(mut decoder) = Decoder::new(rt.alloc(), &checked, TypeId(0), deepest) else {
-        return Err("no decoder")?;
-    };
-    assert_eq!(rt; decoder.feed(&input), Err(refused));
-    assert_eq!(rt; (decoder.node_count(), decoder.taken()), (0, 1025));
+    let mut decoder = open(rt.alloc(), &checked, 0, DEEPEST)?;
+    assert_eq!(rt; feed(&mut decoder, &input), Err(refused));
+    let Holding { nodes, taken, .. } = held(&decoder);
+    assert_eq!(rt; (nodes, taken), (0, 1025));
     Ok(())
 }
 
@@ -193,34 +197,41 @@ fn all_but(alloc: Global, missing: u8) -> Result<Vec<u8>, AllocError> {
     Ok(bytes)
 }
 
-// An index that no arm has is told as such, whichever it is, and every other index is taken.
-#[test]
-fn each_index_may_be_missing(rt: HostRuntime) -> Result<(), Fail> {
-    let refused = DecodeFault {
+/// A variant without this index: it is refused, and its neighbours are taken.
+fn check_missing(rt: &impl Abort, alloc: Global, missing: u8) -> Result<(), Fail> {
+    let registry = all_but(alloc, missing)?;
+    let checked = checked(alloc, &registry)?;
+    let refused = Err(DecodeFault {
         reason: DecodeReason::NoSuchVariant,
         at: 0,
-    };
-    'missing: for missing in 0..=u8::MAX {
-        let registry = all_but(rt.alloc(), missing)?;
-        let checked = checked(rt.alloc(), &registry)?;
-        'indexes: for index in [missing, missing.wrapping_add(1), missing.wrapping_sub(1)] {
-            let Ok(mut decoder) = Decoder::new(
-                rt.alloc(),
-                &checked,
-                TypeId(0),
-                Limits::default_limits(),
-            ) else {
-                return Err("no decoder")?;
-            };
-            let answer = if index == missing {
-                Err(refused)
-            } else {
-                Ok(Progress::Done { used: 1 })
-            };
-            assert_eq!(rt; decoder.feed(&[index]), answer, "{index} without {missing}");
-        }
+    });
+    let taken = Ok(Progress::Done { used: 1 });
+    let (next, before) = (missing.wrapping_add(1), missing.wrapping_sub(1));
+    'indexes: for (index, answer) in [(missing, refused), (next, taken), (before, taken)] {
+        let mut decoder = open(alloc, &checked, 0, AMPLE)?;
+        let told = feed(&mut decoder, &[index]);
+        assert_eq!(rt; told, answer, "{index} without {missing}");
     }
     Ok(())
+}
+
+// An index that no arm has is told as such, whichever it is, and those beside it are taken.
+#[test]
+fn each_index_may_be_missing(rt: HostRuntime) -> Result<(), Fail> {
+    'missing: for missing in 0..=u8::MAX {
+        check_missing(&rt, rt.alloc(), missing)?;
+    }
+    Ok(())
+}
+
+/// The greatest number of nodes where so many bytes were taken.
+fn most_nodes(taken: u64, depth: u16, widest: u32) -> u64 {
+    let levels = u64::from(depth).saturating_add(1);
+    let parts = u64::from(widest).saturating_add(1);
+    taken
+        .saturating_add(1)
+        .saturating_mul(levels)
+        .saturating_mul(parts)
 }
 
 // Before the first byte a tuple of two units and a byte has three nodes, where 260 would be the most.
@@ -228,38 +239,56 @@ fn each_index_may_be_missing(rt: HostRuntime) -> Result<(), Fail> {
 fn nodes_stay_below_the_bound(rt: HostRuntime) -> Result<(), Fail> {
     let checked = checked(rt.alloc(), TWO_UNITS_AND_A_BYTE)?;
     assert_eq!(rt; checked.widest(), 3);
-    let limits = Limits::default_limits();
-    let Ok(mut decoder) = Decoder::new(rt.alloc(), &checked, TypeId(2), limits) else {
-        return Err("no decoder")?;
-    };
-    assert_eq!(rt; decoder.feed(b""), Ok(Progress::More));
-    assert_eq!(rt; (decoder.taken(), decoder.node_count()), (0, 3));
-    let widest = u64::from(checked.widest());
-    let parts = u64::from(limits.depth)
-        .saturating_add(1)
-        .saturating_mul(widest.saturating_add(1));
-    let most = decoder.taken().saturating_add(1).saturating_mul(parts);
+    let mut decoder = open(rt.alloc(), &checked, 2, AMPLE)?;
+    assert_eq!(rt; feed(&mut decoder, b""), Ok(Progress::More));
+    let Holding { nodes, taken, .. } = held(&decoder);
+    assert_eq!(rt; (nodes, taken), (3, 0));
+    let most = most_nodes(taken, AMPLE.depth, checked.widest());
     assert_eq!(rt; most, 260);
-    assert!(rt; decoder.node_count() <= most);
+    assert!(rt; nodes <= most);
     Ok(())
 }
 
 #[test]
 fn a_sequence_of_units_is_its_count(rt: HostRuntime) -> Result<(), Fail> {
     let checked = checked(rt.alloc(), UNITS)?;
-    let limits = Limits::default_limits();
-    let Ok(mut decoder) = Decoder::new(rt.alloc(), &checked, TypeId(2), limits) else {
-        return Err("no decoder")?;
-    };
-    assert_eq!(rt;
-        decoder.feed(b"\x03\x00\x00\x00\x40"),
-        Ok(Progress::Done { used: 5 })
-    );
-    let Ok(value) = decoder.finish() else {
-        return Err("no value")?;
-    };
+    let bytes = b"\x03\x00\x00\x00\x40";
+    let value = value_of(&rt, rt.alloc(), &checked, (2, AMPLE), bytes)?;
     assert_eq!(rt; value.root().what(), What::Count(1_073_741_824));
     Ok(())
+}
+
+// A sequence of units is one node, however many it claims.
+#[test]
+fn counts_are_no_nodes(rt: HostRuntime) -> Result<(), Fail> {
+    let checked = checked(rt.alloc(), UNITS_IN_UNITS)?;
+    let mut decoder = open(rt.alloc(), &checked, 2, AMPLE)?;
+    let mut told = feed(&mut decoder, b"\xa1\x0f");
+    'elements: for element in 0..1000_u64 {
+        assert_eq!(rt; told, Ok(Progress::More), "element {element}");
+        let wanted = Holding {
+            nodes: element + 1,
+            texts: 0,
+            taken: 5 * element + 2,
+        };
+        assert_eq!(rt; held(&decoder), wanted);
+        told = feed(&mut decoder, b"\x03\xff\xff\xff\xff");
+    }
+    assert_eq!(rt; told, Ok(Progress::Done { used: 5 }));
+    let wanted = Holding {
+        nodes: 1001,
+        texts: 0,
+        taken: 5002,
+    };
+    assert_eq!(rt; held(&decoder), wanted);
+    Ok(())
+}
+
+/// What is printed of the value.
+fn printed(rt: &impl Abort, alloc: Global, value: &Value<'_, Global>) -> Vec<u8> {
+    let mut sink = Sink::new(Vec::new(alloc));
+    assert_eq!(rt; print(alloc, value, &mut sink), Ok(()));
+    sink.into_inner()
 }
 
 // A text of 70,000 letters is shown between two quotes.
@@ -267,21 +296,23 @@ fn a_sequence_of_units_is_its_count(rt: HostRuntime) -> Result<(), Fail> {
 fn a_long_text_is_shown(rt: HostRuntime) -> Result<(), Fail> {
     let checked = checked(rt.alloc(), TEXT)?;
     let input = letters(rt.alloc(), 70_000, 70_000)?;
-    let Ok(mut decoder) = Decoder::new(rt.alloc(), &checked, TypeId(0), Limits::default_limits())
-    else {
-        return Err("no decoder")?;
-    };
-    assert_eq!(rt; decoder.feed(&input), Ok(Progress::Done { used: 70_004 }));
-    let Ok(value) = decoder.finish() else {
-        return Err("no value")?;
-    };
-    let mut sink = Sink::new(Vec::new(rt.alloc()));
-    assert_eq!(rt; print(rt.alloc(), &value, &mut sink), Ok(()));
-    let text = sink.into_inner();
+    let value = value_of(&rt, rt.alloc(), &checked, (0, AMPLE), &input)?;
+    let text = printed(&rt, rt.alloc(), &value);
     assert_eq!(rt; text.len(), 70_002);
     assert!(rt; text.first() == Some(&b'"') && text.last() == Some(&b'"'));
     assert!(rt; text.as_slice().get(1..70_001) == input.as_slice().get(4..));
     Ok(())
+}
+
+/// The text of a run of so many letters a.
+fn shown_letters(alloc: Global, count: u32) -> Result<String, AllocError> {
+    let mut shown = String::new(alloc);
+    shown.push_str("\"0x")?;
+    'letters: for _ in 0..count {
+        shown.push_str("61")?;
+    }
+    shown.push_str("\"")?;
+    Ok(shown)
 }
 
 // A run of 70,000 bytes is shown by two digits each, behind the mark of hexadecimal digits.
@@ -289,20 +320,9 @@ fn a_long_text_is_shown(rt: HostRuntime) -> Result<(), Fail> {
 fn a_long_run_is_shown(rt: HostRuntime) -> Result<(), Fail> {
     let checked = checked(rt.alloc(), BYTES)?;
     let input = letters(rt.alloc(), 70_000, 70_000)?;
-    let Ok(mut decoder) = Decoder::new(rt.alloc(), &checked, TypeId(1), Limits::default_limits())
-    else {
-        return Err("no decoder")?;
-    };
-    assert_eq!(rt; decoder.feed(&input), Ok(Progress::Done { used: 70_004 }));
-    let Ok(value) = decoder.finish() else {
-        return Err("no value")?;
-    };
-    let mut shown = Vec::from_slice(rt.alloc(), b"\"0x")?;
-    'bytes: for _ in 0..70_000 {
-        shown.extend_from_slice(b"61")?;
-    }
-    shown.push(b'"')?;
+    let value = value_of(&rt, rt.alloc(), &checked, (1, AMPLE), &input)?;
     let text = json_text(rt.alloc(), &value)?;
-    assert!(rt; text.as_bytes() == shown.as_slice());
+    let wanted = shown_letters(rt.alloc(), 70_000)?;
+    assert!(rt; text.as_str() == wanted.as_str());
     Ok(())
 }

@@ -2,17 +2,21 @@
 #![tactic(auto)]
 
 #[cfg(test)]
+mod calls;
+#[cfg(test)]
+mod checks;
+#[cfg(test)]
 mod decoder;
 #[cfg(test)]
 mod decoder_memory;
 #[cfg(test)]
-mod decoder_rows;
+mod heaps;
 #[cfg(test)]
 mod large_inputs;
 #[cfg(test)]
-mod primitives;
+mod pieces;
 #[cfg(test)]
-mod stream_rows;
+mod primitives;
 #[cfg(test)]
 mod streams;
 #[cfg(test)]

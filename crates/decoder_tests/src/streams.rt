@@ -1,64 +1,80 @@
-//! Values from readers of several paces and from pieces: worked rows, ends at the edge of a read, and failed reads.
+//! Values from readers of several paces: worked rows, ends at the edge of a read, and failed reads.
 
-use crate::decoder_memory::nested_pairs;
-use crate::stream_rows::{AMPLE, Answer, ROWS, Row, U16};
-use decode_core::{
-    DecodeFault, DecodeReason, OpenFault, PiecesFault, StreamFault, decode_all, decode_pieces,
-};
+use crate::calls::all_of;
+use crate::checks::{check_line, check_value, value_len, wanted_refusal};
+use decode_core::{DecodeFault, DecodeReason, OpenFault, StreamFault, decode_all};
 use registry_core::TypeId;
 use scale_core::Source;
-use scale_tests::building::{BYTES, COMPACT_OF_A_BOOL, checked, written};
+use scale_tests::building::{checked, written};
 use scale_tests::paced::{PacedReader, Then};
+use scale_tests::registries::{BYTES, COMPACT_OF_A_BOOL, TEN_THOUSAND_BYTES, U16, nested_pairs};
+use scale_tests::rows::{AMPLE, ROWS, Row};
 use std::alloc::Global;
 use std::io;
 use std::io::Read;
 use std::process::Abort;
 use std::test::Fail;
-use value_core::Limits;
+use value_core::{Limits, Value};
 use widths_core::Checked;
 
-/// What was decoded: the value's bytes and the number of its nodes.
-type Decoded = (Vec<u8>, u64);
-
-/// All bytes of the source, decoded.
-fn decoded<R: Read>(
-    alloc: Global,
-    checked: &Checked,
-    ty: u32,
-    limits: Limits,
-    source: &mut Source<R>,
-) -> Result<Result<Decoded, StreamFault>, Fail> {
-    match decode_all(alloc, checked, TypeId(ty), limits, source) {
-        Ok(value) => Ok(Ok((written(alloc, &value)?, value.node_count()))),
-        Err(fault) => Ok(Err(fault)),
+/// How all of the row's bytes are refused, as it is printed; empty where they are a value.
+fn wanted_stream_refusal(alloc: Global, row: &Row) -> Result<String, Fail> {
+    match value_len(row) {
+        Some(len) if len < row.bytes.len() => Ok(format!(in alloc; "TrailingBytes at {len}")?),
+        _ => wanted_refusal(alloc, row),
     }
 }
 
-/// The answer is the row's.
-fn check_all(rt: &impl Abort, row: &Row, how: &str, told: &Result<Decoded, StreamFault>) {
+/// A reader of the row's bytes is answered so.
+fn check_told(
+    rt: &impl Abort,
+    alloc: Global,
+    row: &Row,
+    told: Result<Value<'_, Global>, StreamFault>,
+) -> Result<(), Fail> {
+    let wanted = wanted_stream_refusal(alloc, row)?;
+    match told {
+        Ok(value) => {
+            check_line(rt, row, "", &wanted);
+            check_value(rt, alloc, row, &value)
+        }
+        Err(fault) => {
+            let line = format!(in alloc; "{fault}")?;
+            check_line(rt, row, &line, &wanted);
+            Ok(())
+        }
+    }
+}
+
+/// A reader that gives so many bytes a call.
+fn check_pace(
+    rt: &impl Abort,
+    alloc: Global,
+    checked: &Checked,
+    row: &Row,
+    step: usize,
+) -> Result<(), Fail> {
     let name = row.name;
-    let wanted = match row.answer {
-        Answer::Whole { len, nodes } if len == row.bytes.len() => Ok((row.bytes, nodes)),
-        Answer::Whole { len, nodes: _ } => Err(StreamFault::TrailingBytes { at: len as u64 }),
-        Answer::Refused(reason, at) => Err(StreamFault::Decode(DecodeFault { reason, at })),
-    };
-    let told = match told {
-        Ok((bytes, nodes)) => Ok((bytes.as_slice(), *nodes)),
-        Err(fault) => Err(*fault),
-    };
-    assert_eq!(rt; told, wanted, "{name}, {how}");
+    let mut source = Source::new(PacedReader::new(row.bytes, step, Then::GoesOn));
+    let told = all_of(alloc, checked, row, &mut source);
+    assert!(rt; !source.failed(), "{name}, {step} bytes a read");
+    check_told(rt, alloc, row, told)
+}
+
+/// Readers of several paces.
+fn check_paces(rt: &impl Abort, alloc: Global, row: &Row) -> Result<(), Fail> {
+    let checked = checked(alloc, row.registry)?;
+    'steps: for step in [1, 2, 3, 4, 4096] {
+        check_pace(rt, alloc, &checked, row, step)?;
+    }
+    Ok(())
 }
 
 #[test]
 fn readers_of_each_pace_give_the_same(rt: HostRuntime) -> Result<(), Fail> {
-    'rows: for row in &ROWS {
-        let checked = checked(rt.alloc(), row.registry)?;
-        'steps: for step in [1, 2, 3, 4, 4096] {
-            let how = format!(in rt.alloc(); "{step} bytes a read")?;
-            let mut source = Source::new(PacedReader::new(row.bytes, step, Then::GoesOn));
-            let told = decoded(rt.alloc(), &checked, row.ty, row.limits, &mut source)?;
-            check_all(&rt, row, &how, &told);
-            assert_eq!(rt; source.failed(), false, "{how}");
+    'kinds: for rows in ROWS {
+        'rows: for row in rows {
+            check_paces(&rt, rt.alloc(), row)?;
         }
     }
     Ok(())
@@ -88,87 +104,145 @@ impl Read for FailingReader {
     }
 }
 
-// A value of n bytes is read in n + 1 calls, the last of which tells the end; a row never takes more.
+/// A reader that fails at this call: was all decided before it?
+fn check_failure(
+    rt: &impl Abort,
+    alloc: Global,
+    checked: &Checked,
+    row: &Row,
+    read: usize,
+) -> Result<bool, Fail> {
+    let name = row.name;
+    let mut source = Source::new(FailingReader {
+        bytes: row.bytes,
+        until_failure: read,
+    });
+    let told = all_of(alloc, checked, row, &mut source);
+    if source.failed() {
+        assert_eq!(rt;
+            told.err(),
+            Some(StreamFault::Device),
+            "{name}, read {read}"
+        );
+        return Ok(false);
+    }
+    check_told(rt, alloc, row, told)?;
+    Ok(true)
+}
+
+/// Readers that fail at each of their calls. A value of n bytes is read in n + 1 calls, the last of which tells the end;
+/// a row never takes more.
+fn check_failures(rt: &impl Abort, alloc: Global, row: &Row) -> Result<(), Fail> {
+    let name = row.name;
+    let checked = checked(alloc, row.registry)?;
+    let mut was_decided = false;
+    'reads: for read in 1..=row.bytes.len().saturating_add(2) {
+        let is_decided = check_failure(rt, alloc, &checked, row, read)?;
+        assert!(rt; is_decided || !was_decided, "{name}, read {read}");
+        was_decided = is_decided;
+    }
+    assert!(rt; was_decided, "{name} is never decided");
+    Ok(())
+}
+
 #[test]
 fn each_read_that_fails_is_told_unless_all_was_decided(rt: HostRuntime) -> Result<(), Fail> {
-    'rows: for row in &ROWS {
-        let checked = checked(rt.alloc(), row.registry)?;
-        let mut decided = false;
-        'reads: for read in 1..=row.bytes.len().saturating_add(2) {
-            let how = format!(in rt.alloc(); "read {read} fails")?;
-            let reader = FailingReader {
-                bytes: row.bytes,
-                until_failure: read,
-            };
-            let mut source = Source::new(reader);
-            let told = decoded(rt.alloc(), &checked, row.ty, row.limits, &mut source)?;
-            if source.failed() {
-                assert!(rt; !decided, "{how}");
-                assert_eq!(rt; told.err(), Some(StreamFault::Device), "{how}");
-            } else {
-                decided = true;
-                check_all(&rt, row, &how, &told);
-            }
+    'kinds: for rows in ROWS {
+        'rows: for row in rows {
+            check_failures(&rt, rt.alloc(), row)?;
         }
-        assert!(rt; decided, "the last read of a row is not needed");
     }
     Ok(())
 }
 
+/// What a reader that gives these bytes in one read, and then fails, is refused with, and whether it failed.
+fn refusal_before_failure(
+    alloc: Global,
+    registry: &[u8],
+    ty: u32,
+    bytes: &'static [u8],
+) -> Result<(Option<StreamFault>, bool), Fail> {
+    let checked = checked(alloc, registry)?;
+    let mut source = Source::new(PacedReader::new(bytes, 4096, Then::Fails));
+    let fault = decode_all(alloc, &checked, TypeId(ty), AMPLE, &mut source).err();
+    Ok((fault, source.failed()))
+}
+
+// The value's two bytes come, and then nothing can be told of what follows.
 #[test]
-fn the_first_read_comes_before_any_answer(rt: HostRuntime) -> Result<(), Fail> {
-    let number = checked(rt.alloc(), U16)?;
-    // The value's two bytes come, and then nothing can be told of what follows.
-    let mut source = Source::new(PacedReader::new(b"\x2a\x00", 2, Then::Fails));
-    let told = decoded(rt.alloc(), &number, 0, AMPLE, &mut source)?;
-    assert_eq!(rt;
-        (told.err(), source.failed()),
-        (Some(StreamFault::Device), true)
-    );
-    // One read brings the byte that follows, and no other read is made.
-    let mut source = Source::new(PacedReader::new(b"\x2a\x00\xff", 3, Then::Fails));
-    let told = decoded(rt.alloc(), &number, 0, AMPLE, &mut source)?;
-    let trailing = StreamFault::TrailingBytes { at: 2 };
-    assert_eq!(rt; (told.err(), source.failed()), (Some(trailing), false));
-    // A type that is refused without a byte is refused behind the first read.
-    let compact = checked(rt.alloc(), COMPACT_OF_A_BOOL)?;
-    let mut source = Source::new(PacedReader::new(b"", 1, Then::Fails));
-    let told = decoded(rt.alloc(), &compact, 1, AMPLE, &mut source)?;
-    assert_eq!(rt;
-        (told.err(), source.failed()),
-        (Some(StreamFault::Device), true)
-    );
+fn the_end_of_a_value_is_not_told_before_the_next_read(rt: HostRuntime) -> Result<(), Fail> {
+    let told = refusal_before_failure(rt.alloc(), U16, 0, b"\x2a\x00")?;
+    assert_eq!(rt; told, (Some(StreamFault::Device), true));
     Ok(())
 }
 
+// One read brings the byte that follows, and no other read is made.
+#[test]
+fn a_byte_behind_is_told_without_another_read(rt: HostRuntime) -> Result<(), Fail> {
+    let told = refusal_before_failure(rt.alloc(), U16, 0, b"\x2a\x00\xff")?;
+    assert_eq!(rt; told, (Some(StreamFault::TrailingBytes { at: 2 }), false));
+    Ok(())
+}
+
+// A type that is refused without a byte is refused behind the first read.
+#[test]
+fn the_first_read_comes_before_any_answer(rt: HostRuntime) -> Result<(), Fail> {
+    let told = refusal_before_failure(rt.alloc(), COMPACT_OF_A_BOOL, 1, b"")?;
+    assert_eq!(rt; told, (Some(StreamFault::Device), true));
+    Ok(())
+}
+
+/// A decoder of a u16 is refused so, and its reader is not touched.
+fn check_unread(
+    rt: &impl Abort,
+    alloc: Global,
+    ty: u32,
+    limits: Limits,
+    fault: OpenFault,
+) -> Result<(), Fail> {
+    let checked = checked(alloc, U16)?;
+    let mut source = Source::new(PacedReader::new(b"\x2a\x00", 1, Then::Fails));
+    let told = decode_all(alloc, &checked, TypeId(ty), limits, &mut source).err();
+    assert_eq!(rt; told, Some(StreamFault::Open(fault)));
+    assert!(rt; !source.failed());
+    let mut first = [0; 1];
+    assert_eq!(rt; (source.pull(&mut first), first), (Ok(1), [0x2a]));
+    Ok(())
+}
+
+/// A type that is none, and limits that are out of range: what a decoder is refused with.
+pub(crate) const UNOPENED: [(u32, Limits, OpenFault); 4] = [
+    (1, AMPLE, OpenFault::UnknownType),
+    (
+        1,
+        Limits {
+            depth: 1025,
+            bytes: 16_777_216,
+        },
+        OpenFault::UnknownType,
+    ),
+    (
+        0,
+        Limits {
+            depth: 1025,
+            bytes: 16_777_216,
+        },
+        OpenFault::LimitOutOfRange,
+    ),
+    (
+        0,
+        Limits {
+            depth: 64,
+            bytes: 1_099_511_627_777,
+        },
+        OpenFault::LimitOutOfRange,
+    ),
+];
+
 #[test]
 fn a_decoder_that_is_not_made_reads_nothing(rt: HostRuntime) -> Result<(), Fail> {
-    let checked = checked(rt.alloc(), U16)?;
-    let deep = Limits {
-        depth: 1025,
-        bytes: 16_777_216,
-    };
-    let long = Limits {
-        depth: 64,
-        bytes: 1_099_511_627_777,
-    };
-    let rows = [
-        (1, AMPLE, OpenFault::UnknownType),
-        (1, deep, OpenFault::UnknownType),
-        (0, deep, OpenFault::LimitOutOfRange),
-        (0, long, OpenFault::LimitOutOfRange),
-    ];
-    'rows: for (ty, limits, fault) in rows {
-        let mut source = Source::new(PacedReader::new(b"\x2a\x00", 1, Then::Fails));
-        let told = decoded(rt.alloc(), &checked, ty, limits, &mut source)?;
-        assert_eq!(rt; told.err(), Some(StreamFault::Open(fault)));
-        assert_eq!(rt; source.failed(), false);
-        let mut first = [0; 1];
-        assert_eq!(rt; source.pull(&mut first), Ok(1));
-        assert_eq!(rt; first, [0x2a]);
-        let pieces = [b"\x2a\x00".as_slice()];
-        let told = decode_pieces(rt.alloc(), &checked, TypeId(ty), limits, &pieces).err();
-        assert_eq!(rt; told, Some(PiecesFault::Open(fault)));
+    'rows: for (ty, limits, fault) in UNOPENED {
+        check_unread(&rt, rt.alloc(), ty, limits, fault)?;
     }
     Ok(())
 }
@@ -187,102 +261,73 @@ fn sequence(alloc: Global, elements: u16, behind: usize) -> Result<Vec<u8>, Fail
     Ok(bytes)
 }
 
+/// The refusal of a reader of all these bytes, a sequence of u8 on their front. Without one the bytes are the value's.
+fn refusal_of_sequence(
+    rt: &impl Abort,
+    alloc: Global,
+    bytes: &[u8],
+) -> Result<Option<StreamFault>, Fail> {
+    let checked = checked(alloc, BYTES)?;
+    let mut source = Source::new(bytes);
+    let told = decode_all(alloc, &checked, TypeId(1), AMPLE, &mut source);
+    assert!(rt; !source.failed());
+    match told {
+        Ok(value) => {
+            assert_eq!(rt; value.node_count(), 1);
+            let back = written(alloc, &value)?;
+            assert!(rt; back.as_slice() == bytes);
+            Ok(None)
+        }
+        Err(fault) => Ok(Some(fault)),
+    }
+}
+
+/// A sequence of so many bytes in all, and so many bytes behind it.
+fn check_edge(rt: &impl Abort, alloc: Global, len: u16, behind: usize) -> Result<(), Fail> {
+    let bytes = sequence(alloc, len.saturating_sub(2), behind)?;
+    assert_eq!(rt; bytes.len(), usize::from(len).saturating_add(behind));
+    let told = refusal_of_sequence(rt, alloc, &bytes)?;
+    let at = u64::from(len);
+    let wanted = (behind > 0).then_some(StreamFault::TrailingBytes { at });
+    assert_eq!(rt; told, wanted, "{behind} behind {len} bytes");
+    Ok(())
+}
+
 // A read asks for at most 4096 bytes, so that the value and what follows it may come in one read or in two.
 #[test]
 fn a_byte_behind_is_told_at_the_edge_of_a_read(rt: HostRuntime) -> Result<(), Fail> {
-    let checked = checked(rt.alloc(), BYTES)?;
     'lengths: for len in [4095, 4096, 4097, 8191, 8192, 8193u16] {
-        let elements = len.saturating_sub(2);
         'behind: for behind in 0..3 {
-            let bytes = sequence(rt.alloc(), elements, behind)?;
-            assert_eq!(rt; bytes.len(), usize::from(len).saturating_add(behind));
-            let mut source = Source::new(bytes.as_slice());
-            let told = decoded(rt.alloc(), &checked, 1, AMPLE, &mut source)?;
-            let name = format!(in rt.alloc(); "{behind} behind {len} bytes")?;
-            match told {
-                Ok((back, nodes)) => {
-                    assert_eq!(rt; behind, 0, "{name}");
-                    assert_eq!(rt; back.as_slice(), bytes.as_slice(), "{name}");
-                    assert_eq!(rt; nodes, 1, "{name}");
-                }
-                Err(fault) => {
-                    let trailing = StreamFault::TrailingBytes { at: u64::from(len) };
-                    assert_eq!(rt; fault, trailing, "{name}");
-                    assert!(rt; behind > 0, "{name}");
-                }
-            }
-            assert_eq!(rt; source.failed(), false, "{name}");
+            check_edge(&rt, rt.alloc(), len, behind)?;
         }
     }
     Ok(())
 }
 
 #[test]
-fn a_value_without_bytes_is_read_to_the_end(rt: HostRuntime) -> Result<(), Fail> {
+fn a_value_without_bytes_is_there_at_the_end(rt: HostRuntime) -> Result<(), Fail> {
     let registry = nested_pairs(rt.alloc())?;
     let checked = checked(rt.alloc(), &registry)?;
     let mut source = Source::new(b"".as_slice());
-    let told = decoded(rt.alloc(), &checked, 40, AMPLE, &mut source)?;
-    let (bytes, nodes) = told.ok().ok_or("no value")?;
-    assert_eq!(rt; (bytes.len(), nodes), (0, 1));
+    let told = decode_all(rt.alloc(), &checked, TypeId(40), AMPLE, &mut source);
+    let value = told.ok().ok_or("no value")?;
+    let bytes = written(rt.alloc(), &value)?;
+    assert_eq!(rt; (bytes.len(), value.node_count()), (0, 1));
+    Ok(())
+}
+
+#[test]
+fn a_byte_behind_a_value_without_bytes_is_told(rt: HostRuntime) -> Result<(), Fail> {
+    let registry = nested_pairs(rt.alloc())?;
+    let checked = checked(rt.alloc(), &registry)?;
     let mut source = Source::new(b"\x00".as_slice());
-    let told = decoded(rt.alloc(), &checked, 40, AMPLE, &mut source)?;
-    assert_eq!(rt; told.err(), Some(StreamFault::TrailingBytes { at: 0 }));
-    let (value, taken) = decode_pieces(rt.alloc(), &checked, TypeId(40), AMPLE, &[])
-        .ok()
-        .ok_or("no value")?;
-    assert_eq!(rt; (value.node_count(), taken), (1, 0));
-    Ok(())
-}
-
-/// The pieces are answered as the row says.
-fn check_pieces(
-    rt: &impl Abort,
-    alloc: Global,
-    checked: &Checked,
-    row: &Row,
-    pieces: &[&[u8]],
-) -> Result<(), Fail> {
-    let name = row.name;
-    let told = decode_pieces(alloc, checked, TypeId(row.ty), row.limits, pieces);
-    match (row.answer, told) {
-        (Answer::Whole { len, nodes }, Ok((value, taken))) => {
-            assert_eq!(rt; taken, len as u64, "{name}, {pieces:?}");
-            assert_eq!(rt; value.node_count(), nodes, "{name}, {pieces:?}");
-            let bytes = written(alloc, &value)?;
-            let own = row.bytes.get(..len);
-            assert_eq!(rt; Some(bytes.as_slice()), own, "{name}, {pieces:?}");
-        }
-        (Answer::Refused(reason, at), Err(fault)) => {
-            let refused = PiecesFault::Decode(DecodeFault { reason, at });
-            assert_eq!(rt; fault, refused, "{name}, {pieces:?}");
-        }
-        _ => Err(name)?,
-    }
+    let told = decode_all(rt.alloc(), &checked, TypeId(40), AMPLE, &mut source).err();
+    assert_eq!(rt; told, Some(StreamFault::TrailingBytes { at: 0 }));
     Ok(())
 }
 
 #[test]
-fn each_cut_into_pieces_gives_the_same(rt: HostRuntime) -> Result<(), Fail> {
-    'rows: for row in &ROWS {
-        let checked = checked(rt.alloc(), row.registry)?;
-        check_pieces(&rt, rt.alloc(), &checked, row, &[row.bytes])?;
-        'cuts: for cut in 0..=row.bytes.len() {
-            let (front, rest) = row.bytes.split_at(cut);
-            check_pieces(&rt, rt.alloc(), &checked, row, &[front, rest])?;
-            check_pieces(&rt, rt.alloc(), &checked, row, &[front, b"", rest])?;
-        }
-        let mut single = Vec::new(rt.alloc());
-        'bytes: for byte in row.bytes.chunks(1) {
-            single.push(byte)?;
-        }
-        check_pieces(&rt, rt.alloc(), &checked, row, &single)?;
-    }
-    Ok(())
-}
-
-#[test]
-fn faults_are_printed_by_their_names(rt: HostRuntime) -> Result<(), Fail> {
+fn faults_of_readers_are_printed_by_their_names(rt: HostRuntime) -> Result<(), Fail> {
     let cut = DecodeFault {
         reason: DecodeReason::Truncated,
         at: 3,
@@ -294,17 +339,6 @@ fn faults_are_printed_by_their_names(rt: HostRuntime) -> Result<(), Fail> {
         (StreamFault::Device, "Device"),
     ];
     'lines: for (fault, line) in lines {
-        let printed = format!(in rt.alloc(); "{fault}")?;
-        assert_eq!(rt; printed.as_str(), line);
-    }
-    let lines = [
-        (
-            PiecesFault::Open(OpenFault::LimitOutOfRange),
-            "LimitOutOfRange",
-        ),
-        (PiecesFault::Decode(cut), "Truncated at 3"),
-    ];
-    'more: for (fault, line) in lines {
         let printed = format!(in rt.alloc(); "{fault}")?;
         assert_eq!(rt; printed.as_str(), line);
     }
@@ -327,10 +361,6 @@ impl Read for AskedReader {
         Ok(count)
     }
 }
-
-/// An array of 10000 bytes.
-const TEN_THOUSAND_BYTES: &[u8] =
-    b"\x08\x00\x00\x00\x05\x03\x00\x04\x00\x00\x03\x10\x27\x00\x00\x00\x00";
 
 #[test]
 fn a_read_asks_for_at_most_4096_bytes(rt: HostRuntime) -> Result<(), Fail> {
