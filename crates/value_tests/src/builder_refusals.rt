@@ -1,5 +1,7 @@
 //! The reasons for which a builder refuses calls, in their order.
 
+use crate::builder_bytes::TEXT_AND_BYTES;
+use crate::builders::begun;
 use registry_core::TypeId;
 use scale_tests::building::{
     BITS_IN_AN_ARM, BYTES, CHAIN, COMPACT_OF_A_BOOL, Call, ENDLESS, LONG_ARRAY,
@@ -52,7 +54,7 @@ struct Suits {
     calls: &'static [&'static str],
 }
 
-const TYPES: [Suits; 19] = [
+const TYPES: [Suits; 20] = [
     Suits {
         name: "a unit",
         registry: UNITS,
@@ -138,6 +140,12 @@ const TYPES: [Suits; 19] = [
         calls: &["bytes", "bytes_start"],
     },
     Suits {
+        name: "an array of three bytes",
+        registry: TEXT_AND_BYTES,
+        ty: 2,
+        calls: &["bytes", "bytes_start"],
+    },
+    Suits {
         name: "a sequence of bytes",
         registry: BYTES,
         ty: 1,
@@ -175,6 +183,10 @@ const ENDLESS_IN_AN_ARM: &[u8] =
 const BAD_COMPACT_IN_AN_ARM: &[u8] =
     b"\x0c\x00\x00\x00\x05\x00\x00\x04\x00\x00\x06\x00\x00\x08\x00\x00\x01\x04\x04B\x04\x00\x04\x00\x00\x01\x00\x00";
 
+/// A u8, an array of three of it, and a variant whose one arm has it in a field.
+const BYTES_IN_AN_ARM: &[u8] =
+    b"\x0c\x00\x00\x00\x05\x03\x00\x04\x00\x00\x03\x03\x00\x00\x00\x00\x00\x08\x00\x00\x01\x04\x04B\x04\x00\x04\x00\x00\x01\x00\x00";
+
 /// A variant whose arm of index 1 has a field of which no value is added at this depth limit, and the reason.
 #[derive(Clone, Copy)]
 struct Stop {
@@ -185,7 +197,7 @@ struct Stop {
     fault: BuildFault,
 }
 
-const STOPS: [Stop; 7] = [
+const STOPS: [Stop; 8] = [
     Stop {
         name: "a chain",
         registry: CHAIN,
@@ -235,6 +247,13 @@ const STOPS: [Stop; 7] = [
         depth: 1,
         fault: BuildFault::BadCompact,
     },
+    Stop {
+        name: "an array of bytes",
+        registry: BYTES_IN_AN_ARM,
+        ty: 2,
+        depth: 0,
+        fault: BuildFault::TooDeep,
+    },
 ];
 
 /// Is the call of this name one of those?
@@ -247,40 +266,61 @@ fn is_among(calls: &[&str], name: &str) -> bool {
     false
 }
 
+/// Does the call suit the type? Else its refusal is the one of a call that does not suit.
+fn check_suits(
+    rt: &impl Abort,
+    builder: &mut Builder<'_, Global>,
+    call: Call,
+    suits: bool,
+    name: &str,
+) {
+    let told = add(builder, call).err();
+    let is_wrong = told == Some(BuildFault::WrongKind);
+    assert_eq!(rt; is_wrong, !suits, "{call:?} of {name}");
+}
+
 /// A call on a type is answered by the one refusal of a call that does not suit, unless it suits.
 fn check_type(rt: &impl Abort, alloc: Global, row: Suits) -> Result<(), Fail> {
-    let name = row.name;
     let checked = checked(alloc, row.registry)?;
     'calls: for (word, call) in CALLS {
-        let Ok(mut builder) = Builder::new(alloc, &checked, TypeId(row.ty), 64) else {
-            return Err(name)?;
-        };
-        let told = add(&mut builder, call).err();
+        let mut builder = begun(alloc, &checked, row.ty, 64)?;
         let suits = is_among(row.calls, word);
-        assert_eq!(rt;
-            told == Some(BuildFault::WrongKind),
-            !suits,
-            "{word} of {name}"
-        );
+        check_suits(rt, &mut builder, call, suits, row.name);
     }
     Ok(())
 }
 
-/// Behind the first calls each call is refused for this reason, and nothing changes.
+/// The call is refused for this reason, and nothing changes.
+fn check_refused(
+    rt: &impl Abort,
+    builder: &mut Builder<'_, Global>,
+    call: Call,
+    fault: BuildFault,
+    name: &str,
+) {
+    let before = what_stands(builder);
+    assert_eq!(rt; add(builder, call), Err(fault), "{call:?} of {name}");
+    assert_eq!(rt; what_stands(builder), before, "{call:?} of {name}");
+}
+
+/// Each call is refused for this reason, and nothing changes.
 fn check_all_refused(
     rt: &impl Abort,
     builder: &mut Builder<'_, Global>,
     name: &str,
     fault: BuildFault,
 ) {
-    let before = what_stands(builder);
+    'calls: for (_, call) in CALLS {
+        check_refused(rt, builder, call, fault, name);
+    }
+}
+
+/// Each call but those for the run that is open is refused as one that does not suit, and nothing changes.
+fn check_open_run(rt: &impl Abort, builder: &mut Builder<'_, Global>, own: &[&str]) {
     'calls: for (word, call) in CALLS {
-        assert_eq!(rt; add(builder, call), Err(fault), "{word} of {name}");
-        assert_eq!(rt;
-            what_stands(builder),
-            before,
-            "what stands behind {word} of {name}"
-        );
+        if !is_among(own, word) {
+            check_refused(rt, builder, call, BuildFault::WrongKind, "an open run");
+        }
     }
 }
 
@@ -293,15 +333,19 @@ fn only_the_call_for_a_type_suits_it(rt: HostRuntime) -> Result<(), Fail> {
     Ok(())
 }
 
+/// Behind the arm of index 1 each call is refused for the reason of the row.
+fn check_stop(rt: &impl Abort, alloc: Global, stop: Stop) -> Result<(), Fail> {
+    let checked = checked(alloc, stop.registry)?;
+    let mut builder = begun(alloc, &checked, stop.ty, stop.depth)?;
+    assert_eq!(rt; builder.arm(1), Ok(()), "{}", stop.name);
+    check_all_refused(rt, &mut builder, stop.name, stop.fault);
+    Ok(())
+}
+
 #[test]
 fn what_the_walk_stops_at_is_told_first(rt: HostRuntime) -> Result<(), Fail> {
     'stops: for stop in STOPS {
-        let checked = checked(rt.alloc(), stop.registry)?;
-        let Ok(mut builder) = Builder::new(rt.alloc(), &checked, TypeId(stop.ty), stop.depth) else {
-            return Err(stop.name)?;
-        };
-        assert_eq!(rt; builder.arm(1), Ok(()), "{}", stop.name);
-        check_all_refused(&rt, &mut builder, stop.name, stop.fault);
+        check_stop(&rt, rt.alloc(), stop)?;
     }
     Ok(())
 }
@@ -309,15 +353,9 @@ fn what_the_walk_stops_at_is_told_first(rt: HostRuntime) -> Result<(), Fail> {
 #[test]
 fn a_type_without_a_value_is_refused_at_the_root(rt: HostRuntime) -> Result<(), Fail> {
     let checked = checked(rt.alloc(), ENDLESS)?;
-    let Ok(mut builder) = Builder::new(rt.alloc(), &checked, TypeId(0), 0) else {
-        return Err("no builder")?;
-    };
-    check_all_refused(
-        &rt,
-        &mut builder,
-        "an endless type",
-        BuildFault::NoFiniteValue,
-    );
+    let mut builder = begun(rt.alloc(), &checked, 0, 0)?;
+    let fault = BuildFault::NoFiniteValue;
+    check_all_refused(&rt, &mut builder, "an endless type", fault);
     Ok(())
 }
 
@@ -333,19 +371,9 @@ fn nothing_is_added_to_a_whole_value(rt: HostRuntime) -> Result<(), Fail> {
 #[test]
 fn no_node_is_added_while_a_text_is_open(rt: HostRuntime) -> Result<(), Fail> {
     let checked = checked(rt.alloc(), TEXT)?;
-    let Ok(mut builder) = Builder::new(rt.alloc(), &checked, TypeId(0), 64) else {
-        return Err("no builder")?;
-    };
+    let mut builder = begun(rt.alloc(), &checked, 0, 64)?;
     assert_eq!(rt; builder.text_start(1), Ok(()));
-    let before = what_stands(&builder);
-    'calls: for (word, call) in CALLS {
-        let fault = match word {
-            "text_piece" | "text_end" => continue,
-            _ => BuildFault::WrongKind,
-        };
-        assert_eq!(rt; add(&mut builder, call), Err(fault), "{word}");
-        assert_eq!(rt; what_stands(&builder), before, "what stands behind {word}");
-    }
+    check_open_run(&rt, &mut builder, &["text_piece", "text_end"]);
     assert_eq!(rt; builder.text_piece(b"a"), Ok(()));
     assert_eq!(rt; builder.text_end(), Ok(()));
     Ok(())
@@ -354,20 +382,21 @@ fn no_node_is_added_while_a_text_is_open(rt: HostRuntime) -> Result<(), Fail> {
 #[test]
 fn no_node_is_added_while_bytes_are_open(rt: HostRuntime) -> Result<(), Fail> {
     let checked = checked(rt.alloc(), BYTES)?;
-    let Ok(mut builder) = Builder::new(rt.alloc(), &checked, TypeId(1), 64) else {
-        return Err("no builder")?;
-    };
+    let mut builder = begun(rt.alloc(), &checked, 1, 64)?;
     assert_eq!(rt; builder.bytes_start(1), Ok(()));
-    let before = what_stands(&builder);
-    'calls: for (word, call) in CALLS {
-        let fault = match word {
-            "bytes_piece" | "bytes_end" => continue,
-            _ => BuildFault::WrongKind,
-        };
-        assert_eq!(rt; add(&mut builder, call), Err(fault), "{word}");
-        assert_eq!(rt; what_stands(&builder), before, "what stands behind {word}");
-    }
+    check_open_run(&rt, &mut builder, &["bytes_piece", "bytes_end"]);
     assert_eq!(rt; builder.bytes_piece(b"\xff"), Ok(()));
+    assert_eq!(rt; builder.bytes_end(), Ok(()));
+    Ok(())
+}
+
+#[test]
+fn no_node_is_added_while_an_array_of_bytes_is_open(rt: HostRuntime) -> Result<(), Fail> {
+    let checked = checked(rt.alloc(), TEXT_AND_BYTES)?;
+    let mut builder = begun(rt.alloc(), &checked, 2, 64)?;
+    assert_eq!(rt; builder.bytes_start(3), Ok(()));
+    check_open_run(&rt, &mut builder, &["bytes_piece", "bytes_end"]);
+    assert_eq!(rt; builder.bytes_piece(b"\x07\xff\x00"), Ok(()));
     assert_eq!(rt; builder.bytes_end(), Ok(()));
     Ok(())
 }

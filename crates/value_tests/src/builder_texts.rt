@@ -1,9 +1,10 @@
 //! Texts that come to a builder in pieces.
 
-use crate::row::{Row, check_row};
-use registry_core::{Primitive, TypeId};
-use scale_tests::building::{Call, TEXT, add, checked, what_stands, written};
-use std::alloc::Global;
+use crate::builders::{begun, built, check_counts, check_written, finished};
+use crate::row::{Row, check_row, check_step};
+use registry_core::Primitive;
+use scale_tests::building::{Call, Standing, TEXT, checked};
+use std::alloc::{AllocError, Global};
 use std::process::Abort;
 use std::test::Fail;
 use value_core::{BuildFault, Builder, Form, Next};
@@ -132,6 +133,20 @@ const ROWS: [Row; 7] = [
     },
 ];
 
+const WRITTEN: Next = Next::Wants(Form::Primitive(Primitive::Str));
+
+/// Calls on a tuple of two texts: how many nodes and bytes of texts are there behind each, what comes next, and its depth.
+const STEPS: [(Call, u64, u64, Next, u16); 8] = [
+    (Call::Fields, 1, 0, WRITTEN, 1),
+    (Call::Text("ab"), 2, 2, WRITTEN, 1),
+    (Call::TextStart(4), 2, 2, WRITTEN, 1),
+    (Call::TextPiece(b"\xc3"), 2, 3, WRITTEN, 1),
+    (Call::TextPiece(b""), 2, 3, WRITTEN, 1),
+    (Call::TextPiece(b"\xa9\xc3"), 2, 5, WRITTEN, 1),
+    (Call::TextPiece(b"\xa9"), 2, 6, WRITTEN, 1),
+    (Call::TextEnd, 3, 6, Next::Finished, 0),
+];
+
 #[test]
 fn texts_come_in_pieces(rt: HostRuntime) -> Result<(), Fail> {
     'rows: for row in &ROWS {
@@ -147,26 +162,13 @@ fn check_cut(
     checked: &Checked,
     pieces: [&'static [u8]; 2],
 ) -> Result<(), Fail> {
-    let Ok(mut builder) = Builder::new(alloc, checked, TypeId(0), 64) else {
-        return Err("no builder")?;
-    };
     let front = Call::TextPiece(pieces[0]);
     let back = Call::TextPiece(pieces[1]);
-    'calls: for call in [Call::TextStart(6), front, back, Call::TextEnd] {
-        assert_eq!(rt; add(&mut builder, call), Ok(()), "{call:?} of {front:?}");
-    }
-    let Ok(value) = builder.finish() else {
-        return Err("no value")?;
-    };
+    let calls = [Call::TextStart(6), front, back, Call::TextEnd];
+    let value = built(rt, alloc, checked, 0, 64, &calls)?;
+    check_counts(rt, &value, 1, 6);
     assert_eq!(rt; value.root().text(), Some("\u{e9}\u{20ac}a"), "{front:?}");
-    assert_eq!(rt;
-        (value.node_count(), value.text_bytes()),
-        (1, 6),
-        "{front:?}"
-    );
-    let bytes = written(alloc, &value)?;
-    assert_eq!(rt; bytes.as_slice(), b"\x18\xc3\xa9\xe2\x82\xaca".as_slice());
-    Ok(())
+    check_written(rt, alloc, &value, b"\x18\xc3\xa9\xe2\x82\xaca")
 }
 
 #[test]
@@ -182,56 +184,47 @@ fn a_text_in_two_pieces_is_the_text_given_whole(rt: HostRuntime) -> Result<(), F
 #[test]
 fn an_open_text_is_counted_as_it_comes(rt: HostRuntime) -> Result<(), Fail> {
     let checked = checked(rt.alloc(), TWO_TEXTS)?;
-    let Ok(mut builder) = Builder::new(rt.alloc(), &checked, TypeId(1), 64) else {
-        return Err("no builder")?;
-    };
-    let text = Next::Wants(Form::Primitive(Primitive::Str));
-    let rows = [
-        (Call::Fields, 1, 0, text, 1),
-        (Call::Text("ab"), 2, 2, text, 1),
-        (Call::TextStart(4), 2, 2, text, 1),
-        (Call::TextPiece(b"\xc3"), 2, 3, text, 1),
-        (Call::TextPiece(b""), 2, 3, text, 1),
-        (Call::TextPiece(b"\xa9\xc3"), 2, 5, text, 1),
-        (Call::TextPiece(b"\xa9"), 2, 6, text, 1),
-        (Call::TextEnd, 3, 6, Next::Finished, 0),
-    ];
-    'calls: for (call, nodes, texts, next, depth) in rows {
-        assert_eq!(rt; add(&mut builder, call), Ok(()), "{call:?}");
-        let told = what_stands(&builder);
-        assert_eq!(rt; (told.nodes, told.texts), (nodes, texts), "behind {call:?}");
-        assert_eq!(rt; (told.next, told.depth), (next, depth), "behind {call:?}");
+    let mut builder = begun(rt.alloc(), &checked, 1, 64)?;
+    'steps: for (call, nodes, texts, next, depth) in STEPS {
+        let standing = Standing {
+            nodes,
+            texts,
+            next,
+            depth,
+        };
+        check_step(&rt, &mut builder, call, standing);
     }
-    let Ok(value) = builder.finish() else {
-        return Err("no value")?;
-    };
-    let bytes = written(rt.alloc(), &value)?;
-    assert_eq!(rt; bytes.as_slice(), b"\x08ab\x10\xc3\xa9\xc3\xa9".as_slice());
-    Ok(())
+    let value = finished(builder)?;
+    check_written(&rt, rt.alloc(), &value, b"\x08ab\x10\xc3\xa9\xc3\xa9")
+}
+
+/// So many letters a.
+fn letters(alloc: Global, count: usize) -> Result<Vec<u8>, AllocError> {
+    let mut letters = Vec::new(alloc);
+    'letters: for _ in 0..count {
+        letters.push(b'a')?;
+    }
+    Ok(letters)
+}
+
+/// Adds a text of 1 MiB, which comes in one piece and is counted before it ends.
+fn add_one_piece(rt: &impl Abort, builder: &mut Builder<'_, Global>, piece: &[u8]) {
+    assert_eq!(rt; builder.text_start(1_048_576), Ok(()));
+    assert_eq!(rt; builder.text_piece(piece), Ok(()));
+    let counts = (builder.node_count(), builder.text_bytes());
+    assert_eq!(rt; counts, (0, 1_048_576));
+    assert_eq!(rt; builder.text_end(), Ok(()));
 }
 
 // A piece of 1 MiB, and a text that is whole of it.
 #[test]
 fn a_long_piece_is_kept_at_once(rt: HostRuntime) -> Result<(), Fail> {
     let checked = checked(rt.alloc(), TEXT)?;
-    let mut letters = Vec::new(rt.alloc());
-    'letters: for _ in 0..1_048_576 {
-        letters.push(b'a')?;
-    }
-    let Ok(mut builder) = Builder::new(rt.alloc(), &checked, TypeId(0), 0) else {
-        return Err("no builder")?;
-    };
-    assert_eq!(rt; builder.text_start(1_048_576), Ok(()));
-    assert_eq!(rt; builder.text_piece(&letters), Ok(()));
-    assert_eq!(rt;
-        (builder.node_count(), builder.text_bytes()),
-        (0, 1_048_576)
-    );
-    assert_eq!(rt; builder.text_end(), Ok(()));
-    let Ok(value) = builder.finish() else {
-        return Err("no value")?;
-    };
-    assert_eq!(rt; (value.node_count(), value.text_bytes()), (1, 1_048_576));
+    let letters = letters(rt.alloc(), 1_048_576)?;
+    let mut builder = begun(rt.alloc(), &checked, 0, 0)?;
+    add_one_piece(&rt, &mut builder, &letters);
+    let value = finished(builder)?;
+    check_counts(&rt, &value, 1, 1_048_576);
     let text = value.root().text().ok_or("no text")?;
     assert!(rt; text.as_bytes() == letters.as_slice());
     Ok(())

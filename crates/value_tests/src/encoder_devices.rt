@@ -1,9 +1,10 @@
 //! Values written to writers that fail, take nothing, or take one byte a call.
 
-use registry_core::TypeId;
+use crate::builder_bytes::TEXT_AND_BYTES;
+use crate::builders::{begun, built, check_written, finished};
 use scale_core::{Sink, SinkFault};
 use scale_tests::building::{
-    CHAIN, Call, TEXT, TWO_UNITS_AND_A_BYTE, U8, UNITS, WIDE, add, checked,
+    BYTES, CHAIN, Call, TEXT, TWO_UNITS_AND_A_BYTE, U8, UNITS, WIDE, checked,
 };
 use scale_tests::paced::{PacedWriter, Then};
 use scale_tests::stuttering::StutteringWriter;
@@ -22,7 +23,7 @@ struct Row {
     bytes: &'static [u8],
 }
 
-const ROWS: [Row; 5] = [
+const ROWS: [Row; 10] = [
     Row {
         name: "a text",
         registry: TEXT,
@@ -50,6 +51,46 @@ const ROWS: [Row; 5] = [
         ty: 2,
         calls: &[Call::Fields, Call::Empty, Call::Empty, Call::Unsigned(42)],
         bytes: b"\x2a",
+    },
+    Row {
+        name: "a sequence of bytes",
+        registry: BYTES,
+        ty: 1,
+        calls: &[Call::Bytes(b"\x07\xff\x00")],
+        bytes: b"\x0c\x07\xff\x00",
+    },
+    Row {
+        name: "a sequence of bytes in pieces",
+        registry: BYTES,
+        ty: 1,
+        calls: &[
+            Call::BytesStart(3),
+            Call::BytesPiece(b"\x07"),
+            Call::BytesPiece(b"\xff\x00"),
+            Call::BytesEnd,
+        ],
+        bytes: b"\x0c\x07\xff\x00",
+    },
+    Row {
+        name: "a sequence of no bytes",
+        registry: BYTES,
+        ty: 1,
+        calls: &[Call::Bytes(b"")],
+        bytes: b"\x00",
+    },
+    Row {
+        name: "a sequence of sixty-four bytes, whose length takes two",
+        registry: BYTES,
+        ty: 1,
+        calls: &[Call::Bytes(b"0123456789abcdef0123456789abcdef0123456789abcdef0123456789abcdef")],
+        bytes: b"\x01\x010123456789abcdef0123456789abcdef0123456789abcdef0123456789abcdef",
+    },
+    Row {
+        name: "a text and an array of bytes",
+        registry: TEXT_AND_BYTES,
+        ty: 3,
+        calls: &[Call::Fields, Call::Text("ab"), Call::Bytes(b"\x07\xff\x00")],
+        bytes: b"\x08ab\x07\xff\x00",
     },
     Row {
         name: "a wide integer",
@@ -104,22 +145,18 @@ fn check_whole(rt: &impl Abort, value: &Value<'_, Global>, row: &Row, writer: Pa
     assert_eq!(rt; sink.into_inner().taken.as_slice(), row.bytes, "{name}");
 }
 
+/// Writers that end at each place of the value's bytes.
+fn check_places(rt: &impl Abort, alloc: Global, value: &Value<'_, Global>, row: &Row) {
+    'places: for place in 0..row.bytes.len() {
+        check_place(rt, alloc, value, row, place);
+    }
+}
+
 fn check_writers(rt: &impl Abort, alloc: Global, row: &Row) -> Result<(), Fail> {
-    let name = row.name;
     let checked = checked(alloc, row.registry)?;
-    let Ok(mut builder) = Builder::new(alloc, &checked, TypeId(row.ty), 64) else {
-        return Err(name)?;
-    };
-    'calls: for call in row.calls {
-        assert_eq!(rt; add(&mut builder, *call), Ok(()), "{call:?} of {name}");
-    }
-    let Ok(value) = builder.finish() else {
-        return Err(name)?;
-    };
+    let value = built(rt, alloc, &checked, row.ty, 64, row.calls)?;
+    check_places(rt, alloc, &value, row);
     let length = row.bytes.len();
-    'places: for place in 0..length {
-        check_place(rt, alloc, &value, row, place);
-    }
     let just_enough = PacedWriter::new(alloc, length, usize::MAX, Then::Fails);
     check_whole(rt, &value, row, just_enough);
     let by_bytes = PacedWriter::new(alloc, 0, 1, Then::GoesOn);
@@ -138,13 +175,7 @@ fn what_went_out_before_a_failed_write_is_told(rt: HostRuntime) -> Result<(), Fa
 #[test]
 fn a_value_without_bytes_is_not_written(rt: HostRuntime) -> Result<(), Fail> {
     let checked = checked(rt.alloc(), UNITS)?;
-    let Ok(mut builder) = Builder::new(rt.alloc(), &checked, TypeId(1), 0) else {
-        return Err("no builder")?;
-    };
-    assert_eq!(rt; builder.empty(), Ok(()));
-    let Ok(value) = builder.finish() else {
-        return Err("no value")?;
-    };
+    let value = built(&rt, rt.alloc(), &checked, 1, 0, &[Call::Empty])?;
     'endings: for then in [Then::Fails, Then::TakesNothing] {
         let mut sink = Sink::new(PacedWriter::new(rt.alloc(), 0, usize::MAX, then));
         assert_eq!(rt; encode(&value, &mut sink), Ok(()), "{then:?}");
@@ -156,13 +187,7 @@ fn a_value_without_bytes_is_not_written(rt: HostRuntime) -> Result<(), Fail> {
 #[test]
 fn an_interrupted_write_is_a_failed_one(rt: HostRuntime) -> Result<(), Fail> {
     let checked = checked(rt.alloc(), TEXT)?;
-    let Ok(mut builder) = Builder::new(rt.alloc(), &checked, TypeId(0), 0) else {
-        return Err("no builder")?;
-    };
-    assert_eq!(rt; builder.text("ab"), Ok(()));
-    let Ok(value) = builder.finish() else {
-        return Err("no value")?;
-    };
+    let value = built(&rt, rt.alloc(), &checked, 0, 0, &[Call::Text("ab")])?;
     let mut sink = Sink::new(StutteringWriter { calls: 0 });
     let wanted = WriteFault {
         reason: SinkFault::Device,
@@ -174,32 +199,42 @@ fn an_interrupted_write_is_a_failed_one(rt: HostRuntime) -> Result<(), Fail> {
     Ok(())
 }
 
-// The builder that `finish` hands back is the one that it was, and takes the value.
-#[test]
-fn a_builder_goes_on_where_finish_was_refused(rt: HostRuntime) -> Result<(), Fail> {
-    let checked = checked(rt.alloc(), U8)?;
-    let Ok(mut builder) = Builder::new(rt.alloc(), &checked, TypeId(0), 64) else {
-        return Err("no builder")?;
-    };
-    assert_eq!(rt; builder.unsigned(256), Err(BuildFault::OutOfRange));
-    let Err((fault, mut builder)) = builder.finish() else {
-        return Err("a value of no node")?;
-    };
-    assert_eq!(rt; fault, BuildFault::UnfinishedValue);
-    assert_eq!(rt; builder.unsigned(42), Ok(()));
-    assert_eq!(rt; builder.unsigned(1), Err(BuildFault::WrongKind));
-    let Ok(value) = builder.finish() else {
-        return Err("no value")?;
-    };
-    let mut sink = Sink::new(Vec::new(rt.alloc()));
-    assert_eq!(rt; encode(&value, &mut sink), Ok(()));
-    assert_eq!(rt; sink.into_inner().as_slice(), b"\x2a".as_slice());
-    let mut failing = Sink::new(PacedWriter::new(rt.alloc(), 0, 1, Then::Fails));
+/// The builder holds no value, and comes back from `finish`.
+fn unfinished<'r>(
+    rt: &impl Abort,
+    builder: Builder<'r, Global>,
+) -> Result<Builder<'r, Global>, Fail> {
+    match builder.finish() {
+        Ok(_) => Err("a value of no node")?,
+        Err((fault, builder)) => {
+            assert_eq!(rt; fault, BuildFault::UnfinishedValue);
+            Ok(builder)
+        }
+    }
+}
+
+/// A writer that fails at once is told, and nothing went out.
+fn check_first_write(rt: &impl Abort, alloc: Global, value: &Value<'_, Global>) {
+    let mut sink = Sink::new(PacedWriter::new(alloc, 0, 1, Then::Fails));
     let refused = WriteFault {
         reason: SinkFault::Device,
         written: 0,
     };
-    assert_eq!(rt; encode(&value, &mut failing), Err(refused));
-    assert!(rt; failing.failed());
+    assert_eq!(rt; encode(value, &mut sink), Err(refused));
+    assert!(rt; sink.failed());
+}
+
+// The builder that `finish` hands back is the one that it was, and takes the value.
+#[test]
+fn a_builder_goes_on_where_finish_was_refused(rt: HostRuntime) -> Result<(), Fail> {
+    let checked = checked(rt.alloc(), U8)?;
+    let mut builder = begun(rt.alloc(), &checked, 0, 64)?;
+    assert_eq!(rt; builder.unsigned(256), Err(BuildFault::OutOfRange));
+    let mut builder = unfinished(&rt, builder)?;
+    assert_eq!(rt; builder.unsigned(42), Ok(()));
+    assert_eq!(rt; builder.unsigned(1), Err(BuildFault::WrongKind));
+    let value = finished(builder)?;
+    check_written(&rt, rt.alloc(), &value, b"\x2a")?;
+    check_first_write(&rt, rt.alloc(), &value);
     Ok(())
 }

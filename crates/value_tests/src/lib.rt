@@ -12,7 +12,11 @@ mod builder_refusals;
 #[cfg(test)]
 mod builder_texts;
 #[cfg(test)]
+mod builders;
+#[cfg(test)]
 mod encoder_devices;
+#[cfg(test)]
+mod full_heaps;
 #[cfg(test)]
 mod long_numbers;
 #[cfg(test)]

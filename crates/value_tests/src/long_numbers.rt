@@ -1,12 +1,12 @@
 //! Integers at the ends of 64 bits and beyond: what a builder takes, what their nodes are, and their bytes.
 
+use crate::builders::{built, check_written};
 use crate::row::{Row, check_row};
-use registry_core::TypeId;
-use scale_tests::building::{Call, add, checked, written};
+use scale_tests::building::{Call, checked};
 use std::alloc::Global;
 use std::process::Abort;
 use std::test::Fail;
-use value_core::{Builder, What};
+use value_core::What;
 use widths_core::Checked;
 
 /// A tuple of a sequence of u128, a text, a sequence of i128, and a sequence of compacts over u128.
@@ -120,17 +120,9 @@ fn check_alone(
     what: What,
     spelled: &[u8],
 ) -> Result<(), Fail> {
-    let Ok(mut builder) = Builder::new(alloc, checked, TypeId(ty), 64) else {
-        return Err("no builder")?;
-    };
-    assert_eq!(rt; add(&mut builder, call), Ok(()), "{call:?}");
-    let Ok(value) = builder.finish() else {
-        return Err("no value")?;
-    };
+    let value = built(rt, alloc, checked, ty, 64, &[call])?;
     assert_eq!(rt; value.root().what(), what);
-    let bytes = written(alloc, &value)?;
-    assert_eq!(rt; bytes.as_slice(), spelled, "{call:?}");
-    Ok(())
+    check_written(rt, alloc, &value, spelled)
 }
 
 #[test]

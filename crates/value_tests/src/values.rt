@@ -1,14 +1,16 @@
 //! Values built node by node: what each call answers, what stands then, and the bytes that are written.
 
+use crate::builders::{built, check_counts, check_written};
 use crate::row::{Row, check_row};
 use registry_core::TypeId;
 use scale_tests::building::{
     BITS_IN_AN_ARM, BYTES, CHAIN, COMPACT_OF_A_BOOL, COMPACT_U128, Call, ENDLESS, LONG_ARRAY,
     LONG_ARRAY_OF_WORDS, NO_BYTES, OPTION, SHADOWED_ARM, TEXT, TWO_UNITS_AND_A_BYTE, U8, UNITS,
-    WIDE, WORDS, WRAPPED_BYTES, add, checked, written,
+    WIDE, WORDS, WRAPPED_BYTES, checked,
 };
+use std::alloc::Global;
 use std::test::Fail;
-use value_core::{BuildFault, Builder, What};
+use value_core::{BuildFault, Builder, NodeRef, What};
 
 const ONE: [u8; 32] = [
     1, 0, 0, 0, 0, 0, 0, 0, 0, 0, 0, 0, 0, 0, 0, 0, 0, 0, 0, 0, 0, 0, 0, 0, 0, 0, 0, 0, 0, 0, 0, 0,
@@ -247,7 +249,7 @@ const ROWS: [Row; 20] = [
 
 #[test]
 fn values_are_built_node_by_node(rt: HostRuntime) -> Result<(), Fail> {
-    for row in &ROWS {
+    'rows: for row in &ROWS {
         check_row(&rt, rt.alloc(), row)?;
     }
     Ok(())
@@ -262,104 +264,83 @@ fn a_builder_opens_on_a_type_that_is_there(rt: HostRuntime) -> Result<(), Fail> 
         (0, 1025, Some(BuildFault::OutOfRange)),
         (0, 1024, None),
     ];
-    for (ty, depth, fault) in rows {
+    'rows: for (ty, depth, fault) in rows {
         let told = Builder::new(rt.alloc(), &checked, TypeId(ty), depth).err();
         assert_eq!(rt; told, fault, "type {ty} at depth {depth}");
     }
     Ok(())
 }
 
+/// The types of the node's children, and what they are.
+fn told_children(alloc: Global, node: &NodeRef<'_, '_>) -> Result<Vec<(TypeId, What)>, Fail> {
+    let mut told = Vec::new(alloc);
+    'children: for child in node.children() {
+        told.push((child.type_id(), child.what()))?;
+    }
+    Ok(told)
+}
+
 #[test]
 fn children_step_over_what_is_below_them(rt: HostRuntime) -> Result<(), Fail> {
     let checked = checked(rt.alloc(), TWO_UNITS_AND_A_BYTE)?;
-    let Ok(mut builder) = Builder::new(rt.alloc(), &checked, TypeId(2), 64) else {
-        return Err("no builder")?;
-    };
-    for call in [Call::Fields, Call::Empty, Call::Empty, Call::Unsigned(42)] {
-        assert_eq!(rt; add(&mut builder, call), Ok(()));
-    }
-    let Ok(value) = builder.finish() else {
-        return Err("no value")?;
-    };
+    let calls = [Call::Fields, Call::Empty, Call::Empty, Call::Unsigned(42)];
+    let value = built(&rt, rt.alloc(), &checked, 2, 64, &calls)?;
     let root = value.root();
     assert_eq!(rt; (root.type_id(), root.what()), (TypeId(2), What::Fields));
-    let mut seen = Vec::new(rt.alloc());
-    for child in root.children() {
-        seen.push((child.type_id(), child.what()))?;
-    }
+    let told = told_children(rt.alloc(), &root)?;
     let wanted = [
         (TypeId(1), What::Empty),
         (TypeId(1), What::Empty),
         (TypeId(0), What::Unsigned(42)),
     ];
-    assert_eq!(rt; seen.as_slice(), wanted.as_slice());
+    assert_eq!(rt; told.as_slice(), wanted.as_slice());
     Ok(())
+}
+
+/// The node's one child.
+fn only_child<'v, 'r>(node: &NodeRef<'v, 'r>) -> Result<NodeRef<'v, 'r>, Fail> {
+    let mut children = node.children();
+    match (children.next(), children.next()) {
+        (Some(child), None) => Ok(child),
+        _ => Err("there is not one child")?,
+    }
 }
 
 #[test]
 fn a_chain_of_arms_is_one_child_in_another(rt: HostRuntime) -> Result<(), Fail> {
     let checked = checked(rt.alloc(), CHAIN)?;
-    let Ok(mut builder) = Builder::new(rt.alloc(), &checked, TypeId(0), 2) else {
-        return Err("no builder")?;
-    };
-    for index in [1, 1, 0] {
-        assert_eq!(rt; builder.arm(index), Ok(()));
-    }
-    let Ok(value) = builder.finish() else {
-        return Err("no value")?;
-    };
+    let calls = [Call::Arm(1), Call::Arm(1), Call::Arm(0)];
+    let value = built(&rt, rt.alloc(), &checked, 0, 2, &calls)?;
     let root = value.root();
-    assert_eq!(rt; root.what(), What::Arm { position: 1 });
-    let mut below_root = root.children();
-    let Some(middle) = below_root.next() else {
-        return Err("no child")?;
-    };
-    assert!(rt; below_root.next().is_none());
-    assert_eq!(rt; middle.what(), What::Arm { position: 1 });
-    let mut below_middle = middle.children();
-    let Some(last) = below_middle.next() else {
-        return Err("no grandchild")?;
-    };
-    assert!(rt; below_middle.next().is_none());
-    assert_eq!(rt; last.what(), What::Arm { position: 0 });
+    let middle = only_child(&root)?;
+    let last = only_child(&middle)?;
+    let told = [root.what(), middle.what(), last.what()];
+    let wanted = [1, 1, 0].map(|position| What::Arm { position });
+    assert_eq!(rt; told, wanted);
     assert!(rt; last.children().next().is_none());
-    let bytes = written(rt.alloc(), &value)?;
-    assert_eq!(rt; bytes.as_slice(), b"\x01\x01\x00".as_slice());
-    Ok(())
+    check_written(&rt, rt.alloc(), &value, b"\x01\x01\x00")
 }
 
 #[test]
 fn a_text_is_lent(rt: HostRuntime) -> Result<(), Fail> {
     let checked = checked(rt.alloc(), TEXT)?;
-    let Ok(mut builder) = Builder::new(rt.alloc(), &checked, TypeId(0), 0) else {
-        return Err("no builder")?;
-    };
-    assert_eq!(rt; builder.text("\u{e9}a"), Ok(()));
-    let Ok(value) = builder.finish() else {
-        return Err("no value")?;
-    };
-    assert_eq!(rt; value.root().what(), What::Text);
-    assert_eq!(rt; value.root().text(), Some("\u{e9}a"));
-    assert!(rt; value.root().bytes().is_none());
-    assert_eq!(rt; (value.node_count(), value.text_bytes()), (1, 3));
+    let value = built(&rt, rt.alloc(), &checked, 0, 0, &[Call::Text("\u{e9}a")])?;
+    check_counts(&rt, &value, 1, 3);
+    let root = value.root();
+    assert_eq!(rt; (root.what(), root.text()), (What::Text, Some("\u{e9}a")));
+    assert!(rt; root.bytes().is_none());
     Ok(())
 }
 
 #[test]
 fn bytes_are_lent(rt: HostRuntime) -> Result<(), Fail> {
     let checked = checked(rt.alloc(), BYTES)?;
-    let Ok(mut builder) = Builder::new(rt.alloc(), &checked, TypeId(1), 0) else {
-        return Err("no builder")?;
-    };
-    assert_eq!(rt; builder.bytes(b"\x61\xff"), Ok(()));
-    let Ok(value) = builder.finish() else {
-        return Err("no value")?;
-    };
-    assert_eq!(rt; value.root().what(), What::Bytes);
-    let run = value.root().bytes().ok_or("no bytes")?;
+    let value = built(&rt, rt.alloc(), &checked, 1, 0, &[Call::Bytes(b"\x61\xff")])?;
+    check_counts(&rt, &value, 1, 2);
+    let root = value.root();
+    let run = root.bytes().ok_or("no bytes")?;
     assert!(rt; run == b"\x61\xff".as_slice());
-    assert!(rt; value.root().text().is_none());
-    assert!(rt; value.root().children().next().is_none());
-    assert_eq!(rt; (value.node_count(), value.text_bytes()), (1, 2));
+    assert_eq!(rt; (root.what(), root.text()), (What::Bytes, None));
+    assert!(rt; root.children().next().is_none());
     Ok(())
 }

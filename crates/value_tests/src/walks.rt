@@ -1,16 +1,17 @@
 //! What comes next in a value as it is built, and what a finished value tells.
 
+use crate::builders::{begun, built, check_counts, check_written, finished};
 use registry_core::{Primitive, TypeId};
 use scale_core::Target;
 use scale_tests::building::{
     BITS_IN_AN_ARM, BYTES, CHAIN, COMPACT_OF_A_BOOL, COMPACT_U128, Call, ENDLESS, LONG_ARRAY,
     LONG_ARRAY_OF_WORDS, OPTION, SHADOWED_ARM, TEXT, TWO_UNITS_AND_A_BYTE, UNITS, WORDS, add,
-    checked, what_stands, written,
+    checked,
 };
-use std::alloc::Global;
+use std::alloc::{AllocError, Global};
 use std::process::Abort;
 use std::test::Fail;
-use value_core::{Builder, Form, Limits, Next, StopReason, What};
+use value_core::{Builder, Form, Limits, Next, NodeRef, StopReason, Value, What};
 use widths_core::Class;
 
 /// What comes next at first, and behind each call, with its depth.
@@ -27,6 +28,14 @@ struct Row {
 /// Type 3 is a tuple of a sequence of u16, type 2, and a u8.
 const WORDS_AND_A_BYTE: &[u8] =
     b"\x10\x00\x00\x00\x05\x03\x00\x04\x00\x00\x05\x04\x00\x08\x00\x00\x02\x04\x00\x0c\x00\x00\x04\x08\x08\x00\x00";
+
+const WORDS_AND_A_BYTE_CALLS: [Call; 5] = [
+    Call::Fields,
+    Call::List(2),
+    Call::Unsigned(7),
+    Call::Unsigned(255),
+    Call::Unsigned(42),
+];
 
 const BYTE: Next = Next::Wants(Form::Primitive(Primitive::U8));
 
@@ -204,22 +213,19 @@ const ROWS: [Row; 16] = [
     },
 ];
 
+/// This comes next in the builder, at this depth.
+fn check_next(rt: &impl Abort, builder: &Builder<'_, Global>, next: Next, depth: u16, name: &str) {
+    let told = (builder.walk().next(), builder.walk().depth());
+    assert_eq!(rt; told, (next, depth), "what comes next in {name}");
+}
+
 fn check_walk(rt: &impl Abort, alloc: Global, row: &Row) -> Result<(), Fail> {
-    let name = row.name;
     let checked = checked(alloc, row.registry)?;
-    let Ok(mut builder) = Builder::new(alloc, &checked, TypeId(row.ty), row.depth) else {
-        return Err(name)?;
-    };
-    let told = what_stands(&builder);
-    assert_eq!(rt; (told.next, told.depth), (row.first, 0), "{name}");
+    let mut builder = begun(alloc, &checked, row.ty, row.depth)?;
+    check_next(rt, &builder, row.first, 0, row.name);
     'calls: for (call, next, depth) in row.calls {
-        assert_eq!(rt; add(&mut builder, *call), Ok(()), "{call:?} of {name}");
-        let told = what_stands(&builder);
-        assert_eq!(rt;
-            (told.next, told.depth),
-            (*next, *depth),
-            "behind {call:?} of {name}"
-        );
+        assert_eq!(rt; add(&mut builder, *call), Ok(()), "{call:?}");
+        check_next(rt, &builder, *next, *depth, row.name);
     }
     Ok(())
 }
@@ -244,103 +250,79 @@ fn the_default_limits_are_told(rt: HostRuntime) {
 #[test]
 fn a_value_lends_its_registry(rt: HostRuntime) -> Result<(), Fail> {
     let checked = checked(rt.alloc(), TWO_UNITS_AND_A_BYTE)?;
-    let Ok(mut builder) = Builder::new(rt.alloc(), &checked, TypeId(1), 0) else {
-        return Err("no builder")?;
-    };
-    assert_eq!(rt; builder.empty(), Ok(()));
-    let Ok(value) = builder.finish() else {
-        return Err("no value")?;
-    };
-    assert_eq!(rt; (value.node_count(), value.text_bytes()), (1, 0));
+    let value = built(&rt, rt.alloc(), &checked, 1, 0, &[Call::Empty])?;
+    check_counts(&rt, &value, 1, 0);
     let lent = value.checked();
-    assert_eq!(rt; lent.registry().types().len(), 3);
+    assert_eq!(rt; (lent.registry().types().len(), lent.widest()), (3, 3));
     assert_eq!(rt; lent.class(TypeId(1)), Some(Class::Empty));
     assert_eq!(rt; lent.class(TypeId(2)), Some(Class::Sized));
-    assert_eq!(rt; lent.widest(), 3);
     Ok(())
 }
 
 #[test]
 fn the_first_of_two_arms_with_one_index_is_told(rt: HostRuntime) -> Result<(), Fail> {
     let checked = checked(rt.alloc(), SHADOWED_ARM)?;
-    let Ok(mut builder) = Builder::new(rt.alloc(), &checked, TypeId(1), 64) else {
-        return Err("no builder")?;
-    };
-    assert_eq!(rt; builder.arm(3), Ok(()));
-    let Ok(value) = builder.finish() else {
-        return Err("no value")?;
-    };
+    let value = built(&rt, rt.alloc(), &checked, 1, 64, &[Call::Arm(3)])?;
     let root = value.root();
-    assert_eq!(rt;
-        (root.type_id(), root.what()),
-        (TypeId(1), What::Arm { position: 0 })
-    );
-    assert!(rt; root.children().next().is_none());
-    assert!(rt; root.text().is_none());
-    let bytes = written(rt.alloc(), &value)?;
-    assert_eq!(rt; bytes.as_slice(), b"\x03".as_slice());
+    let wanted = (TypeId(1), What::Arm { position: 0 });
+    assert_eq!(rt; (root.type_id(), root.what()), wanted);
+    assert!(rt; root.children().next().is_none() && root.text().is_none());
+    check_written(&rt, rt.alloc(), &value, b"\x03")
+}
+
+/// Appends the types of the node's children, and what they are.
+fn tell_children(told: &mut Vec<(TypeId, What)>, node: &NodeRef<'_, '_>) -> Result<(), AllocError> {
+    'children: for child in node.children() {
+        told.push((child.type_id(), child.what()))?;
+    }
     Ok(())
+}
+
+/// The types of the children of the value's root, each with those of its own children behind it, and what they are.
+fn two_levels(alloc: Global, value: &Value<'_, Global>) -> Result<Vec<(TypeId, What)>, AllocError> {
+    let mut told = Vec::new(alloc);
+    'children: for child in value.root().children() {
+        told.push((child.type_id(), child.what()))?;
+        tell_children(&mut told, &child)?;
+    }
+    Ok(told)
 }
 
 // A subtree of two nodes is passed over in one step, and what stands behind it is still told.
 #[test]
 fn children_are_told_behind_a_subtree(rt: HostRuntime) -> Result<(), Fail> {
     let checked = checked(rt.alloc(), WORDS_AND_A_BYTE)?;
-    let Ok(mut builder) = Builder::new(rt.alloc(), &checked, TypeId(3), 64) else {
-        return Err("no builder")?;
-    };
-    let calls = [
-        Call::Fields,
-        Call::List(2),
-        Call::Unsigned(7),
-        Call::Unsigned(255),
-        Call::Unsigned(42),
-    ];
-    'calls: for call in calls {
-        assert_eq!(rt; add(&mut builder, call), Ok(()), "{call:?}");
-    }
-    let Ok(value) = builder.finish() else {
-        return Err("no value")?;
-    };
-    assert_eq!(rt; (value.node_count(), value.text_bytes()), (5, 0));
-    let mut seen = Vec::new(rt.alloc());
-    'children: for child in value.root().children() {
-        seen.push((child.type_id(), child.what()))?;
-        'grandchildren: for below in child.children() {
-            seen.push((below.type_id(), below.what()))?;
-        }
-    }
+    let value = built(&rt, rt.alloc(), &checked, 3, 64, &WORDS_AND_A_BYTE_CALLS)?;
+    check_counts(&rt, &value, 5, 0);
+    let told = two_levels(rt.alloc(), &value)?;
     let wanted = [
         (TypeId(2), What::List),
         (TypeId(1), What::Unsigned(7)),
         (TypeId(1), What::Unsigned(255)),
         (TypeId(0), What::Unsigned(42)),
     ];
-    assert_eq!(rt; seen.as_slice(), wanted.as_slice());
-    let bytes = written(rt.alloc(), &value)?;
-    assert_eq!(rt; bytes.as_slice(), b"\x08\x07\x00\xff\x00\x2a".as_slice());
-    Ok(())
+    assert_eq!(rt; told.as_slice(), wanted.as_slice());
+    check_written(&rt, rt.alloc(), &value, b"\x08\x07\x00\xff\x00\x2a")
+}
+
+/// Arms around one another from the root, which has depth 0, down to this depth.
+fn check_arms(rt: &impl Abort, builder: &mut Builder<'_, Global>, depth: u16) {
+    'levels: for level in 0..depth {
+        check_next(rt, builder, ARM, level, "a long chain");
+        assert_eq!(rt; builder.arm(1), Ok(()), "the arm at depth {level}");
+    }
 }
 
 // The root has depth 0, so the node with 1024 around it is the deepest that a builder takes.
 #[test]
 fn a_walk_goes_to_the_greatest_depth(rt: HostRuntime) -> Result<(), Fail> {
     let checked = checked(rt.alloc(), CHAIN)?;
-    let Ok(mut builder) = Builder::new(rt.alloc(), &checked, TypeId(0), 1024) else {
-        return Err("no builder")?;
-    };
-    'levels: for depth in 0..1024u16 {
-        assert_eq!(rt; builder.walk().depth(), depth);
-        assert_eq!(rt; builder.walk().next(), Next::Wants(Form::Arm));
-        assert_eq!(rt; builder.arm(1), Ok(()), "the arm at depth {depth}");
-    }
-    assert_eq!(rt; builder.walk().depth(), 1024);
-    assert_eq!(rt; builder.walk().next(), Next::Wants(Form::Arm));
+    let mut builder = begun(rt.alloc(), &checked, 0, 1024)?;
+    check_arms(&rt, &mut builder, 1024);
+    check_next(&rt, &builder, ARM, 1024, "the last arm");
     assert_eq!(rt; builder.arm(0), Ok(()));
-    assert_eq!(rt; builder.walk().next(), Next::Finished);
-    let Ok(value) = builder.finish() else {
-        return Err("no value")?;
-    };
-    assert_eq!(rt; value.node_count(), 1025);
+    check_next(&rt, &builder, Next::Finished, 0, "a whole chain");
+    let value = finished(builder)?;
+    check_counts(&rt, &value, 1025, 0);
     Ok(())
 }
