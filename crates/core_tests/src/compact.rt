@@ -3,6 +3,8 @@
 use scale_core::Reason::{CompactNotShortest, CompactTooLarge, Truncated};
 use scale_core::Target::{U8, U16, U32, U64, U128, Unit};
 use scale_core::{Fault, Reason, Target, compact_len, put_compact, read_compact, write_compact};
+use std::alloc::Global;
+use std::process::Abort;
 use std::test::Fail;
 
 /// Values and their bytes.
@@ -52,47 +54,66 @@ const REFUSED: [(&[u8], &[Target], Reason, u64); 13] = [
 
 #[test]
 fn accepted_vectors_are_read(rt: HostRuntime) {
-    for (value, bytes) in ACCEPTED {
+    'vectors: for (value, bytes) in ACCEPTED {
         let read = read_compact(bytes, U128);
         assert_eq!(rt; read, Ok((value, bytes.len())), "{value}");
     }
 }
 
+/// The value takes these bytes of an array, and the rest of it stays.
+fn check_put(rt: &impl Abort, value: u128, bytes: &[u8]) {
+    let mut array = [0xee; 17];
+    let len = put_compact(value, &mut array);
+    assert_eq!(rt; &array[..len], bytes, "putting {value}");
+    let rest_stays = array[len..].iter().all(|byte| *byte == 0xee);
+    assert!(rt; rest_stays, "behind {value}");
+}
+
 #[test]
-fn accepted_vectors_are_written(rt: HostRuntime) -> Result<(), Fail> {
-    for (value, bytes) in ACCEPTED {
+fn accepted_vectors_are_put(rt: HostRuntime) {
+    'vectors: for (value, bytes) in ACCEPTED {
         assert_eq!(rt; compact_len(value), bytes.len(), "the length of {value}");
-        let mut array = [0xee; 17];
-        let len = put_compact(value, &mut array);
-        assert_eq!(rt; &array[..len], bytes, "putting {value}");
-        let rest_stays = array[len..].iter().all(|byte| *byte == 0xee);
-        assert!(rt; rest_stays, "behind {value}");
-        let mut out = Vec::new(rt.alloc());
-        write_compact(&mut out, value)?;
-        write_compact(&mut out, value)?;
-        assert_eq!(rt; &out[..len], bytes, "writing {value}");
-        assert_eq!(rt; &out[len..], bytes, "writing {value} behind itself");
+        check_put(&rt, value, bytes);
     }
+}
+
+/// The value is written twice, the second time behind the first.
+fn check_written(rt: &impl Abort, alloc: Global, value: u128, bytes: &[u8]) -> Result<(), Fail> {
+    let mut out = Vec::new(alloc);
+    write_compact(&mut out, value)?;
+    assert_eq!(rt; out.as_slice(), bytes, "writing {value}");
+    let len = out.len();
+    write_compact(&mut out, value)?;
+    assert_eq!(rt; &out[len..], bytes, "writing {value} behind itself");
     Ok(())
 }
 
 #[test]
+fn accepted_vectors_are_written(rt: HostRuntime) -> Result<(), Fail> {
+    'vectors: for (value, bytes) in ACCEPTED {
+        check_written(&rt, rt.alloc(), value, bytes)?;
+    }
+    Ok(())
+}
+
+/// Each of these targets refuses the bytes so.
+fn check_refused(rt: &impl Abort, bytes: &[u8], targets: &[Target], fault: Fault) {
+    'targets: for target in targets {
+        let told = read_compact(bytes, *target);
+        assert_eq!(rt; told, Err(fault), "{bytes:?} as {target:?}");
+    }
+}
+
+#[test]
 fn refused_vectors_are_told(rt: HostRuntime) {
-    for (bytes, targets, reason, at) in REFUSED {
-        for target in targets {
-            let refusal = Err(Fault { reason, at });
-            assert_eq!(rt;
-                read_compact(bytes, *target),
-                refusal,
-                "{bytes:?} as {target:?}"
-            );
-        }
+    'vectors: for (bytes, targets, reason, at) in REFUSED {
+        check_refused(&rt, bytes, targets, Fault { reason, at });
     }
 }
 
 #[test]
 fn unit_takes_nothing(rt: HostRuntime) {
-    for bytes in [b"".as_slice(), b"\x37".as_slice(), b"\x01\x00".as_slice()] {
+    'vectors: for bytes in [b"".as_slice(), b"\x37".as_slice(), b"\x01\x00".as_slice()] {
         assert_eq!(rt; read_compact(bytes, Unit), Ok((0, 0)), "{bytes:?}");
     }
 }
@@ -104,7 +125,7 @@ fn each_target_takes_its_greatest_value(rt: HostRuntime) {
         (U16, 65535, b"\xfe\xff\x03\x00".as_slice()),
         (U32, 4294967295, b"\x03\xff\xff\xff\xff".as_slice()),
     ];
-    for (target, value, bytes) in vectors {
+    'vectors: for (target, value, bytes) in vectors {
         let read = read_compact(bytes, target);
         assert_eq!(rt; read, Ok((value, bytes.len())), "{target:?}");
     }
@@ -119,11 +140,15 @@ fn each_target_tells_its_bytes_and_what_it_holds(rt: HostRuntime) {
         (U32, 4, 4294967295),
         (U64, 8, 18446744073709551615),
     ];
-    for (target, bytes, greatest) in rows {
+    'rows: for (target, bytes, greatest) in rows {
         assert_eq!(rt; target.bytes(), bytes, "{target:?}");
         assert!(rt; target.holds(greatest), "{target:?}");
         assert!(rt; !target.holds(greatest + 1), "{target:?}");
     }
+}
+
+#[test]
+fn the_widest_target_holds_each_number(rt: HostRuntime) {
     assert_eq!(rt; U128.bytes(), 16);
     assert!(rt; U128.holds(u128::MAX));
 }

@@ -9,7 +9,7 @@ use scale_core::{
 use std::test::Fail;
 
 #[test]
-fn unsigned_integers_are_read_and_written(rt: HostRuntime) -> Result<(), Fail> {
+fn unsigned_integers_are_written(rt: HostRuntime) -> Result<(), Fail> {
     let mut out = Vec::new(rt.alloc());
     write_u8(&mut out, 69)?;
     write_u16(&mut out, 42)?;
@@ -20,22 +20,26 @@ fn unsigned_integers_are_read_and_written(rt: HostRuntime) -> Result<(), Fail> {
         out.as_slice(),
         b"\x45\x2a\x00\xff\xff\xff\x00\xef\xcd\xab\x89\x67\x45\x23\x01\x00\x00\x00\x00\x00\x00\x00\x00\x00\x00\x00\x00\x00\x00\x00\x01".as_slice()
     );
-    assert_eq!(rt; read_u8(b"\x45\xff"), Ok((69, 1)));
-    assert_eq!(rt; read_u16(b"\x2a\x00"), Ok((42, 2)));
-    assert_eq!(rt; read_u32(b"\xff\xff\xff\x00"), Ok((16777215, 4)));
-    assert_eq!(rt;
-        read_u64(b"\xef\xcd\xab\x89\x67\x45\x23\x01"),
-        Ok((0x0123_4567_89ab_cdef, 8))
-    );
-    assert_eq!(rt;
-        read_u128(b"\x00\x00\x00\x00\x00\x00\x00\x00\x00\x00\x00\x00\x00\x00\x00\x01"),
-        Ok((1 << 120, 16))
-    );
     Ok(())
 }
 
 #[test]
-fn signed_integers_are_read_and_written(rt: HostRuntime) -> Result<(), Fail> {
+fn unsigned_integers_are_read(rt: HostRuntime) {
+    assert_eq!(rt; read_u8(b"\x45\xff"), Ok((69, 1)));
+    assert_eq!(rt; read_u16(b"\x2a\x00"), Ok((42, 2)));
+    assert_eq!(rt; read_u32(b"\xff\xff\xff\x00"), Ok((16777215, 4)));
+}
+
+#[test]
+fn long_unsigned_integers_are_read(rt: HostRuntime) {
+    let eight_bytes = b"\xef\xcd\xab\x89\x67\x45\x23\x01";
+    assert_eq!(rt; read_u64(eight_bytes), Ok((0x0123_4567_89ab_cdef, 8)));
+    let sixteen_bytes = b"\x00\x00\x00\x00\x00\x00\x00\x00\x00\x00\x00\x00\x00\x00\x00\x01";
+    assert_eq!(rt; read_u128(sixteen_bytes), Ok((1 << 120, 16)));
+}
+
+#[test]
+fn signed_integers_are_written(rt: HostRuntime) -> Result<(), Fail> {
     let mut out = Vec::new(rt.alloc());
     write_i8(&mut out, -1)?;
     write_i16(&mut out, -2)?;
@@ -46,59 +50,78 @@ fn signed_integers_are_read_and_written(rt: HostRuntime) -> Result<(), Fail> {
         out.as_slice(),
         b"\xff\xfe\xff\x00\x00\xff\xff\x00\x00\x00\x00\x00\x00\x00\x80\xff\xff\xff\xff\xff\xff\xff\xff\xff\xff\xff\xff\xff\xff\xff\xff".as_slice()
     );
+    Ok(())
+}
+
+#[test]
+fn signed_integers_are_read(rt: HostRuntime) {
     assert_eq!(rt; read_i8(b"\xff"), Ok((-1, 1)));
     assert_eq!(rt; read_i16(b"\xfe\xff"), Ok((-2, 2)));
     assert_eq!(rt; read_i32(b"\x00\x00\xff\xff"), Ok((-65536, 4)));
-    assert_eq!(rt;
-        read_i64(b"\x00\x00\x00\x00\x00\x00\x00\x80"),
-        Ok((i64::MIN, 8))
-    );
-    assert_eq!(rt; read_i128(&[0xff; 16]), Ok((-1, 16)));
-    Ok(())
 }
 
 #[test]
-fn wide_integers_are_read_and_written_as_they_stand(rt: HostRuntime) -> Result<(), Fail> {
+fn long_signed_integers_are_read(rt: HostRuntime) {
+    let eight_bytes = b"\x00\x00\x00\x00\x00\x00\x00\x80";
+    assert_eq!(rt; read_i64(eight_bytes), Ok((i64::MIN, 8)));
+    assert_eq!(rt; read_i128(&[0xff; 16]), Ok((-1, 16)));
+}
+
+/// An integer of 32 bytes, of which the first and the last are not 0.
+fn wide() -> [u8; 32] {
     let mut wide = [0; 32];
     wide[0] = 1;
     wide[31] = 0x80;
+    wide
+}
+
+#[test]
+fn wide_integers_are_written_as_they_stand(rt: HostRuntime) -> Result<(), Fail> {
+    let wide = wide();
     let mut out = Vec::new(rt.alloc());
     write_wide(&mut out, &wide)?;
     assert_eq!(rt; out.as_slice(), wide.as_slice());
-    assert_eq!(rt; read_wide(&wide), Ok((wide, 32)));
-    assert_eq!(rt;
-        read_wide(&wide[..31]),
-        Err(Fault {
-            reason: Reason::Truncated,
-            at: 31
-        })
-    );
     Ok(())
 }
 
 #[test]
-fn booleans_and_characters_are_read_and_written(rt: HostRuntime) -> Result<(), Fail> {
+fn wide_integers_are_read_as_they_stand(rt: HostRuntime) {
+    let wide = wide();
+    assert_eq!(rt; read_wide(&wide), Ok((wide, 32)));
+    let cut = Fault {
+        reason: Reason::Truncated,
+        at: 31,
+    };
+    assert_eq!(rt; read_wide(&wide[..31]), Err(cut));
+}
+
+#[test]
+fn booleans_and_characters_are_written(rt: HostRuntime) -> Result<(), Fail> {
     let mut out = Vec::new(rt.alloc());
     write_bool(&mut out, false)?;
     write_bool(&mut out, true)?;
     write_char(&mut out, '\u{e9}')?;
     assert_eq!(rt; out.as_slice(), b"\x00\x01\xe9\x00\x00\x00".as_slice());
+    Ok(())
+}
+
+#[test]
+fn booleans_are_read(rt: HostRuntime) {
     assert_eq!(rt; read_bool(b"\x00"), Ok((false, 1)));
     assert_eq!(rt; read_bool(b"\x01"), Ok((true, 1)));
-    assert_eq!(rt;
-        read_bool(b"\x02"),
-        Err(Fault {
-            reason: Reason::BadBool,
-            at: 0
-        })
-    );
+    let bad = Fault {
+        reason: Reason::BadBool,
+        at: 0,
+    };
+    assert_eq!(rt; read_bool(b"\x02"), Err(bad));
+}
+
+#[test]
+fn characters_are_read(rt: HostRuntime) {
     assert_eq!(rt; read_char(b"\xe9\x00\x00\x00"), Ok(('\u{e9}', 4)));
-    assert_eq!(rt;
-        read_char(b"\x00\xd8\x00\x00"),
-        Err(Fault {
-            reason: Reason::BadChar,
-            at: 0
-        })
-    );
-    Ok(())
+    let bad = Fault {
+        reason: Reason::BadChar,
+        at: 0,
+    };
+    assert_eq!(rt; read_char(b"\x00\xd8\x00\x00"), Err(bad));
 }

@@ -1,35 +1,47 @@
 //! Registries that are large: where memory is granted they are read, checked and written back, and none is refused for want of it.
 
-use registry_core::{TypeId, Version, read_metadata, read_registry, write_registry};
+use registry_core::{Registry, TypeId, Version, read_metadata, read_registry, write_registry};
 use scale_core::write_compact;
 use std::alloc::{AllocError, Global};
 use std::process::Abort;
 use std::test::Fail;
 use widths_core::{CheckFault, Checked, Class};
 
-/// The registry is read whole, also as metadata, checked, and written back: so many types, all of which take bytes.
-fn check_registry(rt: &impl Abort, alloc: Global, bytes: &[u8], types: u32) -> Result<(), Fail> {
+/// The registry is read whole and written back: so many types.
+fn read_whole(rt: &impl Abort, alloc: Global, bytes: &[u8], types: u32) -> Result<Registry, Fail> {
     let (registry, count) = read_registry(alloc, bytes)?;
-    assert_eq!(rt;
-        (registry.types().len(), count),
-        (types as usize, bytes.len())
-    );
+    let told = (registry.types().len(), count);
+    assert_eq!(rt; told, (types as usize, bytes.len()));
     let back = write_registry(alloc, &registry)?;
     assert!(rt; back.as_slice() == bytes, "{types} types written back");
+    Ok(registry)
+}
+
+/// The registry is checked, and the last of its types takes bytes.
+fn check_last(rt: &impl Abort, alloc: Global, registry: Registry, last: u32) -> Result<(), Fail> {
     let Ok(checked) = Checked::new(alloc, registry) else {
         return Err("no checked registry")?;
     };
-    let last = TypeId(types.saturating_sub(1));
-    assert_eq!(rt; checked.class(last), Some(Class::Sized));
+    assert_eq!(rt; checked.class(TypeId(last)), Some(Class::Sized));
     assert_eq!(rt; checked.widest(), 0);
+    Ok(())
+}
+
+/// The registry is read whole as metadata.
+fn check_metadata(rt: &impl Abort, alloc: Global, bytes: &[u8], types: u32) -> Result<(), Fail> {
     let mut metadata = Vec::from_slice(alloc, b"\x6d\x65\x74\x61\x0f")?;
     metadata.extend_from_slice(bytes)?;
     let (registry, count, version) = read_metadata(alloc, &metadata)?;
-    assert_eq!(rt;
-        (registry.types().len(), count, version),
-        (types as usize, metadata.len(), Version::V15)
-    );
+    let told = (registry.types().len(), count, version);
+    assert_eq!(rt; told, (types as usize, metadata.len(), Version::V15));
     Ok(())
+}
+
+/// The registry is read whole, also as metadata, checked, and written back: so many types, all of which take bytes.
+fn check_registry(rt: &impl Abort, alloc: Global, bytes: &[u8], types: u32) -> Result<(), Fail> {
+    let registry = read_whole(rt, alloc, bytes, types)?;
+    check_last(rt, alloc, registry, types.saturating_sub(1))?;
+    check_metadata(rt, alloc, bytes, types)
 }
 
 // The documentation of one type is a text of 70,000 letters.
@@ -61,17 +73,21 @@ fn many_types_are_read(rt: HostRuntime) -> Result<(), Fail> {
     check_registry(&rt, rt.alloc(), &bytes, 65_537)
 }
 
-// The last of 65,537 types refers to the greatest id that there is.
-#[test]
-fn an_unknown_reference_of_the_last_type_is_told(rt: HostRuntime) -> Result<(), Fail> {
-    let mut bytes = Vec::new(rt.alloc());
-    let front = many_types(rt.alloc(), 65_536)?;
+/// 65,537 types, of which the last is a sequence of the greatest id that there is.
+fn with_unknown_reference(alloc: Global) -> Result<Vec<u8>, Fail> {
+    let front = many_types(alloc, 65_536)?;
+    let mut bytes = Vec::new(alloc);
     write_compact(&mut bytes, 65_537)?;
     bytes.extend_from_slice(front.as_slice().get(4..).ok_or("no types")?)?;
     write_compact(&mut bytes, 65_536)?;
     bytes.extend_from_slice(&[0, 0, 2, 3, 0xff, 0xff, 0xff, 0xff, 0])?;
-    let (registry, count) = read_registry(rt.alloc(), &bytes)?;
-    assert_eq!(rt; (registry.types().len(), count), (65_537, bytes.len()));
+    Ok(bytes)
+}
+
+#[test]
+fn an_unknown_reference_of_the_last_type_is_told(rt: HostRuntime) -> Result<(), Fail> {
+    let bytes = with_unknown_reference(rt.alloc())?;
+    let registry = read_whole(&rt, rt.alloc(), &bytes, 65_537)?;
     let Err((fault, registry)) = Checked::new(rt.alloc(), registry) else {
         return Err("a reference to no type")?;
     };

@@ -18,6 +18,8 @@ mod memory;
 #[cfg(test)]
 mod registries;
 #[cfg(test)]
+mod steps;
+#[cfg(test)]
 mod texts;
 #[cfg(test)]
 mod widths;

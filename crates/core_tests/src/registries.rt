@@ -1,8 +1,8 @@
 //! Registries: rows that are read and written back, cut at each byte, and rows that are refused.
 
 use registry_core::{
-    Arm, Field, Items, Registry, RegistryFault, RegistryReason, Text, TypeDef, TypeId, Version,
-    read_metadata, read_registry, write_registry,
+    Arm, Field, Items, Registry, RegistryFault, RegistryReason, Text, TypeDef, TypeId, TypeInfo,
+    Version, read_metadata, read_registry, write_registry,
 };
 use std::alloc::{AllocError, Global};
 use std::process::Abort;
@@ -72,7 +72,7 @@ const OPTION: &[u8] =
 /// A unit, and 40 tuples, each of the tuple before it twice.
 fn nested_pairs(alloc: Global) -> Result<Vec<u8>, AllocError> {
     let mut bytes = Vec::from_slice(alloc, b"\xa4\x00\x00\x00\x04\x00\x00")?;
-    for before in 0..40u8 {
+    'pairs: for before in 0..40u8 {
         let (id, member) = (4 * (before + 1), 4 * before);
         bytes.extend_from_slice(&[id, 0, 0, 4, 8, member, member, 0])?;
     }
@@ -84,31 +84,38 @@ fn refusal(alloc: Global, bytes: &[u8]) -> Option<RegistryFault> {
     read_registry(alloc, bytes).err()
 }
 
+/// The bytes are refused where they are cut, at each of their places.
+fn check_cuts(rt: &impl Abort, alloc: Global, name: &str, bytes: &[u8]) {
+    'cuts: for end in 0..bytes.len() {
+        let cut = RegistryFault {
+            reason: RegistryReason::Truncated,
+            at: end as u64,
+        };
+        let told = refusal(alloc, &bytes[..end]);
+        assert_eq!(rt; told, Some(cut), "{name}, cut at {end}");
+    }
+}
+
 /// Reads the bytes whole, writes them back, and cuts them at each byte.
 fn check_row(rt: &impl Abort, alloc: Global, name: &str, bytes: &[u8]) -> Result<(), Fail> {
     let (registry, count) = read_registry(alloc, bytes)?;
     assert_eq!(rt; count, bytes.len(), "reading {name}");
     let written = write_registry(alloc, &registry)?;
     assert_eq!(rt; written.as_slice(), bytes, "writing {name}");
-    for end in 0..bytes.len() {
-        let cut = RegistryFault {
-            reason: RegistryReason::Truncated,
-            at: end as u64,
-        };
-        assert_eq!(rt;
-            refusal(alloc, &bytes[..end]),
-            Some(cut),
-            "{name}, cut at {end}"
-        );
-    }
+    check_cuts(rt, alloc, name, bytes);
     Ok(())
 }
 
 #[test]
 fn registries_are_read_and_written_back(rt: HostRuntime) -> Result<(), Fail> {
-    for (name, bytes) in ROWS {
+    'rows: for (name, bytes) in ROWS {
         check_row(&rt, rt.alloc(), name, bytes)?;
     }
+    Ok(())
+}
+
+#[test]
+fn nested_pairs_are_read_and_written_back(rt: HostRuntime) -> Result<(), Fail> {
     let bytes = nested_pairs(rt.alloc())?;
     assert_eq!(rt; bytes.len(), 327);
     check_row(&rt, rt.alloc(), "nested pairs", &bytes)
@@ -122,14 +129,19 @@ fn what_follows_a_registry_is_left(rt: HostRuntime) -> Result<(), Fail> {
     Ok(())
 }
 
-/// The arms of the second type of the registry.
-fn arms_of(registry: &Registry) -> Result<&[Arm], &'static str> {
+/// The second of the registry's two types.
+fn second_of(registry: &Registry) -> Result<&TypeInfo, &'static str> {
     match registry.types() {
-        [_, info] => match &info.shape {
-            TypeDef::Variant(arms) => Ok(arms.as_slice()),
-            _ => Err("the type is not a variant"),
-        },
+        [_, info] => Ok(info),
         _ => Err("there are not two types"),
+    }
+}
+
+/// The arms of the type.
+fn arms_of(info: &TypeInfo) -> Result<&[Arm], &'static str> {
+    match &info.shape {
+        TypeDef::Variant(arms) => Ok(arms.as_slice()),
+        _ => Err("the type is not a variant"),
     }
 }
 
@@ -142,47 +154,58 @@ fn only<T>(items: &Items<T>) -> Result<&T, &'static str> {
 }
 
 #[test]
-fn the_parts_of_a_type_are_seen(rt: HostRuntime) -> Result<(), Fail> {
+fn the_path_and_the_parameters_of_a_type_are_seen(rt: HostRuntime) -> Result<(), Fail> {
     let (registry, _) = read_registry(rt.alloc(), OPTION)?;
-    let [_, info] = registry.types() else {
-        return Err(Fail::from("there are not two types"));
-    };
+    let info = second_of(&registry)?;
     assert_eq!(rt; only(&info.path)?.as_str(), "Option");
     let param = only(&info.params)?;
-    assert_eq!(rt; param.name.as_str(), "T");
-    assert_eq!(rt; param.ty, Some(TypeId(0)));
+    assert_eq!(rt; (param.name.as_str(), param.ty), ("T", Some(TypeId(0))));
     assert_eq!(rt; info.docs.is_empty(), true);
-    let [none, some] = arms_of(&registry)? else {
+    Ok(())
+}
+
+/// The arm has this name, this index and so many fields.
+fn check_arm(rt: &impl Abort, arm: &Arm, name: &str, index: u8, fields: usize) {
+    assert_eq!(rt; arm.name.as_str(), name);
+    assert_eq!(rt; (arm.index, arm.fields.len()), (index, fields));
+}
+
+#[test]
+fn the_arms_of_a_type_are_seen(rt: HostRuntime) -> Result<(), Fail> {
+    let (registry, _) = read_registry(rt.alloc(), OPTION)?;
+    let [none, some] = arms_of(second_of(&registry)?)? else {
         return Err(Fail::from("there are not two arms"));
     };
-    assert_eq!(rt;
-        (none.name.as_str(), none.index, none.fields.len()),
-        ("None", 0, 0)
-    );
-    assert_eq!(rt;
-        (some.name.as_str(), some.index, some.fields.len()),
-        ("Some", 1, 1)
-    );
+    check_arm(&rt, none, "None", 0, 0);
+    check_arm(&rt, some, "Some", 1, 1);
+    Ok(())
+}
+
+#[test]
+fn the_field_of_an_arm_is_seen(rt: HostRuntime) -> Result<(), Fail> {
+    let (registry, _) = read_registry(rt.alloc(), OPTION)?;
+    let [_, some] = arms_of(second_of(&registry)?)? else {
+        return Err(Fail::from("there are not two arms"));
+    };
     let field: &Field = only(&some.fields)?;
-    assert_eq!(rt; field.name.is_none(), true);
-    assert_eq!(rt; field.ty, TypeId(0));
-    let type_name = field
-        .type_name
-        .as_ref()
-        .ok_or("the field has no type name")?;
+    assert_eq!(rt; (field.name.is_none(), field.ty), (true, TypeId(0)));
+    let type_name = field.type_name.as_ref().ok_or("no type name")?;
     let printed = format!(in rt.alloc(); "{type_name}")?;
     assert_eq!(rt; printed.as_str(), "T");
     Ok(())
 }
 
 #[test]
-fn texts_and_lists_keep_what_they_were_made_of(rt: HostRuntime) -> Result<(), Fail> {
+fn texts_keep_what_they_were_made_of(rt: HostRuntime) -> Result<(), Fail> {
     let text = Text::from_string(String::from_str(rt.alloc(), "caf\u{e9}")?);
-    assert_eq!(rt;
-        (text.as_str(), text.len(), text.is_empty()),
-        ("caf\u{e9}", 5, false)
-    );
+    let told = (text.as_str(), text.len(), text.is_empty());
+    assert_eq!(rt; told, ("caf\u{e9}", 5, false));
     assert_eq!(rt; text.into_string().as_str(), "caf\u{e9}");
+    Ok(())
+}
+
+#[test]
+fn lists_keep_what_they_were_made_of(rt: HostRuntime) -> Result<(), Fail> {
     let items = Items::from_vec([3, 1, 2].to_vec(rt.alloc())?);
     assert_eq!(rt; (items.len(), items.is_empty()), (3, false));
     assert_eq!(rt; items.iter().copied().max(), Some(3));
@@ -242,37 +265,38 @@ fn refused_registries_are_told(rt: HostRuntime) {
         ),
         (b"\x04\x04".as_slice(), RegistryReason::IdOutOfPlace, 1),
     ];
-    for (bytes, reason, at) in rows {
+    'rows: for (bytes, reason, at) in rows {
         let fault = RegistryFault { reason, at };
         assert_eq!(rt; refusal(rt.alloc(), bytes), Some(fault), "{bytes:?}");
     }
 }
 
-#[test]
-fn metadata_is_read_behind_its_prefix(rt: HostRuntime) -> Result<(), Fail> {
-    let rows = [
-        (
-            b"\x6d\x65\x74\x61\x0e\x04\x00\x00\x00\x05\x03\x00\xff\xff".as_slice(),
-            Version::V14,
-            14,
-        ),
-        (
-            b"\x6d\x65\x74\x61\x0f\x04\x00\x00\x00\x05\x03\x00\xff".as_slice(),
-            Version::V15,
-            15,
-        ),
-    ];
-    for (bytes, version, number) in rows {
-        let (registry, count, told) = read_metadata(rt.alloc(), bytes)?;
-        assert_eq!(rt; (count, told), (12, version));
-        assert_eq!(rt; told.number(), number);
-        let written = write_registry(rt.alloc(), &registry)?;
-        assert_eq!(rt;
-            written.as_slice(),
-            b"\x04\x00\x00\x00\x05\x03\x00".as_slice()
-        );
-    }
+/// Metadata of this version, of this number, holds one u8 behind its prefix, and what follows is left.
+fn check_metadata(
+    rt: &impl Abort,
+    alloc: Global,
+    bytes: &[u8],
+    version: Version,
+    number: u8,
+) -> Result<(), Fail> {
+    let (registry, count, told) = read_metadata(alloc, bytes)?;
+    assert_eq!(rt; (count, told, told.number()), (12, version, number));
+    let written = write_registry(alloc, &registry)?;
+    let u8_alone = b"\x04\x00\x00\x00\x05\x03\x00".as_slice();
+    assert_eq!(rt; written.as_slice(), u8_alone);
     Ok(())
+}
+
+#[test]
+fn metadata_of_version_14_is_read_behind_its_prefix(rt: HostRuntime) -> Result<(), Fail> {
+    let bytes = b"\x6d\x65\x74\x61\x0e\x04\x00\x00\x00\x05\x03\x00\xff\xff";
+    check_metadata(&rt, rt.alloc(), bytes, Version::V14, 14)
+}
+
+#[test]
+fn metadata_of_version_15_is_read_behind_its_prefix(rt: HostRuntime) -> Result<(), Fail> {
+    let bytes = b"\x6d\x65\x74\x61\x0f\x04\x00\x00\x00\x05\x03\x00\xff";
+    check_metadata(&rt, rt.alloc(), bytes, Version::V15, 15)
 }
 
 #[test]
@@ -330,7 +354,7 @@ fn refused_metadata_is_told(rt: HostRuntime) {
             6,
         ),
     ];
-    for (bytes, reason, at) in rows {
+    'rows: for (bytes, reason, at) in rows {
         let fault = RegistryFault { reason, at };
         assert_eq!(rt;
             read_metadata(rt.alloc(), bytes).err(),
@@ -358,7 +382,7 @@ fn a_registry_fault_is_printed_as_its_reason_and_place(rt: HostRuntime) -> Resul
         (RegistryReason::WrongVersion, "WrongVersion at 7"),
         (RegistryReason::OutOfMemory, "OutOfMemory at 7"),
     ];
-    for (reason, line) in lines {
+    'lines: for (reason, line) in lines {
         let fault = RegistryFault { reason, at: 7 };
         let printed = format!(in rt.alloc(); "{fault}")?;
         assert_eq!(rt; printed.as_str(), line);

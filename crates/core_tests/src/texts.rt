@@ -3,15 +3,23 @@
 use scale_core::{Fault, Reason, read_text, write_text};
 use std::test::Fail;
 
+/// Texts and their bytes.
+const ACCEPTED: [(&str, &[u8]); 3] = [
+    ("", b"\x00"),
+    ("a", b"\x04a"),
+    ("\u{e9}\u{e9}", b"\x10\xc3\xa9\xc3\xa9"),
+];
+
 #[test]
-fn texts_are_read_and_written(rt: HostRuntime) -> Result<(), Fail> {
-    let vectors = [
-        ("", b"\x00".as_slice()),
-        ("a", b"\x04a".as_slice()),
-        ("\u{e9}\u{e9}", b"\x10\xc3\xa9\xc3\xa9".as_slice()),
-    ];
-    for (text, bytes) in vectors {
+fn texts_are_read(rt: HostRuntime) {
+    'vectors: for (text, bytes) in ACCEPTED {
         assert_eq!(rt; read_text(bytes), Ok((text, bytes.len())), "reading {text}");
+    }
+}
+
+#[test]
+fn texts_are_written(rt: HostRuntime) -> Result<(), Fail> {
+    'vectors: for (text, bytes) in ACCEPTED {
         let mut out = Vec::new(rt.alloc());
         write_text(&mut out, text)?;
         assert_eq!(rt; out.as_slice(), bytes, "writing {text}");
@@ -34,7 +42,7 @@ fn refused_texts_are_told(rt: HostRuntime) {
         (b"\x01\x00".as_slice(), Reason::CompactNotShortest, 0),
         (b"\x07".as_slice(), Reason::CompactTooLarge, 0),
     ];
-    for (bytes, reason, at) in vectors {
+    'vectors: for (bytes, reason, at) in vectors {
         assert_eq!(rt; read_text(bytes), Err(Fault { reason, at }), "{bytes:?}");
     }
 }
@@ -54,7 +62,7 @@ fn a_fault_is_printed_as_its_reason_and_place(rt: HostRuntime) -> Result<(), Fai
             "Truncated at 18446744073709551615",
         ),
     ];
-    for (reason, at, line) in lines {
+    'lines: for (reason, at, line) in lines {
         let fault = Fault { reason, at };
         let printed = format!(in rt.alloc(); "{fault}")?;
         assert_eq!(rt; printed.as_str(), line);

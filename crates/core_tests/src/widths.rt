@@ -1,11 +1,12 @@
-//! What checked registries say of their types: classes, targets of compacts, arms, widths, steps and members.
+//! What checked registries say of their types: classes, targets of compacts, arms and widths.
 
-use registry_core::{Primitive, TypeId, read_registry, write_registry};
+use registry_core::{Registry, TypeId, read_registry, write_registry};
 use scale_core::{Target, write_compact};
-use std::alloc::Global;
+use scale_tests::building::checked;
+use std::alloc::{AllocError, Global};
 use std::process::Abort;
 use std::test::Fail;
-use widths_core::{ArmStep, CheckFault, Checked, Class, Step};
+use widths_core::{ArmStep, CheckFault, Checked, Class};
 
 /// A registry, the class and the compact's target of each of its types, and how wide its widest type is.
 #[derive(Clone, Copy)]
@@ -187,72 +188,91 @@ const REFUSED: [Refused; 5] = [
     },
 ];
 
-/// The registry of these bytes, checked.
-fn checked(alloc: Global, bytes: &[u8]) -> Result<Checked, Fail> {
-    let (registry, _) = read_registry(alloc, bytes)?;
-    match Checked::new(alloc, registry) {
-        Ok(checked) => Ok(checked),
-        Err((fault, _)) => Err(fault)?,
-    }
-}
-
-/// The row's registry is accepted, is as it says, and is kept as it was.
-fn check_row(rt: &(impl Abort + AllocGlobal), row: &Row) -> Result<(), Fail> {
-    let name = row.name;
-    let registry = checked(rt.alloc(), row.registry)?;
+/// The types of the registry have these classes, and there is none behind them.
+fn check_classes(rt: &impl Abort, registry: &Checked, classes: &[Class], name: &str) {
     let mut id = 0u32;
-    for class in row.classes {
-        assert_eq!(rt;
-            registry.class(TypeId(id)),
-            Some(*class),
-            "class {id} of {name}"
-        );
+    'classes: for class in classes {
+        let told = registry.class(TypeId(id));
+        assert_eq!(rt; told, Some(*class), "class {id} of {name}");
         id = id.saturating_add(1);
     }
     assert_eq!(rt; registry.class(TypeId(id)), None, "class behind {name}");
+}
+
+/// The types of the registry have these targets, and there is none behind them.
+fn check_targets(rt: &impl Abort, registry: &Checked, targets: &[Option<Target>], name: &str) {
     let mut id = 0u32;
-    for target in row.targets {
-        assert_eq!(rt;
-            registry.compact_target(TypeId(id)),
-            *target,
-            "target {id} of {name}"
-        );
+    'targets: for target in targets {
+        let told = registry.compact_target(TypeId(id));
+        assert_eq!(rt; told, *target, "target {id} of {name}");
         id = id.saturating_add(1);
     }
-    assert_eq!(rt;
-        registry.compact_target(TypeId(id)),
-        None,
-        "target behind {name}"
-    );
-    assert_eq!(rt; registry.widest(), row.widest, "the width of {name}");
-    let bytes = write_registry(rt.alloc(), registry.registry())?;
-    assert_eq!(rt; bytes.as_slice(), row.registry, "the bytes of {name}");
+    let behind = registry.compact_target(TypeId(id));
+    assert_eq!(rt; behind, None, "target behind {name}");
+}
+
+/// The registry is spelled so.
+fn check_spelling(
+    rt: &impl Abort,
+    alloc: Global,
+    registry: &Registry,
+    spelled: &[u8],
+    name: &str,
+) -> Result<(), Fail> {
+    let bytes = write_registry(alloc, registry)?;
+    assert_eq!(rt; bytes.as_slice(), spelled, "the bytes of {name}");
     Ok(())
+}
+
+/// The row's registry is accepted, is as it says, and is kept as it was.
+fn check_row(rt: &impl Abort, alloc: Global, row: &Row) -> Result<(), Fail> {
+    let name = row.name;
+    let registry = checked(alloc, row.registry)?;
+    check_classes(rt, &registry, row.classes, name);
+    check_targets(rt, &registry, row.targets, name);
+    assert_eq!(rt; registry.widest(), row.widest, "the width of {name}");
+    check_spelling(rt, alloc, registry.registry(), row.registry, name)
 }
 
 #[test]
 fn types_have_their_classes_and_targets(rt: HostRuntime) -> Result<(), Fail> {
-    for row in &ROWS {
-        check_row(&rt, row)?;
+    'rows: for row in &ROWS {
+        check_row(&rt, rt.alloc(), row)?;
     }
     Ok(())
 }
 
+/// The registry of the row is refused for its first unknown reference, and handed back.
+fn hand_back(
+    rt: &impl Abort,
+    alloc: Global,
+    registry: Registry,
+    row: Refused,
+) -> Result<Registry, Fail> {
+    let Err((fault, registry)) = Checked::new(alloc, registry) else {
+        return Err(row.name)?;
+    };
+    let unknown = CheckFault::UnknownType {
+        from: TypeId(row.from),
+        to: TypeId(row.to),
+    };
+    assert_eq!(rt; fault, unknown, "the fault of {}", row.name);
+    Ok(registry)
+}
+
+/// What is handed back is the whole registry: it has the same spelling, and is refused again for the same reason.
+fn check_refused(rt: &impl Abort, alloc: Global, row: Refused) -> Result<(), Fail> {
+    let (registry, _) = read_registry(alloc, row.registry)?;
+    let registry = hand_back(rt, alloc, registry, row)?;
+    check_spelling(rt, alloc, &registry, row.registry, row.name)?;
+    let registry = hand_back(rt, alloc, registry, row)?;
+    check_spelling(rt, alloc, &registry, row.registry, row.name)
+}
+
 #[test]
 fn the_first_unknown_reference_is_told(rt: HostRuntime) -> Result<(), Fail> {
-    for row in &REFUSED {
-        let name = row.name;
-        let (registry, _) = read_registry(rt.alloc(), row.registry)?;
-        let Err((fault, registry)) = Checked::new(rt.alloc(), registry) else {
-            return Err(name)?;
-        };
-        let unknown = CheckFault::UnknownType {
-            from: TypeId(row.from),
-            to: TypeId(row.to),
-        };
-        assert_eq!(rt; fault, unknown, "the fault of {name}");
-        let bytes = write_registry(rt.alloc(), &registry)?;
-        assert_eq!(rt; bytes.as_slice(), row.registry, "the bytes of {name}");
+    'rows: for row in REFUSED {
+        check_refused(&rt, rt.alloc(), row)?;
     }
     Ok(())
 }
@@ -267,23 +287,29 @@ fn a_parameter_may_name_no_type(rt: HostRuntime) -> Result<(), Fail> {
     Ok(())
 }
 
+/// An index of a type leads to this arm, by its position and its name.
+fn check_arm(rt: &impl Abort, registry: &Checked, id: u32, index: u8, arm: Option<(u32, &str)>) {
+    let found = registry.arm(TypeId(id), index);
+    let named = found.map(|(position, arm)| (position, arm.name.as_str()));
+    assert_eq!(rt; named, arm, "index {index} of type {id}");
+}
+
 #[test]
 fn the_first_arm_of_an_index_is_found(rt: HostRuntime) -> Result<(), Fail> {
-    let rows = [
-        (SHADOWED_ARM, 1, 3, Some((0, "A"))),
-        (SHADOWED_ARM, 1, 4, None),
-        (SHADOWED_ARM, 0, 3, None),
-        (SHADOWED_ARM, 2, 3, None),
-        (OPTION, 1, 0, Some((0, "None"))),
-        (OPTION, 1, 1, Some((1, "Some"))),
-        (OPTION, 1, 2, None),
-    ];
-    for (bytes, id, index, arm) in rows {
-        let registry = checked(rt.alloc(), bytes)?;
-        let found = registry.arm(TypeId(id), index);
-        let named = found.map(|(position, arm)| (position, arm.name.as_str()));
-        assert_eq!(rt; named, arm, "index {index} of type {id}");
-    }
+    let shadowed = checked(rt.alloc(), SHADOWED_ARM)?;
+    check_arm(&rt, &shadowed, 1, 3, Some((0, "A")));
+    check_arm(&rt, &shadowed, 1, 4, None);
+    check_arm(&rt, &shadowed, 0, 3, None);
+    check_arm(&rt, &shadowed, 2, 3, None);
+    Ok(())
+}
+
+#[test]
+fn each_arm_is_found_by_its_index(rt: HostRuntime) -> Result<(), Fail> {
+    let option = checked(rt.alloc(), OPTION)?;
+    check_arm(&rt, &option, 1, 0, Some((0, "None")));
+    check_arm(&rt, &option, 1, 1, Some((1, "Some")));
+    check_arm(&rt, &option, 1, 2, None);
     Ok(())
 }
 
@@ -334,41 +360,58 @@ const ARMS_OF_GAPS: [(u8, &str, ArmStep); 4] = [
 #[test]
 fn arms_are_found_between_gaps(rt: HostRuntime) -> Result<(), Fail> {
     let registry = checked(rt.alloc(), GAPS)?;
-    for index in 0..=255u8 {
+    'indexes: for index in 0..=255u8 {
+        let arm = ARMS_OF_GAPS.iter().find(|arm| arm.0 == index);
+        let wanted = arm.map(|arm| (arm.2.position, arm.1));
+        check_arm(&rt, &registry, 1, index, wanted);
+    }
+    Ok(())
+}
+
+#[test]
+fn the_steps_of_arms_are_found_between_gaps(rt: HostRuntime) -> Result<(), Fail> {
+    let registry = checked(rt.alloc(), GAPS)?;
+    'indexes: for index in 0..=255u8 {
         let arm = ARMS_OF_GAPS.iter().find(|arm| arm.0 == index);
         let step = arm.map(|arm| arm.2);
         assert_eq!(rt; registry.arm_step(TypeId(1), index), step, "index {index}");
         assert_eq!(rt; registry.arm_step(TypeId(0), index), None);
-        let found = registry.arm(TypeId(1), index);
-        let named = found.map(|(position, arm)| (position, arm.name.as_str()));
-        let wanted = arm.map(|arm| (arm.2.position, arm.1));
-        assert_eq!(rt; named, wanted, "index {index}");
     }
     assert_eq!(rt; registry.members(), [0, 0, 0, 0].as_slice());
     Ok(())
 }
 
-#[test]
-fn nested_tuples_of_units_are_empty(rt: HostRuntime) -> Result<(), Fail> {
-    let mut bytes = Vec::new(rt.alloc());
+/// A unit, and 40 tuples, each of the tuple before it twice.
+fn nested_tuples(alloc: Global) -> Result<Vec<u8>, AllocError> {
+    let mut bytes = Vec::new(alloc);
     bytes.extend_from_slice(b"\xa4\x00\x00\x00\x04\x00\x00")?;
-    for below in 0..40u8 {
+    'tuples: for below in 0..40u8 {
         let (id, member) = (4 * (below + 1), 4 * below);
         bytes.extend_from_slice(&[id, 0, 0, 4, 8, member, member, 0])?;
     }
-    let registry = checked(rt.alloc(), &bytes)?;
-    assert_eq!(rt; registry.registry().types().len(), 41);
-    assert_eq!(rt; registry.widest(), 2);
-    for id in 0..41 {
+    Ok(bytes)
+}
+
+/// All types of the registry are empty: so many, of which the widest has so many parts.
+fn check_empty(rt: &impl Abort, registry: &Checked, count: u32, widest: u32) {
+    let told = (registry.registry().types().len(), registry.widest());
+    assert_eq!(rt; told, (count as usize, widest));
+    'classes: for id in 0..count {
         assert_eq!(rt; registry.class(TypeId(id)), Some(Class::Empty), "type {id}");
     }
+}
+
+#[test]
+fn nested_tuples_of_units_are_empty(rt: HostRuntime) -> Result<(), Fail> {
+    let bytes = nested_tuples(rt.alloc())?;
+    let registry = checked(rt.alloc(), &bytes)?;
+    check_empty(&rt, &registry, 41, 2);
     Ok(())
 }
 
-// The type at each position is a tuple of the one type after it, and the last one the empty tuple.
-#[test]
-fn a_chain_of_2000_tuples_is_empty(rt: HostRuntime) -> Result<(), Fail> {
-    let mut bytes = Vec::new(rt.alloc());
+/// 2000 types: the one at each position is a tuple of the one type after it, and the last one the empty tuple.
+fn chain_of_tuples(alloc: Global) -> Result<Vec<u8>, AllocError> {
+    let mut bytes = Vec::new(alloc);
     write_compact(&mut bytes, 2000)?;
     'types: for id in 0..1999u32 {
         write_compact(&mut bytes, u128::from(id))?;
@@ -378,105 +421,13 @@ fn a_chain_of_2000_tuples_is_empty(rt: HostRuntime) -> Result<(), Fail> {
     }
     write_compact(&mut bytes, 1999)?;
     bytes.extend_from_slice(&[0, 0, 4, 0, 0])?;
+    Ok(bytes)
+}
+
+#[test]
+fn a_chain_of_2000_tuples_is_empty(rt: HostRuntime) -> Result<(), Fail> {
+    let bytes = chain_of_tuples(rt.alloc())?;
     let registry = checked(rt.alloc(), &bytes)?;
-    assert_eq!(rt; registry.registry().types().len(), 2000);
-    assert_eq!(rt; registry.widest(), 1);
-    'classes: for id in 0..2000 {
-        assert_eq!(rt; registry.class(TypeId(id)), Some(Class::Empty), "type {id}");
-    }
-    Ok(())
-}
-
-/// A u8, a composite of it and of a sequence of it, an array of seven composites, a tuple of both, a compact, a bit
-/// sequence and a variant of one arm around the compact.
-const EACH_DEFINITION: &[u8] =
-    b"\x20\x00\x00\x00\x05\x03\x00\x04\x00\x00\x00\x08\x00\x00\x00\x00\x00\x08\x00\x00\x00\x08\x00\x00\x02\x00\x00\x0c\x00\x00\x03\x07\x00\x00\x00\x04\x00\x10\x00\x00\x04\x08\x04\x0c\x00\x14\x00\x00\x06\x00\x00\x18\x00\x00\x07\x00\x00\x00\x1c\x00\x00\x01\x04\x04A\x04\x00\x14\x00\x00\x00\x00\x00";
-
-const STEPS: [Step; 8] = [
-    Step::Primitive(Primitive::U8),
-    Step::Parts { from: 0, count: 2 },
-    Step::Bytes,
-    Step::Array { len: 7, element: 1 },
-    Step::Parts { from: 4, count: 2 },
-    Step::Compact(Some(Target::U8)),
-    Step::BitSequence,
-    Step::Arms { from: 0, count: 1 },
-];
-
-/// An empty tuple, a compact and a sequence of it, a variant without arms, a tuple, a compact and an array of none of that,
-/// and a variant whose one arm, of index 9, holds it.
-const NO_BYTES_AND_NO_VALUES: &[u8] =
-    b"\x20\x00\x00\x00\x04\x00\x00\x04\x00\x00\x06\x00\x00\x08\x00\x00\x02\x00\x00\x0c\x00\x00\x01\x00\x00\x10\x00\x00\x04\x04\x0c\x00\x14\x00\x00\x06\x0c\x00\x18\x00\x00\x03\x00\x00\x00\x00\x0c\x00\x1c\x00\x00\x01\x04\x04A\x04\x00\x0c\x00\x00\x09\x00\x00";
-
-const STEPS_WITHOUT: [Step; 8] = [
-    Step::Empty,
-    Step::Compact(Some(Target::Unit)),
-    Step::Count,
-    Step::NoArm { from: 0, count: 0 },
-    Step::NoValue,
-    Step::Compact(None),
-    Step::Empty,
-    Step::NoArm { from: 0, count: 1 },
-];
-
-/// A sequence of the u8 behind it, that u8, an array of three, a composite of one, a sequence and an array of three of
-/// the composite, an array of no u8, an i8 and a sequence of it.
-const BYTES_AND_WRAPPERS: &[u8] =
-    b"\x24\x00\x00\x00\x02\x04\x00\x04\x00\x00\x05\x03\x00\x08\x00\x00\x03\x03\x00\x00\x00\x04\x00\x0c\x00\x00\x00\x04\x00\x04\x00\x00\x00\x10\x00\x00\x02\x0c\x00\x14\x00\x00\x03\x03\x00\x00\x00\x0c\x00\x18\x00\x00\x03\x00\x00\x00\x00\x04\x00\x1c\x00\x00\x05\x09\x00\x20\x00\x00\x02\x1c\x00";
-
-const STEPS_OF_BYTES: [Step; 9] = [
-    Step::Bytes,
-    Step::Primitive(Primitive::U8),
-    Step::ByteArray { len: 3 },
-    Step::Parts { from: 2, count: 1 },
-    Step::Sequence { element: 3 },
-    Step::Array { len: 3, element: 3 },
-    Step::Empty,
-    Step::Primitive(Primitive::I8),
-    Step::Sequence { element: 7 },
-];
-
-const MEMBERS: [u32; 8] = [0, 2, 0, 1, 1, 3, 0, 5];
-
-/// The types of the registry have these steps, and there is none behind them.
-fn check_steps(rt: &impl Abort, registry: &Checked, steps: &[Step], name: &str) {
-    let mut id = 0u32;
-    for step in steps {
-        assert_eq!(rt;
-            registry.step(TypeId(id)),
-            Some(*step),
-            "step {id} of {name}"
-        );
-        id = id.saturating_add(1);
-    }
-    assert_eq!(rt; registry.step(TypeId(id)), None, "step behind {name}");
-}
-
-#[test]
-fn only_u8_itself_is_read_in_runs_of_bytes(rt: HostRuntime) -> Result<(), Fail> {
-    let registry = checked(rt.alloc(), BYTES_AND_WRAPPERS)?;
-    check_steps(&rt, &registry, &STEPS_OF_BYTES, "bytes and wrappers");
-    Ok(())
-}
-
-#[test]
-fn types_have_their_steps_and_members(rt: HostRuntime) -> Result<(), Fail> {
-    let registry = checked(rt.alloc(), EACH_DEFINITION)?;
-    check_steps(&rt, &registry, &STEPS, "each definition");
-    let without = checked(rt.alloc(), NO_BYTES_AND_NO_VALUES)?;
-    check_steps(&rt, &without, &STEPS_WITHOUT, "no bytes and no values");
-    let arm = ArmStep {
-        position: 0,
-        from: 5,
-        count: 1,
-    };
-    assert_eq!(rt; without.arm_step(TypeId(7), 9), Some(arm));
-    assert_eq!(rt; registry.members(), MEMBERS.as_slice());
-    let mut at = 0u32;
-    for member in &MEMBERS {
-        assert_eq!(rt; registry.member(at), Some(*member), "member {at}");
-        at = at.saturating_add(1);
-    }
-    assert_eq!(rt; registry.member(at), None);
+    check_empty(&rt, &registry, 2000, 1);
     Ok(())
 }
