@@ -56,7 +56,10 @@ static void check_kinds(void) {
     check("a session closed", scaleview_close(&wrong) == SCALEVIEW_NO_HANDLE && wrong.inside == session.inside);
     scaleview_session none = {registry.inside};
     check("a registry fed", scaleview_feed(&none, out, 0, &answer) == SCALEVIEW_NO_HANDLE && none.inside == registry.inside);
-    check("a registry's bytes", scaleview_taken(&none, &answer) == SCALEVIEW_NO_HANDLE);
+    check("a registry's bytes", scaleview_taken(&none, &answer) == SCALEVIEW_NO_HANDLE && answer.length == 0);
+    check("a registry's nodes", scaleview_nodes(&none, &answer) == SCALEVIEW_NO_HANDLE && answer.length == 0);
+    check("a registry's texts", scaleview_text_bytes(&none, &answer) == SCALEVIEW_NO_HANDLE && answer.length == 0);
+    check("a registry told its counts", none.inside == registry.inside);
     check("a registry ended", scaleview_finish(&none, out, 0, &answer) == SCALEVIEW_NO_HANDLE);
     check("a registry freed", scaleview_free(&none) == SCALEVIEW_NO_HANDLE && none.inside == registry.inside);
     check("freed", scaleview_free(&session) == SCALEVIEW_OK);
@@ -121,6 +124,29 @@ static void check_counts(void) {
     scaleview_close(&registry);
 }
 
+/* A limit of bytes: what is fed up to it goes on, and the byte past it is refused for good. */
+static void check_limit(void) {
+    static const uint8_t u32_registry[] = {0x04, 0x00, 0x00, 0x00, 0x05, 0x05, 0x00};
+    scaleview_registry registry = {NULL};
+    scaleview_session session = {NULL};
+    scaleview_answer answer;
+    uint8_t out[8];
+    scaleview_open(u32_registry, sizeof u32_registry, false, &registry, &answer);
+    scaleview_start(registry, 0, 64, 2, &session, &answer);
+    check("up to the limit", scaleview_feed(&session, (const uint8_t *)"\x01\x02", 2, &answer) == SCALEVIEW_MORE);
+    check("cut at the limit", scaleview_finish(&session, out, sizeof out, &answer) == SCALEVIEW_VALUE_TRUNCATED && answer.at == 2);
+    scaleview_free(&session);
+    scaleview_start(registry, 0, 64, 2, &session, &answer);
+    for (int time = 0; time < 2; time++) {
+        check("past the limit", scaleview_feed(&session, (const uint8_t *)"\x01\x02\x03", 3, &answer) == SCALEVIEW_VALUE_TOO_LONG);
+        check("at the limit", answer.at == 2);
+        check("two bytes are taken", scaleview_taken(&session, &answer) == SCALEVIEW_OK && answer.length == 2);
+    }
+    check("refused at its end", scaleview_finish(&session, out, sizeof out, &answer) == SCALEVIEW_VALUE_TOO_LONG && answer.at == 2);
+    scaleview_free(&session);
+    check("closed", scaleview_close(&registry) == SCALEVIEW_OK);
+}
+
 enum { FRESH, MORE, WHOLE, REFUSED, ENDED, CUT, STATES };
 
 /* A session of a text, as far as this. */
@@ -138,6 +164,35 @@ static scaleview_session started(scaleview_registry registry, int state) {
     if (state == CUT) check("cut", scaleview_finish(&session, out, sizeof out, &answer) == SCALEVIEW_VALUE_TRUNCATED && answer.at == 2);
     if (state == REFUSED) check("refused", answer.code == SCALEVIEW_VALUE_BAD_UTF8 && answer.at == 1);
     return session;
+}
+
+/* A session in each state is fed once more: what was answered is answered, and what was ended takes nothing. */
+static void check_later_pieces(void) {
+    static const uint8_t str_registry[] = {0x04, 0x00, 0x00, 0x00, 0x05, 0x02, 0x00};
+    static const struct {
+        uint32_t code;
+        uint64_t at, length, taken;
+    } wanted[STATES] = {
+        {SCALEVIEW_OK, 0, 1, 1},
+        {SCALEVIEW_VALUE_BAD_UTF8, 2, 0, 3},
+        {SCALEVIEW_OK, 0, 0, 3},
+        {SCALEVIEW_VALUE_BAD_UTF8, 1, 0, 3},
+        {SCALEVIEW_OK, 0, 0, 0},
+        {SCALEVIEW_VALUE_TRUNCATED, 2, 0, 0},
+    };
+    static const char *pieces[STATES] = {"\x00", "\xff", "i", "i", "i", "i"};
+    scaleview_registry registry = {NULL};
+    scaleview_answer answer;
+    scaleview_open(str_registry, sizeof str_registry, false, &registry, &answer);
+    for (int state = 0; state < STATES; state++) {
+        scaleview_session session = started(registry, state);
+        uint32_t code = scaleview_feed(&session, (const uint8_t *)pieces[state], 1, &answer);
+        check("a later piece's code", code == wanted[state].code && answer.code == code);
+        check("a later piece's numbers", answer.at == wanted[state].at && answer.length == wanted[state].length);
+        check("taken", scaleview_taken(&session, &answer) == SCALEVIEW_OK && answer.length == wanted[state].taken);
+        check("freed", scaleview_free(&session) == SCALEVIEW_OK);
+    }
+    check("closed", scaleview_close(&registry) == SCALEVIEW_OK);
 }
 
 /* Two sessions in every two states are freed in both orders; the registry is closed behind them, and not before. */
@@ -277,6 +332,8 @@ int main(void) {
     check_none();
     check_taken();
     check_counts();
+    check_limit();
+    check_later_pieces();
     check_orders();
     check_numbers();
     return failures > 0;

@@ -1,14 +1,21 @@
 """What the module adds: owners that are closed and freed in any order, exceptions with reason and place."""
 
 import unittest
+from collections.abc import Callable
 
 from scaleview import Refused, Registry, Session
 
 U16 = bytes.fromhex("04000000050400")
+U32 = bytes.fromhex("04000000050500")
 BYTES = bytes.fromhex("08000000050300040000020000")
 
 
 class Handles(unittest.TestCase):
+    def assertRefused(self, call: Callable[[], object], reason: str, at: int) -> None:
+        with self.assertRaises(Refused) as told:
+            call()
+        self.assertEqual((told.exception.part, told.exception.reason, told.exception.at), ("value", reason, at))
+
     def test_a_registry_stays_open_while_it_is_lent(self) -> None:
         registry = Registry(U16)
         first, second = registry.start(0), registry.start(0)
@@ -39,6 +46,28 @@ class Handles(unittest.TestCase):
                 self.assertEqual((session.taken, session.nodes, session.text_bytes), (3, 0, 2))
                 self.assertEqual(session.feed(b"\xff"), 1)
                 self.assertEqual((session.taken, session.nodes, session.text_bytes), (4, 1, 3))
+
+    def test_a_limit_of_bytes_is_kept(self) -> None:
+        with Registry(U32) as registry:
+            cut = registry.start(0, limit=2)
+            self.assertIsNone(cut.feed(b"\1\2"))
+            self.assertRefused(cut.finish, "Truncated", 2)
+            with registry.start(0, limit=2) as session:
+                for _ in range(2):
+                    self.assertRefused(lambda: session.feed(b"\1\2\3"), "TooLong", 2)
+                    self.assertEqual((session.taken, session.nodes, session.text_bytes), (2, 0, 0))
+                self.assertRefused(session.finish, "TooLong", 2)
+            self.assertRefused(lambda: registry.decode(0, b"\1\2\3\4", limit=2), "TooLong", 2)
+            self.assertEqual(registry.decode(0, b"\1\2\0\0"), 513)
+
+    def test_an_answer_is_kept(self) -> None:
+        with Registry(U16) as registry, registry.start(0) as session:
+            self.assertEqual(session.feed(b"\x02\x00\xff"), 2)
+            self.assertEqual(session.feed(b"\xff"), 0)
+            self.assertEqual(session.taken, 2)
+            self.assertEqual(session.finish(), 2)
+            with self.assertRaises(ValueError):
+                session.feed(b"")
 
     def test_long_values_are_answered_as_short_ones(self) -> None:
         with Registry(BYTES) as registry:

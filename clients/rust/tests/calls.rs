@@ -53,6 +53,37 @@ fn runs_of_bytes_are_shown_and_counted() {
     assert_eq!((session.taken(), session.nodes(), session.text_bytes()), (4, 1, 3));
 }
 
+/// A u32.
+const U32: &[u8] = b"\x04\x00\x00\x00\x05\x05\x00";
+
+#[test]
+fn a_limit_of_bytes_is_kept() {
+    let registry = Registry::open(U32).unwrap();
+    let limits = Limits { bytes: 2, ..Limits::default() };
+    let mut cut = registry.start(0, limits).unwrap();
+    assert_eq!(cut.feed(b"\x01\x02"), Ok(Progress::More));
+    assert_eq!(cut.finish(), Err(Error::Value { reason: ValueReason::Truncated, at: 2 }));
+    let too_long = Error::Value { reason: ValueReason::TooLong, at: 2 };
+    let mut session = registry.start(0, limits).unwrap();
+    for _ in 0..2 {
+        assert_eq!(session.feed(b"\x01\x02\x03"), Err(too_long));
+        assert_eq!((session.taken(), session.nodes(), session.text_bytes()), (2, 0, 0));
+    }
+    assert_eq!(session.finish(), Err(too_long));
+    assert_eq!(registry.decode_within(0, limits, b"\x01\x02\x03\x04"), Err(too_long));
+    assert_eq!(registry.decode(0, b"\x01\x02\x00\x00"), Ok("513".to_string()));
+}
+
+#[test]
+fn an_answer_is_kept() {
+    let registry = Registry::open(U16).unwrap();
+    let mut whole = registry.start(0, Limits::default()).unwrap();
+    assert_eq!(whole.feed(b"\x02\x00\xff"), Ok(Progress::Done { used: 2 }));
+    assert_eq!(whole.feed(b"\xff"), Ok(Progress::Done { used: 0 }));
+    assert_eq!(whole.taken(), 2);
+    assert_eq!(whole.finish(), Ok("2".to_string()));
+}
+
 #[test]
 fn long_values_are_answered_as_short_ones() {
     let registry = Registry::open(BYTES).unwrap();
