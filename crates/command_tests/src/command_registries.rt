@@ -6,7 +6,7 @@ use scale_core::{Sink, Source};
 use scale_tests::paced::{PacedReader, PacedWriter, Then};
 use scale_tests::registries::{
     BITS_IN_AN_ARM, EMPTY_COMPOSITE, ENDLESS, NO_TYPES, OPTION, QUOTE_IN_A_PATH, TWO_SEGMENTS, U8,
-    UNITS, UNKNOWN_ELEMENT,
+    UNITS, UNKNOWN_ELEMENT, nested_pairs,
 };
 use scale_tool::{Job, run};
 use std::alloc::{AllocError, Global};
@@ -257,17 +257,7 @@ fn unknown_references_are_told(rt: HostRuntime) {
     check_row(&rt, rt.alloc(), &value);
 }
 
-/// The empty tuple, and forty types, each a pair of the one before: an empty type is never expanded.
-fn nested_pairs(alloc: Global) -> Result<Vec<u8>, AllocError> {
-    let mut registry = Vec::from_slice(alloc, b"\xa4\x00\x00\x00\x04\x00\x00")?;
-    'types: for before in 0..40u8 {
-        let (id, member) = (4 * (before + 1), 4 * before);
-        registry.extend_from_slice(&[id, 0, 0, 4, 8, member, member, 0])?;
-    }
-    Ok(registry)
-}
-
-/// What the job writes, over these types and a value of no bytes.
+/// What the job writes, over pairs of pairs and a value of no bytes: an empty type is never expanded.
 fn written_of_pairs(
     rt: &impl Abort,
     alloc: Global,
