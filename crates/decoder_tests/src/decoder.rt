@@ -146,12 +146,12 @@ fn rows_in_two_pieces_are_answered(rt: HostRuntime) -> Result<(), Fail> {
     Ok(())
 }
 
-/// Feeds the bytes one by one, each between two pieces of no bytes.
-fn feed_singly(decoder: &mut Decoder<'_, Global>, bytes: &[u8]) -> Fed {
+/// Feeds the bytes one by one, each between two pieces of no bytes: the one behind it changes nothing.
+fn feed_singly(rt: &impl Abort, decoder: &mut Decoder<'_, Global>, bytes: &[u8]) -> Fed {
     let mut fed = feed_next(decoder, Fed::More(0), b"");
     'bytes: for byte in bytes {
         fed = feed_next(decoder, fed, &[*byte]);
-        fed = feed_next(decoder, fed, b"");
+        assert_eq!(rt; feed_next(decoder, fed, b""), fed);
     }
     fed
 }
@@ -160,7 +160,7 @@ fn feed_singly(decoder: &mut Decoder<'_, Global>, bytes: &[u8]) -> Fed {
 fn check_singly(rt: &impl Abort, alloc: Global, row: &Row) -> Result<(), Fail> {
     let checked = checked(alloc, row.registry)?;
     let mut decoder = open(alloc, &checked, row.ty, row.limits)?;
-    let fed = feed_singly(&mut decoder, row.bytes);
+    let fed = feed_singly(rt, &mut decoder, row.bytes);
     check_ending(rt, alloc, row, fed, decoder)
 }
 

@@ -64,13 +64,17 @@ fn place_of_refusal<A: Allocator>(rt: &impl Abort, decoder: &mut Decoder<'_, A>)
 /// The decoder that was refused memory at this byte holds nothing, and each later call is refused too.
 fn check_refused<A: Allocator>(rt: &impl Abort, decoder: Decoder<'_, A>, place: u64) {
     let mut decoder = decoder;
+    let taken = held(&decoder).taken;
+    // The last byte of a run is taken before memory is wanted for its node.
+    assert!(rt;
+        taken == place || taken == place.saturating_add(1),
+        "byte {place}"
+    );
     let nothing = Holding {
         nodes: 0,
         texts: 0,
-        taken: held(&decoder).taken,
+        taken,
     };
-    // The last byte of a run is taken before memory is wanted for its node.
-    assert!(rt; nothing.taken.abs_diff(place) <= 1, "byte {place}");
     assert_eq!(rt; held(&decoder), nothing, "byte {place}");
     'pieces: for piece in [b"".as_slice(), NESTED_BYTES] {
         assert_eq!(rt; feed(&mut decoder, piece), Err(REFUSED), "byte {place}");
