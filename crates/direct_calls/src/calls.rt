@@ -18,7 +18,7 @@ const OTHER: &str = "direct_calls: neither the right answer nor want of memory\n
 const ROOM: usize = 256;
 
 /// The line, where what it says is so.
-fn line_where(is_so: bool, line: &'static str) -> &'static str {
+pub(crate) fn line_where(is_so: bool, line: &'static str) -> &'static str {
     if is_so { line } else { OTHER }
 }
 

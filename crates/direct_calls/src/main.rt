@@ -5,6 +5,7 @@
 
 mod calls;
 mod sample;
+mod writing;
 
 use scale_core::Sink;
 use std::alloc::{AllocError, Global};
@@ -14,7 +15,7 @@ use std::{env, io};
 use value_core::send;
 
 const USAGE: &str =
-    "usage: direct_calls print | json_text | to_json | Checked::new | read_registry | read_metadata | write_registry | job [WORD]..\n";
+    "usage: direct_calls print | json_text | to_json | Checked::new | read_registry | read_metadata | write_registry | write CALL | job [WORD]..\n";
 
 /// Why no call was made.
 #[derive(Clone, Copy)]
@@ -56,6 +57,7 @@ fn call(alloc: Global, words: &[&str]) -> Result<Option<&'static str>, NoCall> {
         [_, "read_registry"] => Some(calls::read_registry_line(alloc)),
         [_, "read_metadata"] => Some(calls::read_metadata_line(alloc)),
         [_, "write_registry"] => calls::write_registry_line(alloc),
+        [_, "write", name] => Some(writing::write_line(alloc, name)?.ok_or(NoCall::Usage)?),
         [_, line @ ..] if line.first() == Some(&"job") => Some(calls::job_line(alloc, line)),
         _ => return Err(NoCall::Usage),
     })
