@@ -55,7 +55,8 @@ struct Row {
     bytes: &'static [u8],
 }
 
-/// Each kind of call that takes memory, where there is no room yet for what it adds.
+/// Each kind of call that takes memory, where there is no room yet for what it adds. Those that begin a text or a run of
+/// bytes take none.
 const ROWS: [Row; 20] = [
     Row {
         name: "a unit",
