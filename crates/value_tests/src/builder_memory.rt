@@ -344,10 +344,9 @@ fn is_refused<A: Allocator + Clone>(
 /// Each request of the row's calls is refused in turn: to how many the row's call was.
 fn refusals_of(rt: &impl Abort, alloc: Global, row: &Row) -> Result<u32, Fail> {
     let checked = checked(alloc, row.registry)?;
-    let heap = LocalHeap::new(alloc, 65_536)?;
     let mut refusals: u32 = 0;
     'requests: for request in 1..100 {
-        let memory = Rationed::new(&heap, request);
+        let memory = Rationed::new(alloc, request);
         if is_refused(rt, alloc, &checked, &memory, row)? {
             refusals = refusals.saturating_add(1);
         }

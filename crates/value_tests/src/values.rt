@@ -297,13 +297,14 @@ fn children_step_over_what_is_below_them(rt: HostRuntime) -> Result<(), Fail> {
     Ok(())
 }
 
-/// The node's one child.
-fn only_child<'v, 'r>(node: &NodeRef<'v, 'r>) -> Result<NodeRef<'v, 'r>, Fail> {
+/// The node's child, where there is one alone.
+fn only_child<'v, 'r>(node: &NodeRef<'v, 'r>) -> Option<NodeRef<'v, 'r>> {
     let mut children = node.children();
-    match (children.next(), children.next()) {
-        (Some(child), None) => Ok(child),
-        _ => Err("there is not one child")?,
+    let child = children.next();
+    if children.next().is_some() {
+        return None;
     }
+    child
 }
 
 #[test]
@@ -312,8 +313,12 @@ fn a_chain_of_arms_is_one_child_in_another(rt: HostRuntime) -> Result<(), Fail> 
     let calls = [Call::Arm(1), Call::Arm(1), Call::Arm(0)];
     let value = built(&rt, rt.alloc(), &checked, 0, 2, &calls)?;
     let root = value.root();
-    let middle = only_child(&root)?;
-    let last = only_child(&middle)?;
+    let Some(middle) = only_child(&root) else {
+        return Err("there is not one child")?;
+    };
+    let Some(last) = only_child(&middle) else {
+        return Err("there is not one grandchild")?;
+    };
     assert_eq!(rt; root.what(), What::Arm { position: 1 });
     assert_eq!(rt; middle.what(), What::Arm { position: 1 });
     assert_eq!(rt; last.what(), What::Arm { position: 0 });
