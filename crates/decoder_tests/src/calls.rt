@@ -1,12 +1,13 @@
-//! The calls of a decoder that tests make. What they promise stays here, so that no test's proof has to read it.
+//! The calls that tests make of decoders and of what shows values. What these promise stays here, so that no test's proof
+//! has to read it.
 
 use decode_core::{
-    DecodeFault, Decoder, PiecesFault, Progress, StreamFault, decode_all, decode_pieces,
+    DecodeFault, Decoder, OpenFault, PiecesFault, Progress, StreamFault, decode_all, decode_pieces,
 };
+use json_core::{json_text, print, to_json};
 use registry_core::TypeId;
-use scale_core::Source;
-use scale_tests::rows::Row;
-use std::alloc::{Allocator, Global};
+use scale_core::{Sink, Source};
+use std::alloc::{AllocError, Allocator, Global};
 use std::io::Read;
 use std::test::Fail;
 use value_core::{Limits, Value};
@@ -59,22 +60,60 @@ pub(crate) fn held<A: Allocator>(decoder: &Decoder<'_, A>) -> Holding {
     }
 }
 
-/// All bytes of the source as the row's type.
-pub(crate) fn all_of<'r, R: Read>(
-    alloc: Global,
-    checked: &'r Checked,
-    row: &Row,
-    source: &mut Source<R>,
-) -> Result<Value<'r, Global>, StreamFault> {
-    decode_all(alloc, checked, TypeId(row.ty), row.limits, source)
+/// Why no decoder of the type is made, if none is.
+pub(crate) fn opening_fault<A: Allocator + Clone>(
+    memory: A,
+    checked: &Checked,
+    ty: u32,
+    limits: Limits,
+) -> Option<OpenFault> {
+    Decoder::new(memory, checked, TypeId(ty), limits).err()
 }
 
-/// What stands on the front of the pieces, as the row's type.
-pub(crate) fn front_of<'r>(
-    alloc: Global,
+/// The value of the type that all bytes of the source are.
+pub(crate) fn all_of<'r, A: Allocator + Clone, R: Read>(
+    memory: A,
     checked: &'r Checked,
-    row: &Row,
+    ty: u32,
+    limits: Limits,
+    source: &mut Source<R>,
+) -> Result<Value<'r, A>, StreamFault> {
+    decode_all(memory, checked, TypeId(ty), limits, source)
+}
+
+/// The value of the type on the front of the pieces, and how many bytes it has.
+pub(crate) fn front_of<'r, A: Allocator + Clone>(
+    memory: A,
+    checked: &'r Checked,
+    ty: u32,
+    limits: Limits,
     pieces: &[&[u8]],
-) -> Result<(Value<'r, Global>, u64), PiecesFault> {
-    decode_pieces(alloc, checked, TypeId(row.ty), row.limits, pieces)
+) -> Result<(Value<'r, A>, u64), PiecesFault> {
+    decode_pieces(memory, checked, TypeId(ty), limits, pieces)
+}
+
+/// The value as JSON.
+pub(crate) fn shown<A: Allocator>(
+    alloc: Global,
+    value: &Value<'_, A>,
+) -> Result<String, AllocError> {
+    json_text(alloc, value)
+}
+
+/// The value as JSON, by its tree.
+pub(crate) fn shown_tree<A: Allocator>(
+    alloc: Global,
+    value: &Value<'_, A>,
+) -> Result<String, AllocError> {
+    let tree = to_json(alloc, value)?;
+    tree.to_string(alloc)
+}
+
+/// The value as JSON, as it is printed.
+pub(crate) fn printed<A: Allocator>(alloc: Global, value: &Value<'_, A>) -> Result<Vec<u8>, Fail> {
+    let mut sink = Sink::new(Vec::new(alloc));
+    match print(alloc, value, &mut sink) {
+        Ok(()) => Ok(sink.into_inner()),
+        Err(_) => Err("a value is not printed")?,
+    }
 }

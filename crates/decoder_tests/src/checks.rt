@@ -1,8 +1,7 @@
 //! What a worked row wants of a decoder, and whether it is so.
 
-use crate::calls::Holding;
+use crate::calls::{Holding, shown};
 use decode_core::DecodeFault;
-use json_core::json_text;
 use scale_tests::building::written;
 use scale_tests::rows::{Outcome, Row};
 use std::alloc::Global;
@@ -87,7 +86,7 @@ fn check_shown(
     let Outcome::Value { json, .. } = row.outcome else {
         return Err(name)?;
     };
-    let text = json_text(alloc, value)?;
+    let text = shown(alloc, value)?;
     assert_eq!(rt; text.as_str(), json, "{name}");
     Ok(())
 }

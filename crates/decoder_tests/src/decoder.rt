@@ -1,9 +1,8 @@
 //! The decoder over worked rows: whole, in every two pieces, byte by byte, and each shorter front of a value.
 
-use crate::calls::{feed, finish, held, open};
+use crate::calls::{feed, finish, held, open, opening_fault};
 use crate::checks::{check_end, check_line, value_len, wanted_held};
 use decode_core::{DecodeFault, DecodeReason, Decoder, OpenFault, Progress};
-use registry_core::TypeId;
 use scale_tests::building::checked;
 use scale_tests::registries::U8;
 use scale_tests::rows::{Outcome, ROWS, Row};
@@ -229,7 +228,7 @@ fn a_decoder_opens_within_its_limits(rt: HostRuntime) -> Result<(), Fail> {
         (0, 0, 0, None),
     ];
     'rows: for (ty, depth, bytes, fault) in rows {
-        let told = Decoder::new(rt.alloc(), &checked, TypeId(ty), Limits { depth, bytes }).err();
+        let told = opening_fault(rt.alloc(), &checked, ty, Limits { depth, bytes });
         assert_eq!(rt; told, fault, "type {ty}, depth {depth}, {bytes} bytes");
     }
     Ok(())

@@ -1,9 +1,8 @@
 //! Decoders whose memory is refused: where one is made, where it is fed, and where it is finished.
 
-use crate::calls::{Holding, feed, finish, held, open};
+use crate::calls::{Holding, feed, finish, held, open, opening_fault};
 use decode_core::{DecodeFault, DecodeReason, Decoder, OpenFault, Progress};
 use linked_list_allocator::LocalHeap;
-use registry_core::TypeId;
 use scale_tests::building::{checked, written};
 use scale_tests::rationed::Rationed;
 use scale_tests::registries::{NESTED, TWO_UNITS_AND_A_BYTE, nested_pairs};
@@ -22,19 +21,14 @@ pub(crate) const REFUSED: DecodeFault = DecodeFault {
     at: 0,
 };
 
-/// Why no decoder is made where this request for memory is refused.
-fn opening_fault(alloc: Global, checked: &Checked, request: u64) -> Option<OpenFault> {
-    let memory = Rationed::new(alloc, request);
-    Decoder::new(memory, checked, TypeId(5), AMPLE).err()
-}
-
 // A decoder takes memory for its nodes and for its bytes through a clone each of what it is handed, and no more at first.
 #[test]
 fn memory_that_is_refused_at_first_makes_no_decoder(rt: HostRuntime) -> Result<(), Fail> {
     let checked = checked(rt.alloc(), NESTED)?;
     let refused = Some(OpenFault::OutOfMemory);
     'requests: for (request, fault) in [(1, refused), (2, refused), (3, None), (0, None)] {
-        let told = opening_fault(rt.alloc(), &checked, request);
+        let memory = Rationed::new(rt.alloc(), request);
+        let told = opening_fault(memory, &checked, 5, AMPLE);
         assert_eq!(rt; told, fault, "request {request}");
     }
     Ok(())

@@ -1,11 +1,9 @@
 //! Decoders over heaps of fixed size: a length that is claimed takes no memory, and what does not fit is refused for good.
 
-use crate::calls::{Holding, feed, finish, held, open};
+use crate::calls::{Holding, feed, finish, held, open, printed, shown_tree};
 use crate::decoder_memory::REFUSED;
 use decode_core::{DecodeFault, DecodeReason, Decoder, Progress};
-use json_core::{print, to_json};
 use linked_list_allocator::LocalHeap;
-use scale_core::Sink;
 use scale_tests::building::{checked, written};
 use scale_tests::registries::{BYTES, LONG_ARRAY, LONG_ARRAY_OF_WORDS, WORDS, nested_pairs};
 use scale_tests::rows::AMPLE;
@@ -35,8 +33,8 @@ fn empty_value<'r>(
     Ok(value)
 }
 
-/// The value takes no bytes, and is null.
-fn check_null<A: Allocator>(
+/// The value is one node and takes no bytes.
+fn check_empty<A: Allocator>(
     rt: &impl Abort,
     alloc: Global,
     value: &Value<'_, A>,
@@ -44,16 +42,20 @@ fn check_null<A: Allocator>(
     assert_eq!(rt; (value.node_count(), value.text_bytes()), (1, 0));
     let bytes = written(alloc, value)?;
     assert_eq!(rt; bytes.len(), 0);
-    let tree = to_json(alloc, value)?;
-    assert_eq!(rt; tree.to_string(alloc)?.as_str(), "null");
     Ok(())
 }
 
-/// The value is printed as null.
-fn check_printed<A: Allocator>(rt: &impl Abort, alloc: Global, value: &Value<'_, A>) {
-    let mut sink = Sink::new(Vec::new(alloc));
-    assert_eq!(rt; print(alloc, value, &mut sink), Ok(()));
-    assert_eq!(rt; sink.into_inner().as_slice(), b"null".as_slice());
+/// The value is shown as null.
+fn check_null<A: Allocator>(
+    rt: &impl Abort,
+    alloc: Global,
+    value: &Value<'_, A>,
+) -> Result<(), Fail> {
+    let tree = shown_tree(alloc, value)?;
+    assert_eq!(rt; tree.as_str(), "null");
+    let text = printed(alloc, value)?;
+    assert_eq!(rt; text.as_slice(), b"null".as_slice());
+    Ok(())
 }
 
 #[test]
@@ -62,8 +64,8 @@ fn a_value_of_two_to_the_fortieth_units_is_one_node(rt: HostRuntime) -> Result<(
     let checked = checked(rt.alloc(), &registry)?;
     let heap = LocalHeap::new(rt.alloc(), 65_536)?;
     let value = empty_value(&rt, &heap, &checked)?;
+    check_empty(&rt, rt.alloc(), &value)?;
     check_null(&rt, rt.alloc(), &value)?;
-    check_printed(&rt, rt.alloc(), &value);
     drop(value);
     assert_eq!(rt; heap.used(), 0);
     Ok(())

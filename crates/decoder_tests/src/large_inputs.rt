@@ -1,9 +1,8 @@
 //! Inputs that are large: a decoder to which memory is granted answers them, and never says that it was refused.
 
-use crate::calls::{Holding, feed, finish, held, open};
-use decode_core::{DecodeFault, DecodeReason, Progress};
-use json_core::{json_text, print};
-use scale_core::{Sink, write_compact};
+use crate::calls::{Holding, feed, finish, held, open, printed, shown};
+use decode_core::{DecodeFault, DecodeReason, Decoder, Progress};
+use scale_core::write_compact;
 use scale_tests::building::{checked, written};
 use scale_tests::registries::{
     BYTES, CHAIN, TEXT, TWO_UNITS_AND_A_BYTE, UNITS, UNITS_IN_UNITS, WORDS,
@@ -163,7 +162,7 @@ fn the_deepest_value_is_shown(rt: HostRuntime) -> Result<(), Fail> {
     let checked = checked(rt.alloc(), CHAIN)?;
     let input = arms(rt.alloc(), 1024)?;
     let value = value_of(&rt, rt.alloc(), &checked, (0, DEEPEST), &input)?;
-    let text = json_text(rt.alloc(), &value)?;
+    let text = shown(rt.alloc(), &value)?;
     let wanted = shown_arms(rt.alloc())?;
     assert!(rt; text.as_str() == wanted.as_str());
     Ok(())
@@ -258,37 +257,38 @@ fn a_sequence_of_units_is_its_count(rt: HostRuntime) -> Result<(), Fail> {
     Ok(())
 }
 
+/// The decoder goes on, and holds so many nodes of so many bytes.
+fn check_more(
+    rt: &impl Abort,
+    decoder: &mut Decoder<'_, Global>,
+    piece: &[u8],
+    (nodes, taken): (u64, u64),
+) {
+    assert_eq!(rt; feed(decoder, piece), Ok(Progress::More));
+    let wanted = Holding {
+        nodes,
+        texts: 0,
+        taken,
+    };
+    assert_eq!(rt; held(decoder), wanted);
+}
+
 // A sequence of units is one node, however many it claims.
 #[test]
 fn counts_are_no_nodes(rt: HostRuntime) -> Result<(), Fail> {
+    let greatest = b"\x03\xff\xff\xff\xff";
     let checked = checked(rt.alloc(), UNITS_IN_UNITS)?;
     let mut decoder = open(rt.alloc(), &checked, 2, AMPLE)?;
-    let mut told = feed(&mut decoder, b"\xa1\x0f");
-    'elements: for element in 0..1000_u64 {
-        assert_eq!(rt; told, Ok(Progress::More), "element {element}");
-        let wanted = Holding {
-            nodes: element + 1,
-            texts: 0,
-            taken: 5 * element + 2,
-        };
-        assert_eq!(rt; held(&decoder), wanted);
-        told = feed(&mut decoder, b"\x03\xff\xff\xff\xff");
+    check_more(&rt, &mut decoder, b"\xa1\x0f", (1, 2));
+    'elements: for element in 1..1000_u64 {
+        let wanted = (element + 1, 5 * element + 2);
+        check_more(&rt, &mut decoder, greatest, wanted);
     }
+    let told = feed(&mut decoder, greatest);
     assert_eq!(rt; told, Ok(Progress::Done { used: 5 }));
-    let wanted = Holding {
-        nodes: 1001,
-        texts: 0,
-        taken: 5002,
-    };
-    assert_eq!(rt; held(&decoder), wanted);
+    let Holding { nodes, taken, .. } = held(&decoder);
+    assert_eq!(rt; (nodes, taken), (1001, 5002));
     Ok(())
-}
-
-/// What is printed of the value.
-fn printed(rt: &impl Abort, alloc: Global, value: &Value<'_, Global>) -> Vec<u8> {
-    let mut sink = Sink::new(Vec::new(alloc));
-    assert_eq!(rt; print(alloc, value, &mut sink), Ok(()));
-    sink.into_inner()
 }
 
 // A text of 70,000 letters is shown between two quotes.
@@ -297,7 +297,7 @@ fn a_long_text_is_shown(rt: HostRuntime) -> Result<(), Fail> {
     let checked = checked(rt.alloc(), TEXT)?;
     let input = letters(rt.alloc(), 70_000, 70_000)?;
     let value = value_of(&rt, rt.alloc(), &checked, (0, AMPLE), &input)?;
-    let text = printed(&rt, rt.alloc(), &value);
+    let text = printed(rt.alloc(), &value)?;
     assert_eq!(rt; text.len(), 70_002);
     assert!(rt; text.first() == Some(&b'"') && text.last() == Some(&b'"'));
     assert!(rt; text.as_slice().get(1..70_001) == input.as_slice().get(4..));
@@ -321,7 +321,7 @@ fn a_long_run_is_shown(rt: HostRuntime) -> Result<(), Fail> {
     let checked = checked(rt.alloc(), BYTES)?;
     let input = letters(rt.alloc(), 70_000, 70_000)?;
     let value = value_of(&rt, rt.alloc(), &checked, (1, AMPLE), &input)?;
-    let text = json_text(rt.alloc(), &value)?;
+    let text = shown(rt.alloc(), &value)?;
     let wanted = shown_letters(rt.alloc(), 70_000)?;
     assert!(rt; text.as_str() == wanted.as_str());
     Ok(())

@@ -3,8 +3,7 @@
 use crate::calls::front_of;
 use crate::checks::{check_line, check_value, wanted_held, wanted_refusal};
 use crate::streams::UNOPENED;
-use decode_core::{DecodeFault, DecodeReason, OpenFault, PiecesFault, decode_pieces};
-use registry_core::TypeId;
+use decode_core::{DecodeFault, DecodeReason, OpenFault, PiecesFault};
 use scale_tests::building::checked;
 use scale_tests::registries::{U16, nested_pairs};
 use scale_tests::rows::{AMPLE, ROWS, Row};
@@ -22,7 +21,7 @@ fn check_pieces(
     pieces: &[&[u8]],
 ) -> Result<(), Fail> {
     let name = row.name;
-    match front_of(alloc, checked, row, pieces) {
+    match front_of(alloc, checked, row.ty, row.limits, pieces) {
         Ok((value, taken)) => {
             assert_eq!(rt; taken, wanted_held(row).taken, "{name}");
             check_value(rt, alloc, row, &value)
@@ -82,7 +81,7 @@ fn single_bytes_give_the_same(rt: HostRuntime) -> Result<(), Fail> {
 fn a_decoder_that_is_not_made_is_told(rt: HostRuntime) -> Result<(), Fail> {
     let checked = checked(rt.alloc(), U16)?;
     'rows: for (ty, limits, fault) in UNOPENED {
-        let told = decode_pieces(rt.alloc(), &checked, TypeId(ty), limits, &[b"\x2a\x00"]).err();
+        let told = front_of(rt.alloc(), &checked, ty, limits, &[b"\x2a\x00"]).err();
         assert_eq!(rt; told, Some(PiecesFault::Open(fault)));
     }
     Ok(())
@@ -92,7 +91,7 @@ fn a_decoder_that_is_not_made_is_told(rt: HostRuntime) -> Result<(), Fail> {
 fn no_pieces_are_a_value_without_bytes(rt: HostRuntime) -> Result<(), Fail> {
     let registry = nested_pairs(rt.alloc())?;
     let checked = checked(rt.alloc(), &registry)?;
-    let told = decode_pieces(rt.alloc(), &checked, TypeId(40), AMPLE, &[]);
+    let told = front_of(rt.alloc(), &checked, 40, AMPLE, &[]);
     let (value, taken) = told.ok().ok_or("no value")?;
     assert_eq!(rt; (value.node_count(), taken), (1, 0));
     Ok(())

@@ -2,8 +2,7 @@
 
 use crate::calls::all_of;
 use crate::checks::{check_line, check_value, value_len, wanted_refusal};
-use decode_core::{DecodeFault, DecodeReason, OpenFault, StreamFault, decode_all};
-use registry_core::TypeId;
+use decode_core::{DecodeFault, DecodeReason, OpenFault, StreamFault};
 use scale_core::Source;
 use scale_tests::building::{checked, written};
 use scale_tests::paced::{PacedReader, Then};
@@ -56,7 +55,7 @@ fn check_pace(
 ) -> Result<(), Fail> {
     let name = row.name;
     let mut source = Source::new(PacedReader::new(row.bytes, step, Then::GoesOn));
-    let told = all_of(alloc, checked, row, &mut source);
+    let told = all_of(alloc, checked, row.ty, row.limits, &mut source);
     assert!(rt; !source.failed(), "{name}, {step} bytes a read");
     check_told(rt, alloc, row, told)
 }
@@ -117,7 +116,7 @@ fn check_failure(
         bytes: row.bytes,
         until_failure: read,
     });
-    let told = all_of(alloc, checked, row, &mut source);
+    let told = all_of(alloc, checked, row.ty, row.limits, &mut source);
     if source.failed() {
         assert_eq!(rt;
             told.err(),
@@ -164,7 +163,7 @@ fn refusal_before_failure(
 ) -> Result<(Option<StreamFault>, bool), Fail> {
     let checked = checked(alloc, registry)?;
     let mut source = Source::new(PacedReader::new(bytes, 4096, Then::Fails));
-    let fault = decode_all(alloc, &checked, TypeId(ty), AMPLE, &mut source).err();
+    let fault = all_of(alloc, &checked, ty, AMPLE, &mut source).err();
     Ok((fault, source.failed()))
 }
 
@@ -202,7 +201,7 @@ fn check_unread(
 ) -> Result<(), Fail> {
     let checked = checked(alloc, U16)?;
     let mut source = Source::new(PacedReader::new(b"\x2a\x00", 1, Then::Fails));
-    let told = decode_all(alloc, &checked, TypeId(ty), limits, &mut source).err();
+    let told = all_of(alloc, &checked, ty, limits, &mut source).err();
     assert_eq!(rt; told, Some(StreamFault::Open(fault)));
     assert!(rt; !source.failed());
     let mut first = [0; 1];
@@ -269,7 +268,7 @@ fn refusal_of_sequence(
 ) -> Result<Option<StreamFault>, Fail> {
     let checked = checked(alloc, BYTES)?;
     let mut source = Source::new(bytes);
-    let told = decode_all(alloc, &checked, TypeId(1), AMPLE, &mut source);
+    let told = all_of(alloc, &checked, 1, AMPLE, &mut source);
     assert!(rt; !source.failed());
     match told {
         Ok(value) => {
@@ -309,7 +308,7 @@ fn a_value_without_bytes_is_there_at_the_end(rt: HostRuntime) -> Result<(), Fail
     let registry = nested_pairs(rt.alloc())?;
     let checked = checked(rt.alloc(), &registry)?;
     let mut source = Source::new(b"".as_slice());
-    let told = decode_all(rt.alloc(), &checked, TypeId(40), AMPLE, &mut source);
+    let told = all_of(rt.alloc(), &checked, 40, AMPLE, &mut source);
     let value = told.ok().ok_or("no value")?;
     let bytes = written(rt.alloc(), &value)?;
     assert_eq!(rt; (bytes.len(), value.node_count()), (0, 1));
@@ -321,7 +320,7 @@ fn a_byte_behind_a_value_without_bytes_is_told(rt: HostRuntime) -> Result<(), Fa
     let registry = nested_pairs(rt.alloc())?;
     let checked = checked(rt.alloc(), &registry)?;
     let mut source = Source::new(b"\x00".as_slice());
-    let told = decode_all(rt.alloc(), &checked, TypeId(40), AMPLE, &mut source).err();
+    let told = all_of(rt.alloc(), &checked, 40, AMPLE, &mut source).err();
     assert_eq!(rt; told, Some(StreamFault::TrailingBytes { at: 0 }));
     Ok(())
 }
@@ -369,7 +368,7 @@ fn a_read_asks_for_at_most_4096_bytes(rt: HostRuntime) -> Result<(), Fail> {
         left: 10_000,
         most: 0,
     });
-    let Ok(value) = decode_all(rt.alloc(), &checked, TypeId(1), AMPLE, &mut source) else {
+    let Ok(value) = all_of(rt.alloc(), &checked, 1, AMPLE, &mut source) else {
         return Err("no value")?;
     };
     assert_eq!(rt; (value.node_count(), value.text_bytes()), (1, 10_000));

@@ -1,9 +1,9 @@
 //! Values from readers and from pieces where memory is refused.
 
+use crate::calls::{all_of, front_of};
 use crate::decoder_memory::{NESTED_BYTES, REFUSED};
-use decode_core::{OpenFault, PiecesFault, StreamFault, decode_all, decode_pieces};
+use decode_core::{OpenFault, PiecesFault, StreamFault};
 use linked_list_allocator::LocalHeap;
-use registry_core::TypeId;
 use scale_core::Source;
 use scale_tests::building::{checked, written};
 use scale_tests::paced::{PacedReader, Then};
@@ -23,7 +23,7 @@ fn a_reader_is_not_read_without_a_decoder(rt: HostRuntime) -> Result<(), Fail> {
     'requests: for request in [1, 2] {
         let mut source = Source::new(PacedReader::new(b"", 1, Then::Fails));
         let memory = Rationed::new(rt.alloc(), request);
-        let told = decode_all(memory, &checked, TypeId(5), AMPLE, &mut source).err();
+        let told = all_of(memory, &checked, 5, AMPLE, &mut source).err();
         assert_eq!(rt; told, Some(StreamFault::Open(OpenFault::OutOfMemory)));
         assert!(rt; !source.failed());
     }
@@ -35,7 +35,7 @@ fn pieces_without_a_decoder_are_refused(rt: HostRuntime) -> Result<(), Fail> {
     let checked = checked(rt.alloc(), NESTED)?;
     'requests: for request in [1, 2] {
         let memory = Rationed::new(rt.alloc(), request);
-        let told = decode_pieces(memory, &checked, TypeId(5), AMPLE, &[NESTED_BYTES]).err();
+        let told = front_of(memory, &checked, 5, AMPLE, &[NESTED_BYTES]).err();
         assert_eq!(rt; told, Some(PiecesFault::Open(OpenFault::OutOfMemory)));
     }
     Ok(())
@@ -60,7 +60,7 @@ fn refusal_of_reader<A: Allocator + Clone>(
     memory: A,
 ) -> Result<Option<StreamFault>, Fail> {
     let mut source = Source::new(PacedReader::new(NESTED_BYTES, 3, Then::GoesOn));
-    let told = decode_all(memory, checked, TypeId(5), AMPLE, &mut source);
+    let told = all_of(memory, checked, 5, AMPLE, &mut source);
     assert!(rt; !source.failed());
     match told {
         Ok(value) => {
@@ -79,7 +79,7 @@ fn refusal_of_pieces<A: Allocator + Clone>(
     memory: A,
 ) -> Result<Option<PiecesFault>, Fail> {
     let (front, rest) = NESTED_BYTES.split_at(8);
-    match decode_pieces(memory, checked, TypeId(5), AMPLE, &[front, rest]) {
+    match front_of(memory, checked, 5, AMPLE, &[front, rest]) {
         Ok((value, taken)) => {
             assert_eq!(rt; taken, 19);
             check_nested(rt, alloc, &value)?;
