@@ -26,15 +26,18 @@ use Rattle.registry_core.specs.Laws.{FitsMetadata, SpelledIsRead, metadata_of}
 pub record Again {X : Type 0} (P : X → Type 0) (spell : X → List ℕ) (part : Reader X) : Type 0 where
   pub read : (x : X) (rest : List ℕ) → P x → part (spell x ++ rest) ≡ Ok (x, rest)
 
+-- the spelling of a length is read again, with the rest left
 length_again : (n : ℕ) (rest : List ℕ) → n < 2 ^ 32 → length_at (compact n ++ rest) ≡ Ok (n, rest)
 length_again n rest h = rw (compact_again u32_target n (compact n) rest (h, refl)) refl
 
+-- a text is read as it is spelled
 text_is : Again FitsText text string_at
 text_is = record {
   read =
       λ s rest h. rw (text_again s (text s) rest (compact (length s), (h.0, refl), h.1, refl)) refl;
 }
 
+-- so many parts, one after the other, are read as they are spelled
 times_again : {X : Type 0} (P : X → Type 0) (spell : X → List ℕ) (part : Reader X) →
     Again P spell part → (xs : List X) (rest : List ℕ) → AllByRecursion P xs →
     repeated (length xs) part (flat_map spell xs ++ rest) ≡ Ok (xs, rest)
@@ -46,6 +49,7 @@ times_again P spell part h (x ∷ xs) rest fits =
       times_again P spell part h xs rest fits.1,
     ) refl
 
+-- a sequence is read as it is spelled, where its elements are
 sequence_is : {X : Type 0} (P : X → Type 0) (spell : X → List ℕ) (part : Reader X) →
     Again P spell part → Again (FitsList P) (sequence spell) (sequence_at part)
 sequence_is P spell part h =
@@ -57,6 +61,7 @@ sequence_is P spell part h =
       ) refl;
     }
 
+-- a sequence of texts is read as it is spelled
 texts_are : Again FitsTexts texts texts_at
 unfolding texts_at
 texts_are = record {
@@ -64,19 +69,23 @@ texts_are = record {
       λ ss rest fits. (sequence_is FitsText text string_at text_is).read ss rest fits;
 }
 
+-- the spelling of an option is read again, with the rest left, where its part is
 option_again : {X : Type 0} (P : X → Type 0) (spell : X → List ℕ) (part : Reader X) →
     Again P spell part → (o : Option X) (rest : List ℕ) → FitsOption P o →
     option_at part (option spell o ++ rest) ≡ Ok (o, rest)
 option_again P spell part h None rest fits = refl
 option_again P spell part h (Some x) rest fits = rw (h.read x rest fits) refl
 
+-- an option is read as it is spelled, where its part is
 option_is : {X : Type 0} (P : X → Type 0) (spell : X → List ℕ) (part : Reader X) →
     Again P spell part → Again (FitsOption P) (option spell) (option_at part)
 option_is P spell part h = record { read = option_again P spell part h }
 
+-- a reference to a type is read as it is spelled
 id_is : Again FitsId type_id type_id_at
 id_is = record { read = λ t rest h. rw (length_again t.0 rest h) refl }
 
+-- a sequence of references to types is read as it is spelled
 ids_are : Again (FitsList FitsId) (sequence type_id) type_ids_at
 unfolding type_ids_at
 ids_are = record {
@@ -84,6 +93,7 @@ ids_are = record {
       λ xs rest fits. (sequence_is FitsId type_id type_id_at id_is).read xs rest fits;
 }
 
+-- a parameter of a type is read as it is spelled
 param_is : Again FitsParam param param_at
 unfolding param_at
 param_is = record {
@@ -95,6 +105,7 @@ param_is = record {
       ) refl;
 }
 
+-- a sequence of parameters is read as it is spelled
 params_are : Again (FitsList FitsParam) (sequence param) params_at
 unfolding params_at
 params_are = record {
@@ -102,12 +113,15 @@ params_are = record {
       λ xs rest fits. (sequence_is FitsParam param param_at param_is).read xs rest fits;
 }
 
+-- three lists and a rest are the same, whichever are joined first
 three : (a b c rest : List ℕ) → ((a ++ b) ++ c) ++ rest ≡ a ++ (b ++ (c ++ rest))
 three a b c rest = simp append_assoc
 
+-- four lists and a rest are the same, whichever are joined first
 four : (a b c d rest : List ℕ) → (((a ++ b) ++ c) ++ d) ++ rest ≡ a ++ (b ++ (c ++ (d ++ rest)))
 four a b c d rest = simp append_assoc
 
+-- a field is read as it is spelled
 field_is : Again FitsField field field_at
 unfolding field_at
 field_is = record {
@@ -122,6 +136,7 @@ field_is = record {
       ) refl;
 }
 
+-- a sequence of fields is read as it is spelled
 fields_are : Again (FitsList FitsField) (sequence field) fields_at
 unfolding fields_at
 fields_are = record {
@@ -129,6 +144,7 @@ fields_are = record {
       λ xs rest fits. (sequence_is FitsField field field_at field_is).read xs rest fits;
 }
 
+-- an arm of a variant is read as it is spelled
 arm_is : Again FitsArm arm arm_read_at
 unfolding arm_read_at
 arm_is = record {
@@ -141,6 +157,7 @@ arm_is = record {
       ) refl;
 }
 
+-- a sequence of arms is read as it is spelled
 arms_are : Again (FitsList FitsArm) (sequence arm) arms_read_at
 unfolding arms_read_at
 arms_are = record {
@@ -148,6 +165,7 @@ arms_are = record {
       λ xs rest fits. (sequence_is FitsArm arm arm_read_at arm_is).read xs rest fits;
 }
 
+-- the byte of a primitive is read as this primitive, with the rest left
 primitive_again : (p : Primitive) (rest : List ℕ) →
     primitive_at (primitive_byte p ∷ rest) ≡ Ok (p, rest)
 primitive_again P.Bool rest = refl
@@ -166,12 +184,14 @@ primitive_again P.I64 rest = refl
 primitive_again P.I128 rest = refl
 primitive_again P.I256 rest = refl
 
+-- four bytes of a number are read as this number, with the rest left
 u32_again : (n : ℕ) (rest : List ℕ) → n < 2 ^ 32 → number_at 4 (le_bytes 4 n ++ rest) ≡ Ok (n, rest)
 u32_again n rest h = rw (
   number_again 4 (le_bytes 4 n) rest (length-le_bytes 4 n),
   number-le_bytes 4 n h,
 ) refl
 
+-- the spelling of a definition is read again, with the rest left
 definition_again : (d : TypeDef) (rest : List ℕ) → FitsDefinition d →
     definition_at (definition d ++ rest) ≡ Ok (d, rest)
 unfolding definition_at array_at bit_sequence_at
@@ -194,6 +214,7 @@ definition_again (def.BitSequence store order) rest h =
       id_is.read order rest h.1,
     ) refl
 
+-- a type is read as it is spelled
 type_is : Again FitsType type_info type_info_at
 unfolding type_info_at
 type_is = record {
@@ -208,6 +229,7 @@ type_is = record {
       ) refl;
 }
 
+-- types, each behind its position, are read as they are spelled
 types_again : (r : List TypeInfo) (i : ℕ) (rest : List ℕ) → AllByRecursion FitsType r →
     i + length r ≤ 2 ^ 32 → types_at (length r) i (types_from i r ++ rest) ≡ Ok (r, rest)
 types_again [] i rest h small = refl
@@ -220,6 +242,7 @@ types_again (t ∷ r) i rest h small =
       types_again r (i + 1) rest h.1 (omega arith),
     ) refl
 
+-- the spelling of a registry is read as this registry
 pub spelled_is_read : SpelledIsRead FitsRegistry spelling registry_at
 unfolding registry_at spelling
 spelled_is_read r rest h =
@@ -229,6 +252,7 @@ spelled_is_read r rest h =
       types_again r 0 rest h.1 (omega (arith, h.0)),
     ) refl
 
+-- the byte of a version is read as this version, with the rest left
 version_again : (v : Version) (rest : List ℕ) → version_at (version_byte v ∷ rest) ≡ Ok (v, rest)
 version_again V14 rest = refl
 version_again V15 rest = refl
@@ -239,6 +263,7 @@ prefix_again : (v : Version) (rest : List ℕ) →
 unfolding prefix_at
 prefix_again v rest = version_again v rest
 
+-- the spelling of metadata is read as this metadata
 pub metadata_again : SpelledIsRead FitsMetadata metadata_of metadata_at
 unfolding metadata_at
 metadata_again m rest h =

@@ -11,22 +11,27 @@ use Rattle.registry_core.specs.Laws.{IsBehind, FaultIsWithin, FaultIsKept, Front
 use Rattle.registry_core.proofs.Inside.{Inside}
 use Rattle.registry_core.proofs.Steady.{IsTold, IsSteady}
 
+-- a part that is refused within its bytes leaves an end of them, and none where it is cut
 told_at : {X : Type 0} (b : List ℕ) (read : Read RegistryReason X) (reason : RegistryReason)
     (left : List ℕ) → Inside IsTold b read → read ≡ Err (reason, left) → IsBehind b left
     × IsTold reason left
 told_at b read reason left h e = rw e at h
 
+-- the fault of a steady part stands within the bytes
 pub fault_is_within : {X : Type 0} (part : Reader X) → IsSteady part → FaultIsWithin part
 fault_is_within part steady b reason left e =
     let t = told_at b (part b) reason left (steady.inside b) e in (t.0, t.1.0, t.1.1)
 
+-- the fault of a steady part stays the same however the bytes go on, where they were not cut
 pub fault_is_kept : {X : Type 0} (part : Reader X) → IsSteady part → FaultIsKept part
 fault_is_kept part steady b more reason left e ne = let h = steady.extends b more in (rw e at h) ne
 
+-- where two lists are none when joined, the second is none
 nil_behind : (a b : List ℕ) → a ++ b ≡ [] → b ≡ []
 nil_behind [] b e = e
 nil_behind (x ∷ a) b e = absurd cc
 
+-- a reason is that the bytes end too soon, or it is another
 is_cut : (reason : RegistryReason) → (reason ≡ reasons.Truncated) ⊎ (reason ≢ reasons.Truncated)
 is_cut reasons.Truncated = inl refl
 is_cut reasons.BadUtf8 = inr (λ e. absurd cc)
@@ -43,6 +48,7 @@ is_cut reasons.OutOfMemory = inr (λ e. absurd cc)
 abbrev fault : {X : Type 0} → RegistryReason → List ℕ → Read RegistryReason X
 fault reason left = Err (reason, left)
 
+-- faults of one reason that leave the same bytes are the same
 same_fault : {X : Type 0} (x y : RegistryReason) (a b : List ℕ) → x ≡ y → a ≡ b →
     fault {X = X} x a ≡ fault y b
 same_fault x y a b e k = cc
@@ -59,6 +65,7 @@ cut_of r front more (Err e) longer inside extends whole ne = elim (is_cut e.0) [
   | inr other ↦ let both = sym whole ∙ extends other in absurd cc
 ]
 
+-- a shorter front of a spelling is refused as cut, where what is spelled is read
 pub front_is_cut : {X : Type 0} (Fits : X → Type 0) (spell : X → List ℕ) (part : Reader X) →
     IsSteady part → SpelledIsRead Fits spell part → FrontIsCut Fits spell part
 front_is_cut Fits spell part steady again r front more fits split ne =

@@ -21,12 +21,14 @@ abbrev pub with_front : {X : Type 0} → List X → Read RegistryReason (List X)
     Read RegistryReason (List X)
 with_front front read = read >>= λ x. Ok (front ++ x.0, x.1)
 
+-- an element that is read goes to those before it, or in front of those behind it
 regroup : {X : Type 0} (front : List X) (x : X) (read : Read RegistryReason (List X)) →
     with_front front (read >>= λ others. Ok (x ∷ others.0, others.1)) ≡ with_front (front ++ x ∷ [])
     read
 regroup front x (Ok others) = ap (λ (xs : List _). Ok (xs, others.1)) (simp append_assoc)
 regroup front x (Err e) = refl
 
+-- a turn that reads a part leaves the same list in all, with one part fewer to read
 pub goes_on : {X : Type 0} (part : Reader X) (front : List X) (count i : ℕ) (bytes : List ℕ) (x : X)
     (after : List ℕ) (total : Read RegistryReason (List X)) → i < count → part bytes ≡ Ok (x, after)
     → with_front front (repeated (count - i) part bytes) ≡ total →
@@ -38,6 +40,7 @@ goes_on part front count i bytes x after total lt h so_far =
     rw (k, h) (regroup front x (repeated (count - (i + 1)) part after)) in
     sym one ∙ so_far
 
+-- where a turn's part stops the reading, so stops the list
 pub ends : {X : Type 0} (part : Reader X) (stop : Stop) (front : List X) (count i : ℕ)
     (bytes : List ℕ) (total : Read RegistryReason (List X)) → i < count →
     StopsReading stop (part bytes)
@@ -49,6 +52,7 @@ ends part (Fault reason left) front count i bytes total lt h so_far =
     rw (k, h) refl in
     sym so_far ∙ one
 
+-- where no part is left to read, the list is what was read
 pub is_done : {X : Type 0} (part : Reader X) (front : List X) (count i : ℕ) (bytes : List ℕ)
     (total : Read RegistryReason (List X)) → count ≤ i →
     with_front front (repeated (count - i) part bytes) ≡ total → total ≡ Ok (front, bytes)
@@ -60,6 +64,7 @@ is_done part front count i bytes total le so_far =
 
 -- ---- types, each behind its position
 
+-- a turn that reads a position and its type leaves the same list, with one type fewer to read
 pub type_goes_on : (front : List TypeInfo) (count i : ℕ) (bytes behind : List ℕ) (x : TypeInfo)
     (after : List ℕ) (total : Read RegistryReason (List TypeInfo)) → i < count
     → id_at i bytes ≡ Ok (i, behind) → type_info_at behind ≡ Ok (x, after)
@@ -72,6 +77,7 @@ type_goes_on front count i bytes behind x after total lt at h so_far =
     rw (k, at, h) (regroup front x (types_at (count - (i + 1)) (i + 1) after)) in
     sym one ∙ so_far
 
+-- where a type's position stops the reading, so stops the list
 pub id_ends : (stop : Stop) (front : List TypeInfo) (count i : ℕ) (bytes : List ℕ)
     (total : Read RegistryReason (List TypeInfo)) → i < count → StopsReading stop (id_at i bytes)
     → with_front front (types_at (count - i) i bytes) ≡ total → StopsReading stop total
@@ -82,6 +88,7 @@ id_ends (Fault reason left) front count i bytes total lt h so_far =
     rw (k, h) refl in
     sym so_far ∙ one
 
+-- where a type behind its position stops the reading, so stops the list
 pub type_ends : (stop : Stop) (front : List TypeInfo) (count i : ℕ) (bytes behind : List ℕ)
     (total : Read RegistryReason (List TypeInfo)) → i < count
     → id_at i bytes ≡ Ok (i, behind) → StopsReading stop (type_info_at behind)

@@ -11,14 +11,17 @@ use Rattle.registry_core.specs.Laws.{IsBehind}
 use Rattle.registry_core.specs.Reading.{reason_of, lifted}
 use Rattle.registry_core.proofs.Inside.{Inside, CutAtEnd}
 
+-- what is within the bytes is no longer than they are
 pub behind-length : (b left : List ℕ) → IsBehind b left → length left ≤ length b
 behind-length b left h = omega (arith, ap (λ (x : List ℕ). length x) h.1, length-append h.0 left)
 
+-- what a fault leaves stands behind the fault's place
 pub drop-place : (b left : List ℕ) → IsBehind b left → drop (place b left) b ≡ left
 drop-place b left h =
     let len : place (h.0 ++ left) left ≡ length h.0 = omega (arith, length-append h.0 left) in
     rw (h.1, len) (drop_at h.0 left (length h.0) refl)
 
+-- what an integer or a text leaves where it is refused is within the bytes
 err_behind : {X : Type 0} (b : List ℕ) (read : Read Reason X) (reason : Reason) (left : List ℕ) →
     Inside CutAtEnd b read → read ≡ Err (reason, left) → IsBehind b left
 err_behind b read reason left h e = (rw e at h).0

@@ -5,6 +5,7 @@ use Rattle.scale_core.specs.Compact.{compact}
 use Rattle.registry_core.specs.declared.type_info.TypeInfo.{TypeInfo}
 use Rattle.registry_core.specs.Spelling.{type_info, types_from}
 
+-- a type more at the end adds its position and its spelling
 types_from-push : (i k : ℕ) (ts : List TypeInfo) (t : TypeInfo) → i + length ts ≡ k →
     types_from i (ts ++ t ∷ []) ≡ types_from i ts ++ (compact k ++ type_info t)
 types_from-push i k [] t e = let same : i ≡ k = omega (arith, e) in rw (same, append-nil) refl
@@ -16,6 +17,7 @@ types_from-push i k (s ∷ ts) t e =
           (compact k ++ type_info t),
     ) refl
 
+-- behind the types before it, a type's position and its spelling come next
 pub types_from-take : (bytes : List ℕ) (ts : List TypeInfo) (k : ℕ) (t : TypeInfo) → k < length ts →
     t ≡ get_or ts k t →
     ((bytes ++ types_from 0 (take k ts)) ++ compact k) ++ type_info t

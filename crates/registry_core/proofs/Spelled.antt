@@ -24,6 +24,7 @@ use Rattle.registry_core.specs.Spelling.{sequence, text, texts, option, type_id,
 use Rattle.registry_core.specs.Reading.{Reader, lifted, length_at, repeated, sequence_at, string_at, texts_at, option_at, type_id_at, type_ids_at, param_at, params_at, field_at, fields_at, arm_read_at, arms_read_at, byte_at, primitive_at, definition_at, type_info_at, id_at, types_at, registry_at, as_definition, array_at, bit_sequence_at, letter_at, letters_at, named, version_at, prefix_at, metadata_at}
 use Rattle.registry_core.specs.Laws.{FitsMetadata, ReadIsSpelled, metadata_of}
 
+-- what two parts take one after the other was spelled so, where each part's bytes were
 bind_in : {X Y : Type 0} (P : X → List ℕ → Type 0) (Q : Y → List ℕ → Type 0) (b : List ℕ)
     (r : Read RegistryReason X) (f : X × List ℕ → Read RegistryReason Y) →
     AreBytes b → Takes P b r →
@@ -40,16 +41,19 @@ Spelled P spell x c = P x × (c ≡ spell x)
 record Good {X : Type 0} (P : X → Type 0) (spell : X → List ℕ) (part : Reader X) : Type 0 where
   takes : (b : List ℕ) → AreBytes b → Takes (Spelled P spell) b (part b)
 
+-- the same bytes are taken where a fault is told as one of a registry
 lifted_takes : {X : Type 0} (P : X → List ℕ → Type 0) (b : List ℕ) (r : Read Reason X) →
     Takes P b r → Takes P b (lifted r)
 lifted_takes P b (Ok x) h = h
 lifted_takes P b (Err e) h = tt
 
+-- what was taken meets another property, where the one that is known gives it
 mapped : {E X : Type 0} (P Q : X → List ℕ → Type 0) (b : List ℕ) (r : Read E X) → Takes P b r →
     ((x : X) (c : List ℕ) → P x c → Q x c) → Takes Q b r
 mapped P Q b (Ok x) h f = (h.0, h.1, f x.0 h.0 h.2)
 mapped P Q b (Err e) h f = tt
 
+-- a length that is read was spelled so
 length_good : Good (λ n. n < 2 ^ 32) compact length_at
 length_good = record {
   takes =
@@ -57,6 +61,7 @@ length_good = record {
       (compact_takes u32_target b);
 }
 
+-- a text that is read was spelled so
 text_good : Good FitsText text string_at
 text_good = record {
   takes =
@@ -65,6 +70,7 @@ text_good = record {
       (λ s c h. ((h.1.0, h.2), h.3 ∙ ap (λ (x : List ℕ). x ++ s) h.1.1)));
 }
 
+-- so many parts that are read one after the other were spelled so
 times_good : {X : Type 0} (P : X → Type 0) (spell : X → List ℕ) (part : Reader X) →
     Good P spell part → (n : ℕ) (b : List ℕ) → AreBytes b →
     Takes (λ xs c. AllByRecursion P xs × (length xs ≡ n) × (c ≡ flat_map spell xs)) b
@@ -79,6 +85,7 @@ times_good P spell part h (suc n) b bytes =
     (repeated n part x.1) _ rest (times_good P spell part h n x.1 rest) (λ xs d more m.
     ([], refl, ((k.0, m.0), ap (λ (i : ℕ). suc i) m.1, rw (append-nil, k.1, m.2) refl))))
 
+-- a sequence that is read was spelled so, where its elements were
 sequence_good : {X : Type 0} (P : X → Type 0) (spell : X → List ℕ) (part : Reader X) →
     Good P spell part → Good (FitsList P) (sequence spell) (sequence_at part)
 sequence_good P spell part h = record {
@@ -91,6 +98,7 @@ sequence_good P spell part h = record {
       ((omega (arith, m.1, k.0), m.0), rw (k.1, m.2, m.1) refl)));
 }
 
+-- a sequence of texts that is read was spelled so
 texts_good : Good FitsTexts texts texts_at
 unfolding texts_at
 texts_good = record {
@@ -98,6 +106,7 @@ texts_good = record {
       λ b bytes. (sequence_good FitsText text string_at text_good).takes b bytes;
 }
 
+-- an option that is read stood on the front in its spelling, where its part did
 option_takes : {X : Type 0} (P : X → Type 0) (spell : X → List ℕ) (part : Reader X) →
     Good P spell part → (b : List ℕ) → AreBytes b →
     Takes (Spelled (FitsOption P) (option spell)) b (option_at part b)
@@ -109,10 +118,12 @@ option_takes P spell part h (suc zero ∷ b) bytes =
     bytes.1 (h.takes b bytes.1) (λ x c rest k. ([], refl, (k.0, rw (append-nil, k.1) refl))))
 option_takes P spell part h (suc (suc x) ∷ b) bytes = tt
 
+-- an option that is read was spelled so, where its part was
 option_good : {X : Type 0} (P : X → Type 0) (spell : X → List ℕ) (part : Reader X) →
     Good P spell part → Good (FitsOption P) (option spell) (option_at part)
 option_good P spell part h = record { takes = option_takes P spell part h }
 
+-- a reference to a type that is read was spelled so
 id_good : Good FitsId type_id type_id_at
 id_good = record {
   takes =
@@ -120,6 +131,7 @@ id_good = record {
       _ bytes (length_good.takes b bytes) (λ n c rest k. ([], refl, (k.0, rw append-nil k.1)));
 }
 
+-- a sequence of references that is read was spelled so
 ids_good : Good (FitsList FitsId) (sequence type_id) type_ids_at
 unfolding type_ids_at
 ids_good = record {
@@ -127,6 +139,7 @@ ids_good = record {
       λ b bytes. (sequence_good FitsId type_id type_id_at id_good).takes b bytes;
 }
 
+-- a parameter of a type that is read was spelled so
 param_good : Good FitsParam param param_at
 unfolding param_at
 param_good = record {
@@ -138,6 +151,7 @@ param_good = record {
       ([], refl, ((k1.0, k2.0), rw (append-nil, k1.1, k2.1) refl))));
 }
 
+-- a sequence of parameters that is read was spelled so
 params_good : Good (FitsList FitsParam) (sequence param) params_at
 unfolding params_at
 params_good = record {
@@ -145,9 +159,11 @@ params_good = record {
       λ b bytes. (sequence_good FitsParam param param_at param_good).takes b bytes;
 }
 
+-- four lists and none are the four, whichever are joined first
 four_nil : (a b c d : List ℕ) → a ++ (b ++ (c ++ (d ++ []))) ≡ ((a ++ b) ++ c) ++ d
 four_nil a b c d = simp (append_assoc, append-nil)
 
+-- a field that is read was spelled so
 field_good : Good FitsField field field_at
 unfolding field_at
 field_good = record {
@@ -171,6 +187,7 @@ field_good = record {
       )))));
 }
 
+-- a sequence of fields that is read was spelled so
 fields_good : Good (FitsList FitsField) (sequence field) fields_at
 unfolding fields_at
 fields_good = record {
@@ -178,13 +195,16 @@ fields_good = record {
       λ b bytes. (sequence_good FitsField field field_at field_good).takes b bytes;
 }
 
+-- a byte that is read stood on the front
 byte_takes : (b : List ℕ) → AreBytes b → Takes (λ i c. (i < 256) × (c ≡ i ∷ [])) b (byte_at b)
 byte_takes [] bytes = tt
 byte_takes (x ∷ b) bytes = (x ∷ [], refl, (bytes.0, refl))
 
+-- an arm's parts and none are the arm, whichever are joined first
 arm_nil : (a s t : List ℕ) (i : ℕ) → a ++ (s ++ (i ∷ (t ++ []))) ≡ (a ++ s) ++ (i ∷ t)
 arm_nil a s t i = simp (append_assoc, append-nil)
 
+-- an arm of a variant that is read was spelled so
 arm_good : Good FitsArm arm arm_read_at
 unfolding arm_read_at
 arm_good = record {
@@ -207,6 +227,7 @@ arm_good = record {
       )))));
 }
 
+-- a sequence of arms that is read was spelled so
 arms_good : Good (FitsList FitsArm) (sequence arm) arms_read_at
 unfolding arms_read_at
 arms_good = record {
@@ -214,6 +235,7 @@ arms_good = record {
       λ b bytes. (sequence_good FitsArm arm arm_read_at arm_good).takes b bytes;
 }
 
+-- a primitive that is read stood on the front as its byte
 primitive_takes : (b : List ℕ) → Takes (λ p c. c ≡ primitive_byte p ∷ []) b (primitive_at b)
 primitive_takes [] = tt
 primitive_takes (zero ∷ b) = (0 ∷ [], refl, refl)
@@ -255,6 +277,7 @@ as_good P spell part make byte h fits is b bytes =
       (fits x.0 k.0, rw (append-nil, k.1) (is x.0)),
     )))
 
+-- a number of four bytes that is read stood on the front, and fits 32 bits
 u32_takes : (b : List ℕ) → AreBytes b →
     Takes (λ n c. (n < 2 ^ 32) × (c ≡ le_bytes 4 n)) b (number_at 4 b)
 u32_takes b bytes = cond_takes (λ n c. (n < 2 ^ 32) × (c ≡ le_bytes 4 n)) b (ltb (length b) 4) _ _
@@ -272,6 +295,7 @@ u32_takes b bytes = cond_takes (λ n c. (n < 2 ^ 32) × (c ≡ le_bytes 4 n)) b 
       ),
     ))
 
+-- an array's definition that is read stood on the front behind its mark
 array_takes : (b : List ℕ) → AreBytes b →
     Takes (Spelled FitsDefinition definition) (3 ∷ b) (array_at b)
 unfolding array_at
@@ -284,6 +308,7 @@ array_takes b bytes = then_takes (Spelled FitsDefinition definition) (3 ∷ b) (
     n.1 (type_id_at n.1) _ r1 (id_good.takes n.1 r1)
     (λ t c2 r2 k2. ([], refl, ((k1.0, k2.0), rw (append-nil, k1.1, k2.1) refl)))))
 
+-- a bit sequence's definition that is read stood on the front behind its mark
 bit_sequence_takes : (b : List ℕ) → AreBytes b →
     Takes (Spelled FitsDefinition definition) (7 ∷ b) (bit_sequence_at b)
 unfolding bit_sequence_at
@@ -295,6 +320,7 @@ bit_sequence_takes b bytes =
     n.1 (type_id_at n.1) _ r1 (id_good.takes n.1 r1)
     (λ t c2 r2 k2. ([], refl, ((k1.0, k2.0), rw (append-nil, k1.1, k2.1) refl)))))
 
+-- a primitive's definition that is read stood on the front behind its mark
 primitive_good : (b : List ℕ) → AreBytes b →
     Takes (Spelled FitsDefinition definition) (5 ∷ b) (as_definition def.Primitive primitive_at b)
 primitive_good b bytes = then_takes (Spelled FitsDefinition definition) (5 ∷ b) (5 ∷ []) b _ refl
@@ -302,6 +328,7 @@ primitive_good b bytes = then_takes (Spelled FitsDefinition definition) (5 ∷ b
     b (primitive_at b) _ bytes (primitive_takes b)
     (λ x c rest k. ([], refl, (tt, rw (append-nil, k) refl))))
 
+-- a definition that is read stood on the front in its spelling
 definition_takes : (b : List ℕ) → AreBytes b →
     Takes (Spelled FitsDefinition definition) b (definition_at b)
 unfolding definition_at
@@ -325,6 +352,7 @@ definition_takes ((suc (suc (suc (suc (suc (suc (suc zero))))))) ∷ b) bytes =
     bit_sequence_takes b bytes.1
 definition_takes ((suc (suc (suc (suc (suc (suc (suc (suc x)))))))) ∷ b) bytes = tt
 
+-- a type that is read was spelled so
 type_good : Good FitsType type_info type_info_at
 unfolding type_info_at
 type_good = record {
@@ -349,15 +377,18 @@ type_good = record {
       )))));
 }
 
+-- a position that is read stood on the front in its spelling
 id_takes : (i : ℕ) (b : List ℕ) → AreBytes b → Takes (λ n c. c ≡ compact i) b (id_at i b)
 id_takes i b bytes = bind_in (Spelled (λ n. n < 2 ^ 32) compact) (λ n c. c ≡ compact i) b
     (length_at b) _ bytes (length_good.takes b bytes) (λ n c rest k.
     cond_takes (λ m d. c ++ d ≡ compact i) n.1 (n.0 == i) (Ok n) (Err (registry.IdOutOfPlace, b))
     (λ e. ([], refl, rw (append-nil, k.1, eqb-true n.0 i e) refl)) (λ e. tt))
 
+-- three lists and none are the three, whichever are joined first
 three_nil : (a b c : List ℕ) → a ++ (b ++ (c ++ [])) ≡ (a ++ b) ++ c
 three_nil a b c = simp (append_assoc, append-nil)
 
+-- types that are read stood on the front, each behind its position
 types_takes : (n i : ℕ) (b : List ℕ) → AreBytes b →
     Takes (λ r c. AllByRecursion FitsType r × (length r ≡ n) × (c ≡ types_from i r)) b
     (types_at n i b)
@@ -381,6 +412,7 @@ types_takes (suc n) i b bytes =
       ),
     ))))
 
+-- a registry that is read stood on the front in its spelling
 registry_takes : (b : List ℕ) → AreBytes b → Takes (Spelled FitsRegistry spelling) b (registry_at b)
 unfolding registry_at spelling
 registry_takes b bytes =
@@ -391,6 +423,7 @@ registry_takes b bytes =
     (types_takes n.0 0 n.1 r1) (λ r c k.
     ((omega (arith, k.1, k1.0), k.0), rw (k1.1, k.2, k.1) refl)))
 
+-- what was read fits, and its spelling and what is left are the bytes
 spelled_of : {X : Type 0} (P : X → Type 0) (spell : X → List ℕ) (b : List ℕ)
     (read : Read RegistryReason X) (x : X) (rest : List ℕ) →
     Takes (Spelled P spell) b read → read ≡ Ok (x, rest) → P x × (b ≡ spell x ++ rest)
@@ -399,12 +432,14 @@ spelled_of {X = X} P spell b (Ok y) x rest h eq =
     let same = done_is {E = RegistryReason} y (x, rest) eq in
     subst (λ (p : X × List ℕ). P p.0 × (b ≡ spell p.0 ++ p.1)) same (h.2.0, rw (← h.2.1) h.1)
 
+-- a registry that is read was spelled by the bytes that it took
 pub read_is_spelled : ReadIsSpelled FitsRegistry spelling registry_at
 read_is_spelled b r rest bytes e =
     spelled_of FitsRegistry spelling b (registry_at b) r rest (registry_takes b bytes) e
 
 -- ---- metadata
 
+-- a letter that is read stood on the front
 letter_takes : (letter : ℕ) (b : List ℕ) →
     Takes (λ read c. c ≡ letter ∷ []) b (letter_at letter b)
 letter_takes letter [] = tt
@@ -412,6 +447,7 @@ letter_takes letter (x ∷ b) =
     cond_takes (λ read c. c ≡ letter ∷ []) (x ∷ b) (x == letter) (Ok (tt, b))
     (Err (registry.NotMetadata, x ∷ b)) (λ e. (x ∷ [], refl, rw (eqb-true x letter e) refl)) (λ e. tt)
 
+-- letters that are read stood on the front in their order
 letters_take : (letters b : List ℕ) → AreBytes b →
     Takes (λ read c. c ≡ letters) b (letters_at letters b)
 letters_take [] b bytes = ([], refl, refl)
@@ -432,17 +468,20 @@ told_by false true x v first second e =
     let same : V15 ≡ v = cc in second refl ∙ ap version_byte same
 told_by false false x v first second e = absurd cc
 
+-- a version that a byte names stood on the front as this byte
 named_takes : (b : List ℕ) (x : ℕ) (o : Option Version) →
     ((v : Version) → o ≡ Some v → x ≡ version_byte v) →
     Takes (λ v c. c ≡ version_byte v ∷ []) (x ∷ b) (named registry.WrongVersion (x ∷ b) o b)
 named_takes b x (Some v) h = (x ∷ [], refl, ap (λ (n : ℕ). n ∷ []) (h v refl))
 named_takes b x None h = tt
 
+-- a version that is read stood on the front as its byte
 version_takes : (b : List ℕ) → Takes (λ v c. c ≡ version_byte v ∷ []) b (version_at b)
 version_takes [] = tt
 version_takes (x ∷ b) = named_takes b x (version_of x)
     (λ v. told_by (x == 14) (x == 15) x v (eqb-true x 14) (eqb-true x 15))
 
+-- the prefix of metadata that is read stood on the front: its letters and its version
 prefix_takes : (b : List ℕ) → AreBytes b →
     Takes (λ v c. c ≡ magic ++ version_byte v ∷ []) b (prefix_at b)
 unfolding prefix_at
@@ -452,6 +491,7 @@ prefix_takes b bytes =
     mapped (λ v d. d ≡ version_byte v ∷ []) (λ v d. c ++ d ≡ magic ++ version_byte v ∷ []) letters.1
     (version_at letters.1) (version_takes letters.1) (λ v d m. rw (k, m) refl))
 
+-- metadata that is read stood on the front in its spelling
 metadata_takes : (b : List ℕ) → AreBytes b →
     Takes (Spelled FitsMetadata metadata_of) b (metadata_at b)
 unfolding metadata_at
@@ -462,6 +502,7 @@ metadata_takes b bytes =
     version.1 (registry_at version.1) _ rest (registry_takes version.1 rest) (λ types d more m.
     ([], refl, (m.0, rw (append-nil, k, m.1) refl))))
 
+-- metadata that is read was spelled by the bytes that it took
 pub metadata_is_spelled : ReadIsSpelled FitsMetadata metadata_of metadata_at
 metadata_is_spelled b m rest bytes e =
     spelled_of FitsMetadata metadata_of b (metadata_at b) m rest (metadata_takes b bytes) e

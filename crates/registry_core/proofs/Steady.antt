@@ -27,6 +27,7 @@ pub record IsSteady {X : Type 0} (part : Reader X) : Type 0 where
   pub inside : (b : List ℕ) → Inside IsTold b (part b)
   pub extends : (b more : List ℕ) → Extends registry.Truncated more (part b) (part (b ++ more))
 
+-- a fault is told as cut only where it was one
 cut : (reason : Reason) → reason_of reason ≡ registry.Truncated → reason ≡ scale.Truncated
 cut scale.Truncated e = refl
 cut scale.BadUtf8 e = absurd cc
@@ -35,6 +36,7 @@ cut scale.CompactTooLarge e = absurd cc
 cut scale.BadBool e = absurd cc
 cut scale.BadChar e = absurd cc
 
+-- no fault of an integer or a text is told as want of memory
 no_memory : (reason : Reason) → reason_of reason ≢ registry.OutOfMemory
 no_memory scale.Truncated e = absurd cc
 no_memory scale.BadUtf8 e = absurd cc
@@ -43,16 +45,19 @@ no_memory scale.CompactTooLarge e = absurd cc
 no_memory scale.BadBool e = absurd cc
 no_memory scale.BadChar e = absurd cc
 
+-- a fault stands within the bytes also where it is told as one of a registry
 lifted_inside : {X : Type 0} (b : List ℕ) (r : Read Reason X) → Inside CutAtEnd b r →
     Inside IsTold b (lifted r)
 lifted_inside b (Ok x) h = h
 lifted_inside b (Err e) h = (h.0, (no_memory e.0, λ same. h.1 (cut e.0 same)))
 
+-- what is read alike from a longer input is so also where its fault is told as one of a registry
 lifted_extends : {X : Type 0} (more : List ℕ) (r s : Read Reason X) →
     Extends scale.Truncated more r s → Extends registry.Truncated more (lifted r) (lifted s)
 lifted_extends more (Ok x) s h = rw h refl
 lifted_extends more (Err e) s h = λ ne. rw (h (λ same. ne (ap reason_of same))) refl
 
+-- the reading of a length is steady
 length_steady : IsSteady length_at
 length_steady = record {
   inside = λ b. lifted_inside b (compact_at u32_target b) (compact_inside b);
@@ -60,12 +65,14 @@ length_steady = record {
       (compact_at u32_target (b ++ more)) (compact_extends u32_target b more);
 }
 
+-- the reading of a text is steady
 text_steady : IsSteady string_at
 text_steady = record {
   inside = λ b. lifted_inside b (text_at b) (text_inside b);
   extends = λ b more. lifted_extends more (text_at b) (text_at (b ++ more)) (text_extends b more);
 }
 
+-- a number is read alike from a longer input, where it was not cut
 number_extends : (k : ℕ) (b more : List ℕ) →
     Extends scale.Truncated more (number_at k b) (number_at k (b ++ more))
 number_extends k b more = elim (cases_lt (length b) k) [
@@ -78,6 +85,7 @@ number_extends k b more = elim (cases_lt (length b) k) [
   ) refl
 ]
 
+-- the reading of a number of four bytes is steady
 word_steady : IsSteady (λ bytes. lifted (number_at 4 bytes))
 word_steady = record {
   inside = λ b. lifted_inside b (number_at 4 b) (number_inside 4 b);
@@ -85,17 +93,21 @@ word_steady = record {
       (number_extends 4 b more);
 }
 
+-- the fault of a byte stands at the end: it is cut
 byte_inside : (b : List ℕ) → Inside IsTold b (byte_at b)
 byte_inside [] = (at_end [], (λ e. absurd cc, λ e. refl))
 byte_inside (x ∷ b) = (x ∷ [], refl)
 
+-- a byte is read alike from a longer input, where it was not cut
 byte_extends : (b more : List ℕ) → Extends registry.Truncated more (byte_at b) (byte_at (b ++ more))
 byte_extends [] more = λ ne. absurd (ne refl)
 byte_extends (x ∷ b) more = refl
 
+-- the reading of a byte is steady
 byte_steady : IsSteady byte_at
 byte_steady = record { inside = byte_inside; extends = byte_extends }
 
+-- a reading that takes nothing is steady
 done_steady : {X : Type 0} (x : X) → IsSteady (λ bytes. Ok (x, bytes))
 done_steady x = record { inside = at_front; extends = λ b more. refl }
 
@@ -109,6 +121,7 @@ then_steady first then h k = record {
       (λ x. then x.0 x.1) (λ x. then x.0 x.1) (h.extends b more) (λ x. (k x.0).extends x.1 more);
 }
 
+-- so many steady parts, one after the other, are steady
 times_steady : {X : Type 0} (part : Reader X) → IsSteady part → (n : ℕ) → IsSteady (repeated n part)
 times_steady part h zero = record { inside = at_front; extends = λ b more. refl }
 times_steady part h (suc n) =
@@ -116,19 +129,23 @@ times_steady part h (suc n) =
     (λ x. then_steady (repeated n part) (λ xs bytes. Ok (x ∷ xs, bytes)) (times_steady part h n)
     (λ xs. done_steady (x ∷ xs)))
 
+-- a sequence of steady elements is steady
 sequence_steady : {X : Type 0} (part : Reader X) → IsSteady part → IsSteady (sequence_at part)
 sequence_steady part h =
     then_steady length_at (λ n. repeated n part) length_steady (λ n. times_steady part h n)
 
+-- the reading of a sequence of texts is steady
 texts_steady : IsSteady texts_at
 unfolding texts_at
 texts_steady = let s = sequence_steady string_at text_steady in
     record { inside = s.inside; extends = s.extends }
 
+-- a steady part stays so where it is read as the one of an option
 some_steady : {X : Type 0} (part : Reader X) → IsSteady part →
     IsSteady (λ bytes. part bytes >>= λ x. Ok (Some x.0, x.1))
 some_steady part h = then_steady part (λ x bytes. Ok (Some x, bytes)) h (λ x. done_steady (Some x))
 
+-- the fault of an option stands within the bytes, where its part is steady
 option_inside : {X : Type 0} (part : Reader X) → IsSteady part → (b : List ℕ) →
     Inside IsTold b (option_at part b)
 option_inside part h [] = (at_end [], (λ e. absurd cc, λ e. refl))
@@ -138,6 +155,7 @@ option_inside part h (suc zero ∷ b) =
 option_inside part h (suc (suc x) ∷ b) =
     (at_front (suc (suc x) ∷ b), (λ e. absurd cc, λ e. absurd cc))
 
+-- an option is read alike from a longer input, where its part is steady and it was not cut
 option_extends : {X : Type 0} (part : Reader X) → IsSteady part → (b more : List ℕ) →
     Extends registry.Truncated more (option_at part b) (option_at part (b ++ more))
 option_extends part h [] more = λ ne. absurd (ne refl)
@@ -145,18 +163,22 @@ option_extends part h (zero ∷ b) more = refl
 option_extends part h (suc zero ∷ b) more = (some_steady part h).extends b more
 option_extends part h (suc (suc x) ∷ b) more = λ ne. refl
 
+-- an option of a steady part is steady
 option_steady : {X : Type 0} (part : Reader X) → IsSteady part → IsSteady (option_at part)
 option_steady part h = record { inside = option_inside part h; extends = option_extends part h }
 
+-- the reading of a reference to a type is steady
 id_steady : IsSteady type_id_at
 id_steady = then_steady length_at (λ n bytes. Ok (record { 0 = n }, bytes)) length_steady
     (λ n. done_steady (record { 0 = n }))
 
+-- the reading of a sequence of references is steady
 ids_steady : IsSteady type_ids_at
 unfolding type_ids_at
 ids_steady = let s = sequence_steady type_id_at id_steady in
     record { inside = s.inside; extends = s.extends }
 
+-- the reading of a parameter of a type is steady
 param_steady : IsSteady param_at
 unfolding param_at
 param_steady =
@@ -170,11 +192,13 @@ param_steady =
     done_steady (record { name = name; ty = ty }))) in
     record { inside = s.inside; extends = s.extends }
 
+-- the reading of a sequence of parameters is steady
 params_steady : IsSteady params_at
 unfolding params_at
 params_steady = let s = sequence_steady param_at param_steady in
     record { inside = s.inside; extends = s.extends }
 
+-- the reading of a field is steady
 field_steady : IsSteady field_at
 unfolding field_at
 field_steady =
@@ -197,11 +221,13 @@ field_steady =
     done_steady (record { name = name; ty = ty; type_name = type_name; docs = docs }))))) in
     record { inside = s.inside; extends = s.extends }
 
+-- the reading of a sequence of fields is steady
 fields_steady : IsSteady fields_at
 unfolding fields_at
 fields_steady = let s = sequence_steady field_at field_steady in
     record { inside = s.inside; extends = s.extends }
 
+-- the reading of an arm of a variant is steady
 arm_steady : IsSteady arm_read_at
 unfolding arm_read_at
 arm_steady =
@@ -225,6 +251,7 @@ arm_steady =
     done_steady (record { name = name; fields = fields; index = index; docs = docs }))))) in
     record { inside = s.inside; extends = s.extends }
 
+-- the reading of a sequence of arms is steady
 arms_steady : IsSteady arms_read_at
 unfolding arms_read_at
 arms_steady = let s = sequence_steady arm_read_at arm_steady in
@@ -232,6 +259,7 @@ arms_steady = let s = sequence_steady arm_read_at arm_steady in
 
 -- ---- definitions
 
+-- a byte that names nothing is a fault within the bytes, neither a cut nor want of memory
 named_inside : {X : Type 0} (reason : RegistryReason) (b : List ℕ) (o : Option X) (rest : List ℕ) →
     reason ≢ registry.OutOfMemory → reason ≢ registry.Truncated → IsBehind b rest →
     Inside IsTold b (named reason b o rest)
@@ -239,32 +267,38 @@ named_inside reason b (Some x) rest no_memory no_cut h = h
 named_inside reason b None rest no_memory no_cut h =
     (at_front b, (no_memory, λ e. absurd (no_cut e)))
 
+-- what a byte names is the same in a longer input
 named_extends : {X : Type 0} (reason : RegistryReason) (b : List ℕ) (o : Option X)
     (rest more : List ℕ) → Extends registry.Truncated more (named reason b o rest)
     (named reason (b ++ more) o (rest ++ more))
 named_extends reason b (Some x) rest more = refl
 named_extends reason b None rest more = λ ne. refl
 
+-- the fault of a primitive stands within the bytes
 primitive_inside : (b : List ℕ) → Inside IsTold b (primitive_at b)
 primitive_inside [] = (at_end [], (λ e. absurd cc, λ e. refl))
 primitive_inside (x ∷ b) =
     named_inside registry.BadPrimitive (x ∷ b) (slice_get primitives x) b (λ e. absurd cc)
     (λ e. absurd cc) (x ∷ [], refl)
 
+-- a primitive is read alike from a longer input, where it was not cut
 primitive_extends : (b more : List ℕ) →
     Extends registry.Truncated more (primitive_at b) (primitive_at (b ++ more))
 primitive_extends [] more = λ ne. absurd (ne refl)
 primitive_extends (x ∷ b) more =
     named_extends registry.BadPrimitive (x ∷ b) (slice_get primitives x) b more
 
+-- the reading of a primitive is steady
 primitive_steady : IsSteady primitive_at
 primitive_steady = record { inside = primitive_inside; extends = primitive_extends }
 
+-- a steady part stays so where it is read as a definition
 as_steady : {X : Type 0} (make : X → TypeDef) (part : Reader X) → IsSteady part →
     IsSteady (as_definition make part)
 as_steady make part h = then_steady part (λ x bytes. Ok (make x, bytes)) h
     (λ x. done_steady (make x))
 
+-- the reading of an array's definition is steady
 array_steady : IsSteady array_at
 unfolding array_at
 array_steady =
@@ -275,6 +309,7 @@ array_steady =
     (λ element. done_steady (def.Array len element))) in
     record { inside = s.inside; extends = s.extends }
 
+-- the reading of a bit sequence's definition is steady
 bit_sequence_steady : IsSteady bit_sequence_at
 unfolding bit_sequence_at
 bit_sequence_steady =
@@ -285,6 +320,7 @@ bit_sequence_steady =
     (λ order. done_steady (def.BitSequence store order))) in
     record { inside = s.inside; extends = s.extends }
 
+-- the fault of a definition stands within the bytes
 definition_inside : (b : List ℕ) → Inside IsTold b (definition_at b)
 unfolding definition_at
 definition_inside [] = (at_end [], (λ e. absurd cc, λ e. refl))
@@ -306,6 +342,7 @@ definition_inside ((suc (suc (suc (suc (suc (suc (suc zero))))))) ∷ b) =
 definition_inside ((suc (suc (suc (suc (suc (suc (suc (suc x)))))))) ∷ b) =
     (([], refl), (λ e. absurd cc, λ e. absurd cc))
 
+-- a definition is read alike from a longer input, where it was not cut
 definition_extends : (b more : List ℕ) →
     Extends registry.Truncated more (definition_at b) (definition_at (b ++ more))
 unfolding definition_at
@@ -327,11 +364,13 @@ definition_extends ((suc (suc (suc (suc (suc (suc (suc zero))))))) ∷ b) more =
     bit_sequence_steady.extends b more
 definition_extends ((suc (suc (suc (suc (suc (suc (suc (suc x)))))))) ∷ b) more = λ ne. refl
 
+-- the reading of a definition is steady
 definition_steady : IsSteady definition_at
 definition_steady = record { inside = definition_inside; extends = definition_extends }
 
 -- ---- types
 
+-- the reading of a type is steady
 type_steady : IsSteady type_info_at
 unfolding type_info_at
 type_steady =
@@ -366,6 +405,7 @@ type_steady =
 abbrev tested : ℕ → List ℕ → ℕ × List ℕ → Read RegistryReason ℕ
 tested i bytes id = cond (id.0 == i) (Ok id) (Err (registry.IdOutOfPlace, bytes))
 
+-- a position that is not the wanted one is a fault within the bytes
 tested_inside : (i : ℕ) (b : List ℕ) (r : Read RegistryReason ℕ) → Inside IsTold b r →
     Inside IsTold b (r >>= tested i b)
 tested_inside i b (Ok id) h =
@@ -373,6 +413,7 @@ tested_inside i b (Ok id) h =
     (at_front b, (λ e. absurd cc, λ e. absurd cc))
 tested_inside i b (Err e) h = h
 
+-- the reading of a position that has to be the next one is steady
 id_at_steady : (i : ℕ) → IsSteady (id_at i)
 id_at_steady i = record {
   inside = λ b. tested_inside i b (length_at b) (length_steady.inside b);
@@ -381,6 +422,7 @@ id_at_steady i = record {
       cond_extends registry.Truncated more (id.0 == i) _ _ _ _ refl (λ ne. refl));
 }
 
+-- the reading of types, each behind its position, is steady
 types_steady : (n i : ℕ) → IsSteady (types_at n i)
 types_steady zero i = record { inside = at_front; extends = λ b more. refl }
 types_steady (suc n) i =
@@ -393,6 +435,7 @@ types_steady (suc n) i =
     (types_steady n (i + 1)) (λ others.
     done_steady (first ∷ others))))
 
+-- the reading of a registry is steady
 pub registry_steady : IsSteady registry_at
 unfolding registry_at
 registry_steady = let s =
@@ -401,12 +444,14 @@ registry_steady = let s =
 
 -- ---- the prefix of metadata
 
+-- the fault of a letter stands within the bytes
 letter_inside : (letter : ℕ) (b : List ℕ) → Inside IsTold b (letter_at letter b)
 letter_inside letter [] = (at_end [], (λ e. absurd cc, λ e. refl))
 letter_inside letter (x ∷ b) =
     inside_cond IsTold (x ∷ b) (x == letter) (Ok (tt, b)) (Err (registry.NotMetadata, x ∷ b))
     (x ∷ [], refl) (at_front (x ∷ b), (λ e. absurd cc, λ e. absurd cc))
 
+-- a letter is read alike from a longer input, where it was not cut
 letter_extends : (letter : ℕ) (b more : List ℕ) →
     Extends registry.Truncated more (letter_at letter b) (letter_at letter (b ++ more))
 letter_extends letter [] more = λ ne. absurd (ne refl)
@@ -415,36 +460,43 @@ letter_extends letter (x ∷ b) more =
     (Err (registry.NotMetadata, x ∷ b)) (Ok (tt, b ++ more))
     (Err (registry.NotMetadata, x ∷ b ++ more)) refl (λ ne. refl)
 
+-- the reading of a letter is steady
 letter_steady : (letter : ℕ) → IsSteady (letter_at letter)
 letter_steady letter = record { inside = letter_inside letter; extends = letter_extends letter }
 
+-- the reading of letters in their order is steady
 letters_steady : (letters : List ℕ) → IsSteady (letters_at letters)
 letters_steady [] = done_steady tt
 letters_steady (letter ∷ letters) =
     then_steady (letter_at letter) (λ first bytes. letters_at letters bytes) (letter_steady letter)
     (λ first. letters_steady letters)
 
+-- the fault of a version stands within the bytes
 version_inside : (b : List ℕ) → Inside IsTold b (version_at b)
 version_inside [] = (at_end [], (λ e. absurd cc, λ e. refl))
 version_inside (x ∷ b) =
     named_inside registry.WrongVersion (x ∷ b) (version_of x) b (λ e. absurd cc) (λ e. absurd cc)
     (x ∷ [], refl)
 
+-- a version is read alike from a longer input, where it was not cut
 version_extends : (b more : List ℕ) →
     Extends registry.Truncated more (version_at b) (version_at (b ++ more))
 version_extends [] more = λ ne. absurd (ne refl)
 version_extends (x ∷ b) more =
     named_extends registry.WrongVersion (x ∷ b) (version_of x) b more
 
+-- the reading of a version is steady
 version_steady : IsSteady version_at
 version_steady = record { inside = version_inside; extends = version_extends }
 
+-- the reading of the prefix of metadata is steady
 prefix_steady : IsSteady prefix_at
 unfolding prefix_at
 prefix_steady = let s =
     then_steady (letters_at magic) (λ letters bytes. version_at bytes) (letters_steady magic)
     (λ letters. version_steady) in record { inside = s.inside; extends = s.extends }
 
+-- the reading of metadata is steady
 pub metadata_steady : IsSteady metadata_at
 unfolding metadata_at
 metadata_steady = let s =

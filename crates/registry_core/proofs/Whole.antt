@@ -19,6 +19,7 @@ use Rattle.registry_core.proofs.Spelled.{read_is_spelled, metadata_is_spelled}
 use Rattle.registry_core.proofs.Inside.{Inside}
 use Rattle.registry_core.proofs.Steady.{IsTold, IsSteady, registry_steady, metadata_steady}
 
+-- a list is of bytes where each place of it is below 256
 pub are_bytes : (b : List ℕ) → ((i : ℕ) → get_or b i 0 < 256) → AreBytes b
 are_bytes [] h = tt
 are_bytes (x ∷ b) h = (h 0, are_bytes b (λ i. h (suc i)))
@@ -30,6 +31,7 @@ pub record IsCodec {X : Type 0} (Fits : X → Type 0) (spell : X → List ℕ) (
   pub spelled : ReadIsSpelled Fits spell part
   pub again : SpelledIsRead Fits spell part
 
+-- registries are read and spelled as a codec wants it
 pub registry_codec : IsCodec FitsRegistry spelling registry_at
 registry_codec = record {
   steady = registry_steady;
@@ -37,6 +39,7 @@ registry_codec = record {
   again = spelled_is_read;
 }
 
+-- metadata is read and spelled as a codec wants it
 pub metadata_codec : IsCodec FitsMetadata metadata_of metadata_at
 metadata_codec = record {
   steady = metadata_steady;
@@ -46,16 +49,19 @@ metadata_codec = record {
 
 -- ---- where it was read
 
+-- what is left where a part was read is no longer than the bytes
 ok_behind : {X : Type 0} (b : List ℕ) (read : Read RegistryReason X) (x : X) (rest : List ℕ) →
     Inside IsTold b read → read ≡ Ok (x, rest) → length rest ≤ length b
 ok_behind b read x rest h e = behind-length b rest (rw e at h)
 
+-- what is left where a codec's part was read is no longer than the bytes
 pub ok_within : {X : Type 0} (Fits : X → Type 0) (spell : X → List ℕ) (part : Reader X) →
     IsCodec Fits spell part → (b : List ℕ) (x : X) (rest : List ℕ) →
     part b ≡ Ok (x, rest) → length rest ≤ length b
 ok_within Fits spell part codec b x rest e =
     ok_behind b (part b) x rest (codec.steady.inside b) e
 
+-- what is left stands behind the bytes that were taken, counted as a difference of lengths
 pub ok_exact : {X : Type 0} (Fits : X → Type 0) (spell : X → List ℕ) (part : Reader X) →
     IsCodec Fits spell part → (b : List ℕ) (x : X) (rest : List ℕ) →
     part b ≡ Ok (x, rest) →
@@ -64,6 +70,7 @@ ok_exact Fits spell part codec b x rest e =
     let h = codec.steady.inside b in
     (omega arith, rw (e, drop-place b rest (rw e at h)) refl)
 
+-- what was read fits, and the bytes that it took are its spelling
 pub ok_found : {X : Type 0} (Fits : X → Type 0) (spell : X → List ℕ) (part : Reader X) →
     IsCodec Fits spell part → (b : List ℕ) (x : X) (rest : List ℕ) → AreBytes b →
     part b ≡ Ok (x, rest) → Fits x × (take (length b - length rest) b ≡ spell x)
@@ -93,6 +100,7 @@ ok_only {X = X} Fits spell part shown codec b x rest e other more fits is =
 
 -- ---- where it stopped
 
+-- where a codec's reading stops, it stops within the bytes
 pub err_within : {X : Type 0} (Fits : X → Type 0) (spell : X → List ℕ) (part : Reader X) →
     IsCodec Fits spell part → (b : List ℕ) (stop : Stop) → StopsReading stop (part b) →
     IsWithin b stop
@@ -100,6 +108,7 @@ err_within Fits spell part codec b Memory h = tt
 err_within Fits spell part codec b (Fault reason left) h = let i = codec.steady.inside b in
     behind-length b left.now (rw h at i).0
 
+-- where a codec's reading stops, the fault is the reading's, at its place
 pub err_exact : {X : Type 0} (Fits : X → Type 0) (spell : X → List ℕ) (part : Reader X) →
     IsCodec Fits spell part → (b : List ℕ) (stop : Stop) → StopsReading stop (part b) →
     FaultAnswers b (fault_of (length b) stop) (part b)
@@ -107,11 +116,13 @@ err_exact Fits spell part codec b Memory h = inl refl
 err_exact Fits spell part codec b (Fault reason left) h = let i = codec.steady.inside b in
     inr (left.now, h, refl, (rw h at i).1.0)
 
+-- a reading that is done stops for want of memory only
 stopped : {X : Type 0} (stop : Stop) (b : List ℕ) (x : X × List ℕ) →
     StopsReading stop (done {E = RegistryReason} x) → fault_of (length b) stop ≡ out_of_memory
 stopped Memory b x h = refl
 stopped (Fault reason left) b x h = absurd cc
 
+-- where bytes begin with a spelling, a codec's reading stops for want of memory only
 pub err_only : {X : Type 0} (Fits : X → Type 0) (spell : X → List ℕ) (part : Reader X) →
     IsCodec Fits spell part → (b : List ℕ) (stop : Stop) → StopsReading stop (part b) →
     (other : X) (more : List ℕ) → Fits other → b ≡ spell other ++ more →

@@ -14,6 +14,7 @@ use Rattle.scale_core.specs.declared.compact.Target.TheVariants.{Unit as TUnit, 
 use Rattle.scale_core.specs.Text.{IsText}
 use Rattle.scale_core.proofs.Numbers.{length-le_bytes, number-le_bytes, bytes_needed-le, bytes_needed-enough}
 
+-- a run of bytes of the length that is asked for is read again, with the rest left
 pub bytes_again : (k : ℕ) (b rest : List ℕ) → length b ≡ k → bytes_at k (b ++ rest) ≡ Ok (b, rest)
 bytes_again k b rest len =
     let long : ltb (length (b ++ rest)) k ≡ false =
@@ -28,6 +29,7 @@ pub record IsForm (n first : ℕ) (tail : List ℕ) : Type 0 where
   pub big : first % 4 ≡ 3 → first / 4 + 4 ≡ big_bytes n
   pub is_big : first % 4 ≡ 3 → 2 ^ 30 ≤ n
 
+-- a number below 64 has the form of one byte
 small_form : (n : ℕ) → n < 64 → IsForm n (4 * n) []
 unfolding compact
 small_form n h =
@@ -41,6 +43,7 @@ small_form n h =
       is_big = λ e. absurd (omega (arith, e));
     }
 
+-- a number from 64 to below 2^14 has the form of two bytes
 two_form : (n : ℕ) → 64 ≤ n → n < 2 ^ 14 →
     IsForm n ((4 * n + 1) % 256) (le_bytes 1 ((4 * n + 1) / 256))
 unfolding compact
@@ -58,6 +61,7 @@ two_form n ge h =
           λ e. absurd (omega (arith, e));
     }
 
+-- a number from 2^14 to below 2^30 has the form of four bytes
 four_form : (n : ℕ) → 2 ^ 14 ≤ n → n < 2 ^ 30 →
     IsForm n ((4 * n + 2) % 256) (le_bytes 3 ((4 * n + 2) / 256))
 unfolding compact
@@ -74,6 +78,7 @@ four_form n ge h =
       is_big = λ e. absurd (omega (arith, e));
     }
 
+-- the bytes that the big form counts for a number hold it
 big_enough : (n : ℕ) → n < 2 ^ 128 → n < 256 ^ big_bytes n
 big_enough n h =
     let enough : n < 256 ^ bytes_needed 16 n = bytes_needed-enough 16 n h in
@@ -84,6 +89,7 @@ big_enough n h =
           {j = big_bytes n} (omega arith),
     )
 
+-- a number from 2^30 to below 2^128 has the form that counts its bytes
 big_form : (n : ℕ) → 2 ^ 30 ≤ n → n < 2 ^ 128 →
     IsForm n (4 * (big_bytes n - 4) + 3) (le_bytes (big_bytes n) n)
 unfolding compact
@@ -104,6 +110,7 @@ big_form n ge h =
       is_big = λ e. ge;
     }
 
+-- each number below 2^128 has a form
 pub form_of : (n : ℕ) → n < 2 ^ 128 → (first : ℕ) × (tail : List ℕ) × IsForm n first tail
 form_of n h = elim (cases_lt n 64) [
   | inl lt ↦ (_, _, small_form n lt)
@@ -114,10 +121,12 @@ form_of n h = elim (cases_lt n 64) [
   ]
 ]
 
+-- where one of two tests always fails beside the other, not both hold
 and_false : (a b : Bool) → (a ≡ true → b ≡ false) → (a && b) ≡ false
 and_false true b f = f refl
 and_false false b f = refl
 
+-- a target that holds a number of 2^30 or more has four bytes or more
 four_at_least : (m : Target) (n : ℕ) → 2 ^ 30 ≤ n → n < 256 ^ target_bytes m → 4 ≤ target_bytes m
 four_at_least TUnit n ge h = absurd (omega arith)
 four_at_least U8 n ge h = absurd (omega arith)
@@ -126,6 +135,7 @@ four_at_least U32 n ge h = omega arith
 four_at_least U64 n ge h = omega arith
 four_at_least U128 n ge h = omega arith
 
+-- the form of a number that the target holds is not too long for the target
 fits_target : (m : Target) (n first : ℕ) (tail : List ℕ) → IsForm n first tail →
     n < 256 ^ target_bytes m → is_too_long m first ≡ false
 fits_target m n first tail f h =
@@ -135,6 +145,7 @@ fits_target m n first tail f h =
     let needed = bytes_needed-le 16 (target_bytes m) n h in
     le-ltb _ _ (omega (arith, f.big mode)))
 
+-- the form of a number that the target holds is read as the number, with the rest left
 pub integer_again : (m : Target) (n first : ℕ) (tail rest : List ℕ) → IsForm n first tail →
     n < 256 ^ target_bytes m → integer_at m (first ∷ tail ++ rest) ≡ Ok (n, rest)
 integer_again m n first tail rest f h =
@@ -148,6 +159,7 @@ integer_again m n first tail rest f h =
       lt-ltb n (256 ^ target_bytes m) h,
     ) refl
 
+-- what a target holds is below 2^128
 pub below_128 : (m : Target) (n : ℕ) → n < 256 ^ target_bytes m → n < 2 ^ 128
 below_128 m n h = elim m as (λ m. n < 256 ^ target_bytes m → n < 2 ^ 128) [
   | TUnit ↦ λ h. omega arith
@@ -159,6 +171,7 @@ below_128 m n h = elim m as (λ m. n < 256 ^ target_bytes m → n < 2 ^ 128) [
   | U128 ↦ λ h. omega arith
 ] h
 
+-- the spelling of a compact integer is read again, with the rest left
 pub compact_again : (m : Target) (x : ℕ) (a rest : List ℕ) → IsCompact m x a →
     compact_at m (a ++ rest) ≡ Ok (x, rest)
 unfolding compact_at
@@ -174,6 +187,7 @@ compact_again U64 x a rest h = let f = form_of x (below_128 U64 x h.0) in
 compact_again U128 x a rest h = let f = form_of x (below_128 U128 x h.0) in
     rw (h.1, f.2.is) (integer_again U128 x f.0 f.1 rest f.2 h.0)
 
+-- the spelling of a text is read again, with the rest left
 pub text_again : (s b rest : List ℕ) → IsText s b → text_at (b ++ rest) ≡ Ok (s, rest)
 unfolding text_at
 text_again s b rest h = rw (
@@ -198,6 +212,7 @@ compact-bytes U64 x a h e = let f = form_of x (below_128 U64 x h.0) in let both 
 compact-bytes U128 x a h e = let f = form_of x (below_128 U128 x h.0) in let both = sym e
     ∙ (h.1 ∙ f.2.is) in absurd cc
 
+-- so many bytes are read as the number that they are, lowest byte first, with the rest left
 pub number_again : (k : ℕ) (b rest : List ℕ) → length b ≡ k →
     number_at k (b ++ rest) ≡ Ok (number b, rest)
 number_again k b rest len =

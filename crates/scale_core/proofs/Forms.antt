@@ -12,6 +12,7 @@ use Rattle.scale_core.specs.Read.{form_len, form_number}
 use Rattle.scale_core.proofs.Again.{form_of}
 use Rattle.scale_core.proofs.Numbers.{length-le_bytes, number_one, bytes_needed-le, bytes_needed-enough}
 
+-- 2 to eight times a count of bytes is 256 to that count
 pow-bytes : (k : ℕ) → 2 ^ (8 * k) ≡ 256 ^ k
 pow-bytes zero = refl
 pow-bytes (suc k) =
@@ -36,18 +37,22 @@ bytes_needed-is w k n less ge h =
 
 -- ---- the shortest form, and how long it is
 
+-- a number below 64 is spelled in one byte, with the mark 0
 pub compact-one : (n : ℕ) → n < 64 → compact n ≡ 4 * n ∷ []
 unfolding compact
 compact-one n h = rw (lt-ltb n 64 h) refl
 
+-- a number from 64 to below 2^14 is spelled in two bytes, with the mark 1
 pub compact-two : (n : ℕ) → 64 ≤ n → n < 2 ^ 14 → compact n ≡ le_bytes 2 (4 * n + 1)
 unfolding compact
 compact-two n ge h = rw (le-ltb n 64 ge, lt-ltb n (2 ^ 14) h) refl
 
+-- a number from 2^14 to below 2^30 is spelled in four bytes, with the mark 2
 pub compact-four : (n : ℕ) → 2 ^ 14 ≤ n → n < 2 ^ 30 → compact n ≡ le_bytes 4 (4 * n + 2)
 unfolding compact
 compact-four n ge h = rw (le-ltb n 64 (omega arith), le-ltb n (2 ^ 14) ge, lt-ltb n (2 ^ 30) h) refl
 
+-- a number from 2^30 on is spelled as the count of its bytes, with the mark 3, and these bytes
 pub compact-big : (n : ℕ) → 2 ^ 30 ≤ n →
     compact n ≡ (4 * (big_bytes n - 4) + 3) ∷ le_bytes (big_bytes n) n
 unfolding compact
@@ -57,15 +62,19 @@ compact-big n ge = rw (
   le-ltb n (2 ^ 30) ge,
 ) refl
 
+-- the spelling of a number below 64 has one byte
 pub length-compact-one : (n : ℕ) → n < 64 → length (compact n) ≡ 1
 length-compact-one n h = ap length (compact-one n h)
 
+-- the spelling of a number from 64 to below 2^14 has two bytes
 pub length-compact-two : (n : ℕ) → 64 ≤ n → n < 2 ^ 14 → length (compact n) ≡ 2
 length-compact-two n ge h = ap length (compact-two n ge h)
 
+-- the spelling of a number from 2^14 to below 2^30 has four bytes
 pub length-compact-four : (n : ℕ) → 2 ^ 14 ≤ n → n < 2 ^ 30 → length (compact n) ≡ 4
 length-compact-four n ge h = ap length (compact-four n ge h)
 
+-- the spelling of a number from 2^30 on has a byte more than the number's own bytes
 pub length-compact-big : (n : ℕ) → 2 ^ 30 ≤ n → length (compact n) ≡ suc (big_bytes n)
 length-compact-big n ge = ap length (compact-big n ge)
     ∙ ap (λ (k : ℕ). suc k) (length-le_bytes (big_bytes n) n)
@@ -77,6 +86,7 @@ bits-least n r big h = elim (cases_lt r 30) [
   | inr ge ↦ omega arith
 ]
 
+-- a number whose highest bit is known needs as many bytes as hold that bit
 pub big_bytes-bits : (n r : ℕ) → 2 ^ 30 ≤ n → 2 ^ r ≤ n → n < 2 * 2 ^ r → r < 128 →
     big_bytes n ≡ r / 8 + 1
 big_bytes-bits n r big ge h small =
@@ -92,10 +102,12 @@ big_bytes-bits n r big ge h small =
 
 -- ---- which form is the shortest
 
+-- the bytes of a number, lowest first, are bytes
 pub are_le_bytes : (k n : ℕ) → AreBytes (le_bytes k n)
 are_le_bytes zero n = tt
 are_le_bytes (suc k) n = (omega arith, are_le_bytes k (n / 256))
 
+-- a number is never said to need more bytes than it may have
 bytes_needed-bound : (k n : ℕ) → bytes_needed k n ≤ k
 bytes_needed-bound zero n = omega arith
 bytes_needed-bound (suc k) n = elim (cases_lt n (256 ^ k)) [
@@ -103,6 +115,7 @@ bytes_needed-bound (suc k) n = elim (cases_lt n (256 ^ k)) [
   | inr le ↦ rw (le-ltb n (256 ^ k) le) (omega arith)
 ]
 
+-- the spelling of a compact integer is bytes
 pub are_compact : (n : ℕ) → AreBytes (compact n)
 unfolding compact
 are_compact n = elim (cases_lt n 64) [
@@ -117,6 +130,7 @@ are_compact n = elim (cases_lt n 64) [
   ])
 ]
 
+-- first bytes that name forms of one length have the same mark
 same_mode : (a b : ℕ) → form_len a ≡ form_len b → a % 4 ≡ b % 4
 same_mode a b e = grind (arith, nat_tests)
 

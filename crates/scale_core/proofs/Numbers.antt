@@ -6,10 +6,12 @@ use Rattle.std.proofs.Math.Nat.{pow-suc, pow-le-pow_right}
 use Rattle.scale_core.specs.Compact.{bytes_needed}
 use Rattle.scale_core.specs.Number.{AreBytes, number, signed_number, le_bytes}
 
+-- a number has as many bytes as are asked for
 pub length-le_bytes : (k n : ℕ) → length (le_bytes k n) ≡ k
 length-le_bytes zero n = refl
 length-le_bytes (suc k) n = ap (λ (x : ℕ). suc x) (length-le_bytes k (n / 256))
 
+-- the bytes of a number that fits them are the number again
 pub number-le_bytes : (k n : ℕ) → n < 256 ^ k → number (le_bytes k n) ≡ n
 number-le_bytes zero n h = omega arith
 number-le_bytes (suc k) n h =
@@ -17,6 +19,7 @@ number-le_bytes (suc k) n h =
     let ih = number-le_bytes k (n / 256) (omega arith) in
     omega (arith, ih)
 
+-- a number that fits some bytes needs no more than these
 pub bytes_needed-le : (k j n : ℕ) → n < 256 ^ j → bytes_needed k n ≤ j
 bytes_needed-le zero j n h = omega arith
 bytes_needed-le (suc k) j n h = elim (cases_lt n (256 ^ k)) [
@@ -29,6 +32,7 @@ bytes_needed-le (suc k) j n h = elim (cases_lt n (256 ^ k)) [
       ])
 ]
 
+-- a number fits the bytes that it is said to need, where it fits those that it may have
 pub bytes_needed-enough : (k n : ℕ) → n < 256 ^ k → n < 256 ^ bytes_needed k n
 bytes_needed-enough zero n h = h
 bytes_needed-enough (suc k) n h = elim (cases_lt n (256 ^ k)) [
@@ -38,18 +42,22 @@ bytes_needed-enough (suc k) n h = elim (cases_lt n (256 ^ k)) [
 
 -- ---- lists of bytes
 
+-- where a list is of bytes, what is left behind a front is
 pub rest_bytes : (c rest : List ℕ) → AreBytes (c ++ rest) → AreBytes rest
 rest_bytes [] rest h = h
 rest_bytes (x ∷ c) rest h = rest_bytes c rest h.1
 
+-- where a list is of bytes, its front is
 pub front_bytes : (c rest : List ℕ) → AreBytes (c ++ rest) → AreBytes c
 front_bytes [] rest h = tt
 front_bytes (x ∷ c) rest h = (h.0, front_bytes c rest h.1)
 
+-- two lists of bytes are one after the other a list of bytes
 pub both_bytes : (xs ys : List ℕ) → AreBytes xs → AreBytes ys → AreBytes (xs ++ ys)
 both_bytes [] ys h k = k
 both_bytes (x ∷ xs) ys h k = (h.0, both_bytes xs ys h.1 k)
 
+-- the bytes of the number that some bytes are, are these bytes again
 pub le_bytes-number : (c : List ℕ) → AreBytes c → le_bytes (length c) (number c) ≡ c
 le_bytes-number [] h = refl
 le_bytes-number (x ∷ c) h =
@@ -57,6 +65,7 @@ le_bytes-number (x ∷ c) h =
     let high : (x + 256 * number c) / 256 ≡ number c = omega (arith, h.0) in
     rw (low, high, le_bytes-number c h.1) refl
 
+-- the number that some bytes are is below 256 to their count
 pub number-bound : (c : List ℕ) → AreBytes c → number c < 256 ^ length c
 number-bound [] h = omega arith
 number-bound (x ∷ c) h = rw (pow-suc 256 (length c)) (omega (arith, h.0, number-bound c h.1))
@@ -67,6 +76,7 @@ pub number_one : (a b : List ℕ) → AreBytes a → AreBytes b → length a ≡
 number_one a b h k len same = sym (le_bytes-number a h) ∙ ap (λ (n : ℕ). le_bytes n (number a)) len
     ∙ ap (le_bytes (length b)) same ∙ le_bytes-number b k
 
+-- the negative of a positive number, as the integers have it
 pub neg-pos : (x : ℕ) → 0 < x → neg_ℤ (pos x) ≡ negsuc (x - 1)
 neg-pos zero h = absurd (omega arith)
 neg-pos (suc x) h = ap negsuc (omega arith)
@@ -74,6 +84,7 @@ neg-pos (suc x) h = ap negsuc (omega arith)
 abbrev signed_from : Bool → ℕ → ℕ → ℤ
 signed_from b range n = cond b (pos n) (neg_ℤ (pos (range - n)))
 
+-- two numbers of one range that stand for the same signed number are the same
 signed_same : (range m n : ℕ) (b c : Bool) → m < range → n < range →
     signed_from b range m ≡ signed_from c range n → m ≡ n
 signed_same range m n true true h k e = let e' : pos m ≡ pos n = e in cc
@@ -86,6 +97,7 @@ signed_same range m n false false h k e =
     sym (neg-pos (range - m) (omega arith)) ∙ e ∙ neg-pos (range - n) (omega arith) in
     let same : range - m - 1 ≡ range - n - 1 = cc in omega (arith, same)
 
+-- two lists of as many bytes that stand for the same signed number are the same
 pub signed_one : (a b : List ℕ) → AreBytes a → AreBytes b → length a ≡ length b →
     signed_number a ≡ signed_number b → a ≡ b
 signed_one a b h k len e =

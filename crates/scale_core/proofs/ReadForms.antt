@@ -15,10 +15,12 @@ use Rattle.scale_core.specs.declared.fault.Reason.{Reason}
 use Rattle.scale_core.specs.declared.fault.Reason.TheVariants.{Truncated, CompactNotShortest, CompactTooLarge}
 use Rattle.scale_core.proofs.Forms.{shortest_form}
 
+-- a compact over a type without bytes is read as 0, and takes no byte
 pub compact_at-unit : (m : Target) (bytes : List ℕ) → m ≡ TUnit → compact_at m bytes ≡ Ok (0, bytes)
 unfolding compact_at
 compact_at-unit m bytes e = rw e refl
 
+-- a compact over a type with bytes is read as an integer
 compact_at-integer : (m : Target) (bytes : List ℕ) → m ≢ TUnit →
     compact_at m bytes ≡ integer_at m bytes
 unfolding compact_at
@@ -29,11 +31,13 @@ compact_at-integer U32 bytes ne = refl
 compact_at-integer U64 bytes ne = refl
 compact_at-integer U128 bytes ne = refl
 
+-- where there is no byte, a compact integer is cut
 pub compact_at-empty : (m : Target) (bytes : List ℕ) → m ≢ TUnit → length bytes < 1 →
     compact_at m bytes ≡ Err (Truncated, [])
 compact_at-empty m [] ne h = compact_at-integer m [] ne
 compact_at-empty m (b ∷ bytes) ne h = absurd (omega arith)
 
+-- a first byte that names more bytes than the target has is refused at its own place
 pub compact_at-too_long : (m : Target) (bytes : List ℕ) (first : ℕ) → m ≢ TUnit →
     bytes ≡ first ∷ drop 1 bytes → is_too_long m first ≡ true →
     compact_at m bytes ≡ Err (CompactTooLarge, bytes)
@@ -41,6 +45,7 @@ compact_at-too_long m bytes first ne is long =
     compact_at-integer m bytes ne ∙ ap (integer_at m) is
     ∙ rw long (ap (λ (left : List ℕ). Err (CompactTooLarge, left)) (sym is))
 
+-- where fewer bytes are there than the first names, a compact integer is cut
 pub compact_at-cut : (m : Target) (bytes : List ℕ) (first : ℕ) → m ≢ TUnit →
     bytes ≡ first ∷ drop 1 bytes → is_too_long m first ≡ false → length bytes < form_len first →
     compact_at m bytes ≡ Err (Truncated, [])
@@ -57,10 +62,12 @@ judged_form m bytes n len =
     (CompactTooLarge, bytes))
     else Err (CompactNotShortest, bytes)
 
+-- to choose by a test that is turned is to choose with the two answers turned
 cond-not : {A : Type 0} (t : Bool) (x y : A) → cond (not t) x y ≡ cond t y x
 cond-not true x y = refl
 cond-not false x y = refl
 
+-- lengths tell whether a form is the spelling, where a spelling of the form's length is the form
 same_test : (form spelled : List ℕ) (len : ℕ) → length form ≡ len →
     (length spelled ≡ len → spelled ≡ form) → (len == length spelled) ≡ bytes_eq spelled form
 same_test form spelled len long f = elim (cases_eq len (length spelled)) [
@@ -71,20 +78,24 @@ same_test form spelled len long f = elim (cases_eq len (length spelled)) [
       (λ e. other (sym long ∙ ap length (sym ((bytes_eq-Decides spelled form).0 e)))))
 ]
 
+-- to compare a form with the shortest spelling is to compare their lengths
 checked-judged : (m : Target) (bytes form : List ℕ) (n len : ℕ) → length form ≡ len →
     (length (compact n) ≡ len → compact n ≡ form) →
     checked_form m bytes n form (drop len bytes) ≡ judged_form m bytes n len
 checked-judged m bytes form n len long f =
     rw (same_test form (compact n) len long f) (cond-not (bytes_eq (compact n) form) _ _)
 
+-- each form has a byte or more
 form_len-positive : (first : ℕ) → 0 < form_len first
 form_len-positive first = grind (arith, nat_tests)
 
+-- a front of bytes is of bytes
 are_front : (k : ℕ) (bytes : List ℕ) → AreBytes bytes → AreBytes (take k bytes)
 are_front zero bytes h = tt
 are_front (suc k) [] h = tt
 are_front (suc k) (b ∷ bytes) h = (h.0, are_front k bytes h.1)
 
+-- where a form's bytes are there, its number is judged by target and shortest form
 integer_at-judged : (m : Target) (first : ℕ) (rest : List ℕ) (n : ℕ) → is_too_long m first ≡ false →
     AreBytes (first ∷ rest) → form_len first ≤ length (first ∷ rest) →
     n ≡ form_number (take (form_len first) (first ∷ rest)) → n < 2 ^ 128 →
@@ -130,16 +141,20 @@ one_fits U32 n ne h = omega (arith, h)
 one_fits U64 n ne h = omega (arith, h)
 one_fits U128 n ne h = omega (arith, h)
 
+-- the spelling of a number below 64 has one byte
 one_long : (n : ℕ) → n < 64 → length (compact n) ≡ 1
 unfolding compact
 one_long n h = rw (lt-ltb n 64 h) refl
 
+-- a first byte with the mark 0 names one byte
 one_form : (first : ℕ) → first % 4 ≡ 0 → form_len first ≡ 1
 one_form first h = rw h refl
 
+-- a first byte with the mark 0 is too long for no target
 not_long : (m : Target) (first : ℕ) → first % 4 ≡ 0 → is_too_long m first ≡ false
 not_long m first h = rw h refl
 
+-- a first byte with the mark 0 has its number in its other six bits
 one_number : (first : ℕ) → first % 4 ≡ 0 → form_number (first ∷ []) ≡ first / 4
 one_number first h = rw h (omega arith)
 
@@ -163,11 +178,13 @@ compact_at-one m bytes first ne are is h byte =
 
 -- ---- the first byte, and bytes at large
 
+-- bytes begin with the first byte that was looked at
 pub front_is : (bytes chunk : List ℕ) → 1 ≤ length bytes → chunk ≡ take 1 bytes →
     bytes ≡ get_or chunk 0 0 ∷ drop 1 bytes
 front_is [] chunk h e = absurd (omega arith)
 front_is (b ∷ bytes) chunk h e = rw e refl
 
+-- a list is of bytes where each place of it is below 256
 pub are_bytes : (xs : List ℕ) → ((i : ℕ) → get_or xs i 0 < 256) → AreBytes xs
 are_bytes [] h = tt
 are_bytes (x ∷ xs) h = (h 0, are_bytes xs (λ i. h (suc i)))

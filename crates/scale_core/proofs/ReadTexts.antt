@@ -13,6 +13,7 @@ use Rattle.scale_core.specs.declared.compact.Target.TheVariants.{U32}
 use Rattle.scale_core.specs.declared.fault.Reason.{Reason}
 use Rattle.scale_core.specs.declared.fault.Reason.TheVariants.{Truncated, BadUtf8}
 
+-- where the length of a text is refused, the text is refused so
 pub text_at-fault : (bytes : List ℕ) (e : Reason × List ℕ) → compact_at U32 bytes ≡ Err e →
     text_at bytes ≡ Err e
 unfolding text_at
@@ -23,10 +24,12 @@ text_at-fault bytes e is = rw is refl
 abbrev pub behind : List ℕ → ℕ → List ℕ
 behind bytes start = take (length bytes - start) (drop start bytes)
 
+-- what is behind a place is what is left where as many bytes are dropped
 behind-drop : (bytes : List ℕ) (start : ℕ) → behind bytes start ≡ drop start bytes
 behind-drop bytes start =
     take_all (length bytes - start) (drop start bytes) (omega (arith, length-drop start bytes))
 
+-- where fewer bytes are there than a text's length says, the text is cut
 pub text_at-cut : (bytes : List ℕ) (start n : ℕ) → compact_at U32 bytes ≡ Ok (n, drop start bytes) →
     (n < 0) ⊎ (length (behind bytes start) < n) → text_at bytes ≡ Err (Truncated, [])
 unfolding text_at
@@ -39,6 +42,7 @@ abbrev judged_text : List ℕ → List ℕ → List ℕ → Read Reason (List �
 judged_text s rest after =
     cond (is_utf8 s) (Ok (s, after)) (Err (BadUtf8, drop (utf8_valid_len s) rest))
 
+-- where the bytes of a text are there, they are judged as UTF-8
 text_at-whole : (bytes rest : List ℕ) (n : ℕ) → compact_at U32 bytes ≡ Ok (n, rest) →
     n ≤ length rest → text_at bytes ≡ judged_text (take n rest) rest (drop n rest)
 unfolding text_at
@@ -51,6 +55,7 @@ pub record IsWhole (bytes spelled : List ℕ) (start n : ℕ) : Type 0 where
   pub is : spelled ≡ slice_range (behind bytes start) 0 n
   pub len : length spelled + 0 ≡ n
 
+-- where the bytes of a text are there as a slice, the text is what these are judged to be
 judged-whole : (bytes spelled : List ℕ) (start n : ℕ) → IsWhole bytes spelled start n →
     text_at bytes ≡ judged_text spelled (drop start bytes) (drop (start + length spelled) bytes)
 judged-whole bytes spelled start n w =
@@ -66,12 +71,14 @@ judged-whole bytes spelled start n w =
     ∙ ap (λ (s : List ℕ). judged_text s rest (drop n rest)) (sym front)
     ∙ ap (judged_text spelled rest) after
 
+-- a text whose bytes are there and are UTF-8 is read, with the rest left
 pub text_at-valid : (bytes spelled text : List ℕ) (start n : ℕ) → IsWhole bytes spelled start n →
     text ≡ spelled → IsUtf8 spelled →
     text_at bytes ≡ Ok (text, drop (start + length spelled) bytes)
 text_at-valid bytes spelled text start n w same valid = judged-whole bytes spelled start n w
     ∙ rw (is_utf8-from_IsUtf8 spelled valid, same) refl
 
+-- a text whose bytes are there and are no UTF-8 is refused at the first byte that is wrong
 pub text_at-bad : (bytes spelled : List ℕ) (start n : ℕ) → IsWhole bytes spelled start n →
     (IsUtf8 spelled → ⊥) →
     text_at bytes ≡ Err (BadUtf8, drop (utf8_valid_len spelled) (drop start bytes))
@@ -80,11 +87,13 @@ text_at-bad bytes spelled start n w bad =
     false_from_ne_true _ (λ e. bad (IsUtf8-from_is_utf8 spelled e)) in
     judged-whole bytes spelled start n w ∙ rw no refl
 
+-- a text whose bytes are there ends within the bytes
 pub whole-bound : (bytes spelled : List ℕ) (start n : ℕ) → start ≤ length bytes →
     IsWhole bytes spelled start n → start + length spelled ≤ length bytes
 whole-bound bytes spelled start n h w = let long : n ≤ length (drop start bytes) =
     rw behind-drop at w.there in omega (arith, length-drop start bytes, w.len)
 
+-- the place of the first wrong byte is counted from the front of all bytes
 pub place-bad : (bytes spelled : List ℕ) (start n : ℕ) → start ≤ length bytes →
     IsWhole bytes spelled start n →
     place bytes (drop (utf8_valid_len spelled) (drop start bytes)) ≡ start + utf8_valid_len spelled

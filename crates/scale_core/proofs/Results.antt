@@ -20,11 +20,13 @@ abbrev pub Takes : {E X : Type 0} → (X → List ℕ → Type 0) → List ℕ �
 Takes P b (Ok x) = (c : List ℕ) × (b ≡ c ++ x.1) × P x.0 c
 Takes P b (Err e) = Unit {0}
 
+-- what a choice reads stood on the front, where this holds of both answers
 pub cond_takes : {E X : Type 0} (P : X → List ℕ → Type 0) (b : List ℕ) (t : Bool) (x y : Read E X) →
     (t ≡ true → Takes P b x) → (t ≡ false → Takes P b y) → Takes P b (cond t x y)
 cond_takes P b true x y f g = f refl
 cond_takes P b false x y f g = g refl
 
+-- a run of bytes that is read stood on the front, and has the length that was asked for
 pub bytes_takes : (k : ℕ) (b : List ℕ) → Takes (λ x c. (c ≡ x) × (length c ≡ k)) b (bytes_at k b)
 bytes_takes k b = cond_takes (λ x c. (c ≡ x) × (length c ≡ k)) b (ltb (length b) k)
     (Err (Truncated, [])) (Ok (take k b, drop k b)) (λ e. tt)
@@ -34,6 +36,7 @@ bytes_takes k b = cond_takes (λ x c. (c ≡ x) × (length c ≡ k)) b (ltb (len
 abbrev pub Fits : Target → ℕ → List ℕ → Type 0
 Fits m x c = (x < 256 ^ target_bytes m) × (c ≡ compact x)
 
+-- where the bytes of a form stood on the front, so did the number that is made of them
 form_takes : (m : Target) (b : List ℕ) (k : ℕ) (r : Read Reason (List ℕ)) →
     Takes (λ x c. (c ≡ x) × (length c ≡ k)) b r → Takes (Fits m) b (form_from m b r)
 form_takes m b k (Err e) h = tt
@@ -52,6 +55,7 @@ form_takes m b k (Ok x) h = let n = form_number x.0 in
       ),
     )) (λ e. tt))
 
+-- an integer that is read stood on the front in a form that fits the target
 integer_takes : (m : Target) (b : List ℕ) → Takes (Fits m) b (integer_at m b)
 integer_takes m [] = tt
 integer_takes m (first ∷ rest) =
@@ -60,6 +64,7 @@ integer_takes m (first ∷ rest) =
     (λ e. form_takes m (first ∷ rest) (form_len first) (bytes_at (form_len first) (first ∷ rest))
     (bytes_takes (form_len first) (first ∷ rest)))
 
+-- a compact integer that is read stood on the front in its spelling
 pub compact_takes : (m : Target) (b : List ℕ) → Takes (IsCompact m) b (compact_at m b)
 unfolding compact_at
 compact_takes TUnit b = ([], refl, (refl, refl))
@@ -95,6 +100,7 @@ abbrev pub Extends : {E X : Type 0} → E → List ℕ → Read E X → Read E X
 Extends cut more (Ok x) new = new ≡ Ok (x.0, x.1 ++ more)
 Extends cut more (Err e) new = e.0 ≢ cut → new ≡ Err (e.0, e.1 ++ more)
 
+-- a run of bytes is read alike from a longer input, where it was not cut
 pub bytes_extends : (k : ℕ) (b more : List ℕ) →
     Extends Truncated more (bytes_at k b) (bytes_at k (b ++ more))
 bytes_extends k b more = elim (cases_lt (length b) k) [
@@ -107,6 +113,7 @@ bytes_extends k b more = elim (cases_lt (length b) k) [
   ) refl
 ]
 
+-- two readings after each other are alike from a longer input, where each is
 pub bind_extends : {E X Y : Type 0} (cut : E) (more : List ℕ) (r s : Read E X)
     (f g : X × List ℕ → Read E Y) →
     Extends cut more r s → ((x : X × List ℕ) → Extends cut more (f x) (g (x.0, x.1 ++ more))) →
@@ -114,6 +121,7 @@ pub bind_extends : {E X Y : Type 0} (cut : E) (more : List ℕ) (r s : Read E X)
 bind_extends cut more (Ok x) s f g h k = rw h (k x)
 bind_extends cut more (Err e) s f g h k = λ ne. rw (h ne) refl
 
+-- a choice reads alike from a longer input, where both answers do
 pub cond_extends : {E X : Type 0} (cut : E) (more : List ℕ) (t : Bool) (x y x' y' : Read E X) →
     Extends cut more x x' → Extends cut more y y' → Extends cut more (cond t x y) (cond t x' y')
 cond_extends cut more true x y x' y' f g = f
@@ -124,6 +132,7 @@ pub fault_extends : {E X : Type 0} (cut e : E) (left more : List ℕ) →
     Extends {X = X} cut more (Err (e, left)) (Err (e, left ++ more))
 fault_extends cut e left more = λ ne. refl
 
+-- a form is judged alike in a longer input, where its bytes are read alike
 form_extends : (m : Target) (b more : List ℕ) (r s : Read Reason (List ℕ)) →
     Extends Truncated more r s →
     Extends Truncated more (form_from m b r) (form_from m (b ++ more) s)
@@ -132,6 +141,7 @@ form_extends m b more (Ok x) s h = rw h (let n = form_number x.0 in
     cond_extends Truncated more (not (bytes_eq (compact n) x.0)) _ _ _ _ (λ ne. refl)
     (cond_extends Truncated more (nat_lt n (256 ^ target_bytes m)) _ _ _ _ refl (λ ne. refl)))
 
+-- an integer is read alike from a longer input, where it was not cut
 integer_extends : (m : Target) (b more : List ℕ) →
     Extends Truncated more (integer_at m b) (integer_at m (b ++ more))
 integer_extends m [] more = λ ne. absurd (ne refl)
@@ -141,6 +151,7 @@ integer_extends m (first ∷ rest) more =
     (bytes_at (form_len first) (first ∷ rest ++ more))
     (bytes_extends (form_len first) (first ∷ rest) more))
 
+-- a compact integer is read alike from a longer input, where it was not cut
 pub compact_extends : (m : Target) (b more : List ℕ) →
     Extends Truncated more (compact_at m b) (compact_at m (b ++ more))
 unfolding compact_at
@@ -151,6 +162,7 @@ compact_extends U32 b more = integer_extends U32 b more
 compact_extends U64 b more = integer_extends U64 b more
 compact_extends U128 b more = integer_extends U128 b more
 
+-- a text that is read stood on the front in its spelling
 pub text_takes : (b : List ℕ) → Takes IsText b (text_at b)
 unfolding text_at
 text_takes b = bind_takes (IsCompact U32) IsText b (compact_at U32 b) _ (compact_takes U32 b)
@@ -165,6 +177,7 @@ text_takes b = bind_takes (IsCompact U32) IsText b (compact_at U32 b) _ (compact
 abbrev judged : List ℕ → List ℕ × List ℕ → Read Reason (List ℕ)
 judged from s = cond (is_utf8 s.0) (Ok s) (Err (BadUtf8, drop (utf8_valid_len s.0) from))
 
+-- the bytes of a text are judged alike in a longer input, where they were not cut
 judged_extends : (k : ℕ) (from more : List ℕ) →
     Extends Truncated more (bytes_at k from >>= judged from)
     (bytes_at k (from ++ more) >>= judged (from ++ more))
@@ -184,6 +197,7 @@ judged_extends k from more = elim (cases_lt (length from) k) [
       (cond_extends Truncated more (is_utf8 front) _ _ _ _ refl (λ ne. refl))
 ]
 
+-- a text is read alike from a longer input, where it was not cut
 pub text_extends : (b more : List ℕ) → Extends Truncated more (text_at b) (text_at (b ++ more))
 unfolding text_at
 text_extends b more = bind_extends Truncated more (compact_at U32 b) (compact_at U32 (b ++ more)) _

@@ -10,6 +10,7 @@ use Rattle.scale_core.specs.declared.fault.Reason.{Reason}
 use Rattle.scale_core.proofs.Again.{compact_again, text_again}
 use Rattle.scale_core.proofs.Results.{done_is, compact_takes, text_takes}
 
+-- a compact integer has one spelling
 pub one_spelling : (m : Target) (x : ℕ) (a b : List ℕ) → IsCompact m x a → IsCompact m x b → a ≡ b
 one_spelling TUnit x a b h k = h.1 ∙ sym k.1
 one_spelling U8 x a b h k = h.1 ∙ sym k.1
@@ -18,6 +19,7 @@ one_spelling U32 x a b h k = h.1 ∙ sym k.1
 one_spelling U64 x a b h k = h.1 ∙ sym k.1
 one_spelling U128 x a b h k = h.1 ∙ sym k.1
 
+-- no spelling of a compact integer is the front of another's
 pub prefix_free : CompactIsPrefixFree
 prefix_free m x y a b rest more h k e =
     let one = compact_again m x a rest h in
@@ -26,13 +28,16 @@ prefix_free m x y a b rest more h k e =
     (done_is {E = Reason} (x, rest) (y, more) (sym one ∙ ap (compact_at m) e ∙ two)) in
     (same, one_spelling m x a b h (rw same k))
 
+-- what is read as a compact integer is spelled by the bytes that it took
 pub compact_spelled : CompactIsSpelled
 compact_spelled m bytes x rest e = rw e at (compact_takes m bytes)
 
+-- a text has one spelling
 one_text : (s a b : List ℕ) → IsText s a → IsText s b → a ≡ b
 one_text s a b h k = h.3 ∙ ap (λ (c : List ℕ). c ++ s) (one_spelling U32 _ h.0 k.0 h.1 k.1)
     ∙ sym k.3
 
+-- no spelling of a text is the front of another's
 pub text_prefix_free : TextIsPrefixFree
 text_prefix_free s t a b rest more h k e =
     let one = text_again s a rest h in
@@ -41,5 +46,6 @@ text_prefix_free s t a b rest more h k e =
     (done_is {E = Reason} (s, rest) (t, more) (sym one ∙ ap text_at e ∙ two)) in
     (same, one_text s a b h (rw same k))
 
+-- what is read as a text is spelled by the bytes that it took
 pub text_spelled : TextIsSpelled
 text_spelled bytes s rest e = rw e at (text_takes bytes)

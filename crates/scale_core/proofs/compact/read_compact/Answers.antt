@@ -9,6 +9,7 @@ use denote.Enum.Bare.{same_true, sameb}
 use Rattle.scale_core.proofs.ReadForms.{compact_at-unit, compact_at-empty, compact_at-too_long, compact_at-cut, compact_at-judged, compact_at-one, one_fits, front_is, are_bytes}
 use Rattle.scale_core.proofs.compact.read_compact.Goals as goal
 
+-- a target that the test tells from the one without bytes is another
 is_other : (m : Target) → false ≡ sameb the_type m TUnit → m ≢ TUnit
 is_other m e k = let h = rw k at e in absurd cc
 
