@@ -1,5 +1,6 @@
 -- Each part of a registry is read as it is spelled.
-use Rattle.std.proofs.Common.{◌≡◌, ℕ, ◌+◌, ◌<◌, ◌≤◌, ◌^◌, List, [], ◌∷◌, ◌++◌, length, Option, Some, None, Ok, refl, append_assoc, arith}
+use Rattle.std.proofs.Common.{◌≡◌, ℕ, ◌+◌, ◌<◌, ◌≤◌, ◌^◌, List, [], ◌∷◌, ◌++◌, length, Option, Some}
+use Rattle.std.proofs.Common.{None, Ok, refl, append_assoc, arith}
 use Rattle.std.specs.Prelude.{flat_map}
 use Rattle.std.specs.List.{AllByRecursion}
 use Rattle.std.proofs.lemmas.Bool.{eq-eqb}
@@ -14,12 +15,19 @@ use Rattle.registry_core.specs.declared.primitive.Primitive.TheVariants as P
 use Rattle.registry_core.specs.declared.definition.TypeDef.{TypeDef}
 use Rattle.registry_core.specs.declared.definition.TypeDef.TheVariants as def
 use Rattle.registry_core.specs.declared.type_info.TypeInfo.{TypeInfo}
-use Rattle.registry_core.specs.Fits.{FitsList, FitsText, FitsTexts, FitsOption, FitsId, FitsParam, FitsField, FitsArm, FitsDefinition, FitsType, FitsRegistry}
+use Rattle.registry_core.specs.Fits.{FitsList, FitsText, FitsTexts, FitsOption, FitsId, FitsParam}
+use Rattle.registry_core.specs.Fits.{FitsField, FitsArm, FitsDefinition, FitsType, FitsRegistry}
 use Rattle.registry_core.specs.declared.version.Version.{Version}
 use Rattle.registry_core.specs.declared.version.Version.TheVariants.{V14, V15}
 use Rattle.registry_core.specs.Bytes.{primitive_byte, magic, version_byte}
-use Rattle.registry_core.specs.Spelling.{sequence, text, texts, option, type_id, param, field, arm, definition, type_info, types_from, spelling}
-use Rattle.registry_core.specs.Reading.{Reader, length_at, repeated, sequence_at, string_at, texts_at, option_at, type_id_at, type_ids_at, param_at, params_at, field_at, fields_at, arm_read_at, arms_read_at, primitive_at, array_at, bit_sequence_at, definition_at, type_info_at, types_at, registry_at, version_at, prefix_at, metadata_at}
+use Rattle.registry_core.specs.Spelling.{sequence, text, texts, option, type_id, param, field, arm}
+use Rattle.registry_core.specs.Spelling.{definition, type_info, types_from, spelling}
+use Rattle.registry_core.specs.Reading.{Reader, length_at, repeated, sequence_at, string_at}
+use Rattle.registry_core.specs.Reading.{texts_at, option_at, type_id_at, type_ids_at, param_at}
+use Rattle.registry_core.specs.Reading.{params_at, field_at, fields_at, arm_read_at, arms_read_at}
+use Rattle.registry_core.specs.Reading.{primitive_at, array_at, bit_sequence_at, definition_at}
+use Rattle.registry_core.specs.Reading.{type_info_at, types_at, registry_at, version_at, prefix_at}
+use Rattle.registry_core.specs.Reading.{metadata_at}
 use Rattle.registry_core.specs.Laws.{FitsMetadata, SpelledIsRead, metadata_of}
 
 -- what is spelled is read, whatever follows it

@@ -7,7 +7,8 @@ use Rattle.scale_core.proofs.Results.{Extends, done_is}
 use Rattle.registry_core.specs.declared.fault.RegistryReason.{RegistryReason}
 use Rattle.registry_core.specs.declared.fault.RegistryReason.TheVariants as reasons
 use Rattle.registry_core.specs.Reading.{Reader}
-use Rattle.registry_core.specs.Laws.{IsBehind, FaultIsWithin, FaultIsKept, FrontIsCut, SpelledIsRead}
+use Rattle.registry_core.specs.Laws.{IsBehind, FaultIsWithin, FaultIsKept, FrontIsCut}
+use Rattle.registry_core.specs.Laws.{SpelledIsRead}
 use Rattle.registry_core.proofs.Inside.{Inside}
 use Rattle.registry_core.proofs.Steady.{IsTold, IsSteady}
 

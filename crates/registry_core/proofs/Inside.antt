@@ -1,12 +1,14 @@
 -- Where the fault of an integer or of a text stands: within the bytes, and at their end where they end too soon.
-use Rattle.std.proofs.Common.{◌≡◌, ℕ, ◌^◌, Bool, true, false, cond, List, [], ◌∷◌, ◌++◌, length, take, drop, Ok, Err, refl, sym, append_assoc}
+use Rattle.std.proofs.Common.{◌≡◌, ℕ, ◌^◌, Bool, true, false, cond, List, [], ◌∷◌, ◌++◌, length}
+use Rattle.std.proofs.Common.{take, drop, Ok, Err, refl, sym, append_assoc}
 use Rattle.std.specs.Prelude.{nat_lt, not}
 use Rattle.std.specs.Str.{bytes_eq, is_utf8}
 use Rattle.std.specs.Str.Lossy.{utf8_valid_len}
 use Rattle.std.proofs.lemmas.List.{append-nil, take-append-drop}
 use Rattle.scale_core.specs.Number.{number}
 use Rattle.scale_core.specs.Compact.{compact, target_bytes}
-use Rattle.scale_core.specs.Read.{Read, ◌>>=◌, bytes_at, number_at, form_len, form_number, form_from, is_too_long, integer_at, compact_at, text_at}
+use Rattle.scale_core.specs.Read.{Read, ◌>>=◌, bytes_at, number_at, form_len, form_number}
+use Rattle.scale_core.specs.Read.{form_from, is_too_long, integer_at, compact_at, text_at}
 use Rattle.scale_core.specs.declared.compact.Target.{Target}
 use Rattle.scale_core.specs.declared.compact.Target.TheVariants.{U32 as u32_target}
 use Rattle.scale_core.specs.declared.fault.Reason.{Reason}

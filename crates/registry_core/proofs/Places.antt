@@ -1,5 +1,6 @@
 -- Where a fault stands, from what it leaves.
-use Rattle.std.proofs.Common.{◌≡◌, ℕ, ◌≤◌, List, ◌++◌, length, drop, Err, refl, ap, arith, length-append}
+use Rattle.std.proofs.Common.{◌≡◌, ℕ, ◌≤◌, List, ◌++◌, length, drop, Err, refl, ap, arith}
+use Rattle.std.proofs.Common.{length-append}
 use Rattle.std.proofs.lemmas.List.{drop_at}
 use Rattle.scale_core.specs.Read.{Read, place}
 use Rattle.scale_core.specs.declared.fault.Fault.{Fault as ScaleFault}

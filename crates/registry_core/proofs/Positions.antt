@@ -1,5 +1,6 @@
 -- Types, each behind its position: one more at the end.
-use Rattle.std.proofs.Common.{◌≡◌, ℕ, ◌+◌, ◌<◌, List, [], ◌∷◌, ◌++◌, length, take, get_or, refl, append_assoc, arith, length-take}
+use Rattle.std.proofs.Common.{◌≡◌, ℕ, ◌+◌, ◌<◌, List, [], ◌∷◌, ◌++◌, length, take, get_or, refl}
+use Rattle.std.proofs.Common.{append_assoc, arith, length-take}
 use Rattle.std.proofs.lemmas.List.{append-nil, take_more}
 use Rattle.scale_core.specs.Compact.{compact}
 use Rattle.registry_core.specs.declared.type_info.TypeInfo.{TypeInfo}

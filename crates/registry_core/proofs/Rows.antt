@@ -4,7 +4,10 @@ use Rattle.std.specs.Str.{is_utf8, chars}
 use Rattle.std.specs.Str.Lossy.{utf8_valid_len}
 use Rattle.scale_core.specs.Compact.{compact}
 use Rattle.scale_core.specs.Read.{compact_at, text_at}
-use Rattle.registry_core.specs.Reading.{registry_at, metadata_at, prefix_at, type_info_at, params_at, param_at, definition_at, fields_at, field_at, arms_read_at, arm_read_at, type_ids_at, array_at, bit_sequence_at, texts_at}
+use Rattle.registry_core.specs.Reading.{registry_at, metadata_at, prefix_at, type_info_at}
+use Rattle.registry_core.specs.Reading.{params_at, param_at, definition_at, fields_at, field_at}
+use Rattle.registry_core.specs.Reading.{arms_read_at, arm_read_at, type_ids_at, array_at}
+use Rattle.registry_core.specs.Reading.{bit_sequence_at, texts_at}
 use Rattle.registry_core.specs.Spelling.{spelling}
 use Rattle.registry_core.specs.Rows.{FaultRows, MetadataRows, ReadRows}
 

@@ -1,5 +1,7 @@
 -- Each part of a registry that is read was spelled so.
-use Rattle.std.proofs.Common.{◌≡◌, ℕ, zero, suc, ◌+◌, ◌<◌, ◌≤◌, ◌^◌, ltb, Bool, true, false, cond, List, [], ◌∷◌, ◌++◌, length, take, drop, Option, Some, None, Ok, Err, refl, sym, ap, subst, ◌∙◌, append_assoc, arith}
+use Rattle.std.proofs.Common.{◌≡◌, ℕ, zero, suc, ◌+◌, ◌<◌, ◌≤◌, ◌^◌, ltb, Bool, true, false, cond}
+use Rattle.std.proofs.Common.{List, [], ◌∷◌, ◌++◌, length, take, drop, Option, Some, None, Ok, Err}
+use Rattle.std.proofs.Common.{refl, sym, ap, subst, ◌∙◌, append_assoc, arith}
 use Rattle.std.specs.Prelude.{flat_map, ◌==◌}
 use Rattle.std.specs.List.{AllByRecursion}
 use Rattle.std.proofs.lemmas.Bool.{eqb-true, ltb-false}
@@ -11,17 +13,26 @@ use Rattle.scale_core.specs.Read.{Read, ◌>>=◌, compact_at, text_at, number_a
 use Rattle.scale_core.specs.declared.compact.Target.TheVariants.{U32 as u32_target}
 use Rattle.scale_core.specs.declared.fault.Reason.{Reason}
 use Rattle.scale_core.proofs.Numbers.{rest_bytes, front_bytes, le_bytes-number, number-bound}
-use Rattle.scale_core.proofs.Results.{Takes, cond_takes, then_takes, compact_takes, text_takes, done_is}
+use Rattle.scale_core.proofs.Results.{Takes, cond_takes, then_takes, compact_takes, text_takes}
+use Rattle.scale_core.proofs.Results.{done_is}
 use Rattle.registry_core.specs.declared.definition.TypeDef.{TypeDef}
 use Rattle.registry_core.specs.declared.definition.TypeDef.TheVariants as def
 use Rattle.registry_core.specs.declared.fault.RegistryReason.{RegistryReason}
 use Rattle.registry_core.specs.declared.fault.RegistryReason.TheVariants as registry
-use Rattle.registry_core.specs.Fits.{FitsList, FitsText, FitsTexts, FitsOption, FitsId, FitsParam, FitsField, FitsArm, FitsDefinition, FitsType, FitsRegistry}
+use Rattle.registry_core.specs.Fits.{FitsList, FitsText, FitsTexts, FitsOption, FitsId, FitsParam}
+use Rattle.registry_core.specs.Fits.{FitsField, FitsArm, FitsDefinition, FitsType, FitsRegistry}
 use Rattle.registry_core.specs.declared.version.Version.{Version}
 use Rattle.registry_core.specs.declared.version.Version.TheVariants.{V14, V15}
 use Rattle.registry_core.specs.Bytes.{primitive_byte, magic, version_byte, version_of}
-use Rattle.registry_core.specs.Spelling.{sequence, text, texts, option, type_id, param, field, arm, definition, type_info, types_from, spelling}
-use Rattle.registry_core.specs.Reading.{Reader, lifted, length_at, repeated, sequence_at, string_at, texts_at, option_at, type_id_at, type_ids_at, param_at, params_at, field_at, fields_at, arm_read_at, arms_read_at, byte_at, primitive_at, definition_at, type_info_at, id_at, types_at, registry_at, as_definition, array_at, bit_sequence_at, letter_at, letters_at, named, version_at, prefix_at, metadata_at}
+use Rattle.registry_core.specs.Spelling.{sequence, text, texts, option, type_id, param, field, arm}
+use Rattle.registry_core.specs.Spelling.{definition, type_info, types_from, spelling}
+use Rattle.registry_core.specs.Reading.{Reader, lifted, length_at, repeated, sequence_at, string_at}
+use Rattle.registry_core.specs.Reading.{texts_at, option_at, type_id_at, type_ids_at, param_at}
+use Rattle.registry_core.specs.Reading.{params_at, field_at, fields_at, arm_read_at, arms_read_at}
+use Rattle.registry_core.specs.Reading.{byte_at, primitive_at, definition_at, type_info_at, id_at}
+use Rattle.registry_core.specs.Reading.{types_at, registry_at, as_definition, array_at}
+use Rattle.registry_core.specs.Reading.{bit_sequence_at, letter_at, letters_at, named, version_at}
+use Rattle.registry_core.specs.Reading.{prefix_at, metadata_at}
 use Rattle.registry_core.specs.Laws.{FitsMetadata, ReadIsSpelled, metadata_of}
 
 -- what two parts take one after the other was spelled so, where each part's bytes were

@@ -1,5 +1,6 @@
 -- Each part's fault stands within the input, and is the same fault however the input goes on,
-use Rattle.std.proofs.Common.{◌≡◌, ℕ, zero, suc, ◌+◌, cond, List, [], ◌∷◌, ◌++◌, length, Ok, Err, refl, ap, arith, inl, inr, length-append}
+use Rattle.std.proofs.Common.{◌≡◌, ℕ, zero, suc, ◌+◌, cond, List, [], ◌∷◌, ◌++◌, length, Ok, Err}
+use Rattle.std.proofs.Common.{refl, ap, arith, inl, inr, length-append}
 use Rattle.std.specs.Prelude.{◌≢◌, Option, Some, None, slice_get, ◌==◌}
 use Rattle.std.proofs.lemmas.List.{take-append-le, drop-append-le}
 use Rattle.std.proofs.lemmas.Bool.{cases_lt, le-ltb, lt-ltb}
@@ -7,15 +8,24 @@ use Rattle.scale_core.specs.Read.{Read, ◌>>=◌, number_at, compact_at, text_a
 use Rattle.scale_core.specs.declared.compact.Target.TheVariants.{U32 as u32_target}
 use Rattle.scale_core.specs.declared.fault.Reason.{Reason}
 use Rattle.scale_core.specs.declared.fault.Reason.TheVariants as scale
-use Rattle.scale_core.proofs.Results.{Extends, bind_extends, cond_extends, compact_extends, text_extends}
+use Rattle.scale_core.proofs.Results.{Extends, bind_extends, cond_extends, compact_extends}
+use Rattle.scale_core.proofs.Results.{text_extends}
 use Rattle.registry_core.specs.declared.definition.TypeDef.{TypeDef}
 use Rattle.registry_core.specs.declared.definition.TypeDef.TheVariants as def
 use Rattle.registry_core.specs.declared.fault.RegistryReason.{RegistryReason}
 use Rattle.registry_core.specs.declared.fault.RegistryReason.TheVariants as registry
 use Rattle.registry_core.specs.Bytes.{primitives, magic, version_of}
 use Rattle.registry_core.specs.Laws.{IsBehind}
-use Rattle.registry_core.specs.Reading.{Reader, reason_of, lifted, length_at, repeated, sequence_at, string_at, texts_at, option_at, type_id_at, type_ids_at, byte_at, param_at, params_at, field_at, fields_at, arm_read_at, arms_read_at, named, primitive_at, as_definition, array_at, bit_sequence_at, definition_at, type_info_at, id_at, types_at, registry_at, letter_at, letters_at, version_at, prefix_at, metadata_at}
-use Rattle.registry_core.proofs.Inside.{at_end, at_front, Inside, after_byte, inside_then, inside_cond, CutAtEnd, number_inside, compact_inside, text_inside}
+use Rattle.registry_core.specs.Reading.{Reader, reason_of, lifted, length_at, repeated, sequence_at}
+use Rattle.registry_core.specs.Reading.{string_at, texts_at, option_at, type_id_at, type_ids_at}
+use Rattle.registry_core.specs.Reading.{byte_at, param_at, params_at, field_at, fields_at}
+use Rattle.registry_core.specs.Reading.{arm_read_at, arms_read_at, named, primitive_at}
+use Rattle.registry_core.specs.Reading.{as_definition, array_at, bit_sequence_at, definition_at}
+use Rattle.registry_core.specs.Reading.{type_info_at, id_at, types_at, registry_at, letter_at}
+use Rattle.registry_core.specs.Reading.{letters_at, version_at, prefix_at, metadata_at}
+use Rattle.registry_core.proofs.Inside.{at_end, at_front, Inside, after_byte, inside_then}
+use Rattle.registry_core.proofs.Inside.{inside_cond, CutAtEnd, number_inside, compact_inside}
+use Rattle.registry_core.proofs.Inside.{text_inside}
 
 -- ---- parts
 

@@ -2,7 +2,8 @@
 use Rattle.std.proofs.Common.{◌≡◌, ◌*◌, ◌/◌, ◌^◌, ◌≤◌, refl, arith}
 use Rattle.registry_core.specs.Kinds.{width_bytes}
 use Rattle.registry_core.specs.declared.kind.IntegerWidth.{IntegerWidth}
-use Rattle.registry_core.specs.declared.kind.IntegerWidth.TheVariants.{Bits8, Bits16, Bits32, Bits64, Bits128}
+use Rattle.registry_core.specs.declared.kind.IntegerWidth.TheVariants.{Bits8, Bits16, Bits32}
+use Rattle.registry_core.specs.declared.kind.IntegerWidth.TheVariants.{Bits64, Bits128}
 
 -- an integer has at least one byte
 pub width_some : (w : IntegerWidth) → 1 ≤ width_bytes w

@@ -1,7 +1,9 @@
 -- The bytes that stand for themselves: those of the primitives, and the prefix of metadata.
 use Rattle.std.specs.Prelude.{ℕ, List, [], ◌∷◌, Option, Some, None, ◌==◌, if◌then◌else◌}
 use Rattle.registry_core.specs.declared.primitive.Primitive.{Primitive}
-use Rattle.registry_core.specs.declared.primitive.Primitive.TheVariants.{Bool, Char, Str, U8, U16, U32, U64, U128, U256, I8, I16, I32, I64, I128, I256}
+use Rattle.registry_core.specs.declared.primitive.Primitive.TheVariants.{Bool, Char, Str, U8, U16}
+use Rattle.registry_core.specs.declared.primitive.Primitive.TheVariants.{U32, U64, U128, U256, I8}
+use Rattle.registry_core.specs.declared.primitive.Primitive.TheVariants.{I16, I32, I64, I128, I256}
 use Rattle.registry_core.specs.declared.version.Version.{Version}
 use Rattle.registry_core.specs.declared.version.Version.TheVariants.{V14, V15}
 

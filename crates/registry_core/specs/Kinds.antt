@@ -6,7 +6,8 @@ use Rattle.registry_core.specs.declared.primitive.Primitive.TheVariants as P
 use Rattle.registry_core.specs.declared.kind.PrimitiveKind.{PrimitiveKind}
 use Rattle.registry_core.specs.declared.kind.PrimitiveKind.TheVariants as kind
 use Rattle.registry_core.specs.declared.kind.IntegerWidth.{IntegerWidth}
-use Rattle.registry_core.specs.declared.kind.IntegerWidth.TheVariants.{Bits8, Bits16, Bits32, Bits64, Bits128}
+use Rattle.registry_core.specs.declared.kind.IntegerWidth.TheVariants.{Bits8, Bits16, Bits32}
+use Rattle.registry_core.specs.declared.kind.IntegerWidth.TheVariants.{Bits64, Bits128}
 use Rattle.registry_core.specs.declared.kind.Signedness.TheVariants as sign
 
 abbrev pub kind_of : Primitive → PrimitiveKind

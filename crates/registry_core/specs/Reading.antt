@@ -1,5 +1,6 @@
 -- A registry from left to right, with the first fault that is met.
-use Rattle.std.specs.Prelude.{ℕ, zero, suc, ◌+◌, List, [], ◌∷◌, Option, Some, None, Ok, Err, ◌==◌, slice_get, if◌then◌else◌}
+use Rattle.std.specs.Prelude.{ℕ, zero, suc, ◌+◌, List, [], ◌∷◌, Option, Some, None, Ok, Err, ◌==◌}
+use Rattle.std.specs.Prelude.{slice_get, if◌then◌else◌}
 use Rattle.scale_core.specs.Read.{Read, ◌>>=◌, compact_at, text_at, number_at}
 use Rattle.scale_core.specs.declared.compact.Target.TheVariants.{U32 as u32_target}
 use Rattle.scale_core.specs.declared.fault.Reason.{Reason}

@@ -6,7 +6,9 @@ use Rattle.registry_core.specs.declared.definition.TypeDef.TheVariants as def
 use Rattle.registry_core.specs.declared.primitive.Primitive.TheVariants.{U8}
 use Rattle.registry_core.specs.declared.type_info.TypeInfo.{TypeInfo}
 use Rattle.registry_core.specs.declared.fault.RegistryReason.{RegistryReason}
-use Rattle.registry_core.specs.declared.fault.RegistryReason.TheVariants.{BadUtf8, CompactTooLarge, IdOutOfPlace, NotMetadata, Truncated, WrongVersion}
+use Rattle.registry_core.specs.declared.fault.RegistryReason.TheVariants.{BadUtf8, CompactTooLarge}
+use Rattle.registry_core.specs.declared.fault.RegistryReason.TheVariants.{IdOutOfPlace, NotMetadata}
+use Rattle.registry_core.specs.declared.fault.RegistryReason.TheVariants.{Truncated, WrongVersion}
 use Rattle.registry_core.specs.declared.version.Version.TheVariants.{V14, V15}
 use Rattle.registry_core.specs.Reading.{registry_at, metadata_at}
 use Rattle.registry_core.specs.Spelling.{spelling}

@@ -1,7 +1,8 @@
 //! What holds of every registry and its spelling, alone and behind the prefix of metadata.
 
 ghost use Rattle.registry_core.specs.Fits.{FitsRegistry};
-ghost use Rattle.registry_core.specs.Laws.{FaultIsKept, FaultIsWithin, FitsMetadata, FrontIsCut, ReadIsSpelled, SpelledIsRead, metadata_of};
+ghost use Rattle.registry_core.specs.Laws.{FaultIsKept, FaultIsWithin, FitsMetadata, FrontIsCut};
+ghost use Rattle.registry_core.specs.Laws.{ReadIsSpelled, SpelledIsRead, metadata_of};
 ghost use Rattle.registry_core.specs.Reading.{metadata_at, registry_at};
 ghost use Rattle.registry_core.specs.Rows.{FaultRows, MetadataRows, ReadRows};
 ghost use Rattle.registry_core.specs.Spelling.{spelling};

@@ -2,8 +2,10 @@
 
 ghost use Rattle.std.specs.Prelude.{◌≡◌, ◌<◌, ◌^◌, ◌++◌, ◌∷◌, OnOk, IfOk};
 ghost use Rattle.scale_core.specs.Compact.{compact};
-ghost use Rattle.registry_core.specs.Fits.{FitsText, FitsTexts, FitsOption, FitsList, FitsParam, FitsField, FitsArm, FitsDefinition, FitsType};
-ghost use Rattle.registry_core.specs.Spelling.{sequence, text, texts, option, type_id, param, field, arm, definition, type_info, spelling};
+ghost use Rattle.registry_core.specs.Fits.{FitsText, FitsTexts, FitsOption, FitsList, FitsParam};
+ghost use Rattle.registry_core.specs.Fits.{FitsField, FitsArm, FitsDefinition, FitsType};
+ghost use Rattle.registry_core.specs.Spelling.{sequence, text, texts, option, type_id, param};
+ghost use Rattle.registry_core.specs.Spelling.{field, arm, definition, type_info, spelling};
 
 use crate::definition::{Arm, Field, TypeDef};
 use crate::items::Items;

@@ -1,5 +1,7 @@
 -- What is spelled is read again.
-use Rattle.std.proofs.Common.{◌≡◌, ℕ, ◌+◌, ◌-◌, ◌*◌, ◌/◌, ◌%◌, ◌^◌, ◌<◌, ◌≤◌, Bool, true, false, ltb, List, [], ◌∷◌, ◌++◌, length, Ok, refl, sym, ◌∙◌, append_assoc, arith, inl, inr}
+use Rattle.std.proofs.Common.{◌≡◌, ℕ, ◌+◌, ◌-◌, ◌*◌, ◌/◌, ◌%◌, ◌^◌, ◌<◌, ◌≤◌, Bool, true, false}
+use Rattle.std.proofs.Common.{ltb, List, [], ◌∷◌, ◌++◌, length, Ok, refl, sym, ◌∙◌, append_assoc}
+use Rattle.std.proofs.Common.{arith, inl, inr}
 use Rattle.std.specs.Prelude.{nat_lt, ◌==◌, ◌&&◌}
 use Rattle.std.specs.Str.{bytes_eq}
 use Rattle.std.proofs.lemmas.Bool.{cases_lt, le-ltb, lt-ltb, eqb-true}
@@ -8,11 +10,14 @@ use Rattle.std.proofs.lemmas.List.{take_at, drop_at, length-append}
 use Rattle.std.proofs.Math.Nat.{pow-le-pow_right}
 use Rattle.scale_core.specs.Number.{number, le_bytes}
 use Rattle.scale_core.specs.Compact.{compact, bytes_needed, big_bytes, target_bytes, IsCompact}
-use Rattle.scale_core.specs.Read.{bytes_at, number_at, form_len, form_number, is_too_long, integer_at, compact_at, text_at}
+use Rattle.scale_core.specs.Read.{bytes_at, number_at, form_len, form_number, is_too_long}
+use Rattle.scale_core.specs.Read.{integer_at, compact_at, text_at}
 use Rattle.scale_core.specs.declared.compact.Target.{Target}
-use Rattle.scale_core.specs.declared.compact.Target.TheVariants.{Unit as TUnit, U8, U16, U32, U64, U128}
+use Rattle.scale_core.specs.declared.compact.Target.TheVariants.{Unit as TUnit, U8, U16, U32, U64}
+use Rattle.scale_core.specs.declared.compact.Target.TheVariants.{U128}
 use Rattle.scale_core.specs.Text.{IsText}
-use Rattle.scale_core.proofs.Numbers.{length-le_bytes, number-le_bytes, bytes_needed-le, bytes_needed-enough}
+use Rattle.scale_core.proofs.Numbers.{length-le_bytes, number-le_bytes, bytes_needed-le}
+use Rattle.scale_core.proofs.Numbers.{bytes_needed-enough}
 
 -- a run of bytes of the length that is asked for is read again, with the rest left
 pub bytes_again : (k : ℕ) (b rest : List ℕ) → length b ≡ k → bytes_at k (b ++ rest) ≡ Ok (b, rest)

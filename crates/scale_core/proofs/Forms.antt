@@ -1,6 +1,7 @@
 -- The forms of compact integers: how long the shortest is, and that no other form of its length has
 -- its number.
-use Rattle.std.proofs.Common.{◌≡◌, ℕ, zero, suc, ◌+◌, ◌-◌, ◌*◌, ◌/◌, ◌%◌, ◌^◌, ◌<◌, ◌≤◌, List, [], ◌∷◌, length, refl, sym, ap, ◌∙◌, arith, inl, inr}
+use Rattle.std.proofs.Common.{◌≡◌, ℕ, zero, suc, ◌+◌, ◌-◌, ◌*◌, ◌/◌, ◌%◌, ◌^◌, ◌<◌, ◌≤◌, List, []}
+use Rattle.std.proofs.Common.{◌∷◌, length, refl, sym, ap, ◌∙◌, arith, inl, inr}
 use Rattle.std.proofs.lemmas.Bool.{cases_lt, le-ltb, lt-ltb, ne_eqb}
 use Rattle.std.proofs.lemmas.Bool.Decides.{nat_tests}
 use Rattle.std.proofs.Math.Nat.{pow-suc, pow-le-pow_right}
@@ -10,7 +11,8 @@ use Rattle.scale_core.specs.Compact.{compact, bytes_needed, big_bytes}
 use Rattle.scale_core.specs.Number.{AreBytes, number, le_bytes}
 use Rattle.scale_core.specs.Read.{form_len, form_number}
 use Rattle.scale_core.proofs.Again.{form_of}
-use Rattle.scale_core.proofs.Numbers.{length-le_bytes, number_one, bytes_needed-le, bytes_needed-enough}
+use Rattle.scale_core.proofs.Numbers.{length-le_bytes, number_one, bytes_needed-le}
+use Rattle.scale_core.proofs.Numbers.{bytes_needed-enough}
 
 -- 2 to eight times a count of bytes is 256 to that count
 pow-bytes : (k : ℕ) → 2 ^ (8 * k) ≡ 256 ^ k

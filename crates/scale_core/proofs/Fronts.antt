@@ -1,7 +1,9 @@
 -- What std's conversions of bytes spell.
-use Rattle.std.proofs.Common.{◌≡◌, ℕ, zero, suc, ◌+◌, ◌*◌, ◌/◌, ◌%◌, ◌^◌, ◌<◌, ◌≤◌, List, [], ◌∷◌, ◌++◌, length, take, drop, replicate, get_or, refl, ap, ◌∙◌, arith}
+use Rattle.std.proofs.Common.{◌≡◌, ℕ, zero, suc, ◌+◌, ◌*◌, ◌/◌, ◌%◌, ◌^◌, ◌<◌, ◌≤◌, List, [], ◌∷◌}
+use Rattle.std.proofs.Common.{◌++◌, length, take, drop, replicate, get_or, refl, ap, ◌∙◌, arith}
 use Rattle.std.specs.Prelude.{Result, Ok, Err, is_ok, OnOk, slice_index, if◌then◌else◌}
-use Rattle.std.specs.Int.{Width, w8, w16, w32, w64, w128, byte_len, byte_at, byte_worth, bytes_low_first, sum_through, to_le_bytes, from_le_bytes}
+use Rattle.std.specs.Int.{Width, w8, w16, w32, w64, w128, byte_len, byte_at, byte_worth}
+use Rattle.std.specs.Int.{bytes_low_first, sum_through, to_le_bytes, from_le_bytes}
 use Rattle.std.proofs.Math.Nat.{pow-suc, div-div-eq-div-mul}
 use Rattle.std.proofs.lemmas.List.{take_all, length-append, length-drop}
 use Rattle.std.proofs.Math.ListN.{set}

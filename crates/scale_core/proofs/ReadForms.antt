@@ -1,5 +1,7 @@
 -- What is read where a compact integer stands, by what its first byte names.
-use Rattle.std.proofs.Common.{◌≡◌, ℕ, zero, suc, ◌-◌, ◌/◌, ◌%◌, ◌^◌, ◌<◌, ◌≤◌, Bool, true, false, cond, List, [], ◌∷◌, length, get_or, take, drop, Ok, Err, refl, sym, ap, ◌∙◌, arith, inl, inr}
+use Rattle.std.proofs.Common.{◌≡◌, ℕ, zero, suc, ◌-◌, ◌/◌, ◌%◌, ◌^◌, ◌<◌, ◌≤◌, Bool, true, false}
+use Rattle.std.proofs.Common.{cond, List, [], ◌∷◌, length, get_or, take, drop, Ok, Err, refl, sym}
+use Rattle.std.proofs.Common.{ap, ◌∙◌, arith, inl, inr}
 use Rattle.std.specs.Prelude.{◌≢◌, not, nat_lt, ◌==◌, if◌then◌else◌}
 use Rattle.std.specs.Str.{bytes_eq}
 use Rattle.std.proofs.lemmas.Bool.{false_from_ne_true, cases_eq, le-ltb, lt-ltb, ne_eqb, eq-eqb}
@@ -8,11 +10,14 @@ use Rattle.std.proofs.lemmas.Slice.Eq.{bytes_eq-Decides}
 use Rattle.std.proofs.lemmas.List.{length-take}
 use Rattle.scale_core.specs.Compact.{compact, target_bytes}
 use Rattle.scale_core.specs.Number.{AreBytes}
-use Rattle.scale_core.specs.Read.{Read, form_len, form_number, checked_form, is_too_long, integer_at, compact_at}
+use Rattle.scale_core.specs.Read.{Read, form_len, form_number, checked_form, is_too_long}
+use Rattle.scale_core.specs.Read.{integer_at, compact_at}
 use Rattle.scale_core.specs.declared.compact.Target.{Target}
-use Rattle.scale_core.specs.declared.compact.Target.TheVariants.{Unit as TUnit, U8, U16, U32, U64, U128}
+use Rattle.scale_core.specs.declared.compact.Target.TheVariants.{Unit as TUnit, U8, U16, U32, U64}
+use Rattle.scale_core.specs.declared.compact.Target.TheVariants.{U128}
 use Rattle.scale_core.specs.declared.fault.Reason.{Reason}
-use Rattle.scale_core.specs.declared.fault.Reason.TheVariants.{Truncated, CompactNotShortest, CompactTooLarge}
+use Rattle.scale_core.specs.declared.fault.Reason.TheVariants.{Truncated, CompactNotShortest}
+use Rattle.scale_core.specs.declared.fault.Reason.TheVariants.{CompactTooLarge}
 use Rattle.scale_core.proofs.Forms.{shortest_form}
 
 -- a compact over a type without bytes is read as 0, and takes no byte

@@ -3,9 +3,11 @@ use Rattle.std.proofs.Common.{◌≡◌, ℕ, List, ◌++◌, sym, ap, ◌∙◌
 use Rattle.scale_core.specs.Compact.{IsCompact}
 use Rattle.scale_core.specs.Text.{IsText}
 use Rattle.scale_core.specs.Read.{compact_at, text_at}
-use Rattle.scale_core.specs.Laws.{CompactIsPrefixFree, CompactIsSpelled, TextIsPrefixFree, TextIsSpelled}
+use Rattle.scale_core.specs.Laws.{CompactIsPrefixFree, CompactIsSpelled, TextIsPrefixFree}
+use Rattle.scale_core.specs.Laws.{TextIsSpelled}
 use Rattle.scale_core.specs.declared.compact.Target.{Target}
-use Rattle.scale_core.specs.declared.compact.Target.TheVariants.{Unit as TUnit, U8, U16, U32, U64, U128}
+use Rattle.scale_core.specs.declared.compact.Target.TheVariants.{Unit as TUnit, U8, U16, U32, U64}
+use Rattle.scale_core.specs.declared.compact.Target.TheVariants.{U128}
 use Rattle.scale_core.specs.declared.fault.Reason.{Reason}
 use Rattle.scale_core.proofs.Again.{compact_again, text_again}
 use Rattle.scale_core.proofs.Results.{done_is, compact_takes, text_takes}

@@ -1,6 +1,8 @@
 -- Fixed-width integers, booleans and characters (SCALE codec specification): what their bytes
 -- spell, and their bytes.
-use Rattle.std.specs.Prelude.{ℕ, zero, suc, ◌+◌, ◌-◌, ◌*◌, ◌/◌, ◌%◌, ◌^◌, ◌<◌, List, [], ◌∷◌, length, ℤ, pos, negsuc, neg_ℤ, Bool, ◌||◌, ◌&&◌, nat_lt, if◌then◌else◌}
+use Rattle.std.specs.Prelude.{ℕ, zero, suc, ◌+◌, ◌-◌, ◌*◌, ◌/◌, ◌%◌, ◌^◌, ◌<◌, List, [], ◌∷◌}
+use Rattle.std.specs.Prelude.{length, ℤ, pos, negsuc, neg_ℤ, Bool, ◌||◌, ◌&&◌, nat_lt}
+use Rattle.std.specs.Prelude.{if◌then◌else◌}
 
 -- bytes, and not numbers at large
 abbrev pub AreBytes : List ℕ → Type 0

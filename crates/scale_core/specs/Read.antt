@@ -1,6 +1,7 @@
 -- Reading from left to right: the value and the bytes behind it, or the first fault and the bytes
 -- from its place on.
-use Rattle.std.specs.Prelude.{ℕ, ◌+◌, ◌-◌, ◌/◌, ◌%◌, ◌^◌, Bool, true, false, ◌&&◌, not, ℤ, List, [], ◌∷◌, length, take, drop, Result, Ok, Err, nat_lt, ◌==◌, if◌then◌else◌}
+use Rattle.std.specs.Prelude.{ℕ, ◌+◌, ◌-◌, ◌/◌, ◌%◌, ◌^◌, Bool, true, false, ◌&&◌, not, ℤ, List, []}
+use Rattle.std.specs.Prelude.{◌∷◌, length, take, drop, Result, Ok, Err, nat_lt, ◌==◌, if◌then◌else◌}
 use Rattle.std.specs.Str.{bytes_eq, is_utf8}
 use Rattle.std.specs.Str.Lossy.{utf8_valid_len}
 use Rattle.scale_core.specs.Number.{number, signed_number, is_scalar}
@@ -8,7 +9,8 @@ use Rattle.scale_core.specs.Compact.{compact, target_bytes}
 use Rattle.scale_core.specs.declared.compact.Target.{Target}
 use Rattle.scale_core.specs.declared.compact.Target.TheVariants.{Unit as TUnit, U32}
 use Rattle.scale_core.specs.declared.fault.Reason.{Reason}
-use Rattle.scale_core.specs.declared.fault.Reason.TheVariants.{Truncated, BadBool, BadChar, BadUtf8, CompactNotShortest, CompactTooLarge}
+use Rattle.scale_core.specs.declared.fault.Reason.TheVariants.{Truncated, BadBool, BadChar, BadUtf8}
+use Rattle.scale_core.specs.declared.fault.Reason.TheVariants.{CompactNotShortest, CompactTooLarge}
 
 abbrev pub Read : Type 0 → Type 0 → Type 0
 Read E X = Result (X × List ℕ) (E × List ℕ)

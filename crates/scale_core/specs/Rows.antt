@@ -3,7 +3,8 @@ use Rattle.std.specs.Prelude.{◌≡◌, [], ◌∷◌, Ok, Err}
 use Rattle.scale_core.specs.Compact.{compact}
 use Rattle.scale_core.specs.Read.{compact_at, text_at}
 use Rattle.scale_core.specs.declared.compact.Target.TheVariants.{Unit as TUnit, U8, U32, U64, U128}
-use Rattle.scale_core.specs.declared.fault.Reason.TheVariants.{Truncated, BadUtf8, CompactNotShortest, CompactTooLarge}
+use Rattle.scale_core.specs.declared.fault.Reason.TheVariants.{Truncated, BadUtf8}
+use Rattle.scale_core.specs.declared.fault.Reason.TheVariants.{CompactNotShortest, CompactTooLarge}
 
 -- spellings of numbers
 pub record SpellingRows : Type 0 where

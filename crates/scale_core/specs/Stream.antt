@@ -1,5 +1,6 @@
 -- A device seen from outside.
-use Rattle.std.specs.Prelude.{◌≡◌, ◌<◌, ℕ, List, Bool, Option, Some, None, Result, Ok, Err, length, take}
+use Rattle.std.specs.Prelude.{◌≡◌, ◌<◌, ℕ, List, Bool, Option, Some, None, Result, Ok, Err, length}
+use Rattle.std.specs.Prelude.{take}
 use Rattle.std.specs.Io.KnownBytes.{Appends, Consumes, IsAtEnd, Keeps}
 use Rattle.scale_core.specs.declared.sink.SinkFault.{SinkFault}
 use Rattle.scale_core.specs.declared.sink.SinkFault.TheVariants.{Device, WroteNothing}

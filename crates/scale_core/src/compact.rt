@@ -1,7 +1,9 @@
 //! Compact integers: the fewest bytes in one of four forms, which the two low bits of the first byte name
 //! (SCALE codec specification, "Compact/general integers").
 
-ghost use Rattle.std.specs.Prelude.{◌≡◌, ◌≢◌, ◌+◌, ◌*◌, ◌/◌, ◌%◌, ◌^◌, ◌<◌, ◌≤◌, ◌++◌, ◌∷◌, ℕ, nat_lt, length, take, drop, slice_index, MatchResult, IfOk, IfErr, OnOk, OnErr};
+ghost use Rattle.std.specs.Prelude.{◌≡◌, ◌≢◌, ◌+◌, ◌*◌, ◌/◌, ◌%◌, ◌^◌, ◌<◌, ◌≤◌, ◌++◌, ◌∷◌, ℕ};
+ghost use Rattle.std.specs.Prelude.{nat_lt, length, take, drop, slice_index, MatchResult, IfOk};
+ghost use Rattle.std.specs.Prelude.{IfErr, OnOk, OnErr};
 ghost use Rattle.scale_core.specs.Answers.{Answers, truncated};
 ghost use Rattle.scale_core.specs.Compact.{big_bytes, compact, target_bytes};
 ghost use Rattle.scale_core.specs.Number.{number};

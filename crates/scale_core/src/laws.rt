@@ -1,6 +1,7 @@
 //! Laws of the spellings: each is the contract of a function that does nothing, so that it is proved.
 
-ghost use Rattle.scale_core.specs.Laws.{CompactIsPrefixFree, CompactIsReadAgain, CompactIsSpelled, TextIsPrefixFree, TextIsReadAgain, TextIsSpelled};
+ghost use Rattle.scale_core.specs.Laws.{CompactIsPrefixFree, CompactIsReadAgain, CompactIsSpelled};
+ghost use Rattle.scale_core.specs.Laws.{TextIsPrefixFree, TextIsReadAgain, TextIsSpelled};
 ghost use Rattle.scale_core.specs.Rows.{CompactRows, SpellingRows, TextRows};
 
 /// No compact integer's spelling is the front of another's with the same target: where two spellings are fronts of

@@ -3,7 +3,8 @@
 ghost use Rattle.std.specs.Prelude.{◌≡◌, Ok, IfSome};
 ghost use Rattle.scale_core.specs.Read.{number_at};
 ghost use Rattle.registry_core.specs.Gives.{Gives};
-ghost use Rattle.registry_core.specs.Reading.{lifted, length_at, string_at, texts_at, type_id_at, type_ids_at, option_at, byte_at};
+ghost use Rattle.registry_core.specs.Reading.{lifted, length_at, string_at, texts_at, type_id_at};
+ghost use Rattle.registry_core.specs.Reading.{type_ids_at, option_at, byte_at};
 
 use super::lists::append;
 use super::stop::Stop;

@@ -2,7 +2,9 @@
 
 ghost use Rattle.std.specs.Prelude.{◌≡◌};
 ghost use Rattle.registry_core.specs.Gives.{Gives};
-ghost use Rattle.registry_core.specs.Reading.{field_at, fields_at, arm_read_at, arms_read_at, primitive_at, array_at, bit_sequence_at, definition_at};
+ghost use Rattle.registry_core.specs.Reading.{field_at, fields_at, arm_read_at, arms_read_at};
+ghost use Rattle.registry_core.specs.Reading.{primitive_at, array_at, bit_sequence_at};
+ghost use Rattle.registry_core.specs.Reading.{definition_at};
 
 use super::atoms::{
     byte_of, length_of, optional_text_of, text_of, texts_of, type_id_of, type_ids_of, word_of,

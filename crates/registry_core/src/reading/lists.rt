@@ -1,6 +1,7 @@
 //! Lists that grow by what was read, and have no room to spare once they are whole.
 
-ghost use Rattle.std.specs.Prelude.{◌≡◌, ◌<◌, ◌≤◌, ◌+◌, ◌*◌, ◌++◌, ◌∷◌, [], is_ok, if◌then◌else◌, max, OnOk, vec_len, vec_capacity};
+ghost use Rattle.std.specs.Prelude.{◌≡◌, ◌<◌, ◌≤◌, ◌+◌, ◌*◌, ◌++◌, ◌∷◌, [], is_ok, if◌then◌else◌};
+ghost use Rattle.std.specs.Prelude.{max, OnOk, vec_len, vec_capacity};
 
 use std::alloc::AllocError;
 use std::cmp;

@@ -1,4 +1,5 @@
-use Rattle.std.proofs.Common.{rules, refl, arith, sym, ap, ℕ, Ok, drop, ◌∙◌, ◌≡◌, [], false, length, ne_eqb, eq-eqb}
+use Rattle.std.proofs.Common.{rules, refl, arith, sym, ap, ℕ, Ok, drop, ◌∙◌, ◌≡◌, [], false, length}
+use Rattle.std.proofs.Common.{ne_eqb, eq-eqb}
 use Rattle.std.specs.Prelude.{◌≢◌}
 use Rattle.std.proofs.lemmas.Result.{err_from_is_err_and}
 use Rattle.scale_core.specs.Compact.{compact}
@@ -6,7 +7,9 @@ use Rattle.scale_core.specs.contracts.compact.Target.{the_type}
 use Rattle.scale_core.specs.declared.compact.Target.{Target}
 use Rattle.scale_core.specs.declared.compact.Target.TheVariants.{Unit as TUnit}
 use denote.Enum.Bare.{same_true, sameb}
-use Rattle.scale_core.proofs.ReadForms.{compact_at-unit, compact_at-empty, compact_at-too_long, compact_at-cut, compact_at-judged, compact_at-one, one_fits, front_is, are_bytes}
+use Rattle.scale_core.proofs.ReadForms.{compact_at-unit, compact_at-empty, compact_at-too_long}
+use Rattle.scale_core.proofs.ReadForms.{compact_at-cut, compact_at-judged, compact_at-one, one_fits}
+use Rattle.scale_core.proofs.ReadForms.{front_is, are_bytes}
 use Rattle.scale_core.proofs.compact.read_compact.Goals as goal
 
 -- a target that the test tells from the one without bytes is another

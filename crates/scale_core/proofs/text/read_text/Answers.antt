@@ -1,7 +1,8 @@
 use Rattle.std.proofs.Common.{◌∙◌, sym, ap, ◌+◌, ℕ, [], drop, arith}
 use Rattle.std.specs.Str.Lossy.{utf8_valid_len}
 use Rattle.std.proofs.lemmas.Result.{err_from_is_err_and}
-use Rattle.scale_core.proofs.ReadTexts.{IsWhole, text_at-fault, text_at-cut, text_at-valid, text_at-bad, whole-bound, place-bad}
+use Rattle.scale_core.proofs.ReadTexts.{IsWhole, text_at-fault, text_at-cut, text_at-valid}
+use Rattle.scale_core.proofs.ReadTexts.{text_at-bad, whole-bound, place-bad}
 use Rattle.scale_core.proofs.text.read_text.Goals as goal
 
 pub returns-in_err-count-clause-reads : goal.returns-in_err-count-clause-reads

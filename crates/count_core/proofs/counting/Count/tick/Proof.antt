@@ -12,7 +12,8 @@ use types.Logic.{Logic, sem}
 use contract.Monad.{fact_use}
 use contract.Running.{Running, MachineTables, tables, tables_of}
 use sound.WpLaws.{WpFn-mono}
-use types.Kit.{‵, raw, ◌⊛◌, ◌$◌, ◌∵◌, !, qed, move, keep, split, join, fsplit, fsplit3, fjoin, fjoin3, suffices, frame, feq_i}
+use types.Kit.{‵, raw, ◌⊛◌, ◌$◌, ◌∵◌, !, qed, move, keep, split, join, fsplit, fsplit3, fjoin}
+use types.Kit.{fjoin3, suffices, frame, feq_i}
 use types.Run.{returns, enter, unit_lit, of_opd}
 use types.ByLocal.{alloc_all, pass_all, free_all, look_at, sets}
 use Prim.Native.Nat.{◌+◌}

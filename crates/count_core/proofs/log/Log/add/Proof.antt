@@ -14,7 +14,8 @@ use types.Logic.{Logic, sem}
 use contract.Monad.{fact_use}
 use contract.Running.{Running, MachineTables, tables, tables_of}
 use sound.WpLaws.{WpFn-mono}
-use types.Kit.{‵, raw, ◌⊛◌, ◌$◌, ◌∵◌, !, qed, move, keep, split, join, fsplit, fsplit3, fjoin, fjoin3, suffices, frame, feq_i}
+use types.Kit.{‵, raw, ◌⊛◌, ◌$◌, ◌∵◌, !, qed, move, keep, split, join, fsplit, fsplit3, fjoin}
+use types.Kit.{fjoin3, suffices, frame, feq_i}
 use types.Run.{returns, enter, unit_lit, of_opd}
 use types.ByLocal.{alloc_all, pass_all, free_all, look_at, sets}
 use Prim.Native.Nat.{ℕ, ◌<◌, ◌^◌}
@@ -26,7 +27,8 @@ use denote.Triple.Clauses.{Clauses, closing}
 use denote.Triple.Entry.{on_entry, alive}
 use denote.Triple.Spec.{Meets, triple_of}
 use denote.Triple.Table.{entered}
-use denote.Triple.Walked.{Stays, stay_dropped, stay_ref, walk_of, ends_at, Goes-dropped, Goes-ref, walk_Meets}
+use denote.Triple.Walked.{Stays, stay_dropped, stay_ref, walk_of, ends_at, Goes-dropped, Goes-ref}
+use denote.Triple.Walked.{walk_Meets}
 use contract.CodeStep
 use Rattle.count_core.specs.contracts.log.Log as log
 use Rattle.count_core.proofs.Tokens.{tells_last}
