@@ -56,7 +56,8 @@ inside_then Q b (Ok x) f h g = after Q b h.0 x.1 (f x) h.1 (g x)
 inside_then Q b (Err e) f h g = h
 
 -- where one of two readings is chosen, a fault of either stands within the bytes
-pub inside_cond : {E X : Type 0} (Q : E → List ℕ → Type 0) (b : List ℕ) (t : Bool) (x y : Read E X) →
+pub inside_cond : {E X : Type 0} (Q : E → List ℕ → Type 0) (b : List ℕ) (t : Bool)
+    (x y : Read E X) →
     Inside Q b x → Inside Q b y → Inside Q b (cond t x y)
 inside_cond Q b true x y f g = f
 inside_cond Q b false x y f g = g

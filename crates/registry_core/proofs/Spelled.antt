@@ -138,7 +138,8 @@ option_good P spell part h = record { takes = option_takes P spell part h }
 id_good : Good FitsId type_id type_id_at
 id_good = record {
   takes =
-      λ b bytes. bind_in (Spelled (λ n. n < 2 ^ 32) compact) (Spelled FitsId type_id) b (length_at b)
+      λ b bytes. bind_in (Spelled (λ n. n < 2 ^ 32) compact) (Spelled FitsId type_id) b
+      (length_at b)
       _ bytes (length_good.takes b bytes) (λ n c rest k. ([], refl, (k.0, rw append-nil k.1)));
 }
 
@@ -456,7 +457,8 @@ letter_takes : (letter : ℕ) (b : List ℕ) →
 letter_takes letter [] = tt
 letter_takes letter (x ∷ b) =
     cond_takes (λ read c. c ≡ letter ∷ []) (x ∷ b) (x == letter) (Ok (tt, b))
-    (Err (registry.NotMetadata, x ∷ b)) (λ e. (x ∷ [], refl, rw (eqb-true x letter e) refl)) (λ e. tt)
+    (Err (registry.NotMetadata, x ∷ b)) (λ e. (x ∷ [], refl, rw (eqb-true x letter e) refl))
+    (λ e. tt)
 
 -- letters that are read stood on the front in their order
 letters_take : (letters b : List ℕ) → AreBytes b →
