@@ -120,7 +120,8 @@ fn read_form(bytes: &[u8], first: u8) -> Result<(u128, usize), Fault>
 pub fn read_compact(bytes: &[u8], target: Target) -> Result<(u128, usize), Fault>
     ensures reads { Answers (λ x. x) bytes.now result (compact_at target bytes.now) }
     ensures fits { IfOk result (λ x. x.0 < 256 ^ target_bytes target) }
-    ensures reasons { IfErr result (λ f. (f.reason ≢ Reason.BadBool) × (f.reason ≢ Reason.BadChar) × (f.reason ≢ Reason.BadUtf8)) }
+    ensures reasons { IfErr result (λ f. (f.reason ≢ Reason.BadBool) × (f.reason ≢ Reason.BadChar)
+        × (f.reason ≢ Reason.BadUtf8)) }
     ensures len { IfOk result (λ x. x.1 ≤ 17) }
 {
     if target == Target::Unit {

@@ -15,11 +15,13 @@ pub trait ReadOnce: Read {
     fn read_once(&mut self, part: &mut [u8]) -> Option<usize>
         ensures once { reads self.old part.old result part.new self.new }
         ensures count { IfSome result (λ n. n ≤ length part.new) }
-        ensures bytes { GivesBytes (Self.remaining self.old) (Self.remaining self.new) result part.new };
+        ensures bytes { GivesBytes (Self.remaining self.old)
+            (Self.remaining self.new) result part.new };
 }
 
 impl<R: Read> ReadOnce for R {
-    ghost reads = { λ old before count part new. GivesBytes (R.remaining old) (R.remaining new) count part };
+    ghost reads = { λ old before count part new.
+        GivesBytes (R.remaining old) (R.remaining new) count part };
 
     fn read_once(&mut self, part: &mut [u8]) -> Option<usize> {
         self.read(part).ok()
@@ -36,11 +38,13 @@ pub trait WriteOnce: Write {
     fn write_once(&mut self, part: &[u8]) -> Option<usize>
         ensures once { writes self.old part.now result self.new }
         ensures count { IfSome result (λ n. n ≤ length part.now) }
-        ensures bytes { TakesBytes (Self.contents self.old) (Self.contents self.new) result part.now };
+        ensures bytes { TakesBytes (Self.contents self.old)
+            (Self.contents self.new) result part.now };
 }
 
 impl<W: Write> WriteOnce for W {
-    ghost writes = { λ old part count new. TakesBytes (W.contents old) (W.contents new) count part };
+    ghost writes = { λ old part count new.
+        TakesBytes (W.contents old) (W.contents new) count part };
 
     fn write_once(&mut self, part: &[u8]) -> Option<usize> {
         self.write(part).ok()

@@ -70,7 +70,8 @@ impl<W: WriteOnce> Sink<W> {
         // One write to the writer leads to what stands afterwards: it took the count, or none, or answered an error.
         ensures once { W.writes self.old.device part.now (taken result) self.new.device }
         ensures count { IfOk result (λ n. (0 < n) × (n ≤ length part.now)) }
-        ensures bytes { WriteAppends (W.contents self.old.device) (W.contents self.new.device) result part.now }
+        ensures bytes { WriteAppends (W.contents self.old.device) (W.contents self.new.device)
+            result part.now }
         ensures failed { self.new.failed ≡ self.old.failed || not (is_ok result) }
     {
         let written = match self.writer.write_once(part) {

@@ -67,7 +67,8 @@ impl<R: ReadOnce> Source<R> {
         // One read of the reader leads to what stands afterwards: it gave the count, or answered an error.
         ensures once { R.reads self.old.device part.old (given result) part.new self.new.device }
         ensures count { IfOk result (λ n. n ≤ length part.new) }
-        ensures bytes { ReadConsumes (R.remaining self.old.device) (R.remaining self.new.device) result part.new }
+        ensures bytes { ReadConsumes (R.remaining self.old.device) (R.remaining self.new.device)
+            result part.new }
         ensures failed { self.new.failed ≡ self.old.failed || not (is_ok result) }
     {
         match self.reader.read_once(part) {

@@ -17,7 +17,8 @@ use std::alloc::AllocError;
 /// first byte past their longest valid front.
 pub fn read_text(bytes: &[u8]) -> Result<(&str, usize), Fault>
     ensures reads { Answers (λ s. s.now) bytes.now result (text_at bytes.now) }
-    ensures reasons { IfErr result (λ f. (f.reason ≢ Reason.BadBool) × (f.reason ≢ Reason.BadChar)) }
+    ensures reasons { IfErr result (λ f. (f.reason ≢ Reason.BadBool)
+        × (f.reason ≢ Reason.BadChar)) }
 {
     let (count, start) = read_compact(bytes, Target::U32)?;
     let Some(spelled) = bytes[start..].get(..count as usize) else {
@@ -42,7 +43,8 @@ pub fn read_text(bytes: &[u8]) -> Result<(&str, usize), Fault>
 /// Where memory is refused the vector stays as it was.
 pub fn write_text(out: &mut Vec<u8>, text: &str) -> Result<(), AllocError>
     requires { length text.now < 2 ^ 32 }
-    ensures ok { OnOk result (out.new.items ≡ out.old.items ++ compact (length text.now) ++ text.now) }
+    ensures ok { OnOk result (out.new.items
+        ≡ out.old.items ++ compact (length text.now) ++ text.now) }
     ensures err { OnErr result (out.new.items ≡ out.old.items) }
 {
     let mut spelled = [0; 17];

@@ -18,8 +18,10 @@ fn make_room<T>(list: &mut Vec<T>, count: u32) -> Result<(), AllocError>
     ensures len { vec_len list.new ≡ vec_len list.old }
     ensures room { OnOk result (vec_len list.new < vec_capacity list.new) }
     // It grows by what was read, and never past what it claims to have.
-    ensures read { vec_capacity list.new ≤ max (vec_capacity list.old) (vec_len list.old + max FIRST (3 * vec_len list.old)) }
-    ensures claimed { vec_len list.old < count → vec_capacity list.new ≤ max (vec_capacity list.old) count }
+    ensures read { vec_capacity list.new
+        ≤ max (vec_capacity list.old) (vec_len list.old + max FIRST (3 * vec_len list.old)) }
+    ensures claimed { vec_len list.old < count →
+        vec_capacity list.new ≤ max (vec_capacity list.old) count }
 {
     let len = list.len();
     let to_come = cmp::max((count as usize).saturating_sub(len), 1);
@@ -29,9 +31,12 @@ fn make_room<T>(list: &mut Vec<T>, count: u32) -> Result<(), AllocError>
 /// Appends the next element of a list that claims to have `count`.
 #[inline(always)]
 pub(crate) fn append<T: Drop>(list: &mut Vec<T>, count: u32, value: T) -> Result<(), AllocError>
-    ensures items { list.new.items ≡ (if is_ok result then list.old.items ++ value ∷ [] else list.old.items) }
-    ensures read { vec_capacity list.new ≤ max (vec_capacity list.old) (vec_len list.old + max FIRST (3 * vec_len list.old)) }
-    ensures claimed { vec_len list.old < count → vec_capacity list.new ≤ max (vec_capacity list.old) count }
+    ensures items { list.new.items
+        ≡ (if is_ok result then list.old.items ++ value ∷ [] else list.old.items) }
+    ensures read { vec_capacity list.new
+        ≤ max (vec_capacity list.old) (vec_len list.old + max FIRST (3 * vec_len list.old)) }
+    ensures claimed { vec_len list.old < count →
+        vec_capacity list.new ≤ max (vec_capacity list.old) count }
 {
     if list.capacity() <= list.len() {
         make_room(list, count)?;
