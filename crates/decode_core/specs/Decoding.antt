@@ -1,5 +1,7 @@
 -- What contracts see of a decoder, and which bytes have led to it.
-use Rattle.std.specs.Prelude.{◌≡◌, ℕ, suc, ◌+◌, ◌*◌, ◌-◌, ◌≤◌, ◌^◌, ◌⊎◌, List, [], ◌++◌, length, map, take, Result, Ok, Err, true, Option, Some, None, nat_lt, not, ◌||◌, if◌then◌else◌}
+use Rattle.std.specs.Prelude.{◌≡◌, ℕ, suc, ◌+◌, ◌*◌, ◌-◌, ◌≤◌, ◌^◌, ◌⊎◌, List, [], ◌++◌, length}
+use Rattle.std.specs.Prelude.{map, take, Result, Ok, Err, true, Option, Some, None, nat_lt, not}
+use Rattle.std.specs.Prelude.{◌||◌, if◌then◌else◌}
 use Rattle.scale_core.specs.Number.{AreBytes}
 use Rattle.registry_core.specs.declared.type_info.TypeInfo.{TypeInfo}
 use Rattle.grammar_core.specs.Preorder.{tree_of}

@@ -1,6 +1,7 @@
 -- What is held of an input in which bytes are missing: a begun tree, and the bytes of the node that
 -- is not there yet.
-use Rattle.std.specs.Prelude.{true, ◌≡◌, ℕ, zero, suc, ◌+◌, ◌≤◌, ◌*◌, List, [], ◌∷◌, ◌++◌, length, Option, Some, None, Ok, Err}
+use Rattle.std.specs.Prelude.{true, ◌≡◌, ℕ, zero, suc, ◌+◌, ◌≤◌, ◌*◌, List, [], ◌∷◌, ◌++◌, length}
+use Rattle.std.specs.Prelude.{Option, Some, None, Ok, Err}
 use Rattle.scale_core.specs.Read.{Read, compact_at}
 use Rattle.scale_core.specs.declared.compact.Target.TheVariants as target
 use Rattle.scale_core.specs.declared.fault.Reason.{Reason}
@@ -15,7 +16,8 @@ use Rattle.widths_core.specs.Layouts.{Layout, layout}
 use Rattle.widths_core.specs.Layouts as layout
 use Rattle.grammar_core.specs.Tree.{Tree, Trees, none, and}
 use Rattle.grammar_core.specs.Reading.{Reader, value_at, layout_at, Refusal, truncated, too_deep}
-use Rattle.grammar_core.specs.Begun.{Begun, nothing, in_fields, in_arm, in_list, IsPart, Grows, begun_nodes, begun_text_bytes, begun_levels}
+use Rattle.grammar_core.specs.Begun.{Begun, nothing, in_fields, in_arm, in_list, IsPart, Grows}
+use Rattle.grammar_core.specs.Begun.{begun_nodes, begun_text_bytes, begun_levels}
 
 -- the node's own bytes are not all there: a node whose children alone have bytes has its own at
 -- once

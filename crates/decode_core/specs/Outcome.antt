@@ -1,11 +1,13 @@
 -- What a decoder answers for all the bytes that it was fed.
-use Rattle.std.specs.Prelude.{◌≡◌, ◌≢◌, ℕ, suc, ◌+◌, ◌<◌, ◌≤◌, List, [], ◌∷◌, ◌++◌, length, take, Ok, Err, nat_lt, if◌then◌else◌, ◌⊎◌}
+use Rattle.std.specs.Prelude.{◌≡◌, ◌≢◌, ℕ, suc, ◌+◌, ◌<◌, ◌≤◌, List, [], ◌∷◌, ◌++◌, length, take}
+use Rattle.std.specs.Prelude.{Ok, Err, nat_lt, if◌then◌else◌, ◌⊎◌}
 use Rattle.scale_core.specs.Read.{Read, place, form_len}
 use Rattle.scale_core.specs.declared.fault.Reason.TheVariants as scale
 use Rattle.registry_core.specs.declared.type_info.TypeInfo.{TypeInfo}
 use Rattle.grammar_core.specs.Tree.{Tree, levels}
 use Rattle.grammar_core.specs.Grammar.{Val}
-use Rattle.grammar_core.specs.Reading.{value_at, Refusal, basic, no_such_variant, too_deep, no_finite_value, bit_sequence, bad_compact, truncated}
+use Rattle.grammar_core.specs.Reading.{value_at, Refusal, basic, no_such_variant, too_deep}
+use Rattle.grammar_core.specs.Reading.{no_finite_value, bit_sequence, bad_compact, truncated}
 use Rattle.grammar_core.specs.Laws.{Fails}
 use Rattle.decode_core.specs.Taken.{value_taken}
 

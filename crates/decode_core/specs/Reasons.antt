@@ -2,7 +2,8 @@
 use Rattle.scale_core.specs.declared.fault.Reason.TheVariants as scale
 use Rattle.grammar_core.specs.declared.form.StopReason.{StopReason}
 use Rattle.grammar_core.specs.declared.form.StopReason.TheVariants as stop
-use Rattle.grammar_core.specs.Reading.{Refusal, basic, no_such_variant, too_deep, no_finite_value, bit_sequence, bad_compact}
+use Rattle.grammar_core.specs.Reading.{Refusal, basic, no_such_variant, too_deep, no_finite_value}
+use Rattle.grammar_core.specs.Reading.{bit_sequence, bad_compact}
 use Rattle.decode_core.specs.declared.fault.DecodeReason.{DecodeReason}
 use Rattle.decode_core.specs.declared.fault.DecodeReason.TheVariants as reason
 

@@ -1,5 +1,6 @@
 -- What contracts see of a decoder on its way, and the state of the machine that it is in.
-use Rattle.std.specs.Prelude.{◌≡◌, ℕ, ◌+◌, ◌-◌, ◌<◌, ◌≤◌, List, [], ◌∷◌, ◌++◌, length, map, Option, Some, None, Ok}
+use Rattle.std.specs.Prelude.{◌≡◌, ℕ, ◌+◌, ◌-◌, ◌<◌, ◌≤◌, List, [], ◌∷◌, ◌++◌, length, map, Option}
+use Rattle.std.specs.Prelude.{Some, None, Ok}
 use Rattle.widths_core.specs.declared.run_kind.RunKind.{RunKind}
 use Rattle.grammar_core.specs.Runs.{run_form, run_front, run_length_at}
 use Rattle.value_core.specs.Built.{Built, Pieces, settled_in}

@@ -1,5 +1,6 @@
 -- Reading a value node by node: what is added in preorder before the reading ends, and how it ends.
-use Rattle.std.specs.Prelude.{◌≡◌, ℕ, zero, suc, List, [], ◌∷◌, ◌++◌, length, map, Option, Some, None, Result, Ok, Err}
+use Rattle.std.specs.Prelude.{◌≡◌, ℕ, zero, suc, List, [], ◌∷◌, ◌++◌, length, map, Option, Some}
+use Rattle.std.specs.Prelude.{None, Result, Ok, Err}
 use Rattle.scale_core.specs.Read.{Read, compact_at}
 use Rattle.scale_core.specs.declared.compact.Target.TheVariants as target
 use Rattle.scale_core.specs.declared.fault.Reason.{Reason}
@@ -16,7 +17,8 @@ use Rattle.grammar_core.specs.Preorder as head
 use Rattle.grammar_core.specs.Tree as tree
 use Rattle.grammar_core.specs.Parts.{Part, each, times}
 use Rattle.decode_core.specs.Met.{met_layout}
-use Rattle.grammar_core.specs.Reading.{layout_at, Refusal, basic, truncated, too_deep, no_such_variant}
+use Rattle.grammar_core.specs.Reading.{layout_at, Refusal, basic, truncated, too_deep}
+use Rattle.grammar_core.specs.Reading.{no_such_variant}
 
 abbrev pub entry : ℕ → Head → Entry
 entry t h = record { ty = t; head = h }

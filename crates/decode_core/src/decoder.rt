@@ -1,12 +1,18 @@
 //! The streaming decoder.
 
-ghost use Rattle.std.specs.Prelude.{◌≡◌, ◌+◌, ◌++◌, ◌≤◌, ◌^◌, [], ℕ, List, Ok, Err, IfOk, length, suc, take, true};
+ghost use Rattle.std.specs.Prelude.{◌≡◌, ◌+◌, ◌++◌, ◌≤◌, ◌^◌, [], ℕ, List, Ok, Err, IfOk, length};
+ghost use Rattle.std.specs.Prelude.{suc, take, true};
 ghost use Rattle.value_core.specs.Built.{finished};
 ghost use Rattle.value_core.specs.Refusals.{is_whole};
 ghost use Rattle.decode_core.specs.Running.{Running};
 ghost use Rattle.decode_core.specs.Outcome.{Job};
 ghost use Rattle.decode_core.specs.Bound.{node_bound};
-ghost use Rattle.decode_core.specs.Decoding.{AnswersPiece, CountsValue, Decoding, FedCounts, FedTakes, FinishesDecoder, HasCounted, HasValue, HoldsAt, IsKept, IsLedTo, IsSmall, IsSmallAtEnd, IsSmallValue, Led, LoopCounted, OpensDecoder, RunAnswers, RunLed, closing_turns, first_of_all, node_count, opening_fault, text_bytes};
+ghost use Rattle.decode_core.specs.Decoding.{AnswersPiece, CountsValue, Decoding, FedCounts};
+ghost use Rattle.decode_core.specs.Decoding.{FedTakes, FinishesDecoder, HasCounted, HasValue};
+ghost use Rattle.decode_core.specs.Decoding.{HoldsAt, IsKept, IsLedTo, IsSmall, IsSmallAtEnd};
+ghost use Rattle.decode_core.specs.Decoding.{IsSmallValue, Led, LoopCounted, OpensDecoder};
+ghost use Rattle.decode_core.specs.Decoding.{RunAnswers, RunLed, closing_turns, first_of_all};
+ghost use Rattle.decode_core.specs.Decoding.{node_count, opening_fault, text_bytes};
 ghost use Rattle.graph_core.specs.Widths.{widest};
 
 use crate::fault::{DecodeFault, DecodeReason, OpenFault};
@@ -94,10 +100,13 @@ fn feed_run<A: Allocator>(
     turns: &mut Count,
 ) -> Fed
     requires led { IsLedTo run.old limit taken }
-    ensures answers { (j : Job) (b : List ℕ) → j.bytes ≡ limit → RunLed j b taken (Ok run.old) → RunAnswers j (b ++ piece.now) taken run.new result }
+    ensures answers { (j : Job) (b : List ℕ) → j.bytes ≡ limit → RunLed j b taken (Ok run.old) →
+        RunAnswers j (b ++ piece.now) taken run.new result }
     ensures whole { is_whole run.old.built ≡ true → (result ≡ Fed.Done 0) × (run.new ≡ run.old) }
     ensures takes { FedTakes taken (length piece.now) result }
-    ensures counts { (j : Job) (b : List ℕ) (calls : ℕ) → j.bytes ≡ limit → RunLed j b taken (Ok run.old) → LoopCounted taken run.old turns.old.so_far calls → FedCounts j run.new taken turns.new.so_far (suc calls) result }
+    ensures counts { (j : Job) (b : List ℕ) (calls : ℕ) → j.bytes ≡ limit →
+        RunLed j b taken (Ok run.old) → LoopCounted taken run.old turns.old.so_far calls →
+        FedCounts j run.new taken turns.new.so_far (suc calls) result }
 {
     let offered = within(piece, limit - taken);
     match run.feed(offered, turns) {
@@ -166,7 +175,8 @@ impl<'r, A: Allocator + Clone> Decoder<'r, A> {
         root: TypeId,
         limits: Limits,
     ) -> Result<Decoder<'r, A>, OpenFault>
-        ensures opens { OpensDecoder (opening_fault checked.now.types root.0 limits) (first_of_all checked.now.types root.0 limits) result }
+        ensures opens { OpensDecoder (opening_fault checked.now.types root.0 limits)
+            (first_of_all checked.now.types root.0 limits) result }
         ensures led { IfOk result (λ d. Led d []) }
     {
         if checked.class(root).is_none() {
@@ -203,7 +213,8 @@ impl<'r, A: Allocator> Decoder<'r, A> {
     /// number of bytes taken, and those of a whole value at most `1 + n * (depth + 1) * (widest + 1)`.
     pub fn node_count(&self) -> u64
         ensures count { result ≡ node_count self.now }
-        ensures bound { result ≤ node_bound self.now.taken self.now.job.depth (widest self.now.job.registry) }
+        ensures bound { result ≤ node_bound self.now.taken self.now.job.depth
+            (widest self.now.job.registry) }
     {
         match &self.run {
             Ok(run) => run.node_count(),
@@ -237,16 +248,20 @@ impl<'r, A: Allocator> Decoder<'r, A> {
     pub fn feed(&mut self, piece: &[u8]) -> Result<Progress, DecodeFault>
         ensures job { self.new.job ≡ self.old.job }
         ensures calls { self.new.calls ≡ self.old.calls + 1 }
-        ensures refused { (f : DecodeFault) → self.old.run ≡ Err f → (result ≡ Err f) × IsKept self.old self.new × (self.new.turns ≡ self.old.turns) }
-        ensures whole { (s : Running) → self.old.run ≡ Ok s → is_whole s.built ≡ true → (result ≡ Ok (Progress.Done 0)) × IsKept self.old self.new }
-        ensures taken { (self.old.taken ≤ self.new.taken) × (self.new.taken ≤ self.old.taken + length piece.now) }
+        ensures refused { (f : DecodeFault) → self.old.run ≡ Err f →
+            (result ≡ Err f) × IsKept self.old self.new × (self.new.turns ≡ self.old.turns) }
+        ensures whole { (s : Running) → self.old.run ≡ Ok s → is_whole s.built ≡ true →
+            (result ≡ Ok (Progress.Done 0)) × IsKept self.old self.new }
+        ensures taken { (self.old.taken ≤ self.new.taken)
+            × (self.new.taken ≤ self.old.taken + length piece.now) }
         ensures value { HasValue self.new result }
         ensures value_counts { CountsValue self.new result }
         ensures held { (b : List ℕ) → Led self.old b → HoldsAt self.new (b ++ piece.now) result }
         ensures small { IsSmall self.new }
         ensures counted { HasCounted self.new }
         ensures small_at_end { IsSmallAtEnd self.new result }
-        ensures answers { (b : List ℕ) → Led self.old b → AnswersPiece self.old self.new (b ++ piece.now) result × Led self.new (b ++ piece.now) }
+        ensures answers { (b : List ℕ) → Led self.old b →
+            AnswersPiece self.old self.new (b ++ piece.now) result × Led self.new (b ++ piece.now) }
     {
         self.calls.tick();
         let fed = match &mut self.run {
@@ -277,8 +292,10 @@ impl<'r, A: Allocator> Decoder<'r, A> {
     /// the same. On the way it refuses what a piece of no bytes would be refused for. Nothing comes back then.
     pub fn finish(self) -> Result<Value<'r, A>, DecodeFault>
         ensures refused { (f : DecodeFault) → self.entry.run ≡ Err f → result ≡ Err f }
-        ensures whole { (s : Running) → self.entry.run ≡ Ok s → is_whole s.built ≡ true → result ≡ Ok (finished s.built) }
-        ensures finishes { (b : List ℕ) → Led self.entry b → FinishesDecoder self.entry.job b result }
+        ensures whole { (s : Running) → self.entry.run ≡ Ok s → is_whole s.built ≡ true →
+            result ≡ Ok (finished s.built) }
+        ensures finishes { (b : List ℕ) → Led self.entry b →
+            FinishesDecoder self.entry.job b result }
         ensures small { (b : List ℕ) → Led self.entry b → IsSmallValue self.entry.job b result }
     {
         let mut decoder = self;

@@ -35,7 +35,8 @@ impl<'r, A: Allocator> Run<'r, A> {
     ) -> (usize, Turned)
         requires own { form_of_bytes own ≡ form }
         requires next { Awaits self.old form }
-        ensures { TurnsTell self.old self.new piece.now turns.old.so_far turns.new.so_far result.0 result.1 }
+        ensures { TurnsTell self.old self.new piece.now turns.old.so_far turns.new.so_far
+            result.0 result.1 }
     {
         let mut at = 0;
         'nodes: loop {
@@ -53,7 +54,8 @@ impl<'r, A: Allocator> Run<'r, A> {
 
     /// Takes one turn, and counts it.
     fn one_turn(&mut self, piece: &[u8], turns: &mut Count) -> (usize, Turned)
-        ensures { TurnsTell self.old self.new piece.now turns.old.so_far turns.new.so_far result.0 result.1 }
+        ensures { TurnsTell self.old self.new piece.now turns.old.so_far turns.new.so_far
+            result.0 result.1 }
     {
         turns.tick();
         (0, self.turn(piece))
@@ -63,7 +65,8 @@ impl<'r, A: Allocator> Run<'r, A> {
     #[inline(always)]
     fn integers(&mut self, primitive: Primitive, piece: &[u8], turns: &mut Count) -> (usize, Turned)
         requires { Awaits self.old (Form.Primitive primitive) }
-        ensures { TurnsTell self.old self.new piece.now turns.old.so_far turns.new.so_far result.0 result.1 }
+        ensures { TurnsTell self.old self.new piece.now turns.old.so_far turns.new.so_far
+            result.0 result.1 }
     {
         let form = Form::Primitive(primitive);
         self.repeat(form, primitive_form(primitive), piece, turns)
@@ -73,7 +76,8 @@ impl<'r, A: Allocator> Run<'r, A> {
     #[inline(always)]
     fn compacts(&mut self, target: Target, piece: &[u8], turns: &mut Count) -> (usize, Turned)
         requires { Awaits self.old (Form.Compact target) }
-        ensures { TurnsTell self.old self.new piece.now turns.old.so_far turns.new.so_far result.0 result.1 }
+        ensures { TurnsTell self.old self.new piece.now turns.old.so_far turns.new.so_far
+            result.0 result.1 }
     {
         self.repeat(Form::Compact(target), compact_form(target), piece, turns)
     }
@@ -82,7 +86,8 @@ impl<'r, A: Allocator> Run<'r, A> {
     /// last one took, and what the last one did. Each arm names its form anew, so that its turns are made for it alone.
     #[inline(always)]
     fn take_turns(&mut self, piece: &[u8], turns: &mut Count) -> (usize, Turned)
-        ensures { TurnsTell self.old self.new piece.now turns.old.so_far turns.new.so_far result.0 result.1 }
+        ensures { TurnsTell self.old self.new piece.now turns.old.so_far turns.new.so_far
+            result.0 result.1 }
     {
         match self.next_form() {
             Some(Form::Primitive(Primitive::U8)) => self.integers(Primitive::U8, piece, turns),
@@ -117,8 +122,10 @@ impl<'r, A: Allocator> Run<'r, A> {
     ) -> Result<(usize, Stopped), usize>
         ensures tells { IfOk result (λ x. FeedTells self.old self.new piece.now x.0 x.1) }
         ensures short { IfErr result (λ n. RunsOut self.old piece.now n) }
-        ensures whole { is_whole self.old.built ≡ true → (result ≡ Ok (0, Stopped.Finished)) × (self.new ≡ self.old) }
-        ensures counts { FeedCounts self.old self.new piece.now turns.old.so_far turns.new.so_far result }
+        ensures whole { is_whole self.old.built ≡ true → (result ≡ Ok (0, Stopped.Finished))
+            × (self.new ≡ self.old) }
+        ensures counts { FeedCounts self.old self.new piece.now turns.old.so_far
+            turns.new.so_far result }
     {
         let mut at = 0;
         'turns: loop {

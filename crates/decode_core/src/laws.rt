@@ -4,7 +4,8 @@ ghost use Rattle.decode_core.specs.Begins.{FaultIsBegun};
 ghost use Rattle.decode_core.specs.Holds.{BegunIsBounded, BegunIsMissing, MissingIsBegun};
 ghost use Rattle.decode_core.specs.Held.{HeldIsBounded, MoreHolds, OneBegun};
 ghost use Rattle.decode_core.specs.Wanted.{WantedGoesOn};
-ghost use Rattle.decode_core.specs.Outcome.{EncodedIsDone, OneOutcome, OutcomeIsComputed, OutcomeIsKept, TakenByFault, TakenIsShortest};
+ghost use Rattle.decode_core.specs.Outcome.{EncodedIsDone, OneOutcome, OutcomeIsComputed};
+ghost use Rattle.decode_core.specs.Outcome.{OutcomeIsKept, TakenByFault, TakenIsShortest};
 
 /// What is encoded within the limits is decoded, and all of it is taken.
 pub fn encoded_is_done()

@@ -9,7 +9,8 @@ ghost use Rattle.value_core.specs.Refusals.{up_to, most_unsigned, within, most_s
 ghost use Rattle.value_core.specs.Walked.{next_of};
 ghost use Rattle.decode_core.specs.Needs.{AreOwn};
 ghost use Rattle.decode_core.specs.NodeAdds.{ReadsFront, AddsBare, AddsBytes, AddsNode, OpensRun};
-ghost use Rattle.decode_core.specs.NodeForms.{ReadsPlain, form_of_bare, form_of_plain, prefixed_kind};
+ghost use Rattle.decode_core.specs.NodeForms.{ReadsPlain, form_of_bare, form_of_plain};
+ghost use Rattle.decode_core.specs.NodeForms.{prefixed_kind};
 
 use crate::fault::DecodeReason;
 use crate::forms::{BareForm, PlainForm, PrefixedRun};

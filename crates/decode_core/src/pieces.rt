@@ -48,7 +48,8 @@ fn feed_pieces<A: Allocator>(
     requires { IsUnderWay decoder.old [] }
     ensures job { decoder.new.job ≡ decoder.old.job }
     ensures fed { OnOk result (IsFed decoder.new (flat_map (λ p. p.now) pieces.now)) }
-    ensures refused { IfErr result (λ f. (n : ℕ) × IsEnded decoder.new.job (flat_map (λ p. p.now) pieces.now) f n) }
+    ensures refused { IfErr result
+        (λ f. (n : ℕ) × IsEnded decoder.new.job (flat_map (λ p. p.now) pieces.now) f n) }
 {
     'pieces: for piece in pieces {
         if let Progress::Done { .. } = decoder.feed(piece)? {
@@ -74,7 +75,8 @@ pub fn decode_pieces<'r, A: Allocator + Clone>(
     limits: Limits,
     pieces: &[&[u8]],
 ) -> Result<(Value<'r, A>, u64), PiecesFault>
-    ensures { Joins (opening_fault checked.now.types root.0 limits) (job_of checked.now.types root.0 limits) (flat_map (λ p. p.now) pieces.now) result }
+    ensures { Joins (opening_fault checked.now.types root.0 limits)
+        (job_of checked.now.types root.0 limits) (flat_map (λ p. p.now) pieces.now) result }
 {
     let mut decoder = Decoder::new(alloc, checked, root, limits)?;
     feed_pieces(&mut decoder, pieces)?;

@@ -1,6 +1,7 @@
 //! A decoder on its way: it takes its input turn by turn.
 
-ghost use Rattle.std.specs.Prelude.{ℕ, List, true, ◌≡◌, ◌<◌, ◌≤◌, ◌+◌, ◌++◌, [], length, take, drop, None, Some, suc, IfSome, IfErr, IfOk, Ok, OnOk, OnErr};
+ghost use Rattle.std.specs.Prelude.{ℕ, List, true, ◌≡◌, ◌<◌, ◌≤◌, ◌+◌, ◌++◌, [], length, take};
+ghost use Rattle.std.specs.Prelude.{drop, None, Some, suc, IfSome, IfErr, IfOk, Ok, OnOk, OnErr};
 ghost use Rattle.decode_core.specs.Running.{IsCarry, IsFresh, IsKeptRun, IsRunNext};
 ghost use Rattle.value_core.specs.Walked.{next_of};
 ghost use Rattle.value_core.specs.Built.{built_text_bytes, finished};
@@ -8,7 +9,8 @@ ghost use Rattle.value_core.specs.Refusals.{is_whole};
 ghost use Rattle.decode_core.specs.Needs.{AreOwn, IsFirst, IsNeeded};
 ghost use Rattle.decode_core.specs.NodeForms.{form_of_bare, form_of_bytes};
 ghost use Rattle.decode_core.specs.NodeAdds.{TakesNode};
-ghost use Rattle.decode_core.specs.Turned.{BareTells, Awaits, EndTells, IsSound, KeepsTurns, PieceTells, StepTells, node_turned};
+ghost use Rattle.decode_core.specs.Turned.{BareTells, Awaits, EndTells, IsSound, KeepsTurns};
+ghost use Rattle.decode_core.specs.Turned.{PieceTells, StepTells, node_turned};
 
 use crate::carry::Carry;
 use crate::fault::DecodeReason;

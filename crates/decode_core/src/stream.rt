@@ -2,7 +2,8 @@
 
 ghost use Rattle.std.specs.Prelude.{◌≡◌, ◌⊎◌, [], true, IfOk, IfSome, IsErrOf};
 ghost use Rattle.decode_core.specs.Decoding.{opening_fault};
-ghost use Rattle.decode_core.specs.Streaming.{FeedsAll, Forbids, IsOfJob, IsUnderWay, Looks, StopsOpen, Streams, job_of};
+ghost use Rattle.decode_core.specs.Streaming.{FeedsAll, Forbids, IsOfJob, IsUnderWay, Looks};
+ghost use Rattle.decode_core.specs.Streaming.{StopsOpen, Streams, job_of};
 ghost use Rattle.decode_core.specs.declared.fault.OpenFault.{OpenFault};
 ghost use Rattle.decode_core.specs.declared.stream.StreamFault.TheVariants.{Decode, Device, Open};
 
@@ -81,7 +82,8 @@ fn feed_all<A: Allocator, R: Read>(
 ) -> Result<bool, StreamFault>
     requires { IsUnderWay decoder.old [] }
     ensures job { decoder.new.job ≡ decoder.old.job }
-    ensures answers { FeedsAll decoder.new (R.remaining source.old.device) (R.remaining source.new.device) result }
+    ensures answers { FeedsAll decoder.new (R.remaining source.old.device)
+        (R.remaining source.new.device) result }
     ensures told { IsErrOf result StreamFault.Device → source.new.failed ≡ true }
     ensures quiet { IsErrOf result StreamFault.Device ⊎ (source.new.failed ≡ source.old.failed) }
 {
@@ -117,10 +119,15 @@ pub fn decode_all<'r, A: Allocator + Clone, R: Read>(
     limits: Limits,
     source: &mut Source<R>,
 ) -> Result<Value<'r, A>, StreamFault>
-    ensures answers { IfSome (R.remaining source.old.device) (λ bytes. Streams (opening_fault checked.now.types root.0 limits) (job_of checked.now.types root.0 limits) bytes result) }
+    ensures answers { IfSome (R.remaining source.old.device)
+        (λ bytes. Streams (opening_fault checked.now.types root.0 limits)
+        (job_of checked.now.types root.0 limits) bytes result) }
     ensures same { IfOk result (IsOfJob (job_of checked.now.types root.0 limits)) }
-    ensures stopped { IsErrOf result StreamFault.Device → StopsOpen (job_of checked.now.types root.0 limits) (R.remaining source.old.device) (R.remaining source.new.device) }
-    ensures open { (e : OpenFault) → result ≡ Err (StreamFault.Open e) → Forbids (opening_fault checked.now.types root.0 limits) e }
+    ensures stopped { IsErrOf result StreamFault.Device →
+        StopsOpen (job_of checked.now.types root.0 limits) (R.remaining source.old.device)
+        (R.remaining source.new.device) }
+    ensures open { (e : OpenFault) → result ≡ Err (StreamFault.Open e) →
+        Forbids (opening_fault checked.now.types root.0 limits) e }
     ensures unread { (e : OpenFault) → result ≡ Err (StreamFault.Open e) → source.new ≡ source.old }
     ensures told { IsErrOf result StreamFault.Device → source.new.failed ≡ true }
     ensures quiet { IsErrOf result StreamFault.Device ⊎ (source.new.failed ≡ source.old.failed) }

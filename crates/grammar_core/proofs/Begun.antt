@@ -1,6 +1,8 @@
 -- How deep a begun tree is.
-use Rattle.std.proofs.Common.{◌≡◌, ℕ, zero, suc, ◌+◌, ◌≤◌, true, false, Option, Some, None, refl, sym, ap, ◌∙◌, arith}
-use Rattle.grammar_core.specs.Begun.{Begun, nothing, whole, in_fields, in_arm, in_list, IsPart, Grows, begun_levels, begun_depth, is_whole_tree}
+use Rattle.std.proofs.Common.{◌≡◌, ℕ, zero, suc, ◌+◌, ◌≤◌, true, false, Option, Some, None, refl}
+use Rattle.std.proofs.Common.{sym, ap, ◌∙◌, arith}
+use Rattle.grammar_core.specs.Begun.{Begun, nothing, whole, in_fields, in_arm, in_list, IsPart}
+use Rattle.grammar_core.specs.Begun.{Grows, begun_levels, begun_depth, is_whole_tree}
 use Rattle.grammar_core.specs.Laws.{BegunTreesFit}
 
 abbrev Fits : ℕ → Begun → Option (ℕ × ℕ) → Type 0

@@ -1,5 +1,6 @@
 -- A value has few nodes for its bytes, its levels and the width of its registry.
-use Rattle.std.proofs.Common.{◌≡◌, ℕ, zero, suc, ◌+◌, ◌*◌, ◌≤◌, ◌⊎◌, List, [], ◌∷◌, length, refl, sym, ap, ◌∙◌, arith, inl, inr, length-append}
+use Rattle.std.proofs.Common.{◌≡◌, ℕ, zero, suc, ◌+◌, ◌*◌, ◌≤◌, ◌⊎◌, List, [], ◌∷◌, length, refl}
+use Rattle.std.proofs.Common.{sym, ap, ◌∙◌, arith, inl, inr, length-append}
 use Rattle.std.proofs.Math.Nat.{mul-add, add-mul, mul-le-mul_right}
 use Rattle.registry_core.specs.declared.type_info.TypeInfo.{TypeInfo}
 use Rattle.widths_core.specs.declared.class.Class.TheVariants as class
@@ -10,7 +11,10 @@ use Rattle.widths_core.specs.Layouts.{Layout, layout}
 use Rattle.widths_core.specs.Layouts as layout
 use Rattle.widths_core.proofs.Known.{empty_class, class_empty, layout_empty}
 use Rattle.widths_core.proofs.Wide.{narrow_at, arm-width}
-use Rattle.grammar_core.specs.Tree.{Tree, leaf, branch, unit, bool, char, text, bytes, unsigned, signed, wide, compact, fields, arm, list, count, Trees, none, and, how_many, nodes, all_nodes, levels, most_levels, text_bytes, all_text_bytes, Leaf, bytes_of_text}
+use Rattle.grammar_core.specs.Tree.{Tree, leaf, branch, unit, bool, char, text, bytes, unsigned}
+use Rattle.grammar_core.specs.Tree.{signed, wide, compact, fields, arm, list, count, Trees, none}
+use Rattle.grammar_core.specs.Tree.{and, how_many, nodes, all_nodes, levels, most_levels}
+use Rattle.grammar_core.specs.Tree.{text_bytes, all_text_bytes, Leaf, bytes_of_text}
 use Rattle.grammar_core.specs.Preorder.{levels-pos}
 use Rattle.grammar_core.specs.Grammar.{Val, Vals, Each, SpellsLeaf}
 use Rattle.grammar_core.specs.Laws.{ValuesAreBounded}

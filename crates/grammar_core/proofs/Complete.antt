@@ -1,5 +1,6 @@
 -- What has a value is read, whatever follows it.
-use Rattle.std.proofs.Common.{◌≡◌, ℕ, zero, suc, ◌≤◌, true, false, List, [], ◌∷◌, ◌++◌, Ok, refl, append_assoc, arith, inl, inr}
+use Rattle.std.proofs.Common.{◌≡◌, ℕ, zero, suc, ◌≤◌, true, false, List, [], ◌∷◌, ◌++◌, Ok, refl}
+use Rattle.std.proofs.Common.{append_assoc, arith, inl, inr}
 use Rattle.scale_core.specs.Read.{Read}
 use Rattle.scale_core.specs.declared.compact.Target.TheVariants as target
 use Rattle.scale_core.proofs.Again.{bytes_again, compact_again, text_again}
@@ -11,7 +12,9 @@ use Rattle.widths_core.specs.declared.run_kind.RunKind.{RunKind}
 use Rattle.widths_core.specs.declared.run_kind.RunKind.TheVariants as kind
 use Rattle.grammar_core.specs.Runs.{IsByteRun, SpellsRun}
 use Rattle.grammar_core.proofs.Runs.{run_text, run_again}
-use Rattle.grammar_core.specs.Tree.{Tree, leaf, branch, unit, bool, char, text, bytes, unsigned, signed, wide, compact, fields, arm, list, count, Trees, none, and, how_many, levels, most_levels, Leaf}
+use Rattle.grammar_core.specs.Tree.{Tree, leaf, branch, unit, bool, char, text, bytes, unsigned}
+use Rattle.grammar_core.specs.Tree.{signed, wide, compact, fields, arm, list, count, Trees, none}
+use Rattle.grammar_core.specs.Tree.{and, how_many, levels, most_levels, Leaf}
 use Rattle.grammar_core.specs.Grammar.{Val, Vals, Each, SpellsLeaf}
 use Rattle.grammar_core.proofs.Grounded.{finite}
 use Rattle.grammar_core.specs.Preorder.{levels-pos}

@@ -13,7 +13,9 @@ use Rattle.widths_core.specs.Layouts as layout
 use Rattle.widths_core.specs.declared.run_kind.RunKind.{RunKind}
 use Rattle.grammar_core.proofs.Runs.{run_one}
 use Rattle.widths_core.proofs.Wide.{arm-index}
-use Rattle.grammar_core.specs.Tree.{Tree, leaf, branch, unit, bool, char, text, bytes, unsigned, signed, wide, compact, fields, arm, list, count, Trees, none, and, how_many, Leaf}
+use Rattle.grammar_core.specs.Tree.{Tree, leaf, branch, unit, bool, char, text, bytes, unsigned}
+use Rattle.grammar_core.specs.Tree.{signed, wide, compact, fields, arm, list, count, Trees, none}
+use Rattle.grammar_core.specs.Tree.{and, how_many, Leaf}
 use Rattle.grammar_core.specs.Grammar.{Val, Vals, Each, SpellsLeaf}
 use Rattle.grammar_core.specs.Laws.{OneSpelling}
 

@@ -1,5 +1,6 @@
 -- A list of parts fails where its next part does.
-use Rattle.std.proofs.Common.{◌≡◌, ℕ, zero, suc, ◌<◌, ◌≤◌, List, [], ◌∷◌, ◌++◌, Ok, Err, refl, sym, ap, ◌∙◌, append_assoc, arith}
+use Rattle.std.proofs.Common.{◌≡◌, ℕ, zero, suc, ◌<◌, ◌≤◌, List, [], ◌∷◌, ◌++◌, Ok, Err, refl, sym}
+use Rattle.std.proofs.Common.{ap, ◌∙◌, append_assoc, arith}
 use Rattle.scale_core.specs.Read.{Read, ◌>>=◌}
 use Rattle.scale_core.proofs.Results.{Takes}
 use Rattle.registry_core.specs.declared.type_info.TypeInfo.{TypeInfo}

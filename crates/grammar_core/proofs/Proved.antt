@@ -1,5 +1,6 @@
 -- The laws of values.
-use Rattle.std.proofs.Common.{◌≡◌, ℕ, ◌≤◌, max, ◌⊎◌, List, ◌++◌, Ok, Err, refl, sym, ap, ◌∙◌, arith, inl, inr}
+use Rattle.std.proofs.Common.{◌≡◌, ℕ, ◌≤◌, max, ◌⊎◌, List, ◌++◌, Ok, Err, refl, sym, ap, ◌∙◌, arith}
+use Rattle.std.proofs.Common.{inl, inr}
 use Rattle.std.specs.Prelude.{◌≢◌}
 use Rattle.std.proofs.lemmas.List.{append_cancel_right}
 use Rattle.scale_core.specs.Read.{Read}
@@ -8,7 +9,8 @@ use Rattle.registry_core.specs.declared.type_info.TypeInfo.{TypeInfo}
 use Rattle.grammar_core.specs.Tree.{Tree, levels}
 use Rattle.grammar_core.specs.Grammar.{Val}
 use Rattle.grammar_core.specs.Reading.{value_at, Refusal, truncated}
-use Rattle.grammar_core.specs.Laws.{Stands, Fails, ValueIsRead, ReadIsValue, ValuesArePrefixFree, ValueOrFault, ValueOrFaultNotBoth, FaultsAreStable}
+use Rattle.grammar_core.specs.Laws.{Stands, Fails, ValueIsRead, ReadIsValue, ValuesArePrefixFree}
+use Rattle.grammar_core.specs.Laws.{ValueOrFault, ValueOrFaultNotBoth, FaultsAreStable}
 use Rattle.grammar_core.proofs.Complete.{value_again}
 use Rattle.grammar_core.proofs.Sound.{value_takes}
 use Rattle.grammar_core.proofs.Stable.{value_extends}

@@ -1,5 +1,6 @@
 -- Runs of bytes: what is spelled is read, what is read is spelled, and each has one spelling.
-use Rattle.std.proofs.Common.{◌≡◌, ℕ, true, List, [], ◌++◌, length, drop, Ok, Err, refl, sym, ap, ◌∙◌, append_assoc}
+use Rattle.std.proofs.Common.{◌≡◌, ℕ, true, List, [], ◌++◌, length, drop, Ok, Err, refl, sym, ap}
+use Rattle.std.proofs.Common.{◌∙◌, append_assoc}
 use Rattle.std.specs.Str.{is_utf8}
 use Rattle.std.specs.Str.Lossy.{utf8_valid_len}
 use Rattle.std.proofs.lemmas.List.{append-nil}
@@ -8,11 +9,14 @@ use Rattle.scale_core.specs.declared.compact.Target.TheVariants as target
 use Rattle.scale_core.specs.declared.fault.Reason.{Reason}
 use Rattle.scale_core.specs.declared.fault.Reason.TheVariants as reason
 use Rattle.scale_core.proofs.Again.{bytes_again, compact_again}
-use Rattle.scale_core.proofs.Results.{Takes, bind_takes, bytes_takes, compact_takes, cond_takes, Extends, bind_extends, bytes_extends, compact_extends, text_extends}
+use Rattle.scale_core.proofs.Results.{Takes, bind_takes, bytes_takes, compact_takes, cond_takes}
+use Rattle.scale_core.proofs.Results.{Extends, bind_extends, bytes_extends, compact_extends}
+use Rattle.scale_core.proofs.Results.{text_extends}
 use Rattle.scale_core.proofs.Spellings.{one_spelling}
 use Rattle.widths_core.specs.declared.run_kind.RunKind.{RunKind}
 use Rattle.widths_core.specs.declared.run_kind.RunKind.TheVariants as kind
-use Rattle.grammar_core.specs.Runs.{IsRunLength, IsRun, SpellsRun, run_front, run_length_at, run_judged, run_at}
+use Rattle.grammar_core.specs.Runs.{IsRunLength, IsRun, SpellsRun, run_front, run_length_at}
+use Rattle.grammar_core.specs.Runs.{run_judged, run_at}
 
 -- a run that is a text is read as a text
 pub run_text : (b : List ℕ) → run_at kind.Text b ≡ text_at b

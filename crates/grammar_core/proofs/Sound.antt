@@ -1,5 +1,6 @@
 -- What is read is a value, and its bytes stood on the front.
-use Rattle.std.proofs.Common.{◌≡◌, ℕ, zero, suc, ◌≤◌, List, [], ◌∷◌, ◌++◌, length, Option, Some, None, Ok, Err, refl, ap, arith, inl, inr}
+use Rattle.std.proofs.Common.{◌≡◌, ℕ, zero, suc, ◌≤◌, List, [], ◌∷◌, ◌++◌, length, Option, Some}
+use Rattle.std.proofs.Common.{None, Ok, Err, refl, ap, arith, inl, inr}
 use Rattle.std.proofs.lemmas.List.{append-nil}
 use Rattle.scale_core.specs.Number.{number, signed_number, is_scalar}
 use Rattle.scale_core.specs.Compact.{IsCompact}
@@ -7,7 +8,8 @@ use Rattle.scale_core.specs.Read.{Read, compact_at, bytes_at}
 use Rattle.scale_core.specs.declared.compact.Target.TheVariants as target
 use Rattle.scale_core.specs.declared.fault.Reason.{Reason}
 use Rattle.scale_core.specs.declared.fault.Reason.TheVariants as reasons
-use Rattle.scale_core.proofs.Results.{Takes, cond_takes, then_takes, bind_takes, bytes_takes, compact_takes}
+use Rattle.scale_core.proofs.Results.{Takes, cond_takes, then_takes, bind_takes, bytes_takes}
+use Rattle.scale_core.proofs.Results.{compact_takes}
 use Rattle.registry_core.specs.declared.definition.Arm.{Arm}
 use Rattle.registry_core.specs.declared.type_info.TypeInfo.{TypeInfo}
 use Rattle.graph_core.specs.Types.{field_types}
@@ -19,9 +21,13 @@ use Rattle.widths_core.specs.declared.run_kind.RunKind.{RunKind}
 use Rattle.widths_core.specs.declared.run_kind.RunKind.TheVariants as kind
 use Rattle.grammar_core.specs.Runs.{SpellsRun, run_leaf, run_at}
 use Rattle.grammar_core.proofs.Runs.{run_takes}
-use Rattle.grammar_core.specs.Tree.{Leaf, Branch, Tree, leaf, branch, char, unsigned, signed, wide, compact, fields, arm, list, count, Trees, how_many, levels, most_levels}
+use Rattle.grammar_core.specs.Tree.{Leaf, Branch, Tree, leaf, branch, char, unsigned, signed, wide}
+use Rattle.grammar_core.specs.Tree.{compact, fields, arm, list, count, Trees, how_many, levels}
+use Rattle.grammar_core.specs.Tree.{most_levels}
 use Rattle.grammar_core.specs.Grammar.{Val, Vals, Each}
-use Rattle.grammar_core.specs.Reading.{value_at, layout_at, bool_at, char_from, all_at, times_at, fields_behind_index, arms_at, elements_at, as_leaf, with_children, Refusal, basic}
+use Rattle.grammar_core.specs.Reading.{value_at, layout_at, bool_at, char_from, all_at, times_at}
+use Rattle.grammar_core.specs.Reading.{fields_behind_index, arms_at, elements_at, as_leaf}
+use Rattle.grammar_core.specs.Reading.{with_children, Refusal, basic}
 
 as_leaf_takes : {X : Type 0} (P : X → List ℕ → Type 0) (Q : Tree → List ℕ → Type 0)
     (make : X → Leaf) (b : List ℕ) (read : Read Reason X) → Takes P b read →

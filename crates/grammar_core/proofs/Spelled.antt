@@ -1,5 +1,7 @@
 -- The bytes that spell a value by the grammar are those of its nodes.
-use Rattle.std.proofs.Common.{◌≡◌, ℕ, zero, suc, ◌+◌, ◌-◌, ◌*◌, ◌/◌, ◌%◌, ◌^◌, ◌<◌, ◌≤◌, Bool, true, false, cond, List, [], ◌∷◌, ◌++◌, length, flat_map, Option, Some, None, refl, sym, ap, subst, ◌∙◌, arith, inl, inr}
+use Rattle.std.proofs.Common.{◌≡◌, ℕ, zero, suc, ◌+◌, ◌-◌, ◌*◌, ◌/◌, ◌%◌, ◌^◌, ◌<◌, ◌≤◌, Bool, true}
+use Rattle.std.proofs.Common.{false, cond, List, [], ◌∷◌, ◌++◌, length, flat_map, Option, Some}
+use Rattle.std.proofs.Common.{None, refl, sym, ap, subst, ◌∙◌, arith, inl, inr}
 use Rattle.std.specs.Prelude.{ℤ, pos, neg_ℤ, nat_lt, slice_get}
 use Rattle.std.proofs.lemmas.List.{append-nil}
 use Rattle.std.proofs.lemmas.Nat.{pow-add}
@@ -9,7 +11,8 @@ use Rattle.scale_core.specs.Number.{AreBytes, number, signed_number, le_bytes}
 use Rattle.scale_core.specs.Compact.{compact, IsCompact}
 use Rattle.scale_core.specs.declared.compact.Target.{Target}
 use Rattle.scale_core.specs.declared.compact.Target.TheVariants as target
-use Rattle.scale_core.proofs.Numbers.{le_bytes-number, number-bound, front_bytes, rest_bytes, neg-pos}
+use Rattle.scale_core.proofs.Numbers.{le_bytes-number, number-bound, front_bytes, rest_bytes}
+use Rattle.scale_core.proofs.Numbers.{neg-pos}
 use Rattle.registry_core.specs.declared.definition.Arm.{Arm}
 use Rattle.registry_core.specs.Kinds.{kind_of}
 use Rattle.registry_core.specs.declared.kind.PrimitiveKind.{PrimitiveKind}
@@ -22,20 +25,25 @@ use Rattle.graph_core.specs.Types.{shape, field_types}
 use Rattle.widths_core.specs.Arms.{arm_of}
 use Rattle.widths_core.specs.Targets.{target_of}
 use Rattle.widths_core.specs.Classes.{is_empty}
-use Rattle.widths_core.specs.Layouts.{Layout, layout, layout_of_shape, sized_layout, kind_layout, sequence_layout, array_layout, is_byte, compact_layout}
+use Rattle.widths_core.specs.Layouts.{Layout, layout, layout_of_shape, sized_layout, kind_layout}
+use Rattle.widths_core.specs.Layouts.{sequence_layout, array_layout, is_byte, compact_layout}
 use Rattle.widths_core.specs.Layouts as layout
 use Rattle.widths_core.specs.declared.run_kind.RunKind.{RunKind}
 use Rattle.widths_core.specs.declared.run_kind.RunKind.TheVariants as kind
 use Rattle.grammar_core.specs.Runs.{IsByteRun, IsRunLength}
 use Rattle.widths_core.proofs.Known.{empty_class, layout_empty}
 use Rattle.widths_core.proofs.FirstArm.{arm_is_first}
-use Rattle.grammar_core.specs.Tree.{Tree, leaf, branch, unit, bool, char, text, bytes, unsigned, signed, wide, fields, arm, list, count, Trees, none, and, how_many, Leaf}
+use Rattle.grammar_core.specs.Tree.{Tree, leaf, branch, unit, bool, char, text, bytes, unsigned}
+use Rattle.grammar_core.specs.Tree.{signed, wide, fields, arm, list, count, Trees, none, and}
+use Rattle.grammar_core.specs.Tree.{how_many, Leaf}
 use Rattle.grammar_core.specs.Tree as tree
 use Rattle.grammar_core.specs.Grammar.{Val, Vals, Each, SpellsLeaf}
 use Rattle.grammar_core.specs.Parts.{each, times}
 use Rattle.grammar_core.specs.Cells.{cells, all_cells}
 use Rattle.grammar_core.proofs.Emptiness.{known_at}
-use Rattle.grammar_core.specs.Spelled.{leaf_spelling, kind_width, width_of, word, index_of, index_byte, is_sequence, length_bytes, cell_bytes, spelled, EncodedIsValue}
+use Rattle.grammar_core.specs.Spelled.{leaf_spelling, kind_width, width_of, word, index_of}
+use Rattle.grammar_core.specs.Spelled.{index_byte, is_sequence, length_bytes, cell_bytes, spelled}
+use Rattle.grammar_core.specs.Spelled.{EncodedIsValue}
 
 -- ---- what the layout of a type says of its definition
 

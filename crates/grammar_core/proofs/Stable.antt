@@ -1,11 +1,13 @@
 -- More bytes behind the input change no value and no fault but a missing end.
-use Rattle.std.proofs.Common.{ℕ, zero, suc, List, [], ◌∷◌, ◌++◌, Option, Some, None, Ok, Err, refl, ap}
+use Rattle.std.proofs.Common.{ℕ, zero, suc, List, [], ◌∷◌, ◌++◌, Option, Some, None, Ok, Err, refl}
+use Rattle.std.proofs.Common.{ap}
 use Rattle.scale_core.specs.Number.{number, signed_number, is_scalar}
 use Rattle.scale_core.specs.Read.{Read}
 use Rattle.scale_core.specs.declared.compact.Target.TheVariants as target
 use Rattle.scale_core.specs.declared.fault.Reason.{Reason}
 use Rattle.scale_core.specs.declared.fault.Reason.TheVariants as reasons
-use Rattle.scale_core.proofs.Results.{Extends, bind_extends, cond_extends, bytes_extends, compact_extends}
+use Rattle.scale_core.proofs.Results.{Extends, bind_extends, cond_extends, bytes_extends}
+use Rattle.scale_core.proofs.Results.{compact_extends}
 use Rattle.registry_core.specs.declared.definition.Arm.{Arm}
 use Rattle.registry_core.specs.declared.type_info.TypeInfo.{TypeInfo}
 use Rattle.graph_core.specs.Types.{field_types}
@@ -15,8 +17,11 @@ use Rattle.widths_core.specs.Layouts.{Plain, Layout, layout}
 use Rattle.widths_core.specs.Layouts as layout
 use Rattle.grammar_core.specs.Runs.{run_leaf}
 use Rattle.grammar_core.proofs.Runs.{run_extends}
-use Rattle.grammar_core.specs.Tree.{Leaf, Branch, Tree, unsigned, signed, wide, compact, fields, arm, list, count, Trees}
-use Rattle.grammar_core.specs.Reading.{value_at, layout_at, leaf_at, bool_at, char_from, all_at, times_at, fields_behind_index, arms_at, elements_at, as_leaf, with_children, Refusal, basic, truncated}
+use Rattle.grammar_core.specs.Tree.{Leaf, Branch, Tree, unsigned, signed, wide, compact, fields}
+use Rattle.grammar_core.specs.Tree.{arm, list, count, Trees}
+use Rattle.grammar_core.specs.Reading.{value_at, layout_at, leaf_at, bool_at, char_from, all_at}
+use Rattle.grammar_core.specs.Reading.{times_at, fields_behind_index, arms_at, elements_at, as_leaf}
+use Rattle.grammar_core.specs.Reading.{with_children, Refusal, basic, truncated}
 
 as_leaf_extends : {X : Type 0} (make : X → Leaf) (more : List ℕ) (read read' : Read Reason X) →
     Extends reasons.Truncated more read read' →

@@ -10,7 +10,8 @@ use Rattle.widths_core.specs.declared.step.Step.TheVariants as step
 use Rattle.graph_core.specs.Types.{shape}
 use Rattle.widths_core.specs.Targets.{target_of}
 use Rattle.widths_core.specs.Classes.{is_finite, is_empty, is_unit, class_from, class_of}
-use Rattle.widths_core.specs.Steps.{references_of, IsStep, IsStepAt, array_step, by_class, sequence_step}
+use Rattle.widths_core.specs.Steps.{references_of, IsStep, IsStepAt, array_step, by_class}
+use Rattle.widths_core.specs.Steps.{sequence_step}
 use Rattle.widths_core.proofs.Known.{empty_finite}
 use Rattle.widths_core.proofs.Stable.{class_stable}
 use Rattle.grammar_core.specs.declared.form.Form.TheVariants as form

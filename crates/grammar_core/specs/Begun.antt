@@ -1,5 +1,6 @@
 -- A value that is not whole yet, and the bytes that its nodes came from.
-use Rattle.std.specs.Prelude.{◌≡◌, ℕ, zero, suc, ◌+◌, ◌<◌, ◌≤◌, max, ◌⊎◌, List, [], ◌∷◌, ◌++◌, Option, Some, None, Bool, true, false}
+use Rattle.std.specs.Prelude.{◌≡◌, ℕ, zero, suc, ◌+◌, ◌<◌, ◌≤◌, max, ◌⊎◌, List, [], ◌∷◌, ◌++◌}
+use Rattle.std.specs.Prelude.{Option, Some, None, Bool, true, false}
 use Rattle.scale_core.specs.Compact.{IsCompact}
 use Rattle.scale_core.specs.declared.compact.Target.TheVariants as target
 use Rattle.registry_core.specs.declared.definition.Arm.{Arm}
@@ -9,7 +10,8 @@ use Rattle.widths_core.specs.Arms.{arm_of}
 use Rattle.widths_core.specs.Classes.{is_finite}
 use Rattle.widths_core.specs.Layouts.{layout}
 use Rattle.widths_core.specs.Layouts as layout
-use Rattle.grammar_core.specs.Tree.{Tree, Trees, how_many, nodes, all_nodes, text_bytes, all_text_bytes, levels, most_levels}
+use Rattle.grammar_core.specs.Tree.{Tree, Trees, how_many, nodes, all_nodes, text_bytes}
+use Rattle.grammar_core.specs.Tree.{all_text_bytes, levels, most_levels}
 use Rattle.grammar_core.specs.Grammar.{Val, Vals, Each}
 use Rattle.grammar_core.specs.Preorder as head
 use Rattle.grammar_core.specs.Tree as tree

@@ -6,7 +6,8 @@ use Rattle.registry_core.specs.declared.type_info.TypeInfo.{TypeInfo}
 use Rattle.graph_core.specs.Types.{field_types}
 use Rattle.widths_core.specs.Layouts.{Layout, layout}
 use Rattle.widths_core.specs.Layouts as layout
-use Rattle.grammar_core.specs.Tree.{Branch, Tree, leaf, branch, fields, arm, list, Trees, none, and, how_many, nodes}
+use Rattle.grammar_core.specs.Tree.{Branch, Tree, leaf, branch, fields, arm, list, Trees, none, and}
+use Rattle.grammar_core.specs.Tree.{how_many, nodes}
 use Rattle.grammar_core.specs.Parts.{Part, each, times, first_of, left_after}
 use Rattle.grammar_core.specs.Preorder.{Head, head_of}
 

@@ -14,7 +14,9 @@ use Rattle.graph_core.specs.Types.{field_types}
 use Rattle.widths_core.specs.Arms.{arm_of}
 use Rattle.widths_core.specs.Layouts.{Layout, layout}
 use Rattle.widths_core.specs.Layouts as layout
-use Rattle.grammar_core.specs.Tree.{Leaf, Tree, leaf, branch, unit, bool, char, text, bytes, unsigned, signed, wide, compact, fields, arm, list, count, Trees, none, and, how_many}
+use Rattle.grammar_core.specs.Tree.{Leaf, Tree, leaf, branch, unit, bool, char, text, bytes}
+use Rattle.grammar_core.specs.Tree.{unsigned, signed, wide, compact, fields, arm, list, count}
+use Rattle.grammar_core.specs.Tree.{Trees, none, and, how_many}
 
 -- k bytes
 abbrev pub IsLong : ℕ → List ℕ → Type 0

@@ -1,5 +1,6 @@
 -- What holds of every value and its bytes.
-use Rattle.std.specs.Prelude.{◌≡◌, ◌≢◌, ℕ, ◌+◌, ◌*◌, ◌≤◌, List, [], ◌++◌, length, Ok, Err, ◌⊎◌, ◌∷◌, ◌<◌, Option, Some, None, true, false}
+use Rattle.std.specs.Prelude.{◌≡◌, ◌≢◌, ℕ, ◌+◌, ◌*◌, ◌≤◌, List, [], ◌++◌, length, Ok, Err, ◌⊎◌, ◌∷◌}
+use Rattle.std.specs.Prelude.{◌<◌, Option, Some, None, true, false}
 use Rattle.scale_core.specs.Number.{AreBytes}
 use Rattle.registry_core.specs.declared.type_info.TypeInfo.{TypeInfo}
 use Rattle.registry_core.specs.Fits.{FitsText, FitsRegistry}
@@ -7,7 +8,8 @@ use Rattle.graph_core.specs.Widths.{widest}
 use Rattle.widths_core.specs.Reach.{IsPlain}
 use Rattle.widths_core.specs.Classes.{IsFinite, IsEmpty, class_of}
 use Rattle.widths_core.specs.declared.class.Class.TheVariants as class
-use Rattle.grammar_core.specs.Tree.{Leaf, Tree, leaf, branch, unit, text, Trees, none, and, levels, nodes, text_bytes, how_many, most_levels}
+use Rattle.grammar_core.specs.Tree.{Leaf, Tree, leaf, branch, unit, text, Trees, none, and, levels}
+use Rattle.grammar_core.specs.Tree.{nodes, text_bytes, how_many, most_levels}
 use Rattle.grammar_core.specs.Grammar.{Val, Vals, Each}
 use Rattle.grammar_core.specs.Begun.{Begun, Grows, begun_levels, begun_depth, is_whole_tree}
 use Rattle.grammar_core.specs.Reading.{value_at, all_at, times_at, Refusal, truncated}

@@ -1,10 +1,12 @@
 -- A tree as the list of its nodes in preorder, each with how many children it has.
-use Rattle.std.specs.Prelude.{◌≡◌, ℕ, zero, suc, ◌≤◌, ℤ, pos, List, [], ◌∷◌, ◌++◌, length, true, false, refl, if◌then◌else◌, ◌==◌}
+use Rattle.std.specs.Prelude.{◌≡◌, ℕ, zero, suc, ◌≤◌, ℤ, pos, List, [], ◌∷◌, ◌++◌, length, true}
+use Rattle.std.specs.Prelude.{false, refl, if◌then◌else◌, ◌==◌}
 use Rattle.std.specs.Coded.{Coded, code_by, coded×, coded_ℕ, coded_ℤ, coded_list}
 use Rattle.std.proofs.Common.{arith, append_assoc, ap, sym, ◌∙◌, length-append}
 use Rattle.std.proofs.lemmas.List.{append-nil}
 use Rattle.grammar_core.specs.Tree as tree
-use Rattle.grammar_core.specs.Tree.{Leaf, Branch, Tree, Trees, none, and, how_many, levels, most_levels}
+use Rattle.grammar_core.specs.Tree.{Leaf, Branch, Tree, Trees, none, and, how_many, levels}
+use Rattle.grammar_core.specs.Tree.{most_levels}
 
 -- a node by itself: what it is, and how many children it has or is to have
 pub data Head : Type 0 where

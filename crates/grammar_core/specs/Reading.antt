@@ -1,6 +1,7 @@
 -- A value read from the front of a list: the value and the bytes behind it, or the fault and the
 -- bytes from its place on.
-use Rattle.std.specs.Prelude.{ℕ, zero, suc, List, [], ◌∷◌, true, false, Option, Some, None, Ok, Err, if◌then◌else◌}
+use Rattle.std.specs.Prelude.{ℕ, zero, suc, List, [], ◌∷◌, true, false, Option, Some, None, Ok, Err}
+use Rattle.std.specs.Prelude.{if◌then◌else◌}
 use Rattle.scale_core.specs.Number.{number, signed_number, is_scalar}
 use Rattle.scale_core.specs.Read.{Read, ◌>>=◌, compact_at, bytes_at}
 use Rattle.grammar_core.specs.Runs.{run_leaf, run_at}
@@ -14,7 +15,9 @@ use Rattle.widths_core.specs.Arms.{arm_of}
 use Rattle.widths_core.specs.Classes.{is_finite}
 use Rattle.widths_core.specs.Layouts.{Plain, Layout, layout}
 use Rattle.widths_core.specs.Layouts as layout
-use Rattle.grammar_core.specs.Tree.{Leaf, Branch, Tree, leaf, branch, unit, bool, char, unsigned, signed, wide, compact, fields, arm, list, count, Trees, none, and}
+use Rattle.grammar_core.specs.Tree.{Leaf, Branch, Tree, leaf, branch, unit, bool, char, unsigned}
+use Rattle.grammar_core.specs.Tree.{signed, wide, compact, fields, arm, list, count, Trees, none}
+use Rattle.grammar_core.specs.Tree.{and}
 
 pub data Refusal : Type 0 where
   basic : Reason → Refusal

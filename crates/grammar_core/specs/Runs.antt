@@ -1,6 +1,7 @@
 -- Runs of bytes that a value has as they stand: texts, and sequences and arrays of u8 (SCALE codec,
 -- "Strings" and "Types").
-use Rattle.std.specs.Prelude.{◌≡◌, ℕ, List, [], ◌++◌, length, drop, true, Option, Some, None, Ok, Err, if◌then◌else◌}
+use Rattle.std.specs.Prelude.{◌≡◌, ℕ, List, [], ◌++◌, length, drop, true, Option, Some, None, Ok}
+use Rattle.std.specs.Prelude.{Err, if◌then◌else◌}
 use Rattle.std.specs.Str.{is_utf8}
 use Rattle.std.specs.Str.Lossy.{utf8_valid_len}
 use Rattle.scale_core.specs.Compact.{IsCompact, compact}

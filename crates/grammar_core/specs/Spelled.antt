@@ -1,6 +1,8 @@
 -- The one spelling of a value: the bytes of each node by itself, one behind the other in preorder
 -- (SCALE codec, "Types").
-use Rattle.std.specs.Prelude.{◌≡◌, ℕ, suc, ◌-◌, ◌^◌, ℤ, pos, negsuc, List, [], ◌∷◌, ◌++◌, length, flat_map, Option, Some, None, slice_get, option_map, Bool, true, false, if◌then◌else◌}
+use Rattle.std.specs.Prelude.{◌≡◌, ℕ, suc, ◌-◌, ◌^◌, ℤ, pos, negsuc, List, [], ◌∷◌, ◌++◌, length}
+use Rattle.std.specs.Prelude.{flat_map, Option, Some, None, slice_get, option_map, Bool, true}
+use Rattle.std.specs.Prelude.{false, if◌then◌else◌}
 use Rattle.scale_core.specs.Number.{AreBytes, le_bytes, bool_byte}
 use Rattle.scale_core.specs.Compact.{compact}
 use Rattle.registry_core.specs.Kinds.{kind_of, width_bytes}

@@ -1,7 +1,11 @@
 //! What holds of every value and its bytes.
 
 ghost use Rattle.grammar_core.specs.Spelled.{EncodedIsValue};
-ghost use Rattle.grammar_core.specs.Laws.{ValuesArePrefixFree, ValueOrFault, ValueOrFaultNotBoth, FaultsAreStable, ValueIsRead, ReadIsValue, EmptyHasUnit, SizedHasBytes, ValuesAreFinite, ValuesAreBounded, OneSpelling, TextsAreText, FiniteHasValue, PartsFail, BegunTreesFit};
+ghost use Rattle.grammar_core.specs.Laws.{ValuesArePrefixFree, ValueOrFault, ValueOrFaultNotBoth};
+ghost use Rattle.grammar_core.specs.Laws.{FaultsAreStable, ValueIsRead, ReadIsValue, EmptyHasUnit};
+ghost use Rattle.grammar_core.specs.Laws.{SizedHasBytes, ValuesAreFinite, ValuesAreBounded};
+ghost use Rattle.grammar_core.specs.Laws.{OneSpelling, TextsAreText, FiniteHasValue, PartsFail};
+ghost use Rattle.grammar_core.specs.Laws.{BegunTreesFit};
 
 /// Two values of a type whose bytes are both fronts of one list are one.
 pub fn values_are_prefix_free()

@@ -1,9 +1,12 @@
 -- The first reference to no position.
-use Rattle.std.proofs.Common.{◌≡◌, ℕ, ◌+◌, ◌<◌, ◌≤◌, Bool, true, false, cond, List, [], ◌∷◌, ◌++◌, length, Option, Some, None, refl, ap, ◌∙◌, arith}
+use Rattle.std.proofs.Common.{◌≡◌, ℕ, ◌+◌, ◌<◌, ◌≤◌, Bool, true, false, cond, List, [], ◌∷◌, ◌++◌}
+use Rattle.std.proofs.Common.{length, Option, Some, None, refl, ap, ◌∙◌, arith}
 use Rattle.std.specs.Prelude.{nat_lt}
 use Rattle.std.proofs.lemmas.Bool.{ltb-true, ltb-false, lt-ltb, le-ltb}
 use Rattle.registry_core.specs.declared.type_info.TypeInfo.{TypeInfo}
-use Rattle.graph_core.specs.References.{references, AreKnown, AreChecked, IsFirstUnknown, first_unknown, fault_or, unknown_from, first_fault, FaultIsFirst}
+use Rattle.graph_core.specs.References.{references, AreKnown, AreChecked, IsFirstUnknown}
+use Rattle.graph_core.specs.References.{first_unknown, fault_or, unknown_from, first_fault}
+use Rattle.graph_core.specs.References.{FaultIsFirst}
 
 known_none : (n : ℕ) (ts : List ℕ) → AreKnown n ts → first_unknown n ts ≡ None
 known_none n [] h = refl

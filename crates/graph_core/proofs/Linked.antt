@@ -1,14 +1,18 @@
 -- Lists of the references to each type, as references are read.
-use Rattle.std.proofs.Common.{◌≡◌, ◌≢◌, ℕ, ◌+◌, ◌<◌, ◌≤◌, ◌^◌, List, [], ◌∷◌, ◌++◌, length, map, reverse, get_or, set, take, refl, sym, ap, ◌∙◌, arith, inl, inr}
+use Rattle.std.proofs.Common.{◌≡◌, ◌≢◌, ℕ, ◌+◌, ◌<◌, ◌≤◌, ◌^◌, List, [], ◌∷◌, ◌++◌, length, map}
+use Rattle.std.proofs.Common.{reverse, get_or, set, take, refl, sym, ap, ◌∙◌, arith, inl, inr}
 use Rattle.std.proofs.lemmas.Bool.{cases_lt, cases_eq}
-use Rattle.std.proofs.lemmas.List.{append_assoc, append-nil, map-append, length-map, length-set, length_push, get_or_append_left, get_or_push, get_or-map, get_or-set_same, get_or-set_other, take_more, reverse-append}
+use Rattle.std.proofs.lemmas.List.{append_assoc, append-nil, map-append, length-map, length-set}
+use Rattle.std.proofs.lemmas.List.{length_push, get_or_append_left, get_or_push, get_or-map}
+use Rattle.std.proofs.lemmas.List.{get_or-set_same, get_or-set_other, take_more, reverse-append}
 use Rattle.registry_core.specs.declared.definition.Field.{Field}
 use Rattle.registry_core.specs.declared.type_id.TypeId.{TypeId}
 use Rattle.graph_core.specs.Types.{ids, field_types}
 use Rattle.graph_core.specs.declared.graph.Graph.{Graph}
 use Rattle.graph_core.specs.declared.graph.Link.{Link}
 use Rattle.graph_core.specs.References.{AreKnown}
-use Rattle.graph_core.specs.Graphs.{refs, numbers, befores, IsLast, IsLinked, ReadsReferences, IsOpened}
+use Rattle.graph_core.specs.Graphs.{refs, numbers, befores, IsLast, IsLinked, ReadsReferences}
+use Rattle.graph_core.specs.Graphs.{IsOpened}
 
 -- ---- the last reference to a type
 

@@ -1,7 +1,8 @@
 //! The graph of a registry's types and references, read through looks that are logged and in no other way.
 
 ghost use Rattle.std.specs.Prelude.{◌≡◌, ◌<◌, ◌^◌, [], ◌∷◌, length, OnOk, IfOk, IfErr, slice_index};
-ghost use Rattle.graph_core.specs.Graphs.{IsLinked, IsOpened, IsListed, IsMeasured, IsUnread, ReadsReferences, IsNew, refs, numbers, befores};
+ghost use Rattle.graph_core.specs.Graphs.{IsLinked, IsOpened, IsListed, IsMeasured, IsUnread};
+ghost use Rattle.graph_core.specs.Graphs.{ReadsReferences, IsNew, refs, numbers, befores};
 ghost use Rattle.graph_core.specs.Lent.{IsArmAt, id_of, shape_of};
 ghost use Rattle.graph_core.specs.Stops.{StopsLinking};
 ghost use Rattle.graph_core.specs.Types.{field_types, ids, shape};
@@ -228,11 +229,12 @@ impl<'r> Graph<'r> {
         to
     }
 
-    /// ReadsReferences a reference of a definition, and puts it into the list of those to its type, for this counter. Answers the
+    /// Reads a reference of a definition, and puts it into the list of those to its type, for this counter. Answers the
     /// position that it is to.
     pub fn add(&mut self, place: &Place<'_>, counter: u32) -> Result<u32, Stop>
         requires { IsLinked self.old }
-        ensures reads { IfOk result (λ _. ReadsReferences self.old self.new (id_of place.now ∷ []) (counter ∷ [])) }
+        ensures reads { IfOk result
+            (λ _. ReadsReferences self.old self.new (id_of place.now ∷ []) (counter ∷ [])) }
         ensures value { IfOk result (λ to. to ≡ id_of place.now) }
         ensures stops { IfErr result (StopsLinking (id_of place.now ∷ []) self.old self.new) }
     {

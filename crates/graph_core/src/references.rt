@@ -30,7 +30,8 @@ fn unknown_place(graph: &mut Graph<'_>, place: &Place<'_>) -> Option<u32>
 
 /// The first type of these fields that is no position.
 fn unknown_in_fields(graph: &mut Graph<'_>, fields: &Fields<'_>) -> Option<u32>
-    ensures unknown { result ≡ first_unknown (length graph.old.types.now) (field_types fields.now.fields.now) }
+    ensures unknown { result ≡ first_unknown (length graph.old.types.now)
+        (field_types fields.now.fields.now) }
     ensures types { graph.new.types.now ≡ graph.old.types.now }
 {
     'fields: for position in 0..fields.len() {
@@ -44,7 +45,8 @@ fn unknown_in_fields(graph: &mut Graph<'_>, fields: &Fields<'_>) -> Option<u32>
 
 /// The first of these members that is no position.
 fn unknown_in_members(graph: &mut Graph<'_>, members: &Members<'_>) -> Option<u32>
-    ensures unknown { result ≡ first_unknown (length graph.old.types.now) (ids members.now.members.now) }
+    ensures unknown { result ≡ first_unknown (length graph.old.types.now)
+        (ids members.now.members.now) }
     ensures types { graph.new.types.now ≡ graph.old.types.now }
 {
     'members: for position in 0..members.len() {
@@ -58,7 +60,8 @@ fn unknown_in_members(graph: &mut Graph<'_>, members: &Members<'_>) -> Option<u3
 
 /// The first type of a field of these arms that is no position.
 fn unknown_in_arms(graph: &mut Graph<'_>, arms: &Arms<'_>) -> Option<u32>
-    ensures unknown { result ≡ first_unknown (length graph.old.types.now) (flat_map (λ a. field_types a.fields) arms.now.arms.now) }
+    ensures unknown { result ≡ first_unknown (length graph.old.types.now)
+        (flat_map (λ a. field_types a.fields) arms.now.arms.now) }
     ensures types { graph.new.types.now ≡ graph.old.types.now }
 {
     'arms: for position in 0..arms.len() {
@@ -73,7 +76,8 @@ fn unknown_in_arms(graph: &mut Graph<'_>, arms: &Arms<'_>) -> Option<u32>
 
 /// The first reference of this definition that is no position. The ids of a bit sequence are no references.
 fn unknown_in(graph: &mut Graph<'_>, definition: &Definition<'_>) -> Option<u32>
-    ensures unknown { result ≡ first_unknown (length graph.old.types.now) (references (shape_of definition.now)) }
+    ensures unknown { result ≡ first_unknown (length graph.old.types.now)
+        (references (shape_of definition.now)) }
     ensures types { graph.new.types.now ≡ graph.old.types.now }
 {
     match definition {

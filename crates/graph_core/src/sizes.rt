@@ -18,7 +18,8 @@ pub struct Sizes {
 
 /// How many fields these arms have. Answers `None` where the number is no `usize`.
 fn field_count(arms: &Arms<'_>) -> Option<usize>
-    ensures { IfSome result (λ n. n ≡ length (flat_map (λ a. field_types a.fields) arms.now.arms.now)) }
+    ensures { IfSome result (λ n.
+        n ≡ length (flat_map (λ a. field_types a.fields) arms.now.arms.now)) }
 {
     let mut count = 0usize;
     'arms: for position in 0..arms.len() {

@@ -1,5 +1,7 @@
 -- The map that the order of keys is found by.
-use Rattle.std.proofs.Common.{◌≡◌, ℕ, suc, ◌+◌, true, false, cond, List, [], ◌∷◌, map, drop, Option, Some, None, is_some, Bor, Ordering, Less, Equal, Greater, nat_cmp, is_eq, refl, sym, ap, ◌∙◌, arith}
+use Rattle.std.proofs.Common.{◌≡◌, ℕ, suc, ◌+◌, true, false, cond, List, [], ◌∷◌, map, drop, Option}
+use Rattle.std.proofs.Common.{Some, None, is_some, Bor, Ordering, Less, Equal, Greater, nat_cmp}
+use Rattle.std.proofs.Common.{is_eq, refl, sym, ap, ◌∙◌, arith}
 use Rattle.std.specs.Prelude.{option_and_then}
 use Rattle.std.specs.Cmp.Lexicographic.{slice_cmp}
 use Rattle.std.specs.Map.{lookup}

@@ -1,5 +1,8 @@
 -- What is known of the orders of keys, as more become known.
-use Rattle.std.proofs.Common.{◌≡◌, ℕ, ◌+◌, ◌-◌, ◌≤◌, cond, List, [], ◌∷◌, ◌++◌, length, take, drop, Option, Some, None, Ordering, Less, Equal, Greater, nat_cmp, is_eq, Bor, refl, sym, ap, ap₂, ◌∙◌, subst, arith, length-append, append_assoc, length-drop}
+use Rattle.std.proofs.Common.{◌≡◌, ℕ, ◌+◌, ◌-◌, ◌≤◌, cond, List, [], ◌∷◌, ◌++◌, length, take, drop}
+use Rattle.std.proofs.Common.{Option, Some, None, Ordering, Less, Equal, Greater, nat_cmp, is_eq}
+use Rattle.std.proofs.Common.{Bor, refl, sym, ap, ap₂, ◌∙◌, subst, arith, length-append}
+use Rattle.std.proofs.Common.{append_assoc, length-drop}
 use Rattle.std.specs.Prelude.{slice_range, option_copied}
 use Rattle.std.specs.List.{range_with_len}
 use Rattle.json_core.proofs.Ordered.{positions_count}
@@ -15,7 +18,8 @@ use Rattle.json_core.specs.declared.orders.Place.{Place}
 use Rattle.json_core.specs.declared.orders.Known.{Known}
 use Rattle.json_core.specs.declared.orders.Keys.{Keys}
 use Rattle.json_core.specs.declared.orders.Keys.TheVariants as keys
-use Rattle.json_core.specs.Ordered.{key_order, fields_at, OrdersView, AreKeys, IsKnown, AreKeysOf, AreKnown, Grows}
+use Rattle.json_core.specs.Ordered.{key_order, fields_at, OrdersView, AreKeys, IsKnown, AreKeysOf}
+use Rattle.json_core.specs.Ordered.{AreKnown, Grows}
 
 -- ---- positions that are added change nothing of the others
 

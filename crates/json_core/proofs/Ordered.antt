@@ -1,5 +1,8 @@
 -- The order of the names of fields, and the object that has its members in that order.
-use Rattle.std.proofs.Common.{◌≡◌, ℕ, zero, suc, ◌+◌, ◌≤◌, Bool, true, false, cond, not, List, [], ◌∷◌, length, map, drop, Option, Some, None, is_some, option_map, Ordering, Less, Equal, Greater, nat_cmp, is_eq, bytes_eq, refl, sym, ap, ap₂, ◌∙◌, subst, arith, add-one, true≢false}
+use Rattle.std.proofs.Common.{◌≡◌, ℕ, zero, suc, ◌+◌, ◌≤◌, Bool, true, false, cond, not, List, []}
+use Rattle.std.proofs.Common.{◌∷◌, length, map, drop, Option, Some, None, is_some, option_map}
+use Rattle.std.proofs.Common.{Ordering, Less, Equal, Greater, nat_cmp, is_eq, bytes_eq, refl, sym}
+use Rattle.std.proofs.Common.{ap, ap₂, ◌∙◌, subst, arith, add-one, true≢false}
 use Rattle.std.specs.Prelude.{◌&&◌, ◌||◌, option_and_then, unwrap_or, IsSome, slice_get}
 use Rattle.std.specs.List.{AllByRecursion, range_with_len}
 use Rattle.std.proofs.lemmas.Map.Text.{is_eq-slice_cmp}
@@ -9,10 +12,12 @@ use Rattle.std.specs.Cmp.Lexicographic.{slice_cmp}
 use Rattle.std.specs.Ordering.{match_ordering}
 use Rattle.std.specs.Map.{lookup}
 use Rattle.std.specs.BTreeMap.{insert_entry, is_at}
-use Rattle.serde_json.specs.Data.{Data, null, Items, Members, no_members, member, put, object, array}
+use Rattle.serde_json.specs.Data.{Data, null, Items, Members, no_members, member, put, object}
+use Rattle.serde_json.specs.Data.{array}
 use Rattle.serde_json.specs.View.{items_of}
 use Rattle.registry_core.specs.declared.definition.Field.{Field}
-use Rattle.json_core.specs.Json.{with_name, names, is_new, all_differ, with_members, named_json, fields_json}
+use Rattle.json_core.specs.Json.{with_name, names, is_new, all_differ, with_members, named_json}
+use Rattle.json_core.specs.Json.{fields_json}
 use Rattle.json_core.specs.Ordered.{is_there, order_from, key_order, AreNamed, names_of}
 use Rattle.json_core.specs.Tokens.{data_at, name_at, members_at, members_in_order}
 

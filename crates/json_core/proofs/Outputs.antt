@@ -1,5 +1,9 @@
 -- Text that grows by tokens.
-use Rattle.std.proofs.Common.{◌≡◌, ℕ, suc, ◌+◌, ◌-◌, ◌/◌, ◌%◌, zero, get_or, slice_index, Fits, w8, inl, inr, ◌^◌, ◌<◌, ◌≤◌, Bool, true, false, cond, ◌&&◌, ℤ, pos, negsuc, FitsSigned, List, [], ◌∷◌, ◌++◌, length, take, drop, decimal, refl, ap, ap₂, sym, ◌∙◌, subst, arith, IsUtf8, append_assoc, append-nil, length-append, length-take-le, take-append-drop, ltb-true}
+use Rattle.std.proofs.Common.{◌≡◌, ℕ, suc, ◌+◌, ◌-◌, ◌/◌, ◌%◌, zero, get_or, slice_index, Fits, w8}
+use Rattle.std.proofs.Common.{inl, inr, ◌^◌, ◌<◌, ◌≤◌, Bool, true, false, cond, ◌&&◌, ℤ, pos}
+use Rattle.std.proofs.Common.{negsuc, FitsSigned, List, [], ◌∷◌, ◌++◌, length, take, drop, decimal}
+use Rattle.std.proofs.Common.{refl, ap, ap₂, sym, ◌∙◌, subst, arith, IsUtf8, append_assoc}
+use Rattle.std.proofs.Common.{append-nil, length-append, length-take-le, take-append-drop, ltb-true}
 use Rattle.std.specs.Prelude.{Result, OnOk}
 use Rattle.std.specs.Int.{w128}
 use Rattle.std.specs.Fmt.{signed_decimal}

@@ -1,5 +1,7 @@
 -- Bytes that were written into a buffer from a place on.
-use Rattle.std.proofs.Common.{◌≡◌, ℕ, ◌+◌, ◌≤◌, List, ◌++◌, length, take, drop, refl, ap, ap₂, ◌∙◌, subst, arith, length-append, length-take-le, length-drop, take-add, take_at, take-append-drop}
+use Rattle.std.proofs.Common.{◌≡◌, ℕ, ◌+◌, ◌≤◌, List, ◌++◌, length, take, drop, refl, ap, ap₂, ◌∙◌}
+use Rattle.std.proofs.Common.{subst, arith, length-append, length-take-le, length-drop, take-add}
+use Rattle.std.proofs.Common.{take_at, take-append-drop}
 use Rattle.json.specs.Filled.{Placed}
 
 -- digits that were written up to an end

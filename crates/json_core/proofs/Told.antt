@@ -1,6 +1,8 @@
 -- A node of a value, by what it is: the JSON that its definition and its children give is that of
 -- the value.
-use Rattle.std.proofs.Common.{◌≡◌, ℕ, ◌-◌, ◌*◌, ◌^◌, ◌<◌, ◌≤◌, ◌⊎◌, Bool, true, false, cond, List, length, Option, Some, None, refl, sym, ap, subst, ◌∙◌, arith, inl, inr, true≢false, Bor, option_map}
+use Rattle.std.proofs.Common.{◌≡◌, ℕ, ◌-◌, ◌*◌, ◌^◌, ◌<◌, ◌≤◌, ◌⊎◌, Bool, true, false, cond, List}
+use Rattle.std.proofs.Common.{length, Option, Some, None, refl, sym, ap, subst, ◌∙◌, arith, inl}
+use Rattle.std.proofs.Common.{inr, true≢false, Bor, option_map}
 use Rattle.std.specs.Option.{IsSome}
 use Rattle.std.proofs.lemmas.Bool.{ltb-true, ltb-false}
 use Rattle.std.specs.Int.{w64}
@@ -27,20 +29,26 @@ use Rattle.graph_core.specs.Types.{shape, field_types}
 use Rattle.widths_core.specs.Arms.{arm_of}
 use Rattle.widths_core.specs.Classes.{is_empty}
 use Rattle.widths_core.specs.Targets.{target_of, compact_target_of, compact_target_of_shape}
-use Rattle.widths_core.specs.Layouts.{Layout, layout, layout_of_shape, sized_layout, kind_layout, sequence_layout, array_layout, is_byte, compact_layout}
+use Rattle.widths_core.specs.Layouts.{Layout, layout, layout_of_shape, sized_layout, kind_layout}
+use Rattle.widths_core.specs.Layouts.{sequence_layout, array_layout, is_byte, compact_layout}
 use Rattle.widths_core.specs.Layouts as layout
 use Rattle.grammar_core.specs.Tree.{Tree, Trees, how_many}
 use Rattle.grammar_core.specs.Tree as tree
 use Rattle.grammar_core.specs.Grammar.{Val, Vals}
 use Rattle.grammar_core.specs.Parts.{Part, times}
 use Rattle.grammar_core.specs.Cells.{fields_part, arm_part, list_part}
-use Rattle.value_core.specs.Shown.{Seen, IsValue, seen_parts, children_by, bytes_of, children_of, text_of}
+use Rattle.value_core.specs.Shown.{Seen, IsValue, seen_parts, children_by, bytes_of, children_of}
+use Rattle.value_core.specs.Shown.{text_of}
 use Rattle.value_core.specs.Whats.{what_of}
 use Rattle.value_core.specs.declared.what.What.{What}
 use Rattle.value_core.specs.declared.what.What.TheVariants as what
 use Rattle.value_core.proofs.Below.{arm_get, arm_part_is}
-use Rattle.json_core.specs.Defined.{unsigned_by, signed_by, is_long_kind, is_long, is_long_target, defined_arm, composite_fields}
-use Rattle.json_core.specs.Json.{json_of, json_seen, all_json, each_json, unsigned_json, signed_json, unsigned_of, signed_of, bytes_json, wide_json, parts_json, fields_json, arm_json, arm_at_position, arm_types, part_types, element_type}
+use Rattle.json_core.specs.Defined.{unsigned_by, signed_by, is_long_kind, is_long, is_long_target}
+use Rattle.json_core.specs.Defined.{defined_arm, composite_fields}
+use Rattle.json_core.specs.Json.{json_of, json_seen, all_json, each_json, unsigned_json}
+use Rattle.json_core.specs.Json.{signed_json, unsigned_of, signed_of, bytes_json, wide_json}
+use Rattle.json_core.specs.Json.{parts_json, fields_json, arm_json, arm_at_position, arm_types}
+use Rattle.json_core.specs.Json.{part_types, element_type}
 use Rattle.json_core.specs.Ordered.{fields_in}
 use Rattle.json_core.proofs.Children.{jsons, all_is, each_is}
 

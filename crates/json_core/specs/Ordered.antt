@@ -1,5 +1,7 @@
 -- The positions of fields in the order of their names' bytes, and what is kept of them.
-use Rattle.std.specs.Prelude.{◌≡◌, ℕ, suc, ◌+◌, ◌<◌, ◌≤◌, List, [], ◌∷◌, ◌++◌, length, map, slice_range, Bool, if◌then◌else◌, Option, Some, None, option_map, option_and_then, is_some, IsSome, unwrap_or, slice_get}
+use Rattle.std.specs.Prelude.{◌≡◌, ℕ, suc, ◌+◌, ◌<◌, ◌≤◌, List, [], ◌∷◌, ◌++◌, length, map}
+use Rattle.std.specs.Prelude.{slice_range, Bool, if◌then◌else◌, Option, Some, None, option_map}
+use Rattle.std.specs.Prelude.{option_and_then, is_some, IsSome, unwrap_or, slice_get}
 use Rattle.std.specs.Bool.{OnTrue}
 use Rattle.std.specs.List.{AllByRecursion, range_with_len}
 use Rattle.std.specs.Ordering.{nat_cmp}

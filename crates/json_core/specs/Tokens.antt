@@ -1,5 +1,6 @@
 -- What is written of a value: the tokens of its JSON.
-use Rattle.std.specs.Prelude.{◌≡◌, ℕ, List, [], ◌∷◌, ◌++◌, Bool, cond, fold, option_and_then, unwrap_or, slice_get, Result, OnOk}
+use Rattle.std.specs.Prelude.{◌≡◌, ℕ, List, [], ◌∷◌, ◌++◌, Bool, cond, fold, option_and_then}
+use Rattle.std.specs.Prelude.{unwrap_or, slice_get, Result, OnOk}
 use Rattle.json.specs.Token.{Token}
 use Rattle.json.specs.Print.{ends, print_from}
 use Rattle.json.specs.Tree.{json_tokens}

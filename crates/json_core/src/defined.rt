@@ -4,7 +4,8 @@ ghost use Rattle.std.specs.Prelude.{◌≡◌, ◌<◌, ◌^◌, length, option_
 ghost use Rattle.registry_core.specs.Fits.{FitsDefinition};
 ghost use Rattle.widths_core.specs.Targets.{compact_target_of};
 ghost use Rattle.graph_core.specs.Types.{shape};
-ghost use Rattle.json_core.specs.Defined.{is_long_primitive, is_long, is_long_target, defined_arm, composite_fields};
+ghost use Rattle.json_core.specs.Defined.{is_long_primitive, is_long, is_long_target, defined_arm};
+ghost use Rattle.json_core.specs.Defined.{composite_fields};
 
 use registry_core::{Arm, Field, Primitive, PrimitiveKind, TypeDef, TypeId};
 use scale_core::Target;
@@ -48,7 +49,8 @@ pub(crate) fn is_long_compact(checked: &Checked, ty: TypeId) -> bool
 
 /// The arm at a position of a variant.
 pub(crate) fn defined_arm(checked: &Checked, ty: TypeId, position: u32) -> Option<&Arm>
-    ensures same { option_map (λ a. a.now) result ≡ defined_arm (shape checked.now.types ty.0) position }
+    ensures same { option_map (λ a. a.now) result
+        ≡ defined_arm (shape checked.now.types ty.0) position }
     ensures few { IfSome result (λ a. length a.now.fields < 2 ^ 32) }
 {
     match definition(checked, ty) {
@@ -59,7 +61,8 @@ pub(crate) fn defined_arm(checked: &Checked, ty: TypeId, position: u32) -> Optio
 
 /// The fields of a composite, where the type is one.
 pub(crate) fn composite_fields(checked: &Checked, ty: TypeId) -> Option<&[Field]>
-    ensures same { option_map (λ fs. fs.now) result ≡ composite_fields (shape checked.now.types ty.0) }
+    ensures same { option_map (λ fs. fs.now) result
+        ≡ composite_fields (shape checked.now.types ty.0) }
     ensures few { IfSome result (λ fs. length fs.now < 2 ^ 32) }
 {
     match definition(checked, ty) {

@@ -1,6 +1,7 @@
 //! The names of fields, and the order of their bytes.
 
-ghost use Rattle.std.specs.Prelude.{◌≡◌, ◌<◌, ◌^◌, ◌↔◌, Some, map, length, option_map, IfOk, IsSome, IsTrue};
+ghost use Rattle.std.specs.Prelude.{◌≡◌, ◌<◌, ◌^◌, ◌↔◌, Some, map, length, option_map, IfOk};
+ghost use Rattle.std.specs.Prelude.{IsSome, IsTrue};
 ghost use Rattle.std.specs.List.{range_with_len};
 ghost use Rattle.std.specs.Bool.{OnTrue};
 ghost use Rattle.json_core.specs.Ordered.{ArePlain, key_order};

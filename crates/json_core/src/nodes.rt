@@ -44,7 +44,8 @@ fn parts_json(
     ty: TypeId,
     items: Vec<Value>,
 ) -> Result<Value, AllocError>
-    ensures json { IfOk result (λ v. view v ≡ parts_json (shape orders.old.types ty.0) (items_view items.items)) }
+    ensures json { IfOk result
+        (λ v. view v ≡ parts_json (shape orders.old.types ty.0) (items_view items.items)) }
     ensures grows { Grows orders.old orders.new }
 {
     match composite_fields(orders.checked(), ty) {
@@ -63,7 +64,9 @@ fn arm_json(
 ) -> Result<Value, AllocError>
     requires fields { fields_at orders.old.types place ≡ Some arm.now.fields }
     requires few { length arm.now.fields < 2 ^ 32 }
-    ensures json { IfOk result (λ v. view v ≡ object (member arm.now.name (fields_json arm.now.fields (items_view items.items)) no_members)) }
+    ensures json { IfOk result
+        (λ v. view v ≡ object (member arm.now.name
+        (fields_json arm.now.fields (items_view items.items)) no_members)) }
     ensures grows { Grows orders.old orders.new }
 {
     let fields = fields_json(alloc, orders, place, arm.fields.as_slice(), items)?;

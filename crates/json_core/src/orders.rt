@@ -1,6 +1,7 @@
 //! The orders of keys that are known in one call: each is found once, for each composite and each arm that is met.
 
-ghost use Rattle.std.specs.Prelude.{◌≡◌, ◌+◌, ◌<◌, ◌^◌, ℕ, List, [], ◌++◌, Some, length, slice_index, IfOk, IfSome};
+ghost use Rattle.std.specs.Prelude.{◌≡◌, ◌+◌, ◌<◌, ◌^◌, ℕ, List, [], ◌++◌, Some, length};
+ghost use Rattle.std.specs.Prelude.{slice_index, IfOk, IfSome};
 ghost use Rattle.json_core.specs.Ordered.{fields_at, AreKeys, IsKnown, Grows};
 
 use crate::names::{are_plain, counts_up, key_order};

@@ -1,12 +1,14 @@
 //! JSON text that grows by tokens.
 
-ghost use Rattle.std.specs.Prelude.{◌≡◌, ◌+◌, ◌≤◌, ◌<◌, ◌++◌, [], ◌∷◌, true, false, codes, decimal, length, take, cond, string_bytes, OnOk, IfOk};
+ghost use Rattle.std.specs.Prelude.{◌≡◌, ◌+◌, ◌≤◌, ◌<◌, ◌++◌, [], ◌∷◌, true, false, codes, decimal};
+ghost use Rattle.std.specs.Prelude.{length, take, cond, string_bytes, OnOk, IfOk};
 ghost use Rattle.std.specs.Bool.{OnTrue};
 ghost use Rattle.std.specs.Fmt.{signed_decimal};
 ghost use Rattle.std.specs.Int.{w64};
 ghost use Rattle.std.specs.Char.{encode_utf8};
 ghost use Rattle.hex.specs.Hex.{encode_lower};
-ghost use Rattle.json.specs.Token.{begin_object, end_object, begin_array, end_array, key, string, number, boolean, null};
+ghost use Rattle.json.specs.Token.{begin_object, end_object, begin_array, end_array, key, string};
+ghost use Rattle.json.specs.Token.{number, boolean, null};
 ghost use Rattle.json.specs.Print.{escape, quoted};
 
 use crate::places::{place_byte, place_bytes, place_comma, place_decimal, place_hex};
@@ -132,7 +134,8 @@ impl Output {
         ends_value: bool,
     ) -> Result<(), AllocError>
         requires { length close.now ≤ 2 }
-        ensures { OnOk result (self.new ≡ put self.old self.old.after_value (34 ∷ (characters.now ++ close.now)) ends_value) }
+        ensures { OnOk result (self.new
+            ≡ put self.old self.old.after_value (34 ∷ (characters.now ++ close.now)) ends_value) }
     {
         make_room(&mut self.bytes, self.len, characters.len() + 4)?;
         let buffer = self.bytes.as_mut_slice();
@@ -286,7 +289,8 @@ impl Output {
 
     /// A text of `0x` and two hexadecimal digits for each byte.
     pub(crate) fn hex(&mut self, bytes: &[u8]) -> Result<(), AllocError>
-        ensures { Adds result self.old self.new (string (codes "0x" ++ encode_lower bytes.now) ∷ []) }
+        ensures { Adds result self.old self.new
+            (string (codes "0x" ++ encode_lower bytes.now) ∷ []) }
     {
         let Some(digits) = bytes.len().checked_mul(2) else {
             return Err(AllocError);

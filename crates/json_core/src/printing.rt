@@ -1,6 +1,7 @@
 //! A value's JSON text, and that text written to a sink.
 
-ghost use Rattle.std.specs.Prelude.{◌≡◌, ◌≤◌, ◌||◌, length, take, string_bytes, IfOk, IfErr, OnOk, IsErrOf};
+ghost use Rattle.std.specs.Prelude.{◌≡◌, ◌≤◌, ◌||◌, length, take, string_bytes, IfOk, IfErr, OnOk};
+ghost use Rattle.std.specs.Prelude.{IsErrOf};
 ghost use Rattle.std.specs.Io.KnownBytes.{Appends};
 ghost use Rattle.json_core.specs.Json.{json_text};
 ghost use Rattle.json_core.specs.Printed.{written_of, is_write};
@@ -61,10 +62,12 @@ pub fn print<A: Allocator, W: Write>(
     sink: &mut Sink<W>,
 ) -> Result<(), PrintFault>
     // The whole text went out.
-    ensures ok { OnOk result (Appends (W.contents sink.old.device) (W.contents sink.new.device) (json_text value.now)) }
+    ensures ok { OnOk result (Appends (W.contents sink.old.device) (W.contents sink.new.device)
+        (json_text value.now)) }
     // A front of it went out, and as much as is told.
     ensures part { IfErr result (λ f. written_of f ≤ length (json_text value.now)) }
-    ensures err { IfErr result (λ f. Appends (W.contents sink.old.device) (W.contents sink.new.device) (take (written_of f) (json_text value.now))) }
+    ensures err { IfErr result (λ f. Appends (W.contents sink.old.device)
+        (W.contents sink.new.device) (take (written_of f) (json_text value.now))) }
     // Where memory was refused there was no write.
     ensures memory { IsErrOf result PrintFault.OutOfMemory → sink.new ≡ sink.old }
     ensures failed { sink.new.failed ≡ sink.old.failed || is_write result }

@@ -1,6 +1,7 @@
 //! A node's JSON, written token by token.
 
-ghost use Rattle.std.specs.Prelude.{◌≡◌, ◌<◌, ◌^◌, [], ◌∷◌, Some, length, map, false, codes, IfOk, FitsSigned};
+ghost use Rattle.std.specs.Prelude.{◌≡◌, ◌<◌, ◌^◌, [], ◌∷◌, Some, length, map, false, codes, IfOk};
+ghost use Rattle.std.specs.Prelude.{FitsSigned};
 ghost use Rattle.std.specs.Int.{w64};
 ghost use Rattle.std.specs.Char.{encode_utf8};
 ghost use Rattle.std.specs.Bool.{OnTrue};
@@ -72,7 +73,8 @@ fn write_char(alloc: Global, out: &mut Output, x: char) -> Result<(), AllocError
 
 /// How many there are, where the elements take no bytes.
 fn write_count(alloc: Global, out: &mut Output, count: u32) -> Result<(), AllocError>
-    ensures { AddsValue result out.old out.new (object (member (codes "count") (number (unsigned count)) no_members)) }
+    ensures { AddsValue result out.old out.new
+        (object (member (codes "count") (number (unsigned count)) no_members)) }
 {
     out.begin_object()?;
     out.key(alloc, "count", true)?;
@@ -104,7 +106,8 @@ fn write_items(
     node: &NodeRef<'_, '_>,
 ) -> Result<(), AllocError>
     requires { orders.old.types ≡ node.now.types }
-    ensures adds { AddsValue result out.old out.new (array (items_of (map json_seen (children_of node.now)))) }
+    ensures adds { AddsValue result out.old out.new
+        (array (items_of (map json_seen (children_of node.now)))) }
     ensures grows { Grows orders.old orders.new }
 {
     out.begin_array()?;
@@ -129,7 +132,8 @@ fn write_in_order(
     requires keys { AreKeys orders.old.positions fields.now InOrder }
     requires plain { OnTrue plain (ArePlain fields.now) }
     requires count { length fields.now ≡ length (children_of node.now) }
-    ensures adds { AddsValue result out.old out.new (fields_json fields.now (items_of (map json_seen (children_of node.now)))) }
+    ensures adds { AddsValue result out.old out.new
+        (fields_json fields.now (items_of (map json_seen (children_of node.now)))) }
     ensures grows { Grows orders.old orders.new }
 {
     out.begin_object()?;
@@ -155,7 +159,8 @@ fn write_sorted(
     requires keys { AreKeys orders.old.positions fields.now (Sorted start) }
     requires plain { OnTrue plain (ArePlain fields.now) }
     requires count { length fields.now ≡ length (children_of node.now) }
-    ensures adds { AddsValue result out.old out.new (fields_json fields.now (items_of (map json_seen (children_of node.now)))) }
+    ensures adds { AddsValue result out.old out.new
+        (fields_json fields.now (items_of (map json_seen (children_of node.now)))) }
     ensures grows { Grows orders.old orders.new }
 {
     let children = children(alloc, fields.len(), node)?;
@@ -182,7 +187,8 @@ fn write_fields(
     requires fields { fields_at orders.old.types place ≡ Some fields.now }
     requires few { length fields.now < 2 ^ 32 }
     requires count { length fields.now ≡ length (children_of node.now) }
-    ensures adds { AddsValue result out.old out.new (fields_json fields.now (items_of (map json_seen (children_of node.now)))) }
+    ensures adds { AddsValue result out.old out.new
+        (fields_json fields.now (items_of (map json_seen (children_of node.now)))) }
     ensures grows { Grows orders.old orders.new }
 {
     let Known { keys, plain } = orders.keys(alloc, place, fields)?;

@@ -1,5 +1,7 @@
 -- What the decoder's answer says of the value that all the bytes spell.
-use Rattle.std.proofs.Common.{◌≡◌, ◌==◌, ℕ, ◌<◌, ◌≤◌, List, [], ◌++◌, length, Bool, true, false, Option, Some, None, option_map, Ok, Err, refl, ap, ◌∙◌, arith, subst, inl, inr, take}
+use Rattle.std.proofs.Common.{◌≡◌, ◌==◌, ℕ, ◌<◌, ◌≤◌, List, [], ◌++◌, length, Bool, true, false}
+use Rattle.std.proofs.Common.{Option, Some, None, option_map, Ok, Err, refl, ap, ◌∙◌, arith, subst}
+use Rattle.std.proofs.Common.{inl, inr, take}
 use Rattle.std.specs.Prelude.{if◌then◌else◌, ◌≢◌}
 use Rattle.std.proofs.lemmas.Bool.{cases_lt, eq-eqb, ne_eqb}
 use Rattle.std.proofs.lemmas.List.{append-nil, length-append, length-take}

@@ -1,5 +1,7 @@
 -- The lines of the first types, and of one more.
-use Rattle.std.proofs.Common.{◌≡◌, ◌<◌, ◌+◌, ℕ, zero, suc, List, [], ◌∷◌, ◌++◌, length, take, get_or, sym, ap, ◌∙◌, append_assoc, append-nil, arith, add-one, subst, Option, Some, ◌≤◌}
+use Rattle.std.proofs.Common.{◌≡◌, ◌<◌, ◌+◌, ℕ, zero, suc, List, [], ◌∷◌, ◌++◌, length, take}
+use Rattle.std.proofs.Common.{get_or, sym, ap, ◌∙◌, append_assoc, append-nil, arith, add-one, subst}
+use Rattle.std.proofs.Common.{Option, Some, ◌≤◌}
 use Rattle.std.specs.Prelude.{SomeIff}
 use Rattle.std.proofs.lemmas.List.{take_all}
 use Rattle.registry_core.specs.declared.type_info.TypeInfo.{TypeInfo}

@@ -1,5 +1,6 @@
 -- The line of a type: its position, its class, its kind and its path; and the line of a version.
-use Rattle.std.specs.Prelude.{ℕ, List, [], ◌∷◌, ◌+◌, ◌++◌, codes, decimal, flat_map, slice_get, Option, Some, None, option_map}
+use Rattle.std.specs.Prelude.{ℕ, List, [], ◌∷◌, ◌+◌, ◌++◌, codes, decimal, flat_map, slice_get}
+use Rattle.std.specs.Prelude.{Option, Some, None, option_map}
 use Rattle.serde_json.specs.Data.{string}
 use Rattle.serde_json.specs.Written.{compact_text}
 use Rattle.registry_core.specs.declared.type_info.TypeInfo.{TypeInfo}

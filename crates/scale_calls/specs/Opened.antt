@@ -1,5 +1,6 @@
 -- The registry that bytes hold, and why they hold none.
-use Rattle.std.specs.Prelude.{◌≡◌, ◌<◌, ℕ, List, [], ◌∷◌, length, drop, Option, Some, None, Ok, Err, Bool, true, false, option_map, option_and_then}
+use Rattle.std.specs.Prelude.{◌≡◌, ◌<◌, ℕ, List, [], ◌∷◌, length, drop, Option, Some, None, Ok, Err}
+use Rattle.std.specs.Prelude.{Bool, true, false, option_map, option_and_then}
 use Rattle.scale_core.specs.Read.{Read}
 use Rattle.registry_core.specs.Answers.{FaultAnswers}
 use Rattle.registry_core.specs.Reading.{registry_at, metadata_at}

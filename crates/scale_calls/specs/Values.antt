@@ -1,5 +1,6 @@
 -- The value that all bytes spell, and why they spell none.
-use Rattle.std.specs.Prelude.{◌≡◌, ◌==◌, ℕ, List, length, if◌then◌else◌, Option, Some, None, option_map, Result, Ok, Err}
+use Rattle.std.specs.Prelude.{◌≡◌, ◌==◌, ℕ, List, length, if◌then◌else◌, Option, Some, None}
+use Rattle.std.specs.Prelude.{option_map, Result, Ok, Err}
 use Rattle.grammar_core.specs.Tree.{Tree}
 use Rattle.value_core.specs.Shown.{Seen}
 use Rattle.json_core.specs.Json.{json_text}

@@ -3,7 +3,8 @@
 ghost use Rattle.std.specs.Prelude.{◌≡◌, ◌<◌, ◌++◌, length, IfOk, OnOk, option_map, string_bytes};
 ghost use Rattle.serde_json.specs.Data.{string};
 ghost use Rattle.serde_json.specs.Written.{compact_text};
-ghost use Rattle.scale_calls.specs.Lines.{class_name, joined, kind_name, line_of_type, primitive_name, type_line, type_lines, version_line};
+ghost use Rattle.scale_calls.specs.Lines.{class_name, joined, kind_name, line_of_type};
+ghost use Rattle.scale_calls.specs.Lines.{primitive_name, type_line, type_lines, version_line};
 
 use registry_core::{Primitive, Text, TypeDef, TypeId, TypeInfo, Version};
 use serde_json::Value;
@@ -77,7 +78,8 @@ fn joined(alloc: Global, segments: &[Text]) -> Result<String, AllocError>
 
 /// A path as a JSON text.
 fn path_text(alloc: Global, segments: &[Text]) -> Result<String, AllocError>
-    ensures { IfOk result (λ text. string_bytes text ≡ compact_text (string (joined segments.now))) }
+    ensures { IfOk result (λ text.
+        string_bytes text ≡ compact_text (string (joined segments.now))) }
 {
     let path = joined(alloc, segments)?;
     Value::String(path).to_string(alloc)
@@ -91,7 +93,8 @@ fn push_line(
     class: Class,
     info: &TypeInfo,
 ) -> Result<(), AllocError>
-    ensures { OnOk result (string_bytes lines.new ≡ string_bytes lines.old ++ line_of_type id class info.now) }
+    ensures { OnOk result (string_bytes lines.new
+        ≡ string_bytes lines.old ++ line_of_type id class info.now) }
 {
     let class = class_name(class);
     let kind = kind_name(&info.shape);
@@ -107,7 +110,8 @@ pub fn push_type_lines(
     lines: &mut String,
     checked: &Checked,
 ) -> Result<(), AllocError>
-    ensures { OnOk result (string_bytes lines.new ≡ string_bytes lines.old ++ type_lines checked.now.types) }
+    ensures { OnOk result (string_bytes lines.new
+        ≡ string_bytes lines.old ++ type_lines checked.now.types) }
 {
     'types: for (i, info) in checked.registry().types().iter().enumerate() {
         let id = i as u32;

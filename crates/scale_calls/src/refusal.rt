@@ -1,7 +1,8 @@
 //! Why bytes hold no registry, or no value of one of its types.
 
 ghost use Rattle.std.specs.Prelude.{◌≡◌};
-ghost use Rattle.scale_calls.specs.Refused.{check_refusal, opening_refusal, pieces_refusal, registry_refusal, value_refusal};
+ghost use Rattle.scale_calls.specs.Refused.{check_refusal, opening_refusal, pieces_refusal};
+ghost use Rattle.scale_calls.specs.Refused.{registry_refusal, value_refusal};
 ghost use Rattle.scale_calls.specs.declared.refusal.ValueRefusal.TheVariants.{Memory};
 
 use decode_core::{DecodeFault, DecodeReason, OpenFault, PiecesFault};

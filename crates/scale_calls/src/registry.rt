@@ -2,7 +2,8 @@
 
 ghost use Rattle.std.specs.Prelude.{◌≡◌, Some, IfOk, IfErr};
 ghost use Rattle.graph_core.specs.References.{first_fault};
-ghost use Rattle.scale_calls.specs.Opened.{RefusesCheck, RefusesRegistry, RefusesTypes, checked_of, types_of, unless_fault, version_of};
+ghost use Rattle.scale_calls.specs.Opened.{RefusesCheck, RefusesRegistry, RefusesTypes, checked_of};
+ghost use Rattle.scale_calls.specs.Opened.{types_of, unless_fault, version_of};
 
 use crate::refusal::RegistryRefusal;
 use registry_core::{Registry, Version, read_metadata, read_registry};
@@ -32,7 +33,8 @@ fn registry_of(
 
 /// The registry with its references checked.
 fn checked(alloc: Global, registry: Registry) -> Result<Checked, RegistryRefusal>
-    ensures ok { IfOk result (λ types. unless_fault (first_fault registry) registry ≡ Some types.types) }
+    ensures ok { IfOk result (λ types. unless_fault (first_fault registry) registry
+        ≡ Some types.types) }
     ensures err { IfErr result (RefusesCheck registry) }
 {
     match Checked::new(alloc, registry) {

@@ -25,7 +25,8 @@ pub fn read_value<'r>(
     limits: Limits,
     bytes: &[u8],
 ) -> Result<Value<'r, Global>, ValueRefusal>
-    ensures { ReadsValue (opening_fault checked.now.types id limits) (job_of checked.now.types id limits) bytes.now result }
+    ensures { ReadsValue (opening_fault checked.now.types id limits)
+        (job_of checked.now.types id limits) bytes.now result }
 {
     match decode_pieces(alloc, checked, TypeId(id), limits, &[bytes]) {
         Ok((value, taken)) => {
@@ -47,7 +48,8 @@ pub fn value_text(
     limits: Limits,
     bytes: &[u8],
 ) -> Result<String, ValueRefusal>
-    ensures { ShowsValue string_bytes (opening_fault checked.now.types id limits) (job_of checked.now.types id limits) bytes.now result }
+    ensures { ShowsValue string_bytes (opening_fault checked.now.types id limits)
+        (job_of checked.now.types id limits) bytes.now result }
 {
     let value = read_value(alloc, checked, id, limits, bytes)?;
     Ok(json_text(alloc, &value)?)

@@ -1,5 +1,7 @@
 -- What the decoder's answer says of the value that all the bytes spell.
-use Rattle.std.proofs.Common.{◌≡◌, ◌==◌, ℕ, ◌<◌, ◌≤◌, List, [], ◌++◌, length, Bool, true, false, Option, Some, None, option_map, option_and_then, Result, Ok, Err, refl, sym, ap, ◌∙◌, arith, subst, inl, inr, take}
+use Rattle.std.proofs.Common.{◌≡◌, ◌==◌, ℕ, ◌<◌, ◌≤◌, List, [], ◌++◌, length, Bool, true, false}
+use Rattle.std.proofs.Common.{Option, Some, None, option_map, option_and_then, Result, Ok, Err}
+use Rattle.std.proofs.Common.{refl, sym, ap, ◌∙◌, arith, subst, inl, inr, take}
 use Rattle.std.specs.Prelude.{IfSome, if◌then◌else◌, nat_lt}
 use Rattle.std.proofs.lemmas.Bool.{cases_lt, eq-eqb, ne_eqb}
 use Rattle.std.proofs.lemmas.List.{append-nil, length-append, length-take}
@@ -21,13 +23,16 @@ use Rattle.scale_calls.specs.Values as calls
 use Rattle.scale_calls.specs.declared.refusal.ValueRefusal.{ValueRefusal}
 use Rattle.scale_calls.specs.declared.refusal.ValueRefusal.TheVariants as call
 use Rattle.scale_calls.proofs.Decoded.{faulted, not_all, spelled}
-use Rattle.scale_tool.specs.Refused.{bytes_in_value, bytes_refusal, IsOfBytes, bytes_refusal_by, calls_refusal, stream_refusal, status_of_bytes, status_of_value}
+use Rattle.scale_tool.specs.Refused.{bytes_in_value, bytes_refusal, IsOfBytes, bytes_refusal_by}
+use Rattle.scale_tool.specs.Refused.{calls_refusal, stream_refusal, status_of_bytes}
+use Rattle.scale_tool.specs.Refused.{status_of_value}
 use Rattle.scale_tool.specs.declared.refusal.BytesRefusal.{BytesRefusal}
 use Rattle.scale_tool.specs.declared.refusal.HexFault.{HexFault}
 use Rattle.scale_tool.specs.declared.refusal.BytesRefusal.TheVariants as bytes
 use Rattle.scale_tool.specs.declared.refusal.ValueRefusal.{ValueRefusal as FileRefusal}
 use Rattle.scale_tool.specs.HexText.{hex_bytes}
-use Rattle.scale_tool.specs.Values.{TellsBytes, TellsFile, decoding, file_value, told, value_bytes, value_in}
+use Rattle.scale_tool.specs.Values.{TellsBytes, TellsFile, decoding, file_value, told, value_bytes}
+use Rattle.scale_tool.specs.Values.{value_in}
 
 -- the limits of a value
 abbrev made : ℕ → Limits

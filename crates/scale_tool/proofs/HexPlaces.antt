@@ -1,11 +1,16 @@
 -- What a hexadecimal text holds, by its digits, and where it is refused.
-use Rattle.std.proofs.Common.{◌≡◌, ℕ, suc, ◌+◌, ◌-◌, ◌*◌, ◌<◌, ◌≤◌, ◌%◌, ◌==◌, List, [], ◌∷◌, length, Bool, true, false, Option, Some, None, Result, Ok, Err, arith, refl, sym, ◌∙◌, ap, take, drop, inl, inr}
+use Rattle.std.proofs.Common.{◌≡◌, ℕ, suc, ◌+◌, ◌-◌, ◌*◌, ◌<◌, ◌≤◌, ◌%◌, ◌==◌, List, [], ◌∷◌}
+use Rattle.std.proofs.Common.{length, Bool, true, false, Option, Some, None, Result, Ok, Err, arith}
+use Rattle.std.proofs.Common.{refl, sym, ◌∙◌, ap, take, drop, inl, inr}
 use Rattle.std.specs.Prelude.{if◌then◌else◌, ◌⊎◌}
 use Rattle.std.proofs.lemmas.List.{length-drop, length-take, take_all}
 use Rattle.scale_tool.specs.HexText.{digits_end, hex_bytes, placed, prefix_len}
-use Rattle.hex.specs.Hex.{decode_of, decode_pairs, digit_or_error, hex_digit_value, pair_value, ◌>>=◌}
+use Rattle.hex.specs.Hex.{decode_of, decode_pairs, digit_or_error, hex_digit_value, pair_value}
+use Rattle.hex.specs.Hex.{◌>>=◌}
 use Rattle.hex.specs.declared.error.FromHexError.{FromHexError}
-use Rattle.hex.specs.declared.error.FromHexError.TheVariants.{InvalidHexCharacter, InvalidStringLength, OddLength, OutOfMemory}
+use Rattle.hex.specs.declared.error.FromHexError.TheVariants.{InvalidHexCharacter}
+use Rattle.hex.specs.declared.error.FromHexError.TheVariants.{InvalidStringLength, OddLength}
+use Rattle.hex.specs.declared.error.FromHexError.TheVariants.{OutOfMemory}
 
 -- the byte of two digits is refused at one of them
 pair_within : (high low from c i : ℕ) (h l : Option ℕ) →

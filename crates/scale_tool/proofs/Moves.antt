@@ -1,5 +1,6 @@
 -- Bytes that move in parts move as a whole.
-use Rattle.std.proofs.Common.{refl, ◌≡◌, ℕ, ◌+◌, ◌≤◌, List, ◌++◌, length, take, drop, Option, Some, None, append_assoc, sym, ◌∙◌, ap, arith}
+use Rattle.std.proofs.Common.{refl, ◌≡◌, ℕ, ◌+◌, ◌≤◌, List, ◌++◌, length, take, drop, Option, Some}
+use Rattle.std.proofs.Common.{None, append_assoc, sym, ◌∙◌, ap, arith}
 use Rattle.std.proofs.Math.Seq.{take-add}
 use Rattle.std.proofs.lemmas.List.{take_all, take_at, drop_at, drop-drop, length-take, length-drop}
 use Rattle.std.specs.Prelude.{IfSome}

@@ -2,7 +2,8 @@
 use Rattle.std.specs.Prelude.{◌≡◌, ◌≢◌, ℕ, ◌⊎◌, List, [], codes, string_bytes}
 use Rattle.clap.specs.Words.{HasKind, Text, fault_of, kind_of, subcommand_of}
 use Rattle.clap.specs.declared.error.Error.{Error}
-use Rattle.clap.specs.declared.error.kind.ErrorKind.TheVariants.{DisplayHelp, DisplayVersion, OutOfMemory}
+use Rattle.clap.specs.declared.error.kind.ErrorKind.TheVariants.{DisplayHelp, DisplayVersion}
+use Rattle.clap.specs.declared.error.kind.ErrorKind.TheVariants.{OutOfMemory}
 use Rattle.scale_tool.specs.Line.{NamesNone, line}
 use Rattle.scale_tool.specs.declared.jobs.JobFault.{JobFault}
 use Rattle.scale_tool.specs.declared.jobs.JobFault.TheVariants as fault

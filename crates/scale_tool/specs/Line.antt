@@ -1,6 +1,8 @@
 -- The command line, and the job that its words name.
-use Rattle.std.specs.Prelude.{◌≡◌, ◌<◌, ◌≤◌, ◌^◌, ℕ, List, Some, None, Option, true, false, Bool, codes}
-use Rattle.clap.specs.Words.{App, Row, Rule, Text, first_of, one_of, new_app, new_rule, with_rule, with_subcommand}
+use Rattle.std.specs.Prelude.{◌≡◌, ◌<◌, ◌≤◌, ◌^◌, ℕ, List, Some, None, Option, true, false, Bool}
+use Rattle.std.specs.Prelude.{codes}
+use Rattle.clap.specs.Words.{App, Row, Rule, Text, first_of, one_of, new_app, new_rule, with_rule}
+use Rattle.clap.specs.Words.{with_subcommand}
 use Rattle.std.specs.Str.Parse.{IsNumeral, digits_value}
 use Rattle.scale_tool.specs.declared.task.Job.{Job}
 use Rattle.scale_tool.specs.declared.task.Job.TheVariants as jobs

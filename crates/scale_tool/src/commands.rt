@@ -1,9 +1,11 @@
 //! The command line as `clap` reads it.
 
 ghost use Rattle.std.specs.Prelude.{◌≡◌, IfOk, IfErr, map, true, false};
-ghost use Rattle.clap.specs.Words.{FailsBy, app_of, fault_of, found_of, rows_of, rule_of, matches_of, subcommand_of, subcommand_rows_of, takes, kind_of};
+ghost use Rattle.clap.specs.Words.{FailsBy, app_of, fault_of, found_of, rows_of, rule_of};
+ghost use Rattle.clap.specs.Words.{matches_of, subcommand_of, subcommand_rows_of, takes, kind_of};
 ghost use Rattle.clap.specs.declared.Command.TheViews.{out-Command};
-ghost use Rattle.scale_tool.specs.Line.{line, types, decode, file, id, value_file, metadata, hex, depth};
+ghost use Rattle.scale_tool.specs.Line.{line, types, decode, file, id, value_file, metadata, hex};
+ghost use Rattle.scale_tool.specs.Line.{depth};
 
 use clap::error::ErrorKind;
 use clap::{Arg, ArgAction, ArgMatches, Command, Error};
@@ -128,10 +130,13 @@ fn line_command<'a>(alloc: Global) -> Result<Command<'a>, AllocError>
 
 /// What the words of a command line say, the program's name first.
 pub(crate) fn line_matches<'a>(alloc: Global, words: &'a [&'a str]) -> Result<ArgMatches<'a>, Error>
-    ensures found { IfOk result (λ m. rows_of (found_of m) ≡ matches_of line (map (λ s. s.now) words.entry.now)) }
-    ensures subcommand { IfOk result (λ m. subcommand_rows_of m ≡ subcommand_of line (map (λ s. s.now) words.entry.now)) }
+    ensures found { IfOk result
+        (λ m. rows_of (found_of m) ≡ matches_of line (map (λ s. s.now) words.entry.now)) }
+    ensures subcommand { IfOk result
+        (λ m. subcommand_rows_of m ≡ subcommand_of line (map (λ s. s.now) words.entry.now)) }
     ensures kinds { FailsBy (fault_of line (map (λ s. s.now) words.entry.now)) result }
-    ensures taken { IfErr result (λ e. takes line (map (λ s. s.now) words.entry.now) ≡ true → kind_of e ≡ ErrorKind.OutOfMemory) }
+    ensures taken { IfErr result (λ e. takes line (map (λ s. s.now) words.entry.now) ≡ true →
+        kind_of e ≡ ErrorKind.OutOfMemory) }
 {
     let line = line_command(alloc)?;
     line.try_get_matches_from(words)

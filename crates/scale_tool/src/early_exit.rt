@@ -13,7 +13,8 @@ use value_core::send;
 
 /// Writes the text to `err`. Where a write fails, nothing more is done.
 fn report<E: Write>(text: &str, err: &mut Sink<E>)
-    ensures { (err.new.failed ≡ true) ⊎ Appends (E.contents err.old.device) (E.contents err.new.device) text.now }
+    ensures { (err.new.failed ≡ true)
+        ⊎ Appends (E.contents err.old.device) (E.contents err.new.device) text.now }
 {
     let _ = send(err, text.as_bytes());
 }
@@ -22,7 +23,8 @@ fn report<E: Write>(text: &str, err: &mut Sink<E>)
 /// 3. A failed write to `err` changes no status.
 pub fn unopened<E: Write>(device: Device, err: &mut Sink<E>) -> u8
     ensures status { result ≡ 3 }
-    ensures told { (err.new.failed ≡ true) ⊎ Appends (E.contents err.old.device) (E.contents err.new.device) (device_line device) }
+    ensures told { (err.new.failed ≡ true)
+        ⊎ Appends (E.contents err.old.device) (E.contents err.new.device) (device_line device) }
 {
     report(device.line(), err);
     3
@@ -36,10 +38,14 @@ pub fn unopened<E: Write>(device: Device, err: &mut Sink<E>) -> u8
 /// It takes no memory: the text was made where the line was refused.
 pub fn explain<W: Write, E: Write>(fault: JobFault, out: &mut Sink<W>, err: &mut Sink<E>) -> u8
     ensures status { IsStatusOf fault result }
-    ensures shown { result ≡ 0 → Appends (W.contents out.old.device) (W.contents out.new.device) (text_of fault) }
-    ensures front { result ≡ 3 → (n : ℕ) × Appends (W.contents out.old.device) (W.contents out.new.device) (take n (text_of fault)) }
-    ensures silent { (result ≡ 2) ⊎ (result ≡ 4) → Keeps (W.contents out.old.device) (W.contents out.new.device) }
-    ensures told { (result ≡ 2) ⊎ (result ≡ 4) → (err.new.failed ≡ true) ⊎ Appends (E.contents err.old.device) (E.contents err.new.device) (text_of fault) }
+    ensures shown { result ≡ 0 →
+        Appends (W.contents out.old.device) (W.contents out.new.device) (text_of fault) }
+    ensures front { result ≡ 3 → (n : ℕ)
+        × Appends (W.contents out.old.device) (W.contents out.new.device) (take n (text_of fault)) }
+    ensures silent { (result ≡ 2) ⊎ (result ≡ 4) →
+        Keeps (W.contents out.old.device) (W.contents out.new.device) }
+    ensures told { (result ≡ 2) ⊎ (result ≡ 4) → (err.new.failed ≡ true)
+        ⊎ Appends (E.contents err.old.device) (E.contents err.new.device) (text_of fault) }
     ensures device { result ≡ 3 → out.new.failed ≡ true }
 {
     match fault {

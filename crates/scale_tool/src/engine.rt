@@ -1,9 +1,11 @@
 //! The command's engine: a job over readers and writers.
 
-ghost use Rattle.std.specs.Prelude.{◌≡◌, ◌≤◌, ◌⊎◌, List, true, None, Some, IfOk, IfErr, IfSome, IsErrOf, string_bytes};
+ghost use Rattle.std.specs.Prelude.{◌≡◌, ◌≤◌, ◌⊎◌, List, true, None, Some, IfOk, IfErr, IfSome};
+ghost use Rattle.std.specs.Prelude.{IsErrOf, string_bytes};
 ghost use Rattle.std.specs.Io.KnownBytes.{Keeps};
 ghost use Rattle.registry_core.specs.declared.type_info.TypeInfo.{TypeInfo};
-ghost use Rattle.scale_tool.specs.Answer.{HasJobType, IsServed, OnText, ReadsNoValue, WritesAll, WritesFront, line_of, types_text, types_with, value_text};
+ghost use Rattle.scale_tool.specs.Answer.{HasJobType, IsServed, OnText, ReadsNoValue, WritesAll};
+ghost use Rattle.scale_tool.specs.Answer.{WritesFront, line_of, types_text, types_with, value_text};
 ghost use Rattle.scale_tool.specs.Refused.{status_of};
 
 use crate::early_exit::unopened;
@@ -33,11 +35,14 @@ fn types_text<R: Read>(
     metadata: bool,
     registry: &mut Source<R>,
 ) -> Result<String, Refusal>
-    ensures ok { IfOk result (λ text. IfSome (R.remaining registry.old.device) (λ r. types_text metadata r ≡ Some (string_bytes text))) }
-    ensures refused { IfErr result (λ e. status_of e ≡ 1 → IfSome (R.remaining registry.old.device) (λ r. types_text metadata r ≡ None)) }
+    ensures ok { IfOk result (λ text. IfSome (R.remaining registry.old.device)
+        (λ r. types_text metadata r ≡ Some (string_bytes text))) }
+    ensures refused { IfErr result (λ e. status_of e ≡ 1 →
+        IfSome (R.remaining registry.old.device) (λ r. types_text metadata r ≡ None)) }
     ensures device { IfErr result (λ e. status_of e ≡ 3 → e ≡ Refusal.RegistryDevice) }
     ensures told { IsErrOf result Refusal.RegistryDevice → registry.new.failed ≡ true }
-    ensures quiet { IsErrOf result Refusal.RegistryDevice ⊎ (registry.new.failed ≡ registry.old.failed) }
+    ensures quiet { IsErrOf result Refusal.RegistryDevice
+        ⊎ (registry.new.failed ≡ registry.old.failed) }
 {
     let (checked, version) = read_types(alloc, metadata, registry)?;
     let mut text = version_line(alloc, version)?;
@@ -56,11 +61,16 @@ fn value_text<R: Read, V: Read>(
     value: &mut Source<V>,
 ) -> Result<String, Refusal>
     requires { depth ≤ 1024 }
-    ensures ok { IfOk result (λ text. IfSome (R.remaining registry.old.device) (λ r. IfSome (V.remaining value.old.device) (λ v. value_text metadata hex id depth r v ≡ Some (string_bytes text)))) }
-    ensures refused { IfErr result (λ e. status_of e ≡ 1 → IfSome (R.remaining registry.old.device) (λ r. IfSome (V.remaining value.old.device) (λ v. value_text metadata hex id depth r v ≡ None))) }
+    ensures ok { IfOk result (λ text. IfSome (R.remaining registry.old.device)
+        (λ r. IfSome (V.remaining value.old.device)
+        (λ v. value_text metadata hex id depth r v ≡ Some (string_bytes text)))) }
+    ensures refused { IfErr result (λ e. status_of e ≡ 1 →
+        IfSome (R.remaining registry.old.device) (λ r. IfSome (V.remaining value.old.device)
+        (λ v. value_text metadata hex id depth r v ≡ None))) }
     ensures registry_failed { IsErrOf result Refusal.RegistryDevice → registry.new.failed ≡ true }
     ensures value_failed { IsErrOf result Refusal.ValueDevice → value.new.failed ≡ true }
-    ensures registry { IsErrOf result Refusal.RegistryDevice ⊎ (registry.new.failed ≡ registry.old.failed) }
+    ensures registry { IsErrOf result Refusal.RegistryDevice
+        ⊎ (registry.new.failed ≡ registry.old.failed) }
     ensures value { IsErrOf result Refusal.ValueDevice ⊎ (value.new.failed ≡ value.old.failed) }
     ensures read_last { (value.new ≡ value.old) ⊎ ((registry.new.failed ≡ registry.old.failed)
         × IfSome (R.remaining registry.old.device) (λ r. (types : List TypeInfo) × (types_with metadata id r ≡ Some types))) }
@@ -78,11 +88,15 @@ fn answer<R: Read, V: Read>(
     value: &mut Source<V>,
 ) -> Result<String, Refusal>
     requires { IsServed job }
-    ensures ok { IfOk result (λ text. OnText job (R.remaining registry.old.device) (V.remaining value.old.device) (λ t. t ≡ Some (string_bytes text))) }
-    ensures refused { IfErr result (λ e. status_of e ≡ 1 → OnText job (R.remaining registry.old.device) (V.remaining value.old.device) (λ t. t ≡ None)) }
+    ensures ok { IfOk result (λ text. OnText job (R.remaining registry.old.device)
+        (V.remaining value.old.device) (λ t. t ≡ Some (string_bytes text))) }
+    ensures refused { IfErr result (λ e. status_of e ≡ 1 →
+        OnText job (R.remaining registry.old.device) (V.remaining value.old.device)
+        (λ t. t ≡ None)) }
     ensures registry_failed { IsErrOf result Refusal.RegistryDevice → registry.new.failed ≡ true }
     ensures value_failed { IsErrOf result Refusal.ValueDevice → value.new.failed ≡ true }
-    ensures registry { IsErrOf result Refusal.RegistryDevice ⊎ (registry.new.failed ≡ registry.old.failed) }
+    ensures registry { IsErrOf result Refusal.RegistryDevice
+        ⊎ (registry.new.failed ≡ registry.old.failed) }
     ensures value { IsErrOf result Refusal.ValueDevice ⊎ (value.new.failed ≡ value.old.failed) }
     ensures unread { ReadsNoValue job → value.new ≡ value.old }
     ensures read_last { (value.new ≡ value.old) ⊎ ((registry.new.failed ≡ registry.old.failed)
@@ -140,19 +154,25 @@ pub fn run<R: Read, V: Read, W: Write, E: Write>(
     ensures status { (result ≡ 0) ⊎ ((result ≡ 1) ⊎ ((result ≡ 3) ⊎ (result ≡ 4))) }
 
     // 0 only where the whole text went out, and 1 only where there is none.
-    ensures done { result ≡ 0 → OnText job (R.remaining registry.old.device) (V.remaining value.old.device)
+    ensures done { result ≡ 0 →
+        OnText job (R.remaining registry.old.device) (V.remaining value.old.device)
         (λ text. WritesAll text (W.contents out.old.device) (W.contents out.new.device)) }
-    ensures refused { result ≡ 1 → OnText job (R.remaining registry.old.device) (V.remaining value.old.device)
+    ensures refused { result ≡ 1 →
+        OnText job (R.remaining registry.old.device) (V.remaining value.old.device)
         (λ text. text ≡ None) }
 
     // What stands on `out` without 0: nothing new, or a beginning of the text after a failure.
-    ensures silent { (result ≡ 1) ⊎ (result ≡ 4) → Keeps (W.contents out.old.device) (W.contents out.new.device) }
-    ensures front { result ≡ 3 → OnText job (R.remaining registry.old.device) (V.remaining value.old.device)
+    ensures silent { (result ≡ 1) ⊎ (result ≡ 4) →
+        Keeps (W.contents out.old.device) (W.contents out.new.device) }
+    ensures front { result ≡ 3 →
+        OnText job (R.remaining registry.old.device) (V.remaining value.old.device)
         (λ text. WritesFront text (W.contents out.old.device) (W.contents out.new.device)) }
 
     // 3 only where a device failed, and no other answer says so.
-    ensures device { result ≡ 3 → (registry.new.failed ≡ true) ⊎ ((value.new.failed ≡ true) ⊎ (out.new.failed ≡ true)) }
-    ensures quiet { (result ≡ 3) ⊎ ((registry.new.failed ≡ registry.old.failed) × (value.new.failed ≡ value.old.failed)
+    ensures device { result ≡ 3 →
+        (registry.new.failed ≡ true) ⊎ ((value.new.failed ≡ true) ⊎ (out.new.failed ≡ true)) }
+    ensures quiet { (result ≡ 3)
+        ⊎ ((registry.new.failed ≡ registry.old.failed) × (value.new.failed ≡ value.old.failed)
         × (out.new.failed ≡ out.old.failed)) }
 
     // The job that shows types does not touch the value.

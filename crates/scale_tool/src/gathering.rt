@@ -1,6 +1,7 @@
 //! All bytes of a source, gathered in a vector.
 
-ghost use Rattle.std.specs.Prelude.{◌≡◌, ◌+◌, ◌++◌, ◌<◌, ◌≤◌, ◌⊎◌, true, length, vec_len, IfOk, IfSome, OnOk, IsErrOf};
+ghost use Rattle.std.specs.Prelude.{◌≡◌, ◌+◌, ◌++◌, ◌<◌, ◌≤◌, ◌⊎◌, true, length, vec_len, IfOk};
+ghost use Rattle.std.specs.Prelude.{IfSome, OnOk, IsErrOf};
 ghost use Rattle.std.specs.Io.KnownBytes.{IsAtEnd};
 ghost use Rattle.scale_tool.specs.Moved.{LeavesReader};
 
@@ -28,7 +29,8 @@ fn pull_onto<R: Read>(
 ) -> Result<usize, GatherFault>
     requires { 0 < length part.old }
     ensures count { IfOk result (λ n. n ≤ length part.old) }
-    ensures bytes { IfOk result (λ n. LeavesReader (R.remaining source.old.device) (R.remaining source.new.device) out.old.items out.new.items n) }
+    ensures bytes { IfOk result (λ n. LeavesReader (R.remaining source.old.device)
+        (R.remaining source.new.device) out.old.items out.new.items n) }
     ensures grown { IfOk result (λ n. vec_len out.new ≡ vec_len out.old + n) }
     ensures end { IfOk result (λ n. n ≡ 0 → IsAtEnd (R.remaining source.new.device)) }
     ensures told { IsErrOf result GatherFault.Device → source.new.failed ≡ true }
@@ -48,7 +50,8 @@ pub(crate) fn gather_all<R: Read>(
     source: &mut Source<R>,
     out: &mut Vec<u8>,
 ) -> Result<(), GatherFault>
-    ensures ok { OnOk result (IfSome (R.remaining source.old.device) (λ bytes. out.new.items ≡ out.old.items ++ bytes)) }
+    ensures ok { OnOk result (IfSome (R.remaining source.old.device)
+        (λ bytes. out.new.items ≡ out.old.items ++ bytes)) }
     ensures told { IsErrOf result GatherFault.Device → source.new.failed ≡ true }
     ensures quiet { IsErrOf result GatherFault.Device ⊎ (source.new.failed ≡ source.old.failed) }
 {

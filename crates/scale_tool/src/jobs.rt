@@ -1,6 +1,7 @@
 //! The job that a command line names.
 
-ghost use Rattle.std.specs.Prelude.{◌≡◌, ◌^◌, ◌<◌, ◌≤◌, ℕ, IfOk, IfErr, IfSome, IfNone, map, codes, Some, None, option_map, option_and_then, string_bytes, SomeIff};
+ghost use Rattle.std.specs.Prelude.{◌≡◌, ◌^◌, ◌<◌, ◌≤◌, ℕ, IfOk, IfErr, IfSome, IfNone, map, codes};
+ghost use Rattle.std.specs.Prelude.{Some, None, option_map, option_and_then, string_bytes, SomeIff};
 ghost use Rattle.std.specs.Str.Parse.{IsNumeral, digits_value};
 ghost use Rattle.clap.specs.Words.{found_of, rows_of, subcommand_of, subcommand_rows_of};
 ghost use Rattle.scale_tool.specs.Answer.{IsServed};
@@ -42,7 +43,8 @@ impl From<AllocError> for JobFault {
 
 /// The number that ASCII digits alone spell.
 fn number_of(text: &str) -> Option<u32>
-    ensures { SomeIff result (IsNumeral 10 text.now × (digits_value 10 text.now < 2 ^ 32)) (digits_value 10 text.now) }
+    ensures { SomeIff result (IsNumeral 10 text.now
+        × (digits_value 10 text.now < 2 ^ 32)) (digits_value 10 text.now) }
 {
     // `parse` also takes a plus sign.
     if text.starts_with('+') {
@@ -54,8 +56,10 @@ fn number_of(text: &str) -> Option<u32>
 /// The depth limit that the option's text spells in ASCII digits alone, and 64 where there is no text; None where that
 /// is no number up to 1024.
 fn depth_of(text: Option<&str>) -> Option<u16>
-    ensures depth { IfSome result (λ n. SpellsDepth (option_map (λ s. s.now) text.entry) n × (n ≤ 1024)) }
-    ensures none { IfNone result ((n : ℕ) → n ≤ 1024 → SpellsDepth (option_map (λ s. s.now) text.entry) n → ⊥) }
+    ensures depth { IfSome result
+        (λ n. SpellsDepth (option_map (λ s. s.now) text.entry) n × (n ≤ 1024)) }
+    ensures none { IfNone result ((n : ℕ) → n ≤ 1024 →
+        SpellsDepth (option_map (λ s. s.now) text.entry) n → ⊥) }
 {
     let Some(text) = text else {
         return Some(Limits::default_limits().depth);
@@ -70,8 +74,10 @@ fn depth_of(text: Option<&str>) -> Option<u16>
 /// The job of `types`, with FILE.
 fn types_job<'a>(matches: &ArgMatches<'a>) -> Option<(Job, &'a str)>
     ensures served { IfSome result (λ j. IsServed j.0) }
-    ensures job { IfSome result (λ j. IsJob j.0 j.1.now None (Some (codes "types", rows_of (found_of matches.now)))) }
-    ensures none { IfNone result (NamesNone (Some (codes "types", rows_of (found_of matches.now)))) }
+    ensures job { IfSome result
+        (λ j. IsJob j.0 j.1.now None (Some (codes "types", rows_of (found_of matches.now)))) }
+    ensures none { IfNone result
+        (NamesNone (Some (codes "types", rows_of (found_of matches.now)))) }
 {
     let metadata = matches.get_flag("metadata");
     let file = matches.get_str("FILE")?;
@@ -81,8 +87,10 @@ fn types_job<'a>(matches: &ArgMatches<'a>) -> Option<(Job, &'a str)>
 /// The job of `decode`, with FILE and VALUEFILE; None where ID or D is no number in its range.
 fn decode_job<'a>(matches: &ArgMatches<'a>) -> Option<(Job, &'a str, &'a str)>
     ensures served { IfSome result (λ j. IsServed j.0) }
-    ensures job { IfSome result (λ j. IsJob j.0 j.1.now (Some j.2.now) (Some (codes "decode", rows_of (found_of matches.now)))) }
-    ensures none { IfNone result (NamesNone (Some (codes "decode", rows_of (found_of matches.now)))) }
+    ensures job { IfSome result (λ j.
+        IsJob j.0 j.1.now (Some j.2.now) (Some (codes "decode", rows_of (found_of matches.now)))) }
+    ensures none { IfNone result
+        (NamesNone (Some (codes "decode", rows_of (found_of matches.now)))) }
 {
     let id = number_of(matches.get_str("ID")?)?;
     let depth = depth_of(matches.get_str("depth"))?;
@@ -102,7 +110,8 @@ fn decode_job<'a>(matches: &ArgMatches<'a>) -> Option<(Job, &'a str, &'a str)>
 /// The job that the line's matches name, with FILE and VALUEFILE; None where ID or D is no number in its range.
 fn job_of<'a>(matches: &ArgMatches<'a>) -> Option<(Job, &'a str, Option<&'a str>)>
     ensures served { IfSome result (λ j. IsServed j.0) }
-    ensures job { IfSome result (λ j. IsJob j.0 j.1.now (option_map (λ s. s.now) j.2) (subcommand_rows_of matches.now)) }
+    ensures job { IfSome result
+        (λ j. IsJob j.0 j.1.now (option_map (λ s. s.now) j.2) (subcommand_rows_of matches.now)) }
     ensures none { IfNone result (NamesNone (subcommand_rows_of matches.now)) }
 {
     let (name, inner) = matches.subcommand()?;
@@ -119,7 +128,8 @@ fn job_of<'a>(matches: &ArgMatches<'a>) -> Option<(Job, &'a str, Option<&'a str>
 
 /// The value's file, where there is one, in a string of its own.
 fn owned(alloc: Global, text: Option<&str>) -> Result<Option<String>, AllocError>
-    ensures { IfOk result (λ owned. option_map string_bytes owned ≡ option_map (λ s. s.now) text.entry) }
+    ensures { IfOk result (λ owned.
+        option_map string_bytes owned ≡ option_map (λ s. s.now) text.entry) }
 {
     match text {
         Some(text) => Ok(Some(String::from_str(alloc, text)?)),
@@ -138,7 +148,8 @@ fn owned(alloc: Global, text: Option<&str>) -> Result<Option<String>, AllocError
 /// - with `Memory`, status 4, where memory is refused: to `clap`, to the text of what it says, or to the names of the
 ///   files.
 pub fn job(alloc: Global, words: &[&str]) -> Result<(Job, String, Option<String>), JobFault>
-    ensures ok { IfOk result (λ j. IsJob j.0 (string_bytes j.1) (option_map string_bytes j.2) (subcommand_of line (map (λ s. s.now) words.now))) }
+    ensures ok { IfOk result (λ j. IsJob j.0 (string_bytes j.1) (option_map string_bytes j.2)
+        (subcommand_of line (map (λ s. s.now) words.now))) }
     ensures served { IfOk result (λ j. IsServed j.0) }
     ensures err { IfErr result (IsFaultOfWords (map (λ s. s.now) words.now)) }
 {

@@ -2,7 +2,9 @@
 //! standard error and the exit status.
 
 ghost use Rattle.std.specs.Prelude.{◌≡◌, IfNone, option_map};
-ghost use Rattle.scale_tool.specs.Refused.{device_line, fixed_line, refusal_of_registry, refusal_of_value, bytes_refusal, hex_in_value, bytes_in_value, gathered_refusal, status_of};
+ghost use Rattle.scale_tool.specs.Refused.{device_line, fixed_line, refusal_of_registry};
+ghost use Rattle.scale_tool.specs.Refused.{refusal_of_value, bytes_refusal, hex_in_value};
+ghost use Rattle.scale_tool.specs.Refused.{bytes_in_value, gathered_refusal, status_of};
 ghost use Rattle.scale_tool.specs.declared.refusal.Refusal.TheVariants.{Memory};
 
 use crate::gathering::GatherFault;

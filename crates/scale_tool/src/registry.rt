@@ -1,6 +1,7 @@
 //! The registry of a job, checked, and the version of the metadata that it stood in.
 
-ghost use Rattle.std.specs.Prelude.{◌≡◌, ◌⊎◌, ◌<◌, length, true, None, Some, IfOk, IfErr, IfSome, IsErrOf};
+ghost use Rattle.std.specs.Prelude.{◌≡◌, ◌⊎◌, ◌<◌, length, true, None, Some, IfOk, IfErr, IfSome};
+ghost use Rattle.std.specs.Prelude.{IsErrOf};
 ghost use Rattle.scale_calls.specs.Opened.{checked_of, version_of};
 ghost use Rattle.scale_tool.specs.Answer.{types_with, with_position};
 ghost use Rattle.scale_tool.specs.Refused.{status_of, status_of_registry};
@@ -22,7 +23,8 @@ fn checked_registry(
 ) -> Result<(Checked, Option<Version>), RegistryRefusal>
     ensures ok { IfOk result (λ x. checked_of metadata bytes.now ≡ Some x.0.types) }
     ensures version { IfOk result (λ x. version_of metadata bytes.now ≡ x.1) }
-    ensures err { IfErr result (λ e. status_of_registry e ≡ 1 → checked_of metadata bytes.now ≡ None) }
+    ensures err { IfErr result (λ e. status_of_registry e ≡ 1 →
+        checked_of metadata bytes.now ≡ None) }
 {
     open_registry(alloc, metadata, bytes)
 }
@@ -33,12 +35,16 @@ pub(crate) fn read_types<R: Read>(
     metadata: bool,
     source: &mut Source<R>,
 ) -> Result<(Checked, Option<Version>), Refusal>
-    ensures ok { IfOk result (λ x. IfSome (R.remaining source.old.device) (λ bytes. checked_of metadata bytes ≡ Some x.0.types)) }
-    ensures version { IfOk result (λ x. IfSome (R.remaining source.old.device) (λ bytes. version_of metadata bytes ≡ x.1)) }
-    ensures refused { IfErr result (λ e. status_of e ≡ 1 → IfSome (R.remaining source.old.device) (λ bytes. checked_of metadata bytes ≡ None)) }
+    ensures ok { IfOk result (λ x. IfSome (R.remaining source.old.device)
+        (λ bytes. checked_of metadata bytes ≡ Some x.0.types)) }
+    ensures version { IfOk result
+        (λ x. IfSome (R.remaining source.old.device) (λ bytes. version_of metadata bytes ≡ x.1)) }
+    ensures refused { IfErr result (λ e. status_of e ≡ 1 →
+        IfSome (R.remaining source.old.device) (λ bytes. checked_of metadata bytes ≡ None)) }
     ensures device { IfErr result (λ e. status_of e ≡ 3 → e ≡ Refusal.RegistryDevice) }
     ensures told { IsErrOf result Refusal.RegistryDevice → source.new.failed ≡ true }
-    ensures quiet { IsErrOf result Refusal.RegistryDevice ⊎ (source.new.failed ≡ source.old.failed) }
+    ensures quiet { IsErrOf result Refusal.RegistryDevice
+        ⊎ (source.new.failed ≡ source.old.failed) }
 {
     let mut bytes = Vec::new(alloc);
     match gather_all(source, &mut bytes) {
@@ -51,7 +57,8 @@ pub(crate) fn read_types<R: Read>(
 /// The registry, where the position is one of its types.
 fn with_position(checked: Checked, id: u32) -> Result<Checked, Refusal>
     ensures ok { IfOk result (λ types. with_position id checked.types ≡ Some types.types) }
-    ensures err { IfErr result (λ e. (e ≡ Refusal.UnknownType id) × (with_position id checked.types ≡ None)) }
+    ensures err { IfErr result (λ e. (e ≡ Refusal.UnknownType id)
+        × (with_position id checked.types ≡ None)) }
 {
     match checked.class(TypeId(id)) {
         Some(_) => Ok(checked),
@@ -67,11 +74,14 @@ pub(crate) fn read_types_with<R: Read>(
     source: &mut Source<R>,
 ) -> Result<Checked, Refusal>
     ensures known { IfOk result (λ types. id < length types.types) }
-    ensures ok { IfOk result (λ types. IfSome (R.remaining source.old.device) (λ bytes. types_with metadata id bytes ≡ Some types.types)) }
-    ensures refused { IfErr result (λ e. status_of e ≡ 1 → IfSome (R.remaining source.old.device) (λ bytes. types_with metadata id bytes ≡ None)) }
+    ensures ok { IfOk result (λ types. IfSome (R.remaining source.old.device)
+        (λ bytes. types_with metadata id bytes ≡ Some types.types)) }
+    ensures refused { IfErr result (λ e. status_of e ≡ 1 →
+        IfSome (R.remaining source.old.device) (λ bytes. types_with metadata id bytes ≡ None)) }
     ensures device { IfErr result (λ e. status_of e ≡ 3 → e ≡ Refusal.RegistryDevice) }
     ensures told { IsErrOf result Refusal.RegistryDevice → source.new.failed ≡ true }
-    ensures quiet { IsErrOf result Refusal.RegistryDevice ⊎ (source.new.failed ≡ source.old.failed) }
+    ensures quiet { IsErrOf result Refusal.RegistryDevice
+        ⊎ (source.new.failed ≡ source.old.failed) }
 {
     let (checked, _) = read_types(alloc, metadata, source)?;
     with_position(checked, id)

@@ -1,8 +1,10 @@
 //! The value of a job, decoded from its file.
 
-ghost use Rattle.std.specs.Prelude.{◌≡◌, ◌⊎◌, ◌<◌, ◌≤◌, length, true, false, IfErr, IfSome, IsErrOf};
+ghost use Rattle.std.specs.Prelude.{◌≡◌, ◌⊎◌, ◌<◌, ◌≤◌, length, true, false, IfErr, IfSome};
+ghost use Rattle.std.specs.Prelude.{IsErrOf};
 ghost use Rattle.scale_tool.specs.Refused.{IsOfBytes, calls_refusal, stream_refusal};
-ghost use Rattle.scale_tool.specs.Values.{ReadsBytes, ReadsValue, TellsBytes, TellsFile, decoding, file_value, value_in};
+ghost use Rattle.scale_tool.specs.Values.{ReadsBytes, ReadsValue, TellsBytes, TellsFile, decoding};
+ghost use Rattle.scale_tool.specs.Values.{file_value, value_in};
 ghost use Rattle.decode_core.specs.declared.fault.OpenFault.{OpenFault as AnOpenFault};
 
 use crate::gathering::gather_all;
@@ -64,8 +66,10 @@ fn read_raw<'r, V: Read>(
 ) -> Result<Value<'r, Global>, ValueRefusal>
     requires known { id < length checked.now.types }
     requires depth { depth ≤ 1024 }
-    ensures value { IfSome (V.remaining source.old.device) (λ file. ReadsValue (file_value false id depth checked.now.types file) result) }
-    ensures tells { IfErr result (λ e. IfSome (V.remaining source.old.device) (λ file. TellsFile false (decoding id depth checked.now.types) file e)) }
+    ensures value { IfSome (V.remaining source.old.device)
+        (λ file. ReadsValue (file_value false id depth checked.now.types file) result) }
+    ensures tells { IfErr result (λ e. IfSome (V.remaining source.old.device)
+        (λ file. TellsFile false (decoding id depth checked.now.types) file e)) }
     ensures told { IsErrOf result ValueRefusal.Device → source.new.failed ≡ true }
     ensures quiet { IsErrOf result ValueRefusal.Device ⊎ (source.new.failed ≡ source.old.failed) }
 {
@@ -104,8 +108,10 @@ fn read_hex<'r, V: Read>(
 ) -> Result<Value<'r, Global>, ValueRefusal>
     requires known { id < length checked.now.types }
     requires depth { depth ≤ 1024 }
-    ensures value { IfSome (V.remaining source.old.device) (λ file. ReadsValue (file_value true id depth checked.now.types file) result) }
-    ensures tells { IfErr result (λ e. IfSome (V.remaining source.old.device) (λ file. TellsFile true (decoding id depth checked.now.types) file e)) }
+    ensures value { IfSome (V.remaining source.old.device)
+        (λ file. ReadsValue (file_value true id depth checked.now.types file) result) }
+    ensures tells { IfErr result (λ e. IfSome (V.remaining source.old.device)
+        (λ file. TellsFile true (decoding id depth checked.now.types) file e)) }
     ensures told { IsErrOf result ValueRefusal.Device → source.new.failed ≡ true }
     ensures quiet { IsErrOf result ValueRefusal.Device ⊎ (source.new.failed ≡ source.old.failed) }
 {
@@ -134,8 +140,10 @@ pub(crate) fn read_value<'r, V: Read>(
 ) -> Result<Value<'r, Global>, ValueRefusal>
     requires known { id < length checked.now.types }
     requires depth { depth ≤ 1024 }
-    ensures value { IfSome (V.remaining source.old.device) (λ file. ReadsValue (file_value hex id depth checked.now.types file) result) }
-    ensures tells { IfErr result (λ e. IfSome (V.remaining source.old.device) (λ file. TellsFile hex (decoding id depth checked.now.types) file e)) }
+    ensures value { IfSome (V.remaining source.old.device)
+        (λ file. ReadsValue (file_value hex id depth checked.now.types file) result) }
+    ensures tells { IfErr result (λ e. IfSome (V.remaining source.old.device)
+        (λ file. TellsFile hex (decoding id depth checked.now.types) file e)) }
     ensures told { IsErrOf result ValueRefusal.Device → source.new.failed ≡ true }
     ensures quiet { IsErrOf result ValueRefusal.Device ⊎ (source.new.failed ≡ source.old.failed) }
 {

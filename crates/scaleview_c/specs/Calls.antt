@@ -1,10 +1,12 @@
 -- What each call does to what is behind its handles, and what it tells.
-use Rattle.std.specs.Prelude.{◌≡◌, ℕ, ◌<◌, ◌≤◌, ◌⊎◌, List, [], ◌++◌, length, drop, Bool, Option, Some, None, MatchOption, Result, Ok, Err, string_bytes}
+use Rattle.std.specs.Prelude.{◌≡◌, ℕ, ◌<◌, ◌≤◌, ◌⊎◌, List, [], ◌++◌, length, drop, Bool, Option}
+use Rattle.std.specs.Prelude.{Some, None, MatchOption, Result, Ok, Err, string_bytes}
 use Rattle.grammar_core.specs.declared.limits.Limits.{Limits}
 use Rattle.value_core.specs.Shown.{Seen}
 use Rattle.json_core.specs.Json.{json_text}
 use Rattle.decode_core.specs.Outcome.{Job}
-use Rattle.decode_core.specs.Decoding.{AnswersPiece, Decoding, FinishesDecoder, Led, first_of_all, opening_fault}
+use Rattle.decode_core.specs.Decoding.{AnswersPiece, Decoding, FinishesDecoder, Led, first_of_all}
+use Rattle.decode_core.specs.Decoding.{opening_fault}
 use Rattle.decode_core.specs.Streaming.{job_of}
 use Rattle.decode_core.specs.declared.decoder.Progress.{Progress}
 use Rattle.decode_core.specs.declared.fault.DecodeFault.{DecodeFault}

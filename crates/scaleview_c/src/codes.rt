@@ -1,7 +1,8 @@
 //! Answers as numbers, for callers that have no enums. The numbers are those of `clients/c/scaleview.h`, and stay.
 
 ghost use Rattle.std.specs.Prelude.{◌≡◌};
-ghost use Rattle.scaleview_c.specs.Codes.{counted, plain, progress_answer, refused, registry_answer, registry_code, value_answer, value_code};
+ghost use Rattle.scaleview_c.specs.Codes.{counted, plain, progress_answer, refused};
+ghost use Rattle.scaleview_c.specs.Codes.{registry_answer, registry_code, value_answer, value_code};
 
 use decode_core::{DecodeReason, Progress};
 use registry_core::RegistryReason;

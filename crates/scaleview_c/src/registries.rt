@@ -2,7 +2,8 @@
 
 ghost use Rattle.std.specs.Prelude.{◌≡◌, None, Some};
 ghost use Rattle.scale_calls.specs.Opened.{RefusesRegistry, checked_of};
-ghost use Rattle.scaleview_c.specs.Calls.{Closes, OpensBox, OpensHandle, TellsTypes, WritesJson, WritesLine, WritesValue};
+ghost use Rattle.scaleview_c.specs.Calls.{Closes, OpensBox, OpensHandle, TellsTypes, WritesJson};
+ghost use Rattle.scaleview_c.specs.Calls.{WritesLine, WritesValue};
 
 use crate::codes::{Answer, LENT, MEMORY, NO_HANDLE, OK, TAKEN, UNKNOWN_TYPE};
 use crate::handle::{Handle, handle_of, held_by};
@@ -36,7 +37,8 @@ pub extern "C" fn scaleview_open(
     registry: &mut Handle,
     answer: &mut Answer,
 ) -> u32
-    ensures opened { OpensHandle registry.old.value metadata bytes.now registry.new.value answer.new }
+    ensures opened { OpensHandle registry.old.value metadata bytes.now
+        registry.new.value answer.new }
     ensures code { result ≡ answer.new.code }
 {
     if let Some(held) = held_by(alloc, mem::replace(registry, Handle::none())) {
@@ -141,7 +143,8 @@ pub extern "C" fn scaleview_decode(
     out: &mut [u8],
     answer: &mut Answer,
 ) -> u32
-    ensures value { WritesValue registry.value id (record { depth = depth; bytes = limit }) bytes.now out.old out.new answer.new }
+    ensures value { WritesValue registry.value id (record { depth = depth; bytes = limit })
+        bytes.now out.old out.new answer.new }
     ensures code { result ≡ answer.new.code }
 {
     let limits = Limits {

@@ -2,7 +2,8 @@
 
 ghost use Rattle.std.specs.Prelude.{◌≡◌, None, Some};
 ghost use Rattle.decode_core.specs.Decoding.{node_count, text_bytes};
-ghost use Rattle.scaleview_c.specs.Calls.{Feeds, Finishes, Frees, StartsBox, StartsHandle, Tells, taken_of};
+ghost use Rattle.scaleview_c.specs.Calls.{Feeds, Finishes, Frees, StartsBox, StartsHandle, Tells};
+ghost use Rattle.scaleview_c.specs.Calls.{taken_of};
 
 use crate::codes::{Answer, NO_HANDLE, OK, TAKEN};
 use crate::handle::{Handle, handle_of, held_by};
@@ -48,7 +49,10 @@ pub extern "C" fn scaleview_start(
     session: &mut Handle,
     answer: &mut Answer,
 ) -> u32
-    ensures started { StartsHandle session.old.value registry.value id (record { depth = depth; bytes = limit }) session.new.value answer.new }
+    ensures started { StartsHandle session.old.value registry.value id (record {
+      depth = depth;
+      bytes = limit;
+    }) session.new.value answer.new }
     ensures code { result ≡ answer.new.code }
 {
     if let Some(held) = held_by(alloc, mem::replace(session, Handle::none())) {

@@ -1,5 +1,7 @@
 -- A node more: the value that is being built stays one.
-use Rattle.std.proofs.Common.{Option, None, drop, ◌≡◌, ℕ, zero, suc, ◌+◌, ◌-◌, ◌≤◌, List, [], ◌∷◌, ◌++◌, Bool, true, false, length, take, drop, slice_range, Some, refl, sym, ap, subst, ◌∙◌, arith, length-append}
+use Rattle.std.proofs.Common.{Option, None, drop, ◌≡◌, ℕ, zero, suc, ◌+◌, ◌-◌, ◌≤◌, List, [], ◌∷◌}
+use Rattle.std.proofs.Common.{◌++◌, Bool, true, false, length, take, drop, slice_range, Some, refl}
+use Rattle.std.proofs.Common.{sym, ap, subst, ◌∙◌, arith, length-append}
 use Rattle.std.proofs.lemmas.List.{length-map, map-append, take-append-le}
 use Rattle.std.specs.Int.{w128, from_le_bytes}
 use Rattle.scale_core.specs.Number.{AreBytes}
@@ -12,10 +14,12 @@ use Rattle.grammar_core.specs.Preorder as head
 use Rattle.grammar_core.specs.Tree as tree
 use Rattle.grammar_core.specs.Preorder.{Head, head_of, tree_with}
 use Rattle.grammar_core.specs.Cells.{Cell, cells}
-use Rattle.value_core.specs.Shown.{head_shown, cell_shown, cells_shown, size_shown, signed_from, kept_bytes, all_kept, IsInPool, AreInPool}
+use Rattle.value_core.specs.Shown.{head_shown, cell_shown, cells_shown, size_shown, signed_from}
+use Rattle.value_core.specs.Shown.{kept_bytes, all_kept, IsInPool, AreInPool}
 use Rattle.value_core.specs.Spine.{OpenNode, open_part, open_cell, open_cells, IsOpen, Spine}
 use Rattle.value_core.specs.Walked.{OpenPart, Walked, first_in, advanced, opened, next_of}
-use Rattle.value_core.specs.Built.{Entry, entries_shown, head_text_bytes, entries_text_bytes, IsLeaf, IsNextLeaf, IsNextOpen}
+use Rattle.value_core.specs.Built.{Entry, entries_shown, head_text_bytes, entries_text_bytes}
+use Rattle.value_core.specs.Built.{IsLeaf, IsNextLeaf, IsNextOpen}
 use Rattle.value_core.specs.Building.{IsBuilding, IsOpenAt, IsOpenRun, pieces_shown}
 use Rattle.value_core.specs.Refusals.{missing_at}
 use Rattle.value_core.specs.declared.open_run.OpenRun.{OpenRun}

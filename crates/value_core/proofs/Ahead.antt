@@ -1,5 +1,6 @@
 -- What the step of the next type says of what comes next, and of the parts that it opens.
-use Rattle.std.proofs.Common.{◌≡◌, ℕ, ◌+◌, ◌≤◌, Bool, true, false, List, length, Option, Some, None, refl, sym, ap, subst, ◌∙◌, arith, inl, inr}
+use Rattle.std.proofs.Common.{◌≡◌, ℕ, ◌+◌, ◌≤◌, Bool, true, false, List, length, Option, Some, None}
+use Rattle.std.proofs.Common.{refl, sym, ap, subst, ◌∙◌, arith, inl, inr}
 use Rattle.std.specs.Prelude.{option_map, nat_lt, if◌then◌else◌}
 use Rattle.scale_core.specs.declared.compact.Target.{Target}
 use Rattle.std.proofs.lemmas.Option.{none-some, same_Some}
@@ -15,7 +16,8 @@ use Rattle.widths_core.specs.declared.step.Step.{Step}
 use Rattle.widths_core.specs.declared.step.Step.TheVariants as step
 use Rattle.widths_core.specs.Arms.{arm_at}
 use Rattle.widths_core.specs.Classes.{class_of, is_unit}
-use Rattle.widths_core.specs.Steps.{references_of, AreParts, IsArm, IsStep, IsStepAt, array_step, by_class, sequence_step}
+use Rattle.widths_core.specs.Steps.{references_of, AreParts, IsArm, IsStep, IsStepAt, array_step}
+use Rattle.widths_core.specs.Steps.{by_class, sequence_step}
 use Rattle.widths_core.specs.Layouts.{is_byte}
 use Rattle.registry_core.specs.declared.definition.Arm.{Arm}
 use Rattle.grammar_core.proofs.Steps.{some_next, none_next}
@@ -27,11 +29,13 @@ use Rattle.grammar_core.specs.declared.form.Next.TheVariants as next
 use Rattle.value_core.specs.Ahead.{IsStepAhead, IsStepOf, element_in, members_in}
 use Rattle.value_core.specs.declared.left.Left.{Left}
 use Rattle.value_core.specs.Frames.{left_of, members_of}
-use Rattle.value_core.specs.Opened.{OpensFields, OpensArm, OpensElements, IsListNext, shape_at, next_shape}
+use Rattle.value_core.specs.Opened.{OpensFields, OpensArm, OpensElements, IsListNext, shape_at}
+use Rattle.value_core.specs.Opened.{next_shape}
 use Rattle.value_core.specs.Walked.{Walked, next_type, next_of}
 use Rattle.value_core.proofs.Forms.{wanted}
 use Rattle.value_core.proofs.Members.{parts_left, parts_counted}
-use Rattle.value_core.proofs.Opened.{composite_opens, tuple_opens, array_opens, sequence_opens, arm_opens}
+use Rattle.value_core.proofs.Opened.{composite_opens, tuple_opens, array_opens, sequence_opens}
+use Rattle.value_core.proofs.Opened.{arm_opens}
 
 -- the step of a type says what comes next, whether the type is known or not
 pub next_by_step : (r : List TypeInfo) (t : ℕ) (s : Step) → IsStepOf r t s →

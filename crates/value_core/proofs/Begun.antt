@@ -1,6 +1,8 @@
 -- What a builder holds is a begun tree.
 use Rattle.widths_core.specs.Layouts.{layout}
-use Rattle.std.proofs.Common.{◌≡◌, ℕ, zero, suc, ◌+◌, ◌-◌, ◌≤◌, Bool, true, false, List, [], ◌∷◌, ◌++◌, length, map, Option, Some, None, refl, sym, ap, flat_map, subst, ◌∙◌, append_assoc, arith, inl, inr, length-append}
+use Rattle.std.proofs.Common.{◌≡◌, ℕ, zero, suc, ◌+◌, ◌-◌, ◌≤◌, Bool, true, false, List, [], ◌∷◌}
+use Rattle.std.proofs.Common.{◌++◌, length, map, Option, Some, None, refl, sym, ap, flat_map, subst}
+use Rattle.std.proofs.Common.{◌∙◌, append_assoc, arith, inl, inr, length-append}
 use Rattle.std.specs.Prelude.{nat_lt, if◌then◌else◌}
 use Rattle.std.proofs.lemmas.Bool.{lt-ltb, le-ltb, ltb-true, ltb-false}
 use Rattle.std.proofs.lemmas.List.{append-nil, map-append, length-map}
@@ -12,13 +14,15 @@ use Rattle.registry_core.specs.declared.type_info.TypeInfo.{TypeInfo}
 use Rattle.graph_core.specs.Types.{shape}
 use Rattle.widths_core.specs.Classes.{is_finite}
 use Rattle.widths_core.specs.Layouts as layout
-use Rattle.grammar_core.specs.Tree.{Branch, Tree, Trees, nodes, all_nodes, all_text_bytes, most_levels}
+use Rattle.grammar_core.specs.Tree.{Branch, Tree, Trees, nodes, all_nodes, all_text_bytes}
+use Rattle.grammar_core.specs.Tree.{most_levels}
 use Rattle.grammar_core.specs.Preorder as head
 use Rattle.grammar_core.specs.Tree as tree
 use Rattle.grammar_core.specs.Preorder.{Head, preorder, all_preorder}
 use Rattle.grammar_core.specs.Parts.{Part, each, times, first_of, left_after}
 use Rattle.grammar_core.specs.Cells.{Cell, cells, all_cells}
-use Rattle.grammar_core.specs.Begun.{Begun, nothing, whole, in_fields, in_arm, in_list, IsPart, Grows, IsBegunPreorder, begun_nodes, begun_text_bytes}
+use Rattle.grammar_core.specs.Begun.{Begun, nothing, whole, in_fields, in_arm, in_list, IsPart}
+use Rattle.grammar_core.specs.Begun.{Grows, IsBegunPreorder, begun_nodes, begun_text_bytes}
 use Rattle.grammar_core.specs.Spelled.{own_bytes, cell_bytes}
 use Rattle.grammar_core.specs.Forms.{next_at}
 use Rattle.grammar_core.specs.declared.form.StopReason.TheVariants as stop
@@ -28,13 +32,16 @@ use Rattle.value_core.specs.Shown.{cell_shown, cells_shown}
 use Rattle.value_core.specs.Spine.{OpenNode, open_cells, IsOpenAs, open_part, Spine}
 use Rattle.grammar_core.specs.Cells.{part_of}
 use Rattle.value_core.specs.Walked.{OpenPart, Walked}
-use Rattle.value_core.specs.Built.{Entry, Pieces, IsSettled, entries_shown, head_text_bytes, settled_in}
+use Rattle.value_core.specs.Built.{Entry, Pieces, IsSettled, entries_shown, head_text_bytes}
+use Rattle.value_core.specs.Built.{settled_in}
 use Rattle.value_core.specs.Building.{IsPaid, IsBuilding}
 use Rattle.value_core.specs.Refusals.{is_whole_in}
 use Rattle.value_core.specs.Begun.{IsBegun, next_in}
 use Rattle.value_core.specs.declared.node.Node.{Node}
-use Rattle.value_core.proofs.CellsOf.{bare, cells_length, all_cells_length, cells_preorder, all_cells_preorder}
-use Rattle.value_core.proofs.Finished.{heads_text, heads_text-append, text_of_preorder, text_of_all_preorder, text_of_entries}
+use Rattle.value_core.proofs.CellsOf.{bare, cells_length, all_cells_length, cells_preorder}
+use Rattle.value_core.proofs.CellsOf.{all_cells_preorder}
+use Rattle.value_core.proofs.Finished.{heads_text, heads_text-append, text_of_preorder}
+use Rattle.value_core.proofs.Finished.{text_of_all_preorder, text_of_entries}
 use Rattle.value_core.proofs.OwnBytes.{spine_bytes}
 use Rattle.value_core.proofs.Spines.{is_cons, spine_is_whole, spine_length}
 

@@ -1,5 +1,6 @@
 -- What stands below the first node of a value.
-use Rattle.std.proofs.Common.{◌≡◌, ℕ, ◌+◌, ◌≤◌, List, [], ◌∷◌, ◌++◌, length, take, drop, Some, refl, sym, ap, subst, ◌∙◌, arith, inl, inr}
+use Rattle.std.proofs.Common.{◌≡◌, ℕ, ◌+◌, ◌≤◌, List, [], ◌∷◌, ◌++◌, length, take, drop, Some, refl}
+use Rattle.std.proofs.Common.{sym, ap, subst, ◌∙◌, arith, inl, inr}
 use Rattle.std.specs.Prelude.{slice_get, slice_range, slice_index_or, IsUtf8}
 use Rattle.std.proofs.lemmas.Str.{IsUtf8-from_is_utf8}
 use Rattle.scale_core.specs.Number.{AreBytes}
@@ -17,7 +18,9 @@ use Rattle.grammar_core.specs.Grammar.{Val, Vals, Each}
 use Rattle.grammar_core.specs.Parts.{Part, each, times, left_after}
 use Rattle.grammar_core.specs.Cells.{Cell, cells, all_cells, child_type, arm_part, part_of}
 use Rattle.grammar_core.proofs.Texts.{texts_are_text}
-use Rattle.value_core.specs.Shown.{seen, seen_parts, children_by, cells_shown, tree_shown, type_shown, AreInPool, IsWhole, AreValues, IsForest, all_seen, size_shown}
+use Rattle.value_core.specs.Shown.{seen, seen_parts, children_by, cells_shown, tree_shown}
+use Rattle.value_core.specs.Shown.{type_shown, AreInPool, IsWhole, AreValues, IsForest, all_seen}
+use Rattle.value_core.specs.Shown.{size_shown}
 use Rattle.value_core.specs.declared.node.Node.{Node}
 use Rattle.value_core.specs.declared.node.Content.TheVariants as content
 use Rattle.value_core.proofs.CellsOf.{cells_length, some_node, seen_is, split, all_seen_is}

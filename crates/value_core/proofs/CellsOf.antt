@@ -1,15 +1,19 @@
 -- The nodes of a value, with their types and sizes.
-use Rattle.std.proofs.Common.{◌≡◌, ℕ, zero, suc, ◌≤◌, List, [], ◌∷◌, ◌++◌, length, map, take, drop, refl, sym, ap, ◌∙◌, arith, length-append}
+use Rattle.std.proofs.Common.{◌≡◌, ℕ, zero, suc, ◌≤◌, List, [], ◌∷◌, ◌++◌, length, map, take, drop}
+use Rattle.std.proofs.Common.{refl, sym, ap, ◌∙◌, arith, length-append}
 use Rattle.std.proofs.lemmas.List.{map-append, length-map, append-nil}
 use Rattle.std.proofs.lemmas.Simd.{map-map}
 use Rattle.std.proofs.Math.Seq.{take-append_seam, drop-append_seam}
 use Rattle.registry_core.specs.declared.type_info.TypeInfo.{TypeInfo}
 use Rattle.widths_core.specs.Layouts.{layout}
-use Rattle.grammar_core.specs.Tree.{Tree, leaf, branch, fields, arm, list, Trees, none, and, how_many, nodes, all_nodes}
+use Rattle.grammar_core.specs.Tree.{Tree, leaf, branch, fields, arm, list, Trees, none, and}
+use Rattle.grammar_core.specs.Tree.{how_many, nodes, all_nodes}
 use Rattle.grammar_core.specs.Preorder.{Head, preorder, all_preorder, tree_of, tree_of-preorder}
 use Rattle.grammar_core.specs.Parts.{Part, left_after}
-use Rattle.grammar_core.specs.Cells.{Cell, cells, all_cells, child_type, fields_part, arm_part, list_part}
-use Rattle.value_core.specs.Shown.{seen_parts, cell_shown, cells_shown, tree_shown, type_shown, size_shown, AreInPool, IsWhole, forest, all_seen}
+use Rattle.grammar_core.specs.Cells.{Cell, cells, all_cells, child_type, fields_part, arm_part}
+use Rattle.grammar_core.specs.Cells.{list_part}
+use Rattle.value_core.specs.Shown.{seen_parts, cell_shown, cells_shown, tree_shown, type_shown}
+use Rattle.value_core.specs.Shown.{size_shown, AreInPool, IsWhole, forest, all_seen}
 use Rattle.value_core.specs.declared.node.Node.{Node}
 
 mutual

@@ -1,14 +1,18 @@
 -- The innermost open node gets its size.
-use Rattle.std.proofs.Common.{Option, ◌≡◌, ℕ, zero, suc, ◌+◌, ◌-◌, ◌<◌, ◌≤◌, List, [], ◌∷◌, ◌++◌, length, Some, None, refl, sym, ap, subst, ◌∙◌, arith, inl, inr, length-append}
+use Rattle.std.proofs.Common.{Option, ◌≡◌, ℕ, zero, suc, ◌+◌, ◌-◌, ◌<◌, ◌≤◌, List, [], ◌∷◌, ◌++◌}
+use Rattle.std.proofs.Common.{length, Some, None, refl, sym, ap, subst, ◌∙◌, arith, inl, inr}
+use Rattle.std.proofs.Common.{length-append}
 use Rattle.std.specs.Prelude.{slice_get, slice_set}
 use Rattle.std.proofs.lemmas.List.{length-map}
 use Rattle.registry_core.specs.declared.type_info.TypeInfo.{TypeInfo}
 use Rattle.grammar_core.specs.Parts.{Part, times, first_of}
 use Rattle.grammar_core.specs.Cells.{Cell}
-use Rattle.value_core.specs.Shown.{cell_shown, cells_shown, head_shown, size_shown, closed_as, kept_bytes, all_kept, IsInPool, AreInPool}
+use Rattle.value_core.specs.Shown.{cell_shown, cells_shown, head_shown, size_shown, closed_as}
+use Rattle.value_core.specs.Shown.{kept_bytes, all_kept, IsInPool, AreInPool}
 use Rattle.value_core.specs.Spine.{OpenNode, open_part, Spine}
 use Rattle.value_core.specs.Walked.{OpenPart, Walked, Closes, advanced, advanced_in, opened}
-use Rattle.value_core.specs.Built.{IsSettled, closings, entries_shown, entries_text_bytes, settled_in, settled_walk}
+use Rattle.value_core.specs.Built.{IsSettled, closings, entries_shown, entries_text_bytes}
+use Rattle.value_core.specs.Built.{settled_in, settled_walk}
 use Rattle.value_core.specs.Building.{IsBuilding, IsPaid, AreBuilt, Settles, pieces_shown}
 use Rattle.value_core.specs.declared.open_run.OpenRun.{OpenRun}
 use Rattle.value_core.specs.declared.node.Content.{Content}

@@ -1,5 +1,6 @@
 -- A value of which nothing is missing.
-use Rattle.std.proofs.Common.{◌≡◌, ℕ, ◌+◌, ◌≤◌, List, [], ◌∷◌, ◌++◌, length, map, true, Some, None, Option, refl, sym, ap, subst, ◌∙◌, arith, inl}
+use Rattle.std.proofs.Common.{◌≡◌, ℕ, ◌+◌, ◌≤◌, List, [], ◌∷◌, ◌++◌, length, map, true, Some, None}
+use Rattle.std.proofs.Common.{Option, refl, sym, ap, subst, ◌∙◌, arith, inl}
 use Rattle.std.proofs.lemmas.Simd.{map-map}
 use Rattle.std.specs.Prelude.{is_none}
 use Rattle.registry_core.specs.declared.type_info.TypeInfo.{TypeInfo}
@@ -8,10 +9,12 @@ use Rattle.grammar_core.specs.Tree.{Tree, Trees, none, and, text_bytes, all_text
 use Rattle.grammar_core.specs.Preorder.{Head, preorder, all_preorder}
 use Rattle.grammar_core.specs.Parts.{times, first_of}
 use Rattle.grammar_core.specs.Cells.{Cell, cells}
-use Rattle.value_core.specs.Shown.{seen, cells_shown, tree_shown, type_shown, head_shown, all_kept, IsWhole}
+use Rattle.value_core.specs.Shown.{seen, cells_shown, tree_shown, type_shown, head_shown, all_kept}
+use Rattle.value_core.specs.Shown.{IsWhole}
 use Rattle.value_core.specs.Spine.{OpenNode, Spine}
 use Rattle.value_core.specs.Walked.{OpenPart, Walked}
-use Rattle.value_core.specs.Built.{Entry, Pieces, entries_shown, head_text_bytes, entries_text_bytes, finished}
+use Rattle.value_core.specs.Built.{Entry, Pieces, entries_shown, head_text_bytes}
+use Rattle.value_core.specs.Built.{entries_text_bytes, finished}
 use Rattle.value_core.specs.Building.{IsBuilding}
 use Rattle.value_core.specs.Refusals.{is_whole_in}
 use Rattle.value_core.specs.declared.node.Node.{Node}

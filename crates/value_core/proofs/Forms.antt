@@ -1,5 +1,6 @@
 -- What the next form says of the layout of the next type, and what a reason to stop says of it.
-use Rattle.std.proofs.Common.{◌≡◌, ℕ, ◌+◌, ◌<◌, ◌≤◌, ◌⊎◌, inl, inr, Bool, true, false, List, length, Option, Some, None, refl, subst, arith}
+use Rattle.std.proofs.Common.{◌≡◌, ℕ, ◌+◌, ◌<◌, ◌≤◌, ◌⊎◌, inl, inr, Bool, true, false, List, length}
+use Rattle.std.proofs.Common.{Option, Some, None, refl, subst, arith}
 use Rattle.std.specs.Prelude.{nat_lt, if◌then◌else◌}
 use Rattle.scale_core.specs.declared.compact.Target.{Target}
 use Rattle.registry_core.specs.declared.definition.Arm.{Arm}
@@ -10,7 +11,8 @@ use Rattle.registry_core.specs.declared.type_info.TypeInfo.{TypeInfo}
 use Rattle.graph_core.specs.Types.{shape, ids, field_types}
 use Rattle.widths_core.specs.Targets.{target_of}
 use Rattle.widths_core.specs.Classes.{is_finite, is_empty}
-use Rattle.widths_core.specs.Layouts.{Layout, layout, layout_of_shape, is_byte, sized_layout, primitive_layout, sequence_layout, compact_layout}
+use Rattle.widths_core.specs.Layouts.{Layout, layout, layout_of_shape, is_byte, sized_layout}
+use Rattle.widths_core.specs.Layouts.{primitive_layout, sequence_layout, compact_layout}
 use Rattle.widths_core.specs.Layouts as layout
 use Rattle.widths_core.specs.Layouts.{array_layout as array_layout_of}
 use Rattle.grammar_core.specs.declared.form.Form.{Form}
@@ -18,7 +20,8 @@ use Rattle.grammar_core.specs.declared.form.Form.TheVariants as form
 use Rattle.grammar_core.specs.declared.form.StopReason.{StopReason}
 use Rattle.grammar_core.specs.declared.form.StopReason.TheVariants as stop
 use Rattle.grammar_core.specs.declared.form.Next.TheVariants as next
-use Rattle.grammar_core.specs.Forms.{form_of, form_of_shape, array_form, sequence_form, compact_form, next_at}
+use Rattle.grammar_core.specs.Forms.{form_of, form_of_shape, array_form, sequence_form}
+use Rattle.grammar_core.specs.Forms.{compact_form, next_at}
 use Rattle.grammar_core.specs.Runs.{run_form}
 use Rattle.grammar_core.proofs.Classes.{shapeless}
 use Rattle.widths_core.specs.declared.run_kind.RunKind.{RunKind}

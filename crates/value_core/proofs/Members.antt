@@ -1,12 +1,15 @@
 -- The references that are left of an open node, one after the other.
-use Rattle.std.proofs.Common.{◌≡◌, ℕ, zero, suc, ◌+◌, ◌-◌, ◌<◌, ◌≤◌, List, [], ◌∷◌, ◌++◌, length, take, drop, Option, refl, ap, ◌∙◌, arith, drop-cons, inl, inr}
+use Rattle.std.proofs.Common.{◌≡◌, ℕ, zero, suc, ◌+◌, ◌-◌, ◌<◌, ◌≤◌, List, [], ◌∷◌, ◌++◌, length}
+use Rattle.std.proofs.Common.{take, drop, Option, refl, ap, ◌∙◌, arith, drop-cons, inl, inr}
 use Rattle.std.specs.Prelude.{map, reverse}
-use Rattle.std.proofs.lemmas.List.{length-drop, length-map, length-reverse, length-take-le, reverse-append}
+use Rattle.std.proofs.lemmas.List.{length-drop, length-map, length-reverse, length-take-le}
+use Rattle.std.proofs.lemmas.List.{reverse-append}
 use Rattle.std.proofs.lemmas.Option.{slice_get-get_or, slice_get_cases, slice_get_past}
 use Rattle.registry_core.specs.declared.type_info.TypeInfo.{TypeInfo}
 use Rattle.grammar_core.specs.Parts.{each, left_after}
 use Rattle.widths_core.specs.Steps.{AreParts}
-use Rattle.value_core.specs.Frames.{followed_by, frames_of, left_by, members_before, members_of, open_part, parts_by}
+use Rattle.value_core.specs.Frames.{followed_by, frames_of, left_by, members_before, members_of}
+use Rattle.value_core.specs.Frames.{open_part, parts_by}
 use Rattle.value_core.specs.declared.left.Frame.{Frame}
 use Rattle.value_core.specs.declared.left.PartTypes.{PartTypes}
 use Rattle.value_core.specs.declared.left.PartTypes.TheVariants as types

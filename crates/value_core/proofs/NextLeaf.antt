@@ -1,9 +1,11 @@
 -- The values that a node without children may be, by the form that is next.
-use Rattle.std.proofs.Common.{◌≡◌, ◌-◌, ℕ, suc, ◌*◌, ℤ, pos, negsuc, ◌/◌, ◌<◌, ◌≤◌, ◌^◌, List, [], ◌∷◌, ◌++◌, Bool, true, false, length, refl, ap, ◌∙◌, arith}
+use Rattle.std.proofs.Common.{◌≡◌, ◌-◌, ℕ, suc, ◌*◌, ℤ, pos, negsuc, ◌/◌, ◌<◌, ◌≤◌, ◌^◌, List, []}
+use Rattle.std.proofs.Common.{◌∷◌, ◌++◌, Bool, true, false, length, refl, ap, ◌∙◌, arith}
 use Rattle.std.specs.Prelude.{not, nat_lt, ◌||◌, ◌&&◌, if◌then◌else◌}
 use Rattle.std.specs.Str.{is_utf8}
 use Rattle.std.proofs.lemmas.Bool.{lt-ltb, le-ltb, ltb-false}
-use Rattle.scale_core.specs.Number.{AreBytes, number, signed_number, le_bytes, signed_bytes, bool_byte, is_scalar}
+use Rattle.scale_core.specs.Number.{AreBytes, number, signed_number, le_bytes, signed_bytes}
+use Rattle.scale_core.specs.Number.{bool_byte, is_scalar}
 use Rattle.scale_core.specs.Compact.{IsCompact, compact, target_bytes}
 use Rattle.scale_core.specs.declared.compact.Target.{Target}
 use Rattle.scale_core.specs.declared.compact.Target.TheVariants as target
@@ -30,7 +32,8 @@ use Rattle.registry_core.specs.declared.type_info.TypeInfo.{TypeInfo}
 use Rattle.grammar_core.specs.Runs.{IsRun, IsRunLength, run_form, run_leaf}
 use Rattle.value_core.specs.Refusals.{most_unsigned, most_signed, is_within}
 use Rattle.value_core.specs.Walked.{Walked, next_of}
-use Rattle.value_core.proofs.Forms.{wanted, run_layout, empty_layout, primitive_has_layout, compact_has_layout, count_layout}
+use Rattle.value_core.proofs.Forms.{wanted, run_layout, empty_layout, primitive_has_layout}
+use Rattle.value_core.proofs.Forms.{compact_has_layout, count_layout}
 
 pub empty_next : (w : Walked) → next_of w ≡ next.Wants form.Empty →
     IsNextLeaf w (head.leaf tree.unit)

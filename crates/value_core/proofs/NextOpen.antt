@@ -1,5 +1,6 @@
 -- The nodes whose children come next, by the form that is next.
-use Rattle.std.proofs.Common.{◌≡◌, ℕ, ◌+◌, ◌<◌, ◌≤◌, ◌^◌, ◌⊎◌, true, [], ◌∷◌, length, Option, Some, None, refl, sym, ap, ◌∙◌, arith, inl, inr}
+use Rattle.std.proofs.Common.{◌≡◌, ℕ, ◌+◌, ◌<◌, ◌≤◌, ◌^◌, ◌⊎◌, true, [], ◌∷◌, length, Option, Some}
+use Rattle.std.proofs.Common.{None, refl, sym, ap, ◌∙◌, arith, inl, inr}
 use Rattle.std.specs.Prelude.{option_map, is_some}
 use Rattle.std.proofs.lemmas.List.{append-nil}
 use Rattle.std.proofs.lemmas.Option.{same_Some}
@@ -19,7 +20,8 @@ use Rattle.grammar_core.specs.declared.form.Form.{Form}
 use Rattle.grammar_core.specs.declared.form.Form.TheVariants as form
 use Rattle.grammar_core.specs.declared.form.Next.TheVariants as next
 use Rattle.grammar_core.specs.Cells.{fields_part, list_part}
-use Rattle.value_core.specs.Built.{Built, IsNextOpen, arm_in, next_layout, type_or_0, with_arm, with_fields, with_list, with_open}
+use Rattle.value_core.specs.Built.{Built, IsNextOpen, arm_in, next_layout, type_or_0, with_arm}
+use Rattle.value_core.specs.Built.{with_fields, with_list, with_open}
 use Rattle.value_core.specs.Opened.{OpensFields, OpensArm, OpensElements, IsListNext}
 use Rattle.value_core.specs.Walked.{Walked, next_of, next_type}
 use Rattle.value_core.proofs.Forms.{wanted}

@@ -1,5 +1,6 @@
 -- What the next type is made of says its layout.
-use Rattle.std.proofs.Common.{◌≡◌, ℕ, Bool, true, false, List, Option, Some, None, refl, sym, ap, ◌∙◌, inl, inr}
+use Rattle.std.proofs.Common.{◌≡◌, ℕ, Bool, true, false, List, Option, Some, None, refl, sym, ap}
+use Rattle.std.proofs.Common.{◌∙◌, inl, inr}
 use Rattle.std.specs.Prelude.{if◌then◌else◌, option_map}
 use Rattle.scale_core.specs.declared.compact.Target.{Target}
 use Rattle.registry_core.specs.declared.definition.Arm.{Arm}
@@ -12,12 +13,14 @@ use Rattle.graph_core.specs.Types.{shape, ids, field_types}
 use Rattle.widths_core.specs.Arms.{arm_of, arm_at, arm_of_shape}
 use Rattle.widths_core.specs.Classes.{is_empty}
 use Rattle.widths_core.specs.Targets.{target_of}
-use Rattle.widths_core.specs.Layouts.{Layout, layout, array_layout, is_byte, layout_of_shape, sized_layout, sequence_layout}
+use Rattle.widths_core.specs.Layouts.{Layout, layout, array_layout, is_byte, layout_of_shape}
+use Rattle.widths_core.specs.Layouts.{sized_layout, sequence_layout}
 use Rattle.widths_core.specs.Layouts as layout
 use Rattle.grammar_core.specs.declared.form.Form.{Form}
 use Rattle.grammar_core.specs.declared.form.Form.TheVariants as form
 use Rattle.grammar_core.specs.declared.form.Next.TheVariants as next
-use Rattle.grammar_core.specs.Forms.{form_of, form_of_shape, array_form, sequence_form, compact_form}
+use Rattle.grammar_core.specs.Forms.{form_of, form_of_shape, array_form, sequence_form}
+use Rattle.grammar_core.specs.Forms.{compact_form}
 use Rattle.grammar_core.specs.Parts.{each, times}
 use Rattle.value_core.specs.Walked.{Walked, next_type, next_of}
 use Rattle.value_core.specs.Opened.{shape_at, next_shape, OpensFields, OpensArm, OpensElements}

@@ -1,7 +1,8 @@
 -- The nodes of a value that is being built spell its own bytes.
 use Rattle.grammar_core.specs.Preorder as head
 use Rattle.grammar_core.specs.Tree as tree
-use Rattle.std.proofs.Common.{◌≡◌, ℕ, zero, suc, ◌≤◌, flat_map, List, [], ◌∷◌, ◌++◌, refl, sym, ap, subst, ◌∙◌, arith, inl, inr}
+use Rattle.std.proofs.Common.{◌≡◌, ℕ, zero, suc, ◌≤◌, flat_map, List, [], ◌∷◌, ◌++◌, refl, sym, ap}
+use Rattle.std.proofs.Common.{subst, ◌∙◌, arith, inl, inr}
 use Rattle.std.proofs.lemmas.Grind.{flat_map-append}
 use Rattle.scale_core.specs.Number.{AreBytes}
 use Rattle.scale_core.proofs.Numbers.{front_bytes, rest_bytes}
@@ -13,8 +14,10 @@ use Rattle.grammar_core.specs.Grammar.{Vals}
 use Rattle.grammar_core.specs.Parts.{Part, each, times}
 use Rattle.grammar_core.specs.Cells.{Cell, cells, all_cells, fields_part, arm_part, list_part}
 use Rattle.grammar_core.specs.Spelled.{cell_bytes, own_bytes, length_bytes}
-use Rattle.grammar_core.proofs.Spelled.{encoded_is_value, spells_vals, spells_each, arm_byte, array_length, sequence_length}
-use Rattle.value_core.specs.Spine.{OpenNode, open_cells, IsOpenAs, Spine, IsFieldsOpen, IsArmOpen, IsListOpen}
+use Rattle.grammar_core.proofs.Spelled.{encoded_is_value, spells_vals, spells_each, arm_byte}
+use Rattle.grammar_core.proofs.Spelled.{array_length, sequence_length}
+use Rattle.value_core.specs.Spine.{OpenNode, open_cells, IsOpenAs, Spine, IsFieldsOpen, IsArmOpen}
+use Rattle.value_core.specs.Spine.{IsListOpen}
 use Rattle.grammar_core.specs.Cells.{part_of}
 use Rattle.value_core.specs.Walked.{OpenPart}
 use Rattle.value_core.proofs.Below.{arm_part_is}

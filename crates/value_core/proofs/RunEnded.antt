@@ -1,5 +1,6 @@
 -- An open run that lacks nothing becomes the next node.
-use Rattle.std.proofs.Common.{◌≡◌, ◌+◌, ◌≤◌, ◌++◌, ◌∷◌, ◌∙◌, Bool, true, false, Option, Some, None, Ok, List, [], ℕ, length, drop, ap, sym, subst, refl, arith}
+use Rattle.std.proofs.Common.{◌≡◌, ◌+◌, ◌≤◌, ◌++◌, ◌∷◌, ◌∙◌, Bool, true, false, Option, Some, None}
+use Rattle.std.proofs.Common.{Ok, List, [], ℕ, length, drop, ap, sym, subst, refl, arith}
 use Rattle.std.specs.Prelude.{slice_range}
 use Rattle.std.proofs.lemmas.List.{append-nil, length-drop}
 use Rattle.std.specs.Str.{is_utf8}
@@ -10,7 +11,8 @@ use Rattle.widths_core.specs.declared.run_kind.RunKind.TheVariants as kind
 use Rattle.grammar_core.specs.Preorder as head
 use Rattle.grammar_core.specs.Preorder.{Head}
 use Rattle.grammar_core.specs.Runs.{IsRun, run_leaf}
-use Rattle.value_core.specs.Building.{IsBuilding, IsOpenAt, IsOpenRun, pieces_shown, run_content, run_content_of}
+use Rattle.value_core.specs.Building.{IsBuilding, IsOpenAt, IsOpenRun, pieces_shown, run_content}
+use Rattle.value_core.specs.Building.{run_content_of}
 use Rattle.value_core.specs.Built.{FitsKind, head_text_bytes}
 use Rattle.value_core.specs.Refusals.{missing_at, bad_bytes, bad_text}
 use Rattle.value_core.specs.Walked.{Walked, advanced, next_type, next_of}

@@ -1,5 +1,7 @@
 -- The bytes of a value go out in parts.
-use Rattle.std.proofs.Common.{◌≡◌, ℕ, zero, suc, ◌+◌, ◌*◌, ◌^◌, ◌<◌, ◌≤◌, flat_map, List, [], ◌∷◌, ◌++◌, length, take, drop, get_or, Option, Some, None, refl, append_assoc, sym, subst, ◌∙◌, ap, arith, length-append}
+use Rattle.std.proofs.Common.{◌≡◌, ℕ, zero, suc, ◌+◌, ◌*◌, ◌^◌, ◌<◌, ◌≤◌, flat_map, List, [], ◌∷◌}
+use Rattle.std.proofs.Common.{◌++◌, length, take, drop, get_or, Option, Some, None, refl}
+use Rattle.std.proofs.Common.{append_assoc, sym, subst, ◌∙◌, ap, arith, length-append}
 use Rattle.std.proofs.Math.Seq.{take-add}
 use Rattle.std.proofs.lemmas.List.Folds.{flat_map-map}
 use Rattle.scale_core.specs.Number.{AreBytes}

@@ -1,19 +1,22 @@
 -- A value that is being built stays one at each step.
 use Rattle.grammar_core.specs.Preorder as head
 use Rattle.grammar_core.specs.Tree as tree
-use Rattle.std.proofs.Common.{◌≡◌, ℕ, zero, suc, ◌+◌, ◌<◌, ◌≤◌, List, [], ◌∷◌, ◌++◌, length, Some, None, refl, sym, ap, subst, ◌∙◌, append_assoc, arith, inl, inr}
+use Rattle.std.proofs.Common.{◌≡◌, ℕ, zero, suc, ◌+◌, ◌<◌, ◌≤◌, List, [], ◌∷◌, ◌++◌, length, Some}
+use Rattle.std.proofs.Common.{None, refl, sym, ap, subst, ◌∙◌, append_assoc, arith, inl, inr}
 use Rattle.std.proofs.lemmas.List.{append-nil}
 use Rattle.std.proofs.lemmas.Option.{same_Some}
 use Rattle.registry_core.specs.declared.type_info.TypeInfo.{TypeInfo}
 use Rattle.widths_core.specs.Layouts.{layout}
 use Rattle.widths_core.specs.Layouts as layout
-use Rattle.grammar_core.specs.Tree.{Branch, Tree, Trees, none, and, how_many, levels, most_levels, all_nodes}
+use Rattle.grammar_core.specs.Tree.{Branch, Tree, Trees, none, and, how_many, levels, most_levels}
+use Rattle.grammar_core.specs.Tree.{all_nodes}
 use Rattle.grammar_core.specs.Grammar.{Val, Vals, Each}
 use Rattle.grammar_core.specs.Parts.{Part, each, times, first_of, left_after}
 use Rattle.grammar_core.specs.Cells.{Cell, cells, all_cells, fields_part, arm_part, list_part}
 use Rattle.grammar_core.proofs.Bounds.{same_length}
 use Rattle.value_core.specs.Walked.{OpenPart}
-use Rattle.value_core.specs.Spine.{OpenNode, open_cell, open_cells, IsFieldsOpen, IsArmOpen, IsListOpen, IsOpenAs, IsOpen, open_part, Spine}
+use Rattle.value_core.specs.Spine.{OpenNode, open_cell, open_cells, IsFieldsOpen, IsArmOpen}
+use Rattle.value_core.specs.Spine.{IsListOpen, IsOpenAs, IsOpen, open_part, Spine}
 use Rattle.grammar_core.specs.Cells.{part_of}
 use Rattle.value_core.proofs.Below.{arm_part_is}
 use Rattle.value_core.proofs.CellsOf.{all_cells_length}

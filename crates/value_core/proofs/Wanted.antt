@@ -8,7 +8,8 @@ use Rattle.grammar_core.specs.declared.form.Form.{Form}
 use Rattle.grammar_core.specs.declared.form.Next.{Next}
 use Rattle.grammar_core.specs.declared.form.Next.TheVariants as next
 use Rattle.value_core.specs.Built.{Built, Pieces}
-use Rattle.value_core.specs.Refusals.{IsRunWhole, missing_bytes, missing_of, missing_text, of_bytes, of_text, while_closed, wanted_from, wanted_of}
+use Rattle.value_core.specs.Refusals.{IsRunWhole, missing_bytes, missing_of, missing_text, of_bytes}
+use Rattle.value_core.specs.Refusals.{of_text, while_closed, wanted_from, wanted_of}
 use Rattle.value_core.specs.Walked.{next_of}
 
 closed_by : (run : Option Pieces) (f g : Form) → while_closed run f ≡ Ok g → (f ≡ g)

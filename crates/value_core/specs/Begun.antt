@@ -1,10 +1,12 @@
 -- What a builder holds: a begun tree, and what its walk says of it.
-use Rattle.std.specs.Prelude.{◌≡◌, ℕ, ◌+◌, ◌-◌, nat_lt, if◌then◌else◌, List, length, map, flat_map, Option, Some, None, option_map}
+use Rattle.std.specs.Prelude.{◌≡◌, ℕ, ◌+◌, ◌-◌, nat_lt, if◌then◌else◌, List, length, map, flat_map}
+use Rattle.std.specs.Prelude.{Option, Some, None, option_map}
 use Rattle.scale_core.specs.Number.{AreBytes}
 use Rattle.registry_core.specs.declared.type_info.TypeInfo.{TypeInfo}
 use Rattle.graph_core.specs.Types.{shape}
 use Rattle.grammar_core.specs.Spelled.{own_bytes}
-use Rattle.grammar_core.specs.Begun.{Begun, Grows, IsBegunPreorder, begun_nodes, begun_text_bytes, begun_depth, is_whole_tree}
+use Rattle.grammar_core.specs.Begun.{Begun, Grows, IsBegunPreorder, begun_nodes, begun_text_bytes}
+use Rattle.grammar_core.specs.Begun.{begun_depth, is_whole_tree}
 use Rattle.grammar_core.specs.Forms.{next_at}
 use Rattle.grammar_core.specs.declared.form.StopReason.TheVariants as stop
 use Rattle.grammar_core.specs.declared.form.Next.{Next}

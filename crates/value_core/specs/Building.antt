@@ -1,7 +1,9 @@
 -- What a builder keeps to: its nodes are those of a value that is being built.
-use Rattle.std.specs.Prelude.{◌≡◌, ℕ, ◌+◌, ◌≤◌, ◌<◌, ◌^◌, List, length, drop, Option, Some, None, option_map}
+use Rattle.std.specs.Prelude.{◌≡◌, ℕ, ◌+◌, ◌≤◌, ◌<◌, ◌^◌, List, length, drop, Option, Some, None}
+use Rattle.std.specs.Prelude.{option_map}
 use Rattle.scale_core.specs.Number.{AreBytes}
-use Rattle.value_core.specs.Built.{FitsKind, Pieces, entries_shown, entries_text_bytes, settled_walk}
+use Rattle.value_core.specs.Built.{FitsKind, Pieces, entries_shown, entries_text_bytes}
+use Rattle.value_core.specs.Built.{settled_walk}
 use Rattle.value_core.specs.Shown.{cells_shown, AreInPool, all_kept}
 use Rattle.value_core.specs.Spine.{OpenNode, Spine}
 use Rattle.value_core.specs.Walked.{Walked, next_of}

@@ -1,5 +1,6 @@
 -- The open parts of a walk, as its fields keep them.
-use Rattle.std.specs.Prelude.{ℕ, zero, suc, ◌+◌, ◌-◌, List, [], ◌∷◌, map, reverse, Bool, true, false, Option, Some, None, slice_get}
+use Rattle.std.specs.Prelude.{ℕ, zero, suc, ◌+◌, ◌-◌, List, [], ◌∷◌, map, reverse, Bool, true}
+use Rattle.std.specs.Prelude.{false, Option, Some, None, slice_get}
 use Rattle.registry_core.specs.declared.type_info.TypeInfo.{TypeInfo}
 use Rattle.widths_core.specs.Steps.{references_of}
 use Rattle.grammar_core.specs.Parts.{Part, each, times}

@@ -1,5 +1,7 @@
 -- What contracts see of a value: its registry, its type and its tree.
-use Rattle.std.specs.Prelude.{◌≡◌, ℕ, zero, suc, ℤ, pos, neg_ℤ, ◌+◌, ◌-◌, ◌*◌, ◌^◌, ◌≤◌, nat_lt, List, [], ◌∷◌, length, map, take, drop, slice_range, if◌then◌else◌, Option, Some, None}
+use Rattle.std.specs.Prelude.{◌≡◌, ℕ, zero, suc, ℤ, pos, neg_ℤ, ◌+◌, ◌-◌, ◌*◌, ◌^◌, ◌≤◌, nat_lt}
+use Rattle.std.specs.Prelude.{List, [], ◌∷◌, length, map, take, drop, slice_range, if◌then◌else◌}
+use Rattle.std.specs.Prelude.{Option, Some, None}
 use Rattle.std.specs.List.{AllByRecursion}
 use Rattle.std.specs.Int.{w128, from_le_bytes}
 use Rattle.scale_core.specs.Number.{AreBytes}

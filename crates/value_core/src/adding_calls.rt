@@ -4,7 +4,10 @@ ghost use Rattle.std.specs.Prelude.{◌≡◌};
 ghost use Rattle.grammar_core.specs.Preorder as head;
 ghost use Rattle.grammar_core.specs.Tree as tree;
 ghost use Rattle.value_core.specs.Built.{with_leaf, with_fields, with_arm, with_list};
-ghost use Rattle.value_core.specs.Refusals.{Adds, judged, judged_arm, most_unsigned, most_signed, is_within, suits_char, suits_signed, suits_empty, suits_bool, suits_unsigned, suits_wide, suits_compact, suits_count, suits_fields, suits_list};
+ghost use Rattle.value_core.specs.Refusals.{Adds, judged, judged_arm, most_unsigned, most_signed};
+ghost use Rattle.value_core.specs.Refusals.{is_within, suits_char, suits_signed, suits_empty};
+ghost use Rattle.value_core.specs.Refusals.{suits_bool, suits_unsigned, suits_wide, suits_compact};
+ghost use Rattle.value_core.specs.Refusals.{suits_count, suits_fields, suits_list};
 
 use crate::build_fault::BuildFault;
 use crate::builder::Builder;
@@ -48,7 +51,8 @@ impl<'r, A: Allocator> Builder<'r, A> {
     /// nothing is, and `OutOfMemory`.
     #[tactic(auto, using(crate::proofs::Wanted::wanted_next, crate::proofs::Wanted::wanted_closed, crate::proofs::NextLeaf::empty_next))]
     pub fn empty(&mut self) -> Result<(), BuildFault>
-        ensures { Adds (judged suits_empty self.old) (with_leaf self.old (head.leaf tree.unit)) self.old self.new result }
+        ensures { Adds (judged suits_empty self.old) (with_leaf self.old (head.leaf tree.unit))
+            self.old self.new result }
     {
         match self.wanted()? {
             Form::Empty => Ok(self.add_leaf(Leaf::Empty)?),
@@ -61,7 +65,8 @@ impl<'r, A: Allocator> Builder<'r, A> {
     /// Refuses as `empty` does.
     #[tactic(auto, using(crate::proofs::Wanted::wanted_next, crate::proofs::Wanted::wanted_closed, crate::proofs::NextLeaf::bool_next))]
     pub fn bool(&mut self, value: bool) -> Result<(), BuildFault>
-        ensures { Adds (judged suits_bool self.old) (with_leaf self.old (head.leaf (tree.bool value))) self.old self.new result }
+        ensures { Adds (judged suits_bool self.old)
+            (with_leaf self.old (head.leaf (tree.bool value))) self.old self.new result }
     {
         match self.wanted()? {
             Form::Primitive(Primitive::Bool) => Ok(self.add_leaf(Leaf::Bool(value))?),
@@ -74,7 +79,8 @@ impl<'r, A: Allocator> Builder<'r, A> {
     /// Refuses as `empty` does, and with `OutOfRange` a number that is too great for the type.
     #[tactic(auto, using(crate::proofs::Wanted::wanted_next, crate::proofs::Wanted::wanted_closed, crate::proofs::NextLeaf::unsigned_next))]
     pub fn unsigned(&mut self, value: u128) -> Result<(), BuildFault>
-        ensures { Adds (judged (suits_unsigned value) self.old) (with_leaf self.old (head.leaf (tree.unsigned value))) self.old self.new result }
+        ensures { Adds (judged (suits_unsigned value) self.old)
+            (with_leaf self.old (head.leaf (tree.unsigned value))) self.old self.new result }
     {
         let Form::Primitive(primitive) = self.wanted()? else {
             return Err(BuildFault::WrongKind);
@@ -94,7 +100,8 @@ impl<'r, A: Allocator> Builder<'r, A> {
     /// Refuses as `empty` does.
     #[tactic(auto, using(crate::proofs::Wanted::wanted_next, crate::proofs::Wanted::wanted_closed, crate::proofs::NextLeaf::count_next))]
     pub fn count(&mut self, count: u32) -> Result<(), BuildFault>
-        ensures { Adds (judged suits_count self.old) (with_leaf self.old (head.leaf (tree.count count))) self.old self.new result }
+        ensures { Adds (judged suits_count self.old)
+            (with_leaf self.old (head.leaf (tree.count count))) self.old self.new result }
     {
         match self.wanted()? {
             Form::Count => Ok(self.add_leaf(Leaf::Count(count))?),
@@ -107,7 +114,8 @@ impl<'r, A: Allocator> Builder<'r, A> {
     /// Refuses as `empty` does.
     #[tactic(auto, using(crate::proofs::Wanted::wanted_next, crate::proofs::Wanted::wanted_closed, crate::proofs::NextLeaf::wide_next))]
     pub fn wide(&mut self, value: [u8; 32]) -> Result<(), BuildFault>
-        ensures { Adds (judged suits_wide self.old) (with_leaf self.old (head.leaf (tree.wide value))) self.old self.new result }
+        ensures { Adds (judged suits_wide self.old)
+            (with_leaf self.old (head.leaf (tree.wide value))) self.old self.new result }
     {
         let Form::Primitive(primitive) = self.wanted()? else {
             return Err(BuildFault::WrongKind);
@@ -122,7 +130,8 @@ impl<'r, A: Allocator> Builder<'r, A> {
     ///
     /// Refuses as `empty` does, and with `OutOfRange` a number that is too great or too small for the type.
     pub fn signed(&mut self, value: i128) -> Result<(), BuildFault>
-        ensures { Adds (judged (suits_signed value) self.old) (with_leaf self.old (head.leaf (tree.signed value))) self.old self.new result }
+        ensures { Adds (judged (suits_signed value) self.old)
+            (with_leaf self.old (head.leaf (tree.signed value))) self.old self.new result }
     {
         let Form::Primitive(primitive) = self.wanted()? else {
             return Err(BuildFault::WrongKind);
@@ -142,7 +151,8 @@ impl<'r, A: Allocator> Builder<'r, A> {
     /// Refuses as `empty` does.
     #[tactic(auto, using(crate::proofs::Wanted::wanted_next, crate::proofs::Wanted::wanted_closed, crate::proofs::NextLeaf::char_next))]
     pub fn char(&mut self, value: char) -> Result<(), BuildFault>
-        ensures { Adds (judged suits_char self.old) (with_leaf self.old (head.leaf (tree.char value))) self.old self.new result }
+        ensures { Adds (judged suits_char self.old)
+            (with_leaf self.old (head.leaf (tree.char value))) self.old self.new result }
     {
         match self.wanted()? {
             Form::Primitive(Primitive::Char) => Ok(self.add_leaf(Leaf::Char(value))?),
@@ -155,7 +165,8 @@ impl<'r, A: Allocator> Builder<'r, A> {
     /// Refuses as `empty` does, and with `OutOfRange` a number that is too great for what the compact stands over.
     #[tactic(auto, using(crate::proofs::Wanted::wanted_next, crate::proofs::Wanted::wanted_closed, crate::proofs::NextLeaf::compact_next))]
     pub fn compact(&mut self, value: u128) -> Result<(), BuildFault>
-        ensures { Adds (judged (suits_compact value) self.old) (with_leaf self.old (head.leaf (tree.compact value))) self.old self.new result }
+        ensures { Adds (judged (suits_compact value) self.old)
+            (with_leaf self.old (head.leaf (tree.compact value))) self.old self.new result }
     {
         let Form::Compact(target) = self.wanted()? else {
             return Err(BuildFault::WrongKind);
@@ -172,7 +183,8 @@ impl<'r, A: Allocator> Builder<'r, A> {
     /// Refuses as `empty` does.
     #[tactic(auto, using(crate::proofs::Wanted::wanted_next, crate::proofs::Wanted::wanted_closed))]
     pub fn fields(&mut self) -> Result<(), BuildFault>
-        ensures { Adds (judged suits_fields self.old) (with_fields self.old) self.old self.new result }
+        ensures { Adds (judged suits_fields self.old) (with_fields self.old) self.old
+            self.new result }
     {
         let Form::Fields = self.wanted()? else {
             return Err(BuildFault::WrongKind);
@@ -186,7 +198,8 @@ impl<'r, A: Allocator> Builder<'r, A> {
     /// Refuses as `empty` does, and with `NoSuchVariant` an index that no arm has.
     #[tactic(auto, using(crate::proofs::Wanted::wanted_next, crate::proofs::Wanted::wanted_closed))]
     pub fn arm(&mut self, index: u8) -> Result<(), BuildFault>
-        ensures { Adds (judged_arm self.old index) (with_arm self.old index) self.old self.new result }
+        ensures { Adds (judged_arm self.old index) (with_arm self.old index) self.old
+            self.new result }
     {
         let Form::Arm = self.wanted()? else {
             return Err(BuildFault::WrongKind);
@@ -202,7 +215,8 @@ impl<'r, A: Allocator> Builder<'r, A> {
     /// Refuses as `empty` does, and with `OutOfRange` a count that is not the array's length.
     #[tactic(auto, using(crate::proofs::Wanted::wanted_next, crate::proofs::Wanted::wanted_closed))]
     pub fn list(&mut self, count: u32) -> Result<(), BuildFault>
-        ensures { Adds (judged (suits_list count) self.old) (with_list self.old count) self.old self.new result }
+        ensures { Adds (judged (suits_list count) self.old) (with_list self.old count) self.old
+            self.new result }
     {
         match self.wanted()? {
             Form::Array(length) if count != length => return Err(BuildFault::OutOfRange),

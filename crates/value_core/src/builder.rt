@@ -1,13 +1,18 @@
 //! A value that is built node by node.
 
-ghost use Rattle.std.specs.Prelude.{◌≡◌, ◌<◌, ◌≤◌, ◌+◌, ◌++◌, ◌∷◌, [], length, true, false, OnOk, OnErr, IfOk, IfErr, Ok, None};
+ghost use Rattle.std.specs.Prelude.{◌≡◌, ◌<◌, ◌≤◌, ◌+◌, ◌++◌, ◌∷◌, [], length, true, false, OnOk};
+ghost use Rattle.std.specs.Prelude.{OnErr, IfOk, IfErr, Ok, None};
 ghost use Rattle.grammar_core.specs.Runs.{run_form};
 ghost use Rattle.value_core.specs.Begun.{IsBegun};
 ghost use Rattle.value_core.specs.Building.{AreBuilt, Settles};
-ghost use Rattle.value_core.specs.Built.{IsSettled, built_text_bytes, closings, finished, settled_walk, with_leaf, with_open, with_piece, with_run_ended, with_run_opened, FitsKind, IsNextLeaf, IsNextOpen};
+ghost use Rattle.value_core.specs.Built.{IsSettled, built_text_bytes, closings, finished};
+ghost use Rattle.value_core.specs.Built.{settled_walk, with_leaf, with_open, with_piece};
+ghost use Rattle.value_core.specs.Built.{with_run_ended, with_run_opened, FitsKind, IsNextLeaf};
+ghost use Rattle.value_core.specs.Built.{IsNextOpen};
 ghost use Rattle.value_core.specs.Frames.{left_of};
 ghost use Rattle.value_core.specs.Shown.{head_shown, size_shown};
-ghost use Rattle.value_core.specs.Refusals.{Finishes, Opens, IsRunWhole, bad_text, missing_of, other_fault, wanted_of, is_whole, opening_fault};
+ghost use Rattle.value_core.specs.Refusals.{Finishes, Opens, IsRunWhole, bad_text, missing_of};
+ghost use Rattle.value_core.specs.Refusals.{other_fault, wanted_of, is_whole, opening_fault};
 ghost use Rattle.value_core.specs.Walked.{advanced, next_of, opened, start_of};
 ghost use Rattle.value_core.specs.Leaves.{leaf_head, FitsLeaf, IsAppended};
 
@@ -46,9 +51,17 @@ impl<'r, A: Allocator> Model for Builder<'r, A> {
 
     ghost Value = { Built };
 
-    ghost view = { λ b. record { ty = b.root.0; walk = b.walk; entries = entries_shown b.pool.items b.nodes.items; run = pieces_shown b.pool.items b.open_run; turns = b.turns.so_far } };
+    ghost view = { λ b. record {
+      ty = b.root.0;
+      walk = b.walk;
+      entries = entries_shown b.pool.items b.nodes.items;
+      run = pieces_shown b.pool.items b.open_run;
+      turns = b.turns.so_far;
+    } };
 
-    ghost invariant = { λ b. IsBuilding b.root.0 b.walk b.pool.items b.nodes.items b.text_len × IsOpenRun b.walk b.pool.items (all_kept b.nodes.items) b.open_run × IsSettled b.walk × IsPaid b.walk b.nodes.items b.turns.so_far };
+    ghost invariant = { λ b. IsBuilding b.root.0 b.walk b.pool.items b.nodes.items b.text_len
+        × IsOpenRun b.walk b.pool.items (all_kept b.nodes.items) b.open_run × IsSettled b.walk
+        × IsPaid b.walk b.nodes.items b.turns.so_far };
 }
 
 /// The refusal of a call that is not the one for what comes next.
@@ -79,8 +92,10 @@ fn append<A: Allocator>(
     leaf: Leaf<'_>,
 ) -> Result<(), AllocError>
     requires { FitsLeaf leaf }
-    ensures ok { OnOk result (IsAppended ty leaf.entry nodes.old.items pool.old.items nodes.new.items pool.new.items) }
-    ensures err { OnErr result ((nodes.new.items ≡ nodes.old.items) × (pool.new.items ≡ pool.old.items)) }
+    ensures ok { OnOk result (IsAppended ty leaf.entry nodes.old.items pool.old.items
+        nodes.new.items pool.new.items) }
+    ensures err { OnErr result ((nodes.new.items ≡ nodes.old.items)
+        × (pool.new.items ≡ pool.old.items)) }
 {
     make_room(nodes, 1)?;
     let content = leaf.keep(pool)?;
@@ -112,7 +127,8 @@ fn open_node<A: Allocator>(
 ) -> Result<(), AllocError>
     requires { length walk.old.frames ≤ walk.old.limit + 1 }
     ensures nodes { OnOk result (nodes.new.items ≡ nodes.old.items ++ node ∷ []) }
-    ensures walk { OnOk result (walk.new ≡ opened (advanced walk.old) (length nodes.old.items) (left_of walk.old.types left)) }
+    ensures walk { OnOk result (walk.new ≡ opened (advanced walk.old) (length nodes.old.items)
+        (left_of walk.old.types left)) }
     ensures err { OnErr result ((nodes.new.items ≡ nodes.old.items) × (walk.new ≡ walk.old)) }
 {
     make_room(nodes, 1)?;
@@ -126,7 +142,8 @@ fn close_one<A: Allocator>(walk: &mut Walk<'_, A>, nodes: &mut Vec<Node, A>) -> 
     requires { AreBuilt walk.old nodes.old.items }
     ensures settles { Settles walk.old nodes.old.items walk.new nodes.new.items }
     ensures yes { result ≡ true → length walk.new.frames + 1 ≡ length walk.old.frames }
-    ensures no { result ≡ false → IsSettled walk.new × (length walk.new.frames ≡ length walk.old.frames) }
+    ensures no { result ≡ false →
+        IsSettled walk.new × (length walk.new.frames ≡ length walk.old.frames) }
 {
     let Some(place) = walk.close() else {
         return false;
@@ -159,7 +176,13 @@ impl<'r, A: Allocator + Clone> Builder<'r, A> {
         root: TypeId,
         depth: u16,
     ) -> Result<Builder<'r, A>, BuildFault>
-        ensures { Opens (opening_fault checked.now.types root.0 depth) (record { ty = root.0; walk = start_of checked.now.types root.0 depth; entries = []; run = None; turns = 0 }) result }
+        ensures { Opens (opening_fault checked.now.types root.0 depth) (record {
+          ty = root.0;
+          walk = start_of checked.now.types root.0 depth;
+          entries = [];
+          run = None;
+          turns = 0;
+        }) result }
     {
         if checked.class(root).is_none() {
             return Err(BuildFault::UnknownType);
@@ -181,7 +204,13 @@ impl<'r, A: Allocator + Clone> Builder<'r, A> {
         depth: u16,
     ) -> Result<Builder<'r, A>, AllocError>
         requires { depth ≤ MAX_DEPTH }
-        ensures { IfOk result (λ b. b ≡ record { ty = root.0; walk = start_of checked.now.types root.0 depth; entries = []; run = None; turns = 0 }) }
+        ensures { IfOk result (λ b. b ≡ record {
+          ty = root.0;
+          walk = start_of checked.now.types root.0 depth;
+          entries = [];
+          run = None;
+          turns = 0;
+        }) }
     {
         let nodes = Vec::new(alloc.clone()?);
         let pool = Vec::new(alloc.clone()?);
@@ -297,8 +326,10 @@ impl<'r, A: Allocator> Builder<'r, A> {
     pub(crate) fn add_open(&mut self, content: Content, left: Left) -> Result<(), AllocError>
         requires closed { self.old.run ≡ None }
         requires opened { size_shown content ≡ 0 }
-        requires next { IsNextOpen self.old.walk (head_shown [] left.count content) (left_of self.old.walk.types left) }
-        ensures ok { OnOk result (self.new ≡ with_open self.old (head_shown [] left.count content) (left_of self.old.walk.types left)) }
+        requires next { IsNextOpen self.old.walk (head_shown [] left.count content)
+            (left_of self.old.walk.types left) }
+        ensures ok { OnOk result (self.new ≡ with_open self.old (head_shown [] left.count content)
+            (left_of self.old.walk.types left)) }
         ensures err { OnErr result (self.new ≡ self.old) }
     {
         let Some(ty) = self.walk.next_type() else {

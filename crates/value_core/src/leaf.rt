@@ -72,7 +72,8 @@ impl<'b> Leaf<'b> {
     #[inline(always)]
     pub(crate) fn keep<A: Allocator>(self, pool: &mut Vec<u8, A>) -> Result<Content, AllocError>
         requires { FitsLeaf self }
-        ensures ok { IfOk result (λ content. IsKept self.entry pool.old.items pool.new.items content) }
+        ensures ok { IfOk result (λ content.
+            IsKept self.entry pool.old.items pool.new.items content) }
         ensures err { IfErr result (λ _. pool.new.items ≡ pool.old.items) }
     {
         let start = pool.as_slice().len();

@@ -70,7 +70,8 @@ impl Left {
     #[tactic(auto, using(crate::proofs::Members::one_less))]
     #[inline(always)]
     pub(crate) fn advance(&mut self)
-        ensures { (references : List ℕ) → left_by references self.new ≡ left_after (left_by references self.old) }
+        ensures { (references : List ℕ) →
+            left_by references self.new ≡ left_after (left_by references self.old) }
     {
         self.count = self.count.saturating_sub(1);
     }

@@ -15,7 +15,8 @@ pub(crate) fn make_room<T, A: Allocator>(
 ) -> Result<(), AllocError>
     ensures items { list.new.items ≡ list.old.items }
     ensures room { OnOk result (vec_len list.new + more ≤ vec_capacity list.new) }
-    ensures half { vec_capacity list.new ≤ max (vec_capacity list.old) (vec_len list.old + max more (max FIRST (vec_len list.old / 2))) }
+    ensures half { vec_capacity list.new ≤ max (vec_capacity list.old)
+        (vec_len list.old + max more (max FIRST (vec_len list.old / 2))) }
 {
     if more <= list.capacity() - list.len() {
         return Ok(());
@@ -30,7 +31,8 @@ pub(crate) fn make_room<T, A: Allocator>(
 fn grow<T, A: Allocator>(list: &mut Vec<T, A>, more: usize) -> Result<(), AllocError>
     ensures items { list.new.items ≡ list.old.items }
     ensures room { OnOk result (vec_len list.new + more ≤ vec_capacity list.new) }
-    ensures half { vec_capacity list.new ≤ max (vec_capacity list.old) (vec_len list.old + max more (max FIRST (vec_len list.old / 2))) }
+    ensures half { vec_capacity list.new ≤ max (vec_capacity list.old)
+        (vec_len list.old + max more (max FIRST (vec_len list.old / 2))) }
 {
     let half = list.len() / 2;
     list.reserve_exact(more.max(half.max(FIRST)))

@@ -3,8 +3,11 @@
 ghost use Rattle.std.specs.Prelude.{◌≡◌};
 ghost use Rattle.grammar_core.specs.Preorder as head;
 ghost use Rattle.grammar_core.specs.Tree as tree;
-ghost use Rattle.value_core.specs.Built.{with_bytes_opened, with_leaf, with_piece, with_run_ended, with_run_opened};
-ghost use Rattle.value_core.specs.Refusals.{Adds, IsRunWhole, judged, judged_end, judged_piece, missing_bytes, missing_text, run_fault, suits_bytes, suits_bytes_start, suits_text, suits_text_start};
+ghost use Rattle.value_core.specs.Built.{with_bytes_opened, with_leaf, with_piece, with_run_ended};
+ghost use Rattle.value_core.specs.Built.{with_run_opened};
+ghost use Rattle.value_core.specs.Refusals.{Adds, IsRunWhole, judged, judged_end, judged_piece};
+ghost use Rattle.value_core.specs.Refusals.{missing_bytes, missing_text, run_fault, suits_bytes};
+ghost use Rattle.value_core.specs.Refusals.{suits_bytes_start, suits_text, suits_text_start};
 
 use crate::build_fault::BuildFault;
 use crate::builder::Builder;
@@ -19,7 +22,8 @@ impl<'r, A: Allocator> Builder<'r, A> {
     /// Refuses as `empty` does, and with `OutOfRange` a text of more than 4294967295 bytes.
     #[tactic(auto, using(crate::proofs::Wanted::wanted_next, crate::proofs::Wanted::wanted_closed, crate::proofs::NextLeaf::text_next))]
     pub fn text(&mut self, text: &str) -> Result<(), BuildFault>
-        ensures { Adds (judged (suits_text text.now) self.old) (with_leaf self.old (head.leaf (tree.text text.now))) self.old self.new result }
+        ensures { Adds (judged (suits_text text.now) self.old)
+            (with_leaf self.old (head.leaf (tree.text text.now))) self.old self.new result }
     {
         let Form::Primitive(Primitive::Str) = self.wanted()? else {
             return Err(BuildFault::WrongKind);
@@ -37,7 +41,8 @@ impl<'r, A: Allocator> Builder<'r, A> {
     /// number of bytes than its length.
     #[tactic(auto, using(crate::proofs::Wanted::wanted_next, crate::proofs::Wanted::wanted_closed))]
     pub fn bytes(&mut self, bytes: &[u8]) -> Result<(), BuildFault>
-        ensures { Adds (judged (suits_bytes bytes.now) self.old) (with_leaf self.old (head.leaf (tree.bytes bytes.now))) self.old self.new result }
+        ensures { Adds (judged (suits_bytes bytes.now) self.old)
+            (with_leaf self.old (head.leaf (tree.bytes bytes.now))) self.old self.new result }
     {
         let fits = match self.wanted()? {
             Form::Bytes => bytes.len() <= u32::MAX as usize,
@@ -56,7 +61,8 @@ impl<'r, A: Allocator> Builder<'r, A> {
     ///
     /// Refuses as `empty` does.
     pub fn text_start(&mut self, len: u32) -> Result<(), BuildFault>
-        ensures { Adds (judged suits_text_start self.old) (with_run_opened self.old RunKind.Text len) self.old self.new result }
+        ensures { Adds (judged suits_text_start self.old)
+            (with_run_opened self.old RunKind.Text len) self.old self.new result }
     {
         let Form::Primitive(Primitive::Str) = self.wanted()? else {
             return Err(BuildFault::WrongKind);
@@ -70,7 +76,8 @@ impl<'r, A: Allocator> Builder<'r, A> {
     /// Refuses, and leaves the builder as it was: what the next type stops at, `WrongKind` where no text is open,
     /// `OutOfRange` where more bytes came than the text is to have, and `OutOfMemory`.
     pub fn text_piece(&mut self, piece: &[u8]) -> Result<(), BuildFault>
-        ensures { Adds (judged_piece (missing_text self.old) piece.now) (with_piece self.old piece.now) self.old self.new result }
+        ensures { Adds (judged_piece (missing_text self.old) piece.now)
+            (with_piece self.old piece.now) self.old self.new result }
     {
         if piece.len() > self.missing_text()? {
             return Err(BuildFault::OutOfRange);
@@ -84,7 +91,8 @@ impl<'r, A: Allocator> Builder<'r, A> {
     /// Refuses, and leaves the builder as it was: what the next type stops at, `WrongKind` where no text is open,
     /// `UnfinishedValue` where bytes of it are missing, `BadText` where its bytes are not UTF-8, and `OutOfMemory`.
     pub fn text_end(&mut self) -> Result<(), BuildFault>
-        ensures { Adds (judged_end (missing_text self.old) self.old) (with_run_ended self.old) self.old self.new result }
+        ensures { Adds (judged_end (missing_text self.old) self.old)
+            (with_run_ended self.old) self.old self.new result }
     {
         if self.missing_text()? > 0 {
             return Err(BuildFault::UnfinishedValue);
@@ -97,7 +105,8 @@ impl<'r, A: Allocator> Builder<'r, A> {
     ///
     /// Refuses as `empty` does, and with `OutOfRange` a number that is not the array's length.
     pub fn bytes_start(&mut self, len: u32) -> Result<(), BuildFault>
-        ensures { Adds (judged (suits_bytes_start len) self.old) (with_bytes_opened self.old len) self.old self.new result }
+        ensures { Adds (judged (suits_bytes_start len) self.old) (with_bytes_opened self.old len)
+            self.old self.new result }
     {
         let kind = match self.wanted()? {
             Form::Bytes => RunKind::Bytes,
@@ -114,7 +123,8 @@ impl<'r, A: Allocator> Builder<'r, A> {
     /// Refuses, and leaves the builder as it was: what the next type stops at, `WrongKind` where no run of bytes is open,
     /// `OutOfRange` where more bytes came than it is to have, and `OutOfMemory`.
     pub fn bytes_piece(&mut self, piece: &[u8]) -> Result<(), BuildFault>
-        ensures { Adds (judged_piece (missing_bytes self.old) piece.now) (with_piece self.old piece.now) self.old self.new result }
+        ensures { Adds (judged_piece (missing_bytes self.old) piece.now)
+            (with_piece self.old piece.now) self.old self.new result }
     {
         if piece.len() > self.missing_bytes()? {
             return Err(BuildFault::OutOfRange);
@@ -128,7 +138,8 @@ impl<'r, A: Allocator> Builder<'r, A> {
     /// Refuses, and leaves the builder as it was: what the next type stops at, `WrongKind` where no run of bytes is open,
     /// `UnfinishedValue` where bytes of it are missing, and `OutOfMemory`.
     pub fn bytes_end(&mut self) -> Result<(), BuildFault>
-        ensures { Adds (judged_end (missing_bytes self.old) self.old) (with_run_ended self.old) self.old self.new result }
+        ensures { Adds (judged_end (missing_bytes self.old) self.old)
+            (with_run_ended self.old) self.old self.new result }
     {
         if self.missing_bytes()? > 0 {
             return Err(BuildFault::UnfinishedValue);

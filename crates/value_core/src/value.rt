@@ -33,7 +33,9 @@ impl<'r, A: Allocator> Model for Value<'r, A> {
 
     ghost view = { λ v. seen v.checked.now.types v.pool.items v.nodes.items };
 
-    ghost invariant = { λ v. IsWhole v.checked.now.types v.pool.items v.nodes.items × (v.text_len ≡ text_bytes (tree_shown v.pool.items v.nodes.items)) × (all_kept v.nodes.items ≤ length v.pool.items) };
+    ghost invariant = { λ v. IsWhole v.checked.now.types v.pool.items v.nodes.items
+        × (v.text_len ≡ text_bytes (tree_shown v.pool.items v.nodes.items))
+        × (all_kept v.nodes.items ≤ length v.pool.items) };
 }
 
 impl<'r, A: Allocator> Value<'r, A> {

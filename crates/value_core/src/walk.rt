@@ -1,12 +1,14 @@
 //! The place in a value that comes next, and what is wanted there: the one thing that says it.
 
-ghost use Rattle.std.specs.Prelude.{◌≡◌, ◌⊎◌, ◌+◌, ◌≤◌, length, is_none, option_map, OnOk, OnErr, IfSome, IfNone, IsSome};
+ghost use Rattle.std.specs.Prelude.{◌≡◌, ◌⊎◌, ◌+◌, ◌≤◌, length, is_none, option_map, OnOk, OnErr};
+ghost use Rattle.std.specs.Prelude.{IfSome, IfNone, IsSome};
 ghost use Rattle.grammar_core.specs.Parts.{first_of, how_many_left};
 ghost use Rattle.value_core.specs.Ahead.{IsAhead, IsStepAhead, element_in, members_in};
 ghost use Rattle.value_core.specs.Frames.{left_of};
 ghost use Rattle.value_core.specs.Opened.{OpensFields, OpensArm, OpensElements, IsListNext};
 ghost use Rattle.value_core.specs.Refusals.{is_whole_in};
-ghost use Rattle.value_core.specs.Walked.{start_of, next_type, next_of, depth_of, advanced, opened, Closes, IsBounded};
+ghost use Rattle.value_core.specs.Walked.{start_of, next_type, next_of, depth_of, advanced, opened};
+ghost use Rattle.value_core.specs.Walked.{Closes, IsBounded};
 
 use crate::left::{Frame, Left};
 use grammar_core::{Form, MAX_DEPTH, Next, StopReason, next_of_step};
@@ -75,9 +77,14 @@ impl<'r, A: Allocator> Model for Walk<'r, A> {
     ghost use Rattle.value_core.specs.Ahead.{IsAhead};
     ghost use Rattle.value_core.specs.Frames.{frames_of, left_of};
 
-    ghost view = { λ w. record { types = w.checked.now.types; limit = w.limit; frames = frames_of w.checked.now.types w.top w.around.items } };
+    ghost view = { λ w. record {
+      types = w.checked.now.types;
+      limit = w.limit;
+      frames = frames_of w.checked.now.types w.top w.around.items;
+    } };
 
-    ghost invariant = { λ w. (w.limit ≤ 1024) × (length w.around.items ≤ w.limit + 1) × IsAhead w.checked.now.types (first_of (left_of w.checked.now.types w.top.left)) w.ahead };
+    ghost invariant = { λ w. (w.limit ≤ 1024) × (length w.around.items ≤ w.limit + 1)
+        × IsAhead w.checked.now.types (first_of (left_of w.checked.now.types w.top.left)) w.ahead };
 }
 
 impl<'r, A: Allocator> Walk<'r, A> {
@@ -155,7 +162,8 @@ impl<'r, A: Allocator> Walk<'r, A> {
     /// The next node is open, and its parts come next. Where memory is refused, nothing changes.
     pub(crate) fn enter(&mut self, node: usize, left: Left) -> Result<(), AllocError>
         requires { length self.old.frames ≤ self.old.limit + 1 }
-        ensures ok { OnOk result (self.new ≡ opened (advanced self.old) node (left_of self.old.types left)) }
+        ensures ok { OnOk result (self.new
+            ≡ opened (advanced self.old) node (left_of self.old.types left)) }
         ensures err { OnErr result (self.new ≡ self.old) }
     {
         let mut outer = self.top;
@@ -221,8 +229,10 @@ impl<'r, A: Allocator> Walk<'r, A> {
     /// where the next type has no arm of the index.
     pub(crate) fn arm(&self, index: u8) -> Option<(u32, Left)>
         requires { next_of self.now ≡ Next.Wants Form.Arm }
-        ensures opens { OpensArm self.now index (option_map (λ x. (x.0, left_of self.now.types x.1)) result) }
-        ensures counts { IfSome result (λ x. how_many_left (left_of self.now.types x.1) ≡ x.1.count) }
+        ensures opens { OpensArm self.now index
+            (option_map (λ x. (x.0, left_of self.now.types x.1)) result) }
+        ensures counts { IfSome result
+            (λ x. how_many_left (left_of self.now.types x.1) ≡ x.1.count) }
     {
         let ty = self.next_type()?;
         let arm = self.checked().arm_step(ty, index)?;

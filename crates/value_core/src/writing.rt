@@ -1,10 +1,12 @@
 //! A value's bytes, written to a sink.
 
-ghost use Rattle.std.specs.Prelude.{◌≡◌, ◌≤◌, ◌<◌, ◌+◌, ◌^◌, ◌||◌, [], true, length, take, IfOk, IfErr, OnOk, is_ok, not};
+ghost use Rattle.std.specs.Prelude.{◌≡◌, ◌≤◌, ◌<◌, ◌+◌, ◌^◌, ◌||◌, [], true, length, take, IfOk};
+ghost use Rattle.std.specs.Prelude.{IfErr, OnOk, is_ok, not};
 ghost use Rattle.std.specs.Io.KnownBytes.{Appends};
 ghost use Rattle.scale_core.specs.Number.{le_bytes};
 ghost use Rattle.graph_core.specs.Types.{shape};
-ghost use Rattle.grammar_core.specs.Spelled.{byte_width, width_of, index_of, index_byte, is_sequence, length_bytes};
+ghost use Rattle.grammar_core.specs.Spelled.{byte_width, width_of, index_of, index_byte};
+ghost use Rattle.grammar_core.specs.Spelled.{is_sequence, length_bytes};
 ghost use Rattle.value_core.specs.Shown.{IsInPool, kept_bytes};
 ghost use Rattle.value_core.specs.Encoding.{node_bytes, pool_bytes, Starts, encoding, IsEncoding};
 
@@ -71,7 +73,8 @@ fn is_sequence(checked: &Checked, ty: TypeId) -> bool
 /// Puts the low bytes of an integer's sixteen, as many as its type has, at the front of the array: how many they are.
 fn put_integer(checked: &Checked, ty: TypeId, number: u128, out: &mut [u8; 17]) -> usize
     ensures bound { result ≤ 17 }
-    ensures bytes { take result out.new ≡ le_bytes (width_of (shape checked.now.types ty.0)) number }
+    ensures bytes { take result out.new
+        ≡ le_bytes (width_of (shape checked.now.types ty.0)) number }
     ensures range { number < 2 ^ 128 }
 {
     let width = width_of(checked, ty);
@@ -83,7 +86,8 @@ fn put_integer(checked: &Checked, ty: TypeId, number: u128, out: &mut [u8; 17]) 
 /// many bytes that is.
 fn put_index(checked: &Checked, ty: TypeId, position: u32, out: &mut [u8; 17]) -> usize
     ensures bound { result ≤ 17 }
-    ensures bytes { take result out.new ≡ index_byte (index_of (shape checked.now.types ty.0) position) }
+    ensures bytes { take result out.new
+        ≡ index_byte (index_of (shape checked.now.types ty.0) position) }
 {
     match index_of(checked, ty, position) {
         Some(index) => {
@@ -111,7 +115,8 @@ fn put_length(checked: &Checked, ty: TypeId, length: u32, out: &mut [u8; 17]) ->
 fn put_node(checked: &Checked, node: &Node, pool: &[u8], out: &mut [u8; 17]) -> usize
     requires { IsInPool pool.now node.now.content }
     ensures bound { result ≤ 17 }
-    ensures bytes { Starts (take result out.new) (shape checked.now.types node.now.ty.0) pool.now node.now.children node.now.content }
+    ensures bytes { Starts (take result out.new) (shape checked.now.types node.now.ty.0) pool.now
+        node.now.children node.now.content }
 {
     match node.content {
         Content::Empty | Content::Fields { .. } | Content::Wide { .. } => 0,
@@ -162,9 +167,11 @@ fn pooled<'v>(node: &Node, pool: &'v [u8]) -> &'v [u8]
 /// The sink has failed from then on, and what went out is the beginning of the bytes. Where all went out `failed()`
 /// stays as it was.
 pub fn send<W: Write>(sink: &mut Sink<W>, bytes: &[u8]) -> Result<(), WriteFault>
-    ensures ok { OnOk result (Appends (W.contents sink.old.device) (W.contents sink.new.device) bytes.now) }
+    ensures ok { OnOk result (Appends (W.contents sink.old.device)
+        (W.contents sink.new.device) bytes.now) }
     ensures part { IfErr result (λ f. f.written ≤ length bytes.now) }
-    ensures err { IfErr result (λ f. Appends (W.contents sink.old.device) (W.contents sink.new.device) (take f.written bytes.now)) }
+    ensures err { IfErr result (λ f. Appends (W.contents sink.old.device)
+        (W.contents sink.new.device) (take f.written bytes.now)) }
     ensures failed { sink.new.failed ≡ sink.old.failed || not (is_ok result) }
     ensures none { length bytes.now ≡ 0 → (sink.new ≡ sink.old) × (is_ok result ≡ true) }
 {
@@ -193,12 +200,18 @@ fn send_node<W: Write>(
 ) -> Result<u64, WriteFault>
     requires { IsInPool pool.now node.now.content }
     ensures count { IfOk result (λ n. n ≡ length (node_bytes checked.now.types pool.now node.now)) }
-    ensures bound { length (node_bytes checked.now.types pool.now node.now) ≤ 17 + kept_bytes node.now.content }
-    ensures ok { OnOk result (Appends (W.contents sink.old.device) (W.contents sink.new.device) (node_bytes checked.now.types pool.now node.now)) }
-    ensures part { IfErr result (λ f. f.written ≤ length (node_bytes checked.now.types pool.now node.now)) }
-    ensures err { IfErr result (λ f. Appends (W.contents sink.old.device) (W.contents sink.new.device) (take f.written (node_bytes checked.now.types pool.now node.now))) }
+    ensures bound { length (node_bytes checked.now.types pool.now node.now)
+        ≤ 17 + kept_bytes node.now.content }
+    ensures ok { OnOk result (Appends (W.contents sink.old.device) (W.contents sink.new.device)
+        (node_bytes checked.now.types pool.now node.now)) }
+    ensures part { IfErr result
+        (λ f. f.written ≤ length (node_bytes checked.now.types pool.now node.now)) }
+    ensures err { IfErr result
+        (λ f. Appends (W.contents sink.old.device) (W.contents sink.new.device)
+        (take f.written (node_bytes checked.now.types pool.now node.now))) }
     ensures failed { sink.new.failed ≡ sink.old.failed || not (is_ok result) }
-    ensures none { length (node_bytes checked.now.types pool.now node.now) ≡ 0 → (sink.new ≡ sink.old) × (is_ok result ≡ true) }
+    ensures none { length (node_bytes checked.now.types pool.now node.now) ≡ 0 →
+        (sink.new ≡ sink.old) × (is_ok result ≡ true) }
 {
     let mut front = [0; 17];
     let len = put_node(checked, node, pool, &mut front);
@@ -229,10 +242,12 @@ pub fn encode<A: Allocator, W: Write>(
     // The bytes are those of the value, by the grammar.
     ensures value { IsEncoding value.now (encoding value.now) }
     // All of them went out.
-    ensures ok { OnOk result (Appends (W.contents sink.old.device) (W.contents sink.new.device) (encoding value.now)) }
+    ensures ok { OnOk result (Appends (W.contents sink.old.device) (W.contents sink.new.device)
+        (encoding value.now)) }
     // A front of them went out, and as many as is told.
     ensures part { IfErr result (λ f. f.written ≤ length (encoding value.now)) }
-    ensures err { IfErr result (λ f. Appends (W.contents sink.old.device) (W.contents sink.new.device) (take f.written (encoding value.now))) }
+    ensures err { IfErr result (λ f. Appends (W.contents sink.old.device)
+        (W.contents sink.new.device) (take f.written (encoding value.now))) }
     ensures failed { sink.new.failed ≡ sink.old.failed || not (is_ok result) }
     // Without bytes there is no write.
     ensures none { encoding value.now ≡ [] → (sink.new ≡ sink.old) × (is_ok result ≡ true) }

@@ -1,6 +1,7 @@
 -- The row that is read is that of the variant, and the arm that is found there is that of the
 -- index.
-use Rattle.std.proofs.Common.{◌≡◌, ℕ, suc, ◌+◌, Bool, true, false, cond, List, [], ◌∷◌, Option, Some, None, refl, sym, ap, ◌∙◌, arith}
+use Rattle.std.proofs.Common.{◌≡◌, ℕ, suc, ◌+◌, Bool, true, false, cond, List, [], ◌∷◌, Option}
+use Rattle.std.proofs.Common.{Some, None, refl, sym, ap, ◌∙◌, arith}
 use Rattle.std.specs.Prelude.{◌==◌, slice_get}
 use Rattle.registry_core.specs.declared.definition.Arm.{Arm}
 use Rattle.registry_core.specs.declared.definition.TypeDef.{TypeDef}
@@ -18,7 +19,8 @@ use Rattle.widths_core.specs.Arms.{arm_of, arm_from, arm_of_shape, arm_at}
 use Rattle.widths_core.specs.Classes.{class_of}
 use Rattle.widths_core.specs.Layouts.{is_byte}
 use Rattle.widths_core.specs.Rows.{IsPlace}
-use Rattle.widths_core.specs.Steps.{references_of, IsArm, IsRow, IsStep, IsTable, by_class, sequence_step, array_step, row_of_step}
+use Rattle.widths_core.specs.Steps.{references_of, IsArm, IsRow, IsStep, IsTable, by_class}
+use Rattle.widths_core.specs.Steps.{sequence_step, array_step, row_of_step}
 use Rattle.widths_core.proofs.Settled.{is_empty_class, is_empty-arms}
 use Rattle.widths_core.proofs.Stable.{class_stable}
 use Rattle.widths_core.proofs.StepReads.{shape_none, get_none, definition_of}

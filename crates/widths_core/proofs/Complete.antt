@@ -1,6 +1,8 @@
 -- Before anything has settled, and when nothing more settles: what has not settled has no value,
 -- and is no target.
-use Rattle.std.proofs.Common.{◌≡◌, ℕ, zero, suc, ◌+◌, ◌<◌, ◌≤◌, Bool, true, false, cond, List, [], ◌∷◌, length, map, get_or, replicate, take, flat_map, Option, Some, None, refl, sym, ap, ◌∙◌, arith, inl, inr}
+use Rattle.std.proofs.Common.{◌≡◌, ℕ, zero, suc, ◌+◌, ◌<◌, ◌≤◌, Bool, true, false, cond, List, []}
+use Rattle.std.proofs.Common.{◌∷◌, length, map, get_or, replicate, take, flat_map, Option, Some}
+use Rattle.std.proofs.Common.{None, refl, sym, ap, ◌∙◌, arith, inl, inr}
 use Rattle.std.specs.Prelude.{◌==◌}
 use Rattle.std.specs.List.{AllByRecursion, list_all, list_any}
 use Rattle.std.proofs.lemmas.Bool.{cases_lt}
@@ -19,15 +21,19 @@ use Rattle.graph_core.specs.declared.graph.Graph.{Graph}
 use Rattle.graph_core.specs.Types.{shape, ids, field_types}
 use Rattle.widths_core.specs.Arms.{live_arms}
 use Rattle.graph_core.specs.References.{references, AreKnown, IsChecked}
-use Rattle.widths_core.specs.Targets.{nowhere, leads_shape, leads_members, target_from, target_within, target_of}
+use Rattle.widths_core.specs.Targets.{nowhere, leads_shape, leads_members, target_from}
+use Rattle.widths_core.specs.Targets.{target_within, target_of}
 use Rattle.widths_core.specs.Classes.{holds_at, finite_step, finite_within, is_finite, class_of}
-use Rattle.widths_core.specs.ClassTables.{known_class, known_target, has_value, class_of_compact, TellsClasses, TellsTargets}
+use Rattle.widths_core.specs.ClassTables.{known_class, known_target, has_value, class_of_compact}
+use Rattle.widths_core.specs.ClassTables.{TellsClasses, TellsTargets}
 use Rattle.graph_core.specs.Counts.{times}
-use Rattle.widths_core.specs.Rules.{Rule, rule, rules, rules_of, rules_from, arm_rules, kind_of_parts, found_sized, counter_of, all_parts, numbers_from}
+use Rattle.widths_core.specs.Rules.{Rule, rule, rules, rules_of, rules_from, arm_rules}
+use Rattle.widths_core.specs.Rules.{kind_of_parts, found_sized, counter_of, all_parts, numbers_from}
 use Rattle.graph_core.specs.Graphs.{refs}
 use Rattle.widths_core.specs.Linking.{AreTypesLinked}
 use Rattle.widths_core.specs.Progress.{Progress, counter_at}
-use Rattle.widths_core.specs.Consistent.{nothing, rule_at, to_at, unsettled, waiting, has_settled, settles, IsConsistent}
+use Rattle.widths_core.specs.Consistent.{nothing, rule_at, to_at, unsettled, waiting, has_settled}
+use Rattle.widths_core.specs.Consistent.{settles, IsConsistent}
 use Rattle.widths_core.specs.Propagation.{IsStart, PropagatesAll, IsBad, AreCompactsSettled}
 use Rattle.graph_core.proofs.Stopped.{all_front}
 use Rattle.widths_core.proofs.PartsOf.{all_references, checked_by}

@@ -1,14 +1,17 @@
 -- Types without a part that has to settle first, and compacts without a target.
-use Rattle.std.proofs.Common.{◌≡◌, ◌≢◌, ℕ, ◌+◌, ◌<◌, ◌≤◌, Bool, true, false, List, [], ◌∷◌, length, take, None, refl, sym, ap, ◌∙◌, arith, inl, inr}
+use Rattle.std.proofs.Common.{◌≡◌, ◌≢◌, ℕ, ◌+◌, ◌<◌, ◌≤◌, Bool, true, false, List, [], ◌∷◌, length}
+use Rattle.std.proofs.Common.{take, None, refl, sym, ap, ◌∙◌, arith, inl, inr}
 use Rattle.std.proofs.lemmas.Bool.{cases_lt, cases_eq}
 use Rattle.std.proofs.lemmas.List.{get_or_past, length-append, take-append-le}
 use Rattle.registry_core.specs.declared.type_info.TypeInfo.{TypeInfo}
 use Rattle.widths_core.specs.declared.counter.Kind.TheVariants as kind
 use Rattle.widths_core.specs.Rules.{rules, numbers_from, found_sized}
 use Rattle.widths_core.specs.Progress.{Progress, counter_at, completed, settled_as, KnowsType}
-use Rattle.widths_core.specs.Consistent.{nothing, rule_at, waiting, has_settled, settles, IsConsistent, IsClosed}
+use Rattle.widths_core.specs.Consistent.{nothing, rule_at, waiting, has_settled, settles}
+use Rattle.widths_core.specs.Consistent.{IsConsistent, IsClosed}
 use Rattle.graph_core.specs.declared.graph.Graph.{Graph}
-use Rattle.widths_core.specs.Propagation.{Follows, IsStart, IsPropagatedTo, PropagatesAll, IsBad, AreCompactsSettled}
+use Rattle.widths_core.specs.Propagation.{Follows, IsStart, IsPropagatedTo, PropagatesAll, IsBad}
+use Rattle.widths_core.specs.Propagation.{AreCompactsSettled}
 use Rattle.widths_core.proofs.RuleRight.{rule_right}
 use Rattle.widths_core.proofs.Settles.{follows_same, follows_on, completes_to, settles_to}
 use Rattle.widths_core.proofs.Waiting.{waiting_start}

@@ -1,5 +1,6 @@
 -- A counter counts a part that has settled.
-use Rattle.std.proofs.Common.{◌≡◌, ◌≢◌, ℕ, ◌+◌, ◌<◌, Bool, true, false, cond, List, [], ◌∷◌, length, refl, sym, ap, subst, ◌∙◌, ◌⊎◌, arith, inl, inr}
+use Rattle.std.proofs.Common.{◌≡◌, ◌≢◌, ℕ, ◌+◌, ◌<◌, Bool, true, false, cond, List, [], ◌∷◌, length}
+use Rattle.std.proofs.Common.{refl, sym, ap, subst, ◌∙◌, ◌⊎◌, arith, inl, inr}
 use Rattle.std.specs.Prelude.{◌==◌, ◌&&◌, ◌||◌}
 use Rattle.std.specs.List.{list_any}
 use Rattle.std.proofs.lemmas.Bool.{eqb-true, eq-eqb, cases_eq}
@@ -11,11 +12,14 @@ use Rattle.widths_core.specs.Targets.{target_of}
 use Rattle.widths_core.specs.Classes.{class_of}
 use Rattle.graph_core.specs.Counts.{times}
 use Rattle.widths_core.specs.Rules.{rules, all_parts, numbers_from}
-use Rattle.widths_core.specs.Progress.{Progress, counter_at, no_counter, is_sized, counted, counters_set, completed, part_settled}
-use Rattle.widths_core.specs.Consistent.{rule_at, to_at, rule_number, waiting, has_settled, settles, IsConsistent, IsClosed}
+use Rattle.widths_core.specs.Progress.{Progress, counter_at, no_counter, is_sized, counted}
+use Rattle.widths_core.specs.Progress.{counters_set, completed, part_settled}
+use Rattle.widths_core.specs.Consistent.{rule_at, to_at, rule_number, waiting, has_settled, settles}
+use Rattle.widths_core.specs.Consistent.{IsConsistent, IsClosed}
 use Rattle.widths_core.specs.Propagation.{Follows}
 use Rattle.widths_core.proofs.Settles.{completes_to}
-use Rattle.widths_core.proofs.Waiting.{differ, times-other, waiting-propagated, numbers-length, numbers-within, parts_any}
+use Rattle.widths_core.proofs.Waiting.{differ, times-other, waiting-propagated, numbers-length}
+use Rattle.widths_core.proofs.Waiting.{numbers-within, parts_any}
 
 pub number-lt : (r : List TypeInfo) (e : ℕ) → e < length (all_parts (rules r)) →
     rule_number r e < length (rules r)

@@ -1,5 +1,6 @@
 -- The parts of rules are the references of the definitions.
-use Rattle.std.proofs.Common.{◌≡◌, ℕ, zero, suc, ◌+◌, ◌<◌, Bool, true, false, cond, List, [], ◌∷◌, ◌++◌, flat_map, refl, ap, ◌∙◌}
+use Rattle.std.proofs.Common.{◌≡◌, ℕ, zero, suc, ◌+◌, ◌<◌, Bool, true, false, cond, List, [], ◌∷◌}
+use Rattle.std.proofs.Common.{◌++◌, flat_map, refl, ap, ◌∙◌}
 use Rattle.std.specs.Prelude.{◌==◌}
 use Rattle.std.specs.List.{list_any}
 use Rattle.std.proofs.lemmas.List.{append-nil}
@@ -12,7 +13,8 @@ use Rattle.widths_core.specs.declared.counter.Kind.TheVariants as kind
 use Rattle.graph_core.specs.Types.{ids, field_types}
 use Rattle.graph_core.specs.References.{references, AreKnown, AreChecked}
 use Rattle.graph_core.proofs.Stopped.{all_front}
-use Rattle.widths_core.specs.Rules.{Rule, rule, rules, rules_of, rules_from, arm_rules, found_sized, all_parts}
+use Rattle.widths_core.specs.Rules.{Rule, rule, rules, rules_of, rules_from, arm_rules, found_sized}
+use Rattle.widths_core.specs.Rules.{all_parts}
 
 pub parts_of_arms : (t : ℕ) (seen : List ℕ) (arms : List Arm) →
     all_parts (arm_rules t seen arms) ≡ flat_map (λ a. field_types a.fields) arms

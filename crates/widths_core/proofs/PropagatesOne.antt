@@ -1,5 +1,7 @@
 -- The list of the references to a type, one by one.
-use Rattle.std.proofs.Common.{◌≡◌, ◌≢◌, ℕ, zero, suc, ◌+◌, ◌-◌, ◌<◌, ◌≤◌, Bool, true, false, cond, List, [], ◌∷◌, ◌++◌, length, get_or, take, reverse, refl, sym, ap, subst, ◌∙◌, ◌⊎◌, arith, inl, inr}
+use Rattle.std.proofs.Common.{◌≡◌, ◌≢◌, ℕ, zero, suc, ◌+◌, ◌-◌, ◌<◌, ◌≤◌, Bool, true, false, cond}
+use Rattle.std.proofs.Common.{List, [], ◌∷◌, ◌++◌, length, get_or, take, reverse, refl, sym, ap}
+use Rattle.std.proofs.Common.{subst, ◌∙◌, ◌⊎◌, arith, inl, inr}
 use Rattle.std.specs.Prelude.{◌==◌}
 use Rattle.std.proofs.lemmas.Bool.{eq-eqb, cases_lt, cases_eq}
 use Rattle.std.proofs.lemmas.List.{take-append-le, take_more, length-append, get_or_past}
@@ -15,7 +17,8 @@ use Rattle.widths_core.specs.Rules.{rules, all_parts}
 use Rattle.graph_core.specs.Graphs.{refs, numbers, befores, IsLast, IsListed}
 use Rattle.widths_core.specs.Progress.{Progress, counter_at, part_settled, KnowsType}
 use Rattle.widths_core.specs.Consistent.{to_at, rule_number, has_settled, IsConsistent}
-use Rattle.widths_core.specs.Propagation.{Follows, Lists, IsSteady, IsPending, Propagates, IsPropagatedTo, PropagatesAll}
+use Rattle.widths_core.specs.Propagation.{Follows, Lists, IsSteady, IsPending, Propagates}
+use Rattle.widths_core.specs.Propagation.{IsPropagatedTo, PropagatesAll}
 use Rattle.widths_core.proofs.RuleRight.{rule_right}
 use Rattle.widths_core.proofs.Settles.{follows_same, follows_on}
 use Rattle.widths_core.proofs.Waiting.{differ, times-same, times-other, times-append}

@@ -1,16 +1,20 @@
 -- The row of the arms that were passed.
-use Rattle.std.proofs.Common.{◌≡◌, ◌≢◌, ℕ, ◌+◌, ◌-◌, ◌<◌, ◌≤◌, Bool, true, false, cond, List, ◌++◌, length, get_or, take, Option, Some, None, refl, sym, ◌∙◌, ◌⊎◌, arith, inl, inr}
+use Rattle.std.proofs.Common.{◌≡◌, ◌≢◌, ℕ, ◌+◌, ◌-◌, ◌<◌, ◌≤◌, Bool, true, false, cond, List, ◌++◌}
+use Rattle.std.proofs.Common.{length, get_or, take, Option, Some, None, refl, sym, ◌∙◌, ◌⊎◌, arith}
+use Rattle.std.proofs.Common.{inl, inr}
 use Rattle.std.specs.Prelude.{◌==◌, is_some}
 use Rattle.std.specs.List.{insert}
 use Rattle.std.proofs.lemmas.Bool.{eqb-true, eq-eqb, cases_lt, cases_eq}
 use Rattle.std.proofs.lemmas.List.{take_all}
-use Rattle.std.proofs.lemmas.List.Edits.{length-insert, get_or-insert_below, get_or-insert_at, get_or-insert_above}
+use Rattle.std.proofs.lemmas.List.Edits.{length-insert, get_or-insert_below, get_or-insert_at}
+use Rattle.std.proofs.lemmas.List.Edits.{get_or-insert_above}
 use Rattle.registry_core.specs.declared.definition.Arm.{Arm}
 use Rattle.widths_core.specs.declared.rows.Rows.{Rows}
 use Rattle.widths_core.specs.declared.step.ArmStep.{ArmStep}
 use Rattle.graph_core.specs.Types.{field_types}
 use Rattle.widths_core.specs.Arms.{arm_of}
-use Rattle.widths_core.specs.Rows.{Keeps, IsPaired, IsIn, Lacks, BelongsAt, Rises, Inserts, arm_in, index_in, no_arm}
+use Rattle.widths_core.specs.Rows.{Keeps, IsPaired, IsIn, Lacks, BelongsAt, Rises, Inserts, arm_in}
+use Rattle.widths_core.specs.Rows.{index_in, no_arm}
 use Rattle.widths_core.specs.Steps.{AreParts, IsArm, IsRow}
 use Rattle.widths_core.proofs.ArmsTo.{shadowed, counted}
 use Rattle.widths_core.proofs.Kept.{arm_kept, keeps_all}

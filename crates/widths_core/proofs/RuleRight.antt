@@ -1,5 +1,6 @@
 -- Each rule of a registry is right: where the parts have values, the owner is what the rule finds.
-use Rattle.std.proofs.Common.{◌≡◌, ℕ, zero, suc, ◌+◌, ◌<◌, Bool, true, false, cond, List, [], ◌∷◌, ◌++◌, length, get_or, Some, None, refl, sym, ap, ◌∙◌, arith}
+use Rattle.std.proofs.Common.{◌≡◌, ℕ, zero, suc, ◌+◌, ◌<◌, Bool, true, false, cond, List, [], ◌∷◌}
+use Rattle.std.proofs.Common.{◌++◌, length, get_or, Some, None, refl, sym, ap, ◌∙◌, arith}
 use Rattle.std.specs.Prelude.{◌==◌}
 use Rattle.std.specs.List.{AllByRecursion, list_all, list_any}
 use Rattle.registry_core.specs.Kinds.{kind_of}
@@ -17,10 +18,13 @@ use Rattle.widths_core.specs.declared.counter.Kind.{Kind}
 use Rattle.widths_core.specs.declared.counter.Kind.TheVariants as kind
 use Rattle.graph_core.specs.Types.{shape, ids, field_types}
 use Rattle.widths_core.specs.Arms.{live_arms}
-use Rattle.widths_core.specs.Targets.{leads_kind, leads_members, leads_shape, target_from, target_of}
+use Rattle.widths_core.specs.Targets.{leads_kind, leads_members, leads_shape, target_from}
+use Rattle.widths_core.specs.Targets.{target_of}
 use Rattle.widths_core.specs.Classes.{class_of}
-use Rattle.widths_core.specs.ClassTables.{joined, class_of_parts, has_value, class_of_arms, class_of_compact, class_step}
-use Rattle.widths_core.specs.Rules.{Rule, rule, rules, rules_of, rules_from, arm_rules, kind_of_parts, found_sized}
+use Rattle.widths_core.specs.ClassTables.{joined, class_of_parts, has_value, class_of_arms}
+use Rattle.widths_core.specs.ClassTables.{class_of_compact, class_step}
+use Rattle.widths_core.specs.Rules.{Rule, rule, rules, rules_of, rules_from, arm_rules}
+use Rattle.widths_core.specs.Rules.{kind_of_parts, found_sized}
 use Rattle.widths_core.specs.Consistent.{nothing, rule_at}
 use Rattle.widths_core.proofs.Ranks.{or_left, or_right}
 use Rattle.widths_core.proofs.Settled.{has_value-parts}

@@ -1,5 +1,6 @@
 -- What a step says of a class: whether there is a value, and whether one takes no bytes.
-use Rattle.std.proofs.Common.{◌≡◌, ℕ, zero, suc, Bool, true, false, cond, List, [], ◌∷◌, Option, refl, ap, ◌∙◌}
+use Rattle.std.proofs.Common.{◌≡◌, ℕ, zero, suc, Bool, true, false, cond, List, [], ◌∷◌, Option}
+use Rattle.std.proofs.Common.{refl, ap, ◌∙◌}
 use Rattle.std.specs.Prelude.{◌&&◌}
 use Rattle.std.specs.List.{list_all, list_any}
 use Rattle.scale_core.specs.declared.compact.Target.{Target}
@@ -13,7 +14,8 @@ use Rattle.graph_core.specs.Types.{ids, field_types}
 use Rattle.widths_core.specs.Arms.{live_arms}
 use Rattle.widths_core.specs.Targets.{target_of}
 use Rattle.widths_core.specs.Classes.{is_unit, finite_step, empty_step, class_from}
-use Rattle.widths_core.specs.ClassTables.{joined, class_of_parts, has_value, class_of_arms, class_step}
+use Rattle.widths_core.specs.ClassTables.{joined, class_of_parts, has_value, class_of_arms}
+use Rattle.widths_core.specs.ClassTables.{class_step}
 
 abbrev pub is_empty_class : Class → Bool
 is_empty_class class.NoValue = false

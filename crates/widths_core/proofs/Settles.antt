@@ -1,9 +1,12 @@
 -- A type settles.
-use Rattle.std.proofs.Common.{◌≡◌, ◌≢◌, ℕ, zero, suc, ◌+◌, ◌<◌, Bool, true, false, cond, List, [], ◌∷◌, ◌++◌, length, set, Option, Some, None, refl, sym, ap, ◌∙◌, ◌⊎◌, arith, inl, inr}
+use Rattle.std.proofs.Common.{◌≡◌, ◌≢◌, ℕ, zero, suc, ◌+◌, ◌<◌, Bool, true, false, cond, List, []}
+use Rattle.std.proofs.Common.{◌∷◌, ◌++◌, length, set, Option, Some, None, refl, sym, ap, ◌∙◌, ◌⊎◌}
+use Rattle.std.proofs.Common.{arith, inl, inr}
 use Rattle.std.specs.Prelude.{◌==◌, ◌&&◌, ◌||◌, not}
 use Rattle.std.specs.List.{list_all, list_any}
 use Rattle.std.proofs.lemmas.Bool.{eqb-true, eq-eqb, cases_eq}
-use Rattle.std.proofs.lemmas.List.{append_assoc, append-nil, length-set, length_push, get_or-set_same, get_or-set_other}
+use Rattle.std.proofs.lemmas.List.{append_assoc, append-nil, length-set, length_push}
+use Rattle.std.proofs.lemmas.List.{get_or-set_same, get_or-set_other}
 use Rattle.scale_core.specs.declared.compact.Target.{Target}
 use Rattle.registry_core.specs.declared.type_info.TypeInfo.{TypeInfo}
 use Rattle.widths_core.specs.declared.class.Class.{Class}
@@ -13,15 +16,19 @@ use Rattle.widths_core.specs.declared.counter.Kind.{Kind}
 use Rattle.widths_core.specs.declared.counter.Kind.TheVariants as kind
 use Rattle.widths_core.specs.Targets.{target_of}
 use Rattle.widths_core.specs.Classes.{class_of, is_unit}
-use Rattle.widths_core.specs.ClassTables.{joined, class_of_parts, class_of_compact, known_class, known_target, has_value}
+use Rattle.widths_core.specs.ClassTables.{joined, class_of_parts, class_of_compact, known_class}
+use Rattle.widths_core.specs.ClassTables.{known_target, has_value}
 use Rattle.graph_core.specs.Counts.{times}
 use Rattle.widths_core.specs.Rules.{rules, class_by, outcome, all_parts, numbers_from}
-use Rattle.widths_core.specs.Progress.{Progress, counter_at, is_sized, settled_as, settled_by, completed}
-use Rattle.widths_core.specs.Consistent.{rule_at, to_at, rule_number, unsettled, has_settled, settles, IsConsistent}
+use Rattle.widths_core.specs.Progress.{Progress, counter_at, is_sized, settled_as, settled_by}
+use Rattle.widths_core.specs.Progress.{completed}
+use Rattle.widths_core.specs.Consistent.{rule_at, to_at, rule_number, unsettled, has_settled}
+use Rattle.widths_core.specs.Consistent.{settles, IsConsistent}
 use Rattle.widths_core.specs.Propagation.{Follows}
 use Rattle.widths_core.proofs.Ranks.{and_parts, or_parts}
 use Rattle.widths_core.proofs.RuleRight.{IsRightBy, rule_right}
-use Rattle.widths_core.proofs.Waiting.{times-append, times-other, waiting-none, numbers-length, parts_any, parts_each}
+use Rattle.widths_core.proofs.Waiting.{times-append, times-other, waiting-none, numbers-length}
+use Rattle.widths_core.proofs.Waiting.{parts_any, parts_each}
 
 pub follows_same : (s : Progress) → Follows s s
 follows_same s = record { keeps = λ t e. e; more = []; settled = sym (append-nil s.settled) }

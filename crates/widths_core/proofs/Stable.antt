@@ -1,12 +1,15 @@
 -- The class and the target of a type follow from those of its parts by one step.
-use Rattle.std.proofs.Common.{◌≡◌, ℕ, Bool, true, false, List, length, Option, Some, None, refl, sym, ap, subst, ◌∙◌}
+use Rattle.std.proofs.Common.{◌≡◌, ℕ, Bool, true, false, List, length, Option, Some, None, refl}
+use Rattle.std.proofs.Common.{sym, ap, subst, ◌∙◌}
 use Rattle.std.proofs.Math.Path.{fun_ext}
 use Rattle.scale_core.specs.declared.compact.Target.{Target}
 use Rattle.registry_core.specs.declared.definition.TypeDef.{TypeDef}
 use Rattle.registry_core.specs.declared.type_info.TypeInfo.{TypeInfo}
 use Rattle.graph_core.specs.Types.{shape}
-use Rattle.widths_core.specs.Targets.{Leads, ends, through, nowhere, leads, leads_shape, HasTarget, here, there, target_from, target_of}
-use Rattle.widths_core.specs.Classes.{finite_step, empty_step, finite_within, empty_within, is_finite, is_empty, class_from, class_of}
+use Rattle.widths_core.specs.Targets.{Leads, ends, through, nowhere, leads, leads_shape, HasTarget}
+use Rattle.widths_core.specs.Targets.{here, there, target_from, target_of}
+use Rattle.widths_core.specs.Classes.{finite_step, empty_step, finite_within, empty_within}
+use Rattle.widths_core.specs.Classes.{is_finite, is_empty, class_from, class_of}
 use Rattle.widths_core.specs.ClassTables.{has_value, class_step}
 use Rattle.widths_core.proofs.Ranks.{ranks_settle, finite_up, empty_up, holds_at-shape}
 use Rattle.widths_core.proofs.Known.{empty_finite, empty_next, finite_next}

@@ -1,5 +1,6 @@
 -- The step of each type is that of its draft, its class and what was found of others.
-use Rattle.std.proofs.Common.{◌≡◌, ℕ, zero, suc, ◌+◌, ◌<◌, ◌≤◌, Bool, List, [], ◌∷◌, ◌++◌, length, get_or, Option, Some, None, refl, sym, ap, ◌∙◌, arith, inl, inr}
+use Rattle.std.proofs.Common.{◌≡◌, ℕ, zero, suc, ◌+◌, ◌<◌, ◌≤◌, Bool, List, [], ◌∷◌, ◌++◌, length}
+use Rattle.std.proofs.Common.{get_or, Option, Some, None, refl, sym, ap, ◌∙◌, arith, inl, inr}
 use Rattle.std.specs.Prelude.{slice_get}
 use Rattle.std.proofs.lemmas.Bool.{cases_lt}
 use Rattle.std.proofs.lemmas.List.{length_push}
@@ -21,7 +22,8 @@ use Rattle.widths_core.specs.Targets.{target_of}
 use Rattle.widths_core.specs.Classes.{class_of}
 use Rattle.widths_core.specs.ClassTables.{known_class, known_target}
 use Rattle.widths_core.specs.Layouts.{is_byte}
-use Rattle.widths_core.specs.Steps.{references_of, IsRow, IsDraft, AreDrafts, IsStep, AreSettled, IsTable, AreStepsBy, is_byte_draft, known_byte, step_by}
+use Rattle.widths_core.specs.Steps.{references_of, IsRow, IsDraft, AreDrafts, IsStep, AreSettled}
+use Rattle.widths_core.specs.Steps.{IsTable, AreStepsBy, is_byte_draft, known_byte, step_by}
 use Rattle.widths_core.proofs.StepReads.{shape_none, shape_some}
 
 -- ---- of the drafts that were passed

@@ -1,5 +1,6 @@
 -- What is found so far, and what each step makes of it.
-use Rattle.std.specs.Prelude.{ℕ, ◌<◌, length, ◌-◌, List, ◌∷◌, [], ◌++◌, Bool, true, false, ◌||◌, ◌==◌, Option, Some, None, slice_index_or, slice_set, if◌then◌else◌}
+use Rattle.std.specs.Prelude.{ℕ, ◌<◌, length, ◌-◌, List, ◌∷◌, [], ◌++◌, Bool, true, false, ◌||◌}
+use Rattle.std.specs.Prelude.{◌==◌, Option, Some, None, slice_index_or, slice_set, if◌then◌else◌}
 use Rattle.scale_core.specs.declared.compact.Target.{Target}
 use Rattle.widths_core.specs.declared.class.Class.{Class}
 use Rattle.widths_core.specs.declared.class.Class.TheVariants as class

@@ -1,5 +1,6 @@
 -- Rows of arms by their index, one row after the other.
-use Rattle.std.specs.Prelude.{◌≡◌, ◌≢◌, ℕ, ◌+◌, ◌<◌, ◌≤◌, List, [], length, Option, Result, slice_index, slice_index_or, MatchOption, MatchResult}
+use Rattle.std.specs.Prelude.{◌≡◌, ◌≢◌, ℕ, ◌+◌, ◌<◌, ◌≤◌, List, [], length, Option, Result}
+use Rattle.std.specs.Prelude.{slice_index, slice_index_or, MatchOption, MatchResult}
 use Rattle.std.specs.List.{insert}
 use Rattle.widths_core.specs.declared.rows.Rows.{Rows}
 use Rattle.widths_core.specs.declared.step.ArmStep.{ArmStep}

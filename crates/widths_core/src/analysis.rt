@@ -54,7 +54,9 @@ pub(crate) struct Analysis {
 fn settled_types(alloc: Global, graph: &mut Graph<'_>) -> Result<Settled, CheckFault>
     requires fits { FitsRegistry graph.old.types.now }
     requires unread { IsUnread graph.old.types.now graph.old }
-    ensures settled { IfOk result (λ t. AreSettled graph.old.types.now t.classes.items t.targets.items graph.new.members.items t.rows t.drafts.items) }
+    ensures settled { IfOk result
+        (λ t. AreSettled graph.old.types.now t.classes.items t.targets.items graph.new.members.items
+        t.rows t.drafts.items) }
     ensures analysed { IfOk result (λ t. IsAnalysed graph.old.types.now t.widest graph.new.looks) }
     ensures refused { IfErr result (IsRefusedFor graph.old.types.now graph.new.looks) }
 {
@@ -88,7 +90,8 @@ fn settled_types(alloc: Global, graph: &mut Graph<'_>) -> Result<Settled, CheckF
 fn tables_of(alloc: Global, graph: &mut Graph<'_>) -> Result<Tables, CheckFault>
     requires fits { FitsRegistry graph.old.types.now }
     requires unread { IsUnread graph.old.types.now graph.old }
-    ensures table { IfOk result (λ t. IsTable graph.old.types.now graph.new.members.items t.rows t.steps.items) }
+    ensures table { IfOk result
+        (λ t. IsTable graph.old.types.now graph.new.members.items t.rows t.steps.items) }
     ensures analysed { IfOk result (λ t. IsAnalysed graph.old.types.now t.widest graph.new.looks) }
     ensures refused { IfErr result (IsRefusedFor graph.old.types.now graph.new.looks) }
 {
@@ -129,7 +132,8 @@ fn fault_of(graph: &mut Graph<'_>) -> CheckFault
 /// Where memory was refused, the types are gone through once more for the first unknown reference, in a graph of their own.
 pub(crate) fn analyse(alloc: Global, types: &[TypeInfo]) -> Result<Analysis, CheckFault>
     requires { FitsRegistry types.now }
-    ensures found { MatchResult result (λ a. IsAnalysed types.now a.widest a.looks) (λ fault. IsFaultOf fault (first_fault types.now)) }
+    ensures found { MatchResult result (λ a. IsAnalysed types.now a.widest a.looks)
+        (λ fault. IsFaultOf fault (first_fault types.now)) }
     ensures table { IfOk result (λ a. IsTable types.now a.members.items a.rows a.steps.items) }
 {
     let mut graph = Graph::new(alloc, types);

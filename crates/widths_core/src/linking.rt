@@ -8,7 +8,8 @@ ghost use Rattle.graph_core.specs.Lent.{id_of, shape_of};
 ghost use Rattle.widths_core.specs.Rows.{IsPaired, Keeps};
 ghost use Rattle.widths_core.specs.Steps.{AreParts, IsRow, IsDraft, AreDrafts};
 ghost use Rattle.widths_core.specs.Targets.{width_target};
-ghost use Rattle.widths_core.specs.Rules.{rule, kind_of_parts, found_of_primitive, found_sized, all_parts, arm_rules, rules_of};
+ghost use Rattle.widths_core.specs.Rules.{rule, kind_of_parts, found_of_primitive, found_sized};
+ghost use Rattle.widths_core.specs.Rules.{all_parts, arm_rules, rules_of};
 ghost use Rattle.graph_core.specs.Stops.{StopsLinking, IsRefusedFor};
 ghost use Rattle.graph_core.specs.Types.{ids, field_types};
 ghost use Rattle.graph_core.specs.Widths.{widest};
@@ -29,14 +30,20 @@ const SIZED: Found = Found {
     target: None,
 };
 
-/// AddsRules a counter of so many parts, and answers its number.
+/// Adds a counter of so many parts, and answers its number.
 fn count_parts(
     counters: &mut Vec<Counter>,
     owner: u32,
     kind: Kind,
     parts: usize,
 ) -> Result<u32, Stop>
-    ensures counts { IfOk result (λ number. (number ≡ length counters.old.items) × (counters.new.items ≡ counters.old.items ++ record { owner = owner; kind = kind; left = parts; sized = false } ∷ [])) }
+    ensures counts { IfOk result (λ number. (number ≡ length counters.old.items)
+        × (counters.new.items ≡ counters.old.items ++ record {
+          owner = owner;
+          kind = kind;
+          left = parts;
+          sized = false;
+        } ∷ [])) }
     ensures memory { IfErr result (λ stop. stop ≡ Memory) }
 {
     let number = counters.len();
@@ -61,9 +68,12 @@ fn link_fields(
     fields: &Fields<'_>,
 ) -> Result<Parts, Stop>
     requires { IsLinked graph.old }
-    ensures adds { IfOk result (λ _. AddsRules (rule owner kind (field_types fields.now.fields.now) ∷ []) counters.old.items counters.new.items graph.old graph.new) }
-    ensures parts { IfOk result (λ p. AreParts (refs graph.new) p.from p.count (field_types fields.now.fields.now)) }
-    ensures stops { IfErr result (StopsLinking (all_parts (rule owner kind (field_types fields.now.fields.now) ∷ [])) graph.old graph.new) }
+    ensures adds { IfOk result (λ _. AddsRules (rule owner kind (field_types fields.now.fields.now)
+        ∷ []) counters.old.items counters.new.items graph.old graph.new) }
+    ensures parts { IfOk result
+        (λ p. AreParts (refs graph.new) p.from p.count (field_types fields.now.fields.now)) }
+    ensures stops { IfErr result (StopsLinking (all_parts
+        (rule owner kind (field_types fields.now.fields.now) ∷ [])) graph.old graph.new) }
 {
     let from = graph.read();
     let counter = count_parts(counters, owner, kind, fields.len())?;
@@ -86,9 +96,12 @@ fn link_members(
     members: &Members<'_>,
 ) -> Result<Parts, Stop>
     requires { IsLinked graph.old }
-    ensures adds { IfOk result (λ _. AddsRules (rule owner kind (ids members.now.members.now) ∷ []) counters.old.items counters.new.items graph.old graph.new) }
-    ensures parts { IfOk result (λ p. AreParts (refs graph.new) p.from p.count (ids members.now.members.now)) }
-    ensures stops { IfErr result (StopsLinking (all_parts (rule owner kind (ids members.now.members.now) ∷ [])) graph.old graph.new) }
+    ensures adds { IfOk result (λ _. AddsRules (rule owner kind (ids members.now.members.now) ∷ [])
+        counters.old.items counters.new.items graph.old graph.new) }
+    ensures parts { IfOk result
+        (λ p. AreParts (refs graph.new) p.from p.count (ids members.now.members.now)) }
+    ensures stops { IfErr result (StopsLinking
+        (all_parts (rule owner kind (ids members.now.members.now) ∷ [])) graph.old graph.new) }
 {
     let from = graph.read();
     let counter = count_parts(counters, owner, kind, members.len())?;
@@ -112,8 +125,10 @@ fn link_one(
 ) -> Result<u32, Stop>
     requires { IsLinked graph.old }
     ensures value { IfOk result (λ id. id ≡ id_of part.now) }
-    ensures adds { IfOk result (λ _. AddsRules (rule owner kind (id_of part.now ∷ []) ∷ []) counters.old.items counters.new.items graph.old graph.new) }
-    ensures stops { IfErr result (StopsLinking (all_parts (rule owner kind (id_of part.now ∷ []) ∷ [])) graph.old graph.new) }
+    ensures adds { IfOk result (λ _. AddsRules (rule owner kind (id_of part.now ∷ []) ∷ [])
+        counters.old.items counters.new.items graph.old graph.new) }
+    ensures stops { IfErr result (StopsLinking
+        (all_parts (rule owner kind (id_of part.now ∷ []) ∷ [])) graph.old graph.new) }
 {
     let counter = count_parts(counters, owner, kind, 1)?;
     graph.add(part, counter)
@@ -138,11 +153,14 @@ fn link_arms(
 ) -> Result<Parts, Stop>
     requires linked { IsLinked graph.old }
     requires paired { IsPaired rows.old }
-    ensures adds { IfOk result (λ _. AddsRules (arm_rules owner [] arms.now.arms.now) counters.old.items counters.new.items graph.old graph.new) }
+    ensures adds { IfOk result (λ _. AddsRules (arm_rules owner [] arms.now.arms.now)
+        counters.old.items counters.new.items graph.old graph.new) }
     ensures paired { IfOk result (λ _. IsPaired rows.new) }
     ensures keeps { IfOk result (λ _. Keeps rows.old rows.new) }
-    ensures row { IfOk result (λ p. IsRow (refs graph.new) rows.new p.from p.count arms.now.arms.now) }
-    ensures stops { IfErr result (StopsLinking (all_parts (arm_rules owner [] arms.now.arms.now)) graph.old graph.new) }
+    ensures row { IfOk result
+        (λ p. IsRow (refs graph.new) rows.new p.from p.count arms.now.arms.now) }
+    ensures stops { IfErr result
+        (StopsLinking (all_parts (arm_rules owner [] arms.now.arms.now)) graph.old graph.new) }
 {
     let first = rows.len();
     'arms: for position in 0..arms.len() {
@@ -225,11 +243,14 @@ fn link_definition(
 ) -> Result<Draft, Stop>
     requires linked { IsLinked graph.old }
     requires paired { IsPaired rows.old }
-    ensures adds { IfOk result (λ _. AddsRules (rules_of owner (shape_of definition.now)) counters.old.items counters.new.items graph.old graph.new) }
+    ensures adds { IfOk result (λ _. AddsRules (rules_of owner (shape_of definition.now))
+        counters.old.items counters.new.items graph.old graph.new) }
     ensures paired { IfOk result (λ _. IsPaired rows.new) }
     ensures keeps { IfOk result (λ _. Keeps rows.old rows.new) }
-    ensures draft { IfOk result (λ s. IsDraft (refs graph.new) (IsRow (refs graph.new) rows.new) (shape_of definition.now) s) }
-    ensures stops { IfErr result (StopsLinking (all_parts (rules_of owner (shape_of definition.now))) graph.old graph.new) }
+    ensures draft { IfOk result (λ s.
+        IsDraft (refs graph.new) (IsRow (refs graph.new) rows.new) (shape_of definition.now) s) }
+    ensures stops { IfErr result
+        (StopsLinking (all_parts (rules_of owner (shape_of definition.now))) graph.old graph.new) }
 {
     match definition {
         Definition::Composite(fields) => {
@@ -305,8 +326,10 @@ pub(crate) fn link_types(
 ) -> Result<Linked, CheckFault>
     requires fits { FitsRegistry graph.old.types.now }
     requires fresh { IsNew graph.old.types.now graph.old }
-    ensures linked { IfOk result (λ x. AreTypesLinked graph.old.types.now x.counters.items graph.new) }
-    ensures drafts { IfOk result (λ x. AreDrafts graph.old.types.now (refs graph.new) x.rows x.drafts.items) }
+    ensures linked { IfOk result
+        (λ x. AreTypesLinked graph.old.types.now x.counters.items graph.new) }
+    ensures drafts { IfOk result
+        (λ x. AreDrafts graph.old.types.now (refs graph.new) x.rows x.drafts.items) }
     ensures widest { IfOk result (λ x. x.widest ≡ widest graph.old.types.now) }
     ensures refused { IfErr result (IsRefusedFor graph.old.types.now graph.new.looks) }
 {

@@ -1,8 +1,10 @@
 //! The arms of variants by their index, a row of them for each variant.
 
-ghost use Rattle.std.specs.Prelude.{◌≡◌, ◌≤◌, ◌+◌, length, slice_index, OnOk, IfOk, MatchOption, MatchResult};
+ghost use Rattle.std.specs.Prelude.{◌≡◌, ◌≤◌, ◌+◌, length, slice_index, OnOk, IfOk, MatchOption};
+ghost use Rattle.std.specs.Prelude.{MatchResult};
 ghost use Rattle.std.specs.List.{insert};
-ghost use Rattle.widths_core.specs.Rows.{IsPlace, IsSearched, IsPaired, HasNoRow, IsIn, Lacks, Rises, Inserts, arm_in};
+ghost use Rattle.widths_core.specs.Rows.{IsPlace, IsSearched, IsPaired, HasNoRow, IsIn, Lacks};
+ghost use Rattle.widths_core.specs.Rows.{Rises, Inserts, arm_in};
 
 use crate::step::ArmStep;
 use std::alloc::{AllocError, Global};
@@ -19,7 +21,8 @@ pub(crate) struct Rows {
 /// Where an index is in a row: at once where the row has no gap, and else by at most eight halvings.
 fn place_of(row: &[u8], index: u8) -> Option<usize>
     requires { Rises row.now 0 (length row.now) }
-    ensures { MatchOption result (Lacks row.now 0 (length row.now) index) (λ i. IsIn row.now 0 (length row.now) index i) }
+    ensures { MatchOption result (Lacks row.now 0 (length row.now) index)
+        (λ i. IsIn row.now 0 (length row.now) index i) }
 {
     let first = *row.first()?;
     if index < first {

@@ -1,8 +1,10 @@
 //! Types settle one by one, each with its class and target, as soon as its parts have.
 
 ghost use Rattle.std.specs.Prelude.{◌≡◌, ◌<◌, length, replicate, [], None, OnOk, IfOk};
-ghost use Rattle.widths_core.specs.Progress.{state_of, settled_as, completed, part_settled, counter_at, KnowsType};
-ghost use Rattle.widths_core.specs.Propagation.{AreCompactsSettled, IsBad, IsPending, IsStart, IsPropagatedTo, Propagates, PropagatesAll};
+ghost use Rattle.widths_core.specs.Progress.{state_of, settled_as, completed, part_settled};
+ghost use Rattle.widths_core.specs.Progress.{counter_at, KnowsType};
+ghost use Rattle.widths_core.specs.Propagation.{AreCompactsSettled, IsBad, IsPending, IsStart};
+ghost use Rattle.widths_core.specs.Propagation.{IsPropagatedTo, Propagates, PropagatesAll};
 ghost use Rattle.widths_core.specs.declared.class.Class.TheVariants as class;
 
 use crate::class::Class;
@@ -29,7 +31,13 @@ impl Settling {
         counters: Vec<Counter>,
         count: usize,
     ) -> Result<Settling, AllocError>
-        ensures { IfOk result (λ s. state_of s ≡ record { counters = counters.items; classes = replicate count class.NoValue; targets = replicate count None; settled = [] }) }
+        ensures { IfOk result (λ s.
+            state_of s ≡ record {
+              counters = counters.items;
+              classes = replicate count class.NoValue;
+              targets = replicate count None;
+              settled = [];
+            }) }
     {
         let classes = vec![in alloc; Class::NoValue; count]?;
         let targets = vec![in alloc; None; count]?;
@@ -70,7 +78,8 @@ impl Settling {
     /// A part of a counter has settled as this.
     fn settle_part(&mut self, number: u32, found: Found) -> Result<(), AllocError>
         requires number { number < length self.old.counters.items }
-        requires owner { KnowsType (state_of self.old) (counter_at (state_of self.old) number).owner }
+        requires owner { KnowsType (state_of self.old)
+            (counter_at (state_of self.old) number).owner }
         requires left { 0 < (counter_at (state_of self.old) number).left }
         ensures { OnOk result (state_of self.new ≡ part_settled (state_of self.old) number found) }
     {
@@ -90,7 +99,8 @@ impl Settling {
     /// What was found of a type is counted at each reference to it.
     fn propagate(&mut self, graph: &mut Graph<'_>, propagated: u32) -> Result<(), AllocError>
         requires { IsPending graph.old.types.now graph.old (state_of self.old) propagated }
-        ensures { OnOk result (Propagates graph.old.types.now graph.old graph.new (state_of self.old) (state_of self.new) propagated) }
+        ensures { OnOk result (Propagates graph.old.types.now graph.old graph.new
+            (state_of self.old) (state_of self.new) propagated) }
     {
         let found = Found {
             class: self.classes[propagated as usize],
@@ -109,7 +119,8 @@ impl Settling {
     /// the first ones that was done before. Answers how many have settled.
     fn propagate_all(&mut self, graph: &mut Graph<'_>, first: usize) -> Result<usize, AllocError>
         requires { IsPropagatedTo graph.old.types.now graph.old (state_of self.old) first }
-        ensures { IfOk result (λ done. PropagatesAll graph.old.types.now graph.old graph.new (state_of self.old) (state_of self.new) done) }
+        ensures { IfOk result (λ done. PropagatesAll graph.old.types.now graph.old graph.new
+            (state_of self.old) (state_of self.new) done) }
     {
         let mut done = first;
         'propagated: while done < self.settled.len() {
@@ -123,7 +134,8 @@ impl Settling {
     /// Types without a part that has to settle first settle, and then each whose parts have. Answers how many have settled.
     pub(crate) fn begin(&mut self, graph: &mut Graph<'_>) -> Result<usize, AllocError>
         requires { IsStart graph.old.types.now graph.old (state_of self.old) }
-        ensures { IfOk result (λ done. PropagatesAll graph.old.types.now graph.old graph.new (state_of self.old) (state_of self.new) done) }
+        ensures { IfOk result (λ done. PropagatesAll graph.old.types.now graph.old graph.new
+            (state_of self.old) (state_of self.new) done) }
     {
         'counters: for number in 0..self.counters.len() {
             let counter = self.counters[number];
@@ -141,10 +153,14 @@ impl Settling {
         graph: &mut Graph<'_>,
         first: usize,
     ) -> Result<usize, AllocError>
-        requires propagated { IsPropagatedTo graph.old.types.now graph.old (state_of self.old) first }
+        requires propagated { IsPropagatedTo graph.old.types.now graph.old
+            (state_of self.old) first }
         requires bad { IsBad graph.old.types.now (state_of self.old) }
-        ensures propagated { IfOk result (λ done. PropagatesAll graph.old.types.now graph.old graph.new (state_of self.old) (state_of self.new) done) }
-        ensures compacts { OnOk result (AreCompactsSettled graph.old.types.now (state_of self.new)) }
+        ensures propagated { IfOk result
+            (λ done. PropagatesAll graph.old.types.now graph.old graph.new (state_of self.old)
+            (state_of self.new) done) }
+        ensures compacts { OnOk result
+            (AreCompactsSettled graph.old.types.now (state_of self.new)) }
     {
         'counters: for number in 0..self.counters.len() {
             let counter = self.counters[number];

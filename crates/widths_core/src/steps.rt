@@ -2,7 +2,8 @@
 
 ghost use Rattle.std.specs.Prelude.{◌≡◌, ◌<◌, ◌^◌, IfOk, length};
 ghost use Rattle.widths_core.specs.ClassTables.{known_class, known_target};
-ghost use Rattle.widths_core.specs.Steps.{AreStepsBy, array_step, by_class, known_byte, sequence_step, step_by};
+ghost use Rattle.widths_core.specs.Steps.{AreStepsBy, array_step, by_class, known_byte};
+ghost use Rattle.widths_core.specs.Steps.{sequence_step, step_by};
 
 use crate::class::Class;
 use crate::step::{Draft, Step};
@@ -75,7 +76,8 @@ fn step_by(
     class: Class,
     draft: Draft,
 ) -> Step
-    ensures { result ≡ step_by (known_class classes.now) (known_target targets.now) (known_byte drafts.now) class draft }
+    ensures { result ≡ step_by (known_class classes.now) (known_target targets.now)
+        (known_byte drafts.now) class draft }
 {
     match draft {
         Draft::Primitive(primitive) => by_class(class, Step::NoValue, Step::Primitive(primitive)),
@@ -109,7 +111,8 @@ pub(crate) fn steps_by(
     drafts: &[Draft],
 ) -> Result<Vec<Step>, AllocError>
     requires { length drafts.now < 2 ^ 32 }
-    ensures { IfOk result (λ steps. AreStepsBy (known_class classes.now) (known_target targets.now) (known_byte drafts.now) drafts.now steps.items) }
+    ensures { IfOk result (λ steps. AreStepsBy (known_class classes.now) (known_target targets.now)
+        (known_byte drafts.now) drafts.now steps.items) }
 {
     let mut steps = Vec::with_capacity(alloc, drafts.len())?;
     'types: for (position, draft) in drafts.iter().enumerate() {

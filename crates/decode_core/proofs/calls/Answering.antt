@@ -1,5 +1,7 @@
 -- The answers of the runs as a whole, to a reader and to pieces, by what was fed.
-use Rattle.std.proofs.Common.{◌≡◌, ℕ, ◌+◌, ◌<◌, true, List, [], ◌∷◌, ◌++◌, length, take, drop, get_or, Option, Some, None, Ok, Err, refl, sym, ap, subst, ◌∙◌, append-nil, inl, inr, flat_map}
+use Rattle.std.proofs.Common.{◌≡◌, ℕ, ◌+◌, ◌<◌, true, List, [], ◌∷◌, ◌++◌, length, take, drop}
+use Rattle.std.proofs.Common.{get_or, Option, Some, None, Ok, Err, refl, sym, ap, subst, ◌∙◌}
+use Rattle.std.proofs.Common.{append-nil, inl, inr, flat_map}
 use Rattle.std.specs.Prelude.{IfSome, Result, ◌⊎◌}
 use Rattle.std.proofs.lemmas.Grind.{flat_map-append}
 use Rattle.std.proofs.lemmas.List.{take-append-drop, take_more}
@@ -7,7 +9,8 @@ use Rattle.grammar_core.specs.Tree.{Tree}
 use Rattle.value_core.specs.Shown.{Seen}
 use Rattle.decode_core.specs.Decoding.{Decoding, FinishesDecoder, IsEnded, Led}
 use Rattle.decode_core.specs.Outcome.{Job, done, more, IsOutcome}
-use Rattle.decode_core.specs.Streaming.{EndsAt, FeedsAll, IsFed, IsUnderWay, Joins, StopsOpen, Streams, Trails}
+use Rattle.decode_core.specs.Streaming.{EndsAt, FeedsAll, IsFed, IsUnderWay, Joins, StopsOpen}
+use Rattle.decode_core.specs.Streaming.{Streams, Trails}
 use Rattle.decode_core.specs.declared.fault.DecodeFault.{DecodeFault}
 use Rattle.decode_core.specs.declared.fault.OpenFault.{OpenFault}
 use Rattle.decode_core.specs.declared.pieces.PiecesFault.TheVariants as pieces
@@ -16,7 +19,8 @@ use Rattle.decode_core.specs.declared.stream.StreamFault.TheVariants as stream
 use Rattle.decode_core.proofs.calls.Feeding.{ended_stays}
 use Rattle.decode_core.proofs.lists.HeldBound.{held_is_bounded}
 use Rattle.decode_core.proofs.lists.Outcomes.{one_outcome}
-use Rattle.decode_core.proofs.calls.Streaming.{Whole, done_ends, done_stays, no_value, under_way_ends}
+use Rattle.decode_core.proofs.calls.Streaming.{Whole, done_ends, done_stays, no_value}
+use Rattle.decode_core.proofs.calls.Streaming.{under_way_ends}
 
 -- ---- to a reader
 

@@ -1,11 +1,14 @@
 -- What turns on a piece tell is the outcome of all bytes so far.
-use Rattle.std.proofs.Common.{◌≡◌, ℕ, suc, ◌+◌, ◌-◌, ◌<◌, ◌≤◌, List, [], ◌++◌, length, take, drop, refl, sym, ap, subst, ◌∙◌, append_assoc, Ok, Err, arith, inr, length-append, length-drop}
+use Rattle.std.proofs.Common.{◌≡◌, ℕ, suc, ◌+◌, ◌-◌, ◌<◌, ◌≤◌, List, [], ◌++◌, length, take, drop}
+use Rattle.std.proofs.Common.{refl, sym, ap, subst, ◌∙◌, append_assoc, Ok, Err, arith, inr}
+use Rattle.std.proofs.Common.{length-append, length-drop}
 use Rattle.std.proofs.lemmas.List.{append-nil, take_all, take-append-drop, length-take}
 use Rattle.registry_core.specs.declared.type_info.TypeInfo.{TypeInfo}
 use Rattle.grammar_core.specs.Reading.{Refusal, truncated}
 use Rattle.scale_core.specs.Number.{AreBytes}
 use Rattle.scale_core.proofs.Numbers.{both_bytes}
-use Rattle.decode_core.specs.Decoding.{HoldsOf, IsDone, IsGoing, IsOf, IsWaiting, RanOut, built_tree}
+use Rattle.decode_core.specs.Decoding.{HoldsOf, IsDone, IsGoing, IsOf, IsWaiting, RanOut}
+use Rattle.decode_core.specs.Decoding.{built_tree}
 use Rattle.decode_core.specs.Decided.{Decided}
 use Rattle.decode_core.specs.Machine.{remain, start}
 use Rattle.decode_core.specs.Outcome.{Job, done, refused, more, too_long, IsOutcome}
@@ -19,7 +22,8 @@ use Rattle.decode_core.specs.declared.turned.Stopped.TheVariants as stop
 use Rattle.decode_core.proofs.lists.Decides.{not_cut}
 use Rattle.decode_core.proofs.steps.Holding.{holds_of}
 use Rattle.decode_core.proofs.steps.Refusing.{waits_told}
-use Rattle.decode_core.proofs.lists.Fed.{Here, cut_here, done_here, refused_here, take_split, led_on, whole_told}
+use Rattle.decode_core.proofs.lists.Fed.{Here, cut_here, done_here, refused_here, take_split}
+use Rattle.decode_core.proofs.lists.Fed.{led_on, whole_told}
 
 -- the bytes that are offered within the limit
 abbrev pub offered : Job → ℕ → List ℕ → List ℕ

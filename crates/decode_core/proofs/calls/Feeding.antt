@@ -1,11 +1,14 @@
 -- What a decoder answers to a piece, be its value on the way or whole.
-use Rattle.std.proofs.Common.{◌≡◌, ℕ, ◌+◌, ◌-◌, ◌<◌, ◌≤◌, List, [], ◌++◌, length, take, drop, Ok, Err, sym, ap, subst, ◌∙◌, append_assoc, arith, inl, inr, length-append}
+use Rattle.std.proofs.Common.{◌≡◌, ℕ, ◌+◌, ◌-◌, ◌<◌, ◌≤◌, List, [], ◌++◌, length, take, drop, Ok}
+use Rattle.std.proofs.Common.{Err, sym, ap, subst, ◌∙◌, append_assoc, arith, inl, inr}
+use Rattle.std.proofs.Common.{length-append}
 use Rattle.std.proofs.lemmas.List.{append-nil, length-take}
 use Rattle.registry_core.specs.declared.type_info.TypeInfo.{TypeInfo}
 use Rattle.grammar_core.specs.Reading.{Refusal, truncated}
 use Rattle.value_core.specs.Built.{Entry}
 use Rattle.scale_core.specs.Number.{AreBytes}
-use Rattle.decode_core.specs.Decoding.{HoldsOf, IsDone, IsEnded, IsGoing, RanOut, RunLed, built_tree}
+use Rattle.decode_core.specs.Decoding.{HoldsOf, IsDone, IsEnded, IsGoing, RanOut, RunLed}
+use Rattle.decode_core.specs.Decoding.{built_tree}
 use Rattle.decode_core.specs.Machine.{remain}
 use Rattle.decode_core.specs.Outcome.{Job, done, refused, more, too_long, IsOutcome}
 use Rattle.decode_core.specs.Reasons.{reason_of}
@@ -15,7 +18,8 @@ use Rattle.decode_core.specs.Turned.{FeedTells, IsSound, Moves, EndsTurns, Wants
 use Rattle.decode_core.specs.declared.fault.DecodeFault.{DecodeFault}
 use Rattle.decode_core.specs.declared.fault.DecodeReason.{DecodeReason}
 use Rattle.decode_core.specs.declared.turned.Stopped.TheVariants as stop
-use Rattle.decode_core.proofs.calls.Bridge.{offered, of_moved, fed_done, fed_more, fed_long, fed_refused}
+use Rattle.decode_core.proofs.calls.Bridge.{offered, of_moved, fed_done, fed_more, fed_long}
+use Rattle.decode_core.proofs.calls.Bridge.{fed_refused}
 use Rattle.decode_core.proofs.lists.Fed.{outcome_stays, take_split}
 use Rattle.decode_core.proofs.steps.Refusing.{waits_told}
 

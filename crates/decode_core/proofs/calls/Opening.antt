@@ -1,10 +1,12 @@
 -- A decoder that has taken nothing, and what the end of its input makes of one.
-use Rattle.std.proofs.Common.{◌≡◌, ℕ, suc, ◌+◌, ◌-◌, List, [], ◌++◌, length, Ok, Err, refl, sym, ap, subst, ◌∙◌, arith, inl, inr}
+use Rattle.std.proofs.Common.{◌≡◌, ℕ, suc, ◌+◌, ◌-◌, List, [], ◌++◌, length, Ok, Err, refl, sym, ap}
+use Rattle.std.proofs.Common.{subst, ◌∙◌, arith, inl, inr}
 use Rattle.std.specs.Prelude.{Result}
 use Rattle.std.proofs.lemmas.List.{append-nil}
 use Rattle.value_core.specs.Built.{Built, finished}
 use Rattle.value_core.specs.Shown.{Seen}
-use Rattle.decode_core.specs.Decoding.{AnswersPiece, Decoding, FinishesDecoder, IsEnded, IsGoing, IsOf, Led, RunLed, built_tree, first_running}
+use Rattle.decode_core.specs.Decoding.{AnswersPiece, Decoding, FinishesDecoder, IsEnded, IsGoing}
+use Rattle.decode_core.specs.Decoding.{IsOf, Led, RunLed, built_tree, first_running}
 use Rattle.decode_core.specs.Machine.{State, start}
 use Rattle.decode_core.specs.Outcome.{Job, done, more, IsOutcome}
 use Rattle.decode_core.specs.Running.{Running, state_of}

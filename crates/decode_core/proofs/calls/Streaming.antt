@@ -1,5 +1,7 @@
 -- What a decoder's answers to the parts of an input say of the whole input.
-use Rattle.std.proofs.Common.{◌≡◌, ℕ, ◌+◌, ◌<◌, ◌≤◌, Bool, true, false, List, [], ◌++◌, length, Option, Some, None, Ok, Err, refl, sym, ap, subst, ◌∙◌, append-nil, arith, take, inl, inr, length-append}
+use Rattle.std.proofs.Common.{◌≡◌, ℕ, ◌+◌, ◌<◌, ◌≤◌, Bool, true, false, List, [], ◌++◌, length}
+use Rattle.std.proofs.Common.{Option, Some, None, Ok, Err, refl, sym, ap, subst, ◌∙◌, append-nil}
+use Rattle.std.proofs.Common.{arith, take, inl, inr, length-append}
 use Rattle.std.specs.Prelude.{IfSome, ◌⊎◌, Result}
 use Rattle.std.specs.Io.KnownBytes.{Consumes, IsAtEnd, Keeps}
 use Rattle.std.proofs.KnownBytes.{Consumes-kept}
@@ -7,9 +9,11 @@ use Rattle.std.proofs.lemmas.List.{length-take, nil_from_length}
 use Rattle.registry_core.specs.declared.type_info.TypeInfo.{TypeInfo}
 use Rattle.grammar_core.specs.declared.limits.Limits.{Limits}
 use Rattle.grammar_core.specs.Tree.{Tree}
-use Rattle.decode_core.specs.Decoding.{AnswersPiece, Decoding, FinishesDecoder, IsEnded, Led, OpensDecoder, first_of_all}
+use Rattle.decode_core.specs.Decoding.{AnswersPiece, Decoding, FinishesDecoder, IsEnded, Led}
+use Rattle.decode_core.specs.Decoding.{OpensDecoder, first_of_all}
 use Rattle.decode_core.specs.Outcome.{Job, done, more, IsOutcome}
-use Rattle.decode_core.specs.Streaming.{EndsAt, FeedsAll, Forbids, IsUnderWay, LeavesOpen, Looks, StopsOpen, Trails}
+use Rattle.decode_core.specs.Streaming.{EndsAt, FeedsAll, Forbids, IsUnderWay, LeavesOpen, Looks}
+use Rattle.decode_core.specs.Streaming.{StopsOpen, Trails}
 use Rattle.decode_core.specs.declared.decoder.Progress.{Progress}
 use Rattle.decode_core.specs.declared.decoder.Progress.TheVariants as progress
 use Rattle.decode_core.specs.declared.fault.DecodeFault.{DecodeFault}

@@ -1,5 +1,6 @@
 -- Where a begun tree is held, bytes are missing, and it is the one that is computed.
-use Rattle.std.proofs.Common.{◌≡◌, ℕ, zero, suc, ◌<◌, ◌≤◌, ◌⊎◌, true, List, [], ◌∷◌, ◌++◌, Option, Some, Err, refl, ap, subst, append_assoc, arith, inl, inr}
+use Rattle.std.proofs.Common.{◌≡◌, ℕ, zero, suc, ◌<◌, ◌≤◌, ◌⊎◌, true, List, [], ◌∷◌, ◌++◌, Option}
+use Rattle.std.proofs.Common.{Some, Err, refl, ap, subst, append_assoc, arith, inl, inr}
 use Rattle.scale_core.specs.Compact.{IsCompact}
 use Rattle.scale_core.specs.Read.{Read}
 use Rattle.scale_core.specs.declared.compact.Target.TheVariants as target
@@ -10,11 +11,13 @@ use Rattle.widths_core.specs.Layouts.{Layout, layout}
 use Rattle.widths_core.specs.Layouts as layout
 use Rattle.grammar_core.specs.Tree.{Tree, Trees, none, and, how_many, most_levels}
 use Rattle.grammar_core.specs.Grammar.{Val, Vals, Each}
-use Rattle.grammar_core.specs.Reading.{value_at, layout_at, all_at, times_at, Refusal, truncated, no_finite_value, bit_sequence, bad_compact}
+use Rattle.grammar_core.specs.Reading.{value_at, layout_at, all_at, times_at, Refusal, truncated}
+use Rattle.grammar_core.specs.Reading.{no_finite_value, bit_sequence, bad_compact}
 use Rattle.decode_core.proofs.lists.Outcomes.{failed, failed_is}
 use Rattle.grammar_core.proofs.Complete.{value_again}
 use Rattle.grammar_core.specs.Begun.{Begun, nothing, whole, in_fields, in_arm, in_list, Grows}
-use Rattle.decode_core.specs.Holds.{OwnIsShort, IsShort, held, layout_held, all_held, times_held, BegunIsMissing}
+use Rattle.decode_core.specs.Holds.{OwnIsShort, IsShort, held, layout_held, all_held, times_held}
+use Rattle.decode_core.specs.Holds.{BegunIsMissing}
 
 all_front : (r : List TypeInfo) (room : ℕ) (front : List ℕ) (u : ℕ) (back : List ℕ) (vs : Trees)
     (b c left : List ℕ) (g : Begun × List ℕ) → Vals r front vs b → most_levels vs ≤ room →

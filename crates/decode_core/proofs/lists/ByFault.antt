@@ -1,12 +1,15 @@
 -- What is taken, by the fault alone.
-use Rattle.std.proofs.Common.{◌≡◌, ℕ, zero, suc, ◌+◌, ◌^◌, ◌≤◌, Bool, true, false, cond, List, [], ◌∷◌, ◌++◌, length, take, drop, Option, Some, None, Ok, Err, refl, ap, ◌∙◌, arith, inl, inr}
+use Rattle.std.proofs.Common.{◌≡◌, ℕ, zero, suc, ◌+◌, ◌^◌, ◌≤◌, Bool, true, false, cond, List, []}
+use Rattle.std.proofs.Common.{◌∷◌, ◌++◌, length, take, drop, Option, Some, None, Ok, Err, refl, ap}
+use Rattle.std.proofs.Common.{◌∙◌, arith, inl, inr}
 use Rattle.std.specs.Prelude.{nat_lt, not}
 use Rattle.std.specs.Str.{bytes_eq, is_utf8}
 use Rattle.std.specs.Str.Lossy.{utf8_valid_len}
 use Rattle.std.proofs.lemmas.Bool.{ltb-false}
 use Rattle.scale_core.specs.Compact.{compact, target_bytes}
 use Rattle.scale_core.specs.Number.{number, signed_number, is_scalar}
-use Rattle.scale_core.specs.Read.{Read, ◌>>=◌, bytes_at, compact_at, integer_at, form_from, form_number, is_too_long, form_len}
+use Rattle.scale_core.specs.Read.{Read, ◌>>=◌, bytes_at, compact_at, integer_at, form_from}
+use Rattle.scale_core.specs.Read.{form_number, is_too_long, form_len}
 use Rattle.scale_core.specs.declared.compact.Target.{Target}
 use Rattle.scale_core.specs.declared.compact.Target.TheVariants as target
 use Rattle.scale_core.specs.declared.fault.Reason.{Reason}
@@ -24,12 +27,18 @@ use Rattle.widths_core.specs.Layouts.{Plain, Layout, layout}
 use Rattle.widths_core.specs.Layouts as layout
 use Rattle.widths_core.specs.declared.run_kind.RunKind.{RunKind}
 use Rattle.widths_core.specs.declared.run_kind.RunKind.TheVariants as kind
-use Rattle.grammar_core.specs.Tree.{Leaf, Branch, leaf, char, unsigned, signed, wide, compact as compact_value, fields, arm, list, count, Trees, and}
-use Rattle.grammar_core.specs.Reading.{value_at, layout_at, leaf_at, bool_at, char_from, all_at, times_at, fields_behind_index, arms_at, as_leaf, with_children, Refusal, basic, no_such_variant, too_deep, no_finite_value, bit_sequence, bad_compact}
+use Rattle.grammar_core.specs.Tree.{Leaf, Branch, leaf, char, unsigned, signed, wide}
+use Rattle.grammar_core.specs.Tree.{compact as compact_value, fields, arm, list, count, Trees, and}
+use Rattle.grammar_core.specs.Reading.{value_at, layout_at, leaf_at, bool_at, char_from, all_at}
+use Rattle.grammar_core.specs.Reading.{times_at, fields_behind_index, arms_at, as_leaf}
+use Rattle.grammar_core.specs.Reading.{with_children, Refusal, basic, no_such_variant, too_deep}
+use Rattle.grammar_core.specs.Reading.{no_finite_value, bit_sequence, bad_compact}
 use Rattle.grammar_core.specs.Runs.{run_at, run_judged, run_leaf, run_length_at}
 use Rattle.grammar_core.proofs.Runs.{length_takes}
 use Rattle.grammar_core.proofs.Sound.{value_takes}
-use Rattle.decode_core.specs.Taken.{leaf_taken, taken_after, compact_taken, run_length_taken, run_taken, all_taken, times_taken, arm_taken, arms_taken, layout_taken, value_taken}
+use Rattle.decode_core.specs.Taken.{leaf_taken, taken_after, compact_taken, run_length_taken}
+use Rattle.decode_core.specs.Taken.{run_taken, all_taken, times_taken, arm_taken, arms_taken}
+use Rattle.decode_core.specs.Taken.{layout_taken, value_taken}
 use Rattle.decode_core.specs.Outcome.{IsTakenBefore, TakenByFault}
 use Rattle.decode_core.proofs.lists.Deciding.{chain, finish, bind_chain}
 use Rattle.decode_core.proofs.lists.Shortest.{and_finish, elements_chain, body_at}

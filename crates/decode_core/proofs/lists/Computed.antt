@@ -1,15 +1,19 @@
 -- Every input has the outcome that is computed.
-use Rattle.std.proofs.Common.{◌≡◌, ℕ, suc, List, ◌++◌, length, take, drop, Ok, Err, refl, sym, ap, ◌∙◌, arith, inl, inr}
+use Rattle.std.proofs.Common.{◌≡◌, ℕ, suc, List, ◌++◌, length, take, drop, Ok, Err, refl, sym, ap}
+use Rattle.std.proofs.Common.{◌∙◌, arith, inl, inr}
 use Rattle.std.specs.Prelude.{◌≢◌}
 use Rattle.std.proofs.lemmas.Bool.{cases_lt, lt-ltb, le-ltb}
 use Rattle.std.proofs.lemmas.List.{take_all, take-append-drop, length-append}
 use Rattle.scale_core.specs.Read.{Read, place}
 use Rattle.scale_core.specs.declared.fault.Reason.TheVariants as scale
 use Rattle.grammar_core.specs.Tree.{Tree}
-use Rattle.grammar_core.specs.Reading.{value_at, Refusal, basic, no_such_variant, too_deep, no_finite_value, bit_sequence, bad_compact, truncated}
+use Rattle.grammar_core.specs.Reading.{value_at, Refusal, basic, no_such_variant, too_deep}
+use Rattle.grammar_core.specs.Reading.{no_finite_value, bit_sequence, bad_compact, truncated}
 use Rattle.grammar_core.proofs.Proved.{read_is_value, stable}
 use Rattle.decode_core.specs.Taken.{value_taken}
-use Rattle.decode_core.specs.Outcome.{Outcome, refused, Job, IsShortest, FailsAt, IsOutcome, missing, refusal, answer, outcome_of, OutcomeIsComputed, TakenIsShortest}
+use Rattle.decode_core.specs.Outcome.{Outcome, refused, Job, IsShortest, FailsAt, IsOutcome}
+use Rattle.decode_core.specs.Outcome.{missing, refusal, answer, outcome_of, OutcomeIsComputed}
+use Rattle.decode_core.specs.Outcome.{TakenIsShortest}
 use Rattle.decode_core.proofs.lists.Deciding.{Decides}
 use Rattle.decode_core.proofs.lists.Shortest.{value_decided}
 use Rattle.decode_core.proofs.lists.Outcomes.{one_outcome, failed_is}

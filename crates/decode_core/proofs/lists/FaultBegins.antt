@@ -1,5 +1,7 @@
 -- What was added before a fault is a begun tree.
-use Rattle.std.proofs.Common.{◌≡◌, ℕ, zero, suc, ◌<◌, ◌≤◌, ◌⊎◌, List, [], ◌∷◌, ◌++◌, length, Option, Some, None, Ok, Err, refl, sym, ap, ◌∙◌, append_assoc, arith, inl, inr}
+use Rattle.std.proofs.Common.{◌≡◌, ℕ, zero, suc, ◌<◌, ◌≤◌, ◌⊎◌, List, [], ◌∷◌, ◌++◌, length, Option}
+use Rattle.std.proofs.Common.{Some, None, Ok, Err, refl, sym, ap, ◌∙◌, append_assoc, arith, inl}
+use Rattle.std.proofs.Common.{inr}
 use Rattle.scale_core.specs.Compact.{IsCompact}
 use Rattle.scale_core.specs.Read.{Read, compact_at}
 use Rattle.scale_core.specs.declared.compact.Target.TheVariants as target
@@ -19,7 +21,9 @@ use Rattle.grammar_core.specs.Grammar.{Val, Vals, Each}
 use Rattle.grammar_core.specs.Reading.{value_at, layout_at, Refusal}
 use Rattle.grammar_core.proofs.Proved.{read_is_value}
 use Rattle.value_core.specs.Built.{Entry}
-use Rattle.decode_core.specs.Told.{entry, shown, leaf_own, arm_own, arms_own, length_own, shallow, own_at, Ending, Fault, Told, told, after, then, all_told, times_told, own_told, told_at}
+use Rattle.decode_core.specs.Told.{entry, shown, leaf_own, arm_own, arms_own, length_own, shallow}
+use Rattle.decode_core.specs.Told.{own_at, Ending, Fault, Told, told, after, then, all_told}
+use Rattle.decode_core.specs.Told.{times_told, own_told, told_at}
 use Rattle.grammar_core.specs.Begun.{nothing, in_fields, in_arm, in_list, Grows}
 use Rattle.decode_core.specs.Begins.{Begins, FaultIsBegun}
 use Rattle.decode_core.specs.Met.{met_layout}

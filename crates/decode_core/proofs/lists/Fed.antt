@@ -1,5 +1,7 @@
 -- What a state that bytes led to tells of them: where the reading ends there, that is the outcome.
-use Rattle.std.proofs.Common.{◌≡◌, ℕ, suc, ◌+◌, ◌-◌, ◌<◌, ◌≤◌, List, [], ◌++◌, length, take, drop, Ok, Err, refl, sym, ap, subst, ◌∙◌, append_assoc, arith, inl, inr, length-append, length-drop}
+use Rattle.std.proofs.Common.{◌≡◌, ℕ, suc, ◌+◌, ◌-◌, ◌<◌, ◌≤◌, List, [], ◌++◌, length, take, drop}
+use Rattle.std.proofs.Common.{Ok, Err, refl, sym, ap, subst, ◌∙◌, append_assoc, arith, inl, inr}
+use Rattle.std.proofs.Common.{length-append, length-drop}
 use Rattle.std.specs.Prelude.{◌≢◌}
 use Rattle.std.proofs.lemmas.Bool.{cases_lt}
 use Rattle.std.proofs.lemmas.List.{append-nil, take_all, take-append-le, length-take}
@@ -10,9 +12,11 @@ use Rattle.grammar_core.specs.Tree.{Tree}
 use Rattle.grammar_core.specs.Preorder.{preorder, tree_of, tree_of-preorder}
 use Rattle.grammar_core.specs.Reading.{value_at, Refusal, truncated}
 use Rattle.grammar_core.proofs.Proved.{read_is_value, stable}
-use Rattle.decode_core.specs.Outcome.{Outcome, done, refused, more, too_long, Job, IsShortest, FailsAt, IsOutcome}
+use Rattle.decode_core.specs.Outcome.{Outcome, done, refused, more, too_long, Job, IsShortest}
+use Rattle.decode_core.specs.Outcome.{FailsAt, IsOutcome}
 use Rattle.value_core.specs.Built.{Entry}
-use Rattle.decode_core.specs.Told.{shown, Ending, Fault, Told, told, added, ending, after, then, times_told, told_at, rest_told, Agrees}
+use Rattle.decode_core.specs.Told.{shown, Ending, Fault, Told, told, added, ending, after, then}
+use Rattle.decode_core.specs.Told.{times_told, told_at, rest_told, Agrees}
 use Rattle.decode_core.specs.Machine.{State, remain, start}
 use Rattle.decode_core.proofs.lists.Tells.{after-nil, then-end, told_agrees}
 use Rattle.decode_core.specs.Turned.{TurnsLead}

@@ -1,5 +1,6 @@
 -- A begun tree has few nodes.
-use Rattle.std.proofs.Common.{◌≡◌, ℕ, zero, suc, ◌+◌, ◌*◌, ◌≤◌, ◌⊎◌, List, [], ◌∷◌, ◌++◌, length, Option, ap, arith, inl, inr, length-append}
+use Rattle.std.proofs.Common.{◌≡◌, ℕ, zero, suc, ◌+◌, ◌*◌, ◌≤◌, ◌⊎◌, List, [], ◌∷◌, ◌++◌, length}
+use Rattle.std.proofs.Common.{Option, ap, arith, inl, inr, length-append}
 use Rattle.std.proofs.Math.Nat.{mul-add, add-mul, mul-le-mul_right}
 use Rattle.registry_core.specs.declared.type_info.TypeInfo.{TypeInfo}
 use Rattle.graph_core.specs.Widths.{widest}
@@ -13,8 +14,11 @@ use Rattle.widths_core.proofs.Wide.{narrow_at, arm-width}
 use Rattle.grammar_core.specs.Tree.{how_many}
 use Rattle.grammar_core.specs.Preorder.{levels-pos}
 use Rattle.grammar_core.proofs.Emptiness.{known_at}
-use Rattle.grammar_core.proofs.Bounds.{per, per-mul, per-suc, array_element, same_length, or_unit, node_le, vals_le, each_le, text_le, all_text_le, each_text_le}
-use Rattle.grammar_core.specs.Begun.{Begun, nothing, whole, in_fields, in_arm, in_list, Grows, begun_nodes, begun_levels, begun_text_bytes}
+use Rattle.grammar_core.proofs.Bounds.{per, per-mul, per-suc, array_element, same_length, or_unit}
+use Rattle.grammar_core.proofs.Bounds.{node_le, vals_le, each_le, text_le, all_text_le}
+use Rattle.grammar_core.proofs.Bounds.{each_text_le}
+use Rattle.grammar_core.specs.Begun.{Begun, nothing, whole, in_fields, in_arm, in_list, Grows}
+use Rattle.grammar_core.specs.Begun.{begun_nodes, begun_levels, begun_text_bytes}
 use Rattle.decode_core.specs.Holds.{BegunIsBounded}
 
 -- a node over whole children and one that is begun

@@ -1,12 +1,14 @@
 -- An outcome that is decided is kept.
-use Rattle.std.proofs.Common.{◌≡◌, ℕ, suc, ◌-◌, List, [], ◌++◌, length, take, refl, sym, ap, ◌∙◌, append_assoc, arith, inl, inr}
+use Rattle.std.proofs.Common.{◌≡◌, ℕ, suc, ◌-◌, List, [], ◌++◌, length, take, refl, sym, ap, ◌∙◌}
+use Rattle.std.proofs.Common.{append_assoc, arith, inl, inr}
 use Rattle.std.specs.Prelude.{◌≢◌}
 use Rattle.std.proofs.lemmas.Bool.{cases_lt}
 use Rattle.std.proofs.lemmas.List.{take-append-le, length-append, take_all, append-nil}
 use Rattle.std.proofs.Math.Seq.{take-append-add}
 use Rattle.grammar_core.specs.Reading.{Refusal, truncated}
 use Rattle.grammar_core.proofs.Proved.{stable}
-use Rattle.decode_core.specs.Outcome.{done, refused, more, too_long, Job, IsShortest, FailsAt, OutcomeIsKept}
+use Rattle.decode_core.specs.Outcome.{done, refused, more, too_long, Job, IsShortest, FailsAt}
+use Rattle.decode_core.specs.Outcome.{OutcomeIsKept}
 
 take_more : (n : ℕ) (input later : List ℕ) → (m : List ℕ)
     × (take n (input ++ later) ≡ take n input ++ m)

@@ -1,11 +1,13 @@
 -- A fault's place lies in the input.
-use Rattle.std.proofs.Common.{ℕ, zero, suc, ◌≤◌, Bool, true, false, cond, List, [], ◌∷◌, length, Option, Some, None, Ok, Err, ap, arith, length-append, length-drop}
+use Rattle.std.proofs.Common.{ℕ, zero, suc, ◌≤◌, Bool, true, false, cond, List, [], ◌∷◌, length}
+use Rattle.std.proofs.Common.{Option, Some, None, Ok, Err, ap, arith, length-append, length-drop}
 use Rattle.std.specs.Str.{bytes_eq, is_utf8}
 use Rattle.std.specs.Str.Lossy.{utf8_valid_len}
 use Rattle.std.specs.Prelude.{nat_lt, not, ◌^◌}
 use Rattle.scale_core.specs.Number.{number, signed_number, is_scalar}
 use Rattle.scale_core.specs.Compact.{compact, target_bytes}
-use Rattle.scale_core.specs.Read.{Read, ◌>>=◌, bytes_at, form_len, form_number, form_from, is_too_long, integer_at, compact_at}
+use Rattle.scale_core.specs.Read.{Read, ◌>>=◌, bytes_at, form_len, form_number, form_from}
+use Rattle.scale_core.specs.Read.{is_too_long, integer_at, compact_at}
 use Rattle.scale_core.specs.declared.compact.Target.{Target}
 use Rattle.scale_core.specs.declared.compact.Target.TheVariants as target
 use Rattle.scale_core.specs.declared.fault.Reason.{Reason}

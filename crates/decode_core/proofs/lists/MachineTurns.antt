@@ -1,10 +1,12 @@
 -- Each turn of the machine keeps what the whole reading says.
-use Rattle.std.proofs.Common.{◌≡◌, ℕ, suc, ◌+◌, ◌<◌, List, [], ◌∷◌, ◌++◌, length, Some, None, Ok, refl, ap, arith, length-append}
+use Rattle.std.proofs.Common.{◌≡◌, ℕ, suc, ◌+◌, ◌<◌, List, [], ◌∷◌, ◌++◌, length, Some, None, Ok}
+use Rattle.std.proofs.Common.{refl, ap, arith, length-append}
 use Rattle.registry_core.specs.declared.type_info.TypeInfo.{TypeInfo}
 use Rattle.grammar_core.specs.Parts.{Part, each, times}
 use Rattle.value_core.specs.Built.{Entry}
 use Rattle.grammar_core.specs.Preorder.{Head}
-use Rattle.decode_core.specs.Told.{entry, Told, told, added, after, then, all_told, times_told, part_told, told_at, rest_told}
+use Rattle.decode_core.specs.Told.{entry, Told, told, added, after, then, all_told, times_told}
+use Rattle.decode_core.specs.Told.{part_told, told_at, rest_told}
 use Rattle.decode_core.specs.Machine.{State, remain, to_go}
 use Rattle.decode_core.specs.Turned.{TurnLeads}
 use Rattle.decode_core.proofs.lists.Tells.{after-after, after-nil, then-after, then-then}

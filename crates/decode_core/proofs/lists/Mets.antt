@@ -1,5 +1,6 @@
 -- What is read of a type is read by the layout that is met.
-use Rattle.std.proofs.Common.{◌≡◌, ℕ, suc, ◌≤◌, Bool, true, false, cond, List, Err, refl, sym, ◌⊎◌, [], inl, inr}
+use Rattle.std.proofs.Common.{◌≡◌, ℕ, suc, ◌≤◌, Bool, true, false, cond, List, Err, refl, sym, ◌⊎◌}
+use Rattle.std.proofs.Common.{[], inl, inr}
 use Rattle.std.specs.Prelude.{◌≢◌}
 use Rattle.scale_core.proofs.Results.{Takes}
 use Rattle.scale_core.specs.Compact.{IsCompact}

@@ -1,5 +1,7 @@
 -- Where bytes are missing, a begun tree is held.
-use Rattle.std.proofs.Common.{◌≡◌, ℕ, zero, suc, ◌<◌, ◌≤◌, ◌⊎◌, Bool, true, false, cond, List, [], ◌∷◌, ◌++◌, Option, Some, None, Ok, Err, refl, sym, ap, ◌∙◌, append_assoc, arith, inl, inr}
+use Rattle.std.proofs.Common.{◌≡◌, ℕ, zero, suc, ◌<◌, ◌≤◌, ◌⊎◌, Bool, true, false, cond, List, []}
+use Rattle.std.proofs.Common.{◌∷◌, ◌++◌, Option, Some, None, Ok, Err, refl, sym, ap, ◌∙◌}
+use Rattle.std.proofs.Common.{append_assoc, arith, inl, inr}
 use Rattle.scale_core.specs.Compact.{IsCompact}
 use Rattle.scale_core.specs.Read.{Read, ◌>>=◌, compact_at}
 use Rattle.scale_core.specs.declared.compact.Target.TheVariants as target
@@ -12,9 +14,12 @@ use Rattle.widths_core.specs.Arms.{arm_of}
 use Rattle.widths_core.specs.Classes.{is_finite}
 use Rattle.widths_core.specs.Layouts.{Layout, layout}
 use Rattle.widths_core.specs.Layouts as layout
-use Rattle.grammar_core.specs.Tree.{Branch, Tree, fields, arm, list, Trees, none, and, how_many, levels, most_levels}
+use Rattle.grammar_core.specs.Tree.{Branch, Tree, fields, arm, list, Trees, none, and, how_many}
+use Rattle.grammar_core.specs.Tree.{levels, most_levels}
 use Rattle.grammar_core.specs.Grammar.{Val, Vals, Each}
-use Rattle.grammar_core.specs.Reading.{value_at, layout_at, leaf_at, all_at, times_at, fields_behind_index, arms_at, elements_at, with_children, Refusal, truncated, too_deep}
+use Rattle.grammar_core.specs.Reading.{value_at, layout_at, leaf_at, all_at, times_at}
+use Rattle.grammar_core.specs.Reading.{fields_behind_index, arms_at, elements_at, with_children}
+use Rattle.grammar_core.specs.Reading.{Refusal, truncated, too_deep}
 use Rattle.grammar_core.proofs.Sound.{value_takes}
 use Rattle.grammar_core.specs.Begun.{Begun, nothing, in_fields, in_arm, in_list, IsPart, Grows}
 use Rattle.decode_core.specs.Holds.{OwnIsShort, IsShort, MissingIsBegun}

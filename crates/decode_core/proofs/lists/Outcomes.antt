@@ -1,5 +1,6 @@
 -- The outcome of what was encoded, and that there is one outcome alone.
-use Rattle.std.proofs.Common.{◌≡◌, ℕ, suc, ◌≤◌, List, [], ◌++◌, length, take, Result, Err, refl, sym, ap, ◌∙◌, arith, inl, inr}
+use Rattle.std.proofs.Common.{◌≡◌, ℕ, suc, ◌≤◌, List, [], ◌++◌, length, take, Result, Err, refl}
+use Rattle.std.proofs.Common.{sym, ap, ◌∙◌, arith, inl, inr}
 use Rattle.std.proofs.lemmas.Bool.{cases_lt}
 use Rattle.std.proofs.lemmas.List.{append-nil, take_all}
 use Rattle.scale_core.specs.Read.{place}
@@ -8,7 +9,8 @@ use Rattle.grammar_core.specs.Tree.{Tree, levels}
 use Rattle.grammar_core.specs.Grammar.{Val}
 use Rattle.grammar_core.specs.Reading.{Refusal, truncated}
 use Rattle.grammar_core.proofs.Proved.{not_both, prefix_free}
-use Rattle.decode_core.specs.Outcome.{done, refused, more, too_long, Job, IsShortest, FailsAt, EncodedIsDone, OneOutcome}
+use Rattle.decode_core.specs.Outcome.{done, refused, more, too_long, Job, IsShortest, FailsAt}
+use Rattle.decode_core.specs.Outcome.{EncodedIsDone, OneOutcome}
 
 pub encoded_is_done : EncodedIsDone
 encoded_is_done j v b h l s = (b, [], take_all j.bytes b s ∙ sym (append-nil b), h, l, refl)

@@ -1,5 +1,7 @@
 -- What is taken where a value is refused is the shortest front that is refused so.
-use Rattle.std.proofs.Common.{◌≡◌, ℕ, zero, suc, ◌+◌, ◌-◌, ◌/◌, ◌%◌, ◌^◌, ◌<◌, ◌≤◌, ◌⊎◌, Bool, true, false, cond, List, [], ◌∷◌, length, take, drop, Option, Some, None, Ok, Err, refl, sym, ap, ◌∙◌, arith, inl, inr}
+use Rattle.std.proofs.Common.{◌≡◌, ℕ, zero, suc, ◌+◌, ◌-◌, ◌/◌, ◌%◌, ◌^◌, ◌<◌, ◌≤◌, ◌⊎◌, Bool, true}
+use Rattle.std.proofs.Common.{false, cond, List, [], ◌∷◌, length, take, drop, Option, Some, None}
+use Rattle.std.proofs.Common.{Ok, Err, refl, sym, ap, ◌∙◌, arith, inl, inr}
 use Rattle.std.specs.Prelude.{◌≢◌, ◌==◌, nat_lt, not}
 use Rattle.std.specs.Str.{bytes_eq, is_utf8}
 use Rattle.std.specs.Str.Lossy.{utf8_valid_len}
@@ -7,7 +9,8 @@ use Rattle.std.proofs.lemmas.Bool.{cases_lt, le-ltb, lt-ltb}
 use Rattle.std.proofs.lemmas.List.{append-nil, length-take-le}
 use Rattle.scale_core.specs.Compact.{compact, target_bytes}
 use Rattle.scale_core.specs.Number.{number, signed_number, is_scalar}
-use Rattle.scale_core.specs.Read.{Read, ◌>>=◌, bytes_at, compact_at, integer_at, checked_form, form_from, form_number, is_too_long, form_len}
+use Rattle.scale_core.specs.Read.{Read, ◌>>=◌, bytes_at, compact_at, integer_at, checked_form}
+use Rattle.scale_core.specs.Read.{form_from, form_number, is_too_long, form_len}
 use Rattle.scale_core.specs.declared.compact.Target.{Target}
 use Rattle.scale_core.specs.declared.compact.Target.TheVariants as target
 use Rattle.scale_core.specs.declared.fault.Reason.{Reason}
@@ -23,16 +26,24 @@ use Rattle.widths_core.specs.Layouts.{Plain, Layout, layout}
 use Rattle.widths_core.specs.Layouts as layout
 use Rattle.widths_core.specs.declared.run_kind.RunKind.{RunKind}
 use Rattle.widths_core.specs.declared.run_kind.RunKind.TheVariants as kind
-use Rattle.grammar_core.specs.Tree.{Leaf, Branch, Tree, leaf, branch, char, unsigned, signed, wide, compact as compact_value, fields, arm, list, count, Trees, and, levels}
+use Rattle.grammar_core.specs.Tree.{Leaf, Branch, Tree, leaf, branch, char, unsigned, signed, wide}
+use Rattle.grammar_core.specs.Tree.{compact as compact_value, fields, arm, list, count, Trees, and}
+use Rattle.grammar_core.specs.Tree.{levels}
 use Rattle.grammar_core.specs.Grammar.{Val}
-use Rattle.grammar_core.specs.Reading.{value_at, layout_at, leaf_at, bool_at, char_from, all_at, times_at, fields_behind_index, arms_at, elements_at, as_leaf, with_children, Refusal, basic, no_such_variant, too_deep, no_finite_value, bit_sequence, bad_compact, truncated}
+use Rattle.grammar_core.specs.Reading.{value_at, layout_at, leaf_at, bool_at, char_from, all_at}
+use Rattle.grammar_core.specs.Reading.{times_at, fields_behind_index, arms_at, elements_at, as_leaf}
+use Rattle.grammar_core.specs.Reading.{with_children, Refusal, basic, no_such_variant, too_deep}
+use Rattle.grammar_core.specs.Reading.{no_finite_value, bit_sequence, bad_compact, truncated}
 use Rattle.grammar_core.specs.Runs.{run_at, run_judged, run_leaf, run_length_at}
 use Rattle.grammar_core.proofs.Runs.{length_again, length_extends, length_takes}
 use Rattle.grammar_core.proofs.Sound.{value_takes}
 use Rattle.grammar_core.proofs.Complete.{value_again}
 use Rattle.grammar_core.proofs.Stable.{value_extends}
-use Rattle.decode_core.specs.Taken.{leaf_taken, compact_taken, run_length_taken, run_taken, all_taken, times_taken, arm_taken, arms_taken, layout_taken, value_taken}
-use Rattle.decode_core.proofs.lists.Deciding.{Decided, IsSteady, chain, finish, bind_chain, finish_decided, chain_decided, cons_decided}
+use Rattle.decode_core.specs.Taken.{leaf_taken, compact_taken, run_length_taken, run_taken}
+use Rattle.decode_core.specs.Taken.{all_taken, times_taken, arm_taken, arms_taken, layout_taken}
+use Rattle.decode_core.specs.Taken.{value_taken}
+use Rattle.decode_core.proofs.lists.Deciding.{Decided, IsSteady, chain, finish, bind_chain}
+use Rattle.decode_core.proofs.lists.Deciding.{finish_decided, chain_decided, cons_decided}
 
 -- ---- compacts
 

@@ -1,5 +1,6 @@
 -- Reading node by node is the big-step reading.
-use Rattle.std.proofs.Common.{Bool, true, false, cond, ◌≡◌, ℕ, zero, suc, List, [], ◌∷◌, ◌++◌, length, Option, Some, None, Ok, Err, refl, sym, ap, ◌∙◌, append_assoc}
+use Rattle.std.proofs.Common.{Bool, true, false, cond, ◌≡◌, ℕ, zero, suc, List, [], ◌∷◌, ◌++◌}
+use Rattle.std.proofs.Common.{length, Option, Some, None, Ok, Err, refl, sym, ap, ◌∙◌, append_assoc}
 use Rattle.std.proofs.lemmas.List.{append-nil}
 use Rattle.scale_core.specs.Read.{bytes_at, Read, ◌>>=◌, compact_at}
 use Rattle.scale_core.specs.declared.compact.Target.TheVariants as target
@@ -15,12 +16,16 @@ use Rattle.widths_core.specs.Layouts as layout
 use Rattle.grammar_core.specs.Tree.{Leaf, Branch, Tree, Trees, none, and, how_many}
 use Rattle.grammar_core.specs.Tree as tree
 use Rattle.grammar_core.specs.Preorder.{Head, head_of, preorder, all_preorder}
-use Rattle.grammar_core.specs.Reading.{as_leaf, basic, bool_at, char_from, value_at, layout_at, leaf_at, all_at, times_at, fields_behind_index, arms_at, elements_at, with_children, Refusal}
+use Rattle.grammar_core.specs.Reading.{as_leaf, basic, bool_at, char_from, value_at, layout_at}
+use Rattle.grammar_core.specs.Reading.{leaf_at, all_at, times_at, fields_behind_index, arms_at}
+use Rattle.grammar_core.specs.Reading.{elements_at, with_children, Refusal}
 use Rattle.grammar_core.specs.Runs.{run_at, run_leaf}
 use Rattle.decode_core.specs.Met.{met_layout}
 use Rattle.decode_core.proofs.lists.Mets.{value_met}
 use Rattle.value_core.specs.Built.{Entry}
-use Rattle.decode_core.specs.Told.{entry, shown, leaf_own, arm_own, arms_own, length_own, own_at, Told, told, added, ending, after, then, all_told, times_told, own_told, told_at, Agrees}
+use Rattle.decode_core.specs.Told.{entry, shown, leaf_own, arm_own, arms_own, length_own, own_at}
+use Rattle.decode_core.specs.Told.{Told, told, added, ending, after, then, all_told, times_told}
+use Rattle.decode_core.specs.Told.{own_told, told_at, Agrees}
 use Rattle.grammar_core.specs.Preorder as head
 
 pub shown-append : (xs ys : List Entry) → shown (xs ++ ys) ≡ shown xs ++ shown ys

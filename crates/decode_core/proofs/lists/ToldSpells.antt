@@ -1,5 +1,6 @@
 -- The nodes that a reading adds spell the bytes in front of where it ends.
-use Rattle.std.proofs.Common.{◌≡◌, ℕ, zero, suc, ◌≤◌, List, [], ◌∷◌, ◌++◌, Option, Some, None, Ok, Err, refl, sym, ap, flat_map, subst, ◌∙◌, append_assoc}
+use Rattle.std.proofs.Common.{◌≡◌, ℕ, zero, suc, ◌≤◌, List, [], ◌∷◌, ◌++◌, Option, Some, None, Ok}
+use Rattle.std.proofs.Common.{Err, refl, sym, ap, flat_map, subst, ◌∙◌, append_assoc}
 use Rattle.std.proofs.lemmas.Grind.{flat_map-append}
 use Rattle.std.proofs.lemmas.List.{append-nil}
 use Rattle.scale_core.specs.Compact.{IsCompact}
@@ -26,7 +27,9 @@ use Rattle.grammar_core.specs.Tree as tree
 use Rattle.grammar_core.proofs.Spelled.{encoded_is_value, arm_byte, array_length, sequence_length}
 use Rattle.value_core.specs.Built.{Entry}
 use Rattle.decode_core.specs.Met.{met_layout}
-use Rattle.decode_core.specs.Told.{entry, Own, leaf_own, arm_own, arms_own, length_own, own_at, Told, told, after, then, all_told, times_told, opened_told, own_told, told_at}
+use Rattle.decode_core.specs.Told.{entry, Own, leaf_own, arm_own, arms_own, length_own, own_at}
+use Rattle.decode_core.specs.Told.{Told, told, after, then, all_told, times_told, opened_told}
+use Rattle.decode_core.specs.Told.{own_told, told_at}
 use Rattle.decode_core.proofs.lists.Mets.{met_is, met_takes}
 use Rattle.decode_core.proofs.lists.Tells.{IsLeafTree, IsLeafRead, reads_leaf}
 

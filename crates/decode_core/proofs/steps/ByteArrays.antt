@@ -1,5 +1,6 @@
 -- Turns on an array of u8 of which no byte came.
-use Rattle.std.proofs.Common.{◌≡◌, ℕ, ◌≤◌, List, [], ◌++◌, take, drop, Option, Some, None, refl, sym, ap, subst, ◌∙◌, arith, inl, inr}
+use Rattle.std.proofs.Common.{◌≡◌, ℕ, ◌≤◌, List, [], ◌++◌, take, drop, Option, Some, None, refl}
+use Rattle.std.proofs.Common.{sym, ap, subst, ◌∙◌, arith, inl, inr}
 use Rattle.std.specs.Prelude.{◌⊎◌}
 use Rattle.std.proofs.lemmas.List.{take-append-drop}
 use Rattle.widths_core.specs.Layouts.{Layout}
@@ -12,7 +13,8 @@ use Rattle.value_core.specs.Walked.{next_of}
 use Rattle.decode_core.specs.NodeAdds.{IsAdded, IsSpelled}
 use Rattle.decode_core.specs.Running.{Running, IsRunning, held_of}
 use Rattle.decode_core.specs.Told.{own_at}
-use Rattle.decode_core.specs.Turned.{IsSame, KeepsNode, KeepsRun, PieceTells, StepTells, Steps, WantsBytes, WantsMemory}
+use Rattle.decode_core.specs.Turned.{IsSame, KeepsNode, KeepsRun, PieceTells, StepTells, Steps}
+use Rattle.decode_core.specs.Turned.{WantsBytes, WantsMemory}
 use Rattle.decode_core.specs.declared.run.OpenRun.{OpenRun}
 use Rattle.decode_core.specs.declared.turned.Turned.{Turned}
 use Rattle.decode_core.specs.declared.turned.Turned.TheVariants as turned

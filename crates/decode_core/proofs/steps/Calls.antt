@@ -1,17 +1,22 @@
 -- What the turns of a call add to those before it.
-use Rattle.std.proofs.Common.{◌≡◌, ℕ, ◌+◌, ◌-◌, ◌<◌, ◌≤◌, List, length, take, drop, sym, ap, subst, arith, inl, inr, length-drop}
+use Rattle.std.proofs.Common.{◌≡◌, ℕ, ◌+◌, ◌-◌, ◌<◌, ◌≤◌, List, length, take, drop, sym, ap, subst}
+use Rattle.std.proofs.Common.{arith, inl, inr, length-drop}
 use Rattle.std.proofs.lemmas.List.{length-take, take_rest}
 use Rattle.std.proofs.Math.Seq.{take-add}
 use Rattle.std.specs.Prelude.{true}
 use Rattle.grammar_core.specs.declared.form.Form.{Form}
 use Rattle.value_core.specs.Refusals.{is_whole}
 use Rattle.decode_core.specs.Running.{Running}
-use Rattle.decode_core.specs.Turned.{Awaits, FeedTells, FewTurns, IsSound, KeepsTurns, Moves, RunsOut, StepTells, StopCounts, StopsShort, TurnsTell, left_to_do}
+use Rattle.decode_core.specs.Turned.{Awaits, FeedTells, FewTurns, IsSound, KeepsTurns, Moves}
+use Rattle.decode_core.specs.Turned.{RunsOut, StepTells, StopCounts, StopsShort, TurnsTell}
+use Rattle.decode_core.specs.Turned.{left_to_do}
 use Rattle.decode_core.specs.declared.turned.Stopped.{Stopped}
 use Rattle.decode_core.specs.declared.turned.Stopped.TheVariants as stop
 use Rattle.decode_core.specs.declared.turned.Turned.{Turned}
 use Rattle.decode_core.specs.declared.turned.Turned.TheVariants as turned
-use Rattle.decode_core.proofs.steps.Moving.{awaits_goes_on, drop_more, grows_by, moves_on, one_or_bytes, stays_whole, step_nearer, turns_on, turns_stop}
+use Rattle.decode_core.proofs.steps.Moving.{awaits_goes_on, drop_more, grows_by, moves_on}
+use Rattle.decode_core.proofs.steps.Moving.{one_or_bytes, stays_whole, step_nearer, turns_on}
+use Rattle.decode_core.proofs.steps.Moving.{turns_stop}
 
 -- what the turns of a call tell of what is left of a piece, which it was lent as a slice, where their last
 -- one is known

@@ -1,5 +1,6 @@
 -- How many turns there were, by the bytes that were taken and the nodes that were added.
-use Rattle.std.proofs.Common.{◌≡◌, ℕ, suc, ◌+◌, ◌*◌, ◌-◌, ◌≤◌, List, [], ◌++◌, length, take, Ok, Err, refl, sym, ap, subst, ◌∙◌, arith, inl, inr, length-append}
+use Rattle.std.proofs.Common.{◌≡◌, ℕ, suc, ◌+◌, ◌*◌, ◌-◌, ◌≤◌, List, [], ◌++◌, length, take, Ok}
+use Rattle.std.proofs.Common.{Err, refl, sym, ap, subst, ◌∙◌, arith, inl, inr, length-append}
 use Rattle.std.proofs.lemmas.List.{append-nil, length-map, length-take, take_all}
 use Rattle.registry_core.specs.declared.type_info.TypeInfo.{TypeInfo}
 use Rattle.graph_core.specs.Widths.{widest}
@@ -12,7 +13,8 @@ use Rattle.decode_core.specs.Machine.{State, remain, start}
 use Rattle.decode_core.specs.Outcome.{Job, done, IsOutcome}
 use Rattle.decode_core.specs.Running.{Running, held_of, state_of}
 use Rattle.decode_core.specs.Told.{Told, told, added, after, told_at}
-use Rattle.decode_core.specs.Turned.{FeedTells, FewTurns, IsSound, Moves, TurnsLead, StopCounts, StopsShort, types_of}
+use Rattle.decode_core.specs.Turned.{FeedTells, FewTurns, IsSound, Moves, TurnsLead, StopCounts}
+use Rattle.decode_core.specs.Turned.{StopsShort, types_of}
 use Rattle.decode_core.specs.declared.fault.DecodeReason.{DecodeReason}
 use Rattle.decode_core.specs.declared.turned.Stopped.{Stopped}
 use Rattle.decode_core.specs.declared.turned.Stopped.TheVariants as stop

@@ -1,5 +1,6 @@
 -- What is held where bytes are missing is the begun tree of all bytes so far.
-use Rattle.std.proofs.Common.{◌≡◌, ℕ, suc, ◌+◌, true, List, [], ◌∷◌, ◌++◌, length, Option, Some, None, Err, refl, sym, ap, subst, ◌∙◌, arith}
+use Rattle.std.proofs.Common.{◌≡◌, ℕ, suc, ◌+◌, true, List, [], ◌∷◌, ◌++◌, length, Option, Some}
+use Rattle.std.proofs.Common.{None, Err, refl, sym, ap, subst, ◌∙◌, arith}
 use Rattle.std.specs.Prelude.{◌-◌, option_map}
 use Rattle.scale_core.specs.Number.{AreBytes}
 use Rattle.scale_core.specs.declared.fault.Reason.TheVariants as scale

@@ -1,5 +1,6 @@
 -- A list, a count, an arm, and a run's length, by their own bytes.
-use Rattle.std.proofs.Common.{◌≡◌, ℕ, true, false, List, [], ◌∷◌, length, Option, Some, None, Result, Ok, Err, refl, sym, ap, subst, ◌∙◌, arith}
+use Rattle.std.proofs.Common.{◌≡◌, ℕ, true, false, List, [], ◌∷◌, length, Option, Some, None}
+use Rattle.std.proofs.Common.{Result, Ok, Err, refl, sym, ap, subst, ◌∙◌, arith}
 use Rattle.std.specs.Prelude.{◌≢◌, OnErr, OnOk, is_some, slice_index_or}
 use Rattle.scale_core.specs.Read.{Read, place, compact_at}
 use Rattle.scale_core.specs.declared.compact.Target.TheVariants as target

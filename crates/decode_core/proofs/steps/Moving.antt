@@ -1,5 +1,7 @@
 -- One turn behind the other.
-use Rattle.std.proofs.Common.{◌≡◌, ℕ, suc, ◌+◌, ◌-◌, ◌<◌, ◌≤◌, ◌⊎◌, List, [], ◌++◌, length, take, drop, refl, sym, ap, subst, ◌∙◌, append_assoc, arith, inl, inr, length-drop}
+use Rattle.std.proofs.Common.{◌≡◌, ℕ, suc, ◌+◌, ◌-◌, ◌<◌, ◌≤◌, ◌⊎◌, List, [], ◌++◌, length, take}
+use Rattle.std.proofs.Common.{drop, refl, sym, ap, subst, ◌∙◌, append_assoc, arith, inl, inr}
+use Rattle.std.proofs.Common.{length-drop}
 use Rattle.std.proofs.lemmas.List.{append-nil, drop-drop, take_rest, take-append-drop, length-take}
 use Rattle.std.proofs.Math.Seq.{take-add}
 use Rattle.std.specs.Prelude.{true, is_none, Option, Some, None, ◌∷◌}
@@ -12,7 +14,8 @@ use Rattle.value_core.specs.Walked.{OpenPart, first_in, next_from}
 use Rattle.decode_core.specs.Machine.{State, remain, to_go}
 use Rattle.decode_core.specs.Running.{Running, held_of, state_of}
 use Rattle.decode_core.specs.Told.{after}
-use Rattle.decode_core.specs.Turned.{Awaits, FeedTells, IsSame, IsSound, Moves, StepTells, Steps, left_to_do, types_of}
+use Rattle.decode_core.specs.Turned.{Awaits, FeedTells, IsSame, IsSound, Moves, StepTells, Steps}
+use Rattle.decode_core.specs.Turned.{left_to_do, types_of}
 use Rattle.decode_core.specs.declared.turned.Stopped.{Stopped}
 use Rattle.decode_core.specs.declared.turned.Stopped.TheVariants as stop
 use Rattle.decode_core.specs.declared.turned.Turned.TheVariants as turned

@@ -1,5 +1,6 @@
 -- What is read of a node without parts is what its layout reads: compacts and 256-bit integers.
-use Rattle.std.proofs.Common.{◌≡◌, ℕ, ◌≤◌, List, length, take, drop, Ok, refl, ap, ◌∙◌, arith, take_all}
+use Rattle.std.proofs.Common.{◌≡◌, ℕ, ◌≤◌, List, length, take, drop, Ok, refl, ap, ◌∙◌, arith}
+use Rattle.std.proofs.Common.{take_all}
 use Rattle.std.proofs.lemmas.Bool.{le-ltb}
 use Rattle.scale_core.specs.Read.{bytes_at, compact_at}
 use Rattle.scale_core.specs.declared.compact.Target.{Target}

@@ -1,5 +1,7 @@
 -- Turns on a text or a run of bytes.
-use Rattle.std.proofs.Common.{◌≡◌, ℕ, ◌+◌, ◌-◌, ◌<◌, ◌≤◌, Bool, true, false, List, [], ◌++◌, length, take, drop, Option, Some, None, Ok, Err, refl, sym, ap, subst, ◌∙◌, append_assoc, arith, inl, inr, length-append, length-drop}
+use Rattle.std.proofs.Common.{◌≡◌, ℕ, ◌+◌, ◌-◌, ◌<◌, ◌≤◌, Bool, true, false, List, [], ◌++◌, length}
+use Rattle.std.proofs.Common.{take, drop, Option, Some, None, Ok, Err, refl, sym, ap, subst, ◌∙◌}
+use Rattle.std.proofs.Common.{append_assoc, arith, inl, inr, length-append, length-drop}
 use Rattle.std.specs.Str.{is_utf8}
 use Rattle.std.specs.Str.Lossy.{utf8_valid_len}
 use Rattle.std.proofs.lemmas.Bool.{cases_lt, lt-ltb}
@@ -16,7 +18,8 @@ use Rattle.widths_core.specs.declared.run_kind.RunKind.{RunKind}
 use Rattle.widths_core.specs.declared.run_kind.RunKind.TheVariants as kind
 use Rattle.grammar_core.specs.Preorder as head
 use Rattle.grammar_core.specs.Reading.{basic, truncated, as_leaf, layout_at}
-use Rattle.grammar_core.specs.Runs.{run_at, run_form, run_front, run_judged, run_leaf, run_length_at}
+use Rattle.grammar_core.specs.Runs.{run_at, run_form, run_front, run_judged, run_leaf}
+use Rattle.grammar_core.specs.Runs.{run_length_at}
 use Rattle.grammar_core.specs.declared.form.Form.TheVariants as form
 use Rattle.grammar_core.specs.declared.form.Next.TheVariants as next
 use Rattle.grammar_core.proofs.Runs.{length_extends}
@@ -25,7 +28,8 @@ use Rattle.value_core.specs.Refusals.{IsRunWhole, bad_bytes, bad_text, missing_a
 use Rattle.value_core.specs.Walked.{next_of}
 use Rattle.decode_core.specs.Needs.{HasBytes}
 use Rattle.decode_core.specs.NodeAdds.{IsAdded}
-use Rattle.decode_core.specs.Running.{Running, IsLength, IsRunning, IsKeptRun, IsRunNext, held_of, run_held, state_of}
+use Rattle.decode_core.specs.Running.{Running, IsLength, IsRunning, IsKeptRun, IsRunNext, held_of}
+use Rattle.decode_core.specs.Running.{run_held, state_of}
 use Rattle.decode_core.specs.Told.{leaf_own, own_at}
 use Rattle.decode_core.specs.Turned.{EndTells, TurnLeads, EndsTurns, WantsBytes, WantsMemory}
 use Rattle.decode_core.specs.declared.fault.DecodeReason.TheVariants as reason

@@ -1,5 +1,7 @@
 -- What a turn does and keeps, by what it called.
-use Rattle.std.proofs.Common.{◌≡◌, ℕ, zero, suc, ◌+◌, ◌-◌, ◌<◌, ◌≤◌, List, [], ◌∷◌, ◌++◌, length, take, drop, min, Option, Some, None, Result, Ok, Err, refl, sym, ap, subst, ◌∙◌, append_assoc, arith, inl, length-append}
+use Rattle.std.proofs.Common.{◌≡◌, ℕ, zero, suc, ◌+◌, ◌-◌, ◌<◌, ◌≤◌, List, [], ◌∷◌, ◌++◌, length}
+use Rattle.std.proofs.Common.{take, drop, min, Option, Some, None, Result, Ok, Err, refl, sym, ap}
+use Rattle.std.proofs.Common.{subst, ◌∙◌, append_assoc, arith, inl, length-append}
 use Rattle.std.specs.Prelude.{slice_get, slice_index_or, ◌==◌, true}
 use Rattle.std.proofs.lemmas.Bool.{eqb-true}
 use Rattle.std.proofs.lemmas.List.{take-append-drop, length-take}
@@ -12,7 +14,8 @@ use Rattle.grammar_core.specs.declared.form.Next.TheVariants as next
 use Rattle.decode_core.specs.Needs.{need, AreOwn, HasBytes, IsFirst, IsNeeded}
 use Rattle.decode_core.specs.NodeAdds.{IsRefused, IsSpelled, TakesNode, AddsBare, IsAdded}
 use Rattle.decode_core.specs.Running.{Running, IsRunning, IsCarry, IsKeptRun, held_of}
-use Rattle.decode_core.specs.Turned.{Steps, BareTells, StepTells, EndsTurns, WantsMemory, node_turned}
+use Rattle.decode_core.specs.Turned.{Steps, BareTells, StepTells, EndsTurns, WantsMemory}
+use Rattle.decode_core.specs.Turned.{node_turned}
 use Rattle.decode_core.specs.Told.{own_at}
 use Rattle.grammar_core.specs.Reading.{truncated}
 use Rattle.decode_core.specs.declared.fault.DecodeReason.{DecodeReason}
@@ -25,7 +28,8 @@ use Rattle.decode_core.specs.declared.turned.Turned.TheVariants as turned
 use Rattle.decode_core.proofs.steps.Refusing.{IsShortOf, own_short, refuses}
 use Rattle.decode_core.proofs.steps.Settling.{added_running}
 use Rattle.decode_core.proofs.steps.Stepping.{at_next}
-use Rattle.decode_core.proofs.steps.Steps.{added_same, added_steps, held_closed, taken_running, taken_same, taken_steps}
+use Rattle.decode_core.proofs.steps.Steps.{added_same, added_steps, held_closed, taken_running}
+use Rattle.decode_core.proofs.steps.Steps.{taken_same, taken_steps}
 
 same_form : (w : Next) (f g : Form) → w ≡ next.Wants f → w ≡ next.Wants g → f ≡ g
 same_form w f g h k = let both = sym h ∙ k in cc

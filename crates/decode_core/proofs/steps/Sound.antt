@@ -1,19 +1,24 @@
 -- What holds of every value on its way, and that what it holds is little.
-use Rattle.std.proofs.Common.{◌≡◌, ℕ, suc, ◌+◌, ◌*◌, ◌≤◌, ◌⊎◌, true, List, [], ◌∷◌, length, Option, Some, None, Ok, Err, refl, sym, ap, subst, ◌∙◌, arith, inl, inr, length-append}
+use Rattle.std.proofs.Common.{◌≡◌, ℕ, suc, ◌+◌, ◌*◌, ◌≤◌, ◌⊎◌, true, List, [], ◌∷◌, length, Option}
+use Rattle.std.proofs.Common.{Some, None, Ok, Err, refl, sym, ap, subst, ◌∙◌, arith, inl, inr}
+use Rattle.std.proofs.Common.{length-append}
 use Rattle.std.specs.Prelude.{Result}
 use Rattle.grammar_core.specs.Runs.{run_front}
 use Rattle.graph_core.specs.Widths.{widest}
-use Rattle.grammar_core.specs.Begun.{Begun, nothing, whole, in_fields, in_arm, in_list, IsBegunPreorder, begun_nodes, begun_text_bytes, is_whole_tree}
+use Rattle.grammar_core.specs.Begun.{Begun, nothing, whole, in_fields, in_arm, in_list}
+use Rattle.grammar_core.specs.Begun.{IsBegunPreorder, begun_nodes, begun_text_bytes, is_whole_tree}
 use Rattle.grammar_core.specs.Preorder.{Head, tree_of, tree_of-preorder}
 use Rattle.grammar_core.specs.Reading.{truncated}
 use Rattle.grammar_core.specs.Tree.{nodes, text_bytes}
 use Rattle.value_core.specs.Begun.{IsBegun}
-use Rattle.value_core.specs.Built.{Built, Entry, Pieces, entries_text_bytes, built_text_bytes, pieces_bytes}
+use Rattle.value_core.specs.Built.{Built, Entry, Pieces, entries_text_bytes, built_text_bytes}
+use Rattle.value_core.specs.Built.{pieces_bytes}
 use Rattle.value_core.proofs.Begun.{counts}
 use Rattle.value_core.proofs.Finished.{heads_text}
 use Rattle.decode_core.specs.Bound.{node_bound, value_bound}
 use Rattle.value_core.specs.Shown.{Seen}
-use Rattle.decode_core.specs.Decoding.{FinishesDecoder, IsSmallValue, IsDone, IsSmall, IsWaiting, RunCounted, RunLed, built_tree, first_running}
+use Rattle.decode_core.specs.Decoding.{FinishesDecoder, IsSmallValue, IsDone, IsSmall, IsWaiting}
+use Rattle.decode_core.specs.Decoding.{RunCounted, RunLed, built_tree, first_running}
 use Rattle.decode_core.specs.Outcome.{Job}
 use Rattle.decode_core.specs.Running.{Running, IsRunning, held_of, run_held}
 use Rattle.decode_core.specs.Told.{Fault, shown}

@@ -1,11 +1,13 @@
 -- Adding a node to a value that is built is a turn of the machine, and the closing of what is
 -- whole.
-use Rattle.std.proofs.Common.{◌≡◌, ℕ, zero, suc, ◌+◌, ◌-◌, ◌≤◌, true, List, [], ◌∷◌, ◌++◌, length, map, Option, Some, None, Ok, refl, sym, ap, subst, ◌∙◌, arith}
+use Rattle.std.proofs.Common.{◌≡◌, ℕ, zero, suc, ◌+◌, ◌-◌, ◌≤◌, true, List, [], ◌∷◌, ◌++◌, length}
+use Rattle.std.proofs.Common.{map, Option, Some, None, Ok, refl, sym, ap, subst, ◌∙◌, arith}
 use Rattle.std.proofs.lemmas.List.{length-map}
 use Rattle.registry_core.specs.declared.type_info.TypeInfo.{TypeInfo}
 use Rattle.widths_core.specs.Classes.{is_finite}
 use Rattle.widths_core.specs.Layouts.{Layout, layout}
-use Rattle.value_core.specs.Built.{Built, next_layout, settled_in, settled, with_leaf, with_open, type_or_0}
+use Rattle.value_core.specs.Built.{Built, next_layout, settled_in, settled, with_leaf, with_open}
+use Rattle.value_core.specs.Built.{type_or_0}
 use Rattle.grammar_core.specs.Parts.{Part, each, times, first_of, left_after}
 use Rattle.grammar_core.specs.Preorder.{Head}
 use Rattle.value_core.specs.Walked.{OpenPart, first_in, next_type, next_of, advanced_in}
@@ -19,7 +21,8 @@ use Rattle.decode_core.specs.Told.{entry, own_at, told, after, part_told, told_a
 use Rattle.decode_core.specs.Turned.{TurnLeads}
 use Rattle.decode_core.proofs.lists.Owns.{own_extends, Spells}
 use Rattle.decode_core.proofs.lists.Tells.{after-nil}
-use Rattle.decode_core.proofs.lists.MachineTurns.{First, each_first, times_first, own_leaf, own_opens}
+use Rattle.decode_core.proofs.lists.MachineTurns.{First, each_first, times_first, own_leaf}
+use Rattle.decode_core.proofs.lists.MachineTurns.{own_opens}
 
 -- what is next: the innermost open part, its next type, and the room for it
 pub record AtNext (b : Built) : Type 0 where

@@ -1,13 +1,15 @@
 -- As many bytes as a node needs are its own, and none is left over; or they are enough to refuse
 -- it.
-use Rattle.std.proofs.Common.{◌≡◌, ℕ, zero, suc, ◌^◌, Bool, true, false, cond, List, [], ◌∷◌, length, Option, Some, None, Ok, Err, refl, arith}
+use Rattle.std.proofs.Common.{◌≡◌, ℕ, zero, suc, ◌^◌, Bool, true, false, cond, List, [], ◌∷◌}
+use Rattle.std.proofs.Common.{length, Option, Some, None, Ok, Err, refl, arith}
 use Rattle.std.specs.Prelude.{◌≢◌, nat_lt, not}
 use Rattle.std.proofs.lemmas.Bool.{le-ltb}
 use Rattle.std.proofs.lemmas.List.{take_all, drop_all}
 use Rattle.std.specs.Str.{bytes_eq}
 use Rattle.scale_core.specs.Number.{number, signed_number, is_scalar}
 use Rattle.scale_core.specs.Compact.{compact, target_bytes}
-use Rattle.scale_core.specs.Read.{Read, bytes_at, form_len, form_number, form_from, checked_form, is_too_long, integer_at, compact_at}
+use Rattle.scale_core.specs.Read.{Read, bytes_at, form_len, form_number, form_from, checked_form}
+use Rattle.scale_core.specs.Read.{is_too_long, integer_at, compact_at}
 use Rattle.scale_core.specs.declared.compact.Target.{Target}
 use Rattle.scale_core.specs.declared.compact.Target.TheVariants as target
 use Rattle.scale_core.specs.declared.fault.Reason.{Reason}

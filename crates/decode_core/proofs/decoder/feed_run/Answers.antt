@@ -2,7 +2,8 @@ use Rattle.std.proofs.Common.{◌-◌, arith, ap, length}
 use Rattle.std.proofs.lemmas.List.{length-take}
 use Rattle.scale_core.proofs.ReadForms.{are_bytes}
 use Rattle.decode_core.proofs.steps.Counting.{counts_long, counts_refused, counts_short}
-use Rattle.decode_core.proofs.calls.FeedRun.{run_done, run_long, run_more, run_held, run_refused, run_short, takes_refused}
+use Rattle.decode_core.proofs.calls.FeedRun.{run_done, run_long, run_more, run_held, run_refused}
+use Rattle.decode_core.proofs.calls.FeedRun.{run_short, takes_refused}
 use Rattle.decode_core.proofs.decoder.feed_run.Goals as goal
 
 pub returns-then-offered-piece-clause-answers : goal.returns-then-offered-piece-clause-answers

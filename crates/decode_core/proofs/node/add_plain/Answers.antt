@@ -1,7 +1,8 @@
 use Rattle.std.proofs.Common.{arith}
 use Rattle.std.proofs.lemmas.Result.{err_from_is_err_and}
 use Rattle.scale_core.proofs.ReadForms.{are_bytes}
-use Rattle.decode_core.proofs.steps.PlainAdding.{plain_added, plain_next, plain_refused, plain_spelled}
+use Rattle.decode_core.proofs.steps.PlainAdding.{plain_added, plain_next, plain_refused}
+use Rattle.decode_core.proofs.steps.PlainAdding.{plain_spelled}
 use Rattle.decode_core.proofs.node.add_plain.Goals as goal
 
 pub returns-in_err-leaf : goal.returns-in_err-leaf

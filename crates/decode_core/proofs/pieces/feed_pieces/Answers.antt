@@ -2,7 +2,8 @@ use Rattle.std.proofs.Common.{◌∙◌, ℕ, List, [], Bor, ap, flat_map, get_o
 use Rattle.std.proofs.lemmas.List.{take_all}
 use Rattle.std.proofs.lemmas.Result.{err_from_is_err_and}
 use Rattle.decode_core.specs.Streaming.{IsUnderWay}
-use Rattle.decode_core.proofs.calls.Answering.{fed_all, fed_whole, joined_at, joined_next, refused_within}
+use Rattle.decode_core.proofs.calls.Answering.{fed_all, fed_whole, joined_at, joined_next}
+use Rattle.decode_core.proofs.calls.Answering.{refused_within}
 use Rattle.decode_core.proofs.calls.Streaming.{more_by, under_way_by, whole_by}
 use Rattle.decode_core.proofs.pieces.feed_pieces.Goals as goal
 

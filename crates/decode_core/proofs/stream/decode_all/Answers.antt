@@ -3,7 +3,8 @@ use Rattle.std.proofs.lemmas.Result.{err_from_is_err_and}
 use Rattle.decode_core.specs.Decoding.{Decoding, first_of_all, opening_fault}
 use Rattle.decode_core.specs.Outcome.{Job}
 use Rattle.decode_core.specs.Streaming.{FeedsAll, job_of}
-use Rattle.decode_core.proofs.calls.Answering.{end_streams, fault_streams, stopped_open, value_streams}
+use Rattle.decode_core.proofs.calls.Answering.{end_streams, fault_streams, stopped_open}
+use Rattle.decode_core.proofs.calls.Answering.{value_streams}
 use Rattle.decode_core.proofs.calls.Streaming.{opened}
 use Rattle.decode_core.proofs.stream.decode_all.Goals as goal
 

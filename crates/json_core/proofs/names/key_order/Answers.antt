@@ -1,4 +1,5 @@
-use Rattle.std.proofs.Common.{◌≡◌, ◌∷◌, ◌++◌, ◌+◌, drop, rules, arith, ap, sym, ◌∙◌, option_map, map, [], Some}
+use Rattle.std.proofs.Common.{◌≡◌, ◌∷◌, ◌++◌, ◌+◌, drop, rules, arith, ap, sym, ◌∙◌, option_map}
+use Rattle.std.proofs.Common.{map, [], Some}
 use Rattle.std.proofs.lemmas.List.{drop_more, append-nil}
 use Rattle.std.proofs.Math.ListN.{drop_of_length-le}
 use Rattle.json_core.specs.Ordered.{name_order, order_from}

@@ -2,7 +2,8 @@ use Rattle.std.proofs.Common.{◌≡◌, ◌+◌, ◌/◌, ◌≤◌, length, ar
 use Rattle.std.specs.Fmt.{decimal}
 use Rattle.std.proofs.lemmas.Fmt.{length-decimal-le}
 use Rattle.itoa.proofs.Decimal.{length_one, length_two, length_pair, length_four}
-use Rattle.json_core.proofs.places.digit_count.Goals.{then-left-lt10, else-left-lt10, then-left-lt1000, else-left-lt1000}
+use Rattle.json_core.proofs.places.digit_count.Goals.{then-left-lt10, else-left-lt10}
+use Rattle.json_core.proofs.places.digit_count.Goals.{then-left-lt1000, else-left-lt1000}
 use Rattle.json_core.proofs.places.digit_count.Goals as goal
 
 pub overflow_add-count : goal.overflow_add-count

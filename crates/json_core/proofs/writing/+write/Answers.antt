@@ -1,4 +1,5 @@
-use Rattle.std.proofs.Common.{◌≡◌, [], ◌∷◌, ◌+◌, length, map, drop, rules, arith, inl, inr, refl, ap, ap₂, sym, ◌∙◌, subst}
+use Rattle.std.proofs.Common.{◌≡◌, [], ◌∷◌, ◌+◌, length, map, drop, rules, arith, inl, inr, refl}
+use Rattle.std.proofs.Common.{ap, ap₂, sym, ◌∙◌, subst}
 use Rattle.std.specs.Prelude.{slice_range}
 use Rattle.std.specs.Bool.{OnTrue}
 use Rattle.std.specs.Slice.Iter.{iter_rest}
@@ -19,9 +20,14 @@ use Rattle.json_core.proofs.Children.{children_below, jsons}
 use Rattle.json_core.proofs.Counts.{fields_count, arm_count, child_read, child_below, child_data}
 use Rattle.json_core.proofs.Known.{grows_not, grows_again}
 use Rattle.json_core.proofs.PlainNames.{AllPlain, plain_names, plain_rest, plain_first, plain_at}
-use Rattle.json_core.proofs.Ordered.{are_named, positions_are_named, positions_count, unnamed_json_is, in_order_json_is, sorted_json_is}
-use Rattle.json_core.proofs.Told.{told, long_here, long_compact_here, text_is, bytes_are, fields_at_node, no_fields_at_node, fields_are, no_fields_json, arm_there, arm_at_node, arm_is, arm_place, composite_place}
-use Rattle.json_core.proofs.Turns.{name_is, in_order_turn, item_turn, array_whole, turn_at, named_behind, name_read, sorted_turn, one_member, object_whole, no_field_left, no_item_left, no_position_left}
+use Rattle.json_core.proofs.Ordered.{are_named, positions_are_named, positions_count}
+use Rattle.json_core.proofs.Ordered.{unnamed_json_is, in_order_json_is, sorted_json_is}
+use Rattle.json_core.proofs.Told.{told, long_here, long_compact_here, text_is, bytes_are}
+use Rattle.json_core.proofs.Told.{fields_at_node, no_fields_at_node, fields_are, no_fields_json}
+use Rattle.json_core.proofs.Told.{arm_there, arm_at_node, arm_is, arm_place, composite_place}
+use Rattle.json_core.proofs.Turns.{name_is, in_order_turn, item_turn, array_whole, turn_at}
+use Rattle.json_core.proofs.Turns.{named_behind, name_read, sorted_turn, one_member, object_whole}
+use Rattle.json_core.proofs.Turns.{no_field_left, no_item_left, no_position_left}
 use Rattle.json_core.proofs.writing.+write.Goals as goal
 
 pub write_items-children-init : goal.write_items-children-init

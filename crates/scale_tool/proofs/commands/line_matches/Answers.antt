@@ -1,6 +1,7 @@
 use Rattle.std.proofs.Common.{◌≡◌, ◌∙◌, ap, map, subst, true, refl}
 use Rattle.std.proofs.lemmas.Result.{IfErr-weaker, IfOk-weaker}
-use Rattle.clap.specs.Words.{FailsBy, fault_of, is_simple, is_simple_and_free, matches_of, subcommand_of, takes}
+use Rattle.clap.specs.Words.{FailsBy, fault_of, is_simple, is_simple_and_free, matches_of}
+use Rattle.clap.specs.Words.{subcommand_of, takes}
 use Rattle.clap.proofs.OnLiterals.{clap_on_literals}
 use Rattle.scale_tool.specs.Line.{line}
 use Rattle.scale_tool.proofs.commands.line_matches.Goals as goal

@@ -1,5 +1,6 @@
 use Rattle.std.proofs.Common.{arith}
-use Rattle.scale_tool.proofs.HexPlaces.{behind_prefix, hex_is, place_within, told_bad, told_length, told_odd}
+use Rattle.scale_tool.proofs.HexPlaces.{behind_prefix, hex_is, place_within, told_bad, told_length}
+use Rattle.scale_tool.proofs.HexPlaces.{told_odd}
 use Rattle.scale_tool.proofs.hex_text.hex_bytes.Goals as goal
 
 pub overflow_add-result : goal.overflow_add-result

@@ -1,7 +1,8 @@
 use Rattle.std.proofs.Common.{◌≡◌, Err, None, ap, false}
 use Rattle.scale_tool.specs.Refused.{status_of_value}
 use Rattle.scale_tool.specs.Values.{TellsFile, decoding, value_in}
-use Rattle.scale_tool.proofs.Decoded.{stream_fault, stream_opens, stream_tells, stream_value, where_known}
+use Rattle.scale_tool.proofs.Decoded.{stream_fault, stream_opens, stream_tells, stream_value}
+use Rattle.scale_tool.proofs.Decoded.{where_known}
 use Rattle.scale_tool.proofs.value.read_raw.Goals as goal
 
 pub returns-in-Ok-clause-value : goal.returns-in-Ok-clause-value

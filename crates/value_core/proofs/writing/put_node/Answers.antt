@@ -1,5 +1,8 @@
 use Rattle.std.proofs.Common.{rules, ◌≡◌, FitsSigned, ap, subst, ◌∙◌, ℕ, [], ◌∷◌, arith}
-use Rattle.value_core.proofs.SpelledNodes.{one_front, compact_front, char_front, starts_as, starts_bool, starts_bytes, starts_char, starts_text, starts_unsigned, starts_signed, starts_compact, starts_count, starts_arm, starts_list}
+use Rattle.value_core.proofs.SpelledNodes.{one_front, compact_front, char_front, starts_as}
+use Rattle.value_core.proofs.SpelledNodes.{starts_bool, starts_bytes, starts_char, starts_text}
+use Rattle.value_core.proofs.SpelledNodes.{starts_unsigned, starts_signed, starts_compact}
+use Rattle.value_core.proofs.SpelledNodes.{starts_count, starts_arm, starts_list}
 use Rattle.std.specs.Int.{w128, cast_unsigned}
 use Rattle.std.proofs.lemmas.Int.{to_z-of_z}
 use Rattle.graph_core.specs.Types.{shape}

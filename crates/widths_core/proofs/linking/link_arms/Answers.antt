@@ -6,9 +6,11 @@ use Rattle.graph_core.specs.Stops.{StopsLinking}
 use Rattle.widths_core.proofs.ArmRules.{arms_none, arms_shadowed, arms_counted}
 use Rattle.graph_core.proofs.Stopped.{stop_kept}
 use Rattle.widths_core.proofs.Stopped.{stops_arms}
-use Rattle.widths_core.proofs.RowTo.{row_none, row_has, row_lacks, row_shadowed, row_counted, row_all}
+use Rattle.widths_core.proofs.RowTo.{row_none, row_has, row_lacks, row_shadowed, row_counted}
+use Rattle.widths_core.proofs.RowTo.{row_all}
 use Rattle.widths_core.proofs.linking.link_arms.Goals as goal
-use Rattle.widths_core.proofs.linking.link_arms.Goals.{in-Ok+in_ok-link_fields-in-Ok, in-Err+in_ok-from-in-Err+in_ok-number-in-Err+in_ok-insert-in-Err}
+use Rattle.widths_core.proofs.linking.link_arms.Goals.{in-Ok+in_ok-link_fields-in-Ok}
+use Rattle.widths_core.proofs.linking.link_arms.Goals.{in-Err+in_ok-from-in-Err+in_ok-number-in-Err+in_ok-insert-in-Err}
 
 pub arms-init : goal.arms-init
 arms-init c = (

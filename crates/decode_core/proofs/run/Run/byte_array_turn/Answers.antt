@@ -2,7 +2,8 @@ use Rattle.std.proofs.Common.{arith, subst, sym, refl, ◌≤◌, take}
 use Rattle.value_core.specs.Built.{Built}
 use Rattle.decode_core.specs.Running.{Running, IsRunning}
 use Rattle.decode_core.specs.Turned.{IsSame, PieceTells, StepTells, Steps, WantsBytes, WantsMemory}
-use Rattle.decode_core.proofs.steps.ByteArrays.{array_piece, array_running, array_tells, array_waits, array_wants, at_array}
+use Rattle.decode_core.proofs.steps.ByteArrays.{array_piece, array_running, array_tells}
+use Rattle.decode_core.proofs.steps.ByteArrays.{array_waits, array_wants, at_array}
 use Rattle.decode_core.proofs.steps.RunTurns.{none_of, of_fields}
 use Rattle.decode_core.proofs.run.Run.byte_array_turn.Goals as goal
 

@@ -1,6 +1,8 @@
 use Rattle.std.proofs.Common.{drop, refl}
 use Rattle.decode_core.specs.declared.turned.Turned.TheVariants as turned
-use Rattle.decode_core.proofs.steps.Calls.{call_counts, call_counts_short, call_each, call_few, call_goes_on, call_nearer, call_runs_out, call_stops, told_of, whole_call_stops}
+use Rattle.decode_core.proofs.steps.Calls.{call_counts, call_counts_short, call_each, call_few}
+use Rattle.decode_core.proofs.steps.Calls.{call_goes_on, call_nearer, call_runs_out, call_stops}
+use Rattle.decode_core.proofs.steps.Calls.{told_of, whole_call_stops}
 use Rattle.decode_core.proofs.run.Run.feed.Goals as goal
 
 pub turns-smaller : goal.turns-smaller

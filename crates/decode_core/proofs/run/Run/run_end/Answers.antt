@@ -1,4 +1,5 @@
-use Rattle.std.proofs.Common.{rules, ◌≡◌, ℕ, ◌+◌, ◌<◌, ◌^◌, arith, ap, subst, sym, ◌∙◌, length, None, Some}
+use Rattle.std.proofs.Common.{rules, ◌≡◌, ℕ, ◌+◌, ◌<◌, ◌^◌, arith, ap, subst, sym, ◌∙◌, length}
+use Rattle.std.proofs.Common.{None, Some}
 use Rattle.scale_core.specs.Compact.{compact}
 use Rattle.value_core.specs.Refusals.{bad_text}
 use Rattle.decode_core.specs.Running.{Running}
@@ -7,7 +8,8 @@ use Rattle.decode_core.specs.declared.fault.DecodeReason.TheVariants as reason
 use Rattle.decode_core.specs.declared.turned.Stopped.TheVariants as stop
 use Rattle.decode_core.specs.declared.turned.Turned.TheVariants as turned
 use Rattle.decode_core.proofs.steps.RunTurns.{of_fields}
-use Rattle.decode_core.proofs.steps.RunSteps.{at_end, bad_tells, bad_within, end_len, end_wants, end_whole, ended_running, ended_tells, open_of}
+use Rattle.decode_core.proofs.steps.RunSteps.{at_end, bad_tells, bad_within, end_len, end_wants}
+use Rattle.decode_core.proofs.steps.RunSteps.{end_whole, ended_running, ended_tells, open_of}
 use Rattle.decode_core.proofs.run.Run.run_end.Goals as goal
 
 pub overflow_add-result : goal.overflow_add-result

@@ -1,11 +1,13 @@
-use Rattle.std.proofs.Common.{◌≡◌, ℕ, ◌+◌, ◌*◌, List, cond, [], ◌∷◌, ◌++◌, length, take, drop, IsUtf8, refl, ap, ◌∙◌, arith, rules, take_at, append_assoc}
+use Rattle.std.proofs.Common.{◌≡◌, ℕ, ◌+◌, ◌*◌, List, cond, [], ◌∷◌, ◌++◌, length, take, drop}
+use Rattle.std.proofs.Common.{IsUtf8, refl, ap, ◌∙◌, arith, rules, take_at, append_assoc}
 use Rattle.std.proofs.lemmas.Str.{IsUtf8-append}
 use Rattle.hex.specs.Hex.{encode_lower, lower_digits}
 use Rattle.hex.proofs.HexLemmas.{length-encode_with}
 use Rattle.json.specs.Token.{string}
 use Rattle.json.proofs.Printed.Places.{Placed-then}
 use Rattle.json.proofs.Printed.Utf8.{IsUtf8-are_ascii}
-use Rattle.json_core.proofs.Outputs.{placed_utf8, comma_utf8, comma_short, written, hex_string, hex_utf8}
+use Rattle.json_core.proofs.Outputs.{placed_utf8, comma_utf8, comma_short, written, hex_string}
+use Rattle.json_core.proofs.Outputs.{hex_utf8}
 use Rattle.json_core.proofs.output.Output.hex.Goals as goal
 
 pub place_byte-self-inside-requires : goal.place_byte-self-inside-requires

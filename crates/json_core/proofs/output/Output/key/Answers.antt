@@ -2,7 +2,8 @@ use Rattle.std.proofs.Common.{◌≡◌, refl}
 use Rattle.json.specs.Token.{key}
 use Rattle.json.specs.Print.{escape}
 use Rattle.json_core.proofs.Outputs.{begun, plain_key}
-use Rattle.json_core.proofs.output.Output.key.Goals.{then-plain-via-then-plain, then-plain-via-else-plain+then-is_plain}
+use Rattle.json_core.proofs.output.Output.key.Goals.{then-plain-via-then-plain}
+use Rattle.json_core.proofs.output.Output.key.Goals.{then-plain-via-else-plain+then-is_plain}
 use Rattle.json_core.proofs.output.Output.key.Goals as goal
 
 pub returns-then-plain : goal.returns-then-plain

@@ -1,4 +1,5 @@
-use Rattle.std.proofs.Common.{◌≡◌, [], ◌∷◌, ◌++◌, length, take, drop, IsUtf8, refl, ap, ◌∙◌, arith, take_at}
+use Rattle.std.proofs.Common.{◌≡◌, [], ◌∷◌, ◌++◌, length, take, drop, IsUtf8, refl, ap, ◌∙◌, arith}
+use Rattle.std.proofs.Common.{take_at}
 use Rattle.std.proofs.lemmas.Str.{IsUtf8-append}
 use Rattle.json.proofs.Printed.Places.{Placed-then}
 use Rattle.json.proofs.Printed.Utf8.{IsUtf8-are_ascii}

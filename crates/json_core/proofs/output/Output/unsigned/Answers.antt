@@ -1,4 +1,5 @@
-use Rattle.std.proofs.Common.{◌≡◌, ℕ, List, cond, decimal, [], ◌∷◌, ◌++◌, length, take, drop, IsUtf8, refl, ap, ◌∙◌, arith, rules, take_at}
+use Rattle.std.proofs.Common.{◌≡◌, ℕ, List, cond, decimal, [], ◌∷◌, ◌++◌, length, take, drop}
+use Rattle.std.proofs.Common.{IsUtf8, refl, ap, ◌∙◌, arith, rules, take_at}
 use Rattle.std.proofs.lemmas.Fmt.{IsAscii-decimal}
 use Rattle.std.proofs.lemmas.Str.{IsUtf8-append, IsUtf8-from_ascii}
 use Rattle.json.specs.Token.{number}

@@ -1,6 +1,7 @@
 -- The request is counted; the one to be refused is, and any other is the inner allocator's to
 -- answer. Assumes `Logic`.
-use Rattle.std.proofs.Common.{◌≡◌, ℕ, ◌^◌, ◌<◌, true, false, Bool, List, [], ◌∷◌, Ok, Err, refl, w64, Bor}
+use Rattle.std.proofs.Common.{◌≡◌, ℕ, ◌^◌, ◌<◌, true, false, Bool, List, [], ◌∷◌, Ok, Err, refl}
+use Rattle.std.proofs.Common.{w64, Bor}
 use seplogic.Ra.Ura.{Ura}
 use mir.Syntax.{Ty, Fn, Place}
 use mir.Val.{Val, vbool, vint, vptr}
@@ -11,10 +12,14 @@ use prog.Memory.{Memory, size, align, capped}
 use prog.Routine.{Routine}
 use prog.Wp.{WpFn, Tables, Env}
 use types.Logic.{Logic, sem}
-use types.ByLocal.{alloc_all, pass_all, free_all, look_at, get, through, sets, sets_last, lands_as, lands_last, env}
-use types.Kit.{Item, Post, Step, settles, regoal, ‵, raw, ◌⊛◌, some, later, given, at_ret, ◌$◌, ◌∵◌, !, qed, move, keep, use0, use1, use2, use3, split, join, learn, pick, fsplit, fjoin, suffices, await, done}
+use types.ByLocal.{alloc_all, pass_all, free_all, look_at, get, through, sets, sets_last, lands_as}
+use types.ByLocal.{lands_last, env}
+use types.Kit.{Item, Post, Step, settles, regoal, ‵, raw, ◌⊛◌, some, later, given, at_ret, ◌$◌, ◌∵◌}
+use types.Kit.{ !, qed, move, keep, use0, use1, use2, use3, split, join, learn, pick, fsplit, fjoin}
+use types.Kit.{suffices, await, done}
 use types.Part.{agg}
-use types.Run.{stop, fld, addr, of_opd, lit, no_more, and_then, first, branches, exec, returns, enter}
+use types.Run.{stop, fld, addr, of_opd, lit, no_more, and_then, first, branches, exec, returns}
+use types.Run.{enter}
 use contract.BorrowLft.{◌⊑◌, ⊑_trans}
 use contract.Monad.{Fun, fact}
 use contract.Running.{tables, tables_of}
@@ -34,9 +39,12 @@ use denote.Triple.Spec.{triple_of}
 use denote.Triple.Statement.{Triple}
 use denote.Triple.Table.{entered, cited}
 use denote.Triple.Walked.{Stays, stay_dropped, walk_of, ends_at, walked, Goes-dropped, walk_Meets}
-use Rattle.std.proofs.alloc.Calls.{Al, seen, token, got, Answer, answer_val, Answer-typed, Answer-Ok, Answer-err, takes_key, Takes, at_takes, Answered, Takes-goes, Takes-gives, answers}
+use Rattle.std.proofs.alloc.Calls.{Al, seen, token, got, Answer, answer_val, Answer-typed}
+use Rattle.std.proofs.alloc.Calls.{Answer-Ok, Answer-err, takes_key, Takes, at_takes, Answered}
+use Rattle.std.proofs.alloc.Calls.{Takes-goes, Takes-gives, answers}
 use Rattle.std.proofs.alloc.Shapes.{after}
-use Rattle.scale_tests.proofs.Rationing.{lent, at_its_type, inner_of, count_of, Counts, at_count, count_goes, count_gives}
+use Rattle.scale_tests.proofs.Rationing.{lent, at_its_type, inner_of, count_of, Counts, at_count}
+use Rattle.scale_tests.proofs.Rationing.{count_goes, count_gives}
 use Rattle.scale_tests.proofs.rationed.is_refused.Met as count_met
 use Rattle.scale_tests.proofs.rationed.is_refused.Symbol as count_key
 use Rattle.scale_tests.specs.contracts.rationed.Rationed as rationed

@@ -5,9 +5,12 @@ use mir.Val.{Val, vptr, vcons, vnil}
 use base.Logic.{SProp, ent, emp, id⊢}
 use base.Fml.{ftrue}
 use prog.Wp.{WpFn}
-use types.Kit.{suffices, at_ret, fjoin, ‵, raw, ◌⊛◌, ◌$◌, ◌∵◌, !, qed, by, move, keep, split, fsplit, feq_i, use0, use1}
-use types.Run.{stop, fld, addr, lit, of_opd, bin, no_more, and_then, first, blocks, branches, exec, returns, returns_within, skips, enter}
-use types.ByLocal.{alloc_all, pass_all, free_all, look_at, get, get_in, through, sets, sets_last, env}
+use types.Kit.{suffices, at_ret, fjoin, ‵, raw, ◌⊛◌, ◌$◌, ◌∵◌, !, qed, by, move, keep, split}
+use types.Kit.{fsplit, feq_i, use0, use1}
+use types.Run.{stop, fld, addr, lit, of_opd, bin, no_more, and_then, first, blocks, branches, exec}
+use types.Run.{returns, returns_within, skips, enter}
+use types.ByLocal.{alloc_all, pass_all, free_all, look_at, get, get_in, through, sets, sets_last}
+use types.ByLocal.{env}
 use types.Part.{agg, sub, whole}
 use types.Match.{live}
 use contract.Monad.{fact, fact_i}

@@ -5,7 +5,8 @@ use Rattle.widths_core.specs.Progress.{state_of, counter_at, no_counter}
 use Rattle.widths_core.proofs.Ends.{placed, begins_done, begins_passed, begun, begun_on}
 use Rattle.widths_core.proofs.Results.{map_ok}
 use Rattle.widths_core.proofs.settling.Settling.begin.Goals as goal
-use Rattle.widths_core.proofs.settling.Settling.begin.Goals.{then-counter-eq0+in_ok-complete, else-counter-eq0}
+use Rattle.widths_core.proofs.settling.Settling.begin.Goals.{then-counter-eq0+in_ok-complete}
+use Rattle.widths_core.proofs.settling.Settling.begin.Goals.{else-counter-eq0}
 
 pub complete-requires : goal.complete-requires
 complete-requires c =

@@ -2,10 +2,12 @@ use Rattle.std.proofs.Common.{◌≡◌, ◌<◌, length, ap, ◌∙◌, sym, ar
 use Rattle.std.proofs.lemmas.List.{get_or_read}
 use Rattle.widths_core.specs.declared.counter.Counter.{Counter}
 use Rattle.widths_core.specs.Progress.{state_of, counter_at, no_counter}
-use Rattle.widths_core.proofs.Ends.{placed, settles_bad_done, settles_bad_passed, bad_settled, bad_settled_on, compacts_all}
+use Rattle.widths_core.proofs.Ends.{placed, settles_bad_done, settles_bad_passed, bad_settled}
+use Rattle.widths_core.proofs.Ends.{bad_settled_on, compacts_all}
 use Rattle.widths_core.proofs.Results.{map_ok, on_ok}
 use Rattle.widths_core.proofs.settling.Settling.settle_bad_compacts.Goals as goal
-use Rattle.widths_core.proofs.settling.Settling.settle_bad_compacts.Goals.{in-Compact+in_ok-settle, in_default}
+use Rattle.widths_core.proofs.settling.Settling.settle_bad_compacts.Goals.{in-Compact+in_ok-settle}
+use Rattle.widths_core.proofs.settling.Settling.settle_bad_compacts.Goals.{in_default}
 
 pub settle-requires : goal.settle-requires
 settle-requires c =
