@@ -95,7 +95,8 @@ fn read_form(bytes: &[u8], first: u8) -> Result<(u128, usize), Fault>
     requires front { bytes.now ≡ first ∷ drop 1 bytes.now }
     requires short { form_len first ≤ 17 }
     ensures { MatchResult result
-        (λ x. (x.1 ≡ form_len first) × (x.1 ≤ length bytes.now) × (x.0 ≡ form_number (take x.1 bytes.now)))
+        (λ x. (x.1 ≡ form_len first) × (x.1 ≤ length bytes.now)
+        × (x.0 ≡ form_number (take x.1 bytes.now)))
         (λ f. (length bytes.now < form_len first) × (f ≡ truncated bytes.now)) }
 {
     match first % 4 {

@@ -73,7 +73,8 @@ fn value_text<R: Read, V: Read>(
         ⊎ (registry.new.failed ≡ registry.old.failed) }
     ensures value { IsErrOf result Refusal.ValueDevice ⊎ (value.new.failed ≡ value.old.failed) }
     ensures read_last { (value.new ≡ value.old) ⊎ ((registry.new.failed ≡ registry.old.failed)
-        × IfSome (R.remaining registry.old.device) (λ r. (types : List TypeInfo) × (types_with metadata id r ≡ Some types))) }
+        × IfSome (R.remaining registry.old.device)
+        (λ r. (types : List TypeInfo) × (types_with metadata id r ≡ Some types))) }
 {
     let checked = read_types_with(alloc, metadata, id, registry)?;
     let value = read_value(alloc, &checked, id, depth, hex, value)?;
