@@ -5,7 +5,9 @@ pub mod Lengths
 pub mod Loops
 pub mod Places
 pub mod Spelled
+pub mod SpelledMetadata
 pub mod Steady
+pub mod SteadyMetadata
 pub mod Whole
 pub mod Widths
 pub mod Positions

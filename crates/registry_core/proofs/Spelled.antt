@@ -1,6 +1,6 @@
 -- Each part of a registry that is read was spelled so.
-use Rattle.std.proofs.Common.{◌≡◌, ℕ, zero, suc, ◌+◌, ◌<◌, ◌≤◌, ◌^◌, ltb, Bool, true, false, cond}
-use Rattle.std.proofs.Common.{List, [], ◌∷◌, ◌++◌, length, take, drop, Option, Some, None, Ok, Err}
+use Rattle.std.proofs.Common.{◌≡◌, ℕ, zero, suc, ◌+◌, ◌<◌, ◌≤◌, ◌^◌, ltb}
+use Rattle.std.proofs.Common.{List, [], ◌∷◌, ◌++◌, length, take, drop, Ok, Err}
 use Rattle.std.proofs.Common.{refl, sym, ap, subst, ◌∙◌, append_assoc, arith}
 use Rattle.std.specs.Prelude.{flat_map, ◌==◌}
 use Rattle.std.specs.List.{AllByRecursion}
@@ -21,9 +21,7 @@ use Rattle.registry_core.specs.declared.fault.RegistryReason.{RegistryReason}
 use Rattle.registry_core.specs.declared.fault.RegistryReason.TheVariants as registry
 use Rattle.registry_core.specs.Fits.{FitsList, FitsText, FitsTexts, FitsOption, FitsId, FitsParam}
 use Rattle.registry_core.specs.Fits.{FitsField, FitsArm, FitsDefinition, FitsType, FitsRegistry}
-use Rattle.registry_core.specs.declared.version.Version.{Version}
-use Rattle.registry_core.specs.declared.version.Version.TheVariants.{V14, V15}
-use Rattle.registry_core.specs.Bytes.{primitive_byte, magic, version_byte, version_of}
+use Rattle.registry_core.specs.Bytes.{primitive_byte}
 use Rattle.registry_core.specs.Spelling.{sequence, text, texts, option, type_id, param, field, arm}
 use Rattle.registry_core.specs.Spelling.{definition, type_info, types_from, spelling}
 use Rattle.registry_core.specs.Reading.{Reader, lifted, length_at, repeated, sequence_at, string_at}
@@ -31,12 +29,11 @@ use Rattle.registry_core.specs.Reading.{texts_at, option_at, type_id_at, type_id
 use Rattle.registry_core.specs.Reading.{params_at, field_at, fields_at, arm_read_at, arms_read_at}
 use Rattle.registry_core.specs.Reading.{byte_at, primitive_at, definition_at, type_info_at, id_at}
 use Rattle.registry_core.specs.Reading.{types_at, registry_at, as_definition, array_at}
-use Rattle.registry_core.specs.Reading.{bit_sequence_at, letter_at, letters_at, named, version_at}
-use Rattle.registry_core.specs.Reading.{prefix_at, metadata_at}
-use Rattle.registry_core.specs.Laws.{FitsMetadata, ReadIsSpelled, metadata_of}
+use Rattle.registry_core.specs.Reading.{bit_sequence_at}
+use Rattle.registry_core.specs.Laws.{ReadIsSpelled}
 
 -- what two parts take one after the other was spelled so, where each part's bytes were
-bind_in : {X Y : Type 0} (P : X → List ℕ → Type 0) (Q : Y → List ℕ → Type 0) (b : List ℕ)
+pub bind_in : {X Y : Type 0} (P : X → List ℕ → Type 0) (Q : Y → List ℕ → Type 0) (b : List ℕ)
     (r : Read RegistryReason X) (f : X × List ℕ → Read RegistryReason Y) →
     AreBytes b → Takes P b r →
     ((x : X × List ℕ) (c : List ℕ) → AreBytes x.1 → P x.0 c →
@@ -46,7 +43,7 @@ bind_in P Q b (Ok x) f bytes h g = let both : AreBytes (h.0 ++ x.1) = rw (← h.
     then_takes Q b h.0 x.1 (f x) h.1 (g x h.0 (rest_bytes h.0 x.1 both) h.2)
 
 -- what is read fits, and is spelled so
-abbrev Spelled : {X : Type 0} → (X → Type 0) → (X → List ℕ) → X → List ℕ → Type 0
+abbrev pub Spelled : {X : Type 0} → (X → Type 0) → (X → List ℕ) → X → List ℕ → Type 0
 Spelled P spell x c = P x × (c ≡ spell x)
 
 record Good {X : Type 0} (P : X → Type 0) (spell : X → List ℕ) (part : Reader X) : Type 0 where
@@ -59,7 +56,7 @@ lifted_takes P b (Ok x) h = h
 lifted_takes P b (Err e) h = tt
 
 -- what was taken meets another property, where the one that is known gives it
-mapped : {E X : Type 0} (P Q : X → List ℕ → Type 0) (b : List ℕ) (r : Read E X) → Takes P b r →
+pub mapped : {E X : Type 0} (P Q : X → List ℕ → Type 0) (b : List ℕ) (r : Read E X) → Takes P b r →
     ((x : X) (c : List ℕ) → P x c → Q x c) → Takes Q b r
 mapped P Q b (Ok x) h f = (h.0, h.1, f x.0 h.0 h.2)
 mapped P Q b (Err e) h f = tt
@@ -425,7 +422,8 @@ types_takes (suc n) i b bytes =
     ))))
 
 -- a registry that is read stood on the front in its spelling
-registry_takes : (b : List ℕ) → AreBytes b → Takes (Spelled FitsRegistry spelling) b (registry_at b)
+pub registry_takes : (b : List ℕ) → AreBytes b →
+    Takes (Spelled FitsRegistry spelling) b (registry_at b)
 unfolding registry_at spelling
 registry_takes b bytes =
     bind_in (Spelled (λ n. n < 2 ^ 32) compact) (Spelled FitsRegistry spelling) b (length_at b) _
@@ -436,7 +434,7 @@ registry_takes b bytes =
     ((omega (arith, k.1, k1.0), k.0), rw (k1.1, k.2, k.1) refl)))
 
 -- what was read fits, and its spelling and what is left are the bytes
-spelled_of : {X : Type 0} (P : X → Type 0) (spell : X → List ℕ) (b : List ℕ)
+pub spelled_of : {X : Type 0} (P : X → Type 0) (spell : X → List ℕ) (b : List ℕ)
     (read : Read RegistryReason X) (x : X) (rest : List ℕ) →
     Takes (Spelled P spell) b read → read ≡ Ok (x, rest) → P x × (b ≡ spell x ++ rest)
 spelled_of P spell b (Err e) x rest h eq = absurd cc
@@ -448,74 +446,3 @@ spelled_of {X = X} P spell b (Ok y) x rest h eq =
 pub read_is_spelled : ReadIsSpelled FitsRegistry spelling registry_at
 read_is_spelled b r rest bytes e =
     spelled_of FitsRegistry spelling b (registry_at b) r rest (registry_takes b bytes) e
-
--- ---- metadata
-
--- a letter that is read stood on the front
-letter_takes : (letter : ℕ) (b : List ℕ) →
-    Takes (λ read c. c ≡ letter ∷ []) b (letter_at letter b)
-letter_takes letter [] = tt
-letter_takes letter (x ∷ b) =
-    cond_takes (λ read c. c ≡ letter ∷ []) (x ∷ b) (x == letter) (Ok (tt, b))
-    (Err (registry.NotMetadata, x ∷ b)) (λ e. (x ∷ [], refl, rw (eqb-true x letter e) refl))
-    (λ e. tt)
-
--- letters that are read stood on the front in their order
-letters_take : (letters b : List ℕ) → AreBytes b →
-    Takes (λ read c. c ≡ letters) b (letters_at letters b)
-letters_take [] b bytes = ([], refl, refl)
-letters_take (letter ∷ letters) b bytes =
-    bind_in (λ read c. c ≡ letter ∷ []) (λ read c. c ≡ letter ∷ letters) b (letter_at letter b)
-    (λ first. letters_at letters first.1) bytes (letter_takes letter b) (λ first c rest k.
-    mapped (λ read d. d ≡ letters) (λ read d. c ++ d ≡ letter ∷ letters) first.1
-    (letters_at letters first.1) (letters_take letters first.1 rest)
-    (λ read d m. rw (k, m) refl))
-
--- a byte that tells a version is that version's
-told_by : (fourteen fifteen : Bool) (x : ℕ) (v : Version) → (fourteen ≡ true → x ≡ 14) →
-    (fifteen ≡ true → x ≡ 15) → cond fourteen (Some V14) (cond fifteen (Some V15) None) ≡ Some v →
-    x ≡ version_byte v
-told_by true fifteen x v first second e =
-    let same : V14 ≡ v = cc in first refl ∙ ap version_byte same
-told_by false true x v first second e =
-    let same : V15 ≡ v = cc in second refl ∙ ap version_byte same
-told_by false false x v first second e = absurd cc
-
--- a version that a byte names stood on the front as this byte
-named_takes : (b : List ℕ) (x : ℕ) (o : Option Version) →
-    ((v : Version) → o ≡ Some v → x ≡ version_byte v) →
-    Takes (λ v c. c ≡ version_byte v ∷ []) (x ∷ b) (named registry.WrongVersion (x ∷ b) o b)
-named_takes b x (Some v) h = (x ∷ [], refl, ap (λ (n : ℕ). n ∷ []) (h v refl))
-named_takes b x None h = tt
-
--- a version that is read stood on the front as its byte
-version_takes : (b : List ℕ) → Takes (λ v c. c ≡ version_byte v ∷ []) b (version_at b)
-version_takes [] = tt
-version_takes (x ∷ b) = named_takes b x (version_of x)
-    (λ v. told_by (x == 14) (x == 15) x v (eqb-true x 14) (eqb-true x 15))
-
--- the prefix of metadata that is read stood on the front: its letters and its version
-prefix_takes : (b : List ℕ) → AreBytes b →
-    Takes (λ v c. c ≡ magic ++ version_byte v ∷ []) b (prefix_at b)
-unfolding prefix_at
-prefix_takes b bytes =
-    bind_in (λ read c. c ≡ magic) (λ v c. c ≡ magic ++ version_byte v ∷ []) b (letters_at magic b)
-    (λ letters. version_at letters.1) bytes (letters_take magic b bytes) (λ letters c rest k.
-    mapped (λ v d. d ≡ version_byte v ∷ []) (λ v d. c ++ d ≡ magic ++ version_byte v ∷ []) letters.1
-    (version_at letters.1) (version_takes letters.1) (λ v d m. rw (k, m) refl))
-
--- metadata that is read stood on the front in its spelling
-metadata_takes : (b : List ℕ) → AreBytes b →
-    Takes (Spelled FitsMetadata metadata_of) b (metadata_at b)
-unfolding metadata_at
-metadata_takes b bytes =
-    bind_in (λ v c. c ≡ magic ++ version_byte v ∷ []) (Spelled FitsMetadata metadata_of) b
-    (prefix_at b) _ bytes (prefix_takes b bytes) (λ version c rest k.
-    bind_in (Spelled FitsRegistry spelling) (λ m d. Spelled FitsMetadata metadata_of m (c ++ d))
-    version.1 (registry_at version.1) _ rest (registry_takes version.1 rest) (λ types d more m.
-    ([], refl, (m.0, rw (append-nil, k, m.1) refl))))
-
--- metadata that is read was spelled by the bytes that it took
-pub metadata_is_spelled : ReadIsSpelled FitsMetadata metadata_of metadata_at
-metadata_is_spelled b m rest bytes e =
-    spelled_of FitsMetadata metadata_of b (metadata_at b) m rest (metadata_takes b bytes) e

@@ -14,15 +14,14 @@ use Rattle.registry_core.specs.declared.definition.TypeDef.{TypeDef}
 use Rattle.registry_core.specs.declared.definition.TypeDef.TheVariants as def
 use Rattle.registry_core.specs.declared.fault.RegistryReason.{RegistryReason}
 use Rattle.registry_core.specs.declared.fault.RegistryReason.TheVariants as registry
-use Rattle.registry_core.specs.Bytes.{primitives, magic, version_of}
+use Rattle.registry_core.specs.Bytes.{primitives}
 use Rattle.registry_core.specs.Laws.{IsBehind}
 use Rattle.registry_core.specs.Reading.{Reader, reason_of, lifted, length_at, repeated, sequence_at}
 use Rattle.registry_core.specs.Reading.{string_at, texts_at, option_at, type_id_at, type_ids_at}
 use Rattle.registry_core.specs.Reading.{byte_at, param_at, params_at, field_at, fields_at}
 use Rattle.registry_core.specs.Reading.{arm_read_at, arms_read_at, named, primitive_at}
 use Rattle.registry_core.specs.Reading.{as_definition, array_at, bit_sequence_at, definition_at}
-use Rattle.registry_core.specs.Reading.{type_info_at, id_at, types_at, registry_at, letter_at}
-use Rattle.registry_core.specs.Reading.{letters_at, version_at, prefix_at, metadata_at}
+use Rattle.registry_core.specs.Reading.{type_info_at, id_at, types_at, registry_at}
 use Rattle.registry_core.proofs.Inside.{at_end, at_front, Inside, after_byte, inside_then}
 use Rattle.registry_core.proofs.Inside.{inside_cond, CutAtEnd, number_inside, compact_inside}
 use Rattle.registry_core.proofs.Inside.{text_inside}
@@ -118,11 +117,11 @@ byte_steady : IsSteady byte_at
 byte_steady = record { inside = byte_inside; extends = byte_extends }
 
 -- a reading that takes nothing is steady
-done_steady : {X : Type 0} (x : X) → IsSteady (λ bytes. Ok (x, bytes))
+pub done_steady : {X : Type 0} (x : X) → IsSteady (λ bytes. Ok (x, bytes))
 done_steady x = record { inside = at_front; extends = λ b more. refl }
 
 -- one part behind the other
-then_steady : {X Y : Type 0} (first : Reader X) (then : X → Reader Y) → IsSteady first →
+pub then_steady : {X Y : Type 0} (first : Reader X) (then : X → Reader Y) → IsSteady first →
     ((x : X) → IsSteady (then x)) → IsSteady (λ bytes. first bytes >>= λ x. then x.0 x.1)
 then_steady first then h k = record {
   inside = λ b. inside_then IsTold b (first b) (λ x. then x.0 x.1) (h.inside b)
@@ -270,7 +269,8 @@ arms_steady = let s = sequence_steady arm_read_at arm_steady in
 -- ---- definitions
 
 -- a byte that names nothing is a fault within the bytes, neither a cut nor want of memory
-named_inside : {X : Type 0} (reason : RegistryReason) (b : List ℕ) (o : Option X) (rest : List ℕ) →
+pub named_inside : {X : Type 0} (reason : RegistryReason) (b : List ℕ) (o : Option X)
+    (rest : List ℕ) →
     reason ≢ registry.OutOfMemory → reason ≢ registry.Truncated → IsBehind b rest →
     Inside IsTold b (named reason b o rest)
 named_inside reason b (Some x) rest no_memory no_cut h = h
@@ -278,7 +278,7 @@ named_inside reason b None rest no_memory no_cut h =
     (at_front b, (no_memory, λ e. absurd (no_cut e)))
 
 -- what a byte names is the same in a longer input
-named_extends : {X : Type 0} (reason : RegistryReason) (b : List ℕ) (o : Option X)
+pub named_extends : {X : Type 0} (reason : RegistryReason) (b : List ℕ) (o : Option X)
     (rest more : List ℕ) → Extends registry.Truncated more (named reason b o rest)
     (named reason (b ++ more) o (rest ++ more))
 named_extends reason b (Some x) rest more = refl
@@ -451,67 +451,3 @@ unfolding registry_at
 registry_steady = let s =
     then_steady length_at (λ n bytes. types_at n 0 bytes) length_steady (λ n. types_steady n 0) in
     record { inside = s.inside; extends = s.extends }
-
--- ---- the prefix of metadata
-
--- the fault of a letter stands within the bytes
-letter_inside : (letter : ℕ) (b : List ℕ) → Inside IsTold b (letter_at letter b)
-letter_inside letter [] = (at_end [], (λ e. absurd cc, λ e. refl))
-letter_inside letter (x ∷ b) =
-    inside_cond IsTold (x ∷ b) (x == letter) (Ok (tt, b)) (Err (registry.NotMetadata, x ∷ b))
-    (x ∷ [], refl) (at_front (x ∷ b), (λ e. absurd cc, λ e. absurd cc))
-
--- a letter is read alike from a longer input, where it was not cut
-letter_extends : (letter : ℕ) (b more : List ℕ) →
-    Extends registry.Truncated more (letter_at letter b) (letter_at letter (b ++ more))
-letter_extends letter [] more = λ ne. absurd (ne refl)
-letter_extends letter (x ∷ b) more =
-    cond_extends registry.Truncated more (x == letter) (Ok (tt, b))
-    (Err (registry.NotMetadata, x ∷ b)) (Ok (tt, b ++ more))
-    (Err (registry.NotMetadata, x ∷ b ++ more)) refl (λ ne. refl)
-
--- the reading of a letter is steady
-letter_steady : (letter : ℕ) → IsSteady (letter_at letter)
-letter_steady letter = record { inside = letter_inside letter; extends = letter_extends letter }
-
--- the reading of letters in their order is steady
-letters_steady : (letters : List ℕ) → IsSteady (letters_at letters)
-letters_steady [] = done_steady tt
-letters_steady (letter ∷ letters) =
-    then_steady (letter_at letter) (λ first bytes. letters_at letters bytes) (letter_steady letter)
-    (λ first. letters_steady letters)
-
--- the fault of a version stands within the bytes
-version_inside : (b : List ℕ) → Inside IsTold b (version_at b)
-version_inside [] = (at_end [], (λ e. absurd cc, λ e. refl))
-version_inside (x ∷ b) =
-    named_inside registry.WrongVersion (x ∷ b) (version_of x) b (λ e. absurd cc) (λ e. absurd cc)
-    (x ∷ [], refl)
-
--- a version is read alike from a longer input, where it was not cut
-version_extends : (b more : List ℕ) →
-    Extends registry.Truncated more (version_at b) (version_at (b ++ more))
-version_extends [] more = λ ne. absurd (ne refl)
-version_extends (x ∷ b) more =
-    named_extends registry.WrongVersion (x ∷ b) (version_of x) b more
-
--- the reading of a version is steady
-version_steady : IsSteady version_at
-version_steady = record { inside = version_inside; extends = version_extends }
-
--- the reading of the prefix of metadata is steady
-prefix_steady : IsSteady prefix_at
-unfolding prefix_at
-prefix_steady = let s =
-    then_steady (letters_at magic) (λ letters bytes. version_at bytes) (letters_steady magic)
-    (λ letters. version_steady) in record { inside = s.inside; extends = s.extends }
-
--- the reading of metadata is steady
-pub metadata_steady : IsSteady metadata_at
-unfolding metadata_at
-metadata_steady = let s =
-    then_steady prefix_at
-    (λ version bytes. registry_at bytes >>= λ types. Ok ((types.0, version), types.1)) prefix_steady
-    (λ version.
-    then_steady registry_at (λ types bytes. Ok ((types, version), bytes)) registry_steady
-    (λ types. done_steady (types, version))) in record { inside = s.inside; extends = s.extends }

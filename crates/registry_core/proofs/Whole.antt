@@ -16,9 +16,11 @@ use Rattle.registry_core.specs.Laws.{FitsMetadata, ReadIsSpelled, SpelledIsRead,
 use Rattle.registry_core.specs.Spelling.{spelling}
 use Rattle.registry_core.proofs.Again.{spelled_is_read, metadata_again}
 use Rattle.registry_core.proofs.Places.{behind-length, drop-place}
-use Rattle.registry_core.proofs.Spelled.{read_is_spelled, metadata_is_spelled}
+use Rattle.registry_core.proofs.Spelled.{read_is_spelled}
+use Rattle.registry_core.proofs.SpelledMetadata.{metadata_is_spelled}
 use Rattle.registry_core.proofs.Inside.{Inside}
-use Rattle.registry_core.proofs.Steady.{IsTold, IsSteady, registry_steady, metadata_steady}
+use Rattle.registry_core.proofs.Steady.{IsTold, IsSteady, registry_steady}
+use Rattle.registry_core.proofs.SteadyMetadata.{metadata_steady}
 
 -- a list is of bytes where each place of it is below 256
 pub are_bytes : (b : List ℕ) → ((i : ℕ) → get_or b i 0 < 256) → AreBytes b

@@ -1,6 +1,7 @@
 use Rattle.registry_core.specs.Reading.{metadata_at, registry_at}
 use Rattle.registry_core.proofs.Faults as law
-use Rattle.registry_core.proofs.Steady.{metadata_steady, registry_steady}
+use Rattle.registry_core.proofs.Steady.{registry_steady}
+use Rattle.registry_core.proofs.SteadyMetadata.{metadata_steady}
 use Rattle.registry_core.proofs.laws.fault_is_within.Goals as goal
 
 pub returns-clause-registry : goal.returns-clause-registry

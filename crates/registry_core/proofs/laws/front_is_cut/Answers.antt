@@ -4,7 +4,8 @@ use Rattle.registry_core.specs.Reading.{metadata_at, registry_at}
 use Rattle.registry_core.specs.Spelling.{spelling}
 use Rattle.registry_core.proofs.Again.{metadata_again, spelled_is_read}
 use Rattle.registry_core.proofs.Faults as law
-use Rattle.registry_core.proofs.Steady.{metadata_steady, registry_steady}
+use Rattle.registry_core.proofs.Steady.{registry_steady}
+use Rattle.registry_core.proofs.SteadyMetadata.{metadata_steady}
 use Rattle.registry_core.proofs.laws.front_is_cut.Goals as goal
 
 pub returns-clause-registry : goal.returns-clause-registry
