@@ -19,7 +19,7 @@ widened_is w own k z wide read h f e k' =
     let same : to_z w128 (of_z w128 wide) ≡ z = to_z-of_z w128 wide f ∙ e ∙ to_z-of_z w z h in
     (drop k own, rw same k'.1)
 
--- the same for a signed integer, which is kept in 128 bits and comes out as it was
+-- a signed integer that was read comes out as it was where it is kept in 128 bits
 pub same_is : (own : List ℕ) (k : ℕ) (z : ℤ) (read : Read Reason ℤ) → FitsSigned w128 z →
     (k ≤ length own) × (read ≡ Ok (z, drop k own)) → (rest : List ℕ)
     × (read ≡ Ok (to_z w128 (of_z w128 z), rest))
