@@ -5,6 +5,7 @@ use Rattle.clap.proofs.OnLiterals.{clap_on_literals}
 use Rattle.scale_tool.specs.Line.{line}
 use Rattle.scale_tool.proofs.commands.line_matches.Goals as goal
 
+-- the command line's definition is of the simple kind whose matches clap tells
 simple : is_simple line ≡ true
 unfolding clap_on_literals
 simple = refl
@@ -29,6 +30,7 @@ returns-clause-taken c =
     (λ e h taken. h (ap (λ a. takes a (map (λ s. s.now) c.args.words.now)) c.in_ok-line.ensures
     ∙ taken)) c.try_get_matches_from.ensures.passes
 
+-- it is also of the kind whose faults clap tells
 free : is_simple_and_free line ≡ true
 unfolding clap_on_literals
 free = refl
