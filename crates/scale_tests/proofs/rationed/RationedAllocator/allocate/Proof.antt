@@ -191,6 +191,7 @@ module _ (Z : Al) {M : Type 1} {𝓤 : Ura M} (𝓛 : Logic 𝓤) (at_mem : Memo
         $ free_all ! refl $ keep ! (0 ∷ 1 ∷ []) $
         use2 𝓛 (raw (Owed (answer_val false 0 0))) refused $ done !)))))))))
 
+-- the code of this method keeps the contract that every allocator's has
 pub allocate_spec : {M : Type 1} → stated.statement M
 unfolding tables_of
 allocate_spec 𝓤 𝓛 𝓜 𝓡 wired row laws ghosts methods drops met _ =

@@ -143,6 +143,7 @@ module _ (Z : Al) {M : Type 1} {𝓤 : Ura M} (𝓛 : Logic 𝓤) (at_mem : Memo
         fjoin ! $ nothing ! $ fjoin ! $ nothing ! $ fjoin ! $ nothing ! $ fjoin ! $ join ! $
         move ! (2 ∷ 3 ∷ []) $ join ! $ join ! $ done !)))))
 
+-- the code of this method keeps the contract that every allocator's has
 pub deallocate_spec : {M : Type 1} → stated.statement M
 unfolding tables_of
 deallocate_spec 𝓤 𝓛 𝓜 𝓡 wired row laws ghosts methods drops met _ =
