@@ -107,7 +107,7 @@ first_some n j (y ∷ before) x after front back u e h k le =
     (first_some n (j + 1) before x after front back u e h.1 k le
     ∙ ap (λ (i : ℕ). found (i, u)) (omega arith))
 
--- there is a fault where a reference is no position, and it is the first such reference
+-- there is a fault exactly where a reference is no position, and it is the first such one
 pub fault_is_first : FaultIsFirst
 fault_is_first r = (
   none_checked (length r) 0 r,

@@ -171,7 +171,7 @@ reads_on a b c xs ys ks ls h k = record {
 abbrev pub ReadsParts : Graph → Graph → ℕ → ℕ → List ℕ → Type 0
 ReadsParts a b s i ps = ReadsReferences a b (take i ps) (map (λ _. s) (take i ps))
 
--- the first parts of a definition and one more were read for its counter
+-- where a definition's next part is read for its counter, one more of its parts is read
 pub parts_more : (a b c : Graph) (s i : ℕ) (ps : List ℕ) (p : ℕ) → i < length ps →
     p ≡ get_or ps i 0 → ReadsParts a b s i ps → ReadsReferences b c (p ∷ []) (s ∷ []) →
     ReadsParts a c s (i + 1) ps

@@ -53,7 +53,7 @@ written w s b l t same says is e = ap (λ x. record { text = x; after_value = en
     (sym (ap (λ c. cond {A = List ℕ} (w.after_value && c) (44 ∷ []) [] ++ (token_text t ++ [])) is
     ∙ ap₂ (λ (a b : List ℕ). a ++ b) (comma_of w.after_value) (append-nil (token_text t)))))
 
--- a token that may begin a value is printed by its characters, behind a comma where one is due
+-- a token that begins a value or a member is printed by its text, behind a comma where one is due
 pub begun : {E : Type 0} (r : Result (Unit {0}) E) (w new : Text) (b : Bool) (l : List ℕ)
     (t : Token) → b ≡ w.after_value → l ≡ token_text t → begins t ≡ true →
     OnOk r (new ≡ put w b l (ends t)) → OnOk r (new ≡ prints w (t ∷ []))
@@ -132,7 +132,7 @@ abbrev plain_below : ℕ → Bool
 plain_below zero = true
 plain_below (suc n) = is_plain (slice_index lower_digits n) && plain_below n
 
--- of hexadecimal digits that are all plain below a number, the one at each place there is
+-- if all hexadecimal digits below a number are plain, the one at each place below it is
 plain_digit : (n d : ℕ) → plain_below n ≡ true → d < n →
     is_plain (slice_index lower_digits d) ≡ true
 plain_digit zero d e h = absurd (omega (arith, h))

@@ -76,14 +76,14 @@ defined_kind r (K.Unsigned w) d h = rw h (long_width w)
 defined_kind r (K.Signed w) d h = rw h (long_width w)
 defined_kind r (K.Wide s) d h = tt
 
--- the layout of a sequence asks nothing of its definition
+-- the layout of a sequence says nothing of integers, arms or targets
 defined_sequence : (r : List TypeInfo) (t : ℕ) (e byte : Bool) (d : Option TypeDef) →
     Defined r (sequence_layout t e byte) d
 defined_sequence r t true byte d = tt
 defined_sequence r t false true d = tt
 defined_sequence r t false false d = tt
 
--- the layout of an array asks nothing of its definition
+-- the layout of an array says nothing of integers, arms or targets
 defined_array : (r : List TypeInfo) (n t : ℕ) (byte : Bool) (d : Option TypeDef) →
     Defined r (array_layout n t byte) d
 defined_array r n t true d = tt
@@ -141,7 +141,7 @@ short : (k : ℕ) (is : Bool) → Long k is → is ≡ false → 256 ^ k ≤ 2 ^
 short k is (inl h) e = absurd (true≢false (sym h.0 ∙ e))
 short k is (inr h) e = h.2
 
--- a number of at most 64 bits that is taken in two's complement fits a signed 64 bits
+-- a number of at most 64 bits, taken in two's complement, fits 64 bits with a sign
 signed_within : (range n : ℕ) (c : Bool) → nat_lt (2 * n) range ≡ c → n < range → range ≤ 2 ^ 64 →
     FitsSigned w64 (cond c (pos n) (neg_ℤ (pos (range - n))))
 signed_within range n true e less small = let half = ltb-true (2 * n) range e in
@@ -150,7 +150,7 @@ signed_within range n false e less small =
     let half = ltb-false (2 * n) range e in
     rw (neg-pos (range - n) (omega (arith, less))) (omega (arith, half, less, small))
 
--- the integer that up to eight bytes spell in two's complement fits a signed 64 bits
+-- the integer that up to eight bytes spell in two's complement fits 64 bits with a sign
 signed_fits : (b : List ℕ) → AreBytes b → 256 ^ length b ≤ 2 ^ 64 → FitsSigned w64 (signed_number b)
 signed_fits b h small = signed_within (256 ^ length b) (number b)
     (nat_lt (2 * number b) (256 ^ length b)) refl (number-bound b h) small
@@ -261,7 +261,7 @@ arm_told r t q i arms a vs b e f h =
           ∙ ap (arm_json (Some a)) (sym parts),
     )
 
--- the node of a list has the array of its children's JSON, if they are all of its one type
+-- the node of a list has the array of its children's JSON, if all are of its element type
 list_told : (r : List TypeInfo) (t u : ℕ) (vs : Trees) → element_type (layout r t) ≡ u →
     list_part (layout r t) (how_many vs) ≡ times (how_many vs) u →
     Told r t (tree.branch tree.list vs) what.List
@@ -341,7 +341,7 @@ pub fields_at_node : (s : Seen) (types : List TypeInfo) (t : ℕ)
 fields_at_node s types t found fs at e f =
     rw (← at.0, ← at.1) (sym e ∙ ap (option_map (λ (x : Bor (List Field)). x.now)) f)
 
--- where no composite is found at the node's type, the node's type is none
+-- where no fields were found at a node's type, the type is no composite
 pub no_fields_at_node : (s : Seen) (types : List TypeInfo) (t : ℕ)
     (found : Option (Bor (List Field))) → AtNode s types t →
     option_map (λ x. x.now) found ≡ composite_fields (shape types t) → found ≡ None →
@@ -379,7 +379,7 @@ no_fields_json (Some (Def.Primitive p)) ds e = refl
 no_fields_json (Some (Def.Compact t)) ds e = refl
 no_fields_json (Some (Def.BitSequence store order)) ds e = refl
 
--- a node of an arm has that arm in its definition, so it is found
+-- a node of an arm has that arm in its definition, so it was found
 pub arm_there : (s : Seen) (q : ℕ) (types : List TypeInfo) (t : ℕ) (found : Option (Bor Arm)) →
     AtNode s types t → option_map (λ x. x.now) found ≡ defined_arm (shape types t) q →
     Told s.types s.ty s.tree (what.Arm q) → IsSome found
@@ -408,7 +408,7 @@ arm_is s q a e h =
 
 -- ---- the fields at a place
 
--- the fields of a composite are those at its place, whatever the arm that is asked for
+-- the fields of a composite are those at its place, whatever arm is asked for
 pub composite_place : (d : Option TypeDef) (q : ℕ) (fs : List Field) →
     composite_fields d ≡ Some fs → fields_in d q ≡ Some fs
 composite_place None q fs e = absurd cc
@@ -421,7 +421,7 @@ composite_place (Some (Def.Primitive p)) q fs e = absurd cc
 composite_place (Some (Def.Compact t)) q fs e = absurd cc
 composite_place (Some (Def.BitSequence store order)) q fs e = absurd cc
 
--- the fields of an arm are those at its place
+-- the fields of an arm of a variant are those at the arm's place
 pub arm_place : (d : Option TypeDef) (q : ℕ) (a : Arm) → defined_arm d q ≡ Some a →
     fields_in d q ≡ Some a.fields
 arm_place None q a e = absurd cc

@@ -62,7 +62,7 @@ order_at : (ps : List ℕ) (start k turn : ℕ) → turn < k →
 order_at ps start k turn h =
     let within : turn < (start + k) - start = omega (arith, h) in rw (get_or-take, get_or-drop)
 
--- each turn has the next position of the order, that of a field with a name
+-- each turn has the order's next position, also where positions were appended, and its field
 pub turn_at : (fs : List Field) (old new : OrdersView) (start turn p : ℕ) → Grows old new →
     AreKeys old.positions fs (keys.Sorted start) → turn < length fs → AllByRecursion (IsNamedAt fs)
     (drop turn (slice_range old.positions start (start + length fs))) →

@@ -35,7 +35,7 @@ whole_where : (len taken : ℕ) (v : Tree) (same : Bool) → (taken == len) ≡ 
     whole len (done v) taken ≡ (if same then Some v else None)
 whole_where len taken v same e = ap (λ (t : Bool). if t then Some v else None) e
 
--- a value of these types and this type is what they and its tree make
+-- a value is known by its types, its type and its tree
 seen_is : (types : List TypeInfo) (id : ℕ) (v : Seen) → v.types ≡ types → v.ty ≡ id →
     record { types = types; ty = id; tree = v.tree } ≡ v
 seen_is types id v a b = rw (← a, ← b) refl
@@ -70,7 +70,7 @@ faulted j b f other (inr h) = ended j b f h.0 other h.1
 
 -- ---- what a refusal says
 
--- a decoder's fault on bytes is told of them, where nothing forbids the decoder
+-- a fault that is not want of memory is told of the bytes, which spell no value
 told_fault : (forbidden : Option OpenFault) (j : Job) (b : List ℕ) (f : DecodeFault) →
     forbidden ≡ None → f.reason ≢ reason.OutOfMemory → FinishesDecoder j b (Err f) →
     (forbidden ≡ None) × (value_in j b ≡ None) × FinishesDecoder j b (Err f)

@@ -37,7 +37,7 @@ made depth = record { depth = depth; bytes = 16777216 }
 lt_is : (a b : ℕ) → a < b → nat_lt a b ≡ true
 lt_is a b h = grind (arith, h)
 
--- a number that is not greater than another is told to be so
+-- a number that is at least another is not found to be less
 not_lt_is : (a b : ℕ) → b ≤ a → nat_lt a b ≡ false
 not_lt_is a b h = grind (arith, h)
 

@@ -11,7 +11,7 @@ pub if_none : {T : Type 0} (o : Option T) (P : Type 0) → P → IfNone o P
 if_none None P p = p
 if_none (Some x) P p = tt
 
--- no subcommand has the names of both jobs
+-- the names of the two subcommands differ
 not_both : codes "types" ≡ codes "decode" → ⊥
 not_both e = cc
 

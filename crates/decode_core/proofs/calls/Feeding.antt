@@ -109,7 +109,7 @@ led_done j b piece s new n k (inr g) f =
     subst (λ (r : Running). IsDone j (b ++ piece) r (n + k)) (sym f.1.3)
     (done_again j b piece s f.1.0 n k g f.0 f.1.1 f.1.2 f.1.4)
 
--- turns that lack bytes within the limit leave more wanted, and the decoder was on its way
+-- the same where they lack bytes within the limit: more is wanted, and a begun tree held
 pub led_more : (j : Job) (b piece : List ℕ) (s new : Running) (n k : ℕ) → RunLed j b n (Ok s) →
     FeedTells s new (offered j n piece) k stop.Wants → AreBytes piece → length piece ≤ j.bytes - n →
     IsGoing j (b ++ piece) new (n + k) × IsOutcome j (b ++ piece) more (n + k)
@@ -122,7 +122,7 @@ led_more j b piece s new n k (inr g) f are short =
     done_cannot_fail j b s f.1.0 n (take k (offered j n piece)) (held_of f.1.0) f.1.2.1.left
     truncated g f.1.1 (waits_told f.1.0 f.1.2.1)
 
--- turns that lack bytes where the piece passes the limit make the input too long
+-- the same where they lack bytes and the piece passes the limit: the input is too long
 pub led_long : (j : Job) (b piece : List ℕ) (s new : Running) (n k : ℕ) → RunLed j b n (Ok s) →
     FeedTells s new (offered j n piece) k stop.Wants → j.bytes - n < length piece →
     IsOutcome j (b ++ piece) too_long j.bytes
@@ -131,7 +131,7 @@ led_long j b piece s new n k (inr g) f long =
     done_cannot_fail j b s f.1.0 n (take k (offered j n piece)) (held_of f.1.0) f.1.2.1.left
     truncated g f.1.1 (waits_told f.1.0 f.1.2.1)
 
--- turns that end with a refusal have it as the outcome of all bytes so far, at its place
+-- the same where they end with a refusal: it is the outcome of all bytes so far, at its place
 pub led_refused : (j : Job) (b piece : List ℕ) (s new : Running) (n k held : ℕ)
     (told_reason : DecodeReason) (at len : ℕ) → RunLed j b n (Ok s) →
     FeedTells s new (offered j n piece) k (stop.Refused held told_reason at len) →

@@ -34,7 +34,7 @@ pub forbids : (o : Option OpenFault) (first : Decoding) (e : OpenFault) →
 forbids None first e h = inr (h, refl)
 forbids (Some f) first e h = inl (ap (λ (x : OpenFault). Some x) (sym h))
 
--- a decoder that has taken nothing is under way
+-- a decoder that has taken nothing is under way on no bytes
 pub starts : (types : List TypeInfo) (root : ℕ) (limits : Limits) (d : Decoding) →
     d ≡ first_of_all types root limits → Led d [] → IsUnderWay d []
 starts types root limits d is led = record {
@@ -147,7 +147,7 @@ trails_within (Some xs) None j b v n c h less = absurd c
 trails_within (Some xs) (Some ys) j b v n c h less =
     trails_behind j xs b ys v n c h (omega (arith, less))
 
--- a value after which the reader has bytes left has bytes of the reader behind it
+-- where the reader has bytes left, some follow the value that was read
 pub trails_left : (known left : Option (List ℕ)) (j : Job) (b : List ℕ) (v : Tree) (n : ℕ) →
     Consumes known left b → IsOutcome j b (done v) n → IfSome left (λ rest. 0 < length rest) →
     IfSome known (Trails j n)

@@ -54,7 +54,7 @@ run_few : (k : RunKind) (held rest : List ℕ) (n : ℕ) → run_length_at k hel
 unfolding own_at layout_at run_at
 run_few k held rest n h few = rw (h, lt-ltb (length rest) n few) refl
 
--- a run that is not passed with further bytes, one at least, is cut without them
+-- a run that further bytes, one at least, do not go past is cut without them
 run_begun : (k : RunKind) (held bytes came : List ℕ) (n : ℕ) (read read' : Read Reason ℕ) →
     run_length_at k held ≡ read → Extends scale.Truncated bytes read read' →
     read' ≡ Ok (n, came) → 1 ≤ length bytes → length came ≤ n → (left : List ℕ)

@@ -21,7 +21,7 @@ decides : (j : Job) (b : List ℕ) (reason : Refusal) (left : List ℕ) → reas
     (value_taken j.registry (suc j.depth) j.ty b) reason
 decides j b reason left ne e = (rw e at (value_decided j.registry (suc j.depth) j.ty b)) ne
 
--- the bytes that are said to be taken are the shortest front with this reason and place
+-- the bytes that are said to be taken are the shortest front that is refused so, at this place
 shortest : (j : Job) (b : List ℕ) (reason : Refusal) (left : List ℕ) → reason ≢ truncated →
     value_at j.registry (suc j.depth) j.ty b ≡ Err (reason, left) →
     IsShortest (FailsAt j reason (place b left)) b (value_taken j.registry (suc j.depth) j.ty b)
@@ -61,7 +61,7 @@ taken_is_shortest j reason at b ne f = rw (← f.2) (shortest j b reason f.0 ne 
 abbrev Is : Job → List ℕ → Outcome × ℕ → Type 0
 Is j input o = IsOutcome j input o.0 o.1
 
--- a refusal within the byte limit, for good, is the outcome with its place and what it takes
+-- a refusal for good, within the byte limit, is the outcome with its place and what it takes
 refused_is : (j : Job) (input : List ℕ) (reason : Refusal) (left : List ℕ) → reason ≢ truncated →
     value_at j.registry (suc j.depth) j.ty (take j.bytes input) ≡ Err (reason, left) →
     Is j input (
@@ -71,7 +71,7 @@ refused_is : (j : Job) (input : List ℕ) (reason : Refusal) (left : List ℕ) �
 refused_is j input reason left ne e =
     (ne, (left, e, refl), shortest j (take j.bytes input) reason left ne e)
 
--- missing bytes within the limit mean that more is wanted, or that the input is too long
+-- where bytes are missing within the limit, more is wanted, or the input is too long
 missing_is : (j : Job) (input left : List ℕ) →
     value_at j.registry (suc j.depth) j.ty (take j.bytes input) ≡ Err (truncated, left) →
     Is j input (missing j input)

@@ -80,7 +80,7 @@ finish_decided {E = E} {F = F} {X = X} {Y = Y} cut m make G g is b k h =
             early = λ j lt. let f = d.early j lt in (f.0, is (take j b) ∙ ap (finish m make) f.1);
           }
 
--- of two parts, one behind the other, a front decides the refusal of whichever is refused
+-- of two parts, the first of them steady, a front decides the refusal of whichever is refused
 pub chain_decided : {E F X Y : Type 0} (cut : E) (m : E → F) (G : List ℕ → Read F Y)
     (g : List ℕ → Read E X) (h : X → List ℕ → Read F Y) (next : X × List ℕ → ℕ) →
     ((b : List ℕ) → G b ≡ chain m h (g b)) → IsSteady cut g →

@@ -42,7 +42,7 @@ err_is : (x y : Refusal × List ℕ) (n m : List ℕ) (end : Ending) → end ≡
     end ≡ Err (y, m) → x ≡ y
 err_is x y n m end h k = ap (λ (p : Fault). p.0) (pair_is (x, n) (y, m) end h k)
 
--- where the node by node reading ends in a fault, the reading of the value ends in the same
+-- where reading node by node ends in a fault, reading the value whole ends in the same
 fault_of : (read : Read Refusal Tree) (y : Told) (xs : List Entry) (e : Refusal × List ℕ)
     (met : List ℕ) → Agrees read y → y ≡ told xs (Err (e, met)) → read ≡ Err e
 fault_of (Ok x) y xs e met h is = let both = sym h.1 ∙ ap ending is in absurd cc
@@ -60,7 +60,7 @@ fault_value r room t b xs e left met is =
 ok_is : (x y : List ℕ) (end : Ending) → end ≡ Ok x → end ≡ Ok y → x ≡ y
 ok_is x y end h k = let both = sym h ∙ k in cc
 
--- where the node by node reading ends well, it read the value that its nodes are in preorder
+-- where reading node by node ends well, the value is read of which these are the nodes
 pub value_of : (read : Read Refusal Tree) (y : Told) (xs : List Entry) (rest : List ℕ) →
     Agrees read y → y ≡ told xs (Ok rest) → (v : Tree) × (read ≡ Ok (v, rest))
     × (shown xs ≡ preorder v)
@@ -77,7 +77,7 @@ pub record Here (j : Job) (input : List ℕ) (s : State) (rest : List ℕ) : Typ
   pub led : TurnsLead j.registry (start j.depth j.ty) s own
   pub is : take j.bytes input ≡ own ++ rest
 
--- a state that bytes led to and that wants nothing is the outcome of a whole value
+-- where bytes led to a state that wants nothing, the outcome is the value of its nodes
 pub done_here : (j : Job) (input : List ℕ) (s : State) (rest : List ℕ) (m : ℕ) →
     Here j input s rest → remain j.registry s rest ≡ told [] (Ok rest) →
     m ≡ length (take j.bytes input) →
@@ -109,7 +109,7 @@ fault_here j input s rest new e left h k =
     fault_value j.registry (suc j.depth) j.ty (h.own ++ new) (s.nodes ++ []) e left new
     (whole_told j.registry j.depth j.ty s h.own new h.led ∙ ap (after s.nodes) k)
 
--- a state that bytes led to and that lacks bytes lacks them of the input within its limit
+-- where bytes led to a state that lacks some, the input within its limit lacks them
 pub cut_here : (j : Job) (input : List ℕ) (s : State) (rest left : List ℕ) → Here j input s rest →
     remain j.registry s rest ≡ told [] (Err ((truncated, left), rest)) → (at : ℕ)
     × FailsAt j truncated at (take j.bytes input)
@@ -123,7 +123,7 @@ reason_is : (x y : Refusal × List ℕ) (read : Read Refusal Tree) → read ≡ 
     x ≡ y
 reason_is x y read h k = let both = sym h ∙ k in cc
 
--- a state that refuses what is left for good gives the outcome of a refused value
+-- where bytes led to a state that refuses the rest for good, the outcome is this refusal
 pub refused_here : (j : Job) (input : List ℕ) (s : State) (rest : List ℕ) (m n : ℕ) (e : Refusal)
     (left : List ℕ) → (h : Here j input s rest) → m ≡ length (take j.bytes input) → e ≢ truncated →
     Decided j.registry s rest e left n →
@@ -201,7 +201,7 @@ failing_stays j e at x y ne f = (
   omega (arith, f.2, length-append x y, length-append f.0 y),
 )
 
--- the shortest front of a kind stays where bytes are appended
+-- the shortest front with a property stays so where bytes are appended
 shortest_stays : (P : List ℕ → Type 0) (x y : List ℕ) (n : ℕ) → IsShortest P x n →
     IsShortest P (x ++ y) n
 shortest_stays P x y n h = record {

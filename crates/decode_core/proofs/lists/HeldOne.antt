@@ -30,11 +30,11 @@ leaf_fails : (read : Read Refusal Tree) (e : Refusal × List ℕ) → leaf_own r
 leaf_fails (Ok x) e h = absurd cc
 leaf_fails (Err x) e h = ap (λ (z : Refusal × List ℕ). Err z) (own_failed_is x e h)
 
--- of what refuses a part only missing bytes are missing bytes of a value
+-- where a part's reason is, for the value, that bytes are missing, it is so for the part
 inner_is : (x : Reason) → basic x ≡ truncated → x ≡ Truncated
 inner_is x h = cc
 
--- the same with the bytes that are left, which are the same
+-- the same of a fault, with the bytes that are left
 basic_is : (x : Reason) (l left : List ℕ) → own_failed (basic x, l) ≡ own_failed (truncated, left) →
     (x ≡ Truncated) × (l ≡ left)
 basic_is x l left h = let both = own_failed_is (basic x, l) (truncated, left) h in

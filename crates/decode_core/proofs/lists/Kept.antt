@@ -32,7 +32,7 @@ fails_more j reason at input m ne f = (
   omega (arith, f.2, length-append input m, length-append f.0 m),
 )
 
--- the shortest front of a kind stays where bytes are appended
+-- the shortest front with a property stays so where bytes are appended
 shortest_more : (P : List ℕ → Type 0) (input m : List ℕ) (n : ℕ) → IsShortest P input n →
     IsShortest P (input ++ m) n
 shortest_more P input m n s = record {

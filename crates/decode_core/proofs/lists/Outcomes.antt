@@ -14,7 +14,7 @@ use Rattle.decode_core.specs.Outcome.{done, refused, more, too_long, Job, IsShor
 pub encoded_is_done : EncodedIsDone
 encoded_is_done j v b h l s = (b, [], take_all j.bytes b s ∙ sym (append-nil b), h, l, refl)
 
--- there is one shortest front of a kind
+-- an input has one shortest front with a property
 shortest_is_one : (P : List ℕ → Type 0) (input : List ℕ) (n m : ℕ) → IsShortest P input n →
     IsShortest P input m → n ≡ m
 shortest_is_one P input n m a b = elim (cases_lt n m) [

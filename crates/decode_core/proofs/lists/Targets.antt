@@ -19,14 +19,14 @@ use Rattle.grammar_core.specs.declared.form.Next.TheVariants as next
 abbrev Over : List TypeInfo → Target → Option TypeDef → Type 0
 Over r m d = (u : TypeId) × (d ≡ Some (Def.Compact u)) × (target_of r u.0 ≡ Some m)
 
--- a sequence is no form of a compact
+-- the form of a sequence is no compact, so anything follows
 no_sequence : {X : Type 0} (m : Target) (empty byte : Bool) →
     sequence_form empty byte ≡ next.Wants (form.Compact m) → X
 no_sequence m true byte e = absurd cc
 no_sequence m false true e = absurd cc
 no_sequence m false false e = absurd cc
 
--- an array is no form of a compact
+-- the form of an array is no compact, so anything follows
 no_array : {X : Type 0} (m : Target) (n : ℕ) (byte : Bool) →
     array_form n byte ≡ next.Wants (form.Compact m) → X
 no_array m n true e = absurd cc

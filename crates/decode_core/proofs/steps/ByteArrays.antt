@@ -41,12 +41,12 @@ at_array b c kept n s is h wants closed = record {
       subst (λ (x : Running). x.built.run ≡ None) (sym is) closed;
 }
 
--- before an array of u8 no byte is carried
+-- a decoder that waits for an array of u8 carries no byte
 none_carried : (b : Built) (c : List ℕ) (kept : Option OpenRun) (n : ℕ) → AtArray b c kept n →
     c ≡ []
 none_carried b c kept n a = carry_none b c (form.ByteArray n) a.running.carried a.wants (λ no. no)
 
--- before an array of u8 of which no byte came nothing is held
+-- a decoder that waits for an array of u8, of which no byte came, holds nothing
 none_held : (b : Built) (c : List ℕ) (kept : Option OpenRun) (n : ℕ) → AtArray b c kept n →
     held_of (record { built = b; carry = c }) ≡ []
 none_held b c kept n a = held_closed b c a.closed ∙ none_carried b c kept n a

@@ -130,7 +130,7 @@ call_few a b d piece start from to at n k h t =
       t.tells.0,
     )
 
--- few turns before, and few up to the last of those that follow, are few together
+-- where the turns of a call were few so far, they are with those before its last one too
 few_before : (a b d : Running) (piece : List ℕ) (start from to at n : ℕ) (last : Turned) →
     start + length b.built.entries ≤ from + length a.built.entries →
     from + length a.built.entries ≤ start + at + length b.built.entries →
@@ -183,7 +183,7 @@ call_counts_short a b d piece at start from to n le h each few t =
 
 -- ---- a value that was whole
 
--- a value that was whole at the start of a call is followed by no turn that goes on
+-- where the value was whole at the start of a call, no turn goes on, so anything follows
 pub whole_call_stops : {X : Type 0} (a b d : Running) (piece : List ℕ) (at from to n k : ℕ) →
     (is_whole a.built ≡ true → (at ≡ 0) × (b ≡ a)) → TurnsTell b d piece from to n (turned.On k) →
     is_whole a.built ≡ true → X

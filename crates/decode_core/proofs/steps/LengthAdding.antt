@@ -63,7 +63,7 @@ pub list_refused : (b : Built) (own : List ℕ) (e : Reason) (at : ℕ) →
 list_refused b own e at h k = let s = next_has b form.Sequence h in
     list_refused_by (next_layout b) s.0 own e at s.1 k
 
--- a sequence that is next and has just its length's bytes leaves none of them
+-- a sequence that is next is read of just its length's bytes, and none is left
 pub list_all : (b : Built) (own : List ℕ) (n : ℕ) → next_of b.walk ≡ next.Wants form.Sequence →
     AreOwn form.Sequence own → (rest : List ℕ) × (compact_at target.U32 own ≡ Ok (n, rest)) →
     own_at (next_layout b) own
@@ -243,7 +243,7 @@ pub bytes_added : {E : Type 0} (b new : Built) (own : List ℕ) (x : Head × Opt
 bytes_added b new own x (Ok u) r ok err = (x, r, ok)
 bytes_added b new own x (Err e) r ok err = ((x, r), err)
 
--- what adds a node that no bytes spell is an answer to adding it, also for want of memory
+-- a call that adds a node without bytes, or fails and changes nothing, answers as adding one does
 pub bare_added : {E : Type 0} (b new : Built) (x : Head × Option Part)
     (added : Result (Unit {0}) E) → own_at (next_layout b) [] ≡ Ok (x, []) →
     OnOk added (new ≡ with_own b x) → OnErr added (new ≡ b) → AddsBare b new added

@@ -29,7 +29,7 @@ moves_none s = record {
   level = refl;
 }
 
--- decoders of the same value, one after the other, are of the same value
+-- a value that is the same from one decoder to a second and on to a third is the same throughout
 same_on : (a b c : Running) → IsSame a b → IsSame b c → IsSame a c
 same_on a b c h k = record {
   types = k.types ∙ h.types;

@@ -64,13 +64,13 @@ pub own_whole : (b : Built) (f : Form) (own : List ℕ) → next_of b.walk ≡ n
 own_whole b f own h s n k =
     form_whole f (next_layout b) own (next_has b f h) (needs_these b f own h s n k)
 
--- what is read as whole leaves nothing
+-- where bytes are enough for a node and are read, nothing is left
 none_left : {X : Type 0} (read : Read Refusal X) (x : X) (rest : List ℕ) → IsWhole read →
     read ≡ Ok (x, rest) → read ≡ Ok (x, [])
 none_left read x rest h e = let nil : rest ≡ [] = (rw e at h) in e
     ∙ ap (λ (r : List ℕ). Ok (x, r)) nil
 
--- what is refused as whole is not cut
+-- where bytes are enough for a node and are refused, the refusal does not wait for more
 no_wait : {X : Type 0} (read : Read Refusal X) (e : Refusal) (left : List ℕ) → IsWhole read →
     read ≡ Err (e, left) → is_cut e ≡ false
 no_wait read e left h is = (rw is at h)

@@ -80,7 +80,7 @@ compact_short target.U32 b ne h = integer_short target.U32 b h
 compact_short target.U64 b ne h = integer_short target.U64 b h
 compact_short target.U128 b ne h = integer_short target.U128 b h
 
--- fewer bytes than one number, or none, are fewer than that number, which is one at least
+-- bytes that are short of a number, one at least, are fewer than it
 below : (k : ℕ) (b : List ℕ) → 1 ≤ k → IsShortOf (λ first. k) b → length b < k
 below k [] some h = omega (arith, some)
 below k (first ∷ rest) some h = h

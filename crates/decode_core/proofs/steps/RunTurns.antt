@@ -57,7 +57,7 @@ bare_by : {E : Type 0} (b new : Built) (f : Form) (added : Result (Unit {0}) E) 
 bare_by b new f (Ok u) h k closed adds = added_running b new [] (at_next b f k) closed adds
 bare_by b new f (Err e) h k closed adds = subst (λ (s : Built). IsRunning s [] None) (sym adds.1) h
 
--- the same before any node without bytes of its own
+-- a decoder stays on its way, with its carry, where a node without own bytes is added or not
 pub bare_running : {E : Type 0} (b new : Built) (carry : List ℕ) (kept : Option OpenRun) (f : Form)
     (added : Result (Unit {0}) E) → IsRunning b carry kept → next_of b.walk ≡ next.Wants f →
     (HasBytes f → ⊥) → b.run ≡ None → AddsBare b new added → IsRunning new carry kept
@@ -224,7 +224,7 @@ wants_more b c f h wants some closed =
 abbrev pub of_fields : Built → List ℕ → Running
 of_fields b c = record { built = b; carry = c }
 
--- own bytes are one at least
+-- the own bytes of a node, as many as its form needs, are one at least
 some_own : (f : Form) (own : List ℕ) → AreOwn f own → 1 ≤ length own
 some_own f [] a = let no = a.2 in absurd cc
 some_own f (x ∷ own) a = omega arith
@@ -328,7 +328,7 @@ first_of_piece [] [] h some = absurd (omega (arith, some))
 first_of_piece [] (x ∷ piece) h some = (piece, refl)
 first_of_piece (y ∷ c) piece h some = absurd cc
 
--- a list that is found to have no length is empty
+-- a list whose length is found to be 0 is empty
 pub none_of : (bytes : List ℕ) → true ≡ (length bytes == 0) → bytes ≡ []
 none_of bytes h = nil_of bytes (eqb-true (length bytes) 0 (sym h)) where
   nil_of : (l : List ℕ) → length l ≡ 0 → l ≡ []

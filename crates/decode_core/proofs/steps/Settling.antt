@@ -8,7 +8,7 @@ use Rattle.decode_core.specs.NodeAdds.{IsAdded, with_own}
 use Rattle.decode_core.specs.Running.{IsRunning}
 use Rattle.decode_core.proofs.steps.Stepping.{AtNext, settles}
 
--- to close again what is whole changes nothing, by whether the innermost part is whole
+-- a second closing changes nothing, be the innermost part whole or not, if it is so around it
 settled_by : (f g : OpenPart) (fs : List OpenPart) →
     settled_in (settled_in (g ∷ fs)) ≡ settled_in (g ∷ fs) → (o : Option ℕ) → first_of f.left ≡ o →
     settled_in (elim o [ Some t ↦ f ∷ g ∷ fs | None ↦ settled_in (g ∷ fs) ])
@@ -23,7 +23,7 @@ settled_twice [] = refl
 settled_twice (f ∷ []) = refl
 settled_twice (f ∷ g ∷ fs) = settled_by f g fs (settled_twice (g ∷ fs)) (first_of f.left) refl
 
--- something stays open when what is whole is closed, by whether the innermost part is whole
+-- something stays open when what is whole is closed, if it does around the innermost part
 some_by : (f g : OpenPart) (fs : List OpenPart) → 1 ≤ length (settled_in (g ∷ fs)) →
     (o : Option ℕ) → 1 ≤ length {A = OpenPart}
     (elim o [ Some t ↦ f ∷ g ∷ fs | None ↦ settled_in (g ∷ fs) ])

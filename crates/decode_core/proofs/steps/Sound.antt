@@ -137,7 +137,7 @@ running_small j n s turns calls few texts limit sound counted =
           omega (arith, counted.1, few, sound.begun.turns);
     }
 
--- a decoder that has taken nothing is small
+-- a decoder that has taken nothing, with its turns counted, is small
 first_small : (j : Job) (n : ℕ) (s : Running) (turns calls : ℕ) →
     s ≡ first_running j.registry j.ty j.depth → RunCounted j n (Ok s) turns calls →
     IsSmall (record { job = j; taken = n; run = Ok s; turns = turns; calls = calls })
@@ -159,7 +159,7 @@ first_small j n s turns calls is counted =
           omega (arith, counted.1, none, closed);
     }
 
--- a decoder that bytes led to is small for them
+-- a decoder that bytes led to, with its turns counted, is small for them
 pub led_small : (j : Job) (b : List ℕ) (n : ℕ) (run : Result Running DecodeFault)
     (turns calls : ℕ) → RunLed j b n run → RunCounted j n run turns calls →
     IsSmall (record { job = j; taken = n; run = run; turns = turns; calls = calls })

@@ -115,7 +115,7 @@ settle_on r all f g fs hs le h s = record {
   one_more : (all n : ℕ) → suc (suc n) ≤ all → suc (all - suc (suc n)) ≡ all - suc n
   one_more all n h = omega (arith, h)
 
--- closing what is whole keeps what is still read, by whether the innermost part is whole
+-- closing what is whole keeps what is still read, if it does around the innermost part
 settle_by : (r : List TypeInfo) (all : ℕ) (f g : OpenPart) (fs : List OpenPart) →
     suc (suc (length fs)) ≤ all → Settles r all (g ∷ fs) (settled_in (g ∷ fs)) → (o : Option ℕ) →
     first_of f.left ≡ o → Settles r all (f ∷ g ∷ fs)
@@ -257,7 +257,7 @@ open_leads b n own h p is =
     leads_settled b before own refl (omega (arith, next_frame_count b.walk.frames, n.bound))
     (rw (state_is b n, after_is) one)
 
--- the same of either
+-- to add a node of either kind is a turn of the machine by its own bytes
 own_leads : (b : Built) (n : AtNext b) (own : List ℕ) (x : Head × Option Part) →
     own_at (next_layout b) own ≡ Ok (x, []) →
     TurnLeads b.walk.types (state_of b) (state_of (with_own b x)) own

@@ -79,7 +79,7 @@ compact_settled target.U32 first rest ne h = integer_settled target.U32 first re
 compact_settled target.U64 first rest ne h = integer_settled target.U64 first rest h
 compact_settled target.U128 first rest ne h = integer_settled target.U128 first rest h
 
--- a reason that is not that bytes are missing is none to wait for more
+-- a reason other than that bytes are missing does not wait for more
 pub basic_whole : (e : Reason) → e ≢ scale.Truncated → is_cut (basic e) ≡ false
 basic_whole scale.Truncated h = absurd (h refl)
 basic_whole scale.BadBool h = refl
