@@ -93,6 +93,7 @@ module _ {R : Place → Place → Ordering} (exact : CmpEqualImpliesEq R) where
         (subst (AreKeysOf ps (fields_at r x.0)) same h.0)
     go Greater is later f = later f
 
+  -- what is known stays right where the keys at one more place are kept that are right
   known_insert : (r : List TypeInfo) (ps : List ℕ) (es : List (Place × Known)) (p : Place)
       (k : Known) → AreKnown r ps es → AreKeysOf ps (fields_at r p) k →
       AreKnown r ps (insert_entry R es p k)

@@ -39,7 +39,7 @@ abbrev Told : {E X : Type 0} → (E → Refusal) → List ℕ → ℕ → Read E
 Told m b k (Ok x) = Unit {0}
 Told m b k (Err e) = (length e.1 ≤ length b) × IsTakenBefore (m e.0) e.1 (place b e.1) k
 
--- what is taken by a fault moves with its place where bytes stand in front
+-- where bytes stand in front of a fault, its place and what is taken move by as many
 moved : (reason : Refusal) (left : List ℕ) (c at k : ℕ) → IsTakenBefore reason left at k →
     IsTakenBefore reason left (c + at) (c + k)
 moved (basic reasons.Truncated) left c at k h = h
@@ -70,7 +70,7 @@ finish_told : {E F X Y : Type 0} (m : E → F) (n : F → Refusal) (make : X →
 finish_told m n make b k (Ok x) h = tt
 finish_told m n make b k (Err e) h = h
 
--- one part behind the other tells what is taken, by whichever of them is refused
+-- of two parts, one behind the other, the fault of whichever is refused tells what is taken
 chain_told : {E F X Y : Type 0} (m : E → F) (n : F → Refusal) (P : X → List ℕ → Type 0)
     (h : X → List ℕ → Read F Y) (next : X × List ℕ → ℕ) (b : List ℕ) (own : ℕ) (read : Read E X) →
     Takes P b read → Told (λ e. n (m e)) b own read →

@@ -321,7 +321,7 @@ leaf_begins : (r : List TypeInfo) (room t : ℕ) (b : List ℕ) (read : Read Ref
 leaf_begins r room t b (Ok x) is = tt
 leaf_begins r room t b (Err e) is = bare r (suc room) t b e is
 
--- an arm that ends in a fault is begun, or nothing is where the index is unknown
+-- an arm that ends in a fault is begun, and nothing is there where the index is unknown
 arm_own_begins : (r : List TypeInfo) (room t : ℕ) → ChildBegins r room → (arms : List Arm) →
     met_layout r t ≡ layout.arms arms → (i : ℕ) (b : List ℕ) (found : Option (ℕ × Arm)) →
     arm_of arms i ≡ found → told_at r (suc room) t (i ∷ b) ≡ own_told (told_at r room) t (i ∷ b)
@@ -344,7 +344,7 @@ arms_begin r room t h arms f [] is = bare r (suc room) t [] _ is
 arms_begin r room t h arms f (i ∷ b) is =
     arm_own_begins r room t h arms f i b (arm_of arms i) refl is
 
--- a sequence that ends in a fault is begun, or nothing is where its length is refused
+-- a sequence that ends in a fault is begun, and nothing is there where its length is refused
 length_begins : (r : List TypeInfo) (room t u : ℕ) → ChildBegins r room →
     met_layout r t ≡ layout.sequence u → (b : List ℕ) (read : Read Reason ℕ) →
     Takes (IsCompact target.U32) b read →

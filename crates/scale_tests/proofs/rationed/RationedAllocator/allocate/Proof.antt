@@ -124,6 +124,7 @@ module _ (Z : Al) {M : Type 1} {𝓤 : Ura M} (𝓛 : Logic 𝓤) (at_mem : Memo
         $ fjoin ! $ nothing ! $ fjoin ! $ nothing ! $ fjoin ! $ join ! $
         move ! (2 ∷ 3 ∷ []) $ join ! $ join ! $ done !
 
+    -- the body gives what is owed of a request, at sizes that are words
     walk : bytes < 2 ^ 64 → aligned < 2 ^ 64 →
         ent 𝓤 ((walk_of 𝓛 (ended Z) (stayed Z) clauses).pre bound)
         (WpFn 𝓤 H 𝓣.C 𝓣.Λ (itself Z) handed Owed)

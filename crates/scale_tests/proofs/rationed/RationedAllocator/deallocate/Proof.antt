@@ -92,6 +92,7 @@ module _ (Z : Al) {M : Type 1} {𝓤 : Ura M} (𝓛 : Logic 𝓤) (at_mem : Memo
     abbrev Fitting : Type 0
     Fitting = (capped (size τ) ≡ bytes) × (capped (align τ) ≡ aligned)
 
+    -- the body gives a block back, at sizes that are words, and there is none to give at null
     walk : bytes < 2 ^ 64 → aligned < 2 ^ 64 → (ptr : Ptr) →
         ent 𝓤 ((walk_of 𝓛 (ended Z) (stayed Z) clauses).pre (bound ptr))
         (WpFn 𝓤 H 𝓣.C 𝓣.Λ (itself Z) (handed ptr) (Post ptr))
