@@ -8,10 +8,12 @@ use Rattle.graph_core.specs.References.{references, AreKnown, AreChecked, IsFirs
 use Rattle.graph_core.specs.References.{first_unknown, fault_or, unknown_from, first_fault}
 use Rattle.graph_core.specs.References.{FaultIsFirst}
 
+-- among references that all are positions none is unknown
 known_none : (n : ℕ) (ts : List ℕ) → AreKnown n ts → first_unknown n ts ≡ None
 known_none n [] h = refl
 known_none n (t ∷ ts) h = rw (lt-ltb t n h.0) (known_none n ts h.1)
 
+-- where no unknown reference is found, all are positions
 none_known : (n : ℕ) (ts : List ℕ) → first_unknown n ts ≡ None → AreKnown n ts
 none_known n [] e = tt
 none_known n (t ∷ ts) e = go (nat_lt t n) refl e (none_known n ts) where
@@ -23,6 +25,7 @@ none_known n (t ∷ ts) e = go (nat_lt t n) refl e (none_known n ts) where
 abbrev Split : ℕ → List ℕ → ℕ → Type 0
 Split n ts u = (front back : List ℕ) × (ts ≡ front ++ u ∷ back) × AreKnown n front × (n ≤ u)
 
+-- an unknown reference that is found is no position, and those before it are
 some_split : (n : ℕ) (ts : List ℕ) (u : ℕ) → first_unknown n ts ≡ Some u → Split n ts u
 some_split n [] u e = absurd cc
 some_split n (t ∷ ts) u e = go (nat_lt t n) refl e (some_split n ts u) where
@@ -33,16 +36,19 @@ some_split n (t ∷ ts) u e = go (nat_lt t n) refl e (some_split n ts u) where
   go false f g h = let same : t ≡ u = cc in
       ([], ts, rw same refl, tt, omega (arith, ltb-false t n f, same))
 
+-- a reference that is no position, with positions before it, is the one that is found
 split_some : (n : ℕ) (front : List ℕ) (u : ℕ) (back : List ℕ) → AreKnown n front → n ≤ u →
     first_unknown n (front ++ u ∷ back) ≡ Some u
 split_some n [] u back h le = rw (le-ltb u n le) refl
 split_some n (t ∷ front) u back h le = rw (lt-ltb t n h.0) (split_some n front u back h.1 le)
 
+-- types whose references all are positions have no fault
 checked_none : (n j : ℕ) (r : List TypeInfo) → AreChecked n r → unknown_from n j r ≡ None
 checked_none n j [] h = refl
 checked_none n j (x ∷ r) h =
     rw (known_none n (references x.shape) h.0) (checked_none n (j + 1) r h.1)
 
+-- where types have no fault, all their references are positions
 none_checked : (n j : ℕ) (r : List TypeInfo) → unknown_from n j r ≡ None → AreChecked n r
 none_checked n j [] e = tt
 none_checked n j (x ∷ r) e =
@@ -61,9 +67,11 @@ First n j r i u = (before : List TypeInfo) × (x : TypeInfo) × (after : List Ty
 abbrev found : ℕ × ℕ → Option (ℕ × ℕ)
 found p = Some p
 
+-- two pairs that are found and equal are one
 some_is : (p q : ℕ × ℕ) → found p ≡ found q → p ≡ q
 some_is p q e = cc
 
+-- a fault that is found is the first reference to no position, at its type
 some_first : (n j : ℕ) (r : List TypeInfo) (i u : ℕ) → unknown_from n j r ≡ Some (i, u) →
     First n j r i u
 some_first n j [] i u e = absurd cc
@@ -91,6 +99,7 @@ some_first n j (x ∷ r) i u e =
             s.10,
           )
 
+-- the first reference to no position is the fault that is found
 first_some : (n j : ℕ) (before : List TypeInfo) (x : TypeInfo) (after : List TypeInfo)
     (front back : List ℕ) (u : ℕ) → references x.shape ≡ front ++ u ∷ back → AreChecked n before →
     AreKnown n front → n ≤ u → unknown_from n j (before ++ x ∷ after) ≡ Some (j + length before, u)
@@ -101,6 +110,7 @@ first_some n j (y ∷ before) x after front back u e h k le =
     (first_some n (j + 1) before x after front back u e h.1 k le
     ∙ ap (λ (i : ℕ). found (i, u)) (omega arith))
 
+-- there is a fault exactly where a reference is no position, and it is the first such one
 pub fault_is_first : FaultIsFirst
 fault_is_first r = (
   none_checked (length r) 0 r,

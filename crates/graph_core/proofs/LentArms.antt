@@ -17,16 +17,19 @@ use Rattle.graph_core.proofs.Unknown.{unknown_in, arm_found, arm_passed}
 
 -- ---- lengths of fields
 
+-- an arm at a position fits, if all do
 arm_fits : (arms : List Arm) (i : ℕ) (a : Arm) → AllByRecursion FitsArm arms → i < length arms →
     a ≡ get_or arms i a → FitsArm a
 arm_fits [] i a h lt e = absurd (omega (arith, lt))
 arm_fits (x ∷ arms) zero a h lt e = rw e h.0
 arm_fits (x ∷ arms) (suc i) a h lt e = arm_fits arms i a h.1 (omega (arith, lt)) e
 
+-- the fields of an arm at a position are fewer than 2^32, if all arms fit
 pub fields_fit : (arms : List Arm) (i : ℕ) (a : Arm) → FitsList FitsArm arms → i < length arms →
     a ≡ get_or arms i a → length a.fields < 2 ^ 32
 fields_fit arms i a h lt e = (arm_fits arms i a h.1 lt e).1.0
 
+-- the fields counted and those of the arms left stay the total as an arm is counted
 pub count_passed : (n total i : ℕ) (arms : List Arm) (a : Arm) → i < length arms →
     a ≡ get_or arms i a → n + length (flat_map (λ x. field_types x.fields) (drop i arms)) ≡ total →
     n + length a.fields + length (flat_map (λ x. field_types x.fields) (drop (i + 1) arms)) ≡ total
@@ -49,6 +52,7 @@ count_passed n total i arms a lt at h =
       length-map a.fields (λ (f : Field). f.ty.0),
     )
 
+-- the widest so far and those of the arms left stay the widest as an arm is passed
 pub width_passed : (w total i : ℕ) (arms : List Arm) (a : Arm) → i < length arms →
     a ≡ get_or arms i a → max w (greatest (map (λ x. length x.fields) (drop i arms))) ≡ total →
     max (max w (length a.fields)) (greatest (map (λ x. length x.fields) (drop (i + 1) arms)))
@@ -66,12 +70,14 @@ width_passed w total i arms a lt at h =
 
 -- ---- unknown references
 
+-- an unknown reference that an arm has is the first of all arms, if none stood before it
 pub arm_has : (n i : ℕ) (arms : List Arm) (a : Arm) (o : Option ℕ) → i < length arms →
     a ≡ get_or arms i a → is_some o ≡ true → o ≡ first_unknown n (field_types a.fields) →
     unknown_in n (drop i arms) ≡ unknown_in n arms → o ≡ unknown_in n arms
 arm_has n i arms a None lt at some is h = absurd cc
 arm_has n i arms a (Some u) lt at some is h = arm_found n arms i a u lt at is h
 
+-- an arm without an unknown reference leaves the first to the arms behind it
 pub arm_lacks : (n i : ℕ) (arms : List Arm) (a : Arm) (o : Option ℕ) → i < length arms →
     a ≡ get_or arms i a → is_some o ≡ false → o ≡ first_unknown n (field_types a.fields) →
     unknown_in n (drop i arms) ≡ unknown_in n arms →
@@ -79,6 +85,7 @@ pub arm_lacks : (n i : ℕ) (arms : List Arm) (a : Arm) (o : Option ℕ) → i <
 arm_lacks n i arms a None lt at none is h = arm_passed n arms i a lt at is h
 arm_lacks n i arms a (Some u) lt at none is h = absurd cc
 
+-- types from a position on have the fault of the type there, or else of those behind it
 from_shape : (n k i : ℕ) (r : List TypeInfo) (d : TypeDef) → shape r i ≡ Some d →
     unknown_from n k (drop i r) ≡ fault_or k (first_unknown n (references d))
     (unknown_from n (k + 1) (drop (suc i) r))
@@ -86,6 +93,7 @@ from_shape n k i [] d e = absurd cc
 from_shape n k zero (x ∷ r) d e = let is : x.shape ≡ d = cc in rw is refl
 from_shape n k (suc i) (x ∷ r) d e = from_shape n k i r d e
 
+-- an unknown reference that a type has is the first fault from there on
 pub type_has : (n i : ℕ) (r : List TypeInfo) (d : TypeDef) (u : ℕ) (total : Option (ℕ × ℕ)) →
     shape r i ≡ Some d → Some u ≡ first_unknown n (references d) →
     unknown_from n i (drop i r) ≡ total → Some (i, u) ≡ total
@@ -93,6 +101,7 @@ type_has n i r d u total e is h =
     ap (λ (o : Option ℕ). fault_or i o (unknown_from n (i + 1) (drop (suc i) r))) is
     ∙ sym (from_shape n i i r d e) ∙ h
 
+-- a type without an unknown reference leaves the first fault to the types behind it
 pub type_lacks : (n i : ℕ) (r : List TypeInfo) (d : TypeDef) (total : Option (ℕ × ℕ)) →
     shape r i ≡ Some d → None ≡ first_unknown n (references d) →
     unknown_from n i (drop i r) ≡ total → unknown_from n (i + 1) (drop (i + 1) r) ≡ total

@@ -16,6 +16,7 @@ use Rattle.graph_core.specs.Graphs.{IsOpened}
 
 -- ---- the last reference to a type
 
+-- a reference that was just appended is the last one to its type
 last_same : (xs : List ℕ) (u : ℕ) → IsLast (xs ++ u ∷ []) (length xs + 1) u (length xs + 1)
 last_same xs u = record {
   within = omega arith;
@@ -23,6 +24,7 @@ last_same xs u = record {
   found = λ b is. get_or_push xs u 0 b (omega arith);
 }
 
+-- a reference to another type leaves the last one to a type as it was
 last_other : (xs : List ℕ) (v u a : ℕ) → v ≢ u → IsLast xs (length xs) u a →
     IsLast (xs ++ v ∷ []) (length xs + 1) u a
 last_other xs v u a ne h = record {
@@ -35,6 +37,7 @@ last_other xs v u a ne h = record {
       get_or_append_left xs (v ∷ []) 0 b below ∙ h.found b is;
 }
 
+-- an appended reference leaves the last one among those before it as it was
 last_kept : (xs : List ℕ) (v k u a : ℕ) → k ≤ length xs → IsLast xs k u a →
     IsLast (xs ++ v ∷ []) k u a
 last_kept xs v k u a le h = record {
@@ -45,12 +48,14 @@ last_kept xs v k u a le h = record {
       get_or_append_left xs (v ∷ []) 0 b below ∙ h.found b is;
 }
 
+-- references that are positions still are where one that is a position is appended
 known_more : (n : ℕ) (xs : List ℕ) (v : ℕ) → AreKnown n xs → v < n → AreKnown n (xs ++ v ∷ [])
 known_more n [] v h lt = (lt, tt)
 known_more n (x ∷ xs) v h lt = (h.0, known_more n xs v h.1 lt)
 
 -- ---- one more reference
 
+-- one more look at a reference appends it to those that were read
 pub refs_more : (a b : Graph) (v : ℕ) → b.looks.read.entries ≡ v ∷ a.looks.read.entries →
     refs b ≡ refs a ++ v ∷ []
 refs_more a b v e = ap reverse e ∙ reverse-append (v ∷ []) a.looks.read.entries
@@ -58,6 +63,7 @@ refs_more a b v e = ap reverse e ∙ reverse-append (v ∷ []) a.looks.read.entr
 abbrev link : Graph → ℕ → ℕ → Link
 link a v c = record { counter = c; before = get_or a.newest.items v 0 }
 
+-- the lists are right again after one more reference was put at the front of its own
 pub linked_more : (a b : Graph) (v c : ℕ) → IsLinked a → v < length a.types.now →
     length a.links.items + 1 < 2 ^ 32 → b.types.now ≡ a.types.now →
     b.looks.read.entries ≡ v ∷ a.looks.read.entries →
@@ -121,6 +127,7 @@ linked_more a b v c h lt small types read links members newest =
                 (omega arith) (h.newest v lt))
           ]
 
+-- a reference that was put at the front of its list is one that was read, for its counter
 pub read_one : (a b : Graph) (v c : ℕ) → IsLinked a → v < length a.types.now →
     length a.links.items + 1 < 2 ^ 32 → b.types.now ≡ a.types.now →
     b.looks.read.entries ≡ v ∷ a.looks.read.entries →
@@ -140,6 +147,7 @@ read_one a b v c h lt small types read links members newest opened listed = reco
 
 -- ---- reading on
 
+-- from a graph to itself no reference was read
 pub reads_none : (a : Graph) → IsLinked a → ReadsReferences a a [] []
 reads_none a h = record {
   linked = h;
@@ -151,6 +159,7 @@ reads_none a h = record {
   listed = refl;
 }
 
+-- references that were read behind others were read with them
 pub reads_on : (a b c : Graph) (xs ys ks ls : List ℕ) → ReadsReferences a b xs ks →
     ReadsReferences b c ys ls → ReadsReferences a c (xs ++ ys) (ks ++ ls)
 reads_on a b c xs ys ks ls h k = record {
@@ -166,6 +175,7 @@ reads_on a b c xs ys ks ls h k = record {
 abbrev pub ReadsParts : Graph → Graph → ℕ → ℕ → List ℕ → Type 0
 ReadsParts a b s i ps = ReadsReferences a b (take i ps) (map (λ _. s) (take i ps))
 
+-- where a definition's next part is read for its counter, one more of its parts is read
 pub parts_more : (a b c : Graph) (s i : ℕ) (ps : List ℕ) (p : ℕ) → i < length ps →
     p ≡ get_or ps i 0 → ReadsParts a b s i ps → ReadsReferences b c (p ∷ []) (s ∷ []) →
     ReadsParts a c s (i + 1) ps
@@ -176,17 +186,20 @@ parts_more a b c s i ps p lt is h k =
     map-append (λ (q : ℕ). s) (take i ps) (p ∷ []) in
     rw (more, counted) (reads_on a b c (take i ps) (p ∷ []) (map (λ _. s) (take i ps)) (s ∷ []) h k)
 
+-- the type of the field at a position is the one at this place among the fields' types
 pub field_at : (fs : List Field) (i : ℕ) (x : Field) → i < length fs → x ≡ get_or fs i x →
     x.ty.0 ≡ get_or (field_types fs) i 0
 field_at fs i x lt is = ap (λ (f : Field). f.ty.0) is
     ∙ sym (get_or-map (λ (f : Field). f.ty.0) fs i x 0 lt)
 
+-- the type of the member at a position is the one at this place among the members' ids
 pub member_at : (ts : List TypeId) (i : ℕ) (d : TypeId) → i < length ts →
     (get_or ts i d).0 ≡ get_or (ids ts) i 0
 member_at ts i d lt = sym (get_or-map (λ (t : TypeId). t.0) ts i d 0 lt)
 
 -- ---- type by type
 
+-- one more look at a definition leaves the lists right
 pub linked_opened : (a b : Graph) (t : ℕ) → IsLinked a → IsOpened a b t → IsLinked b
 linked_opened a b t h o =
     let is : refs b ≡ refs a = ap reverse o.read in

@@ -13,6 +13,7 @@ use Rattle.graph_core.specs.Counts.{times}
 use Rattle.graph_core.specs.Graphs.{IsUnread, IsMeasured, IsOpened}
 use Rattle.graph_core.specs.Sizes.{AreSizes, arm_count, arm_counts}
 
+-- as types are looked at in order, each has one look at most, and those behind have none
 pub one_more : (i t : ℕ) (log : List ℕ) → (times t log ≤ 1) × (i ≤ t → times t log ≡ 0) →
     (times t (i ∷ log) ≤ 1) × (i + 1 ≤ t → times t (i ∷ log) ≡ 0)
 one_more i t log h = go (i == t) refl where
@@ -22,6 +23,7 @@ one_more i t log h = go (i == t) refl where
       (omega (arith, h.1 (omega arith), same), λ le. absurd (omega (arith, same, le)))
   go false e = (omega (arith, h.0), λ le. omega (arith, h.1 (omega (arith, le))))
 
+-- one more type has its references counted with those of the types before it
 references_more : (r : List TypeInfo) (i : ℕ) (d : TypeDef) → shape r i ≡ Some d →
     length (flat_map (λ x. references x.shape) (take (suc i) r))
     ≡ length (flat_map (λ x. references x.shape) (take i r)) + length (references d)
@@ -37,6 +39,7 @@ references_more (x ∷ r) (suc i) d e =
     )
     (omega (arith, more))
 
+-- one more type has its arms counted with those of the types before it
 arms_more : (r : List TypeInfo) (i : ℕ) (d : TypeDef) → shape r i ≡ Some d →
     arm_counts (take (suc i) r) ≡ arm_counts (take i r) + arm_count d
 arms_more [] i d e = absurd cc
@@ -53,6 +56,7 @@ pub record SizesTo (r : List TypeInfo) (i n m : ℕ) (d : Graph) : Type 0 where
   pub read : d.looks.read.entries ≡ []
   pub listed : d.looks.listed.entries ≡ []
 
+-- where nothing was read, no type was measured, and there is no reference and no arm
 pub sizes_none : (r : List TypeInfo) (d : Graph) → IsUnread r d → SizesTo r 0 0 0 d
 sizes_none r d h = record {
   types = h.types;
@@ -63,6 +67,7 @@ sizes_none r d h = record {
   listed = h.listed;
 }
 
+-- one more type that is looked at is measured with those before it
 pub sizes_more : (r : List TypeInfo) (i n m : ℕ) (d : TypeDef) (a b : Graph) → shape r i ≡ Some d →
     SizesTo r i n m a → IsOpened a b i →
     SizesTo r (i + 1) (n + length (references d)) (m + arm_count d) b
@@ -78,6 +83,7 @@ sizes_more r i n m d a b e h o =
       listed = o.listed ∙ h.listed;
     }
 
+-- where all types were measured, the counts are the sizes of the registry
 pub sizes_all : (r : List TypeInfo) (i n m : ℕ) (d : Graph) → length r ≤ i → SizesTo r i n m d →
     AreSizes r (record { references = n; arms = m }) × IsMeasured r d
 sizes_all r i n m d le h =

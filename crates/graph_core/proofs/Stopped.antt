@@ -21,6 +21,7 @@ stop_kept (Err s) o P e h = subst P (sym e) h
 
 -- ---- one reference
 
+-- a reference that is no position and was read stops the reading at itself
 pub stops_one : (a b : Graph) (u : ℕ) → length a.types.now ≤ u →
     b.looks.read.entries ≡ u ∷ a.looks.read.entries → b.types.now ≡ a.types.now →
     b.looks.opened.entries ≡ a.looks.opened.entries →
@@ -47,6 +48,7 @@ pub all_front : {X : Type 0} (P : X → Type 0) (xs ys : List X) → AllByRecurs
 all_front P [] ys h = (tt, h)
 all_front P (x ∷ xs) ys h = let more = all_front P xs ys h.1 in ((h.0, more.0), more.1)
 
+-- what holds of all in two lists holds of all in both joined
 all_joined : {X : Type 0} (P : X → Type 0) (xs ys : List X) → AllByRecursion P xs →
     AllByRecursion P ys → AllByRecursion P (xs ++ ys)
 all_joined P [] ys h k = k
@@ -60,6 +62,7 @@ read_known a b xs ks h =
     rw (h.types, h.read) at h.linked.known in
     (all_front (λ t. t < length a.types.now) (refs a) xs known).1
 
+-- where references were read and the reading stopped behind them, it stopped in all of them
 stops_behind : (xs ys zs tos ks : List ℕ) (a b c : Graph) (u : ℕ) → tos ≡ xs ++ (ys ++ zs) →
     ReadsReferences a b xs ks → StopsAt ys b c u → StopsAt tos a c u
 stops_behind xs ys zs tos ks a b c u e h k = record {
@@ -79,6 +82,7 @@ stops_behind xs ys zs tos ks a b c u e h k = record {
   listed = k.listed ∙ h.listed;
 }
 
+-- the same where the reading may have stopped for want of memory
 pub stops_after : (xs ys zs tos ks : List ℕ) (a b c : Graph) (o : Stop) → tos ≡ xs ++ (ys ++ zs) →
     ReadsReferences a b xs ks → StopsLinking ys b c o → StopsLinking tos a c o
 stops_after xs ys zs tos ks a b c stop.Memory e h k = tt

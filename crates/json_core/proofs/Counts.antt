@@ -33,6 +33,7 @@ use Rattle.json_core.proofs.Told.{defined_at}
 
 -- ---- how many children there are
 
+-- values of these types are as many as the types
 parts_count : (r : List TypeInfo) (ts : List ℕ) (vs : Trees) (b : List ℕ) → Vals r ts vs b →
     length (seen_parts r (each ts) vs) ≡ length ts
 unfolding Val
@@ -49,11 +50,13 @@ Counted r t v (what.Arm q) = (a : Arm) → defined_arm (shape r t) q ≡ Some a 
     length a.fields ≡ length (children_by r t v)
 Counted r t v _ = Unit {0}
 
+-- a composite that is laid out as fields has the types of its own fields there
 fields_layout : (r : List TypeInfo) (e : Bool) (fs : List Field) (ts : List ℕ) →
     layout_of_shape r e (Some (Def.Composite fs)) ≡ layout.fields ts → field_types fs ≡ ts
 fields_layout r true fs ts h = absurd cc
 fields_layout r false fs ts h = cc
 
+-- a composite's value has as many children as the composite has fields
 fields_counted : (r : List TypeInfo) (t : ℕ) (ts : List ℕ) (vs : Trees) (b : List ℕ) →
     layout r t ≡ layout.fields ts → Vals r ts vs b →
     Counted r t (tree.branch tree.fields vs) what.Fields
@@ -66,6 +69,7 @@ fields_counted r t ts vs b e h fs is =
     let count : length ts ≡ length fs = ap length (sym same) ∙ length-map fs (λ f. f.ty.0) in
     sym (many ∙ count)
 
+-- a value of an arm has as many children as the arm has fields
 arm_counted : (r : List TypeInfo) (t q i : ℕ) (arms : List Arm) (a : Arm) (vs : Trees)
     (b : List ℕ) → layout r t ≡ layout.arms arms → arm_of arms i ≡ Some (q, a) →
     Vals r (field_types a.fields) vs b → Counted r t (tree.branch (tree.arm q) vs) (what.Arm q)
@@ -83,6 +87,7 @@ arm_counted r t q i arms a vs b e f h other is =
     length-map a.fields (λ f. f.ty.0) ∙ ap (λ (x : Arm). length x.fields) same in
     sym (many ∙ count)
 
+-- any value has as many children as the fields of its composite or arm
 counted_by : (r : List TypeInfo) (t : ℕ) (v : Tree) (b : List ℕ) → Val r t v b →
     Counted r t v (what_of v)
 unfolding Val
@@ -100,10 +105,12 @@ counted_by r t (tree.branch (tree.arm q) vs) b h = arm_counted r t q h.1 h.0 h.2
 counted_by r t (tree.branch tree.list vs) b h = tt
 counted_by r t (tree.leaf (tree.count n)) b h = tt
 
+-- the same of a value as contracts see it, by what its node is
 counted : (s : Seen) (w : What) → IsValue s → w ≡ what_of s.tree → Counted s.types s.ty s.tree w
 counted s w h e =
     subst (Counted s.types s.ty s.tree) (sym e) (counted_by s.types s.ty s.tree h.0 h.2)
 
+-- only a composite has the fields of a composite
 composite : (d : Option TypeDef) (fs : List Field) → composite_fields d ≡ Some fs →
     d ≡ Some (Def.Composite fs)
 composite None fs e = absurd cc
@@ -137,6 +144,7 @@ child_read s items i child e h is =
     slice_get_read (children_of s) (length (children_of s)) i child refl h
     (is ∙ ap (λ l. get_or l i child) e)
 
+-- a child at a position is of the same registry and has fewer nodes, if all have
 below_at : (r : List TypeInfo) (n : ℕ) (ss : List Seen) (i : ℕ) (s : Seen) → AreBelow r n ss →
     slice_get ss i ≡ Some s → (s.types ≡ r) × (nodes s.tree < n)
 below_at r n [] i s h e = absurd cc

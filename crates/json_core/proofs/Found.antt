@@ -18,6 +18,7 @@ Kept = List (Bor (List ℕ) × ℕ)
 abbrev pub shown : Kept → Entries
 shown es = map (λ e. (e.0.now, e.1)) es
 
+-- the map's entries have the same positions as the entries that they stand for
 pub shown_positions : (es : Kept) → map (λ e. e.1) es ≡ map (λ e. e.1) (shown es)
 shown_positions [] = refl
 shown_positions (e ∷ es) = ap (λ l. e.1 ∷ l) (shown_positions es)
@@ -25,12 +26,14 @@ shown_positions (e ∷ es) = ap (λ l. e.1 ∷ l) (shown_positions es)
 abbrev kept_cmp : Bor (List ℕ) → Bor (List ℕ) → Ordering
 kept_cmp a b = slice_cmp nat_cmp a.now b.now
 
+-- choosing by an order and then taking what is stood for, or the other way, is one
 shown_match : (o : Ordering) (a b c : Kept) →
     shown (match_ordering o a b c) ≡ match_ordering o (shown a) (shown b) (shown c)
 shown_match Less a b c = refl
 shown_match Equal a b c = refl
 shown_match Greater a b c = refl
 
+-- to put a name into the map is to put it into the entries that it stands for
 shown_insert : (es : Kept) (k : Bor (List ℕ)) (i : ℕ) →
     shown (insert_entry kept_cmp es k i) ≡ insert k.now i (shown es)
 shown_insert [] k i = refl
@@ -38,6 +41,7 @@ shown_insert (e ∷ es) k i = shown_match (kept_cmp k e.0) _ _ _
     ∙ ap (λ s. match_ordering (kept_cmp k e.0) ((k.now, i) ∷ (e.0.now, e.1) ∷ shown es)
     ((e.0.now, i) ∷ shown es) ((e.0.now, e.1) ∷ s)) (shown_insert es k i)
 
+-- a name is looked up in the map as it is in the entries that it stands for
 shown_lookup : (es : Kept) (n : List ℕ) →
     lookup (is_at (λ k. slice_cmp nat_cmp n k.now)) es
     ≡ lookup (is_at (slice_cmp nat_cmp n)) (shown es)
@@ -56,6 +60,7 @@ next_field fs p f n es e is =
     ∙ ap (λ q. cond (is_there n es) None (order_from (drop (p + 1) fs) q (insert n p es)))
     (omega arith)
 
+-- a look-up in the map finds something exactly where the name is one of the entries
 there : (k : Bor (List ℕ)) (old : Kept) (found : Option ℕ) →
     found ≡ lookup (is_at (kept_cmp k)) old → is_some found ≡ is_there k.now (shown old)
 there k old found e = ap is_some (e ∙ shown_lookup old k.now)

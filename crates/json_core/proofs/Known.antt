@@ -23,6 +23,7 @@ use Rattle.json_core.specs.Ordered.{AreKnown, Grows}
 
 -- ---- positions that are added change nothing of the others
 
+-- a range that lies in a list stays where more is appended
 same_range : (ps more : List ℕ) (start count : ℕ) → start + count ≤ length ps →
     slice_range (ps ++ more) start (start + count) ≡ slice_range ps start (start + count)
 same_range ps more start count h =
@@ -32,6 +33,7 @@ same_range ps more start count h =
     ap (take ((start + count) - start)) (drop-append-le start ps more within)
     ∙ take-append-le ((start + count) - start) (drop start ps) more room
 
+-- what is kept of how fields are shown stays right where positions are appended
 pub keys_stay : (ps more : List ℕ) (fs : List Field) (k : Keys) → AreKeys ps fs k →
     AreKeys (ps ++ more) fs k
 keys_stay ps more fs keys.Unnamed h = h
@@ -41,17 +43,20 @@ keys_stay ps more fs (keys.Sorted start) h = (
   h.1 ∙ ap Some (sym (same_range ps more start (length fs) h.0)),
 )
 
+-- the same where a place may have no fields
 keys_of_stay : (ps more : List ℕ) (o : Option (List Field)) (k : Known) → AreKeysOf ps o k →
     AreKeysOf (ps ++ more) o k
 keys_of_stay ps more None k h = tt
 keys_of_stay ps more (Some fs) k h = (keys_stay ps more fs k.keys h.0, h.1)
 
+-- all entries that are right stay right where positions are appended
 known_stay : (r : List TypeInfo) (ps more : List ℕ) (es : List (Place × Known)) →
     AreKnown r ps es → AreKnown r (ps ++ more) es
 known_stay r ps more [] h = tt
 known_stay r ps more (e ∷ es) h =
     (keys_of_stay ps more (fields_at r e.0) e.1 h.0, known_stay r ps more es h.1)
 
+-- the same for positions that are known to be the old ones and more
 pub known_more : (r : List TypeInfo) (old new more : List ℕ) (es : List (Place × Known)) →
     AreKnown r old es → new ≡ old ++ more → AreKnown r new es
 known_more r old new more es h e =
@@ -59,9 +64,11 @@ known_more r old new more es h e =
 
 -- ---- growth
 
+-- orders have grown by nothing from themselves
 pub grows_not : (o : OrdersView) → Grows o o
 grows_not o = record { types = refl; more = []; positions = sym (append-nil o.positions) }
 
+-- to grow twice is to grow
 pub grows_again : (a b c : OrdersView) → Grows a b → Grows b c → Grows a c
 grows_again a b c g h = record {
   types = h.types ∙ g.types;
@@ -90,6 +97,7 @@ module _ {R : Place → Place → Ordering} (exact : CmpEqualImpliesEq R) where
         (subst (AreKeysOf ps (fields_at r x.0)) same h.0)
     go Greater is later f = later f
 
+  -- what is known stays right where the keys at one more place are kept that are right
   known_insert : (r : List TypeInfo) (ps : List ℕ) (es : List (Place × Known)) (p : Place)
       (k : Known) → AreKnown r ps es → AreKeysOf ps (fields_at r p) k →
       AreKnown r ps (insert_entry R es p k)

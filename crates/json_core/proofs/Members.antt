@@ -13,6 +13,7 @@ pub no_fields : (fs : List Field) (ds : Items) (ms : Members) → length fs ≡ 
 no_fields [] ds ms e = refl
 no_fields (f ∷ fs) ds ms e = absurd cc
 
+-- where no item is left, nothing is put among the members, whatever names are left
 pub no_values : (ns : List (List ℕ)) (vs : List Value) (ms : Members) → length vs ≡ 0 →
     with_members ns (items_view vs) ms ≡ ms
 no_values [] vs ms e = refl

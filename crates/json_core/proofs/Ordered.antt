@@ -42,6 +42,7 @@ members_by f (e ∷ es) = member e.0 (f e.1) (members_by f es)
 
 -- ---- which names are there
 
+-- a name is among entries where the first has it or the others do
 is_there_cons : (m : List ℕ) (e : List ℕ × ℕ) (es : Entries) →
     is_there m (e ∷ es) ≡ (is_eq (cmp m e.0) || is_there m es)
 is_there_cons m e es = go (is_eq (cmp m e.0)) where
@@ -49,16 +50,19 @@ is_there_cons m e es = go (is_eq (cmp m e.0)) where
   go true = refl
   go false = refl
 
+-- of three that are joined by or, the first two change places
 or_assoc_swap : (a b c : Bool) → (a || (b || c)) ≡ (b || (a || c))
 or_assoc_swap true true c = refl
 or_assoc_swap true false c = refl
 or_assoc_swap false true c = refl
 or_assoc_swap false false c = refl
 
+-- to name one alternative twice changes nothing
 or_twice : (a c : Bool) → (a || c) ≡ (a || (a || c))
 or_twice true c = refl
 or_twice false c = refl
 
+-- names that compare as equal are the same
 same_name : (n k : List ℕ) → cmp n k ≡ Equal → n ≡ k
 same_name n k e = (bytes_eq-Decides n k).0 (sym (is_eq-slice_cmp n k) ∙ ap is_eq e)
 
@@ -85,6 +89,7 @@ abbrev all_new : List (List ℕ) → Entries → Bool
 all_new [] es = true
 all_new (n ∷ ns) es = not (is_there n es) && all_new ns es
 
+-- all names are new where there is no entry
 all_new_none : (ns : List (List ℕ)) → all_new ns [] ≡ true
 all_new_none [] = refl
 all_new_none (n ∷ ns) = all_new_none ns
@@ -98,6 +103,7 @@ same_twice n k false e = go (bytes_eq k n) refl where
       absurd (true≢false (sym ((bytes_eq-Decides n k).1 (sym ((bytes_eq-Decides k n).0 f))) ∙ e))
   go false f = refl
 
+-- that neither of two is true and two others are may be asked in two pairs
 split_new : (a b c d : Bool) → (not (a || b) && (c && d)) ≡ ((not b && c) && (not a && d))
 split_new true true c d = refl
 split_new true false true d = refl
@@ -121,6 +127,7 @@ abbrev order_by : Option (List (List ℕ)) → ℕ → Entries → Option Entrie
 order_by None i es = None
 order_by (Some ns) i es = cond (all_new ns es && all_differ ns) (Some (placed ns i es)) None
 
+-- of four conditions the first, that something is false, may be asked before all others
 and_turn : (a b c d : Bool) → (((not a && b) && (c && d)) ≡ cond a false ((b && c) && d))
 and_turn true b c d = refl
 and_turn false true c d = refl
@@ -156,6 +163,7 @@ order_from_is (f ∷ fs) i es = with_one (order_from_is fs (suc i)) f.name where
 
 -- ---- the members in this order are those that the names give one after the other
 
+-- members of entries chosen by an order are the members chosen by that order
 match_members : (f : ℕ → Data) (o : Ordering) (a b c : Entries) →
     members_by f (match_ordering o a b c)
     ≡ match_ordering o (members_by f a) (members_by f b) (members_by f c)
@@ -163,6 +171,7 @@ match_members f Less a b c = refl
 match_members f Equal a b c = refl
 match_members f Greater a b c = refl
 
+-- to insert an entry is to put its item among the members, at its name
 members_by-insert : (f : ℕ → Data) (n : List ℕ) (i : ℕ) (es : Entries) →
     members_by f (insert n i es) ≡ put n (f i) (members_by f es)
 members_by-insert f n i [] = refl
@@ -175,6 +184,7 @@ abbrev Gives : (ℕ → Data) → ℕ → List Data → Type 0
 Gives f i [] = Unit {0}
 Gives f i (d ∷ ds) = (f i ≡ d) × Gives f (suc i) ds
 
+-- items put at their names in turn give the members of the entries placed in turn
 members_placed : (f : ℕ → Data) (ns : List (List ℕ)) (i : ℕ) (ds : List Data) (es : Entries) →
     length ns ≤ length ds → Gives f i ds →
     with_members ns (items_of ds) (members_by f es) ≡ members_by f (placed ns i es)
@@ -185,6 +195,7 @@ members_placed f (n ∷ ns) i (d ∷ ds) es h g =
     ∙ sym (members_by-insert f n i es))
     ∙ members_placed f ns (suc i) ds (insert n i es) (omega (arith, h)) g.1
 
+-- an empty list has no first element behind any number of others
 drop_none : {X : Type 0} (i : ℕ) (x : X) (xs : List X) → drop i [] ≡ x ∷ xs → ⊥
 drop_none zero x xs e = cc
 drop_none (suc i) x xs e = cc
@@ -196,6 +207,7 @@ head_at [] i x xs e = absurd (drop_none i x xs e)
 head_at (y ∷ all) zero x xs e = (cc, cc)
 head_at (y ∷ all) (suc i) x xs e = head_at all i x xs e
 
+-- the item at a position is the one that is found there
 data_is : (all : List Data) (i : ℕ) (d : Data) → slice_get all i ≡ Some d → data_at all i ≡ d
 data_is all i d e = ap (λ o. unwrap_or o null) e
 
@@ -206,6 +218,7 @@ gives_from all i [] e = tt
 gives_from all i (d ∷ ds) e = let h = head_at all i d ds e in
     (data_is all i d h.0, gives_from all (suc i) ds h.1)
 
+-- where each field has a name, there are as many names as fields
 names_count : (fs : List Field) (ns : List (List ℕ)) → names fs ≡ Some ns → length ns ≡ length fs
 names_count [] [] e = refl
 names_count [] (n ∷ ns) e = absurd cc
@@ -227,6 +240,7 @@ IsNamed fs e = (f : Field) × (slice_get fs e.1 ≡ Some f) × (f.name ≡ Some 
 abbrev AllNamed : List Field → Entries → Type 0
 AllNamed fs es = AllByRecursion (IsNamed fs) es
 
+-- entries that name their fields still do with one more that names its own
 named_insert : (fs : List Field) (n : List ℕ) (i : ℕ) (es : Entries) → IsNamed fs (n, i) →
     AllNamed fs es → AllNamed fs (insert n i es)
 named_insert fs n i [] h all = (h, tt)
@@ -237,6 +251,7 @@ named_insert fs n i (e ∷ es) h all = go (cmp n e.0) refl (named_insert fs n i 
   go Equal is later = (subst (λ m. IsNamed fs (m, i)) (same_name n e.0 is) h, all.1)
   go Greater is later = (all.0, later)
 
+-- a name that is new makes the entries one more
 count_insert : (n : List ℕ) (i : ℕ) (es : Entries) → is_there n es ≡ false →
     length (insert n i es) ≡ suc (length es)
 count_insert n i [] e = refl
@@ -256,6 +271,7 @@ record Found (all fs : List Field) (es found : Entries) : Type 0 where
   pub named : AllNamed all found
   pub count : length found ≡ length fs + length es
 
+-- an order that is found from a position on has an entry for each field from there
 found_from : (all fs : List Field) (i : ℕ) (es found : Entries) → drop i all ≡ fs →
     AllNamed all es → order_from fs i es ≡ Some found → Found all fs es found
 found_from all [] i es found at named e = let same : es ≡ found = cc in record {
@@ -293,6 +309,7 @@ record InEntries (fs : List Field) (ps : List ℕ) : Type 0 where
   pub from : order_from fs 0 [] ≡ Some entries
   pub are : positions entries ≡ ps
 
+-- an order of keys is that of the entries that were found
 in_entries : (fs : List Field) (ps : List ℕ) → key_order fs ≡ Some ps → InEntries fs ps
 in_entries [] ps e = absurd cc
 in_entries (f ∷ fs) ps e = go (order_from (f ∷ fs) 0 []) refl e where
@@ -308,6 +325,7 @@ record HasNames (fs : List Field) (es : Entries) : Type 0 where
   pub differ : all_differ all ≡ true
   pub placed_are : placed all 0 [] ≡ es
 
+-- fields whose order is found have names that all differ, and its entries are of these
 has_names : (fs : List Field) (es : Entries) → order_from fs 0 [] ≡ Some es → HasNames fs es
 has_names fs es e = go (names fs) refl (sym (order_from_is fs 0 []) ∙ e) where
   go : (o : Option (List (List ℕ))) → names fs ≡ o → order_by o 0 [] ≡ Some es → HasNames fs es
@@ -324,12 +342,14 @@ has_names fs es e = go (names fs) refl (sym (order_from_is fs 0 []) ∙ e) where
 abbrev pub IsNamedAt : List Field → ℕ → Type 0
 IsNamedAt fs p = (f : Field) × (slice_get fs p ≡ Some f) × IsSome f.name
 
+-- each position of entries that name their fields is that of a field with a name
 named_positions : (fs : List Field) (es : Entries) → AllNamed fs es →
     AllByRecursion (IsNamedAt fs) (positions es)
 named_positions fs [] all = tt
 named_positions fs (e ∷ es) all =
     ((all.0.0, all.0.1, ap is_some all.0.2), named_positions fs es all.1)
 
+-- an order of keys has an entry for each field and no other
 found : (fs : List Field) (ps : List ℕ) (k : InEntries fs ps) → Found fs fs [] k.entries
 found fs ps k = found_from fs fs 0 [] k.entries refl tt k.from
 
@@ -348,6 +368,7 @@ positions_count fs ps e =
     let same = ap length k.are in
     omega (arith, many, same, (found fs ps k).count)
 
+-- where all names are found, each field has one, and these are they
 fields_named : (fs : List Field) (ns : List (List ℕ)) → names fs ≡ Some ns →
     AreNamed fs × (ns ≡ names_of fs)
 fields_named [] ns e = (tt, cc)
@@ -404,6 +425,7 @@ unnamed_json_is (f ∷ fs) ds e = go (order_from (f ∷ fs) 0 []) refl e where
   go None is h = by_names (names (f ∷ fs)) (sym (order_from_is (f ∷ fs) 0 []) ∙ is)
   go (Some es) is h = absurd cc
 
+-- the members of entries that name their fields are those at their positions
 members_at_named : (fs : List Field) (ds : List Data) (es : Entries) → AllNamed fs es →
     members_by (data_at ds) es ≡ members_at fs ds (positions es)
 members_at_named fs ds [] all = refl
@@ -428,6 +450,7 @@ sorted_json_is fs ps ds e h =
     ∙ members_at_named fs ds k.entries (found fs ps k).named
     ∙ ap (members_at fs ds) k.are)
 
+-- the members at positions that count up are those in the order of the fields
 in_order : (all : List Field) (ds : List Data) (i : ℕ) (fs : List Field) (es : List Data) →
     drop i all ≡ fs → drop i ds ≡ es → length fs ≡ length es →
     members_at all ds (range_with_len i (length fs)) ≡ members_in_order fs es

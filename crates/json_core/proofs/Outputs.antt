@@ -35,10 +35,12 @@ prints_again w ts us = ap₂ (λ s a. record { text = s; after_value = a })
     ∙ ap (λ s. w.text ++ s) (sym (print_from-append w.after_value ts us)))
     (sym (fold-append (λ _ t. ends t) w.after_value ts us))
 
+-- before a token that wants a comma, one stands exactly where a value ended before it
 comma_of : (b : Bool) → cond {A = List ℕ} (b && true) (44 ∷ []) [] ≡ cond b (44 ∷ []) []
 comma_of true = refl
 comma_of false = refl
 
+-- before a token that wants no comma none stands
 no_comma : (b : Bool) → cond {A = List ℕ} (b && false) (44 ∷ []) [] ≡ []
 no_comma true = refl
 no_comma false = refl
@@ -55,6 +57,7 @@ written w s b l t same says is e = ap (λ x. record { text = x; after_value = en
     (sym (ap (λ c. cond {A = List ℕ} (w.after_value && c) (44 ∷ []) [] ++ (token_text t ++ [])) is
     ∙ ap₂ (λ (a b : List ℕ). a ++ b) (comma_of w.after_value) (append-nil (token_text t)))))
 
+-- a token that begins a value or a member is printed by its text, behind a comma where one is due
 pub begun : {E : Type 0} (r : Result (Unit {0}) E) (w new : Text) (b : Bool) (l : List ℕ)
     (t : Token) → b ≡ w.after_value → l ≡ token_text t → begins t ≡ true →
     OnOk r (new ≡ put w b l (ends t)) → OnOk r (new ≡ prints w (t ∷ []))
@@ -79,9 +82,11 @@ printed_alone ts t is = ap print is ∙ append-nil (token_text t)
 
 -- ---- texts without an escape
 
+-- a string that needs no escape is printed as it is, in quotes
 pub plain_string : (s : List ℕ) → escape s ≡ s → 34 ∷ (s ++ 34 ∷ []) ≡ token_text (string s)
 plain_string s e = ap (λ l. 34 ∷ (l ++ 34 ∷ [])) (sym e)
 
+-- a key that needs no escape is printed as it is, in quotes and with a colon
 pub plain_key : (s : List ℕ) → escape s ≡ s → 34 ∷ (s ++ 34 ∷ 58 ∷ []) ≡ token_text (key s)
 plain_key s e = ap (λ l. 34 ∷ (l ++ 34 ∷ 58 ∷ [])) (sym e)
     ∙ ap (λ l. 34 ∷ l) (sym (append_assoc (escape s) (34 ∷ []) (58 ∷ [])))
@@ -97,16 +102,19 @@ both_ends d true n low high front back =
     ]
 both_ends d false n low high front back = tt
 
+-- a text is escaped part by part
 escape_append : (a b : List ℕ) → escape (a ++ b) ≡ escape a ++ escape b
 escape_append [] b = refl
 escape_append (x ∷ a) b = ap (λ l. escape_byte x ++ l) (escape_append a b)
     ∙ sym (append_assoc (escape_byte x) _ _)
 
+-- a character from the minus sign to the digit 9 needs no escape
 escape_one : (x : ℕ) → 45 ≤ x → x < 58 → escape (x ∷ []) ≡ x ∷ []
 escape_one x low high = ap (λ l. l ++ [])
     (escape_byte_plain x (λ e. omega (arith, e, low)) (λ e. omega (arith, e, high))
     (omega (arith, low)))
 
+-- the decimal digits of a number of up to 128 bits need no escape
 pub escape_decimal : (n : ℕ) → n < 2 ^ 128 → escape (decimal n) ≡ decimal n
 escape_decimal n h = decimal_by_steps_wide (λ m ds. escape ds ≡ ds)
     (λ m l. escape_one (48 + m) (omega arith) (omega (arith, l)))
@@ -114,6 +122,7 @@ escape_decimal n h = decimal_by_steps_wide (λ m ds. escape ds ≡ ds)
     ∙ ap₂ (λ (a b : List ℕ). a ++ b) e (escape_one (48 + m % 10) (omega arith) (omega arith)))
     n (omega (arith, h))
 
+-- the decimal digits of an integer of 128 bits, with its sign, need no escape
 pub escape_signed : (z : ℤ) → FitsSigned w128 z → escape (signed_decimal z) ≡ signed_decimal z
 unfolding escape_byte
 escape_signed (pos n) h = let fits = h.sfits in escape_decimal n (omega arith)
@@ -127,6 +136,7 @@ abbrev plain_below : ℕ → Bool
 plain_below zero = true
 plain_below (suc n) = is_plain (slice_index lower_digits n) && plain_below n
 
+-- if all hexadecimal digits below a number are plain, the one at each place below it is
 plain_digit : (n d : ℕ) → plain_below n ≡ true → d < n →
     is_plain (slice_index lower_digits d) ≡ true
 plain_digit zero d e h = absurd (omega (arith, h))
@@ -137,6 +147,7 @@ plain_digit (suc n) d e h =
       | inr other ↦ plain_digit n d p.1 (omega (arith, h))
     ]
 
+-- each hexadecimal digit of bytes needs no escape
 plain_hex : (bytes : List ℕ) → ((i : ℕ) → Fits w8 (get_or bytes i 0)) → (k : ℕ) →
     k < length (encode_lower bytes) → is_plain (get_or (encode_lower bytes) k 0) ≡ true
 unfolding encode_with
@@ -147,6 +158,7 @@ plain_hex (b ∷ bytes) h (suc zero) l = plain_digit 16 (b % 16) refl (omega ari
 plain_hex (b ∷ bytes) h (suc (suc k)) l =
     plain_hex bytes (λ i. h (suc i)) k (omega (arith, l))
 
+-- the hexadecimal digits of bytes behind 0x, in quotes, are printed as one string token
 pub hex_string : (bytes : List ℕ) → ((i : ℕ) → Fits w8 (get_or bytes i 0)) →
     34 ∷ 48 ∷ 120 ∷ (encode_lower bytes ++ 34 ∷ [])
     ≡ token_text (string (48 ∷ 120 ∷ encode_lower bytes))
@@ -157,23 +169,28 @@ hex_string bytes h = plain_string (48 ∷ 120 ∷ encode_lower bytes)
 
 -- ---- what was written is UTF-8 again
 
+-- a list that is found to be of ASCII characters is
 small_ascii : (xs : List ℕ) → are_ascii xs ≡ true → IsAscii xs
 small_ascii [] e = IsAscii-nil
 small_ascii (x ∷ xs) e =
     let p = and_parts _ _ e in IsAscii-cons x xs (ltb-true _ _ p.0) (small_ascii xs p.1)
 
+-- the hexadecimal digits of bytes are UTF-8
 pub hex_utf8 : (bytes : List ℕ) → IsUtf8 (encode_lower bytes)
 hex_utf8 bytes = IsUtf8-from_ascii _
     (IsAscii-encode_with lower_digits bytes (small_ascii lower_digits refl))
 
+-- a comma that may be wanted takes one byte at most
 pub comma_short : (b : Bool) → length (cond {A = List ℕ} b (44 ∷ []) []) ≤ 1
 comma_short true = omega arith
 comma_short false = omega arith
 
+-- a comma that may be wanted is UTF-8
 pub comma_utf8 : (b : Bool) → IsUtf8 (cond b (44 ∷ []) [])
 comma_utf8 true = IsUtf8-are_ascii (44 ∷ []) refl
 comma_utf8 false = IsUtf8-nil
 
+-- UTF-8 that is placed behind UTF-8 makes all up to its end UTF-8, and lies within the bytes
 pub placed_utf8 : (old new xs : List ℕ) (at end : ℕ) → Placed old new at xs end →
     at ≤ length old → IsUtf8 (take at old) → IsUtf8 xs →
     (end ≤ length new) × IsUtf8 (take end new)

@@ -13,26 +13,31 @@ use Rattle.json_core.specs.Tokens.{name_at}
 abbrev pub AllPlain : List Field → Type 0
 AllPlain fs = AllByRecursion (λ f. escape (unwrap_or f.name []) ≡ unwrap_or f.name []) fs
 
+-- names that need no escape by position need none one after the other
 all_plain : (fs : List Field) → ArePlain fs → AllPlain fs
 all_plain [] h = tt
 all_plain (f ∷ fs) h =
     (h 0 (omega arith), all_plain fs (λ i l. h (suc i) (omega (arith, l))))
 
+-- the same where it is only known if it is said
 pub plain_names : (b : Bool) (fs : List Field) → OnTrue b (ArePlain fs) → OnTrue b (AllPlain fs)
 plain_names true fs h = all_plain fs h
 plain_names false fs h = tt
 
+-- if no name needs an escape, none of those behind the first does
 pub plain_rest : (b : Bool) (f : Field) (fs : List Field) → OnTrue b (AllPlain (f ∷ fs)) →
     OnTrue b (AllPlain fs)
 plain_rest true f fs h = h.1
 plain_rest false f fs h = tt
 
+-- if no name needs an escape, the first field's name does not
 pub plain_first : (b : Bool) (f : Field) (fs : List Field) (n : List ℕ) → Some n ≡ f.name →
     OnTrue b (AllPlain (f ∷ fs)) → OnTrue b (escape n ≡ n)
 plain_first true f fs n e h =
     subst (λ o. escape (unwrap_or o []) ≡ unwrap_or o []) (sym e) h.0
 plain_first false f fs n e h = tt
 
+-- if no name needs an escape, that of the field at a position does not
 pub plain_at : (b : Bool) (fs : List Field) (p : ℕ) (n : List ℕ) → name_at fs p ≡ n →
     p < length fs → OnTrue b (ArePlain fs) → OnTrue b (escape n ≡ n)
 plain_at true fs p n e within h = subst (λ m. escape m ≡ m) e (h p within)

@@ -66,6 +66,7 @@ Defined r (layout.arms as') d = d ≡ Some (Def.Variant as')
 Defined r (layout.plain (layout.compact m)) d = compact_target_of_shape r d ≡ Some m
 Defined r _ d = Unit {0}
 
+-- an integer is long exactly above eight bytes, and of up to eight its numbers fit 64 bits
 long_width : (w : IntegerWidth) → Long (width_bytes w) (nat_lt 8 (width_bytes w))
 long_width width.Bits8 = inr (refl, refl, omega arith)
 long_width width.Bits16 = inr (refl, refl, omega arith)
@@ -73,6 +74,7 @@ long_width width.Bits32 = inr (refl, refl, omega arith)
 long_width width.Bits64 = inr (refl, refl, omega arith)
 long_width width.Bits128 = inl (refl, refl)
 
+-- a primitive's layout says whether its integers are long, as its kind does
 defined_kind : (r : List TypeInfo) (k : PrimitiveKind) (d : Option TypeDef) →
     is_long d ≡ is_long_kind k → Defined r (kind_layout k) d
 defined_kind r K.Bool d h = tt
@@ -82,22 +84,26 @@ defined_kind r (K.Unsigned w) d h = rw h (long_width w)
 defined_kind r (K.Signed w) d h = rw h (long_width w)
 defined_kind r (K.Wide s) d h = tt
 
+-- the layout of a sequence says nothing of integers, arms or targets
 defined_sequence : (r : List TypeInfo) (t : ℕ) (e byte : Bool) (d : Option TypeDef) →
     Defined r (sequence_layout t e byte) d
 defined_sequence r t true byte d = tt
 defined_sequence r t false true d = tt
 defined_sequence r t false false d = tt
 
+-- the layout of an array says nothing of integers, arms or targets
 defined_array : (r : List TypeInfo) (n t : ℕ) (byte : Bool) (d : Option TypeDef) →
     Defined r (array_layout n t byte) d
 defined_array r n t true d = tt
 defined_array r n t false d = tt
 
+-- the layout of a compact has the target that the compact leads to
 defined_compact : (r : List TypeInfo) (o : Option Target) (d : Option TypeDef) →
     compact_target_of_shape r d ≡ o → Defined r (compact_layout o) d
 defined_compact r (Some m) d e = e
 defined_compact r None d e = tt
 
+-- the layout of a type whose values have bytes agrees with its definition
 defined_sized : (r : List TypeInfo) (d : TypeDef) → Defined r (sized_layout r d) (Some d)
 defined_sized r (Def.Composite fs) = tt
 defined_sized r (Def.Variant as') = refl
@@ -110,33 +116,40 @@ defined_sized r (Def.Primitive p) = defined_kind r (kind_of p) (Some (Def.Primit
 defined_sized r (Def.Compact t) = defined_compact r (target_of r t.0) (Some (Def.Compact t)) refl
 defined_sized r (Def.BitSequence store order) = tt
 
+-- the layout of a definition agrees with it, whether or not it takes bytes
 defined_from : (r : List TypeInfo) (e : Bool) (d : Option TypeDef) →
     Defined r (layout_of_shape r e d) d
 defined_from r true d = tt
 defined_from r false (Some d) = defined_sized r d
 defined_from r false None = tt
 
+-- the layout of the type at a position agrees with its definition
 defined : (r : List TypeInfo) (t : ℕ) → Defined r (layout r t) (shape r t)
 unfolding layout
 defined r t = defined_from r (is_empty r t) (shape r t)
 
+-- the same for a layout that is known to be that of the type
 pub defined_at : (r : List TypeInfo) (t : ℕ) (f : Layout) → layout r t ≡ f → Defined r f (shape r t)
 defined_at r t f e = subst (λ (g : Layout). Defined r g (shape r t)) e (defined r t)
 
 -- ---- integers
 
+-- an unsigned integer's JSON is the same by its width and by whether it is long
 unsigned_same : (k n : ℕ) (is : Bool) → Long k is → unsigned_json k n ≡ unsigned_by is n
 unsigned_same k n is (inl h) = rw (h.0, h.1) refl
 unsigned_same k n is (inr h) = rw (h.0, h.1) refl
 
+-- a signed integer's JSON is the same by its width and by whether it is long
 signed_same : (k : ℕ) (z : ℤ) (is : Bool) → Long k is → signed_json k z ≡ signed_by is z
 signed_same k z is (inl h) = rw (h.0, h.1) refl
 signed_same k z is (inr h) = rw (h.0, h.1) refl
 
+-- where integers of so many bytes are not long, there are no more of them than 64 bits hold
 short : (k : ℕ) (is : Bool) → Long k is → is ≡ false → 256 ^ k ≤ 2 ^ 64
 short k is (inl h) e = absurd (true≢false (sym h.0 ∙ e))
 short k is (inr h) e = h.2
 
+-- a number of at most 64 bits, taken in two's complement, fits 64 bits with a sign
 signed_within : (range n : ℕ) (c : Bool) → nat_lt (2 * n) range ≡ c → n < range → range ≤ 2 ^ 64 →
     FitsSigned w64 (cond c (pos n) (neg_ℤ (pos (range - n))))
 signed_within range n true e less small = let half = ltb-true (2 * n) range e in
@@ -145,10 +158,12 @@ signed_within range n false e less small =
     let half = ltb-false (2 * n) range e in
     rw (neg-pos (range - n) (omega (arith, less))) (omega (arith, half, less, small))
 
+-- the integer that up to eight bytes spell in two's complement fits 64 bits with a sign
 signed_fits : (b : List ℕ) → AreBytes b → 256 ^ length b ≤ 2 ^ 64 → FitsSigned w64 (signed_number b)
 signed_fits b h small = signed_within (256 ^ length b) (number b)
     (nat_lt (2 * number b) (256 ^ length b)) refl (number-bound b h) small
 
+-- of compact integers those with a target of 128 bits are the long ones
 long_target : (m : Target) → Long (target_bytes m) (is_long_target (Some m))
 long_target target.Unit = inr (refl, refl, omega arith)
 long_target target.U8 = inr (refl, refl, omega arith)
@@ -157,6 +172,7 @@ long_target target.U32 = inr (refl, refl, omega arith)
 long_target target.U64 = inr (refl, refl, omega arith)
 long_target target.U128 = inl (refl, refl)
 
+-- a number with a compact spelling for a target fits the bytes of the target
 compact_bound : (m : Target) (x : ℕ) (b : List ℕ) → IsCompact m x b → x < 256 ^ target_bytes m
 compact_bound target.Unit x b h = omega (arith, h.0)
 compact_bound target.U8 x b h = h.0
@@ -188,6 +204,7 @@ Told r t v what.List = json_of r t v ≡ json.array (jsons (children_by r t v))
 Told r t v (what.Count k) =
     json_of r t v ≡ json.object (member (codes "count") (json.number (json.unsigned k)) no_members)
 
+-- an unsigned integer's node tells its JSON, and its number fits 64 bits if it is not long
 unsigned_told : (r : List TypeInfo) (t n k : ℕ) (b : List ℕ) → AreBytes b →
     layout r t ≡ layout.plain (layout.unsigned k) → length b ≡ k → number b ≡ n →
     Told r t (tree.leaf (tree.unsigned n)) (what.Unsigned n)
@@ -199,6 +216,7 @@ unsigned_told r t n k b are e len is =
       ap (λ (f : Layout). unsigned_of f n) e ∙ unsigned_same k n _ long,
     )
 
+-- a signed integer's node tells its JSON, and it fits 64 bits if it is not long
 signed_told : (r : List TypeInfo) (t k : ℕ) (z : ℤ) (b : List ℕ) → AreBytes b →
     layout r t ≡ layout.plain (layout.signed k) → length b ≡ k → signed_number b ≡ z →
     Told r t (tree.leaf (tree.signed z)) (what.Signed z)
@@ -209,6 +227,7 @@ signed_told r t k z b are e len is =
       ap (λ (f : Layout). signed_of f z) e ∙ signed_same k z _ long,
     )
 
+-- a compact integer's node tells its JSON, and it fits 64 bits if it is not long
 compact_told : (r : List TypeInfo) (t x : ℕ) (m : Target) (b : List ℕ) →
     layout r t ≡ layout.plain (layout.compact m) → IsCompact m x b →
     Told r t (tree.leaf (tree.compact x)) (what.Compact x)
@@ -221,6 +240,7 @@ compact_told r t x m b e h =
       ap (λ (f : Layout). unsigned_of f x) e ∙ unsigned_same (target_bytes m) x _ long,
     )
 
+-- the node of a composite or a tuple has the JSON that its children's JSON gives
 fields_told : (r : List TypeInfo) (t : ℕ) (ts : List ℕ) (vs : Trees) (b : List ℕ) →
     layout r t ≡ layout.fields ts → Vals r ts vs b →
     Told r t (tree.branch tree.fields vs) what.Fields
@@ -230,6 +250,7 @@ fields_told r t ts vs b e h =
     ap (λ (f : Layout). jsons (seen_parts r (fields_part f) vs)) e ∙ all_is r ts vs b h in
     ap (parts_json (shape r t)) (ap (λ (f : Layout). all_json r (part_types f) vs) e ∙ sym parts)
 
+-- the node of an arm has the JSON that the arm's name and its children's JSON give
 arm_told : (r : List TypeInfo) (t q i : ℕ) (arms : List Arm) (a : Arm) (vs : Trees) (b : List ℕ) →
     layout r t ≡ layout.arms arms → arm_of arms i ≡ Some (q, a) →
     Vals r (field_types a.fields) vs b → Told r t (tree.branch (tree.arm q) vs) (what.Arm q)
@@ -248,6 +269,7 @@ arm_told r t q i arms a vs b e f h =
           ∙ ap (arm_json (Some a)) (sym parts),
     )
 
+-- the node of a list has the array of its children's JSON, if all are of its element type
 list_told : (r : List TypeInfo) (t u : ℕ) (vs : Trees) → element_type (layout r t) ≡ u →
     list_part (layout r t) (how_many vs) ≡ times (how_many vs) u →
     Told r t (tree.branch tree.list vs) what.List
@@ -256,6 +278,7 @@ list_told r t u vs e p =
     ap json.array (ap (λ (x : ℕ). each_json r x vs) e ∙ sym (each_is r u vs)
     ∙ sym (ap (λ (q : Part). jsons (seen_parts r q vs)) p))
 
+-- each node of a value has the JSON that its definition and its children give
 told_by : (r : List TypeInfo) (t : ℕ) (v : Tree) (b : List ℕ) → AreBytes b → Val r t v b →
     Told r t v (what_of v)
 unfolding Val json_of
@@ -276,6 +299,7 @@ told_by r t (tree.branch tree.list vs) b are (inr h) =
     list_told r t h.0 vs (ap element_type h.3) (ap (λ (f : Layout). list_part f (how_many vs)) h.3)
 told_by r t (tree.leaf (tree.count k)) b are h = refl
 
+-- the same of a value as contracts see it, by what its node is
 pub told : (s : Seen) (w : What) → IsValue s → w ≡ what_of s.tree → Told s.types s.ty s.tree w
 told s w h e = subst (Told s.types s.ty s.tree) (sym e) (told_by s.types s.ty s.tree h.0 h.1 h.2)
 
@@ -284,10 +308,12 @@ told s w h e = subst (Told s.types s.ty s.tree) (sym e) (told_by s.types s.ty s.
 abbrev pub AtNode : Seen → List TypeInfo → ℕ → Type 0
 AtNode s types t = (types ≡ s.types) × (t ≡ s.ty)
 
+-- whether integers are long is asked of the node's own type where that type was looked up
 pub long_here : (s : Seen) (types : List TypeInfo) (t : ℕ) (found : Bool) → AtNode s types t →
     found ≡ is_long (shape types t) → found ≡ is_long (shape s.types s.ty)
 long_here s types t found at e = rw (← at.0, ← at.1) e
 
+-- the same for compact integers, by the target of the node's own type
 pub long_compact_here : (s : Seen) (types : List TypeInfo) (t : ℕ) (found : Bool) →
     AtNode s types t → found ≡ is_long_target (compact_target_of types t) →
     found ≡ is_long_target (compact_target_of s.types s.ty)
@@ -295,6 +321,7 @@ long_compact_here s types t found at e = rw (← at.0, ← at.1) e
 
 -- ---- what the code has found of a node's text, of its fields and of its arm
 
+-- a node that is a text has the JSON string of the text that was found for it
 pub text_is : (s : Seen) (found : Option (Bor (List ℕ))) (text : Bor (List ℕ)) →
     option_map (λ x. x.now) found ≡ text_of s.tree → found ≡ Some text →
     Told s.types s.ty s.tree what.Text → json_seen s ≡ json.string text.now
@@ -304,6 +331,7 @@ text_is s found text e f h =
     let is : text.now ≡ h.0 = cc in
     h.2 ∙ ap json.string (sym is)
 
+-- a node that is a run of bytes has the hexadecimal digits of the bytes that were found for it
 pub bytes_are : (s : Seen) (found : Option (Bor (List ℕ))) (bytes : Bor (List ℕ)) →
     option_map (λ x. x.now) found ≡ bytes_of s.tree → found ≡ Some bytes →
     Told s.types s.ty s.tree what.Bytes → json_seen s ≡ bytes_json bytes.now
@@ -321,6 +349,7 @@ pub fields_at_node : (s : Seen) (types : List TypeInfo) (t : ℕ)
 fields_at_node s types t found fs at e f =
     rw (← at.0, ← at.1) (sym e ∙ ap (option_map (λ (x : Bor (List Field)). x.now)) f)
 
+-- where no fields were found at a node's type, the type is no composite
 pub no_fields_at_node : (s : Seen) (types : List TypeInfo) (t : ℕ)
     (found : Option (Bor (List Field))) → AtNode s types t →
     option_map (λ x. x.now) found ≡ composite_fields (shape types t) → found ≡ None →
@@ -358,6 +387,7 @@ no_fields_json (Some (Def.Primitive p)) ds e = refl
 no_fields_json (Some (Def.Compact t)) ds e = refl
 no_fields_json (Some (Def.BitSequence store order)) ds e = refl
 
+-- a node of an arm has that arm in its definition, so it was found
 pub arm_there : (s : Seen) (q : ℕ) (types : List TypeInfo) (t : ℕ) (found : Option (Bor Arm)) →
     AtNode s types t → option_map (λ x. x.now) found ≡ defined_arm (shape types t) q →
     Told s.types s.ty s.tree (what.Arm q) → IsSome found
@@ -374,6 +404,7 @@ pub arm_at_node : (s : Seen) (q : ℕ) (types : List TypeInfo) (t : ℕ) (found 
 arm_at_node s q types t found a at e f =
     rw (← at.0, ← at.1) (sym e ∙ ap (option_map (λ (x : Bor Arm). x.now)) f)
 
+-- a node of an arm is an object with the name of the arm in its definition as the one key
 pub arm_is : (s : Seen) (q : ℕ) (a : Arm) → defined_arm (shape s.types s.ty) q ≡ Some a →
     Told s.types s.ty s.tree (what.Arm q) → json_seen s
     ≡ json.object (member a.name (fields_json a.fields (jsons (children_of s))) no_members)
@@ -385,6 +416,7 @@ arm_is s q a e h =
 
 -- ---- the fields at a place
 
+-- the fields of a composite are those at its place, whatever arm is asked for
 pub composite_place : (d : Option TypeDef) (q : ℕ) (fs : List Field) →
     composite_fields d ≡ Some fs → fields_in d q ≡ Some fs
 composite_place None q fs e = absurd cc
@@ -397,6 +429,7 @@ composite_place (Some (Def.Primitive p)) q fs e = absurd cc
 composite_place (Some (Def.Compact t)) q fs e = absurd cc
 composite_place (Some (Def.BitSequence store order)) q fs e = absurd cc
 
+-- the fields of an arm of a variant are those at the arm's place
 pub arm_place : (d : Option TypeDef) (q : ℕ) (a : Arm) → defined_arm d q ≡ Some a →
     fields_in d q ≡ Some a.fields
 arm_place None q a e = absurd cc

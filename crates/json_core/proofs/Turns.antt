@@ -18,11 +18,13 @@ use Rattle.json_core.specs.Tokens.{Text, prints, name_at, data_at, members_at, m
 use Rattle.json_core.proofs.Outputs.{prints_again}
 use Rattle.json_core.proofs.Ordered.{IsNamedAt, positions_count}
 
+-- an object with one member is printed by its begin, its key, the value and its end in turn
 pub one_member : (old : Text) (ts : List Token) (k : List ℕ) →
     prints (prints (prints (prints old (begin_object ∷ [])) (key k ∷ [])) ts) (end_object ∷ [])
     ≡ prints old (begin_object ∷ key k ∷ (ts ++ end_object ∷ []))
 one_member old ts k = simp prints_again
 
+-- a key, a value and what follows, printed in turn, are these tokens printed at once
 next_member : (old : Text) (ts us : List Token) (k : List ℕ) →
     prints (prints (prints old (key k ∷ [])) ts) us ≡ prints old (key k ∷ (ts ++ us))
 next_member old ts us k = simp prints_again
@@ -44,6 +46,7 @@ in_order_turn old new f fs d ds n e said =
 
 -- ---- in the order of keys
 
+-- a position at which there is an element is less than the length
 slice_within : {X : Type 0} (xs : List X) (i : ℕ) (x : X) → slice_get xs i ≡ Some x → i < length xs
 slice_within [] i x e = absurd cc
 slice_within (y ∷ xs) zero x e = omega arith
@@ -55,11 +58,13 @@ pub record Turn (fs : List Field) (order : List ℕ) (turn p : ℕ) : Type 0 whe
   pub field : IsNamedAt fs p
   pub within : p < length fs
 
+-- the position at a turn in a range of the kept positions is the one so far behind its start
 order_at : (ps : List ℕ) (start k turn : ℕ) → turn < k →
     get_or (slice_range ps start (start + k)) turn 0 ≡ get_or ps (start + turn) 0
 order_at ps start k turn h =
     let within : turn < (start + k) - start = omega (arith, h) in rw (get_or-take, get_or-drop)
 
+-- each turn has the order's next position, also where positions were appended, and its field
 pub turn_at : (fs : List Field) (old new : OrdersView) (start turn p : ℕ) → Grows old new →
     AreKeys old.positions fs (keys.Sorted start) → turn < length fs → AllByRecursion (IsNamedAt fs)
     (drop turn (slice_range old.positions start (start + length fs))) →
@@ -94,6 +99,7 @@ pub name_read : (fs : List Field) (p : ℕ) (f : Field) → IsNamedAt fs p → f
 name_read fs p f h is = let same : f ≡ h.0 = is ∙ get_or_from_slice_get fs p h.0 f h.1 in
     subst (λ (g : Field). IsSome g.name) (sym same) h.2
 
+-- the name of the field at a position is the one that the code read there
 pub name_is : (fs : List Field) (p : ℕ) (f : Field) (n : List ℕ) → IsNamedAt fs p →
     f ≡ get_or fs p f → Some n ≡ f.name → name_at fs p ≡ n
 name_is fs p f n h is e = let same : f ≡ h.0 = is ∙ get_or_from_slice_get fs p h.0 f h.1 in
@@ -134,12 +140,14 @@ pub no_field_left : (fs : List Field) (ds : List Data) → length fs ≡ 0 →
 no_field_left [] ds e = refl
 no_field_left (f ∷ fs) ds e = absurd cc
 
+-- where no item is left, no member is
 pub no_item_left : (fs : List Field) (ds : List Data) → length ds ≡ 0 →
     members_in_order fs ds ≡ no_members
 no_item_left [] ds e = refl
 no_item_left (f ∷ fs) [] e = refl
 no_item_left (f ∷ fs) (d ∷ ds) e = absurd cc
 
+-- where no position of the order is left, no member is
 pub no_position_left : (fs : List Field) (ds : List Data) (order : List ℕ) (turn : ℕ) →
     length order ≤ turn → members_at fs ds (drop turn order) ≡ no_members
 no_position_left fs ds order turn h = ap (members_at fs ds) (drop_of_length-le order h)
@@ -165,6 +173,7 @@ array_whole old begun last new all begins told ends =
 
 -- ---- a count
 
+-- a count is printed as an object of one number, token by token
 pub count_whole : (old begun named said new : Text) (k : List ℕ) (n : List ℕ) →
     begun ≡ prints old (begin_object ∷ []) → named ≡ prints begun (key k ∷ []) →
     said ≡ prints named (number n ∷ []) → new ≡ prints said (end_object ∷ []) →

@@ -27,14 +27,17 @@ abbrev value_by : Job → ℕ → Outcome × ℕ → Option Seen
 value_by j len o =
     option_map (λ v. record { types = j.registry; ty = j.ty; tree = v }) (whole len o.0 o.1)
 
+-- the value that all bytes spell is what their outcome gives
 pub by_outcome : (j : Job) (b : List ℕ) (one : Outcome) (n : ℕ) → IsOutcome j b one n →
     value_in j b ≡ value_by j (length b) (one, n)
 by_outcome j b one n h = ap (value_by j (length b)) ((outcome_is_computed j b).1 one n h)
 
+-- a value that was read is that of all bytes where it has as many as there are
 whole_where : (len taken : ℕ) (v : Tree) (same : Bool) → (taken == len) ≡ same →
     whole len (done v) taken ≡ (if same then Some v else None)
 whole_where len taken v same e = ap (λ (t : Bool). if t then Some v else None) e
 
+-- a value is known by its types, its type and its tree
 seen_is : (types : List TypeInfo) (id : ℕ) (v : Seen) → v.types ≡ types → v.ty ≡ id →
     record { types = types; ty = id; tree = v.tree } ≡ v
 seen_is types id v a b = rw (← a, ← b) refl
@@ -61,6 +64,7 @@ ended j b f n other (inl is) = absurd (other (ap (λ (x : DecodeFault). x.reason
 ended j b f n other (inr (inl h)) = by_outcome j b too_long n h.1
 ended j b f n other (inr (inr h)) = by_outcome j b (refused h.0 h.1) n h.3
 
+-- bytes that a decoder refuses, and not for want of memory, spell no value
 pub faulted : (j : Job) (b : List ℕ) (f : DecodeFault) → f.reason ≢ reason.OutOfMemory →
     FinishesDecoder j b (Err f) → value_in j b ≡ None
 faulted j b f other (inl h) = by_outcome j b more (length b) h.1
@@ -68,11 +72,13 @@ faulted j b f other (inr h) = ended j b f h.0 other h.1
 
 -- ---- what a refusal says
 
+-- a fault that is not want of memory is told of the bytes, which spell no value
 told_fault : (forbidden : Option OpenFault) (j : Job) (b : List ℕ) (f : DecodeFault) →
     forbidden ≡ None → f.reason ≢ reason.OutOfMemory → FinishesDecoder j b (Err f) →
     (forbidden ≡ None) × (value_in j b ≡ None) × FinishesDecoder j b (Err f)
 told_fault forbidden j b f none other h = (none, faulted j b f other h, h)
 
+-- a decoder's fault is why the bytes are refused, whatever its reason
 by_reason : (r : DecodeReason) (forbidden : Option OpenFault) (j : Job) (b : List ℕ)
     (f : DecodeFault) → r ≡ f.reason → forbidden ≡ None → FinishesDecoder j b (Err f) →
     RefusesValue forbidden j b (value_refusal_by r f)
@@ -90,6 +96,7 @@ by_reason reason.BadCompact forbidden j b f is none h = told_fault forbidden j b
 by_reason reason.TooLong forbidden j b f is none h = told_fault forbidden j b f none (λ e. let bad = is ∙ e in cc) h
 by_reason reason.OutOfMemory forbidden j b f is none h = tt
 
+-- what forbids a decoder is why the bytes are refused
 by_opening : (forbidden : Option OpenFault) (j : Job) (b : List ℕ) (f : OpenFault) →
     Forbids forbidden f → RefusesValue forbidden j b (opening_refusal f)
 by_opening forbidden j b opening.UnknownType (inl is) = is
@@ -113,6 +120,7 @@ one_piece forbidden j b f h = refused_by forbidden j b f
 abbrev JoinsTo : Option OpenFault → Job → Seen → ℕ → List ℕ → Type 0
 JoinsTo forbidden j v n joined = Joins forbidden j joined (Ok (v, n))
 
+-- a value that takes all the bytes is the one that they spell
 pub one_value : (forbidden : Option OpenFault) (j : Job) (b : List ℕ) (v : Seen) (n : ℕ) →
     n ≡ length b → JoinsTo forbidden j v n (b ++ []) →
     (forbidden ≡ None) × (value_in j b ≡ Some v)
@@ -120,6 +128,7 @@ one_value forbidden j b v n all h =
     let s = subst (λ x. JoinsTo forbidden j v n x) (append-nil b) h in
     (s.0, spelled j b v n all s.1 s.2)
 
+-- what is at most a number, and is not it, is less
 short : (n len : ℕ) → n ≤ len → (n ≡ len → ⊥) → n < len
 short n len le some = elim (cases_lt n len)
     [ inl lt ↦ lt | inr ge ↦ absurd (some (omega (arith, le, ge))) ]
@@ -130,6 +139,7 @@ within : (n limit : ℕ) (b front rest : List ℕ) → take limit b ≡ front ++
 within n limit b front rest is own =
     omega (arith, own, ap length is, length-append front rest, length-take limit b)
 
+-- a value that does not take all the bytes is followed by others, and all spell no value
 pub one_front : (forbidden : Option OpenFault) (j : Job) (b : List ℕ) (v : Seen) (n : ℕ) →
     (n ≡ length b → ⊥) → JoinsTo forbidden j v n (b ++ []) →
     (forbidden ≡ None) × (value_in j b ≡ None) × Trails j n b

@@ -9,10 +9,12 @@ use Rattle.widths_core.specs.declared.class.Class.{Class}
 use Rattle.widths_core.specs.Classes.{class_of}
 use Rattle.scale_calls.specs.Lines.{line_of_type, lines_from, type_lines}
 
+-- a type has one line at one position
 lines_at : (r : List TypeInfo) (k j : ℕ) (x : TypeInfo) → k ≡ j →
     line_of_type k (class_of r k) x ≡ line_of_type j (class_of r j) x
 lines_at r k j x same = ap (λ n. line_of_type n (class_of r n) x) same
 
+-- the lines of the first types and one more are those of the first and then its own
 pub lines_from-take : (r : List TypeInfo) (k : ℕ) (xs : List TypeInfo) (i : ℕ) (d : TypeInfo) →
     i < length xs → lines_from r k (take (suc i) xs)
     ≡ lines_from r k (take i xs) ++ line_of_type (k + i) (class_of r (k + i)) (get_or xs i d)
@@ -26,6 +28,7 @@ lines_from-take r k (x ∷ xs) (suc i) d short =
     ∙ sym (append_assoc (line_of_type k (class_of r k) x) (lines_from r (k + 1) (take i xs))
     (line_of_type (k + suc i) (class_of r (k + suc i)) (get_or xs i d)))
 
+-- a class that is told is the one that is known
 pub class_is : (o : Option Class) (P : Type 0) (class known : Class) → SomeIff o P known →
     o ≡ Some class → class ≡ known
 class_is o P class known told is = let at : SomeIff (Some class) P known =

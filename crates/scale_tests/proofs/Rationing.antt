@@ -65,6 +65,7 @@ module _ {M : Type 1} {𝓤 : Ura M} (𝓛 : Logic 𝓤) (at_mem : Memory → SP
       abbrev pub counted : Val → Bool → SProp 𝓤
       counted v is_it = guard 𝓤 (v ≡ vbool is_it) (A.lft κ q)
 
+      -- the count that is shared and a lifetime's token are what the count's call asks for
       pub count_goes : ent 𝓤 (sep 𝓤
           (sem 𝓛 (hidden_shr Count κ (record { value = tt }) place.0 place.1)) (A.lft κ q))
           (Counts.pre at_count)
@@ -75,6 +76,7 @@ module _ {M : Type 1} {𝓤 : Ura M} (𝓛 : Logic 𝓤) (at_mem : Memory → SP
           fjoin ! $ nothing ! $ move ! (2 ∷ []) $ join ! $ join ! $ nothing ! $ move ! (1 ∷ []) $ done
           !
 
+      -- the count's call gives the token back, and whether this request is to be refused
       pub count_gives : (v : Val) → ent 𝓤 (Counts.post at_count v) (H.⇛ (ex 𝓤 (counted v)))
       count_gives v =
           qed 𝓛 (raw (Counts.post at_count v) ∷ []) ∵ updating ! $

@@ -42,13 +42,16 @@ made depth = record { depth = depth; bytes = 16777216 }
 lt_is : (a b : ℕ) → a < b → nat_lt a b ≡ true
 lt_is a b h = grind (arith, h)
 
+-- a number that is at least another is not found to be less
 not_lt_is : (a b : ℕ) → b ≤ a → nat_lt a b ≡ false
 not_lt_is a b h = grind (arith, h)
 
+-- where nothing forbids a decoder, no fault of opening does
 unforbidden : (forbidden : Option OpenFault) {f : OpenFault} → forbidden ≡ None →
     forbidden ≡ Some f → ⊥
 unforbidden forbidden none is = let bad = sym none ∙ is in cc
 
+-- nothing forbids a decoder of a type of the registry within 1024 levels
 pub none_forbids : (id depth : ℕ) (types : List TypeInfo) → id < length types → depth ≤ 1024 →
     opening_fault types id (made depth) ≡ None
 none_forbids id depth types known served =
@@ -66,6 +69,7 @@ no_memory : (f : DecodeFault) → status_of_bytes (bytes_refusal f) ≡ 1 →
 no_memory f one e = let four : status_of_bytes (bytes_refusal f) ≡ 4 =
     ap (λ r. status_of_bytes (bytes_refusal_by r f)) e in absurd (omega (arith, one, four))
 
+-- a fault with status 1 says that the bytes spell no value
 faulted_one : (id depth : ℕ) (types : List TypeInfo) (b : List ℕ) (f : DecodeFault) →
     status_of_bytes (bytes_refusal f) ≡ 1 → FinishesDecoder (decoding id depth types) b (Err f) →
     value_in id depth types b ≡ None
@@ -84,6 +88,7 @@ streamed id depth types forbidden b stream.Device none h one = absurd cc
 
 -- ---- with the limits as a call makes them
 
+-- a value that a reader gives is the one that its bytes spell
 pub stream_value : (id depth : ℕ) (types : List TypeInfo) (limits : Limits) (b : List ℕ)
     (v : Seen) → limits ≡ made depth →
     Streams (opening_fault types id limits) (job_of types id limits) b (Ok v) →
@@ -94,6 +99,7 @@ stream_value id depth types limits b v is h =
     let s = subst P is h in
     spelled (decoding id depth types) b v (length b) refl s.1 s.2
 
+-- a fault of a reader with status 1 says that its bytes spell no value
 pub stream_fault : (id depth : ℕ) (types : List TypeInfo) (limits : Limits) (b : List ℕ)
     (f : StreamFault) → limits ≡ made depth → id < length types → depth ≤ 1024 →
     Streams (opening_fault types id limits) (job_of types id limits) b (Err f) →
@@ -109,12 +115,14 @@ abbrev ReadsBy : ℕ → List TypeInfo → List ℕ → Result Seen ValueRefusal
 ReadsBy id types b r limits =
     ReadsValue (opening_fault types id limits) (job_of types id limits) b r
 
+-- a value that is read of bytes is the one that they spell
 pub called_value : (id depth : ℕ) (types : List TypeInfo) (limits : Limits) (b : List ℕ)
     (v : Seen) → limits ≡ made depth → ReadsBy id types b (Ok v) limits →
     value_in id depth types b ≡ Some v
 called_value id depth types limits b v is h =
     let s = subst (λ l. ReadsBy id types b (Ok v) l) is h in s.1
 
+-- a refusal of bytes with status 1 says that they spell no value
 none_by : (forbidden : Option OpenFault) (j : Job) (b : List ℕ) (e : ValueRefusal) →
     RefusesValue forbidden j b e → status_of_bytes (calls_refusal e) ≡ 1 → calls.value_in j b ≡ None
 none_by forbidden j b (call.Fault f) h one = h.1
@@ -123,6 +131,7 @@ none_by forbidden j b call.UnknownType h one = absurd cc
 none_by forbidden j b call.LimitOutOfRange h one = absurd cc
 none_by forbidden j b call.Memory h one = absurd cc
 
+-- the same with the limits that the command makes
 pub called_fault : (id depth : ℕ) (types : List TypeInfo) (limits : Limits) (b : List ℕ)
     (e : ValueRefusal) → limits ≡ made depth → ReadsBy id types b (Err e) limits →
     status_of_bytes (calls_refusal e) ≡ 1 → value_in id depth types b ≡ None
@@ -130,6 +139,7 @@ called_fault id depth types limits b e is h =
     none_by (opening_fault types id (made depth)) (decoding id depth types) b e
     (subst (λ l. ReadsBy id types b (Err e) l) is h)
 
+-- a refusal of bytes tells their fault, or that some follow the value
 tells_by : (forbidden : Option OpenFault) (j : Job) (b : List ℕ) (e : ValueRefusal) →
     RefusesValue forbidden j b e → TellsBytes j b (calls_refusal e)
 tells_by forbidden j b (call.Fault f) h = h.2
@@ -138,6 +148,7 @@ tells_by forbidden j b call.UnknownType h = tt
 tells_by forbidden j b call.LimitOutOfRange h = tt
 tells_by forbidden j b call.Memory h = tt
 
+-- the same with the limits that the command makes
 pub called_tells : (id depth : ℕ) (types : List TypeInfo) (limits : Limits) (b : List ℕ)
     (e : ValueRefusal) → limits ≡ made depth → ReadsBy id types b (Err e) limits →
     TellsBytes (decoding id depth types) b (calls_refusal e)
@@ -145,6 +156,7 @@ called_tells id depth types limits b e is h =
     tells_by (opening_fault types id (made depth)) (decoding id depth types) b e
     (subst (λ l. ReadsBy id types b (Err e) l) is h)
 
+-- where nothing forbids a decoder, a refusal is one of the bytes or for want of memory
 bytes_by : (forbidden : Option OpenFault) (j : Job) (b : List ℕ) (e : ValueRefusal) →
     forbidden ≡ None → RefusesValue forbidden j b e → IsOfBytes e
 bytes_by forbidden j b (call.Fault f) none h = tt
@@ -169,6 +181,7 @@ where_known (Some b) P Q f h = f b h
 
 -- ---- what a refusal says
 
+-- a decoder's fault is told of the bytes, whatever its reason
 by_reason : (r : DecodeReason) (j : Job) (b : List ℕ) (f : DecodeFault) →
     FinishesDecoder j b (Err f) → TellsBytes j b (bytes_refusal_by r f)
 by_reason reason.Truncated j b f h = h
@@ -192,6 +205,7 @@ tells_file hex j file b (bytes.Fault f) is h = (b, is, h)
 tells_file hex j file b (bytes.TrailingBytes at) is h = (b, is, h)
 tells_file hex j file b bytes.Memory is h = tt
 
+-- a fault of a reader is told of its file, where nothing forbids a decoder
 stream_told : (j : Job) (forbidden : Option OpenFault) (b : List ℕ) (f : StreamFault) →
     forbidden ≡ None → Streams forbidden j b (Err f) → TellsFile false j b (stream_refusal f)
 stream_told j forbidden b (stream.Open f) none h = tt
@@ -200,6 +214,7 @@ stream_told j forbidden b (stream.Decode f) none h =
 stream_told j forbidden b (stream.TrailingBytes at) none h = (b, refl, h.1)
 stream_told j forbidden b stream.Device none h = tt
 
+-- the same with the limits that the command makes
 pub stream_tells : (id depth : ℕ) (types : List TypeInfo) (limits : Limits) (b : List ℕ)
     (f : StreamFault) → limits ≡ made depth → id < length types → depth ≤ 1024 →
     Streams (opening_fault types id limits) (job_of types id limits) b (Err f) →
@@ -245,6 +260,7 @@ hex_refused id depth types old new text file b e r none all same is made h one =
     hex_some id depth types file b (ap hex_bytes (sym (gathered old new text file none all same))
     ∙ is) ∙ h (sym (ap status_of_value made) ∙ one)
 
+-- a refusal of the bytes whose digits a file holds is told of the file
 pub hex_tells : (j : Job) (old new text file b : List ℕ) (e : BytesRefusal) (r : FileRefusal) →
     old ≡ [] → new ≡ old ++ file → text ≡ new → hex_bytes text ≡ Ok b →
     r ≡ bytes_in_value e → TellsBytes j b e → TellsFile true j file r

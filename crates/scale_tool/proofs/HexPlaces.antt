@@ -31,6 +31,7 @@ next_within from c i n (Ok b) (Err x) one more e = omega (arith, more e)
 next_within from c i n (Err x) rest one more e = let same : x ≡ InvalidHexCharacter c i = cc in
     omega (arith, one (ap Err same))
 
+-- a byte that is no digit stands within the pairs that are decoded
 pairs_within : (from : ℕ) (text : List ℕ) (c i : ℕ) →
     decode_pairs from text ≡ Err (InvalidHexCharacter c i) → i < from + length text
 unfolding decode_pairs
@@ -41,6 +42,7 @@ pairs_within from (high ∷ low ∷ rest) c i e =
     (λ p. pair_within high low from c i (hex_digit_value high) (hex_digit_value low) p)
     (λ p. pairs_within (from + 2) rest c i p) e
 
+-- the same where an odd number of digits is refused first
 either_within : (odd : Bool) (text : List ℕ) (c i : ℕ) →
     (if odd then Err OddLength else decode_pairs 0 text) ≡ Err (InvalidHexCharacter c i) →
     i < length text
@@ -58,14 +60,17 @@ pub told_fault : (text : List ℕ) (e fault : FromHexError) → e ≡ fault → 
 told_fault text e fault is other (inl o) = absurd (other (sym is ∙ o))
 told_fault text e fault is other (inr h) = h ∙ ap Err is
 
+-- decoding that told a byte that is no digit, and not want of memory, refuses the text for it
 pub told_bad : (text : List ℕ) (e : FromHexError) (c i : ℕ) → e ≡ InvalidHexCharacter c i →
     (e ≡ OutOfMemory) ⊎ (decode_of text ≡ Err e) → decode_of text ≡ Err (InvalidHexCharacter c i)
 told_bad text e c i is h = told_fault text e (InvalidHexCharacter c i) is (λ o. absurd cc) h
 
+-- decoding that told an odd number of digits refuses the text for it
 pub told_odd : (text : List ℕ) (e : FromHexError) → e ≡ OddLength → (e ≡ OutOfMemory)
     ⊎ (decode_of text ≡ Err e) → decode_of text ≡ Err OddLength
 told_odd text e is h = told_fault text e OddLength is (λ o. absurd cc) h
 
+-- decoding that told a wrong length refuses the text for it
 pub told_length : (text : List ℕ) (e : FromHexError) → e ≡ InvalidStringLength → (e ≡ OutOfMemory)
     ⊎ (decode_of text ≡ Err e) → decode_of text ≡ Err InvalidStringLength
 told_length text e is h = told_fault text e InvalidStringLength is (λ o. absurd cc) h

@@ -5,6 +5,7 @@ use Rattle.scale_calls.specs.declared.refusal.RegistryRefusal.{RegistryRefusal}
 use Rattle.scale_calls.specs.declared.refusal.RegistryRefusal.TheVariants as refusal
 use Rattle.scale_tool.specs.Refused.{status_of_registry}
 
+-- bytes that are refused with status 1 hold no registry whose references all are positions
 pub holds_none : (metadata : Bool) (b : List ℕ) (e : RegistryRefusal) →
     RefusesRegistry metadata b e → status_of_registry e ≡ 1 → checked_of metadata b ≡ None
 holds_none metadata b (refusal.Fault f) h one = h.0

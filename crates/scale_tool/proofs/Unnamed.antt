@@ -7,10 +7,12 @@ use Rattle.clap.specs.Words.{Row, Text, first_of}
 use Rattle.scale_tool.specs.Line.{NamesNone, Spells, SpellsDepth}
 use Rattle.scale_tool.specs.declared.task.Job.TheVariants as jobs
 
+-- what holds anyway holds where nothing is there
 pub if_none : {T : Type 0} (o : Option T) (P : Type 0) → P → IfNone o P
 if_none None P p = p
 if_none (Some x) P p = tt
 
+-- the names of the two subcommands differ
 not_both : codes "types" ≡ codes "decode" → ⊥
 not_both e = cc
 

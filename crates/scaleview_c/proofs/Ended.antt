@@ -9,6 +9,7 @@ use Rattle.scale_calls.specs.Refused.{value_refusal_by}
 use Rattle.scaleview_c.specs.Calls.{EndsAs}
 use Rattle.scaleview_c.specs.declared.session.Stage.TheVariants as stage
 
+-- a decoder that finishes with a fault ends its session as refused, whatever the reason
 pub ended_by : (r : DecodeReason) (j : Job) (b : List ℕ) (f : DecodeFault) →
     FinishesDecoder j b (Err f) → EndsAs j b (stage.Refused (value_refusal_by r f))
 ended_by reason.Truncated j b f h = h

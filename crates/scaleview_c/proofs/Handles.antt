@@ -31,6 +31,7 @@ abbrev pub null_word : Val
 null_word = vstruct (vcons vnull vnil)
 
 module _ {M : Type 1} {𝓤 : Ura M} {𝓛 : Logic 𝓤} {K : Type 0} {Γ : List (Item 𝓤)} {G : Goal 𝓤 𝓛.H} where
+  -- of a pointer and what the box at it owns a handle of this box can be made
   pub handle_in : K → (b o : ℕ) (x : R.Denot)
       → Step K 𝓛 (‵ (handle.the_row.own_val (record { at = block_ptr b o; value = Some x }) (word b o ∷ [])) ∷ Γ) G (‵ (box_owns heap_token R (block_ptr b o) x) ∷ Γ) G
   handle_in t b o x = step (λ s.
@@ -54,6 +55,7 @@ module _ {M : Type 1} {𝓤 : Ura M} {𝓛 : Logic 𝓤} {K : Type 0} {Γ : List
       learn t (λ may. in_a_block t p (λ q. box_owns heap_token R q x) (fst∗ 𝓤 (never 𝓤) (sem 𝓛 (heap_token (bare (lone R.mir)) null_ptr)))
       (λ b o e. one b o x refl e (subst Testable e may)))
 
+  -- a handle is null and owns nothing, or is a pointer and what the box at it owns
   pub handle_out : K → (a : Global) → (d : handle.the_row.Denot) (vs : List Val)
       → (d.value ≡ None → vs ≡ null_word ∷ [] → Seq K 𝓛 Γ G)
       → ((b o : ℕ) (x : R.Denot) → d.value ≡ Some x → Testable (block_ptr b o) → vs ≡ word b o ∷ [] → Seq K 𝓛 (‵ (box_owns heap_token R (block_ptr b o) x) ∷ Γ) G)

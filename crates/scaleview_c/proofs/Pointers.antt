@@ -42,6 +42,7 @@ module _ (R Z : RattleType) (L : Laws Z) (g : Ghosts Z.Denot) where
   abbrev pub Owns : Z.Denot → Ptr → R.Denot → Fml
   Owns a p x = box_owns (g.dealloc_token a) R p x
 
+  -- a pointer beside an allocator's bits is a value of the struct's machine type
   pub pair_good : (b o : ℕ) (h : Val) → Good (layout Z) h
       → T (has_ty (layout Z) h && true) × WT (pair (vptr b o) h)
   pair_good b o h fits = (and_tt (has_ty (layout Z) h) fits.0, (tt, (fits.1, tt)))
@@ -64,6 +65,7 @@ module _ (R Z : RattleType) (L : Laws Z) (g : Ghosts Z.Denot) where
         let with_both = subst (λ (hs : List Val). vs ≡ vstruct (of_list (ptr_val d.at ∷ (hs ++ []))) ∷ []) second with_first in
         next b o h e (subst (λ (p : Ptr). vs ≡ fields (ptr_val p) h) e with_both) fits)))))
 
+    -- of a pointer, an allocator and what the box at the pointer owns, parts can be made
     pub parts_in : K → (b o : ℕ) (h : Val) (a : Z.Denot) (x : R.Denot)
         → Step K 𝓛 (‵ (PartsRow.own_val (record { at = block_ptr b o; alloc = a; held = x }) (pair (vptr b o) h ∷ [])) ∷ Γ) G
         (‵ (Owns a (block_ptr b o) x) ∷ ‵ (Z.own_val a (h ∷ [])) ∷ Γ) G

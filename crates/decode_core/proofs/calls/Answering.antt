@@ -24,12 +24,14 @@ use Rattle.decode_core.proofs.calls.Streaming.{under_way_ends}
 
 -- ---- to a reader
 
+-- a value that ends where a reader's bytes do is the answer to the reader
 value_at_end : (o : Option OpenFault) (j : Job) (b bytes : List ℕ) (v : Seen) → o ≡ None →
     EndsAt j b (length b) → bytes ≡ b → FinishesDecoder j b (Ok v) → Streams o j bytes (Ok v)
 value_at_end o j b bytes v none ends is f =
     let out = subst (λ (n : ℕ). IsOutcome j b (done v.tree) n) (ends v.tree f.0 f.3) f.3 in
     subst (λ (l : List ℕ). Streams o j l (Ok v)) (sym is) (none, (f.1, f.2), out)
 
+-- the same where the reader's bytes may not be known
 pub value_streams : (known : Option (List ℕ)) (o : Option OpenFault) (j : Job) (d : Decoding)
     (b : List ℕ) (v : Seen) → o ≡ None → d.job ≡ j → EndsAt d.job b (length b) →
     IfSome known (λ bytes. bytes ≡ b) → FinishesDecoder d.job b (Ok v) →
@@ -38,6 +40,7 @@ value_streams None o j d b v none same ends is f = tt
 value_streams (Some xs) o j d b v none same ends is f =
     subst (λ (i : Job). Streams o i xs (Ok v)) same (value_at_end o d.job b xs v none ends is f)
 
+-- a fault at the end of a reader's bytes is the answer to it, where these are known
 pub end_streams : (known : Option (List ℕ)) (o : Option OpenFault) (j : Job) (d : Decoding)
     (b : List ℕ) (f : DecodeFault) → o ≡ None → d.job ≡ j → IfSome known (λ bytes. bytes ≡ b) →
     FinishesDecoder d.job b (Err f) →
@@ -49,6 +52,7 @@ end_streams (Some xs) o j d b f none same is h = (
       (subst (λ (l : List ℕ). FinishesDecoder d.job l (Err f)) (sym is) h),
 )
 
+-- that bytes follow the value is the answer to a reader, where its bytes are known
 pub trailing_streams : (known left : Option (List ℕ)) (o : Option OpenFault) (j : Job)
     (d : Decoding) → o ≡ None → d.job ≡ j → FeedsAll d known left (Ok true) →
     IfSome known (λ bytes. Streams o j bytes (Err (stream.TrailingBytes d.taken)))
@@ -56,6 +60,7 @@ trailing_streams None left o j d none same h = tt
 trailing_streams (Some xs) left o j d none same h =
     (none, subst (λ (i : Job). Trails i d.taken xs) same h)
 
+-- a decoder's fault on a reader's bytes is the answer to it, where these are known
 refused_streams : (known : Option (List ℕ)) (o : Option OpenFault) (j : Job) (d : Decoding)
     (f : DecodeFault) → o ≡ None → d.job ≡ j →
     IfSome known (λ bytes. FinishesDecoder d.job bytes (Err f)) →
@@ -64,12 +69,14 @@ refused_streams None o j d f none same h = tt
 refused_streams (Some xs) o j d f none same h =
     (none, subst (λ (i : Job). FinishesDecoder i xs (Err f)) same h)
 
+-- a read that fails while the answer is open is the answer to a reader
 device_streams : (known left : Option (List ℕ)) (o : Option OpenFault) (j : Job) → o ≡ None →
     StopsOpen j known left → IfSome known (λ bytes. Streams o j bytes (Err stream.Device))
 device_streams None left o j none h = tt
 device_streams (Some xs) None o j none h = absurd h.1
 device_streams (Some xs) (Some ys) o j none h = (none, (h.0, ys, h.1, h.2))
 
+-- any fault in feeding a reader is the answer to it, where its bytes are known
 pub fault_streams : (known left : Option (List ℕ)) (o : Option OpenFault) (j : Job) (d : Decoding)
     (e : StreamFault) → o ≡ None → d.job ≡ j → FeedsAll d known left (Err e) →
     IfSome known (λ bytes. Streams o j bytes (Err e))
@@ -88,6 +95,7 @@ stopped_open known left j d e same both h = let is : e ≡ stream.Device = cc in
     subst (λ (i : Job). StopsOpen i known left) same
     (subst (λ (x : StreamFault). FeedsAll d known left (Err x)) is h)
 
+-- a fault of opening that answers all bytes answers those of a reader
 pub forbidden_streams : (known : Option (List ℕ)) (o : Option OpenFault) (j : Job) (e : OpenFault) →
     ((b : List ℕ) → Streams o j b (Err (stream.Open e))) →
     IfSome known (λ bytes. Streams o j bytes (Err (stream.Open e)))
@@ -109,16 +117,19 @@ joined_next f xs i x lt = ap (flat_map f) (take_more xs i x lt)
     ∙ flat_map-append f (take i xs) (get_or xs i x ∷ [])
     ∙ ap (λ (l : List ℕ). flat_map f (take i xs) ++ l) (append-nil (f (get_or xs i x)))
 
+-- joined pieces are those before a position and then those from it on
 joined_split : {X : Type 0} (f : X → List ℕ) (xs : List X) (i : ℕ) →
     flat_map f xs ≡ flat_map f (take i xs) ++ flat_map f (drop i xs)
 joined_split f xs i = ap (flat_map f) (sym (take-append-drop i xs))
     ∙ flat_map-append f (take i xs) (drop i xs)
 
+-- joined pieces are those before a position, the one there, and those behind it
 pub joined_at : {X : Type 0} (f : X → List ℕ) (xs : List X) (i : ℕ) (x : X) → i < length xs →
     flat_map f xs ≡ (flat_map f (take i xs) ++ f (get_or xs i x)) ++ flat_map f (drop (i + 1) xs)
 joined_at f xs i x lt = joined_split f xs (i + 1)
     ∙ ap (λ (l : List ℕ). l ++ flat_map f (drop (i + 1) xs)) (joined_next f xs i x lt)
 
+-- a decoder whose value is whole on a front of the bytes is fed with all of them
 pub fed_whole : (old new : Decoding) (all front rest : List ℕ) (used : ℕ) → all ≡ front ++ rest →
     Whole old new front used → Led new front → IsFed new all
 fed_whole old new all front rest used is w led = record {
@@ -130,6 +141,7 @@ fed_whole old new all front rest used is w led = record {
   whole = inl (w.tree, w.outcome);
 }
 
+-- a decoder that is under way on all bytes is fed with them
 pub fed_all : (d : Decoding) (all b : List ℕ) → all ≡ b → IsUnderWay d b → IsFed d all
 fed_all d all b is h = record {
   front = b;
@@ -140,16 +152,19 @@ fed_all d all b is h = record {
   whole = inr refl;
 }
 
+-- what ended a decoder on a front of the bytes ends it on all of them
 pub refused_within : (j : Job) (all front rest : List ℕ) (f : DecodeFault) (n : ℕ) →
     all ≡ front ++ rest → IsEnded j front f n → (m : ℕ) × IsEnded j all f m
 refused_within j all front rest f n is h =
     (n, subst (λ (l : List ℕ). IsEnded j l f n) (sym is) (ended_stays j front rest f n h))
 
+-- a value on the front of joined pieces is the answer to them, and small for its bytes
 joins_done : (o : Option OpenFault) (j : Job) (b : List ℕ) (v : Seen) (n : ℕ) → o ≡ None →
     v.types ≡ j.registry → v.ty ≡ j.ty → IsOutcome j b (done v.tree) n → Joins o j b (Ok (v, n))
 joins_done o j b v n none types ty out = let few = (held_is_bounded j b n).0 v.tree out in
     (none, (types, ty), out, few.0, few.1)
 
+-- the same for a value that a decoder hands out after it was fed
 pub joins_value : (o : Option OpenFault) (j : Job) (d : Decoding) (b : List ℕ) (v : Seen) (n : ℕ) →
     o ≡ None → d.job ≡ j → (h : IsFed d b) → n ≡ d.taken → FinishesDecoder d.job h.front (Ok v) →
     Joins o j b (Ok (v, n))
@@ -162,6 +177,7 @@ joins_value o j d b v n none same h count f =
     all in
     subst (λ (i : Job). Joins o i b (Ok (v, n))) same (joins_done o d.job b v n none f.1 f.2 out)
 
+-- a fault at the end of a front stays, if a value is on the front or nothing follows it
 fault_stays : (j : Job) (front rest : List ℕ) (n : ℕ) (f : DecodeFault) →
     ((v : Tree) × IsOutcome j front (done v) n) ⊎ (rest ≡ []) → FinishesDecoder j front (Err f) →
     FinishesDecoder j (front ++ rest) (Err f)
@@ -173,6 +189,7 @@ fault_stays j front rest n f (inl whole) (inl short) =
 fault_stays j front rest n f (inl whole) (inr ended) =
     inr (ended.0, ended_stays j front rest f ended.0 ended.1)
 
+-- the fault of a decoder that was fed and ended is the answer to joined pieces
 pub joins_fault : (o : Option OpenFault) (j : Job) (d : Decoding) (b : List ℕ) (f : DecodeFault) →
     o ≡ None → d.job ≡ j → (h : IsFed d b) → FinishesDecoder d.job h.front (Err f) →
     Joins o j b (Err (pieces.Decode f))
@@ -182,6 +199,7 @@ joins_fault o j d b f none same h fault =
     (fault_stays d.job h.front h.rest d.taken f h.whole fault) in
     (none, subst (λ (i : Job). FinishesDecoder i b (Err f)) same all)
 
+-- what ended a decoder on joined pieces is the answer to them
 pub joins_refused : (o : Option OpenFault) (j : Job) (d : Decoding) (b : List ℕ) (f : DecodeFault) →
     o ≡ None → d.job ≡ j → (n : ℕ) × IsEnded d.job b f n → Joins o j b (Err (pieces.Decode f))
 joins_refused o j d b f none same h =

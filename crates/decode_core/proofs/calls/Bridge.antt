@@ -29,6 +29,7 @@ use Rattle.decode_core.proofs.lists.Fed.{led_on, whole_told}
 abbrev pub offered : Job → ℕ → List ℕ → List ℕ
 offered j n piece = take (j.bytes - n) piece
 
+-- a decoder that moved on still decodes a value of the job
 pub of_moved : (j : Job) (s last : Running) → IsOf j s → IsSame s last → IsOf j last
 of_moved j s last h k = record {
   types = k.types ∙ h.types;
@@ -37,6 +38,7 @@ of_moved j s last h k = record {
       ∙ h.limit;
 }
 
+-- the bytes within the limit are those so far and then what is offered of the piece
 front_is : (j : Job) (b piece : List ℕ) (s : Running) (n : ℕ) → IsGoing j b s n →
     take j.bytes (b ++ piece) ≡ b ++ offered j n piece
 front_is j b piece s n g = take_split j.bytes b piece
@@ -56,6 +58,7 @@ moved_own j b cut s last n k g m =
     ∙ append_assoc m.own (held_of last) (drop k cut))
     ∙ sym (append_assoc g.own m.own (held_of last ++ drop k cut))
 
+-- the bytes of a decoder's nodes and of its moves lead from the first state to the new one
 pub moved_led : (j : Job) (b : List ℕ) (s last : Running) (n : ℕ) (x : List ℕ) →
     (g : IsGoing j b s n) → (m : Moves s last x) →
     TurnsLead j.registry (start j.depth j.ty) (state_of last.built) (g.own ++ m.own)
@@ -90,6 +93,7 @@ front_count j b piece s n g =
 
 -- ---- the value is whole
 
+-- turns on a piece that end with a whole value have it as the outcome of all bytes so far
 pub fed_done : (j : Job) (b piece : List ℕ) (s last : Running) (n k : ℕ) → (g : IsGoing j b s n) →
     k ≤ length (offered j n piece) → Moves s last (take k (offered j n piece)) →
     EndsTurns last (drop k (offered j n piece)) stop.Finished → IsSound last →
@@ -119,6 +123,7 @@ fed_done j b piece s last n k g le m st sound =
 
 -- ---- bytes are missing
 
+-- turns that lack bytes within the limit leave more wanted, and a begun tree held
 pub fed_more : (j : Job) (b piece : List ℕ) (s last : Running) (n k : ℕ) → (g : IsGoing j b s n) →
     k ≤ length (offered j n piece) → Moves s last (take k (offered j n piece)) →
     EndsTurns last (drop k (offered j n piece)) stop.Wants → IsSound last → AreBytes piece →
@@ -177,6 +182,7 @@ fed_more j b piece s last n k g le m st sound are short =
       holds_of j (b ++ piece) last of all_bytes waiting,
     )
 
+-- turns that lack bytes where the piece passes the limit make the input too long
 pub fed_long : (j : Job) (b piece : List ℕ) (s last : Running) (n k : ℕ) → (g : IsGoing j b s n) →
     k ≤ length (offered j n piece) → Moves s last (take k (offered j n piece)) →
     EndsTurns last (drop k (offered j n piece)) stop.Wants → j.bytes - n < length piece →
@@ -199,6 +205,7 @@ fed_long j b piece s last n k g le m st long =
 
 -- ---- the next node is refused
 
+-- turns that end with a refusal have it as the outcome of all bytes so far, at its place
 pub fed_refused : (j : Job) (b piece : List ℕ) (s last : Running) (n k held : ℕ)
     (told_reason : DecodeReason) (at len : ℕ) → (g : IsGoing j b s n) →
     k ≤ length (offered j n piece) → Moves s last (take k (offered j n piece)) →
@@ -248,6 +255,7 @@ fed_refused j b piece s last n k held told_reason at len g le m st =
 
 -- ---- memory is wanted
 
+-- turns that end for want of memory tell that it was wanted behind all bytes taken
 pub fed_short : (j : Job) (b piece : List ℕ) (s last : Running) (n k : ℕ) → (g : IsGoing j b s n) →
     k ≤ length (offered j n piece) → Moves s last (take k (offered j n piece)) →
     WantsMemory last (drop k (offered j n piece)) → RanOut j (b ++ piece) (n + k)

@@ -25,6 +25,7 @@ tells_offered j piece slice s new limit taken k why e is f =
     ∙ ap (λ (l : ℕ). take (l - taken) piece) (sym e) in
     subst (λ (l : List ℕ). FeedTells s new l k why) same f
 
+-- turns that end with a whole value make the decoder done, by all bytes so far
 pub run_done : (j : Job) (b piece slice : List ℕ) (s new : Running) (limit taken k : ℕ)
     (why : Stopped) → j.bytes ≡ limit → slice ≡ take (limit - taken) piece →
     RunLed j b taken (Ok s) → FeedTells s new slice k why → why ≡ stop.Finished →
@@ -34,6 +35,7 @@ run_done j b piece slice s new limit taken k why e is led f w =
     (subst (FeedTells s new (offered j taken piece) k) w
     (tells_offered j piece slice s new limit taken k why e is f))
 
+-- turns that lack bytes at the limit, where the piece has more, end the decoder as too long
 pub run_long : (j : Job) (b piece slice : List ℕ) (s new : Running) (limit taken k : ℕ)
     (why : Stopped) → j.bytes ≡ limit → slice ≡ take (limit - taken) piece →
     RunLed j b taken (Ok s) → FeedTells s new slice k why → why ≡ stop.Wants →
@@ -48,6 +50,7 @@ run_long j b piece slice s new limit taken k why e is led f w cut =
     subst (λ (l : ℕ). IsEnded j (b ++ piece) (record { reason = reason.TooLong; at = l }) l) e
     (inr (inl (refl, out)))
 
+-- turns that lack bytes within the limit leave the decoder going, and a begun tree held
 pub run_more : (j : Job) (b piece slice : List ℕ) (s new : Running) (limit taken k : ℕ)
     (why : Stopped) → j.bytes ≡ limit → slice ≡ take (limit - taken) piece →
     RunLed j b taken (Ok s) → FeedTells s new slice k why → why ≡ stop.Wants → AreBytes piece →
@@ -60,6 +63,7 @@ run_more j b piece slice s new limit taken k why e is led f w are all =
     (subst (FeedTells s new (offered j taken piece) k) w
     (tells_offered j piece slice s new limit taken k why e is f)) are short
 
+-- what was held of a refused node is no more than the bytes taken
 pub run_held : (j : Job) (b piece slice : List ℕ) (s new : Running) (limit taken k held : ℕ)
     (told_reason : DecodeReason) (at len : ℕ) (why : Stopped) → j.bytes ≡ limit →
     slice ≡ take (limit - taken) piece → RunLed j b taken (Ok s) → FeedTells s new slice k why →
@@ -69,6 +73,7 @@ run_held j b piece slice s new limit taken k held told_reason at len why e is le
     (subst (FeedTells s new (offered j taken piece) k) w
     (tells_offered j piece slice s new limit taken k why e is f))).0
 
+-- turns that end with a refusal end the decoder with its reason, place and bytes taken
 pub run_refused : (j : Job) (b piece slice : List ℕ) (s new : Running) (limit taken k held : ℕ)
     (told_reason : DecodeReason) (at len : ℕ) (why : Stopped) → j.bytes ≡ limit →
     slice ≡ take (limit - taken) piece → RunLed j b taken (Ok s) → FeedTells s new slice k why →
@@ -88,6 +93,7 @@ run_refused j b piece slice s new limit taken k held told_reason at len why e is
 
 -- ---- memory is refused
 
+-- turns that end for want of memory end the decoder so, if its value was not whole
 pub run_short : (j : Job) (b piece slice : List ℕ) (s : Running) (limit taken k : ℕ) →
     j.bytes ≡ limit → slice ≡ take (limit - taken) piece → RunLed j b taken (Ok s) →
     (is_whole s.built ≡ true → ⊥) → RunsOut s slice k →
@@ -117,6 +123,7 @@ refused_by last new piece k held told_reason at len le st = (
   ),
 )
 
+-- a refusal takes no fewer bytes than were taken before, and no more than the piece adds
 pub takes_refused : (s new : Running) (slice : List ℕ) (k held taken len : ℕ)
     (told_reason : DecodeReason) (at : ℕ) (why : Stopped) → FeedTells s new slice k why →
     why ≡ stop.Refused held told_reason at len → held ≤ taken + k → (taken ≤ taken + k - held + len)

@@ -37,11 +37,13 @@ done_told j b s last n x g m later =
     ap (λ (xs : List Entry). told xs (Ok (m.own ++ later))) (sym (append-nil s.built.entries))
     ∙ sym (ap (after s.built.entries) whole) ∙ m.tells later
 
+-- a reading that ended well has no fault, so anything follows
 no_fault : {X : Type 0} (xs ys : List Entry) (rest x left : List ℕ) (e : Refusal) →
     told xs (Ok rest) ≡ after ys (told [] (Err ((e, left), x))) → X
 no_fault xs ys rest x left e h = let both : ◌≡◌ {A = Ending} (Ok rest) (Err ((e, left), x)) =
     ap ending h in absurd cc
 
+-- a value that was whole cannot fail after it moved on, so anything follows
 done_cannot_fail : {X : Type 0} (j : Job) (b : List ℕ) (s last : Running) (n : ℕ)
     (x y left : List ℕ) (e : Refusal) → IsDone j b s n → Moves s last x →
     remain (types_of last) (state_of last.built) y ≡ told [] (Err ((e, left), y)) → X
@@ -51,6 +53,7 @@ done_cannot_fail j b s last n x y left e g m h =
     no_fault s.built.entries last.built.entries (m.own ++ y) y left e
     (done_told j b s last n x g m y ∙ ap (after last.built.entries) there)
 
+-- two readings that ended well and are equal left the same bytes
 ok_is : (x y : List ℕ) → ◌≡◌ {A = Ending} (Ok x) (Ok y) → x ≡ y
 ok_is x y h = cc
 
@@ -100,6 +103,7 @@ done_again j b piece s last n k g le m st sound =
 
 -- ---- be it whole or not
 
+-- turns that end with a whole value make the decoder done, be it on its way or whole before
 pub led_done : (j : Job) (b piece : List ℕ) (s new : Running) (n k : ℕ) → RunLed j b n (Ok s) →
     FeedTells s new (offered j n piece) k stop.Finished → IsDone j (b ++ piece) new (n + k)
 led_done j b piece s new n k (inl g) f =
@@ -109,6 +113,7 @@ led_done j b piece s new n k (inr g) f =
     subst (λ (r : Running). IsDone j (b ++ piece) r (n + k)) (sym f.1.3)
     (done_again j b piece s f.1.0 n k g f.0 f.1.1 f.1.2 f.1.4)
 
+-- the same where they lack bytes within the limit: more is wanted, and a begun tree held
 pub led_more : (j : Job) (b piece : List ℕ) (s new : Running) (n k : ℕ) → RunLed j b n (Ok s) →
     FeedTells s new (offered j n piece) k stop.Wants → AreBytes piece → length piece ≤ j.bytes - n →
     IsGoing j (b ++ piece) new (n + k) × IsOutcome j (b ++ piece) more (n + k)
@@ -121,6 +126,7 @@ led_more j b piece s new n k (inr g) f are short =
     done_cannot_fail j b s f.1.0 n (take k (offered j n piece)) (held_of f.1.0) f.1.2.1.left
     truncated g f.1.1 (waits_told f.1.0 f.1.2.1)
 
+-- the same where they lack bytes and the piece passes the limit: the input is too long
 pub led_long : (j : Job) (b piece : List ℕ) (s new : Running) (n k : ℕ) → RunLed j b n (Ok s) →
     FeedTells s new (offered j n piece) k stop.Wants → j.bytes - n < length piece →
     IsOutcome j (b ++ piece) too_long j.bytes
@@ -129,6 +135,7 @@ led_long j b piece s new n k (inr g) f long =
     done_cannot_fail j b s f.1.0 n (take k (offered j n piece)) (held_of f.1.0) f.1.2.1.left
     truncated g f.1.1 (waits_told f.1.0 f.1.2.1)
 
+-- the same where they end with a refusal: it is the outcome of all bytes so far, at its place
 pub led_refused : (j : Job) (b piece : List ℕ) (s new : Running) (n k held : ℕ)
     (told_reason : DecodeReason) (at len : ℕ) → RunLed j b n (Ok s) →
     FeedTells s new (offered j n piece) k (stop.Refused held told_reason at len) →
@@ -140,10 +147,12 @@ led_refused j b piece s new n k held told_reason at len (inr g) f =
     done_cannot_fail j b s f.1.0 n (take k (offered j n piece))
     (held_of f.1.0 ++ drop k (offered j n piece)) f.1.2.1 f.1.2.0 g f.1.1 f.1.2.6
 
+-- the bytes that led to a decoder are within its limit
 pub led_fits : (j : Job) (b : List ℕ) (s : Running) (n : ℕ) → RunLed j b n (Ok s) → n ≤ j.bytes
 led_fits j b s n (inl g) = g.fits
 led_fits j b s n (inr g) = g.fits
 
+-- memory that is wanted is wanted also where further bytes follow
 wants_on : (s : Running) (rest back : List ℕ) → WantsMemory s rest → WantsMemory s (rest ++ back)
 wants_on s rest back h =
     record {

@@ -19,6 +19,7 @@ use Rattle.decode_core.specs.declared.fault.DecodeReason.TheVariants as reason
 abbrev first : Job → Running
 first j = first_running j.registry j.ty j.depth
 
+-- a decoder that has taken nothing is in the first state of the machine
 start_is : (j : Job) → state_of (first j).built ≡ start j.depth j.ty
 start_is j = let room : j.depth + 2 - 1 ≡ suc j.depth = omega arith in rw room refl
 
@@ -45,12 +46,14 @@ first_going j s b is same =
 
 -- ---- the end of the input
 
+-- a refusal of the empty last piece is the fault that the decoder finishes with
 pub ends_refused : (old new : Decoding) (b : List ℕ) (f : DecodeFault) → new.job ≡ old.job →
     AnswersPiece old new (b ++ []) (Err f) → FinishesDecoder old.job b (Err f)
 ends_refused old new b f same h =
     let at_end = subst (λ (l : List ℕ). IsEnded new.job l f new.taken) (append-nil b) h.1 in
     inr (new.taken, subst (λ (j : Job). IsEnded j b f new.taken) same at_end)
 
+-- where the empty last piece leaves more wanted, the decoder finishes with missing bytes
 pub ends_short : (old new : Decoding) (b : List ℕ) (at : ℕ) → new.job ≡ old.job → at ≡ new.taken →
     AnswersPiece old new (b ++ []) (Ok progress.More) →
     FinishesDecoder old.job b (Err (record { reason = reason.Truncated; at = at }))
@@ -64,13 +67,16 @@ ends_short old new b at same is h =
       subst (IsOutcome old.job b more) count at_end,
     )
 
+-- a decoder that bytes led to decodes a value of the job
 run_of : (j : Job) (b : List ℕ) (n : ℕ) (s : Running) → RunLed j b n (Ok s) → IsOf j s
 run_of j b n s (inl g) = g.same
 run_of j b n s (inr g) = g.same
 
+-- a decoder has one value on its way
 same_run : (s t : Running) (run : Result Running DecodeFault) → run ≡ Ok s → run ≡ Ok t → s ≡ t
 same_run s t run h k = let both = sym h ∙ k in cc
 
+-- where the value is done after the empty last piece, the decoder finishes with it
 pub ends_done : (old new : Decoding) (b : List ℕ) (used : ℕ) (s : Running) (v : Seen) →
     new.job ≡ old.job → new.run ≡ Ok s → v ≡ finished s.built →
     AnswersPiece old new (b ++ []) (Ok (progress.Done used)) → Led new (b ++ []) →
@@ -96,6 +102,7 @@ ends_done old new b used s v same run is h led =
           out_old,
     )
 
+-- the same where the answer is only known not to be that more is wanted
 pub ends_by : (old new : Decoding) (b : List ℕ) (p : Progress) (s : Running) (v : Seen) →
     new.job ≡ old.job → (p ≡ progress.More → ⊥) → new.run ≡ Ok s →
     v ≡ finished s.built → AnswersPiece old new (b ++ []) (Ok p) × Led new (b ++ []) →

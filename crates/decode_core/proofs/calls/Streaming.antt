@@ -26,16 +26,19 @@ use Rattle.decode_core.proofs.lists.Outcomes.{one_outcome}
 
 -- ---- a decoder is made, or not
 
+-- a decoder that is opened has taken nothing, and nothing forbids it
 pub opened : (o : Option OpenFault) (first d : Decoding) → OpensDecoder o first (Ok d) → (o ≡ None)
     × (d ≡ first)
 opened None first d h = (refl, h)
 opened (Some f) first d h = absurd h
 
+-- a fault of opening is what forbids a decoder, or want of memory where nothing does
 pub forbids : (o : Option OpenFault) (first : Decoding) (e : OpenFault) →
     OpensDecoder o first (Err e) → Forbids o e
 forbids None first e h = inr (h, refl)
 forbids (Some f) first e h = inl (ap (λ (x : OpenFault). Some x) (sym h))
 
+-- a decoder that has taken nothing is under way on no bytes
 pub starts : (types : List TypeInfo) (root : ℕ) (limits : Limits) (d : Decoding) →
     d ≡ first_of_all types root limits → Led d [] → IsUnderWay d []
 starts types root limits d is led = record {
@@ -57,22 +60,27 @@ done_fits j b v n h = omega (
   length-take j.bytes b,
 )
 
+-- where a value ends after so many bytes, none ends after another number
 pub done_ends : (j : Job) (b : List ℕ) (v : Tree) (n : ℕ) → IsOutcome j b (done v) n → EndsAt j b n
 done_ends j b v n h w m k = (one_outcome j b (done w) (done v) m n k h).1
 
+-- that a value is done is not that more is wanted, so anything follows
 pub no_value : {X : Type 0} (v : Tree) → done v ≡ more → X
 no_value v e = absurd cc
 
+-- where more is wanted or no byte came, no value ends before the end of the bytes
 more_ends : (j : Job) (b : List ℕ) → (length b ≡ 0) ⊎ IsOutcome j b more (length b) →
     EndsAt j b (length b)
 more_ends j b (inl z) v n h = omega (arith, done_fits j b v n h, z)
 more_ends j b (inr m) v n h = no_value v (one_outcome j b (done v) more n (length b) h m).0
 
+-- on the bytes of a decoder under way no value ends before their end
 pub under_way_ends : (d : Decoding) (b : List ℕ) → IsUnderWay d b → EndsAt d.job b (length b)
 under_way_ends d b h = more_ends d.job b h.goes_on
 
 -- ---- the value goes on
 
+-- a decoder that answers that more is wanted is under way with the piece appended
 pub under_way_next : (old new : Decoding) (b piece : List ℕ) →
     AnswersPiece old new (b ++ piece) (Ok progress.More) → Led new (b ++ piece) →
     IsUnderWay new (b ++ piece)
@@ -83,12 +91,14 @@ under_way_next old new b piece h led = record {
   goes_on = inr (h.0, h.1, refl);
 }
 
+-- the same for an answer that is known to be this one
 pub under_way_by : (old new : Decoding) (b piece : List ℕ) (p : Progress) → p ≡ progress.More →
     AnswersPiece old new (b ++ piece) (Ok p) × Led new (b ++ piece) → IsUnderWay new (b ++ piece)
 under_way_by old new b piece p is h =
     under_way_next old new b piece
     (subst (λ (q : Progress). AnswersPiece old new (b ++ piece) (Ok q)) is h.0) h.1
 
+-- an answer that is not that the value is done is that more is wanted
 pub more_by : (p : Progress) → ((used : ℕ) → p ≡ progress.Done used → ⊥) → p ≡ progress.More
 more_by progress.More h = refl
 more_by (progress.Done used) h = absurd (h used refl)
@@ -101,6 +111,7 @@ pub record Whole (old new : Decoding) (b : List ℕ) (used : ℕ) : Type 0 where
   pub outcome : IsOutcome new.job b (done tree) new.taken
   pub count : new.taken ≡ old.taken + used
 
+-- an answer that the value is done tells of its tree and how many of the bytes are its own
 pub whole_by : (old new : Decoding) (b : List ℕ) (p : Progress) (used : ℕ) →
     p ≡ progress.Done used → AnswersPiece old new b (Ok p) → Whole old new b used
 whole_by old new b p used is h =
@@ -109,6 +120,7 @@ whole_by old new b p used is h =
 
 -- ---- the rest of the input
 
+-- a value on the front of bytes is the outcome whatever follows them
 pub done_stays : (j : Job) (b rest : List ℕ) (v : Tree) (n : ℕ) → IsOutcome j b (done v) n →
     IsOutcome j (b ++ rest) (done v) n
 done_stays j b rest v n h = outcome_is_kept j b rest (done v) n (λ e. no_value v e) h
@@ -122,6 +134,7 @@ ended_known (Some xs) None j b f n c h = absurd c
 ended_known (Some xs) (Some ys) j b f n c h =
     inr (n, subst (λ (l : List ℕ). IsEnded j l f n) (sym c) (ended_stays j b ys f n h))
 
+-- a value that ends before the last of the bytes has some of them behind it
 trails_behind : (j : Job) (xs b rest : List ℕ) (v : Tree) (n : ℕ) → xs ≡ b ++ rest →
     IsOutcome j b (done v) n → n < length b + length rest → Trails j n xs
 trails_behind j xs b rest v n is h less = (
@@ -130,6 +143,7 @@ trails_behind j xs b rest v n is h less = (
   omega (arith, ap length is, length-append b rest, less),
 )
 
+-- a value that ends before the last of the bytes read has bytes of the reader behind it
 pub trails_within : (known left : Option (List ℕ)) (j : Job) (b : List ℕ) (v : Tree) (n : ℕ) →
     Consumes known left b → IsOutcome j b (done v) n → n < length b → IfSome known (Trails j n)
 trails_within None left j b v n c h less = tt
@@ -137,6 +151,7 @@ trails_within (Some xs) None j b v n c h less = absurd c
 trails_within (Some xs) (Some ys) j b v n c h less =
     trails_behind j xs b ys v n c h (omega (arith, less))
 
+-- where the reader has bytes left, some follow the value that was read
 pub trails_left : (known left : Option (List ℕ)) (j : Job) (b : List ℕ) (v : Tree) (n : ℕ) →
     Consumes known left b → IsOutcome j b (done v) n → IfSome left (λ rest. 0 < length rest) →
     IfSome known (Trails j n)
@@ -164,6 +179,7 @@ end_known (Some xs) (Some ys) (Some zs) b part n none c d end =
     )) in
     c ∙ ap (λ (l : List ℕ). b ++ l) nothing ∙ append-nil b
 
+-- bytes that were read up to the reader's end are all that it had
 pub all_known : (known left : Option (List ℕ)) (b : List ℕ) → Consumes known left b → IsAtEnd left →
     IfSome known (λ bytes. bytes ≡ b)
 all_known None left b c end = tt

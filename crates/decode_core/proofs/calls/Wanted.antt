@@ -36,6 +36,7 @@ use Rattle.decode_core.proofs.steps.Stepping.{added_leads, at_next}
 
 -- ---- fewer bytes than spell a node, or begin a run, are too few
 
+-- a node that further bytes spell, one at least, is cut without them
 node_short : (bytes : List ℕ) (x : Head × Option Part) (read read' : Own) →
     Extends truncated bytes read read' → read' ≡ Ok (x, []) → 1 ≤ length bytes → (left : List ℕ)
     × (read ≡ Err (truncated, left))
@@ -49,11 +50,13 @@ node_short bytes x (Err e) read' h is some = elim (refusal_tells e.0) [
   | inr other ↦ let both = sym (h other) ∙ is in absurd cc
 ]
 
+-- a run with fewer bytes behind its length than it is to have is cut
 run_few : (k : RunKind) (held rest : List ℕ) (n : ℕ) → run_length_at k held ≡ Ok (n, rest) →
     length rest < n → own_at (layout.plain (layout.run k)) held ≡ Err (truncated, [])
 unfolding own_at layout_at run_at
 run_few k held rest n h few = rw (h, lt-ltb (length rest) n few) refl
 
+-- a run that further bytes, one at least, do not go past is cut without them
 run_begun : (k : RunKind) (held bytes came : List ℕ) (n : ℕ) (read read' : Read Reason ℕ) →
     run_length_at k held ≡ read → Extends scale.Truncated bytes read read' →
     read' ≡ Ok (n, came) → 1 ≤ length bytes → length came ≤ n → (left : List ℕ)
@@ -112,6 +115,7 @@ cut_goes_on j b left n h short =
       refl,
     )
 
+-- to add a node appends its entry to the nodes
 entries_with : (b : Built) (x : Head × Option Part) →
     (with_own b x).entries ≡ b.entries ++ next_entry b x.0 ∷ []
 entries_with b (h, None) = refl
@@ -138,6 +142,7 @@ node_goes_on j b n h x is later =
           (entries_with h.s.built x),
     )
 
+-- what begins with some bytes is not empty
 some_left : (rest bytes later : List ℕ) → rest ≡ bytes ++ later → 1 ≤ length bytes → 1 ≤ length rest
 some_left rest bytes later is some = omega (arith, ap length is, length-append bytes later, some)
 
@@ -161,6 +166,7 @@ node_by j b n h (y ∷ bytes) same keeps =
           (h.wants.is ∙ ap (λ (l : List ℕ). l ++ h.wants.later) (sym same)) some,
     )
 
+-- where memory was wanted, more bytes were too and one is there, or a further node is read
 goes_by : (j : Job) (b : List ℕ) (n : ℕ) (h : RanOut j b n) → KeepsNode h.s h.wants.bytes
     ⊎ KeepsRun h.s h.wants.bytes → GoesOn j (h.own ++ held_of h.s) h.rest
 goes_by j b n h (inl keeps) = node_by j b n h h.wants.bytes refl keeps
@@ -171,6 +177,7 @@ goes_by j b n h (inr keeps) =
     let laid = ap (λ (f : Layout). own_at f (held_of h.s)) keeps.1 ∙ short.1 in
     inl (cut_goes_on j b short.0 n h laid, some_left h.rest bytes h.wants.later h.wants.is keeps.2)
 
+-- where memory was wanted, nothing of the bytes taken is refused
 pub wanted_goes_on : WantedGoesOn
 wanted_goes_on j b n h = let front = front_is j b n h in
     (h.own ++ held_of h.s, h.rest, front.0, front.1, goes_by j b n h h.wants.keeps)

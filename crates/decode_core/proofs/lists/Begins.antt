@@ -19,6 +19,7 @@ use Rattle.grammar_core.specs.Begun.{Begun, nothing, whole, in_fields, in_arm, i
 use Rattle.decode_core.specs.Holds.{OwnIsShort, IsShort, held, layout_held, all_held, times_held}
 use Rattle.decode_core.specs.Holds.{BegunIsMissing}
 
+-- where values stand before a cut part, the list is cut: they and its begun tree are held
 all_front : (r : List TypeInfo) (room : ℕ) (front : List ℕ) (u : ℕ) (back : List ℕ) (vs : Trees)
     (b c left : List ℕ) (g : Begun × List ℕ) → Vals r front vs b → most_levels vs ≤ room →
     value_at r room u c ≡ Err (truncated, left) → held r room u c ≡ g →
@@ -35,6 +36,7 @@ all_front r room (t ∷ front) u back (and v vs) b c left g h l e f =
       rw (h.2, append_assoc h.0 h.1 c, one, rest.1) refl,
     )
 
+-- the same for elements of one type, of which fewer came than there are to be
 each_front : (r : List TypeInfo) (room n u : ℕ) (vs : Trees) (b c left : List ℕ)
     (g : Begun × List ℕ) → Each r u vs b → how_many vs < n → most_levels vs ≤ room →
     value_at r room u c ≡ Err (truncated, left) → held r room u c ≡ g →
@@ -50,6 +52,7 @@ each_front r room (suc n) u (and v vs) b c left g h lt l e f =
       rw (h.2, append_assoc h.0 h.1 c, one, rest.1) refl,
     )
 
+-- two failures that are equal have the same reason
 reason_is : (x y : Refusal × List ℕ) → failed x ≡ failed y → x.0 ≡ y.0
 reason_is x y e = ap (λ (p : Refusal × List ℕ). p.0) (failed_is x y e)
 
@@ -71,6 +74,7 @@ short_read child hold (layout.array n t) e h = absurd h
 short_read child hold (layout.arms arms) e h = (([], rw h refl), rw h refl)
 short_read child hold (layout.sequence t) e h = ((h.0, rw h.1 refl), rw h.1 refl)
 
+-- where a node's own bytes are short, the reading is cut, and nothing but these bytes is held
 bare_read : (r : List TypeInfo) (room t : ℕ) (e : List ℕ) → IsShort r room t e →
     ((left : List ℕ) × (value_at r room t e ≡ Err (truncated, left)))
     × (held r room t e ≡ (nothing, e))
@@ -82,9 +86,11 @@ bare_read r (suc room) t e h =
 abbrev found : ℕ × ℕ → Option (ℕ × ℕ)
 found p = Some p
 
+-- two pairs that are found and equal are one
 some_is : (p q : ℕ × ℕ) → found p ≡ found q → p ≡ q
 some_is p q e = cc
 
+-- a list whose elements are cut is cut behind its length, and its begun list is held
 list_read : (r : List TypeInfo) (room t n u : ℕ) (c rest left : List ℕ) (vs : Trees)
     (g : Begun × List ℕ) → is_finite r t ≡ true → ((layout r t ≡ layout.array n u) × (c ≡ []))
     ⊎ ((layout r t ≡ layout.sequence u) × IsCompact target.U32 n c) →
@@ -100,6 +106,7 @@ list_read r room t n u c rest left vs g fin (inr k) e f = (
   rw (k.0, compact_again target.U32 n c rest k.1, f) refl,
 )
 
+-- a begun tree and too few bytes behind it are read as cut, and just these are held
 begun_read : (r : List TypeInfo) (room t : ℕ) (g : Begun) (own e : List ℕ) (at u : ℕ) →
     Grows r room t g own (Some (at, u)) → IsShort r at u e →
     ((left : List ℕ) × (value_at r room t (own ++ e) ≡ Err (truncated, left)))
@@ -136,5 +143,6 @@ begun_read r (suc room) t (in_list n vs g) own e at u h k =
     each.1 in
     ((next.0.0, rw (h.6, split) list.0), rw (h.6, split) list.1)
 
+-- where a begun tree is held, bytes are missing, and it is the one that is computed
 pub begun_is_missing : BegunIsMissing
 begun_is_missing r room t b g e h = rw h.3 (begun_read r room t g h.0 e h.1 h.2 h.4 h.5)

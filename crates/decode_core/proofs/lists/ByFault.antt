@@ -48,6 +48,7 @@ abbrev Told : {E X : Type 0} → (E → Refusal) → List ℕ → ℕ → Read E
 Told m b k (Ok x) = Unit {0}
 Told m b k (Err e) = (length e.1 ≤ length b) × IsTakenBefore (m e.0) e.1 (place b e.1) k
 
+-- where bytes stand in front of a fault, its place and what is taken move by as many
 moved : (reason : Refusal) (left : List ℕ) (c at k : ℕ) → IsTakenBefore reason left at k →
     IsTakenBefore reason left (c + at) (c + k)
 moved (basic reasons.Truncated) left c at k h = h
@@ -72,11 +73,13 @@ told_behind m b c rest k (Err e) eq h =
     let at : length c + place rest e.1 ≡ place b e.1 = omega (arith, len, h.0) in
     (omega (arith, len, h.0), rw (← at) (moved (m e.0) e.1 (length c) (place rest e.1) k h.1))
 
+-- a fault tells what is taken also where the reader's result is only made into something else
 finish_told : {E F X Y : Type 0} (m : E → F) (n : F → Refusal) (make : X → Y) (b : List ℕ) (k : ℕ)
     (read : Read E X) → Told (λ e. n (m e)) b k read → Told n b k (finish m make read)
 finish_told m n make b k (Ok x) h = tt
 finish_told m n make b k (Err e) h = h
 
+-- of two parts, one behind the other, the fault of whichever is refused tells what is taken
 chain_told : {E F X Y : Type 0} (m : E → F) (n : F → Refusal) (P : X → List ℕ → Type 0)
     (h : X → List ℕ → Read F Y) (next : X × List ℕ → ℕ) (b : List ℕ) (own : ℕ) (read : Read E X) →
     Takes P b read → Told (λ e. n (m e)) b own read →
@@ -90,9 +93,11 @@ chain_told m n P h next b own (Ok x) takes first rest =
 
 -- ---- compacts and runs
 
+-- the place before the first byte is 0
 whole : (b : List ℕ) → place b b ≡ 0
 whole b = omega arith
 
+-- a compact integer's fault tells what is taken, whichever target bounds it
 integer_told : (m : Target) (b : List ℕ) → Told basic b (compact_taken m b) (integer_at m b)
 integer_told m [] = (omega arith, refl)
 integer_told m (first ∷ tail) =
@@ -117,6 +122,7 @@ integer_told m (first ∷ tail) =
           (nat_lt (form_number form) (256 ^ target_bytes m))
           (form, drop (form_len first) (first ∷ tail))
 
+-- the same where the target may be nothing, and there is no byte
 compact_told : (m : Target) (b : List ℕ) → Told basic b (compact_taken m b) (compact_at m b)
 unfolding compact_at
 compact_told target.Unit b = tt
@@ -126,12 +132,14 @@ compact_told target.U32 b = integer_told target.U32 b
 compact_told target.U64 b = integer_told target.U64 b
 compact_told target.U128 b = integer_told target.U128 b
 
+-- the fault of a run's length tells what is taken
 run_length_told : (k : RunKind) (b : List ℕ) →
     Told basic b (run_length_taken k b) (run_length_at k b)
 run_length_told kind.Text b = compact_told target.U32 b
 run_length_told kind.Bytes b = compact_told target.U32 b
 run_length_told (kind.ByteArray n) b = tt
 
+-- a run whose bytes are all there and are refused is taken to its end
 judged_told : (k : RunKind) (n : ℕ) (b : List ℕ) → n ≤ length b →
     Told basic b n (run_judged k b (take n b, drop n b))
 judged_told kind.Text n b le = valid (is_utf8 (take n b)) where
@@ -147,6 +155,7 @@ judged_told kind.Text n b le = valid (is_utf8 (take n b)) where
 judged_told kind.Bytes n b le = tt
 judged_told (kind.ByteArray m) n b le = tt
 
+-- the same for the bytes of a run, whether or not they are all there
 body_told : (k : RunKind) (n : ℕ) (b : List ℕ) → Told basic b n (body_at k n b)
 body_told k n b = go (nat_lt (length b) n) refl where
   go : (short : Bool) → nat_lt (length b) n ≡ short →
@@ -155,12 +164,14 @@ body_told k n b = go (nat_lt (length b) n) refl where
   go true e = (omega arith, refl)
   go false e = judged_told k n b (ltb-false _ _ e)
 
+-- a run's fault, in its length or its bytes, tells what is taken
 run_told : (k : RunKind) (b : List ℕ) → Told basic b (run_taken k b) (run_at k b)
 unfolding run_at
 run_told k b = rw (bind_chain (body_at k) (run_length_at k b))
     (chain_told (λ e. e) basic _ (body_at k) (λ n. n.0) b (run_length_taken k b)
     (run_length_at k b) (length_takes k b) (run_length_told k b) (λ n. body_told k n.0 n.1))
 
+-- a number of bytes is refused only where they are missing, and then nothing is left behind
 bytes_told : (k : ℕ) (b : List ℕ) → Told basic b 0 (bytes_at k b)
 bytes_told k b = go (nat_lt (length b) k) where
   go : (short : Bool) → Told basic b 0
@@ -168,12 +179,14 @@ bytes_told k b = go (nat_lt (length b) k) where
   go true = (omega arith, refl)
   go false = tt
 
+-- a boolean's fault tells what is taken, which is its one byte
 bool_told : (b : List ℕ) → Told (λ e. e) b 1 (bool_at b)
 bool_told [] = (omega arith, refl)
 bool_told (zero ∷ b) = tt
 bool_told (suc zero ∷ b) = tt
 bool_told (suc (suc x) ∷ b) = (omega arith, omega arith)
 
+-- a character's fault tells what is taken, which is its four bytes
 char_told : (b : List ℕ) → Told (λ e. e) b 4 (char_from b (bytes_at 4 b))
 char_told b = go (nat_lt (length b) 4) where
   valid : (t : Bool) → Told (λ e. e) b 4
@@ -192,6 +205,7 @@ abbrev ChildTold : List TypeInfo → ℕ → Type 0
 ChildTold r room = (t : ℕ) (b : List ℕ) →
     Told (λ e. e) b (value_taken r room t b) (value_at r room t b)
 
+-- the fault of parts of these types tells what is taken, if that of each part does
 all_told : (r : List TypeInfo) (room : ℕ) → ChildTold r room → (ts : List ℕ) (b : List ℕ) →
     Told (λ e. e) b (all_taken (value_at r room) (value_taken r room) ts b)
     (all_at (value_at r room) ts b)
@@ -207,6 +221,7 @@ all_told r room h (t ∷ ts) b = let child = value_at r room in
     (finish_told (λ e. e) (λ e. e) (and x.0) x.1 (all_taken child (value_taken r room) ts x.1)
     (all_at child ts x.1) (all_told r room h ts x.1))))
 
+-- the same for parts of one type
 times_told : (r : List TypeInfo) (room : ℕ) → ChildTold r room → (n t : ℕ) (b : List ℕ) →
     Told (λ e. e) b (times_taken (value_at r room) (value_taken r room) n t b)
     (times_at (value_at r room) n t b)
@@ -223,16 +238,19 @@ times_told r room h (suc n) t b = let child = value_at r room in
     (times_taken child (value_taken r room) n t x.1) (times_at child n t x.1)
     (times_told r room h n t x.1))))
 
+-- putting a node over parts leaves what their fault takes
 parts_told : (kind : Branch) (b : List ℕ) (k : ℕ) (read : Read Refusal Trees) →
     Told (λ e. e) b k read → Told (λ e. e) b k (with_children kind read)
 parts_told kind b k (Ok x) h = tt
 parts_told kind b k (Err e) h = h
 
+-- making a leaf of what was read leaves what its fault takes
 leaf_told : {X : Type 0} (make : X → Leaf) (b : List ℕ) (k : ℕ) (read : Read Reason X) →
     Told basic b k read → Told (λ e. e) b k (as_leaf make read)
 leaf_told make b k (Ok x) h = tt
 leaf_told make b k (Err e) h = h
 
+-- the fault of an arm takes its index and what its fields take; an unknown index is taken alone
 arm_told : (r : List TypeInfo) (room : ℕ) → ChildTold r room →
     (i : ℕ) (b : List ℕ) (found : Option (ℕ × Arm)) →
     Told (λ e. e) (i ∷ b) (suc (arm_taken (value_at r room) (value_taken r room) found b))
@@ -245,6 +263,7 @@ arm_told r room h i b (Some a) =
     rw one at (told_behind (λ e. e) (i ∷ b) (i ∷ []) b k _ refl
     (parts_told (arm a.0) b k (all_at (value_at r room) ts b) (all_told r room h ts b)))
 
+-- the fault of a variant tells what is taken, also where there is no index
 arms_told : (r : List TypeInfo) (room : ℕ) → ChildTold r room → (arms : List Arm) (b : List ℕ) →
     Told (λ e. e) b (arms_taken (value_at r room) (value_taken r room) arms b)
     (arms_at (value_at r room) arms b)
@@ -266,6 +285,7 @@ plain_told layout.counted b =
     leaf_told count b _ (compact_at target.U32 b) (compact_told target.U32 b)
 plain_told (layout.compact m) b = leaf_told compact_value b _ (compact_at m b) (compact_told m b)
 
+-- by every layout a fault tells what is taken, if that of each part does
 layout_told : (r : List TypeInfo) (room : ℕ) → ChildTold r room → (f : Layout) (b : List ℕ) →
     Told (λ e. e) b (layout_taken (value_at r room) (value_taken r room) f b)
     (layout_at (value_at r room) f b)
@@ -286,6 +306,7 @@ layout_told r room h (layout.sequence t) b = let child = value_at r room in
     (compact_at target.U32 b) (compact_takes target.U32 b) (compact_told target.U32 b)
     (λ n. parts_told list n.1 _ (times_at child n.0 t n.1) (times_told r room h n.0 t n.1)))
 
+-- a value's fault tells what is taken, at every depth
 value_told : (r : List TypeInfo) (room t : ℕ) (b : List ℕ) →
     Told (λ e. e) b (value_taken r room t b) (value_at r room t b)
 unfolding value_at value_taken
@@ -297,5 +318,6 @@ value_told r (suc room) t b = go (λ u c. value_told r room u c) (is_finite r t)
   go h true = layout_told r room h (layout r t) b
   go h false = (omega arith, omega arith)
 
+-- what is taken of a refused value follows from its reason and its place
 pub taken_by_fault : TakenByFault
 taken_by_fault r room t b reason left e = (rw e at (value_told r room t b)).1

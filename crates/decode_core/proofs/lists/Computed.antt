@@ -18,12 +18,14 @@ use Rattle.decode_core.proofs.lists.Deciding.{Decides}
 use Rattle.decode_core.proofs.lists.Shortest.{value_decided}
 use Rattle.decode_core.proofs.lists.Outcomes.{one_outcome, failed_is}
 
+-- a value that is refused for good is decided by the bytes that are said to be taken
 decides : (j : Job) (b : List ℕ) (reason : Refusal) (left : List ℕ) → reason ≢ truncated →
     value_at j.registry (suc j.depth) j.ty b ≡ Err (reason, left) →
     Decides truncated (value_at j.registry (suc j.depth) j.ty) b
     (value_taken j.registry (suc j.depth) j.ty b) reason
 decides j b reason left ne e = (rw e at (value_decided j.registry (suc j.depth) j.ty b)) ne
 
+-- the bytes that are said to be taken are the shortest front that is refused so, at this place
 shortest : (j : Job) (b : List ℕ) (reason : Refusal) (left : List ℕ) → reason ≢ truncated →
     value_at j.registry (suc j.depth) j.ty b ≡ Err (reason, left) →
     IsShortest (FailsAt j reason (place b left)) b (value_taken j.registry (suc j.depth) j.ty b)
@@ -56,12 +58,14 @@ shortest j b reason left ne e =
           (failed_is (reason, f.0) (truncated, early.0) (sym f.1 ∙ early.1)));
     }
 
+-- what is taken of a refused value is the shortest front that is refused so
 pub taken_is_shortest : TakenIsShortest
 taken_is_shortest j reason at b ne f = rw (← f.2) (shortest j b reason f.0 ne f.1)
 
 abbrev Is : Job → List ℕ → Outcome × ℕ → Type 0
 Is j input o = IsOutcome j input o.0 o.1
 
+-- a refusal for good, within the byte limit, is the outcome with its place and what it takes
 refused_is : (j : Job) (input : List ℕ) (reason : Refusal) (left : List ℕ) → reason ≢ truncated →
     value_at j.registry (suc j.depth) j.ty (take j.bytes input) ≡ Err (reason, left) →
     Is j input (
@@ -71,6 +75,7 @@ refused_is : (j : Job) (input : List ℕ) (reason : Refusal) (left : List ℕ) �
 refused_is j input reason left ne e =
     (ne, (left, e, refl), shortest j (take j.bytes input) reason left ne e)
 
+-- where bytes are missing within the limit, more is wanted, or the input is too long
 missing_is : (j : Job) (input left : List ℕ) →
     value_at j.registry (suc j.depth) j.ty (take j.bytes input) ≡ Err (truncated, left) →
     Is j input (missing j input)
@@ -81,6 +86,7 @@ missing_is j input left e = elim (cases_lt j.bytes (length input)) [
       ((place input left, (left, rw (take_all j.bytes input le) at e, refl)), le, refl)
 ]
 
+-- a refusal within the byte limit gives the outcome that is computed for it
 refusal_is : (j : Job) (input : List ℕ) (reason : Refusal) (left : List ℕ) →
     value_at j.registry (suc j.depth) j.ty (take j.bytes input) ≡ Err (reason, left) →
     Is j input (refusal j input reason left)
@@ -103,6 +109,7 @@ refusal_is j input no_finite_value left e =
 refusal_is j input bit_sequence left e = refused_is j input bit_sequence left (λ q. absurd cc) e
 refusal_is j input bad_compact left e = refused_is j input bad_compact left (λ q. absurd cc) e
 
+-- what the reading within the byte limit answers gives the outcome that is computed for it
 answer_is : (j : Job) (input : List ℕ) (read : Read Refusal Tree) →
     value_at j.registry (suc j.depth) j.ty (take j.bytes input) ≡ read →
     Is j input (answer j input read)
@@ -111,11 +118,13 @@ answer_is j input (Ok x) e =
     (s.0, x.1, s.1, s.2, s.3, omega (arith, ap length s.1, length-append s.0 x.1))
 answer_is j input (Err x) e = refusal_is j input x.0 x.1 e
 
+-- the outcome that is computed is one of the input
 computed : (j : Job) (input : List ℕ) → Is j input (outcome_of j input)
 unfolding outcome_of
 computed j input = answer_is j input (value_at j.registry (suc j.depth) j.ty (take j.bytes input))
     refl
 
+-- every input has the outcome that is computed, and no other
 pub outcome_is_computed : OutcomeIsComputed
 outcome_is_computed j input = (
   computed j input,

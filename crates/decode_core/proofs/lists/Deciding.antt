@@ -61,11 +61,13 @@ abbrev pub finish : {E F X Y : Type 0} → (E → F) → (X → Y) → Read E X 
 finish m make (Ok x) = Ok (make x.0, x.1)
 finish m make (Err e) = Err (m e.0, e.1)
 
+-- reading one part behind the other with refusals as they are is the plain bind
 pub bind_chain : {E X Y : Type 0} (h : X → List ℕ → Read E Y) (r : Read E X) →
     (r >>= λ x. h x.0 x.1) ≡ chain (λ e. e) h r
 bind_chain h (Ok x) = refl
 bind_chain h (Err e) = refl
 
+-- a front decides a refusal also where the result is only made into something else
 pub finish_decided : {E F X Y : Type 0} (cut : E) (m : E → F) (make : X → Y) (G : List ℕ → Read F Y)
     (g : List ℕ → Read E X) → ((b : List ℕ) → G b ≡ finish m make (g b)) →
     (b : List ℕ) (k : ℕ) → Decided cut g b k (g b) → Decided (m cut) G b k (G b)
@@ -80,6 +82,7 @@ finish_decided {E = E} {F = F} {X = X} {Y = Y} cut m make G g is b k h =
             early = λ j lt. let f = d.early j lt in (f.0, is (take j b) ∙ ap (finish m make) f.1);
           }
 
+-- of two parts, the first of them steady, a front decides the refusal of whichever is refused
 pub chain_decided : {E F X Y : Type 0} (cut : E) (m : E → F) (G : List ℕ → Read F Y)
     (g : List ℕ → Read E X) (h : X → List ℕ → Read F Y) (next : X × List ℕ → ℕ) →
     ((b : List ℕ) → G b ≡ chain m h (g b)) → IsSteady cut g →

@@ -39,6 +39,7 @@ Ends P xs (Err e) = P xs e
 abbrev pub EndsTold : (List Entry → Fault → Type 0) → Told → Type 0
 EndsTold P (told xs end) = Ends P xs end
 
+-- a fact of what was added before a fault carries over where nodes stand in front
 after_ends : (P Q : List Entry → Fault → Type 0) (before : List Entry) (y : Told) → EndsTold P y →
     ((xs : List Entry) (e : Fault) → P xs e → Q (before ++ xs) e) → EndsTold Q (after before y)
 after_ends P Q before (told xs (Ok rest)) h f = tt
@@ -58,6 +59,7 @@ abbrev IsValue : List TypeInfo → ℕ → ℕ → List ℕ → Told → Type 0
 IsValue r room t b y = (xs : List Entry) (rest : List ℕ) → y ≡ told xs (Ok rest) →
     Read_value r room t b xs rest
 
+-- where the reading ends well, its nodes are those of a value on the front of the bytes
 told_value : (r : List TypeInfo) (room t : ℕ) (b : List ℕ) → IsValue r room t b (told_at r room t b)
 told_value r room t b xs rest is =
     let v = value_of (value_at r room t b) (told_at r room t b) xs rest (told_agrees r room t b)
@@ -97,12 +99,14 @@ pub record TimesBegin (r : List TypeInfo) (room n t : ℕ) (b : List ℕ) (xs : 
 abbrev ChildBegins : List TypeInfo → ℕ → Type 0
 ChildBegins r room = (t : ℕ) (b : List ℕ) → EndsTold (Begins r room t b) (told_at r room t b)
 
+-- the nodes of a value, and then those of others and of a begun tree, are joined in order
 shows_more : (xs ys zs : List Entry) (v : Tree) (vs : Trees) → shown xs ≡ preorder v →
     shown ys ≡ all_preorder vs ++ shown zs →
     shown (xs ++ ys) ≡ (preorder v ++ all_preorder vs) ++ shown zs
 shows_more xs ys zs v vs h k = shown-append xs ys
     ∙ rw (h, k) (sym (append_assoc (preorder v) (all_preorder vs) (shown zs)))
 
+-- where parts of these types end in a fault, values stand before a part that is begun
 all_begin : (r : List TypeInfo) (room : ℕ) → ChildBegins r room → (ts : List ℕ) (b : List ℕ) →
     EndsTold (AllBegin r room ts b) (all_told (told_at r room) ts b)
 unfolding Val
@@ -151,6 +155,7 @@ all_begin r room h (t ∷ ts) b =
           after_ends (AllBegin r room ts rest) (AllBegin r room (t ∷ ts) b) xs
           (all_told (told_at r room) ts rest) (m rest) (next xs rest (k xs rest refl))
 
+-- the same for elements of one type, of which fewer came than there are to be
 times_begin : (r : List TypeInfo) (room : ℕ) → ChildBegins r room → (n t : ℕ) (b : List ℕ) →
     EndsTold (TimesBegin r room n t b) (times_told (told_at r room) n t b)
 unfolding Val
@@ -211,6 +216,7 @@ bare r room t b e h = record {
   meets = h;
 }
 
+-- fields that end in a fault are a begun node of fields
 fields_begin : (r : List TypeInfo) (room t : ℕ) (ts : List ℕ) (b : List ℕ) →
     met_layout r t ≡ layout.fields ts → (xs : List Entry) (e : Fault) → AllBegin r room ts b xs e →
     Begins r (suc room) t b (entry t (head.branch tree.fields (length ts)) ∷ xs) e
@@ -247,6 +253,7 @@ fields_begin r room t ts b f xs e s = let h = s.begins in let m =
       meets = h.meets;
     }
 
+-- fields of an arm that end in a fault are a begun node of the arm, behind its index
 arm_begins : (r : List TypeInfo) (room t : ℕ) (arms : List Arm) (i q : ℕ) (a : Arm) (b : List ℕ) →
     met_layout r t ≡ layout.arms arms → arm_of arms i ≡ Some (q, a) →
     (xs : List Entry) (e : Fault) → AllBegin r room (field_types a.fields) b xs e →
@@ -291,6 +298,7 @@ arm_begins r room t arms i q a b f is xs e s = let h = s.begins in let m =
       meets = h.meets;
     }
 
+-- elements that end in a fault are a begun list, behind its length
 list_begins : (r : List TypeInfo) (room t n u : ℕ) (c b : List ℕ) →
     ((met_layout r t ≡ layout.array n u) × (c ≡ []))
     ⊎ ((met_layout r t ≡ layout.sequence u) × IsCompact target.U32 n c) →
@@ -310,12 +318,14 @@ list_begins r room t n u c b f xs e s = let h = s.begins in let m = list_met r t
       meets = h.meets;
     }
 
+-- a leaf that is refused leaves a begun tree of which nothing is there
 leaf_begins : (r : List TypeInfo) (room t : ℕ) (b : List ℕ) (read : Read Refusal Tree) →
     told_at r (suc room) t b ≡ own_told (told_at r room) t b (leaf_own read) →
     EndsTold (Begins r (suc room) t b) (own_told (told_at r room) t b (leaf_own read))
 leaf_begins r room t b (Ok x) is = tt
 leaf_begins r room t b (Err e) is = bare r (suc room) t b e is
 
+-- an arm that ends in a fault is begun, and nothing is there where the index is unknown
 arm_own_begins : (r : List TypeInfo) (room t : ℕ) → ChildBegins r room → (arms : List Arm) →
     met_layout r t ≡ layout.arms arms → (i : ℕ) (b : List ℕ) (found : Option (ℕ × Arm)) →
     arm_of arms i ≡ found → told_at r (suc room) t (i ∷ b) ≡ own_told (told_at r room) t (i ∷ b)
@@ -329,6 +339,7 @@ arm_own_begins r room t h arms f i b (Some a) e is =
     (all_told (told_at r room) (field_types a.1.fields) b)
     (all_begin r room h (field_types a.1.fields) b) (arm_begins r room t arms i a.0 a.1 b f e)
 
+-- a variant that ends in a fault is a begun tree, also where the index is missing
 arms_begin : (r : List TypeInfo) (room t : ℕ) → ChildBegins r room → (arms : List Arm) →
     met_layout r t ≡ layout.arms arms → (b : List ℕ) →
     told_at r (suc room) t b ≡ own_told (told_at r room) t b (arms_own arms b) →
@@ -337,6 +348,7 @@ arms_begin r room t h arms f [] is = bare r (suc room) t [] _ is
 arms_begin r room t h arms f (i ∷ b) is =
     arm_own_begins r room t h arms f i b (arm_of arms i) refl is
 
+-- a sequence that ends in a fault is begun, and nothing is there where its length is refused
 length_begins : (r : List TypeInfo) (room t u : ℕ) → ChildBegins r room →
     met_layout r t ≡ layout.sequence u → (b : List ℕ) (read : Read Reason ℕ) →
     Takes (IsCompact target.U32) b read →
@@ -349,6 +361,7 @@ length_begins r room t u h f b (Ok n) k is =
     (times_begin r room h n.0 u n.1)
     (λ xs e s. rw k.1 (list_begins r room t n.0 u k.0 n.1 (inr (f, k.2)) xs e s))
 
+-- by every layout what was added before a fault is a begun tree, if it is so for each part
 layout_begins : (r : List TypeInfo) (room t : ℕ) → ChildBegins r room → (f : Layout) →
     met_layout r t ≡ f → (b : List ℕ) →
     told_at r (suc room) t b ≡ own_told (told_at r room) t b (own_at f b) →
@@ -374,6 +387,7 @@ layout_begins r room t h layout.bad_compact e b is =
 layout_begins r room t h (layout.plain p) e b is =
     leaf_begins r room t b (layout_at shallow (layout.plain p) b) is
 
+-- what was added before a fault is a begun tree, at every depth
 told_begins : (r : List TypeInfo) (room t : ℕ) (b : List ℕ) →
     EndsTold (Begins r room t b) (told_at r room t b)
 unfolding told_at
@@ -381,10 +395,12 @@ told_begins r zero t b = bare r zero t b _ refl
 told_begins r (suc room) t b =
     layout_begins r room t (λ u c. told_begins r room u c) (met_layout r t) refl b refl
 
+-- the same for nodes and a fault that are known to be what the reading tells
 begins_of : (r : List TypeInfo) (room t : ℕ) (b : List ℕ) (xs : List Entry) (e : Fault) (y : Told) →
     EndsTold (Begins r room t b) y → y ≡ told xs (Err e) → Begins r room t b xs e
 begins_of r room t b xs e y h is = (rw is at h)
 
+-- what was added before a fault is a begun tree whose missing node fails on what is left
 pub fault_is_begun : FaultIsBegun
 fault_is_begun r room t b xs e is =
     begins_of r room t b xs e (told_at r room t b) (told_begins r room t b) is

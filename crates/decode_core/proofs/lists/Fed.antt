@@ -22,6 +22,7 @@ use Rattle.decode_core.proofs.lists.Tells.{after-nil, then-end, told_agrees}
 use Rattle.decode_core.specs.Turned.{TurnsLead}
 use Rattle.decode_core.specs.Decided.{Decided}
 
+-- what a fresh state will add of bytes is what reading a value of them tells
 start_told : (r : List TypeInfo) (depth t : ℕ) (b : List ℕ) →
     remain r (start depth t) b ≡ told_at r (suc depth) t b
 unfolding rest_told
@@ -36,28 +37,34 @@ pub whole_told : (r : List TypeInfo) (depth t : ℕ) (s : State) (own rest : Lis
 whole_told r depth t s own rest h = sym (start_told r depth t (own ++ rest))
     ∙ sym (after-nil (remain r (start depth t) (own ++ rest))) ∙ h.tells rest
 
+-- an ending has one fault
 pair_is : (x y : Fault) (end : Ending) → end ≡ Err x → end ≡ Err y → x ≡ y
 pair_is x y end h k = let both = sym h ∙ k in cc
 
+-- an ending has one fault, wherever the node that is refused begins
 err_is : (x y : Refusal × List ℕ) (n m : List ℕ) (end : Ending) → end ≡ Err (x, n) →
     end ≡ Err (y, m) → x ≡ y
 err_is x y n m end h k = ap (λ (p : Fault). p.0) (pair_is (x, n) (y, m) end h k)
 
+-- where reading node by node ends in a fault, reading the value whole ends in the same
 fault_of : (read : Read Refusal Tree) (y : Told) (xs : List Entry) (e : Refusal × List ℕ)
     (met : List ℕ) → Agrees read y → y ≡ told xs (Err (e, met)) → read ≡ Err e
 fault_of (Ok x) y xs e met h is = let both = sym h.1 ∙ ap ending is in absurd cc
 fault_of (Err x) y xs e met h is =
     ap (λ (z : Refusal × List ℕ). Err z) (err_is x e h.0 met (ending y) h.1 (ap ending is))
 
+-- the same for a value of a type with its room
 pub fault_value : (r : List TypeInfo) (room t : ℕ) (b : List ℕ) (xs : List Entry) (e : Refusal)
     (left met : List ℕ) → told_at r room t b ≡ told xs (Err ((e, left), met)) →
     value_at r room t b ≡ Err (e, left)
 fault_value r room t b xs e left met is =
     fault_of (value_at r room t b) (told_at r room t b) xs (e, left) met (told_agrees r room t b) is
 
+-- an ending that is no fault leaves one list of bytes
 ok_is : (x y : List ℕ) (end : Ending) → end ≡ Ok x → end ≡ Ok y → x ≡ y
 ok_is x y end h k = let both = sym h ∙ k in cc
 
+-- where reading node by node ends well, the value is read of which these are the nodes
 pub value_of : (read : Read Refusal Tree) (y : Told) (xs : List Entry) (rest : List ℕ) →
     Agrees read y → y ≡ told xs (Ok rest) → (v : Tree) × (read ≡ Ok (v, rest))
     × (shown xs ≡ preorder v)
@@ -74,6 +81,7 @@ pub record Here (j : Job) (input : List ℕ) (s : State) (rest : List ℕ) : Typ
   pub led : TurnsLead j.registry (start j.depth j.ty) s own
   pub is : take j.bytes input ≡ own ++ rest
 
+-- where bytes led to a state that wants nothing, the outcome is the value of its nodes
 pub done_here : (j : Job) (input : List ℕ) (s : State) (rest : List ℕ) (m : ℕ) →
     Here j input s rest → remain j.registry s rest ≡ told [] (Ok rest) →
     m ≡ length (take j.bytes input) →
@@ -96,6 +104,7 @@ done_here j input s rest m h k len =
       omega (arith, len, ap length h.is, ap length st.1, length-append st.0 rest),
     )
 
+-- where a state fails on bytes, those that led to it and these fail so as a value
 fault_here : (j : Job) (input : List ℕ) (s : State) (rest new : List ℕ) (e : Refusal)
     (left : List ℕ) (h : Here j input s rest) →
     remain j.registry s new ≡ told [] (Err ((e, left), new)) →
@@ -104,6 +113,7 @@ fault_here j input s rest new e left h k =
     fault_value j.registry (suc j.depth) j.ty (h.own ++ new) (s.nodes ++ []) e left new
     (whole_told j.registry j.depth j.ty s h.own new h.led ∙ ap (after s.nodes) k)
 
+-- where bytes led to a state that lacks some, the input within its limit lacks them
 pub cut_here : (j : Job) (input : List ℕ) (s : State) (rest left : List ℕ) → Here j input s rest →
     remain j.registry s rest ≡ told [] (Err ((truncated, left), rest)) → (at : ℕ)
     × FailsAt j truncated at (take j.bytes input)
@@ -112,10 +122,12 @@ cut_here j input s rest left h k = (
   (left, rw h.is (fault_here j input s rest rest truncated left h k), refl),
 )
 
+-- a reading that fails has one fault
 reason_is : (x y : Refusal × List ℕ) (read : Read Refusal Tree) → read ≡ Err x → read ≡ Err y →
     x ≡ y
 reason_is x y read h k = let both = sym h ∙ k in cc
 
+-- where bytes led to a state that refuses the rest for good, the outcome is this refusal
 pub refused_here : (j : Job) (input : List ℕ) (s : State) (rest : List ℕ) (m n : ℕ) (e : Refusal)
     (left : List ℕ) → (h : Here j input s rest) → m ≡ length (take j.bytes input) → e ≢ truncated →
     Decided j.registry s rest e left n →
@@ -174,6 +186,7 @@ refused_here j input s rest m n e left h len ne d k =
             (value_at j.registry (suc j.depth) j.ty (take i front)) f.1 short))
       ]
 
+-- the first bytes of two lists are those of the first and what is still wanted of the other
 pub take_split : (n : ℕ) (b p : List ℕ) → take n (b ++ p) ≡ take n b ++ take (n - length b) p
 take_split n b p = elim (cases_lt n (length b)) [
   | inl lt ↦ let none : n - length b ≡ 0 = omega arith in take-append-le n b p (omega arith)
@@ -192,6 +205,7 @@ failing_stays j e at x y ne f = (
   omega (arith, f.2, length-append x y, length-append f.0 y),
 )
 
+-- the shortest front with a property stays so where bytes are appended
 shortest_stays : (P : List ℕ → Type 0) (x y : List ℕ) (n : ℕ) → IsShortest P x n →
     IsShortest P (x ++ y) n
 shortest_stays P x y n h = record {
@@ -200,6 +214,7 @@ shortest_stays P x y n h = record {
   least = λ k lt p. h.least k lt (subst P (take-append-le k x y (omega (arith, h.there, lt))) p);
 }
 
+-- an outcome that does not wait for more stays where a piece is appended
 pub outcome_stays : (j : Job) (b piece : List ℕ) (o : Outcome) (n : ℕ) → IsOutcome j b o n →
     o ≢ more → IsOutcome j (b ++ piece) o n
 outcome_stays j b piece (done v) n h ne = let back = take (j.bytes - length b) piece in (

@@ -36,12 +36,14 @@ pay_begun m1 m2 m k p w le small =
       small,
     )
 
+-- the elements of an array, or of a sequence that lists them, take bytes
 element_sized : (r : List TypeInfo) (t n u : ℕ) (c : List ℕ) →
     ((layout r t ≡ layout.array n u) × (c ≡ []))
     ⊎ ((layout r t ≡ layout.sequence u) × IsCompact target.U32 n c) → class_of r u ≡ class.Empty → ⊥
 element_sized r t n u c (inl a) = array_element r t n u a.0
 element_sized r t n u c (inr s) = known_at r t (layout.sequence u) s.0
 
+-- a begun tree has few nodes for its bytes, its room and the width of the registry
 begun_le : (r : List TypeInfo) (room t : ℕ) (g : Begun) (b : List ℕ) (next : Option (ℕ × ℕ)) →
     Grows r room t g b next → begun_nodes g ≤ (length b + 1) * per (widest r + 1) room
 unfolding Grows
@@ -116,6 +118,7 @@ fits r (suc room) t (in_arm q vs g) b next h = omega (arith, h.14, fits r room h
 fits r zero t (in_list n vs g) b next h = absurd h
 fits r (suc room) t (in_list n vs g) b next h = omega (arith, h.9, fits r room h.0 g h.3 next h.11)
 
+-- the texts and runs of bytes of a begun tree have no more bytes than it has itself
 begun_text_le : (r : List TypeInfo) (room t : ℕ) (g : Begun) (b : List ℕ) (next : Option (ℕ × ℕ)) →
     Grows r room t g b next → begun_text_bytes g ≤ length b
 unfolding Grows
@@ -150,6 +153,7 @@ begun_text_le r (suc room) t (in_list n vs g) b next h =
       length-append h.2 h.3,
     )
 
+-- begun trees have few nodes and bytes of texts for the bytes that they are of
 pub begun_is_bounded : BegunIsBounded
 begun_is_bounded r room t g b next h = (
   fits r room t g b next h,

@@ -21,17 +21,20 @@ use Rattle.decode_core.specs.Outcome.{done, more, Job, IsOutcome}
 use Rattle.decode_core.proofs.lists.Begins.{begun_is_missing}
 use Rattle.decode_core.proofs.lists.Held.{begun_is_bounded}
 
+-- an input holds one begun tree and one rest
 pub one_begun : OneBegun
 one_begun r room t b g h e f one two =
     let same = sym (begun_is_missing r room t b g e one).1
     ∙ (begun_is_missing r room t b h f two).1 in
     (ap (λ (p : Begun × List ℕ). p.0) same, ap (λ (p : Begun × List ℕ). p.1) same)
 
+-- the bytes behind a run's length are no more than all
 past-le : (k : RunKind) (e : List ℕ) (read : Read Reason ℕ) → Takes (IsRunLength k) e read →
     past_length read ≤ length e
 past-le k e (Ok n) h = omega (arith, ap length h.1, length-append h.0 n.1)
 past-le k e (Err x) h = omega arith
 
+-- what an open run has of these bytes is no more than all
 open-le : (f : Layout) (e : List ℕ) → open_run f e ≤ length e
 open-le (layout.plain (layout.run k)) e = past-le k e (run_length_at k e) (length_takes k e)
 open-le layout.unknown e = omega arith
@@ -55,6 +58,7 @@ spread : (n depth w : ℕ) → n * (suc depth * (w + 1)) ≡ n * (depth + 1) * (
 spread n depth w = let same : suc depth ≡ depth + 1 = omega arith in
     ap (λ (k : ℕ). n * (k * (w + 1))) same ∙ sym (mul_assoc n (depth + 1) (w + 1))
 
+-- a value that is the outcome has few nodes and bytes of texts for the bytes taken
 value_le : (j : Job) (input : List ℕ) (n : ℕ) (v : Tree) → IsOutcome j input (done v) n →
     (nodes v ≤ value_bound n j.depth (widest j.registry)) × (text_bytes v ≤ n)
 value_le j input n v h =
@@ -64,6 +68,7 @@ value_le j input n v h =
       omega (arith, h.5, b.1),
     )
 
+-- a begun tree that is held while more is wanted is small, with what is there of an open run
 begun_le : (j : Job) (input : List ℕ) (n : ℕ) → IsOutcome j input more n →
     (g : Begun) (e : List ℕ) (h : Holds j.registry (suc j.depth) j.ty input g e) →
     (begun_nodes g ≤ node_bound n j.depth (widest j.registry))
@@ -77,5 +82,6 @@ begun_le j input n o g e h =
       omega (arith, b.2, len, o.2, open-le (layout j.registry h.2) e),
     )
 
+-- what is held of an input, whole or begun, is little for the bytes taken
 pub held_is_bounded : HeldIsBounded
 held_is_bounded j input n = (value_le j input n, begun_le j input n)

@@ -16,41 +16,50 @@ use Rattle.decode_core.specs.Told.{Own, leaf_own, arm_own, arms_own, length_own,
 abbrev own_failed : Refusal × List ℕ → Own
 own_failed e = Err e
 
+-- two failures of a node's own bytes that are equal have one fault
 own_failed_is : (x y : Refusal × List ℕ) → own_failed x ≡ own_failed y → x ≡ y
 own_failed_is x y e = cc
 
+-- two failures of a node's own bytes that are equal have one reason
 reason_is : (x y : Refusal × List ℕ) → own_failed x ≡ own_failed y → x.0 ≡ y.0
 reason_is x y e = ap (λ (p : Refusal × List ℕ). p.0) (own_failed_is x y e)
 
+-- where a leaf's own bytes fail, the leaf's reading fails so
 leaf_fails : (read : Read Refusal Tree) (e : Refusal × List ℕ) → leaf_own read ≡ own_failed e →
     read ≡ Err e
 leaf_fails (Ok x) e h = absurd cc
 leaf_fails (Err x) e h = ap (λ (z : Refusal × List ℕ). Err z) (own_failed_is x e h)
 
+-- where a part's reason is, for the value, that bytes are missing, it is so for the part
 inner_is : (x : Reason) → basic x ≡ truncated → x ≡ Truncated
 inner_is x h = cc
 
+-- the same of a fault, with the bytes that are left
 basic_is : (x : Reason) (l left : List ℕ) → own_failed (basic x, l) ≡ own_failed (truncated, left) →
     (x ≡ Truncated) × (l ≡ left)
 basic_is x l left h = let both = own_failed_is (basic x, l) (truncated, left) h in
     (inner_is x (ap (λ (p : Refusal × List ℕ). p.0) both), ap (λ (p : Refusal × List ℕ). p.1) both)
 
+-- where a sequence's own bytes are cut, its length is
 length_fails : (t : ℕ) (read : Read Reason ℕ) (left : List ℕ) →
     length_own t read ≡ own_failed (truncated, left) → read ≡ Err (Truncated, left)
 length_fails t (Ok n) left h = absurd cc
 length_fails t (Err (x, l)) left h = let both = basic_is x l left h in rw (both.0, both.1) refl
 
+-- behind an index no own byte of an arm is missing
 arm_fails : (at b : List ℕ) (found : Option (ℕ × Arm)) (left : List ℕ) →
     arm_own at found b ≡ own_failed (truncated, left) → ⊥
 arm_fails at b None left h = let no = reason_is (no_such_variant, at) (truncated, left) h in
     absurd cc
 arm_fails at b (Some a) left h = absurd cc
 
+-- a variant's own bytes are cut only where there is no byte
 arms_fail : (arms : List Arm) (b left : List ℕ) → arms_own arms b ≡ own_failed (truncated, left) →
     b ≡ []
 arms_fail arms [] left h = refl
 arms_fail arms (i ∷ b) left h = absurd (arm_fails (i ∷ b) b (arm_of arms i) left h)
 
+-- where a node's own bytes are cut, they are short by the layout of its type
 pub own_short : (f : Layout) (b left : List ℕ) → own_at f b ≡ own_failed (truncated, left) →
     OwnIsShort f b
 unfolding own_at

@@ -15,6 +15,7 @@ use Rattle.grammar_core.specs.Begun.{IsBegunPreorder}
 use Rattle.decode_core.specs.Begins.{Begins}
 use Rattle.decode_core.proofs.lists.Held.{begun_is_bounded}
 
+-- the nodes of a begun tree in preorder are as many as it has
 count_begun : (g : Begun) (ns : List Head) → IsBegunPreorder g ns → length ns ≡ begun_nodes g
 count_begun nothing ns h = ap length h
 count_begun (whole v) ns h = ap length h ∙ length-preorder v
@@ -43,10 +44,12 @@ count_begun (in_list n vs g) ns h =
       count_begun g h.0 h.2,
     )
 
+-- the bound on nodes is the same whichever way its factors are grouped
 same_bound : (n depth width : ℕ) →
     (n + 1) * (suc depth * (width + 1)) ≡ (n + 1) * (depth + 1) * (width + 1)
 same_bound n depth width = grind (arith)
 
+-- before a fault no more nodes are added than the bound for the bytes of the begun tree
 pub begins_small : (r : List TypeInfo) (depth t : ℕ) (b : List ℕ) (xs : List Entry) (e : Fault) →
     told_at r (suc depth) t b ≡ told xs (Err e) → (h : Begins r (suc depth) t b xs e) →
     length xs ≤ node_bound (length h.own) depth (widest r)
@@ -59,6 +62,7 @@ begins_small r depth t b xs e is h =
       same_bound (length h.own) depth (widest r),
     )
 
+-- for more bytes the bound on nodes is no smaller
 pub more_bytes : (n m depth width : ℕ) → n ≤ m → node_bound n depth width ≤ node_bound m depth width
 more_bytes n m depth width h =
     mul-le-mul_right (width + 1) (mul-le-mul_right (depth + 1) (omega (arith, h)))

@@ -10,6 +10,7 @@ use Rattle.grammar_core.proofs.Proved.{stable}
 use Rattle.decode_core.specs.Outcome.{done, refused, more, too_long, Job, IsShortest, FailsAt}
 use Rattle.decode_core.specs.Outcome.{OutcomeIsKept}
 
+-- the first bytes of a longer input are those of the shorter one, and perhaps more
 take_more : (n : ℕ) (input later : List ℕ) → (m : List ℕ)
     × (take n (input ++ later) ≡ take n input ++ m)
 take_more n input later = elim (cases_lt n (length input)) [
@@ -24,6 +25,7 @@ take_more n input later = elim (cases_lt n (length input)) [
       )
 ]
 
+-- a refusal for good stays, with its place, where bytes are appended
 fails_more : (j : Job) (reason : Refusal) (at : ℕ) (input m : List ℕ) → reason ≢ truncated →
     FailsAt j reason at input → FailsAt j reason at (input ++ m)
 fails_more j reason at input m ne f = (
@@ -32,6 +34,7 @@ fails_more j reason at input m ne f = (
   omega (arith, f.2, length-append input m, length-append f.0 m),
 )
 
+-- the shortest front with a property stays so where bytes are appended
 shortest_more : (P : List ℕ → Type 0) (input m : List ℕ) (n : ℕ) → IsShortest P input n →
     IsShortest P (input ++ m) n
 shortest_more P input m n s = record {
@@ -40,6 +43,7 @@ shortest_more P input m n s = record {
   least = λ k lt f. s.least k lt (rw (take-append-le k input m (omega (arith, s.there))) at f);
 }
 
+-- once an outcome is decided, further bytes do not change it
 pub outcome_is_kept : OutcomeIsKept
 outcome_is_kept j input later (done v) n ne h =
     let t = take_more j.bytes input later in

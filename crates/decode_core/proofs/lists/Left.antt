@@ -30,14 +30,17 @@ abbrev pub Within : {E X : Type 0} → List ℕ → Read E X → Type 0
 Within b (Ok x) = Unit {0}
 Within b (Err e) = length e.1 ≤ length b
 
+-- of two readings whose faults lie within the input, either one that is chosen is such
 cond_within : {E X : Type 0} (b : List ℕ) (t : Bool) (x y : Read E X) → Within b x → Within b y →
     Within b (cond t x y)
 cond_within b true x y h k = h
 cond_within b false x y h k = k
 
+-- a fault in reading a number of bytes lies within the input
 bytes_within : (k : ℕ) (b : List ℕ) → Within b (bytes_at k b)
 bytes_within k b = cond_within b (nat_lt (length b) k) _ _ (omega arith) tt
 
+-- judging the form of a compact keeps its fault within the input
 form_within : (m : Target) (b : List ℕ) (read : Read Reason (List ℕ)) → Within b read →
     Within b (form_from m b read)
 form_within m b (Err e) h = h
@@ -45,12 +48,14 @@ form_within m b (Ok x) h =
     cond_within b (not (bytes_eq (compact (form_number x.0)) x.0)) _ _ (omega arith)
     (cond_within b (nat_lt (form_number x.0) (256 ^ target_bytes m)) _ _ tt (omega arith))
 
+-- the fault of a compact integer lies within the input
 integer_within : (m : Target) (b : List ℕ) → Within b (integer_at m b)
 integer_within m [] = omega arith
 integer_within m (i ∷ b) =
     cond_within (i ∷ b) (is_too_long m i) _ _ (omega arith)
     (form_within m (i ∷ b) (bytes_at (form_len i) (i ∷ b)) (bytes_within (form_len i) (i ∷ b)))
 
+-- the fault of a compact for any target lies within the input
 compact_within : (m : Target) (b : List ℕ) → Within b (compact_at m b)
 unfolding compact_at
 compact_within target.Unit b = tt
@@ -60,11 +65,13 @@ compact_within target.U32 b = integer_within target.U32 b
 compact_within target.U64 b = integer_within target.U64 b
 compact_within target.U128 b = integer_within target.U128 b
 
+-- the fault of a run's length lies within the input
 run_length_within : (k : RunKind) (b : List ℕ) → Within b (run_length_at k b)
 run_length_within kind.Text b = compact_within target.U32 b
 run_length_within kind.Bytes b = compact_within target.U32 b
 run_length_within (kind.ByteArray n) b = tt
 
+-- the fault of a run's bytes lies within the input that they are a part of
 judged_within : (k : RunKind) (b from : List ℕ) (s : List ℕ × List ℕ) → length from ≤ length b →
     Within b (run_judged k from s)
 judged_within kind.Text b from s le =
@@ -72,11 +79,13 @@ judged_within kind.Text b from s le =
 judged_within kind.Bytes b from s le = tt
 judged_within (kind.ByteArray n) b from s le = tt
 
+-- the same where the bytes of the run are read first
 behind_within : (k : RunKind) (b from : List ℕ) (read : Read Reason (List ℕ)) →
     length from ≤ length b → Within from read → Within b (read >>= λ s. run_judged k from s)
 behind_within k b from (Err e) le h = omega (arith, le, h)
 behind_within k b from (Ok s) le h = judged_within k b from s le
 
+-- the fault of a run lies within the input where that of its length does
 run_from : (k : RunKind) (b : List ℕ) (read : Read Reason ℕ) → Takes (IsRunLength k) b read →
     Within b read → Within b
     (read >>= λ n. bytes_at n.0 n.1 >>= λ s. run_judged k n.1 s)
@@ -85,43 +94,52 @@ run_from k b (Ok n) h within =
     behind_within k b n.1 (bytes_at n.0 n.1) (omega (arith, ap length h.1, length-append h.0 n.1))
     (bytes_within n.0 n.1)
 
+-- the fault of a run lies within the input
 run_within : (k : RunKind) (b : List ℕ) → Within b (run_at k b)
 unfolding run_at
 run_within k b = run_from k b (run_length_at k b) (length_takes k b) (run_length_within k b)
 
+-- the fault of a leaf's own bytes lies within the input where that of the leaf does
 leaf_within : (b : List ℕ) (read : Read Refusal Tree) → Within b read → Within b (leaf_own read)
 leaf_within b (Ok x) h = tt
 leaf_within b (Err e) h = h
 
+-- making a leaf of what was read keeps its fault within the input
 value_within : {X : Type 0} (make : X → Leaf) (b : List ℕ) (read : Read Reason X) → Within b read →
     Within b (as_leaf make read)
 value_within make b (Ok x) h = tt
 value_within make b (Err e) h = h
 
+-- the fault of a boolean lies within the input
 bool_within : (b : List ℕ) → Within b (bool_at b)
 bool_within [] = omega arith
 bool_within (zero ∷ b) = tt
 bool_within (suc zero ∷ b) = tt
 bool_within (suc (suc x) ∷ b) = omega arith
 
+-- the fault of a character lies within the input where that of its four bytes does
 char_within : (b : List ℕ) (read : Read Reason (List ℕ)) → Within b read →
     Within b (char_from b read)
 char_within b (Err e) h = h
 char_within b (Ok x) h = cond_within b (is_scalar (number x.0)) _ _ tt (omega arith)
 
+-- the fault of an unknown index lies at the index
 arm_within : (at b : List ℕ) (found : Option (ℕ × Arm)) → Within at (arm_own at found b)
 arm_within at b None = omega arith
 arm_within at b (Some a) = tt
 
+-- the fault of a variant's own bytes lies within the input
 arms_within : (arms : List Arm) (b : List ℕ) → Within b (arms_own arms b)
 arms_within arms [] = omega arith
 arms_within arms (i ∷ b) = arm_within (i ∷ b) b (arm_of arms i)
 
+-- the fault of a sequence's own bytes lies within the input where that of its length does
 length_within : (t : ℕ) (b : List ℕ) (read : Read Reason ℕ) → Within b read →
     Within b (length_own t read)
 length_within t b (Ok n) h = tt
 length_within t b (Err e) h = h
 
+-- the fault of any node's own bytes lies within the input
 pub own_within : (f : Layout) (b : List ℕ) → Within b (own_at f b)
 unfolding own_at layout_at
 own_within (layout.fields ts) b = tt

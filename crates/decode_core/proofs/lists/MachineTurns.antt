@@ -12,6 +12,7 @@ use Rattle.decode_core.specs.Turned.{TurnLeads}
 use Rattle.decode_core.proofs.lists.Tells.{after-after, after-nil, then-after, then-then}
 use Rattle.decode_core.proofs.lists.Owns.{Spells}
 
+-- parts of these types are read as the first of them and then the others
 pub each_first : (r : List TypeInfo) (room t : ℕ) (ts : List ℕ) (ps : List Part) (b : List ℕ) →
     rest_told r room (each (t ∷ ts) ∷ ps) b ≡ then (told_at r room t b)
     (rest_told r room (each ts ∷ ps))
@@ -19,6 +20,7 @@ unfolding rest_told
 each_first r room t ts ps b =
     then-then (told_at r room t b) (all_told (told_at r room) ts) (rest_told r (suc room) ps)
 
+-- parts of one type are read as one of them and then one fewer
 pub times_first : (r : List TypeInfo) (room n t : ℕ) (ps : List Part) (b : List ℕ) →
     rest_told r room (times (suc n) t ∷ ps) b ≡ then (told_at r room t b)
     (rest_told r room (times n t ∷ ps))
@@ -26,6 +28,7 @@ unfolding rest_told
 times_first r room n t ps b =
     then-then (told_at r room t b) (times_told (told_at r room) n t) (rest_told r (suc room) ps)
 
+-- a part of which nothing is left is closed in a turn that takes no bytes
 pub closed : (r : List TypeInfo) (nodes : List Entry) (room : ℕ) (p : Part) (ps : List Part) →
     ((b : List ℕ) → part_told (told_at r room) p b ≡ told [] (Ok b)) →
     TurnLeads r (record { nodes = nodes; room = room; pending = p ∷ ps })
@@ -39,6 +42,7 @@ abbrev pub First : List TypeInfo → ℕ → ℕ → List Part → List Part →
 First r room t ps qs = (b : List ℕ) →
     rest_told r room ps b ≡ then (told_at r room t b) (rest_told r room qs)
 
+-- a node without children is added in a turn that takes its own bytes
 pub own_leaf : (r : List TypeInfo) (nodes : List Entry) (room t : ℕ) (ps qs : List Part) (h : Head)
     (c : List ℕ) → First r (suc room) t ps qs → length qs ≡ length ps → Spells r t (h, None) c →
     TurnLeads r (record { nodes = nodes; room = suc room; pending = ps })
@@ -51,6 +55,7 @@ own_leaf r nodes room t ps qs h c f len is =
       paid = omega (arith, len, length-append nodes (entry t h ∷ []));
     }
 
+-- a node with children is added and its parts are opened in a turn that takes its own bytes
 pub own_opens : (r : List TypeInfo) (nodes : List Entry) (room t : ℕ) (ps qs : List Part) (h : Head)
     (p : Part) (c : List ℕ) → First r (suc room) t ps qs → length qs ≡ length ps →
     Spells r t (h, Some p) c →
@@ -65,10 +70,12 @@ own_opens r nodes room t ps qs h p c f len is =
       paid = omega (arith, len, length-append nodes (entry t h ∷ []));
     }
 
+-- what is added behind nodes counts as many more
 pub count_after : (xs : List Entry) (y : Told) →
     length (added (after xs y)) ≡ length xs + length (added y)
 count_after xs (told ys end) = length-append xs ys
 
+-- each turn leaves less to do
 pub nearer : (r : List TypeInfo) (s s' : State) (c y : List ℕ) → TurnLeads r s s' c →
     to_go r s' y < to_go r s (c ++ y)
 nearer r s s' c y h = omega (

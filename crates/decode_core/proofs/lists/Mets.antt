@@ -17,6 +17,7 @@ use Rattle.scale_core.specs.Read.{Read}
 use Rattle.decode_core.specs.Told.{shallow}
 use Rattle.decode_core.specs.Met.{met_layout}
 
+-- asking first whether a type is finite, or reading by the layout that is met, is the same
 read_met : (child : ℕ → List ℕ → Read Refusal Tree) (t : Bool) (f : Layout) (b : List ℕ) →
     cond t (layout_at child f b) (Err (no_finite_value, b))
     ≡ layout_at child (cond t f layout.unknown) b
@@ -24,11 +25,13 @@ unfolding layout_at
 read_met child true f b = refl
 read_met child false f b = refl
 
+-- a value is read by the layout that its type is met with
 pub value_met : (r : List TypeInfo) (room t : ℕ) (b : List ℕ) →
     value_at r (suc room) t b ≡ layout_at (value_at r room) (met_layout r t) b
 unfolding value_at met_layout
 value_met r room t b = read_met (value_at r room) (is_finite r t) (layout r t) b
 
+-- with room for one level alone a value is read by that layout, and no part fits
 pub shallow_met : (r : List TypeInfo) (t : ℕ) (b : List ℕ) →
     value_at r 1 t b ≡ layout_at shallow (met_layout r t) b
 unfolding value_at met_layout
@@ -39,6 +42,7 @@ pub met_takes : (r : List TypeInfo) (t : ℕ) (f : Layout) → met_layout r t �
     Takes (λ v c. Val r t v c × (levels v ≤ 1)) b (layout_at shallow f b)
 met_takes r t f e b = rw (← e, ← shallow_met r t b) (value_takes r 1 t b)
 
+-- a layout that is met, and is not the unknown one, is that of a finite type
 met_of : (t : Bool) (f g : Layout) → g ≢ layout.unknown → cond t f layout.unknown ≡ g → (t ≡ true)
     × (f ≡ g)
 met_of true f g ne e = (refl, e)

@@ -42,11 +42,13 @@ abbrev Waits : {X : Type 0} → Type 0 → Read Refusal X → Type 0
 Waits P (Ok x) = Unit {0}
 Waits P (Err e) = e.0 ≡ truncated → P
 
+-- of two readings that hold something where they are cut, either one that is chosen does
 cond_waits : {X : Type 0} (P : Type 0) (t : Bool) (x y : Read Refusal X) → (t ≡ true → Waits P x) →
     Waits P y → Waits P (cond t x y)
 cond_waits P true x y f g = f refl
 cond_waits P false x y f g = g
 
+-- a node over parts that hold something where they are cut does so too
 with_children_waits : (P Q : Type 0) (kind : Branch) (read : Read Refusal Trees) → Waits P read →
     (P → Q) → Waits Q (with_children kind read)
 with_children_waits P Q kind (Ok x) h f = tt
@@ -58,6 +60,7 @@ ChildWaits r room = (t : ℕ) (b : List ℕ) → Waits (Holding r room t b) (val
 abbrev One : List TypeInfo → ℕ → ℕ → Tree → List ℕ → Type 0
 One r room t v c = Val r t v c × (levels v ≤ room)
 
+-- where parts of these types are cut, values stand before a part of which a begun tree is held
 all_waits : (r : List TypeInfo) (room : ℕ) → ChildWaits r room → (ts : List ℕ) (b : List ℕ) →
     Waits (AllHolding r room ts b) (all_at (value_at r room) ts b)
 unfolding Val
@@ -91,6 +94,7 @@ all_waits r room h (t ∷ ts) b =
     first (Err e) w k m = λ cut. ([], t, ts, none, [], b, refl, refl, refl, w cut, omega arith)
     first (Ok x) w k m = more x k (all_at (value_at r room) ts x.1) (m x.1)
 
+-- the same for elements of one type, of which fewer came than there are to be
 times_waits : (r : List TypeInfo) (room : ℕ) → ChildWaits r room → (n t : ℕ) (b : List ℕ) →
     Waits (TimesHolding r room n t b) (times_at (value_at r room) n t b)
 unfolding Val
@@ -128,6 +132,7 @@ bare : (r : List TypeInfo) (room t : ℕ) (b : List ℕ) → is_finite r t ≡ t
 unfolding Grows
 bare r room t b fin h = (nothing, [], b, suc room, t, tt, refl, (refl, refl), (omega arith, fin, h))
 
+-- fields of which a begun one is held are held as a begun node of fields
 in_fields_of : (r : List TypeInfo) (room t : ℕ) (ts : List ℕ) (b : List ℕ) → is_finite r t ≡ true →
     layout r t ≡ layout.fields ts → AllHolding r room ts b → Holding r (suc room) t b
 unfolding Grows
@@ -143,6 +148,7 @@ in_fields_of r room t ts b fin f s = let h = s.9 in (
   h.8,
 )
 
+-- the fields of an arm are held as a begun node of the arm, behind its index
 in_arm_of : (r : List TypeInfo) (room t : ℕ) (arms : List Arm) (i q : ℕ) (a : Arm) (b : List ℕ) →
     is_finite r t ≡ true → layout r t ≡ layout.arms arms → arm_of arms i ≡ Some (q, a) →
     AllHolding r room (field_types a.fields) b → Holding r (suc room) t (i ∷ b)
@@ -159,6 +165,7 @@ in_arm_of r room t arms i q a b fin f e s = let h = s.9 in (
   h.8,
 )
 
+-- elements of which a begun one is held are held as a begun list, behind its length
 in_list_of : (r : List TypeInfo) (room t n u : ℕ) (c b : List ℕ) → is_finite r t ≡ true →
     ((layout r t ≡ layout.array n u) × (c ≡ []))
     ⊎ ((layout r t ≡ layout.sequence u) × IsCompact target.U32 n c) → TimesHolding r room n u b →
@@ -176,6 +183,7 @@ in_list_of r room t n u c b fin f s = let h = s.6 in (
   h.8,
 )
 
+-- where an arm is cut behind its index, its begun node is held
 arm_waits : (r : List TypeInfo) (room t : ℕ) → ChildWaits r room → is_finite r t ≡ true →
     (arms : List Arm) → layout r t ≡ layout.arms arms →
     (i : ℕ) (b : List ℕ) (found : Option (ℕ × Arm)) → arm_of arms i ≡ found →
@@ -186,12 +194,14 @@ arm_waits r room t h fin arms f i b (Some a) e =
     (Holding r (suc room) t (i ∷ b)) (arm a.0) _ (all_waits r room h (field_types a.1.fields) b)
     (in_arm_of r room t arms i a.0 a.1 b fin f e)
 
+-- where a variant is cut, a begun tree is held, also where the index is missing
 arms_waits : (r : List TypeInfo) (room t : ℕ) → ChildWaits r room → is_finite r t ≡ true →
     (arms : List Arm) → layout r t ≡ layout.arms arms → (b : List ℕ) →
     Waits (Holding r (suc room) t b) (arms_at (value_at r room) arms b)
 arms_waits r room t h fin arms f [] = λ cut. bare r room t [] fin (rw f refl)
 arms_waits r room t h fin arms f (i ∷ b) = arm_waits r room t h fin arms f i b (arm_of arms i) refl
 
+-- where a sequence is cut, its begun list is held, or what there is of its length
 elements_waits : (r : List TypeInfo) (room t u : ℕ) → ChildWaits r room → is_finite r t ≡ true →
     layout r t ≡ layout.sequence u → (b : List ℕ) (read : Read Reason ℕ) →
     compact_at target.U32 b ≡ read → Takes (IsCompact target.U32) b read →
@@ -207,6 +217,7 @@ elements_waits r room t u h fin f b (Ok n) is k =
 abbrev shallow : ℕ → List ℕ → Read Refusal Tree
 shallow t b = Err (too_deep, b)
 
+-- where a leaf is cut, nothing is built, and what there is of its bytes is held
 leaf_waits : (r : List TypeInfo) (room t : ℕ) (b : List ℕ) (read : Read Refusal Tree) →
     is_finite r t ≡ true → ((left : List ℕ) → read ≡ Err (truncated, left) →
     OwnIsShort (layout r t) b) → Waits (Holding r (suc room) t b) read
@@ -214,6 +225,7 @@ leaf_waits r room t b (Ok x) fin h = tt
 leaf_waits r room t b (Err e) fin h =
     λ cut. bare r room t b fin (h e.1 (ap (λ (x : Refusal). Err (x, e.1)) cut))
 
+-- by every layout of a finite type a begun tree is held where the value is cut
 layout_waits : (r : List TypeInfo) (room t : ℕ) → ChildWaits r room → is_finite r t ≡ true →
     (f : Layout) → layout r t ≡ f → (b : List ℕ) →
     Waits (Holding r (suc room) t b) (layout_at (value_at r room) f b)
@@ -233,6 +245,7 @@ layout_waits r room t h fin (layout.array n u) e b =
     with_children_waits (TimesHolding r room n u b) (Holding r (suc room) t b) list _
     (times_waits r room h n u b) (in_list_of r room t n u [] b fin (inl (e, refl)))
 
+-- where a value is cut, a begun tree is held, at every depth
 value_waits : (r : List TypeInfo) (room t : ℕ) (b : List ℕ) →
     Waits (Holding r room t b) (value_at r room t b)
 unfolding value_at
@@ -242,10 +255,12 @@ value_waits r (suc room) t b =
     (λ fin. layout_waits r room t (λ u c. value_waits r room u c) fin (layout r t) refl b)
     (λ cut. absurd cc)
 
+-- the same for a reading that is known to be cut
 holding_of : (r : List TypeInfo) (room t : ℕ) (b left : List ℕ) (read : Read Refusal Tree) →
     Waits (Holding r room t b) read → read ≡ Err (truncated, left) → Holding r room t b
 holding_of r room t b left read w e = (rw e at w) refl
 
+-- where bytes are missing, a begun tree and the bytes behind its own are held
 pub missing_is_begun : MissingIsBegun
 missing_is_begun r room t b left e = let h =
     holding_of r room t b left (value_at r room t b) (value_waits r room t b) e in

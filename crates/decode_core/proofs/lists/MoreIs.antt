@@ -8,6 +8,7 @@ use Rattle.decode_core.specs.Outcome.{more, Job, IsOutcome}
 use Rattle.decode_core.proofs.lists.Missing.{missing_is_begun}
 use Rattle.decode_core.proofs.lists.Begins.{begun_is_missing}
 
+-- where more is wanted, the begun tree that is computed is held, within the byte limit
 forth : (j : Job) (input : List ℕ) → IsOutcome j input more (length input) →
     (length input ≤ j.bytes)
     × Holds j.registry (suc j.depth) j.ty input (held j.registry (suc j.depth) j.ty input).0
@@ -20,11 +21,13 @@ forth j input h =
           b.3,
     )
 
+-- where a begun tree is held within the byte limit, more is wanted
 back : (j : Job) (input : List ℕ) (g : Begun) (e : List ℕ) → length input ≤ j.bytes →
     Holds j.registry (suc j.depth) j.ty input g e → IsOutcome j input more (length input)
 back j input g e le h =
     let f = (begun_is_missing j.registry (suc j.depth) j.ty input g e h).0 in
     ((place input f.0, (f.0, f.1, refl)), le, refl)
 
+-- more is wanted exactly where a begun tree is held within the byte limit
 pub more_holds : MoreHolds
 more_holds j input = (forth j input, back j input)

@@ -12,9 +12,11 @@ use Rattle.grammar_core.proofs.Proved.{not_both, prefix_free}
 use Rattle.decode_core.specs.Outcome.{done, refused, more, too_long, Job, IsShortest, FailsAt}
 use Rattle.decode_core.specs.Outcome.{EncodedIsDone, OneOutcome}
 
+-- what is encoded within the limits is decoded, and all of it is taken
 pub encoded_is_done : EncodedIsDone
 encoded_is_done j v b h l s = (b, [], take_all j.bytes b s ∙ sym (append-nil b), h, l, refl)
 
+-- an input has one shortest front with a property
 shortest_is_one : (P : List ℕ → Type 0) (input : List ℕ) (n m : ℕ) → IsShortest P input n →
     IsShortest P input m → n ≡ m
 shortest_is_one P input n m a b = elim (cases_lt n m) [
@@ -32,6 +34,7 @@ done_fails j input front rest v reason at e h l f =
 abbrev pub failed : Refusal × List ℕ → Result (Tree × List ℕ) (Refusal × List ℕ)
 failed e = Err e
 
+-- two failed readings that are equal have one fault
 pub failed_is : (x y : Refusal × List ℕ) → failed x ≡ failed y → x ≡ y
 failed_is x y e = cc
 
@@ -45,6 +48,7 @@ one_fault j input one two n m f g =
           ∙ ap (λ (p : Refusal × List ℕ). place input p.1) same ∙ g.2,
     )
 
+-- two values that stand on fronts of one input are one, and of the same length
 done_once : (r : List TypeInfo) (t n m : ℕ) (v w : Tree) (input a rest b left : List ℕ) →
     input ≡ a ++ rest → input ≡ b ++ left → Val r t v a → Val r t w b → n ≡ length a →
     m ≡ length b → (done v ≡ done w) × (n ≡ m)
@@ -52,6 +56,7 @@ done_once r t n m v w input a rest b left e f h k len1 len2 =
     let same = prefix_free r t v w a b rest left h k (sym e ∙ f) in
     (ap done same.0, len1 ∙ ap length same.1 ∙ sym len2)
 
+-- an input that is refused has one reason, one place and one count of bytes taken
 refused_once : (j : Job) (input : List ℕ) (one two : Refusal) (at place n m : ℕ) →
     FailsAt j one at input → FailsAt j two place input → IsShortest (FailsAt j one at) input n →
     IsShortest (FailsAt j two place) input m → (refused one at ≡ refused two place) × (n ≡ m)
@@ -60,6 +65,7 @@ refused_once j input one two at place n m f g h k =
     let moved : IsShortest (FailsAt j one at) input m = rw (same.0, same.1) k in
     (rw (same.0, same.1) refl, shortest_is_one (FailsAt j one at) input n m h moved)
 
+-- an input has one outcome alone
 pub one_outcome : OneOutcome
 one_outcome j input (done v) (done w) n m h k =
     done_once j.registry j.ty n m v w (take j.bytes input) h.0 h.1 k.0 k.1 h.2 k.2 h.3 k.3 h.5 k.5

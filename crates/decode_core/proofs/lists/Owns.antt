@@ -18,11 +18,13 @@ use Rattle.grammar_core.specs.Parts.{Part}
 use Rattle.grammar_core.specs.Preorder.{Head}
 use Rattle.decode_core.specs.Told.{leaf_own, arm_own, arms_own, length_own, shallow, own_at}
 
+-- a leaf's own bytes are read as before where more follow, if the leaf is
 leaf_extends : (more : List ℕ) (read read' : Read Refusal Tree) →
     Extends truncated more read read' → Extends truncated more (leaf_own read) (leaf_own read')
 leaf_extends more (Ok x) s h = rw h refl
 leaf_extends more (Err e) s h = λ ne. rw (h ne) refl
 
+-- a leaf of any layout is read as before where more bytes follow, unless it was cut
 shallow_extends : (f : Layout) (b more : List ℕ) →
     Extends truncated more (leaf_own (layout_at shallow f b))
     (leaf_own (layout_at shallow f (b ++ more)))
@@ -30,16 +32,19 @@ shallow_extends f b more =
     leaf_extends more (layout_at shallow f b) (layout_at shallow f (b ++ more))
     (layout_extends more shallow (λ u c ne. refl) f b)
 
+-- what an index says stays where more bytes follow
 arm_own_extends : (more at b : List ℕ) (found : Option (ℕ × Arm)) →
     Extends truncated more (arm_own at found b) (arm_own (at ++ more) found (b ++ more))
 arm_own_extends more at b None = λ ne. refl
 arm_own_extends more at b (Some a) = refl
 
+-- a variant's own bytes are read as before where more follow, unless the index was missing
 arms_own_extends : (arms : List Arm) (b more : List ℕ) →
     Extends truncated more (arms_own arms b) (arms_own arms (b ++ more))
 arms_own_extends arms [] more = λ ne. absurd (ne refl)
 arms_own_extends arms (i ∷ b) more = arm_own_extends more (i ∷ b) b (arm_of arms i)
 
+-- a sequence's own bytes are read as before where more follow, if its length is
 length_own_extends : (t : ℕ) (more : List ℕ) (read read' : Read Reason ℕ) →
     Extends reasons.Truncated more read read' →
     Extends truncated more (length_own t read) (length_own t read')

@@ -47,6 +47,7 @@ use Rattle.decode_core.proofs.lists.Deciding.{finish_decided, chain_decided, con
 
 -- ---- compacts
 
+-- a reason is either that bytes are missing or another one
 pub reason_tells : (e : Reason) → (e ≡ reasons.Truncated) ⊎ (e ≢ reasons.Truncated)
 reason_tells reasons.Truncated = inl refl
 reason_tells reasons.BadBool = inr (λ e. absurd cc)
@@ -55,11 +56,13 @@ reason_tells reasons.BadUtf8 = inr (λ e. absurd cc)
 reason_tells reasons.CompactNotShortest = inr (λ e. absurd cc)
 reason_tells reasons.CompactTooLarge = inr (λ e. absurd cc)
 
+-- a fact of what a reader takes may be weakened
 mapped : {E X : Type 0} (P Q : X → List ℕ → Type 0) (b : List ℕ) (r : Read E X) → Takes P b r →
     ((x : X) (c : List ℕ) → P x c → Q x c) → Takes Q b r
 mapped P Q b (Ok x) h f = (h.0, h.1, f x.0 h.0 h.2)
 mapped P Q b (Err e) h f = tt
 
+-- a compact is read, or refused for good, whatever follows it
 compact_steady : (m : Target) → IsSteady reasons.Truncated (compact_at m)
 compact_steady m = record {
   tells = reason_tells;
@@ -68,6 +71,7 @@ compact_steady m = record {
       (λ x c is more. compact_again m x c more is);
 }
 
+-- a compact has a byte at least
 form_len-pos : (first : ℕ) → 1 ≤ form_len first
 form_len-pos first = go (first % 4 == 0) (first % 4 == 1) (first % 4 == 2) where
   go : (a b c : Bool) → 1 ≤ cond a 1 (cond b 2 (cond c 4 (first / 4 + 5)))
@@ -76,31 +80,38 @@ form_len-pos first = go (first % 4 == 0) (first % 4 == 1) (first % 4 == 2) where
   go false false true = omega arith
   go false false false = omega arith
 
+-- where fewer bytes are there than are wanted, they are cut at their end
 short_bytes : (k : ℕ) (b : List ℕ) → length b < k → bytes_at k b ≡ Err (reasons.Truncated, [])
 short_bytes k b lt = rw (lt-ltb (length b) k lt) refl
 
+-- where just as many bytes are there as are wanted, all are read
 whole_bytes : (k : ℕ) (b : List ℕ) → length b ≡ k → bytes_at k b ≡ Ok (b, [])
 whole_bytes k b len = ap (bytes_at k) (sym (append-nil b)) ∙ bytes_again k b [] len
 
+-- as many bytes as are wanted are read of just these
 taken_bytes : (k : ℕ) (b : List ℕ) → k ≤ length b → bytes_at k (take k b) ≡ Ok (take k b, [])
 taken_bytes k b le = whole_bytes k (take k b) (length-take-le k b le)
 
+-- a compact that has fewer bytes than its first one says is cut
 short_form : (m : Target) (first : ℕ) (tail : List ℕ) → is_too_long m first ≡ false →
     length (first ∷ tail) < form_len first →
     integer_at m (first ∷ tail) ≡ Err (reasons.Truncated, [])
 short_form m first tail e lt = rw (e, short_bytes (form_len first) (first ∷ tail) lt) refl
 
+-- a compact that has as many bytes as its first one says is judged by them, and none is left
 whole_form : (m : Target) (first : ℕ) (tail : List ℕ) → is_too_long m first ≡ false →
     length (first ∷ tail) ≡ form_len first →
     integer_at m (first ∷ tail) ≡ checked_form m (first ∷ tail) (form_number (first ∷ tail))
     (first ∷ tail) []
 whole_form m first tail e len = rw (e, whole_bytes (form_len first) (first ∷ tail) len) refl
 
+-- some first bytes of a list, one at least, begin with its first byte
 take_cons : (k first : ℕ) (tail : List ℕ) → 1 ≤ k →
     take k (first ∷ tail) ≡ first ∷ take (k - 1) tail
 take_cons zero first tail h = absurd (omega arith)
 take_cons (suc k) first tail h = ap (λ (i : ℕ). first ∷ take i tail) (omega arith)
 
+-- a compact whose bytes are all there is decided by them and by no fewer
 form_decided : (m : Target) (first : ℕ) (tail : List ℕ) → is_too_long m first ≡ false →
     form_len first ≤ length (first ∷ tail) →
     Decided reasons.Truncated (integer_at m) (first ∷ tail) (form_len first)
@@ -146,6 +157,7 @@ form_decided m first tail e le =
             early;
       }
 
+-- a compact integer that is refused for good is decided by what is said to be taken
 integer_decided : (m : Target) (b : List ℕ) →
     Decided reasons.Truncated (integer_at m) b (compact_taken m b) (integer_at m b)
 integer_decided m [] = λ ne. absurd (ne refl)
@@ -166,6 +178,7 @@ integer_decided m (first ∷ tail) = go (is_too_long m first) refl where
         (form_decided m first tail e le)
   ]
 
+-- the same for a compact of any target
 compact_decided : (m : Target) (b : List ℕ) →
     Decided reasons.Truncated (compact_at m) b (compact_taken m b) (compact_at m b)
 unfolding compact_at
@@ -178,6 +191,7 @@ compact_decided target.U128 b = integer_decided target.U128 b
 
 -- ---- runs, bools, chars
 
+-- a run's length is read, or refused for good, whatever follows it
 run_length_steady : (k : RunKind) → IsSteady reasons.Truncated (run_length_at k)
 run_length_steady k = record {
   tells = reason_tells;
@@ -186,6 +200,7 @@ run_length_steady k = record {
       (λ n c is more. length_again k n c more is);
 }
 
+-- a run's length that is refused for good is decided by what is said to be taken
 run_length_decided : (k : RunKind) (b : List ℕ) →
     Decided reasons.Truncated (run_length_at k) b (run_length_taken k b) (run_length_at k b)
 run_length_decided kind.Text b = compact_decided target.U32 b
@@ -196,6 +211,7 @@ run_length_decided (kind.ByteArray n) b = tt
 abbrev pub body_at : RunKind → ℕ → List ℕ → Read Reason (List ℕ)
 body_at k n b = bytes_at n b >>= λ s. run_judged k b s
 
+-- a run whose bytes are all there is refused at its end, by all of them
 judged_decided : (k : RunKind) (n : ℕ) (b : List ℕ) → n ≤ length b →
     Decided reasons.Truncated (body_at k n) b n (run_judged k b (take n b, drop n b))
 judged_decided kind.Text n b le = go (is_utf8 (take n b)) refl where
@@ -215,6 +231,7 @@ judged_decided kind.Text n b le = go (is_utf8 (take n b)) refl where
 judged_decided kind.Bytes n b le = tt
 judged_decided (kind.ByteArray m) n b le = tt
 
+-- the same whether or not the run's bytes are all there
 body_decided : (k : RunKind) (n : ℕ) (b : List ℕ) →
     Decided reasons.Truncated (body_at k n) b n (body_at k n b)
 body_decided k n b = elim (cases_lt (length b) n) [
@@ -222,6 +239,7 @@ body_decided k n b = elim (cases_lt (length b) n) [
   | inr le ↦ rw (le-ltb (length b) n le) (judged_decided k n b le)
 ]
 
+-- a run that is refused for good, in its length or its bytes, is decided by what is taken
 run_decided : (k : RunKind) (b : List ℕ) →
     Decided reasons.Truncated (run_at k) b (run_taken k b) (run_at k b)
 unfolding run_at
@@ -229,10 +247,12 @@ run_decided k b = chain_decided reasons.Truncated (λ e. e) (run_at k) (run_leng
     (λ n. n.0) (λ b. bind_chain (body_at k) (run_length_at k b)) (run_length_steady k) b
     (run_length_taken k b) (run_length_decided k b) (λ n. body_decided k n.0 n.1)
 
+-- a fact of no bytes holds of each front with fewer bytes than one
 below_one : (b : List ℕ) (P : List ℕ → Type 0) → P [] → (j : ℕ) → j < 1 → P (take j b)
 below_one b P h zero lt = h
 below_one b P h (suc j) lt = absurd (omega arith)
 
+-- a boolean that is refused is decided by its one byte
 bool_decided : (b : List ℕ) → Decided truncated bool_at b 1 (bool_at b)
 bool_decided [] = λ ne. absurd (ne refl)
 bool_decided (zero ∷ b) = tt
@@ -249,6 +269,7 @@ bool_decided (suc (suc x) ∷ b) =
 abbrev char_at : List ℕ → Read Refusal Tree
 char_at b = char_from b (bytes_at 4 b)
 
+-- a character that is refused for good is decided by its four bytes
 char_decided : (b : List ℕ) → Decided truncated char_at b 4 (char_at b)
 char_decided b = elim (cases_lt (length b) 4) [
   | inl lt ↦ rw (short_bytes 4 b lt) (λ ne. absurd (ne refl))
@@ -270,6 +291,7 @@ char_decided b = elim (cases_lt (length b) 4) [
 
 -- ---- values
 
+-- a refusal is either that bytes are missing or another one
 pub refusal_tells : (e : Refusal) → (e ≡ truncated) ⊎ (e ≢ truncated)
 refusal_tells (basic reasons.Truncated) = inl refl
 refusal_tells (basic reasons.BadBool) = inr (λ e. absurd cc)
@@ -283,6 +305,7 @@ refusal_tells no_finite_value = inr (λ e. absurd cc)
 refusal_tells bit_sequence = inr (λ e. absurd cc)
 refusal_tells bad_compact = inr (λ e. absurd cc)
 
+-- a value is read, or refused for good, whatever follows it
 value_steady : (r : List TypeInfo) (room t : ℕ) → IsSteady truncated (value_at r room t)
 value_steady r room t = record {
   tells = refusal_tells;
@@ -291,21 +314,25 @@ value_steady r room t = record {
       (value_takes r room t b) (λ v c is more. value_again r room t v c more is.0 is.1);
 }
 
+-- making a leaf of what was read changes the result and carries the reason over
 pub as_leaf_finish : {X : Type 0} (make : X → Leaf) (r : Read Reason X) →
     as_leaf make r ≡ finish basic (λ x. leaf (make x)) r
 as_leaf_finish make (Ok x) = refl
 as_leaf_finish make (Err e) = refl
 
+-- putting a node over parts changes the result and leaves the refusal
 pub with_children_finish : (k : Branch) (r : Read Refusal Trees) →
     with_children k r ≡ finish (λ e. e) (branch k) r
 with_children_finish k (Ok x) = refl
 with_children_finish k (Err e) = refl
 
+-- putting a value in front of others changes the result and leaves the refusal
 pub and_finish : (v : Tree) (r : Read Refusal Trees) →
     (r >>= λ others. Ok (and v others.0, others.1)) ≡ finish (λ e. e) (and v) r
 and_finish v (Ok x) = refl
 and_finish v (Err e) = refl
 
+-- a sequence is its length and, behind it, so many elements
 pub elements_chain : (child : ℕ → List ℕ → Read Refusal Tree) (t : ℕ) (r : Read Reason ℕ) →
     elements_at child t r ≡ chain basic (λ n b. with_children list (times_at child n t b)) r
 elements_chain child t (Ok x) = refl
@@ -317,6 +344,7 @@ met_decided : (g : List ℕ → Read Refusal Tree) (b : List ℕ) (reason : Refu
 met_decided g b reason left h =
     λ ne. record { there = omega arith; front = ([], h); early = λ j lt. absurd (omega arith) }
 
+-- a number of bytes is never refused for good
 bytes_decided : (k : ℕ) (b : List ℕ) → Decided reasons.Truncated (bytes_at k) b 0 (bytes_at k b)
 bytes_decided k b = elim (cases_lt (length b) k) [
   | inl lt ↦ rw (short_bytes k b lt) (λ ne. absurd (ne refl))
@@ -327,6 +355,7 @@ abbrev ChildDecided : List TypeInfo → ℕ → Type 0
 ChildDecided r room = (t : ℕ) (b : List ℕ) →
     Decided truncated (value_at r room t) b (value_taken r room t b) (value_at r room t b)
 
+-- parts of these types are decided by what is taken of them, if each part is
 all_decided : (r : List TypeInfo) (room : ℕ) → ChildDecided r room → (ts : List ℕ) (b : List ℕ) →
     Decided truncated (all_at (value_at r room) ts) b
     (all_taken (value_at r room) (value_taken r room) ts b) (all_at (value_at r room) ts b)
@@ -341,6 +370,7 @@ all_decided r room h (t ∷ ts) b = let child = value_at r room in
     (λ c. and_finish x.0 (all_at child ts c)) x.1 (all_taken child (value_taken r room) ts x.1)
     (all_decided r room h ts x.1))
 
+-- the same for parts of one type
 times_decided : (r : List TypeInfo) (room : ℕ) → ChildDecided r room → (n t : ℕ) (b : List ℕ) →
     Decided truncated (times_at (value_at r room) n t) b
     (times_taken (value_at r room) (value_taken r room) n t b) (times_at (value_at r room) n t b)
@@ -355,6 +385,7 @@ times_decided r room h (suc n) t b = let child = value_at r room in
     (λ c. and_finish x.0 (times_at child n t c)) x.1
     (times_taken child (value_taken r room) n t x.1) (times_decided r room h n t x.1))
 
+-- an arm is decided by its index and what its fields take; an unknown index by itself
 arm_decided : (r : List TypeInfo) (room : ℕ) → ChildDecided r room →
     (arms : List Arm) (i : ℕ) (b : List ℕ) (found : Option (ℕ × Arm)) → arm_of arms i ≡ found →
     Decided truncated (arms_at (value_at r room) arms) (i ∷ b)
@@ -380,6 +411,7 @@ arm_decided r room h arms i b (Some a) e = let child = value_at r room in let ts
     (λ c. with_children (arm a.0) (all_at child ts c)) i is [] refl b
     (all_taken child (value_taken r room) ts b) inner)
 
+-- a variant is decided by what is said to be taken
 arms_decided : (r : List TypeInfo) (room : ℕ) → ChildDecided r room →
     (arms : List Arm) (b : List ℕ) →
     Decided truncated (arms_at (value_at r room) arms) b
@@ -413,6 +445,7 @@ plain_decided (layout.compact m) b =
     finish_decided reasons.Truncated basic (λ x. leaf (compact_value x)) _ (compact_at m)
     (λ c. as_leaf_finish compact_value (compact_at m c)) b (compact_taken m b) (compact_decided m b)
 
+-- by every layout a refusal is decided by what is taken, if that of each part is
 layout_decided : (r : List TypeInfo) (room : ℕ) → ChildDecided r room → (f : Layout) (b : List ℕ) →
     Decided truncated (layout_at (value_at r room) f) b
     (layout_taken (value_at r room) (value_taken r room) f b) (layout_at (value_at r room) f b)
@@ -440,6 +473,7 @@ layout_decided r room h (layout.sequence t) b = let child = value_at r room in
     (λ c. with_children_finish list (times_at child n.0 t c)) n.1
     (times_taken child (value_taken r room) n.0 t n.1) (times_decided r room h n.0 t n.1))
 
+-- a value that is refused for good is decided by what is said to be taken, at every depth
 pub value_decided : (r : List TypeInfo) (room t : ℕ) (b : List ℕ) →
     Decided truncated (value_at r room t) b (value_taken r room t b) (value_at r room t b)
 unfolding value_at value_taken

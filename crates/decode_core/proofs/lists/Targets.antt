@@ -21,22 +21,26 @@ use Rattle.grammar_core.specs.declared.form.Next.TheVariants as next
 abbrev Over : List TypeInfo → Target → Option TypeDef → Type 0
 Over r m d = (u : TypeId) × (d ≡ Some (Def.Compact u)) × (target_of r u.0 ≡ Some m)
 
+-- the form of a sequence is no compact, so anything follows
 no_sequence : {X : Type 0} (m : Target) (empty byte : Bool) →
     sequence_form empty byte ≡ next.Wants (form.Compact m) → X
 no_sequence m true byte e = absurd cc
 no_sequence m false true e = absurd cc
 no_sequence m false false e = absurd cc
 
+-- the form of an array is no compact, so anything follows
 no_array : {X : Type 0} (m : Target) (n : ℕ) (byte : Bool) →
     array_form n byte ≡ next.Wants (form.Compact m) → X
 no_array m n true e = absurd cc
 no_array m n false e = absurd cc
 
+-- a compact that is wanted for a target leads to that target
 same_target : (m : Target) (o : Option Target) → compact_form o ≡ next.Wants (form.Compact m) →
     o ≡ Some m
 same_target m (Some n) e = cc
 same_target m None e = absurd cc
 
+-- a definition whose form is a compact for a target is a compact over a type that leads to it
 over : (r : List TypeInfo) (m : Target) (d : Option TypeDef) →
     form_of_shape r d ≡ next.Wants (form.Compact m) → Over r m d
 over r m None e = absurd cc
@@ -50,16 +54,19 @@ over r m (Some (Def.Primitive p)) e = absurd cc
 over r m (Some (Def.Compact u)) e = (u, refl, same_target m (target_of r u.0) e)
 over r m (Some (Def.BitSequence store order)) e = absurd cc
 
+-- a test holds at a position as it does of the definition there
 held_at : (r : List TypeInfo) (test : TypeDef → Bool) (t : ℕ) (d : TypeDef) → shape r t ≡ Some d →
     holds_at r test t ≡ test d
 held_at r test t d s = ap (λ (o : Option TypeDef). elim o [ Some d ↦ test d | None ↦ false ]) s
 
+-- a compact over a type that leads to nothing takes no bytes, by some number of levels
 unit_is_empty : (r : List TypeInfo) (k t : ℕ) (u : TypeId) → shape r t ≡ Some (Def.Compact u) →
     target_of r u.0 ≡ Some target.Unit → empty_within r (suc k) t ≡ true
 unfolding empty_within
 unit_is_empty r k t u s e = held_at r (empty_step r (empty_within r k)) t (Def.Compact u) s
     ∙ ap is_unit e
 
+-- a compact over a type that leads to nothing is one of the types without bytes
 takes_no_bytes : (r : List TypeInfo) (t : ℕ) (u : TypeId) → shape r t ≡ Some (Def.Compact u) →
     target_of r u.0 ≡ Some target.Unit → is_empty r t ≡ true
 takes_no_bytes [] t u s e = absurd cc

@@ -28,25 +28,31 @@ use Rattle.decode_core.specs.Told.{Told, told, added, ending, after, then, all_t
 use Rattle.decode_core.specs.Told.{own_told, told_at, Agrees}
 use Rattle.grammar_core.specs.Preorder as head
 
+-- the nodes of two lists without their types are those of one and then of the other
 pub shown-append : (xs ys : List Entry) → shown (xs ++ ys) ≡ shown xs ++ shown ys
 shown-append [] ys = refl
 shown-append (x ∷ xs) ys = ap (λ (hs : List Head). x.head ∷ hs) (shown-append xs ys)
 
+-- to put nodes in front twice is to put them in front together
 pub after-after : (xs ys : List Entry) (y : Told) → after xs (after ys y) ≡ after (xs ++ ys) y
 after-after xs ys (told zs end) = rw append_assoc refl
 
+-- to put no nodes in front changes nothing
 pub after-nil : (y : Told) → after [] y ≡ y
 after-nil (told xs end) = refl
 
+-- nodes in front of the first of two readings stand in front of both
 pub then-after : (xs : List Entry) (y : Told) (f : List ℕ → Told) →
     then (after xs y) f ≡ after xs (then y f)
 then-after xs (told ys (Ok rest)) f = sym (after-after xs ys (f rest))
 then-after xs (told ys (Err e)) f = refl
 
+-- three readings, one behind the other, may be grouped either way
 pub then-then : (y : Told) (f g : List ℕ → Told) → then (then y f) g ≡ then y (λ b. then (f b) g)
 then-then (told ys (Err e)) f g = refl
 then-then (told ys (Ok rest)) f g = then-after ys (f rest) g
 
+-- to read nothing behind a reading changes nothing
 pub then-end : (y : Told) → then y (λ b. told [] (Ok b)) ≡ y
 then-end (told ys (Err e)) = refl
 then-end (told ys (Ok rest)) = rw append-nil refl
@@ -59,6 +65,7 @@ AllAgree P (Err e) y = (met : List ℕ) × (ending y ≡ Err (e, met))
 abbrev pub ChildAgrees : (ℕ → List ℕ → Read Refusal Tree) → (ℕ → List ℕ → Told) → Type 0
 ChildAgrees child one = (t : ℕ) (b : List ℕ) → Agrees (child t b) (one t b)
 
+-- one value and then others: both readings agree on the list if they agree on each
 and_agrees : (P Q : ℕ → Type 0) (first : Read Refusal Tree) (y : Told) → Agrees first y →
     (others : List ℕ → Read Refusal Trees) (f : List ℕ → Told) →
     ((b : List ℕ) → AllAgree P (others b) (f b)) → ((n : ℕ) → P n → Q (suc n)) →
@@ -72,6 +79,7 @@ and_agrees P Q (Ok x) (told xs end) h others f k s =
       more (Ok z) (told ys end') k =
           (shown-append xs ys ∙ rw (h.0, k.0) refl, k.1, s (how_many z.0) k.2)
 
+-- values of these types are read node by node as they are read whole, if each is
 all_agree : (child : ℕ → List ℕ → Read Refusal Tree) (one : ℕ → List ℕ → Told) →
     ChildAgrees child one → (ts : List ℕ) (b : List ℕ) →
     AllAgree (λ n. n ≡ length ts) (all_at child ts b) (all_told one ts b)
@@ -80,6 +88,7 @@ all_agree child one h (t ∷ ts) b =
     and_agrees (λ n. n ≡ length ts) (λ n. n ≡ suc (length ts)) (child t b) (one t b) (h t b)
     (all_at child ts) (all_told one ts) (all_agree child one h ts) (λ n e. ap (λ (k : ℕ). suc k) e)
 
+-- the same for values of one type
 times_agree : (child : ℕ → List ℕ → Read Refusal Tree) (one : ℕ → List ℕ → Told) →
     ChildAgrees child one → (n t : ℕ) (b : List ℕ) →
     AllAgree (λ k. k ≡ n) (times_at child n t b) (times_told one n t b)
@@ -88,6 +97,7 @@ times_agree child one h (suc n) t b =
     and_agrees (λ k. k ≡ n) (λ k. k ≡ suc n) (child t b) (one t b) (h t b) (times_at child n t)
     (times_told one n t) (times_agree child one h n t) (λ k e. ap (λ (k : ℕ). suc k) e)
 
+-- a node over its children is read node by node as it is read whole
 with_agrees : (P : ℕ → Type 0) (b : Branch) (t : ℕ) (h : Head) (read : Read Refusal Trees)
     (y : Told) → AllAgree P read y →
     ((vs : Trees) → P (how_many vs) → preorder (tree.branch b vs) ≡ h ∷ all_preorder vs) →
@@ -105,26 +115,31 @@ abbrev pub IsLeafRead : Read Refusal Tree → Type 0
 IsLeafRead (Ok x) = IsLeafTree x.0
 IsLeafRead (Err e) = Unit {0}
 
+-- a tree without children has its one node alone in preorder
 leaf_lone : (v : Tree) → IsLeafTree v → head_of v ∷ [] ≡ preorder v
 leaf_lone (tree.branch k vs) h = absurd h
 leaf_lone (tree.leaf l) h = refl
 
+-- what is made into a leaf has no children
 value_leaf : {X : Type 0} (make : X → Leaf) → (read : Read Reason X) →
     IsLeafRead (as_leaf make read)
 value_leaf make (Ok x) = tt
 value_leaf make (Err e) = tt
 
+-- a boolean that is read has no children
 bool_leaf : (b : List ℕ) → IsLeafRead (bool_at b)
 bool_leaf [] = tt
 bool_leaf (zero ∷ b) = tt
 bool_leaf (suc zero ∷ b) = tt
 bool_leaf (suc (suc x) ∷ b) = tt
 
+-- a character that is judged to be a scalar value has no children
 scalar_leaf : (at rest : List ℕ) (n : ℕ) (t : Bool) →
     IsLeafRead (cond t (Ok (tree.leaf (tree.char n), rest)) (Err (basic scale.BadChar, at)))
 scalar_leaf at rest n true = tt
 scalar_leaf at rest n false = tt
 
+-- a character that is read has no children
 char_leaf : (at : List ℕ) (read : Read Reason (List ℕ)) → IsLeafRead (char_from at read)
 char_leaf at (Ok x) = scalar_leaf at x.1 (number x.0) (is_scalar (number x.0))
 char_leaf at (Err e) = tt
@@ -141,11 +156,13 @@ reads_leaf layout.wide b = (value_leaf tree.wide (bytes_at 32 b))
 reads_leaf layout.counted b = (value_leaf tree.count (compact_at target.U32 b))
 reads_leaf (layout.compact m) b = (value_leaf tree.compact (compact_at m b))
 
+-- a leaf is read node by node as it is read whole
 leaf_agrees : (one : ℕ → List ℕ → Told) (t : ℕ) (b : List ℕ) (read : Read Refusal Tree) →
     IsLeafRead read → Agrees read (own_told one t b (leaf_own read))
 leaf_agrees one t b (Ok x) h = (leaf_lone x.0 h, refl)
 leaf_agrees one t b (Err e) h = (b, refl)
 
+-- an arm behind its index is read node by node as it is read whole, if its fields are
 arm_agrees : (child : ℕ → List ℕ → Read Refusal Tree) (one : ℕ → List ℕ → Told) →
     ChildAgrees child one → (t : ℕ) (at b : List ℕ) (found : Option (ℕ × Arm)) →
     Agrees (fields_behind_index child at found b) (own_told one t at (arm_own at found b))
@@ -155,12 +172,14 @@ arm_agrees child one h t at b (Some a) =
     (head.branch (tree.arm a.0) (length (field_types a.1.fields))) _ _
     (all_agree child one h (field_types a.1.fields) b) (λ vs e. rw e refl)
 
+-- a variant is read node by node as it is read whole, if the fields of its arms are
 arms_agree : (child : ℕ → List ℕ → Read Refusal Tree) (one : ℕ → List ℕ → Told) →
     ChildAgrees child one → (t : ℕ) (arms : List Arm) (b : List ℕ) →
     Agrees (arms_at child arms b) (own_told one t b (arms_own arms b))
 arms_agree child one h t arms [] = ([], refl)
 arms_agree child one h t arms (i ∷ b) = arm_agrees child one h t (i ∷ b) b (arm_of arms i)
 
+-- a sequence is read node by node as it is read whole, if its elements are
 elements_agree : (child : ℕ → List ℕ → Read Refusal Tree) (one : ℕ → List ℕ → Told) →
     ChildAgrees child one → (t u : ℕ) (b : List ℕ) (read : Read Reason ℕ) →
     Agrees (elements_at child u read) (own_told one t b (length_own u read))
@@ -169,6 +188,7 @@ elements_agree child one h t u b (Ok n) =
     with_agrees (λ k. k ≡ n.0) tree.list t (head.branch tree.list n.0) _ _
     (times_agree child one h n.0 u n.1) (λ vs e. rw e refl)
 
+-- by every layout both readings agree, if they do for each part
 layout_agrees : (child : ℕ → List ℕ → Read Refusal Tree) (one : ℕ → List ℕ → Told) →
     ChildAgrees child one → (t : ℕ) (f : Layout) (b : List ℕ) →
     Agrees (layout_at child f b) (own_told one t b (own_at f b))
@@ -190,6 +210,7 @@ layout_agrees child one h t layout.bad_compact b =
     leaf_agrees one t b (layout_at child layout.bad_compact b) tt
 layout_agrees child one h t (layout.plain p) b = leaf_agrees one t b (leaf_at p b) (reads_leaf p b)
 
+-- both readings agree with one level more of room, if they do with less
 room_agrees : (r : List TypeInfo) (room t : ℕ) (b : List ℕ) →
     ((u : ℕ) (c : List ℕ) → Agrees (value_at r room u c) (told_at r room u c)) →
     Agrees (value_at r (suc room) t b) (told_at r (suc room) t b)
@@ -198,11 +219,13 @@ room_agrees r room t b h =
     rw (value_met r room t b)
     (layout_agrees (value_at r room) (told_at r room) h t (met_layout r t) b)
 
+-- where there is no room, both readings refuse the value as too deep
 no_room_agrees : (r : List TypeInfo) (t : ℕ) (b : List ℕ) →
     Agrees (value_at r zero t b) (told_at r zero t b)
 unfolding value_at told_at
 no_room_agrees r t b = (b, refl)
 
+-- a value is read node by node as it is read whole
 pub told_agrees : (r : List TypeInfo) (room t : ℕ) (b : List ℕ) →
     Agrees (value_at r room t b) (told_at r room t b)
 told_agrees r zero t b = no_room_agrees r t b

@@ -42,12 +42,14 @@ abbrev pub TellsBytes : List TypeInfo → List ℕ → Told → Type 0
 TellsBytes r b (told xs (Ok rest)) = b ≡ bytes_of r xs ++ rest
 TellsBytes r b (told xs (Err e)) = b ≡ bytes_of r xs ++ e.1
 
+-- the bytes of nodes, and then those of others, are those of all of them
 both_fronts : (r : List TypeInfo) (xs ys : List Entry) (rest : List ℕ) →
     bytes_of r xs ++ (bytes_of r ys ++ rest) ≡ bytes_of r (xs ++ ys) ++ rest
 both_fronts r xs ys rest = sym (append_assoc (bytes_of r xs) (bytes_of r ys) rest)
     ∙ ap (λ (c : List ℕ). c ++ rest)
     (sym (flat_map-append (λ (e : Entry). own_bytes (shape r e.ty) e.head) xs ys))
 
+-- nodes in front whose bytes stand in front leave it true that nodes spell what was read
 after_bytes : (r : List TypeInfo) (b c : List ℕ) (xs : List Entry) (y : Told) →
     b ≡ bytes_of r xs ++ c → TellsBytes r c y → TellsBytes r b (after xs y)
 after_bytes r b c xs (told ys (Ok rest)) is h = is ∙ ap (λ (z : List ℕ). bytes_of r xs ++ z) h
@@ -55,6 +57,7 @@ after_bytes r b c xs (told ys (Ok rest)) is h = is ∙ ap (λ (z : List ℕ). by
 after_bytes r b c xs (told ys (Err e)) is h = is ∙ ap (λ (z : List ℕ). bytes_of r xs ++ z) h
     ∙ both_fronts r xs ys e.1
 
+-- of two readings, one behind the other, the nodes spell what was read, if those of each do
 then_bytes : (r : List TypeInfo) (b : List ℕ) (y : Told) (f : List ℕ → Told) → AreBytes b →
     TellsBytes r b y → ((c : List ℕ) → AreBytes c → TellsBytes r c (f c)) →
     TellsBytes r b (then y f)
@@ -66,18 +69,21 @@ then_bytes r b (told xs (Ok rest)) f are h k =
 abbrev ChildTells : List TypeInfo → (ℕ → List ℕ → Told) → Type 0
 ChildTells r child = (t : ℕ) (b : List ℕ) → AreBytes b → TellsBytes r b (child t b)
 
+-- values of these types have nodes that spell what was read, if each value has
 all_bytes : (r : List TypeInfo) (child : ℕ → List ℕ → Told) → ChildTells r child → (ts b : List ℕ) →
     AreBytes b → TellsBytes r b (all_told child ts b)
 all_bytes r child h [] b are = refl
 all_bytes r child h (t ∷ ts) b are =
     then_bytes r b (child t b) (all_told child ts) are (h t b are) (all_bytes r child h ts)
 
+-- the same for values of one type
 times_bytes : (r : List TypeInfo) (child : ℕ → List ℕ → Told) → ChildTells r child →
     (n t : ℕ) (b : List ℕ) → AreBytes b → TellsBytes r b (times_told child n t b)
 times_bytes r child h zero t b are = refl
 times_bytes r child h (suc n) t b are =
     then_bytes r b (child t b) (times_told child n t) are (h t b are) (times_bytes r child h n t)
 
+-- the same for the parts that a node opens, if it opens any
 opened_bytes : (r : List TypeInfo) (child : ℕ → List ℕ → Told) → ChildTells r child →
     (p : Option Part) (b : List ℕ) → AreBytes b → TellsBytes r b (opened_told child p b)
 opened_bytes r child h None b are = refl
@@ -91,11 +97,13 @@ abbrev OwnTells : List TypeInfo → ℕ → List ℕ → Own → Type 0
 OwnTells r t b (Ok x) = b ≡ own_bytes (shape r t) x.0.0 ++ x.1
 OwnTells r t b (Err e) = Unit {0}
 
+-- a node without children is spelled by its own bytes
 leaf_spelled : (r : List TypeInfo) (t : ℕ) (v : Tree) → IsLeafTree v →
     spelled r t v ≡ own_bytes (shape r t) (head_of v)
 leaf_spelled r t (tree.branch k vs) h = absurd h
 leaf_spelled r t (tree.leaf l) h = append-nil _
 
+-- what is read as a leaf is the leaf's own bytes
 leaf_tells : (r : List TypeInfo) (t : ℕ) (b : List ℕ) (read : Read Refusal Tree) → AreBytes b →
     Takes (λ v c. Val r t v c × (levels v ≤ 1)) b read → IsLeafRead read →
     OwnTells r t b (leaf_own read)
@@ -105,10 +113,12 @@ leaf_tells r t b (Ok x) are k leaf =
     k.1 ∙ ap (λ (c : List ℕ). c ++ x.1)
     (sym (encoded_is_value r t x.0 k.0 front k.2.0) ∙ leaf_spelled r t x.0 leaf)
 
+-- a variant that is met is the layout of its type
 met_arms : (r : List TypeInfo) (t : ℕ) (arms : List Arm) → met_layout r t ≡ layout.arms arms →
     layout r t ≡ layout.arms arms
 met_arms r t arms e = (met_is r t (layout.arms arms) (λ no. absurd cc) e).1
 
+-- what is read of an arm's own bytes is its index
 arm_tells : (r : List TypeInfo) (t : ℕ) (arms : List Arm) (i : ℕ) (b : List ℕ)
     (found : Option (ℕ × Arm)) → met_layout r t ≡ layout.arms arms → arm_of arms i ≡ found →
     OwnTells r t (i ∷ b) (arm_own (i ∷ b) found b)
@@ -116,11 +126,13 @@ arm_tells r t arms i b None e is = tt
 arm_tells r t arms i b (Some a) e is =
     ap (λ (c : List ℕ). c ++ b) (sym (arm_byte r t arms i a.0 a.1 (met_arms r t arms e) is))
 
+-- what is read of a variant's own bytes is the index of the arm
 arms_tell : (r : List TypeInfo) (t : ℕ) (arms : List Arm) (b : List ℕ) →
     met_layout r t ≡ layout.arms arms → OwnTells r t b (arms_own arms b)
 arms_tell r t arms [] e = tt
 arms_tell r t arms (i ∷ b) e = arm_tells r t arms i b (arm_of arms i) e refl
 
+-- what is read of a sequence's own bytes is its compact length
 length_tells : (r : List TypeInfo) (t u : ℕ) (b : List ℕ) (read : Read Reason ℕ) →
     met_layout r t ≡ layout.sequence u → Takes (IsCompact target.U32) b read →
     OwnTells r t b (length_own u read)
@@ -129,11 +141,13 @@ length_tells r t u b (Ok n) e k = let laid =
     (met_is r t (layout.sequence u) (λ no. absurd cc) e).1 in
     k.1 ∙ ap (λ (c : List ℕ). c ++ n.1) (k.2.1 ∙ sym (sequence_length r t u n.0 laid))
 
+-- an array has no bytes of its own
 array_tells : (r : List TypeInfo) (t n u : ℕ) (b : List ℕ) → met_layout r t ≡ layout.array n u →
     b ≡ own_bytes (shape r t) (head.branch tree.list n) ++ b
 array_tells r t n u b e = let laid = (met_is r t (layout.array n u) (λ no. absurd cc) e).1 in
     ap (λ (c : List ℕ). c ++ b) (sym (array_length r t n u n laid))
 
+-- by every layout what is read as a node's own bytes are the node's by its definition
 own_tells_of : (r : List TypeInfo) (t : ℕ) (f : Layout) (b : List ℕ) → met_layout r t ≡ f →
     AreBytes b → OwnTells r t b (own_at f b)
 unfolding own_at layout_at
@@ -148,6 +162,7 @@ own_tells_of r t layout.bad_compact b e are = tt
 own_tells_of r t (layout.plain p) b e are =
     leaf_tells r t b (leaf_at p b) are (met_takes r t (layout.plain p) e b) (reads_leaf p b)
 
+-- a node's own bytes and then its parts: all nodes spell what was read, if those of parts do
 own_bytes_told : (r : List TypeInfo) (child : ℕ → List ℕ → Told) → ChildTells r child →
     (t : ℕ) (b : List ℕ) (read : Own) → AreBytes b → OwnTells r t b read →
     TellsBytes r b (own_told child t b read)
@@ -161,6 +176,7 @@ own_bytes_told r child h t b (Ok x) are k =
 
 -- ---- a value
 
+-- the nodes that a reading adds spell the bytes in front of where it ends
 pub told_spells : (r : List TypeInfo) (room t : ℕ) (b : List ℕ) → AreBytes b →
     TellsBytes r b (told_at r room t b)
 unfolding told_at

@@ -31,6 +31,7 @@ pub record AtArray (b : Built) (c : List ℕ) (kept : Option OpenRun) (n : ℕ) 
   pub wants : next_of b.walk ≡ next.Wants (form.ByteArray n)
   pub closed : b.run ≡ None
 
+-- what is known of a decoder that waits for an array of u8 is known of its fields
 pub at_array : (b : Built) (c : List ℕ) (kept : Option OpenRun) (n : ℕ) (s : Running) →
     record { built = b; carry = c } ≡ s → IsRunning b c kept →
     next_of s.built.walk ≡ next.Wants (form.ByteArray n) → s.built.run ≡ None → AtArray b c kept n
@@ -42,22 +43,26 @@ at_array b c kept n s is h wants closed = record {
       subst (λ (x : Running). x.built.run ≡ None) (sym is) closed;
 }
 
+-- a decoder that waits for an array of u8 carries no byte
 none_carried : (b : Built) (c : List ℕ) (kept : Option OpenRun) (n : ℕ) → AtArray b c kept n →
     c ≡ []
 none_carried b c kept n a = carry_none b c (form.ByteArray n) a.running.carried a.wants (λ no. no)
 
+-- a decoder that waits for an array of u8, of which no byte came, holds nothing
 none_held : (b : Built) (c : List ℕ) (kept : Option OpenRun) (n : ℕ) → AtArray b c kept n →
     held_of (record { built = b; carry = c }) ≡ []
 none_held b c kept n a = held_closed b c a.closed ∙ none_carried b c kept n a
 
 -- ---- all its bytes are there
 
+-- where an array of u8 was added, the decoder is on its way again
 pub array_running : (b new : Built) (c : List ℕ) (kept : Option OpenRun) (n : ℕ)
     (own : List ℕ) → AtArray b c kept n → IsAdded b new own → IsRunning new c kept
 array_running b new c kept n own a adds =
     rw (none_carried b c kept n a, no_run b c kept a.running a.closed)
     (added_running b new own (at_next b (form.ByteArray n) a.wants) a.closed adds)
 
+-- to add an array of u8 is a step by its own bytes, and the value stays the same one
 pub array_tells : (b new : Built) (c : List ℕ) (kept : Option OpenRun) (n : ℕ)
     (own : List ℕ) → AtArray b c kept n → IsAdded b new own →
     IsSame (record { built = b; carry = c }) (record { built = new; carry = c })

@@ -54,6 +54,7 @@ reached : (a b c : Running) (piece : List ℕ) (at n : ℕ) → Moves a b (take 
 reached a b c piece at n h k = subst (Moves a c) (sym (take-add at n piece))
     (moves_on a b c (take at piece) (take n (drop at piece)) h k)
 
+-- what turns took behind the first bytes of a piece lies within the piece
 fits : (b d : Running) (piece : List ℕ) (at from to n : ℕ) (last : Turned) → at ≤ length piece →
     TurnsTell b d (drop at piece) from to n last → at + n ≤ length piece
 fits b d piece at from to n last le t = omega (arith, le, t.within, length-drop at piece)
@@ -134,6 +135,7 @@ call_few a b d piece start from to at n k h t =
       t.tells.0,
     )
 
+-- where the turns of a call were few so far, they are with those before its last one too
 few_before : (a b d : Running) (piece : List ℕ) (start from to at n : ℕ) (last : Turned) →
     start + length b.built.entries ≤ from + length a.built.entries →
     from + length a.built.entries ≤ start + at + length b.built.entries →
@@ -141,6 +143,7 @@ few_before : (a b d : Running) (piece : List ℕ) (start from to at n : ℕ) (la
 few_before a b d piece start from to at n last each few t =
     (omega (arith, each, t.few.0), omega (arith, few, t.few.1))
 
+-- turns that end where the last one closed nothing are counted from the first of the call on
 short : (a b d : Running) (piece : List ℕ) (at start from to n : ℕ) (last : Turned) →
     at ≤ length piece → Moves a b (take at piece) →
     start + length b.built.entries ≤ from + length a.built.entries →
@@ -156,6 +159,7 @@ short a b d piece at start from to n last le h each few t closed = record {
   closed = closed;
 }
 
+-- turns of which the last one stopped are counted from the first of the call on
 pub call_counts : (a b d : Running) (piece : List ℕ) (at start from to n : ℕ) (s : Stopped) →
     at ≤ length piece → Moves a b (take at piece) →
     start + length b.built.entries ≤ from + length a.built.entries →
@@ -172,6 +176,7 @@ call_counts a b d piece at start from to n (stop.Refused held told_reason place 
     short a b d piece at start from to n (turned.Stopped (stop.Refused held told_reason place len))
     le h each few t t.kept
 
+-- turns of which the last one wanted memory are counted from the first of the call on
 pub call_counts_short : (a b d : Running) (piece : List ℕ) (at start from to n : ℕ) →
     at ≤ length piece → Moves a b (take at piece) →
     start + length b.built.entries ≤ from + length a.built.entries →
@@ -183,6 +188,7 @@ call_counts_short a b d piece at start from to n le h each few t =
 
 -- ---- a value that was whole
 
+-- where the value was whole at the start of a call, no turn goes on, so anything follows
 pub whole_call_stops : {X : Type 0} (a b d : Running) (piece : List ℕ) (at from to n k : ℕ) →
     (is_whole a.built ≡ true → (at ≡ 0) × (b ≡ a)) → TurnsTell b d piece from to n (turned.On k) →
     is_whole a.built ≡ true → X

@@ -61,6 +61,7 @@ added_few r depth t own (told xs (Ok rest)) is =
       length-preorder v.0,
     )
 
+-- a state that bytes led to has no more nodes than the bound for these bytes
 state_few : (r : List TypeInfo) (depth t : ℕ) (s : State) (own : List ℕ) →
     TurnsLead r (start depth t) s own → length s.nodes ≤ node_bound (length own) depth (widest r)
 state_few r depth t s own h =
@@ -84,6 +85,7 @@ done_few j b s last n x g m =
           (remain (types_of s) (state_of last.built) []),
     )
 
+-- a decoder that a piece led to has no more nodes than the bound for all bytes taken
 reached_few : (j : Job) (b : List ℕ) (s last : Running) (n : ℕ) (x : List ℕ) → RunLed j b n (Ok s) →
     Moves s last x → length last.built.entries ≤ node_bound (n + length x)
     j.depth (widest j.registry)
@@ -137,6 +139,7 @@ counts_end j b slice s last taken k n from to calls closed led moves few sound i
       more_bytes (taken + length (take k slice)) n j.depth (widest j.registry) cut,
     )
 
+-- where turns end for want of memory, all turns of both loops stay within the bound
 pub counts_short : (j : Job) (b slice : List ℕ) (s new : Running) (taken k from to calls : ℕ) →
     RunLed j b taken (Ok s) → StopsShort s new slice k from to →
     from ≤ taken + length s.built.entries + calls →
@@ -146,6 +149,7 @@ counts_short j b slice s new taken k from to calls led short before =
     counts_end j b slice s short.last taken k (taken + k) from to calls new.built.turns led
     short.moves short.few short.sound short.closed before (omega arith)
 
+-- where a node is refused, all turns of both loops stay within the bound for what is taken
 pub counts_refused : (j : Job) (b slice : List ℕ) (s new : Running) (taken k held : ℕ)
     (told_reason : DecodeReason) (at len from to calls : ℕ) (why : Stopped) →
     RunLed j b taken (Ok s) → FeedTells s new slice k why →
@@ -161,6 +165,7 @@ counts_refused j b slice s new taken k held told_reason at len from to calls why
     counts_end j b slice s short.last taken k (taken + k - held + len) from to calls new.built.turns
     led short.moves short.few short.sound short.closed before (omega (arith, within, g.1.2.8))
 
+-- where the byte limit is reached, all turns of both loops stay within the bound for the limit
 pub counts_long : (j : Job) (b piece slice : List ℕ) (s new : Running)
     (limit taken k from to calls : ℕ) (why : Stopped) → j.bytes ≡ limit →
     slice ≡ take (limit - taken) piece → RunLed j b taken (Ok s) → FeedTells s new slice k why →

@@ -34,6 +34,7 @@ use Rattle.decode_core.proofs.steps.Stepping.{whole_told}
 
 -- ---- a type that is next has a form or a reason
 
+-- no definition has the form that nothing is next
 shape_goes_on : (r : List TypeInfo) (d : Option TypeDef) → form_of_shape r d ≡ next.Finished → ⊥
 shape_goes_on r None e = absurd cc
 shape_goes_on r (Some (Def.Composite fs)) e = absurd cc
@@ -55,6 +56,7 @@ shape_goes_on r (Some (Def.Compact t)) e = by (target_of r t.0) e where
   by None h = absurd cc
 shape_goes_on r (Some (Def.BitSequence store order)) e = absurd cc
 
+-- no type has the form that nothing is next
 form_goes_on : (r : List TypeInfo) (t : ℕ) → form_of r t ≡ next.Finished → ⊥
 form_goes_on r t e = by (is_empty r t) e where
   by : (empty : Bool) → (if empty then next.Wants form.Empty else form_of_shape r (shape r t))
@@ -62,6 +64,7 @@ form_goes_on r t e = by (is_empty r t) e where
   by true h = absurd cc
   by false h = shape_goes_on r (shape r t) h
 
+-- where nothing comes next, there is no next type
 type_goes_on : (w : Walked) (o : Option ℕ) → next_from w o ≡ next.Finished → o ≡ None
 type_goes_on w None e = refl
 type_goes_on w (Some t) e =
@@ -75,16 +78,19 @@ type_goes_on w (Some t) e =
 
 -- ---- nothing is held
 
+-- nothing is carried where no form is wanted
 no_carry : (b : Built) (c : List ℕ) → IsCarry b c →
     ((f : Form) → next_of b.walk ≡ next.Wants f → ⊥) → c ≡ []
 no_carry b [] h never = refl
 no_carry b (x ∷ c) h never = absurd (never h.0 h.1)
 
+-- nothing is held, in a run or beside, where no form is wanted
 nothing_by : (b : Built) (c : List ℕ) (run : Option Pieces) → IsCarry b c → IsRunNext b c run →
     ((f : Form) → next_of b.walk ≡ next.Wants f → ⊥) → run_held run c ≡ []
 nothing_by b c None h k never = no_carry b c h never
 nothing_by b c (Some t) h k never = absurd (never _ k.0)
 
+-- a decoder on its way holds nothing where no form is wanted
 nothing_held : (b : Built) (c : List ℕ) (kept : Option OpenRun) → IsRunning b c kept →
     ((f : Form) → next_of b.walk ≡ next.Wants f → ⊥) →
     held_of (record { built = b; carry = c }) ≡ []
@@ -92,6 +98,7 @@ nothing_held b c kept h never = nothing_by b c b.run h.carried h.run_next never
 
 -- ---- the value is whole
 
+-- where what is whole is closed and nothing is next, only the root's own part is open
 alone : (fs : List OpenPart) → 1 ≤ length fs → settled_in fs ≡ fs → first_in fs ≡ None →
     (f : OpenPart) × (fs ≡ f ∷ []) × (first_of f.left ≡ None)
 alone [] some h e = absurd (omega (arith, some))
@@ -101,15 +108,18 @@ alone (f ∷ g ∷ fs) some h e =
     ap (λ (o : Option ℕ). elim o [ Some t ↦ f ∷ g ∷ fs | None ↦ settled_in (g ∷ fs) ]) e in
     absurd (omega (arith, ap length (sym h ∙ closed), settled_fewer (g ∷ fs)))
 
+-- where one part is open and has nothing left, nothing is read
 one_part : (r : List TypeInfo) (room : ℕ) (p : Part) (x : List ℕ) → first_of p ≡ None →
     rest_told r room (p ∷ []) x ≡ told [] (Ok x)
 unfolding rest_told
 one_part r room p x h = whole_told r room p [] x h
 
+-- with the root's own part alone open, the state has just this part pending
 finished_state : (b : Built) (f : OpenPart) → b.walk.frames ≡ f ∷ [] →
     state_of b ≡ record { nodes = b.entries; room = b.walk.limit + 2 - 1; pending = f.left ∷ [] }
 finished_state b f h = rw h refl
 
+-- where nothing is next, the turns end with a value that is whole
 pub finished_stops : (b : Built) (c : List ℕ) (kept : Option OpenRun) (piece : List ℕ) →
     IsRunning b c kept → next_of b.walk ≡ next.Finished →
     EndsTurns (record { built = b; carry = c }) piece stop.Finished
@@ -123,6 +133,7 @@ finished_stops b c kept piece h is =
 
 -- ---- the next type stops
 
+-- where the next type stops, the turns end with its refusal, and no byte decides it
 pub stop_stops : (b : Built) (c : List ℕ) (kept : Option OpenRun) (piece : List ℕ)
     (why : StopReason) → IsRunning b c kept → next_of b.walk ≡ next.Stop why →
     EndsTurns (record { built = b; carry = c }) piece

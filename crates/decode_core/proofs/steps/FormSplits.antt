@@ -24,12 +24,14 @@ pub prefixed_length : (p : PrefixedRun) (own : List ℕ) →
 prefixed_length prefixed.Text own = refl
 prefixed_length prefixed.Bytes own = refl
 
+-- the forms that are read by their bytes have bytes of their own
 pub have_bytes : (f : BytesForm) → HasBytes (form_of_bytes f)
 have_bytes (bytes.Plain p) = plain_bytes p
 have_bytes (bytes.Run p) = prefixed_bytes p
 have_bytes bytes.Arm = tt
 have_bytes bytes.Sequence = tt
 
+-- the bare forms have no bytes of their own that are carried
 pub have_none : (f : BareForm) → HasBytes (form_of_bare f) → ⊥
 have_none bare.Empty h = h
 have_none bare.Fields h = h

@@ -64,11 +64,13 @@ grows_to j s u g of is h =
     (subst (λ (o : Option (ℕ × ℕ)). Grows s.built.walk.types (s.built.walk.limit + 1) s.built.ty g
     own o) next h)))
 
+-- the next layout of a decoder is that of its next type in the job's registry
 layout_is : (j : Job) (s : Running) (u : ℕ) → IsOf j s → next_type s.built.walk ≡ Some u →
     next_layout s.built ≡ layout j.registry u
 layout_is j s u of is = ap (λ (o : Option ℕ). layout s.built.walk.types (type_or_0 o)) is
     ∙ ap (λ (r : List TypeInfo). layout r u) of.types
 
+-- where bytes are missing, what is held is short for the type that is next, with its room
 short_to : (j : Job) (b : List ℕ) (s : Running) → IsOf j s → (w : IsWaiting j b s) →
     (n : Wanted s.built.walk w.wants.form) →
     IsShort j.registry (s.built.walk.limit + 2 - length s.built.walk.frames) n.ty (held_of s)
@@ -83,6 +85,7 @@ short_to j b s of w n =
 
 -- ---- the bytes of runs
 
+-- two runs of one layout are of one kind
 same_run : (k l : RunKind) → layout.plain (layout.run k) ≡ layout.plain (layout.run l) → k ≡ l
 same_run k l h = cc
 
@@ -97,6 +100,7 @@ kind_alone (K.Unsigned w) k c h s = absurd cc
 kind_alone (K.Signed w) k c h s = absurd cc
 kind_alone (K.Wide x) k c h s = absurd cc
 
+-- where a run's own bytes are short, its length is not there whole
 run_alone : (f : Form) (k : RunKind) (c : List ℕ) → HasForm f (layout.plain (layout.run k)) →
     HasBytes f → IsShortOf (need f) c → run_length_at k c ≡ Err (scale.Truncated, [])
 run_alone (form.Primitive p) k c h some s = kind_alone (kind_of p) k c h s
@@ -111,6 +115,7 @@ run_alone (form.Array n) k c h some s = absurd some
 run_alone form.Sequence k c h some s = let no = h.1 in absurd cc
 run_alone form.Count k c h some s = absurd cc
 
+-- no byte lies past the length of a run of which none is there
 nothing_past : (k : RunKind) → past_length (run_length_at k []) ≡ 0
 nothing_past kind.Text = ap past_length (run_length_short kind.Text [] tt tt)
 nothing_past kind.Bytes = ap past_length (run_length_short kind.Bytes [] tt tt)
@@ -151,6 +156,7 @@ open_is b c (Some t) carried h =
     sym (ap (λ (lay : Layout). open_run lay (own_of t)) (next_run b t.kind h.0)
     ∙ ap past_length (length_again t.kind t.len t.bytes h.2))
 
+-- a decoder that waits for bytes holds the begun tree of all bytes so far, and no other node
 pub holds_of : (j : Job) (b : List ℕ) (s : Running) → IsOf j s → AreBytes b → IsWaiting j b s →
     HoldsOf j b s
 holds_of j b s of are w =

@@ -33,12 +33,14 @@ use Rattle.decode_core.proofs.steps.Whole.{IsSettled, settled_at, u32_is, basic_
 
 -- ---- lists and counts
 
+-- a sequence whose length is read opens so many elements
 list_by : (lay : Layout) (u : ℕ) (own : List ℕ) (n : ℕ) → lay ≡ layout.sequence u →
     ((rest : List ℕ) × (compact_at target.U32 own ≡ Ok (n, rest))) → (rest : List ℕ)
     × (own_at lay own ≡ Ok ((head.branch tree.list n, Some (list_part lay n)), rest))
 unfolding own_at
 list_by lay u own n e h = rw e (h.0, ap (length_own u) h.1)
 
+-- the same where a sequence is next
 pub list_read : (b : Built) (own : List ℕ) (n : ℕ) → next_of b.walk ≡ next.Wants form.Sequence →
     (rest : List ℕ) × (compact_at target.U32 own ≡ Ok (n, rest)) → (rest : List ℕ)
     × (own_at (next_layout b) own
@@ -46,6 +48,7 @@ pub list_read : (b : Built) (own : List ℕ) (n : ℕ) → next_of b.walk ≡ ne
 list_read b own n h k = let s = next_has b form.Sequence h in
     list_by (next_layout b) s.0 own n s.1 k
 
+-- a sequence is refused as its length is, at the same place
 list_refused_by : (lay : Layout) (u : ℕ) (own : List ℕ) (e : Reason) (at : ℕ) →
     lay ≡ layout.sequence u →
     ((left : List ℕ) × (compact_at target.U32 own ≡ Err (e, left)) × (at ≡ place own left)) →
@@ -53,6 +56,7 @@ list_refused_by : (lay : Layout) (u : ℕ) (own : List ℕ) (e : Reason) (at : �
 unfolding own_at
 list_refused_by lay u own e at is h = rw is (h.0, ap (length_own u) h.1, h.2)
 
+-- the same where a sequence is next
 pub list_refused : (b : Built) (own : List ℕ) (e : Reason) (at : ℕ) →
     next_of b.walk ≡ next.Wants form.Sequence → (left : List ℕ)
     × (compact_at target.U32 own ≡ Err (e, left)) × (at ≡ place own left) → (left : List ℕ)
@@ -60,6 +64,7 @@ pub list_refused : (b : Built) (own : List ℕ) (e : Reason) (at : ℕ) →
 list_refused b own e at h k = let s = next_has b form.Sequence h in
     list_refused_by (next_layout b) s.0 own e at s.1 k
 
+-- a sequence that is next is read of just its length's bytes, and none is left
 pub list_all : (b : Built) (own : List ℕ) (n : ℕ) → next_of b.walk ≡ next.Wants form.Sequence →
     AreOwn form.Sequence own → (rest : List ℕ) × (compact_at target.U32 own ≡ Ok (n, rest)) →
     own_at (next_layout b) own
@@ -70,6 +75,7 @@ list_all b own n h a k =
 
 -- ---- arms
 
+-- the own bytes of an arm are its index alone
 one_byte : (own : List ℕ) → AreOwn form.Arm own → own ≡ slice_index_or own 0 0 ∷ []
 one_byte [] h = let no = h.2 in absurd cc
 one_byte (x ∷ []) h = refl
@@ -94,6 +100,7 @@ arm_spells b i (Some a) h e there =
     let is : arm_of s.0 i ≡ Some a = sym (ap (λ (f : Layout). arm_in f i) s.1) ∙ e in
     (a, refl, rw (s.1, is) refl)
 
+-- an index that an arm has adds the arm by this one byte
 pub arm_added : (b new : Built) (own : List ℕ) → next_of b.walk ≡ next.Wants form.Arm →
     AreOwn form.Arm own → is_some (arm_in (next_layout b) (slice_index_or own 0 0)) ≡ true →
     new ≡ with_arm b (slice_index_or own 0 0) → IsAdded b new own
@@ -103,6 +110,7 @@ arm_added b new own h a there is =
     subst (IsAdded b new) (sym (one_byte own a))
     ((_, _), s.2, is ∙ ap (with_found b) s.1)
 
+-- an index that an arm has spells the next node
 pub arm_spelled : (b : Built) (own : List ℕ) → next_of b.walk ≡ next.Wants form.Arm →
     AreOwn form.Arm own → is_some (arm_in (next_layout b) (slice_index_or own 0 0)) ≡ true →
     IsSpelled b own
@@ -111,6 +119,7 @@ arm_spelled b own h a there =
     let s = arm_spells b i (arm_in (next_layout b) i) h refl there in
     subst (IsSpelled b) (sym (one_byte own a)) (_, s.2)
 
+-- an index that no arm has is refused at its place
 arm_missing : (b : Built) (i : ℕ) (found : Option (ℕ × Arm)) →
     next_of b.walk ≡ next.Wants form.Arm → arm_in (next_layout b) i ≡ found →
     is_some found ≡ false → IsRefused b (i ∷ []) (reason_of no_such_variant) 0
@@ -121,6 +130,7 @@ arm_missing b i None h e none =
     let is : arm_of s.0 i ≡ None = sym (ap (λ (f : Layout). arm_in f i) s.1) ∙ e in
     (no_such_variant, i ∷ [], rw (s.1, is) refl, refl, refl, omega arith)
 
+-- the same where the index is the own byte of the next node
 pub arm_refused : (b : Built) (own : List ℕ) → next_of b.walk ≡ next.Wants form.Arm →
     AreOwn form.Arm own → is_some (arm_in (next_layout b) (slice_index_or own 0 0)) ≡ false →
     IsRefused b own (reason_of no_such_variant) 0
@@ -131,33 +141,39 @@ arm_refused b own h a none =
 
 -- ---- the length of a run
 
+-- just the bytes of a run's length leave none of them, or are refused for good
 length_settled : (k : RunKind) (own : List ℕ) → HasBytes (run_form k) → AreOwn (run_form k) own →
     IsSettled (run_length_at k own)
 length_settled kind.Text own s a = settled_at target.U32 own u32_is a.0 a.1 a.2 a.3
 length_settled kind.Bytes own s a = settled_at target.U32 own u32_is a.0 a.1 a.2 a.3
 length_settled (kind.ByteArray n) own s a = absurd s
 
+-- what is read of just its own bytes leaves none of them
 settled_ok : (read : Read Reason ℕ) (n : ℕ) (rest : List ℕ) → IsSettled read → read ≡ Ok (n, rest) →
     read ≡ Ok (n, [])
 settled_ok read n rest h e = let nil : rest ≡ [] = (rw e at h) in e
     ∙ ap (λ (r : List ℕ). Ok (n, r)) nil
 
+-- what is refused of just its own bytes is not refused as cut
 settled_err : (read : Read Reason ℕ) (e : Reason) (left : List ℕ) → IsSettled read →
     read ≡ Err (e, left) → e ≢ scale.Truncated
 settled_err read e left h is = (rw is at h)
 
+-- a run's length that is read of just its own bytes leaves none of them
 pub length_read : (k : RunKind) (own : List ℕ) (n : ℕ) → HasBytes (run_form k) →
     AreOwn (run_form k) own → (rest : List ℕ) × (run_length_at k own ≡ Ok (n, rest)) →
     run_length_at k own ≡ Ok (n, [])
 length_read k own n s a h =
     settled_ok (run_length_at k own) n h.0 (length_settled k own s a) h.1
 
+-- a run is refused as its length is, with the same bytes left
 pub run_cut : (k : RunKind) (own : List ℕ) (e : Reason) (left : List ℕ) →
     run_length_at k own ≡ Err (e, left) →
     own_at (layout.plain (layout.run k)) own ≡ Err (basic e, left)
 unfolding own_at layout_at run_at
 run_cut k own e left h = rw h refl
 
+-- a run that is next is refused as its length is, by just the length's bytes
 pub length_refused : (k : RunKind) (b : Built) (own : List ℕ) (e : Reason) (at : ℕ) →
     next_of b.walk ≡ next.Wants (run_form k) → HasBytes (run_form k) → AreOwn (run_form k) own →
     (left : List ℕ) × (run_length_at k own ≡ Err (e, left)) × (at ≡ place own left) →
@@ -174,11 +190,13 @@ length_refused k b own e at h s a r =
 
 -- ---- nodes without bytes of their own
 
+-- a node that takes no bytes is read of none, and opens nothing
 empty_by : (lay : Layout) → lay ≡ (layout.plain layout.empty) →
     own_at lay [] ≡ Ok (((head.leaf tree.unit), None), [])
 unfolding own_at layout_at
 empty_by lay e = rw e refl
 
+-- a node of fields is read of no bytes, and opens as many parts as there are types
 fields_by : (lay : Layout) (ts : List ℕ) → lay ≡ layout.fields ts →
     own_at lay [] ≡ Ok (
       (
@@ -190,15 +208,18 @@ fields_by : (lay : Layout) (ts : List ℕ) → lay ≡ layout.fields ts →
 unfolding own_at
 fields_by lay ts e = rw e refl
 
+-- an array is read of no bytes, and opens so many elements
 array_by : (lay : Layout) (n u : ℕ) → lay ≡ layout.array n u →
     own_at lay [] ≡ Ok ((head.branch tree.list n, Some (list_part lay n)), [])
 unfolding own_at
 array_by lay n u e = rw e refl
 
+-- the same of a node without bytes that is next
 pub empty_read : (b : Built) → next_of b.walk ≡ next.Wants form.Empty →
     own_at (next_layout b) [] ≡ Ok (((head.leaf tree.unit), None), [])
 empty_read b h = empty_by (next_layout b) (next_has b form.Empty h)
 
+-- the same of a node of fields that is next
 pub fields_read : (b : Built) → next_of b.walk ≡ next.Wants form.Fields →
     own_at (next_layout b) []
     ≡ Ok (
@@ -210,6 +231,7 @@ pub fields_read : (b : Built) → next_of b.walk ≡ next.Wants form.Fields →
     )
 fields_read b h = let f = next_has b form.Fields h in fields_by (next_layout b) f.0 f.1
 
+-- the same of an array that is next
 pub array_read : (b : Built) (n : ℕ) → next_of b.walk ≡ next.Wants (form.Array n) →
     own_at (next_layout b) []
     ≡ Ok ((head.branch tree.list n, Some (list_part (next_layout b) n)), [])
@@ -222,6 +244,7 @@ pub bytes_added : {E : Type 0} (b new : Built) (own : List ℕ) (x : Head × Opt
 bytes_added b new own x (Ok u) r ok err = (x, r, ok)
 bytes_added b new own x (Err e) r ok err = ((x, r), err)
 
+-- a call that adds a node without bytes, or fails and changes nothing, answers as adding one does
 pub bare_added : {E : Type 0} (b new : Built) (x : Head × Option Part)
     (added : Result (Unit {0}) E) → own_at (next_layout b) [] ≡ Ok (x, []) →
     OnOk added (new ≡ with_own b x) → OnErr added (new ≡ b) → AddsBare b new added

@@ -21,6 +21,7 @@ use Rattle.decode_core.specs.declared.turned.Stopped.TheVariants as stop
 use Rattle.decode_core.specs.declared.turned.Turned.TheVariants as turned
 use Rattle.decode_core.proofs.lists.MachineTurns.{nearer}
 
+-- no bytes lead from a decoder to itself
 pub moves_none : (s : Running) → Moves s s []
 moves_none s = record {
   same = record { types = refl; limit = refl; ty = refl };
@@ -31,6 +32,7 @@ moves_none s = record {
   level = refl;
 }
 
+-- a value that is the same from one decoder to a second and on to a third is the same throughout
 same_on : (a b c : Running) → IsSame a b → IsSame b c → IsSame a c
 same_on a b c h k = record {
   types = k.types ∙ h.types;
@@ -39,6 +41,7 @@ same_on a b c h k = record {
       ∙ h.ty;
 }
 
+-- bytes that lead on behind others lead on together
 pub moves_on : (a b c : Running) (x y : List ℕ) → Moves a b x → Moves b c y → Moves a c (x ++ y)
 moves_on a b c x y h k = record {
   same = same_on a b c h.same k.same;
@@ -56,6 +59,7 @@ moves_on a b c x y h k = record {
   level = k.level ∙ h.level;
 }
 
+-- held bytes, the first of a piece and the others are the held ones and the piece
 all_bytes : (held piece : List ℕ) (n : ℕ) → (held ++ take n piece) ++ drop n piece ≡ held ++ piece
 all_bytes held piece n = append_assoc held (take n piece) (drop n piece)
     ∙ ap (λ (x : List ℕ). held ++ x) (take-append-drop n piece)
@@ -113,6 +117,7 @@ turns_on a b c piece at n le h k = (
       (step_moves b c (take n (drop at piece)) k.1 k.2)),
 )
 
+-- to drop bytes behind dropped ones is to drop them together
 pub drop_more : (piece : List ℕ) (at n : ℕ) → drop n (drop at piece) ≡ drop (at + n) piece
 drop_more piece at n = drop-drop n at piece
 
@@ -137,12 +142,14 @@ rest_tells : (b c : Running) (piece : List ℕ) (at n : ℕ) →
 rest_tells b c piece at n k =
     subst (λ (l : List ℕ). StepTells b c l (turned.On n)) (take_rest piece at) k
 
+-- a turn that goes on behind the first bytes of a piece leads on with what it took
 pub turn_goes_on : (a b c : Running) (piece : List ℕ) (at n : ℕ) → at ≤ length piece →
     Moves a b (take at piece) →
     StepTells b c (take (length piece - at) (drop at piece)) (turned.On n) → (at + n ≤ length piece)
     × Moves a c (take (at + n) piece)
 turn_goes_on a b c piece at n le h k = turns_on a b c piece at n le h (rest_tells b c piece at n k)
 
+-- a turn that goes on leaves less to do
 pub turn_nearer : (b c : Running) (piece : List ℕ) (at n : ℕ) →
     StepTells b c (take (length piece - at) (drop at piece)) (turned.On n) →
     left_to_do c (drop (at + n) piece) < left_to_do b (drop at piece)
@@ -170,6 +177,7 @@ awaits_goes_on s f h w = by s.built.walk.frames h.next w where
 
 -- ---- the turns are counted
 
+-- a step adds no node or one
 pub grows_by : (a b : Running) (bytes : List ℕ) → Steps a b bytes →
     (length b.built.entries ≡ length a.built.entries)
     ⊎ (length b.built.entries ≡ suc (length a.built.entries))
@@ -185,6 +193,7 @@ each_turn old a b piece from so_far one n h is k =
     elim (grows_by a b (take n piece) k.2)
     [ inl same ↦ omega (arith, h, is, same) | inr more ↦ omega (arith, h, is, more) ]
 
+-- each step takes a byte at least or adds a node
 pub one_or_bytes : (a b : Running) (bytes : List ℕ) → Steps a b bytes →
     suc (length a.built.entries) ≤ length bytes + length b.built.entries
 one_or_bytes a b bytes (inl k) = omega (arith, k.0, ap (λ (s : State). length s.nodes) k.1)

@@ -38,10 +38,12 @@ pub next_run : (b : Built) (k : RunKind) → next_of b.walk ≡ next.Wants (run_
 next_run b k h = let w = wanted b.walk (run_form k) h in
     rw w.is_next (run_layout b.walk.types w.ty k w.form_is)
 
+-- the next layout of a primitive type is that of its kind
 kind_next : (b : Built) (p : Primitive) (k : PrimitiveKind) →
     next_of b.walk ≡ next.Wants (form.Primitive p) → kind_of p ≡ k → next_layout b ≡ kind_layout k
 kind_next b p k h e = next_has b (form.Primitive p) h ∙ ap kind_layout e
 
+-- the bytes that a form needs are just those of the node, if it is no run
 needs_these : (b : Built) (f : Form) (own : List ℕ) → next_of b.walk ≡ next.Wants f → HasBytes f →
     NoRun f → AreOwn f own → NeedsThese f own
 needs_these b form.Empty own h s n k = (s, k)
@@ -62,11 +64,13 @@ pub own_whole : (b : Built) (f : Form) (own : List ℕ) → next_of b.walk ≡ n
 own_whole b f own h s n k =
     form_whole f (next_layout b) own (next_has b f h) (needs_these b f own h s n k)
 
+-- where bytes are enough for a node and are read, nothing is left
 none_left : {X : Type 0} (read : Read Refusal X) (x : X) (rest : List ℕ) → IsWhole read →
     read ≡ Ok (x, rest) → read ≡ Ok (x, [])
 none_left read x rest h e = let nil : rest ≡ [] = (rw e at h) in e
     ∙ ap (λ (r : List ℕ). Ok (x, r)) nil
 
+-- where bytes are enough for a node and are refused, the refusal does not wait for more
 no_wait : {X : Type 0} (read : Read Refusal X) (e : Refusal) (left : List ℕ) → IsWhole read →
     read ≡ Err (e, left) → is_cut e ≡ false
 no_wait read e left h is = (rw is at h)

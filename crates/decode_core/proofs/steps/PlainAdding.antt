@@ -36,6 +36,7 @@ use Rattle.decode_core.specs.declared.node.NodeFault.{NodeFault}
 use Rattle.decode_core.specs.declared.node.NodeFault.TheVariants as fault
 use Rattle.decode_core.proofs.steps.NodeAdding.{all_read, next_has, node_refused}
 
+-- each plain form has bytes of its own
 pub plain_bytes : (p : PlainForm) → HasBytes (form_of_plain p)
 plain_bytes plain.Bool = tt
 plain_bytes plain.Char = tt
@@ -45,6 +46,7 @@ plain_bytes (plain.Wide s) = tt
 plain_bytes (plain.Compact m) = tt
 plain_bytes plain.Count = tt
 
+-- no plain form is a run
 no_run : (p : PlainForm) → NoRun (form_of_plain p)
 no_run plain.Bool = tt
 no_run plain.Char = tt
@@ -86,6 +88,7 @@ plain_next_layout b p h = by p (next_has b (form_of_plain p) h) where
   by (plain.Compact m) f = f
   by plain.Count f = f
 
+-- the own bytes of a node without parts are read as its leaf
 own_plain : (q : Plain) (own : List ℕ) → own_at (layout.plain q) own ≡ leaf_own (leaf_at q own)
 unfolding own_at layout_at
 own_plain q own = refl
@@ -105,16 +108,19 @@ spells b p own l h a r =
     all_read (form_of_plain p) b own (leaf_head l, None) h (plain_bytes p) (no_run p) a
     (r.0, next_own b p own h ∙ r.1)
 
+-- bytes that are read as a leaf spell the next node
 pub plain_spelled : (b : Built) (p : PlainForm) (own : List ℕ) (l : Leaf) →
     next_of b.walk ≡ next.Wants (form_of_plain p) → AreOwn (form_of_plain p) own →
     ReadsPlain p own (Ok l) → IsSpelled b own
 plain_spelled b p own l h a r = ((leaf_head l, None), spells b p own l h a r)
 
+-- bytes that are read as a leaf add it as the next node
 pub plain_added : (b new : Built) (p : PlainForm) (own : List ℕ) (l : Leaf) →
     next_of b.walk ≡ next.Wants (form_of_plain p) → AreOwn (form_of_plain p) own →
     ReadsPlain p own (Ok l) → new ≡ with_leaf b (leaf_head l) → IsAdded b new own
 plain_added b new p own l h a r is = ((leaf_head l, None), spells b p own l h a r, is)
 
+-- bytes that are refused as a leaf refuse the next node, at the same place
 pub plain_refused : (b : Built) (p : PlainForm) (own : List ℕ) (f : Fault) (told : NodeFault) →
     next_of b.walk ≡ next.Wants (form_of_plain p) → AreOwn (form_of_plain p) own →
     ReadsPlain p own (Err f) → told ≡ fault.Refused (reason_of (basic f.reason)) f.at →
@@ -138,6 +144,7 @@ leaf_tree (leaf.Wide s) = (tree.wide s.now, refl)
 leaf_tree (leaf.Compact n) = (tree.compact n, refl)
 leaf_tree (leaf.Count n) = (tree.count n, refl)
 
+-- own bytes that give a leaf and leave nothing are read as this leaf
 leaf_only : (read : Read Refusal Tree) (t : tree.Leaf) →
     leaf_own read ≡ Ok ((head.leaf t, None), []) → read ≡ Ok (tree.leaf t, [])
 leaf_only (Ok x) t e =

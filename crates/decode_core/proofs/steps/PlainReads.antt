@@ -17,6 +17,7 @@ use Rattle.decode_core.specs.NodeForms.{ReadsPlain, form_of_plain}
 use Rattle.decode_core.specs.Told.{leaf_own}
 use Rattle.decode_core.specs.declared.forms.PlainForm.TheVariants as plain
 
+-- an integer of 256 bits has 32 bytes of its own
 wide_long : (s : Signedness) (own : List ℕ) → AreOwn (form_of_plain (plain.Wide s)) own →
     length own ≡ 32
 wide_long sign.Unsigned own a = a.3

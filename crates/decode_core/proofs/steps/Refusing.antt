@@ -50,6 +50,7 @@ use Rattle.decode_core.proofs.steps.Whole.{u32_is}
 
 -- ---- fewer bytes than a node needs
 
+-- where fewer bytes are there than are wanted, they are cut
 bytes_short : (k : ℕ) (b : List ℕ) → length b < k → bytes_at k b ≡ Err (scale.Truncated, [])
 bytes_short k b h = rw (lt-ltb (length b) k h) refl
 
@@ -58,6 +59,7 @@ abbrev pub IsShortOf : (ℕ → ℕ) → List ℕ → Type 0
 IsShortOf needed [] = Unit {0}
 IsShortOf needed (first ∷ rest) = length (first ∷ rest) < needed first
 
+-- a compact integer with fewer bytes than it needs is cut
 integer_short : (m : Target) (b : List ℕ) → IsShortOf (compact_need m) b →
     integer_at m b ≡ Err (scale.Truncated, [])
 integer_short m [] h = refl
@@ -70,6 +72,7 @@ integer_short m (first ∷ rest) h = by (is_too_long m first) refl where
   by false e = let few : length (first ∷ rest) < form_len first = (rw e at h) in
       rw (bytes_short (form_len first) (first ∷ rest) few) refl
 
+-- the same of a compact, if its target is not nothing
 pub compact_short : (m : Target) (b : List ℕ) → m ≢ target.Unit → IsShortOf (compact_need m) b →
     compact_at m b ≡ Err (scale.Truncated, [])
 unfolding compact_at
@@ -80,20 +83,24 @@ compact_short target.U32 b ne h = integer_short target.U32 b h
 compact_short target.U64 b ne h = integer_short target.U64 b h
 compact_short target.U128 b ne h = integer_short target.U128 b h
 
+-- bytes that are short of a number, one at least, are fewer than it
 below : (k : ℕ) (b : List ℕ) → 1 ≤ k → IsShortOf (λ first. k) b → length b < k
 below k [] some h = omega (arith, some)
 below k (first ∷ rest) some h = h
 
+-- an integer with fewer bytes than its width is cut
 number_short : (make : List ℕ → tree.Leaf) (k : ℕ) (b : List ℕ) → 1 ≤ k → IsShortOf (λ first. k) b →
     leaf_own (as_leaf make (bytes_at k b)) ≡ Err (truncated, [])
 number_short make k b some h = rw (bytes_short k b (below k b some h)) refl
 
+-- a boolean with no byte is cut
 bool_short : (b : List ℕ) → IsShortOf (λ first. 1) b →
     own_at (layout.plain layout.bool) b ≡ Err (truncated, [])
 unfolding own_at layout_at
 bool_short [] h = refl
 bool_short (first ∷ rest) h = absurd (omega (arith, h))
 
+-- a character with fewer than four bytes is cut
 char_short : (b : List ℕ) → IsShortOf (λ first. 4) b →
     own_at (layout.plain layout.char) b ≡ Err (truncated, [])
 unfolding own_at layout_at
@@ -106,11 +113,13 @@ run_length_short kind.Text b s h = compact_short target.U32 b u32_is h
 run_length_short kind.Bytes b s h = compact_short target.U32 b u32_is h
 run_length_short (kind.ByteArray n) b s h = absurd s
 
+-- a run with fewer bytes than its length has is cut
 pub run_short : (k : RunKind) (b : List ℕ) → HasBytes (run_form k) →
     IsShortOf (need (run_form k)) b → own_at (layout.plain (layout.run k)) b ≡ Err (truncated, [])
 unfolding own_at layout_at run_at
 run_short k b s h = rw (run_length_short k b s h) refl
 
+-- a value of a primitive kind with fewer bytes than it needs is cut
 kind_short : (k : PrimitiveKind) (b : List ℕ) → IsShortOf (kind_need k) b →
     own_at (kind_layout k) b ≡ Err (truncated, [])
 unfolding own_at layout_at
@@ -123,22 +132,26 @@ kind_short (K.Signed w) b h =
     number_short (λ c. tree.signed (signed_number c)) (width_bytes w) b (width_some w) h
 kind_short (K.Wide s) b h = number_short tree.wide 32 b (omega arith) h
 
+-- a variant without the byte of its index is cut
 arms_short : (lay : Layout) (h : HasForm form.Arm lay) (b : List ℕ) → IsShortOf (λ first. 1) b →
     own_at lay b ≡ Err (truncated, [])
 unfolding own_at
 arms_short lay h [] k = rw h.1 refl
 arms_short lay h (first ∷ rest) k = absurd (omega (arith, k))
 
+-- a sequence with fewer bytes than its length has is cut
 sequence_short : (lay : Layout) (h : HasForm form.Sequence lay) (b : List ℕ) →
     IsShortOf (compact_need target.U32) b → own_at lay b ≡ Err (truncated, [])
 unfolding own_at
 sequence_short lay h b k = rw (h.1, compact_short target.U32 b u32_is k) refl
 
+-- a count with fewer bytes than it needs is cut
 count_short : (lay : Layout) (h : HasForm form.Count lay) (b : List ℕ) →
     IsShortOf (compact_need target.U32) b → own_at lay b ≡ Err (truncated, [])
 unfolding own_at layout_at
 count_short lay h b k = rw (h, compact_short target.U32 b u32_is k) refl
 
+-- a compact node with fewer bytes than it needs is cut, if its target is not nothing
 compact_own_short : (m : Target) (lay : Layout) → m ≢ target.Unit → HasForm (form.Compact m) lay →
     (b : List ℕ) → IsShortOf (compact_need m) b → own_at lay b ≡ Err (truncated, [])
 unfolding own_at layout_at
@@ -172,12 +185,14 @@ front_short f (x ∷ own) (suc i) a lt =
 
 -- ---- what the machine tells where the next node fails
 
+-- where the own bytes of the first value fail, all that follows it is not read
 fails_first : (r : List TypeInfo) (room t : ℕ) (lay : Layout) (rest : List ℕ → _) (x left : List ℕ)
     (e : Refusal) → met_layout r t ≡ lay → own_at lay x ≡ Err (e, left) →
     then (told_at r (suc room) t x) rest ≡ told [] (Err ((e, left), x))
 unfolding told_at
 fails_first r room t lay rest x left e m h = rw (m, h) refl
 
+-- where the own bytes of the next node fail, the state tells this fault and adds nothing
 pub remain_next : (b : Built) (n : AtNext b) (x left : List ℕ) (e : Refusal) →
     own_at (next_layout b) x ≡ Err (e, left) →
     remain b.walk.types (state_of b) x ≡ told [] (Err ((e, left), x))
@@ -200,6 +215,7 @@ pub record Refuses (b : Built) (x : List ℕ) (e : Refusal) (left : List ℕ) (l
   pub tells : remain b.walk.types (state_of b) x ≡ told [] (Err ((e, left), x))
   pub decided : Decided b.walk.types (state_of b) x e left len
 
+-- a refusal that is told to be no cut is none
 cut_not : (e : Refusal) → is_cut e ≡ false → e ≢ truncated
 cut_not e h is = let no : is_cut truncated ≡ false = ap is_cut (sym is) ∙ h in absurd cc
 
@@ -232,6 +248,7 @@ refuses_by b n own more back e is cut few =
       };
     }
 
+-- where just the node's bytes refuse it, the state refuses it, and they decide that
 pub refuses : (b : Built) (f : Form) (own more back : List ℕ) (e : Refusal) →
     next_of b.walk ≡ next.Wants f → HasBytes f → AreOwn f own →
     own_at (next_layout b) own ≡ Err (e, back) → is_cut e ≡ false →
@@ -242,6 +259,7 @@ refuses b f own more back e h s a is cut =
 
 -- ---- a type that stops
 
+-- a type that stops is refused as it is met, with all bytes left
 stop_laid : (told_reason : StopReason) (r : List TypeInfo) (t : ℕ) → IsStoppedBy told_reason r t →
     (x : List ℕ) → own_at (met_layout r t) x ≡ Err (stop_refusal told_reason, x)
 unfolding own_at layout_at met_layout
@@ -250,6 +268,7 @@ stop_laid stop.NoFiniteValue r t h x = rw h refl
 stop_laid stop.BitSequence r t h x = rw (h.0, h.1) refl
 stop_laid stop.BadCompact r t h x = rw (h.0, h.1) refl
 
+-- where there is no room for a value, it is refused as too deep, and nothing is read
 no_room_tells : (r : List TypeInfo) (t : ℕ) (rest : List ℕ → _) (x : List ℕ) →
     then (told_at r zero t x) rest ≡ told [] (Err ((too_deep, x), x))
 unfolding told_at
@@ -261,6 +280,7 @@ state_from : (b : Built) (top : OpenPart) (around : List OpenPart) (room : ℕ) 
     state_of b ≡ record { nodes = b.entries; room = room; pending = top.left ∷ parts_of around }
 state_from b top around room f k = rw (k, f) refl
 
+-- where the next type stops, too deep or by itself, the state refuses it as it is met
 stop_by : (b : Built) (told_reason : StopReason) (t : ℕ) (top : OpenPart) (around : List OpenPart) →
     b.walk.frames ≡ top ∷ around → first_of top.left ≡ Some t →
     ((told_reason ≡ stop.TooDeep) × (b.walk.limit + 1 < length b.walk.frames))
@@ -283,6 +303,7 @@ stop_by b told_reason t top around fs first (inr here) x =
     (rest_told b.walk.types (suc room) (left_after top.left ∷ parts_of around)) x x
     (stop_refusal told_reason) refl (stop_laid told_reason b.walk.types t here.1 x))
 
+-- the same where the walk says that it stops
 pub stop_tells : (b : Built) (told_reason : StopReason) → next_of b.walk ≡ next.Stop told_reason →
     (x : List ℕ) → remain b.walk.types (state_of b) x ≡ told []
     (Err ((stop_refusal told_reason, x), x))
@@ -291,12 +312,14 @@ stop_tells b told_reason h x =
     let top = top_of b.walk.frames s.ty s.is_next in
     stop_by b told_reason s.ty top.0 top.1 top.2 top.3 s.why x
 
+-- no reason to stop is that bytes are missing
 pub no_cut : (told_reason : StopReason) → is_cut (stop_refusal told_reason) ≡ false
 no_cut stop.TooDeep = refl
 no_cut stop.NoFiniteValue = refl
 no_cut stop.BitSequence = refl
 no_cut stop.BadCompact = refl
 
+-- where the walk stops, the state refuses, and no byte decides that
 pub stop_refuses : (b : Built) (told_reason : StopReason) → next_of b.walk ≡ next.Stop told_reason →
     (x : List ℕ) → Refuses b x (stop_refusal told_reason) x 0
 stop_refuses b told_reason h x = record {

@@ -55,6 +55,7 @@ run_behind : (k : RunKind) (n : ℕ) (bytes : List ℕ) (read : Read Reason (Lis
 unfolding run_at
 run_behind k n bytes read h is = rw (length_again k n bytes h, is) refl
 
+-- where fewer bytes are there than are wanted, they are cut
 bytes_few : (n : ℕ) (bytes : List ℕ) → length bytes < n →
     bytes_at n bytes ≡ Err (scale.Truncated, [])
 bytes_few n bytes h = rw (lt-ltb (length bytes) n h) refl
@@ -84,6 +85,7 @@ pub record IsBad (k : RunKind) (s : List ℕ) (valid : ℕ) : Type 0 where
       run_judged k from (s, []) ≡ Err (scale.BadUtf8, drop valid from)
   pub within : valid ≤ length s
 
+-- where bytes of a run are found to be bad, it is a text that is not UTF-8 from there on
 pub is_bad : (k : RunKind) (s : List ℕ) (valid : ℕ) → bad_bytes k s ≡ Some valid → IsBad k s valid
 is_bad kind.Text s valid h = by (is_utf8 s) refl where
   by : (c : Bool) → is_utf8 s ≡ c → IsBad kind.Text s valid
@@ -147,6 +149,7 @@ run_begun k n bytes i h all lt = let front = run_front k n in elim (cases_lt i (
 
 -- ---- an array of u8
 
+-- an array of u8 has its length by its type
 pub byte_array_length : (n : ℕ) → IsLength (kind.ByteArray n) n
 byte_array_length n = record { own = λ has. absurd has; read = refl }
 
@@ -173,10 +176,12 @@ pub record AtEnd (b : Built) : Type 0 where
 abbrev pub own_of : Pieces → List ℕ
 own_of t = run_front t.kind t.len ++ t.bytes
 
+-- where a run is open, its length and the bytes that came are held
 pub held_open : (b : Built) (c : List ℕ) (t : Pieces) → b.run ≡ Some t →
     held_of (record { built = b; carry = c }) ≡ own_of t
 held_open b c t e = ap (λ (o : Option Pieces). run_held o c) e
 
+-- a run at its end lacks nothing
 pub end_whole : (b : Built) → AtEnd b → IsRunWhole b
 end_whole b n =
     let t = n.pieces in
@@ -202,10 +207,12 @@ bad_within b n valid is =
 abbrev pub closed_of : Built → Built
 closed_of b = record b { run = None }
 
+-- where an open run is next, the own bytes of the next node are read as the run
 laid_run : (b : Built) (t : Pieces) → next_of b.walk ≡ next.Wants (run_form t.kind) →
     (l : List ℕ) → own_at (next_layout b) l ≡ own_at (layout.plain (layout.run t.kind)) l
 laid_run b t wants l = ap (λ (f : Layout). own_at f l) (next_run b t.kind wants)
 
+-- a run at its end whose bytes are not bad is read as a leaf that leaves nothing
 end_read : (b : Built) (n : AtEnd b) → bad_text b.run ≡ None →
     own_at (next_layout b) (own_of n.pieces)
     ≡ Ok ((head.leaf (run_leaf n.pieces.kind n.pieces.bytes), None), [])
@@ -214,6 +221,7 @@ end_read b n good =
     laid_run b t n.wants (own_of t)
     ∙ run_whole t.kind t.len t.bytes n.len n.all (sym (end_bad b n) ∙ good)
 
+-- to end a run whose bytes are not bad is to add its node by its length and bytes
 run_added : (b new : Built) (n : AtEnd b) → bad_text b.run ≡ None → new ≡ with_run_ended b →
     IsAdded (closed_of b) new (own_of n.pieces)
 run_added b new n good is = (
@@ -222,6 +230,7 @@ run_added b new n good is = (
   is ∙ ap (λ (o : Option Pieces). with_leaf (closed_of b) (run_head o)) n.open_is,
 )
 
+-- where a run was ended whose bytes are not bad, the decoder is on its way again
 pub ended_running : (b new : Built) (c : List ℕ) (n : AtEnd b) → c ≡ [] → bad_text b.run ≡ None →
     new ≡ with_run_ended b → IsRunning new c None
 ended_running b new c n none good is =
@@ -253,6 +262,7 @@ ended_tells b new c n none good is =
 
 -- ---- a text that is refused
 
+-- a text at its end that is not UTF-8 stops the turns at the first bad byte
 pub bad_tells : (b : Built) (c : List ℕ) (n : AtEnd b) (valid before : ℕ) →
     bad_text b.run ≡ Some valid → before ≡ length (compact n.pieces.len) → (rest : List ℕ) →
     EndsTurns (record { built = b; carry = c }) rest
@@ -314,6 +324,7 @@ pub record IsOpen (b : Built) (c : List ℕ) (o : OpenRun) : Type 0 where
   pub len : pieces.len ≡ o.len
   pub lacks : length pieces.bytes + o.missing ≡ pieces.len
 
+-- a kept run is one that is open and next, with what it lacks
 pub is_open : (b : Built) (c : List ℕ) (o : OpenRun) → IsRunNext b c b.run →
     IsKeptRun b.run (Some o) → IsOpen b c o
 is_open b c o h k = by b.run refl h k where
@@ -349,6 +360,7 @@ at_end b c o n none = record {
   all = omega (arith, n.lacks, none);
 }
 
+-- a run that lacks nothing has the length that is kept of it
 pub end_len : (b : Built) (c : List ℕ) (o : OpenRun) (n : IsOpen b c o) (none : o.missing ≡ 0) →
     (at_end b c o n none).pieces.len ≡ o.len
 unfolding at_end

@@ -31,6 +31,7 @@ use Rattle.decode_core.proofs.steps.Stepping.{at_next}
 use Rattle.decode_core.proofs.steps.Steps.{added_same, added_steps, held_closed, taken_running}
 use Rattle.decode_core.proofs.steps.Steps.{taken_same, taken_steps}
 
+-- what comes next has one form
 same_form : (w : Next) (f g : Form) → w ≡ next.Wants f → w ≡ next.Wants g → f ≡ g
 same_form w f g h k = let both = sym h ∙ k in cc
 
@@ -41,22 +42,26 @@ carry_none b [] f h k bare = refl
 carry_none b (x ∷ xs) f h k bare =
     absurd (bare (subst HasBytes (same_form (next_of b.walk) h.0 f h.1 k) h.2))
 
+-- where no run is open, none is kept
 kept_none : (o : Option Pieces) (kept : Option OpenRun) → o ≡ None → IsKeptRun o kept →
     kept ≡ None
 kept_none o None e h = refl
 kept_none (Some t) (Some o') e h = absurd cc
 kept_none None (Some o') e h = absurd h
 
+-- where no run is open, a decoder on its way keeps none
 pub no_run : (b : Built) (carry : List ℕ) (kept : Option OpenRun) → IsRunning b carry kept →
     b.run ≡ None → kept ≡ None
 no_run b carry kept h closed = kept_none b.run kept closed h.is_kept
 
+-- with nothing carried, a decoder stays on its way where a node without bytes is added or not
 bare_by : {E : Type 0} (b new : Built) (f : Form) (added : Result (Unit {0}) E) →
     IsRunning b [] None → next_of b.walk ≡ next.Wants f → b.run ≡ None → AddsBare b new added →
     IsRunning new [] None
 bare_by b new f (Ok u) h k closed adds = added_running b new [] (at_next b f k) closed adds
 bare_by b new f (Err e) h k closed adds = subst (λ (s : Built). IsRunning s [] None) (sym adds.1) h
 
+-- a decoder stays on its way, with its carry, where a node without own bytes is added or not
 pub bare_running : {E : Type 0} (b new : Built) (carry : List ℕ) (kept : Option OpenRun) (f : Form)
     (added : Result (Unit {0}) E) → IsRunning b carry kept → next_of b.walk ≡ next.Wants f →
     (HasBytes f → ⊥) → b.run ≡ None → AddsBare b new added → IsRunning new carry kept
@@ -65,6 +70,7 @@ bare_running b new carry kept f added h k bare closed adds =
     let no = no_run b carry kept h closed in
     rw (none, no) (bare_by b new f added (rw (none, no) at h) k closed adds)
 
+-- to add a node without bytes is a turn that goes on and takes no bytes
 pub bare_tells : (b new : Built) (carry : List ℕ) (kept : Option OpenRun) (f : Form) →
     IsRunning b carry kept → next_of b.walk ≡ next.Wants f → (HasBytes f → ⊥) → b.run ≡ None →
     IsAdded b new [] →
@@ -116,6 +122,7 @@ node_wants f b c bytes rest own wants closed is k = record {
   );
 }
 
+-- a decoder on its way without an open run is so also with its carry dropped
 dropped : (b : Built) (c : List ℕ) (kept : Option OpenRun) → IsRunning b c kept → b.run ≡ None →
     IsRunning b [] None
 dropped b c kept h closed =
@@ -129,10 +136,12 @@ dropped b c kept h closed =
       run_next = rw closed tt;
     }
 
+-- a decoder that stays as it was and drops its carry is on its way
 same_running : (b new : Built) (c : List ℕ) (old kept : Option OpenRun) → IsRunning b c old →
     b.run ≡ None → new ≡ b → kept ≡ None → IsRunning new [] kept
 same_running b new c old kept h closed e k = rw (e, k) (dropped b c old h closed)
 
+-- a decoder is on its way after the next node's bytes, whatever they made of it
 pub node_running : (f : Form) (b new : Built) (c : List ℕ) (old kept : Option OpenRun)
     (own : List ℕ) (taken : Result (Unit {0}) NodeFault) → IsRunning b c old →
     next_of b.walk ≡ next.Wants f → b.run ≡ None → AreOwn f own →
@@ -144,6 +153,7 @@ node_running f b new c old kept own (Err (fault.Refused told_reason at)) h wants
 node_running f b new c old kept own (Err fault.OutOfMemory) h wants closed a k =
     same_running b new c old kept h closed k.1 k.2
 
+-- where held bytes and those of a piece refuse the next node, the turns end with that
 refused_tells : (b new : Built) (c bytes rest own : List ℕ) (f : Form) (told_reason : DecodeReason)
     (at : ℕ) → next_of b.walk ≡ next.Wants f → HasBytes f → b.run ≡ None → AreOwn f own →
     c ++ bytes ≡ own → IsRefused b own told_reason at →
@@ -167,6 +177,7 @@ refused_tells b new c bytes rest own f told_reason at wants some closed a is h =
       omega (arith, ap length is, length-append c bytes),
     )
 
+-- a turn that took the next node's bytes tells what they made of it
 pub node_tells : (f : Form) (b new : Built) (c bytes rest own : List ℕ) (kept : Option OpenRun)
     (taken : Result (Unit {0}) NodeFault) → next_of b.walk ≡ next.Wants f → HasBytes f →
     b.run ≡ None → AreOwn f own → c ++ bytes ≡ own → 1 ≤ length bytes →
@@ -187,6 +198,7 @@ node_tells f b new c bytes rest own kept (Err fault.OutOfMemory) wants some clos
 
 -- ---- fewer bytes than the node needs
 
+-- what is carried is less than the next node needs
 pub short_of : (b : Built) (c : List ℕ) (f : Form) → IsCarry b c → next_of b.walk ≡ next.Wants f →
     IsShortOf (need f) c
 short_of b [] f h wants = tt
@@ -194,6 +206,7 @@ short_of b (x ∷ xs) f h wants =
     subst (λ (g : Form). length (x ∷ xs) < need g x) (same_form (next_of b.walk) h.0 f h.1 wants)
     h.4
 
+-- where the next node has bytes of its own and the piece is empty, more are wanted
 pub wants_more : (b : Built) (c : List ℕ) (f : Form) → IsCarry b c → next_of b.walk ≡ next.Wants f →
     HasBytes f → b.run ≡ None → EndsTurns (record { built = b; carry = c }) [] stop.Wants
 wants_more b c f h wants some closed =
@@ -215,10 +228,12 @@ wants_more b c f h wants some closed =
 abbrev pub of_fields : Built → List ℕ → Running
 of_fields b c = record { built = b; carry = c }
 
+-- the own bytes of a node, as many as its form needs, are one at least
 some_own : (f : Form) (own : List ℕ) → AreOwn f own → 1 ≤ length own
 some_own f [] a = let no = a.2 in absurd cc
 some_own f (x ∷ own) a = omega arith
 
+-- a decoder that carried nothing stays on its way after a node's bytes from the piece alone
 pub whole_running : (f : Form) (b new : Built) (c own : List ℕ) (old kept : Option OpenRun)
     (taken : Result (Unit {0}) NodeFault) → IsRunning b c old → c ≡ [] →
     next_of b.walk ≡ next.Wants f → b.run ≡ None → AreOwn f own →
@@ -227,6 +242,7 @@ whole_running f b new c own old kept taken h none wants closed a k =
     subst (λ (l : List ℕ). IsRunning new l kept) (sym none)
     (node_running f b new c old kept own taken h wants closed a k)
 
+-- a turn that took a node's bytes whole from the piece tells what they made of it
 pub whole_tells : (f : Form) (b new : Built) (c own rest : List ℕ) (kept : Option OpenRun)
     (taken : Result (Unit {0}) NodeFault) (result : Turned) → c ≡ [] →
     next_of b.walk ≡ next.Wants f → HasBytes f → b.run ≡ None → AreOwn f own →
@@ -245,12 +261,14 @@ pub count_is : (c piece : List ℕ) (len count : ℕ) → length c < len →
 count_is c piece len count short is enough =
     (omega (arith, short, is, enough), omega (arith, is), omega (arith, short, enough))
 
+-- bytes, one at least, begin with the first byte of a list that they stand in front of
 front_is : (own more rest : List ℕ) (first : ℕ) → 1 ≤ length own → own ++ more ≡ first ∷ rest →
     (tail : List ℕ) × (own ≡ first ∷ tail)
 front_is [] more rest first some is = absurd (omega (arith, some))
 front_is (x ∷ own) more rest first some is = let same : x ≡ first = cc in
     (own, ap (λ (y : ℕ). y ∷ own) same)
 
+-- what was carried and what is still needed of the piece are just the node's bytes
 pub cut_own : (f : Form) (c piece own : List ℕ) (len count : ℕ) → IsNeeded f len (c ++ piece) →
     own ≡ c ++ take count piece → length c < len → count ≡ min (len - length c) (length piece) →
     len ≤ length c + count → AreOwn f own
@@ -272,6 +290,7 @@ cut_own f c piece own len count n is short count_of enough =
     let front = front_is own (drop count piece) n.1.0 n.0 (omega (arith, long, short)) parts in
     (n.0, front.0, front.1, long ∙ n.2)
 
+-- a turn that took a node's bytes from the carry and the piece tells what they made of it
 pub cut_tells : (f : Form) (b new : Built) (c cleared piece own : List ℕ) (kept : Option OpenRun)
     (taken : Result (Unit {0}) NodeFault) (result : Turned) (held count len : ℕ) →
     next_of b.walk ≡ next.Wants f → HasBytes f → b.run ≡ None → IsNeeded f len (c ++ piece) →
@@ -306,22 +325,26 @@ first_carried [] piece first h = absurd cc
 first_carried (x ∷ c) piece first h = let same : x ≡ first = cc in
     (c ++ piece, ap (λ (y : ℕ). y ∷ (c ++ piece)) same)
 
+-- where nothing is carried, the first byte is that of the piece
 pub first_of_piece : (c piece : List ℕ) → None ≡ slice_get c 0 → 1 ≤ length piece →
     IsFirst (slice_index_or piece 0 0) (c ++ piece)
 first_of_piece [] [] h some = absurd (omega (arith, some))
 first_of_piece [] (x ∷ piece) h some = (piece, refl)
 first_of_piece (y ∷ c) piece h some = absurd cc
 
+-- a list whose length is found to be 0 is empty
 pub none_of : (bytes : List ℕ) → true ≡ (length bytes == 0) → bytes ≡ []
 none_of bytes h = nil_of bytes (eqb-true (length bytes) 0 (sym h)) where
   nil_of : (l : List ℕ) → length l ≡ 0 → l ≡ []
   nil_of [] e = refl
   nil_of (x ∷ l) e = absurd (omega (arith, e))
 
+-- a number that is not 0 is 1 at least
 pub some_missing : (n : ℕ) → (n ≡ 0 → ⊥) → 1 ≤ n
 some_missing zero h = absurd (h refl)
 some_missing (suc n) h = omega arith
 
+-- the first bytes of a piece, as many as the node needs, are just the node's
 pub whole_own : (f : Form) (c piece : List ℕ) (len first : ℕ) → c ≡ [] →
     IsFirst first (c ++ piece) → len ≡ need f first → 1 ≤ len → len ≤ length piece →
     AreOwn f (take len piece)

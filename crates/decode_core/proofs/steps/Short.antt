@@ -24,6 +24,7 @@ short_form (suc zero) q h = omega arith
 short_form (suc (suc zero)) q h = omega arith
 short_form (suc (suc (suc m))) q h = absurd (omega (arith, h))
 
+-- the target of a compact has 16 bytes at most
 target_small : (m : Target) → target_bytes m ≤ 16
 target_small target.Unit = omega arith
 target_small target.U8 = omega arith
@@ -32,6 +33,7 @@ target_small target.U32 = omega arith
 target_small target.U64 = omega arith
 target_small target.U128 = omega arith
 
+-- a compact that is not too long for its target has 17 bytes at most
 form_len_small : (m : Target) (i : ℕ) → is_too_long m i ≡ false → form_len i ≤ 17
 form_len_small m i h = elim (cases_lt (i % 4) 3) [
   | inl lt ↦ short_form (i % 4) (i / 4 + 5) lt
@@ -47,6 +49,7 @@ compact_need_small m first = by (is_too_long m first) refl where
   by true e = omega arith
   by false e = omega (arith, form_len_small m first e)
 
+-- a primitive kind needs 32 bytes at most, of a text its length alone
 kind_need_small : (k : PrimitiveKind) (first : ℕ) → kind_need k first ≤ 32
 kind_need_small K.Bool first = omega arith
 kind_need_small K.Char first = omega arith
@@ -55,6 +58,7 @@ kind_need_small (K.Unsigned w) first = omega (arith, width_most w)
 kind_need_small (K.Signed w) first = omega (arith, width_most w)
 kind_need_small (K.Wide s) first = omega arith
 
+-- a form with bytes of its own needs 32 at most
 need_small : (f : Form) (first : ℕ) → HasBytes f → need f first ≤ 32
 need_small (form.Primitive p) first h = kind_need_small (kind_of p) first
 need_small (form.Compact m) first h = compact_need_small m first
@@ -67,6 +71,7 @@ need_small form.Arm first h = omega arith
 need_small (form.Array n) first h = omega arith
 need_small (form.ByteArray n) first h = absurd h
 
+-- no more than 32 bytes are carried
 pub carry_small : (b : Built) (carry : List ℕ) → IsCarry b carry → length carry ≤ 32
 carry_small b [] h = omega arith
 carry_small b (first ∷ rest) h = omega (arith, h.4, need_small h.0 first h.2)

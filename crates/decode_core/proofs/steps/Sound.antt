@@ -31,6 +31,7 @@ use Rattle.decode_core.proofs.lists.Holds.{begins_small, more_bytes}
 use Rattle.decode_core.proofs.lists.Held.{begun_is_bounded}
 use Rattle.decode_core.proofs.steps.Short.{carry_small}
 
+-- what its fields say of a decoder on its way makes it sound, if a begun tree is built
 pub sound_of : (b : Built) (carry : List ℕ) (kept : Option OpenRun) (s : Running) →
     record { built = b; carry = carry } ≡ s → IsBegun b → IsRunning b carry kept → IsSound s
 sound_of b carry kept s is begun run =
@@ -44,10 +45,12 @@ sound_of b carry kept s is begun run =
 
 -- ---- few nodes and bytes of runs are held
 
+-- the bytes of texts are counted the same with the types of nodes and without them
 texts_shown : (xs : List Entry) → entries_text_bytes xs ≡ heads_text (shown xs)
 texts_shown [] = refl
 texts_shown (x ∷ xs) = omega (arith, texts_shown xs)
 
+-- what is there of an open run is no more than what is held
 pieces_held : (s : Running) → length (pieces_bytes s.built.run) ≤ length (held_of s)
 pieces_held s = by s.built.run where
   by : (t : Option Pieces) →
@@ -55,6 +58,7 @@ pieces_held s = by s.built.run where
   by None = omega arith
   by (Some t) = omega (arith, length-append (run_front t.kind t.len) t.bytes)
 
+-- a decoder that waits for bytes has few nodes and bytes of texts for those taken
 waiting_small : (j : Job) (b : List ℕ) (n : ℕ) (s : Running) → n ≡ length b → IsWaiting j b s →
     (length s.built.entries ≤ node_bound n j.depth (widest j.registry))
     × (built_text_bytes s.built ≤ n)
@@ -79,6 +83,7 @@ waiting_small j b n s count h =
       ),
     )
 
+-- a begun tree that is whole has the nodes and text bytes of the value
 whole_counts : (g : Begun) (hs : List Head) → is_whole_tree g ≡ true → IsBegunPreorder g hs →
     (begun_nodes g ≡ nodes (tree_of hs)) × (begun_text_bytes g ≡ text_bytes (tree_of hs))
 whole_counts (whole v) hs e h = let same : tree_of hs ≡ v = ap tree_of h ∙ tree_of-preorder v in
@@ -88,6 +93,7 @@ whole_counts (in_fields vs g) hs e h = absurd cc
 whole_counts (in_arm q vs g) hs e h = absurd cc
 whole_counts (in_list n vs g) hs e h = absurd cc
 
+-- a whole value has few nodes and bytes of texts for the bytes taken
 pub done_small : (j : Job) (b : List ℕ) (n : ℕ) (s : Running) → IsDone j b s n →
     (length s.built.entries ≤ value_bound n j.depth (widest j.registry))
     × (built_text_bytes s.built ≤ n)
@@ -112,6 +118,7 @@ done_counts j b n s h =
       omega (arith, begun.text_bytes, count.1, pieces_held s, ap length h.nothing),
     )
 
+-- the bound for a finished value is no more than that for a begun one
 pub value_le_nodes : (n depth width : ℕ) → value_bound n depth width ≤ node_bound n depth width
 value_le_nodes n depth width =
     let spread : (n + 1) * (depth + 1) * (width + 1) ≡ n * (depth + 1) * (width + 1)
@@ -135,6 +142,7 @@ running_small j n s turns calls few texts limit sound counted =
           omega (arith, counted.1, few, sound.begun.turns);
     }
 
+-- a decoder that has taken nothing, with its turns counted, is small
 first_small : (j : Job) (n : ℕ) (s : Running) (turns calls : ℕ) →
     s ≡ first_running j.registry j.ty j.depth → RunCounted j n (Ok s) turns calls →
     IsSmall (record { job = j; taken = n; run = Ok s; turns = turns; calls = calls })
@@ -156,6 +164,7 @@ first_small j n s turns calls is counted =
           omega (arith, counted.1, none, closed);
     }
 
+-- a decoder that bytes led to, with its turns counted, is small for them
 pub led_small : (j : Job) (b : List ℕ) (n : ℕ) (run : Result Running DecodeFault)
     (turns calls : ℕ) → RunLed j b n run → RunCounted j n run turns calls →
     IsSmall (record { job = j; taken = n; run = run; turns = turns; calls = calls })
@@ -178,6 +187,7 @@ led_small j b n (Ok s) turns calls (inl h) counted = by h.stands where
   by (inr w) = let few = waiting_small j b n s h.count w in
       running_small j n s turns calls few.0 few.1 h.same.limit w.sound counted
 
+-- a value that is handed out is small for its bytes
 pub value_small : (j : Job) (b : List ℕ) (v : Seen) → FinishesDecoder j b (Ok v) →
     IsSmallValue j b (Ok v)
 value_small j b v h = let few = (held_is_bounded j b h.0).0 v.tree h.3 in (h.0, h.3, few.0, few.1)

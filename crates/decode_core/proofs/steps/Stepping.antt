@@ -37,15 +37,18 @@ pub record AtNext (b : Built) : Type 0 where
   pub laid : met_layout b.walk.types ty ≡ next_layout b
   pub next_is : next_type b.walk ≡ Some ty
 
+-- where a type is next, the innermost open part is there, and the type is its first
 pub top_of : (fs : List OpenPart) (t : ℕ) → first_in fs ≡ Some t → (f : OpenPart)
     × (rest : List OpenPart) × (fs ≡ f ∷ rest) × (first_of f.left ≡ Some t)
 top_of [] t h = absurd cc
 top_of (f ∷ fs) t h = (f, fs, refl, h)
 
+-- a finite type is met with its own layout
 met_is_laid : (r : List TypeInfo) (t : ℕ) → is_finite r t ≡ true → met_layout r t ≡ layout r t
 unfolding met_layout
 met_is_laid r t h = rw h refl
 
+-- where a form is wanted, the next type, its room and its layout are known
 pub at_next : (b : Built) (f : Form) → next_of b.walk ≡ next.Wants f → AtNext b
 at_next b f h =
     let w = wanted b.walk f h in
@@ -64,6 +67,7 @@ at_next b f h =
       next_is = w.is_next;
     }
 
+-- what is first of the pending parts is the first of the innermost, and then what it leaves
 pub first_is : (r : List TypeInfo) (room t : ℕ) (p : Part) (ps : List Part) → first_of p ≡ Some t →
     First r room t (p ∷ ps) (left_after p ∷ ps)
 first_is r room t (each []) ps h = absurd cc
@@ -80,6 +84,7 @@ parts_of fs = map (λ f. f.left) fs
 
 -- ---- the closing of what is whole
 
+-- a part that has nothing left reads nothing
 part_whole : (r : List TypeInfo) (room : ℕ) (p : Part) (b : List ℕ) → first_of p ≡ None →
     part_told (told_at r room) p b ≡ told [] (Ok b)
 part_whole r room (each []) b h = refl
@@ -87,6 +92,7 @@ part_whole r room (each (t ∷ ts)) b h = absurd cc
 part_whole r room (times zero t) b h = refl
 part_whole r room (times (suc n) t) b h = absurd cc
 
+-- a pending part that has nothing left may be dropped
 pub whole_told : (r : List TypeInfo) (room : ℕ) (p : Part) (ps : List Part) (b : List ℕ) →
     first_of p ≡ None → rest_told r room (p ∷ ps) b ≡ rest_told r (suc room) ps b
 unfolding rest_told
@@ -99,6 +105,7 @@ pub record Settles (r : List TypeInfo) (all : ℕ) (fs gs : List OpenPart) : Typ
       (map (λ f. f.left) gs) b
   pub fewer : length gs ≤ length fs
 
+-- closing a part that has nothing left, before closing others, keeps what is still read
 settle_on : (r : List TypeInfo) (all : ℕ) (f g : OpenPart) (fs hs : List OpenPart) →
     suc (suc (length fs)) ≤ all → first_of f.left ≡ None → Settles r all (g ∷ fs) hs →
     Settles r all (f ∷ g ∷ fs) hs
@@ -111,6 +118,7 @@ settle_on r all f g fs hs le h s = record {
   one_more : (all n : ℕ) → suc (suc n) ≤ all → suc (all - suc (suc n)) ≡ all - suc n
   one_more all n h = omega (arith, h)
 
+-- closing what is whole keeps what is still read, if it does around the innermost part
 settle_by : (r : List TypeInfo) (all : ℕ) (f g : OpenPart) (fs : List OpenPart) →
     suc (suc (length fs)) ≤ all → Settles r all (g ∷ fs) (settled_in (g ∷ fs)) → (o : Option ℕ) →
     first_of f.left ≡ o → Settles r all (f ∷ g ∷ fs)
@@ -118,6 +126,7 @@ settle_by : (r : List TypeInfo) (all : ℕ) (f g : OpenPart) (fs : List OpenPart
 settle_by r all f g fs le s (Some t) e = record { tells = λ b. refl; fewer = omega arith }
 settle_by r all f g fs le s None e = settle_on r all f g fs (settled_in (g ∷ fs)) le e s
 
+-- closing what is whole keeps what is still read, and leaves no more open
 pub settles : (r : List TypeInfo) (all : ℕ) (fs : List OpenPart) → length fs ≤ all →
     Settles r all fs (settled_in fs)
 settles r all [] le = record { tells = λ b. refl; fewer = omega arith }
@@ -146,6 +155,7 @@ parts_after : (b : Built) (n : AtNext b) →
     parts_of (advanced_in b.walk.frames) ≡ left_after n.top.left ∷ parts_of n.around
 parts_after b n = rw n.frames refl
 
+-- the pending parts are what the innermost has left and then those around it
 pub parts_are : (b : Built) (n : AtNext b) → parts_of b.walk.frames ≡ n.top.left ∷ parts_of n.around
 parts_are b n = rw n.frames refl
 
@@ -159,6 +169,7 @@ pub state_is : (b : Built) (n : AtNext b) →
     }
 state_is b n = rw (n.rooms, parts_are b n) refl
 
+-- own bytes that leave nothing spell the node of the next type, whatever follows them
 spells : (b : Built) (n : AtNext b) (own : List ℕ) (x : Head × Option Part) →
     own_at (next_layout b) own ≡ Ok (x, []) → Spells b.walk.types n.ty x own
 spells b n own x h more =
@@ -166,17 +177,21 @@ spells b n own x h more =
     ap (λ (f : Layout). own_at f own) n.laid ∙ h in
     (rw here at (own_extends (met_layout b.walk.types n.ty) own more))
 
+-- a part that has given its next value is still one part
 same_length : (p : Part) (ps : List Part) → length (left_after p ∷ ps) ≡ length (p ∷ ps)
 same_length p ps = refl
 
+-- the next node being there leaves as many parts open
 next_frame_count : (fs : List OpenPart) → length (advanced_in fs) ≡ length fs
 next_frame_count [] = refl
 next_frame_count (f ∷ fs) = refl
 
+-- the entry of the next node has the type that the walk says is next
 entry_is : (b : Built) (n : AtNext b) (h : Head) →
     entry n.ty h ≡ entry (type_or_0 (next_type b.walk)) h
 entry_is b n h = ap (λ (o : Option ℕ). entry (type_or_0 o) h) (sym n.next_is)
 
+-- to add a node without children is a turn of the machine by its own bytes
 leaf_leads : (b : Built) (n : AtNext b) (own : List ℕ) (h : Head) →
     own_at (next_layout b) own ≡ Ok ((h, None), []) →
     TurnLeads b.walk.types (state_of b) (state_of (with_leaf b h)) own
@@ -207,6 +222,7 @@ leaf_leads b n own h is =
     leads_settled b before own refl (omega (arith, next_frame_count b.walk.frames, n.bound))
     (rw (state_is b n, after_is) one)
 
+-- to add a node that opens parts is a turn of the machine by its own bytes
 open_leads : (b : Built) (n : AtNext b) (own : List ℕ) (h : Head) (p : Part) →
     own_at (next_layout b) own ≡ Ok ((h, Some p), []) →
     TurnLeads b.walk.types (state_of b) (state_of (with_open b h p)) own
@@ -244,6 +260,7 @@ open_leads b n own h p is =
     leads_settled b before own refl (omega (arith, next_frame_count b.walk.frames, n.bound))
     (rw (state_is b n, after_is) one)
 
+-- to add a node of either kind is a turn of the machine by its own bytes
 own_leads : (b : Built) (n : AtNext b) (own : List ℕ) (x : Head × Option Part) →
     own_at (next_layout b) own ≡ Ok (x, []) →
     TurnLeads b.walk.types (state_of b) (state_of (with_own b x)) own

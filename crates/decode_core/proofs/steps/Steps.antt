@@ -23,11 +23,13 @@ use Rattle.decode_core.specs.declared.run.OpenRun.{OpenRun}
 use Rattle.decode_core.proofs.steps.Settling.{added_run, added_running}
 use Rattle.decode_core.proofs.steps.Stepping.{AtNext, at_next, added_leads}
 
+-- to add a node leaves it the same value, whatever is carried
 own_same : (b : Built) (c d : List ℕ) (x : Head × Option Part) →
     IsSame (record { built = b; carry = c }) (record { built = with_own b x; carry = d })
 own_same b c d (h, None) = record { types = refl; limit = refl; ty = refl }
 own_same b c d (h, Some p) = record { types = refl; limit = refl; ty = refl }
 
+-- the same for a node that own bytes are known to have added
 pub added_same : (b new : Built) (c d own : List ℕ) → IsAdded b new own →
     IsSame (record { built = b; carry = c }) (record { built = new; carry = d })
 added_same b new c d own h =
@@ -39,6 +41,7 @@ pub held_closed : (b : Built) (c : List ℕ) → b.run ≡ None →
     held_of (record { built = b; carry = c }) ≡ c
 held_closed b c h = ap (λ (o : Option Pieces). run_held o c) h
 
+-- to add a node makes the nodes one more
 own_count : (b : Built) (x : Head × Option Part) →
     length (with_own b x).entries ≡ suc (length b.entries)
 own_count b (h, None) = omega (arith, length-append b.entries (next_entry b h ∷ []))
@@ -60,6 +63,7 @@ added_steps b new c own bytes n closed is h =
       added_count b new own h,
     )
 
+-- a run's length that is read and leaves nothing is what stands in front of the run
 spelled_of : (k : RunKind) (own : List ℕ) (n : ℕ) (read : Read Reason ℕ) →
     Takes (IsRunLength k) own read → read ≡ Ok (n, []) → own ≡ run_front k n
 spelled_of k own n (Err e) h is = absurd cc
@@ -69,6 +73,7 @@ spelled_of k own n (Ok x) h is =
     h.1 ∙ ap (λ (l : List ℕ). h.0 ++ l) nil ∙ append-nil h.0 ∙ length_is k x.0 h.0 h.2
     ∙ ap (run_front k) same
 
+-- the same for the reading of a run's length
 spelled_length : (k : RunKind) (own : List ℕ) (n : ℕ) → run_length_at k own ≡ Ok (n, []) →
     own ≡ run_front k n
 spelled_length k own n h = spelled_of k own n (run_length_at k own) (length_takes k own) h
@@ -97,6 +102,7 @@ taken_steps f b new kept c own bytes n closed is some (inr h) =
     subst (λ (s : Built). Steps (record { built = b; carry = c }) (record { built = s; carry = [] })
     bytes) (sym h.4) (opened_steps b c own bytes h.0 h.1 closed is some h.3)
 
+-- a node that is added, or a run that is opened, leaves it the same value
 pub taken_same : (f : Form) (b new : Built) (kept : Option OpenRun) (c d own : List ℕ) →
     (IsAdded b new own × (kept ≡ None)) ⊎ IsOpened f b new kept own →
     IsSame (record { built = b; carry = c }) (record { built = new; carry = d })
@@ -106,6 +112,7 @@ taken_same f b new kept c d own (inr h) =
     (record { built = s; carry = d })) (sym h.4)
     (record { types = refl; limit = refl; ty = refl })
 
+-- with a run opened that is next, a decoder is on its way and lacks all its bytes
 pub opened_running : (b : Built) (c : List ℕ) (old : Option OpenRun) (k : RunKind) (n : ℕ) →
     IsRunning b c old → next_of b.walk ≡ next.Wants (run_form k) → IsLength k n →
     IsRunning (with_run_opened b k n) [] (Some (record { len = n; missing = n }))
@@ -120,6 +127,7 @@ opened_running b c old k n h wants len =
       run_next = (wants, refl, len);
     }
 
+-- after the next node's bytes were taken, a decoder is on its way with nothing carried
 pub taken_running : (f : Form) (b new : Built) (c : List ℕ) (old kept : Option OpenRun)
     (own : List ℕ) → IsRunning b c old → next_of b.walk ≡ next.Wants f → b.run ≡ None →
     AreOwn f own → (IsAdded b new own × (kept ≡ None)) ⊎ IsOpened f b new kept own →

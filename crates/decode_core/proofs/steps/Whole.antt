@@ -40,6 +40,7 @@ abbrev pub IsSettled : {X : Type 0} → Read Reason X → Type 0
 IsSettled (Ok x) = x.1 ≡ []
 IsSettled (Err e) = e.0 ≢ scale.Truncated
 
+-- where just as many bytes are there as are wanted, all are read
 pub bytes_whole : (k : ℕ) (b : List ℕ) → length b ≡ k → bytes_at k b ≡ Ok (b, [])
 bytes_whole k b h = rw (
   le-ltb (length b) k (omega (arith, h)),
@@ -47,6 +48,7 @@ bytes_whole k b h = rw (
   drop_all k b (omega (arith, h)),
 ) refl
 
+-- a compact that is there whole leaves nothing, or is refused for good
 checked_settled : (m : Target) (at form : List ℕ) (n : ℕ) → IsSettled (checked_form m at n form [])
 checked_settled m at form n =
     by (not (bytes_eq (compact n) form)) (nat_lt n (256 ^ target_bytes m)) where
@@ -57,6 +59,7 @@ checked_settled m at form n =
       by false true = refl
       by false false = λ e. absurd cc
 
+-- just as many bytes as a compact integer needs leave nothing, or are refused for good
 integer_settled : (m : Target) (first : ℕ) (rest : List ℕ) →
     length (first ∷ rest) ≡ compact_need m first → IsSettled (integer_at m (first ∷ rest))
 integer_settled m first rest h = by (is_too_long m first) refl where
@@ -67,6 +70,7 @@ integer_settled m first rest h = by (is_too_long m first) refl where
   by false e = rw (bytes_whole (form_len first) (first ∷ rest) (rw e at h))
       (checked_settled m (first ∷ rest) (first ∷ rest) (form_number (first ∷ rest)))
 
+-- the same of a compact, if its target is not nothing
 pub compact_settled : (m : Target) (first : ℕ) (rest : List ℕ) → m ≢ target.Unit →
     length (first ∷ rest) ≡ compact_need m first → IsSettled (compact_at m (first ∷ rest))
 unfolding compact_at
@@ -77,6 +81,7 @@ compact_settled target.U32 first rest ne h = integer_settled target.U32 first re
 compact_settled target.U64 first rest ne h = integer_settled target.U64 first rest h
 compact_settled target.U128 first rest ne h = integer_settled target.U128 first rest h
 
+-- a reason other than that bytes are missing does not wait for more
 pub basic_whole : (e : Reason) → e ≢ scale.Truncated → is_cut (basic e) ≡ false
 basic_whole scale.Truncated h = absurd (h refl)
 basic_whole scale.BadBool h = refl
@@ -85,15 +90,18 @@ basic_whole scale.BadUtf8 h = refl
 basic_whole scale.CompactNotShortest h = refl
 basic_whole scale.CompactTooLarge h = refl
 
+-- a leaf of what leaves nothing leaves nothing, and a refusal for good stays one
 value_whole : {X : Type 0} (make : X → Leaf) (read : Read Reason X) → IsSettled read →
     IsWhole (leaf_own (as_leaf make read))
 value_whole make (Ok x) h = h
 value_whole make (Err e) h = basic_whole e.0 h
 
+-- the same of a sequence by its length
 length_whole : (t : ℕ) (read : Read Reason ℕ) → IsSettled read → IsWhole (length_own t read)
 length_whole t (Ok n) h = h
 length_whole t (Err e) h = basic_whole e.0 h
 
+-- the one byte of a boolean is enough to read or refuse it
 bool_whole : (b : List ℕ) → length b ≡ 1 → IsWhole (leaf_own (bool_at b))
 bool_whole [] h = absurd (omega (arith, h))
 bool_whole (x ∷ y ∷ b) h = absurd (omega (arith, h))
@@ -101,6 +109,7 @@ bool_whole (zero ∷ []) h = refl
 bool_whole (suc zero ∷ []) h = refl
 bool_whole (suc (suc x) ∷ []) h = refl
 
+-- the four bytes of a character are enough to read or refuse it
 char_whole : (b : List ℕ) → length b ≡ 4 → IsWhole (leaf_own (char_from b (bytes_at 4 b)))
 char_whole b h = rw (bytes_whole 4 b h) (by (is_scalar (number b))) where
   by : (c : Bool) → IsWhole
@@ -108,10 +117,12 @@ char_whole b h = rw (bytes_whole 4 b h) (by (is_scalar (number b))) where
   by true = refl
   by false = refl
 
+-- the bytes of an integer are enough to read it, and none is left
 number_whole : (make : List ℕ → Leaf) (k : ℕ) (b : List ℕ) → length b ≡ k →
     IsWhole (leaf_own (as_leaf make (bytes_at k b)))
 number_whole make k b h = rw (bytes_whole k b h) refl
 
+-- the one byte of an index is enough to find the arm or refuse it
 arms_whole : (arms : List Arm) (b : List ℕ) → length b ≡ 1 → IsWhole (arms_own arms b)
 arms_whole arms [] h = absurd (omega (arith, h))
 arms_whole arms (x ∷ y ∷ b) h = absurd (omega (arith, h))
@@ -127,6 +138,7 @@ NeedsThese (form.Compact m) b = (m ≢ target.Unit) × AreOwn (form.Compact m) b
 NeedsThese form.Bytes b = ⊥
 NeedsThese f b = HasBytes f × AreOwn f b
 
+-- the bytes that a primitive kind needs are enough to read or refuse it, if it is no text
 kind_whole : (k : PrimitiveKind) (b : List ℕ) (first : ℕ) → IsNoText k →
     length b ≡ kind_need k first → IsWhole (own_at (kind_layout k) b)
 unfolding own_at layout_at
@@ -139,13 +151,16 @@ kind_whole (K.Signed w) b first n h =
     number_whole (λ c. tree.signed (signed_number c)) (width_bytes w) b h
 kind_whole (K.Wide s) b first n h = number_whole tree.wide 32 b h
 
+-- the target of 32 bits is not nothing
 pub u32_is : target.U32 ≢ target.Unit
 u32_is = λ e. absurd cc
 
+-- the bytes that a compact needs leave nothing, or are refused, whatever its first one is
 pub settled_at : (m : Target) (b : List ℕ) → m ≢ target.Unit → (first : ℕ) (rest : List ℕ) →
     b ≡ first ∷ rest → length b ≡ compact_need m first → IsSettled (compact_at m b)
 settled_at m b ne first rest is len = rw is (compact_settled m first rest ne (rw is at len))
 
+-- the bytes that a form needs are enough to read or refuse the node, and none is left
 pub form_whole : (f : Form) (lay : Layout) (b : List ℕ) → HasForm f lay → NeedsThese f b →
     IsWhole (own_at lay b)
 unfolding own_at layout_at

@@ -6,6 +6,7 @@ use Rattle.clap.proofs.OnLiterals.{clap_on_literals}
 use Rattle.scale_tool.specs.Line.{line}
 use Rattle.scale_tool.proofs.commands.line_matches.Goals as goal
 
+-- the definition of the command line is one of those whose matches clap gives
 simple : is_simple line ≡ true
 unfolding clap_on_literals
 simple = refl
@@ -30,6 +31,7 @@ returns-clause-taken c =
     (λ e h taken. h (ap (λ a. takes a (map (λ s. s.now) c.args.words.now)) c.in_ok-line.ensures
     ∙ taken)) c.try_get_matches_from.ensures.passes
 
+-- no argument of the command line has a rule on another, so clap tells the faults of its words
 free : is_simple_and_free line ≡ true
 unfolding clap_on_literals
 free = refl

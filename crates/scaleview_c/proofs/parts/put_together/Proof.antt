@@ -40,6 +40,7 @@ use Rattle.scaleview_c.specs.contracts.parts.put_together.Key.{name as #self}
 use Rattle.scaleview_c.proofs.parts.put_together.Statement.{statement}
 use Rattle.scaleview_c.proofs.parts.put_together.Code as code
 
+-- the code of this call keeps its contract: the box is that of the parts
 pub put_together_spec : {M : Type 1} → statement M
 put_together_spec 𝓤 𝓛 𝓜 𝓡 wired T A L LA g d dx dd allocator glue glued =
     -- the types, the function at them, and what it is to be shown of it

@@ -40,6 +40,7 @@ use Rattle.scaleview_c.specs.contracts.parts.take_apart.Key.{name as #self}
 use Rattle.scaleview_c.proofs.parts.take_apart.Statement.{statement}
 use Rattle.scaleview_c.proofs.parts.take_apart.Code as code
 
+-- the code of this call keeps its contract: the parts are those of the box
 pub take_apart_spec : {M : Type 1} → statement M
 take_apart_spec 𝓤 𝓛 𝓜 𝓡 wired T A L LA g d dx dd allocator glue glued =
     -- the types, the function at them, and what it is to be shown of it

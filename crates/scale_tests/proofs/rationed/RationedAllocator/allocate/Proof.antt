@@ -132,6 +132,7 @@ module _ (Z : Al) {M : Type 1} {𝓤 : Ura M} (𝓛 : Logic 𝓤) (at_mem : Memo
         $ fjoin ! $ nothing ! $ fjoin ! $ nothing ! $ fjoin ! $ join ! $
         move ! (2 ∷ 3 ∷ []) $ join ! $ join ! $ done !
 
+    -- the body gives what is owed of a request, at sizes that are words
     walk : bytes < 2 ^ 64 → aligned < 2 ^ 64 →
         ent 𝓤 ((walk_of 𝓛 (ended Z) (stayed Z) clauses).pre bound)
         (WpFn 𝓤 H 𝓣.C 𝓣.Λ (itself Z) handed Owed)
@@ -199,6 +200,7 @@ module _ (Z : Al) {M : Type 1} {𝓤 : Ura M} (𝓛 : Logic 𝓤) (at_mem : Memo
         $ free_all ! refl $ keep ! (0 ∷ 1 ∷ []) $
         use2 𝓛 (raw (Owed (answer_val false 0 0))) refused $ done !)))))))))
 
+-- the code of this method keeps the contract that every allocator's has
 pub allocate_spec : {M : Type 1} → stated.statement M
 unfolding tables_of
 allocate_spec 𝓤 𝓛 𝓜 𝓡 wired row laws ghosts methods drops met _ =

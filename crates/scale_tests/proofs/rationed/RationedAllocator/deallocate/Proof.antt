@@ -94,6 +94,7 @@ module _ (Z : Al) {M : Type 1} {𝓤 : Ura M} (𝓛 : Logic 𝓤) (at_mem : Memo
     abbrev Fitting : Type 0
     Fitting = (capped (size τ) ≡ bytes) × (capped (align τ) ≡ aligned)
 
+    -- the body gives a block back, at sizes that are words, and there is none to give at null
     walk : bytes < 2 ^ 64 → aligned < 2 ^ 64 → (ptr : Ptr) →
         ent 𝓤 ((walk_of 𝓛 (ended Z) (stayed Z) clauses).pre (bound ptr))
         (WpFn 𝓤 H 𝓣.C 𝓣.Λ (itself Z) (handed ptr) (Post ptr))
@@ -145,6 +146,7 @@ module _ (Z : Al) {M : Type 1} {𝓤 : Ura M} (𝓛 : Logic 𝓤) (at_mem : Memo
         fjoin ! $ nothing ! $ fjoin ! $ nothing ! $ fjoin ! $ nothing ! $ fjoin ! $ join ! $
         move ! (2 ∷ 3 ∷ []) $ join ! $ join ! $ done !)))))
 
+-- the code of this method keeps the contract that every allocator's has
 pub deallocate_spec : {M : Type 1} → stated.statement M
 unfolding tables_of
 deallocate_spec 𝓤 𝓛 𝓜 𝓡 wired row laws ghosts methods drops met _ =

@@ -42,6 +42,7 @@ use Rattle.scaleview_c.proofs.handle.Handle.into_parts.Code as code
 abbrev al : Al
 al = record { row = Z; laws = heap.the_row_laws; g = ghosts; d = impl [] tnil dnil; drops = impl [] tnil dnil }
 
+-- the code of this call keeps its contract, behind null and behind a box
 pub into_parts_spec : {M : Type 1} → statement M
 into_parts_spec 𝓤 𝓛 𝓜 𝓡 wired =
     let H = 𝓛.H in let 𝓣 = tables 𝓤 H 𝓜 𝓡 𝓡.env in let LZ = heap.the_row_laws in let c = clauses 𝓛 𝓜.mem 𝓡.returns in let fn = code.function in
