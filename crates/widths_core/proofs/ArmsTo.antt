@@ -24,7 +24,7 @@ or_first : (x y : Option (ℕ × Arm)) → is_some x ≡ false → or_new x y �
 or_first None y e = refl
 or_first (Some x) y e = absurd cc
 
--- among one arm more, the first of an index is the former one, or else the new arm if it has it
+-- with one arm more, the first of an index is the former one, or else the new arm if it has it
 one_more : (k i j : ℕ) (arms : List Arm) (x : Arm) → i < length arms → x ≡ get_or arms i x →
     arm_from k (take (suc i) arms) j ≡ or_new (arm_from k (take i arms) j)
     (cond (x.index == j) (Some (k + i, x)) None)
@@ -45,7 +45,7 @@ one_more k (suc i) j (y ∷ arms) x lt is =
       go true more = refl
       go false more = more
 
--- among one arm more, the first of an index is the former one, or else the new one at its position
+-- with one arm more, the first of an index is the former one, or else the new one at its position
 next : (i j : ℕ) (arms : List Arm) (x : Arm) → i < length arms → x ≡ get_or arms i x →
     arm_of (take (i + 1) arms) j ≡ or_new (arm_of (take i arms) j)
     (cond (x.index == j) (Some (i, x)) None)
