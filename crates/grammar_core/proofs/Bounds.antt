@@ -25,11 +25,13 @@ pub per : ℕ → ℕ → ℕ
 per w zero = 0
 per w (suc room) = per w room + w
 
+-- what each byte pays for is the width times the room
 pub per-mul : (w room : ℕ) → per w room ≡ room * w
 unfolding per
 per-mul w zero = omega arith
 per-mul w (suc room) = omega (arith, per-mul w room, add-mul room 1 w)
 
+-- with room for one level more, each byte pays for the width once more
 pub per-suc : (w room : ℕ) → per w (suc room) ≡ per w room + w
 unfolding per
 per-suc w room = refl
@@ -39,9 +41,11 @@ pub pay : (m n k p w : ℕ) → 1 ≤ m → n ≤ m → k + 1 ≤ w → 1 + (k +
 pay m n k p w pos le small =
     omega (arith, mul-add m p w, mul-le-mul_right p le, mul-le-mul_right w pos, small)
 
+-- a sum times a number is the sum of both products
 pub two : (m n p : ℕ) → (m + n) * p ≡ m * p + n * p
 two m n p = add-mul m n p
 
+-- there are as many values as types of which they are values
 pub same_length : (r : List TypeInfo) (ts : List ℕ) (vs : Trees) (b : List ℕ) → Vals r ts vs b →
     how_many vs ≡ length ts
 unfolding Val
@@ -50,6 +54,7 @@ same_length r (t ∷ ts) none b h = absurd h
 same_length r [] (and v vs) b h = absurd h
 same_length r (t ∷ ts) (and v vs) b h = ap (λ (n : ℕ). suc n) (same_length r ts vs h.1 h.4)
 
+-- a list is empty or has one element at least
 is_nil : (b : List ℕ) → (b ≡ []) ⊎ (1 ≤ length b)
 is_nil [] = inl refl
 is_nil (x ∷ b) = inr (omega arith)
@@ -63,11 +68,13 @@ or_unit r t v b p h f = elim (is_nil b) [
   | inr some ↦ omega (arith, f some)
 ]
 
+-- a value of a type that does not have the class Empty has a byte
 not_empty : (r : List TypeInfo) (t : ℕ) (v : Tree) (b : List ℕ) → (class_of r t ≡ class.Empty → ⊥) →
     Val r t v b → 1 ≤ length b
 not_empty r t v b ne h =
     elim (is_nil b) [ inl nil ↦ absurd (ne (no_bytes r t v b nil h)) | inr some ↦ some ]
 
+-- what is laid out as an array has elements whose class is not Empty
 pub array_element : (r : List TypeInfo) (t n u : ℕ) → layout r t ≡ layout.array n u →
     class_of r u ≡ class.Empty → ⊥
 array_element r t n u e h =
@@ -75,6 +82,7 @@ array_element r t n u e h =
     (empty_class r t ((known_at r t (layout.array n u) e).1 (class_empty r u h))) in
     let both = sym empty ∙ e in absurd cc
 
+-- one node is within the bound where it has a byte, whatever the room
 leaf_le : (r : List TypeInfo) (room : ℕ) (b : List ℕ) → 1 ≤ length b →
     1 ≤ length b * per (widest r + 1) (suc room)
 leaf_le r room b pos = rw (per-suc (widest r + 1) room)
@@ -211,6 +219,7 @@ mutual
         each_text_le r t vs h.1 h.4,
       )
 
+-- a value has few nodes for its bytes, levels and width, and no more text than bytes
 pub values_are_bounded : ValuesAreBounded
 values_are_bounded r zero t v b h l = absurd (omega (arith, levels-pos v))
 values_are_bounded r (suc room) t v b h l = (

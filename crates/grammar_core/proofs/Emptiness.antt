@@ -25,6 +25,7 @@ abbrev is_nil : List ℕ → Bool
 is_nil [] = true
 is_nil (x ∷ xs) = false
 
+-- two lists that are empty when joined are both empty
 nil_parts : (a b : List ℕ) → a ++ b ≡ [] → (a ≡ []) × (b ≡ [])
 nil_parts [] b e = (refl, e)
 nil_parts (x ∷ a) b e = absurd cc
@@ -35,9 +36,11 @@ other : {X : Type 0} (r : List TypeInfo) (t : ℕ) (f : Layout) →
     ((layout.plain layout.empty) ≡ f → X) → X
 other r t f e h k = k (sym e ∙ h)
 
+-- what a type's layout says of its class and parts is so, where the layout is known by an equation
 pub known_at : (r : List TypeInfo) (t : ℕ) (f : Layout) → layout r t ≡ f → Known r t f
 known_at r t f e = subst (Known r t) e (known r t)
 
+-- the compact spelling of a number has a byte, so anything follows if it had none
 compact_has_byte : {X : Type 0} (x : ℕ) (b : List ℕ) → IsCompact target.U32 x b → b ≡ [] → X
 compact_has_byte x b h e = let no = compact-bytes target.U32 x b h e in absurd cc
 
@@ -126,14 +129,17 @@ mutual
       rw (class_empty r t (no_bytes r t v h.0 parts.0 h.3), all_no_bytes r ts vs h.1 parts.1 h.4)
       refl
 
+-- a list that is not empty has one element at least
 not_nil : (b : List ℕ) → (b ≡ [] → ⊥) → 1 ≤ length b
 not_nil [] h = absurd (h refl)
 not_nil (x ∷ b) h = omega arith
 
+-- a value of a type of the class Sized has a byte
 pub sized_has_bytes : SizedHasBytes
 sized_has_bytes r t v b sized h =
     not_nil b (λ e. let no = sym sized ∙ no_bytes r t v b e h in absurd cc)
 
+-- what is laid out as a type without bytes has no value but the unit, of no byte
 pub empty_unique : (r : List TypeInfo) (t : ℕ) (v : Tree) (b : List ℕ) →
     layout r t ≡ (layout.plain layout.empty) → Val r t v b → (v ≡ leaf unit) × (b ≡ [])
 unfolding Val
@@ -143,6 +149,7 @@ empty_unique r t (branch (arm q) vs) b e h = let no = sym e ∙ h.4 in absurd cc
 empty_unique r t (branch list vs) b e (inl h) = let no = sym e ∙ h.2 in absurd cc
 empty_unique r t (branch list vs) b e (inr h) = let no = sym e ∙ h.3 in absurd cc
 
+-- a type that takes no bytes is finite and has one value, the unit, of no byte
 pub empty_has_unit : EmptyHasUnit
 unfolding Val
 empty_has_unit r t e =

@@ -51,5 +51,6 @@ mutual
   all_finite r [] (and v vs) b h = absurd h
   all_finite r (t ∷ ts) (and v vs) b h = rw (finite r t v h.0 h.3, all_finite r ts vs h.1 h.4) refl
 
+-- a type of which there is a value is finite
 pub values_are_finite : ValuesAreFinite
 values_are_finite r t v b h = (length r, finite r t v b h)

@@ -41,6 +41,7 @@ HasValue r t = (v : Tree) × (b : List ℕ) × AreBytes b × Val r t v b
 
 -- ---- lists of values
 
+-- types of which a test holds have values in a row, where each of them has one if it holds
 all_values : (r : List TypeInfo) (f : ℕ → Bool) (ts : List ℕ) →
     ((t : ℕ) → IsAmong t ts → f t ≡ true → HasValue r t) → list_all f ts ≡ true → (vs : Trees)
     × (b : List ℕ) × AreBytes b × Vals r ts vs b
@@ -56,6 +57,7 @@ all_values r f (t ∷ ts) h e =
       (one.1, rest.1, refl, one.3, rest.3),
     )
 
+-- a type that has a value has any number of values in a row
 repeated : (r : List TypeInfo) (t n : ℕ) → HasValue r t → (vs : Trees) × (b : List ℕ) × AreBytes b
     × (how_many vs ≡ n) × Each r t vs b
 unfolding Val
@@ -71,15 +73,18 @@ repeated r t (suc n) h =
 
 -- ---- arms
 
+-- what is among the first of two lists is among both joined
 among_left : (u : ℕ) (xs ys : List ℕ) → IsAmong u xs → IsAmong u (xs ++ ys)
 among_left u [] ys h = absurd h
 among_left u (x ∷ xs) ys (inl e) = inl e
 among_left u (x ∷ xs) ys (inr h) = inr (among_left u xs ys h)
 
+-- what is among the second of two lists is among both joined
 among_right : (u : ℕ) (xs ys : List ℕ) → IsAmong u ys → IsAmong u (xs ++ ys)
 among_right u [] ys h = h
 among_right u (x ∷ xs) ys h = inr (among_right u xs ys h)
 
+-- where neither one nor the other of two tests holds, each of them fails
 or_false : (a b : Bool) → (a || b) ≡ false → (a ≡ false) × (b ≡ false)
 or_false true b e = absurd cc
 or_false false b e = (refl, e)
@@ -95,6 +100,7 @@ record Live (p : Arm → Bool) (arms : List Arm) (seen : List ℕ) (j : ℕ) : T
       IsAmong u (flat_map (λ a. field_types a.fields) arms)
   pub byte : arm.index < 256
 
+-- a live arm is live also where an arm of another index stands in front of the list
 behind : (p : Arm → Bool) (x : Arm) (arms : List Arm) (seen : List ℕ) (j : ℕ)
     (l : Live p arms seen (j + 1)) → (x.index == l.arm.index) ≡ false → Live p (x ∷ arms) seen j
 behind p x arms seen j l e = record {
@@ -108,10 +114,12 @@ behind p x arms seen j l e = record {
   byte = l.byte;
 }
 
+-- a test holds or fails
 bool_cases : (b : Bool) → (b ≡ true) ⊎ (b ≡ false)
 bool_cases true = inl refl
 bool_cases false = inr refl
 
+-- where a test holds of some arm that counts, there is a live arm of which it holds
 live : (p : Arm → Bool) (arms : List Arm) (seen : List ℕ) (j : ℕ) → AllByRecursion FitsArm arms →
     list_any p (live_arms seen arms) ≡ true → Live p arms seen j
 live p [] seen j fits e = absurd cc
@@ -161,37 +169,45 @@ live p (x ∷ arms) seen j fits e =
 
 -- ---- the least value of each definition
 
+-- so many bytes that are 0
 zeros : ℕ → List ℕ
 zeros zero = []
 zeros (suc k) = 0 ∷ zeros k
 
+-- bytes that are 0 are bytes
 zeros-bytes : (k : ℕ) → AreBytes (zeros k)
 unfolding zeros
 zeros-bytes zero = tt
 zeros-bytes (suc k) = (omega arith, zeros-bytes k)
 
+-- there are as many bytes 0 as were asked for
 length-zeros : (k : ℕ) → length (zeros k) ≡ k
 unfolding zeros
 length-zeros zero = refl
 length-zeros (suc k) = ap (λ (n : ℕ). suc n) (length-zeros k)
 
+-- the compact spelling of 0 is made of bytes
 zero-bytes : AreBytes (compact 0)
 unfolding compact
 zero-bytes = (omega arith, tt)
 
+-- the number 0 has its compact spelling where the target is u32
 u32_zero : IsCompact target.U32 0 (compact 0)
 u32_zero = (omega arith, refl)
 
+-- no bytes at all are UTF-8
 no_text : is_utf8 [] ≡ true
 unfolding is_utf8 chars lib.Utf8.encode
 no_text = refl
 
+-- what is laid out as an unsigned integer has a value
 unsigned_value : (r : List TypeInfo) (t k : ℕ) → layout r t ≡ layout.plain (layout.unsigned k) →
     HasValue r t
 unfolding Val
 unsigned_value r t k e =
     (leaf (unsigned (number (zeros k))), zeros k, zeros-bytes k, (k, e, length-zeros k, refl))
 
+-- what is laid out as a signed integer has a value
 signed_value : (r : List TypeInfo) (t k : ℕ) → layout r t ≡ layout.plain (layout.signed k) →
     HasValue r t
 unfolding Val
@@ -202,14 +218,17 @@ signed_value r t k e = (
   (k, e, length-zeros k, refl),
 )
 
+-- what is laid out as an integer of 256 bits has a value
 wide_value : (r : List TypeInfo) (t : ℕ) → layout r t ≡ (layout.plain layout.wide) → HasValue r t
 unfolding Val
 wide_value r t e = (leaf (wide (zeros 32)), zeros 32, zeros-bytes 32, (e, length-zeros 32, refl))
 
+-- what is laid out as a character has a value
 char_value : (r : List TypeInfo) (t : ℕ) → layout r t ≡ (layout.plain layout.char) → HasValue r t
 unfolding Val zeros
 char_value r t e = (leaf (char 0), zeros 4, zeros-bytes 4, (e, refl, refl, refl))
 
+-- what is laid out as a primitive type, of whatever kind, has a value
 kind_value : (r : List TypeInfo) (t : ℕ) (k : PrimitiveKind) → layout r t ≡ kind_layout k →
     HasValue r t
 unfolding Val
@@ -225,6 +244,7 @@ kind_value r t (K.Unsigned w) e = unsigned_value r t (width_bytes w) e
 kind_value r t (K.Signed w) e = signed_value r t (width_bytes w) e
 kind_value r t (K.Wide s) e = wide_value r t e
 
+-- what is laid out as a sequence, of whatever elements, has a value
 sequence_value : (r : List TypeInfo) (t u : ℕ) (b byte : Bool) →
     layout r t ≡ sequence_layout u b byte → HasValue r t
 unfolding Val
@@ -242,6 +262,7 @@ sequence_value r t u false false e = (
   inr (u, compact 0, [], e, u32_zero, refl, refl),
 )
 
+-- what is laid out as an array has a value, if it is of u8 or there are as many elements
 array_value : (r : List TypeInfo) (t n u : ℕ) (byte : Bool) → layout r t ≡ array_layout n u byte →
     (byte ≡ false → (vs : Trees) × (b : List ℕ) × AreBytes b × (how_many vs ≡ n) × Each r u vs b) →
     HasValue r t
@@ -255,6 +276,7 @@ array_value r t n u true e each = (
 array_value r t n u false e each = let all = each refl in
     (branch list all.0, all.1, all.2, inl (n, u, e, all.3, all.4))
 
+-- the number 0 has a compact spelling whatever the target
 zero_of : (m : Target) → (b : List ℕ) × AreBytes b × IsCompact m 0 b
 zero_of target.Unit = ([], tt, (refl, refl))
 zero_of target.U8 = (compact 0, zero-bytes, (omega arith, refl))
@@ -263,6 +285,7 @@ zero_of target.U32 = (compact 0, zero-bytes, (omega arith, refl))
 zero_of target.U64 = (compact 0, zero-bytes, (omega arith, refl))
 zero_of target.U128 = (compact 0, zero-bytes, (omega arith, refl))
 
+-- what is laid out as a compact has a value if it has a target
 compact_of : (r : List TypeInfo) (t : ℕ) (o : Option Target) → (o ≡ None → ⊥) →
     layout r t ≡ compact_layout o → HasValue r t
 unfolding Val
@@ -270,6 +293,7 @@ compact_of r t None left e = absurd (left refl)
 compact_of r t (Some m) left e = let z = zero_of m in
     (leaf (compact_value 0), z.0, z.1, (m, e, z.2))
 
+-- by its definition's layout, a finite type has a value if those it needs do and none is left out
 sized_value : (r : List TypeInfo) (k t : ℕ) (d : TypeDef) → FitsDefinition d → IsPlain r t →
     shape r t ≡ Some d → ((u : ℕ) → IsAmong u (references d) → finite_within r k u ≡ true →
     HasValue r u) → layout r t ≡ sized_layout r d → finite_step (finite_within r k) d ≡ true →
@@ -305,18 +329,21 @@ sized_value r k t (Def.BitSequence store order) fits plain is child e h =
 
 -- ---- by rank
 
+-- where a test holds at a number, a definition stands there of which it holds
 shape_of : (r : List TypeInfo) (p : TypeDef → Bool) (t : ℕ) → holds_at r p t ≡ true → (d : TypeDef)
     × (shape r t ≡ Some d) × (p d ≡ true)
 shape_of [] p t e = absurd cc
 shape_of (x ∷ r) p zero e = (x.shape, refl, e)
 shape_of (x ∷ r) p (suc t) e = shape_of r p t e
 
+-- where all types of a registry fit, each definition in it fits
 fits_at : (r : List TypeInfo) (t : ℕ) (d : TypeDef) → AllByRecursion FitsType r →
     shape r t ≡ Some d → FitsDefinition d
 fits_at [] t d h e = absurd cc
 fits_at (x ∷ r) zero d h e = let is : x.shape ≡ d = cc in subst FitsDefinition is h.0.2
 fits_at (x ∷ r) (suc t) d h e = fits_at r t d h.1 e
 
+-- a finite type, empty or not, has a value if those it needs do and none is left out
 some_value : (r : List TypeInfo) (k t : ℕ) (d : TypeDef) → FitsDefinition d → IsPlain r t →
     shape r t ≡ Some d → ((u : ℕ) → IsAmong u (references d) → finite_within r k u ≡ true →
     HasValue r u) → finite_step (finite_within r k) d ≡ true → (b : Bool) → is_empty r t ≡ b →
@@ -326,6 +353,7 @@ some_value r k t d fits plain is child h true e = (leaf unit, [], tt, (rw e refl
 some_value r k t d fits plain is child h false e =
     sized_value r k t d fits plain is child (rw (e, is) refl) h
 
+-- in a registry that fits, what is finite by k levels has a value if it leads to nothing left out
 value_within : (r : List TypeInfo) → AllByRecursion FitsType r → (k t : ℕ) →
     finite_within r k t ≡ true → IsPlain r t → HasValue r t
 unfolding finite_within
@@ -336,5 +364,6 @@ value_within r fits (suc k) t e plain =
     (λ u m f. value_within r fits k u f (λ w d reach. plain w d (there s.1 m reach))) s.2
     (is_empty r t) refl
 
+-- a finite type has a value, unless it leads to a definition whose values are left out
 pub finite_has_value : FiniteHasValue
 finite_has_value r t fits finite plain = value_within r fits.1 finite.0 t finite.1 plain

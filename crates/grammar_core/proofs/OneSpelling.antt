@@ -19,46 +19,56 @@ use Rattle.grammar_core.specs.Tree.{and, how_many, Leaf}
 use Rattle.grammar_core.specs.Grammar.{Val, Vals, Each, SpellsLeaf}
 use Rattle.grammar_core.specs.Laws.{OneSpelling}
 
+-- a type is laid out by one list of fields only
 fields_are : (r : List TypeInfo) (t : ℕ) (x y : List ℕ) → layout r t ≡ layout.fields x →
     layout r t ≡ layout.fields y → x ≡ y
 fields_are r t x y e f = let same : layout.fields x ≡ layout.fields y = sym e ∙ f in cc
 
+-- a type is laid out by one list of arms only
 arms_are : (r : List TypeInfo) (t : ℕ) (x y : List Arm) → layout r t ≡ layout.arms x →
     layout r t ≡ layout.arms y → x ≡ y
 arms_are r t x y e f = let same : layout.arms x ≡ layout.arms y = sym e ∙ f in cc
 
+-- what is laid out as an array has one type of elements only
 elements_are : (r : List TypeInfo) (t n m x y : ℕ) → layout r t ≡ layout.array n x →
     layout r t ≡ layout.array m y → x ≡ y
 elements_are r t n m x y e f = let same : layout.array n x ≡ layout.array m y = sym e ∙ f in cc
 
+-- what is laid out as a sequence has one type of elements only
 sequence_is : (r : List TypeInfo) (t x y : ℕ) → layout r t ≡ layout.sequence x →
     layout r t ≡ layout.sequence y → x ≡ y
 sequence_is r t x y e f = let same : layout.sequence x ≡ layout.sequence y = sym e ∙ f in cc
 
+-- what is laid out as a compact has one target only
 compact_is : (r : List TypeInfo) (t : ℕ) (x y : Target) →
     layout r t ≡ layout.plain (layout.compact x) → layout r t ≡ layout.plain (layout.compact y) →
     x ≡ y
 compact_is r t x y e f =
     let same : layout.plain (layout.compact x) ≡ layout.plain (layout.compact y) = sym e ∙ f in cc
 
+-- what is laid out as a run of bytes is a run of one kind only
 run_is : (r : List TypeInfo) (t : ℕ) (x y : RunKind) → layout r t ≡ layout.plain (layout.run x) →
     layout r t ≡ layout.plain (layout.run y) → x ≡ y
 run_is r t x y e f =
     let same : layout.plain (layout.run x) ≡ layout.plain (layout.run y) = sym e ∙ f in cc
 
+-- what is laid out as an unsigned integer has one width only
 unsigned_is : (r : List TypeInfo) (t x y : ℕ) → layout r t ≡ layout.plain (layout.unsigned x) →
     layout r t ≡ layout.plain (layout.unsigned y) → x ≡ y
 unsigned_is r t x y e f =
     let same : layout.plain (layout.unsigned x) ≡ layout.plain (layout.unsigned y) = sym e ∙ f in cc
 
+-- what is laid out as a signed integer has one width only
 signed_is : (r : List TypeInfo) (t x y : ℕ) → layout r t ≡ layout.plain (layout.signed x) →
     layout r t ≡ layout.plain (layout.signed y) → x ≡ y
 signed_is r t x y e f = let same : layout.plain (layout.signed x) ≡ layout.plain (layout.signed y) =
     sym e ∙ f in cc
 
+-- the first of two parts of a list of bytes is made of bytes
 front_of : (b c d : List ℕ) → b ≡ c ++ d → AreBytes b → AreBytes c
 front_of b c d e h = front_bytes c d (rw (← e) h)
 
+-- the second of two parts of a list of bytes is made of bytes
 rest_of : (b c d : List ℕ) → b ≡ c ++ d → AreBytes b → AreBytes d
 rest_of b c d e h = rest_bytes c d (rw (← e) h)
 
@@ -128,5 +138,6 @@ mutual
       k.4 in
       h.2 ∙ (rw (firsts, rests) refl) ∙ sym k.2
 
+-- two lists of bytes that spell the same value of a type are the same
 pub one_spelling_of : OneSpelling
 one_spelling_of = one

@@ -15,9 +15,11 @@ use Rattle.grammar_core.proofs.Complete.{value_again}
 use Rattle.grammar_core.proofs.Sound.{value_takes}
 use Rattle.grammar_core.proofs.Stable.{value_extends}
 
+-- a value for whose levels there is room is read from its bytes, whatever follows them
 pub value_is_read : ValueIsRead
 value_is_read = value_again
 
+-- a value that was taken from the front, and for which there is room, stands there
 stands_of : (r : List TypeInfo) (room t : ℕ) (b : List ℕ) (read : Read Refusal Tree) (v : Tree)
     (rest : List ℕ) → Takes (λ v c. Val r t v c × (levels v ≤ room)) b read → read ≡ Ok (v, rest) →
     Stands r room t b v rest
@@ -30,10 +32,12 @@ stands_of r room t b (Ok x) v rest h eq =
       rw (← ap (λ (p : Tree × List ℕ). p.0) same) h.2.1,
     )
 
+-- what is read is a value that stands on the front of the input and for which there is room
 pub read_is_value : ReadIsValue
 read_is_value r room t b v rest e =
     stands_of r room t b (value_at r room t b) v rest (value_takes r room t b) e
 
+-- two values of a type whose bytes are fronts of one list are the same, and so are their bytes
 pub prefix_free : ValuesArePrefixFree
 prefix_free r t v w a b rest more h k e =
     let room = max (levels v) (levels w) in
@@ -46,26 +50,31 @@ prefix_free r t v w a b rest more h k e =
           ∙ ap (λ (x : List ℕ). b ++ x) (sym (ap (λ (p : Tree × List ℕ). p.1) same))),
     )
 
+-- by what is read, a value stands on the front of the input, or the input is refused
 either : (r : List TypeInfo) (room t : ℕ) (b : List ℕ) (read : Read Refusal Tree) →
     value_at r room t b ≡ read → ((v : Tree) × (rest : List ℕ) × Stands r room t b v rest)
     ⊎ ((reason : Refusal) × (left : List ℕ) × Fails r room t b reason left)
 either r room t b (Ok x) e = inl (x.0, x.1, read_is_value r room t b x.0 x.1 e)
 either r room t b (Err x) e = inr (x.0, x.1, e)
 
+-- of each input, a value stands on the front, or it is refused
 pub value_or_fault : ValueOrFault
 value_or_fault r room t b = either r room t b (value_at r room t b) refl
 
+-- no input has a value on its front and is refused as well
 pub not_both : ValueOrFaultNotBoth
 not_both r room t b v rest reason left h k =
     let one = value_again r room t v h.0 rest h.2 h.3 in
     let two : value_at r room t (h.0 ++ rest) ≡ Err (reason, left) = rw (← h.1) k in
     absurd cc
 
+-- a fault that is no cut stays where reading of a longer input extends that of a shorter one
 stable_of : (more : List ℕ) (read read' : Read Refusal Tree) (reason : Refusal) (left : List ℕ) →
     Extends truncated more read read' → reason ≢ truncated → read ≡ Err (reason, left) →
     read' ≡ Err (reason, left ++ more)
 stable_of more read read' reason left h ne e = (rw e at h) ne
 
+-- a fault that is no cut stays the fault of every longer input
 pub stable : FaultsAreStable
 stable r room t b more reason left ne e =
     stable_of more (value_at r room t b) (value_at r room t (b ++ more)) reason left

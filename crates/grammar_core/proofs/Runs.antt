@@ -25,6 +25,7 @@ run_text b = refl
 
 -- ---- what is read is spelled
 
+-- the length of a run that is read stood on the front of the input
 pub length_takes : (k : RunKind) (b : List ℕ) → Takes (IsRunLength k) b (run_length_at k b)
 length_takes kind.Text b = compact_takes target.U32 b
 length_takes kind.Bytes b = compact_takes target.U32 b
@@ -36,6 +37,7 @@ length_is kind.Text n c h = h.1
 length_is kind.Bytes n c h = h.1
 length_is (kind.ByteArray m) n c h = h.1
 
+-- bytes that are judged to be a run are one of this kind, and no more bytes are taken for that
 judged_takes : (k : RunKind) (from : List ℕ) (s : List ℕ × List ℕ) →
     Takes (λ x d. (d ≡ []) × (x ≡ s.0) × IsRun k x) s.1 (run_judged k from s)
 judged_takes kind.Text from s =
@@ -45,6 +47,7 @@ judged_takes kind.Text from s =
 judged_takes kind.Bytes from s = ([], refl, (refl, refl, tt))
 judged_takes (kind.ByteArray n) from s = ([], refl, (refl, refl, tt))
 
+-- a run that is read stood on the front of the input, in its spelling
 pub run_takes : (k : RunKind) (b : List ℕ) → Takes (SpellsRun k) b (run_at k b)
 unfolding run_at
 run_takes k b = bind_takes (IsRunLength k) (SpellsRun k) b (run_length_at k b) _ (length_takes k b)
@@ -70,6 +73,7 @@ length_extends kind.Text b more = compact_extends target.U32 b more
 length_extends kind.Bytes b more = compact_extends target.U32 b more
 length_extends (kind.ByteArray n) b more = refl
 
+-- a run that no bytes refuse is read so from a longer input as well, unless it was cut
 plain_extends : (k : RunKind) (b more : List ℕ) →
     ((from : List ℕ) (s : List ℕ × List ℕ) → run_judged k from s ≡ Ok s) →
     Extends reason.Truncated more (run_at k b) (run_at k (b ++ more))
@@ -80,6 +84,7 @@ plain_extends k b more plain = bind_extends reason.Truncated more (run_length_at
     (bytes_extends n.0 n.1 more)
     (λ s. rw (plain n.1 s, plain (n.1 ++ more) (s.0, s.1 ++ more)) refl))
 
+-- a run is read, or refused other than for a cut, in the same way from a longer input
 pub run_extends : (k : RunKind) (b more : List ℕ) →
     Extends reason.Truncated more (run_at k b) (run_at k (b ++ more))
 run_extends kind.Text b more = rw (run_text b, run_text (b ++ more)) (text_extends b more)
@@ -88,18 +93,21 @@ run_extends (kind.ByteArray n) b more = plain_extends (kind.ByteArray n) b more 
 
 -- ---- what is spelled is read
 
+-- the length of a run that is spelled is read, whatever follows
 pub length_again : (k : RunKind) (n : ℕ) (c rest : List ℕ) → IsRunLength k n c →
     run_length_at k (c ++ rest) ≡ Ok (n, rest)
 length_again kind.Text n c rest h = compact_again target.U32 n c rest h
 length_again kind.Bytes n c rest h = compact_again target.U32 n c rest h
 length_again (kind.ByteArray k) n c rest h = rw (h.0, h.1) refl
 
+-- bytes that are a run of this kind are judged to be one
 judged_again : (k : RunKind) (from s rest : List ℕ) → IsRun k s →
     run_judged k from (s, rest) ≡ Ok (s, rest)
 judged_again kind.Text from s rest h = rw h refl
 judged_again kind.Bytes from s rest h = refl
 judged_again (kind.ByteArray n) from s rest h = refl
 
+-- a run that is spelled is read, whatever follows
 pub run_again : (k : RunKind) (s b rest : List ℕ) → SpellsRun k s b →
     run_at k (b ++ rest) ≡ Ok (s, rest)
 unfolding run_at
@@ -113,11 +121,13 @@ run_again k s b rest h = rw (
 
 -- ---- one spelling
 
+-- the length in front of a run has one spelling
 length_one : (k : RunKind) (n : ℕ) (c d : List ℕ) → IsRunLength k n c → IsRunLength k n d → c ≡ d
 length_one kind.Text n c d h j = one_spelling target.U32 n c d h j
 length_one kind.Bytes n c d h j = one_spelling target.U32 n c d h j
 length_one (kind.ByteArray k) n c d h j = h.1 ∙ sym j.1
 
+-- a run has one spelling
 pub run_one : (k : RunKind) (s a b : List ℕ) → SpellsRun k s a → SpellsRun k s b → a ≡ b
 run_one k s a b h j = h.3 ∙ ap (λ (x : List ℕ). x ++ s) (length_one k (length s) h.0 j.0 h.1 j.1)
     ∙ sym j.3

@@ -29,12 +29,14 @@ use Rattle.grammar_core.specs.Reading.{value_at, layout_at, bool_at, char_from, 
 use Rattle.grammar_core.specs.Reading.{fields_behind_index, arms_at, elements_at, as_leaf}
 use Rattle.grammar_core.specs.Reading.{with_children, Refusal, basic}
 
+-- a leaf that is read stood on the front where what it is made of did
 as_leaf_takes : {X : Type 0} (P : X → List ℕ → Type 0) (Q : Tree → List ℕ → Type 0)
     (make : X → Leaf) (b : List ℕ) (read : Read Reason X) → Takes P b read →
     ((x : X) (c : List ℕ) → P x c → Q (leaf (make x)) c) → Takes Q b (as_leaf make read)
 as_leaf_takes P Q make b (Ok x) h f = (h.0, h.1, f x.0 h.0 h.2)
 as_leaf_takes P Q make b (Err e) h f = tt
 
+-- a value with parts that is read stood on the front where its parts did
 with_children_takes : (P : Trees → List ℕ → Type 0) (Q : Tree → List ℕ → Type 0) (k : Branch)
     (b : List ℕ) (read : Read Refusal Trees) → Takes P b read →
     ((x : Trees) (c : List ℕ) → P x c → Q (branch k x) c) → Takes Q b (with_children k read)
@@ -54,6 +56,7 @@ Times r room n t vs c = Each r t vs c × (how_many vs ≡ n) × (most_levels vs 
 abbrev ChildTakes : List TypeInfo → ℕ → (ℕ → List ℕ → Read Refusal Tree) → Type 0
 ChildTakes r room child = (t : ℕ) (b : List ℕ) → Takes (One r room t) b (child t b)
 
+-- values of these types that are read stood on the front, where each child that is read did
 all_takes : (r : List TypeInfo) (room : ℕ) (child : ℕ → List ℕ → Read Refusal Tree) →
     ChildTakes r room child → (ts : List ℕ) (b : List ℕ) →
     Takes (Some_of r room ts) b (all_at child ts b)
@@ -65,6 +68,7 @@ all_takes r room child h (t ∷ ts) b =
     (all_at child ts v.1) _ (all_takes r room child h ts v.1) (λ vs d vals.
     ([], refl, ((c, d, rw append-nil refl, val.0, vals.0), omega arith))))
 
+-- so many values of one type that are read stood on the front, where each child that is read did
 times_takes : (r : List TypeInfo) (room : ℕ) (child : ℕ → List ℕ → Read Refusal Tree) →
     ChildTakes r room child → (n t : ℕ) (b : List ℕ) →
     Takes (Times r room n t) b (times_at child n t b)
@@ -83,6 +87,7 @@ times_takes r room child h (suc n) t b =
       ),
     )))
 
+-- a boolean that is read stood on the front, as a value of a type laid out so
 bool_takes : (r : List TypeInfo) (room t : ℕ) (b : List ℕ) →
     layout r t ≡ (layout.plain layout.bool) → Takes (One r (suc room) t) b (bool_at b)
 unfolding Val
@@ -91,6 +96,7 @@ bool_takes r room t (zero ∷ b) e = (0 ∷ [], refl, ((e, refl), omega arith))
 bool_takes r room t (suc zero ∷ b) e = (1 ∷ [], refl, ((e, refl), omega arith))
 bool_takes r room t (suc (suc x) ∷ b) e = tt
 
+-- a character made of four bytes on the front stood there, as a value of a type laid out so
 char_takes : (r : List TypeInfo) (room t : ℕ) (b : List ℕ) (read : Read Reason (List ℕ)) →
     layout r t ≡ (layout.plain layout.char) → Takes (λ x c. (c ≡ x) × (length c ≡ 4)) b read →
     Takes (One r (suc room) t) b (char_from b read)
@@ -101,6 +107,7 @@ char_takes r room t b (Ok x) f h =
     (Err (basic reasons.BadChar, b))
     (λ e. (h.0, h.1, ((f, h.2.1, ap number h.2.0, e), omega arith))) (λ e. tt)
 
+-- the fields of the arm found for an index stood on the front behind it, as a value of the variant
 arm_takes : (r : List TypeInfo) (room t : ℕ) (child : ℕ → List ℕ → Read Refusal Tree) →
     ChildTakes r room child → (arms : List Arm) → layout r t ≡ layout.arms arms →
     (i : ℕ) (b : List ℕ) (found : Option (ℕ × Arm)) → arm_of arms i ≡ found →
@@ -114,6 +121,7 @@ arm_takes r room t child h arms f i b (Some a) e =
     (all_takes r room child h (field_types a.1.fields) b) (λ vs c vals.
     ((arms, i, a.1, c, f, e, refl, vals.0), omega arith)))
 
+-- a value of an arm that is read stood on the front, behind its index, where each child did
 arms_takes : (r : List TypeInfo) (room t : ℕ) (child : ℕ → List ℕ → Read Refusal Tree) →
     ChildTakes r room child → (arms : List Arm) → layout r t ≡ layout.arms arms → (b : List ℕ) →
     Takes (One r (suc room) t) b (arms_at child arms b)
@@ -121,6 +129,7 @@ arms_takes r room t child h arms f [] = tt
 arms_takes r room t child h arms f (i ∷ b) =
     arm_takes r room t child h arms f i b (arm_of arms i) refl
 
+-- elements that are read behind a length stood on the front with it, where each child did
 elements_takes : (r : List TypeInfo) (room t u : ℕ) (child : ℕ → List ℕ → Read Refusal Tree) →
     ChildTakes r room child → layout r t ≡ layout.sequence u → (b : List ℕ) (read : Read Reason ℕ) →
     Takes (IsCompact target.U32) b read → Takes (One r (suc room) t) b (elements_at child u read)
@@ -139,6 +148,7 @@ run_value r room t kind.Text e s c is = ((e, is), omega arith)
 run_value r room t kind.Bytes e s c is = ((kind.Bytes, tt, e, is), omega arith)
 run_value r room t (kind.ByteArray n) e s c is = ((kind.ByteArray n, tt, e, is), omega arith)
 
+-- a value that is read by its type's layout stood on the front, where each child that is read did
 layout_takes : (r : List TypeInfo) (room t : ℕ) (child : ℕ → List ℕ → Read Refusal Tree) →
     ChildTakes r room child → (f : Layout) → layout r t ≡ f → (b : List ℕ) →
     Takes (One r (suc room) t) b (layout_at child f b)
@@ -179,6 +189,7 @@ layout_takes r room t child h (layout.plain (layout.compact m)) e b =
     as_leaf_takes (IsCompact m) (One r (suc room) t) compact b (compact_at m b) (compact_takes m b)
     (λ x c is. ((m, e, is), omega arith))
 
+-- a value that is read stood on the front, and has room for its levels
 pub value_takes : (r : List TypeInfo) (room t : ℕ) (b : List ℕ) →
     Takes (One r room t) b (value_at r room t b)
 unfolding value_at

@@ -57,6 +57,7 @@ Shaped (layout.sequence t) d = is_sequence d ≡ true
 Shaped (layout.array n t) d = is_sequence d ≡ false
 Shaped _ d = Unit {0}
 
+-- the layout of a primitive's kind has the width that the definition has
 shaped_kind : (k : PrimitiveKind) (d : Option TypeDef) → width_of d ≡ kind_width k →
     Shaped (kind_layout k) d
 shaped_kind K.Bool d h = tt
@@ -66,21 +67,25 @@ shaped_kind (K.Unsigned w) d h = h
 shaped_kind (K.Signed w) d h = (h, width_most w)
 shaped_kind (K.Wide s) d h = tt
 
+-- what is laid out by a sequence is a sequence by its definition
 shaped_sequence : (t : ℕ) (e byte : Bool) (d : Option TypeDef) → is_sequence d ≡ true →
     Shaped (sequence_layout t e byte) d
 shaped_sequence t true byte d h = tt
 shaped_sequence t false true d h = h
 shaped_sequence t false false d h = h
 
+-- what is laid out by an array is no sequence by its definition
 shaped_array : (n t : ℕ) (byte : Bool) (d : Option TypeDef) → is_sequence d ≡ false →
     Shaped (array_layout n t byte) d
 shaped_array n t true d h = h
 shaped_array n t false d h = h
 
+-- the layout of a compact asks nothing of the definition
 shaped_compact : (o : Option Target) (d : Option TypeDef) → Shaped (compact_layout o) d
 shaped_compact (Some m) d = tt
 shaped_compact None d = tt
 
+-- the layout by a definition agrees with it on width, arms, and whether it is a sequence
 shaped_sized : (r : List TypeInfo) (d : TypeDef) → Shaped (sized_layout r d) (Some d)
 shaped_sized r (Def.Composite fs) = tt
 shaped_sized r (Def.Variant as') = refl
@@ -92,15 +97,18 @@ shaped_sized r (Def.Primitive p) = shaped_kind (kind_of p) (Some (Def.Primitive 
 shaped_sized r (Def.Compact t) = shaped_compact (target_of r t.0) (Some (Def.Compact t))
 shaped_sized r (Def.BitSequence store order) = tt
 
+-- the same for a type that takes no bytes, and where no such type is known
 shaped_from : (r : List TypeInfo) (e : Bool) (d : Option TypeDef) → Shaped (layout_of_shape r e d) d
 shaped_from r true d = tt
 shaped_from r false (Some d) = shaped_sized r d
 shaped_from r false None = tt
 
+-- the layout of a type agrees with its definition on width, arms, and whether it is a sequence
 shaped : (r : List TypeInfo) (t : ℕ) → Shaped (layout r t) (shape r t)
 unfolding layout
 shaped r t = shaped_from r (is_empty r t) (shape r t)
 
+-- the same, where the layout is known by an equation
 shaped_at : (r : List TypeInfo) (t : ℕ) (f : Layout) → layout r t ≡ f → Shaped f (shape r t)
 shaped_at r t f e = subst (λ (g : Layout). Shaped g (shape r t)) e (shaped r t)
 
@@ -115,10 +123,12 @@ le_bytes-above (suc k) n q =
     let high : (n + 256 ^ suc k * q) / 256 ≡ n / 256 + 256 ^ k * q = omega (arith, big) in
     rw (low, high, le_bytes-above k (n / 256) q) refl
 
+-- a power of 256 is above 0
 pow-pos : (k : ℕ) → 0 < 256 ^ k
 pow-pos zero = omega arith
 pow-pos (suc k) = rw (pow-suc 256 k) (omega (arith, pow-pos k))
 
+-- a product by a number above 0 is the one by a number less by 1, and the other factor once more
 mul-pred : (m n : ℕ) → 0 < n → m * n ≡ m * (n - 1) + m
 mul-pred m n h =
     let is : n ≡ n - 1 + 1 = omega arith in
@@ -144,6 +154,7 @@ signed_by b false range h small is =
     ap (le_bytes k) (spelled ∙ ap (λ (x : ℕ). n + x * (above - 1)) is)
     ∙ le_bytes-above k n (above - 1) ∙ le_bytes-number b h
 
+-- up to 16 bytes that spell a signed integer are as many of its word's, the lowest first
 signed_bytes_are : (k : ℕ) (z : ℤ) (b : List ℕ) → AreBytes b → k ≤ 16 → length b ≡ k →
     signed_number b ≡ z → le_bytes k (word z) ≡ b
 signed_bytes_are k z b h small len e =
@@ -152,6 +163,7 @@ signed_bytes_are k z b h small len e =
     ∙ signed_by b (nat_lt (2 * number b) (256 ^ length b)) (256 ^ length b) h (omega (arith, len))
     refl
 
+-- bytes that spell an unsigned integer are its own, the lowest first
 unsigned_bytes_are : (k n : ℕ) (b : List ℕ) → AreBytes b → length b ≡ k → number b ≡ n →
     le_bytes k n ≡ b
 unsigned_bytes_are k n b h len e = ap (λ (x : ℕ). le_bytes x n) (sym len)
@@ -159,6 +171,7 @@ unsigned_bytes_are k n b h len e = ap (λ (x : ℕ). le_bytes x n) (sym len)
 
 -- ---- a compact integer is no value without bytes
 
+-- what spells a compact integer of a type laid out so is the compact spelling of the number
 compact_is : (r : List TypeInfo) (t : ℕ) (m : Target) (x : ℕ) (b : List ℕ) →
     layout r t ≡ layout.plain (layout.compact m) → IsCompact m x b → compact x ≡ b
 compact_is r t target.Unit x b e h =
@@ -173,11 +186,13 @@ compact_is r t target.U128 x b e h = sym h.1
 
 -- ---- the index of an arm
 
+-- an arm that stands behind others is at the position that is their number
 get_at : (before : List Arm) (a : Arm) (after : List Arm) →
     slice_get (before ++ a ∷ after) (length before) ≡ Some a
 get_at [] a after = refl
 get_at (x ∷ before) a after = get_at before a after
 
+-- the arm that is found for an index stands among the arms at the position that is told
 arm_get : (arms : List Arm) (i q : ℕ) (a : Arm) → arm_of arms i ≡ Some (q, a) →
     slice_get arms q ≡ Some a
 arm_get arms i q a e =
@@ -185,6 +200,7 @@ arm_get arms i q a e =
     ap (λ (x : List Arm). slice_get x q) s.2 ∙ ap (slice_get (s.0 ++ a ∷ s.1)) s.3
     ∙ get_at s.0 a s.1
 
+-- the arm at the position that is found for an index has this index as its byte
 index_at : (arms : List Arm) (i q : ℕ) (a : Arm) → arm_of arms i ≡ Some (q, a) →
     index_byte (index_of (Some (Def.Variant arms)) q) ≡ i ∷ []
 index_at arms i q a e =
@@ -193,6 +209,7 @@ index_at arms i q a e =
 
 -- ---- what stands in front of children
 
+-- where a type is laid out by arms, its definition tells the index of the arm that is found
 pub arm_byte : (r : List TypeInfo) (t : ℕ) (arms : List Arm) (i q : ℕ) (a : Arm) →
     layout r t ≡ layout.arms arms → arm_of arms i ≡ Some (q, a) →
     index_byte (index_of (shape r t) q) ≡ i ∷ []
@@ -200,10 +217,12 @@ arm_byte r t arms i q a e h =
     ap (λ (d : Option TypeDef). index_byte (index_of d q)) (shaped_at r t (layout.arms arms) e)
     ∙ index_at arms i q a h
 
+-- the elements of what is laid out as an array have no length in front of them
 pub array_length : (r : List TypeInfo) (t n u k : ℕ) → layout r t ≡ layout.array n u →
     length_bytes (shape r t) k ≡ []
 array_length r t n u k e = rw (shaped_at r t (layout.array n u) e) refl
 
+-- the elements of what is laid out as a sequence have their compact length in front of them
 pub sequence_length : (r : List TypeInfo) (t u k : ℕ) → layout r t ≡ layout.sequence u →
     length_bytes (shape r t) k ≡ compact k
 sequence_length r t u k e = rw (shaped_at r t (layout.sequence u) e) refl
@@ -281,5 +300,6 @@ mutual
         spells_each r t vs h.1 (rest_bytes h.0 h.1 q) h.4,
       ) (sym h.2)
 
+-- bytes that spell a value by the grammar are those of its nodes, one behind the other
 pub encoded_is_value : EncodedIsValue
 encoded_is_value = spells

@@ -23,12 +23,14 @@ use Rattle.grammar_core.specs.Reading.{value_at, layout_at, leaf_at, bool_at, ch
 use Rattle.grammar_core.specs.Reading.{times_at, fields_behind_index, arms_at, elements_at, as_leaf}
 use Rattle.grammar_core.specs.Reading.{with_children, Refusal, basic, truncated}
 
+-- a leaf is read in the same way from a longer input where what it is made of is
 as_leaf_extends : {X : Type 0} (make : X → Leaf) (more : List ℕ) (read read' : Read Reason X) →
     Extends reasons.Truncated more read read' →
     Extends truncated more (as_leaf make read) (as_leaf make read')
 as_leaf_extends make more (Ok x) s h = rw h refl
 as_leaf_extends make more (Err e) s h = λ ne. rw (h (λ eq. ne (ap basic eq))) refl
 
+-- a value with parts is read in the same way from a longer input where its parts are
 with_children_extends : (k : Branch) (more : List ℕ) (read read' : Read Refusal Trees) →
     Extends truncated more read read' →
     Extends truncated more (with_children k read) (with_children k read')
@@ -39,6 +41,7 @@ abbrev ChildExtends : List ℕ → (ℕ → List ℕ → Read Refusal Tree) → 
 ChildExtends more child = (t : ℕ) (b : List ℕ) →
     Extends truncated more (child t b) (child t (b ++ more))
 
+-- values of these types are read in the same way from a longer input where each child is
 all_extends : (more : List ℕ) (child : ℕ → List ℕ → Read Refusal Tree) → ChildExtends more child →
     (ts : List ℕ) (b : List ℕ) →
     Extends truncated more (all_at child ts b) (all_at child ts (b ++ more))
@@ -48,6 +51,7 @@ all_extends more child h (t ∷ ts) b =
     bind_extends truncated more (all_at child ts v.1) (all_at child ts (v.1 ++ more)) _ _
     (all_extends more child h ts v.1) (λ vs. refl))
 
+-- so many values of one type are read in the same way from a longer input where each child is
 times_extends : (more : List ℕ) (child : ℕ → List ℕ → Read Refusal Tree) → ChildExtends more child →
     (n t : ℕ) (b : List ℕ) →
     Extends truncated more (times_at child n t b) (times_at child n t (b ++ more))
@@ -57,12 +61,14 @@ times_extends more child h (suc n) t b =
     bind_extends truncated more (times_at child n t v.1) (times_at child n t (v.1 ++ more)) _ _
     (times_extends more child h n t v.1) (λ vs. refl))
 
+-- a boolean is read, or refused other than for a cut, in the same way from a longer input
 bool_extends : (b more : List ℕ) → Extends truncated more (bool_at b) (bool_at (b ++ more))
 bool_extends [] more = λ ne. absurd (ne refl)
 bool_extends (zero ∷ b) more = refl
 bool_extends (suc zero ∷ b) more = refl
 bool_extends (suc (suc x) ∷ b) more = λ ne. refl
 
+-- a character is read in the same way from a longer input where its four bytes are
 char_extends : (b more : List ℕ) (read read' : Read Reason (List ℕ)) →
     Extends reasons.Truncated more read read' →
     Extends truncated more (char_from b read) (char_from (b ++ more) read')
@@ -70,6 +76,7 @@ char_extends b more (Err e) s h = λ ne. rw (h (λ eq. ne (ap basic eq))) refl
 char_extends b more (Ok x) s h =
     rw h (cond_extends truncated more (is_scalar (number x.0)) _ _ _ _ refl (λ ne. refl))
 
+-- the fields behind an index are read in the same way from a longer input where each child is
 arm_extends : (more : List ℕ) (child : ℕ → List ℕ → Read Refusal Tree) → ChildExtends more child →
     (at b : List ℕ) (found : Option (ℕ × Arm)) →
     Extends truncated more (fields_behind_index child at found b)
@@ -78,12 +85,14 @@ arm_extends more child h at b None = λ ne. refl
 arm_extends more child h at b (Some a) =
     with_children_extends (arm a.0) more _ _ (all_extends more child h (field_types a.1.fields) b)
 
+-- a value of an arm is read in the same way from a longer input where each child is
 arms_extends : (more : List ℕ) (child : ℕ → List ℕ → Read Refusal Tree) → ChildExtends more child →
     (arms : List Arm) (b : List ℕ) →
     Extends truncated more (arms_at child arms b) (arms_at child arms (b ++ more))
 arms_extends more child h arms [] = λ ne. absurd (ne refl)
 arms_extends more child h arms (i ∷ b) = arm_extends more child h (i ∷ b) b (arm_of arms i)
 
+-- elements behind a length are read in the same way from a longer input where they and it are
 elements_extends : (more : List ℕ) (child : ℕ → List ℕ → Read Refusal Tree) →
     ChildExtends more child → (t : ℕ) (read read' : Read Reason ℕ) →
     Extends reasons.Truncated more read read' →
@@ -108,6 +117,7 @@ leaf_extends more layout.counted b =
     as_leaf_extends count more _ _ (compact_extends target.U32 b more)
 leaf_extends more (layout.compact m) b = as_leaf_extends compact more _ _ (compact_extends m b more)
 
+-- what any layout reads is read in the same way from a longer input where each child is
 pub layout_extends : (more : List ℕ) (child : ℕ → List ℕ → Read Refusal Tree) →
     ChildExtends more child → (f : Layout) (b : List ℕ) →
     Extends truncated more (layout_at child f b) (layout_at child f (b ++ more))
@@ -124,6 +134,7 @@ layout_extends more child h (layout.sequence u) b =
 layout_extends more child h (layout.array n u) b =
     with_children_extends list more _ _ (times_extends more child h n u b)
 
+-- a value is read, or refused other than for a cut, in the same way from a longer input
 pub value_extends : (r : List TypeInfo) (room t : ℕ) (b more : List ℕ) →
     Extends truncated more (value_at r room t b) (value_at r room t (b ++ more))
 unfolding value_at

@@ -53,6 +53,7 @@ range_more pool more start end h k =
       range_front (x ∷ xs) (suc start) (suc end) h =
           ap (λ (k : ℕ). take k (drop start xs)) (omega arith) ∙ range_front xs start end (omega arith)
 
+-- a node whose bytes lie in the pool shows the same where more bytes come to the pool
 head_more : (pool more : List ℕ) (n : ℕ) (c : Content) → IsInPool pool c →
     head_shown (pool ++ more) n c ≡ head_shown pool n c
 head_more pool more n content.Empty h = refl
@@ -84,6 +85,7 @@ head_more pool more n (content.Fields size) h = refl
 head_more pool more n (content.Arm q size) h = refl
 head_more pool more n (content.List size) h = refl
 
+-- the bytes of a node that lie in the pool lie in it where more bytes come to it
 within_more : (pool more : List ℕ) (c : Content) → IsInPool pool c → IsInPool (pool ++ more) c
 within_more pool more (content.Text len start) h = omega (arith, h, length-append pool more)
 within_more pool more (content.Bytes len start) h = omega (arith, h, length-append pool more)
@@ -102,29 +104,34 @@ within_more pool more (content.Fields size) h = tt
 within_more pool more (content.Arm q size) h = tt
 within_more pool more (content.List size) h = tt
 
+-- nodes whose bytes lie in the pool show the same, with type and size, where more come to it
 cells_more : (pool more : List ℕ) (ns : List Node) → AreInPool pool ns →
     cells_shown (pool ++ more) ns ≡ cells_shown pool ns
 cells_more pool more [] h = refl
 cells_more pool more (n ∷ ns) h =
     rw (head_more pool more n.children n.content h.0, cells_more pool more ns h.1) refl
 
+-- nodes whose bytes lie in the pool show the same, with their types, where more come to it
 entries_more : (pool more : List ℕ) (ns : List Node) → AreInPool pool ns →
     entries_shown (pool ++ more) ns ≡ entries_shown pool ns
 entries_more pool more [] h = refl
 entries_more pool more (n ∷ ns) h =
     rw (head_more pool more n.children n.content h.0, entries_more pool more ns h.1) refl
 
+-- where one node more has its bytes in the longer pool, so have all nodes
 inside_more : (pool more : List ℕ) (ns : List Node) (n : Node) → AreInPool pool ns →
     IsInPool (pool ++ more) n.content → AreInPool (pool ++ more) (ns ++ n ∷ [])
 inside_more pool more [] n h k = (k, tt)
 inside_more pool more (m ∷ ns) n h k =
     (within_more pool more m.content h.0, inside_more pool more ns n h.1 k)
 
+-- with one node more, there are as many bytes of text more as this node has
 text_snoc : (es : List Entry) (e : Entry) →
     entries_text_bytes (es ++ e ∷ []) ≡ entries_text_bytes es + head_text_bytes e.head
 text_snoc [] e = omega arith
 text_snoc (x ∷ es) e = omega (arith, text_snoc es e)
 
+-- with one node more, as many bytes more are kept in the pool as this node has there
 kept_snoc : (ns : List Node) (n : Node) →
     all_kept (ns ++ n ∷ []) ≡ all_kept ns + kept_bytes n.content
 kept_snoc [] n = omega arith
@@ -134,12 +141,14 @@ kept_snoc (m ∷ ns) n = omega (arith, kept_snoc ns n)
 abbrev entry_of : ℕ → Head → Entry
 entry_of t h = record { ty = t; head = h }
 
+-- a node that is added, with its bytes in the pool, is shown behind those that were there
 pub entries_added : (pool more : List ℕ) (ns : List Node) (n : Node) (t : ℕ) (h : Head) →
     AreInPool pool ns → n.ty.0 ≡ t → head_shown (pool ++ more) n.children n.content ≡ h →
     entries_shown (pool ++ more) (ns ++ n ∷ []) ≡ entries_shown pool ns ++ entry_of t h ∷ []
 entries_added pool more ns n t h inside e f = map-append _ ns (n ∷ [])
     ∙ rw (entries_more pool more ns inside, e, f) refl
 
+-- the same where nodes are shown with their sizes
 cells_added : (pool more : List ℕ) (ns : List Node) (n : Node) (c : Cell) → AreInPool pool ns →
     cell_shown (pool ++ more) n ≡ c →
     cells_shown (pool ++ more) (ns ++ n ∷ []) ≡ cells_shown pool ns ++ c ∷ []
@@ -153,6 +162,7 @@ leaf_cells : (r : List TypeInfo) (t : ℕ) (h : Head) → IsLeaf h →
 leaf_cells r t (head.leaf l) h = (refl, refl)
 leaf_cells r t (head.branch k n) h = absurd h
 
+-- where a value of the next type comes, its nodes and bytes stand behind those that were there
 leaf_grown : (r : List TypeInfo) (room ty : ℕ) (os : List OpenNode) (fs : List OpenPart)
     (cs : List Cell) (own : List ℕ) (t : ℕ) (v : Tree) (c : List ℕ) → first_in fs ≡ Some t →
     Spine r room ty os fs cs own → Val r t v c → levels v ≤ room →
@@ -162,6 +172,7 @@ leaf_grown r room ty os [] cs own t v c e h k l = absurd cc
 leaf_grown r room ty os (f ∷ fs) cs own t v c e h k l =
     value_added r room ty os f fs cs own t v c h e k l
 
+-- when the next node is there, as many parts are open as before
 advanced_length : (fs : List OpenPart) →
     length (advanced (record { types = []; limit = 0; frames = fs })).frames ≡ length fs
 advanced_length [] = refl
@@ -223,6 +234,7 @@ abbrev is_open : Head → Bool
 is_open (head.branch k n) = true
 is_open _ = false
 
+-- a node that has a kind and a number of children is one with parts
 kind_is_open : (kind : Branch) (n : ℕ) → is_open (head.branch kind n) ≡ true
 kind_is_open k n = refl
 
@@ -232,6 +244,7 @@ pub record IsApart (pool : List ℕ) (n : ℕ) (c : Content) : Type 0 where
   pub inside : IsInPool pool c
   pub none_kept : kept_bytes c ≡ 0
 
+-- a node that shows as one with parts keeps nothing in the pool
 open_by : (pool : List ℕ) (n : ℕ) (c : Content) → is_open (head_shown [] n c) ≡ true →
     IsApart pool n c
 open_by pool n (content.Fields size) e = record { same = refl; inside = tt; none_kept = refl }
@@ -251,13 +264,16 @@ open_by pool n (content.LongCompact start) e = absurd cc
 open_by pool n (content.LongSigned start) e = absurd cc
 open_by pool n (content.Wide start) e = absurd cc
 
+-- the same, where its kind and its number of children are known by an equation
 pub open_shown : (pool : List ℕ) (children : ℕ) (c : Content) (kind : Branch) (n : ℕ) →
     head_shown [] children c ≡ head.branch kind n → IsApart pool children c
 open_shown pool children c kind n e = open_by pool children c (ap is_open e ∙ kind_is_open kind n)
 
+-- a node with parts has no bytes of text of its own
 kind_text : (kind : Branch) (n : ℕ) → head_text_bytes (head.branch kind n) ≡ 0
 kind_text k n = refl
 
+-- where a node of the next type opens, it is the innermost, and its cells come behind the others
 open_grown : (r : List TypeInfo) (room ty : ℕ) (os : List OpenNode) (fs : List OpenPart)
     (cs : List Cell) (own : List ℕ) (o : OpenNode) (p : Part) → first_in fs ≡ Some o.ty →
     Spine r (suc room) ty os fs cs own → IsOpen r o p → most_levels o.done ≤ room →
@@ -268,6 +284,7 @@ open_grown r room ty os [] cs own o p e h k l = absurd cc
 open_grown r room ty os (f ∷ fs) cs own o p e h k l =
     node_opened r room ty os f p fs cs own o h e k l
 
+-- with one open node more, whose size is not known yet, the value that is being built stays one
 pub open_added : (ty : ℕ) (w : Walked) (pool : List ℕ) (ns : List Node) (n : Node) (text_len : ℕ)
     (p : Part) (b : IsBuilding ty w pool ns text_len)
     (l : IsNextOpen w (head_shown [] n.children n.content) p) → n.ty.0 ≡ l.ty →
@@ -333,12 +350,14 @@ open_entries pool ns n t kind count at e = (
 
 -- ---- bytes of an open run
 
+-- where the bytes of all nodes lie in the pool, they lie in it where more bytes come to it
 inside_longer : (pool more : List ℕ) (ns : List Node) → AreInPool pool ns →
     AreInPool (pool ++ more) ns
 inside_longer pool more [] h = tt
 inside_longer pool more (n ∷ ns) h =
     (within_more pool more n.content h.0, inside_longer pool more ns h.1)
 
+-- a value that is being built stays one where more bytes come to the pool
 pub bytes_added : (ty : ℕ) (w : Walked) (pool more : List ℕ) (ns : List Node) (text_len : ℕ) →
     IsBuilding ty w pool ns text_len → IsBuilding ty w (pool ++ more) ns text_len
 bytes_added ty w pool more ns text_len b = record {
@@ -353,12 +372,14 @@ bytes_added ty w pool more ns text_len b = record {
   fits = omega (arith, b.fits, length-append pool more);
 }
 
+-- what a list has from a place on grows by what comes to the list
 drop_more : (k : ℕ) (pool more : List ℕ) → k ≤ length pool →
     drop k (pool ++ more) ≡ drop k pool ++ more
 drop_more zero pool more h = refl
 drop_more (suc k) [] more h = absurd (omega (arith, h))
 drop_more (suc k) (x ∷ pool) more h = drop_more k pool more (omega (arith, h))
 
+-- bytes that come to the pool are the open run's, where it lacks as many at least
 pub open_longer : (w : Walked) (pool more : List ℕ) (kept : ℕ) (run : Option OpenRun) →
     AreBytes more → IsOpenRun w pool kept run →
     IfOk (missing_at (pieces_shown pool run) (next_of w)) (λ m. length more ≤ m.1) →
@@ -391,6 +412,7 @@ open_longer w pool more kept (Some o) p h k =
           (drop_more o.start pool more h.inside),
     )
 
+-- nodes whose bytes lie in the pool show the same, with their types, where more come to it
 pub longer_entries : (pool more : List ℕ) (ns : List Node) → AreInPool pool ns →
     entries_shown (pool ++ more) ns ≡ entries_shown pool ns
 longer_entries = entries_more

@@ -66,18 +66,21 @@ parts_sized class.NoValue sized from count e = absurd cc
 parts_sized class.Empty sized from count e = absurd cc
 parts_sized class.Sized sized from count e = e
 
+-- where the step of an array was chosen by a class, it is that of a type that takes bytes
 array_sized : (c : Class) (sized : Step) (n t : ℕ) →
     step.Array n t ≡ by_class c step.NoValue sized → step.Array n t ≡ sized
 array_sized class.NoValue sized n t e = absurd cc
 array_sized class.Empty sized n t e = absurd cc
 array_sized class.Sized sized n t e = e
 
+-- where the step of a sequence was chosen by a class, it is that of a type that takes bytes
 sequence_sized : (c : Class) (sized : Step) (t : ℕ) →
     step.Sequence t ≡ by_class c step.NoValue sized → step.Sequence t ≡ sized
 sequence_sized class.NoValue sized t e = absurd cc
 sequence_sized class.Empty sized t e = absurd cc
 sequence_sized class.Sized sized t e = e
 
+-- where the step of a sequence tells the type of its elements, it is the sequence's own
 sequence_is : (c : Class) (byte : Bool) (t u : ℕ) → step.Sequence t ≡ sequence_step c byte u → t ≡ u
 sequence_is class.NoValue true t u e = absurd cc
 sequence_is class.NoValue false t u e = cc
@@ -85,6 +88,7 @@ sequence_is class.Empty byte t u e = absurd cc
 sequence_is class.Sized true t u e = absurd cc
 sequence_is class.Sized false t u e = cc
 
+-- where the step of an array tells the type of its elements, it is the array's own
 array_is : (byte : Bool) (n m t u : ℕ) → step.Array n t ≡ array_step byte m u → t ≡ u
 array_is true n m t u e = absurd cc
 array_is false n m t u e = cc
@@ -103,6 +107,7 @@ suits (step.Array n t) (Def.Array m u) = true
 suits (step.Sequence t) (Def.Sequence u) = true
 suits _ _ = false
 
+-- a step that opens parts and was chosen by a class suits where the one with bytes does
 suits_by_class : (c : Class) (none sized s : Step) (d : TypeDef) → opens_parts none ≡ false →
     (opens_parts sized ≡ true → suits sized d ≡ true) → s ≡ by_class c none sized →
     opens_parts s ≡ true → suits s d ≡ true
@@ -110,6 +115,7 @@ suits_by_class class.NoValue none sized s d f g e o = let no = rw e at o in absu
 suits_by_class class.Empty none sized s d f g e o = let no = rw e at o in absurd cc
 suits_by_class class.Sized none sized s d f g e o = rw e (g (rw e at o))
 
+-- a sequence's step that opens parts suits the definition of a sequence
 suits_sequence : (c : Class) (byte : Bool) (u : TypeId) →
     opens_parts (sequence_step c byte u.0) ≡ true →
     suits (sequence_step c byte u.0) (Def.Sequence u) ≡ true
@@ -119,6 +125,7 @@ suits_sequence class.Empty byte u o = absurd cc
 suits_sequence class.Sized true u o = absurd cc
 suits_sequence class.Sized false u o = refl
 
+-- an array's step that opens parts suits the definition of an array
 suits_array : (byte : Bool) (n : ℕ) (u : TypeId) → opens_parts (array_step byte n u.0) ≡ true →
     suits (array_step byte n u.0) (Def.Array n u) ≡ true
 suits_array true n u o = absurd cc
@@ -159,6 +166,7 @@ record Known (w : Walked) (s : Step) : Type 0 where
   pub is : IsStep w.types (references_of w.types) (λ from count arms. Unit {0})
       (class_of w.types ty) d s
 
+-- where the step that is ahead is not that of no value, the next type is known and has it
 known : (w : Walked) (s : Step) → (s ≡ step.NoValue → ⊥) →
     IsStepAhead w.types (next_type w) (Some s) → Known w s
 known w s some h = go (next_type w) refl where
@@ -186,6 +194,7 @@ pub record Opens (w : Walked) (left : Left) : Type 0 where
   pub opens : OpensFields w (left_of w.types left)
   pub counts : how_many_left (left_of w.types left) ≡ left.count
 
+-- the fields or members that the next type opens are the piece of references that its step tells
 parts_open : (w : Walked) (from count from' count' : ℕ) (c : Class) (ts : List ℕ) →
     step.Parts from count ≡ by_class c step.NoValue (step.Parts from' count') →
     AreParts (references_of w.types) from' count' ts → OpensFields w (each ts) →
@@ -201,6 +210,7 @@ parts_open w from count from' count' c ts e parts o =
       counts = ap how_many_left left ∙ counted;
     })
 
+-- where fields are next, they are the piece of references that the step ahead tells
 fields_open : (w : Walked) (from count : ℕ) → next_of w ≡ next.Wants form.Fields →
     IsStepAhead w.types (next_type w) (Some (step.Parts from count)) → Opens w (members_of from count)
 fields_open w from count h a =
@@ -221,6 +231,7 @@ fields_open w from count h a =
       go c (Def.Compact u) s is f = absurd cc
       go c (Def.BitSequence store order) s is f = absurd cc
 
+-- where an array is next, so many of the type that the step ahead tells are its elements
 elements_open : (w : Walked) (n m t : ℕ) → next_of w ≡ next.Wants (form.Array n) →
     IsStepAhead w.types (next_type w) (Some (step.Array m t)) → OpensElements w n (times n t)
 elements_open w n m t h a =
@@ -242,6 +253,7 @@ elements_open w n m t h a =
       go c (Def.Compact u) s is f = absurd cc
       go c (Def.BitSequence store order) s is f = absurd cc
 
+-- where a sequence is next, any number of the type that the step ahead tells are its elements
 sequence_elements_open : (w : Walked) (n t : ℕ) → next_of w ≡ next.Wants form.Sequence →
     IsStepAhead w.types (next_type w) (Some (step.Sequence t)) → OpensElements w n (times n t)
 sequence_elements_open w n t h a =
@@ -268,6 +280,7 @@ sequence_elements_open w n t h a =
 abbrev opened_arm : Walked → ArmStep → ℕ × Part
 opened_arm w s = (s.position, opened_parts w s.from s.count)
 
+-- where an arm is next, what is found for an index is the arm that it opens, or that there is none
 pub found_arm_opens : (w : Walked) (t index : ℕ) (o : Option ArmStep) →
     next_of w ≡ next.Wants form.Arm → Some t ≡ next_type w →
     IsArm (references_of w.types) o (arm_at w.types t index) →
@@ -284,6 +297,7 @@ found_arm_opens w t index o h e a =
       go (Some s) (Some x) a =
           rw (a.0, parts_left (references_of w.types) s.from s.count (field_types x.1.fields) a.1) refl
 
+-- an arm that is found opens as many parts as its step tells
 pub found_arm_counts : (w : Walked) (s : ArmStep) (x : Option (ℕ × Arm)) →
     IsArm (references_of w.types) (Some s) x →
     how_many_left (opened_parts w s.from s.count) ≡ s.count
@@ -315,6 +329,7 @@ none_ahead : (w : Walked) (f : Form) → next_of w ≡ next.Wants f →
     IsStepAhead w.types (next_type w) None → ⊥
 none_ahead w f h a = rw (wanted w f h).is_next at a
 
+-- where fields are next, the step ahead tells a piece of the references
 fields_known : (w : Walked) (o : Option Step) → next_of w ≡ next.Wants form.Fields →
     IsStepAhead w.types (next_type w) o → (from count : ℕ) × (o ≡ Some (step.Parts from count))
 fields_known w None h a = absurd (none_ahead w form.Fields h a)
@@ -335,6 +350,7 @@ fields_known w (Some s) h a = go s (with_form w form.Fields s h a) where
   go step.Count e = absurd cc
   go step.BitSequence e = absurd cc
 
+-- where an array is next, the step ahead is one of an array and tells its elements
 array_known : (w : Walked) (n : ℕ) (o : Option Step) → next_of w ≡ next.Wants (form.Array n) →
     IsStepAhead w.types (next_type w) o → (m t : ℕ) × (o ≡ Some (step.Array m t))
 array_known w n None h a = absurd (none_ahead w (form.Array n) h a)
@@ -356,6 +372,7 @@ array_known w n (Some s) h a = go s (with_form w (form.Array n) s h a) where
   go step.Count e = absurd cc
   go step.BitSequence e = absurd cc
 
+-- where a sequence is next, the step ahead is one of a sequence and tells its elements
 sequence_known : (w : Walked) (o : Option Step) → next_of w ≡ next.Wants form.Sequence →
     IsStepAhead w.types (next_type w) o → (t : ℕ) × (o ≡ Some (step.Sequence t))
 sequence_known w None h a = absurd (none_ahead w form.Sequence h a)
@@ -379,12 +396,14 @@ sequence_known w (Some s) h a = go s (with_form w form.Sequence s h a) where
 
 -- ---- what is found of the step that is ahead
 
+-- where fields are next, the step ahead cannot be one without members
 pub members_there : (w : Walked) (o : Option Step) → next_of w ≡ next.Wants form.Fields →
     IsStepAhead w.types (next_type w) o → members_in o ≡ None → ⊥
 members_there w o h a e =
     let k = fields_known w o h a in
     absurd (none-some (members_of k.0 k.1) (sym e ∙ ap members_in k.2))
 
+-- where fields are next, the members that the step ahead tells are what is opened
 pub members_opened : (w : Walked) (o : Option Step) (left : Left) →
     next_of w ≡ next.Wants form.Fields → IsStepAhead w.types (next_type w) o →
     members_in o ≡ Some left → Opens w left
@@ -394,6 +413,7 @@ members_opened w o left h a e =
     same_Some left (members_of k.0 k.1) (sym e ∙ ap members_in k.2) in
     rw is (fields_open w k.0 k.1 h (rw k.2 at a))
 
+-- where an array is next, the step ahead tells the type of its elements, and they are opened
 array_opened : (w : Walked) (n : ℕ) (o : Option Step) → next_of w ≡ next.Wants (form.Array n) →
     IsStepAhead w.types (next_type w) o → (t : ℕ) × (element_in o ≡ Some t)
     × OpensElements w n (times n t)
@@ -401,6 +421,7 @@ array_opened w n o h a =
     let k = array_known w n o h a in
     (k.1, ap element_in k.2, elements_open w n k.0 k.1 h (rw k.2 at a))
 
+-- where a sequence is next, the step ahead tells the type of its elements, and they are opened
 sequence_opened : (w : Walked) (n : ℕ) (o : Option Step) → next_of w ≡ next.Wants form.Sequence →
     IsStepAhead w.types (next_type w) o → (t : ℕ) × (element_in o ≡ Some t)
     × OpensElements w n (times n t)
@@ -408,18 +429,21 @@ sequence_opened w n o h a =
     let k = sequence_known w o h a in
     (k.0, ap element_in k.1, sequence_elements_open w n k.0 h (rw k.1 at a))
 
+-- the same where an array or a sequence is next
 list_opened : (w : Walked) (n : ℕ) (o : Option Step) → IsListNext w n →
     IsStepAhead w.types (next_type w) o → (t : ℕ) × (element_in o ≡ Some t)
     × OpensElements w n (times n t)
 list_opened w n o (inl h) a = array_opened w n o h a
 list_opened w n o (inr h) a = sequence_opened w n o h a
 
+-- where an array or a sequence is next, the step ahead cannot be one without elements
 pub elements_there : (w : Walked) (n : ℕ) (o : Option Step) → IsListNext w n →
     IsStepAhead w.types (next_type w) o → element_in o ≡ None → ⊥
 elements_there w n o h a e =
     let k = list_opened w n o h a in
     absurd (none-some k.0 (sym e ∙ k.1))
 
+-- where an array or a sequence is next, so many of the type that the step tells are opened
 pub elements_opened : (w : Walked) (n : ℕ) (o : Option Step) (t : ℕ) → IsListNext w n →
     IsStepAhead w.types (next_type w) o → element_in o ≡ Some t → OpensElements w n (times n t)
 elements_opened w n o t h a e =

@@ -52,15 +52,18 @@ around tree.fields n vs g = in_fields vs g
 around (tree.arm q) n vs g = in_arm q vs g
 around tree.list n vs g = in_list n vs g
 
+-- where a type is next of a list of types, the list begins with it
 each_first : (back : List ℕ) (w : ℕ) → first_of (each back) ≡ Some w → (behind : List ℕ)
     × (back ≡ w ∷ behind)
 each_first [] w e = absurd cc
 each_first (u ∷ us) w e = (us, ap (λ (z : ℕ). z ∷ us) (same_Some u w e))
 
+-- where a type is next of so many values of one type, at least one is left, and it is this type
 times_first : (left u w : ℕ) → first_of (times left u) ≡ Some w → (1 ≤ left) × (u ≡ w)
 times_first zero u w e = absurd cc
 times_first (suc n) u w e = (omega arith, same_Some u w e)
 
+-- an open node with a begun child is a begun tree, and its nodes and bytes stand in front
 around_grows : (r : List TypeInfo) (room : ℕ) (kind : Branch) (t n : ℕ) (vs : Trees) (b : List ℕ)
     (p : Part) (w : ℕ) (g : Begun) (c : List ℕ) (next : Option (ℕ × ℕ)) (hs : List Head) →
     is_finite r t ≡ true → IsOpenAs r kind t n vs b p → most_levels vs ≤ room →
@@ -139,6 +142,7 @@ abbrev BegunAs : List TypeInfo → ℕ → ℕ → List Head → List ℕ → Op
 BegunAs r top t hs own next = (g : Begun) × Grows r top t g own next × IsPart g
     × IsBegunPreorder g hs
 
+-- the innermost open node, its whole children and what follows stand behind the nodes before it
 heads_behind : (r : List TypeInfo) (o : OpenNode) (cs cs1 : List Cell) (hs : List Head) →
     cs ≡ cs1 ++ open_cells r o →
     bare cs ++ hs ≡ bare cs1 ++ (head.branch o.kind o.all ∷ (all_preorder o.done ++ hs))
@@ -149,6 +153,7 @@ heads_behind r o cs cs1 hs e =
     ∙ ap (λ (x : List Head). bare cs1 ++ (head.branch o.kind o.all ∷ (x ++ hs)))
     (all_cells_preorder r (part_of (layout r o.ty) o.kind o.all) o.done)
 
+-- a begun tree where a type is next makes one begun tree of all open nodes around it
 plugged : (r : List TypeInfo) (top room t : ℕ) (os : List OpenNode) (f : OpenPart)
     (fs : List OpenPart) (cs : List Cell) (own : List ℕ) (w : ℕ) (g : Begun) (c : List ℕ)
     (next : Option (ℕ × ℕ)) (hs : List Head) →
@@ -176,6 +181,7 @@ plugged r top room t (o ∷ os) f fs cs own w g c next hs e h first k part shows
     a.2 in
     (g'.0, rw (h.12, append_assoc) g'.1, g'.2, rw (heads_behind r o cs h.4 hs h.11) g'.3)
 
+-- nodes and bytes of a begun tree may be replaced by equal ones
 same_begun : (r : List TypeInfo) (top t : ℕ) (hs hs' : List Head) (own own' : List ℕ)
     (next : Option (ℕ × ℕ)) → hs ≡ hs' → own ≡ own' → BegunAs r top t hs own next →
     BegunAs r top t hs' own' next
@@ -195,10 +201,12 @@ spine_is_begun r top room t os f fs cs own u e h first =
 
 -- ---- its counts
 
+-- the list of a tree's nodes is as long as the tree has nodes
 preorder_length : (v : Tree) → length (preorder v) ≡ nodes v
 preorder_length v = ap length (sym (cells_preorder [] 0 v))
     ∙ length-map (cells [] 0 v) (λ (c : Cell). c.head) ∙ cells_length [] 0 v
 
+-- the list of the nodes of several trees is as long as they have nodes
 all_preorder_length : (vs : Trees) → length (all_preorder vs) ≡ all_nodes vs
 all_preorder_length vs = ap length (sym (all_cells_preorder [] (each []) vs))
     ∙ length-map (all_cells [] (each []) vs) (λ (c : Cell). c.head)
@@ -216,6 +224,7 @@ counted g h vs rest none c = (
   omega (arith, none, heads_text-append (all_preorder vs) rest, text_of_all_preorder vs, c.1),
 )
 
+-- the nodes of a begun tree are as many as it tells, and so are their bytes of text
 pub counts : (g : Begun) (hs : List Head) → IsBegunPreorder g hs → Counts g hs
 counts nothing hs h = rw h (refl, refl)
 counts (whole v) hs h = rw h (preorder_length v, text_of_preorder v)
@@ -238,6 +247,7 @@ settled_short (f ∷ g ∷ fs) = by (first_of f.left) refl (settled_short (g ∷
   by (Some u) e h = rw (e, settled_in) (omega arith)
   by None e h = rw (e, settled_in) (omega (arith, h))
 
+-- where nothing is to be closed and a node is open, a type is next in the innermost
 innermost : (f g : OpenPart) (fs : List OpenPart) → settled_in (f ∷ g ∷ fs) ≡ f ∷ g ∷ fs → (u : ℕ)
     × (first_of f.left ≡ Some u)
 innermost f g fs h = by (first_of f.left) refl where
@@ -247,6 +257,7 @@ innermost f g fs h = by (first_of f.left) refl where
       let less : settled_in (f ∷ g ∷ fs) ≡ settled_in (g ∷ fs) = rw (e, settled_in) refl in
       absurd (omega (arith, ap length less, ap length h, settled_short (g ∷ fs)))
 
+-- what comes next by the number of open parts is what comes next by the room that is left
 answer_is : (r : List TypeInfo) (limit parts u : ℕ) →
     (if nat_lt (limit + 1) parts then next.Stop stop.TooDeep else next_at r u)
     ≡ next_in r (Some (limit + 2 - parts, u))
@@ -261,16 +272,19 @@ answer_is r limit parts u = by (nat_lt (limit + 1) parts) refl where
 
 -- ---- what a builder holds
 
+-- nodes are the same by themselves, whether shown with their types or with sizes as well
 heads_are : (pool : List ℕ) (ns : List Node) →
     map (λ (e : Entry). e.head) (entries_shown pool ns) ≡ bare (cells_shown pool ns)
 heads_are pool ns = map-map (λ (e : Entry). e.head) _ ns ∙ sym (map-map (λ (c : Cell). c.head) _ ns)
 
+-- the bytes of nodes shown with their types are those of the same nodes shown with sizes
 own_is : (r : List TypeInfo) (pool : List ℕ) (ns : List Node) (own : List ℕ) →
     flat_map (cell_bytes r) (cells_shown pool ns) ≡ own →
     flat_map (λ (e : Entry). own_bytes (shape r e.ty) e.head) (entries_shown pool ns) ≡ own
 own_is r pool ns own e = flat_map-map _ _ ns
     ∙ sym (flat_map-map (cell_bytes r) (cell_shown pool) ns) ∙ e
 
+-- as many nodes are shown as are kept
 entries_length : (pool : List ℕ) (ns : List Node) → length (entries_shown pool ns) ≡ length ns
 entries_length pool ns = length-map ns _
 
@@ -369,6 +383,7 @@ whole_begun ty types limit f pool ns text_len run turns b paid e = by b.opens re
     spine_length types b.room ty b.opens (f ∷ []) (cells_shown pool ns) b.own b.spine,
   ))
 
+-- a value that is being built, with all that is whole closed, is a begun tree, by its walk's fields
 begun_by : (ty : ℕ) (types : List TypeInfo) (limit : ℕ) (fs : List OpenPart) (pool : List ℕ)
     (ns : List Node) (text_len : ℕ) (run : Option Pieces) (turns : ℕ) →
     IsBuilding ty (record { types = types; limit = limit; frames = fs }) pool ns text_len →
@@ -402,6 +417,7 @@ begun_by ty types limit (f ∷ g ∷ fs) pool ns text_len run turns b paid s = l
     innermost f g fs s in part_begun ty types limit f (g ∷ fs) pool ns text_len run turns u.0 b
     paid u.1
 
+-- a value that is being built, with all that is whole closed, is a begun tree with its counts
 pub is_begun : (ty : ℕ) (w : Walked) (pool : List ℕ) (ns : List Node) (text_len : ℕ)
     (run : Option Pieces) (turns : ℕ) → IsBuilding ty w pool ns text_len → IsPaid w ns turns →
     IsSettled w → IsBegun (record {

@@ -36,6 +36,7 @@ vals_are r (t ∷ ts) (and v vs) b p h =
     let q : AreBytes (h.0 ++ h.1) = rw (← h.2) p in
     ((h.0, front_bytes h.0 h.1 q, h.3), vals_are r ts vs h.1 (rest_bytes h.0 h.1 q) h.4)
 
+-- values of one type in a row, spelled by bytes, are each a value of it
 each_are : (r : List TypeInfo) (t : ℕ) (vs : Trees) (b : List ℕ) → AreBytes b → Each r t vs b →
     AreValues r (times (how_many vs) t) vs
 unfolding Val
@@ -44,11 +45,13 @@ each_are r t (and v vs) b p h =
     let q : AreBytes (h.0 ++ h.1) = rw (← h.2) p in
     ((h.0, front_bytes h.0 h.1 q, h.3), each_are r t vs h.1 (rest_bytes h.0 h.1 q) h.4)
 
+-- an arm that stands behind others is at the position that is their number
 get_at : (before : List Arm) (a : Arm) (after : List Arm) →
     slice_get (before ++ a ∷ after) (length before) ≡ Some a
 get_at [] a after = refl
 get_at (x ∷ before) a after = get_at before a after
 
+-- the arm that is found for an index stands among the arms at the position that is told
 pub arm_get : (arms : List Arm) (i q : ℕ) (a : Arm) → arm_of arms i ≡ Some (q, a) →
     slice_get arms q ≡ Some a
 arm_get arms i q a e =
@@ -71,11 +74,13 @@ abbrev pub parts_of : Tree → Trees
 parts_of (tree.branch k vs) = vs
 parts_of _ = none
 
+-- the children of a value are its parts, each with its type
 pub children_seen : (r : List TypeInfo) (t : ℕ) (v : Tree) →
     children_by r t v ≡ seen_parts r (part_types r t v) (parts_of v)
 children_seen r t (tree.branch k vs) = refl
 children_seen r t (tree.leaf l) = refl
 
+-- the parts of a value are each a value of its type
 children_are : (r : List TypeInfo) (t : ℕ) (v : Tree) (b : List ℕ) → AreBytes b → Val r t v b →
     AreValues r (part_types r t v) (parts_of v)
 unfolding Val
@@ -92,6 +97,7 @@ abbrev behind : List Cell → List Cell
 behind [] = []
 behind (c ∷ cs) = cs
 
+-- behind the first node of a value stand the nodes of its parts
 cells_below : (r : List TypeInfo) (t : ℕ) (v : Tree) →
     behind (cells r t v) ≡ all_cells r (part_types r t v) (parts_of v)
 cells_below r t (tree.branch k vs) = refl
@@ -115,6 +121,7 @@ below r pool n ns h =
       are_values = children_are r t v h.value.0 h.value.1 h.value.2;
     }
 
+-- behind the first node of a whole value stand its children
 pub below_seen : (r : List TypeInfo) (pool : List ℕ) (n : Node) (ns : List Node) →
     IsWhole r pool (n ∷ ns) →
     all_seen r pool ns ≡ children_by r (type_shown (n ∷ ns)) (tree_shown pool (n ∷ ns))
@@ -133,6 +140,7 @@ pub record First (r : List TypeInfo) (pool : List ℕ) (n : Node) (ns : List Nod
       ≡ seen r pool (take (size_shown n.content) (n ∷ ns)) ∷ all_seen r pool
       (drop (size_shown n.content) (n ∷ ns))
 
+-- nodes of values in a row begin with a whole value, as long as the first node tells
 first_by : (r : List TypeInfo) (pool : List ℕ) (n : Node) (ns : List Node) (p : Part) (vs : Trees) →
     AreInPool pool (n ∷ ns) → cells_shown pool (n ∷ ns) ≡ all_cells r p vs → AreValues r p vs →
     First r pool n ns
@@ -163,6 +171,7 @@ first_by r pool n ns p (and v vs) inside e are =
           ) refl);
     }
 
+-- the nodes of a forest begin with a whole value, as long as the first node tells
 pub first : (r : List TypeInfo) (pool : List ℕ) (n : Node) (ns : List Node) →
     IsForest r pool (n ∷ ns) → First r pool n ns
 first r pool n ns h = first_by r pool n ns h.part h.values h.inside h.nodes h.are_values
@@ -181,11 +190,13 @@ pub below_at : (r : List TypeInfo) (pool : List ℕ) (ns : List Node) → IsWhol
 below_at r pool [] h = absurd (no_cells r (tree_shown pool []) h.nodes)
 below_at r pool (n ∷ ns) h = below r pool n ns h
 
+-- without their first node, the nodes of a whole value are those of its children
 pub below_seen_at : (r : List TypeInfo) (pool : List ℕ) (ns : List Node) → IsWhole r pool ns →
     all_seen r pool (drop 1 ns) ≡ children_by r (type_shown ns) (tree_shown pool ns)
 below_seen_at r pool [] h = absurd (no_cells r (tree_shown pool []) h.nodes)
 below_seen_at r pool (n ∷ ns) h = below_seen r pool n ns h
 
+-- where the first node of a whole value is a text, its bytes in the pool are UTF-8
 pub text_at : (r : List TypeInfo) (pool : List ℕ) (ns : List Node) (d : Node) (start len : ℕ) →
     IsWhole r pool ns → (slice_index_or ns 0 d).content ≡ content.Text len start →
     IsUtf8 (slice_range pool start (start + len))

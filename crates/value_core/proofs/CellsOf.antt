@@ -67,15 +67,18 @@ abbrev first_size : List Cell → ℕ
 first_size [] = 0
 first_size (c ∷ cs) = c.size
 
+-- the nodes of a value begin with one of its type and size, and it has one at least
 starts : (r : List TypeInfo) (t : ℕ) (v : Tree) (rest : List Cell) →
     (first_type (cells r t v ++ rest) ≡ t) × (first_size (cells r t v ++ rest) ≡ nodes v)
     × (1 ≤ nodes v)
 starts r t (leaf l) rest = (refl, refl, omega arith)
 starts r t (branch k vs) rest = (refl, refl, omega arith)
 
+-- a value has one node at least
 pub some_node : (v : Tree) → 1 ≤ nodes v
 some_node v = (starts [] 0 v []).2
 
+-- the type of the first node is that with which this is shown
 shown_type : (pool : List ℕ) (ns : List Node) → type_shown ns ≡ first_type (cells_shown pool ns)
 shown_type pool [] = refl
 shown_type pool (n ∷ ns) = refl
@@ -89,24 +92,28 @@ seen_is r pool ns t v e = (
       ∙ tree_of-preorder v,
 )
 
+-- the first nodes are shown as the first of all that are shown
 shown_take : (pool : List ℕ) (k : ℕ) (ns : List Node) →
     cells_shown pool (take k ns) ≡ take k (cells_shown pool ns)
 shown_take pool zero ns = refl
 shown_take pool (suc k) [] = refl
 shown_take pool (suc k) (n ∷ ns) = rw (shown_take pool k ns) refl
 
+-- the nodes behind the first ones are shown as those behind the first of all that are shown
 shown_drop : (pool : List ℕ) (k : ℕ) (ns : List Node) →
     cells_shown pool (drop k ns) ≡ drop k (cells_shown pool ns)
 shown_drop pool zero ns = refl
 shown_drop pool (suc k) [] = refl
 shown_drop pool (suc k) (n ∷ ns) = shown_drop pool k ns
 
+-- where the bytes of all nodes lie in the pool, so do those of the first ones
 inside_take : (pool : List ℕ) (k : ℕ) (ns : List Node) → AreInPool pool ns →
     AreInPool pool (take k ns)
 inside_take pool zero ns h = tt
 inside_take pool (suc k) [] h = tt
 inside_take pool (suc k) (n ∷ ns) h = (h.0, inside_take pool k ns h.1)
 
+-- where the bytes of all nodes lie in the pool, so do those behind the first ones
 inside_drop : (pool : List ℕ) (k : ℕ) (ns : List Node) → AreInPool pool ns →
     AreInPool pool (drop k ns)
 inside_drop pool zero ns h = h
@@ -122,6 +129,7 @@ pub record Split (r : List TypeInfo) (pool : List ℕ) (n : Node) (ns : List Nod
   pub front_inside : AreInPool pool (take (size_shown n.content) (n ∷ ns))
   pub back_inside : AreInPool pool (drop (size_shown n.content) (n ∷ ns))
 
+-- nodes of values in a row split where the first node tells, into the first value's and the others'
 pub split : (r : List TypeInfo) (pool : List ℕ) (n : Node) (ns : List Node) (p : Part) (v : Tree)
     (vs : Trees) → AreInPool pool (n ∷ ns) → cells_shown pool (n ∷ ns) ≡ all_cells r p (and v vs) →
     Split r pool n ns p v vs
@@ -167,10 +175,12 @@ forest_is r pool (suc k) (n ∷ ns) p (and v vs) le inside e =
     s.back_inside s.back in
     rw (is.0, is.1, rest) refl
 
+-- values in a row have as many nodes as there are values, or more
 pub many_nodes : (vs : Trees) → how_many vs ≤ all_nodes vs
 many_nodes none = omega arith
 many_nodes (and v vs) = omega (arith, many_nodes vs, (starts [] 0 v []).2)
 
+-- stepping from subtree to subtree by the sizes of nodes, the values are those whose nodes they are
 pub all_seen_is : (r : List TypeInfo) (pool : List ℕ) (ns : List Node) (p : Part) (vs : Trees) →
     AreInPool pool ns → cells_shown pool ns ≡ all_cells r p vs →
     all_seen r pool ns ≡ seen_parts r p vs
@@ -179,6 +189,7 @@ all_seen_is r pool ns p vs inside e =
     ∙ all_cells_length r p vs in
     forest_is r pool (length ns) ns p vs (omega (arith, count, many_nodes vs)) inside e
 
+-- there are as many nodes of a whole value as its tree has
 pub nodes_shown : (r : List TypeInfo) (pool : List ℕ) (ns : List Node) → IsWhole r pool ns →
     length ns ≡ nodes (tree_shown pool ns)
 nodes_shown r pool ns h = sym (length-map ns (cell_shown pool)) ∙ ap length h.nodes

@@ -33,6 +33,7 @@ record Resized (pool : List ℕ) (children : ℕ) (c : Content) (k : ℕ) : Type
   pub kept : kept_bytes (closed_as c k) ≡ kept_bytes c
   pub inside : IsInPool pool c → IsInPool pool (closed_as c k)
 
+-- a node shows the same and keeps the same in the pool when it gets another size
 same : (pool : List ℕ) (children : ℕ) (c : Content) (k : ℕ) → Resized pool children c k
 same pool m content.Empty k = record { head = refl; kept = refl; inside = λ h. h }
 same pool m (content.Bool b) k = record { head = refl; kept = refl; inside = λ h. h }
@@ -96,6 +97,7 @@ resized pool (m ∷ ns) n k (suc place) (d ∷ front) c back z g e p =
     let at : place ≡ length front = omega (arith, p) in
     rw (resized pool ns n k place front c back z g rest at, first) refl
 
+-- nodes with their types show the same when one of them gets another size
 entries_resized : (pool : List ℕ) (ns : List Node) (n : Node) (k place : ℕ) →
     slice_get ns place ≡ Some n →
     entries_shown pool (slice_set ns place (with_size n k)) ≡ entries_shown pool ns
@@ -104,6 +106,7 @@ entries_resized pool (m ∷ ns) n k zero g = let is : m ≡ n = cc in
     rw (is, (same pool n.children n.content k).head) refl
 entries_resized pool (m ∷ ns) n k (suc place) g = rw (entries_resized pool ns n k place g) refl
 
+-- the bytes of all nodes lie in the pool also when one of them gets another size
 inside_resized : (pool : List ℕ) (ns : List Node) (n : Node) (k place : ℕ) →
     slice_get ns place ≡ Some n → AreInPool pool ns →
     AreInPool pool (slice_set ns place (with_size n k))
@@ -116,6 +119,7 @@ inside_resized pool (m ∷ ns) n k zero g h =
     )
 inside_resized pool (m ∷ ns) n k (suc place) g h = (h.0, inside_resized pool ns n k place g h.1)
 
+-- as many bytes are kept in the pool when one node gets another size
 kept_resized : (ns : List Node) (n : Node) (k place : ℕ) → slice_get ns place ≡ Some n →
     all_kept (slice_set ns place (with_size n k)) ≡ all_kept ns
 kept_resized [] n k place g = absurd cc
@@ -142,6 +146,7 @@ pub record IsClosing (ty : ℕ) (new : Walked) (pool : List ℕ) (ns : List Node
   pub builds : (n : Node) (k : ℕ) → slice_get ns place ≡ Some n → k ≡ length ns - place →
       IsBuilding ty new pool (slice_set ns place (with_size n k)) text_len
 
+-- where the innermost node closes and gets its size, the value that is being built stays one
 pub closing : (ty : ℕ) (old new : Walked) (pool : List ℕ) (ns : List Node) (text_len place : ℕ) →
     IsBuilding ty old pool ns text_len → Closes old new place →
     IsClosing ty new pool ns text_len place
@@ -181,6 +186,7 @@ settled_step : (place : ℕ) (p : Part) (fs : List OpenPart) → (fs ≡ [] → 
 settled_step place p [] some e = absurd (some refl)
 settled_step place p (f ∷ fs) some e = rw e refl
 
+-- closing the innermost node, which gets its size, counts as closing some that are whole
 pub closing_settles : (old new : Walked) (ns : List Node) (n : Node) (k place : ℕ) →
     slice_get ns place ≡ Some n → k ≡ length ns - place → Closes old new place →
     Settles old ns new (slice_set ns place (with_size n k))
@@ -191,6 +197,7 @@ closing_settles old new ns n k place g e c = record {
   builds = λ ty pool text_len b. (closing ty old new pool ns text_len place b c).builds n k g e;
 }
 
+-- closing no node at all counts as closing some that are whole
 pub nothing_settles : (w : Walked) (ns : List Node) → Settles w ns w ns
 nothing_settles w ns = record {
   walk = refl;
@@ -199,6 +206,7 @@ nothing_settles w ns = record {
       λ ty pool text_len b. b;
 }
 
+-- closing some nodes that are whole and then more of them is closing all of these
 pub settles_on : (u v w : Walked) (xs ys zs : List Node) → Settles u xs v ys → Settles v ys w zs →
     Settles u xs w zs
 settles_on u v w xs ys zs h k = record {
@@ -207,6 +215,7 @@ settles_on u v w xs ys zs h k = record {
   builds = λ ty pool text_len b. k.builds ty pool text_len (h.builds ty pool text_len b);
 }
 
+-- nodes of a value that is being built are still so after some that are whole were closed
 pub settles_built : (old new : Walked) (before after : List Node) → Settles old before new after →
     AreBuilt old before → AreBuilt new after
 settles_built old new before after h b = (b.0, b.1, b.2, h.builds b.0 b.1 b.2 b.3)
@@ -224,9 +233,11 @@ again (f ∷ g ∷ fs) = by (first_of f.left) refl (again (g ∷ fs)) where
   by None e h = let less : settled_in (f ∷ g ∷ fs) ≡ settled_in (g ∷ fs) =
       rw (e, settled_in) refl in ap settled_in less ∙ h ∙ sym less
 
+-- once all that is whole is closed, nothing is left that is whole and open
 pub settled_again : (w : Walked) → IsSettled (settled_walk w)
 settled_again w = rw (again w.frames) refl
 
+-- where no run shows as open, none is open
 pub none_open : (pool : List ℕ) (text : Option OpenRun) → pieces_shown pool text ≡ None →
     text ≡ None
 none_open pool None e = refl
@@ -272,6 +283,7 @@ settled_paid old new before after turns paid h is e p =
       settled_length old new before after h,
     )
 
+-- when the next node is there, as many parts are open as before
 advanced_length : (fs : List OpenPart) → length (advanced_in fs) ≡ length fs
 advanced_length [] = refl
 advanced_length (f ∷ fs) = refl

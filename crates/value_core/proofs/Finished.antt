@@ -26,6 +26,7 @@ abbrev pub heads_text : List Head → ℕ
 heads_text [] = 0
 heads_text (h ∷ hs) = head_text_bytes h + heads_text hs
 
+-- the bytes of text of two lists of nodes joined are as many as of both together
 pub heads_text-append : (hs ks : List Head) → heads_text (hs ++ ks) ≡ heads_text hs + heads_text ks
 heads_text-append [] ks = omega arith
 heads_text-append (h ∷ hs) ks = omega (arith, heads_text-append hs ks)
@@ -45,6 +46,7 @@ mutual
         text_of_all_preorder vs,
       )
 
+-- the bytes of text are as many, whether nodes are shown with their types or by themselves
 pub text_of_entries : (pool : List ℕ) (ns : List Node) →
     entries_text_bytes (entries_shown pool ns) ≡ heads_text (bare (cells_shown pool ns))
 text_of_entries pool [] = refl
@@ -57,6 +59,7 @@ text_of_value r t v pool ns e = text_of_entries pool ns
     ∙ ap (λ (cs : List Cell). heads_text (bare cs)) e ∙ ap heads_text (cells_preorder r t v)
     ∙ text_of_preorder v
 
+-- the nodes of a whole value have as many bytes of text as its tree
 pub text_of_nodes : (r : List TypeInfo) (pool : List ℕ) (ns : List Node) → IsWhole r pool ns →
     entries_text_bytes (entries_shown pool ns) ≡ text_bytes (tree_shown pool ns)
 text_of_nodes r pool ns h = text_of_value r (type_shown ns) (tree_shown pool ns) pool ns h.nodes
@@ -69,6 +72,7 @@ pub record IsFinished (types : List TypeInfo) (ty : ℕ) (pool : List ℕ) (ns :
   pub texts : text_len ≡ text_bytes (tree_shown pool ns)
   pub fits : all_kept ns ≤ length pool
 
+-- where nothing of a value that is being built is missing, it is whole, by the fields of its walk
 finished_by : (ty : ℕ) (types : List TypeInfo) (limit : ℕ) (fs : List OpenPart) (pool : List ℕ)
     (ns : List Node) (text_len : ℕ) →
     IsBuilding ty (record { types = types; limit = limit; frames = fs }) pool ns text_len →
@@ -105,11 +109,13 @@ finished_by ty types limit (f ∷ []) pool ns text_len b e = by b.opens refl whe
     spine_length types b.room ty b.opens (f ∷ []) (cells_shown pool ns) b.own b.spine,
   ))
 
+-- where nothing of a value that is being built is missing, its nodes are those of a whole value
 pub is_finished : (ty : ℕ) (w : Walked) (pool : List ℕ) (ns : List Node) (text_len : ℕ) →
     IsBuilding ty w pool ns text_len → is_whole_in w.frames ≡ true →
     IsFinished w.types ty pool ns text_len
 is_finished ty w pool ns text_len b e = finished_by ty w.types w.limit w.frames pool ns text_len b e
 
+-- nodes shown with their types are, by themselves, what each node shows
 heads_are : (pool : List ℕ) (ns : List Node) →
     map (λ (e : Entry). e.head) (entries_shown pool ns)
     ≡ map (λ (n : Node). head_shown pool n.children n.content) ns

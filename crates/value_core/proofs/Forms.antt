@@ -49,6 +49,7 @@ has_form : (wanted is : Form) (f : Layout) → next.Wants is ≡ next.Wants want
     HasForm wanted f
 has_form wanted is f e h = let same : is ≡ wanted = cc in subst (λ (x : Form). HasForm x f) same h
 
+-- the form of a sequence is that of its layout
 sequence_has : (wanted : Form) (u : ℕ) (empty byte : Bool) →
     sequence_form empty byte ≡ next.Wants wanted → HasForm wanted (sequence_layout u empty byte)
 sequence_has wanted u true byte e = has_form wanted form.Count (layout.plain layout.counted) e refl
@@ -56,18 +57,21 @@ sequence_has wanted u false true e =
     has_form wanted form.Bytes (layout.plain (layout.run kind.Bytes)) e refl
 sequence_has wanted u false false e = has_form wanted form.Sequence (layout.sequence u) e (u, refl)
 
+-- the form of an array is that of its layout
 array_has : (wanted : Form) (n u : ℕ) (byte : Bool) → array_form n byte ≡ next.Wants wanted →
     HasForm wanted (array_layout_of n u byte)
 array_has wanted n u true e =
     has_form wanted (form.ByteArray n) (layout.plain (layout.run (kind.ByteArray n))) e refl
 array_has wanted n u false e = has_form wanted (form.Array n) (layout.array n u) e (u, refl)
 
+-- the form of a compact is that of its layout
 compact_has : (wanted : Form) (m : Option Target) → compact_form m ≡ next.Wants wanted →
     HasForm wanted (compact_layout m)
 compact_has wanted (Some m) e =
     has_form wanted (form.Compact m) (layout.plain (layout.compact m)) e refl
 compact_has wanted None e = absurd cc
 
+-- the form by a definition is that of the layout by it
 sized_has : (r : List TypeInfo) (wanted : Form) (d : TypeDef) →
     form_of_shape r (Some d) ≡ next.Wants wanted → HasForm wanted (sized_layout r d)
 sized_has r wanted (Def.Composite fs) e =
@@ -83,6 +87,7 @@ sized_has r wanted (Def.Primitive p) e =
 sized_has r wanted (Def.Compact u) e = compact_has wanted (target_of r u.0) e
 sized_has r wanted (Def.BitSequence store order) e = absurd cc
 
+-- the form by whether bytes are taken and by the definition is that of the layout by both
 known_has : (r : List TypeInfo) (wanted : Form) (empty : Bool) (d : Option TypeDef) →
     (if empty then next.Wants form.Empty else form_of_shape r d) ≡ next.Wants wanted →
     HasForm wanted (layout_of_shape r empty d)
@@ -96,40 +101,49 @@ pub form_layout : (r : List TypeInfo) (t : ℕ) (wanted : Form) → form_of r t 
 unfolding layout
 form_layout r t wanted e = known_has r wanted (is_empty r t) (shape r t) e
 
+-- a type whose form is the empty one is laid out as one without bytes
 pub empty_layout : (r : List TypeInfo) (t : ℕ) → form_of r t ≡ next.Wants form.Empty →
     layout r t ≡ (layout.plain layout.empty)
 empty_layout r t e = form_layout r t form.Empty e
 
+-- a type whose form is a primitive's is laid out as this primitive
 pub primitive_has_layout : (r : List TypeInfo) (t : ℕ) (p : Primitive) →
     form_of r t ≡ next.Wants (form.Primitive p) → layout r t ≡ primitive_layout p
 primitive_has_layout r t p e = form_layout r t (form.Primitive p) e
 
+-- a type whose form is that of a run is laid out as this run
 pub run_layout : (r : List TypeInfo) (t : ℕ) (k : RunKind) → form_of r t ≡ next.Wants (run_form k) →
     layout r t ≡ layout.plain (layout.run k)
 run_layout r t kind.Text e = form_layout r t (form.Primitive P.Str) e
 run_layout r t kind.Bytes e = form_layout r t form.Bytes e
 run_layout r t (kind.ByteArray n) e = form_layout r t (form.ByteArray n) e
 
+-- a type whose form is a compact's with a target is laid out as a compact with this target
 pub compact_has_layout : (r : List TypeInfo) (t : ℕ) (m : Target) →
     form_of r t ≡ next.Wants (form.Compact m) → layout r t ≡ layout.plain (layout.compact m)
 compact_has_layout r t m e = form_layout r t (form.Compact m) e
 
+-- a type whose form is that of fields is laid out by fields
 pub fields_layout : (r : List TypeInfo) (t : ℕ) → form_of r t ≡ next.Wants form.Fields →
     (ts : List ℕ) × (layout r t ≡ layout.fields ts)
 fields_layout r t e = form_layout r t form.Fields e
 
+-- a type whose form is that of an arm is laid out by arms
 pub arm_layout : (r : List TypeInfo) (t : ℕ) → form_of r t ≡ next.Wants form.Arm → (arms : List Arm)
     × (layout r t ≡ layout.arms arms)
 arm_layout r t e = form_layout r t form.Arm e
 
+-- a type whose form is that of an array is laid out as an array of this length
 pub array_layout : (r : List TypeInfo) (t n : ℕ) → form_of r t ≡ next.Wants (form.Array n) → (u : ℕ)
     × (layout r t ≡ layout.array n u)
 array_layout r t n e = form_layout r t (form.Array n) e
 
+-- a type whose form is that of a sequence is laid out as a sequence
 pub sequence_has_layout : (r : List TypeInfo) (t : ℕ) → form_of r t ≡ next.Wants form.Sequence →
     (u : ℕ) × (layout r t ≡ layout.sequence u)
 sequence_has_layout r t e = form_layout r t form.Sequence e
 
+-- a type whose form is a count alone is laid out as the length alone
 pub count_layout : (r : List TypeInfo) (t : ℕ) → form_of r t ≡ next.Wants form.Count →
     layout r t ≡ (layout.plain layout.counted)
 count_layout r t e = form_layout r t form.Count e
@@ -144,6 +158,7 @@ pub record Wanted (w : Walked) (wanted : Form) : Type 0 where
   pub form_is : form_of w.types ty ≡ next.Wants wanted
   pub room : length w.frames ≤ w.limit + 1
 
+-- where a form is wanted of a type, it is finite, has this form, and there is room for its depth
 wanted_from : (w : Walked) (wanted : Form) (o : Option ℕ) → next_type w ≡ o →
     next_from w o ≡ next.Wants wanted → Wanted w wanted
 wanted_from w wanted None e h = absurd cc
@@ -165,6 +180,7 @@ wanted_from w wanted (Some t) e h =
             grind (arith, d);
       }
 
+-- where a form is next, the next type is finite and of it, and there is room for its depth
 pub wanted : (w : Walked) (wanted : Form) → next_of w ≡ next.Wants wanted → Wanted w wanted
 wanted w f h = wanted_from w f (next_type w) refl h
 
@@ -183,26 +199,31 @@ HasReason stop.BitSequence d f = f ≡ layout.bit_sequence
 HasReason stop.BadCompact d f = f ≡ layout.bad_compact
 HasReason _ d f = d ≡ None
 
+-- a reason to stop may be replaced by the same one
 has_reason : (told is : StopReason) (d : Option TypeDef) (f : Layout) →
     next.Stop is ≡ next.Stop told → HasReason is d f → HasReason told d f
 has_reason told is d f e h = let same : is ≡ told = cc in
     subst (λ (x : StopReason). HasReason x d f) same h
 
+-- a sequence is never a reason to stop
 sequence_goes_on : (told : StopReason) (empty byte : Bool) →
     sequence_form empty byte ≡ next.Stop told → ⊥
 sequence_goes_on told true byte e = absurd cc
 sequence_goes_on told false true e = absurd cc
 sequence_goes_on told false false e = absurd cc
 
+-- an array is never a reason to stop
 array_goes_on : (told : StopReason) (n : ℕ) (byte : Bool) → array_form n byte ≡ next.Stop told → ⊥
 array_goes_on told n true e = absurd cc
 array_goes_on told n false e = absurd cc
 
+-- where a compact is a reason to stop, it is the one that its layout tells
 compact_has_reason : (told : StopReason) (d : Option TypeDef) (m : Option Target) →
     compact_form m ≡ next.Stop told → HasReason told d (compact_layout m)
 compact_has_reason told d (Some m) e = absurd cc
 compact_has_reason told d None e = has_reason told stop.BadCompact d layout.bad_compact e refl
 
+-- where a type by its definition is a reason to stop, the definition or layout tells this one
 known_has_reason : (r : List TypeInfo) (told : StopReason) (empty : Bool) (d : Option TypeDef) →
     (if empty then next.Wants form.Empty else form_of_shape r d) ≡ next.Stop told →
     HasReason told d (layout_of_shape r empty d)
@@ -221,6 +242,7 @@ known_has_reason r told false (Some (Def.Compact u)) e =
 known_has_reason r told false (Some (Def.BitSequence store order)) e =
     has_reason told stop.BitSequence (Some (Def.BitSequence store order)) layout.bit_sequence e refl
 
+-- where a finite type is a reason to stop, its definition or its layout tells this one
 reason_holds : (r : List TypeInfo) (t : ℕ) (told : StopReason) → form_of r t ≡ next.Stop told →
     HasReason told (shape r t) (layout r t)
 unfolding layout
@@ -230,6 +252,7 @@ reason_holds r t told e = known_has_reason r told (is_empty r t) (shape r t) e
 no_shape : {X : Type 0} (r : List TypeInfo) (t : ℕ) → is_finite r t ≡ true → shape r t ≡ None → X
 no_shape r t h e = let no : is_finite r t ≡ false = shapeless r (length r) t e in absurd cc
 
+-- of a finite type, the reason to stop says what its layout is
 stops_by : (r : List TypeInfo) (t : ℕ) (told : StopReason) → is_finite r t ≡ true →
     HasReason told (shape r t) (layout r t) → IsStoppedBy told r t
 stops_by r t stop.TooDeep h e = no_shape r t h e
@@ -259,6 +282,7 @@ pub record Stopped (w : Walked) (told : StopReason) : Type 0 where
   pub why : ((told ≡ stop.TooDeep) × (w.limit + 1 < length w.frames))
       ⊎ ((length w.frames ≤ w.limit + 1) × IsStoppedBy told w.types ty)
 
+-- where a type is a reason to stop, it is too deep, or it says why itself
 stopped_from : (w : Walked) (told : StopReason) (o : Option ℕ) → next_type w ≡ o →
     next_from w o ≡ next.Stop told → Stopped w told
 stopped_from w told None e h = absurd cc
@@ -274,5 +298,6 @@ stopped_from w told (Some t) e h = go (nat_lt (w.limit + 1) (length w.frames)) r
         inr (grind (arith, d), stops w.types t told h);
   }
 
+-- where the walk stops at the next type, it is too deep, or it says why itself
 pub stopped : (w : Walked) (told : StopReason) → next_of w ≡ next.Stop told → Stopped w told
 stopped w told h = stopped_from w told (next_type w) refl h

@@ -17,6 +17,7 @@ use Rattle.value_core.specs.declared.node.Node.{Node}
 use Rattle.value_core.proofs.Adding.{leaf_added, entries_added}
 use Rattle.value_core.proofs.Closing.{leaf_paid}
 
+-- a leaf has as many bytes of text as the node that it is added as
 text_is : (l : Leaf) → leaf_text_bytes l ≡ head_text_bytes (leaf_head l)
 text_is leaf.Empty = refl
 text_is (leaf.Bool b) = refl
@@ -29,6 +30,7 @@ text_is (leaf.Wide b) = refl
 text_is (leaf.Compact n) = refl
 text_is (leaf.Count n) = refl
 
+-- a leaf that fits has fewer than 2^32 bytes of text
 pub text_short : (l : Leaf) → FitsLeaf l → leaf_text_bytes l < 2 ^ 32
 text_short leaf.Empty h = omega arith
 text_short (leaf.Bool b) h = omega arith
@@ -77,6 +79,7 @@ pub record IsWithLeaf (ty : ℕ) (w : Walked) (l : Leaf) (old_pool pool : List �
       ≡ entries_shown old_pool old_ns ++ record { ty = t; head = leaf_head l } ∷ []
   pub paid : (turns : ℕ) → IsPaid w old_ns turns → IsPaid (advanced w) ns turns
 
+-- with a leaf that is next kept as the last node, the value that is being built stays one
 pub leaf_appended : (ty : ℕ) (w : Walked) (l : Leaf) (pool new_pool : List ℕ)
     (ns new_ns : List Node) (text_len : ℕ) (t : TypeId) → IsBuilding ty w pool ns text_len →
     (h : IsNextLeaf w (leaf_head l)) → Some t.0 ≡ next_type w →

@@ -29,6 +29,7 @@ one_less_member refs end n = elim (slice_get_cases refs (end - suc n)).1 [
   | inr past ↦ rw (past.1, none_past refs end n (omega (arith, past.0))) refl
 ]
 
+-- with the number of parts one less, what is left is what was left without the next one
 pub one_less : (refs : List ℕ) (n : ℕ) (ts : PartTypes) →
     parts_by refs (n - 1) ts ≡ left_after (parts_by refs n ts)
 one_less refs zero (types.Members end) = refl

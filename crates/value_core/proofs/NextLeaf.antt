@@ -35,6 +35,7 @@ use Rattle.value_core.specs.Walked.{Walked, next_of}
 use Rattle.value_core.proofs.Forms.{wanted, run_layout, empty_layout, primitive_has_layout}
 use Rattle.value_core.proofs.Forms.{compact_has_layout, count_layout}
 
+-- where the empty form is next, the unit is a value for it
 pub empty_next : (w : Walked) → next_of w ≡ next.Wants form.Empty →
     IsNextLeaf w (head.leaf tree.unit)
 unfolding Val
@@ -49,10 +50,12 @@ empty_next w e = let k = wanted w form.Empty e in
       value = (empty_layout w.types k.ty k.form_is, refl);
     }
 
+-- the byte of a boolean is below 256
 bool_is_byte : (x : Bool) → bool_byte x < 256
 bool_is_byte true = omega arith
 bool_is_byte false = omega arith
 
+-- where a boolean is next, each boolean is a value for it
 pub bool_next : (w : Walked) (x : Bool) → next_of w ≡ next.Wants (form.Primitive P.Bool) →
     IsNextLeaf w (head.leaf (tree.bool x))
 unfolding Val
@@ -68,6 +71,7 @@ bool_next w x e = let k = wanted w (form.Primitive P.Bool) e in
           (primitive_has_layout w.types k.ty P.Bool k.form_is, refl);
     }
 
+-- where a count is next, each number below 2^32 is a value for it
 pub count_next : (w : Walked) (n : ℕ) → n < 2 ^ 32 → next_of w ≡ next.Wants form.Count →
     IsNextLeaf w (head.leaf (tree.count n))
 unfolding Val
@@ -87,6 +91,7 @@ count_next w n h e = let k = wanted w form.Count e in
 fits_width : (k n : ℕ) → 0 < k → n ≤ k - 1 → n < k
 fits_width k n some h = omega (arith, some, h)
 
+-- where an unsigned integer is next, each number up to its greatest is a value for it
 pub unsigned_next : (w : Walked) (p : Primitive) (v : IntegerWidth) (n : ℕ) →
     next_of w ≡ next.Wants (form.Primitive p) → kind_of p ≡ K.Unsigned v → n ≤ most_unsigned v →
     IsNextLeaf w (head.leaf (tree.unsigned n))
@@ -109,6 +114,7 @@ unsigned_next w p v n e f h =
       );
     }
 
+-- where a text is next, fewer than 2^32 bytes of UTF-8 are a value for it
 pub text_next : (w : Walked) (s : List ℕ) → next_of w ≡ next.Wants (form.Primitive P.Str) →
     is_utf8 s ≡ true → AreBytes s → length s < 2 ^ 32 → IsNextLeaf w (head.leaf (tree.text s))
 unfolding Val
@@ -134,6 +140,7 @@ run_own kind.Text n h f = (compact n, are_compact n, (omega (arith, h), refl))
 run_own kind.Bytes n h f = (compact n, are_compact n, (omega (arith, h), refl))
 run_own (kind.ByteArray m) n h f = ([], tt, (f, refl))
 
+-- bytes of a run's kind, behind what may stand in front of so many, spell a value of its type
 run_value : (r : List TypeInfo) (t : ℕ) (k : RunKind) (s c : List ℕ) →
     layout r t ≡ layout.plain (layout.run k) → IsRun k s → IsRunLength k (length s) c →
     Val r t (tree.leaf (run_leaf k s)) (c ++ s)
@@ -142,6 +149,7 @@ run_value r t kind.Text s c e f h = (e, (c, h, f, refl))
 run_value r t kind.Bytes s c e f h = (kind.Bytes, tt, e, (c, h, tt, refl))
 run_value r t (kind.ByteArray n) s c e f h = (kind.ByteArray n, tt, e, (c, h, tt, refl))
 
+-- where a run is next, fewer than 2^32 bytes of its kind are a value for it, if it allows so many
 pub run_next : (w : Walked) (k : RunKind) (s : List ℕ) → next_of w ≡ next.Wants (run_form k) →
     IsRun k s → AreBytes s → length s < 2 ^ 32 → FitsKind k (length s) →
     IsNextLeaf w (head.leaf (run_leaf k s))
@@ -158,6 +166,7 @@ run_next w k s e f a h fits =
       value = run_value w.types x.ty k s own.0 (run_layout w.types x.ty k x.form_is) f own.2;
     }
 
+-- where an integer of 256 bits is next, any 32 bytes are a value for it
 pub wide_next : (w : Walked) (p : Primitive) (s : Signedness) (b : List ℕ) →
     next_of w ≡ next.Wants (form.Primitive p) → kind_of p ≡ K.Wide s → length b ≡ 32 → AreBytes b →
     IsNextLeaf w (head.leaf (tree.wide b))
@@ -175,6 +184,7 @@ wide_next w p s b e f h a =
           (primitive_has_layout w.types k.ty p k.form_is ∙ ap kind_layout f, h, refl);
     }
 
+-- a number that the target's bytes can hold has a compact spelling
 compact_own : (m : Target) (n : ℕ) → n < 256 ^ target_bytes m → (b : List ℕ) × AreBytes b
     × IsCompact m n b
 compact_own target.Unit n h = ([], tt, (omega (arith, h), refl))
@@ -184,6 +194,7 @@ compact_own target.U32 n h = (compact n, are_compact n, (h, refl))
 compact_own target.U64 n h = (compact n, are_compact n, (h, refl))
 compact_own target.U128 n h = (compact n, are_compact n, (h, refl))
 
+-- where a compact is next, each number that its target's bytes can hold is a value for it
 pub compact_next : (w : Walked) (m : Target) (n : ℕ) → next_of w ≡ next.Wants (form.Compact m) →
     n < 256 ^ target_bytes m → IsNextLeaf w (head.leaf (tree.compact n))
 unfolding Val
@@ -202,6 +213,7 @@ compact_next w m n e h =
 
 -- ---- characters
 
+-- a number that passes the three comparisons is a Unicode scalar value
 pub scalar_is : (c : ℕ) →
     (if nat_lt c 0xd800 then true else (nat_lt 0xdfff c && nat_lt c 0x110000)) ≡ true →
     is_scalar c ≡ true
@@ -210,6 +222,7 @@ scalar_is c h = by (nat_lt c 0xd800) (nat_lt 0xdfff c && nat_lt c 0x110000) h wh
   by true b e = refl
   by false b e = e
 
+-- where a character is next, each Unicode scalar value of four bytes is a value for it
 pub char_next : (w : Walked) (c : ℕ) → next_of w ≡ next.Wants (form.Primitive P.Char) →
     is_scalar c ≡ true → c < 256 ^ 4 → IsNextLeaf w (head.leaf (tree.char c))
 unfolding Val
@@ -232,6 +245,7 @@ char_next w c e f h =
 
 -- ---- signed integers
 
+-- a number that does not lie above the greatest one is at most that
 within_is : (n most : ℕ) → not (nat_lt most n) ≡ true → n ≤ most
 within_is n most h = by (nat_lt most n) refl h where
   by : (b : Bool) → nat_lt most n ≡ b → not b ≡ true → n ≤ most
@@ -257,14 +271,17 @@ signed_again k half (negsuc m) e h some =
       back,
     ) refl
 
+-- an integer in k bytes of two's complement has k bytes
 signed_long : (k : ℕ) (z : ℤ) → length (signed_bytes k z) ≡ k
 signed_long k (pos n) = length-le_bytes k n
 signed_long k (negsuc m) = length-le_bytes k (256 ^ k - suc m)
 
+-- what spells an integer in two's complement is made of bytes
 are_signed_bytes : (k : ℕ) (z : ℤ) → AreBytes (signed_bytes k z)
 are_signed_bytes k (pos n) = are_le_bytes k n
 are_signed_bytes k (negsuc m) = are_le_bytes k (256 ^ k - suc m)
 
+-- where a signed integer is next, each number within its width is a value for it
 pub signed_next : (w : Walked) (p : Primitive) (v : IntegerWidth) (z : ℤ) →
     next_of w ≡ next.Wants (form.Primitive p) → kind_of p ≡ K.Signed v →
     is_within z (most_signed v) ≡ true → IsNextLeaf w (head.leaf (tree.signed z))

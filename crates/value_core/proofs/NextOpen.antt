@@ -26,6 +26,7 @@ use Rattle.value_core.specs.Opened.{OpensFields, OpensArm, OpensElements, IsList
 use Rattle.value_core.specs.Walked.{Walked, next_of, next_type}
 use Rattle.value_core.proofs.Forms.{wanted}
 
+-- where fields are next and these parts are opened, a node with as many children may open
 pub fields_next : (w : Walked) (p : Part) → next_of w ≡ next.Wants form.Fields → OpensFields w p →
     IsNextOpen w (head.branch tree.fields (how_many_left p)) p
 unfolding Val
@@ -100,6 +101,7 @@ list_next w n p h e o = by (ready e) o.laid where
     );
   }
 
+-- two pairs that are the same answer are the same
 pair_is : (x y : ℕ × Part) → Some x ≡ Some y → x ≡ y
 pair_is x y e = cc
 
@@ -149,15 +151,18 @@ arm_next w index q p h e o = by (arm_of o.arms index) refl o.found_is where
 
 -- ---- what is opened, by the layout of the next type
 
+-- what is next is laid out as the next type is
 laid_next : (b : Built) (t : ℕ) → next_type b.walk ≡ Some t →
     next_layout b ≡ layout b.walk.types t
 laid_next b t e = ap (λ (o : Option ℕ). layout b.walk.types (type_or_0 o)) e
 
+-- a node opened with the parts that the next type opens is the value with its fields
 pub with_fields_is : (b : Built) (p : Part) → OpensFields b.walk p →
     with_open b (head.branch tree.fields (how_many_left p)) p ≡ with_fields b
 with_fields_is b p o = ap (λ (q : Part). with_open b (head.branch tree.fields (how_many_left q)) q)
     (o.part_is ∙ sym (ap fields_part (laid_next b o.ty o.next ∙ o.laid)))
 
+-- a node opened with the elements that the next type opens is the value with its list
 pub with_list_is : (b : Built) (n : ℕ) (p : Part) → OpensElements b.walk n p →
     with_open b (head.branch tree.list n) p ≡ with_list b n
 with_list_is b n p o = ap (with_open b (head.branch tree.list n)) (o.part_is ∙ sym (by o.laid)) where
@@ -171,12 +176,14 @@ with_list_is b n p o = ap (with_open b (head.branch tree.list n)) (o.part_is ∙
 abbrev arm_opening : ℕ × Arm → ℕ × Part
 arm_opening x = (x.0, each (field_types x.1.fields))
 
+-- the arm that the next type opens for an index is the one that its layout has for it
 arm_is : (b : Built) (index : ℕ) (found : Option (ℕ × Part)) → OpensArm b.walk index found →
     found ≡ option_map arm_opening (arm_in (next_layout b) index)
 arm_is b index found o = o.found_is
     ∙ sym (ap (λ (f : Layout). option_map arm_opening (arm_in f index))
     (laid_next b o.ty o.next ∙ o.laid))
 
+-- a node opened with the arm that the next type opens for an index is the value with this arm
 pub with_arm_is : (b : Built) (index q : ℕ) (p : Part) → OpensArm b.walk index (Some (q, p)) →
     with_open b (head.branch (tree.arm q) (how_many_left p)) p ≡ with_arm b index
 with_arm_is b index q p o = by (arm_in (next_layout b) index) refl (arm_is b index (Some (q, p)) o)
@@ -190,6 +197,7 @@ with_arm_is b index q p o = by (arm_in (next_layout b) index) refl (arm_is b ind
         rw f (ap (λ (y : ℕ × Part). with_open b (head.branch (tree.arm y.0) (how_many_left y.1)) y.1)
         both)
 
+-- the next type opens an arm for an index exactly where its layout has one
 pub arm_found : (b : Built) (index : ℕ) (found : Option (ℕ × Part)) → OpensArm b.walk index found →
     is_some (arm_in (next_layout b) index) ≡ is_some found
 arm_found b index found o = sym (ap is_some (arm_is b index found o)

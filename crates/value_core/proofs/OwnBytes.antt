@@ -33,6 +33,7 @@ front_cells r [] back (and v vs) b h = absurd h
 front_cells r (t ∷ front) back (and v vs) b h =
     ap (λ (cs : List Cell). cells r t v ++ cs) (front_cells r front back vs h.1 h.4)
 
+-- elements that are there have the same nodes, however many are to come behind them
 times_front : (r : List TypeInfo) (n u : ℕ) (vs : Trees) → how_many vs ≤ n →
     all_cells r (times n u) vs ≡ all_cells r (times (how_many vs) u) vs
 times_front r n u none h = refl
@@ -40,6 +41,7 @@ times_front r zero u (and v vs) h = absurd (omega (arith, h))
 times_front r (suc n) u (and v vs) h =
     ap (λ (cs : List Cell). cells r u v ++ cs) (times_front r n u vs (omega (arith, h)))
 
+-- the nodes of the children of an open node of fields spell its bytes so far
 fields_bytes : (r : List TypeInfo) (t n : ℕ) (vs : Trees) (b : List ℕ) (p : Part) → AreBytes b →
     IsFieldsOpen r t n vs b p →
     flat_map (cell_bytes r) (all_cells r (fields_part (layout r t)) vs) ≡ b
@@ -48,6 +50,7 @@ fields_bytes r t n vs b p are h =
     ∙ front_cells r h.0 h.1 vs b h.5 in
     ap (flat_map (cell_bytes r)) cells_are ∙ spells_vals r h.0 vs b are h.5
 
+-- an open arm's node and those of its children spell its bytes so far, the index in front
 arm_bytes : (r : List TypeInfo) (t q n : ℕ) (vs : Trees) (b : List ℕ) (p : Part) → AreBytes b →
     IsArmOpen r t q n vs b p →
     own_bytes (shape r t) (head.branch (tree.arm q) n) ++ flat_map (cell_bytes r)
@@ -61,6 +64,7 @@ arm_bytes r t q n vs b p are h =
     ap (λ (x : List ℕ). x ++ flat_map (cell_bytes r) (all_cells r (arm_part (layout r t) q) vs))
     first ∙ ap (λ (x : List ℕ). h.1 ∷ x) rest ∙ sym h.11
 
+-- an open list's node and those of its children spell its bytes so far, any length in front
 list_bytes : (r : List TypeInfo) (t n : ℕ) (vs : Trees) (b : List ℕ) (p : Part) → AreBytes b →
     IsListOpen r t n vs b p →
     own_bytes (shape r t) (head.branch tree.list n) ++ flat_map (cell_bytes r)
@@ -79,6 +83,7 @@ list_bytes r t n vs b p are h =
     ap (λ (x : List ℕ). x ++ flat_map (cell_bytes r) (all_cells r (list_part (layout r t) n) vs))
     first ∙ ap (λ (x : List ℕ). h.2 ++ x) rest ∙ sym h.7
 
+-- an open node and those of its children spell its bytes so far, whatever its kind
 open_bytes : (r : List TypeInfo) (kind : Branch) (t n : ℕ) (vs : Trees) (b : List ℕ) (p : Part) →
     AreBytes b → IsOpenAs r kind t n vs b p →
     own_bytes (shape r t) (head.branch kind n) ++ flat_map (cell_bytes r)
@@ -87,6 +92,7 @@ open_bytes r tree.fields t n vs b p are h = fields_bytes r t n vs b p are h
 open_bytes r (tree.arm q) t n vs b p are h = arm_bytes r t q n vs b p are h
 open_bytes r tree.list t n vs b p are h = list_bytes r t n vs b p are h
 
+-- the nodes of a value that is being built spell its bytes so far
 pub spine_bytes : (r : List TypeInfo) (room t : ℕ) (os : List OpenNode) (fs : List OpenPart)
     (cs : List Cell) (own : List ℕ) → AreBytes own → Spine r room t os fs cs own →
     flat_map (cell_bytes r) cs ≡ own

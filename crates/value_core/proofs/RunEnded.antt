@@ -42,11 +42,13 @@ pub record IsRunNode (pool : List ℕ) (k : RunKind) (len start : ℕ) : Type 0 
   pub inside : start + len ≤ length pool → IsInPool pool (run_content_of k len start)
   pub kept : kept_bytes (run_content_of k len start) ≡ len
 
+-- the node of a run shows the bytes of the run in the pool, and keeps as many
 run_node : (pool : List ℕ) (k : RunKind) (len start : ℕ) → IsRunNode pool k len start
 run_node pool kind.Text len start = record { shows = refl; inside = λ h. h; kept = refl }
 run_node pool kind.Bytes len start = record { shows = refl; inside = λ h. h; kept = refl }
 run_node pool (kind.ByteArray n) len start = record { shows = refl; inside = λ h. h; kept = refl }
 
+-- a run has as many bytes of text as it has bytes
 run_text_bytes : (k : RunKind) (s : List ℕ) → head_text_bytes (head.leaf (run_leaf k s)) ≡ length s
 run_text_bytes kind.Text s = refl
 run_text_bytes kind.Bytes s = refl

@@ -34,24 +34,28 @@ appends_both (Some a) (Some b) (Some c) xs ys p q = q ∙ ap (λ v. v ++ ys) p �
 
 -- ---- a part in front and a part behind it
 
+-- as many first bytes as a list has, or fewer, are the same of the list with more behind it
 take-front : (xs ys : List ℕ) (w : ℕ) → w ≤ length xs → take w xs ≡ take w (xs ++ ys)
 take-front [] ys zero h = refl
 take-front [] ys (suc w) h = absurd (omega arith)
 take-front (x ∷ xs) ys zero h = refl
 take-front (x ∷ xs) ys (suc w) h = ap (λ (zs : List ℕ). x ∷ zs) (take-front xs ys w (omega arith))
 
+-- a list and then a front of another are a front of both joined
 take-past : (xs ys : List ℕ) (w : ℕ) → xs ++ take w ys ≡ take (length xs + w) (xs ++ ys)
 take-past [] ys w = let same : w ≡ 0 + w = omega arith in ap (λ (n : ℕ). take n ys) same
 take-past (x ∷ xs) ys w = ap (λ (zs : List ℕ). x ∷ zs) (take-past xs ys w)
     ∙ (let more : suc (length xs + w) ≡ suc (length xs) + w = omega arith in
     ap (λ (n : ℕ). take n (x ∷ xs ++ ys)) more)
 
+-- where the first bytes of the front went out, they are the first bytes of the whole
 pub sent_front : (a b : Option (List ℕ)) (front back whole : List ℕ) (w : ℕ) →
     front ++ back ≡ whole → w ≤ length front → Appends a b (take w front) →
     Appends a b (take w whole)
 sent_front a b front back whole w e h p =
     subst (Appends a b) (take-front front back w h ∙ ap (take w) e) p
 
+-- where the front went out and then first bytes of the rest, so many of the whole did
 pub sent_more : (a b c : Option (List ℕ)) (front back whole : List ℕ) (len w : ℕ) →
     length front ≡ len → front ++ back ≡ whole → Appends a b front → Appends b c (take w back) →
     Appends a c (take (len + w) whole)
@@ -59,14 +63,17 @@ sent_more a b c front back whole len w long e p q =
     subst (Appends a c) (take-past front back w ∙ ap (λ (n : ℕ). take (n + w) (front ++ back)) long
     ∙ ap (take (len + w)) e) (appends_both a b c front (take w back) p q)
 
+-- where the front went out and then the rest, the whole did
 pub sent_all : (a b c : Option (List ℕ)) (front back whole : List ℕ) → front ++ back ≡ whole →
     Appends a b front → Appends b c back → Appends a c whole
 sent_all a b c front back whole e p q = subst (Appends a c) e (appends_both a b c front back p q)
 
+-- the whole is as long as its front and its rest together
 pub long_whole : (front back whole : List ℕ) → front ++ back ≡ whole →
     length whole ≡ length front + length back
 long_whole front back whole e = ap length (sym e) ∙ length-append front back
 
+-- a count within the front is within the whole
 pub sent_part : (front back whole : List ℕ) (w : ℕ) → front ++ back ≡ whole → w ≤ length front →
     w ≤ length whole
 sent_part front back whole w e h = omega (arith, h, long_whole front back whole e)
@@ -102,6 +109,7 @@ pub record Stops (a c : Option (List ℕ)) (whole : List ℕ) (told : ℕ) : Typ
   pub part : told ≤ length whole
   pub sent : Appends a c (take told whole)
 
+-- where the nodes before one went out and then a part of its bytes, a front of the whole did
 pub stops : (a b c : Option (List ℕ)) (r s : List TypeInfo) (pool : List ℕ) (ns : List Node) (i : ℕ)
     (d : Node) (whole : List ℕ) (w before : ℕ) →
     s ≡ r → i < length ns → flat_map (node_bytes r pool) ns ≡ whole →
@@ -140,6 +148,7 @@ pub record IsFew (ns : List Node) (i count : ℕ) : Type 0 where
   pub few : count ≤ 17 * (i + 1) + all_kept (take (i + 1) ns)
   pub fits : count < 2 ^ 64
 
+-- the bytes sent up to a node are few: 17 for each at most, and what they have in the pool
 pub is_few : (ns : List Node) (i : ℕ) (d : Node) (before w own pool : ℕ) → all_kept ns ≤ pool →
     pool < 2 ^ 63 → length ns * 24 < 2 ^ 63 → i < length ns →
     before ≤ 17 * i + all_kept (take i ns) → w ≤ own →

@@ -26,19 +26,23 @@ abbrev pub snoc : Trees → Tree → Trees
 snoc none v = and v none
 snoc (and w ws) v = and w (snoc ws v)
 
+-- with one child more there is one child more
 snoc_many : (vs : Trees) (v : Tree) → how_many (snoc vs v) ≡ suc (how_many vs)
 snoc_many none v = refl
 snoc_many (and w ws) v = ap (λ (n : ℕ). suc n) (snoc_many ws v)
 
+-- one child more fits the room where the others fit and it does
 snoc_levels : (vs : Trees) (v : Tree) (room : ℕ) → most_levels vs ≤ room → levels v ≤ room →
     most_levels (snoc vs v) ≤ room
 snoc_levels none v room h k = omega (arith, k)
 snoc_levels (and w ws) v room h k = omega (arith, h, snoc_levels ws v room (omega (arith, h)) k)
 
+-- a node whose children fit the room fits one level more
 kind_levels : (kind : Branch) (vs : Trees) (room : ℕ) → most_levels vs ≤ room →
     levels (tree.branch kind vs) ≤ suc room
 kind_levels k vs room h = omega (arith, h)
 
+-- a value behind values of some types is one list of values with its type behind theirs
 snoc_vals : (r : List TypeInfo) (ts : List ℕ) (vs : Trees) (b : List ℕ) (u : ℕ) (v : Tree)
     (c : List ℕ) → Vals r ts vs b → Val r u v c → Vals r (ts ++ u ∷ []) (snoc vs v) (b ++ c)
 unfolding Val
@@ -53,6 +57,7 @@ snoc_vals r (t ∷ ts) (and w ws) b u v c h k = (
   snoc_vals r ts ws h.1 u v c h.4 k,
 )
 
+-- a value behind values of the same type is one list of values of it
 snoc_each : (r : List TypeInfo) (u : ℕ) (vs : Trees) (b : List ℕ) (v : Tree) (c : List ℕ) →
     Each r u vs b → Val r u v c → Each r u (snoc vs v) (b ++ c)
 unfolding Val
@@ -78,6 +83,7 @@ each_cells r (t ∷ front) u back (and w ws) b v h =
     ap (λ (cs : List Cell). cells r t w ++ cs) (each_cells r front u back ws h.1 v h.4)
     ∙ sym (append_assoc (cells r t w) (all_cells r (each (front ++ u ∷ back)) ws) (cells r u v))
 
+-- the nodes of one element more, where one is left, stand behind those of the others
 times_cells : (r : List TypeInfo) (n u : ℕ) (vs : Trees) (v : Tree) → how_many vs < n →
     all_cells r (times n u) (snoc vs v) ≡ all_cells r (times n u) vs ++ cells r u v
 times_cells r zero u vs v h = absurd (omega (arith, h))
@@ -92,6 +98,7 @@ Grows r kind t n vs b p v u c = IsOpenAs r kind t n (snoc vs v) (b ++ c) (left_a
     × (all_cells r (part_of (layout r t) kind n) (snoc vs v)
     ≡ all_cells r (part_of (layout r t) kind n) vs ++ cells r u v)
 
+-- a value of the next type comes to an open node of fields as its next child
 grown_fields : (r : List TypeInfo) (t n : ℕ) (vs : Trees) (b : List ℕ) (p : Part) (u : ℕ) (v : Tree)
     (c back : List ℕ) → (h : IsFieldsOpen r t n vs b p) → h.1 ≡ back → first_of p ≡ Some u →
     Val r u v c → Grows r tree.fields t n vs b p v u c
@@ -117,6 +124,7 @@ grown_fields r t n vs b p u v c (w ∷ back) h e f k =
       rw parts (each_cells r h.0 u back vs b v h.5),
     )
 
+-- a value of the next type comes to an open arm as its next child
 grown_arm : (r : List TypeInfo) (t q n : ℕ) (vs : Trees) (b : List ℕ) (p : Part) (u : ℕ) (v : Tree)
     (c back : List ℕ) → (h : IsArmOpen r t q n vs b p) → h.4 ≡ back → first_of p ≡ Some u →
     Val r u v c → Grows r (tree.arm q) t n vs b p v u c
@@ -149,6 +157,7 @@ grown_arm r t q n vs b p u v c (w ∷ back) h e f k =
       rw parts (each_cells r h.3 u back vs h.5 v h.12),
     )
 
+-- the parts of an open list are as many as it is to have, of its type of elements
 pub list_part_is : (r : List TypeInfo) (t n u : ℕ) (vs : Trees) (b : List ℕ) (p : Part) →
     (h : IsListOpen r t n vs b p) → list_part (layout r t) n ≡ times n h.0
 list_part_is r t n u vs b p h = elim h.4 [
@@ -156,6 +165,7 @@ list_part_is r t n u vs b p h = elim h.4 [
   | inr s ↦ rw s.0 refl
 ]
 
+-- a value of the next type comes to an open list as its next child
 grown_list : (r : List TypeInfo) (t n : ℕ) (vs : Trees) (b : List ℕ) (p : Part) (u : ℕ) (v : Tree)
     (c : List ℕ) (left : ℕ) → (h : IsListOpen r t n vs b p) → h.1 ≡ left → first_of p ≡ Some u →
     Val r u v c → Grows r tree.list t n vs b p v u c
@@ -180,6 +190,7 @@ grown_list r t n vs b p u v c (suc left) h e f k =
       rw parts (times_cells r n u vs v (omega (arith, h.6, e))),
     )
 
+-- a value of the next type comes to an open node as its next child, whatever the node's kind
 grown_as : (r : List TypeInfo) (kind : Branch) (t n : ℕ) (vs : Trees) (b : List ℕ) (p : Part)
     (u : ℕ) (v : Tree) (c : List ℕ) → IsOpenAs r kind t n vs b p → first_of p ≡ Some u →
     Val r u v c → Grows r kind t n vs b p v u c
@@ -192,10 +203,12 @@ no_each : (back : List ℕ) → first_of (each back) ≡ None → back ≡ []
 no_each [] e = refl
 no_each (u ∷ us) e = absurd cc
 
+-- where no value of so many of one type is next, none is left
 no_times : (left u : ℕ) → first_of (times left u) ≡ None → left ≡ 0
 no_times zero u e = refl
 no_times (suc n) u e = absurd cc
 
+-- an open node of which no part is left is a value, with as many children as it is to have
 whole_as : (r : List TypeInfo) (kind : Branch) (t n : ℕ) (vs : Trees) (b : List ℕ) (p : Part) →
     IsOpenAs r kind t n vs b p → first_of p ≡ None → Val r t (tree.branch kind vs) b
     × (n ≡ how_many vs)
@@ -239,6 +252,7 @@ whole_as r tree.list t n vs b p h f =
       sym count,
     )
 
+-- lists of open parts that are the same begin with the same and go on with the same
 pub is_cons : (p q : OpenPart) (ps qs : List OpenPart) → p ∷ ps ≡ q ∷ qs → (p ≡ q) × (ps ≡ qs)
 is_cons p q ps qs e = (cc, cc)
 
@@ -310,6 +324,7 @@ pub node_opened : (r : List TypeInfo) (room t : ℕ) (os : List OpenNode) (f : O
 node_opened r room t os f q fs cs own o h e k l =
     (q, f.left, f.node, fs, cs, own, refl, e, h, k, l, refl, refl)
 
+-- open parts, nodes and bytes after a value came may be replaced by equal ones
 same_grown : (r : List TypeInfo) (room t : ℕ) (fs fs' : List OpenPart) (cs cs' : List Cell)
     (own own' : List ℕ) → fs ≡ fs' → cs ≡ cs' → own ≡ own' → Grown r room t fs' cs' own' →
     Grown r room t fs cs own

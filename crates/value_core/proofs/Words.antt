@@ -14,11 +14,13 @@ use Rattle.value_core.specs.Shown.{signed_from, long_shown}
 use Rattle.scale_core.proofs.Fronts.{to_le_bytes_16, from_le_bytes-number}
 use Rattle.scale_core.proofs.Numbers.{length-le_bytes, number-le_bytes}
 
+-- a number below 2^128 is read back from its sixteen bytes
 pub word_back : (n : ℕ) → n < 2 ^ 128 → from_le_bytes w128 (to_le_bytes w128 n) ≡ n
 word_back n h = from_le_bytes-number w128 (to_le_bytes w128 n)
     (ap length (to_le_bytes_16 n) ∙ length-le_bytes 16 n) ∙ ap number (to_le_bytes_16 n)
     ∙ number-le_bytes 16 n (omega (arith, h))
 
+-- an integer of 128 bits is read back from its cast to 128 bits without sign
 signed_same : (z : ℤ) → FitsSigned w128 z → signed_from (cast_unsigned w128 z) ≡ z
 signed_same (pos m) h = rw (lt-ltb (2 * m) (2 ^ 128) (omega (arith, h))) refl
 signed_same (negsuc m) h =
@@ -27,6 +29,7 @@ signed_same (negsuc m) h =
     let back : 2 ^ 128 - (2 ^ 128 - suc m) ≡ suc m = omega (arith, h) in
     rw (high, back) refl
 
+-- an integer of 128 bits is read back from the sixteen bytes of its cast
 pub signed_back : (z : ℤ) (n m : ℕ) → FitsSigned w128 z → n ≡ cast_unsigned w128 z →
     m ≡ from_le_bytes w128 (to_le_bytes w128 n) → signed_from m ≡ z
 signed_back z n m h e same =
@@ -48,6 +51,7 @@ pub record IsPut (new : List ℕ) (start n : ℕ) : Type 0 where
   pub inside : start + 16 ≤ length new
   pub long : 16 ≡ length (to_le_bytes w128 n)
 
+-- sixteen bytes of a number that come to the end of the pool lie in it and are read from there
 pub long_put : (old new : List ℕ) (start n : ℕ) → start ≡ length old →
     new ≡ old ++ to_le_bytes w128 n → IsPut new start n
 long_put old new start n at e =

@@ -12,6 +12,7 @@ use Rattle.graph_core.specs.Graphs.{IsLinked, ReadsReferences}
 use Rattle.widths_core.specs.Linking.{AddsRules}
 use Rattle.graph_core.proofs.Linked.{ReadsParts, reads_none, reads_on}
 
+-- one rule is added where its counter comes to the end and all of its parts are read for it
 pub adds_parts : (t : ℕ) (k : Kind) (ps : List ℕ) (cs ds : List Counter) (a b : Graph) (i : ℕ) →
     length ps ≤ i → ds ≡ cs ++ counter_of (rule t k ps) ∷ [] → ReadsParts a b (length cs) i ps →
     AddsRules (rule t k ps ∷ []) cs ds a b
@@ -22,6 +23,7 @@ adds_parts t k ps cs ds a b i le is h =
 
 -- ---- rules that are added
 
+-- the rule numbers of the parts of two lists joined are those of the first and then of the second
 pub numbers_from-append : (s : ℕ) (xs ys : List Rule) →
     numbers_from s (xs ++ ys) ≡ numbers_from s xs ++ numbers_from (s + length xs) ys
 numbers_from-append s [] ys = ap (λ (k : ℕ). numbers_from k ys) (omega arith)
@@ -33,9 +35,11 @@ numbers_from-append s (x ∷ xs) ys =
     ∙ sym (append_assoc (map (λ _. s) x.parts) (numbers_from (s + 1) xs)
     (numbers_from (s + suc (length xs)) ys))
 
+-- no rule is added where neither the counters nor the graph change
 pub adds_none : (cs : List Counter) (a : Graph) → IsLinked a → AddsRules [] cs cs a a
 adds_none cs a h = record { counters = sym (append-nil cs); reads = reads_none a h }
 
+-- rules that are added one list after the other are added as one list
 pub adds_on : (xs ys : List Rule) (cs ds es : List Counter) (a b c : Graph) →
     AddsRules xs cs ds a b → AddsRules ys ds es b c → AddsRules (xs ++ ys) cs es a c
 adds_on xs ys cs ds es a b c h k =

@@ -24,16 +24,19 @@ pub record AddsArms (t i : ℕ) (arms : List Arm) (cs ds : List Counter) (a b : 
   pub left : arm_rules t [] arms ≡ done ++ arm_rules t seen (drop i arms)
   pub adds : AddsRules done cs ds a b
 
+-- before the first arm no rule was added
 pub arms_none : (t : ℕ) (arms : List Arm) (cs : List Counter) (a : Graph) → IsLinked a →
     AddsArms t 0 arms cs cs a a
 arms_none t arms cs a h =
     record { done = []; seen = []; marks = λ j. refl; left = refl; adds = adds_none cs a h }
 
+-- the arms that are left are the next one and those behind it, and so are their rules
 split : (t i : ℕ) (arms : List Arm) (x : Arm) (seen : List ℕ) → i < length arms →
     x ≡ get_or arms i x → arm_rules t seen (drop i arms) ≡ arm_rules t seen (x ∷ drop (i + 1) arms)
 split t i arms x seen lt at = at_drop_more (arm_rules t seen) arms i x lt
     ∙ ap (λ (y : Arm). arm_rules t seen (y ∷ drop (i + 1) arms)) (sym at)
 
+-- one arm more is passed where it is shadowed and an idle rule was added for it
 pub arms_shadowed : (t i : ℕ) (arms : List Arm) (x : Arm) (cs ds es : List Counter)
     (a b c : Graph) → i < length arms → x ≡ get_or arms i x →
     is_some (arm_of (take i arms) x.index) ≡ true → AddsArms t i arms cs ds a b →
@@ -54,6 +57,7 @@ arms_shadowed t i arms x cs ds es a b c lt at has h k =
       adds = adds_on h.done (new ∷ []) cs ds es a b c h.adds k;
     }
 
+-- one arm more is passed where it is the first of its index and a rule that settles was added
 pub arms_counted : (t i : ℕ) (arms : List Arm) (x : Arm) (cs ds es : List Counter) (a b c : Graph) →
     i < length arms → x ≡ get_or arms i x → is_some (arm_of (take i arms) x.index) ≡ false →
     AddsArms t i arms cs ds a b →
@@ -79,6 +83,7 @@ arms_counted t i arms x cs ds es a b c lt at lacks h k =
       mark j true e = refl
       mark j false e = e
 
+-- where all arms were passed, all rules of the variant were added
 pub arms_all : (t i : ℕ) (arms : List Arm) (cs ds : List Counter) (a b : Graph) → length arms ≤ i →
     AddsArms t i arms cs ds a b → AddsRules (arm_rules t [] arms) cs ds a b
 arms_all t i arms cs ds a b le h =

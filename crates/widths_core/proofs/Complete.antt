@@ -44,11 +44,13 @@ use Rattle.widths_core.proofs.Waiting.{waiting_start, waiting-zero, numbers-leng
 
 -- ---- before anything has settled
 
+-- whatever place of a list of copies is read, with the copied thing as default, it gives that
 same_all : {X : Type 0} (n t : ℕ) (x : X) → get_or (replicate n x) t x ≡ x
 same_all zero t x = refl
 same_all (suc n) zero x = refl
 same_all (suc n) (suc t) x = same_all n t x
 
+-- where each of n types is without a value so far, n have not settled
 unsettled_all : (n : ℕ) → unsettled (replicate n class.NoValue) ≡ n
 unsettled_all zero = refl
 unsettled_all (suc n) = omega (arith, unsettled_all n)
@@ -62,9 +64,11 @@ fresh r = record {
   settled = [];
 }
 
+-- at the start no type has settled
 none_settled : (r : List TypeInfo) (t : ℕ) → has_settled (fresh r) t ≡ false
 none_settled r t = rw (same_all (length r) t class.NoValue) refl
 
+-- at the start, where nothing was propagated, counters and tables are consistent
 start_consistent : (r : List TypeInfo) → IsConsistent r [] (fresh r)
 start_consistent r = record {
   classes = length-replicate (length r) class.NoValue;
@@ -85,6 +89,7 @@ start_consistent r = record {
   room = omega (arith, unsettled_all (length r));
 }
 
+-- linked types with tables in which nothing was found are a start
 pub start : (r : List TypeInfo) (cs : List Counter) (d : Graph) (s : Progress) →
     AreTypesLinked r cs d → s
     ≡ record {
@@ -106,10 +111,12 @@ start r cs d s h is = record {
 pub record ClosesRule (f : ℕ → Bool) (x : Rule) : Type 0 where
   pub at : settles x.kind ≡ true → list_all f x.parts ≡ true → f x.owner ≡ true
 
+-- a number that is 1 where a test holds and else 0 is above 0 where it holds
 one_is : (b : Bool) (n : ℕ) → n ≡ cond b 1 0 → b ≡ true → 0 < n
 one_is true n e f = omega (arith, e)
 one_is false n e f = absurd cc
 
+-- in the end a reference was looked at once where its type has settled, and else never
 propagated_if : (r : List TypeInfo) (a b : Graph) (s n : Progress) (done e : ℕ) →
     PropagatesAll r a b s n done → e < length (all_parts (rules r)) →
     times e b.looks.listed.entries ≡ cond (has_settled n (to_at r e)) 1 0
@@ -118,6 +125,7 @@ propagated_if r a b s n done e h small =
     h.propagated.propagated e small ∙ ap (times (to_at r e)) all
     ∙ h.propagated.steady.consistent.queue (to_at r e)
 
+-- in the end, a rule that settles and whose parts have all settled has settled its owner
 closes : (r : List TypeInfo) (a b : Graph) (s n : Progress) (done : ℕ) →
     PropagatesAll r a b s n done → (k : ℕ) → k < length (rules r) →
     ClosesRule (has_settled n) (rule_at r k)
@@ -134,6 +142,7 @@ closes r a b s n done h k lt =
           rw at (one_is (has_settled n (to_at r j)) (times j b.looks.listed.entries)
           (propagated_if r a b s n done j h small') settled))
 
+-- what holds at each place of a list holds of all that is in it
 all_from : {X : Type 0} (P : X → Type 0) (xs : List X) (d : X) →
     ((k : ℕ) → k < length xs → P (get_or xs k d)) → AllByRecursion P xs
 all_from P [] d h = tt
@@ -142,6 +151,7 @@ all_from P (x ∷ xs) d h =
 
 -- ---- the rules of one type
 
+-- what holds of all rules of a registry holds of all rules of each of its types
 rules_at : (P : Rule → Type 0) (r : List TypeInfo) (i t : ℕ) (d : TypeDef) →
     AllByRecursion P (rules_from i r) → shape r t ≡ Some d → AllByRecursion P (rules_of (i + t) d)
 rules_at P [] i t d h e = absurd cc
@@ -154,11 +164,13 @@ rules_at P (x ∷ r) i (suc t) d h e =
     rw at at (rules_at P r (i + 1) t d (all_front P (rules_of i x.shape) (rules_from (i + 1) r) h).1
     e)
 
+-- the rule for fields or members settles its owner, however many they are
 settles_parts : (n : ℕ) → settles (kind_of_parts n) ≡ true
 settles_parts zero = refl
 settles_parts (suc zero) = refl
 settles_parts (suc (suc n)) = refl
 
+-- a variant has settled where the fields of a live arm have, if the rules of its arms are closed
 arms_close : (f : ℕ → Bool) (t : ℕ) (seen : List ℕ) (arms : List Arm) →
     AllByRecursion (ClosesRule f) (arm_rules t seen arms) →
     list_any (λ a. list_all f (field_types a.fields)) (live_arms seen arms) ≡ true → f t ≡ true
@@ -185,6 +197,7 @@ arms_close f t seen (a ∷ arms) h e =
 pub record SettlesCompact (f : ℕ → Bool) (x : Rule) : Type 0 where
   pub at : x.kind ≡ kind.Compact → f x.owner ≡ true
 
+-- a type that has a value by those that settled has settled, by its rules and if compacts do
 step_closed : (f : ℕ → Bool) (t : ℕ) (d : TypeDef) → AllByRecursion (ClosesRule f) (rules_of t d) →
     AllByRecursion (SettlesCompact f) (rules_of t d) → finite_step f d ≡ true → f t ≡ true
 step_closed f t (Def.Composite fs) h k e = h.0.at (settles_parts (length fs)) e
@@ -197,6 +210,7 @@ step_closed f t (Def.Primitive p) h k e = h.0.at refl refl
 step_closed f t (Def.Compact u) h k e = k.0.at refl
 step_closed f t (Def.BitSequence store order) h k e = h.0.at refl refl
 
+-- a test that holds at a position holds of the definition that stands there
 by_shape : (r : List TypeInfo) (t : ℕ) (P : Type 0) (test : TypeDef → Bool) →
     holds_at r test t ≡ true → ((d : TypeDef) → shape r t ≡ Some d → test d ≡ true → P) → P
 by_shape r t P test e h = go (shape r t) refl e where
@@ -204,6 +218,7 @@ by_shape r t P test e h = go (shape r t) refl e where
   go (Some d) p q = h d p q
   go None p q = absurd cc
 
+-- where rules are closed and compacts settle, a type that has a value of any depth has settled
 finite_settled : (r : List TypeInfo) (f : ℕ → Bool) → AllByRecursion (ClosesRule f) (rules r) →
     AllByRecursion (SettlesCompact f) (rules r) → (k : ℕ) → Below (finite_within r k) f
 unfolding finite_within
@@ -220,6 +235,7 @@ finite_settled r f h c (suc k) = record {
 
 -- ---- targets
 
+-- where parts lead to a target, their type settles if it does with them and they do by theirs
 members_closed : (f : ℕ → Bool) (t : ℕ) (below : ℕ → Option Target) (m : Target) (ps : List ℕ) →
     ((u : ℕ) → below u ≡ Some m → f u ≡ true) → (list_all f ps ≡ true → f t ≡ true) →
     target_from below (leads_members ps) ≡ Some m → f t ≡ true
@@ -227,6 +243,7 @@ members_closed f t below m [] h k e = k refl
 members_closed f t below m (u ∷ []) h k e = k (rw (h u e) refl)
 members_closed f t below m (u ∷ v ∷ ps) h k e = absurd cc
 
+-- a type that leads to a target has settled, by its rules, if those behind it with one have
 target_closed : (f : ℕ → Bool) (t : ℕ) (d : TypeDef) (below : ℕ → Option Target) (m : Target) →
     AllByRecursion (ClosesRule f) (rules_of t d) → ((u : ℕ) → below u ≡ Some m → f u ≡ true) →
     target_from below (leads_shape d) ≡ Some m → f t ≡ true
@@ -242,6 +259,7 @@ target_closed f t (Def.Primitive p) below m h k e = h.0.at refl refl
 target_closed f t (Def.Compact u) below m h k e = absurd cc
 target_closed f t (Def.BitSequence store order) below m h k e = absurd cc
 
+-- where all rules are closed, each type that has a target has settled
 target_settled : (r : List TypeInfo) (f : ℕ → Bool) → AllByRecursion (ClosesRule f) (rules r) →
     (k t : ℕ) (m : Target) → target_within r k t ≡ Some m → f t ≡ true
 target_settled r f h zero t m e = absurd cc
@@ -258,6 +276,7 @@ target_settled r f h (suc k) t m e = go (shape r t) refl e (target_settled r f h
 
 -- ---- before the compacts without a target settle
 
+-- when nothing more settles, a compact that has not settled takes bytes and has no target
 pub bad : (r : List TypeInfo) (a b : Graph) (s n : Progress) (done : ℕ) →
     PropagatesAll r a b s n done → IsBad r n
 bad r a b s n done h = record { at = λ k lt e unset. go k lt e unset } where
@@ -285,11 +304,13 @@ bad r a b s n done h = record { at = λ k lt e unset. go k lt e unset } where
 
 -- ---- where nothing more settles
 
+-- a class by which there is no value is NoValue
 no_value : (c : Class) → has_value c ≡ false → c ≡ class.NoValue
 no_value class.NoValue e = refl
 no_value class.Empty e = absurd cc
 no_value class.Sized e = absurd cc
 
+-- when nothing more settles and each compact has, the tables tell all classes and targets
 pub classes_told : (r : List TypeInfo) (a b : Graph) (s n : Progress) (done : ℕ) →
     PropagatesAll r a b s n done → AreCompactsSettled r n → TellsClasses r n.classes
     × TellsTargets r n.targets
@@ -331,6 +352,7 @@ classes_told r a b s n done h c =
 
 -- ---- references and looks
 
+-- in a registry whose types are all linked, each reference is a position
 pub types_linked_checked : (r : List TypeInfo) (cs : List Counter) (d : Graph) →
     AreTypesLinked r cs d → IsChecked r
 types_linked_checked r cs d h =
@@ -339,10 +361,12 @@ types_linked_checked r cs d h =
     rw (h.types, h.read ∙ all_references r) at known in
     checked_by (length r) r known'
 
+-- a number that is 1 where a test holds and else 0 is at most 1
 few : (b : Bool) (n : ℕ) → n ≡ cond b 1 0 → n ≤ 1
 few true n e = omega (arith, e)
 few false n e = omega (arith, e)
 
+-- in the end each reference was looked at once at most in its list
 pub listed_once : (r : List TypeInfo) (a b : Graph) (s n : Progress) (done : ℕ) →
     PropagatesAll r a b s n done → (e : ℕ) → times e b.looks.listed.entries ≤ 1
 listed_once r a b s n done h e = elim (cases_lt e (length (all_parts (rules r)))) [

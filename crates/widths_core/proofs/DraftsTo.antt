@@ -14,17 +14,20 @@ use Rattle.widths_core.specs.Rows.{IsPaired, HasNoRow, Keeps}
 use Rattle.widths_core.specs.Steps.{IsRow, IsDraft, AreDrafts}
 use Rattle.widths_core.proofs.Kept.{draft_kept}
 
+-- a position at which a definition stands is below the number of types
 pub shape_within : (r : List TypeInfo) (i : ℕ) (d : TypeDef) → shape r i ≡ Some d → i < length r
 shape_within [] i d e = absurd cc
 shape_within (x ∷ r) zero d e = omega arith
 shape_within (x ∷ r) (suc i) d e = let below = shape_within r i d e in omega (arith, below)
 
+-- a draft that is put at the end leaves the others where they are
 get_left : (xs : List Draft) (y : Draft) (t : ℕ) → t < length xs →
     slice_get (xs ++ y ∷ []) t ≡ slice_get xs t
 get_left [] y t lt = absurd (omega (arith, lt))
 get_left (x ∷ xs) y zero lt = refl
 get_left (x ∷ xs) y (suc t) lt = get_left xs y t (omega (arith, lt))
 
+-- a draft that is put at the end is read there
 get_last : (xs : List Draft) (y : Draft) → slice_get (xs ++ y ∷ []) (length xs) ≡ Some y
 get_last [] y = refl
 get_last (x ∷ xs) y = get_last xs y
@@ -38,6 +41,7 @@ pub record DraftsTo (r : List TypeInfo) (refs : List ℕ) (rows : Rows) (i : ℕ
   pub own : (t : ℕ) (d : TypeDef) (s : Draft) → shape r t ≡ Some d → slice_get drafts t ≡ Some s →
       IsDraft refs (IsRow refs rows) d s
 
+-- before the first type there are no drafts, where there is no row yet
 pub drafts_none : (r : List TypeInfo) (refs : List ℕ) (rows : Rows) → HasNoRow rows →
     DraftsTo r refs rows 0 []
 drafts_none r refs rows h =
@@ -49,6 +53,7 @@ drafts_none r refs rows h =
           λ t d s e f. absurd cc;
     }
 
+-- with the draft of the next type, its references and its row, one type more has its draft
 pub drafts_more : (r : List TypeInfo) (xs ys zs : List ℕ) (a b : Rows) (i : ℕ) (drafts : List Draft)
     (d : TypeDef) (s : Draft) → shape r i ≡ Some d → zs ≡ xs ++ ys → IsPaired b → Keeps a b →
     IsDraft zs (IsRow zs b) d s → DraftsTo r xs a i drafts →
@@ -76,6 +81,7 @@ drafts_more r xs ys zs a b i drafts d s e read paired k new h = record {
         rw (← same_draft, ← def) new
   ]
 
+-- where all types were passed, each has its draft
 pub drafts_all : (r : List TypeInfo) (refs : List ℕ) (rows : Rows) (i : ℕ) (drafts : List Draft) →
     length r ≤ i → DraftsTo r refs rows i drafts → AreDrafts r refs rows drafts
 drafts_all r refs rows i drafts le h =

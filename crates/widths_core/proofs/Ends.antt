@@ -16,6 +16,7 @@ use Rattle.widths_core.proofs.RuleRight.{rule_right}
 use Rattle.widths_core.proofs.Settles.{follows_same, follows_on, completes_to, settles_to}
 use Rattle.widths_core.proofs.Waiting.{waiting_start}
 
+-- where all is consistent, the tables have an entry for the owner of each counter
 pub placed : (r : List TypeInfo) (propagated : List ℕ) (s : Progress) (k : ℕ) →
     IsConsistent r propagated s → k < length s.counters → KnowsType s (counter_at s k).owner
 placed r propagated s k h lt =
@@ -24,6 +25,7 @@ placed r propagated s k h lt =
       omega (arith, h.owner k, right.owner, h.targets),
     )
 
+-- where rules are read behind the last one, it is an idle rule without parts
 past_rule : (r : List TypeInfo) (k : ℕ) → length (rules r) ≤ k → rule_at r k ≡ nothing
 past_rule r k le = get_or_past (rules r) k nothing le
 
@@ -34,6 +36,7 @@ pub record BeginsTo (r : List TypeInfo) (o s : Progress) (i : ℕ) : Type 0 wher
   pub closed : (k : ℕ) → k < i → settles (rule_at r k).kind ≡ true → (counter_at s k).left ≡ 0 →
       has_settled s (rule_at r k).owner ≡ true
 
+-- from consistent counters and tables, where nothing was propagated, passing the counters begins
 pub begins_first : (r : List TypeInfo) (s : Progress) → IsConsistent r [] s → BeginsTo r s s 0
 begins_first r s h = record {
   consistent = h;
@@ -42,6 +45,7 @@ begins_first r s h = record {
       λ k lt. absurd (omega (arith, lt));
 }
 
+-- where nothing was propagated and a counter has nothing left, its rule has not one part
 no_parts : (r : List TypeInfo) (s : Progress) (k u : ℕ) → IsConsistent r [] s →
     (counter_at s k).left ≡ 0 → (rule_at r k).parts ≡ u ∷ [] → ⊥
 no_parts r s k u h none one =
@@ -50,6 +54,7 @@ no_parts r s k u h none one =
     rw at at (waiting_start 0 0 (rules r) k) in
     omega (arith, h.left k, none, start, ap length one)
 
+-- a counter that has nothing left is passed where its owner settles
 pub begins_done : (r : List TypeInfo) (o s n : Progress) (i : ℕ) → i < length s.counters →
     BeginsTo r o s i → (counter_at s i).left ≡ 0 → n ≡ completed s (counter_at s i) None →
     BeginsTo r o n (i + 1)
@@ -67,6 +72,7 @@ begins_done r o s n i lt h none is =
       ];
     })
 
+-- a counter that has something left is passed as it is
 pub begins_passed : (r : List TypeInfo) (o s : Progress) (i : ℕ) → BeginsTo r o s i →
     (counter_at s i).left ≢ 0 → BeginsTo r o s (i + 1)
 begins_passed r o s i h some = record {
@@ -78,6 +84,7 @@ begins_passed r o s i h some = record {
   ];
 }
 
+-- where all counters were passed, the owner of each that has nothing left has settled
 pub begins_all : (r : List TypeInfo) (o s : Progress) (i : ℕ) → length s.counters ≤ i →
     BeginsTo r o s i → IsClosed r s
 begins_all r o s i le h = record {
@@ -89,6 +96,7 @@ begins_all r o s i le h = record {
   ];
 }
 
+-- where all counters were passed from a start, all is steady and nothing was propagated
 pub begun : (r : List TypeInfo) (d : Graph) (s n : Progress) (i : ℕ) → IsStart r d s →
     length n.counters ≤ i → BeginsTo r s n i → IsPropagatedTo r d n 0
 begun r d s n i h le b = record {
@@ -113,6 +121,7 @@ pub record SettlesBadTo (r : List TypeInfo) (propagated : List ℕ) (s n : Progr
     pub compacts : (k : ℕ) → k < i → k < length (rules r) → (rule_at r k).kind ≡ kind.Compact →
         has_settled n (rule_at r k).owner ≡ true
 
+-- where all is consistent and unsettled compacts have no target, passing them begins
 pub settles_bad_first : (r : List TypeInfo) (propagated : List ℕ) (s : Progress) →
     IsConsistent r propagated s → IsClosed r s → IsBad r s → SettlesBadTo r propagated s s 0
 settles_bad_first r propagated s h closed bad =
@@ -125,10 +134,12 @@ settles_bad_first r propagated s h closed bad =
           λ k lt. absurd (omega (arith, lt));
     }
 
+-- where a test that fails follows from another one, that one fails too
 unsettled_before : (b c : Bool) → (b ≡ true → c ≡ true) → c ≡ false → b ≡ false
 unsettled_before true c f e = let t = f refl in let no = sym t ∙ e in absurd cc
 unsettled_before false c f e = refl
 
+-- a counter of a compact is passed where its owner settles as a type that takes bytes
 pub settles_bad_done : (r : List TypeInfo) (propagated : List ℕ) (s n m : Progress) (i : ℕ) →
     i < length n.counters → SettlesBadTo r propagated s n i → (counter_at n i).kind ≡ kind.Compact →
     m ≡ settled_as n (counter_at n i).owner found_sized → SettlesBadTo r propagated s m (i + 1)
@@ -160,6 +171,7 @@ settles_bad_done r propagated s n m i lt h compact is =
       ];
     })
 
+-- a counter that is none of a compact is passed as it is
 pub settles_bad_passed : (r : List TypeInfo) (propagated : List ℕ) (s n : Progress) (i : ℕ) →
     SettlesBadTo r propagated s n i → ((counter_at n i).kind ≡ kind.Compact → ⊥) →
     SettlesBadTo r propagated s n (i + 1)
@@ -175,6 +187,7 @@ settles_bad_passed r propagated s n i h other_kind = record {
   ];
 }
 
+-- that compacts without a target settle changes nothing of what was propagated
 pub bad_settled : (r : List TypeInfo) (d : Graph) (s n : Progress) (first i : ℕ) →
     IsPropagatedTo r d s first → length n.counters ≤ i →
     SettlesBadTo r d.looks.listed.entries s n i → IsPropagatedTo r d n first
@@ -189,6 +202,7 @@ bad_settled r d s n first i h le g =
       propagated = λ e small. rw front (h.propagated e small);
     }
 
+-- where all counters were passed, each compact has settled, whatever more settles later
 pub compacts_all : (r : List TypeInfo) (propagated : List ℕ) (s n m : Progress) (i : ℕ) →
     length n.counters ≤ i → SettlesBadTo r propagated s n i → Follows n m → AreCompactsSettled r m
 compacts_all r propagated s n m i le h f =
@@ -197,6 +211,7 @@ compacts_all r propagated s n m i le h f =
           (h.compacts k (omega (arith, h.consistent.counters, le, small)) small e);
     }
 
+-- all is propagated from before compacts without a target settle if it is from afterwards on
 pub bad_settled_on : (r : List TypeInfo) (propagated : List ℕ) (a b : Graph) (s n m : Progress)
     (i done : ℕ) → SettlesBadTo r propagated s n i → PropagatesAll r a b n m done →
     PropagatesAll r a b s m done
@@ -208,6 +223,7 @@ bad_settled_on r propagated a b s n m i done g h =
       lists = h.lists;
     }
 
+-- all is propagated from an earlier state on if it is from a later one that follows
 pub begun_on : (r : List TypeInfo) (a b : Graph) (s n m : Progress) (done : ℕ) → Follows s n →
     PropagatesAll r a b n m done → PropagatesAll r a b s m done
 begun_on r a b s n m done g h =

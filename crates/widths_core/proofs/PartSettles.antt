@@ -21,6 +21,7 @@ use Rattle.widths_core.proofs.Settles.{completes_to}
 use Rattle.widths_core.proofs.Waiting.{differ, times-other, waiting-propagated, numbers-length}
 use Rattle.widths_core.proofs.Waiting.{numbers-within, parts_any}
 
+-- each reference of a registry is a part of one of its rules
 pub number-lt : (r : List TypeInfo) (e : ℕ) → e < length (all_parts (rules r)) →
     rule_number r e < length (rules r)
 number-lt r e lt = omega (arith, (numbers-within 0 (rules r) e lt).1)
@@ -35,6 +36,7 @@ propagated_left r propagated e k lt none =
     rw at at (waiting-propagated e 0 (numbers_from 0 (rules r)) k propagated
     (omega (arith, lt, numbers-length 0 (rules r))) (rw at none))
 
+-- where a reference was not propagated, its counter has something left
 pub left_some : (r : List TypeInfo) (propagated : List ℕ) (s : Progress) (e : ℕ) →
     IsConsistent r propagated s → e < length (all_parts (rules r)) → times e propagated ≡ 0 →
     0 < (counter_at s (rule_number r e)).left
@@ -48,20 +50,24 @@ left_some r propagated s e h lt none =
       one,
     )
 
+-- which of two tests comes first in an or makes no difference
 or_comm : (a b : Bool) → (a || b) ≡ (b || a)
 or_comm true true = refl
 or_comm true false = refl
 or_comm false true = refl
 or_comm false false = refl
 
+-- a counter that was put at a place is read there
 counter_same : (s : Progress) (k : ℕ) (c : Counter) → k < length s.counters →
     counter_at (counters_set s k c) k ≡ c
 counter_same s k c lt = get_or-set_same s.counters k c no_counter lt
 
+-- a counter that is put at one place leaves the others as they are
 counter_other : (s : Progress) (k j : ℕ) (c : Counter) → j ≢ k →
     counter_at (counters_set s k c) j ≡ counter_at s j
 counter_other s k j c ne = get_or-set_other s.counters k j c no_counter ne
 
+-- all stays consistent where the counter of a reference counts a part that has settled
 counted_consistent : (r : List TypeInfo) (propagated : List ℕ) (s : Progress) (e : ℕ) (f : Found) →
     IsConsistent r propagated s → e < length (all_parts (rules r)) → times e propagated ≡ 0 →
     has_settled s (to_at r e) ≡ true → f.class ≡ class_of r (to_at r e) →
@@ -188,6 +194,7 @@ only_part r e u lt one =
       go true p q = sym (eqb-true u (to_at r e) p)
       go false p q = absurd cc
 
+-- a reference is propagated where its counter counts it and, with nothing left, settles its owner
 pub settles_part : (r : List TypeInfo) (propagated : List ℕ) (s : Progress) (e : ℕ) (f : Found) →
     IsConsistent r propagated s → IsClosed r s → e < length (all_parts (rules r)) →
     times e propagated ≡ 0 → has_settled s (to_at r e) ≡ true → f.class ≡ class_of r (to_at r e) →

@@ -16,6 +16,7 @@ use Rattle.graph_core.proofs.Stopped.{all_front}
 use Rattle.widths_core.specs.Rules.{Rule, rule, rules, rules_of, rules_from, arm_rules, found_sized}
 use Rattle.widths_core.specs.Rules.{all_parts}
 
+-- the parts of the rules of arms are the types of all fields, those of shadowed arms too
 pub parts_of_arms : (t : ℕ) (seen : List ℕ) (arms : List Arm) →
     all_parts (arm_rules t seen arms) ≡ flat_map (λ a. field_types a.fields) arms
 parts_of_arms t seen [] = refl
@@ -29,6 +30,7 @@ parts_of_arms t seen (a ∷ arms) =
       go true more = ap (λ (xs : List ℕ). field_types a.fields ++ xs) (more seen)
       go false more = ap (λ (xs : List ℕ). field_types a.fields ++ xs) (more (a.index ∷ seen))
 
+-- the parts of the rules of a type are the references of its definition
 pub parts_of : (t : ℕ) (d : TypeDef) → all_parts (rules_of t d) ≡ references d
 parts_of t (Def.Composite fs) = append-nil (field_types fs)
 parts_of t (Def.Variant arms) = parts_of_arms t [] arms
@@ -40,6 +42,7 @@ parts_of t (Def.Primitive p) = refl
 parts_of t (Def.Compact u) = refl
 parts_of t (Def.BitSequence store order) = refl
 
+-- the parts of the rules of types are the references of their definitions, in the same order
 pub parts_from : (t : ℕ) (r : List TypeInfo) →
     all_parts (rules_from t r) ≡ flat_map (λ i. references i.shape) r
 parts_from t [] = refl
@@ -47,10 +50,12 @@ parts_from t (x ∷ r) = flat_map-append (λ (y : Rule). y.parts) (rules_of t x.
     (rules_from (t + 1) r) ∙ ap (λ (xs : List ℕ). xs ++ all_parts (rules_from (t + 1) r))
     (parts_of t x.shape) ∙ ap (λ (xs : List ℕ). references x.shape ++ xs) (parts_from (t + 1) r)
 
+-- the parts of all rules of a registry are its references, in the same order
 pub all_references : (r : List TypeInfo) →
     all_parts (rules r) ≡ flat_map (λ i. references i.shape) r
 all_references r = parts_from 0 r
 
+-- where all references of types are positions, the types are checked
 pub checked_by : (n : ℕ) (r : List TypeInfo) → AreKnown n (flat_map (λ i. references i.shape) r) →
     AreChecked n r
 checked_by n [] h = tt

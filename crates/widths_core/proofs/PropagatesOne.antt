@@ -44,9 +44,11 @@ pub record PropagatesSo (r : List TypeInfo) (a b : Graph) (s n : Progress) (t : 
   pub others : (e : ℕ) → to_at r e ≢ t →
       times e b.looks.listed.entries ≡ times e a.looks.listed.entries
 
+-- where no look was taken, nothing but lists was looked at
 lists_same : (a : Graph) → Lists a a
 lists_same a = record { opened = refl; read = refl }
 
+-- where twice nothing but lists was looked at, nothing else was altogether
 lists_on : (a b c : Graph) → Lists a b → Lists b c → Lists a c
 lists_on a b c h k = record { opened = k.opened ∙ h.opened; read = k.read ∙ h.read }
 
@@ -60,10 +62,12 @@ settled-lt r propagated s t h e = elim (cases_lt t (length r)) [
       absurd (let no : has_value class.NoValue ≡ true = rw past at e in cc)
 ]
 
+-- a type whose references are to be propagated is a position
 pub pending-lt : (r : List TypeInfo) (d : Graph) (s : Progress) (t : ℕ) → IsPending r d s t →
     t < length r
 pending-lt r d s t h = settled-lt r d.looks.listed.entries s t h.steady.consistent h.settled
 
+-- for a type that is pending, the newest reference to it is the next, and none was propagated
 pub propagates_first : (r : List TypeInfo) (d : Graph) (s : Progress) (t : ℕ) (f : Found) (at : ℕ) →
     IsPending r d s t → f.class ≡ known_class s.classes t → f.target ≡ known_target s.targets t →
     at ≡ get_or d.newest.items t 0 → PropagatesSo r d d s s t f at
@@ -100,6 +104,7 @@ pub record IsNext (r : List TypeInfo) (b : Graph) (n : Progress) (t e : ℕ) : T
   pub left : 0 < (counter_at n (rule_number r e)).left
   pub before : IsLast (all_parts (rules r)) e t (get_or (befores b) e 0)
 
+-- the next reference is to the type, was not propagated, and its counter has something left
 pub next_is : (r : List TypeInfo) (a b : Graph) (s n : Progress) (t : ℕ) (f : Found) (e : ℕ) →
     PropagatesSo r a b s n t f (suc e) → IsNext r b n t e
 next_is r a b s n t f e h =
@@ -128,6 +133,7 @@ next_is r a b s n t f e h =
       before = rw (← to, ← ready.read) before;
     }
 
+-- when the next reference was counted, the one before it in the list is the next
 pub propagates_more : (r : List TypeInfo) (a b c : Graph) (s n m : Progress) (t : ℕ) (f : Found)
     (e to : ℕ) → PropagatesSo r a b s n t f (suc e) → IsListed b c e →
     m ≡ part_settled n (rule_number r e) f → to ≡ get_or (befores b) e 0 →
@@ -193,6 +199,7 @@ propagates_more r a b c s n m t f e to h listed is before =
             ∙ h.propagated x small is' (omega (arith, le, other))
       ]
 
+-- at the end of the list all references to the type were propagated, once each
 pub propagates_all_of : (r : List TypeInfo) (a b : Graph) (s n : Progress) (t : ℕ) (f : Found)
     (at : ℕ) → PropagatesSo r a b s n t f at → at ≤ 0 → Propagates r a b s n t
 propagates_all_of r a b s n t f at h none = record {
@@ -216,25 +223,30 @@ pub record PropagatesSoFar (r : List TypeInfo) (a b : Graph) (s n : Progress) (d
     pub follows : Follows s n
     pub lists : Lists a b
 
+-- before a further type is taken, the references to those before it were propagated
 pub so_far_first : (r : List TypeInfo) (a : Graph) (s : Progress) (done : ℕ) →
     IsPropagatedTo r a s done → PropagatesSoFar r a a s s done
 so_far_first r a s done h =
     record { propagated = h; follows = follows_same s; lists = lists_same a }
 
+-- a number is at least once more in the list than in front of a place at which it stands
 times_at : (xs : List ℕ) (i : ℕ) → i < length xs →
     times (get_or xs i 0) (take i xs) + 1 ≤ times (get_or xs i 0) xs
 times_at [] i lt = absurd (omega arith)
 times_at (x ∷ xs) zero lt = omega (arith, times-same x xs)
 times_at (x ∷ xs) (suc i) lt = omega (arith, times_at xs i (omega (arith, lt)))
 
+-- a test holds where a number that is 1 if it holds and else 0 is above 0
 settled_if : (b : Bool) (n : ℕ) → n ≡ cond b 1 0 → 0 < n → b ≡ true
 settled_if true n e lt = refl
 settled_if false n e lt = absurd (omega (arith, e, lt))
 
+-- a number that is 1 where a test holds and else 0 is at most 1
 at_most_one : (b : Bool) (n : ℕ) → n ≡ cond b 1 0 → n ≤ 1
 at_most_one true n e = omega (arith, e)
 at_most_one false n e = omega (arith, e)
 
+-- the next type in the order of settling has settled, and no reference to it was propagated
 pub pending_is : (r : List TypeInfo) (d : Graph) (s : Progress) (done : ℕ) →
     IsPropagatedTo r d s done → done < length s.settled → IsPending r d s (get_or s.settled done 0)
 pending_is r d s done h lt =
@@ -249,6 +261,7 @@ pending_is r d s done h lt =
           ∙ omega (arith, more, one);
     }
 
+-- with the references to the next settled type propagated, one type more is done
 pub so_far_more : (r : List TypeInfo) (a b c : Graph) (s n m : Progress) (done : ℕ) →
     PropagatesSoFar r a b s n done → done < length n.settled →
     Propagates r b c n m (get_or n.settled done 0) → PropagatesSoFar r a c s m (done + 1)
@@ -284,6 +297,7 @@ so_far_more r a b c s n m done h lt k =
       )
           (omega (arith, k.propagated e small, h.propagated.propagated e small))
 
+-- where no settled type is left, the references to all of them were propagated
 pub so_far_all : (r : List TypeInfo) (a b : Graph) (s n : Progress) (done : ℕ) →
     PropagatesSoFar r a b s n done → length n.settled ≤ done → PropagatesAll r a b s n done
 so_far_all r a b s n done h le =
@@ -302,11 +316,13 @@ fewer r d s done h lt = omega (arith, h.steady.consistent.room, lt)
 
 -- ---- at the reference before at
 
+-- at a place above 0, the reference one below is the next: to the type, and not propagated
 pub next_at : (r : List TypeInfo) (a b : Graph) (s n : Progress) (t : ℕ) (f : Found) (at : ℕ) →
     PropagatesSo r a b s n t f at → 0 < at → IsNext r b n t (at - 1)
 next_at r a b s n t f at h some = let is : at ≡ suc (at - 1) = omega (arith, some) in
     next_is r a b s n t f (at - 1) (subst (λ (i : ℕ). PropagatesSo r a b s n t f i) is h)
 
+-- when the reference one below a place above 0 was counted, the one before it is the next
 pub propagates_at : (r : List TypeInfo) (a b c : Graph) (s n m : Progress) (t : ℕ) (f : Found)
     (at to : ℕ) → PropagatesSo r a b s n t f at → 0 < at → IsListed b c (at - 1) →
     m ≡ part_settled n (rule_number r (at - 1)) f → to ≡ get_or (befores b) (at - 1) 0 →

@@ -12,6 +12,7 @@ use Rattle.widths_core.specs.Rows.{Rises, IsIn, Lacks, BelongsAt}
 
 -- ---- a row that rises
 
+-- in the part of a list from a place on, where it rises, a later number is not less
 rises_on : (xs : List ℕ) (f : ℕ) → Rises xs f (length xs) → (i j : ℕ) → i ≤ j →
     j < length (drop f xs) → get_or (drop f xs) i 0 ≤ get_or (drop f xs) j 0
 rises_on xs f h i j le lt =
@@ -23,6 +24,7 @@ rises_on xs f h i j le lt =
           omega (arith, less)
     ])
 
+-- where the binary search from a place on finds the number, it is in the list so far behind that
 pub row_searched : (xs : List ℕ) (f v : ℕ) (r : Result ℕ ℕ) → Rises xs f (length xs) →
     IsBinarySearchResult (λ y. nat_cmp y v) (drop f xs) r → (p : ℕ) → r ≡ Ok p →
     IsIn xs f (length xs) v (f + p)
@@ -37,6 +39,7 @@ row_searched xs f v (Ok q) h b p e =
     }
 row_searched xs f v (Err q) h b p e = absurd cc
 
+-- where the binary search from a place on finds nothing, it tells where the number belongs
 pub row_missed : (xs : List ℕ) (f v : ℕ) (r : Result ℕ ℕ) → f ≤ length xs → Rises xs f (length xs) →
     IsBinarySearchResult (λ y. nat_cmp y v) (drop f xs) r → (p : ℕ) → r ≡ Err p →
     BelongsAt xs f v (f + p)
@@ -75,13 +78,16 @@ below_lacks xs v lt h j ge end is = elim (cases_eq j 0) [
 
 -- ---- a row among others
 
+-- what is read in a piece of a list is read in the list, so far behind the piece's beginning
 pub read_row : (xs : List ℕ) (f n j : ℕ) → j < n →
     get_or (take n (drop f xs)) j 0 ≡ get_or xs (f + j) 0
 read_row xs f n j lt = get_or-take n (drop f xs) j 0 lt ∙ get_or-drop f xs j 0
 
+-- a piece that ends within the list is as long as it says
 pub row_length : (xs : List ℕ) (f n : ℕ) → f + n ≤ length xs → length (take n (drop f xs)) ≡ n
 row_length xs f n le = length-take-le n (drop f xs) (omega (arith, le, length-drop f xs))
 
+-- a piece of a list in which the list rises rises by itself
 pub row_rises : (xs : List ℕ) (f n : ℕ) → f + n ≤ length xs → Rises xs f (f + n) →
     Rises (take n (drop f xs)) 0 (length (take n (drop f xs)))
 row_rises xs f n le h i j ge lt end =
@@ -92,6 +98,7 @@ row_rises xs f n le h i j ge lt end =
     )
     (h (f + i) (f + j) (omega arith) (omega (arith, lt)) (omega (arith, end, len)))
 
+-- a number that is not in a piece is at none of the piece's places in the list
 pub row_lacks_all : (xs : List ℕ) (f n v : ℕ) → f + n ≤ length xs →
     Lacks (take n (drop f xs)) 0 (length (take n (drop f xs))) v → Lacks xs f (f + n) v
 row_lacks_all xs f n v le h j ge lt is =
@@ -100,6 +107,7 @@ row_lacks_all xs f n v le h j ge lt is =
     h (j - f) (omega arith) (omega (arith, ge, lt, len))
     (read_row xs f n (j - f) (omega (arith, ge, lt)) ∙ ap (λ (k : ℕ). get_or xs k 0) back ∙ is)
 
+-- a number that is in a piece is in the list, so far behind the piece's beginning
 pub row_is_in : (xs : List ℕ) (f n v p : ℕ) → f + n ≤ length xs →
     IsIn (take n (drop f xs)) 0 (length (take n (drop f xs))) v p → IsIn xs f (f + n) v (f + p)
 row_is_in xs f n v p le h =
@@ -114,6 +122,7 @@ row_is_in xs f n v p le h =
 
 -- ---- a whole row
 
+-- in a rising list the binary search answers the number's place, or else the list lacks it
 pub row_answer : (xs : List ℕ) (v : ℕ) (r : Result ℕ ℕ) (o : Option ℕ) → Rises xs 0 (length xs) →
     IsBinarySearchResult (λ y. nat_cmp y v) xs r → o ≡ result_ok r →
     MatchOption o (Lacks xs 0 (length xs) v) (λ i. IsIn xs 0 (length xs) v i)

@@ -30,6 +30,7 @@ pub record RowTo (refs : List ℕ) (f i : ℕ) (arms : List Arm) (a b : Rows) : 
   pub none : (x : ℕ) → Lacks b.indexes.items f (length b.indexes.items) x →
       arm_of (take i arms) x ≡ None
 
+-- before the first arm, the row that begins at the end is empty
 pub row_none : (refs : List ℕ) (f : ℕ) (arms : List Arm) (a : Rows) → f ≡ length a.indexes.items →
     IsPaired a → RowTo refs f 0 arms a a
 row_none refs f arms a start paired = record {
@@ -41,6 +42,7 @@ row_none refs f arms a start paired = record {
   none = λ x lacks. refl;
 }
 
+-- where the step of an arm is right, there is such an arm
 some_arm : (refs : List ℕ) (s : ArmStep) (x : Option (ℕ × Arm)) → IsArm refs (Some s) x →
     is_some x ≡ true
 some_arm refs s None h = absurd h
@@ -65,6 +67,7 @@ row_lacks refs f i arms a b v k h new = rw (h.none v lacks) refl where
     | inr above ↦ let greater = new.greater j above lt in omega (arith, greater, is)
   ]
 
+-- a shadowed arm is passed with its references read and the row as it is
 pub row_shadowed : (xs ys zs : List ℕ) (f i : ℕ) (arms : List Arm) (x : Arm) (a b : Rows) →
     i < length arms → x ≡ get_or arms i x → zs ≡ xs ++ ys →
     is_some (arm_of (take i arms) x.index) ≡ true → RowTo xs f i arms a b →
@@ -81,11 +84,13 @@ row_shadowed xs ys zs f i arms x a b lt is e old h = record {
 
 -- ---- one arm more in a row
 
+-- behind the place at which something was put in, all stands one place further
 above : {X : Type 0} (xs : List X) (at : ℕ) (y d : X) (k : ℕ) → at < k → at ≤ length xs →
     get_or (insert xs at y) k d ≡ get_or xs (k - 1) d
 above xs at y d k lt le = let k-is : k - 1 + 1 ≡ k = omega (arith, lt) in
     rw k-is at (get_or-insert_above xs at y d (k - 1) (omega (arith, lt)) le)
 
+-- two numbers that differ are told apart by the test
 differs : (m n : ℕ) → m ≢ n → (m == n) ≡ false
 differs m n ne = go (m == n) refl where
   go : (q : Bool) → (m == n) ≡ q → (m == n) ≡ false
@@ -100,6 +105,7 @@ record Read (b c : Rows) (at v : ℕ) (s : ArmStep) : Type 0 where
   size : length c.indexes.items ≡ length b.indexes.items + 1
   sizes : length c.arms.items ≡ length b.arms.items + 1
 
+-- where an arm was put into rows, it is at its place, and those that were behind are one further
 reads : (b c : Rows) (at v : ℕ) (s : ArmStep) → IsPaired b → at ≤ length b.indexes.items →
     Inserts b c at v s → Read b c at v s
 reads b c at v s paired le h =
@@ -121,6 +127,7 @@ reads b c at v s paired le h =
       sizes = rw h.arms (length-insert b.arms.items at s le');
     }
 
+-- an arm of a new index is passed where its step is put in at the place where the index belongs
 pub row_counted : (xs ys zs : List ℕ) (f i at : ℕ) (arms : List Arm) (x : Arm) (s : ArmStep)
     (a b c : Rows) → i < length arms → x ≡ get_or arms i x → zs ≡ xs ++ ys →
     BelongsAt b.indexes.items f x.index at → s.position ≡ i →
@@ -215,6 +222,7 @@ row_counted xs ys zs f i at arms x s a b c lt is e new position parts k h = reco
 
 -- ---- all arms
 
+-- where all arms were passed, what was added is the row of the variant
 pub row_all : (refs : List ℕ) (f count : ℕ) (i : ℕ) (arms : List Arm) (a b : Rows) →
     length arms ≤ i → count + f ≡ length b.indexes.items → RowTo refs f i arms a b →
     IsRow refs b f count arms

@@ -46,11 +46,13 @@ pub record IsRightRule (r : List TypeInfo) (x : Rule) : Type 0 where
   pub owner : x.owner < length r
   pub right : IsRightBy r x.owner x.parts x.kind
 
+-- a part without bytes changes nothing of a class that it is joined to
 joined-empty : (c : Class) → joined c class.Empty ≡ c
 joined-empty class.NoValue = refl
 joined-empty class.Empty = refl
 joined-empty class.Sized = refl
 
+-- the rule of these parts is right where class and target of the type follow from theirs
 parts_right : (r : List TypeInfo) (t : ℕ) (ps : List ℕ) →
     class_of r t ≡ class_of_parts (class_of r) ps →
     target_of r t ≡ target_from (target_of r) (leads_members ps) →
@@ -62,6 +64,7 @@ parts_right r t (u ∷ v ∷ ps) c m = (c, m)
 abbrev arm_test : List TypeInfo → Arm → Bool
 arm_test r a = has_value (class_of_parts (class_of r) (field_types a.fields))
 
+-- the rules of arms are right where any live arm with a value gives the variant the class Sized
 arms_right : (r : List TypeInfo) (t : ℕ) → t < length r → target_of r t ≡ None →
     (arms : List Arm) (seen : List ℕ) →
     (list_any (arm_test r) (live_arms seen arms) ≡ true → class_of r t ≡ class.Sized) →
@@ -91,11 +94,13 @@ arms_right r t lt m (a ∷ arms) seen h =
         more (a.index ∷ seen) (λ f. k (or_right (arm_test r a) _ f)),
       )
 
+-- a variant one of whose live arms has a value has the class Sized
 arms_class : (r : List TypeInfo) (t : ℕ) (arms : List Arm) →
     class_of r t ≡ class_of_arms (class_of r) arms →
     list_any (arm_test r) (live_arms [] arms) ≡ true → class_of r t ≡ class.Sized
 arms_class r t arms e f = e ∙ rw f refl
 
+-- the target of a primitive is the same whatever targets other types have
 same_target : (r : List TypeInfo) (k : PrimitiveKind) →
     target_from (target_of r) (leads_kind k) ≡ target_from (λ u. None) (leads_kind k)
 same_target r K.Bool = refl
@@ -105,14 +110,17 @@ same_target r (K.Unsigned w) = refl
 same_target r (K.Signed w) = refl
 same_target r (K.Wide s) = refl
 
+-- there are as many fields as types of fields
 length-fields : (fs : List Field) → length fs ≡ length (field_types fs)
 length-fields [] = refl
 length-fields (f ∷ fs) = ap suc (length-fields fs)
 
+-- there are as many members as type ids of members
 length-ids : (ts : List TypeId) → length ts ≡ length (ids ts)
 length-ids [] = refl
 length-ids (t ∷ ts) = ap suc (length-ids ts)
 
+-- the rules of a type are right where its class and target follow from those of its parts
 rules_right : (r : List TypeInfo) (t : ℕ) (d : TypeDef) → t < length r →
     class_of r t ≡ class_step (target_of r) (class_of r) d →
     target_of r t ≡ target_from (target_of r) (leads_shape d) →
@@ -138,22 +146,26 @@ rules_right r t (Def.BitSequence store order) lt c m =
 
 -- ---- all rules
 
+-- what holds of all in two lists holds of all in the two joined
 pub all_append : {X : Type 0} (P : X → Type 0) (xs ys : List X) → AllByRecursion P xs →
     AllByRecursion P ys → AllByRecursion P (xs ++ ys)
 all_append P [] ys h k = k
 all_append P (x ∷ xs) ys h k = (h.0, all_append P xs ys h.1 k)
 
+-- what holds of all in a list holds at each of its places
 pub all_at : {X : Type 0} (P : X → Type 0) (xs : List X) (k : ℕ) (d : X) → AllByRecursion P xs →
     k < length xs → P (get_or xs k d)
 all_at P [] k d h lt = absurd (omega arith)
 all_at P (x ∷ xs) zero d h lt = h.0
 all_at P (x ∷ xs) (suc k) d h lt = all_at P xs k d h.1 (omega (arith, lt))
 
+-- a position at which a definition stands is below the number of types
 pub shape-bound : (r : List TypeInfo) (t : ℕ) (d : TypeDef) → shape r t ≡ Some d → t < length r
 shape-bound [] t d e = absurd cc
 shape-bound (x ∷ r) zero d e = omega arith
 shape-bound (x ∷ r) (suc t) d e = omega (arith, shape-bound r t d e)
 
+-- the rules of types that stand in a registry from a position on are right
 rules_from_right : (r : List TypeInfo) (s : List TypeInfo) (t : ℕ) →
     ((j : ℕ) (d : TypeDef) → shape s j ≡ Some d → shape r (t + j) ≡ Some d) →
     AllByRecursion (IsRightRule r) (rules_from t s)
@@ -165,6 +177,7 @@ rules_from_right r (x ∷ s) t h =
     (target_stable r t x.shape here))
     (rules_from_right r s (t + 1) (λ j d e. ap (shape r) (omega arith) ∙ h (suc j) d e))
 
+-- each rule of a registry is right
 pub rule_right : (r : List TypeInfo) (k : ℕ) → k < length (rules r) → IsRightRule r (rule_at r k)
 rule_right r k lt = all_at (IsRightRule r) (rules r) k nothing
     (rules_from_right r r 0 (λ j d e. ap (shape r) (omega arith) ∙ e)) lt

@@ -30,9 +30,11 @@ use Rattle.widths_core.proofs.RuleRight.{IsRightBy, rule_right}
 use Rattle.widths_core.proofs.Waiting.{times-append, times-other, waiting-none, numbers-length}
 use Rattle.widths_core.proofs.Waiting.{parts_any, parts_each}
 
+-- each state follows itself
 pub follows_same : (s : Progress) → Follows s s
 follows_same s = record { keeps = λ t e. e; more = []; settled = sym (append-nil s.settled) }
 
+-- a state that follows one that follows a first follows the first
 pub follows_on : (a b c : Progress) → Follows a b → Follows b c → Follows a c
 follows_on a b c h k = record {
   keeps = λ t e. k.keeps t (h.keeps t e);
@@ -56,14 +58,17 @@ with_found s t f = record {
   settled = s.settled ++ t ∷ [];
 }
 
+-- a class that was put at a type's place is known as the type's
 pub class_same : (cs : List Class) (t : ℕ) (c : Class) → t < length cs →
     known_class (set cs t c) t ≡ c
 class_same cs t c lt = get_or-set_same cs t c class.NoValue lt
 
+-- a class that is put at one type's place leaves the others as they are
 pub class_other : (cs : List Class) (t u : ℕ) (c : Class) → u ≢ t →
     known_class (set cs t c) u ≡ known_class cs u
 class_other cs t u c ne = get_or-set_other cs t u c class.NoValue ne
 
+-- where a type that had not settled gets a class with a value, one less has not settled
 unsettled-set : (cs : List Class) (t : ℕ) (c : Class) → t < length cs →
     has_value (known_class cs t) ≡ false → has_value c ≡ true →
     unsettled (set cs t c) + 1 ≡ unsettled cs
@@ -72,9 +77,11 @@ unsettled-set (d ∷ cs) zero c lt e f = rw (e, f) (omega arith)
 unsettled-set (d ∷ cs) (suc t) c lt e f =
     omega (arith, unsettled-set cs t c (omega (arith, lt)) e f)
 
+-- no test both holds and fails
 both : (b : Bool) → b ≡ true → b ≡ false → ⊥
 both b e f = let no = sym e ∙ f in cc
 
+-- what had settled has settled after a further type gets a class with a value
 with_keeps : (s : Progress) (t : ℕ) (f : Found) → t < length s.classes → has_value f.class ≡ true →
     (u : ℕ) → has_settled s u ≡ true → has_settled (with_found s t f) u ≡ true
 with_keeps s t f lt v u e = elim (cases_eq u t) [
@@ -82,6 +89,7 @@ with_keeps s t f lt v u e = elim (cases_eq u t) [
   | inr other ↦ rw (class_other s.classes t u f.class other) e
 ]
 
+-- all stays consistent where a type settles as what it is and had not settled before
 with_consistent : (r : List TypeInfo) (propagated : List ℕ) (s : Progress) (t : ℕ) (f : Found) →
     IsConsistent r propagated s → t < length r → has_settled s t ≡ false → IsFound r t f →
     IsConsistent r propagated (with_found s t f)
@@ -159,6 +167,7 @@ pub record SettlesTo (r : List TypeInfo) (propagated : List ℕ) (s n : Progress
     pub counters : n.counters ≡ s.counters
     pub settled : has_settled n t ≡ true
 
+-- a type settles, or has settled before, and all stays consistent if what was found is right
 pub settles_to : (r : List TypeInfo) (propagated : List ℕ) (s : Progress) (t : ℕ) (f : Found) →
     IsConsistent r propagated s → t < length r → (has_settled s t ≡ false → IsFound r t f) →
     SettlesTo r propagated s (settled_as s t f) t
@@ -182,6 +191,7 @@ settles_to r propagated s t f h lt found = go (has_settled s t) refl where
 
 -- ---- parts that all have values
 
+-- where all parts have values, they are Sized together if one is, and else Empty
 parts_sized : (f : ℕ → Class) (ps : List ℕ) → list_all (λ p. has_value (f p)) ps ≡ true →
     class_of_parts f ps ≡ class_by (list_any (λ p. is_sized (f p)) ps)
 parts_sized f [] h = refl
@@ -195,6 +205,7 @@ parts_sized f (p ∷ ps) h = let parts =
       go class.Sized true v e = rw e refl
       go class.Sized false v e = rw e refl
 
+-- where a test fails for each in a list, it holds for none
 any_not : (test : ℕ → Bool) (ps : List ℕ) → list_all (λ p. not (test p)) ps ≡ true →
     list_any test ps ≡ false
 any_not test [] h = refl
@@ -214,6 +225,7 @@ some_propagated test (x ∷ xs) h = elim (or_parts (test x) (list_any test xs) h
   | inr there ↦ let s = some_propagated test xs there in (s.0, omega (arith, s.1), s.2)
 ]
 
+-- where a test holds for none in a list, it fails for what is in it
 none_propagated : (test : ℕ → Bool) (xs : List ℕ) (e : ℕ) → list_any test xs ≡ false →
     0 < times e xs → test e ≡ false
 none_propagated test [] e h lt = absurd (omega (arith, lt))
@@ -232,6 +244,7 @@ pub record IsWhole (r : List TypeInfo) (propagated : List ℕ) (s : Progress) (k
   pub values : list_all (λ p. has_value (class_of r p)) (rule_at r k).parts ≡ true
   pub sized : (counter_at s k).sized ≡ list_any (λ p. is_sized (class_of r p)) (rule_at r k).parts
 
+-- a counter that has nothing left has only parts with values, and knows whether one takes bytes
 pub whole : (r : List TypeInfo) (propagated : List ℕ) (s : Progress) (k : ℕ) →
     IsConsistent r propagated s → (counter_at s k).left ≡ 0 → IsWhole r propagated s k
 whole r propagated s k h none =
@@ -274,21 +287,25 @@ whole r propagated s k h none =
                 go true p = sym p
                 go false p = refl
 
+-- parts that all have values have one together, whether they take bytes or not
 class_by-value : (b : Bool) → has_value (class_by b) ≡ true
 class_by-value true = refl
 class_by-value false = refl
 
+-- a compact always has a value by its class
 compact-value : (o : Option Target) → has_value (class_of_compact o) ≡ true
 compact-value o = go (is_unit o) where
   go : (b : Bool) → has_value (cond b class.Empty class.Sized) ≡ true
   go true = refl
   go false = refl
 
+-- a part without bytes changes nothing of a class that it is joined to
 one_part : (c : Class) → joined c class.Empty ≡ c
 one_part class.NoValue = refl
 one_part class.Empty = refl
 one_part class.Sized = refl
 
+-- what a right rule finds of its owner is so, where all parts have values
 found_by : (r : List TypeInfo) (t : ℕ) (ps : List ℕ) (k : Kind) (b : Bool) (last : Option Target) →
     IsRightBy r t ps k → list_all (λ p. has_value (class_of r p)) ps ≡ true →
     b ≡ list_any (λ p. is_sized (class_of r p)) ps →
@@ -327,6 +344,7 @@ pub record CompletesTo (r : List TypeInfo) (propagated : List ℕ) (s n : Progre
     pub counters : n.counters ≡ s.counters
     pub settled : settles (rule_at r k).kind ≡ true → has_settled n (rule_at r k).owner ≡ true
 
+-- where what a rule finds is right, its owner settles, unless the rule settles none
 by_outcome : (r : List TypeInfo) (propagated : List ℕ) (s : Progress) (k : ℕ) (o : Option Found) →
     IsConsistent r propagated s → (rule_at r k).owner < length r →
     ((f : Found) → o ≡ Some f → IsFound r (rule_at r k).owner f) →
@@ -349,6 +367,7 @@ by_outcome r propagated s k (Some f) h lt found idle =
       settled = λ _. done.settled;
     }
 
+-- a rule that finds nothing settles no owner
 idle_only : (k : Kind) (b : Bool) (last : Option Target) → outcome k b last ≡ None →
     settles k ≡ false
 idle_only kind.Idle b last e = refl
@@ -357,6 +376,7 @@ idle_only kind.Wrap b last e = absurd cc
 idle_only kind.Compact b last e = absurd cc
 idle_only (kind.Fixed f) b last e = absurd cc
 
+-- a counter that has nothing left settles its owner, as what that is
 pub completes_to : (r : List TypeInfo) (propagated : List ℕ) (s : Progress) (k : ℕ)
     (last : Option Target) → IsConsistent r propagated s → k < length (rules r) →
     (counter_at s k).left ≡ 0 → ((u : ℕ) → (rule_at r k).parts ≡ u ∷ [] → last ≡ target_of r u) →

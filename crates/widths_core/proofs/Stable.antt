@@ -16,11 +16,13 @@ use Rattle.widths_core.proofs.Known.{empty_finite, empty_next, finite_next}
 use Rattle.widths_core.proofs.TargetsFound.{targets_are_found}
 use Rattle.widths_core.proofs.Settled.{is_empty_class, has_value-step, is_empty-step, class_is}
 
+-- two tests that follow from each other are the same
 pub same_test : (a b : Bool) → (a ≡ true → b ≡ true) → (b ≡ true → a ≡ true) → a ≡ b
 same_test true b f g = sym (f refl)
 same_test false true f g = g refl
 same_test false false f g = refl
 
+-- a type is finite exactly where its definition has a value by the types that are finite
 finite_stable : (r : List TypeInfo) (t : ℕ) (d : TypeDef) → shape r t ≡ Some d →
     is_finite r t ≡ finite_step (is_finite r) d
 unfolding finite_within
@@ -30,6 +32,7 @@ finite_stable r t d e = same_test (is_finite r t) (finite_step (is_finite r) d) 
       forth h = sym (holds_at-shape r (finite_step (finite_within r (length r))) t d e)
           ∙ finite_up r (length r) t h
 
+-- a type is empty exactly where its definition takes no bytes by the types that are empty
 empty_stable : (r : List TypeInfo) (t : ℕ) (d : TypeDef) → shape r t ≡ Some d →
     is_empty r t ≡ empty_step r (is_empty r) d
 unfolding empty_within
@@ -41,6 +44,7 @@ empty_stable r t d e = same_test (is_empty r t) (empty_step r (is_empty r) d) fo
   back : empty_step r (is_empty r) d ≡ true → is_empty r t ≡ true
   back h = let k = empty_next r t d e h in (ranks_settle r t k.0).1 k.1
 
+-- a class made of two tests tells both again, where the first follows from the second
 from_tests : (a b : Bool) → (b ≡ true → a ≡ true) → (has_value (class_from a b) ≡ a)
     × (is_empty_class (class_from a b) ≡ b)
 from_tests true true f = (refl, refl)
@@ -48,12 +52,15 @@ from_tests true false f = (refl, refl)
 from_tests false true f = let no = f refl in absurd cc
 from_tests false false f = (refl, refl)
 
+-- by its class, a type has a value exactly where it is finite
 pub has_value-class_of : (r : List TypeInfo) (t : ℕ) → has_value (class_of r t) ≡ is_finite r t
 has_value-class_of r t = (from_tests (is_finite r t) (is_empty r t) (empty_finite r t)).0
 
+-- the class of a type is Empty exactly where the type takes no bytes
 is_empty-class_of : (r : List TypeInfo) (t : ℕ) → is_empty_class (class_of r t) ≡ is_empty r t
 is_empty-class_of r t = (from_tests (is_finite r t) (is_empty r t) (empty_finite r t)).1
 
+-- the class of a type follows from the classes of its parts by its definition
 pub class_stable : (r : List TypeInfo) (t : ℕ) (d : TypeDef) → shape r t ≡ Some d →
     class_of r t ≡ class_step (target_of r) (class_of r) d
 class_stable r t d e =
@@ -69,16 +76,19 @@ class_stable r t d e =
 
 -- ---- targets
 
+-- where a type leads through another, a target of the first is one of the other
 behind : (r : List TypeInfo) (t u : ℕ) (m : Target) → leads r t ≡ through u → HasTarget r t m →
     HasTarget r u m
 behind r t u m e (here f) = let no = sym e ∙ f in absurd cc
 behind r t u m e (there {u = v} f h) = let both : through v ≡ through u = sym f ∙ e in
     let same : v ≡ u = cc in subst (λ (w : ℕ). HasTarget r w m) same h
 
+-- a type that leads nowhere has no target
 none_there : (r : List TypeInfo) (t : ℕ) (m : Target) → leads r t ≡ nowhere → HasTarget r t m → ⊥
 none_there r t m e (here f) = let no = sym e ∙ f in cc
 none_there r t m e (there f h) = let no = sym e ∙ f in cc
 
+-- a type that has no target by the relation has none by the computation
 no_target : (r : List TypeInfo) (t : ℕ) → ((m : Target) → HasTarget r t m → ⊥) →
     target_of r t ≡ None
 no_target r t f = go (target_of r t) refl where
@@ -86,6 +96,7 @@ no_target r t f = go (target_of r t) refl where
   go None e = e
   go (Some m) e = absurd (f m ((targets_are_found r t m).1 e))
 
+-- the target of a type follows from those of the types that it leads to, however it leads
 target_by : (r : List TypeInfo) (t : ℕ) (l : Leads) → leads r t ≡ l →
     target_of r t ≡ target_from (target_of r) l
 target_by r t (ends m) e = (targets_are_found r t m).0 (here e)
@@ -96,6 +107,7 @@ target_by r t (through u) e = go (target_of r u) refl where
   go None f = no_target r t (λ m h. let is = (targets_are_found r u m).0 (behind r t u m e h) in
       let no = sym f ∙ is in cc) ∙ sym f
 
+-- the target of a type follows from those of other types by its definition
 pub target_stable : (r : List TypeInfo) (t : ℕ) (d : TypeDef) → shape r t ≡ Some d →
     target_of r t ≡ target_from (target_of r) (leads_shape d)
 target_stable r t d e = target_by r t (leads_shape d) (rw (e, leads) refl)

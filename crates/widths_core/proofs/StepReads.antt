@@ -23,21 +23,25 @@ use Rattle.widths_core.specs.Steps.{sequence_step, array_step, class_of_step, co
 use Rattle.widths_core.proofs.Stable.{class_stable}
 use Rattle.widths_core.proofs.DraftsTo.{shape_within}
 
+-- at a number that is no position stands no definition
 pub shape_none : (r : List TypeInfo) (t : ℕ) → length r ≤ t → shape r t ≡ None
 shape_none [] t le = refl
 shape_none (x ∷ r) zero le = absurd (omega (arith, le))
 shape_none (x ∷ r) (suc t) le = shape_none r t (omega (arith, le))
 
+-- at each position stands a definition
 pub shape_some : (r : List TypeInfo) (t : ℕ) → t < length r → (d : TypeDef) × (shape r t ≡ Some d)
 shape_some [] t lt = absurd (omega (arith, lt))
 shape_some (x ∷ r) zero lt = (x.shape, refl)
 shape_some (x ∷ r) (suc t) lt = shape_some r t (omega (arith, lt))
 
+-- a number at which no step is read is not below the number of steps
 pub get_none : (xs : List Step) (t : ℕ) → slice_get xs t ≡ None → length xs ≤ t
 get_none [] t e = omega arith
 get_none (x ∷ xs) zero e = absurd cc
 get_none (x ∷ xs) (suc t) e = let le = get_none xs t e in omega (arith, le)
 
+-- the step of a type remains so where nothing is asked of the rows
 weaker : (r : List TypeInfo) (refs : List ℕ) (Row : ℕ → ℕ → List Arm → Type 0) (c : Class)
     (d : TypeDef) (s : Step) → IsStep r refs Row c d s →
     IsStep r refs (λ from count arms. Unit {0}) c d s
@@ -60,6 +64,7 @@ definition_of r refs rows steps t s h e =
     let d = shape_some r t (omega (arith, lt, h.count)) in
     (d.0, d.1, h.own t d.0 s d.1 e)
 
+-- what the table has at a number is the step of the type there, or none where there is none
 pub step_at : (r : List TypeInfo) (refs : List ℕ) (rows : Rows) (steps : List Step) (t : ℕ) →
     IsTable r refs rows steps → IsStepAt r t (slice_get steps t)
 step_at r refs rows steps t h = go (slice_get steps t) refl where
@@ -77,12 +82,14 @@ step_at r refs rows steps t h = go (slice_get steps t) refl where
 
 -- ---- the class and the target of a compact
 
+-- a step that is chosen by a class tells this class, where the two to choose from tell theirs
 class_by : (c : Class) (none sized : Step) → class_of_step none ≡ class.NoValue →
     class_of_step sized ≡ class.Sized → class_of_step (by_class c none sized) ≡ c
 class_by class.NoValue none sized e f = e
 class_by class.Empty none sized e f = refl
 class_by class.Sized none sized e f = f
 
+-- the step of a sequence that has values tells that it takes bytes
 sized_sequence : (c : Class) (byte : Bool) (t : ℕ) →
     class_of_step (sequence_step c byte t) ≡ class.Sized
 sized_sequence class.NoValue true t = refl
@@ -91,10 +98,12 @@ sized_sequence class.Empty byte t = refl
 sized_sequence class.Sized true t = refl
 sized_sequence class.Sized false t = refl
 
+-- the step of an array that takes bytes tells so
 sized_array : (byte : Bool) (n t : ℕ) → class_of_step (array_step byte n t) ≡ class.Sized
 sized_array true n t = refl
 sized_array false n t = refl
 
+-- the step of a type tells the type's class
 class_is : (r : List TypeInfo) (refs : List ℕ) (Row : ℕ → ℕ → List Arm → Type 0) (t : ℕ)
     (d : TypeDef) (s : Step) → shape r t ≡ Some d → IsStep r refs Row (class_of r t) d s →
     class_of_step s ≡ class_of r t
@@ -117,12 +126,14 @@ class_is r refs Row t (Def.Compact u) s e h = rw h (sym (class_stable r t (Def.C
 class_is r refs Row t (Def.BitSequence store order) s e h =
     rw h (class_by (class_of r t) step.NoValue step.BitSequence refl refl)
 
+-- a step that is chosen by a class tells no target where the two to choose from tell none
 compact_by : (c : Class) (none sized : Step) → compact_of_step none ≡ None →
     compact_of_step sized ≡ None → compact_of_step (by_class c none sized) ≡ None
 compact_by class.NoValue none sized e f = e
 compact_by class.Empty none sized e f = refl
 compact_by class.Sized none sized e f = f
 
+-- the step of a sequence tells no target of a compact
 sequence_no_compact : (c : Class) (byte : Bool) (t : ℕ) →
     compact_of_step (sequence_step c byte t) ≡ None
 sequence_no_compact class.NoValue true t = refl
@@ -131,10 +142,12 @@ sequence_no_compact class.Empty byte t = refl
 sequence_no_compact class.Sized true t = refl
 sequence_no_compact class.Sized false t = refl
 
+-- the step of an array tells no target of a compact
 array_no_compact : (byte : Bool) (n t : ℕ) → compact_of_step (array_step byte n t) ≡ None
 array_no_compact true n t = refl
 array_no_compact false n t = refl
 
+-- the step of a type tells the target where it is a compact, and else none
 compact_is : (r : List TypeInfo) (refs : List ℕ) (Row : ℕ → ℕ → List Arm → Type 0) (c : Class)
     (d : TypeDef) (s : Step) → IsStep r refs Row c d s →
     compact_of_step s ≡ compact_target_of_shape r (Some d)
@@ -156,6 +169,7 @@ compact_is r refs Row c (Def.Compact u) s h = rw h refl
 compact_is r refs Row c (Def.BitSequence store order) s h =
     rw h (compact_by c step.NoValue step.BitSequence refl refl)
 
+-- where a step is read, there is such a type, and the step tells its class
 pub class_read : (r : List TypeInfo) (t : ℕ) (o : Option Step) (s : Step) → IsStepAt r t o →
     o ≡ Some s → (t < length r) × (class_of_step s ≡ class_of r t)
 class_read r t o s h f = go (shape r t) refl where
@@ -170,6 +184,7 @@ class_read r t o s h f = go (shape r t) refl where
             (class_is r (references_of r) (λ from count arms. Unit {0}) t d x.0 e x.2),
       )
 
+-- where no step is read, there is no such type
 pub class_unknown : (r : List TypeInfo) (t : ℕ) → IsStepAt r t None → length r ≤ t
 class_unknown r t h = elim (cases_lt t (length r)) [
   | inl below ↦ let d = shape_some r t below in let x = rw (IsStepAt, d.1) at h in let no = x.1 in
@@ -177,6 +192,7 @@ class_unknown r t h = elim (cases_lt t (length r)) [
   | inr past ↦ past
 ]
 
+-- what the step that is read tells of a target, or none without a step, is the type's own
 pub compact_read : (r : List TypeInfo) (t : ℕ) (o : Option Step) (m : Option Target) →
     IsStepAt r t o → ((s : Step) → o ≡ Some s → m ≡ compact_of_step s) → (o ≡ None → m ≡ None) →
     m ≡ compact_target_of r t
@@ -188,6 +204,7 @@ compact_read r t o m h some none = go (shape r t) refl where
       some x.0 x.1 ∙ compact_is r (references_of r) (λ from count arms. Unit {0}) (class_of r t) d
       x.0 x.2 ∙ sym (rw e refl)
 
+-- the step of a type stays its step where registry and step are replaced by equal ones
 pub step_read : (r q : List TypeInfo) (t : ℕ) (o p : Option Step) → q ≡ r → p ≡ o → IsStepAt r t o →
     IsStepAt q t p
 step_read r q t o p e f h =

@@ -28,16 +28,19 @@ use Rattle.widths_core.proofs.StepReads.{shape_none, shape_some}
 
 -- ---- of the drafts that were passed
 
+-- a step that is put at the end leaves the others where they are
 get_left : (xs : List Step) (y : Step) (t : ℕ) → t < length xs →
     slice_get (xs ++ y ∷ []) t ≡ slice_get xs t
 get_left [] y t lt = absurd (omega (arith, lt))
 get_left (x ∷ xs) y zero lt = refl
 get_left (x ∷ xs) y (suc t) lt = get_left xs y t (omega (arith, lt))
 
+-- a step that is put at the end is read there
 get_last : (xs : List Step) (y : Step) → slice_get (xs ++ y ∷ []) (length xs) ≡ Some y
 get_last [] y = refl
 get_last (x ∷ xs) y = get_last xs y
 
+-- a place within the list has a draft, the one that reading with a default gives
 pub get_at : (xs : List Draft) (t : ℕ) (d : Draft) → t < length xs →
     slice_get xs t ≡ Some (get_or xs t d)
 get_at [] t d lt = absurd (omega (arith, lt))
@@ -51,10 +54,12 @@ pub record StepsTo (classes : ℕ → Class) (targets : ℕ → Option Target) (
   pub own : (t : ℕ) (d : Draft) (s : Step) → slice_get drafts t ≡ Some d →
       slice_get steps t ≡ Some s → s ≡ step_by classes targets bytes (classes t) d
 
+-- before the first draft there are no steps
 pub steps_none : (classes : ℕ → Class) (targets : ℕ → Option Target) (bytes : ℕ → Bool)
     (drafts : List Draft) → StepsTo classes targets bytes drafts 0 []
 steps_none classes targets bytes drafts = record { count = refl; own = λ t d s e f. absurd cc }
 
+-- with the step of the next draft, one draft more has its step
 pub steps_more : (classes : ℕ → Class) (targets : ℕ → Option Target) (bytes : ℕ → Bool)
     (drafts : List Draft) (i : ℕ) (steps : List Step) (d : Draft) (s : Step) →
     slice_get drafts i ≡ Some d → s ≡ step_by classes targets bytes (classes i) d →
@@ -82,6 +87,7 @@ steps_more classes targets bytes drafts i steps d s e is h = record {
         rw (← same_step, ← same_draft, ← here) is
   ]
 
+-- where all drafts were passed, each has its step
 pub steps_all : (classes : ℕ → Class) (targets : ℕ → Option Target) (bytes : ℕ → Bool)
     (drafts : List Draft) (i : ℕ) (steps : List Step) → i ≡ length drafts →
     StepsTo classes targets bytes drafts i steps → AreStepsBy classes targets bytes drafts steps
@@ -89,6 +95,7 @@ steps_all classes targets bytes drafts i steps e h = record { count = h.count �
 
 -- ---- of all types
 
+-- the step made of a type's draft is the type's, where what was found of all types is right
 step_drafted : (r : List TypeInfo) (refs : List ℕ) (Row : ℕ → ℕ → List Arm → Type 0)
     (classes : ℕ → Class) (targets : ℕ → Option Target) (bytes : ℕ → Bool) (c : Class) (d : TypeDef)
     (x : Draft) → ((t : ℕ) → classes t ≡ class_of r t) → ((t : ℕ) → targets t ≡ target_of r t) →
@@ -103,6 +110,7 @@ step_drafted r refs Row cs ms bs c (Def.Primitive p) x hc hm hb h = rw h refl
 step_drafted r refs Row cs ms bs c (Def.Compact t) x hc hm hb h = rw (h, hm t.0) refl
 step_drafted r refs Row cs ms bs c (Def.BitSequence store order) x hc hm hb h = rw h refl
 
+-- a primitive is u8 by its draft exactly where it is by its definition
 byte_same : (p : Primitive) →
     is_byte_draft (Some (draft.Primitive p)) ≡ is_byte (Some (Def.Primitive p))
 byte_same P.Bool = refl
@@ -133,11 +141,13 @@ byte_drafted refs Row (Def.Primitive p) x h = rw h (byte_same p)
 byte_drafted refs Row (Def.Compact t) x h = rw h refl
 byte_drafted refs Row (Def.BitSequence store order) x h = rw h refl
 
+-- a place within the list has a draft
 get_some : (xs : List Draft) (t : ℕ) → t < length xs → (x : Draft) × (slice_get xs t ≡ Some x)
 get_some [] t lt = absurd (omega (arith, lt))
 get_some (x ∷ xs) zero lt = (x, refl)
 get_some (x ∷ xs) (suc t) lt = get_some xs t (omega (arith, lt))
 
+-- a place behind the list has no draft
 get_past : (xs : List Draft) (t : ℕ) → length xs ≤ t → slice_get xs t ≡ None
 get_past [] t le = refl
 get_past (x ∷ xs) zero le = absurd (omega (arith, le))
@@ -155,6 +165,7 @@ known_byte_is r refs rows drafts h t = elim (cases_lt t (length r)) [
       rw (shape_none r t past, get_past drafts t (omega (arith, past, h.count))) refl
 ]
 
+-- where all has settled, the steps made of all drafts are the table of the registry
 pub table_all : (r : List TypeInfo) (cs : List Class) (ms : List (Option Target)) (refs : List ℕ)
     (rows : Rows) (drafts : List Draft) (steps : List Step) → AreSettled r cs ms refs rows drafts →
     AreStepsBy (known_class cs) (known_target ms) (known_byte drafts) drafts steps →

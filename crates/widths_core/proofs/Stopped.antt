@@ -45,6 +45,7 @@ stops_arms t i k arms x cs ds a b c o lt at h stops =
 
 -- ---- in one of the types
 
+-- a registry is the types before a position, the type that stands there, and those behind it
 split_at : (r : List TypeInfo) (i : ℕ) (d : TypeDef) → shape r i ≡ Some d → (x : TypeInfo)
     × (r ≡ take i r ++ x ∷ drop (suc i) r) × (i ≡ length (take i r)) × (x.shape ≡ d)
 split_at [] i d e = absurd cc
@@ -53,6 +54,7 @@ split_at (x ∷ r) (suc i) d e =
     let s = split_at r i d e in
     (s.0, ap (λ (y : List TypeInfo). x ∷ y) s.1, ap suc s.2, s.3)
 
+-- where linking stops in a type, the fault is the registry's first, and few looks were taken
 pub stops_types : (r : List TypeInfo) (i : ℕ) (d : TypeDef) (cs : List Counter) (a b c : Graph)
     (w : ℕ) (o : Stop) → shape r i ≡ Some d → TypesLinkedTo r i cs a w → IsOpened a b i →
     StopsLinking (all_parts (rules_of i d)) b c o → IsRefusedFor r c.looks (fault_in i o)

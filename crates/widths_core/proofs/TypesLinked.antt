@@ -19,6 +19,7 @@ use Rattle.graph_core.specs.Graphs.{refs, numbers, IsLinked, IsOpened, IsNew}
 use Rattle.widths_core.specs.Linking.{AddsRules, AreTypesLinked}
 use Rattle.widths_core.proofs.Adding.{numbers_from-append}
 
+-- the rules of one type more come behind those of the types before it
 rules_more : (r : List TypeInfo) (t i : ℕ) (d : TypeDef) → shape r i ≡ Some d →
     rules_from t (take (suc i) r) ≡ rules_from t (take i r) ++ rules_of (t + i) d
 rules_more [] t i d e = absurd cc
@@ -34,6 +35,7 @@ rules_more (x ∷ r) t (suc i) d e =
     ∙ sym (append_assoc (rules_of t x.shape) (rules_from (t + 1) (take i r))
     (rules_of (t + suc i) d))
 
+-- the width of the types from a position on is the greater of that type's and the others'
 widest_more : (r : List TypeInfo) (i : ℕ) (d : TypeDef) → shape r i ≡ Some d →
     widest (drop i r) ≡ max (width d) (widest (drop (suc i) r))
 widest_more [] i d e = absurd cc
@@ -53,6 +55,7 @@ pub record TypesLinkedTo (r : List TypeInfo) (i : ℕ) (cs : List Counter) (d : 
   pub listed : d.looks.listed.entries ≡ []
   pub wide : max w (widest (drop i r)) ≡ widest r
 
+-- with a new graph and no counter, none of the types is linked yet
 pub types_linked_none : (r : List TypeInfo) (d : Graph) → IsNew r d → TypesLinkedTo r 0 [] d 0
 types_linked_none r d h = record {
   linked = h.linked;
@@ -65,6 +68,7 @@ types_linked_none r d h = record {
   wide = omega arith;
 }
 
+-- after a look at type i there were two at most at each type, and one at those behind i
 pub again : (i t : ℕ) (log : List ℕ) → (times t log ≤ 2) × (i ≤ t → times t log ≤ 1) →
     (times t (i ∷ log) ≤ 2) × (i + 1 ≤ t → times t (i ∷ log) ≤ 1)
 again i t log h = go (i == t) refl where
@@ -74,6 +78,7 @@ again i t log h = go (i == t) refl where
       (omega (arith, h.1 (omega arith), same), λ le. absurd (omega (arith, same, le)))
   go false e = (omega (arith, h.0), λ le. omega (arith, h.1 (omega arith)))
 
+-- with a look at the next type and its rules added, one type more is linked
 pub types_linked_more : (r : List TypeInfo) (i : ℕ) (d : TypeDef) (cs ds : List Counter)
     (a b c : Graph) (w : ℕ) → shape r i ≡ Some d → TypesLinkedTo r i cs a w → IsOpened a b i →
     AddsRules (rules_of i d) cs ds b c → TypesLinkedTo r (i + 1) ds c (max w (width d))
@@ -111,6 +116,7 @@ types_linked_more r i d cs ds a b c w e h o k =
       wide rest more = let so_far : max w (max (width d) (widest rest)) ≡ widest r =
           rw more at h.wide in omega (arith, so_far)
 
+-- where all types were read, the registry is linked and its width is known
 pub types_linked_all : (r : List TypeInfo) (i : ℕ) (cs : List Counter) (d : Graph) (w : ℕ) →
     length r ≤ i → TypesLinkedTo r i cs d w → AreTypesLinked r cs d × (w ≡ widest r)
 types_linked_all r i cs d w le h =

@@ -14,32 +14,39 @@ use Rattle.widths_core.proofs.Ranks.{and_parts, or_left, or_right}
 
 -- ---- how often
 
+-- two numbers that differ are told apart by the test
 pub differ : (x y : ℕ) → x ≢ y → (x == y) ≡ false
 differ x y ne = go (x == y) refl where
   go : (b : Bool) → (x == y) ≡ b → (x == y) ≡ false
   go true e = absurd (ne (eqb-true x y e))
   go false e = e
 
+-- a number that comes to the front of a list is in it once more
 pub times-same : (x : ℕ) (xs : List ℕ) → times x (x ∷ xs) ≡ 1 + times x xs
 times-same x xs = rw (eq-eqb x x refl) refl
 
+-- another number at the front changes nothing of how often one is in a list
 pub times-other : (x y : ℕ) (xs : List ℕ) → y ≢ x → times x (y ∷ xs) ≡ times x xs
 times-other x y xs ne = rw (differ y x ne) (omega arith)
 
+-- a number is in two lists joined as often as in both together
 pub times-append : (x : ℕ) (xs ys : List ℕ) → times x (xs ++ ys) ≡ times x xs + times x ys
 times-append x [] ys = omega arith
 times-append x (y ∷ xs) ys = omega (arith, times-append x xs ys)
 
 -- ---- references that were not propagated
 
+-- a test together with one that holds is that test alone
 and_true : (b : Bool) → (b && true) ≡ b
 and_true true = refl
 and_true false = refl
 
+-- a test together with one that fails fails
 and_false : (b : Bool) → (b && false) ≡ false
 and_false true = refl
 and_false false = refl
 
+-- a reference in front of those that are counted changes nothing of how many wait
 waiting-past : (e i : ℕ) (xs : List ℕ) (k : ℕ) (propagated : List ℕ) → i < e →
     waiting e xs k (i ∷ propagated) ≡ waiting e xs k propagated
 waiting-past e i [] k propagated lt = refl
@@ -72,6 +79,7 @@ waiting-propagated (suc j) e (x ∷ xs) k propagated lt none =
     times-other e (e + suc j) propagated (omega arith) in
     rw here (omega (arith, more))
 
+-- where none of a counter's references waits, each was propagated
 pub waiting-none : (e : ℕ) (xs : List ℕ) (k : ℕ) (propagated : List ℕ) →
     waiting e xs k propagated ≡ 0 → (j : ℕ) → j < length xs → get_or xs j 0 ≡ k →
     0 < times (e + j) propagated
@@ -91,6 +99,7 @@ waiting-none e (x ∷ xs) k propagated none (suc j) lt is =
     let at : e + 1 + j ≡ e + suc j = omega arith in
     rw at at (waiting-none (e + 1) xs k propagated (omega (arith, none)) j (omega (arith, lt)) is)
 
+-- where each of a counter's references was propagated, none waits
 pub waiting-zero : (e : ℕ) (xs : List ℕ) (k : ℕ) (propagated : List ℕ) →
     ((j : ℕ) → j < length xs → get_or xs j 0 ≡ k → 0 < times (e + j) propagated) →
     waiting e xs k propagated ≡ 0
@@ -106,6 +115,7 @@ waiting-zero e (x ∷ xs) k propagated h =
           rw (differ (times e propagated) 0 (omega arith), and_false (x == k), rest) refl
       here (inr other) rest = rw (differ x k other, rest) refl
 
+-- of two lists joined, as many references wait as of the first and then of the second
 pub waiting-append : (e : ℕ) (xs ys : List ℕ) (k : ℕ) (propagated : List ℕ) →
     waiting e (xs ++ ys) k propagated ≡ waiting e xs k propagated + waiting (e + length xs)
     ys k propagated
@@ -117,6 +127,7 @@ waiting-append e (x ∷ xs) ys k propagated =
 
 -- ---- the numbers of rules
 
+-- there are as many rule numbers as parts of rules
 pub numbers-length : (s : ℕ) (xs : List Rule) → length (numbers_from s xs) ≡ length (all_parts xs)
 numbers-length s [] = refl
 numbers-length s (x ∷ xs) =
@@ -128,17 +139,20 @@ numbers-length s (x ∷ xs) =
       numbers-length (s + 1) xs,
     )
 
+-- each part of the first rule has that rule's number
 same_at : (s : ℕ) (ps rest : List ℕ) (j : ℕ) → j < length ps →
     get_or (map (λ _. s) ps ++ rest) j 0 ≡ s
 same_at s [] rest j lt = absurd (omega arith)
 same_at s (p ∷ ps) rest zero lt = refl
 same_at s (p ∷ ps) rest (suc j) lt = same_at s ps rest j (omega (arith, lt))
 
+-- behind the parts of the first rule stand the numbers of the others
 later_at : (s : ℕ) (ps rest : List ℕ) (j : ℕ) → length ps ≤ j →
     get_or (map (λ _. s) ps ++ rest) j 0 ≡ get_or rest (j - length ps) 0
 later_at s ps rest j le =
     get_or-append_right (map (λ _. s) ps) rest (length ps) j 0 (length-map ps (λ _. s)) le
 
+-- the number of each part is that of one of the rules
 pub numbers-within : (s : ℕ) (xs : List Rule) (j : ℕ) → j < length (all_parts xs) →
     (s ≤ get_or (numbers_from s xs) j 0) × (get_or (numbers_from s xs) j 0 < s + length xs)
 numbers-within s [] j lt = absurd (omega arith)
@@ -154,12 +168,14 @@ numbers-within s (x ∷ xs) j lt = elim (cases_lt j (length x.parts)) [
 
 -- ---- tests of parts
 
+-- a test that holds at each place of a list holds of all in it
 list_all_from : (test : ℕ → Bool) (ps : List ℕ) →
     ((j : ℕ) → j < length ps → test (get_or ps j 0) ≡ true) → list_all test ps ≡ true
 list_all_from test [] h = refl
 list_all_from test (p ∷ ps) h =
     rw (h 0 (omega arith), list_all_from test ps (λ j lt. h (suc j) (omega (arith, lt)))) refl
 
+-- a test that holds of all in a list holds at each of its places
 list_all_at : (test : ℕ → Bool) (ps : List ℕ) (j : ℕ) → list_all test ps ≡ true → j < length ps →
     test (get_or ps j 0) ≡ true
 list_all_at test [] j h lt = absurd (omega arith)
@@ -167,6 +183,7 @@ list_all_at test (p ∷ ps) zero h lt = (and_parts (test p) (list_all test ps) h
 list_all_at test (p ∷ ps) (suc j) h lt =
     list_all_at test ps j (and_parts (test p) (list_all test ps) h).1 (omega (arith, lt))
 
+-- a test that holds at one place of a list holds of some in it
 list_any_at : (test : ℕ → Bool) (ps : List ℕ) (j : ℕ) → j < length ps →
     test (get_or ps j 0) ≡ true → list_any test ps ≡ true
 list_any_at test [] j lt h = absurd (omega arith)
@@ -248,14 +265,17 @@ parts_each test s (x ∷ xs) (suc k) h = parts_each test (s + 1) xs k (λ j lt i
 
 -- ---- before anything is propagated
 
+-- where nothing was propagated, all parts of a rule wait for it
 waiting_same : (e s : ℕ) (ps : List ℕ) → waiting e (map (λ _. s) ps) s [] ≡ length ps
 waiting_same e s [] = refl
 waiting_same e s (p ∷ ps) = rw (eq-eqb s s refl, waiting_same (e + 1) s ps) (omega arith)
 
+-- no part of one rule waits for another
 waiting_other : (e s k : ℕ) (ps : List ℕ) → s ≢ k → waiting e (map (λ _. s) ps) k [] ≡ 0
 waiting_other e s k [] ne = refl
 waiting_other e s k (p ∷ ps) ne = rw (differ s k ne, waiting_other (e + 1) s k ps ne) refl
 
+-- where nothing was propagated, as many references wait for a rule as it has parts
 pub waiting_start : (e s : ℕ) (xs : List Rule) (k : ℕ) →
     waiting e (numbers_from s xs) (s + k) [] ≡ length (get_or xs k nothing).parts
 waiting_start e s [] k = refl

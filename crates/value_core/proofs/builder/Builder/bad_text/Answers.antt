@@ -6,6 +6,7 @@ use Rattle.std.proofs.lemmas.List.{take_rest}
 use Rattle.std.proofs.lemmas.Str.{IsUtf8-from_is_utf8, is_utf8-from_IsUtf8}
 use Rattle.value_core.proofs.builder.Builder.bad_text.Goals as goal
 
+-- bytes that are not UTF-8 fail the test for it
 not_utf8 : (s : List ℕ) → (IsUtf8 s → ⊥) → is_utf8 s ≡ false
 not_utf8 s h = by (is_utf8 s) refl where
   by : (b : Bool) → is_utf8 s ≡ b → is_utf8 s ≡ false
