@@ -141,7 +141,8 @@ elements_takes r room t u child h f b (Ok n) k = then_takes (One r (suc room) t)
     (inr (u, k.0, c, f, rw vals.1 k.2, refl, vals.0), omega arith)))
 
 -- what spells a run is a value of its type
-run_value : (r : List TypeInfo) (room t : ℕ) (k : RunKind) → layout r t ≡ layout.plain (layout.run k) →
+run_value : (r : List TypeInfo) (room t : ℕ) (k : RunKind) →
+    layout r t ≡ layout.plain (layout.run k) →
     (s c : List ℕ) → SpellsRun k s c → One r (suc room) t (leaf (run_leaf k s)) c
 unfolding Val
 run_value r room t kind.Text e s c is = ((e, is), omega arith)

@@ -91,7 +91,8 @@ shaped_sized r (Def.Composite fs) = tt
 shaped_sized r (Def.Variant as') = refl
 shaped_sized r (Def.Sequence t) = shaped_sequence t.0 (is_empty r t.0) (is_byte (shape r t.0))
     (Some (Def.Sequence t)) refl
-shaped_sized r (Def.Array n t) = shaped_array n t.0 (is_byte (shape r t.0)) (Some (Def.Array n t)) refl
+shaped_sized r (Def.Array n t) =
+    shaped_array n t.0 (is_byte (shape r t.0)) (Some (Def.Array n t)) refl
 shaped_sized r (Def.Tuple ts) = tt
 shaped_sized r (Def.Primitive p) = shaped_kind (kind_of p) (Some (Def.Primitive p)) refl
 shaped_sized r (Def.Compact t) = shaped_compact (target_of r t.0) (Some (Def.Compact t))

@@ -121,9 +121,12 @@ form_from (suc (suc (suc (suc (suc (suc zero)))))) n m z s = leaf (tree.signed z
 form_from (suc (suc (suc (suc (suc (suc (suc zero))))))) n m z s = leaf (tree.wide s)
 form_from (suc (suc (suc (suc (suc (suc (suc (suc zero)))))))) n m z s = leaf (tree.compact n)
 form_from (suc (suc (suc (suc (suc (suc (suc (suc (suc zero))))))))) n m z s = leaf (tree.count n)
-form_from (suc (suc (suc (suc (suc (suc (suc (suc (suc (suc zero)))))))))) n m z s = branch tree.fields n
-form_from (suc (suc (suc (suc (suc (suc (suc (suc (suc (suc (suc zero))))))))))) n m z s = branch (tree.arm n) m
-form_from (suc (suc (suc (suc (suc (suc (suc (suc (suc (suc (suc (suc k)))))))))))) n m z s = branch tree.list n
+form_from (suc (suc (suc (suc (suc (suc (suc (suc (suc (suc zero)))))))))) n m z s =
+    branch tree.fields n
+form_from (suc (suc (suc (suc (suc (suc (suc (suc (suc (suc (suc zero))))))))))) n m z s =
+    branch (tree.arm n) m
+form_from (suc (suc (suc (suc (suc (suc (suc (suc (suc (suc (suc (suc k)))))))))))) n m z s =
+    branch tree.list n
 
 abbrev head_from : Stored → Head
 head_from x = form_from x.0 x.1.0 x.1.1.0 x.1.1.1.0 x.1.1.1.1

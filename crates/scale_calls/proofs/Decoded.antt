@@ -82,18 +82,30 @@ told_fault forbidden j b f none other h = (none, faulted j b f other h, h)
 by_reason : (r : DecodeReason) (forbidden : Option OpenFault) (j : Job) (b : List ℕ)
     (f : DecodeFault) → r ≡ f.reason → forbidden ≡ None → FinishesDecoder j b (Err f) →
     RefusesValue forbidden j b (value_refusal_by r f)
-by_reason reason.Truncated forbidden j b f is none h = told_fault forbidden j b f none (λ e. let bad = is ∙ e in cc) h
-by_reason reason.BadBool forbidden j b f is none h = told_fault forbidden j b f none (λ e. let bad = is ∙ e in cc) h
-by_reason reason.BadChar forbidden j b f is none h = told_fault forbidden j b f none (λ e. let bad = is ∙ e in cc) h
-by_reason reason.BadUtf8 forbidden j b f is none h = told_fault forbidden j b f none (λ e. let bad = is ∙ e in cc) h
-by_reason reason.CompactNotShortest forbidden j b f is none h = told_fault forbidden j b f none (λ e. let bad = is ∙ e in cc) h
-by_reason reason.CompactTooLarge forbidden j b f is none h = told_fault forbidden j b f none (λ e. let bad = is ∙ e in cc) h
-by_reason reason.NoSuchVariant forbidden j b f is none h = told_fault forbidden j b f none (λ e. let bad = is ∙ e in cc) h
-by_reason reason.TooDeep forbidden j b f is none h = told_fault forbidden j b f none (λ e. let bad = is ∙ e in cc) h
-by_reason reason.NoFiniteValue forbidden j b f is none h = told_fault forbidden j b f none (λ e. let bad = is ∙ e in cc) h
-by_reason reason.BitSequence forbidden j b f is none h = told_fault forbidden j b f none (λ e. let bad = is ∙ e in cc) h
-by_reason reason.BadCompact forbidden j b f is none h = told_fault forbidden j b f none (λ e. let bad = is ∙ e in cc) h
-by_reason reason.TooLong forbidden j b f is none h = told_fault forbidden j b f none (λ e. let bad = is ∙ e in cc) h
+by_reason reason.Truncated forbidden j b f is none h =
+    told_fault forbidden j b f none (λ e. let bad = is ∙ e in cc) h
+by_reason reason.BadBool forbidden j b f is none h =
+    told_fault forbidden j b f none (λ e. let bad = is ∙ e in cc) h
+by_reason reason.BadChar forbidden j b f is none h =
+    told_fault forbidden j b f none (λ e. let bad = is ∙ e in cc) h
+by_reason reason.BadUtf8 forbidden j b f is none h =
+    told_fault forbidden j b f none (λ e. let bad = is ∙ e in cc) h
+by_reason reason.CompactNotShortest forbidden j b f is none h =
+    told_fault forbidden j b f none (λ e. let bad = is ∙ e in cc) h
+by_reason reason.CompactTooLarge forbidden j b f is none h =
+    told_fault forbidden j b f none (λ e. let bad = is ∙ e in cc) h
+by_reason reason.NoSuchVariant forbidden j b f is none h =
+    told_fault forbidden j b f none (λ e. let bad = is ∙ e in cc) h
+by_reason reason.TooDeep forbidden j b f is none h =
+    told_fault forbidden j b f none (λ e. let bad = is ∙ e in cc) h
+by_reason reason.NoFiniteValue forbidden j b f is none h =
+    told_fault forbidden j b f none (λ e. let bad = is ∙ e in cc) h
+by_reason reason.BitSequence forbidden j b f is none h =
+    told_fault forbidden j b f none (λ e. let bad = is ∙ e in cc) h
+by_reason reason.BadCompact forbidden j b f is none h =
+    told_fault forbidden j b f none (λ e. let bad = is ∙ e in cc) h
+by_reason reason.TooLong forbidden j b f is none h =
+    told_fault forbidden j b f none (λ e. let bad = is ∙ e in cc) h
 by_reason reason.OutOfMemory forbidden j b f is none h = tt
 
 -- what forbids a decoder is why the bytes are refused

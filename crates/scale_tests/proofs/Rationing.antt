@@ -70,10 +70,13 @@ module _ {M : Type 1} {𝓤 : Ura M} (𝓛 : Logic 𝓤) (at_mem : Memory → SP
           (sem 𝓛 (hidden_shr Count κ (record { value = tt }) place.0 place.1)) (A.lft κ q))
           (Counts.pre at_count)
       count_goes =
-          qed 𝓛 (‵ (hidden_shr Count κ (record { value = tt }) place.0 place.1) ∷ ‵ (flft κ q) ∷ []) ∵
-          feq_i ! (List Val) (vptr place.0 place.1 ∷ []) (vptr place.0 place.1 ∷ []) refl $ fjoin ! $
+          qed 𝓛 (‵ (hidden_shr Count κ (record { value = tt }) place.0 place.1)
+          ∷ ‵ (flft κ q) ∷ []) ∵
+          feq_i ! (List Val) (vptr place.0 place.1 ∷ []) (vptr place.0 place.1 ∷ [])
+          refl $ fjoin ! $
           nothing ! $ move ! (1 ∷ []) $
-          fjoin ! $ nothing ! $ move ! (2 ∷ []) $ join ! $ join ! $ nothing ! $ move ! (1 ∷ []) $ done
+          fjoin ! $ nothing ! $ move ! (2 ∷ []) $ join ! $ join ! $ nothing ! $
+          move ! (1 ∷ []) $ done
           !
 
       -- the count's call gives the token back, and whether this request is to be refused

@@ -51,7 +51,8 @@ range_more pool more start end h k =
       range_front [] (suc start) (suc end) h = nothing (suc end - suc start) start
       range_front (x ∷ xs) (suc start) zero h = absurd (omega arith)
       range_front (x ∷ xs) (suc start) (suc end) h =
-          ap (λ (k : ℕ). take k (drop start xs)) (omega arith) ∙ range_front xs start end (omega arith)
+          ap (λ (k : ℕ). take k (drop start xs)) (omega arith)
+          ∙ range_front xs start end (omega arith)
 
 -- a node whose bytes lie in the pool shows the same where more bytes come to the pool
 head_more : (pool more : List ℕ) (n : ℕ) (c : Content) → IsInPool pool c →
@@ -434,4 +435,5 @@ open_whole w pool kept o k h e =
     ) where
       ok_is : {E : Type 0} {j : RunKind} {n : ℕ} →
           ◌≡◌ {A = Result (RunKind × ℕ) E} (Ok (j, n)) (Ok (k, 0)) → n ≡ 0
-      ok_is {j = j} {n = n} e = let same : (j, n) ≡ (k, 0) = cc in ap (λ (p : RunKind × ℕ). p.1) same
+      ok_is {j = j} {n = n} e = let same : (j, n) ≡ (k, 0) = cc in
+          ap (λ (p : RunKind × ℕ). p.1) same

@@ -136,7 +136,8 @@ step_suits : (r : List TypeInfo) (c : Class) (d : TypeDef) (s : Step) →
     IsStep r (references_of r) (λ from count arms. Unit {0}) c d s → opens_parts s ≡ true →
     suits s d ≡ true
 step_suits r c (Def.Composite fs) s is o =
-    suits_by_class c step.NoValue (step.Parts is.0 is.1) s (Def.Composite fs) refl (λ e. refl) is.2 o
+    suits_by_class c step.NoValue (step.Parts is.0 is.1) s (Def.Composite fs) refl
+    (λ e. refl) is.2 o
 step_suits r c (Def.Tuple ts) s is o =
     suits_by_class c step.NoValue (step.Parts is.0 is.1) s (Def.Tuple ts) refl (λ e. refl) is.2 o
 step_suits r c (Def.Variant arms) s is o =
@@ -212,13 +213,16 @@ parts_open w from count from' count' c ts e parts o =
 
 -- where fields are next, they are the piece of references that the step ahead tells
 fields_open : (w : Walked) (from count : ℕ) → next_of w ≡ next.Wants form.Fields →
-    IsStepAhead w.types (next_type w) (Some (step.Parts from count)) → Opens w (members_of from count)
+    IsStepAhead w.types (next_type w) (Some (step.Parts from count)) →
+    Opens w (members_of from count)
 fields_open w from count h a =
     let k = known w (step.Parts from count) (λ e. absurd cc) a in
     let c = class_of w.types k.ty in
     go c k.d k.shape_is k.is (step_suits w.types c k.d (step.Parts from count) k.is refl) where
-      go : (c : Class) (d : TypeDef) → Some d ≡ next_shape w → IsStep w.types (references_of w.types)
-          (λ from count arms. Unit {0}) c d (step.Parts from count) → suits (step.Parts from count) d ≡ true →
+      go : (c : Class) (d : TypeDef) → Some d ≡ next_shape w →
+          IsStep w.types (references_of w.types)
+          (λ from count arms. Unit {0}) c d (step.Parts from count) →
+          suits (step.Parts from count) d ≡ true →
           Opens w (members_of from count)
       go c (Def.Composite fs) s is f = parts_open w from count is.0 is.1 c
           (field_types fs) is.2 is.3 (composite_opens w fs h s)
@@ -238,7 +242,8 @@ elements_open w n m t h a =
     let k = known w (step.Array m t) (λ e. absurd cc) a in
     let c = class_of w.types k.ty in
     go c k.d k.shape_is k.is (step_suits w.types c k.d (step.Array m t) k.is refl) where
-      go : (c : Class) (d : TypeDef) → Some d ≡ next_shape w → IsStep w.types (references_of w.types)
+      go : (c : Class) (d : TypeDef) → Some d ≡ next_shape w →
+          IsStep w.types (references_of w.types)
           (λ from count arms. Unit {0}) c d (step.Array m t) → suits (step.Array m t) d ≡ true →
           OpensElements w n (times n t)
       go c (Def.Array m' u) s is f =
@@ -260,7 +265,8 @@ sequence_elements_open w n t h a =
     let k = known w (step.Sequence t) (λ e. absurd cc) a in
     let c = class_of w.types k.ty in
     go c k.d k.shape_is k.is (step_suits w.types c k.d (step.Sequence t) k.is refl) where
-      go : (c : Class) (d : TypeDef) → Some d ≡ next_shape w → IsStep w.types (references_of w.types)
+      go : (c : Class) (d : TypeDef) → Some d ≡ next_shape w →
+          IsStep w.types (references_of w.types)
           (λ from count arms. Unit {0}) c d (step.Sequence t) → suits (step.Sequence t) d ≡ true →
           OpensElements w n (times n t)
       go c (Def.Sequence u) s is f =
@@ -295,7 +301,11 @@ found_arm_opens w t index o h e a =
       go None (Some x) a = elim a [ ]
       go (Some s) None a = elim a [ ]
       go (Some s) (Some x) a =
-          rw (a.0, parts_left (references_of w.types) s.from s.count (field_types x.1.fields) a.1) refl
+          rw (
+            a.0,
+            parts_left (references_of w.types) s.from s.count
+                (field_types x.1.fields) a.1,
+          ) refl
 
 -- an arm that is found opens as many parts as its step tells
 pub found_arm_counts : (w : Walked) (s : ArmStep) (x : Option (ℕ × Arm)) →
@@ -336,7 +346,8 @@ fields_known w None h a = absurd (none_ahead w form.Fields h a)
 fields_known w (Some s) h a = go s (with_form w form.Fields s h a) where
   go : (s : Step) → next_of_step s ≡ next.Wants form.Fields → (from count : ℕ)
       × (Some s ≡ Some (step.Parts from count))
-  go (step.Compact m) e = absurd (compact_no_parts m form.Fields (λ f. absurd cc) (λ t f. absurd cc) e)
+  go (step.Compact m) e =
+      absurd (compact_no_parts m form.Fields (λ f. absurd cc) (λ t f. absurd cc) e)
   go (step.NoArm from count) e = absurd cc
   go step.NoValue e = absurd cc
   go step.Empty e = absurd cc

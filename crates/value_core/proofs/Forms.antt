@@ -167,7 +167,8 @@ wanted_from w wanted (Some t) e h =
       go : (deep finite : Bool) → nat_lt (w.limit + 1) (length w.frames) ≡ deep →
           is_finite w.types t ≡ finite →
           (if deep then next.Stop stop.TooDeep else
-          (if finite then form_of w.types t else next.Stop stop.NoFiniteValue)) ≡ next.Wants wanted →
+          (if finite then form_of w.types t else next.Stop stop.NoFiniteValue))
+          ≡ next.Wants wanted →
           Wanted w wanted
       go true finite d f h = absurd cc
       go false false d f h = absurd cc

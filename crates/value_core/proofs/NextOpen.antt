@@ -165,12 +165,13 @@ with_fields_is b p o = ap (λ (q : Part). with_open b (head.branch tree.fields (
 -- a node opened with the elements that the next type opens is the value with its list
 pub with_list_is : (b : Built) (n : ℕ) (p : Part) → OpensElements b.walk n p →
     with_open b (head.branch tree.list n) p ≡ with_list b n
-with_list_is b n p o = ap (with_open b (head.branch tree.list n)) (o.part_is ∙ sym (by o.laid)) where
-  by : (layout b.walk.types o.ty ≡ layout.array n o.element)
-      ⊎ (layout b.walk.types o.ty ≡ layout.sequence o.element) →
-      list_part (next_layout b) n ≡ times n o.element
-  by (inl laid) = ap (λ (f : Layout). list_part f n) (laid_next b o.ty o.next ∙ laid)
-  by (inr laid) = ap (λ (f : Layout). list_part f n) (laid_next b o.ty o.next ∙ laid)
+with_list_is b n p o =
+    ap (with_open b (head.branch tree.list n)) (o.part_is ∙ sym (by o.laid)) where
+      by : (layout b.walk.types o.ty ≡ layout.array n o.element)
+          ⊎ (layout b.walk.types o.ty ≡ layout.sequence o.element) →
+          list_part (next_layout b) n ≡ times n o.element
+      by (inl laid) = ap (λ (f : Layout). list_part f n) (laid_next b o.ty o.next ∙ laid)
+      by (inr laid) = ap (λ (f : Layout). list_part f n) (laid_next b o.ty o.next ∙ laid)
 
 -- an arm was found where the next layout has one
 abbrev arm_opening : ℕ × Arm → ℕ × Part
@@ -194,7 +195,8 @@ with_arm_is b index q p o = by (arm_in (next_layout b) index) refl (arm_is b ind
     by None f is = absurd cc
     by (Some x) f is =
         let both = pair_is (q, p) (arm_opening x) is in
-        rw f (ap (λ (y : ℕ × Part). with_open b (head.branch (tree.arm y.0) (how_many_left y.1)) y.1)
+        rw f (ap (λ (y : ℕ × Part).
+        with_open b (head.branch (tree.arm y.0) (how_many_left y.1)) y.1)
         both)
 
 -- the next type opens an arm for an index exactly where its layout has one

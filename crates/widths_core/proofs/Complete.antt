@@ -180,15 +180,18 @@ arms_close f t seen (a ∷ arms) h e =
       go : (b : Bool) → list_any (λ i. i == a.index) seen ≡ b →
           AllByRecursion (ClosesRule f)
           (cond b (rule t kind.Idle (field_types a.fields) ∷ arm_rules t seen arms)
-          (rule t (kind.Fixed found_sized) (field_types a.fields) ∷ arm_rules t (a.index ∷ seen) arms))
+          (rule t (kind.Fixed found_sized) (field_types a.fields)
+          ∷ arm_rules t (a.index ∷ seen) arms))
           → list_any (λ x. list_all f (field_types x.fields))
           (cond b (live_arms seen arms) (a ∷ live_arms (a.index ∷ seen) arms)) ≡ true →
           ((s : List ℕ) → AllByRecursion (ClosesRule f) (arm_rules t s arms) →
-          list_any (λ x. list_all f (field_types x.fields)) (live_arms s arms) ≡ true → f t ≡ true) →
+          list_any (λ x. list_all f (field_types x.fields)) (live_arms s arms)
+          ≡ true → f t ≡ true) →
           f t ≡ true
       go true p k e' more = more seen k.1 e'
       go false p k e' more = elim (or_parts (list_all f (field_types a.fields))
-          (list_any (λ x. list_all f (field_types x.fields)) (live_arms (a.index ∷ seen) arms)) e') [
+          (list_any (λ x. list_all f (field_types x.fields))
+          (live_arms (a.index ∷ seen) arms)) e') [
             | inl here ↦ k.0.at refl here
             | inr there ↦ more (a.index ∷ seen) k.1 there
           ]

@@ -25,7 +25,8 @@ parts_of_arms t seen (a ∷ arms) =
       go : (b : Bool) → ((s : List ℕ) →
           all_parts (arm_rules t s arms) ≡ flat_map (λ x. field_types x.fields) arms) →
           all_parts (cond b (rule t kind.Idle (field_types a.fields) ∷ arm_rules t seen arms)
-          (rule t (kind.Fixed found_sized) (field_types a.fields) ∷ arm_rules t (a.index ∷ seen) arms))
+          (rule t (kind.Fixed found_sized) (field_types a.fields)
+          ∷ arm_rules t (a.index ∷ seen) arms))
           ≡ field_types a.fields ++ flat_map (λ x. field_types x.fields) arms
       go true more = ap (λ (xs : List ℕ). field_types a.fields ++ xs) (more seen)
       go false more = ap (λ (xs : List ℕ). field_types a.fields ++ xs) (more (a.index ∷ seen))

@@ -73,13 +73,15 @@ arms_right r t lt m [] seen h = tt
 arms_right r t lt m (a ∷ arms) seen h =
     go (list_any (λ i. i == a.index) seen) refl h (arms_right r t lt m arms) where
       go : (c : Bool) → list_any (λ i. i == a.index) seen ≡ c →
-          (list_any (arm_test r) (cond c (live_arms seen arms) (a ∷ live_arms (a.index ∷ seen) arms))
+          (list_any (arm_test r)
+          (cond c (live_arms seen arms) (a ∷ live_arms (a.index ∷ seen) arms))
           ≡ true → class_of r t ≡ class.Sized) →
           ((s : List ℕ) → (list_any (arm_test r) (live_arms s arms) ≡ true →
           class_of r t ≡ class.Sized) → AllByRecursion (IsRightRule r) (arm_rules t s arms)) →
           AllByRecursion (IsRightRule r)
           (cond c (rule t kind.Idle (field_types a.fields) ∷ arm_rules t seen arms)
-          (rule t (kind.Fixed found_sized) (field_types a.fields) ∷ arm_rules t (a.index ∷ seen) arms))
+          (rule t (kind.Fixed found_sized) (field_types a.fields)
+          ∷ arm_rules t (a.index ∷ seen) arms))
       go true e k more = (record { owner = lt; right = tt }, more seen k)
       go false e k more = (
         record {

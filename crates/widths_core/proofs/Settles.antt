@@ -272,7 +272,8 @@ whole r propagated s k h none =
           b ≡ list_any (λ p. is_sized (class_of r p)) (rule_at r k).parts
       sized true e =
           let s = some_propagated for_k propagated e in
-          let parts = and_parts (rule_number r s.0 == k) (is_sized (class_of r (to_at r s.0))) s.2 in
+          let parts = and_parts (rule_number r s.0 == k)
+          (is_sized (class_of r (to_at r s.0))) s.2 in
           sym (parts_any (λ p. is_sized (class_of r p)) 0 (rules r) s.0 k (h.known s.0 s.1)
           (eqb-true (rule_number r s.0) k parts.0 ∙ omega arith) parts.1)
       sized false e = sym (any_not (λ p. is_sized (class_of r p)) (rule_at r k).parts
@@ -281,7 +282,8 @@ whole r propagated s k h none =
           (none_propagated for_k propagated j e (all_propagated j lt (is ∙ omega arith)))))) where
             one : (j : ℕ) → rule_number r j ≡ k → for_k j ≡ false →
                 not (is_sized (class_of r (to_at r j))) ≡ true
-            one j is f = go (is_sized (class_of r (to_at r j))) (rw (eq-eqb (rule_number r j) k is) at f)
+            one j is f = go (is_sized (class_of r (to_at r j)))
+                (rw (eq-eqb (rule_number r j) k is) at f)
               where
                 go : (b : Bool) → b ≡ false → not b ≡ true
                 go true p = sym p

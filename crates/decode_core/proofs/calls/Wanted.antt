@@ -106,7 +106,8 @@ cut_goes_on j b left n h short =
         place front left,
         (
           left,
-          fault_value j.registry (suc j.depth) j.ty front (s.nodes ++ []) truncated left (held_of h.s)
+          fault_value j.registry (suc j.depth) j.ty front
+              (s.nodes ++ []) truncated left (held_of h.s)
               reads,
           refl,
         ),

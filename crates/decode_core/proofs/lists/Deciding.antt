@@ -93,7 +93,8 @@ chain_decided {E = E} {F = F} {X = X} {Y = Y} cut m G g h next is steady b own f
     rw (is b) (go (g b) first (steady.exact b)) where
       then : (x : X × List ℕ) (c : List ℕ) → b ≡ c ++ x.1 →
           ((more : List ℕ) → g (c ++ more) ≡ Ok (x.0, more)) → (read : Read F Y) →
-          Decided (m cut) (h x.0) x.1 (next x) read → Decided (m cut) G b (place b x.1 + next x) read
+          Decided (m cut) (h x.0) x.1 (next x) read →
+          Decided (m cut) G b (place b x.1 + next x) read
       then x c eq full (Ok y) d = tt
       then x c eq full (Err e) d = λ ne. made (d ne) where
         len : place b x.1 ≡ length c
@@ -128,7 +129,8 @@ chain_decided {E = E} {F = F} {X = X} {Y = Y} cut m G g h next is steady b own f
               )
         ]
 
-        made : Decides (m cut) (h x.0) x.1 (next x) e.0 → Decides (m cut) G b (place b x.1 + next x) e.0
+        made : Decides (m cut) (h x.0) x.1 (next x) e.0 →
+            Decides (m cut) G b (place b x.1 + next x) e.0
         made k = rw (len, eq) (record {
           there = omega (arith, k.there, length-append c x.1);
           front = (

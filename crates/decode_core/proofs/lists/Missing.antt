@@ -90,7 +90,8 @@ all_waits r room h (t ∷ ts) b =
         Takes (One r room t) b read →
         ((c : List ℕ) → Waits (AllHolding r room ts c) (all_at (value_at r room) ts c)) →
         Waits (AllHolding r room (t ∷ ts) b)
-        (read >>= λ x. all_at (value_at r room) ts x.1 >>= λ others. Ok (and x.0 others.0, others.1))
+        (read >>= λ x. all_at (value_at r room) ts x.1 >>= λ others.
+        Ok (and x.0 others.0, others.1))
     first (Err e) w k m = λ cut. ([], t, ts, none, [], b, refl, refl, refl, w cut, omega arith)
     first (Ok x) w k m = more x k (all_at (value_at r room) ts x.1) (m x.1)
 

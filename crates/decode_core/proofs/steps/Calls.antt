@@ -28,25 +28,27 @@ told_of b d piece at from to n last is e k =
     (subst (λ (l : List ℕ). TurnsTell b d l from to n last) (take_rest piece at) k)
 
 -- a turn behind those of the same call
-pub one_more : (a b d : Running) (f : Form) (piece : List ℕ) (at start from to : ℕ) (last : Turned) →
+pub one_more : (a b d : Running) (f : Form) (piece : List ℕ) (at start from to : ℕ)
+    (last : Turned) →
     at ≤ length piece → Moves a b (take at piece) →
     left_to_do b (drop at piece) ≤ left_to_do a piece →
     start + length b.built.entries ≤ from + length a.built.entries →
     from + length a.built.entries ≤ start + at + length b.built.entries → to ≡ from + 1 →
     Awaits a f → IsSound b → StepTells b d (take (length piece - at) (drop at piece)) last →
     KeepsTurns b d last → TurnsTell a d piece start to at last
-one_more a b d f piece at start from to last le h near each few is awaits sound tells kept = record {
-  before = b;
-  within = le;
-  moves = h;
-  nearer = near;
-  few = (omega (arith, each, is), omega (arith, few, is));
-  sound = sound;
-  tells =
-      subst (λ (l : List ℕ). StepTells b d l last) (take_rest piece at) tells;
-  kept = kept;
-  whole = λ w. awaits_goes_on a f awaits w;
-}
+one_more a b d f piece at start from to last le h near each few is awaits sound
+    tells kept = record {
+      before = b;
+      within = le;
+      moves = h;
+      nearer = near;
+      few = (omega (arith, each, is), omega (arith, few, is));
+      sound = sound;
+      tells =
+          subst (λ (l : List ℕ). StepTells b d l last) (take_rest piece at) tells;
+      kept = kept;
+      whole = λ w. awaits_goes_on a f awaits w;
+    }
 
 -- the turns so far, and those of the call before its last one
 reached : (a b c : Running) (piece : List ℕ) (at n : ℕ) → Moves a b (take at piece) →
@@ -61,7 +63,8 @@ fits b d piece at from to n last le t = omega (arith, le, t.within, length-drop 
 
 -- what the last one tells of what is left of the whole piece
 last_tells : (b d : Running) (piece : List ℕ) (at from to n : ℕ) (last : Turned)
-    (t : TurnsTell b d (drop at piece) from to n last) → StepTells t.before d (drop (at + n) piece) last
+    (t : TurnsTell b d (drop at piece) from to n last) →
+    StepTells t.before d (drop (at + n) piece) last
 last_tells b d piece at from to n last t =
     subst (λ (l : List ℕ). StepTells t.before d l last) (drop_more piece at n) t.tells
 
@@ -172,7 +175,8 @@ call_counts a b d piece at start from to n stop.Finished le h each few t =
 call_counts a b d piece at start from to n stop.Wants le h each few t =
     subst (λ (r : Running). FewTurns a r (at + n) start to) (sym t.tells.0)
     (few_before a b d (drop at piece) start from to at n (turned.Stopped stop.Wants) each few t)
-call_counts a b d piece at start from to n (stop.Refused held told_reason place len) le h each few t =
+call_counts a b d piece at start from to n (stop.Refused held told_reason place len)
+    le h each few t =
     short a b d piece at start from to n (turned.Stopped (stop.Refused held told_reason place len))
     le h each few t t.kept
 

@@ -71,7 +71,8 @@ type_goes_on w (Some t) e =
     absurd (by (nat_lt (w.limit + 1) (length w.frames)) (is_finite w.types t) e) where
       by : (deep finite : Bool) →
           (if deep then next.Stop stopped.TooDeep else
-          (if finite then form_of w.types t else next.Stop stopped.NoFiniteValue)) ≡ next.Finished → ⊥
+          (if finite then form_of w.types t else next.Stop stopped.NoFiniteValue))
+          ≡ next.Finished → ⊥
       by true finite h = absurd cc
       by false false h = absurd cc
       by false true h = form_goes_on w.types t h
@@ -124,7 +125,8 @@ pub finished_stops : (b : Built) (c : List ℕ) (kept : Option OpenRun) (piece :
     IsRunning b c kept → next_of b.walk ≡ next.Finished →
     EndsTurns (record { built = b; carry = c }) piece stop.Finished
 finished_stops b c kept piece h is =
-    let one = alone b.walk.frames h.rooted h.settled (type_goes_on b.walk (next_type b.walk) is) in (
+    let one = alone b.walk.frames h.rooted h.settled
+    (type_goes_on b.walk (next_type b.walk) is) in (
       λ x. ap (λ (s : State). remain b.walk.types s x) (finished_state b one.0 one.1)
           ∙ one_part b.walk.types (b.walk.limit + 2 - 1) one.0.left x one.2,
       nothing_held b c kept h (λ f e. let both = sym is ∙ e in absurd cc),

@@ -77,7 +77,8 @@ short_to : (j : Job) (b : List ℕ) (s : Running) → IsOf j s → (w : IsWaitin
 short_to j b s of w n =
     let finite : is_finite j.registry n.ty ≡ true =
     subst (λ (r : List TypeInfo). is_finite r n.ty ≡ true) of.types n.finite in
-    let laid = ap (λ (f : Layout). own_at f (held_of s)) (sym (layout_is j s n.ty of n.is_next)) in (
+    let laid = ap (λ (f : Layout).
+    own_at f (held_of s)) (sym (layout_is j s n.ty of n.is_next)) in (
       omega (arith, n.room),
       finite,
       own_short (layout j.registry n.ty) (held_of s) w.wants.left (laid ∙ w.wants.short),

@@ -131,7 +131,8 @@ turns_stop a b c piece at (stop.Refused held told_reason place len) le h k sound
     (le, (b, h, k, tt, sound))
 
 -- a whole value has one turn, which stops
-pub stays_whole : (fn self : Running) (at : ℕ) → (is_whole fn.built ≡ true → (at ≡ 0) × (self ≡ fn)) →
+pub stays_whole : (fn self : Running) (at : ℕ) →
+    (is_whole fn.built ≡ true → (at ≡ 0) × (self ≡ fn)) →
     is_whole fn.built ≡ true → is_whole self.built ≡ true
 stays_whole fn self at h w = subst (λ (s : Running). is_whole s.built ≡ true) (sym (h w).1) w
 

@@ -153,7 +153,8 @@ leaf_only (Ok x) t e =
     ((head.leaf t, None), []) e) in
     ap (λ (y : Tree × List ℕ). Ok y) (pair_is x t (ap (λ (y : Head × List ℕ). y.0) both)
     (ap (λ (y : Head × List ℕ). y.1) both)) where
-      ok_is : (x y : (Head × Option Part) × List ℕ) → ◌≡◌ {A = Read Refusal (Head × Option Part)} (Ok x)
+      ok_is : (x y : (Head × Option Part) × List ℕ) →
+          ◌≡◌ {A = Read Refusal (Head × Option Part)} (Ok x)
           (Ok y) → x ≡ y
       ok_is x y e = cc
 

@@ -105,7 +105,8 @@ bare_wants b carry kept f h k bare closed is rest =
 -- ---- a node's own bytes
 
 -- memory is wanted for a node that its bytes spell
-pub node_wants : (f : Form) (b : Built) (c bytes rest own : List ℕ) → next_of b.walk ≡ next.Wants f →
+pub node_wants : (f : Form) (b : Built) (c bytes rest own : List ℕ) →
+    next_of b.walk ≡ next.Wants f →
     b.run ≡ None → c ++ bytes ≡ own → IsSpelled b own →
     WantsMemory (record { built = b; carry = c }) (bytes ++ rest)
 node_wants f b c bytes rest own wants closed is k = record {

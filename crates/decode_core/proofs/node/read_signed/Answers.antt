@@ -10,25 +10,29 @@ returns-in_ok-read_i8-in-Bits8-clause-reads c =
     c.in_ok-read_i8-in-Bits8.field-0.0 c.from.result (signed_at 1 c.args.own.now) (search rules)
     (search rules) c.from.ensures c.in_ok-read_i8-in-Bits8.ensures)
 
-pub returns-in_ok-read_i16-in-Bits16-clause-reads : goal.returns-in_ok-read_i16-in-Bits16-clause-reads
+pub returns-in_ok-read_i16-in-Bits16-clause-reads :
+    goal.returns-in_ok-read_i16-in-Bits16-clause-reads
 returns-in_ok-read_i16-in-Bits16-clause-reads c =
     rw c.in-Bits16.is (widened_is w16 c.args.own.now c.in_ok-read_i16-in-Bits16.field-0.1
     c.in_ok-read_i16-in-Bits16.field-0.0 c.from-in-Bits16.result (signed_at 2 c.args.own.now)
     (search rules) (search rules) c.from-in-Bits16.ensures c.in_ok-read_i16-in-Bits16.ensures)
 
-pub returns-in_ok-read_i32-in-Bits32-clause-reads : goal.returns-in_ok-read_i32-in-Bits32-clause-reads
+pub returns-in_ok-read_i32-in-Bits32-clause-reads :
+    goal.returns-in_ok-read_i32-in-Bits32-clause-reads
 returns-in_ok-read_i32-in-Bits32-clause-reads c =
     rw c.in-Bits32.is (widened_is w32 c.args.own.now c.in_ok-read_i32-in-Bits32.field-0.1
     c.in_ok-read_i32-in-Bits32.field-0.0 c.from-in-Bits32.result (signed_at 4 c.args.own.now)
     (search rules) (search rules) c.from-in-Bits32.ensures c.in_ok-read_i32-in-Bits32.ensures)
 
-pub returns-in_ok-read_i64-in-Bits64-clause-reads : goal.returns-in_ok-read_i64-in-Bits64-clause-reads
+pub returns-in_ok-read_i64-in-Bits64-clause-reads :
+    goal.returns-in_ok-read_i64-in-Bits64-clause-reads
 returns-in_ok-read_i64-in-Bits64-clause-reads c =
     rw c.in-Bits64.is (widened_is w64 c.args.own.now c.in_ok-read_i64-in-Bits64.field-0.1
     c.in_ok-read_i64-in-Bits64.field-0.0 c.from-in-Bits64.result (signed_at 8 c.args.own.now)
     (search rules) (search rules) c.from-in-Bits64.ensures c.in_ok-read_i64-in-Bits64.ensures)
 
-pub returns-in_ok-read_i128-in-Bits128-clause-reads : goal.returns-in_ok-read_i128-in-Bits128-clause-reads
+pub returns-in_ok-read_i128-in-Bits128-clause-reads :
+    goal.returns-in_ok-read_i128-in-Bits128-clause-reads
 returns-in_ok-read_i128-in-Bits128-clause-reads c =
     rw c.in-Bits128.is (same_is c.args.own.now c.in_ok-read_i128-in-Bits128.field-0.1
     c.in_ok-read_i128-in-Bits128.field-0.0 (signed_at 16 c.args.own.now) (search rules)

@@ -13,8 +13,10 @@ overflow_add-end c =
 pub write_digits-requires : goal.write_digits-requires
 write_digits-requires c =
     let short : length (decimal c.args.n) ≤ 20 =
-    length-decimal-le 20 c.args.n (omega arith) (omega arith) (search rules) in
-    (omega (arith, short, c.digit_count.ensures), omega (arith, short, c.digit_count.ensures, c.requires))
+    length-decimal-le 20 c.args.n (omega arith) (omega arith) (search rules) in (
+      omega (arith, short, c.digit_count.ensures),
+      omega (arith, short, c.digit_count.ensures, c.requires),
+    )
 
 pub returns : goal.returns
 returns c =

@@ -395,7 +395,8 @@ write_items-children-preserved t c =
       ends = search rules;
       told = item_turn c.children.out c.write_node.new.out (json_seen c.in-Some.child)
           (items_of (map json_seen c.next.new.self)) c.in_ok-write_node.ensures.adds
-          ∙ ap (λ ss. prints c.children.out (items_tokens (items_outline (items_of (map json_seen ss)))))
+          ∙ ap (λ ss. prints c.children.out
+          (items_tokens (items_outline (items_of (map json_seen ss)))))
           (sym child) ∙ c.children.invariant.told;
       below = search rules;
       grows = grows_again c.args.orders.now c.children.orders c.write_node.new.orders

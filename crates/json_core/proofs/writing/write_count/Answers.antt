@@ -15,4 +15,5 @@ returns c = on_ok_weaker c.end_object.result (λ e. count_whole c.args.out.now
     c.begin_object.new.self c.key.new.self c.unsigned.new.self c.end_object.new.self
     (codes "count") (decimal c.args.count) c.in_ok-begin_object.ensures c.in_ok-key.ensures
     (c.in_ok-unsigned.ensures
-    ∙ ap (λ k. prints c.key.new.self (number (decimal k) ∷ [])) c.from.ensures) e) c.end_object.ensures
+    ∙ ap (λ k. prints c.key.new.self (number (decimal k) ∷ [])) c.from.ensures) e)
+    c.end_object.ensures

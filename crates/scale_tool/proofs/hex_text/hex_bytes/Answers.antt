@@ -11,7 +11,8 @@ overflow_add-result c =
       arith,
       c.type_inv.text,
       place_within text _ start _ _ _ c.prefix_len-start.ensures.bound (behind_prefix text start)
-          (told_bad _ c.in-Err-InvalidHexCharacter.field-0 _ _ c.in-Err-InvalidHexCharacter.field-0-is
+          (told_bad _ c.in-Err-InvalidHexCharacter.field-0 _ _
+          c.in-Err-InvalidHexCharacter.field-0-is
           c.in-Err-InvalidHexCharacter.ensures.err),
     )
 

@@ -32,6 +32,7 @@ returns-clause-settles g c =
     slice_get_read _ _ c.in-Some.place c.index_mut.result.now refl inside
     c.index_mut.ensures.value in
     rw c.close-2.ensures (closing_settles c.args.walk.now c.close.new.self
-    c.args.nodes.now.items c.index_mut.result.now (length c.as_slice.result.now - c.in-Some.place) c.in-Some.place
+    c.args.nodes.now.items c.index_mut.result.now (length c.as_slice.result.now
+    - c.in-Some.place) c.in-Some.place
     there (ap (λ (x : List _). length x - c.in-Some.place) c.as_slice.ensures.value)
     c.in-Some.ensures.some)

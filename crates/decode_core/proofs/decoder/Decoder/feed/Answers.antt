@@ -118,7 +118,8 @@ returns-in-Done-clause-answers g c = λ b led.
     let j = job_of d in
     let before : RunLed j b d.taken d.run =
     subst (λ (x : Decoding). Led x b) (sym c.self.view_is) led in
-    let told = c.in-Done.ensures.answers j b refl (subst (RunLed j b d.taken) c.in-Ok.is before) in (
+    let told = c.in-Done.ensures.answers j b refl
+    (subst (RunLed j b d.taken) c.in-Ok.is before) in (
       (
         c.feed_run-fed.new.run,
         refl,

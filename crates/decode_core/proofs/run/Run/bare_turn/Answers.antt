@@ -40,6 +40,7 @@ returns-clause-tells g c =
           c.self.invariant wants none closed
           (subst (AddsBare b c.add_bare.new.builder) w.in-Ok.is c.add_bare.ensures))
       | in-Err w ↦ rw w.result-is
-          (bare_wants b c.self.inside.carry c.self.inside.open_run f c.self.invariant wants none closed
+          (bare_wants b c.self.inside.carry c.self.inside.open_run f c.self.invariant
+          wants none closed
           (subst (AddsBare b c.add_bare.new.builder) w.in-Err.is c.add_bare.ensures).0)
     ])

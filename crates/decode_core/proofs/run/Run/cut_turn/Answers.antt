@@ -14,7 +14,8 @@ pub take_node-taken-requires-clause-whole : goal.take_node-taken-requires-clause
 take_node-taken-requires-clause-whole g c =
     let k = c.self.inside.carry in
     let needed : IsNeeded (form_of_bytes c.args.form) c.args.len (k ++ c.args.piece.now) =
-    subst (λ (s : Running). IsNeeded (form_of_bytes c.args.form) c.args.len (s.carry ++ c.args.piece.now))
+    subst (λ (s : Running).
+    IsNeeded (form_of_bytes c.args.form) c.args.len (s.carry ++ c.args.piece.now))
     (sym c.self.view_is) c.requires.len in
     let short : length k < c.args.len =
     subst (λ (s : Running). length s.carry < c.args.len) (sym c.self.view_is)
@@ -25,20 +26,23 @@ take_node-taken-requires-clause-whole g c =
     c.as_slice.ensures.bytes ∙ c.fill-count.ensures.held in
     let enough : c.args.len ≤ length k + c.fill-count.result =
     subst (λ (h : ℕ). c.args.len ≤ h + c.fill-count.result) held_is c.if-held-count.false in
-    cut_own (form_of_bytes c.args.form) k c.args.piece.now c.as_slice.result.now c.args.len c.fill-count.result
+    cut_own (form_of_bytes c.args.form) k c.args.piece.now c.as_slice.result.now c.args.len
+    c.fill-count.result
     needed own_is short c.fill-count.ensures.count enough
 
 pub invariant_of-self-2 : goal.invariant_of-self-2
 invariant_of-self-2 g c =
     let b = c.self.inside.builder in
     let wants : next_of b.walk ≡ next.Wants (form_of_bytes c.args.form) =
-    subst (λ (s : Running). next_of s.built.walk ≡ next.Wants (form_of_bytes c.args.form)) (sym c.self.view_is)
+    subst (λ (s : Running). next_of s.built.walk ≡ next.Wants (form_of_bytes c.args.form))
+    (sym c.self.view_is)
     c.requires.next in
     let closed : b.run ≡ None =
     subst (λ (s : Running). s.built.run ≡ None) (sym c.self.view_is) c.requires.closed in
     let k = c.self.inside.carry in
     let needed : IsNeeded (form_of_bytes c.args.form) c.args.len (k ++ c.args.piece.now) =
-    subst (λ (s : Running). IsNeeded (form_of_bytes c.args.form) c.args.len (s.carry ++ c.args.piece.now))
+    subst (λ (s : Running).
+    IsNeeded (form_of_bytes c.args.form) c.args.len (s.carry ++ c.args.piece.now))
     (sym c.self.view_is) c.requires.len in
     let short : length k < c.args.len =
     subst (λ (s : Running). length s.carry < c.args.len) (sym c.self.view_is)
@@ -49,11 +53,13 @@ invariant_of-self-2 g c =
     c.as_slice.ensures.bytes ∙ c.fill-count.ensures.held in
     let enough : c.args.len ≤ length k + c.fill-count.result =
     subst (λ (h : ℕ). c.args.len ≤ h + c.fill-count.result) held_is c.if-held-count.false in
-    let whole = cut_own (form_of_bytes c.args.form) k c.args.piece.now c.as_slice.result.now c.args.len
+    let whole = cut_own (form_of_bytes c.args.form) k c.args.piece.now
+    c.as_slice.result.now c.args.len
     c.fill-count.result needed own_is short c.fill-count.ensures.count enough in
     subst (λ (l : List ℕ). IsRunning c.take_node-taken.new.builder l c.take_node-taken.new.open_run)
     (sym c.clear.ensures)
-    (node_running (form_of_bytes c.args.form) b c.take_node-taken.new.builder c.self.inside.carry c.self.inside.open_run
+    (node_running (form_of_bytes c.args.form) b c.take_node-taken.new.builder c.self.inside.carry
+    c.self.inside.open_run
     c.take_node-taken.new.open_run c.as_slice.result.now c.take_node-taken.result c.self.invariant
     wants closed whole c.take_node-taken.ensures)
 
@@ -61,13 +67,15 @@ pub returns-clause-tells : goal.returns-clause-tells
 returns-clause-tells g c =
     let b = c.self.inside.builder in
     let wants : next_of b.walk ≡ next.Wants (form_of_bytes c.args.form) =
-    subst (λ (s : Running). next_of s.built.walk ≡ next.Wants (form_of_bytes c.args.form)) (sym c.self.view_is)
+    subst (λ (s : Running). next_of s.built.walk ≡ next.Wants (form_of_bytes c.args.form))
+    (sym c.self.view_is)
     c.requires.next in
     let closed : b.run ≡ None =
     subst (λ (s : Running). s.built.run ≡ None) (sym c.self.view_is) c.requires.closed in
     let k = c.self.inside.carry in
     let needed : IsNeeded (form_of_bytes c.args.form) c.args.len (k ++ c.args.piece.now) =
-    subst (λ (s : Running). IsNeeded (form_of_bytes c.args.form) c.args.len (s.carry ++ c.args.piece.now))
+    subst (λ (s : Running).
+    IsNeeded (form_of_bytes c.args.form) c.args.len (s.carry ++ c.args.piece.now))
     (sym c.self.view_is) c.requires.len in
     let short : length k < c.args.len =
     subst (λ (s : Running). length s.carry < c.args.len) (sym c.self.view_is)
@@ -80,8 +88,10 @@ returns-clause-tells g c =
     subst (λ (h : ℕ). c.args.len ≤ h + c.fill-count.result) held_is c.if-held-count.false in
     subst (λ (s : Running). StepTells s (of_fields c.take_node-taken.new.builder c.clear.new.self)
     c.args.piece.now c.node_turn.result) c.self.view_is
-    (cut_tells (form_of_bytes c.args.form) b c.take_node-taken.new.builder k c.clear.new.self c.args.piece.now
+    (cut_tells (form_of_bytes c.args.form) b c.take_node-taken.new.builder k c.clear.new.self
+    c.args.piece.now
     c.as_slice.result.now c.take_node-taken.new.open_run c.take_node-taken.result c.node_turn.result
-    (length c.as_slice-held.result.now) c.fill-count.result c.args.len wants (have_bytes c.args.form)
+    (length c.as_slice-held.result.now) c.fill-count.result c.args.len wants
+    (have_bytes c.args.form)
     closed needed own_is short c.fill-count.ensures.count enough held_is c.clear.ensures
     c.take_node-taken.ensures c.node_turn.ensures)

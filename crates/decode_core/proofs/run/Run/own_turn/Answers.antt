@@ -11,7 +11,8 @@ use Rattle.decode_core.proofs.run.Run.own_turn.Goals as goal
 
 pub returns-then-is_empty-clause-tells : goal.returns-then-is_empty-clause-tells
 returns-then-is_empty-clause-tells g c =
-    let more = wants_more c.args.self.now.built c.args.self.now.carry (form_of_bytes c.args.form) c.requires.carried
+    let more = wants_more c.args.self.now.built c.args.self.now.carry (form_of_bytes c.args.form)
+    c.requires.carried
     c.requires.next (have_bytes c.args.form) c.requires.closed in
     (refl, (none_of c.args.piece.now c.if-is_empty.ensures, more.1))
 
@@ -23,7 +24,8 @@ whole_turn-requires-clause-whole g c =
     let first : IsFirst c.first_byte.result (k ++ c.args.piece.now) =
     subst (λ (s : Running). IsFirst c.first_byte.result (s.carry ++ c.args.piece.now))
     (sym c.self.view_is) c.first_byte.ensures in
-    whole_own (form_of_bytes c.args.form) k c.args.piece.now c.need-len.result c.first_byte.result none first
+    whole_own (form_of_bytes c.args.form) k c.args.piece.now c.need-len.result
+    c.first_byte.result none first
     c.need-len.ensures.exact c.need-len.ensures.some c.if-len-piece.true
 
 pub returns-then-len-piece-clause-tells : goal.returns-then-len-piece-clause-tells

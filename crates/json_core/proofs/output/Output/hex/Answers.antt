@@ -53,7 +53,8 @@ invariant_of-self-2 c =
       c.in_ok-make_room.ensures.kept,
       ap length c.as_mut_slice-buffer.ensures.value,
     )) before
-    (IsUtf8-append _ _ (IsUtf8-append _ _ opened (hex_utf8 c.args.bytes.now)) (IsUtf8-are_ascii (34 ∷ []) refl)))
+    (IsUtf8-append _ _ (IsUtf8-append _ _ opened (hex_utf8 c.args.bytes.now))
+    (IsUtf8-are_ascii (34 ∷ []) refl)))
 
 pub returns : goal.returns
 returns c =

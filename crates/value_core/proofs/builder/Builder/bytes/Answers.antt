@@ -9,6 +9,7 @@ pub add_leaf-requires-clause-next : goal.add_leaf-requires-clause-next
 add_leaf-requires-clause-next g c = elim c.match-branch-2.branch [
   | in-Bytes w ↦ run_next _ kind.Bytes c.args.bytes.now (search rules) tt
       (are_bytes c.args.bytes.now (λ i. (c.type_inv.bytes i).fits)) (search rules) tt
-  | in-ByteArray w ↦ run_next _ (kind.ByteArray w.in-ByteArray.len) c.args.bytes.now (search rules) tt
+  | in-ByteArray w ↦ run_next _ (kind.ByteArray w.in-ByteArray.len) c.args.bytes.now
+      (search rules) tt
       (are_bytes c.args.bytes.now (λ i. (c.type_inv.bytes i).fits)) (search rules) (search rules)
 ]
