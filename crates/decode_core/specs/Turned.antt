@@ -183,8 +183,8 @@ pub record Awaits (s : Running) (f : Form) : Type 0 where
   pub closed : s.built.run ≡ None
   pub sound : IsSound s
 
--- turns on a piece, of which those before the last one took n bytes and did not stop, and what the last
--- one did
+-- turns on a piece, of which those before the last one took n bytes and did not stop, and what the
+-- last one did
 pub record TurnsTell (old new : Running) (piece : List ℕ) (from to n : ℕ) (last : Turned)
     : Type 0 where
   pub before : Running

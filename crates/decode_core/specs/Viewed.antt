@@ -13,7 +13,8 @@ job_of d = record {
   bytes = d.limits.bytes;
 }
 
--- the job, how many bytes were taken, the value on its way or the fault, and how many turns and calls there were
+-- the job, how many bytes were taken, the value on its way or the fault, and how many turns and
+-- calls there were
 abbrev pub decoding_of : {A : Type 0} → Inside A → Decoding
 decoding_of d = record {
   job = job_of d;

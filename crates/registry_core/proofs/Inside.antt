@@ -1,4 +1,5 @@
--- Where the fault of an integer or of a text stands: within the bytes, and at their end where they end too soon.
+-- Where the fault of an integer or of a text stands: within the bytes, and at their end where they
+-- end too soon.
 use Rattle.std.proofs.Common.{◌≡◌, ℕ, ◌^◌, Bool, true, false, cond, List, [], ◌∷◌, ◌++◌, length}
 use Rattle.std.proofs.Common.{take, drop, Ok, Err, refl, sym, append_assoc}
 use Rattle.std.specs.Prelude.{nat_lt, not}

@@ -12,8 +12,8 @@ use Rattle.scale_calls.specs.declared.refusal.ValueRefusal.{ValueRefusal}
 use Rattle.scale_calls.specs.declared.refusal.ValueRefusal.TheVariants as value
 use Rattle.scaleview_c.specs.declared.codes.Answer.{Answer}
 
--- the number of a reason: from 101 for a registry's bytes, from 301 for a value's, and 3 for want of
--- memory
+-- the number of a reason: from 101 for a registry's bytes, from 301 for a value's, and 3 for want
+-- of memory
 abbrev pub registry_code : RegistryReason → ℕ
 registry_code registry.Truncated = 101
 registry_code registry.BadUtf8 = 102

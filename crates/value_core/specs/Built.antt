@@ -31,8 +31,8 @@ pub record Entry : Type 0 where
   pub ty : ℕ
   pub head : Head
 
--- a text or a run of bytes that comes in pieces: which it is, how many bytes it is to have, and those
--- that came
+-- a text or a run of bytes that comes in pieces: which it is, how many bytes it is to have, and
+-- those that came
 pub record Pieces : Type 0 where
   pub kind : RunKind
   pub len : ℕ

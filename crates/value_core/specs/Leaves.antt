@@ -28,7 +28,8 @@ leaf_text_bytes (leaf.Text s) = length s.now
 leaf_text_bytes (leaf.Bytes s) = length s.now
 leaf_text_bytes _ = 0
 
--- a text or a run has a length that can be spelled, an integer fits its word, and a wide one has 32 bytes
+-- a text or a run has a length that can be spelled, an integer fits its word, and a wide one has
+-- 32 bytes
 abbrev pub FitsLeaf : Leaf → Type 0
 FitsLeaf (leaf.Text s) = length s.now < 2 ^ 32
 FitsLeaf (leaf.Bytes s) = length s.now < 2 ^ 32

@@ -18,8 +18,8 @@ use Rattle.decode_core.proofs.steps.Moving.{awaits_goes_on, drop_more, grows_by,
 use Rattle.decode_core.proofs.steps.Moving.{one_or_bytes, stays_whole, step_nearer, turns_on}
 use Rattle.decode_core.proofs.steps.Moving.{turns_stop}
 
--- what the turns of a call tell of what is left of a piece, which it was lent as a slice, where their last
--- one is known
+-- what the turns of a call tell of what is left of a piece, which it was lent as a slice, where
+-- their last one is known
 pub told_of : (b d : Running) (piece : List ℕ) (at from to n : ℕ) (last is : Turned) → last ≡ is →
     TurnsTell b d (take (length piece - at) (drop at piece)) from to n last →
     TurnsTell b d (drop at piece) from to n is

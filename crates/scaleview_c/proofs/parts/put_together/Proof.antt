@@ -1,4 +1,5 @@
--- `put_together` gives the pointer and the allocator back to the library, which makes the box of them.
+-- `put_together` gives the pointer and the allocator back to the library, which makes the box of
+-- them.
 use Rattle.std.proofs.Common.{◌≡◌, List, [], ◌∷◌, ◌++◌, refl, sym, ap, subst}
 use mir.Syntax.{a_type, dcons, dnil}
 use mir.Val.{Val, vptr}
