@@ -15,7 +15,8 @@ use Rattle.widths_core.specs.Classes.{is_finite}
 use Rattle.widths_core.specs.Layouts.{Layout, layout}
 use Rattle.widths_core.specs.Layouts as layout
 use Rattle.grammar_core.specs.Tree.{Tree, Trees, none, and}
-use Rattle.grammar_core.specs.Reading.{Reader, value_at, layout_at, Refusal, truncated, too_deep}
+use Rattle.grammar_core.specs.Reading.{ValueReader, value_at, layout_at, Refusal, truncated}
+use Rattle.grammar_core.specs.Reading.{too_deep}
 use Rattle.grammar_core.specs.Begun.{Begun, nothing, in_fields, in_arm, in_list, IsPart, Grows}
 use Rattle.grammar_core.specs.Begun.{begun_nodes, begun_text_bytes, begun_levels}
 
@@ -48,12 +49,14 @@ abbrev pub first_held : Read Refusal Tree → (List ℕ → Trees × (Begun × L
 first_held (Ok x) others own = let s = others x.1 in (and x.0 s.0, s.1)
 first_held (Err e) others own = (none, own)
 
-abbrev pub all_held : (ℕ → Reader Tree) → (ℕ → List ℕ → Begun × List ℕ) → List ℕ → List ℕ → Trees
+abbrev pub all_held : (ℕ → ValueReader Tree) → (ℕ → List ℕ → Begun × List ℕ) →
+    List ℕ → List ℕ → Trees
     × (Begun × List ℕ)
 all_held child hold [] b = (none, (nothing, b))
 all_held child hold (t ∷ ts) b = first_held (child t b) (λ c. all_held child hold ts c) (hold t b)
 
-abbrev pub times_held : (ℕ → Reader Tree) → (ℕ → List ℕ → Begun × List ℕ) → ℕ → ℕ → List ℕ → Trees
+abbrev pub times_held : (ℕ → ValueReader Tree) → (ℕ → List ℕ → Begun × List ℕ) → ℕ →
+    ℕ → List ℕ → Trees
     × (Begun × List ℕ)
 times_held child hold zero t b = (none, (nothing, b))
 times_held child hold (suc n) t b =
@@ -63,23 +66,25 @@ times_held child hold (suc n) t b =
 abbrev pub over : (Trees → Begun → Begun) → Trees × (Begun × List ℕ) → Begun × List ℕ
 over make s = (make s.0 s.1.0, s.1.1)
 
-abbrev pub arm_held : (ℕ → Reader Tree) → (ℕ → List ℕ → Begun × List ℕ) → List ℕ →
+abbrev pub arm_held : (ℕ → ValueReader Tree) → (ℕ → List ℕ → Begun × List ℕ) → List ℕ →
     Option (ℕ × Arm) → List ℕ → Begun × List ℕ
 arm_held child hold at (Some a) b =
     over (in_arm a.0) (all_held child hold (field_types a.1.fields) b)
 arm_held child hold at None b = (nothing, at)
 
-abbrev pub arms_held : (ℕ → Reader Tree) → (ℕ → List ℕ → Begun × List ℕ) → List Arm → List ℕ → Begun
+abbrev pub arms_held : (ℕ → ValueReader Tree) → (ℕ → List ℕ → Begun × List ℕ) →
+    List Arm → List ℕ → Begun
     × List ℕ
 arms_held child hold arms [] = (nothing, [])
 arms_held child hold arms (i ∷ b) = arm_held child hold (i ∷ b) (arm_of arms i) b
 
-abbrev pub elements_held : (ℕ → Reader Tree) → (ℕ → List ℕ → Begun × List ℕ) → List ℕ → ℕ →
+abbrev pub elements_held : (ℕ → ValueReader Tree) → (ℕ → List ℕ → Begun × List ℕ) → List ℕ → ℕ →
     Read Reason ℕ → Begun × List ℕ
 elements_held child hold at t (Ok n) = over (in_list n.0) (times_held child hold n.0 t n.1)
 elements_held child hold at t (Err e) = (nothing, at)
 
-unfoldable pub layout_held : (ℕ → Reader Tree) → (ℕ → List ℕ → Begun × List ℕ) → Layout → List ℕ →
+unfoldable pub layout_held : (ℕ → ValueReader Tree) → (ℕ → List ℕ → Begun × List ℕ) →
+    Layout → List ℕ →
     Begun × List ℕ
 layout_held child hold (layout.fields ts) b = over in_fields (all_held child hold ts b)
 layout_held child hold (layout.arms arms) b = arms_held child hold arms b

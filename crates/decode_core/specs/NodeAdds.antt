@@ -67,8 +67,8 @@ OpensRun k old new own (Err (fault.Refused told at)) = IsRefused old own told at
 OpensRun k old new own (Err fault.OutOfMemory) = ⊥
 
 -- the bytes are the length of the run that is next, which is open and lacks all its bytes
-abbrev pub IsOpened : Form → Built → Built → Option OpenRun → List ℕ → Type 0
-IsOpened f old new kept own = (k : RunKind) × (n : ℕ) × (f ≡ run_form k)
+abbrev pub IsRunOpened : Form → Built → Built → Option OpenRun → List ℕ → Type 0
+IsRunOpened f old new kept own = (k : RunKind) × (n : ℕ) × (f ≡ run_form k)
     × (run_length_at k own ≡ Ok (n, [])) × (new ≡ with_run_opened old k n)
     × (kept ≡ Some (record { len = n; missing = n }))
 
@@ -76,7 +76,7 @@ IsOpened f old new kept own = (k : RunKind) × (n : ℕ) × (f ≡ run_form k)
 abbrev pub TakesNode : Form → Built → Built → Option OpenRun → List ℕ →
     Result (Unit {0}) NodeFault → Type 0
 TakesNode f old new kept own (Ok _) = (IsAdded old new own × (kept ≡ None))
-    ⊎ IsOpened f old new kept own
+    ⊎ IsRunOpened f old new kept own
 TakesNode f old new kept own (Err (fault.Refused told at)) = IsRefused old own told at × (new ≡ old)
     × (kept ≡ None)
 TakesNode f old new kept own (Err fault.OutOfMemory) = IsSpelled old own × (new ≡ old)

@@ -14,7 +14,7 @@ use Rattle.widths_core.specs.Layouts as layout
 use Rattle.widths_core.specs.declared.run_kind.RunKind.{RunKind}
 use Rattle.widths_core.specs.declared.run_kind.RunKind.TheVariants as kind
 use Rattle.grammar_core.specs.Tree.{Tree}
-use Rattle.grammar_core.specs.Reading.{Reader, value_at}
+use Rattle.grammar_core.specs.Reading.{ValueReader, value_at}
 use Rattle.grammar_core.specs.Runs.{run_length_at}
 
 -- what the first part takes, where it is refused; else its bytes, and what the parts taken_after it
@@ -37,22 +37,22 @@ run_length_taken _ b = compact_taken target.U32 b
 abbrev pub run_taken : RunKind → List ℕ → ℕ
 run_taken k b = taken_after b (run_length_at k b) (run_length_taken k b) (λ n. n.0)
 
-abbrev pub all_taken : (ℕ → Reader Tree) → (ℕ → List ℕ → ℕ) → List ℕ → List ℕ → ℕ
+abbrev pub all_taken : (ℕ → ValueReader Tree) → (ℕ → List ℕ → ℕ) → List ℕ → List ℕ → ℕ
 all_taken child taken [] b = 0
 all_taken child taken (t ∷ ts) b =
     taken_after b (child t b) (taken t b) (λ x. all_taken child taken ts x.1)
 
-abbrev pub times_taken : (ℕ → Reader Tree) → (ℕ → List ℕ → ℕ) → ℕ → ℕ → List ℕ → ℕ
+abbrev pub times_taken : (ℕ → ValueReader Tree) → (ℕ → List ℕ → ℕ) → ℕ → ℕ → List ℕ → ℕ
 times_taken child taken zero t b = 0
 times_taken child taken (suc n) t b =
     taken_after b (child t b) (taken t b) (λ x. times_taken child taken n t x.1)
 
-abbrev pub arm_taken : (ℕ → Reader Tree) → (ℕ → List ℕ → ℕ) → Option (ℕ × Arm) → List ℕ → ℕ
+abbrev pub arm_taken : (ℕ → ValueReader Tree) → (ℕ → List ℕ → ℕ) → Option (ℕ × Arm) → List ℕ → ℕ
 arm_taken child taken (Some found) rest = all_taken child taken (field_types found.1.fields) rest
 arm_taken child taken None rest = 0
 
 -- the index is one byte
-abbrev pub arms_taken : (ℕ → Reader Tree) → (ℕ → List ℕ → ℕ) → List Arm → List ℕ → ℕ
+abbrev pub arms_taken : (ℕ → ValueReader Tree) → (ℕ → List ℕ → ℕ) → List Arm → List ℕ → ℕ
 arms_taken child taken arms [] = 0
 arms_taken child taken arms (index ∷ rest) = suc (arm_taken child taken (arm_of arms index) rest)
 
@@ -66,7 +66,7 @@ leaf_taken (layout.compact m) b = compact_taken m b
 leaf_taken _ b = 0
 
 -- where a type is refused as it is met, no byte of it is taken
-unfoldable pub layout_taken : (ℕ → Reader Tree) → (ℕ → List ℕ → ℕ) → Layout → List ℕ → ℕ
+unfoldable pub layout_taken : (ℕ → ValueReader Tree) → (ℕ → List ℕ → ℕ) → Layout → List ℕ → ℕ
 layout_taken child taken (layout.plain p) b = leaf_taken p b
 layout_taken child taken (layout.fields ts) b = all_taken child taken ts b
 layout_taken child taken (layout.arms arms) b = arms_taken child taken arms b

@@ -25,8 +25,8 @@ use Rattle.decode_core.specs.declared.turned.Stopped.TheVariants as stop
 use Rattle.decode_core.specs.declared.turned.Turned.{Turned}
 use Rattle.decode_core.specs.declared.turned.Turned.TheVariants as turned
 
-abbrev pub types_of : Running → List TypeInfo
-types_of s = s.built.walk.types
+abbrev pub types_in : Running → List TypeInfo
+types_in s = s.built.walk.types
 
 -- the bytes c lead from one state to the next, whatever follows them; and frames and nodes are few
 pub record TurnLeads (r : List TypeInfo) (s s' : State) (c : List ℕ) : Type 0 where
@@ -53,14 +53,14 @@ pub record Moves (old new : Running) (bytes : List ℕ) : Type 0 where
   pub own : List ℕ
   pub is : held_of old ++ bytes ≡ own ++ held_of new
   pub tells : (more : List ℕ) →
-      after (state_of old.built).nodes (remain (types_of old) (state_of old.built) (own ++ more))
-      ≡ after (state_of new.built).nodes (remain (types_of old) (state_of new.built) more)
+      after (state_of old.built).nodes (remain (types_in old) (state_of old.built) (own ++ more))
+      ≡ after (state_of new.built).nodes (remain (types_in old) (state_of new.built) more)
   pub level : (state_of new.built).room + length (state_of new.built).pending
       ≡ (state_of old.built).room + length (state_of old.built).pending
 
 -- the work that is left
 abbrev pub left_to_do : Running → List ℕ → ℕ
-left_to_do s rest = to_go (types_of s) (state_of s.built) (held_of s ++ rest) + length rest
+left_to_do s rest = to_go (types_in s) (state_of s.built) (held_of s ++ rest) + length rest
 
 -- the next node's own bytes are not all there
 pub record WantsBytes (s : Running) : Type 0 where
@@ -72,14 +72,14 @@ pub record WantsBytes (s : Running) : Type 0 where
 -- why no turn follows, where rest is left of the piece
 abbrev pub EndsTurns : Running → List ℕ → Stopped → Type 0
 EndsTurns s rest stop.Finished =
-    ((x : List ℕ) → remain (types_of s) (state_of s.built) x ≡ told [] (Ok x)) × (held_of s ≡ [])
+    ((x : List ℕ) → remain (types_in s) (state_of s.built) x ≡ told [] (Ok x)) × (held_of s ≡ [])
     × (is_whole s.built ≡ true)
 EndsTurns s rest stop.Wants = (rest ≡ []) × WantsBytes s
 EndsTurns s rest (stop.Refused held told_reason at len) = let x = held_of s ++ rest in
     (e : Refusal) × (left : List ℕ) × (is_cut e ≡ false) × (told_reason ≡ reason_of e)
     × (held ≡ length (held_of s)) × (at ≡ length x - length left)
-    × (remain (types_of s) (state_of s.built) x ≡ told [] (Err ((e, left), x)))
-    × Decided (types_of s) (state_of s.built) x e left len × (held ≤ len)
+    × (remain (types_in s) (state_of s.built) x ≡ told [] (Err ((e, left), x)))
+    × Decided (types_in s) (state_of s.built) x e left len × (held ≤ len)
 
 -- the bytes that are held and these spell the next node
 abbrev pub KeepsNode : Running → List ℕ → Type 0
@@ -108,7 +108,7 @@ pub record WantsMemory (s : Running) (rest : List ℕ) : Type 0 where
 abbrev pub Steps : Running → Running → List ℕ → Type 0
 Steps old new bytes = ((1 ≤ length bytes) × (state_of new.built ≡ state_of old.built)
     × (held_of new ≡ held_of old ++ bytes))
-    ⊎ ((held_of new ≡ []) × TurnLeads (types_of old) (state_of old.built) (state_of new.built)
+    ⊎ ((held_of new ≡ []) × TurnLeads (types_in old) (state_of old.built) (state_of new.built)
     (held_of old ++ bytes) × (length new.built.entries ≡ suc (length old.built.entries)))
 
 -- what a turn does, by its step

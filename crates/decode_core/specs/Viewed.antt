@@ -5,8 +5,8 @@ use Rattle.decode_core.specs.Outcome.{Job}
 use Rattle.decode_core.specs.Decoding.{Decoding, closing_turns}
 
 -- what is decoded: a value of which type, within which limits
-abbrev pub job_of : {A : Type 0} → Inside A → Job
-job_of d = record {
+abbrev pub job_within : {A : Type 0} → Inside A → Job
+job_within d = record {
   registry = d.checked.now.types;
   ty = d.root.0;
   depth = d.limits.depth;
@@ -17,7 +17,7 @@ job_of d = record {
 -- calls there were
 abbrev pub decoding_of : {A : Type 0} → Inside A → Decoding
 decoding_of d = record {
-  job = job_of d;
+  job = job_within d;
   taken = d.taken;
   run = d.run;
   turns = d.turns.so_far + closing_turns d.run d.closings.so_far;

@@ -25,7 +25,8 @@ use Rattle.grammar_core.specs.Tree.{Leaf, Branch, Tree, leaf, branch, char, unsi
 use Rattle.grammar_core.specs.Tree.{compact, fields, arm, list, count, Trees, how_many, levels}
 use Rattle.grammar_core.specs.Tree.{most_levels}
 use Rattle.grammar_core.specs.Grammar.{Val, Vals, Each}
-use Rattle.grammar_core.specs.Reading.{value_at, layout_at, bool_at, char_from, all_at, times_at}
+use Rattle.grammar_core.specs.Reading.{value_at, layout_at, bool_value_at, char_from, all_at}
+use Rattle.grammar_core.specs.Reading.{times_at}
 use Rattle.grammar_core.specs.Reading.{fields_behind_index, arms_at, elements_at, as_leaf}
 use Rattle.grammar_core.specs.Reading.{with_children, Refusal, basic}
 
@@ -89,7 +90,7 @@ times_takes r room child h (suc n) t b =
 
 -- a boolean that is read stood on the front, as a value of a type laid out so
 bool_takes : (r : List TypeInfo) (room t : ℕ) (b : List ℕ) →
-    layout r t ≡ (layout.plain layout.bool) → Takes (One r (suc room) t) b (bool_at b)
+    layout r t ≡ (layout.plain layout.bool) → Takes (One r (suc room) t) b (bool_value_at b)
 unfolding Val
 bool_takes r room t [] e = tt
 bool_takes r room t (zero ∷ b) e = (0 ∷ [], refl, ((e, refl), omega arith))

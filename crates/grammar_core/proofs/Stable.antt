@@ -19,7 +19,8 @@ use Rattle.grammar_core.specs.Runs.{run_leaf}
 use Rattle.grammar_core.proofs.Runs.{run_extends}
 use Rattle.grammar_core.specs.Tree.{Leaf, Branch, Tree, unsigned, signed, wide, compact, fields}
 use Rattle.grammar_core.specs.Tree.{arm, list, count, Trees}
-use Rattle.grammar_core.specs.Reading.{value_at, layout_at, leaf_at, bool_at, char_from, all_at}
+use Rattle.grammar_core.specs.Reading.{value_at, layout_at, leaf_at, bool_value_at, char_from}
+use Rattle.grammar_core.specs.Reading.{all_at}
 use Rattle.grammar_core.specs.Reading.{times_at, fields_behind_index, arms_at, elements_at, as_leaf}
 use Rattle.grammar_core.specs.Reading.{with_children, Refusal, basic, truncated}
 
@@ -62,7 +63,8 @@ times_extends more child h (suc n) t b =
     (times_extends more child h n t v.1) (λ vs. refl))
 
 -- a boolean is read, or refused other than for a cut, in the same way from a longer input
-bool_extends : (b more : List ℕ) → Extends truncated more (bool_at b) (bool_at (b ++ more))
+bool_extends : (b more : List ℕ) →
+    Extends truncated more (bool_value_at b) (bool_value_at (b ++ more))
 bool_extends [] more = λ ne. absurd (ne refl)
 bool_extends (zero ∷ b) more = refl
 bool_extends (suc zero ∷ b) more = refl

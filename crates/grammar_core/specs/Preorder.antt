@@ -110,26 +110,27 @@ stored (branch tree.fields n) = (10, (n, (0, (pos 0, []))))
 stored (branch (tree.arm q) n) = (11, (q, (n, (pos 0, []))))
 stored (branch tree.list n) = (12, (n, (0, (pos 0, []))))
 
-abbrev form_from : ℕ → ℕ → ℕ → ℤ → List ℕ → Head
-form_from zero n m z s = leaf tree.unit
-form_from (suc zero) n m z s = leaf (tree.bool (n == 1))
-form_from (suc (suc zero)) n m z s = leaf (tree.char n)
-form_from (suc (suc (suc zero))) n m z s = leaf (tree.text s)
-form_from (suc (suc (suc (suc zero)))) n m z s = leaf (tree.bytes s)
-form_from (suc (suc (suc (suc (suc zero))))) n m z s = leaf (tree.unsigned n)
-form_from (suc (suc (suc (suc (suc (suc zero)))))) n m z s = leaf (tree.signed z)
-form_from (suc (suc (suc (suc (suc (suc (suc zero))))))) n m z s = leaf (tree.wide s)
-form_from (suc (suc (suc (suc (suc (suc (suc (suc zero)))))))) n m z s = leaf (tree.compact n)
-form_from (suc (suc (suc (suc (suc (suc (suc (suc (suc zero))))))))) n m z s = leaf (tree.count n)
-form_from (suc (suc (suc (suc (suc (suc (suc (suc (suc (suc zero)))))))))) n m z s =
+abbrev head_by_mark : ℕ → ℕ → ℕ → ℤ → List ℕ → Head
+head_by_mark zero n m z s = leaf tree.unit
+head_by_mark (suc zero) n m z s = leaf (tree.bool (n == 1))
+head_by_mark (suc (suc zero)) n m z s = leaf (tree.char n)
+head_by_mark (suc (suc (suc zero))) n m z s = leaf (tree.text s)
+head_by_mark (suc (suc (suc (suc zero)))) n m z s = leaf (tree.bytes s)
+head_by_mark (suc (suc (suc (suc (suc zero))))) n m z s = leaf (tree.unsigned n)
+head_by_mark (suc (suc (suc (suc (suc (suc zero)))))) n m z s = leaf (tree.signed z)
+head_by_mark (suc (suc (suc (suc (suc (suc (suc zero))))))) n m z s = leaf (tree.wide s)
+head_by_mark (suc (suc (suc (suc (suc (suc (suc (suc zero)))))))) n m z s = leaf (tree.compact n)
+head_by_mark (suc (suc (suc (suc (suc (suc (suc (suc (suc zero))))))))) n m z s =
+    leaf (tree.count n)
+head_by_mark (suc (suc (suc (suc (suc (suc (suc (suc (suc (suc zero)))))))))) n m z s =
     branch tree.fields n
-form_from (suc (suc (suc (suc (suc (suc (suc (suc (suc (suc (suc zero))))))))))) n m z s =
+head_by_mark (suc (suc (suc (suc (suc (suc (suc (suc (suc (suc (suc zero))))))))))) n m z s =
     branch (tree.arm n) m
-form_from (suc (suc (suc (suc (suc (suc (suc (suc (suc (suc (suc (suc k)))))))))))) n m z s =
+head_by_mark (suc (suc (suc (suc (suc (suc (suc (suc (suc (suc (suc (suc k)))))))))))) n m z s =
     branch tree.list n
 
 abbrev head_from : Stored → Head
-head_from x = form_from x.0 x.1.0 x.1.1.0 x.1.1.1.0 x.1.1.1.1
+head_from x = head_by_mark x.0 x.1.0 x.1.1.0 x.1.1.1.0 x.1.1.1.1
 
 pub head_from-stored : (h : Head) → head_from (stored h) ≡ h
 head_from-stored (leaf tree.unit) = refl

@@ -30,8 +30,8 @@ pub data Refusal : Type 0 where
 abbrev pub truncated : Refusal
 truncated = basic scale.Truncated
 
-abbrev pub Reader : Type 0 → Type 0
-Reader X = List ℕ → Read Refusal X
+abbrev pub ValueReader : Type 0 → Type 0
+ValueReader X = List ℕ → Read Refusal X
 
 -- a part, as a leaf
 abbrev pub as_leaf : {X : Type 0} → (X → Leaf) → Read Reason X → Read Refusal Tree
@@ -42,11 +42,11 @@ abbrev pub with_children : Branch → Read Refusal Trees → Read Refusal Tree
 with_children k (Ok x) = Ok (branch k x.0, x.1)
 with_children k (Err e) = Err e
 
-abbrev pub bool_at : Reader Tree
-bool_at [] = Err (truncated, [])
-bool_at (zero ∷ rest) = Ok (leaf (bool false), rest)
-bool_at (suc zero ∷ rest) = Ok (leaf (bool true), rest)
-bool_at (suc (suc b) ∷ rest) = Err (basic scale.BadBool, suc (suc b) ∷ rest)
+abbrev pub bool_value_at : ValueReader Tree
+bool_value_at [] = Err (truncated, [])
+bool_value_at (zero ∷ rest) = Ok (leaf (bool false), rest)
+bool_value_at (suc zero ∷ rest) = Ok (leaf (bool true), rest)
+bool_value_at (suc (suc b) ∷ rest) = Err (basic scale.BadBool, suc (suc b) ∷ rest)
 
 -- four bytes that are a Unicode scalar value
 abbrev pub char_from : List ℕ → Read Reason (List ℕ) → Read Refusal Tree
@@ -55,7 +55,7 @@ char_from at (Ok x) = if is_scalar (number x.0) then Ok (leaf (char (number x.0)
 char_from at (Err e) = Err (basic e.0, e.1)
 
 -- a value of each of these types, one behind the other, by a reader of one value
-abbrev pub all_at : (ℕ → Reader Tree) → List ℕ → Reader Trees
+abbrev pub all_at : (ℕ → ValueReader Tree) → List ℕ → ValueReader Trees
 all_at child [] bytes = Ok (none, bytes)
 all_at child (t ∷ ts) bytes = do
   first ← child t bytes
@@ -63,7 +63,7 @@ all_at child (t ∷ ts) bytes = do
   Ok (and first.0 others.0, others.1)
 
 -- n values of one type, one behind the other
-abbrev pub times_at : (ℕ → Reader Tree) → ℕ → ℕ → Reader Trees
+abbrev pub times_at : (ℕ → ValueReader Tree) → ℕ → ℕ → ValueReader Trees
 times_at child zero t bytes = Ok (none, bytes)
 times_at child (suc n) t bytes = do
   first ← child t bytes
@@ -71,25 +71,26 @@ times_at child (suc n) t bytes = do
   Ok (and first.0 others.0, others.1)
 
 -- the fields of the arm that the index names, which stands at the front of at
-abbrev pub fields_behind_index : (ℕ → Reader Tree) → List ℕ → Option (ℕ × Arm) → Reader Tree
+abbrev pub fields_behind_index : (ℕ → ValueReader Tree) → List ℕ → Option (ℕ × Arm) →
+    ValueReader Tree
 fields_behind_index child at (Some found) rest =
     with_children (arm found.0) (all_at child (field_types found.1.fields) rest)
 fields_behind_index child at None rest = Err (no_such_variant, at)
 
-abbrev pub arms_at : (ℕ → Reader Tree) → List Arm → Reader Tree
+abbrev pub arms_at : (ℕ → ValueReader Tree) → List Arm → ValueReader Tree
 arms_at child arms [] = Err (truncated, [])
 arms_at child arms (index ∷ rest) =
     fields_behind_index child (index ∷ rest) (arm_of arms index) rest
 
 -- the elements behind a length
-abbrev pub elements_at : (ℕ → Reader Tree) → ℕ → Read Reason ℕ → Read Refusal Tree
+abbrev pub elements_at : (ℕ → ValueReader Tree) → ℕ → Read Reason ℕ → Read Refusal Tree
 elements_at child t (Ok n) = with_children list (times_at child n.0 t n.1)
 elements_at child t (Err e) = Err (basic e.0, e.1)
 
 -- a value without parts, by what its bytes are
-abbrev pub leaf_at : Plain → Reader Tree
+abbrev pub leaf_at : Plain → ValueReader Tree
 leaf_at layout.empty bytes = Ok (leaf unit, bytes)
-leaf_at layout.bool bytes = bool_at bytes
+leaf_at layout.bool bytes = bool_value_at bytes
 leaf_at layout.char bytes = char_from bytes (bytes_at 4 bytes)
 leaf_at (layout.run k) bytes = as_leaf (run_leaf k) (run_at k bytes)
 leaf_at (layout.unsigned k) bytes = as_leaf (λ b. unsigned (number b)) (bytes_at k bytes)
@@ -99,7 +100,7 @@ leaf_at layout.counted bytes = as_leaf count (compact_at target.U32 bytes)
 leaf_at (layout.compact m) bytes = as_leaf compact (compact_at m bytes)
 
 -- a value of this layout, whose children the reader child reads
-unfoldable pub layout_at : (ℕ → Reader Tree) → Layout → Reader Tree
+unfoldable pub layout_at : (ℕ → ValueReader Tree) → Layout → ValueReader Tree
 layout_at child layout.unknown bytes = Err (no_finite_value, bytes)
 layout_at child layout.bit_sequence bytes = Err (bit_sequence, bytes)
 layout_at child layout.bad_compact bytes = Err (bad_compact, bytes)
@@ -110,7 +111,7 @@ layout_at child (layout.sequence t) bytes = elements_at child t (compact_at targ
 layout_at child (layout.array n t) bytes = with_children list (times_at child n t bytes)
 
 -- a value of type t, with room for so many levels
-unfoldable pub value_at : List TypeInfo → ℕ → ℕ → Reader Tree
+unfoldable pub value_at : List TypeInfo → ℕ → ℕ → ValueReader Tree
 value_at r zero t bytes = Err (too_deep, bytes)
 value_at r (suc room) t bytes =
     if is_finite r t then layout_at (value_at r room) (layout r t) bytes else Err

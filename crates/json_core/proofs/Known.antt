@@ -19,7 +19,7 @@ use Rattle.json_core.specs.declared.orders.Known.{Known}
 use Rattle.json_core.specs.declared.orders.Keys.{Keys}
 use Rattle.json_core.specs.declared.orders.Keys.TheVariants as keys
 use Rattle.json_core.specs.Ordered.{key_order, fields_at, OrdersView, AreKeys, IsKnown, AreKeysOf}
-use Rattle.json_core.specs.Ordered.{AreKnown, Grows}
+use Rattle.json_core.specs.Ordered.{AreKnownOrders, Grows}
 
 -- ---- positions that are added change nothing of the others
 
@@ -51,16 +51,16 @@ keys_of_stay ps more (Some fs) k h = (keys_stay ps more fs k.keys h.0, h.1)
 
 -- all entries that are right stay right where positions are appended
 known_stay : (r : List TypeInfo) (ps more : List ℕ) (es : List (Place × Known)) →
-    AreKnown r ps es → AreKnown r (ps ++ more) es
+    AreKnownOrders r ps es → AreKnownOrders r (ps ++ more) es
 known_stay r ps more [] h = tt
 known_stay r ps more (e ∷ es) h =
     (keys_of_stay ps more (fields_at r e.0) e.1 h.0, known_stay r ps more es h.1)
 
 -- the same for positions that are known to be the old ones and more
 pub known_more : (r : List TypeInfo) (old new more : List ℕ) (es : List (Place × Known)) →
-    AreKnown r old es → new ≡ old ++ more → AreKnown r new es
+    AreKnownOrders r old es → new ≡ old ++ more → AreKnownOrders r new es
 known_more r old new more es h e =
-    subst (λ ps. AreKnown r ps es) (sym e) (known_stay r old more es h)
+    subst (λ ps. AreKnownOrders r ps es) (sym e) (known_stay r old more es h)
 
 -- ---- growth
 
@@ -82,7 +82,7 @@ grows_again a b c g h = record {
 module _ {R : Place → Place → Ordering} (exact : CmpEqualImpliesEq R) where
   -- what is found is known
   known_found : (r : List TypeInfo) (ps : List ℕ) (es : List (Place × Known)) (p : Place)
-      (k : Known) → AreKnown r ps es → lookup (is_at (R p)) es ≡ Some k →
+      (k : Known) → AreKnownOrders r ps es → lookup (is_at (R p)) es ≡ Some k →
       AreKeysOf ps (fields_at r p) k
   known_found r ps [] p k h e = absurd cc
   known_found r ps (x ∷ es) p k h e = go (R p x.0) refl (known_found r ps es p k h.1) e where
@@ -99,12 +99,12 @@ module _ {R : Place → Place → Ordering} (exact : CmpEqualImpliesEq R) where
 
   -- what is known stays right where the keys at one more place are kept that are right
   known_insert : (r : List TypeInfo) (ps : List ℕ) (es : List (Place × Known)) (p : Place)
-      (k : Known) → AreKnown r ps es → AreKeysOf ps (fields_at r p) k →
-      AreKnown r ps (insert_entry R es p k)
+      (k : Known) → AreKnownOrders r ps es → AreKeysOf ps (fields_at r p) k →
+      AreKnownOrders r ps (insert_entry R es p k)
   known_insert r ps [] p k h e = (e, tt)
   known_insert r ps (x ∷ es) p k h e = go (R p x.0) refl (known_insert r ps es p k h.1 e) where
-    go : (o : Ordering) → R p x.0 ≡ o → AreKnown r ps (insert_entry R es p k) →
-        AreKnown r ps
+    go : (o : Ordering) → R p x.0 ≡ o → AreKnownOrders r ps (insert_entry R es p k) →
+        AreKnownOrders r ps
         (match_ordering o ((p, k) ∷ x ∷ es) ((x.0, k) ∷ es) (x ∷ insert_entry R es p k))
     go Less is later = (e, h)
     go Equal is later = (subst (λ q. AreKeysOf ps (fields_at r q) k) (exact p x.0 is) e, h.1)
@@ -112,7 +112,7 @@ module _ {R : Place → Place → Ordering} (exact : CmpEqualImpliesEq R) where
 
   -- what a look-up lends
   pub keys_found : (r : List TypeInfo) (ps : List ℕ) (es : List (Place × Known)) (p : Place)
-      (fs : List Field) (found : Option (Bor Known)) (k : Bor Known) → AreKnown r ps es →
+      (fs : List Field) (found : Option (Bor Known)) (k : Bor Known) → AreKnownOrders r ps es →
       fields_at r p ≡ Some fs → option_copied found ≡ lookup (is_at (R p)) es → found ≡ Some k →
       IsKnown ps fs k.now
   keys_found r ps es p fs found k h at e f =
@@ -121,10 +121,12 @@ module _ {R : Place → Place → Ordering} (exact : CmpEqualImpliesEq R) where
 
   -- what is found anew becomes known
   pub keys_put : (r : List TypeInfo) (old ps more : List ℕ) (es new : List (Place × Known))
-      (p : Place) (fs : List Field) (k : Known) → AreKnown r old es → ps ≡ old ++ more →
-      fields_at r p ≡ Some fs → IsKnown ps fs k → new ≡ insert_entry R es p k → AreKnown r ps new
+      (p : Place) (fs : List Field) (k : Known) → AreKnownOrders r old es → ps ≡ old ++ more →
+      fields_at r p ≡ Some fs → IsKnown ps fs k → new ≡ insert_entry R es p k →
+      AreKnownOrders r ps new
   keys_put r old ps more es new p fs k h e at keys is =
-      subst (AreKnown r ps) (sym is) (known_insert r ps es p k (known_more r old ps more es h e)
+      subst (AreKnownOrders r ps) (sym is)
+      (known_insert r ps es p k (known_more r old ps more es h e)
       (subst (λ o. AreKeysOf ps o k) (sym at) keys))
 
 -- a place is the two numbers in it

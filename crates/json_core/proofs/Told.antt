@@ -46,7 +46,7 @@ use Rattle.value_core.proofs.Below.{arm_get, arm_part_is}
 use Rattle.json_core.specs.Defined.{unsigned_by, signed_by, is_long_kind, is_long, is_long_target}
 use Rattle.json_core.specs.Defined.{defined_arm, composite_fields}
 use Rattle.json_core.specs.Json.{json_of, json_seen, all_json, each_json, unsigned_json}
-use Rattle.json_core.specs.Json.{signed_json, unsigned_of, signed_of, bytes_json, wide_json}
+use Rattle.json_core.specs.Json.{signed_json, unsigned_data, signed_data, bytes_json, wide_json}
 use Rattle.json_core.specs.Json.{parts_json, fields_json, arm_json, arm_at_position, arm_types}
 use Rattle.json_core.specs.Json.{part_types, element_type}
 use Rattle.json_core.specs.Ordered.{fields_in}
@@ -213,7 +213,7 @@ unsigned_told r t n k b are e len is =
     let long = defined_at r t (layout.plain (layout.unsigned k)) e in
     let less : n < 256 ^ k = rw (← is, ← len) (number-bound b are) in (
       λ h. omega (arith, less, short k _ long h),
-      ap (λ (f : Layout). unsigned_of f n) e ∙ unsigned_same k n _ long,
+      ap (λ (f : Layout). unsigned_data f n) e ∙ unsigned_same k n _ long,
     )
 
 -- a signed integer's node tells its JSON, and it fits 64 bits if it is not long
@@ -224,7 +224,7 @@ unfolding json_of
 signed_told r t k z b are e len is =
     let long = defined_at r t (layout.plain (layout.signed k)) e in (
       λ h. subst (FitsSigned w64) is (signed_fits b are (rw len (short k _ long h))),
-      ap (λ (f : Layout). signed_of f z) e ∙ signed_same k z _ long,
+      ap (λ (f : Layout). signed_data f z) e ∙ signed_same k z _ long,
     )
 
 -- a compact integer's node tells its JSON, and it fits 64 bits if it is not long
@@ -237,7 +237,7 @@ compact_told r t x m b e h =
     let long : Long (target_bytes m) (is_long_target (compact_target_of r t)) =
     rw is (long_target m) in (
       λ s. omega (arith, compact_bound m x b h, short (target_bytes m) _ long s),
-      ap (λ (f : Layout). unsigned_of f x) e ∙ unsigned_same (target_bytes m) x _ long,
+      ap (λ (f : Layout). unsigned_data f x) e ∙ unsigned_same (target_bytes m) x _ long,
     )
 
 -- the node of a composite or a tuple has the JSON that its children's JSON gives

@@ -87,8 +87,8 @@ AreKeysOf ps None k = Unit {0}
 AreKeysOf ps (Some fs) k = IsKnown ps fs k
 
 -- all that are known are
-abbrev pub AreKnown : List TypeInfo → List ℕ → List (Place × Known) → Type 0
-AreKnown r ps es = AllByRecursion (λ e. AreKeysOf ps (fields_at r e.0) e.1) es
+abbrev pub AreKnownOrders : List TypeInfo → List ℕ → List (Place × Known) → Type 0
+AreKnownOrders r ps es = AllByRecursion (λ e. AreKeysOf ps (fields_at r e.0) e.1) es
 
 -- of the same registry, and positions were added behind the others, if any
 pub record Grows (old new : OrdersView) : Type 0 where

@@ -28,12 +28,12 @@ prints w ts = record {
 }
 
 -- the tokens are printed after what stood there
-abbrev pub Adds : {E : Type 0} → Result (Unit {0}) E → Text → Text → List Token → Type 0
-Adds r old new ts = OnOk r (new ≡ prints old ts)
+abbrev pub AddsTokens : {E : Type 0} → Result (Unit {0}) E → Text → Text → List Token → Type 0
+AddsTokens r old new ts = OnOk r (new ≡ prints old ts)
 
 -- those of a value are
 abbrev pub AddsValue : {E : Type 0} → Result (Unit {0}) E → Text → Text → Data → Type 0
-AddsValue r old new d = Adds r old new (json_tokens (outline d))
+AddsValue r old new d = AddsTokens r old new (json_tokens (outline d))
 
 -- the name of the field at a position
 abbrev pub name_at : List Field → ℕ → List ℕ

@@ -88,13 +88,13 @@ pub(crate) struct Orders<'r> {
 }
 
 impl<'r> Model for Orders<'r> {
-    ghost use Rattle.json_core.specs.Ordered.{OrdersView, AreKnown};
+    ghost use Rattle.json_core.specs.Ordered.{OrdersView, AreKnownOrders};
 
     ghost Value = { OrdersView };
 
     ghost view = { λ o. record { types = o.checked.now.types; positions = o.positions.items } };
 
-    ghost invariant = { λ o. AreKnown o.checked.now.types o.positions.items o.known.entries };
+    ghost invariant = { λ o. AreKnownOrders o.checked.now.types o.positions.items o.known.entries };
 }
 
 impl<'r> Orders<'r> {

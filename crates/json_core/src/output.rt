@@ -88,7 +88,7 @@ fn grow(bytes: &mut Vec<u8>, more: usize) -> Result<(), AllocError>
 }
 
 impl Output {
-    ghost use Rattle.json_core.specs.Tokens.{Adds, put};
+    ghost use Rattle.json_core.specs.Tokens.{AddsTokens, put};
 
     /// An empty text with room for so many bytes.
     pub(crate) fn with_room(alloc: Global, room: usize) -> Result<Output, AllocError>
@@ -150,7 +150,7 @@ impl Output {
     /// An object begins.
     #[inline(always)]
     pub(crate) fn begin_object(&mut self) -> Result<(), AllocError>
-        ensures { Adds result self.old self.new (begin_object ∷ []) }
+        ensures { AddsTokens result self.old self.new (begin_object ∷ []) }
     {
         self.put(self.after_value, "{", false)
     }
@@ -158,7 +158,7 @@ impl Output {
     /// The object that began last ends.
     #[inline(always)]
     pub(crate) fn end_object(&mut self) -> Result<(), AllocError>
-        ensures { Adds result self.old self.new (end_object ∷ []) }
+        ensures { AddsTokens result self.old self.new (end_object ∷ []) }
     {
         self.put(false, "}", true)
     }
@@ -166,7 +166,7 @@ impl Output {
     /// An array begins.
     #[inline(always)]
     pub(crate) fn begin_array(&mut self) -> Result<(), AllocError>
-        ensures { Adds result self.old self.new (begin_array ∷ []) }
+        ensures { AddsTokens result self.old self.new (begin_array ∷ []) }
     {
         self.put(self.after_value, "[", false)
     }
@@ -174,7 +174,7 @@ impl Output {
     /// The array that began last ends.
     #[inline(always)]
     pub(crate) fn end_array(&mut self) -> Result<(), AllocError>
-        ensures { Adds result self.old self.new (end_array ∷ []) }
+        ensures { AddsTokens result self.old self.new (end_array ∷ []) }
     {
         self.put(false, "]", true)
     }
@@ -182,7 +182,7 @@ impl Output {
     /// `null`.
     #[inline(always)]
     pub(crate) fn null(&mut self) -> Result<(), AllocError>
-        ensures { Adds result self.old self.new (null ∷ []) }
+        ensures { AddsTokens result self.old self.new (null ∷ []) }
     {
         self.put(self.after_value, "null", true)
     }
@@ -190,7 +190,7 @@ impl Output {
     /// `true` or `false`.
     #[inline(always)]
     pub(crate) fn boolean(&mut self, x: bool) -> Result<(), AllocError>
-        ensures { Adds result self.old self.new (boolean x ∷ []) }
+        ensures { AddsTokens result self.old self.new (boolean x ∷ []) }
     {
         self.put(self.after_value, if x { "true" } else { "false" }, true)
     }
@@ -198,7 +198,7 @@ impl Output {
     /// A number from 0.
     #[inline(always)]
     pub(crate) fn unsigned(&mut self, n: u64) -> Result<(), AllocError>
-        ensures { Adds result self.old self.new (number (decimal n) ∷ []) }
+        ensures { AddsTokens result self.old self.new (number (decimal n) ∷ []) }
     {
         make_room(&mut self.bytes, self.len, 21)?;
         let buffer = self.bytes.as_mut_slice();
@@ -211,7 +211,7 @@ impl Output {
     /// A number.
     #[inline(always)]
     pub(crate) fn signed(&mut self, n: i64) -> Result<(), AllocError>
-        ensures { Adds result self.old self.new (number (signed_decimal n) ∷ []) }
+        ensures { AddsTokens result self.old self.new (number (signed_decimal n) ∷ []) }
     {
         let mut buffer = itoa::Buffer::new();
         self.put(self.after_value, buffer.format(n), true)
@@ -219,7 +219,7 @@ impl Output {
 
     /// A number from 0 as a text of its digits.
     pub(crate) fn quoted_unsigned(&mut self, n: u128) -> Result<(), AllocError>
-        ensures { Adds result self.old self.new (string (decimal n) ∷ []) }
+        ensures { AddsTokens result self.old self.new (string (decimal n) ∷ []) }
     {
         let mut buffer = itoa::Buffer::new();
         self.put_plain(buffer.format(n), "\"", true)
@@ -227,7 +227,7 @@ impl Output {
 
     /// A number as a text of its digits.
     pub(crate) fn quoted_signed(&mut self, n: i128) -> Result<(), AllocError>
-        ensures { Adds result self.old self.new (string (signed_decimal n) ∷ []) }
+        ensures { AddsTokens result self.old self.new (string (signed_decimal n) ∷ []) }
     {
         let mut buffer = itoa::Buffer::new();
         self.put_plain(buffer.format(n), "\"", true)
@@ -237,7 +237,7 @@ impl Output {
     #[inline(always)]
     pub(crate) fn key(&mut self, alloc: Global, name: &str, plain: bool) -> Result<(), AllocError>
         requires { OnTrue plain (escape name.now ≡ name.now) }
-        ensures { Adds result self.old self.new (key name.now ∷ []) }
+        ensures { AddsTokens result self.old self.new (key name.now ∷ []) }
     {
         if plain || is_plain(name) {
             return self.put_plain(name, "\":", false);
@@ -248,7 +248,7 @@ impl Output {
     /// A key, some of whose characters need an escape, and its colon.
     #[inline(never)]
     fn escaped_key(&mut self, alloc: Global, name: &str) -> Result<(), AllocError>
-        ensures { Adds result self.old self.new (key name.now ∷ []) }
+        ensures { AddsTokens result self.old self.new (key name.now ∷ []) }
     {
         let mut room = std::mem::replace(&mut self.escaped, Vec::new(alloc));
         room.clear();
@@ -263,7 +263,7 @@ impl Output {
     /// A text.
     #[inline(always)]
     pub(crate) fn string(&mut self, alloc: Global, text: &str) -> Result<(), AllocError>
-        ensures { Adds result self.old self.new (string text.now ∷ []) }
+        ensures { AddsTokens result self.old self.new (string text.now ∷ []) }
     {
         if is_plain(text) {
             self.put_plain(text, "\"", true)
@@ -275,7 +275,7 @@ impl Output {
     /// A text, some of whose characters need an escape.
     #[inline(never)]
     fn escaped(&mut self, alloc: Global, text: &str) -> Result<(), AllocError>
-        ensures { Adds result self.old self.new (string text.now ∷ []) }
+        ensures { AddsTokens result self.old self.new (string text.now ∷ []) }
     {
         let mut room = std::mem::replace(&mut self.escaped, Vec::new(alloc));
         room.clear();
@@ -289,7 +289,7 @@ impl Output {
 
     /// A text of `0x` and two hexadecimal digits for each byte.
     pub(crate) fn hex(&mut self, bytes: &[u8]) -> Result<(), AllocError>
-        ensures { Adds result self.old self.new
+        ensures { AddsTokens result self.old self.new
             (string (codes "0x" ++ encode_lower bytes.now) ∷ []) }
     {
         let Some(digits) = bytes.len().checked_mul(2) else {

@@ -12,7 +12,7 @@ ghost use Rattle.value_core.specs.Shown.{children_of};
 ghost use Rattle.json_core.specs.Defined.{unsigned_by, signed_by};
 ghost use Rattle.json_core.specs.Json.{bytes_json, wide_json, json_seen, fields_json};
 ghost use Rattle.json_core.specs.Ordered.{fields_at, AreKeys, ArePlain, Grows};
-ghost use Rattle.json_core.specs.Tokens.{Adds, AddsValue};
+ghost use Rattle.json_core.specs.Tokens.{AddsTokens, AddsValue};
 ghost use Rattle.json_core.specs.declared.orders.Keys.TheVariants.{InOrder, Sorted};
 
 use crate::defined::{composite_fields, defined_arm, is_long, is_long_compact};
@@ -65,7 +65,7 @@ fn write_wide(out: &mut Output, bytes: [u8; 32]) -> Result<(), AllocError>
 
 /// A text of one character.
 fn write_char(alloc: Global, out: &mut Output, x: char) -> Result<(), AllocError>
-    ensures { Adds result out.old out.new (string (encode_utf8 x) ∷ []) }
+    ensures { AddsTokens result out.old out.new (string (encode_utf8 x) ∷ []) }
 {
     let mut bytes = [0; 4];
     out.string(alloc, x.encode_utf8(&mut bytes))

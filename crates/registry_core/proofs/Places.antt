@@ -9,7 +9,7 @@ use Rattle.registry_core.specs.declared.reading.stop.Stop.{Stop}
 use Rattle.registry_core.specs.declared.reading.stop.Stop.TheVariants.{Memory, Fault}
 use Rattle.registry_core.specs.Gives.{StopsReading, IsFaultAt}
 use Rattle.registry_core.specs.Laws.{IsBehind}
-use Rattle.registry_core.specs.Reading.{reason_of, lifted}
+use Rattle.registry_core.specs.Reading.{registry_reason_of, lifted}
 use Rattle.registry_core.proofs.Inside.{Inside, CutAtEnd}
 
 -- what is within the bytes is no longer than they are
@@ -31,7 +31,8 @@ err_behind b read reason left h e = (rw e at h).0
 pub stops_at : {X : Type 0} (b : List ℕ) (fault : ScaleFault) (read : Read Reason X) (stop : Stop) →
     Inside CutAtEnd b read →
     (left : List ℕ) × (read ≡ Err (fault.reason, left)) × (fault.at ≡ place b left) →
-    IsFaultAt (reason_of fault.reason) (drop fault.at b) stop → StopsReading stop (lifted read)
+    IsFaultAt (registry_reason_of fault.reason) (drop fault.at b) stop →
+    StopsReading stop (lifted read)
 stops_at b fault read Memory h told is = absurd is
 stops_at b fault read (Fault reason left) h told is =
     let same = drop-place b told.0 (err_behind b read fault.reason told.0 h told.1) in

@@ -16,7 +16,8 @@ use Rattle.registry_core.specs.declared.fault.RegistryReason.{RegistryReason}
 use Rattle.registry_core.specs.declared.fault.RegistryReason.TheVariants as registry
 use Rattle.registry_core.specs.Bytes.{primitives}
 use Rattle.registry_core.specs.Laws.{IsBehind}
-use Rattle.registry_core.specs.Reading.{Reader, reason_of, lifted, length_at, repeated, sequence_at}
+use Rattle.registry_core.specs.Reading.{Reader, registry_reason_of, lifted, length_at, repeated}
+use Rattle.registry_core.specs.Reading.{sequence_at}
 use Rattle.registry_core.specs.Reading.{string_at, texts_at, option_at, type_id_at, type_ids_at}
 use Rattle.registry_core.specs.Reading.{byte_at, param_at, params_at, field_at, fields_at}
 use Rattle.registry_core.specs.Reading.{arm_read_at, arms_read_at, named, primitive_at}
@@ -37,7 +38,7 @@ pub record IsSteady {X : Type 0} (part : Reader X) : Type 0 where
   pub extends : (b more : List ℕ) → Extends registry.Truncated more (part b) (part (b ++ more))
 
 -- a fault is told as cut only where it was one
-cut : (reason : Reason) → reason_of reason ≡ registry.Truncated → reason ≡ scale.Truncated
+cut : (reason : Reason) → registry_reason_of reason ≡ registry.Truncated → reason ≡ scale.Truncated
 cut scale.Truncated e = refl
 cut scale.BadUtf8 e = absurd cc
 cut scale.CompactNotShortest e = absurd cc
@@ -46,7 +47,7 @@ cut scale.BadBool e = absurd cc
 cut scale.BadChar e = absurd cc
 
 -- no fault of an integer or a text is told as want of memory
-no_memory : (reason : Reason) → reason_of reason ≢ registry.OutOfMemory
+no_memory : (reason : Reason) → registry_reason_of reason ≢ registry.OutOfMemory
 no_memory scale.Truncated e = absurd cc
 no_memory scale.BadUtf8 e = absurd cc
 no_memory scale.CompactNotShortest e = absurd cc
@@ -64,7 +65,7 @@ lifted_inside b (Err e) h = (h.0, (no_memory e.0, λ same. h.1 (cut e.0 same)))
 lifted_extends : {X : Type 0} (more : List ℕ) (r s : Read Reason X) →
     Extends scale.Truncated more r s → Extends registry.Truncated more (lifted r) (lifted s)
 lifted_extends more (Ok x) s h = rw h refl
-lifted_extends more (Err e) s h = λ ne. rw (h (λ same. ne (ap reason_of same))) refl
+lifted_extends more (Err e) s h = λ ne. rw (h (λ same. ne (ap registry_reason_of same))) refl
 
 -- the reading of a length is steady
 length_steady : IsSteady length_at

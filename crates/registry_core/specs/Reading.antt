@@ -21,17 +21,17 @@ use Rattle.registry_core.specs.Bytes.{primitives, magic, version_of}
 -- why a length, an id or a text is refused, as a reason of the registry; none is refused for the
 -- last two, as the clauses
 -- of `read_compact` and `read_text` say
-abbrev pub reason_of : Reason → RegistryReason
-reason_of scale.Truncated = registry.Truncated
-reason_of scale.BadUtf8 = registry.BadUtf8
-reason_of scale.CompactNotShortest = registry.CompactNotShortest
-reason_of scale.CompactTooLarge = registry.CompactTooLarge
-reason_of scale.BadBool = registry.BadOption
-reason_of scale.BadChar = registry.BadUtf8
+abbrev pub registry_reason_of : Reason → RegistryReason
+registry_reason_of scale.Truncated = registry.Truncated
+registry_reason_of scale.BadUtf8 = registry.BadUtf8
+registry_reason_of scale.CompactNotShortest = registry.CompactNotShortest
+registry_reason_of scale.CompactTooLarge = registry.CompactTooLarge
+registry_reason_of scale.BadBool = registry.BadOption
+registry_reason_of scale.BadChar = registry.BadUtf8
 
 abbrev pub lifted : {X : Type 0} → Read Reason X → Read RegistryReason X
 lifted (Ok x) = Ok x
-lifted (Err e) = Err (reason_of e.0, e.1)
+lifted (Err e) = Err (registry_reason_of e.0, e.1)
 
 abbrev pub Reader : Type 0 → Type 0
 Reader X = List ℕ → Read RegistryReason X

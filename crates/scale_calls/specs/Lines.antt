@@ -47,16 +47,16 @@ kind_name (definition.Compact target) = codes "compact"
 kind_name (definition.BitSequence store order) = codes "bitsequence"
 
 -- the segments, with two colons between one and the next
-abbrev pub joined : List (List ℕ) → List ℕ
-joined [] = []
-joined (s ∷ ss) = s ++ flat_map (λ t. codes "::" ++ t) ss
+abbrev pub joined_segments : List (List ℕ) → List ℕ
+joined_segments [] = []
+joined_segments (s ∷ ss) = s ++ flat_map (λ t. codes "::" ++ t) ss
 
 -- position, class, kind and path, with one space between, and the path as a JSON text
 abbrev pub line_of_type : ℕ → Class → TypeInfo → List ℕ
 line_of_type i class info =
     decimal i ++ 32 ∷ (class_name
     class ++ 32 ∷ (kind_name
-    info.shape ++ 32 ∷ (compact_text (string (joined info.path)) ++ 10 ∷ [])))
+    info.shape ++ 32 ∷ (compact_text (string (joined_segments info.path)) ++ 10 ∷ [])))
 
 -- the lines of these types of r, from position i on
 abbrev pub lines_from : List TypeInfo → ℕ → List TypeInfo → List ℕ

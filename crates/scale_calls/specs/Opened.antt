@@ -29,9 +29,9 @@ types_of true bytes = option_map (λ m. m.0) (in_front (metadata_at bytes))
 types_of false bytes = alone (registry_at bytes)
 
 -- the version that a registry's file tells, which it does where it is metadata
-abbrev pub version_of : Bool → List ℕ → Option Version
-version_of true bytes = option_map (λ m. m.1) (in_front (metadata_at bytes))
-version_of false bytes = None
+abbrev pub file_version : Bool → List ℕ → Option Version
+file_version true bytes = option_map (λ m. m.1) (in_front (metadata_at bytes))
+file_version false bytes = None
 
 abbrev pub unless_fault : Option (ℕ × ℕ) → List TypeInfo → Option (List TypeInfo)
 unless_fault None types = Some types
@@ -43,15 +43,15 @@ checked_of metadata bytes =
     option_and_then (λ types. unless_fault (first_fault types) types) (types_of metadata bytes)
 
 -- the first fault of such a file
-abbrev pub IsFirst : Bool → List ℕ → RegistryFault → Type 0
-IsFirst true bytes f = FaultAnswers bytes f (metadata_at bytes)
-IsFirst false bytes f = FaultAnswers bytes f (registry_at bytes)
+abbrev pub IsFirstFault : Bool → List ℕ → RegistryFault → Type 0
+IsFirstFault true bytes f = FaultAnswers bytes f (metadata_at bytes)
+IsFirstFault false bytes f = FaultAnswers bytes f (registry_at bytes)
 
 -- why no types are read: the first fault, or bytes that follow the registry, unless memory was
 -- refused
 abbrev pub RefusesTypes : Bool → List ℕ → RegistryRefusal → Type 0
 RefusesTypes metadata bytes (refusal.Fault f) = (types_of metadata bytes ≡ None)
-    × IsFirst metadata bytes f
+    × IsFirstFault metadata bytes f
 RefusesTypes metadata bytes (refusal.TrailingBytes at) = (types_of metadata bytes ≡ None)
     × (metadata ≡ false) × (at < length bytes)
     × ((types : List TypeInfo) × (registry_at bytes ≡ Ok (types, drop at bytes)))
@@ -68,7 +68,7 @@ RefusesCheck types (refusal.TrailingBytes at) = ⊥
 -- why a registry's file is refused
 abbrev pub RefusesRegistry : Bool → List ℕ → RegistryRefusal → Type 0
 RefusesRegistry metadata bytes (refusal.Fault f) = (checked_of metadata bytes ≡ None)
-    × IsFirst metadata bytes f
+    × IsFirstFault metadata bytes f
 RefusesRegistry metadata bytes (refusal.TrailingBytes at) = (checked_of metadata bytes ≡ None)
     × (metadata ≡ false) × (at < length bytes)
     × ((types : List TypeInfo) × (registry_at bytes ≡ Ok (types, drop at bytes)))

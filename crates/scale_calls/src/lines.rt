@@ -3,7 +3,7 @@
 ghost use Rattle.std.specs.Prelude.{◌≡◌, ◌<◌, ◌++◌, length, IfOk, OnOk, option_map, string_bytes};
 ghost use Rattle.serde_json.specs.Data.{string};
 ghost use Rattle.serde_json.specs.Written.{compact_text};
-ghost use Rattle.scale_calls.specs.Lines.{class_name, joined, kind_name, line_of_type};
+ghost use Rattle.scale_calls.specs.Lines.{class_name, joined_segments, kind_name, line_of_type};
 ghost use Rattle.scale_calls.specs.Lines.{primitive_name, type_line, type_lines, version_line};
 
 use registry_core::{Primitive, Text, TypeDef, TypeId, TypeInfo, Version};
@@ -63,7 +63,7 @@ fn kind_name(shape: &TypeDef) -> &'static str
 
 /// The segments, with two colons between one and the next.
 fn joined(alloc: Global, segments: &[Text]) -> Result<String, AllocError>
-    ensures { IfOk result (λ path. string_bytes path ≡ joined segments.now) }
+    ensures { IfOk result (λ path. string_bytes path ≡ joined_segments segments.now) }
 {
     let Some((first, others)) = segments.split_first() else {
         return Ok(String::new(alloc));
@@ -79,7 +79,7 @@ fn joined(alloc: Global, segments: &[Text]) -> Result<String, AllocError>
 /// A path as a JSON text.
 fn path_text(alloc: Global, segments: &[Text]) -> Result<String, AllocError>
     ensures { IfOk result (λ text.
-        string_bytes text ≡ compact_text (string (joined segments.now))) }
+        string_bytes text ≡ compact_text (string (joined_segments segments.now))) }
 {
     let path = joined(alloc, segments)?;
     Value::String(path).to_string(alloc)

@@ -3,7 +3,7 @@
 ghost use Rattle.std.specs.Prelude.{◌≡◌, Some, IfOk, IfErr};
 ghost use Rattle.graph_core.specs.References.{first_fault};
 ghost use Rattle.scale_calls.specs.Opened.{RefusesCheck, RefusesRegistry, RefusesTypes, checked_of};
-ghost use Rattle.scale_calls.specs.Opened.{types_of, unless_fault, version_of};
+ghost use Rattle.scale_calls.specs.Opened.{types_of, unless_fault, file_version};
 
 use crate::refusal::RegistryRefusal;
 use registry_core::{Registry, Version, read_metadata, read_registry};
@@ -17,7 +17,7 @@ fn registry_of(
     bytes: &[u8],
 ) -> Result<(Registry, Option<Version>), RegistryRefusal>
     ensures ok { IfOk result (λ x. types_of metadata bytes.now ≡ Some x.0) }
-    ensures version { IfOk result (λ x. version_of metadata bytes.now ≡ x.1) }
+    ensures version { IfOk result (λ x. file_version metadata bytes.now ≡ x.1) }
     ensures err { IfErr result (RefusesTypes metadata bytes.now) }
 {
     if metadata {
@@ -55,7 +55,7 @@ pub fn open_registry(
     bytes: &[u8],
 ) -> Result<(Checked, Option<Version>), RegistryRefusal>
     ensures ok { IfOk result (λ x. checked_of metadata bytes.now ≡ Some x.0.types) }
-    ensures version { IfOk result (λ x. version_of metadata bytes.now ≡ x.1) }
+    ensures version { IfOk result (λ x. file_version metadata bytes.now ≡ x.1) }
     ensures err { IfErr result (RefusesRegistry metadata bytes.now) }
 {
     let (registry, version) = registry_of(alloc, metadata, bytes)?;

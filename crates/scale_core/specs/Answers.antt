@@ -13,5 +13,5 @@ Answers view input (Err f) read = (left : List ℕ) × (read ≡ Err (f.reason, 
     × (f.at ≡ place input left)
 
 -- the refusal of an input that ends too early
-abbrev pub truncated : List ℕ → Fault
-truncated input = record { reason = Truncated; at = length input }
+abbrev pub truncated_fault : List ℕ → Fault
+truncated_fault input = record { reason = Truncated; at = length input }

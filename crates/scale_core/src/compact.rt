@@ -4,7 +4,7 @@
 ghost use Rattle.std.specs.Prelude.{◌≡◌, ◌≢◌, ◌+◌, ◌*◌, ◌/◌, ◌%◌, ◌^◌, ◌<◌, ◌≤◌, ◌++◌, ◌∷◌, ℕ};
 ghost use Rattle.std.specs.Prelude.{nat_lt, length, take, drop, slice_index, MatchResult, IfOk};
 ghost use Rattle.std.specs.Prelude.{IfErr, OnOk, OnErr};
-ghost use Rattle.scale_core.specs.Answers.{Answers, truncated};
+ghost use Rattle.scale_core.specs.Answers.{Answers, truncated_fault};
 ghost use Rattle.scale_core.specs.Compact.{big_bytes, compact, target_bytes};
 ghost use Rattle.scale_core.specs.Number.{number};
 ghost use Rattle.scale_core.specs.Read.{compact_at, form_len, form_number, is_too_long};
@@ -77,7 +77,7 @@ fn number_behind_first(bytes: &[u8], count: usize) -> Result<u128, Fault>
     requires { count ≤ 16 }
     ensures { MatchResult result
         (λ n. (count < length bytes.now) × (n ≡ number (take count (drop 1 bytes.now))))
-        (λ f. (length bytes.now ≤ count) × (f ≡ truncated bytes.now)) }
+        (λ f. (length bytes.now ≤ count) × (f ≡ truncated_fault bytes.now)) }
 {
     match bytes.get(1..=count) {
         Some(spelled) => Ok(number_of(spelled)),
@@ -97,7 +97,7 @@ fn read_form(bytes: &[u8], first: u8) -> Result<(u128, usize), Fault>
     ensures { MatchResult result
         (λ x. (x.1 ≡ form_len first) × (x.1 ≤ length bytes.now)
         × (x.0 ≡ form_number (take x.1 bytes.now)))
-        (λ f. (length bytes.now < form_len first) × (f ≡ truncated bytes.now)) }
+        (λ f. (length bytes.now < form_len first) × (f ≡ truncated_fault bytes.now)) }
 {
     match first % 4 {
         0 => Ok((u128::from(first / 4), 1)),

@@ -2,7 +2,7 @@
 //! (SCALE codec specification, "Fixed-width integers").
 
 ghost use Rattle.std.specs.Prelude.{◌≡◌, ◌<◌, ◌≤◌, ◌++◌, length, take, MatchResult, OnOk, OnErr};
-ghost use Rattle.scale_core.specs.Answers.{Answers, truncated};
+ghost use Rattle.scale_core.specs.Answers.{Answers, truncated_fault};
 ghost use Rattle.scale_core.specs.Number.{le_bytes, signed_bytes};
 ghost use Rattle.scale_core.specs.Read.{bytes_at, number_at, signed_at};
 
@@ -13,7 +13,7 @@ use std::alloc::AllocError;
 pub(crate) fn front<const N: usize>(bytes: &[u8]) -> Result<[u8; N], Fault>
     ensures { MatchResult result
         (λ a. (N ≤ length bytes.now) × (a ≡ take N bytes.now))
-        (λ f. (length bytes.now < N) × (f ≡ truncated bytes.now)) }
+        (λ f. (length bytes.now < N) × (f ≡ truncated_fault bytes.now)) }
 {
     match bytes.first_chunk::<N>() {
         Some(chunk) => Ok(*chunk),

@@ -32,7 +32,7 @@ use Rattle.scale_tool.specs.declared.refusal.BytesRefusal.TheVariants as bytes
 use Rattle.scale_tool.specs.declared.refusal.ValueRefusal.{ValueRefusal as FileRefusal}
 use Rattle.scale_tool.specs.HexText.{hex_bytes}
 use Rattle.scale_tool.specs.Values.{TellsBytes, TellsFile, decoding, file_value, told, value_bytes}
-use Rattle.scale_tool.specs.Values.{value_in}
+use Rattle.scale_tool.specs.Values.{value_of_type}
 
 -- the limits of a value
 abbrev made : ℕ → Limits
@@ -72,13 +72,13 @@ no_memory f one e = let four : status_of_bytes (bytes_refusal f) ≡ 4 =
 -- a fault with status 1 says that the bytes spell no value
 faulted_one : (id depth : ℕ) (types : List TypeInfo) (b : List ℕ) (f : DecodeFault) →
     status_of_bytes (bytes_refusal f) ≡ 1 → FinishesDecoder (decoding id depth types) b (Err f) →
-    value_in id depth types b ≡ None
+    value_of_type id depth types b ≡ None
 faulted_one id depth types b f one h = faulted (decoding id depth types) b f (no_memory f one) h
 
 -- a reader's bytes
 pub streamed : (id depth : ℕ) (types : List TypeInfo) (forbidden : Option OpenFault) (b : List ℕ)
     (f : StreamFault) → forbidden ≡ None → Streams forbidden (decoding id depth types) b (Err f) →
-    status_of_value (stream_refusal f) ≡ 1 → value_in id depth types b ≡ None
+    status_of_value (stream_refusal f) ≡ 1 → value_of_type id depth types b ≡ None
 streamed id depth types forbidden b (stream.Open f) none h one = absurd cc
 streamed id depth types forbidden b (stream.Decode f) none h one =
     faulted_one id depth types b f one h.1
@@ -92,7 +92,7 @@ streamed id depth types forbidden b stream.Device none h one = absurd cc
 pub stream_value : (id depth : ℕ) (types : List TypeInfo) (limits : Limits) (b : List ℕ)
     (v : Seen) → limits ≡ made depth →
     Streams (opening_fault types id limits) (job_of types id limits) b (Ok v) →
-    value_in id depth types b ≡ Some v
+    value_of_type id depth types b ≡ Some v
 stream_value id depth types limits b v is h =
     let P : Limits → Type 0 =
     λ l. Streams (opening_fault types id l) (job_of types id l) b (Ok v) in
@@ -103,7 +103,7 @@ stream_value id depth types limits b v is h =
 pub stream_fault : (id depth : ℕ) (types : List TypeInfo) (limits : Limits) (b : List ℕ)
     (f : StreamFault) → limits ≡ made depth → id < length types → depth ≤ 1024 →
     Streams (opening_fault types id limits) (job_of types id limits) b (Err f) →
-    status_of_value (stream_refusal f) ≡ 1 → value_in id depth types b ≡ None
+    status_of_value (stream_refusal f) ≡ 1 → value_of_type id depth types b ≡ None
 stream_fault id depth types limits b f is known served h =
     let P : Limits → Type 0 =
     λ l. Streams (opening_fault types id l) (job_of types id l) b (Err f) in
@@ -118,7 +118,7 @@ ReadsBy id types b r limits =
 -- a value that is read of bytes is the one that they spell
 pub called_value : (id depth : ℕ) (types : List TypeInfo) (limits : Limits) (b : List ℕ)
     (v : Seen) → limits ≡ made depth → ReadsBy id types b (Ok v) limits →
-    value_in id depth types b ≡ Some v
+    value_of_type id depth types b ≡ Some v
 called_value id depth types limits b v is h =
     let s = subst (λ l. ReadsBy id types b (Ok v) l) is h in s.1
 
@@ -134,7 +134,7 @@ none_by forbidden j b call.Memory h one = absurd cc
 -- the same with the limits that the command makes
 pub called_fault : (id depth : ℕ) (types : List TypeInfo) (limits : Limits) (b : List ℕ)
     (e : ValueRefusal) → limits ≡ made depth → ReadsBy id types b (Err e) limits →
-    status_of_bytes (calls_refusal e) ≡ 1 → value_in id depth types b ≡ None
+    status_of_bytes (calls_refusal e) ≡ 1 → value_of_type id depth types b ≡ None
 called_fault id depth types limits b e is h =
     none_by (opening_fault types id (made depth)) (decoding id depth types) b e
     (subst (λ l. ReadsBy id types b (Err e) l) is h)
@@ -239,12 +239,14 @@ stream_opens id depth types limits f is known served h why opened =
 -- where the text holds no bytes
 pub hex_none : (id depth : ℕ) (types : List TypeInfo) (file : List ℕ) (f : HexFault) →
     hex_bytes file ≡ Err f → file_value true id depth types file ≡ None
-hex_none id depth types file f is = ap (λ r. option_and_then (value_in id depth types) (told r)) is
+hex_none id depth types file f is =
+    ap (λ r. option_and_then (value_of_type id depth types) (told r)) is
 
 -- where it holds these
 pub hex_some : (id depth : ℕ) (types : List TypeInfo) (file b : List ℕ) → hex_bytes file ≡ Ok b →
-    file_value true id depth types file ≡ value_in id depth types b
-hex_some id depth types file b is = ap (λ r. option_and_then (value_in id depth types) (told r)) is
+    file_value true id depth types file ≡ value_of_type id depth types b
+hex_some id depth types file b is =
+    ap (λ r. option_and_then (value_of_type id depth types) (told r)) is
 
 -- the bytes that were gathered are those of the file
 gathered : (old new text file : List ℕ) → old ≡ [] → new ≡ old ++ file → text ≡ new → text ≡ file
@@ -254,7 +256,7 @@ gathered old new text file none all is = is ∙ all ∙ ap (λ x. x ++ file) non
 pub hex_refused : (id depth : ℕ) (types : List TypeInfo) (old new text file b : List ℕ)
     (e : BytesRefusal) (r : FileRefusal) → old ≡ [] → new ≡ old ++ file → text ≡ new →
     hex_bytes text ≡ Ok b →
-    r ≡ bytes_in_value e → (status_of_bytes e ≡ 1 → value_in id depth types b ≡ None) →
+    r ≡ bytes_in_value e → (status_of_bytes e ≡ 1 → value_of_type id depth types b ≡ None) →
     status_of_value r ≡ 1 → file_value true id depth types file ≡ None
 hex_refused id depth types old new text file b e r none all same is made h one =
     hex_some id depth types file b (ap hex_bytes (sym (gathered old new text file none all same))

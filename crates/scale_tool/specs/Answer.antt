@@ -5,7 +5,7 @@ use Rattle.std.specs.Prelude.{false}
 use Rattle.std.specs.Io.KnownBytes.{Appends, Keeps}
 use Rattle.registry_core.specs.declared.type_info.TypeInfo.{TypeInfo}
 use Rattle.scale_calls.specs.Lines.{type_lines, version_line}
-use Rattle.scale_calls.specs.Opened.{checked_of, version_of}
+use Rattle.scale_calls.specs.Opened.{checked_of, file_version}
 use Rattle.json_core.specs.Json.{json_text}
 use Rattle.value_core.specs.Shown.{Seen}
 use Rattle.scale_tool.specs.Values.{file_value}
@@ -34,7 +34,7 @@ value_text metadata hex id depth registry value =
 -- one is told, and a line for each type
 abbrev pub types_text : Bool → List ℕ → Option (List ℕ)
 types_text metadata registry =
-    option_map (λ types. version_line (version_of metadata registry) ++ type_lines types)
+    option_map (λ types. version_line (file_version metadata registry) ++ type_lines types)
     (checked_of metadata registry)
 
 -- a fact about the text of the job, where the bytes that it goes by are known

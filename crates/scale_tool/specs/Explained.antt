@@ -24,10 +24,10 @@ IsStatusOf fault.Usage status = status ≡ 2
 IsStatusOf fault.Memory status = status ≡ 4
 
 -- what is reported of it: the text of what `clap` says, or one line
-abbrev pub text_of : JobFault → List ℕ
-text_of (fault.Line e text) = string_bytes text
-text_of fault.Usage = codes "scaleview: usage\n"
-text_of fault.Memory = codes "scaleview: memory\n"
+abbrev pub reported_text : JobFault → List ℕ
+reported_text (fault.Line e text) = string_bytes text
+reported_text fault.Usage = codes "scaleview: usage\n"
+reported_text fault.Memory = codes "scaleview: memory\n"
 
 -- what the words are refused for: by `clap`, with one of the kinds that it has for them and not for
 -- want of memory, or where it has

@@ -17,8 +17,8 @@ id = record (new_rule (codes "ID")) { required = true }
 abbrev pub value_file : Rule
 value_file = record (new_rule (codes "VALUEFILE")) { required = true }
 
-abbrev pub metadata : Rule
-metadata = record (new_rule (codes "metadata"))
+abbrev pub metadata_flag : Rule
+metadata_flag = record (new_rule (codes "metadata"))
     { long = Some (codes "metadata"); action = Some SetTrue }
 
 abbrev pub hex : Rule
@@ -28,12 +28,12 @@ abbrev pub depth : Rule
 depth = record (new_rule (codes "depth")) { long = Some (codes "depth"); value_names = 1 }
 
 abbrev pub types : App
-types = with_rule (with_rule (new_app (codes "types")) file) metadata
+types = with_rule (with_rule (new_app (codes "types")) file) metadata_flag
 
 abbrev pub decode : App
 decode = with_rule (with_rule
     (with_rule (with_rule (with_rule (with_rule (new_app (codes "decode")) file) id) value_file)
-    metadata) hex) depth
+    metadata_flag) hex) depth
 
 -- the command, which does nothing without a subcommand
 abbrev pub with_required_subcommand : App → App

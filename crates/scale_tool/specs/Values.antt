@@ -20,8 +20,8 @@ abbrev pub decoding : ℕ → ℕ → List TypeInfo → decoder.Job
 decoding id depth types = record { registry = types; ty = id; depth = depth; bytes = 16777216 }
 
 -- the value of that type that all the bytes spell
-abbrev pub value_in : ℕ → ℕ → List TypeInfo → List ℕ → Option Seen
-value_in id depth types bytes = calls.value_in (decoding id depth types) bytes
+abbrev pub value_of_type : ℕ → ℕ → List TypeInfo → List ℕ → Option Seen
+value_of_type id depth types bytes = calls.value_in (decoding id depth types) bytes
 
 abbrev pub told : Result (List ℕ) HexFault → Option (List ℕ)
 told (Ok bytes) = Some bytes
@@ -35,7 +35,7 @@ value_bytes false file = Some file
 -- the value that they spell
 abbrev pub file_value : Bool → ℕ → ℕ → List TypeInfo → List ℕ → Option Seen
 file_value hex id depth types file =
-    option_and_then (value_in id depth types) (value_bytes hex file)
+    option_and_then (value_of_type id depth types) (value_bytes hex file)
 
 -- the value, or a refusal where there is none
 abbrev pub ReadsBytes : Option Seen → Result Seen BytesRefusal → Type 0
@@ -43,9 +43,9 @@ ReadsBytes value (Ok v) = value ≡ Some v
 ReadsBytes value (Err e) = status_of_bytes e ≡ 1 → value ≡ None
 
 -- and of a file
-abbrev pub ReadsValue : Option Seen → Result Seen ValueRefusal → Type 0
-ReadsValue value (Ok v) = value ≡ Some v
-ReadsValue value (Err e) = status_of_value e ≡ 1 → value ≡ None
+abbrev pub ReadsFileValue : Option Seen → Result Seen ValueRefusal → Type 0
+ReadsFileValue value (Ok v) = value ≡ Some v
+ReadsFileValue value (Err e) = status_of_value e ≡ 1 → value ≡ None
 
 -- what a refusal says of the value's bytes, unless memory was refused: their fault, or that some
 -- follow the value

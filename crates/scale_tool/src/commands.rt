@@ -4,7 +4,8 @@ ghost use Rattle.std.specs.Prelude.{◌≡◌, IfOk, IfErr, map, true, false};
 ghost use Rattle.clap.specs.Words.{FailsBy, app_of, fault_of, found_of, rows_of, rule_of};
 ghost use Rattle.clap.specs.Words.{matches_of, subcommand_of, subcommand_rows_of, takes, kind_of};
 ghost use Rattle.clap.specs.declared.Command.TheViews.{out-Command};
-ghost use Rattle.scale_tool.specs.Line.{line, types, decode, file, id, value_file, metadata, hex};
+ghost use Rattle.scale_tool.specs.Line.{line, types, decode, file, id, value_file, metadata_flag};
+ghost use Rattle.scale_tool.specs.Line.{hex};
 ghost use Rattle.scale_tool.specs.Line.{depth};
 
 use clap::error::ErrorKind;
@@ -58,7 +59,7 @@ fn value_file_arg<'a>(alloc: Global) -> Arg<'a>
 }
 
 fn metadata_arg<'a>(alloc: Global) -> Arg<'a>
-    ensures rule { rule_of result ≡ metadata }
+    ensures rule { rule_of result ≡ metadata_flag }
     ensures local { result.global ≡ false }
 {
     Arg::new(alloc, "metadata")

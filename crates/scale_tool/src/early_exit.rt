@@ -2,7 +2,7 @@
 
 ghost use Rattle.std.specs.Prelude.{◌≡◌, ◌⊎◌, ℕ, take, true};
 ghost use Rattle.std.specs.Io.KnownBytes.{Appends, Keeps};
-ghost use Rattle.scale_tool.specs.Explained.{IsStatusOf, IsStatusOfLine, text_of};
+ghost use Rattle.scale_tool.specs.Explained.{IsStatusOf, IsStatusOfLine, reported_text};
 ghost use Rattle.scale_tool.specs.Refused.{device_line};
 
 use crate::jobs::JobFault;
@@ -39,13 +39,13 @@ pub fn unopened<E: Write>(device: Device, err: &mut Sink<E>) -> u8
 pub fn explain<W: Write, E: Write>(fault: JobFault, out: &mut Sink<W>, err: &mut Sink<E>) -> u8
     ensures status { IsStatusOf fault result }
     ensures shown { result ≡ 0 →
-        Appends (W.contents out.old.device) (W.contents out.new.device) (text_of fault) }
+        Appends (W.contents out.old.device) (W.contents out.new.device) (reported_text fault) }
     ensures front { result ≡ 3 → (n : ℕ)
-        × Appends (W.contents out.old.device) (W.contents out.new.device) (take n (text_of fault)) }
+        × Appends (W.contents out.old.device) (W.contents out.new.device) (take n (reported_text fault)) }
     ensures silent { (result ≡ 2) ⊎ (result ≡ 4) →
         Keeps (W.contents out.old.device) (W.contents out.new.device) }
     ensures told { (result ≡ 2) ⊎ (result ≡ 4) → (err.new.failed ≡ true)
-        ⊎ Appends (E.contents err.old.device) (E.contents err.new.device) (text_of fault) }
+        ⊎ Appends (E.contents err.old.device) (E.contents err.new.device) (reported_text fault) }
     ensures device { result ≡ 3 → out.new.failed ≡ true }
 {
     match fault {

@@ -2,7 +2,7 @@
 
 ghost use Rattle.std.specs.Prelude.{◌≡◌, ◌⊎◌, ◌<◌, length, true, None, Some, IfOk, IfErr, IfSome};
 ghost use Rattle.std.specs.Prelude.{IsErrOf};
-ghost use Rattle.scale_calls.specs.Opened.{checked_of, version_of};
+ghost use Rattle.scale_calls.specs.Opened.{checked_of, file_version};
 ghost use Rattle.scale_tool.specs.Answer.{types_with, with_position};
 ghost use Rattle.scale_tool.specs.Refused.{status_of, status_of_registry};
 
@@ -22,7 +22,7 @@ fn checked_registry(
     bytes: &[u8],
 ) -> Result<(Checked, Option<Version>), RegistryRefusal>
     ensures ok { IfOk result (λ x. checked_of metadata bytes.now ≡ Some x.0.types) }
-    ensures version { IfOk result (λ x. version_of metadata bytes.now ≡ x.1) }
+    ensures version { IfOk result (λ x. file_version metadata bytes.now ≡ x.1) }
     ensures err { IfErr result (λ e. status_of_registry e ≡ 1 →
         checked_of metadata bytes.now ≡ None) }
 {
@@ -38,7 +38,7 @@ pub(crate) fn read_types<R: Read>(
     ensures ok { IfOk result (λ x. IfSome (R.remaining source.old.device)
         (λ bytes. checked_of metadata bytes ≡ Some x.0.types)) }
     ensures version { IfOk result
-        (λ x. IfSome (R.remaining source.old.device) (λ bytes. version_of metadata bytes ≡ x.1)) }
+        (λ x. IfSome (R.remaining source.old.device) (λ bytes. file_version metadata bytes ≡ x.1)) }
     ensures refused { IfErr result (λ e. status_of e ≡ 1 →
         IfSome (R.remaining source.old.device) (λ bytes. checked_of metadata bytes ≡ None)) }
     ensures device { IfErr result (λ e. status_of e ≡ 3 → e ≡ Refusal.RegistryDevice) }

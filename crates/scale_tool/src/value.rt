@@ -3,8 +3,9 @@
 ghost use Rattle.std.specs.Prelude.{◌≡◌, ◌⊎◌, ◌<◌, ◌≤◌, length, true, false, IfErr, IfSome};
 ghost use Rattle.std.specs.Prelude.{IsErrOf};
 ghost use Rattle.scale_tool.specs.Refused.{IsOfBytes, calls_refusal, stream_refusal};
-ghost use Rattle.scale_tool.specs.Values.{ReadsBytes, ReadsValue, TellsBytes, TellsFile, decoding};
-ghost use Rattle.scale_tool.specs.Values.{file_value, value_in};
+ghost use Rattle.scale_tool.specs.Values.{ReadsBytes, ReadsFileValue, TellsBytes, TellsFile};
+ghost use Rattle.scale_tool.specs.Values.{decoding};
+ghost use Rattle.scale_tool.specs.Values.{file_value, value_of_type};
 ghost use Rattle.decode_core.specs.declared.fault.OpenFault.{OpenFault as AnOpenFault};
 
 use crate::gathering::gather_all;
@@ -67,7 +68,7 @@ fn read_raw<'r, V: Read>(
     requires known { id < length checked.now.types }
     requires depth { depth ≤ 1024 }
     ensures value { IfSome (V.remaining source.old.device)
-        (λ file. ReadsValue (file_value false id depth checked.now.types file) result) }
+        (λ file. ReadsFileValue (file_value false id depth checked.now.types file) result) }
     ensures tells { IfErr result (λ e. IfSome (V.remaining source.old.device)
         (λ file. TellsFile false (decoding id depth checked.now.types) file e)) }
     ensures told { IsErrOf result ValueRefusal.Device → source.new.failed ≡ true }
@@ -89,7 +90,7 @@ fn value_of<'r>(
 ) -> Result<Value<'r, Global>, BytesRefusal>
     requires known { id < length checked.now.types }
     requires depth { depth ≤ 1024 }
-    ensures value { ReadsBytes (value_in id depth checked.now.types bytes.now) result }
+    ensures value { ReadsBytes (value_of_type id depth checked.now.types bytes.now) result }
     ensures tells { IfErr result (TellsBytes (decoding id depth checked.now.types) bytes.now) }
 {
     match calls::read_value(alloc, checked, id, limits(depth), bytes) {
@@ -109,7 +110,7 @@ fn read_hex<'r, V: Read>(
     requires known { id < length checked.now.types }
     requires depth { depth ≤ 1024 }
     ensures value { IfSome (V.remaining source.old.device)
-        (λ file. ReadsValue (file_value true id depth checked.now.types file) result) }
+        (λ file. ReadsFileValue (file_value true id depth checked.now.types file) result) }
     ensures tells { IfErr result (λ e. IfSome (V.remaining source.old.device)
         (λ file. TellsFile true (decoding id depth checked.now.types) file e)) }
     ensures told { IsErrOf result ValueRefusal.Device → source.new.failed ≡ true }
@@ -141,7 +142,7 @@ pub(crate) fn read_value<'r, V: Read>(
     requires known { id < length checked.now.types }
     requires depth { depth ≤ 1024 }
     ensures value { IfSome (V.remaining source.old.device)
-        (λ file. ReadsValue (file_value hex id depth checked.now.types file) result) }
+        (λ file. ReadsFileValue (file_value hex id depth checked.now.types file) result) }
     ensures tells { IfErr result (λ e. IfSome (V.remaining source.old.device)
         (λ file. TellsFile hex (decoding id depth checked.now.types) file e)) }
     ensures told { IsErrOf result ValueRefusal.Device → source.new.failed ≡ true }

@@ -40,11 +40,11 @@ Leaves old new told a = (new ≡ old) × (a ≡ told)
 -- ---- registries
 
 -- the registry that the bytes hold is behind the handle; or nothing is, and it is told why
-abbrev pub Opens : Bool → List ℕ → Option Held → Answer → Type 0
-Opens metadata b (Some (held.Registry o)) a = (checked_of metadata b ≡ Some o.checked.types)
+abbrev pub OpensRegistry : Bool → List ℕ → Option Held → Answer → Type 0
+OpensRegistry metadata b (Some (held.Registry o)) a = (checked_of metadata b ≡ Some o.checked.types)
     × (a ≡ counted 0 (length o.checked.types))
-Opens metadata b (Some (held.Session s)) a = ⊥
-Opens metadata b None a = (e : RegistryRefusal) × RefusesRegistry metadata b e
+OpensRegistry metadata b (Some (held.Session s)) a = ⊥
+OpensRegistry metadata b None a = (e : RegistryRefusal) × RefusesRegistry metadata b e
     × (a ≡ registry_answer e)
 
 -- it is told that the handle is not none, and what is behind it stays
@@ -54,22 +54,22 @@ Stays old new a = (new ≡ old) × (a ≡ plain 6)
 -- the registry is opened behind a handle that is none
 abbrev pub OpensHandle : Option Held → Bool → List ℕ → Option Held → Answer → Type 0
 OpensHandle (Some old) metadata b new a = Stays (Some old) new a
-OpensHandle None metadata b new a = Opens metadata b new a
+OpensHandle None metadata b new a = OpensRegistry metadata b new a
 
 -- the same of a box, by what it holds
 abbrev pub OpensBox : {X : Type 0} → (X → Held) → Bool → List ℕ → Result (X × ℕ) RegistryRefusal →
     Type 0
 OpensBox value_of metadata b (Ok x) =
-    Opens metadata b (Some (value_of x.0)) (counted 0 x.1)
+    OpensRegistry metadata b (Some (value_of x.0)) (counted 0 x.1)
 OpensBox value_of metadata b (Err e) = RefusesRegistry metadata b e
 
 -- nothing is behind the handle any more; or it stays, since a session has the registry, or since
 -- it is no registry
-abbrev pub Closes : Option Held → Option Held → ℕ → Type 0
-Closes (Some (held.Registry o)) new code = ((code ≡ 0) × (new ≡ None))
+abbrev pub ClosesRegistry : Option Held → Option Held → ℕ → Type 0
+ClosesRegistry (Some (held.Registry o)) new code = ((code ≡ 0) × (new ≡ None))
     ⊎ ((code ≡ 4) × (new ≡ Some (held.Registry o)))
-Closes (Some (held.Session s)) new code = (code ≡ 5) × (new ≡ Some (held.Session s))
-Closes None new code = (code ≡ 5) × (new ≡ None)
+ClosesRegistry (Some (held.Session s)) new code = (code ≡ 5) × (new ≡ Some (held.Session s))
+ClosesRegistry None new code = (code ≡ 5) × (new ≡ None)
 
 -- how many types there are
 abbrev pub TellsTypes : Option Held → Answer → Type 0
@@ -127,19 +127,20 @@ StartsBox value_of o id limits (Err e) =
     ForbidsStart (opening_fault o.checked.types id limits) (value_answer e)
 
 -- such a session is behind the handle; or nothing is, and it is told why
-abbrev pub Starts : Option Held → ℕ → Limits → Option Held → Answer → Type 0
-Starts (Some (held.Registry o)) id limits (Some (held.Session s)) a = IsStarted o id limits s.stage
+abbrev pub StartsSession : Option Held → ℕ → Limits → Option Held → Answer → Type 0
+StartsSession (Some (held.Registry o)) id limits (Some (held.Session s)) a =
+    IsStarted o id limits s.stage
     × (a ≡ plain 0)
-Starts (Some (held.Registry o)) id limits (Some (held.Registry other)) a = ⊥
-Starts (Some (held.Registry o)) id limits None a =
+StartsSession (Some (held.Registry o)) id limits (Some (held.Registry other)) a = ⊥
+StartsSession (Some (held.Registry o)) id limits None a =
     ForbidsStart (opening_fault o.checked.types id limits) a
-Starts (Some (held.Session s)) id limits new a = (new ≡ None) × (a ≡ plain 5)
-Starts None id limits new a = (new ≡ None) × (a ≡ plain 5)
+StartsSession (Some (held.Session s)) id limits new a = (new ≡ None) × (a ≡ plain 5)
+StartsSession None id limits new a = (new ≡ None) × (a ≡ plain 5)
 
 -- the session is started behind a handle that is none
 abbrev pub StartsHandle : Option Held → Option Held → ℕ → Limits → Option Held → Answer → Type 0
 StartsHandle (Some old) registry id limits new a = Stays (Some old) new a
-StartsHandle None registry id limits new a = Starts registry id limits new a
+StartsHandle None registry id limits new a = StartsSession registry id limits new a
 
 -- the answer to a piece as numbers
 abbrev pub fed_answer : Result Progress DecodeFault → Answer
@@ -204,14 +205,14 @@ WritesStage (stage.Decoding d) old new a = Leaves old new (plain 1) a
 WritesStage (stage.Shown text) old new a = Writes (string_bytes text) old new a
 WritesStage (stage.Refused e) old new a = Leaves old new (value_answer e) a
 
-abbrev pub Finishes : Option Held → Option Held → List ℕ → List ℕ → Answer → Type 0
-Finishes (Some (held.Session s)) (Some (held.Session t)) old new a = Ends s.stage t.stage
+abbrev pub FinishesSession : Option Held → Option Held → List ℕ → List ℕ → Answer → Type 0
+FinishesSession (Some (held.Session s)) (Some (held.Session t)) old new a = Ends s.stage t.stage
     × WritesStage t.stage old new a
-Finishes (Some (held.Session s)) (Some (held.Registry o)) old new a = ⊥
-Finishes (Some (held.Session s)) None old new a = ⊥
-Finishes (Some (held.Registry o)) kept old new a = IsNone (Some (held.Registry o)) kept a
+FinishesSession (Some (held.Session s)) (Some (held.Registry o)) old new a = ⊥
+FinishesSession (Some (held.Session s)) None old new a = ⊥
+FinishesSession (Some (held.Registry o)) kept old new a = IsNone (Some (held.Registry o)) kept a
     × (new ≡ old)
-Finishes None kept old new a = IsNone None kept a × (new ≡ old)
+FinishesSession None kept old new a = IsNone None kept a × (new ≡ old)
 
 -- nothing is behind the handle any more, or the registry that was there
 abbrev pub Frees : Option Held → Option Held → ℕ → Type 0

@@ -2,7 +2,8 @@
 
 ghost use Rattle.std.specs.Prelude.{◌≡◌, None, Some};
 ghost use Rattle.scale_calls.specs.Opened.{RefusesRegistry, checked_of};
-ghost use Rattle.scaleview_c.specs.Calls.{Closes, OpensBox, OpensHandle, TellsTypes, WritesJson};
+ghost use Rattle.scaleview_c.specs.Calls.{ClosesRegistry, OpensBox, OpensHandle, TellsTypes};
+ghost use Rattle.scaleview_c.specs.Calls.{WritesJson};
 ghost use Rattle.scaleview_c.specs.Calls.{WritesLine, WritesValue};
 
 use crate::codes::{Answer, LENT, MEMORY, NO_HANDLE, OK, TAKEN, UNKNOWN_TYPE};
@@ -59,7 +60,7 @@ pub extern "C" fn scaleview_open(
 /// Frees a registry that no session has.
 #[unsafe(no_mangle)]
 pub extern "C" fn scaleview_close(alloc: Global, registry: &mut Handle) -> u32
-    ensures { Closes registry.old.value registry.new.value result }
+    ensures { ClosesRegistry registry.old.value registry.new.value result }
 {
     let Some(held) = held_by(alloc, mem::replace(registry, Handle::none())) else {
         return NO_HANDLE;

@@ -2,7 +2,8 @@
 
 ghost use Rattle.std.specs.Prelude.{◌≡◌, None, Some};
 ghost use Rattle.decode_core.specs.Decoding.{node_count, text_bytes};
-ghost use Rattle.scaleview_c.specs.Calls.{Feeds, Finishes, Frees, StartsBox, StartsHandle, Tells};
+ghost use Rattle.scaleview_c.specs.Calls.{Feeds, FinishesSession, Frees, StartsBox, StartsHandle};
+ghost use Rattle.scaleview_c.specs.Calls.{Tells};
 ghost use Rattle.scaleview_c.specs.Calls.{taken_of};
 
 use crate::codes::{Answer, NO_HANDLE, OK, TAKEN};
@@ -167,7 +168,8 @@ pub extern "C" fn scaleview_finish(
     out: &mut [u8],
     answer: &mut Answer,
 ) -> u32
-    ensures finished { Finishes session.old.value session.new.value out.old out.new answer.new }
+    ensures finished { FinishesSession session.old.value session.new.value out.old
+        out.new answer.new }
     ensures code { result ≡ answer.new.code }
 {
     let Some(mut held) = held_by(alloc, mem::replace(session, Handle::none())) else {

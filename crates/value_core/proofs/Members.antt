@@ -9,7 +9,7 @@ use Rattle.registry_core.specs.declared.type_info.TypeInfo.{TypeInfo}
 use Rattle.grammar_core.specs.Parts.{each, left_after}
 use Rattle.widths_core.specs.Steps.{AreParts}
 use Rattle.value_core.specs.Frames.{followed_by, frames_of, left_by, members_before, members_of}
-use Rattle.value_core.specs.Frames.{open_part, parts_by}
+use Rattle.value_core.specs.Frames.{open_part_of, parts_by}
 use Rattle.value_core.specs.declared.left.Frame.{Frame}
 use Rattle.value_core.specs.declared.left.PartTypes.{PartTypes}
 use Rattle.value_core.specs.declared.left.PartTypes.TheVariants as types
@@ -72,13 +72,13 @@ parts_counted refs from count ts h =
 
 -- there are as many open parts around the innermost one as are kept
 pub frames_counted : (r : List TypeInfo) (around : List Frame) →
-    length (map (open_part r) (reverse around)) ≡ length around
+    length (map (open_part_of r) (reverse around)) ≡ length around
 frames_counted r around =
-    length-map (reverse around) (open_part r) ∙ length-reverse around
+    length-map (reverse around) (open_part_of r) ∙ length-reverse around
 
 -- where the last of the frames around is taken away, it is the innermost of those that are left
 pub frames_popped : (r : List TypeInfo) (top last : Frame) (around rest : List Frame) →
-    around ≡ rest ++ last ∷ [] → frames_of r top around ≡ open_part r top ∷ frames_of r last rest
+    around ≡ rest ++ last ∷ [] → frames_of r top around ≡ open_part_of r top ∷ frames_of r last rest
 frames_popped r top last around rest e =
-    ap (λ (fs : List Frame). open_part r top ∷ map (open_part r) fs)
+    ap (λ (fs : List Frame). open_part_of r top ∷ map (open_part_of r) fs)
     (ap reverse e ∙ reverse-append rest (last ∷ []))

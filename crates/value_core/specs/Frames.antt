@@ -49,9 +49,9 @@ repeats_by (suc n) (types.Copies t) = true
 abbrev pub repeats : Left → Bool
 repeats l = repeats_by l.count l.types
 
-abbrev pub open_part : List TypeInfo → Frame → OpenPart
-open_part r f = record { node = f.node; left = left_of r f.left }
+abbrev pub open_part_of : List TypeInfo → Frame → OpenPart
+open_part_of r f = record { node = f.node; left = left_of r f.left }
 
 -- the innermost first; those around it are kept the outermost first
 abbrev pub frames_of : List TypeInfo → Frame → List Frame → List OpenPart
-frames_of r top around = open_part r top ∷ map (open_part r) (reverse around)
+frames_of r top around = open_part_of r top ∷ map (open_part_of r) (reverse around)

@@ -40,7 +40,7 @@ FitsLeaf (leaf.Wide b) = length b.now ≡ 32
 FitsLeaf _ = Unit {0}
 
 -- the leaf is kept as this node, and the pool has grown by what the node has there
-pub record IsKept (l : Leaf) (old new : List ℕ) (content : Content) : Type 0 where
+pub record IsLeafKept (l : Leaf) (old new : List ℕ) (content : Content) : Type 0 where
   pub more : List ℕ
   pub grown : new ≡ old ++ more
   pub shows : head_shown new 0 content ≡ leaf_head l
@@ -53,4 +53,4 @@ pub record IsAppended (ty : TypeId) (l : Leaf) (nodes : List Node) (pool : List 
   where
     pub content : Content
     pub nodes_are : new_nodes ≡ nodes ++ record { ty = ty; children = 0; content = content } ∷ []
-    pub kept : IsKept l pool new_pool content
+    pub kept : IsLeafKept l pool new_pool content

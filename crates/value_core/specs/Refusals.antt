@@ -28,15 +28,15 @@ use Rattle.value_core.specs.Walked.{OpenPart, next_of}
 use Rattle.value_core.specs.declared.build_fault.BuildFault.{BuildFault}
 use Rattle.value_core.specs.declared.build_fault.BuildFault.TheVariants as fault
 
-abbrev pub fault_of : StopReason → BuildFault
-fault_of stop.TooDeep = fault.TooDeep
-fault_of stop.NoFiniteValue = fault.NoFiniteValue
-fault_of stop.BitSequence = fault.BitSequence
-fault_of stop.BadCompact = fault.BadCompact
+abbrev pub build_fault_of : StopReason → BuildFault
+build_fault_of stop.TooDeep = fault.TooDeep
+build_fault_of stop.NoFiniteValue = fault.NoFiniteValue
+build_fault_of stop.BitSequence = fault.BitSequence
+build_fault_of stop.BadCompact = fault.BadCompact
 
 -- the refusal of a call that is not the one for what comes next
 abbrev pub other_fault : Next → BuildFault
-other_fault (next.Stop r) = fault_of r
+other_fault (next.Stop r) = build_fault_of r
 other_fault _ = fault.WrongKind
 
 abbrev pub wrong : Option BuildFault
@@ -50,7 +50,7 @@ while_closed (Some t) f = Err fault.WrongKind
 abbrev pub wanted_from : Option Pieces → Next → Result Form BuildFault
 wanted_from run (next.Wants f) = while_closed run f
 wanted_from run next.Finished = Err fault.WrongKind
-wanted_from run (next.Stop r) = Err (fault_of r)
+wanted_from run (next.Stop r) = Err (build_fault_of r)
 
 abbrev pub wanted_of : Built → Result Form BuildFault
 wanted_of b = wanted_from b.run (next_of b.walk)
@@ -189,7 +189,7 @@ missing_from None = Err fault.WrongKind
 abbrev pub missing_at : Option Pieces → Next → Result (RunKind × ℕ) BuildFault
 missing_at run (next.Wants f) = missing_from run
 missing_at run next.Finished = Err fault.WrongKind
-missing_at run (next.Stop r) = Err (fault_of r)
+missing_at run (next.Stop r) = Err (build_fault_of r)
 
 abbrev pub missing_of : Built → Result (RunKind × ℕ) BuildFault
 missing_of b = missing_at b.run (next_of b.walk)
@@ -246,8 +246,8 @@ Adds (Some f) with old new (Ok _) = ⊥
 Adds (Some f) with old new (Err e) = (e ≡ f) × (new ≡ old)
 
 -- a builder of a type: an id that is no position first, and then a depth limit above 1024
-abbrev pub opening_fault : List TypeInfo → ℕ → ℕ → Option BuildFault
-opening_fault types ty depth =
+abbrev pub build_opening_fault : List TypeInfo → ℕ → ℕ → Option BuildFault
+build_opening_fault types ty depth =
     if not (nat_lt ty (length types)) then Some fault.UnknownType else in_range
     (not (nat_lt 1024 depth))
 

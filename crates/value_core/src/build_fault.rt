@@ -1,7 +1,7 @@
 //! Why a builder refuses.
 
 ghost use Rattle.std.specs.Prelude.{◌≡◌};
-ghost use Rattle.value_core.specs.Refusals.{fault_of};
+ghost use Rattle.value_core.specs.Refusals.{build_fault_of};
 
 use grammar_core::StopReason;
 use std::alloc::AllocError;
@@ -38,7 +38,7 @@ pub enum BuildFault {
 }
 
 impl From<StopReason> for BuildFault {
-    ghost from_gives = { λ f r. r ≡ fault_of f };
+    ghost from_gives = { λ f r. r ≡ build_fault_of f };
 
     fn from(reason: StopReason) -> BuildFault {
         match reason {

@@ -12,7 +12,7 @@ ghost use Rattle.value_core.specs.Built.{IsNextOpen};
 ghost use Rattle.value_core.specs.Frames.{left_of};
 ghost use Rattle.value_core.specs.Shown.{head_shown, size_shown};
 ghost use Rattle.value_core.specs.Refusals.{Finishes, Opens, IsRunWhole, bad_text, missing_of};
-ghost use Rattle.value_core.specs.Refusals.{other_fault, wanted_of, is_whole, opening_fault};
+ghost use Rattle.value_core.specs.Refusals.{other_fault, wanted_of, is_whole, build_opening_fault};
 ghost use Rattle.value_core.specs.Walked.{advanced, next_of, opened, start_of};
 ghost use Rattle.value_core.specs.Leaves.{leaf_head, FitsLeaf, IsAppended};
 
@@ -176,7 +176,7 @@ impl<'r, A: Allocator + Clone> Builder<'r, A> {
         root: TypeId,
         depth: u16,
     ) -> Result<Builder<'r, A>, BuildFault>
-        ensures { Opens (opening_fault checked.now.types root.0 depth) (record {
+        ensures { Opens (build_opening_fault checked.now.types root.0 depth) (record {
           ty = root.0;
           walk = start_of checked.now.types root.0 depth;
           entries = [];

@@ -1,7 +1,7 @@
 //! A node without children, before it is added to a value.
 
 ghost use Rattle.std.specs.Prelude.{◌≡◌, IfOk, IfErr, IfSome};
-ghost use Rattle.value_core.specs.Leaves.{leaf_text_bytes, FitsLeaf, IsKept};
+ghost use Rattle.value_core.specs.Leaves.{leaf_text_bytes, FitsLeaf, IsLeafKept};
 
 use crate::node::Content;
 use crate::pool::put_long;
@@ -73,7 +73,7 @@ impl<'b> Leaf<'b> {
     pub(crate) fn keep<A: Allocator>(self, pool: &mut Vec<u8, A>) -> Result<Content, AllocError>
         requires { FitsLeaf self }
         ensures ok { IfOk result (λ content.
-            IsKept self.entry pool.old.items pool.new.items content) }
+            IsLeafKept self.entry pool.old.items pool.new.items content) }
         ensures err { IfErr result (λ _. pool.new.items ≡ pool.old.items) }
     {
         let start = pool.as_slice().len();

@@ -11,7 +11,7 @@ use Rattle.widths_core.specs.declared.step.ArmStep.{ArmStep}
 use Rattle.widths_core.specs.declared.step.Draft.{Draft}
 use Rattle.graph_core.specs.Types.{ids, field_types}
 use Rattle.widths_core.specs.Arms.{arm_of}
-use Rattle.widths_core.specs.Rows.{Keeps, arm_in, index_in}
+use Rattle.widths_core.specs.Rows.{Keeps, arm_at_place, index_in}
 use Rattle.widths_core.specs.Steps.{AreParts, IsArm, IsRow, IsDraft}
 
 -- ---- parts
@@ -72,7 +72,7 @@ row_kept xs ys a b from count arms k h = record {
     k.indexes i (omega (arith, lt, h.within)),
     k.arms i (omega (arith, lt, h.within)),
   )
-      (arm_kept xs ys (Some (arm_in a i)) (arm_of arms (index_in a i)) (h.arm i ge lt));
+      (arm_kept xs ys (Some (arm_at_place a i)) (arm_of arms (index_in a i)) (h.arm i ge lt));
   none = λ x lacks. h.none x
       (λ i ge lt is. lacks i ge lt (k.indexes i (omega (arith, lt, h.within)) ∙ is));
 }

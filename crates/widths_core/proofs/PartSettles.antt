@@ -12,7 +12,7 @@ use Rattle.widths_core.specs.Targets.{target_of}
 use Rattle.widths_core.specs.Classes.{class_of}
 use Rattle.graph_core.specs.Counts.{times}
 use Rattle.widths_core.specs.Rules.{rules, all_parts, numbers_from}
-use Rattle.widths_core.specs.Progress.{Progress, counter_at, no_counter, is_sized, counted}
+use Rattle.widths_core.specs.Progress.{Progress, counter_at, no_counter, is_sized, counter_after}
 use Rattle.widths_core.specs.Progress.{counters_set, completed, part_settled}
 use Rattle.widths_core.specs.Consistent.{rule_at, to_at, rule_number, waiting, has_settled, settles}
 use Rattle.widths_core.specs.Consistent.{IsConsistent, IsClosed}
@@ -72,12 +72,12 @@ counted_consistent : (r : List TypeInfo) (propagated : List ℕ) (s : Progress) 
     IsConsistent r propagated s → e < length (all_parts (rules r)) → times e propagated ≡ 0 →
     has_settled s (to_at r e) ≡ true → f.class ≡ class_of r (to_at r e) →
     IsConsistent r (e ∷ propagated)
-    (counters_set s (rule_number r e) (counted (counter_at s (rule_number r e)) f.class))
+    (counters_set s (rule_number r e) (counter_after (counter_at s (rule_number r e)) f.class))
 counted_consistent r propagated s e f h lt none settled is = record {
   classes = h.classes;
   targets = h.targets;
   counters = length-set s.counters (rule_number r e)
-      (counted (counter_at s (rule_number r e)) f.class) ∙ h.counters;
+      (counter_after (counter_at s (rule_number r e)) f.class) ∙ h.counters;
   owner = λ k. owner k (cases_eq k (rule_number r e));
   kind = λ k. kind k (cases_eq k (rule_number r e));
   left = λ k. left k (cases_eq k (rule_number r e));
@@ -94,36 +94,36 @@ counted_consistent r propagated s e f h lt none settled is = record {
 
   owner : (k : ℕ) → (k ≡ rule_number r e) ⊎ (k ≢ rule_number r e) →
       (counter_at (counters_set s (rule_number r e)
-      (counted (counter_at s (rule_number r e)) f.class)) k).owner ≡ (rule_at r k).owner
+      (counter_after (counter_at s (rule_number r e)) f.class)) k).owner ≡ (rule_at r k).owner
   owner k (inl same) = rw (
     same,
-    counter_same s (rule_number r e) (counted (counter_at s (rule_number r e)) f.class) small,
+    counter_same s (rule_number r e) (counter_after (counter_at s (rule_number r e)) f.class) small,
   )
       (h.owner (rule_number r e))
   owner k (inr other) = rw (counter_other s (rule_number r e) k
-      (counted (counter_at s (rule_number r e)) f.class) other) (h.owner k)
+      (counter_after (counter_at s (rule_number r e)) f.class) other) (h.owner k)
 
   kind : (k : ℕ) → (k ≡ rule_number r e) ⊎ (k ≢ rule_number r e) →
       (counter_at (counters_set s (rule_number r e)
-      (counted (counter_at s (rule_number r e)) f.class)) k).kind ≡ (rule_at r k).kind
+      (counter_after (counter_at s (rule_number r e)) f.class)) k).kind ≡ (rule_at r k).kind
   kind k (inl same) = rw (
     same,
-    counter_same s (rule_number r e) (counted (counter_at s (rule_number r e)) f.class) small,
+    counter_same s (rule_number r e) (counter_after (counter_at s (rule_number r e)) f.class) small,
   )
       (h.kind (rule_number r e))
   kind k (inr other) = rw (counter_other s (rule_number r e) k
-      (counted (counter_at s (rule_number r e)) f.class) other) (h.kind k)
+      (counter_after (counter_at s (rule_number r e)) f.class) other) (h.kind k)
 
   left : (k : ℕ) → (k ≡ rule_number r e) ⊎ (k ≢ rule_number r e) →
       (counter_at (counters_set s (rule_number r e)
-      (counted (counter_at s (rule_number r e)) f.class)) k).left
+      (counter_after (counter_at s (rule_number r e)) f.class)) k).left
       ≡ waiting 0 (numbers_from 0 (rules r)) k (e ∷ propagated)
   left k (inl same) =
       let one : ◌≡◌ {A = ℕ} (cond (rule_number r e == rule_number r e) 1 0) 1 =
       rw (eq-eqb (rule_number r e) (rule_number r e) refl) refl in
       rw (
         same,
-        counter_same s (rule_number r e) (counted (counter_at s (rule_number r e)) f.class)
+        counter_same s (rule_number r e) (counter_after (counter_at s (rule_number r e)) f.class)
             small,
       ) (omega (
         arith,
@@ -134,21 +134,22 @@ counted_consistent r propagated s e f h lt none settled is = record {
   left k (inr other) =
       let no : ◌≡◌ {A = ℕ} (cond (rule_number r e == k) 1 0) 0 =
       rw (differ (rule_number r e) k (λ i. other (sym i))) refl in
-      rw (counter_other s (rule_number r e) k (counted (counter_at s (rule_number r e)) f.class)
+      rw (counter_other s (rule_number r e) k
+      (counter_after (counter_at s (rule_number r e)) f.class)
       other) (omega (arith, h.left k, propagated_left r propagated e k lt none, no))
 
   sized : (k : ℕ) → (k ≡ rule_number r e) ⊎ (k ≢ rule_number r e) →
       (counter_at (counters_set s (rule_number r e)
-      (counted (counter_at s (rule_number r e)) f.class)) k).sized
+      (counter_after (counter_at s (rule_number r e)) f.class)) k).sized
       ≡ list_any (λ x. (rule_number r x == k) && is_sized (class_of r (to_at r x))) (e ∷ propagated)
   sized k (inl same) =
       let P : ℕ → Type 0 = λ j. (counter_at
-      (counters_set s (rule_number r e) (counted (counter_at s (rule_number r e)) f.class))
+      (counters_set s (rule_number r e) (counter_after (counter_at s (rule_number r e)) f.class))
       j).sized ≡ list_any (λ x. (rule_number r x == j) && is_sized (class_of r (to_at r x)))
       (e ∷ propagated) in
       let there : P (rule_number r e) =
       rw (
-        counter_same s (rule_number r e) (counted (counter_at s (rule_number r e)) f.class)
+        counter_same s (rule_number r e) (counter_after (counter_at s (rule_number r e)) f.class)
             small,
         eq-eqb (rule_number r e) (rule_number r e) refl,
         is,
@@ -159,7 +160,7 @@ counted_consistent r propagated s e f h lt none settled is = record {
       subst P (sym same) there
   sized k (inr other) = rw (
     counter_other s (rule_number r e) k
-        (counted (counter_at s (rule_number r e)) f.class) other,
+        (counter_after (counter_at s (rule_number r e)) f.class) other,
     differ (rule_number r e) k (λ i. other (sym i)),
   ) (h.sized k)
 
@@ -201,39 +202,42 @@ pub settles_part : (r : List TypeInfo) (propagated : List ℕ) (s : Progress) (e
     f.target ≡ target_of r (to_at r e) →
     SettlesPart r propagated e s (part_settled s (rule_number r e) f)
 settles_part r propagated s e f h closed lt none settled is target =
-    go ((counted (counter_at s (rule_number r e)) f.class).left == 0) refl where
+    go ((counter_after (counter_at s (rule_number r e)) f.class).left == 0) refl where
       st : IsConsistent r (e ∷ propagated)
-          (counters_set s (rule_number r e) (counted (counter_at s (rule_number r e)) f.class))
+          (counters_set s (rule_number r e)
+          (counter_after (counter_at s (rule_number r e)) f.class))
       st = counted_consistent r propagated s e f h lt none settled is
 
       at : counter_at (counters_set s (rule_number r e)
-          (counted (counter_at s (rule_number r e)) f.class)) (rule_number r e)
-          ≡ counted (counter_at s (rule_number r e)) f.class
-      at = counter_same s (rule_number r e) (counted (counter_at s (rule_number r e)) f.class)
+          (counter_after (counter_at s (rule_number r e)) f.class)) (rule_number r e)
+          ≡ counter_after (counter_at s (rule_number r e)) f.class
+      at = counter_same s (rule_number r e) (counter_after (counter_at s (rule_number r e)) f.class)
           (omega (arith, h.counters, number-lt r e lt))
 
       others : (j : ℕ) → j ≢ rule_number r e → settles (rule_at r j).kind ≡ true →
           (counter_at (counters_set s (rule_number r e)
-          (counted (counter_at s (rule_number r e)) f.class)) j).left ≡ 0 →
+          (counter_after (counter_at s (rule_number r e)) f.class)) j).left ≡ 0 →
           has_settled s (rule_at r j).owner ≡ true
       others j other e' left =
           closed.at j e' (rw (counter_other s (rule_number r e) j
-          (counted (counter_at s (rule_number r e)) f.class) other) at left)
+          (counter_after (counter_at s (rule_number r e)) f.class) other) at left)
 
-      go : (b : Bool) → ((counted (counter_at s (rule_number r e)) f.class).left == 0) ≡ b →
+      go : (b : Bool) → ((counter_after (counter_at s (rule_number r e)) f.class).left == 0) ≡ b →
           SettlesPart r propagated e s
           (cond b (completed (counters_set s (rule_number r e)
-          (counted (counter_at s (rule_number r e)) f.class))
-          (counted (counter_at s (rule_number r e)) f.class) f.target)
-          (counters_set s (rule_number r e) (counted (counter_at s (rule_number r e)) f.class)))
+          (counter_after (counter_at s (rule_number r e)) f.class))
+          (counter_after (counter_at s (rule_number r e)) f.class) f.target)
+          (counters_set s (rule_number r e)
+          (counter_after (counter_at s (rule_number r e)) f.class)))
       go true p =
-          let zero_is : (counted (counter_at s (rule_number r e)) f.class).left ≡ 0 =
-          eqb-true (counted (counter_at s (rule_number r e)) f.class).left 0 p in
+          let zero_is : (counter_after (counter_at s (rule_number r e)) f.class).left ≡ 0 =
+          eqb-true (counter_after (counter_at s (rule_number r e)) f.class).left 0 p in
           let left : (counter_at (counters_set s (rule_number r e)
-          (counted (counter_at s (rule_number r e)) f.class)) (rule_number r e)).left ≡ 0 =
+          (counter_after (counter_at s (rule_number r e)) f.class)) (rule_number r e)).left ≡ 0 =
           rw at zero_is in
           let done = rw at at (completes_to r (e ∷ propagated)
-          (counters_set s (rule_number r e) (counted (counter_at s (rule_number r e)) f.class))
+          (counters_set s (rule_number r e)
+          (counter_after (counter_at s (rule_number r e)) f.class))
           (rule_number r e) f.target st (number-lt r e lt) left
           (λ u one. target ∙ ap (target_of r) (only_part r e u lt one))) in
           record {
@@ -258,7 +262,8 @@ settles_part r propagated s e f h closed lt none settled is target =
         closed = record {
           at = λ j e' none'. elim (cases_eq j (rule_number r e)) [
             | inl same ↦ absurd (let zero_is = rw (same, at) at none' in let no = sym p
-                ∙ eq-eqb (counted (counter_at s (rule_number r e)) f.class).left 0 zero_is in cc)
+                ∙ eq-eqb (counter_after (counter_at s (rule_number r e)) f.class).left
+                0 zero_is in cc)
             | inr other ↦ others j other e' none'
           ];
         };

@@ -13,7 +13,8 @@ use Rattle.widths_core.specs.declared.rows.Rows.{Rows}
 use Rattle.widths_core.specs.declared.step.ArmStep.{ArmStep}
 use Rattle.graph_core.specs.Types.{field_types}
 use Rattle.widths_core.specs.Arms.{arm_of}
-use Rattle.widths_core.specs.Rows.{Keeps, IsPaired, IsIn, Lacks, BelongsAt, Rises, Inserts, arm_in}
+use Rattle.widths_core.specs.Rows.{Keeps, IsPaired, IsIn, Lacks, BelongsAt, Rises, Inserts}
+use Rattle.widths_core.specs.Rows.{arm_at_place}
 use Rattle.widths_core.specs.Rows.{index_in, no_arm}
 use Rattle.widths_core.specs.Steps.{AreParts, IsArm, IsRow}
 use Rattle.widths_core.proofs.ArmsTo.{shadowed, counted}
@@ -26,7 +27,7 @@ pub record RowTo (refs : List ℕ) (f i : ℕ) (arms : List Arm) (a b : Rows) : 
   pub keeps : Keeps a b
   pub rises : Rises b.indexes.items f (length b.indexes.items)
   pub arm : (k : ℕ) → f ≤ k → k < length b.indexes.items →
-      IsArm refs (Some (arm_in b k)) (arm_of (take i arms) (index_in b k))
+      IsArm refs (Some (arm_at_place b k)) (arm_of (take i arms) (index_in b k))
   pub none : (x : ℕ) → Lacks b.indexes.items f (length b.indexes.items) x →
       arm_of (take i arms) x ≡ None
 
@@ -53,7 +54,7 @@ pub row_has : (refs : List ℕ) (f i : ℕ) (arms : List Arm) (a b : Rows) (v k 
     RowTo refs f i arms a b → IsIn b.indexes.items f (length b.indexes.items) v k →
     is_some (arm_of (take i arms) v) ≡ true
 row_has refs f i arms a b v k h is =
-    rw is.is at (some_arm refs (arm_in b k) (arm_of (take i arms) (index_in b k))
+    rw is.is at (some_arm refs (arm_at_place b k) (arm_of (take i arms) (index_in b k))
     (h.arm k is.above is.below))
 
 -- an arm whose index belongs into the row is the first of its index
@@ -78,7 +79,8 @@ row_shadowed xs ys zs f i arms x a b lt is e old h = record {
   keeps = h.keeps;
   rises = h.rises;
   arm = λ k ge end. rw (e, shadowed i (index_in b k) arms x lt is old)
-      (arm_kept xs ys (Some (arm_in b k)) (arm_of (take i arms) (index_in b k)) (h.arm k ge end));
+      (arm_kept xs ys (Some (arm_at_place b k)) (arm_of (take i arms) (index_in b k))
+      (h.arm k ge end));
   none = λ y lacks. shadowed i y arms x lt is old ∙ h.none y lacks;
 }
 
@@ -99,9 +101,10 @@ differs m n ne = go (m == n) refl where
 
 -- what the rows have at each place after an arm came
 record Read (b c : Rows) (at v : ℕ) (s : ArmStep) : Type 0 where
-  below : (k : ℕ) → k < at → (index_in c k ≡ index_in b k) × (arm_in c k ≡ arm_in b k)
-  here : (index_in c at ≡ v) × (arm_in c at ≡ s)
-  after : (k : ℕ) → at < k → (index_in c k ≡ index_in b (k - 1)) × (arm_in c k ≡ arm_in b (k - 1))
+  below : (k : ℕ) → k < at → (index_in c k ≡ index_in b k) × (arm_at_place c k ≡ arm_at_place b k)
+  here : (index_in c at ≡ v) × (arm_at_place c at ≡ s)
+  after : (k : ℕ) → at < k → (index_in c k ≡ index_in b (k - 1))
+      × (arm_at_place c k ≡ arm_at_place b (k - 1))
   size : length c.indexes.items ≡ length b.indexes.items + 1
   sizes : length c.arms.items ≡ length b.arms.items + 1
 
@@ -189,12 +192,12 @@ row_counted xs ys zs f i at arms x s a b c lt is e new position parts k h = reco
       (arm_kept xs ys (Some st) (arm_of (take i arms) (index_in b j)) was)
 
   arm : (j : ℕ) → f ≤ j → j < length c.indexes.items → (j < at) ⊎ (at ≤ j) → (j ≡ at) ⊎ (j ≢ at) →
-      IsArm zs (Some (arm_in c j))
+      IsArm zs (Some (arm_at_place c j))
       (cond (x.index == index_in c j) (Some (i, x)) (arm_of (take i arms) (index_in c j)))
   arm j ge end (inl below) eq =
       let less = new.less j ge below in
       rw ((now.below j below).0, (now.below j below).1)
-      (old j (arm_in b j) (λ eq. omega (arith, less, eq))
+      (old j (arm_at_place b j) (λ eq. omega (arith, less, eq))
       (h.arm j ge (omega (arith, below, new.within))))
   arm j ge end (inr past) (inl same) =
       rw (same, now.here.0, now.here.1, eq-eqb x.index x.index refl) (position, parts)
@@ -203,7 +206,7 @@ row_counted xs ys zs f i at arms x s a b c lt is e new position parts k h = reco
       let within : j - 1 < length b.indexes.items = omega (arith, end, now.size, far) in
       let more = new.greater (j - 1) (omega (arith, far)) within in
       rw ((now.after j far).0, (now.after j far).1)
-      (old (j - 1) (arm_in b (j - 1)) (λ eq. omega (arith, more, eq))
+      (old (j - 1) (arm_at_place b (j - 1)) (λ eq. omega (arith, more, eq))
       (h.arm (j - 1) (omega (arith, far, new.above)) within))
 
   none : (y : ℕ) → Lacks c.indexes.items f (length c.indexes.items) y →

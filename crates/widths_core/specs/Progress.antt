@@ -17,8 +17,8 @@ pub record Progress : Type 0 where
   pub targets : List (Option Target)
   pub settled : List ℕ
 
-abbrev pub state_of : Settling → Progress
-state_of s = record {
+abbrev pub progress_of : Settling → Progress
+progress_of s = record {
   counters = s.counters.items;
   classes = s.classes.items;
   targets =
@@ -55,8 +55,8 @@ settled_by s t (Some f) = settled_as s t f
 abbrev pub completed : Progress → Counter → Option Target → Progress
 completed s c last = settled_by s c.owner (outcome c.kind c.sized last)
 
-abbrev pub counted : Counter → Class → Counter
-counted c part = record {
+abbrev pub counter_after : Counter → Class → Counter
+counter_after c part = record {
   owner = c.owner;
   kind = c.kind;
   left = c.left - 1;
@@ -75,7 +75,7 @@ counters_set s k c = record {
 
 -- a part of counter k has settled as this
 abbrev pub part_settled : Progress → ℕ → Found → Progress
-part_settled s k f = let c = counted (counter_at s k) f.class in
+part_settled s k f = let c = counter_after (counter_at s k) f.class in
     if c.left == 0 then completed (counters_set s k c) c f.target else counters_set s k c
 
 -- the tables have an entry for type t

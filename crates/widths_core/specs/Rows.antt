@@ -9,8 +9,8 @@ abbrev pub no_arm : ArmStep
 no_arm = record { position = 0; from = 0; count = 0 }
 
 -- the arm at place k
-abbrev pub arm_in : Rows → ℕ → ArmStep
-arm_in rows k = slice_index_or rows.arms.items k no_arm
+abbrev pub arm_at_place : Rows → ℕ → ArmStep
+arm_at_place rows k = slice_index_or rows.arms.items k no_arm
 
 -- its index
 abbrev pub index_in : Rows → ℕ → ℕ
@@ -60,10 +60,10 @@ pub record Inserts (a b : Rows) (k index : ℕ) (s : ArmStep) : Type 0 where
 abbrev pub IsPlace : Rows → ℕ → ℕ → ℕ → Option ArmStep → Type 0
 IsPlace rows from count index found =
     MatchOption found (Lacks rows.indexes.items from (from + count) index)
-    (λ s. (k : ℕ) × IsIn rows.indexes.items from (from + count) index k × (s ≡ arm_in rows k))
+    (λ s. (k : ℕ) × IsIn rows.indexes.items from (from + count) index k × (s ≡ arm_at_place rows k))
 
 -- what was there is there still
 pub record Keeps (a b : Rows) : Type 0 where
   pub count : length a.indexes.items ≤ length b.indexes.items
   pub indexes : (k : ℕ) → k < length a.indexes.items → index_in b k ≡ index_in a k
-  pub arms : (k : ℕ) → k < length a.indexes.items → arm_in b k ≡ arm_in a k
+  pub arms : (k : ℕ) → k < length a.indexes.items → arm_at_place b k ≡ arm_at_place a k

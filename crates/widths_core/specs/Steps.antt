@@ -24,7 +24,7 @@ use Rattle.widths_core.specs.Targets.{target_of}
 use Rattle.widths_core.specs.Classes.{class_of}
 use Rattle.widths_core.specs.ClassTables.{class_of_compact, TellsClasses, TellsTargets}
 use Rattle.widths_core.specs.Layouts.{is_byte}
-use Rattle.widths_core.specs.Rows.{IsPaired, Lacks, Rises, arm_in, index_in}
+use Rattle.widths_core.specs.Rows.{IsPaired, Lacks, Rises, arm_at_place, index_in}
 
 -- the references of a registry, in the order of its bytes
 abbrev pub references_of : List TypeInfo → List ℕ
@@ -49,7 +49,7 @@ pub record IsRow (refs : List ℕ) (rows : Rows) (from count : ℕ) (arms : List
   pub within : from + count ≤ length rows.indexes.items
   pub rises : Rises rows.indexes.items from (from + count)
   pub arm : (k : ℕ) → from ≤ k → k < from + count →
-      IsArm refs (Some (arm_in rows k)) (arm_of arms (index_in rows k))
+      IsArm refs (Some (arm_at_place rows k)) (arm_of arms (index_in rows k))
   pub none : (x : ℕ) → Lacks rows.indexes.items from (from + count) x → arm_of arms x ≡ None
 
 -- this is the draft of a type of this shape, where its parts are among these references, and the

@@ -4,7 +4,7 @@ ghost use Rattle.std.specs.Prelude.{◌≡◌, ◌≤◌, ◌+◌, length, slice
 ghost use Rattle.std.specs.Prelude.{MatchResult};
 ghost use Rattle.std.specs.List.{insert};
 ghost use Rattle.widths_core.specs.Rows.{IsPlace, IsSearched, IsPaired, HasNoRow, IsIn, Lacks};
-ghost use Rattle.widths_core.specs.Rows.{Rises, Inserts, arm_in};
+ghost use Rattle.widths_core.specs.Rows.{Rises, Inserts, arm_at_place};
 
 use crate::step::ArmStep;
 use std::alloc::{AllocError, Global};

@@ -1,7 +1,7 @@
 //! Types settle one by one, each with its class and target, as soon as its parts have.
 
 ghost use Rattle.std.specs.Prelude.{◌≡◌, ◌<◌, length, replicate, [], None, OnOk, IfOk};
-ghost use Rattle.widths_core.specs.Progress.{state_of, settled_as, completed, part_settled};
+ghost use Rattle.widths_core.specs.Progress.{progress_of, settled_as, completed, part_settled};
 ghost use Rattle.widths_core.specs.Progress.{counter_at, KnowsType};
 ghost use Rattle.widths_core.specs.Propagation.{AreCompactsSettled, IsBad, IsPending, IsStart};
 ghost use Rattle.widths_core.specs.Propagation.{IsPropagatedTo, Propagates, PropagatesAll};
@@ -32,7 +32,7 @@ impl Settling {
         count: usize,
     ) -> Result<Settling, AllocError>
         ensures { IfOk result (λ s.
-            state_of s ≡ record {
+            progress_of s ≡ record {
               counters = counters.items;
               classes = replicate count class.NoValue;
               targets = replicate count None;
@@ -51,8 +51,9 @@ impl Settling {
 
     /// A type settles as this, unless it has settled before.
     fn settle(&mut self, owner: u32, found: Found) -> Result<(), AllocError>
-        requires { KnowsType (state_of self.old) owner }
-        ensures { OnOk result (state_of self.new ≡ settled_as (state_of self.old) owner found) }
+        requires { KnowsType (progress_of self.old) owner }
+        ensures { OnOk result (progress_of self.new
+            ≡ settled_as (progress_of self.old) owner found) }
     {
         let position = owner as usize;
         if self.classes[position].has_value() {
@@ -66,8 +67,9 @@ impl Settling {
 
     /// All parts of a counter have settled, and a compact over the last of them has this target.
     fn complete(&mut self, counter: Counter, last: Option<Target>) -> Result<(), AllocError>
-        requires { KnowsType (state_of self.old) counter.owner }
-        ensures { OnOk result (state_of self.new ≡ completed (state_of self.old) counter last) }
+        requires { KnowsType (progress_of self.old) counter.owner }
+        ensures { OnOk result (progress_of self.new
+            ≡ completed (progress_of self.old) counter last) }
     {
         match counter.kind.outcome(counter.sized, last) {
             Some(found) => self.settle(counter.owner, found),
@@ -78,10 +80,11 @@ impl Settling {
     /// A part of a counter has settled as this.
     fn settle_part(&mut self, number: u32, found: Found) -> Result<(), AllocError>
         requires number { number < length self.old.counters.items }
-        requires owner { KnowsType (state_of self.old)
-            (counter_at (state_of self.old) number).owner }
-        requires left { 0 < (counter_at (state_of self.old) number).left }
-        ensures { OnOk result (state_of self.new ≡ part_settled (state_of self.old) number found) }
+        requires owner { KnowsType (progress_of self.old)
+            (counter_at (progress_of self.old) number).owner }
+        requires left { 0 < (counter_at (progress_of self.old) number).left }
+        ensures { OnOk result (progress_of self.new
+            ≡ part_settled (progress_of self.old) number found) }
     {
         let mut counter = self.counters[number as usize];
         counter.left -= 1;
@@ -98,9 +101,9 @@ impl Settling {
 
     /// What was found of a type is counted at each reference to it.
     fn propagate(&mut self, graph: &mut Graph<'_>, propagated: u32) -> Result<(), AllocError>
-        requires { IsPending graph.old.types.now graph.old (state_of self.old) propagated }
+        requires { IsPending graph.old.types.now graph.old (progress_of self.old) propagated }
         ensures { OnOk result (Propagates graph.old.types.now graph.old graph.new
-            (state_of self.old) (state_of self.new) propagated) }
+            (progress_of self.old) (progress_of self.new) propagated) }
     {
         let found = Found {
             class: self.classes[propagated as usize],
@@ -118,9 +121,9 @@ impl Settling {
     /// What was found of the types that have settled is counted at each reference to them, until nothing more settles. For
     /// the first ones that was done before. Answers how many have settled.
     fn propagate_all(&mut self, graph: &mut Graph<'_>, first: usize) -> Result<usize, AllocError>
-        requires { IsPropagatedTo graph.old.types.now graph.old (state_of self.old) first }
+        requires { IsPropagatedTo graph.old.types.now graph.old (progress_of self.old) first }
         ensures { IfOk result (λ done. PropagatesAll graph.old.types.now graph.old graph.new
-            (state_of self.old) (state_of self.new) done) }
+            (progress_of self.old) (progress_of self.new) done) }
     {
         let mut done = first;
         'propagated: while done < self.settled.len() {
@@ -133,9 +136,9 @@ impl Settling {
 
     /// Types without a part that has to settle first settle, and then each whose parts have. Answers how many have settled.
     pub(crate) fn begin(&mut self, graph: &mut Graph<'_>) -> Result<usize, AllocError>
-        requires { IsStart graph.old.types.now graph.old (state_of self.old) }
+        requires { IsStart graph.old.types.now graph.old (progress_of self.old) }
         ensures { IfOk result (λ done. PropagatesAll graph.old.types.now graph.old graph.new
-            (state_of self.old) (state_of self.new) done) }
+            (progress_of self.old) (progress_of self.new) done) }
     {
         'counters: for number in 0..self.counters.len() {
             let counter = self.counters[number];
@@ -154,13 +157,13 @@ impl Settling {
         first: usize,
     ) -> Result<usize, AllocError>
         requires propagated { IsPropagatedTo graph.old.types.now graph.old
-            (state_of self.old) first }
-        requires bad { IsBad graph.old.types.now (state_of self.old) }
+            (progress_of self.old) first }
+        requires bad { IsBad graph.old.types.now (progress_of self.old) }
         ensures propagated { IfOk result
-            (λ done. PropagatesAll graph.old.types.now graph.old graph.new (state_of self.old)
-            (state_of self.new) done) }
+            (λ done. PropagatesAll graph.old.types.now graph.old graph.new (progress_of self.old)
+            (progress_of self.new) done) }
         ensures compacts { OnOk result
-            (AreCompactsSettled graph.old.types.now (state_of self.new)) }
+            (AreCompactsSettled graph.old.types.now (progress_of self.new)) }
     {
         'counters: for number in 0..self.counters.len() {
             let counter = self.counters[number];

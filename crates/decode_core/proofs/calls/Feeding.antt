@@ -14,7 +14,7 @@ use Rattle.decode_core.specs.Outcome.{Job, done, refused, more, too_long, IsOutc
 use Rattle.decode_core.specs.Reasons.{reason_of}
 use Rattle.decode_core.specs.Running.{Running, held_of, state_of}
 use Rattle.decode_core.specs.Told.{told, added, after, Ending, ending}
-use Rattle.decode_core.specs.Turned.{FeedTells, IsSound, Moves, EndsTurns, WantsMemory, types_of}
+use Rattle.decode_core.specs.Turned.{FeedTells, IsSound, Moves, EndsTurns, WantsMemory, types_in}
 use Rattle.decode_core.specs.declared.fault.DecodeFault.{DecodeFault}
 use Rattle.decode_core.specs.declared.fault.DecodeReason.{DecodeReason}
 use Rattle.decode_core.specs.declared.turned.Stopped.TheVariants as stop
@@ -29,9 +29,9 @@ use Rattle.decode_core.proofs.steps.Refusing.{waits_told}
 pub done_told : (j : Job) (b : List ℕ) (s last : Running) (n : ℕ) (x : List ℕ) →
     (g : IsDone j b s n) → (m : Moves s last x) → (later : List ℕ) →
     told s.built.entries (Ok (m.own ++ later))
-    ≡ after last.built.entries (remain (types_of s) (state_of last.built) later)
+    ≡ after last.built.entries (remain (types_in s) (state_of last.built) later)
 done_told j b s last n x g m later =
-    let whole : remain (types_of s) (state_of s.built) (m.own ++ later) ≡ told []
+    let whole : remain (types_in s) (state_of s.built) (m.own ++ later) ≡ told []
     (Ok (m.own ++ later)) = ap (λ (r : List TypeInfo). remain r (state_of s.built)
     (m.own ++ later)) g.same.types ∙ g.whole (m.own ++ later) in
     ap (λ (xs : List Entry). told xs (Ok (m.own ++ later))) (sym (append-nil s.built.entries))
@@ -46,9 +46,9 @@ no_fault xs ys rest x left e h = let both : ◌≡◌ {A = Ending} (Ok rest) (Er
 -- a value that was whole cannot fail after it moved on, so anything follows
 done_cannot_fail : {X : Type 0} (j : Job) (b : List ℕ) (s last : Running) (n : ℕ)
     (x y left : List ℕ) (e : Refusal) → IsDone j b s n → Moves s last x →
-    remain (types_of last) (state_of last.built) y ≡ told [] (Err ((e, left), y)) → X
+    remain (types_in last) (state_of last.built) y ≡ told [] (Err ((e, left), y)) → X
 done_cannot_fail j b s last n x y left e g m h =
-    let there : remain (types_of s) (state_of last.built) y ≡ told [] (Err ((e, left), y)) =
+    let there : remain (types_in s) (state_of last.built) y ≡ told [] (Err ((e, left), y)) =
     ap (λ (r : List TypeInfo). remain r (state_of last.built) y) (sym m.same.types) ∙ h in
     no_fault s.built.entries last.built.entries (m.own ++ y) y left e
     (done_told j b s last n x g m y ∙ ap (after last.built.entries) there)

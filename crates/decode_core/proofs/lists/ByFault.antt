@@ -29,7 +29,8 @@ use Rattle.widths_core.specs.declared.run_kind.RunKind.{RunKind}
 use Rattle.widths_core.specs.declared.run_kind.RunKind.TheVariants as kind
 use Rattle.grammar_core.specs.Tree.{Leaf, Branch, leaf, char, unsigned, signed, wide}
 use Rattle.grammar_core.specs.Tree.{compact as compact_value, fields, arm, list, count, Trees, and}
-use Rattle.grammar_core.specs.Reading.{value_at, layout_at, leaf_at, bool_at, char_from, all_at}
+use Rattle.grammar_core.specs.Reading.{value_at, layout_at, leaf_at, bool_value_at, char_from}
+use Rattle.grammar_core.specs.Reading.{all_at}
 use Rattle.grammar_core.specs.Reading.{times_at, fields_behind_index, arms_at, as_leaf}
 use Rattle.grammar_core.specs.Reading.{with_children, Refusal, basic, no_such_variant, too_deep}
 use Rattle.grammar_core.specs.Reading.{no_finite_value, bit_sequence, bad_compact}
@@ -180,7 +181,7 @@ bytes_told k b = go (nat_lt (length b) k) where
   go false = tt
 
 -- a boolean's fault tells what is taken, which is its one byte
-bool_told : (b : List ℕ) → Told (λ e. e) b 1 (bool_at b)
+bool_told : (b : List ℕ) → Told (λ e. e) b 1 (bool_value_at b)
 bool_told [] = (omega arith, refl)
 bool_told (zero ∷ b) = tt
 bool_told (suc zero ∷ b) = tt

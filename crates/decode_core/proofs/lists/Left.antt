@@ -20,7 +20,7 @@ use Rattle.widths_core.specs.declared.run_kind.RunKind.{RunKind}
 use Rattle.widths_core.specs.declared.run_kind.RunKind.TheVariants as kind
 use Rattle.grammar_core.specs.Tree.{Leaf, Tree}
 use Rattle.grammar_core.specs.Tree as tree
-use Rattle.grammar_core.specs.Reading.{layout_at, bool_at, char_from, as_leaf, Refusal}
+use Rattle.grammar_core.specs.Reading.{layout_at, bool_value_at, char_from, as_leaf, Refusal}
 use Rattle.grammar_core.specs.Runs.{IsRunLength, run_at, run_judged, run_leaf, run_length_at}
 use Rattle.grammar_core.proofs.Runs.{length_takes}
 use Rattle.decode_core.specs.Told.{leaf_own, arm_own, arms_own, length_own, own_at}
@@ -111,7 +111,7 @@ value_within make b (Ok x) h = tt
 value_within make b (Err e) h = h
 
 -- the fault of a boolean lies within the input
-bool_within : (b : List ℕ) → Within b (bool_at b)
+bool_within : (b : List ℕ) → Within b (bool_value_at b)
 bool_within [] = omega arith
 bool_within (zero ∷ b) = tt
 bool_within (suc zero ∷ b) = tt
@@ -151,7 +151,7 @@ own_within layout.unknown b = omega arith
 own_within layout.bit_sequence b = omega arith
 own_within layout.bad_compact b = omega arith
 own_within (layout.plain layout.empty) b = tt
-own_within (layout.plain layout.bool) b = leaf_within b (bool_at b) (bool_within b)
+own_within (layout.plain layout.bool) b = leaf_within b (bool_value_at b) (bool_within b)
 own_within (layout.plain layout.char) b =
     leaf_within b (char_from b (bytes_at 4 b)) (char_within b (bytes_at 4 b) (bytes_within 4 b))
 own_within (layout.plain (layout.run k)) b =

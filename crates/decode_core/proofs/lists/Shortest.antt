@@ -30,7 +30,8 @@ use Rattle.grammar_core.specs.Tree.{Leaf, Branch, Tree, leaf, branch, char, unsi
 use Rattle.grammar_core.specs.Tree.{compact as compact_value, fields, arm, list, count, Trees, and}
 use Rattle.grammar_core.specs.Tree.{levels}
 use Rattle.grammar_core.specs.Grammar.{Val}
-use Rattle.grammar_core.specs.Reading.{value_at, layout_at, leaf_at, bool_at, char_from, all_at}
+use Rattle.grammar_core.specs.Reading.{value_at, layout_at, leaf_at, bool_value_at, char_from}
+use Rattle.grammar_core.specs.Reading.{all_at}
 use Rattle.grammar_core.specs.Reading.{times_at, fields_behind_index, arms_at, elements_at, as_leaf}
 use Rattle.grammar_core.specs.Reading.{with_children, Refusal, basic, no_such_variant, too_deep}
 use Rattle.grammar_core.specs.Reading.{no_finite_value, bit_sequence, bad_compact, truncated}
@@ -253,7 +254,7 @@ below_one b P h zero lt = h
 below_one b P h (suc j) lt = absurd (omega arith)
 
 -- a boolean that is refused is decided by its one byte
-bool_decided : (b : List ℕ) → Decided truncated bool_at b 1 (bool_at b)
+bool_decided : (b : List ℕ) → Decided truncated bool_value_at b 1 (bool_value_at b)
 bool_decided [] = λ ne. absurd (ne refl)
 bool_decided (zero ∷ b) = tt
 bool_decided (suc zero ∷ b) = tt
@@ -262,7 +263,8 @@ bool_decided (suc (suc x) ∷ b) =
       there = omega arith;
       front = (suc (suc x) ∷ [], refl);
       early =
-          below_one (suc (suc x) ∷ b) (λ d. (left : List ℕ) × (bool_at d ≡ Err (truncated, left)))
+          below_one (suc (suc x) ∷ b) (λ d. (left : List ℕ)
+          × (bool_value_at d ≡ Err (truncated, left)))
           ([], refl);
     }
 

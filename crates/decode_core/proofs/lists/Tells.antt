@@ -16,7 +16,8 @@ use Rattle.widths_core.specs.Layouts as layout
 use Rattle.grammar_core.specs.Tree.{Leaf, Branch, Tree, Trees, none, and, how_many}
 use Rattle.grammar_core.specs.Tree as tree
 use Rattle.grammar_core.specs.Preorder.{Head, head_of, preorder, all_preorder}
-use Rattle.grammar_core.specs.Reading.{as_leaf, basic, bool_at, char_from, value_at, layout_at}
+use Rattle.grammar_core.specs.Reading.{as_leaf, basic, bool_value_at, char_from, value_at}
+use Rattle.grammar_core.specs.Reading.{layout_at}
 use Rattle.grammar_core.specs.Reading.{leaf_at, all_at, times_at, fields_behind_index, arms_at}
 use Rattle.grammar_core.specs.Reading.{elements_at, with_children, Refusal}
 use Rattle.grammar_core.specs.Runs.{run_at, run_leaf}
@@ -127,7 +128,7 @@ value_leaf make (Ok x) = tt
 value_leaf make (Err e) = tt
 
 -- a boolean that is read has no children
-bool_leaf : (b : List ℕ) → IsLeafRead (bool_at b)
+bool_leaf : (b : List ℕ) → IsLeafRead (bool_value_at b)
 bool_leaf [] = tt
 bool_leaf (zero ∷ b) = tt
 bool_leaf (suc zero ∷ b) = tt

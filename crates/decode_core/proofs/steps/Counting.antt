@@ -14,7 +14,7 @@ use Rattle.decode_core.specs.Outcome.{Job, done, IsOutcome}
 use Rattle.decode_core.specs.Running.{Running, held_of, state_of}
 use Rattle.decode_core.specs.Told.{Told, told, added, after, told_at}
 use Rattle.decode_core.specs.Turned.{FeedTells, FewTurns, IsSound, Moves, TurnsLead, StopCounts}
-use Rattle.decode_core.specs.Turned.{StopsShort, types_of}
+use Rattle.decode_core.specs.Turned.{StopsShort, types_in}
 use Rattle.decode_core.specs.declared.fault.DecodeReason.{DecodeReason}
 use Rattle.decode_core.specs.declared.turned.Stopped.{Stopped}
 use Rattle.decode_core.specs.declared.turned.Stopped.TheVariants as stop
@@ -82,7 +82,7 @@ done_few j b s last n x g m =
       arith,
       same,
       count_after last.built.entries
-          (remain (types_of s) (state_of last.built) []),
+          (remain (types_in s) (state_of last.built) []),
     )
 
 -- a decoder that a piece led to has no more nodes than the bound for all bytes taken

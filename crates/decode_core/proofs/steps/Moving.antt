@@ -15,7 +15,7 @@ use Rattle.decode_core.specs.Machine.{State, remain, to_go}
 use Rattle.decode_core.specs.Running.{Running, held_of, state_of}
 use Rattle.decode_core.specs.Told.{after}
 use Rattle.decode_core.specs.Turned.{Awaits, FeedTells, IsSame, IsSound, Moves, StepTells, Steps}
-use Rattle.decode_core.specs.Turned.{left_to_do, types_of}
+use Rattle.decode_core.specs.Turned.{left_to_do, types_in}
 use Rattle.decode_core.specs.declared.turned.Stopped.{Stopped}
 use Rattle.decode_core.specs.declared.turned.Stopped.TheVariants as stop
 use Rattle.decode_core.specs.declared.turned.Turned.TheVariants as turned
@@ -50,7 +50,7 @@ moves_on a b c x y h k = record {
       ∙ append_assoc h.own (held_of b) y ∙ ap (λ (z : List ℕ). h.own ++ z) k.is
       ∙ sym (append_assoc h.own k.own (held_of c));
   tells = λ more. ap (λ (z : List ℕ). after (state_of a.built).nodes
-      (remain (types_of a) (state_of a.built) z)) (append_assoc h.own k.own more)
+      (remain (types_in a) (state_of a.built) z)) (append_assoc h.own k.own more)
       ∙ h.tells (k.own ++ more)
       ∙ subst (λ (r : List TypeInfo). after (state_of b.built).nodes
       (remain r (state_of b.built) (k.own ++ more))
@@ -70,7 +70,7 @@ step_moves a b bytes same (inl h) = record {
   same = same;
   own = [];
   is = sym h.2;
-  tells = λ more. ap (λ (s : State). after s.nodes (remain (types_of a) s more)) (sym h.1);
+  tells = λ more. ap (λ (s : State). after s.nodes (remain (types_in a) s more)) (sym h.1);
   level = ap (λ (s : State). s.room + length s.pending) h.1;
 }
 step_moves a b bytes same (inr h) = record {
@@ -87,22 +87,22 @@ pub step_nearer : (a b : Running) (piece : List ℕ) (n : ℕ) → n ≤ length 
 step_nearer a b piece n le same (inl h) =
     let bytes : held_of b ++ drop n piece ≡ held_of a ++ piece =
     ap (λ (l : List ℕ). l ++ drop n piece) h.2 ∙ all_bytes (held_of a) piece n in
-    let work : to_go (types_of b) (state_of b.built) (held_of b ++ drop n piece)
-    ≡ to_go (types_of a) (state_of a.built) (held_of a ++ piece) =
+    let work : to_go (types_in b) (state_of b.built) (held_of b ++ drop n piece)
+    ≡ to_go (types_in a) (state_of a.built) (held_of a ++ piece) =
     ap (λ (r : List TypeInfo). to_go r (state_of b.built) (held_of b ++ drop n piece))
-    same.types ∙ ap (λ (s : State). to_go (types_of a) s (held_of b ++ drop n piece)) h.1
-    ∙ ap (to_go (types_of a) (state_of a.built)) bytes in
+    same.types ∙ ap (λ (s : State). to_go (types_in a) s (held_of b ++ drop n piece)) h.1
+    ∙ ap (to_go (types_in a) (state_of a.built)) bytes in
     omega (arith, work, length-drop n piece, length-take n piece, h.0, le)
 step_nearer a b piece n le same (inr h) =
-    let less = nearer (types_of a) (state_of a.built) (state_of b.built) (held_of a ++ take n piece)
+    let less = nearer (types_in a) (state_of a.built) (state_of b.built) (held_of a ++ take n piece)
     (drop n piece) h.1 in
-    let before : to_go (types_of a) (state_of a.built) ((held_of a ++ take n piece) ++ drop n piece)
-    ≡ to_go (types_of a) (state_of a.built) (held_of a ++ piece) =
-    ap (to_go (types_of a) (state_of a.built)) (all_bytes (held_of a) piece n) in
-    let now : to_go (types_of b) (state_of b.built) (held_of b ++ drop n piece) ≡ to_go (types_of a)
+    let before : to_go (types_in a) (state_of a.built) ((held_of a ++ take n piece) ++ drop n piece)
+    ≡ to_go (types_in a) (state_of a.built) (held_of a ++ piece) =
+    ap (to_go (types_in a) (state_of a.built)) (all_bytes (held_of a) piece n) in
+    let now : to_go (types_in b) (state_of b.built) (held_of b ++ drop n piece) ≡ to_go (types_in a)
     (state_of b.built) (drop n piece) =
     ap (λ (r : List TypeInfo). to_go r (state_of b.built) (held_of b ++ drop n piece))
-    same.types ∙ ap (λ (l : List ℕ). to_go (types_of a) (state_of b.built) (l ++ drop n piece))
+    same.types ∙ ap (λ (l : List ℕ). to_go (types_in a) (state_of b.built) (l ++ drop n piece))
     h.0 in
     omega (arith, less, before, now, length-drop n piece)
 

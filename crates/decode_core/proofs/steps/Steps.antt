@@ -16,7 +16,7 @@ use Rattle.value_core.specs.Walked.{next_of}
 use Rattle.grammar_core.specs.declared.form.Form.{Form}
 use Rattle.grammar_core.specs.declared.form.Next.TheVariants as next
 use Rattle.decode_core.specs.Needs.{AreOwn}
-use Rattle.decode_core.specs.NodeAdds.{IsAdded, IsOpened, with_own}
+use Rattle.decode_core.specs.NodeAdds.{IsAdded, IsRunOpened, with_own}
 use Rattle.decode_core.specs.Running.{IsLength, IsRunning, held_of, run_held}
 use Rattle.decode_core.specs.Turned.{IsSame, Steps}
 use Rattle.decode_core.specs.declared.run.OpenRun.{OpenRun}
@@ -94,7 +94,7 @@ opened_steps b c own bytes k n closed is some h =
 -- what a node's own bytes make of a decoder, be it a run or not
 pub taken_steps : (f : Form) (b new : Built) (kept : Option OpenRun) (c own bytes : List ℕ) →
     AtNext b → b.run ≡ None → c ++ bytes ≡ own → 1 ≤ length bytes →
-    (IsAdded b new own × (kept ≡ None)) ⊎ IsOpened f b new kept own →
+    (IsAdded b new own × (kept ≡ None)) ⊎ IsRunOpened f b new kept own →
     Steps (record { built = b; carry = c }) (record { built = new; carry = [] }) bytes
 taken_steps f b new kept c own bytes n closed is some (inl h) =
     added_steps b new c own bytes n closed is h.0
@@ -104,7 +104,7 @@ taken_steps f b new kept c own bytes n closed is some (inr h) =
 
 -- a node that is added, or a run that is opened, leaves it the same value
 pub taken_same : (f : Form) (b new : Built) (kept : Option OpenRun) (c d own : List ℕ) →
-    (IsAdded b new own × (kept ≡ None)) ⊎ IsOpened f b new kept own →
+    (IsAdded b new own × (kept ≡ None)) ⊎ IsRunOpened f b new kept own →
     IsSame (record { built = b; carry = c }) (record { built = new; carry = d })
 taken_same f b new kept c d own (inl h) = added_same b new c d own h.0
 taken_same f b new kept c d own (inr h) =
@@ -130,7 +130,7 @@ opened_running b c old k n h wants len =
 -- after the next node's bytes were taken, a decoder is on its way with nothing carried
 pub taken_running : (f : Form) (b new : Built) (c : List ℕ) (old kept : Option OpenRun)
     (own : List ℕ) → IsRunning b c old → next_of b.walk ≡ next.Wants f → b.run ≡ None →
-    AreOwn f own → (IsAdded b new own × (kept ≡ None)) ⊎ IsOpened f b new kept own →
+    AreOwn f own → (IsAdded b new own × (kept ≡ None)) ⊎ IsRunOpened f b new kept own →
     IsRunning new [] kept
 taken_running f b new c old kept own h wants closed a (inl k) =
     subst (IsRunning new []) (sym k.1) (added_running b new own (at_next b f wants) closed k.0)

@@ -22,7 +22,7 @@ use Rattle.widths_core.specs.Arms.{arm_of}
 use Rattle.widths_core.specs.Layouts.{Layout, kind_layout}
 use Rattle.grammar_core.specs.Tree.{Leaf, Tree}
 use Rattle.grammar_core.specs.Tree as tree
-use Rattle.grammar_core.specs.Reading.{layout_at, bool_at, char_from, as_leaf, Refusal, basic}
+use Rattle.grammar_core.specs.Reading.{layout_at, bool_value_at, char_from, as_leaf, Refusal, basic}
 use Rattle.grammar_core.specs.declared.form.Form.{Form}
 use Rattle.grammar_core.specs.declared.form.Form.TheVariants as form
 use Rattle.value_core.proofs.Forms.{HasForm}
@@ -102,7 +102,7 @@ length_whole t (Ok n) h = h
 length_whole t (Err e) h = basic_whole e.0 h
 
 -- the one byte of a boolean is enough to read or refuse it
-bool_whole : (b : List ℕ) → length b ≡ 1 → IsWhole (leaf_own (bool_at b))
+bool_whole : (b : List ℕ) → length b ≡ 1 → IsWhole (leaf_own (bool_value_at b))
 bool_whole [] h = absurd (omega (arith, h))
 bool_whole (x ∷ y ∷ b) h = absurd (omega (arith, h))
 bool_whole (zero ∷ []) h = refl

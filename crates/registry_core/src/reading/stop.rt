@@ -2,7 +2,7 @@
 
 ghost use Rattle.std.specs.Prelude.{◌≡◌, ◌≢◌, ◌≤◌, length, drop};
 ghost use Rattle.registry_core.specs.Gives.{IsFaultAt, IsWithin, fault_of};
-ghost use Rattle.registry_core.specs.Reading.{reason_of};
+ghost use Rattle.registry_core.specs.Reading.{registry_reason_of};
 ghost use Rattle.registry_core.specs.declared.reading.stop.Stop.TheVariants.{Memory};
 
 use crate::fault::{RegistryFault, RegistryReason};
@@ -21,7 +21,7 @@ pub(crate) enum Stop<'a> {
 /// Why a length, an id or a text is refused, as a reason of the registry. None is refused as a boolean or a character.
 fn registry_reason(reason: Reason) -> RegistryReason
     requires { (reason ≢ Reason.BadBool) × (reason ≢ Reason.BadChar) }
-    ensures { result ≡ reason_of reason }
+    ensures { result ≡ registry_reason_of reason }
 {
     match reason {
         Reason::Truncated => RegistryReason::Truncated,
@@ -37,7 +37,7 @@ impl<'a> Stop<'a> {
     pub(crate) fn at_fault(fault: Fault, bytes: &'a [u8]) -> Stop<'a>
         requires within { fault.at ≤ length bytes.now }
         requires reason { (fault.reason ≢ Reason.BadBool) × (fault.reason ≢ Reason.BadChar) }
-        ensures { IsFaultAt (reason_of fault.reason) (drop fault.at bytes.now) result }
+        ensures { IsFaultAt (registry_reason_of fault.reason) (drop fault.at bytes.now) result }
     {
         let left = &bytes[fault.at as usize..];
         Stop::Fault(registry_reason(fault.reason), left)

@@ -1,6 +1,6 @@
 use Rattle.std.proofs.Common.{◌≡◌, Err, None, ap, false}
 use Rattle.scale_tool.specs.Refused.{status_of_value}
-use Rattle.scale_tool.specs.Values.{TellsFile, decoding, value_in}
+use Rattle.scale_tool.specs.Values.{TellsFile, decoding, value_of_type}
 use Rattle.scale_tool.proofs.Decoded.{stream_fault, stream_opens, stream_tells, stream_value}
 use Rattle.scale_tool.proofs.Decoded.{where_known}
 use Rattle.scale_tool.proofs.value.read_raw.Goals as goal
@@ -13,7 +13,7 @@ returns-in-Ok-clause-value g c =
 pub returns-in-Err-clause-value : goal.returns-in-Err-clause-value
 returns-in-Err-clause-value g c =
     where_known _ _ (λ b. status_of_value c.of_stream.result ≡ 1 →
-    value_in c.args.id c.args.depth c.args.checked.now.types b ≡ None)
+    value_of_type c.args.id c.args.depth c.args.checked.now.types b ≡ None)
     (λ b h one. stream_fault c.args.id c.args.depth c.args.checked.now.types c.limits.result b
     c.in-Err.fault c.limits.ensures c.requires.known c.requires.depth h
     (rw c.of_stream.ensures at one)) c.in-Err.ensures.answers

@@ -3,7 +3,7 @@ use Rattle.registry_core.specs.declared.type_info.TypeInfo.{TypeInfo}
 use Rattle.graph_core.specs.Graphs.{IsMeasured, refs}
 use Rattle.widths_core.specs.Linking.{AreTypesLinked}
 use Rattle.widths_core.specs.Steps.{AreDrafts}
-use Rattle.widths_core.specs.Progress.{state_of}
+use Rattle.widths_core.specs.Progress.{progress_of}
 use Rattle.widths_core.specs.Propagation.{IsStart, IsBad, PropagatesAll, AreCompactsSettled}
 use Rattle.widths_core.proofs.PartsOf.{all_references}
 use Rattle.widths_core.proofs.Complete.{start, bad, classes_told, types_linked_checked, listed_once}
@@ -20,9 +20,9 @@ begin-requires c =
     let count : c.count.result ≡ length r = c.count.ensures ∙ ap length linked.types in
     let is = rw count at c.in_ok-settling.ensures in
     subst (λ (q : List TypeInfo). IsStart q c.link_types.new.graph
-    (state_of c.in_ok-settling.settling)) (sym linked.types)
+    (progress_of c.in_ok-settling.settling)) (sym linked.types)
     (start r c.in_ok-counters.field-0.counters.items c.link_types.new.graph
-    (state_of c.in_ok-settling.settling) linked is)
+    (progress_of c.in_ok-settling.settling) linked is)
 
 pub settle_bad_compacts-requires-clause-bad : goal.settle_bad_compacts-requires-clause-bad
 settle_bad_compacts-requires-clause-bad c =
@@ -33,10 +33,10 @@ settle_bad_compacts-requires-clause-bad c =
     let linked : AreTypesLinked r c.in_ok-counters.field-0.counters.items c.link_types.new.graph =
     rw types at c.in_ok-counters.ensures.linked in
     let propagated = c.in_ok-done.ensures in
-    subst (λ (q : List TypeInfo). IsBad q (state_of c.begin.new.self))
+    subst (λ (q : List TypeInfo). IsBad q (progress_of c.begin.new.self))
     (sym propagated.propagated.steady.ready.types)
     (bad c.link_types.new.graph.types.now c.link_types.new.graph c.begin.new.graph
-    (state_of c.in_ok-settling.settling) (state_of c.begin.new.self) c.in_ok-done.done
+    (progress_of c.in_ok-settling.settling) (progress_of c.begin.new.self) c.in_ok-done.done
     propagated)
 
 pub returns-clause-analysed : goal.returns-clause-analysed
@@ -52,11 +52,11 @@ returns-clause-analysed c =
     let same : c.begin.new.graph.types.now ≡ r = propagated.propagated.steady.ready.types
     ∙ linked.types in
     let all : PropagatesAll r c.begin.new.graph c.settle_bad_compacts.new.graph
-    (state_of c.begin.new.self) (state_of c.settle_bad_compacts.new.self)
+    (progress_of c.begin.new.self) (progress_of c.settle_bad_compacts.new.self)
     c.in_ok-settle_bad_compacts.field-0 =
     subst (λ (q : List TypeInfo). PropagatesAll q c.begin.new.graph
-    c.settle_bad_compacts.new.graph (state_of c.begin.new.self)
-    (state_of c.settle_bad_compacts.new.self) c.in_ok-settle_bad_compacts.field-0) same ended in
+    c.settle_bad_compacts.new.graph (progress_of c.begin.new.self)
+    (progress_of c.settle_bad_compacts.new.self) c.in_ok-settle_bad_compacts.field-0) same ended in
     record {
       checked = types_linked_checked r c.in_ok-counters.field-0.counters.items
           c.link_types.new.graph linked;
@@ -65,7 +65,7 @@ returns-clause-analysed c =
         types = λ t. rw (all.lists.opened ∙ propagated.lists.opened) (linked.opened t);
         read = all.propagated.steady.ready.read ∙ all_references r;
         listed = listed_once r c.begin.new.graph c.settle_bad_compacts.new.graph
-            (state_of c.begin.new.self) (state_of c.settle_bad_compacts.new.self)
+            (progress_of c.begin.new.self) (progress_of c.settle_bad_compacts.new.self)
             c.in_ok-settle_bad_compacts.field-0 all;
       };
     }
@@ -86,16 +86,16 @@ returns-clause-settled c =
     let same : c.begin.new.graph.types.now ≡ r = propagated.propagated.steady.ready.types
     ∙ linked.types in
     let all : PropagatesAll r c.begin.new.graph c.settle_bad_compacts.new.graph
-    (state_of c.begin.new.self) (state_of c.settle_bad_compacts.new.self)
+    (progress_of c.begin.new.self) (progress_of c.settle_bad_compacts.new.self)
     c.in_ok-settle_bad_compacts.field-0 =
     subst (λ (q : List TypeInfo). PropagatesAll q c.begin.new.graph
-    c.settle_bad_compacts.new.graph (state_of c.begin.new.self)
-    (state_of c.settle_bad_compacts.new.self) c.in_ok-settle_bad_compacts.field-0) same ended in
-    let settled : AreCompactsSettled r (state_of c.settle_bad_compacts.new.self) =
+    c.settle_bad_compacts.new.graph (progress_of c.begin.new.self)
+    (progress_of c.settle_bad_compacts.new.self) c.in_ok-settle_bad_compacts.field-0) same ended in
+    let settled : AreCompactsSettled r (progress_of c.settle_bad_compacts.new.self) =
     subst (λ (q : List TypeInfo). AreCompactsSettled q
-    (state_of c.settle_bad_compacts.new.self)) same compacts in
+    (progress_of c.settle_bad_compacts.new.self)) same compacts in
     let tables = classes_told r c.begin.new.graph c.settle_bad_compacts.new.graph
-    (state_of c.begin.new.self) (state_of c.settle_bad_compacts.new.self)
+    (progress_of c.begin.new.self) (progress_of c.settle_bad_compacts.new.self)
     c.in_ok-settle_bad_compacts.field-0 all settled in
     record {
       classes_are = tables.0;

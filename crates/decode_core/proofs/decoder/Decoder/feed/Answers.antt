@@ -1,6 +1,6 @@
 use Rattle.std.proofs.Common.{◌≡◌, ◌∙◌, ◌+◌, ◌++◌, Ok, Err}
 use Rattle.std.specs.Prelude.{Result}
-use Rattle.decode_core.specs.Viewed.{job_of}
+use Rattle.decode_core.specs.Viewed.{job_within}
 use Rattle.decode_core.specs.Decoding.{Decoding, IsSmall, Led, RunCounted, RunLed, closing_turns}
 use Rattle.decode_core.specs.Running.{Running}
 use Rattle.decode_core.specs.declared.fault.DecodeFault.{DecodeFault}
@@ -12,7 +12,7 @@ use Rattle.decode_core.proofs.decoder.Decoder.feed.Goals as goal
 pub returns-in-Err-clause-answers : goal.returns-in-Err-clause-answers
 returns-in-Err-clause-answers g c = λ b led.
     let d = c.self.inside in
-    let j = job_of d in
+    let j = job_within d in
     let before : RunLed j b d.taken d.run =
     subst (λ (x : Decoding). Led x b) (sym c.self.view_is) led in
     let stays = ended_stays j b c.args.piece.now c.in-Err.fault d.taken
@@ -22,7 +22,7 @@ returns-in-Err-clause-answers g c = λ b led.
 pub invariant_of-self-in-Done : goal.invariant_of-self-in-Done
 invariant_of-self-in-Done g c =
     let d = c.self.inside in
-    let j = job_of d in
+    let j = job_within d in
     let before = subst (RunLed j c.self.invariant.bytes d.taken) c.in-Ok.is c.self.invariant.led in
     let counted = subst (λ (r : Result Running DecodeFault). RunCounted j d.taken r
     (d.turns.so_far + closing_turns r d.closings.so_far) d.calls.so_far) c.in-Ok.is
@@ -41,7 +41,7 @@ invariant_of-self-in-Done g c =
 pub returns-in-Ended-clause-answers : goal.returns-in-Ended-clause-answers
 returns-in-Ended-clause-answers g c = λ b led.
     let d = c.self.inside in
-    let j = job_of d in
+    let j = job_within d in
     let before : RunLed j b d.taken d.run =
     subst (λ (x : Decoding). Led x b) (sym c.self.view_is) led in
     let ended = c.in-Ended.ensures.answers j b refl
@@ -54,7 +54,7 @@ returns-in-Ended-clause-answers g c = λ b led.
 pub returns-in-More-clause-held : goal.returns-in-More-clause-held
 returns-in-More-clause-held g c = λ b led.
     let d = c.self.inside in
-    let j = job_of d in
+    let j = job_within d in
     let before : RunLed j b d.taken d.run =
     subst (λ (x : Decoding). Led x b) (sym c.self.view_is) led in
     let told = c.in-More.ensures.answers j b refl (subst (RunLed j b d.taken) c.in-Ok.is before) in
@@ -63,7 +63,7 @@ returns-in-More-clause-held g c = λ b led.
 pub returns-in-More-clause-small : goal.returns-in-More-clause-small
 returns-in-More-clause-small g c =
     let d = c.self.inside in
-    let j = job_of d in
+    let j = job_within d in
     let before = subst (RunLed j c.self.invariant.bytes d.taken) c.in-Ok.is c.self.invariant.led in
     let counted = subst (λ (r : Result Running DecodeFault). RunCounted j d.taken r
     (d.turns.so_far + closing_turns r d.closings.so_far) d.calls.so_far) c.in-Ok.is
@@ -80,7 +80,7 @@ returns-in-More-clause-small g c =
 pub returns-in-More-clause-answers : goal.returns-in-More-clause-answers
 returns-in-More-clause-answers g c = λ b led.
     let d = c.self.inside in
-    let j = job_of d in
+    let j = job_within d in
     let before : RunLed j b d.taken d.run =
     subst (λ (x : Decoding). Led x b) (sym c.self.view_is) led in
     let told = c.in-More.ensures.answers j b refl (subst (RunLed j b d.taken) c.in-Ok.is before) in
@@ -89,7 +89,7 @@ returns-in-More-clause-answers g c = λ b led.
 pub returns-in-Done-clause-small : goal.returns-in-Done-clause-small
 returns-in-Done-clause-small g c =
     let d = c.self.inside in
-    let j = job_of d in
+    let j = job_within d in
     let before = subst (RunLed j c.self.invariant.bytes d.taken) c.in-Ok.is c.self.invariant.led in
     let counted = subst (λ (r : Result Running DecodeFault). RunCounted j d.taken r
     (d.turns.so_far + closing_turns r d.closings.so_far) d.calls.so_far) c.in-Ok.is
@@ -106,7 +106,7 @@ returns-in-Done-clause-small g c =
 pub returns-in-Done-clause-small_at_end : goal.returns-in-Done-clause-small_at_end
 returns-in-Done-clause-small_at_end g c =
     let d = c.self.inside in
-    let j = job_of d in
+    let j = job_within d in
     let told = c.in-Done.ensures.answers j c.self.invariant.bytes refl
     (subst (RunLed j c.self.invariant.bytes d.taken) c.in-Ok.is c.self.invariant.led) in
     (done_small j (c.self.invariant.bytes ++ c.args.piece.now) (d.taken + c.in-Done.used)
@@ -115,7 +115,7 @@ returns-in-Done-clause-small_at_end g c =
 pub returns-in-Done-clause-answers : goal.returns-in-Done-clause-answers
 returns-in-Done-clause-answers g c = λ b led.
     let d = c.self.inside in
-    let j = job_of d in
+    let j = job_within d in
     let before : RunLed j b d.taken d.run =
     subst (λ (x : Decoding). Led x b) (sym c.self.view_is) led in
     let told = c.in-Done.ensures.answers j b refl
@@ -132,7 +132,7 @@ returns-in-Done-clause-answers g c = λ b led.
 pub invariant_of-self-in-More : goal.invariant_of-self-in-More
 invariant_of-self-in-More g c =
     let d = c.self.inside in
-    let j = job_of d in
+    let j = job_within d in
     let before = subst (RunLed j c.self.invariant.bytes d.taken) c.in-Ok.is c.self.invariant.led in
     let counted = subst (λ (r : Result Running DecodeFault). RunCounted j d.taken r
     (d.turns.so_far + closing_turns r d.closings.so_far) d.calls.so_far) c.in-Ok.is
@@ -151,7 +151,7 @@ invariant_of-self-in-More g c =
 pub invariant_of-self-in-Ended : goal.invariant_of-self-in-Ended
 invariant_of-self-in-Ended g c =
     let d = c.self.inside in
-    let j = job_of d in
+    let j = job_within d in
     let before = subst (RunLed j c.self.invariant.bytes d.taken) c.in-Ok.is c.self.invariant.led in
     let counted = subst (λ (r : Result Running DecodeFault). RunCounted j d.taken r
     (d.turns.so_far + closing_turns r d.closings.so_far) d.calls.so_far) c.in-Ok.is
@@ -176,7 +176,7 @@ invariant_of-self-in-Ended g c =
 pub returns-in-Ended-clause-small : goal.returns-in-Ended-clause-small
 returns-in-Ended-clause-small g c =
     let d = c.self.inside in
-    let j = job_of d in
+    let j = job_within d in
     let before = subst (RunLed j c.self.invariant.bytes d.taken) c.in-Ok.is c.self.invariant.led in
     let counted = subst (λ (r : Result Running DecodeFault). RunCounted j d.taken r
     (d.turns.so_far + closing_turns r d.closings.so_far) d.calls.so_far) c.in-Ok.is
@@ -204,7 +204,7 @@ returns-in-Ended-clause-small g c =
 pub returns-in-More-clause-counted : goal.returns-in-More-clause-counted
 returns-in-More-clause-counted g c =
     let d = c.self.inside in
-    let j = job_of d in
+    let j = job_within d in
     let before = subst (RunLed j c.self.invariant.bytes d.taken) c.in-Ok.is c.self.invariant.led in
     let counted = subst (λ (r : Result Running DecodeFault). RunCounted j d.taken r
     (d.turns.so_far + closing_turns r d.closings.so_far) d.calls.so_far) c.in-Ok.is
@@ -216,7 +216,7 @@ returns-in-More-clause-counted g c =
 pub returns-in-Done-clause-counted : goal.returns-in-Done-clause-counted
 returns-in-Done-clause-counted g c =
     let d = c.self.inside in
-    let j = job_of d in
+    let j = job_within d in
     let before = subst (RunLed j c.self.invariant.bytes d.taken) c.in-Ok.is c.self.invariant.led in
     let counted = subst (λ (r : Result Running DecodeFault). RunCounted j d.taken r
     (d.turns.so_far + closing_turns r d.closings.so_far) d.calls.so_far) c.in-Ok.is
@@ -228,7 +228,7 @@ returns-in-Done-clause-counted g c =
 pub returns-in-Done-clause-value_counts : goal.returns-in-Done-clause-value_counts
 returns-in-Done-clause-value_counts g c =
     let d = c.self.inside in
-    let j = job_of d in
+    let j = job_within d in
     let told = c.in-Done.ensures.answers j c.self.invariant.bytes refl
     (subst (RunLed j c.self.invariant.bytes d.taken) c.in-Ok.is c.self.invariant.led) in
     let counts = done_counts j (c.self.invariant.bytes ++ c.args.piece.now)

@@ -1,5 +1,5 @@
 use Rattle.std.proofs.Common.{ap, sym, ◌∙◌, subst}
-use Rattle.json_core.specs.Ordered.{fields_at, IsKnown, AreKnown, OrdersView}
+use Rattle.json_core.specs.Ordered.{fields_at, IsKnown, AreKnownOrders, OrdersView}
 use Rattle.json_core.proofs.Known.{keys_found, keys_put, known_more, same_place}
 use Rattle.json_core.proofs.orders.Orders.kept_keys.Goals as goal
 
@@ -19,7 +19,7 @@ invariant_of-self c = known_more c.self.inside.checked.now.types c.self.inside.p
 
 pub invariant_of-self-in_err-insert : goal.invariant_of-self-in_err-insert
 invariant_of-self-in_err-insert c =
-    subst (AreKnown c.self.inside.checked.now.types c.find_keys.new.positions.items)
+    subst (AreKnownOrders c.self.inside.checked.now.types c.find_keys.new.positions.items)
     (sym c.in_err-insert.ensures.err) (known_more c.self.inside.checked.now.types
     c.self.inside.positions.items _ c.find_keys.ensures.more.0 c.self.inside.known.entries
     c.self.invariant c.find_keys.ensures.more.1)

@@ -2,7 +2,7 @@ use Rattle.std.proofs.Common.{◌≡◌, None, ◌∙◌, arith}
 use Rattle.std.proofs.lemmas.List.{get_or_read}
 use Rattle.widths_core.specs.declared.class.Class.TheVariants as class
 use Rattle.widths_core.specs.ClassTables.{known_class, known_target}
-use Rattle.widths_core.specs.Progress.{state_of}
+use Rattle.widths_core.specs.Progress.{progress_of}
 use Rattle.widths_core.proofs.PropagatesOne.{pending-lt, propagates_first, next_at, propagates_at}
 use Rattle.widths_core.proofs.settling.Settling.propagate.Goals as goal
 
@@ -10,7 +10,7 @@ pub references-init : goal.references-init
 references-init c =
     let r = c.args.graph.now.types.now in
     let s = c.args.self.now in
-    let lt = pending-lt r c.args.graph.now (state_of s) c.args.propagated c.requires in
+    let lt = pending-lt r c.args.graph.now (progress_of s) c.args.propagated c.requires in
     let st = c.requires.steady.consistent in
     let f : c.index.result.now ≡ known_class s.classes.items c.args.propagated =
     get_or_read s.classes.items c.args.propagated c.index.result.now
@@ -18,38 +18,42 @@ references-init c =
     let m : c.index-2.result.now ≡ known_target s.targets.items c.args.propagated =
     get_or_read s.targets.items c.args.propagated c.index-2.result.now
     (omega (arith, lt, st.targets)) c.index-2.ensures None in
-    propagates_first r c.args.graph.now (state_of s) c.args.propagated _ c.newest-at.result
+    propagates_first r c.args.graph.now (progress_of s) c.args.propagated _ c.newest-at.result
     c.requires f m c.newest-at.ensures
 
 pub settle_part-requires-clause-number : goal.settle_part-requires-clause-number
 settle_part-requires-clause-number c =
     let it = next_at c.args.graph.now.types.now c.args.graph.now c.references.graph
-    (state_of c.args.self.now) (state_of c.references.self) c.args.propagated _ c.references.at
+    (progress_of c.args.self.now) (progress_of c.references.self) c.args.propagated
+    _ c.references.at
     c.references.invariant c.references-test.true in
     rw (c.link-link.ensures.counter ∙ it.number) it.counter
 
 pub settle_part-requires-clause-owner : goal.settle_part-requires-clause-owner
 settle_part-requires-clause-owner c =
     let it = next_at c.args.graph.now.types.now c.args.graph.now c.references.graph
-    (state_of c.args.self.now) (state_of c.references.self) c.args.propagated _ c.references.at
+    (progress_of c.args.self.now) (progress_of c.references.self) c.args.propagated
+    _ c.references.at
     c.references.invariant c.references-test.true in
     rw (c.link-link.ensures.counter ∙ it.number) it.owner
 
 pub settle_part-requires-clause-left : goal.settle_part-requires-clause-left
 settle_part-requires-clause-left c =
     let it = next_at c.args.graph.now.types.now c.args.graph.now c.references.graph
-    (state_of c.args.self.now) (state_of c.references.self) c.args.propagated _ c.references.at
+    (progress_of c.args.self.now) (progress_of c.references.self) c.args.propagated
+    _ c.references.at
     c.references.invariant c.references-test.true in
     rw (c.link-link.ensures.counter ∙ it.number) it.left
 
 pub references-preserved : goal.references-preserved
 references-preserved c =
     let r = c.args.graph.now.types.now in
-    let it = next_at r c.args.graph.now c.references.graph (state_of c.args.self.now)
-    (state_of c.references.self) c.args.propagated _ c.references.at c.references.invariant
+    let it = next_at r c.args.graph.now c.references.graph (progress_of c.args.self.now)
+    (progress_of c.references.self) c.args.propagated _ c.references.at c.references.invariant
     c.references-test.true in
     propagates_at r c.args.graph.now c.references.graph c.link-link.new.self
-    (state_of c.args.self.now) (state_of c.references.self) (state_of c.settle_part.new.self)
+    (progress_of c.args.self.now) (progress_of c.references.self)
+    (progress_of c.settle_part.new.self)
     c.args.propagated _ c.references.at c.link-link.result.before c.references.invariant
     c.references-test.true c.link-link.ensures.listed
     (rw (c.link-link.ensures.counter ∙ it.number) at c.in_ok-settle_part.ensures)
