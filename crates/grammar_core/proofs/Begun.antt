@@ -5,8 +5,8 @@ use Rattle.grammar_core.specs.Begun.{Begun, nothing, whole, in_fields, in_arm, i
 use Rattle.grammar_core.specs.Begun.{Grows, begun_levels, begun_depth, is_whole_tree}
 use Rattle.grammar_core.specs.Laws.{BegunTreesFit}
 
-abbrev Fits : ℕ → Begun → Option (ℕ × ℕ) → Type 0
-Fits room g next = (begun_levels g ≤ room)
+abbrev FitsRoom : ℕ → Begun → Option (ℕ × ℕ) → Type 0
+FitsRoom room g next = (begun_levels g ≤ room)
     × ((left u : ℕ) → next ≡ Some (left, u) → (is_whole_tree g ≡ false)
     × (left + begun_depth g ≡ room)) × (next ≡ None → is_whole_tree g ≡ true)
 

@@ -13,7 +13,7 @@ use Rattle.widths_core.specs.Layouts as layout
 use Rattle.widths_core.specs.declared.run_kind.RunKind.{RunKind}
 use Rattle.widths_core.specs.declared.run_kind.RunKind.TheVariants as kind
 use Rattle.grammar_core.specs.Runs.{SpellsRun}
-use Rattle.widths_core.proofs.Known.{Known, known, empty_class, class_empty, class_finite}
+use Rattle.widths_core.proofs.Known.{KnowsLayout, known, empty_class, class_empty, class_finite}
 use Rattle.widths_core.proofs.Known.{layout_empty}
 use Rattle.grammar_core.specs.Tree.{Tree, leaf, branch, unit, bool, char, text, bytes, unsigned}
 use Rattle.grammar_core.specs.Tree.{signed, wide, compact, fields, arm, list, count, Trees, none}
@@ -37,8 +37,8 @@ other : {X : Type 0} (r : List TypeInfo) (t : ℕ) (f : Layout) →
 other r t f e h k = k (sym e ∙ h)
 
 -- what a type's layout says of its class and parts is so, where the layout is known by an equation
-pub known_at : (r : List TypeInfo) (t : ℕ) (f : Layout) → layout r t ≡ f → Known r t f
-known_at r t f e = subst (Known r t) e (known r t)
+pub known_at : (r : List TypeInfo) (t : ℕ) (f : Layout) → layout r t ≡ f → KnowsLayout r t f
+known_at r t f e = subst (KnowsLayout r t) e (known r t)
 
 -- the compact spelling of a number has a byte, so anything follows if it had none
 compact_has_byte : {X : Type 0} (x : ℕ) (b : List ℕ) → IsCompact target.U32 x b → b ≡ [] → X

@@ -36,14 +36,14 @@ use Rattle.grammar_core.specs.Tree.{count, Trees, none, and, how_many}
 use Rattle.grammar_core.specs.Grammar.{Val, Vals, Each}
 use Rattle.grammar_core.specs.Laws.{FiniteHasValue}
 
-abbrev HasValue : List TypeInfo → ℕ → Type 0
-HasValue r t = (v : Tree) × (b : List ℕ) × AreBytes b × Val r t v b
+abbrev IsInhabited : List TypeInfo → ℕ → Type 0
+IsInhabited r t = (v : Tree) × (b : List ℕ) × AreBytes b × Val r t v b
 
 -- ---- lists of values
 
 -- types of which a test holds have values in a row, where each of them has one if it holds
 all_values : (r : List TypeInfo) (f : ℕ → Bool) (ts : List ℕ) →
-    ((t : ℕ) → IsAmong t ts → f t ≡ true → HasValue r t) → list_all f ts ≡ true → (vs : Trees)
+    ((t : ℕ) → IsAmong t ts → f t ≡ true → IsInhabited r t) → list_all f ts ≡ true → (vs : Trees)
     × (b : List ℕ) × AreBytes b × Vals r ts vs b
 unfolding Val
 all_values r f [] h e = (none, [], tt, refl)
@@ -58,7 +58,8 @@ all_values r f (t ∷ ts) h e =
     )
 
 -- a type that has a value has any number of values in a row
-repeated : (r : List TypeInfo) (t n : ℕ) → HasValue r t → (vs : Trees) × (b : List ℕ) × AreBytes b
+repeated : (r : List TypeInfo) (t n : ℕ) → IsInhabited r t →
+    (vs : Trees) × (b : List ℕ) × AreBytes b
     × (how_many vs ≡ n) × Each r t vs b
 unfolding Val
 repeated r t zero h = (none, [], tt, refl, refl)
@@ -202,14 +203,14 @@ no_text = refl
 
 -- what is laid out as an unsigned integer has a value
 unsigned_value : (r : List TypeInfo) (t k : ℕ) → layout r t ≡ layout.plain (layout.unsigned k) →
-    HasValue r t
+    IsInhabited r t
 unfolding Val
 unsigned_value r t k e =
     (leaf (unsigned (number (zeros k))), zeros k, zeros-bytes k, (k, e, length-zeros k, refl))
 
 -- what is laid out as a signed integer has a value
 signed_value : (r : List TypeInfo) (t k : ℕ) → layout r t ≡ layout.plain (layout.signed k) →
-    HasValue r t
+    IsInhabited r t
 unfolding Val
 signed_value r t k e = (
   leaf (signed (signed_number (zeros k))),
@@ -219,18 +220,18 @@ signed_value r t k e = (
 )
 
 -- what is laid out as an integer of 256 bits has a value
-wide_value : (r : List TypeInfo) (t : ℕ) → layout r t ≡ (layout.plain layout.wide) → HasValue r t
+wide_value : (r : List TypeInfo) (t : ℕ) → layout r t ≡ (layout.plain layout.wide) → IsInhabited r t
 unfolding Val
 wide_value r t e = (leaf (wide (zeros 32)), zeros 32, zeros-bytes 32, (e, length-zeros 32, refl))
 
 -- what is laid out as a character has a value
-char_value : (r : List TypeInfo) (t : ℕ) → layout r t ≡ (layout.plain layout.char) → HasValue r t
+char_value : (r : List TypeInfo) (t : ℕ) → layout r t ≡ (layout.plain layout.char) → IsInhabited r t
 unfolding Val zeros
 char_value r t e = (leaf (char 0), zeros 4, zeros-bytes 4, (e, refl, refl, refl))
 
 -- what is laid out as a primitive type, of whatever kind, has a value
 kind_value : (r : List TypeInfo) (t : ℕ) (k : PrimitiveKind) → layout r t ≡ kind_layout k →
-    HasValue r t
+    IsInhabited r t
 unfolding Val
 kind_value r t K.Bool e = (leaf (bool false), 0 ∷ [], (omega arith, tt), (e, refl))
 kind_value r t K.Char e = char_value r t e
@@ -246,7 +247,7 @@ kind_value r t (K.Wide s) e = wide_value r t e
 
 -- what is laid out as a sequence, of whatever elements, has a value
 sequence_value : (r : List TypeInfo) (t u : ℕ) (b byte : Bool) →
-    layout r t ≡ sequence_layout u b byte → HasValue r t
+    layout r t ≡ sequence_layout u b byte → IsInhabited r t
 unfolding Val
 sequence_value r t u true byte e = (leaf (count 0), compact 0, zero-bytes, (e, u32_zero))
 sequence_value r t u false true e = (
@@ -265,7 +266,7 @@ sequence_value r t u false false e = (
 -- what is laid out as an array has a value, if it is of u8 or there are as many elements
 array_value : (r : List TypeInfo) (t n u : ℕ) (byte : Bool) → layout r t ≡ array_layout n u byte →
     (byte ≡ false → (vs : Trees) × (b : List ℕ) × AreBytes b × (how_many vs ≡ n) × Each r u vs b) →
-    HasValue r t
+    IsInhabited r t
 unfolding Val
 array_value r t n u true e each = (
   leaf (bytes (zeros n)),
@@ -287,7 +288,7 @@ zero_of target.U128 = (compact 0, zero-bytes, (omega arith, refl))
 
 -- what is laid out as a compact has a value if it has a target
 compact_of : (r : List TypeInfo) (t : ℕ) (o : Option Target) → (o ≡ None → ⊥) →
-    layout r t ≡ compact_layout o → HasValue r t
+    layout r t ≡ compact_layout o → IsInhabited r t
 unfolding Val
 compact_of r t None left e = absurd (left refl)
 compact_of r t (Some m) left e = let z = zero_of m in
@@ -296,8 +297,8 @@ compact_of r t (Some m) left e = let z = zero_of m in
 -- by its definition's layout, a finite type has a value if those it needs do and none is left out
 sized_value : (r : List TypeInfo) (k t : ℕ) (d : TypeDef) → FitsDefinition d → IsPlain r t →
     shape r t ≡ Some d → ((u : ℕ) → IsAmong u (references d) → finite_within r k u ≡ true →
-    HasValue r u) → layout r t ≡ sized_layout r d → finite_step (finite_within r k) d ≡ true →
-    HasValue r t
+    IsInhabited r u) → layout r t ≡ sized_layout r d → finite_step (finite_within r k) d ≡ true →
+    IsInhabited r t
 unfolding Val
 sized_value r k t (Def.Composite fs) fits plain is child e h = let all =
     all_values r (finite_within r k) (field_types fs) child h in
@@ -346,8 +347,8 @@ fits_at (x ∷ r) (suc t) d h e = fits_at r t d h.1 e
 -- a finite type, empty or not, has a value if those it needs do and none is left out
 some_value : (r : List TypeInfo) (k t : ℕ) (d : TypeDef) → FitsDefinition d → IsPlain r t →
     shape r t ≡ Some d → ((u : ℕ) → IsAmong u (references d) → finite_within r k u ≡ true →
-    HasValue r u) → finite_step (finite_within r k) d ≡ true → (b : Bool) → is_empty r t ≡ b →
-    HasValue r t
+    IsInhabited r u) → finite_step (finite_within r k) d ≡ true → (b : Bool) → is_empty r t ≡ b →
+    IsInhabited r t
 unfolding Val layout
 some_value r k t d fits plain is child h true e = (leaf unit, [], tt, (rw e refl, refl))
 some_value r k t d fits plain is child h false e =
@@ -355,7 +356,7 @@ some_value r k t d fits plain is child h false e =
 
 -- in a registry that fits, what is finite by k levels has a value if it leads to nothing left out
 value_within : (r : List TypeInfo) → AllByRecursion FitsType r → (k t : ℕ) →
-    finite_within r k t ≡ true → IsPlain r t → HasValue r t
+    finite_within r k t ≡ true → IsPlain r t → IsInhabited r t
 unfolding finite_within
 value_within r fits zero t e plain = absurd cc
 value_within r fits (suc k) t e plain =

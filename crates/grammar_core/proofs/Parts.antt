@@ -17,11 +17,11 @@ then_fails : (v : Tree) (read : Read Refusal Trees) (e : Refusal × List ℕ) �
 then_fails v (Ok x) e h = absurd cc
 then_fails v (Err x) e h = h
 
-abbrev refused : {X : Type 0} → Refusal × List ℕ → Read Refusal X
-refused e = Err e
+abbrev failed : {X : Type 0} → Refusal × List ℕ → Read Refusal X
+failed e = Err e
 
 -- two refusals that are the same answer are the same
-refused_is : (x y : Refusal × List ℕ) → refused {X = Trees} x ≡ refused y → x ≡ y
+refused_is : (x y : Refusal × List ℕ) → failed {X = Trees} x ≡ failed y → x ≡ y
 refused_is x y e = cc
 
 abbrev One : List TypeInfo → ℕ → ℕ → Tree → List ℕ → Type 0
@@ -54,7 +54,7 @@ next_part r room (t ∷ ts) input reason left e =
         refl,
         omega arith,
         is
-            ∙ ap refused (refused_is x (reason, left) f),
+            ∙ ap failed (refused_is x (reason, left) f),
       )
       go (Ok x) is k f h =
           let s = h x.1 (then_fails x.0 (all_at (value_at r room) ts x.1) (reason, left) f) in (
@@ -113,7 +113,7 @@ next_element r room (suc n) t input reason left e =
         refl,
         omega arith,
         is
-            ∙ ap refused (refused_is x (reason, left) f),
+            ∙ ap failed (refused_is x (reason, left) f),
       )
       go (Ok x) is k f h =
           let s = h x.1 (then_fails x.0 (times_at (value_at r room) n t x.1) (reason, left) f) in (

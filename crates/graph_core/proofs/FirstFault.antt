@@ -22,15 +22,16 @@ none_known n (t ∷ ts) e = go (nat_lt t n) refl e (none_known n ts) where
   go true f g h = (ltb-true t n f, h g)
   go false f g h = absurd cc
 
-abbrev Split : ℕ → List ℕ → ℕ → Type 0
-Split n ts u = (front back : List ℕ) × (ts ≡ front ++ u ∷ back) × AreKnown n front × (n ≤ u)
+abbrev SplitsAtUnknown : ℕ → List ℕ → ℕ → Type 0
+SplitsAtUnknown n ts u = (front back : List ℕ) × (ts ≡ front ++ u ∷ back)
+    × AreKnown n front × (n ≤ u)
 
 -- an unknown reference that is found is no position, and those before it are
-some_split : (n : ℕ) (ts : List ℕ) (u : ℕ) → first_unknown n ts ≡ Some u → Split n ts u
+some_split : (n : ℕ) (ts : List ℕ) (u : ℕ) → first_unknown n ts ≡ Some u → SplitsAtUnknown n ts u
 some_split n [] u e = absurd cc
 some_split n (t ∷ ts) u e = go (nat_lt t n) refl e (some_split n ts u) where
   go : (b : Bool) → nat_lt t n ≡ b → cond b (first_unknown n ts) (Some t) ≡ Some u →
-      (first_unknown n ts ≡ Some u → Split n ts u) → Split n (t ∷ ts) u
+      (first_unknown n ts ≡ Some u → SplitsAtUnknown n ts u) → SplitsAtUnknown n (t ∷ ts) u
   go true f g h = let s = h g in
       (t ∷ s.0, s.1, ap (λ (x : List ℕ). t ∷ x) s.2, (ltb-true t n f, s.3), s.4)
   go false f g h = let same : t ≡ u = cc in
@@ -59,8 +60,8 @@ none_checked n j (x ∷ r) e =
       go (Some u) f g h = absurd cc
       go None f g h = (none_known n (references x.shape) f, h g)
 
-abbrev First : ℕ → ℕ → List TypeInfo → ℕ → ℕ → Type 0
-First n j r i u = (before : List TypeInfo) × (x : TypeInfo) × (after : List TypeInfo)
+abbrev FirstUnknownAt : ℕ → ℕ → List TypeInfo → ℕ → ℕ → Type 0
+FirstUnknownAt n j r i u = (before : List TypeInfo) × (x : TypeInfo) × (after : List TypeInfo)
     × (front back : List ℕ) × (r ≡ before ++ x ∷ after) × (i ≡ j + length before)
     × (references x.shape ≡ front ++ u ∷ back) × AreChecked n before × AreKnown n front × (n ≤ u)
 
@@ -73,13 +74,14 @@ some_is p q e = cc
 
 -- a fault that is found is the first reference to no position, at its type
 some_first : (n j : ℕ) (r : List TypeInfo) (i u : ℕ) → unknown_from n j r ≡ Some (i, u) →
-    First n j r i u
+    FirstUnknownAt n j r i u
 some_first n j [] i u e = absurd cc
 some_first n j (x ∷ r) i u e =
     go (first_unknown n (references x.shape)) refl e (some_first n (j + 1) r i u) where
       go : (o : Option ℕ) → first_unknown n (references x.shape) ≡ o →
           fault_or j o (unknown_from n (j + 1) r) ≡ Some (i, u) →
-          (unknown_from n (j + 1) r ≡ Some (i, u) → First n (j + 1) r i u) → First n j (x ∷ r) i u
+          (unknown_from n (j + 1) r ≡ Some (i, u) → FirstUnknownAt n (j + 1) r i u) →
+          FirstUnknownAt n j (x ∷ r) i u
       go (Some v) f g h =
           let same = some_is (j, v) (i, u) g in
           let s = some_split n (references x.shape) u (f ∙ ap (λ (p : ℕ × ℕ). Some p.1) same) in

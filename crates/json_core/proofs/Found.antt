@@ -15,11 +15,11 @@ use Rattle.json_core.proofs.Ordered.{Entries, insert}
 abbrev pub Kept : Type 0
 Kept = List (Bor (List ℕ) × ℕ)
 
-abbrev pub shown : Kept → Entries
-shown es = map (λ e. (e.0.now, e.1)) es
+abbrev pub shown_entries : Kept → Entries
+shown_entries es = map (λ e. (e.0.now, e.1)) es
 
 -- the map's entries have the same positions as the entries that they stand for
-pub shown_positions : (es : Kept) → map (λ e. e.1) es ≡ map (λ e. e.1) (shown es)
+pub shown_positions : (es : Kept) → map (λ e. e.1) es ≡ map (λ e. e.1) (shown_entries es)
 shown_positions [] = refl
 shown_positions (e ∷ es) = ap (λ l. e.1 ∷ l) (shown_positions es)
 
@@ -28,23 +28,24 @@ kept_cmp a b = slice_cmp nat_cmp a.now b.now
 
 -- choosing by an order and then taking what is stood for, or the other way, is one
 shown_match : (o : Ordering) (a b c : Kept) →
-    shown (match_ordering o a b c) ≡ match_ordering o (shown a) (shown b) (shown c)
+    shown_entries (match_ordering o a b c) ≡ match_ordering o (shown_entries a) (shown_entries b)
+    (shown_entries c)
 shown_match Less a b c = refl
 shown_match Equal a b c = refl
 shown_match Greater a b c = refl
 
 -- to put a name into the map is to put it into the entries that it stands for
 shown_insert : (es : Kept) (k : Bor (List ℕ)) (i : ℕ) →
-    shown (insert_entry kept_cmp es k i) ≡ insert k.now i (shown es)
+    shown_entries (insert_entry kept_cmp es k i) ≡ insert k.now i (shown_entries es)
 shown_insert [] k i = refl
 shown_insert (e ∷ es) k i = shown_match (kept_cmp k e.0) _ _ _
-    ∙ ap (λ s. match_ordering (kept_cmp k e.0) ((k.now, i) ∷ (e.0.now, e.1) ∷ shown es)
-    ((e.0.now, i) ∷ shown es) ((e.0.now, e.1) ∷ s)) (shown_insert es k i)
+    ∙ ap (λ s. match_ordering (kept_cmp k e.0) ((k.now, i) ∷ (e.0.now, e.1) ∷ shown_entries es)
+    ((e.0.now, i) ∷ shown_entries es) ((e.0.now, e.1) ∷ s)) (shown_insert es k i)
 
 -- a name is looked up in the map as it is in the entries that it stands for
 shown_lookup : (es : Kept) (n : List ℕ) →
     lookup (is_at (λ k. slice_cmp nat_cmp n k.now)) es
-    ≡ lookup (is_at (slice_cmp nat_cmp n)) (shown es)
+    ≡ lookup (is_at (slice_cmp nat_cmp n)) (shown_entries es)
 shown_lookup [] n = refl
 shown_lookup (e ∷ es) n =
     ap (λ o. cond (is_eq (slice_cmp nat_cmp n e.0.now)) (Some e.1) o) (shown_lookup es n)
@@ -62,26 +63,28 @@ next_field fs p f n es e is =
 
 -- a look-up in the map finds something exactly where the name is one of the entries
 there : (k : Bor (List ℕ)) (old : Kept) (found : Option ℕ) →
-    found ≡ lookup (is_at (kept_cmp k)) old → is_some found ≡ is_there k.now (shown old)
+    found ≡ lookup (is_at (kept_cmp k)) old → is_some found ≡ is_there k.now (shown_entries old)
 there k old found e = ap is_some (e ∙ shown_lookup old k.now)
 
 -- a name that is there already
 pub found_here : (fs : List Field) (p : ℕ) (f : Field) (k : Bor (List ℕ)) (old : Kept)
     (found : Option ℕ) → drop p fs ≡ f ∷ drop (p + 1) fs → f.name ≡ Some k.now →
     found ≡ lookup (is_at (kept_cmp k)) old → is_some found ≡ true →
-    order_from (drop p fs) p (shown old) ≡ None
-found_here fs p f k old found e is g h = next_field fs p f k.now (shown old) e is
-    ∙ ap (λ b. cond b None (order_from (drop (p + 1) fs) (p + 1) (insert k.now p (shown old))))
+    order_from (drop p fs) p (shown_entries old) ≡ None
+found_here fs p f k old found e is g h = next_field fs p f k.now (shown_entries old) e is
+    ∙ ap (λ b. cond b None
+    (order_from (drop (p + 1) fs) (p + 1) (insert k.now p (shown_entries old))))
     (sym (there k old found g) ∙ h)
 
 -- a name that is new
 pub new_here : (fs : List Field) (p : ℕ) (f : Field) (k : Bor (List ℕ)) (old new : Kept)
     (found : Option ℕ) → drop p fs ≡ f ∷ drop (p + 1) fs → f.name ≡ Some k.now →
     found ≡ lookup (is_at (kept_cmp k)) old → is_some found ≡ false →
-    new ≡ insert_entry kept_cmp old k p → order_from (drop p fs) p (shown old)
-    ≡ order_from (drop (p + 1) fs) (p + 1) (shown new)
+    new ≡ insert_entry kept_cmp old k p → order_from (drop p fs) p (shown_entries old)
+    ≡ order_from (drop (p + 1) fs) (p + 1) (shown_entries new)
 new_here fs p f k old new found e is g h i =
-    next_field fs p f k.now (shown old) e is
-    ∙ ap (λ b. cond b None (order_from (drop (p + 1) fs) (p + 1) (insert k.now p (shown old))))
+    next_field fs p f k.now (shown_entries old) e is
+    ∙ ap (λ b. cond b None
+    (order_from (drop (p + 1) fs) (p + 1) (insert k.now p (shown_entries old))))
     (sym (there k old found g) ∙ h)
-    ∙ ap (order_from (drop (p + 1) fs) (p + 1)) (sym (ap shown i ∙ shown_insert old k p))
+    ∙ ap (order_from (drop (p + 1) fs) (p + 1)) (sym (ap shown_entries i ∙ shown_insert old k p))

@@ -31,9 +31,9 @@ abbrev pub insert : List ℕ → ℕ → Entries → Entries
 insert n i es = insert_entry cmp es n i
 
 -- these names put at their positions, from i on
-abbrev placed : List (List ℕ) → ℕ → Entries → Entries
-placed [] i es = es
-placed (n ∷ ns) i es = placed ns (suc i) (insert n i es)
+abbrev placed_from : List (List ℕ) → ℕ → Entries → Entries
+placed_from [] i es = es
+placed_from (n ∷ ns) i es = placed_from ns (suc i) (insert n i es)
 
 -- members with these names, each with the item at its position
 abbrev members_by : (ℕ → Data) → Entries → Members
@@ -125,7 +125,7 @@ all_new_insert n i (m ∷ ns) es =
 
 abbrev order_by : Option (List (List ℕ)) → ℕ → Entries → Option Entries
 order_by None i es = None
-order_by (Some ns) i es = cond (all_new ns es && all_differ ns) (Some (placed ns i es)) None
+order_by (Some ns) i es = cond (all_new ns es && all_differ ns) (Some (placed_from ns i es)) None
 
 -- of four conditions the first, that something is false, may be asked before all others
 and_turn : (a b c d : Bool) → (((not a && b) && (c && d)) ≡ cond a false ((b && c) && d))
@@ -148,9 +148,9 @@ order_from_is (f ∷ fs) i es = with_one (order_from_is fs (suc i)) f.name where
   when rest n true (Some ns) is same = rw is refl
   when rest n false (Some ns) is same = rest (insert n i es)
       ∙ ap (λ o. order_by o (suc i) (insert n i es)) same
-      ∙ ap (λ b. cond (b && all_differ ns) (Some (placed ns (suc i) (insert n i es))) None)
+      ∙ ap (λ b. cond (b && all_differ ns) (Some (placed_from ns (suc i) (insert n i es))) None)
       (all_new_insert n i ns es)
-      ∙ ap (λ b. cond b (Some (placed ns (suc i) (insert n i es))) None)
+      ∙ ap (λ b. cond b (Some (placed_from ns (suc i) (insert n i es))) None)
       (sym (ap (λ b. (not b && all_new ns es) && (is_new n ns && all_differ ns)) is
       ∙ and_turn false (all_new ns es) (is_new n ns) (all_differ ns)))
 
@@ -180,14 +180,14 @@ members_by-insert f n i (e ∷ es) = match_members f (cmp n e.0) _ _ _
     (member e.0 (f i) (members_by f es)) (member e.0 (f e.1) ms)) (members_by-insert f n i es)
 
 -- f gives these items from i on
-abbrev Gives : (ℕ → Data) → ℕ → List Data → Type 0
-Gives f i [] = Unit {0}
-Gives f i (d ∷ ds) = (f i ≡ d) × Gives f (suc i) ds
+abbrev GivesItems : (ℕ → Data) → ℕ → List Data → Type 0
+GivesItems f i [] = Unit {0}
+GivesItems f i (d ∷ ds) = (f i ≡ d) × GivesItems f (suc i) ds
 
 -- items put at their names in turn give the members of the entries placed in turn
 members_placed : (f : ℕ → Data) (ns : List (List ℕ)) (i : ℕ) (ds : List Data) (es : Entries) →
-    length ns ≤ length ds → Gives f i ds →
-    with_members ns (items_of ds) (members_by f es) ≡ members_by f (placed ns i es)
+    length ns ≤ length ds → GivesItems f i ds →
+    with_members ns (items_of ds) (members_by f es) ≡ members_by f (placed_from ns i es)
 members_placed f [] i ds es h g = refl
 members_placed f (n ∷ ns) i [] es h g = absurd (omega (arith, h))
 members_placed f (n ∷ ns) i (d ∷ ds) es h g =
@@ -213,7 +213,7 @@ data_is all i d e = ap (λ o. unwrap_or o null) e
 
 -- the items of a list by their positions
 gives_from : (all : List Data) (i : ℕ) (ds : List Data) → drop i all ≡ ds →
-    Gives (data_at all) i ds
+    GivesItems (data_at all) i ds
 gives_from all i [] e = tt
 gives_from all i (d ∷ ds) e = let h = head_at all i d ds e in
     (data_is all i d h.0, gives_from all (suc i) ds h.1)
@@ -323,7 +323,7 @@ record HasNames (fs : List Field) (es : Entries) : Type 0 where
   pub all : List (List ℕ)
   pub are : names fs ≡ Some all
   pub differ : all_differ all ≡ true
-  pub placed_are : placed all 0 [] ≡ es
+  pub placed_are : placed_from all 0 [] ≡ es
 
 -- fields whose order is found have names that all differ, and its entries are of these
 has_names : (fs : List Field) (es : Entries) → order_from fs 0 [] ≡ Some es → HasNames fs es
@@ -331,9 +331,10 @@ has_names fs es e = go (names fs) refl (sym (order_from_is fs 0 []) ∙ e) where
   go : (o : Option (List (List ℕ))) → names fs ≡ o → order_by o 0 [] ≡ Some es → HasNames fs es
   go None is h = absurd cc
   go (Some ns) is h = differ (all_differ ns) refl
-      (sym (ap (λ b. cond (b && all_differ ns) (Some (placed ns 0 [])) None) (all_new_none ns)) ∙ h)
+      (sym (ap (λ b. cond (b && all_differ ns) (Some (placed_from ns 0 [])) None)
+      (all_new_none ns)) ∙ h)
     where
-      differ : (b : Bool) → all_differ ns ≡ b → cond b (Some (placed ns 0 [])) None ≡ Some es →
+      differ : (b : Bool) → all_differ ns ≡ b → cond b (Some (placed_from ns 0 [])) None ≡ Some es →
           HasNames fs es
       differ true d g = record { all = ns; are = is; differ = d; placed_are = cc }
       differ false d g = absurd cc
@@ -410,7 +411,7 @@ pub unnamed_json_is : (fs : List Field) (ds : Items) → key_order fs ≡ None �
     fields_json fs ds ≡ array ds
 unnamed_json_is [] ds e = refl
 unnamed_json_is (f ∷ fs) ds e = go (order_from (f ∷ fs) 0 []) refl e where
-  differ : (ns : List (List ℕ)) (b : Bool) → cond b (Some (placed ns 0 [])) None ≡ None →
+  differ : (ns : List (List ℕ)) (b : Bool) → cond b (Some (placed_from ns 0 [])) None ≡ None →
       cond b (object (with_members ns ds no_members)) (array ds) ≡ array ds
   differ ns true h = absurd cc
   differ ns false h = refl
@@ -418,7 +419,8 @@ unnamed_json_is (f ∷ fs) ds e = go (order_from (f ∷ fs) 0 []) refl e where
   by_names : (o : Option (List (List ℕ))) → order_by o 0 [] ≡ None → named_json o ds ≡ array ds
   by_names None h = refl
   by_names (Some ns) h = differ ns (all_differ ns)
-      (sym (ap (λ b. cond (b && all_differ ns) (Some (placed ns 0 [])) None) (all_new_none ns)) ∙ h)
+      (sym (ap (λ b. cond (b && all_differ ns) (Some (placed_from ns 0 [])) None)
+      (all_new_none ns)) ∙ h)
 
   go : (o : Option Entries) → order_from (f ∷ fs) 0 [] ≡ o → option_map positions o ≡ None →
       named_json (names (f ∷ fs)) ds ≡ array ds

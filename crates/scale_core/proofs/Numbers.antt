@@ -83,12 +83,12 @@ pub neg-pos : (x : ℕ) → 0 < x → neg_ℤ (pos x) ≡ negsuc (x - 1)
 neg-pos zero h = absurd (omega arith)
 neg-pos (suc x) h = ap negsuc (omega arith)
 
-abbrev signed_from : Bool → ℕ → ℕ → ℤ
-signed_from b range n = cond b (pos n) (neg_ℤ (pos (range - n)))
+abbrev signed_number_from : Bool → ℕ → ℕ → ℤ
+signed_number_from b range n = cond b (pos n) (neg_ℤ (pos (range - n)))
 
 -- two numbers of one range that stand for the same signed number are the same
 signed_same : (range m n : ℕ) (b c : Bool) → m < range → n < range →
-    signed_from b range m ≡ signed_from c range n → m ≡ n
+    signed_number_from b range m ≡ signed_number_from c range n → m ≡ n
 signed_same range m n true true h k e = let e' : pos m ≡ pos n = e in cc
 signed_same range m n true false h k e = let e' : pos m ≡ negsuc (range - n - 1) = e
     ∙ neg-pos (range - n) (omega arith) in absurd cc
@@ -105,8 +105,8 @@ pub signed_one : (a b : List ℕ) → AreBytes a → AreBytes b → length a ≡
 signed_one a b h k len e =
     let range = 256 ^ length a in
     let less : number b < range = rw len (number-bound b k) in
-    let e' : signed_from (nat_lt (2 * number a) range) range (number a)
-    ≡ signed_from (nat_lt (2 * number b) range) range (number b) = e
-    ∙ ap (λ (l : ℕ). signed_from (nat_lt (2 * number b) (256 ^ l)) (256 ^ l) (number b))
+    let e' : signed_number_from (nat_lt (2 * number a) range) range (number a)
+    ≡ signed_number_from (nat_lt (2 * number b) range) range (number b) = e
+    ∙ ap (λ (l : ℕ). signed_number_from (nat_lt (2 * number b) (256 ^ l)) (256 ^ l) (number b))
     (sym len) in
     number_one a b h k len (signed_same range (number a) (number b) _ _ (number-bound a h) less e')

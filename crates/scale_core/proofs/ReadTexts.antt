@@ -22,17 +22,17 @@ text_at-fault bytes e is = rw is refl
 
 -- ---- what stands behind the length, as `&bytes[start..]` and `get(..n)` give it
 
-abbrev pub behind : List ℕ → ℕ → List ℕ
-behind bytes start = take (length bytes - start) (drop start bytes)
+abbrev pub slice_from : List ℕ → ℕ → List ℕ
+slice_from bytes start = take (length bytes - start) (drop start bytes)
 
 -- what is behind a place is what is left where as many bytes are dropped
-behind-drop : (bytes : List ℕ) (start : ℕ) → behind bytes start ≡ drop start bytes
+behind-drop : (bytes : List ℕ) (start : ℕ) → slice_from bytes start ≡ drop start bytes
 behind-drop bytes start =
     take_all (length bytes - start) (drop start bytes) (omega (arith, length-drop start bytes))
 
 -- where fewer bytes are there than a text's length says, the text is cut
 pub text_at-cut : (bytes : List ℕ) (start n : ℕ) → compact_at U32 bytes ≡ Ok (n, drop start bytes) →
-    (n < 0) ⊎ (length (behind bytes start) < n) → text_at bytes ≡ Err (Truncated, [])
+    (n < 0) ⊎ (length (slice_from bytes start) < n) → text_at bytes ≡ Err (Truncated, [])
 unfolding text_at
 text_at-cut bytes start n is (inl h) = absurd (omega arith)
 text_at-cut bytes start n is (inr h) = let short : length (drop start bytes) < n =
@@ -50,14 +50,14 @@ unfolding text_at
 text_at-whole bytes rest n is long = rw (is, le-ltb (length rest) n long) refl
 
 -- bytes that are there whole: `get` gave them
-pub record IsWhole (bytes spelled : List ℕ) (start n : ℕ) : Type 0 where
+pub record IsTextThere (bytes spelled : List ℕ) (start n : ℕ) : Type 0 where
   pub length_is : compact_at U32 bytes ≡ Ok (n, drop start bytes)
-  pub there : n ≤ length (behind bytes start)
-  pub is : spelled ≡ slice_range (behind bytes start) 0 n
+  pub there : n ≤ length (slice_from bytes start)
+  pub is : spelled ≡ slice_range (slice_from bytes start) 0 n
   pub len : length spelled + 0 ≡ n
 
 -- where the bytes of a text are there as a slice, the text is what these are judged to be
-judged-whole : (bytes spelled : List ℕ) (start n : ℕ) → IsWhole bytes spelled start n →
+judged-whole : (bytes spelled : List ℕ) (start n : ℕ) → IsTextThere bytes spelled start n →
     text_at bytes ≡ judged_text spelled (drop start bytes) (drop (start + length spelled) bytes)
 judged-whole bytes spelled start n w =
     let rest = drop start bytes in
@@ -73,14 +73,15 @@ judged-whole bytes spelled start n w =
     ∙ ap (judged_text spelled rest) after
 
 -- a text whose bytes are there and are UTF-8 is read, with the rest left
-pub text_at-valid : (bytes spelled text : List ℕ) (start n : ℕ) → IsWhole bytes spelled start n →
+pub text_at-valid : (bytes spelled text : List ℕ) (start n : ℕ) →
+    IsTextThere bytes spelled start n →
     text ≡ spelled → IsUtf8 spelled →
     text_at bytes ≡ Ok (text, drop (start + length spelled) bytes)
 text_at-valid bytes spelled text start n w same valid = judged-whole bytes spelled start n w
     ∙ rw (is_utf8-from_IsUtf8 spelled valid, same) refl
 
 -- a text whose bytes are there and are no UTF-8 is refused at the first byte that is wrong
-pub text_at-bad : (bytes spelled : List ℕ) (start n : ℕ) → IsWhole bytes spelled start n →
+pub text_at-bad : (bytes spelled : List ℕ) (start n : ℕ) → IsTextThere bytes spelled start n →
     (IsUtf8 spelled → ⊥) →
     text_at bytes ≡ Err (BadUtf8, drop (utf8_valid_len spelled) (drop start bytes))
 text_at-bad bytes spelled start n w bad =
@@ -90,13 +91,13 @@ text_at-bad bytes spelled start n w bad =
 
 -- a text whose bytes are there ends within the bytes
 pub whole-bound : (bytes spelled : List ℕ) (start n : ℕ) → start ≤ length bytes →
-    IsWhole bytes spelled start n → start + length spelled ≤ length bytes
+    IsTextThere bytes spelled start n → start + length spelled ≤ length bytes
 whole-bound bytes spelled start n h w = let long : n ≤ length (drop start bytes) =
     rw behind-drop at w.there in omega (arith, length-drop start bytes, w.len)
 
 -- the place of the first wrong byte is counted from the front of all bytes
 pub place-bad : (bytes spelled : List ℕ) (start n : ℕ) → start ≤ length bytes →
-    IsWhole bytes spelled start n →
+    IsTextThere bytes spelled start n →
     place bytes (drop (utf8_valid_len spelled) (drop start bytes)) ≡ start + utf8_valid_len spelled
 place-bad bytes spelled start n h w =
     let k = utf8_valid_len spelled in

@@ -39,18 +39,21 @@ bytes_takes k b = cond_takes (λ x c. (c ≡ x) × (length c ≡ k)) b (ltb (len
     (λ e. let long : k ≤ length b = ltb-false _ _ e in
     (take k b, sym (take-append-drop k b), (refl, omega (arith, length-take k b))))
 
-abbrev pub Fits : Target → ℕ → List ℕ → Type 0
-Fits m x c = (x < 256 ^ target_bytes m) × (c ≡ compact x)
+abbrev pub FitsTarget : Target → ℕ → List ℕ → Type 0
+FitsTarget m x c = (x < 256 ^ target_bytes m) × (c ≡ compact x)
 
 -- where the bytes of a form stood on the front, so did the number that is made of them
 form_takes : (m : Target) (b : List ℕ) (k : ℕ) (r : Read Reason (List ℕ)) →
-    Takes (λ x c. (c ≡ x) × (length c ≡ k)) b r → Takes (Fits m) b (form_from m b r)
+    Takes (λ x c. (c ≡ x) × (length c ≡ k)) b r → Takes (FitsTarget m) b (form_from m b r)
 form_takes m b k (Err e) h = tt
 form_takes m b k (Ok x) h = let n = form_number x.0 in
-    cond_takes (Fits m) b (not (bytes_eq (compact n) x.0)) (Err (CompactNotShortest, b))
+    cond_takes (FitsTarget m) b (not (bytes_eq (compact n) x.0)) (Err (CompactNotShortest, b))
     (cond (nat_lt n (256 ^ target_bytes m)) (Ok (n, x.1)) (Err (CompactTooLarge, b))) (λ e. tt)
     (λ e.
-    cond_takes (Fits m) b (nat_lt n (256 ^ target_bytes m)) (Ok (n, x.1)) (Err (CompactTooLarge, b))
+    cond_takes (FitsTarget m) b (nat_lt n (256 ^ target_bytes m)) (Ok (
+      n,
+      x.1,
+    )) (Err (CompactTooLarge, b))
     (λ small. (
       h.0,
       h.1,
@@ -62,10 +65,11 @@ form_takes m b k (Ok x) h = let n = form_number x.0 in
     )) (λ e. tt))
 
 -- an integer that is read stood on the front in a form that fits the target
-integer_takes : (m : Target) (b : List ℕ) → Takes (Fits m) b (integer_at m b)
+integer_takes : (m : Target) (b : List ℕ) → Takes (FitsTarget m) b (integer_at m b)
 integer_takes m [] = tt
 integer_takes m (first ∷ rest) =
-    cond_takes (Fits m) (first ∷ rest) (is_too_long m first) (Err (CompactTooLarge, first ∷ rest))
+    cond_takes (FitsTarget m) (first ∷ rest) (is_too_long m first)
+    (Err (CompactTooLarge, first ∷ rest))
     (form_from m (first ∷ rest) (bytes_at (form_len first) (first ∷ rest))) (λ e. tt)
     (λ e. form_takes m (first ∷ rest) (form_len first) (bytes_at (form_len first) (first ∷ rest))
     (bytes_takes (form_len first) (first ∷ rest)))
@@ -180,13 +184,13 @@ text_takes b = bind_takes (IsCompact U32) IsText b (compact_at U32 b) _ (compact
     (λ valid. let len : length s.0 ≡ n.0 = rw (← at.0) at.1 in
     ([], refl, (c, rw len is, valid, rw (append-nil, at.0) refl))) (λ e. tt)))
 
-abbrev judged : List ℕ → List ℕ × List ℕ → Read Reason (List ℕ)
-judged from s = cond (is_utf8 s.0) (Ok s) (Err (BadUtf8, drop (utf8_valid_len s.0) from))
+abbrev judged_front : List ℕ → List ℕ × List ℕ → Read Reason (List ℕ)
+judged_front from s = cond (is_utf8 s.0) (Ok s) (Err (BadUtf8, drop (utf8_valid_len s.0) from))
 
 -- the bytes of a text are judged alike in a longer input, where they were not cut
 judged_extends : (k : ℕ) (from more : List ℕ) →
-    Extends Truncated more (bytes_at k from >>= judged from)
-    (bytes_at k (from ++ more) >>= judged (from ++ more))
+    Extends Truncated more (bytes_at k from >>= judged_front from)
+    (bytes_at k (from ++ more) >>= judged_front (from ++ more))
 judged_extends k from more = elim (cases_lt (length from) k) [
   | inl lt ↦ rw (lt-ltb (length from) k lt) (λ ne. absurd (ne refl))
   | inr le ↦

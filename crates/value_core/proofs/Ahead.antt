@@ -159,7 +159,7 @@ step_suits r c (Def.BitSequence store order) s is o =
     (λ e. absurd cc) is o
 
 -- the type that is next, which is known, by a step that is not that of a type without values
-record Known (w : Walked) (s : Step) : Type 0 where
+record IsKnownNext (w : Walked) (s : Step) : Type 0 where
   pub ty : ℕ
   pub is_next : next_type w ≡ Some ty
   pub d : TypeDef
@@ -169,10 +169,10 @@ record Known (w : Walked) (s : Step) : Type 0 where
 
 -- where the step that is ahead is not that of no value, the next type is known and has it
 known : (w : Walked) (s : Step) → (s ≡ step.NoValue → ⊥) →
-    IsStepAhead w.types (next_type w) (Some s) → Known w s
+    IsStepAhead w.types (next_type w) (Some s) → IsKnownNext w s
 known w s some h = go (next_type w) refl where
   at : (t : ℕ) (x : Option TypeDef) → next_type w ≡ Some t → shape w.types t ≡ x →
-      IsStepOf w.types t s → Known w s
+      IsStepOf w.types t s → IsKnownNext w s
   at t None e f is = absurd (some (rw (IsStepOf, f) at is))
   at t (Some d) e f is = record {
     ty = t;
@@ -183,7 +183,7 @@ known w s some h = go (next_type w) refl where
         rw (IsStepOf, f) at is;
   }
 
-  go : (o : Option ℕ) → next_type w ≡ o → Known w s
+  go : (o : Option ℕ) → next_type w ≡ o → IsKnownNext w s
   go None e = absurd (rw e at h)
   go (Some t) e = at t (shape w.types t) e refl (rw e at h)
 
@@ -191,7 +191,7 @@ abbrev opened_parts : Walked → ℕ → ℕ → Part
 opened_parts w from count = left_of w.types (members_of from count)
 
 -- these are the parts of the next type, and there are as many as they say
-pub record Opens (w : Walked) (left : Left) : Type 0 where
+pub record OpensParts (w : Walked) (left : Left) : Type 0 where
   pub opens : OpensFields w (left_of w.types left)
   pub counts : how_many_left (left_of w.types left) ≡ left.count
 
@@ -199,7 +199,7 @@ pub record Opens (w : Walked) (left : Left) : Type 0 where
 parts_open : (w : Walked) (from count from' count' : ℕ) (c : Class) (ts : List ℕ) →
     step.Parts from count ≡ by_class c step.NoValue (step.Parts from' count') →
     AreParts (references_of w.types) from' count' ts → OpensFields w (each ts) →
-    Opens w (members_of from count)
+    OpensParts w (members_of from count)
 parts_open w from count from' count' c ts e parts o =
     let is = parts_sized c (step.Parts from' count') from count e in
     let from_is : from ≡ from' = cc in
@@ -214,7 +214,7 @@ parts_open w from count from' count' c ts e parts o =
 -- where fields are next, they are the piece of references that the step ahead tells
 fields_open : (w : Walked) (from count : ℕ) → next_of w ≡ next.Wants form.Fields →
     IsStepAhead w.types (next_type w) (Some (step.Parts from count)) →
-    Opens w (members_of from count)
+    OpensParts w (members_of from count)
 fields_open w from count h a =
     let k = known w (step.Parts from count) (λ e. absurd cc) a in
     let c = class_of w.types k.ty in
@@ -223,7 +223,7 @@ fields_open w from count h a =
           IsStep w.types (references_of w.types)
           (λ from count arms. Unit {0}) c d (step.Parts from count) →
           suits (step.Parts from count) d ≡ true →
-          Opens w (members_of from count)
+          OpensParts w (members_of from count)
       go c (Def.Composite fs) s is f = parts_open w from count is.0 is.1 c
           (field_types fs) is.2 is.3 (composite_opens w fs h s)
       go c (Def.Tuple ts) s is f = parts_open w from count is.0 is.1 c (ids ts) is.2
@@ -417,7 +417,7 @@ members_there w o h a e =
 -- where fields are next, the members that the step ahead tells are what is opened
 pub members_opened : (w : Walked) (o : Option Step) (left : Left) →
     next_of w ≡ next.Wants form.Fields → IsStepAhead w.types (next_type w) o →
-    members_in o ≡ Some left → Opens w left
+    members_in o ≡ Some left → OpensParts w left
 members_opened w o left h a e =
     let k = fields_known w o h a in
     let is : left ≡ members_of k.0 k.1 =

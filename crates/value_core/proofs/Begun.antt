@@ -38,7 +38,7 @@ use Rattle.value_core.specs.Building.{IsPaid, IsBuilding}
 use Rattle.value_core.specs.Refusals.{is_whole_in}
 use Rattle.value_core.specs.Begun.{IsBegun, next_in}
 use Rattle.value_core.specs.declared.node.Node.{Node}
-use Rattle.value_core.proofs.CellsOf.{bare, cells_length, all_cells_length, cells_preorder}
+use Rattle.value_core.proofs.CellsOf.{bare_heads, cells_length, all_cells_length, cells_preorder}
 use Rattle.value_core.proofs.CellsOf.{all_cells_preorder}
 use Rattle.value_core.proofs.Finished.{heads_text, heads_text-append, text_of_preorder}
 use Rattle.value_core.proofs.Finished.{text_of_all_preorder, text_of_entries}
@@ -145,12 +145,12 @@ BegunAs r top t hs own next = (g : Begun) × Grows r top t g own next × IsPart 
 -- the innermost open node, its whole children and what follows stand behind the nodes before it
 heads_behind : (r : List TypeInfo) (o : OpenNode) (cs cs1 : List Cell) (hs : List Head) →
     cs ≡ cs1 ++ open_cells r o →
-    bare cs ++ hs ≡ bare cs1 ++ (head.branch o.kind o.all ∷ (all_preorder o.done ++ hs))
+    bare_heads cs ++ hs ≡ bare_heads cs1 ++ (head.branch o.kind o.all ∷ (all_preorder o.done ++ hs))
 heads_behind r o cs cs1 hs e =
-    ap (λ (x : List Cell). bare x ++ hs) e
+    ap (λ (x : List Cell). bare_heads x ++ hs) e
     ∙ ap (λ (x : List Head). x ++ hs) (map-append (λ (c : Cell). c.head) cs1 (open_cells r o))
-    ∙ append_assoc (bare cs1) (bare (open_cells r o)) hs
-    ∙ ap (λ (x : List Head). bare cs1 ++ (head.branch o.kind o.all ∷ (x ++ hs)))
+    ∙ append_assoc (bare_heads cs1) (bare_heads (open_cells r o)) hs
+    ∙ ap (λ (x : List Head). bare_heads cs1 ++ (head.branch o.kind o.all ∷ (x ++ hs)))
     (all_cells_preorder r (part_of (layout r o.ty) o.kind o.all) o.done)
 
 -- a begun tree where a type is next makes one begun tree of all open nodes around it
@@ -159,7 +159,7 @@ plugged : (r : List TypeInfo) (top room t : ℕ) (os : List OpenNode) (f : OpenP
     (next : Option (ℕ × ℕ)) (hs : List Head) →
     room + length os ≡ top → Spine r room t os (f ∷ fs) cs own → first_of f.left ≡ Some w →
     Grows r room w g c next → IsPart g → IsBegunPreorder g hs →
-    BegunAs r top t (bare cs ++ hs) (own ++ c) next
+    BegunAs r top t (bare_heads cs ++ hs) (own ++ c) next
 plugged r top room t [] f fs cs own w g c next hs e (inl h) first k part shows =
     let parts = is_cons f (open_part 0 (times 1 t)) fs [] h.0 in
     let same : t ≡ w = same_Some t w (sym (ap (λ (x : OpenPart). first_of x.left) parts.0)
@@ -191,13 +191,13 @@ same_begun r top t hs hs' own own' next e f h = (h.0, rw (← f) h.1, h.2, rw (�
 spine_is_begun : (r : List TypeInfo) (top room t : ℕ) (os : List OpenNode) (f : OpenPart)
     (fs : List OpenPart) (cs : List Cell) (own : List ℕ) (u : ℕ) → room + length os ≡ top →
     Spine r room t os (f ∷ fs) cs own → first_of f.left ≡ Some u →
-    BegunAs r top t (bare cs) own (Some (room, u))
+    BegunAs r top t (bare_heads cs) own (Some (room, u))
 unfolding Grows
 spine_is_begun r top room t os f fs cs own u e h first =
     let g = plugged r top room t os f fs cs own u nothing [] (Some (room, u)) [] e h first
     (refl, refl) tt refl in
-    same_begun r top t (bare cs ++ []) (bare cs) (own ++ []) own (Some (room, u))
-    (append-nil (bare cs)) (append-nil own) g
+    same_begun r top t (bare_heads cs ++ []) (bare_heads cs) (own ++ []) own (Some (room, u))
+    (append-nil (bare_heads cs)) (append-nil own) g
 
 -- ---- its counts
 
@@ -274,7 +274,7 @@ answer_is r limit parts u = by (nat_lt (limit + 1) parts) refl where
 
 -- nodes are the same by themselves, whether shown with their types or with sizes as well
 heads_are : (pool : List ℕ) (ns : List Node) →
-    map (λ (e : Entry). e.head) (entries_shown pool ns) ≡ bare (cells_shown pool ns)
+    map (λ (e : Entry). e.head) (entries_shown pool ns) ≡ bare_heads (cells_shown pool ns)
 heads_are pool ns = map-map (λ (e : Entry). e.head) _ ns ∙ sym (map-map (λ (c : Cell). c.head) _ ns)
 
 -- the bytes of nodes shown with their types are those of the same nodes shown with sizes
@@ -311,7 +311,7 @@ part_begun ty types limit f fs pool ns text_len run turns u b paid e =
     let own = own_is types pool ns b.own
     (spine_bytes types b.room ty b.opens (f ∷ fs) (cells_shown pool ns) b.own b.are_bytes
     b.spine) in
-    let count = counts g.0 (bare (cells_shown pool ns)) g.3 in
+    let count = counts g.0 (bare_heads (cells_shown pool ns)) g.3 in
     record {
       tree = g.0;
       are_bytes = subst AreBytes (sym own) b.are_bytes;
@@ -358,12 +358,12 @@ whole_begun ty types limit f pool ns text_len run turns b paid e = by b.opens re
       subst (λ (x : List OpenNode). Spine types b.room ty x (f ∷ []) (cells_shown pool ns)
       b.own) o b.spine in
       let v = spine_is_whole types b.room ty f (cells_shown pool ns) b.own spine e in
-      let shows : bare (cells_shown pool ns) ≡ preorder v.0 = ap bare v.1
+      let shows : bare_heads (cells_shown pool ns) ≡ preorder v.0 = ap bare_heads v.1
       ∙ cells_preorder types ty v.0 in
       let own = own_is types pool ns b.own
       (spine_bytes types b.room ty b.opens (f ∷ []) (cells_shown pool ns) b.own b.are_bytes
       b.spine) in
-      let count = counts (whole v.0) (bare (cells_shown pool ns)) shows in
+      let count = counts (whole v.0) (bare_heads (cells_shown pool ns)) shows in
       record {
         tree = whole v.0;
         are_bytes = subst AreBytes (sym own) b.are_bytes;

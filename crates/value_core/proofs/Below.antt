@@ -66,23 +66,23 @@ pub arm_part_is : (r : List TypeInfo) (t q : ℕ) (arms : List Arm) (i : ℕ) (a
 arm_part_is r t q arms i a e f = rw (e, arm_get arms i q a f) refl
 
 -- the parts of a node, and their types
-abbrev pub part_types : List TypeInfo → ℕ → Tree → Part
-part_types r t (tree.leaf l) = each []
-part_types r t (tree.branch k vs) = part_of (layout r t) k (how_many vs)
+abbrev pub types_of_parts : List TypeInfo → ℕ → Tree → Part
+types_of_parts r t (tree.leaf l) = each []
+types_of_parts r t (tree.branch k vs) = part_of (layout r t) k (how_many vs)
 
-abbrev pub parts_of : Tree → Trees
-parts_of (tree.branch k vs) = vs
-parts_of _ = none
+abbrev pub trees_of : Tree → Trees
+trees_of (tree.branch k vs) = vs
+trees_of _ = none
 
 -- the children of a value are its parts, each with its type
 pub children_seen : (r : List TypeInfo) (t : ℕ) (v : Tree) →
-    children_by r t v ≡ seen_parts r (part_types r t v) (parts_of v)
+    children_by r t v ≡ seen_parts r (types_of_parts r t v) (trees_of v)
 children_seen r t (tree.branch k vs) = refl
 children_seen r t (tree.leaf l) = refl
 
 -- the parts of a value are each a value of its type
 children_are : (r : List TypeInfo) (t : ℕ) (v : Tree) (b : List ℕ) → AreBytes b → Val r t v b →
-    AreValues r (part_types r t v) (parts_of v)
+    AreValues r (types_of_parts r t v) (trees_of v)
 unfolding Val
 children_are r t (tree.branch tree.fields vs) b p h = rw h.1 (vals_are r h.0 vs b p h.2)
 children_are r t (tree.branch (tree.arm q) vs) b p h =
@@ -93,13 +93,13 @@ children_are r t (tree.branch tree.list vs) b p (inr h) =
     rw h.3 (each_are r h.0 vs h.2 (rest_bytes h.1 h.2 (rw (← h.5) p)) h.6)
 children_are r t (tree.leaf l) b p h = tt
 
-abbrev behind : List Cell → List Cell
-behind [] = []
-behind (c ∷ cs) = cs
+abbrev cells_behind : List Cell → List Cell
+cells_behind [] = []
+cells_behind (c ∷ cs) = cs
 
 -- behind the first node of a value stand the nodes of its parts
 cells_below : (r : List TypeInfo) (t : ℕ) (v : Tree) →
-    behind (cells r t v) ≡ all_cells r (part_types r t v) (parts_of v)
+    cells_behind (cells r t v) ≡ all_cells r (types_of_parts r t v) (trees_of v)
 cells_below r t (tree.branch k vs) = refl
 cells_below r t (tree.leaf l) = refl
 
@@ -114,9 +114,9 @@ below r pool n ns h =
     let t = type_shown (n ∷ ns) in
     let v = tree_shown pool (n ∷ ns) in
     record {
-      part = part_types r t v;
-      values = parts_of v;
-      nodes = ap behind h.nodes ∙ cells_below r t v;
+      part = types_of_parts r t v;
+      values = trees_of v;
+      nodes = ap cells_behind h.nodes ∙ cells_below r t v;
       inside = h.inside.1;
       are_values = children_are r t v h.value.0 h.value.1 h.value.2;
     }
@@ -132,7 +132,7 @@ below_seen r pool n ns h =
     ∙ sym (children_seen r (type_shown (n ∷ ns)) (tree_shown pool (n ∷ ns)))
 
 -- the first of them, and those behind it
-pub record First (r : List TypeInfo) (pool : List ℕ) (n : Node) (ns : List Node) : Type 0 where
+pub record FirstTree (r : List TypeInfo) (pool : List ℕ) (n : Node) (ns : List Node) : Type 0 where
   pub within : size_shown n.content ≤ length (n ∷ ns)
   pub whole : IsWhole r pool (take (size_shown n.content) (n ∷ ns))
   pub rest : IsForest r pool (drop (size_shown n.content) (n ∷ ns))
@@ -143,7 +143,7 @@ pub record First (r : List TypeInfo) (pool : List ℕ) (n : Node) (ns : List Nod
 -- nodes of values in a row begin with a whole value, as long as the first node tells
 first_by : (r : List TypeInfo) (pool : List ℕ) (n : Node) (ns : List Node) (p : Part) (vs : Trees) →
     AreInPool pool (n ∷ ns) → cells_shown pool (n ∷ ns) ≡ all_cells r p vs → AreValues r p vs →
-    First r pool n ns
+    FirstTree r pool n ns
 first_by r pool n ns p none inside e are = absurd cc
 first_by r pool n ns p (and v vs) inside e are =
     let s = split r pool n ns p v vs inside e in
@@ -173,7 +173,7 @@ first_by r pool n ns p (and v vs) inside e are =
 
 -- the nodes of a forest begin with a whole value, as long as the first node tells
 pub first : (r : List TypeInfo) (pool : List ℕ) (n : Node) (ns : List Node) →
-    IsForest r pool (n ∷ ns) → First r pool n ns
+    IsForest r pool (n ∷ ns) → FirstTree r pool n ns
 first r pool n ns h = first_by r pool n ns h.part h.values h.inside h.nodes h.are_values
 
 pub record FirstAt (r : List TypeInfo) (pool : List ℕ) (ns : List Node) (n : Node) : Type 0 where

@@ -38,11 +38,12 @@ mutual
       )
 
 -- the nodes by themselves
-abbrev pub bare : List Cell → List Head
-bare cs = map (λ (c : Cell). c.head) cs
+abbrev pub bare_heads : List Cell → List Head
+bare_heads cs = map (λ (c : Cell). c.head) cs
 
 mutual
-  pub cells_preorder : (r : List TypeInfo) (t : ℕ) (v : Tree) → bare (cells r t v) ≡ preorder v
+  pub cells_preorder : (r : List TypeInfo) (t : ℕ) (v : Tree) →
+      bare_heads (cells r t v) ≡ preorder v
   cells_preorder r t (leaf l) = refl
   cells_preorder r t (branch fields vs) =
       rw (all_cells_preorder r (fields_part (layout r t)) vs) refl
@@ -52,7 +53,7 @@ mutual
       rw (all_cells_preorder r (list_part (layout r t) (how_many vs)) vs) refl
 
   pub all_cells_preorder : (r : List TypeInfo) (p : Part) (vs : Trees) →
-      bare (all_cells r p vs) ≡ all_preorder vs
+      bare_heads (all_cells r p vs) ≡ all_preorder vs
   all_cells_preorder r p none = refl
   all_cells_preorder r p (and v vs) =
       map-append (λ (c : Cell). c.head) (cells r (child_type p) v) (all_cells r (left_after p) vs)
@@ -88,7 +89,7 @@ pub seen_is : (r : List TypeInfo) (pool : List ℕ) (ns : List Node) (t : ℕ) (
     cells_shown pool ns ≡ cells r t v → (type_shown ns ≡ t) × (tree_shown pool ns ≡ v)
 seen_is r pool ns t v e = (
   shown_type pool ns ∙ ap first_type (e ∙ sym (append-nil (cells r t v))) ∙ (starts r t v []).0,
-  ap tree_of (sym (map-map (λ (c : Cell). c.head) _ ns) ∙ ap bare e ∙ cells_preorder r t v)
+  ap tree_of (sym (map-map (λ (c : Cell). c.head) _ ns) ∙ ap bare_heads e ∙ cells_preorder r t v)
       ∙ tree_of-preorder v,
 )
 
@@ -121,7 +122,7 @@ inside_drop pool (suc k) [] h = tt
 inside_drop pool (suc k) (n ∷ ns) h = inside_drop pool k ns h.1
 
 -- where the first value's nodes end
-pub record Split (r : List TypeInfo) (pool : List ℕ) (n : Node) (ns : List Node) (p : Part)
+pub record SplitsCells (r : List TypeInfo) (pool : List ℕ) (n : Node) (ns : List Node) (p : Part)
     (v : Tree) (vs : Trees) : Type 0 where
   pub within : size_shown n.content ≤ length (n ∷ ns)
   pub front : cells_shown pool (take (size_shown n.content) (n ∷ ns)) ≡ cells r (child_type p) v
@@ -132,7 +133,7 @@ pub record Split (r : List TypeInfo) (pool : List ℕ) (n : Node) (ns : List Nod
 -- nodes of values in a row split where the first node tells, into the first value's and the others'
 pub split : (r : List TypeInfo) (pool : List ℕ) (n : Node) (ns : List Node) (p : Part) (v : Tree)
     (vs : Trees) → AreInPool pool (n ∷ ns) → cells_shown pool (n ∷ ns) ≡ all_cells r p (and v vs) →
-    Split r pool n ns p v vs
+    SplitsCells r pool n ns p v vs
 split r pool n ns p v vs inside e =
     let all = n ∷ ns in
     let first = cells r (child_type p) v in

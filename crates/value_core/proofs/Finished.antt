@@ -18,7 +18,7 @@ use Rattle.value_core.specs.Built.{entries_text_bytes, finished}
 use Rattle.value_core.specs.Building.{IsBuilding}
 use Rattle.value_core.specs.Refusals.{is_whole_in}
 use Rattle.value_core.specs.declared.node.Node.{Node}
-use Rattle.value_core.proofs.CellsOf.{bare, cells_preorder, seen_is}
+use Rattle.value_core.proofs.CellsOf.{bare_heads, cells_preorder, seen_is}
 use Rattle.value_core.proofs.Spines.{spine_length, spine_is_whole}
 
 -- the bytes of text of these nodes
@@ -48,7 +48,7 @@ mutual
 
 -- the bytes of text are as many, whether nodes are shown with their types or by themselves
 pub text_of_entries : (pool : List ℕ) (ns : List Node) →
-    entries_text_bytes (entries_shown pool ns) ≡ heads_text (bare (cells_shown pool ns))
+    entries_text_bytes (entries_shown pool ns) ≡ heads_text (bare_heads (cells_shown pool ns))
 text_of_entries pool [] = refl
 text_of_entries pool (n ∷ ns) = omega (arith, text_of_entries pool ns)
 
@@ -56,7 +56,7 @@ text_of_entries pool (n ∷ ns) = omega (arith, text_of_entries pool ns)
 text_of_value : (r : List TypeInfo) (t : ℕ) (v : Tree) (pool : List ℕ) (ns : List Node) →
     cells_shown pool ns ≡ cells r t v → entries_text_bytes (entries_shown pool ns) ≡ text_bytes v
 text_of_value r t v pool ns e = text_of_entries pool ns
-    ∙ ap (λ (cs : List Cell). heads_text (bare cs)) e ∙ ap heads_text (cells_preorder r t v)
+    ∙ ap (λ (cs : List Cell). heads_text (bare_heads cs)) e ∙ ap heads_text (cells_preorder r t v)
     ∙ text_of_preorder v
 
 -- the nodes of a whole value have as many bytes of text as its tree

@@ -93,15 +93,16 @@ times_cells r (suc n) u (and w ws) v h =
     ∙ sym (append_assoc (cells r u w) (all_cells r (times n u) ws) (cells r u v))
 
 -- the open node with one more child, and its nodes
-abbrev Grows : List TypeInfo → Branch → ℕ → ℕ → Trees → List ℕ → Part → Tree → ℕ → List ℕ → Type 0
-Grows r kind t n vs b p v u c = IsOpenAs r kind t n (snoc vs v) (b ++ c) (left_after p)
+abbrev GrowsByChild : List TypeInfo → Branch → ℕ → ℕ → Trees → List ℕ → Part → Tree →
+    ℕ → List ℕ → Type 0
+GrowsByChild r kind t n vs b p v u c = IsOpenAs r kind t n (snoc vs v) (b ++ c) (left_after p)
     × (all_cells r (part_of (layout r t) kind n) (snoc vs v)
     ≡ all_cells r (part_of (layout r t) kind n) vs ++ cells r u v)
 
 -- a value of the next type comes to an open node of fields as its next child
 grown_fields : (r : List TypeInfo) (t n : ℕ) (vs : Trees) (b : List ℕ) (p : Part) (u : ℕ) (v : Tree)
     (c back : List ℕ) → (h : IsFieldsOpen r t n vs b p) → h.1 ≡ back → first_of p ≡ Some u →
-    Val r u v c → Grows r tree.fields t n vs b p v u c
+    Val r u v c → GrowsByChild r tree.fields t n vs b p v u c
 grown_fields r t n vs b p u v c [] h e f k = let no : None ≡ Some u =
     sym (ap first_of (h.4 ∙ ap each e)) ∙ f in absurd cc
 grown_fields r t n vs b p u v c (w ∷ back) h e f k =
@@ -127,7 +128,7 @@ grown_fields r t n vs b p u v c (w ∷ back) h e f k =
 -- a value of the next type comes to an open arm as its next child
 grown_arm : (r : List TypeInfo) (t q n : ℕ) (vs : Trees) (b : List ℕ) (p : Part) (u : ℕ) (v : Tree)
     (c back : List ℕ) → (h : IsArmOpen r t q n vs b p) → h.4 ≡ back → first_of p ≡ Some u →
-    Val r u v c → Grows r (tree.arm q) t n vs b p v u c
+    Val r u v c → GrowsByChild r (tree.arm q) t n vs b p v u c
 grown_arm r t q n vs b p u v c [] h e f k = let no : None ≡ Some u =
     sym (ap first_of (h.10 ∙ ap each e)) ∙ f in absurd cc
 grown_arm r t q n vs b p u v c (w ∷ back) h e f k =
@@ -168,7 +169,7 @@ list_part_is r t n u vs b p h = elim h.4 [
 -- a value of the next type comes to an open list as its next child
 grown_list : (r : List TypeInfo) (t n : ℕ) (vs : Trees) (b : List ℕ) (p : Part) (u : ℕ) (v : Tree)
     (c : List ℕ) (left : ℕ) → (h : IsListOpen r t n vs b p) → h.1 ≡ left → first_of p ≡ Some u →
-    Val r u v c → Grows r tree.list t n vs b p v u c
+    Val r u v c → GrowsByChild r tree.list t n vs b p v u c
 grown_list r t n vs b p u v c zero h e f k = let no : None ≡ Some u =
     sym (ap first_of (h.5 ∙ ap (λ (z : ℕ). times z h.0) e)) ∙ f in absurd cc
 grown_list r t n vs b p u v c (suc left) h e f k =
@@ -193,7 +194,7 @@ grown_list r t n vs b p u v c (suc left) h e f k =
 -- a value of the next type comes to an open node as its next child, whatever the node's kind
 grown_as : (r : List TypeInfo) (kind : Branch) (t n : ℕ) (vs : Trees) (b : List ℕ) (p : Part)
     (u : ℕ) (v : Tree) (c : List ℕ) → IsOpenAs r kind t n vs b p → first_of p ≡ Some u →
-    Val r u v c → Grows r kind t n vs b p v u c
+    Val r u v c → GrowsByChild r kind t n vs b p v u c
 grown_as r tree.fields t n vs b p u v c h f k = grown_fields r t n vs b p u v c h.1 h refl f k
 grown_as r (tree.arm q) t n vs b p u v c h f k = grown_arm r t q n vs b p u v c h.4 h refl f k
 grown_as r tree.list t n vs b p u v c h f k = grown_list r t n vs b p u v c h.1 h refl f k

@@ -17,7 +17,7 @@ use Rattle.widths_core.specs.Rules.{rules, all_parts}
 use Rattle.graph_core.specs.Graphs.{refs, numbers, befores, IsLast, IsListed}
 use Rattle.widths_core.specs.Progress.{Progress, counter_at, part_settled, KnowsType}
 use Rattle.widths_core.specs.Consistent.{to_at, rule_number, has_settled, IsConsistent}
-use Rattle.widths_core.specs.Propagation.{Follows, Lists, IsSteady, IsPending, Propagates}
+use Rattle.widths_core.specs.Propagation.{Follows, Lists, IsUpToDate, IsPending, Propagates}
 use Rattle.widths_core.specs.Propagation.{IsPropagatedTo, PropagatesAll}
 use Rattle.widths_core.proofs.RuleRight.{rule_right}
 use Rattle.widths_core.proofs.Settles.{follows_same, follows_on}
@@ -27,7 +27,7 @@ use Rattle.widths_core.proofs.PartSettles.{SettlesPart, settles_part, number-lt,
 -- those from the end of the list on were propagated; reference at - 1 is next, where at is not 0
 pub record PropagatesSo (r : List TypeInfo) (a b : Graph) (s n : Progress) (t : ℕ) (f : Found)
     (at : ℕ) : Type 0 where
-  pub steady : IsSteady r b n
+  pub steady : IsUpToDate r b n
   pub follows : Follows s n
   pub lists : Lists a b
   pub settled : has_settled n t ≡ true

@@ -100,7 +100,7 @@ differs m n ne = go (m == n) refl where
   go false e = e
 
 -- what the rows have at each place after an arm came
-record Read (b c : Rows) (at v : ℕ) (s : ArmStep) : Type 0 where
+record ReadsRows (b c : Rows) (at v : ℕ) (s : ArmStep) : Type 0 where
   below : (k : ℕ) → k < at → (index_in c k ≡ index_in b k) × (arm_at_place c k ≡ arm_at_place b k)
   here : (index_in c at ≡ v) × (arm_at_place c at ≡ s)
   after : (k : ℕ) → at < k → (index_in c k ≡ index_in b (k - 1))
@@ -110,7 +110,7 @@ record Read (b c : Rows) (at v : ℕ) (s : ArmStep) : Type 0 where
 
 -- where an arm was put into rows, it is at its place, and those that were behind are one further
 reads : (b c : Rows) (at v : ℕ) (s : ArmStep) → IsPaired b → at ≤ length b.indexes.items →
-    Inserts b c at v s → Read b c at v s
+    Inserts b c at v s → ReadsRows b c at v s
 reads b c at v s paired le h =
     let le' : at ≤ length b.arms.items = omega (arith, le, paired) in
     record {
@@ -151,7 +151,7 @@ row_counted xs ys zs f i at arms x s a b c lt is e new position parts k h = reco
       (arm j ge end (cases_lt j at) (cases_eq j at));
   none = λ y lacks. counted i y arms x lt is fresh ∙ none y lacks;
 } where
-  now : Read b c at x.index s
+  now : ReadsRows b c at x.index s
   now = reads b c at x.index s h.paired new.within k
 
   fresh : is_some (arm_of (take i arms) x.index) ≡ false

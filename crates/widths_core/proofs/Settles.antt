@@ -49,8 +49,8 @@ pub record IsFound (r : List TypeInfo) (t : ℕ) (f : Found) : Type 0 where
   pub target : target_of r t ≡ f.target
   pub value : has_value f.class ≡ true
 
-abbrev with_found : Progress → ℕ → Found → Progress
-with_found s t f = record {
+abbrev with_type_found : Progress → ℕ → Found → Progress
+with_type_found s t f = record {
   counters = s.counters;
   classes = set s.classes t f.class;
   targets =
@@ -83,7 +83,7 @@ both b e f = let no = sym e ∙ f in cc
 
 -- what had settled has settled after a further type gets a class with a value
 with_keeps : (s : Progress) (t : ℕ) (f : Found) → t < length s.classes → has_value f.class ≡ true →
-    (u : ℕ) → has_settled s u ≡ true → has_settled (with_found s t f) u ≡ true
+    (u : ℕ) → has_settled s u ≡ true → has_settled (with_type_found s t f) u ≡ true
 with_keeps s t f lt v u e = elim (cases_eq u t) [
   | inl same ↦ rw (same, class_same s.classes t f.class lt) v
   | inr other ↦ rw (class_other s.classes t u f.class other) e
@@ -92,7 +92,7 @@ with_keeps s t f lt v u e = elim (cases_eq u t) [
 -- all stays consistent where a type settles as what it is and had not settled before
 with_consistent : (r : List TypeInfo) (propagated : List ℕ) (s : Progress) (t : ℕ) (f : Found) →
     IsConsistent r propagated s → t < length r → has_settled s t ≡ false → IsFound r t f →
-    IsConsistent r propagated (with_found s t f)
+    IsConsistent r propagated (with_type_found s t f)
 with_consistent r propagated s t f h lt e found =
     let in_classes : t < length s.classes = omega (arith, h.classes, lt) in
     let in_targets : t < length s.targets = omega (arith, h.targets, lt) in
@@ -118,7 +118,7 @@ with_consistent r propagated s t f h lt e found =
       );
     } where
       right : t < length s.classes → t < length s.targets → (u : ℕ) → (u ≡ t) ⊎ (u ≢ t) →
-          has_settled (with_found s t f) u ≡ true →
+          has_settled (with_type_found s t f) u ≡ true →
           (known_class (set s.classes t f.class) u ≡ class_of r u)
           × (known_target (set s.targets t f.target) u ≡ target_of r u)
       right a b u (inl same) v =
@@ -132,17 +132,17 @@ with_consistent r propagated s t f h lt e found =
           ) (h.right u v')
 
       unset : t < length s.classes → t < length s.targets → (u : ℕ) → (u ≡ t) ⊎ (u ≢ t) →
-          has_settled (with_found s t f) u ≡ false →
+          has_settled (with_type_found s t f) u ≡ false →
           known_target (set s.targets t f.target) u ≡ None
       unset a b u (inl same) v =
-          absurd (both (has_settled (with_found s t f) u)
+          absurd (both (has_settled (with_type_found s t f) u)
           (rw (same, class_same s.classes t f.class a) found.value) v)
       unset a b u (inr other) v = let v' : has_settled s u ≡ false =
           rw (class_other s.classes t u f.class other) at v in
           rw (get_or-set_other s.targets t u f.target None other) (h.unset u v')
 
       queue : t < length s.classes → (u : ℕ) → (u ≡ t) ⊎ (u ≢ t) →
-          times u (s.settled ++ t ∷ []) ≡ cond (has_settled (with_found s t f) u) 1 0
+          times u (s.settled ++ t ∷ []) ≡ cond (has_settled (with_type_found s t f) u) 1 0
       queue a u (inl same) = let none : times u s.settled ≡ 0 = h.queue u ∙ rw (same, e) refl in
           rw (
             times-append u s.settled (t ∷ []),
@@ -172,7 +172,8 @@ pub settles_to : (r : List TypeInfo) (propagated : List ℕ) (s : Progress) (t :
     IsConsistent r propagated s → t < length r → (has_settled s t ≡ false → IsFound r t f) →
     SettlesTo r propagated s (settled_as s t f) t
 settles_to r propagated s t f h lt found = go (has_settled s t) refl where
-  go : (b : Bool) → has_settled s t ≡ b → SettlesTo r propagated s (cond b s (with_found s t f)) t
+  go : (b : Bool) → has_settled s t ≡ b →
+      SettlesTo r propagated s (cond b s (with_type_found s t f)) t
   go true e = record { consistent = h; follows = follows_same s; counters = refl; settled = e }
   go false e =
       let is = found e in
@@ -240,13 +241,14 @@ none_propagated test (x ∷ xs) e h lt =
 
 -- ---- a counter none of whose parts is left
 
-pub record IsWhole (r : List TypeInfo) (propagated : List ℕ) (s : Progress) (k : ℕ) : Type 0 where
+pub record AreAllPartsFound (r : List TypeInfo) (propagated : List ℕ) (s : Progress)
+    (k : ℕ) : Type 0 where
   pub values : list_all (λ p. has_value (class_of r p)) (rule_at r k).parts ≡ true
   pub sized : (counter_at s k).sized ≡ list_any (λ p. is_sized (class_of r p)) (rule_at r k).parts
 
 -- a counter that has nothing left has only parts with values, and knows whether one takes bytes
 pub whole : (r : List TypeInfo) (propagated : List ℕ) (s : Progress) (k : ℕ) →
-    IsConsistent r propagated s → (counter_at s k).left ≡ 0 → IsWhole r propagated s k
+    IsConsistent r propagated s → (counter_at s k).left ≡ 0 → AreAllPartsFound r propagated s k
 whole r propagated s k h none =
     record { values = values; sized = h.sized k ∙ sized (list_any for_k propagated) refl } where
       for_k : ℕ → Bool

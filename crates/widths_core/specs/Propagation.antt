@@ -32,21 +32,21 @@ pub record Lists (a b : Graph) : Type 0 where
   pub read : b.looks.read.entries ≡ a.looks.read.entries
 
 -- the counters are consistent with what was propagated, and each type whose parts have settled has
-pub record IsSteady (r : List TypeInfo) (d : Graph) (s : Progress) : Type 0 where
+pub record IsUpToDate (r : List TypeInfo) (d : Graph) (s : Progress) : Type 0 where
   pub ready : IsReady r d
   pub consistent : IsConsistent r d.looks.listed.entries s
   pub closed : IsClosed r s
 
 -- type t has settled, and no reference to it was propagated
 pub record IsPending (r : List TypeInfo) (d : Graph) (s : Progress) (t : ℕ) : Type 0 where
-  pub steady : IsSteady r d s
+  pub steady : IsUpToDate r d s
   pub settled : has_settled s t ≡ true
   pub fresh : (e : ℕ) → e < length (all_parts (rules r)) → to_at r e ≡ t →
       times e d.looks.listed.entries ≡ 0
 
 -- the references to type t were propagated, once each
 pub record Propagates (r : List TypeInfo) (a b : Graph) (s n : Progress) (t : ℕ) : Type 0 where
-  pub steady : IsSteady r b n
+  pub steady : IsUpToDate r b n
   pub follows : Follows s n
   pub lists : Lists a b
   pub propagated : (e : ℕ) → e < length (all_parts (rules r)) →
@@ -55,7 +55,7 @@ pub record Propagates (r : List TypeInfo) (a b : Graph) (s n : Progress) (t : �
 
 -- the references to the first types that have settled were propagated, once each
 pub record IsPropagatedTo (r : List TypeInfo) (d : Graph) (s : Progress) (done : ℕ) : Type 0 where
-  pub steady : IsSteady r d s
+  pub steady : IsUpToDate r d s
   pub within : done ≤ length s.settled
   pub propagated : (e : ℕ) → e < length (all_parts (rules r)) →
       times e d.looks.listed.entries ≡ times (to_at r e) (take done s.settled)

@@ -45,9 +45,9 @@ use Rattle.decode_core.proofs.lists.Deciding.{chain, finish, bind_chain}
 use Rattle.decode_core.proofs.lists.Shortest.{and_finish, elements_chain, body_at}
 
 -- the fault stands within b, and k is what it takes
-abbrev Told : {E X : Type 0} → (E → Refusal) → List ℕ → ℕ → Read E X → Type 0
-Told m b k (Ok x) = Unit {0}
-Told m b k (Err e) = (length e.1 ≤ length b) × IsTakenBefore (m e.0) e.1 (place b e.1) k
+abbrev ToldWithin : {E X : Type 0} → (E → Refusal) → List ℕ → ℕ → Read E X → Type 0
+ToldWithin m b k (Ok x) = Unit {0}
+ToldWithin m b k (Err e) = (length e.1 ≤ length b) × IsTakenBefore (m e.0) e.1 (place b e.1) k
 
 -- where bytes stand in front of a fault, its place and what is taken move by as many
 moved : (reason : Refusal) (left : List ℕ) (c at k : ℕ) → IsTakenBefore reason left at k →
@@ -67,7 +67,7 @@ moved bad_compact left c at k h = omega (arith, h)
 
 -- taken_after c
 told_behind : {E X : Type 0} (m : E → Refusal) (b c rest : List ℕ) (k : ℕ) (read : Read E X) →
-    b ≡ c ++ rest → Told m rest k read → Told m b (length c + k) read
+    b ≡ c ++ rest → ToldWithin m rest k read → ToldWithin m b (length c + k) read
 told_behind m b c rest k (Ok x) eq h = tt
 told_behind m b c rest k (Err e) eq h =
     let len : length b ≡ length c + length rest = ap length eq ∙ length-append c rest in
@@ -76,16 +76,16 @@ told_behind m b c rest k (Err e) eq h =
 
 -- a fault tells what is taken also where the reader's result is only made into something else
 finish_told : {E F X Y : Type 0} (m : E → F) (n : F → Refusal) (make : X → Y) (b : List ℕ) (k : ℕ)
-    (read : Read E X) → Told (λ e. n (m e)) b k read → Told n b k (finish m make read)
+    (read : Read E X) → ToldWithin (λ e. n (m e)) b k read → ToldWithin n b k (finish m make read)
 finish_told m n make b k (Ok x) h = tt
 finish_told m n make b k (Err e) h = h
 
 -- of two parts, one behind the other, the fault of whichever is refused tells what is taken
 chain_told : {E F X Y : Type 0} (m : E → F) (n : F → Refusal) (P : X → List ℕ → Type 0)
     (h : X → List ℕ → Read F Y) (next : X × List ℕ → ℕ) (b : List ℕ) (own : ℕ) (read : Read E X) →
-    Takes P b read → Told (λ e. n (m e)) b own read →
-    ((x : X × List ℕ) → Told n x.1 (next x) (h x.0 x.1)) →
-    Told n b (taken_after b read own next) (chain m h read)
+    Takes P b read → ToldWithin (λ e. n (m e)) b own read →
+    ((x : X × List ℕ) → ToldWithin n x.1 (next x) (h x.0 x.1)) →
+    ToldWithin n b (taken_after b read own next) (chain m h read)
 chain_told m n P h next b own (Err e) takes first rest = first
 chain_told m n P h next b own (Ok x) takes first rest =
     let len : length takes.0 ≡ place b x.1 =
@@ -99,19 +99,19 @@ whole : (b : List ℕ) → place b b ≡ 0
 whole b = omega arith
 
 -- a compact integer's fault tells what is taken, whichever target bounds it
-integer_told : (m : Target) (b : List ℕ) → Told basic b (compact_taken m b) (integer_at m b)
+integer_told : (m : Target) (b : List ℕ) → ToldWithin basic b (compact_taken m b) (integer_at m b)
 integer_told m [] = (omega arith, refl)
 integer_told m (first ∷ tail) =
     go (is_too_long m first) (nat_lt (length (first ∷ tail)) (form_len first)) where
       judged : (a b : Bool) (x : List ℕ × List ℕ) →
-          Told basic (first ∷ tail) (form_len first)
+          ToldWithin basic (first ∷ tail) (form_len first)
           (cond a (Err (reasons.CompactNotShortest, first ∷ tail))
           (cond b (Ok (form_number x.0, x.1)) (Err (reasons.CompactTooLarge, first ∷ tail))))
       judged true b x = (omega arith, omega arith)
       judged false true x = tt
       judged false false x = (omega arith, inr (omega arith))
 
-      go : (t short : Bool) → Told basic (first ∷ tail) (cond t 1 (form_len first))
+      go : (t short : Bool) → ToldWithin basic (first ∷ tail) (cond t 1 (form_len first))
           (cond t (Err (reasons.CompactTooLarge, first ∷ tail))
           (form_from m (first ∷ tail)
           (cond short (Err (reasons.Truncated, []))
@@ -124,7 +124,7 @@ integer_told m (first ∷ tail) =
           (form, drop (form_len first) (first ∷ tail))
 
 -- the same where the target may be nothing, and there is no byte
-compact_told : (m : Target) (b : List ℕ) → Told basic b (compact_taken m b) (compact_at m b)
+compact_told : (m : Target) (b : List ℕ) → ToldWithin basic b (compact_taken m b) (compact_at m b)
 unfolding compact_at
 compact_told target.Unit b = tt
 compact_told target.U8 b = integer_told target.U8 b
@@ -135,17 +135,17 @@ compact_told target.U128 b = integer_told target.U128 b
 
 -- the fault of a run's length tells what is taken
 run_length_told : (k : RunKind) (b : List ℕ) →
-    Told basic b (run_length_taken k b) (run_length_at k b)
+    ToldWithin basic b (run_length_taken k b) (run_length_at k b)
 run_length_told kind.Text b = compact_told target.U32 b
 run_length_told kind.Bytes b = compact_told target.U32 b
 run_length_told (kind.ByteArray n) b = tt
 
 -- a run whose bytes are all there and are refused is taken to its end
 judged_told : (k : RunKind) (n : ℕ) (b : List ℕ) → n ≤ length b →
-    Told basic b n (run_judged k b (take n b, drop n b))
+    ToldWithin basic b n (run_judged k b (take n b, drop n b))
 judged_told kind.Text n b le = valid (is_utf8 (take n b)) where
   valid : (t : Bool) →
-      Told basic b n (cond t (Ok (take n b, drop n b))
+      ToldWithin basic b n (cond t (Ok (take n b, drop n b))
       (Err (reasons.BadUtf8, drop (utf8_valid_len (take n b)) b)))
   valid true = tt
   valid false =
@@ -157,45 +157,45 @@ judged_told kind.Bytes n b le = tt
 judged_told (kind.ByteArray m) n b le = tt
 
 -- the same for the bytes of a run, whether or not they are all there
-body_told : (k : RunKind) (n : ℕ) (b : List ℕ) → Told basic b n (body_at k n b)
+body_told : (k : RunKind) (n : ℕ) (b : List ℕ) → ToldWithin basic b n (body_at k n b)
 body_told k n b = go (nat_lt (length b) n) refl where
   go : (short : Bool) → nat_lt (length b) n ≡ short →
-      Told basic b n (cond short (Err (reasons.Truncated, [])) (Ok (take n b, drop n b)) >>=
+      ToldWithin basic b n (cond short (Err (reasons.Truncated, [])) (Ok (take n b, drop n b)) >>=
       λ s. run_judged k b s)
   go true e = (omega arith, refl)
   go false e = judged_told k n b (ltb-false _ _ e)
 
 -- a run's fault, in its length or its bytes, tells what is taken
-run_told : (k : RunKind) (b : List ℕ) → Told basic b (run_taken k b) (run_at k b)
+run_told : (k : RunKind) (b : List ℕ) → ToldWithin basic b (run_taken k b) (run_at k b)
 unfolding run_at
 run_told k b = rw (bind_chain (body_at k) (run_length_at k b))
     (chain_told (λ e. e) basic _ (body_at k) (λ n. n.0) b (run_length_taken k b)
     (run_length_at k b) (length_takes k b) (run_length_told k b) (λ n. body_told k n.0 n.1))
 
 -- a number of bytes is refused only where they are missing, and then nothing is left behind
-bytes_told : (k : ℕ) (b : List ℕ) → Told basic b 0 (bytes_at k b)
+bytes_told : (k : ℕ) (b : List ℕ) → ToldWithin basic b 0 (bytes_at k b)
 bytes_told k b = go (nat_lt (length b) k) where
-  go : (short : Bool) → Told basic b 0
+  go : (short : Bool) → ToldWithin basic b 0
       (cond short (Err (reasons.Truncated, [])) (Ok (take k b, drop k b)))
   go true = (omega arith, refl)
   go false = tt
 
 -- a boolean's fault tells what is taken, which is its one byte
-bool_told : (b : List ℕ) → Told (λ e. e) b 1 (bool_value_at b)
+bool_told : (b : List ℕ) → ToldWithin (λ e. e) b 1 (bool_value_at b)
 bool_told [] = (omega arith, refl)
 bool_told (zero ∷ b) = tt
 bool_told (suc zero ∷ b) = tt
 bool_told (suc (suc x) ∷ b) = (omega arith, omega arith)
 
 -- a character's fault tells what is taken, which is its four bytes
-char_told : (b : List ℕ) → Told (λ e. e) b 4 (char_from b (bytes_at 4 b))
+char_told : (b : List ℕ) → ToldWithin (λ e. e) b 4 (char_from b (bytes_at 4 b))
 char_told b = go (nat_lt (length b) 4) where
-  valid : (t : Bool) → Told (λ e. e) b 4
+  valid : (t : Bool) → ToldWithin (λ e. e) b 4
       (cond t (Ok (leaf (char (number (take 4 b))), drop 4 b)) (Err (basic reasons.BadChar, b)))
   valid true = tt
   valid false = (omega arith, omega arith)
 
-  go : (short : Bool) → Told (λ e. e) b 4
+  go : (short : Bool) → ToldWithin (λ e. e) b 4
       (char_from b (cond short (Err (reasons.Truncated, [])) (Ok (take 4 b, drop 4 b))))
   go true = (omega arith, refl)
   go false = valid (is_scalar (number (take 4 b)))
@@ -204,11 +204,11 @@ char_told b = go (nat_lt (length b) 4) where
 
 abbrev ChildTold : List TypeInfo → ℕ → Type 0
 ChildTold r room = (t : ℕ) (b : List ℕ) →
-    Told (λ e. e) b (value_taken r room t b) (value_at r room t b)
+    ToldWithin (λ e. e) b (value_taken r room t b) (value_at r room t b)
 
 -- the fault of parts of these types tells what is taken, if that of each part does
 all_told : (r : List TypeInfo) (room : ℕ) → ChildTold r room → (ts : List ℕ) (b : List ℕ) →
-    Told (λ e. e) b (all_taken (value_at r room) (value_taken r room) ts b)
+    ToldWithin (λ e. e) b (all_taken (value_at r room) (value_taken r room) ts b)
     (all_at (value_at r room) ts b)
 all_told r room h [] b = tt
 all_told r room h (t ∷ ts) b = let child = value_at r room in
@@ -224,7 +224,7 @@ all_told r room h (t ∷ ts) b = let child = value_at r room in
 
 -- the same for parts of one type
 times_told : (r : List TypeInfo) (room : ℕ) → ChildTold r room → (n t : ℕ) (b : List ℕ) →
-    Told (λ e. e) b (times_taken (value_at r room) (value_taken r room) n t b)
+    ToldWithin (λ e. e) b (times_taken (value_at r room) (value_taken r room) n t b)
     (times_at (value_at r room) n t b)
 times_told r room h zero t b = tt
 times_told r room h (suc n) t b = let child = value_at r room in
@@ -241,20 +241,20 @@ times_told r room h (suc n) t b = let child = value_at r room in
 
 -- putting a node over parts leaves what their fault takes
 parts_told : (kind : Branch) (b : List ℕ) (k : ℕ) (read : Read Refusal Trees) →
-    Told (λ e. e) b k read → Told (λ e. e) b k (with_children kind read)
+    ToldWithin (λ e. e) b k read → ToldWithin (λ e. e) b k (with_children kind read)
 parts_told kind b k (Ok x) h = tt
 parts_told kind b k (Err e) h = h
 
 -- making a leaf of what was read leaves what its fault takes
 leaf_told : {X : Type 0} (make : X → Leaf) (b : List ℕ) (k : ℕ) (read : Read Reason X) →
-    Told basic b k read → Told (λ e. e) b k (as_leaf make read)
+    ToldWithin basic b k read → ToldWithin (λ e. e) b k (as_leaf make read)
 leaf_told make b k (Ok x) h = tt
 leaf_told make b k (Err e) h = h
 
 -- the fault of an arm takes its index and what its fields take; an unknown index is taken alone
 arm_told : (r : List TypeInfo) (room : ℕ) → ChildTold r room →
     (i : ℕ) (b : List ℕ) (found : Option (ℕ × Arm)) →
-    Told (λ e. e) (i ∷ b) (suc (arm_taken (value_at r room) (value_taken r room) found b))
+    ToldWithin (λ e. e) (i ∷ b) (suc (arm_taken (value_at r room) (value_taken r room) found b))
     (fields_behind_index (value_at r room) (i ∷ b) found b)
 arm_told r room h i b None = (omega arith, omega arith)
 arm_told r room h i b (Some a) =
@@ -266,13 +266,13 @@ arm_told r room h i b (Some a) =
 
 -- the fault of a variant tells what is taken, also where there is no index
 arms_told : (r : List TypeInfo) (room : ℕ) → ChildTold r room → (arms : List Arm) (b : List ℕ) →
-    Told (λ e. e) b (arms_taken (value_at r room) (value_taken r room) arms b)
+    ToldWithin (λ e. e) b (arms_taken (value_at r room) (value_taken r room) arms b)
     (arms_at (value_at r room) arms b)
 arms_told r room h arms [] = (omega arith, refl)
 arms_told r room h arms (i ∷ b) = arm_told r room h i b (arm_of arms i)
 
 -- the fault of a value without parts is told by the bytes that are taken
-plain_told : (p : Plain) (b : List ℕ) → Told (λ e. e) b (leaf_taken p b) (leaf_at p b)
+plain_told : (p : Plain) (b : List ℕ) → ToldWithin (λ e. e) b (leaf_taken p b) (leaf_at p b)
 plain_told layout.empty b = tt
 plain_told layout.bool b = bool_told b
 plain_told layout.char b = char_told b
@@ -288,7 +288,7 @@ plain_told (layout.compact m) b = leaf_told compact_value b _ (compact_at m b) (
 
 -- by every layout a fault tells what is taken, if that of each part does
 layout_told : (r : List TypeInfo) (room : ℕ) → ChildTold r room → (f : Layout) (b : List ℕ) →
-    Told (λ e. e) b (layout_taken (value_at r room) (value_taken r room) f b)
+    ToldWithin (λ e. e) b (layout_taken (value_at r room) (value_taken r room) f b)
     (layout_at (value_at r room) f b)
 unfolding layout_at layout_taken
 layout_told r room h layout.unknown b = (omega arith, omega arith)
@@ -309,12 +309,13 @@ layout_told r room h (layout.sequence t) b = let child = value_at r room in
 
 -- a value's fault tells what is taken, at every depth
 value_told : (r : List TypeInfo) (room t : ℕ) (b : List ℕ) →
-    Told (λ e. e) b (value_taken r room t b) (value_at r room t b)
+    ToldWithin (λ e. e) b (value_taken r room t b) (value_at r room t b)
 unfolding value_at value_taken
 value_told r zero t b = (omega arith, omega arith)
 value_told r (suc room) t b = go (λ u c. value_told r room u c) (is_finite r t) where
   go : ChildTold r room → (f : Bool) →
-      Told (λ e. e) b (cond f (layout_taken (value_at r room) (value_taken r room) (layout r t) b)
+      ToldWithin (λ e. e) b
+      (cond f (layout_taken (value_at r room) (value_taken r room) (layout r t) b)
       0) (cond f (layout_at (value_at r room) (layout r t) b) (Err (no_finite_value, b)))
   go h true = layout_told r room h (layout r t) b
   go h false = (omega arith, omega arith)

@@ -18,12 +18,12 @@ pub record Decides {E X : Type 0} (cut : E) (g : List ℕ → Read E X) (b : Lis
   pub early : (j : ℕ) → j < k → (left : List ℕ) × (g (take j b) ≡ Err (cut, left))
 
 -- if b is refused for good, k of its bytes decide it
-abbrev pub Decided : {E X : Type 0} → E → (List ℕ → Read E X) → List ℕ → ℕ → Read E X → Type 0
-Decided cut g b k (Ok x) = Unit {0}
-Decided cut g b k (Err e) = e.0 ≢ cut → Decides cut g b k e.0
+abbrev pub DecidedBy : {E X : Type 0} → E → (List ℕ → Read E X) → List ℕ → ℕ → Read E X → Type 0
+DecidedBy cut g b k (Ok x) = Unit {0}
+DecidedBy cut g b k (Err e) = e.0 ≢ cut → Decides cut g b k e.0
 
 -- what it reads it reads whatever follows, and what it refuses for good it refuses whatever follows
-pub record IsSteady {E X : Type 0} (cut : E) (g : List ℕ → Read E X) : Type 0 where
+pub record IsStable {E X : Type 0} (cut : E) (g : List ℕ → Read E X) : Type 0 where
   pub tells : (e : E) → (e ≡ cut) ⊎ (e ≢ cut)
   pub extends : (b more : List ℕ) → Extends cut more (g b) (g (b ++ more))
   pub exact : (b : List ℕ) → Takes (λ x c. (more : List ℕ) → g (c ++ more) ≡ Ok (x, more)) b (g b)
@@ -32,7 +32,7 @@ abbrev failed : {E X : Type 0} → E × List ℕ → Read E X
 failed e = Err e
 
 -- a proper front of what is read is too short
-early_cut : {E X : Type 0} (cut : E) (g : List ℕ → Read E X) → IsSteady cut g →
+early_cut : {E X : Type 0} (cut : E) (g : List ℕ → Read E X) → IsStable cut g →
     (d e : List ℕ) (x : X) → ((more : List ℕ) → g ((d ++ e) ++ more) ≡ Ok (x, more)) →
     1 ≤ length e → (left : List ℕ) × (g d ≡ Err (cut, left))
 early_cut {E = E} {X = X} cut g s d e x full some = go (g d) refl (s.extends d e) where
@@ -70,10 +70,11 @@ bind_chain h (Err e) = refl
 -- a front decides a refusal also where the result is only made into something else
 pub finish_decided : {E F X Y : Type 0} (cut : E) (m : E → F) (make : X → Y) (G : List ℕ → Read F Y)
     (g : List ℕ → Read E X) → ((b : List ℕ) → G b ≡ finish m make (g b)) →
-    (b : List ℕ) (k : ℕ) → Decided cut g b k (g b) → Decided (m cut) G b k (G b)
+    (b : List ℕ) (k : ℕ) → DecidedBy cut g b k (g b) → DecidedBy (m cut) G b k (G b)
 finish_decided {E = E} {F = F} {X = X} {Y = Y} cut m make G g is b k h =
     rw (is b) (go (g b) h) where
-      go : (read : Read E X) → Decided cut g b k read → Decided (m cut) G b k (finish m make read)
+      go : (read : Read E X) → DecidedBy cut g b k read →
+          DecidedBy (m cut) G b k (finish m make read)
       go (Ok x) h = tt
       go (Err e) h = λ ne. let d = h (λ eq. ne (ap m eq)) in
           record {
@@ -85,16 +86,16 @@ finish_decided {E = E} {F = F} {X = X} {Y = Y} cut m make G g is b k h =
 -- of two parts, the first of them steady, a front decides the refusal of whichever is refused
 pub chain_decided : {E F X Y : Type 0} (cut : E) (m : E → F) (G : List ℕ → Read F Y)
     (g : List ℕ → Read E X) (h : X → List ℕ → Read F Y) (next : X × List ℕ → ℕ) →
-    ((b : List ℕ) → G b ≡ chain m h (g b)) → IsSteady cut g →
-    (b : List ℕ) (own : ℕ) → Decided cut g b own (g b) →
-    ((x : X × List ℕ) → Decided (m cut) (h x.0) x.1 (next x) (h x.0 x.1)) →
-    Decided (m cut) G b (taken_after b (g b) own next) (G b)
+    ((b : List ℕ) → G b ≡ chain m h (g b)) → IsStable cut g →
+    (b : List ℕ) (own : ℕ) → DecidedBy cut g b own (g b) →
+    ((x : X × List ℕ) → DecidedBy (m cut) (h x.0) x.1 (next x) (h x.0 x.1)) →
+    DecidedBy (m cut) G b (taken_after b (g b) own next) (G b)
 chain_decided {E = E} {F = F} {X = X} {Y = Y} cut m G g h next is steady b own first rest =
     rw (is b) (go (g b) first (steady.exact b)) where
       then : (x : X × List ℕ) (c : List ℕ) → b ≡ c ++ x.1 →
           ((more : List ℕ) → g (c ++ more) ≡ Ok (x.0, more)) → (read : Read F Y) →
-          Decided (m cut) (h x.0) x.1 (next x) read →
-          Decided (m cut) G b (place b x.1 + next x) read
+          DecidedBy (m cut) (h x.0) x.1 (next x) read →
+          DecidedBy (m cut) G b (place b x.1 + next x) read
       then x c eq full (Ok y) d = tt
       then x c eq full (Err e) d = λ ne. made (d ne) where
         len : place b x.1 ≡ length c
@@ -142,9 +143,9 @@ chain_decided {E = E} {F = F} {X = X} {Y = Y} cut m G g h next is steady b own f
           early = early k;
         })
 
-      go : (read : Read E X) → Decided cut g b own read →
+      go : (read : Read E X) → DecidedBy cut g b own read →
           Takes (λ x c. (more : List ℕ) → g (c ++ more) ≡ Ok (x, more)) b read →
-          Decided (m cut) G b (taken_after b read own next) (chain m h read)
+          DecidedBy (m cut) G b (taken_after b read own next) (chain m h read)
       go (Ok x) d k = then x k.0 k.1 k.2 (h x.0 x.1) (rest x)
       go (Err e) d k = λ ne. let f = d (λ eq. ne (ap m eq)) in
           record {
@@ -156,14 +157,14 @@ chain_decided {E = E} {F = F} {X = X} {Y = Y} cut m G g h next is steady b own f
 -- taken_after one byte
 pub cons_decided : {E Y : Type 0} (cut : E) (G g : List ℕ → Read E Y) (i : ℕ) →
     ((b : List ℕ) → G (i ∷ b) ≡ g b) → (left : List ℕ) → G [] ≡ Err (cut, left) →
-    (b : List ℕ) (k : ℕ) → Decided cut g b k (g b) → Decided cut G (i ∷ b) (suc k) (G (i ∷ b))
+    (b : List ℕ) (k : ℕ) → DecidedBy cut g b k (g b) → DecidedBy cut G (i ∷ b) (suc k) (G (i ∷ b))
 cons_decided {E = E} {Y = Y} cut G g i is left nil b k h = rw (is b) (go (g b) h) where
   early : (reason : E) → Decides cut g b k reason → (j : ℕ) → j < suc k → (left : List ℕ)
       × (G (take j (i ∷ b)) ≡ Err (cut, left))
   early reason d zero lt = (left, nil)
   early reason d (suc j) lt = let f = d.early j (omega arith) in (f.0, is (take j b) ∙ f.1)
 
-  go : (read : Read E Y) → Decided cut g b k read → Decided cut G (i ∷ b) (suc k) read
+  go : (read : Read E Y) → DecidedBy cut g b k read → DecidedBy cut G (i ∷ b) (suc k) read
   go (Ok x) h = tt
   go (Err e) h = λ ne. let d = h ne in
       record {

@@ -32,12 +32,12 @@ use Rattle.decode_core.proofs.lists.Tells.{shown-append, told_agrees}
 use Rattle.decode_core.proofs.lists.Fed.{value_of}
 
 -- where the reading ends in a fault, the fact holds of what was added and of the fault
-abbrev pub Ends : (List Entry → Fault → Type 0) → List Entry → Ending → Type 0
-Ends P xs (Ok rest) = Unit {0}
-Ends P xs (Err e) = P xs e
+abbrev pub HoldsAtFault : (List Entry → Fault → Type 0) → List Entry → Ending → Type 0
+HoldsAtFault P xs (Ok rest) = Unit {0}
+HoldsAtFault P xs (Err e) = P xs e
 
 abbrev pub EndsTold : (List Entry → Fault → Type 0) → Told → Type 0
-EndsTold P (told xs end) = Ends P xs end
+EndsTold P (told xs end) = HoldsAtFault P xs end
 
 -- a fact of what was added before a fault carries over where nodes stand in front
 after_ends : (P Q : List Entry → Fault → Type 0) (before : List Entry) (y : Told) → EndsTold P y →
@@ -55,12 +55,13 @@ pub record Read_value (r : List TypeInfo) (room t : ℕ) (b : List ℕ) (xs : Li
   pub low : levels v ≤ room
   pub shows : shown xs ≡ preorder v
 
-abbrev IsValue : List TypeInfo → ℕ → ℕ → List ℕ → Told → Type 0
-IsValue r room t b y = (xs : List Entry) (rest : List ℕ) → y ≡ told xs (Ok rest) →
+abbrev ReadsOneValue : List TypeInfo → ℕ → ℕ → List ℕ → Told → Type 0
+ReadsOneValue r room t b y = (xs : List Entry) (rest : List ℕ) → y ≡ told xs (Ok rest) →
     Read_value r room t b xs rest
 
 -- where the reading ends well, its nodes are those of a value on the front of the bytes
-told_value : (r : List TypeInfo) (room t : ℕ) (b : List ℕ) → IsValue r room t b (told_at r room t b)
+told_value : (r : List TypeInfo) (room t : ℕ) (b : List ℕ) →
+    ReadsOneValue r room t b (told_at r room t b)
 told_value r room t b xs rest is =
     let v = value_of (value_at r room t b) (told_at r room t b) xs rest (told_agrees r room t b)
     is in
@@ -132,7 +133,7 @@ all_begin r room h (t ∷ ts) b =
         shows = shows_more xs ys s.ys k.v s.vs k.shows s.shows;
       }
 
-      first : (y : Told) → EndsTold (Begins r room t b) y → IsValue r room t b y →
+      first : (y : Told) → EndsTold (Begins r room t b) y → ReadsOneValue r room t b y →
           ((c : List ℕ) → EndsTold (AllBegin r room ts c) (all_told (told_at r room) ts c)) →
           EndsTold (AllBegin r room (t ∷ ts) b) (then y (all_told (told_at r room) ts))
       first (told xs (Err e)) w k m =
@@ -179,7 +180,7 @@ times_begin r room h (suc n) t b =
       shows = shows_more xs ys s.ys k.v s.vs k.shows s.shows;
     }
 
-    first : (y : Told) → EndsTold (Begins r room t b) y → IsValue r room t b y →
+    first : (y : Told) → EndsTold (Begins r room t b) y → ReadsOneValue r room t b y →
         ((c : List ℕ) → EndsTold (TimesBegin r room n t c) (times_told (told_at r room) n t c)) →
         EndsTold (TimesBegin r room (suc n) t b) (then y (times_told (told_at r room) n t))
     first (told xs (Err e)) w k m =

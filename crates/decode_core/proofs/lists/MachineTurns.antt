@@ -10,7 +10,7 @@ use Rattle.decode_core.specs.Told.{part_told, told_at, rest_told}
 use Rattle.decode_core.specs.Machine.{State, remain, to_go}
 use Rattle.decode_core.specs.Turned.{TurnLeads}
 use Rattle.decode_core.proofs.lists.Tells.{after-after, after-nil, then-after, then-then}
-use Rattle.decode_core.proofs.lists.Owns.{Spells}
+use Rattle.decode_core.proofs.lists.Owns.{SpellsNode}
 
 -- parts of these types are read as the first of them and then the others
 pub each_first : (r : List TypeInfo) (room t : ℕ) (ts : List ℕ) (ps : List Part) (b : List ℕ) →
@@ -38,13 +38,14 @@ closed r nodes room p ps e =
     record { tells = λ more. rw (e more, after-nil) refl; level = omega arith; paid = omega arith }
 
 -- what is first of what is pending, and what is pending after it
-abbrev pub First : List TypeInfo → ℕ → ℕ → List Part → List Part → Type 0
-First r room t ps qs = (b : List ℕ) →
+abbrev pub IsFirstOf : List TypeInfo → ℕ → ℕ → List Part → List Part → Type 0
+IsFirstOf r room t ps qs = (b : List ℕ) →
     rest_told r room ps b ≡ then (told_at r room t b) (rest_told r room qs)
 
 -- a node without children is added in a turn that takes its own bytes
 pub own_leaf : (r : List TypeInfo) (nodes : List Entry) (room t : ℕ) (ps qs : List Part) (h : Head)
-    (c : List ℕ) → First r (suc room) t ps qs → length qs ≡ length ps → Spells r t (h, None) c →
+    (c : List ℕ) → IsFirstOf r (suc room) t ps qs → length qs ≡ length ps →
+    SpellsNode r t (h, None) c →
     TurnLeads r (record { nodes = nodes; room = suc room; pending = ps })
     (record { nodes = nodes ++ entry t h ∷ []; room = suc room; pending = qs }) c
 unfolding told_at
@@ -57,8 +58,8 @@ own_leaf r nodes room t ps qs h c f len is =
 
 -- a node with children is added and its parts are opened in a turn that takes its own bytes
 pub own_opens : (r : List TypeInfo) (nodes : List Entry) (room t : ℕ) (ps qs : List Part) (h : Head)
-    (p : Part) (c : List ℕ) → First r (suc room) t ps qs → length qs ≡ length ps →
-    Spells r t (h, Some p) c →
+    (p : Part) (c : List ℕ) → IsFirstOf r (suc room) t ps qs → length qs ≡ length ps →
+    SpellsNode r t (h, Some p) c →
     TurnLeads r (record { nodes = nodes; room = suc room; pending = ps })
     (record { nodes = nodes ++ entry t h ∷ []; room = room; pending = p ∷ qs }) c
 unfolding told_at rest_told

@@ -215,8 +215,8 @@ elements_waits r room t u h fin f b (Ok n) is k =
     (λ s. rw k.1 (in_list_of r room t n.0 u k.0 n.1 fin (inr (f, k.2)) s))
 
 -- a node with no children
-abbrev shallow : ℕ → List ℕ → Read Refusal Tree
-shallow t b = Err (too_deep, b)
+abbrev too_deep_here : ℕ → List ℕ → Read Refusal Tree
+too_deep_here t b = Err (too_deep, b)
 
 -- where a leaf is cut, nothing is built, and what there is of its bytes is held
 leaf_waits : (r : List TypeInfo) (room t : ℕ) (b : List ℕ) (read : Read Refusal Tree) →

@@ -67,5 +67,5 @@ own_extends layout.bad_compact b more = shallow_extends layout.bad_compact b mor
 own_extends (layout.plain p) b more = shallow_extends (layout.plain p) b more
 
 -- these bytes are a node's own, whatever follows them
-abbrev pub Spells : List TypeInfo → ℕ → Head × Option Part → List ℕ → Type 0
-Spells r t x c = (more : List ℕ) → own_at (met_layout r t) (c ++ more) ≡ Ok (x, more)
+abbrev pub SpellsNode : List TypeInfo → ℕ → Head × Option Part → List ℕ → Type 0
+SpellsNode r t x c = (more : List ℕ) → own_at (met_layout r t) (c ++ more) ≡ Ok (x, more)

@@ -43,7 +43,7 @@ use Rattle.grammar_core.proofs.Stable.{value_extends}
 use Rattle.decode_core.specs.Taken.{leaf_taken, compact_taken, run_length_taken, run_taken}
 use Rattle.decode_core.specs.Taken.{all_taken, times_taken, arm_taken, arms_taken, layout_taken}
 use Rattle.decode_core.specs.Taken.{value_taken}
-use Rattle.decode_core.proofs.lists.Deciding.{Decided, IsSteady, chain, finish, bind_chain}
+use Rattle.decode_core.proofs.lists.Deciding.{DecidedBy, IsStable, chain, finish, bind_chain}
 use Rattle.decode_core.proofs.lists.Deciding.{finish_decided, chain_decided, cons_decided}
 
 -- ---- compacts
@@ -64,7 +64,7 @@ mapped P Q b (Ok x) h f = (h.0, h.1, f x.0 h.0 h.2)
 mapped P Q b (Err e) h f = tt
 
 -- a compact is read, or refused for good, whatever follows it
-compact_steady : (m : Target) → IsSteady reasons.Truncated (compact_at m)
+compact_steady : (m : Target) → IsStable reasons.Truncated (compact_at m)
 compact_steady m = record {
   tells = reason_tells;
   extends = compact_extends m;
@@ -115,7 +115,7 @@ take_cons (suc k) first tail h = ap (λ (i : ℕ). first ∷ take i tail) (omega
 -- a compact whose bytes are all there is decided by them and by no fewer
 form_decided : (m : Target) (first : ℕ) (tail : List ℕ) → is_too_long m first ≡ false →
     form_len first ≤ length (first ∷ tail) →
-    Decided reasons.Truncated (integer_at m) (first ∷ tail) (form_len first)
+    DecidedBy reasons.Truncated (integer_at m) (first ∷ tail) (form_len first)
     (checked_form m (first ∷ tail) (form_number (take (form_len first) (first ∷ tail)))
     (take (form_len first) (first ∷ tail)) (drop (form_len first) (first ∷ tail)))
 form_decided m first tail e le =
@@ -145,7 +145,7 @@ form_decided m first tail e le =
 
       go : (a b : Bool) → not (bytes_eq (compact (form_number form)) form) ≡ a →
           nat_lt (form_number form) (256 ^ target_bytes m) ≡ b →
-          Decided reasons.Truncated (integer_at m) (first ∷ tail) (form_len first)
+          DecidedBy reasons.Truncated (integer_at m) (first ∷ tail) (form_len first)
           (cond a (Err (reasons.CompactNotShortest, first ∷ tail))
           (cond b (Ok (form_number form, drop (form_len first) (first ∷ tail)))
           (Err (reasons.CompactTooLarge, first ∷ tail))))
@@ -160,7 +160,7 @@ form_decided m first tail e le =
 
 -- a compact integer that is refused for good is decided by what is said to be taken
 integer_decided : (m : Target) (b : List ℕ) →
-    Decided reasons.Truncated (integer_at m) b (compact_taken m b) (integer_at m b)
+    DecidedBy reasons.Truncated (integer_at m) b (compact_taken m b) (integer_at m b)
 integer_decided m [] = λ ne. absurd (ne refl)
 integer_decided m (first ∷ tail) = go (is_too_long m first) refl where
   one : is_too_long m first ≡ true → (j : ℕ) → j < 1 → (left : List ℕ)
@@ -169,7 +169,7 @@ integer_decided m (first ∷ tail) = go (is_too_long m first) refl where
   one e (suc j) lt = absurd (omega arith)
 
   go : (t : Bool) → is_too_long m first ≡ t →
-      Decided reasons.Truncated (integer_at m) (first ∷ tail) (cond t 1 (form_len first))
+      DecidedBy reasons.Truncated (integer_at m) (first ∷ tail) (cond t 1 (form_len first))
       (cond t (Err (reasons.CompactTooLarge, first ∷ tail))
       (form_from m (first ∷ tail) (bytes_at (form_len first) (first ∷ tail))))
   go true e = λ ne. record { there = omega arith; front = (first ∷ [], rw e refl); early = one e }
@@ -181,7 +181,7 @@ integer_decided m (first ∷ tail) = go (is_too_long m first) refl where
 
 -- the same for a compact of any target
 compact_decided : (m : Target) (b : List ℕ) →
-    Decided reasons.Truncated (compact_at m) b (compact_taken m b) (compact_at m b)
+    DecidedBy reasons.Truncated (compact_at m) b (compact_taken m b) (compact_at m b)
 unfolding compact_at
 compact_decided target.Unit b = tt
 compact_decided target.U8 b = integer_decided target.U8 b
@@ -193,7 +193,7 @@ compact_decided target.U128 b = integer_decided target.U128 b
 -- ---- runs, bools, chars
 
 -- a run's length is read, or refused for good, whatever follows it
-run_length_steady : (k : RunKind) → IsSteady reasons.Truncated (run_length_at k)
+run_length_steady : (k : RunKind) → IsStable reasons.Truncated (run_length_at k)
 run_length_steady k = record {
   tells = reason_tells;
   extends = length_extends k;
@@ -203,7 +203,7 @@ run_length_steady k = record {
 
 -- a run's length that is refused for good is decided by what is said to be taken
 run_length_decided : (k : RunKind) (b : List ℕ) →
-    Decided reasons.Truncated (run_length_at k) b (run_length_taken k b) (run_length_at k b)
+    DecidedBy reasons.Truncated (run_length_at k) b (run_length_taken k b) (run_length_at k b)
 run_length_decided kind.Text b = compact_decided target.U32 b
 run_length_decided kind.Bytes b = compact_decided target.U32 b
 run_length_decided (kind.ByteArray n) b = tt
@@ -214,10 +214,10 @@ body_at k n b = bytes_at n b >>= λ s. run_judged k b s
 
 -- a run whose bytes are all there is refused at its end, by all of them
 judged_decided : (k : RunKind) (n : ℕ) (b : List ℕ) → n ≤ length b →
-    Decided reasons.Truncated (body_at k n) b n (run_judged k b (take n b, drop n b))
+    DecidedBy reasons.Truncated (body_at k n) b n (run_judged k b (take n b, drop n b))
 judged_decided kind.Text n b le = go (is_utf8 (take n b)) refl where
   go : (t : Bool) → is_utf8 (take n b) ≡ t →
-      Decided reasons.Truncated (body_at kind.Text n) b n
+      DecidedBy reasons.Truncated (body_at kind.Text n) b n
       (cond t (Ok (take n b, drop n b)) (Err (reasons.BadUtf8, drop (utf8_valid_len (take n b)) b)))
   go true e = tt
   go false e = λ ne. record {
@@ -234,7 +234,7 @@ judged_decided (kind.ByteArray m) n b le = tt
 
 -- the same whether or not the run's bytes are all there
 body_decided : (k : RunKind) (n : ℕ) (b : List ℕ) →
-    Decided reasons.Truncated (body_at k n) b n (body_at k n b)
+    DecidedBy reasons.Truncated (body_at k n) b n (body_at k n b)
 body_decided k n b = elim (cases_lt (length b) n) [
   | inl lt ↦ rw (short_bytes n b lt) (λ ne. absurd (ne refl))
   | inr le ↦ rw (le-ltb (length b) n le) (judged_decided k n b le)
@@ -242,7 +242,7 @@ body_decided k n b = elim (cases_lt (length b) n) [
 
 -- a run that is refused for good, in its length or its bytes, is decided by what is taken
 run_decided : (k : RunKind) (b : List ℕ) →
-    Decided reasons.Truncated (run_at k) b (run_taken k b) (run_at k b)
+    DecidedBy reasons.Truncated (run_at k) b (run_taken k b) (run_at k b)
 unfolding run_at
 run_decided k b = chain_decided reasons.Truncated (λ e. e) (run_at k) (run_length_at k) (body_at k)
     (λ n. n.0) (λ b. bind_chain (body_at k) (run_length_at k b)) (run_length_steady k) b
@@ -254,7 +254,7 @@ below_one b P h zero lt = h
 below_one b P h (suc j) lt = absurd (omega arith)
 
 -- a boolean that is refused is decided by its one byte
-bool_decided : (b : List ℕ) → Decided truncated bool_value_at b 1 (bool_value_at b)
+bool_decided : (b : List ℕ) → DecidedBy truncated bool_value_at b 1 (bool_value_at b)
 bool_decided [] = λ ne. absurd (ne refl)
 bool_decided (zero ∷ b) = tt
 bool_decided (suc zero ∷ b) = tt
@@ -268,17 +268,17 @@ bool_decided (suc (suc x) ∷ b) =
           ([], refl);
     }
 
-abbrev char_at : List ℕ → Read Refusal Tree
-char_at b = char_from b (bytes_at 4 b)
+abbrev char_value_at : List ℕ → Read Refusal Tree
+char_value_at b = char_from b (bytes_at 4 b)
 
 -- a character that is refused for good is decided by its four bytes
-char_decided : (b : List ℕ) → Decided truncated char_at b 4 (char_at b)
+char_decided : (b : List ℕ) → DecidedBy truncated char_value_at b 4 (char_value_at b)
 char_decided b = elim (cases_lt (length b) 4) [
   | inl lt ↦ rw (short_bytes 4 b lt) (λ ne. absurd (ne refl))
   | inr le ↦ rw (le-ltb (length b) 4 le) (go le (is_scalar (number (take 4 b))) refl)
 ] where
   go : 4 ≤ length b → (t : Bool) → is_scalar (number (take 4 b)) ≡ t →
-      Decided truncated char_at b 4
+      DecidedBy truncated char_value_at b 4
       (cond t (Ok (leaf (char (number (take 4 b))), drop 4 b)) (Err (basic reasons.BadChar, b)))
   go le true e = tt
   go le false e = λ ne. record {
@@ -308,7 +308,7 @@ refusal_tells bit_sequence = inr (λ e. absurd cc)
 refusal_tells bad_compact = inr (λ e. absurd cc)
 
 -- a value is read, or refused for good, whatever follows it
-value_steady : (r : List TypeInfo) (room t : ℕ) → IsSteady truncated (value_at r room t)
+value_steady : (r : List TypeInfo) (room t : ℕ) → IsStable truncated (value_at r room t)
 value_steady r room t = record {
   tells = refusal_tells;
   extends = value_extends r room t;
@@ -342,12 +342,12 @@ elements_chain child t (Err e) = refl
 
 -- refused as it is met
 met_decided : (g : List ℕ → Read Refusal Tree) (b : List ℕ) (reason : Refusal) (left : List ℕ) →
-    g [] ≡ Err (reason, []) → Decided truncated g b 0 (Err (reason, left))
+    g [] ≡ Err (reason, []) → DecidedBy truncated g b 0 (Err (reason, left))
 met_decided g b reason left h =
     λ ne. record { there = omega arith; front = ([], h); early = λ j lt. absurd (omega arith) }
 
 -- a number of bytes is never refused for good
-bytes_decided : (k : ℕ) (b : List ℕ) → Decided reasons.Truncated (bytes_at k) b 0 (bytes_at k b)
+bytes_decided : (k : ℕ) (b : List ℕ) → DecidedBy reasons.Truncated (bytes_at k) b 0 (bytes_at k b)
 bytes_decided k b = elim (cases_lt (length b) k) [
   | inl lt ↦ rw (short_bytes k b lt) (λ ne. absurd (ne refl))
   | inr le ↦ rw (le-ltb (length b) k le) tt
@@ -355,11 +355,11 @@ bytes_decided k b = elim (cases_lt (length b) k) [
 
 abbrev ChildDecided : List TypeInfo → ℕ → Type 0
 ChildDecided r room = (t : ℕ) (b : List ℕ) →
-    Decided truncated (value_at r room t) b (value_taken r room t b) (value_at r room t b)
+    DecidedBy truncated (value_at r room t) b (value_taken r room t b) (value_at r room t b)
 
 -- parts of these types are decided by what is taken of them, if each part is
 all_decided : (r : List TypeInfo) (room : ℕ) → ChildDecided r room → (ts : List ℕ) (b : List ℕ) →
-    Decided truncated (all_at (value_at r room) ts) b
+    DecidedBy truncated (all_at (value_at r room) ts) b
     (all_taken (value_at r room) (value_taken r room) ts b) (all_at (value_at r room) ts b)
 all_decided r room h [] b = tt
 all_decided r room h (t ∷ ts) b = let child = value_at r room in
@@ -374,7 +374,7 @@ all_decided r room h (t ∷ ts) b = let child = value_at r room in
 
 -- the same for parts of one type
 times_decided : (r : List TypeInfo) (room : ℕ) → ChildDecided r room → (n t : ℕ) (b : List ℕ) →
-    Decided truncated (times_at (value_at r room) n t) b
+    DecidedBy truncated (times_at (value_at r room) n t) b
     (times_taken (value_at r room) (value_taken r room) n t b) (times_at (value_at r room) n t b)
 times_decided r room h zero t b = tt
 times_decided r room h (suc n) t b = let child = value_at r room in
@@ -390,7 +390,7 @@ times_decided r room h (suc n) t b = let child = value_at r room in
 -- an arm is decided by its index and what its fields take; an unknown index by itself
 arm_decided : (r : List TypeInfo) (room : ℕ) → ChildDecided r room →
     (arms : List Arm) (i : ℕ) (b : List ℕ) (found : Option (ℕ × Arm)) → arm_of arms i ≡ found →
-    Decided truncated (arms_at (value_at r room) arms) (i ∷ b)
+    DecidedBy truncated (arms_at (value_at r room) arms) (i ∷ b)
     (suc (arm_taken (value_at r room) (value_taken r room) found b))
     (fields_behind_index (value_at r room) (i ∷ b) found b)
 arm_decided r room h arms i b None e =
@@ -416,14 +416,14 @@ arm_decided r room h arms i b (Some a) e = let child = value_at r room in let ts
 -- a variant is decided by what is said to be taken
 arms_decided : (r : List TypeInfo) (room : ℕ) → ChildDecided r room →
     (arms : List Arm) (b : List ℕ) →
-    Decided truncated (arms_at (value_at r room) arms) b
+    DecidedBy truncated (arms_at (value_at r room) arms) b
     (arms_taken (value_at r room) (value_taken r room) arms b) (arms_at (value_at r room) arms b)
 arms_decided r room h arms [] = λ ne. absurd (ne refl)
 arms_decided r room h arms (i ∷ b) = arm_decided r room h arms i b (arm_of arms i) refl
 
 -- the fault of a value without parts is decided by the bytes that are taken
 plain_decided : (p : Plain) (b : List ℕ) →
-    Decided truncated (leaf_at p) b (leaf_taken p b) (leaf_at p b)
+    DecidedBy truncated (leaf_at p) b (leaf_taken p b) (leaf_at p b)
 plain_decided layout.empty b = tt
 plain_decided layout.bool b = bool_decided b
 plain_decided layout.char b = char_decided b
@@ -449,7 +449,7 @@ plain_decided (layout.compact m) b =
 
 -- by every layout a refusal is decided by what is taken, if that of each part is
 layout_decided : (r : List TypeInfo) (room : ℕ) → ChildDecided r room → (f : Layout) (b : List ℕ) →
-    Decided truncated (layout_at (value_at r room) f) b
+    DecidedBy truncated (layout_at (value_at r room) f) b
     (layout_taken (value_at r room) (value_taken r room) f b) (layout_at (value_at r room) f b)
 unfolding layout_at layout_taken
 layout_decided r room h layout.unknown b = met_decided _ b no_finite_value b refl
@@ -477,12 +477,12 @@ layout_decided r room h (layout.sequence t) b = let child = value_at r room in
 
 -- a value that is refused for good is decided by what is said to be taken, at every depth
 pub value_decided : (r : List TypeInfo) (room t : ℕ) (b : List ℕ) →
-    Decided truncated (value_at r room t) b (value_taken r room t b) (value_at r room t b)
+    DecidedBy truncated (value_at r room t) b (value_taken r room t b) (value_at r room t b)
 unfolding value_at value_taken
 value_decided r zero t b = met_decided _ b too_deep b refl
 value_decided r (suc room) t b = go (λ u c. value_decided r room u c) (is_finite r t) refl where
   go : ChildDecided r room → (f : Bool) → is_finite r t ≡ f →
-      Decided truncated (λ c. cond (is_finite r t) (layout_at (value_at r room) (layout r t) c)
+      DecidedBy truncated (λ c. cond (is_finite r t) (layout_at (value_at r room) (layout r t) c)
       (Err (no_finite_value, c))) b
       (cond f (layout_taken (value_at r room) (value_taken r room) (layout r t) b) 0)
       (cond f (layout_at (value_at r room) (layout r t) b) (Err (no_finite_value, b)))

@@ -34,58 +34,58 @@ use Rattle.decode_core.proofs.lists.Mets.{met_is, met_takes}
 use Rattle.decode_core.proofs.lists.Tells.{IsLeafTree, IsLeafRead, reads_leaf}
 
 -- the bytes of these nodes, one behind the other
-abbrev pub bytes_of : List TypeInfo → List Entry → List ℕ
-bytes_of r xs = flat_map (λ (e : Entry). own_bytes (shape r e.ty) e.head) xs
+abbrev pub entry_bytes : List TypeInfo → List Entry → List ℕ
+entry_bytes r xs = flat_map (λ (e : Entry). own_bytes (shape r e.ty) e.head) xs
 
 -- they stand in front of what is left, or of the node that is refused
-abbrev pub TellsBytes : List TypeInfo → List ℕ → Told → Type 0
-TellsBytes r b (told xs (Ok rest)) = b ≡ bytes_of r xs ++ rest
-TellsBytes r b (told xs (Err e)) = b ≡ bytes_of r xs ++ e.1
+abbrev pub HoldsBytes : List TypeInfo → List ℕ → Told → Type 0
+HoldsBytes r b (told xs (Ok rest)) = b ≡ entry_bytes r xs ++ rest
+HoldsBytes r b (told xs (Err e)) = b ≡ entry_bytes r xs ++ e.1
 
 -- the bytes of nodes, and then those of others, are those of all of them
 both_fronts : (r : List TypeInfo) (xs ys : List Entry) (rest : List ℕ) →
-    bytes_of r xs ++ (bytes_of r ys ++ rest) ≡ bytes_of r (xs ++ ys) ++ rest
-both_fronts r xs ys rest = sym (append_assoc (bytes_of r xs) (bytes_of r ys) rest)
+    entry_bytes r xs ++ (entry_bytes r ys ++ rest) ≡ entry_bytes r (xs ++ ys) ++ rest
+both_fronts r xs ys rest = sym (append_assoc (entry_bytes r xs) (entry_bytes r ys) rest)
     ∙ ap (λ (c : List ℕ). c ++ rest)
     (sym (flat_map-append (λ (e : Entry). own_bytes (shape r e.ty) e.head) xs ys))
 
 -- nodes in front whose bytes stand in front leave it true that nodes spell what was read
 after_bytes : (r : List TypeInfo) (b c : List ℕ) (xs : List Entry) (y : Told) →
-    b ≡ bytes_of r xs ++ c → TellsBytes r c y → TellsBytes r b (after xs y)
-after_bytes r b c xs (told ys (Ok rest)) is h = is ∙ ap (λ (z : List ℕ). bytes_of r xs ++ z) h
+    b ≡ entry_bytes r xs ++ c → HoldsBytes r c y → HoldsBytes r b (after xs y)
+after_bytes r b c xs (told ys (Ok rest)) is h = is ∙ ap (λ (z : List ℕ). entry_bytes r xs ++ z) h
     ∙ both_fronts r xs ys rest
-after_bytes r b c xs (told ys (Err e)) is h = is ∙ ap (λ (z : List ℕ). bytes_of r xs ++ z) h
+after_bytes r b c xs (told ys (Err e)) is h = is ∙ ap (λ (z : List ℕ). entry_bytes r xs ++ z) h
     ∙ both_fronts r xs ys e.1
 
 -- of two readings, one behind the other, the nodes spell what was read, if those of each do
 then_bytes : (r : List TypeInfo) (b : List ℕ) (y : Told) (f : List ℕ → Told) → AreBytes b →
-    TellsBytes r b y → ((c : List ℕ) → AreBytes c → TellsBytes r c (f c)) →
-    TellsBytes r b (then y f)
+    HoldsBytes r b y → ((c : List ℕ) → AreBytes c → HoldsBytes r c (f c)) →
+    HoldsBytes r b (then y f)
 then_bytes r b (told xs (Err e)) f are h k = h
 then_bytes r b (told xs (Ok rest)) f are h k =
     after_bytes r b rest xs (f rest) h
-    (k rest (rest_bytes (bytes_of r xs) rest (subst AreBytes h are)))
+    (k rest (rest_bytes (entry_bytes r xs) rest (subst AreBytes h are)))
 
 abbrev ChildTells : List TypeInfo → (ℕ → List ℕ → Told) → Type 0
-ChildTells r child = (t : ℕ) (b : List ℕ) → AreBytes b → TellsBytes r b (child t b)
+ChildTells r child = (t : ℕ) (b : List ℕ) → AreBytes b → HoldsBytes r b (child t b)
 
 -- values of these types have nodes that spell what was read, if each value has
 all_bytes : (r : List TypeInfo) (child : ℕ → List ℕ → Told) → ChildTells r child → (ts b : List ℕ) →
-    AreBytes b → TellsBytes r b (all_told child ts b)
+    AreBytes b → HoldsBytes r b (all_told child ts b)
 all_bytes r child h [] b are = refl
 all_bytes r child h (t ∷ ts) b are =
     then_bytes r b (child t b) (all_told child ts) are (h t b are) (all_bytes r child h ts)
 
 -- the same for values of one type
 times_bytes : (r : List TypeInfo) (child : ℕ → List ℕ → Told) → ChildTells r child →
-    (n t : ℕ) (b : List ℕ) → AreBytes b → TellsBytes r b (times_told child n t b)
+    (n t : ℕ) (b : List ℕ) → AreBytes b → HoldsBytes r b (times_told child n t b)
 times_bytes r child h zero t b are = refl
 times_bytes r child h (suc n) t b are =
     then_bytes r b (child t b) (times_told child n t) are (h t b are) (times_bytes r child h n t)
 
 -- the same for the parts that a node opens, if it opens any
 opened_bytes : (r : List TypeInfo) (child : ℕ → List ℕ → Told) → ChildTells r child →
-    (p : Option Part) (b : List ℕ) → AreBytes b → TellsBytes r b (opened_told child p b)
+    (p : Option Part) (b : List ℕ) → AreBytes b → HoldsBytes r b (opened_told child p b)
 opened_bytes r child h None b are = refl
 opened_bytes r child h (Some (each ts)) b are = all_bytes r child h ts b are
 opened_bytes r child h (Some (times n t)) b are = times_bytes r child h n t b are
@@ -165,11 +165,11 @@ own_tells_of r t (layout.plain p) b e are =
 -- a node's own bytes and then its parts: all nodes spell what was read, if those of parts do
 own_bytes_told : (r : List TypeInfo) (child : ℕ → List ℕ → Told) → ChildTells r child →
     (t : ℕ) (b : List ℕ) (read : Own) → AreBytes b → OwnTells r t b read →
-    TellsBytes r b (own_told child t b read)
+    HoldsBytes r b (own_told child t b read)
 own_bytes_told r child h t b (Err e) are k = refl
 own_bytes_told r child h t b (Ok x) are k =
     let rest = rest_bytes (own_bytes (shape r t) x.0.0) x.1 (subst AreBytes k are) in
-    let front : b ≡ bytes_of r (entry t x.0.0 ∷ []) ++ x.1 = k
+    let front : b ≡ entry_bytes r (entry t x.0.0 ∷ []) ++ x.1 = k
     ∙ ap (λ (c : List ℕ). c ++ x.1) (sym (append-nil (own_bytes (shape r t) x.0.0))) in
     after_bytes r b x.1 (entry t x.0.0 ∷ []) (opened_told child x.0.1 x.1) front
     (opened_bytes r child h x.0.1 x.1 rest)
@@ -178,7 +178,7 @@ own_bytes_told r child h t b (Ok x) are k =
 
 -- the nodes that a reading adds spell the bytes in front of where it ends
 pub told_spells : (r : List TypeInfo) (room t : ℕ) (b : List ℕ) → AreBytes b →
-    TellsBytes r b (told_at r room t b)
+    HoldsBytes r b (told_at r room t b)
 unfolding told_at
 told_spells r zero t b are = refl
 told_spells r (suc room) t b are =

@@ -32,7 +32,7 @@ use Rattle.decode_core.proofs.lists.HeldOne.{own_short}
 use Rattle.decode_core.proofs.steps.NodeAdding.{next_has, next_run}
 use Rattle.decode_core.proofs.steps.Refusing.{IsShortOf, run_length_short}
 use Rattle.decode_core.proofs.steps.RunSteps.{length_again, own_of}
-use Rattle.decode_core.proofs.lists.ToldSpells.{TellsBytes, bytes_of, told_spells}
+use Rattle.decode_core.proofs.lists.ToldSpells.{HoldsBytes, entry_bytes, told_spells}
 
 -- ---- the tree and its bytes
 
@@ -40,9 +40,9 @@ use Rattle.decode_core.proofs.lists.ToldSpells.{TellsBytes, bytes_of, told_spell
 own_is : (j : Job) (b : List ℕ) (s : Running) → IsOf j s → AreBytes b → IsWaiting j b s →
     b ≡ built_bytes s.built ++ held_of s
 own_is j b s of are w =
-    let read = subst (TellsBytes j.registry b) w.reads
+    let read = subst (HoldsBytes j.registry b) w.reads
     (told_spells j.registry (suc j.depth) j.ty b are) in
-    read ∙ ap (λ (r : List TypeInfo). bytes_of r s.built.entries ++ held_of s) (sym of.types)
+    read ∙ ap (λ (r : List TypeInfo). entry_bytes r s.built.entries ++ held_of s) (sym of.types)
 
 -- the tree grows up to the walk's next type
 grows_to : (j : Job) (s : Running) (u : ℕ) (g : Begun) → IsOf j s →

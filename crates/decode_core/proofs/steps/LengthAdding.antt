@@ -29,7 +29,7 @@ use Rattle.decode_core.specs.NodeAdds.{AddsBare, AddsBytes, IsAdded, IsRefused, 
 use Rattle.decode_core.specs.Reasons.{reason_of}
 use Rattle.decode_core.specs.Told.{length_own, own_at}
 use Rattle.decode_core.proofs.steps.NodeAdding.{all_read, next_has, next_run}
-use Rattle.decode_core.proofs.steps.Whole.{IsSettled, settled_at, u32_is, basic_whole}
+use Rattle.decode_core.proofs.steps.Whole.{IsDefinite, settled_at, u32_is, basic_whole}
 
 -- ---- lists and counts
 
@@ -143,19 +143,20 @@ arm_refused b own h a none =
 
 -- just the bytes of a run's length leave none of them, or are refused for good
 length_settled : (k : RunKind) (own : List ℕ) → HasBytes (run_form k) → AreOwn (run_form k) own →
-    IsSettled (run_length_at k own)
+    IsDefinite (run_length_at k own)
 length_settled kind.Text own s a = settled_at target.U32 own u32_is a.0 a.1 a.2 a.3
 length_settled kind.Bytes own s a = settled_at target.U32 own u32_is a.0 a.1 a.2 a.3
 length_settled (kind.ByteArray n) own s a = absurd s
 
 -- what is read of just its own bytes leaves none of them
-settled_ok : (read : Read Reason ℕ) (n : ℕ) (rest : List ℕ) → IsSettled read → read ≡ Ok (n, rest) →
+settled_ok : (read : Read Reason ℕ) (n : ℕ) (rest : List ℕ) → IsDefinite read →
+    read ≡ Ok (n, rest) →
     read ≡ Ok (n, [])
 settled_ok read n rest h e = let nil : rest ≡ [] = (rw e at h) in e
     ∙ ap (λ (r : List ℕ). Ok (n, r)) nil
 
 -- what is refused of just its own bytes is not refused as cut
-settled_err : (read : Read Reason ℕ) (e : Reason) (left : List ℕ) → IsSettled read →
+settled_err : (read : Read Reason ℕ) (e : Reason) (left : List ℕ) → IsDefinite read →
     read ≡ Err (e, left) → e ≢ scale.Truncated
 settled_err read e left h is = (rw is at h)
 

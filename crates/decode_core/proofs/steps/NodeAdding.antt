@@ -25,7 +25,7 @@ use Rattle.decode_core.specs.Told.{own_at}
 use Rattle.decode_core.specs.declared.node.NodeFault.{NodeFault}
 use Rattle.decode_core.specs.declared.node.NodeFault.TheVariants as fault
 use Rattle.decode_core.proofs.lists.Targets.{wanted_target}
-use Rattle.decode_core.proofs.steps.Whole.{IsWhole, NeedsThese, form_whole}
+use Rattle.decode_core.proofs.steps.Whole.{IsTakenWhole, NeedsThese, form_whole}
 
 -- the layout of the next type has the form that is wanted
 pub next_has : (b : Built) (f : Form) → next_of b.walk ≡ next.Wants f → HasForm f (next_layout b)
@@ -60,18 +60,18 @@ needs_these b form.Count own h s n k = (s, k)
 
 -- nothing of these bytes is left over, and no more are waited for
 pub own_whole : (b : Built) (f : Form) (own : List ℕ) → next_of b.walk ≡ next.Wants f → HasBytes f →
-    NoRun f → AreOwn f own → IsWhole (own_at (next_layout b) own)
+    NoRun f → AreOwn f own → IsTakenWhole (own_at (next_layout b) own)
 own_whole b f own h s n k =
     form_whole f (next_layout b) own (next_has b f h) (needs_these b f own h s n k)
 
 -- where bytes are enough for a node and are read, nothing is left
-none_left : {X : Type 0} (read : Read Refusal X) (x : X) (rest : List ℕ) → IsWhole read →
+none_left : {X : Type 0} (read : Read Refusal X) (x : X) (rest : List ℕ) → IsTakenWhole read →
     read ≡ Ok (x, rest) → read ≡ Ok (x, [])
 none_left read x rest h e = let nil : rest ≡ [] = (rw e at h) in e
     ∙ ap (λ (r : List ℕ). Ok (x, r)) nil
 
 -- where bytes are enough for a node and are refused, the refusal does not wait for more
-no_wait : {X : Type 0} (read : Read Refusal X) (e : Refusal) (left : List ℕ) → IsWhole read →
+no_wait : {X : Type 0} (read : Read Refusal X) (e : Refusal) (left : List ℕ) → IsTakenWhole read →
     read ≡ Err (e, left) → is_cut e ≡ false
 no_wait read e left h is = (rw is at h)
 

@@ -44,7 +44,8 @@ use Rattle.decode_core.specs.Told.{leaf_own, own_at, told, then, told_at, rest_t
 use Rattle.decode_core.proofs.lists.Left.{own_within}
 use Rattle.decode_core.proofs.steps.NodeAdding.{next_has}
 use Rattle.decode_core.proofs.lists.Owns.{own_extends}
-use Rattle.decode_core.proofs.steps.Stepping.{AtNext, at_next, top_of, first_is, parts_of, state_is}
+use Rattle.decode_core.proofs.steps.Stepping.{AtNext, at_next, top_of, first_is, open_parts}
+use Rattle.decode_core.proofs.steps.Stepping.{state_is}
 use Rattle.decode_core.proofs.lists.Targets.{wanted_target}
 use Rattle.decode_core.proofs.steps.Whole.{u32_is}
 
@@ -197,9 +198,9 @@ pub remain_next : (b : Built) (n : AtNext b) (x left : List ℕ) (e : Refusal) �
     own_at (next_layout b) x ≡ Err (e, left) →
     remain b.walk.types (state_of b) x ≡ told [] (Err ((e, left), x))
 remain_next b n x left e h = ap (λ (s : State). remain b.walk.types s x) (state_is b n)
-    ∙ (first_is b.walk.types (suc n.room) n.ty n.top.left (parts_of n.around) n.first x
+    ∙ (first_is b.walk.types (suc n.room) n.ty n.top.left (open_parts n.around) n.first x
     ∙ fails_first b.walk.types n.room n.ty (next_layout b)
-    (rest_told b.walk.types (suc n.room) (left_after n.top.left ∷ parts_of n.around)) x left e
+    (rest_told b.walk.types (suc n.room) (left_after n.top.left ∷ open_parts n.around)) x left e
     n.laid h)
 
 -- what the machine tells of a node that is refused, whatever follows its own bytes; and that these
@@ -277,7 +278,7 @@ no_room_tells r t rest x = refl
 -- the innermost part, as the machine has it, with this room
 state_from : (b : Built) (top : OpenPart) (around : List OpenPart) (room : ℕ) →
     b.walk.frames ≡ top ∷ around → b.walk.limit + 2 - length b.walk.frames ≡ room →
-    state_of b ≡ record { nodes = b.entries; room = room; pending = top.left ∷ parts_of around }
+    state_of b ≡ record { nodes = b.entries; room = room; pending = top.left ∷ open_parts around }
 state_from b top around room f k = rw (k, f) refl
 
 -- where the next type stops, too deep or by itself, the state refuses it as it is met
@@ -290,17 +291,17 @@ stop_by : (b : Built) (told_reason : StopReason) (t : ℕ) (top : OpenPart) (aro
 stop_by b told_reason t top around fs first (inl deep) x =
     let is = state_from b top around 0 fs (omega (arith, deep.1)) in
     ap (λ (s : State). remain b.walk.types s x) is
-    ∙ (first_is b.walk.types 0 t top.left (parts_of around) first x
+    ∙ (first_is b.walk.types 0 t top.left (open_parts around) first x
     ∙ no_room_tells b.walk.types t
-    (rest_told b.walk.types 0 (left_after top.left ∷ parts_of around)) x)
+    (rest_told b.walk.types 0 (left_after top.left ∷ open_parts around)) x)
     ∙ ap (λ (e : StopReason). told [] (Err ((stop_refusal e, x), x))) (sym deep.0)
 stop_by b told_reason t top around fs first (inr here) x =
     let room = b.walk.limit + 1 - length b.walk.frames in
     let is = state_from b top around (suc room) fs (omega (arith, here.0)) in
     ap (λ (s : State). remain b.walk.types s x) is
-    ∙ (first_is b.walk.types (suc room) t top.left (parts_of around) first x
+    ∙ (first_is b.walk.types (suc room) t top.left (open_parts around) first x
     ∙ fails_first b.walk.types room t (met_layout b.walk.types t)
-    (rest_told b.walk.types (suc room) (left_after top.left ∷ parts_of around)) x x
+    (rest_told b.walk.types (suc room) (left_after top.left ∷ open_parts around)) x x
     (stop_refusal told_reason) refl (stop_laid told_reason b.walk.types t here.1 x))
 
 -- the same where the walk says that it stops

@@ -79,16 +79,17 @@ judged_well kind.Bytes from s h = refl
 judged_well (kind.ByteArray n) from s h = refl
 
 -- it is a text that is not UTF-8
-pub record IsBad (k : RunKind) (s : List ℕ) (valid : ℕ) : Type 0 where
+pub record IsBadText (k : RunKind) (s : List ℕ) (valid : ℕ) : Type 0 where
   pub front : (n : ℕ) → run_front k n ≡ compact n
   pub judged : (from : List ℕ) →
       run_judged k from (s, []) ≡ Err (scale.BadUtf8, drop valid from)
   pub within : valid ≤ length s
 
 -- where bytes of a run are found to be bad, it is a text that is not UTF-8 from there on
-pub is_bad : (k : RunKind) (s : List ℕ) (valid : ℕ) → bad_bytes k s ≡ Some valid → IsBad k s valid
+pub is_bad : (k : RunKind) (s : List ℕ) (valid : ℕ) → bad_bytes k s ≡ Some valid →
+    IsBadText k s valid
 is_bad kind.Text s valid h = by (is_utf8 s) refl where
-  by : (c : Bool) → is_utf8 s ≡ c → IsBad kind.Text s valid
+  by : (c : Bool) → is_utf8 s ≡ c → IsBadText kind.Text s valid
   by true e = let no = rw e at h in absurd cc
   by false e =
       let is : utf8_valid_len s ≡ valid = let same = rw e at h in cc in
@@ -113,7 +114,7 @@ run_whole k n bytes h all good =
 
 -- they are all there, and are a text that is not UTF-8
 pub run_bad : (k : RunKind) (n : ℕ) (bytes : List ℕ) (valid : ℕ) → IsLength k n →
-    length bytes ≡ n → IsBad k bytes valid →
+    length bytes ≡ n → IsBadText k bytes valid →
     own_at (layout.plain (layout.run k)) (run_front k n ++ bytes)
     ≡ Err (basic scale.BadUtf8, drop valid bytes)
 unfolding own_at layout_at
@@ -315,7 +316,7 @@ bad_tells b c n valid before is count rest =
 -- ---- what is known of an open run
 
 -- a run that is open, which is next, and how many bytes it lacks
-pub record IsOpen (b : Built) (c : List ℕ) (o : OpenRun) : Type 0 where
+pub record IsRunOpen (b : Built) (c : List ℕ) (o : OpenRun) : Type 0 where
   pub pieces : Pieces
   pub open_is : b.run ≡ Some pieces
   pub wants : next_of b.walk ≡ next.Wants (run_form pieces.kind)
@@ -326,10 +327,10 @@ pub record IsOpen (b : Built) (c : List ℕ) (o : OpenRun) : Type 0 where
 
 -- a kept run is one that is open and next, with what it lacks
 pub is_open : (b : Built) (c : List ℕ) (o : OpenRun) → IsRunNext b c b.run →
-    IsKeptRun b.run (Some o) → IsOpen b c o
+    IsKeptRun b.run (Some o) → IsRunOpen b c o
 is_open b c o h k = by b.run refl h k where
   by : (run : Option Pieces) → b.run ≡ run → IsRunNext b c run → IsKeptRun run (Some o) →
-      IsOpen b c o
+      IsRunOpen b c o
   by None e h k = absurd k
   by (Some t) e h k = record {
     pieces = t;
@@ -344,14 +345,14 @@ is_open b c o h k = by b.run refl h k where
 -- the same of a decoder that has these fields
 pub open_of : (b : Built) (c : List ℕ) (o : OpenRun) (s : Running) →
     record { built = b; carry = c } ≡ s → IsRunNext s.built s.carry s.built.run →
-    IsKeptRun s.built.run (Some o) → IsOpen b c o
+    IsKeptRun s.built.run (Some o) → IsRunOpen b c o
 open_of b c o s is h k =
     is_open b c o
     (subst (λ (x : Running). IsRunNext x.built x.carry x.built.run) (sym is) h)
     (subst (λ (x : Running). IsKeptRun x.built.run (Some o)) (sym is) k)
 
 -- a run that lacks nothing is at its end
-pub at_end : (b : Built) (c : List ℕ) (o : OpenRun) → IsOpen b c o → o.missing ≡ 0 → AtEnd b
+pub at_end : (b : Built) (c : List ℕ) (o : OpenRun) → IsRunOpen b c o → o.missing ≡ 0 → AtEnd b
 at_end b c o n none = record {
   pieces = n.pieces;
   open_is = n.open_is;
@@ -361,13 +362,13 @@ at_end b c o n none = record {
 }
 
 -- a run that lacks nothing has the length that is kept of it
-pub end_len : (b : Built) (c : List ℕ) (o : OpenRun) (n : IsOpen b c o) (none : o.missing ≡ 0) →
+pub end_len : (b : Built) (c : List ℕ) (o : OpenRun) (n : IsRunOpen b c o) (none : o.missing ≡ 0) →
     (at_end b c o n none).pieces.len ≡ o.len
 unfolding at_end
 end_len b c o n none = n.len
 
 -- a run that lacks bytes waits for them
-pub run_waits : (b : Built) (c : List ℕ) (o : OpenRun) → IsOpen b c o → 1 ≤ o.missing →
+pub run_waits : (b : Built) (c : List ℕ) (o : OpenRun) → IsRunOpen b c o → 1 ≤ o.missing →
     WantsBytes (record { built = b; carry = c })
 run_waits b c o n some =
     let t = n.pieces in
@@ -384,7 +385,7 @@ run_waits b c o n some =
 
 -- some of its bytes are to be kept
 pub piece_wants : (b : Built) (c : List ℕ) (o : OpenRun) (piece : List ℕ) (count : ℕ) →
-    IsOpen b c o → count ≤ o.missing → count ≤ length piece → 1 ≤ count →
+    IsRunOpen b c o → count ≤ o.missing → count ≤ length piece → 1 ≤ count →
     WantsMemory (record { built = b; carry = c }) piece
 piece_wants b c o piece count n few there some =
     let t = n.pieces in

@@ -19,9 +19,9 @@ use Rattle.decode_core.specs.NodeAdds.{IsAdded, with_own}
 use Rattle.decode_core.specs.Running.{state_of}
 use Rattle.decode_core.specs.Told.{entry, own_at, told, after, part_told, told_at, rest_told}
 use Rattle.decode_core.specs.Turned.{TurnLeads}
-use Rattle.decode_core.proofs.lists.Owns.{own_extends, Spells}
+use Rattle.decode_core.proofs.lists.Owns.{own_extends, SpellsNode}
 use Rattle.decode_core.proofs.lists.Tells.{after-nil}
-use Rattle.decode_core.proofs.lists.MachineTurns.{First, each_first, times_first, own_leaf}
+use Rattle.decode_core.proofs.lists.MachineTurns.{IsFirstOf, each_first, times_first, own_leaf}
 use Rattle.decode_core.proofs.lists.MachineTurns.{own_opens}
 
 -- what is next: the innermost open part, its next type, and the room for it
@@ -69,18 +69,18 @@ at_next b f h =
 
 -- what is first of the pending parts is the first of the innermost, and then what it leaves
 pub first_is : (r : List TypeInfo) (room t : ℕ) (p : Part) (ps : List Part) → first_of p ≡ Some t →
-    First r room t (p ∷ ps) (left_after p ∷ ps)
+    IsFirstOf r room t (p ∷ ps) (left_after p ∷ ps)
 first_is r room t (each []) ps h = absurd cc
 first_is r room t (each (u ∷ us)) ps h = let same : u ≡ t = cc in
-    subst (λ (v : ℕ). First r room v (each (u ∷ us) ∷ ps) (each us ∷ ps)) same
+    subst (λ (v : ℕ). IsFirstOf r room v (each (u ∷ us) ∷ ps) (each us ∷ ps)) same
     (each_first r room u us ps)
 first_is r room t (times zero u) ps h = absurd cc
 first_is r room t (times (suc n) u) ps h = let same : u ≡ t = cc in
-    subst (λ (v : ℕ). First r room v (times (suc n) u ∷ ps) (times n u ∷ ps)) same
+    subst (λ (v : ℕ). IsFirstOf r room v (times (suc n) u ∷ ps) (times n u ∷ ps)) same
     (times_first r room n u ps)
 
-abbrev pub parts_of : List OpenPart → List Part
-parts_of fs = map (λ f. f.left) fs
+abbrev pub open_parts : List OpenPart → List Part
+open_parts fs = map (λ f. f.left) fs
 
 -- ---- the closing of what is whole
 
@@ -99,7 +99,7 @@ unfolding rest_told
 whole_told r room p ps b h = rw (part_whole r room p b h) (after-nil (rest_told r (suc room) ps b))
 
 -- with room for so many parts at most
-pub record Settles (r : List TypeInfo) (all : ℕ) (fs gs : List OpenPart) : Type 0 where
+pub record SettlesInRoom (r : List TypeInfo) (all : ℕ) (fs gs : List OpenPart) : Type 0 where
   pub tells : (b : List ℕ) →
       rest_told r (all - length fs) (map (λ f. f.left) fs) b ≡ rest_told r (all - length gs)
       (map (λ f. f.left) gs) b
@@ -107,8 +107,8 @@ pub record Settles (r : List TypeInfo) (all : ℕ) (fs gs : List OpenPart) : Typ
 
 -- closing a part that has nothing left, before closing others, keeps what is still read
 settle_on : (r : List TypeInfo) (all : ℕ) (f g : OpenPart) (fs hs : List OpenPart) →
-    suc (suc (length fs)) ≤ all → first_of f.left ≡ None → Settles r all (g ∷ fs) hs →
-    Settles r all (f ∷ g ∷ fs) hs
+    suc (suc (length fs)) ≤ all → first_of f.left ≡ None → SettlesInRoom r all (g ∷ fs) hs →
+    SettlesInRoom r all (f ∷ g ∷ fs) hs
 settle_on r all f g fs hs le h s = record {
   tells = λ b. whole_told r (all - suc (suc (length fs))) f.left (g.left ∷ map (λ f. f.left) fs) b h
       ∙ ap (λ (k : ℕ). rest_told r k (g.left ∷ map (λ f. f.left) fs) b)
@@ -120,15 +120,16 @@ settle_on r all f g fs hs le h s = record {
 
 -- closing what is whole keeps what is still read, if it does around the innermost part
 settle_by : (r : List TypeInfo) (all : ℕ) (f g : OpenPart) (fs : List OpenPart) →
-    suc (suc (length fs)) ≤ all → Settles r all (g ∷ fs) (settled_in (g ∷ fs)) → (o : Option ℕ) →
-    first_of f.left ≡ o → Settles r all (f ∷ g ∷ fs)
+    suc (suc (length fs)) ≤ all → SettlesInRoom r all (g ∷ fs) (settled_in (g ∷ fs)) →
+    (o : Option ℕ) →
+    first_of f.left ≡ o → SettlesInRoom r all (f ∷ g ∷ fs)
     (elim o [ Some t ↦ f ∷ g ∷ fs | None ↦ settled_in (g ∷ fs) ])
 settle_by r all f g fs le s (Some t) e = record { tells = λ b. refl; fewer = omega arith }
 settle_by r all f g fs le s None e = settle_on r all f g fs (settled_in (g ∷ fs)) le e s
 
 -- closing what is whole keeps what is still read, and leaves no more open
 pub settles : (r : List TypeInfo) (all : ℕ) (fs : List OpenPart) → length fs ≤ all →
-    Settles r all fs (settled_in fs)
+    SettlesInRoom r all fs (settled_in fs)
 settles r all [] le = record { tells = λ b. refl; fewer = omega arith }
 settles r all (f ∷ []) le = record { tells = λ b. refl; fewer = omega arith }
 settles r all (f ∷ g ∷ fs) le =
@@ -152,11 +153,12 @@ leads_settled b s own same le h =
 
 -- the parts that are left behind the next node
 parts_after : (b : Built) (n : AtNext b) →
-    parts_of (advanced_in b.walk.frames) ≡ left_after n.top.left ∷ parts_of n.around
+    open_parts (advanced_in b.walk.frames) ≡ left_after n.top.left ∷ open_parts n.around
 parts_after b n = rw n.frames refl
 
 -- the pending parts are what the innermost has left and then those around it
-pub parts_are : (b : Built) (n : AtNext b) → parts_of b.walk.frames ≡ n.top.left ∷ parts_of n.around
+pub parts_are : (b : Built) (n : AtNext b) →
+    open_parts b.walk.frames ≡ n.top.left ∷ open_parts n.around
 parts_are b n = rw n.frames refl
 
 -- the machine's state, spelled out
@@ -165,13 +167,13 @@ pub state_is : (b : Built) (n : AtNext b) →
       nodes = b.entries;
       room = suc n.room;
       pending =
-          n.top.left ∷ parts_of n.around;
+          n.top.left ∷ open_parts n.around;
     }
 state_is b n = rw (n.rooms, parts_are b n) refl
 
 -- own bytes that leave nothing spell the node of the next type, whatever follows them
 spells : (b : Built) (n : AtNext b) (own : List ℕ) (x : Head × Option Part) →
-    own_at (next_layout b) own ≡ Ok (x, []) → Spells b.walk.types n.ty x own
+    own_at (next_layout b) own ≡ Ok (x, []) → SpellsNode b.walk.types n.ty x own
 spells b n own x h more =
     let here : own_at (met_layout b.walk.types n.ty) own ≡ Ok (x, []) =
     ap (λ (f : Layout). own_at f own) n.laid ∙ h in
@@ -212,12 +214,12 @@ leaf_leads b n own h is =
       nodes = b.entries ++ entry n.ty h ∷ [];
       room = suc n.room;
       pending =
-          left_after n.top.left ∷ parts_of n.around;
+          left_after n.top.left ∷ open_parts n.around;
     } =
     rw (rooms, parts_after b n, entry_is b n h) refl in
-    let one = own_leaf b.walk.types b.entries n.room n.ty (n.top.left ∷ parts_of n.around)
-    (left_after n.top.left ∷ parts_of n.around) h own
-    (first_is b.walk.types (suc n.room) n.ty n.top.left (parts_of n.around) n.first) refl
+    let one = own_leaf b.walk.types b.entries n.room n.ty (n.top.left ∷ open_parts n.around)
+    (left_after n.top.left ∷ open_parts n.around) h own
+    (first_is b.walk.types (suc n.room) n.ty n.top.left (open_parts n.around) n.first) refl
     (spells b n own (h, None) is) in
     leads_settled b before own refl (omega (arith, next_frame_count b.walk.frames, n.bound))
     (rw (state_is b n, after_is) one)
@@ -250,12 +252,12 @@ open_leads b n own h p is =
       nodes = b.entries ++ entry n.ty h ∷ [];
       room = n.room;
       pending =
-          p ∷ left_after n.top.left ∷ parts_of n.around;
+          p ∷ left_after n.top.left ∷ open_parts n.around;
     } =
     rw (rooms, parts_after b n, entry_is b n h) refl in
-    let one = own_opens b.walk.types b.entries n.room n.ty (n.top.left ∷ parts_of n.around)
-    (left_after n.top.left ∷ parts_of n.around) h p own
-    (first_is b.walk.types (suc n.room) n.ty n.top.left (parts_of n.around) n.first) refl
+    let one = own_opens b.walk.types b.entries n.room n.ty (n.top.left ∷ open_parts n.around)
+    (left_after n.top.left ∷ open_parts n.around) h p own
+    (first_is b.walk.types (suc n.room) n.ty n.top.left (open_parts n.around) n.first) refl
     (spells b n own (h, Some p) is) in
     leads_settled b before own refl (omega (arith, next_frame_count b.walk.frames, n.bound))
     (rw (state_is b n, after_is) one)

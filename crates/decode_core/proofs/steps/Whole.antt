@@ -31,14 +31,14 @@ use Rattle.decode_core.specs.Needs.{compact_need, kind_need, AreOwn, HasBytes, I
 use Rattle.decode_core.specs.Told.{leaf_own, arm_own, arms_own, length_own, own_at}
 
 -- nothing is left, or the refusal does not wait for more bytes
-abbrev pub IsWhole : {X : Type 0} → Read Refusal X → Type 0
-IsWhole (Ok x) = x.1 ≡ []
-IsWhole (Err e) = is_cut e.0 ≡ false
+abbrev pub IsTakenWhole : {X : Type 0} → Read Refusal X → Type 0
+IsTakenWhole (Ok x) = x.1 ≡ []
+IsTakenWhole (Err e) = is_cut e.0 ≡ false
 
 -- the same of a part
-abbrev pub IsSettled : {X : Type 0} → Read Reason X → Type 0
-IsSettled (Ok x) = x.1 ≡ []
-IsSettled (Err e) = e.0 ≢ scale.Truncated
+abbrev pub IsDefinite : {X : Type 0} → Read Reason X → Type 0
+IsDefinite (Ok x) = x.1 ≡ []
+IsDefinite (Err e) = e.0 ≢ scale.Truncated
 
 -- where just as many bytes are there as are wanted, all are read
 pub bytes_whole : (k : ℕ) (b : List ℕ) → length b ≡ k → bytes_at k b ≡ Ok (b, [])
@@ -49,11 +49,11 @@ bytes_whole k b h = rw (
 ) refl
 
 -- a compact that is there whole leaves nothing, or is refused for good
-checked_settled : (m : Target) (at form : List ℕ) (n : ℕ) → IsSettled (checked_form m at n form [])
+checked_settled : (m : Target) (at form : List ℕ) (n : ℕ) → IsDefinite (checked_form m at n form [])
 checked_settled m at form n =
     by (not (bytes_eq (compact n) form)) (nat_lt n (256 ^ target_bytes m)) where
       by : (long fits : Bool) →
-          IsSettled {X = ℕ} (cond long (Err (scale.CompactNotShortest, at))
+          IsDefinite {X = ℕ} (cond long (Err (scale.CompactNotShortest, at))
           (cond fits (Ok (n, [])) (Err (scale.CompactTooLarge, at))))
       by true fits = λ e. absurd cc
       by false true = refl
@@ -61,10 +61,10 @@ checked_settled m at form n =
 
 -- just as many bytes as a compact integer needs leave nothing, or are refused for good
 integer_settled : (m : Target) (first : ℕ) (rest : List ℕ) →
-    length (first ∷ rest) ≡ compact_need m first → IsSettled (integer_at m (first ∷ rest))
+    length (first ∷ rest) ≡ compact_need m first → IsDefinite (integer_at m (first ∷ rest))
 integer_settled m first rest h = by (is_too_long m first) refl where
   by : (long : Bool) → is_too_long m first ≡ long →
-      IsSettled (cond long (Err (scale.CompactTooLarge, first ∷ rest))
+      IsDefinite (cond long (Err (scale.CompactTooLarge, first ∷ rest))
       (form_from m (first ∷ rest) (bytes_at (form_len first) (first ∷ rest))))
   by true e = λ no. absurd cc
   by false e = rw (bytes_whole (form_len first) (first ∷ rest) (rw e at h))
@@ -72,7 +72,7 @@ integer_settled m first rest h = by (is_too_long m first) refl where
 
 -- the same of a compact, if its target is not nothing
 pub compact_settled : (m : Target) (first : ℕ) (rest : List ℕ) → m ≢ target.Unit →
-    length (first ∷ rest) ≡ compact_need m first → IsSettled (compact_at m (first ∷ rest))
+    length (first ∷ rest) ≡ compact_need m first → IsDefinite (compact_at m (first ∷ rest))
 unfolding compact_at
 compact_settled target.Unit first rest ne h = absurd (ne refl)
 compact_settled target.U8 first rest ne h = integer_settled target.U8 first rest h
@@ -91,18 +91,18 @@ basic_whole scale.CompactNotShortest h = refl
 basic_whole scale.CompactTooLarge h = refl
 
 -- a leaf of what leaves nothing leaves nothing, and a refusal for good stays one
-value_whole : {X : Type 0} (make : X → Leaf) (read : Read Reason X) → IsSettled read →
-    IsWhole (leaf_own (as_leaf make read))
+value_whole : {X : Type 0} (make : X → Leaf) (read : Read Reason X) → IsDefinite read →
+    IsTakenWhole (leaf_own (as_leaf make read))
 value_whole make (Ok x) h = h
 value_whole make (Err e) h = basic_whole e.0 h
 
 -- the same of a sequence by its length
-length_whole : (t : ℕ) (read : Read Reason ℕ) → IsSettled read → IsWhole (length_own t read)
+length_whole : (t : ℕ) (read : Read Reason ℕ) → IsDefinite read → IsTakenWhole (length_own t read)
 length_whole t (Ok n) h = h
 length_whole t (Err e) h = basic_whole e.0 h
 
 -- the one byte of a boolean is enough to read or refuse it
-bool_whole : (b : List ℕ) → length b ≡ 1 → IsWhole (leaf_own (bool_value_at b))
+bool_whole : (b : List ℕ) → length b ≡ 1 → IsTakenWhole (leaf_own (bool_value_at b))
 bool_whole [] h = absurd (omega (arith, h))
 bool_whole (x ∷ y ∷ b) h = absurd (omega (arith, h))
 bool_whole (zero ∷ []) h = refl
@@ -110,24 +110,24 @@ bool_whole (suc zero ∷ []) h = refl
 bool_whole (suc (suc x) ∷ []) h = refl
 
 -- the four bytes of a character are enough to read or refuse it
-char_whole : (b : List ℕ) → length b ≡ 4 → IsWhole (leaf_own (char_from b (bytes_at 4 b)))
+char_whole : (b : List ℕ) → length b ≡ 4 → IsTakenWhole (leaf_own (char_from b (bytes_at 4 b)))
 char_whole b h = rw (bytes_whole 4 b h) (by (is_scalar (number b))) where
-  by : (c : Bool) → IsWhole
+  by : (c : Bool) → IsTakenWhole
       (leaf_own (cond c (Ok (tree.leaf (tree.char (number b)), [])) (Err (basic scale.BadChar, b))))
   by true = refl
   by false = refl
 
 -- the bytes of an integer are enough to read it, and none is left
 number_whole : (make : List ℕ → Leaf) (k : ℕ) (b : List ℕ) → length b ≡ k →
-    IsWhole (leaf_own (as_leaf make (bytes_at k b)))
+    IsTakenWhole (leaf_own (as_leaf make (bytes_at k b)))
 number_whole make k b h = rw (bytes_whole k b h) refl
 
 -- the one byte of an index is enough to find the arm or refuse it
-arms_whole : (arms : List Arm) (b : List ℕ) → length b ≡ 1 → IsWhole (arms_own arms b)
+arms_whole : (arms : List Arm) (b : List ℕ) → length b ≡ 1 → IsTakenWhole (arms_own arms b)
 arms_whole arms [] h = absurd (omega (arith, h))
 arms_whole arms (x ∷ y ∷ b) h = absurd (omega (arith, h))
 arms_whole arms (x ∷ []) h = by (arm_of arms x) where
-  by : (found : Option (ℕ × Arm)) → IsWhole (arm_own (x ∷ []) found [])
+  by : (found : Option (ℕ × Arm)) → IsTakenWhole (arm_own (x ∷ []) found [])
   by None = refl
   by (Some a) = refl
 
@@ -140,7 +140,7 @@ NeedsThese f b = HasBytes f × AreOwn f b
 
 -- the bytes that a primitive kind needs are enough to read or refuse it, if it is no text
 kind_whole : (k : PrimitiveKind) (b : List ℕ) (first : ℕ) → IsNoText k →
-    length b ≡ kind_need k first → IsWhole (own_at (kind_layout k) b)
+    length b ≡ kind_need k first → IsTakenWhole (own_at (kind_layout k) b)
 unfolding own_at layout_at
 kind_whole K.Bool b first n h = bool_whole b h
 kind_whole K.Char b first n h = char_whole b h
@@ -157,12 +157,12 @@ u32_is = λ e. absurd cc
 
 -- the bytes that a compact needs leave nothing, or are refused, whatever its first one is
 pub settled_at : (m : Target) (b : List ℕ) → m ≢ target.Unit → (first : ℕ) (rest : List ℕ) →
-    b ≡ first ∷ rest → length b ≡ compact_need m first → IsSettled (compact_at m b)
+    b ≡ first ∷ rest → length b ≡ compact_need m first → IsDefinite (compact_at m b)
 settled_at m b ne first rest is len = rw is (compact_settled m first rest ne (rw is at len))
 
 -- the bytes that a form needs are enough to read or refuse the node, and none is left
 pub form_whole : (f : Form) (lay : Layout) (b : List ℕ) → HasForm f lay → NeedsThese f b →
-    IsWhole (own_at lay b)
+    IsTakenWhole (own_at lay b)
 unfolding own_at layout_at
 form_whole form.Empty lay b h k = absurd k.0
 form_whole (form.Primitive p) lay b h k = rw h (kind_whole (kind_of p) b k.1.0 k.0 k.1.3)

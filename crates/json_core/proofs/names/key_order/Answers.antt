@@ -3,7 +3,7 @@ use Rattle.std.proofs.Common.{map, [], Some}
 use Rattle.std.proofs.lemmas.List.{drop_more, append-nil}
 use Rattle.std.proofs.Math.ListN.{drop_of_length-le}
 use Rattle.json_core.specs.Ordered.{name_order, order_from}
-use Rattle.json_core.proofs.Found.{found_here, new_here, Kept, shown, shown_positions}
+use Rattle.json_core.proofs.Found.{found_here, new_here, Kept, shown_entries, shown_positions}
 use Rattle.json_core.proofs.names.key_order.Goals as goal
 
 pub returns-then-is_some : goal.returns-then-is_some
@@ -33,8 +33,8 @@ pub returns : goal.returns
 returns c =
     let fs = c.args.fields.now in
     let none : drop c.fields.position fs ≡ [] = drop_of_length-le fs (omega arith) in
-    let found : name_order fs ≡ Some (shown c.fields.positions.entries) = c.fields.invariant
-    ∙ ap (λ gs. order_from gs c.fields.position (shown c.fields.positions.entries)) none in
+    let found : name_order fs ≡ Some (shown_entries c.fields.positions.entries) = c.fields.invariant
+    ∙ ap (λ gs. order_from gs c.fields.position (shown_entries c.fields.positions.entries)) none in
     let left : c.names.position-iterator ≡ [] = c.in-None.ensures.steps.0 in
     let told : c.names.order.items ≡ map (λ e. e.1) c.into_iter-position-iterator.result =
     sym (append-nil c.names.order.items)

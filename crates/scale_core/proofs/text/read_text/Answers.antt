@@ -1,7 +1,7 @@
 use Rattle.std.proofs.Common.{◌∙◌, sym, ap, ◌+◌, ℕ, [], drop, arith}
 use Rattle.std.specs.Str.Lossy.{utf8_valid_len}
 use Rattle.std.proofs.lemmas.Result.{err_from_is_err_and}
-use Rattle.scale_core.proofs.ReadTexts.{IsWhole, text_at-fault, text_at-cut, text_at-valid}
+use Rattle.scale_core.proofs.ReadTexts.{IsTextThere, text_at-fault, text_at-cut, text_at-valid}
 use Rattle.scale_core.proofs.ReadTexts.{text_at-bad, whole-bound, place-bad}
 use Rattle.scale_core.proofs.text.read_text.Goals as goal
 
@@ -23,7 +23,8 @@ pub returns-in-Ok-clause-reads : goal.returns-in-Ok-clause-reads
 returns-in-Ok-clause-reads c =
     let reads = c.in_ok-count.ensures.reads in
     let part = c.in-Some.ensures.lookup.0 in
-    let w : IsWhole c.args.bytes.now c.in-Some.spelled.now c.in_ok-count.start c.in_ok-count.count =
+    let w : IsTextThere c.args.bytes.now c.in-Some.spelled.now c.in_ok-count.start
+    c.in_ok-count.count =
     record { length_is = reads.1; there = part.1; is = part.2; len = part.3 } in (
       whole-bound c.args.bytes.now c.in-Some.spelled.now c.in_ok-count.start c.in_ok-count.count
           reads.0 w,
@@ -35,7 +36,8 @@ pub returns-in-Err-clause-reads : goal.returns-in-Err-clause-reads
 returns-in-Err-clause-reads c =
     let reads = c.in_ok-count.ensures.reads in
     let part = c.in-Some.ensures.lookup.0 in
-    let w : IsWhole c.args.bytes.now c.in-Some.spelled.now c.in_ok-count.start c.in_ok-count.count =
+    let w : IsTextThere c.args.bytes.now c.in-Some.spelled.now c.in_ok-count.start
+    c.in_ok-count.count =
     record { length_is = reads.1; there = part.1; is = part.2; len = part.3 } in (
       drop (utf8_valid_len c.in-Some.spelled.now) (drop c.in_ok-count.start c.args.bytes.now),
       text_at-bad c.args.bytes.now c.in-Some.spelled.now c.in_ok-count.start c.in_ok-count.count w
