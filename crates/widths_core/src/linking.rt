@@ -30,6 +30,12 @@ const SIZED: Found = Found {
     target: None,
 };
 
+/// A type that takes no bytes and is no target of a compact.
+const EMPTY: Found = Found {
+    class: Class::Empty,
+    target: None,
+};
+
 /// Adds a counter of so many parts, and answers its number.
 fn count_parts(
     counters: &mut Vec<Counter>,
@@ -233,6 +239,51 @@ fn found_of_primitive(primitive: Primitive) -> Found
     }
 }
 
+/// The type of a sequence's elements: a sequence takes bytes whatever they are.
+fn link_sequence(
+    graph: &mut Graph<'_>,
+    counters: &mut Vec<Counter>,
+    owner: u32,
+    element: &Place<'_>,
+) -> Result<Draft, Stop>
+    requires { IsLinked graph.old }
+    ensures adds { IfOk result
+        (λ _. AddsRules (rules_of owner (shape_of (Definition.Sequence element.now)))
+        counters.old.items counters.new.items graph.old graph.new) }
+    ensures draft { IfOk result (λ s. s ≡ Draft.Sequence (id_of element.now)) }
+    ensures stops { IfErr result (StopsLinking (all_parts
+        (rules_of owner (shape_of (Definition.Sequence element.now)))) graph.old graph.new) }
+{
+    count_parts(counters, owner, Kind::Fixed(SIZED), 0)?;
+    let element = link_one(graph, counters, owner, Kind::Idle, element)?;
+    Ok(Draft::Sequence { element })
+}
+
+/// The type of an array's elements: an array of none takes no bytes whatever they are.
+fn link_array(
+    graph: &mut Graph<'_>,
+    counters: &mut Vec<Counter>,
+    owner: u32,
+    len: u32,
+    element: &Place<'_>,
+) -> Result<Draft, Stop>
+    requires { IsLinked graph.old }
+    ensures adds { IfOk result
+        (λ _. AddsRules (rules_of owner (shape_of (Definition.Array len element.now)))
+        counters.old.items counters.new.items graph.old graph.new) }
+    ensures draft { IfOk result (λ s. s ≡ Draft.Array len (id_of element.now)) }
+    ensures stops { IfErr result (StopsLinking (all_parts
+        (rules_of owner (shape_of (Definition.Array len element.now)))) graph.old graph.new) }
+{
+    if len == 0 {
+        count_parts(counters, owner, Kind::Fixed(EMPTY), 0)?;
+        let element = link_one(graph, counters, owner, Kind::Idle, element)?;
+        return Ok(Draft::Array { len, element });
+    }
+    let element = link_one(graph, counters, owner, Kind::Parts, element)?;
+    Ok(Draft::Array { len, element })
+}
+
 /// A type of this definition: its counters, the references of its definition, and its draft.
 fn link_definition(
     graph: &mut Graph<'_>,
@@ -267,24 +318,8 @@ fn link_definition(
             let Parts { from, count } = link_arms(graph, counters, rows, owner, arms)?;
             Ok(Draft::Arms { from, count })
         }
-        Definition::Sequence(element) => {
-            count_parts(counters, owner, Kind::Fixed(SIZED), 0)?;
-            let element = link_one(graph, counters, owner, Kind::Idle, element)?;
-            Ok(Draft::Sequence { element })
-        }
-        Definition::Array(0, element) => {
-            let found = Found {
-                class: Class::Empty,
-                target: None,
-            };
-            count_parts(counters, owner, Kind::Fixed(found), 0)?;
-            let element = link_one(graph, counters, owner, Kind::Idle, element)?;
-            Ok(Draft::Array { len: 0, element })
-        }
-        Definition::Array(len, element) => {
-            let element = link_one(graph, counters, owner, Kind::Parts, element)?;
-            Ok(Draft::Array { len: *len, element })
-        }
+        Definition::Sequence(element) => link_sequence(graph, counters, owner, element),
+        Definition::Array(len, element) => link_array(graph, counters, owner, *len, element),
         Definition::Compact(over) => {
             let over = link_one(graph, counters, owner, Kind::Compact, over)?;
             Ok(Draft::Compact { over })
