@@ -113,13 +113,8 @@ fn feed_run<A: Allocator>(
         Ok((count, Stopped::Finished)) => Fed::Done(count as u64),
         Ok((count, Stopped::Wants)) => {
             if offered.len() < piece.len() {
-                return Fed::Ended(
-                    DecodeFault {
-                        reason: DecodeReason::TooLong,
-                        at: limit,
-                    },
-                    limit,
-                );
+                let reason = DecodeReason::TooLong;
+                return Fed::Ended(DecodeFault { reason, at: limit }, limit);
             }
             Fed::More(taken + count as u64)
         }
@@ -135,21 +130,13 @@ fn feed_run<A: Allocator>(
             ),
         ) => {
             let node = taken + count as u64 - held as u64;
-            Fed::Ended(
-                DecodeFault {
-                    reason,
-                    at: node + at,
-                },
-                node + len as u64,
-            )
+            let at = node + at;
+            Fed::Ended(DecodeFault { reason, at }, node + len as u64)
         }
-        Err(count) => Fed::Ended(
-            DecodeFault {
-                reason: DecodeReason::OutOfMemory,
-                at: 0,
-            },
-            taken + count as u64,
-        ),
+        Err(count) => {
+            let reason = DecodeReason::OutOfMemory;
+            Fed::Ended(DecodeFault { reason, at: 0 }, taken + count as u64)
+        }
     }
 }
 

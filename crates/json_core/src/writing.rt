@@ -231,12 +231,9 @@ pub(crate) fn write_node(
             }
             None => write_items(alloc, out, orders, node),
         },
-        What::Arm { position } => {
-            let arm = defined_arm(checked, ty, position).unwrap();
-            let place = Place {
-                ty: ty.0,
-                arm: position,
-            };
+        What::Arm { position: arm } => {
+            let place = Place { ty: ty.0, arm };
+            let arm = defined_arm(checked, ty, arm).unwrap();
             out.begin_object()?;
             out.key(alloc, arm.name.as_str(), false)?;
             write_fields(alloc, out, orders, place, arm.fields.as_slice(), node)?;

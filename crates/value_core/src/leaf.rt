@@ -4,7 +4,7 @@ ghost use Rattle.std.specs.Prelude.{◌≡◌, IfOk, IfErr, IfSome};
 ghost use Rattle.value_core.specs.Leaves.{leaf_text_bytes, FitsLeaf, IsLeafKept};
 
 use crate::node::Content;
-use crate::pool::put_long;
+use crate::pool::{put_long, put_run};
 use std::alloc::{AllocError, Allocator};
 
 /// A node without children, before it is added to a value.
@@ -83,18 +83,12 @@ impl<'b> Leaf<'b> {
             Leaf::Char(x) => Ok(Content::Char(x)),
             Leaf::Count(x) => Ok(Content::Count(x)),
             Leaf::Text(bytes) => {
-                pool.extend_from_slice(bytes)?;
-                Ok(Content::Text {
-                    start,
-                    len: bytes.len() as u32,
-                })
+                let len = put_run(pool, bytes)?;
+                Ok(Content::Text { start, len })
             }
             Leaf::Bytes(bytes) => {
-                pool.extend_from_slice(bytes)?;
-                Ok(Content::Bytes {
-                    start,
-                    len: bytes.len() as u32,
-                })
+                let len = put_run(pool, bytes)?;
+                Ok(Content::Bytes { start, len })
             }
             Leaf::Wide(bytes) => {
                 pool.extend_from_slice(bytes)?;

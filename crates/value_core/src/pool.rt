@@ -1,11 +1,23 @@
-//! Long integers in the pool of bytes beside a value's nodes.
+//! Texts, runs of bytes and long integers in the pool of bytes beside a value's nodes.
 
-ghost use Rattle.std.specs.Prelude.{◌≡◌, ◌≤◌, ◌+◌, ◌++◌, length, IfOk, IfErr};
+ghost use Rattle.std.specs.Prelude.{◌≡◌, ◌<◌, ◌≤◌, ◌+◌, ◌^◌, ◌++◌, length, IfOk, IfErr};
 ghost use Rattle.std.specs.Int.{w128, to_le_bytes};
 ghost use Rattle.value_core.specs.Shown.{long_shown};
 
 use crate::room::make_room;
 use std::alloc::{AllocError, Allocator};
+
+/// Appends the bytes of a text or of a run: how many they are. Where memory is refused nothing changes.
+#[inline(always)]
+pub(crate) fn put_run<A: Allocator>(pool: &mut Vec<u8, A>, bytes: &[u8]) -> Result<u32, AllocError>
+    requires { length bytes.now < 2 ^ 32 }
+    ensures len { IfOk result (λ len. len ≡ length bytes.now) }
+    ensures ok { IfOk result (λ _. pool.new.items ≡ pool.old.items ++ bytes.now) }
+    ensures err { IfErr result (λ _. pool.new.items ≡ pool.old.items) }
+{
+    pool.extend_from_slice(bytes)?;
+    Ok(bytes.len() as u32)
+}
 
 /// Appends the sixteen bytes of an integer, the lowest first: its place. Where memory is refused nothing changes.
 #[inline(never)]
