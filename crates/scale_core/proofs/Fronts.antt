@@ -76,6 +76,7 @@ from_le_bytes-padded spelled front n short same e =
 div-div : (n k : ℕ) → n / 256 ^ k / 256 ≡ n / 256 ^ suc k
 div-div n k = rw (pow-suc 256 k) (div-div-eq-div-mul n (256 ^ k) 256)
 
+-- the byte that std takes at a place is that of the number without the bytes below
 byte_at-is : (i n : ℕ) → byte_at i n ≡ n / 256 ^ i % 256
 byte_at-is zero n = omega arith
 byte_at-is (suc i) n = refl

@@ -41,7 +41,8 @@ pub fn explain<W: Write, E: Write>(fault: JobFault, out: &mut Sink<W>, err: &mut
     ensures shown { result ≡ 0 →
         Appends (W.contents out.old.device) (W.contents out.new.device) (reported_text fault) }
     ensures front { result ≡ 3 → (n : ℕ)
-        × Appends (W.contents out.old.device) (W.contents out.new.device) (take n (reported_text fault)) }
+        × Appends (W.contents out.old.device) (W.contents out.new.device)
+        (take n (reported_text fault)) }
     ensures silent { (result ≡ 2) ⊎ (result ≡ 4) →
         Keeps (W.contents out.old.device) (W.contents out.new.device) }
     ensures told { (result ≡ 2) ⊎ (result ≡ 4) → (err.new.failed ≡ true)

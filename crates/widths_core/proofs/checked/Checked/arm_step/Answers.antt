@@ -21,6 +21,7 @@ returns-in_err-from c =
           c.args.index s c.self.invariant.table got (sym c.row.ensures ∙ none),
     ) tt
 
+-- a type whose step has arms is a variant, and its arms are in a row of their own
 row : (c : goal.In_ok-from) → (arms : List Arm)
     × (shape c.self.inside.registry c.args.id.0 ≡ Some (Def.Variant arms))
     × IsRow (references_of c.self.inside.registry) c.self.inside.rows c.in_ok-from.field-0.from
