@@ -15,6 +15,5 @@ pub mod Running
 pub mod Turned
 pub mod Decided
 pub mod Decoding
-pub mod Streaming
 pub mod Wanted
 pub mod Viewed

@@ -9,12 +9,8 @@ mod forms;
 pub mod laws;
 mod need;
 mod node;
-mod pieces;
 mod run;
-mod stream;
 mod turned;
 
 pub use decoder::{Decoder, Progress};
 pub use fault::{DecodeFault, DecodeReason, OpenFault};
-pub use pieces::{PiecesFault, decode_pieces};
-pub use stream::{StreamFault, decode_all};

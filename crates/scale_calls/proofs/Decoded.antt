@@ -10,14 +10,14 @@ use Rattle.grammar_core.specs.Tree.{Tree}
 use Rattle.value_core.specs.Shown.{Seen}
 use Rattle.decode_core.specs.Decoding.{FinishesDecoder, IsEnded}
 use Rattle.decode_core.specs.Outcome.{Job, Outcome, done, refused, more, too_long, IsOutcome}
-use Rattle.decode_core.specs.Streaming.{Forbids, IsOfJob, Joins, Trails}
+use Rattle.stream_core.specs.Streaming.{Forbids, IsOfJob, Joins, Trails}
 use Rattle.decode_core.specs.declared.fault.DecodeFault.{DecodeFault}
 use Rattle.decode_core.specs.declared.fault.DecodeReason.{DecodeReason}
 use Rattle.decode_core.specs.declared.fault.DecodeReason.TheVariants as reason
 use Rattle.decode_core.specs.declared.fault.OpenFault.{OpenFault}
 use Rattle.decode_core.specs.declared.fault.OpenFault.TheVariants as opening
-use Rattle.decode_core.specs.declared.pieces.PiecesFault.{PiecesFault}
-use Rattle.decode_core.specs.declared.pieces.PiecesFault.TheVariants as pieces
+use Rattle.stream_core.specs.declared.pieces.PiecesFault.{PiecesFault}
+use Rattle.stream_core.specs.declared.pieces.PiecesFault.TheVariants as pieces
 use Rattle.decode_core.proofs.lists.Computed.{outcome_is_computed}
 use Rattle.scale_calls.specs.Refused.{opening_refusal, pieces_refusal, value_refusal_by}
 use Rattle.scale_calls.specs.Values.{RefusesValue, value_in, whole}

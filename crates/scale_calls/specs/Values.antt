@@ -6,7 +6,7 @@ use Rattle.value_core.specs.Shown.{Seen}
 use Rattle.json_core.specs.Json.{json_text}
 use Rattle.decode_core.specs.Outcome.{Job, Outcome, done, refused, more, too_long, outcome_of}
 use Rattle.decode_core.specs.Decoding.{FinishesDecoder}
-use Rattle.decode_core.specs.Streaming.{Trails}
+use Rattle.stream_core.specs.Streaming.{Trails}
 use Rattle.decode_core.specs.declared.fault.OpenFault.{OpenFault}
 use Rattle.decode_core.specs.declared.fault.OpenFault.TheVariants as opening
 use Rattle.scale_calls.specs.declared.refusal.ValueRefusal.{ValueRefusal}

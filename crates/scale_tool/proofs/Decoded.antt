@@ -10,14 +10,14 @@ use Rattle.grammar_core.specs.declared.limits.Limits.{Limits}
 use Rattle.value_core.specs.Shown.{Seen}
 use Rattle.decode_core.specs.Decoding.{FinishesDecoder, opening_fault}
 use Rattle.decode_core.specs.Outcome.{Job}
-use Rattle.decode_core.specs.Streaming.{Forbids, Streams, job_of}
+use Rattle.stream_core.specs.Streaming.{Forbids, Streams, job_of}
 use Rattle.decode_core.specs.declared.fault.DecodeFault.{DecodeFault}
 use Rattle.decode_core.specs.declared.fault.DecodeReason.{DecodeReason}
 use Rattle.decode_core.specs.declared.fault.DecodeReason.TheVariants as reason
 use Rattle.decode_core.specs.declared.fault.OpenFault.{OpenFault}
 use Rattle.decode_core.specs.declared.fault.OpenFault.TheVariants as opening
-use Rattle.decode_core.specs.declared.stream.StreamFault.{StreamFault}
-use Rattle.decode_core.specs.declared.stream.StreamFault.TheVariants as stream
+use Rattle.stream_core.specs.declared.stream.StreamFault.{StreamFault}
+use Rattle.stream_core.specs.declared.stream.StreamFault.TheVariants as stream
 use Rattle.scale_calls.specs.Values.{ReadsValue, RefusesValue}
 use Rattle.scale_calls.specs.Values as calls
 use Rattle.scale_calls.specs.declared.refusal.ValueRefusal.{ValueRefusal}

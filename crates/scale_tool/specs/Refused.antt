@@ -4,8 +4,8 @@ use Rattle.std.specs.Prelude.{ℕ, List, Option, Some, None, codes}
 use Rattle.decode_core.specs.declared.fault.DecodeFault.{DecodeFault}
 use Rattle.decode_core.specs.declared.fault.DecodeReason.{DecodeReason}
 use Rattle.decode_core.specs.declared.fault.DecodeReason.TheVariants as reason
-use Rattle.decode_core.specs.declared.stream.StreamFault.{StreamFault}
-use Rattle.decode_core.specs.declared.stream.StreamFault.TheVariants as stream
+use Rattle.stream_core.specs.declared.stream.StreamFault.{StreamFault}
+use Rattle.stream_core.specs.declared.stream.StreamFault.TheVariants as stream
 use Rattle.scale_tool.specs.declared.gathering.GatherFault.{GatherFault}
 use Rattle.scale_tool.specs.declared.gathering.GatherFault.TheVariants as gather
 use Rattle.scale_tool.specs.declared.refusal.Device.{Device}

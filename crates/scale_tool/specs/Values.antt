@@ -5,7 +5,7 @@ use Rattle.registry_core.specs.declared.type_info.TypeInfo.{TypeInfo}
 use Rattle.value_core.specs.Shown.{Seen}
 use Rattle.decode_core.specs.Outcome as decoder
 use Rattle.decode_core.specs.Decoding.{FinishesDecoder}
-use Rattle.decode_core.specs.Streaming.{Trails}
+use Rattle.stream_core.specs.Streaming.{Trails}
 use Rattle.scale_calls.specs.Values as calls
 use Rattle.scale_tool.specs.HexText.{hex_bytes}
 use Rattle.scale_tool.specs.Refused.{status_of_bytes, status_of_value}

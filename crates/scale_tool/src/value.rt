@@ -11,12 +11,13 @@ ghost use Rattle.decode_core.specs.declared.fault.OpenFault.{OpenFault as AnOpen
 use crate::gathering::gather_all;
 use crate::hex_text::hex_bytes;
 use crate::refusal::{BytesRefusal, ValueRefusal};
-use decode_core::{OpenFault, StreamFault, decode_all};
+use decode_core::OpenFault;
 use registry_core::TypeId;
 use scale_calls as calls;
 use scale_core::Source;
 use std::alloc::Global;
 use std::io::Read;
+use stream_core::{StreamFault, decode_all};
 use value_core::{Limits, Value};
 use widths_core::Checked;
 

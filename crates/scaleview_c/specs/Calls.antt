@@ -7,7 +7,7 @@ use Rattle.json_core.specs.Json.{json_text}
 use Rattle.decode_core.specs.Outcome.{Job}
 use Rattle.decode_core.specs.Decoding.{AnswersPiece, Decoding, FinishesDecoder, Led, first_of_all}
 use Rattle.decode_core.specs.Decoding.{opening_fault}
-use Rattle.decode_core.specs.Streaming.{job_of}
+use Rattle.stream_core.specs.Streaming.{job_of}
 use Rattle.decode_core.specs.declared.decoder.Progress.{Progress}
 use Rattle.decode_core.specs.declared.fault.DecodeFault.{DecodeFault}
 use Rattle.decode_core.specs.declared.fault.OpenFault.{OpenFault}

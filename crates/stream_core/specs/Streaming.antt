@@ -12,10 +12,10 @@ use Rattle.decode_core.specs.Outcome.{Job, done, more, IsOutcome}
 use Rattle.decode_core.specs.Decoding.{Decoding, FinishesDecoder, Led, first_of_all}
 use Rattle.decode_core.specs.declared.fault.OpenFault.{OpenFault}
 use Rattle.decode_core.specs.declared.fault.OpenFault.TheVariants as opening
-use Rattle.decode_core.specs.declared.stream.StreamFault.{StreamFault}
-use Rattle.decode_core.specs.declared.stream.StreamFault.TheVariants as stream
-use Rattle.decode_core.specs.declared.pieces.PiecesFault.{PiecesFault}
-use Rattle.decode_core.specs.declared.pieces.PiecesFault.TheVariants as pieces
+use Rattle.stream_core.specs.declared.stream.StreamFault.{StreamFault}
+use Rattle.stream_core.specs.declared.stream.StreamFault.TheVariants as stream
+use Rattle.stream_core.specs.declared.pieces.PiecesFault.{PiecesFault}
+use Rattle.stream_core.specs.declared.pieces.PiecesFault.TheVariants as pieces
 
 -- what is decoded: a type of a registry, within these limits
 abbrev pub job_of : List TypeInfo → ℕ → Limits → Job

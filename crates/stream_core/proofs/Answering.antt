@@ -9,18 +9,18 @@ use Rattle.grammar_core.specs.Tree.{Tree}
 use Rattle.value_core.specs.Shown.{Seen}
 use Rattle.decode_core.specs.Decoding.{Decoding, FinishesDecoder, IsEnded, Led}
 use Rattle.decode_core.specs.Outcome.{Job, done, more, IsOutcome}
-use Rattle.decode_core.specs.Streaming.{EndsAt, FeedsAll, IsFed, IsUnderWay, Joins, StopsOpen}
-use Rattle.decode_core.specs.Streaming.{Streams, Trails}
+use Rattle.stream_core.specs.Streaming.{EndsAt, FeedsAll, IsFed, IsUnderWay, Joins, StopsOpen}
+use Rattle.stream_core.specs.Streaming.{Streams, Trails}
 use Rattle.decode_core.specs.declared.fault.DecodeFault.{DecodeFault}
 use Rattle.decode_core.specs.declared.fault.OpenFault.{OpenFault}
-use Rattle.decode_core.specs.declared.pieces.PiecesFault.TheVariants as pieces
-use Rattle.decode_core.specs.declared.stream.StreamFault.{StreamFault}
-use Rattle.decode_core.specs.declared.stream.StreamFault.TheVariants as stream
+use Rattle.stream_core.specs.declared.pieces.PiecesFault.TheVariants as pieces
+use Rattle.stream_core.specs.declared.stream.StreamFault.{StreamFault}
+use Rattle.stream_core.specs.declared.stream.StreamFault.TheVariants as stream
 use Rattle.decode_core.proofs.calls.Feeding.{ended_stays}
 use Rattle.decode_core.proofs.lists.HeldBound.{held_is_bounded}
 use Rattle.decode_core.proofs.lists.Outcomes.{one_outcome}
-use Rattle.decode_core.proofs.calls.Streaming.{Whole, done_ends, done_stays, no_value}
-use Rattle.decode_core.proofs.calls.Streaming.{under_way_ends}
+use Rattle.stream_core.proofs.Streaming.{Whole, done_ends, done_stays, no_value}
+use Rattle.stream_core.proofs.Streaming.{under_way_ends}
 
 -- ---- to a reader
 

@@ -2,11 +2,10 @@
 
 ghost use Rattle.std.specs.Prelude.{◌≡◌, ℕ, [], IfErr, OnOk, flat_map};
 ghost use Rattle.decode_core.specs.Decoding.{IsEnded, opening_fault};
-ghost use Rattle.decode_core.specs.Streaming.{IsFed, IsUnderWay, Joins, job_of};
-ghost use Rattle.decode_core.specs.declared.pieces.PiecesFault.TheVariants.{Decode, Open};
+ghost use Rattle.stream_core.specs.Streaming.{IsFed, IsUnderWay, Joins, job_of};
+ghost use Rattle.stream_core.specs.declared.pieces.PiecesFault.TheVariants.{Decode, Open};
 
-use crate::decoder::{Decoder, Progress};
-use crate::fault::{DecodeFault, OpenFault};
+use decode_core::{DecodeFault, Decoder, OpenFault, Progress};
 use registry_core::TypeId;
 use std::alloc::Allocator;
 use thiserror::Error;

@@ -3,10 +3,10 @@ use Rattle.std.proofs.KnownBytes.{Consumes-trans}
 use Rattle.std.proofs.lemmas.List.{length-take}
 use Rattle.std.proofs.lemmas.Result.{err_from_is_err_and}
 use Rattle.decode_core.specs.Outcome.{Job}
-use Rattle.decode_core.proofs.calls.Streaming.{end_known, ended_known, look_feeds, more_by}
-use Rattle.decode_core.proofs.calls.Streaming.{stops_open, trails_within, under_way_open}
-use Rattle.decode_core.proofs.calls.Streaming.{under_way_by, under_way_ends, whole_by}
-use Rattle.decode_core.proofs.stream.feed_all.Goals as goal
+use Rattle.stream_core.proofs.Streaming.{end_known, ended_known, look_feeds, more_by}
+use Rattle.stream_core.proofs.Streaming.{stops_open, trails_within, under_way_open}
+use Rattle.stream_core.proofs.Streaming.{under_way_by, under_way_ends, whole_by}
+use Rattle.stream_core.proofs.stream.feed_all.Goals as goal
 
 pub returns-then-count-eq0-clause-answers : goal.returns-then-count-eq0-clause-answers
 returns-then-count-eq0-clause-answers g c =

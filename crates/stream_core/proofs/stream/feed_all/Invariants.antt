@@ -1,7 +1,7 @@
 use Rattle.std.proofs.Common.{◌≡◌, ℕ, ◌-◌, List}
 use Rattle.std.specs.Io.KnownBytes.{Consumes}
-use Rattle.decode_core.specs.Streaming.{IsUnderWay}
-use Rattle.decode_core.proofs.stream.feed_all.Given as goal
+use Rattle.stream_core.specs.Streaming.{IsUnderWay}
+use Rattle.stream_core.proofs.stream.feed_all.Given as goal
 
 abbrev pub invariant-pieces : goal.invariant-pieces
 invariant-pieces g l = record {

@@ -2,13 +2,12 @@
 
 ghost use Rattle.std.specs.Prelude.{◌≡◌, ◌⊎◌, [], true, IfOk, IfSome, IsErrOf};
 ghost use Rattle.decode_core.specs.Decoding.{opening_fault};
-ghost use Rattle.decode_core.specs.Streaming.{FeedsAll, Forbids, IsOfJob, IsUnderWay, Looks};
-ghost use Rattle.decode_core.specs.Streaming.{StopsOpen, Streams, job_of};
+ghost use Rattle.stream_core.specs.Streaming.{FeedsAll, Forbids, IsOfJob, IsUnderWay, Looks};
+ghost use Rattle.stream_core.specs.Streaming.{StopsOpen, Streams, job_of};
 ghost use Rattle.decode_core.specs.declared.fault.OpenFault.{OpenFault};
-ghost use Rattle.decode_core.specs.declared.stream.StreamFault.TheVariants.{Decode, Device, Open};
+ghost use Rattle.stream_core.specs.declared.stream.StreamFault.TheVariants.{Decode, Device, Open};
 
-use crate::decoder::{Decoder, Progress};
-use crate::fault::{DecodeFault, OpenFault};
+use decode_core::{DecodeFault, Decoder, OpenFault, Progress};
 use registry_core::TypeId;
 use scale_core::{Source, SourceFault};
 use std::alloc::Allocator;

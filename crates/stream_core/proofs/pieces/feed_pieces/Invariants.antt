@@ -1,6 +1,6 @@
 use Rattle.std.proofs.Common.{◌≡◌, take, flat_map}
-use Rattle.decode_core.specs.Streaming.{IsUnderWay}
-use Rattle.decode_core.proofs.pieces.feed_pieces.Given as goal
+use Rattle.stream_core.specs.Streaming.{IsUnderWay}
+use Rattle.stream_core.proofs.pieces.feed_pieces.Given as goal
 
 abbrev pub invariant-pieces : goal.invariant-pieces
 invariant-pieces g l = record {

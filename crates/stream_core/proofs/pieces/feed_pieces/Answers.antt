@@ -1,11 +1,11 @@
 use Rattle.std.proofs.Common.{◌∙◌, ℕ, List, [], Bor, ap, flat_map, get_or, subst, sym, take}
 use Rattle.std.proofs.lemmas.List.{take_all}
 use Rattle.std.proofs.lemmas.Result.{err_from_is_err_and}
-use Rattle.decode_core.specs.Streaming.{IsUnderWay}
-use Rattle.decode_core.proofs.calls.Answering.{fed_all, fed_whole, joined_at, joined_next}
-use Rattle.decode_core.proofs.calls.Answering.{refused_within}
-use Rattle.decode_core.proofs.calls.Streaming.{more_by, under_way_by, whole_by}
-use Rattle.decode_core.proofs.pieces.feed_pieces.Goals as goal
+use Rattle.stream_core.specs.Streaming.{IsUnderWay}
+use Rattle.stream_core.proofs.Answering.{fed_all, fed_whole, joined_at, joined_next}
+use Rattle.stream_core.proofs.Answering.{refused_within}
+use Rattle.stream_core.proofs.Streaming.{more_by, under_way_by, whole_by}
+use Rattle.stream_core.proofs.pieces.feed_pieces.Goals as goal
 
 pub returns-in_err-feed-clause-refused : goal.returns-in_err-feed-clause-refused
 returns-in_err-feed-clause-refused g c =

@@ -2,11 +2,11 @@ use Rattle.std.proofs.Common.{Bool, Ok, ap, subst, ◌∙◌}
 use Rattle.std.proofs.lemmas.Result.{err_from_is_err_and}
 use Rattle.decode_core.specs.Decoding.{Decoding, first_of_all, opening_fault}
 use Rattle.decode_core.specs.Outcome.{Job}
-use Rattle.decode_core.specs.Streaming.{FeedsAll, job_of}
-use Rattle.decode_core.proofs.calls.Answering.{end_streams, fault_streams, stopped_open}
-use Rattle.decode_core.proofs.calls.Answering.{value_streams}
-use Rattle.decode_core.proofs.calls.Streaming.{opened}
-use Rattle.decode_core.proofs.stream.decode_all.Goals as goal
+use Rattle.stream_core.specs.Streaming.{FeedsAll, job_of}
+use Rattle.stream_core.proofs.Answering.{end_streams, fault_streams, stopped_open}
+use Rattle.stream_core.proofs.Answering.{value_streams}
+use Rattle.stream_core.proofs.Streaming.{opened}
+use Rattle.stream_core.proofs.stream.decode_all.Goals as goal
 
 pub returns-in_err-feed_all-clause-answers : goal.returns-in_err-feed_all-clause-answers
 returns-in_err-feed_all-clause-answers g c =

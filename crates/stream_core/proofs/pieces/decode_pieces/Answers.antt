@@ -1,10 +1,10 @@
 use Rattle.std.proofs.Common.{ap, ◌∙◌}
 use Rattle.std.proofs.lemmas.Result.{err_from_is_err_and}
 use Rattle.decode_core.specs.Decoding.{Decoding, first_of_all, opening_fault}
-use Rattle.decode_core.specs.Streaming.{job_of}
-use Rattle.decode_core.proofs.calls.Answering.{joins_fault, joins_refused, joins_value}
-use Rattle.decode_core.proofs.calls.Streaming.{opened}
-use Rattle.decode_core.proofs.pieces.decode_pieces.Goals as goal
+use Rattle.stream_core.specs.Streaming.{job_of}
+use Rattle.stream_core.proofs.Answering.{joins_fault, joins_refused, joins_value}
+use Rattle.stream_core.proofs.Streaming.{opened}
+use Rattle.stream_core.proofs.pieces.decode_pieces.Goals as goal
 
 pub returns-in_err-feed_pieces : goal.returns-in_err-feed_pieces
 returns-in_err-feed_pieces g c =

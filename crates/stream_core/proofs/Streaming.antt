@@ -12,14 +12,14 @@ use Rattle.grammar_core.specs.Tree.{Tree}
 use Rattle.decode_core.specs.Decoding.{AnswersPiece, Decoding, FinishesDecoder, IsEnded, Led}
 use Rattle.decode_core.specs.Decoding.{OpensDecoder, first_of_all}
 use Rattle.decode_core.specs.Outcome.{Job, done, more, IsOutcome}
-use Rattle.decode_core.specs.Streaming.{EndsAt, FeedsAll, Forbids, IsUnderWay, LeavesOpen, Looks}
-use Rattle.decode_core.specs.Streaming.{StopsOpen, Trails}
+use Rattle.stream_core.specs.Streaming.{EndsAt, FeedsAll, Forbids, IsUnderWay, LeavesOpen, Looks}
+use Rattle.stream_core.specs.Streaming.{StopsOpen, Trails}
 use Rattle.decode_core.specs.declared.decoder.Progress.{Progress}
 use Rattle.decode_core.specs.declared.decoder.Progress.TheVariants as progress
 use Rattle.decode_core.specs.declared.fault.DecodeFault.{DecodeFault}
 use Rattle.decode_core.specs.declared.fault.OpenFault.{OpenFault}
-use Rattle.decode_core.specs.declared.stream.StreamFault.{StreamFault}
-use Rattle.decode_core.specs.declared.stream.StreamFault.TheVariants as stream
+use Rattle.stream_core.specs.declared.stream.StreamFault.{StreamFault}
+use Rattle.stream_core.specs.declared.stream.StreamFault.TheVariants as stream
 use Rattle.decode_core.proofs.calls.Feeding.{ended_stays}
 use Rattle.decode_core.proofs.lists.Kept.{outcome_is_kept}
 use Rattle.decode_core.proofs.lists.Outcomes.{one_outcome}
