@@ -84,7 +84,7 @@ typedef struct scaleview_session {
 } scaleview_session;
 
 /* Opens the registry that all the bytes hold; with `metadata` they begin with a chain's metadata, version 14 or 15, whose
- * registry it is, and what follows the registry is not looked at. The bytes are not kept.
+ * registry it is, and what follows the registry is not read. The bytes are not kept.
  *
  * `registry` is none before, else the answer is SCALEVIEW_TAKEN. After SCALEVIEW_OK it is a registry that the caller closes,
  * and `answer->length` is the number of its types. Else SCALEVIEW_MEMORY or a code of SCALEVIEW_REGISTRY_*, and it stays

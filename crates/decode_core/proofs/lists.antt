@@ -11,7 +11,7 @@ pub mod HeldBound
 pub mod ByFault
 pub mod MoreIs
 pub mod Mets
-pub mod Tells
+pub mod Reports
 pub mod Owns
 pub mod MachineTurns
 pub mod Left
@@ -23,4 +23,4 @@ pub mod Holds
 pub mod Fed
 pub mod ReadFronts
 pub mod Targets
-pub mod ToldSpells
+pub mod ReportedSpells

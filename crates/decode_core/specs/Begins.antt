@@ -4,9 +4,9 @@ use Rattle.registry_core.specs.declared.type_info.TypeInfo.{TypeInfo}
 use Rattle.grammar_core.specs.Begun.{Begun, IsPart, Grows}
 use Rattle.value_core.specs.Built.{Entry}
 use Rattle.grammar_core.specs.Begun.{IsBegunPreorder}
-use Rattle.decode_core.specs.Told.{Fault, told, shown, told_at}
+use Rattle.decode_core.specs.Reported.{Fault, reported, shown, reported_at}
 
--- the nodes of a begun tree are there, and its next type fails on the bytes behind its own, with
+-- the nodes of a begun tree are there, and its next type fails on the bytes after its own, with
 -- the room that there is
 pub record Begins (r : List TypeInfo) (room t : ℕ) (b : List ℕ) (xs : List Entry) (e : Fault) : Type
     0 where
@@ -18,9 +18,9 @@ pub record Begins (r : List TypeInfo) (room t : ℕ) (b : List ℕ) (xs : List E
   pub is : b ≡ own ++ e.1
   pub grows : Grows r room t tree own (Some (below, next))
   pub shows : IsBegunPreorder tree (shown xs)
-  pub meets : told_at r below next e.1 ≡ told [] (Err e)
+  pub meets : reported_at r below next e.1 ≡ reported [] (Err e)
 
 -- what was added before a fault is a begun tree
 abbrev pub FaultIsBegun : Type 0
 FaultIsBegun = (r : List TypeInfo) (room t : ℕ) (b : List ℕ) (xs : List Entry) (e : Fault) →
-    told_at r room t b ≡ told xs (Err e) → Begins r room t b xs e
+    reported_at r room t b ≡ reported xs (Err e) → Begins r room t b xs e

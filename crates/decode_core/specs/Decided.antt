@@ -3,7 +3,7 @@ use Rattle.std.specs.Prelude.{◌≡◌, ℕ, ◌<◌, ◌≤◌, List, [], ◌+
 use Rattle.registry_core.specs.declared.type_info.TypeInfo.{TypeInfo}
 use Rattle.grammar_core.specs.Reading.{Refusal, truncated}
 use Rattle.decode_core.specs.Machine.{State, remain}
-use Rattle.decode_core.specs.Told.{told}
+use Rattle.decode_core.specs.Reported.{reported}
 
 -- the first m bytes decide the fault, and fewer do not
 pub record Decided (r : List TypeInfo) (s : State) (x : List ℕ) (e : Refusal) (left : List ℕ)
@@ -11,7 +11,7 @@ pub record Decided (r : List TypeInfo) (s : State) (x : List ℕ) (e : Refusal) 
   pub within : m ≤ length x
   pub low : length left ≤ length x
   pub back : List ℕ
-  pub holds : remain r s (take m x) ≡ told [] (Err ((e, back), take m x))
+  pub holds : remain r s (take m x) ≡ reported [] (Err ((e, back), take m x))
   pub is : left ≡ back ++ drop m x
   pub least : (i : ℕ) → i < m → (l : List ℕ)
-      × (remain r s (take i x) ≡ told [] (Err ((truncated, l), take i x)))
+      × (remain r s (take i x) ≡ reported [] (Err ((truncated, l), take i x)))

@@ -24,7 +24,7 @@ use Rattle.decode_core.specs.Reasons.{reason_of}
 use Rattle.decode_core.specs.Running.{Running, held_of, state_of}
 use Rattle.decode_core.specs.Held.{open_run}
 use Rattle.decode_core.specs.Holds.{Holds}
-use Rattle.decode_core.specs.Told.{told, told_at, shown}
+use Rattle.decode_core.specs.Reported.{reported, reported_at, shown}
 use Rattle.decode_core.specs.Turned.{IsSound, TurnsLead, WantsBytes, WantsMemory}
 use Rattle.decode_core.specs.declared.decoder.Fed.{Fed}
 use Rattle.decode_core.specs.declared.decoder.Fed.TheVariants as fed
@@ -71,8 +71,8 @@ pub record IsOf (j : Job) (s : Running) : Type 0 where
 -- its nodes are all that these bytes add before they end
 pub record IsWaiting (j : Job) (b : List ℕ) (s : Running) : Type 0 where
   pub wants : WantsBytes s
-  pub reads : told_at j.registry (suc j.depth) j.ty b
-      ≡ told s.built.entries (Err ((truncated, wants.left), held_of s))
+  pub reads : reported_at j.registry (suc j.depth) j.ty b
+      ≡ reported s.built.entries (Err ((truncated, wants.left), held_of s))
   pub sound : IsSound s
 
 -- these bytes are those of the nodes and then those that are held, and more may follow
@@ -89,7 +89,7 @@ pub record IsGoing (j : Job) (b : List ℕ) (s : Running) (n : ℕ) : Type 0 whe
 -- a value stands on the front of these bytes, and it is whole
 pub record IsDone (j : Job) (b : List ℕ) (s : Running) (n : ℕ) : Type 0 where
   pub same : IsOf j s
-  pub whole : (x : List ℕ) → remain j.registry (state_of s.built) x ≡ told [] (Ok x)
+  pub whole : (x : List ℕ) → remain j.registry (state_of s.built) x ≡ reported [] (Ok x)
   pub nothing : held_of s ≡ []
   pub is_whole : is_whole s.built ≡ true
   pub sound : IsSound s
@@ -133,7 +133,7 @@ AnswersPiece old new b (Ok (progress.Done used)) = (s : Running) × (new.run ≡
 AnswersPiece old new b (Err f) = (new.run ≡ Err f) × IsEnded new.job b f new.taken
 
 -- what is held at More: the one begun tree that these bytes make, its nodes and no others, and the
--- bytes behind its own, which
+-- bytes after its own, which
 -- are too few for the node that is missing first; texts and runs of bytes have the bytes of the
 -- tree's, and of an open one those that came past its length
 pub record HoldsOf (j : Job) (b : List ℕ) (s : Running) : Type 0 where
@@ -210,7 +210,7 @@ pub record IsKept (old new : Decoding) : Type 0 where
   pub taken : new.taken ≡ old.taken
   pub run : new.run ≡ old.run
 
--- where the value is told to be whole it is there
+-- where the value is reported to be whole it is there
 abbrev pub HasValue : Decoding → Result Progress DecodeFault → Type 0
 HasValue d (Ok (progress.Done used)) = (s : Running) × (d.run ≡ Ok s) × (is_whole s.built ≡ true)
 HasValue d _ = Unit {0}
@@ -260,7 +260,7 @@ open_nodes d = elim d.run [ Ok s ↦ length s.built.walk.frames - 1 | Err f ↦ 
 abbrev pub carried : Decoding → ℕ
 carried d = elim d.run [ Ok s ↦ length s.carry | Err f ↦ 0 ]
 
--- what is held is little for the bytes taken, the depth limit and the width of the registry, and so
+-- what is held is bounded by the bytes taken, the depth limit and the width of the registry, and so
 -- are the turns
 pub record IsSmall (d : Decoding) : Type 0 where
   pub nodes : node_count d ≤ node_bound d.taken d.job.depth (widest d.job.registry)

@@ -4,7 +4,7 @@ pub mod Holds
 pub mod Bound
 pub mod Held
 pub mod Met
-pub mod Told
+pub mod Reported
 pub mod Machine
 pub mod Begins
 pub mod Needs

@@ -5,7 +5,7 @@ use Rattle.registry_core.specs.declared.type_info.TypeInfo.{TypeInfo}
 use Rattle.grammar_core.specs.Reading.{Refusal, basic}
 use Rattle.grammar_core.specs.Parts.{Part, times}
 use Rattle.value_core.specs.Built.{Entry}
-use Rattle.decode_core.specs.Told.{Told, added, rest_told}
+use Rattle.decode_core.specs.Reported.{Reported, added, rest_reported}
 
 -- the nodes so far, the parts that are still to be read, the innermost first, and the room that its
 -- values have
@@ -15,8 +15,8 @@ pub record State : Type 0 where
   pub pending : List Part
 
 -- what the state will add of these bytes
-abbrev pub remain : List TypeInfo → State → List ℕ → Told
-remain r s x = rest_told r s.room s.pending x
+abbrev pub remain : List TypeInfo → State → List ℕ → Reported
+remain r s x = rest_reported r s.room s.pending x
 
 abbrev pub start : ℕ → ℕ → State
 start depth t = record { nodes = []; room = suc depth; pending = times 1 t ∷ [] }

@@ -11,8 +11,8 @@ use Rattle.registry_core.specs.declared.primitive.Primitive.{Primitive}
 use Rattle.grammar_core.specs.declared.form.Form.{Form}
 use Rattle.grammar_core.specs.declared.form.Form.TheVariants as form
 
--- one byte tells that a compact is too long for its target, and else it names how long the compact
--- is
+-- one byte reports that a compact is too long for its target, and else it names how long the
+-- compact is
 abbrev pub compact_need : Target → ℕ → ℕ
 compact_need m first = if is_too_long m first then 1 else form_len first
 

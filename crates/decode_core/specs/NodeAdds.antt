@@ -13,7 +13,7 @@ use Rattle.grammar_core.specs.Runs.{run_form, run_length_at}
 use Rattle.grammar_core.specs.declared.form.Form.{Form}
 use Rattle.decode_core.specs.Machine.{is_cut}
 use Rattle.decode_core.specs.Reasons.{reason_of}
-use Rattle.decode_core.specs.Told.{own_at}
+use Rattle.decode_core.specs.Reported.{own_at}
 use Rattle.decode_core.specs.declared.fault.DecodeReason.{DecodeReason}
 use Rattle.decode_core.specs.declared.run.OpenRun.{OpenRun}
 use Rattle.decode_core.specs.declared.node.NodeFault.{NodeFault}
@@ -37,8 +37,8 @@ IsAdded old new own = (x : Head × Option Part) × (own_at (next_layout old) own
 
 -- the next node is refused for this reason, at this place from its first byte
 abbrev pub IsRefused : Built → List ℕ → DecodeReason → ℕ → Type 0
-IsRefused b own told at = (e : Refusal) × (left : List ℕ)
-    × (own_at (next_layout b) own ≡ Err (e, left)) × (is_cut e ≡ false) × (told ≡ reason_of e)
+IsRefused b own reported at = (e : Refusal) × (left : List ℕ)
+    × (own_at (next_layout b) own ≡ Err (e, left)) × (is_cut e ≡ false) × (reported ≡ reason_of e)
     × (at ≡ place own left)
 
 -- the bytes spell the next node, and nothing else
@@ -48,7 +48,7 @@ IsSpelled b own = (x : Head × Option Part) × (own_at (next_layout b) own ≡ O
 -- what the next node's bytes make of a value; memory is refused only for a node that they spell
 abbrev pub AddsNode : Built → Built → List ℕ → Result (Unit {0}) NodeFault → Type 0
 AddsNode old new own (Ok _) = IsAdded old new own
-AddsNode old new own (Err (fault.Refused told at)) = IsRefused old own told at × (new ≡ old)
+AddsNode old new own (Err (fault.Refused reported at)) = IsRefused old own reported at × (new ≡ old)
 AddsNode old new own (Err fault.OutOfMemory) = IsSpelled old own × (new ≡ old)
 
 -- the same of bytes that spell it
@@ -63,7 +63,8 @@ AddsBare old new added = AddsBytes old new [] added
 -- what the bytes of a run's length make of it; no memory is wanted for them
 abbrev pub OpensRun : RunKind → Built → Built → List ℕ → Result ℕ NodeFault → Type 0
 OpensRun k old new own (Ok n) = (run_length_at k own ≡ Ok (n, [])) × (new ≡ with_run_opened old k n)
-OpensRun k old new own (Err (fault.Refused told at)) = IsRefused old own told at × (new ≡ old)
+OpensRun k old new own (Err (fault.Refused reported at)) =
+    IsRefused old own reported at × (new ≡ old)
 OpensRun k old new own (Err fault.OutOfMemory) = ⊥
 
 -- the bytes are the length of the run that is next, which is open and lacks all its bytes
@@ -77,7 +78,8 @@ abbrev pub TakesNode : Form → Built → Built → Option OpenRun → List ℕ 
     Result (Unit {0}) NodeFault → Type 0
 TakesNode f old new kept own (Ok _) = (IsAdded old new own × (kept ≡ None))
     ⊎ IsRunOpened f old new kept own
-TakesNode f old new kept own (Err (fault.Refused told at)) = IsRefused old own told at × (new ≡ old)
+TakesNode f old new kept own (Err (fault.Refused reported at)) =
+    IsRefused old own reported at × (new ≡ old)
     × (kept ≡ None)
 TakesNode f old new kept own (Err fault.OutOfMemory) = IsSpelled old own × (new ≡ old)
     × (kept ≡ None)

@@ -1,4 +1,4 @@
--- The reason of a fault, as the decoder tells it.
+-- The reason of a fault, as the decoder reports it.
 use Rattle.scale_core.specs.declared.fault.Reason.TheVariants as scale
 use Rattle.grammar_core.specs.declared.form.StopReason.{StopReason}
 use Rattle.grammar_core.specs.declared.form.StopReason.TheVariants as stop

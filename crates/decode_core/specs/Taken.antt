@@ -1,4 +1,4 @@
--- How many bytes decide a refusal: those up to the byte that tells it, and with it.
+-- How many bytes decide a refusal: those up to the byte that reports it, and with it.
 use Rattle.std.specs.Prelude.{ℕ, zero, suc, ◌+◌, List, [], ◌∷◌, Option, Some, None, Ok, Err}
 use Rattle.std.specs.Prelude.{if◌then◌else◌}
 use Rattle.scale_core.specs.Read.{Read, place, compact_at, is_too_long, form_len}
@@ -23,7 +23,7 @@ abbrev pub taken_after : {E X : Type 0} → List ℕ → Read E X → ℕ → (X
 taken_after b (Ok x) own next = place b x.1 + next x
 taken_after b (Err e) own next = own
 
--- one byte tells that a compact is too long for its target; else it is there whole
+-- one byte reports that a compact is too long for its target; else it is there whole
 abbrev pub compact_taken : Target → List ℕ → ℕ
 compact_taken m [] = 0
 compact_taken m (first ∷ rest) = if is_too_long m first then 1 else form_len first

@@ -17,7 +17,7 @@ use Rattle.decode_core.specs.Machine.{State, remain, to_go, is_cut}
 use Rattle.decode_core.specs.NodeAdds.{IsSpelled}
 use Rattle.decode_core.specs.Reasons.{reason_of}
 use Rattle.decode_core.specs.Running.{Running, IsCarry, IsRunNext, state_of, held_of}
-use Rattle.decode_core.specs.Told.{told, after, own_at}
+use Rattle.decode_core.specs.Reported.{reported, after, own_at}
 use Rattle.decode_core.specs.declared.node.NodeFault.{NodeFault}
 use Rattle.decode_core.specs.declared.node.NodeFault.TheVariants as fault
 use Rattle.decode_core.specs.declared.turned.Stopped.{Stopped}
@@ -30,14 +30,14 @@ types_in s = s.built.walk.types
 
 -- the bytes c lead from one state to the next, whatever follows them; and frames and nodes are few
 pub record TurnLeads (r : List TypeInfo) (s s' : State) (c : List ℕ) : Type 0 where
-  pub tells : (more : List ℕ) →
+  pub reports : (more : List ℕ) →
       after s.nodes (remain r s (c ++ more)) ≡ after s'.nodes (remain r s' more)
   pub level : s'.room + length s'.pending ≡ s.room + length s.pending
   pub paid : length s'.pending + 2 * length s.nodes + 1 ≤ length s.pending + 2 * length s'.nodes
 
 -- the bytes c lead from one state to another in any number of turns
 pub record TurnsLead (r : List TypeInfo) (s s' : State) (c : List ℕ) : Type 0 where
-  pub tells : (more : List ℕ) →
+  pub reports : (more : List ℕ) →
       after s.nodes (remain r s (c ++ more)) ≡ after s'.nodes (remain r s' more)
   pub level : s'.room + length s'.pending ≡ s.room + length s.pending
 
@@ -52,7 +52,7 @@ pub record Moves (old new : Running) (bytes : List ℕ) : Type 0 where
   pub same : IsSame old new
   pub own : List ℕ
   pub is : held_of old ++ bytes ≡ own ++ held_of new
-  pub tells : (more : List ℕ) →
+  pub reports : (more : List ℕ) →
       after (state_of old.built).nodes (remain (types_in old) (state_of old.built) (own ++ more))
       ≡ after (state_of new.built).nodes (remain (types_in old) (state_of new.built) more)
   pub level : (state_of new.built).room + length (state_of new.built).pending
@@ -72,13 +72,14 @@ pub record WantsBytes (s : Running) : Type 0 where
 -- why no turn follows, where rest is left of the piece
 abbrev pub EndsTurns : Running → List ℕ → Stopped → Type 0
 EndsTurns s rest stop.Finished =
-    ((x : List ℕ) → remain (types_in s) (state_of s.built) x ≡ told [] (Ok x)) × (held_of s ≡ [])
+    ((x : List ℕ) → remain (types_in s) (state_of s.built) x ≡ reported [] (Ok x))
+    × (held_of s ≡ [])
     × (is_whole s.built ≡ true)
 EndsTurns s rest stop.Wants = (rest ≡ []) × WantsBytes s
-EndsTurns s rest (stop.Refused held told_reason at len) = let x = held_of s ++ rest in
-    (e : Refusal) × (left : List ℕ) × (is_cut e ≡ false) × (told_reason ≡ reason_of e)
+EndsTurns s rest (stop.Refused held reported_reason at len) = let x = held_of s ++ rest in
+    (e : Refusal) × (left : List ℕ) × (is_cut e ≡ false) × (reported_reason ≡ reason_of e)
     × (held ≡ length (held_of s)) × (at ≡ length x - length left)
-    × (remain (types_in s) (state_of s.built) x ≡ told [] (Err ((e, left), x)))
+    × (remain (types_in s) (state_of s.built) x ≡ reported [] (Err ((e, left), x)))
     × Decided (types_in s) (state_of s.built) x e left len × (held ≤ len)
 
 -- the bytes that are held and these spell the next node
@@ -112,17 +113,17 @@ Steps old new bytes = ((1 ≤ length bytes) × (state_of new.built ≡ state_of 
     (held_of old ++ bytes) × (length new.built.entries ≡ suc (length old.built.entries)))
 
 -- what a turn does, by its step
-abbrev pub StepTells : Running → Running → List ℕ → Turned → Type 0
-StepTells old new piece (turned.On n) = (n ≤ length piece) × IsSame old new
+abbrev pub StepReports : Running → Running → List ℕ → Turned → Type 0
+StepReports old new piece (turned.On n) = (n ≤ length piece) × IsSame old new
     × Steps old new (take n piece)
-StepTells old new piece (turned.Stopped (stop.Refused held told_reason at len)) =
-    EndsTurns old piece (stop.Refused held told_reason at len)
-StepTells old new piece (turned.Stopped s) = (new ≡ old) × EndsTurns old piece s
-StepTells old new piece turned.OutOfMemory = WantsMemory old piece
+StepReports old new piece (turned.Stopped (stop.Refused held reported_reason at len)) =
+    EndsTurns old piece (stop.Refused held reported_reason at len)
+StepReports old new piece (turned.Stopped s) = (new ≡ old) × EndsTurns old piece s
+StepReports old new piece turned.OutOfMemory = WantsMemory old piece
 
 -- what stands after the turns end: what stood before the last one, but for a node that is refused
 abbrev pub StandsAfter : Stopped → Running → Running → Type 0
-StandsAfter (stop.Refused held told_reason at len) before new = Unit {0}
+StandsAfter (stop.Refused held reported_reason at len) before new = Unit {0}
 StandsAfter s before new = new ≡ before
 
 -- what holds of every value on its way: a begun tree is built, no more nodes are open than the
@@ -135,8 +136,8 @@ pub record IsSound (s : Running) : Type 0 where
   pub run_next : IsRunNext s.built s.carry s.built.run
 
 -- what turns on a piece do, of which n bytes were taken
-abbrev pub FeedTells : Running → Running → List ℕ → ℕ → Stopped → Type 0
-FeedTells old new piece n s = (n ≤ length piece)
+abbrev pub FeedReports : Running → Running → List ℕ → ℕ → Stopped → Type 0
+FeedReports old new piece n s = (n ≤ length piece)
     × ((last : Running) × Moves old last (take n piece) × EndsTurns last (drop n piece) s
     × StandsAfter s last new × IsSound last)
 
@@ -168,7 +169,7 @@ pub record StopsShort (old new : Running) (piece : List ℕ) (n from to : ℕ) :
   pub closed : new.built.turns ≡ last.built.turns
 
 abbrev pub StopCounts : Running → Running → List ℕ → ℕ → ℕ → ℕ → Stopped → Type 0
-StopCounts old new piece from to n (stop.Refused held told_reason at len) =
+StopCounts old new piece from to n (stop.Refused held reported_reason at len) =
     StopsShort old new piece n from to
 StopCounts old new piece from to n s = FewTurns old new n from to
 
@@ -185,7 +186,7 @@ pub record Awaits (s : Running) (f : Form) : Type 0 where
 
 -- turns on a piece, of which those before the last one took n bytes and did not stop, and what the
 -- last one did
-pub record TurnsTell (old new : Running) (piece : List ℕ) (from to n : ℕ) (last : Turned)
+pub record TurnsReport (old new : Running) (piece : List ℕ) (from to n : ℕ) (last : Turned)
     : Type 0 where
   pub before : Running
   pub within : n ≤ length piece
@@ -193,36 +194,36 @@ pub record TurnsTell (old new : Running) (piece : List ℕ) (from to n : ℕ) (l
   pub nearer : left_to_do before (drop n piece) ≤ left_to_do old piece
   pub few : FewTurns old before n from to
   pub sound : IsSound before
-  pub tells : StepTells before new (drop n piece) last
+  pub reports : StepReports before new (drop n piece) last
   pub kept : KeepsTurns before new last
   pub whole : is_whole old.built ≡ true →
       (n ≡ 0) × (before ≡ old) × (last ≡ turned.Stopped stop.Finished)
 
 -- a turn that needs no bytes
-abbrev pub BareTells : Running → Running → Turned → Type 0
-BareTells old new (turned.On n) = (n ≡ 0) × IsSame old new × Steps old new []
-BareTells old new (turned.Stopped s) = ⊥
-BareTells old new turned.OutOfMemory = (rest : List ℕ) → WantsMemory old rest
+abbrev pub BareReports : Running → Running → Turned → Type 0
+BareReports old new (turned.On n) = (n ≡ 0) × IsSame old new × Steps old new []
+BareReports old new (turned.Stopped s) = ⊥
+BareReports old new turned.OutOfMemory = (rest : List ℕ) → WantsMemory old rest
 
 -- what a turn did that took the next node's own bytes
 abbrev pub node_turned : Result (Unit {0}) NodeFault → ℕ → ℕ → ℕ → Turned
 node_turned (Ok u) held count len = turned.On count
-node_turned (Err (fault.Refused told_reason at)) held count len =
-    turned.Stopped (stop.Refused held told_reason at len)
+node_turned (Err (fault.Refused reported_reason at)) held count len =
+    turned.Stopped (stop.Refused held reported_reason at len)
 node_turned (Err fault.OutOfMemory) held count len = turned.OutOfMemory
 
 -- a turn that takes bytes of the piece for an open run
-abbrev pub PieceTells : Running → Running → List ℕ → Turned → Type 0
-PieceTells old new piece (turned.On n) = (n ≤ length piece) × IsSame old new
+abbrev pub PieceReports : Running → Running → List ℕ → Turned → Type 0
+PieceReports old new piece (turned.On n) = (n ≤ length piece) × IsSame old new
     × (1 ≤ length (take n piece)) × (state_of new.built ≡ state_of old.built)
     × (held_of new ≡ held_of old ++ take n piece)
-PieceTells old new piece (turned.Stopped s) = ⊥
-PieceTells old new piece turned.OutOfMemory = WantsMemory old piece
+PieceReports old new piece (turned.Stopped s) = ⊥
+PieceReports old new piece turned.OutOfMemory = WantsMemory old piece
 
 -- a turn that ends a run, whatever follows it
-abbrev pub EndTells : Running → Running → Turned → Type 0
-EndTells old new (turned.On n) = (n ≡ 0) × IsSame old new × Steps old new []
-EndTells old new (turned.Stopped (stop.Refused held told_reason at len)) = (rest : List ℕ) →
-    EndsTurns old rest (stop.Refused held told_reason at len)
-EndTells old new (turned.Stopped s) = ⊥
-EndTells old new turned.OutOfMemory = (rest : List ℕ) → WantsMemory old rest
+abbrev pub EndReports : Running → Running → Turned → Type 0
+EndReports old new (turned.On n) = (n ≡ 0) × IsSame old new × Steps old new []
+EndReports old new (turned.Stopped (stop.Refused held reported_reason at len)) = (rest : List ℕ) →
+    EndsTurns old rest (stop.Refused held reported_reason at len)
+EndReports old new (turned.Stopped s) = ⊥
+EndReports old new turned.OutOfMemory = (rest : List ℕ) → WantsMemory old rest

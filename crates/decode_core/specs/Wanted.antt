@@ -4,12 +4,12 @@ use Rattle.std.specs.Prelude.{◌≡◌, ◌⊎◌, ℕ, suc, ◌≤◌, List, [
 use Rattle.value_core.specs.Built.{Entry}
 use Rattle.decode_core.specs.Decoding.{RanOut}
 use Rattle.decode_core.specs.Outcome.{Job, more, IsOutcome}
-use Rattle.decode_core.specs.Told.{Told, after, told_at}
+use Rattle.decode_core.specs.Reported.{Reported, after, reported_at}
 
 -- whatever follows these bytes, these nodes are read first
 abbrev pub AreRead : Job → List ℕ → List Entry → Type 0
-AreRead j b nodes = (later : List ℕ) → (rest : Told)
-    × (told_at j.registry (suc j.depth) j.ty (b ++ later) ≡ after nodes rest)
+AreRead j b nodes = (later : List ℕ) → (rest : Reported)
+    × (reported_at j.registry (suc j.depth) j.ty (b ++ later) ≡ after nodes rest)
 
 -- more bytes are wanted, of which one is there; or a node is read after those that were there, and
 -- no byte is wanted for it

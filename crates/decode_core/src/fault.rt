@@ -43,10 +43,10 @@ pub enum DecodeReason {
     /// A part is a bit sequence, whose values are left out.
     #[error("BitSequence")]
     BitSequence,
-    /// A part is a compact that stands over no unsigned integer.
+    /// A part is a compact that wraps no unsigned integer.
     #[error("BadCompact")]
     BadCompact,
-    /// The value goes on behind the limit of bytes.
+    /// The value goes on after the limit of bytes.
     #[error("TooLong")]
     TooLong,
     /// Memory was refused.

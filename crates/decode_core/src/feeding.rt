@@ -3,7 +3,7 @@
 ghost use Rattle.std.specs.Prelude.{true, ◌≡◌, IfErr, IfOk, Ok};
 ghost use Rattle.value_core.specs.Refusals.{is_whole};
 ghost use Rattle.decode_core.specs.NodeForms.{form_of_bytes};
-ghost use Rattle.decode_core.specs.Turned.{Awaits, FeedCounts, FeedTells, RunsOut, TurnsTell};
+ghost use Rattle.decode_core.specs.Turned.{Awaits, FeedCounts, FeedReports, RunsOut, TurnsReport};
 
 use crate::forms::{BareForm, BytesForm, compact_form, primitive_form};
 use crate::run::Run;
@@ -35,7 +35,7 @@ impl<'r, A: Allocator> Run<'r, A> {
     ) -> (usize, Turned)
         requires own { form_of_bytes own ≡ form }
         requires next { Awaits self.old form }
-        ensures { TurnsTell self.old self.new piece.now turns.old.so_far turns.new.so_far
+        ensures { TurnsReport self.old self.new piece.now turns.old.so_far turns.new.so_far
             result.0 result.1 }
     {
         let mut at = 0;
@@ -54,7 +54,7 @@ impl<'r, A: Allocator> Run<'r, A> {
 
     /// Takes one turn, and counts it.
     fn one_turn(&mut self, piece: &[u8], turns: &mut Count) -> (usize, Turned)
-        ensures { TurnsTell self.old self.new piece.now turns.old.so_far turns.new.so_far
+        ensures { TurnsReport self.old self.new piece.now turns.old.so_far turns.new.so_far
             result.0 result.1 }
     {
         turns.tick();
@@ -65,7 +65,7 @@ impl<'r, A: Allocator> Run<'r, A> {
     #[inline(always)]
     fn integers(&mut self, primitive: Primitive, piece: &[u8], turns: &mut Count) -> (usize, Turned)
         requires { Awaits self.old (Form.Primitive primitive) }
-        ensures { TurnsTell self.old self.new piece.now turns.old.so_far turns.new.so_far
+        ensures { TurnsReport self.old self.new piece.now turns.old.so_far turns.new.so_far
             result.0 result.1 }
     {
         let form = Form::Primitive(primitive);
@@ -76,7 +76,7 @@ impl<'r, A: Allocator> Run<'r, A> {
     #[inline(always)]
     fn compacts(&mut self, target: Target, piece: &[u8], turns: &mut Count) -> (usize, Turned)
         requires { Awaits self.old (Form.Compact target) }
-        ensures { TurnsTell self.old self.new piece.now turns.old.so_far turns.new.so_far
+        ensures { TurnsReport self.old self.new piece.now turns.old.so_far turns.new.so_far
             result.0 result.1 }
     {
         self.repeat(Form::Compact(target), compact_form(target), piece, turns)
@@ -86,7 +86,7 @@ impl<'r, A: Allocator> Run<'r, A> {
     /// last one took, and what the last one did. Each arm names its form anew, so that its turns are made for it alone.
     #[inline(always)]
     fn take_turns(&mut self, piece: &[u8], turns: &mut Count) -> (usize, Turned)
-        ensures { TurnsTell self.old self.new piece.now turns.old.so_far turns.new.so_far
+        ensures { TurnsReport self.old self.new piece.now turns.old.so_far turns.new.so_far
             result.0 result.1 }
     {
         match self.next_form() {
@@ -120,7 +120,7 @@ impl<'r, A: Allocator> Run<'r, A> {
         piece: &[u8],
         turns: &mut Count,
     ) -> Result<(usize, Stopped), usize>
-        ensures tells { IfOk result (λ x. FeedTells self.old self.new piece.now x.0 x.1) }
+        ensures reports { IfOk result (λ x. FeedReports self.old self.new piece.now x.0 x.1) }
         ensures short { IfErr result (λ n. RunsOut self.old piece.now n) }
         ensures whole { is_whole self.old.built ≡ true → (result ≡ Ok (0, Stopped.Finished))
             × (self.new ≡ self.old) }

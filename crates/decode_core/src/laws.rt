@@ -47,7 +47,7 @@ pub fn outcome_is_kept()
     ensures { OutcomeIsKept }
 {}
 
-/// What is held of an input is little for the bytes taken.
+/// What is held of an input is bounded by the bytes taken.
 pub fn held_is_bounded()
     ensures { HeldIsBounded }
 {}

@@ -9,8 +9,8 @@ ghost use Rattle.value_core.specs.Refusals.{is_whole};
 ghost use Rattle.decode_core.specs.Needs.{AreOwn, IsFirst, IsNeeded};
 ghost use Rattle.decode_core.specs.NodeForms.{form_of_bare, form_of_bytes};
 ghost use Rattle.decode_core.specs.NodeAdds.{TakesNode};
-ghost use Rattle.decode_core.specs.Turned.{BareTells, Awaits, EndTells, IsSound, KeepsTurns};
-ghost use Rattle.decode_core.specs.Turned.{PieceTells, StepTells, node_turned};
+ghost use Rattle.decode_core.specs.Turned.{BareReports, Awaits, EndReports, IsSound, KeepsTurns};
+ghost use Rattle.decode_core.specs.Turned.{PieceReports, StepReports, node_turned};
 
 use crate::carry::Carry;
 use crate::fault::DecodeReason;
@@ -141,7 +141,7 @@ impl<'r, A: Allocator> Run<'r, A> {
     pub(crate) fn bare_turn(&mut self, form: BareForm) -> Turned
         requires next { next_of self.old.built.walk ≡ Next.Wants (form_of_bare form) }
         requires closed { self.old.built.run ≡ None }
-        ensures tells { BareTells self.old self.new result }
+        ensures reports { BareReports self.old self.new result }
         ensures kept { KeepsTurns self.old self.new result }
     {
         match add_bare(&mut self.builder, form) {
@@ -168,7 +168,7 @@ impl<'r, A: Allocator> Run<'r, A> {
         requires closed { self.old.built.run ≡ None }
         requires empty { self.old.carry ≡ [] }
         requires whole { AreOwn (form_of_bytes form) own.now }
-        ensures tells { (rest : List ℕ) → StepTells self.old self.new (own.now ++ rest) result }
+        ensures reports { (rest : List ℕ) → StepReports self.old self.new (own.now ++ rest) result }
         ensures kept { KeepsTurns self.old self.new result }
     {
         let taken = take_node(&mut self.builder, &mut self.open_run, form, own);
@@ -185,7 +185,7 @@ impl<'r, A: Allocator> Run<'r, A> {
         requires len { IsNeeded (form_of_bytes form) len (self.old.carry ++ piece.now) }
         requires short { length self.old.carry < len }
         requires bound { len ≤ 32 }
-        ensures tells { StepTells self.old self.new piece.now result }
+        ensures reports { StepReports self.old self.new piece.now result }
         ensures kept { KeepsTurns self.old self.new result }
     {
         let held = self.carry.as_slice().len();
@@ -209,7 +209,7 @@ impl<'r, A: Allocator> Run<'r, A> {
         requires next { next_of self.old.built.walk ≡ Next.Wants (form_of_bytes form) }
         requires closed { self.old.built.run ≡ None }
         requires carried { IsCarry self.old.built self.old.carry }
-        ensures tells { StepTells self.old self.new piece.now result }
+        ensures reports { StepReports self.old self.new piece.now result }
         ensures kept { KeepsTurns self.old self.new result }
     {
         if piece.is_empty() {
@@ -227,7 +227,7 @@ impl<'r, A: Allocator> Run<'r, A> {
     pub(crate) fn byte_array_turn(&mut self, len: u32, piece: &[u8]) -> Turned
         requires next { next_of self.old.built.walk ≡ Next.Wants (Form.ByteArray len) }
         requires closed { self.old.built.run ≡ None }
-        ensures tells { StepTells self.old self.new piece.now result }
+        ensures reports { StepReports self.old self.new piece.now result }
         ensures kept { KeepsTurns self.old self.new result }
     {
         let count = len as usize;
@@ -251,7 +251,7 @@ impl<'r, A: Allocator> Run<'r, A> {
     fn run_turn(&mut self, run: OpenRun, piece: &[u8]) -> Turned
         requires next { IsRunNext self.old.built self.old.carry self.old.built.run }
         requires open { IsKeptRun self.old.built.run (Some run) }
-        ensures tells { StepTells self.old self.new piece.now result }
+        ensures reports { StepReports self.old self.new piece.now result }
         ensures kept { KeepsTurns self.old self.new result }
     {
         if run.missing == 0 {
@@ -269,7 +269,7 @@ impl<'r, A: Allocator> Run<'r, A> {
         requires open { IsKeptRun self.old.built.run (Some run) }
         requires lacks { 1 ≤ run.missing }
         requires there { 1 ≤ length piece.now }
-        ensures tells { PieceTells self.old self.new piece.now result }
+        ensures reports { PieceReports self.old self.new piece.now result }
         ensures kept { KeepsTurns self.old self.new result }
     {
         let count = piece.len().min(run.missing as usize);
@@ -290,7 +290,7 @@ impl<'r, A: Allocator> Run<'r, A> {
         requires next { IsRunNext self.old.built self.old.carry self.old.built.run }
         requires open { IsKeptRun self.old.built.run (Some run) }
         requires whole { run.missing ≡ 0 }
-        ensures tells { EndTells self.old self.new result }
+        ensures reports { EndReports self.old self.new result }
         ensures kept { KeepsTurns self.old self.new result }
     {
         if let Some(valid) = self.builder.bad_text() {
@@ -317,7 +317,7 @@ impl<'r, A: Allocator> Run<'r, A> {
         requires next { next_of self.old.built.walk ≡ Next.Wants form }
         requires closed { self.old.built.run ≡ None }
         requires carried { IsCarry self.old.built self.old.carry }
-        ensures tells { StepTells self.old self.new piece.now result }
+        ensures reports { StepReports self.old self.new piece.now result }
         ensures kept { KeepsTurns self.old self.new result }
     {
         match form {
@@ -336,7 +336,7 @@ impl<'r, A: Allocator> Run<'r, A> {
 
     /// One turn: takes bytes of the piece, adds a node, or stops.
     pub(crate) fn turn(&mut self, piece: &[u8]) -> Turned
-        ensures tells { StepTells self.old self.new piece.now result }
+        ensures reports { StepReports self.old self.new piece.now result }
         ensures kept { KeepsTurns self.old self.new result }
         ensures sound { IsSound self.old }
         ensures whole { is_whole self.old.built ≡ true → result ≡ Turned.Stopped Stopped.Finished }

@@ -10,7 +10,7 @@ FitsRoom room g next = (begun_levels g ≤ room)
     × ((left u : ℕ) → next ≡ Some (left, u) → (is_whole_tree g ≡ false)
     × (left + begun_depth g ≡ room)) × (next ≡ None → is_whole_tree g ≡ true)
 
--- where what is missing first is told twice and is the same, the room for it is the same
+-- where what is missing first is reported twice and is the same, the room for it is the same
 room_is : (p q : ℕ × ℕ) → Some p ≡ Some q → p.0 ≡ q.0
 room_is p q e = ap (λ (x : Option (ℕ × ℕ)). elim x [ Some n ↦ n.0 | None ↦ 0 ]) e
 
@@ -26,7 +26,7 @@ missing (in_list n vs g) h = refl
 never_whole : {X : Type 0} (g : Begun) → IsPart g → is_whole_tree g ≡ true → X
 never_whole g part e = let no = sym (missing g part) ∙ e in absurd cc
 
--- a begun tree fits its room, and tells the depth of what is missing, or that nothing is
+-- a begun tree fits its room, and reports the depth of what is missing, or that nothing is
 pub begun_trees_fit : BegunTreesFit
 unfolding Grows
 begun_trees_fit r room t nothing b next h = (

@@ -11,7 +11,7 @@ use Rattle.grammar_core.specs.Laws.{NextPartFails, NextElementFails, PartsFail}
 use Rattle.grammar_core.proofs.Sound.{value_takes}
 use Rattle.grammar_core.proofs.Complete.{value_again}
 
--- where a value and those behind it fail and the value was read, those behind it fail so
+-- where a value and those after it fail and the value was read, those after it fail so
 then_fails : (v : Tree) (read : Read Refusal Trees) (e : Refusal × List ℕ) →
     (read >>= λ others. Ok (and v others.0, others.1)) ≡ Err e → read ≡ Err e
 then_fails v (Ok x) e h = absurd cc
@@ -27,7 +27,7 @@ refused_is x y e = cc
 abbrev One : List TypeInfo → ℕ → ℕ → Tree → List ℕ → Type 0
 One r room t v c = Val r t v c × (levels v ≤ room)
 
--- where a list of parts fails, some values stand on the front and the next part fails behind them
+-- where a list of parts fails, some values stand on the front and the next part fails after them
 next_part : (r : List TypeInfo) (room : ℕ) (ts input : List ℕ) (reason : Refusal) (left : List ℕ) →
     all_at (value_at r room) ts input ≡ Err (reason, left) →
     NextPartFails r room ts input reason left
@@ -72,7 +72,7 @@ next_part r room (t ∷ ts) input reason left e =
             s.10,
           )
 
--- where values stand on the front and the next part fails behind them, the list of parts fails so
+-- where values stand on the front and the next part fails after them, the list of parts fails so
 part_fails : (r : List TypeInfo) (room : ℕ) (front : List ℕ) (u : ℕ) (back : List ℕ) (vs : Trees)
     (b c : List ℕ) (e : Refusal × List ℕ) → Vals r front vs b → most_levels vs ≤ room →
     value_at r room u c ≡ Err e → all_at (value_at r room) (front ++ u ∷ back) (b ++ c) ≡ Err e
@@ -88,7 +88,7 @@ part_fails r room (t ∷ front) u back (and v vs) b c e h l f =
       part_fails r room front u back vs h.1 c e h.4 (omega arith) f,
     ) refl
 
--- where elements fail, fewer than all stand on the front and the next one fails behind them
+-- where elements fail, fewer than all stand on the front and the next one fails after them
 next_element : (r : List TypeInfo) (room n t : ℕ) (input : List ℕ) (reason : Refusal)
     (left : List ℕ) → times_at (value_at r room) n t input ≡ Err (reason, left) →
     NextElementFails r room n t input reason left

@@ -64,9 +64,9 @@ run_takes k b = bind_takes (IsRunLength k) (SpellsRun k) b (run_length_at k b) _
           let len : length x.0 ≡ n = rw (h.2.1, ← at.0) at.1 in
           (h.0, h.1, (c, rw len is, h.2.2, rw (h.2.0, append-nil, at.0, h.2.1) refl))
 
--- ---- more bytes behind it
+-- ---- more bytes after it
 
--- bytes behind a length that is read, and behind one that is refused, change nothing of it
+-- bytes after a length that is read, and after one that is refused, change nothing of it
 pub length_extends : (k : RunKind) (b more : List ℕ) →
     Extends reason.Truncated more (run_length_at k b) (run_length_at k (b ++ more))
 length_extends kind.Text b more = compact_extends target.U32 b more

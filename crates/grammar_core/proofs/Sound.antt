@@ -27,7 +27,7 @@ use Rattle.grammar_core.specs.Tree.{most_levels}
 use Rattle.grammar_core.specs.Grammar.{Val, Vals, Each}
 use Rattle.grammar_core.specs.Reading.{value_at, layout_at, bool_value_at, char_from, all_at}
 use Rattle.grammar_core.specs.Reading.{times_at}
-use Rattle.grammar_core.specs.Reading.{fields_behind_index, arms_at, elements_at, as_leaf}
+use Rattle.grammar_core.specs.Reading.{fields_after_index, arms_at, elements_at, as_leaf}
 use Rattle.grammar_core.specs.Reading.{with_children, Refusal, basic}
 
 -- a leaf that is read stood on the front where what it is made of did
@@ -108,11 +108,11 @@ char_takes r room t b (Ok x) f h =
     (Err (basic reasons.BadChar, b))
     (λ e. (h.0, h.1, ((f, h.2.1, ap number h.2.0, e), omega arith))) (λ e. tt)
 
--- the fields of the arm found for an index stood on the front behind it, as a value of the variant
+-- the fields of the arm found for an index stood on the front after it, as a value of the variant
 arm_takes : (r : List TypeInfo) (room t : ℕ) (child : ℕ → List ℕ → Read Refusal Tree) →
     ChildTakes r room child → (arms : List Arm) → layout r t ≡ layout.arms arms →
     (i : ℕ) (b : List ℕ) (found : Option (ℕ × Arm)) → arm_of arms i ≡ found →
-    Takes (One r (suc room) t) (i ∷ b) (fields_behind_index child (i ∷ b) found b)
+    Takes (One r (suc room) t) (i ∷ b) (fields_after_index child (i ∷ b) found b)
 unfolding Val
 arm_takes r room t child h arms f i b None e = tt
 arm_takes r room t child h arms f i b (Some a) e =
@@ -122,7 +122,7 @@ arm_takes r room t child h arms f i b (Some a) e =
     (all_takes r room child h (field_types a.1.fields) b) (λ vs c vals.
     ((arms, i, a.1, c, f, e, refl, vals.0), omega arith)))
 
--- a value of an arm that is read stood on the front, behind its index, where each child did
+-- a value of an arm that is read stood on the front, after its index, where each child did
 arms_takes : (r : List TypeInfo) (room t : ℕ) (child : ℕ → List ℕ → Read Refusal Tree) →
     ChildTakes r room child → (arms : List Arm) → layout r t ≡ layout.arms arms → (b : List ℕ) →
     Takes (One r (suc room) t) b (arms_at child arms b)
@@ -130,7 +130,7 @@ arms_takes r room t child h arms f [] = tt
 arms_takes r room t child h arms f (i ∷ b) =
     arm_takes r room t child h arms f i b (arm_of arms i) refl
 
--- elements that are read behind a length stood on the front with it, where each child did
+-- elements that are read after a length stood on the front with it, where each child did
 elements_takes : (r : List TypeInfo) (room t u : ℕ) (child : ℕ → List ℕ → Read Refusal Tree) →
     ChildTakes r room child → layout r t ≡ layout.sequence u → (b : List ℕ) (read : Read Reason ℕ) →
     Takes (IsCompact target.U32) b read → Takes (One r (suc room) t) b (elements_at child u read)

@@ -187,13 +187,13 @@ compact_is r t target.U128 x b e h = sym h.1
 
 -- ---- the index of an arm
 
--- an arm that stands behind others is at the position that is their number
+-- an arm that stands after others is at the position that is their number
 get_at : (before : List Arm) (a : Arm) (after : List Arm) →
     slice_get (before ++ a ∷ after) (length before) ≡ Some a
 get_at [] a after = refl
 get_at (x ∷ before) a after = get_at before a after
 
--- the arm that is found for an index stands among the arms at the position that is told
+-- the arm that is found for an index stands among the arms at the position that is reported
 arm_get : (arms : List Arm) (i q : ℕ) (a : Arm) → arm_of arms i ≡ Some (q, a) →
     slice_get arms q ≡ Some a
 arm_get arms i q a e =
@@ -210,7 +210,7 @@ index_at arms i q a e =
 
 -- ---- what stands in front of children
 
--- where a type is laid out by arms, its definition tells the index of the arm that is found
+-- where a type is laid out by arms, its definition reports the index of the arm that is found
 pub arm_byte : (r : List TypeInfo) (t : ℕ) (arms : List Arm) (i q : ℕ) (a : Arm) →
     layout r t ≡ layout.arms arms → arm_of arms i ≡ Some (q, a) →
     index_byte (index_of (shape r t) q) ≡ i ∷ []
@@ -301,6 +301,6 @@ mutual
         spells_each r t vs h.1 (rest_bytes h.0 h.1 q) h.4,
       ) (sym h.2)
 
--- bytes that spell a value by the grammar are those of its nodes, one behind the other
+-- bytes that spell a value by the grammar are those of its nodes, one after the other
 pub encoded_is_value : EncodedIsValue
 encoded_is_value = spells

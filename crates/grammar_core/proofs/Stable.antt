@@ -1,4 +1,4 @@
--- More bytes behind the input change no value and no fault but a missing end.
+-- More bytes after the input change no value and no fault but a missing end.
 use Rattle.std.proofs.Common.{ℕ, zero, suc, List, [], ◌∷◌, ◌++◌, Option, Some, None, Ok, Err, refl}
 use Rattle.std.proofs.Common.{ap}
 use Rattle.scale_core.specs.Number.{number, signed_number, is_scalar}
@@ -21,7 +21,7 @@ use Rattle.grammar_core.specs.Tree.{Leaf, Branch, Tree, unsigned, signed, wide, 
 use Rattle.grammar_core.specs.Tree.{arm, list, count, Trees}
 use Rattle.grammar_core.specs.Reading.{value_at, layout_at, leaf_at, bool_value_at, char_from}
 use Rattle.grammar_core.specs.Reading.{all_at}
-use Rattle.grammar_core.specs.Reading.{times_at, fields_behind_index, arms_at, elements_at, as_leaf}
+use Rattle.grammar_core.specs.Reading.{times_at, fields_after_index, arms_at, elements_at, as_leaf}
 use Rattle.grammar_core.specs.Reading.{with_children, Refusal, basic, truncated}
 
 -- a leaf is read in the same way from a longer input where what it is made of is
@@ -78,11 +78,11 @@ char_extends b more (Err e) s h = λ ne. rw (h (λ eq. ne (ap basic eq))) refl
 char_extends b more (Ok x) s h =
     rw h (cond_extends truncated more (is_scalar (number x.0)) _ _ _ _ refl (λ ne. refl))
 
--- the fields behind an index are read in the same way from a longer input where each child is
+-- the fields after an index are read in the same way from a longer input where each child is
 arm_extends : (more : List ℕ) (child : ℕ → List ℕ → Read Refusal Tree) → ChildExtends more child →
     (at b : List ℕ) (found : Option (ℕ × Arm)) →
-    Extends truncated more (fields_behind_index child at found b)
-    (fields_behind_index child (at ++ more) found (b ++ more))
+    Extends truncated more (fields_after_index child at found b)
+    (fields_after_index child (at ++ more) found (b ++ more))
 arm_extends more child h at b None = λ ne. refl
 arm_extends more child h at b (Some a) =
     with_children_extends (arm a.0) more _ _ (all_extends more child h (field_types a.1.fields) b)
@@ -94,7 +94,7 @@ arms_extends : (more : List ℕ) (child : ℕ → List ℕ → Read Refusal Tree
 arms_extends more child h arms [] = λ ne. absurd (ne refl)
 arms_extends more child h arms (i ∷ b) = arm_extends more child h (i ∷ b) b (arm_of arms i)
 
--- elements behind a length are read in the same way from a longer input where they and it are
+-- elements after a length are read in the same way from a longer input where they and it are
 elements_extends : (more : List ℕ) (child : ℕ → List ℕ → Read Refusal Tree) →
     ChildExtends more child → (t : ℕ) (read read' : Read Reason ℕ) →
     Extends reasons.Truncated more read read' →
@@ -103,7 +103,7 @@ elements_extends more child h t (Err e) s k = λ ne. rw (k (λ eq. ne (ap basic 
 elements_extends more child h t (Ok n) s k =
     rw k (with_children_extends list more _ _ (times_extends more child h n.0 t n.1))
 
--- more bytes behind a value without parts
+-- more bytes after a value without parts
 leaf_extends : (more : List ℕ) (p : Plain) (b : List ℕ) →
     Extends truncated more (leaf_at p b) (leaf_at p (b ++ more))
 leaf_extends more layout.empty b = refl

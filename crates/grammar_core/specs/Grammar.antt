@@ -52,14 +52,14 @@ unfoldable mutual
       ⊎ ((u : ℕ) × (c rest : List ℕ) × (layout r t ≡ layout.sequence u)
       × IsCompact target.U32 (how_many vs) c × (b ≡ c ++ rest) × Each r u vs rest)
 
-  -- values of these types, one behind the other
+  -- values of these types, one after the other
   pub Vals : List TypeInfo → List ℕ → Trees → List ℕ → Type 0
   Vals r [] none b = b ≡ []
   Vals r (t ∷ ts) none b = ⊥
   Vals r [] (and v vs) b = ⊥
   Vals r (t ∷ ts) (and v vs) b = (b1 b2 : List ℕ) × (b ≡ b1 ++ b2) × Val r t v b1 × Vals r ts vs b2
 
-  -- values of one type, one behind the other
+  -- values of one type, one after the other
   pub Each : List TypeInfo → ℕ → Trees → List ℕ → Type 0
   Each r t none b = b ≡ []
   Each r t (and v vs) b = (b1 b2 : List ℕ) × (b ≡ b1 ++ b2) × Val r t v b1 × Each r t vs b2

@@ -14,7 +14,7 @@ use Rattle.grammar_core.specs.Grammar.{Val, Vals, Each}
 use Rattle.grammar_core.specs.Begun.{Begun, Grows, begun_levels, begun_depth, is_whole_tree}
 use Rattle.grammar_core.specs.Reading.{value_at, all_at, times_at, Refusal, truncated}
 
--- a value that has room for so many levels stands on the front of the input, and rest is behind it
+-- a value that has room for so many levels stands on the front of the input, and rest is after it
 abbrev pub Stands : List TypeInfo → ℕ → ℕ → List ℕ → Tree → List ℕ → Type 0
 Stands r room t input v rest = (front : List ℕ) × (input ≡ front ++ rest) × Val r t v front
     × (levels v ≤ room)

@@ -43,7 +43,7 @@ many one (suc n) hs = let v = one hs in let vs = many one n v.1 in (and v.0 vs.0
 abbrev pub grown : Head → Trees × List Head → Tree × List Head
 grown h vs = (tree_with h vs.0, vs.1)
 
--- the tree that the list begins with, of so many levels at most, and the nodes behind it
+-- the tree that the list begins with, of so many levels at most, and the nodes after it
 abbrev pub grow : ℕ → List Head → Tree × List Head
 grow zero hs = (tree.leaf tree.unit, hs)
 grow (suc k) [] = (tree.leaf tree.unit, [])

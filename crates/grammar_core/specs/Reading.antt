@@ -1,4 +1,4 @@
--- A value read from the front of a list: the value and the bytes behind it, or the fault and the
+-- A value read from the front of a list: the value and the bytes after it, or the fault and the
 -- bytes from its place on.
 use Rattle.std.specs.Prelude.{ℕ, zero, suc, List, [], ◌∷◌, true, false, Option, Some, None, Ok, Err}
 use Rattle.std.specs.Prelude.{if◌then◌else◌}
@@ -54,7 +54,7 @@ char_from at (Ok x) = if is_scalar (number x.0) then Ok (leaf (char (number x.0)
     (basic scale.BadChar, at)
 char_from at (Err e) = Err (basic e.0, e.1)
 
--- a value of each of these types, one behind the other, by a reader of one value
+-- a value of each of these types, one after the other, by a reader of one value
 abbrev pub all_at : (ℕ → ValueReader Tree) → List ℕ → ValueReader Trees
 all_at child [] bytes = Ok (none, bytes)
 all_at child (t ∷ ts) bytes = do
@@ -62,7 +62,7 @@ all_at child (t ∷ ts) bytes = do
   others ← all_at child ts first.1
   Ok (and first.0 others.0, others.1)
 
--- n values of one type, one behind the other
+-- n values of one type, one after the other
 abbrev pub times_at : (ℕ → ValueReader Tree) → ℕ → ℕ → ValueReader Trees
 times_at child zero t bytes = Ok (none, bytes)
 times_at child (suc n) t bytes = do
@@ -71,18 +71,18 @@ times_at child (suc n) t bytes = do
   Ok (and first.0 others.0, others.1)
 
 -- the fields of the arm that the index names, which stands at the front of at
-abbrev pub fields_behind_index : (ℕ → ValueReader Tree) → List ℕ → Option (ℕ × Arm) →
+abbrev pub fields_after_index : (ℕ → ValueReader Tree) → List ℕ → Option (ℕ × Arm) →
     ValueReader Tree
-fields_behind_index child at (Some found) rest =
+fields_after_index child at (Some found) rest =
     with_children (arm found.0) (all_at child (field_types found.1.fields) rest)
-fields_behind_index child at None rest = Err (no_such_variant, at)
+fields_after_index child at None rest = Err (no_such_variant, at)
 
 abbrev pub arms_at : (ℕ → ValueReader Tree) → List Arm → ValueReader Tree
 arms_at child arms [] = Err (truncated, [])
 arms_at child arms (index ∷ rest) =
-    fields_behind_index child (index ∷ rest) (arm_of arms index) rest
+    fields_after_index child (index ∷ rest) (arm_of arms index) rest
 
--- the elements behind a length
+-- the elements after a length
 abbrev pub elements_at : (ℕ → ValueReader Tree) → ℕ → Read Reason ℕ → Read Refusal Tree
 elements_at child t (Ok n) = with_children list (times_at child n.0 t n.1)
 elements_at child t (Err e) = Err (basic e.0, e.1)

@@ -1,4 +1,4 @@
--- The one spelling of a value: the bytes of each node by itself, one behind the other in preorder
+-- The one spelling of a value: the bytes of each node by itself, one after the other in preorder
 -- (SCALE codec, "Types").
 use Rattle.std.specs.Prelude.{◌≡◌, ℕ, suc, ◌-◌, ◌^◌, ℤ, pos, negsuc, List, [], ◌∷◌, ◌++◌, length}
 use Rattle.std.specs.Prelude.{flat_map, Option, Some, None, slice_get, option_map, Bool, true}

@@ -33,7 +33,7 @@ pub enum Form {
     Count,
 }
 
-/// Why no value is read at a place. Where several hold, the first of them in this order is told (this project's own
+/// Why no value is read at a place. Where several hold, the first of them in this order is reported (this project's own
 /// order).
 #[derive(Clone, Copy, Debug, PartialEq, Eq)]
 pub enum StopReason {

@@ -77,7 +77,7 @@ pub arm_has : (n i : ℕ) (arms : List Arm) (a : Arm) (o : Option ℕ) → i < l
 arm_has n i arms a None lt at some is h = absurd cc
 arm_has n i arms a (Some u) lt at some is h = arm_found n arms i a u lt at is h
 
--- an arm without an unknown reference leaves the first to the arms behind it
+-- an arm without an unknown reference leaves the first to the arms after it
 pub arm_lacks : (n i : ℕ) (arms : List Arm) (a : Arm) (o : Option ℕ) → i < length arms →
     a ≡ get_or arms i a → is_some o ≡ false → o ≡ first_unknown n (field_types a.fields) →
     unknown_in n (drop i arms) ≡ unknown_in n arms →
@@ -85,7 +85,7 @@ pub arm_lacks : (n i : ℕ) (arms : List Arm) (a : Arm) (o : Option ℕ) → i <
 arm_lacks n i arms a None lt at none is h = arm_passed n arms i a lt at is h
 arm_lacks n i arms a (Some u) lt at none is h = absurd cc
 
--- types from a position on have the fault of the type there, or else of those behind it
+-- types from a position on have the fault of the type there, or else of those after it
 from_shape : (n k i : ℕ) (r : List TypeInfo) (d : TypeDef) → shape r i ≡ Some d →
     unknown_from n k (drop i r) ≡ fault_or k (first_unknown n (references d))
     (unknown_from n (k + 1) (drop (suc i) r))
@@ -101,7 +101,7 @@ type_has n i r d u total e is h =
     ap (λ (o : Option ℕ). fault_or i o (unknown_from n (i + 1) (drop (suc i) r))) is
     ∙ sym (from_shape n i i r d e) ∙ h
 
--- a type without an unknown reference leaves the first fault to the types behind it
+-- a type without an unknown reference leaves the first fault to the types after it
 pub type_lacks : (n i : ℕ) (r : List TypeInfo) (d : TypeDef) (total : Option (ℕ × ℕ)) →
     shape r i ≡ Some d → None ≡ first_unknown n (references d) →
     unknown_from n i (drop i r) ≡ total → unknown_from n (i + 1) (drop (i + 1) r) ≡ total

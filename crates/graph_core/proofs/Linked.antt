@@ -159,7 +159,7 @@ reads_none a h = record {
   listed = refl;
 }
 
--- references that were read behind others were read with them
+-- references that were read after others were read with them
 pub reads_on : (a b c : Graph) (xs ys ks ls : List ℕ) → ReadsReferences a b xs ks →
     ReadsReferences b c ys ls → ReadsReferences a c (xs ++ ys) (ks ++ ls)
 reads_on a b c xs ys ks ls h k = record {

@@ -13,7 +13,7 @@ use Rattle.graph_core.specs.Counts.{times}
 use Rattle.graph_core.specs.Graphs.{IsUnread, IsMeasured, IsOpened}
 use Rattle.graph_core.specs.Sizes.{AreSizes, arm_count, arm_counts}
 
--- as types are looked at in order, each has one look at most, and those behind have none
+-- as types are looked at in order, each has one look at most, and those after have none
 pub one_more : (i t : ℕ) (log : List ℕ) → (times t log ≤ 1) × (i ≤ t → times t log ≡ 0) →
     (times t (i ∷ log) ≤ 1) × (i + 1 ≤ t → times t (i ∷ log) ≡ 0)
 one_more i t log h = go (i == t) refl where

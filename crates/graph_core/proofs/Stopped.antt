@@ -40,9 +40,9 @@ stops_one a b u past read types opened listed =
       listed = listed;
     }
 
--- ---- references one behind the other
+-- ---- references one after the other
 
--- what holds of each of two lists one behind the other
+-- what holds of each of two lists one after the other
 pub all_front : {X : Type 0} (P : X → Type 0) (xs ys : List X) → AllByRecursion P (xs ++ ys) →
     AllByRecursion P xs × AllByRecursion P ys
 all_front P [] ys h = (tt, h)
@@ -62,10 +62,10 @@ read_known a b xs ks h =
     rw (h.types, h.read) at h.linked.known in
     (all_front (λ t. t < length a.types.now) (refs a) xs known).1
 
--- where references were read and the reading stopped behind them, it stopped in all of them
-stops_behind : (xs ys zs tos ks : List ℕ) (a b c : Graph) (u : ℕ) → tos ≡ xs ++ (ys ++ zs) →
+-- where references were read and the reading stopped after them, it stopped in all of them
+stops_beyond : (xs ys zs tos ks : List ℕ) (a b c : Graph) (u : ℕ) → tos ≡ xs ++ (ys ++ zs) →
     ReadsReferences a b xs ks → StopsAt ys b c u → StopsAt tos a c u
-stops_behind xs ys zs tos ks a b c u e h k = record {
+stops_beyond xs ys zs tos ks a b c u e h k = record {
   front = xs ++ k.front;
   back = k.back ++ zs;
   tos_are = e ∙ ap (λ (ws : List ℕ). xs ++ (ws ++ zs)) k.tos_are
@@ -87,7 +87,7 @@ pub stops_after : (xs ys zs tos ks : List ℕ) (a b c : Graph) (o : Stop) → to
     ReadsReferences a b xs ks → StopsLinking ys b c o → StopsLinking tos a c o
 stops_after xs ys zs tos ks a b c stop.Memory e h k = tt
 stops_after xs ys zs tos ks a b c (stop.Unknown u) e h k =
-    stops_behind xs ys zs tos ks a b c u e h k
+    stops_beyond xs ys zs tos ks a b c u e h k
 
 -- at one of these parts
 pub stops_parts : (a b c : Graph) (s i : ℕ) (ps : List ℕ) (p : ℕ) (o : Stop) → i < length ps →

@@ -1,4 +1,4 @@
--- Unknown references of parts one behind the other.
+-- Unknown references of parts one after the other.
 use Rattle.std.proofs.Common.{◌≡◌, ℕ, ◌+◌, ◌<◌, Bool, true, false, cond, List, [], ◌∷◌, ◌++◌}
 use Rattle.std.proofs.Common.{length, get_or, drop, flat_map, Option, Some, None, refl, sym, ap}
 use Rattle.std.proofs.Common.{◌∙◌}
@@ -48,7 +48,7 @@ arm_found n arms i a u lt at found so_far =
     (flat_map (λ b. field_types b.fields) (drop (i + 1) arms)) u (sym found) in
     sym two ∙ ap (λ (b : Arm). unknown_in n (b ∷ drop (i + 1) arms)) at ∙ sym one ∙ so_far
 
--- an arm without an unknown reference leaves the first to the arms behind it
+-- an arm without an unknown reference leaves the first to the arms after it
 pub arm_passed : (n : ℕ) (arms : List Arm) (i : ℕ) (a : Arm) → i < length arms →
     a ≡ get_or arms i a → None ≡ first_unknown n (field_types a.fields) →
     unknown_in n (drop i arms) ≡ unknown_in n arms →

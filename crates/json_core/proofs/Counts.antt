@@ -29,7 +29,7 @@ use Rattle.json_core.specs.Defined.{defined_arm, composite_fields}
 use Rattle.json_core.specs.Json.{json_seen}
 use Rattle.json_core.specs.Tokens.{data_at}
 use Rattle.json_core.proofs.Children.{AreBelow, children_below}
-use Rattle.json_core.proofs.Told.{defined_at}
+use Rattle.json_core.proofs.Reported.{defined_at}
 
 -- ---- how many children there are
 

@@ -148,7 +148,7 @@ pub counted_keys : (ps : List ℕ) (fs : List Field) (order : List ℕ) → key_
 counted_keys ps fs order e up = e
     ∙ ap Some (up ∙ ap (range_with_len 0) (positions_count fs order e))
 
--- the positions are put behind the others
+-- the positions are put after the others
 pub sorted_keys : (old new : List ℕ) (start : ℕ) (fs : List Field) (order : List ℕ) →
     key_order fs ≡ Some order → new ≡ old ++ order → start ≡ length old →
     AreKeys new fs (keys.Sorted start)

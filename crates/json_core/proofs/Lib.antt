@@ -8,5 +8,5 @@ pub mod Ordered
 pub mod Outputs
 pub mod Placing
 pub mod PlainNames
-pub mod Told
+pub mod Reported
 pub mod Turns

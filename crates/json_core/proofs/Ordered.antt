@@ -111,7 +111,7 @@ split_new true false false d = refl
 split_new false true c d = refl
 split_new false false c d = refl
 
--- the names are new behind an insert where they were new and differ from it
+-- the names are new after an insert where they were new and differ from it
 all_new_insert : (n : List ℕ) (i : ℕ) (ns : List (List ℕ)) (es : Entries) →
     all_new ns (insert n i es) ≡ (all_new ns es && is_new n ns)
 all_new_insert n i [] es = refl
@@ -195,7 +195,7 @@ members_placed f (n ∷ ns) i (d ∷ ds) es h g =
     ∙ sym (members_by-insert f n i es))
     ∙ members_placed f ns (suc i) ds (insert n i es) (omega (arith, h)) g.1
 
--- an empty list has no first element behind any number of others
+-- an empty list has no first element after any number of others
 drop_none : {X : Type 0} (i : ℕ) (x : X) (xs : List X) → drop i [] ≡ x ∷ xs → ⊥
 drop_none zero x xs e = cc
 drop_none (suc i) x xs e = cc

@@ -57,7 +57,7 @@ written w s b l t same says is e = ap (λ x. record { text = x; after_value = en
     (sym (ap (λ c. cond {A = List ℕ} (w.after_value && c) (44 ∷ []) [] ++ (token_text t ++ [])) is
     ∙ ap₂ (λ (a b : List ℕ). a ++ b) (comma_of w.after_value) (append-nil (token_text t)))))
 
--- a token that begins a value or a member is printed by its text, behind a comma where one is due
+-- a token that begins a value or a member is printed by its text, after a comma where one is due
 pub begun : {E : Type 0} (r : Result (Unit {0}) E) (w new : Text) (b : Bool) (l : List ℕ)
     (t : Token) → b ≡ w.after_value → l ≡ token_text t → begins t ≡ true →
     OnOk r (new ≡ put w b l (ends t)) → OnOk r (new ≡ prints w (t ∷ []))
@@ -158,7 +158,7 @@ plain_hex (b ∷ bytes) h (suc zero) l = plain_digit 16 (b % 16) refl (omega ari
 plain_hex (b ∷ bytes) h (suc (suc k)) l =
     plain_hex bytes (λ i. h (suc i)) k (omega (arith, l))
 
--- the hexadecimal digits of bytes behind 0x, in quotes, are printed as one string token
+-- the hexadecimal digits of bytes after 0x, in quotes, are printed as one string token
 pub hex_string : (bytes : List ℕ) → ((i : ℕ) → Fits w8 (get_or bytes i 0)) →
     34 ∷ 48 ∷ 120 ∷ (encode_lower bytes ++ 34 ∷ [])
     ≡ token_text (string (48 ∷ 120 ∷ encode_lower bytes))
@@ -190,7 +190,7 @@ pub comma_utf8 : (b : Bool) → IsUtf8 (cond b (44 ∷ []) [])
 comma_utf8 true = IsUtf8-are_ascii (44 ∷ []) refl
 comma_utf8 false = IsUtf8-nil
 
--- UTF-8 that is placed behind UTF-8 makes all up to its end UTF-8, and lies within the bytes
+-- UTF-8 that is placed after UTF-8 makes all up to its end UTF-8, and lies within the bytes
 pub placed_utf8 : (old new xs : List ℕ) (at end : ℕ) → Placed old new at xs end →
     at ≤ length old → IsUtf8 (take at old) → IsUtf8 xs →
     (end ≤ length new) × IsUtf8 (take end new)

@@ -24,7 +24,7 @@ pub plain_names : (b : Bool) (fs : List Field) → OnTrue b (ArePlain fs) → On
 plain_names true fs h = all_plain fs h
 plain_names false fs h = tt
 
--- if no name needs an escape, none of those behind the first does
+-- if no name needs an escape, none of those after the first does
 pub plain_rest : (b : Bool) (f : Field) (fs : List Field) → OnTrue b (AllPlain (f ∷ fs)) →
     OnTrue b (AllPlain fs)
 plain_rest true f fs h = h.1

@@ -58,7 +58,7 @@ pub record Turn (fs : List Field) (order : List ℕ) (turn p : ℕ) : Type 0 whe
   pub field : IsNamedAt fs p
   pub within : p < length fs
 
--- the position at a turn in a range of the kept positions is the one so far behind its start
+-- the position at a turn in a range of the kept positions is the one so far after its start
 order_at : (ps : List ℕ) (start k turn : ℕ) → turn < k →
     get_or (slice_range ps start (start + k)) turn 0 ≡ get_or ps (start + turn) 0
 order_at ps start k turn h =
@@ -87,11 +87,11 @@ turn_at fs old new start turn p grown keys less named is =
       within = slice_within fs p field.0 field.1;
     }
 
--- the positions behind it are those of fields too
-pub named_behind : (fs : List Field) (order : List ℕ) (turn p : ℕ) → Turn fs order turn p →
+-- the positions after it are those of fields too
+pub named_after : (fs : List Field) (order : List ℕ) (turn p : ℕ) → Turn fs order turn p →
     AllByRecursion (IsNamedAt fs) (drop turn order) →
     AllByRecursion (IsNamedAt fs) (drop (turn + 1) order)
-named_behind fs order turn p t named = (subst (AllByRecursion (IsNamedAt fs)) t.here named).1
+named_after fs order turn p t named = (subst (AllByRecursion (IsNamedAt fs)) t.here named).1
 
 -- the field that is read there has a name
 pub name_read : (fs : List Field) (p : ℕ) (f : Field) → IsNamedAt fs p → f ≡ get_or fs p f →
@@ -128,9 +128,9 @@ pub object_whole : (old begun last new : Text) (all left : Members) (d : Data) �
     ≡ prints begun (members_tokens (members_outline all)) → left ≡ no_members →
     new ≡ prints last (end_object ∷ []) → d ≡ object all →
     new ≡ prints old (json_tokens (outline d))
-object_whole old begun last new all left d begins told none ends is =
+object_whole old begun last new all left d begins reported none ends is =
     let ms = members_tokens (members_outline all) in
-    ends ∙ ap (λ l. prints last (members_tokens (members_outline l))) (sym none) ∙ told
+    ends ∙ ap (λ l. prints last (members_tokens (members_outline l))) (sym none) ∙ reported
     ∙ ap (λ w. prints w ms) begins ∙ prints_again old (begin_object ∷ []) ms
     ∙ ap (λ x. prints old (json_tokens (outline x))) (sym is)
 
@@ -167,8 +167,8 @@ pub array_whole : (old begun last new : Text) (all : Items) →
     begun ≡ prints old (begin_array ∷ []) → prints last (items_tokens (items_outline no_items))
     ≡ prints begun (items_tokens (items_outline all)) → new ≡ prints last (end_array ∷ []) →
     new ≡ prints old (json_tokens (outline (array all)))
-array_whole old begun last new all begins told ends =
-    ends ∙ told ∙ ap (λ w. prints w (items_tokens (items_outline all))) begins
+array_whole old begun last new all begins reported ends =
+    ends ∙ reported ∙ ap (λ w. prints w (items_tokens (items_outline all))) begins
     ∙ prints_again old (begin_array ∷ []) (items_tokens (items_outline all))
 
 -- ---- a count

@@ -90,7 +90,7 @@ AreKeysOf ps (Some fs) k = IsKnown ps fs k
 abbrev pub AreKnownOrders : List TypeInfo → List ℕ → List (Place × Known) → Type 0
 AreKnownOrders r ps es = AllByRecursion (λ e. AreKeysOf ps (fields_at r e.0) e.1) es
 
--- of the same registry, and positions were added behind the others, if any
+-- of the same registry, and positions were added after the others, if any
 pub record Grows (old new : OrdersView) : Type 0 where
   pub types : new.types ≡ old.types
   pub more : List ℕ

@@ -52,7 +52,7 @@ fn keys_of_few(fields: &[Field]) -> Option<Keys>
     }
 }
 
-/// How the values of the fields are shown. The order of names that are out of order is kept behind the positions.
+/// How the values of the fields are shown. The order of names that are out of order is kept after the positions.
 fn find_keys(alloc: Global, fields: &[Field], positions: &mut Vec<u32>) -> Result<Known, AllocError>
     requires { length fields.now < 2 ^ 32 }
     ensures more { (more : List ℕ) × (positions.new.items ≡ positions.old.items ++ more) }

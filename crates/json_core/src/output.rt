@@ -17,19 +17,19 @@ use json::Writer;
 use std::alloc::{AllocError, Global};
 use std::marker::Model;
 
-/// So many zeros at most are put behind a text beside those that a token asks for.
+/// So many zeros at most are put after a text beside those that a token asks for.
 const AHEAD: usize = 16 * 1024;
 
 /// From so many bytes on a text is long.
 const LONG: usize = 1024 * 1024;
 
-/// Zeros that are put behind a text, to be written over.
+/// Zeros that are put after a text, to be written over.
 static ZEROS: [u8; 4096] = [0; 4096];
 
 /// JSON text that grows by tokens: it places the commas and the colons, and leaves the nesting to its caller.
 #[derive(Drop)]
 pub(crate) struct Output {
-    /// The text, and zeros behind it to be written over, so that a token asks for room once.
+    /// The text, and zeros after it to be written over, so that a token asks for room once.
     bytes: Vec<u8>,
     len: usize,
     after_value: bool,
@@ -49,7 +49,7 @@ impl Model for Output {
     ghost invariant = { λ o. (o.len ≤ length o.bytes.items) × IsUtf8 (take o.len o.bytes.items) };
 }
 
-/// Room for so many bytes behind the first `len`.
+/// Room for so many bytes after the first `len`.
 #[inline(always)]
 fn make_room(bytes: &mut Vec<u8>, len: usize, more: usize) -> Result<(), AllocError>
     requires { len ≤ length bytes.old.items }

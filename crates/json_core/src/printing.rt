@@ -22,7 +22,7 @@ const FIRST_ROOM: usize = 256;
 pub enum PrintFault {
     /// Memory was refused. Nothing was written.
     OutOfMemory,
-    /// A write failed; the fault tells how many bytes went out before it.
+    /// A write failed; the fault reports how many bytes went out before it.
     Write(WriteFault),
 }
 
@@ -55,7 +55,7 @@ pub fn json_text<A: Allocator>(alloc: Global, value: &Value<'_, A>) -> Result<St
 /// - `Write` with `WroteNothing`, where the writer takes no byte of a part that is not empty.
 ///
 /// After a failed write the sink has failed for good, and what went out is the beginning of the text, as long as is
-/// told. Otherwise `failed()` stays as it was. The value stays as it was in each case.
+/// reported. Otherwise `failed()` stays as it was. The value stays as it was in each case.
 pub fn print<A: Allocator, W: Write>(
     alloc: Global,
     value: &Value<'_, A>,
@@ -64,7 +64,7 @@ pub fn print<A: Allocator, W: Write>(
     // The whole text went out.
     ensures ok { OnOk result (Appends (W.contents sink.old.device) (W.contents sink.new.device)
         (json_text value.now)) }
-    // A front of it went out, and as much as is told.
+    // A front of it went out, and as much as is reported.
     ensures part { IfErr result (λ f. written_of f ≤ length (json_text value.now)) }
     ensures err { IfErr result (λ f. Appends (W.contents sink.old.device)
         (W.contents sink.new.device) (take (written_of f) (json_text value.now))) }

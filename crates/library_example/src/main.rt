@@ -48,7 +48,7 @@ fn open_registry(alloc: Global, bytes: &[u8]) -> Result<Checked, Failure> {
     Checked::new(alloc, registry).map_err(|(fault, _)| Failure::Check(fault))
 }
 
-/// The account in these pieces: what came of each is told as it comes.
+/// The account in these pieces: what came of each is reported as it comes.
 fn decode_account<'r, W: Write>(
     alloc: Global,
     checked: &'r Checked,
@@ -68,7 +68,7 @@ fn decode_account<'r, W: Write>(
     Ok(decoder.finish()?)
 }
 
-/// Tells the nodes directly below a value's root.
+/// Reports the nodes directly below a value's root.
 fn walk_account<W: Write>(account: &Value<'_, Global>, out: &mut W) -> Result<(), Failure> {
     'parts: for part in account.root().children() {
         match (part.what(), part.text()) {

@@ -237,7 +237,7 @@ type_is = record {
       ) refl;
 }
 
--- types, each behind its position, are read as they are spelled
+-- types, each after its position, are read as they are spelled
 types_again : (r : List TypeInfo) (i : ℕ) (rest : List ℕ) → AllByRecursion FitsType r →
     i + length r ≤ 2 ^ 32 → types_at (length r) i (types_from i r ++ rest) ≡ Ok (r, rest)
 types_again [] i rest h small = refl
@@ -265,7 +265,7 @@ version_again : (v : Version) (rest : List ℕ) → version_at (version_byte v �
 version_again V14 rest = refl
 version_again V15 rest = refl
 
--- what a front with the letters gives is what the version behind them gives
+-- what a front with the letters gives is what the version after them gives
 prefix_again : (v : Version) (rest : List ℕ) →
     prefix_at (magic ++ version_byte v ∷ rest) ≡ Ok (v, rest)
 unfolding prefix_at

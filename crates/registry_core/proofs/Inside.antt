@@ -14,37 +14,37 @@ use Rattle.scale_core.specs.declared.compact.Target.{Target}
 use Rattle.scale_core.specs.declared.compact.Target.TheVariants.{U32 as u32_target}
 use Rattle.scale_core.specs.declared.fault.Reason.{Reason}
 use Rattle.scale_core.specs.declared.fault.Reason.TheVariants as scale
-use Rattle.registry_core.specs.Laws.{IsBehind}
+use Rattle.registry_core.specs.Laws.{IsAfter}
 
 -- the end of the bytes is within them
-pub at_end : (b : List ℕ) → IsBehind b []
+pub at_end : (b : List ℕ) → IsAfter b []
 at_end b = (b, sym (append-nil b))
 
 -- the front of the bytes is within them
-pub at_front : (b : List ℕ) → IsBehind b b
+pub at_front : (b : List ℕ) → IsAfter b b
 at_front b = ([], refl)
 
 -- what is left where some bytes are dropped is within them
-pub behind_drop : (k : ℕ) (b : List ℕ) → IsBehind b (drop k b)
-behind_drop k b = (take k b, sym (take-append-drop k b))
+pub after_drop : (k : ℕ) (b : List ℕ) → IsAfter b (drop k b)
+after_drop k b = (take k b, sym (take-append-drop k b))
 
--- what is left stands behind a front of the input, be it behind a value or from a fault on, and the
+-- what is left stands after a front of the input, be it after a value or from a fault on, and the
 -- fault is so
 abbrev pub Inside : {E X : Type 0} → (E → List ℕ → Type 0) → List ℕ → Read E X → Type 0
-Inside Q b (Ok x) = IsBehind b x.1
-Inside Q b (Err e) = IsBehind b e.1 × Q e.0 e.1
+Inside Q b (Ok x) = IsAfter b x.1
+Inside Q b (Err e) = IsAfter b e.1 × Q e.0 e.1
 
--- what is within the bytes behind a front is within all of them
-pub behind : (b c a left : List ℕ) → b ≡ c ++ a → IsBehind a left → IsBehind b left
+-- what is within the bytes after a front is within all of them
+pub behind : (b c a left : List ℕ) → b ≡ c ++ a → IsAfter a left → IsAfter b left
 behind b c a left e h = (c ++ h.0, rw (e, h.1) (sym (append_assoc c h.0 left)))
 
--- where a fault stands within the bytes behind a front, it stands within all of them
+-- where a fault stands within the bytes after a front, it stands within all of them
 pub after : {E X : Type 0} (Q : E → List ℕ → Type 0) (b c a : List ℕ) (r : Read E X) → b ≡ c ++ a →
     Inside Q a r → Inside Q b r
 after Q b c a (Ok x) e h = behind b c a x.1 e h
 after Q b c a (Err f) e h = (behind b c a f.1 e h.0, h.1)
 
--- where a fault stands within the bytes behind the first, it stands within all of them
+-- where a fault stands within the bytes after the first, it stands within all of them
 pub after_byte : {E X : Type 0} (Q : E → List ℕ → Type 0) (byte : ℕ) (a : List ℕ) (r : Read E X) →
     Inside Q a r → Inside Q (byte ∷ a) r
 after_byte Q byte a r h = after Q (byte ∷ a) (byte ∷ []) a r refl h
@@ -72,12 +72,12 @@ CutAtEnd reason left = reason ≡ scale.Truncated → left ≡ []
 -- a run of bytes that is refused is cut, and its fault stands at the end
 pub bytes_inside : (k : ℕ) (b : List ℕ) → Inside CutAtEnd b (bytes_at k b)
 bytes_inside k b = inside_cond CutAtEnd b (nat_lt (length b) k) (Err (scale.Truncated, []))
-    (Ok (take k b, drop k b)) (at_end b, λ e. refl) (behind_drop k b)
+    (Ok (take k b, drop k b)) (at_end b, λ e. refl) (after_drop k b)
 
 -- a number that is refused is cut, and its fault stands at the end
 pub number_inside : (k : ℕ) (b : List ℕ) → Inside CutAtEnd b (number_at k b)
 number_inside k b = inside_cond CutAtEnd b (nat_lt (length b) k) (Err (scale.Truncated, []))
-    (Ok (number (take k b), drop k b)) (at_end b, λ e. refl) (behind_drop k b)
+    (Ok (number (take k b), drop k b)) (at_end b, λ e. refl) (after_drop k b)
 
 -- the fault of a form stands within the bytes, and at their end where it is cut
 pub form_inside : (m : Target) (b : List ℕ) (r : Read Reason (List ℕ)) → Inside CutAtEnd b r →
@@ -114,7 +114,7 @@ judged_inside from (Err e) h = h
 judged_inside from (Ok text) h =
     inside_cond CutAtEnd from (is_utf8 text.0) (Ok text)
     (Err (scale.BadUtf8, drop (utf8_valid_len text.0) from)) h
-    (behind_drop (utf8_valid_len text.0) from, λ e. absurd cc)
+    (after_drop (utf8_valid_len text.0) from, λ e. absurd cc)
 
 -- the fault of a text stands within the bytes, and at their end where it is cut
 pub text_inside : (b : List ℕ) → Inside CutAtEnd b (text_at b)

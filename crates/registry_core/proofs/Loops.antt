@@ -1,4 +1,4 @@
--- Reading parts one behind the other, as a loop does.
+-- Reading parts one after the other, as a loop does.
 use Rattle.std.proofs.Common.{◌≡◌, ℕ, suc, ◌-◌, ◌+◌, ◌≤◌, ◌<◌, List, [], ◌∷◌, ◌++◌, Ok, Err, refl}
 use Rattle.std.proofs.Common.{sym, ap, ◌∙◌, append_assoc, arith}
 use Rattle.std.proofs.lemmas.List.{append-nil}
@@ -22,7 +22,7 @@ abbrev pub with_front : {X : Type 0} → List X → Read RegistryReason (List X)
     Read RegistryReason (List X)
 with_front front read = read >>= λ x. Ok (front ++ x.0, x.1)
 
--- an element that is read goes to those before it, or in front of those behind it
+-- an element that is read goes to those before it, or in front of those after it
 regroup : {X : Type 0} (front : List X) (x : X) (read : Read RegistryReason (List X)) →
     with_front front (read >>= λ others. Ok (x ∷ others.0, others.1)) ≡ with_front (front ++ x ∷ [])
     read
@@ -63,7 +63,7 @@ is_done part front count i bytes total le so_far =
     rw k (ap (λ (xs : List _). Ok (xs, bytes)) (append-nil front)) in
     sym so_far ∙ one
 
--- ---- types, each behind its position
+-- ---- types, each after its position
 
 -- a turn that reads a position and its type leaves the same list, with one type fewer to read
 pub type_goes_on : (front : List TypeInfo) (count i : ℕ) (bytes behind : List ℕ) (x : TypeInfo)
@@ -89,7 +89,7 @@ id_ends (Fault reason left) front count i bytes total lt h so_far =
     rw (k, h) refl in
     sym so_far ∙ one
 
--- where a type behind its position stops the reading, so stops the list
+-- where a type after its position stops the reading, so stops the list
 pub type_ends : (stop : Stop) (front : List TypeInfo) (count i : ℕ) (bytes behind : List ℕ)
     (total : Read RegistryReason (List TypeInfo)) → i < count
     → id_at i bytes ≡ Ok (i, behind) → StopsReading stop (type_info_at behind)

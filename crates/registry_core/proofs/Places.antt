@@ -8,24 +8,24 @@ use Rattle.scale_core.specs.declared.fault.Reason.{Reason}
 use Rattle.registry_core.specs.declared.reading.stop.Stop.{Stop}
 use Rattle.registry_core.specs.declared.reading.stop.Stop.TheVariants.{Memory, Fault}
 use Rattle.registry_core.specs.Gives.{StopsReading, IsFaultAt}
-use Rattle.registry_core.specs.Laws.{IsBehind}
+use Rattle.registry_core.specs.Laws.{IsAfter}
 use Rattle.registry_core.specs.Reading.{registry_reason_of, lifted}
 use Rattle.registry_core.proofs.Inside.{Inside, CutAtEnd}
 
 -- what is within the bytes is no longer than they are
-pub behind-length : (b left : List ℕ) → IsBehind b left → length left ≤ length b
-behind-length b left h = omega (arith, ap (λ (x : List ℕ). length x) h.1, length-append h.0 left)
+pub after-length : (b left : List ℕ) → IsAfter b left → length left ≤ length b
+after-length b left h = omega (arith, ap (λ (x : List ℕ). length x) h.1, length-append h.0 left)
 
--- what a fault leaves stands behind the fault's place
-pub drop-place : (b left : List ℕ) → IsBehind b left → drop (place b left) b ≡ left
+-- what a fault leaves stands after the fault's place
+pub drop-place : (b left : List ℕ) → IsAfter b left → drop (place b left) b ≡ left
 drop-place b left h =
     let len : place (h.0 ++ left) left ≡ length h.0 = omega (arith, length-append h.0 left) in
     rw (h.1, len) (drop_at h.0 left (length h.0) refl)
 
 -- what an integer or a text leaves where it is refused is within the bytes
-err_behind : {X : Type 0} (b : List ℕ) (read : Read Reason X) (reason : Reason) (left : List ℕ) →
-    Inside CutAtEnd b read → read ≡ Err (reason, left) → IsBehind b left
-err_behind b read reason left h e = (rw e at h).0
+err_after : {X : Type 0} (b : List ℕ) (read : Read Reason X) (reason : Reason) (left : List ℕ) →
+    Inside CutAtEnd b read → read ≡ Err (reason, left) → IsAfter b left
+err_after b read reason left h e = (rw e at h).0
 
 -- a number or a text that is refused, as a part of a registry
 pub stops_at : {X : Type 0} (b : List ℕ) (fault : ScaleFault) (read : Read Reason X) (stop : Stop) →
@@ -33,8 +33,8 @@ pub stops_at : {X : Type 0} (b : List ℕ) (fault : ScaleFault) (read : Read Rea
     (left : List ℕ) × (read ≡ Err (fault.reason, left)) × (fault.at ≡ place b left) →
     IsFaultAt (registry_reason_of fault.reason) (drop fault.at b) stop →
     StopsReading stop (lifted read)
-stops_at b fault read Memory h told is = absurd is
-stops_at b fault read (Fault reason left) h told is =
-    let same = drop-place b told.0 (err_behind b read fault.reason told.0 h told.1) in
-    let from : left.now ≡ told.0 = rw (is.1, told.2) same in
-    rw (told.1, is.0, from) refl
+stops_at b fault read Memory h reported is = absurd is
+stops_at b fault read (Fault reason left) h reported is =
+    let same = drop-place b reported.0 (err_after b read fault.reason reported.0 h reported.1) in
+    let from : left.now ≡ reported.0 = rw (is.1, reported.2) same in
+    rw (reported.1, is.0, from) refl

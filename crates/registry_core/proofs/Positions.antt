@@ -1,4 +1,4 @@
--- Types, each behind its position: one more at the end.
+-- Types, each after its position: one more at the end.
 use Rattle.std.proofs.Common.{◌≡◌, ℕ, ◌+◌, ◌<◌, List, [], ◌∷◌, ◌++◌, length, take, get_or, refl}
 use Rattle.std.proofs.Common.{append_assoc, arith, length-take}
 use Rattle.std.proofs.lemmas.List.{append-nil, take_more}
@@ -18,7 +18,7 @@ types_from-push i k (s ∷ ts) t e =
           (compact k ++ type_info t),
     ) refl
 
--- behind the types before it, a type's position and its spelling come next
+-- after the types before it, a type's position and its spelling come next
 pub types_from-take : (bytes : List ℕ) (ts : List TypeInfo) (k : ℕ) (t : TypeInfo) → k < length ts →
     t ≡ get_or ts k t →
     ((bytes ++ types_from 0 (take k ts)) ++ compact k) ++ type_info t

@@ -35,7 +35,7 @@ fault_rows = record {
   length_claims_too_many_bytes = refl;
 }
 
--- those behind the prefix of metadata
+-- those after the prefix of metadata
 pub metadata_rows : MetadataRows
 unfolding metadata_at prefix_at registry_at type_info_at params_at definition_at texts_at compact_at
     compact

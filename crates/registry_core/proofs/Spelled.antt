@@ -49,7 +49,7 @@ Spelled P spell x c = P x × (c ≡ spell x)
 record Good {X : Type 0} (P : X → Type 0) (spell : X → List ℕ) (part : Reader X) : Type 0 where
   takes : (b : List ℕ) → AreBytes b → Takes (Spelled P spell) b (part b)
 
--- the same bytes are taken where a fault is told as one of a registry
+-- the same bytes are taken where a fault is reported as one of a registry
 lifted_takes : {X : Type 0} (P : X → List ℕ → Type 0) (b : List ℕ) (r : Read Reason X) →
     Takes P b r → Takes P b (lifted r)
 lifted_takes P b (Ok x) h = h
@@ -272,7 +272,7 @@ primitive_takes ((suc (suc
 primitive_takes ((suc (suc
     (suc (suc (suc (suc (suc (suc (suc (suc (suc (suc (suc (suc (suc x))))))))))))))) ∷ b) = tt
 
--- a part behind a definition's byte
+-- a part after a definition's byte
 as_good : {X : Type 0} (P : X → Type 0) (spell : X → List ℕ) (part : Reader X) (make : X → TypeDef)
     (byte : ℕ) → Good P spell part → ((x : X) → P x → FitsDefinition (make x)) →
     ((x : X) → byte ∷ spell x ≡ definition (make x)) → (b : List ℕ) → AreBytes b →
@@ -304,7 +304,7 @@ u32_takes b bytes = cond_takes (λ n c. (n < 2 ^ 32) × (c ≡ le_bytes 4 n)) b 
       ),
     ))
 
--- an array's definition that is read stood on the front behind its mark
+-- an array's definition that is read stood on the front after its mark
 array_takes : (b : List ℕ) → AreBytes b →
     Takes (Spelled FitsDefinition definition) (3 ∷ b) (array_at b)
 unfolding array_at
@@ -317,7 +317,7 @@ array_takes b bytes = then_takes (Spelled FitsDefinition definition) (3 ∷ b) (
     n.1 (type_id_at n.1) _ r1 (id_good.takes n.1 r1)
     (λ t c2 r2 k2. ([], refl, ((k1.0, k2.0), rw (append-nil, k1.1, k2.1) refl)))))
 
--- a bit sequence's definition that is read stood on the front behind its mark
+-- a bit sequence's definition that is read stood on the front after its mark
 bit_sequence_takes : (b : List ℕ) → AreBytes b →
     Takes (Spelled FitsDefinition definition) (7 ∷ b) (bit_sequence_at b)
 unfolding bit_sequence_at
@@ -329,7 +329,7 @@ bit_sequence_takes b bytes =
     n.1 (type_id_at n.1) _ r1 (id_good.takes n.1 r1)
     (λ t c2 r2 k2. ([], refl, ((k1.0, k2.0), rw (append-nil, k1.1, k2.1) refl)))))
 
--- a primitive's definition that is read stood on the front behind its mark
+-- a primitive's definition that is read stood on the front after its mark
 primitive_good : (b : List ℕ) → AreBytes b →
     Takes (Spelled FitsDefinition definition) (5 ∷ b) (as_definition def.Primitive primitive_at b)
 primitive_good b bytes = then_takes (Spelled FitsDefinition definition) (5 ∷ b) (5 ∷ []) b _ refl
@@ -397,7 +397,7 @@ id_takes i b bytes = bind_in (Spelled (λ n. n < 2 ^ 32) compact) (λ n c. c ≡
 three_nil : (a b c : List ℕ) → a ++ (b ++ (c ++ [])) ≡ (a ++ b) ++ c
 three_nil a b c = simp (append_assoc, append-nil)
 
--- types that are read stood on the front, each behind its position
+-- types that are read stood on the front, each after its position
 types_takes : (n i : ℕ) (b : List ℕ) → AreBytes b →
     Takes (λ r c. AllByRecursion FitsType r × (length r ≡ n) × (c ≡ types_from i r)) b
     (types_at n i b)

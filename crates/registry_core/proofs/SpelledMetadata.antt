@@ -39,15 +39,15 @@ letters_take (letter ∷ letters) b bytes =
     (letters_at letters first.1) (letters_take letters first.1 rest)
     (λ read d m. rw (k, m) refl))
 
--- a byte that tells a version is that version's
-told_by : (fourteen fifteen : Bool) (x : ℕ) (v : Version) → (fourteen ≡ true → x ≡ 14) →
+-- a byte that reports a version is that version's
+reported_by : (fourteen fifteen : Bool) (x : ℕ) (v : Version) → (fourteen ≡ true → x ≡ 14) →
     (fifteen ≡ true → x ≡ 15) → cond fourteen (Some V14) (cond fifteen (Some V15) None) ≡ Some v →
     x ≡ version_byte v
-told_by true fifteen x v first second e =
+reported_by true fifteen x v first second e =
     let same : V14 ≡ v = cc in first refl ∙ ap version_byte same
-told_by false true x v first second e =
+reported_by false true x v first second e =
     let same : V15 ≡ v = cc in second refl ∙ ap version_byte same
-told_by false false x v first second e = absurd cc
+reported_by false false x v first second e = absurd cc
 
 -- a version that a byte names stood on the front as this byte
 named_takes : (b : List ℕ) (x : ℕ) (o : Option Version) →
@@ -60,7 +60,7 @@ named_takes b x None h = tt
 version_takes : (b : List ℕ) → Takes (λ v c. c ≡ version_byte v ∷ []) b (version_at b)
 version_takes [] = tt
 version_takes (x ∷ b) = named_takes b x (version_of x)
-    (λ v. told_by (x == 14) (x == 15) x v (eqb-true x 14) (eqb-true x 15))
+    (λ v. reported_by (x == 14) (x == 15) x v (eqb-true x 14) (eqb-true x 15))
 
 -- the prefix of metadata that is read stood on the front: its letters and its version
 prefix_takes : (b : List ℕ) → AreBytes b →

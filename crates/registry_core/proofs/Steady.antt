@@ -15,7 +15,7 @@ use Rattle.registry_core.specs.declared.definition.TypeDef.TheVariants as def
 use Rattle.registry_core.specs.declared.fault.RegistryReason.{RegistryReason}
 use Rattle.registry_core.specs.declared.fault.RegistryReason.TheVariants as registry
 use Rattle.registry_core.specs.Bytes.{primitives}
-use Rattle.registry_core.specs.Laws.{IsBehind}
+use Rattle.registry_core.specs.Laws.{IsAfter}
 use Rattle.registry_core.specs.Reading.{Reader, registry_reason_of, lifted, length_at, repeated}
 use Rattle.registry_core.specs.Reading.{sequence_at}
 use Rattle.registry_core.specs.Reading.{string_at, texts_at, option_at, type_id_at, type_ids_at}
@@ -30,14 +30,14 @@ use Rattle.registry_core.proofs.Inside.{text_inside}
 -- ---- parts
 
 -- a fault of a registry is no want of memory, and a cut leaves nothing
-abbrev pub IsTold : RegistryReason → List ℕ → Type 0
-IsTold reason left = (reason ≢ registry.OutOfMemory) × (reason ≡ registry.Truncated → left ≡ [])
+abbrev pub IsReported : RegistryReason → List ℕ → Type 0
+IsReported reason left = (reason ≢ registry.OutOfMemory) × (reason ≡ registry.Truncated → left ≡ [])
 
 pub record IsSteady {X : Type 0} (part : Reader X) : Type 0 where
-  pub inside : (b : List ℕ) → Inside IsTold b (part b)
+  pub inside : (b : List ℕ) → Inside IsReported b (part b)
   pub extends : (b more : List ℕ) → Extends registry.Truncated more (part b) (part (b ++ more))
 
--- a fault is told as cut only where it was one
+-- a fault is reported as cut only where it was one
 cut : (reason : Reason) → registry_reason_of reason ≡ registry.Truncated → reason ≡ scale.Truncated
 cut scale.Truncated e = refl
 cut scale.BadUtf8 e = absurd cc
@@ -46,7 +46,7 @@ cut scale.CompactTooLarge e = absurd cc
 cut scale.BadBool e = absurd cc
 cut scale.BadChar e = absurd cc
 
--- no fault of an integer or a text is told as want of memory
+-- no fault of an integer or a text is reported as want of memory
 no_memory : (reason : Reason) → registry_reason_of reason ≢ registry.OutOfMemory
 no_memory scale.Truncated e = absurd cc
 no_memory scale.BadUtf8 e = absurd cc
@@ -55,13 +55,14 @@ no_memory scale.CompactTooLarge e = absurd cc
 no_memory scale.BadBool e = absurd cc
 no_memory scale.BadChar e = absurd cc
 
--- a fault stands within the bytes also where it is told as one of a registry
+-- a fault stands within the bytes also where it is reported as one of a registry
 lifted_inside : {X : Type 0} (b : List ℕ) (r : Read Reason X) → Inside CutAtEnd b r →
-    Inside IsTold b (lifted r)
+    Inside IsReported b (lifted r)
 lifted_inside b (Ok x) h = h
 lifted_inside b (Err e) h = (h.0, (no_memory e.0, λ same. h.1 (cut e.0 same)))
 
--- what is read alike from a longer input is so also where its fault is told as one of a registry
+-- what is read alike from a longer input is so also where its fault is reported as one of a
+-- registry
 lifted_extends : {X : Type 0} (more : List ℕ) (r s : Read Reason X) →
     Extends scale.Truncated more r s → Extends registry.Truncated more (lifted r) (lifted s)
 lifted_extends more (Ok x) s h = rw h refl
@@ -104,7 +105,7 @@ word_steady = record {
 }
 
 -- the fault of a byte stands at the end: it is cut
-byte_inside : (b : List ℕ) → Inside IsTold b (byte_at b)
+byte_inside : (b : List ℕ) → Inside IsReported b (byte_at b)
 byte_inside [] = (at_end [], (λ e. absurd cc, λ e. refl))
 byte_inside (x ∷ b) = (x ∷ [], refl)
 
@@ -121,11 +122,11 @@ byte_steady = record { inside = byte_inside; extends = byte_extends }
 pub done_steady : {X : Type 0} (x : X) → IsSteady (λ bytes. Ok (x, bytes))
 done_steady x = record { inside = at_front; extends = λ b more. refl }
 
--- one part behind the other
+-- one part after the other
 pub then_steady : {X Y : Type 0} (first : Reader X) (then : X → Reader Y) → IsSteady first →
     ((x : X) → IsSteady (then x)) → IsSteady (λ bytes. first bytes >>= λ x. then x.0 x.1)
 then_steady first then h k = record {
-  inside = λ b. inside_then IsTold b (first b) (λ x. then x.0 x.1) (h.inside b)
+  inside = λ b. inside_then IsReported b (first b) (λ x. then x.0 x.1) (h.inside b)
       (λ x. (k x.0).inside x.1);
   extends = λ b more. bind_extends registry.Truncated more (first b) (first (b ++ more))
       (λ x. then x.0 x.1) (λ x. then x.0 x.1) (h.extends b more) (λ x. (k x.0).extends x.1 more);
@@ -157,11 +158,11 @@ some_steady part h = then_steady part (λ x bytes. Ok (Some x, bytes)) h (λ x. 
 
 -- the fault of an option stands within the bytes, where its part is steady
 option_inside : {X : Type 0} (part : Reader X) → IsSteady part → (b : List ℕ) →
-    Inside IsTold b (option_at part b)
+    Inside IsReported b (option_at part b)
 option_inside part h [] = (at_end [], (λ e. absurd cc, λ e. refl))
 option_inside part h (zero ∷ b) = (0 ∷ [], refl)
 option_inside part h (suc zero ∷ b) =
-    after_byte IsTold 1 b (part b >>= λ x. Ok (Some x.0, x.1)) ((some_steady part h).inside b)
+    after_byte IsReported 1 b (part b >>= λ x. Ok (Some x.0, x.1)) ((some_steady part h).inside b)
 option_inside part h (suc (suc x) ∷ b) =
     (at_front (suc (suc x) ∷ b), (λ e. absurd cc, λ e. absurd cc))
 
@@ -272,8 +273,8 @@ arms_steady = let s = sequence_steady arm_read_at arm_steady in
 -- a byte that names nothing is a fault within the bytes, neither a cut nor want of memory
 pub named_inside : {X : Type 0} (reason : RegistryReason) (b : List ℕ) (o : Option X)
     (rest : List ℕ) →
-    reason ≢ registry.OutOfMemory → reason ≢ registry.Truncated → IsBehind b rest →
-    Inside IsTold b (named reason b o rest)
+    reason ≢ registry.OutOfMemory → reason ≢ registry.Truncated → IsAfter b rest →
+    Inside IsReported b (named reason b o rest)
 named_inside reason b (Some x) rest no_memory no_cut h = h
 named_inside reason b None rest no_memory no_cut h =
     (at_front b, (no_memory, λ e. absurd (no_cut e)))
@@ -286,7 +287,7 @@ named_extends reason b (Some x) rest more = refl
 named_extends reason b None rest more = λ ne. refl
 
 -- the fault of a primitive stands within the bytes
-primitive_inside : (b : List ℕ) → Inside IsTold b (primitive_at b)
+primitive_inside : (b : List ℕ) → Inside IsReported b (primitive_at b)
 primitive_inside [] = (at_end [], (λ e. absurd cc, λ e. refl))
 primitive_inside (x ∷ b) =
     named_inside registry.BadPrimitive (x ∷ b) (slice_get primitives x) b (λ e. absurd cc)
@@ -332,24 +333,24 @@ bit_sequence_steady =
     record { inside = s.inside; extends = s.extends }
 
 -- the fault of a definition stands within the bytes
-definition_inside : (b : List ℕ) → Inside IsTold b (definition_at b)
+definition_inside : (b : List ℕ) → Inside IsReported b (definition_at b)
 unfolding definition_at
 definition_inside [] = (at_end [], (λ e. absurd cc, λ e. refl))
 definition_inside (zero ∷ b) =
-    after_byte IsTold 0 b _ ((as_steady def.Composite fields_at fields_steady).inside b)
+    after_byte IsReported 0 b _ ((as_steady def.Composite fields_at fields_steady).inside b)
 definition_inside ((suc zero) ∷ b) =
-    after_byte IsTold 1 b _ ((as_steady def.Variant arms_read_at arms_steady).inside b)
+    after_byte IsReported 1 b _ ((as_steady def.Variant arms_read_at arms_steady).inside b)
 definition_inside ((suc (suc zero)) ∷ b) =
-    after_byte IsTold 2 b _ ((as_steady def.Sequence type_id_at id_steady).inside b)
-definition_inside ((suc (suc (suc zero))) ∷ b) = after_byte IsTold 3 b _ (array_steady.inside b)
+    after_byte IsReported 2 b _ ((as_steady def.Sequence type_id_at id_steady).inside b)
+definition_inside ((suc (suc (suc zero))) ∷ b) = after_byte IsReported 3 b _ (array_steady.inside b)
 definition_inside ((suc (suc (suc (suc zero)))) ∷ b) =
-    after_byte IsTold 4 b _ ((as_steady def.Tuple type_ids_at ids_steady).inside b)
+    after_byte IsReported 4 b _ ((as_steady def.Tuple type_ids_at ids_steady).inside b)
 definition_inside ((suc (suc (suc (suc (suc zero))))) ∷ b) =
-    after_byte IsTold 5 b _ ((as_steady def.Primitive primitive_at primitive_steady).inside b)
+    after_byte IsReported 5 b _ ((as_steady def.Primitive primitive_at primitive_steady).inside b)
 definition_inside ((suc (suc (suc (suc (suc (suc zero)))))) ∷ b) =
-    after_byte IsTold 6 b _ ((as_steady def.Compact type_id_at id_steady).inside b)
+    after_byte IsReported 6 b _ ((as_steady def.Compact type_id_at id_steady).inside b)
 definition_inside ((suc (suc (suc (suc (suc (suc (suc zero))))))) ∷ b) =
-    after_byte IsTold 7 b _ (bit_sequence_steady.inside b)
+    after_byte IsReported 7 b _ (bit_sequence_steady.inside b)
 definition_inside ((suc (suc (suc (suc (suc (suc (suc (suc x)))))))) ∷ b) =
     (([], refl), (λ e. absurd cc, λ e. absurd cc))
 
@@ -417,10 +418,10 @@ abbrev tested : ℕ → List ℕ → ℕ × List ℕ → Read RegistryReason ℕ
 tested i bytes id = cond (id.0 == i) (Ok id) (Err (registry.IdOutOfPlace, bytes))
 
 -- a position that is not the wanted one is a fault within the bytes
-tested_inside : (i : ℕ) (b : List ℕ) (r : Read RegistryReason ℕ) → Inside IsTold b r →
-    Inside IsTold b (r >>= tested i b)
+tested_inside : (i : ℕ) (b : List ℕ) (r : Read RegistryReason ℕ) → Inside IsReported b r →
+    Inside IsReported b (r >>= tested i b)
 tested_inside i b (Ok id) h =
-    inside_cond IsTold b (id.0 == i) (Ok id) (Err (registry.IdOutOfPlace, b)) h
+    inside_cond IsReported b (id.0 == i) (Ok id) (Err (registry.IdOutOfPlace, b)) h
     (at_front b, (λ e. absurd cc, λ e. absurd cc))
 tested_inside i b (Err e) h = h
 
@@ -433,7 +434,7 @@ id_at_steady i = record {
       cond_extends registry.Truncated more (id.0 == i) _ _ _ _ refl (λ ne. refl));
 }
 
--- the reading of types, each behind its position, is steady
+-- the reading of types, each after its position, is steady
 types_steady : (n i : ℕ) → IsSteady (types_at n i)
 types_steady zero i = record { inside = at_front; extends = λ b more. refl }
 types_steady (suc n) i =

@@ -10,14 +10,15 @@ use Rattle.registry_core.specs.Reading.{registry_at, letter_at}
 use Rattle.registry_core.specs.Reading.{letters_at, version_at, prefix_at, metadata_at}
 use Rattle.registry_core.proofs.Inside.{at_end, at_front, Inside}
 use Rattle.registry_core.proofs.Inside.{inside_cond}
-use Rattle.registry_core.proofs.Steady.{IsSteady, IsTold, done_steady, named_extends, named_inside}
+use Rattle.registry_core.proofs.Steady.{IsSteady, IsReported, done_steady, named_extends}
+use Rattle.registry_core.proofs.Steady.{named_inside}
 use Rattle.registry_core.proofs.Steady.{registry_steady, then_steady}
 
 -- the fault of a letter stands within the bytes
-letter_inside : (letter : ℕ) (b : List ℕ) → Inside IsTold b (letter_at letter b)
+letter_inside : (letter : ℕ) (b : List ℕ) → Inside IsReported b (letter_at letter b)
 letter_inside letter [] = (at_end [], (λ e. absurd cc, λ e. refl))
 letter_inside letter (x ∷ b) =
-    inside_cond IsTold (x ∷ b) (x == letter) (Ok (tt, b)) (Err (registry.NotMetadata, x ∷ b))
+    inside_cond IsReported (x ∷ b) (x == letter) (Ok (tt, b)) (Err (registry.NotMetadata, x ∷ b))
     (x ∷ [], refl) (at_front (x ∷ b), (λ e. absurd cc, λ e. absurd cc))
 
 -- a letter is read alike from a longer input, where it was not cut
@@ -41,7 +42,7 @@ letters_steady (letter ∷ letters) =
     (λ first. letters_steady letters)
 
 -- the fault of a version stands within the bytes
-version_inside : (b : List ℕ) → Inside IsTold b (version_at b)
+version_inside : (b : List ℕ) → Inside IsReported b (version_at b)
 version_inside [] = (at_end [], (λ e. absurd cc, λ e. refl))
 version_inside (x ∷ b) =
     named_inside registry.WrongVersion (x ∷ b) (version_of x) b (λ e. absurd cc) (λ e. absurd cc)

@@ -15,11 +15,11 @@ use Rattle.registry_core.specs.Reading.{Reader, registry_at, metadata_at}
 use Rattle.registry_core.specs.Laws.{FitsMetadata, ReadIsSpelled, SpelledIsRead, metadata_of}
 use Rattle.registry_core.specs.Spelling.{spelling}
 use Rattle.registry_core.proofs.Again.{spelled_is_read, metadata_again}
-use Rattle.registry_core.proofs.Places.{behind-length, drop-place}
+use Rattle.registry_core.proofs.Places.{after-length, drop-place}
 use Rattle.registry_core.proofs.Spelled.{read_is_spelled}
 use Rattle.registry_core.proofs.SpelledMetadata.{metadata_is_spelled}
 use Rattle.registry_core.proofs.Inside.{Inside}
-use Rattle.registry_core.proofs.Steady.{IsTold, IsSteady, registry_steady}
+use Rattle.registry_core.proofs.Steady.{IsReported, IsSteady, registry_steady}
 use Rattle.registry_core.proofs.SteadyMetadata.{metadata_steady}
 
 -- a list is of bytes where each place of it is below 256
@@ -53,18 +53,18 @@ metadata_codec = record {
 -- ---- where it was read
 
 -- what is left where a part was read is no longer than the bytes
-ok_behind : {X : Type 0} (b : List ℕ) (read : Read RegistryReason X) (x : X) (rest : List ℕ) →
-    Inside IsTold b read → read ≡ Ok (x, rest) → length rest ≤ length b
-ok_behind b read x rest h e = behind-length b rest (rw e at h)
+ok_after : {X : Type 0} (b : List ℕ) (read : Read RegistryReason X) (x : X) (rest : List ℕ) →
+    Inside IsReported b read → read ≡ Ok (x, rest) → length rest ≤ length b
+ok_after b read x rest h e = after-length b rest (rw e at h)
 
 -- what is left where a codec's part was read is no longer than the bytes
 pub ok_within : {X : Type 0} (Fits : X → Type 0) (spell : X → List ℕ) (part : Reader X) →
     IsCodec Fits spell part → (b : List ℕ) (x : X) (rest : List ℕ) →
     part b ≡ Ok (x, rest) → length rest ≤ length b
 ok_within Fits spell part codec b x rest e =
-    ok_behind b (part b) x rest (codec.steady.inside b) e
+    ok_after b (part b) x rest (codec.steady.inside b) e
 
--- what is left stands behind the bytes that were taken, counted as a difference of lengths
+-- what is left stands after the bytes that were taken, counted as a difference of lengths
 pub ok_exact : {X : Type 0} (Fits : X → Type 0) (spell : X → List ℕ) (part : Reader X) →
     IsCodec Fits spell part → (b : List ℕ) (x : X) (rest : List ℕ) →
     part b ≡ Ok (x, rest) →
@@ -109,7 +109,7 @@ pub err_within : {X : Type 0} (Fits : X → Type 0) (spell : X → List ℕ) (pa
     IsWithin b stop
 err_within Fits spell part codec b Memory h = tt
 err_within Fits spell part codec b (Fault reason left) h = let i = codec.steady.inside b in
-    behind-length b left.now (rw h at i).0
+    after-length b left.now (rw h at i).0
 
 -- where a codec's reading stops, the fault is the reading's, at its place
 pub err_exact : {X : Type 0} (Fits : X → Type 0) (spell : X → List ℕ) (part : Reader X) →

@@ -27,13 +27,13 @@ ReadIsSpelled {X = X} Fits spell part = (b : List ℕ) (x : X) (rest : List ℕ)
     part b ≡ Ok (x, rest) → Fits x × (b ≡ spell x ++ rest)
 
 -- these bytes end the input
-abbrev pub IsBehind : List ℕ → List ℕ → Type 0
-IsBehind b left = (front : List ℕ) × (b ≡ front ++ left)
+abbrev pub IsAfter : List ℕ → List ℕ → Type 0
+IsAfter b left = (front : List ℕ) × (b ≡ front ++ left)
 
 -- a fault stands within the input, a cut at its end, and none is want of memory
 abbrev pub FaultIsWithin : {X : Type 0} → Reader X → Type 0
 FaultIsWithin part = (b : List ℕ) (reason : RegistryReason) (left : List ℕ) →
-    part b ≡ Err (reason, left) → IsBehind b left × (reason ≢ OutOfMemory)
+    part b ≡ Err (reason, left) → IsAfter b left × (reason ≢ OutOfMemory)
     × (reason ≡ Truncated → left ≡ [])
 
 -- a fault other than a cut is the same fault at the same place, whatever follows

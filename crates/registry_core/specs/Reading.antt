@@ -41,7 +41,7 @@ Reader X = List ℕ → Read RegistryReason X
 abbrev pub length_at : Reader ℕ
 length_at bytes = lifted (compact_at u32_target bytes)
 
--- n parts, one behind the other
+-- n parts, one after the other
 abbrev pub repeated : {X : Type 0} → ℕ → Reader X → Reader (List X)
 repeated zero part bytes = Ok ([], bytes)
 repeated (suc n) part bytes = do
@@ -61,7 +61,7 @@ string_at bytes = lifted (text_at bytes)
 unfoldable pub texts_at : Reader (List (List ℕ))
 texts_at = sequence_at string_at
 
--- an option: a byte, and the value behind the byte 1
+-- an option: a byte, and the value after the byte 1
 abbrev pub option_at : {X : Type 0} → Reader X → Reader (Option X)
 option_at part [] = Err (registry.Truncated, [])
 option_at part (zero ∷ rest) = Ok (None, rest)
@@ -185,7 +185,7 @@ id_at i bytes = do
   id ← length_at bytes
   if id.0 == i then Ok id else Err (registry.IdOutOfPlace, bytes)
 
--- n types, from position i on, each behind its position
+-- n types, from position i on, each after its position
 abbrev pub types_at : ℕ → ℕ → Reader (List TypeInfo)
 types_at zero i bytes = Ok ([], bytes)
 types_at (suc n) i bytes = do
@@ -214,19 +214,19 @@ letters_at (letter ∷ letters) bytes = do
   first ← letter_at letter bytes
   letters_at letters first.1
 
--- the version that a byte tells
+-- the version that a byte reports
 abbrev pub version_at : Reader Version
 version_at bytes = do
   b ← byte_at bytes
   named registry.WrongVersion bytes (version_of b.0) b.1
 
--- the letters, and the version behind them
+-- the letters, and the version after them
 unfoldable pub prefix_at : Reader Version
 prefix_at bytes = do
   letters ← letters_at magic bytes
   version_at letters.1
 
--- the prefix of metadata and the registry behind it: its types, and the version
+-- the prefix of metadata and the registry after it: its types, and the version
 unfoldable pub metadata_at : Reader (List TypeInfo × Version)
 metadata_at bytes = do
   version ← prefix_at bytes

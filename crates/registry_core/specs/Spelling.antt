@@ -23,7 +23,7 @@ text s = compact (length s) ++ s
 abbrev pub texts : List (List ℕ) → List ℕ
 texts = sequence text
 
--- an option: a byte, and the value behind the byte 1
+-- an option: a byte, and the value after the byte 1
 abbrev pub option : {X : Type 0} → (X → List ℕ) → Option X → List ℕ
 option spell None = 0 ∷ []
 option spell (Some x) = 1 ∷ spell x
@@ -53,7 +53,7 @@ definition (def.BitSequence store order) = 7 ∷ type_id store ++ type_id order
 abbrev pub type_info : TypeInfo → List ℕ
 type_info t = texts t.path ++ sequence param t.params ++ definition t.shape ++ texts t.docs
 
--- types from position i on, each behind its position
+-- types from position i on, each after its position
 abbrev pub types_from : ℕ → List TypeInfo → List ℕ
 types_from i [] = []
 types_from i (t ∷ ts) = compact i ++ type_info t ++ types_from (i + 1) ts
@@ -62,6 +62,6 @@ types_from i (t ∷ ts) = compact i ++ type_info t ++ types_from (i + 1) ts
 unfoldable pub spelling : List TypeInfo → List ℕ
 spelling r = compact (length r) ++ types_from 0 r
 
--- a registry behind the prefix of metadata of a version
+-- a registry after the prefix of metadata of a version
 abbrev pub metadata : Version → List TypeInfo → List ℕ
 metadata version r = magic ++ version_byte version ∷ spelling r

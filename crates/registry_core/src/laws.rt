@@ -1,4 +1,4 @@
-//! What holds of every registry and its spelling, alone and behind the prefix of metadata.
+//! What holds of every registry and its spelling, alone and after the prefix of metadata.
 
 ghost use Rattle.registry_core.specs.Fits.{FitsRegistry};
 ghost use Rattle.registry_core.specs.Laws.{FaultIsKept, FaultIsWithin, FitsMetadata, FrontIsCut};

@@ -35,7 +35,7 @@ fn registry_of(alloc: Global, bytes: &[u8]) -> Result<(Registry, &[u8]), Stop<'_
     Ok((Registry::from_types(types), rest))
 }
 
-/// A registry behind the prefix of metadata, and the version that the prefix tells.
+/// A registry after the prefix of metadata, and the version that the prefix reports.
 #[tactic(auto, unfolding(crate::specs::Reading::metadata_at))]
 fn metadata_of(alloc: Global, bytes: &[u8]) -> Result<(Registry, Version, &[u8]), Stop<'_>>
     ensures { Gives (λ x. ((x.0, x.1), x.2.now)) result (metadata_at bytes.now) }
@@ -46,7 +46,7 @@ fn metadata_of(alloc: Global, bytes: &[u8]) -> Result<(Registry, Version, &[u8])
 }
 
 /// Reads a registry off the front of the bytes, and answers it with how many bytes it took
-/// (scale-info, `PortableRegistry` in its portable form). What follows is not looked at.
+/// (scale-info, `PortableRegistry` in its portable form). What follows is not read.
 ///
 /// It takes one pass from left to right. Lists grow with the elements that were read, whatever length is claimed, and
 /// have no room to spare once they are whole; each text is copied once.
@@ -59,7 +59,7 @@ fn metadata_of(alloc: Global, bytes: &[u8]) -> Result<(Registry, Version, &[u8])
 /// - `BadUtf8`, at the first byte past the longest valid front of a text that is there whole;
 /// - `BadOption`, at an option's byte that is neither `00` nor `01`;
 /// - `BadDefinition`, at a definition's byte above `07`, and `BadPrimitive`, at a primitive's byte above `0e`;
-/// - `IdOutOfPlace`, at the first byte of a type's id that is not the type's position, before the type behind it.
+/// - `IdOutOfPlace`, at the first byte of a type's id that is not the type's position, before the type after it.
 ///
 /// Where memory is refused the answer is `OutOfMemory` at 0. After a refusal nothing is kept.
 pub fn read_registry(alloc: Global, bytes: &[u8]) -> Result<(Registry, usize), RegistryFault>
@@ -81,13 +81,13 @@ pub fn read_registry(alloc: Global, bytes: &[u8]) -> Result<(Registry, usize), R
 
 /// Reads the registry of metadata (Substrate, `RuntimeMetadataPrefixed`), and answers it with how many bytes it and the
 /// prefix took, and with the version. Version 14 begins `6d 65 74 61 0e` and version 15 `6d 65 74 61 0f`; in both the
-/// registry follows at once. What follows it is not looked at.
+/// registry follows at once. What follows it is not read.
 ///
 /// Refuses, in this order:
 /// - `NotMetadata`, at the first of the first four bytes that is there and differs;
 /// - `Truncated`, at the input's length, where fewer than five bytes are there;
 /// - `WrongVersion`, at 4, where the fifth byte is neither `0e` nor `0f`;
-/// - what `read_registry` refuses behind the prefix, with places counted from the front of the input.
+/// - what `read_registry` refuses after the prefix, with places counted from the front of the input.
 ///
 /// Where memory is refused the answer is `OutOfMemory` at 0. After a refusal nothing is kept.
 pub fn read_metadata(

@@ -1,8 +1,8 @@
-//! The versions of metadata behind whose prefix a registry is read.
+//! The versions of metadata after whose prefix a registry is read.
 
 ghost use Rattle.std.specs.Prelude.{◌≡◌};
 
-/// A version of metadata, which is told by the byte behind its four letters (Substrate, `RuntimeMetadata`).
+/// A version of metadata, which is reported by the byte after its four letters (Substrate, `RuntimeMetadata`).
 #[derive(Clone, Copy, Debug, PartialEq, Eq)]
 pub enum Version {
     /// Version 14, by the byte `0e`.

@@ -39,7 +39,7 @@ fn put_optional_text(out: &mut Vec<u8>, value: &Option<Text>) -> Result<(), Allo
     Ok(())
 }
 
-/// Appends texts: how many, and one behind the other.
+/// Appends texts: how many, and one after the other.
 fn put_texts(out: &mut Vec<u8>, values: &Items<Text>) -> Result<(), AllocError>
     requires { FitsTexts values.now }
     ensures { OnOk result (out.new.items ≡ out.old.items ++ texts values.now) }
@@ -72,7 +72,7 @@ fn put_optional_type_id(out: &mut Vec<u8>, id: Option<TypeId>) -> Result<(), All
     Ok(())
 }
 
-/// Appends the positions of types: how many, and one behind the other.
+/// Appends the positions of types: how many, and one after the other.
 fn put_type_ids(out: &mut Vec<u8>, ids: &Items<TypeId>) -> Result<(), AllocError>
     ensures { OnOk result (out.new.items ≡ out.old.items ++ sequence type_id ids.now) }
 {
@@ -92,7 +92,7 @@ fn put_param(out: &mut Vec<u8>, value: &Param) -> Result<(), AllocError>
     put_optional_type_id(out, value.ty)
 }
 
-/// Appends parameters: how many, and one behind the other.
+/// Appends parameters: how many, and one after the other.
 fn put_params(out: &mut Vec<u8>, values: &Items<Param>) -> Result<(), AllocError>
     requires { FitsList FitsParam values.now }
     ensures { OnOk result (out.new.items ≡ out.old.items ++ sequence param values.now) }
@@ -115,7 +115,7 @@ fn put_field(out: &mut Vec<u8>, value: &Field) -> Result<(), AllocError>
     put_texts(out, &value.docs)
 }
 
-/// Appends fields: how many, and one behind the other.
+/// Appends fields: how many, and one after the other.
 fn put_fields(out: &mut Vec<u8>, values: &Items<Field>) -> Result<(), AllocError>
     requires { FitsList FitsField values.now }
     ensures { OnOk result (out.new.items ≡ out.old.items ++ sequence field values.now) }
@@ -138,7 +138,7 @@ fn put_arm(out: &mut Vec<u8>, value: &Arm) -> Result<(), AllocError>
     put_texts(out, &value.docs)
 }
 
-/// Appends arms: how many, and one behind the other.
+/// Appends arms: how many, and one after the other.
 fn put_arms(out: &mut Vec<u8>, values: &Items<Arm>) -> Result<(), AllocError>
     requires { FitsList FitsArm values.now }
     ensures { OnOk result (out.new.items ≡ out.old.items ++ sequence arm values.now) }

@@ -72,40 +72,40 @@ faulted j b f other (inr h) = ended j b f h.0 other h.1
 
 -- ---- what a refusal says
 
--- a fault that is not want of memory is told of the bytes, which spell no value
-told_fault : (forbidden : Option OpenFault) (j : Job) (b : List ℕ) (f : DecodeFault) →
+-- a fault that is not want of memory is reported of the bytes, which spell no value
+reported_fault : (forbidden : Option OpenFault) (j : Job) (b : List ℕ) (f : DecodeFault) →
     forbidden ≡ None → f.reason ≢ reason.OutOfMemory → FinishesDecoder j b (Err f) →
     (forbidden ≡ None) × (value_in j b ≡ None) × FinishesDecoder j b (Err f)
-told_fault forbidden j b f none other h = (none, faulted j b f other h, h)
+reported_fault forbidden j b f none other h = (none, faulted j b f other h, h)
 
 -- a decoder's fault is why the bytes are refused, whatever its reason
 by_reason : (r : DecodeReason) (forbidden : Option OpenFault) (j : Job) (b : List ℕ)
     (f : DecodeFault) → r ≡ f.reason → forbidden ≡ None → FinishesDecoder j b (Err f) →
     RefusesValue forbidden j b (value_refusal_by r f)
 by_reason reason.Truncated forbidden j b f is none h =
-    told_fault forbidden j b f none (λ e. let bad = is ∙ e in cc) h
+    reported_fault forbidden j b f none (λ e. let bad = is ∙ e in cc) h
 by_reason reason.BadBool forbidden j b f is none h =
-    told_fault forbidden j b f none (λ e. let bad = is ∙ e in cc) h
+    reported_fault forbidden j b f none (λ e. let bad = is ∙ e in cc) h
 by_reason reason.BadChar forbidden j b f is none h =
-    told_fault forbidden j b f none (λ e. let bad = is ∙ e in cc) h
+    reported_fault forbidden j b f none (λ e. let bad = is ∙ e in cc) h
 by_reason reason.BadUtf8 forbidden j b f is none h =
-    told_fault forbidden j b f none (λ e. let bad = is ∙ e in cc) h
+    reported_fault forbidden j b f none (λ e. let bad = is ∙ e in cc) h
 by_reason reason.CompactNotShortest forbidden j b f is none h =
-    told_fault forbidden j b f none (λ e. let bad = is ∙ e in cc) h
+    reported_fault forbidden j b f none (λ e. let bad = is ∙ e in cc) h
 by_reason reason.CompactTooLarge forbidden j b f is none h =
-    told_fault forbidden j b f none (λ e. let bad = is ∙ e in cc) h
+    reported_fault forbidden j b f none (λ e. let bad = is ∙ e in cc) h
 by_reason reason.NoSuchVariant forbidden j b f is none h =
-    told_fault forbidden j b f none (λ e. let bad = is ∙ e in cc) h
+    reported_fault forbidden j b f none (λ e. let bad = is ∙ e in cc) h
 by_reason reason.TooDeep forbidden j b f is none h =
-    told_fault forbidden j b f none (λ e. let bad = is ∙ e in cc) h
+    reported_fault forbidden j b f none (λ e. let bad = is ∙ e in cc) h
 by_reason reason.NoFiniteValue forbidden j b f is none h =
-    told_fault forbidden j b f none (λ e. let bad = is ∙ e in cc) h
+    reported_fault forbidden j b f none (λ e. let bad = is ∙ e in cc) h
 by_reason reason.BitSequence forbidden j b f is none h =
-    told_fault forbidden j b f none (λ e. let bad = is ∙ e in cc) h
+    reported_fault forbidden j b f none (λ e. let bad = is ∙ e in cc) h
 by_reason reason.BadCompact forbidden j b f is none h =
-    told_fault forbidden j b f none (λ e. let bad = is ∙ e in cc) h
+    reported_fault forbidden j b f none (λ e. let bad = is ∙ e in cc) h
 by_reason reason.TooLong forbidden j b f is none h =
-    told_fault forbidden j b f none (λ e. let bad = is ∙ e in cc) h
+    reported_fault forbidden j b f none (λ e. let bad = is ∙ e in cc) h
 by_reason reason.OutOfMemory forbidden j b f is none h = tt
 
 -- what forbids a decoder is why the bytes are refused

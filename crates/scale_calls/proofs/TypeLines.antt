@@ -28,11 +28,11 @@ lines_from-take r k (x ∷ xs) (suc i) d short =
     ∙ sym (append_assoc (line_of_type k (class_of r k) x) (lines_from r (k + 1) (take i xs))
     (line_of_type (k + suc i) (class_of r (k + suc i)) (get_or xs i d)))
 
--- a class that is told is the one that is known
+-- a class that is reported is the one that is known
 pub class_is : (o : Option Class) (P : Type 0) (class known : Class) → SomeIff o P known →
     o ≡ Some class → class ≡ known
-class_is o P class known told is = let at : SomeIff (Some class) P known =
-    subst (λ p. SomeIff p P known) is told in at.1
+class_is o P class known reported is = let at : SomeIff (Some class) P known =
+    subst (λ p. SomeIff p P known) is reported in at.1
 
 -- one more line
 lines_more : (r xs : List TypeInfo) (i : ℕ) (x : TypeInfo) (class : Class) → i < length xs →
@@ -45,7 +45,7 @@ lines_more r xs i x class inside item is =
     ∙ ap (λ v. lines_from r 0 (take i xs) ++ v)
     (lines_at r (0 + i) i (get_or xs i x) (omega arith)))
 
--- and behind what stood in front
+-- and after what stood in front
 pub lines_next : (front : List ℕ) (r xs : List TypeInfo) (i : ℕ) (x : TypeInfo) (class : Class)
     (so_far new : List ℕ) → i < length xs → x ≡ get_or xs i x → class ≡ class_of r i →
     so_far ≡ front ++ lines_from r 0 (take i xs) → new ≡ so_far ++ line_of_type i class x →

@@ -28,7 +28,7 @@ abbrev pub types_of : Bool → List ℕ → Option (List TypeInfo)
 types_of true bytes = option_map (λ m. m.0) (in_front (metadata_at bytes))
 types_of false bytes = alone (registry_at bytes)
 
--- the version that a registry's file tells, which it does where it is metadata
+-- the version that a registry's file reports, which it does where it is metadata
 abbrev pub file_version : Bool → List ℕ → Option Version
 file_version true bytes = option_map (λ m. m.1) (in_front (metadata_at bytes))
 file_version false bytes = None

@@ -1,4 +1,4 @@
-//! The lines that tell the types of a registry, and the version of the metadata around it.
+//! The lines that report the types of a registry, and the version of the metadata around it.
 
 ghost use Rattle.std.specs.Prelude.{◌≡◌, ◌<◌, ◌++◌, length, IfOk, OnOk, option_map, string_bytes};
 ghost use Rattle.serde_json.specs.Data.{string};

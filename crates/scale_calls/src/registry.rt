@@ -10,7 +10,7 @@ use registry_core::{Registry, Version, read_metadata, read_registry};
 use std::alloc::Global;
 use widths_core::Checked;
 
-/// The registry that all the bytes spell, or where they are metadata the one behind its prefix, and its version.
+/// The registry that all the bytes spell, or where they are metadata the one after its prefix, and its version.
 fn registry_of(
     alloc: Global,
     metadata: bool,
@@ -43,8 +43,8 @@ fn checked(alloc: Global, registry: Registry) -> Result<Checked, RegistryRefusal
     }
 }
 
-/// Opens the registry that all the bytes hold, with its references checked; of metadata the one behind its prefix, and its
-/// version. What follows the registry in metadata is not looked at.
+/// Opens the registry that all the bytes hold, with its references checked; of metadata the one after its prefix, and its
+/// version. What follows the registry in metadata is not read.
 ///
 /// Refuses, in this order: the first fault of the bytes as `Fault`, bytes after a registry that stands alone as
 /// `TrailingBytes` at its length, and the first reference that is no position as `Check`; want of memory as `Memory`.

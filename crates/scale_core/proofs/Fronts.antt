@@ -118,7 +118,7 @@ pub set-front : (xs a : List ℕ) (x len : ℕ) → 0 < length xs → a ≡ x �
 set-front [] a x len h e one = absurd (omega arith)
 set-front (y ∷ xs) a x len h e one = rw (e, one) refl
 
--- where a byte and those behind it are set, the list begins with them, and goes on as before
+-- where a byte and those after it are set, the list begins with them, and goes on as before
 pub put_mid-front : (xs ys a : List ℕ) (x k j len : ℕ) → 0 < length xs → a ≡ x ∷ ys → j ≡ k →
     len ≡ suc k → put_mid 1 j (set xs 0 x) ys ≡ a ++ drop len xs
 put_mid-front [] ys a x k j len h e same long = absurd (omega arith)

@@ -72,7 +72,7 @@ cond-not : {A : Type 0} (t : Bool) (x y : A) → cond (not t) x y ≡ cond t y x
 cond-not true x y = refl
 cond-not false x y = refl
 
--- lengths tell whether a form is the spelling, where a spelling of the form's length is the form
+-- lengths report whether a form is the spelling, where a spelling of the form's length is the form
 same_test : (form spelled : List ℕ) (len : ℕ) → length form ≡ len →
     (length spelled ≡ len → spelled ≡ form) → (len == length spelled) ≡ bytes_eq spelled form
 same_test form spelled len long f = elim (cases_eq len (length spelled)) [

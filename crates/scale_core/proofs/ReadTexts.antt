@@ -20,14 +20,14 @@ pub text_at-fault : (bytes : List ℕ) (e : Reason × List ℕ) → compact_at U
 unfolding text_at
 text_at-fault bytes e is = rw is refl
 
--- ---- what stands behind the length, as `&bytes[start..]` and `get(..n)` give it
+-- ---- what stands after the length, as `&bytes[start..]` and `get(..n)` give it
 
 abbrev pub slice_from : List ℕ → ℕ → List ℕ
 slice_from bytes start = take (length bytes - start) (drop start bytes)
 
 -- what is behind a place is what is left where as many bytes are dropped
-behind-drop : (bytes : List ℕ) (start : ℕ) → slice_from bytes start ≡ drop start bytes
-behind-drop bytes start =
+after-drop : (bytes : List ℕ) (start : ℕ) → slice_from bytes start ≡ drop start bytes
+after-drop bytes start =
     take_all (length bytes - start) (drop start bytes) (omega (arith, length-drop start bytes))
 
 -- where fewer bytes are there than a text's length says, the text is cut
@@ -36,7 +36,7 @@ pub text_at-cut : (bytes : List ℕ) (start n : ℕ) → compact_at U32 bytes �
 unfolding text_at
 text_at-cut bytes start n is (inl h) = absurd (omega arith)
 text_at-cut bytes start n is (inr h) = let short : length (drop start bytes) < n =
-    rw behind-drop at h in rw (is, lt-ltb (length (drop start bytes)) n short) refl
+    rw after-drop at h in rw (is, lt-ltb (length (drop start bytes)) n short) refl
 
 -- the text s, which is there whole
 abbrev judged_text : List ℕ → List ℕ → List ℕ → Read Reason (List ℕ)
@@ -61,9 +61,9 @@ judged-whole : (bytes spelled : List ℕ) (start n : ℕ) → IsTextThere bytes 
     text_at bytes ≡ judged_text spelled (drop start bytes) (drop (start + length spelled) bytes)
 judged-whole bytes spelled start n w =
     let rest = drop start bytes in
-    let long : n ≤ length rest = rw behind-drop at w.there in
+    let long : n ≤ length rest = rw after-drop at w.there in
     let front : spelled ≡ take n rest = w.is
-    ∙ ap (λ (xs : List ℕ). slice_range xs 0 n) (behind-drop bytes start)
+    ∙ ap (λ (xs : List ℕ). slice_range xs 0 n) (after-drop bytes start)
     ∙ between_from_start rest n in
     let count : n ≡ length spelled = omega (arith, w.len) in
     let after : drop n rest ≡ drop (start + length spelled) bytes = drop-drop n start bytes
@@ -93,7 +93,7 @@ text_at-bad bytes spelled start n w bad =
 pub whole-bound : (bytes spelled : List ℕ) (start n : ℕ) → start ≤ length bytes →
     IsTextThere bytes spelled start n → start + length spelled ≤ length bytes
 whole-bound bytes spelled start n h w = let long : n ≤ length (drop start bytes) =
-    rw behind-drop at w.there in omega (arith, length-drop start bytes, w.len)
+    rw after-drop at w.there in omega (arith, length-drop start bytes, w.len)
 
 -- the place of the first wrong byte is counted from the front of all bytes
 pub place-bad : (bytes spelled : List ℕ) (start n : ℕ) → start ≤ length bytes →

@@ -84,13 +84,13 @@ compact_takes U32 b = integer_takes U32 b
 compact_takes U64 b = integer_takes U64 b
 compact_takes U128 b = integer_takes U128 b
 
--- what is read behind c
+-- what is read after c
 pub then_takes : {E Y : Type 0} (Q : Y → List ℕ → Type 0) (b c rest : List ℕ) (r : Read E Y) →
     b ≡ c ++ rest → Takes (λ y d. Q y (c ++ d)) rest r → Takes Q b r
 then_takes Q b c rest (Err e) eq h = tt
 then_takes Q b c rest (Ok y) eq h = (c ++ h.0, rw (eq, h.1) (sym (append_assoc c h.0 y.1)), h.2)
 
--- one part behind the other
+-- one part after the other
 pub bind_takes : {E X Y : Type 0} (P : X → List ℕ → Type 0) (Q : Y → List ℕ → Type 0) (b : List ℕ)
     (r : Read E X) (f : X × List ℕ → Read E Y) →
     Takes P b r → ((x : X × List ℕ) (c : List ℕ) → P x.0 c →

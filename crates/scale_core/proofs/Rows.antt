@@ -13,7 +13,7 @@ spelling_rows = record {
   zero_is_spelled = refl;
   sixty_nine_is_spelled = refl;
   largest_of_four_bytes_is_spelled = refl;
-  least_behind_a_count_is_spelled = refl;
+  least_after_a_count_is_spelled = refl;
   hundred_trillion_is_spelled = refl;
 }
 

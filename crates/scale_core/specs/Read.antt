@@ -1,4 +1,4 @@
--- Reading from left to right: the value and the bytes behind it, or the first fault and the bytes
+-- Reading from left to right: the value and the bytes after it, or the first fault and the bytes
 -- from its place on.
 use Rattle.std.specs.Prelude.{ℕ, ◌+◌, ◌-◌, ◌/◌, ◌%◌, ◌^◌, Bool, true, false, ◌&&◌, not, ℤ, List, []}
 use Rattle.std.specs.Prelude.{◌∷◌, length, take, drop, Result, Ok, Err, nat_lt, ◌==◌, if◌then◌else◌}

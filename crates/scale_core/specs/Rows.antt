@@ -11,7 +11,7 @@ pub record SpellingRows : Type 0 where
   pub zero_is_spelled : compact 0 ≡ 0x00 ∷ []
   pub sixty_nine_is_spelled : compact 69 ≡ 0x15 ∷ 0x01 ∷ []
   pub largest_of_four_bytes_is_spelled : compact 1073741823 ≡ 0xfe ∷ 0xff ∷ 0xff ∷ 0xff ∷ []
-  pub least_behind_a_count_is_spelled : compact 1073741824 ≡ 0x03 ∷ 0x00 ∷ 0x00 ∷ 0x00 ∷ 0x40 ∷ []
+  pub least_after_a_count_is_spelled : compact 1073741824 ≡ 0x03 ∷ 0x00 ∷ 0x00 ∷ 0x00 ∷ 0x40 ∷ []
   pub hundred_trillion_is_spelled : compact 100000000000000
       ≡ 0x0b ∷ 0x00 ∷ 0x40 ∷ 0x7a ∷ 0x10 ∷ 0xf3 ∷ 0x5a ∷ []
 

@@ -72,8 +72,8 @@ fn number_of(spelled: &[u8]) -> u128
     u128::from_le_bytes(padded)
 }
 
-/// The number in the `count` bytes behind the first one.
-fn number_behind_first(bytes: &[u8], count: usize) -> Result<u128, Fault>
+/// The number in the `count` bytes after the first one.
+fn number_after_first(bytes: &[u8], count: usize) -> Result<u128, Fault>
     requires { count ≤ 16 }
     ensures { MatchResult result
         (λ n. (count < length bytes.now) × (n ≡ number (take count (drop 1 bytes.now))))
@@ -90,7 +90,7 @@ fn number_behind_first(bytes: &[u8], count: usize) -> Result<u128, Fault>
 
 /// What the form at the front stands for, and its length, be it the shortest or not. The two low bits of the first
 /// byte name the form: one, two or four bytes, whose upper bits are the number; or a count of bytes, less four, in
-/// the upper six bits, and that many bytes behind.
+/// the upper six bits, and that many bytes after.
 fn read_form(bytes: &[u8], first: u8) -> Result<(u128, usize), Fault>
     requires front { bytes.now ≡ first ∷ drop 1 bytes.now }
     requires short { form_len first ≤ 17 }
@@ -105,7 +105,7 @@ fn read_form(bytes: &[u8], first: u8) -> Result<(u128, usize), Fault>
         2 => Ok((u128::from(u32::from_le_bytes(front(bytes)?) / 4), 4)),
         _ => {
             let count = usize::from(first / 4) + 4;
-            Ok((number_behind_first(bytes, count)?, count + 1))
+            Ok((number_after_first(bytes, count)?, count + 1))
         }
     }
 }
@@ -155,7 +155,7 @@ pub fn read_compact(bytes: &[u8], target: Target) -> Result<(u128, usize), Fault
     Ok((value, len))
 }
 
-/// How many bytes the fourth form has behind the first one, for a value that needs that form.
+/// How many bytes the fourth form has after the first one, for a value that needs that form.
 fn big_bytes(value: u128) -> usize
     requires { 2 ^ 30 ≤ value }
     ensures exact { result ≡ big_bytes value }

@@ -1,5 +1,5 @@
 //! The pieces that SCALE is made of: integers, compact integers, booleans, characters and texts,
-//! each accepted in its one spelling only, and devices that tell whether a call on them failed.
+//! each accepted in its one spelling only, and devices that report whether a call on them failed.
 #![tactic(auto)]
 
 mod boolean;

@@ -1,4 +1,4 @@
-//! A writer that tells whether a write to it failed.
+//! A writer that reports whether a write to it failed.
 
 ghost use Rattle.std.specs.Prelude.{◌≡◌, ◌<◌, ◌≤◌, ◌||◌, false, length, IfOk, is_ok, not};
 ghost use Rattle.std.specs.Io.KnownBytes.{WriteAppends};

@@ -1,4 +1,4 @@
-//! A reader that tells whether a read of it failed.
+//! A reader that reports whether a read of it failed.
 
 ghost use Rattle.std.specs.Prelude.{◌≡◌, ◌<◌, ◌≤◌, ◌||◌, false, length, IfOk, is_ok, not};
 ghost use Rattle.std.specs.Io.KnownBytes.{ReadConsumes};

@@ -12,7 +12,7 @@ use std::alloc::AllocError;
 /// Reads a text off the front of the bytes, which lend it, and answers it with the length of its spelling: 1 to 5
 /// bytes of a compact u32, and as many bytes as that says (SCALE codec specification, "Strings").
 ///
-/// Refuses, in this order: what `read_compact` refuses in the length, with its reason and place; fewer bytes behind
+/// Refuses, in this order: what `read_compact` refuses in the length, with its reason and place; fewer bytes after
 /// the length than it says as `Truncated` at the input's length; and bytes that are not UTF-8 as `BadUtf8` at the
 /// first byte past their longest valid front.
 pub fn read_text(bytes: &[u8]) -> Result<(&str, usize), Fault>

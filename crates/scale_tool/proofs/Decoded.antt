@@ -31,7 +31,8 @@ use Rattle.scale_tool.specs.declared.refusal.HexFault.{HexFault}
 use Rattle.scale_tool.specs.declared.refusal.BytesRefusal.TheVariants as bytes
 use Rattle.scale_tool.specs.declared.refusal.ValueRefusal.{ValueRefusal as FileRefusal}
 use Rattle.scale_tool.specs.HexText.{hex_bytes}
-use Rattle.scale_tool.specs.Values.{TellsBytes, TellsFile, decoding, file_value, told, value_bytes}
+use Rattle.scale_tool.specs.Values.{ReportsBytes, ReportsFile, decoding, file_value, reported}
+use Rattle.scale_tool.specs.Values.{value_bytes}
 use Rattle.scale_tool.specs.Values.{value_of_type}
 
 -- the limits of a value
@@ -139,21 +140,21 @@ called_fault id depth types limits b e is h =
     none_by (opening_fault types id (made depth)) (decoding id depth types) b e
     (subst (λ l. ReadsBy id types b (Err e) l) is h)
 
--- a refusal of bytes tells their fault, or that some follow the value
-tells_by : (forbidden : Option OpenFault) (j : Job) (b : List ℕ) (e : ValueRefusal) →
-    RefusesValue forbidden j b e → TellsBytes j b (calls_refusal e)
-tells_by forbidden j b (call.Fault f) h = h.2
-tells_by forbidden j b (call.TrailingBytes at) h = h.2
-tells_by forbidden j b call.UnknownType h = tt
-tells_by forbidden j b call.LimitOutOfRange h = tt
-tells_by forbidden j b call.Memory h = tt
+-- a refusal of bytes reports their fault, or that some follow the value
+reports_by : (forbidden : Option OpenFault) (j : Job) (b : List ℕ) (e : ValueRefusal) →
+    RefusesValue forbidden j b e → ReportsBytes j b (calls_refusal e)
+reports_by forbidden j b (call.Fault f) h = h.2
+reports_by forbidden j b (call.TrailingBytes at) h = h.2
+reports_by forbidden j b call.UnknownType h = tt
+reports_by forbidden j b call.LimitOutOfRange h = tt
+reports_by forbidden j b call.Memory h = tt
 
 -- the same with the limits that the command makes
-pub called_tells : (id depth : ℕ) (types : List TypeInfo) (limits : Limits) (b : List ℕ)
+pub called_reports : (id depth : ℕ) (types : List TypeInfo) (limits : Limits) (b : List ℕ)
     (e : ValueRefusal) → limits ≡ made depth → ReadsBy id types b (Err e) limits →
-    TellsBytes (decoding id depth types) b (calls_refusal e)
-called_tells id depth types limits b e is h =
-    tells_by (opening_fault types id (made depth)) (decoding id depth types) b e
+    ReportsBytes (decoding id depth types) b (calls_refusal e)
+called_reports id depth types limits b e is h =
+    reports_by (opening_fault types id (made depth)) (decoding id depth types) b e
     (subst (λ l. ReadsBy id types b (Err e) l) is h)
 
 -- where nothing forbids a decoder, a refusal is one of the bytes or for want of memory
@@ -181,9 +182,9 @@ where_known (Some b) P Q f h = f b h
 
 -- ---- what a refusal says
 
--- a decoder's fault is told of the bytes, whatever its reason
+-- a decoder's fault is reported of the bytes, whatever its reason
 by_reason : (r : DecodeReason) (j : Job) (b : List ℕ) (f : DecodeFault) →
-    FinishesDecoder j b (Err f) → TellsBytes j b (bytes_refusal_by r f)
+    FinishesDecoder j b (Err f) → ReportsBytes j b (bytes_refusal_by r f)
 by_reason reason.Truncated j b f h = h
 by_reason reason.BadBool j b f h = h
 by_reason reason.BadChar j b f h = h
@@ -199,30 +200,30 @@ by_reason reason.TooLong j b f h = h
 by_reason reason.OutOfMemory j b f h = tt
 
 -- the same of the file that has the bytes
-pub tells_file : (hex : Bool) (j : Job) (file b : List ℕ) (e : BytesRefusal) →
-    value_bytes hex file ≡ Some b → TellsBytes j b e → TellsFile hex j file (bytes_in_value e)
-tells_file hex j file b (bytes.Fault f) is h = (b, is, h)
-tells_file hex j file b (bytes.TrailingBytes at) is h = (b, is, h)
-tells_file hex j file b bytes.Memory is h = tt
+pub reports_file : (hex : Bool) (j : Job) (file b : List ℕ) (e : BytesRefusal) →
+    value_bytes hex file ≡ Some b → ReportsBytes j b e → ReportsFile hex j file (bytes_in_value e)
+reports_file hex j file b (bytes.Fault f) is h = (b, is, h)
+reports_file hex j file b (bytes.TrailingBytes at) is h = (b, is, h)
+reports_file hex j file b bytes.Memory is h = tt
 
--- a fault of a reader is told of its file, where nothing forbids a decoder
-stream_told : (j : Job) (forbidden : Option OpenFault) (b : List ℕ) (f : StreamFault) →
-    forbidden ≡ None → Streams forbidden j b (Err f) → TellsFile false j b (stream_refusal f)
-stream_told j forbidden b (stream.Open f) none h = tt
-stream_told j forbidden b (stream.Decode f) none h =
-    tells_file false j b b (bytes_refusal f) refl (by_reason f.reason j b f h.1)
-stream_told j forbidden b (stream.TrailingBytes at) none h = (b, refl, h.1)
-stream_told j forbidden b stream.Device none h = tt
+-- a fault of a reader is reported of its file, where nothing forbids a decoder
+stream_reported : (j : Job) (forbidden : Option OpenFault) (b : List ℕ) (f : StreamFault) →
+    forbidden ≡ None → Streams forbidden j b (Err f) → ReportsFile false j b (stream_refusal f)
+stream_reported j forbidden b (stream.Open f) none h = tt
+stream_reported j forbidden b (stream.Decode f) none h =
+    reports_file false j b b (bytes_refusal f) refl (by_reason f.reason j b f h.1)
+stream_reported j forbidden b (stream.TrailingBytes at) none h = (b, refl, h.1)
+stream_reported j forbidden b stream.Device none h = tt
 
 -- the same with the limits that the command makes
-pub stream_tells : (id depth : ℕ) (types : List TypeInfo) (limits : Limits) (b : List ℕ)
+pub stream_reports : (id depth : ℕ) (types : List TypeInfo) (limits : Limits) (b : List ℕ)
     (f : StreamFault) → limits ≡ made depth → id < length types → depth ≤ 1024 →
     Streams (opening_fault types id limits) (job_of types id limits) b (Err f) →
-    TellsFile false (decoding id depth types) b (stream_refusal f)
-stream_tells id depth types limits b f is known served h =
+    ReportsFile false (decoding id depth types) b (stream_refusal f)
+stream_reports id depth types limits b f is known served h =
     let P : Limits → Type 0 =
     λ l. Streams (opening_fault types id l) (job_of types id l) b (Err f) in
-    stream_told (decoding id depth types) (opening_fault types id (made depth)) b f
+    stream_reported (decoding id depth types) (opening_fault types id (made depth)) b f
     (none_forbids id depth types known served) (subst P is h)
 
 -- a reader's bytes are fed but for want of memory
@@ -240,13 +241,13 @@ stream_opens id depth types limits f is known served h why opened =
 pub hex_none : (id depth : ℕ) (types : List TypeInfo) (file : List ℕ) (f : HexFault) →
     hex_bytes file ≡ Err f → file_value true id depth types file ≡ None
 hex_none id depth types file f is =
-    ap (λ r. option_and_then (value_of_type id depth types) (told r)) is
+    ap (λ r. option_and_then (value_of_type id depth types) (reported r)) is
 
 -- where it holds these
 pub hex_some : (id depth : ℕ) (types : List TypeInfo) (file b : List ℕ) → hex_bytes file ≡ Ok b →
     file_value true id depth types file ≡ value_of_type id depth types b
 hex_some id depth types file b is =
-    ap (λ r. option_and_then (value_of_type id depth types) (told r)) is
+    ap (λ r. option_and_then (value_of_type id depth types) (reported r)) is
 
 -- the bytes that were gathered are those of the file
 gathered : (old new text file : List ℕ) → old ≡ [] → new ≡ old ++ file → text ≡ new → text ≡ file
@@ -262,11 +263,11 @@ hex_refused id depth types old new text file b e r none all same is made h one =
     hex_some id depth types file b (ap hex_bytes (sym (gathered old new text file none all same))
     ∙ is) ∙ h (sym (ap status_of_value made) ∙ one)
 
--- a refusal of the bytes whose digits a file holds is told of the file
-pub hex_tells : (j : Job) (old new text file b : List ℕ) (e : BytesRefusal) (r : FileRefusal) →
+-- a refusal of the bytes whose digits a file holds is reported of the file
+pub hex_reports : (j : Job) (old new text file b : List ℕ) (e : BytesRefusal) (r : FileRefusal) →
     old ≡ [] → new ≡ old ++ file → text ≡ new → hex_bytes text ≡ Ok b →
-    r ≡ bytes_in_value e → TellsBytes j b e → TellsFile true j file r
-hex_tells j old new text file b e r none all same is made h =
-    subst (λ x. TellsFile true j file x) (sym made)
-    (tells_file true j file b e
-    (ap told (ap hex_bytes (sym (gathered old new text file none all same)) ∙ is)) h)
+    r ≡ bytes_in_value e → ReportsBytes j b e → ReportsFile true j file r
+hex_reports j old new text file b e r none all same is made h =
+    subst (λ x. ReportsFile true j file x) (sym made)
+    (reports_file true j file b e
+    (ap reported (ap hex_bytes (sym (gathered old new text file none all same)) ∙ is)) h)

@@ -54,31 +54,33 @@ pub bad_within : (text : List ℕ) (c i : ℕ) → decode_of text ≡ Err (Inval
     i < length text
 bad_within text c i e = either_within (length text % 2 == 1) text c i e
 
--- decoding told this fault, and not want of memory
-pub told_fault : (text : List ℕ) (e fault : FromHexError) → e ≡ fault → (fault ≡ OutOfMemory → ⊥) →
+-- decoding reported this fault, and not want of memory
+pub reported_fault : (text : List ℕ) (e fault : FromHexError) → e ≡ fault →
+    (fault ≡ OutOfMemory → ⊥) →
     (e ≡ OutOfMemory) ⊎ (decode_of text ≡ Err e) → decode_of text ≡ Err fault
-told_fault text e fault is other (inl o) = absurd (other (sym is ∙ o))
-told_fault text e fault is other (inr h) = h ∙ ap Err is
+reported_fault text e fault is other (inl o) = absurd (other (sym is ∙ o))
+reported_fault text e fault is other (inr h) = h ∙ ap Err is
 
--- decoding that told a byte that is no digit, and not want of memory, refuses the text for it
-pub told_bad : (text : List ℕ) (e : FromHexError) (c i : ℕ) → e ≡ InvalidHexCharacter c i →
+-- decoding that reported a byte that is no digit, and not want of memory, refuses the text for it
+pub reported_bad : (text : List ℕ) (e : FromHexError) (c i : ℕ) → e ≡ InvalidHexCharacter c i →
     (e ≡ OutOfMemory) ⊎ (decode_of text ≡ Err e) → decode_of text ≡ Err (InvalidHexCharacter c i)
-told_bad text e c i is h = told_fault text e (InvalidHexCharacter c i) is (λ o. absurd cc) h
+reported_bad text e c i is h = reported_fault text e (InvalidHexCharacter c i) is (λ o. absurd cc) h
 
--- decoding that told an odd number of digits refuses the text for it
-pub told_odd : (text : List ℕ) (e : FromHexError) → e ≡ OddLength → (e ≡ OutOfMemory)
+-- decoding that reported an odd number of digits refuses the text for it
+pub reported_odd : (text : List ℕ) (e : FromHexError) → e ≡ OddLength → (e ≡ OutOfMemory)
     ⊎ (decode_of text ≡ Err e) → decode_of text ≡ Err OddLength
-told_odd text e is h = told_fault text e OddLength is (λ o. absurd cc) h
+reported_odd text e is h = reported_fault text e OddLength is (λ o. absurd cc) h
 
--- decoding that told a wrong length refuses the text for it
-pub told_length : (text : List ℕ) (e : FromHexError) → e ≡ InvalidStringLength → (e ≡ OutOfMemory)
+-- decoding that reported a wrong length refuses the text for it
+pub reported_length : (text : List ℕ) (e : FromHexError) → e ≡ InvalidStringLength →
+    (e ≡ OutOfMemory)
     ⊎ (decode_of text ≡ Err e) → decode_of text ≡ Err InvalidStringLength
-told_length text e is h = told_fault text e InvalidStringLength is (λ o. absurd cc) h
+reported_length text e is h = reported_fault text e InvalidStringLength is (λ o. absurd cc) h
 
--- what stands behind the prefix
-pub behind_prefix : (text : List ℕ) (start : ℕ) →
+-- what stands after the prefix
+pub after_prefix : (text : List ℕ) (start : ℕ) →
     take (length text - start) (drop start text) ≡ drop start text
-behind_prefix text start =
+after_prefix text start =
     take_all (length text - start) (drop start text) (omega (arith, length-drop start text))
 
 -- so its place in the text is within it
@@ -101,4 +103,4 @@ pub hex_is : (text rest : List ℕ) (start end : ℕ) (r : Result (List ℕ) Fro
     decode_of (take end rest) ≡ r →
     hex_bytes text ≡ placed start (start + end) r
 unfolding hex_bytes
-hex_is text rest start end r s is e told = rw (← told, e, is, s) refl
+hex_is text rest start end r s is e reported = rw (← reported, e, is, s) refl

@@ -16,14 +16,14 @@ if_none (Some x) P p = tt
 not_both : codes "types" ≡ codes "decode" → ⊥
 not_both e = cc
 
--- the name and the rows, where they are told
+-- the name and the rows, where they are reported
 abbrev name_in : Option (Text × List Row) → Text
 name_in None = []
-name_in (Some told) = told.0
+name_in (Some reported) = reported.0
 
 abbrev rows_in : Option (Text × List Row) → List Row
 rows_in None = []
-rows_in (Some told) = told.1
+rows_in (Some reported) = reported.1
 
 -- the rows of `types` name no job, where one would have its file from them
 pub none_of_types : (rows : List Row) →

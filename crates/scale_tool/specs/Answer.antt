@@ -31,7 +31,7 @@ value_text metadata hex id depth registry value =
     (types_with metadata id registry)
 
 -- the text of a registry's types, where its bytes are not refused: the line of the version, where
--- one is told, and a line for each type
+-- one is reported, and a line for each type
 abbrev pub types_text : Bool → List ℕ → Option (List ℕ)
 types_text metadata registry =
     option_map (λ types. version_line (file_version metadata registry) ++ type_lines types)

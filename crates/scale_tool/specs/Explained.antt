@@ -1,4 +1,4 @@
--- A command line that names no job: what is told of it, and its status.
+-- A command line that names no job: what is reported of it, and its status.
 use Rattle.std.specs.Prelude.{◌≡◌, ◌≢◌, ℕ, ◌⊎◌, List, [], codes, string_bytes}
 use Rattle.clap.specs.Words.{HasKind, Text, fault_of, kind_of, subcommand_of}
 use Rattle.clap.specs.declared.error.Error.{Error}

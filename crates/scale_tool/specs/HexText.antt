@@ -32,13 +32,13 @@ placed start end (Ok bytes) = Ok bytes
 placed start end (Err (InvalidHexCharacter c i)) = Err (fault.Bad (start + i))
 placed start end (Err _) = Err (fault.Odd end)
 
-abbrev pub bytes_behind : ℕ → List ℕ → Result (List ℕ) HexFault
-bytes_behind start rest =
+abbrev pub bytes_after : ℕ → List ℕ → Result (List ℕ) HexFault
+bytes_after start rest =
     placed start (start + digits_end rest) (decode_of (take (digits_end rest) rest))
 
 -- the bytes of the whole text
 unfoldable pub hex_bytes : List ℕ → Result (List ℕ) HexFault
-hex_bytes text = bytes_behind (prefix_len text) (drop (prefix_len text) text)
+hex_bytes text = bytes_after (prefix_len text) (drop (prefix_len text) text)
 
 -- what such a text is refused for; where memory is refused nothing is said of it
 abbrev pub IsOfHex : Result (List ℕ) HexFault → HexRefusal → Type 0

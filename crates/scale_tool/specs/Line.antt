@@ -59,12 +59,12 @@ abbrev pub SpellsDepth : Option Text → ℕ → Type 0
 SpellsDepth None n = n ≡ 64
 SpellsDepth (Some text) n = IsNumeral 10 text × (digits_value 10 text ≡ n)
 
--- what the matches of `types` tell
+-- what the matches of `types` report
 pub record IsTypes (from_metadata : Bool) (file_name : Text) (rows : List Row) : Type 0 where
   pub metadata_is : IsFlag (one_of (codes "metadata") rows) from_metadata
   pub file_is : first_of (codes "FILE") rows ≡ Some file_name
 
--- what the matches of `decode` tell
+-- what the matches of `decode` report
 pub record IsDecode (position : ℕ) (from_metadata from_hex : Bool) (greatest_depth : ℕ)
     (file_name value_name : Text) (rows : List Row) : Type 0 where
   pub position_is : Spells (first_of (codes "ID") rows) position
@@ -74,7 +74,7 @@ pub record IsDecode (position : ℕ) (from_metadata from_hex : Bool) (greatest_d
   pub hex_is : IsFlag (one_of (codes "hex") rows) from_hex
   pub depth_is : SpellsDepth (first_of (codes "depth") rows) greatest_depth
 
--- the job, FILE and VALUEFILE are those that a subcommand's name and matches tell
+-- the job, FILE and VALUEFILE are those that a subcommand's name and matches report
 abbrev pub IsJob : Job → Text → Option Text → Option (Text × List Row) → Type 0
 IsJob (jobs.Types from_metadata) file_name None sub =
     (rows : List Row) × (sub ≡ Some (codes "types", rows)) × IsTypes from_metadata file_name rows
@@ -90,7 +90,7 @@ FitsJob (jobs.Types from_metadata) = Unit {0}
 FitsJob (jobs.Decode position from_metadata from_hex greatest_depth) = (position < 2 ^ 32)
     × (greatest_depth ≤ 1024)
 
--- a subcommand's name and matches tell no job
+-- a subcommand's name and matches report no job
 abbrev pub NamesNone : Option (Text × List Row) → Type 0
 NamesNone sub = (job : Job) (file_name : Text) (value_name : Option Text) → FitsJob job →
     IsJob job file_name value_name sub → ⊥

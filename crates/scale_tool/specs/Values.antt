@@ -15,7 +15,7 @@ use Rattle.scale_tool.specs.declared.refusal.HexFault.{HexFault}
 use Rattle.scale_tool.specs.declared.refusal.ValueRefusal.{ValueRefusal}
 use Rattle.scale_tool.specs.declared.refusal.ValueRefusal.TheVariants as value
 
--- the type at a position, as deep as told, and 16777216 bytes at most
+-- the type at a position, as deep as reported, and 16777216 bytes at most
 abbrev pub decoding : ℕ → ℕ → List TypeInfo → decoder.Job
 decoding id depth types = record { registry = types; ty = id; depth = depth; bytes = 16777216 }
 
@@ -23,13 +23,13 @@ decoding id depth types = record { registry = types; ty = id; depth = depth; byt
 abbrev pub value_of_type : ℕ → ℕ → List TypeInfo → List ℕ → Option Seen
 value_of_type id depth types bytes = calls.value_in (decoding id depth types) bytes
 
-abbrev pub told : Result (List ℕ) HexFault → Option (List ℕ)
-told (Ok bytes) = Some bytes
-told (Err f) = None
+abbrev pub reported : Result (List ℕ) HexFault → Option (List ℕ)
+reported (Ok bytes) = Some bytes
+reported (Err f) = None
 
 -- the bytes of a value: its file's, or those whose digits the file holds
 abbrev pub value_bytes : Bool → List ℕ → Option (List ℕ)
-value_bytes true file = told (hex_bytes file)
+value_bytes true file = reported (hex_bytes file)
 value_bytes false file = Some file
 
 -- the value that they spell
@@ -49,18 +49,18 @@ ReadsFileValue value (Err e) = status_of_value e ≡ 1 → value ≡ None
 
 -- what a refusal says of the value's bytes, unless memory was refused: their fault, or that some
 -- follow the value
-abbrev pub TellsBytes : decoder.Job → List ℕ → BytesRefusal → Type 0
-TellsBytes j b (bytes.Fault fault) = FinishesDecoder j b (Err fault)
-TellsBytes j b (bytes.TrailingBytes at) = Trails j at b
-TellsBytes j b bytes.Memory = Unit {0}
+abbrev pub ReportsBytes : decoder.Job → List ℕ → BytesRefusal → Type 0
+ReportsBytes j b (bytes.Fault fault) = FinishesDecoder j b (Err fault)
+ReportsBytes j b (bytes.TrailingBytes at) = Trails j at b
+ReportsBytes j b bytes.Memory = Unit {0}
 
 -- and of its file, unless the device failed: the fault of its digits, or the same of the bytes that
 -- it has
-abbrev pub TellsFile : Bool → decoder.Job → List ℕ → ValueRefusal → Type 0
-TellsFile hex j file (value.Hex fault) = (hex ≡ true) × (hex_bytes file ≡ Err fault)
-TellsFile hex j file (value.Fault fault) = (b : List ℕ) × (value_bytes hex file ≡ Some b)
+abbrev pub ReportsFile : Bool → decoder.Job → List ℕ → ValueRefusal → Type 0
+ReportsFile hex j file (value.Hex fault) = (hex ≡ true) × (hex_bytes file ≡ Err fault)
+ReportsFile hex j file (value.Fault fault) = (b : List ℕ) × (value_bytes hex file ≡ Some b)
     × FinishesDecoder j b (Err fault)
-TellsFile hex j file (value.TrailingBytes at) = (b : List ℕ) × (value_bytes hex file ≡ Some b)
+ReportsFile hex j file (value.TrailingBytes at) = (b : List ℕ) × (value_bytes hex file ≡ Some b)
     × Trails j at b
-TellsFile hex j file value.Device = Unit {0}
-TellsFile hex j file value.Memory = Unit {0}
+ReportsFile hex j file value.Device = Unit {0}
+ReportsFile hex j file value.Memory = Unit {0}

@@ -21,7 +21,7 @@ Limits of a value:
 Exit status:
   0  the answer was written to standard output
   1  the registry, the type or the value is refused; one line on standard error
-     tells the reason and its place in bytes
+     reports the reason and its place in bytes
   2  the command line is wrong
   3  a file does not open, or a read or a write failed
   4  there is not enough memory

@@ -23,7 +23,7 @@ fn report<E: Write>(text: &str, err: &mut Sink<E>)
 /// 3. A failed write to `err` changes no status.
 pub fn unopened<E: Write>(device: Device, err: &mut Sink<E>) -> u8
     ensures status { result ≡ 3 }
-    ensures told { (err.new.failed ≡ true)
+    ensures reported { (err.new.failed ≡ true)
         ⊎ Appends (E.contents err.old.device) (E.contents err.new.device) (device_line device) }
 {
     report(device.line(), err);
@@ -45,7 +45,7 @@ pub fn explain<W: Write, E: Write>(fault: JobFault, out: &mut Sink<W>, err: &mut
         (take n (reported_text fault)) }
     ensures silent { (result ≡ 2) ⊎ (result ≡ 4) →
         Keeps (W.contents out.old.device) (W.contents out.new.device) }
-    ensures told { (result ≡ 2) ⊎ (result ≡ 4) → (err.new.failed ≡ true)
+    ensures reported { (result ≡ 2) ⊎ (result ≡ 4) → (err.new.failed ≡ true)
         ⊎ Appends (E.contents err.old.device) (E.contents err.new.device) (reported_text fault) }
     ensures device { result ≡ 3 → out.new.failed ≡ true }
 {

@@ -40,7 +40,7 @@ fn types_text<R: Read>(
     ensures refused { IfErr result (λ e. status_of e ≡ 1 →
         IfSome (R.remaining registry.old.device) (λ r. types_text metadata r ≡ None)) }
     ensures device { IfErr result (λ e. status_of e ≡ 3 → e ≡ Refusal.RegistryDevice) }
-    ensures told { IsErrOf result Refusal.RegistryDevice → registry.new.failed ≡ true }
+    ensures reported { IsErrOf result Refusal.RegistryDevice → registry.new.failed ≡ true }
     ensures quiet { IsErrOf result Refusal.RegistryDevice
         ⊎ (registry.new.failed ≡ registry.old.failed) }
 {

@@ -33,7 +33,7 @@ fn pull_onto<R: Read>(
         (R.remaining source.new.device) out.old.items out.new.items n) }
     ensures grown { IfOk result (λ n. vec_len out.new ≡ vec_len out.old + n) }
     ensures end { IfOk result (λ n. n ≡ 0 → IsAtEnd (R.remaining source.new.device)) }
-    ensures told { IsErrOf result GatherFault.Device → source.new.failed ≡ true }
+    ensures reported { IsErrOf result GatherFault.Device → source.new.failed ≡ true }
     ensures quiet { IsErrOf result GatherFault.Device ⊎ (source.new.failed ≡ source.old.failed) }
 {
     match source.pull(part) {
@@ -52,7 +52,7 @@ pub(crate) fn gather_all<R: Read>(
 ) -> Result<(), GatherFault>
     ensures ok { OnOk result (IfSome (R.remaining source.old.device)
         (λ bytes. out.new.items ≡ out.old.items ++ bytes)) }
-    ensures told { IsErrOf result GatherFault.Device → source.new.failed ≡ true }
+    ensures reported { IsErrOf result GatherFault.Device → source.new.failed ≡ true }
     ensures quiet { IsErrOf result GatherFault.Device ⊎ (source.new.failed ≡ source.old.failed) }
 {
     let mut part = [0u8; PIECE];

@@ -40,7 +40,7 @@ fn digits_end(text: &[u8]) -> usize
     back_over(text, line, b'\r')
 }
 
-/// The bytes whose digits the text holds: behind an optional `0x`, two hexadecimal digits of either case for each byte,
+/// The bytes whose digits the text holds: after an optional `0x`, two hexadecimal digits of either case for each byte,
 /// and an optional line end, LF or CR and LF.
 ///
 /// Refuses an odd number of bytes between prefix and line end as `Odd` at the end of them, else the first of them that

@@ -42,7 +42,7 @@ pub(crate) fn read_types<R: Read>(
     ensures refused { IfErr result (λ e. status_of e ≡ 1 →
         IfSome (R.remaining source.old.device) (λ bytes. checked_of metadata bytes ≡ None)) }
     ensures device { IfErr result (λ e. status_of e ≡ 3 → e ≡ Refusal.RegistryDevice) }
-    ensures told { IsErrOf result Refusal.RegistryDevice → source.new.failed ≡ true }
+    ensures reported { IsErrOf result Refusal.RegistryDevice → source.new.failed ≡ true }
     ensures quiet { IsErrOf result Refusal.RegistryDevice
         ⊎ (source.new.failed ≡ source.old.failed) }
 {
@@ -79,7 +79,7 @@ pub(crate) fn read_types_with<R: Read>(
     ensures refused { IfErr result (λ e. status_of e ≡ 1 →
         IfSome (R.remaining source.old.device) (λ bytes. types_with metadata id bytes ≡ None)) }
     ensures device { IfErr result (λ e. status_of e ≡ 3 → e ≡ Refusal.RegistryDevice) }
-    ensures told { IsErrOf result Refusal.RegistryDevice → source.new.failed ≡ true }
+    ensures reported { IsErrOf result Refusal.RegistryDevice → source.new.failed ≡ true }
     ensures quiet { IsErrOf result Refusal.RegistryDevice
         ⊎ (source.new.failed ≡ source.old.failed) }
 {

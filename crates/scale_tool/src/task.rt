@@ -5,14 +5,14 @@
 pub enum Job {
     /// Shows a line for each type of the registry. The value is not read.
     Types {
-        /// Does the registry stand behind the prefix of metadata?
+        /// Does the registry stand after the prefix of metadata?
         metadata: bool,
     },
     /// Shows the value of the type at position `id` as JSON.
     Decode {
         /// The position of the value's type in the registry.
         id: u32,
-        /// Does the registry stand behind the prefix of metadata?
+        /// Does the registry stand after the prefix of metadata?
         metadata: bool,
         /// Does the value's file hold hexadecimal digits, and not the bytes themselves?
         hex: bool,

@@ -3,7 +3,7 @@
 ghost use Rattle.std.specs.Prelude.{◌≡◌, ◌⊎◌, ◌<◌, ◌≤◌, length, true, false, IfErr, IfSome};
 ghost use Rattle.std.specs.Prelude.{IsErrOf};
 ghost use Rattle.scale_tool.specs.Refused.{IsOfBytes, calls_refusal, stream_refusal};
-ghost use Rattle.scale_tool.specs.Values.{ReadsBytes, ReadsFileValue, TellsBytes, TellsFile};
+ghost use Rattle.scale_tool.specs.Values.{ReadsBytes, ReadsFileValue, ReportsBytes, ReportsFile};
 ghost use Rattle.scale_tool.specs.Values.{decoding};
 ghost use Rattle.scale_tool.specs.Values.{file_value, value_of_type};
 ghost use Rattle.decode_core.specs.declared.fault.OpenFault.{OpenFault as AnOpenFault};
@@ -70,9 +70,9 @@ fn read_raw<'r, V: Read>(
     requires depth { depth ≤ 1024 }
     ensures value { IfSome (V.remaining source.old.device)
         (λ file. ReadsFileValue (file_value false id depth checked.now.types file) result) }
-    ensures tells { IfErr result (λ e. IfSome (V.remaining source.old.device)
-        (λ file. TellsFile false (decoding id depth checked.now.types) file e)) }
-    ensures told { IsErrOf result ValueRefusal.Device → source.new.failed ≡ true }
+    ensures reports { IfErr result (λ e. IfSome (V.remaining source.old.device)
+        (λ file. ReportsFile false (decoding id depth checked.now.types) file e)) }
+    ensures reported { IsErrOf result ValueRefusal.Device → source.new.failed ≡ true }
     ensures quiet { IsErrOf result ValueRefusal.Device ⊎ (source.new.failed ≡ source.old.failed) }
 {
     match decode_all(alloc, checked, TypeId(id), limits(depth), source) {
@@ -92,7 +92,7 @@ fn value_of<'r>(
     requires known { id < length checked.now.types }
     requires depth { depth ≤ 1024 }
     ensures value { ReadsBytes (value_of_type id depth checked.now.types bytes.now) result }
-    ensures tells { IfErr result (TellsBytes (decoding id depth checked.now.types) bytes.now) }
+    ensures reports { IfErr result (ReportsBytes (decoding id depth checked.now.types) bytes.now) }
 {
     match calls::read_value(alloc, checked, id, limits(depth), bytes) {
         Ok(value) => Ok(value),
@@ -112,9 +112,9 @@ fn read_hex<'r, V: Read>(
     requires depth { depth ≤ 1024 }
     ensures value { IfSome (V.remaining source.old.device)
         (λ file. ReadsFileValue (file_value true id depth checked.now.types file) result) }
-    ensures tells { IfErr result (λ e. IfSome (V.remaining source.old.device)
-        (λ file. TellsFile true (decoding id depth checked.now.types) file e)) }
-    ensures told { IsErrOf result ValueRefusal.Device → source.new.failed ≡ true }
+    ensures reports { IfErr result (λ e. IfSome (V.remaining source.old.device)
+        (λ file. ReportsFile true (decoding id depth checked.now.types) file e)) }
+    ensures reported { IsErrOf result ValueRefusal.Device → source.new.failed ≡ true }
     ensures quiet { IsErrOf result ValueRefusal.Device ⊎ (source.new.failed ≡ source.old.failed) }
 {
     let mut text = Vec::new(alloc);
@@ -144,9 +144,9 @@ pub(crate) fn read_value<'r, V: Read>(
     requires depth { depth ≤ 1024 }
     ensures value { IfSome (V.remaining source.old.device)
         (λ file. ReadsFileValue (file_value hex id depth checked.now.types file) result) }
-    ensures tells { IfErr result (λ e. IfSome (V.remaining source.old.device)
-        (λ file. TellsFile hex (decoding id depth checked.now.types) file e)) }
-    ensures told { IsErrOf result ValueRefusal.Device → source.new.failed ≡ true }
+    ensures reports { IfErr result (λ e. IfSome (V.remaining source.old.device)
+        (λ file. ReportsFile hex (decoding id depth checked.now.types) file e)) }
+    ensures reported { IsErrOf result ValueRefusal.Device → source.new.failed ≡ true }
     ensures quiet { IsErrOf result ValueRefusal.Device ⊎ (source.new.failed ≡ source.old.failed) }
 {
     if hex {

@@ -1,4 +1,4 @@
--- What each call does to what is behind its handles, and what it tells.
+-- What each call does to what is behind its handles, and what it reports.
 use Rattle.std.specs.Prelude.{◌≡◌, ℕ, ◌<◌, ◌≤◌, ◌⊎◌, List, [], ◌++◌, length, drop, Bool, Option}
 use Rattle.std.specs.Prelude.{Some, None, MatchOption, Result, Ok, Err, string_bytes}
 use Rattle.grammar_core.specs.declared.limits.Limits.{Limits}
@@ -33,13 +33,13 @@ Writes text old new a = ((length text ≤ length old) × (new ≡ text ++ drop (
     × (a ≡ counted 0 (length text)))
     ⊎ ((length old < length text) × (new ≡ old) × (a ≡ counted 2 (length text)))
 
--- the code alone is told
+-- the code alone is reported
 abbrev pub Leaves : List ℕ → List ℕ → Answer → Answer → Type 0
-Leaves old new told a = (new ≡ old) × (a ≡ told)
+Leaves old new reported a = (new ≡ old) × (a ≡ reported)
 
 -- ---- registries
 
--- the registry that the bytes hold is behind the handle; or nothing is, and it is told why
+-- the registry that the bytes hold is behind the handle; or nothing is, and it is reported why
 abbrev pub OpensRegistry : Bool → List ℕ → Option Held → Answer → Type 0
 OpensRegistry metadata b (Some (held.Registry o)) a = (checked_of metadata b ≡ Some o.checked.types)
     × (a ≡ counted 0 (length o.checked.types))
@@ -47,7 +47,7 @@ OpensRegistry metadata b (Some (held.Session s)) a = ⊥
 OpensRegistry metadata b None a = (e : RegistryRefusal) × RefusesRegistry metadata b e
     × (a ≡ registry_answer e)
 
--- it is told that the handle is not none, and what is behind it stays
+-- it is reported that the handle is not none, and what is behind it stays
 abbrev pub Stays : Option Held → Option Held → Answer → Type 0
 Stays old new a = (new ≡ old) × (a ≡ plain 6)
 
@@ -72,10 +72,10 @@ ClosesRegistry (Some (held.Session s)) new code = (code ≡ 5) × (new ≡ Some 
 ClosesRegistry None new code = (code ≡ 5) × (new ≡ None)
 
 -- how many types there are
-abbrev pub TellsTypes : Option Held → Answer → Type 0
-TellsTypes (Some (held.Registry o)) a = a ≡ counted 0 (length o.checked.types)
-TellsTypes (Some (held.Session s)) a = a ≡ plain 5
-TellsTypes None a = a ≡ plain 5
+abbrev pub ReportsTypes : Option Held → Answer → Type 0
+ReportsTypes (Some (held.Registry o)) a = a ≡ counted 0 (length o.checked.types)
+ReportsTypes (Some (held.Session s)) a = a ≡ plain 5
+ReportsTypes None a = a ≡ plain 5
 
 -- the line of the type is written, where there is one, unless memory was refused
 abbrev pub WritesLine : Option Held → ℕ → List ℕ → List ℕ → Answer → Type 0
@@ -85,12 +85,12 @@ WritesLine (Some (held.Registry o)) id old new a = Leaves old new (plain 3) a
 WritesLine (Some (held.Session s)) id old new a = Leaves old new (plain 5) a
 WritesLine None id old new a = Leaves old new (plain 5) a
 
--- a text is written, or it is told why there is none
+-- a text is written, or it is reported why there is none
 abbrev pub WritesResult : Result (List ℕ) ValueRefusal → List ℕ → List ℕ → Answer → Type 0
 WritesResult (Ok text) old new a = Writes text old new a
 WritesResult (Err e) old new a = Leaves old new (value_answer e) a
 
--- the JSON of the value that the bytes spell is written, or it is told why there is none
+-- the JSON of the value that the bytes spell is written, or it is reported why there is none
 abbrev pub WritesJson : Opened → ℕ → Limits → List ℕ → List ℕ → List ℕ → Answer → Type 0
 WritesJson o id limits b old new a = (r : Result (List ℕ) ValueRefusal)
     × ShowsValue (λ (text : List ℕ). text) (opening_fault o.checked.types id limits)
@@ -115,7 +115,7 @@ IsStarted o id limits (stage.Decoding d) = (opening_fault o.checked.types id lim
 IsStarted o id limits (stage.Shown text) = ⊥
 IsStarted o id limits (stage.Refused e) = ⊥
 
--- what a box holds is such a session; or it is told why there is none
+-- what a box holds is such a session; or it is reported why there is none
 abbrev pub IsSession : Opened → ℕ → Limits → Held → Type 0
 IsSession o id limits (held.Session s) = IsStarted o id limits s.stage
 IsSession o id limits (held.Registry other) = ⊥
@@ -126,7 +126,7 @@ StartsBox value_of o id limits (Ok x) = IsSession o id limits (value_of x)
 StartsBox value_of o id limits (Err e) =
     ForbidsStart (opening_fault o.checked.types id limits) (value_answer e)
 
--- such a session is behind the handle; or nothing is, and it is told why
+-- such a session is behind the handle; or nothing is, and it is reported why
 abbrev pub StartsSession : Option Held → ℕ → Limits → Option Held → Answer → Type 0
 StartsSession (Some (held.Registry o)) id limits (Some (held.Session s)) a =
     IsStarted o id limits s.stage
@@ -147,7 +147,7 @@ abbrev pub fed_answer : Result Progress DecodeFault → Answer
 fed_answer (Ok progress) = progress_answer progress
 fed_answer (Err f) = value_answer (value_refusal f)
 
--- the decoder took the piece, and its answer is told; a value that was ended stays
+-- the decoder took the piece, and its answer is reported; a value that was ended stays
 abbrev pub FeedsStage : Stage → List ℕ → Stage → Answer → Type 0
 FeedsStage (stage.Decoding d) piece (stage.Decoding e) a = (r : Result Progress DecodeFault)
     × ((b : List ℕ) → Led d b → AnswersPiece d e (b ++ piece) r × Led e (b ++ piece))
@@ -157,7 +157,7 @@ FeedsStage (stage.Decoding d) piece (stage.Refused e) a = ⊥
 FeedsStage (stage.Shown text) piece new a = (new ≡ stage.Shown text) × (a ≡ counted 0 0)
 FeedsStage (stage.Refused e) piece new a = (new ≡ stage.Refused e) × (a ≡ value_answer e)
 
--- there is no session, which is told, and nothing changes
+-- there is no session, which is reported, and nothing changes
 abbrev pub IsNone : Option Held → Option Held → Answer → Type 0
 IsNone old new a = (new ≡ old) × (a ≡ plain 5)
 
@@ -177,12 +177,12 @@ number_by count (stage.Refused e) = 0
 abbrev pub taken_of : Decoding → ℕ
 taken_of d = d.taken
 
--- it is told, and nothing changes
-abbrev pub Tells : (Decoding → ℕ) → Option Held → Option Held → Answer → Type 0
-Tells count (Some (held.Session s)) new a = (new ≡ Some (held.Session s))
+-- it is reported, and nothing changes
+abbrev pub Reports : (Decoding → ℕ) → Option Held → Option Held → Answer → Type 0
+Reports count (Some (held.Session s)) new a = (new ≡ Some (held.Session s))
     × (a ≡ counted 0 (number_by count s.stage))
-Tells count (Some (held.Registry o)) new a = IsNone (Some (held.Registry o)) new a
-Tells count None new a = IsNone None new a
+Reports count (Some (held.Registry o)) new a = IsNone (Some (held.Registry o)) new a
+Reports count None new a = IsNone None new a
 
 -- the end of these bytes: the JSON of their value, or why there is none, unless memory was refused
 abbrev pub EndsAs : Job → List ℕ → Stage → Type 0
@@ -199,7 +199,7 @@ Ends (stage.Decoding d) new = (b : List ℕ) → Led d b → EndsAs d.job b new
 Ends (stage.Shown text) new = new ≡ stage.Shown text
 Ends (stage.Refused e) new = new ≡ stage.Refused e
 
--- its text is written, or it is told why there is none
+-- its text is written, or it is reported why there is none
 abbrev pub WritesStage : Stage → List ℕ → List ℕ → Answer → Type 0
 WritesStage (stage.Decoding d) old new a = Leaves old new (plain 1) a
 WritesStage (stage.Shown text) old new a = Writes (string_bytes text) old new a

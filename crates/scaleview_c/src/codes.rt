@@ -25,7 +25,7 @@ pub const TAKEN: u32 = 6;
 /// The registry has no type at the position.
 pub const UNKNOWN_TYPE: u32 = 201;
 
-/// What a call tells: its code, and numbers of which those that the code does not speak of are 0.
+/// What a call reports: its code, and numbers of which those that the code does not speak of are 0.
 #[repr(C)]
 #[derive(Clone, Copy, Debug, PartialEq, Eq)]
 pub struct Answer {

@@ -2,7 +2,7 @@
 
 ghost use Rattle.std.specs.Prelude.{◌≡◌, None, Some};
 ghost use Rattle.scale_calls.specs.Opened.{RefusesRegistry, checked_of};
-ghost use Rattle.scaleview_c.specs.Calls.{ClosesRegistry, OpensBox, OpensHandle, TellsTypes};
+ghost use Rattle.scaleview_c.specs.Calls.{ClosesRegistry, OpensBox, OpensHandle, ReportsTypes};
 ghost use Rattle.scaleview_c.specs.Calls.{WritesJson};
 ghost use Rattle.scaleview_c.specs.Calls.{WritesLine, WritesValue};
 
@@ -80,7 +80,7 @@ pub extern "C" fn scaleview_close(alloc: Global, registry: &mut Handle) -> u32
 /// How many types a registry has.
 #[unsafe(no_mangle)]
 pub extern "C" fn scaleview_types(registry: Lent, answer: &mut Answer) -> u32
-    ensures types { TellsTypes registry.value answer.new }
+    ensures types { ReportsTypes registry.value answer.new }
     ensures code { result ≡ answer.new.code }
 {
     *answer = match registry.get() {

@@ -31,7 +31,7 @@ pub struct Session {
 }
 
 impl Stage {
-    /// Takes the next piece, and tells how far the value is.
+    /// Takes the next piece, and reports how far the value is.
     pub(crate) fn feed(&mut self, piece: &[u8]) -> Answer
         ensures { FeedsStage self.old piece.now self.new result }
     {

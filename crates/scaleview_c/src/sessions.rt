@@ -3,7 +3,7 @@
 ghost use Rattle.std.specs.Prelude.{◌≡◌, None, Some};
 ghost use Rattle.decode_core.specs.Decoding.{node_count, text_bytes};
 ghost use Rattle.scaleview_c.specs.Calls.{Feeds, FinishesSession, Frees, StartsBox, StartsHandle};
-ghost use Rattle.scaleview_c.specs.Calls.{Tells};
+ghost use Rattle.scaleview_c.specs.Calls.{Reports};
 ghost use Rattle.scaleview_c.specs.Calls.{taken_of};
 
 use crate::codes::{Answer, NO_HANDLE, OK, TAKEN};
@@ -105,7 +105,7 @@ pub extern "C" fn scaleview_feed(
 /// How many bytes of all pieces were taken.
 #[unsafe(no_mangle)]
 pub extern "C" fn scaleview_taken(alloc: Global, session: &mut Handle, answer: &mut Answer) -> u32
-    ensures told { Tells taken_of session.old.value session.new.value answer.new }
+    ensures reported { Reports taken_of session.old.value session.new.value answer.new }
     ensures code { result ≡ answer.new.code }
 {
     let Some(held) = held_by(alloc, mem::replace(session, Handle::none())) else {
@@ -123,7 +123,7 @@ pub extern "C" fn scaleview_taken(alloc: Global, session: &mut Handle, answer: &
 /// How many nodes of the value are held.
 #[unsafe(no_mangle)]
 pub extern "C" fn scaleview_nodes(alloc: Global, session: &mut Handle, answer: &mut Answer) -> u32
-    ensures told { Tells node_count session.old.value session.new.value answer.new }
+    ensures reported { Reports node_count session.old.value session.new.value answer.new }
     ensures code { result ≡ answer.new.code }
 {
     let Some(held) = held_by(alloc, mem::replace(session, Handle::none())) else {
@@ -145,7 +145,7 @@ pub extern "C" fn scaleview_text_bytes(
     session: &mut Handle,
     answer: &mut Answer,
 ) -> u32
-    ensures told { Tells text_bytes session.old.value session.new.value answer.new }
+    ensures reported { Reports text_bytes session.old.value session.new.value answer.new }
     ensures code { result ≡ answer.new.code }
 {
     let Some(held) = held_by(alloc, mem::replace(session, Handle::none())) else {

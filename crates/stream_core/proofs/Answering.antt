@@ -123,7 +123,7 @@ joined_split : {X : Type 0} (f : X → List ℕ) (xs : List X) (i : ℕ) →
 joined_split f xs i = ap (flat_map f) (sym (take-append-drop i xs))
     ∙ flat_map-append f (take i xs) (drop i xs)
 
--- joined pieces are those before a position, the one there, and those behind it
+-- joined pieces are those before a position, the one there, and those after it
 pub joined_at : {X : Type 0} (f : X → List ℕ) (xs : List X) (i : ℕ) (x : X) → i < length xs →
     flat_map f xs ≡ (flat_map f (take i xs) ++ f (get_or xs i x)) ++ flat_map f (drop (i + 1) xs)
 joined_at f xs i x lt = joined_split f xs (i + 1)

@@ -111,7 +111,7 @@ pub record Whole (old new : Decoding) (b : List ℕ) (used : ℕ) : Type 0 where
   pub outcome : IsOutcome new.job b (done tree) new.taken
   pub count : new.taken ≡ old.taken + used
 
--- an answer that the value is done tells of its tree and how many of the bytes are its own
+-- an answer that the value is done reports of its tree and how many of the bytes are its own
 pub whole_by : (old new : Decoding) (b : List ℕ) (p : Progress) (used : ℕ) →
     p ≡ progress.Done used → AnswersPiece old new b (Ok p) → Whole old new b used
 whole_by old new b p used is h =
@@ -134,22 +134,22 @@ ended_known (Some xs) None j b f n c h = absurd c
 ended_known (Some xs) (Some ys) j b f n c h =
     inr (n, subst (λ (l : List ℕ). IsEnded j l f n) (sym c) (ended_stays j b ys f n h))
 
--- a value that ends before the last of the bytes has some of them behind it
-trails_behind : (j : Job) (xs b rest : List ℕ) (v : Tree) (n : ℕ) → xs ≡ b ++ rest →
+-- a value that ends before the last of the bytes has some of them after it
+trails_after : (j : Job) (xs b rest : List ℕ) (v : Tree) (n : ℕ) → xs ≡ b ++ rest →
     IsOutcome j b (done v) n → n < length b + length rest → Trails j n xs
-trails_behind j xs b rest v n is h less = (
+trails_after j xs b rest v n is h less = (
   v,
   subst (λ (l : List ℕ). IsOutcome j l (done v) n) (sym is) (done_stays j b rest v n h),
   omega (arith, ap length is, length-append b rest, less),
 )
 
--- a value that ends before the last of the bytes read has bytes of the reader behind it
+-- a value that ends before the last of the bytes read has bytes of the reader after it
 pub trails_within : (known left : Option (List ℕ)) (j : Job) (b : List ℕ) (v : Tree) (n : ℕ) →
     Consumes known left b → IsOutcome j b (done v) n → n < length b → IfSome known (Trails j n)
 trails_within None left j b v n c h less = tt
 trails_within (Some xs) None j b v n c h less = absurd c
 trails_within (Some xs) (Some ys) j b v n c h less =
-    trails_behind j xs b ys v n c h (omega (arith, less))
+    trails_after j xs b ys v n c h (omega (arith, less))
 
 -- where the reader has bytes left, some follow the value that was read
 pub trails_left : (known left : Option (List ℕ)) (j : Job) (b : List ℕ) (v : Tree) (n : ℕ) →
@@ -158,7 +158,7 @@ pub trails_left : (known left : Option (List ℕ)) (j : Job) (b : List ℕ) (v :
 trails_left None left j b v n c h some = tt
 trails_left (Some xs) None j b v n c h some = absurd c
 trails_left (Some xs) (Some ys) j b v n c h some =
-    trails_behind j xs b ys v n c h (omega (arith, some, done_fits j b v n h))
+    trails_after j xs b ys v n c h (omega (arith, some, done_fits j b v n h))
 
 -- the last read gave nothing
 pub end_known : (known mid left : Option (List ℕ)) (b part : List ℕ) (n : ℕ) → n ≡ 0 →
@@ -203,7 +203,7 @@ done_open : (j : Job) (b : List ℕ) (v : Tree) (n : ℕ) → IsOutcome j b (don
 done_open j b v n h long = let all : n ≡ length b = omega (arith, long, done_fits j b v n h) in
     inr (inr (v, subst (IsOutcome j b (done v)) all h))
 
--- what a look behind a whole value says
+-- what a look after a whole value says
 pub look_feeds : (known left end : Option (List ℕ)) (d : Decoding) (b : List ℕ) (v : Tree)
     (r : Result Bool StreamFault) → Consumes known left b → IsOutcome d.job b (done v) d.taken →
     Led d b → length b ≤ d.taken → Looks left end r → FeedsAll d known end r

@@ -60,7 +60,7 @@ Streams forbidden j b (Err (stream.Decode f)) = (forbidden ≡ None) × Finishes
 Streams forbidden j b (Err (stream.TrailingBytes at)) = (forbidden ≡ None) × Trails j at b
 Streams forbidden j b (Err stream.Device) = (forbidden ≡ None) × FrontLeavesOpen j b
 
--- the value on the front of the joined pieces, how many bytes are its own, and that it is little
+-- the value on the front of the joined pieces, how many bytes are its own, and that it is bounded
 -- for them; or, as above, the fault
 abbrev pub Joins : Option OpenFault → Job → List ℕ → Result (Seen × ℕ) PiecesFault → Type 0
 Joins forbidden j b (Ok x) = (forbidden ≡ None) × IsOfJob j x.0 × IsOutcome j b (done x.0.tree) x.1

@@ -59,7 +59,7 @@ fn feed_pieces<A: Allocator>(
 }
 
 /// The value of the root's type, within these limits, on the front of the joined pieces, and how many of their bytes are
-/// the value's. Bytes behind it are not looked at and are no fault.
+/// the value's. Bytes after it are not read and are no fault.
 ///
 /// This is a decoder's run as a whole, and however the input is cut, its answer is that to the joined bytes: the one
 /// value whose encoding is exactly the bytes taken, or the one fault. The value has at most

@@ -66,7 +66,7 @@ impl From<SourceFault> for StreamFault {
 /// Does a byte follow? It is read then.
 fn has_more<R: Read>(source: &mut Source<R>) -> Result<bool, StreamFault>
     ensures answers { Looks (R.remaining source.old.device) (R.remaining source.new.device) result }
-    ensures told { IsErrOf result StreamFault.Device → source.new.failed ≡ true }
+    ensures reported { IsErrOf result StreamFault.Device → source.new.failed ≡ true }
     ensures quiet { IsErrOf result StreamFault.Device ⊎ (source.new.failed ≡ source.old.failed) }
 {
     let mut next = [0u8; 1];
@@ -83,7 +83,7 @@ fn feed_all<A: Allocator, R: Read>(
     ensures job { decoder.new.job ≡ decoder.old.job }
     ensures answers { FeedsAll decoder.new (R.remaining source.old.device)
         (R.remaining source.new.device) result }
-    ensures told { IsErrOf result StreamFault.Device → source.new.failed ≡ true }
+    ensures reported { IsErrOf result StreamFault.Device → source.new.failed ≡ true }
     ensures quiet { IsErrOf result StreamFault.Device ⊎ (source.new.failed ≡ source.old.failed) }
 {
     let mut part = [0u8; PIECE];
@@ -128,7 +128,7 @@ pub fn decode_all<'r, A: Allocator + Clone, R: Read>(
     ensures open { (e : OpenFault) → result ≡ Err (StreamFault.Open e) →
         Forbids (opening_fault checked.now.types root.0 limits) e }
     ensures unread { (e : OpenFault) → result ≡ Err (StreamFault.Open e) → source.new ≡ source.old }
-    ensures told { IsErrOf result StreamFault.Device → source.new.failed ≡ true }
+    ensures reported { IsErrOf result StreamFault.Device → source.new.failed ≡ true }
     ensures quiet { IsErrOf result StreamFault.Device ⊎ (source.new.failed ≡ source.old.failed) }
 {
     let mut decoder = Decoder::new(alloc, checked, root, limits)?;

@@ -142,7 +142,7 @@ kept_snoc (m ∷ ns) n = omega (arith, kept_snoc ns n)
 abbrev entry_of : ℕ → Head → Entry
 entry_of t h = record { ty = t; head = h }
 
--- a node that is added, with its bytes in the pool, is shown behind those that were there
+-- a node that is added, with its bytes in the pool, is shown after those that were there
 pub entries_added : (pool more : List ℕ) (ns : List Node) (n : Node) (t : ℕ) (h : Head) →
     AreInPool pool ns → n.ty.0 ≡ t → head_shown (pool ++ more) n.children n.content ≡ h →
     entries_shown (pool ++ more) (ns ++ n ∷ []) ≡ entries_shown pool ns ++ entry_of t h ∷ []
@@ -163,7 +163,7 @@ leaf_cells : (r : List TypeInfo) (t : ℕ) (h : Head) → IsLeaf h →
 leaf_cells r t (head.leaf l) h = (refl, refl)
 leaf_cells r t (head.branch k n) h = absurd h
 
--- where a value of the next type comes, its nodes and bytes stand behind those that were there
+-- where a value of the next type comes, its nodes and bytes stand after those that were there
 leaf_grown : (r : List TypeInfo) (room ty : ℕ) (os : List OpenNode) (fs : List OpenPart)
     (cs : List Cell) (own : List ℕ) (t : ℕ) (v : Tree) (c : List ℕ) → first_in fs ≡ Some t →
     Spine r room ty os fs cs own → Val r t v c → levels v ≤ room →
@@ -274,7 +274,7 @@ open_shown pool children c kind n e = open_by pool children c (ap is_open e ∙ 
 kind_text : (kind : Branch) (n : ℕ) → head_text_bytes (head.branch kind n) ≡ 0
 kind_text k n = refl
 
--- where a node of the next type opens, it is the innermost, and its cells come behind the others
+-- where a node of the next type opens, it is the innermost, and its cells come after the others
 open_grown : (r : List TypeInfo) (room ty : ℕ) (os : List OpenNode) (fs : List OpenPart)
     (cs : List Cell) (own : List ℕ) (o : OpenNode) (p : Part) → first_in fs ≡ Some o.ty →
     Spine r (suc room) ty os fs cs own → IsOpen r o p → most_levels o.done ≤ room →

@@ -80,7 +80,7 @@ sequence_sized class.NoValue sized t e = absurd cc
 sequence_sized class.Empty sized t e = absurd cc
 sequence_sized class.Sized sized t e = e
 
--- where the step of a sequence tells the type of its elements, it is the sequence's own
+-- where the step of a sequence reports the type of its elements, it is the sequence's own
 sequence_is : (c : Class) (byte : Bool) (t u : ℕ) → step.Sequence t ≡ sequence_step c byte u → t ≡ u
 sequence_is class.NoValue true t u e = absurd cc
 sequence_is class.NoValue false t u e = cc
@@ -88,7 +88,7 @@ sequence_is class.Empty byte t u e = absurd cc
 sequence_is class.Sized true t u e = absurd cc
 sequence_is class.Sized false t u e = cc
 
--- where the step of an array tells the type of its elements, it is the array's own
+-- where the step of an array reports the type of its elements, it is the array's own
 array_is : (byte : Bool) (n m t u : ℕ) → step.Array n t ≡ array_step byte m u → t ≡ u
 array_is true n m t u e = absurd cc
 array_is false n m t u e = cc
@@ -195,7 +195,7 @@ pub record OpensParts (w : Walked) (left : Left) : Type 0 where
   pub opens : OpensFields w (left_of w.types left)
   pub counts : how_many_left (left_of w.types left) ≡ left.count
 
--- the fields or members that the next type opens are the piece of references that its step tells
+-- the fields or members that the next type opens are the piece of references that its step reports
 parts_open : (w : Walked) (from count from' count' : ℕ) (c : Class) (ts : List ℕ) →
     step.Parts from count ≡ by_class c step.NoValue (step.Parts from' count') →
     AreParts (references_of w.types) from' count' ts → OpensFields w (each ts) →
@@ -211,7 +211,7 @@ parts_open w from count from' count' c ts e parts o =
       counts = ap how_many_left left ∙ counted;
     })
 
--- where fields are next, they are the piece of references that the step ahead tells
+-- where fields are next, they are the piece of references that the step ahead reports
 fields_open : (w : Walked) (from count : ℕ) → next_of w ≡ next.Wants form.Fields →
     IsStepAhead w.types (next_type w) (Some (step.Parts from count)) →
     OpensParts w (members_of from count)
@@ -235,7 +235,7 @@ fields_open w from count h a =
       go c (Def.Compact u) s is f = absurd cc
       go c (Def.BitSequence store order) s is f = absurd cc
 
--- where an array is next, so many of the type that the step ahead tells are its elements
+-- where an array is next, so many of the type that the step ahead reports are its elements
 elements_open : (w : Walked) (n m t : ℕ) → next_of w ≡ next.Wants (form.Array n) →
     IsStepAhead w.types (next_type w) (Some (step.Array m t)) → OpensElements w n (times n t)
 elements_open w n m t h a =
@@ -258,7 +258,7 @@ elements_open w n m t h a =
       go c (Def.Compact u) s is f = absurd cc
       go c (Def.BitSequence store order) s is f = absurd cc
 
--- where a sequence is next, any number of the type that the step ahead tells are its elements
+-- where a sequence is next, any number of the type that the step ahead reports are its elements
 sequence_elements_open : (w : Walked) (n t : ℕ) → next_of w ≡ next.Wants form.Sequence →
     IsStepAhead w.types (next_type w) (Some (step.Sequence t)) → OpensElements w n (times n t)
 sequence_elements_open w n t h a =
@@ -307,7 +307,7 @@ found_arm_opens w t index o h e a =
                 (field_types x.1.fields) a.1,
           ) refl
 
--- an arm that is found opens as many parts as its step tells
+-- an arm that is found opens as many parts as its step reports
 pub found_arm_counts : (w : Walked) (s : ArmStep) (x : Option (ℕ × Arm)) →
     IsArm (references_of w.types) (Some s) x →
     how_many_left (opened_parts w s.from s.count) ≡ s.count
@@ -339,7 +339,7 @@ none_ahead : (w : Walked) (f : Form) → next_of w ≡ next.Wants f →
     IsStepAhead w.types (next_type w) None → ⊥
 none_ahead w f h a = rw (wanted w f h).is_next at a
 
--- where fields are next, the step ahead tells a piece of the references
+-- where fields are next, the step ahead reports a piece of the references
 fields_known : (w : Walked) (o : Option Step) → next_of w ≡ next.Wants form.Fields →
     IsStepAhead w.types (next_type w) o → (from count : ℕ) × (o ≡ Some (step.Parts from count))
 fields_known w None h a = absurd (none_ahead w form.Fields h a)
@@ -361,7 +361,7 @@ fields_known w (Some s) h a = go s (with_form w form.Fields s h a) where
   go step.Count e = absurd cc
   go step.BitSequence e = absurd cc
 
--- where an array is next, the step ahead is one of an array and tells its elements
+-- where an array is next, the step ahead is one of an array and reports its elements
 array_known : (w : Walked) (n : ℕ) (o : Option Step) → next_of w ≡ next.Wants (form.Array n) →
     IsStepAhead w.types (next_type w) o → (m t : ℕ) × (o ≡ Some (step.Array m t))
 array_known w n None h a = absurd (none_ahead w (form.Array n) h a)
@@ -383,7 +383,7 @@ array_known w n (Some s) h a = go s (with_form w (form.Array n) s h a) where
   go step.Count e = absurd cc
   go step.BitSequence e = absurd cc
 
--- where a sequence is next, the step ahead is one of a sequence and tells its elements
+-- where a sequence is next, the step ahead is one of a sequence and reports its elements
 sequence_known : (w : Walked) (o : Option Step) → next_of w ≡ next.Wants form.Sequence →
     IsStepAhead w.types (next_type w) o → (t : ℕ) × (o ≡ Some (step.Sequence t))
 sequence_known w None h a = absurd (none_ahead w form.Sequence h a)
@@ -414,7 +414,7 @@ members_there w o h a e =
     let k = fields_known w o h a in
     absurd (none-some (members_of k.0 k.1) (sym e ∙ ap members_in k.2))
 
--- where fields are next, the members that the step ahead tells are what is opened
+-- where fields are next, the members that the step ahead reports are what is opened
 pub members_opened : (w : Walked) (o : Option Step) (left : Left) →
     next_of w ≡ next.Wants form.Fields → IsStepAhead w.types (next_type w) o →
     members_in o ≡ Some left → OpensParts w left
@@ -424,7 +424,7 @@ members_opened w o left h a e =
     same_Some left (members_of k.0 k.1) (sym e ∙ ap members_in k.2) in
     rw is (fields_open w k.0 k.1 h (rw k.2 at a))
 
--- where an array is next, the step ahead tells the type of its elements, and they are opened
+-- where an array is next, the step ahead reports the type of its elements, and they are opened
 array_opened : (w : Walked) (n : ℕ) (o : Option Step) → next_of w ≡ next.Wants (form.Array n) →
     IsStepAhead w.types (next_type w) o → (t : ℕ) × (element_in o ≡ Some t)
     × OpensElements w n (times n t)
@@ -432,7 +432,7 @@ array_opened w n o h a =
     let k = array_known w n o h a in
     (k.1, ap element_in k.2, elements_open w n k.0 k.1 h (rw k.2 at a))
 
--- where a sequence is next, the step ahead tells the type of its elements, and they are opened
+-- where a sequence is next, the step ahead reports the type of its elements, and they are opened
 sequence_opened : (w : Walked) (n : ℕ) (o : Option Step) → next_of w ≡ next.Wants form.Sequence →
     IsStepAhead w.types (next_type w) o → (t : ℕ) × (element_in o ≡ Some t)
     × OpensElements w n (times n t)
@@ -454,7 +454,7 @@ elements_there w n o h a e =
     let k = list_opened w n o h a in
     absurd (none-some k.0 (sym e ∙ k.1))
 
--- where an array or a sequence is next, so many of the type that the step tells are opened
+-- where an array or a sequence is next, so many of the type that the step reports are opened
 pub elements_opened : (w : Walked) (n : ℕ) (o : Option Step) (t : ℕ) → IsListNext w n →
     IsStepAhead w.types (next_type w) o → element_in o ≡ Some t → OpensElements w n (times n t)
 elements_opened w n o t h a e =

@@ -142,11 +142,11 @@ abbrev BegunAs : List TypeInfo → ℕ → ℕ → List Head → List ℕ → Op
 BegunAs r top t hs own next = (g : Begun) × Grows r top t g own next × IsPart g
     × IsBegunPreorder g hs
 
--- the innermost open node, its whole children and what follows stand behind the nodes before it
-heads_behind : (r : List TypeInfo) (o : OpenNode) (cs cs1 : List Cell) (hs : List Head) →
+-- the innermost open node, its whole children and what follows stand after the nodes before it
+heads_after : (r : List TypeInfo) (o : OpenNode) (cs cs1 : List Cell) (hs : List Head) →
     cs ≡ cs1 ++ open_cells r o →
     bare_heads cs ++ hs ≡ bare_heads cs1 ++ (head.branch o.kind o.all ∷ (all_preorder o.done ++ hs))
-heads_behind r o cs cs1 hs e =
+heads_after r o cs cs1 hs e =
     ap (λ (x : List Cell). bare_heads x ++ hs) e
     ∙ ap (λ (x : List Head). x ++ hs) (map-append (λ (c : Cell). c.head) cs1 (open_cells r o))
     ∙ append_assoc (bare_heads cs1) (bare_heads (open_cells r o)) hs
@@ -179,7 +179,7 @@ plugged r top room t (o ∷ os) f fs cs own w g c next hs e h first k part shows
     (around o.kind o.all o.done g) (o.own ++ c) next
     (head.branch o.kind o.all ∷ (all_preorder o.done ++ hs)) (omega (arith, e)) h.8 h.7 a.0 a.1
     a.2 in
-    (g'.0, rw (h.12, append_assoc) g'.1, g'.2, rw (heads_behind r o cs h.4 hs h.11) g'.3)
+    (g'.0, rw (h.12, append_assoc) g'.1, g'.2, rw (heads_after r o cs h.4 hs h.11) g'.3)
 
 -- nodes and bytes of a begun tree may be replaced by equal ones
 same_begun : (r : List TypeInfo) (top t : ℕ) (hs hs' : List Head) (own own' : List ℕ)
@@ -224,7 +224,7 @@ counted g h vs rest none c = (
   omega (arith, none, heads_text-append (all_preorder vs) rest, text_of_all_preorder vs, c.1),
 )
 
--- the nodes of a begun tree are as many as it tells, and so are their bytes of text
+-- the nodes of a begun tree are as many as it reports, and so are their bytes of text
 pub counts : (g : Begun) (hs : List Head) → IsBegunPreorder g hs → Counts g hs
 counts nothing hs h = rw h (refl, refl)
 counts (whole v) hs h = rw h (preorder_length v, text_of_preorder v)

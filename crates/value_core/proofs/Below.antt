@@ -45,13 +45,13 @@ each_are r t (and v vs) b p h =
     let q : AreBytes (h.0 ++ h.1) = rw (← h.2) p in
     ((h.0, front_bytes h.0 h.1 q, h.3), each_are r t vs h.1 (rest_bytes h.0 h.1 q) h.4)
 
--- an arm that stands behind others is at the position that is their number
+-- an arm that stands after others is at the position that is their number
 get_at : (before : List Arm) (a : Arm) (after : List Arm) →
     slice_get (before ++ a ∷ after) (length before) ≡ Some a
 get_at [] a after = refl
 get_at (x ∷ before) a after = get_at before a after
 
--- the arm that is found for an index stands among the arms at the position that is told
+-- the arm that is found for an index stands among the arms at the position that is reported
 pub arm_get : (arms : List Arm) (i q : ℕ) (a : Arm) → arm_of arms i ≡ Some (q, a) →
     slice_get arms q ≡ Some a
 arm_get arms i q a e =
@@ -93,13 +93,13 @@ children_are r t (tree.branch tree.list vs) b p (inr h) =
     rw h.3 (each_are r h.0 vs h.2 (rest_bytes h.1 h.2 (rw (← h.5) p)) h.6)
 children_are r t (tree.leaf l) b p h = tt
 
-abbrev cells_behind : List Cell → List Cell
-cells_behind [] = []
-cells_behind (c ∷ cs) = cs
+abbrev cells_after : List Cell → List Cell
+cells_after [] = []
+cells_after (c ∷ cs) = cs
 
--- behind the first node of a value stand the nodes of its parts
+-- after the first node of a value stand the nodes of its parts
 cells_below : (r : List TypeInfo) (t : ℕ) (v : Tree) →
-    cells_behind (cells r t v) ≡ all_cells r (types_of_parts r t v) (trees_of v)
+    cells_after (cells r t v) ≡ all_cells r (types_of_parts r t v) (trees_of v)
 cells_below r t (tree.branch k vs) = refl
 cells_below r t (tree.leaf l) = refl
 
@@ -116,12 +116,12 @@ below r pool n ns h =
     record {
       part = types_of_parts r t v;
       values = trees_of v;
-      nodes = ap cells_behind h.nodes ∙ cells_below r t v;
+      nodes = ap cells_after h.nodes ∙ cells_below r t v;
       inside = h.inside.1;
       are_values = children_are r t v h.value.0 h.value.1 h.value.2;
     }
 
--- behind the first node of a whole value stand its children
+-- after the first node of a whole value stand its children
 pub below_seen : (r : List TypeInfo) (pool : List ℕ) (n : Node) (ns : List Node) →
     IsWhole r pool (n ∷ ns) →
     all_seen r pool ns ≡ children_by r (type_shown (n ∷ ns)) (tree_shown pool (n ∷ ns))
@@ -131,7 +131,7 @@ below_seen r pool n ns h =
     all_seen_is r pool ns f.part f.values f.inside f.nodes
     ∙ sym (children_seen r (type_shown (n ∷ ns)) (tree_shown pool (n ∷ ns)))
 
--- the first of them, and those behind it
+-- the first of them, and those after it
 pub record FirstTree (r : List TypeInfo) (pool : List ℕ) (n : Node) (ns : List Node) : Type 0 where
   pub within : size_shown n.content ≤ length (n ∷ ns)
   pub whole : IsWhole r pool (take (size_shown n.content) (n ∷ ns))
@@ -140,7 +140,7 @@ pub record FirstTree (r : List TypeInfo) (pool : List ℕ) (n : Node) (ns : List
       ≡ seen r pool (take (size_shown n.content) (n ∷ ns)) ∷ all_seen r pool
       (drop (size_shown n.content) (n ∷ ns))
 
--- nodes of values in a row begin with a whole value, as long as the first node tells
+-- nodes of values in a row begin with a whole value, as long as the first node reports
 first_by : (r : List TypeInfo) (pool : List ℕ) (n : Node) (ns : List Node) (p : Part) (vs : Trees) →
     AreInPool pool (n ∷ ns) → cells_shown pool (n ∷ ns) ≡ all_cells r p vs → AreValues r p vs →
     FirstTree r pool n ns
@@ -171,7 +171,7 @@ first_by r pool n ns p (and v vs) inside e are =
           ) refl);
     }
 
--- the nodes of a forest begin with a whole value, as long as the first node tells
+-- the nodes of a forest begin with a whole value, as long as the first node reports
 pub first : (r : List TypeInfo) (pool : List ℕ) (n : Node) (ns : List Node) →
     IsForest r pool (n ∷ ns) → FirstTree r pool n ns
 first r pool n ns h = first_by r pool n ns h.part h.values h.inside h.nodes h.are_values
@@ -184,7 +184,7 @@ pub record FirstAt (r : List TypeInfo) (pool : List ℕ) (ns : List Node) (n : N
       ≡ seen r pool (take (size_shown n.content) ns) ∷ all_seen r pool
       (drop (size_shown n.content) ns)
 
--- the same of a list whose first node is told by its place
+-- the same of a list whose first node is reported by its place
 pub below_at : (r : List TypeInfo) (pool : List ℕ) (ns : List Node) → IsWhole r pool ns →
     IsForest r pool (drop 1 ns)
 below_at r pool [] h = absurd (no_cells r (tree_shown pool []) h.nodes)
@@ -206,7 +206,7 @@ text_at r pool (n ∷ ns) d start len h e =
     h.value.2 in
     IsUtf8-from_is_utf8 (slice_range pool start (start + len)) (rw e at texts).1
 
--- the first of the values whose nodes these are, told by its place
+-- the first of the values whose nodes these are, reported by its place
 pub first_at : (r : List TypeInfo) (pool : List ℕ) (ns : List Node) (n : Node) →
     slice_get ns 0 ≡ Some n → IsForest r pool ns → FirstAt r pool ns n
 first_at r pool [] n e h = absurd cc

@@ -100,7 +100,7 @@ shown_take pool zero ns = refl
 shown_take pool (suc k) [] = refl
 shown_take pool (suc k) (n ∷ ns) = rw (shown_take pool k ns) refl
 
--- the nodes behind the first ones are shown as those behind the first of all that are shown
+-- the nodes after the first ones are shown as those after the first of all that are shown
 shown_drop : (pool : List ℕ) (k : ℕ) (ns : List Node) →
     cells_shown pool (drop k ns) ≡ drop k (cells_shown pool ns)
 shown_drop pool zero ns = refl
@@ -114,7 +114,7 @@ inside_take pool zero ns h = tt
 inside_take pool (suc k) [] h = tt
 inside_take pool (suc k) (n ∷ ns) h = (h.0, inside_take pool k ns h.1)
 
--- where the bytes of all nodes lie in the pool, so do those behind the first ones
+-- where the bytes of all nodes lie in the pool, so do those after the first ones
 inside_drop : (pool : List ℕ) (k : ℕ) (ns : List Node) → AreInPool pool ns →
     AreInPool pool (drop k ns)
 inside_drop pool zero ns h = h
@@ -130,7 +130,8 @@ pub record SplitsCells (r : List TypeInfo) (pool : List ℕ) (n : Node) (ns : Li
   pub front_inside : AreInPool pool (take (size_shown n.content) (n ∷ ns))
   pub back_inside : AreInPool pool (drop (size_shown n.content) (n ∷ ns))
 
--- nodes of values in a row split where the first node tells, into the first value's and the others'
+-- nodes of values in a row split where the first node reports, into the first value's and the
+-- others'
 pub split : (r : List TypeInfo) (pool : List ℕ) (n : Node) (ns : List Node) (p : Part) (v : Tree)
     (vs : Trees) → AreInPool pool (n ∷ ns) → cells_shown pool (n ∷ ns) ≡ all_cells r p (and v vs) →
     SplitsCells r pool n ns p v vs
@@ -138,8 +139,8 @@ split r pool n ns p v vs inside e =
     let all = n ∷ ns in
     let first = cells r (child_type p) v in
     let others = all_cells r (left_after p) vs in
-    let told = size_shown n.content in
-    let size : told ≡ length first = ap first_size e ∙ (starts r (child_type p) v others).1
+    let reported = size_shown n.content in
+    let size : reported ≡ length first = ap first_size e ∙ (starts r (child_type p) v others).1
     ∙ sym (cells_length r (child_type p) v) in
     record {
       within = omega (
@@ -149,15 +150,15 @@ split r pool n ns p v vs inside e =
         length-append first others,
         length-map all (cell_shown pool),
       );
-      front = shown_take pool told all ∙ ap (take told) e
+      front = shown_take pool reported all ∙ ap (take reported) e
           ∙ ap (λ (k : ℕ). take k (first ++ others)) size ∙ take-append_seam first others;
-      back = shown_drop pool told all ∙ ap (drop told) e
+      back = shown_drop pool reported all ∙ ap (drop reported) e
           ∙ ap (λ (k : ℕ). drop k (first ++ others)) size ∙ drop-append_seam first others;
-      front_inside = inside_take pool told all inside;
-      back_inside = inside_drop pool told all inside;
+      front_inside = inside_take pool reported all inside;
+      back_inside = inside_drop pool reported all inside;
     }
 
--- the nodes of values one behind the other show those values
+-- the nodes of values one after the other show those values
 pub forest_is : (r : List TypeInfo) (pool : List ℕ) (k : ℕ) (ns : List Node) (p : Part)
     (vs : Trees) → how_many vs ≤ k → AreInPool pool ns → cells_shown pool ns ≡ all_cells r p vs →
     forest r pool k ns ≡ seen_parts r p vs

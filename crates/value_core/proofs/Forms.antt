@@ -201,104 +201,111 @@ HasReason stop.BadCompact d f = f ≡ layout.bad_compact
 HasReason _ d f = d ≡ None
 
 -- a reason to stop may be replaced by the same one
-has_reason : (told is : StopReason) (d : Option TypeDef) (f : Layout) →
-    next.Stop is ≡ next.Stop told → HasReason is d f → HasReason told d f
-has_reason told is d f e h = let same : is ≡ told = cc in
+has_reason : (reported is : StopReason) (d : Option TypeDef) (f : Layout) →
+    next.Stop is ≡ next.Stop reported → HasReason is d f → HasReason reported d f
+has_reason reported is d f e h = let same : is ≡ reported = cc in
     subst (λ (x : StopReason). HasReason x d f) same h
 
 -- a sequence is never a reason to stop
-sequence_goes_on : (told : StopReason) (empty byte : Bool) →
-    sequence_form empty byte ≡ next.Stop told → ⊥
-sequence_goes_on told true byte e = absurd cc
-sequence_goes_on told false true e = absurd cc
-sequence_goes_on told false false e = absurd cc
+sequence_goes_on : (reported : StopReason) (empty byte : Bool) →
+    sequence_form empty byte ≡ next.Stop reported → ⊥
+sequence_goes_on reported true byte e = absurd cc
+sequence_goes_on reported false true e = absurd cc
+sequence_goes_on reported false false e = absurd cc
 
 -- an array is never a reason to stop
-array_goes_on : (told : StopReason) (n : ℕ) (byte : Bool) → array_form n byte ≡ next.Stop told → ⊥
-array_goes_on told n true e = absurd cc
-array_goes_on told n false e = absurd cc
+array_goes_on : (reported : StopReason) (n : ℕ) (byte : Bool) →
+    array_form n byte ≡ next.Stop reported → ⊥
+array_goes_on reported n true e = absurd cc
+array_goes_on reported n false e = absurd cc
 
--- where a compact is a reason to stop, it is the one that its layout tells
-compact_has_reason : (told : StopReason) (d : Option TypeDef) (m : Option Target) →
-    compact_form m ≡ next.Stop told → HasReason told d (compact_layout m)
-compact_has_reason told d (Some m) e = absurd cc
-compact_has_reason told d None e = has_reason told stop.BadCompact d layout.bad_compact e refl
+-- where a compact is a reason to stop, it is the one that its layout reports
+compact_has_reason : (reported : StopReason) (d : Option TypeDef) (m : Option Target) →
+    compact_form m ≡ next.Stop reported → HasReason reported d (compact_layout m)
+compact_has_reason reported d (Some m) e = absurd cc
+compact_has_reason reported d None e =
+    has_reason reported stop.BadCompact d layout.bad_compact e refl
 
--- where a type by its definition is a reason to stop, the definition or layout tells this one
-known_has_reason : (r : List TypeInfo) (told : StopReason) (empty : Bool) (d : Option TypeDef) →
-    (if empty then next.Wants form.Empty else form_of_shape r d) ≡ next.Stop told →
-    HasReason told d (layout_of_shape r empty d)
-known_has_reason r told true d e = absurd cc
-known_has_reason r told false None e = has_reason told stop.NoFiniteValue None layout.unknown e refl
-known_has_reason r told false (Some (Def.Composite fs)) e = absurd cc
-known_has_reason r told false (Some (Def.Variant arms)) e = absurd cc
-known_has_reason r told false (Some (Def.Sequence u)) e =
-    absurd (sequence_goes_on told (is_empty r u.0) (is_byte (shape r u.0)) e)
-known_has_reason r told false (Some (Def.Array n u)) e =
-    absurd (array_goes_on told n (is_byte (shape r u.0)) e)
-known_has_reason r told false (Some (Def.Tuple ts)) e = absurd cc
-known_has_reason r told false (Some (Def.Primitive p)) e = absurd cc
-known_has_reason r told false (Some (Def.Compact u)) e =
-    compact_has_reason told (Some (Def.Compact u)) (target_of r u.0) e
-known_has_reason r told false (Some (Def.BitSequence store order)) e =
-    has_reason told stop.BitSequence (Some (Def.BitSequence store order)) layout.bit_sequence e refl
+-- where a type by its definition is a reason to stop, the definition or layout reports this one
+known_has_reason : (r : List TypeInfo) (reported : StopReason) (empty : Bool) (d : Option TypeDef) →
+    (if empty then next.Wants form.Empty else form_of_shape r d) ≡ next.Stop reported →
+    HasReason reported d (layout_of_shape r empty d)
+known_has_reason r reported true d e = absurd cc
+known_has_reason r reported false None e =
+    has_reason reported stop.NoFiniteValue None layout.unknown e refl
+known_has_reason r reported false (Some (Def.Composite fs)) e = absurd cc
+known_has_reason r reported false (Some (Def.Variant arms)) e = absurd cc
+known_has_reason r reported false (Some (Def.Sequence u)) e =
+    absurd (sequence_goes_on reported (is_empty r u.0) (is_byte (shape r u.0)) e)
+known_has_reason r reported false (Some (Def.Array n u)) e =
+    absurd (array_goes_on reported n (is_byte (shape r u.0)) e)
+known_has_reason r reported false (Some (Def.Tuple ts)) e = absurd cc
+known_has_reason r reported false (Some (Def.Primitive p)) e = absurd cc
+known_has_reason r reported false (Some (Def.Compact u)) e =
+    compact_has_reason reported (Some (Def.Compact u)) (target_of r u.0) e
+known_has_reason r reported false (Some (Def.BitSequence store order)) e =
+    has_reason reported stop.BitSequence (Some (Def.BitSequence store order))
+    layout.bit_sequence e refl
 
--- where a finite type is a reason to stop, its definition or its layout tells this one
-reason_holds : (r : List TypeInfo) (t : ℕ) (told : StopReason) → form_of r t ≡ next.Stop told →
-    HasReason told (shape r t) (layout r t)
+-- where a finite type is a reason to stop, its definition or its layout reports this one
+reason_holds : (r : List TypeInfo) (t : ℕ) (reported : StopReason) →
+    form_of r t ≡ next.Stop reported →
+    HasReason reported (shape r t) (layout r t)
 unfolding layout
-reason_holds r t told e = known_has_reason r told (is_empty r t) (shape r t) e
+reason_holds r t reported e = known_has_reason r reported (is_empty r t) (shape r t) e
 
 -- a finite type is a position
 no_shape : {X : Type 0} (r : List TypeInfo) (t : ℕ) → is_finite r t ≡ true → shape r t ≡ None → X
 no_shape r t h e = let no : is_finite r t ≡ false = shapeless r (length r) t e in absurd cc
 
 -- of a finite type, the reason to stop says what its layout is
-stops_by : (r : List TypeInfo) (t : ℕ) (told : StopReason) → is_finite r t ≡ true →
-    HasReason told (shape r t) (layout r t) → IsStoppedBy told r t
+stops_by : (r : List TypeInfo) (t : ℕ) (reported : StopReason) → is_finite r t ≡ true →
+    HasReason reported (shape r t) (layout r t) → IsStoppedBy reported r t
 stops_by r t stop.TooDeep h e = no_shape r t h e
 stops_by r t stop.NoFiniteValue h e = no_shape r t h e
 stops_by r t stop.BitSequence h e = (h, e)
 stops_by r t stop.BadCompact h e = (h, e)
 
 -- why a type stops where its depth is within the limit
-pub stops : (r : List TypeInfo) (t : ℕ) (told : StopReason) → next_at r t ≡ next.Stop told →
-    IsStoppedBy told r t
-stops r t told h = go (is_finite r t) refl h where
-  told_so : is_finite r t ≡ false → next.Stop stop.NoFiniteValue ≡ next.Stop told →
-      IsStoppedBy told r t
-  told_so f e = let same : stop.NoFiniteValue ≡ told = cc in
+pub stops : (r : List TypeInfo) (t : ℕ) (reported : StopReason) → next_at r t ≡ next.Stop reported →
+    IsStoppedBy reported r t
+stops r t reported h = go (is_finite r t) refl h where
+  reported_so : is_finite r t ≡ false → next.Stop stop.NoFiniteValue ≡ next.Stop reported →
+      IsStoppedBy reported r t
+  reported_so f e = let same : stop.NoFiniteValue ≡ reported = cc in
       subst (λ (x : StopReason). IsStoppedBy x r t) same f
 
   go : (finite : Bool) → is_finite r t ≡ finite →
-      (if finite then form_of r t else next.Stop stop.NoFiniteValue) ≡ next.Stop told →
-      IsStoppedBy told r t
-  go true f e = stops_by r t told f (reason_holds r t told e)
-  go false f e = told_so f e
+      (if finite then form_of r t else next.Stop stop.NoFiniteValue) ≡ next.Stop reported →
+      IsStoppedBy reported r t
+  go true f e = stops_by r t reported f (reason_holds r t reported e)
+  go false f e = reported_so f e
 
 -- a type is next that cannot be read: its depth is above the limit, or the type itself says why
-pub record Stopped (w : Walked) (told : StopReason) : Type 0 where
+pub record Stopped (w : Walked) (reported : StopReason) : Type 0 where
   pub ty : ℕ
   pub is_next : next_type w ≡ Some ty
-  pub why : ((told ≡ stop.TooDeep) × (w.limit + 1 < length w.frames))
-      ⊎ ((length w.frames ≤ w.limit + 1) × IsStoppedBy told w.types ty)
+  pub why : ((reported ≡ stop.TooDeep) × (w.limit + 1 < length w.frames))
+      ⊎ ((length w.frames ≤ w.limit + 1) × IsStoppedBy reported w.types ty)
 
 -- where a type is a reason to stop, it is too deep, or it says why itself
-stopped_from : (w : Walked) (told : StopReason) (o : Option ℕ) → next_type w ≡ o →
-    next_from w o ≡ next.Stop told → Stopped w told
-stopped_from w told None e h = absurd cc
-stopped_from w told (Some t) e h = go (nat_lt (w.limit + 1) (length w.frames)) refl h where
+stopped_from : (w : Walked) (reported : StopReason) (o : Option ℕ) → next_type w ≡ o →
+    next_from w o ≡ next.Stop reported → Stopped w reported
+stopped_from w reported None e h = absurd cc
+stopped_from w reported (Some t) e h = go (nat_lt (w.limit + 1) (length w.frames)) refl h where
   go : (deep : Bool) → nat_lt (w.limit + 1) (length w.frames) ≡ deep →
-      (if deep then next.Stop stop.TooDeep else next_at w.types t) ≡ next.Stop told → Stopped w told
-  go true d h = let same : told ≡ stop.TooDeep = cc in
+      (if deep then next.Stop stop.TooDeep else next_at w.types t) ≡ next.Stop reported →
+      Stopped w reported
+  go true d h = let same : reported ≡ stop.TooDeep = cc in
       record { ty = t; is_next = e; why = inl (same, grind (arith, d)) }
   go false d h = record {
     ty = t;
     is_next = e;
     why =
-        inr (grind (arith, d), stops w.types t told h);
+        inr (grind (arith, d), stops w.types t reported h);
   }
 
 -- where the walk stops at the next type, it is too deep, or it says why itself
-pub stopped : (w : Walked) (told : StopReason) → next_of w ≡ next.Stop told → Stopped w told
-stopped w told h = stopped_from w told (next_type w) refl h
+pub stopped : (w : Walked) (reported : StopReason) → next_of w ≡ next.Stop reported →
+    Stopped w reported
+stopped w reported h = stopped_from w reported (next_type w) refl h

@@ -140,7 +140,7 @@ run_own kind.Text n h f = (compact n, are_compact n, (omega (arith, h), refl))
 run_own kind.Bytes n h f = (compact n, are_compact n, (omega (arith, h), refl))
 run_own (kind.ByteArray m) n h f = ([], tt, (f, refl))
 
--- bytes of a run's kind, behind what may stand in front of so many, spell a value of its type
+-- bytes of a run's kind, after what may stand in front of so many, spell a value of its type
 run_value : (r : List TypeInfo) (t : ℕ) (k : RunKind) (s c : List ℕ) →
     layout r t ≡ layout.plain (layout.run k) → IsRun k s → IsRunLength k (length s) c →
     Val r t (tree.leaf (run_leaf k s)) (c ++ s)

@@ -33,7 +33,7 @@ front_cells r [] back (and v vs) b h = absurd h
 front_cells r (t ∷ front) back (and v vs) b h =
     ap (λ (cs : List Cell). cells r t v ++ cs) (front_cells r front back vs h.1 h.4)
 
--- elements that are there have the same nodes, however many are to come behind them
+-- elements that are there have the same nodes, however many are to come after them
 times_front : (r : List TypeInfo) (n u : ℕ) (vs : Trees) → how_many vs ≤ n →
     all_cells r (times n u) vs ≡ all_cells r (times (how_many vs) u) vs
 times_front r n u none h = refl

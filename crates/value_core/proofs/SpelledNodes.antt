@@ -1,4 +1,4 @@
--- The bytes of a node as it is kept: what is computed, and behind it what lies in the pool.
+-- The bytes of a node as it is kept: what is computed, and after it what lies in the pool.
 use Rattle.std.proofs.Common.{◌≡◌, ℕ, ◌+◌, ◌-◌, ◌*◌, ◌^◌, ◌≤◌, ◌<◌, Bool, true, false, cond, List}
 use Rattle.std.proofs.Common.{[], ◌∷◌, ◌++◌, length, take, drop, Option, refl, sym, ap, subst, ◌∙◌}
 use Rattle.std.proofs.Common.{arith}

@@ -24,7 +24,7 @@ appends_next (Some a) (Some b) (Some c) xs w n p q =
     q ∙ ap (λ v. v ++ take n (drop w xs)) p ∙ append_assoc a (take w xs) (take n (drop w xs))
     ∙ ap (λ v. a ++ v) (sym (take-add w n xs))
 
--- one append behind another is an append of both
+-- one append after another is an append of both
 pub appends_both : (a b c : Option (List ℕ)) (xs ys : List ℕ) → Appends a b xs → Appends b c ys →
     Appends a c (xs ++ ys)
 appends_both None b c xs ys p q = tt
@@ -32,9 +32,9 @@ appends_both (Some a) None c xs ys p q = absurd p
 appends_both (Some a) (Some b) None xs ys p q = absurd q
 appends_both (Some a) (Some b) (Some c) xs ys p q = q ∙ ap (λ v. v ++ ys) p ∙ append_assoc a xs ys
 
--- ---- a part in front and a part behind it
+-- ---- a part in front and a part after it
 
--- as many first bytes as a list has, or fewer, are the same of the list with more behind it
+-- as many first bytes as a list has, or fewer, are the same of the list with more after it
 take-front : (xs ys : List ℕ) (w : ℕ) → w ≤ length xs → take w xs ≡ take w (xs ++ ys)
 take-front [] ys zero h = refl
 take-front [] ys (suc w) h = absurd (omega arith)
@@ -105,9 +105,9 @@ within f (m ∷ ns) (suc i) d h =
     )
 
 -- what a front of one node makes of the bytes of the nodes before it, which went out
-pub record Stops (a c : Option (List ℕ)) (whole : List ℕ) (told : ℕ) : Type 0 where
-  pub part : told ≤ length whole
-  pub sent : Appends a c (take told whole)
+pub record Stops (a c : Option (List ℕ)) (whole : List ℕ) (reported : ℕ) : Type 0 where
+  pub part : reported ≤ length whole
+  pub sent : Appends a c (take reported whole)
 
 -- where the nodes before one went out and then a part of its bytes, a front of the whole did
 pub stops : (a b c : Option (List ℕ)) (r s : List TypeInfo) (pool : List ℕ) (ns : List Node) (i : ℕ)

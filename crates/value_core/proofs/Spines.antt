@@ -42,7 +42,7 @@ kind_levels : (kind : Branch) (vs : Trees) (room : ℕ) → most_levels vs ≤ r
     levels (tree.branch kind vs) ≤ suc room
 kind_levels k vs room h = omega (arith, h)
 
--- a value behind values of some types is one list of values with its type behind theirs
+-- a value after values of some types is one list of values with its type after theirs
 snoc_vals : (r : List TypeInfo) (ts : List ℕ) (vs : Trees) (b : List ℕ) (u : ℕ) (v : Tree)
     (c : List ℕ) → Vals r ts vs b → Val r u v c → Vals r (ts ++ u ∷ []) (snoc vs v) (b ++ c)
 unfolding Val
@@ -57,7 +57,7 @@ snoc_vals r (t ∷ ts) (and w ws) b u v c h k = (
   snoc_vals r ts ws h.1 u v c h.4 k,
 )
 
--- a value behind values of the same type is one list of values of it
+-- a value after values of the same type is one list of values of it
 snoc_each : (r : List TypeInfo) (u : ℕ) (vs : Trees) (b : List ℕ) (v : Tree) (c : List ℕ) →
     Each r u vs b → Val r u v c → Each r u (snoc vs v) (b ++ c)
 unfolding Val
@@ -70,7 +70,7 @@ snoc_each r u (and w ws) b v c h k = (
   snoc_each r u ws h.1 v c h.4 k,
 )
 
--- its nodes stand behind those of the others
+-- its nodes stand after those of the others
 each_cells : (r : List TypeInfo) (front : List ℕ) (u : ℕ) (back : List ℕ) (vs : Trees) (b : List ℕ)
     (v : Tree) → Vals r front vs b →
     all_cells r (each (front ++ u ∷ back)) (snoc vs v) ≡ all_cells r (each (front ++ u ∷ back))
@@ -83,7 +83,7 @@ each_cells r (t ∷ front) u back (and w ws) b v h =
     ap (λ (cs : List Cell). cells r t w ++ cs) (each_cells r front u back ws h.1 v h.4)
     ∙ sym (append_assoc (cells r t w) (all_cells r (each (front ++ u ∷ back)) ws) (cells r u v))
 
--- the nodes of one element more, where one is left, stand behind those of the others
+-- the nodes of one element more, where one is left, stand after those of the others
 times_cells : (r : List TypeInfo) (n u : ℕ) (vs : Trees) (v : Tree) → how_many vs < n →
     all_cells r (times n u) (snoc vs v) ≡ all_cells r (times n u) vs ++ cells r u v
 times_cells r zero u vs v h = absurd (omega (arith, h))

@@ -1,4 +1,4 @@
--- What a form tells that is wanted for a whole node.
+-- What a form reports that is wanted for a whole node.
 use Rattle.std.proofs.Common.{◌≡◌, ◌∙◌, ℕ, Option, Some, None, Ok, Err, refl, ap}
 use Rattle.std.specs.Prelude.{Result}
 use Rattle.widths_core.specs.declared.run_kind.RunKind.{RunKind}

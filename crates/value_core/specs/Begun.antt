@@ -24,7 +24,7 @@ abbrev pub next_in : List TypeInfo → Option (ℕ × ℕ) → Next
 next_in r None = next.Finished
 next_in r (Some n) = if nat_lt 0 n.0 then next_at r n.1 else next.Stop stop.TooDeep
 
--- what the nodes are in bytes, one behind the other
+-- what the nodes are in bytes, one after the other
 abbrev pub built_bytes : Built → List ℕ
 built_bytes b = flat_map (λ e. own_bytes (shape b.walk.types e.ty) e.head) b.entries
 

@@ -45,7 +45,7 @@ abbrev pub pieces_shown : List ℕ → Option OpenRun → Option Pieces
 pieces_shown pool open_run =
     option_map (λ o. record { kind = o.kind; len = o.len; bytes = drop o.start pool }) open_run
 
--- it is next, has no more bytes than it is to have, and lies behind the bytes of all nodes
+-- it is next, has no more bytes than it is to have, and lies after the bytes of all nodes
 pub record IsOpenAt (w : Walked) (pool : List ℕ) (kept : ℕ) (k : RunKind) (start len : ℕ) : Type 0
   where
     pub is_next : next_of w ≡ next.Wants (run_form k)

@@ -31,7 +31,7 @@ pool_bytes pool (is.Bytes len start) = slice_range pool start (start + len)
 pool_bytes pool (is.Wide start) = slice_range pool start (start + 32)
 pool_bytes pool _ = []
 
--- these bytes, and those in the pool behind them, are the node's
+-- these bytes, and those in the pool after them, are the node's
 abbrev pub Starts : List ℕ → Option TypeDef → List ℕ → ℕ → Content → Type 0
 Starts front d pool n content =
     front ++ pool_bytes pool content ≡ own_bytes d (head_shown pool n content)

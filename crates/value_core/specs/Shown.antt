@@ -28,7 +28,7 @@ pub record Seen : Type 0 where
 abbrev pub IsValue : Seen → Type 0
 IsValue s = (b : List ℕ) × AreBytes b × Val s.types s.ty s.tree b
 
--- values of these types, one behind the other
+-- values of these types, one after the other
 abbrev pub seen_parts : List TypeInfo → Part → Trees → List Seen
 seen_parts r p none = []
 seen_parts r p (and v vs) =
@@ -81,7 +81,8 @@ head_shown pool n (is.Fields size) = head.branch tree.fields n
 head_shown pool n (is.Arm q size) = head.branch (tree.arm q) n
 head_shown pool n (is.List size) = head.branch tree.list n
 
--- how many nodes its subtree has: a leaf is one, and a node with parts tells it, 0 while it is open
+-- how many nodes its subtree has: a leaf is one, and a node with parts reports it, 0 while it is
+-- open
 abbrev pub size_shown : Content → ℕ
 size_shown (is.Fields size) = size
 size_shown (is.Arm q size) = size
@@ -150,7 +151,7 @@ pub record IsWhole (types : List TypeInfo) (pool : List ℕ) (ns : List Node) : 
   pub inside : AreInPool pool ns
   pub value : IsValue (seen types pool ns)
 
--- the values whose nodes these are, one behind the other: each as long as its first node says
+-- the values whose nodes these are, one after the other: each as long as its first node says
 abbrev pub forest : List TypeInfo → List ℕ → ℕ → List Node → List Seen
 forest types pool zero ns = []
 forest types pool (suc k) [] = []
@@ -167,7 +168,7 @@ AreValues r p none = Unit {0}
 AreValues r p (and v vs) = IsValue (record { types = r; ty = child_type p; tree = v })
     × AreValues r (left_after p) vs
 
--- the nodes are those of values one behind the other, and of nothing else
+-- the nodes are those of values one after the other, and of nothing else
 pub record IsForest (types : List TypeInfo) (pool : List ℕ) (ns : List Node) : Type 0 where
   pub part : Part
   pub values : Trees

@@ -162,7 +162,7 @@ impl<'r, A: Allocator> Builder<'r, A> {
 
     /// Adds a compact integer.
     ///
-    /// Refuses as `empty` does, and with `OutOfRange` a number that is too great for what the compact stands over.
+    /// Refuses as `empty` does, and with `OutOfRange` a number that is too great for what the compact wraps.
     #[tactic(auto, using(crate::proofs::Wanted::wanted_next, crate::proofs::Wanted::wanted_closed, crate::proofs::NextLeaf::compact_next))]
     pub fn compact(&mut self, value: u128) -> Result<(), BuildFault>
         ensures { Adds (judged (suits_compact value) self.old)

@@ -6,7 +6,7 @@ ghost use Rattle.value_core.specs.Refusals.{build_fault_of};
 use grammar_core::StopReason;
 use std::alloc::AllocError;
 
-/// Why a builder refuses a call; the builder stays as it was. Of several reasons an adding call tells the first of this
+/// Why a builder refuses a call; the builder stays as it was. Of several reasons an adding call reports the first of this
 /// list, and `new` an unknown type before a depth limit outside its range.
 #[derive(Clone, Copy, Debug, PartialEq, Eq)]
 pub enum BuildFault {
@@ -16,7 +16,7 @@ pub enum BuildFault {
     NoFiniteValue,
     /// The next type is a bit sequence, whose values are left out.
     BitSequence,
-    /// The next type is a compact that stands over no unsigned integer.
+    /// The next type is a compact that wraps no unsigned integer.
     BadCompact,
     /// The call is not the one for the next type, or nothing is next.
     WrongKind,

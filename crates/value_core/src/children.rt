@@ -33,7 +33,7 @@ impl<'v, 'r> Model for Children<'v, 'r> {
 }
 
 impl<'v, 'r> Children<'v, 'r> {
-    /// The nodes whose subtrees these are, one behind the other.
+    /// The nodes whose subtrees these are, one after the other.
     #[inline(always)]
     pub(crate) fn new(checked: &'r Checked, nodes: &'v [Node], pool: &'v [u8]) -> Children<'v, 'r>
         requires { IsForest checked.now.types pool.now nodes.now }

@@ -12,10 +12,10 @@ pub const NODE_BYTES: usize = 24;
 
 const _: () = prove!(size_of::<Node>() == NODE_BYTES);
 
-/// What a node is, with its number where that fits 64 bits. Texts, runs of bytes and longer integers are told by their place in the pool
+/// What a node is, with its number where that fits 64 bits. Texts, runs of bytes and longer integers are reported by their place in the pool
 /// of bytes, where an integer has its lowest byte first: sixteen bytes of a long one, 32 of a wide one.
 ///
-/// A node with parts tells how many nodes its subtree has: 0 while it is open. Numbers of four bytes stand in front of
+/// A node with parts reports how many nodes its subtree has: 0 while it is open. Numbers of four bytes stand in front of
 /// those of eight, so that they share a word with the mark of the variant.
 #[derive(Clone, Copy)]
 pub(crate) enum Content {

@@ -24,7 +24,7 @@ impl<'r, A: Allocator> Builder<'r, A> {
     }
 
     /// Adds a variant, which the caller knows to be next, by the index of its arm: what `arm` does once it has judged.
-    /// Tells whether there is an arm of the index; where there is none, and where memory is refused, nothing changes.
+    /// Reports whether there is an arm of the index; where there is none, and where memory is refused, nothing changes.
     pub fn add_arm(&mut self, index: u8) -> Result<bool, AllocError>
         requires closed { self.old.run ≡ None }
         requires next { next_of self.old.walk ≡ Next.Wants Form.Arm }

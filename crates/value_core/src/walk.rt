@@ -54,7 +54,7 @@ fn element_in(step: Option<Step>) -> Option<u32>
 }
 
 /// A walk through a value of a type, node by node in the order of their bytes (SCALE codec, "Types": parts stand one
-/// behind the other, behind the index or the length that says which and how many they are).
+/// after the other, after the index or the length that says which and how many they are).
 ///
 /// It keeps the innermost node that is open and those around it, at most as many as the depth limit and two, and the
 /// step of the type that is next: it is looked up once, when the walk comes to it.
@@ -106,8 +106,8 @@ impl<'r, A: Allocator> Walk<'r, A> {
     /// What comes next in the value: nothing where it is whole, the reason where no value can be read there, or the
     /// form of the value that is wanted (SCALE codec, "Types").
     ///
-    /// Of several reasons the first is told: a depth above the limit, a type without a finite value, a bit sequence, a
-    /// compact that stands over no unsigned integer. It takes no look-up and no memory, and changes nothing.
+    /// Of several reasons the first is reported: a depth above the limit, a type without a finite value, a bit sequence, a
+    /// compact that wraps no unsigned integer. It takes no look-up and no memory, and changes nothing.
     #[inline(always)]
     pub fn next(&self) -> Next
         ensures { result ≡ next_of self.now }

@@ -160,7 +160,7 @@ fn pooled<'v>(node: &Node, pool: &'v [u8]) -> &'v [u8]
 
 /// Writes all the bytes. Where there are none, no write is made.
 ///
-/// Refuses, and tells how many bytes went out in all:
+/// Refuses, and reports how many bytes went out in all:
 /// - `Device`, where the writer answers an error; an interrupted write is one;
 /// - `WroteNothing`, where the writer takes no byte of a part that is not empty.
 ///
@@ -190,7 +190,7 @@ pub fn send<W: Write>(sink: &mut Sink<W>, bytes: &[u8]) -> Result<(), WriteFault
     Ok(())
 }
 
-/// Writes the bytes of a node without those of its children: how many they are. Where a write fails, it tells how many
+/// Writes the bytes of a node without those of its children: how many they are. Where a write fails, it reports how many
 /// of them went out before.
 fn send_node<W: Write>(
     checked: &Checked,
@@ -229,7 +229,7 @@ fn send_node<W: Write>(
 /// Writes the one spelling of a value, byte for byte (SCALE codec specification): the bytes of each node, in their
 /// order, without recursion. A value that takes no bytes makes no write.
 ///
-/// Refuses, and tells how many bytes went out in all:
+/// Refuses, and reports how many bytes went out in all:
 /// - `Device`, where the writer answers an error; an interrupted write is one;
 /// - `WroteNothing`, where the writer takes no byte of a part that is not empty.
 ///
@@ -244,7 +244,7 @@ pub fn encode<A: Allocator, W: Write>(
     // All of them went out.
     ensures ok { OnOk result (Appends (W.contents sink.old.device) (W.contents sink.new.device)
         (encoding value.now)) }
-    // A front of them went out, and as many as is told.
+    // A front of them went out, and as many as is reported.
     ensures part { IfErr result (λ f. f.written ≤ length (encoding value.now)) }
     ensures err { IfErr result (λ f. Appends (W.contents sink.old.device)
         (W.contents sink.new.device) (take f.written (encoding value.now))) }

@@ -28,14 +28,14 @@ use Rattle.widths_core.proofs.Wide.{some_is}
 
 -- ---- the row of a step
 
--- a step that is chosen by a class tells no row where that of a type with bytes tells none
+-- a step that is chosen by a class reports no row where that of a type with bytes reports none
 row_by : (c : Class) (sized : Step) → row_of_step sized ≡ None →
     row_of_step (by_class c step.NoValue sized) ≡ None
 row_by class.NoValue sized e = refl
 row_by class.Empty sized e = refl
 row_by class.Sized sized e = e
 
--- the step of a sequence tells no row of arms
+-- the step of a sequence reports no row of arms
 sequence_no_row : (c : Class) (byte : Bool) (t : ℕ) → row_of_step (sequence_step c byte t) ≡ None
 sequence_no_row class.NoValue true t = refl
 sequence_no_row class.NoValue false t = refl
@@ -43,12 +43,12 @@ sequence_no_row class.Empty byte t = refl
 sequence_no_row class.Sized true t = refl
 sequence_no_row class.Sized false t = refl
 
--- the step of an array tells no row of arms
+-- the step of an array reports no row of arms
 array_no_row : (byte : Bool) (n t : ℕ) → row_of_step (array_step byte n t) ≡ None
 array_no_row true n t = refl
 array_no_row false n t = refl
 
--- the step of a variant tells its row, with a value or without, where its class is not Empty
+-- the step of a variant reports its row, with a value or without, where its class is not Empty
 variant_row : (c : Class) (from count : ℕ) → is_empty_class c ≡ false →
     row_of_step (by_class c (step.NoArm from count) (step.Arms from count))
     ≡ Some (record { from = from; count = count })
@@ -79,7 +79,7 @@ rowless r refs Row c (Def.Primitive p) s other h = rw h (row_by c (step.Primitiv
 rowless r refs Row c (Def.Compact u) s other h = rw h refl
 rowless r refs Row c (Def.BitSequence store order) s other h = rw h (row_by c step.BitSequence refl)
 
--- a type whose step tells a row is a variant, and the row is that of its arms
+-- a type whose step reports a row is a variant, and the row is that of its arms
 row_of : (r : List TypeInfo) (refs : List ℕ) (rows : Rows) (t : ℕ) (d : TypeDef) (s : Step)
     (p : Parts) → shape r t ≡ Some d → IsStep r refs (IsRow refs rows) (class_of r t) d s →
     row_of_step s ≡ Some p → (arms : List Arm) × (d ≡ Def.Variant arms)
@@ -114,7 +114,7 @@ row_of r refs rows t (Def.BitSequence store order) s p e h f = let no =
     sym (rowless r refs (IsRow refs rows) (class_of r t) (Def.BitSequence store order) s
     (λ arms q. absurd cc) h) ∙ f in absurd cc
 
--- a type whose step tells no row has no arm, whatever the index
+-- a type whose step reports no row has no arm, whatever the index
 armless : (r : List TypeInfo) (refs : List ℕ) (rows : Rows) (t i : ℕ) (d : TypeDef) (s : Step) →
     shape r t ≡ Some d → IsStep r refs (IsRow refs rows) (class_of r t) d s → row_of_step s ≡ None →
     arm_of_shape (Some d) i ≡ None
@@ -145,7 +145,7 @@ pub arm_unknown : (r : List TypeInfo) (refs : List ℕ) (rows : Rows) (steps : L
 arm_unknown r refs rows steps t i h e = let le = get_none steps t e in
     rw (shape_none r t (omega (arith, le, h.count))) refl
 
--- where the step that is read tells no row, the type has no arm, whatever the index
+-- where the step that is read reports no row, the type has no arm, whatever the index
 pub arm_none : (r : List TypeInfo) (refs : List ℕ) (rows : Rows) (steps : List Step) (t i : ℕ)
     (s : Step) → IsTable r refs rows steps → slice_get steps t ≡ Some s → row_of_step s ≡ None →
     arm_at r t i ≡ None
@@ -177,19 +177,19 @@ position_of k (x ∷ arms) i q a e = go (x.index == i) e (position_of (k + 1) ar
       (0, omega (arith, ap (λ (p : ℕ × Arm). p.0) same), ap (λ (p : ℕ × Arm). Some p.1) same)
   go false f more = let s = more f in (suc s.0, omega (arith, s.1), s.2)
 
--- the arm that is found for an index stands among the arms at the position that is told
+-- the arm that is found for an index stands among the arms at the position that is reported
 pub arm_position : (arms : List Arm) (i q : ℕ) (a : Arm) → arm_of arms i ≡ Some (q, a) →
     slice_get arms q ≡ Some a
 arm_position arms i q a e = let s = position_of 0 arms i q a e in let at : q ≡ s.0 =
     omega (arith, s.1) in rw at s.2
 
--- where the step of an arm is right, there is such an arm, at the position that the step tells
+-- where the step of an arm is right, there is such an arm, at the position that the step reports
 arm_known : (refs : List ℕ) (s : ArmStep) (x : Option (ℕ × Arm)) → IsArm refs (Some s) x → (a : Arm)
     × (x ≡ Some (s.position, a))
 arm_known refs s None h = absurd h
 arm_known refs s (Some p) h = (p.1, ap (λ (q : ℕ). Some (q, p.1)) (sym h.0))
 
--- the step of an arm tells the position at which this arm stands among the arms of its variant
+-- the step of an arm reports the position at which this arm stands among the arms of its variant
 pub arm_read : (r : List TypeInfo) (refs : List ℕ) (t i : ℕ) (s : ArmStep) (arms : List Arm) →
     shape r t ≡ Some (Def.Variant arms) → IsArm refs (Some s) (arm_at r t i) → (a : Arm)
     × (arm_at r t i ≡ Some (s.position, a)) × (slice_get arms s.position ≡ Some a)

@@ -30,7 +30,7 @@ pub arms_none : (t : ℕ) (arms : List Arm) (cs : List Counter) (a : Graph) → 
 arms_none t arms cs a h =
     record { done = []; seen = []; marks = λ j. refl; left = refl; adds = adds_none cs a h }
 
--- the arms that are left are the next one and those behind it, and so are their rules
+-- the arms that are left are the next one and those after it, and so are their rules
 split : (t i : ℕ) (arms : List Arm) (x : Arm) (seen : List ℕ) → i < length arms →
     x ≡ get_or arms i x → arm_rules t seen (drop i arms) ≡ arm_rules t seen (x ∷ drop (i + 1) arms)
 split t i arms x seen lt at = at_drop_more (arm_rules t seen) arms i x lt

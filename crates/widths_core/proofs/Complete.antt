@@ -25,7 +25,7 @@ use Rattle.widths_core.specs.Targets.{nowhere, leads_shape, leads_members, targe
 use Rattle.widths_core.specs.Targets.{target_within, target_of}
 use Rattle.widths_core.specs.Classes.{holds_at, finite_step, finite_within, is_finite, class_of}
 use Rattle.widths_core.specs.ClassTables.{known_class, known_target, has_value, class_of_compact}
-use Rattle.widths_core.specs.ClassTables.{TellsClasses, TellsTargets}
+use Rattle.widths_core.specs.ClassTables.{ReportsClasses, ReportsTargets}
 use Rattle.graph_core.specs.Counts.{times}
 use Rattle.widths_core.specs.Rules.{Rule, rule, rules, rules_of, rules_from, arm_rules}
 use Rattle.widths_core.specs.Rules.{kind_of_parts, found_sized, counter_of, all_parts, numbers_from}
@@ -246,7 +246,7 @@ members_closed f t below m [] h k e = k refl
 members_closed f t below m (u ∷ []) h k e = k (rw (h u e) refl)
 members_closed f t below m (u ∷ v ∷ ps) h k e = absurd cc
 
--- a type that leads to a target has settled, by its rules, if those behind it with one have
+-- a type that leads to a target has settled, by its rules, if those after it with one have
 target_closed : (f : ℕ → Bool) (t : ℕ) (d : TypeDef) (below : ℕ → Option Target) (m : Target) →
     AllByRecursion (ClosesRule f) (rules_of t d) → ((u : ℕ) → below u ≡ Some m → f u ≡ true) →
     target_from below (leads_shape d) ≡ Some m → f t ≡ true
@@ -313,11 +313,11 @@ no_value class.NoValue e = refl
 no_value class.Empty e = absurd cc
 no_value class.Sized e = absurd cc
 
--- when nothing more settles and each compact has, the tables tell all classes and targets
-pub classes_told : (r : List TypeInfo) (a b : Graph) (s n : Progress) (done : ℕ) →
-    PropagatesAll r a b s n done → AreCompactsSettled r n → TellsClasses r n.classes
-    × TellsTargets r n.targets
-classes_told r a b s n done h c =
+-- when nothing more settles and each compact has, the tables report all classes and targets
+pub classes_reported : (r : List TypeInfo) (a b : Graph) (s n : Progress) (done : ℕ) →
+    PropagatesAll r a b s n done → AreCompactsSettled r n → ReportsClasses r n.classes
+    × ReportsTargets r n.targets
+classes_reported r a b s n done h c =
     ((st.classes, λ t. class_at t (has_settled n t) refl), λ t. target_at t (has_settled n t) refl)
   where
     st : IsConsistent r b.looks.listed.entries n

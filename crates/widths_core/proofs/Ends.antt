@@ -25,7 +25,7 @@ placed r propagated s k h lt =
       omega (arith, h.owner k, right.owner, h.targets),
     )
 
--- where rules are read behind the last one, it is an idle rule without parts
+-- where rules are read after the last one, it is an idle rule without parts
 past_rule : (r : List TypeInfo) (k : ℕ) → length (rules r) ≤ k → rule_at r k ≡ nothing
 past_rule r k le = get_or_past (rules r) k nothing le
 

@@ -7,7 +7,7 @@ use Rattle.graph_core.specs.References.{first_fault}
 use Rattle.graph_core.proofs.FirstFault.{fault_is_first}
 use Rattle.widths_core.specs.Checks.{IsFaultOf, Explains}
 
--- the fault that is told explains itself
+-- the fault that is reported explains itself
 pub explains : (r : List TypeInfo) (f : CheckFault) → IsFaultOf f (first_fault r) → Explains r f
 explains r (fault.UnknownType from to) h = ((fault_is_first r).2 from.0 to.0).0 h
 explains r fault.OutOfMemory h = (fault_is_first r).0 h

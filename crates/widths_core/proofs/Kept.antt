@@ -16,7 +16,7 @@ use Rattle.widths_core.specs.Steps.{AreParts, IsArm, IsRow, IsDraft}
 
 -- ---- parts
 
--- references that come behind others are a piece, which begins where the others end
+-- references that come after others are a piece, which begins where the others end
 pub parts_here : (xs ys : List ℕ) (from count : ℕ) → from ≡ length xs → count ≡ length ys →
     AreParts (xs ++ ys) from count ys
 parts_here xs ys from count f c = record {
@@ -24,7 +24,7 @@ parts_here xs ys from count f c = record {
   are = rw (f, c, drop-append_seam xs ys) (take-length ys);
 }
 
--- a piece of the references stays that piece where more come behind them
+-- a piece of the references stays that piece where more come after them
 pub parts_kept : (xs ys : List ℕ) (from count : ℕ) (ts : List ℕ) → AreParts xs from count ts →
     AreParts (xs ++ ys) from count ts
 parts_kept xs ys from count ts h =
@@ -38,7 +38,7 @@ parts_kept xs ys from count ts h =
 
 -- ---- arms
 
--- the step of an arm stays right where more references come behind
+-- the step of an arm stays right where more references come after
 pub arm_kept : (xs ys : List ℕ) (s : Option ArmStep) (x : Option (ℕ × Arm)) → IsArm xs s x →
     IsArm (xs ++ ys) s x
 arm_kept xs ys None None h = tt
@@ -59,7 +59,7 @@ keeps_on a b c h k = record {
   arms = λ i lt. k.arms i (omega (arith, lt, h.count)) ∙ h.arms i lt;
 }
 
--- a row stays that of its arms where references come behind and the rows keep what was there
+-- a row stays that of its arms where references come after and the rows keep what was there
 pub row_kept : (xs ys : List ℕ) (a b : Rows) (from count : ℕ) (arms : List Arm) → Keeps a b →
     IsRow xs a from count arms → IsRow (xs ++ ys) b from count arms
 row_kept xs ys a b from count arms k h = record {
@@ -79,7 +79,7 @@ row_kept xs ys a b from count arms k h = record {
 
 -- ---- drafts
 
--- a draft stays that of its type where references come behind and the rows keep what was there
+-- a draft stays that of its type where references come after and the rows keep what was there
 pub draft_kept : (xs ys : List ℕ) (a b : Rows) (d : TypeDef) (s : Draft) → Keeps a b →
     IsDraft xs (IsRow xs a) d s → IsDraft (xs ++ ys) (IsRow (xs ++ ys) b) d s
 draft_kept xs ys a b (Def.Composite fs) s k h =

@@ -24,7 +24,7 @@ rises_on xs f h i j le lt =
           omega (arith, less)
     ])
 
--- where the binary search from a place on finds the number, it is in the list so far behind that
+-- where the binary search from a place on finds the number, it is in the list so far after that
 pub row_searched : (xs : List ℕ) (f v : ℕ) (r : Result ℕ ℕ) → Rises xs f (length xs) →
     IsBinarySearchResult (λ y. nat_cmp y v) (drop f xs) r → (p : ℕ) → r ≡ Ok p →
     IsIn xs f (length xs) v (f + p)
@@ -39,7 +39,7 @@ row_searched xs f v (Ok q) h b p e =
     }
 row_searched xs f v (Err q) h b p e = absurd cc
 
--- where the binary search from a place on finds nothing, it tells where the number belongs
+-- where the binary search from a place on finds nothing, it reports where the number belongs
 pub row_missed : (xs : List ℕ) (f v : ℕ) (r : Result ℕ ℕ) → f ≤ length xs → Rises xs f (length xs) →
     IsBinarySearchResult (λ y. nat_cmp y v) (drop f xs) r → (p : ℕ) → r ≡ Err p →
     BelongsAt xs f v (f + p)
@@ -78,7 +78,7 @@ below_lacks xs v lt h j ge end is = elim (cases_eq j 0) [
 
 -- ---- a row among others
 
--- what is read in a piece of a list is read in the list, so far behind the piece's beginning
+-- what is read in a piece of a list is read in the list, so far after the piece's beginning
 pub read_row : (xs : List ℕ) (f n j : ℕ) → j < n →
     get_or (take n (drop f xs)) j 0 ≡ get_or xs (f + j) 0
 read_row xs f n j lt = get_or-take n (drop f xs) j 0 lt ∙ get_or-drop f xs j 0
@@ -107,7 +107,7 @@ row_lacks_all xs f n v le h j ge lt is =
     h (j - f) (omega arith) (omega (arith, ge, lt, len))
     (read_row xs f n (j - f) (omega (arith, ge, lt)) ∙ ap (λ (k : ℕ). get_or xs k 0) back ∙ is)
 
--- a number that is in a piece is in the list, so far behind the piece's beginning
+-- a number that is in a piece is in the list, so far after the piece's beginning
 pub row_is_in : (xs : List ℕ) (f n v p : ℕ) → f + n ≤ length xs →
     IsIn (take n (drop f xs)) 0 (length (take n (drop f xs))) v p → IsIn xs f (f + n) v (f + p)
 row_is_in xs f n v p le h =

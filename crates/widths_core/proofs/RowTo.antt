@@ -86,13 +86,13 @@ row_shadowed xs ys zs f i arms x a b lt is e old h = record {
 
 -- ---- one arm more in a row
 
--- behind the place at which something was put in, all stands one place further
+-- after the place at which something was put in, all stands one place further
 above : {X : Type 0} (xs : List X) (at : ℕ) (y d : X) (k : ℕ) → at < k → at ≤ length xs →
     get_or (insert xs at y) k d ≡ get_or xs (k - 1) d
 above xs at y d k lt le = let k-is : k - 1 + 1 ≡ k = omega (arith, lt) in
     rw k-is at (get_or-insert_above xs at y d (k - 1) (omega (arith, lt)) le)
 
--- two numbers that differ are told apart by the test
+-- two numbers that differ are distinguished by the test
 differs : (m n : ℕ) → m ≢ n → (m == n) ≡ false
 differs m n ne = go (m == n) refl where
   go : (q : Bool) → (m == n) ≡ q → (m == n) ≡ false
@@ -108,7 +108,7 @@ record ReadsRows (b c : Rows) (at v : ℕ) (s : ArmStep) : Type 0 where
   size : length c.indexes.items ≡ length b.indexes.items + 1
   sizes : length c.arms.items ≡ length b.arms.items + 1
 
--- where an arm was put into rows, it is at its place, and those that were behind are one further
+-- where an arm was put into rows, it is at its place, and those that were after are one further
 reads : (b c : Rows) (at v : ℕ) (s : ArmStep) → IsPaired b → at ≤ length b.indexes.items →
     Inserts b c at v s → ReadsRows b c at v s
 reads b c at v s paired le h =

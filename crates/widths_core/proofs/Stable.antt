@@ -44,7 +44,7 @@ empty_stable r t d e = same_test (is_empty r t) (empty_step r (is_empty r) d) fo
   back : empty_step r (is_empty r) d ≡ true → is_empty r t ≡ true
   back h = let k = empty_next r t d e h in (ranks_settle r t k.0).1 k.1
 
--- a class made of two tests tells both again, where the first follows from the second
+-- a class made of two tests reports both again, where the first follows from the second
 from_tests : (a b : Bool) → (b ≡ true → a ≡ true) → (has_value (class_from a b) ≡ a)
     × (is_empty_class (class_from a b) ≡ b)
 from_tests true true f = (refl, refl)

@@ -82,14 +82,14 @@ step_at r refs rows steps t h = go (slice_get steps t) refl where
 
 -- ---- the class and the target of a compact
 
--- a step that is chosen by a class tells this class, where the two to choose from tell theirs
+-- a step that is chosen by a class reports this class, where the two to choose from report theirs
 class_by : (c : Class) (none sized : Step) → class_of_step none ≡ class.NoValue →
     class_of_step sized ≡ class.Sized → class_of_step (by_class c none sized) ≡ c
 class_by class.NoValue none sized e f = e
 class_by class.Empty none sized e f = refl
 class_by class.Sized none sized e f = f
 
--- the step of a sequence that has values tells that it takes bytes
+-- the step of a sequence that has values reports that it takes bytes
 sized_sequence : (c : Class) (byte : Bool) (t : ℕ) →
     class_of_step (sequence_step c byte t) ≡ class.Sized
 sized_sequence class.NoValue true t = refl
@@ -98,12 +98,12 @@ sized_sequence class.Empty byte t = refl
 sized_sequence class.Sized true t = refl
 sized_sequence class.Sized false t = refl
 
--- the step of an array that takes bytes tells so
+-- the step of an array that takes bytes reports so
 sized_array : (byte : Bool) (n t : ℕ) → class_of_step (array_step byte n t) ≡ class.Sized
 sized_array true n t = refl
 sized_array false n t = refl
 
--- the step of a type tells the type's class
+-- the step of a type reports the type's class
 class_is : (r : List TypeInfo) (refs : List ℕ) (Row : ℕ → ℕ → List Arm → Type 0) (t : ℕ)
     (d : TypeDef) (s : Step) → shape r t ≡ Some d → IsStep r refs Row (class_of r t) d s →
     class_of_step s ≡ class_of r t
@@ -126,14 +126,14 @@ class_is r refs Row t (Def.Compact u) s e h = rw h (sym (class_stable r t (Def.C
 class_is r refs Row t (Def.BitSequence store order) s e h =
     rw h (class_by (class_of r t) step.NoValue step.BitSequence refl refl)
 
--- a step that is chosen by a class tells no target where the two to choose from tell none
+-- a step that is chosen by a class reports no target where the two to choose from report none
 compact_by : (c : Class) (none sized : Step) → compact_of_step none ≡ None →
     compact_of_step sized ≡ None → compact_of_step (by_class c none sized) ≡ None
 compact_by class.NoValue none sized e f = e
 compact_by class.Empty none sized e f = refl
 compact_by class.Sized none sized e f = f
 
--- the step of a sequence tells no target of a compact
+-- the step of a sequence reports no target of a compact
 sequence_no_compact : (c : Class) (byte : Bool) (t : ℕ) →
     compact_of_step (sequence_step c byte t) ≡ None
 sequence_no_compact class.NoValue true t = refl
@@ -142,12 +142,12 @@ sequence_no_compact class.Empty byte t = refl
 sequence_no_compact class.Sized true t = refl
 sequence_no_compact class.Sized false t = refl
 
--- the step of an array tells no target of a compact
+-- the step of an array reports no target of a compact
 array_no_compact : (byte : Bool) (n t : ℕ) → compact_of_step (array_step byte n t) ≡ None
 array_no_compact true n t = refl
 array_no_compact false n t = refl
 
--- the step of a type tells the target where it is a compact, and else none
+-- the step of a type reports the target where it is a compact, and else none
 compact_is : (r : List TypeInfo) (refs : List ℕ) (Row : ℕ → ℕ → List Arm → Type 0) (c : Class)
     (d : TypeDef) (s : Step) → IsStep r refs Row c d s →
     compact_of_step s ≡ compact_target_of_shape r (Some d)
@@ -169,7 +169,7 @@ compact_is r refs Row c (Def.Compact u) s h = rw h refl
 compact_is r refs Row c (Def.BitSequence store order) s h =
     rw h (compact_by c step.NoValue step.BitSequence refl refl)
 
--- where a step is read, there is such a type, and the step tells its class
+-- where a step is read, there is such a type, and the step reports its class
 pub class_read : (r : List TypeInfo) (t : ℕ) (o : Option Step) (s : Step) → IsStepAt r t o →
     o ≡ Some s → (t < length r) × (class_of_step s ≡ class_of r t)
 class_read r t o s h f = go (shape r t) refl where
@@ -192,7 +192,7 @@ class_unknown r t h = elim (cases_lt t (length r)) [
   | inr past ↦ past
 ]
 
--- what the step that is read tells of a target, or none without a step, is the type's own
+-- what the step that is read reports of a target, or none without a step, is the type's own
 pub compact_read : (r : List TypeInfo) (t : ℕ) (o : Option Step) (m : Option Target) →
     IsStepAt r t o → ((s : Step) → o ≡ Some s → m ≡ compact_of_step s) → (o ≡ None → m ≡ None) →
     m ≡ compact_target_of r t

@@ -147,7 +147,7 @@ get_some [] t lt = absurd (omega (arith, lt))
 get_some (x ∷ xs) zero lt = (x, refl)
 get_some (x ∷ xs) (suc t) lt = get_some xs t (omega (arith, lt))
 
--- a place behind the list has no draft
+-- a place after the list has no draft
 get_past : (xs : List Draft) (t : ℕ) → length xs ≤ t → slice_get xs t ≡ None
 get_past [] t le = refl
 get_past (x ∷ xs) zero le = absurd (omega (arith, le))

@@ -45,7 +45,7 @@ stops_arms t i k arms x cs ds a b c o lt at h stops =
 
 -- ---- in one of the types
 
--- a registry is the types before a position, the type that stands there, and those behind it
+-- a registry is the types before a position, the type that stands there, and those after it
 split_at : (r : List TypeInfo) (i : ℕ) (d : TypeDef) → shape r i ≡ Some d → (x : TypeInfo)
     × (r ≡ take i r ++ x ∷ drop (suc i) r) × (i ≡ length (take i r)) × (x.shape ≡ d)
 split_at [] i d e = absurd cc

@@ -19,7 +19,7 @@ use Rattle.graph_core.specs.Graphs.{refs, numbers, IsLinked, IsOpened, IsNew}
 use Rattle.widths_core.specs.Linking.{AddsRules, AreTypesLinked}
 use Rattle.widths_core.proofs.Adding.{numbers_from-append}
 
--- the rules of one type more come behind those of the types before it
+-- the rules of one type more come after those of the types before it
 rules_more : (r : List TypeInfo) (t i : ℕ) (d : TypeDef) → shape r i ≡ Some d →
     rules_from t (take (suc i) r) ≡ rules_from t (take i r) ++ rules_of (t + i) d
 rules_more [] t i d e = absurd cc
@@ -68,7 +68,7 @@ types_linked_none r d h = record {
   wide = omega arith;
 }
 
--- after a look at type i there were two at most at each type, and one at those behind i
+-- after a look at type i there were two at most at each type, and one at those after i
 pub again : (i t : ℕ) (log : List ℕ) → (times t log ≤ 2) × (i ≤ t → times t log ≤ 1) →
     (times t (i ∷ log) ≤ 2) × (i + 1 ≤ t → times t (i ∷ log) ≤ 1)
 again i t log h = go (i == t) refl where

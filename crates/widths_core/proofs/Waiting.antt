@@ -14,7 +14,7 @@ use Rattle.widths_core.proofs.Ranks.{and_parts, or_left, or_right}
 
 -- ---- how often
 
--- two numbers that differ are told apart by the test
+-- two numbers that differ are distinguished by the test
 pub differ : (x y : ℕ) → x ≢ y → (x == y) ≡ false
 differ x y ne = go (x == y) refl where
   go : (b : Bool) → (x == y) ≡ b → (x == y) ≡ false
@@ -146,7 +146,7 @@ same_at s [] rest j lt = absurd (omega arith)
 same_at s (p ∷ ps) rest zero lt = refl
 same_at s (p ∷ ps) rest (suc j) lt = same_at s ps rest j (omega (arith, lt))
 
--- behind the parts of the first rule stand the numbers of the others
+-- after the parts of the first rule stand the numbers of the others
 later_at : (s : ℕ) (ps rest : List ℕ) (j : ℕ) → length ps ≤ j →
     get_or (map (λ _. s) ps ++ rest) j 0 ≡ get_or rest (j - length ps) 0
 later_at s ps rest j le =

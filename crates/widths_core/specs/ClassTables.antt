@@ -20,8 +20,8 @@ abbrev pub known_target : List (Option Target) → ℕ → Option Target
 known_target targets t = slice_index_or targets t None
 
 -- the table has the target of each type
-abbrev pub TellsTargets : List TypeInfo → List (Option Target) → Type 0
-TellsTargets r targets = (t : ℕ) → known_target targets t ≡ target_of r t
+abbrev pub ReportsTargets : List TypeInfo → List (Option Target) → Type 0
+ReportsTargets r targets = (t : ℕ) → known_target targets t ≡ target_of r t
 
 -- the class of type t in a table, where a type that is not there has no value
 abbrev pub known_class : List Class → ℕ → Class
@@ -68,6 +68,6 @@ class_step targets below (Def.Compact t) = class_of_compact (targets t.0)
 class_step targets below (Def.BitSequence store order) = class.Sized
 
 -- the table has an entry for each type, its class
-abbrev pub TellsClasses : List TypeInfo → List Class → Type 0
-TellsClasses r classes = (length classes ≡ length r)
+abbrev pub ReportsClasses : List TypeInfo → List Class → Type 0
+ReportsClasses r classes = (length classes ≡ length r)
     × ((t : ℕ) → known_class classes t ≡ class_of r t)

@@ -22,7 +22,7 @@ use Rattle.widths_core.specs.Arms.{arm_of}
 use Rattle.graph_core.specs.References.{references}
 use Rattle.widths_core.specs.Targets.{target_of}
 use Rattle.widths_core.specs.Classes.{class_of}
-use Rattle.widths_core.specs.ClassTables.{class_of_compact, TellsClasses, TellsTargets}
+use Rattle.widths_core.specs.ClassTables.{class_of_compact, ReportsClasses, ReportsTargets}
 use Rattle.widths_core.specs.Layouts.{is_byte}
 use Rattle.widths_core.specs.Rows.{IsPaired, Lacks, Rises, arm_at_place, index_in}
 
@@ -79,8 +79,8 @@ pub record AreDrafts (r : List TypeInfo) (refs : List ℕ) (rows : Rows) (drafts
 -- them
 pub record AreSettled (r : List TypeInfo) (classes : List Class) (targets : List (Option Target))
     (refs : List ℕ) (rows : Rows) (drafts : List Draft) : Type 0 where
-  pub classes_are : TellsClasses r classes
-  pub targets_are : TellsTargets r targets
+  pub classes_are : ReportsClasses r classes
+  pub targets_are : ReportsTargets r targets
   pub all : refs ≡ references_of r
   pub own : AreDrafts r (references_of r) rows drafts
 

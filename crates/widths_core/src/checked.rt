@@ -25,7 +25,7 @@ use std::marker::Model;
 /// A registry each of whose references is a position, with a small table of what was found of its types.
 ///
 /// A reference is the type of a field, also in an arm that an earlier one of the same index shadows, the element of a
-/// sequence or of an array, also one of length 0, the member of a tuple, and what a compact stands over. The ids in
+/// sequence or of an array, also one of length 0, the member of a tuple, and what a compact wraps. The ids in
 /// type parameters and in bit sequences may be any.
 ///
 /// The table takes 12 bytes a type, 4 a reference and 13 an arm, shadowed ones too. While it is made, table and lists take
@@ -72,7 +72,7 @@ impl Checked {
         ensures exact { CheckAnswers registry result }
         // Every reference of what is accepted is a position.
         ensures checked { IfOk result (λ _. IsChecked registry) }
-        // The reference that is told is the first that is no position; memory is told only where there is none.
+        // The reference that is reported is the first that is no position; memory is reported only where there is none.
         ensures explained { IfErr result (λ refused. Explains registry refused.0) }
         // Where it is accepted, each type was looked at twice at most, and each reference twice at most.
         ensures looked { IfOk result (λ c. HasFewLooks registry c.looks) }
@@ -107,7 +107,7 @@ impl Checked {
 
     /// What a compact integer of this type stands for (SCALE codec, "Compact/general integers"): one look-up.
     ///
-    /// There is none where the id is no position, where the type is no compact, and where the compact stands over
+    /// There is none where the id is no position, where the type is no compact, and where the compact wraps
     /// something else than an unsigned integer of at most 128 bits, nothing, or a wrapper of one of these: composites
     /// of exactly one field, and tuples of exactly one member, any number deep.
     pub fn compact_target(&self, id: TypeId) -> Option<Target>

@@ -1,4 +1,4 @@
--- What turns on a piece tell is the outcome of all bytes so far.
+-- What turns on a piece report is the outcome of all bytes so far.
 use Rattle.std.proofs.Common.{◌≡◌, ℕ, suc, ◌+◌, ◌-◌, ◌<◌, ◌≤◌, List, [], ◌++◌, length, take, drop}
 use Rattle.std.proofs.Common.{refl, sym, ap, subst, ◌∙◌, append_assoc, Ok, Err, arith, inr}
 use Rattle.std.proofs.Common.{length-append, length-drop}
@@ -14,16 +14,16 @@ use Rattle.decode_core.specs.Machine.{remain, start}
 use Rattle.decode_core.specs.Outcome.{Job, done, refused, more, too_long, IsOutcome}
 use Rattle.decode_core.specs.Reasons.{reason_of}
 use Rattle.decode_core.specs.Running.{Running, held_of, state_of}
-use Rattle.decode_core.specs.Told.{told, told_at, after}
+use Rattle.decode_core.specs.Reported.{reported, reported_at, after}
 use Rattle.value_core.specs.Built.{Entry}
 use Rattle.decode_core.specs.Turned.{IsSame, IsSound, Moves, TurnsLead, EndsTurns, WantsMemory}
 use Rattle.decode_core.specs.declared.fault.DecodeReason.{DecodeReason}
 use Rattle.decode_core.specs.declared.turned.Stopped.TheVariants as stop
 use Rattle.decode_core.proofs.lists.Decides.{not_cut}
 use Rattle.decode_core.proofs.steps.Holding.{holds_of}
-use Rattle.decode_core.proofs.steps.Refusing.{waits_told}
+use Rattle.decode_core.proofs.steps.Refusing.{waits_reported}
 use Rattle.decode_core.proofs.lists.Fed.{Here, cut_here, done_here, refused_here, take_split}
-use Rattle.decode_core.proofs.lists.Fed.{led_on, whole_told}
+use Rattle.decode_core.proofs.lists.Fed.{led_on, whole_reported}
 
 -- the bytes that are offered within the limit
 abbrev pub offered : Job → ℕ → List ℕ → List ℕ
@@ -65,7 +65,7 @@ pub moved_led : (j : Job) (b : List ℕ) (s last : Running) (n : ℕ) (x : List 
 moved_led j b s last n x g m =
     let one : TurnsLead j.registry (state_of s.built) (state_of last.built) m.own =
     subst (λ (r : List TypeInfo). TurnsLead r (state_of s.built) (state_of last.built) m.own)
-    g.same.types (record { tells = m.tells; level = m.level }) in
+    g.same.types (record { reports = m.reports; level = m.level }) in
     led_on j.registry (start j.depth j.ty) (state_of s.built) (state_of last.built) g.own m.own
     g.led one
 
@@ -102,17 +102,17 @@ fed_done j b piece s last n k g le m st sound =
     let cut = offered j n piece in
     let rest = held_of last ++ drop k cut in
     let of = of_moved j s last g.same m.same in
-    let tells : (x : List ℕ) → remain j.registry (state_of last.built) x ≡ told [] (Ok x) =
+    let reports : (x : List ℕ) → remain j.registry (state_of last.built) x ≡ reported [] (Ok x) =
     λ x. ap (λ (r : List TypeInfo). remain r (state_of last.built) x) (sym of.types) ∙ st.0 x in
     let one = done_here j (b ++ piece) (state_of last.built) rest (n + length cut)
-    (here j b piece s last n k g m) (tells rest) (front_count j b piece s n g) in
+    (here j b piece s last n k g m) (reports rest) (front_count j b piece s n g) in
     let left : length rest ≡ length cut - k = ap (λ (l : List ℕ). length (l ++ drop k cut)) st.1
     ∙ length-drop k cut in
     let count : n + length cut - length rest ≡ n + k = omega (arith, left, le) in
     let few : length cut ≤ j.bytes - n = omega (arith, length-take (j.bytes - n) piece) in
     record {
       same = of;
-      whole = tells;
+      whole = reports;
       nothing = st.1;
       is_whole = st.2;
       sound = sound;
@@ -144,22 +144,22 @@ fed_more j b piece s last n k g le m st sound are short =
     let rest = held_of last ++ drop k cut in
     let nil : rest ≡ held_of last = ap (λ (l : List ℕ). held_of last ++ l) st.0
     ∙ append-nil (held_of last) in
-    let tells : remain j.registry (state_of last.built) rest ≡ told []
+    let reports : remain j.registry (state_of last.built) rest ≡ reported []
     (Err ((truncated, st.1.left), rest)) =
     rw nil (ap (λ (r : List TypeInfo). remain r (state_of last.built) (held_of last))
-    (sym of.types) ∙ waits_told last st.1) in
-    let one = cut_here j (b ++ piece) (state_of last.built) rest st.1.left h tells in
+    (sym of.types) ∙ waits_reported last st.1) in
+    let one = cut_here j (b ++ piece) (state_of last.built) rest st.1.left h reports in
     let led = moved_led j b s last n (take k cut) g m in
-    let stops : remain j.registry (state_of last.built) (held_of last) ≡ told []
+    let stops : remain j.registry (state_of last.built) (held_of last) ≡ reported []
     (Err ((truncated, st.1.left), held_of last)) =
     ap (λ (r : List TypeInfo). remain r (state_of last.built) (held_of last)) (sym of.types)
-    ∙ waits_told last st.1 in
-    let reads : told_at j.registry (suc j.depth) j.ty (b ++ piece)
-    ≡ told last.built.entries (Err ((truncated, st.1.left), held_of last)) =
-    ap (told_at j.registry (suc j.depth) j.ty) input_is
-    ∙ whole_told j.registry j.depth j.ty (state_of last.built) (g.own ++ m.own) (held_of last)
+    ∙ waits_reported last st.1 in
+    let reads : reported_at j.registry (suc j.depth) j.ty (b ++ piece)
+    ≡ reported last.built.entries (Err ((truncated, st.1.left), held_of last)) =
+    ap (reported_at j.registry (suc j.depth) j.ty) input_is
+    ∙ whole_reported j.registry j.depth j.ty (state_of last.built) (g.own ++ m.own) (held_of last)
     led ∙ ap (after last.built.entries) stops
-    ∙ ap (λ (xs : List Entry). told xs (Err ((truncated, st.1.left), held_of last)))
+    ∙ ap (λ (xs : List Entry). reported xs (Err ((truncated, st.1.left), held_of last)))
     (append-nil last.built.entries) in
     let all_bytes = both_bytes b piece g.are_bytes are in
     let waiting : IsWaiting j (b ++ piece) last =
@@ -194,11 +194,11 @@ fed_long j b piece s last n k g le m st long =
     let rest = held_of last ++ drop k cut in
     let nil : rest ≡ held_of last = ap (λ (l : List ℕ). held_of last ++ l) st.0
     ∙ append-nil (held_of last) in
-    let tells : remain j.registry (state_of last.built) rest ≡ told []
+    let reports : remain j.registry (state_of last.built) rest ≡ reported []
     (Err ((truncated, st.1.left), rest)) =
     rw nil (ap (λ (r : List TypeInfo). remain r (state_of last.built) (held_of last))
-    (sym of.types) ∙ waits_told last st.1) in (
-      cut_here j (b ++ piece) (state_of last.built) rest st.1.left h tells,
+    (sym of.types) ∙ waits_reported last st.1) in (
+      cut_here j (b ++ piece) (state_of last.built) rest st.1.left h reports,
       omega (arith, length-append b piece, g.count, g.fits, long),
       refl,
     )
@@ -207,12 +207,12 @@ fed_long j b piece s last n k g le m st long =
 
 -- turns that end with a refusal have it as the outcome of all bytes so far, at its place
 pub fed_refused : (j : Job) (b piece : List ℕ) (s last : Running) (n k held : ℕ)
-    (told_reason : DecodeReason) (at len : ℕ) → (g : IsGoing j b s n) →
+    (reported_reason : DecodeReason) (at len : ℕ) → (g : IsGoing j b s n) →
     k ≤ length (offered j n piece) → Moves s last (take k (offered j n piece)) →
-    EndsTurns last (drop k (offered j n piece)) (stop.Refused held told_reason at len) →
-    (held ≤ n + k) × ((e : Refusal) × (told_reason ≡ reason_of e)
+    EndsTurns last (drop k (offered j n piece)) (stop.Refused held reported_reason at len) →
+    (held ≤ n + k) × ((e : Refusal) × (reported_reason ≡ reason_of e)
     × IsOutcome j (b ++ piece) (refused e (n + k - held + at)) (n + k - held + len))
-fed_refused j b piece s last n k held told_reason at len g le m st =
+fed_refused j b piece s last n k held reported_reason at len g le m st =
     let cut = offered j n piece in
     let x = held_of last ++ drop k cut in
     let of = of_moved j s last g.same m.same in
@@ -220,12 +220,12 @@ fed_refused j b piece s last n k held told_reason at len g le m st =
     let counted = front_count j b piece s n g in
     let e = st.0 in
     let left = st.1 in
-    let tells : remain j.registry (state_of last.built) x ≡ told [] (Err ((e, left), x)) =
+    let reports : remain j.registry (state_of last.built) x ≡ reported [] (Err ((e, left), x)) =
     ap (λ (r : List TypeInfo). remain r (state_of last.built) x) (sym of.types) ∙ st.6 in
     let decided = subst (λ (r : List TypeInfo). Decided r (state_of last.built) x e left len)
     of.types st.7 in
     let one = refused_here j (b ++ piece) (state_of last.built) x (n + length cut) len e left h
-    counted (not_cut e st.2) decided tells in
+    counted (not_cut e st.2) decided reports in
     let x_count : length x ≡ held + (length cut - k) =
     omega (arith, length-append (held_of last) (drop k cut), length-drop k cut, st.4) in
     let own_count = ap length (moved_own j b cut s last n k g m) in
@@ -255,7 +255,7 @@ fed_refused j b piece s last n k held told_reason at len g le m st =
 
 -- ---- memory is wanted
 
--- turns that end for want of memory tell that it was wanted behind all bytes taken
+-- turns that end for want of memory report that it was wanted after all bytes taken
 pub fed_short : (j : Job) (b piece : List ℕ) (s last : Running) (n k : ℕ) → (g : IsGoing j b s n) →
     k ≤ length (offered j n piece) → Moves s last (take k (offered j n piece)) →
     WantsMemory last (drop k (offered j n piece)) → RanOut j (b ++ piece) (n + k)

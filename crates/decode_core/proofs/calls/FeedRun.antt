@@ -8,7 +8,7 @@ use Rattle.decode_core.specs.Decoding.{HoldsOf, IsDone, IsEnded, IsGoing, RunLed
 use Rattle.decode_core.specs.Outcome.{Job, more, IsOutcome}
 use Rattle.value_core.specs.Refusals.{is_whole}
 use Rattle.decode_core.specs.Running.{Running, held_of}
-use Rattle.decode_core.specs.Turned.{FeedTells, RunsOut, EndsTurns}
+use Rattle.decode_core.specs.Turned.{FeedReports, RunsOut, EndsTurns}
 use Rattle.decode_core.specs.declared.fault.DecodeReason.{DecodeReason}
 use Rattle.decode_core.specs.declared.fault.DecodeReason.TheVariants as reason
 use Rattle.decode_core.specs.declared.turned.Stopped.{Stopped}
@@ -17,73 +17,73 @@ use Rattle.decode_core.proofs.calls.Bridge.{fed_short, offered}
 use Rattle.decode_core.proofs.calls.Feeding.{led_done, led_more, led_long, led_refused}
 
 -- what was offered is the part within the limit
-tells_offered : (j : Job) (piece slice : List ℕ) (s new : Running) (limit taken k : ℕ)
+reports_offered : (j : Job) (piece slice : List ℕ) (s new : Running) (limit taken k : ℕ)
     (why : Stopped) → j.bytes ≡ limit → slice ≡ take (limit - taken) piece →
-    FeedTells s new slice k why → FeedTells s new (offered j taken piece) k why
-tells_offered j piece slice s new limit taken k why e is f =
+    FeedReports s new slice k why → FeedReports s new (offered j taken piece) k why
+reports_offered j piece slice s new limit taken k why e is f =
     let same : slice ≡ offered j taken piece = is
     ∙ ap (λ (l : ℕ). take (l - taken) piece) (sym e) in
-    subst (λ (l : List ℕ). FeedTells s new l k why) same f
+    subst (λ (l : List ℕ). FeedReports s new l k why) same f
 
 -- turns that end with a whole value make the decoder done, by all bytes so far
 pub run_done : (j : Job) (b piece slice : List ℕ) (s new : Running) (limit taken k : ℕ)
     (why : Stopped) → j.bytes ≡ limit → slice ≡ take (limit - taken) piece →
-    RunLed j b taken (Ok s) → FeedTells s new slice k why → why ≡ stop.Finished →
+    RunLed j b taken (Ok s) → FeedReports s new slice k why → why ≡ stop.Finished →
     IsDone j (b ++ piece) new (taken + k)
 run_done j b piece slice s new limit taken k why e is led f w =
     led_done j b piece s new taken k led
-    (subst (FeedTells s new (offered j taken piece) k) w
-    (tells_offered j piece slice s new limit taken k why e is f))
+    (subst (FeedReports s new (offered j taken piece) k) w
+    (reports_offered j piece slice s new limit taken k why e is f))
 
 -- turns that lack bytes at the limit, where the piece has more, end the decoder as too long
 pub run_long : (j : Job) (b piece slice : List ℕ) (s new : Running) (limit taken k : ℕ)
     (why : Stopped) → j.bytes ≡ limit → slice ≡ take (limit - taken) piece →
-    RunLed j b taken (Ok s) → FeedTells s new slice k why → why ≡ stop.Wants →
+    RunLed j b taken (Ok s) → FeedReports s new slice k why → why ≡ stop.Wants →
     length slice < length piece →
     IsEnded j (b ++ piece) (record { reason = reason.TooLong; at = limit }) limit
 run_long j b piece slice s new limit taken k why e is led f w cut =
     let long : j.bytes - taken < length piece =
     omega (arith, e, ap length is, length-take (limit - taken) piece, cut) in
     let out = led_long j b piece s new taken k led
-    (subst (FeedTells s new (offered j taken piece) k) w
-    (tells_offered j piece slice s new limit taken k why e is f)) long in
+    (subst (FeedReports s new (offered j taken piece) k) w
+    (reports_offered j piece slice s new limit taken k why e is f)) long in
     subst (λ (l : ℕ). IsEnded j (b ++ piece) (record { reason = reason.TooLong; at = l }) l) e
     (inr (inl (refl, out)))
 
 -- turns that lack bytes within the limit leave the decoder going, and a begun tree held
 pub run_more : (j : Job) (b piece slice : List ℕ) (s new : Running) (limit taken k : ℕ)
     (why : Stopped) → j.bytes ≡ limit → slice ≡ take (limit - taken) piece →
-    RunLed j b taken (Ok s) → FeedTells s new slice k why → why ≡ stop.Wants → AreBytes piece →
+    RunLed j b taken (Ok s) → FeedReports s new slice k why → why ≡ stop.Wants → AreBytes piece →
     length piece ≤ length slice → IsGoing j (b ++ piece) new (taken + k)
     × IsOutcome j (b ++ piece) more (taken + k) × HoldsOf j (b ++ piece) new
 run_more j b piece slice s new limit taken k why e is led f w are all =
     let short : length piece ≤ j.bytes - taken =
     omega (arith, e, ap length is, length-take (limit - taken) piece, all) in
     led_more j b piece s new taken k led
-    (subst (FeedTells s new (offered j taken piece) k) w
-    (tells_offered j piece slice s new limit taken k why e is f)) are short
+    (subst (FeedReports s new (offered j taken piece) k) w
+    (reports_offered j piece slice s new limit taken k why e is f)) are short
 
 -- what was held of a refused node is no more than the bytes taken
 pub run_held : (j : Job) (b piece slice : List ℕ) (s new : Running) (limit taken k held : ℕ)
-    (told_reason : DecodeReason) (at len : ℕ) (why : Stopped) → j.bytes ≡ limit →
-    slice ≡ take (limit - taken) piece → RunLed j b taken (Ok s) → FeedTells s new slice k why →
-    why ≡ stop.Refused held told_reason at len → held ≤ taken + k
-run_held j b piece slice s new limit taken k held told_reason at len why e is led f w =
-    (led_refused j b piece s new taken k held told_reason at len led
-    (subst (FeedTells s new (offered j taken piece) k) w
-    (tells_offered j piece slice s new limit taken k why e is f))).0
+    (reported_reason : DecodeReason) (at len : ℕ) (why : Stopped) → j.bytes ≡ limit →
+    slice ≡ take (limit - taken) piece → RunLed j b taken (Ok s) → FeedReports s new slice k why →
+    why ≡ stop.Refused held reported_reason at len → held ≤ taken + k
+run_held j b piece slice s new limit taken k held reported_reason at len why e is led f w =
+    (led_refused j b piece s new taken k held reported_reason at len led
+    (subst (FeedReports s new (offered j taken piece) k) w
+    (reports_offered j piece slice s new limit taken k why e is f))).0
 
 -- turns that end with a refusal end the decoder with its reason, place and bytes taken
 pub run_refused : (j : Job) (b piece slice : List ℕ) (s new : Running) (limit taken k held : ℕ)
-    (told_reason : DecodeReason) (at len : ℕ) (why : Stopped) → j.bytes ≡ limit →
-    slice ≡ take (limit - taken) piece → RunLed j b taken (Ok s) → FeedTells s new slice k why →
-    why ≡ stop.Refused held told_reason at len →
-    IsEnded j (b ++ piece) (record { reason = told_reason; at = taken + k - held + at })
+    (reported_reason : DecodeReason) (at len : ℕ) (why : Stopped) → j.bytes ≡ limit →
+    slice ≡ take (limit - taken) piece → RunLed j b taken (Ok s) → FeedReports s new slice k why →
+    why ≡ stop.Refused held reported_reason at len →
+    IsEnded j (b ++ piece) (record { reason = reported_reason; at = taken + k - held + at })
     (taken + k - held + len)
-run_refused j b piece slice s new limit taken k held told_reason at len why e is led f w =
-    let r = led_refused j b piece s new taken k held told_reason at len led
-    (subst (FeedTells s new (offered j taken piece) k) w
-    (tells_offered j piece slice s new limit taken k why e is f)) in
+run_refused j b piece slice s new limit taken k held reported_reason at len why e is led f w =
+    let r = led_refused j b piece s new taken k held reported_reason at len led
+    (subst (FeedReports s new (offered j taken piece) k) w
+    (reports_offered j piece slice s new limit taken k why e is f)) in
     inr (inr (
       r.1.0,
       taken + k - held + at,
@@ -108,11 +108,11 @@ run_short j b piece slice s limit taken k e is (inl g) going f =
 -- ---- how many bytes were taken
 
 -- a refused node has as many as were held, and at most those that are left of the piece
-refused_by : (last new : Running) (piece : List ℕ) (k held : ℕ) (told_reason : DecodeReason)
+refused_by : (last new : Running) (piece : List ℕ) (k held : ℕ) (reported_reason : DecodeReason)
     (at len : ℕ) → k ≤ length piece →
-    EndsTurns last (drop k piece) (stop.Refused held told_reason at len) → (held ≤ len)
+    EndsTurns last (drop k piece) (stop.Refused held reported_reason at len) → (held ≤ len)
     × (len ≤ held + (length piece - k))
-refused_by last new piece k held told_reason at len le st = (
+refused_by last new piece k held reported_reason at len le st = (
   st.8,
   omega (
     arith,
@@ -125,10 +125,11 @@ refused_by last new piece k held told_reason at len le st = (
 
 -- a refusal takes no fewer bytes than were taken before, and no more than the piece adds
 pub takes_refused : (s new : Running) (slice : List ℕ) (k held taken len : ℕ)
-    (told_reason : DecodeReason) (at : ℕ) (why : Stopped) → FeedTells s new slice k why →
-    why ≡ stop.Refused held told_reason at len → held ≤ taken + k → (taken ≤ taken + k - held + len)
+    (reported_reason : DecodeReason) (at : ℕ) (why : Stopped) → FeedReports s new slice k why →
+    why ≡ stop.Refused held reported_reason at len → held ≤ taken + k →
+    (taken ≤ taken + k - held + len)
     × (taken + k - held + len ≤ taken + length slice)
-takes_refused s new slice k held taken len told_reason at why f is within =
-    let g = subst (FeedTells s new slice k) is f in
-    let few = refused_by g.1.0 new slice k held told_reason at len g.0 g.1.2 in
+takes_refused s new slice k held taken len reported_reason at why f is within =
+    let g = subst (FeedReports s new slice k) is f in
+    let few = refused_by g.1.0 new slice k held reported_reason at len g.0 g.1.2 in
     (omega (arith, few.0, within), omega (arith, few.1, within, g.0))

@@ -13,45 +13,45 @@ use Rattle.decode_core.specs.Machine.{remain}
 use Rattle.decode_core.specs.Outcome.{Job, done, refused, more, too_long, IsOutcome}
 use Rattle.decode_core.specs.Reasons.{reason_of}
 use Rattle.decode_core.specs.Running.{Running, held_of, state_of}
-use Rattle.decode_core.specs.Told.{told, added, after, Ending, ending}
-use Rattle.decode_core.specs.Turned.{FeedTells, IsSound, Moves, EndsTurns, WantsMemory, types_in}
+use Rattle.decode_core.specs.Reported.{reported, added, after, Ending, ending}
+use Rattle.decode_core.specs.Turned.{FeedReports, IsSound, Moves, EndsTurns, WantsMemory, types_in}
 use Rattle.decode_core.specs.declared.fault.DecodeFault.{DecodeFault}
 use Rattle.decode_core.specs.declared.fault.DecodeReason.{DecodeReason}
 use Rattle.decode_core.specs.declared.turned.Stopped.TheVariants as stop
 use Rattle.decode_core.proofs.calls.Bridge.{offered, of_moved, fed_done, fed_more, fed_long}
 use Rattle.decode_core.proofs.calls.Bridge.{fed_refused}
 use Rattle.decode_core.proofs.lists.Fed.{outcome_stays, take_split}
-use Rattle.decode_core.proofs.steps.Refusing.{waits_told}
+use Rattle.decode_core.proofs.steps.Refusing.{waits_reported}
 
 -- ---- a value that is whole takes no more
 
--- what a whole value tells after any move
-pub done_told : (j : Job) (b : List ℕ) (s last : Running) (n : ℕ) (x : List ℕ) →
+-- what a whole value reports after any move
+pub done_reported : (j : Job) (b : List ℕ) (s last : Running) (n : ℕ) (x : List ℕ) →
     (g : IsDone j b s n) → (m : Moves s last x) → (later : List ℕ) →
-    told s.built.entries (Ok (m.own ++ later))
+    reported s.built.entries (Ok (m.own ++ later))
     ≡ after last.built.entries (remain (types_in s) (state_of last.built) later)
-done_told j b s last n x g m later =
-    let whole : remain (types_in s) (state_of s.built) (m.own ++ later) ≡ told []
+done_reported j b s last n x g m later =
+    let whole : remain (types_in s) (state_of s.built) (m.own ++ later) ≡ reported []
     (Ok (m.own ++ later)) = ap (λ (r : List TypeInfo). remain r (state_of s.built)
     (m.own ++ later)) g.same.types ∙ g.whole (m.own ++ later) in
-    ap (λ (xs : List Entry). told xs (Ok (m.own ++ later))) (sym (append-nil s.built.entries))
-    ∙ sym (ap (after s.built.entries) whole) ∙ m.tells later
+    ap (λ (xs : List Entry). reported xs (Ok (m.own ++ later))) (sym (append-nil s.built.entries))
+    ∙ sym (ap (after s.built.entries) whole) ∙ m.reports later
 
 -- a reading that ended well has no fault, so anything follows
 no_fault : {X : Type 0} (xs ys : List Entry) (rest x left : List ℕ) (e : Refusal) →
-    told xs (Ok rest) ≡ after ys (told [] (Err ((e, left), x))) → X
+    reported xs (Ok rest) ≡ after ys (reported [] (Err ((e, left), x))) → X
 no_fault xs ys rest x left e h = let both : ◌≡◌ {A = Ending} (Ok rest) (Err ((e, left), x)) =
     ap ending h in absurd cc
 
 -- a value that was whole cannot fail after it moved on, so anything follows
 done_cannot_fail : {X : Type 0} (j : Job) (b : List ℕ) (s last : Running) (n : ℕ)
     (x y left : List ℕ) (e : Refusal) → IsDone j b s n → Moves s last x →
-    remain (types_in last) (state_of last.built) y ≡ told [] (Err ((e, left), y)) → X
+    remain (types_in last) (state_of last.built) y ≡ reported [] (Err ((e, left), y)) → X
 done_cannot_fail j b s last n x y left e g m h =
-    let there : remain (types_in s) (state_of last.built) y ≡ told [] (Err ((e, left), y)) =
+    let there : remain (types_in s) (state_of last.built) y ≡ reported [] (Err ((e, left), y)) =
     ap (λ (r : List TypeInfo). remain r (state_of last.built) y) (sym m.same.types) ∙ h in
     no_fault s.built.entries last.built.entries (m.own ++ y) y left e
-    (done_told j b s last n x g m y ∙ ap (after last.built.entries) there)
+    (done_reported j b s last n x g m y ∙ ap (after last.built.entries) there)
 
 -- two readings that ended well and are equal left the same bytes
 ok_is : (x y : List ℕ) → ◌≡◌ {A = Ending} (Ok x) (Ok y) → x ≡ y
@@ -65,10 +65,11 @@ pub done_again : (j : Job) (b piece : List ℕ) (s last : Running) (n k : ℕ) �
 done_again j b piece s last n k g le m st sound =
     let cut = offered j n piece in
     let of = of_moved j s last g.same m.same in
-    let tells : (x : List ℕ) → remain j.registry (state_of last.built) x ≡ told [] (Ok x) =
+    let reports : (x : List ℕ) → remain j.registry (state_of last.built) x ≡ reported [] (Ok x) =
     λ x. ap (λ (r : List TypeInfo). remain r (state_of last.built) x) (sym of.types) ∙ st.0 x in
-    let all : told s.built.entries (Ok (m.own ++ [])) ≡ after last.built.entries (told [] (Ok [])) =
-    done_told j b s last n (take k cut) g m []
+    let all : reported s.built.entries (Ok (m.own ++ []))
+    ≡ after last.built.entries (reported [] (Ok [])) =
+    done_reported j b s last n (take k cut) g m []
     ∙ ap (λ (r : List TypeInfo). after last.built.entries (remain r (state_of last.built) []))
     (sym m.same.types) ∙ ap (after last.built.entries) (st.0 []) in
     let own : length (m.own ++ []) ≡ 0 = ap length (ok_is (m.own ++ []) [] (ap ending all)) in
@@ -92,7 +93,7 @@ done_again j b piece s last n k g le m st sound =
     let kept = outcome_stays j b piece (done (built_tree s.built)) n g.outcome (λ e. absurd cc) in
     record {
       same = of;
-      whole = tells;
+      whole = reports;
       nothing = st.1;
       is_whole = st.2;
       sound = sound;
@@ -105,7 +106,7 @@ done_again j b piece s last n k g le m st sound =
 
 -- turns that end with a whole value make the decoder done, be it on its way or whole before
 pub led_done : (j : Job) (b piece : List ℕ) (s new : Running) (n k : ℕ) → RunLed j b n (Ok s) →
-    FeedTells s new (offered j n piece) k stop.Finished → IsDone j (b ++ piece) new (n + k)
+    FeedReports s new (offered j n piece) k stop.Finished → IsDone j (b ++ piece) new (n + k)
 led_done j b piece s new n k (inl g) f =
     subst (λ (r : Running). IsDone j (b ++ piece) r (n + k)) (sym f.1.3)
     (fed_done j b piece s f.1.0 n k g f.0 f.1.1 f.1.2 f.1.4)
@@ -115,7 +116,8 @@ led_done j b piece s new n k (inr g) f =
 
 -- the same where they lack bytes within the limit: more is wanted, and a begun tree held
 pub led_more : (j : Job) (b piece : List ℕ) (s new : Running) (n k : ℕ) → RunLed j b n (Ok s) →
-    FeedTells s new (offered j n piece) k stop.Wants → AreBytes piece → length piece ≤ j.bytes - n →
+    FeedReports s new (offered j n piece) k stop.Wants → AreBytes piece →
+    length piece ≤ j.bytes - n →
     IsGoing j (b ++ piece) new (n + k) × IsOutcome j (b ++ piece) more (n + k)
     × HoldsOf j (b ++ piece) new
 led_more j b piece s new n k (inl g) f are short =
@@ -124,26 +126,26 @@ led_more j b piece s new n k (inl g) f are short =
     (fed_more j b piece s f.1.0 n k g f.0 f.1.1 f.1.2 f.1.4 are short)
 led_more j b piece s new n k (inr g) f are short =
     done_cannot_fail j b s f.1.0 n (take k (offered j n piece)) (held_of f.1.0) f.1.2.1.left
-    truncated g f.1.1 (waits_told f.1.0 f.1.2.1)
+    truncated g f.1.1 (waits_reported f.1.0 f.1.2.1)
 
 -- the same where they lack bytes and the piece passes the limit: the input is too long
 pub led_long : (j : Job) (b piece : List ℕ) (s new : Running) (n k : ℕ) → RunLed j b n (Ok s) →
-    FeedTells s new (offered j n piece) k stop.Wants → j.bytes - n < length piece →
+    FeedReports s new (offered j n piece) k stop.Wants → j.bytes - n < length piece →
     IsOutcome j (b ++ piece) too_long j.bytes
 led_long j b piece s new n k (inl g) f long = fed_long j b piece s f.1.0 n k g f.0 f.1.1 f.1.2 long
 led_long j b piece s new n k (inr g) f long =
     done_cannot_fail j b s f.1.0 n (take k (offered j n piece)) (held_of f.1.0) f.1.2.1.left
-    truncated g f.1.1 (waits_told f.1.0 f.1.2.1)
+    truncated g f.1.1 (waits_reported f.1.0 f.1.2.1)
 
 -- the same where they end with a refusal: it is the outcome of all bytes so far, at its place
 pub led_refused : (j : Job) (b piece : List ℕ) (s new : Running) (n k held : ℕ)
-    (told_reason : DecodeReason) (at len : ℕ) → RunLed j b n (Ok s) →
-    FeedTells s new (offered j n piece) k (stop.Refused held told_reason at len) →
-    (held ≤ n + k) × ((e : Refusal) × (told_reason ≡ reason_of e)
+    (reported_reason : DecodeReason) (at len : ℕ) → RunLed j b n (Ok s) →
+    FeedReports s new (offered j n piece) k (stop.Refused held reported_reason at len) →
+    (held ≤ n + k) × ((e : Refusal) × (reported_reason ≡ reason_of e)
     × IsOutcome j (b ++ piece) (refused e (n + k - held + at)) (n + k - held + len))
-led_refused j b piece s new n k held told_reason at len (inl g) f =
-    fed_refused j b piece s f.1.0 n k held told_reason at len g f.0 f.1.1 f.1.2
-led_refused j b piece s new n k held told_reason at len (inr g) f =
+led_refused j b piece s new n k held reported_reason at len (inl g) f =
+    fed_refused j b piece s f.1.0 n k held reported_reason at len g f.0 f.1.1 f.1.2
+led_refused j b piece s new n k held reported_reason at len (inr g) f =
     done_cannot_fail j b s f.1.0 n (take k (offered j n piece))
     (held_of f.1.0 ++ drop k (offered j n piece)) f.1.2.1 f.1.2.0 g f.1.1 f.1.2.6
 

@@ -31,7 +31,7 @@ first_going j s b is same =
     sym (is ∙ ap (λ (x : Built). record { built = x; carry = [] }) same) in
     let led : TurnsLead j.registry (start j.depth j.ty) (state_of (first j).built) [] =
     subst (λ (x : State). TurnsLead j.registry (start j.depth j.ty) x []) (sym (start_is j))
-    (record { tells = λ later. refl; level = refl }) in
+    (record { reports = λ later. refl; level = refl }) in
     subst (λ (x : Running). IsGoing j [] x 0) whole
     (record {
       same = record { types = refl; ty = refl; limit = refl };

@@ -24,14 +24,14 @@ use Rattle.decode_core.specs.Machine.{remain}
 use Rattle.decode_core.specs.NodeAdds.{with_own}
 use Rattle.decode_core.specs.Outcome.{Job, more, IsOutcome}
 use Rattle.decode_core.specs.Running.{held_of, state_of}
-use Rattle.decode_core.specs.Told.{Own, Told, told, after, own_at, told_at}
+use Rattle.decode_core.specs.Reported.{Own, Reported, reported, after, own_at, reported_at}
 use Rattle.decode_core.specs.Turned.{KeepsNode, KeepsRun}
 use Rattle.decode_core.specs.Wanted.{GoesOn, WantedGoesOn}
-use Rattle.decode_core.proofs.lists.Fed.{fault_value, whole_told}
+use Rattle.decode_core.proofs.lists.Fed.{fault_value, whole_reported}
 use Rattle.decode_core.proofs.steps.LengthAdding.{run_cut}
 use Rattle.decode_core.proofs.lists.Owns.{own_extends}
 use Rattle.decode_core.proofs.steps.Refusing.{remain_next}
-use Rattle.decode_core.proofs.lists.Shortest.{reason_tells, refusal_tells}
+use Rattle.decode_core.proofs.lists.Shortest.{reason_reports, refusal_reports}
 use Rattle.decode_core.proofs.steps.Stepping.{added_leads, at_next}
 
 -- ---- fewer bytes than spell a node, or begin a run, are too few
@@ -45,12 +45,12 @@ node_short bytes x (Ok y) read' h is some =
     let pair : (y.0, y.1 ++ bytes) ≡ (x, []) = done_is (y.0, y.1 ++ bytes) (x, []) both in
     let nil : y.1 ++ bytes ≡ [] = ap (λ (p : (Head × Option Part) × List ℕ). p.1) pair in
     absurd (omega (arith, ap length nil, length-append y.1 bytes, some))
-node_short bytes x (Err e) read' h is some = elim (refusal_tells e.0) [
+node_short bytes x (Err e) read' h is some = elim (refusal_reports e.0) [
   | inl cut ↦ (e.1, ap (λ r. Err (r, e.1)) cut)
   | inr other ↦ let both = sym (h other) ∙ is in absurd cc
 ]
 
--- a run with fewer bytes behind its length than it is to have is cut
+-- a run with fewer bytes after its length than it is to have is cut
 run_few : (k : RunKind) (held rest : List ℕ) (n : ℕ) → run_length_at k held ≡ Ok (n, rest) →
     length rest < n → own_at (layout.plain (layout.run k)) held ≡ Err (truncated, [])
 unfolding own_at layout_at run_at
@@ -70,7 +70,7 @@ run_begun k held bytes came n (Ok y) read' at h is some few =
       run_few k held y.1 y.0 at
           (omega (arith, same, ap length parts, length-append y.1 bytes, some, few)),
     )
-run_begun k held bytes came n (Err e) read' at h is some few = elim (reason_tells e.0) [
+run_begun k held bytes came n (Err e) read' at h is some few = elim (reason_reports e.0) [
   | inl cut ↦ (e.1, run_cut k held scale.Truncated e.1 (at ∙ ap (λ r. Err (r, e.1)) cut))
   | inr other ↦ let both = sym (h other) ∙ is in absurd cc
 ]
@@ -92,13 +92,14 @@ cut_goes_on : (j : Job) (b left : List ℕ) (n : ℕ) (h : RanOut j b n) →
 cut_goes_on j b left n h short =
     let s = state_of h.s.built in
     let front = h.own ++ held_of h.s in
-    let stops : remain j.registry s (held_of h.s) ≡ told [] (Err ((truncated, left), held_of h.s)) =
+    let stops : remain j.registry s (held_of h.s)
+    ≡ reported [] (Err ((truncated, left), held_of h.s)) =
     ap (λ (r : List TypeInfo). remain r s (held_of h.s)) (sym h.same.types)
     ∙ remain_next h.s.built (at_next h.s.built h.wants.form h.wants.next) (held_of h.s) left
     truncated short in
-    let reads : told_at j.registry (suc j.depth) j.ty front ≡ told (s.nodes ++ [])
+    let reads : reported_at j.registry (suc j.depth) j.ty front ≡ reported (s.nodes ++ [])
     (Err ((truncated, left), held_of h.s)) =
-    whole_told j.registry j.depth j.ty s h.own (held_of h.s) h.led ∙ ap (after s.nodes) stops in
+    whole_reported j.registry j.depth j.ty s h.own (held_of h.s) h.led ∙ ap (after s.nodes) stops in
     let within = front_is j b n h in
     let fits : length front ≤ j.bytes =
     omega (arith, ap length within.0, length-append front h.rest, length-take j.bytes b) in (
@@ -125,7 +126,7 @@ entries_with b (h, Some p) = refl
 -- the node is read where they spell it
 node_goes_on : (j : Job) (b : List ℕ) (n : ℕ) (h : RanOut j b n) (x : Head × Option Part) →
     own_at (next_layout h.s.built) (held_of h.s) ≡ Ok (x, []) → (later : List ℕ) →
-    (rest : Told) × (told_at j.registry (suc j.depth) j.ty ((h.own ++ held_of h.s) ++ later)
+    (rest : Reported) × (reported_at j.registry (suc j.depth) j.ty ((h.own ++ held_of h.s) ++ later)
     ≡ after (h.s.built.entries ++ next_entry h.s.built x.0 ∷ []) rest)
 node_goes_on j b n h x is later =
     let s = state_of h.s.built in
@@ -135,10 +136,10 @@ node_goes_on j b n h x is later =
     let one : after s.nodes (remain j.registry s (held_of h.s ++ later))
     ≡ after s'.nodes (remain j.registry s' later) =
     subst (λ (r : List TypeInfo). after s.nodes (remain r s (held_of h.s ++ later))
-    ≡ after s'.nodes (remain r s' later)) h.same.types (leads.tells later) in (
+    ≡ after s'.nodes (remain r s' later)) h.same.types (leads.reports later) in (
       remain j.registry s' later,
-      ap (told_at j.registry (suc j.depth) j.ty) (append_assoc h.own (held_of h.s) later)
-          ∙ whole_told j.registry j.depth j.ty s h.own (held_of h.s ++ later) h.led ∙ one
+      ap (reported_at j.registry (suc j.depth) j.ty) (append_assoc h.own (held_of h.s) later)
+          ∙ whole_reported j.registry j.depth j.ty s h.own (held_of h.s ++ later) h.led ∙ one
           ∙ ap (λ (xs : List Entry). after xs (remain j.registry s' later))
           (entries_with h.s.built x),
     )

@@ -90,7 +90,7 @@ found p = Some p
 some_is : (p q : ℕ × ℕ) → found p ≡ found q → p ≡ q
 some_is p q e = cc
 
--- a list whose elements are cut is cut behind its length, and its begun list is held
+-- a list whose elements are cut is cut after its length, and its begun list is held
 list_read : (r : List TypeInfo) (room t n u : ℕ) (c rest left : List ℕ) (vs : Trees)
     (g : Begun × List ℕ) → is_finite r t ≡ true → ((layout r t ≡ layout.array n u) × (c ≡ []))
     ⊎ ((layout r t ≡ layout.sequence u) × IsCompact target.U32 n c) →
@@ -106,7 +106,7 @@ list_read r room t n u c rest left vs g fin (inr k) e f = (
   rw (k.0, compact_again target.U32 n c rest k.1, f) refl,
 )
 
--- a begun tree and too few bytes behind it are read as cut, and just these are held
+-- a begun tree and too few bytes after it are read as cut, and just these are held
 begun_read : (r : List TypeInfo) (room t : ℕ) (g : Begun) (own e : List ℕ) (at u : ℕ) →
     Grows r room t g own (Some (at, u)) → IsShort r at u e →
     ((left : List ℕ) × (value_at r room t (own ++ e) ≡ Err (truncated, left)))

@@ -31,7 +31,7 @@ use Rattle.grammar_core.specs.Tree.{Leaf, Branch, leaf, char, unsigned, signed, 
 use Rattle.grammar_core.specs.Tree.{compact as compact_value, fields, arm, list, count, Trees, and}
 use Rattle.grammar_core.specs.Reading.{value_at, layout_at, leaf_at, bool_value_at, char_from}
 use Rattle.grammar_core.specs.Reading.{all_at}
-use Rattle.grammar_core.specs.Reading.{times_at, fields_behind_index, arms_at, as_leaf}
+use Rattle.grammar_core.specs.Reading.{times_at, fields_after_index, arms_at, as_leaf}
 use Rattle.grammar_core.specs.Reading.{with_children, Refusal, basic, no_such_variant, too_deep}
 use Rattle.grammar_core.specs.Reading.{no_finite_value, bit_sequence, bad_compact}
 use Rattle.grammar_core.specs.Runs.{run_at, run_judged, run_leaf, run_length_at}
@@ -45,9 +45,9 @@ use Rattle.decode_core.proofs.lists.Deciding.{chain, finish, bind_chain}
 use Rattle.decode_core.proofs.lists.Shortest.{and_finish, elements_chain, body_at}
 
 -- the fault stands within b, and k is what it takes
-abbrev ToldWithin : {E X : Type 0} → (E → Refusal) → List ℕ → ℕ → Read E X → Type 0
-ToldWithin m b k (Ok x) = Unit {0}
-ToldWithin m b k (Err e) = (length e.1 ≤ length b) × IsTakenBefore (m e.0) e.1 (place b e.1) k
+abbrev ReportedWithin : {E X : Type 0} → (E → Refusal) → List ℕ → ℕ → Read E X → Type 0
+ReportedWithin m b k (Ok x) = Unit {0}
+ReportedWithin m b k (Err e) = (length e.1 ≤ length b) × IsTakenBefore (m e.0) e.1 (place b e.1) k
 
 -- where bytes stand in front of a fault, its place and what is taken move by as many
 moved : (reason : Refusal) (left : List ℕ) (c at k : ℕ) → IsTakenBefore reason left at k →
@@ -66,31 +66,33 @@ moved bit_sequence left c at k h = omega (arith, h)
 moved bad_compact left c at k h = omega (arith, h)
 
 -- taken_after c
-told_behind : {E X : Type 0} (m : E → Refusal) (b c rest : List ℕ) (k : ℕ) (read : Read E X) →
-    b ≡ c ++ rest → ToldWithin m rest k read → ToldWithin m b (length c + k) read
-told_behind m b c rest k (Ok x) eq h = tt
-told_behind m b c rest k (Err e) eq h =
+reported_beyond : {E X : Type 0} (m : E → Refusal) (b c rest : List ℕ) (k : ℕ) (read : Read E X) →
+    b ≡ c ++ rest → ReportedWithin m rest k read → ReportedWithin m b (length c + k) read
+reported_beyond m b c rest k (Ok x) eq h = tt
+reported_beyond m b c rest k (Err e) eq h =
     let len : length b ≡ length c + length rest = ap length eq ∙ length-append c rest in
     let at : length c + place rest e.1 ≡ place b e.1 = omega (arith, len, h.0) in
     (omega (arith, len, h.0), rw (← at) (moved (m e.0) e.1 (length c) (place rest e.1) k h.1))
 
--- a fault tells what is taken also where the reader's result is only made into something else
-finish_told : {E F X Y : Type 0} (m : E → F) (n : F → Refusal) (make : X → Y) (b : List ℕ) (k : ℕ)
-    (read : Read E X) → ToldWithin (λ e. n (m e)) b k read → ToldWithin n b k (finish m make read)
-finish_told m n make b k (Ok x) h = tt
-finish_told m n make b k (Err e) h = h
+-- a fault reports what is taken also where the reader's result is only made into something else
+finish_reported : {E F X Y : Type 0} (m : E → F) (n : F → Refusal) (make : X →
+    Y) (b : List ℕ) (k : ℕ)
+    (read : Read E X) → ReportedWithin (λ e. n (m e)) b k read →
+    ReportedWithin n b k (finish m make read)
+finish_reported m n make b k (Ok x) h = tt
+finish_reported m n make b k (Err e) h = h
 
--- of two parts, one behind the other, the fault of whichever is refused tells what is taken
-chain_told : {E F X Y : Type 0} (m : E → F) (n : F → Refusal) (P : X → List ℕ → Type 0)
+-- of two parts, one after the other, the fault of whichever is refused reports what is taken
+chain_reported : {E F X Y : Type 0} (m : E → F) (n : F → Refusal) (P : X → List ℕ → Type 0)
     (h : X → List ℕ → Read F Y) (next : X × List ℕ → ℕ) (b : List ℕ) (own : ℕ) (read : Read E X) →
-    Takes P b read → ToldWithin (λ e. n (m e)) b own read →
-    ((x : X × List ℕ) → ToldWithin n x.1 (next x) (h x.0 x.1)) →
-    ToldWithin n b (taken_after b read own next) (chain m h read)
-chain_told m n P h next b own (Err e) takes first rest = first
-chain_told m n P h next b own (Ok x) takes first rest =
+    Takes P b read → ReportedWithin (λ e. n (m e)) b own read →
+    ((x : X × List ℕ) → ReportedWithin n x.1 (next x) (h x.0 x.1)) →
+    ReportedWithin n b (taken_after b read own next) (chain m h read)
+chain_reported m n P h next b own (Err e) takes first rest = first
+chain_reported m n P h next b own (Ok x) takes first rest =
     let len : length takes.0 ≡ place b x.1 =
     omega (arith, ap length takes.1, length-append takes.0 x.1) in
-    rw (← len) (told_behind n b takes.0 x.1 (next x) (h x.0 x.1) takes.1 (rest x))
+    rw (← len) (reported_beyond n b takes.0 x.1 (next x) (h x.0 x.1) takes.1 (rest x))
 
 -- ---- compacts and runs
 
@@ -98,20 +100,21 @@ chain_told m n P h next b own (Ok x) takes first rest =
 whole : (b : List ℕ) → place b b ≡ 0
 whole b = omega arith
 
--- a compact integer's fault tells what is taken, whichever target bounds it
-integer_told : (m : Target) (b : List ℕ) → ToldWithin basic b (compact_taken m b) (integer_at m b)
-integer_told m [] = (omega arith, refl)
-integer_told m (first ∷ tail) =
+-- a compact integer's fault reports what is taken, whichever target bounds it
+integer_reported : (m : Target) (b : List ℕ) →
+    ReportedWithin basic b (compact_taken m b) (integer_at m b)
+integer_reported m [] = (omega arith, refl)
+integer_reported m (first ∷ tail) =
     go (is_too_long m first) (nat_lt (length (first ∷ tail)) (form_len first)) where
       judged : (a b : Bool) (x : List ℕ × List ℕ) →
-          ToldWithin basic (first ∷ tail) (form_len first)
+          ReportedWithin basic (first ∷ tail) (form_len first)
           (cond a (Err (reasons.CompactNotShortest, first ∷ tail))
           (cond b (Ok (form_number x.0, x.1)) (Err (reasons.CompactTooLarge, first ∷ tail))))
       judged true b x = (omega arith, omega arith)
       judged false true x = tt
       judged false false x = (omega arith, inr (omega arith))
 
-      go : (t short : Bool) → ToldWithin basic (first ∷ tail) (cond t 1 (form_len first))
+      go : (t short : Bool) → ReportedWithin basic (first ∷ tail) (cond t 1 (form_len first))
           (cond t (Err (reasons.CompactTooLarge, first ∷ tail))
           (form_from m (first ∷ tail)
           (cond short (Err (reasons.Truncated, []))
@@ -124,28 +127,29 @@ integer_told m (first ∷ tail) =
           (form, drop (form_len first) (first ∷ tail))
 
 -- the same where the target may be nothing, and there is no byte
-compact_told : (m : Target) (b : List ℕ) → ToldWithin basic b (compact_taken m b) (compact_at m b)
+compact_reported : (m : Target) (b : List ℕ) →
+    ReportedWithin basic b (compact_taken m b) (compact_at m b)
 unfolding compact_at
-compact_told target.Unit b = tt
-compact_told target.U8 b = integer_told target.U8 b
-compact_told target.U16 b = integer_told target.U16 b
-compact_told target.U32 b = integer_told target.U32 b
-compact_told target.U64 b = integer_told target.U64 b
-compact_told target.U128 b = integer_told target.U128 b
+compact_reported target.Unit b = tt
+compact_reported target.U8 b = integer_reported target.U8 b
+compact_reported target.U16 b = integer_reported target.U16 b
+compact_reported target.U32 b = integer_reported target.U32 b
+compact_reported target.U64 b = integer_reported target.U64 b
+compact_reported target.U128 b = integer_reported target.U128 b
 
--- the fault of a run's length tells what is taken
-run_length_told : (k : RunKind) (b : List ℕ) →
-    ToldWithin basic b (run_length_taken k b) (run_length_at k b)
-run_length_told kind.Text b = compact_told target.U32 b
-run_length_told kind.Bytes b = compact_told target.U32 b
-run_length_told (kind.ByteArray n) b = tt
+-- the fault of a run's length reports what is taken
+run_length_reported : (k : RunKind) (b : List ℕ) →
+    ReportedWithin basic b (run_length_taken k b) (run_length_at k b)
+run_length_reported kind.Text b = compact_reported target.U32 b
+run_length_reported kind.Bytes b = compact_reported target.U32 b
+run_length_reported (kind.ByteArray n) b = tt
 
 -- a run whose bytes are all there and are refused is taken to its end
-judged_told : (k : RunKind) (n : ℕ) (b : List ℕ) → n ≤ length b →
-    ToldWithin basic b n (run_judged k b (take n b, drop n b))
-judged_told kind.Text n b le = valid (is_utf8 (take n b)) where
+judged_reported : (k : RunKind) (n : ℕ) (b : List ℕ) → n ≤ length b →
+    ReportedWithin basic b n (run_judged k b (take n b, drop n b))
+judged_reported kind.Text n b le = valid (is_utf8 (take n b)) where
   valid : (t : Bool) →
-      ToldWithin basic b n (cond t (Ok (take n b, drop n b))
+      ReportedWithin basic b n (cond t (Ok (take n b, drop n b))
       (Err (reasons.BadUtf8, drop (utf8_valid_len (take n b)) b)))
   valid true = tt
   valid false =
@@ -153,173 +157,177 @@ judged_told kind.Text n b le = valid (is_utf8 (take n b)) where
       omega (arith, utf8_valid_len_le (take n b), length-take n b) in
       let rest = length-drop (utf8_valid_len (take n b)) b in
       (omega (arith, rest), omega (arith, rest, front))
-judged_told kind.Bytes n b le = tt
-judged_told (kind.ByteArray m) n b le = tt
+judged_reported kind.Bytes n b le = tt
+judged_reported (kind.ByteArray m) n b le = tt
 
 -- the same for the bytes of a run, whether or not they are all there
-body_told : (k : RunKind) (n : ℕ) (b : List ℕ) → ToldWithin basic b n (body_at k n b)
-body_told k n b = go (nat_lt (length b) n) refl where
+body_reported : (k : RunKind) (n : ℕ) (b : List ℕ) → ReportedWithin basic b n (body_at k n b)
+body_reported k n b = go (nat_lt (length b) n) refl where
   go : (short : Bool) → nat_lt (length b) n ≡ short →
-      ToldWithin basic b n (cond short (Err (reasons.Truncated, [])) (Ok (take n b, drop n b)) >>=
+      ReportedWithin basic b n
+      (cond short (Err (reasons.Truncated, [])) (Ok (take n b, drop n b)) >>=
       λ s. run_judged k b s)
   go true e = (omega arith, refl)
-  go false e = judged_told k n b (ltb-false _ _ e)
+  go false e = judged_reported k n b (ltb-false _ _ e)
 
--- a run's fault, in its length or its bytes, tells what is taken
-run_told : (k : RunKind) (b : List ℕ) → ToldWithin basic b (run_taken k b) (run_at k b)
+-- a run's fault, in its length or its bytes, reports what is taken
+run_reported : (k : RunKind) (b : List ℕ) → ReportedWithin basic b (run_taken k b) (run_at k b)
 unfolding run_at
-run_told k b = rw (bind_chain (body_at k) (run_length_at k b))
-    (chain_told (λ e. e) basic _ (body_at k) (λ n. n.0) b (run_length_taken k b)
-    (run_length_at k b) (length_takes k b) (run_length_told k b) (λ n. body_told k n.0 n.1))
+run_reported k b = rw (bind_chain (body_at k) (run_length_at k b))
+    (chain_reported (λ e. e) basic _ (body_at k) (λ n. n.0) b (run_length_taken k b)
+    (run_length_at k b) (length_takes k b) (run_length_reported k b) (λ n. body_reported k n.0 n.1))
 
 -- a number of bytes is refused only where they are missing, and then nothing is left behind
-bytes_told : (k : ℕ) (b : List ℕ) → ToldWithin basic b 0 (bytes_at k b)
-bytes_told k b = go (nat_lt (length b) k) where
-  go : (short : Bool) → ToldWithin basic b 0
+bytes_reported : (k : ℕ) (b : List ℕ) → ReportedWithin basic b 0 (bytes_at k b)
+bytes_reported k b = go (nat_lt (length b) k) where
+  go : (short : Bool) → ReportedWithin basic b 0
       (cond short (Err (reasons.Truncated, [])) (Ok (take k b, drop k b)))
   go true = (omega arith, refl)
   go false = tt
 
--- a boolean's fault tells what is taken, which is its one byte
-bool_told : (b : List ℕ) → ToldWithin (λ e. e) b 1 (bool_value_at b)
-bool_told [] = (omega arith, refl)
-bool_told (zero ∷ b) = tt
-bool_told (suc zero ∷ b) = tt
-bool_told (suc (suc x) ∷ b) = (omega arith, omega arith)
+-- a boolean's fault reports what is taken, which is its one byte
+bool_reported : (b : List ℕ) → ReportedWithin (λ e. e) b 1 (bool_value_at b)
+bool_reported [] = (omega arith, refl)
+bool_reported (zero ∷ b) = tt
+bool_reported (suc zero ∷ b) = tt
+bool_reported (suc (suc x) ∷ b) = (omega arith, omega arith)
 
--- a character's fault tells what is taken, which is its four bytes
-char_told : (b : List ℕ) → ToldWithin (λ e. e) b 4 (char_from b (bytes_at 4 b))
-char_told b = go (nat_lt (length b) 4) where
-  valid : (t : Bool) → ToldWithin (λ e. e) b 4
+-- a character's fault reports what is taken, which is its four bytes
+char_reported : (b : List ℕ) → ReportedWithin (λ e. e) b 4 (char_from b (bytes_at 4 b))
+char_reported b = go (nat_lt (length b) 4) where
+  valid : (t : Bool) → ReportedWithin (λ e. e) b 4
       (cond t (Ok (leaf (char (number (take 4 b))), drop 4 b)) (Err (basic reasons.BadChar, b)))
   valid true = tt
   valid false = (omega arith, omega arith)
 
-  go : (short : Bool) → ToldWithin (λ e. e) b 4
+  go : (short : Bool) → ReportedWithin (λ e. e) b 4
       (char_from b (cond short (Err (reasons.Truncated, [])) (Ok (take 4 b, drop 4 b))))
   go true = (omega arith, refl)
   go false = valid (is_scalar (number (take 4 b)))
 
 -- ---- values
 
-abbrev ChildTold : List TypeInfo → ℕ → Type 0
-ChildTold r room = (t : ℕ) (b : List ℕ) →
-    ToldWithin (λ e. e) b (value_taken r room t b) (value_at r room t b)
+abbrev ChildReported : List TypeInfo → ℕ → Type 0
+ChildReported r room = (t : ℕ) (b : List ℕ) →
+    ReportedWithin (λ e. e) b (value_taken r room t b) (value_at r room t b)
 
--- the fault of parts of these types tells what is taken, if that of each part does
-all_told : (r : List TypeInfo) (room : ℕ) → ChildTold r room → (ts : List ℕ) (b : List ℕ) →
-    ToldWithin (λ e. e) b (all_taken (value_at r room) (value_taken r room) ts b)
+-- the fault of parts of these types reports what is taken, if that of each part does
+all_reported : (r : List TypeInfo) (room : ℕ) → ChildReported r room → (ts : List ℕ) (b : List ℕ) →
+    ReportedWithin (λ e. e) b (all_taken (value_at r room) (value_taken r room) ts b)
     (all_at (value_at r room) ts b)
-all_told r room h [] b = tt
-all_told r room h (t ∷ ts) b = let child = value_at r room in
+all_reported r room h [] b = tt
+all_reported r room h (t ∷ ts) b = let child = value_at r room in
     rw (bind_chain (λ v c. all_at child ts c >>= λ others. Ok (and v others.0, others.1))
     (child t b))
-    (chain_told (λ e. e) (λ e. e) _
+    (chain_reported (λ e. e) (λ e. e) _
     (λ v c. all_at child ts c >>= λ others. Ok (and v others.0, others.1))
     (λ x. all_taken child (value_taken r room) ts x.1) b (value_taken r room t b) (child t b)
     (value_takes r room t b) (h t b)
     (λ x. rw (and_finish x.0 (all_at child ts x.1))
-    (finish_told (λ e. e) (λ e. e) (and x.0) x.1 (all_taken child (value_taken r room) ts x.1)
-    (all_at child ts x.1) (all_told r room h ts x.1))))
+    (finish_reported (λ e. e) (λ e. e) (and x.0) x.1 (all_taken child (value_taken r room) ts x.1)
+    (all_at child ts x.1) (all_reported r room h ts x.1))))
 
 -- the same for parts of one type
-times_told : (r : List TypeInfo) (room : ℕ) → ChildTold r room → (n t : ℕ) (b : List ℕ) →
-    ToldWithin (λ e. e) b (times_taken (value_at r room) (value_taken r room) n t b)
+times_reported : (r : List TypeInfo) (room : ℕ) → ChildReported r room → (n t : ℕ) (b : List ℕ) →
+    ReportedWithin (λ e. e) b (times_taken (value_at r room) (value_taken r room) n t b)
     (times_at (value_at r room) n t b)
-times_told r room h zero t b = tt
-times_told r room h (suc n) t b = let child = value_at r room in
+times_reported r room h zero t b = tt
+times_reported r room h (suc n) t b = let child = value_at r room in
     rw (bind_chain (λ v c. times_at child n t c >>= λ others. Ok (and v others.0, others.1))
     (child t b))
-    (chain_told (λ e. e) (λ e. e) _
+    (chain_reported (λ e. e) (λ e. e) _
     (λ v c. times_at child n t c >>= λ others. Ok (and v others.0, others.1))
     (λ x. times_taken child (value_taken r room) n t x.1) b (value_taken r room t b) (child t b)
     (value_takes r room t b) (h t b)
     (λ x. rw (and_finish x.0 (times_at child n t x.1))
-    (finish_told (λ e. e) (λ e. e) (and x.0) x.1
+    (finish_reported (λ e. e) (λ e. e) (and x.0) x.1
     (times_taken child (value_taken r room) n t x.1) (times_at child n t x.1)
-    (times_told r room h n t x.1))))
+    (times_reported r room h n t x.1))))
 
 -- putting a node over parts leaves what their fault takes
-parts_told : (kind : Branch) (b : List ℕ) (k : ℕ) (read : Read Refusal Trees) →
-    ToldWithin (λ e. e) b k read → ToldWithin (λ e. e) b k (with_children kind read)
-parts_told kind b k (Ok x) h = tt
-parts_told kind b k (Err e) h = h
+parts_reported : (kind : Branch) (b : List ℕ) (k : ℕ) (read : Read Refusal Trees) →
+    ReportedWithin (λ e. e) b k read → ReportedWithin (λ e. e) b k (with_children kind read)
+parts_reported kind b k (Ok x) h = tt
+parts_reported kind b k (Err e) h = h
 
 -- making a leaf of what was read leaves what its fault takes
-leaf_told : {X : Type 0} (make : X → Leaf) (b : List ℕ) (k : ℕ) (read : Read Reason X) →
-    ToldWithin basic b k read → ToldWithin (λ e. e) b k (as_leaf make read)
-leaf_told make b k (Ok x) h = tt
-leaf_told make b k (Err e) h = h
+leaf_reported : {X : Type 0} (make : X → Leaf) (b : List ℕ) (k : ℕ) (read : Read Reason X) →
+    ReportedWithin basic b k read → ReportedWithin (λ e. e) b k (as_leaf make read)
+leaf_reported make b k (Ok x) h = tt
+leaf_reported make b k (Err e) h = h
 
 -- the fault of an arm takes its index and what its fields take; an unknown index is taken alone
-arm_told : (r : List TypeInfo) (room : ℕ) → ChildTold r room →
+arm_reported : (r : List TypeInfo) (room : ℕ) → ChildReported r room →
     (i : ℕ) (b : List ℕ) (found : Option (ℕ × Arm)) →
-    ToldWithin (λ e. e) (i ∷ b) (suc (arm_taken (value_at r room) (value_taken r room) found b))
-    (fields_behind_index (value_at r room) (i ∷ b) found b)
-arm_told r room h i b None = (omega arith, omega arith)
-arm_told r room h i b (Some a) =
+    ReportedWithin (λ e. e) (i ∷ b) (suc (arm_taken (value_at r room) (value_taken r room) found b))
+    (fields_after_index (value_at r room) (i ∷ b) found b)
+arm_reported r room h i b None = (omega arith, omega arith)
+arm_reported r room h i b (Some a) =
     let ts = field_types a.1.fields in
     let k = all_taken (value_at r room) (value_taken r room) ts b in
     let one : 1 + k ≡ suc k = omega arith in
-    rw one at (told_behind (λ e. e) (i ∷ b) (i ∷ []) b k _ refl
-    (parts_told (arm a.0) b k (all_at (value_at r room) ts b) (all_told r room h ts b)))
+    rw one at (reported_beyond (λ e. e) (i ∷ b) (i ∷ []) b k _ refl
+    (parts_reported (arm a.0) b k (all_at (value_at r room) ts b) (all_reported r room h ts b)))
 
--- the fault of a variant tells what is taken, also where there is no index
-arms_told : (r : List TypeInfo) (room : ℕ) → ChildTold r room → (arms : List Arm) (b : List ℕ) →
-    ToldWithin (λ e. e) b (arms_taken (value_at r room) (value_taken r room) arms b)
+-- the fault of a variant reports what is taken, also where there is no index
+arms_reported : (r : List TypeInfo) (room : ℕ) → ChildReported r room →
+    (arms : List Arm) (b : List ℕ) →
+    ReportedWithin (λ e. e) b (arms_taken (value_at r room) (value_taken r room) arms b)
     (arms_at (value_at r room) arms b)
-arms_told r room h arms [] = (omega arith, refl)
-arms_told r room h arms (i ∷ b) = arm_told r room h i b (arm_of arms i)
+arms_reported r room h arms [] = (omega arith, refl)
+arms_reported r room h arms (i ∷ b) = arm_reported r room h i b (arm_of arms i)
 
--- the fault of a value without parts is told by the bytes that are taken
-plain_told : (p : Plain) (b : List ℕ) → ToldWithin (λ e. e) b (leaf_taken p b) (leaf_at p b)
-plain_told layout.empty b = tt
-plain_told layout.bool b = bool_told b
-plain_told layout.char b = char_told b
-plain_told (layout.run k) b = leaf_told (run_leaf k) b _ (run_at k b) (run_told k b)
-plain_told (layout.unsigned k) b =
-    leaf_told (λ b. unsigned (number b)) b _ (bytes_at k b) (bytes_told k b)
-plain_told (layout.signed k) b =
-    leaf_told (λ b. signed (signed_number b)) b _ (bytes_at k b) (bytes_told k b)
-plain_told layout.wide b = leaf_told wide b _ (bytes_at 32 b) (bytes_told 32 b)
-plain_told layout.counted b =
-    leaf_told count b _ (compact_at target.U32 b) (compact_told target.U32 b)
-plain_told (layout.compact m) b = leaf_told compact_value b _ (compact_at m b) (compact_told m b)
+-- the fault of a value without parts is reported by the bytes that are taken
+plain_reported : (p : Plain) (b : List ℕ) → ReportedWithin (λ e. e) b (leaf_taken p b) (leaf_at p b)
+plain_reported layout.empty b = tt
+plain_reported layout.bool b = bool_reported b
+plain_reported layout.char b = char_reported b
+plain_reported (layout.run k) b = leaf_reported (run_leaf k) b _ (run_at k b) (run_reported k b)
+plain_reported (layout.unsigned k) b =
+    leaf_reported (λ b. unsigned (number b)) b _ (bytes_at k b) (bytes_reported k b)
+plain_reported (layout.signed k) b =
+    leaf_reported (λ b. signed (signed_number b)) b _ (bytes_at k b) (bytes_reported k b)
+plain_reported layout.wide b = leaf_reported wide b _ (bytes_at 32 b) (bytes_reported 32 b)
+plain_reported layout.counted b =
+    leaf_reported count b _ (compact_at target.U32 b) (compact_reported target.U32 b)
+plain_reported (layout.compact m) b =
+    leaf_reported compact_value b _ (compact_at m b) (compact_reported m b)
 
--- by every layout a fault tells what is taken, if that of each part does
-layout_told : (r : List TypeInfo) (room : ℕ) → ChildTold r room → (f : Layout) (b : List ℕ) →
-    ToldWithin (λ e. e) b (layout_taken (value_at r room) (value_taken r room) f b)
+-- by every layout a fault reports what is taken, if that of each part does
+layout_reported : (r : List TypeInfo) (room : ℕ) → ChildReported r room →
+    (f : Layout) (b : List ℕ) →
+    ReportedWithin (λ e. e) b (layout_taken (value_at r room) (value_taken r room) f b)
     (layout_at (value_at r room) f b)
 unfolding layout_at layout_taken
-layout_told r room h layout.unknown b = (omega arith, omega arith)
-layout_told r room h layout.bit_sequence b = (omega arith, omega arith)
-layout_told r room h layout.bad_compact b = (omega arith, omega arith)
-layout_told r room h (layout.plain p) b = plain_told p b
-layout_told r room h (layout.fields ts) b =
-    parts_told fields b _ (all_at (value_at r room) ts b) (all_told r room h ts b)
-layout_told r room h (layout.arms arms) b = arms_told r room h arms b
-layout_told r room h (layout.array n t) b =
-    parts_told list b _ (times_at (value_at r room) n t b) (times_told r room h n t b)
-layout_told r room h (layout.sequence t) b = let child = value_at r room in
+layout_reported r room h layout.unknown b = (omega arith, omega arith)
+layout_reported r room h layout.bit_sequence b = (omega arith, omega arith)
+layout_reported r room h layout.bad_compact b = (omega arith, omega arith)
+layout_reported r room h (layout.plain p) b = plain_reported p b
+layout_reported r room h (layout.fields ts) b =
+    parts_reported fields b _ (all_at (value_at r room) ts b) (all_reported r room h ts b)
+layout_reported r room h (layout.arms arms) b = arms_reported r room h arms b
+layout_reported r room h (layout.array n t) b =
+    parts_reported list b _ (times_at (value_at r room) n t b) (times_reported r room h n t b)
+layout_reported r room h (layout.sequence t) b = let child = value_at r room in
     rw (elements_chain child t (compact_at target.U32 b))
-    (chain_told basic (λ e. e) _ (λ n c. with_children list (times_at child n t c))
+    (chain_reported basic (λ e. e) _ (λ n c. with_children list (times_at child n t c))
     (λ n. times_taken child (value_taken r room) n.0 t n.1) b (compact_taken target.U32 b)
-    (compact_at target.U32 b) (compact_takes target.U32 b) (compact_told target.U32 b)
-    (λ n. parts_told list n.1 _ (times_at child n.0 t n.1) (times_told r room h n.0 t n.1)))
+    (compact_at target.U32 b) (compact_takes target.U32 b) (compact_reported target.U32 b)
+    (λ n. parts_reported list n.1 _ (times_at child n.0 t n.1) (times_reported r room h n.0 t n.1)))
 
--- a value's fault tells what is taken, at every depth
-value_told : (r : List TypeInfo) (room t : ℕ) (b : List ℕ) →
-    ToldWithin (λ e. e) b (value_taken r room t b) (value_at r room t b)
+-- a value's fault reports what is taken, at every depth
+value_reported : (r : List TypeInfo) (room t : ℕ) (b : List ℕ) →
+    ReportedWithin (λ e. e) b (value_taken r room t b) (value_at r room t b)
 unfolding value_at value_taken
-value_told r zero t b = (omega arith, omega arith)
-value_told r (suc room) t b = go (λ u c. value_told r room u c) (is_finite r t) where
-  go : ChildTold r room → (f : Bool) →
-      ToldWithin (λ e. e) b
+value_reported r zero t b = (omega arith, omega arith)
+value_reported r (suc room) t b = go (λ u c. value_reported r room u c) (is_finite r t) where
+  go : ChildReported r room → (f : Bool) →
+      ReportedWithin (λ e. e) b
       (cond f (layout_taken (value_at r room) (value_taken r room) (layout r t) b)
       0) (cond f (layout_at (value_at r room) (layout r t) b) (Err (no_finite_value, b)))
-  go h true = layout_told r room h (layout r t) b
+  go h true = layout_reported r room h (layout r t) b
   go h false = (omega arith, omega arith)
 
 -- what is taken of a refused value follows from its reason and its place
 pub taken_by_fault : TakenByFault
-taken_by_fault r room t b reason left e = (rw e at (value_told r room t b)).1
+taken_by_fault r room t b reason left e = (rw e at (value_reported r room t b)).1

@@ -24,7 +24,7 @@ DecidedBy cut g b k (Err e) = e.0 ≢ cut → Decides cut g b k e.0
 
 -- what it reads it reads whatever follows, and what it refuses for good it refuses whatever follows
 pub record IsStable {E X : Type 0} (cut : E) (g : List ℕ → Read E X) : Type 0 where
-  pub tells : (e : E) → (e ≡ cut) ⊎ (e ≢ cut)
+  pub reports : (e : E) → (e ≡ cut) ⊎ (e ≢ cut)
   pub extends : (b more : List ℕ) → Extends cut more (g b) (g (b ++ more))
   pub exact : (b : List ℕ) → Takes (λ x c. (more : List ℕ) → g (c ++ more) ≡ Ok (x, more)) b (g b)
 
@@ -39,10 +39,10 @@ early_cut {E = E} {X = X} cut g s d e x full some = go (g d) refl (s.extends d e
   all : g (d ++ e) ≡ Ok (x, [])
   all = ap g (sym (append-nil (d ++ e))) ∙ full []
 
-  told : (f : E × List ℕ) → g d ≡ failed f → Extends {X = X} cut e (failed f) (g (d ++ e)) →
+  reported : (f : E × List ℕ) → g d ≡ failed f → Extends {X = X} cut e (failed f) (g (d ++ e)) →
       (f.0 ≡ cut) ⊎ (f.0 ≢ cut) → (left : List ℕ) × (g d ≡ Err (cut, left))
-  told f is ext (inl same) = (f.1, is ∙ ap (λ (c : E). failed (c, f.1)) same)
-  told f is ext (inr ne) = let both = sym all ∙ ext ne in absurd cc
+  reported f is ext (inl same) = (f.1, is ∙ ap (λ (c : E). failed (c, f.1)) same)
+  reported f is ext (inr ne) = let both = sym all ∙ ext ne in absurd cc
 
   go : (read : Read E X) → g d ≡ read → Extends cut e read (g (d ++ e)) → (left : List ℕ)
       × (g d ≡ Err (cut, left))
@@ -50,7 +50,7 @@ early_cut {E = E} {X = X} cut g s d e x full some = go (g d) refl (s.extends d e
       let same = ap (λ (p : X × List ℕ). length p.1)
       (done_is {E = E} (x, []) (y.0, y.1 ++ e) (sym all ∙ ext)) in
       absurd (omega (arith, same, length-append y.1 e, some))
-  go (Err f) is ext = told f is ext (s.tells f.0)
+  go (Err f) is ext = reported f is ext (s.reports f.0)
 
 -- one part taken_after the other, of a reader whose refusals m carries over
 abbrev pub chain : {E F X Y : Type 0} → (E → F) → (X → List ℕ → Read F Y) → Read E X → Read F Y
@@ -61,7 +61,7 @@ abbrev pub finish : {E F X Y : Type 0} → (E → F) → (X → Y) → Read E X 
 finish m make (Ok x) = Ok (make x.0, x.1)
 finish m make (Err e) = Err (m e.0, e.1)
 
--- reading one part behind the other with refusals as they are is the plain bind
+-- reading one part after the other with refusals as they are is the plain bind
 pub bind_chain : {E X Y : Type 0} (h : X → List ℕ → Read E Y) (r : Read E X) →
     (r >>= λ x. h x.0 x.1) ≡ chain (λ e. e) h r
 bind_chain h (Ok x) = refl

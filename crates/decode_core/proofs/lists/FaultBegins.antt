@@ -21,14 +21,16 @@ use Rattle.grammar_core.specs.Grammar.{Val, Vals, Each}
 use Rattle.grammar_core.specs.Reading.{value_at, layout_at, Refusal}
 use Rattle.grammar_core.proofs.Proved.{read_is_value}
 use Rattle.value_core.specs.Built.{Entry}
-use Rattle.decode_core.specs.Told.{entry, shown, leaf_own, arm_own, arms_own, length_own, shallow}
-use Rattle.decode_core.specs.Told.{own_at, Ending, Fault, Told, told, after, then, all_told}
-use Rattle.decode_core.specs.Told.{times_told, own_told, told_at}
+use Rattle.decode_core.specs.Reported.{entry, shown, leaf_own, arm_own, arms_own, length_own}
+use Rattle.decode_core.specs.Reported.{shallow}
+use Rattle.decode_core.specs.Reported.{own_at, Ending, Fault, Reported, reported, after, then}
+use Rattle.decode_core.specs.Reported.{all_reported}
+use Rattle.decode_core.specs.Reported.{times_reported, own_reported, reported_at}
 use Rattle.grammar_core.specs.Begun.{nothing, in_fields, in_arm, in_list, Grows}
 use Rattle.decode_core.specs.Begins.{Begins, FaultIsBegun}
 use Rattle.decode_core.specs.Met.{met_layout}
 use Rattle.decode_core.proofs.lists.Mets.{met_is, list_met}
-use Rattle.decode_core.proofs.lists.Tells.{shown-append, told_agrees}
+use Rattle.decode_core.proofs.lists.Reports.{shown-append, reported_agrees}
 use Rattle.decode_core.proofs.lists.Fed.{value_of}
 
 -- where the reading ends in a fault, the fact holds of what was added and of the fault
@@ -36,14 +38,15 @@ abbrev pub HoldsAtFault : (List Entry → Fault → Type 0) → List Entry → E
 HoldsAtFault P xs (Ok rest) = Unit {0}
 HoldsAtFault P xs (Err e) = P xs e
 
-abbrev pub EndsTold : (List Entry → Fault → Type 0) → Told → Type 0
-EndsTold P (told xs end) = HoldsAtFault P xs end
+abbrev pub EndsReported : (List Entry → Fault → Type 0) → Reported → Type 0
+EndsReported P (reported xs end) = HoldsAtFault P xs end
 
 -- a fact of what was added before a fault carries over where nodes stand in front
-after_ends : (P Q : List Entry → Fault → Type 0) (before : List Entry) (y : Told) → EndsTold P y →
-    ((xs : List Entry) (e : Fault) → P xs e → Q (before ++ xs) e) → EndsTold Q (after before y)
-after_ends P Q before (told xs (Ok rest)) h f = tt
-after_ends P Q before (told xs (Err e)) h f = f xs e h
+after_ends : (P Q : List Entry → Fault → Type 0) (before : List Entry) (y : Reported) →
+    EndsReported P y →
+    ((xs : List Entry) (e : Fault) → P xs e → Q (before ++ xs) e) → EndsReported Q (after before y)
+after_ends P Q before (reported xs (Ok rest)) h f = tt
+after_ends P Q before (reported xs (Err e)) h f = f xs e h
 
 -- where it ends well, there is a value
 pub record Read_value (r : List TypeInfo) (room t : ℕ) (b : List ℕ) (xs : List Entry)
@@ -55,15 +58,16 @@ pub record Read_value (r : List TypeInfo) (room t : ℕ) (b : List ℕ) (xs : Li
   pub low : levels v ≤ room
   pub shows : shown xs ≡ preorder v
 
-abbrev ReadsOneValue : List TypeInfo → ℕ → ℕ → List ℕ → Told → Type 0
-ReadsOneValue r room t b y = (xs : List Entry) (rest : List ℕ) → y ≡ told xs (Ok rest) →
+abbrev ReadsOneValue : List TypeInfo → ℕ → ℕ → List ℕ → Reported → Type 0
+ReadsOneValue r room t b y = (xs : List Entry) (rest : List ℕ) → y ≡ reported xs (Ok rest) →
     Read_value r room t b xs rest
 
 -- where the reading ends well, its nodes are those of a value on the front of the bytes
-told_value : (r : List TypeInfo) (room t : ℕ) (b : List ℕ) →
-    ReadsOneValue r room t b (told_at r room t b)
-told_value r room t b xs rest is =
-    let v = value_of (value_at r room t b) (told_at r room t b) xs rest (told_agrees r room t b)
+reported_value : (r : List TypeInfo) (room t : ℕ) (b : List ℕ) →
+    ReadsOneValue r room t b (reported_at r room t b)
+reported_value r room t b xs rest is =
+    let v = value_of (value_at r room t b) (reported_at r room t b) xs rest
+    (reported_agrees r room t b)
     is in
     let st = read_is_value r room t b v.0 rest v.1 in
     record { v = v.0; c = st.0; is = st.1; val = st.2; low = st.3; shows = v.2 }
@@ -98,7 +102,8 @@ pub record TimesBegin (r : List TypeInfo) (room n t : ℕ) (b : List ℕ) (xs : 
   pub shows : shown xs ≡ all_preorder vs ++ shown ys
 
 abbrev ChildBegins : List TypeInfo → ℕ → Type 0
-ChildBegins r room = (t : ℕ) (b : List ℕ) → EndsTold (Begins r room t b) (told_at r room t b)
+ChildBegins r room = (t : ℕ) (b : List ℕ) →
+    EndsReported (Begins r room t b) (reported_at r room t b)
 
 -- the nodes of a value, and then those of others and of a begun tree, are joined in order
 shows_more : (xs ys zs : List Entry) (v : Tree) (vs : Trees) → shown xs ≡ preorder v →
@@ -109,11 +114,12 @@ shows_more xs ys zs v vs h k = shown-append xs ys
 
 -- where parts of these types end in a fault, values stand before a part that is begun
 all_begin : (r : List TypeInfo) (room : ℕ) → ChildBegins r room → (ts : List ℕ) (b : List ℕ) →
-    EndsTold (AllBegin r room ts b) (all_told (told_at r room) ts b)
+    EndsReported (AllBegin r room ts b) (all_reported (reported_at r room) ts b)
 unfolding Val
 all_begin r room h [] b = tt
 all_begin r room h (t ∷ ts) b =
-    first (told_at r room t b) (h t b) (told_value r room t b) (λ c. all_begin r room h ts c) where
+    first (reported_at r room t b) (h t b) (reported_value r room t b) (λ c.
+    all_begin r room h ts c) where
       next : (xs : List Entry) (rest : List ℕ) → Read_value r room t b xs rest →
           (ys : List Entry) (e : Fault) → AllBegin r room ts rest ys e →
           AllBegin r room (t ∷ ts) b (xs ++ ys) e
@@ -133,10 +139,11 @@ all_begin r room h (t ∷ ts) b =
         shows = shows_more xs ys s.ys k.v s.vs k.shows s.shows;
       }
 
-      first : (y : Told) → EndsTold (Begins r room t b) y → ReadsOneValue r room t b y →
-          ((c : List ℕ) → EndsTold (AllBegin r room ts c) (all_told (told_at r room) ts c)) →
-          EndsTold (AllBegin r room (t ∷ ts) b) (then y (all_told (told_at r room) ts))
-      first (told xs (Err e)) w k m =
+      first : (y : Reported) → EndsReported (Begins r room t b) y → ReadsOneValue r room t b y →
+          ((c : List ℕ) → EndsReported (AllBegin r room ts c)
+          (all_reported (reported_at r room) ts c)) →
+          EndsReported (AllBegin r room (t ∷ ts) b) (then y (all_reported (reported_at r room) ts))
+      first (reported xs (Err e)) w k m =
           record {
             before = [];
             ty = t;
@@ -152,17 +159,18 @@ all_begin r room h (t ∷ ts) b =
             low = omega arith;
             shows = refl;
           }
-      first (told xs (Ok rest)) w k m =
+      first (reported xs (Ok rest)) w k m =
           after_ends (AllBegin r room ts rest) (AllBegin r room (t ∷ ts) b) xs
-          (all_told (told_at r room) ts rest) (m rest) (next xs rest (k xs rest refl))
+          (all_reported (reported_at r room) ts rest) (m rest) (next xs rest (k xs rest refl))
 
 -- the same for elements of one type, of which fewer came than there are to be
 times_begin : (r : List TypeInfo) (room : ℕ) → ChildBegins r room → (n t : ℕ) (b : List ℕ) →
-    EndsTold (TimesBegin r room n t b) (times_told (told_at r room) n t b)
+    EndsReported (TimesBegin r room n t b) (times_reported (reported_at r room) n t b)
 unfolding Val
 times_begin r room h zero t b = tt
 times_begin r room h (suc n) t b =
-    first (told_at r room t b) (h t b) (told_value r room t b) (λ c. times_begin r room h n t c)
+    first (reported_at r room t b) (h t b) (reported_value r room t b)
+    (λ c. times_begin r room h n t c)
   where
     next : (xs : List Entry) (rest : List ℕ) → Read_value r room t b xs rest →
         (ys : List Entry) (e : Fault) → TimesBegin r room n t rest ys e →
@@ -180,10 +188,12 @@ times_begin r room h (suc n) t b =
       shows = shows_more xs ys s.ys k.v s.vs k.shows s.shows;
     }
 
-    first : (y : Told) → EndsTold (Begins r room t b) y → ReadsOneValue r room t b y →
-        ((c : List ℕ) → EndsTold (TimesBegin r room n t c) (times_told (told_at r room) n t c)) →
-        EndsTold (TimesBegin r room (suc n) t b) (then y (times_told (told_at r room) n t))
-    first (told xs (Err e)) w k m =
+    first : (y : Reported) → EndsReported (Begins r room t b) y → ReadsOneValue r room t b y →
+        ((c : List ℕ) → EndsReported (TimesBegin r room n t c)
+        (times_reported (reported_at r room) n t c)) →
+        EndsReported (TimesBegin r room (suc n) t b)
+        (then y (times_reported (reported_at r room) n t))
+    first (reported xs (Err e)) w k m =
         record {
           vs = none;
           b1 = [];
@@ -196,13 +206,13 @@ times_begin r room h (suc n) t b =
           low = omega arith;
           shows = refl;
         }
-    first (told xs (Ok rest)) w k m =
+    first (reported xs (Ok rest)) w k m =
         after_ends (TimesBegin r room n t rest) (TimesBegin r room (suc n) t b) xs
-        (times_told (told_at r room) n t rest) (m rest) (next xs rest (k xs rest refl))
+        (times_reported (reported_at r room) n t rest) (m rest) (next xs rest (k xs rest refl))
 
 -- the node itself is not there
 bare : (r : List TypeInfo) (room t : ℕ) (b : List ℕ) (e : Refusal × List ℕ) →
-    told_at r room t b ≡ told [] (Err (e, b)) → Begins r room t b [] (e, b)
+    reported_at r room t b ≡ reported [] (Err (e, b)) → Begins r room t b [] (e, b)
 unfolding Grows
 bare r room t b e h = record {
   tree = nothing;
@@ -254,7 +264,7 @@ fields_begin r room t ts b f xs e s = let h = s.begins in let m =
       meets = h.meets;
     }
 
--- fields of an arm that end in a fault are a begun node of the arm, behind its index
+-- fields of an arm that end in a fault are a begun node of the arm, after its index
 arm_begins : (r : List TypeInfo) (room t : ℕ) (arms : List Arm) (i q : ℕ) (a : Arm) (b : List ℕ) →
     met_layout r t ≡ layout.arms arms → arm_of arms i ≡ Some (q, a) →
     (xs : List Entry) (e : Fault) → AllBegin r room (field_types a.fields) b xs e →
@@ -299,7 +309,7 @@ arm_begins r room t arms i q a b f is xs e s = let h = s.begins in let m =
       meets = h.meets;
     }
 
--- elements that end in a fault are a begun list, behind its length
+-- elements that end in a fault are a begun list, after its length
 list_begins : (r : List TypeInfo) (room t n u : ℕ) (c b : List ℕ) →
     ((met_layout r t ≡ layout.array n u) × (c ≡ []))
     ⊎ ((met_layout r t ≡ layout.sequence u) × IsCompact target.U32 n c) →
@@ -321,30 +331,31 @@ list_begins r room t n u c b f xs e s = let h = s.begins in let m = list_met r t
 
 -- a leaf that is refused leaves a begun tree of which nothing is there
 leaf_begins : (r : List TypeInfo) (room t : ℕ) (b : List ℕ) (read : Read Refusal Tree) →
-    told_at r (suc room) t b ≡ own_told (told_at r room) t b (leaf_own read) →
-    EndsTold (Begins r (suc room) t b) (own_told (told_at r room) t b (leaf_own read))
+    reported_at r (suc room) t b ≡ own_reported (reported_at r room) t b (leaf_own read) →
+    EndsReported (Begins r (suc room) t b) (own_reported (reported_at r room) t b (leaf_own read))
 leaf_begins r room t b (Ok x) is = tt
 leaf_begins r room t b (Err e) is = bare r (suc room) t b e is
 
 -- an arm that ends in a fault is begun, and nothing is there where the index is unknown
 arm_own_begins : (r : List TypeInfo) (room t : ℕ) → ChildBegins r room → (arms : List Arm) →
     met_layout r t ≡ layout.arms arms → (i : ℕ) (b : List ℕ) (found : Option (ℕ × Arm)) →
-    arm_of arms i ≡ found → told_at r (suc room) t (i ∷ b) ≡ own_told (told_at r room) t (i ∷ b)
+    arm_of arms i ≡ found →
+    reported_at r (suc room) t (i ∷ b) ≡ own_reported (reported_at r room) t (i ∷ b)
     (arm_own (i ∷ b) found b) →
-    EndsTold (Begins r (suc room) t (i ∷ b))
-    (own_told (told_at r room) t (i ∷ b) (arm_own (i ∷ b) found b))
+    EndsReported (Begins r (suc room) t (i ∷ b))
+    (own_reported (reported_at r room) t (i ∷ b) (arm_own (i ∷ b) found b))
 arm_own_begins r room t h arms f i b None e is = bare r (suc room) t (i ∷ b) _ is
 arm_own_begins r room t h arms f i b (Some a) e is =
     after_ends (AllBegin r room (field_types a.1.fields) b) (Begins r (suc room) t (i ∷ b))
     (entry t (head.branch (tree.arm a.0) (length (field_types a.1.fields))) ∷ [])
-    (all_told (told_at r room) (field_types a.1.fields) b)
+    (all_reported (reported_at r room) (field_types a.1.fields) b)
     (all_begin r room h (field_types a.1.fields) b) (arm_begins r room t arms i a.0 a.1 b f e)
 
 -- a variant that ends in a fault is a begun tree, also where the index is missing
 arms_begin : (r : List TypeInfo) (room t : ℕ) → ChildBegins r room → (arms : List Arm) →
     met_layout r t ≡ layout.arms arms → (b : List ℕ) →
-    told_at r (suc room) t b ≡ own_told (told_at r room) t b (arms_own arms b) →
-    EndsTold (Begins r (suc room) t b) (own_told (told_at r room) t b (arms_own arms b))
+    reported_at r (suc room) t b ≡ own_reported (reported_at r room) t b (arms_own arms b) →
+    EndsReported (Begins r (suc room) t b) (own_reported (reported_at r room) t b (arms_own arms b))
 arms_begin r room t h arms f [] is = bare r (suc room) t [] _ is
 arms_begin r room t h arms f (i ∷ b) is =
     arm_own_begins r room t h arms f i b (arm_of arms i) refl is
@@ -353,31 +364,32 @@ arms_begin r room t h arms f (i ∷ b) is =
 length_begins : (r : List TypeInfo) (room t u : ℕ) → ChildBegins r room →
     met_layout r t ≡ layout.sequence u → (b : List ℕ) (read : Read Reason ℕ) →
     Takes (IsCompact target.U32) b read →
-    told_at r (suc room) t b ≡ own_told (told_at r room) t b (length_own u read) →
-    EndsTold (Begins r (suc room) t b) (own_told (told_at r room) t b (length_own u read))
+    reported_at r (suc room) t b ≡ own_reported (reported_at r room) t b (length_own u read) →
+    EndsReported (Begins r (suc room) t b)
+    (own_reported (reported_at r room) t b (length_own u read))
 length_begins r room t u h f b (Err e) k is = bare r (suc room) t b _ is
 length_begins r room t u h f b (Ok n) k is =
     after_ends (TimesBegin r room n.0 u n.1) (Begins r (suc room) t b)
-    (entry t (head.branch tree.list n.0) ∷ []) (times_told (told_at r room) n.0 u n.1)
+    (entry t (head.branch tree.list n.0) ∷ []) (times_reported (reported_at r room) n.0 u n.1)
     (times_begin r room h n.0 u n.1)
     (λ xs e s. rw k.1 (list_begins r room t n.0 u k.0 n.1 (inr (f, k.2)) xs e s))
 
 -- by every layout what was added before a fault is a begun tree, if it is so for each part
 layout_begins : (r : List TypeInfo) (room t : ℕ) → ChildBegins r room → (f : Layout) →
     met_layout r t ≡ f → (b : List ℕ) →
-    told_at r (suc room) t b ≡ own_told (told_at r room) t b (own_at f b) →
-    EndsTold (Begins r (suc room) t b) (own_told (told_at r room) t b (own_at f b))
+    reported_at r (suc room) t b ≡ own_reported (reported_at r room) t b (own_at f b) →
+    EndsReported (Begins r (suc room) t b) (own_reported (reported_at r room) t b (own_at f b))
 unfolding own_at
 layout_begins r room t h (layout.fields ts) e b is =
     after_ends (AllBegin r room ts b) (Begins r (suc room) t b)
-    (entry t (head.branch tree.fields (length ts)) ∷ []) (all_told (told_at r room) ts b)
+    (entry t (head.branch tree.fields (length ts)) ∷ []) (all_reported (reported_at r room) ts b)
     (all_begin r room h ts b) (fields_begin r room t ts b e)
 layout_begins r room t h (layout.arms arms) e b is = arms_begin r room t h arms e b is
 layout_begins r room t h (layout.sequence u) e b is =
     length_begins r room t u h e b (compact_at target.U32 b) (compact_takes target.U32 b) is
 layout_begins r room t h (layout.array n u) e b is =
     after_ends (TimesBegin r room n u b) (Begins r (suc room) t b)
-    (entry t (head.branch tree.list n) ∷ []) (times_told (told_at r room) n u b)
+    (entry t (head.branch tree.list n) ∷ []) (times_reported (reported_at r room) n u b)
     (times_begin r room h n u b) (list_begins r room t n u [] b (inl (e, refl)))
 layout_begins r room t h layout.unknown e b is =
     leaf_begins r room t b (layout_at shallow layout.unknown b) is
@@ -389,19 +401,20 @@ layout_begins r room t h (layout.plain p) e b is =
     leaf_begins r room t b (layout_at shallow (layout.plain p) b) is
 
 -- what was added before a fault is a begun tree, at every depth
-told_begins : (r : List TypeInfo) (room t : ℕ) (b : List ℕ) →
-    EndsTold (Begins r room t b) (told_at r room t b)
-unfolding told_at
-told_begins r zero t b = bare r zero t b _ refl
-told_begins r (suc room) t b =
-    layout_begins r room t (λ u c. told_begins r room u c) (met_layout r t) refl b refl
+reported_begins : (r : List TypeInfo) (room t : ℕ) (b : List ℕ) →
+    EndsReported (Begins r room t b) (reported_at r room t b)
+unfolding reported_at
+reported_begins r zero t b = bare r zero t b _ refl
+reported_begins r (suc room) t b =
+    layout_begins r room t (λ u c. reported_begins r room u c) (met_layout r t) refl b refl
 
--- the same for nodes and a fault that are known to be what the reading tells
-begins_of : (r : List TypeInfo) (room t : ℕ) (b : List ℕ) (xs : List Entry) (e : Fault) (y : Told) →
-    EndsTold (Begins r room t b) y → y ≡ told xs (Err e) → Begins r room t b xs e
+-- the same for nodes and a fault that are known to be what the reading reports
+begins_of : (r : List TypeInfo) (room t : ℕ) (b : List ℕ) (xs : List Entry) (e : Fault)
+    (y : Reported) →
+    EndsReported (Begins r room t b) y → y ≡ reported xs (Err e) → Begins r room t b xs e
 begins_of r room t b xs e y h is = (rw is at h)
 
 -- what was added before a fault is a begun tree whose missing node fails on what is left
 pub fault_is_begun : FaultIsBegun
 fault_is_begun r room t b xs e is =
-    begins_of r room t b xs e (told_at r room t b) (told_begins r room t b) is
+    begins_of r room t b xs e (reported_at r room t b) (reported_begins r room t b) is

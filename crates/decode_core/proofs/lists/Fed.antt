@@ -1,4 +1,5 @@
--- What a state that bytes led to tells of them: where the reading ends there, that is the outcome.
+-- What a state that bytes led to reports of them: where the reading ends there, that is the
+-- outcome.
 use Rattle.std.proofs.Common.{◌≡◌, ℕ, suc, ◌+◌, ◌-◌, ◌<◌, ◌≤◌, List, [], ◌++◌, length, take, drop}
 use Rattle.std.proofs.Common.{Ok, Err, refl, sym, ap, subst, ◌∙◌, append_assoc, arith, inl, inr}
 use Rattle.std.proofs.Common.{length-append, length-drop}
@@ -15,27 +16,28 @@ use Rattle.grammar_core.proofs.Proved.{read_is_value, stable}
 use Rattle.decode_core.specs.Outcome.{Outcome, done, refused, more, too_long, Job, IsShortest}
 use Rattle.decode_core.specs.Outcome.{FailsAt, IsOutcome}
 use Rattle.value_core.specs.Built.{Entry}
-use Rattle.decode_core.specs.Told.{shown, Ending, Fault, Told, told, added, ending, after, then}
-use Rattle.decode_core.specs.Told.{times_told, told_at, rest_told, Agrees}
+use Rattle.decode_core.specs.Reported.{shown, Ending, Fault, Reported, reported, added, ending}
+use Rattle.decode_core.specs.Reported.{after, then}
+use Rattle.decode_core.specs.Reported.{times_reported, reported_at, rest_reported, Agrees}
 use Rattle.decode_core.specs.Machine.{State, remain, start}
-use Rattle.decode_core.proofs.lists.Tells.{after-nil, then-end, told_agrees}
+use Rattle.decode_core.proofs.lists.Reports.{after-nil, then-end, reported_agrees}
 use Rattle.decode_core.specs.Turned.{TurnsLead}
 use Rattle.decode_core.specs.Decided.{Decided}
 
--- what a fresh state will add of bytes is what reading a value of them tells
-start_told : (r : List TypeInfo) (depth t : ℕ) (b : List ℕ) →
-    remain r (start depth t) b ≡ told_at r (suc depth) t b
-unfolding rest_told
-start_told r depth t b =
-    then-end (then (told_at r (suc depth) t b) (times_told (told_at r (suc depth)) 0 t))
-    ∙ then-end (told_at r (suc depth) t b)
+-- what a fresh state will add of bytes is what reading a value of them reports
+start_reported : (r : List TypeInfo) (depth t : ℕ) (b : List ℕ) →
+    remain r (start depth t) b ≡ reported_at r (suc depth) t b
+unfolding rest_reported
+start_reported r depth t b =
+    then-end (then (reported_at r (suc depth) t b) (times_reported (reported_at r (suc depth)) 0 t))
+    ∙ then-end (reported_at r (suc depth) t b)
 
 -- the bytes that led here, and those that follow
-pub whole_told : (r : List TypeInfo) (depth t : ℕ) (s : State) (own rest : List ℕ) →
+pub whole_reported : (r : List TypeInfo) (depth t : ℕ) (s : State) (own rest : List ℕ) →
     TurnsLead r (start depth t) s own →
-    told_at r (suc depth) t (own ++ rest) ≡ after s.nodes (remain r s rest)
-whole_told r depth t s own rest h = sym (start_told r depth t (own ++ rest))
-    ∙ sym (after-nil (remain r (start depth t) (own ++ rest))) ∙ h.tells rest
+    reported_at r (suc depth) t (own ++ rest) ≡ after s.nodes (remain r s rest)
+whole_reported r depth t s own rest h = sym (start_reported r depth t (own ++ rest))
+    ∙ sym (after-nil (remain r (start depth t) (own ++ rest))) ∙ h.reports rest
 
 -- an ending has one fault
 pair_is : (x y : Fault) (end : Ending) → end ≡ Err x → end ≡ Err y → x ≡ y
@@ -47,32 +49,35 @@ err_is : (x y : Refusal × List ℕ) (n m : List ℕ) (end : Ending) → end ≡
 err_is x y n m end h k = ap (λ (p : Fault). p.0) (pair_is (x, n) (y, m) end h k)
 
 -- where reading node by node ends in a fault, reading the value whole ends in the same
-fault_of : (read : Read Refusal Tree) (y : Told) (xs : List Entry) (e : Refusal × List ℕ)
-    (met : List ℕ) → Agrees read y → y ≡ told xs (Err (e, met)) → read ≡ Err e
+fault_of : (read : Read Refusal Tree) (y : Reported) (xs : List Entry) (e : Refusal × List ℕ)
+    (met : List ℕ) → Agrees read y → y ≡ reported xs (Err (e, met)) → read ≡ Err e
 fault_of (Ok x) y xs e met h is = let both = sym h.1 ∙ ap ending is in absurd cc
 fault_of (Err x) y xs e met h is =
     ap (λ (z : Refusal × List ℕ). Err z) (err_is x e h.0 met (ending y) h.1 (ap ending is))
 
 -- the same for a value of a type with its room
 pub fault_value : (r : List TypeInfo) (room t : ℕ) (b : List ℕ) (xs : List Entry) (e : Refusal)
-    (left met : List ℕ) → told_at r room t b ≡ told xs (Err ((e, left), met)) →
+    (left met : List ℕ) → reported_at r room t b ≡ reported xs (Err ((e, left), met)) →
     value_at r room t b ≡ Err (e, left)
 fault_value r room t b xs e left met is =
-    fault_of (value_at r room t b) (told_at r room t b) xs (e, left) met (told_agrees r room t b) is
+    fault_of (value_at r room t b) (reported_at r room t b) xs (
+      e,
+      left,
+    ) met (reported_agrees r room t b) is
 
 -- an ending that is no fault leaves one list of bytes
 ok_is : (x y : List ℕ) (end : Ending) → end ≡ Ok x → end ≡ Ok y → x ≡ y
 ok_is x y end h k = let both = sym h ∙ k in cc
 
 -- where reading node by node ends well, the value is read of which these are the nodes
-pub value_of : (read : Read Refusal Tree) (y : Told) (xs : List Entry) (rest : List ℕ) →
-    Agrees read y → y ≡ told xs (Ok rest) → (v : Tree) × (read ≡ Ok (v, rest))
+pub value_of : (read : Read Refusal Tree) (y : Reported) (xs : List Entry) (rest : List ℕ) →
+    Agrees read y → y ≡ reported xs (Ok rest) → (v : Tree) × (read ≡ Ok (v, rest))
     × (shown xs ≡ preorder v)
 value_of (Err x) y xs rest h is = let both = sym h.1 ∙ ap ending is in absurd cc
 value_of (Ok x) y xs rest h is = (
   x.0,
   ap (λ (z : List ℕ). Ok (x.0, z)) (ok_is x.1 rest (ending y) h.1 (ap ending is)),
-  sym (ap (λ (z : Told). shown (added z)) is) ∙ h.0,
+  sym (ap (λ (z : Reported). shown (added z)) is) ∙ h.0,
 )
 
 -- where a run stands in the input
@@ -83,16 +88,17 @@ pub record Here (j : Job) (input : List ℕ) (s : State) (rest : List ℕ) : Typ
 
 -- where bytes led to a state that wants nothing, the outcome is the value of its nodes
 pub done_here : (j : Job) (input : List ℕ) (s : State) (rest : List ℕ) (m : ℕ) →
-    Here j input s rest → remain j.registry s rest ≡ told [] (Ok rest) →
+    Here j input s rest → remain j.registry s rest ≡ reported [] (Ok rest) →
     m ≡ length (take j.bytes input) →
     IsOutcome j input (done (tree_of (shown s.nodes))) (m - length rest)
 done_here j input s rest m h k len =
-    let all : told_at j.registry (suc j.depth) j.ty (h.own ++ rest) ≡ told s.nodes (Ok rest) =
-    whole_told j.registry j.depth j.ty s h.own rest h.led ∙ ap (after s.nodes) k
-    ∙ ap (λ (xs : List Entry). told xs (Ok rest)) (append-nil s.nodes) in
+    let all : reported_at j.registry (suc j.depth) j.ty (h.own ++ rest)
+    ≡ reported s.nodes (Ok rest) =
+    whole_reported j.registry j.depth j.ty s h.own rest h.led ∙ ap (after s.nodes) k
+    ∙ ap (λ (xs : List Entry). reported xs (Ok rest)) (append-nil s.nodes) in
     let v = value_of (value_at j.registry (suc j.depth) j.ty (h.own ++ rest))
-    (told_at j.registry (suc j.depth) j.ty (h.own ++ rest)) s.nodes rest
-    (told_agrees j.registry (suc j.depth) j.ty (h.own ++ rest)) all in
+    (reported_at j.registry (suc j.depth) j.ty (h.own ++ rest)) s.nodes rest
+    (reported_agrees j.registry (suc j.depth) j.ty (h.own ++ rest)) all in
     let tree : v.0 ≡ tree_of (shown s.nodes) = sym (ap tree_of v.2 ∙ tree_of-preorder v.0) in
     let st = read_is_value j.registry (suc j.depth) j.ty (h.own ++ rest) v.0 rest v.1 in
     rw (← tree) (
@@ -107,15 +113,15 @@ done_here j input s rest m h k len =
 -- where a state fails on bytes, those that led to it and these fail so as a value
 fault_here : (j : Job) (input : List ℕ) (s : State) (rest new : List ℕ) (e : Refusal)
     (left : List ℕ) (h : Here j input s rest) →
-    remain j.registry s new ≡ told [] (Err ((e, left), new)) →
+    remain j.registry s new ≡ reported [] (Err ((e, left), new)) →
     value_at j.registry (suc j.depth) j.ty (h.own ++ new) ≡ Err (e, left)
 fault_here j input s rest new e left h k =
     fault_value j.registry (suc j.depth) j.ty (h.own ++ new) (s.nodes ++ []) e left new
-    (whole_told j.registry j.depth j.ty s h.own new h.led ∙ ap (after s.nodes) k)
+    (whole_reported j.registry j.depth j.ty s h.own new h.led ∙ ap (after s.nodes) k)
 
 -- where bytes led to a state that lacks some, the input within its limit lacks them
 pub cut_here : (j : Job) (input : List ℕ) (s : State) (rest left : List ℕ) → Here j input s rest →
-    remain j.registry s rest ≡ told [] (Err ((truncated, left), rest)) → (at : ℕ)
+    remain j.registry s rest ≡ reported [] (Err ((truncated, left), rest)) → (at : ℕ)
     × FailsAt j truncated at (take j.bytes input)
 cut_here j input s rest left h k = (
   place (take j.bytes input) left,
@@ -131,7 +137,7 @@ reason_is x y read h k = let both = sym h ∙ k in cc
 pub refused_here : (j : Job) (input : List ℕ) (s : State) (rest : List ℕ) (m n : ℕ) (e : Refusal)
     (left : List ℕ) → (h : Here j input s rest) → m ≡ length (take j.bytes input) → e ≢ truncated →
     Decided j.registry s rest e left n →
-    remain j.registry s rest ≡ told [] (Err ((e, left), rest)) →
+    remain j.registry s rest ≡ reported [] (Err ((e, left), rest)) →
     IsOutcome j input (refused e (m - length left)) (m - length rest + n)
 refused_here j input s rest m n e left h len ne d k =
     (ne, at_front, record { there = there; holds = holds; least = least }) where
@@ -241,12 +247,12 @@ outcome_stays j b piece too_long n h ne =
       h.2,
     )
 
--- one way behind the other
+-- one way after the other
 pub led_on : (r : List TypeInfo) (s s' s'' : State) (c d : List ℕ) → TurnsLead r s s' c →
     TurnsLead r s' s'' d → TurnsLead r s s'' (c ++ d)
 led_on r s s' s'' c d h k =
     record {
-      tells = λ rest. ap (λ (b : List ℕ). after s.nodes (remain r s b))
-          (append_assoc c d rest) ∙ h.tells (d ++ rest) ∙ k.tells rest;
+      reports = λ rest. ap (λ (b : List ℕ). after s.nodes (remain r s b))
+          (append_assoc c d rest) ∙ h.reports (d ++ rest) ∙ k.reports rest;
       level = k.level ∙ h.level;
     }

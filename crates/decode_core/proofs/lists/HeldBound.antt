@@ -1,4 +1,4 @@
--- What is held of an input is little for the bytes taken.
+-- What is held of an input is bounded by the bytes taken.
 use Rattle.std.proofs.Common.{◌≡◌, ℕ, suc, ◌+◌, ◌*◌, ◌≤◌, List, length, Some, Ok, Err, sym, ap, ◌∙◌}
 use Rattle.std.proofs.Common.{arith, length-append}
 use Rattle.std.proofs.Math.Nat.{mul_assoc, mul-le-mul_right}
@@ -28,7 +28,7 @@ one_begun r room t b g h e f one two =
     ∙ (begun_is_missing r room t b h f two).1 in
     (ap (λ (p : Begun × List ℕ). p.0) same, ap (λ (p : Begun × List ℕ). p.1) same)
 
--- the bytes behind a run's length are no more than all
+-- the bytes after a run's length are no more than all
 past-le : (k : RunKind) (e : List ℕ) (read : Read Reason ℕ) → Takes (IsRunLength k) e read →
     past_length read ≤ length e
 past-le k e (Ok n) h = omega (arith, ap length h.1, length-append h.0 n.1)
@@ -82,6 +82,6 @@ begun_le j input n o g e h =
       omega (arith, b.2, len, o.2, open-le (layout j.registry h.2) e),
     )
 
--- what is held of an input, whole or begun, is little for the bytes taken
+-- what is held of an input, whole or begun, is bounded by the bytes taken
 pub held_is_bounded : HeldIsBounded
 held_is_bounded j input n = (value_le j input n, begun_le j input n)

@@ -11,7 +11,8 @@ use Rattle.widths_core.specs.Layouts as layout
 use Rattle.grammar_core.specs.Tree.{Tree}
 use Rattle.grammar_core.specs.Reading.{layout_at, Refusal, basic, no_such_variant, truncated}
 use Rattle.decode_core.specs.Holds.{OwnIsShort}
-use Rattle.decode_core.specs.Told.{Own, leaf_own, arm_own, arms_own, length_own, shallow, own_at}
+use Rattle.decode_core.specs.Reported.{Own, leaf_own, arm_own, arms_own, length_own, shallow}
+use Rattle.decode_core.specs.Reported.{own_at}
 
 abbrev own_failed : Refusal × List ℕ → Own
 own_failed e = Err e
@@ -46,7 +47,7 @@ length_fails : (t : ℕ) (read : Read Reason ℕ) (left : List ℕ) →
 length_fails t (Ok n) left h = absurd cc
 length_fails t (Err (x, l)) left h = let both = basic_is x l left h in rw (both.0, both.1) refl
 
--- behind an index no own byte of an arm is missing
+-- after an index no own byte of an arm is missing
 arm_fails : (at b : List ℕ) (found : Option (ℕ × Arm)) (left : List ℕ) →
     arm_own at found b ≡ own_failed (truncated, left) → ⊥
 arm_fails at b None left h = let no = reason_is (no_such_variant, at) (truncated, left) h in

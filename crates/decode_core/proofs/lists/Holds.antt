@@ -9,7 +9,7 @@ use Rattle.grammar_core.specs.Preorder.{Head, all_preorder}
 use Rattle.decode_core.proofs.lists.Nodes.{length-preorder, length-all_preorder}
 use Rattle.decode_core.specs.Bound.{node_bound}
 use Rattle.value_core.specs.Built.{Entry}
-use Rattle.decode_core.specs.Told.{Fault, shown, told, told_at}
+use Rattle.decode_core.specs.Reported.{Fault, shown, reported, reported_at}
 use Rattle.grammar_core.specs.Begun.{Begun, nothing, whole, in_fields, in_arm, in_list, begun_nodes}
 use Rattle.grammar_core.specs.Begun.{IsBegunPreorder}
 use Rattle.decode_core.specs.Begins.{Begins}
@@ -51,7 +51,7 @@ same_bound n depth width = grind (arith)
 
 -- before a fault no more nodes are added than the bound for the bytes of the begun tree
 pub begins_small : (r : List TypeInfo) (depth t : ℕ) (b : List ℕ) (xs : List Entry) (e : Fault) →
-    told_at r (suc depth) t b ≡ told xs (Err e) → (h : Begins r (suc depth) t b xs e) →
+    reported_at r (suc depth) t b ≡ reported xs (Err e) → (h : Begins r (suc depth) t b xs e) →
     length xs ≤ node_bound (length h.own) depth (widest r)
 begins_small r depth t b xs e is h =
     omega (

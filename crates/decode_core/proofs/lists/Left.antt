@@ -23,7 +23,7 @@ use Rattle.grammar_core.specs.Tree as tree
 use Rattle.grammar_core.specs.Reading.{layout_at, bool_value_at, char_from, as_leaf, Refusal}
 use Rattle.grammar_core.specs.Runs.{IsRunLength, run_at, run_judged, run_leaf, run_length_at}
 use Rattle.grammar_core.proofs.Runs.{length_takes}
-use Rattle.decode_core.specs.Told.{leaf_own, arm_own, arms_own, length_own, own_at}
+use Rattle.decode_core.specs.Reported.{leaf_own, arm_own, arms_own, length_own, own_at}
 
 -- what is left is no longer than the input
 abbrev pub Within : {E X : Type 0} → List ℕ → Read E X → Type 0
@@ -80,10 +80,10 @@ judged_within kind.Bytes b from s le = tt
 judged_within (kind.ByteArray n) b from s le = tt
 
 -- the same where the bytes of the run are read first
-behind_within : (k : RunKind) (b from : List ℕ) (read : Read Reason (List ℕ)) →
+after_within : (k : RunKind) (b from : List ℕ) (read : Read Reason (List ℕ)) →
     length from ≤ length b → Within from read → Within b (read >>= λ s. run_judged k from s)
-behind_within k b from (Err e) le h = omega (arith, le, h)
-behind_within k b from (Ok s) le h = judged_within k b from s le
+after_within k b from (Err e) le h = omega (arith, le, h)
+after_within k b from (Ok s) le h = judged_within k b from s le
 
 -- the fault of a run lies within the input where that of its length does
 run_from : (k : RunKind) (b : List ℕ) (read : Read Reason ℕ) → Takes (IsRunLength k) b read →
@@ -91,7 +91,7 @@ run_from : (k : RunKind) (b : List ℕ) (read : Read Reason ℕ) → Takes (IsRu
     (read >>= λ n. bytes_at n.0 n.1 >>= λ s. run_judged k n.1 s)
 run_from k b (Err e) h within = within
 run_from k b (Ok n) h within =
-    behind_within k b n.1 (bytes_at n.0 n.1) (omega (arith, ap length h.1, length-append h.0 n.1))
+    after_within k b n.1 (bytes_at n.0 n.1) (omega (arith, ap length h.1, length-append h.0 n.1))
     (bytes_within n.0 n.1)
 
 -- the fault of a run lies within the input

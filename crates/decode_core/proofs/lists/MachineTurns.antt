@@ -5,42 +5,49 @@ use Rattle.registry_core.specs.declared.type_info.TypeInfo.{TypeInfo}
 use Rattle.grammar_core.specs.Parts.{Part, each, times}
 use Rattle.value_core.specs.Built.{Entry}
 use Rattle.grammar_core.specs.Preorder.{Head}
-use Rattle.decode_core.specs.Told.{entry, Told, told, added, after, then, all_told, times_told}
-use Rattle.decode_core.specs.Told.{part_told, told_at, rest_told}
+use Rattle.decode_core.specs.Reported.{entry, Reported, reported, added, after, then, all_reported}
+use Rattle.decode_core.specs.Reported.{times_reported}
+use Rattle.decode_core.specs.Reported.{part_reported, reported_at, rest_reported}
 use Rattle.decode_core.specs.Machine.{State, remain, to_go}
 use Rattle.decode_core.specs.Turned.{TurnLeads}
-use Rattle.decode_core.proofs.lists.Tells.{after-after, after-nil, then-after, then-then}
+use Rattle.decode_core.proofs.lists.Reports.{after-after, after-nil, then-after, then-then}
 use Rattle.decode_core.proofs.lists.Owns.{SpellsNode}
 
 -- parts of these types are read as the first of them and then the others
 pub each_first : (r : List TypeInfo) (room t : ℕ) (ts : List ℕ) (ps : List Part) (b : List ℕ) →
-    rest_told r room (each (t ∷ ts) ∷ ps) b ≡ then (told_at r room t b)
-    (rest_told r room (each ts ∷ ps))
-unfolding rest_told
+    rest_reported r room (each (t ∷ ts) ∷ ps) b ≡ then (reported_at r room t b)
+    (rest_reported r room (each ts ∷ ps))
+unfolding rest_reported
 each_first r room t ts ps b =
-    then-then (told_at r room t b) (all_told (told_at r room) ts) (rest_told r (suc room) ps)
+    then-then (reported_at r room t b) (all_reported (reported_at r room) ts)
+    (rest_reported r (suc room) ps)
 
 -- parts of one type are read as one of them and then one fewer
 pub times_first : (r : List TypeInfo) (room n t : ℕ) (ps : List Part) (b : List ℕ) →
-    rest_told r room (times (suc n) t ∷ ps) b ≡ then (told_at r room t b)
-    (rest_told r room (times n t ∷ ps))
-unfolding rest_told
+    rest_reported r room (times (suc n) t ∷ ps) b ≡ then (reported_at r room t b)
+    (rest_reported r room (times n t ∷ ps))
+unfolding rest_reported
 times_first r room n t ps b =
-    then-then (told_at r room t b) (times_told (told_at r room) n t) (rest_told r (suc room) ps)
+    then-then (reported_at r room t b) (times_reported (reported_at r room) n t)
+    (rest_reported r (suc room) ps)
 
 -- a part of which nothing is left is closed in a turn that takes no bytes
 pub closed : (r : List TypeInfo) (nodes : List Entry) (room : ℕ) (p : Part) (ps : List Part) →
-    ((b : List ℕ) → part_told (told_at r room) p b ≡ told [] (Ok b)) →
+    ((b : List ℕ) → part_reported (reported_at r room) p b ≡ reported [] (Ok b)) →
     TurnLeads r (record { nodes = nodes; room = room; pending = p ∷ ps })
     (record { nodes = nodes; room = suc room; pending = ps }) []
-unfolding rest_told
+unfolding rest_reported
 closed r nodes room p ps e =
-    record { tells = λ more. rw (e more, after-nil) refl; level = omega arith; paid = omega arith }
+    record {
+      reports = λ more. rw (e more, after-nil) refl;
+      level = omega arith;
+      paid = omega arith;
+    }
 
 -- what is first of what is pending, and what is pending after it
 abbrev pub IsFirstOf : List TypeInfo → ℕ → ℕ → List Part → List Part → Type 0
 IsFirstOf r room t ps qs = (b : List ℕ) →
-    rest_told r room ps b ≡ then (told_at r room t b) (rest_told r room qs)
+    rest_reported r room ps b ≡ then (reported_at r room t b) (rest_reported r room qs)
 
 -- a node without children is added in a turn that takes its own bytes
 pub own_leaf : (r : List TypeInfo) (nodes : List Entry) (room t : ℕ) (ps qs : List Part) (h : Head)
@@ -48,10 +55,10 @@ pub own_leaf : (r : List TypeInfo) (nodes : List Entry) (room t : ℕ) (ps qs : 
     SpellsNode r t (h, None) c →
     TurnLeads r (record { nodes = nodes; room = suc room; pending = ps })
     (record { nodes = nodes ++ entry t h ∷ []; room = suc room; pending = qs }) c
-unfolding told_at
+unfolding reported_at
 own_leaf r nodes room t ps qs h c f len is =
     record {
-      tells = λ more. rw (f (c ++ more), is more, after-after) refl;
+      reports = λ more. rw (f (c ++ more), is more, after-after) refl;
       level = rw len refl;
       paid = omega (arith, len, length-append nodes (entry t h ∷ []));
     }
@@ -62,19 +69,19 @@ pub own_opens : (r : List TypeInfo) (nodes : List Entry) (room t : ℕ) (ps qs :
     SpellsNode r t (h, Some p) c →
     TurnLeads r (record { nodes = nodes; room = suc room; pending = ps })
     (record { nodes = nodes ++ entry t h ∷ []; room = room; pending = p ∷ qs }) c
-unfolding told_at rest_told
+unfolding reported_at rest_reported
 own_opens r nodes room t ps qs h p c f len is =
     record {
-      tells = λ more. rw (f (c ++ more), is more, then-after, after-after) refl;
+      reports = λ more. rw (f (c ++ more), is more, then-after, after-after) refl;
       level =
           omega (arith, len);
       paid = omega (arith, len, length-append nodes (entry t h ∷ []));
     }
 
--- what is added behind nodes counts as many more
-pub count_after : (xs : List Entry) (y : Told) →
+-- what is added after nodes counts as many more
+pub count_after : (xs : List Entry) (y : Reported) →
     length (added (after xs y)) ≡ length xs + length (added y)
-count_after xs (told ys end) = length-append xs ys
+count_after xs (reported ys end) = length-append xs ys
 
 -- each turn leaves less to do
 pub nearer : (r : List TypeInfo) (s s' : State) (c y : List ℕ) → TurnLeads r s s' c →
@@ -84,5 +91,5 @@ nearer r s s' c y h = omega (
   h.paid,
   count_after s.nodes (remain r s (c ++ y)),
   count_after s'.nodes (remain r s' y),
-  ap (λ (z : Told). length (added z)) (h.tells y),
+  ap (λ (z : Reported). length (added z)) (h.reports y),
 )

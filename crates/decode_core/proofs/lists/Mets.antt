@@ -14,7 +14,7 @@ use Rattle.grammar_core.specs.Grammar.{Val}
 use Rattle.grammar_core.specs.Reading.{value_at, layout_at, Refusal, no_finite_value}
 use Rattle.grammar_core.proofs.Sound.{value_takes}
 use Rattle.scale_core.specs.Read.{Read}
-use Rattle.decode_core.specs.Told.{shallow}
+use Rattle.decode_core.specs.Reported.{shallow}
 use Rattle.decode_core.specs.Met.{met_layout}
 
 -- asking first whether a type is finite, or reading by the layout that is met, is the same

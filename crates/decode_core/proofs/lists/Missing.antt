@@ -18,7 +18,7 @@ use Rattle.grammar_core.specs.Tree.{Branch, Tree, fields, arm, list, Trees, none
 use Rattle.grammar_core.specs.Tree.{levels, most_levels}
 use Rattle.grammar_core.specs.Grammar.{Val, Vals, Each}
 use Rattle.grammar_core.specs.Reading.{value_at, layout_at, leaf_at, all_at, times_at}
-use Rattle.grammar_core.specs.Reading.{fields_behind_index, arms_at, elements_at, with_children}
+use Rattle.grammar_core.specs.Reading.{fields_after_index, arms_at, elements_at, with_children}
 use Rattle.grammar_core.specs.Reading.{Refusal, truncated, too_deep}
 use Rattle.grammar_core.proofs.Sound.{value_takes}
 use Rattle.grammar_core.specs.Begun.{Begun, nothing, in_fields, in_arm, in_list, IsPart, Grows}
@@ -149,7 +149,7 @@ in_fields_of r room t ts b fin f s = let h = s.9 in (
   h.8,
 )
 
--- the fields of an arm are held as a begun node of the arm, behind its index
+-- the fields of an arm are held as a begun node of the arm, after its index
 in_arm_of : (r : List TypeInfo) (room t : ℕ) (arms : List Arm) (i q : ℕ) (a : Arm) (b : List ℕ) →
     is_finite r t ≡ true → layout r t ≡ layout.arms arms → arm_of arms i ≡ Some (q, a) →
     AllHolding r room (field_types a.fields) b → Holding r (suc room) t (i ∷ b)
@@ -166,7 +166,7 @@ in_arm_of r room t arms i q a b fin f e s = let h = s.9 in (
   h.8,
 )
 
--- elements of which a begun one is held are held as a begun list, behind its length
+-- elements of which a begun one is held are held as a begun list, after its length
 in_list_of : (r : List TypeInfo) (room t n u : ℕ) (c b : List ℕ) → is_finite r t ≡ true →
     ((layout r t ≡ layout.array n u) × (c ≡ []))
     ⊎ ((layout r t ≡ layout.sequence u) × IsCompact target.U32 n c) → TimesHolding r room n u b →
@@ -184,11 +184,11 @@ in_list_of r room t n u c b fin f s = let h = s.6 in (
   h.8,
 )
 
--- where an arm is cut behind its index, its begun node is held
+-- where an arm is cut after its index, its begun node is held
 arm_waits : (r : List TypeInfo) (room t : ℕ) → ChildWaits r room → is_finite r t ≡ true →
     (arms : List Arm) → layout r t ≡ layout.arms arms →
     (i : ℕ) (b : List ℕ) (found : Option (ℕ × Arm)) → arm_of arms i ≡ found →
-    Waits (Holding r (suc room) t (i ∷ b)) (fields_behind_index (value_at r room) (i ∷ b) found b)
+    Waits (Holding r (suc room) t (i ∷ b)) (fields_after_index (value_at r room) (i ∷ b) found b)
 arm_waits r room t h fin arms f i b None e = λ cut. absurd cc
 arm_waits r room t h fin arms f i b (Some a) e =
     with_children_waits (AllHolding r room (field_types a.1.fields) b)
@@ -261,7 +261,7 @@ holding_of : (r : List TypeInfo) (room t : ℕ) (b left : List ℕ) (read : Read
     Waits (Holding r room t b) read → read ≡ Err (truncated, left) → Holding r room t b
 holding_of r room t b left read w e = (rw e at w) refl
 
--- where bytes are missing, a begun tree and the bytes behind its own are held
+-- where bytes are missing, a begun tree and the bytes after its own are held
 pub missing_is_begun : MissingIsBegun
 missing_is_begun r room t b left e = let h =
     holding_of r room t b left (value_at r room t b) (value_waits r room t b) e in

@@ -16,7 +16,7 @@ use Rattle.grammar_core.proofs.Stable.{layout_extends}
 use Rattle.decode_core.specs.Met.{met_layout}
 use Rattle.grammar_core.specs.Parts.{Part}
 use Rattle.grammar_core.specs.Preorder.{Head}
-use Rattle.decode_core.specs.Told.{leaf_own, arm_own, arms_own, length_own, shallow, own_at}
+use Rattle.decode_core.specs.Reported.{leaf_own, arm_own, arms_own, length_own, shallow, own_at}
 
 -- a leaf's own bytes are read as before where more follow, if the leaf is
 leaf_extends : (more : List ℕ) (read read' : Read Refusal Tree) →

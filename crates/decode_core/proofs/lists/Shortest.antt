@@ -32,7 +32,7 @@ use Rattle.grammar_core.specs.Tree.{levels}
 use Rattle.grammar_core.specs.Grammar.{Val}
 use Rattle.grammar_core.specs.Reading.{value_at, layout_at, leaf_at, bool_value_at, char_from}
 use Rattle.grammar_core.specs.Reading.{all_at}
-use Rattle.grammar_core.specs.Reading.{times_at, fields_behind_index, arms_at, elements_at, as_leaf}
+use Rattle.grammar_core.specs.Reading.{times_at, fields_after_index, arms_at, elements_at, as_leaf}
 use Rattle.grammar_core.specs.Reading.{with_children, Refusal, basic, no_such_variant, too_deep}
 use Rattle.grammar_core.specs.Reading.{no_finite_value, bit_sequence, bad_compact, truncated}
 use Rattle.grammar_core.specs.Runs.{run_at, run_judged, run_leaf, run_length_at}
@@ -49,13 +49,13 @@ use Rattle.decode_core.proofs.lists.Deciding.{finish_decided, chain_decided, con
 -- ---- compacts
 
 -- a reason is either that bytes are missing or another one
-pub reason_tells : (e : Reason) → (e ≡ reasons.Truncated) ⊎ (e ≢ reasons.Truncated)
-reason_tells reasons.Truncated = inl refl
-reason_tells reasons.BadBool = inr (λ e. absurd cc)
-reason_tells reasons.BadChar = inr (λ e. absurd cc)
-reason_tells reasons.BadUtf8 = inr (λ e. absurd cc)
-reason_tells reasons.CompactNotShortest = inr (λ e. absurd cc)
-reason_tells reasons.CompactTooLarge = inr (λ e. absurd cc)
+pub reason_reports : (e : Reason) → (e ≡ reasons.Truncated) ⊎ (e ≢ reasons.Truncated)
+reason_reports reasons.Truncated = inl refl
+reason_reports reasons.BadBool = inr (λ e. absurd cc)
+reason_reports reasons.BadChar = inr (λ e. absurd cc)
+reason_reports reasons.BadUtf8 = inr (λ e. absurd cc)
+reason_reports reasons.CompactNotShortest = inr (λ e. absurd cc)
+reason_reports reasons.CompactTooLarge = inr (λ e. absurd cc)
 
 -- a fact of what a reader takes may be weakened
 mapped : {E X : Type 0} (P Q : X → List ℕ → Type 0) (b : List ℕ) (r : Read E X) → Takes P b r →
@@ -66,7 +66,7 @@ mapped P Q b (Err e) h f = tt
 -- a compact is read, or refused for good, whatever follows it
 compact_steady : (m : Target) → IsStable reasons.Truncated (compact_at m)
 compact_steady m = record {
-  tells = reason_tells;
+  reports = reason_reports;
   extends = compact_extends m;
   exact = λ b. mapped _ _ b (compact_at m b) (compact_takes m b)
       (λ x c is more. compact_again m x c more is);
@@ -195,7 +195,7 @@ compact_decided target.U128 b = integer_decided target.U128 b
 -- a run's length is read, or refused for good, whatever follows it
 run_length_steady : (k : RunKind) → IsStable reasons.Truncated (run_length_at k)
 run_length_steady k = record {
-  tells = reason_tells;
+  reports = reason_reports;
   extends = length_extends k;
   exact = λ b. mapped _ _ b (run_length_at k b) (length_takes k b)
       (λ n c is more. length_again k n c more is);
@@ -208,7 +208,7 @@ run_length_decided kind.Text b = compact_decided target.U32 b
 run_length_decided kind.Bytes b = compact_decided target.U32 b
 run_length_decided (kind.ByteArray n) b = tt
 
--- the bytes of a run behind its length
+-- the bytes of a run after its length
 abbrev pub body_at : RunKind → ℕ → List ℕ → Read Reason (List ℕ)
 body_at k n b = bytes_at n b >>= λ s. run_judged k b s
 
@@ -294,23 +294,23 @@ char_decided b = elim (cases_lt (length b) 4) [
 -- ---- values
 
 -- a refusal is either that bytes are missing or another one
-pub refusal_tells : (e : Refusal) → (e ≡ truncated) ⊎ (e ≢ truncated)
-refusal_tells (basic reasons.Truncated) = inl refl
-refusal_tells (basic reasons.BadBool) = inr (λ e. absurd cc)
-refusal_tells (basic reasons.BadChar) = inr (λ e. absurd cc)
-refusal_tells (basic reasons.BadUtf8) = inr (λ e. absurd cc)
-refusal_tells (basic reasons.CompactNotShortest) = inr (λ e. absurd cc)
-refusal_tells (basic reasons.CompactTooLarge) = inr (λ e. absurd cc)
-refusal_tells no_such_variant = inr (λ e. absurd cc)
-refusal_tells too_deep = inr (λ e. absurd cc)
-refusal_tells no_finite_value = inr (λ e. absurd cc)
-refusal_tells bit_sequence = inr (λ e. absurd cc)
-refusal_tells bad_compact = inr (λ e. absurd cc)
+pub refusal_reports : (e : Refusal) → (e ≡ truncated) ⊎ (e ≢ truncated)
+refusal_reports (basic reasons.Truncated) = inl refl
+refusal_reports (basic reasons.BadBool) = inr (λ e. absurd cc)
+refusal_reports (basic reasons.BadChar) = inr (λ e. absurd cc)
+refusal_reports (basic reasons.BadUtf8) = inr (λ e. absurd cc)
+refusal_reports (basic reasons.CompactNotShortest) = inr (λ e. absurd cc)
+refusal_reports (basic reasons.CompactTooLarge) = inr (λ e. absurd cc)
+refusal_reports no_such_variant = inr (λ e. absurd cc)
+refusal_reports too_deep = inr (λ e. absurd cc)
+refusal_reports no_finite_value = inr (λ e. absurd cc)
+refusal_reports bit_sequence = inr (λ e. absurd cc)
+refusal_reports bad_compact = inr (λ e. absurd cc)
 
 -- a value is read, or refused for good, whatever follows it
 value_steady : (r : List TypeInfo) (room t : ℕ) → IsStable truncated (value_at r room t)
 value_steady r room t = record {
-  tells = refusal_tells;
+  reports = refusal_reports;
   extends = value_extends r room t;
   exact = λ b. mapped (λ v c. Val r t v c × (levels v ≤ room)) _ b (value_at r room t b)
       (value_takes r room t b) (λ v c is more. value_again r room t v c more is.0 is.1);
@@ -334,7 +334,7 @@ pub and_finish : (v : Tree) (r : Read Refusal Trees) →
 and_finish v (Ok x) = refl
 and_finish v (Err e) = refl
 
--- a sequence is its length and, behind it, so many elements
+-- a sequence is its length and, after it, so many elements
 pub elements_chain : (child : ℕ → List ℕ → Read Refusal Tree) (t : ℕ) (r : Read Reason ℕ) →
     elements_at child t r ≡ chain basic (λ n b. with_children list (times_at child n t b)) r
 elements_chain child t (Ok x) = refl
@@ -392,7 +392,7 @@ arm_decided : (r : List TypeInfo) (room : ℕ) → ChildDecided r room →
     (arms : List Arm) (i : ℕ) (b : List ℕ) (found : Option (ℕ × Arm)) → arm_of arms i ≡ found →
     DecidedBy truncated (arms_at (value_at r room) arms) (i ∷ b)
     (suc (arm_taken (value_at r room) (value_taken r room) found b))
-    (fields_behind_index (value_at r room) (i ∷ b) found b)
+    (fields_after_index (value_at r room) (i ∷ b) found b)
 arm_decided r room h arms i b None e =
     λ ne. record {
       there = omega arith;

@@ -1,4 +1,4 @@
--- A compact that is wanted stands over an integer: over nothing it would take no bytes.
+-- A compact that is wanted wraps an integer: over nothing it would take no bytes.
 use Rattle.std.proofs.Common.{◌≡◌, ℕ, suc, Bool, true, false, List, [], ◌∷◌, length, Option, Some}
 use Rattle.std.proofs.Common.{None, refl, sym, ap, ◌∙◌}
 use Rattle.std.specs.Prelude.{◌≢◌, if◌then◌else◌}

@@ -12,8 +12,8 @@ use Rattle.value_core.specs.Built.{Built, next_layout, with_run_opened}
 use Rattle.value_core.specs.Walked.{next_of}
 use Rattle.decode_core.specs.NodeAdds.{IsAdded, IsSpelled}
 use Rattle.decode_core.specs.Running.{Running, IsRunning, held_of}
-use Rattle.decode_core.specs.Told.{own_at}
-use Rattle.decode_core.specs.Turned.{IsSame, KeepsNode, KeepsRun, PieceTells, StepTells, Steps}
+use Rattle.decode_core.specs.Reported.{own_at}
+use Rattle.decode_core.specs.Turned.{IsSame, KeepsNode, KeepsRun, PieceReports, StepReports, Steps}
 use Rattle.decode_core.specs.Turned.{WantsBytes, WantsMemory}
 use Rattle.decode_core.specs.declared.run.OpenRun.{OpenRun}
 use Rattle.decode_core.specs.declared.turned.Turned.{Turned}
@@ -63,11 +63,11 @@ array_running b new c kept n own a adds =
     (added_running b new own (at_next b (form.ByteArray n) a.wants) a.closed adds)
 
 -- to add an array of u8 is a step by its own bytes, and the value stays the same one
-pub array_tells : (b new : Built) (c : List ℕ) (kept : Option OpenRun) (n : ℕ)
+pub array_reports : (b new : Built) (c : List ℕ) (kept : Option OpenRun) (n : ℕ)
     (own : List ℕ) → AtArray b c kept n → IsAdded b new own →
     IsSame (record { built = b; carry = c }) (record { built = new; carry = c })
     × Steps (record { built = b; carry = c }) (record { built = new; carry = c }) own
-array_tells b new c kept n own a adds =
+array_reports b new c kept n own a adds =
     subst (λ (l : List ℕ). IsSame (record { built = b; carry = l })
     (record { built = new; carry = l })
     × Steps (record { built = b; carry = l }) (record { built = new; carry = l }) own)
@@ -110,8 +110,8 @@ array_opened b c kept n a =
 -- to open it changes nothing of what the bytes say
 pub array_piece : (b : Built) (c : List ℕ) (kept : Option OpenRun) (n : ℕ) (new : Running)
     (piece : List ℕ) (result : Turned) → AtArray b c kept n →
-    PieceTells (record { built = with_run_opened b (kind.ByteArray n) n; carry = c }) new piece
-    result → StepTells (record { built = b; carry = c }) new piece result
+    PieceReports (record { built = with_run_opened b (kind.ByteArray n) n; carry = c }) new piece
+    result → StepReports (record { built = b; carry = c }) new piece result
 array_piece b c kept n new piece (turned.On m) a h = (
   h.0,
   record { types = h.1.types; limit = h.1.limit; ty = h.1.ty },

@@ -7,8 +7,8 @@ use Rattle.std.specs.Prelude.{true}
 use Rattle.grammar_core.specs.declared.form.Form.{Form}
 use Rattle.value_core.specs.Refusals.{is_whole}
 use Rattle.decode_core.specs.Running.{Running}
-use Rattle.decode_core.specs.Turned.{Awaits, FeedTells, FewTurns, IsSound, KeepsTurns, Moves}
-use Rattle.decode_core.specs.Turned.{RunsOut, StepTells, StopCounts, StopsShort, TurnsTell}
+use Rattle.decode_core.specs.Turned.{Awaits, FeedReports, FewTurns, IsSound, KeepsTurns, Moves}
+use Rattle.decode_core.specs.Turned.{RunsOut, StepReports, StopCounts, StopsShort, TurnsReport}
 use Rattle.decode_core.specs.Turned.{left_to_do}
 use Rattle.decode_core.specs.declared.turned.Stopped.{Stopped}
 use Rattle.decode_core.specs.declared.turned.Stopped.TheVariants as stop
@@ -18,34 +18,35 @@ use Rattle.decode_core.proofs.steps.Moving.{awaits_goes_on, drop_more, grows_by,
 use Rattle.decode_core.proofs.steps.Moving.{one_or_bytes, stays_whole, step_nearer, turns_on}
 use Rattle.decode_core.proofs.steps.Moving.{turns_stop}
 
--- what the turns of a call tell of what is left of a piece, which it was lent as a slice, where
+-- what the turns of a call report of what is left of a piece, which it was lent as a slice, where
 -- their last one is known
-pub told_of : (b d : Running) (piece : List ℕ) (at from to n : ℕ) (last is : Turned) → last ≡ is →
-    TurnsTell b d (take (length piece - at) (drop at piece)) from to n last →
-    TurnsTell b d (drop at piece) from to n is
-told_of b d piece at from to n last is e k =
-    subst (λ (t : Turned). TurnsTell b d (drop at piece) from to n t) e
-    (subst (λ (l : List ℕ). TurnsTell b d l from to n last) (take_rest piece at) k)
+pub reported_of : (b d : Running) (piece : List ℕ) (at from to n : ℕ)
+    (last is : Turned) → last ≡ is →
+    TurnsReport b d (take (length piece - at) (drop at piece)) from to n last →
+    TurnsReport b d (drop at piece) from to n is
+reported_of b d piece at from to n last is e k =
+    subst (λ (t : Turned). TurnsReport b d (drop at piece) from to n t) e
+    (subst (λ (l : List ℕ). TurnsReport b d l from to n last) (take_rest piece at) k)
 
--- a turn behind those of the same call
+-- a turn after those of the same call
 pub one_more : (a b d : Running) (f : Form) (piece : List ℕ) (at start from to : ℕ)
     (last : Turned) →
     at ≤ length piece → Moves a b (take at piece) →
     left_to_do b (drop at piece) ≤ left_to_do a piece →
     start + length b.built.entries ≤ from + length a.built.entries →
     from + length a.built.entries ≤ start + at + length b.built.entries → to ≡ from + 1 →
-    Awaits a f → IsSound b → StepTells b d (take (length piece - at) (drop at piece)) last →
-    KeepsTurns b d last → TurnsTell a d piece start to at last
+    Awaits a f → IsSound b → StepReports b d (take (length piece - at) (drop at piece)) last →
+    KeepsTurns b d last → TurnsReport a d piece start to at last
 one_more a b d f piece at start from to last le h near each few is awaits sound
-    tells kept = record {
+    reports kept = record {
       before = b;
       within = le;
       moves = h;
       nearer = near;
       few = (omega (arith, each, is), omega (arith, few, is));
       sound = sound;
-      tells =
-          subst (λ (l : List ℕ). StepTells b d l last) (take_rest piece at) tells;
+      reports =
+          subst (λ (l : List ℕ). StepReports b d l last) (take_rest piece at) reports;
       kept = kept;
       whole = λ w. awaits_goes_on a f awaits w;
     }
@@ -56,33 +57,33 @@ reached : (a b c : Running) (piece : List ℕ) (at n : ℕ) → Moves a b (take 
 reached a b c piece at n h k = subst (Moves a c) (sym (take-add at n piece))
     (moves_on a b c (take at piece) (take n (drop at piece)) h k)
 
--- what turns took behind the first bytes of a piece lies within the piece
+-- what turns took after the first bytes of a piece lies within the piece
 fits : (b d : Running) (piece : List ℕ) (at from to n : ℕ) (last : Turned) → at ≤ length piece →
-    TurnsTell b d (drop at piece) from to n last → at + n ≤ length piece
+    TurnsReport b d (drop at piece) from to n last → at + n ≤ length piece
 fits b d piece at from to n last le t = omega (arith, le, t.within, length-drop at piece)
 
--- what the last one tells of what is left of the whole piece
-last_tells : (b d : Running) (piece : List ℕ) (at from to n : ℕ) (last : Turned)
-    (t : TurnsTell b d (drop at piece) from to n last) →
-    StepTells t.before d (drop (at + n) piece) last
-last_tells b d piece at from to n last t =
-    subst (λ (l : List ℕ). StepTells t.before d l last) (drop_more piece at n) t.tells
+-- what the last one reports of what is left of the whole piece
+last_reports : (b d : Running) (piece : List ℕ) (at from to n : ℕ) (last : Turned)
+    (t : TurnsReport b d (drop at piece) from to n last) →
+    StepReports t.before d (drop (at + n) piece) last
+last_reports b d piece at from to n last t =
+    subst (λ (l : List ℕ). StepReports t.before d l last) (drop_more piece at n) t.reports
 
 -- the last one goes on
 pub call_goes_on : (a b d : Running) (piece : List ℕ) (at from to n k : ℕ) → at ≤ length piece →
-    Moves a b (take at piece) → TurnsTell b d (drop at piece) from to n (turned.On k) →
+    Moves a b (take at piece) → TurnsReport b d (drop at piece) from to n (turned.On k) →
     (at + n + k ≤ length piece) × Moves a d (take (at + n + k) piece)
 call_goes_on a b d piece at from to n k le h t =
     turns_on a t.before d piece (at + n) k (fits b d piece at from to n (turned.On k) le t)
     (reached a b t.before piece at n h t.moves)
-    (last_tells b d piece at from to n (turned.On k) t)
+    (last_reports b d piece at from to n (turned.On k) t)
 
 -- and leaves less to do
 pub call_nearer : (b d : Running) (piece : List ℕ) (at from to n k : ℕ) →
-    TurnsTell b d (drop at piece) from to n (turned.On k) →
+    TurnsReport b d (drop at piece) from to n (turned.On k) →
     left_to_do d (drop (at + n + k) piece) < left_to_do b (drop at piece)
 call_nearer b d piece at from to n k t =
-    let one = last_tells b d piece at from to n (turned.On k) t in
+    let one = last_reports b d piece at from to n (turned.On k) t in
     let less : left_to_do d (drop (at + n + k) piece) < left_to_do t.before (drop (at + n) piece) =
     subst (λ (l : List ℕ). left_to_do d l < left_to_do t.before (drop (at + n) piece))
     (drop_more piece (at + n) k)
@@ -92,23 +93,23 @@ call_nearer b d piece at from to n k t =
 -- the last one stops
 pub call_stops : (a b d : Running) (piece : List ℕ) (at from to n : ℕ) (s : Stopped) →
     at ≤ length piece → Moves a b (take at piece) →
-    TurnsTell b d (drop at piece) from to n (turned.Stopped s) → FeedTells a d piece (at + n) s
+    TurnsReport b d (drop at piece) from to n (turned.Stopped s) → FeedReports a d piece (at + n) s
 call_stops a b d piece at from to n s le h t =
     turns_stop a t.before d piece (at + n) s
     (fits b d piece at from to n (turned.Stopped s) le t)
     (reached a b t.before piece at n h t.moves)
-    (last_tells b d piece at from to n (turned.Stopped s) t) t.sound
+    (last_reports b d piece at from to n (turned.Stopped s) t) t.sound
 
 -- it ends for want of memory
 pub call_runs_out : (a b d : Running) (piece : List ℕ) (at from to n : ℕ) → at ≤ length piece →
-    Moves a b (take at piece) → TurnsTell b d (drop at piece) from to n turned.OutOfMemory →
+    Moves a b (take at piece) → TurnsReport b d (drop at piece) from to n turned.OutOfMemory →
     RunsOut a piece (at + n)
 call_runs_out a b d piece at from to n le h t = (
   fits b d piece at from to n turned.OutOfMemory le t,
   (
     t.before,
     reached a b t.before piece at n h t.moves,
-    last_tells b d piece at from to n turned.OutOfMemory t,
+    last_reports b d piece at from to n turned.OutOfMemory t,
   ),
 )
 
@@ -117,32 +118,32 @@ call_runs_out a b d piece at from to n le h t = (
 -- no fewer than the nodes
 pub call_each : (a b d : Running) (piece : List ℕ) (start from to n k : ℕ) →
     start + length b.built.entries ≤ from + length a.built.entries →
-    TurnsTell b d piece from to n (turned.On k) →
+    TurnsReport b d piece from to n (turned.On k) →
     start + length d.built.entries ≤ to + length a.built.entries
 call_each a b d piece start from to n k h t =
-    elim (grows_by t.before d (take k (drop n piece)) t.tells.2)
+    elim (grows_by t.before d (take k (drop n piece)) t.reports.2)
     [ inl same ↦ omega (arith, h, t.few.0, same) | inr more ↦ omega (arith, h, t.few.0, more) ]
 
 -- no more than the nodes and the bytes
 pub call_few : (a b d : Running) (piece : List ℕ) (start from to at n k : ℕ) →
     from + length a.built.entries ≤ start + at + length b.built.entries →
-    TurnsTell b d piece from to n (turned.On k) →
+    TurnsReport b d piece from to n (turned.On k) →
     to + length a.built.entries ≤ start + (at + n + k) + length d.built.entries
 call_few a b d piece start from to at n k h t =
     omega (
       arith,
       h,
       t.few.1,
-      one_or_bytes t.before d (take k (drop n piece)) t.tells.2,
+      one_or_bytes t.before d (take k (drop n piece)) t.reports.2,
       length-take k (drop n piece),
-      t.tells.0,
+      t.reports.0,
     )
 
 -- where the turns of a call were few so far, they are with those before its last one too
 few_before : (a b d : Running) (piece : List ℕ) (start from to at n : ℕ) (last : Turned) →
     start + length b.built.entries ≤ from + length a.built.entries →
     from + length a.built.entries ≤ start + at + length b.built.entries →
-    (t : TurnsTell b d piece from to n last) → FewTurns a t.before (at + n) start to
+    (t : TurnsReport b d piece from to n last) → FewTurns a t.before (at + n) start to
 few_before a b d piece start from to at n last each few t =
     (omega (arith, each, t.few.0), omega (arith, few, t.few.1))
 
@@ -151,7 +152,7 @@ short : (a b d : Running) (piece : List ℕ) (at start from to n : ℕ) (last : 
     at ≤ length piece → Moves a b (take at piece) →
     start + length b.built.entries ≤ from + length a.built.entries →
     from + length a.built.entries ≤ start + at + length b.built.entries →
-    (t : TurnsTell b d (drop at piece) from to n last) → d.built.turns ≡ t.before.built.turns →
+    (t : TurnsReport b d (drop at piece) from to n last) → d.built.turns ≡ t.before.built.turns →
     StopsShort a d piece (at + n) start to
 short a b d piece at start from to n last le h each few t closed = record {
   within = fits b d piece at from to n last le t;
@@ -167,17 +168,18 @@ pub call_counts : (a b d : Running) (piece : List ℕ) (at start from to n : ℕ
     at ≤ length piece → Moves a b (take at piece) →
     start + length b.built.entries ≤ from + length a.built.entries →
     from + length a.built.entries ≤ start + at + length b.built.entries →
-    TurnsTell b d (drop at piece) from to n (turned.Stopped s) →
+    TurnsReport b d (drop at piece) from to n (turned.Stopped s) →
     StopCounts a d piece start to (at + n) s
 call_counts a b d piece at start from to n stop.Finished le h each few t =
-    subst (λ (r : Running). FewTurns a r (at + n) start to) (sym t.tells.0)
+    subst (λ (r : Running). FewTurns a r (at + n) start to) (sym t.reports.0)
     (few_before a b d (drop at piece) start from to at n (turned.Stopped stop.Finished) each few t)
 call_counts a b d piece at start from to n stop.Wants le h each few t =
-    subst (λ (r : Running). FewTurns a r (at + n) start to) (sym t.tells.0)
+    subst (λ (r : Running). FewTurns a r (at + n) start to) (sym t.reports.0)
     (few_before a b d (drop at piece) start from to at n (turned.Stopped stop.Wants) each few t)
-call_counts a b d piece at start from to n (stop.Refused held told_reason place len)
+call_counts a b d piece at start from to n (stop.Refused held reported_reason place len)
     le h each few t =
-    short a b d piece at start from to n (turned.Stopped (stop.Refused held told_reason place len))
+    short a b d piece at start from to n
+    (turned.Stopped (stop.Refused held reported_reason place len))
     le h each few t t.kept
 
 -- turns of which the last one wanted memory are counted from the first of the call on
@@ -185,7 +187,7 @@ pub call_counts_short : (a b d : Running) (piece : List ℕ) (at start from to n
     at ≤ length piece → Moves a b (take at piece) →
     start + length b.built.entries ≤ from + length a.built.entries →
     from + length a.built.entries ≤ start + at + length b.built.entries →
-    TurnsTell b d (drop at piece) from to n turned.OutOfMemory →
+    TurnsReport b d (drop at piece) from to n turned.OutOfMemory →
     StopsShort a d piece (at + n) start to
 call_counts_short a b d piece at start from to n le h each few t =
     short a b d piece at start from to n turned.OutOfMemory le h each few t t.kept
@@ -194,7 +196,7 @@ call_counts_short a b d piece at start from to n le h each few t =
 
 -- where the value was whole at the start of a call, no turn goes on, so anything follows
 pub whole_call_stops : {X : Type 0} (a b d : Running) (piece : List ℕ) (at from to n k : ℕ) →
-    (is_whole a.built ≡ true → (at ≡ 0) × (b ≡ a)) → TurnsTell b d piece from to n (turned.On k) →
+    (is_whole a.built ≡ true → (at ≡ 0) × (b ≡ a)) → TurnsReport b d piece from to n (turned.On k) →
     is_whole a.built ≡ true → X
 whole_call_stops a b d piece at from to n k h t w =
     let stops = (t.whole (stays_whole a b at h w)).2 in

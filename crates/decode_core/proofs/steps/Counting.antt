@@ -12,29 +12,30 @@ use Rattle.decode_core.specs.Decoding.{IsDone, RunLed}
 use Rattle.decode_core.specs.Machine.{State, remain, start}
 use Rattle.decode_core.specs.Outcome.{Job, done, IsOutcome}
 use Rattle.decode_core.specs.Running.{Running, held_of, state_of}
-use Rattle.decode_core.specs.Told.{Told, told, added, after, told_at}
-use Rattle.decode_core.specs.Turned.{FeedTells, FewTurns, IsSound, Moves, TurnsLead, StopCounts}
+use Rattle.decode_core.specs.Reported.{Reported, reported, added, after, reported_at}
+use Rattle.decode_core.specs.Turned.{FeedReports, FewTurns, IsSound, Moves, TurnsLead, StopCounts}
 use Rattle.decode_core.specs.Turned.{StopsShort, types_in}
 use Rattle.decode_core.specs.declared.fault.DecodeReason.{DecodeReason}
 use Rattle.decode_core.specs.declared.turned.Stopped.{Stopped}
 use Rattle.decode_core.specs.declared.turned.Stopped.TheVariants as stop
 use Rattle.decode_core.proofs.calls.Bridge.{moved_led}
 use Rattle.decode_core.proofs.lists.FaultBegins.{fault_is_begun}
-use Rattle.decode_core.proofs.lists.Fed.{value_of, whole_told}
-use Rattle.decode_core.proofs.calls.Feeding.{done_told, led_fits}
+use Rattle.decode_core.proofs.lists.Fed.{value_of, whole_reported}
+use Rattle.decode_core.proofs.calls.Feeding.{done_reported, led_fits}
 use Rattle.decode_core.proofs.lists.HeldBound.{held_is_bounded}
 use Rattle.decode_core.proofs.lists.Holds.{begins_small, more_bytes}
 use Rattle.decode_core.proofs.lists.MachineTurns.{count_after}
 use Rattle.decode_core.proofs.lists.Nodes.{length-preorder}
 use Rattle.decode_core.proofs.steps.Sound.{done_small, value_le_nodes}
-use Rattle.decode_core.proofs.lists.Tells.{told_agrees}
+use Rattle.decode_core.proofs.lists.Reports.{reported_agrees}
 
 -- ---- a state that bytes lead to has few nodes for them
 
 -- all that is added while a value is read
-added_few : (r : List TypeInfo) (depth t : ℕ) (own : List ℕ) (y : Told) →
-    told_at r (suc depth) t own ≡ y → length (added y) ≤ node_bound (length own) depth (widest r)
-added_few r depth t own (told xs (Err e)) is =
+added_few : (r : List TypeInfo) (depth t : ℕ) (own : List ℕ) (y : Reported) →
+    reported_at r (suc depth) t own ≡ y →
+    length (added y) ≤ node_bound (length own) depth (widest r)
+added_few r depth t own (reported xs (Err e)) is =
     let g = fault_is_begun r (suc depth) t own xs e is in
     omega (
       arith,
@@ -42,9 +43,9 @@ added_few r depth t own (told xs (Err e)) is =
       more_bytes (length g.own) (length own) depth (widest r)
           (omega (arith, ap length g.is, length-append g.own e.1)),
     )
-added_few r depth t own (told xs (Ok rest)) is =
-    let v = value_of (value_at r (suc depth) t own) (told_at r (suc depth) t own) xs rest
-    (told_agrees r (suc depth) t own) is in
+added_few r depth t own (reported xs (Ok rest)) is =
+    let v = value_of (value_at r (suc depth) t own) (reported_at r (suc depth) t own) xs rest
+    (reported_agrees r (suc depth) t own) is in
     let st = read_is_value r (suc depth) t own v.0 rest v.1 in
     let j : Job = record { registry = r; ty = t; depth = depth; bytes = length own } in
     let out : IsOutcome j own (done v.0) (length st.0) =
@@ -65,8 +66,8 @@ added_few r depth t own (told xs (Ok rest)) is =
 state_few : (r : List TypeInfo) (depth t : ℕ) (s : State) (own : List ℕ) →
     TurnsLead r (start depth t) s own → length s.nodes ≤ node_bound (length own) depth (widest r)
 state_few r depth t s own h =
-    let all : told_at r (suc depth) t own ≡ after s.nodes (remain r s []) =
-    ap (told_at r (suc depth) t) (sym (append-nil own)) ∙ whole_told r depth t s own [] h in
+    let all : reported_at r (suc depth) t own ≡ after s.nodes (remain r s []) =
+    ap (reported_at r (suc depth) t) (sym (append-nil own)) ∙ whole_reported r depth t s own [] h in
     omega (
       arith,
       added_few r depth t own (after s.nodes (remain r s [])) all,
@@ -77,7 +78,7 @@ state_few r depth t s own h =
 done_few : (j : Job) (b : List ℕ) (s last : Running) (n : ℕ) (x : List ℕ) → IsDone j b s n →
     Moves s last x → length last.built.entries ≤ length s.built.entries
 done_few j b s last n x g m =
-    let same = ap (λ (y : Told). length (added y)) (done_told j b s last n x g m []) in
+    let same = ap (λ (y : Reported). length (added y)) (done_reported j b s last n x g m []) in
     omega (
       arith,
       same,
@@ -151,16 +152,16 @@ counts_short j b slice s new taken k from to calls led short before =
 
 -- where a node is refused, all turns of both loops stay within the bound for what is taken
 pub counts_refused : (j : Job) (b slice : List ℕ) (s new : Running) (taken k held : ℕ)
-    (told_reason : DecodeReason) (at len from to calls : ℕ) (why : Stopped) →
-    RunLed j b taken (Ok s) → FeedTells s new slice k why →
-    why ≡ stop.Refused held told_reason at len → held ≤ taken + k →
+    (reported_reason : DecodeReason) (at len from to calls : ℕ) (why : Stopped) →
+    RunLed j b taken (Ok s) → FeedReports s new slice k why →
+    why ≡ stop.Refused held reported_reason at len → held ≤ taken + k →
     StopCounts s new slice from to k why →
     from ≤ taken + length s.built.entries + calls →
     to + new.built.turns ≤ taken + k - held + len + 2 * node_bound (taken + k - held + len)
     j.depth (widest j.registry) + suc calls
-counts_refused j b slice s new taken k held told_reason at len from to calls why led f w within
+counts_refused j b slice s new taken k held reported_reason at len from to calls why led f w within
     counts before =
-    let g = subst (FeedTells s new slice k) w f in
+    let g = subst (FeedReports s new slice k) w f in
     let short = subst (StopCounts s new slice from to k) w counts in
     counts_end j b slice s short.last taken k (taken + k - held + len) from to calls new.built.turns
     led short.moves short.few short.sound short.closed before (omega (arith, within, g.1.2.8))
@@ -168,12 +169,12 @@ counts_refused j b slice s new taken k held told_reason at len from to calls why
 -- where the byte limit is reached, all turns of both loops stay within the bound for the limit
 pub counts_long : (j : Job) (b piece slice : List ℕ) (s new : Running)
     (limit taken k from to calls : ℕ) (why : Stopped) → j.bytes ≡ limit →
-    slice ≡ take (limit - taken) piece → RunLed j b taken (Ok s) → FeedTells s new slice k why →
+    slice ≡ take (limit - taken) piece → RunLed j b taken (Ok s) → FeedReports s new slice k why →
     why ≡ stop.Wants → StopCounts s new slice from to k why →
     from ≤ taken + length s.built.entries + calls →
     to + new.built.turns ≤ limit + 2 * node_bound limit j.depth (widest j.registry) + suc calls
 counts_long j b piece slice s new limit taken k from to calls why e is led f w counts before =
-    let g = subst (FeedTells s new slice k) w f in
+    let g = subst (FeedReports s new slice k) w f in
     let few : FewTurns s new k from to = subst (StopCounts s new slice from to k) w counts in
     let last_few : FewTurns s g.1.0 k from to =
     subst (λ (r : Running). FewTurns s r k from to) g.1.3 few in

@@ -24,13 +24,13 @@ use Rattle.value_core.specs.Walked.{OpenPart, Walked, first_in, next_from, next_
 use Rattle.decode_core.specs.Machine.{State, remain}
 use Rattle.decode_core.specs.Reasons.{reason_of, stop_refusal}
 use Rattle.decode_core.specs.Running.{IsCarry, IsRunning, IsRunNext, held_of, run_held, state_of}
-use Rattle.decode_core.specs.Told.{told, rest_told}
+use Rattle.decode_core.specs.Reported.{reported, rest_reported}
 use Rattle.decode_core.specs.Turned.{EndsTurns}
 use Rattle.decode_core.specs.declared.run.OpenRun.{OpenRun}
 use Rattle.decode_core.specs.declared.turned.Stopped.TheVariants as stop
 use Rattle.decode_core.proofs.steps.Refusing.{no_cut, stop_refuses}
 use Rattle.decode_core.proofs.steps.Settling.{settled_fewer}
-use Rattle.decode_core.proofs.steps.Stepping.{whole_told}
+use Rattle.decode_core.proofs.steps.Stepping.{whole_reported}
 
 -- ---- a type that is next has a form or a reason
 
@@ -111,9 +111,9 @@ alone (f ∷ g ∷ fs) some h e =
 
 -- where one part is open and has nothing left, nothing is read
 one_part : (r : List TypeInfo) (room : ℕ) (p : Part) (x : List ℕ) → first_of p ≡ None →
-    rest_told r room (p ∷ []) x ≡ told [] (Ok x)
-unfolding rest_told
-one_part r room p x h = whole_told r room p [] x h
+    rest_reported r room (p ∷ []) x ≡ reported [] (Ok x)
+unfolding rest_reported
+one_part r room p x h = whole_reported r room p [] x h
 
 -- with the root's own part alone open, the state has just this part pending
 finished_state : (b : Built) (f : OpenPart) → b.walk.frames ≡ f ∷ [] →
@@ -150,7 +150,7 @@ stop_stops b c kept piece why h is =
       refl,
       sym (ap length none),
       omega arith,
-      r.tells,
+      r.reports,
       r.decided,
       omega arith,
     )

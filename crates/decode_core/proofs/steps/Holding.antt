@@ -27,12 +27,12 @@ use Rattle.decode_core.specs.Holds.{IsShort}
 use Rattle.decode_core.specs.Needs.{HasBytes, kind_need, need}
 use Rattle.decode_core.specs.Outcome.{Job}
 use Rattle.decode_core.specs.Running.{Running, IsCarry, IsRunNext, held_of, run_held}
-use Rattle.decode_core.specs.Told.{own_at}
+use Rattle.decode_core.specs.Reported.{own_at}
 use Rattle.decode_core.proofs.lists.HeldOne.{own_short}
 use Rattle.decode_core.proofs.steps.NodeAdding.{next_has, next_run}
 use Rattle.decode_core.proofs.steps.Refusing.{IsShortOf, run_length_short}
 use Rattle.decode_core.proofs.steps.RunSteps.{length_again, own_of}
-use Rattle.decode_core.proofs.lists.ToldSpells.{HoldsBytes, entry_bytes, told_spells}
+use Rattle.decode_core.proofs.lists.ReportedSpells.{HoldsBytes, entry_bytes, reported_spells}
 
 -- ---- the tree and its bytes
 
@@ -41,7 +41,7 @@ own_is : (j : Job) (b : List ℕ) (s : Running) → IsOf j s → AreBytes b → 
     b ≡ built_bytes s.built ++ held_of s
 own_is j b s of are w =
     let read = subst (HoldsBytes j.registry b) w.reads
-    (told_spells j.registry (suc j.depth) j.ty b are) in
+    (reported_spells j.registry (suc j.depth) j.ty b are) in
     read ∙ ap (λ (r : List TypeInfo). entry_bytes r s.built.entries ++ held_of s) (sym of.types)
 
 -- the tree grows up to the walk's next type
@@ -149,7 +149,7 @@ carried_run b c (layout.sequence t) h e = refl
 carried_run b c (layout.array n t) h e = refl
 carried_run b c (layout.plain (layout.compact m)) h e = refl
 
--- a run that is open has the bytes that came behind its length
+-- a run that is open has the bytes that came after its length
 open_is : (b : Built) (c : List ℕ) (run : Option Pieces) → IsCarry b c → IsRunNext b c run →
     length (pieces_bytes run) ≡ open_run (next_layout b) (run_held run c)
 open_is b c None carried h = sym (carried_run b c (next_layout b) carried refl)

@@ -27,7 +27,7 @@ use Rattle.grammar_core.specs.declared.form.Next.TheVariants as next
 use Rattle.decode_core.specs.Needs.{AreOwn, HasBytes}
 use Rattle.decode_core.specs.NodeAdds.{AddsBare, AddsBytes, IsAdded, IsRefused, IsSpelled, with_own}
 use Rattle.decode_core.specs.Reasons.{reason_of}
-use Rattle.decode_core.specs.Told.{length_own, own_at}
+use Rattle.decode_core.specs.Reported.{length_own, own_at}
 use Rattle.decode_core.proofs.steps.NodeAdding.{all_read, next_has, next_run}
 use Rattle.decode_core.proofs.steps.Whole.{IsDefinite, settled_at, u32_is, basic_whole}
 

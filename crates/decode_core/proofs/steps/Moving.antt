@@ -1,4 +1,4 @@
--- One turn behind the other.
+-- One turn after the other.
 use Rattle.std.proofs.Common.{◌≡◌, ℕ, suc, ◌+◌, ◌-◌, ◌<◌, ◌≤◌, ◌⊎◌, List, [], ◌++◌, length, take}
 use Rattle.std.proofs.Common.{drop, refl, sym, ap, subst, ◌∙◌, append_assoc, arith, inl, inr}
 use Rattle.std.proofs.Common.{length-drop}
@@ -13,8 +13,9 @@ use Rattle.value_core.specs.Refusals.{is_whole, is_whole_in}
 use Rattle.value_core.specs.Walked.{OpenPart, first_in, next_from}
 use Rattle.decode_core.specs.Machine.{State, remain, to_go}
 use Rattle.decode_core.specs.Running.{Running, held_of, state_of}
-use Rattle.decode_core.specs.Told.{after}
-use Rattle.decode_core.specs.Turned.{Awaits, FeedTells, IsSame, IsSound, Moves, StepTells, Steps}
+use Rattle.decode_core.specs.Reported.{after}
+use Rattle.decode_core.specs.Turned.{Awaits, FeedReports, IsSame, IsSound, Moves, StepReports}
+use Rattle.decode_core.specs.Turned.{Steps}
 use Rattle.decode_core.specs.Turned.{left_to_do, types_in}
 use Rattle.decode_core.specs.declared.turned.Stopped.{Stopped}
 use Rattle.decode_core.specs.declared.turned.Stopped.TheVariants as stop
@@ -28,7 +29,7 @@ moves_none s = record {
   own = [];
   is =
       append-nil (held_of s);
-  tells = λ more. refl;
+  reports = λ more. refl;
   level = refl;
 }
 
@@ -41,7 +42,7 @@ same_on a b c h k = record {
       ∙ h.ty;
 }
 
--- bytes that lead on behind others lead on together
+-- bytes that lead on after others lead on together
 pub moves_on : (a b c : Running) (x y : List ℕ) → Moves a b x → Moves b c y → Moves a c (x ++ y)
 moves_on a b c x y h k = record {
   same = same_on a b c h.same k.same;
@@ -49,13 +50,13 @@ moves_on a b c x y h k = record {
   is = sym (append_assoc (held_of a) x y) ∙ ap (λ (z : List ℕ). z ++ y) h.is
       ∙ append_assoc h.own (held_of b) y ∙ ap (λ (z : List ℕ). h.own ++ z) k.is
       ∙ sym (append_assoc h.own k.own (held_of c));
-  tells = λ more. ap (λ (z : List ℕ). after (state_of a.built).nodes
+  reports = λ more. ap (λ (z : List ℕ). after (state_of a.built).nodes
       (remain (types_in a) (state_of a.built) z)) (append_assoc h.own k.own more)
-      ∙ h.tells (k.own ++ more)
+      ∙ h.reports (k.own ++ more)
       ∙ subst (λ (r : List TypeInfo). after (state_of b.built).nodes
       (remain r (state_of b.built) (k.own ++ more))
       ≡ after (state_of c.built).nodes (remain r (state_of c.built) more)) h.same.types
-      (k.tells more);
+      (k.reports more);
   level = k.level ∙ h.level;
 }
 
@@ -70,14 +71,14 @@ step_moves a b bytes same (inl h) = record {
   same = same;
   own = [];
   is = sym h.2;
-  tells = λ more. ap (λ (s : State). after s.nodes (remain (types_in a) s more)) (sym h.1);
+  reports = λ more. ap (λ (s : State). after s.nodes (remain (types_in a) s more)) (sym h.1);
   level = ap (λ (s : State). s.room + length s.pending) h.1;
 }
 step_moves a b bytes same (inr h) = record {
   same = same;
   own = held_of a ++ bytes;
   is = sym (ap (λ (l : List ℕ). (held_of a ++ bytes) ++ l) h.0 ∙ append-nil (held_of a ++ bytes));
-  tells = h.1.tells;
+  reports = h.1.reports;
   level = h.1.level;
 }
 
@@ -108,7 +109,7 @@ step_nearer a b piece n le same (inr h) =
 
 -- the turns so far, and one more
 pub turns_on : (a b c : Running) (piece : List ℕ) (at n : ℕ) → at ≤ length piece →
-    Moves a b (take at piece) → StepTells b c (drop at piece) (turned.On n) →
+    Moves a b (take at piece) → StepReports b c (drop at piece) (turned.On n) →
     (at + n ≤ length piece) × Moves a c (take (at + n) piece)
 turns_on a b c piece at n le h k = (
   omega (arith, k.0, le, length-drop at piece),
@@ -117,17 +118,17 @@ turns_on a b c piece at n le h k = (
       (step_moves b c (take n (drop at piece)) k.1 k.2)),
 )
 
--- to drop bytes behind dropped ones is to drop them together
+-- to drop bytes after dropped ones is to drop them together
 pub drop_more : (piece : List ℕ) (at n : ℕ) → drop n (drop at piece) ≡ drop (at + n) piece
 drop_more piece at n = drop-drop n at piece
 
 -- the turn that stops
 pub turns_stop : (a b c : Running) (piece : List ℕ) (at : ℕ) (s : Stopped) → at ≤ length piece →
-    Moves a b (take at piece) → StepTells b c (drop at piece) (turned.Stopped s) → IsSound b →
-    FeedTells a c piece at s
+    Moves a b (take at piece) → StepReports b c (drop at piece) (turned.Stopped s) → IsSound b →
+    FeedReports a c piece at s
 turns_stop a b c piece at stop.Finished le h k sound = (le, (b, h, k.1, k.0, sound))
 turns_stop a b c piece at stop.Wants le h k sound = (le, (b, h, k.1, k.0, sound))
-turns_stop a b c piece at (stop.Refused held told_reason place len) le h k sound =
+turns_stop a b c piece at (stop.Refused held reported_reason place len) le h k sound =
     (le, (b, h, k, tt, sound))
 
 -- a whole value has one turn, which stops
@@ -137,25 +138,27 @@ pub stays_whole : (fn self : Running) (at : ℕ) →
 stays_whole fn self at h w = subst (λ (s : Running). is_whole s.built ≡ true) (sym (h w).1) w
 
 -- what is left of a piece, as a slice of it
-rest_tells : (b c : Running) (piece : List ℕ) (at n : ℕ) →
-    StepTells b c (take (length piece - at) (drop at piece)) (turned.On n) →
-    StepTells b c (drop at piece) (turned.On n)
-rest_tells b c piece at n k =
-    subst (λ (l : List ℕ). StepTells b c l (turned.On n)) (take_rest piece at) k
+rest_reports : (b c : Running) (piece : List ℕ) (at n : ℕ) →
+    StepReports b c (take (length piece - at) (drop at piece)) (turned.On n) →
+    StepReports b c (drop at piece) (turned.On n)
+rest_reports b c piece at n k =
+    subst (λ (l : List ℕ). StepReports b c l (turned.On n)) (take_rest piece at) k
 
--- a turn that goes on behind the first bytes of a piece leads on with what it took
+-- a turn that goes on after the first bytes of a piece leads on with what it took
 pub turn_goes_on : (a b c : Running) (piece : List ℕ) (at n : ℕ) → at ≤ length piece →
     Moves a b (take at piece) →
-    StepTells b c (take (length piece - at) (drop at piece)) (turned.On n) → (at + n ≤ length piece)
+    StepReports b c (take (length piece - at) (drop at piece)) (turned.On n) →
+    (at + n ≤ length piece)
     × Moves a c (take (at + n) piece)
-turn_goes_on a b c piece at n le h k = turns_on a b c piece at n le h (rest_tells b c piece at n k)
+turn_goes_on a b c piece at n le h k =
+    turns_on a b c piece at n le h (rest_reports b c piece at n k)
 
 -- a turn that goes on leaves less to do
 pub turn_nearer : (b c : Running) (piece : List ℕ) (at n : ℕ) →
-    StepTells b c (take (length piece - at) (drop at piece)) (turned.On n) →
+    StepReports b c (take (length piece - at) (drop at piece)) (turned.On n) →
     left_to_do c (drop (at + n) piece) < left_to_do b (drop at piece)
 turn_nearer b c piece at n k =
-    let one = rest_tells b c piece at n k in
+    let one = rest_reports b c piece at n k in
     subst (λ (l : List ℕ). left_to_do c l < left_to_do b (drop at piece)) (drop_more piece at n)
     (step_nearer b c (drop at piece) n one.0 one.1 one.2)
 
@@ -188,7 +191,7 @@ grows_by a b bytes (inr k) = inr k.2
 -- a turn that goes on adds at most one node
 pub each_turn : (old a b : Running) (piece : List ℕ) (from so_far one n : ℕ) →
     from + length a.built.entries ≤ so_far + length old.built.entries → one ≡ so_far + 1 →
-    StepTells a b piece (turned.On n) →
+    StepReports a b piece (turned.On n) →
     from + length b.built.entries ≤ one + length old.built.entries
 each_turn old a b piece from so_far one n h is k =
     elim (grows_by a b (take n piece) k.2)
@@ -203,7 +206,7 @@ one_or_bytes a b bytes (inr k) = omega (arith, k.2)
 -- and it adds one, or takes bytes
 pub few_turn : (old a b : Running) (piece : List ℕ) (from so_far one at n : ℕ) →
     so_far + length old.built.entries ≤ from + at + length a.built.entries → one ≡ so_far + 1 →
-    StepTells a b piece (turned.On n) →
+    StepReports a b piece (turned.On n) →
     one + length old.built.entries ≤ from + (at + n) + length b.built.entries
 few_turn old a b piece from so_far one at n h is k =
     omega (arith, h, is, one_or_bytes a b (take n piece) k.2, length-take n piece, k.0)

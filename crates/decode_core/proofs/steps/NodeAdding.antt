@@ -21,7 +21,7 @@ use Rattle.decode_core.specs.Machine.{is_cut}
 use Rattle.decode_core.specs.Needs.{AreOwn, HasBytes, NoRun}
 use Rattle.decode_core.specs.NodeAdds.{AddsNode}
 use Rattle.decode_core.specs.Reasons.{reason_of}
-use Rattle.decode_core.specs.Told.{own_at}
+use Rattle.decode_core.specs.Reported.{own_at}
 use Rattle.decode_core.specs.declared.node.NodeFault.{NodeFault}
 use Rattle.decode_core.specs.declared.node.NodeFault.TheVariants as fault
 use Rattle.decode_core.proofs.lists.Targets.{wanted_target}
@@ -84,11 +84,12 @@ all_read f b own x h s n a r =
     none_left (own_at (next_layout b) own) x r.0 (own_whole b f own h s n a) r.1
 
 -- a node whose reading is refused
-pub node_refused : (f : Form) (b : Built) (own : List ℕ) (e : Refusal) (at : ℕ) (told : NodeFault) →
+pub node_refused : (f : Form) (b : Built) (own : List ℕ) (e : Refusal) (at : ℕ)
+    (reported : NodeFault) →
     next_of b.walk ≡ next.Wants f → HasBytes f → NoRun f → AreOwn f own →
     ((left : List ℕ) × (own_at (next_layout b) own ≡ Err (e, left)) × (at ≡ place own left)) →
-    told ≡ fault.Refused (reason_of e) at → AddsNode b b own (Err told)
-node_refused f b own e at told h s n a r is =
+    reported ≡ fault.Refused (reason_of e) at → AddsNode b b own (Err reported)
+node_refused f b own e at reported h s n a r is =
     rw is (
       (
         e,

@@ -29,7 +29,7 @@ use Rattle.decode_core.specs.Needs.{AreOwn, HasBytes, NoRun}
 use Rattle.decode_core.specs.NodeAdds.{AddsNode, IsAdded, IsSpelled}
 use Rattle.decode_core.specs.NodeForms.{ReadsPlain, form_of_plain, plain_layout}
 use Rattle.decode_core.specs.Reasons.{reason_of}
-use Rattle.decode_core.specs.Told.{leaf_own, own_at}
+use Rattle.decode_core.specs.Reported.{leaf_own, own_at}
 use Rattle.decode_core.specs.declared.forms.PlainForm.{PlainForm}
 use Rattle.decode_core.specs.declared.forms.PlainForm.TheVariants as plain
 use Rattle.decode_core.specs.declared.node.NodeFault.{NodeFault}
@@ -121,12 +121,13 @@ pub plain_added : (b new : Built) (p : PlainForm) (own : List ℕ) (l : Leaf) �
 plain_added b new p own l h a r is = ((leaf_head l, None), spells b p own l h a r, is)
 
 -- bytes that are refused as a leaf refuse the next node, at the same place
-pub plain_refused : (b : Built) (p : PlainForm) (own : List ℕ) (f : Fault) (told : NodeFault) →
+pub plain_refused : (b : Built) (p : PlainForm) (own : List ℕ) (f : Fault) (reported : NodeFault) →
     next_of b.walk ≡ next.Wants (form_of_plain p) → AreOwn (form_of_plain p) own →
-    ReadsPlain p own (Err f) → told ≡ fault.Refused (reason_of (basic f.reason)) f.at →
-    AddsNode b b own (Err told)
-plain_refused b p own f told h a r is =
-    node_refused (form_of_plain p) b own (basic f.reason) f.at told h (plain_bytes p) (no_run p) a
+    ReadsPlain p own (Err f) → reported ≡ fault.Refused (reason_of (basic f.reason)) f.at →
+    AddsNode b b own (Err reported)
+plain_refused b p own f reported h a r is =
+    node_refused (form_of_plain p) b own (basic f.reason) f.at reported h
+    (plain_bytes p) (no_run p) a
     (r.0, next_own b p own h ∙ r.1, r.2) is
 
 -- ---- the value that the bytes are

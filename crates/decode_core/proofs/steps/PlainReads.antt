@@ -14,7 +14,7 @@ use Rattle.value_core.specs.declared.leaf.Leaf.{Leaf}
 use Rattle.value_core.specs.declared.leaf.Leaf.TheVariants as leaf
 use Rattle.decode_core.specs.Needs.{AreOwn}
 use Rattle.decode_core.specs.NodeForms.{ReadsPlain, form_of_plain}
-use Rattle.decode_core.specs.Told.{leaf_own}
+use Rattle.decode_core.specs.Reported.{leaf_own}
 use Rattle.decode_core.specs.declared.forms.PlainForm.TheVariants as plain
 
 -- an integer of 256 bits has 32 bytes of its own

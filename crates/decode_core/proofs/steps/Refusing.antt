@@ -40,7 +40,7 @@ use Rattle.decode_core.specs.Needs.{compact_need, kind_need, need, AreOwn, HasBy
 use Rattle.decode_core.specs.Reasons.{stop_refusal}
 use Rattle.decode_core.specs.Running.{Running, held_of, state_of}
 use Rattle.decode_core.specs.Turned.{WantsBytes}
-use Rattle.decode_core.specs.Told.{leaf_own, own_at, told, then, told_at, rest_told}
+use Rattle.decode_core.specs.Reported.{leaf_own, own_at, reported, then, reported_at, rest_reported}
 use Rattle.decode_core.proofs.lists.Left.{own_within}
 use Rattle.decode_core.proofs.steps.NodeAdding.{next_has}
 use Rattle.decode_core.proofs.lists.Owns.{own_extends}
@@ -184,39 +184,39 @@ front_short f (x ∷ own) (suc i) a lt =
     let first_is : x ≡ a.0 = ap (λ (l : List ℕ). elim l [ [] ↦ 0 | y ∷ ys ↦ y ]) a.2 in
     omega (arith, length-take i own, lt, a.3, ap (need f) first_is)
 
--- ---- what the machine tells where the next node fails
+-- ---- what the machine reports where the next node fails
 
 -- where the own bytes of the first value fail, all that follows it is not read
 fails_first : (r : List TypeInfo) (room t : ℕ) (lay : Layout) (rest : List ℕ → _) (x left : List ℕ)
     (e : Refusal) → met_layout r t ≡ lay → own_at lay x ≡ Err (e, left) →
-    then (told_at r (suc room) t x) rest ≡ told [] (Err ((e, left), x))
-unfolding told_at
+    then (reported_at r (suc room) t x) rest ≡ reported [] (Err ((e, left), x))
+unfolding reported_at
 fails_first r room t lay rest x left e m h = rw (m, h) refl
 
--- where the own bytes of the next node fail, the state tells this fault and adds nothing
+-- where the own bytes of the next node fail, the state reports this fault and adds nothing
 pub remain_next : (b : Built) (n : AtNext b) (x left : List ℕ) (e : Refusal) →
     own_at (next_layout b) x ≡ Err (e, left) →
-    remain b.walk.types (state_of b) x ≡ told [] (Err ((e, left), x))
+    remain b.walk.types (state_of b) x ≡ reported [] (Err ((e, left), x))
 remain_next b n x left e h = ap (λ (s : State). remain b.walk.types s x) (state_is b n)
     ∙ (first_is b.walk.types (suc n.room) n.ty n.top.left (open_parts n.around) n.first x
     ∙ fails_first b.walk.types n.room n.ty (next_layout b)
-    (rest_told b.walk.types (suc n.room) (left_after n.top.left ∷ open_parts n.around)) x left e
+    (rest_reported b.walk.types (suc n.room) (left_after n.top.left ∷ open_parts n.around)) x left e
     n.laid h)
 
--- what the machine tells of a node that is refused, whatever follows its own bytes; and that these
--- decide it
--- where bytes are missing, that is all that is told
-pub waits_told : (s : Running) → (w : WantsBytes s) →
-    remain s.built.walk.types (state_of s.built) (held_of s) ≡ told []
+-- what the machine reports of a node that is refused, whatever follows its own bytes; and that
+-- these decide it where bytes are missing, that is all that is reported
+pub waits_reported : (s : Running) → (w : WantsBytes s) →
+    remain s.built.walk.types (state_of s.built) (held_of s) ≡ reported []
     (Err ((truncated, w.left), held_of s))
-waits_told s w = remain_next s.built (at_next s.built w.form w.next) (held_of s) w.left truncated
+waits_reported s w = remain_next s.built (at_next s.built w.form w.next)
+    (held_of s) w.left truncated
     w.short
 
 pub record Refuses (b : Built) (x : List ℕ) (e : Refusal) (left : List ℕ) (len : ℕ) : Type 0 where
-  pub tells : remain b.walk.types (state_of b) x ≡ told [] (Err ((e, left), x))
+  pub reports : remain b.walk.types (state_of b) x ≡ reported [] (Err ((e, left), x))
   pub decided : Decided b.walk.types (state_of b) x e left len
 
--- a refusal that is told to be no cut is none
+-- a refusal that is reported to be no cut is none
 cut_not : (e : Refusal) → is_cut e ≡ false → e ≢ truncated
 cut_not e h is = let no : is_cut truncated ≡ false = ap is_cut (sym is) ∙ h in absurd cc
 
@@ -233,7 +233,7 @@ refuses_by b n own more back e is cut few =
     let front : take (length own) (own ++ more) ≡ own = take-append_seam own more in
     let parts = length-append own more in
     record {
-      tells = remain_next b n (own ++ more) (back ++ more) e longer;
+      reports = remain_next b n (own ++ more) (back ++ more) e longer;
       decided = record {
         within = omega (arith, parts);
         low = omega (arith, parts, length-append back more, within);
@@ -261,8 +261,9 @@ refuses b f own more back e h s a is cut =
 -- ---- a type that stops
 
 -- a type that stops is refused as it is met, with all bytes left
-stop_laid : (told_reason : StopReason) (r : List TypeInfo) (t : ℕ) → IsStoppedBy told_reason r t →
-    (x : List ℕ) → own_at (met_layout r t) x ≡ Err (stop_refusal told_reason, x)
+stop_laid : (reported_reason : StopReason) (r : List TypeInfo) (t : ℕ) →
+    IsStoppedBy reported_reason r t →
+    (x : List ℕ) → own_at (met_layout r t) x ≡ Err (stop_refusal reported_reason, x)
 unfolding own_at layout_at met_layout
 stop_laid stop.TooDeep r t h x = absurd h
 stop_laid stop.NoFiniteValue r t h x = rw h refl
@@ -270,10 +271,10 @@ stop_laid stop.BitSequence r t h x = rw (h.0, h.1) refl
 stop_laid stop.BadCompact r t h x = rw (h.0, h.1) refl
 
 -- where there is no room for a value, it is refused as too deep, and nothing is read
-no_room_tells : (r : List TypeInfo) (t : ℕ) (rest : List ℕ → _) (x : List ℕ) →
-    then (told_at r zero t x) rest ≡ told [] (Err ((too_deep, x), x))
-unfolding told_at
-no_room_tells r t rest x = refl
+no_room_reports : (r : List TypeInfo) (t : ℕ) (rest : List ℕ → _) (x : List ℕ) →
+    then (reported_at r zero t x) rest ≡ reported [] (Err ((too_deep, x), x))
+unfolding reported_at
+no_room_reports r t rest x = refl
 
 -- the innermost part, as the machine has it, with this room
 state_from : (b : Built) (top : OpenPart) (around : List OpenPart) (room : ℕ) →
@@ -282,55 +283,58 @@ state_from : (b : Built) (top : OpenPart) (around : List OpenPart) (room : ℕ) 
 state_from b top around room f k = rw (k, f) refl
 
 -- where the next type stops, too deep or by itself, the state refuses it as it is met
-stop_by : (b : Built) (told_reason : StopReason) (t : ℕ) (top : OpenPart) (around : List OpenPart) →
+stop_by : (b : Built) (reported_reason : StopReason) (t : ℕ) (top : OpenPart)
+    (around : List OpenPart) →
     b.walk.frames ≡ top ∷ around → first_of top.left ≡ Some t →
-    ((told_reason ≡ stop.TooDeep) × (b.walk.limit + 1 < length b.walk.frames))
-    ⊎ ((length b.walk.frames ≤ b.walk.limit + 1) × IsStoppedBy told_reason b.walk.types t) →
-    (x : List ℕ) → remain b.walk.types (state_of b) x ≡ told []
-    (Err ((stop_refusal told_reason, x), x))
-stop_by b told_reason t top around fs first (inl deep) x =
+    ((reported_reason ≡ stop.TooDeep) × (b.walk.limit + 1 < length b.walk.frames))
+    ⊎ ((length b.walk.frames ≤ b.walk.limit + 1) × IsStoppedBy reported_reason b.walk.types t) →
+    (x : List ℕ) → remain b.walk.types (state_of b) x ≡ reported []
+    (Err ((stop_refusal reported_reason, x), x))
+stop_by b reported_reason t top around fs first (inl deep) x =
     let is = state_from b top around 0 fs (omega (arith, deep.1)) in
     ap (λ (s : State). remain b.walk.types s x) is
     ∙ (first_is b.walk.types 0 t top.left (open_parts around) first x
-    ∙ no_room_tells b.walk.types t
-    (rest_told b.walk.types 0 (left_after top.left ∷ open_parts around)) x)
-    ∙ ap (λ (e : StopReason). told [] (Err ((stop_refusal e, x), x))) (sym deep.0)
-stop_by b told_reason t top around fs first (inr here) x =
+    ∙ no_room_reports b.walk.types t
+    (rest_reported b.walk.types 0 (left_after top.left ∷ open_parts around)) x)
+    ∙ ap (λ (e : StopReason). reported [] (Err ((stop_refusal e, x), x))) (sym deep.0)
+stop_by b reported_reason t top around fs first (inr here) x =
     let room = b.walk.limit + 1 - length b.walk.frames in
     let is = state_from b top around (suc room) fs (omega (arith, here.0)) in
     ap (λ (s : State). remain b.walk.types s x) is
     ∙ (first_is b.walk.types (suc room) t top.left (open_parts around) first x
     ∙ fails_first b.walk.types room t (met_layout b.walk.types t)
-    (rest_told b.walk.types (suc room) (left_after top.left ∷ open_parts around)) x x
-    (stop_refusal told_reason) refl (stop_laid told_reason b.walk.types t here.1 x))
+    (rest_reported b.walk.types (suc room) (left_after top.left ∷ open_parts around)) x x
+    (stop_refusal reported_reason) refl (stop_laid reported_reason b.walk.types t here.1 x))
 
 -- the same where the walk says that it stops
-pub stop_tells : (b : Built) (told_reason : StopReason) → next_of b.walk ≡ next.Stop told_reason →
-    (x : List ℕ) → remain b.walk.types (state_of b) x ≡ told []
-    (Err ((stop_refusal told_reason, x), x))
-stop_tells b told_reason h x =
-    let s = stopped b.walk told_reason h in
+pub stop_reports : (b : Built) (reported_reason : StopReason) →
+    next_of b.walk ≡ next.Stop reported_reason →
+    (x : List ℕ) → remain b.walk.types (state_of b) x ≡ reported []
+    (Err ((stop_refusal reported_reason, x), x))
+stop_reports b reported_reason h x =
+    let s = stopped b.walk reported_reason h in
     let top = top_of b.walk.frames s.ty s.is_next in
-    stop_by b told_reason s.ty top.0 top.1 top.2 top.3 s.why x
+    stop_by b reported_reason s.ty top.0 top.1 top.2 top.3 s.why x
 
 -- no reason to stop is that bytes are missing
-pub no_cut : (told_reason : StopReason) → is_cut (stop_refusal told_reason) ≡ false
+pub no_cut : (reported_reason : StopReason) → is_cut (stop_refusal reported_reason) ≡ false
 no_cut stop.TooDeep = refl
 no_cut stop.NoFiniteValue = refl
 no_cut stop.BitSequence = refl
 no_cut stop.BadCompact = refl
 
 -- where the walk stops, the state refuses, and no byte decides that
-pub stop_refuses : (b : Built) (told_reason : StopReason) → next_of b.walk ≡ next.Stop told_reason →
-    (x : List ℕ) → Refuses b x (stop_refusal told_reason) x 0
-stop_refuses b told_reason h x = record {
-  tells = stop_tells b told_reason h x;
+pub stop_refuses : (b : Built) (reported_reason : StopReason) →
+    next_of b.walk ≡ next.Stop reported_reason →
+    (x : List ℕ) → Refuses b x (stop_refusal reported_reason) x 0
+stop_refuses b reported_reason h x = record {
+  reports = stop_reports b reported_reason h x;
   decided = record {
     within = omega arith;
     low = omega arith;
     back = [];
     holds =
-        stop_tells b told_reason h [];
+        stop_reports b reported_reason h [];
     is = refl;
     least = λ i lt. absurd (omega (arith, lt));
   };

@@ -30,8 +30,8 @@ use Rattle.decode_core.specs.Needs.{HasBytes}
 use Rattle.decode_core.specs.NodeAdds.{IsAdded}
 use Rattle.decode_core.specs.Running.{Running, IsLength, IsRunning, IsKeptRun, IsRunNext, held_of}
 use Rattle.decode_core.specs.Running.{run_held, state_of}
-use Rattle.decode_core.specs.Told.{leaf_own, own_at}
-use Rattle.decode_core.specs.Turned.{EndTells, TurnLeads, EndsTurns, WantsBytes, WantsMemory}
+use Rattle.decode_core.specs.Reported.{leaf_own, own_at}
+use Rattle.decode_core.specs.Turned.{EndReports, TurnLeads, EndsTurns, WantsBytes, WantsMemory}
 use Rattle.decode_core.specs.declared.fault.DecodeReason.TheVariants as reason
 use Rattle.decode_core.specs.declared.run.OpenRun.{OpenRun}
 use Rattle.decode_core.specs.declared.turned.Stopped.TheVariants as stop
@@ -43,17 +43,17 @@ use Rattle.decode_core.proofs.steps.Stepping.{at_next, added_leads}
 use Rattle.decode_core.proofs.steps.Steps.{added_count, added_same, held_closed}
 use Rattle.decode_core.proofs.steps.Whole.{bytes_whole}
 
--- what stands behind a length that is known
+-- what stands after a length that is known
 pub length_again : (k : RunKind) (n : ℕ) (more : List ℕ) → IsLength k n →
     run_length_at k (run_front k n ++ more) ≡ Ok (n, more)
 length_again k n more h = (rw h.read at (length_extends k (run_front k n) more))
 
--- a run's own bytes, by those behind its length
-run_behind : (k : RunKind) (n : ℕ) (bytes : List ℕ) (read : Read Reason (List ℕ)) → IsLength k n →
+-- a run's own bytes, by those after its length
+run_after : (k : RunKind) (n : ℕ) (bytes : List ℕ) (read : Read Reason (List ℕ)) → IsLength k n →
     bytes_at n bytes ≡ read →
     run_at k (run_front k n ++ bytes) ≡ (read >>= λ s. run_judged k bytes s)
 unfolding run_at
-run_behind k n bytes read h is = rw (length_again k n bytes h, is) refl
+run_after k n bytes read h is = rw (length_again k n bytes h, is) refl
 
 -- where fewer bytes are there than are wanted, they are cut
 bytes_few : (n : ℕ) (bytes : List ℕ) → length bytes < n →
@@ -66,7 +66,7 @@ pub run_missing : (k : RunKind) (n : ℕ) (bytes : List ℕ) → IsLength k n �
 unfolding own_at layout_at
 run_missing k n bytes h few =
     ap (λ r. leaf_own (as_leaf (run_leaf k) r))
-    (run_behind k n bytes (Err (scale.Truncated, [])) h (bytes_few n bytes few))
+    (run_after k n bytes (Err (scale.Truncated, [])) h (bytes_few n bytes few))
 
 -- nothing is wrong with its bytes
 judged_well : (k : RunKind) (from s : List ℕ) → bad_bytes k s ≡ None →
@@ -109,7 +109,7 @@ pub run_whole : (k : RunKind) (n : ℕ) (bytes : List ℕ) → IsLength k n → 
 unfolding own_at layout_at
 run_whole k n bytes h all good =
     ap (λ r. leaf_own (as_leaf (run_leaf k) r))
-    (run_behind k n bytes (Ok (bytes, [])) h (bytes_whole n bytes all)
+    (run_after k n bytes (Ok (bytes, [])) h (bytes_whole n bytes all)
     ∙ judged_well k bytes bytes good)
 
 -- they are all there, and are a text that is not UTF-8
@@ -120,7 +120,7 @@ pub run_bad : (k : RunKind) (n : ℕ) (bytes : List ℕ) (valid : ℕ) → IsLen
 unfolding own_at layout_at
 run_bad k n bytes valid h all bad =
     ap (λ r. leaf_own (as_leaf (run_leaf k) r))
-    (run_behind k n bytes (Ok (bytes, [])) h (bytes_whole n bytes all) ∙ bad.judged bytes)
+    (run_after k n bytes (Ok (bytes, [])) h (bytes_whole n bytes all) ∙ bad.judged bytes)
 
 -- a length that has bytes has a node's first
 front_bytes : (k : RunKind) (n i : ℕ) → i < length (run_front k n) → HasBytes (run_form k)
@@ -240,10 +240,10 @@ ended_running b new c n none good is =
     (at_next (closed_of b) (run_form n.pieces.kind) n.wants) refl (run_added b new n good is))
 
 -- the run is the next node
-pub ended_tells : (b new : Built) (c : List ℕ) (n : AtEnd b) → c ≡ [] → bad_text b.run ≡ None →
+pub ended_reports : (b new : Built) (c : List ℕ) (n : AtEnd b) → c ≡ [] → bad_text b.run ≡ None →
     new ≡ with_run_ended b →
-    EndTells (record { built = b; carry = c }) (record { built = new; carry = c }) (turned.On 0)
-ended_tells b new c n none good is =
+    EndReports (record { built = b; carry = c }) (record { built = new; carry = c }) (turned.On 0)
+ended_reports b new c n none good is =
     let own = own_of n.pieces in
     let a = run_added b new n good is in
     let same = added_same (closed_of b) new c c own a in
@@ -264,12 +264,12 @@ ended_tells b new c n none good is =
 -- ---- a text that is refused
 
 -- a text at its end that is not UTF-8 stops the turns at the first bad byte
-pub bad_tells : (b : Built) (c : List ℕ) (n : AtEnd b) (valid before : ℕ) →
+pub bad_reports : (b : Built) (c : List ℕ) (n : AtEnd b) (valid before : ℕ) →
     bad_text b.run ≡ Some valid → before ≡ length (compact n.pieces.len) → (rest : List ℕ) →
     EndsTurns (record { built = b; carry = c }) rest
     (stop.Refused (before + n.pieces.len) reason.BadUtf8 (before + valid)
     (before + n.pieces.len))
-bad_tells b c n valid before is count rest =
+bad_reports b c n valid before is count rest =
     let t = n.pieces in
     let own = own_of t in
     let bad = is_bad t.kind t.bytes valid (sym (end_bad b n) ∙ is) in
@@ -308,7 +308,7 @@ bad_tells b c n valid before is count rest =
       refl,
       sym own_count ∙ ap length (sym held_is),
       place_is,
-      rw whole r.tells,
+      rw whole r.reports,
       rw (whole, ← own_count) r.decided,
       omega arith,
     )

@@ -14,9 +14,9 @@ use Rattle.grammar_core.specs.declared.form.Next.TheVariants as next
 use Rattle.decode_core.specs.Needs.{need, AreOwn, HasBytes, IsFirst, IsNeeded}
 use Rattle.decode_core.specs.NodeAdds.{IsRefused, IsSpelled, TakesNode, AddsBare, IsAdded}
 use Rattle.decode_core.specs.Running.{Running, IsRunning, IsCarry, IsKeptRun, held_of}
-use Rattle.decode_core.specs.Turned.{Steps, BareTells, StepTells, EndsTurns, WantsMemory}
+use Rattle.decode_core.specs.Turned.{Steps, BareReports, StepReports, EndsTurns, WantsMemory}
 use Rattle.decode_core.specs.Turned.{node_turned}
-use Rattle.decode_core.specs.Told.{own_at}
+use Rattle.decode_core.specs.Reported.{own_at}
 use Rattle.grammar_core.specs.Reading.{truncated}
 use Rattle.decode_core.specs.declared.fault.DecodeReason.{DecodeReason}
 use Rattle.decode_core.specs.declared.node.NodeFault.{NodeFault}
@@ -71,14 +71,14 @@ bare_running b new carry kept f added h k bare closed adds =
     rw (none, no) (bare_by b new f added (rw (none, no) at h) k closed adds)
 
 -- to add a node without bytes is a turn that goes on and takes no bytes
-pub bare_tells : (b new : Built) (carry : List ℕ) (kept : Option OpenRun) (f : Form) →
+pub bare_reports : (b new : Built) (carry : List ℕ) (kept : Option OpenRun) (f : Form) →
     IsRunning b carry kept → next_of b.walk ≡ next.Wants f → (HasBytes f → ⊥) → b.run ≡ None →
     IsAdded b new [] →
-    BareTells (record { built = b; carry = carry }) (record { built = new; carry = carry })
+    BareReports (record { built = b; carry = carry }) (record { built = new; carry = carry })
     (turned.On 0)
-bare_tells b new carry kept f h k bare closed adds =
+bare_reports b new carry kept f h k bare closed adds =
     let none = carry_none b carry f h.carried k bare in
-    subst (λ (c : List ℕ). BareTells (record { built = b; carry = c })
+    subst (λ (c : List ℕ). BareReports (record { built = b; carry = c })
     (record { built = new; carry = c }) (turned.On 0)) (sym none) (
       refl,
       added_same b new [] [] [] adds,
@@ -149,18 +149,19 @@ pub node_running : (f : Form) (b new : Built) (c : List ℕ) (old kept : Option 
     TakesNode f b new kept own taken → IsRunning new [] kept
 node_running f b new c old kept own (Ok u) h wants closed a k =
     taken_running f b new c old kept own h wants closed a k
-node_running f b new c old kept own (Err (fault.Refused told_reason at)) h wants closed a k =
+node_running f b new c old kept own (Err (fault.Refused reported_reason at)) h wants closed a k =
     same_running b new c old kept h closed k.1 k.2
 node_running f b new c old kept own (Err fault.OutOfMemory) h wants closed a k =
     same_running b new c old kept h closed k.1 k.2
 
 -- where held bytes and those of a piece refuse the next node, the turns end with that
-refused_tells : (b new : Built) (c bytes rest own : List ℕ) (f : Form) (told_reason : DecodeReason)
+refused_reports : (b new : Built) (c bytes rest own : List ℕ)
+    (f : Form) (reported_reason : DecodeReason)
     (at : ℕ) → next_of b.walk ≡ next.Wants f → HasBytes f → b.run ≡ None → AreOwn f own →
-    c ++ bytes ≡ own → IsRefused b own told_reason at →
+    c ++ bytes ≡ own → IsRefused b own reported_reason at →
     EndsTurns (record { built = b; carry = c }) (bytes ++ rest)
-    (stop.Refused (length c) told_reason at (length own))
-refused_tells b new c bytes rest own f told_reason at wants some closed a is h =
+    (stop.Refused (length c) reported_reason at (length own))
+refused_reports b new c bytes rest own f reported_reason at wants some closed a is h =
     let x = held_of (record { built = b; carry = c }) ++ (bytes ++ rest) in
     let whole : x ≡ own ++ rest = ap (λ (l : List ℕ). l ++ (bytes ++ rest)) (held_closed b c closed)
     ∙ sym (append_assoc c bytes rest) ∙ ap (λ (l : List ℕ). l ++ rest) is in
@@ -173,28 +174,32 @@ refused_tells b new c bytes rest own f told_reason at wants some closed a is h =
       h.4,
       ap length (sym (held_closed b c closed)),
       place_is,
-      rw whole r.tells,
+      rw whole r.reports,
       rw whole r.decided,
       omega (arith, ap length is, length-append c bytes),
     )
 
--- a turn that took the next node's bytes tells what they made of it
-pub node_tells : (f : Form) (b new : Built) (c bytes rest own : List ℕ) (kept : Option OpenRun)
+-- a turn that took the next node's bytes reports what they made of it
+pub node_reports : (f : Form) (b new : Built) (c bytes rest own : List ℕ) (kept : Option OpenRun)
     (taken : Result (Unit {0}) NodeFault) → next_of b.walk ≡ next.Wants f → HasBytes f →
     b.run ≡ None → AreOwn f own → c ++ bytes ≡ own → 1 ≤ length bytes →
     TakesNode f b new kept own taken →
-    StepTells (record { built = b; carry = c }) (record { built = new; carry = [] }) (bytes ++ rest)
+    StepReports (record { built = b; carry = c }) (record {
+      built = new;
+      carry = [];
+    }) (bytes ++ rest)
     (node_turned taken (length c) (length bytes) (length own))
-node_tells f b new c bytes rest own kept (Ok u) wants some closed a is one k = (
+node_reports f b new c bytes rest own kept (Ok u) wants some closed a is one k = (
   omega (arith, length-append bytes rest),
   taken_same f b new kept c [] own k,
   subst (Steps (record { built = b; carry = c }) (record { built = new; carry = [] }))
       (sym (take-append_seam bytes rest))
       (taken_steps f b new kept c own bytes (at_next b f wants) closed is one k),
 )
-node_tells f b new c bytes rest own kept (Err (fault.Refused told_reason at)) wants some closed a is
-    one k = refused_tells b new c bytes rest own f told_reason at wants some closed a is k.0
-node_tells f b new c bytes rest own kept (Err fault.OutOfMemory) wants some closed a is one k =
+node_reports f b new c bytes rest own kept (Err (fault.Refused reported_reason at)) wants
+    some closed a is
+    one k = refused_reports b new c bytes rest own f reported_reason at wants some closed a is k.0
+node_reports f b new c bytes rest own kept (Err fault.OutOfMemory) wants some closed a is one k =
     node_wants f b c bytes rest own wants closed is k.0
 
 -- ---- fewer bytes than the node needs
@@ -243,16 +248,16 @@ whole_running f b new c own old kept taken h none wants closed a k =
     subst (λ (l : List ℕ). IsRunning new l kept) (sym none)
     (node_running f b new c old kept own taken h wants closed a k)
 
--- a turn that took a node's bytes whole from the piece tells what they made of it
-pub whole_tells : (f : Form) (b new : Built) (c own rest : List ℕ) (kept : Option OpenRun)
+-- a turn that took a node's bytes whole from the piece reports what they made of it
+pub whole_reports : (f : Form) (b new : Built) (c own rest : List ℕ) (kept : Option OpenRun)
     (taken : Result (Unit {0}) NodeFault) (result : Turned) → c ≡ [] →
     next_of b.walk ≡ next.Wants f → HasBytes f → b.run ≡ None → AreOwn f own →
     TakesNode f b new kept own taken → result ≡ node_turned taken 0 (length own) (length own) →
-    StepTells (of_fields b c) (of_fields new c) (own ++ rest) result
-whole_tells f b new c own rest kept taken result none wants some closed a k is =
-    rw is (subst (λ (l : List ℕ). StepTells (of_fields b l) (of_fields new l) (own ++ rest)
+    StepReports (of_fields b c) (of_fields new c) (own ++ rest) result
+whole_reports f b new c own rest kept taken result none wants some closed a k is =
+    rw is (subst (λ (l : List ℕ). StepReports (of_fields b l) (of_fields new l) (own ++ rest)
     (node_turned taken 0 (length own) (length own))) (sym none)
-    (node_tells f b new [] own rest own kept taken wants some closed a refl (some_own f own a)
+    (node_reports f b new [] own rest own kept taken wants some closed a refl (some_own f own a)
     k))
 
 -- the bytes that were missing came
@@ -291,15 +296,16 @@ cut_own f c piece own len count n is short count_of enough =
     let front = front_is own (drop count piece) n.1.0 n.0 (omega (arith, long, short)) parts in
     (n.0, front.0, front.1, long ∙ n.2)
 
--- a turn that took a node's bytes from the carry and the piece tells what they made of it
-pub cut_tells : (f : Form) (b new : Built) (c cleared piece own : List ℕ) (kept : Option OpenRun)
+-- a turn that took a node's bytes from the carry and the piece reports what they made of it
+pub cut_reports : (f : Form) (b new : Built) (c cleared piece own : List ℕ) (kept : Option OpenRun)
     (taken : Result (Unit {0}) NodeFault) (result : Turned) (held count len : ℕ) →
     next_of b.walk ≡ next.Wants f → HasBytes f → b.run ≡ None → IsNeeded f len (c ++ piece) →
     own ≡ c ++ take count piece → length c < len → count ≡ min (len - length c) (length piece) →
     len ≤ length c + count → held ≡ length c → cleared ≡ [] →
     TakesNode f b new kept own taken → result ≡ node_turned taken held count len →
-    StepTells (of_fields b c) (of_fields new cleared) piece result
-cut_tells f b new c cleared piece own kept taken result held count len wants some closed n is short
+    StepReports (of_fields b c) (of_fields new cleared) piece result
+cut_reports f b new c cleared piece own kept taken result held count len wants some
+    closed n is short
     count_of enough held_is clear k result_is =
     let counts = count_is c piece len count short count_of enough in
     let a = cut_own f c piece own len count n is short count_of enough in
@@ -307,16 +313,17 @@ cut_tells f b new c cleared piece own kept taken result held count len wants som
     let bytes_count : length bytes ≡ count = omega (arith, length-take count piece, counts.1) in
     let own_count : length own ≡ len =
     omega (arith, ap length is, length-append c bytes, bytes_count, counts.0) in
-    let one = node_tells f b new c bytes (drop count piece) own kept taken wants some closed a
+    let one = node_reports f b new c bytes (drop count piece) own kept taken wants some closed a
     (sym is) (omega (arith, bytes_count, counts.2)) k in
     let named : node_turned taken (length c) (length bytes) (length own) ≡ result =
     ap (λ (h : ℕ). node_turned taken h (length bytes) (length own)) (sym held_is)
     ∙ ap (λ (m : ℕ). node_turned taken held m (length own)) bytes_count
     ∙ ap (node_turned taken held count) own_count ∙ sym result_is in
-    subst (λ (t : Turned). StepTells (of_fields b c) (of_fields new cleared) piece t) named
-    (subst (λ (l : List ℕ). StepTells (of_fields b c) (of_fields new cleared) l
+    subst (λ (t : Turned). StepReports (of_fields b c) (of_fields new cleared) piece t) named
+    (subst (λ (l : List ℕ). StepReports (of_fields b c) (of_fields new cleared) l
     (node_turned taken (length c) (length bytes) (length own))) (take-append-drop count piece)
-    (subst (λ (l : List ℕ). StepTells (of_fields b c) (of_fields new l) (bytes ++ drop count piece)
+    (subst (λ (l : List ℕ).
+    StepReports (of_fields b c) (of_fields new l) (bytes ++ drop count piece)
     (node_turned taken (length c) (length bytes) (length own))) (sym clear) one))
 
 -- the first byte of what is carried and of the piece

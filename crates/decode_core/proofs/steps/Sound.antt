@@ -1,4 +1,4 @@
--- What holds of every value on its way, and that what it holds is little.
+-- What holds of every value on its way, and that what it holds is bounded.
 use Rattle.std.proofs.Common.{◌≡◌, ℕ, suc, ◌+◌, ◌*◌, ◌≤◌, ◌⊎◌, true, List, [], ◌∷◌, length, Option}
 use Rattle.std.proofs.Common.{Some, None, Ok, Err, refl, sym, ap, subst, ◌∙◌, arith, inl, inr}
 use Rattle.std.proofs.Common.{length-append}
@@ -21,7 +21,7 @@ use Rattle.decode_core.specs.Decoding.{FinishesDecoder, IsSmallValue, IsDone, Is
 use Rattle.decode_core.specs.Decoding.{RunCounted, RunLed, built_tree, first_running}
 use Rattle.decode_core.specs.Outcome.{Job}
 use Rattle.decode_core.specs.Running.{Running, IsRunning, held_of, run_held}
-use Rattle.decode_core.specs.Told.{Fault, shown}
+use Rattle.decode_core.specs.Reported.{Fault, shown}
 use Rattle.decode_core.specs.Turned.{IsSound}
 use Rattle.decode_core.specs.declared.fault.DecodeFault.{DecodeFault}
 use Rattle.decode_core.specs.declared.run.OpenRun.{OpenRun}

@@ -17,10 +17,11 @@ use Rattle.value_core.proofs.Forms.{wanted}
 use Rattle.decode_core.specs.Met.{met_layout}
 use Rattle.decode_core.specs.NodeAdds.{IsAdded, with_own}
 use Rattle.decode_core.specs.Running.{state_of}
-use Rattle.decode_core.specs.Told.{entry, own_at, told, after, part_told, told_at, rest_told}
+use Rattle.decode_core.specs.Reported.{entry, own_at, reported, after, part_reported, reported_at}
+use Rattle.decode_core.specs.Reported.{rest_reported}
 use Rattle.decode_core.specs.Turned.{TurnLeads}
 use Rattle.decode_core.proofs.lists.Owns.{own_extends, SpellsNode}
-use Rattle.decode_core.proofs.lists.Tells.{after-nil}
+use Rattle.decode_core.proofs.lists.Reports.{after-nil}
 use Rattle.decode_core.proofs.lists.MachineTurns.{IsFirstOf, each_first, times_first, own_leaf}
 use Rattle.decode_core.proofs.lists.MachineTurns.{own_opens}
 
@@ -86,22 +87,23 @@ open_parts fs = map (λ f. f.left) fs
 
 -- a part that has nothing left reads nothing
 part_whole : (r : List TypeInfo) (room : ℕ) (p : Part) (b : List ℕ) → first_of p ≡ None →
-    part_told (told_at r room) p b ≡ told [] (Ok b)
+    part_reported (reported_at r room) p b ≡ reported [] (Ok b)
 part_whole r room (each []) b h = refl
 part_whole r room (each (t ∷ ts)) b h = absurd cc
 part_whole r room (times zero t) b h = refl
 part_whole r room (times (suc n) t) b h = absurd cc
 
 -- a pending part that has nothing left may be dropped
-pub whole_told : (r : List TypeInfo) (room : ℕ) (p : Part) (ps : List Part) (b : List ℕ) →
-    first_of p ≡ None → rest_told r room (p ∷ ps) b ≡ rest_told r (suc room) ps b
-unfolding rest_told
-whole_told r room p ps b h = rw (part_whole r room p b h) (after-nil (rest_told r (suc room) ps b))
+pub whole_reported : (r : List TypeInfo) (room : ℕ) (p : Part) (ps : List Part) (b : List ℕ) →
+    first_of p ≡ None → rest_reported r room (p ∷ ps) b ≡ rest_reported r (suc room) ps b
+unfolding rest_reported
+whole_reported r room p ps b h =
+    rw (part_whole r room p b h) (after-nil (rest_reported r (suc room) ps b))
 
 -- with room for so many parts at most
 pub record SettlesInRoom (r : List TypeInfo) (all : ℕ) (fs gs : List OpenPart) : Type 0 where
-  pub tells : (b : List ℕ) →
-      rest_told r (all - length fs) (map (λ f. f.left) fs) b ≡ rest_told r (all - length gs)
+  pub reports : (b : List ℕ) →
+      rest_reported r (all - length fs) (map (λ f. f.left) fs) b ≡ rest_reported r (all - length gs)
       (map (λ f. f.left) gs) b
   pub fewer : length gs ≤ length fs
 
@@ -110,9 +112,10 @@ settle_on : (r : List TypeInfo) (all : ℕ) (f g : OpenPart) (fs hs : List OpenP
     suc (suc (length fs)) ≤ all → first_of f.left ≡ None → SettlesInRoom r all (g ∷ fs) hs →
     SettlesInRoom r all (f ∷ g ∷ fs) hs
 settle_on r all f g fs hs le h s = record {
-  tells = λ b. whole_told r (all - suc (suc (length fs))) f.left (g.left ∷ map (λ f. f.left) fs) b h
-      ∙ ap (λ (k : ℕ). rest_told r k (g.left ∷ map (λ f. f.left) fs) b)
-      (one_more all (length fs) le) ∙ s.tells b;
+  reports = λ b. whole_reported r (all - suc (suc (length fs))) f.left
+      (g.left ∷ map (λ f. f.left) fs) b h
+      ∙ ap (λ (k : ℕ). rest_reported r k (g.left ∷ map (λ f. f.left) fs) b)
+      (one_more all (length fs) le) ∙ s.reports b;
   fewer = omega (arith, s.fewer);
 } where
   one_more : (all n : ℕ) → suc (suc n) ≤ all → suc (all - suc (suc n)) ≡ all - suc n
@@ -124,14 +127,14 @@ settle_by : (r : List TypeInfo) (all : ℕ) (f g : OpenPart) (fs : List OpenPart
     (o : Option ℕ) →
     first_of f.left ≡ o → SettlesInRoom r all (f ∷ g ∷ fs)
     (elim o [ Some t ↦ f ∷ g ∷ fs | None ↦ settled_in (g ∷ fs) ])
-settle_by r all f g fs le s (Some t) e = record { tells = λ b. refl; fewer = omega arith }
+settle_by r all f g fs le s (Some t) e = record { reports = λ b. refl; fewer = omega arith }
 settle_by r all f g fs le s None e = settle_on r all f g fs (settled_in (g ∷ fs)) le e s
 
 -- closing what is whole keeps what is still read, and leaves no more open
 pub settles : (r : List TypeInfo) (all : ℕ) (fs : List OpenPart) → length fs ≤ all →
     SettlesInRoom r all fs (settled_in fs)
-settles r all [] le = record { tells = λ b. refl; fewer = omega arith }
-settles r all (f ∷ []) le = record { tells = λ b. refl; fewer = omega arith }
+settles r all [] le = record { reports = λ b. refl; fewer = omega arith }
+settles r all (f ∷ []) le = record { reports = λ b. refl; fewer = omega arith }
 settles r all (f ∷ g ∷ fs) le =
     settle_by r all f g fs le (settles r all (g ∷ fs) (omega (arith, le))) (first_of f.left) refl
 
@@ -144,7 +147,7 @@ leads_settled b s own same le h =
     let old = length-map s.walk.frames (λ (f : OpenPart). f.left) in
     let new = length-map (settled_in s.walk.frames) (λ (f : OpenPart). f.left) in
     record {
-      tells = λ more. h.tells more ∙ ap (after s.entries) (c.tells more);
+      reports = λ more. h.reports more ∙ ap (after s.entries) (c.reports more);
       level = omega (arith, h.level, c.fewer, old, new, le);
       paid = omega (arith, h.paid, c.fewer, old, new);
     }

@@ -99,7 +99,7 @@ pub(crate) fn optional_text_of(
     }
 }
 
-/// The positions of types: how many, and one behind the other.
+/// The positions of types: how many, and one after the other.
 #[tactic(auto, unfolding(crate::specs::Reading::type_ids_at))]
 pub(crate) fn type_ids_of(alloc: Global, bytes: &[u8]) -> Result<(Items<TypeId>, &[u8]), Stop<'_>>
     ensures { Gives (λ x. (x.0, x.1.now)) result (type_ids_at bytes.now) }
@@ -114,10 +114,10 @@ pub(crate) fn type_ids_of(alloc: Global, bytes: &[u8]) -> Result<(Items<TypeId>,
     Ok((Items::from_vec(ids), rest))
 }
 
-/// The bytes behind a list without elements, where one stands here: its length is the byte `00`.
+/// The bytes after a list without elements, where one stands here: its length is the byte `00`.
 #[inline(always)]
 #[tactic(auto, using(crate::proofs::Lengths::byte_is_read))]
-fn behind_empty(bytes: &[u8]) -> Option<&[u8]>
+fn after_empty(bytes: &[u8]) -> Option<&[u8]>
     ensures { IfSome result (λ rest. length_at bytes.now ≡ Ok (0, rest.now)) }
 {
     match bytes {
@@ -132,13 +132,13 @@ fn behind_empty(bytes: &[u8]) -> Option<&[u8]>
 pub(crate) fn texts_of(alloc: Global, bytes: &[u8]) -> Result<(Items<Text>, &[u8]), Stop<'_>>
     ensures { Gives (λ x. (x.0, x.1.now)) result (texts_at bytes.now) }
 {
-    if let Some(rest) = behind_empty(bytes) {
+    if let Some(rest) = after_empty(bytes) {
         return Ok((Items::from_vec(Vec::new(alloc)), rest));
     }
     some_texts_of(alloc, bytes)
 }
 
-/// Texts: how many, and one behind the other.
+/// Texts: how many, and one after the other.
 #[inline(never)]
 #[tactic(auto, unfolding(crate::specs::Reading::texts_at))]
 fn some_texts_of(alloc: Global, bytes: &[u8]) -> Result<(Items<Text>, &[u8]), Stop<'_>>

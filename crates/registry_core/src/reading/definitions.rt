@@ -35,7 +35,7 @@ fn field_of(alloc: Global, bytes: &[u8]) -> Result<(Field, &[u8]), Stop<'_>>
     Ok((field, rest))
 }
 
-/// Fields: how many, and one behind the other.
+/// Fields: how many, and one after the other.
 #[tactic(auto, unfolding(crate::specs::Reading::fields_at))]
 fn fields_of(alloc: Global, bytes: &[u8]) -> Result<(Items<Field>, &[u8]), Stop<'_>>
     ensures { Gives (λ x. (x.0, x.1.now)) result (fields_at bytes.now) }
@@ -68,7 +68,7 @@ fn arm_of(alloc: Global, bytes: &[u8]) -> Result<(Arm, &[u8]), Stop<'_>>
     Ok((arm, rest))
 }
 
-/// Arms: how many, and one behind the other.
+/// Arms: how many, and one after the other.
 #[tactic(auto, unfolding(crate::specs::Reading::arms_read_at))]
 fn arms_of(alloc: Global, bytes: &[u8]) -> Result<(Items<Arm>, &[u8]), Stop<'_>>
     ensures { Gives (λ x. (x.0, x.1.now)) result (arms_read_at bytes.now) }
@@ -83,7 +83,7 @@ fn arms_of(alloc: Global, bytes: &[u8]) -> Result<(Items<Arm>, &[u8]), Stop<'_>>
     Ok((Items::from_vec(arms), rest))
 }
 
-/// A primitive, behind the definition's byte.
+/// A primitive, after the definition's byte.
 fn primitive_of(bytes: &[u8]) -> Result<(Primitive, &[u8]), Stop<'_>>
     ensures { Gives (λ x. (x.0, x.1.now)) result (primitive_at bytes.now) }
 {
@@ -94,7 +94,7 @@ fn primitive_of(bytes: &[u8]) -> Result<(Primitive, &[u8]), Stop<'_>>
     }
 }
 
-/// An array, behind the definition's byte.
+/// An array, after the definition's byte.
 #[tactic(auto, unfolding(crate::specs::Reading::array_at))]
 fn array_of(bytes: &[u8]) -> Result<(TypeDef, &[u8]), Stop<'_>>
     ensures { Gives (λ x. (x.0, x.1.now)) result (array_at bytes.now) }
@@ -104,7 +104,7 @@ fn array_of(bytes: &[u8]) -> Result<(TypeDef, &[u8]), Stop<'_>>
     Ok((TypeDef::Array(len, element), rest))
 }
 
-/// A bit sequence, behind the definition's byte.
+/// A bit sequence, after the definition's byte.
 #[tactic(auto, unfolding(crate::specs::Reading::bit_sequence_at))]
 fn bit_sequence_of(bytes: &[u8]) -> Result<(TypeDef, &[u8]), Stop<'_>>
     ensures { Gives (λ x. (x.0, x.1.now)) result (bit_sequence_at bytes.now) }

@@ -9,7 +9,7 @@ use std::cmp;
 /// For how many elements a list gets room at first.
 const FIRST: usize = 16;
 
-/// Makes room behind the elements of a full list that claims to have `count`: for three times as many as it has, or for
+/// Makes room after the elements of a full list that claims to have `count`: for three times as many as it has, or for
 /// a few at first, and for no more than are to come.
 #[cold]
 #[inline(never)]

@@ -9,8 +9,8 @@ use super::stop::Stop;
 use crate::fault::RegistryReason;
 use crate::version::Version;
 
-/// The bytes behind this letter; another in its place is refused.
-fn behind_letter(letter: u8, bytes: &[u8]) -> Result<&[u8], Stop<'_>>
+/// The bytes after this letter; another in its place is refused.
+fn after_letter(letter: u8, bytes: &[u8]) -> Result<&[u8], Stop<'_>>
     ensures { Gives (λ rest. (tt, rest.now)) result (letter_at letter bytes.now) }
 {
     let (byte, rest) = byte_of(bytes)?;
@@ -20,7 +20,7 @@ fn behind_letter(letter: u8, bytes: &[u8]) -> Result<&[u8], Stop<'_>>
     Ok(rest)
 }
 
-/// The version that the first byte tells, and the bytes behind it.
+/// The version that the first byte reports, and the bytes after it.
 fn version_of(bytes: &[u8]) -> Result<(Version, &[u8]), Stop<'_>>
     ensures { Gives (λ x. (x.0, x.1.now)) result (version_at bytes.now) }
 {
@@ -31,14 +31,14 @@ fn version_of(bytes: &[u8]) -> Result<(Version, &[u8]), Stop<'_>>
     }
 }
 
-/// The version behind the letters `meta`, and the bytes behind it.
+/// The version after the letters `meta`, and the bytes after it.
 #[tactic(auto, unfolding(crate::specs::Reading::prefix_at))]
 pub(crate) fn prefix_of(bytes: &[u8]) -> Result<(Version, &[u8]), Stop<'_>>
     ensures { Gives (λ x. (x.0, x.1.now)) result (prefix_at bytes.now) }
 {
-    let rest = behind_letter(b'm', bytes)?;
-    let rest = behind_letter(b'e', rest)?;
-    let rest = behind_letter(b't', rest)?;
-    let rest = behind_letter(b'a', rest)?;
+    let rest = after_letter(b'm', bytes)?;
+    let rest = after_letter(b'e', rest)?;
+    let rest = after_letter(b't', rest)?;
+    let rest = after_letter(b'a', rest)?;
     version_of(rest)
 }

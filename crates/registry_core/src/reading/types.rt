@@ -1,4 +1,4 @@
-//! The types of a registry, one behind the other.
+//! The types of a registry, one after the other.
 
 ghost use Rattle.std.specs.Prelude.{◌≡◌};
 ghost use Rattle.registry_core.specs.Gives.{Gives};
@@ -23,7 +23,7 @@ fn param_of(alloc: Global, bytes: &[u8]) -> Result<(Param, &[u8]), Stop<'_>>
     Ok((Param { name, ty }, rest))
 }
 
-/// Parameters: how many, and one behind the other.
+/// Parameters: how many, and one after the other.
 #[tactic(auto, unfolding(crate::specs::Reading::params_at))]
 fn params_of(alloc: Global, bytes: &[u8]) -> Result<(Items<Param>, &[u8]), Stop<'_>>
     ensures { Gives (λ x. (x.0, x.1.now)) result (params_at bytes.now) }
@@ -38,7 +38,7 @@ fn params_of(alloc: Global, bytes: &[u8]) -> Result<(Items<Param>, &[u8]), Stop<
     Ok((Items::from_vec(params), rest))
 }
 
-/// A type, behind its id.
+/// A type, after its id.
 #[tactic(auto, unfolding(crate::specs::Reading::type_info_at))]
 fn type_info_of(alloc: Global, bytes: &[u8]) -> Result<(TypeInfo, &[u8]), Stop<'_>>
     ensures { Gives (λ x. (x.0, x.1.now)) result (type_info_at bytes.now) }
@@ -56,8 +56,8 @@ fn type_info_of(alloc: Global, bytes: &[u8]) -> Result<(TypeInfo, &[u8]), Stop<'
     Ok((info, rest))
 }
 
-/// The bytes behind the id of the type at this position.
-fn behind_id(position: u32, bytes: &[u8]) -> Result<&[u8], Stop<'_>>
+/// The bytes after the id of the type at this position.
+fn after_id(position: u32, bytes: &[u8]) -> Result<&[u8], Stop<'_>>
     ensures { Gives (λ rest. (position, rest.now)) result (id_at position bytes.now) }
 {
     let (id, rest) = length_of(bytes)?;
@@ -67,7 +67,7 @@ fn behind_id(position: u32, bytes: &[u8]) -> Result<&[u8], Stop<'_>>
     Ok(rest)
 }
 
-/// As many types, each behind its id, which is its position.
+/// As many types, each after its id, which is its position.
 pub(crate) fn types_of(
     alloc: Global,
     count: u32,
@@ -78,7 +78,7 @@ pub(crate) fn types_of(
     let mut types = Vec::new(alloc);
     let mut rest = bytes;
     'types: for position in 0..count {
-        let behind = behind_id(position, rest)?;
+        let behind = after_id(position, rest)?;
         let (info, after) = type_info_of(alloc, behind)?;
         append(&mut types, count, info)?;
         rest = after;

@@ -11,7 +11,7 @@ returns-then-offered-piece-clause-answers g c =
     λ j b e led. run_long j b c.args.piece.now c.within-offered.result.now c.args.run.now
     c.feed.new.self c.args.limit c.args.taken c.in-Ok-default-Wants.count
     c.in-Ok-default-Wants.field-0-1 e c.within-offered.ensures led
-    c.in-Ok-default-Wants.ensures.tells c.in-Ok-default-Wants.field-0-1-is c.if-offered-piece.true
+    c.in-Ok-default-Wants.ensures.reports c.in-Ok-default-Wants.field-0-1-is c.if-offered-piece.true
 
 pub overflow_sub-node : goal.overflow_sub-node
 overflow_sub-node g c = run_held c.requires.led.job c.requires.led.bytes c.args.piece.now
@@ -19,7 +19,7 @@ overflow_sub-node g c = run_held c.requires.led.job c.requires.led.bytes c.args.
     c.in-Ok-default-Refused.count c.in-Ok-default-Refused.held c.in-Ok-default-Refused.reason
     c.in-Ok-default-Refused.at c.in-Ok-default-Refused.len c.in-Ok-default-Refused.field-0-1
     c.requires.led.is_limit c.within-offered.ensures c.requires.led.led
-    c.in-Ok-default-Refused.ensures.tells c.in-Ok-default-Refused.field-0-1-is
+    c.in-Ok-default-Refused.ensures.reports c.in-Ok-default-Refused.field-0-1-is
 
 pub returns-in-Ok-default-Finished-clause-answers :
     goal.returns-in-Ok-default-Finished-clause-answers
@@ -27,14 +27,14 @@ returns-in-Ok-default-Finished-clause-answers g c =
     λ j b e led. run_done j b c.args.piece.now c.within-offered.result.now c.args.run.now
     c.feed.new.self c.args.limit c.args.taken c.in-Ok-default-Finished.count
     c.in-Ok-default-Finished.field-0-1 e c.within-offered.ensures led
-    c.in-Ok-default-Finished.ensures.tells c.in-Ok-default-Finished.field-0-1-is
+    c.in-Ok-default-Finished.ensures.reports c.in-Ok-default-Finished.field-0-1-is
 
 pub returns-else-offered-piece-clause-answers : goal.returns-else-offered-piece-clause-answers
 returns-else-offered-piece-clause-answers g c =
     λ j b e led. run_more j b c.args.piece.now c.within-offered.result.now c.args.run.now
     c.feed.new.self c.args.limit c.args.taken c.in-Ok-default-Wants.count
     c.in-Ok-default-Wants.field-0-1 e c.within-offered.ensures led
-    c.in-Ok-default-Wants.ensures.tells c.in-Ok-default-Wants.field-0-1-is
+    c.in-Ok-default-Wants.ensures.reports c.in-Ok-default-Wants.field-0-1-is
     (are_bytes c.args.piece.now (λ i. omega (arith, c.type_inv.piece i))) c.if-offered-piece.false
 
 pub returns-in-Ok-default-Refused-clause-answers : goal.returns-in-Ok-default-Refused-clause-answers
@@ -43,14 +43,14 @@ returns-in-Ok-default-Refused-clause-answers g c =
     c.feed.new.self c.args.limit c.args.taken c.in-Ok-default-Refused.count
     c.in-Ok-default-Refused.held c.in-Ok-default-Refused.reason c.in-Ok-default-Refused.at
     c.in-Ok-default-Refused.len c.in-Ok-default-Refused.field-0-1 e c.within-offered.ensures led
-    c.in-Ok-default-Refused.ensures.tells c.in-Ok-default-Refused.field-0-1-is
+    c.in-Ok-default-Refused.ensures.reports c.in-Ok-default-Refused.field-0-1-is
 
 pub returns-then-offered-piece-clause-counts : goal.returns-then-offered-piece-clause-counts
 returns-then-offered-piece-clause-counts g c = λ j b calls e led before.
     counts_long j b c.args.piece.now c.within-offered.result.now c.args.run.now c.feed.new.self
     c.args.limit c.args.taken c.in-Ok-default-Wants.count c.args.turns.now.so_far
     c.feed.new.turns.so_far calls c.in-Ok-default-Wants.field-0-1 e c.within-offered.ensures led
-    c.in-Ok-default-Wants.ensures.tells c.in-Ok-default-Wants.field-0-1-is
+    c.in-Ok-default-Wants.ensures.reports c.in-Ok-default-Wants.field-0-1-is
     c.in-Ok-default-Wants.ensures.counts before.1
 
 pub returns-in-Ok-default-Refused-clause-counts : goal.returns-in-Ok-default-Refused-clause-counts
@@ -58,10 +58,10 @@ returns-in-Ok-default-Refused-clause-counts g c = λ j b calls e led before.
     let r = c.in-Ok-default-Refused in
     let within = run_held j b c.args.piece.now c.within-offered.result.now c.args.run.now
     c.feed.new.self c.args.limit c.args.taken r.count r.held r.reason r.at r.len r.field-0-1 e
-    c.within-offered.ensures led r.ensures.tells r.field-0-1-is in
+    c.within-offered.ensures led r.ensures.reports r.field-0-1-is in
     counts_refused j b c.within-offered.result.now c.args.run.now c.feed.new.self c.args.taken
     r.count r.held r.reason r.at r.len c.args.turns.now.so_far c.feed.new.turns.so_far calls
-    r.field-0-1 led r.ensures.tells r.field-0-1-is within r.ensures.counts before.1
+    r.field-0-1 led r.ensures.reports r.field-0-1-is within r.ensures.counts before.1
 
 pub returns-in-Err-clause-counts : goal.returns-in-Err-clause-counts
 returns-in-Err-clause-counts g c = λ j b calls e led before.
@@ -75,9 +75,9 @@ returns-in-Ok-default-Refused-clause-takes g c =
     let within = run_held c.requires.led.job c.requires.led.bytes c.args.piece.now
     c.within-offered.result.now c.args.run.now c.feed.new.self c.args.limit c.args.taken r.count
     r.held r.reason r.at r.len r.field-0-1 c.requires.led.is_limit c.within-offered.ensures
-    c.requires.led.led r.ensures.tells r.field-0-1-is in
+    c.requires.led.led r.ensures.reports r.field-0-1-is in
     let few = takes_refused c.args.run.now c.feed.new.self c.within-offered.result.now r.count
-    r.held c.args.taken r.len r.reason r.at r.field-0-1 r.ensures.tells r.field-0-1-is within in (
+    r.held c.args.taken r.len r.reason r.at r.field-0-1 r.ensures.reports r.field-0-1-is within in (
       few.0,
       omega (
         arith,

@@ -36,11 +36,11 @@ returns c =
     let found : name_order fs ≡ Some (shown_entries c.fields.positions.entries) = c.fields.invariant
     ∙ ap (λ gs. order_from gs c.fields.position (shown_entries c.fields.positions.entries)) none in
     let left : c.names.position-iterator ≡ [] = c.in-None.ensures.steps.0 in
-    let told : c.names.order.items ≡ map (λ e. e.1) c.into_iter-position-iterator.result =
+    let reported : c.names.order.items ≡ map (λ e. e.1) c.into_iter-position-iterator.result =
     sym (append-nil c.names.order.items)
-    ∙ ap (λ l. c.names.order.items ++ map (λ e. e.1) l) (sym left) ∙ c.names.invariant.told in
+    ∙ ap (λ l. c.names.order.items ++ map (λ e. e.1) l) (sym left) ∙ c.names.invariant.reported in
     let given : c.into_iter-position-iterator.result ≡ c.fields.positions.entries =
     c.into_iter-position-iterator.ensures.into_iter_gives.0 in
-    ap Some (told ∙ ap (λ (l : Kept). map (λ e. e.1) l) given
+    ap Some (reported ∙ ap (λ (l : Kept). map (λ e. e.1) l) given
     ∙ shown_positions c.fields.positions.entries)
     ∙ sym (ap (option_map (λ es. map (λ e. e.1) es)) found)

@@ -11,6 +11,6 @@ abbrev pub invariant-names : goal.invariant-names
 invariant-names l = record {
   can : (goal.iterator-names).can_next l.position-iterator;
   ends : (goal.iterator-names).is_finite l.position-iterator;
-  told : l.order.items ++ map (λ e. e.1) l.position-iterator
+  reported : l.order.items ++ map (λ e. e.1) l.position-iterator
       ≡ map (λ e. e.1) l.initial.position-iterator;
 }

@@ -22,11 +22,11 @@ use Rattle.json_core.proofs.Known.{grows_not, grows_again}
 use Rattle.json_core.proofs.PlainNames.{AllPlain, plain_names, plain_rest, plain_first, plain_at}
 use Rattle.json_core.proofs.Ordered.{are_named, positions_are_named, positions_count}
 use Rattle.json_core.proofs.Ordered.{unnamed_json_is, in_order_json_is, sorted_json_is}
-use Rattle.json_core.proofs.Told.{told, long_here, long_compact_here, text_is, bytes_are}
-use Rattle.json_core.proofs.Told.{fields_at_node, no_fields_at_node, fields_are, no_fields_json}
-use Rattle.json_core.proofs.Told.{arm_there, arm_at_node, arm_is, arm_place, composite_place}
+use Rattle.json_core.proofs.Reported.{reported, long_here, long_compact_here, text_is, bytes_are}
+use Rattle.json_core.proofs.Reported.{fields_at_node, no_fields_at_node, fields_are, no_fields_json}
+use Rattle.json_core.proofs.Reported.{arm_there, arm_at_node, arm_is, arm_place, composite_place}
 use Rattle.json_core.proofs.Turns.{name_is, in_order_turn, item_turn, array_whole, turn_at}
-use Rattle.json_core.proofs.Turns.{named_behind, name_read, sorted_turn, one_member, object_whole}
+use Rattle.json_core.proofs.Turns.{named_after, name_read, sorted_turn, one_member, object_whole}
 use Rattle.json_core.proofs.Turns.{no_field_left, no_item_left, no_position_left}
 use Rattle.json_core.proofs.writing.+write.Goals as goal
 
@@ -34,7 +34,7 @@ pub write_items-children-init : goal.write_items-children-init
 write_items-children-init t c = record {
   can = tt;
   ends = tt;
-  told = search rules;
+  reported = search rules;
   below = rw (
     c.into_iter-child-iterator.ensures.into_iter_gives,
     c.children-child-items.ensures,
@@ -54,7 +54,7 @@ write_in_order-members-init t c =
           (are_named c.args.fields.now _ c.requires.keys);
       plain = rw (gives, first, c.iter.ensures.rest)
           (plain_names c.args.plain c.args.fields.now c.requires.plain);
-      told = rw (gives, first, second, c.iter.ensures.rest, c.children.ensures) refl;
+      reported = rw (gives, first, second, c.iter.ensures.rest, c.children.ensures) refl;
       below = rw (gives, second, c.children.ensures, c.requires.types)
           (children_below c.args.node.now);
       grows = grows_not c.args.orders.now;
@@ -75,13 +75,13 @@ write_in_order-returns-clause-adds t c =
     ] in
     on_ok_weaker c.end_object.result (λ e. object_whole c.args.out.now c.begin_object.new.self
     c.members.out c.end_object.new.self (members_in_order fs ds) (members_in_order rest left)
-    (fields_json fs (items_of ds)) c.in_ok-begin_object.ensures c.members.invariant.told none e
+    (fields_json fs (items_of ds)) c.in_ok-begin_object.ensures c.members.invariant.reported none e
     (in_order_json_is fs ds c.requires.keys count)) c.end_object.ensures
 
 pub write_sorted-members-init : goal.write_sorted-members-init
 write_sorted-members-init t c = record {
   named = positions_are_named c.args.fields.now _ c.requires.keys.1;
-  told = refl;
+  reported = refl;
   types = c.requires.types;
   grows = grows_not c.args.orders.now;
 }
@@ -137,11 +137,11 @@ write_sorted-members-preserved t c =
     c.in_ok-write_node.ensures.adds
     ∙ ap (λ w. prints w (json_tokens (outline (json_seen child)))) c.in_ok-key.ensures in
     record {
-      named = named_behind fs order c.members.turn p turn c.members.invariant.named;
-      told = sorted_turn fs ds order c.members.turn p c.index-fields-position.result n
+      named = named_after fs order c.members.turn p turn c.members.invariant.named;
+      reported = sorted_turn fs ds order c.members.turn p c.index-fields-position.result n
           (json_seen child) c.members.out c.write_node.new.out turn
           c.index-fields-position.is c.name_of.ensures (child_data c.args.node.now p child got) said
-          ∙ c.members.invariant.told;
+          ∙ c.members.invariant.reported;
       types = c.write_node.ensures.grows.types ∙ c.members.invariant.types;
       grows = grows_again c.args.orders.now c.members.orders c.write_node.new.orders
           c.members.invariant.grows c.write_node.ensures.grows;
@@ -158,7 +158,7 @@ write_sorted-returns-clause-adds t c =
     on_ok_weaker c.end_object.result (λ e. object_whole c.args.out.now c.begin_object.new.self
     c.members.out c.end_object.new.self (members_at fs ds order)
     (members_at fs ds (drop c.members.turn order)) (fields_json fs (items_of ds))
-    c.in_ok-begin_object.ensures c.members.invariant.told
+    c.in_ok-begin_object.ensures c.members.invariant.reported
     (no_position_left fs ds order c.members.turn (omega (arith, many))) e
     (sorted_json_is fs order ds c.requires.keys.1 count)) c.end_object.ensures
 
@@ -170,7 +170,7 @@ write_fields-returns-in-Unnamed-clause-adds t c =
 
 pub write_node-write_unsigned-requires : goal.write_node-write_unsigned-requires
 write_node-write_unsigned-requires t c =
-    λ e. (told c.args.node.now _ c.in-Unsigned.ensures.value c.in-Unsigned.ensures.same).0
+    λ e. (reported c.args.node.now _ c.in-Unsigned.ensures.value c.in-Unsigned.ensures.same).0
     (sym (long_here c.args.node.now _ _ _ (
       c.checked-checked.ensures ∙ c.requires,
       c.type_id-ty.ensures.same,
@@ -179,7 +179,7 @@ write_node-write_unsigned-requires t c =
 pub write_node-write_signed-requires : goal.write_node-write_signed-requires
 write_node-write_signed-requires t c =
     λ e. rw (to_z-of_z w128 c.in-Signed.n (search rules))
-    ((told c.args.node.now _ c.in-Signed.ensures.value c.in-Signed.ensures.same).0
+    ((reported c.args.node.now _ c.in-Signed.ensures.value c.in-Signed.ensures.same).0
     (sym (long_here c.args.node.now _ _ _ (
       c.checked-checked.ensures ∙ c.requires,
       c.type_id-ty.ensures.same,
@@ -188,7 +188,7 @@ write_node-write_signed-requires t c =
 pub write_node-write_unsigned-requires-in-Compact :
     goal.write_node-write_unsigned-requires-in-Compact
 write_node-write_unsigned-requires-in-Compact t c =
-    λ e. (told c.args.node.now _ c.in-Compact.ensures.value c.in-Compact.ensures.same).0
+    λ e. (reported c.args.node.now _ c.in-Compact.ensures.value c.in-Compact.ensures.same).0
     (sym (long_compact_here c.args.node.now _ _ _ (
       c.checked-checked.ensures ∙ c.requires,
       c.type_id-ty.ensures.same,
@@ -220,7 +220,7 @@ write_node-unwrap-arm-requires t c = arm_there c.args.node.now _ _ _ c.defined_a
   c.checked-checked.ensures ∙ c.requires,
   c.type_id-ty.ensures.same,
 ) c.defined_arm.ensures.same
-    (told c.args.node.now _ c.in-Arm.ensures.value c.in-Arm.ensures.same)
+    (reported c.args.node.now _ c.in-Arm.ensures.value c.in-Arm.ensures.same)
 
 pub write_node-write_fields-requires-in-Arm : goal.write_node-write_fields-requires-in-Arm
 write_node-write_fields-requires-in-Arm t c =
@@ -247,34 +247,35 @@ write_node-write_fields-requires-in-Arm t c =
 
 pub write_node-returns-in-Empty-clause-adds : goal.write_node-returns-in-Empty-clause-adds
 write_node-returns-in-Empty-clause-adds t c =
-    rw (told c.args.node.now _ c.in-Empty.ensures.value c.in-Empty.ensures.same)
+    rw (reported c.args.node.now _ c.in-Empty.ensures.value c.in-Empty.ensures.same)
     c.null.ensures
 
 pub write_node-returns-in-Bool-clause-adds : goal.write_node-returns-in-Bool-clause-adds
 write_node-returns-in-Bool-clause-adds t c =
-    rw (told c.args.node.now _ c.in-Bool.ensures.value c.in-Bool.ensures.same)
+    rw (reported c.args.node.now _ c.in-Bool.ensures.value c.in-Bool.ensures.same)
     c.boolean.ensures
 
 pub write_node-returns-in-Char-clause-adds : goal.write_node-returns-in-Char-clause-adds
 write_node-returns-in-Char-clause-adds t c =
-    rw (told c.args.node.now _ c.in-Char.ensures.value c.in-Char.ensures.same)
+    rw (reported c.args.node.now _ c.in-Char.ensures.value c.in-Char.ensures.same)
     c.write_char.ensures
 
 pub write_node-returns-in-Text-clause-adds : goal.write_node-returns-in-Text-clause-adds
 write_node-returns-in-Text-clause-adds t c = rw (text_is c.args.node.now c.text.result
     c.unwrap.result c.text.ensures c.unwrap.ensures
-    (told c.args.node.now _ c.in-Text.ensures.value c.in-Text.ensures.same))
+    (reported c.args.node.now _ c.in-Text.ensures.value c.in-Text.ensures.same))
     c.string.ensures
 
 pub write_node-returns-in-Bytes-clause-adds : goal.write_node-returns-in-Bytes-clause-adds
 write_node-returns-in-Bytes-clause-adds t c =
     rw (bytes_are c.args.node.now c.bytes.result c.unwrap-in-Bytes.result c.bytes.ensures
     c.unwrap-in-Bytes.ensures
-    (told c.args.node.now _ c.in-Bytes.ensures.value c.in-Bytes.ensures.same)) c.write_bytes.ensures
+    (reported c.args.node.now _ c.in-Bytes.ensures.value c.in-Bytes.ensures.same))
+    c.write_bytes.ensures
 
 pub write_node-returns-in-Unsigned-clause-adds : goal.write_node-returns-in-Unsigned-clause-adds
 write_node-returns-in-Unsigned-clause-adds t c = rw (
-  (told c.args.node.now _ c.in-Unsigned.ensures.value c.in-Unsigned.ensures.same).1,
+  (reported c.args.node.now _ c.in-Unsigned.ensures.value c.in-Unsigned.ensures.same).1,
   ←
       long_here c.args.node.now _ _ _ (
         c.checked-checked.ensures ∙ c.requires,
@@ -284,7 +285,7 @@ write_node-returns-in-Unsigned-clause-adds t c = rw (
 
 pub write_node-returns-in-Signed-clause-adds : goal.write_node-returns-in-Signed-clause-adds
 write_node-returns-in-Signed-clause-adds t c = rw (
-  (told c.args.node.now _ c.in-Signed.ensures.value c.in-Signed.ensures.same).1,
+  (reported c.args.node.now _ c.in-Signed.ensures.value c.in-Signed.ensures.same).1,
   ←
       long_here c.args.node.now _ _ _ (
         c.checked-checked.ensures ∙ c.requires,
@@ -294,12 +295,12 @@ write_node-returns-in-Signed-clause-adds t c = rw (
 
 pub write_node-returns-in-Wide-clause-adds : goal.write_node-returns-in-Wide-clause-adds
 write_node-returns-in-Wide-clause-adds t c =
-    rw (told c.args.node.now _ c.in-Wide.ensures.value c.in-Wide.ensures.same)
+    rw (reported c.args.node.now _ c.in-Wide.ensures.value c.in-Wide.ensures.same)
     c.write_wide.ensures
 
 pub write_node-returns-in-Compact-clause-adds : goal.write_node-returns-in-Compact-clause-adds
 write_node-returns-in-Compact-clause-adds t c = rw (
-  (told c.args.node.now _ c.in-Compact.ensures.value c.in-Compact.ensures.same).1,
+  (reported c.args.node.now _ c.in-Compact.ensures.value c.in-Compact.ensures.same).1,
   ←
       long_compact_here c.args.node.now _ _ _ (
         c.checked-checked.ensures ∙ c.requires,
@@ -314,7 +315,7 @@ write_node-returns-in-Some-clause-adds t c =
     (c.checked-checked.ensures ∙ c.requires, c.type_id-ty.ensures.same)
     c.composite_fields.ensures.same c.in-Some.is in
     rw (fields_are s c.in-Some.fields.now at
-    (told s _ c.in-Fields.ensures.value c.in-Fields.ensures.same)) c.write_fields.ensures.adds
+    (reported s _ c.in-Fields.ensures.value c.in-Fields.ensures.same)) c.write_fields.ensures.adds
 
 pub write_node-returns-in-None-clause-adds : goal.write_node-returns-in-None-clause-adds
 write_node-returns-in-None-clause-adds t c =
@@ -323,7 +324,7 @@ write_node-returns-in-None-clause-adds t c =
     (c.checked-checked.ensures ∙ c.requires, c.type_id-ty.ensures.same)
     c.composite_fields.ensures.same c.in-None.is in
     rw (
-      told s _ c.in-Fields.ensures.value c.in-Fields.ensures.same,
+      reported s _ c.in-Fields.ensures.value c.in-Fields.ensures.same,
       no_fields_json (shape s.types s.ty) (jsons (children_of s)) at,
     ) c.write_items.ensures.adds
 
@@ -339,7 +340,7 @@ write_node-returns-in_ok-write_fields-in-Arm-clause-adds t c =
     c.defined_arm.ensures.same c.unwrap-arm.ensures in
     let shows : json_seen s ≡ object (member n d no_members) =
     arm_is s c.in-Arm.position c.unwrap-arm.result.now at
-    (told s _ c.in-Arm.ensures.value c.in-Arm.ensures.same)
+    (reported s _ c.in-Arm.ensures.value c.in-Arm.ensures.same)
     ∙ ap₂ (λ m gs. object (member m (fields_json gs (jsons (children_of s))) no_members))
     (sym c.as_str.ensures.same) (sym c.as_slice.ensures) in
     let ts = json_tokens (outline d) in
@@ -352,12 +353,12 @@ write_node-returns-in_ok-write_fields-in-Arm-clause-adds t c =
 
 pub write_node-returns-in-List-clause-adds : goal.write_node-returns-in-List-clause-adds
 write_node-returns-in-List-clause-adds t c =
-    rw (told c.args.node.now _ c.in-List.ensures.value c.in-List.ensures.same)
+    rw (reported c.args.node.now _ c.in-List.ensures.value c.in-List.ensures.same)
     c.write_items-in-List.ensures.adds
 
 pub write_node-returns-in-Count-clause-adds : goal.write_node-returns-in-Count-clause-adds
 write_node-returns-in-Count-clause-adds t c =
-    rw (told c.args.node.now _ c.in-Count.ensures.value c.in-Count.ensures.same)
+    rw (reported c.args.node.now _ c.in-Count.ensures.value c.in-Count.ensures.same)
     c.write_count.ensures
 
 pub write_in_order-members-preserved : goal.write_in_order-members-preserved
@@ -377,11 +378,11 @@ write_in_order-members-preserved t c =
       named = search rules;
       plain = plain_rest c.args.plain c.in-Some.field.now fs
           (subst (λ gs. OnTrue c.args.plain (AllPlain gs)) field c.members.invariant.plain);
-      told = in_order_turn c.members.out c.write_node.new.out c.in-Some.field.now fs
+      reported = in_order_turn c.members.out c.write_node.new.out c.in-Some.field.now fs
           (json_seen c.in-Some.child) (map json_seen ss) n c.name_of.ensures said
           ∙ ap₂ (λ gs us. prints c.members.out
           (members_tokens (members_outline (members_in_order gs (map json_seen us)))))
-          (sym field) (sym child) ∙ c.members.invariant.told;
+          (sym field) (sym child) ∙ c.members.invariant.reported;
       below = search rules;
       grows = grows_again c.args.orders.now c.members.orders c.write_node.new.orders
           c.members.invariant.grows c.write_node.ensures.grows;
@@ -393,11 +394,11 @@ write_items-children-preserved t c =
     record {
       can = search rules;
       ends = search rules;
-      told = item_turn c.children.out c.write_node.new.out (json_seen c.in-Some.child)
+      reported = item_turn c.children.out c.write_node.new.out (json_seen c.in-Some.child)
           (items_of (map json_seen c.next.new.self)) c.in_ok-write_node.ensures.adds
           ∙ ap (λ ss. prints c.children.out
           (items_tokens (items_outline (items_of (map json_seen ss)))))
-          (sym child) ∙ c.children.invariant.told;
+          (sym child) ∙ c.children.invariant.reported;
       below = search rules;
       grows = grows_again c.args.orders.now c.children.orders c.write_node.new.orders
           c.children.invariant.grows c.write_node.ensures.grows;
@@ -410,7 +411,7 @@ write_items-returns-clause-adds t c =
     c.children.out c.end_array.new.self (items_of (map json_seen (children_of c.args.node.now)))
     c.in_ok-begin_array.ensures (ap (λ ss. prints c.children.out
     (items_tokens (items_outline (items_of (map json_seen ss))))) (sym none)
-    ∙ c.children.invariant.told) e) c.end_array.ensures
+    ∙ c.children.invariant.reported) e) c.end_array.ensures
 
 pub write_in_order-key-requires : goal.write_in_order-key-requires
 write_in_order-key-requires t c =

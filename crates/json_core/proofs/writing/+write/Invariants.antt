@@ -31,12 +31,12 @@ decreases-write_in_order l = 3 * nodes l.node.now.tree
 abbrev pub decreases-write_sorted : goal.decreases-write_sorted
 decreases-write_sorted l = 3 * nodes l.node.now.tree
 
--- what is left to write, behind what is written
+-- what is left to write, after what is written
 abbrev pub invariant-write_items-children : goal.invariant-write_items-children
 invariant-write_items-children l = record {
   can : (goal.iterator-write_items-children).can_next l.child-iterator;
   ends : (goal.iterator-write_items-children).is_finite l.child-iterator;
-  told : prints l.out (items_tokens (items_outline (items_of (map json_seen l.child-iterator))))
+  reported : prints l.out (items_tokens (items_outline (items_of (map json_seen l.child-iterator))))
       ≡ prints l.initial.out
       (items_tokens (items_outline (items_of (map json_seen (children_of l.node)))));
   below : AreBelow l.orders.types (nodes l.node.tree) l.child-iterator;
@@ -49,7 +49,7 @@ invariant-write_in_order-members l = record {
   ends : (goal.iterator-write_in_order-members).is_finite l.field-iterator;
   named : AreNamed (iter_rest l.field-iterator.a);
   plain : OnTrue l.plain (AllPlain (iter_rest l.field-iterator.a));
-  told : prints l.out (members_tokens (members_outline
+  reported : prints l.out (members_tokens (members_outline
       (members_in_order (iter_rest l.field-iterator.a) (map json_seen l.field-iterator.b))))
       ≡ prints l.initial.out (members_tokens (members_outline
       (members_in_order l.fields (map json_seen (children_of l.node)))));
@@ -63,7 +63,7 @@ invariant-write_sorted-members l =
     let order = slice_range l.fn.orders.positions l.start (l.start + length l.fields) in
     record {
       named : AllByRecursion (IsNamedAt l.fields) (drop l.turn order);
-      told : prints l.out (members_tokens (members_outline
+      reported : prints l.out (members_tokens (members_outline
           (members_at l.fields (map json_seen (children_of l.node)) (drop l.turn order))))
           ≡ prints l.initial.out (members_tokens (members_outline
           (members_at l.fields (map json_seen (children_of l.node)) order)));

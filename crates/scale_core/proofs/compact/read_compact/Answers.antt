@@ -12,7 +12,7 @@ use Rattle.scale_core.proofs.ReadForms.{compact_at-cut, compact_at-judged, compa
 use Rattle.scale_core.proofs.ReadForms.{front_is, are_bytes}
 use Rattle.scale_core.proofs.compact.read_compact.Goals as goal
 
--- a target that the test tells from the one without bytes is another
+-- a target that the test reports from the one without bytes is another
 is_other : (m : Target) → false ≡ sameb the_type m TUnit → m ≢ TUnit
 is_other m e k = let h = rw k at e in absurd cc
 

@@ -31,7 +31,7 @@ returns-clause-taken c =
     (λ e h taken. h (ap (λ a. takes a (map (λ s. s.now) c.args.words.now)) c.in_ok-line.ensures
     ∙ taken)) c.try_get_matches_from.ensures.passes
 
--- no argument of the command line has a rule on another, so clap tells the faults of its words
+-- no argument of the command line has a rule on another, so clap reports the faults of its words
 free : is_simple_and_free line ≡ true
 unfolding clap_on_literals
 free = refl

@@ -8,8 +8,8 @@ returns-in-Line-clause-front g c =
       rw (c.in-Line.is, sym c.as_bytes.ensures.value) c.in-Err.ensures.err,
     )
 
-pub returns-in-Usage-clause-told : goal.returns-in-Usage-clause-told
-returns-in-Usage-clause-told g c = λ other. rw c.in-Usage.is c.report-in-Usage.ensures
+pub returns-in-Usage-clause-reported : goal.returns-in-Usage-clause-reported
+returns-in-Usage-clause-reported g c = λ other. rw c.in-Usage.is c.report-in-Usage.ensures
 
-pub returns-clause-told : goal.returns-clause-told
-returns-clause-told g c = λ other. rw c.in-Memory.is c.report-in-Memory.ensures
+pub returns-clause-reported : goal.returns-clause-reported
+returns-clause-reported g c = λ other. rw c.in-Memory.is c.report-in-Memory.ensures

@@ -1,6 +1,7 @@
 use Rattle.std.proofs.Common.{arith}
-use Rattle.scale_tool.proofs.HexPlaces.{behind_prefix, hex_is, place_within, told_bad, told_length}
-use Rattle.scale_tool.proofs.HexPlaces.{told_odd}
+use Rattle.scale_tool.proofs.HexPlaces.{after_prefix, hex_is, place_within, reported_bad}
+use Rattle.scale_tool.proofs.HexPlaces.{reported_length}
+use Rattle.scale_tool.proofs.HexPlaces.{reported_odd}
 use Rattle.scale_tool.proofs.hex_text.hex_bytes.Goals as goal
 
 pub overflow_add-result : goal.overflow_add-result
@@ -10,8 +11,8 @@ overflow_add-result c =
     omega (
       arith,
       c.type_inv.text,
-      place_within text _ start _ _ _ c.prefix_len-start.ensures.bound (behind_prefix text start)
-          (told_bad _ c.in-Err-InvalidHexCharacter.field-0 _ _
+      place_within text _ start _ _ _ c.prefix_len-start.ensures.bound (after_prefix text start)
+          (reported_bad _ c.in-Err-InvalidHexCharacter.field-0 _ _
           c.in-Err-InvalidHexCharacter.field-0-is
           c.in-Err-InvalidHexCharacter.ensures.err),
     )
@@ -20,7 +21,7 @@ pub returns-in-Ok-clause-ok : goal.returns-in-Ok-clause-ok
 returns-in-Ok-clause-ok c =
     let text = c.args.text.now in
     let start = c.prefix_len-start.result in
-    hex_is text _ start _ _ c.prefix_len-start.ensures.value (behind_prefix text start)
+    hex_is text _ start _ _ c.prefix_len-start.ensures.value (after_prefix text start)
     c.digits_end-end.ensures.value c.in-Ok.ensures.ok
 
 pub returns-in-Err-InvalidHexCharacter-clause-err :
@@ -28,18 +29,18 @@ pub returns-in-Err-InvalidHexCharacter-clause-err :
 returns-in-Err-InvalidHexCharacter-clause-err c =
     let text = c.args.text.now in
     let start = c.prefix_len-start.result in
-    hex_is text _ start _ _ c.prefix_len-start.ensures.value (behind_prefix text start)
+    hex_is text _ start _ _ c.prefix_len-start.ensures.value (after_prefix text start)
     c.digits_end-end.ensures.value
-    (told_bad _ c.in-Err-InvalidHexCharacter.field-0 _ _ c.in-Err-InvalidHexCharacter.field-0-is
+    (reported_bad _ c.in-Err-InvalidHexCharacter.field-0 _ _ c.in-Err-InvalidHexCharacter.field-0-is
     c.in-Err-InvalidHexCharacter.ensures.err)
 
 pub returns-in-Err-OddLength-clause-err : goal.returns-in-Err-OddLength-clause-err
 returns-in-Err-OddLength-clause-err c =
     let text = c.args.text.now in
     let start = c.prefix_len-start.result in
-    hex_is text _ start _ _ c.prefix_len-start.ensures.value (behind_prefix text start)
+    hex_is text _ start _ _ c.prefix_len-start.ensures.value (after_prefix text start)
     c.digits_end-end.ensures.value
-    (told_odd _ c.in-Err-OddLength.field-0 c.in-Err-OddLength.field-0-is
+    (reported_odd _ c.in-Err-OddLength.field-0 c.in-Err-OddLength.field-0-is
     c.in-Err-OddLength.ensures.err)
 
 pub returns-in-Err-InvalidStringLength-clause-err :
@@ -47,7 +48,7 @@ pub returns-in-Err-InvalidStringLength-clause-err :
 returns-in-Err-InvalidStringLength-clause-err c =
     let text = c.args.text.now in
     let start = c.prefix_len-start.result in
-    hex_is text _ start _ _ c.prefix_len-start.ensures.value (behind_prefix text start)
+    hex_is text _ start _ _ c.prefix_len-start.ensures.value (after_prefix text start)
     c.digits_end-end.ensures.value
-    (told_length _ c.in-Err-InvalidStringLength.field-0 c.in-Err-InvalidStringLength.field-0-is
+    (reported_length _ c.in-Err-InvalidStringLength.field-0 c.in-Err-InvalidStringLength.field-0-is
     c.in-Err-InvalidStringLength.ensures.err)

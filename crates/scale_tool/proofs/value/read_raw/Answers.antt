@@ -1,7 +1,7 @@
 use Rattle.std.proofs.Common.{◌≡◌, Err, None, ap, false}
 use Rattle.scale_tool.specs.Refused.{status_of_value}
-use Rattle.scale_tool.specs.Values.{TellsFile, decoding, value_of_type}
-use Rattle.scale_tool.proofs.Decoded.{stream_fault, stream_opens, stream_tells, stream_value}
+use Rattle.scale_tool.specs.Values.{ReportsFile, decoding, value_of_type}
+use Rattle.scale_tool.proofs.Decoded.{stream_fault, stream_opens, stream_reports, stream_value}
 use Rattle.scale_tool.proofs.Decoded.{where_known}
 use Rattle.scale_tool.proofs.value.read_raw.Goals as goal
 
@@ -18,12 +18,13 @@ returns-in-Err-clause-value g c =
     c.in-Err.fault c.limits.ensures c.requires.known c.requires.depth h
     (rw c.of_stream.ensures at one)) c.in-Err.ensures.answers
 
-pub returns-in-Err-clause-tells : goal.returns-in-Err-clause-tells
-returns-in-Err-clause-tells g c =
-    where_known _ _ (λ b. TellsFile false (decoding c.args.id c.args.depth c.args.checked.now.types)
+pub returns-in-Err-clause-reports : goal.returns-in-Err-clause-reports
+returns-in-Err-clause-reports g c =
+    where_known _ _ (λ b.
+    ReportsFile false (decoding c.args.id c.args.depth c.args.checked.now.types)
     b c.of_stream.result)
     (λ b h. rw c.of_stream.ensures
-    (stream_tells c.args.id c.args.depth c.args.checked.now.types c.limits.result b
+    (stream_reports c.args.id c.args.depth c.args.checked.now.types c.limits.result b
     c.in-Err.fault c.limits.ensures c.requires.known c.requires.depth h))
     c.in-Err.ensures.answers
 

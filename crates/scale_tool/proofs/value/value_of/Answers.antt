@@ -1,4 +1,4 @@
-use Rattle.scale_tool.proofs.Decoded.{called_fault, called_opens, called_tells, called_value}
+use Rattle.scale_tool.proofs.Decoded.{called_fault, called_opens, called_reports, called_value}
 use Rattle.scale_tool.proofs.value.value_of.Goals as goal
 
 pub of_calls-requires : goal.of_calls-requires
@@ -16,7 +16,7 @@ returns-in-Err-clause-value c = λ one.
     called_fault c.args.id c.args.depth c.args.checked.now.types c.limits.result c.args.bytes.now
     c.in-Err.refusal c.limits.ensures c.in-Err.ensures (rw c.of_calls.ensures at one)
 
-pub returns-in-Err-clause-tells : goal.returns-in-Err-clause-tells
-returns-in-Err-clause-tells c =
-    rw c.of_calls.ensures (called_tells c.args.id c.args.depth c.args.checked.now.types
+pub returns-in-Err-clause-reports : goal.returns-in-Err-clause-reports
+returns-in-Err-clause-reports c =
+    rw c.of_calls.ensures (called_reports c.args.id c.args.depth c.args.checked.now.types
     c.limits.result c.args.bytes.now c.in-Err.refusal c.limits.ensures c.in-Err.ensures)

@@ -6,7 +6,8 @@ use Rattle.widths_core.specs.Steps.{AreDrafts}
 use Rattle.widths_core.specs.Progress.{progress_of}
 use Rattle.widths_core.specs.Propagation.{IsStart, IsBad, PropagatesAll, AreCompactsSettled}
 use Rattle.widths_core.proofs.PartsOf.{all_references}
-use Rattle.widths_core.proofs.Complete.{start, bad, classes_told, types_linked_checked, listed_once}
+use Rattle.widths_core.proofs.Complete.{start, bad, classes_reported, types_linked_checked}
+use Rattle.widths_core.proofs.Complete.{listed_once}
 use Rattle.widths_core.proofs.analysis.settled_types.Goals as goal
 
 pub begin-requires : goal.begin-requires
@@ -94,7 +95,7 @@ returns-clause-settled c =
     let settled : AreCompactsSettled r (progress_of c.settle_bad_compacts.new.self) =
     subst (λ (q : List TypeInfo). AreCompactsSettled q
     (progress_of c.settle_bad_compacts.new.self)) same compacts in
-    let tables = classes_told r c.begin.new.graph c.settle_bad_compacts.new.graph
+    let tables = classes_reported r c.begin.new.graph c.settle_bad_compacts.new.graph
     (progress_of c.begin.new.self) (progress_of c.settle_bad_compacts.new.self)
     c.in_ok-settle_bad_compacts.field-0 all settled in
     record {

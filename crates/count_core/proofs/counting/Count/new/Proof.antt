@@ -24,7 +24,7 @@ use denote.Triple.Table.{entered}
 use denote.Triple.Walked.{Stays, walk_of, ends_at, walk_Meets}
 use contract.CodeStep
 use Rattle.count_core.specs.contracts.counting.Count as count
-use Rattle.count_core.proofs.Tokens.{token, Mark, made, tells_last}
+use Rattle.count_core.proofs.Tokens.{token, Mark, made, reports_last}
 use Rattle.count_core.specs.contracts.counting.Count.new.{ended, clauses}
 use Rattle.count_core.specs.contracts.counting.Count.new.Key.{name as #self}
 use Rattle.count_core.proofs.counting.Count.new.Statement as stated
@@ -77,7 +77,7 @@ module _ {M : Type 1} {𝓤 : Ura M} (𝓛 : Logic 𝓤) (𝓜 : Model 𝓤 𝓛
         tt tt) $
         use0 𝓛 (‵ ((Mark (count.the_type).name [] unit).own_val (tt, tt) (token ∷ [])))
         (made (count.the_type).name [] unit 𝓛) $ nothing ! $ move ! (1 ∷ 0 ∷ []) $ fjoin ! $
-        nothing ! $ join ! $ nothing ! $ join ! $ frame ! $ tells_last ! refl)
+        nothing ! $ join ! $ nothing ! $ join ! $ frame ! $ reports_last ! refl)
 
   meets : Meets 𝓛 ended.signature (WpFn 𝓤 H 𝓣.C 𝓣.Λ function) (closing 𝓛 ended held)
   unfolding tables_of contract.CodeStep.c_Tables

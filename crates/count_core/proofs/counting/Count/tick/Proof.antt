@@ -28,7 +28,7 @@ use denote.Triple.Table.{entered}
 use denote.Triple.Walked.{Stays, stay_ref, walk_of, ends_at, Goes-ref, walk_Meets}
 use contract.CodeStep
 use Rattle.count_core.specs.contracts.counting.Count as count
-use Rattle.count_core.proofs.Tokens.{tells_last}
+use Rattle.count_core.proofs.Tokens.{reports_last}
 use Rattle.count_core.specs.contracts.counting.Count.tick.{ended, clauses}
 use Rattle.count_core.specs.contracts.counting.Count.tick.Key.{name as #self}
 use Rattle.count_core.proofs.counting.Count.tick.Statement as stated
@@ -92,7 +92,7 @@ module _ {M : Type 1} {𝓤 : Ura M} (𝓛 : Logic 𝓤) (𝓜 : Model 𝓤 𝓛
         feq_i ! (List Val) (u ∷ []) (u ∷ []) refl $ fjoin3 ! $ nothing ! $ move ! (1 ∷ 0 ∷ []) $
         fjoin ! $ feq_i ! (List Val) (vunit ∷ []) (vunit ∷ []) refl $ move ! (1 ∷ 0 ∷ []) $ join
         ! $
-        move ! (1 ∷ 2 ∷ []) $ join ! $ join ! $ frame ! $ tells_last ! refl))
+        move ! (1 ∷ 2 ∷ []) $ join ! $ join ! $ frame ! $ reports_last ! refl))
 
   meets : Meets 𝓛 ended.signature (WpFn 𝓤 H 𝓣.C 𝓣.Λ function) (closing 𝓛 ended held)
   unfolding tables_of contract.CodeStep.c_Tables

@@ -27,13 +27,13 @@ invariant_of-self-in-Done g c =
     let counted = subst (λ (r : Result Running DecodeFault). RunCounted j d.taken r
     (d.turns.so_far + closing_turns r d.closings.so_far) d.calls.so_far) c.in-Ok.is
     c.self.invariant.counted in
-    let told = c.in-Done.ensures.answers j c.self.invariant.bytes refl before in
+    let reported = c.in-Done.ensures.answers j c.self.invariant.bytes refl before in
     let counts = c.in-Done.ensures.counts j c.self.invariant.bytes d.calls.so_far refl before
     (omega (arith, counted.0), omega (arith, counted.1)) in
     record {
       limit = c.self.invariant.limit;
       bytes = c.self.invariant.bytes ++ c.args.piece.now;
-      led = inr told;
+      led = inr reported;
       counted =
           (omega (arith, counts.0, c.tick.ensures), omega (arith, counts.1, c.tick.ensures));
     }
@@ -57,8 +57,9 @@ returns-in-More-clause-held g c = λ b led.
     let j = job_within d in
     let before : RunLed j b d.taken d.run =
     subst (λ (x : Decoding). Led x b) (sym c.self.view_is) led in
-    let told = c.in-More.ensures.answers j b refl (subst (RunLed j b d.taken) c.in-Ok.is before) in
-    (c.feed_run-fed.new.run, refl, told.2)
+    let reported = c.in-More.ensures.answers j b refl
+    (subst (RunLed j b d.taken) c.in-Ok.is before) in
+    (c.feed_run-fed.new.run, refl, reported.2)
 
 pub returns-in-More-clause-small : goal.returns-in-More-clause-small
 returns-in-More-clause-small g c =
@@ -68,13 +69,13 @@ returns-in-More-clause-small g c =
     let counted = subst (λ (r : Result Running DecodeFault). RunCounted j d.taken r
     (d.turns.so_far + closing_turns r d.closings.so_far) d.calls.so_far) c.in-Ok.is
     c.self.invariant.counted in
-    let told = c.in-More.ensures.answers j c.self.invariant.bytes refl before in
+    let reported = c.in-More.ensures.answers j c.self.invariant.bytes refl before in
     let counts = c.in-More.ensures.counts j c.self.invariant.bytes d.calls.so_far refl before
     (omega (arith, counted.0), omega (arith, counted.1)) in
     led_small j (c.self.invariant.bytes ++ c.args.piece.now) c.in-More.taken
     (Ok c.feed_run-fed.new.run)
     (c.feed_run-fed.new.turns.so_far + c.feed_run-fed.new.run.built.turns)
-    c.tick.new.self.so_far (inl told.0)
+    c.tick.new.self.so_far (inl reported.0)
     (omega (arith, counts.0, c.tick.ensures), omega (arith, counts.1, c.tick.ensures))
 
 pub returns-in-More-clause-answers : goal.returns-in-More-clause-answers
@@ -83,8 +84,9 @@ returns-in-More-clause-answers g c = λ b led.
     let j = job_within d in
     let before : RunLed j b d.taken d.run =
     subst (λ (x : Decoding). Led x b) (sym c.self.view_is) led in
-    let told = c.in-More.ensures.answers j b refl (subst (RunLed j b d.taken) c.in-Ok.is before) in
-    (told.1, inl told.0)
+    let reported = c.in-More.ensures.answers j b refl
+    (subst (RunLed j b d.taken) c.in-Ok.is before) in
+    (reported.1, inl reported.0)
 
 pub returns-in-Done-clause-small : goal.returns-in-Done-clause-small
 returns-in-Done-clause-small g c =
@@ -94,23 +96,23 @@ returns-in-Done-clause-small g c =
     let counted = subst (λ (r : Result Running DecodeFault). RunCounted j d.taken r
     (d.turns.so_far + closing_turns r d.closings.so_far) d.calls.so_far) c.in-Ok.is
     c.self.invariant.counted in
-    let told = c.in-Done.ensures.answers j c.self.invariant.bytes refl before in
+    let reported = c.in-Done.ensures.answers j c.self.invariant.bytes refl before in
     let counts = c.in-Done.ensures.counts j c.self.invariant.bytes d.calls.so_far refl before
     (omega (arith, counted.0), omega (arith, counted.1)) in
     led_small j (c.self.invariant.bytes ++ c.args.piece.now) (d.taken + c.in-Done.used)
     (Ok c.feed_run-fed.new.run)
     (c.feed_run-fed.new.turns.so_far + c.feed_run-fed.new.run.built.turns)
-    c.tick.new.self.so_far (inr told)
+    c.tick.new.self.so_far (inr reported)
     (omega (arith, counts.0, c.tick.ensures), omega (arith, counts.1, c.tick.ensures))
 
 pub returns-in-Done-clause-small_at_end : goal.returns-in-Done-clause-small_at_end
 returns-in-Done-clause-small_at_end g c =
     let d = c.self.inside in
     let j = job_within d in
-    let told = c.in-Done.ensures.answers j c.self.invariant.bytes refl
+    let reported = c.in-Done.ensures.answers j c.self.invariant.bytes refl
     (subst (RunLed j c.self.invariant.bytes d.taken) c.in-Ok.is c.self.invariant.led) in
     (done_small j (c.self.invariant.bytes ++ c.args.piece.now) (d.taken + c.in-Done.used)
-    c.feed_run-fed.new.run told).0
+    c.feed_run-fed.new.run reported).0
 
 pub returns-in-Done-clause-answers : goal.returns-in-Done-clause-answers
 returns-in-Done-clause-answers g c = λ b led.
@@ -118,15 +120,15 @@ returns-in-Done-clause-answers g c = λ b led.
     let j = job_within d in
     let before : RunLed j b d.taken d.run =
     subst (λ (x : Decoding). Led x b) (sym c.self.view_is) led in
-    let told = c.in-Done.ensures.answers j b refl
+    let reported = c.in-Done.ensures.answers j b refl
     (subst (RunLed j b d.taken) c.in-Ok.is before) in (
       (
         c.feed_run-fed.new.run,
         refl,
-        told.outcome,
+        reported.outcome,
         ap (λ (x : Decoding). x.taken + c.in-Done.used) c.self.view_is,
       ),
-      inr told,
+      inr reported,
     )
 
 pub invariant_of-self-in-More : goal.invariant_of-self-in-More
@@ -137,13 +139,13 @@ invariant_of-self-in-More g c =
     let counted = subst (λ (r : Result Running DecodeFault). RunCounted j d.taken r
     (d.turns.so_far + closing_turns r d.closings.so_far) d.calls.so_far) c.in-Ok.is
     c.self.invariant.counted in
-    let told = c.in-More.ensures.answers j c.self.invariant.bytes refl before in
+    let reported = c.in-More.ensures.answers j c.self.invariant.bytes refl before in
     let counts = c.in-More.ensures.counts j c.self.invariant.bytes d.calls.so_far refl before
     (omega (arith, counted.0), omega (arith, counted.1)) in
     record {
       limit = c.self.invariant.limit;
       bytes = c.self.invariant.bytes ++ c.args.piece.now;
-      led = inl told.0;
+      led = inl reported.0;
       counted =
           (omega (arith, counts.0, c.tick.ensures), omega (arith, counts.1, c.tick.ensures));
     }
@@ -156,7 +158,7 @@ invariant_of-self-in-Ended g c =
     let counted = subst (λ (r : Result Running DecodeFault). RunCounted j d.taken r
     (d.turns.so_far + closing_turns r d.closings.so_far) d.calls.so_far) c.in-Ok.is
     c.self.invariant.counted in
-    let told = c.in-Ended.ensures.answers j c.self.invariant.bytes refl before in
+    let reported = c.in-Ended.ensures.answers j c.self.invariant.bytes refl before in
     let counts = c.in-Ended.ensures.counts j c.self.invariant.bytes d.calls.so_far refl before
     (omega (arith, counted.0), omega (arith, counted.1)) in
     let gone : c.into_turns.result.so_far ≡ c.feed_run-fed.new.run.built.turns =
@@ -166,7 +168,7 @@ invariant_of-self-in-Ended g c =
       limit = c.self.invariant.limit;
       bytes = c.self.invariant.bytes ++ c.args.piece.now;
       led = subst (RunLed j (c.self.invariant.bytes ++ c.args.piece.now) c.in-Ended.taken)
-          (sym c.replace.ensures.after) told;
+          (sym c.replace.ensures.after) reported;
       counted = subst (λ (r : Result Running DecodeFault). RunCounted j c.in-Ended.taken r
           (c.feed_run-fed.new.turns.so_far + closing_turns r c.into_turns.result.so_far)
           c.tick.new.self.so_far) (sym c.replace.ensures.after)
@@ -181,7 +183,7 @@ returns-in-Ended-clause-small g c =
     let counted = subst (λ (r : Result Running DecodeFault). RunCounted j d.taken r
     (d.turns.so_far + closing_turns r d.closings.so_far) d.calls.so_far) c.in-Ok.is
     c.self.invariant.counted in
-    let told = c.in-Ended.ensures.answers j c.self.invariant.bytes refl before in
+    let reported = c.in-Ended.ensures.answers j c.self.invariant.bytes refl before in
     let counts = c.in-Ended.ensures.counts j c.self.invariant.bytes d.calls.so_far refl before
     (omega (arith, counted.0), omega (arith, counted.1)) in
     let gone : c.into_turns.result.so_far ≡ c.feed_run-fed.new.run.built.turns =
@@ -199,7 +201,7 @@ returns-in-Ended-clause-small g c =
     })) (sym c.replace.ensures.after)
     (led_small j (c.self.invariant.bytes ++ c.args.piece.now) c.in-Ended.taken
     (Err c.in-Ended.fault) (c.feed_run-fed.new.turns.so_far + c.into_turns.result.so_far)
-    c.tick.new.self.so_far told (omega (arith, counts, gone, c.tick.ensures)))
+    c.tick.new.self.so_far reported (omega (arith, counts, gone, c.tick.ensures)))
 
 pub returns-in-More-clause-counted : goal.returns-in-More-clause-counted
 returns-in-More-clause-counted g c =
@@ -229,8 +231,8 @@ pub returns-in-Done-clause-value_counts : goal.returns-in-Done-clause-value_coun
 returns-in-Done-clause-value_counts g c =
     let d = c.self.inside in
     let j = job_within d in
-    let told = c.in-Done.ensures.answers j c.self.invariant.bytes refl
+    let reported = c.in-Done.ensures.answers j c.self.invariant.bytes refl
     (subst (RunLed j c.self.invariant.bytes d.taken) c.in-Ok.is c.self.invariant.led) in
     let counts = done_counts j (c.self.invariant.bytes ++ c.args.piece.now)
-    (d.taken + c.in-Done.used) c.feed_run-fed.new.run told in
+    (d.taken + c.in-Done.used) c.feed_run-fed.new.run reported in
     (c.feed_run-fed.new.run, refl, counts.0, counts.1)

@@ -4,9 +4,9 @@ use Rattle.grammar_core.specs.declared.form.Next.TheVariants as next
 use Rattle.decode_core.specs.NodeAdds.{AddsBare}
 use Rattle.decode_core.specs.NodeForms.{form_of_bare}
 use Rattle.decode_core.specs.Running.{Running}
-use Rattle.decode_core.specs.Turned.{BareTells}
+use Rattle.decode_core.specs.Turned.{BareReports}
 use Rattle.decode_core.proofs.steps.FormSplits.{have_none}
-use Rattle.decode_core.proofs.steps.RunTurns.{bare_running, bare_tells, bare_wants}
+use Rattle.decode_core.proofs.steps.RunTurns.{bare_running, bare_reports, bare_wants}
 use Rattle.decode_core.proofs.run.Run.bare_turn.Goals as goal
 use Rattle.decode_core.proofs.run.Run.bare_turn.Goals.{in-Ok, in-Err}
 
@@ -22,8 +22,8 @@ invariant_of-self g c =
     bare_running b c.add_bare.new.builder c.self.inside.carry c.self.inside.open_run f
     c.add_bare.result c.self.invariant wants (have_none c.args.form) closed c.add_bare.ensures
 
-pub returns-clause-tells : goal.returns-clause-tells
-returns-clause-tells g c =
+pub returns-clause-reports : goal.returns-clause-reports
+returns-clause-reports g c =
     let b = c.self.inside.builder in
     let f = form_of_bare c.args.form in
     let none = have_none c.args.form in
@@ -32,11 +32,11 @@ returns-clause-tells g c =
     c.requires.next in
     let closed : b.run ≡ None =
     subst (λ (s : Running). s.built.run ≡ None) (sym c.self.view_is) c.requires.closed in
-    subst (λ (s : Running). BareTells s
+    subst (λ (s : Running). BareReports s
     (record { built = c.add_bare.new.builder; carry = c.self.inside.carry })
     c.match-add_bare.result) c.self.view_is (elim c.match-add_bare.branch [
       | in-Ok w ↦ rw w.result-is
-          (bare_tells b c.add_bare.new.builder c.self.inside.carry c.self.inside.open_run f
+          (bare_reports b c.add_bare.new.builder c.self.inside.carry c.self.inside.open_run f
           c.self.invariant wants none closed
           (subst (AddsBare b c.add_bare.new.builder) w.in-Ok.is c.add_bare.ensures))
       | in-Err w ↦ rw w.result-is

@@ -2,11 +2,11 @@ use Rattle.std.proofs.Common.{ℕ, List, ◌≡◌, ◌<◌, ◌≤◌, ◌+◌,
 use Rattle.value_core.specs.Walked.{next_of}
 use Rattle.decode_core.specs.Needs.{IsNeeded}
 use Rattle.decode_core.specs.NodeForms.{form_of_bytes}
-use Rattle.decode_core.specs.Turned.{StepTells}
+use Rattle.decode_core.specs.Turned.{StepReports}
 use Rattle.std.proofs.Common.{sym, ap, ◌∙◌, subst}
 use Rattle.grammar_core.specs.declared.form.Next.TheVariants as next
 use Rattle.decode_core.specs.Running.{Running, IsRunning}
-use Rattle.decode_core.proofs.steps.RunTurns.{of_fields, cut_own, cut_tells, node_running}
+use Rattle.decode_core.proofs.steps.RunTurns.{of_fields, cut_own, cut_reports, node_running}
 use Rattle.decode_core.proofs.steps.FormSplits.{have_bytes}
 use Rattle.decode_core.proofs.run.Run.cut_turn.Goals as goal
 
@@ -63,8 +63,8 @@ invariant_of-self-2 g c =
     c.take_node-taken.new.open_run c.as_slice.result.now c.take_node-taken.result c.self.invariant
     wants closed whole c.take_node-taken.ensures)
 
-pub returns-clause-tells : goal.returns-clause-tells
-returns-clause-tells g c =
+pub returns-clause-reports : goal.returns-clause-reports
+returns-clause-reports g c =
     let b = c.self.inside.builder in
     let wants : next_of b.walk ≡ next.Wants (form_of_bytes c.args.form) =
     subst (λ (s : Running). next_of s.built.walk ≡ next.Wants (form_of_bytes c.args.form))
@@ -86,9 +86,9 @@ returns-clause-tells g c =
     c.as_slice.ensures.bytes ∙ c.fill-count.ensures.held in
     let enough : c.args.len ≤ length k + c.fill-count.result =
     subst (λ (h : ℕ). c.args.len ≤ h + c.fill-count.result) held_is c.if-held-count.false in
-    subst (λ (s : Running). StepTells s (of_fields c.take_node-taken.new.builder c.clear.new.self)
+    subst (λ (s : Running). StepReports s (of_fields c.take_node-taken.new.builder c.clear.new.self)
     c.args.piece.now c.node_turn.result) c.self.view_is
-    (cut_tells (form_of_bytes c.args.form) b c.take_node-taken.new.builder k c.clear.new.self
+    (cut_reports (form_of_bytes c.args.form) b c.take_node-taken.new.builder k c.clear.new.self
     c.args.piece.now
     c.as_slice.result.now c.take_node-taken.new.open_run c.take_node-taken.result c.node_turn.result
     (length c.as_slice-held.result.now) c.fill-count.result c.args.len wants

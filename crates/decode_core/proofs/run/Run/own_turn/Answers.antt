@@ -1,7 +1,7 @@
 use Rattle.std.proofs.Common.{ℕ, List, ◌≡◌, ◌++◌, [], drop}
 use Rattle.decode_core.specs.Needs.{IsFirst}
 use Rattle.decode_core.specs.NodeForms.{form_of_bytes}
-use Rattle.decode_core.specs.Turned.{StepTells}
+use Rattle.decode_core.specs.Turned.{StepReports}
 use Rattle.std.proofs.Common.{refl, sym, subst, ◌∙◌}
 use Rattle.std.proofs.lemmas.List.{take-append-drop}
 use Rattle.decode_core.specs.Running.{Running}
@@ -9,8 +9,8 @@ use Rattle.decode_core.proofs.steps.RunTurns.{none_of, wants_more, whole_own}
 use Rattle.decode_core.proofs.steps.FormSplits.{have_bytes}
 use Rattle.decode_core.proofs.run.Run.own_turn.Goals as goal
 
-pub returns-then-is_empty-clause-tells : goal.returns-then-is_empty-clause-tells
-returns-then-is_empty-clause-tells g c =
+pub returns-then-is_empty-clause-reports : goal.returns-then-is_empty-clause-reports
+returns-then-is_empty-clause-reports g c =
     let more = wants_more c.args.self.now.built c.args.self.now.carry (form_of_bytes c.args.form)
     c.requires.carried
     c.requires.next (have_bytes c.args.form) c.requires.closed in
@@ -28,8 +28,8 @@ whole_turn-requires-clause-whole g c =
     c.first_byte.result none first
     c.need-len.ensures.exact c.need-len.ensures.some c.if-len-piece.true
 
-pub returns-then-len-piece-clause-tells : goal.returns-then-len-piece-clause-tells
-returns-then-len-piece-clause-tells g c =
-    subst (λ (l : List ℕ). StepTells c.args.self.now c.whole_turn.new.self l c.whole_turn.result)
+pub returns-then-len-piece-clause-reports : goal.returns-then-len-piece-clause-reports
+returns-then-len-piece-clause-reports g c =
+    subst (λ (l : List ℕ). StepReports c.args.self.now c.whole_turn.new.self l c.whole_turn.result)
     (take-append-drop c.need-len.result c.args.piece.now)
-    (c.whole_turn.ensures.tells (drop c.need-len.result c.args.piece.now))
+    (c.whole_turn.ensures.reports (drop c.need-len.result c.args.piece.now))

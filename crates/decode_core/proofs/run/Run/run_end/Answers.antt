@@ -3,13 +3,13 @@ use Rattle.std.proofs.Common.{None, Some}
 use Rattle.scale_core.specs.Compact.{compact}
 use Rattle.value_core.specs.Refusals.{bad_text}
 use Rattle.decode_core.specs.Running.{Running}
-use Rattle.decode_core.specs.Turned.{EndTells, EndsTurns, WantsMemory}
+use Rattle.decode_core.specs.Turned.{EndReports, EndsTurns, WantsMemory}
 use Rattle.decode_core.specs.declared.fault.DecodeReason.TheVariants as reason
 use Rattle.decode_core.specs.declared.turned.Stopped.TheVariants as stop
 use Rattle.decode_core.specs.declared.turned.Turned.TheVariants as turned
 use Rattle.decode_core.proofs.steps.RunTurns.{of_fields}
-use Rattle.decode_core.proofs.steps.RunSteps.{at_end, bad_tells, bad_within, end_len, end_wants}
-use Rattle.decode_core.proofs.steps.RunSteps.{end_whole, ended_running, ended_tells, open_of}
+use Rattle.decode_core.proofs.steps.RunSteps.{at_end, bad_reports, bad_within, end_len, end_wants}
+use Rattle.decode_core.proofs.steps.RunSteps.{end_whole, ended_running, ended_reports, open_of}
 use Rattle.decode_core.proofs.run.Run.run_end.Goals as goal
 
 pub overflow_add-result : goal.overflow_add-result
@@ -31,8 +31,8 @@ overflow_add-result g c =
       );
     }
 
-pub returns-in-Some-clause-tells : goal.returns-in-Some-clause-tells
-returns-in-Some-clause-tells g c =
+pub returns-in-Some-clause-reports : goal.returns-in-Some-clause-reports
+returns-in-Some-clause-reports g c =
     let b = c.self.inside.builder in
     let k = c.self.inside.carry in
     let n = open_of b k c.args.run c.args.self.now c.self.view_is c.requires.next c.requires.open in
@@ -48,7 +48,7 @@ returns-in-Some-clause-tells g c =
     (before + c.args.run.len))) c.self.view_is
     (subst (λ (m : ℕ). EndsTurns (of_fields b k) rest
     (stop.Refused (before + m) reason.BadUtf8 (before + valid) (before + m))) len
-    (bad_tells b k end valid before bad count rest))
+    (bad_reports b k end valid before bad count rest))
 
 pub close_run-requires-clause-whole : goal.close_run-requires-clause-whole
 close_run-requires-clause-whole g c =
@@ -67,18 +67,18 @@ invariant_of-self g c =
     let good : bad_text b.run ≡ None = search rules in
     ended_running b c.close_run.new.self k end n.none good c.in-Ok.ensures.ok
 
-pub returns-in-Ok-clause-tells : goal.returns-in-Ok-clause-tells
-returns-in-Ok-clause-tells g c =
+pub returns-in-Ok-clause-reports : goal.returns-in-Ok-clause-reports
+returns-in-Ok-clause-reports g c =
     let b = c.self.inside.builder in
     let k = c.self.inside.carry in
     let n = open_of b k c.args.run c.args.self.now c.self.view_is c.requires.next c.requires.open in
     let end = at_end b k c.args.run n c.requires.whole in
     let good : bad_text b.run ≡ None = search rules in
-    subst (λ (s : Running). EndTells s (of_fields c.close_run.new.self k) (turned.On 0))
-    c.self.view_is (ended_tells b c.close_run.new.self k end n.none good c.in-Ok.ensures.ok)
+    subst (λ (s : Running). EndReports s (of_fields c.close_run.new.self k) (turned.On 0))
+    c.self.view_is (ended_reports b c.close_run.new.self k end n.none good c.in-Ok.ensures.ok)
 
-pub returns-in-Err-clause-tells : goal.returns-in-Err-clause-tells
-returns-in-Err-clause-tells g c =
+pub returns-in-Err-clause-reports : goal.returns-in-Err-clause-reports
+returns-in-Err-clause-reports g c =
     let b = c.self.inside.builder in
     let k = c.self.inside.carry in
     let n = open_of b k c.args.run c.args.self.now c.self.view_is c.requires.next c.requires.open in

@@ -3,8 +3,8 @@ use Rattle.decode_core.proofs.steps.RunTurns.{none_of, some_missing}
 use Rattle.decode_core.proofs.steps.RunSteps.{is_open, run_waits}
 use Rattle.decode_core.proofs.run.Run.run_turn.Goals as goal
 
-pub returns-then-is_empty-clause-tells : goal.returns-then-is_empty-clause-tells
-returns-then-is_empty-clause-tells g c =
+pub returns-then-is_empty-clause-reports : goal.returns-then-is_empty-clause-reports
+returns-then-is_empty-clause-reports g c =
     let b = c.args.self.now.built in
     let k = c.args.self.now.carry in (
       refl,

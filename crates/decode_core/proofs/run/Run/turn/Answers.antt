@@ -11,8 +11,8 @@ use Rattle.decode_core.proofs.steps.Endings.{finished_stops, stop_stops}
 use Rattle.decode_core.proofs.steps.Sound.{sound_of}
 use Rattle.decode_core.proofs.run.Run.turn.Goals as goal
 
-pub returns-in-Finished-clause-tells : goal.returns-in-Finished-clause-tells
-returns-in-Finished-clause-tells g c =
+pub returns-in-Finished-clause-reports : goal.returns-in-Finished-clause-reports
+returns-in-Finished-clause-reports g c =
     let is : next_of c.self.inside.builder.walk ≡ next.Finished =
     sym (ap next_of c.walk.ensures.same) ∙ sym c.in-Finished.ensures in (
       refl,
@@ -21,12 +21,12 @@ returns-in-Finished-clause-tells g c =
           c.args.piece.now c.self.invariant is),
     )
 
-pub returns-in-Stop-clause-tells : goal.returns-in-Stop-clause-tells
-returns-in-Stop-clause-tells g c =
+pub returns-in-Stop-clause-reports : goal.returns-in-Stop-clause-reports
+returns-in-Stop-clause-reports g c =
     let is : next_of c.self.inside.builder.walk ≡ next.Stop c.in-Stop.reason =
     sym (ap next_of c.walk.ensures.same) ∙ sym c.in-Stop.ensures in
-    subst (λ (told_reason : DecodeReason). EndsTurns c.args.self.now c.args.piece.now
-    (stop.Refused 0 told_reason 0 0)) (sym c.into.ensures)
+    subst (λ (reported_reason : DecodeReason). EndsTurns c.args.self.now c.args.piece.now
+    (stop.Refused 0 reported_reason 0 0)) (sym c.into.ensures)
     (subst (λ (s : Running). EndsTurns s c.args.piece.now
     (stop.Refused 0 (reason_of (stop_refusal c.in-Stop.reason)) 0 0)) c.self.view_is
     (stop_stops c.self.inside.builder c.self.inside.carry c.self.inside.open_run c.args.piece.now

@@ -68,62 +68,63 @@ own_at f b = leaf_own (layout_at shallow f b)
 abbrev pub Fault : Type 0
 Fault = (Refusal × List ℕ) × List ℕ
 
--- the bytes told_after what was added, or the fault
+-- the bytes after what was added, or the fault
 abbrev pub Ending : Type 0
 Ending = Result (List ℕ) Fault
 
-pub data Told : Type 0 where
-  told : List Entry → Ending → Told
+pub data Reported : Type 0 where
+  reported : List Entry → Ending → Reported
 
-abbrev pub added : Told → List Entry
-added (told xs end) = xs
+abbrev pub added : Reported → List Entry
+added (reported xs end) = xs
 
-abbrev pub ending : Told → Ending
-ending (told xs end) = end
+abbrev pub ending : Reported → Ending
+ending (reported xs end) = end
 
 -- the same after these
-abbrev pub after : List Entry → Told → Told
-after before (told xs end) = told (before ++ xs) end
+abbrev pub after : List Entry → Reported → Reported
+after before (reported xs end) = reported (before ++ xs) end
 
--- one reading told_after the other
-abbrev pub told_after : List Entry → Ending → (List ℕ → Told) → Told
-told_after xs (Ok rest) f = after xs (f rest)
-told_after xs (Err e) f = told xs (Err e)
+-- one reading after the other
+abbrev pub reported_after : List Entry → Ending → (List ℕ → Reported) → Reported
+reported_after xs (Ok rest) f = after xs (f rest)
+reported_after xs (Err e) f = reported xs (Err e)
 
-abbrev pub then : Told → (List ℕ → Told) → Told
-then (told xs end) f = told_after xs end f
+abbrev pub then : Reported → (List ℕ → Reported) → Reported
+then (reported xs end) f = reported_after xs end f
 
-abbrev pub all_told : (ℕ → List ℕ → Told) → List ℕ → List ℕ → Told
-all_told child [] b = told [] (Ok b)
-all_told child (t ∷ ts) b = then (child t b) (all_told child ts)
+abbrev pub all_reported : (ℕ → List ℕ → Reported) → List ℕ → List ℕ → Reported
+all_reported child [] b = reported [] (Ok b)
+all_reported child (t ∷ ts) b = then (child t b) (all_reported child ts)
 
-abbrev pub times_told : (ℕ → List ℕ → Told) → ℕ → ℕ → List ℕ → Told
-times_told child zero t b = told [] (Ok b)
-times_told child (suc n) t b = then (child t b) (times_told child n t)
+abbrev pub times_reported : (ℕ → List ℕ → Reported) → ℕ → ℕ → List ℕ → Reported
+times_reported child zero t b = reported [] (Ok b)
+times_reported child (suc n) t b = then (child t b) (times_reported child n t)
 
-abbrev pub part_told : (ℕ → List ℕ → Told) → Part → List ℕ → Told
-part_told child (each ts) b = all_told child ts b
-part_told child (times n t) b = times_told child n t b
+abbrev pub part_reported : (ℕ → List ℕ → Reported) → Part → List ℕ → Reported
+part_reported child (each ts) b = all_reported child ts b
+part_reported child (times n t) b = times_reported child n t b
 
-abbrev pub opened_told : (ℕ → List ℕ → Told) → Option Part → List ℕ → Told
-opened_told child None b = told [] (Ok b)
-opened_told child (Some p) b = part_told child p b
+abbrev pub opened_reported : (ℕ → List ℕ → Reported) → Option Part → List ℕ → Reported
+opened_reported child None b = reported [] (Ok b)
+opened_reported child (Some p) b = part_reported child p b
 
-abbrev pub own_told : (ℕ → List ℕ → Told) → ℕ → List ℕ → Own → Told
-own_told child t b (Ok x) = after (entry t x.0.0 ∷ []) (opened_told child x.0.1 x.1)
-own_told child t b (Err e) = told [] (Err (e, b))
+abbrev pub own_reported : (ℕ → List ℕ → Reported) → ℕ → List ℕ → Own → Reported
+own_reported child t b (Ok x) = after (entry t x.0.0 ∷ []) (opened_reported child x.0.1 x.1)
+own_reported child t b (Err e) = reported [] (Err (e, b))
 
 -- a value of type t, with room for so many levels
-unfoldable pub told_at : List TypeInfo → ℕ → ℕ → List ℕ → Told
-told_at r zero t b = told [] (Err ((too_deep, b), b))
-told_at r (suc room) t b = own_told (told_at r room) t b (own_at (met_layout r t) b)
+unfoldable pub reported_at : List TypeInfo → ℕ → ℕ → List ℕ → Reported
+reported_at r zero t b = reported [] (Err ((too_deep, b), b))
+reported_at r (suc room) t b = own_reported (reported_at r room) t b (own_at (met_layout r t) b)
 
 -- all that is still to be read, the innermost part first, which has this room
-unfoldable pub rest_told : List TypeInfo → ℕ → List Part → List ℕ → Told
-rest_told r room [] b = told [] (Ok b)
-rest_told r room (p ∷ ps) b = then (part_told (told_at r room) p b) (rest_told r (suc room) ps)
+unfoldable pub rest_reported : List TypeInfo → ℕ → List Part → List ℕ → Reported
+rest_reported r room [] b = reported [] (Ok b)
+rest_reported r room (p ∷ ps) b =
+    then (part_reported (reported_at r room) p b) (rest_reported r (suc room) ps)
 
 -- it is what the big-step reading says
-abbrev pub Agrees : Read Refusal Tree → Told → Type 0
+abbrev pub Agrees : Read Refusal Tree → Reported → Type 0
 Agrees (Ok x) y = (shown (added y) ≡ preorder x.0) × (ending y ≡ Ok x.1)
 Agrees (Err e) y = (met : List ℕ) × (ending y ≡ Err (e, met))

@@ -183,56 +183,57 @@ compact_bound target.U128 x b h = h.0
 
 -- ---- a node by what it is
 
-abbrev pub JsonTold : List TypeInfo → ℕ → Tree → What → Type 0
-JsonTold r t v what.Empty = json_of r t v ≡ json.null
-JsonTold r t v (what.Bool b) = json_of r t v ≡ json.boolean b
-JsonTold r t v (what.Char c) = json_of r t v ≡ json.string (encode_utf8 c)
-JsonTold r t v what.Text = (s : List ℕ) × (text_of v ≡ Some s) × (json_of r t v ≡ json.string s)
-JsonTold r t v what.Bytes = (s : List ℕ) × (bytes_of v ≡ Some s) × (json_of r t v ≡ bytes_json s)
-JsonTold r t v (what.Unsigned n) = (is_long (shape r t) ≡ false → n < 2 ^ 64)
+abbrev pub JsonReported : List TypeInfo → ℕ → Tree → What → Type 0
+JsonReported r t v what.Empty = json_of r t v ≡ json.null
+JsonReported r t v (what.Bool b) = json_of r t v ≡ json.boolean b
+JsonReported r t v (what.Char c) = json_of r t v ≡ json.string (encode_utf8 c)
+JsonReported r t v what.Text = (s : List ℕ) × (text_of v ≡ Some s) × (json_of r t v ≡ json.string s)
+JsonReported r t v what.Bytes = (s : List ℕ) × (bytes_of v ≡ Some s)
+    × (json_of r t v ≡ bytes_json s)
+JsonReported r t v (what.Unsigned n) = (is_long (shape r t) ≡ false → n < 2 ^ 64)
     × (json_of r t v ≡ unsigned_by (is_long (shape r t)) n)
-JsonTold r t v (what.Signed z) = (is_long (shape r t) ≡ false → FitsSigned w64 z)
+JsonReported r t v (what.Signed z) = (is_long (shape r t) ≡ false → FitsSigned w64 z)
     × (json_of r t v ≡ signed_by (is_long (shape r t)) z)
-JsonTold r t v (what.Wide s) = json_of r t v ≡ wide_json s
-JsonTold r t v (what.Compact n) = (is_long_target (compact_target_of r t) ≡ false → n < 2 ^ 64)
+JsonReported r t v (what.Wide s) = json_of r t v ≡ wide_json s
+JsonReported r t v (what.Compact n) = (is_long_target (compact_target_of r t) ≡ false → n < 2 ^ 64)
     × (json_of r t v ≡ unsigned_by (is_long_target (compact_target_of r t)) n)
-JsonTold r t v what.Fields = json_of r t v ≡ parts_json (shape r t) (jsons (children_by r t v))
-JsonTold r t v (what.Arm q) = (a : Arm) × (defined_arm (shape r t) q ≡ Some a)
+JsonReported r t v what.Fields = json_of r t v ≡ parts_json (shape r t) (jsons (children_by r t v))
+JsonReported r t v (what.Arm q) = (a : Arm) × (defined_arm (shape r t) q ≡ Some a)
     × (json_of r t v ≡ json.object
     (member a.name (fields_json a.fields (jsons (children_by r t v))) no_members))
-JsonTold r t v what.List = json_of r t v ≡ json.array (jsons (children_by r t v))
-JsonTold r t v (what.Count k) =
+JsonReported r t v what.List = json_of r t v ≡ json.array (jsons (children_by r t v))
+JsonReported r t v (what.Count k) =
     json_of r t v ≡ json.object (member (codes "count") (json.number (json.unsigned k)) no_members)
 
--- an unsigned integer's node tells its JSON, and its number fits 64 bits if it is not long
-unsigned_told : (r : List TypeInfo) (t n k : ℕ) (b : List ℕ) → AreBytes b →
+-- an unsigned integer's node reports its JSON, and its number fits 64 bits if it is not long
+unsigned_reported : (r : List TypeInfo) (t n k : ℕ) (b : List ℕ) → AreBytes b →
     layout r t ≡ layout.plain (layout.unsigned k) → length b ≡ k → number b ≡ n →
-    JsonTold r t (tree.leaf (tree.unsigned n)) (what.Unsigned n)
+    JsonReported r t (tree.leaf (tree.unsigned n)) (what.Unsigned n)
 unfolding json_of
-unsigned_told r t n k b are e len is =
+unsigned_reported r t n k b are e len is =
     let long = defined_at r t (layout.plain (layout.unsigned k)) e in
     let less : n < 256 ^ k = rw (← is, ← len) (number-bound b are) in (
       λ h. omega (arith, less, short k _ long h),
       ap (λ (f : Layout). unsigned_data f n) e ∙ unsigned_same k n _ long,
     )
 
--- a signed integer's node tells its JSON, and it fits 64 bits if it is not long
-signed_told : (r : List TypeInfo) (t k : ℕ) (z : ℤ) (b : List ℕ) → AreBytes b →
+-- a signed integer's node reports its JSON, and it fits 64 bits if it is not long
+signed_reported : (r : List TypeInfo) (t k : ℕ) (z : ℤ) (b : List ℕ) → AreBytes b →
     layout r t ≡ layout.plain (layout.signed k) → length b ≡ k → signed_number b ≡ z →
-    JsonTold r t (tree.leaf (tree.signed z)) (what.Signed z)
+    JsonReported r t (tree.leaf (tree.signed z)) (what.Signed z)
 unfolding json_of
-signed_told r t k z b are e len is =
+signed_reported r t k z b are e len is =
     let long = defined_at r t (layout.plain (layout.signed k)) e in (
       λ h. subst (FitsSigned w64) is (signed_fits b are (rw len (short k _ long h))),
       ap (λ (f : Layout). signed_data f z) e ∙ signed_same k z _ long,
     )
 
--- a compact integer's node tells its JSON, and it fits 64 bits if it is not long
-compact_told : (r : List TypeInfo) (t x : ℕ) (m : Target) (b : List ℕ) →
+-- a compact integer's node reports its JSON, and it fits 64 bits if it is not long
+compact_reported : (r : List TypeInfo) (t x : ℕ) (m : Target) (b : List ℕ) →
     layout r t ≡ layout.plain (layout.compact m) → IsCompact m x b →
-    JsonTold r t (tree.leaf (tree.compact x)) (what.Compact x)
+    JsonReported r t (tree.leaf (tree.compact x)) (what.Compact x)
 unfolding json_of
-compact_told r t x m b e h =
+compact_reported r t x m b e h =
     let is : compact_target_of r t ≡ Some m = defined_at r t (layout.plain (layout.compact m)) e in
     let long : Long (target_bytes m) (is_long_target (compact_target_of r t)) =
     rw is (long_target m) in (
@@ -241,21 +242,22 @@ compact_told r t x m b e h =
     )
 
 -- the node of a composite or a tuple has the JSON that its children's JSON gives
-fields_told : (r : List TypeInfo) (t : ℕ) (ts : List ℕ) (vs : Trees) (b : List ℕ) →
+fields_reported : (r : List TypeInfo) (t : ℕ) (ts : List ℕ) (vs : Trees) (b : List ℕ) →
     layout r t ≡ layout.fields ts → Vals r ts vs b →
-    JsonTold r t (tree.branch tree.fields vs) what.Fields
+    JsonReported r t (tree.branch tree.fields vs) what.Fields
 unfolding json_of
-fields_told r t ts vs b e h =
+fields_reported r t ts vs b e h =
     let parts : jsons (seen_parts r (fields_part (layout r t)) vs) ≡ all_json r ts vs =
     ap (λ (f : Layout). jsons (seen_parts r (fields_part f) vs)) e ∙ all_is r ts vs b h in
     ap (parts_json (shape r t)) (ap (λ (f : Layout). all_json r (part_types f) vs) e ∙ sym parts)
 
 -- the node of an arm has the JSON that the arm's name and its children's JSON give
-arm_told : (r : List TypeInfo) (t q i : ℕ) (arms : List Arm) (a : Arm) (vs : Trees) (b : List ℕ) →
+arm_reported : (r : List TypeInfo) (t q i : ℕ) (arms : List Arm) (a : Arm)
+    (vs : Trees) (b : List ℕ) →
     layout r t ≡ layout.arms arms → arm_of arms i ≡ Some (q, a) →
-    Vals r (field_types a.fields) vs b → JsonTold r t (tree.branch (tree.arm q) vs) (what.Arm q)
+    Vals r (field_types a.fields) vs b → JsonReported r t (tree.branch (tree.arm q) vs) (what.Arm q)
 unfolding json_of
-arm_told r t q i arms a vs b e f h =
+arm_reported r t q i arms a vs b e f h =
     let got : slice_get arms q ≡ Some a = arm_get arms i q a f in
     let at : arm_at_position (layout r t) q ≡ Some a = ap (λ (g : Layout). arm_at_position g q) e
     ∙ got in
@@ -270,39 +272,44 @@ arm_told r t q i arms a vs b e f h =
     )
 
 -- the node of a list has the array of its children's JSON, if all are of its element type
-list_told : (r : List TypeInfo) (t u : ℕ) (vs : Trees) → element_type (layout r t) ≡ u →
+list_reported : (r : List TypeInfo) (t u : ℕ) (vs : Trees) → element_type (layout r t) ≡ u →
     list_part (layout r t) (how_many vs) ≡ times (how_many vs) u →
-    JsonTold r t (tree.branch tree.list vs) what.List
+    JsonReported r t (tree.branch tree.list vs) what.List
 unfolding json_of
-list_told r t u vs e p =
+list_reported r t u vs e p =
     ap json.array (ap (λ (x : ℕ). each_json r x vs) e ∙ sym (each_is r u vs)
     ∙ sym (ap (λ (q : Part). jsons (seen_parts r q vs)) p))
 
 -- each node of a value has the JSON that its definition and its children give
-told_by : (r : List TypeInfo) (t : ℕ) (v : Tree) (b : List ℕ) → AreBytes b → Val r t v b →
-    JsonTold r t v (what_of v)
+reported_by : (r : List TypeInfo) (t : ℕ) (v : Tree) (b : List ℕ) → AreBytes b → Val r t v b →
+    JsonReported r t v (what_of v)
 unfolding Val json_of
-told_by r t (tree.leaf tree.unit) b are h = refl
-told_by r t (tree.leaf (tree.bool x)) b are h = refl
-told_by r t (tree.leaf (tree.char c)) b are h = refl
-told_by r t (tree.leaf (tree.text s)) b are h = (s, refl, refl)
-told_by r t (tree.leaf (tree.bytes s)) b are h = (s, refl, refl)
-told_by r t (tree.leaf (tree.unsigned n)) b are h = unsigned_told r t n h.0 b are h.1 h.2 h.3
-told_by r t (tree.leaf (tree.signed z)) b are h = signed_told r t h.0 z b are h.1 h.2 h.3
-told_by r t (tree.leaf (tree.wide s)) b are h = refl
-told_by r t (tree.leaf (tree.compact x)) b are h = compact_told r t x h.0 b h.1 h.2
-told_by r t (tree.branch tree.fields vs) b are h = fields_told r t h.0 vs b h.1 h.2
-told_by r t (tree.branch (tree.arm q) vs) b are h = arm_told r t q h.1 h.0 h.2 vs h.3 h.4 h.5 h.7
-told_by r t (tree.branch tree.list vs) b are (inl h) =
-    list_told r t h.1 vs (ap element_type h.2) (ap (λ (f : Layout). list_part f (how_many vs)) h.2)
-told_by r t (tree.branch tree.list vs) b are (inr h) =
-    list_told r t h.0 vs (ap element_type h.3) (ap (λ (f : Layout). list_part f (how_many vs)) h.3)
-told_by r t (tree.leaf (tree.count k)) b are h = refl
+reported_by r t (tree.leaf tree.unit) b are h = refl
+reported_by r t (tree.leaf (tree.bool x)) b are h = refl
+reported_by r t (tree.leaf (tree.char c)) b are h = refl
+reported_by r t (tree.leaf (tree.text s)) b are h = (s, refl, refl)
+reported_by r t (tree.leaf (tree.bytes s)) b are h = (s, refl, refl)
+reported_by r t (tree.leaf (tree.unsigned n)) b are h =
+    unsigned_reported r t n h.0 b are h.1 h.2 h.3
+reported_by r t (tree.leaf (tree.signed z)) b are h = signed_reported r t h.0 z b are h.1 h.2 h.3
+reported_by r t (tree.leaf (tree.wide s)) b are h = refl
+reported_by r t (tree.leaf (tree.compact x)) b are h = compact_reported r t x h.0 b h.1 h.2
+reported_by r t (tree.branch tree.fields vs) b are h = fields_reported r t h.0 vs b h.1 h.2
+reported_by r t (tree.branch (tree.arm q) vs) b are h =
+    arm_reported r t q h.1 h.0 h.2 vs h.3 h.4 h.5 h.7
+reported_by r t (tree.branch tree.list vs) b are (inl h) =
+    list_reported r t h.1 vs (ap element_type h.2)
+    (ap (λ (f : Layout). list_part f (how_many vs)) h.2)
+reported_by r t (tree.branch tree.list vs) b are (inr h) =
+    list_reported r t h.0 vs (ap element_type h.3)
+    (ap (λ (f : Layout). list_part f (how_many vs)) h.3)
+reported_by r t (tree.leaf (tree.count k)) b are h = refl
 
 -- the same of a value as contracts see it, by what its node is
-pub told : (s : Seen) (w : What) → IsValue s → w ≡ what_of s.tree → JsonTold s.types s.ty s.tree w
-told s w h e = subst (JsonTold s.types s.ty s.tree) (sym e)
-    (told_by s.types s.ty s.tree h.0 h.1 h.2)
+pub reported : (s : Seen) (w : What) → IsValue s → w ≡ what_of s.tree →
+    JsonReported s.types s.ty s.tree w
+reported s w h e = subst (JsonReported s.types s.ty s.tree) (sym e)
+    (reported_by s.types s.ty s.tree h.0 h.1 h.2)
 
 -- ---- what the code has found of the node's type
 
@@ -325,7 +332,7 @@ long_compact_here s types t found at e = rw (← at.0, ← at.1) e
 -- a node that is a text has the JSON string of the text that was found for it
 pub text_is : (s : Seen) (found : Option (Bor (List ℕ))) (text : Bor (List ℕ)) →
     option_map (λ x. x.now) found ≡ text_of s.tree → found ≡ Some text →
-    JsonTold s.types s.ty s.tree what.Text → json_seen s ≡ json.string text.now
+    JsonReported s.types s.ty s.tree what.Text → json_seen s ≡ json.string text.now
 text_is s found text e f h =
     let same : Some text.now ≡ Some h.0 = ap (option_map (λ (x : Bor (List ℕ)). x.now)) (sym f) ∙ e
     ∙ h.1 in
@@ -335,7 +342,7 @@ text_is s found text e f h =
 -- a node that is a run of bytes has the hexadecimal digits of the bytes that were found for it
 pub bytes_are : (s : Seen) (found : Option (Bor (List ℕ))) (bytes : Bor (List ℕ)) →
     option_map (λ x. x.now) found ≡ bytes_of s.tree → found ≡ Some bytes →
-    JsonTold s.types s.ty s.tree what.Bytes → json_seen s ≡ bytes_json bytes.now
+    JsonReported s.types s.ty s.tree what.Bytes → json_seen s ≡ bytes_json bytes.now
 bytes_are s found bytes e f h =
     let same : Some bytes.now ≡ Some h.0 = ap (option_map (λ (x : Bor (List ℕ)). x.now)) (sym f) ∙ e
     ∙ h.1 in
@@ -360,7 +367,8 @@ no_fields_at_node s types t found at e f =
 
 -- a composite's value has the JSON of its fields
 pub fields_are : (s : Seen) (fs : List Field) → composite_fields (shape s.types s.ty) ≡ Some fs →
-    JsonTold s.types s.ty s.tree what.Fields → json_seen s ≡ fields_json fs (jsons (children_of s))
+    JsonReported s.types s.ty s.tree what.Fields →
+    json_seen s ≡ fields_json fs (jsons (children_of s))
 fields_are s fs e h = h ∙ go (shape s.types s.ty) e where
   go : (d : Option TypeDef) → composite_fields d ≡ Some fs →
       parts_json d (jsons (children_of s)) ≡ fields_json fs (jsons (children_of s))
@@ -391,7 +399,7 @@ no_fields_json (Some (Def.BitSequence store order)) ds e = refl
 -- a node of an arm has that arm in its definition, so it was found
 pub arm_there : (s : Seen) (q : ℕ) (types : List TypeInfo) (t : ℕ) (found : Option (Bor Arm)) →
     AtNode s types t → option_map (λ x. x.now) found ≡ defined_arm (shape types t) q →
-    JsonTold s.types s.ty s.tree (what.Arm q) → IsSome found
+    JsonReported s.types s.ty s.tree (what.Arm q) → IsSome found
 arm_there s q types t None at e h = let no : None ≡ Some h.0 = e
     ∙ ap (λ (r : List TypeInfo). defined_arm (shape r t) q) at.0
     ∙ ap (λ (u : ℕ). defined_arm (shape s.types u) q) at.1 ∙ h.1 in absurd cc
@@ -407,7 +415,7 @@ arm_at_node s q types t found a at e f =
 
 -- a node of an arm is an object with the name of the arm in its definition as the one key
 pub arm_is : (s : Seen) (q : ℕ) (a : Arm) → defined_arm (shape s.types s.ty) q ≡ Some a →
-    JsonTold s.types s.ty s.tree (what.Arm q) → json_seen s
+    JsonReported s.types s.ty s.tree (what.Arm q) → json_seen s
     ≡ json.object (member a.name (fields_json a.fields (jsons (children_of s))) no_members)
 arm_is s q a e h =
     let both : Some h.0 ≡ Some a = sym h.1 ∙ e in
