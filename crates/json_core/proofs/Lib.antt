@@ -9,4 +9,5 @@ pub mod Outputs
 pub mod Placing
 pub mod PlainNames
 pub mod Reported
+pub mod Runs
 pub mod Turns

@@ -6,6 +6,7 @@ ghost use Rattle.std.specs.Io.KnownBytes.{Appends};
 ghost use Rattle.json_core.specs.Json.{json_text};
 ghost use Rattle.json_core.specs.Printed.{written_of, is_write};
 
+use crate::byte_run::print_run;
 use crate::orders::Orders;
 use crate::output::Output;
 use crate::writing::write_node;
@@ -47,7 +48,8 @@ pub fn json_text<A: Allocator>(alloc: Global, value: &Value<'_, A>) -> Result<St
 }
 
 /// Writes a value as JSON: the text that `json_text` gives, without a line end. It is made whole before the first
-/// write, with the memory and the stack that `json_text` takes.
+/// write, with the memory and the stack that `json_text` takes. A value that is one run of bytes takes no memory, and is
+/// written as its digits are made, 4096 at a time.
 ///
 /// Refuses:
 /// - `OutOfMemory`, where memory was refused: no write was made, and the sink stays as it was;
@@ -72,11 +74,17 @@ pub fn print<A: Allocator, W: Write>(
     ensures memory { IsErrOf result PrintFault.OutOfMemory → sink.new ≡ sink.old }
     ensures failed { sink.new.failed ≡ sink.old.failed || is_write result }
 {
-    let Ok(mut text) = json_text(alloc, value) else {
-        return Err(PrintFault::OutOfMemory);
+    let sent = match value.root().bytes() {
+        Some(bytes) => print_run(sink, bytes),
+        None => {
+            let Ok(mut text) = json_text(alloc, value) else {
+                return Err(PrintFault::OutOfMemory);
+            };
+            text.shrink_to_fit();
+            send(sink, text.as_bytes())
+        }
     };
-    text.shrink_to_fit();
-    match send(sink, text.as_bytes()) {
+    match sent {
         Ok(()) => Ok(()),
         Err(fault) => Err(PrintFault::Write(fault)),
     }

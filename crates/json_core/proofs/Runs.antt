@@ -1,0 +1,135 @@
+-- A run of bytes goes out as JSON in parts.
+use Rattle.std.proofs.Common.{◌≡◌, ℕ, ◌+◌, ◌-◌, ◌*◌, ◌/◌, ◌%◌, ◌≤◌, List, [], ◌∷◌, ◌++◌, length, take}
+use Rattle.std.proofs.Common.{drop, get_or, slice_index, Fits, w8, Option, Some, refl, ap, sym, ◌∙◌}
+use Rattle.std.proofs.Common.{arith, length-take-le, take-append-drop}
+use Rattle.std.proofs.lemmas.List.{length-drop}
+use Rattle.std.proofs.Math.Seq.{take-add}
+use Rattle.std.specs.Io.KnownBytes.{Appends}
+use Rattle.hex.specs.Hex.{encode_with, encode_lower, lower_digits}
+use Rattle.hex.proofs.HexLemmas.{length-encode_with}
+use Rattle.serde_json.specs.Written.{compact_text}
+use Rattle.registry_core.specs.declared.type_info.TypeInfo.{TypeInfo}
+use Rattle.grammar_core.specs.Tree.{Tree, unit, bool, char, text, bytes, unsigned, signed, wide}
+use Rattle.grammar_core.specs.Tree.{compact, count, leaf, branch}
+use Rattle.value_core.specs.Shown.{bytes_of}
+use Rattle.value_core.proofs.SpelledParts.{long_whole, sent_all, sent_front, sent_more, sent_part}
+use Rattle.json_core.specs.Json.{json_of}
+use Rattle.json_core.specs.Printed.{run_text}
+use Rattle.json_core.proofs.Outputs.{hex_string}
+
+-- the digits of bytes after others come after the digits of these
+encode-append : (xs ys : List ℕ) → encode_lower (xs ++ ys) ≡ encode_lower xs ++ encode_lower ys
+unfolding encode_with
+encode-append [] ys = refl
+encode-append (x ∷ xs) ys =
+    ap (λ (l : List ℕ). slice_index lower_digits (x / 16) ∷ slice_index lower_digits (x % 16) ∷ l)
+    (encode-append xs ys)
+
+-- a part of some bytes, from one place up to another
+abbrev pub part : List ℕ → ℕ → ℕ → List ℕ
+part bs at end = take (end - at) (drop at bs)
+
+-- the digits of a part come after those of the bytes before it
+encode_part : (bs : List ℕ) (at end : ℕ) → at ≤ end →
+    encode_lower (take at bs) ++ encode_lower (part bs at end) ≡ encode_lower (take end bs)
+encode_part bs at end h =
+    sym (encode-append (take at bs) (part bs at end)) ∙ ap encode_lower (sym (take-add at (end - at) bs))
+    ∙ ap (λ n. encode_lower (take n bs)) (omega (arith, h))
+
+-- where the digits of the bytes before a part went out and then its own, those up to its end did
+pub digits_more : (a b c : Option (List ℕ)) (bs : List ℕ) (at end : ℕ) → at ≤ end →
+    Appends a b (encode_lower (take at bs)) → Appends b c (encode_lower (part bs at end)) →
+    Appends a c (encode_lower (take end bs))
+digits_more a b c bs at end h p q =
+    sent_all a b c (encode_lower (take at bs)) (encode_lower (part bs at end))
+    (encode_lower (take end bs)) (encode_part bs at end h) p q
+
+-- where the digits before a part went out and then some of its own, so many of all digits did
+pub digits_stop : (a b c : Option (List ℕ)) (bs : List ℕ) (at end w : ℕ) → at ≤ end →
+    end ≤ length bs → Appends a b (encode_lower (take at bs)) →
+    w ≤ length (encode_lower (part bs at end)) → Appends b c (take w (encode_lower (part bs at end))) →
+    (2 * at + w ≤ length (encode_lower bs)) × Appends a c (take (2 * at + w) (encode_lower bs))
+digits_stop a b c bs at end w h inside p le q =
+    let front = encode_lower (take at bs) in
+    let own = encode_lower (part bs at end) in
+    let upto = encode_lower (take end bs) in
+    let rest = encode_lower (drop end bs) in
+    let long : length front ≡ 2 * at =
+    omega (arith, length-encode_with lower_digits (take at bs), length-take-le at bs (omega (arith, h, inside))) in
+    let more : Appends a c (take (2 * at + w) upto) =
+    sent_more a b c front own upto (2 * at) w long (encode_part bs at end h) p q in
+    let all : upto ++ rest ≡ encode_lower bs =
+    sym (encode-append (take end bs) (drop end bs)) ∙ ap encode_lower (take-append-drop end bs) in
+    let bound : 2 * at + w ≤ length upto =
+    omega (arith, le, long, long_whole front own upto (encode_part bs at end h)) in (
+      sent_part upto rest (encode_lower bs) (2 * at + w) all bound,
+      sent_front a c upto rest (encode_lower bs) (2 * at + w) all bound more,
+    )
+
+-- ---- the whole text
+
+-- what stands before the digits
+abbrev pub opening : List ℕ
+opening = 34 ∷ 48 ∷ 120 ∷ []
+
+-- where some of what stands before the digits went out, so much of the whole did
+pub run_opening : (a b : Option (List ℕ)) (bs : List ℕ) (w : ℕ) → w ≤ 3 →
+    Appends a b (take w opening) → (w ≤ length (run_text bs)) × Appends a b (take w (run_text bs))
+run_opening a b bs w h p =
+    let back = encode_lower bs ++ 34 ∷ [] in
+    (sent_part opening back (run_text bs) w refl h, sent_front a b opening back (run_text bs) w refl h p)
+
+-- where some of the digits went out after what stands before them, so much of the whole did
+pub run_digits : (a b c : Option (List ℕ)) (bs : List ℕ) (w : ℕ) → Appends a b opening →
+    w ≤ length (encode_lower bs) → Appends b c (take w (encode_lower bs)) →
+    (3 + w ≤ length (run_text bs)) × Appends a c (take (3 + w) (run_text bs))
+run_digits a b c bs w p h q =
+    let back = encode_lower bs ++ 34 ∷ [] in
+    let le : w ≤ length back = sent_part (encode_lower bs) (34 ∷ []) back w refl h in
+    let more : Appends b c (take w back) = sent_front b c (encode_lower bs) (34 ∷ []) back w refl h q in
+    (omega (arith, le), sent_more a b c opening back (run_text bs) 3 w refl refl p more)
+
+-- all but the last quote
+abbrev without_end : List ℕ → List ℕ
+without_end bs = 34 ∷ 48 ∷ 120 ∷ encode_lower bs
+
+-- as long as the digits are, and three more
+without_end_long : (bs : List ℕ) → length (without_end bs) ≡ 3 + 2 * length bs
+without_end_long bs = let digits = length-encode_with lower_digits bs in omega (arith, digits)
+
+-- where all but the last quote went out and then some of it, so much of the whole did
+pub run_end : (a b c d : Option (List ℕ)) (bs : List ℕ) (w : ℕ) → Appends a b opening →
+    Appends b c (encode_lower bs) → w ≤ 1 → Appends c d (take w (34 ∷ [])) →
+    (3 + 2 * length bs + w ≤ length (run_text bs))
+    × Appends a d (take (3 + 2 * length bs + w) (run_text bs))
+run_end a b c d bs w p q h r =
+    let both : Appends a c (without_end bs) =
+    sent_all a b c opening (encode_lower bs) (without_end bs) refl p q in
+    let long = without_end_long bs in
+    let whole = long_whole (without_end bs) (34 ∷ []) (run_text bs) refl in (
+      omega (arith, h, long, whole),
+      sent_more a c d (without_end bs) (34 ∷ []) (run_text bs) (3 + 2 * length bs) w long refl both r,
+    )
+
+-- where what stands before the digits, they and the last quote went out, the whole did
+pub run_whole : (a b c d : Option (List ℕ)) (bs : List ℕ) → Appends a b opening →
+    Appends b c (encode_lower bs) → Appends c d (34 ∷ []) → Appends a d (run_text bs)
+run_whole a b c d bs p q r =
+    sent_all a c d (without_end bs) (34 ∷ []) (run_text bs) refl
+    (sent_all a b c opening (encode_lower bs) (without_end bs) refl p q) r
+
+-- the JSON text of a value that is a run of bytes is the text of the run
+pub run_is_text : (r : List TypeInfo) (t : ℕ) (v : Tree) (s : List ℕ) → bytes_of v ≡ Some s →
+    ((i : ℕ) → Fits w8 (get_or s i 0)) → run_text s ≡ compact_text (json_of r t v)
+run_is_text r t (leaf (bytes b)) s e h =
+    let same : b ≡ s = cc in rw same (hex_string s h)
+run_is_text r t (leaf unit) s e h = absurd cc
+run_is_text r t (leaf (bool b)) s e h = absurd cc
+run_is_text r t (leaf (char c)) s e h = absurd cc
+run_is_text r t (leaf (text b)) s e h = absurd cc
+run_is_text r t (leaf (unsigned n)) s e h = absurd cc
+run_is_text r t (leaf (signed z)) s e h = absurd cc
+run_is_text r t (leaf (wide b)) s e h = absurd cc
+run_is_text r t (leaf (compact n)) s e h = absurd cc
+run_is_text r t (leaf (count n)) s e h = absurd cc
+run_is_text r t (branch k vs) s e h = absurd cc
