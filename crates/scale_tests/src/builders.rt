@@ -61,8 +61,9 @@ pub fn check_written<A: Allocator>(
     spelled: &[u8],
 ) -> Result<(), Fail> {
     let bytes = written(alloc, value)?;
-    if bytes.as_slice() != spelled {
-        return Err("the value is written otherwise")?;
+    if bytes.as_slice() == spelled {
+        Ok(())
+    } else {
+        Err("the value is written otherwise")?
     }
-    Ok(())
 }
