@@ -1,7 +1,8 @@
 //! The command's engine: types that are not there, what is read before a value, and the most bytes of a value.
 
-use crate::command_row::{Row, check_row, decode, in_hex, refused};
-use crate::ran::{Devices, NONE, check_ran};
+use crate::command_row::{Row, check_ran, check_row, in_hex, refused};
+use command_runs::jobs::decode;
+use command_runs::ran::{Devices, NONE};
 use scale_core::{Sink, Source};
 use scale_tests::paced::{LetterReader, PacedReader, Then};
 use scale_tests::registries::{NO_TYPES, TEXT, U8};

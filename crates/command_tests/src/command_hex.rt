@@ -1,7 +1,7 @@
 //! Values whose files hold hexadecimal text, and what is refused in such a text.
 
-use crate::command_row::{check_row, in_hex, refused, shown, within};
-use crate::ran::{Devices, check_ran};
+use crate::command_row::{check_ran, check_row, in_hex, refused, shown, within};
+use command_runs::ran::Devices;
 use scale_tests::paced::{PacedReader, Then};
 use scale_tests::registries::{BOOL, TEXT, U8, U16};
 use std::process::Abort;

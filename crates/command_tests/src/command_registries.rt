@@ -1,7 +1,8 @@
 //! The command's engine over registries: which are refused, and how their types are shown.
 
-use crate::command_row::{behind_prefix, check_row, decode, refused, served, shown, types};
-use crate::ran::{Devices, check_ran};
+use crate::command_row::{behind_prefix, check_ran, check_row, refused, shown, types};
+use command_runs::jobs::{decode, served};
+use command_runs::ran::Devices;
 use scale_core::{Sink, Source};
 use scale_tests::paced::{PacedReader, PacedWriter, Then};
 use scale_tests::registries::{

@@ -1,8 +1,7 @@
 //! Rows of the command: a job, what its files hold, and what it must answer.
 
-ghost use Rattle.scale_tool.specs.Answer.{IsServed};
-
-use crate::ran::{check_ran, run_paced};
+use command_runs::jobs::decode;
+use command_runs::ran::{Devices, NONE, Ran};
 use scale_tool::Job;
 use std::alloc::Global;
 use std::process::Abort;
@@ -17,18 +16,6 @@ pub struct Row {
     pub status: u8,
     pub out: &'static str,
     pub err: &'static str,
-}
-
-/// The job of a value's bytes, within the depth that holds where none is told.
-pub fn decode(id: u32) -> Job
-    ensures { IsServed result }
-{
-    Job::Decode {
-        id,
-        metadata: false,
-        hex: false,
-        depth: 64,
-    }
 }
 
 /// A value that is shown.
@@ -109,24 +96,25 @@ pub fn within(row: &Row, greatest: u16) -> Row {
     row
 }
 
-/// The job, whose depth no row has above 1024.
-pub fn served(job: Job) -> Job
-    ensures { IsServed result }
-{
-    match job {
-        Job::Types { metadata } => Job::Types { metadata },
-        Job::Decode {
-            id,
-            metadata,
-            hex,
-            depth,
-        } => Job::Decode {
-            id,
-            metadata,
-            hex,
-            depth: depth.min(1024),
-        },
-    }
+/// Runs the job over these bytes with so many bytes a call, and sees that no device has failed.
+fn run_paced(
+    rt: &impl Abort,
+    alloc: Global,
+    job: Job,
+    registry: &'static [u8],
+    value: &'static [u8],
+    step: usize,
+) -> Ran {
+    let (ran, failed) = Devices::over(alloc, registry, value, step).run(alloc, job);
+    assert_eq!(rt; failed, NONE);
+    ran
+}
+
+/// The run answered this.
+pub fn check_ran(rt: &impl Abort, name: &str, found: &Ran, status: u8, out: &[u8], err: &[u8]) {
+    assert_eq!(rt; found.status, status, "the status of {name}");
+    assert_eq!(rt; found.out.as_slice(), out, "what {name} writes");
+    assert_eq!(rt; found.err.as_slice(), err, "what {name} tells");
 }
 
 /// Runs a row with a byte a call and with many, over devices that do not fail.

@@ -1,4 +1,4 @@
-//! Tests of integers, texts, registries and the analysis of their types.
+//! Tests of integers, texts and compact integers, in bytes and over devices.
 #![tactic(auto)]
 
 #[cfg(test)]
@@ -6,20 +6,6 @@ mod compact;
 #[cfg(test)]
 mod devices;
 #[cfg(test)]
-mod graph;
-#[cfg(test)]
 mod integers;
 #[cfg(test)]
-mod kinds;
-#[cfg(test)]
-mod large_registries;
-#[cfg(test)]
-mod memory;
-#[cfg(test)]
-mod registries;
-#[cfg(test)]
-mod steps;
-#[cfg(test)]
 mod texts;
-#[cfg(test)]
-mod widths;

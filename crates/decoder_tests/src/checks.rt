@@ -1,7 +1,7 @@
 //! What a worked row wants of a decoder, and whether it is so.
 
-use crate::calls::{Holding, shown};
 use decode_core::DecodeFault;
+use decoder_calls::calls::{Holding, shown};
 use scale_tests::building::written;
 use scale_tests::rows::{Outcome, Row};
 use std::alloc::Global;

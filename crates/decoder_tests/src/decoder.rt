@@ -1,11 +1,12 @@
 //! The decoder over worked rows: whole, in every two pieces, byte by byte, and each shorter front of a value.
 
-use crate::calls::{feed, finish, held, open, opening_fault};
 use crate::checks::{check_end, check_line, value_len, wanted_held};
 use decode_core::{DecodeFault, DecodeReason, Decoder, OpenFault, Progress};
+use decoder_calls::calls::{feed, finish, held, open, opening_fault};
+use scale_rows::all_rows::ROWS;
 use scale_tests::building::checked;
 use scale_tests::registries::U8;
-use scale_tests::rows::{Outcome, ROWS, Row};
+use scale_tests::rows::{Outcome, Row};
 use std::alloc::Global;
 use std::process::Abort;
 use std::test::Fail;

@@ -1,15 +1,17 @@
 //! Values on the front of pieces that are all there: worked rows, however they are cut.
 
-use crate::calls::front_of;
 use crate::checks::{check_line, check_value, wanted_held, wanted_refusal};
 use crate::streams::UNOPENED;
-use decode_core::{DecodeFault, DecodeReason, OpenFault, PiecesFault};
+use decode_core::{DecodeFault, DecodeReason, OpenFault};
+use decoder_calls::calls::front_of;
+use scale_rows::all_rows::ROWS;
 use scale_tests::building::checked;
 use scale_tests::registries::{U16, nested_pairs};
-use scale_tests::rows::{AMPLE, ROWS, Row};
+use scale_tests::rows::{AMPLE, Row};
 use std::alloc::Global;
 use std::process::Abort;
 use std::test::Fail;
+use stream_core::PiecesFault;
 use widths_core::Checked;
 
 /// The pieces, which are the row's bytes, are answered so.

@@ -1,7 +1,7 @@
 //! Each primitive type through a decoder: the least and the greatest value, and characters that are none.
 
-use crate::calls::{feed, finish, held, open};
 use decode_core::{DecodeFault, DecodeReason, Decoder, Progress};
+use decoder_calls::calls::{feed, finish, held, open};
 use scale_tests::building::{checked, written};
 use scale_tests::primitives::{BAD_CHARACTERS, PRIMITIVES, ROWS, Row};
 use scale_tests::rows::AMPLE;

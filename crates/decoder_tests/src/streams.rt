@@ -1,18 +1,20 @@
 //! Values from readers of several paces: worked rows, ends at the edge of a read, and failed reads.
 
-use crate::calls::all_of;
 use crate::checks::{check_line, check_value, value_len, wanted_refusal};
-use decode_core::{DecodeFault, DecodeReason, OpenFault, StreamFault};
+use decode_core::{DecodeFault, DecodeReason, OpenFault};
+use decoder_calls::calls::all_of;
 use scale_core::Source;
+use scale_rows::all_rows::ROWS;
 use scale_tests::building::{checked, written};
 use scale_tests::paced::{PacedReader, Then};
 use scale_tests::registries::{BYTES, COMPACT_OF_A_BOOL, TEN_THOUSAND_BYTES, U16, nested_pairs};
-use scale_tests::rows::{AMPLE, ROWS, Row};
+use scale_tests::rows::{AMPLE, Row};
 use std::alloc::Global;
 use std::io;
 use std::io::Read;
 use std::process::Abort;
 use std::test::Fail;
+use stream_core::StreamFault;
 use value_core::{Limits, Value};
 use widths_core::Checked;
 

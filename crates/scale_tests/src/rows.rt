@@ -1,10 +1,5 @@
 //! Worked rows: bytes, the type that they are read as, and what they must give, by the format's rules.
 
-use crate::list_rows::LISTS;
-use crate::number_rows::NUMBERS;
-use crate::part_rows::PARTS;
-use crate::refused_numbers::REFUSED_NUMBERS;
-use crate::refused_parts::REFUSED_PARTS;
 use value_core::Limits;
 
 /// What bytes give.
@@ -76,6 +71,3 @@ pub const FOUR_BYTES_LONG: Limits = Limits {
     depth: 64,
     bytes: 4,
 };
-
-/// All rows, by their kinds.
-pub const ROWS: [&[Row]; 5] = [&NUMBERS, &LISTS, &PARTS, &REFUSED_NUMBERS, &REFUSED_PARTS];

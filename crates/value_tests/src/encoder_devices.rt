@@ -1,10 +1,9 @@
 //! Values written to writers that fail, take nothing, or take one byte a call.
 
-use crate::builder_bytes::TEXT_AND_BYTES;
-use crate::builders::{begun, built, check_written, finished};
 use scale_core::{Sink, SinkFault};
+use scale_tests::builders::{begun, built, check_written, finished};
 use scale_tests::building::{
-    BYTES, CHAIN, Call, TEXT, TWO_UNITS_AND_A_BYTE, U8, UNITS, WIDE, checked,
+    BYTES, CHAIN, Call, TEXT, TEXT_AND_BYTES, TWO_UNITS_AND_A_BYTE, U8, UNITS, WIDE, checked,
 };
 use scale_tests::paced::{PacedWriter, Then};
 use scale_tests::stuttering::StutteringWriter;
@@ -154,7 +153,7 @@ fn check_places(rt: &impl Abort, alloc: Global, value: &Value<'_, Global>, row: 
 
 fn check_writers(rt: &impl Abort, alloc: Global, row: &Row) -> Result<(), Fail> {
     let checked = checked(alloc, row.registry)?;
-    let value = built(rt, alloc, &checked, row.ty, 64, row.calls)?;
+    let value = built(alloc, &checked, row.ty, 64, row.calls)?;
     check_places(rt, alloc, &value, row);
     let length = row.bytes.len();
     let just_enough = PacedWriter::new(alloc, length, usize::MAX, Then::Fails);
@@ -175,7 +174,7 @@ fn what_went_out_before_a_failed_write_is_told(rt: HostRuntime) -> Result<(), Fa
 #[test]
 fn a_value_without_bytes_is_not_written(rt: HostRuntime) -> Result<(), Fail> {
     let checked = checked(rt.alloc(), UNITS)?;
-    let value = built(&rt, rt.alloc(), &checked, 1, 0, &[Call::Empty])?;
+    let value = built(rt.alloc(), &checked, 1, 0, &[Call::Empty])?;
     'endings: for then in [Then::Fails, Then::TakesNothing] {
         let mut sink = Sink::new(PacedWriter::new(rt.alloc(), 0, usize::MAX, then));
         assert_eq!(rt; encode(&value, &mut sink), Ok(()), "{then:?}");
@@ -187,7 +186,7 @@ fn a_value_without_bytes_is_not_written(rt: HostRuntime) -> Result<(), Fail> {
 #[test]
 fn an_interrupted_write_is_a_failed_one(rt: HostRuntime) -> Result<(), Fail> {
     let checked = checked(rt.alloc(), TEXT)?;
-    let value = built(&rt, rt.alloc(), &checked, 0, 0, &[Call::Text("ab")])?;
+    let value = built(rt.alloc(), &checked, 0, 0, &[Call::Text("ab")])?;
     let mut sink = Sink::new(StutteringWriter { calls: 0 });
     let wanted = WriteFault {
         reason: SinkFault::Device,
@@ -234,7 +233,7 @@ fn a_builder_goes_on_where_finish_was_refused(rt: HostRuntime) -> Result<(), Fai
     assert_eq!(rt; builder.unsigned(42), Ok(()));
     assert_eq!(rt; builder.unsigned(1), Err(BuildFault::WrongKind));
     let value = finished(builder)?;
-    check_written(&rt, rt.alloc(), &value, b"\x2a")?;
+    check_written(rt.alloc(), &value, b"\x2a")?;
     check_first_write(&rt, rt.alloc(), &value);
     Ok(())
 }

@@ -1,8 +1,8 @@
 //! What comes next in a value as it is built, and what a finished value tells.
 
-use crate::builders::{begun, built, check_counts, check_written, finished};
 use registry_core::{Primitive, TypeId};
 use scale_core::Target;
+use scale_tests::builders::{begun, built, check_written, counts, finished};
 use scale_tests::building::{
     BITS_IN_AN_ARM, BYTES, CHAIN, COMPACT_OF_A_BOOL, COMPACT_U128, Call, ENDLESS, LONG_ARRAY,
     LONG_ARRAY_OF_WORDS, OPTION, SHADOWED_ARM, TEXT, TWO_UNITS_AND_A_BYTE, UNITS, WORDS, add,
@@ -250,8 +250,8 @@ fn the_default_limits_are_told(rt: HostRuntime) {
 #[test]
 fn a_value_lends_its_registry(rt: HostRuntime) -> Result<(), Fail> {
     let checked = checked(rt.alloc(), TWO_UNITS_AND_A_BYTE)?;
-    let value = built(&rt, rt.alloc(), &checked, 1, 0, &[Call::Empty])?;
-    check_counts(&rt, &value, 1, 0);
+    let value = built(rt.alloc(), &checked, 1, 0, &[Call::Empty])?;
+    assert_eq!(rt; counts(&value), (1, 0));
     let lent = value.checked();
     assert_eq!(rt; (lent.registry().types().len(), lent.widest()), (3, 3));
     assert_eq!(rt; lent.class(TypeId(1)), Some(Class::Empty));
@@ -262,12 +262,12 @@ fn a_value_lends_its_registry(rt: HostRuntime) -> Result<(), Fail> {
 #[test]
 fn the_first_of_two_arms_with_one_index_is_told(rt: HostRuntime) -> Result<(), Fail> {
     let checked = checked(rt.alloc(), SHADOWED_ARM)?;
-    let value = built(&rt, rt.alloc(), &checked, 1, 64, &[Call::Arm(3)])?;
+    let value = built(rt.alloc(), &checked, 1, 64, &[Call::Arm(3)])?;
     let root = value.root();
     let wanted = (TypeId(1), What::Arm { position: 0 });
     assert_eq!(rt; (root.type_id(), root.what()), wanted);
     assert!(rt; root.children().next().is_none() && root.text().is_none());
-    check_written(&rt, rt.alloc(), &value, b"\x03")
+    check_written(rt.alloc(), &value, b"\x03")
 }
 
 /// Appends the types of the node's children, and what they are.
@@ -292,8 +292,8 @@ fn two_levels(alloc: Global, value: &Value<'_, Global>) -> Result<Vec<(TypeId, W
 #[test]
 fn children_are_told_behind_a_subtree(rt: HostRuntime) -> Result<(), Fail> {
     let checked = checked(rt.alloc(), WORDS_AND_A_BYTE)?;
-    let value = built(&rt, rt.alloc(), &checked, 3, 64, &WORDS_AND_A_BYTE_CALLS)?;
-    check_counts(&rt, &value, 5, 0);
+    let value = built(rt.alloc(), &checked, 3, 64, &WORDS_AND_A_BYTE_CALLS)?;
+    assert_eq!(rt; counts(&value), (5, 0));
     let told = two_levels(rt.alloc(), &value)?;
     let wanted = [
         (TypeId(2), What::List),
@@ -302,7 +302,7 @@ fn children_are_told_behind_a_subtree(rt: HostRuntime) -> Result<(), Fail> {
         (TypeId(0), What::Unsigned(42)),
     ];
     assert_eq!(rt; told.as_slice(), wanted.as_slice());
-    check_written(&rt, rt.alloc(), &value, b"\x08\x07\x00\xff\x00\x2a")
+    check_written(rt.alloc(), &value, b"\x08\x07\x00\xff\x00\x2a")
 }
 
 /// Arms around one another from the root, which has depth 0, down to this depth.
@@ -323,6 +323,6 @@ fn a_walk_goes_to_the_greatest_depth(rt: HostRuntime) -> Result<(), Fail> {
     assert_eq!(rt; builder.arm(0), Ok(()));
     check_next(&rt, &builder, Next::Finished, 0, "a whole chain");
     let value = finished(builder)?;
-    check_counts(&rt, &value, 1025, 0);
+    assert_eq!(rt; counts(&value), (1025, 0));
     Ok(())
 }

@@ -1,0 +1,5 @@
+//! What tests of the command share: jobs, and runs of its engine over memory.
+#![tactic(auto)]
+
+pub mod jobs;
+pub mod ran;

@@ -1,0 +1,80 @@
+//! Runs of the command's engine over memory: what it answers, writes and tells, and which devices have failed.
+
+use crate::jobs::served;
+use scale_core::{Sink, Source};
+use scale_tests::paced::{PacedReader, PacedWriter, Then};
+use scale_tool::{Job, run};
+use std::alloc::Global;
+
+/// What the engine answers: its status, what it wrote, and what it told on standard error.
+#[derive(Drop)]
+pub struct Ran {
+    pub status: u8,
+    pub out: Vec<u8>,
+    pub err: Vec<u8>,
+}
+
+/// Which devices have failed.
+#[derive(Clone, Copy, Debug, PartialEq, Eq)]
+pub struct Failed {
+    pub registry: bool,
+    pub value: bool,
+    pub out: bool,
+    pub err: bool,
+}
+
+/// No device has failed.
+pub const NONE: Failed = Failed {
+    registry: false,
+    value: false,
+    out: false,
+    err: false,
+};
+
+/// The devices of one run.
+#[derive(Drop)]
+pub struct Devices {
+    pub registry: PacedReader,
+    pub value: PacedReader,
+    pub out: PacedWriter,
+    pub err: PacedWriter,
+}
+
+impl Devices {
+    /// Devices over these bytes that move so many bytes a call and do not fail.
+    pub fn over(
+        alloc: Global,
+        registry: &'static [u8],
+        value: &'static [u8],
+        step: usize,
+    ) -> Devices {
+        Devices {
+            registry: PacedReader::new(registry, step, Then::GoesOn),
+            value: PacedReader::new(value, step, Then::GoesOn),
+            out: PacedWriter::new(alloc, 0, step, Then::GoesOn),
+            err: PacedWriter::new(alloc, 0, step, Then::GoesOn),
+        }
+    }
+
+    /// Runs the job.
+    pub fn run(self, alloc: Global, job: Job) -> (Ran, Failed) {
+        let mut registry = Source::new(self.registry);
+        let mut value = Source::new(self.value);
+        let mut out = Sink::new(self.out);
+        let mut err = Sink::new(self.err);
+        let job = served(job);
+        let status = run(alloc, job, &mut registry, &mut value, &mut out, &mut err);
+        let failed = Failed {
+            registry: registry.failed(),
+            value: value.failed(),
+            out: out.failed(),
+            err: err.failed(),
+        };
+        let ran = Ran {
+            status,
+            out: out.into_inner().taken,
+            err: err.into_inner().taken,
+        };
+        (ran, failed)
+    }
+}

@@ -1,0 +1,110 @@
+//! The calls that tests make of decoders and of what shows values. What these promise stays here, so that no test's proof
+//! has to read it.
+
+use decode_core::{DecodeFault, Decoder, OpenFault, Progress};
+use json_core::{json_text, print, to_json};
+use registry_core::TypeId;
+use scale_core::{Sink, Source};
+use std::alloc::{AllocError, Allocator, Global};
+use std::io::Read;
+use std::test::Fail;
+use stream_core::{PiecesFault, StreamFault, decode_all, decode_pieces};
+use value_core::{Limits, Value};
+use widths_core::Checked;
+
+/// What a decoder holds.
+#[derive(Clone, Copy, Debug, PartialEq, Eq)]
+pub struct Holding {
+    pub nodes: u64,
+    /// Bytes of texts and runs.
+    pub texts: u64,
+    /// Bytes that were taken.
+    pub taken: u64,
+}
+
+/// A decoder of the type, within these limits.
+pub fn open<'r, A: Allocator + Clone>(
+    memory: A,
+    checked: &'r Checked,
+    ty: u32,
+    limits: Limits,
+) -> Result<Decoder<'r, A>, Fail> {
+    match Decoder::new(memory, checked, TypeId(ty), limits) {
+        Ok(decoder) => Ok(decoder),
+        Err(_) => Err("no decoder")?,
+    }
+}
+
+/// Feeds the piece.
+pub fn feed<A: Allocator>(
+    decoder: &mut Decoder<'_, A>,
+    piece: &[u8],
+) -> Result<Progress, DecodeFault> {
+    decoder.feed(piece)
+}
+
+/// The end of the decoder.
+pub fn finish<'r, A: Allocator>(decoder: Decoder<'r, A>) -> Result<Value<'r, A>, DecodeFault> {
+    decoder.finish()
+}
+
+/// What the decoder holds.
+pub fn held<A: Allocator>(decoder: &Decoder<'_, A>) -> Holding {
+    Holding {
+        nodes: decoder.node_count(),
+        texts: decoder.text_bytes(),
+        taken: decoder.taken(),
+    }
+}
+
+/// Why no decoder of the type is made, if none is.
+pub fn opening_fault<A: Allocator + Clone>(
+    memory: A,
+    checked: &Checked,
+    ty: u32,
+    limits: Limits,
+) -> Option<OpenFault> {
+    Decoder::new(memory, checked, TypeId(ty), limits).err()
+}
+
+/// The value of the type that all bytes of the source are.
+pub fn all_of<'r, A: Allocator + Clone, R: Read>(
+    memory: A,
+    checked: &'r Checked,
+    ty: u32,
+    limits: Limits,
+    source: &mut Source<R>,
+) -> Result<Value<'r, A>, StreamFault> {
+    decode_all(memory, checked, TypeId(ty), limits, source)
+}
+
+/// The value of the type on the front of the pieces, and how many bytes it has.
+pub fn front_of<'r, A: Allocator + Clone>(
+    memory: A,
+    checked: &'r Checked,
+    ty: u32,
+    limits: Limits,
+    pieces: &[&[u8]],
+) -> Result<(Value<'r, A>, u64), PiecesFault> {
+    decode_pieces(memory, checked, TypeId(ty), limits, pieces)
+}
+
+/// The value as JSON.
+pub fn shown<A: Allocator>(alloc: Global, value: &Value<'_, A>) -> Result<String, AllocError> {
+    json_text(alloc, value)
+}
+
+/// The value as JSON, by its tree.
+pub fn shown_tree<A: Allocator>(alloc: Global, value: &Value<'_, A>) -> Result<String, AllocError> {
+    let tree = to_json(alloc, value)?;
+    tree.to_string(alloc)
+}
+
+/// The value as JSON, as it is printed.
+pub fn printed<A: Allocator>(alloc: Global, value: &Value<'_, A>) -> Result<Vec<u8>, Fail> {
+    let mut sink = Sink::new(Vec::new(alloc));
+    match print(alloc, value, &mut sink) {
+        Ok(()) => Ok(sink.into_inner()),
+        Err(_) => Err("a value is not printed")?,
+    }
+}

@@ -1,0 +1,201 @@
+//! Decoders whose memory is refused: where one is made, where it is fed, and where it is finished.
+
+use decode_core::{DecodeFault, DecodeReason, Decoder, OpenFault, Progress};
+use decoder_calls::calls::{Holding, feed, finish, held, open, opening_fault};
+use linked_list_allocator::LocalHeap;
+use scale_tests::building::{checked, written};
+use scale_tests::rationed::Rationed;
+use scale_tests::registries::{NESTED, TWO_UNITS_AND_A_BYTE, nested_pairs};
+use scale_tests::rows::AMPLE;
+use std::alloc::{Allocator, Global};
+use std::process::Abort;
+use std::test::Fail;
+use widths_core::Checked;
+
+/// The texts ab and éé, three runs of one, two and no bytes, and a chain of four arms.
+pub(crate) const NESTED_BYTES: &[u8] =
+    b"\x08ab\x0c\x04\x01\x08\x02\x03\x00\x01\x01\x01\x00\x10\xc3\xa9\xc3\xa9";
+
+pub(crate) const REFUSED: DecodeFault = DecodeFault {
+    reason: DecodeReason::OutOfMemory,
+    at: 0,
+};
+
+// A decoder takes memory for its nodes and for its bytes through a clone each of what it is handed, and no more at first.
+#[test]
+fn memory_that_is_refused_at_first_makes_no_decoder(rt: HostRuntime) -> Result<(), Fail> {
+    let checked = checked(rt.alloc(), NESTED)?;
+    let refused = Some(OpenFault::OutOfMemory);
+    'requests: for (request, fault) in [(1, refused), (2, refused), (3, None), (0, None)] {
+        let memory = Rationed::new(rt.alloc(), request);
+        let told = opening_fault(memory, &checked, 5, AMPLE);
+        assert_eq!(rt; told, fault, "request {request}");
+    }
+    Ok(())
+}
+
+/// What the byte at this place is answered where memory is granted.
+fn wanted_progress(place: usize) -> Progress {
+    if place.saturating_add(1) == NESTED_BYTES.len() {
+        Progress::Done { used: 1 }
+    } else {
+        Progress::More
+    }
+}
+
+/// Feeds the nested value byte by byte: the place of the byte at which memory is refused, where it is.
+fn place_of_refusal<A: Allocator>(rt: &impl Abort, decoder: &mut Decoder<'_, A>) -> Option<u64> {
+    'bytes: for (place, byte) in NESTED_BYTES.iter().enumerate() {
+        let told = feed(decoder, &[*byte]);
+        if told == Err(REFUSED) {
+            return Some(place as u64);
+        }
+        assert_eq!(rt; told, Ok(wanted_progress(place)), "byte {place}");
+    }
+    None
+}
+
+/// The decoder that was refused memory at this byte holds nothing, and each later call is refused too.
+fn check_refused<A: Allocator>(rt: &impl Abort, decoder: Decoder<'_, A>, place: u64) {
+    let mut decoder = decoder;
+    let taken = held(&decoder).taken;
+    // The last byte of a run is taken before memory is wanted for its node.
+    assert!(rt;
+        taken == place || taken == place.saturating_add(1),
+        "byte {place}"
+    );
+    let nothing = Holding {
+        nodes: 0,
+        texts: 0,
+        taken,
+    };
+    assert_eq!(rt; held(&decoder), nothing, "byte {place}");
+    'pieces: for piece in [b"".as_slice(), NESTED_BYTES] {
+        assert_eq!(rt; feed(&mut decoder, piece), Err(REFUSED), "byte {place}");
+        assert_eq!(rt; held(&decoder), nothing, "byte {place}");
+    }
+    assert_eq!(rt; finish(decoder).err(), Some(REFUSED), "byte {place}");
+}
+
+/// The decoder has the nested value.
+fn check_untroubled<A: Allocator>(
+    rt: &impl Abort,
+    alloc: Global,
+    decoder: Decoder<'_, A>,
+) -> Result<(), Fail> {
+    let whole = Holding {
+        nodes: 11,
+        texts: 9,
+        taken: 19,
+    };
+    assert_eq!(rt; held(&decoder), whole);
+    let value = finish(decoder).ok().ok_or("no value")?;
+    let bytes = written(alloc, &value)?;
+    assert_eq!(rt; bytes.as_slice(), NESTED_BYTES);
+    Ok(())
+}
+
+/// Decodes the nested value: was memory refused on the way?
+fn is_refused<A: Allocator + Clone>(
+    rt: &impl Abort,
+    alloc: Global,
+    checked: &Checked,
+    memory: A,
+) -> Result<bool, Fail> {
+    let mut decoder = open(memory, checked, 5, AMPLE)?;
+    match place_of_refusal(rt, &mut decoder) {
+        Some(place) => {
+            check_refused(rt, decoder, place);
+            Ok(true)
+        }
+        None => {
+            check_untroubled(rt, alloc, decoder)?;
+            Ok(false)
+        }
+    }
+}
+
+/// Decodes the nested value over memory of which this request is refused: was it made?
+fn check_feeds(
+    rt: &impl Abort,
+    alloc: Global,
+    checked: &Checked,
+    heap: &LocalHeap,
+    request: u64,
+) -> Result<bool, Fail> {
+    let memory = Rationed::new(heap, request);
+    let refused = is_refused(rt, alloc, checked, &memory)?;
+    assert_eq!(rt; refused, memory.is_past_refusal(), "request {request}");
+    assert_eq!(rt; heap.used(), 0, "what is kept behind request {request}");
+    Ok(refused)
+}
+
+// Nodes, the bytes of texts and runs and the nodes that are open are kept apart, and each grows at least once.
+#[test]
+fn each_refused_growth_ends_the_decoder(rt: HostRuntime) -> Result<(), Fail> {
+    let checked = checked(rt.alloc(), NESTED)?;
+    let heap = LocalHeap::new(rt.alloc(), 65_536)?;
+    'requests: for request in 1..1000 {
+        if !check_feeds(&rt, rt.alloc(), &checked, &heap, request)? {
+            assert!(rt; request > 3, "{request} requests were made");
+            return Ok(());
+        }
+    }
+    Err("each run is refused memory")?
+}
+
+/// Finishes a decoder that was fed nothing, over memory of which this request is refused: was it made?
+fn check_finish(
+    rt: &impl Abort,
+    checked: &Checked,
+    heap: &LocalHeap,
+    ty: u32,
+    request: u64,
+    untroubled: Option<DecodeFault>,
+) -> Result<bool, Fail> {
+    let memory = Rationed::new(heap, request);
+    let decoder = open(&memory, checked, ty, AMPLE)?;
+    let told = finish(decoder).err();
+    let refused = memory.is_past_refusal();
+    let wanted = if refused { Some(REFUSED) } else { untroubled };
+    assert_eq!(rt; told, wanted, "request {request}");
+    assert_eq!(rt; heap.used(), 0, "what is kept behind request {request}");
+    Ok(refused)
+}
+
+/// Finishes a decoder that was fed nothing, where each request in turn is refused, and then none.
+fn check_finishes(
+    rt: &impl Abort,
+    alloc: Global,
+    checked: &Checked,
+    ty: u32,
+    untroubled: Option<DecodeFault>,
+) -> Result<(), Fail> {
+    let heap = LocalHeap::new(alloc, 65_536)?;
+    'requests: for request in 1..1000 {
+        if !check_finish(rt, checked, &heap, ty, request, untroubled)? {
+            assert!(rt; request > 1, "no request was made");
+            return Ok(());
+        }
+    }
+    Err("each run is refused memory")?
+}
+
+// A value without bytes is made where the decoder is finished, if it was not fed before.
+#[test]
+fn a_value_without_bytes_may_be_refused_memory(rt: HostRuntime) -> Result<(), Fail> {
+    let registry = nested_pairs(rt.alloc())?;
+    let checked = checked(rt.alloc(), &registry)?;
+    check_finishes(&rt, rt.alloc(), &checked, 40, None)
+}
+
+// So are the nodes before the first byte, and only then it is told that the byte is missing.
+#[test]
+fn nodes_before_the_first_byte_may_be_refused_memory(rt: HostRuntime) -> Result<(), Fail> {
+    let checked = checked(rt.alloc(), TWO_UNITS_AND_A_BYTE)?;
+    let cut = DecodeFault {
+        reason: DecodeReason::Truncated,
+        at: 0,
+    };
+    check_finishes(&rt, rt.alloc(), &checked, 2, Some(cut))
+}

@@ -1,0 +1,175 @@
+//! Decoders over heaps of fixed size: a length that is claimed takes no memory, and what does not fit is refused for good.
+
+use crate::decoder_memory::REFUSED;
+use decode_core::{DecodeFault, DecodeReason, Decoder, Progress};
+use decoder_calls::calls::{Holding, feed, finish, held, open, printed, shown_tree};
+use linked_list_allocator::LocalHeap;
+use scale_tests::building::{checked, written};
+use scale_tests::registries::{BYTES, LONG_ARRAY, LONG_ARRAY_OF_WORDS, WORDS, nested_pairs};
+use scale_tests::rows::AMPLE;
+use std::alloc::{AllocError, Allocator, Global};
+use std::process::Abort;
+use std::test::Fail;
+use value_core::{Value, What};
+use widths_core::Checked;
+
+/// A value of a type that takes no bytes, which is one node.
+fn empty_value<'r>(
+    rt: &impl Abort,
+    heap: &'r LocalHeap,
+    checked: &'r Checked,
+) -> Result<Value<'r, &'r LocalHeap>, Fail> {
+    let whole = Holding {
+        nodes: 1,
+        texts: 0,
+        taken: 0,
+    };
+    let mut decoder = open(heap, checked, 40, AMPLE)?;
+    'pieces: for piece in [b"".as_slice(), b"\x00"] {
+        assert_eq!(rt; feed(&mut decoder, piece), Ok(Progress::Done { used: 0 }));
+        assert_eq!(rt; held(&decoder), whole);
+    }
+    let value = finish(decoder).ok().ok_or("no value")?;
+    Ok(value)
+}
+
+/// The value is one node and takes no bytes.
+fn check_empty<A: Allocator>(
+    rt: &impl Abort,
+    alloc: Global,
+    value: &Value<'_, A>,
+) -> Result<(), Fail> {
+    assert_eq!(rt; (value.node_count(), value.text_bytes()), (1, 0));
+    let bytes = written(alloc, value)?;
+    assert_eq!(rt; bytes.len(), 0);
+    Ok(())
+}
+
+/// The value is shown as null.
+fn check_null<A: Allocator>(
+    rt: &impl Abort,
+    alloc: Global,
+    value: &Value<'_, A>,
+) -> Result<(), Fail> {
+    let tree = shown_tree(alloc, value)?;
+    assert_eq!(rt; tree.as_str(), "null");
+    let text = printed(alloc, value)?;
+    assert_eq!(rt; text.as_slice(), b"null".as_slice());
+    Ok(())
+}
+
+#[test]
+fn a_value_of_two_to_the_fortieth_units_is_one_node(rt: HostRuntime) -> Result<(), Fail> {
+    let registry = nested_pairs(rt.alloc())?;
+    let checked = checked(rt.alloc(), &registry)?;
+    let heap = LocalHeap::new(rt.alloc(), 65_536)?;
+    let value = empty_value(&rt, &heap, &checked)?;
+    check_empty(&rt, rt.alloc(), &value)?;
+    check_null(&rt, rt.alloc(), &value)?;
+    drop(value);
+    assert_eq!(rt; heap.used(), 0);
+    Ok(())
+}
+
+/// The bytes are too few for the type 1, and so many nodes and bytes of runs are held.
+fn check_claim(
+    rt: &impl Abort,
+    heap: &LocalHeap,
+    checked: &Checked,
+    bytes: &[u8],
+    (nodes, texts): (u64, u64),
+) -> Result<(), Fail> {
+    let taken = bytes.len() as u64;
+    let mut decoder = open(heap, checked, 1, AMPLE)?;
+    assert_eq!(rt; feed(&mut decoder, bytes), Ok(Progress::More));
+    let wanted = Holding {
+        nodes,
+        texts,
+        taken,
+    };
+    assert_eq!(rt; held(&decoder), wanted);
+    let cut = DecodeFault {
+        reason: DecodeReason::Truncated,
+        at: taken,
+    };
+    assert_eq!(rt; finish(decoder).err(), Some(cut));
+    assert_eq!(rt; heap.used(), 0);
+    Ok(())
+}
+
+// A sequence of 2^30 - 1 elements and an array of 2^32 - 1 are claimed, and a few bytes are there.
+#[test]
+fn claimed_lengths_fit_a_small_heap(rt: HostRuntime) -> Result<(), Fail> {
+    let heap = LocalHeap::new(rt.alloc(), 65_536)?;
+    let sequence = b"\xfe\xff\xff\xff\x01\x02".as_slice();
+    let array = b"\x01\x02\x03".as_slice();
+    let claims = [
+        (BYTES, sequence, (0, 2)),
+        (LONG_ARRAY, array, (0, 3)),
+        (WORDS, sequence, (2, 0)),
+        (LONG_ARRAY_OF_WORDS, array, (2, 0)),
+    ];
+    'claims: for (registry, bytes, counts) in claims {
+        let checked = checked(rt.alloc(), registry)?;
+        check_claim(&rt, &heap, &checked, bytes, counts)?;
+    }
+    Ok(())
+}
+
+#[test]
+fn a_claimed_length_fits_the_smallest_heap(rt: HostRuntime) -> Result<(), Fail> {
+    let heap = LocalHeap::new(rt.alloc(), 4096)?;
+    let checked = checked(rt.alloc(), BYTES)?;
+    check_claim(&rt, &heap, &checked, b"\xfe\xff\xff\xff\x01\x02", (0, 2))
+}
+
+/// A sequence of 65536 u8.
+fn many_bytes(alloc: Global) -> Result<Vec<u8>, AllocError> {
+    let mut many = Vec::from_slice(alloc, b"\x02\x00\x04\x00")?;
+    'bytes: for _ in 0..65_536 {
+        many.push(7)?;
+    }
+    Ok(many)
+}
+
+/// The piece is refused memory, and nothing is held.
+fn check_refused<A: Allocator>(rt: &impl Abort, decoder: &mut Decoder<'_, A>, piece: &[u8]) {
+    assert_eq!(rt; feed(decoder, piece), Err(REFUSED));
+    let Holding { nodes, texts, .. } = held(decoder);
+    assert_eq!(rt; (nodes, texts), (0, 0));
+}
+
+/// A decoder to which more bytes are fed than fit the heap.
+fn check_full(
+    rt: &impl Abort,
+    heap: &LocalHeap,
+    checked: &Checked,
+    many: &[u8],
+) -> Result<(), Fail> {
+    let mut decoder = open(heap, checked, 1, AMPLE)?;
+    'pieces: for piece in [many, b"", b"\x07", many] {
+        check_refused(rt, &mut decoder, piece);
+    }
+    assert_eq!(rt; finish(decoder).err(), Some(REFUSED));
+    Ok(())
+}
+
+/// A decoder of a u8 over the heap.
+fn check_next(rt: &impl Abort, heap: &LocalHeap, checked: &Checked) -> Result<(), Fail> {
+    let mut decoder = open(heap, checked, 0, AMPLE)?;
+    let told = feed(&mut decoder, b"\x2a");
+    assert_eq!(rt; told, Ok(Progress::Done { used: 1 }));
+    let value = finish(decoder).ok().ok_or("no value")?;
+    assert_eq!(rt; value.root().what(), What::Unsigned(42));
+    Ok(())
+}
+
+// Memory that is refused ends a decoder for good, and leaves the heap to the next one.
+#[test]
+fn a_heap_of_fixed_size_bounds_a_decoder(rt: HostRuntime) -> Result<(), Fail> {
+    let checked = checked(rt.alloc(), BYTES)?;
+    let heap = LocalHeap::new(rt.alloc(), 4096)?;
+    let many = many_bytes(rt.alloc())?;
+    check_full(&rt, &heap, &checked, &many)?;
+    check_next(&rt, &heap, &checked)
+}

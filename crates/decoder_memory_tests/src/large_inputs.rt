@@ -1,0 +1,328 @@
+//! Inputs that are large: a decoder to which memory is granted answers them, and never says that it was refused.
+
+use decode_core::{DecodeFault, DecodeReason, Decoder, Progress};
+use decoder_calls::calls::{Holding, feed, finish, held, open, printed, shown};
+use scale_core::write_compact;
+use scale_tests::building::{checked, written};
+use scale_tests::registries::{
+    BYTES, CHAIN, TEXT, TWO_UNITS_AND_A_BYTE, UNITS, UNITS_IN_UNITS, WORDS,
+};
+use scale_tests::rows::AMPLE;
+use std::alloc::{AllocError, Global};
+use std::process::Abort;
+use std::test::Fail;
+use value_core::{Limits, NodeRef, Value, What};
+use widths_core::Checked;
+
+/// The length of a text or a sequence, and so many bytes that are an `a` each.
+fn letters(alloc: Global, length: u32, count: u32) -> Result<Vec<u8>, AllocError> {
+    let mut bytes = Vec::new(alloc);
+    write_compact(&mut bytes, u128::from(length))?;
+    'letters: for _ in 0..count {
+        bytes.push(b'a')?;
+    }
+    Ok(bytes)
+}
+
+/// The value of the type whose bytes these are, fed at once.
+fn value_of<'r>(
+    rt: &impl Abort,
+    alloc: Global,
+    checked: &'r Checked,
+    (ty, limits): (u32, Limits),
+    bytes: &[u8],
+) -> Result<Value<'r, Global>, Fail> {
+    let used = bytes.len() as u64;
+    let mut decoder = open(alloc, checked, ty, limits)?;
+    let told = feed(&mut decoder, bytes);
+    assert_eq!(rt; told, Ok(Progress::Done { used }));
+    assert_eq!(rt; held(&decoder).taken, used);
+    let value = finish(decoder).ok().ok_or("no value")?;
+    Ok(value)
+}
+
+/// The decoder that took all bytes in one feed holds so many nodes and bytes of text.
+fn check_held(
+    rt: &impl Abort,
+    alloc: Global,
+    checked: &Checked,
+    ty: u32,
+    bytes: &[u8],
+    (nodes, texts): (u64, u64),
+) -> Result<(), Fail> {
+    let taken = bytes.len() as u64;
+    let mut decoder = open(alloc, checked, ty, AMPLE)?;
+    let told = feed(&mut decoder, bytes);
+    assert_eq!(rt; told, Ok(Progress::Done { used: taken }));
+    let wanted = Holding {
+        nodes,
+        texts,
+        taken,
+    };
+    assert_eq!(rt; held(&decoder), wanted, "{taken} bytes");
+    Ok(())
+}
+
+/// All bytes are taken in one feed, and so many nodes and bytes of text are there.
+fn check_feed(
+    rt: &impl Abort,
+    alloc: Global,
+    checked: &Checked,
+    ty: u32,
+    bytes: &[u8],
+    counts: (u64, u64),
+) -> Result<(), Fail> {
+    check_held(rt, alloc, checked, ty, bytes, counts)?;
+    let value = value_of(rt, alloc, checked, (ty, AMPLE), bytes)?;
+    assert_eq!(rt; (value.node_count(), value.text_bytes()), counts);
+    let back = written(alloc, &value)?;
+    assert!(rt; back.as_slice() == bytes);
+    Ok(())
+}
+
+// A piece of 5000 bytes, and one of 1 MiB.
+#[test]
+fn a_long_piece_is_taken_at_once(rt: HostRuntime) -> Result<(), Fail> {
+    let bytes = checked(rt.alloc(), BYTES)?;
+    let text = checked(rt.alloc(), TEXT)?;
+    'lengths: for (count, len) in [(4_998, 5_000), (1_048_572, 1_048_576)] {
+        let input = letters(rt.alloc(), count, count)?;
+        assert_eq!(rt; input.len(), len);
+        let counts = (1, u64::from(count));
+        check_feed(&rt, rt.alloc(), &bytes, 1, &input, counts)?;
+        check_feed(&rt, rt.alloc(), &text, 0, &input, counts)?;
+    }
+    Ok(())
+}
+
+// A sequence of 100,000 words has 100,001 nodes.
+#[test]
+fn many_nodes_are_finished(rt: HostRuntime) -> Result<(), Fail> {
+    let checked = checked(rt.alloc(), WORDS)?;
+    let input = letters(rt.alloc(), 100_000, 200_000)?;
+    check_feed(&rt, rt.alloc(), &checked, 1, &input, (100_001, 0))
+}
+
+const DEEPEST: Limits = Limits {
+    depth: 1024,
+    bytes: 2048,
+};
+
+/// So many arms that hold another, and one that holds none.
+fn arms(alloc: Global, count: u16) -> Result<Vec<u8>, AllocError> {
+    let mut bytes = Vec::new(alloc);
+    'arms: for _ in 0..count {
+        bytes.push(1)?;
+    }
+    bytes.push(0)?;
+    Ok(bytes)
+}
+
+/// The only part of an arm that holds another.
+fn next_arm<'v, 'r>(rt: &impl Abort, node: &NodeRef<'v, 'r>) -> Result<NodeRef<'v, 'r>, Fail> {
+    assert_eq!(rt; node.what(), What::Arm { position: 1 });
+    let mut children = node.children();
+    let child = children.next().ok_or("no child")?;
+    assert!(rt; children.next().is_none());
+    Ok(child)
+}
+
+// The root has depth 0, so the last of 1025 nodes has depth 1024.
+#[test]
+fn the_deepest_value_is_taken(rt: HostRuntime) -> Result<(), Fail> {
+    let checked = checked(rt.alloc(), CHAIN)?;
+    let input = arms(rt.alloc(), 1024)?;
+    let value = value_of(&rt, rt.alloc(), &checked, (0, DEEPEST), &input)?;
+    assert_eq!(rt; value.node_count(), 1025);
+    let mut node = value.root();
+    'levels: for _ in 0..1024 {
+        node = next_arm(&rt, &node)?;
+    }
+    assert_eq!(rt; node.what(), What::Arm { position: 0 });
+    assert!(rt; node.children().next().is_none());
+    Ok(())
+}
+
+/// Each of 1024 arms that hold another is an object around an array.
+fn shown_arms(alloc: Global) -> Result<String, AllocError> {
+    let mut text = String::new(alloc);
+    'arms: for _ in 0..1024 {
+        text.push_str("{\"Next\":[")?;
+    }
+    text.push_str("{\"End\":[]}")?;
+    'ends: for _ in 0..1024 {
+        text.push_str("]}")?;
+    }
+    Ok(text)
+}
+
+// The calls that write a value nest as deep as it does.
+#[test]
+fn the_deepest_value_is_shown(rt: HostRuntime) -> Result<(), Fail> {
+    let checked = checked(rt.alloc(), CHAIN)?;
+    let input = arms(rt.alloc(), 1024)?;
+    let value = value_of(&rt, rt.alloc(), &checked, (0, DEEPEST), &input)?;
+    let text = shown(rt.alloc(), &value)?;
+    let wanted = shown_arms(rt.alloc())?;
+    assert!(rt; text.as_str() == wanted.as_str());
+    Ok(())
+}
+
+#[test]
+fn one_level_past_the_deepest_is_refused(rt: HostRuntime) -> Result<(), Fail> {
+    let checked = checked(rt.alloc(), CHAIN)?;
+    let input = arms(rt.alloc(), 1025)?;
+    let refused = DecodeFault {
+        reason: DecodeReason::TooDeep,
+        at: 1025,
+    };
+    let mut decoder = open(rt.alloc(), &checked, 0, DEEPEST)?;
+    assert_eq!(rt; feed(&mut decoder, &input), Err(refused));
+    let Holding { nodes, taken, .. } = held(&decoder);
+    assert_eq!(rt; (nodes, taken), (0, 1025));
+    Ok(())
+}
+
+/// A variant with an arm for each index but one, none of which has fields or a name.
+fn all_but(alloc: Global, missing: u8) -> Result<Vec<u8>, AllocError> {
+    let mut bytes = Vec::from_slice(alloc, b"\x04\x00\x00\x00\x01")?;
+    write_compact(&mut bytes, 255)?;
+    'indexes: for index in 0..=u8::MAX {
+        if index != missing {
+            bytes.extend_from_slice(&[0, 0, index, 0])?;
+        }
+    }
+    bytes.push(0)?;
+    Ok(bytes)
+}
+
+/// A variant without this index: it is refused, and its neighbours are taken.
+fn check_missing(rt: &impl Abort, alloc: Global, missing: u8) -> Result<(), Fail> {
+    let registry = all_but(alloc, missing)?;
+    let checked = checked(alloc, &registry)?;
+    let refused = Err(DecodeFault {
+        reason: DecodeReason::NoSuchVariant,
+        at: 0,
+    });
+    let taken = Ok(Progress::Done { used: 1 });
+    let (next, before) = (missing.wrapping_add(1), missing.wrapping_sub(1));
+    'indexes: for (index, answer) in [(missing, refused), (next, taken), (before, taken)] {
+        let mut decoder = open(alloc, &checked, 0, AMPLE)?;
+        let told = feed(&mut decoder, &[index]);
+        assert_eq!(rt; told, answer, "{index} without {missing}");
+    }
+    Ok(())
+}
+
+// An index that no arm has is told as such, whichever it is, and those beside it are taken.
+#[test]
+fn each_index_may_be_missing(rt: HostRuntime) -> Result<(), Fail> {
+    'missing: for missing in 0..=u8::MAX {
+        check_missing(&rt, rt.alloc(), missing)?;
+    }
+    Ok(())
+}
+
+/// The greatest number of nodes where so many bytes were taken.
+fn most_nodes(taken: u64, depth: u16, widest: u32) -> u64 {
+    let levels = u64::from(depth).saturating_add(1);
+    let parts = u64::from(widest).saturating_add(1);
+    taken
+        .saturating_add(1)
+        .saturating_mul(levels)
+        .saturating_mul(parts)
+}
+
+// Before the first byte a tuple of two units and a byte has three nodes, where 260 would be the most.
+#[test]
+fn nodes_stay_below_the_bound(rt: HostRuntime) -> Result<(), Fail> {
+    let checked = checked(rt.alloc(), TWO_UNITS_AND_A_BYTE)?;
+    assert_eq!(rt; checked.widest(), 3);
+    let mut decoder = open(rt.alloc(), &checked, 2, AMPLE)?;
+    assert_eq!(rt; feed(&mut decoder, b""), Ok(Progress::More));
+    let Holding { nodes, taken, .. } = held(&decoder);
+    assert_eq!(rt; (nodes, taken), (3, 0));
+    let most = most_nodes(taken, AMPLE.depth, checked.widest());
+    assert_eq!(rt; most, 260);
+    assert!(rt; nodes <= most);
+    Ok(())
+}
+
+#[test]
+fn a_sequence_of_units_is_its_count(rt: HostRuntime) -> Result<(), Fail> {
+    let checked = checked(rt.alloc(), UNITS)?;
+    let bytes = b"\x03\x00\x00\x00\x40";
+    let value = value_of(&rt, rt.alloc(), &checked, (2, AMPLE), bytes)?;
+    assert_eq!(rt; value.root().what(), What::Count(1_073_741_824));
+    Ok(())
+}
+
+/// The decoder goes on, and holds so many nodes of so many bytes.
+fn check_more(
+    rt: &impl Abort,
+    decoder: &mut Decoder<'_, Global>,
+    piece: &[u8],
+    (nodes, taken): (u64, u64),
+) {
+    assert_eq!(rt; feed(decoder, piece), Ok(Progress::More));
+    let wanted = Holding {
+        nodes,
+        texts: 0,
+        taken,
+    };
+    assert_eq!(rt; held(decoder), wanted);
+}
+
+// A sequence of units is one node, however many it claims.
+#[test]
+fn counts_are_no_nodes(rt: HostRuntime) -> Result<(), Fail> {
+    let greatest = b"\x03\xff\xff\xff\xff";
+    let checked = checked(rt.alloc(), UNITS_IN_UNITS)?;
+    let mut decoder = open(rt.alloc(), &checked, 2, AMPLE)?;
+    check_more(&rt, &mut decoder, b"\xa1\x0f", (1, 2));
+    'elements: for element in 1..1000_u64 {
+        let wanted = (element + 1, 5 * element + 2);
+        check_more(&rt, &mut decoder, greatest, wanted);
+    }
+    let told = feed(&mut decoder, greatest);
+    assert_eq!(rt; told, Ok(Progress::Done { used: 5 }));
+    let Holding { nodes, taken, .. } = held(&decoder);
+    assert_eq!(rt; (nodes, taken), (1001, 5002));
+    Ok(())
+}
+
+// A text of 70,000 letters is shown between two quotes.
+#[test]
+fn a_long_text_is_shown(rt: HostRuntime) -> Result<(), Fail> {
+    let checked = checked(rt.alloc(), TEXT)?;
+    let input = letters(rt.alloc(), 70_000, 70_000)?;
+    let value = value_of(&rt, rt.alloc(), &checked, (0, AMPLE), &input)?;
+    let text = printed(rt.alloc(), &value)?;
+    assert_eq!(rt; text.len(), 70_002);
+    assert!(rt; text.first() == Some(&b'"') && text.last() == Some(&b'"'));
+    assert!(rt; text.as_slice().get(1..70_001) == input.as_slice().get(4..));
+    Ok(())
+}
+
+/// The text of a run of so many letters a.
+fn shown_letters(alloc: Global, count: u32) -> Result<String, AllocError> {
+    let mut shown = String::new(alloc);
+    shown.push_str("\"0x")?;
+    'letters: for _ in 0..count {
+        shown.push_str("61")?;
+    }
+    shown.push_str("\"")?;
+    Ok(shown)
+}
+
+// A run of 70,000 bytes is shown by two digits each, behind the mark of hexadecimal digits.
+#[test]
+fn a_long_run_is_shown(rt: HostRuntime) -> Result<(), Fail> {
+    let checked = checked(rt.alloc(), BYTES)?;
+    let input = letters(rt.alloc(), 70_000, 70_000)?;
+    let value = value_of(&rt, rt.alloc(), &checked, (1, AMPLE), &input)?;
+    let text = shown(rt.alloc(), &value)?;
+    let wanted = shown_letters(rt.alloc(), 70_000)?;
+    assert!(rt; text.as_str() == wanted.as_str());
+    Ok(())
+}

@@ -1,0 +1,151 @@
+//! Values from readers and from pieces where memory is refused.
+
+use crate::decoder_memory::{NESTED_BYTES, REFUSED};
+use decode_core::OpenFault;
+use decoder_calls::calls::{all_of, front_of};
+use linked_list_allocator::LocalHeap;
+use scale_core::Source;
+use scale_tests::building::{checked, written};
+use scale_tests::paced::{PacedReader, Then};
+use scale_tests::rationed::Rationed;
+use scale_tests::registries::NESTED;
+use scale_tests::rows::AMPLE;
+use std::alloc::{Allocator, Global};
+use std::process::Abort;
+use std::test::Fail;
+use stream_core::{PiecesFault, StreamFault};
+use value_core::Value;
+use widths_core::Checked;
+
+// A decoder takes memory for its nodes and for its bytes through a clone each of what it is handed.
+#[test]
+fn a_reader_is_not_read_without_a_decoder(rt: HostRuntime) -> Result<(), Fail> {
+    let checked = checked(rt.alloc(), NESTED)?;
+    'requests: for request in [1, 2] {
+        let mut source = Source::new(PacedReader::new(b"", 1, Then::Fails));
+        let memory = Rationed::new(rt.alloc(), request);
+        let told = all_of(memory, &checked, 5, AMPLE, &mut source).err();
+        assert_eq!(rt; told, Some(StreamFault::Open(OpenFault::OutOfMemory)));
+        assert!(rt; !source.failed());
+    }
+    Ok(())
+}
+
+#[test]
+fn pieces_without_a_decoder_are_refused(rt: HostRuntime) -> Result<(), Fail> {
+    let checked = checked(rt.alloc(), NESTED)?;
+    'requests: for request in [1, 2] {
+        let memory = Rationed::new(rt.alloc(), request);
+        let told = front_of(memory, &checked, 5, AMPLE, &[NESTED_BYTES]).err();
+        assert_eq!(rt; told, Some(PiecesFault::Open(OpenFault::OutOfMemory)));
+    }
+    Ok(())
+}
+
+/// The value is the nested one.
+fn check_nested<A: Allocator>(
+    rt: &impl Abort,
+    alloc: Global,
+    value: &Value<'_, A>,
+) -> Result<(), Fail> {
+    let bytes = written(alloc, value)?;
+    assert_eq!(rt; bytes.as_slice(), NESTED_BYTES);
+    Ok(())
+}
+
+/// Decodes a reader over the memory: why it is refused. Without a refusal the value is the nested one.
+fn refusal_of_reader<A: Allocator + Clone>(
+    rt: &impl Abort,
+    alloc: Global,
+    checked: &Checked,
+    memory: A,
+) -> Result<Option<StreamFault>, Fail> {
+    let mut source = Source::new(PacedReader::new(NESTED_BYTES, 3, Then::GoesOn));
+    let told = all_of(memory, checked, 5, AMPLE, &mut source);
+    assert!(rt; !source.failed());
+    match told {
+        Ok(value) => {
+            check_nested(rt, alloc, &value)?;
+            Ok(None)
+        }
+        Err(fault) => Ok(Some(fault)),
+    }
+}
+
+/// Decodes two pieces over the memory: why they are refused. Without a refusal the value is the nested one.
+fn refusal_of_pieces<A: Allocator + Clone>(
+    rt: &impl Abort,
+    alloc: Global,
+    checked: &Checked,
+    memory: A,
+) -> Result<Option<PiecesFault>, Fail> {
+    let (front, rest) = NESTED_BYTES.split_at(8);
+    match front_of(memory, checked, 5, AMPLE, &[front, rest]) {
+        Ok((value, taken)) => {
+            assert_eq!(rt; taken, 19);
+            check_nested(rt, alloc, &value)?;
+            Ok(None)
+        }
+        Err(fault) => Ok(Some(fault)),
+    }
+}
+
+/// A reader over memory of which this request is refused: was it made?
+fn check_reader(
+    rt: &impl Abort,
+    alloc: Global,
+    checked: &Checked,
+    heap: &LocalHeap,
+    request: u64,
+) -> Result<bool, Fail> {
+    let memory = Rationed::new(heap, request);
+    let told = refusal_of_reader(rt, alloc, checked, &memory)?;
+    let refused = memory.is_past_refusal();
+    let wanted = refused.then_some(StreamFault::Decode(REFUSED));
+    assert_eq!(rt; told, wanted, "request {request}");
+    assert_eq!(rt; heap.used(), 0, "what is kept behind request {request}");
+    Ok(refused)
+}
+
+/// Two pieces over memory of which this request is refused: was it made?
+fn check_pieces(
+    rt: &impl Abort,
+    alloc: Global,
+    checked: &Checked,
+    heap: &LocalHeap,
+    request: u64,
+) -> Result<bool, Fail> {
+    let memory = Rationed::new(heap, request);
+    let told = refusal_of_pieces(rt, alloc, checked, &memory)?;
+    let refused = memory.is_past_refusal();
+    let wanted = refused.then_some(PiecesFault::Decode(REFUSED));
+    assert_eq!(rt; told, wanted, "request {request}");
+    assert_eq!(rt; heap.used(), 0, "what is kept behind request {request}");
+    Ok(refused)
+}
+
+#[test]
+fn each_refused_request_of_a_reader_leaves_nothing(rt: HostRuntime) -> Result<(), Fail> {
+    let checked = checked(rt.alloc(), NESTED)?;
+    let heap = LocalHeap::new(rt.alloc(), 65_536)?;
+    'requests: for request in 1..1000 {
+        if !check_reader(&rt, rt.alloc(), &checked, &heap, request)? {
+            assert!(rt; request > 3, "{request} requests were made");
+            return Ok(());
+        }
+    }
+    Err("each run is refused memory")?
+}
+
+#[test]
+fn each_refused_request_of_pieces_leaves_nothing(rt: HostRuntime) -> Result<(), Fail> {
+    let checked = checked(rt.alloc(), NESTED)?;
+    let heap = LocalHeap::new(rt.alloc(), 65_536)?;
+    'requests: for request in 1..1000 {
+        if !check_pieces(&rt, rt.alloc(), &checked, &heap, request)? {
+            assert!(rt; request > 3, "{request} requests were made");
+            return Ok(());
+        }
+    }
+    Err("each run is refused memory")?
+}

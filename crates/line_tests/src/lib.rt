@@ -1,0 +1,7 @@
+//! Tests of the command line: the jobs that its words name, what is told where they name none, and the help.
+#![tactic(auto)]
+
+#[cfg(test)]
+mod command_help;
+#[cfg(test)]
+mod command_line;

@@ -1,0 +1,69 @@
+//! What most tests do with a builder: begin it, make calls that are not refused, and take the value that they built.
+
+use crate::building::{Call, add, written};
+use registry_core::TypeId;
+use std::alloc::{Allocator, Global};
+use std::test::Fail;
+use value_core::{Builder, Value};
+use widths_core::Checked;
+
+/// A builder of a value of this type, down to this depth.
+pub fn begun<'r, A: Allocator + Clone>(
+    alloc: A,
+    checked: &'r Checked,
+    ty: u32,
+    depth: u16,
+) -> Result<Builder<'r, A>, Fail> {
+    match Builder::new(alloc, checked, TypeId(ty), depth) {
+        Ok(builder) => Ok(builder),
+        Err(fault) => Err(fault)?,
+    }
+}
+
+/// Makes these calls, none of which is refused.
+pub fn add_all<A: Allocator>(builder: &mut Builder<'_, A>, calls: &[Call]) -> Result<(), Fail> {
+    'calls: for call in calls {
+        add(builder, *call)?;
+    }
+    Ok(())
+}
+
+/// The value of a builder to which nothing is missing.
+pub fn finished<A: Allocator>(builder: Builder<'_, A>) -> Result<Value<'_, A>, Fail> {
+    match builder.finish() {
+        Ok(value) => Ok(value),
+        Err(_) => Err("the value is not whole")?,
+    }
+}
+
+/// The value of this type that these calls build, down to this depth.
+pub fn built<'r>(
+    alloc: Global,
+    checked: &'r Checked,
+    ty: u32,
+    depth: u16,
+    calls: &[Call],
+) -> Result<Value<'r, Global>, Fail> {
+    let mut builder = begun(alloc, checked, ty, depth)?;
+    add_all(&mut builder, calls)?;
+    finished(builder)
+}
+
+/// How many nodes the value holds, and how many bytes of texts and runs of bytes.
+pub fn counts<A: Allocator>(value: &Value<'_, A>) -> (u64, u64) {
+    (value.node_count(), value.text_bytes())
+}
+
+/// The value is written as these bytes.
+pub fn check_written<A: Allocator>(
+    alloc: Global,
+    value: &Value<'_, A>,
+    spelled: &[u8],
+) -> Result<(), Fail> {
+    let bytes = written(alloc, value)?;
+    if bytes.as_slice() == spelled {
+        Ok(())
+    } else {
+        Err("the value is written otherwise")?
+    }
+}
