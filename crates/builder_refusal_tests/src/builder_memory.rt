@@ -357,7 +357,7 @@ fn refusals_of(rt: &impl Abort, alloc: Global, row: &Row) -> Result<u32, Fail> {
 }
 
 #[test]
-fn each_kind_of_call_tells_want_of_memory(rt: HostRuntime) -> Result<(), Fail> {
+fn each_kind_of_call_reports_want_of_memory(rt: HostRuntime) -> Result<(), Fail> {
     'rows: for row in &ROWS {
         let refusals = refusals_of(&rt, rt.alloc(), row)?;
         assert!(rt; refusals > 0, "{} is refused no memory", row.name);
@@ -367,7 +367,9 @@ fn each_kind_of_call_tells_want_of_memory(rt: HostRuntime) -> Result<(), Fail> {
 
 // The request that is refused is the first for the bytes of the run, and the second would be for its node.
 #[test]
-fn a_piece_that_does_not_fit_is_told_before_want_of_memory(rt: HostRuntime) -> Result<(), Fail> {
+fn a_piece_that_does_not_fit_is_reported_before_want_of_memory(
+    rt: HostRuntime,
+) -> Result<(), Fail> {
     let checked = checked(rt.alloc(), BYTES)?;
     let memory = Rationed::new(rt.alloc(), 1);
     let mut builder = begun(&memory, &checked, 1, 64)?;
@@ -388,14 +390,14 @@ fn a_piece_that_does_not_fit_is_told_before_want_of_memory(rt: HostRuntime) -> R
 }
 
 #[test]
-fn a_text_that_is_none_is_told_before_want_of_memory(rt: HostRuntime) -> Result<(), Fail> {
+fn a_text_that_is_none_is_reported_before_want_of_memory(rt: HostRuntime) -> Result<(), Fail> {
     let checked = checked(rt.alloc(), TEXT)?;
     let memory = Rationed::new(rt.alloc(), 2);
     let mut builder = begun(&memory, &checked, 0, 64)?;
     let calls = [Call::TextStart(1), Call::TextPiece(b"\xff")];
     add_all(&mut builder, &calls)?;
-    let told = builder.text_end();
-    assert_eq!(rt; told, Err(BuildFault::BadText { valid: 0 }));
+    let reported = builder.text_end();
+    assert_eq!(rt; reported, Err(BuildFault::BadText { valid: 0 }));
     assert!(rt; !memory.is_past_refusal());
     Ok(())
 }
@@ -415,8 +417,12 @@ fn a_builder_without_memory_is_not_made(rt: HostRuntime) -> Result<(), Fail> {
     ];
     'rows: for (request, ty, depth, fault) in rows {
         let memory = Rationed::new(rt.alloc(), request);
-        let told = Builder::new(memory, &checked, TypeId(ty), depth).err();
-        assert_eq!(rt; told, fault, "request {request}, type {ty}, depth {depth}");
+        let reported = Builder::new(memory, &checked, TypeId(ty), depth).err();
+        assert_eq!(rt;
+            reported,
+            fault,
+            "request {request}, type {ty}, depth {depth}"
+        );
     }
     Ok(())
 }

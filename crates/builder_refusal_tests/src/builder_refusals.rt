@@ -273,8 +273,8 @@ fn check_suits(
     suits: bool,
     name: &str,
 ) {
-    let told = add(builder, call).err();
-    let is_wrong = told == Some(BuildFault::WrongKind);
+    let reported = add(builder, call).err();
+    let is_wrong = reported == Some(BuildFault::WrongKind);
     assert_eq!(rt; is_wrong, !suits, "{call:?} of {name}");
 }
 
@@ -332,7 +332,7 @@ fn only_the_call_for_a_type_suits_it(rt: HostRuntime) -> Result<(), Fail> {
     Ok(())
 }
 
-/// Behind the arm of index 1 each call is refused for the reason of the row.
+/// After the arm of index 1 each call is refused for the reason of the row.
 fn check_stop(rt: &impl Abort, alloc: Global, stop: Stop) -> Result<(), Fail> {
     let checked = checked(alloc, stop.registry)?;
     let mut builder = begun(alloc, &checked, stop.ty, stop.depth)?;
@@ -342,7 +342,7 @@ fn check_stop(rt: &impl Abort, alloc: Global, stop: Stop) -> Result<(), Fail> {
 }
 
 #[test]
-fn what_the_walk_stops_at_is_told_first(rt: HostRuntime) -> Result<(), Fail> {
+fn what_the_walk_stops_at_is_reported_first(rt: HostRuntime) -> Result<(), Fail> {
     'stops: for stop in STOPS {
         check_stop(&rt, rt.alloc(), stop)?;
     }

@@ -223,7 +223,7 @@ const ROWS: [Row; 11] = [
 
 const RUN: Next = Next::Wants(Form::ByteArray(3));
 
-/// Calls on a tuple of a text and an array: how many nodes and bytes are there behind each, what comes next, and its depth.
+/// Calls on a tuple of a text and an array: how many nodes and bytes are there after each, what comes next, and its depth.
 const STEPS: [(Call, u64, u64, Next, u16); 6] = [
     (Call::Text("ab"), 2, 2, RUN, 1),
     (Call::BytesStart(3), 2, 2, RUN, 1),

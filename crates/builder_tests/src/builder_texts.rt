@@ -67,7 +67,7 @@ const ROWS: [Row; 7] = [
         bytes: None,
     },
     Row {
-        name: "missing bytes, which are told before wrong ones",
+        name: "missing bytes, which are reported before wrong ones",
         registry: TEXT,
         ty: 0,
         depth: 64,
@@ -135,7 +135,7 @@ const ROWS: [Row; 7] = [
 
 const WRITTEN: Next = Next::Wants(Form::Primitive(Primitive::Str));
 
-/// Calls on a tuple of two texts: how many nodes and bytes of texts are there behind each, what comes next, and its depth.
+/// Calls on a tuple of two texts: how many nodes and bytes of texts are there after each, what comes next, and its depth.
 const STEPS: [(Call, u64, u64, Next, u16); 8] = [
     (Call::Fields, 1, 0, WRITTEN, 1),
     (Call::Text("ab"), 2, 2, WRITTEN, 1),

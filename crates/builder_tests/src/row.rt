@@ -7,7 +7,7 @@ use std::process::Abort;
 use std::test::Fail;
 use value_core::{BuildFault, Builder, Value};
 
-/// Calls on a builder, each with its refusal, and the bytes of the value where nothing is missing behind them.
+/// Calls on a builder, each with its refusal, and the bytes of the value where nothing is missing after them.
 #[derive(Clone, Copy)]
 pub(crate) struct Row {
     pub(crate) name: &'static str,
@@ -27,14 +27,14 @@ fn check_call(
     name: &str,
 ) {
     let before = what_stands(builder);
-    let told = add(builder, call).err();
-    assert_eq!(rt; told, fault, "{call:?} of {name}");
-    if told.is_some() {
+    let reported = add(builder, call).err();
+    assert_eq!(rt; reported, fault, "{call:?} of {name}");
+    if reported.is_some() {
         check_unchanged(rt, builder, before, name);
     }
 }
 
-/// The builder tells what it told before.
+/// The builder reports what it reported before.
 fn check_unchanged(rt: &impl Abort, builder: &Builder<'_, Global>, before: Standing, name: &str) {
     assert_eq!(rt; what_stands(builder), before, "behind a refusal of {name}");
 }
@@ -94,7 +94,7 @@ pub(crate) fn check_row(rt: &impl Abort, alloc: Global, row: &Row) -> Result<(),
     check_end(rt, alloc, builder, row)
 }
 
-/// Makes a call that is not refused, and looks at what stands behind it.
+/// Makes a call that is not refused, and looks at what stands after it.
 pub(crate) fn check_step(
     rt: &impl Abort,
     builder: &mut Builder<'_, Global>,

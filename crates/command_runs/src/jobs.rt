@@ -4,7 +4,7 @@ ghost use Rattle.scale_tool.specs.Answer.{IsServed};
 
 use scale_tool::Job;
 
-/// The job of a value's bytes, within the depth that holds where none is told.
+/// The job of a value's bytes, within the depth that holds where none is reported.
 pub fn decode(id: u32) -> Job
     ensures { IsServed result }
 {

@@ -1,4 +1,4 @@
-//! Runs of the command's engine over memory: what it answers, writes and tells, and which devices have failed.
+//! Runs of the command's engine over memory: what it answers, writes and reports, and which devices have failed.
 
 use crate::jobs::served;
 use scale_core::{Sink, Source};
@@ -6,7 +6,7 @@ use scale_tests::paced::{PacedReader, PacedWriter, Then};
 use scale_tool::{Job, run};
 use std::alloc::Global;
 
-/// What the engine answers: its status, what it wrote, and what it told on standard error.
+/// What the engine answers: its status, what it wrote, and what it reported on standard error.
 #[derive(Drop)]
 pub struct Ran {
     pub status: u8,

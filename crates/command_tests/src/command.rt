@@ -74,8 +74,8 @@ fn check_letters(
         &mut err,
     );
     assert_eq!(rt; status, u8::from(written == 0), "{letters} letters");
-    let told = err.into_inner();
-    assert_eq!(rt; told.as_slice(), line.as_bytes(), "{letters} letters");
+    let reported = err.into_inner();
+    assert_eq!(rt; reported.as_slice(), line.as_bytes(), "{letters} letters");
     assert_eq!(rt; out.into_inner().len(), written, "{letters} letters");
 }
 

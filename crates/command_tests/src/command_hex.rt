@@ -6,7 +6,7 @@ use scale_tests::paced::{PacedReader, Then};
 use scale_tests::registries::{BOOL, TEXT, U8, U16};
 use std::process::Abort;
 
-/// A name, a registry, the text of a value of its first type, and what is written of it or told.
+/// A name, a registry, the text of a value of its first type, and what is written of it or reported.
 type Text = (&'static str, &'static [u8], &'static [u8], &'static str);
 
 /// Texts of bytes, and what the command writes.
@@ -21,7 +21,7 @@ const SHOWN: [Text; 8] = [
     ("a text", TEXT, b"0x10c3a9c3a9", "\"\u{e9}\u{e9}\"\n"),
 ];
 
-/// Texts that spell no bytes, and what the command tells.
+/// Texts that spell no bytes, and what the command reports.
 const REFUSED: [Text; 11] = [
     (
         "an odd digit",
@@ -155,7 +155,7 @@ fn texts_without_bytes_are_refused(rt: HostRuntime) {
 }
 
 #[test]
-fn places_behind_digits_count_bytes(rt: HostRuntime) {
+fn places_after_digits_count_bytes(rt: HostRuntime) {
     check_refused(&rt, &PLACES);
 }
 
@@ -168,7 +168,7 @@ fn digits_are_read_before_the_value(rt: HostRuntime) {
 
 // A text that can't be read to its end is no text that spells no bytes.
 #[test]
-fn a_failed_read_is_told_before_the_digits(rt: HostRuntime) {
+fn a_failed_read_is_reported_before_the_digits(rt: HostRuntime) {
     let mut devices = Devices::over(rt.alloc(), U8, b"", 1);
     devices.value = PacedReader::new(b"0x2", 1, Then::Fails);
     let job = in_hex(&shown("a text that is cut", U8, 0, b"", "")).job;

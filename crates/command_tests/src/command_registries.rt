@@ -1,6 +1,6 @@
 //! The command's engine over registries: which are refused, and how their types are shown.
 
-use crate::command_row::{behind_prefix, check_ran, check_row, refused, shown, types};
+use crate::command_row::{after_prefix, check_ran, check_row, refused, shown, types};
 use command_runs::jobs::{decode, served};
 use command_runs::ran::Devices;
 use scale_core::{Sink, Source};
@@ -14,10 +14,10 @@ use std::alloc::{AllocError, Global};
 use std::process::Abort;
 use std::test::Fail;
 
-/// A name, a registry or metadata, and what is written of it or told.
+/// A name, a registry or metadata, and what is written of it or reported.
 type Registry = (&'static str, &'static [u8], &'static str);
 
-/// Bytes that are no registry, and what the command tells.
+/// Bytes that are no registry, and what the command reports.
 const REFUSED: [Registry; 12] = [
     (
         "a byte behind",
@@ -110,7 +110,7 @@ const METADATA_TYPES: [Registry; 3] = [
     ),
 ];
 
-/// Bytes that are no metadata, and what the command tells.
+/// Bytes that are no metadata, and what the command reports.
 const NO_METADATA: [Registry; 5] = [
     (
         "a later version",
@@ -188,10 +188,10 @@ fn registries_are_refused(rt: HostRuntime) {
 }
 
 #[test]
-fn metadata_is_read_behind_its_prefix(rt: HostRuntime) {
+fn metadata_is_read_after_its_prefix(rt: HostRuntime) {
     'rows: for (name, registry, line) in METADATA {
         let row = shown(name, registry, 0, b"\x2a", line);
-        check_row(&rt, rt.alloc(), &behind_prefix(&row));
+        check_row(&rt, rt.alloc(), &after_prefix(&row));
     }
 }
 
@@ -201,7 +201,7 @@ fn types_of_metadata_are_shown(rt: HostRuntime) {
         check_row(
             &rt,
             rt.alloc(),
-            &behind_prefix(&types(name, registry, lines)),
+            &after_prefix(&types(name, registry, lines)),
         );
     }
 }
@@ -210,7 +210,7 @@ fn types_of_metadata_are_shown(rt: HostRuntime) {
 fn bytes_that_are_no_metadata_are_refused(rt: HostRuntime) {
     'rows: for (name, registry, line) in NO_METADATA {
         let row = refused(name, registry, 0, b"\x2a", line);
-        check_row(&rt, rt.alloc(), &behind_prefix(&row));
+        check_row(&rt, rt.alloc(), &after_prefix(&row));
     }
 }
 
@@ -248,7 +248,7 @@ fn a_list_of_types_may_end_at_each_byte(rt: HostRuntime) {
 }
 
 #[test]
-fn unknown_references_are_told(rt: HostRuntime) {
+fn unknown_references_are_reported(rt: HostRuntime) {
     let line = "scaleview: check: UnknownType 1 in type 0\n";
     let mut listed = types("a sequence of nothing", UNKNOWN_ELEMENT, "");
     listed.status = 1;

@@ -70,7 +70,7 @@ pub fn types(name: &'static str, registry: &'static [u8], out: &'static str) -> 
 }
 
 /// The row with its registry as metadata.
-pub fn behind_prefix(row: &Row) -> Row {
+pub fn after_prefix(row: &Row) -> Row {
     let mut row = *row;
     match &mut row.job {
         Job::Types { metadata } | Job::Decode { metadata, .. } => *metadata = true,
@@ -114,7 +114,7 @@ fn run_paced(
 pub fn check_ran(rt: &impl Abort, name: &str, found: &Ran, status: u8, out: &[u8], err: &[u8]) {
     assert_eq!(rt; found.status, status, "the status of {name}");
     assert_eq!(rt; found.out.as_slice(), out, "what {name} writes");
-    assert_eq!(rt; found.err.as_slice(), err, "what {name} tells");
+    assert_eq!(rt; found.err.as_slice(), err, "what {name} reports");
 }
 
 /// Runs a row with a byte a call and with many, over devices that do not fail.

@@ -77,7 +77,7 @@ fn accepted_vectors_are_put(rt: HostRuntime) {
     }
 }
 
-/// The value is written twice, the second time behind the first.
+/// The value is written twice, the second time after the first.
 fn check_written(rt: &impl Abort, alloc: Global, value: u128, bytes: &[u8]) -> Result<(), Fail> {
     let mut out = Vec::new(alloc);
     write_compact(&mut out, value)?;
@@ -99,13 +99,13 @@ fn accepted_vectors_are_written(rt: HostRuntime) -> Result<(), Fail> {
 /// Each of these targets refuses the bytes so.
 fn check_refused(rt: &impl Abort, bytes: &[u8], targets: &[Target], fault: Fault) {
     'targets: for target in targets {
-        let told = read_compact(bytes, *target);
-        assert_eq!(rt; told, Err(fault), "{bytes:?} as {target:?}");
+        let reported = read_compact(bytes, *target);
+        assert_eq!(rt; reported, Err(fault), "{bytes:?} as {target:?}");
     }
 }
 
 #[test]
-fn refused_vectors_are_told(rt: HostRuntime) {
+fn refused_vectors_are_reported(rt: HostRuntime) {
     'vectors: for (bytes, targets, reason, at) in REFUSED {
         check_refused(&rt, bytes, targets, Fault { reason, at });
     }
@@ -132,7 +132,7 @@ fn each_target_takes_its_greatest_value(rt: HostRuntime) {
 }
 
 #[test]
-fn each_target_tells_its_bytes_and_what_it_holds(rt: HostRuntime) {
+fn each_target_reports_its_bytes_and_what_it_holds(rt: HostRuntime) {
     let rows = [
         (Unit, 0, 0),
         (U8, 1, 255),

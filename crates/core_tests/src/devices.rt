@@ -26,7 +26,7 @@ impl Read for StutteringReader {
 }
 
 #[test]
-fn a_source_tells_a_failed_read_for_good(rt: HostRuntime) {
+fn a_source_reports_a_failed_read_for_good(rt: HostRuntime) {
     let mut source = Source::new(StutteringReader { calls: 0 });
     let mut part = [0; 4];
     assert_eq!(rt; source.failed(), false);
@@ -42,7 +42,7 @@ fn a_source_tells_a_failed_read_for_good(rt: HostRuntime) {
 }
 
 #[test]
-fn a_source_tells_the_end_as_no_failure(rt: HostRuntime) {
+fn a_source_reports_the_end_as_no_failure(rt: HostRuntime) {
     let mut source = Source::new(b"ab".as_slice());
     let mut part = [0; 4];
     assert_eq!(rt; source.pull(&mut part), Ok(2));
@@ -52,7 +52,7 @@ fn a_source_tells_the_end_as_no_failure(rt: HostRuntime) {
 }
 
 #[test]
-fn a_sink_tells_a_failed_write_for_good(rt: HostRuntime) {
+fn a_sink_reports_a_failed_write_for_good(rt: HostRuntime) {
     let mut sink = Sink::new(StutteringWriter { calls: 0 });
     assert_eq!(rt; sink.failed(), false);
     assert_eq!(rt; sink.put(b"ab"), Ok(1));
@@ -65,7 +65,7 @@ fn a_sink_tells_a_failed_write_for_good(rt: HostRuntime) {
 }
 
 #[test]
-fn a_sink_tells_a_write_that_took_nothing(rt: HostRuntime) {
+fn a_sink_reports_a_write_that_took_nothing(rt: HostRuntime) {
     let mut sink = Sink::new(StutteringWriter { calls: 3 });
     assert_eq!(rt; sink.put(b"a"), Err(SinkFault::WroteNothing));
     assert_eq!(rt; sink.failed(), true);

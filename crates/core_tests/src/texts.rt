@@ -33,7 +33,7 @@ fn what_follows_a_text_is_left(rt: HostRuntime) {
 }
 
 #[test]
-fn refused_texts_are_told(rt: HostRuntime) {
+fn refused_texts_are_reported(rt: HostRuntime) {
     let vectors = [
         (b"".as_slice(), Reason::Truncated, 0),
         (b"\x08\xc3".as_slice(), Reason::Truncated, 2),

@@ -28,8 +28,8 @@ fn memory_that_is_refused_at_first_makes_no_decoder(rt: HostRuntime) -> Result<(
     let refused = Some(OpenFault::OutOfMemory);
     'requests: for (request, fault) in [(1, refused), (2, refused), (3, None), (0, None)] {
         let memory = Rationed::new(rt.alloc(), request);
-        let told = opening_fault(memory, &checked, 5, AMPLE);
-        assert_eq!(rt; told, fault, "request {request}");
+        let reported = opening_fault(memory, &checked, 5, AMPLE);
+        assert_eq!(rt; reported, fault, "request {request}");
     }
     Ok(())
 }
@@ -46,11 +46,11 @@ fn wanted_progress(place: usize) -> Progress {
 /// Feeds the nested value byte by byte: the place of the byte at which memory is refused, where it is.
 fn place_of_refusal<A: Allocator>(rt: &impl Abort, decoder: &mut Decoder<'_, A>) -> Option<u64> {
     'bytes: for (place, byte) in NESTED_BYTES.iter().enumerate() {
-        let told = feed(decoder, &[*byte]);
-        if told == Err(REFUSED) {
+        let reported = feed(decoder, &[*byte]);
+        if reported == Err(REFUSED) {
             return Some(place as u64);
         }
-        assert_eq!(rt; told, Ok(wanted_progress(place)), "byte {place}");
+        assert_eq!(rt; reported, Ok(wanted_progress(place)), "byte {place}");
     }
     None
 }
@@ -155,10 +155,10 @@ fn check_finish(
 ) -> Result<bool, Fail> {
     let memory = Rationed::new(heap, request);
     let decoder = open(&memory, checked, ty, AMPLE)?;
-    let told = finish(decoder).err();
+    let reported = finish(decoder).err();
     let refused = memory.is_past_refusal();
     let wanted = if refused { Some(REFUSED) } else { untroubled };
-    assert_eq!(rt; told, wanted, "request {request}");
+    assert_eq!(rt; reported, wanted, "request {request}");
     assert_eq!(rt; heap.used(), 0, "what is kept behind request {request}");
     Ok(refused)
 }
@@ -189,7 +189,7 @@ fn a_value_without_bytes_may_be_refused_memory(rt: HostRuntime) -> Result<(), Fa
     check_finishes(&rt, rt.alloc(), &checked, 40, None)
 }
 
-// So are the nodes before the first byte, and only then it is told that the byte is missing.
+// So are the nodes before the first byte, and only then it is reported that the byte is missing.
 #[test]
 fn nodes_before_the_first_byte_may_be_refused_memory(rt: HostRuntime) -> Result<(), Fail> {
     let checked = checked(rt.alloc(), TWO_UNITS_AND_A_BYTE)?;

@@ -157,8 +157,8 @@ fn check_full(
 /// A decoder of a u8 over the heap.
 fn check_next(rt: &impl Abort, heap: &LocalHeap, checked: &Checked) -> Result<(), Fail> {
     let mut decoder = open(heap, checked, 0, AMPLE)?;
-    let told = feed(&mut decoder, b"\x2a");
-    assert_eq!(rt; told, Ok(Progress::Done { used: 1 }));
+    let reported = feed(&mut decoder, b"\x2a");
+    assert_eq!(rt; reported, Ok(Progress::Done { used: 1 }));
     let value = finish(decoder).ok().ok_or("no value")?;
     assert_eq!(rt; value.root().what(), What::Unsigned(42));
     Ok(())

@@ -34,8 +34,8 @@ fn value_of<'r>(
 ) -> Result<Value<'r, Global>, Fail> {
     let used = bytes.len() as u64;
     let mut decoder = open(alloc, checked, ty, limits)?;
-    let told = feed(&mut decoder, bytes);
-    assert_eq!(rt; told, Ok(Progress::Done { used }));
+    let reported = feed(&mut decoder, bytes);
+    assert_eq!(rt; reported, Ok(Progress::Done { used }));
     assert_eq!(rt; held(&decoder).taken, used);
     let value = finish(decoder).ok().ok_or("no value")?;
     Ok(value)
@@ -52,8 +52,8 @@ fn check_held(
 ) -> Result<(), Fail> {
     let taken = bytes.len() as u64;
     let mut decoder = open(alloc, checked, ty, AMPLE)?;
-    let told = feed(&mut decoder, bytes);
-    assert_eq!(rt; told, Ok(Progress::Done { used: taken }));
+    let reported = feed(&mut decoder, bytes);
+    assert_eq!(rt; reported, Ok(Progress::Done { used: taken }));
     let wanted = Holding {
         nodes,
         texts,
@@ -208,13 +208,13 @@ fn check_missing(rt: &impl Abort, alloc: Global, missing: u8) -> Result<(), Fail
     let (next, before) = (missing.wrapping_add(1), missing.wrapping_sub(1));
     'indexes: for (index, answer) in [(missing, refused), (next, taken), (before, taken)] {
         let mut decoder = open(alloc, &checked, 0, AMPLE)?;
-        let told = feed(&mut decoder, &[index]);
-        assert_eq!(rt; told, answer, "{index} without {missing}");
+        let reported = feed(&mut decoder, &[index]);
+        assert_eq!(rt; reported, answer, "{index} without {missing}");
     }
     Ok(())
 }
 
-// An index that no arm has is told as such, whichever it is, and those beside it are taken.
+// An index that no arm has is reported as such, whichever it is, and those beside it are taken.
 #[test]
 fn each_index_may_be_missing(rt: HostRuntime) -> Result<(), Fail> {
     'missing: for missing in 0..=u8::MAX {
@@ -284,8 +284,8 @@ fn counts_are_no_nodes(rt: HostRuntime) -> Result<(), Fail> {
         let wanted = (element + 1, 5 * element + 2);
         check_more(&rt, &mut decoder, greatest, wanted);
     }
-    let told = feed(&mut decoder, greatest);
-    assert_eq!(rt; told, Ok(Progress::Done { used: 5 }));
+    let reported = feed(&mut decoder, greatest);
+    assert_eq!(rt; reported, Ok(Progress::Done { used: 5 }));
     let Holding { nodes, taken, .. } = held(&decoder);
     assert_eq!(rt; (nodes, taken), (1001, 5002));
     Ok(())
@@ -315,7 +315,7 @@ fn shown_letters(alloc: Global, count: u32) -> Result<String, AllocError> {
     Ok(shown)
 }
 
-// A run of 70,000 bytes is shown by two digits each, behind the mark of hexadecimal digits.
+// A run of 70,000 bytes is shown by two digits each, after the mark of hexadecimal digits.
 #[test]
 fn a_long_run_is_shown(rt: HostRuntime) -> Result<(), Fail> {
     let checked = checked(rt.alloc(), BYTES)?;

@@ -24,8 +24,8 @@ fn a_reader_is_not_read_without_a_decoder(rt: HostRuntime) -> Result<(), Fail> {
     'requests: for request in [1, 2] {
         let mut source = Source::new(PacedReader::new(b"", 1, Then::Fails));
         let memory = Rationed::new(rt.alloc(), request);
-        let told = all_of(memory, &checked, 5, AMPLE, &mut source).err();
-        assert_eq!(rt; told, Some(StreamFault::Open(OpenFault::OutOfMemory)));
+        let reported = all_of(memory, &checked, 5, AMPLE, &mut source).err();
+        assert_eq!(rt; reported, Some(StreamFault::Open(OpenFault::OutOfMemory)));
         assert!(rt; !source.failed());
     }
     Ok(())
@@ -36,8 +36,8 @@ fn pieces_without_a_decoder_are_refused(rt: HostRuntime) -> Result<(), Fail> {
     let checked = checked(rt.alloc(), NESTED)?;
     'requests: for request in [1, 2] {
         let memory = Rationed::new(rt.alloc(), request);
-        let told = front_of(memory, &checked, 5, AMPLE, &[NESTED_BYTES]).err();
-        assert_eq!(rt; told, Some(PiecesFault::Open(OpenFault::OutOfMemory)));
+        let reported = front_of(memory, &checked, 5, AMPLE, &[NESTED_BYTES]).err();
+        assert_eq!(rt; reported, Some(PiecesFault::Open(OpenFault::OutOfMemory)));
     }
     Ok(())
 }
@@ -61,9 +61,9 @@ fn refusal_of_reader<A: Allocator + Clone>(
     memory: A,
 ) -> Result<Option<StreamFault>, Fail> {
     let mut source = Source::new(PacedReader::new(NESTED_BYTES, 3, Then::GoesOn));
-    let told = all_of(memory, checked, 5, AMPLE, &mut source);
+    let reported = all_of(memory, checked, 5, AMPLE, &mut source);
     assert!(rt; !source.failed());
-    match told {
+    match reported {
         Ok(value) => {
             check_nested(rt, alloc, &value)?;
             Ok(None)
@@ -99,10 +99,10 @@ fn check_reader(
     request: u64,
 ) -> Result<bool, Fail> {
     let memory = Rationed::new(heap, request);
-    let told = refusal_of_reader(rt, alloc, checked, &memory)?;
+    let reported = refusal_of_reader(rt, alloc, checked, &memory)?;
     let refused = memory.is_past_refusal();
     let wanted = refused.then_some(StreamFault::Decode(REFUSED));
-    assert_eq!(rt; told, wanted, "request {request}");
+    assert_eq!(rt; reported, wanted, "request {request}");
     assert_eq!(rt; heap.used(), 0, "what is kept behind request {request}");
     Ok(refused)
 }
@@ -116,10 +116,10 @@ fn check_pieces(
     request: u64,
 ) -> Result<bool, Fail> {
     let memory = Rationed::new(heap, request);
-    let told = refusal_of_pieces(rt, alloc, checked, &memory)?;
+    let reported = refusal_of_pieces(rt, alloc, checked, &memory)?;
     let refused = memory.is_past_refusal();
     let wanted = refused.then_some(PiecesFault::Decode(REFUSED));
-    assert_eq!(rt; told, wanted, "request {request}");
+    assert_eq!(rt; reported, wanted, "request {request}");
     assert_eq!(rt; heap.used(), 0, "what is kept behind request {request}");
     Ok(refused)
 }

@@ -9,7 +9,7 @@ use std::process::Abort;
 use std::test::Fail;
 use value_core::Value;
 
-/// What a decoder holds behind the row's bytes.
+/// What a decoder holds after the row's bytes.
 pub(crate) fn wanted_held(row: &Row) -> Holding {
     match row.outcome {
         Outcome::Value {

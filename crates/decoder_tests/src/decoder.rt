@@ -46,8 +46,8 @@ fn check_fed(rt: &impl Abort, alloc: Global, row: &Row, fed: Fed) -> Result<(), 
         (Outcome::Value { .. }, Fed::Done(used)) | (Outcome::Cut { .. }, Fed::More(used)) => {
             assert_eq!(rt; used, wanted_held(row).taken, "{name}");
         }
-        (Outcome::Refused { fault, .. }, Fed::Refused(told)) => {
-            let line = format!(in alloc; "{told}")?;
+        (Outcome::Refused { fault, .. }, Fed::Refused(reported)) => {
+            let line = format!(in alloc; "{reported}")?;
             check_line(rt, row, &line, fault);
         }
         _ => Err(name)?,
@@ -85,7 +85,7 @@ fn check_again(
     Ok(())
 }
 
-/// A piece that changes nothing behind the row's bytes: any where they are decided, and else one of no bytes.
+/// A piece that changes nothing after the row's bytes: any where they are decided, and else one of no bytes.
 fn idle_piece(row: &Row) -> &'static [u8] {
     match row.outcome {
         Outcome::Cut { .. } => b"",
@@ -146,7 +146,7 @@ fn rows_in_two_pieces_are_answered(rt: HostRuntime) -> Result<(), Fail> {
     Ok(())
 }
 
-/// Feeds the bytes one by one, each between two pieces of no bytes: the one behind it changes nothing.
+/// Feeds the bytes one by one, each between two pieces of no bytes: the one after it changes nothing.
 fn feed_singly(rt: &impl Abort, decoder: &mut Decoder<'_, Global>, bytes: &[u8]) -> Fed {
     let mut fed = feed_next(decoder, Fed::More(0), b"");
     'bytes: for byte in bytes {
@@ -229,8 +229,8 @@ fn a_decoder_opens_within_its_limits(rt: HostRuntime) -> Result<(), Fail> {
         (0, 0, 0, None),
     ];
     'rows: for (ty, depth, bytes, fault) in rows {
-        let told = opening_fault(rt.alloc(), &checked, ty, Limits { depth, bytes });
-        assert_eq!(rt; told, fault, "type {ty}, depth {depth}, {bytes} bytes");
+        let reported = opening_fault(rt.alloc(), &checked, ty, Limits { depth, bytes });
+        assert_eq!(rt; reported, fault, "type {ty}, depth {depth}, {bytes} bytes");
     }
     Ok(())
 }

@@ -80,11 +80,11 @@ fn single_bytes_give_the_same(rt: HostRuntime) -> Result<(), Fail> {
 }
 
 #[test]
-fn a_decoder_that_is_not_made_is_told(rt: HostRuntime) -> Result<(), Fail> {
+fn a_decoder_that_is_not_made_is_reported(rt: HostRuntime) -> Result<(), Fail> {
     let checked = checked(rt.alloc(), U16)?;
     'rows: for (ty, limits, fault) in UNOPENED {
-        let told = front_of(rt.alloc(), &checked, ty, limits, &[b"\x2a\x00"]).err();
-        assert_eq!(rt; told, Some(PiecesFault::Open(fault)));
+        let reported = front_of(rt.alloc(), &checked, ty, limits, &[b"\x2a\x00"]).err();
+        assert_eq!(rt; reported, Some(PiecesFault::Open(fault)));
     }
     Ok(())
 }
@@ -93,8 +93,8 @@ fn a_decoder_that_is_not_made_is_told(rt: HostRuntime) -> Result<(), Fail> {
 fn no_pieces_are_a_value_without_bytes(rt: HostRuntime) -> Result<(), Fail> {
     let registry = nested_pairs(rt.alloc())?;
     let checked = checked(rt.alloc(), &registry)?;
-    let told = front_of(rt.alloc(), &checked, 40, AMPLE, &[]);
-    let (value, taken) = told.ok().ok_or("no value")?;
+    let reported = front_of(rt.alloc(), &checked, 40, AMPLE, &[]);
+    let (value, taken) = reported.ok().ok_or("no value")?;
     assert_eq!(rt; (value.node_count(), taken), (1, 0));
     Ok(())
 }

@@ -18,8 +18,8 @@ fn feed_row(rt: &impl Abort, decoder: &mut Decoder<'_, Global>, row: &Row) -> Re
     'bytes: for byte in front {
         assert_eq!(rt; feed(decoder, &[*byte]), Ok(Progress::More), "{name}");
     }
-    let told = feed(decoder, &[*last]);
-    assert_eq!(rt; told, Ok(Progress::Done { used: 1 }), "{name}");
+    let reported = feed(decoder, &[*last]);
+    assert_eq!(rt; reported, Ok(Progress::Done { used: 1 }), "{name}");
     Ok(())
 }
 

@@ -27,14 +27,14 @@ fn wanted_stream_refusal(alloc: Global, row: &Row) -> Result<String, Fail> {
 }
 
 /// A reader of the row's bytes is answered so.
-fn check_told(
+fn check_reported(
     rt: &impl Abort,
     alloc: Global,
     row: &Row,
-    told: Result<Value<'_, Global>, StreamFault>,
+    reported: Result<Value<'_, Global>, StreamFault>,
 ) -> Result<(), Fail> {
     let wanted = wanted_stream_refusal(alloc, row)?;
-    match told {
+    match reported {
         Ok(value) => {
             check_line(rt, row, "", &wanted);
             check_value(rt, alloc, row, &value)
@@ -57,9 +57,9 @@ fn check_pace(
 ) -> Result<(), Fail> {
     let name = row.name;
     let mut source = Source::new(PacedReader::new(row.bytes, step, Then::GoesOn));
-    let told = all_of(alloc, checked, row.ty, row.limits, &mut source);
+    let reported = all_of(alloc, checked, row.ty, row.limits, &mut source);
     assert!(rt; !source.failed(), "{name}, {step} bytes a read");
-    check_told(rt, alloc, row, told)
+    check_reported(rt, alloc, row, reported)
 }
 
 /// Readers of several paces.
@@ -118,20 +118,20 @@ fn check_failure(
         bytes: row.bytes,
         until_failure: read,
     });
-    let told = all_of(alloc, checked, row.ty, row.limits, &mut source);
+    let reported = all_of(alloc, checked, row.ty, row.limits, &mut source);
     if source.failed() {
         assert_eq!(rt;
-            told.err(),
+            reported.err(),
             Some(StreamFault::Device),
             "{name}, read {read}"
         );
         return Ok(false);
     }
-    check_told(rt, alloc, row, told)?;
+    check_reported(rt, alloc, row, reported)?;
     Ok(true)
 }
 
-/// Readers that fail at each of their calls. A value of n bytes is read in n + 1 calls, the last of which tells the end;
+/// Readers that fail at each of their calls. A value of n bytes is read in n + 1 calls, the last of which reports the end;
 /// a row never takes more.
 fn check_failures(rt: &impl Abort, alloc: Global, row: &Row) -> Result<(), Fail> {
     let name = row.name;
@@ -147,7 +147,7 @@ fn check_failures(rt: &impl Abort, alloc: Global, row: &Row) -> Result<(), Fail>
 }
 
 #[test]
-fn each_read_that_fails_is_told_unless_all_was_decided(rt: HostRuntime) -> Result<(), Fail> {
+fn each_read_that_fails_is_reported_unless_all_was_decided(rt: HostRuntime) -> Result<(), Fail> {
     'kinds: for rows in ROWS {
         'rows: for row in rows {
             check_failures(&rt, rt.alloc(), row)?;
@@ -169,27 +169,30 @@ fn refusal_before_failure(
     Ok((fault, source.failed()))
 }
 
-// The value's two bytes come, and then nothing can be told of what follows.
+// The value's two bytes come, and then nothing can be reported of what follows.
 #[test]
-fn the_end_of_a_value_is_not_told_before_the_next_read(rt: HostRuntime) -> Result<(), Fail> {
-    let told = refusal_before_failure(rt.alloc(), U16, 0, b"\x2a\x00")?;
-    assert_eq!(rt; told, (Some(StreamFault::Device), true));
+fn the_end_of_a_value_is_not_reported_before_the_next_read(rt: HostRuntime) -> Result<(), Fail> {
+    let reported = refusal_before_failure(rt.alloc(), U16, 0, b"\x2a\x00")?;
+    assert_eq!(rt; reported, (Some(StreamFault::Device), true));
     Ok(())
 }
 
 // One read brings the byte that follows, and no other read is made.
 #[test]
-fn a_byte_behind_is_told_without_another_read(rt: HostRuntime) -> Result<(), Fail> {
-    let told = refusal_before_failure(rt.alloc(), U16, 0, b"\x2a\x00\xff")?;
-    assert_eq!(rt; told, (Some(StreamFault::TrailingBytes { at: 2 }), false));
+fn a_byte_after_is_reported_without_another_read(rt: HostRuntime) -> Result<(), Fail> {
+    let reported = refusal_before_failure(rt.alloc(), U16, 0, b"\x2a\x00\xff")?;
+    assert_eq!(rt;
+        reported,
+        (Some(StreamFault::TrailingBytes { at: 2 }), false)
+    );
     Ok(())
 }
 
-// A type that is refused without a byte is refused behind the first read.
+// A type that is refused without a byte is refused after the first read.
 #[test]
 fn the_first_read_comes_before_any_answer(rt: HostRuntime) -> Result<(), Fail> {
-    let told = refusal_before_failure(rt.alloc(), COMPACT_OF_A_BOOL, 1, b"")?;
-    assert_eq!(rt; told, (Some(StreamFault::Device), true));
+    let reported = refusal_before_failure(rt.alloc(), COMPACT_OF_A_BOOL, 1, b"")?;
+    assert_eq!(rt; reported, (Some(StreamFault::Device), true));
     Ok(())
 }
 
@@ -203,8 +206,8 @@ fn check_unread(
 ) -> Result<(), Fail> {
     let checked = checked(alloc, U16)?;
     let mut source = Source::new(PacedReader::new(b"\x2a\x00", 1, Then::Fails));
-    let told = all_of(alloc, &checked, ty, limits, &mut source).err();
-    assert_eq!(rt; told, Some(StreamFault::Open(fault)));
+    let reported = all_of(alloc, &checked, ty, limits, &mut source).err();
+    assert_eq!(rt; reported, Some(StreamFault::Open(fault)));
     assert!(rt; !source.failed());
     let mut first = [0; 1];
     assert_eq!(rt; (source.pull(&mut first), first), (Ok(1), [0x2a]));
@@ -248,7 +251,7 @@ fn a_decoder_that_is_not_made_reads_nothing(rt: HostRuntime) -> Result<(), Fail>
     Ok(())
 }
 
-/// A sequence of so many u8 above 63 and below 16384, and so many bytes behind it.
+/// A sequence of so many u8 above 63 and below 16384, and so many bytes after it.
 fn sequence(alloc: Global, elements: u16, behind: usize) -> Result<Vec<u8>, Fail> {
     let length = elements.saturating_mul(4).saturating_add(1);
     let mut bytes = Vec::from_slice(alloc, &length.to_le_bytes())?;
@@ -270,9 +273,9 @@ fn refusal_of_sequence(
 ) -> Result<Option<StreamFault>, Fail> {
     let checked = checked(alloc, BYTES)?;
     let mut source = Source::new(bytes);
-    let told = all_of(alloc, &checked, 1, AMPLE, &mut source);
+    let reported = all_of(alloc, &checked, 1, AMPLE, &mut source);
     assert!(rt; !source.failed());
-    match told {
+    match reported {
         Ok(value) => {
             assert_eq!(rt; value.node_count(), 1);
             let back = written(alloc, &value)?;
@@ -283,20 +286,20 @@ fn refusal_of_sequence(
     }
 }
 
-/// A sequence of so many bytes in all, and so many bytes behind it.
+/// A sequence of so many bytes in all, and so many bytes after it.
 fn check_edge(rt: &impl Abort, alloc: Global, len: u16, behind: usize) -> Result<(), Fail> {
     let bytes = sequence(alloc, len.saturating_sub(2), behind)?;
     assert_eq!(rt; bytes.len(), usize::from(len).saturating_add(behind));
-    let told = refusal_of_sequence(rt, alloc, &bytes)?;
+    let reported = refusal_of_sequence(rt, alloc, &bytes)?;
     let at = u64::from(len);
     let wanted = (behind > 0).then_some(StreamFault::TrailingBytes { at });
-    assert_eq!(rt; told, wanted, "{behind} behind {len} bytes");
+    assert_eq!(rt; reported, wanted, "{behind} behind {len} bytes");
     Ok(())
 }
 
 // A read asks for at most 4096 bytes, so that the value and what follows it may come in one read or in two.
 #[test]
-fn a_byte_behind_is_told_at_the_edge_of_a_read(rt: HostRuntime) -> Result<(), Fail> {
+fn a_byte_after_is_reported_at_the_edge_of_a_read(rt: HostRuntime) -> Result<(), Fail> {
     'lengths: for len in [4095, 4096, 4097, 8191, 8192, 8193u16] {
         'behind: for behind in 0..3 {
             check_edge(&rt, rt.alloc(), len, behind)?;
@@ -310,20 +313,20 @@ fn a_value_without_bytes_is_there_at_the_end(rt: HostRuntime) -> Result<(), Fail
     let registry = nested_pairs(rt.alloc())?;
     let checked = checked(rt.alloc(), &registry)?;
     let mut source = Source::new(b"".as_slice());
-    let told = all_of(rt.alloc(), &checked, 40, AMPLE, &mut source);
-    let value = told.ok().ok_or("no value")?;
+    let reported = all_of(rt.alloc(), &checked, 40, AMPLE, &mut source);
+    let value = reported.ok().ok_or("no value")?;
     let bytes = written(rt.alloc(), &value)?;
     assert_eq!(rt; (bytes.len(), value.node_count()), (0, 1));
     Ok(())
 }
 
 #[test]
-fn a_byte_behind_a_value_without_bytes_is_told(rt: HostRuntime) -> Result<(), Fail> {
+fn a_byte_after_a_value_without_bytes_is_reported(rt: HostRuntime) -> Result<(), Fail> {
     let registry = nested_pairs(rt.alloc())?;
     let checked = checked(rt.alloc(), &registry)?;
     let mut source = Source::new(b"\x00".as_slice());
-    let told = all_of(rt.alloc(), &checked, 40, AMPLE, &mut source).err();
-    assert_eq!(rt; told, Some(StreamFault::TrailingBytes { at: 0 }));
+    let reported = all_of(rt.alloc(), &checked, 40, AMPLE, &mut source).err();
+    assert_eq!(rt; reported, Some(StreamFault::TrailingBytes { at: 0 }));
     Ok(())
 }
 

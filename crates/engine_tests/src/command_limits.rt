@@ -38,7 +38,7 @@ fn each_primitive_is_shown(rt: HostRuntime) -> Result<(), Fail> {
 }
 
 #[test]
-fn characters_that_are_none_are_told(rt: HostRuntime) {
+fn characters_that_are_none_are_reported(rt: HostRuntime) {
     'rows: for (name, bytes) in BAD_CHARACTERS {
         let (status, out, err) = answer(&rt, rt.alloc(), decode(1), PRIMITIVES, bytes);
         assert_eq!(rt; (status, out.len()), (1, 0), "{name}");
@@ -100,8 +100,8 @@ fn a_value_below_the_depth_is_refused(rt: HostRuntime) -> Result<(), Fail> {
     let value = deepest(rt.alloc())?;
     let (status, out, err) = answer(&rt, rt.alloc(), within(1023), CHAIN, &value);
     assert_eq!(rt; (status, out.len()), (1, 0));
-    let told = b"scaleview: value: TooDeep at 1024\n".as_slice();
-    assert_eq!(rt; err.as_slice(), told);
+    let reported = b"scaleview: value: TooDeep at 1024\n".as_slice();
+    assert_eq!(rt; err.as_slice(), reported);
     Ok(())
 }
 
@@ -120,12 +120,12 @@ fn long_registry(alloc: Global) -> Result<Vec<u8>, Fail> {
 
 // No refusal has more digits.
 #[test]
-fn the_longest_refusal_is_told_whole(rt: HostRuntime) -> Result<(), Fail> {
+fn the_longest_refusal_is_reported_whole(rt: HostRuntime) -> Result<(), Fail> {
     let registry = long_registry(rt.alloc())?;
     let job = Job::Types { metadata: false };
     let (status, out, err) = answer(&rt, rt.alloc(), job, &registry, &[]);
     assert_eq!(rt; (status, out.len()), (1, 0));
-    let told = b"scaleview: check: UnknownType 4294967295 in type 65536\n".as_slice();
-    assert_eq!(rt; err.as_slice(), told);
+    let reported = b"scaleview: check: UnknownType 4294967295 in type 65536\n".as_slice();
+    assert_eq!(rt; err.as_slice(), reported);
     Ok(())
 }

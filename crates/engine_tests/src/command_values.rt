@@ -69,7 +69,7 @@ pub(crate) fn check_answer(
     let name = row.name;
     assert_eq!(rt; found.status, status, "the status of {name}");
     assert_eq!(rt; found.out.as_slice(), out, "what {name} writes");
-    assert_eq!(rt; found.err.as_slice(), err, "what {name} tells");
+    assert_eq!(rt; found.err.as_slice(), err, "what {name} reports");
 }
 
 /// The row's run answered what was wanted.

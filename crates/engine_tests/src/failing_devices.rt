@@ -33,7 +33,7 @@ fn check_registry_front(rt: &impl Abort, alloc: Global, row: &Row, front: &'stat
     check_answer(rt, row, &ran, 3, b"", b"scaleview: device: registry\n");
 }
 
-// The registry of n bytes is read in n + 1 calls, the last of which is to tell its end.
+// The registry of n bytes is read in n + 1 calls, the last of which is to report its end.
 #[test]
 fn each_read_of_a_registry_may_fail(rt: HostRuntime) {
     'kinds: for rows in ROWS {
@@ -152,7 +152,7 @@ fn standard_error_may_end_at_each_byte(rt: HostRuntime) -> Result<(), Fail> {
     Ok(())
 }
 
-/// A device fails, and standard error too: the status is still that of the device, and nothing is told.
+/// A device fails, and standard error too: the status is still that of the device, and nothing is reported.
 fn check_both(rt: &impl Abort, alloc: Global, row: &Row, device: Failed) {
     let mut devices = Devices::over(alloc, row.registry, row.bytes, 1);
     devices.err = PacedWriter::new(alloc, 0, 1, Then::Fails);

@@ -340,7 +340,7 @@ const ORDERS: [Row; 6] = [
     },
 ];
 
-/// The tree has the row's text, and so has the text itself, which is printed to a writer that fails right behind it.
+/// The tree has the row's text, and so has the text itself, which is printed to a writer that fails right after it.
 fn check_text(
     rt: &impl Abort,
     alloc: Global,
@@ -361,7 +361,7 @@ fn check_text(
     Ok(())
 }
 
-/// Writers that end at this place of the text: it is told, and the front went out.
+/// Writers that end at this place of the text: it is reported, and the front went out.
 fn check_place(rt: &impl Abort, alloc: Global, value: &Value<'_, Global>, row: &Row, place: usize) {
     let name = row.name;
     let ends = [

@@ -13,7 +13,7 @@ Limits of a value:
 Exit status:
 \x20 0  the answer was written to standard output
 \x20 1  the registry, the type or the value is refused; one line on standard error
-\x20    tells the reason and its place in bytes
+\x20    reports the reason and its place in bytes
 \x20 2  the command line is wrong
 \x20 3  a file does not open, or a read or a write failed
 \x20 4  there is not enough memory

@@ -1,4 +1,4 @@
-//! The command line: the jobs that its words name, and what is told where they name none.
+//! The command line: the jobs that its words name, and what is reported where they name none.
 
 use scale_core::Sink;
 use scale_tool::{Device, Job, explain, job, unopened};
@@ -86,7 +86,7 @@ fn words_name_types(rt: HostRuntime) -> Result<(), Fail> {
     )
 }
 
-/// Words that name no job: the status, and a part of what is told on standard error and of what is shown.
+/// Words that name no job: the status, and a part of what is reported on standard error and of what is shown.
 type Unnamed = (&'static [&'static str], u8, &'static str, &'static str);
 
 const FAULTS: [Unnamed; 25] = [
@@ -210,29 +210,32 @@ const FAULTS: [Unnamed; 25] = [
     (&["scaleview", "encode", "r", "3", "v"], 2, "'encode'", ""),
 ];
 
-/// What is told and what is shown where the words name no job, after its status.
+/// What is reported and what is shown where the words name no job, after its status.
 fn explained(alloc: Global, words: &[&str]) -> Result<(u8, String, String), Fail> {
     let fault = job(alloc, words).err().ok_or("a fault")?;
     let mut out = Sink::new(Vec::new(alloc));
     let mut err = Sink::new(Vec::new(alloc));
     let status = explain(fault, &mut out, &mut err);
-    let told = String::from_utf8(err.into_inner()).ok().ok_or("a text")?;
+    let reported = String::from_utf8(err.into_inner()).ok().ok_or("a text")?;
     let shown = String::from_utf8(out.into_inner()).ok().ok_or("a text")?;
-    Ok((status, told, shown))
+    Ok((status, reported, shown))
 }
 
 /// The words are answered so, by one of the two devices.
 fn check_fault(rt: &impl Abort, alloc: Global, fault: Unnamed) -> Result<(), Fail> {
-    let (words, wanted, told_part, shown_part) = fault;
-    let (status, told, shown) = explained(alloc, words)?;
+    let (words, wanted, reported_part, shown_part) = fault;
+    let (status, reported, shown) = explained(alloc, words)?;
     assert_eq!(rt; status, wanted, "the status of {words:?}");
-    assert!(rt; told.as_str().contains(told_part), "the error of {words:?}");
+    assert!(rt;
+        reported.as_str().contains(reported_part),
+        "the error of {words:?}"
+    );
     assert!(rt;
         shown.as_str().contains(shown_part),
         "the output of {words:?}"
     );
     assert_eq!(rt;
-        (told.is_empty(), shown.is_empty()),
+        (reported.is_empty(), shown.is_empty()),
         (wanted == 0, wanted != 0),
         "{words:?}"
     );
@@ -240,7 +243,7 @@ fn check_fault(rt: &impl Abort, alloc: Global, fault: Unnamed) -> Result<(), Fai
 }
 
 #[test]
-fn words_that_name_no_job_are_told(rt: HostRuntime) -> Result<(), Fail> {
+fn words_that_name_no_job_are_reported(rt: HostRuntime) -> Result<(), Fail> {
     'rows: for fault in FAULTS {
         check_fault(&rt, rt.alloc(), fault)?;
     }
@@ -248,7 +251,7 @@ fn words_that_name_no_job_are_told(rt: HostRuntime) -> Result<(), Fail> {
 }
 
 #[test]
-fn a_file_that_does_not_open_is_told(rt: HostRuntime) {
+fn a_file_that_does_not_open_is_reported(rt: HostRuntime) {
     let rows = [
         (Device::Registry, "scaleview: device: registry\n"),
         (Device::Value, "scaleview: device: value\n"),
@@ -256,7 +259,7 @@ fn a_file_that_does_not_open_is_told(rt: HostRuntime) {
     'rows: for (device, line) in rows {
         let mut err = Sink::new(Vec::new(rt.alloc()));
         assert_eq!(rt; unopened(device, &mut err), 3);
-        let told = err.into_inner();
-        assert_eq!(rt; told.as_slice(), line.as_bytes());
+        let reported = err.into_inner();
+        assert_eq!(rt; reported.as_slice(), line.as_bytes());
     }
 }

@@ -1,4 +1,4 @@
-//! Tests of the command line: the jobs that its words name, what is told where they name none, and the help.
+//! Tests of the command line: the jobs that its words name, what is reported where they name none, and the help.
 #![tactic(auto)]
 
 #[cfg(test)]

@@ -10,8 +10,8 @@ use widths_core::{CheckFault, Checked, Class};
 /// The registry is read whole and written back: so many types.
 fn read_whole(rt: &impl Abort, alloc: Global, bytes: &[u8], types: u32) -> Result<Registry, Fail> {
     let (registry, count) = read_registry(alloc, bytes)?;
-    let told = (registry.types().len(), count);
-    assert_eq!(rt; told, (types as usize, bytes.len()));
+    let reported = (registry.types().len(), count);
+    assert_eq!(rt; reported, (types as usize, bytes.len()));
     let back = write_registry(alloc, &registry)?;
     assert!(rt; back.as_slice() == bytes, "{types} types written back");
     Ok(registry)
@@ -32,8 +32,8 @@ fn check_metadata(rt: &impl Abort, alloc: Global, bytes: &[u8], types: u32) -> R
     let mut metadata = Vec::from_slice(alloc, b"\x6d\x65\x74\x61\x0f")?;
     metadata.extend_from_slice(bytes)?;
     let (registry, count, version) = read_metadata(alloc, &metadata)?;
-    let told = (registry.types().len(), count, version);
-    assert_eq!(rt; told, (types as usize, metadata.len(), Version::V15));
+    let reported = (registry.types().len(), count, version);
+    assert_eq!(rt; reported, (types as usize, metadata.len(), Version::V15));
     Ok(())
 }
 
@@ -85,7 +85,7 @@ fn with_unknown_reference(alloc: Global) -> Result<Vec<u8>, Fail> {
 }
 
 #[test]
-fn an_unknown_reference_of_the_last_type_is_told(rt: HostRuntime) -> Result<(), Fail> {
+fn an_unknown_reference_of_the_last_type_is_reported(rt: HostRuntime) -> Result<(), Fail> {
     let bytes = with_unknown_reference(rt.alloc())?;
     let registry = read_whole(&rt, rt.alloc(), &bytes, 65_537)?;
     let Err((fault, registry)) = Checked::new(rt.alloc(), registry) else {

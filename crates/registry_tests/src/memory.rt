@@ -84,8 +84,8 @@ struct Reserved {
     most: u64,
 }
 
-/// The number behind the name in what the system says of this process.
-fn number_behind(status: &str, name: &str) -> Result<u64, Fail> {
+/// The number after the name in what the system says of this process.
+fn number_after(status: &str, name: &str) -> Result<u64, Fail> {
     'lines: for line in status.lines() {
         if let Some(rest) = line.strip_prefix(name) {
             let number = rest.split_whitespace().next().ok_or("no number")?;
@@ -98,8 +98,8 @@ fn number_behind(status: &str, name: &str) -> Result<u64, Fail> {
 /// What this process has reserved, as the system counts it.
 fn measured(rt: &(impl Files + Alloc)) -> Result<Reserved, Fail> {
     let status = fs::read_to_string(rt, "/proc/self/status")?;
-    let now = number_behind(status.as_str(), "VmSize:")?;
-    let most = number_behind(status.as_str(), "VmPeak:")?;
+    let now = number_after(status.as_str(), "VmSize:")?;
+    let most = number_after(status.as_str(), "VmPeak:")?;
     Ok(Reserved { now, most })
 }
 
@@ -122,7 +122,7 @@ fn cut_at(at: usize) -> Option<RegistryFault> {
     })
 }
 
-/// A registry that ends behind the claimed length is refused there.
+/// A registry that ends after the claimed length is refused there.
 fn check_claim(
     rt: &impl Abort,
     alloc: Global,
@@ -132,12 +132,12 @@ fn check_claim(
 ) -> Result<(), Fail> {
     let mut bytes = Vec::from_slice(alloc, front)?;
     bytes.extend_from_slice(length)?;
-    let told = read_registry(alloc, &bytes).err();
-    assert_eq!(rt; told, cut_at(bytes.len()), "{name}, {length:?}");
+    let reported = read_registry(alloc, &bytes).err();
+    assert_eq!(rt; reported, cut_at(bytes.len()), "{name}, {length:?}");
     Ok(())
 }
 
-/// Metadata whose registry ends behind the claimed length is refused there.
+/// Metadata whose registry ends after the claimed length is refused there.
 fn check_claim_of_metadata(
     rt: &impl Abort,
     alloc: Global,
@@ -148,8 +148,12 @@ fn check_claim_of_metadata(
     let mut bytes = Vec::from_slice(alloc, b"\x6d\x65\x74\x61\x0e")?;
     bytes.extend_from_slice(front)?;
     bytes.extend_from_slice(length)?;
-    let told = read_metadata(alloc, &bytes).err();
-    assert_eq!(rt; told, cut_at(bytes.len()), "{name} of metadata, {length:?}");
+    let reported = read_metadata(alloc, &bytes).err();
+    assert_eq!(rt;
+        reported,
+        cut_at(bytes.len()),
+        "{name} of metadata, {length:?}"
+    );
     Ok(())
 }
 

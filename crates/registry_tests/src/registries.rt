@@ -91,8 +91,8 @@ fn check_cuts(rt: &impl Abort, alloc: Global, name: &str, bytes: &[u8]) {
             reason: RegistryReason::Truncated,
             at: end as u64,
         };
-        let told = refusal(alloc, &bytes[..end]);
-        assert_eq!(rt; told, Some(cut), "{name}, cut at {end}");
+        let reported = refusal(alloc, &bytes[..end]);
+        assert_eq!(rt; reported, Some(cut), "{name}, cut at {end}");
     }
 }
 
@@ -198,8 +198,8 @@ fn the_field_of_an_arm_is_seen(rt: HostRuntime) -> Result<(), Fail> {
 #[test]
 fn texts_keep_what_they_were_made_of(rt: HostRuntime) -> Result<(), Fail> {
     let text = Text::from_string(String::from_str(rt.alloc(), "caf\u{e9}")?);
-    let told = (text.as_str(), text.len(), text.is_empty());
-    assert_eq!(rt; told, ("caf\u{e9}", 5, false));
+    let reported = (text.as_str(), text.len(), text.is_empty());
+    assert_eq!(rt; reported, ("caf\u{e9}", 5, false));
     assert_eq!(rt; text.into_string().as_str(), "caf\u{e9}");
     Ok(())
 }
@@ -220,7 +220,7 @@ fn check_refused(rt: &impl Abort, alloc: Global, bytes: &[u8], reason: RegistryR
 }
 
 #[test]
-fn bytes_that_stand_for_nothing_are_told(rt: HostRuntime) {
+fn bytes_that_stand_for_nothing_are_reported(rt: HostRuntime) {
     let rows = [
         (
             b"\x04\x00\x00\x00\x08\x00".as_slice(),
@@ -249,7 +249,7 @@ fn bytes_that_stand_for_nothing_are_told(rt: HostRuntime) {
 }
 
 #[test]
-fn refused_lengths_ids_and_cuts_are_told(rt: HostRuntime) {
+fn refused_lengths_ids_and_cuts_are_reported(rt: HostRuntime) {
     let rows = [
         (
             b"\x01\x00".as_slice(),
@@ -272,7 +272,7 @@ fn refused_lengths_ids_and_cuts_are_told(rt: HostRuntime) {
             RegistryReason::Truncated,
             5,
         ),
-        // The id is judged before the type behind it.
+        // The id is judged before the type after it.
         (
             b"\x04\x04\x00\x00\x08\x00".as_slice(),
             RegistryReason::IdOutOfPlace,
@@ -285,7 +285,7 @@ fn refused_lengths_ids_and_cuts_are_told(rt: HostRuntime) {
     }
 }
 
-/// Metadata of this version, of this number, holds one u8 behind its prefix, and what follows is left.
+/// Metadata of this version, of this number, holds one u8 after its prefix, and what follows is left.
 fn check_metadata(
     rt: &impl Abort,
     alloc: Global,
@@ -293,8 +293,8 @@ fn check_metadata(
     version: Version,
     number: u8,
 ) -> Result<(), Fail> {
-    let (registry, count, told) = read_metadata(alloc, bytes)?;
-    assert_eq!(rt; (count, told, told.number()), (12, version, number));
+    let (registry, count, reported) = read_metadata(alloc, bytes)?;
+    assert_eq!(rt; (count, reported, reported.number()), (12, version, number));
     let written = write_registry(alloc, &registry)?;
     let u8_alone = b"\x04\x00\x00\x00\x05\x03\x00".as_slice();
     assert_eq!(rt; written.as_slice(), u8_alone);
@@ -302,13 +302,13 @@ fn check_metadata(
 }
 
 #[test]
-fn metadata_of_version_14_is_read_behind_its_prefix(rt: HostRuntime) -> Result<(), Fail> {
+fn metadata_of_version_14_is_read_after_its_prefix(rt: HostRuntime) -> Result<(), Fail> {
     let bytes = b"\x6d\x65\x74\x61\x0e\x04\x00\x00\x00\x05\x03\x00\xff\xff";
     check_metadata(&rt, rt.alloc(), bytes, Version::V14, 14)
 }
 
 #[test]
-fn metadata_of_version_15_is_read_behind_its_prefix(rt: HostRuntime) -> Result<(), Fail> {
+fn metadata_of_version_15_is_read_after_its_prefix(rt: HostRuntime) -> Result<(), Fail> {
     let bytes = b"\x6d\x65\x74\x61\x0f\x04\x00\x00\x00\x05\x03\x00\xff";
     check_metadata(&rt, rt.alloc(), bytes, Version::V15, 15)
 }
@@ -332,13 +332,13 @@ fn check_refused_metadata(
     reason: RegistryReason,
     at: u64,
 ) {
-    let told = read_metadata(alloc, bytes).err();
+    let reported = read_metadata(alloc, bytes).err();
     let fault = RegistryFault { reason, at };
-    assert_eq!(rt; told, Some(fault), "{bytes:?}");
+    assert_eq!(rt; reported, Some(fault), "{bytes:?}");
 }
 
 #[test]
-fn metadata_that_is_cut_is_told(rt: HostRuntime) {
+fn metadata_that_is_cut_is_reported(rt: HostRuntime) {
     let rows = [
         (b"".as_slice(), 0),
         (b"\x6d\x65".as_slice(), 2),
@@ -352,7 +352,7 @@ fn metadata_that_is_cut_is_told(rt: HostRuntime) {
 }
 
 #[test]
-fn metadata_that_is_none_is_told(rt: HostRuntime) {
+fn metadata_that_is_none_is_reported(rt: HostRuntime) {
     let rows = [
         (b"\x6d\x66".as_slice(), RegistryReason::NotMetadata, 1),
         (b"\x00".as_slice(), RegistryReason::NotMetadata, 0),

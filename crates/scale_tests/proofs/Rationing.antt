@@ -1,5 +1,5 @@
 -- What the methods of the allocator that refuses one request share: the `&` to it, the places of
--- its two fields behind
+-- its two fields after
 -- that, and its count at a call. Assumes `Logic`.
 use Rattle.std.proofs.Common.{◌≡◌, ℕ, ◌+◌, Bool, List, [], ◌∷◌, refl, ap}
 use seplogic.Ra.Ura.{Ura}

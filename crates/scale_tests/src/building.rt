@@ -1,4 +1,4 @@
-//! The calls of a builder as data, what a builder tells, and the registries that they are made with.
+//! The calls of a builder as data, what a builder reports, and the registries that they are made with.
 
 pub use crate::registries::{
     BITS_IN_AN_ARM, BYTES, CHAIN, COMPACT_OF_A_BOOL, COMPACT_U128, ENDLESS, LONG_ARRAY,
@@ -36,7 +36,7 @@ pub enum Call {
     List(u32),
 }
 
-/// What a builder tells of what it holds and of what comes next.
+/// What a builder reports of what it holds and of what comes next.
 #[derive(Clone, Copy, Debug, PartialEq, Eq)]
 pub struct Standing {
     pub nodes: u64,
@@ -79,7 +79,7 @@ pub fn add<A: Allocator>(builder: &mut Builder<'_, A>, call: Call) -> Result<(),
     }
 }
 
-/// What the builder tells.
+/// What the builder reports.
 pub fn what_stands<A: Allocator>(builder: &Builder<'_, A>) -> Standing {
     Standing {
         nodes: builder.node_count(),

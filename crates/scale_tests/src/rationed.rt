@@ -19,7 +19,7 @@ impl<B: Allocator> Rationed<B> {
         }
     }
 
-    /// Is the request that is refused behind it, or is there none?
+    /// Is the request that is refused after it, or is there none?
     pub fn is_past_refusal(&self) -> bool {
         self.until_refusal.get() == 0
     }

@@ -164,7 +164,7 @@ fn check_writers(rt: &impl Abort, alloc: Global, row: &Row) -> Result<(), Fail> 
 }
 
 #[test]
-fn what_went_out_before_a_failed_write_is_told(rt: HostRuntime) -> Result<(), Fail> {
+fn what_went_out_before_a_failed_write_is_reported(rt: HostRuntime) -> Result<(), Fail> {
     'rows: for row in &ROWS {
         check_writers(&rt, rt.alloc(), row)?;
     }
@@ -212,7 +212,7 @@ fn unfinished<'r>(
     }
 }
 
-/// A writer that fails at once is told, and nothing went out.
+/// A writer that fails at once is reported, and nothing went out.
 fn check_first_write(rt: &impl Abort, alloc: Global, value: &Value<'_, Global>) {
     let mut sink = Sink::new(PacedWriter::new(alloc, 0, 1, Then::Fails));
     let refused = WriteFault {

@@ -17,19 +17,19 @@ fn a_builder_opens_on_a_type_that_is_there(rt: HostRuntime) -> Result<(), Fail> 
         (0, 1024, None),
     ];
     'rows: for (ty, depth, fault) in rows {
-        let told = Builder::new(rt.alloc(), &checked, TypeId(ty), depth).err();
-        assert_eq!(rt; told, fault, "type {ty} at depth {depth}");
+        let reported = Builder::new(rt.alloc(), &checked, TypeId(ty), depth).err();
+        assert_eq!(rt; reported, fault, "type {ty} at depth {depth}");
     }
     Ok(())
 }
 
 /// The types of the node's children, and what they are.
-fn told_children(alloc: Global, node: &NodeRef<'_, '_>) -> Result<Vec<(TypeId, What)>, Fail> {
-    let mut told = Vec::new(alloc);
+fn reported_children(alloc: Global, node: &NodeRef<'_, '_>) -> Result<Vec<(TypeId, What)>, Fail> {
+    let mut reported = Vec::new(alloc);
     'children: for child in node.children() {
-        told.push((child.type_id(), child.what()))?;
+        reported.push((child.type_id(), child.what()))?;
     }
-    Ok(told)
+    Ok(reported)
 }
 
 #[test]
@@ -39,13 +39,13 @@ fn children_step_over_what_is_below_them(rt: HostRuntime) -> Result<(), Fail> {
     let value = built(rt.alloc(), &checked, 2, 64, &calls)?;
     let root = value.root();
     assert_eq!(rt; (root.type_id(), root.what()), (TypeId(2), What::Fields));
-    let told = told_children(rt.alloc(), &root)?;
+    let reported = reported_children(rt.alloc(), &root)?;
     let wanted = [
         (TypeId(1), What::Empty),
         (TypeId(1), What::Empty),
         (TypeId(0), What::Unsigned(42)),
     ];
-    assert_eq!(rt; told.as_slice(), wanted.as_slice());
+    assert_eq!(rt; reported.as_slice(), wanted.as_slice());
     Ok(())
 }
 

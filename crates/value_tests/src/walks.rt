@@ -1,4 +1,4 @@
-//! What comes next in a value as it is built, and what a finished value tells.
+//! What comes next in a value as it is built, and what a finished value reports.
 
 use registry_core::{Primitive, TypeId};
 use scale_core::Target;
@@ -14,7 +14,7 @@ use std::test::Fail;
 use value_core::{Builder, Form, Limits, Next, NodeRef, StopReason, Value, What};
 use widths_core::Class;
 
-/// What comes next at first, and behind each call, with its depth.
+/// What comes next at first, and after each call, with its depth.
 #[derive(Clone, Copy)]
 struct Row {
     name: &'static str,
@@ -215,8 +215,8 @@ const ROWS: [Row; 16] = [
 
 /// This comes next in the builder, at this depth.
 fn check_next(rt: &impl Abort, builder: &Builder<'_, Global>, next: Next, depth: u16, name: &str) {
-    let told = (builder.walk().next(), builder.walk().depth());
-    assert_eq!(rt; told, (next, depth), "what comes next in {name}");
+    let reported = (builder.walk().next(), builder.walk().depth());
+    assert_eq!(rt; reported, (next, depth), "what comes next in {name}");
 }
 
 fn check_walk(rt: &impl Abort, alloc: Global, row: &Row) -> Result<(), Fail> {
@@ -231,7 +231,7 @@ fn check_walk(rt: &impl Abort, alloc: Global, row: &Row) -> Result<(), Fail> {
 }
 
 #[test]
-fn the_next_form_and_its_depth_are_told(rt: HostRuntime) -> Result<(), Fail> {
+fn the_next_form_and_its_depth_are_reported(rt: HostRuntime) -> Result<(), Fail> {
     'rows: for row in &ROWS {
         check_walk(&rt, rt.alloc(), row)?;
     }
@@ -239,7 +239,7 @@ fn the_next_form_and_its_depth_are_told(rt: HostRuntime) -> Result<(), Fail> {
 }
 
 #[test]
-fn the_default_limits_are_told(rt: HostRuntime) {
+fn the_default_limits_are_reported(rt: HostRuntime) {
     let limits = Limits {
         depth: 64,
         bytes: 16_777_216,
@@ -260,7 +260,7 @@ fn a_value_lends_its_registry(rt: HostRuntime) -> Result<(), Fail> {
 }
 
 #[test]
-fn the_first_of_two_arms_with_one_index_is_told(rt: HostRuntime) -> Result<(), Fail> {
+fn the_first_of_two_arms_with_one_index_is_reported(rt: HostRuntime) -> Result<(), Fail> {
     let checked = checked(rt.alloc(), SHADOWED_ARM)?;
     let value = built(rt.alloc(), &checked, 1, 64, &[Call::Arm(3)])?;
     let root = value.root();
@@ -271,37 +271,40 @@ fn the_first_of_two_arms_with_one_index_is_told(rt: HostRuntime) -> Result<(), F
 }
 
 /// Appends the types of the node's children, and what they are.
-fn tell_children(told: &mut Vec<(TypeId, What)>, node: &NodeRef<'_, '_>) -> Result<(), AllocError> {
+fn report_children(
+    reported: &mut Vec<(TypeId, What)>,
+    node: &NodeRef<'_, '_>,
+) -> Result<(), AllocError> {
     'children: for child in node.children() {
-        told.push((child.type_id(), child.what()))?;
+        reported.push((child.type_id(), child.what()))?;
     }
     Ok(())
 }
 
-/// The types of the children of the value's root, each with those of its own children behind it, and what they are.
+/// The types of the children of the value's root, each with those of its own children after it, and what they are.
 fn two_levels(alloc: Global, value: &Value<'_, Global>) -> Result<Vec<(TypeId, What)>, AllocError> {
-    let mut told = Vec::new(alloc);
+    let mut reported = Vec::new(alloc);
     'children: for child in value.root().children() {
-        told.push((child.type_id(), child.what()))?;
-        tell_children(&mut told, &child)?;
+        reported.push((child.type_id(), child.what()))?;
+        report_children(&mut reported, &child)?;
     }
-    Ok(told)
+    Ok(reported)
 }
 
-// A subtree of two nodes is passed over in one step, and what stands behind it is still told.
+// A subtree of two nodes is passed over in one step, and what stands after it is still reported.
 #[test]
-fn children_are_told_behind_a_subtree(rt: HostRuntime) -> Result<(), Fail> {
+fn children_are_reported_after_a_subtree(rt: HostRuntime) -> Result<(), Fail> {
     let checked = checked(rt.alloc(), WORDS_AND_A_BYTE)?;
     let value = built(rt.alloc(), &checked, 3, 64, &WORDS_AND_A_BYTE_CALLS)?;
     assert_eq!(rt; counts(&value), (5, 0));
-    let told = two_levels(rt.alloc(), &value)?;
+    let reported = two_levels(rt.alloc(), &value)?;
     let wanted = [
         (TypeId(2), What::List),
         (TypeId(1), What::Unsigned(7)),
         (TypeId(1), What::Unsigned(255)),
         (TypeId(0), What::Unsigned(42)),
     ];
-    assert_eq!(rt; told.as_slice(), wanted.as_slice());
+    assert_eq!(rt; reported.as_slice(), wanted.as_slice());
     check_written(rt.alloc(), &value, b"\x08\x07\x00\xff\x00\x2a")
 }
 

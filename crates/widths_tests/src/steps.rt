@@ -39,7 +39,7 @@ const STEPS_WITHOUT: [Step; 8] = [
     Step::NoArm { from: 0, count: 1 },
 ];
 
-/// A sequence of the u8 behind it, that u8, an array of three, a composite of one, a sequence and an array of three of
+/// A sequence of the u8 after it, that u8, an array of three, a composite of one, a sequence and an array of three of
 /// the composite, an array of no u8, an i8 and a sequence of it.
 const BYTES_AND_WRAPPERS: &[u8] =
     b"\x24\x00\x00\x00\x02\x04\x00\x04\x00\x00\x05\x03\x00\x08\x00\x00\x03\x03\x00\x00\x00\x04\x00\x0c\x00\x00\x00\x04\x00\x04\x00\x00\x00\x10\x00\x00\x02\x0c\x00\x14\x00\x00\x03\x03\x00\x00\x00\x0c\x00\x18\x00\x00\x03\x00\x00\x00\x00\x04\x00\x1c\x00\x00\x05\x09\x00\x20\x00\x00\x02\x1c\x00";
@@ -58,12 +58,12 @@ const STEPS_OF_BYTES: [Step; 9] = [
 
 const MEMBERS: [u32; 8] = [0, 2, 0, 1, 1, 3, 0, 5];
 
-/// The types of the registry have these steps, and there is none behind them.
+/// The types of the registry have these steps, and there is none after them.
 fn check_steps(rt: &impl Abort, registry: &Checked, steps: &[Step], name: &str) {
     let mut id = 0u32;
     'steps: for step in steps {
-        let told = registry.step(TypeId(id));
-        assert_eq!(rt; told, Some(*step), "step {id} of {name}");
+        let reported = registry.step(TypeId(id));
+        assert_eq!(rt; reported, Some(*step), "step {id} of {name}");
         id = id.saturating_add(1);
     }
     assert_eq!(rt; registry.step(TypeId(id)), None, "step behind {name}");

@@ -188,23 +188,23 @@ const REFUSED: [Refused; 5] = [
     },
 ];
 
-/// The types of the registry have these classes, and there is none behind them.
+/// The types of the registry have these classes, and there is none after them.
 fn check_classes(rt: &impl Abort, registry: &Checked, classes: &[Class], name: &str) {
     let mut id = 0u32;
     'classes: for class in classes {
-        let told = registry.class(TypeId(id));
-        assert_eq!(rt; told, Some(*class), "class {id} of {name}");
+        let reported = registry.class(TypeId(id));
+        assert_eq!(rt; reported, Some(*class), "class {id} of {name}");
         id = id.saturating_add(1);
     }
     assert_eq!(rt; registry.class(TypeId(id)), None, "class behind {name}");
 }
 
-/// The types of the registry have these targets, and there is none behind them.
+/// The types of the registry have these targets, and there is none after them.
 fn check_targets(rt: &impl Abort, registry: &Checked, targets: &[Option<Target>], name: &str) {
     let mut id = 0u32;
     'targets: for target in targets {
-        let told = registry.compact_target(TypeId(id));
-        assert_eq!(rt; told, *target, "target {id} of {name}");
+        let reported = registry.compact_target(TypeId(id));
+        assert_eq!(rt; reported, *target, "target {id} of {name}");
         id = id.saturating_add(1);
     }
     let behind = registry.compact_target(TypeId(id));
@@ -270,7 +270,7 @@ fn check_refused(rt: &impl Abort, alloc: Global, row: Refused) -> Result<(), Fai
 }
 
 #[test]
-fn the_first_unknown_reference_is_told(rt: HostRuntime) -> Result<(), Fail> {
+fn the_first_unknown_reference_is_reported(rt: HostRuntime) -> Result<(), Fail> {
     'rows: for row in REFUSED {
         check_refused(&rt, rt.alloc(), row)?;
     }
@@ -394,8 +394,8 @@ fn nested_tuples(alloc: Global) -> Result<Vec<u8>, AllocError> {
 
 /// All types of the registry are empty: so many, of which the widest has so many parts.
 fn check_empty(rt: &impl Abort, registry: &Checked, count: u32, widest: u32) {
-    let told = (registry.registry().types().len(), registry.widest());
-    assert_eq!(rt; told, (count as usize, widest));
+    let reported = (registry.registry().types().len(), registry.widest());
+    assert_eq!(rt; reported, (count as usize, widest));
     'classes: for id in 0..count {
         assert_eq!(rt; registry.class(TypeId(id)), Some(Class::Empty), "type {id}");
     }
