@@ -1,7 +1,7 @@
 -- A run of bytes goes out as JSON in parts.
 use Rattle.std.proofs.Common.{◌≡◌, ℕ, ◌+◌, ◌-◌, ◌*◌, ◌/◌, ◌%◌, ◌≤◌, List, [], ◌∷◌, ◌++◌, length, take}
-use Rattle.std.proofs.Common.{drop, get_or, slice_index, Fits, w8, Option, Some, refl, ap, sym, ◌∙◌}
-use Rattle.std.proofs.Common.{arith, length-take-le, take-append-drop}
+use Rattle.std.proofs.Common.{drop, get_or, slice_index, Fits, w8, Option, None, Some, refl, ap, sym, ◌∙◌}
+use Rattle.std.proofs.Common.{append-nil, arith, length-take-le, take-append-drop}
 use Rattle.std.proofs.lemmas.List.{length-drop}
 use Rattle.std.proofs.Math.Seq.{take-add}
 use Rattle.std.specs.Io.KnownBytes.{Appends}
@@ -24,6 +24,12 @@ encode-append [] ys = refl
 encode-append (x ∷ xs) ys =
     ap (λ (l : List ℕ). slice_index lower_digits (x / 16) ∷ slice_index lower_digits (x % 16) ∷ l)
     (encode-append xs ys)
+
+-- no digit of no byte is nothing more
+pub digits_none : (a : Option (List ℕ)) → Appends a a (encode_lower [])
+unfolding encode_with
+digits_none None = tt
+digits_none (Some xs) = sym (append-nil xs)
 
 -- a part of some bytes, from one place up to another
 abbrev pub part : List ℕ → ℕ → ℕ → List ℕ
@@ -121,6 +127,7 @@ run_whole a b c d bs p q r =
 -- the JSON text of a value that is a run of bytes is the text of the run
 pub run_is_text : (r : List TypeInfo) (t : ℕ) (v : Tree) (s : List ℕ) → bytes_of v ≡ Some s →
     ((i : ℕ) → Fits w8 (get_or s i 0)) → run_text s ≡ compact_text (json_of r t v)
+unfolding json_of
 run_is_text r t (leaf (bytes b)) s e h =
     let same : b ≡ s = cc in rw same (hex_string s h)
 run_is_text r t (leaf unit) s e h = absurd cc

@@ -9,6 +9,9 @@ use scale_core::Sink;
 use std::io::Write;
 use value_core::{WriteFault, send};
 
+/// The most bytes that a run has: its length is a compact u32, or the u32 of its type.
+pub(crate) const LONGEST: usize = u32::MAX as usize;
+
 /// Of so many bytes at most the digits are made at once.
 const PART: usize = 2048;
 
@@ -38,6 +41,7 @@ fn send_part<W: Write>(sink: &mut Sink<W>, buffer: &mut [u8], part: &[u8]) -> Re
 
 /// Writes two digits for each byte, and takes no memory.
 fn send_digits<W: Write>(sink: &mut Sink<W>, bytes: &[u8]) -> Result<(), WriteFault>
+    requires { length bytes.now ≤ LONGEST }
     ensures sent { Sends (W.contents sink.old.device) (W.contents sink.new.device)
         (encode_lower bytes.now) result }
     ensures failed { sink.new.failed ≡ sink.old.failed || not (is_ok result) }
@@ -56,6 +60,7 @@ fn send_digits<W: Write>(sink: &mut Sink<W>, bytes: &[u8]) -> Result<(), WriteFa
 
 /// Writes a run of bytes as JSON, and takes no memory: a text of `0x` and two digits for each byte.
 pub(crate) fn print_run<W: Write>(sink: &mut Sink<W>, bytes: &[u8]) -> Result<(), WriteFault>
+    requires { length bytes.now ≤ LONGEST }
     ensures sent { Sends (W.contents sink.old.device) (W.contents sink.new.device)
         (run_text bytes.now) result }
     ensures failed { sink.new.failed ≡ sink.old.failed || not (is_ok result) }

@@ -6,7 +6,7 @@ ghost use Rattle.std.specs.Io.KnownBytes.{Appends};
 ghost use Rattle.json_core.specs.Json.{json_text};
 ghost use Rattle.json_core.specs.Printed.{written_of, is_write};
 
-use crate::byte_run::print_run;
+use crate::byte_run::{LONGEST, print_run};
 use crate::orders::Orders;
 use crate::output::Output;
 use crate::writing::write_node;
@@ -75,8 +75,8 @@ pub fn print<A: Allocator, W: Write>(
     ensures failed { sink.new.failed ≡ sink.old.failed || is_write result }
 {
     let sent = match value.root().bytes() {
-        Some(bytes) => print_run(sink, bytes),
-        None => {
+        Some(bytes) if bytes.len() <= LONGEST => print_run(sink, bytes),
+        _ => {
             let Ok(mut text) = json_text(alloc, value) else {
                 return Err(PrintFault::OutOfMemory);
             };

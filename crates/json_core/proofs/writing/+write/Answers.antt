@@ -235,10 +235,10 @@ write_node-write_fields-requires-in-Arm t c =
         c.requires,
         (
           rw (c.requires, c.type_id-ty.ensures.same, c.as_slice.ensures)
-              (arm_place (shape s.types s.ty) c.in-Arm.position a at),
+              (arm_place (shape s.types s.ty) c.in-Arm.arm a at),
           (
             rw c.as_slice.ensures (rw c.unwrap-arm.ensures at few),
-            rw c.as_slice.ensures (arm_count s c.in-Arm.position a c.in-Arm.ensures.value
+            rw c.as_slice.ensures (arm_count s c.in-Arm.arm a c.in-Arm.ensures.value
                 c.in-Arm.ensures.same at),
           ),
         ),
@@ -339,7 +339,7 @@ write_node-returns-in_ok-write_fields-in-Arm-clause-adds t c =
     (c.checked-checked.ensures ∙ c.requires, c.type_id-ty.ensures.same)
     c.defined_arm.ensures.same c.unwrap-arm.ensures in
     let shows : json_seen s ≡ object (member n d no_members) =
-    arm_is s c.in-Arm.position c.unwrap-arm.result.now at
+    arm_is s c.in-Arm.arm c.unwrap-arm.result.now at
     (reported s _ c.in-Arm.ensures.value c.in-Arm.ensures.same)
     ∙ ap₂ (λ m gs. object (member m (fields_json gs (jsons (children_of s))) no_members))
     (sym c.as_str.ensures.same) (sym c.as_slice.ensures) in
