@@ -1,4 +1,4 @@
-use Rattle.std.proofs.Common.{◌≡◌, ◌+◌, ◌≤◌, ◌∙◌, length, refl, arith, rules}
+use Rattle.std.proofs.Common.{◌+◌, ◌≤◌, ◌∙◌, length, refl, arith, rules}
 use Rattle.hex.specs.Hex.{lower_digits}
 use Rattle.hex.proofs.HexLemmas.{length-encode_with}
 use Rattle.json_core.proofs.Runs.{digits_more, digits_none, digits_stop}

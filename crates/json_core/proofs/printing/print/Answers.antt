@@ -1,17 +1,54 @@
-use Rattle.std.proofs.Common.{rules, ◌≡◌, ◌≤◌, ◌||◌, length, take, string_bytes, IfOk, IfErr, OnOk, IsErrOf, ℕ, ◌+◌, ◌-◌, ◌*◌, ◌<◌, ◌/◌, ◌%◌, Bool, true, false, nat_eq, nat_lt, List, [], ◌∷◌, ◌++◌, slice_index_or, slice_set, bit_and, bit_or, Fits, w8, w32, w64, Bor, MutBor}
+use Rattle.std.proofs.Common.{◌≡◌, ◌≤◌, ◌∙◌, ap, length, sym, take, rules}
 use Rattle.std.specs.Io.KnownBytes.{Appends}
+use Rattle.std.specs.Option.{option_map}
 use Rattle.json_core.specs.Json.{json_text}
-use Rattle.json_core.specs.Printed.{written_of, is_write}
+use Rattle.json_core.specs.Printed.{run_text}
+use Rattle.json_core.proofs.Runs.{is_sent, run_is_text, sent_stopped, sent_whole}
+use Rattle.json_core.proofs.printing.print.Given.{Over}
 use Rattle.json_core.proofs.printing.print.Goals as goal
+use Rattle.json_core.proofs.printing.print.Goals.{in-Some, in_default+in-Ok}
 
--- src/printing.rt:61:1
 pub returns-in-Ok-sent-clause-ok : goal.returns-in-Ok-sent-clause-ok
-returns-in-Ok-sent-clause-ok g c = ?
+returns-in-Ok-sent-clause-ok g c =
+    sent_whole (g.W.Write.contents c.args.sink.now.device)
+    (g.W.Write.contents c.match-bytes.sink.device) (json_text c.args.value.now) c.match-bytes.sent
+    c.in-Ok-sent.field-0 (elim c.match-bytes.branch [
+      | in-Some w ↦
+          let same : run_text w.in-Some.bytes.now ≡ json_text c.args.value.now =
+          run_is_text c.root.result.types c.root.result.ty c.root.result.tree w.in-Some.bytes.now
+          (sym c.bytes.ensures ∙ ap (option_map (λ s. s.now)) w.in-Some.is)
+          ∙ ap json_text c.root.ensures.same in
+          rw (w.sink-is, w.sent-is, ← same) w.print_run-sent.ensures.sent
+      | in_default+in-Ok w ↦
+          let same : w.as_bytes.result.now ≡ json_text c.args.value.now = search rules in
+          rw (w.sink-is, w.sent-is, ← same) (is_sent _ _ _ w.send-sent.result
+          w.send-sent.ensures.ok w.send-sent.ensures.part w.send-sent.ensures.err)
+    ]) c.in-Ok-sent.is
 
--- src/printing.rt:61:1
+-- where a write failed, so much of the value's JSON text went out as it reports
+stopped : (g : Over) (c : goal.In-Err g) →
+    (c.in-Err.fault.written ≤ length (json_text c.args.value.now))
+    × Appends (g.W.Write.contents c.args.sink.now.device)
+    (g.W.Write.contents c.match-bytes.sink.device)
+    (take c.in-Err.fault.written (json_text c.args.value.now))
+stopped g c =
+    sent_stopped (g.W.Write.contents c.args.sink.now.device)
+    (g.W.Write.contents c.match-bytes.sink.device) (json_text c.args.value.now) c.match-bytes.sent
+    c.in-Err.fault (elim c.match-bytes.branch [
+      | in-Some w ↦
+          let same : run_text w.in-Some.bytes.now ≡ json_text c.args.value.now =
+          run_is_text c.root.result.types c.root.result.ty c.root.result.tree w.in-Some.bytes.now
+          (sym c.bytes.ensures ∙ ap (option_map (λ s. s.now)) w.in-Some.is)
+          ∙ ap json_text c.root.ensures.same in
+          rw (w.sink-is, w.sent-is, ← same) w.print_run-sent.ensures.sent
+      | in_default+in-Ok w ↦
+          let same : w.as_bytes.result.now ≡ json_text c.args.value.now = search rules in
+          rw (w.sink-is, w.sent-is, ← same) (is_sent _ _ _ w.send-sent.result
+          w.send-sent.ensures.ok w.send-sent.ensures.part w.send-sent.ensures.err)
+    ]) c.in-Err.is
+
 pub returns-in-Err-clause-part : goal.returns-in-Err-clause-part
-returns-in-Err-clause-part g c = ?
+returns-in-Err-clause-part g c = (stopped g c).0
 
--- src/printing.rt:61:1
 pub returns-in-Err-clause-err : goal.returns-in-Err-clause-err
-returns-in-Err-clause-err g c = ?
+returns-in-Err-clause-err g c = (stopped g c).1
