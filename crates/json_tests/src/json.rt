@@ -12,7 +12,7 @@ use scale_tests::registries::{
     SHADOWED_ARM, TEXT, TWO_BYTES, TWO_UNITS_AND_A_BYTE, U8, U64, U128, UNITS, WIDE, WORDS,
     WRAPPED_BYTES,
 };
-use std::alloc::Global;
+use std::alloc::{AllocError, Global};
 use std::process::Abort;
 use std::test::Fail;
 use value_core::{Builder, Value, WriteFault};
@@ -362,8 +362,13 @@ fn check_text(
 }
 
 /// Writers that end at this place of the text: it is reported, and the front went out.
-fn check_place(rt: &impl Abort, alloc: Global, value: &Value<'_, Global>, row: &Row, place: usize) {
-    let name = row.name;
+fn check_place(
+    rt: &impl Abort,
+    alloc: Global,
+    value: &Value<'_, Global>,
+    text: &[u8],
+    place: usize,
+) {
     let ends = [
         (Then::Fails, SinkFault::Device),
         (Then::TakesNothing, SinkFault::WroteNothing),
@@ -374,11 +379,10 @@ fn check_place(rt: &impl Abort, alloc: Global, value: &Value<'_, Global>, row: &
             reason,
             written: place as u64,
         });
-        assert_eq!(rt; print(alloc, value, &mut sink), Err(wanted), "{name}");
-        assert!(rt; sink.failed(), "{name}");
+        assert_eq!(rt; print(alloc, value, &mut sink), Err(wanted), "{place}");
+        assert!(rt; sink.failed(), "{place}");
         let taken = sink.into_inner().taken;
-        let front = row.text.as_bytes().get(..place);
-        assert_eq!(rt; Some(taken.as_slice()), front, "{name}");
+        assert_eq!(rt; Some(taken.as_slice()), text.get(..place), "{place}");
     }
 }
 
@@ -397,7 +401,7 @@ fn check_row(rt: &impl Abort, alloc: Global, row: &Row) -> Result<(), Fail> {
     };
     check_text(rt, alloc, &value, row)?;
     'places: for place in 0..row.text.len() {
-        check_place(rt, alloc, &value, row, place);
+        check_place(rt, alloc, &value, row.text.as_bytes(), place);
     }
     Ok(())
 }
@@ -422,6 +426,39 @@ fn each_form_has_its_text(rt: HostRuntime) -> Result<(), Fail> {
 fn each_order_has_its_text(rt: HostRuntime) -> Result<(), Fail> {
     'rows: for row in &ORDERS {
         check_row(&rt, rt.alloc(), row)?;
+    }
+    Ok(())
+}
+
+/// The text of 5,000 bytes that are 169 each.
+fn long_text(alloc: Global) -> Result<Vec<u8>, AllocError> {
+    let mut text = Vec::new(alloc);
+    text.extend_from_slice(b"\"0x")?;
+    'bytes: for _ in 0..5000 {
+        text.extend_from_slice(b"a9")?;
+    }
+    text.push(b'"')?;
+    Ok(text)
+}
+
+/// A run of 5,000 bytes, whose digits are made in three parts: all of it, and writers that end within each part.
+#[test]
+fn a_long_run_is_printed_in_parts(rt: HostRuntime) -> Result<(), Fail> {
+    let alloc = rt.alloc();
+    let checked = checked(alloc, BYTES)?;
+    let Ok(mut builder) = Builder::new(alloc, &checked, TypeId(1), 64) else {
+        return Err("no builder")?;
+    };
+    assert_eq!(rt; builder.bytes(&[169; 5000]), Ok(()));
+    let Ok(value) = builder.finish() else {
+        return Err("no value")?;
+    };
+    let text = long_text(alloc)?;
+    let mut sink = Sink::new(Vec::new(alloc));
+    assert_eq!(rt; print(alloc, &value, &mut sink), Ok(()));
+    assert_eq!(rt; sink.into_inner().as_slice(), text.as_slice());
+    'places: for place in [0, 1, 3, 4, 4098, 4099, 4100, 8194, 8195, 10_002, 10_003] {
+        check_place(&rt, alloc, &value, text.as_slice(), place);
     }
     Ok(())
 }
