@@ -93,7 +93,7 @@ static int decode(scaleview_registry registry, uint32_t type, uint16_t depth, st
     return show(out, answer, type);
 }
 
-/* Feeds so many bytes at a time; bytes behind the value are refused. */
+/* Feeds so many bytes at a time; bytes after the value are refused. */
 static uint64_t feed(scaleview_session *session, struct bytes value, size_t step, scaleview_answer *answer) {
     uint64_t taken = 0;
     answer->code = SCALEVIEW_MORE;

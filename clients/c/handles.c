@@ -40,7 +40,7 @@ static void check_lending(void) {
     check("closed", scaleview_close(&registry) == SCALEVIEW_OK && !registry.inside);
 }
 
-/* A handle of the other kind is told, and stays. */
+/* A handle of the other kind is reported, and stays. */
 static void check_kinds(void) {
     scaleview_registry registry = {NULL};
     scaleview_session session = {NULL}, other = {NULL};
@@ -59,14 +59,14 @@ static void check_kinds(void) {
     check("a registry's bytes", scaleview_taken(&none, &answer) == SCALEVIEW_NO_HANDLE && answer.length == 0);
     check("a registry's nodes", scaleview_nodes(&none, &answer) == SCALEVIEW_NO_HANDLE && answer.length == 0);
     check("a registry's texts", scaleview_text_bytes(&none, &answer) == SCALEVIEW_NO_HANDLE && answer.length == 0);
-    check("a registry told its counts", none.inside == registry.inside);
+    check("a registry reported its counts", none.inside == registry.inside);
     check("a registry ended", scaleview_finish(&none, out, 0, &answer) == SCALEVIEW_NO_HANDLE);
     check("a registry freed", scaleview_free(&none) == SCALEVIEW_NO_HANDLE && none.inside == registry.inside);
     check("freed", scaleview_free(&session) == SCALEVIEW_OK);
     check("closed", scaleview_close(&registry) == SCALEVIEW_OK);
 }
 
-/* None is told, and stays. */
+/* None is reported, and stays. */
 static void check_none(void) {
     scaleview_registry registry = {NULL};
     scaleview_session session = {NULL};
@@ -195,7 +195,7 @@ static void check_later_pieces(void) {
     check("closed", scaleview_close(&registry) == SCALEVIEW_OK);
 }
 
-/* Two sessions in every two states are freed in both orders; the registry is closed behind them, and not before. */
+/* Two sessions in every two states are freed in both orders; the registry is closed after them, and not before. */
 static void check_orders(void) {
     static const uint8_t str_registry[] = {0x04, 0x00, 0x00, 0x00, 0x05, 0x02, 0x00};
     for (int order = 0; order < STATES * STATES * 4; order++) {

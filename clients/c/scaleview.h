@@ -6,7 +6,7 @@
  * - Pointers are never NULL, also where a length is 0, but for `inside` of a handle. What a call writes to overlaps nothing
  *   else that it is given. No call keeps a pointer to bytes that it was given.
  * - A handle holds NULL or what a call has put there. NULL, and a handle of the other kind, are answered by
- *   SCALEVIEW_NO_HANDLE; a copy of what was closed or freed can't be told from others, and isn't to be used.
+ *   SCALEVIEW_NO_HANDLE; a copy of what was closed or freed can't be distinguished from others, and isn't to be used.
  * - A handle is used by one call at a time, and so are a registry and its sessions together, which count one another
  *   without a lock. Different registries, each with its sessions, may be used on different threads.
  *
@@ -64,7 +64,7 @@ enum scaleview_code {
     SCALEVIEW_VALUE_TRAILING_BYTES = 313 /* bytes follow the value, which ends at `at` */
 };
 
-/* What a call tells beside its code, which stands here too. A number that the code does not speak of is 0. */
+/* What a call reports beside its code, which stands here too. A number that the code does not speak of is 0. */
 typedef struct scaleview_answer {
     uint32_t code;
     uint32_t from;   /* SCALEVIEW_REGISTRY_UNKNOWN_REFERENCE: the position of the type that refers */

@@ -12,9 +12,9 @@ BYTES = bytes.fromhex("08000000050300040000020000")
 
 class Handles(unittest.TestCase):
     def assertRefused(self, call: Callable[[], object], reason: str, at: int) -> None:
-        with self.assertRaises(Refused) as told:
+        with self.assertRaises(Refused) as raised:
             call()
-        self.assertEqual((told.exception.part, told.exception.reason, told.exception.at), ("value", reason, at))
+        self.assertEqual((raised.exception.part, raised.exception.reason, raised.exception.at), ("value", reason, at))
 
     def test_a_registry_stays_open_while_it_is_lent(self) -> None:
         registry = Registry(U16)
@@ -84,25 +84,25 @@ class Handles(unittest.TestCase):
 
     def test_refusals_have_reason_and_place(self) -> None:
         with Registry(U16) as registry:
-            with self.assertRaises(Refused) as told:
+            with self.assertRaises(Refused) as raised:
                 registry.decode(0, b"\x01")
-            refused = told.exception
+            refused = raised.exception
             self.assertEqual((refused.code, refused.part, refused.reason, refused.at), (301, "value", "Truncated", 1))
             self.assertEqual(str(refused), "value: Truncated at 1")
-            with self.assertRaises(Refused) as told:
+            with self.assertRaises(Refused) as raised:
                 registry.start(1)
-            self.assertEqual((told.exception.code, told.exception.at), (201, None))
-        with self.assertRaises(Refused) as told:
+            self.assertEqual((raised.exception.code, raised.exception.at), (201, None))
+        with self.assertRaises(Refused) as raised:
             Registry(bytes.fromhex("04000000020400"))
-        self.assertEqual(str(told.exception), "check: UnknownType 1 in type 0")
+        self.assertEqual(str(raised.exception), "check: UnknownType 1 in type 0")
 
     def test_both_versions_of_metadata_are_opened(self) -> None:
         for version in (14, 15):
             with Registry(b"meta" + bytes([version]) + U16 + b"\xff", metadata=True) as registry:
                 self.assertEqual(registry.type_line(0), '0 Sized u16 ""\n')
-        with self.assertRaises(Refused) as told:
+        with self.assertRaises(Refused) as raised:
             Registry(b"meta\x10", metadata=True)
-        self.assertEqual((told.exception.reason, told.exception.at), ("WrongVersion", 4))
+        self.assertEqual((raised.exception.reason, raised.exception.at), ("WrongVersion", 4))
 
 
 if __name__ == "__main__":

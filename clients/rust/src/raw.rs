@@ -1,4 +1,4 @@
-//! The calls of the library, as `clients/c/scaleview.h` tells them.
+//! The calls of the library, as `clients/c/scaleview.h` describes them.
 
 use std::ffi::c_void;
 
@@ -6,7 +6,7 @@ pub const OK: u32 = 0;
 pub const MORE: u32 = 1;
 pub const NO_ROOM: u32 = 2;
 
-/// What a call tells beside its code.
+/// What a call reports beside its code.
 #[repr(C)]
 #[derive(Clone, Copy, Debug, Default)]
 pub struct Answer {

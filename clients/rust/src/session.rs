@@ -52,7 +52,7 @@ impl<'r> Session<'r> {
         }
     }
 
-    fn told(&mut self, call: unsafe extern "C" fn(*mut Handle, *mut Answer) -> u32) -> u64 {
+    fn reported(&mut self, call: unsafe extern "C" fn(*mut Handle, *mut Answer) -> u32) -> u64 {
         let mut answer = Answer::default();
         // SAFETY: as above.
         unsafe { call(&mut self.handle, &mut answer) };
@@ -61,23 +61,23 @@ impl<'r> Session<'r> {
 
     /// How many bytes of all pieces were taken.
     pub fn taken(&mut self) -> u64 {
-        self.told(raw::scaleview_taken)
+        self.reported(raw::scaleview_taken)
     }
 
     /// How many nodes of the value are held.
     pub fn nodes(&mut self) -> u64 {
-        self.told(raw::scaleview_nodes)
+        self.reported(raw::scaleview_nodes)
     }
 
     /// How many bytes of its texts are held.
     pub fn text_bytes(&mut self) -> u64 {
-        self.told(raw::scaleview_text_bytes)
+        self.reported(raw::scaleview_text_bytes)
     }
 
     /// The JSON of the whole value.
     ///
     /// # Errors
-    /// `Value` with `Truncated` at the bytes taken where the value goes on, or the refusal that `feed` told; `Memory`.
+    /// `Value` with `Truncated` at the bytes taken where the value goes on, or the refusal that `feed` reported; `Memory`.
     pub fn finish(mut self) -> Result<String, Error> {
         // SAFETY: as above, and the buffer is this call's.
         raw::text(|out, room, answer| unsafe { raw::scaleview_finish(&mut self.handle, out, room, answer) })

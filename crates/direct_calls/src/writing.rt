@@ -79,7 +79,7 @@ pub(crate) fn write_line(alloc: Global, name: &str) -> Result<Option<&'static st
     Ok(Some(match answer {
         Ok(()) => line_where(
             out.as_slice().strip_prefix(FRONT) == Some(bytes),
-            "write: the bytes stand behind what was there\n",
+            "write: the bytes stand after what was there\n",
         ),
         Err(AllocError) => line_where(
             out.as_slice() == FRONT,
