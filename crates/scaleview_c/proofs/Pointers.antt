@@ -21,7 +21,7 @@ use denote.Param.Laws.{Laws}
 use denote.Struct.Struct.{within}
 use denote.Struct.Owning.{shape}
 use Rattle.core.specs.declared.alloc.Allocator.{Ghosts}
-use Rattle.core.proofs.alloc.Calls.{Al, handle_reports}
+use Rattle.core.proofs.alloc.Calls.{Al, handle_tells}
 use Rattle.core.proofs.cell.Inside.{Good}
 use Rattle.std_alloc.specs.Box.Ownership.{box_owns}
 use Rattle.std_alloc.proofs.ResultValues.{and_tt}
@@ -59,7 +59,7 @@ module _ (R Z : RattleType) (L : Laws Z) (g : Ghosts Z.Denot) where
         let fields : Val → Val → List Val = λ p h. vstruct (of_list (p ∷ h ∷ [])) ∷ [] in
         fsplit t $ fpick t (λ vss. fsplit t $
         feq_l t (λ laid. fsplit t $ feq_l t (λ first. fsplit t $
-        handle_reports allocator t d.alloc vss.1.0 (λ h second fits.
+        handle_tells allocator t d.alloc vss.1.0 (λ h second fits.
         move t (1 ∷ []) $ drop t $ move t (1 ∷ []) $
         in_a_block t d.at (λ p. Owns d.alloc p d.held)
         (fst∗ 𝓤 (never 𝓤) (sem 𝓛 (g.dealloc_token d.alloc (bare (lone R.mir)) null_ptr)))

@@ -27,7 +27,7 @@ use denote.Struct.Tuple.{Tuple}
 use denote.Triple.Spec.{triple_of}
 use denote.Triple.Call.{calls_at}
 use denote.Triple.Walked.{Stays, stay_dropped, walk_of}
-use Rattle.core.proofs.alloc.Calls.{Goes-blank, handle_reports}
+use Rattle.core.proofs.alloc.Calls.{Goes-blank, handle_tells}
 use Rattle.core.proofs.atomic.Steps.{fm}
 use Rattle.std_alloc.proofs.BoxSteps.Form as box
 use Rattle.std_alloc.proofs.BoxSteps.Steps.{box_out, box_in}
@@ -98,7 +98,7 @@ take_apart_spec 𝓤 𝓛 𝓜 𝓡 wired T A L LA g d dx dd allocator glue glue
     move ! (1 ∷ []) $ split ! $ move ! (1 ∷ []) $
     fpick ! (λ vss. fsplit ! $ feq_l ! (λ laid. fsplit ! $ feq_l ! (λ first. fsplit ! $
     rewrite ! 0 (λ (s : A.Denot). ‵ (A.own_val s vss.1.0)) same refl $
-    handle_reports E.al ! a vss.1.0 (λ h' second fits'.
+    handle_tells E.al ! a vss.1.0 (λ h' second fits'.
     let made = pair_good R Z LZ g b' o' h' fits' in let out : Val = pair (vptr b' o') h' in
     let lies : u ≡ out = ap only (laid
     ∙ (λ j. vstruct (of_list ((first ∙ ap (λ (p : Ptr). ptr_val p ∷ []) at) j

@@ -27,7 +27,7 @@ use sound.WpLaws.{fm_of, WpFn-mono}
 use denote.Builtin.{usize}
 use denote.Exit.{yes}
 use denote.Opens.{unhide}
-use denote.Plain.{uint_vals, uint_Reports}
+use denote.Plain.{uint_vals, uint_Tells}
 use denote.RattleType.{owns}
 use denote.RawPtr.{block_ptr}
 use denote.Ref.{shr_vals}
@@ -225,6 +225,6 @@ allocate_spec 𝓤 𝓛 𝓜 𝓡 wired row laws ghosts methods drops met _ =
     clauses Body (WpFn-mono 𝓤 𝓛.H 𝓛.laws 𝓣 (itself Z))
     (walked 𝓛 (ended Z) (stayed Z) clauses Body
     (λ κs. (shr_vals, (uint_vals w64, (uint_vals w64, tt))))
-    (λ κs. ((λ r vs s. s.0), (uint_Reports w64, (uint_Reports w64, tt))))
+    (λ κs. ((λ r vs s. s.0), (uint_Tells w64, (uint_Tells w64, tt))))
     (λ κs qs bounds a τ are. walk Z 𝓛 𝓜.mem 𝓡.returns 𝓣 (met.allocate drops) counts κs.0 κs.1.0 qs.0
     qs.1.0 bounds.0 a.0 a.1.0 a.1.1.0 τ are.1.0.1 are.1.1.0.1)))

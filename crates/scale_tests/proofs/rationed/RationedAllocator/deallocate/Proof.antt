@@ -21,9 +21,9 @@ use sound.WpLaws.{fm_of, WpFn-mono}
 use denote.Builtin.{usize, RawPtr}
 use denote.Exit.{yes}
 use denote.Opens.{unhide}
-use denote.Plain.{uint_vals, uint_Reports}
+use denote.Plain.{uint_vals, uint_Tells}
 use denote.RattleType.{owns}
-use denote.RawPtr.{Ptr, block_ptr, null_ptr, ptr_val, rawptr_vals, rawptr_Reports}
+use denote.RawPtr.{Ptr, block_ptr, null_ptr, ptr_val, rawptr_vals, rawptr_Tells}
 use denote.Ref.{shr_vals}
 use denote.Signature.{plain, types_at}
 use denote.Steps.{heard, nothing}
@@ -172,6 +172,6 @@ deallocate_spec 𝓤 𝓛 𝓜 𝓡 wired row laws ghosts methods drops met _ =
     clauses Body (WpFn-mono 𝓤 𝓛.H 𝓛.laws 𝓣 (itself Z))
     (walked 𝓛 (ended Z) (stayed Z) clauses Body
     (λ κs. (shr_vals, (rawptr_vals, (uint_vals w64, (uint_vals w64, tt)))))
-    (λ κs. ((λ r vs s. s.0), (rawptr_Reports, (uint_Reports w64, (uint_Reports w64, tt)))))
+    (λ κs. ((λ r vs s. s.0), (rawptr_Tells, (uint_Tells w64, (uint_Tells w64, tt)))))
     (λ κs qs bounds a τ are. walk Z 𝓛 𝓜.mem 𝓡.returns 𝓣 (met.deallocate drops) κs.0 κs.1.0 qs.0
     qs.1.0 bounds.0 a.0 a.1.1.0 a.1.1.1.0 τ are.1.1.0.1 are.1.1.1.0.1 a.1.0)))

@@ -21,7 +21,7 @@ use denote.RawPtr.{block_ptr, null_ptr, tests_null}
 use denote.Steps.{nothing}
 use denote.Param.{layout}
 use denote.Triple.Walked.{Stays, stay_dropped, walk_of, Goes-dropped}
-use Rattle.core.proofs.alloc.Calls.{Al, handle_reports}
+use Rattle.core.proofs.alloc.Calls.{Al, handle_tells}
 use Rattle.core.proofs.alloc.Shapes.{after}
 use Rattle.core.proofs.cell.Inside.{Good}
 use Rattle.core.proofs.option.Made.{Some-of, none_of}
@@ -68,7 +68,7 @@ into_parts_spec 𝓤 𝓛 𝓜 𝓡 wired =
     qed 𝓛 ((‵ ftrue ⊛ ‵ (owns (types_at ended.signature.params z.0.0) z.0.3 z.0.4))
     ∷ raw ((c z.0.0 z.0.3).requires z.1) ∷ []) ∵ split ! $ move ! (1 ∷ []) $ fsplit ! $
     handle_out ! a v z.0.4.0
-    (λ empty ws. fsplit ! $ handle_reports al ! a z.0.4.1.0 (λ h eh fits.
+    (λ empty ws. fsplit ! $ handle_tells al ! a z.0.4.1.0 (λ h eh fits.
     suffices ! (Run (null_word ∷ h ∷ [])) (subst (λ (us : List Val).
     ent 𝓤 (Run (null_word ∷ h ∷ [])) (Run us)) (sym (λ i. ws i ++ (eh i ++ [])))
     (id⊢ 𝓤 (Run (null_word ∷ h ∷ [])))) $
@@ -92,7 +92,7 @@ into_parts_spec 𝓤 𝓛 𝓜 𝓡 wired =
     returns ! (look_at ! 0 refl) $ free_all ! refl $ keep ! (4 ∷ 0 ∷ 2 ∷ 1 ∷ []) $
     by ! (leaves 𝓛 ended hs c z (live 0 vnil) None (tt, (tt, tt)) (tt, (tt, tt))))
     (λ wrong. absurd wrong))))
-    (λ b o x full may ws. move ! (1 ∷ []) $ fsplit ! $ handle_reports al ! a z.0.4.1.0 (λ h eh fits.
+    (λ b o x full may ws. move ! (1 ∷ []) $ fsplit ! $ handle_tells al ! a z.0.4.1.0 (λ h eh fits.
     let w : Val = word b o in let made : Val = pair (vptr b o) h in let typed =
     pair_good R Z LZ ghosts b o h fits in let v₁ : Val = live 1 (vcons made vnil) in
     let d : Lr.Denot = record { at = block_ptr b o; alloc = a; held = x } in
