@@ -17,7 +17,7 @@ use Rattle.grammar_core.specs.Tree.{Tree}
 use Rattle.grammar_core.specs.Reading.{ValueReader, value_at}
 use Rattle.grammar_core.specs.Runs.{run_length_at}
 
--- what the first part takes, where it is refused; else its bytes, and what the parts taken_after it
+-- what the first part takes, where it is refused; else its bytes, and what the parts after it
 -- take
 abbrev pub taken_after : {E X : Type 0} → List ℕ → Read E X → ℕ → (X × List ℕ → ℕ) → ℕ
 taken_after b (Ok x) own next = place b x.1 + next x

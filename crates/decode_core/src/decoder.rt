@@ -187,17 +187,17 @@ impl<'r, A: Allocator + Clone> Decoder<'r, A> {
 }
 
 impl<'r, A: Allocator> Decoder<'r, A> {
-    /// How many bytes were taken: all that were fed while the value goes on, the value's own when it is whole, and those
-    /// up to the one that decides a refusal, with it. Where memory was refused it is those taken before it was. No call
-    /// makes it less, and none adds more than the bytes of its piece.
+    /// How many bytes were taken: all that were fed while the value goes on, the value's own when it is whole, and
+    /// those up to the one that decides a refusal, with it. Where memory was refused it is those taken before it was.
+    /// No call makes it less, and none adds more than the bytes of its piece.
     pub fn taken(&self) -> u64
         ensures { result ≡ self.now.taken }
     {
         self.taken
     }
 
-    /// How many nodes it holds; 0 after a refusal. They are at most `(n + 1) * (depth + 1) * (widest + 1)`, where n is the
-    /// number of bytes taken, and those of a whole value at most `1 + n * (depth + 1) * (widest + 1)`.
+    /// How many nodes it holds; 0 after a refusal. They are at most `(n + 1) * (depth + 1) * (widest + 1)`, where n is
+    /// the number of bytes taken, and those of a whole value at most `1 + n * (depth + 1) * (widest + 1)`.
     pub fn node_count(&self) -> u64
         ensures count { result ≡ node_count self.now }
         ensures bound { result ≤ node_bound self.now.taken self.now.job.depth
@@ -224,14 +224,16 @@ impl<'r, A: Allocator> Decoder<'r, A> {
     /// Takes the next piece of the value's bytes (SCALE codec specification; which types a value has, by scale-info's
     /// registry). However the bytes are cut, the answer to each piece is that to all bytes so far.
     ///
-    /// AnswersPiece `More` where the next node needs a byte that is not there, and `Done` in the call that brings the value's
-    /// last byte; bytes after it are not used. A decoder that has answered `Done` or a refusal keeps its answer: every
-    /// later call answers `Done` with none used, and keeps the value, or is refused with the same. It takes no memory.
+    /// Answers `More` where the next node needs a byte that is not there, and `Done` in the call that brings the
+    /// value's last byte; bytes after it are not used. A decoder that has answered `Done` or a refusal keeps its
+    /// answer: every later call answers `Done` with none used, and keeps the value, or is refused with the same. It
+    /// takes no memory.
     ///
     /// Refuses in the call that brings the deciding byte, with the place from the value's first byte: what the grammar
     /// refuses first; `TooLong` at the limit of bytes where the value is unfinished there and one more is offered; and
     /// `OutOfMemory` at 0, only where after the bytes of `taken()` a node was to be added whose own bytes are there and
-    /// that the grammar does not refuse, or bytes of a text or a run of bytes were to be kept. It then holds no node and no such bytes.
+    /// that the grammar does not refuse, or bytes of a text or a run of bytes were to be kept. It then holds no node
+    /// and no such bytes.
     pub fn feed(&mut self, piece: &[u8]) -> Result<Progress, DecodeFault>
         ensures job { self.new.job ≡ self.old.job }
         ensures calls { self.new.calls ≡ self.old.calls + 1 }

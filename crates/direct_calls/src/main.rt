@@ -1,6 +1,6 @@
 //! The program `direct_calls`: makes one public call over the global allocator, on a small input of its own, and says
-//! in a line on standard output what came of it. `examples/check-memory` refuses its requests for memory. The status is 0
-//! where the line is written, 2 where the words name no call, and 3 where the output failed.
+//! in a line on standard output what came of it. `examples/check-memory` refuses its requests for memory. The status is
+//! 0 where the line is written, 2 where the words name no call, and 3 where the output failed.
 #![tactic(auto)]
 
 mod calls;

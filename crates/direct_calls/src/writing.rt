@@ -69,8 +69,8 @@ fn write(out: &mut Vec<u8>, name: &str) -> Option<Written> {
     write_other(out, name)
 }
 
-/// The line of the call of this name: that the bytes stand after the front, or that the front alone stands. An error where
-/// there is no memory for the front.
+/// The line of the call of this name: that the bytes stand after the front, or that the front alone stands. An error
+/// where there is no memory for the front.
 pub(crate) fn write_line(alloc: Global, name: &str) -> Result<Option<&'static str>, AllocError> {
     let mut out = Vec::from_slice(alloc, FRONT)?;
     let Some((answer, bytes)) = write(&mut out, name) else {

@@ -63,8 +63,8 @@ fn make_room(bytes: &mut Vec<u8>, len: usize, more: usize) -> Result<(), AllocEr
     grow(bytes, more)
 }
 
-/// So many zeros more, or as many as there is room for, up to `AHEAD`. The room doubles, and from `LONG` bytes on it grows
-/// by a quarter.
+/// So many zeros more, or as many as there is room for, up to `AHEAD`. The room doubles, and from `LONG` bytes on it
+/// grows by a quarter.
 #[cold]
 #[inline(never)]
 fn grow(bytes: &mut Vec<u8>, more: usize) -> Result<(), AllocError>

@@ -117,8 +117,8 @@ fn write_items(
     out.end_array()
 }
 
-/// The children of a node as an object, each at the name of its field, where the names are in order; `plain` says that no
-/// name needs an escape.
+/// The children of a node as an object, each at the name of its field, where the names are in order; `plain` says that
+/// no name needs an escape.
 #[cycle(write)]
 fn write_in_order(
     alloc: Global,

@@ -121,7 +121,8 @@ pub fn push_type_lines(
     Ok(())
 }
 
-/// The line of the type at a position, with a line feed; none where the registry has no such type. Refuses want of memory.
+/// The line of the type at a position, with a line feed; none where the registry has no such type. Refuses want of
+/// memory.
 pub fn type_line(alloc: Global, checked: &Checked, id: u32) -> Result<Option<String>, AllocError>
     ensures { IfOk result (λ line. option_map string_bytes line ≡ type_line checked.now.types id) }
 {

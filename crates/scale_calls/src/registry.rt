@@ -43,8 +43,8 @@ fn checked(alloc: Global, registry: Registry) -> Result<Checked, RegistryRefusal
     }
 }
 
-/// Opens the registry that all the bytes hold, with its references checked; of metadata the one after its prefix, and its
-/// version. What follows the registry in metadata is not read.
+/// Opens the registry that all the bytes hold, with its references checked; of metadata the one after its prefix, and
+/// its version. What follows the registry in metadata is not read.
 ///
 /// Refuses, in this order: the first fault of the bytes as `Fault`, bytes after a registry that stands alone as
 /// `TrailingBytes` at its length, and the first reference that is no position as `Check`; want of memory as `Memory`.

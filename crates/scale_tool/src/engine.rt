@@ -114,7 +114,8 @@ fn answer<R: Read, V: Read>(
     }
 }
 
-/// Reports the refusal on `err` in one line, and answers its status; or want of memory, where there is none for the line.
+/// Reports the refusal on `err` in one line, and answers its status; or want of memory, where there is none for the
+/// line.
 fn refuse<E: Write>(alloc: Global, refusal: Refusal, err: &mut Sink<E>) -> u8
     ensures { (result ≡ status_of refusal) ⊎ ((status_of refusal ≡ 1) × (result ≡ 4)) }
 {
@@ -179,7 +180,8 @@ pub fn run<R: Read, V: Read, W: Write, E: Write>(
     // The job that shows types does not touch the value.
     ensures unread { ReadsNoValue job → value.new ≡ value.old }
 
-    // The value is untouched where the registry is refused or its device fails, and where the type is none of its types.
+    // The value is untouched where the registry is refused or its device fails, and where the type is none of its
+    // types.
     ensures read_last { (value.new ≡ value.old) ⊎ ((registry.new.failed ≡ registry.old.failed)
         × HasJobType job (R.remaining registry.old.device)) }
 {

@@ -45,7 +45,8 @@ fn of_stream(fault: StreamFault) -> ValueRefusal
     }
 }
 
-/// The refusal of a value whose bytes are all there. Its type is one of the registry's, and the limits are in their range.
+/// The refusal of a value whose bytes are all there. Its type is one of the registry's, and the limits are in their
+/// range.
 fn of_calls(refusal: calls::ValueRefusal) -> BytesRefusal
     requires { IsOfBytes refusal }
     ensures { result ≡ calls_refusal refusal }

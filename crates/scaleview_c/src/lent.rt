@@ -6,7 +6,8 @@ ghost use Rattle.scaleview_c.specs.declared.held.Held.{Held as AHeld};
 use crate::held::Held;
 use std::marker::Model;
 
-/// Nothing, or what a box holds, lent for good: C frees it only once nothing has it any more. It is the pointer of a handle.
+/// Nothing, or what a box holds, lent for good: C frees it only once nothing has it any more. It is the pointer of a
+/// handle.
 #[repr(C)]
 #[derive(Drop)]
 pub struct Lent {

@@ -1,5 +1,5 @@
-//! What C calls of the decoder: registries and sessions behind handles, and answers as numbers. `clients/c/scaleview.h` says
-//! how they are called.
+//! What C calls of the decoder: registries and sessions behind handles, and answers as numbers. `clients/c/scaleview.h`
+//! says how they are called.
 #![tactic(auto)]
 
 mod codes;

@@ -58,12 +58,13 @@ fn feed_pieces<A: Allocator>(
     Ok(())
 }
 
-/// The value of the root's type, within these limits, on the front of the joined pieces, and how many of their bytes are
-/// the value's. Bytes after it are not read and are no fault.
+/// The value of the root's type, within these limits, on the front of the joined pieces, and how many of their bytes
+/// are the value's. Bytes after it are not read and are no fault.
 ///
 /// This is a decoder's run as a whole, and however the input is cut, its answer is that to the joined bytes: the one
 /// value whose encoding is exactly the bytes taken, or the one fault. The value has at most
-/// `1 + n * (depth + 1) * (widest + 1)` nodes and n bytes of texts and runs of bytes, where n is the number of bytes taken.
+/// `1 + n * (depth + 1) * (widest + 1)` nodes and n bytes of texts and runs of bytes, where n is the number of bytes
+/// taken.
 ///
 /// Refuses with `Open` what `Decoder::new` refuses, and with `Decode` what a decoder refuses in these bytes, or where
 /// they end within the value, as `Truncated` at their number. After a refusal nothing is kept.

@@ -101,16 +101,16 @@ fn feed_all<A: Allocator, R: Read>(
     }
 }
 
-/// The value of the root's type, within these limits, whose bytes are all bytes of the reader. Nodes, texts, runs of bytes and open
-/// parts come from the allocator and its clones; no input is kept, and one read asks for at most 4096 bytes.
+/// The value of the root's type, within these limits, whose bytes are all bytes of the reader. Nodes, texts, runs of
+/// bytes and open parts come from the allocator and its clones; no input is kept, and one read asks for at most 4096
+/// bytes.
 ///
 /// Refuses with `Open`, before it reads, what `Decoder::new` refuses; and with `Decode` what a decoder refuses in these
 /// bytes, which are then not read to their end, or where they end within the value, as `Truncated` at their number.
-/// Where a byte follows the value it is `TrailingBytes` at the value's length. It is `Device` where a read failed, and the
-/// bytes read before it leave the answer open: there are none, for a read comes before any answer; or more are wanted; or
-/// they are all the value's, and one may follow them.
-/// `failed()` is true then, and else as it was. After each refusal nothing is kept. The reader has lost what was read, at
-/// most 4096 bytes after the one that decides.
+/// Where a byte follows the value it is `TrailingBytes` at the value's length. It is `Device` where a read failed, and
+/// the bytes read before it leave the answer open: there are none, for a read comes before any answer; or more are
+/// wanted; or they are all the value's, and one may follow them. `failed()` is true then, and else as it was. After
+/// each refusal nothing is kept. The reader has lost what was read, at most 4096 bytes after the one that decides.
 pub fn decode_all<'r, A: Allocator + Clone, R: Read>(
     alloc: A,
     checked: &'r Checked,

@@ -6,8 +6,8 @@ ghost use Rattle.value_core.specs.Refusals.{build_fault_of};
 use grammar_core::StopReason;
 use std::alloc::AllocError;
 
-/// Why a builder refuses a call; the builder stays as it was. Of several reasons an adding call reports the first of this
-/// list, and `new` an unknown type before a depth limit outside its range.
+/// Why a builder refuses a call; the builder stays as it was. Of several reasons an adding call reports the first of
+/// this list, and `new` an unknown type before a depth limit outside its range.
 #[derive(Clone, Copy, Debug, PartialEq, Eq)]
 pub enum BuildFault {
     /// The next node would stand deeper than the limit.

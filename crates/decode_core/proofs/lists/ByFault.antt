@@ -65,7 +65,7 @@ moved no_finite_value left c at k h = omega (arith, h)
 moved bit_sequence left c at k h = omega (arith, h)
 moved bad_compact left c at k h = omega (arith, h)
 
--- taken_after c
+-- after c
 reported_beyond : {E X : Type 0} (m : E → Refusal) (b c rest : List ℕ) (k : ℕ) (read : Read E X) →
     b ≡ c ++ rest → ReportedWithin m rest k read → ReportedWithin m b (length c + k) read
 reported_beyond m b c rest k (Ok x) eq h = tt

@@ -52,7 +52,7 @@ early_cut {E = E} {X = X} cut g s d e x full some = go (g d) refl (s.extends d e
       absurd (omega (arith, same, length-append y.1 e, some))
   go (Err f) is ext = reported f is ext (s.reports f.0)
 
--- one part taken_after the other, of a reader whose refusals m carries over
+-- one part after the other, of a reader whose refusals m carries over
 abbrev pub chain : {E F X Y : Type 0} → (E → F) → (X → List ℕ → Read F Y) → Read E X → Read F Y
 chain m h (Ok x) = h x.0 x.1
 chain m h (Err e) = Err (m e.0, e.1)
@@ -154,7 +154,7 @@ chain_decided {E = E} {F = F} {X = X} {Y = Y} cut m G g h next is steady b own f
             early = λ j lt. let s = f.early j lt in (s.0, is (take j b) ∙ ap (chain m h) s.1);
           }
 
--- taken_after one byte
+-- after one byte
 pub cons_decided : {E Y : Type 0} (cut : E) (G g : List ℕ → Read E Y) (i : ℕ) →
     ((b : List ℕ) → G (i ∷ b) ≡ g b) → (left : List ℕ) → G [] ≡ Err (cut, left) →
     (b : List ℕ) (k : ℕ) → DecidedBy cut g b k (g b) → DecidedBy cut G (i ∷ b) (suc k) (G (i ∷ b))
