@@ -1,7 +1,8 @@
 -- A value has as many children as its type has fields, and a child by its position.
 use Rattle.std.proofs.Common.{◌≡◌, ℕ, zero, suc, ◌<◌, Bool, true, false, List, [], ◌∷◌, length, map}
 use Rattle.std.proofs.Common.{get_or, Option, Some, None, option_map, refl, sym, ap, subst, ◌∙◌}
-use Rattle.std.specs.Prelude.{slice_get, unwrap_or}
+use Rattle.std.proofs.Common.{inl, inr, arith}
+use Rattle.std.specs.Prelude.{slice_get, unwrap_or, ◌⊎◌}
 use Rattle.std.proofs.lemmas.List.{length-map}
 use Rattle.std.proofs.lemmas.Option.{slice_get-map, slice_get_read}
 use Rattle.serde_json.specs.Data.{null}
@@ -136,13 +137,14 @@ arm_count s q a h e f = counted s (what.Arm q) h e a f
 
 -- ---- a child by its position
 
--- the child that is read there
-pub child_read : (s : Seen) (items : List Seen) (i : ℕ) (child : Seen) → items ≡ children_of s →
-    i < length (children_of s) → child ≡ get_or items i child →
+-- what is in the list of the children, where there is one, is the child there
+pub child_listed : (s : Seen) (listed : List Seen) (i : ℕ) (child : Seen) →
+    (listed ≡ []) ⊎ (listed ≡ children_of s) → i < length listed → child ≡ get_or listed i child →
     slice_get (children_of s) i ≡ Some child
-child_read s items i child e h is =
-    slice_get_read (children_of s) (length (children_of s)) i child refl h
-    (is ∙ ap (λ l. get_or l i child) e)
+child_listed s listed i child (inl h) less is = absurd (omega (arith, less, ap length h))
+child_listed s listed i child (inr h) less is =
+    slice_get_read (children_of s) (length (children_of s)) i child refl
+    (omega (arith, less, ap length h)) (is ∙ ap (λ l. get_or l i child) h)
 
 -- a child at a position is of the same registry and has fewer nodes, if all have
 below_at : (r : List TypeInfo) (n : ℕ) (ss : List Seen) (i : ℕ) (s : Seen) → AreBelow r n ss →

@@ -1,9 +1,9 @@
 -- What is known of the orders of keys, as more become known.
-use Rattle.std.proofs.Common.{◌≡◌, ℕ, ◌+◌, ◌-◌, ◌≤◌, cond, List, [], ◌∷◌, ◌++◌, length, take, drop}
+use Rattle.std.proofs.Common.{◌≡◌, ℕ, zero, suc, ◌+◌, ◌-◌, ◌≤◌, cond, List, [], ◌∷◌, ◌++◌, length, take, drop}
 use Rattle.std.proofs.Common.{Option, Some, None, Ordering, Less, Equal, Greater, nat_cmp, is_eq}
 use Rattle.std.proofs.Common.{Bor, refl, sym, ap, ap₂, ◌∙◌, subst, arith, length-append}
 use Rattle.std.proofs.Common.{append_assoc, length-drop}
-use Rattle.std.specs.Prelude.{slice_range, option_copied}
+use Rattle.std.specs.Prelude.{slice_range, slice_set, option_copied}
 use Rattle.std.specs.List.{range_with_len}
 use Rattle.json_core.proofs.Ordered.{positions_count}
 use Rattle.std.specs.Map.{lookup}
@@ -19,7 +19,7 @@ use Rattle.json_core.specs.declared.orders.Known.{Known}
 use Rattle.json_core.specs.declared.orders.Keys.{Keys}
 use Rattle.json_core.specs.declared.orders.Keys.TheVariants as keys
 use Rattle.json_core.specs.Ordered.{key_order, fields_at, OrdersView, AreKeys, IsKnown, AreKeysOf}
-use Rattle.json_core.specs.Ordered.{AreKnownOrders, Grows}
+use Rattle.json_core.specs.Ordered.{AreKnownOrders, IsKnownSlot, AreKnownSlots, Grows}
 
 -- ---- positions that are added change nothing of the others
 
@@ -61,6 +61,41 @@ pub known_more : (r : List TypeInfo) (old new more : List ℕ) (es : List (Place
     AreKnownOrders r old es → new ≡ old ++ more → AreKnownOrders r new es
 known_more r old new more es h e =
     subst (λ ps. AreKnownOrders r ps es) (sym e) (known_stay r old more es h)
+
+-- the same of what is in a slot
+slot_stays : (r : List TypeInfo) (ps more : List ℕ) (o : Option (Place × Known)) →
+    IsKnownSlot r ps o → IsKnownSlot r (ps ++ more) o
+slot_stays r ps more None h = tt
+slot_stays r ps more (Some e) h = keys_of_stay ps more (fields_at r e.0) e.1 h
+
+-- and of all slots
+slots_stay : (r : List TypeInfo) (ps more : List ℕ) (ss : List (Option (Place × Known))) →
+    AreKnownSlots r ps ss → AreKnownSlots r (ps ++ more) ss
+slots_stay r ps more [] h = tt
+slots_stay r ps more (o ∷ ss) h = (slot_stays r ps more o h.0, slots_stay r ps more ss h.1)
+
+-- the same for positions that are known to be the old ones and more
+pub slots_more : (r : List TypeInfo) (old new more : List ℕ) (ss : List (Option (Place × Known))) →
+    AreKnownSlots r old ss → new ≡ old ++ more → AreKnownSlots r new ss
+slots_more r old new more ss h e =
+    subst (λ ps. AreKnownSlots r ps ss) (sym e) (slots_stay r old more ss h)
+
+-- slots that are right stay right where one gets what is right
+slots_set : (r : List TypeInfo) (ps : List ℕ) (ss : List (Option (Place × Known))) (i : ℕ)
+    (e : Place × Known) → AreKnownSlots r ps ss → AreKeysOf ps (fields_at r e.0) e.1 →
+    AreKnownSlots r ps (slice_set ss i (Some e))
+slots_set r ps [] i e h k = tt
+slots_set r ps (o ∷ ss) zero e h k = (k, h.1)
+slots_set r ps (o ∷ ss) (suc i) e h k = (h.0, slots_set r ps ss i e h.1 k)
+
+-- what is found anew becomes known in its slot
+pub keys_slotted : (r : List TypeInfo) (old ps more : List ℕ) (ss : List (Option (Place × Known)))
+    (i : ℕ) (p : Place) (fs : List Field) (k : Known) → AreKnownSlots r old ss →
+    ps ≡ old ++ more → fields_at r p ≡ Some fs → IsKnown ps fs k →
+    AreKnownSlots r ps (slice_set ss i (Some (p, k)))
+keys_slotted r old ps more ss i p fs k h e at keys =
+    slots_set r ps ss i (p, k) (slots_more r old ps more ss h e)
+    (subst (λ o. AreKeysOf ps o k) (sym at) keys)
 
 -- ---- growth
 

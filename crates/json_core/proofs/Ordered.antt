@@ -43,7 +43,7 @@ members_by f (e ∷ es) = member e.0 (f e.1) (members_by f es)
 -- ---- which names are there
 
 -- a name is among entries where the first has it or the others do
-is_there_cons : (m : List ℕ) (e : List ℕ × ℕ) (es : Entries) →
+pub is_there_cons : (m : List ℕ) (e : List ℕ × ℕ) (es : Entries) →
     is_there m (e ∷ es) ≡ (is_eq (cmp m e.0) || is_there m es)
 is_there_cons m e es = go (is_eq (cmp m e.0)) where
   go : (b : Bool) → is_some (cond b (Some e.1) (lookup (is_at (cmp m)) es)) ≡ (b || is_there m es)

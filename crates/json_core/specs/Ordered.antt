@@ -3,8 +3,9 @@ use Rattle.std.specs.Prelude.{◌≡◌, ℕ, suc, ◌+◌, ◌<◌, ◌≤◌, 
 use Rattle.std.specs.Prelude.{slice_range, Bool, if◌then◌else◌, Option, Some, None, option_map}
 use Rattle.std.specs.Prelude.{option_and_then, is_some, IsSome, unwrap_or, slice_get}
 use Rattle.std.specs.Bool.{OnTrue}
+use Rattle.std.specs.Borrow.{Bor}
 use Rattle.std.specs.List.{AllByRecursion, range_with_len}
-use Rattle.std.specs.Ordering.{nat_cmp}
+use Rattle.std.specs.Ordering.{nat_cmp, is_gt}
 use Rattle.std.specs.Cmp.Lexicographic.{slice_cmp}
 use Rattle.std.specs.Map.{lookup}
 use Rattle.std.specs.BTreeMap.{insert_entry, is_at}
@@ -26,6 +27,16 @@ use Rattle.json_core.specs.declared.orders.Keys.TheVariants as keys
 abbrev pub is_there : List ℕ → List (List ℕ × ℕ) → Bool
 is_there n es = is_some (lookup (is_at (slice_cmp nat_cmp n)) es)
 
+-- how many entries, from the first on, the name comes after
+abbrev pub place_among : List ℕ → List (List ℕ × ℕ) → ℕ
+place_among n [] = 0
+place_among n (e ∷ es) =
+    if is_gt (slice_cmp nat_cmp n e.0) then suc (place_among n es) else 0
+
+-- entries whose names are lent
+abbrev pub lent_entries : List (Bor (List ℕ) × ℕ) → List (List ℕ × ℕ)
+lent_entries es = map (λ e. (e.0.now, e.1)) es
+
 -- these names, with those of the fields from position i on, if each has one that is new
 abbrev pub order_from : List Field → ℕ → List (List ℕ × ℕ) → Option (List (List ℕ × ℕ))
 order_from [] i es = Some es
@@ -40,8 +51,11 @@ name_order [] = None
 name_order (f ∷ fs) = order_from (f ∷ fs) 0 []
 
 -- the positions alone
+abbrev pub positions_of : List (List ℕ × ℕ) → List ℕ
+positions_of es = map (λ e. e.1) es
+
 abbrev pub key_order : List Field → Option (List ℕ)
-key_order fs = option_map (λ es. map (λ e. e.1) es) (name_order fs)
+key_order fs = option_map positions_of (name_order fs)
 
 -- each field has a name
 abbrev pub AreNamed : List Field → Type 0
@@ -89,6 +103,14 @@ AreKeysOf ps (Some fs) k = IsKnown ps fs k
 -- all that are known are
 abbrev pub AreKnownOrders : List TypeInfo → List ℕ → List (Place × Known) → Type 0
 AreKnownOrders r ps es = AllByRecursion (λ e. AreKeysOf ps (fields_at r e.0) e.1) es
+
+-- the same of what is in slots, of which some are empty
+abbrev pub IsKnownSlot : List TypeInfo → List ℕ → Option (Place × Known) → Type 0
+IsKnownSlot r ps None = Unit {0}
+IsKnownSlot r ps (Some e) = AreKeysOf ps (fields_at r e.0) e.1
+
+abbrev pub AreKnownSlots : List TypeInfo → List ℕ → List (Option (Place × Known)) → Type 0
+AreKnownSlots r ps ss = AllByRecursion (IsKnownSlot r ps) ss
 
 -- of the same registry, and positions were added after the others, if any
 pub record Grows (old new : OrdersView) : Type 0 where

@@ -1,15 +1,20 @@
 //! The names of fields, and the order of their bytes.
 
-ghost use Rattle.std.specs.Prelude.{◌≡◌, ◌<◌, ◌^◌, ◌↔◌, Some, map, length, option_map, IfOk};
+ghost use Rattle.std.specs.Prelude.{◌≡◌, ◌<◌, ◌^◌, ◌↔◌, [], Some, length, option_map, IfOk};
 ghost use Rattle.std.specs.Prelude.{IsSome, IsTrue};
 ghost use Rattle.std.specs.List.{range_with_len};
 ghost use Rattle.std.specs.Bool.{OnTrue};
-ghost use Rattle.json_core.specs.Ordered.{ArePlain, key_order};
+ghost use Rattle.json_core.specs.Ordered.{ArePlain, key_order, is_there, place_among};
+ghost use Rattle.json_core.specs.Ordered.{lent_entries, order_from, positions_of};
 
 use crate::plain::is_plain;
 use registry_core::Field;
 use std::alloc::{AllocError, Global};
+use std::cmp::Ordering;
 use std::collections::BTreeMap;
+
+/// So many fields at most are few: what is done for each pair of them costs less than memory for a map or a list.
+pub(crate) const FEW: usize = 8;
 
 /// The name of a field that has one.
 pub(crate) fn name_of(field: &Field) -> &str
@@ -19,15 +24,65 @@ pub(crate) fn name_of(field: &Field) -> &str
     field.name.as_ref().unwrap().as_str()
 }
 
-/// The positions of the fields in the order of their names' bytes, where there is a field, each has a name and all
-/// names differ. So many fields take as many look-ups in a map of so many names.
-pub(crate) fn key_order(alloc: Global, fields: &[Field]) -> Result<Option<Vec<u32>>, AllocError>
-    requires { length fields.now < 2 ^ 32 }
-    ensures { IfOk result (λ found. option_map (λ v. v.items) found ≡ key_order fields.now) }
+/// Is the name one of these?
+fn is_among(names: &[(&str, u32)], name: &str) -> bool
+    ensures { result ≡ is_there name.now (lent_entries names.now) }
 {
-    if fields.is_empty() {
-        return Ok(None);
+    'names: for (other, _) in names {
+        if name == *other {
+            return true;
+        }
     }
+    false
+}
+
+/// How many of these names, from the first on, stand before the name.
+fn place_among(names: &[(&str, u32)], name: &str) -> usize
+    ensures { result ≡ place_among name.now (lent_entries names.now) }
+{
+    let mut place = 0;
+    'names: while place < names.len() {
+        if name.cmp(names[place].0) != Ordering::Greater {
+            return place;
+        }
+        place += 1;
+    }
+    place
+}
+
+/// The positions of few fields in the order of their names' bytes, where each has a name and all names differ. So many
+/// names are put into a list, each at its place.
+fn order_of_few(alloc: Global, fields: &[Field]) -> Result<Option<Vec<u32>>, AllocError>
+    requires { length fields.now < 2 ^ 32 }
+    ensures { IfOk result (λ found. option_map (λ v. v.items) found
+        ≡ option_map positions_of (order_from fields.now 0 [])) }
+{
+    let mut names = Vec::with_capacity(alloc, fields.len())?;
+    'fields: for (position, field) in fields.iter().enumerate() {
+        let Some(name) = field.name.as_ref() else {
+            return Ok(None);
+        };
+        let name = name.as_str();
+        if is_among(&names, name) {
+            return Ok(None);
+        }
+        let place = place_among(&names, name);
+        names.insert(place, (name, position as u32))?;
+    }
+    let mut order = Vec::with_capacity(alloc, fields.len())?;
+    'names: for (_, position) in &names {
+        order.push(*position)?;
+    }
+    Ok(Some(order))
+}
+
+/// The positions of fields in the order of their names' bytes, where each has a name and all names differ. The names
+/// are put into a map, so fields take as many look-ups as there are.
+fn order_of_many(alloc: Global, fields: &[Field]) -> Result<Option<Vec<u32>>, AllocError>
+    requires { length fields.now < 2 ^ 32 }
+    ensures { IfOk result (λ found. option_map (λ v. v.items) found
+        ≡ option_map positions_of (order_from fields.now 0 [])) }
+{
     let mut positions = BTreeMap::new(alloc);
     'fields: for (position, field) in fields.iter().enumerate() {
         let Some(name) = &field.name else {
@@ -42,6 +97,19 @@ pub(crate) fn key_order(alloc: Global, fields: &[Field]) -> Result<Option<Vec<u3
         order.push(position)?;
     }
     Ok(Some(order))
+}
+
+/// The positions of the fields in the order of their names' bytes, where there is a field, each has a name and all
+/// names differ.
+pub(crate) fn key_order(alloc: Global, fields: &[Field]) -> Result<Option<Vec<u32>>, AllocError>
+    requires { length fields.now < 2 ^ 32 }
+    ensures { IfOk result (λ found. option_map (λ v. v.items) found ≡ key_order fields.now) }
+{
+    match fields.len() {
+        0 => Ok(None),
+        1..=FEW => order_of_few(alloc, fields),
+        _ => order_of_many(alloc, fields),
+    }
 }
 
 /// Is each position its own place?

@@ -11,6 +11,9 @@ use std::collections::BTreeMap;
 use std::marker::Model;
 use widths_core::Checked;
 
+/// So many places have a slot, in which what is known of them is found by one look.
+const SLOTS: usize = 16;
+
 /// Where fields are defined: in a composite, or in an arm of a variant.
 #[derive(Clone, Copy, PartialEq, Eq, PartialOrd, Ord)]
 pub(crate) struct Place {
@@ -83,18 +86,22 @@ fn find_keys(alloc: Global, fields: &[Field], positions: &mut Vec<u32>) -> Resul
 #[derive(Drop)]
 pub(crate) struct Orders<'r> {
     checked: &'r Checked,
-    known: BTreeMap<Place, Known>,
+    /// What is known of a place whose slot was empty when it was met.
+    slots: [Option<(Place, Known)>; SLOTS],
+    /// What is known of the others, so few places take no memory here.
+    others: BTreeMap<Place, Known>,
     positions: Vec<u32>,
 }
 
 impl<'r> Model for Orders<'r> {
-    ghost use Rattle.json_core.specs.Ordered.{OrdersView, AreKnownOrders};
+    ghost use Rattle.json_core.specs.Ordered.{OrdersView, AreKnownOrders, AreKnownSlots};
 
     ghost Value = { OrdersView };
 
     ghost view = { λ o. record { types = o.checked.now.types; positions = o.positions.items } };
 
-    ghost invariant = { λ o. AreKnownOrders o.checked.now.types o.positions.items o.known.entries };
+    ghost invariant = { λ o. AreKnownOrders o.checked.now.types o.positions.items o.others.entries
+        × AreKnownSlots o.checked.now.types o.positions.items o.slots };
 }
 
 impl<'r> Orders<'r> {
@@ -104,7 +111,8 @@ impl<'r> Orders<'r> {
     {
         Orders {
             checked,
-            known: BTreeMap::new(alloc),
+            slots: [None; SLOTS],
+            others: BTreeMap::new(alloc),
             positions: Vec::new(alloc),
         }
     }
@@ -155,11 +163,39 @@ impl<'r> Orders<'r> {
         ensures grows { Grows self.old self.new }
         ensures keys { IfOk result (IsKnown self.new.positions fields.now) }
     {
-        if let Some(known) = self.known.get(&place) {
+        let slot = place.ty.wrapping_add(place.arm) as usize % SLOTS;
+        match self.slots[slot] {
+            Some((first, known)) => {
+                if first.ty == place.ty && first.arm == place.arm {
+                    return Ok(known);
+                }
+                self.other_keys(alloc, place, fields)
+            }
+            None => {
+                let known = find_keys(alloc, fields, &mut self.positions)?;
+                self.slots[slot] = Some((place, known));
+                Ok(known)
+            }
+        }
+    }
+
+    /// The same of a place whose slot another one has.
+    fn other_keys(
+        &mut self,
+        alloc: Global,
+        place: Place,
+        fields: &[Field],
+    ) -> Result<Known, AllocError>
+        requires fields { fields_at self.old.types place ≡ Some fields.now }
+        requires few { length fields.now < 2 ^ 32 }
+        ensures grows { Grows self.old self.new }
+        ensures keys { IfOk result (IsKnown self.new.positions fields.now) }
+    {
+        if let Some(known) = self.others.get(&place) {
             return Ok(*known);
         }
         let known = find_keys(alloc, fields, &mut self.positions)?;
-        self.known.insert(place, known)?;
+        self.others.insert(place, known)?;
         Ok(known)
     }
 }

@@ -18,6 +18,10 @@ use value_core::{Value, WriteFault, send};
 /// Room for the text of a small value, in bytes.
 const FIRST_ROOM: usize = 256;
 
+/// From so many bytes on, the room that a text has to spare is given back before it is written. For less, a request of the
+/// allocator would cost more than the room is worth.
+const WORTH: usize = 4096;
+
 /// Why a value was not printed whole.
 #[derive(Clone, Copy, Debug, PartialEq, Eq)]
 pub enum PrintFault {
@@ -81,7 +85,9 @@ pub fn print<A: Allocator, W: Write>(
             let Ok(mut text) = json_text(alloc, value) else {
                 return Err(PrintFault::OutOfMemory);
             };
-            text.shrink_to_fit();
+            if text.capacity() - text.len() >= WORTH {
+                text.shrink_to_fit();
+            }
             send(sink, text.as_bytes())
         }
     };

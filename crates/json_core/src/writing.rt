@@ -1,7 +1,7 @@
 //! A node's JSON, written token by token.
 
 ghost use Rattle.std.specs.Prelude.{◌≡◌, ◌<◌, ◌^◌, [], ◌∷◌, Some, length, map, false, codes, IfOk};
-ghost use Rattle.std.specs.Prelude.{FitsSigned};
+ghost use Rattle.std.specs.Prelude.{FitsSigned, ◌⊎◌, slice_get};
 ghost use Rattle.std.specs.Int.{w64};
 ghost use Rattle.std.specs.Char.{encode_utf8};
 ghost use Rattle.std.specs.Bool.{OnTrue};
@@ -12,11 +12,11 @@ ghost use Rattle.value_core.specs.Shown.{children_of};
 ghost use Rattle.json_core.specs.Defined.{unsigned_by, signed_by};
 ghost use Rattle.json_core.specs.Json.{bytes_json, wide_json, json_seen, fields_json};
 ghost use Rattle.json_core.specs.Ordered.{fields_at, AreKeys, ArePlain, Grows};
-ghost use Rattle.json_core.specs.Tokens.{AddsTokens, AddsValue};
+ghost use Rattle.json_core.specs.Tokens.{AddsTokens, AddsValue, data_at};
 ghost use Rattle.json_core.specs.declared.orders.Keys.TheVariants.{InOrder, Sorted};
 
 use crate::defined::{composite_fields, defined_arm, is_long, is_long_compact};
-use crate::names::name_of;
+use crate::names::{FEW, name_of};
 use crate::orders::{Keys, Known, Orders, Place};
 use crate::output::Output;
 use registry_core::Field;
@@ -82,19 +82,57 @@ fn write_count(alloc: Global, out: &mut Output, count: u32) -> Result<(), AllocE
     out.end_object()
 }
 
-/// The children of a node, in order, where there are so many of them.
+/// The child at a position, after a step past each one before it.
+#[inline(always)]
+fn child_at<'v, 'r>(node: &NodeRef<'v, 'r>, position: usize) -> NodeRef<'v, 'r>
+    requires { position < length (children_of node.now) }
+    ensures { Some result ≡ slice_get (children_of node.now) position }
+{
+    node.children().nth(position).unwrap()
+}
+
+/// The children of a node, in order, where there are so many of them; few are not listed, since a step past each costs less
+/// than memory for a list.
 fn children<'v, 'r>(
     alloc: Global,
     count: usize,
     node: &NodeRef<'v, 'r>,
 ) -> Result<Vec<NodeRef<'v, 'r>>, AllocError>
-    ensures { IfOk result (λ v. v.items ≡ children_of node.now) }
+    ensures { IfOk result (λ v. (v.items ≡ []) ⊎ (v.items ≡ children_of node.now)) }
 {
+    if count <= FEW {
+        return Ok(Vec::new(alloc));
+    }
     let mut children = Vec::with_capacity(alloc, count)?;
     'children: for child in node.children() {
         children.push(child)?;
     }
     Ok(children)
+}
+
+/// The child at a position and all that is below it: it is in the list, where there is one, and else it comes after a step
+/// past each child before it.
+#[cycle(write)]
+#[inline(always)]
+fn write_child(
+    alloc: Global,
+    out: &mut Output,
+    orders: &mut Orders<'_>,
+    listed: &[NodeRef<'_, '_>],
+    node: &NodeRef<'_, '_>,
+    position: usize,
+) -> Result<(), AllocError>
+    requires types { orders.old.types ≡ node.now.types }
+    requires listed { (listed.now ≡ []) ⊎ (listed.now ≡ children_of node.now) }
+    requires there { position < length (children_of node.now) }
+    ensures adds { AddsValue result out.old out.new
+        (data_at (map json_seen (children_of node.now)) position) }
+    ensures grows { Grows orders.old orders.new }
+{
+    match listed.get(position) {
+        Some(child) => write_node(alloc, out, orders, child),
+        None => write_node(alloc, out, orders, &child_at(node, position)),
+    }
 }
 
 /// The children of a node as an array.
@@ -168,7 +206,7 @@ fn write_sorted(
     'members: for turn in 0..fields.len() {
         let position = orders.position(start, turn) as usize;
         out.key(alloc, name_of(&fields[position]), plain)?;
-        write_node(alloc, out, orders, &children[position])?;
+        write_child(alloc, out, orders, &children, node, position)?;
     }
     out.end_object()
 }

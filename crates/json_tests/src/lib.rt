@@ -3,3 +3,5 @@
 
 #[cfg(test)]
 mod json;
+#[cfg(test)]
+mod rows;

@@ -15,9 +15,9 @@ use Rattle.serde_json.specs.View.{items_of}
 use Rattle.graph_core.specs.Types.{shape}
 use Rattle.value_core.specs.Shown.{children_of}
 use Rattle.json_core.specs.Json.{json_seen, fields_json}
-use Rattle.json_core.specs.Tokens.{prints, members_at, members_in_order}
+use Rattle.json_core.specs.Tokens.{prints, data_at, members_at, members_in_order}
 use Rattle.json_core.proofs.Children.{children_below, jsons}
-use Rattle.json_core.proofs.Counts.{fields_count, arm_count, child_read, child_below, child_data}
+use Rattle.json_core.proofs.Counts.{fields_count, arm_count, child_listed, child_below, child_data}
 use Rattle.json_core.proofs.Known.{grows_not, grows_again}
 use Rattle.json_core.proofs.PlainNames.{AllPlain, plain_names, plain_rest, plain_first, plain_at}
 use Rattle.json_core.proofs.Ordered.{are_named, positions_are_named, positions_count}
@@ -100,24 +100,20 @@ write_sorted-name_of-requires t c =
     name_read c.args.fields.now c.position-position.result c.index-fields-position.result turn.field
     c.index-fields-position.is
 
-pub write_sorted-index-requires : goal.write_sorted-index-requires
-write_sorted-index-requires t c =
+pub write_sorted-write_child-requires : goal.write_sorted-write_child-requires
+write_sorted-write_child-requires t c =
     let turn = turn_at c.args.fields.now c.args.orders.now c.members.orders c.args.start
     c.members.turn c.position-position.result c.members.invariant.grows c.requires.keys
-    (omega arith) c.members.invariant.named c.position-position.ensures in
-    let count = ap length c.in_ok-children.ensures in
-    omega (arith, turn.within, count, c.requires.count, c.in_ok-children.children.ok.0)
-
-pub write_sorted-write_node-requires : goal.write_sorted-write_node-requires
-write_sorted-write_node-requires t c =
-    let turn = turn_at c.args.fields.now c.args.orders.now c.members.orders c.args.start
-    c.members.turn c.position-position.result c.members.invariant.grows c.requires.keys
-    (omega arith) c.members.invariant.named c.position-position.ensures in
-    let got = child_read c.args.node.now c.in_ok-children.children.items
-    c.position-position.result c.index.result.now c.in_ok-children.ensures
-    (omega (arith, turn.within, c.requires.count)) c.index.ensures in
-    let h = child_below c.args.node.now c.position-position.result c.index.result.now got in
-    (omega (arith, h.1), c.members.invariant.types ∙ sym h.0)
+    (omega arith) c.members.invariant.named c.position-position.ensures in (
+      omega arith,
+      (
+        c.members.invariant.types,
+        (
+          rw c.deref.ensures.value c.in_ok-children.ensures,
+          omega (arith, turn.within, c.requires.count),
+        ),
+      ),
+    )
 
 pub write_sorted-members-preserved : goal.write_sorted-members-preserved
 write_sorted-members-preserved t c =
@@ -126,25 +122,22 @@ write_sorted-members-preserved t c =
     let order = slice_range c.args.orders.now.positions c.args.start (c.args.start + length fs) in
     let p = c.position-position.result in
     let n = c.name_of.result.now in
-    let child = c.index.result.now in
     let turn = turn_at fs c.args.orders.now c.members.orders c.args.start c.members.turn p
     c.members.invariant.grows c.requires.keys (omega arith) c.members.invariant.named
     c.position-position.ensures in
-    let got = child_read c.args.node.now c.in_ok-children.children.items p child
-    c.in_ok-children.ensures (omega (arith, turn.within, c.requires.count)) c.index.ensures in
-    let said : c.write_node.new.out
-    ≡ prints (prints c.members.out (key n ∷ [])) (json_tokens (outline (json_seen child))) =
-    c.in_ok-write_node.ensures.adds
-    ∙ ap (λ w. prints w (json_tokens (outline (json_seen child)))) c.in_ok-key.ensures in
+    let said : c.write_child.new.out
+    ≡ prints (prints c.members.out (key n ∷ [])) (json_tokens (outline (data_at ds p))) =
+    c.in_ok-write_child.ensures.adds
+    ∙ ap (λ w. prints w (json_tokens (outline (data_at ds p)))) c.in_ok-key.ensures in
     record {
       named = named_after fs order c.members.turn p turn c.members.invariant.named;
       reported = sorted_turn fs ds order c.members.turn p c.index-fields-position.result n
-          (json_seen child) c.members.out c.write_node.new.out turn
-          c.index-fields-position.is c.name_of.ensures (child_data c.args.node.now p child got) said
+          (data_at ds p) c.members.out c.write_child.new.out turn c.index-fields-position.is
+          c.name_of.ensures refl said
           ∙ c.members.invariant.reported;
-      types = c.write_node.ensures.grows.types ∙ c.members.invariant.types;
-      grows = grows_again c.args.orders.now c.members.orders c.write_node.new.orders
-          c.members.invariant.grows c.write_node.ensures.grows;
+      types = c.write_child.ensures.grows.types ∙ c.members.invariant.types;
+      grows = grows_again c.args.orders.now c.members.orders c.write_child.new.orders
+          c.members.invariant.grows c.write_child.ensures.grows;
     }
 
 pub write_sorted-returns-clause-adds : goal.write_sorted-returns-clause-adds
@@ -429,3 +422,27 @@ write_sorted-key-requires t c =
     (name_is c.args.fields.now c.position-position.result c.index-fields-position.result
     c.name_of.result.now turn.field c.index-fields-position.is c.name_of.ensures) turn.within
     c.requires.plain
+
+pub write_child-write_node-requires : goal.write_child-write_node-requires
+write_child-write_node-requires t c =
+    let got = child_listed c.args.node.now c.args.listed.now c.args.position c.in-Some.child.now
+    c.requires.listed (search rules) c.in-Some.ensures.lookup.1 in
+    let h = child_below c.args.node.now c.args.position c.in-Some.child.now got in
+    (omega (arith, h.1), c.requires.types ∙ sym h.0)
+
+pub write_child-write_node-requires-in-None : goal.write_child-write_node-requires-in-None
+write_child-write_node-requires-in-None t c =
+    let h = child_below c.args.node.now c.args.position c.child_at.result
+    (sym c.child_at.ensures) in
+    (omega (arith, h.1), c.requires.types ∙ sym h.0)
+
+pub write_child-returns-in-Some-clause-adds : goal.write_child-returns-in-Some-clause-adds
+write_child-returns-in-Some-clause-adds t c =
+    let got = child_listed c.args.node.now c.args.listed.now c.args.position c.in-Some.child.now
+    c.requires.listed (search rules) c.in-Some.ensures.lookup.1 in
+    rw (child_data c.args.node.now c.args.position c.in-Some.child.now got) c.write_node.ensures.adds
+
+pub write_child-returns-in-None-clause-adds : goal.write_child-returns-in-None-clause-adds
+write_child-returns-in-None-clause-adds t c =
+    rw (child_data c.args.node.now c.args.position c.child_at.result (sym c.child_at.ensures))
+    c.write_node-in-None.ensures.adds

@@ -17,19 +17,22 @@ use Rattle.json_core.proofs.Ordered.{IsNamedAt}
 use Rattle.json_core.proofs.writing.+write.Given as goal
 
 abbrev pub decreases-write_node : goal.decreases-write_node
-decreases-write_node l = 3 * nodes l.node.now.tree + 2
+decreases-write_node l = 4 * nodes l.node.now.tree + 3
+
+abbrev pub decreases-write_child : goal.decreases-write_child
+decreases-write_child l = 4 * nodes l.node.now.tree
 
 abbrev pub decreases-write_fields : goal.decreases-write_fields
-decreases-write_fields l = 3 * nodes l.node.now.tree + 1
+decreases-write_fields l = 4 * nodes l.node.now.tree + 2
 
 abbrev pub decreases-write_items : goal.decreases-write_items
-decreases-write_items l = 3 * nodes l.node.now.tree
+decreases-write_items l = 4 * nodes l.node.now.tree + 1
 
 abbrev pub decreases-write_in_order : goal.decreases-write_in_order
-decreases-write_in_order l = 3 * nodes l.node.now.tree
+decreases-write_in_order l = 4 * nodes l.node.now.tree + 1
 
 abbrev pub decreases-write_sorted : goal.decreases-write_sorted
-decreases-write_sorted l = 3 * nodes l.node.now.tree
+decreases-write_sorted l = 4 * nodes l.node.now.tree + 1
 
 -- what is left to write, after what is written
 abbrev pub invariant-write_items-children : goal.invariant-write_items-children

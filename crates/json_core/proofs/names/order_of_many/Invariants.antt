@@ -1,11 +1,10 @@
-use Rattle.std.proofs.Common.{◌≡◌, ◌++◌, map, drop}
-use Rattle.json_core.specs.Ordered.{name_order, order_from}
-use Rattle.json_core.proofs.Found.{shown_entries}
-use Rattle.json_core.proofs.names.key_order.Given as goal
+use Rattle.std.proofs.Common.{◌≡◌, ◌++◌, [], map, drop}
+use Rattle.json_core.specs.Ordered.{order_from, lent_entries}
+use Rattle.json_core.proofs.names.order_of_many.Given as goal
 
 abbrev pub invariant-fields : goal.invariant-fields
-invariant-fields l = name_order l.fields
-    ≡ order_from (drop l.position l.fields) l.position (shown_entries l.positions.entries)
+invariant-fields l = order_from l.fields 0 []
+    ≡ order_from (drop l.position l.fields) l.position (lent_entries l.positions.entries)
 
 abbrev pub invariant-names : goal.invariant-names
 invariant-names l = record {
