@@ -21,7 +21,7 @@ use crate::leaf::Leaf;
 use crate::left::Left;
 use crate::node::{Content, Node};
 use crate::open_run::OpenRun;
-use crate::room::{FIRST_BYTES, FIRST_NODES, give_back, make_room};
+use crate::room::{give_back, make_room};
 use crate::value::Value;
 use crate::walk::Walk;
 use count_core::Count;
@@ -74,15 +74,6 @@ fn other_fault(next: Next) -> BuildFault
     }
 }
 
-/// Appends bytes to the pool: all, or where memory is refused none.
-fn extend<A: Allocator>(pool: &mut Vec<u8, A>, bytes: &[u8]) -> Result<(), AllocError>
-    ensures ok { OnOk result (pool.new.items ≡ pool.old.items ++ bytes.now) }
-    ensures err { OnErr result (pool.new.items ≡ pool.old.items) }
-{
-    make_room(pool, FIRST_BYTES, bytes.len())?;
-    pool.extend_from_slice(bytes)
-}
-
 /// Appends a node without children, and to the pool what does not fit it: both, or where memory is refused neither.
 #[inline(always)]
 fn append<A: Allocator>(
@@ -97,7 +88,7 @@ fn append<A: Allocator>(
     ensures err { OnErr result ((nodes.new.items ≡ nodes.old.items)
         × (pool.new.items ≡ pool.old.items)) }
 {
-    make_room(nodes, FIRST_NODES, 1)?;
+    make_room(nodes, 1)?;
     let content = leaf.keep(pool)?;
     let node = Node {
         ty,
@@ -113,7 +104,7 @@ fn append_node<A: Allocator>(nodes: &mut Vec<Node, A>, node: Node) -> Result<(),
     ensures ok { OnOk result (nodes.new.items ≡ nodes.old.items ++ node ∷ []) }
     ensures err { OnErr result (nodes.new.items ≡ nodes.old.items) }
 {
-    make_room(nodes, FIRST_NODES, 1)?;
+    make_room(nodes, 1)?;
     nodes.push_reserved(node);
     Ok(())
 }
@@ -131,7 +122,7 @@ fn open_node<A: Allocator>(
         (left_of walk.old.types left)) }
     ensures err { OnErr result ((nodes.new.items ≡ nodes.old.items) × (walk.new ≡ walk.old)) }
 {
-    make_room(nodes, FIRST_NODES, 1)?;
+    make_room(nodes, 1)?;
     walk.enter(nodes.as_slice().len(), left)?;
     nodes.push_reserved(node);
     Ok(())
@@ -227,8 +218,7 @@ impl<'r, A: Allocator + Clone> Builder<'r, A> {
 }
 
 impl<'r, A: Allocator> Builder<'r, A> {
-    /// The value, where nothing is missing; it takes no memory, and gives back the room that is to spare. Else
-    /// `UnfinishedValue`, with the builder as it was.
+    /// The value, where nothing is missing; it takes no memory. Else `UnfinishedValue`, with the builder as it was.
     pub fn finish(self) -> Result<Value<'r, A>, (BuildFault, Builder<'r, A>)>
         ensures { Finishes (is_whole self.entry) (finished self.entry) self.entry result }
     {
@@ -240,22 +230,13 @@ impl<'r, A: Allocator> Builder<'r, A> {
 
     /// The value, of which the caller knows that nothing is missing: what `finish` hands out once it has judged. It takes
     /// no memory, and gives back the room that is to spare.
-    pub fn into_value(self) -> Value<'r, A>
+    pub fn into_value(mut self) -> Value<'r, A>
         requires { is_whole self ≡ true }
         ensures { result ≡ finished self.entry }
     {
-        let Builder {
-            root: _,
-            walk,
-            mut nodes,
-            mut pool,
-            text_len,
-            open_run: _,
-            turns: _,
-        } = self;
-        give_back(&mut nodes);
-        give_back(&mut pool);
-        Value::new(walk.checked(), nodes, pool, text_len)
+        give_back(&mut self.nodes);
+        give_back(&mut self.pool);
+        Value::new(self.walk.checked(), self.nodes, self.pool, self.text_len)
     }
 
     /// What comes next, lent: the first type that is missing in what it holds.
@@ -381,7 +362,8 @@ impl<'r, A: Allocator> Builder<'r, A> {
         ensures ok { OnOk result (self.new ≡ with_piece self.old piece.now) }
         ensures err { OnErr result (self.new ≡ self.old) }
     {
-        extend(&mut self.pool, piece)?;
+        make_room(&mut self.pool, piece.len())?;
+        self.pool.extend_from_slice(piece)?;
         Ok(())
     }
 

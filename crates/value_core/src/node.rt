@@ -5,17 +5,15 @@ ghost use Rattle.value_core.specs.Shown.{size_shown, closed_as};
 
 use registry_core::TypeId;
 
-/// How many bytes of memory a node of a value or a builder takes, whatever it is. Beside its nodes a value has the
-/// bytes of its texts and runs of bytes, 32 for each 256-bit integer, and 16 for each other integer that does not fit
-/// 64 bits. While they grow, vectors may have room for as much again; those of a whole value have room for fewer than 256
-/// nodes and 256 bytes more, unless the allocator didn't take the rest back.
+/// How many bytes of memory a node of a value or a builder takes. Beside its nodes a value has the bytes of its texts and
+/// runs of bytes, 32 for each 256-bit integer, and 16 for each other one above 64 bits. A vector that grows may have room
+/// for as much again; a whole value's has room for fewer than 256 more, unless the allocator didn't take the rest back.
 pub const NODE_BYTES: usize = 24;
 
 const _: () = prove!(size_of::<Node>() == NODE_BYTES);
 
-/// What a node is, with its number where that fits 64 bits. Texts, runs of bytes and longer integers are reported by
-/// their place in the pool of bytes, where an integer has its lowest byte first: sixteen bytes of a long one, 32 of a
-/// wide one.
+/// What a node is, with its number where that fits 64 bits. Texts, runs of bytes and longer integers are in the pool, and
+/// have their place here; an integer has its lowest byte first there, a long one sixteen bytes, and a wide one 32.
 ///
 /// A node with parts reports how many nodes its subtree has: 0 while it is open. Numbers of four bytes stand in front
 /// of those of eight, so that they share a word with the mark of the variant.

@@ -4,7 +4,7 @@ ghost use Rattle.std.specs.Prelude.{◌≡◌, ◌<◌, ◌≤◌, ◌+◌, ◌^
 ghost use Rattle.std.specs.Int.{w128, to_le_bytes};
 ghost use Rattle.value_core.specs.Shown.{long_shown};
 
-use crate::room::{FIRST_BYTES, make_room};
+use crate::room::make_room;
 use std::alloc::{AllocError, Allocator};
 
 /// Appends the bytes of a text or of a run: how many they are. Where memory is refused nothing changes.
@@ -31,7 +31,7 @@ pub(crate) fn put_long<A: Allocator>(
 {
     let start = pool.as_slice().len();
     let bytes = number.to_le_bytes();
-    make_room(pool, FIRST_BYTES, bytes.len())?;
+    make_room(pool, bytes.len())?;
     pool.extend_from_slice(&bytes)?;
     Ok(start)
 }

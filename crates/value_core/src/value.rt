@@ -12,7 +12,6 @@ use widths_core::Checked;
 
 /// A value of a type of a checked registry: a flat list of its nodes, each before its children, and a pool of the bytes
 /// of its texts, runs of bytes, and integers that do not fit 64 bits. A node takes `NODE_BYTES` bytes of memory.
-/// Dropping it drops these two.
 #[derive(Drop)]
 pub struct Value<'r, A: Allocator> {
     checked: &'r Checked,
