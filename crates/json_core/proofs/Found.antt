@@ -104,6 +104,10 @@ among_drop n es p d h = ap (λ l. is_there n (lent_entries l)) (drop_more es p d
     ∙ ap (λ b. b || is_there n (lent_entries (drop (p + 1) es)))
     (is_eq-slice_cmp n (get_or es p d).0.now)
 
+-- what a look-up finds, by how the name compares with the first entry
+abbrev first_or : List ℕ → List ℕ × ℕ → Entries → Ordering → Option ℕ
+first_or n e es o = cond (is_eq o) (Some e.1) (lookup (is_at (slice_cmp nat_cmp n)) es)
+
 -- the first entry stands before the name, or the name is put before it
 placed_at : (n : List ℕ) (i : ℕ) (e : List ℕ × ℕ) (es : Entries) (o : Ordering) →
     slice_cmp nat_cmp n e.0 ≡ o → is_there n (e ∷ es) ≡ false →
@@ -111,12 +115,10 @@ placed_at : (n : List ℕ) (i : ℕ) (e : List ℕ × ℕ) (es : Entries) (o : O
     match_ordering o ((n, i) ∷ e ∷ es) ((e.0, i) ∷ es) (e ∷ insert n i es)
     ≡ list_insert (e ∷ es) (cond (is_gt o) (suc (place_among n es)) 0) (n, i)
 placed_at n i e es Less is new later = refl
-placed_at n i e es Equal is new later = absurd (true≢false
-    (sym (ap (λ o. is_some (cond (is_eq o) (Some e.1) (lookup (is_at (slice_cmp nat_cmp n)) es))) is)
-    ∙ new))
-placed_at n i e es Greater is new later = ap (λ l. e ∷ l) (later
-    (sym (ap (λ o. is_some (cond (is_eq o) (Some e.1) (lookup (is_at (slice_cmp nat_cmp n)) es))) is)
-    ∙ new))
+placed_at n i e es Equal is new later =
+    absurd (true≢false (sym (ap (λ o. is_some (first_or n e es o)) is) ∙ new))
+placed_at n i e es Greater is new later =
+    ap (λ l. e ∷ l) (later (sym (ap (λ o. is_some (first_or n e es o)) is) ∙ new))
 
 -- a name that is new is inserted at its place
 insert_at_place : (n : List ℕ) (i : ℕ) (es : Entries) → is_there n es ≡ false →

@@ -5,8 +5,6 @@ pub mod Found
 pub mod Known
 pub mod Members
 pub mod Ordered
-pub mod Outputs
-pub mod Placing
 pub mod PlainNames
 pub mod Reported
 pub mod Runs

@@ -18,7 +18,7 @@ use Rattle.value_core.specs.Shown.{bytes_of}
 use Rattle.value_core.proofs.SpelledParts.{long_whole, sent_all, sent_front, sent_more, sent_part}
 use Rattle.json_core.specs.Json.{json_of}
 use Rattle.json_core.specs.Printed.{Sends, run_text}
-use Rattle.json_core.proofs.Outputs.{hex_string}
+use Rattle.token_core.proofs.Outputs.{hex_string}
 
 -- the digits of bytes after others come after the digits of these
 encode-append : (xs ys : List ℕ) → encode_lower (xs ++ ys) ≡ encode_lower xs ++ encode_lower ys

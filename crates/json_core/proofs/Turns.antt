@@ -14,8 +14,9 @@ use Rattle.serde_json.specs.Written.{outline, items_outline, members_outline}
 use Rattle.registry_core.specs.declared.definition.Field.{Field}
 use Rattle.json_core.specs.declared.orders.Keys.TheVariants as keys
 use Rattle.json_core.specs.Ordered.{OrdersView, AreKeys, Grows}
-use Rattle.json_core.specs.Tokens.{Text, prints, name_at, data_at, members_at, members_in_order}
-use Rattle.json_core.proofs.Outputs.{prints_again}
+use Rattle.token_core.specs.Tokens.{Text, prints}
+use Rattle.json_core.specs.Tokens.{name_at, data_at, members_at, members_in_order}
+use Rattle.token_core.proofs.Outputs.{prints_again}
 use Rattle.json_core.proofs.Ordered.{IsNamedAt, positions_count}
 
 -- an object with one member is printed by its begin, its key, the value and its end in turn

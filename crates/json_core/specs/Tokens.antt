@@ -1,35 +1,10 @@
 -- What is written of a value: the tokens of its JSON.
-use Rattle.std.specs.Prelude.{◌≡◌, ℕ, List, [], ◌∷◌, ◌++◌, Bool, cond, fold, option_and_then}
-use Rattle.std.specs.Prelude.{unwrap_or, slice_get, Result, OnOk}
-use Rattle.json.specs.Token.{Token}
-use Rattle.json.specs.Print.{ends, print_from}
+use Rattle.std.specs.Prelude.{ℕ, List, [], ◌∷◌, option_and_then, unwrap_or, slice_get, Result}
 use Rattle.json.specs.Tree.{json_tokens}
 use Rattle.serde_json.specs.Data.{Data, null, Members, no_members, member}
 use Rattle.serde_json.specs.Written.{outline}
 use Rattle.registry_core.specs.declared.definition.Field.{Field}
-
--- a text, and whether it ends with a value, so that a comma stands before the next
-pub record Text : Type 0 where
-  pub text : List ℕ
-  pub after_value : Bool
-
--- these characters after it, with a comma where one is wanted, and whether a value ends with them
-abbrev pub put : Text → Bool → List ℕ → Bool → Text
-put w comma s ends_value = record {
-  text = w.text ++ (cond comma (44 ∷ []) [] ++ s);
-  after_value = ends_value;
-}
-
--- these tokens after it
-abbrev pub prints : Text → List Token → Text
-prints w ts = record {
-  text = w.text ++ print_from w.after_value ts;
-  after_value = fold (λ _ t. ends t) w.after_value ts;
-}
-
--- the tokens are printed after what stood there
-abbrev pub AddsTokens : {E : Type 0} → Result (Unit {0}) E → Text → Text → List Token → Type 0
-AddsTokens r old new ts = OnOk r (new ≡ prints old ts)
+use Rattle.token_core.specs.Tokens.{Text, AddsTokens}
 
 -- those of a value are
 abbrev pub AddsValue : {E : Type 0} → Result (Unit {0}) E → Text → Text → Data → Type 0

@@ -4,9 +4,9 @@ ghost use Rattle.std.specs.Prelude.{◌≡◌, ◌≤◌, ◌<◌, ◌+◌, ◌*
 ghost use Rattle.hex.specs.Hex.{encode_lower};
 ghost use Rattle.json_core.specs.Printed.{Sends, run_text};
 
-use crate::places::place_hex;
 use scale_core::Sink;
 use std::io::Write;
+use token_core::place_hex;
 use value_core::{WriteFault, send};
 
 /// The most bytes that a run has: its length is a compact u32, or the u32 of its type.

@@ -10,9 +10,6 @@ pub mod laws;
 mod names;
 mod nodes;
 mod orders;
-mod output;
-mod places;
-mod plain;
 mod printing;
 mod writing;
 

@@ -7,11 +7,11 @@ ghost use Rattle.std.specs.Bool.{OnTrue};
 ghost use Rattle.json_core.specs.Ordered.{ArePlain, key_order, is_there, place_among};
 ghost use Rattle.json_core.specs.Ordered.{lent_entries, order_from, positions_of};
 
-use crate::plain::is_plain;
 use registry_core::Field;
 use std::alloc::{AllocError, Global};
 use std::cmp::Ordering;
 use std::collections::BTreeMap;
+use token_core::is_plain;
 
 /// So many fields at most are few: what is done for each pair of them costs less than memory for a map or a list.
 pub(crate) const FEW: usize = 8;

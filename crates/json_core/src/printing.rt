@@ -8,11 +8,11 @@ ghost use Rattle.json_core.specs.Printed.{written_of, is_write};
 
 use crate::byte_run::{LONGEST, print_run};
 use crate::orders::Orders;
-use crate::output::Output;
 use crate::writing::write_node;
 use scale_core::Sink;
 use std::alloc::{AllocError, Allocator, Global};
 use std::io::Write;
+use token_core::Output;
 use value_core::{Value, WriteFault, send};
 
 /// Room for the text of a small value, in bytes.

@@ -12,15 +12,16 @@ ghost use Rattle.value_core.specs.Shown.{children_of};
 ghost use Rattle.json_core.specs.Defined.{unsigned_by, signed_by};
 ghost use Rattle.json_core.specs.Json.{bytes_json, wide_json, json_seen, fields_json};
 ghost use Rattle.json_core.specs.Ordered.{fields_at, AreKeys, ArePlain, Grows};
-ghost use Rattle.json_core.specs.Tokens.{AddsTokens, AddsValue, data_at};
+ghost use Rattle.token_core.specs.Tokens.{AddsTokens};
+ghost use Rattle.json_core.specs.Tokens.{AddsValue, data_at};
 ghost use Rattle.json_core.specs.declared.orders.Keys.TheVariants.{InOrder, Sorted};
 
 use crate::defined::{composite_fields, defined_arm, is_long, is_long_compact};
 use crate::names::{FEW, name_of};
 use crate::orders::{Keys, Known, Orders, Place};
-use crate::output::Output;
 use registry_core::Field;
 use std::alloc::{AllocError, Global};
+use token_core::Output;
 use value_core::{NodeRef, What};
 
 /// An unsigned integer: a number, or a text of its decimal digits where it is long.

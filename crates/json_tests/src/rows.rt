@@ -5,9 +5,9 @@ use scale_tests::registries::{
     BITS_IN_AN_ARM, BOOL, BYTES, CHAIN, CHARACTER, COMPACT_U8, COMPACT_U128,
     EIGHT_NAMED_AND_ONE_UNNAMED, ESCAPED_NAME, FIELDS, FIELDS_IN_AN_ARM, FIELDS_IN_TWO_ARMS,
     FIELDS_OF_ONE_NAME, FIRST_AND_LAST_OF_ONE_NAME, I64, I128, NAMED_AND_UNNAMED, NESTED_FIELDS,
-    NEVER, NINE_FIELDS_OF_EIGHT_NAMES, NO_BYTES, ONE_FIELD, OPTION, ROTATED_FIELDS, SEVENTEEN_ARMS,
-    SHADOWED_ARM, TEN_FIELDS, TEXT, TWO_BYTES, TWO_UNITS_AND_A_BYTE, U8, U64, U128, UNITS, WIDE,
-    WORDS, WRAPPED_BYTES,
+    NEVER, NINE_FIELDS, NINE_FIELDS_OF_EIGHT_NAMES, NO_BYTES, ONE_FIELD, OPTION, ROTATED_FIELDS,
+    SEVENTEEN_ARMS, SHADOWED_ARM, TEXT, TWO_BYTES, TWO_UNITS_AND_A_BYTE, U8, U64, U128, UNITS,
+    WIDE, WORDS, WRAPPED_BYTES,
 };
 
 /// A value by the calls that build it, and its text.
@@ -248,6 +248,20 @@ pub(crate) const FORMS: [Row; 17] = [
     },
 ];
 
+/// Nine numbers as fields.
+const NINE: [Call; 10] = [
+    Call::Fields,
+    Call::Unsigned(1),
+    Call::Unsigned(2),
+    Call::Unsigned(3),
+    Call::Unsigned(4),
+    Call::Unsigned(5),
+    Call::Unsigned(6),
+    Call::Unsigned(7),
+    Call::Unsigned(8),
+    Call::Unsigned(9),
+];
+
 /// Fields and arms whose keys stand in an order of their own, met more than once in a value.
 pub(crate) const ORDERS: [Row; 10] = [
     Row {
@@ -333,58 +347,24 @@ pub(crate) const ORDERS: [Row; 10] = [
         text: "[1,2,3]",
     },
     Row {
-        name: "ten fields, with keys against the order of the fields",
-        registry: TEN_FIELDS,
+        name: "nine fields, with keys against the order of the fields",
+        registry: NINE_FIELDS,
         ty: 1,
-        calls: &[
-            Call::Fields,
-            Call::Unsigned(1),
-            Call::Unsigned(2),
-            Call::Unsigned(3),
-            Call::Unsigned(4),
-            Call::Unsigned(5),
-            Call::Unsigned(6),
-            Call::Unsigned(7),
-            Call::Unsigned(8),
-            Call::Unsigned(9),
-            Call::Unsigned(10),
-        ],
-        text: "{\"a\":10,\"b\":9,\"c\":8,\"d\":7,\"e\":6,\"f\":5,\"g\":4,\"h\":3,\"i\":2,\"j\":1}",
+        calls: &NINE,
+        text: "{\"a\":9,\"b\":8,\"c\":7,\"d\":6,\"e\":5,\"f\":4,\"g\":3,\"h\":2,\"i\":1}",
     },
     Row {
         name: "the first and the last of nine fields have one name",
         registry: NINE_FIELDS_OF_EIGHT_NAMES,
         ty: 1,
-        calls: &[
-            Call::Fields,
-            Call::Unsigned(1),
-            Call::Unsigned(2),
-            Call::Unsigned(3),
-            Call::Unsigned(4),
-            Call::Unsigned(5),
-            Call::Unsigned(6),
-            Call::Unsigned(7),
-            Call::Unsigned(8),
-            Call::Unsigned(9),
-        ],
+        calls: &NINE,
         text: "[1,2,3,4,5,6,7,8,9]",
     },
     Row {
         name: "nine fields, of which the last has no name",
         registry: EIGHT_NAMED_AND_ONE_UNNAMED,
         ty: 1,
-        calls: &[
-            Call::Fields,
-            Call::Unsigned(1),
-            Call::Unsigned(2),
-            Call::Unsigned(3),
-            Call::Unsigned(4),
-            Call::Unsigned(5),
-            Call::Unsigned(6),
-            Call::Unsigned(7),
-            Call::Unsigned(8),
-            Call::Unsigned(9),
-        ],
+        calls: &NINE,
         text: "[1,2,3,4,5,6,7,8,9]",
     },
     Row {

@@ -3,7 +3,7 @@ use Rattle.json.specs.Tree.{json_tokens}
 use Rattle.serde_json.specs.Written.{outline}
 use Rattle.serde_json.proofs.Texts.{print-outline}
 use Rattle.json_core.specs.Json.{json_seen, json_text}
-use Rattle.json_core.specs.Tokens.{prints}
+use Rattle.token_core.specs.Tokens.{prints}
 use Rattle.json_core.proofs.printing.json_text.Goals as goal
 
 pub returns : goal.returns

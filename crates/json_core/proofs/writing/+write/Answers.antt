@@ -15,7 +15,8 @@ use Rattle.serde_json.specs.View.{items_of}
 use Rattle.graph_core.specs.Types.{shape}
 use Rattle.value_core.specs.Shown.{children_of}
 use Rattle.json_core.specs.Json.{json_seen, fields_json}
-use Rattle.json_core.specs.Tokens.{prints, data_at, members_at, members_in_order}
+use Rattle.token_core.specs.Tokens.{prints}
+use Rattle.json_core.specs.Tokens.{data_at, members_at, members_in_order}
 use Rattle.json_core.proofs.Children.{children_below, jsons}
 use Rattle.json_core.proofs.Counts.{fields_count, arm_count, child_listed, child_below, child_data}
 use Rattle.json_core.proofs.Known.{grows_not, grows_again}
@@ -440,7 +441,8 @@ pub write_child-returns-in-Some-clause-adds : goal.write_child-returns-in-Some-c
 write_child-returns-in-Some-clause-adds t c =
     let got = child_listed c.args.node.now c.args.listed.now c.args.position c.in-Some.child.now
     c.requires.listed (search rules) c.in-Some.ensures.lookup.1 in
-    rw (child_data c.args.node.now c.args.position c.in-Some.child.now got) c.write_node.ensures.adds
+    rw (child_data c.args.node.now c.args.position c.in-Some.child.now got)
+    c.write_node.ensures.adds
 
 pub write_child-returns-in-None-clause-adds : goal.write_child-returns-in-None-clause-adds
 write_child-returns-in-None-clause-adds t c =

@@ -10,7 +10,8 @@ use Rattle.grammar_core.specs.Tree.{nodes}
 use Rattle.value_core.specs.Shown.{children_of}
 use Rattle.json_core.specs.Json.{json_seen}
 use Rattle.json_core.specs.Ordered.{AreNamed, Grows}
-use Rattle.json_core.specs.Tokens.{prints, members_at, members_in_order}
+use Rattle.token_core.specs.Tokens.{prints}
+use Rattle.json_core.specs.Tokens.{members_at, members_in_order}
 use Rattle.json_core.proofs.Children.{AreBelow}
 use Rattle.json_core.proofs.PlainNames.{AllPlain}
 use Rattle.json_core.proofs.Ordered.{IsNamedAt}

@@ -2,7 +2,7 @@ use Rattle.std.proofs.Common.{◌∷◌, [], codes, refl, ap, ◌∙◌, decimal
 use Rattle.std.proofs.lemmas.Result.{on_ok_weaker}
 use Rattle.json.specs.Token.{number}
 use Rattle.json.specs.Print.{escape_byte}
-use Rattle.json_core.specs.Tokens.{prints}
+use Rattle.token_core.specs.Tokens.{prints}
 use Rattle.json_core.proofs.Turns.{count_whole}
 use Rattle.json_core.proofs.writing.write_count.Goals as goal
 

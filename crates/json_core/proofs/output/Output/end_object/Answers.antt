@@ -1,7 +1,0 @@
-use Rattle.std.proofs.Common.{refl}
-use Rattle.json.specs.Token.{end_object}
-use Rattle.json_core.proofs.Outputs.{ended}
-use Rattle.json_core.proofs.output.Output.end_object.Goals as goal
-
-pub returns : goal.returns
-returns c = ended c.put.result c.args.self.now _ end_object refl c.put.ensures

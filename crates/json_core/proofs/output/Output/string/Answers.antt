@@ -1,9 +1,0 @@
-use Rattle.std.proofs.Common.{refl}
-use Rattle.json.specs.Token.{string}
-use Rattle.json_core.proofs.Outputs.{begun, plain_string}
-use Rattle.json_core.proofs.output.Output.string.Goals as goal
-
-pub returns-then-is_plain : goal.returns-then-is_plain
-returns-then-is_plain c = begun c.put_plain.result c.args.self.now _ _ _
-    (string c.args.text.now) refl (plain_string c.args.text.now c.if-is_plain.ensures) refl
-    c.put_plain.ensures

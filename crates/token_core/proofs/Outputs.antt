@@ -1,0 +1,206 @@
+-- Text that grows by tokens.
+use Rattle.std.proofs.Common.{◌≡◌, ℕ, suc, ◌+◌, ◌-◌, ◌/◌, ◌%◌, zero, get_or, slice_index, Fits, w8}
+use Rattle.std.proofs.Common.{inl, inr, ◌^◌, ◌<◌, ◌≤◌, Bool, true, false, cond, ◌&&◌, ℤ, pos}
+use Rattle.std.proofs.Common.{negsuc, FitsSigned, List, [], ◌∷◌, ◌++◌, length, take, drop, decimal}
+use Rattle.std.proofs.Common.{refl, ap, ap₂, sym, ◌∙◌, subst, arith, IsUtf8, append_assoc}
+use Rattle.std.proofs.Common.{append-nil, length-append, length-take-le, take-append-drop, ltb-true}
+use Rattle.std.specs.Prelude.{Result, OnOk}
+use Rattle.std.specs.Int.{w128}
+use Rattle.std.specs.Fmt.{signed_decimal}
+use Rattle.std.proofs.lemmas.Fmt.{decimal_by_steps_wide}
+use Rattle.std.proofs.lemmas.List.Sums.{fold-append}
+use Rattle.std.proofs.lemmas.Result.{on_ok_weaker}
+use Rattle.std.proofs.lemmas.Str.{IsUtf8-append, IsUtf8-nil, IsUtf8-from_ascii}
+use Rattle.std.specs.Bool.{OnTrue}
+use Rattle.std.proofs.lemmas.Bool.{cases_lt, cases_eq, and_parts}
+use Rattle.std.proofs.lemmas.Str.Ascii.{IsAscii-nil, IsAscii-cons}
+use Rattle.std.specs.Str.{IsAscii}
+use Rattle.hex.proofs.HexLemmas.{IsAscii-encode_with}
+use Rattle.hex.specs.Hex.{encode_with, encode_lower, lower_digits}
+use Rattle.json.specs.Run.{is_plain}
+use Rattle.json.proofs.Printed.Plain.{escape_on_plain}
+use Rattle.json.specs.Filled.{Placed}
+use Rattle.json.specs.Written.{PlainBetween}
+use Rattle.json.specs.Token.{Token, key, string}
+use Rattle.json.specs.Print.{begins, ends, token_text, print_from, print, escape_byte, escape}
+use Rattle.json.proofs.Printed.Strings.{escape_byte_plain}
+use Rattle.json.proofs.Printed.Tokens.{print_from-append}
+use Rattle.json.proofs.Printed.Utf8.{are_ascii, IsUtf8-are_ascii}
+use Rattle.token_core.specs.Tokens.{Text, put, prints}
+
+-- tokens after tokens
+pub prints_again : (w : Text) (ts us : List Token) → prints (prints w ts) us ≡ prints w (ts ++ us)
+prints_again w ts us = ap₂ (λ s a. record { text = s; after_value = a })
+    (append_assoc w.text (print_from w.after_value ts) _
+    ∙ ap (λ s. w.text ++ s) (sym (print_from-append w.after_value ts us)))
+    (sym (fold-append (λ _ t. ends t) w.after_value ts us))
+
+-- before a token that wants a comma, one stands exactly where a value ended before it
+comma_of : (b : Bool) → cond {A = List ℕ} (b && true) (44 ∷ []) [] ≡ cond b (44 ∷ []) []
+comma_of true = refl
+comma_of false = refl
+
+-- before a token that wants no comma none stands
+no_comma : (b : Bool) → cond {A = List ℕ} (b && false) (44 ∷ []) [] ≡ []
+no_comma true = refl
+no_comma false = refl
+
+-- a token that begins a value or a member, after the comma that is wanted before it
+pub written : (w : Text) (s : List ℕ) (b : Bool) (l : List ℕ) (t : Token) →
+    b ≡ w.after_value → l ≡ token_text t → begins t ≡ true →
+    s ≡ w.text ++ (cond b (44 ∷ []) [] ++ l) →
+    record { text = s; after_value = ends t } ≡ prints w (t ∷ [])
+unfolding print_from
+written w s b l t same says is e = ap (λ x. record { text = x; after_value = ends t })
+    (e ∙ ap₂ (λ c m. w.text ++ (cond c (44 ∷ []) [] ++ m)) same says
+    ∙ ap (λ m. w.text ++ m)
+    (sym (ap (λ c. cond {A = List ℕ} (w.after_value && c) (44 ∷ []) [] ++ (token_text t ++ [])) is
+    ∙ ap₂ (λ (a b : List ℕ). a ++ b) (comma_of w.after_value) (append-nil (token_text t)))))
+
+-- a token that begins a value or a member is printed by its text, after a comma where one is due
+pub begun : {E : Type 0} (r : Result (Unit {0}) E) (w new : Text) (b : Bool) (l : List ℕ)
+    (t : Token) → b ≡ w.after_value → l ≡ token_text t → begins t ≡ true →
+    OnOk r (new ≡ put w b l (ends t)) → OnOk r (new ≡ prints w (t ∷ []))
+begun r w new b l t same says is =
+    on_ok_weaker r (λ e. e ∙ written w _ b l t same says is refl)
+
+-- and one that doesn't, with none
+pub ended : {E : Type 0} (r : Result (Unit {0}) E) (w new : Text) (t : Token) →
+    begins t ≡ false → OnOk r (new ≡ put w false (token_text t) (ends t)) →
+    OnOk r (new ≡ prints w (t ∷ []))
+unfolding print_from
+ended r w new t is = on_ok_weaker r (λ e. e
+    ∙ ap (λ l. record { text = w.text ++ l; after_value = ends t })
+    (sym (ap (λ c. cond {A = List ℕ} (w.after_value && c) (44 ∷ []) [] ++ (token_text t ++ [])) is
+    ∙ ap₂ (λ (a b : List ℕ). a ++ b) (no_comma w.after_value) (append-nil (token_text t)))))
+
+-- a token alone
+pub printed_alone : (ts : List Token) (t : Token) → ts ≡ [] ++ t ∷ [] →
+    print ts ≡ token_text t
+unfolding print_from
+printed_alone ts t is = ap print is ∙ append-nil (token_text t)
+
+-- ---- texts without an escape
+
+-- a string that needs no escape is printed as it is, in quotes
+pub plain_string : (s : List ℕ) → escape s ≡ s → 34 ∷ (s ++ 34 ∷ []) ≡ token_text (string s)
+plain_string s e = ap (λ l. 34 ∷ (l ++ 34 ∷ [])) (sym e)
+
+-- a key that needs no escape is printed as it is, in quotes and with a colon
+pub plain_key : (s : List ℕ) → escape s ≡ s → 34 ∷ (s ++ 34 ∷ 58 ∷ []) ≡ token_text (key s)
+plain_key s e = ap (λ l. 34 ∷ (l ++ 34 ∷ 58 ∷ [])) (sym e)
+    ∙ ap (λ l. 34 ∷ l) (sym (append_assoc (escape s) (34 ∷ []) (58 ∷ [])))
+
+-- the first n bytes and the last n are all
+pub both_ends : (d : List ℕ) (b : Bool) (n : ℕ) → n ≤ length d → length d < n + n →
+    PlainBetween d 0 n → OnTrue b (PlainBetween d (length d - n) ((length d - n) + n)) →
+    OnTrue b (PlainBetween d 0 (length d))
+both_ends d true n low high front back =
+    λ k from to. elim (cases_lt k n) [
+      | inl h ↦ front k from h
+      | inr h ↦ back k (omega (arith, h, high)) (omega (arith, to, low))
+    ]
+both_ends d false n low high front back = tt
+
+-- a text is escaped part by part
+escape_append : (a b : List ℕ) → escape (a ++ b) ≡ escape a ++ escape b
+escape_append [] b = refl
+escape_append (x ∷ a) b = ap (λ l. escape_byte x ++ l) (escape_append a b)
+    ∙ sym (append_assoc (escape_byte x) _ _)
+
+-- a character from the minus sign to the digit 9 needs no escape
+escape_one : (x : ℕ) → 45 ≤ x → x < 58 → escape (x ∷ []) ≡ x ∷ []
+escape_one x low high = ap (λ l. l ++ [])
+    (escape_byte_plain x (λ e. omega (arith, e, low)) (λ e. omega (arith, e, high))
+    (omega (arith, low)))
+
+-- the decimal digits of a number of up to 128 bits need no escape
+pub escape_decimal : (n : ℕ) → n < 2 ^ 128 → escape (decimal n) ≡ decimal n
+escape_decimal n h = decimal_by_steps_wide (λ m ds. escape ds ≡ ds)
+    (λ m l. escape_one (48 + m) (omega arith) (omega (arith, l)))
+    (λ m ds l e. escape_append ds ((48 + m % 10) ∷ [])
+    ∙ ap₂ (λ (a b : List ℕ). a ++ b) e (escape_one (48 + m % 10) (omega arith) (omega arith)))
+    n (omega (arith, h))
+
+-- the decimal digits of an integer of 128 bits, with its sign, need no escape
+pub escape_signed : (z : ℤ) → FitsSigned w128 z → escape (signed_decimal z) ≡ signed_decimal z
+unfolding escape_byte
+escape_signed (pos n) h = let fits = h.sfits in escape_decimal n (omega arith)
+escape_signed (negsuc n) h =
+    let fits = h.sfits in
+    ap₂ (λ (a b : List ℕ). a ++ b) (escape_one 45 (omega arith) (omega arith))
+    (escape_decimal (suc n) (omega arith))
+
+-- hexadecimal digits below n need none
+abbrev plain_below : ℕ → Bool
+plain_below zero = true
+plain_below (suc n) = is_plain (slice_index lower_digits n) && plain_below n
+
+-- if all hexadecimal digits below a number are plain, the one at each place below it is
+plain_digit : (n d : ℕ) → plain_below n ≡ true → d < n →
+    is_plain (slice_index lower_digits d) ≡ true
+plain_digit zero d e h = absurd (omega (arith, h))
+plain_digit (suc n) d e h =
+    let p = and_parts _ _ e in
+    elim (cases_eq d n) [
+      | inl same ↦ rw same p.0
+      | inr other ↦ plain_digit n d p.1 (omega (arith, h))
+    ]
+
+-- each hexadecimal digit of bytes needs no escape
+plain_hex : (bytes : List ℕ) → ((i : ℕ) → Fits w8 (get_or bytes i 0)) → (k : ℕ) →
+    k < length (encode_lower bytes) → is_plain (get_or (encode_lower bytes) k 0) ≡ true
+unfolding encode_with
+plain_hex [] h k l = absurd (omega (arith, l))
+plain_hex (b ∷ bytes) h zero l =
+    let small = (h 0).fits in plain_digit 16 (b / 16) refl (omega (arith, small))
+plain_hex (b ∷ bytes) h (suc zero) l = plain_digit 16 (b % 16) refl (omega arith)
+plain_hex (b ∷ bytes) h (suc (suc k)) l =
+    plain_hex bytes (λ i. h (suc i)) k (omega (arith, l))
+
+-- the hexadecimal digits of bytes after 0x, in quotes, are printed as one string token
+pub hex_string : (bytes : List ℕ) → ((i : ℕ) → Fits w8 (get_or bytes i 0)) →
+    34 ∷ 48 ∷ 120 ∷ (encode_lower bytes ++ 34 ∷ [])
+    ≡ token_text (string (48 ∷ 120 ∷ encode_lower bytes))
+unfolding escape_byte
+hex_string bytes h = plain_string (48 ∷ 120 ∷ encode_lower bytes)
+    (ap (λ l. 48 ∷ 120 ∷ l) (escape_on_plain true (encode_lower bytes)
+    (λ k from to. plain_hex bytes h k to)))
+
+-- ---- what was written is UTF-8 again
+
+-- a list that is found to be of ASCII characters is
+small_ascii : (xs : List ℕ) → are_ascii xs ≡ true → IsAscii xs
+small_ascii [] e = IsAscii-nil
+small_ascii (x ∷ xs) e =
+    let p = and_parts _ _ e in IsAscii-cons x xs (ltb-true _ _ p.0) (small_ascii xs p.1)
+
+-- the hexadecimal digits of bytes are UTF-8
+pub hex_utf8 : (bytes : List ℕ) → IsUtf8 (encode_lower bytes)
+hex_utf8 bytes = IsUtf8-from_ascii _
+    (IsAscii-encode_with lower_digits bytes (small_ascii lower_digits refl))
+
+-- a comma that may be wanted takes one byte at most
+pub comma_short : (b : Bool) → length (cond {A = List ℕ} b (44 ∷ []) []) ≤ 1
+comma_short true = omega arith
+comma_short false = omega arith
+
+-- a comma that may be wanted is UTF-8
+pub comma_utf8 : (b : Bool) → IsUtf8 (cond b (44 ∷ []) [])
+comma_utf8 true = IsUtf8-are_ascii (44 ∷ []) refl
+comma_utf8 false = IsUtf8-nil
+
+-- UTF-8 that is placed after UTF-8 makes all up to its end UTF-8, and lies within the bytes
+pub placed_utf8 : (old new xs : List ℕ) (at end : ℕ) → Placed old new at xs end →
+    at ≤ length old → IsUtf8 (take at old) → IsUtf8 xs →
+    (end ≤ length new) × IsUtf8 (take end new)
+placed_utf8 old new xs at end p within before utf8 =
+    let both : IsUtf8 (take at old ++ xs) = IsUtf8-append (take at old) xs before utf8 in (
+      long_enough new end (ap length p.bytes ∙ length-append (take at old) xs
+          ∙ ap (λ n. n + length xs) (length-take-le at old within) ∙ sym p.moved),
+      subst IsUtf8 (sym p.bytes) both,
+    )
+  where
+    long_enough : (l : List ℕ) (n : ℕ) → length (take n l) ≡ n → n ≤ length l
+    long_enough l n e = let parts = length-append (take n l) (drop n l) in
+        omega (arith, e, ap length (take-append-drop n l), parts)

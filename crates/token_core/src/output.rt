@@ -1,0 +1,314 @@
+//! JSON text that grows by tokens.
+
+ghost use Rattle.std.specs.Prelude.{◌≡◌, ◌+◌, ◌≤◌, ◌<◌, ◌++◌, [], ◌∷◌, true, false, codes, decimal};
+ghost use Rattle.std.specs.Prelude.{length, take, cond, string_bytes, OnOk, IfOk};
+ghost use Rattle.std.specs.Bool.{OnTrue};
+ghost use Rattle.std.specs.Fmt.{signed_decimal};
+ghost use Rattle.std.specs.Int.{w64};
+ghost use Rattle.std.specs.Char.{encode_utf8};
+ghost use Rattle.hex.specs.Hex.{encode_lower};
+ghost use Rattle.json.specs.Token.{begin_object, end_object, begin_array, end_array, key, string};
+ghost use Rattle.json.specs.Token.{number, boolean, null};
+ghost use Rattle.json.specs.Print.{escape, quoted};
+
+use crate::places::{place_byte, place_bytes, place_comma, place_decimal, place_hex};
+use crate::plain::is_plain;
+use json::Writer;
+use std::alloc::{AllocError, Global};
+use std::marker::Model;
+
+/// So many zeros at most are put after a text beside those that a token asks for.
+const AHEAD: usize = 16 * 1024;
+
+/// From so many bytes on a text is long.
+const LONG: usize = 1024 * 1024;
+
+/// Zeros that are put after a text, to be written over.
+static ZEROS: [u8; 4096] = [0; 4096];
+
+/// JSON text that grows by tokens (RFC 8259): it places the commas and the colons, and leaves the nesting to its caller. It
+/// takes room for up to twice the text, a quarter more above a mebibyte, and for the longest text that is escaped.
+///
+/// Each call that adds a token takes time in proportion to the token. It refuses with `AllocError` where memory was refused;
+/// nothing is promised of the text then, and it is to be dropped.
+#[derive(Drop)]
+pub struct Output {
+    /// The text, and zeros after it to be written over, so that a token asks for room once.
+    bytes: Vec<u8>,
+    len: usize,
+    after_value: bool,
+    /// Where texts are escaped before they are put, kept for its room.
+    escaped: Vec<u8>,
+}
+
+impl Model for Output {
+    ghost use Rattle.std.specs.Prelude.{length, take, ◌≤◌};
+    ghost use Rattle.std.specs.Str.{IsUtf8};
+    ghost use Rattle.token_core.specs.Tokens.{Text};
+
+    ghost Value = { Text };
+
+    ghost view = { λ o. record { text = take o.len o.bytes.items; after_value = o.after_value } };
+
+    ghost invariant = { λ o. (o.len ≤ length o.bytes.items) × IsUtf8 (take o.len o.bytes.items) };
+}
+
+/// Room for so many bytes after the first `len`.
+#[inline(always)]
+fn make_room(bytes: &mut Vec<u8>, len: usize, more: usize) -> Result<(), AllocError>
+    requires { len ≤ length bytes.old.items }
+    ensures ok { OnOk result (len + more ≤ length bytes.new.items) }
+    ensures same { take len bytes.new.items ≡ take len bytes.old.items }
+    ensures kept { length bytes.old.items ≤ length bytes.new.items }
+{
+    if more <= bytes.len() - len {
+        return Ok(());
+    }
+    grow(bytes, more)
+}
+
+/// So many zeros more, or as many as there is room for, up to `AHEAD`. The room doubles, and from `LONG` bytes on it
+/// grows by a quarter.
+#[cold]
+#[inline(never)]
+fn grow(bytes: &mut Vec<u8>, more: usize) -> Result<(), AllocError>
+    ensures ok { OnOk result (length bytes.old.items + more ≤ length bytes.new.items) }
+    ensures same { take (length bytes.old.items) bytes.new.items ≡ bytes.old.items }
+    ensures kept { length bytes.old.items ≤ length bytes.new.items }
+{
+    let len = bytes.len();
+    if more > bytes.capacity() - len {
+        let room = if len < LONG { len } else { len / 4 };
+        bytes.reserve_exact(more.max(room))?;
+    }
+    let spare = bytes.capacity() - len;
+    let mut missing = more.max(spare.min(AHEAD));
+    'zeros: while missing > 0 {
+        let step = missing.min(ZEROS.len());
+        bytes.extend_from_slice(&ZEROS[..step])?;
+        missing -= step;
+    }
+    Ok(())
+}
+
+impl Output {
+    ghost use Rattle.token_core.specs.Tokens.{AddsTokens, put};
+
+    /// An empty text with room for so many bytes.
+    pub fn with_room(alloc: Global, room: usize) -> Result<Output, AllocError>
+        ensures { IfOk result (λ o. o ≡ record { text = []; after_value = false }) }
+    {
+        Ok(Output {
+            bytes: Vec::with_capacity(alloc, room)?,
+            len: 0,
+            after_value: false,
+            escaped: Vec::new(alloc),
+        })
+    }
+
+    /// The text.
+    pub fn into_text(self) -> String
+        ensures { string_bytes result ≡ self.text }
+    {
+        let Output { mut bytes, len, .. } = self;
+        bytes.truncate(len);
+        unsafe { String::from_utf8_unchecked(bytes) }
+    }
+
+    /// These characters, after a comma where one is wanted.
+    #[inline(always)]
+    fn put(&mut self, comma: bool, characters: &str, ends_value: bool) -> Result<(), AllocError>
+        ensures { OnOk result (self.new ≡ put self.old comma characters.now ends_value) }
+    {
+        make_room(&mut self.bytes, self.len, characters.len() + 1)?;
+        let buffer = self.bytes.as_mut_slice();
+        let at = place_comma(buffer, self.len, comma);
+        self.len = place_bytes(buffer, at, characters.as_bytes());
+        self.after_value = ends_value;
+        Ok(())
+    }
+
+    /// These characters between quotes, where none of them needs an escape; `close` has the second quote, and a key's
+    /// colon.
+    #[inline(always)]
+    fn put_plain(
+        &mut self,
+        characters: &str,
+        close: &str,
+        ends_value: bool,
+    ) -> Result<(), AllocError>
+        requires { length close.now ≤ 2 }
+        ensures { OnOk result (self.new
+            ≡ put self.old self.old.after_value (34 ∷ (characters.now ++ close.now)) ends_value) }
+    {
+        make_room(&mut self.bytes, self.len, characters.len() + 4)?;
+        let buffer = self.bytes.as_mut_slice();
+        let at = place_comma(buffer, self.len, self.after_value);
+        let at = place_byte(buffer, at, b'"');
+        let at = place_bytes(buffer, at, characters.as_bytes());
+        self.len = place_bytes(buffer, at, close.as_bytes());
+        self.after_value = ends_value;
+        Ok(())
+    }
+
+    /// An object begins.
+    #[inline(always)]
+    pub fn begin_object(&mut self) -> Result<(), AllocError>
+        ensures { AddsTokens result self.old self.new (begin_object ∷ []) }
+    {
+        self.put(self.after_value, "{", false)
+    }
+
+    /// The object that began last ends.
+    #[inline(always)]
+    pub fn end_object(&mut self) -> Result<(), AllocError>
+        ensures { AddsTokens result self.old self.new (end_object ∷ []) }
+    {
+        self.put(false, "}", true)
+    }
+
+    /// An array begins.
+    #[inline(always)]
+    pub fn begin_array(&mut self) -> Result<(), AllocError>
+        ensures { AddsTokens result self.old self.new (begin_array ∷ []) }
+    {
+        self.put(self.after_value, "[", false)
+    }
+
+    /// The array that began last ends.
+    #[inline(always)]
+    pub fn end_array(&mut self) -> Result<(), AllocError>
+        ensures { AddsTokens result self.old self.new (end_array ∷ []) }
+    {
+        self.put(false, "]", true)
+    }
+
+    /// `null`.
+    #[inline(always)]
+    pub fn null(&mut self) -> Result<(), AllocError>
+        ensures { AddsTokens result self.old self.new (null ∷ []) }
+    {
+        self.put(self.after_value, "null", true)
+    }
+
+    /// `true` or `false`.
+    #[inline(always)]
+    pub fn boolean(&mut self, x: bool) -> Result<(), AllocError>
+        ensures { AddsTokens result self.old self.new (boolean x ∷ []) }
+    {
+        self.put(self.after_value, if x { "true" } else { "false" }, true)
+    }
+
+    /// A number from 0.
+    #[inline(always)]
+    pub fn unsigned(&mut self, n: u64) -> Result<(), AllocError>
+        ensures { AddsTokens result self.old self.new (number (decimal n) ∷ []) }
+    {
+        make_room(&mut self.bytes, self.len, 21)?;
+        let buffer = self.bytes.as_mut_slice();
+        let at = place_comma(buffer, self.len, self.after_value);
+        self.len = place_decimal(buffer, at, n);
+        self.after_value = true;
+        Ok(())
+    }
+
+    /// A number.
+    #[inline(always)]
+    pub fn signed(&mut self, n: i64) -> Result<(), AllocError>
+        ensures { AddsTokens result self.old self.new (number (signed_decimal n) ∷ []) }
+    {
+        let mut buffer = itoa::Buffer::new();
+        self.put(self.after_value, buffer.format(n), true)
+    }
+
+    /// A number from 0 as a text of its digits.
+    pub fn quoted_unsigned(&mut self, n: u128) -> Result<(), AllocError>
+        ensures { AddsTokens result self.old self.new (string (decimal n) ∷ []) }
+    {
+        let mut buffer = itoa::Buffer::new();
+        self.put_plain(buffer.format(n), "\"", true)
+    }
+
+    /// A number as a text of its digits.
+    pub fn quoted_signed(&mut self, n: i128) -> Result<(), AllocError>
+        ensures { AddsTokens result self.old self.new (string (signed_decimal n) ∷ []) }
+    {
+        let mut buffer = itoa::Buffer::new();
+        self.put_plain(buffer.format(n), "\"", true)
+    }
+
+    /// A key and its colon. Where `plain` is not said, it is found out whether the name needs an escape.
+    #[inline(always)]
+    pub fn key(&mut self, alloc: Global, name: &str, plain: bool) -> Result<(), AllocError>
+        requires { OnTrue plain (escape name.now ≡ name.now) }
+        ensures { AddsTokens result self.old self.new (key name.now ∷ []) }
+    {
+        if plain || is_plain(name) {
+            return self.put_plain(name, "\":", false);
+        }
+        self.escaped_key(alloc, name)
+    }
+
+    /// A key, some of whose characters need an escape, and its colon.
+    #[inline(never)]
+    fn escaped_key(&mut self, alloc: Global, name: &str) -> Result<(), AllocError>
+        ensures { AddsTokens result self.old self.new (key name.now ∷ []) }
+    {
+        let mut room = std::mem::replace(&mut self.escaped, Vec::new(alloc));
+        room.clear();
+        let mut escaped = Writer::new(room);
+        escaped.key(name)?;
+        let escaped = unsafe { String::from_utf8_unchecked(escaped.into_inner()) };
+        self.put(self.after_value, escaped.as_str(), false)?;
+        self.escaped = escaped.into_bytes();
+        Ok(())
+    }
+
+    /// A text.
+    #[inline(always)]
+    pub fn string(&mut self, alloc: Global, text: &str) -> Result<(), AllocError>
+        ensures { AddsTokens result self.old self.new (string text.now ∷ []) }
+    {
+        if is_plain(text) {
+            self.put_plain(text, "\"", true)
+        } else {
+            self.escaped(alloc, text)
+        }
+    }
+
+    /// A text, some of whose characters need an escape.
+    #[inline(never)]
+    fn escaped(&mut self, alloc: Global, text: &str) -> Result<(), AllocError>
+        ensures { AddsTokens result self.old self.new (string text.now ∷ []) }
+    {
+        let mut room = std::mem::replace(&mut self.escaped, Vec::new(alloc));
+        room.clear();
+        let mut escaped = Writer::new(room);
+        escaped.string(text)?;
+        let escaped = unsafe { String::from_utf8_unchecked(escaped.into_inner()) };
+        self.put(self.after_value, escaped.as_str(), true)?;
+        self.escaped = escaped.into_bytes();
+        Ok(())
+    }
+
+    /// A text of `0x` and two hexadecimal digits for each byte.
+    pub fn hex(&mut self, bytes: &[u8]) -> Result<(), AllocError>
+        ensures { AddsTokens result self.old self.new
+            (string (codes "0x" ++ encode_lower bytes.now) ∷ []) }
+    {
+        let Some(digits) = bytes.len().checked_mul(2) else {
+            return Err(AllocError);
+        };
+        let Some(room) = digits.checked_add(5) else {
+            return Err(AllocError);
+        };
+        make_room(&mut self.bytes, self.len, room)?;
+        let buffer = self.bytes.as_mut_slice();
+        let at = place_comma(buffer, self.len, self.after_value);
+        let at = place_bytes(buffer, at, b"\"0x");
+        let at = place_hex(buffer, at, bytes);
+        self.len = place_byte(buffer, at, b'"');
+        self.after_value = true;
+        Ok(())
+    }
+}

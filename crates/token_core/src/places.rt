@@ -1,0 +1,77 @@
+//! Bytes written into a buffer from a place on.
+
+ghost use Rattle.std.specs.Prelude.{◌≡◌, ◌+◌, ◌*◌, ◌≤◌, ◌<◌, [], ◌∷◌, length, cond};
+ghost use Rattle.std.specs.Fmt.{decimal};
+ghost use Rattle.hex.specs.Hex.{encode_lower};
+ghost use Rattle.json.specs.Filled.{Placed};
+
+/// One byte. Like the calls below it answers where the next goes.
+#[inline(always)]
+pub(crate) fn place_byte(buffer: &mut [u8], at: usize, byte: u8) -> usize
+    requires { at < length buffer.old }
+    ensures { Placed buffer.old buffer.new at (byte ∷ []) result }
+{
+    buffer[at] = byte;
+    at + 1
+}
+
+/// A comma where one is wanted. Else it is only written, and the next byte goes over it.
+#[inline(always)]
+pub(crate) fn place_comma(buffer: &mut [u8], at: usize, wanted: bool) -> usize
+    requires { at < length buffer.old }
+    ensures { Placed buffer.old buffer.new at (cond wanted (44 ∷ []) []) result }
+{
+    buffer[at] = b',';
+    at + usize::from(wanted)
+}
+
+/// These bytes.
+#[inline(always)]
+pub(crate) fn place_bytes(buffer: &mut [u8], at: usize, bytes: &[u8]) -> usize
+    requires { at + length bytes.now ≤ length buffer.old }
+    ensures { Placed buffer.old buffer.new at bytes.now result }
+{
+    let end = at + bytes.len();
+    buffer[at..end].copy_from_slice(bytes);
+    end
+}
+
+/// Two hexadecimal digits, from 0 to 9 and a to f, for each of these bytes, the higher half first: the place after them.
+#[inline(always)]
+pub fn place_hex(buffer: &mut [u8], at: usize, bytes: &[u8]) -> usize
+    requires { at + 2 * length bytes.now ≤ length buffer.old }
+    ensures { Placed buffer.old buffer.new at (encode_lower bytes.now) result }
+{
+    let end = at + 2 * bytes.len();
+    hex::encode_to_slice(bytes, &mut buffer[at..end]).unwrap();
+    end
+}
+
+/// How many decimal digits the number has.
+#[inline(always)]
+fn digit_count(n: u64) -> usize
+    ensures { result ≡ length (decimal n) }
+{
+    let mut left = n;
+    let mut count = 0;
+    'fours: while left >= 10_000 {
+        left /= 10_000;
+        count += 4;
+    }
+    if left < 100 {
+        count + if left < 10 { 1 } else { 2 }
+    } else {
+        count + if left < 1_000 { 3 } else { 4 }
+    }
+}
+
+/// The number in decimal digits.
+#[inline(always)]
+pub(crate) fn place_decimal(buffer: &mut [u8], at: usize, n: u64) -> usize
+    requires { at + 20 ≤ length buffer.old }
+    ensures { Placed buffer.old buffer.new at (decimal n) result }
+{
+    let end = at + digit_count(n);
+    itoa::write_digits(n, buffer, end);
+    end
+}
