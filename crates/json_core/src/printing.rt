@@ -36,11 +36,11 @@ pub enum PrintFault {
 ///
 /// It is written straight from the value into the one text, whose room may be up to twice as long, and a quarter longer
 /// above a mebibyte. Beside that text it takes memory for the orders of keys that it meets, four bytes a field and an
-/// entry for each composite and each arm; 40 bytes for each child of an object that is open, where the names of its
-/// fields are out of order; and room for the longest of the texts that have an escape. It takes time in proportion to
-/// the text, a look-up for each composite and each arm of two fields or more, and the time to sort the names of each
-/// type that it meets. The calls nest as deep as the value's levels, which are at most 1025; those take some 650 KiB of
-/// stack.
+/// entry for each composite and each arm; 40 bytes for each child of an object that is open and has more than eight, where
+/// the names of its fields are out of order; and room for the longest of the texts that have an escape. It takes time in
+/// proportion to the text, a look-up for each composite and each arm of two fields or more, and the time to sort the names
+/// of each type that it meets. The calls nest as deep as the value's levels, which are at most 1025; those take some 650
+/// KiB of stack.
 ///
 /// Refuses want of memory, and nothing is kept then.
 pub fn json_text<A: Allocator>(alloc: Global, value: &Value<'_, A>) -> Result<String, AllocError>
