@@ -21,7 +21,7 @@ use crate::leaf::Leaf;
 use crate::left::Left;
 use crate::node::{Content, Node};
 use crate::open_run::OpenRun;
-use crate::room::{give_back, make_room};
+use crate::room::make_room;
 use crate::value::Value;
 use crate::walk::Walk;
 use count_core::Count;
@@ -229,13 +229,11 @@ impl<'r, A: Allocator> Builder<'r, A> {
     }
 
     /// The value, of which the caller knows that nothing is missing: what `finish` hands out once it has judged. It takes
-    /// no memory, and gives back the room that is to spare.
-    pub fn into_value(mut self) -> Value<'r, A>
+    /// no memory.
+    pub fn into_value(self) -> Value<'r, A>
         requires { is_whole self ≡ true }
         ensures { result ≡ finished self.entry }
     {
-        give_back(&mut self.nodes);
-        give_back(&mut self.pool);
         Value::new(self.walk.checked(), self.nodes, self.pool, self.text_len)
     }
 

@@ -6,8 +6,8 @@ ghost use Rattle.value_core.specs.Shown.{size_shown, closed_as};
 use registry_core::TypeId;
 
 /// How many bytes of memory a node of a value or a builder takes. Beside its nodes a value has the bytes of its texts and
-/// runs of bytes, 32 for each 256-bit integer, and 16 for each other one above 64 bits. A vector that grows may have room
-/// for as much again; a whole value's has room for fewer than 256 more, unless the allocator didn't take the rest back.
+/// runs of bytes, 32 for each 256-bit integer, and 16 for each other one above 64 bits; vectors may have room for as much
+/// again while they grow.
 pub const NODE_BYTES: usize = 24;
 
 const _: () = prove!(size_of::<Node>() == NODE_BYTES);

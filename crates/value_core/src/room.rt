@@ -7,9 +7,6 @@ use std::alloc::{AllocError, Allocator};
 /// So many have room at first: a small value asks for its nodes once.
 const FIRST: usize = 16;
 
-/// From so many on, what is to spare is given back. For less a request would cost more than the room is worth.
-const WORTH: usize = 256;
-
 /// Makes room for so many more, where there is none.
 #[inline(always)]
 pub(crate) fn make_room<T, A: Allocator>(
@@ -27,7 +24,8 @@ pub(crate) fn make_room<T, A: Allocator>(
     grow(list, more)
 }
 
-/// Room for half as many more as there are, or for as many as are wanted.
+/// Room for half as many more as there are, or for as many as are wanted. By doubling a value would keep up to as much
+/// room to spare as it takes.
 #[cold]
 #[inline(never)]
 fn grow<T, A: Allocator>(list: &mut Vec<T, A>, more: usize) -> Result<(), AllocError>
@@ -38,13 +36,4 @@ fn grow<T, A: Allocator>(list: &mut Vec<T, A>, more: usize) -> Result<(), AllocE
 {
     let half = list.len() / 2;
     list.reserve_exact(more.max(half.max(FIRST)))
-}
-
-/// Gives back the room that is to spare, where it is worth it. It stays where the allocator takes no part of a block back.
-pub(crate) fn give_back<T, A: Allocator>(list: &mut Vec<T, A>)
-    ensures { list.new.items ≡ list.old.items }
-{
-    if list.capacity() - list.len() >= WORTH {
-        list.shrink_to_fit();
-    }
 }

@@ -1,7 +1,6 @@
-use Rattle.std.proofs.Common.{rules, ◌≡◌, ◌∙◌, true, sym, ap, ap₂, subst, List}
+use Rattle.std.proofs.Common.{rules, ◌≡◌, ◌∙◌, true, sym, ap, subst, List}
 use Rattle.registry_core.specs.declared.type_info.TypeInfo.{TypeInfo}
-use Rattle.grammar_core.specs.Tree.{text_bytes}
-use Rattle.value_core.specs.Shown.{IsWhole, seen, tree_shown}
+use Rattle.value_core.specs.Shown.{IsWhole, seen}
 use Rattle.value_core.specs.Building.{pieces_shown}
 use Rattle.value_core.specs.Refusals.{is_whole_in}
 use Rattle.value_core.proofs.Finished.{is_finished, seen_finished}
@@ -12,22 +11,18 @@ new-requires-clause-whole g c =
     let w : is_whole_in c.self.inside.walk.frames ≡ true = search rules in
     let f = is_finished c.self.inside.root.0 c.self.inside.walk c.self.inside.pool.items
     c.self.inside.nodes.items c.self.inside.text_len c.self.invariant.0 w in
-    rw (c.give_back.ensures, c.give_back-2.ensures)
-    (subst (λ (r : List TypeInfo). IsWhole r c.self.inside.pool.items c.self.inside.nodes.items)
-    (sym c.checked.ensures) f.whole)
+    subst (λ (r : List TypeInfo). IsWhole r c.self.inside.pool.items c.self.inside.nodes.items)
+    (sym c.checked.ensures) f.whole
 
 pub new-requires-clause-texts : goal.new-requires-clause-texts
 new-requires-clause-texts g c =
     let w : is_whole_in c.self.inside.walk.frames ≡ true = search rules in
     (is_finished c.self.inside.root.0 c.self.inside.walk c.self.inside.pool.items
     c.self.inside.nodes.items c.self.inside.text_len c.self.invariant.0 w).texts
-    ∙ ap₂ (λ p ns. text_bytes (tree_shown p ns)) (sym c.give_back-2.ensures)
-    (sym c.give_back.ensures)
 
 pub new-requires-clause-fits : goal.new-requires-clause-fits
 new-requires-clause-fits g c =
     let w : is_whole_in c.self.inside.walk.frames ≡ true = search rules in
-    rw (c.give_back.ensures, c.give_back-2.ensures)
     (is_finished c.self.inside.root.0 c.self.inside.walk c.self.inside.pool.items
     c.self.inside.nodes.items c.self.inside.text_len c.self.invariant.0 w).fits
 
@@ -37,7 +32,6 @@ returns g c =
     let f = is_finished c.self.inside.root.0 c.self.inside.walk c.self.inside.pool.items
     c.self.inside.nodes.items c.self.inside.text_len c.self.invariant.0 w in
     let value = c.new.ensures
-    ∙ ap₂ (seen _) c.give_back-2.ensures c.give_back.ensures
     ∙ ap (λ (r : List TypeInfo). seen r c.self.inside.pool.items c.self.inside.nodes.items)
     c.checked.ensures ∙ seen_finished
     (pieces_shown c.self.inside.pool.items c.self.inside.open_run) c.self.inside.turns.so_far
