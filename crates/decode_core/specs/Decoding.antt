@@ -9,7 +9,7 @@ use Rattle.grammar_core.specs.Reading.{Refusal, truncated}
 use Rattle.grammar_core.specs.Tree.{Tree, nodes, text_bytes as tree_text_bytes}
 use Rattle.value_core.specs.Built.{Built, built_text_bytes, finished}
 use Rattle.value_core.specs.Refusals.{is_whole}
-use Rattle.value_core.specs.Shown.{Seen}
+use Rattle.node_core.specs.Shown.{Seen}
 use Rattle.value_core.specs.Walked.{start_of}
 use Rattle.grammar_core.specs.declared.limits.Limits.{Limits}
 use Rattle.decode_core.specs.declared.fault.OpenFault.{OpenFault}

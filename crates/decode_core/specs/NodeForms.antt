@@ -17,8 +17,8 @@ use Rattle.grammar_core.specs.Reading.{basic, leaf_at}
 use Rattle.grammar_core.specs.Runs.{run_form}
 use Rattle.grammar_core.specs.declared.form.Form.{Form}
 use Rattle.grammar_core.specs.declared.form.Form.TheVariants as form
-use Rattle.value_core.specs.Leaves.{leaf_head}
-use Rattle.value_core.specs.declared.leaf.Leaf.{Leaf}
+use Rattle.node_core.specs.Leaves.{leaf_head}
+use Rattle.node_core.specs.declared.leaf.Leaf.{Leaf}
 use Rattle.decode_core.specs.Reported.{leaf_own}
 use Rattle.decode_core.specs.declared.forms.PlainForm.{PlainForm}
 use Rattle.decode_core.specs.declared.forms.PlainForm.TheVariants as plain

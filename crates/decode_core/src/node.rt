@@ -4,7 +4,7 @@ ghost use Rattle.std.specs.Prelude.{◌≡◌, IfOk, Some, None, length};
 ghost use Rattle.grammar_core.specs.Runs.{run_form};
 ghost use Rattle.scale_core.specs.Read.{compact_at, number_at, signed_at};
 ghost use Rattle.registry_core.specs.Kinds.{width_bytes};
-ghost use Rattle.value_core.specs.Leaves.{FitsLeaf};
+ghost use Rattle.node_core.specs.Leaves.{FitsLeaf};
 ghost use Rattle.value_core.specs.Refusals.{up_to, most_unsigned, within, most_signed};
 ghost use Rattle.value_core.specs.Walked.{next_of};
 ghost use Rattle.decode_core.specs.Needs.{AreOwn};

@@ -21,11 +21,11 @@ use Rattle.grammar_core.specs.Tree as tree
 use Rattle.grammar_core.specs.Grammar.{Val, Vals}
 use Rattle.grammar_core.specs.Parts.{Part, each}
 use Rattle.grammar_core.specs.Cells.{fields_part}
-use Rattle.value_core.specs.Shown.{Seen, IsValue, seen_parts, children_by, children_of}
-use Rattle.value_core.specs.Whats.{what_of}
-use Rattle.value_core.specs.declared.what.What.{What}
-use Rattle.value_core.specs.declared.what.What.TheVariants as what
-use Rattle.value_core.proofs.Below.{arm_get, arm_part_is}
+use Rattle.node_core.specs.Shown.{Seen, IsValue, seen_parts, children_by, children_of}
+use Rattle.node_core.specs.Whats.{what_of}
+use Rattle.node_core.specs.declared.what.What.{What}
+use Rattle.node_core.specs.declared.what.What.TheVariants as what
+use Rattle.node_core.proofs.Below.{arm_get, arm_part_is}
 use Rattle.json_core.specs.Defined.{defined_arm, composite_fields}
 use Rattle.json_core.specs.Json.{json_seen}
 use Rattle.json_core.specs.Tokens.{data_at}

@@ -1,10 +1,10 @@
 -- What is known of the orders of keys, as more become known.
-use Rattle.std.proofs.Common.{◌≡◌, ℕ, zero, suc, ◌+◌, ◌-◌, ◌≤◌, cond, List, [], ◌∷◌, ◌++◌, length}
-use Rattle.std.proofs.Common.{take, drop}
+use Rattle.std.proofs.Common.{◌≡◌, ℕ, ◌+◌, ◌-◌, ◌≤◌, cond, List, [], ◌∷◌, ◌++◌, length}
+use Rattle.std.proofs.Common.{take, drop, IfSome}
 use Rattle.std.proofs.Common.{Option, Some, None, Ordering, Less, Equal, Greater, nat_cmp, is_eq}
-use Rattle.std.proofs.Common.{Bor, refl, sym, ap, ap₂, ◌∙◌, subst, arith, length-append}
+use Rattle.std.proofs.Common.{refl, sym, ap, ap₂, ◌∙◌, subst, arith, length-append}
 use Rattle.std.proofs.Common.{append_assoc, length-drop}
-use Rattle.std.specs.Prelude.{slice_range, slice_set, option_copied}
+use Rattle.std.specs.Prelude.{slice_range}
 use Rattle.std.specs.List.{range_with_len}
 use Rattle.json_core.proofs.Ordered.{positions_count}
 use Rattle.std.specs.Map.{lookup}
@@ -19,7 +19,7 @@ use Rattle.json_core.specs.declared.orders.Place.{Place}
 use Rattle.json_core.specs.declared.orders.Known.{Known}
 use Rattle.json_core.specs.declared.orders.Keys.{Keys}
 use Rattle.json_core.specs.declared.orders.Keys.TheVariants as keys
-use Rattle.json_core.specs.Ordered.{key_order, fields_at, OrdersView, AreKeys, IsKnown, AreKeysOf}
+use Rattle.json_core.specs.Ordered.{key_order, fields_at, OrdersView, AreKeys, AreKeysOf}
 use Rattle.json_core.specs.Ordered.{AreKnownOrders, IsKnownSlot, AreKnownSlots, Grows}
 
 -- ---- positions that are added change nothing of the others
@@ -58,7 +58,7 @@ known_stay r ps more (e ∷ es) h =
     (keys_of_stay ps more (fields_at r e.0) e.1 h.0, known_stay r ps more es h.1)
 
 -- the same for positions that are known to be the old ones and more
-pub known_more : (r : List TypeInfo) (old new more : List ℕ) (es : List (Place × Known)) →
+known_more : (r : List TypeInfo) (old new more : List ℕ) (es : List (Place × Known)) →
     AreKnownOrders r old es → new ≡ old ++ more → AreKnownOrders r new es
 known_more r old new more es h e =
     subst (λ ps. AreKnownOrders r ps es) (sym e) (known_stay r old more es h)
@@ -76,27 +76,17 @@ slots_stay r ps more [] h = tt
 slots_stay r ps more (o ∷ ss) h = (slot_stays r ps more o h.0, slots_stay r ps more ss h.1)
 
 -- the same for positions that are known to be the old ones and more
-pub slots_more : (r : List TypeInfo) (old new more : List ℕ) (ss : List (Option (Place × Known))) →
+slots_more : (r : List TypeInfo) (old new more : List ℕ) (ss : List (Option (Place × Known))) →
     AreKnownSlots r old ss → new ≡ old ++ more → AreKnownSlots r new ss
 slots_more r old new more ss h e =
     subst (λ ps. AreKnownSlots r ps ss) (sym e) (slots_stay r old more ss h)
 
--- slots that are right stay right where one gets what is right
-slots_set : (r : List TypeInfo) (ps : List ℕ) (ss : List (Option (Place × Known))) (i : ℕ)
-    (e : Place × Known) → AreKnownSlots r ps ss → AreKeysOf ps (fields_at r e.0) e.1 →
-    AreKnownSlots r ps (slice_set ss i (Some e))
-slots_set r ps [] i e h k = tt
-slots_set r ps (o ∷ ss) zero e h k = (k, h.1)
-slots_set r ps (o ∷ ss) (suc i) e h k = (h.0, slots_set r ps ss i e h.1 k)
-
--- what is found anew becomes known in its slot
-pub keys_slotted : (r : List TypeInfo) (old ps more : List ℕ) (ss : List (Option (Place × Known)))
-    (i : ℕ) (p : Place) (fs : List Field) (k : Known) → AreKnownSlots r old ss →
-    ps ≡ old ++ more → fields_at r p ≡ Some fs → IsKnown ps fs k →
-    AreKnownSlots r ps (slice_set ss i (Some (p, k)))
-keys_slotted r old ps more ss i p fs k h e at keys =
-    slots_set r ps ss i (p, k) (slots_more r old ps more ss h e)
-    (subst (λ o. AreKeysOf ps o k) (sym at) keys)
+-- and of both
+pub orders_more : (r : List TypeInfo) (old new more : List ℕ) (es : List (Place × Known))
+    (ss : List (Option (Place × Known))) → AreKnownOrders r old es × AreKnownSlots r old ss →
+    new ≡ old ++ more → AreKnownOrders r new es × AreKnownSlots r new ss
+orders_more r old new more es ss h e =
+    (known_more r old new more es h.0 e, slots_more r old new more ss h.1 e)
 
 -- ---- growth
 
@@ -134,7 +124,7 @@ module _ {R : Place → Place → Ordering} (exact : CmpEqualImpliesEq R) where
     go Greater is later f = later f
 
   -- what is known stays right where the keys at one more place are kept that are right
-  known_insert : (r : List TypeInfo) (ps : List ℕ) (es : List (Place × Known)) (p : Place)
+  pub known_insert : (r : List TypeInfo) (ps : List ℕ) (es : List (Place × Known)) (p : Place)
       (k : Known) → AreKnownOrders r ps es → AreKeysOf ps (fields_at r p) k →
       AreKnownOrders r ps (insert_entry R es p k)
   known_insert r ps [] p k h e = (e, tt)
@@ -146,24 +136,12 @@ module _ {R : Place → Place → Ordering} (exact : CmpEqualImpliesEq R) where
     go Equal is later = (subst (λ q. AreKeysOf ps (fields_at r q) k) (exact p x.0 is) e, h.1)
     go Greater is later = (h.0, later)
 
-  -- what a look-up lends
-  pub keys_found : (r : List TypeInfo) (ps : List ℕ) (es : List (Place × Known)) (p : Place)
-      (fs : List Field) (found : Option (Bor Known)) (k : Bor Known) → AreKnownOrders r ps es →
-      fields_at r p ≡ Some fs → option_copied found ≡ lookup (is_at (R p)) es → found ≡ Some k →
-      IsKnown ps fs k.now
-  keys_found r ps es p fs found k h at e f =
-      subst (λ o. AreKeysOf ps o k.now) at
-      (known_found r ps es p k.now h (sym e ∙ ap option_copied f))
-
-  -- what is found anew becomes known
-  pub keys_put : (r : List TypeInfo) (old ps more : List ℕ) (es new : List (Place × Known))
-      (p : Place) (fs : List Field) (k : Known) → AreKnownOrders r old es → ps ≡ old ++ more →
-      fields_at r p ≡ Some fs → IsKnown ps fs k → new ≡ insert_entry R es p k →
-      AreKnownOrders r ps new
-  keys_put r old ps more es new p fs k h e at keys is =
-      subst (AreKnownOrders r ps) (sym is)
-      (known_insert r ps es p k (known_more r old ps more es h e)
-      (subst (λ o. AreKeysOf ps o k) (sym at) keys))
+  -- what a look-up finds is known
+  pub known_looked_up : (r : List TypeInfo) (ps : List ℕ) (es : List (Place × Known)) (p : Place)
+      (found : Option Known) → AreKnownOrders r ps es → found ≡ lookup (is_at (R p)) es →
+      IfSome found (AreKeysOf ps (fields_at r p))
+  known_looked_up r ps es p None h e = tt
+  known_looked_up r ps es p (Some k) h e = known_found r ps es p k h (sym e)
 
 -- a place is the two numbers in it
 pub same_place : CmpEqualImpliesEq

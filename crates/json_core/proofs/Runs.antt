@@ -7,15 +7,15 @@ use Rattle.std.proofs.Common.{append-nil, arith, length-take-le, take-append-dro
 use Rattle.std.proofs.Math.Seq.{take-add}
 use Rattle.std.specs.Io.KnownBytes.{Appends}
 use Rattle.std.specs.Prelude.{Result, Ok, Err, OnOk, IfErr}
-use Rattle.value_core.specs.declared.writing.WriteFault.{WriteFault}
+use Rattle.node_core.specs.declared.writing.WriteFault.{WriteFault}
 use Rattle.hex.specs.Hex.{encode_with, encode_lower, lower_digits}
 use Rattle.hex.proofs.HexLemmas.{length-encode_with}
 use Rattle.serde_json.specs.Written.{compact_text}
 use Rattle.registry_core.specs.declared.type_info.TypeInfo.{TypeInfo}
 use Rattle.grammar_core.specs.Tree.{Tree, unit, bool, char, text, bytes, unsigned, signed, wide}
 use Rattle.grammar_core.specs.Tree.{compact, count, leaf, branch}
-use Rattle.value_core.specs.Shown.{bytes_of}
-use Rattle.value_core.proofs.SpelledParts.{long_whole, sent_all, sent_front, sent_more, sent_part}
+use Rattle.node_core.specs.Shown.{bytes_of}
+use Rattle.node_core.proofs.SpelledParts.{long_whole, sent_all, sent_front, sent_more, sent_part}
 use Rattle.json_core.specs.Json.{json_of}
 use Rattle.json_core.specs.Printed.{Sends, run_text}
 use Rattle.token_core.proofs.Outputs.{hex_string}

@@ -5,7 +5,7 @@ ghost use Rattle.std.specs.Char.{encode_utf8};
 ghost use Rattle.serde_json.specs.Data.{no_members, member, object, string};
 ghost use Rattle.serde_json.specs.View.{view, items_view, items_of};
 ghost use Rattle.graph_core.specs.Types.{shape};
-ghost use Rattle.value_core.specs.Shown.{children_of};
+ghost use Rattle.node_core.specs.Shown.{children_of};
 ghost use Rattle.json_core.specs.Json.{fields_json, parts_json, json_seen};
 ghost use Rattle.json_core.specs.Ordered.{fields_at, Grows};
 

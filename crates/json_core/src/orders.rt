@@ -2,7 +2,7 @@
 
 ghost use Rattle.std.specs.Prelude.{◌≡◌, ◌+◌, ◌<◌, ◌^◌, ℕ, List, [], ◌++◌, Some, length};
 ghost use Rattle.std.specs.Prelude.{slice_index, IfOk, IfSome};
-ghost use Rattle.json_core.specs.Ordered.{fields_at, AreKeys, IsKnown, Grows};
+ghost use Rattle.json_core.specs.Ordered.{fields_at, AreKeys, AreKeysOf, IsKnown, Grows};
 
 use crate::names::{are_plain, counts_up, key_order};
 use registry_core::Field;
@@ -21,6 +21,15 @@ pub(crate) struct Place {
     pub(crate) ty: u32,
     /// The position of the arm among the arms; 0 in a composite.
     pub(crate) arm: u32,
+}
+
+impl Place {
+    /// The slot in which it is looked for.
+    fn slot(self) -> usize
+        ensures { result < SLOTS }
+    {
+        self.ty.wrapping_add(self.arm) as usize % SLOTS
+    }
 }
 
 /// How the values of fields are shown.
@@ -163,39 +172,40 @@ impl<'r> Orders<'r> {
         ensures grows { Grows self.old self.new }
         ensures keys { IfOk result (IsKnown self.new.positions fields.now) }
     {
-        let slot = place.ty.wrapping_add(place.arm) as usize % SLOTS;
-        match self.slots[slot] {
+        if let Some(known) = self.known(place) {
+            return Ok(known);
+        }
+        let known = find_keys(alloc, fields, &mut self.positions)?;
+        self.keep(place, known)?;
+        Ok(known)
+    }
+
+    /// What is known of the fields at a place, from its slot, or where another place has that, from the map.
+    fn known(&self, place: Place) -> Option<Known>
+        ensures { IfSome result (AreKeysOf self.now.positions (fields_at self.now.types place)) }
+    {
+        match self.slots[place.slot()] {
             Some((first, known)) => {
                 if first.ty == place.ty && first.arm == place.arm {
-                    return Ok(known);
+                    return Some(known);
                 }
-                self.other_keys(alloc, place, fields)
+                self.others.get(&place).copied()
             }
-            None => {
-                let known = find_keys(alloc, fields, &mut self.positions)?;
-                self.slots[slot] = Some((place, known));
-                Ok(known)
-            }
+            None => None,
         }
     }
 
-    /// The same of a place whose slot another one has.
-    fn other_keys(
-        &mut self,
-        alloc: Global,
-        place: Place,
-        fields: &[Field],
-    ) -> Result<Known, AllocError>
-        requires fields { fields_at self.old.types place ≡ Some fields.now }
-        requires few { length fields.now < 2 ^ 32 }
-        ensures grows { Grows self.old self.new }
-        ensures keys { IfOk result (IsKnown self.new.positions fields.now) }
+    /// Keeps what is known of the fields at a place, in its slot, or where another place has that, in the map.
+    fn keep(&mut self, place: Place, known: Known) -> Result<(), AllocError>
+        requires { AreKeysOf self.old.positions (fields_at self.old.types place) known }
+        ensures { self.new ≡ self.old }
     {
-        if let Some(known) = self.others.get(&place) {
-            return Ok(*known);
+        let slot = place.slot();
+        if self.slots[slot].is_none() {
+            self.slots[slot] = Some((place, known));
+            return Ok(());
         }
-        let known = find_keys(alloc, fields, &mut self.positions)?;
         self.others.insert(place, known)?;
-        Ok(known)
+        Ok(())
     }
 }

@@ -8,7 +8,7 @@ ghost use Rattle.std.specs.Bool.{OnTrue};
 ghost use Rattle.json.specs.Token.{string};
 ghost use Rattle.serde_json.specs.Data.{array, object, number, unsigned, member, no_members};
 ghost use Rattle.serde_json.specs.View.{items_of};
-ghost use Rattle.value_core.specs.Shown.{children_of};
+ghost use Rattle.node_core.specs.Shown.{children_of};
 ghost use Rattle.json_core.specs.Defined.{unsigned_by, signed_by};
 ghost use Rattle.json_core.specs.Json.{bytes_json, wide_json, json_seen, fields_json};
 ghost use Rattle.json_core.specs.Ordered.{fields_at, AreKeys, ArePlain, Grows};

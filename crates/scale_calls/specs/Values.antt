@@ -2,7 +2,7 @@
 use Rattle.std.specs.Prelude.{◌≡◌, ◌==◌, ℕ, List, length, if◌then◌else◌, Option, Some, None}
 use Rattle.std.specs.Prelude.{option_map, Result, Ok, Err}
 use Rattle.grammar_core.specs.Tree.{Tree}
-use Rattle.value_core.specs.Shown.{Seen}
+use Rattle.node_core.specs.Shown.{Seen}
 use Rattle.json_core.specs.Json.{json_text}
 use Rattle.decode_core.specs.Outcome.{Job, Outcome, done, refused, more, too_long, outcome_of}
 use Rattle.decode_core.specs.Decoding.{FinishesDecoder}

@@ -7,7 +7,7 @@ use Rattle.std.proofs.lemmas.Bool.{cases_lt, eq-eqb, ne_eqb}
 use Rattle.std.proofs.lemmas.List.{append-nil, length-append, length-take}
 use Rattle.registry_core.specs.declared.type_info.TypeInfo.{TypeInfo}
 use Rattle.grammar_core.specs.declared.limits.Limits.{Limits}
-use Rattle.value_core.specs.Shown.{Seen}
+use Rattle.node_core.specs.Shown.{Seen}
 use Rattle.decode_core.specs.Decoding.{FinishesDecoder, opening_fault}
 use Rattle.decode_core.specs.Outcome.{Job}
 use Rattle.stream_core.specs.Streaming.{Forbids, Streams, job_of}

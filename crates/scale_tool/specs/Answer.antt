@@ -7,7 +7,7 @@ use Rattle.registry_core.specs.declared.type_info.TypeInfo.{TypeInfo}
 use Rattle.scale_calls.specs.Lines.{type_lines, version_line}
 use Rattle.scale_calls.specs.Opened.{checked_of, file_version}
 use Rattle.json_core.specs.Json.{json_text}
-use Rattle.value_core.specs.Shown.{Seen}
+use Rattle.node_core.specs.Shown.{Seen}
 use Rattle.scale_tool.specs.Values.{file_value}
 use Rattle.scale_tool.specs.declared.task.Job.{Job}
 use Rattle.scale_tool.specs.declared.task.Job.TheVariants as job

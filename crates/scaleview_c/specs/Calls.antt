@@ -2,7 +2,7 @@
 use Rattle.std.specs.Prelude.{◌≡◌, ℕ, ◌<◌, ◌≤◌, ◌⊎◌, List, [], ◌++◌, length, drop, Bool, Option}
 use Rattle.std.specs.Prelude.{Some, None, MatchOption, Result, Ok, Err, string_bytes}
 use Rattle.grammar_core.specs.declared.limits.Limits.{Limits}
-use Rattle.value_core.specs.Shown.{Seen}
+use Rattle.node_core.specs.Shown.{Seen}
 use Rattle.json_core.specs.Json.{json_text}
 use Rattle.decode_core.specs.Outcome.{Job}
 use Rattle.decode_core.specs.Decoding.{AnswersPiece, Decoding, FinishesDecoder, Led, first_of_all}

@@ -6,7 +6,7 @@ use Rattle.std.specs.Prelude.{IfSome, Result, ◌⊎◌}
 use Rattle.std.proofs.lemmas.Grind.{flat_map-append}
 use Rattle.std.proofs.lemmas.List.{take-append-drop, take_more}
 use Rattle.grammar_core.specs.Tree.{Tree}
-use Rattle.value_core.specs.Shown.{Seen}
+use Rattle.node_core.specs.Shown.{Seen}
 use Rattle.decode_core.specs.Decoding.{Decoding, FinishesDecoder, IsEnded, Led}
 use Rattle.decode_core.specs.Outcome.{Job, done, more, IsOutcome}
 use Rattle.stream_core.specs.Streaming.{EndsAt, FeedsAll, IsFed, IsUnderWay, Joins, StopsOpen}

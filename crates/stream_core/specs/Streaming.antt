@@ -5,7 +5,7 @@ use Rattle.std.specs.Io.KnownBytes.{Consumes, IsAtEnd, Keeps}
 use Rattle.registry_core.specs.declared.type_info.TypeInfo.{TypeInfo}
 use Rattle.graph_core.specs.Widths.{widest}
 use Rattle.grammar_core.specs.Tree.{Tree, nodes, text_bytes}
-use Rattle.value_core.specs.Shown.{Seen}
+use Rattle.node_core.specs.Shown.{Seen}
 use Rattle.grammar_core.specs.declared.limits.Limits.{Limits}
 use Rattle.decode_core.specs.Bound.{value_bound}
 use Rattle.decode_core.specs.Outcome.{Job, done, more, IsOutcome}

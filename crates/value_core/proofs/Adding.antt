@@ -14,8 +14,8 @@ use Rattle.grammar_core.specs.Preorder as head
 use Rattle.grammar_core.specs.Tree as tree
 use Rattle.grammar_core.specs.Preorder.{Head, head_of, tree_with}
 use Rattle.grammar_core.specs.Cells.{Cell, cells}
-use Rattle.value_core.specs.Shown.{head_shown, cell_shown, cells_shown, size_shown, signed_from}
-use Rattle.value_core.specs.Shown.{kept_bytes, all_kept, IsInPool, AreInPool}
+use Rattle.node_core.specs.Shown.{head_shown, cell_shown, cells_shown, size_shown, signed_from}
+use Rattle.node_core.specs.Shown.{kept_bytes, all_kept, IsInPool, AreInPool}
 use Rattle.value_core.specs.Spine.{OpenNode, open_part, open_cell, open_cells, IsOpen, Spine}
 use Rattle.value_core.specs.Walked.{OpenPart, Walked, first_in, advanced, opened, next_of}
 use Rattle.value_core.specs.Built.{Entry, entries_shown, head_text_bytes, entries_text_bytes}
@@ -26,9 +26,9 @@ use Rattle.value_core.specs.declared.open_run.OpenRun.{OpenRun}
 use Rattle.widths_core.specs.declared.run_kind.RunKind.{RunKind}
 use Rattle.std.specs.Prelude.{IfOk, option_map, Result, Ok}
 use Rattle.std.proofs.lemmas.List.{length-drop, take_all}
-use Rattle.value_core.specs.declared.node.Node.{Node}
-use Rattle.value_core.specs.declared.node.Content.{Content}
-use Rattle.value_core.specs.declared.node.Content.TheVariants as content
+use Rattle.node_core.specs.declared.node.Node.{Node}
+use Rattle.node_core.specs.declared.node.Content.{Content}
+use Rattle.node_core.specs.declared.node.Content.TheVariants as content
 use Rattle.value_core.proofs.Spines.{Grown, value_added, node_opened}
 
 -- what the pool has at its front stays where more is appended

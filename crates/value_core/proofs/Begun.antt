@@ -28,7 +28,7 @@ use Rattle.grammar_core.specs.Forms.{next_at}
 use Rattle.grammar_core.specs.declared.form.StopReason.TheVariants as stop
 use Rattle.grammar_core.specs.declared.form.Next.TheVariants as next
 use Rattle.grammar_core.proofs.Begun.{begun_trees_fit}
-use Rattle.value_core.specs.Shown.{cell_shown, cells_shown}
+use Rattle.node_core.specs.Shown.{cell_shown, cells_shown}
 use Rattle.value_core.specs.Spine.{OpenNode, open_cells, IsOpenAs, open_part, Spine}
 use Rattle.grammar_core.specs.Cells.{part_of}
 use Rattle.value_core.specs.Walked.{OpenPart, Walked}
@@ -37,9 +37,9 @@ use Rattle.value_core.specs.Built.{settled_in}
 use Rattle.value_core.specs.Building.{IsPaid, IsBuilding}
 use Rattle.value_core.specs.Refusals.{is_whole_in}
 use Rattle.value_core.specs.Begun.{IsBegun, next_in}
-use Rattle.value_core.specs.declared.node.Node.{Node}
-use Rattle.value_core.proofs.CellsOf.{bare_heads, cells_length, all_cells_length, cells_preorder}
-use Rattle.value_core.proofs.CellsOf.{all_cells_preorder}
+use Rattle.node_core.specs.declared.node.Node.{Node}
+use Rattle.node_core.proofs.CellsOf.{bare_heads, cells_length, all_cells_length, cells_preorder}
+use Rattle.node_core.proofs.CellsOf.{all_cells_preorder}
 use Rattle.value_core.proofs.Finished.{heads_text, heads_text-append, text_of_preorder}
 use Rattle.value_core.proofs.Finished.{text_of_all_preorder, text_of_entries}
 use Rattle.value_core.proofs.OwnBytes.{spine_bytes}

@@ -7,17 +7,17 @@ use Rattle.std.proofs.lemmas.List.{length-map}
 use Rattle.registry_core.specs.declared.type_info.TypeInfo.{TypeInfo}
 use Rattle.grammar_core.specs.Parts.{Part, times, first_of}
 use Rattle.grammar_core.specs.Cells.{Cell}
-use Rattle.value_core.specs.Shown.{cell_shown, cells_shown, head_shown, size_shown, closed_as}
-use Rattle.value_core.specs.Shown.{kept_bytes, all_kept, IsInPool, AreInPool}
+use Rattle.node_core.specs.Shown.{cell_shown, cells_shown, head_shown, size_shown, closed_as}
+use Rattle.node_core.specs.Shown.{kept_bytes, all_kept, IsInPool, AreInPool}
 use Rattle.value_core.specs.Spine.{OpenNode, open_part, Spine}
 use Rattle.value_core.specs.Walked.{OpenPart, Walked, Closes, advanced, advanced_in, opened}
 use Rattle.value_core.specs.Built.{IsSettled, closings, entries_shown, entries_text_bytes}
 use Rattle.value_core.specs.Built.{settled_in, settled_walk}
 use Rattle.value_core.specs.Building.{IsBuilding, IsPaid, AreBuilt, Settles, pieces_shown}
 use Rattle.value_core.specs.declared.open_run.OpenRun.{OpenRun}
-use Rattle.value_core.specs.declared.node.Content.{Content}
-use Rattle.value_core.specs.declared.node.Content.TheVariants as content
-use Rattle.value_core.specs.declared.node.Node.{Node}
+use Rattle.node_core.specs.declared.node.Content.{Content}
+use Rattle.node_core.specs.declared.node.Content.TheVariants as content
+use Rattle.node_core.specs.declared.node.Node.{Node}
 use Rattle.value_core.proofs.Spines.{Closed, is_cons, node_closed}
 
 abbrev with_size : Node → ℕ → Node

@@ -9,16 +9,16 @@ use Rattle.grammar_core.specs.Tree.{Tree, Trees, none, and, text_bytes, all_text
 use Rattle.grammar_core.specs.Preorder.{Head, preorder, all_preorder}
 use Rattle.grammar_core.specs.Parts.{times, first_of}
 use Rattle.grammar_core.specs.Cells.{Cell, cells}
-use Rattle.value_core.specs.Shown.{seen, cells_shown, tree_shown, type_shown, head_shown, all_kept}
-use Rattle.value_core.specs.Shown.{IsWhole}
+use Rattle.node_core.specs.Shown.{seen, cells_shown, tree_shown, type_shown, head_shown, all_kept}
+use Rattle.node_core.specs.Shown.{IsWhole}
 use Rattle.value_core.specs.Spine.{OpenNode, Spine}
 use Rattle.value_core.specs.Walked.{OpenPart, Walked}
 use Rattle.value_core.specs.Built.{Entry, Pieces, entries_shown, head_text_bytes}
 use Rattle.value_core.specs.Built.{entries_text_bytes, finished}
 use Rattle.value_core.specs.Building.{IsBuilding}
 use Rattle.value_core.specs.Refusals.{is_whole_in}
-use Rattle.value_core.specs.declared.node.Node.{Node}
-use Rattle.value_core.proofs.CellsOf.{bare_heads, cells_preorder, seen_is}
+use Rattle.node_core.specs.declared.node.Node.{Node}
+use Rattle.node_core.proofs.CellsOf.{bare_heads, cells_preorder, seen_is}
 use Rattle.value_core.proofs.Spines.{spine_length, spine_is_whole}
 
 -- the bytes of text of these nodes

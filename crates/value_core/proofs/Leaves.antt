@@ -6,14 +6,14 @@ use Rattle.std.proofs.lemmas.Option.{same_Some}
 use Rattle.registry_core.specs.declared.type_id.TypeId.{TypeId}
 use Rattle.value_core.specs.Built.{IsNextLeaf, head_text_bytes, entries_shown, entries_text_bytes}
 use Rattle.value_core.specs.Building.{IsBuilding, IsPaid}
-use Rattle.value_core.specs.Leaves.{leaf_head, leaf_text_bytes, FitsLeaf, IsAppended}
-use Rattle.value_core.specs.Shown.{head_shown, kept_bytes, all_kept, IsInPool}
+use Rattle.node_core.specs.Leaves.{leaf_head, leaf_text_bytes, FitsLeaf, IsAppended}
+use Rattle.node_core.specs.Shown.{head_shown, kept_bytes, all_kept, IsInPool}
 use Rattle.value_core.specs.Walked.{Walked, advanced, next_type}
-use Rattle.value_core.specs.declared.leaf.Leaf.{Leaf}
-use Rattle.value_core.specs.declared.leaf.Leaf.TheVariants as leaf
-use Rattle.value_core.specs.declared.node.Content.{Content}
-use Rattle.value_core.specs.declared.node.Content.TheVariants as content
-use Rattle.value_core.specs.declared.node.Node.{Node}
+use Rattle.node_core.specs.declared.leaf.Leaf.{Leaf}
+use Rattle.node_core.specs.declared.leaf.Leaf.TheVariants as leaf
+use Rattle.node_core.specs.declared.node.Content.{Content}
+use Rattle.node_core.specs.declared.node.Content.TheVariants as content
+use Rattle.node_core.specs.declared.node.Node.{Node}
 use Rattle.value_core.proofs.Adding.{leaf_added, entries_added}
 use Rattle.value_core.proofs.Closing.{leaf_paid}
 

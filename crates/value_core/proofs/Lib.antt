@@ -1,8 +1,6 @@
 pub mod Adding
 pub mod Ahead
 pub mod Begun
-pub mod Below
-pub mod CellsOf
 pub mod Closing
 pub mod Spines
 pub mod RunEnded
@@ -15,6 +13,3 @@ pub mod NextOpen
 pub mod OwnBytes
 pub mod Opened
 pub mod Wanted
-pub mod Words
-pub mod SpelledNodes
-pub mod SpelledParts

@@ -20,7 +20,7 @@ use Rattle.value_core.specs.Spine.{OpenNode, open_cells, IsOpenAs, Spine, IsFiel
 use Rattle.value_core.specs.Spine.{IsListOpen}
 use Rattle.grammar_core.specs.Cells.{part_of}
 use Rattle.value_core.specs.Walked.{OpenPart}
-use Rattle.value_core.proofs.Below.{arm_part_is}
+use Rattle.node_core.proofs.Below.{arm_part_is}
 use Rattle.value_core.proofs.Spines.{list_part_is}
 
 -- the children that are there go by the types in front

@@ -16,8 +16,8 @@ use Rattle.value_core.specs.Building.{run_content_of}
 use Rattle.value_core.specs.Built.{FitsKind, head_text_bytes}
 use Rattle.value_core.specs.Refusals.{missing_at, bad_bytes, bad_text}
 use Rattle.value_core.specs.Walked.{Walked, advanced, next_type, next_of}
-use Rattle.value_core.specs.Shown.{IsInPool, all_kept, head_shown, kept_bytes}
-use Rattle.value_core.specs.declared.node.Node.{Node}
+use Rattle.node_core.specs.Shown.{IsInPool, all_kept, head_shown, kept_bytes}
+use Rattle.node_core.specs.declared.node.Node.{Node}
 use Rattle.value_core.specs.declared.open_run.OpenRun.{OpenRun}
 use Rattle.value_core.proofs.Adding.{leaf_added, open_whole}
 use Rattle.value_core.proofs.NextLeaf.{run_next}

@@ -18,8 +18,8 @@ use Rattle.value_core.specs.Walked.{OpenPart}
 use Rattle.value_core.specs.Spine.{OpenNode, open_cell, open_cells, IsFieldsOpen, IsArmOpen}
 use Rattle.value_core.specs.Spine.{IsListOpen, IsOpenAs, IsOpen, open_part, Spine}
 use Rattle.grammar_core.specs.Cells.{part_of}
-use Rattle.value_core.proofs.Below.{arm_part_is}
-use Rattle.value_core.proofs.CellsOf.{all_cells_length}
+use Rattle.node_core.proofs.Below.{arm_part_is}
+use Rattle.node_core.proofs.CellsOf.{all_cells_length}
 
 -- one more child
 abbrev pub snoc : Trees → Tree → Trees

@@ -4,17 +4,17 @@ use Rattle.std.specs.Prelude.{option_map}
 use Rattle.scale_core.specs.Number.{AreBytes}
 use Rattle.value_core.specs.Built.{FitsKind, Pieces, entries_shown, entries_text_bytes}
 use Rattle.value_core.specs.Built.{settled_walk}
-use Rattle.value_core.specs.Shown.{cells_shown, AreInPool, all_kept}
+use Rattle.node_core.specs.Shown.{cells_shown, AreInPool, all_kept}
 use Rattle.value_core.specs.Spine.{OpenNode, Spine}
 use Rattle.value_core.specs.Walked.{Walked, next_of}
 use Rattle.grammar_core.specs.Runs.{run_form}
 use Rattle.grammar_core.specs.declared.form.Next.TheVariants as next
-use Rattle.value_core.specs.declared.node.Node.{Node}
+use Rattle.node_core.specs.declared.node.Node.{Node}
 use Rattle.widths_core.specs.declared.run_kind.RunKind.{RunKind}
 use Rattle.widths_core.specs.declared.run_kind.RunKind.TheVariants as kind
 use Rattle.value_core.specs.declared.open_run.OpenRun.{OpenRun}
-use Rattle.value_core.specs.declared.node.Content.{Content}
-use Rattle.value_core.specs.declared.node.Content.TheVariants as content
+use Rattle.node_core.specs.declared.node.Content.{Content}
+use Rattle.node_core.specs.declared.node.Content.TheVariants as content
 
 pub record IsBuilding (ty : ℕ) (w : Walked) (pool : List ℕ) (ns : List Node) (text_len : ℕ) : Type 0
   where

@@ -21,10 +21,10 @@ use Rattle.grammar_core.specs.Parts.{Part, each, first_of, how_many_left}
 use Rattle.grammar_core.specs.Preorder as head
 use Rattle.grammar_core.specs.Tree as tree
 use Rattle.grammar_core.specs.Preorder.{Head, tree_with, tree_of}
-use Rattle.value_core.specs.Shown.{Seen, head_shown}
+use Rattle.node_core.specs.Shown.{Seen, head_shown}
 use Rattle.value_core.specs.Spine.{IsOpenAs}
 use Rattle.value_core.specs.Walked.{OpenPart, Walked, next_of, next_type, advanced, opened}
-use Rattle.value_core.specs.declared.node.Node.{Node}
+use Rattle.node_core.specs.declared.node.Node.{Node}
 
 -- a node with its type
 pub record Entry : Type 0 where

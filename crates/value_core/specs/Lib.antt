@@ -2,12 +2,8 @@ pub mod Ahead
 pub mod Begun
 pub mod Building
 pub mod Built
-pub mod Encoding
 pub mod Frames
-pub mod Leaves
 pub mod Opened
 pub mod Refusals
-pub mod Shown
 pub mod Spine
 pub mod Walked
-pub mod Whats

@@ -23,7 +23,7 @@ use Rattle.grammar_core.specs.declared.form.StopReason.TheVariants as stop
 use Rattle.widths_core.specs.declared.run_kind.RunKind.{RunKind}
 use Rattle.widths_core.specs.declared.run_kind.RunKind.TheVariants as kind
 use Rattle.value_core.specs.Built.{Built, Pieces, arm_in, next_layout}
-use Rattle.value_core.specs.Shown.{Seen}
+use Rattle.node_core.specs.Shown.{Seen}
 use Rattle.value_core.specs.Walked.{OpenPart, next_of}
 use Rattle.value_core.specs.declared.build_fault.BuildFault.{BuildFault}
 use Rattle.value_core.specs.declared.build_fault.BuildFault.TheVariants as fault

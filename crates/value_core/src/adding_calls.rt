@@ -11,8 +11,8 @@ ghost use Rattle.value_core.specs.Refusals.{suits_count, suits_fields, suits_lis
 
 use crate::build_fault::BuildFault;
 use crate::builder::Builder;
-use crate::leaf::Leaf;
 use grammar_core::Form;
+use node_core::Leaf;
 use registry_core::{IntegerWidth, Primitive, PrimitiveKind};
 use std::alloc::Allocator;
 

@@ -10,22 +10,19 @@ ghost use Rattle.value_core.specs.Built.{settled_walk, with_leaf, with_open, wit
 ghost use Rattle.value_core.specs.Built.{with_run_ended, with_run_opened, FitsKind, IsNextLeaf};
 ghost use Rattle.value_core.specs.Built.{IsNextOpen};
 ghost use Rattle.value_core.specs.Frames.{left_of};
-ghost use Rattle.value_core.specs.Shown.{head_shown, size_shown};
+ghost use Rattle.node_core.specs.Shown.{head_shown, size_shown};
 ghost use Rattle.value_core.specs.Refusals.{Finishes, Opens, IsRunWhole, bad_text, missing_of};
 ghost use Rattle.value_core.specs.Refusals.{other_fault, wanted_of, is_whole, build_opening_fault};
 ghost use Rattle.value_core.specs.Walked.{advanced, next_of, opened, start_of};
-ghost use Rattle.value_core.specs.Leaves.{leaf_head, FitsLeaf, IsAppended};
+ghost use Rattle.node_core.specs.Leaves.{leaf_head, FitsLeaf, IsAppended};
 
 use crate::build_fault::BuildFault;
-use crate::leaf::Leaf;
 use crate::left::Left;
-use crate::node::{Content, Node};
 use crate::open_run::OpenRun;
-use crate::room::make_room;
-use crate::value::Value;
 use crate::walk::Walk;
 use count_core::Count;
 use grammar_core::{Form, MAX_DEPTH, Next, RunKind};
+use node_core::{Content, Leaf, Node, Value, make_room};
 use registry_core::TypeId;
 use simdutf8::compat::from_utf8;
 use std::alloc::{AllocError, Allocator};
@@ -47,7 +44,7 @@ pub struct Builder<'r, A: Allocator> {
 impl<'r, A: Allocator> Model for Builder<'r, A> {
     ghost use Rattle.value_core.specs.Built.{Built, IsSettled, entries_shown};
     ghost use Rattle.value_core.specs.Building.{IsBuilding, IsOpenRun, IsPaid, pieces_shown};
-    ghost use Rattle.value_core.specs.Shown.{all_kept};
+    ghost use Rattle.node_core.specs.Shown.{all_kept};
 
     ghost Value = { Built };
 

@@ -3,7 +3,7 @@
 ghost use Rattle.std.specs.Prelude.{◌≡◌};
 ghost use Rattle.value_core.specs.Building.{run_content};
 
-use crate::node::Content;
+use node_core::Content;
 use widths_core::RunKind;
 
 /// A text or a run of bytes that comes in pieces: which it is, where its bytes begin in the pool, and how many it is to

@@ -6,8 +6,8 @@ ghost use Rattle.value_core.specs.Opened.{IsListNext};
 ghost use Rattle.value_core.specs.Walked.{next_of};
 
 use crate::builder::Builder;
-use crate::node::Content;
 use grammar_core::{Form, Next};
+use node_core::Content;
 use std::alloc::{AllocError, Allocator};
 
 impl<'r, A: Allocator> Builder<'r, A> {

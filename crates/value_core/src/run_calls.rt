@@ -11,8 +11,8 @@ ghost use Rattle.value_core.specs.Refusals.{suits_bytes_start, suits_text, suits
 
 use crate::build_fault::BuildFault;
 use crate::builder::Builder;
-use crate::leaf::Leaf;
 use grammar_core::{Form, RunKind};
+use node_core::Leaf;
 use registry_core::Primitive;
 use std::alloc::Allocator;
 

@@ -4,7 +4,7 @@ use Rattle.std.proofs.Common.{subst, ◌∙◌, arith, inl, inr}
 use Rattle.std.specs.Prelude.{Result}
 use Rattle.std.proofs.lemmas.List.{append-nil}
 use Rattle.value_core.specs.Built.{Built, finished}
-use Rattle.value_core.specs.Shown.{Seen}
+use Rattle.node_core.specs.Shown.{Seen}
 use Rattle.decode_core.specs.Decoding.{AnswersPiece, Decoding, FinishesDecoder, IsEnded, IsGoing}
 use Rattle.decode_core.specs.Decoding.{IsOf, Led, RunLed, built_tree, first_running}
 use Rattle.decode_core.specs.Machine.{State, start}

@@ -20,10 +20,10 @@ use Rattle.grammar_core.specs.Tree as tree
 use Rattle.grammar_core.specs.declared.form.Next.TheVariants as next
 use Rattle.grammar_core.proofs.Sound.{value_takes}
 use Rattle.value_core.specs.Built.{Built, IsNextLeaf, next_layout, with_leaf}
-use Rattle.value_core.specs.Leaves.{leaf_head}
+use Rattle.node_core.specs.Leaves.{leaf_head}
 use Rattle.value_core.specs.Walked.{next_of}
-use Rattle.value_core.specs.declared.leaf.Leaf.{Leaf}
-use Rattle.value_core.specs.declared.leaf.Leaf.TheVariants as leaf
+use Rattle.node_core.specs.declared.leaf.Leaf.{Leaf}
+use Rattle.node_core.specs.declared.leaf.Leaf.TheVariants as leaf
 use Rattle.value_core.proofs.Forms.{HasForm, wanted}
 use Rattle.decode_core.specs.Needs.{AreOwn, HasBytes, NoRun}
 use Rattle.decode_core.specs.NodeAdds.{AddsNode, IsAdded, IsSpelled}

@@ -9,9 +9,9 @@ use Rattle.registry_core.specs.declared.kind.Signedness.TheVariants as sign
 use Rattle.grammar_core.specs.Preorder as head
 use Rattle.grammar_core.specs.Reading.{as_leaf}
 use Rattle.grammar_core.specs.Tree as tree
-use Rattle.value_core.specs.Leaves.{leaf_head}
-use Rattle.value_core.specs.declared.leaf.Leaf.{Leaf}
-use Rattle.value_core.specs.declared.leaf.Leaf.TheVariants as leaf
+use Rattle.node_core.specs.Leaves.{leaf_head}
+use Rattle.node_core.specs.declared.leaf.Leaf.{Leaf}
+use Rattle.node_core.specs.declared.leaf.Leaf.TheVariants as leaf
 use Rattle.decode_core.specs.Needs.{AreOwn}
 use Rattle.decode_core.specs.NodeForms.{ReadsPlain, form_of_plain}
 use Rattle.decode_core.specs.Reported.{leaf_own}

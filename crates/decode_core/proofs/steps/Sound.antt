@@ -16,7 +16,7 @@ use Rattle.value_core.specs.Built.{pieces_bytes}
 use Rattle.value_core.proofs.Begun.{counts}
 use Rattle.value_core.proofs.Finished.{heads_text}
 use Rattle.decode_core.specs.Bound.{node_bound, value_bound}
-use Rattle.value_core.specs.Shown.{Seen}
+use Rattle.node_core.specs.Shown.{Seen}
 use Rattle.decode_core.specs.Decoding.{FinishesDecoder, IsSmallValue, IsDone, IsSmall, IsWaiting}
 use Rattle.decode_core.specs.Decoding.{RunCounted, RunLed, built_tree, first_running}
 use Rattle.decode_core.specs.Outcome.{Job}

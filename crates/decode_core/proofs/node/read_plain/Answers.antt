@@ -1,5 +1,5 @@
 use Rattle.std.proofs.Common.{Ok, refl, subst, sym}
-use Rattle.value_core.specs.declared.leaf.Leaf.TheVariants as leaf
+use Rattle.node_core.specs.declared.leaf.Leaf.TheVariants as leaf
 use Rattle.decode_core.specs.Needs.{AreOwn}
 use Rattle.decode_core.specs.NodeForms.{ReadsPlain, form_of_plain}
 use Rattle.decode_core.specs.declared.forms.PlainForm.{PlainForm}

@@ -13,7 +13,7 @@ use Rattle.serde_json.specs.Data.{object, member, no_members}
 use Rattle.serde_json.specs.Written.{outline, items_outline, members_outline}
 use Rattle.serde_json.specs.View.{items_of}
 use Rattle.graph_core.specs.Types.{shape}
-use Rattle.value_core.specs.Shown.{children_of}
+use Rattle.node_core.specs.Shown.{children_of}
 use Rattle.json_core.specs.Json.{json_seen, fields_json}
 use Rattle.token_core.specs.Tokens.{prints}
 use Rattle.json_core.specs.Tokens.{data_at, members_at, members_in_order}

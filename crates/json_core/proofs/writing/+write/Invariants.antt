@@ -7,7 +7,7 @@ use Rattle.json.specs.Tree.{items_tokens, members_tokens}
 use Rattle.serde_json.specs.View.{items_of}
 use Rattle.serde_json.specs.Written.{items_outline, members_outline}
 use Rattle.grammar_core.specs.Tree.{nodes}
-use Rattle.value_core.specs.Shown.{children_of}
+use Rattle.node_core.specs.Shown.{children_of}
 use Rattle.json_core.specs.Json.{json_seen}
 use Rattle.json_core.specs.Ordered.{AreNamed, Grows}
 use Rattle.token_core.specs.Tokens.{prints}

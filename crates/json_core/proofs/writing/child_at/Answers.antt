@@ -1,6 +1,6 @@
 use Rattle.std.proofs.Common.{List, ap, sym, ◌∙◌, option_map}
 use Rattle.std.proofs.lemmas.Iterator.Consumers.{nth_from_yields_List, YieldsList-from_first}
-use Rattle.value_core.specs.Shown.{Seen, children_of}
+use Rattle.node_core.specs.Shown.{Seen, children_of}
 use Rattle.json_core.proofs.writing.child_at.Goals as goal
 
 pub returns : goal.returns

@@ -1,6 +1,6 @@
 use Rattle.std.proofs.Common.{rules, ◌+◌, ◌^◌, ◌<◌, length, arith, ◌∙◌, sym, ap, subst, refl}
 use Rattle.value_core.specs.Built.{Built, IsNextLeaf, with_leaf}
-use Rattle.value_core.specs.Leaves.{leaf_head, leaf_text_bytes}
+use Rattle.node_core.specs.Leaves.{leaf_head, leaf_text_bytes}
 use Rattle.value_core.proofs.Closing.{none_open, settled_again, settled_paid}
 use Rattle.value_core.proofs.Leaves.{leaf_appended, text_short, texts_kept}
 use Rattle.value_core.proofs.builder.Builder.add_leaf.Goals as goal

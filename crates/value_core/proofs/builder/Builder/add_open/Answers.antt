@@ -2,8 +2,8 @@ use Rattle.std.proofs.Common.{◌≡◌, ◌∙◌, sym, ap, subst, [], length}
 use Rattle.std.proofs.lemmas.Option.{same_Some}
 use Rattle.value_core.specs.Built.{Built, IsNextOpen}
 use Rattle.value_core.specs.Frames.{left_of}
-use Rattle.value_core.specs.Shown.{head_shown}
-use Rattle.value_core.specs.declared.node.Node.{Node}
+use Rattle.node_core.specs.Shown.{head_shown}
+use Rattle.node_core.specs.declared.node.Node.{Node}
 use Rattle.value_core.proofs.Adding.{open_added}
 use Rattle.value_core.proofs.Closing.{none_open, open_paid, settled_again, settled_paid}
 use Rattle.value_core.proofs.builder.Builder.add_open.Goals as goal

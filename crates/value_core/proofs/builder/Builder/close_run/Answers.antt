@@ -2,7 +2,7 @@ use Rattle.std.proofs.Common.{rules, ◌≡◌, ◌+◌, ◌^◌, ◌<◌, lengt
 use Rattle.value_core.specs.Built.{Built}
 use Rattle.value_core.specs.Building.{IsOpenRun}
 use Rattle.value_core.specs.Refusals.{IsRunWhole, bad_text}
-use Rattle.value_core.specs.Shown.{all_kept}
+use Rattle.node_core.specs.Shown.{all_kept}
 use Rattle.value_core.proofs.Closing.{leaf_paid, settled_again, settled_paid}
 use Rattle.value_core.proofs.Leaves.{texts_kept}
 use Rattle.value_core.proofs.RunEnded.{run_ended}

@@ -3,7 +3,7 @@ use Rattle.std.specs.Prelude.{IfOk}
 use Rattle.scale_core.proofs.ReadForms.{are_bytes}
 use Rattle.value_core.specs.Built.{Built, with_piece}
 use Rattle.value_core.specs.Refusals.{missing_of}
-use Rattle.value_core.specs.Shown.{all_kept}
+use Rattle.node_core.specs.Shown.{all_kept}
 use Rattle.value_core.proofs.Adding.{bytes_added, open_longer, longer_entries}
 use Rattle.value_core.proofs.builder.Builder.extend_run.Goals as goal
 

@@ -1,7 +1,7 @@
 use Rattle.std.proofs.Common.{rules, ◌+◌, ◌-◌, ◌^◌, ◌<◌, length, ap, subst, arith}
 use Rattle.value_core.specs.Begun.{IsBegun}
 use Rattle.value_core.specs.Building.{IsOpenRun, pieces_shown}
-use Rattle.value_core.specs.Shown.{all_kept}
+use Rattle.node_core.specs.Shown.{all_kept}
 use Rattle.value_core.proofs.Begun.{is_begun}
 use Rattle.value_core.proofs.Leaves.{texts_kept}
 use Rattle.value_core.proofs.builder.Builder.text_bytes.Goals as goal

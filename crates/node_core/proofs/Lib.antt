@@ -1,0 +1,5 @@
+pub mod Below
+pub mod CellsOf
+pub mod SpelledNodes
+pub mod SpelledParts
+pub mod Words

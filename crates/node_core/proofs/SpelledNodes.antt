@@ -1,0 +1,179 @@
+-- The bytes of a node as it is kept: what is computed, and after it what lies in the pool.
+use Rattle.std.proofs.Common.{◌≡◌, ℕ, ◌+◌, ◌-◌, ◌*◌, ◌^◌, ◌≤◌, ◌<◌, Bool, true, false, cond, List}
+use Rattle.std.proofs.Common.{[], ◌∷◌, ◌++◌, length, take, drop, Option, refl, sym, ap, subst, ◌∙◌}
+use Rattle.std.proofs.Common.{arith}
+use Rattle.std.specs.Prelude.{ℤ, pos, negsuc, neg_ℤ, nat_lt, slice_set, slice_range}
+use mir.Val.{bool_byte as byte_of}
+use Rattle.std.specs.Int.{w32, w128, cast_unsigned, to_le_bytes}
+use Rattle.std.proofs.lemmas.List.{append-nil, take_at, length-take, length-drop}
+use Rattle.scale_core.specs.Compact.{compact}
+use Rattle.scale_core.specs.Number.{le_bytes, bool_byte}
+use Rattle.scale_core.proofs.Numbers.{length-le_bytes, neg-pos}
+use Rattle.scale_core.proofs.Fronts.{take-to_le_bytes_16, to_le_bytes_4}
+use Rattle.registry_core.specs.declared.definition.TypeDef.{TypeDef}
+use Rattle.grammar_core.specs.Spelled.{width_of, word, index_of, index_byte, length_bytes}
+use Rattle.node_core.specs.Shown.{signed_from, long_shown, kept_bytes}
+use Rattle.node_core.specs.Encoding.{Starts, pool_bytes}
+use Rattle.node_core.specs.declared.node.Content.{Content}
+use Rattle.node_core.specs.declared.node.Content.TheVariants as is
+
+-- ---- what is put at the front of an array
+
+-- where a byte was put at the front of an array, it is what this front of one byte has
+pub one_front : (out : List ℕ) (x : ℕ) → 0 < length out → take 1 (slice_set out 0 x) ≡ x ∷ []
+one_front [] x h = absurd (omega arith)
+one_front (y ∷ out) x h = refl
+
+-- where a compact spelling was put over the front of an array, it is what this front has
+pub compact_front : (out old : List ℕ) (n k x : ℕ) → k ≡ length (compact n) →
+    out ≡ compact n ++ drop k old → n ≡ x → take k out ≡ compact x
+compact_front out old n k x len e same = ap (take k) e
+    ∙ take_at (compact n) (drop k old) k (sym len) ∙ ap compact same
+
+-- the first k of a number's sixteen bytes, at the front of an array, are the number in k bytes
+pub integer_front : (part back spelled : List ℕ) (k n : ℕ) → k ≤ 16 → part ≡ take k spelled →
+    spelled ≡ to_le_bytes w128 n → take k (part ++ back) ≡ le_bytes k n
+integer_front part back spelled k n small front all =
+    let is : part ≡ le_bytes k n = front ∙ ap (take k) all ∙ take-to_le_bytes_16 k n small in
+    take_at part back k (ap length is ∙ length-le_bytes k n) ∙ is
+
+-- a character's four bytes, at the front of an array, are the number in four bytes
+pub char_front : (part back spelled : List ℕ) (n x : ℕ) → part ≡ spelled →
+    spelled ≡ to_le_bytes w32 n → n ≡ x → take 4 (part ++ back) ≡ le_bytes 4 x
+char_front part back spelled n x front all same =
+    let is : part ≡ le_bytes 4 x = front ∙ all ∙ to_le_bytes_4 n ∙ ap (le_bytes 4) same in
+    take_at part back 4 (ap length is) ∙ is
+
+-- ---- an integer in two's complement
+
+-- a number below 2^128 is the word of the integer that it stands for, on either side of 0
+word_by : (n : ℕ) (b : Bool) → n < 2 ^ 128 → word (cond b (pos n) (neg_ℤ (pos (2 ^ 128 - n)))) ≡ n
+word_by n true h = refl
+word_by n false h = ap word (neg-pos (2 ^ 128 - n) (omega arith)) ∙ omega arith
+
+-- a number below 2^128 is the word of the integer that it stands for
+pub word-signed_from : (n : ℕ) → n < 2 ^ 128 → word (signed_from n) ≡ n
+word-signed_from n h = word_by n (nat_lt (2 * n) (2 ^ 128)) h
+
+-- an integer cast to 128 bits without sign is its word
+word-of : (z : ℤ) → cast_unsigned w128 z ≡ word z
+word-of (pos n) = refl
+word-of (negsuc m) = refl
+
+-- ---- each kind of node
+
+-- what stands in front of a node's bytes in the pool stays so where the content is an equal one
+pub starts_as : (f : List ℕ) (d : Option TypeDef) (pool : List ℕ) (k : ℕ) (c e : Content) →
+    c ≡ e → Starts f d pool k e → Starts f d pool k c
+starts_as f d pool k c e is h = subst (Starts f d pool k) (sym is) h
+
+-- the byte that is written for a boolean is the one that spells it
+byte-of : (x : Bool) → byte_of x ≡ bool_byte x
+byte-of true = refl
+byte-of false = refl
+
+-- the bytes of a boolean's node are its one byte
+pub starts_bool : (f : List ℕ) (d : Option TypeDef) (pool : List ℕ) (k : ℕ) (x : Bool) →
+    f ≡ byte_of x ∷ [] → Starts f d pool k (is.Bool x)
+starts_bool f d pool k x e = append-nil f ∙ e ∙ ap (λ (b : ℕ). b ∷ []) (byte-of x)
+
+-- the bytes of a character's node are its number in four bytes
+pub starts_char : (f : List ℕ) (d : Option TypeDef) (pool : List ℕ) (k x : ℕ) → f ≡ le_bytes 4 x →
+    Starts f d pool k (is.Char x)
+starts_char f d pool k x e = append-nil f ∙ e
+
+-- the bytes of an unsigned integer's node are the number in as many bytes as the type has
+pub starts_unsigned : (f : List ℕ) (d : Option TypeDef) (pool : List ℕ) (k m n : ℕ) →
+    f ≡ le_bytes (width_of d) m → m ≡ n → Starts f d pool k (is.Unsigned n)
+starts_unsigned f d pool k m n e same = append-nil f ∙ e ∙ ap (le_bytes (width_of d)) same
+
+-- the bytes of a signed integer's node are its word in as many bytes as the type has
+pub starts_signed : (f : List ℕ) (d : Option TypeDef) (pool : List ℕ) (k m : ℕ) (y z : ℤ) →
+    f ≡ le_bytes (width_of d) m → m ≡ cast_unsigned w128 y → y ≡ z →
+    Starts f d pool k (is.Signed z)
+starts_signed f d pool k m y z e cast same = append-nil f ∙ e
+    ∙ ap (le_bytes (width_of d)) (cast ∙ ap (cast_unsigned w128) same ∙ word-of z)
+
+-- the bytes of a compact integer's node are its compact spelling
+pub starts_compact : (f : List ℕ) (d : Option TypeDef) (pool : List ℕ) (k n : ℕ) → f ≡ compact n →
+    Starts f d pool k (is.Compact n)
+starts_compact f d pool k n e = append-nil f ∙ e
+
+-- the bytes of an unsigned integer kept in the pool are it in as many bytes as the type has
+pub starts_long_unsigned : (f : List ℕ) (d : Option TypeDef) (pool : List ℕ) (k start : ℕ) →
+    f ≡ le_bytes (width_of d) (long_shown pool start) → Starts f d pool k (is.LongUnsigned start)
+starts_long_unsigned f d pool k start e = append-nil f ∙ e
+
+-- the bytes of a signed integer kept in the pool are its word in as many bytes as the type has
+pub starts_long_signed : (f : List ℕ) (d : Option TypeDef) (pool : List ℕ) (k m start : ℕ) →
+    m < 2 ^ 128 → f ≡ le_bytes (width_of d) m → m ≡ long_shown pool start →
+    Starts f d pool k (is.LongSigned start)
+starts_long_signed f d pool k m start h e same = append-nil f ∙ e
+    ∙ ap (le_bytes (width_of d)) (sym (word-signed_from m h)
+    ∙ ap (λ (x : ℕ). word (signed_from x)) same)
+
+-- the bytes of a compact integer kept in the pool are its compact spelling
+pub starts_long_compact : (f : List ℕ) (d : Option TypeDef) (pool : List ℕ) (k start : ℕ) →
+    f ≡ compact (long_shown pool start) → Starts f d pool k (is.LongCompact start)
+starts_long_compact f d pool k start e = append-nil f ∙ e
+
+-- the bytes of a count's node are its compact spelling
+pub starts_count : (f : List ℕ) (d : Option TypeDef) (pool : List ℕ) (k n : ℕ) → f ≡ compact n →
+    Starts f d pool k (is.Count n)
+starts_count f d pool k n e = append-nil f ∙ e
+
+-- the bytes of an arm's node are its index
+pub starts_arm : (f : List ℕ) (d : Option TypeDef) (pool : List ℕ) (k q size : ℕ) →
+    f ≡ index_byte (index_of d q) → Starts f d pool k (is.Arm q size)
+starts_arm f d pool k q size e = append-nil f ∙ e
+
+-- the bytes of a list's node are its length, or none for an array
+pub starts_list : (f : List ℕ) (d : Option TypeDef) (pool : List ℕ) (k size : ℕ) →
+    f ≡ length_bytes d k → Starts f d pool k (is.List size)
+starts_list f d pool k size e = append-nil f ∙ e
+
+-- a range that lies within the pool is as long as it says
+length-range : (pool : List ℕ) (start len : ℕ) → start + len ≤ length pool →
+    length (slice_range pool start (start + len)) ≡ len
+length-range pool start len h =
+    omega (
+      arith,
+      length-take (start + len - start) (drop start pool),
+      length-drop {A = ℕ} start pool,
+    )
+
+-- in front of a text's bytes in the pool stands their compact length
+pub starts_text : (f : List ℕ) (d : Option TypeDef) (pool : List ℕ) (k len start : ℕ) →
+    start + len ≤ length pool → f ≡ compact len → Starts f d pool k (is.Text len start)
+starts_text f d pool k len start h e =
+    ap (λ (x : List ℕ). x ++ slice_range pool start (start + len))
+    (e ∙ ap compact (sym (length-range pool start len h)))
+
+-- in front of a run's bytes in the pool stands their length, or nothing for an array
+pub starts_bytes : (f : List ℕ) (d : Option TypeDef) (pool : List ℕ) (k len start : ℕ) →
+    start + len ≤ length pool → f ≡ length_bytes d len → Starts f d pool k (is.Bytes len start)
+starts_bytes f d pool k len start h e =
+    ap (λ (x : List ℕ). x ++ slice_range pool start (start + len))
+    (e ∙ ap (length_bytes d) (sym (length-range pool start len h)))
+
+-- what lies in the pool as it is written is no more than the node keeps there
+pub few_pooled : (pool : List ℕ) (c : Content) → length (pool_bytes pool c) ≤ kept_bytes c
+few_pooled pool (is.Text len start) =
+    omega (arith, length-take (start + len - start) (drop start pool))
+few_pooled pool (is.Bytes len start) =
+    omega (arith, length-take (start + len - start) (drop start pool))
+few_pooled pool (is.Wide start) =
+    omega (arith, length-take (start + 32 - start) (drop start pool))
+few_pooled pool is.Empty = omega arith
+few_pooled pool (is.Bool x) = omega arith
+few_pooled pool (is.Char x) = omega arith
+few_pooled pool (is.Count n) = omega arith
+few_pooled pool (is.Unsigned n) = omega arith
+few_pooled pool (is.Compact n) = omega arith
+few_pooled pool (is.Signed z) = omega arith
+few_pooled pool (is.LongUnsigned start) = omega arith
+few_pooled pool (is.LongCompact start) = omega arith
+few_pooled pool (is.LongSigned start) = omega arith
+few_pooled pool (is.Fields size) = omega arith
+few_pooled pool (is.Arm q size) = omega arith
+few_pooled pool (is.List size) = omega arith

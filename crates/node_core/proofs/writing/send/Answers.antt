@@ -1,0 +1,13 @@
+use Rattle.std.proofs.Common.{rules, arith}
+use Rattle.std.proofs.lemmas.List.{take_rest}
+use Rattle.node_core.proofs.SpelledParts.{appends_next}
+use Rattle.node_core.proofs.writing.send.Goals as goal
+
+pub parts-preserved : goal.parts-preserved
+parts-preserved g c = record {
+  inside = search rules;
+  sent = appends_next _ _ _ c.args.bytes.now _ _ c.parts.invariant.sent
+      (rw (take_rest c.args.bytes.now c.parts.written) at c.in-Ok.ensures.bytes);
+  quiet = search rules;
+  none = λ e. absurd (omega (arith, e, c.parts-test.true));
+}

@@ -1,0 +1,4 @@
+pub mod Encoding
+pub mod Leaves
+pub mod Shown
+pub mod Whats

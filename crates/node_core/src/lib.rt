@@ -1,0 +1,21 @@
+//! The nodes of a value: kept one after the other, looked at, and written.
+#![tactic(auto)]
+
+mod children;
+mod leaf;
+mod node;
+mod node_ref;
+mod pool;
+mod room;
+mod value;
+mod what;
+mod writing;
+
+pub use children::Children;
+pub use leaf::Leaf;
+pub use node::{Content, NODE_BYTES, Node};
+pub use node_ref::NodeRef;
+pub use room::make_room;
+pub use value::Value;
+pub use what::What;
+pub use writing::{WriteFault, encode, send};

@@ -1,0 +1,48 @@
+//! Texts, runs of bytes and long integers in the pool of bytes beside a value's nodes.
+
+ghost use Rattle.std.specs.Prelude.{◌≡◌, ◌<◌, ◌≤◌, ◌+◌, ◌^◌, ◌++◌, length, IfOk, IfErr};
+ghost use Rattle.std.specs.Int.{w128, to_le_bytes};
+ghost use Rattle.node_core.specs.Shown.{long_shown};
+
+use crate::room::make_room;
+use std::alloc::{AllocError, Allocator};
+
+/// Appends the bytes of a text or of a run: how many they are. Where memory is refused nothing changes.
+#[inline(always)]
+pub(crate) fn put_run<A: Allocator>(pool: &mut Vec<u8, A>, bytes: &[u8]) -> Result<u32, AllocError>
+    requires { length bytes.now < 2 ^ 32 }
+    ensures len { IfOk result (λ len. len ≡ length bytes.now) }
+    ensures ok { IfOk result (λ _. pool.new.items ≡ pool.old.items ++ bytes.now) }
+    ensures err { IfErr result (λ _. pool.new.items ≡ pool.old.items) }
+{
+    pool.extend_from_slice(bytes)?;
+    Ok(bytes.len() as u32)
+}
+
+/// Appends the sixteen bytes of an integer, the lowest first: its place. Where memory is refused nothing changes.
+#[inline(never)]
+pub(crate) fn put_long<A: Allocator>(
+    pool: &mut Vec<u8, A>,
+    number: u128,
+) -> Result<usize, AllocError>
+    ensures place { IfOk result (λ start. start ≡ length pool.old.items) }
+    ensures ok { IfOk result (λ _. pool.new.items ≡ pool.old.items ++ to_le_bytes w128 number) }
+    ensures err { IfErr result (λ _. pool.new.items ≡ pool.old.items) }
+{
+    let start = pool.as_slice().len();
+    let bytes = number.to_le_bytes();
+    make_room(pool, bytes.len())?;
+    pool.extend_from_slice(&bytes)?;
+    Ok(start)
+}
+
+/// The integer whose sixteen bytes stand at a place.
+#[inline(never)]
+pub(crate) fn long_at(pool: &[u8], start: usize) -> u128
+    requires { start + 16 ≤ length pool.now }
+    ensures { result ≡ long_shown pool.now start }
+{
+    let mut bytes = [0; 16];
+    bytes.copy_from_slice(&pool[start..start + 16]);
+    u128::from_le_bytes(bytes)
+}

@@ -1,0 +1,39 @@
+//! Room for the nodes of a value, and for the bytes beside them.
+
+ghost use Rattle.std.specs.Prelude.{◌≡◌, ◌≤◌, ◌+◌, ◌/◌, max, OnOk, vec_len, vec_capacity};
+
+use std::alloc::{AllocError, Allocator};
+
+/// So many have room at first: a small value asks for its nodes once.
+const FIRST: usize = 16;
+
+/// Makes room for so many more elements of a list, where there is none: for half as many more as it has, or for as many as are
+/// wanted, and for 16 at first.
+///
+/// Refuses want of memory. The list keeps its elements in either case.
+#[inline(always)]
+pub fn make_room<T, A: Allocator>(list: &mut Vec<T, A>, more: usize) -> Result<(), AllocError>
+    ensures items { list.new.items ≡ list.old.items }
+    ensures room { OnOk result (vec_len list.new + more ≤ vec_capacity list.new) }
+    ensures half { vec_capacity list.new ≤ max (vec_capacity list.old)
+        (vec_len list.old + max more (max FIRST (vec_len list.old / 2))) }
+{
+    if more <= list.capacity() - list.len() {
+        return Ok(());
+    }
+    grow(list, more)
+}
+
+/// Room for half as many more as there are, or for as many as are wanted. By doubling a value would keep up to as much
+/// room to spare as it takes.
+#[cold]
+#[inline(never)]
+fn grow<T, A: Allocator>(list: &mut Vec<T, A>, more: usize) -> Result<(), AllocError>
+    ensures items { list.new.items ≡ list.old.items }
+    ensures room { OnOk result (vec_len list.new + more ≤ vec_capacity list.new) }
+    ensures half { vec_capacity list.new ≤ max (vec_capacity list.old)
+        (vec_len list.old + max more (max FIRST (vec_len list.old / 2))) }
+{
+    let half = list.len() / 2;
+    list.reserve_exact(more.max(half.max(FIRST)))
+}

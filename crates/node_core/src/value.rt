@@ -1,0 +1,100 @@
+//! A finished value.
+
+ghost use Rattle.std.specs.Prelude.{◌≡◌, ◌≤◌, length};
+ghost use Rattle.grammar_core.specs.Tree.{nodes, text_bytes};
+ghost use Rattle.node_core.specs.Shown.{IsValue, IsWhole, all_kept, seen, tree_shown};
+
+use crate::node::Node;
+use crate::node_ref::NodeRef;
+use std::alloc::Allocator;
+use std::marker::Model;
+use widths_core::Checked;
+
+/// A value of a type of a checked registry: a flat list of its nodes, each before its children, and a pool of the bytes
+/// of its texts, runs of bytes, and integers that do not fit 64 bits. A node takes `NODE_BYTES` bytes of memory.
+#[derive(Drop)]
+pub struct Value<'r, A: Allocator> {
+    checked: &'r Checked,
+    nodes: Vec<Node, A>,
+    pool: Vec<u8, A>,
+    text_len: usize,
+}
+
+impl<'r, A: Allocator> Model for Value<'r, A> {
+    ghost use Rattle.std.specs.Coded.{codes};
+    ghost use Rattle.std.specs.Prelude.{◌≡◌, ◌≤◌, length};
+    ghost use Rattle.grammar_core.specs.Tree.{text_bytes};
+    ghost use Rattle.grammar_core.specs.Preorder.{tree_code};
+    ghost use Rattle.node_core.specs.Shown.{Seen, seen, tree_shown, IsWhole, all_kept};
+
+    ghost Value = { Seen };
+
+    ghost coded = { Prim.hlevel (codes, tree_code) };
+
+    ghost view = { λ v. seen v.checked.now.types v.pool.items v.nodes.items };
+
+    ghost invariant = { λ v. IsWhole v.checked.now.types v.pool.items v.nodes.items
+        × (v.text_len ≡ text_bytes (tree_shown v.pool.items v.nodes.items))
+        × (all_kept v.nodes.items ≤ length v.pool.items) };
+}
+
+impl<'r, A: Allocator> Value<'r, A> {
+    /// The value whose nodes these are: all of them, each before its children, with their bytes in the pool, of which the
+    /// texts and runs of bytes have so many. It takes no memory.
+    pub fn new(
+        checked: &'r Checked,
+        nodes: Vec<Node, A>,
+        pool: Vec<u8, A>,
+        text_len: usize,
+    ) -> Value<'r, A>
+        requires whole { IsWhole checked.now.types pool.items nodes.items }
+        requires texts { text_len ≡ text_bytes (tree_shown pool.items nodes.items) }
+        requires fits { all_kept nodes.items ≤ length pool.items }
+        ensures { result ≡ seen checked.now.types pool.items nodes.items }
+    {
+        Value {
+            checked,
+            nodes,
+            pool,
+            text_len,
+        }
+    }
+
+    /// The registry whose type it has, lent.
+    pub fn checked(&self) -> &'r Checked
+        ensures { result.now.types ≡ self.now.types }
+    {
+        self.checked
+    }
+
+    /// The node that holds all others.
+    pub fn root<'v>(&'v self) -> NodeRef<'v, 'r>
+        ensures same { result ≡ self.now }
+        ensures value { IsValue self.now }
+    {
+        NodeRef::new(self.checked, &self.nodes, &self.pool)
+    }
+
+    /// Its nodes, each before its children, and the pool of the bytes of their texts and long integers, lent.
+    pub(crate) fn parts(&self) -> (&[Node], &[u8])
+        ensures whole { IsWhole self.now.types result.1.now result.0.now }
+        ensures same { seen self.now.types result.1.now result.0.now ≡ self.now }
+        ensures fits { all_kept result.0.now ≤ length result.1.now }
+    {
+        (self.nodes.as_slice(), self.pool.as_slice())
+    }
+
+    /// How many nodes it has.
+    pub fn node_count(&self) -> u64
+        ensures { result ≡ nodes self.now.tree }
+    {
+        self.nodes.as_slice().len() as u64
+    }
+
+    /// How many bytes its texts and its runs of bytes have.
+    pub fn text_bytes(&self) -> u64
+        ensures { result ≡ text_bytes self.now.tree }
+    {
+        self.text_len as u64
+    }
+}

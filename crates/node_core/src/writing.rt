@@ -1,0 +1,269 @@
+//! A value's bytes, written to a sink.
+
+ghost use Rattle.std.specs.Prelude.{◌≡◌, ◌≤◌, ◌<◌, ◌+◌, ◌^◌, ◌||◌, [], true, length, take, IfOk};
+ghost use Rattle.std.specs.Prelude.{IfErr, OnOk, is_ok, not};
+ghost use Rattle.std.specs.Io.KnownBytes.{Appends};
+ghost use Rattle.scale_core.specs.Number.{le_bytes};
+ghost use Rattle.graph_core.specs.Types.{shape};
+ghost use Rattle.grammar_core.specs.Spelled.{byte_width, width_of, index_of, index_byte};
+ghost use Rattle.grammar_core.specs.Spelled.{is_sequence, length_bytes};
+ghost use Rattle.node_core.specs.Shown.{IsInPool, kept_bytes};
+ghost use Rattle.node_core.specs.Encoding.{node_bytes, pool_bytes, Starts, encoding, IsEncoding};
+
+use crate::node::{Content, Node};
+use crate::pool::long_at;
+use crate::value::Value;
+use grammar_core::shape;
+use registry_core::{Primitive, PrimitiveKind, TypeDef, TypeId};
+use scale_core::{Sink, SinkFault, put_compact};
+use std::alloc::Allocator;
+use std::io::Write;
+use widths_core::Checked;
+
+/// A write that failed, and how many bytes went out before it.
+#[derive(Clone, Copy, Debug, PartialEq, Eq)]
+pub struct WriteFault {
+    /// What the writer did.
+    pub reason: SinkFault,
+    /// The number of bytes that went out.
+    pub written: u64,
+}
+
+/// How many bytes an integer of at most 128 bits has, and 0 for any other primitive type.
+fn byte_width(primitive: Primitive) -> usize
+    ensures { result ≡ byte_width primitive }
+{
+    match primitive.kind() {
+        PrimitiveKind::Unsigned(width) | PrimitiveKind::Signed(width) => width.bytes(),
+        _ => 0,
+    }
+}
+
+/// The same of a type, and 0 where it is no primitive type.
+fn width_of(checked: &Checked, ty: TypeId) -> usize
+    ensures exact { result ≡ width_of (shape checked.now.types ty.0) }
+    ensures bound { result ≤ 16 }
+{
+    match shape(checked, ty) {
+        Some(TypeDef::Primitive(primitive)) => byte_width(*primitive),
+        _ => 0,
+    }
+}
+
+/// The index of a variant's arm at a position, where there is one.
+fn index_of(checked: &Checked, ty: TypeId, position: u32) -> Option<u8>
+    ensures { result ≡ index_of (shape checked.now.types ty.0) position }
+{
+    match shape(checked, ty) {
+        Some(TypeDef::Variant(arms)) => {
+            let arm = arms.as_slice().get(position as usize)?;
+            Some(arm.index)
+        }
+        _ => None,
+    }
+}
+
+/// Is the type a sequence, whose values begin with their length?
+fn is_sequence(checked: &Checked, ty: TypeId) -> bool
+    ensures { result ≡ is_sequence (shape checked.now.types ty.0) }
+{
+    matches!(shape(checked, ty), Some(TypeDef::Sequence(_)))
+}
+
+/// Puts the low bytes of an integer's sixteen, as many as its type has, at the front of the array: how many they are.
+fn put_integer(checked: &Checked, ty: TypeId, number: u128, out: &mut [u8; 17]) -> usize
+    ensures bound { result ≤ 17 }
+    ensures bytes { take result out.new
+        ≡ le_bytes (width_of (shape checked.now.types ty.0)) number }
+    ensures range { number < 2 ^ 128 }
+{
+    let width = width_of(checked, ty);
+    out[..width].copy_from_slice(&number.to_le_bytes()[..width]);
+    width
+}
+
+/// Puts the index byte of a variant's arm at the front of the array, where the type has an arm at the position: how
+/// many bytes that is.
+fn put_index(checked: &Checked, ty: TypeId, position: u32, out: &mut [u8; 17]) -> usize
+    ensures bound { result ≤ 17 }
+    ensures bytes { take result out.new
+        ≡ index_byte (index_of (shape checked.now.types ty.0) position) }
+{
+    match index_of(checked, ty, position) {
+        Some(index) => {
+            out[0] = index;
+            1
+        }
+        None => 0,
+    }
+}
+
+/// Puts the length of a sequence, and nothing for an array, at the front of the array: how many bytes that is.
+fn put_length(checked: &Checked, ty: TypeId, length: u32, out: &mut [u8; 17]) -> usize
+    ensures bound { result ≤ 17 }
+    ensures bytes { take result out.new ≡ length_bytes (shape checked.now.types ty.0) length }
+{
+    if is_sequence(checked, ty) {
+        put_compact(u128::from(length), out)
+    } else {
+        0
+    }
+}
+
+/// Puts the bytes of a node in front of those that lie in the pool as they are at the front of the array: how many they
+/// are.
+fn put_node(checked: &Checked, node: &Node, pool: &[u8], out: &mut [u8; 17]) -> usize
+    requires { IsInPool pool.now node.now.content }
+    ensures bound { result ≤ 17 }
+    ensures bytes { Starts (take result out.new) (shape checked.now.types node.now.ty.0) pool.now
+        node.now.children node.now.content }
+{
+    match node.content {
+        Content::Empty | Content::Fields { .. } | Content::Wide { .. } => 0,
+        Content::Bool(x) => {
+            out[0] = u8::from(x);
+            1
+        }
+        Content::Char(x) => {
+            out[..4].copy_from_slice(&u32::from(x).to_le_bytes());
+            4
+        }
+        Content::Text { len, .. } => put_compact(u128::from(len), out),
+        Content::Bytes { len, .. } => put_length(checked, node.ty, len, out),
+        Content::Unsigned(x) => put_integer(checked, node.ty, u128::from(x), out),
+        Content::Compact(x) => put_compact(u128::from(x), out),
+        Content::Signed(x) => put_integer(checked, node.ty, i128::from(x).cast_unsigned(), out),
+        Content::LongUnsigned { start } => {
+            put_integer(checked, node.ty, long_at(pool, start), out)
+        }
+        Content::LongCompact { start } => put_compact(long_at(pool, start), out),
+        Content::LongSigned { start } => put_integer(checked, node.ty, long_at(pool, start), out),
+        Content::Arm { position, .. } => put_index(checked, node.ty, position, out),
+        Content::List { .. } => put_length(checked, node.ty, node.children, out),
+        Content::Count(count) => put_compact(u128::from(count), out),
+    }
+}
+
+/// The bytes of a node that lie in the pool as they are written.
+fn pooled<'v>(node: &Node, pool: &'v [u8]) -> &'v [u8]
+    requires { IsInPool pool.now node.now.content }
+    ensures { result.now ≡ pool_bytes pool.now node.now.content }
+{
+    match node.content {
+        Content::Text { start, len } | Content::Bytes { start, len } => {
+            &pool[start..start + len as usize]
+        }
+        Content::Wide { start } => &pool[start..start + 32],
+        _ => &pool[..0],
+    }
+}
+
+/// Writes all the bytes. Where there are none, no write is made.
+///
+/// Refuses, and reports how many bytes went out in all:
+/// - `Device`, where the writer answers an error; an interrupted write is one;
+/// - `WroteNothing`, where the writer takes no byte of a part that is not empty.
+///
+/// The sink has failed from then on, and what went out is the beginning of the bytes. Where all went out `failed()`
+/// stays as it was.
+pub fn send<W: Write>(sink: &mut Sink<W>, bytes: &[u8]) -> Result<(), WriteFault>
+    ensures ok { OnOk result (Appends (W.contents sink.old.device)
+        (W.contents sink.new.device) bytes.now) }
+    ensures part { IfErr result (λ f. f.written ≤ length bytes.now) }
+    ensures err { IfErr result (λ f. Appends (W.contents sink.old.device)
+        (W.contents sink.new.device) (take f.written bytes.now)) }
+    ensures failed { sink.new.failed ≡ sink.old.failed || not (is_ok result) }
+    ensures none { length bytes.now ≡ 0 → (sink.new ≡ sink.old) × (is_ok result ≡ true) }
+{
+    let mut written = 0;
+    'parts: while written < bytes.len() {
+        match sink.put(&bytes[written..]) {
+            Ok(count) => written += count,
+            Err(reason) => {
+                return Err(WriteFault {
+                    reason,
+                    written: written as u64,
+                });
+            }
+        }
+    }
+    Ok(())
+}
+
+/// Writes the bytes of a node without those of its children: how many they are. Where a write fails, it reports how many
+/// of them went out before.
+fn send_node<W: Write>(
+    checked: &Checked,
+    node: &Node,
+    pool: &[u8],
+    sink: &mut Sink<W>,
+) -> Result<u64, WriteFault>
+    requires { IsInPool pool.now node.now.content }
+    ensures count { IfOk result (λ n. n ≡ length (node_bytes checked.now.types pool.now node.now)) }
+    ensures bound { length (node_bytes checked.now.types pool.now node.now)
+        ≤ 17 + kept_bytes node.now.content }
+    ensures ok { OnOk result (Appends (W.contents sink.old.device) (W.contents sink.new.device)
+        (node_bytes checked.now.types pool.now node.now)) }
+    ensures part { IfErr result
+        (λ f. f.written ≤ length (node_bytes checked.now.types pool.now node.now)) }
+    ensures err { IfErr result
+        (λ f. Appends (W.contents sink.old.device) (W.contents sink.new.device)
+        (take f.written (node_bytes checked.now.types pool.now node.now))) }
+    ensures failed { sink.new.failed ≡ sink.old.failed || not (is_ok result) }
+    ensures none { length (node_bytes checked.now.types pool.now node.now) ≡ 0 →
+        (sink.new ≡ sink.old) × (is_ok result ≡ true) }
+{
+    let mut front = [0; 17];
+    let len = put_node(checked, node, pool, &mut front);
+    send(sink, &front[..len])?;
+    let back = pooled(node, pool);
+    match send(sink, back) {
+        Ok(()) => Ok((len + back.len()) as u64),
+        Err(fault) => Err(WriteFault {
+            reason: fault.reason,
+            written: len as u64 + fault.written,
+        }),
+    }
+}
+
+/// Writes the one spelling of a value, byte for byte (SCALE codec specification): the bytes of each node, in their
+/// order, without recursion. A value that takes no bytes makes no write.
+///
+/// Refuses, and reports how many bytes went out in all:
+/// - `Device`, where the writer answers an error; an interrupted write is one;
+/// - `WroteNothing`, where the writer takes no byte of a part that is not empty.
+///
+/// The sink has failed from then on, and what went out is the beginning of the value's bytes. Where all went out
+/// `failed()` stays as it was. The value stays as it was in either case.
+pub fn encode<A: Allocator, W: Write>(
+    value: &Value<'_, A>,
+    sink: &mut Sink<W>,
+) -> Result<(), WriteFault>
+    // The bytes are those of the value, by the grammar.
+    ensures value { IsEncoding value.now (encoding value.now) }
+    // All of them went out.
+    ensures ok { OnOk result (Appends (W.contents sink.old.device) (W.contents sink.new.device)
+        (encoding value.now)) }
+    // A front of them went out, and as many as is reported.
+    ensures part { IfErr result (λ f. f.written ≤ length (encoding value.now)) }
+    ensures err { IfErr result (λ f. Appends (W.contents sink.old.device)
+        (W.contents sink.new.device) (take f.written (encoding value.now))) }
+    ensures failed { sink.new.failed ≡ sink.old.failed || not (is_ok result) }
+    // Without bytes there is no write.
+    ensures none { encoding value.now ≡ [] → (sink.new ≡ sink.old) × (is_ok result ≡ true) }
+{
+    let (nodes, pool) = value.parts();
+    let mut written: u64 = 0;
+    'nodes: for node in nodes {
+        match send_node(value.checked(), node, pool, sink) {
+            Ok(sent) => written += sent,
+            Err(fault) => {
+                return Err(WriteFault {
+                    reason: fault.reason,
+                    written: written + fault.written,
+                });
+            }
+        }
+    }
+    Ok(())
+}
