@@ -1,7 +1,6 @@
 -- What the command writes for its job.
 use Rattle.std.specs.Prelude.{◌≡◌, ◌≤◌, nat_lt, if◌then◌else◌, ℕ, List, [], ◌∷◌, ◌++◌, length, take}
-use Rattle.std.specs.Prelude.{Option, Some, None, Ok, Err, Bool, true, option_map, option_and_then}
-use Rattle.std.specs.Prelude.{false}
+use Rattle.std.specs.Prelude.{Option, Some, None, Bool, option_map, option_and_then}
 use Rattle.std.specs.Io.KnownBytes.{Appends, Keeps}
 use Rattle.registry_core.specs.declared.type_info.TypeInfo.{TypeInfo}
 use Rattle.scale_calls.specs.Lines.{type_lines, version_line}
