@@ -2,20 +2,22 @@
 //! call.
 
 use crate::sample;
-use json_core::{PrintFault, json_text, print, to_json};
+use json_core::{PrintFault, json_text, json_to_slice, print, to_json};
 use registry_core::{
     Registry, RegistryFault, RegistryReason, Version, read_metadata, read_registry, write_registry,
 };
+use scale_calls::{ValueRefusal, value_text};
 use scale_core::Sink;
 use scale_tool::{Job, JobFault, job};
 use serde_json::Value;
 use std::alloc::Global;
+use value_core::Limits;
 use widths_core::{CheckFault, Checked};
 
 /// The line where neither the right answer nor want of memory came of a call.
 const OTHER: &str = "direct_calls: neither the right answer nor want of memory\n";
 
-/// How many bytes the writer of `print` has room for, more than the text has.
+/// How many bytes `print` and `json_to_slice` have room for, more than the text has.
 const ROOM: usize = 256;
 
 /// The line, where what it says is so.
@@ -51,6 +53,38 @@ pub(crate) fn json_text_line(alloc: Global) -> Option<&'static str> {
     Some(match json_text(alloc, &value) {
         Ok(text) => line_where(text.as_str() == sample::TEXT, "json_text: the whole text\n"),
         Err(_) => "json_text: out of memory\n",
+    })
+}
+
+pub(crate) fn json_to_slice_line(alloc: Global) -> Option<&'static str> {
+    let checked = sample::checked(alloc)?;
+    let value = sample::value(alloc, &checked)?;
+    let mut buffer = [0u8; ROOM];
+    let answer = json_to_slice(alloc, &value, &mut buffer);
+    let text = sample::TEXT.as_bytes();
+    Some(match answer {
+        Ok(len) => line_where(
+            len == text.len() && buffer.starts_with(text),
+            "json_to_slice: the whole text is in front\n",
+        ),
+        Err(_) => line_where(
+            buffer == [0; ROOM],
+            "json_to_slice: out of memory, nothing is written\n",
+        ),
+    })
+}
+
+pub(crate) fn value_text_line(alloc: Global) -> Option<&'static str> {
+    let checked = sample::checked(alloc)?;
+    let limits = Limits::default_limits();
+    let shown = value_text(alloc, &checked, sample::TYPE.0, limits, sample::VALUE);
+    Some(match shown {
+        Ok(text) => line_where(
+            text.as_str() == sample::TEXT,
+            "value_text: the whole text\n",
+        ),
+        Err(ValueRefusal::Memory) => "value_text: out of memory\n",
+        Err(_) => OTHER,
     })
 }
 

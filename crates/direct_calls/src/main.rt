@@ -15,7 +15,7 @@ use std::{env, io};
 use value_core::send;
 
 const USAGE: &str =
-    "usage: direct_calls print | json_text | to_json | Checked::new | read_registry | read_metadata | write_registry | write CALL | job [WORD]..\n";
+    "usage: direct_calls print | json_text | json_to_slice | value_text | to_json | Checked::new | read_registry | read_metadata | write_registry | write CALL | job [WORD]..\n";
 
 /// Why no call was made.
 #[derive(Clone, Copy)]
@@ -52,6 +52,8 @@ fn call(alloc: Global, words: &[&str]) -> Result<Option<&'static str>, NoCall> {
     Ok(match words {
         [_, "print"] => calls::print_line(alloc),
         [_, "json_text"] => calls::json_text_line(alloc),
+        [_, "json_to_slice"] => calls::json_to_slice_line(alloc),
+        [_, "value_text"] => calls::value_text_line(alloc),
         [_, "to_json"] => calls::to_json_line(alloc),
         [_, "Checked::new"] => calls::new_line(alloc),
         [_, "read_registry"] => Some(calls::read_registry_line(alloc)),

@@ -2,6 +2,7 @@ pub mod Children
 pub mod Counts
 pub mod Floats
 pub mod Found
+pub mod InFront
 pub mod Known
 pub mod Members
 pub mod Ordered

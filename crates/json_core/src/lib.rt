@@ -1,4 +1,4 @@
-//! A value as JSON: as a tree of `serde_json`, as its text, and as that text written to a sink.
+//! A value as JSON: as a tree of `serde_json`, as its text, and as that text written to a sink or into memory.
 #![tactic(auto)]
 
 mod byte_run;
@@ -10,8 +10,10 @@ pub mod laws;
 mod names;
 mod nodes;
 mod orders;
+mod placed;
 mod printing;
 mod writing;
 
 pub use nodes::to_json;
+pub use placed::json_to_slice;
 pub use printing::{PrintFault, json_text, print};

@@ -1,7 +1,7 @@
-//! Values as JSON: their trees and texts, and texts printed to writers that fail.
+//! Values as JSON: their trees and texts, in memory with room and without, and printed to writers that fail.
 
 use crate::rows::{FORMS, ORDERS, ROWS, Row};
-use json_core::{PrintFault, json_text, print, to_json};
+use json_core::{PrintFault, json_text, json_to_slice, print, to_json};
 use registry_core::TypeId;
 use scale_core::{Sink, SinkFault};
 use scale_tests::building::{add, checked};
@@ -30,6 +30,34 @@ fn check_text(
     assert!(rt; !sink.failed(), "{name}");
     let printed = sink.into_inner().taken;
     assert_eq!(rt; printed.as_slice(), row.text.as_bytes(), "{name}");
+    Ok(())
+}
+
+/// Memory of each size up to a byte more than the text: the text is put to the front where it has room, and nothing else
+/// changes.
+fn check_slice(
+    rt: &impl Abort,
+    alloc: Global,
+    value: &Value<'_, Global>,
+    text: &[u8],
+) -> Result<(), Fail> {
+    'rooms: for room in 0..text.len() + 2 {
+        let mut out = vec![in alloc; b'.'; room]?;
+        assert_eq!(rt;
+            json_to_slice(alloc, value, &mut out),
+            Ok(text.len()),
+            "{room}"
+        );
+        if room < text.len() {
+            assert!(rt; out.iter().all(|byte| *byte == b'.'), "{room}");
+        } else {
+            assert_eq!(rt; &out[..text.len()], text, "{room}");
+            assert!(rt;
+                out[text.len()..].iter().all(|byte| *byte == b'.'),
+                "{room}"
+            );
+        }
+    }
     Ok(())
 }
 
@@ -72,6 +100,7 @@ fn check_row(rt: &impl Abort, alloc: Global, row: &Row) -> Result<(), Fail> {
         return Err(name)?;
     };
     check_text(rt, alloc, &value, row)?;
+    check_slice(rt, alloc, &value, row.text.as_bytes())?;
     'places: for place in 0..row.text.len() {
         check_place(rt, alloc, &value, row.text.as_bytes(), place);
     }

@@ -1,9 +1,10 @@
 -- What each call does to what is behind its handles, and what it reports.
-use Rattle.std.specs.Prelude.{◌≡◌, ℕ, ◌<◌, ◌≤◌, ◌⊎◌, List, [], ◌++◌, length, drop, Bool, Option}
+use Rattle.std.specs.Prelude.{◌≡◌, ℕ, ◌⊎◌, List, [], ◌++◌, length, Bool, Option}
 use Rattle.std.specs.Prelude.{Some, None, MatchOption, Result, Ok, Err, string_bytes}
 use Rattle.grammar_core.specs.declared.limits.Limits.{Limits}
 use Rattle.node_core.specs.Shown.{Seen}
 use Rattle.json_core.specs.Json.{json_text}
+use Rattle.json_core.specs.Printed.{IsInFront}
 use Rattle.decode_core.specs.Outcome.{Job}
 use Rattle.decode_core.specs.Decoding.{AnswersPiece, Decoding, FinishesDecoder, Led, first_of_all}
 use Rattle.decode_core.specs.Decoding.{opening_fault}
@@ -18,7 +19,8 @@ use Rattle.scale_calls.specs.Values.{ShowsValue}
 use Rattle.scale_calls.specs.declared.refusal.RegistryRefusal.{RegistryRefusal}
 use Rattle.scale_calls.specs.declared.refusal.ValueRefusal.{ValueRefusal}
 use Rattle.scale_calls.specs.declared.refusal.ValueRefusal.TheVariants as value
-use Rattle.scaleview_c.specs.Codes.{counted, plain, progress_answer, registry_answer, value_answer}
+use Rattle.scaleview_c.specs.Codes.{counted, plain, progress_answer, registry_answer, text_answer}
+use Rattle.scaleview_c.specs.Codes.{value_answer}
 use Rattle.scaleview_c.specs.declared.codes.Answer.{Answer}
 use Rattle.scaleview_c.specs.declared.held.Held.{Held}
 use Rattle.scaleview_c.specs.declared.held.Held.TheVariants as held
@@ -29,9 +31,7 @@ use Rattle.scaleview_c.specs.declared.session.Stage.TheVariants as stage
 -- the text stands at the front of what is written to; or it has no room there, and nothing is
 -- written
 abbrev pub Writes : List ℕ → List ℕ → List ℕ → Answer → Type 0
-Writes text old new a = ((length text ≤ length old) × (new ≡ text ++ drop (length text) old)
-    × (a ≡ counted 0 (length text)))
-    ⊎ ((length old < length text) × (new ≡ old) × (a ≡ counted 2 (length text)))
+Writes text old new a = IsInFront text old new × (a ≡ text_answer (length text) (length old))
 
 -- the code alone is reported
 abbrev pub Leaves : List ℕ → List ℕ → Answer → Answer → Type 0

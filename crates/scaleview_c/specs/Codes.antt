@@ -1,5 +1,5 @@
 -- Answers as numbers.
-use Rattle.std.specs.Prelude.{ℕ}
+use Rattle.std.specs.Prelude.{ℕ, nat_le, if◌then◌else◌}
 use Rattle.registry_core.specs.declared.fault.RegistryReason.{RegistryReason}
 use Rattle.registry_core.specs.declared.fault.RegistryReason.TheVariants as registry
 use Rattle.decode_core.specs.declared.fault.DecodeReason.{DecodeReason}
@@ -48,6 +48,10 @@ plain code = record { code = code; from = 0; at = 0; length = 0 }
 
 abbrev pub counted : ℕ → ℕ → Answer
 counted code length = record { code = code; from = 0; at = 0; length = length }
+
+-- a text of so many bytes, and memory with so much room: it stands there, or has no room
+abbrev pub text_answer : ℕ → ℕ → Answer
+text_answer len room = counted (if nat_le len room then 0 else 2) len
 
 abbrev pub refused : ℕ → ℕ → Answer
 refused code at = record { code = code; from = 0; at = at; length = 0 }

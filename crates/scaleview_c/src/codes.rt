@@ -2,7 +2,8 @@
 
 ghost use Rattle.std.specs.Prelude.{◌≡◌};
 ghost use Rattle.scaleview_c.specs.Codes.{counted, plain, progress_answer, refused};
-ghost use Rattle.scaleview_c.specs.Codes.{registry_answer, registry_code, value_answer, value_code};
+ghost use Rattle.scaleview_c.specs.Codes.{registry_answer, registry_code, text_answer};
+ghost use Rattle.scaleview_c.specs.Codes.{value_answer, value_code};
 
 use decode_core::{DecodeReason, Progress};
 use registry_core::RegistryReason;
@@ -99,6 +100,13 @@ impl Answer {
             at: 0,
             length,
         }
+    }
+
+    /// What is reported of a text of so many bytes and memory with so much room: it stands there, or has no room.
+    pub(crate) fn of_text(len: usize, room: usize) -> Answer
+        ensures { result ≡ text_answer len room }
+    {
+        Answer::counted(if len <= room { OK } else { NO_ROOM }, len as u64)
     }
 
     /// A refusal and its place.

@@ -12,7 +12,8 @@ use crate::held::Held;
 use crate::lent::Lent;
 use crate::opened::Opened;
 use crate::text::put;
-use scale_calls::{RegistryRefusal, open_registry, type_line, value_text};
+use json_core::json_to_slice;
+use scale_calls::{RegistryRefusal, ValueRefusal, open_registry, read_value, type_line};
 use std::alloc::Global;
 use std::mem;
 use value_core::Limits;
@@ -126,8 +127,12 @@ fn write_value(
 ) -> Answer
     ensures { WritesJson opened.now id limits bytes.now out.old out.new result }
 {
-    match value_text(alloc, &opened.checked, id, limits, bytes) {
-        Ok(text) => put(out, text.as_bytes()),
+    let room = out.len();
+    match read_value(alloc, &opened.checked, id, limits, bytes) {
+        Ok(value) => match json_to_slice(alloc, &value, out) {
+            Ok(len) => Answer::of_text(len, room),
+            Err(_) => Answer::of_value(ValueRefusal::Memory),
+        },
         Err(refusal) => Answer::of_value(refusal),
     }
 }

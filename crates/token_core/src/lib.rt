@@ -6,5 +6,5 @@ mod places;
 mod plain;
 
 pub use output::Output;
-pub use places::place_hex;
+pub use places::{place_bytes, place_hex};
 pub use plain::is_plain;

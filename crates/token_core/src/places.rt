@@ -1,6 +1,6 @@
 //! Bytes written into a buffer from a place on.
 
-ghost use Rattle.std.specs.Prelude.{◌≡◌, ◌+◌, ◌*◌, ◌≤◌, ◌<◌, [], ◌∷◌, length, cond};
+ghost use Rattle.std.specs.Prelude.{◌≡◌, ◌+◌, ◌*◌, ◌≤◌, ◌<◌, [], ◌∷◌, length, drop, cond};
 ghost use Rattle.std.specs.Fmt.{decimal};
 ghost use Rattle.hex.specs.Hex.{encode_lower};
 ghost use Rattle.json.specs.Filled.{Placed};
@@ -25,11 +25,12 @@ pub(crate) fn place_comma(buffer: &mut [u8], at: usize, wanted: bool) -> usize
     at + usize::from(wanted)
 }
 
-/// These bytes.
+/// These bytes: the place after them. What is after it stays.
 #[inline(always)]
-pub(crate) fn place_bytes(buffer: &mut [u8], at: usize, bytes: &[u8]) -> usize
+pub fn place_bytes(buffer: &mut [u8], at: usize, bytes: &[u8]) -> usize
     requires { at + length bytes.now ≤ length buffer.old }
-    ensures { Placed buffer.old buffer.new at bytes.now result }
+    ensures placed { Placed buffer.old buffer.new at bytes.now result }
+    ensures rest { drop result buffer.new ≡ drop result buffer.old }
 {
     let end = at + bytes.len();
     buffer[at..end].copy_from_slice(bytes);
@@ -37,10 +38,12 @@ pub(crate) fn place_bytes(buffer: &mut [u8], at: usize, bytes: &[u8]) -> usize
 }
 
 /// Two hexadecimal digits, from 0 to 9 and a to f, for each of these bytes, the higher half first: the place after them.
+/// What is after it stays.
 #[inline(always)]
 pub fn place_hex(buffer: &mut [u8], at: usize, bytes: &[u8]) -> usize
     requires { at + 2 * length bytes.now ≤ length buffer.old }
-    ensures { Placed buffer.old buffer.new at (encode_lower bytes.now) result }
+    ensures placed { Placed buffer.old buffer.new at (encode_lower bytes.now) result }
+    ensures rest { drop result buffer.new ≡ drop result buffer.old }
 {
     let end = at + 2 * bytes.len();
     hex::encode_to_slice(bytes, &mut buffer[at..end]).unwrap();

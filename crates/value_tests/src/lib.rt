@@ -1,8 +1,10 @@
-//! Tests of values: what comes next in one, its nodes, and what is written to devices.
+//! Tests of values: what comes next in one, its nodes and how they are kept, and what is written to devices.
 #![tactic(auto)]
 
 #[cfg(test)]
 mod encoder_devices;
+#[cfg(test)]
+mod kept;
 #[cfg(test)]
 mod values;
 #[cfg(test)]

@@ -20,14 +20,14 @@ place_byte-self-inside-requires c =
       c.in_ok-make_room.ensures.ok,
       c.place_comma-at.ensures.moved,
       comma_short c.self.inside.after_value,
-      c.place_bytes-at.ensures.moved,
-      c.place_hex-at.ensures.moved,
+      c.place_bytes-at.ensures.placed.moved,
+      c.place_hex-at.ensures.placed.moved,
       two,
       digits,
       room,
       c.place_comma-at.ensures.len,
-      c.place_bytes-at.ensures.len,
-      c.place_hex-at.ensures.len,
+      c.place_bytes-at.ensures.placed.len,
+      c.place_hex-at.ensures.placed.len,
       ap length c.as_mut_slice-buffer.ensures.value,
     )
 
@@ -36,8 +36,8 @@ invariant_of-self-2 c =
     let old = c.as_mut_slice-buffer.result.now in
     let new = c.place_byte-self-inside.new.buffer in
     let items = c.make_room.new.bytes in
-    let mark = Placed-then c.place_comma-at.ensures c.place_bytes-at.ensures in
-    let digits = Placed-then mark c.place_hex-at.ensures in
+    let mark = Placed-then c.place_comma-at.ensures c.place_bytes-at.ensures.placed in
+    let digits = Placed-then mark c.place_hex-at.ensures.placed in
     let both = Placed-then digits c.place_byte-self-inside.ensures in
     let full : take items.len (new ++ drop (length new) items.items) ≡ new =
     take_at new _ items.len (both.len ∙ c.as_mut_slice-buffer.ensures.len) in
@@ -63,8 +63,8 @@ returns c =
     let items = c.make_room.new.bytes in
     let comma = cond {A = List ℕ} c.self.inside.after_value (44 ∷ []) [] in
     let hex = encode_lower c.args.bytes.now in
-    let mark = Placed-then c.place_comma-at.ensures c.place_bytes-at.ensures in
-    let digits = Placed-then mark c.place_hex-at.ensures in
+    let mark = Placed-then c.place_comma-at.ensures c.place_bytes-at.ensures.placed in
+    let digits = Placed-then mark c.place_hex-at.ensures.placed in
     let both = Placed-then digits c.place_byte-self-inside.ensures in
     let full : take items.len (new ++ drop (length new) items.items) ≡ new =
     take_at new _ items.len (both.len ∙ c.as_mut_slice-buffer.ensures.len) in

@@ -9,7 +9,7 @@ invariant_of-self-2 c =
     let old = c.as_mut_slice-buffer.result.now in
     let new = c.place_bytes-self-inside.new.buffer in
     let items = c.make_room.new.bytes in
-    let both = Placed-then c.place_comma-at.ensures c.place_bytes-self-inside.ensures in
+    let both = Placed-then c.place_comma-at.ensures c.place_bytes-self-inside.ensures.placed in
     let full : take items.len (new ++ drop (length new) items.items) ≡ new =
     take_at new _ items.len (both.len ∙ c.as_mut_slice-buffer.ensures.len) in
     let before : IsUtf8 (take c.self.inside.len old) =

@@ -12,8 +12,8 @@ invariant_of-self-2 c =
     let new = c.place_bytes-self-inside.new.buffer in
     let items = c.make_room.new.bytes in
     let quote = Placed-then c.place_comma-at.ensures c.place_byte-at.ensures in
-    let text = Placed-then quote c.place_bytes-at.ensures in
-    let both = Placed-then text c.place_bytes-self-inside.ensures in
+    let text = Placed-then quote c.place_bytes-at.ensures.placed in
+    let both = Placed-then text c.place_bytes-self-inside.ensures.placed in
     let full : take items.len (new ++ drop (length new) items.items) ≡ new =
     take_at new _ items.len (both.len ∙ c.as_mut_slice-buffer.ensures.len) in
     let before : IsUtf8 (take c.self.inside.len old) =

@@ -1,0 +1,83 @@
+//! A value's JSON text in memory of the caller's.
+
+ghost use Rattle.std.specs.Prelude.{◌≡◌, ◌≤◌, length, IfOk, IfErr};
+ghost use Rattle.json.specs.Print.{escape, quoted};
+ghost use Rattle.json_core.specs.Json.{json_text};
+ghost use Rattle.json_core.specs.Printed.{IsInFront, run_text};
+
+use crate::byte_run::LONGEST;
+use crate::printing::json_text;
+use std::alloc::{AllocError, Allocator, Global};
+use token_core::{is_plain, place_bytes, place_hex};
+use value_core::Value;
+
+/// Copies the bytes to the front, where they have room.
+fn copy_to_front(out: &mut [u8], bytes: &[u8])
+    ensures { IsInFront bytes.now out.old out.new }
+{
+    if bytes.len() <= out.len() {
+        out[..bytes.len()].copy_from_slice(bytes);
+    }
+}
+
+/// Copies a text to the front, between quotes, where that has room: how many bytes it is.
+fn quote_in_front(out: &mut [u8], text: &str) -> usize
+    requires { escape text.now ≡ text.now }
+    ensures len { result ≡ length (quoted text.now) }
+    ensures placed { IsInFront (quoted text.now) out.old out.new }
+{
+    let len = text.len() + 2;
+    if len <= out.len() {
+        let at = place_bytes(out, 0, b"\"");
+        let at = place_bytes(out, at, text.as_bytes());
+        place_bytes(out, at, b"\"");
+    }
+    len
+}
+
+/// Makes a run's text of `0x` and two digits for each byte at the front, where that has room: how many bytes it is.
+fn run_in_front(out: &mut [u8], bytes: &[u8]) -> usize
+    requires { length bytes.now ≤ LONGEST }
+    ensures len { result ≡ length (run_text bytes.now) }
+    ensures placed { IsInFront (run_text bytes.now) out.old out.new }
+{
+    let len = 2 * bytes.len() + 4;
+    if len <= out.len() {
+        let at = place_bytes(out, 0, b"\"0x");
+        let at = place_hex(out, at, bytes);
+        place_bytes(out, at, b"\"");
+    }
+    len
+}
+
+/// Writes a value's JSON, the text that `json_text` gives, to the front of `out`, and answers how many bytes it is. What is
+/// after it in `out` stays; where `out` is shorter, nothing is written.
+///
+/// A value that is one text which needs no escape is copied, and the digits of one run of bytes are made in `out`; neither
+/// takes memory. Of any other the text is made first, with the memory and the stack that `json_text` takes.
+///
+/// Refuses want of memory; `out` stays as it was then.
+pub fn json_to_slice<A: Allocator>(
+    alloc: Global,
+    value: &Value<'_, A>,
+    out: &mut [u8],
+) -> Result<usize, AllocError>
+    ensures len { IfOk result (λ len. len ≡ length (json_text value.now)) }
+    ensures ok { IfOk result (λ len. IsInFront (json_text value.now) out.old out.new) }
+    ensures err { IfErr result (λ e. out.new ≡ out.old) }
+{
+    let root = value.root();
+    if let Some(text) = root.text()
+        && is_plain(text)
+    {
+        return Ok(quote_in_front(out, text));
+    }
+    if let Some(bytes) = root.bytes()
+        && bytes.len() <= LONGEST
+    {
+        return Ok(run_in_front(out, bytes));
+    }
+    let text = json_text(alloc, value)?;
+    copy_to_front(out, text.as_bytes());
+    Ok(text.len())
+}
