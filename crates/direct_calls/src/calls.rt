@@ -104,7 +104,7 @@ pub(crate) fn to_json_line(alloc: Global) -> Option<&'static str> {
 /// Is this the registry of the sample? Its spelling says so.
 fn is_sample(alloc: Global, registry: &Registry) -> bool {
     match write_registry(alloc, registry) {
-        Ok(bytes) => bytes.as_slice() == sample::REGISTRY,
+        Ok(bytes) => bytes.as_slice() == sample::registry_bytes(),
         Err(_) => false,
     }
 }
@@ -142,8 +142,8 @@ fn read_line(
 
 pub(crate) fn read_registry_line(alloc: Global) -> &'static str {
     read_line(
-        read_registry(alloc, sample::REGISTRY),
-        sample::REGISTRY.len(),
+        read_registry(alloc, sample::registry_bytes()),
+        sample::registry_bytes().len(),
         "read_registry: read\n",
         "read_registry: OutOfMemory at 0\n",
     )
@@ -167,7 +167,7 @@ pub(crate) fn write_registry_line(alloc: Global) -> Option<&'static str> {
     let registry = sample::registry(alloc)?;
     Some(match write_registry(alloc, &registry) {
         Ok(bytes) => line_where(
-            bytes.as_slice() == sample::REGISTRY,
+            bytes.as_slice() == sample::registry_bytes(),
             "write_registry: written\n",
         ),
         Err(_) => line_where(

@@ -15,7 +15,8 @@ use std::{env, io};
 use value_core::send;
 
 const USAGE: &str =
-    "usage: direct_calls print | json_text | json_to_slice | value_text | to_json | Checked::new | read_registry | read_metadata | write_registry | write CALL | job [WORD]..\n";
+    "usage: direct_calls print | json_text | json_to_slice | value_text | to_json | Checked::new | \
+     read_registry | read_metadata | write_registry | write CALL | job [WORD]..\n";
 
 /// Why no call was made.
 #[derive(Clone, Copy)]

@@ -1,7 +1,6 @@
 -- A run of bytes goes out as JSON in parts.
-use Rattle.std.proofs.Common.{◌≡◌, ℕ, ◌+◌, ◌-◌, ◌*◌, ◌/◌, ◌%◌, ◌≤◌, List, [], ◌∷◌, ◌++◌, length}
-use Rattle.std.proofs.Common.{take}
-use Rattle.std.proofs.Common.{drop, get_or, slice_index, Fits, w8, Option, None, Some, refl, ap}
+use Rattle.std.proofs.Common.{◌≡◌, ℕ, ◌+◌, ◌-◌, ◌*◌, ◌≤◌, List, [], ◌∷◌, ◌++◌, length, take}
+use Rattle.std.proofs.Common.{drop, get_or, Fits, w8, Option, None, Some, refl, ap}
 use Rattle.std.proofs.Common.{subst, sym, ◌∙◌}
 use Rattle.std.proofs.Common.{append-nil, arith, length-take-le, take-append-drop}
 use Rattle.std.proofs.Math.Seq.{take-add}
@@ -18,15 +17,8 @@ use Rattle.node_core.specs.Shown.{bytes_of}
 use Rattle.node_core.proofs.SpelledParts.{long_whole, sent_all, sent_front, sent_more, sent_part}
 use Rattle.json_core.specs.Json.{json_of}
 use Rattle.json_core.specs.Printed.{Sends, run_text}
+use Rattle.token_core.proofs.Hexadecimal.{encode-append}
 use Rattle.token_core.proofs.Outputs.{hex_string}
-
--- the digits of bytes after others come after the digits of these
-encode-append : (xs ys : List ℕ) → encode_lower (xs ++ ys) ≡ encode_lower xs ++ encode_lower ys
-unfolding encode_with
-encode-append [] ys = refl
-encode-append (x ∷ xs) ys =
-    ap (λ (l : List ℕ). slice_index lower_digits (x / 16) ∷ slice_index lower_digits (x % 16) ∷ l)
-    (encode-append xs ys)
 
 -- no digit of no byte is nothing more
 pub digits_none : (a : Option (List ℕ)) → Appends a a (encode_lower [])

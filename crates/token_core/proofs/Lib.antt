@@ -1,2 +1,3 @@
+pub mod Hexadecimal
 pub mod Outputs
 pub mod Placing

@@ -11,7 +11,8 @@ ghost use Rattle.json.specs.Token.{begin_object, end_object, begin_array, end_ar
 ghost use Rattle.json.specs.Token.{number, boolean, null};
 ghost use Rattle.json.specs.Print.{escape, quoted};
 
-use crate::places::{place_byte, place_bytes, place_comma, place_decimal, place_hex};
+use crate::digits::place_hex;
+use crate::places::{place_byte, place_bytes, place_comma, place_decimal};
 use crate::plain::is_plain;
 use json::Writer;
 use std::alloc::{AllocError, Global};

@@ -1,8 +1,7 @@
 //! Bytes written into a buffer from a place on.
 
-ghost use Rattle.std.specs.Prelude.{◌≡◌, ◌+◌, ◌*◌, ◌≤◌, ◌<◌, [], ◌∷◌, length, drop, cond};
+ghost use Rattle.std.specs.Prelude.{◌≡◌, ◌+◌, ◌≤◌, ◌<◌, [], ◌∷◌, length, drop, cond};
 ghost use Rattle.std.specs.Fmt.{decimal};
-ghost use Rattle.hex.specs.Hex.{encode_lower};
 ghost use Rattle.json.specs.Filled.{Placed};
 
 /// One byte. Like the calls below it answers where the next goes.
@@ -34,19 +33,6 @@ pub fn place_bytes(buffer: &mut [u8], at: usize, bytes: &[u8]) -> usize
 {
     let end = at + bytes.len();
     buffer[at..end].copy_from_slice(bytes);
-    end
-}
-
-/// Two hexadecimal digits, from 0 to 9 and a to f, for each of these bytes, the higher half first: the place after them.
-/// What is after it stays.
-#[inline(always)]
-pub fn place_hex(buffer: &mut [u8], at: usize, bytes: &[u8]) -> usize
-    requires { at + 2 * length bytes.now ≤ length buffer.old }
-    ensures placed { Placed buffer.old buffer.new at (encode_lower bytes.now) result }
-    ensures rest { drop result buffer.new ≡ drop result buffer.old }
-{
-    let end = at + 2 * bytes.len();
-    hex::encode_to_slice(bytes, &mut buffer[at..end]).unwrap();
     end
 }
 

@@ -1,6 +1,6 @@
 use Rattle.std.proofs.Common.{◌+◌, ◌*◌, ◌-◌, length, arith}
 use Rattle.std.proofs.lemmas.Slice.{drop-put_mid}
-use Rattle.token_core.proofs.places.place_hex.Goals as goal
+use Rattle.token_core.proofs.digits.place_each.Goals as goal
 
 pub returns-clause-rest : goal.returns-clause-rest
 returns-clause-rest c =
