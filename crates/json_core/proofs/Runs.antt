@@ -3,7 +3,6 @@ use Rattle.std.proofs.Common.{◌≡◌, ℕ, ◌+◌, ◌-◌, ◌*◌, ◌≤�
 use Rattle.std.proofs.Common.{drop, get_or, Fits, w8, Option, None, Some, refl, ap}
 use Rattle.std.proofs.Common.{subst, sym, ◌∙◌}
 use Rattle.std.proofs.Common.{append-nil, arith, length-take-le, take-append-drop}
-use Rattle.std.proofs.Math.Seq.{take-add}
 use Rattle.std.specs.Io.KnownBytes.{Appends}
 use Rattle.std.specs.Prelude.{Result, Ok, Err, OnOk, IfErr}
 use Rattle.node_core.specs.declared.writing.WriteFault.{WriteFault}
@@ -17,7 +16,7 @@ use Rattle.node_core.specs.Shown.{bytes_of}
 use Rattle.node_core.proofs.SpelledParts.{long_whole, sent_all, sent_front, sent_more, sent_part}
 use Rattle.json_core.specs.Json.{json_of}
 use Rattle.json_core.specs.Printed.{Sends, run_text}
-use Rattle.token_core.proofs.Hexadecimal.{encode-append}
+use Rattle.token_core.proofs.Hexadecimal.{encode-append, encode_part}
 use Rattle.token_core.proofs.Outputs.{hex_string}
 
 -- no digit of no byte is nothing more
@@ -29,14 +28,6 @@ digits_none (Some xs) = sym (append-nil xs)
 -- a part of some bytes, from one place up to another
 abbrev pub part : List ℕ → ℕ → ℕ → List ℕ
 part bs at end = take (end - at) (drop at bs)
-
--- the digits of a part come after those of the bytes before it
-encode_part : (bs : List ℕ) (at end : ℕ) → at ≤ end →
-    encode_lower (take at bs) ++ encode_lower (part bs at end) ≡ encode_lower (take end bs)
-encode_part bs at end h =
-    sym (encode-append (take at bs) (part bs at end))
-    ∙ ap encode_lower (sym (take-add at (end - at) bs))
-    ∙ ap (λ n. encode_lower (take n bs)) (omega (arith, h))
 
 -- where the digits of the bytes before a part went out and then its own, those up to its end did
 pub digits_more : (a b c : Option (List ℕ)) (bs : List ℕ) (at end : ℕ) → at ≤ end →

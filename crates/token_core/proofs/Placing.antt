@@ -1,7 +1,8 @@
 -- Bytes that were written into a buffer from a place on.
 use Rattle.std.proofs.Common.{◌≡◌, ℕ, ◌+◌, ◌≤◌, List, ◌++◌, length, take, drop, refl, ap, ap₂, ◌∙◌}
 use Rattle.std.proofs.Common.{subst, arith, length-append, length-take-le, length-drop, take-add}
-use Rattle.std.proofs.Common.{take_at, take-append-drop}
+use Rattle.std.proofs.Common.{take_at, take-append-drop, sym}
+use Rattle.std.proofs.lemmas.List.{drop-drop}
 use Rattle.json.specs.Filled.{Placed}
 
 -- digits that were written up to an end
@@ -30,3 +31,10 @@ digits_placed old new ds at start end ends moved within written before =
         length-take-le at old short,
       );
     }
+
+-- what is after a place stays, and then what is after a later one
+pub rest_after : (old mid new : List ℕ) (at more end : ℕ) → end ≡ at + more →
+    drop end new ≡ drop end mid → drop at mid ≡ drop at old → drop end new ≡ drop end old
+rest_after old mid new at more end moved last first =
+    last ∙ ap (λ n. drop n mid) moved ∙ sym (drop-drop more at mid) ∙ ap (drop more) first
+    ∙ drop-drop more at old ∙ ap (λ n. drop n old) (sym moved)
