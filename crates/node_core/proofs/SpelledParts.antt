@@ -3,6 +3,7 @@ use Rattle.std.proofs.Common.{◌≡◌, ℕ, zero, suc, ◌+◌, ◌*◌, ◌^�
 use Rattle.std.proofs.Common.{◌++◌, length, take, drop, get_or, Option, Some, None, refl}
 use Rattle.std.proofs.Common.{append_assoc, sym, subst, ◌∙◌, ap, arith, length-append}
 use Rattle.std.proofs.Math.Seq.{take-add}
+use Rattle.std.proofs.lemmas.List.{length-take}
 use Rattle.std.proofs.lemmas.List.Folds.{flat_map-map}
 use Rattle.scale_core.specs.Number.{AreBytes}
 use Rattle.registry_core.specs.declared.type_info.TypeInfo.{TypeInfo}
@@ -77,6 +78,21 @@ long_whole front back whole e = ap length (sym e) ∙ length-append front back
 pub sent_part : (front back whole : List ℕ) (w : ℕ) → front ++ back ≡ whole → w ≤ length front →
     w ≤ length whole
 sent_part front back whole w e h = omega (arith, h, long_whole front back whole e)
+
+-- so many bytes at the front of a buffer, and the rest, which stands elsewhere, are the whole
+pub record IsSplit (front back whole : List ℕ) (len : ℕ) : Type 0 where
+  pub long : length front ≡ len
+  pub is : front ++ back ≡ whole
+
+-- the same by what fills the buffer
+pub split_of : {back pooled whole : List ℕ} {room : ℕ} (buffer : List ℕ) (len : ℕ) →
+    length buffer ≡ room → len ≤ room → pooled ≡ back → take len buffer ++ back ≡ whole →
+    IsSplit (take len buffer) pooled whole len
+split_of buffer len room fits same is =
+    record {
+      long = omega (arith, length-take len buffer, room, fits);
+      is = ap (λ (xs : List ℕ). take len buffer ++ xs) same ∙ is;
+    }
 
 -- ---- all nodes
 

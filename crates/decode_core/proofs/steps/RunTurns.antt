@@ -234,6 +234,25 @@ wants_more b c f h wants some closed =
 abbrev pub of_fields : Built → List ℕ → Running
 of_fields b c = record { built = b; carry = c }
 
+-- a node of the form is next, and no run is open
+pub record IsAtNode (b : Built) (f : Form) : Type 0 where
+  pub wants : next_of b.walk ≡ next.Wants f
+  pub closed : b.run ≡ None
+
+-- the same by what a decoder on its way is, as contracts see it
+pub at_node : {b : Built} {c : List ℕ} {seen : Running} (f : Form) → of_fields b c ≡ seen →
+    next_of seen.built.walk ≡ next.Wants f → seen.built.run ≡ None → IsAtNode b f
+at_node f is wants closed =
+    record {
+      wants = subst (λ (s : Running). next_of s.built.walk ≡ next.Wants f) (sym is) wants;
+      closed = subst (λ (s : Running). s.built.run ≡ None) (sym is) closed;
+    }
+
+-- nothing is carried, by what a decoder on its way is, as contracts see it
+pub carries_none : {b : Built} {c : List ℕ} {seen : Running} → of_fields b c ≡ seen →
+    seen.carry ≡ [] → c ≡ []
+carries_none is none = subst (λ (s : Running). s.carry ≡ []) (sym is) none
+
 -- the own bytes of a node, as many as its form needs, are one at least
 some_own : (f : Form) (own : List ℕ) → AreOwn f own → 1 ≤ length own
 some_own f [] a = let no = a.2 in absurd cc
@@ -241,24 +260,23 @@ some_own f (x ∷ own) a = omega arith
 
 -- a decoder that carried nothing stays on its way after a node's bytes from the piece alone
 pub whole_running : (f : Form) (b new : Built) (c own : List ℕ) (old kept : Option OpenRun)
-    (taken : Result (Unit {0}) NodeFault) → IsRunning b c old → c ≡ [] →
-    next_of b.walk ≡ next.Wants f → b.run ≡ None → AreOwn f own →
-    TakesNode f b new kept own taken → IsRunning new c kept
-whole_running f b new c own old kept taken h none wants closed a k =
+    (taken : Result (Unit {0}) NodeFault) → IsRunning b c old → c ≡ [] → IsAtNode b f →
+    AreOwn f own → TakesNode f b new kept own taken → IsRunning new c kept
+whole_running f b new c own old kept taken h none at a k =
     subst (λ (l : List ℕ). IsRunning new l kept) (sym none)
-    (node_running f b new c old kept own taken h wants closed a k)
+    (node_running f b new c old kept own taken h at.wants at.closed a k)
 
 -- a turn that took a node's bytes whole from the piece reports what they made of it
 pub whole_reports : (f : Form) (b new : Built) (c own rest : List ℕ) (kept : Option OpenRun)
-    (taken : Result (Unit {0}) NodeFault) (result : Turned) → c ≡ [] →
-    next_of b.walk ≡ next.Wants f → HasBytes f → b.run ≡ None → AreOwn f own →
-    TakesNode f b new kept own taken → result ≡ node_turned taken 0 (length own) (length own) →
+    (taken : Result (Unit {0}) NodeFault) (result : Turned) → c ≡ [] → IsAtNode b f →
+    HasBytes f → AreOwn f own → TakesNode f b new kept own taken →
+    result ≡ node_turned taken 0 (length own) (length own) →
     StepReports (of_fields b c) (of_fields new c) (own ++ rest) result
-whole_reports f b new c own rest kept taken result none wants some closed a k is =
+whole_reports f b new c own rest kept taken result none at some a k is =
     rw is (subst (λ (l : List ℕ). StepReports (of_fields b l) (of_fields new l) (own ++ rest)
     (node_turned taken 0 (length own) (length own))) (sym none)
-    (node_reports f b new [] own rest own kept taken wants some closed a refl (some_own f own a)
-    k))
+    (node_reports f b new [] own rest own kept taken at.wants some at.closed a refl
+    (some_own f own a) k))
 
 -- the bytes that were missing came
 pub count_is : (c piece : List ℕ) (len count : ℕ) → length c < len →
@@ -274,47 +292,68 @@ front_is [] more rest first some is = absurd (omega (arith, some))
 front_is (x ∷ own) more rest first some is = let same : x ≡ first = cc in
     (own, ap (λ (y : ℕ). y ∷ own) same)
 
+-- a node that pieces cut, whose bytes are all there: those that were carried, and so many of the
+-- piece's
+pub record IsCut (f : Form) (c piece own : List ℕ) (len count : ℕ) : Type 0 where
+  pub needed : IsNeeded f len (c ++ piece)
+  pub short : length c < len
+  pub own_is : own ≡ c ++ take count piece
+  pub counted : count ≡ min (len - length c) (length piece)
+  pub enough : len ≤ length c + count
+
+-- the same by what a decoder on its way is, as contracts see it, and by what its carry holds
+pub cut_inside : {b : Built} {c held piece own : List ℕ} {count : ℕ} {seen : Running} (f : Form)
+    (len : ℕ) → of_fields b c ≡ seen → IsNeeded f len (seen.carry ++ piece) →
+    length seen.carry < len → held ≡ c → own ≡ c ++ take count piece →
+    count ≡ min (len - length c) (length piece) → len ≤ length held + count →
+    IsCut f c piece own len count
+cut_inside {piece = piece} {count = count} f len is needed short held_is own_is counted enough =
+    record {
+      needed = subst (λ (s : Running). IsNeeded f len (s.carry ++ piece)) (sym is) needed;
+      short = subst (λ (s : Running). length s.carry < len) (sym is) short;
+      own_is = own_is;
+      counted = counted;
+      enough = subst (λ (l : List ℕ). len ≤ length l + count) held_is enough;
+    }
+
 -- what was carried and what is still needed of the piece are just the node's bytes
-pub cut_own : (f : Form) (c piece own : List ℕ) (len count : ℕ) → IsNeeded f len (c ++ piece) →
-    own ≡ c ++ take count piece → length c < len → count ≡ min (len - length c) (length piece) →
-    len ≤ length c + count → AreOwn f own
-cut_own f c piece own len count n is short count_of enough =
-    let k = count_is c piece len count short count_of enough in
+pub cut_own : {f : Form} {c piece own : List ℕ} {len count : ℕ} → IsCut f c piece own len count →
+    AreOwn f own
+cut_own {f} {c} {piece} {own} {len} {count} cut =
+    let n = cut.needed in
+    let k = count_is c piece len count cut.short cut.counted cut.enough in
     let long : length own ≡ len =
     omega (
       arith,
-      ap length is,
+      ap length cut.own_is,
       length-append c (take count piece),
       length-take count piece,
       k.0,
       k.1,
     ) in
     let parts : own ++ drop count piece ≡ n.0 ∷ n.1.0 =
-    ap (λ (l : List ℕ). l ++ drop count piece) is
+    ap (λ (l : List ℕ). l ++ drop count piece) cut.own_is
     ∙ append_assoc c (take count piece) (drop count piece)
     ∙ ap (λ (l : List ℕ). c ++ l) (take-append-drop count piece) ∙ n.1.1 in
-    let front = front_is own (drop count piece) n.1.0 n.0 (omega (arith, long, short)) parts in
+    let front = front_is own (drop count piece) n.1.0 n.0 (omega (arith, long, cut.short)) parts in
     (n.0, front.0, front.1, long ∙ n.2)
 
 -- a turn that took a node's bytes from the carry and the piece reports what they made of it
-pub cut_reports : (f : Form) (b new : Built) (c cleared piece own : List ℕ) (kept : Option OpenRun)
-    (taken : Result (Unit {0}) NodeFault) (result : Turned) (held count len : ℕ) →
-    next_of b.walk ≡ next.Wants f → HasBytes f → b.run ≡ None → IsNeeded f len (c ++ piece) →
-    own ≡ c ++ take count piece → length c < len → count ≡ min (len - length c) (length piece) →
-    len ≤ length c + count → held ≡ length c → cleared ≡ [] →
-    TakesNode f b new kept own taken → result ≡ node_turned taken held count len →
+pub cut_reports : {c piece own : List ℕ} {count len : ℕ} (f : Form) (b new : Built)
+    (cleared : List ℕ) (kept : Option OpenRun) (taken : Result (Unit {0}) NodeFault)
+    (result : Turned) (held : ℕ) → IsAtNode b f → HasBytes f → IsCut f c piece own len count →
+    held ≡ length c → cleared ≡ [] → TakesNode f b new kept own taken →
+    result ≡ node_turned taken held count len →
     StepReports (of_fields b c) (of_fields new cleared) piece result
-cut_reports f b new c cleared piece own kept taken result held count len wants some
-    closed n is short
-    count_of enough held_is clear k result_is =
-    let counts = count_is c piece len count short count_of enough in
-    let a = cut_own f c piece own len count n is short count_of enough in
+cut_reports {c} {piece} {own} {count} {len} f b new cleared kept taken result held at some cut
+    held_is clear k result_is =
+    let counts = count_is c piece len count cut.short cut.counted cut.enough in
     let bytes = take count piece in
     let bytes_count : length bytes ≡ count = omega (arith, length-take count piece, counts.1) in
     let own_count : length own ≡ len =
-    omega (arith, ap length is, length-append c bytes, bytes_count, counts.0) in
-    let one = node_reports f b new c bytes (drop count piece) own kept taken wants some closed a
-    (sym is) (omega (arith, bytes_count, counts.2)) k in
+    omega (arith, ap length cut.own_is, length-append c bytes, bytes_count, counts.0) in
+    let one = node_reports f b new c bytes (drop count piece) own kept taken at.wants some at.closed
+    (cut_own cut) (sym cut.own_is) (omega (arith, bytes_count, counts.2)) k in
     let named : node_turned taken (length c) (length bytes) (length own) ≡ result =
     ap (λ (h : ℕ). node_turned taken h (length bytes) (length own)) (sym held_is)
     ∙ ap (λ (m : ℕ). node_turned taken held m (length own)) bytes_count

@@ -1,68 +1,36 @@
-use Rattle.std.proofs.Common.{◌≡◌, ◌++◌, ◌≤◌, length, take, ap, ◌∙◌, arith}
-use Rattle.std.proofs.lemmas.List.{length-take}
+use Rattle.std.proofs.Common.{◌≤◌, length, take, arith}
 use Rattle.std.proofs.lemmas.Result.{err_from_is_err_and}
-use Rattle.node_core.specs.Encoding.{node_bytes, pool_bytes}
+use Rattle.node_core.specs.Encoding.{pool_bytes}
 use Rattle.node_core.proofs.SpelledParts.{sent_front, sent_part, sent_more, sent_all, long_whole}
+use Rattle.node_core.proofs.SpelledParts.{split_of}
 use Rattle.node_core.proofs.writing.send_node.Goals as goal
 
 pub returns-in-Err-clause-err : goal.returns-in-Err-clause-err
 returns-in-Err-clause-err g c =
-    let front = take c.put_node-len.result c.put_node-len.new.out in
-    let long : length front ≡ c.put_node-len.result =
-    omega (
-      arith,
-      length-take c.put_node-len.result c.put_node-len.new.out,
-      c.put_node-len.array_long,
-      c.put_node-len.ensures.bound,
-    ) in
-    let whole : front ++ c.pooled-back.result.now
-    ≡ node_bytes c.args.checked.now.types c.args.pool.now c.args.node.now =
-    ap (λ x. front ++ x) c.pooled-back.ensures
-    ∙ c.put_node-len.ensures.bytes in
-    sent_more _ _ _ front c.pooled-back.result.now _ _ c.in-Err.fault.written long whole
+    let split = split_of c.put_node-len.new.out c.put_node-len.result c.put_node-len.array_long
+    c.put_node-len.ensures.bound c.pooled-back.ensures c.put_node-len.ensures.bytes in
+    sent_more _ _ _ _ c.pooled-back.result.now _ _ c.in-Err.fault.written split.long split.is
     c.in_ok-send.ensures.ok c.in-Err.ensures.err
 
 pub returns-in-Err-clause-part : goal.returns-in-Err-clause-part
 returns-in-Err-clause-part g c =
-    let front = take c.put_node-len.result c.put_node-len.new.out in
-    let long : length front ≡ c.put_node-len.result =
-    omega (
-      arith,
-      length-take c.put_node-len.result c.put_node-len.new.out,
-      c.put_node-len.array_long,
-      c.put_node-len.ensures.bound,
-    ) in
-    let whole : front ++ c.pooled-back.result.now
-    ≡ node_bytes c.args.checked.now.types c.args.pool.now c.args.node.now =
-    ap (λ x. front ++ x) c.pooled-back.ensures
-    ∙ c.put_node-len.ensures.bytes in
+    let split = split_of c.put_node-len.new.out c.put_node-len.result c.put_node-len.array_long
+    c.put_node-len.ensures.bound c.pooled-back.ensures c.put_node-len.ensures.bytes in
     let part : c.in-Err.fault.written ≤ length c.pooled-back.result.now = c.in-Err.ensures.part in
-    omega (arith, long, part, long_whole front c.pooled-back.result.now _ whole)
+    omega (arith, split.long, part, long_whole _ c.pooled-back.result.now _ split.is)
 
 pub returns-in-Ok-clause-count : goal.returns-in-Ok-clause-count
 returns-in-Ok-clause-count g c =
-    let front = take c.put_node-len.result c.put_node-len.new.out in
-    let long : length front ≡ c.put_node-len.result =
-    omega (
-      arith,
-      length-take c.put_node-len.result c.put_node-len.new.out,
-      c.put_node-len.array_long,
-      c.put_node-len.ensures.bound,
-    ) in
-    let whole : front ++ c.pooled-back.result.now
-    ≡ node_bytes c.args.checked.now.types c.args.pool.now c.args.node.now =
-    ap (λ x. front ++ x) c.pooled-back.ensures
-    ∙ c.put_node-len.ensures.bytes in
-    omega (arith, long, long_whole front c.pooled-back.result.now _ whole)
+    let split = split_of c.put_node-len.new.out c.put_node-len.result c.put_node-len.array_long
+    c.put_node-len.ensures.bound c.pooled-back.ensures c.put_node-len.ensures.bytes in
+    omega (arith, split.long, long_whole _ c.pooled-back.result.now _ split.is)
 
 pub returns-in-Ok-clause-ok : goal.returns-in-Ok-clause-ok
 returns-in-Ok-clause-ok g c =
-    let front = take c.put_node-len.result c.put_node-len.new.out in
-    let whole : front ++ c.pooled-back.result.now
-    ≡ node_bytes c.args.checked.now.types c.args.pool.now c.args.node.now =
-    ap (λ x. front ++ x) c.pooled-back.ensures
-    ∙ c.put_node-len.ensures.bytes in
-    sent_all _ _ _ front c.pooled-back.result.now _ whole c.in_ok-send.ensures.ok c.in-Ok.ensures.ok
+    let split = split_of c.put_node-len.new.out c.put_node-len.result c.put_node-len.array_long
+    c.put_node-len.ensures.bound c.pooled-back.ensures c.put_node-len.ensures.bytes in
+    sent_all _ _ _ _ c.pooled-back.result.now _ split.is c.in_ok-send.ensures.ok
+    c.in-Ok.ensures.ok
 
 pub returns-in_err-send-clause-part : goal.returns-in_err-send-clause-part
 returns-in_err-send-clause-part g c =
