@@ -361,8 +361,11 @@ impl<'r, A: Allocator> Run<'r, A> {
     pub(crate) fn next_form(&self) -> Option<Form>
         ensures { IfSome result (λ form. Awaits self.now form) }
     {
+        if self.open_run.is_some() {
+            return None;
+        }
         match self.builder.walk().next() {
-            Next::Wants(form) if self.open_run.is_none() => Some(form),
+            Next::Wants(form) => Some(form),
             _ => None,
         }
     }

@@ -7,6 +7,9 @@ ghost use Rattle.node_core.specs.Shown.{long_shown};
 use crate::room::make_room;
 use std::alloc::{AllocError, Allocator};
 
+/// The first long integer of a pool takes room for so many bytes, those of four, so that few of them take room once.
+const AT_ONCE: usize = 64;
+
 /// Appends the bytes of a text or of a run: how many they are. Where memory is refused nothing changes.
 #[inline(always)]
 pub(crate) fn put_run<A: Allocator>(pool: &mut Vec<u8, A>, bytes: &[u8]) -> Result<u32, AllocError>
@@ -31,7 +34,9 @@ pub(crate) fn put_long<A: Allocator>(
 {
     let start = pool.as_slice().len();
     let bytes = number.to_le_bytes();
-    make_room(pool, bytes.len())?;
+    if pool.capacity() - start < bytes.len() {
+        make_room(pool, AT_ONCE)?;
+    }
     pool.extend_from_slice(&bytes)?;
     Ok(start)
 }

@@ -1,6 +1,7 @@
 -- The references that are left of an open node, one after the other.
 use Rattle.std.proofs.Common.{◌≡◌, ℕ, zero, suc, ◌+◌, ◌-◌, ◌<◌, ◌≤◌, List, [], ◌∷◌, ◌++◌, length}
-use Rattle.std.proofs.Common.{take, drop, Option, refl, ap, ◌∙◌, arith, drop-cons, inl, inr}
+use Rattle.std.proofs.Common.{take, drop, Bool, true, false, Option, refl, ap, ◌∙◌, arith}
+use Rattle.std.proofs.Common.{drop-cons, inl, inr}
 use Rattle.std.specs.Prelude.{map, reverse}
 use Rattle.std.proofs.lemmas.List.{length-drop, length-map, length-reverse, length-take-le}
 use Rattle.std.proofs.lemmas.List.{reverse-append}
@@ -11,8 +12,6 @@ use Rattle.widths_core.specs.Steps.{AreParts}
 use Rattle.value_core.specs.Frames.{followed_by, frames_of, left_by, members_before, members_of}
 use Rattle.value_core.specs.Frames.{open_part_of, parts_by}
 use Rattle.value_core.specs.declared.left.Frame.{Frame}
-use Rattle.value_core.specs.declared.left.PartTypes.{PartTypes}
-use Rattle.value_core.specs.declared.left.PartTypes.TheVariants as types
 
 -- none is left past the last reference
 none_past : (refs : List ℕ) (end n : ℕ) → length refs ≤ end - n → members_before refs end n ≡ []
@@ -30,16 +29,16 @@ one_less_member refs end n = elim (slice_get_cases refs (end - suc n)).1 [
 ]
 
 -- with the number of parts one less, what is left is what was left without the next one
-pub one_less : (refs : List ℕ) (n : ℕ) (ts : PartTypes) →
-    parts_by refs (n - 1) ts ≡ left_after (parts_by refs n ts)
-one_less refs zero (types.Members end) = refl
-one_less refs zero (types.Copies t) = refl
-one_less refs (suc n) (types.Members end) =
-    let down : suc n - 1 ≡ n = omega arith in
-    rw down (one_less_member refs end n)
-one_less refs (suc n) (types.Copies t) =
+pub one_less : (refs : List ℕ) (n : ℕ) (same : Bool) (element end : ℕ) →
+    parts_by refs (n - 1) same element end ≡ left_after (parts_by refs n same element end)
+one_less refs zero true element end = refl
+one_less refs zero false element end = refl
+one_less refs (suc n) true element end =
     let down : suc n - 1 ≡ n = omega arith in
     rw down refl
+one_less refs (suc n) false element end =
+    let down : suc n - 1 ≡ n = omega arith in
+    rw down (one_less_member refs end n)
 
 -- those that are left are a piece of all references
 members_are : (refs : List ℕ) (end n : ℕ) → n ≤ end → end ≤ length refs →

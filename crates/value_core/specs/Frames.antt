@@ -5,8 +5,6 @@ use Rattle.registry_core.specs.declared.type_info.TypeInfo.{TypeInfo}
 use Rattle.widths_core.specs.Steps.{references_of}
 use Rattle.grammar_core.specs.Parts.{Part, each, times}
 use Rattle.value_core.specs.Walked.{OpenPart}
-use Rattle.value_core.specs.declared.left.PartTypes.{PartTypes}
-use Rattle.value_core.specs.declared.left.PartTypes.TheVariants as types
 use Rattle.value_core.specs.declared.left.Left.{Left}
 use Rattle.value_core.specs.declared.left.Frame.{Frame}
 
@@ -21,33 +19,33 @@ members_before refs end zero = []
 members_before refs end (suc n) =
     followed_by (slice_get refs (end - suc n)) (members_before refs end n)
 
--- so many parts of these types, by the references of the registry
-abbrev pub parts_by : List ℕ → ℕ → PartTypes → Part
-parts_by refs n (types.Members end) = each (members_before refs end n)
-parts_by refs n (types.Copies t) = times n t
+-- so many parts, all of one type, or of the references before a number
+abbrev pub parts_by : List ℕ → ℕ → Bool → ℕ → ℕ → Part
+parts_by refs n true element end = times n element
+parts_by refs n false element end = each (members_before refs end n)
 
 abbrev pub left_by : List ℕ → Left → Part
-left_by refs l = parts_by refs l.count l.types
+left_by refs l = parts_by refs l.count l.same l.element l.end
 
 abbrev pub left_of : List TypeInfo → Left → Part
 left_of r l = left_by (references_of r) l
 
 -- so many references from this number on
 abbrev pub members_of : ℕ → ℕ → Left
-members_of from count = record { count = count; types = types.Members (from + count) }
+members_of from count =
+    record { count = count; element = 0; end = from + count; same = false }
 
 -- so many of one type
 abbrev pub copies_of : ℕ → ℕ → Left
-copies_of count t = record { count = count; types = types.Copies t }
+copies_of count t = record { count = count; element = t; end = 0; same = true }
 
 -- so many of one type are left, and at least one
-abbrev pub repeats_by : ℕ → PartTypes → Bool
-repeats_by zero ts = false
-repeats_by (suc n) (types.Members end) = false
-repeats_by (suc n) (types.Copies t) = true
+abbrev pub repeats_by : ℕ → Bool → Bool
+repeats_by zero same = false
+repeats_by (suc n) same = same
 
 abbrev pub repeats : Left → Bool
-repeats l = repeats_by l.count l.types
+repeats l = repeats_by l.count l.same
 
 abbrev pub open_part_of : List TypeInfo → Frame → OpenPart
 open_part_of r f = record { node = f.node; left = left_of r f.left }

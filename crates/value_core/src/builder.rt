@@ -107,6 +107,7 @@ fn append_node<A: Allocator>(nodes: &mut Vec<Node, A>, node: Node) -> Result<(),
 }
 
 /// Appends a node, the next of the walk, whose parts come next: both, or where memory is refused neither.
+#[inline(always)]
 fn open_node<A: Allocator>(
     nodes: &mut Vec<Node, A>,
     walk: &mut Walk<'_, A>,
@@ -126,6 +127,7 @@ fn open_node<A: Allocator>(
 }
 
 /// Closes the innermost open node where it is whole: was one closed?
+#[inline(always)]
 fn close_one<A: Allocator>(walk: &mut Walk<'_, A>, nodes: &mut Vec<Node, A>) -> bool
     requires { AreBuilt walk.old nodes.old.items }
     ensures settles { Settles walk.old nodes.old.items walk.new nodes.new.items }
@@ -185,6 +187,7 @@ impl<'r, A: Allocator + Clone> Builder<'r, A> {
     /// `new` makes once it has judged. Of an id that is no position it is a builder that nothing can be added to.
     ///
     /// Refuses want of memory.
+    #[inline(never)]
     pub fn begin(
         alloc: A,
         checked: &'r Checked,
@@ -302,6 +305,7 @@ impl<'r, A: Allocator> Builder<'r, A> {
     }
 
     /// Adds a node whose children come next, for the value of the next type. Where memory is refused nothing changes.
+    #[inline(always)]
     pub(crate) fn add_open(&mut self, content: Content, left: Left) -> Result<(), AllocError>
         requires closed { self.old.run ≡ None }
         requires opened { size_shown content ≡ 0 }

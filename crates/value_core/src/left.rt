@@ -4,20 +4,17 @@ ghost use Rattle.std.specs.Prelude.{◌≡◌, ℕ, List};
 ghost use Rattle.grammar_core.specs.Parts.{first_of, left_after};
 ghost use Rattle.value_core.specs.Frames.{left_by, copies_of, members_of, repeats};
 
-/// Which types the parts of an open node have, given as their numbers.
-#[derive(Clone, Copy)]
-pub(crate) enum PartTypes {
-    /// Those of the references before number `end`, one each.
-    Members { end: usize },
-    /// All of them the same.
-    Copies { element: u32 },
-}
-
-/// The parts of an open node that are still to come: so many, the last of these.
+/// The parts of an open node that are still to come: so many, the last of these. Which types they have is said by fields
+/// and not by an enum, since that is moved with its padding, which takes longer than what it says.
 #[derive(Clone, Copy)]
 pub(crate) struct Left {
     pub(crate) count: u32,
-    pub(crate) types: PartTypes,
+    /// The type of all of them, by its number, where they have one.
+    element: u32,
+    /// Else their types are those of the references before this number, one each.
+    end: usize,
+    /// Have all of them one type?
+    same: bool,
 }
 
 /// An open node: its place among the nodes, and what is left of its parts.
@@ -32,10 +29,11 @@ impl Left {
     pub(crate) fn members(from: u32, count: u32) -> Left
         ensures { result ≡ members_of from count }
     {
-        let end = from as usize + count as usize;
         Left {
             count,
-            types: PartTypes::Members { end },
+            element: 0,
+            end: from as usize + count as usize,
+            same: false,
         }
     }
 
@@ -45,7 +43,9 @@ impl Left {
     {
         Left {
             count,
-            types: PartTypes::Copies { element },
+            element,
+            end: 0,
+            same: true,
         }
     }
 
@@ -57,13 +57,11 @@ impl Left {
         if self.count == 0 {
             return None;
         }
-        match self.types {
-            PartTypes::Members { end } => {
-                let at = end.saturating_sub(self.count as usize);
-                references.get(at).copied()
-            }
-            PartTypes::Copies { element } => Some(element),
+        if self.same {
+            return Some(self.element);
         }
+        let at = self.end.saturating_sub(self.count as usize);
+        references.get(at).copied()
     }
 
     /// The next type is no longer left. Where nothing is left, nothing changes.
@@ -81,7 +79,41 @@ impl Left {
     pub(crate) fn repeats(&self) -> bool
         ensures { result ≡ repeats self.now }
     {
-        self.count != 0 && matches!(self.types, PartTypes::Copies { .. })
+        self.count != 0 && self.same
+    }
+}
+
+impl Frame {
+    /// It is the other from now on. Field by field: to copy it as a whole would copy its padding too.
+    #[inline(always)]
+    pub(crate) fn set(&mut self, other: Frame)
+        ensures { self.new ≡ other }
+    {
+        self.node = other.node;
+        self.left.count = other.left.count;
+        self.left.element = other.left.element;
+        self.left.end = other.left.end;
+        self.left.same = other.left.same;
+    }
+
+    /// The same without the next type.
+    #[inline(always)]
+    pub(crate) fn advanced(&self) -> Frame
+        ensures node { result.node ≡ self.now.node }
+        ensures left { (references : List ℕ) →
+            left_by references result.left ≡ left_after (left_by references self.now.left) }
+    {
+        let mut left = Left {
+            count: self.left.count,
+            element: self.left.element,
+            end: self.left.end,
+            same: self.left.same,
+        };
+        left.advance();
+        Frame {
+            node: self.node,
+            left,
+        }
     }
 }
 

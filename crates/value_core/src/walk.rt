@@ -25,6 +25,7 @@ struct Ahead {
 }
 
 /// The type that is next in an open node, and its step, if any is left: two look-ups.
+#[inline(always)]
 fn ahead_in(checked: &Checked, left: &Left) -> Option<Ahead>
     ensures { IsAhead checked.now.types (first_of (left_of checked.now.types left.now)) result }
 {
@@ -160,22 +161,22 @@ impl<'r, A: Allocator> Walk<'r, A> {
     }
 
     /// The next node is open, and its parts come next. Where memory is refused, nothing changes.
+    #[inline(always)]
     pub(crate) fn enter(&mut self, node: usize, left: Left) -> Result<(), AllocError>
         requires { length self.old.frames ≤ self.old.limit + 1 }
         ensures ok { OnOk result (self.new
             ≡ opened (advanced self.old) node (left_of self.old.types left)) }
         ensures err { OnErr result (self.new ≡ self.old) }
     {
-        let mut outer = self.top;
-        outer.left.advance();
-        self.around.push(outer)?;
-        self.top = Frame { node, left };
+        self.around.push(self.top.advanced())?;
+        self.top.set(Frame { node, left });
         self.ahead = ahead_in(self.checked, &left);
         Ok(())
     }
 
     /// The innermost node is whole, and closed: its place among the nodes. There is none where one of its parts is
     /// still to come, and where the innermost part is the root's own; nothing changes then.
+    #[inline(always)]
     pub(crate) fn close(&mut self) -> Option<usize>
         ensures some { IfSome result (λ node. Closes self.old self.new node) }
         ensures unchanged { IfNone result (self.new ≡ self.old) }
@@ -186,7 +187,7 @@ impl<'r, A: Allocator> Walk<'r, A> {
         }
         let frame = self.around.pop()?;
         let node = self.top.node;
-        self.top = frame;
+        self.top.set(frame);
         self.ahead = ahead_in(self.checked, &frame.left);
         Some(node)
     }

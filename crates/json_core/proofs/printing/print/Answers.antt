@@ -1,9 +1,9 @@
-use Rattle.std.proofs.Common.{◌≡◌, ◌≤◌, ◌∙◌, ap, length, sym, take, rules}
+use Rattle.std.proofs.Common.{◌≡◌, ◌≤◌, length, take, rules}
 use Rattle.std.specs.Io.KnownBytes.{Appends}
-use Rattle.std.specs.Option.{option_map}
 use Rattle.json_core.specs.Json.{json_text}
 use Rattle.json_core.specs.Printed.{run_text}
-use Rattle.json_core.proofs.Runs.{is_sent, run_is_text, sent_stopped, sent_whole}
+use Rattle.json_core.proofs.InFront.{found_run}
+use Rattle.json_core.proofs.Runs.{is_sent, sent_stopped, sent_whole}
 use Rattle.json_core.proofs.printing.print.Given.{Over}
 use Rattle.json_core.proofs.printing.print.Goals as goal
 use Rattle.json_core.proofs.printing.print.Goals.{in-Some, in_default+in-Ok}
@@ -14,10 +14,8 @@ returns-in-Ok-sent-clause-ok g c =
     (g.W.Write.contents c.match-bytes.sink.device) (json_text c.args.value.now) c.match-bytes.sent
     c.in-Ok-sent.field-0 (elim c.match-bytes.branch [
       | in-Some w ↦
-          let same : run_text w.in-Some.bytes.now ≡ json_text c.args.value.now =
-          run_is_text c.root.result.types c.root.result.ty c.root.result.tree w.in-Some.bytes.now
-          (sym c.bytes.ensures ∙ ap (option_map (λ s. s.now)) w.in-Some.is)
-          ∙ ap json_text c.root.ensures.same in
+          let same : run_text w.in-Some.bytes.now ≡ json_text c.args.value.now = found_run _ _ _
+          w.in-Some.bytes c.bytes.ensures w.in-Some.is c.root.ensures.same in
           rw (w.sink-is, w.sent-is, ← same) w.print_run-sent.ensures.sent
       | in_default+in-Ok w ↦
           let same : w.as_bytes.result.now ≡ json_text c.args.value.now = search rules in
@@ -36,10 +34,8 @@ stopped g c =
     (g.W.Write.contents c.match-bytes.sink.device) (json_text c.args.value.now) c.match-bytes.sent
     c.in-Err.fault (elim c.match-bytes.branch [
       | in-Some w ↦
-          let same : run_text w.in-Some.bytes.now ≡ json_text c.args.value.now =
-          run_is_text c.root.result.types c.root.result.ty c.root.result.tree w.in-Some.bytes.now
-          (sym c.bytes.ensures ∙ ap (option_map (λ s. s.now)) w.in-Some.is)
-          ∙ ap json_text c.root.ensures.same in
+          let same : run_text w.in-Some.bytes.now ≡ json_text c.args.value.now = found_run _ _ _
+          w.in-Some.bytes c.bytes.ensures w.in-Some.is c.root.ensures.same in
           rw (w.sink-is, w.sent-is, ← same) w.print_run-sent.ensures.sent
       | in_default+in-Ok w ↦
           let same : w.as_bytes.result.now ≡ json_text c.args.value.now = search rules in
