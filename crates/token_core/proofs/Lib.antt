@@ -1,3 +1,4 @@
 pub mod Hexadecimal
 pub mod Outputs
 pub mod Placing
+pub mod Decimal

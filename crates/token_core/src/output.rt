@@ -12,7 +12,7 @@ ghost use Rattle.json.specs.Token.{number, boolean, null};
 ghost use Rattle.json.specs.Print.{escape, quoted};
 
 use crate::digits::place_hex;
-use crate::places::{place_byte, place_bytes, place_comma, place_decimal};
+use crate::places::{place_byte, place_bytes, place_comma, place_decimal, place_wide};
 use crate::plain::is_plain;
 use json::Writer;
 use std::alloc::{AllocError, Global};
@@ -223,39 +223,17 @@ impl Output {
     }
 
     /// A number from 0 as a text of its digits.
-    #[inline(always)]
     pub fn quoted_unsigned(&mut self, n: u128) -> Result<(), AllocError>
         ensures { AddsTokens result self.old self.new (string (decimal n) ∷ []) }
     {
-        if n <= u128::from(u64::MAX) {
-            self.quoted_short(n as u64)
-        } else {
-            self.quoted_long(n)
-        }
-    }
-
-    /// A number of at most 64 bits as a text of its digits.
-    #[inline(always)]
-    fn quoted_short(&mut self, n: u64) -> Result<(), AllocError>
-        ensures { AddsTokens result self.old self.new (string (decimal n) ∷ []) }
-    {
-        make_room(&mut self.bytes, self.len, 23)?;
+        make_room(&mut self.bytes, self.len, 42)?;
         let buffer = self.bytes.as_mut_slice();
         let at = place_comma(buffer, self.len, self.after_value);
         let first = place_byte(buffer, at, b'"');
-        let end = place_decimal(buffer, first, n);
+        let end = place_wide(buffer, first, n);
         self.len = place_byte(buffer, end, b'"');
         self.after_value = true;
         Ok(())
-    }
-
-    /// A number of more than 64 bits as a text of its digits.
-    #[inline(never)]
-    fn quoted_long(&mut self, n: u128) -> Result<(), AllocError>
-        ensures { AddsTokens result self.old self.new (string (decimal n) ∷ []) }
-    {
-        let mut buffer = itoa::Buffer::new();
-        self.put_plain(buffer.format(n), "\"", true)
     }
 
     /// A number as a text of its digits.

@@ -3,6 +3,10 @@
 ghost use Rattle.std.specs.Prelude.{◌≡◌, ◌+◌, ◌≤◌, ◌<◌, [], ◌∷◌, length, drop, cond};
 ghost use Rattle.std.specs.Fmt.{decimal};
 ghost use Rattle.json.specs.Filled.{Placed};
+ghost use Rattle.token_core.specs.Digits.{last_digits};
+
+/// Ten to the sixteenth: a number has its last sixteen digits below it.
+const UNIT: u64 = 10_000_000_000_000_000;
 
 /// One byte. Like the calls below it answers where the next goes.
 #[inline(always)]
@@ -63,4 +67,31 @@ pub(crate) fn place_decimal(buffer: &mut [u8], at: usize, n: u64) -> usize
     let end = at + digit_count(n);
     itoa::write_digits(n, buffer, end);
     end
+}
+
+/// Sixteen digits, those of a number below the unit with zeros in front, right after others. The number is written with
+/// the unit, whose first digit goes over the last of the others for a moment.
+#[inline(always)]
+fn place_last(buffer: &mut [u8], at: usize, low: u64) -> usize
+    requires after { 1 ≤ at }
+    requires room { at + 16 ≤ length buffer.old }
+    requires low { low < UNIT }
+    ensures { Placed buffer.old buffer.new at (last_digits UNIT low) result }
+{
+    let before = buffer[at - 1];
+    itoa::write_digits(UNIT + low, buffer, at + 16);
+    buffer[at - 1] = before;
+    at + 16
+}
+
+/// The number in decimal digits, sixteen at a time where it has more than 64 bits.
+pub(crate) fn place_wide(buffer: &mut [u8], at: usize, n: u128) -> usize
+    requires { at + 39 ≤ length buffer.old }
+    ensures { Placed buffer.old buffer.new at (decimal n) result }
+{
+    if n <= u128::from(u64::MAX) {
+        return place_decimal(buffer, at, n as u64);
+    }
+    let end = place_wide(buffer, at, n / u128::from(UNIT));
+    place_last(buffer, end, (n % u128::from(UNIT)) as u64)
 }
