@@ -12,7 +12,7 @@ ghost use Rattle.json.specs.Token.{number, boolean, null};
 ghost use Rattle.json.specs.Print.{escape, quoted};
 
 use crate::digits::place_hex;
-use crate::places::{place_byte, place_bytes, place_comma, place_decimal, place_wide};
+use crate::places::{place_byte, place_bytes, place_comma, place_decimal, place_long};
 use crate::plain::is_plain;
 use json::Writer;
 use std::alloc::{AllocError, Global};
@@ -230,7 +230,7 @@ impl Output {
         let buffer = self.bytes.as_mut_slice();
         let at = place_comma(buffer, self.len, self.after_value);
         let first = place_byte(buffer, at, b'"');
-        let end = place_wide(buffer, first, n);
+        let end = place_long(buffer, first, n);
         self.len = place_byte(buffer, end, b'"');
         self.after_value = true;
         Ok(())

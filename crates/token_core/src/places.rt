@@ -85,13 +85,13 @@ fn place_last(buffer: &mut [u8], at: usize, low: u64) -> usize
 }
 
 /// The number in decimal digits, sixteen at a time where it has more than 64 bits.
-pub(crate) fn place_wide(buffer: &mut [u8], at: usize, n: u128) -> usize
+pub(crate) fn place_long(buffer: &mut [u8], at: usize, n: u128) -> usize
     requires { at + 39 ≤ length buffer.old }
     ensures { Placed buffer.old buffer.new at (decimal n) result }
 {
     if n <= u128::from(u64::MAX) {
         return place_decimal(buffer, at, n as u64);
     }
-    let end = place_wide(buffer, at, n / u128::from(UNIT));
+    let end = place_long(buffer, at, n / u128::from(UNIT));
     place_last(buffer, end, (n % u128::from(UNIT)) as u64)
 }

@@ -20,10 +20,10 @@ place_byte-self-inside-requires c =
       comma_short c.self.inside.after_value,
       c.place_comma-at.ensures.moved,
       c.place_byte-first.ensures.moved,
-      c.place_wide-end.ensures.moved,
+      c.place_long-end.ensures.moved,
       c.place_comma-at.ensures.len,
       c.place_byte-first.ensures.len,
-      c.place_wide-end.ensures.len,
+      c.place_long-end.ensures.len,
       ap length c.as_mut_slice-buffer.ensures.value,
     )
 
@@ -33,7 +33,7 @@ invariant_of-self-2 c =
     let new = c.place_byte-self-inside.new.buffer in
     let items = c.make_room.new.bytes in
     let quote = Placed-then c.place_comma-at.ensures c.place_byte-first.ensures in
-    let digits = Placed-then quote c.place_wide-end.ensures in
+    let digits = Placed-then quote c.place_long-end.ensures in
     let both = Placed-then digits c.place_byte-self-inside.ensures in
     let full : take items.len (new ++ drop (length new) items.items) ≡ new =
     take_at new _ items.len (both.len ∙ c.as_mut_slice-buffer.ensures.len) in
@@ -60,7 +60,7 @@ returns c =
     let comma = cond {A = List ℕ} c.self.inside.after_value (44 ∷ []) [] in
     let digits = decimal c.args.n in
     let quote = Placed-then c.place_comma-at.ensures c.place_byte-first.ensures in
-    let written_to = Placed-then quote c.place_wide-end.ensures in
+    let written_to = Placed-then quote c.place_long-end.ensures in
     let both = Placed-then written_to c.place_byte-self-inside.ensures in
     let full : take items.len (new ++ drop (length new) items.items) ≡ new =
     take_at new _ items.len (both.len ∙ c.as_mut_slice-buffer.ensures.len) in

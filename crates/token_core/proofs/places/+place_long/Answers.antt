@@ -7,13 +7,13 @@ use Rattle.json.proofs.Printed.Places.{Placed-then}
 use Rattle.token_core.specs.Digits.{last_digits}
 use Rattle.token_core.proofs.Decimal.{sixteen_last, some_digits}
 use Rattle.token_core.proofs.Decimal.{splits_sixteen}
-use Rattle.token_core.proofs.places.+place_wide.Goals as goal
+use Rattle.token_core.proofs.places.+place_long.Goals as goal
 
 pub place_last-requires-clause-after : goal.place_last-requires-clause-after
 place_last-requires-clause-after t c =
     omega (
       arith,
-      c.place_wide-end.ensures.moved,
+      c.place_long-end.ensures.moved,
       some_digits (c.args.n / c.from-2.result) (omega (arith, c.from-2.ensures)),
     )
 
@@ -33,8 +33,8 @@ place_last-requires-clause-room t c =
       short,
       both,
       sixteen_last low (omega arith),
-      rw c.from-2.ensures at c.place_wide-end.ensures.moved,
-      c.place_wide-end.ensures.len,
+      rw c.from-2.ensures at c.place_long-end.ensures.moved,
+      c.place_long-end.ensures.len,
       c.requires,
     )
 
@@ -46,4 +46,4 @@ returns t c =
     rw (c.from-2.ensures, c.from-3.ensures)
     (sym (splits_sixteen c.args.n large (omega arith))) in
     subst (λ (ds : List ℕ). Placed c.args.buffer.now c.place_last.new.buffer c.args.at ds
-    c.place_last.result) digits (Placed-then c.place_wide-end.ensures c.place_last.ensures)
+    c.place_last.result) digits (Placed-then c.place_long-end.ensures c.place_last.ensures)
