@@ -13,6 +13,7 @@ pub mod Steps
 pub mod RunTurns
 pub mod RunSteps
 pub mod ByteArrays
+pub mod WholeRuns
 pub mod Endings
 pub mod Moving
 pub mod Calls

@@ -5,7 +5,7 @@ ghost use Rattle.value_core.specs.Refusals.{is_whole};
 ghost use Rattle.decode_core.specs.NodeForms.{form_of_bytes};
 ghost use Rattle.decode_core.specs.Turned.{Awaits, FeedCounts, FeedReports, RunsOut, TurnsReport};
 
-use crate::forms::{BareForm, BytesForm, compact_form, primitive_form};
+use crate::forms::{BareForm, BytesForm, PrefixedRun, compact_form, primitive_form};
 use crate::run::Run;
 use crate::turned::{Stopped, Turned};
 use count_core::Count;
@@ -97,6 +97,14 @@ impl<'r, A: Allocator> Run<'r, A> {
             Some(Form::Primitive(Primitive::U128)) => self.integers(Primitive::U128, piece, turns),
             Some(Form::Compact(Target::U32)) => self.compacts(Target::U32, piece, turns),
             Some(Form::Compact(Target::U128)) => self.compacts(Target::U128, piece, turns),
+            Some(Form::Primitive(Primitive::Str)) => {
+                turns.tick();
+                (0, self.prefixed_turn(PrefixedRun::Text, piece))
+            }
+            Some(Form::Bytes) => {
+                turns.tick();
+                (0, self.prefixed_turn(PrefixedRun::Bytes, piece))
+            }
             Some(Form::Arm) => {
                 turns.tick();
                 (0, self.own_turn(BytesForm::Arm, piece))

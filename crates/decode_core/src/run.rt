@@ -3,11 +3,12 @@
 ghost use Rattle.std.specs.Prelude.{ℕ, List, true, ◌≡◌, ◌<◌, ◌≤◌, ◌+◌, ◌++◌, [], length, take};
 ghost use Rattle.std.specs.Prelude.{drop, None, Some, suc, IfSome, IfErr, IfOk, Ok, OnOk, OnErr};
 ghost use Rattle.decode_core.specs.Running.{IsCarry, IsFresh, IsKeptRun, IsRunNext};
+ghost use Rattle.grammar_core.specs.Runs.{run_form};
 ghost use Rattle.value_core.specs.Walked.{next_of};
 ghost use Rattle.value_core.specs.Built.{built_text_bytes, finished};
 ghost use Rattle.value_core.specs.Refusals.{is_whole};
 ghost use Rattle.decode_core.specs.Needs.{AreOwn, IsFirst, IsNeeded};
-ghost use Rattle.decode_core.specs.NodeForms.{form_of_bare, form_of_bytes};
+ghost use Rattle.decode_core.specs.NodeForms.{form_of_bare, form_of_bytes, prefixed_kind};
 ghost use Rattle.decode_core.specs.NodeAdds.{TakesNode};
 ghost use Rattle.decode_core.specs.Turned.{BareReports, Awaits, EndReports, IsSound, KeepsTurns};
 ghost use Rattle.decode_core.specs.Turned.{PieceReports, StepReports, node_turned};
@@ -17,7 +18,7 @@ use crate::fault::DecodeReason;
 use crate::forms::{BareForm, BytesForm, PlainForm, PrefixedRun, compact_form, primitive_form};
 use crate::need::need;
 use crate::node::{
-    NodeFault, add_arm, add_bare, add_byte_array, add_plain, add_sequence, start_run,
+    NodeFault, add_arm, add_bare, add_byte_array, add_plain, add_sequence, start_run, whole_run,
 };
 use crate::turned::{Stopped, Turned};
 use count_core::Count;
@@ -220,6 +221,26 @@ impl<'r, A: Allocator> Run<'r, A> {
             return self.whole_turn(form, &piece[..len]);
         }
         self.cut_turn(form, len, piece)
+    }
+
+    /// A turn on a text or a run of bytes of which no bytes came but some of its length. Where the piece has it whole and
+    /// nothing of it is refused, it is added, and else it is opened by its length.
+    pub(crate) fn prefixed_turn(&mut self, run: PrefixedRun, piece: &[u8]) -> Turned
+        requires next { next_of self.old.built.walk ≡ Next.Wants (run_form (prefixed_kind run)) }
+        requires closed { self.old.built.run ≡ None }
+        requires carried { IsCarry self.old.built self.old.carry }
+        ensures reports { StepReports self.old self.new piece.now result }
+        ensures kept { KeepsTurns self.old self.new result }
+    {
+        if self.carry.as_slice().is_empty()
+            && let Some((leaf, count)) = whole_run(run, piece)
+        {
+            let Ok(()) = self.builder.add_leaf(leaf) else {
+                return Turned::OutOfMemory;
+            };
+            return Turned::On(count);
+        }
+        self.own_turn(BytesForm::Run(run), piece)
     }
 
     /// A turn on an array of u8 of which no byte came: it is added where the piece has it whole, and else it is opened
