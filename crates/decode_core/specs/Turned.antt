@@ -24,6 +24,8 @@ use Rattle.decode_core.specs.declared.turned.Stopped.{Stopped}
 use Rattle.decode_core.specs.declared.turned.Stopped.TheVariants as stop
 use Rattle.decode_core.specs.declared.turned.Turned.{Turned}
 use Rattle.decode_core.specs.declared.turned.Turned.TheVariants as turned
+use Rattle.decode_core.specs.declared.turned.Whole.{Whole}
+use Rattle.decode_core.specs.declared.turned.Whole.TheVariants as whole
 
 abbrev pub types_in : Running → List TypeInfo
 types_in s = s.built.walk.types
@@ -126,6 +128,18 @@ abbrev pub StandsAfter : Stopped → Running → Running → Type 0
 StandsAfter (stop.Refused held reported_reason at len) before new = Unit {0}
 StandsAfter s before new = new ≡ before
 
+-- a turn goes on
+abbrev pub IsOn : Turned → Type 0
+IsOn (turned.On n) = Unit {0}
+IsOn _ = ⊥
+
+-- what a turn does on a node whose own bytes a piece may have whole: it adds the node, or nothing
+-- changes
+abbrev pub WholeReports : Running → Running → List ℕ → Whole → Type 0
+WholeReports old new piece (whole.Added n) = StepReports old new piece (turned.On n)
+WholeReports old new piece whole.Left = new ≡ old
+WholeReports old new piece whole.OutOfMemory = WantsMemory old piece × (new ≡ old)
+
 -- what holds of every value on its way: a begun tree is built, no more nodes are open than the
 -- depth limit lets in, and what
 -- is held beside are bytes of the next node
@@ -198,6 +212,18 @@ pub record TurnsReport (old new : Running) (piece : List ℕ) (from to n : ℕ) 
   pub kept : KeepsTurns before new last
   pub whole : is_whole old.built ≡ true →
       (n ≡ 0) × (before ≡ old) × (last ≡ turned.Stopped stop.Finished)
+
+-- the same of turns on nodes whose own bytes a piece may have whole
+pub record WholeTurnsReport (old new : Running) (piece : List ℕ) (from to n : ℕ) (last : Whole)
+    : Type 0 where
+  pub before : Running
+  pub within : n ≤ length piece
+  pub moves : Moves old before (take n piece)
+  pub nearer : left_to_do before (drop n piece) ≤ left_to_do old piece
+  pub few : FewTurns old before n from to
+  pub sound : IsSound before
+  pub reports : WholeReports before new (drop n piece) last
+  pub begun : is_whole old.built ≡ true → ⊥
 
 -- a turn that needs no bytes
 abbrev pub BareReports : Running → Running → Turned → Type 0

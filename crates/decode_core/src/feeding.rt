@@ -4,10 +4,11 @@ ghost use Rattle.std.specs.Prelude.{true, ◌≡◌, IfErr, IfOk, Ok};
 ghost use Rattle.value_core.specs.Refusals.{is_whole};
 ghost use Rattle.decode_core.specs.NodeForms.{form_of_bytes};
 ghost use Rattle.decode_core.specs.Turned.{Awaits, FeedCounts, FeedReports, RunsOut, TurnsReport};
+ghost use Rattle.decode_core.specs.Turned.{WholeReports, WholeTurnsReport};
 
 use crate::forms::{BareForm, BytesForm, PrefixedRun, compact_form, primitive_form};
 use crate::run::Run;
-use crate::turned::{Stopped, Turned};
+use crate::turned::{Stopped, Turned, Whole};
 use count_core::Count;
 use registry_core::Primitive;
 use scale_core::Target;
@@ -23,8 +24,8 @@ impl<'r, A: Allocator> Run<'r, A> {
         self.next_form() == Some(form)
     }
 
-    /// Takes turns on nodes of this form, one of which is next, as long as another follows: how many bytes those before
-    /// the last one took, and what the last one did.
+    /// Takes turns on nodes of this form, one of which is next, as long as the piece has their bytes whole and another
+    /// follows: how many bytes those before the last one took, and what came of the last one.
     #[inline(always)]
     fn repeat(
         &mut self,
@@ -32,23 +33,84 @@ impl<'r, A: Allocator> Run<'r, A> {
         own: BytesForm,
         piece: &[u8],
         turns: &mut Count,
-    ) -> (usize, Turned)
+    ) -> (usize, Whole)
         requires own { form_of_bytes own ≡ form }
         requires next { Awaits self.old form }
-        ensures { TurnsReport self.old self.new piece.now turns.old.so_far turns.new.so_far
+        ensures { WholeTurnsReport self.old self.new piece.now turns.old.so_far turns.new.so_far
             result.0 result.1 }
     {
         let mut at = 0;
         'nodes: loop {
             turns.tick();
-            let last = self.own_turn(own, &piece[at..]);
-            let Turned::On(count) = last else {
+            let last = self.whole_own(own, &piece[at..]);
+            let Whole::Added(count) = last else {
                 return (at, last);
             };
             if !self.awaits(form) {
                 return (at, last);
             }
             at += count;
+        }
+    }
+
+    /// Takes turns on values of this primitive type, one of which is next, as long as another follows.
+    #[inline(always)]
+    fn integers(&mut self, primitive: Primitive, piece: &[u8], turns: &mut Count) -> (usize, Whole)
+        requires { Awaits self.old (Form.Primitive primitive) }
+        ensures { WholeTurnsReport self.old self.new piece.now turns.old.so_far turns.new.so_far
+            result.0 result.1 }
+    {
+        let form = Form::Primitive(primitive);
+        self.repeat(form, primitive_form(primitive), piece, turns)
+    }
+
+    /// Takes turns on compact integers of this target, one of which is next, as long as another follows.
+    #[inline(always)]
+    fn compacts(&mut self, target: Target, piece: &[u8], turns: &mut Count) -> (usize, Whole)
+        requires { Awaits self.old (Form.Compact target) }
+        ensures { WholeTurnsReport self.old self.new piece.now turns.old.so_far turns.new.so_far
+            result.0 result.1 }
+    {
+        self.repeat(Form::Compact(target), compact_form(target), piece, turns)
+    }
+
+    /// Takes a turn on a node of this form, which is next, where the piece has its own bytes whole.
+    #[inline(always)]
+    fn whole_node(&mut self, form: Form, piece: &[u8]) -> Whole
+        requires { Awaits self.old form }
+        ensures { WholeReports self.old self.new piece.now result }
+    {
+        match form {
+            Form::Arm => self.whole_own(BytesForm::Arm, piece),
+            Form::Sequence => self.whole_own(BytesForm::Sequence, piece),
+            Form::Primitive(Primitive::Str) => self.whole_prefixed(PrefixedRun::Text, piece),
+            Form::Bytes => self.whole_prefixed(PrefixedRun::Bytes, piece),
+            Form::ByteArray(len) => self.whole_byte_array(len, piece),
+            Form::Fields => self.whole_bare(BareForm::Fields),
+            _ => Whole::Left,
+        }
+    }
+
+    /// Takes turns on nodes whose own bytes the piece has whole, the first of which is of this form: as many as there are
+    /// integers of one type, or one. Each arm names its form anew, so that its turns are made for it alone.
+    #[inline(always)]
+    fn whole_nodes(&mut self, form: Form, piece: &[u8], turns: &mut Count) -> (usize, Whole)
+        requires { Awaits self.old form }
+        ensures { WholeTurnsReport self.old self.new piece.now turns.old.so_far turns.new.so_far
+            result.0 result.1 }
+    {
+        match form {
+            Form::Primitive(Primitive::U8) => self.integers(Primitive::U8, piece, turns),
+            Form::Primitive(Primitive::U16) => self.integers(Primitive::U16, piece, turns),
+            Form::Primitive(Primitive::U32) => self.integers(Primitive::U32, piece, turns),
+            Form::Primitive(Primitive::U64) => self.integers(Primitive::U64, piece, turns),
+            Form::Primitive(Primitive::U128) => self.integers(Primitive::U128, piece, turns),
+            Form::Compact(Target::U32) => self.compacts(Target::U32, piece, turns),
+            Form::Compact(Target::U128) => self.compacts(Target::U128, piece, turns),
+            other => {
+                turns.tick();
+                (0, self.whole_node(other, piece))
+            }
         }
     }
 
@@ -61,63 +123,21 @@ impl<'r, A: Allocator> Run<'r, A> {
         (0, self.turn(piece))
     }
 
-    /// Takes turns on values of this primitive type, one of which is next, as long as another follows.
-    #[inline(always)]
-    fn integers(&mut self, primitive: Primitive, piece: &[u8], turns: &mut Count) -> (usize, Turned)
-        requires { Awaits self.old (Form.Primitive primitive) }
-        ensures { TurnsReport self.old self.new piece.now turns.old.so_far turns.new.so_far
-            result.0 result.1 }
-    {
-        let form = Form::Primitive(primitive);
-        self.repeat(form, primitive_form(primitive), piece, turns)
-    }
-
-    /// Takes turns on compact integers of this target, one of which is next, as long as another follows.
-    #[inline(always)]
-    fn compacts(&mut self, target: Target, piece: &[u8], turns: &mut Count) -> (usize, Turned)
-        requires { Awaits self.old (Form.Compact target) }
-        ensures { TurnsReport self.old self.new piece.now turns.old.so_far turns.new.so_far
-            result.0 result.1 }
-    {
-        self.repeat(Form::Compact(target), compact_form(target), piece, turns)
-    }
-
-    /// Takes turns, and counts each: as many as there are integers of one type, or one. How many bytes those before the
-    /// last one took, and what the last one did. Each arm names its form anew, so that its turns are made for it alone.
+    /// Takes turns, and counts each: on nodes whose own bytes the piece has whole, and else one of another kind. How many
+    /// bytes those before the last one took, and what the last one did.
     #[inline(always)]
     fn take_turns(&mut self, piece: &[u8], turns: &mut Count) -> (usize, Turned)
         ensures { TurnsReport self.old self.new piece.now turns.old.so_far turns.new.so_far
             result.0 result.1 }
     {
-        match self.next_form() {
-            Some(Form::Primitive(Primitive::U8)) => self.integers(Primitive::U8, piece, turns),
-            Some(Form::Primitive(Primitive::U16)) => self.integers(Primitive::U16, piece, turns),
-            Some(Form::Primitive(Primitive::U32)) => self.integers(Primitive::U32, piece, turns),
-            Some(Form::Primitive(Primitive::U64)) => self.integers(Primitive::U64, piece, turns),
-            Some(Form::Primitive(Primitive::U128)) => self.integers(Primitive::U128, piece, turns),
-            Some(Form::Compact(Target::U32)) => self.compacts(Target::U32, piece, turns),
-            Some(Form::Compact(Target::U128)) => self.compacts(Target::U128, piece, turns),
-            Some(Form::Primitive(Primitive::Str)) => {
-                turns.tick();
-                (0, self.prefixed_turn(PrefixedRun::Text, piece))
-            }
-            Some(Form::Bytes) => {
-                turns.tick();
-                (0, self.prefixed_turn(PrefixedRun::Bytes, piece))
-            }
-            Some(Form::Arm) => {
-                turns.tick();
-                (0, self.own_turn(BytesForm::Arm, piece))
-            }
-            Some(Form::Fields) => {
-                turns.tick();
-                (0, self.bare_turn(BareForm::Fields))
-            }
-            Some(Form::ByteArray(len)) => {
-                turns.tick();
-                (0, self.byte_array_turn(len, piece))
-            }
-            _ => self.one_turn(piece, turns),
+        let Some(form) = self.next_form() else {
+            return self.one_turn(piece, turns);
+        };
+        let (before, last) = self.whole_nodes(form, piece, turns);
+        match last {
+            Whole::Added(count) => (before, Turned::On(count)),
+            Whole::Left => (before, self.turn(&piece[before..])),
+            Whole::OutOfMemory => (before, Turned::OutOfMemory),
         }
     }
 

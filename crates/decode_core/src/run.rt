@@ -1,7 +1,7 @@
 //! A decoder on its way: it takes its input turn by turn.
 
-ghost use Rattle.std.specs.Prelude.{ℕ, List, true, ◌≡◌, ◌<◌, ◌≤◌, ◌+◌, ◌++◌, [], length, take};
-ghost use Rattle.std.specs.Prelude.{drop, None, Some, suc, IfSome, IfErr, IfOk, Ok, OnOk, OnErr};
+ghost use Rattle.std.specs.Prelude.{ℕ, List, true, ◌≡◌, ◌⊎◌, ◌<◌, ◌≤◌, ◌+◌, ◌++◌, [], length};
+ghost use Rattle.std.specs.Prelude.{take, drop, None, Some, suc, IfSome, IfErr, IfOk, Ok, OnOk, OnErr};
 ghost use Rattle.decode_core.specs.Running.{IsCarry, IsFresh, IsKeptRun, IsRunNext};
 ghost use Rattle.grammar_core.specs.Runs.{run_form};
 ghost use Rattle.value_core.specs.Walked.{next_of};
@@ -11,7 +11,8 @@ ghost use Rattle.decode_core.specs.Needs.{AreOwn, IsFirst, IsNeeded};
 ghost use Rattle.decode_core.specs.NodeForms.{form_of_bare, form_of_bytes, prefixed_kind};
 ghost use Rattle.decode_core.specs.NodeAdds.{TakesNode};
 ghost use Rattle.decode_core.specs.Turned.{BareReports, Awaits, EndReports, IsSound, KeepsTurns};
-ghost use Rattle.decode_core.specs.Turned.{PieceReports, StepReports, node_turned};
+ghost use Rattle.decode_core.specs.Turned.{IsOn, PieceReports, StepReports, WholeReports};
+ghost use Rattle.decode_core.specs.Turned.{node_turned};
 
 use crate::carry::Carry;
 use crate::fault::DecodeReason;
@@ -20,7 +21,7 @@ use crate::need::need;
 use crate::node::{
     NodeFault, add_arm, add_bare, add_byte_array, add_plain, add_sequence, start_run, whole_run,
 };
-use crate::turned::{Stopped, Turned};
+use crate::turned::{Stopped, Turned, Whole};
 use count_core::Count;
 use scale_core::compact_len;
 use std::alloc::Allocator;
@@ -139,7 +140,7 @@ impl<'r, A: Allocator> Run<'r, A> {
     }
 
     /// A turn on a node without bytes of its own.
-    pub(crate) fn bare_turn(&mut self, form: BareForm) -> Turned
+    fn bare_turn(&mut self, form: BareForm) -> Turned
         requires next { next_of self.old.built.walk ≡ Next.Wants (form_of_bare form) }
         requires closed { self.old.built.run ≡ None }
         ensures reports { BareReports self.old self.new result }
@@ -171,6 +172,7 @@ impl<'r, A: Allocator> Run<'r, A> {
         requires whole { AreOwn (form_of_bytes form) own.now }
         ensures reports { (rest : List ℕ) → StepReports self.old self.new (own.now ++ rest) result }
         ensures kept { KeepsTurns self.old self.new result }
+        ensures same { IsOn result ⊎ (self.new ≡ self.old) }
     {
         let taken = take_node(&mut self.builder, &mut self.open_run, form, own);
         node_turn(taken, 0, own.len(), own.len())
@@ -205,8 +207,7 @@ impl<'r, A: Allocator> Run<'r, A> {
     }
 
     /// A turn on a node with bytes of its own, other than a run that is open.
-    #[inline(always)]
-    pub(crate) fn own_turn(&mut self, form: BytesForm, piece: &[u8]) -> Turned
+    fn own_turn(&mut self, form: BytesForm, piece: &[u8]) -> Turned
         requires next { next_of self.old.built.walk ≡ Next.Wants (form_of_bytes form) }
         requires closed { self.old.built.run ≡ None }
         requires carried { IsCarry self.old.built self.old.carry }
@@ -223,40 +224,88 @@ impl<'r, A: Allocator> Run<'r, A> {
         self.cut_turn(form, len, piece)
     }
 
-    /// A turn on a text or a run of bytes of which no bytes came but some of its length. Where the piece has it whole and
-    /// nothing of it is refused, it is added, and else it is opened by its length.
-    pub(crate) fn prefixed_turn(&mut self, run: PrefixedRun, piece: &[u8]) -> Turned
+    /// A turn on a node with bytes of its own, where the piece has them whole and they are not refused.
+    #[inline(always)]
+    pub(crate) fn whole_own(&mut self, form: BytesForm, piece: &[u8]) -> Whole
+        requires next { next_of self.old.built.walk ≡ Next.Wants (form_of_bytes form) }
+        requires closed { self.old.built.run ≡ None }
+        ensures { WholeReports self.old self.new piece.now result }
+    {
+        if piece.is_empty() || !self.carry.as_slice().is_empty() {
+            return Whole::Left;
+        }
+        let len = need(form, piece[0]);
+        if piece.len() < len {
+            return Whole::Left;
+        }
+        match self.whole_turn(form, &piece[..len]) {
+            Turned::On(count) => Whole::Added(count),
+            Turned::Stopped(_) => Whole::Left,
+            Turned::OutOfMemory => Whole::OutOfMemory,
+        }
+    }
+
+    /// A turn on a text or a run of bytes whose length stands before it, where the piece has it whole with its length and
+    /// nothing of it is refused.
+    pub(crate) fn whole_prefixed(&mut self, run: PrefixedRun, piece: &[u8]) -> Whole
         requires next { next_of self.old.built.walk ≡ Next.Wants (run_form (prefixed_kind run)) }
         requires closed { self.old.built.run ≡ None }
-        requires carried { IsCarry self.old.built self.old.carry }
-        ensures reports { StepReports self.old self.new piece.now result }
-        ensures kept { KeepsTurns self.old self.new result }
+        ensures { WholeReports self.old self.new piece.now result }
     {
         if self.carry.as_slice().is_empty()
             && let Some((leaf, count)) = whole_run(run, piece)
         {
             let Ok(()) = self.builder.add_leaf(leaf) else {
-                return Turned::OutOfMemory;
+                return Whole::OutOfMemory;
             };
-            return Turned::On(count);
+            return Whole::Added(count);
         }
-        self.own_turn(BytesForm::Run(run), piece)
+        Whole::Left
+    }
+
+    /// A turn on an array of u8, where the piece has it whole.
+    pub(crate) fn whole_byte_array(&mut self, len: u32, piece: &[u8]) -> Whole
+        requires next { next_of self.old.built.walk ≡ Next.Wants (Form.ByteArray len) }
+        requires closed { self.old.built.run ≡ None }
+        ensures reports { WholeReports self.old self.new piece.now result }
+        ensures short { result ≡ Whole.Left → length piece.now < len }
+    {
+        let count = len as usize;
+        if piece.len() < count {
+            return Whole::Left;
+        }
+        let Ok(()) = add_byte_array(&mut self.builder, len, &piece[..count]) else {
+            return Whole::OutOfMemory;
+        };
+        Whole::Added(count)
+    }
+
+    /// A turn on a node without bytes of its own: none are missing, so it is added.
+    #[inline(always)]
+    pub(crate) fn whole_bare(&mut self, form: BareForm) -> Whole
+        requires next { next_of self.old.built.walk ≡ Next.Wants (form_of_bare form) }
+        requires closed { self.old.built.run ≡ None }
+        ensures { (piece : List ℕ) → WholeReports self.old self.new piece result }
+    {
+        match add_bare(&mut self.builder, form) {
+            Ok(()) => Whole::Added(0),
+            Err(_) => Whole::OutOfMemory,
+        }
     }
 
     /// A turn on an array of u8 of which no byte came: it is added where the piece has it whole, and else it is opened
     /// with the bytes that are there.
-    pub(crate) fn byte_array_turn(&mut self, len: u32, piece: &[u8]) -> Turned
+    fn byte_array_turn(&mut self, len: u32, piece: &[u8]) -> Turned
         requires next { next_of self.old.built.walk ≡ Next.Wants (Form.ByteArray len) }
         requires closed { self.old.built.run ≡ None }
+        requires carried { IsCarry self.old.built self.old.carry }
         ensures reports { StepReports self.old self.new piece.now result }
         ensures kept { KeepsTurns self.old self.new result }
     {
-        let count = len as usize;
-        if count <= piece.len() {
-            let Ok(()) = add_byte_array(&mut self.builder, len, &piece[..count]) else {
-                return Turned::OutOfMemory;
-            };
-            return Turned::On(count);
+        match self.whole_byte_array(len, piece) {
+            Whole::Added(count) => return Turned::On(count),
+            Whole::OutOfMemory => return Turned::OutOfMemory,
+            Whole::Left => {}
         }
         if piece.is_empty() {
             return Turned::Stopped(Stopped::Wants);

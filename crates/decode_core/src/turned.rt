@@ -30,3 +30,14 @@ pub(crate) enum Turned {
     /// Memory was refused.
     OutOfMemory,
 }
+
+/// What came of a turn on a node whose own bytes a piece may have whole. It is small, since one is made for each node.
+#[derive(Clone, Copy, Debug, PartialEq, Eq)]
+pub(crate) enum Whole {
+    /// The piece had them: the node was added, by so many bytes.
+    Added(usize),
+    /// Nothing changed, since the node takes a turn of another kind: one that holds bytes, opens a run, refuses or stops.
+    Left,
+    /// Memory was refused, and nothing changed.
+    OutOfMemory,
+}

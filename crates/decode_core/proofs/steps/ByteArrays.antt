@@ -11,7 +11,7 @@ use Rattle.grammar_core.specs.declared.form.Next.TheVariants as next
 use Rattle.value_core.specs.Built.{Built, next_layout, with_run_opened}
 use Rattle.value_core.specs.Walked.{next_of}
 use Rattle.decode_core.specs.NodeAdds.{IsAdded, IsSpelled}
-use Rattle.decode_core.specs.Running.{Running, IsRunning, held_of}
+use Rattle.decode_core.specs.Running.{Running, IsCarry, IsRunning, held_of}
 use Rattle.decode_core.specs.Reported.{own_at}
 use Rattle.decode_core.specs.Turned.{IsSame, KeepsNode, KeepsRun, PieceReports, StepReports, Steps}
 use Rattle.decode_core.specs.Turned.{WantsBytes, WantsMemory}
@@ -88,16 +88,20 @@ array_wants b c kept n piece a spelled =
 -- ---- not all are
 
 -- it waits for its first byte
-pub array_waits : (b : Built) (c : List ℕ) (kept : Option OpenRun) (n : ℕ) → AtArray b c kept n →
-    1 ≤ n → WantsBytes (record { built = b; carry = c })
-array_waits b c kept n a some = record {
-  form = form.ByteArray n;
-  next = a.wants;
-  left = [];
-  short = ap (own_at (next_layout b)) (none_held b c kept n a)
-      ∙ ap (λ (f : Layout). own_at f []) (next_run b (kind.ByteArray n) a.wants)
-      ∙ run_missing (kind.ByteArray n) n [] (byte_array_length n) (omega (arith, some));
-}
+pub array_waits : (b : Built) (c : List ℕ) (n : ℕ) → IsCarry b c →
+    next_of b.walk ≡ next.Wants (form.ByteArray n) → b.run ≡ None → 1 ≤ n →
+    WantsBytes (record { built = b; carry = c })
+array_waits b c n carried wants closed some =
+    let held : held_of (record { built = b; carry = c }) ≡ [] = held_closed b c closed
+    ∙ carry_none b c (form.ByteArray n) carried wants (λ no. no) in
+    record {
+      form = form.ByteArray n;
+      next = wants;
+      left = [];
+      short = ap (own_at (next_layout b)) held
+          ∙ ap (λ (f : Layout). own_at f []) (next_run b (kind.ByteArray n) wants)
+          ∙ run_missing (kind.ByteArray n) n [] (byte_array_length n) (omega (arith, some));
+    }
 
 -- it is open, and lacks all its bytes
 pub array_opened : (b : Built) (c : List ℕ) (kept : Option OpenRun) (n : ℕ) → AtArray b c kept n →

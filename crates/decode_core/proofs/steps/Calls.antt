@@ -9,10 +9,12 @@ use Rattle.value_core.specs.Refusals.{is_whole}
 use Rattle.decode_core.specs.Running.{Running}
 use Rattle.decode_core.specs.Turned.{Awaits, FeedReports, FewTurns, IsSound, KeepsTurns, Moves}
 use Rattle.decode_core.specs.Turned.{RunsOut, StepReports, StopCounts, StopsShort, TurnsReport}
-use Rattle.decode_core.specs.Turned.{left_to_do}
+use Rattle.decode_core.specs.Turned.{WholeReports, WholeTurnsReport, left_to_do}
 use Rattle.decode_core.specs.declared.turned.Stopped.{Stopped}
 use Rattle.decode_core.specs.declared.turned.Stopped.TheVariants as stop
 use Rattle.decode_core.specs.declared.turned.Turned.{Turned}
+use Rattle.decode_core.specs.declared.turned.Whole.{Whole}
+use Rattle.decode_core.specs.declared.turned.Whole.TheVariants as whole
 use Rattle.decode_core.specs.declared.turned.Turned.TheVariants as turned
 use Rattle.decode_core.proofs.steps.Moving.{awaits_goes_on, drop_more, grows_by, moves_on}
 use Rattle.decode_core.proofs.steps.Moving.{one_or_bytes, stays_whole, step_nearer, turns_on}
@@ -28,17 +30,17 @@ reported_of b d piece at from to n last is e k =
     subst (λ (t : Turned). TurnsReport b d (drop at piece) from to n t) e
     (subst (λ (l : List ℕ). TurnsReport b d l from to n last) (take_rest piece at) k)
 
--- a turn after those of the same call
-pub one_more : (a b d : Running) (f : Form) (piece : List ℕ) (at start from to : ℕ)
-    (last : Turned) →
+-- a turn on a node that the piece may have whole, after others of the same call
+pub whole_more : (a b d : Running) (f : Form) (piece : List ℕ) (at start from to : ℕ)
+    (last : Whole) →
     at ≤ length piece → Moves a b (take at piece) →
     left_to_do b (drop at piece) ≤ left_to_do a piece →
     start + length b.built.entries ≤ from + length a.built.entries →
     from + length a.built.entries ≤ start + at + length b.built.entries → to ≡ from + 1 →
-    Awaits a f → IsSound b → StepReports b d (take (length piece - at) (drop at piece)) last →
-    KeepsTurns b d last → TurnsReport a d piece start to at last
-one_more a b d f piece at start from to last le h near each few is awaits sound
-    reports kept = record {
+    Awaits a f → IsSound b → WholeReports b d (take (length piece - at) (drop at piece)) last →
+    WholeTurnsReport a d piece start to at last
+whole_more a b d f piece at start from to last le h near each few is awaits sound reports =
+    record {
       before = b;
       within = le;
       moves = h;
@@ -46,9 +48,28 @@ one_more a b d f piece at start from to last le h near each few is awaits sound
       few = (omega (arith, each, is), omega (arith, few, is));
       sound = sound;
       reports =
-          subst (λ (l : List ℕ). StepReports b d l last) (take_rest piece at) reports;
-      kept = kept;
-      whole = λ w. awaits_goes_on a f awaits w;
+          subst (λ (l : List ℕ). WholeReports b d l last) (take_rest piece at) reports;
+      begun = λ w. awaits_goes_on a f awaits w;
+    }
+
+-- where the last of such turns changed nothing, a turn of another kind is in its place
+pub whole_left : (a b d : Running) (piece : List ℕ) (from to n : ℕ) (last : Turned) →
+    WholeTurnsReport a b piece from to n whole.Left →
+    StepReports b d (take (length piece - n) (drop n piece)) last → KeepsTurns b d last →
+    TurnsReport a d piece from to n last
+whole_left a b d piece from to n last w reports kept =
+    record {
+      before = w.before;
+      within = w.within;
+      moves = w.moves;
+      nearer = w.nearer;
+      few = w.few;
+      sound = w.sound;
+      reports = subst (λ (s : Running). StepReports s d (drop n piece) last) w.reports
+          (subst (λ (l : List ℕ). StepReports b d l last) (take_rest piece n) reports);
+      kept =
+          subst (λ (s : Running). KeepsTurns s d last) w.reports kept;
+      whole = λ is. absurd (w.begun is);
     }
 
 -- the turns so far, and those of the call before its last one

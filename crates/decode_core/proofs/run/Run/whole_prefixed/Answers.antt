@@ -1,4 +1,4 @@
-use Rattle.std.proofs.Common.{◌≡◌, [], sym, ◌∙◌, subst, arith, take}
+use Rattle.std.proofs.Common.{◌≡◌, [], sym, ap, ◌∙◌, subst, arith, take}
 use Rattle.scale_core.proofs.ReadForms.{are_bytes}
 use Rattle.grammar_core.specs.Runs.{run_form}
 use Rattle.value_core.specs.Built.{Built}
@@ -8,7 +8,7 @@ use Rattle.decode_core.specs.Turned.{IsSame, Steps, WantsMemory}
 use Rattle.decode_core.proofs.steps.RunTurns.{at_node, none_of, of_fields}
 use Rattle.decode_core.proofs.steps.WholeRuns.{run_is_next, whole_run_reports, whole_run_running}
 use Rattle.decode_core.proofs.steps.WholeRuns.{whole_run_wants}
-use Rattle.decode_core.proofs.run.Run.prefixed_turn.Goals as goal
+use Rattle.decode_core.proofs.run.Run.whole_prefixed.Goals as goal
 
 pub add_leaf-requires-clause-next : goal.add_leaf-requires-clause-next
 add_leaf-requires-clause-next g c =
@@ -28,8 +28,8 @@ invariant_of-self-2 g c =
     (at_node (run_form (prefixed_kind c.args.run)) c.self.view_is c.requires.next
     c.requires.closed) c.in-Some.ensures c.in-Ok.ensures.ok
 
-pub returns-clause-reports : goal.returns-clause-reports
-returns-clause-reports g c =
+pub returns : goal.returns
+returns g c =
     let none : c.self.inside.carry ≡ [] = sym c.as_slice.ensures.bytes
     ∙ none_of c.as_slice.result.now c.if-is_empty.ensures in
     let t = whole_run_reports (prefixed_kind c.args.run) c.self.inside.builder
@@ -48,12 +48,15 @@ invariant_of-self g c =
     subst (λ (x : Built). IsRunning x c.self.inside.carry c.self.inside.open_run)
     (sym c.in_default.ensures.err) c.self.invariant
 
-pub returns-in_default-clause-reports : goal.returns-in_default-clause-reports
-returns-in_default-clause-reports g c =
+pub returns-in_default : goal.returns-in_default
+returns-in_default g c =
     let none : c.self.inside.carry ≡ [] = sym c.as_slice.ensures.bytes
     ∙ none_of c.as_slice.result.now c.if-is_empty.ensures in
-    subst (λ (s : Running). WantsMemory s c.args.piece.now) c.self.view_is
-    (whole_run_wants (prefixed_kind c.args.run) c.self.inside.builder c.self.inside.carry
-    c.args.piece.now c.in-Some.leaf c.in-Some.count none
+    let wants = whole_run_wants (prefixed_kind c.args.run) c.self.inside.builder
+    c.self.inside.carry c.args.piece.now c.in-Some.leaf c.in-Some.count none
     (at_node (run_form (prefixed_kind c.args.run)) c.self.view_is c.requires.next
-    c.requires.closed) c.in-Some.ensures)
+    c.requires.closed) c.in-Some.ensures in (
+      subst (λ (s : Running). WantsMemory s c.args.piece.now) c.self.view_is wants,
+      ap (λ (x : Built). of_fields x c.self.inside.carry) c.in_default.ensures.err
+          ∙ c.self.view_is,
+    )
