@@ -144,7 +144,8 @@ fn close_one<A: Allocator>(walk: &mut Walk<'_, A>, nodes: &mut Vec<Node, A>) -> 
 }
 
 /// Closes the open nodes that are whole, one in each turn, and counts the turns.
-fn settle<A: Allocator>(walk: &mut Walk<'_, A>, nodes: &mut Vec<Node, A>, turns: &mut Count)
+#[inline(never)]
+fn close_whole<A: Allocator>(walk: &mut Walk<'_, A>, nodes: &mut Vec<Node, A>, turns: &mut Count)
     requires { AreBuilt walk.old nodes.old.items }
     ensures settles { Settles walk.old nodes.old.items walk.new nodes.new.items }
     ensures walk { walk.new ≡ settled_walk walk.old }
@@ -152,6 +153,19 @@ fn settle<A: Allocator>(walk: &mut Walk<'_, A>, nodes: &mut Vec<Node, A>, turns:
 {
     'closing: while close_one(walk, nodes) {
         turns.tick();
+    }
+}
+
+/// Closes the open nodes that are whole. After most nodes something is next in the innermost one, and then none is.
+#[inline(always)]
+fn settle<A: Allocator>(walk: &mut Walk<'_, A>, nodes: &mut Vec<Node, A>, turns: &mut Count)
+    requires { AreBuilt walk.old nodes.old.items }
+    ensures settles { Settles walk.old nodes.old.items walk.new nodes.new.items }
+    ensures walk { walk.new ≡ settled_walk walk.old }
+    ensures turns { turns.new.so_far ≡ turns.old.so_far + closings walk.old.frames }
+{
+    if walk.is_finished() {
+        close_whole(walk, nodes, turns);
     }
 }
 

@@ -136,6 +136,7 @@ impl<'r, A: Allocator> Walk<'r, A> {
     }
 
     /// Is nothing next in the innermost node that is open?
+    #[inline(always)]
     pub(crate) fn is_finished(&self) -> bool
         ensures { result ≡ is_none (next_type self.now) }
     {
