@@ -95,9 +95,9 @@ fn find_keys(alloc: Global, fields: &[Field], positions: &mut Vec<u32>) -> Resul
 #[derive(Drop)]
 pub(crate) struct Orders<'r> {
     checked: &'r Checked,
-    /// What is known of a place whose slot was empty when it was met.
+    /// What is known of the place that was asked for last of those with this slot.
     slots: [Option<(Place, Known)>; SLOTS],
-    /// What is known of the others, so few places take no memory here.
+    /// What is known of all places of the slots that more than one place has, so few places take no memory here.
     others: BTreeMap<Place, Known>,
     positions: Vec<u32>,
 }
@@ -141,7 +141,8 @@ impl<'r> Orders<'r> {
         self.positions[start + turn]
     }
 
-    /// How the values of the fields at a place are shown: at most one look-up, and a search where it is not known.
+    /// How the values of the fields at a place are shown: mostly one look, at most one look-up, and a search where it is
+    /// not known.
     #[inline(always)]
     pub(crate) fn keys(
         &mut self,
@@ -154,14 +155,32 @@ impl<'r> Orders<'r> {
         ensures grows { Grows self.old self.new }
         ensures keys { IfOk result (IsKnown self.new.positions fields.now) }
     {
-        match keys_of_few(fields) {
-            Some(keys) => Ok(Known { keys, plain: false }),
-            None => self.kept_keys(alloc, place, fields),
+        if let Some(keys) = keys_of_few(fields) {
+            return Ok(Known { keys, plain: false });
+        }
+        if let Some(known) = self.in_slot(place) {
+            return Ok(known);
+        }
+        self.other_keys(alloc, place, fields)
+    }
+
+    /// What is known of the fields at a place, where its slot has it.
+    #[inline(always)]
+    fn in_slot(&self, place: Place) -> Option<Known>
+        ensures { IfSome result (AreKeysOf self.now.positions (fields_at self.now.types place)) }
+    {
+        let (last, known) = self.last_in_slot(place)?;
+        if last.ty == place.ty && last.arm == place.arm {
+            Some(known)
+        } else {
+            None
         }
     }
 
-    /// How the values of the fields at a place are shown, as it is known, or as it is found and kept.
-    fn kept_keys(
+    /// How the values of the fields at a place are shown, where another place has its slot: as it is in the map, or as it
+    /// is found and kept. Its slot has it then.
+    #[inline(never)]
+    fn other_keys(
         &mut self,
         alloc: Global,
         place: Place,
@@ -172,7 +191,8 @@ impl<'r> Orders<'r> {
         ensures grows { Grows self.old self.new }
         ensures keys { IfOk result (IsKnown self.new.positions fields.now) }
     {
-        if let Some(known) = self.known(place) {
+        if let Some(known) = self.in_map(place) {
+            self.put_in_slot(place, known);
             return Ok(known);
         }
         let known = find_keys(alloc, fields, &mut self.positions)?;
@@ -180,32 +200,50 @@ impl<'r> Orders<'r> {
         Ok(known)
     }
 
-    /// What is known of the fields at a place, from its slot, or where another place has that, from the map.
-    fn known(&self, place: Place) -> Option<Known>
+    /// What is known of the fields at a place, where the map has it.
+    fn in_map(&self, place: Place) -> Option<Known>
         ensures { IfSome result (AreKeysOf self.now.positions (fields_at self.now.types place)) }
     {
-        match self.slots[place.slot()] {
-            Some((first, known)) => {
-                if first.ty == place.ty && first.arm == place.arm {
-                    return Some(known);
-                }
-                self.others.get(&place).copied()
-            }
-            None => None,
-        }
+        self.others.get(&place).copied()
     }
 
-    /// Keeps what is known of the fields at a place, in its slot, or where another place has that, in the map.
+    /// What is known of the place that was asked for last of those with the slot of this one.
+    #[inline(always)]
+    fn last_in_slot(&self, place: Place) -> Option<(Place, Known)>
+        ensures { IfSome result (λ x. AreKeysOf self.now.positions
+            (fields_at self.now.types x.0) x.1) }
+    {
+        self.slots[place.slot()]
+    }
+
+    /// The slot of a place has what is known of the fields there.
+    fn put_in_slot(&mut self, place: Place, known: Known)
+        requires { AreKeysOf self.old.positions (fields_at self.old.types place) known }
+        ensures { self.new ≡ self.old }
+    {
+        self.slots[place.slot()] = Some((place, known));
+    }
+
+    /// The map has what is known of the fields at a place.
+    fn put_in_map(&mut self, place: Place, known: Known) -> Result<(), AllocError>
+        requires { AreKeysOf self.old.positions (fields_at self.old.types place) known }
+        ensures { self.new ≡ self.old }
+    {
+        self.others.insert(place, known)?;
+        Ok(())
+    }
+
+    /// Keeps what is known of the fields at a place in its slot. Where another place had that, both are in the map from now
+    /// on.
     fn keep(&mut self, place: Place, known: Known) -> Result<(), AllocError>
         requires { AreKeysOf self.old.positions (fields_at self.old.types place) known }
         ensures { self.new ≡ self.old }
     {
-        let slot = place.slot();
-        if self.slots[slot].is_none() {
-            self.slots[slot] = Some((place, known));
-            return Ok(());
+        if let Some((last, last_known)) = self.last_in_slot(place) {
+            self.put_in_map(last, last_known)?;
+            self.put_in_map(place, known)?;
         }
-        self.others.insert(place, known)?;
+        self.put_in_slot(place, known);
         Ok(())
     }
 }

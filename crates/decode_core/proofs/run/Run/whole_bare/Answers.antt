@@ -42,7 +42,9 @@ returns g c =
           closed (subst (AddsBare b new) w.in-Ok.is c.add_bare.ensures) in
           (omega arith, added.1, added.2))
       | in-Err w ↦ let refused = subst (AddsBare b new) w.in-Err.is c.add_bare.ensures in
-          rw w.result-is
-          (bare_wants b k c.self.inside.open_run f c.self.invariant
-          wants none closed refused.0 piece, ap (λ (x : Built). of_fields x k) refused.1)
+          rw w.result-is (
+            bare_wants b k c.self.inside.open_run f c.self.invariant
+                wants none closed refused.0 piece,
+            ap (λ (x : Built). of_fields x k) refused.1,
+          )
     ])

@@ -1,7 +1,7 @@
 use Rattle.std.proofs.Common.{sym, subst}
 use Rattle.json_core.specs.Ordered.{fields_at, AreKeysOf, AreKnownOrders, OrdersView}
 use Rattle.json_core.proofs.Known.{known_insert, same_place}
-use Rattle.json_core.proofs.orders.Orders.keep.Goals as goal
+use Rattle.json_core.proofs.orders.Orders.put_in_map.Goals as goal
 
 pub invariant_of-self-2 : goal.invariant_of-self-2
 invariant_of-self-2 c =

@@ -1,5 +1,5 @@
 use Rattle.json_core.proofs.Known.{orders_more}
-use Rattle.json_core.proofs.orders.Orders.kept_keys.Goals as goal
+use Rattle.json_core.proofs.orders.Orders.other_keys.Goals as goal
 
 pub invariant_of-self : goal.invariant_of-self
 invariant_of-self c = orders_more c.self.inside.checked.now.types c.self.inside.positions.items _
