@@ -43,7 +43,7 @@ fields_next w p e o =
       own = [];
       are_bytes = tt;
       finite = rw (← same) k.finite;
-      is_open = ([], o.members, o.laid, ap how_many_left o.part_is, o.part_is, refl);
+      is_open = (p, [], [], (o.members, o.laid, refl, o.part_is), refl, refl, (refl, refl));
     }
 
 -- an array of this length or a sequence, whose elements these are
@@ -76,7 +76,15 @@ list_next w n p h e o = by (ready e) o.laid where
     own = [];
     are_bytes = tt;
     finite = k.1;
-    is_open = (o.element, n, [], [], inl (laid, refl), o.part_is, omega arith, refl, refl);
+    is_open = (
+      p,
+      [],
+      [],
+      (n, o.element, inl (laid, refl), o.part_is),
+      sym (ap how_many_left o.part_is),
+      refl,
+      (refl, refl),
+    );
   }
   by k (inr laid) = record {
     ty = o.ty;
@@ -89,15 +97,13 @@ list_next w n p h e o = by (ready e) o.laid where
     are_bytes = are_compact n;
     finite = k.1;
     is_open = (
-      o.element,
-      n,
+      p,
       compact n,
       [],
-      inr (laid, (omega (arith, h), refl)),
-      o.part_is,
-      omega arith,
+      (n, o.element, inr (laid, (omega (arith, h), refl)), o.part_is),
+      sym (ap how_many_left o.part_is),
       sym (append-nil (compact n)),
-      refl,
+      (refl, refl),
     );
   }
 
@@ -133,19 +139,13 @@ arm_next w index q p h e o = by (arm_of o.arms index) refl o.found_is where
         are_bytes = (h, tt);
         finite = rw (← same) k.finite;
         is_open = (
-          o.arms,
-          index,
-          a.1,
+          p,
+          index ∷ [],
           [],
-          field_types a.1.fields,
-          [],
-          o.laid,
-          rw position f,
-          refl,
-          ap how_many_left part,
-          part,
+          (o.arms, index, a.1, o.laid, rw position f, refl, part),
           refl,
           refl,
+          (refl, refl),
         );
       }
 

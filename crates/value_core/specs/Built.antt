@@ -22,7 +22,7 @@ use Rattle.grammar_core.specs.Preorder as head
 use Rattle.grammar_core.specs.Tree as tree
 use Rattle.grammar_core.specs.Preorder.{Head, tree_with, tree_of}
 use Rattle.node_core.specs.Shown.{Seen, head_shown}
-use Rattle.value_core.specs.Spine.{IsOpenAs}
+use Rattle.grammar_core.specs.Begun.{IsOpenAs}
 use Rattle.value_core.specs.Walked.{OpenPart, Walked, next_of, next_type, advanced, opened}
 use Rattle.node_core.specs.declared.node.Node.{Node}
 
