@@ -6,7 +6,12 @@ use Rattle.registry_core.specs.declared.type_info.TypeInfo.{TypeInfo}
 use Rattle.grammar_core.specs.Tree.{Trees, none, and, how_many}
 use Rattle.grammar_core.specs.Grammar.{Val, Vals, Each}
 use Rattle.grammar_core.specs.Parts.{Part, each, times, first_of, left_after, how_many_left}
+use Rattle.grammar_core.specs.Cells.{child_type}
 use Rattle.grammar_core.specs.Begun.{FirstValues}
+
+-- where a type is next, it is the type of the next child
+pub child_is : (p : Part) (u : ℕ) → first_of p ≡ Some u → child_type p ≡ u
+child_is p u e = rw (e, child_type) refl
 
 -- where a type is next, one part less is left after it
 pub one_less : (p : Part) (u : ℕ) → first_of p ≡ Some u →

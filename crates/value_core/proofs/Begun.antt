@@ -108,7 +108,7 @@ spine_is_begun r top room t os f fs cs own u e h first =
 -- ---- its counts
 
 -- the list of a tree's nodes is as long as the tree has nodes
-preorder_length : (v : Tree) → length (preorder v) ≡ nodes v
+pub preorder_length : (v : Tree) → length (preorder v) ≡ nodes v
 preorder_length v = ap length (sym (cells_preorder [] 0 v))
     ∙ length-map (cells [] 0 v) (λ (c : Cell). c.head) ∙ cells_length [] 0 v
 

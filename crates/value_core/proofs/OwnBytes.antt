@@ -14,10 +14,11 @@ use Rattle.grammar_core.specs.Parts.{Part, left_after, how_many_left}
 use Rattle.grammar_core.specs.Cells.{Cell, cells, all_cells, child_type, part_of}
 use Rattle.grammar_core.specs.Begun.{BranchOpens, FirstValues, IsOpenAs}
 use Rattle.grammar_core.specs.Spelled.{cell_bytes, own_bytes}
+use Rattle.grammar_core.proofs.OpenNodes.{child_is}
 use Rattle.grammar_core.proofs.Spelled.{encoded_is_value, arm_byte, array_length, sequence_length}
 use Rattle.value_core.specs.Spine.{OpenNode, open_cells, Spine}
 use Rattle.value_core.specs.Walked.{OpenPart}
-use Rattle.value_core.proofs.Spines.{child_is, part_is}
+use Rattle.value_core.proofs.Spines.{part_is}
 
 -- the nodes of the first values spell their bytes
 first_bytes : (r : List TypeInfo) (p : Part) (vs : Trees) (b : List ℕ) (left : Part) →
@@ -33,7 +34,7 @@ first_bytes r p (and v vs) b left are h =
     ) (sym h.4)
 
 -- a branch by itself spells its own bytes
-branch_own : (r : List TypeInfo) (t : ℕ) (kind : Branch) (c : List ℕ) (p : Part) →
+pub branch_own : (r : List TypeInfo) (t : ℕ) (kind : Branch) (c : List ℕ) (p : Part) →
     BranchOpens (layout r t) kind c p →
     own_bytes (shape r t) (head.branch kind (how_many_left p)) ≡ c
 branch_own r t tree.fields c p h = sym h.2

@@ -13,9 +13,10 @@ use Rattle.grammar_core.specs.Tree.{all_nodes}
 use Rattle.grammar_core.specs.Grammar.{Val, Vals}
 use Rattle.grammar_core.specs.Parts.{Part, each, times, first_of, left_after}
 use Rattle.grammar_core.specs.Parts.{how_many_left}
-use Rattle.grammar_core.specs.Cells.{Cell, cells, all_cells, child_type, part_of}
+use Rattle.grammar_core.specs.Cells.{Cell, cells, all_cells, part_of}
 use Rattle.grammar_core.specs.Begun.{BranchOpens, FirstValues, IsOpenAs}
-use Rattle.grammar_core.proofs.OpenNodes.{none_left, first_count, first_fields, first_elements}
+use Rattle.grammar_core.proofs.OpenNodes.{child_is, none_left, first_count, first_fields}
+use Rattle.grammar_core.proofs.OpenNodes.{first_elements}
 use Rattle.value_core.specs.Walked.{OpenPart}
 use Rattle.value_core.specs.Spine.{OpenNode, open_cell, open_cells, IsOpen, open_part, Spine}
 use Rattle.node_core.proofs.Below.{arm_part_is}
@@ -41,10 +42,6 @@ snoc_levels (and w ws) v room h k = omega (arith, h, snoc_levels ws v room (omeg
 kind_levels : (kind : Branch) (vs : Trees) (room : ℕ) → most_levels vs ≤ room →
     levels (tree.branch kind vs) ≤ suc room
 kind_levels k vs room h = omega (arith, h)
-
--- the type of the child that is next
-pub child_is : (p : Part) (u : ℕ) → first_of p ≡ Some u → child_type p ≡ u
-child_is p u e = rw (e, child_type) refl
 
 -- one value more of the next part comes after the first ones, and its nodes after theirs
 first_grown : (r : List TypeInfo) (p : Part) (vs : Trees) (b : List ℕ) (left : Part) (u : ℕ)

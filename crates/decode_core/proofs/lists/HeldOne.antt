@@ -14,7 +14,7 @@ use Rattle.decode_core.specs.Holds.{OwnIsShort}
 use Rattle.decode_core.specs.Reported.{Own, leaf_own, arm_own, arms_own, length_own, shallow}
 use Rattle.decode_core.specs.Reported.{own_at}
 
-abbrev own_failed : Refusal × List ℕ → Own
+abbrev pub own_failed : Refusal × List ℕ → Own
 own_failed e = Err e
 
 -- two failures of a node's own bytes that are equal have one fault
@@ -22,7 +22,7 @@ own_failed_is : (x y : Refusal × List ℕ) → own_failed x ≡ own_failed y �
 own_failed_is x y e = cc
 
 -- two failures of a node's own bytes that are equal have one reason
-reason_is : (x y : Refusal × List ℕ) → own_failed x ≡ own_failed y → x.0 ≡ y.0
+pub reason_is : (x y : Refusal × List ℕ) → own_failed x ≡ own_failed y → x.0 ≡ y.0
 reason_is x y e = ap (λ (p : Refusal × List ℕ). p.0) (own_failed_is x y e)
 
 -- where a leaf's own bytes fail, the leaf's reading fails so

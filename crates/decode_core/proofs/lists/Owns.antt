@@ -1,22 +1,31 @@
 -- A node's own bytes.
 use Rattle.std.proofs.Common.{◌≡◌, ℕ, List, [], ◌∷◌, ◌++◌, Option, Some, None, Ok, Err, refl, ap}
+use Rattle.std.proofs.Common.{inl, inr}
+use Rattle.scale_core.specs.Compact.{IsCompact}
 use Rattle.scale_core.specs.Read.{Read, compact_at}
 use Rattle.scale_core.specs.declared.compact.Target.TheVariants as target
 use Rattle.scale_core.specs.declared.fault.Reason.{Reason}
 use Rattle.scale_core.specs.declared.fault.Reason.TheVariants as reasons
-use Rattle.scale_core.proofs.Results.{Extends, compact_extends}
+use Rattle.scale_core.proofs.Results.{Extends, compact_extends, Takes, compact_takes}
+use Rattle.scale_core.proofs.Again.{compact_again}
 use Rattle.registry_core.specs.declared.definition.Arm.{Arm}
 use Rattle.registry_core.specs.declared.type_info.TypeInfo.{TypeInfo}
 use Rattle.widths_core.specs.Arms.{arm_of}
 use Rattle.widths_core.specs.Layouts.{Layout}
 use Rattle.widths_core.specs.Layouts as layout
-use Rattle.grammar_core.specs.Tree.{Tree}
-use Rattle.grammar_core.specs.Reading.{layout_at, Refusal, basic, truncated}
+use Rattle.grammar_core.specs.Tree.{Branch, Tree, Trees}
+use Rattle.grammar_core.specs.Tree as tree
+use Rattle.grammar_core.specs.Preorder as head
+use Rattle.grammar_core.specs.Begun.{BranchOpens}
+use Rattle.grammar_core.specs.Reading.{layout_at, leaf_at, all_at, times_at, with_children}
+use Rattle.grammar_core.specs.Reading.{Refusal, basic, truncated}
 use Rattle.grammar_core.proofs.Stable.{layout_extends}
 use Rattle.decode_core.specs.Met.{met_layout}
-use Rattle.grammar_core.specs.Parts.{Part}
+use Rattle.grammar_core.specs.Parts.{Part, each, times, how_many_left}
 use Rattle.grammar_core.specs.Preorder.{Head}
-use Rattle.decode_core.specs.Reported.{leaf_own, arm_own, arms_own, length_own, shallow, own_at}
+use Rattle.decode_core.specs.Reported.{Own, leaf_own, arm_own, arms_own, length_own, shallow}
+use Rattle.decode_core.specs.Reported.{own_at}
+use Rattle.decode_core.proofs.lists.Reports.{IsLeafRead, reads_leaf}
 
 -- a leaf's own bytes are read as before where more follow, if the leaf is
 leaf_extends : (more : List ℕ) (read read' : Read Refusal Tree) →
@@ -69,3 +78,68 @@ own_extends (layout.plain p) b more = shallow_extends (layout.plain p) b more
 -- these bytes are a node's own, whatever follows them
 abbrev pub SpellsNode : List TypeInfo → ℕ → Head × Option Part → List ℕ → Type 0
 SpellsNode r t x c = (more : List ℕ) → own_at (met_layout r t) (c ++ more) ≡ Ok (x, more)
+
+-- ---- what they open
+
+-- by its own bytes a node is a leaf, or a branch that opens in its layout with its parts
+abbrev pub IsOpened : Layout → List ℕ → Own → Type 0
+IsOpened f b (Ok ((head.branch k n, Some p), rest)) = (c : List ℕ) × BranchOpens f k c p
+    × (n ≡ how_many_left p) × (b ≡ c ++ rest)
+IsOpened f b (Ok ((head.leaf l, None), rest)) = Unit {0}
+IsOpened f b (Ok x) = ⊥
+IsOpened f b (Err e) = Unit {0}
+
+-- a leaf opens nothing
+leaf_opened : (f : Layout) (b : List ℕ) (read : Read Refusal Tree) → IsLeafRead read →
+    IsOpened f b (leaf_own read)
+leaf_opened f b (Ok (tree.leaf l, rest)) h = tt
+leaf_opened f b (Ok (tree.branch k vs, rest)) h = absurd h
+leaf_opened f b (Err e) h = tt
+
+-- an arm that is found for an index opens its fields
+arm_opened : (arms : List Arm) (i : ℕ) (b : List ℕ) (found : Option (ℕ × Arm)) →
+    arm_of arms i ≡ found → IsOpened (layout.arms arms) (i ∷ b) (arm_own (i ∷ b) found b)
+arm_opened arms i b None e = tt
+arm_opened arms i b (Some a) e = (i ∷ [], (arms, i, a.1, refl, e, refl, refl), refl, refl)
+
+-- a variant opens the fields of one of its arms
+arms_opened : (arms : List Arm) (b : List ℕ) → IsOpened (layout.arms arms) b (arms_own arms b)
+arms_opened arms [] = tt
+arms_opened arms (i ∷ b) = arm_opened arms i b (arm_of arms i) refl
+
+-- a sequence opens as many elements as its length says
+length_opened : (u : ℕ) (b : List ℕ) (read : Read Reason ℕ) → Takes (IsCompact target.U32) b read →
+    IsOpened (layout.sequence u) b (length_own u read)
+length_opened u b (Ok n) h = (h.0, (n.0, u, inr (refl, h.2), refl), refl, h.1)
+length_opened u b (Err e) h = tt
+
+-- what a node's own bytes open is by its layout
+pub own_opened : (f : Layout) (b : List ℕ) → IsOpened f b (own_at f b)
+unfolding own_at layout_at
+own_opened (layout.fields ts) b = ([], (ts, refl, refl, refl), refl, refl)
+own_opened (layout.arms arms) b = arms_opened arms b
+own_opened (layout.sequence u) b =
+    length_opened u b (compact_at target.U32 b) (compact_takes target.U32 b)
+own_opened (layout.array n u) b = ([], (n, u, inl (refl, refl), refl), refl, refl)
+own_opened layout.unknown b = tt
+own_opened layout.bit_sequence b = tt
+own_opened layout.bad_compact b = tt
+own_opened (layout.plain p) b = leaf_opened (layout.plain p) b (leaf_at p b) (reads_leaf p b)
+
+-- parts are read as values of their types, or as so many values of one type
+abbrev pub part_at : (ℕ → List ℕ → Read Refusal Tree) → Part → List ℕ → Read Refusal Trees
+part_at child (each ts) b = all_at child ts b
+part_at child (times n t) b = times_at child n t b
+
+-- where a branch opens, its own bytes are read so, and its parts are read after them
+pub opened_again : (child : ℕ → List ℕ → Read Refusal Tree) (f : Layout) (k : Branch) (c : List ℕ)
+    (p : Part) (b : List ℕ) → BranchOpens f k c p →
+    (own_at f (c ++ b) ≡ Ok ((head.branch k (how_many_left p), Some p), b))
+    × (layout_at child f (c ++ b) ≡ with_children k (part_at child p b))
+unfolding own_at layout_at
+opened_again child f tree.fields c p b h = rw (h.1, h.2, h.3) (refl, refl)
+opened_again child f (tree.arm q) c p b h = rw (h.3, h.5, h.6, h.4) (refl, refl)
+opened_again child f tree.list c p b h = elim h.2 [
+  | inl a ↦ rw (a.0, a.1, h.3) (refl, refl)
+  | inr s ↦ rw (s.0, h.3, compact_again target.U32 h.0 c b s.1) (refl, refl)
+]
