@@ -17,7 +17,6 @@ pub mod MachineTurns
 pub mod Left
 pub mod Decides
 pub mod FaultBegins
-pub mod HeldOne
 pub mod Holds
 pub mod Fed
 pub mod ReadFronts

@@ -1,39 +1,25 @@
 -- What is held of an input in which bytes are missing: a begun tree, and the bytes of the node that
 -- is not there yet.
-use Rattle.std.specs.Prelude.{true, ◌≡◌, ℕ, zero, suc, ◌+◌, ◌≤◌, ◌*◌, List, [], ◌++◌, length}
+use Rattle.std.specs.Prelude.{true, ◌≡◌, ℕ, zero, suc, ◌+◌, ◌≤◌, ◌*◌, List, ◌++◌, length}
 use Rattle.std.specs.Prelude.{Option, Some, Ok, Err}
-use Rattle.scale_core.specs.Read.{Read, compact_at}
-use Rattle.scale_core.specs.declared.compact.Target.TheVariants as target
-use Rattle.scale_core.specs.declared.fault.Reason.TheVariants.{Truncated}
+use Rattle.scale_core.specs.Read.{Read}
 use Rattle.registry_core.specs.declared.type_info.TypeInfo.{TypeInfo}
 use Rattle.graph_core.specs.Widths.{widest}
 use Rattle.widths_core.specs.Classes.{is_finite}
-use Rattle.widths_core.specs.Layouts.{Layout, layout}
-use Rattle.widths_core.specs.Layouts as layout
+use Rattle.widths_core.specs.Layouts.{layout}
 use Rattle.grammar_core.specs.Tree.{Branch, Tree, Trees, none, and}
 use Rattle.grammar_core.specs.Parts.{Part, left_after}
 use Rattle.grammar_core.specs.Preorder as head
 use Rattle.grammar_core.specs.Cells.{child_type}
-use Rattle.grammar_core.specs.Reading.{ValueReader, value_at, layout_at, Refusal, truncated}
-use Rattle.grammar_core.specs.Reading.{too_deep}
+use Rattle.grammar_core.specs.Reading.{ValueReader, value_at, Refusal, truncated}
 use Rattle.grammar_core.specs.Begun.{Begun, nothing, open_branch, IsPart, Grows, begun_nodes}
 use Rattle.grammar_core.specs.Begun.{begun_text_bytes, begun_levels}
 use Rattle.decode_core.specs.Reported.{Own, own_at}
 
--- the node's own bytes are not all there: a node whose children alone have bytes has its own at
--- once
-abbrev pub OwnIsShort : Layout → List ℕ → Type 0
-OwnIsShort (layout.fields ts) e = ⊥
-OwnIsShort (layout.array n t) e = ⊥
-OwnIsShort (layout.arms arms) e = e ≡ []
-OwnIsShort (layout.sequence t) e = (left : List ℕ)
-    × (compact_at target.U32 e ≡ Err (Truncated, left))
-OwnIsShort f e = (left : List ℕ)
-    × (layout_at (λ t b. Err (too_deep, b)) f e ≡ Err (truncated, left))
-
 -- the type that is wanted next may stand there, and its own bytes are not all there
 abbrev pub IsShort : List TypeInfo → ℕ → ℕ → List ℕ → Type 0
-IsShort r room u e = (1 ≤ room) × (is_finite r u ≡ true) × OwnIsShort (layout r u) e
+IsShort r room u e = (1 ≤ room) × (is_finite r u ≡ true) × (left : List ℕ)
+    × (own_at (layout r u) e ≡ Err (truncated, left))
 
 -- what is held while more is wanted: the begun tree, and the bytes of the node that is not there
 -- yet

@@ -4,19 +4,18 @@ use Rattle.std.proofs.Common.{Err, refl, sym, ap, subst, ◌∙◌, append_assoc
 use Rattle.std.proofs.lemmas.Option.{same_Some}
 use Rattle.scale_core.specs.Read.{Read, ◌>>=◌}
 use Rattle.registry_core.specs.declared.type_info.TypeInfo.{TypeInfo}
-use Rattle.widths_core.specs.Layouts.{Layout, layout}
-use Rattle.widths_core.specs.Layouts as layout
+use Rattle.widths_core.specs.Layouts.{layout}
 use Rattle.grammar_core.specs.Tree.{Tree, Trees, none, and, most_levels}
 use Rattle.grammar_core.specs.Parts.{Part, each, times, first_of, left_after, how_many_left}
-use Rattle.grammar_core.specs.Reading.{value_at, layout_at, Refusal, truncated}
-use Rattle.grammar_core.specs.Reading.{no_finite_value, bit_sequence, bad_compact}
+use Rattle.grammar_core.specs.Reading.{value_at, Refusal, truncated}
 use Rattle.grammar_core.specs.Begun.{Begun, nothing, whole, open_branch, FirstValues, Grows}
 use Rattle.grammar_core.proofs.Complete.{value_again}
 use Rattle.grammar_core.proofs.OpenNodes.{child_is, one_less}
-use Rattle.decode_core.specs.Reported.{own_at}
-use Rattle.decode_core.specs.Holds.{OwnIsShort, IsShort, held, own_held, parts_held}
+use Rattle.decode_core.specs.Met.{met_layout}
+use Rattle.decode_core.specs.Reported.{reported, reported_at}
+use Rattle.decode_core.specs.Holds.{IsShort, held, parts_held}
 use Rattle.decode_core.specs.Holds.{BegunIsMissing}
-use Rattle.decode_core.proofs.lists.Outcomes.{failed, failed_is}
+use Rattle.decode_core.proofs.lists.Fed.{fault_value}
 use Rattle.decode_core.proofs.lists.Owns.{part_at, opened_again}
 
 -- where a type is next of parts, a value of it is read and then the parts that are left after it
@@ -54,36 +53,16 @@ first_front r room p (and v vs) b left u (suc n) c rest g h next l k e f =
       rw (split, child_is p h.0 h.3, one, more.1) refl,
     )
 
--- two failures that are equal have the same reason
-reason_is : (x y : Refusal × List ℕ) → failed x ≡ failed y → x.0 ≡ y.0
-reason_is x y e = ap (λ (p : Refusal × List ℕ). p.0) (failed_is x y e)
-
--- the node itself is not there
-short_read : (child : ℕ → List ℕ → Read Refusal Tree) (hold : ℕ → List ℕ → Begun × List ℕ)
-    (f : Layout) (e : List ℕ) → OwnIsShort f e →
-    ((left : List ℕ) × (layout_at child f e ≡ Err (truncated, left)))
-    × (own_held child hold e (own_at f e) ≡ (nothing, e))
-unfolding layout_at own_at
-short_read child hold layout.unknown e h = let no =
-    reason_is (no_finite_value, e) (truncated, h.0) h.1 in absurd cc
-short_read child hold layout.bit_sequence e h = let no =
-    reason_is (bit_sequence, e) (truncated, h.0) h.1 in absurd cc
-short_read child hold layout.bad_compact e h = let no =
-    reason_is (bad_compact, e) (truncated, h.0) h.1 in absurd cc
-short_read child hold (layout.plain p) e h = (h, rw h.1 refl)
-short_read child hold (layout.fields ts) e h = absurd h
-short_read child hold (layout.array n t) e h = absurd h
-short_read child hold (layout.arms arms) e h = (([], rw h refl), rw h refl)
-short_read child hold (layout.sequence t) e h = ((h.0, rw h.1 refl), rw h.1 refl)
-
 -- where a node's own bytes are short, the reading is cut, and nothing but these bytes is held
 bare_read : (r : List TypeInfo) (room t : ℕ) (e : List ℕ) → IsShort r room t e →
     ((left : List ℕ) × (value_at r room t e ≡ Err (truncated, left)))
     × (held r room t e ≡ (nothing, e))
-unfolding value_at held
+unfolding reported_at met_layout held
 bare_read r zero t e h = absurd (omega (arith, h.0))
 bare_read r (suc room) t e h =
-    rw h.1 (short_read (value_at r room) (held r room) (layout r t) e h.2)
+    let cut : reported_at r (suc room) t e ≡ reported [] (Err ((truncated, h.2), e)) =
+    rw (h.1, h.3) refl in
+    ((h.2, fault_value r (suc room) t e [] truncated h.2 e cut), rw h.3 refl)
 
 abbrev found : ℕ × ℕ → Option (ℕ × ℕ)
 found p = Some p

@@ -1,5 +1,5 @@
 -- What was added before a fault is a begun tree.
-use Rattle.std.proofs.Common.{◌≡◌, ℕ, zero, suc, ◌≤◌, List, [], ◌∷◌, ◌++◌, Some, None, Ok, Err}
+use Rattle.std.proofs.Common.{true, ◌≡◌, ℕ, zero, suc, ◌≤◌, List, [], ◌∷◌, ◌++◌, Some, None, Ok, Err}
 use Rattle.std.proofs.Common.{refl, sym, ap, ◌∙◌, append_assoc, arith}
 use Rattle.registry_core.specs.declared.type_info.TypeInfo.{TypeInfo}
 use Rattle.grammar_core.specs.Tree.{Branch, Tree, Trees, none, and, levels, most_levels}
@@ -17,7 +17,8 @@ use Rattle.grammar_core.specs.Begun.{BranchOpens, FirstValues, IsOpenAs, nothing
 use Rattle.grammar_core.specs.Begun.{Grows}
 use Rattle.decode_core.specs.Begins.{Begins, FaultIsBegun}
 use Rattle.decode_core.specs.Met.{met_layout}
-use Rattle.decode_core.proofs.lists.Mets.{branch_met}
+use Rattle.widths_core.specs.Classes.{is_finite}
+use Rattle.widths_core.specs.Layouts.{layout}
 use Rattle.decode_core.proofs.lists.Owns.{IsOpened, own_opened}
 use Rattle.decode_core.proofs.lists.Reports.{shown-append, reported_agrees}
 use Rattle.decode_core.proofs.lists.Fed.{value_of}
@@ -175,15 +176,14 @@ bare r room t b e h = record {
 
 -- parts that end in a fault are a begun node of theirs, after its own bytes
 branch_begins : (r : List TypeInfo) (room t : ℕ) (kind : Branch) (n : ℕ) (c : List ℕ) (p : Part)
-    (b rest : List ℕ) → BranchOpens (met_layout r t) kind c p → n ≡ how_many_left p →
-    b ≡ c ++ rest → (xs : List Entry) (e : Fault) → PartBegins r room p rest xs e →
+    (b rest : List ℕ) → is_finite r t ≡ true → BranchOpens (layout r t) kind c p →
+    n ≡ how_many_left p → b ≡ c ++ rest → (xs : List Entry) (e : Fault) → PartBegins r room p rest xs e →
     Begins r (suc room) t b (entry t (head.branch kind n) ∷ xs) e
 unfolding Grows
-branch_begins r room t kind n c p b rest opens count is xs e s =
+branch_begins r room t kind n c p b rest fin opens count is xs e s =
     let h = s.begins in
-    let m = branch_met r t kind c p opens in
     let o : IsOpenAs r kind t n s.vs (c ++ s.b1) s.left =
-    (p, c, s.b1, m.1, count, refl, s.firsts) in
+    (p, c, s.b1, opens, count, refl, s.firsts) in
     record {
       tree = open_branch kind n s.vs h.tree;
       own = (c ++ s.b1) ++ h.own;
@@ -191,7 +191,7 @@ branch_begins r room t kind n c p b rest opens count is xs e s =
       below = h.below;
       part = tt;
       is = rw (is, s.is, h.is) (simp append_assoc);
-      grows = (s.left, s.ty, c ++ s.b1, h.own, m.0, o, s.low, s.next, refl, h.part, h.grows);
+      grows = (s.left, s.ty, c ++ s.b1, h.own, fin, o, s.low, s.next, refl, h.part, h.grows);
       shows = (
         shown s.ys,
         ap (λ (ns : List Head). head.branch kind n ∷ ns) s.shows,
@@ -202,7 +202,7 @@ branch_begins r room t kind n c p b rest opens count is xs e s =
 
 -- by what a node's own bytes open, what was added before a fault is a begun tree
 own_begins : (r : List TypeInfo) (room t : ℕ) → ChildBegins r room → (b : List ℕ) (o : Own) →
-    IsOpened (met_layout r t) b o →
+    IsOpened r t b o →
     reported_at r (suc room) t b ≡ own_reported (reported_at r room) t b o →
     EndsReported (Begins r (suc room) t b) (own_reported (reported_at r room) t b o)
 own_begins r room t h b (Err e) k is = bare r (suc room) t b e is
@@ -212,7 +212,7 @@ own_begins r room t h b (Ok ((head.branch kind n, None), rest)) k is = absurd k
 own_begins r room t h b (Ok ((head.branch kind n, Some p), rest)) k is =
     after_ends (PartBegins r room p rest) (Begins r (suc room) t b)
     (entry t (head.branch kind n) ∷ []) (part_reported (reported_at r room) p rest)
-    (part_begins r room h p rest) (branch_begins r room t kind n k.0 p b rest k.1 k.2 k.3)
+    (part_begins r room h p rest) (branch_begins r room t kind n k.0 p b rest k.1 k.2 k.3 k.4)
 
 -- what was added before a fault is a begun tree, at every depth
 reported_begins : (r : List TypeInfo) (room t : ℕ) (b : List ℕ) →
@@ -221,7 +221,7 @@ unfolding reported_at
 reported_begins r zero t b = bare r zero t b _ refl
 reported_begins r (suc room) t b =
     own_begins r room t (λ u c. reported_begins r room u c) b (own_at (met_layout r t) b)
-    (own_opened (met_layout r t) b) refl
+    (own_opened r t (met_layout r t) b refl) refl
 
 -- the same for nodes and a fault that are known to be what the reading reports
 begins_of : (r : List TypeInfo) (room t : ℕ) (b : List ℕ) (xs : List Entry) (e : Fault)

@@ -1,16 +1,12 @@
 -- What is read of a type is read by the layout that is met.
 use Rattle.std.proofs.Common.{◌≡◌, ℕ, suc, ◌≤◌, Bool, true, false, cond, List, Err, refl, sym}
-use Rattle.std.proofs.Common.{inl, inr}
 use Rattle.std.specs.Prelude.{◌≢◌}
 use Rattle.scale_core.proofs.Results.{Takes}
 use Rattle.registry_core.specs.declared.type_info.TypeInfo.{TypeInfo}
 use Rattle.widths_core.specs.Classes.{is_finite}
 use Rattle.widths_core.specs.Layouts.{Layout, layout}
 use Rattle.widths_core.specs.Layouts as layout
-use Rattle.grammar_core.specs.Tree.{Branch, Tree, levels}
-use Rattle.grammar_core.specs.Tree as tree
-use Rattle.grammar_core.specs.Parts.{Part}
-use Rattle.grammar_core.specs.Begun.{BranchOpens}
+use Rattle.grammar_core.specs.Tree.{Tree, levels}
 use Rattle.grammar_core.specs.Grammar.{Val}
 use Rattle.grammar_core.specs.Reading.{value_at, layout_at, Refusal, no_finite_value}
 use Rattle.grammar_core.proofs.Sound.{value_takes}
@@ -54,18 +50,3 @@ pub met_is : (r : List TypeInfo) (t : ℕ) (g : Layout) → g ≢ layout.unknown
     (is_finite r t ≡ true) × (layout r t ≡ g)
 unfolding met_layout
 met_is r t g ne e = met_of (is_finite r t) (layout r t) g ne e
-
--- a branch opens only where the layout is known
-known_opens : (t : Bool) (f : Layout) (k : Branch) (c : List ℕ) (p : Part) →
-    BranchOpens (cond t f layout.unknown) k c p → (t ≡ true) × BranchOpens f k c p
-known_opens true f k c p h = (refl, h)
-known_opens false f tree.fields c p h = let no = h.1 in absurd cc
-known_opens false f (tree.arm q) c p h = let no = h.3 in absurd cc
-known_opens false f tree.list c p h =
-    elim h.2 [ inl a ↦ let no = a.0 in absurd cc | inr s ↦ let no = s.0 in absurd cc ]
-
--- a branch that opens in the layout that is met opens in that of the type, which is finite
-pub branch_met : (r : List TypeInfo) (t : ℕ) (k : Branch) (c : List ℕ) (p : Part) →
-    BranchOpens (met_layout r t) k c p → (is_finite r t ≡ true) × BranchOpens (layout r t) k c p
-unfolding met_layout
-branch_met r t k c p h = known_opens (is_finite r t) (layout r t) k c p h

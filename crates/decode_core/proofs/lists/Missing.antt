@@ -10,9 +10,8 @@ use Rattle.grammar_core.specs.Reading.{no_finite_value}
 use Rattle.decode_core.specs.Met.{met_layout}
 use Rattle.decode_core.specs.Reported.{entry, Own, own_at, Ending, Fault, Reported, reported, added}
 use Rattle.decode_core.specs.Reported.{ending, after, opened_reported, own_reported, reported_at}
-use Rattle.decode_core.specs.Holds.{OwnIsShort, IsShort, MissingIsBegun}
+use Rattle.decode_core.specs.Holds.{IsShort, MissingIsBegun}
 use Rattle.decode_core.proofs.lists.FaultBegins.{fault_is_begun}
-use Rattle.decode_core.proofs.lists.HeldOne.{own_short, reason_is}
 use Rattle.decode_core.proofs.lists.Reports.{reported_agrees}
 
 abbrev ends_by : Fault → Ending
@@ -21,6 +20,13 @@ ends_by e = Err e
 -- two readings that end in faults and are equal have one fault
 fault_is : (x y : Fault) → reported [] (ends_by x) ≡ reported [] (ends_by y) → x ≡ y
 fault_is x y e = let both = ap ending e in cc
+
+abbrev own_failed : Refusal × List ℕ → Own
+own_failed e = Err e
+
+-- two failures of a node's own bytes that are equal have one reason
+own_failed_is : (x y : Refusal × List ℕ) → own_failed x ≡ own_failed y → x.0 ≡ y.0
+own_failed_is x y e = cc
 
 -- where nothing is added before a fault, it is that of the node's own bytes
 own_fault : (child : ℕ → List ℕ → Reported) (t : ℕ) (b : List ℕ) (o : Own)
@@ -31,13 +37,14 @@ own_fault child t b (Ok x) e h = absurd (by (opened_reported child x.0.1 x.1) h)
   by : (y : Reported) → after (entry t x.0.0 ∷ []) y ≡ reported [] (Err (e, b)) → ⊥
   by (reported xs end) k = let no = ap added k in cc
 
--- where a node's own bytes are cut, its type is finite, and they are short by its layout
+-- where a node's own bytes are cut, its type is finite
 met_short : (t : Bool) (f : Layout) (b left : List ℕ) →
-    own_at (cond t f layout.unknown) b ≡ Err (truncated, left) → (t ≡ true) × OwnIsShort f b
+    own_at (cond t f layout.unknown) b ≡ Err (truncated, left) → (t ≡ true)
+    × (own_at f b ≡ Err (truncated, left))
 unfolding own_at layout_at
-met_short true f b left h = (refl, own_short f b left h)
+met_short true f b left h = (refl, h)
 met_short false f b left h = let no =
-    reason_is (no_finite_value, b) (truncated, left) h in absurd cc
+    own_failed_is (no_finite_value, b) (truncated, left) h in absurd cc
 
 -- where nothing is added before bytes are missing, the node's own are short
 cut_is_short : (r : List TypeInfo) (room t : ℕ) (b left : List ℕ) →
@@ -48,7 +55,7 @@ cut_is_short r zero t b left h = let no =
 cut_is_short r (suc room) t b left h =
     let short = met_short (is_finite r t) (layout r t) b left
     (own_fault (reported_at r room) t b (own_at (met_layout r t) b) (truncated, left) h) in
-    (omega arith, short.0, short.1)
+    (omega arith, short.0, left, short.1)
 
 -- a reading that is known to be cut is so node by node
 cut_reported : (r : List TypeInfo) (room t : ℕ) (b left : List ℕ) →
