@@ -91,8 +91,8 @@ all_first : (r : List TypeInfo) (ts : List ℕ) (p : Part) (vs : Trees) (b : Lis
     FirstValues r p vs b left → p ≡ each ts → first_of left ≡ None → Vals r ts vs b
 all_first r ts p vs b left h is e =
     let s = first_fields r ts vs b left (subst (λ (q : Part). FirstValues r q vs b left) is h) in
-    let all : ts ≡ s.0 = s.2 ∙ ap (λ (x : List ℕ). s.0 ++ x) (no_each s.1 (ap first_of (sym s.3) ∙ e))
-    ∙ append-nil s.0 in
+    let none = no_each s.1 (ap first_of (sym s.3) ∙ e) in
+    let all : ts ≡ s.0 = s.2 ∙ ap (λ (x : List ℕ). s.0 ++ x) none ∙ append-nil s.0 in
     rw all s.4
 
 -- an open node of which no part is left is a value, with as many children as it is to have

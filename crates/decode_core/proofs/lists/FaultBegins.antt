@@ -1,6 +1,6 @@
 -- What was added before a fault is a begun tree.
-use Rattle.std.proofs.Common.{true, ◌≡◌, ℕ, zero, suc, ◌≤◌, List, [], ◌∷◌, ◌++◌, Some, None, Ok, Err}
-use Rattle.std.proofs.Common.{refl, sym, ap, ◌∙◌, append_assoc, arith}
+use Rattle.std.proofs.Common.{◌≡◌, ℕ, zero, suc, ◌≤◌, true, List, [], ◌∷◌, ◌++◌, Some, None, Ok}
+use Rattle.std.proofs.Common.{Err, refl, sym, ap, ◌∙◌, append_assoc, arith}
 use Rattle.registry_core.specs.declared.type_info.TypeInfo.{TypeInfo}
 use Rattle.grammar_core.specs.Tree.{Branch, Tree, Trees, none, and, levels, most_levels}
 use Rattle.grammar_core.specs.Preorder.{Head, preorder, all_preorder}
@@ -177,7 +177,8 @@ bare r room t b e h = record {
 -- parts that end in a fault are a begun node of theirs, after its own bytes
 branch_begins : (r : List TypeInfo) (room t : ℕ) (kind : Branch) (n : ℕ) (c : List ℕ) (p : Part)
     (b rest : List ℕ) → is_finite r t ≡ true → BranchOpens (layout r t) kind c p →
-    n ≡ how_many_left p → b ≡ c ++ rest → (xs : List Entry) (e : Fault) → PartBegins r room p rest xs e →
+    n ≡ how_many_left p → b ≡ c ++ rest → (xs : List Entry) (e : Fault) →
+    PartBegins r room p rest xs e →
     Begins r (suc room) t b (entry t (head.branch kind n) ∷ xs) e
 unfolding Grows
 branch_begins r room t kind n c p b rest fin opens count is xs e s =
@@ -192,11 +193,7 @@ branch_begins r room t kind n c p b rest fin opens count is xs e s =
       part = tt;
       is = rw (is, s.is, h.is) (simp append_assoc);
       grows = (s.left, s.ty, c ++ s.b1, h.own, fin, o, s.low, s.next, refl, h.part, h.grows);
-      shows = (
-        shown s.ys,
-        ap (λ (ns : List Head). head.branch kind n ∷ ns) s.shows,
-        h.shows,
-      );
+      shows = (shown s.ys, ap (λ (ns : List Head). head.branch kind n ∷ ns) s.shows, h.shows);
       meets = h.meets;
     }
 

@@ -48,7 +48,7 @@ element_sized : (r : List TypeInfo) (t n u : ℕ) (c : List ℕ) →
 element_sized r t n u c (inl a) = array_element r t n u a.0
 element_sized r t n u c (inr s) = known_at r t (layout.sequence u) s.0
 
--- the first values of a branch that is to have another have few nodes beside those that bytes pay
+-- the first values of a branch have few nodes beside those that their bytes pay for
 firsts_le : (r : List TypeInfo) (room t : ℕ) (kind : Branch) (c : List ℕ) (p : Part) (vs : Trees)
     (b : List ℕ) (left : Part) (u : ℕ) → BranchOpens (layout r t) kind c p →
     FirstValues r p vs b left → first_of left ≡ Some u → most_levels vs ≤ room →
@@ -57,15 +57,11 @@ firsts_le r room t kind c p vs b left u o f next l = by kind o where
   fewer : (ts : List ℕ) → p ≡ each ts → length ts ≤ widest r → (m : ℕ) × (m + 1 ≤ widest r + 1)
       × (all_nodes vs ≤ m + length b * per (widest r + 1) room)
   fewer ts is few =
-      let s = first_fields r ts vs b left (subst (λ (q : Part). FirstValues r q vs b left) is f) in (
+      let s = first_fields r ts vs b left
+      (subst (λ (q : Part). FirstValues r q vs b left) is f) in
+      let count = first_count r p vs b left f in (
         how_many vs,
-        omega (
-          arith,
-          few,
-          first_count r p vs b left f,
-          one_less left u next,
-          ap how_many_left is,
-        ),
+        omega (arith, few, count, one_less left u next, ap how_many_left is),
         vals_le r room s.0 vs b s.4 l,
       )
 
