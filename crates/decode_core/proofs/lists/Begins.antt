@@ -1,57 +1,43 @@
 -- Where a begun tree is held, bytes are missing, and it is the one that is computed.
-use Rattle.std.proofs.Common.{◌≡◌, ℕ, zero, suc, ◌≤◌, List, [], ◌∷◌, ◌++◌, Option, Some, Ok}
+use Rattle.std.proofs.Common.{◌≡◌, ℕ, zero, suc, ◌≤◌, List, [], ◌++◌, Option, Some}
 use Rattle.std.proofs.Common.{Err, refl, sym, ap, subst, ◌∙◌, append_assoc, arith}
-use Rattle.std.proofs.lemmas.Option.{same_Some}
-use Rattle.scale_core.specs.Read.{Read, ◌>>=◌}
 use Rattle.registry_core.specs.declared.type_info.TypeInfo.{TypeInfo}
 use Rattle.widths_core.specs.Layouts.{layout}
-use Rattle.grammar_core.specs.Tree.{Tree, Trees, none, and, most_levels}
-use Rattle.grammar_core.specs.Parts.{Part, each, times, first_of, left_after, how_many_left}
-use Rattle.grammar_core.specs.Reading.{value_at, Refusal, truncated}
+use Rattle.grammar_core.specs.Tree.{Trees, none, and, most_levels}
+use Rattle.grammar_core.specs.Parts.{Part, first_of, left_after, how_many_left}
+use Rattle.grammar_core.specs.Reading.{value_at, truncated}
 use Rattle.grammar_core.specs.Begun.{Begun, nothing, whole, open_branch, FirstValues, Grows}
 use Rattle.grammar_core.proofs.Complete.{value_again}
 use Rattle.grammar_core.proofs.OpenNodes.{child_is, one_less}
+use Rattle.grammar_core.proofs.Parts.{parts_fail}
 use Rattle.decode_core.specs.Met.{met_layout}
 use Rattle.decode_core.specs.Reported.{reported, reported_at}
 use Rattle.decode_core.specs.Holds.{IsShort, held, parts_held}
 use Rattle.decode_core.specs.Holds.{BegunIsMissing}
 use Rattle.decode_core.proofs.lists.Fed.{fault_value}
-use Rattle.decode_core.proofs.lists.Owns.{part_at, opened_again}
+use Rattle.decode_core.proofs.lists.Owns.{opened_again}
 
--- where a type is next of parts, a value of it is read and then the parts that are left after it
-part_next : (child : ℕ → List ℕ → Read Refusal Tree) (p : Part) (t : ℕ) (b : List ℕ) →
-    first_of p ≡ Some t → part_at child p b
-    ≡ (child t b >>= λ x. part_at child (left_after p) x.1 >>= λ others.
-    Ok (and x.0 others.0, others.1))
-part_next child (each []) t b e = absurd cc
-part_next child (each (u ∷ us)) t b e = rw (← same_Some u t e) refl
-part_next child (times zero u) t b e = absurd cc
-part_next child (times (suc n) u) t b e = rw (← same_Some u t e) refl
-
--- where values stand before a cut part, the parts are cut: they and its begun tree are held
+-- where values stand before a cut part, they and its begun tree are held
 first_front : (r : List TypeInfo) (room : ℕ) (p : Part) (vs : Trees) (b : List ℕ) (left : Part)
     (u n : ℕ) (c rest : List ℕ) (g : Begun × List ℕ) → FirstValues r p vs b left →
     first_of left ≡ Some u → most_levels vs ≤ room → n ≡ how_many_left p →
     value_at r room u c ≡ Err (truncated, rest) → held r room u c ≡ g →
-    (part_at (value_at r room) p (b ++ c) ≡ Err (truncated, rest))
-    × (parts_held (value_at r room) (held r room) n p (b ++ c) ≡ (vs, g))
+    parts_held (value_at r room) (held r room) n p (b ++ c) ≡ (vs, g)
 first_front r room p none b left u zero c rest g h next l k e f =
     absurd (omega (arith, one_less left u next, ap how_many_left h.1))
 first_front r room p (and v vs) b left u zero c rest g h next l k e f =
     absurd (omega (arith, one_less p h.0 h.3))
 first_front r room p none b left u (suc n) c rest g h next l k e f =
-    let first : first_of p ≡ Some u = ap first_of (sym h.1) ∙ next in (
-      rw (h.0, part_next (value_at r room) p u c first, e) refl,
-      rw (h.0, child_is p u first, e, f) refl,
-    )
+    rw (h.0, child_is p u (ap first_of (sym h.1) ∙ next), e, f) refl
 first_front r room p (and v vs) b left u (suc n) c rest g h next l k e f =
-    let one = value_again r room h.0 v h.1 (h.2 ++ c) h.5 (omega arith) in
-    let more = first_front r room (left_after p) vs h.2 left u n c rest g h.6 next (omega arith)
-    (omega (arith, one_less p h.0 h.3)) e f in
-    let split : b ++ c ≡ h.1 ++ (h.2 ++ c) = rw h.4 (append_assoc h.1 h.2 c) in (
-      rw (split, part_next (value_at r room) p h.0 (h.1 ++ (h.2 ++ c)) h.3, one, more.0) refl,
-      rw (split, child_is p h.0 h.3, one, more.1) refl,
-    )
+    rw (
+      h.4,
+      append_assoc h.1 h.2 c,
+      child_is p h.0 h.3,
+      value_again r room h.0 v h.1 (h.2 ++ c) h.5 (omega arith),
+      first_front r room (left_after p) vs h.2 left u n c rest g h.6 next (omega arith)
+          (omega (arith, one_less p h.0 h.3)) e f,
+    ) refl
 
 -- where a node's own bytes are short, the reading is cut, and nothing but these bytes is held
 bare_read : (r : List TypeInfo) (room t : ℕ) (e : List ℕ) → IsShort r room t e →
@@ -86,12 +72,14 @@ begun_read r zero t (open_branch kind n vs g) own e at u h k = absurd h
 begun_read r (suc room) t (open_branch kind n vs g) own e at u h k =
     let o = h.5 in
     let next = begun_read r room h.1 g h.3 e at u h.10 k in
+    let fails = (parts_fail r room o.0 (o.2 ++ (h.3 ++ e)) truncated next.0.0).1
+    (vs, h.0, h.1, o.2, h.3 ++ e, o.6, h.7, refl, h.6, next.0.1) in
     let parts = first_front r room o.0 vs o.2 h.0 h.1 n (h.3 ++ e) next.0.0 (g, e) o.6 h.7 h.6 o.4
     next.0.1 next.1 in
     let opened = opened_again (value_at r room) (layout r t) kind o.1 o.0 (o.2 ++ (h.3 ++ e)) o.3 in
     let split : own ++ e ≡ o.1 ++ (o.2 ++ (h.3 ++ e)) = rw (h.8, o.5) (simp append_assoc) in (
-      (next.0.0, rw (split, h.4, opened.1, parts.0) refl),
-      rw (split, opened.0, ← o.4, parts.1) refl,
+      (next.0.0, rw (split, h.4, opened.1, fails) refl),
+      rw (split, opened.0, ← o.4, parts) refl,
     )
 
 -- where a begun tree is held, bytes are missing, and it is the one that is computed

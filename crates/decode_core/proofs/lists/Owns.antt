@@ -19,11 +19,11 @@ use Rattle.grammar_core.specs.Grammar.{Val}
 use Rattle.grammar_core.specs.Tree as tree
 use Rattle.grammar_core.specs.Preorder as head
 use Rattle.grammar_core.specs.Begun.{BranchOpens}
-use Rattle.grammar_core.specs.Reading.{layout_at, leaf_at, all_at, times_at, with_children}
+use Rattle.grammar_core.specs.Reading.{layout_at, leaf_at, part_at, with_children}
 use Rattle.grammar_core.specs.Reading.{Refusal, basic, truncated}
 use Rattle.grammar_core.proofs.Stable.{layout_extends}
 use Rattle.decode_core.specs.Met.{met_layout}
-use Rattle.grammar_core.specs.Parts.{Part, each, times, how_many_left}
+use Rattle.grammar_core.specs.Parts.{Part, how_many_left}
 use Rattle.grammar_core.specs.Preorder.{Head}
 use Rattle.decode_core.specs.Reported.{Own, leaf_own, arm_own, arms_own, length_own, shallow}
 use Rattle.decode_core.specs.Reported.{own_at}
@@ -141,11 +141,6 @@ own_opened r t layout.bit_sequence b e = tt
 own_opened r t layout.bad_compact b e = tt
 own_opened r t (layout.plain p) b e =
     leaf_opened r t b (leaf_at p b) (met_takes r t (layout.plain p) e b) (reads_leaf p b)
-
--- parts are read as values of their types, or as so many values of one type
-abbrev pub part_at : (ℕ → List ℕ → Read Refusal Tree) → Part → List ℕ → Read Refusal Trees
-part_at child (each ts) b = all_at child ts b
-part_at child (times n t) b = times_at child n t b
 
 -- where a branch opens, its own bytes are read so, and its parts are read after them
 pub opened_again : (child : ℕ → List ℕ → Read Refusal Tree) (f : Layout) (k : Branch) (c : List ℕ)
