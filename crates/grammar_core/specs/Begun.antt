@@ -65,12 +65,11 @@ Grows r (suc room) t (open_branch k n vs g) b next = (left : Part) × (u : ℕ) 
     × (is_finite r t ≡ true) × IsOpenAs r k t n vs b1 left × (most_levels vs ≤ room)
     × (first_of left ≡ Some u) × (b ≡ b1 ++ b2) × IsPart g × Grows r room u g b2 next
 
--- the nodes that are there, in preorder: a node that is begun with how many children it is to have
-abbrev pub IsBegunPreorder : Begun → List Head → Type 0
-IsBegunPreorder nothing hs = hs ≡ []
-IsBegunPreorder (whole v) hs = hs ≡ preorder v
-IsBegunPreorder (open_branch k n vs g) hs = (rest : List Head)
-    × (hs ≡ head.branch k n ∷ (all_preorder vs ++ rest)) × IsBegunPreorder g rest
+-- the nodes that are there, in preorder: one that is open with how many children it is to have
+abbrev pub begun_preorder : Begun → List Head
+begun_preorder nothing = []
+begun_preorder (whole v) = preorder v
+begun_preorder (open_branch k n vs g) = head.branch k n ∷ (all_preorder vs ++ begun_preorder g)
 
 abbrev pub begun_nodes : Begun → ℕ
 begun_nodes nothing = 0

@@ -18,7 +18,7 @@ use Rattle.grammar_core.specs.Preorder.{Head, preorder, all_preorder}
 use Rattle.grammar_core.specs.Parts.{each, times, first_of, left_after}
 use Rattle.grammar_core.specs.Cells.{Cell, cells, all_cells}
 use Rattle.grammar_core.specs.Begun.{Begun, nothing, whole, open_branch, IsPart, Grows}
-use Rattle.grammar_core.specs.Begun.{IsBegunPreorder, begun_nodes, begun_text_bytes}
+use Rattle.grammar_core.specs.Begun.{begun_preorder, begun_nodes, begun_text_bytes}
 use Rattle.grammar_core.specs.Spelled.{own_bytes, cell_bytes}
 use Rattle.grammar_core.specs.Forms.{next_at}
 use Rattle.grammar_core.specs.declared.form.StopReason.TheVariants as stop
@@ -46,7 +46,7 @@ use Rattle.value_core.proofs.Spines.{is_cons, spine_is_whole, spine_length}
 -- a begun tree of which something is missing, with these nodes and bytes
 abbrev BegunAs : List TypeInfo → ℕ → ℕ → List Head → List ℕ → Option (ℕ × ℕ) → Type 0
 BegunAs r top t hs own next = (g : Begun) × Grows r top t g own next × IsPart g
-    × IsBegunPreorder g hs
+    × (hs ≡ begun_preorder g)
 
 -- the innermost open node, its whole children and what follows stand after the nodes before it
 heads_after : (r : List TypeInfo) (o : OpenNode) (cs cs1 : List Cell) (hs : List Head) →
@@ -62,30 +62,32 @@ heads_after r o cs cs1 hs e =
 -- a begun tree where a type is next makes one begun tree of all open nodes around it
 plugged : (r : List TypeInfo) (top room t : ℕ) (os : List OpenNode) (f : OpenPart)
     (fs : List OpenPart) (cs : List Cell) (own : List ℕ) (w : ℕ) (g : Begun) (c : List ℕ)
-    (next : Option (ℕ × ℕ)) (hs : List Head) →
-    room + length os ≡ top → Spine r room t os (f ∷ fs) cs own → first_of f.left ≡ Some w →
-    Grows r room w g c next → IsPart g → IsBegunPreorder g hs →
-    BegunAs r top t (bare_heads cs ++ hs) (own ++ c) next
+    (next : Option (ℕ × ℕ)) → room + length os ≡ top → Spine r room t os (f ∷ fs) cs own →
+    first_of f.left ≡ Some w → Grows r room w g c next → IsPart g →
+    BegunAs r top t (bare_heads cs ++ begun_preorder g) (own ++ c) next
 unfolding Grows
-plugged r top room t [] f fs cs own w g c next hs e (inl h) first k part shows =
+plugged r top room t [] f fs cs own w g c next e (inl h) first k part =
     let parts = is_cons f (open_part 0 (times 1 t)) fs [] h.0 in
     let same : t ≡ w = same_Some t w (sym (ap (λ (x : OpenPart). first_of x.left) parts.0)
     ∙ first) in
     let level : top ≡ room = omega (arith, e) in
-    (g, rw (h.2, same, level) k, part, rw h.1 shows)
-plugged r top room t [] f fs cs own w g c next hs e (inr h) first k part shows =
+    (g, rw (h.2, same, level) k, part, rw h.1 refl)
+plugged r top room t [] f fs cs own w g c next e (inr h) first k part =
     let parts = is_cons f (open_part 0 (times 0 t)) fs [] h.1 in
     let no : None ≡ Some w = sym (ap (λ (x : OpenPart). first_of x.left) parts.0) ∙ first in
     absurd cc
-plugged r top room t (o ∷ os) f fs cs own w g c next hs e h first k part shows =
+plugged r top room t (o ∷ os) f fs cs own w g c next e h first k part =
     let parts = is_cons f (open_part (length h.4) h.0) fs (open_part h.2 (left_after h.1) ∷ h.3)
     h.6 in
     let is_next = sym (ap (λ (x : OpenPart). first_of x.left) parts.0) ∙ first in
     let g' = plugged r top (suc room) t os (open_part h.2 h.1) h.3 h.4 h.5 o.ty
-    (open_branch o.kind o.all o.done g) (o.own ++ c) next
-    (head.branch o.kind o.all ∷ (all_preorder o.done ++ hs)) (omega (arith, e)) h.8 h.7
-    (h.0, w, o.own, c, h.9.0, h.9.1, h.10, is_next, refl, part, k) tt (hs, refl, shows) in
-    (g'.0, rw (h.12, append_assoc) g'.1, g'.2, rw (heads_after r o cs h.4 hs h.11) g'.3)
+    (open_branch o.kind o.all o.done g) (o.own ++ c) next (omega (arith, e)) h.8 h.7
+    (h.0, w, o.own, c, h.9.0, h.9.1, h.10, is_next, refl, part, k) tt in (
+      g'.0,
+      rw (h.12, append_assoc) g'.1,
+      g'.2,
+      heads_after r o cs h.4 (begun_preorder g) h.11 ∙ g'.3,
+    )
 
 -- nodes and bytes of a begun tree may be replaced by equal ones
 same_begun : (r : List TypeInfo) (top t : ℕ) (hs hs' : List Head) (own own' : List ℕ)
@@ -100,8 +102,8 @@ spine_is_begun : (r : List TypeInfo) (top room t : ℕ) (os : List OpenNode) (f 
     BegunAs r top t (bare_heads cs) own (Some (room, u))
 unfolding Grows
 spine_is_begun r top room t os f fs cs own u e h first =
-    let g = plugged r top room t os f fs cs own u nothing [] (Some (room, u)) [] e h first
-    (refl, refl) tt refl in
+    let g = plugged r top room t os f fs cs own u nothing [] (Some (room, u)) e h first
+    (refl, refl) tt in
     same_begun r top t (bare_heads cs ++ []) (bare_heads cs) (own ++ []) own (Some (room, u))
     (append-nil (bare_heads cs)) (append-nil own) g
 
@@ -122,15 +124,19 @@ abbrev pub Counts : Begun → List Head → Type 0
 Counts g hs = (length hs ≡ begun_nodes g) × (heads_text hs ≡ begun_text_bytes g)
 
 -- the nodes of a begun tree are as many as it reports, and so are their bytes of text
-pub counts : (g : Begun) (hs : List Head) → IsBegunPreorder g hs → Counts g hs
-counts nothing hs h = rw h (refl, refl)
-counts (whole v) hs h = rw h (preorder_length v, text_of_preorder v)
-counts (open_branch k n vs g) hs h =
-    let below = counts g h.0 h.2 in
-    rw h.1 (
-      omega (arith, length-append (all_preorder vs) h.0, all_preorder_length vs, below.0),
-      omega (arith, heads_text-append (all_preorder vs) h.0, text_of_all_preorder vs, below.1),
+counted : (g : Begun) → Counts g (begun_preorder g)
+counted nothing = (refl, refl)
+counted (whole v) = (preorder_length v, text_of_preorder v)
+counted (open_branch k n vs g) =
+    let below = counted g in
+    let rest = begun_preorder g in (
+      omega (arith, length-append (all_preorder vs) rest, all_preorder_length vs, below.0),
+      omega (arith, heads_text-append (all_preorder vs) rest, text_of_all_preorder vs, below.1),
     )
+
+-- the same for nodes that are known to be its own
+pub counts : (g : Begun) (hs : List Head) → hs ≡ begun_preorder g → Counts g hs
+counts g hs h = rw h (counted g)
 
 -- ---- what the walk says
 
@@ -213,7 +219,7 @@ part_begun ty types limit f fs pool ns text_len run turns u b paid e =
       tree = g.0;
       are_bytes = subst AreBytes (sym own) b.are_bytes;
       grows = rw (e, left, own) g.1;
-      shows = rw (heads_are pool ns) g.3;
+      shows = heads_are pool ns ∙ g.3;
       nodes = sym (length-map (entries_shown pool ns) (λ (x : Entry). x.head))
           ∙ ap length (heads_are pool ns) ∙ count.0;
       text_bytes = text_of_entries pool ns ∙ count.1;

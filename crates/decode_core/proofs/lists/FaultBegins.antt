@@ -193,7 +193,8 @@ branch_begins r room t kind n c p b rest fin opens count is xs e s =
       part = tt;
       is = rw (is, s.is, h.is) (simp append_assoc);
       grows = (s.left, s.ty, c ++ s.b1, h.own, fin, o, s.low, s.next, refl, h.part, h.grows);
-      shows = (shown s.ys, ap (λ (ns : List Head). head.branch kind n ∷ ns) s.shows, h.shows);
+      shows = ap (λ (ns : List Head). head.branch kind n ∷ ns)
+          (s.shows ∙ ap (λ (ns : List Head). all_preorder s.vs ++ ns) h.shows);
       meets = h.meets;
     }
 
