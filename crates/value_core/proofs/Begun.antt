@@ -82,12 +82,9 @@ plugged r top room t (o ∷ os) f fs cs own w g c next e h first k part =
     let is_next = sym (ap (λ (x : OpenPart). first_of x.left) parts.0) ∙ first in
     let g' = plugged r top (suc room) t os (open_part h.2 h.1) h.3 h.4 h.5 o.ty
     (open_branch o.kind o.all o.done g) (o.own ++ c) next (omega (arith, e)) h.8 h.7
-    (h.0, w, o.own, c, h.9.0, h.9.1, h.10, is_next, refl, part, k) tt in (
-      g'.0,
-      rw (h.12, append_assoc) g'.1,
-      g'.2,
-      heads_after r o cs h.4 (begun_preorder g) h.11 ∙ g'.3,
-    )
+    (h.0, w, o.own, c, h.9.0, h.9.1, h.10, is_next, refl, part, k) tt in
+    let shows = heads_after r o cs h.4 (begun_preorder g) h.11 ∙ g'.3 in
+    (g'.0, rw (h.12, append_assoc) g'.1, g'.2, shows)
 
 -- nodes and bytes of a begun tree may be replaced by equal ones
 same_begun : (r : List TypeInfo) (top t : ℕ) (hs hs' : List Head) (own own' : List ℕ)
