@@ -71,7 +71,7 @@ times_at child (suc n) t bytes = do
   others ← times_at child n t first.1
   Ok (and first.0 others.0, others.1)
 
--- the parts of a node
+-- a value of each part of a node, one after the other
 abbrev pub part_at : (ℕ → ValueReader Tree) → Part → ValueReader Trees
 part_at child (each ts) bytes = all_at child ts bytes
 part_at child (times n t) bytes = times_at child n t bytes
