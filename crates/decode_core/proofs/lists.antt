@@ -17,8 +17,6 @@ pub mod MachineTurns
 pub mod Left
 pub mod Decides
 pub mod FaultBegins
-pub mod HeldOne
-pub mod Nodes
 pub mod Holds
 pub mod Fed
 pub mod ReadFronts

@@ -1,9 +1,8 @@
 -- What was added before a fault is a begun tree.
 use Rattle.std.specs.Prelude.{◌≡◌, ℕ, List, [], ◌++◌, Some, Err}
 use Rattle.registry_core.specs.declared.type_info.TypeInfo.{TypeInfo}
-use Rattle.grammar_core.specs.Begun.{Begun, IsPart, Grows}
+use Rattle.grammar_core.specs.Begun.{Begun, IsPart, Grows, begun_preorder}
 use Rattle.value_core.specs.Built.{Entry}
-use Rattle.grammar_core.specs.Begun.{IsBegunPreorder}
 use Rattle.decode_core.specs.Reported.{Fault, reported, shown, reported_at}
 
 -- the nodes of a begun tree are there, and its next type fails on the bytes after its own, with
@@ -17,7 +16,7 @@ pub record Begins (r : List TypeInfo) (room t : ℕ) (b : List ℕ) (xs : List E
   pub part : IsPart tree
   pub is : b ≡ own ++ e.1
   pub grows : Grows r room t tree own (Some (below, next))
-  pub shows : IsBegunPreorder tree (shown xs)
+  pub shows : shown xs ≡ begun_preorder tree
   pub meets : reported_at r below next e.1 ≡ reported [] (Err e)
 
 -- what was added before a fault is a begun tree

@@ -16,7 +16,7 @@ use Rattle.decode_core.specs.declared.fault.OpenFault.{OpenFault}
 use Rattle.decode_core.specs.declared.fault.OpenFault.TheVariants as opening
 use Rattle.widths_core.specs.Layouts.{layout}
 use Rattle.graph_core.specs.Widths.{widest}
-use Rattle.grammar_core.specs.Begun.{Begun, IsBegunPreorder, begun_nodes, begun_text_bytes}
+use Rattle.grammar_core.specs.Begun.{Begun, begun_preorder, begun_nodes, begun_text_bytes}
 use Rattle.decode_core.specs.Bound.{node_bound, value_bound}
 use Rattle.decode_core.specs.Machine.{remain, start}
 use Rattle.decode_core.specs.Outcome.{Job, done, refused, more, too_long, IsOutcome}
@@ -139,7 +139,7 @@ AnswersPiece old new b (Err f) = (new.run ≡ Err f) × IsEnded new.job b f new.
 pub record HoldsOf (j : Job) (b : List ℕ) (s : Running) : Type 0 where
   pub tree : Begun
   pub holds : Holds j.registry (suc j.depth) j.ty b tree (held_of s)
-  pub shows : IsBegunPreorder tree (shown s.built.entries)
+  pub shows : shown s.built.entries ≡ begun_preorder tree
   pub nodes : length s.built.entries ≡ begun_nodes tree
   pub texts : built_text_bytes s.built
       ≡ begun_text_bytes tree + open_run (layout j.registry holds.2) (held_of s)

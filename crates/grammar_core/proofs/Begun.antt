@@ -1,8 +1,8 @@
 -- How deep a begun tree is.
 use Rattle.std.proofs.Common.{◌≡◌, ℕ, zero, suc, ◌+◌, ◌≤◌, true, false, Option, Some, None, refl}
 use Rattle.std.proofs.Common.{sym, ap, ◌∙◌, arith}
-use Rattle.grammar_core.specs.Begun.{Begun, nothing, whole, in_fields, in_arm, in_list, IsPart}
-use Rattle.grammar_core.specs.Begun.{Grows, begun_levels, begun_depth, is_whole_tree}
+use Rattle.grammar_core.specs.Begun.{Begun, nothing, whole, open_branch, IsPart, Grows}
+use Rattle.grammar_core.specs.Begun.{begun_levels, begun_depth, is_whole_tree}
 use Rattle.grammar_core.specs.Laws.{BegunTreesFit}
 
 abbrev FitsRoom : ℕ → Begun → Option (ℕ × ℕ) → Type 0
@@ -18,9 +18,7 @@ room_is p q e = ap (λ (x : Option (ℕ × ℕ)). elim x [ Some n ↦ n.0 | None
 missing : (g : Begun) → IsPart g → is_whole_tree g ≡ false
 missing nothing h = refl
 missing (whole v) h = absurd h
-missing (in_fields vs g) h = refl
-missing (in_arm q vs g) h = refl
-missing (in_list n vs g) h = refl
+missing (open_branch k n vs g) h = refl
 
 -- a begun tree of which something is missing is not whole, so anything follows if it were
 never_whole : {X : Type 0} (g : Begun) → IsPart g → is_whole_tree g ≡ true → X
@@ -36,24 +34,10 @@ begun_trees_fit r room t nothing b next h = (
 )
 begun_trees_fit r room t (whole v) b next h =
     (h.1, (λ left u e. let no = sym h.2 ∙ e in absurd cc), λ e. refl)
-begun_trees_fit r zero t (in_fields vs g) b next h = absurd h
-begun_trees_fit r zero t (in_arm q vs g) b next h = absurd h
-begun_trees_fit r zero t (in_list n vs g) b next h = absurd h
-begun_trees_fit r (suc room) t (in_fields vs g) b next h =
-    let below = begun_trees_fit r room h.1 g h.4 next h.11 in (
-      omega (arith, below.0, h.9),
+begun_trees_fit r zero t (open_branch k n vs g) b next h = absurd h
+begun_trees_fit r (suc room) t (open_branch k n vs g) b next h =
+    let below = begun_trees_fit r room h.1 g h.3 next h.10 in (
+      omega (arith, below.0, h.6),
       (λ left u e. (refl, omega (arith, (below.1 left u e).1))),
-      λ e. never_whole g h.10 (below.2 e),
-    )
-begun_trees_fit r (suc room) t (in_arm q vs g) b next h =
-    let below = begun_trees_fit r room h.4 g h.7 next h.16 in (
-      omega (arith, below.0, h.14),
-      (λ left u e. (refl, omega (arith, (below.1 left u e).1))),
-      λ e. never_whole g h.15 (below.2 e),
-    )
-begun_trees_fit r (suc room) t (in_list n vs g) b next h =
-    let below = begun_trees_fit r room h.0 g h.3 next h.11 in (
-      omega (arith, below.0, h.9),
-      (λ left u e. (refl, omega (arith, (below.1 left u e).1))),
-      λ e. never_whole g h.10 (below.2 e),
+      λ e. never_whole g h.9 (below.2 e),
     )

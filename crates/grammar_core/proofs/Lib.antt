@@ -6,6 +6,7 @@ pub mod Emptiness
 pub mod Grounded
 pub mod Inhabited
 pub mod OneSpelling
+pub mod OpenNodes
 pub mod Parts
 pub mod Proved
 pub mod Runs

@@ -1,6 +1,6 @@
 -- What holds of every value and its bytes.
-use Rattle.std.specs.Prelude.{◌≡◌, ◌≢◌, ℕ, ◌+◌, ◌*◌, ◌≤◌, List, [], ◌++◌, length, Ok, Err, ◌⊎◌, ◌∷◌}
-use Rattle.std.specs.Prelude.{◌<◌, Option, Some, None, true, false}
+use Rattle.std.specs.Prelude.{◌≡◌, ◌≢◌, ℕ, ◌+◌, ◌*◌, ◌≤◌, List, [], ◌++◌, length, Ok, Err, ◌⊎◌}
+use Rattle.std.specs.Prelude.{Option, Some, None, true, false}
 use Rattle.scale_core.specs.Number.{AreBytes}
 use Rattle.registry_core.specs.declared.type_info.TypeInfo.{TypeInfo}
 use Rattle.registry_core.specs.Fits.{FitsText, FitsRegistry}
@@ -9,10 +9,12 @@ use Rattle.widths_core.specs.Reach.{IsPlain}
 use Rattle.widths_core.specs.Classes.{IsFinite, IsEmpty, class_of}
 use Rattle.widths_core.specs.declared.class.Class.TheVariants as class
 use Rattle.grammar_core.specs.Tree.{Leaf, Tree, leaf, branch, unit, text, Trees, none, and, levels}
-use Rattle.grammar_core.specs.Tree.{nodes, text_bytes, how_many, most_levels}
-use Rattle.grammar_core.specs.Grammar.{Val, Vals, Each}
-use Rattle.grammar_core.specs.Begun.{Begun, Grows, begun_levels, begun_depth, is_whole_tree}
-use Rattle.grammar_core.specs.Reading.{value_at, all_at, times_at, Refusal, truncated}
+use Rattle.grammar_core.specs.Tree.{nodes, text_bytes, most_levels}
+use Rattle.grammar_core.specs.Grammar.{Val}
+use Rattle.grammar_core.specs.Begun.{FirstValues, Begun, Grows, begun_levels, begun_depth}
+use Rattle.grammar_core.specs.Begun.{is_whole_tree}
+use Rattle.grammar_core.specs.Parts.{Part, first_of}
+use Rattle.grammar_core.specs.Reading.{value_at, part_at, Refusal, truncated}
 
 -- a value that has room for so many levels stands on the front of the input, and rest is after it
 abbrev pub Stands : List TypeInfo → ℕ → ℕ → List ℕ → Tree → List ℕ → Type 0
@@ -103,29 +105,20 @@ abbrev pub FiniteHasValue : Type 0
 FiniteHasValue = (r : List TypeInfo) (t : ℕ) → FitsRegistry r → IsFinite r t → IsPlain r t →
     (v : Tree) × (b : List ℕ) × AreBytes b × Val r t v b
 
--- the first parts have values on consecutive fronts, for which there is room, and the next part
--- fails on the rest
-abbrev pub NextPartFails : List TypeInfo → ℕ → List ℕ → List ℕ → Refusal → List ℕ → Type 0
-NextPartFails r room ts input reason left = (front : List ℕ) × (u : ℕ) × (back : List ℕ)
-    × (vs : Trees) × (b1 b2 : List ℕ) × (ts ≡ front ++ u ∷ back) × (input ≡ b1 ++ b2)
-    × Vals r front vs b1 × (most_levels vs ≤ room) × Fails r room u b2 reason left
+-- values of the first parts stand on the front, for which there is room, and the next part fails on
+-- the rest
+abbrev pub NextPartFails : List TypeInfo → ℕ → Part → List ℕ → Refusal → List ℕ → Type 0
+NextPartFails r room p input reason left = (vs : Trees) × (back : Part) × (u : ℕ)
+    × (b1 b2 : List ℕ) × FirstValues r p vs b1 back × (first_of back ≡ Some u)
+    × (input ≡ b1 ++ b2) × (most_levels vs ≤ room) × Fails r room u b2 reason left
 
--- the same of n parts of one type
-abbrev pub NextElementFails : List TypeInfo → ℕ → ℕ → ℕ → List ℕ → Refusal → List ℕ → Type 0
-NextElementFails r room n t input reason left = (vs : Trees) × (b1 b2 : List ℕ) × (how_many vs < n)
-    × (input ≡ b1 ++ b2) × Each r t vs b1 × (most_levels vs ≤ room) × Fails r room t b2 reason left
-
--- a list of parts fails where its next part does, and there alone
+-- parts fail where the next one does, and there alone
 abbrev pub PartsFail : Type 0
-PartsFail = (r : List TypeInfo) (room : ℕ) (input : List ℕ) (reason : Refusal) (left : List ℕ) →
-    ((ts : List ℕ) → (all_at (value_at r room) ts input ≡ Err (reason, left) →
-    NextPartFails r room ts input reason left)
-    × (NextPartFails r room ts input reason left →
-    all_at (value_at r room) ts input ≡ Err (reason, left)))
-    × ((n t : ℕ) → (times_at (value_at r room) n t input ≡ Err (reason, left) →
-    NextElementFails r room n t input reason left)
-    × (NextElementFails r room n t input reason left →
-    times_at (value_at r room) n t input ≡ Err (reason, left)))
+PartsFail = (r : List TypeInfo) (room : ℕ) (p : Part) (input : List ℕ) (reason : Refusal)
+    (left : List ℕ) → (part_at (value_at r room) p input ≡ Err (reason, left) →
+    NextPartFails r room p input reason left)
+    × (NextPartFails r room p input reason left →
+    part_at (value_at r room) p input ≡ Err (reason, left))
 
 -- the levels of a begun tree fit, what is missing first is as deep as the room that is left there
 -- says, and it is a value

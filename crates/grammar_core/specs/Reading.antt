@@ -15,6 +15,7 @@ use Rattle.widths_core.specs.Arms.{arm_of}
 use Rattle.widths_core.specs.Classes.{is_finite}
 use Rattle.widths_core.specs.Layouts.{Plain, Layout, layout}
 use Rattle.widths_core.specs.Layouts as layout
+use Rattle.grammar_core.specs.Parts.{Part, each, times}
 use Rattle.grammar_core.specs.Tree.{Leaf, Branch, Tree, leaf, branch, unit, bool, char, unsigned}
 use Rattle.grammar_core.specs.Tree.{signed, wide, compact, fields, arm, list, count, Trees, none}
 use Rattle.grammar_core.specs.Tree.{and}
@@ -69,6 +70,11 @@ times_at child (suc n) t bytes = do
   first ← child t bytes
   others ← times_at child n t first.1
   Ok (and first.0 others.0, others.1)
+
+-- a value of each part of a node, one after the other
+abbrev pub part_at : (ℕ → ValueReader Tree) → Part → ValueReader Trees
+part_at child (each ts) bytes = all_at child ts bytes
+part_at child (times n t) bytes = times_at child n t bytes
 
 -- the fields of the arm that the index names, which stands at the front of at
 abbrev pub fields_after_index : (ℕ → ValueReader Tree) → List ℕ → Option (ℕ × Arm) →

@@ -2,14 +2,15 @@
 use Rattle.std.proofs.Common.{Option, None, drop, ◌≡◌, ℕ, zero, suc, ◌+◌, ◌-◌, ◌≤◌, List, [], ◌∷◌}
 use Rattle.std.proofs.Common.{◌++◌, Bool, true, false, length, take, drop, slice_range, Some, refl}
 use Rattle.std.proofs.Common.{sym, ap, subst, ◌∙◌, arith, length-append}
-use Rattle.std.proofs.lemmas.List.{length-map, map-append, take-append-le}
+use Rattle.std.proofs.lemmas.List.{append-nil, length-map, map-append, take-append-le}
 use Rattle.std.specs.Int.{w128, from_le_bytes}
 use Rattle.scale_core.specs.Number.{AreBytes}
 use Rattle.scale_core.proofs.Numbers.{both_bytes}
 use Rattle.registry_core.specs.declared.type_info.TypeInfo.{TypeInfo}
 use Rattle.grammar_core.specs.Tree.{Branch, Tree, none, levels, most_levels}
 use Rattle.grammar_core.specs.Grammar.{Val}
-use Rattle.grammar_core.specs.Parts.{Part}
+use Rattle.grammar_core.specs.Begun.{IsOpenAs}
+use Rattle.grammar_core.specs.Parts.{Part, how_many_left}
 use Rattle.grammar_core.specs.Preorder as head
 use Rattle.grammar_core.specs.Tree as tree
 use Rattle.grammar_core.specs.Preorder.{Head, head_of, tree_with}
@@ -304,22 +305,24 @@ open_added ty w pool ns n text_len p b l at size = by b.room refl where
       let o : OpenNode = record {
         ty = l.ty;
         kind = l.kind;
-        all = l.count;
+        all = how_many_left p;
         done = none;
         own =
             l.own;
       } in
-      let shown = open_shown pool n.children n.content l.kind l.count l.head_is in
+      let open_as : IsOpenAs w.types l.kind l.ty (how_many_left p) none l.own p =
+      (p, l.own, [], l.opens, refl, sym (append-nil l.own), (refl, refl)) in
+      let shown = open_shown pool n.children n.content l.kind (how_many_left p) l.head_is in
       let spine : Spine w.types (suc room) ty b.opens w.frames (cells_shown pool ns) b.own =
       rw (← e) b.spine in
       let g = open_grown w.types room ty b.opens w.frames (cells_shown pool ns) b.own o p l.next
-      spine (l.finite, l.is_open) (omega arith) in
+      spine (l.finite, open_as) (omega arith) in
       let cell : cell_shown pool n ≡ open_cell o = rw (at, shown.same, l.head_is, size) refl in
       let cells_are : cells_shown pool (ns ++ n ∷ []) ≡ cells_shown pool ns ++ open_cell o ∷ [] =
       map-append (cell_shown pool) ns (n ∷ [])
       ∙ ap (λ (c : Cell). cells_shown pool ns ++ c ∷ []) cell in
       let entries_are : entries_shown pool (ns ++ n ∷ [])
-      ≡ entries_shown pool ns ++ entry_of l.ty (head.branch l.kind l.count) ∷ [] =
+      ≡ entries_shown pool ns ++ entry_of l.ty (head.branch l.kind (how_many_left p)) ∷ [] =
       map-append _ ns (n ∷ []) ∙ rw (at, shown.same, l.head_is) refl in
       record {
         room = room;
@@ -332,8 +335,8 @@ open_added ty w pool ns n text_len p b l at size = by b.room refl where
         texts = rw entries_are (omega (
           arith,
           b.texts,
-          text_snoc (entries_shown pool ns) (entry_of l.ty (head.branch l.kind l.count)),
-          kind_text l.kind l.count,
+          text_snoc (entries_shown pool ns) (entry_of l.ty (head.branch l.kind (how_many_left p))),
+          kind_text l.kind (how_many_left p),
         ));
         fits = omega (arith, b.fits, kept_snoc ns n, shown.none_kept);
       }

@@ -1,6 +1,6 @@
 -- What a builder holds is a begun tree.
 use Rattle.widths_core.specs.Layouts.{layout}
-use Rattle.std.proofs.Common.{◌≡◌, ℕ, zero, suc, ◌+◌, ◌-◌, ◌≤◌, Bool, true, false, List, [], ◌∷◌}
+use Rattle.std.proofs.Common.{◌≡◌, ℕ, suc, ◌+◌, ◌-◌, ◌≤◌, Bool, true, false, List, [], ◌∷◌}
 use Rattle.std.proofs.Common.{◌++◌, length, map, Option, Some, None, refl, sym, ap, flat_map, subst}
 use Rattle.std.proofs.Common.{◌∙◌, append_assoc, arith, inl, inr, length-append}
 use Rattle.std.specs.Prelude.{nat_lt, if◌then◌else◌}
@@ -12,27 +12,23 @@ use Rattle.std.proofs.lemmas.List.Folds.{flat_map-map}
 use Rattle.scale_core.specs.Number.{AreBytes}
 use Rattle.registry_core.specs.declared.type_info.TypeInfo.{TypeInfo}
 use Rattle.graph_core.specs.Types.{shape}
-use Rattle.widths_core.specs.Classes.{is_finite}
-use Rattle.widths_core.specs.Layouts as layout
-use Rattle.grammar_core.specs.Tree.{Branch, Tree, Trees, nodes, all_nodes, all_text_bytes}
-use Rattle.grammar_core.specs.Tree.{most_levels}
+use Rattle.grammar_core.specs.Tree.{Tree, Trees, nodes, all_nodes}
 use Rattle.grammar_core.specs.Preorder as head
-use Rattle.grammar_core.specs.Tree as tree
 use Rattle.grammar_core.specs.Preorder.{Head, preorder, all_preorder}
-use Rattle.grammar_core.specs.Parts.{Part, each, times, first_of, left_after}
+use Rattle.grammar_core.specs.Parts.{each, times, first_of, left_after}
 use Rattle.grammar_core.specs.Cells.{Cell, cells, all_cells}
-use Rattle.grammar_core.specs.Begun.{Begun, nothing, whole, in_fields, in_arm, in_list, IsPart}
-use Rattle.grammar_core.specs.Begun.{Grows, IsBegunPreorder, begun_nodes, begun_text_bytes}
+use Rattle.grammar_core.specs.Begun.{Begun, nothing, whole, open_branch, IsPart, Grows}
+use Rattle.grammar_core.specs.Begun.{begun_preorder, begun_nodes, begun_text_bytes}
 use Rattle.grammar_core.specs.Spelled.{own_bytes, cell_bytes}
 use Rattle.grammar_core.specs.Forms.{next_at}
 use Rattle.grammar_core.specs.declared.form.StopReason.TheVariants as stop
 use Rattle.grammar_core.specs.declared.form.Next.TheVariants as next
 use Rattle.grammar_core.proofs.Begun.{begun_trees_fit}
 use Rattle.node_core.specs.Shown.{cell_shown, cells_shown}
-use Rattle.value_core.specs.Spine.{OpenNode, open_cells, IsOpenAs, open_part, Spine}
+use Rattle.value_core.specs.Spine.{OpenNode, open_cells, open_part, Spine}
 use Rattle.grammar_core.specs.Cells.{part_of}
 use Rattle.value_core.specs.Walked.{OpenPart, Walked}
-use Rattle.value_core.specs.Built.{Entry, Pieces, IsSettled, entries_shown, head_text_bytes}
+use Rattle.value_core.specs.Built.{Entry, Pieces, IsSettled, entries_shown}
 use Rattle.value_core.specs.Built.{settled_in}
 use Rattle.value_core.specs.Building.{IsPaid, IsBuilding}
 use Rattle.value_core.specs.Refusals.{is_whole_in}
@@ -45,102 +41,12 @@ use Rattle.value_core.proofs.Finished.{text_of_all_preorder, text_of_entries}
 use Rattle.value_core.proofs.OwnBytes.{spine_bytes}
 use Rattle.value_core.proofs.Spines.{is_cons, spine_is_whole, spine_length}
 
--- ---- the open node round a begun tree
-
-abbrev around : Branch → ℕ → Trees → Begun → Begun
-around tree.fields n vs g = in_fields vs g
-around (tree.arm q) n vs g = in_arm q vs g
-around tree.list n vs g = in_list n vs g
-
--- where a type is next of a list of types, the list begins with it
-each_first : (back : List ℕ) (w : ℕ) → first_of (each back) ≡ Some w → (behind : List ℕ)
-    × (back ≡ w ∷ behind)
-each_first [] w e = absurd cc
-each_first (u ∷ us) w e = (us, ap (λ (z : ℕ). z ∷ us) (same_Some u w e))
-
--- where a type is next of so many values of one type, at least one is left, and it is this type
-times_first : (left u w : ℕ) → first_of (times left u) ≡ Some w → (1 ≤ left) × (u ≡ w)
-times_first zero u w e = absurd cc
-times_first (suc n) u w e = (omega arith, same_Some u w e)
-
--- an open node with a begun child is a begun tree, and its nodes and bytes stand in front
-around_grows : (r : List TypeInfo) (room : ℕ) (kind : Branch) (t n : ℕ) (vs : Trees) (b : List ℕ)
-    (p : Part) (w : ℕ) (g : Begun) (c : List ℕ) (next : Option (ℕ × ℕ)) (hs : List Head) →
-    is_finite r t ≡ true → IsOpenAs r kind t n vs b p → most_levels vs ≤ room →
-    first_of p ≡ Some w → Grows r room w g c next → IsPart g → IsBegunPreorder g hs →
-    Grows r (suc room) t (around kind n vs g) (b ++ c) next × IsPart (around kind n vs g)
-    × IsBegunPreorder (around kind n vs g) (head.branch kind n ∷ (all_preorder vs ++ hs))
-unfolding Grows
-around_grows r room tree.fields t n vs b p w g c next hs finite h l f k part shows =
-    let back = each_first h.1 w (sym (ap first_of h.4) ∙ f) in (
-      (
-        h.0,
-        w,
-        back.0,
-        b,
-        c,
-        finite,
-        h.2 ∙ ap (λ (x : List ℕ). layout.fields (h.0 ++ x)) back.1,
-        refl,
-        h.5,
-        l,
-        part,
-        k,
-      ),
-      tt,
-      (n, hs, refl, shows),
-    )
-around_grows r room (tree.arm q) t n vs b p w g c next hs finite h l f k part shows =
-    let back = each_first h.4 w (sym (ap first_of h.10) ∙ f) in (
-      (
-        h.0,
-        h.1,
-        h.2,
-        h.3,
-        w,
-        back.0,
-        h.5,
-        c,
-        finite,
-        h.6,
-        h.7,
-        h.8
-            ∙ ap (λ (x : List ℕ). h.3 ++ x) back.1,
-        ap (λ (x : List ℕ). x ++ c) h.11,
-        h.12,
-        l,
-        part,
-        k,
-      ),
-      tt,
-      (n, hs, refl, shows),
-    )
-around_grows r room tree.list t n vs b p w g c next hs finite h l f k part shows =
-    let some = times_first h.1 h.0 w (sym (ap first_of h.5) ∙ f) in (
-      (
-        h.0,
-        h.2,
-        h.3,
-        c,
-        finite,
-        h.4,
-        ap (λ (x : List ℕ). x ++ c) h.7 ∙ append_assoc h.2 h.3 c,
-        omega (arith, h.6, some.0),
-        h.8,
-        l,
-        part,
-        subst (λ (z : ℕ). Grows r room z g c next) (sym some.1) k,
-      ),
-      tt,
-      (hs, refl, shows),
-    )
-
 -- ---- all open nodes
 
 -- a begun tree of which something is missing, with these nodes and bytes
 abbrev BegunAs : List TypeInfo → ℕ → ℕ → List Head → List ℕ → Option (ℕ × ℕ) → Type 0
 BegunAs r top t hs own next = (g : Begun) × Grows r top t g own next × IsPart g
-    × IsBegunPreorder g hs
+    × (hs ≡ begun_preorder g)
 
 -- the innermost open node, its whole children and what follows stand after the nodes before it
 heads_after : (r : List TypeInfo) (o : OpenNode) (cs cs1 : List Cell) (hs : List Head) →
@@ -156,30 +62,29 @@ heads_after r o cs cs1 hs e =
 -- a begun tree where a type is next makes one begun tree of all open nodes around it
 plugged : (r : List TypeInfo) (top room t : ℕ) (os : List OpenNode) (f : OpenPart)
     (fs : List OpenPart) (cs : List Cell) (own : List ℕ) (w : ℕ) (g : Begun) (c : List ℕ)
-    (next : Option (ℕ × ℕ)) (hs : List Head) →
-    room + length os ≡ top → Spine r room t os (f ∷ fs) cs own → first_of f.left ≡ Some w →
-    Grows r room w g c next → IsPart g → IsBegunPreorder g hs →
-    BegunAs r top t (bare_heads cs ++ hs) (own ++ c) next
-plugged r top room t [] f fs cs own w g c next hs e (inl h) first k part shows =
+    (next : Option (ℕ × ℕ)) → room + length os ≡ top → Spine r room t os (f ∷ fs) cs own →
+    first_of f.left ≡ Some w → Grows r room w g c next → IsPart g →
+    BegunAs r top t (bare_heads cs ++ begun_preorder g) (own ++ c) next
+unfolding Grows
+plugged r top room t [] f fs cs own w g c next e (inl h) first k part =
     let parts = is_cons f (open_part 0 (times 1 t)) fs [] h.0 in
     let same : t ≡ w = same_Some t w (sym (ap (λ (x : OpenPart). first_of x.left) parts.0)
     ∙ first) in
     let level : top ≡ room = omega (arith, e) in
-    (g, rw (h.2, same, level) k, part, rw h.1 shows)
-plugged r top room t [] f fs cs own w g c next hs e (inr h) first k part shows =
+    (g, rw (h.2, same, level) k, part, rw h.1 refl)
+plugged r top room t [] f fs cs own w g c next e (inr h) first k part =
     let parts = is_cons f (open_part 0 (times 0 t)) fs [] h.1 in
     let no : None ≡ Some w = sym (ap (λ (x : OpenPart). first_of x.left) parts.0) ∙ first in
     absurd cc
-plugged r top room t (o ∷ os) f fs cs own w g c next hs e h first k part shows =
+plugged r top room t (o ∷ os) f fs cs own w g c next e h first k part =
     let parts = is_cons f (open_part (length h.4) h.0) fs (open_part h.2 (left_after h.1) ∷ h.3)
     h.6 in
-    let a = around_grows r room o.kind o.ty o.all o.done o.own h.0 w g c next hs h.9.0 h.9.1 h.10
-    (sym (ap (λ (x : OpenPart). first_of x.left) parts.0) ∙ first) k part shows in
+    let is_next = sym (ap (λ (x : OpenPart). first_of x.left) parts.0) ∙ first in
     let g' = plugged r top (suc room) t os (open_part h.2 h.1) h.3 h.4 h.5 o.ty
-    (around o.kind o.all o.done g) (o.own ++ c) next
-    (head.branch o.kind o.all ∷ (all_preorder o.done ++ hs)) (omega (arith, e)) h.8 h.7 a.0 a.1
-    a.2 in
-    (g'.0, rw (h.12, append_assoc) g'.1, g'.2, rw (heads_after r o cs h.4 hs h.11) g'.3)
+    (open_branch o.kind o.all o.done g) (o.own ++ c) next (omega (arith, e)) h.8 h.7
+    (h.0, w, o.own, c, h.9.0, h.9.1, h.10, is_next, refl, part, k) tt in
+    let shows = heads_after r o cs h.4 (begun_preorder g) h.11 ∙ g'.3 in
+    (g'.0, rw (h.12, append_assoc) g'.1, g'.2, shows)
 
 -- nodes and bytes of a begun tree may be replaced by equal ones
 same_begun : (r : List TypeInfo) (top t : ℕ) (hs hs' : List Head) (own own' : List ℕ)
@@ -194,15 +99,15 @@ spine_is_begun : (r : List TypeInfo) (top room t : ℕ) (os : List OpenNode) (f 
     BegunAs r top t (bare_heads cs) own (Some (room, u))
 unfolding Grows
 spine_is_begun r top room t os f fs cs own u e h first =
-    let g = plugged r top room t os f fs cs own u nothing [] (Some (room, u)) [] e h first
-    (refl, refl) tt refl in
+    let g = plugged r top room t os f fs cs own u nothing [] (Some (room, u)) e h first
+    (refl, refl) tt in
     same_begun r top t (bare_heads cs ++ []) (bare_heads cs) (own ++ []) own (Some (room, u))
     (append-nil (bare_heads cs)) (append-nil own) g
 
 -- ---- its counts
 
 -- the list of a tree's nodes is as long as the tree has nodes
-preorder_length : (v : Tree) → length (preorder v) ≡ nodes v
+pub preorder_length : (v : Tree) → length (preorder v) ≡ nodes v
 preorder_length v = ap length (sym (cells_preorder [] 0 v))
     ∙ length-map (cells [] 0 v) (λ (c : Cell). c.head) ∙ cells_length [] 0 v
 
@@ -215,25 +120,20 @@ all_preorder_length vs = ap length (sym (all_cells_preorder [] (each []) vs))
 abbrev pub Counts : Begun → List Head → Type 0
 Counts g hs = (length hs ≡ begun_nodes g) × (heads_text hs ≡ begun_text_bytes g)
 
--- the counts of a node without text, its whole children and the one that is begun
-counted : (g : Begun) (h : Head) (vs : Trees) (rest : List Head) → head_text_bytes h ≡ 0 →
-    Counts g rest → (length (h ∷ (all_preorder vs ++ rest)) ≡ 1 + all_nodes vs + begun_nodes g)
-    × (heads_text (h ∷ (all_preorder vs ++ rest)) ≡ all_text_bytes vs + begun_text_bytes g)
-counted g h vs rest none c = (
-  omega (arith, length-append (all_preorder vs) rest, all_preorder_length vs, c.0),
-  omega (arith, none, heads_text-append (all_preorder vs) rest, text_of_all_preorder vs, c.1),
-)
-
 -- the nodes of a begun tree are as many as it reports, and so are their bytes of text
-pub counts : (g : Begun) (hs : List Head) → IsBegunPreorder g hs → Counts g hs
-counts nothing hs h = rw h (refl, refl)
-counts (whole v) hs h = rw h (preorder_length v, text_of_preorder v)
-counts (in_fields vs g) hs h =
-    rw h.2 (counted g (head.branch tree.fields h.0) vs h.1 refl (counts g h.1 h.3))
-counts (in_arm q vs g) hs h =
-    rw h.2 (counted g (head.branch (tree.arm q) h.0) vs h.1 refl (counts g h.1 h.3))
-counts (in_list n vs g) hs h =
-    rw h.1 (counted g (head.branch tree.list n) vs h.0 refl (counts g h.0 h.2))
+counted : (g : Begun) → Counts g (begun_preorder g)
+counted nothing = (refl, refl)
+counted (whole v) = (preorder_length v, text_of_preorder v)
+counted (open_branch k n vs g) =
+    let below = counted g in
+    let rest = begun_preorder g in (
+      omega (arith, length-append (all_preorder vs) rest, all_preorder_length vs, below.0),
+      omega (arith, heads_text-append (all_preorder vs) rest, text_of_all_preorder vs, below.1),
+    )
+
+-- the same for nodes that are known to be its own
+pub counts : (g : Begun) (hs : List Head) → hs ≡ begun_preorder g → Counts g hs
+counts g hs h = rw h (counted g)
 
 -- ---- what the walk says
 
@@ -316,7 +216,7 @@ part_begun ty types limit f fs pool ns text_len run turns u b paid e =
       tree = g.0;
       are_bytes = subst AreBytes (sym own) b.are_bytes;
       grows = rw (e, left, own) g.1;
-      shows = rw (heads_are pool ns) g.3;
+      shows = heads_are pool ns ∙ g.3;
       nodes = sym (length-map (entries_shown pool ns) (λ (x : Entry). x.head))
           ∙ ap length (heads_are pool ns) ∙ count.0;
       text_bytes = text_of_entries pool ns ∙ count.1;

@@ -1,9 +1,9 @@
 -- The nodes whose children come next, by the form that is next.
-use Rattle.std.proofs.Common.{◌≡◌, ℕ, ◌+◌, ◌<◌, ◌≤◌, ◌^◌, ◌⊎◌, true, [], ◌∷◌, length, Option, Some}
-use Rattle.std.proofs.Common.{None, refl, sym, ap, ◌∙◌, arith, inl, inr}
+use Rattle.std.proofs.Common.{◌≡◌, ℕ, ◌+◌, ◌<◌, ◌≤◌, ◌^◌, ◌⊎◌, true, List, [], ◌∷◌, length, Option}
+use Rattle.std.proofs.Common.{Some, None, refl, sym, ap, ◌∙◌, arith, inl, inr}
 use Rattle.std.specs.Prelude.{option_map, is_some}
-use Rattle.std.proofs.lemmas.List.{append-nil}
 use Rattle.std.proofs.lemmas.Option.{same_Some}
+use Rattle.scale_core.specs.Number.{AreBytes}
 use Rattle.scale_core.specs.Compact.{compact}
 use Rattle.scale_core.proofs.Forms.{are_compact}
 use Rattle.registry_core.specs.declared.definition.Arm.{Arm}
@@ -12,7 +12,7 @@ use Rattle.widths_core.specs.Arms.{arm_of}
 use Rattle.widths_core.specs.Classes.{is_finite}
 use Rattle.widths_core.specs.Layouts.{Layout, layout}
 use Rattle.widths_core.specs.Layouts as layout
-use Rattle.grammar_core.specs.Grammar.{Val}
+use Rattle.grammar_core.specs.Begun.{BranchOpens}
 use Rattle.grammar_core.specs.Parts.{Part, each, times, how_many_left}
 use Rattle.grammar_core.specs.Preorder as head
 use Rattle.grammar_core.specs.Tree as tree
@@ -29,7 +29,6 @@ use Rattle.value_core.proofs.Forms.{wanted}
 -- where fields are next and these parts are opened, a node with as many children may open
 pub fields_next : (w : Walked) (p : Part) → next_of w ≡ next.Wants form.Fields → OpensFields w p →
     IsNextOpen w (head.branch tree.fields (how_many_left p)) p
-unfolding Val
 fields_next w p e o =
     let k = wanted w form.Fields e in
     let same : k.ty ≡ o.ty = same_Some k.ty o.ty (sym k.is_next ∙ o.next) in
@@ -38,68 +37,50 @@ fields_next w p e o =
       next = o.next;
       room = k.room;
       kind = tree.fields;
-      count = how_many_left p;
       head_is = refl;
       own = [];
       are_bytes = tt;
       finite = rw (← same) k.finite;
-      is_open = ([], o.members, o.laid, ap how_many_left o.part_is, o.part_is, refl);
+      opens = (o.members, o.laid, refl, o.part_is);
     }
 
 -- an array of this length or a sequence, whose elements these are
 pub list_next : (w : Walked) (n : ℕ) (p : Part) → n < 2 ^ 32 → IsListNext w n →
     OpensElements w n p → IsNextOpen w (head.branch tree.list n) p
-unfolding Val
-list_next w n p h e o = by (ready e) o.laid where
-  ready_for : (f : Form) → next_of w ≡ next.Wants f → (length w.frames ≤ w.limit + 1)
-      × (is_finite w.types o.ty ≡ true)
-  ready_for f e =
-      let k = wanted w f e in
-      let same : k.ty ≡ o.ty = same_Some k.ty o.ty (sym k.is_next ∙ o.next) in
-      (k.room, rw (← same) k.finite)
+list_next w n p h e o =
+    let k = ready e in
+    let own = opened o.laid in
+    record {
+      ty = o.ty;
+      next = o.next;
+      room = k.0;
+      kind = tree.list;
+      head_is = ap (head.branch tree.list) (sym (ap how_many_left o.part_is));
+      own = own.0;
+      are_bytes = own.1;
+      finite = k.1;
+      opens = own.2;
+    } where
+      ready_for : (f : Form) → next_of w ≡ next.Wants f → (length w.frames ≤ w.limit + 1)
+          × (is_finite w.types o.ty ≡ true)
+      ready_for f e =
+          let k = wanted w f e in
+          let same : k.ty ≡ o.ty = same_Some k.ty o.ty (sym k.is_next ∙ o.next) in
+          (k.room, rw (← same) k.finite)
 
-  ready : IsListNext w n → (length w.frames ≤ w.limit + 1) × (is_finite w.types o.ty ≡ true)
-  ready (inl e) = ready_for (form.Array n) e
-  ready (inr e) = ready_for form.Sequence e
+      ready : IsListNext w n → (length w.frames ≤ w.limit + 1) × (is_finite w.types o.ty ≡ true)
+      ready (inl e) = ready_for (form.Array n) e
+      ready (inr e) = ready_for form.Sequence e
 
-  by : (length w.frames ≤ w.limit + 1) × (is_finite w.types o.ty ≡ true) →
-      (layout w.types o.ty ≡ layout.array n o.element)
-      ⊎ (layout w.types o.ty ≡ layout.sequence o.element) →
-      IsNextOpen w (head.branch tree.list n) p
-  by k (inl laid) = record {
-    ty = o.ty;
-    next = o.next;
-    room = k.0;
-    kind = tree.list;
-    count = n;
-    head_is = refl;
-    own = [];
-    are_bytes = tt;
-    finite = k.1;
-    is_open = (o.element, n, [], [], inl (laid, refl), o.part_is, omega arith, refl, refl);
-  }
-  by k (inr laid) = record {
-    ty = o.ty;
-    next = o.next;
-    room = k.0;
-    kind = tree.list;
-    count = n;
-    head_is = refl;
-    own = compact n;
-    are_bytes = are_compact n;
-    finite = k.1;
-    is_open = (
-      o.element,
-      n,
-      compact n,
-      [],
-      inr (laid, (omega (arith, h), refl)),
-      o.part_is,
-      omega arith,
-      sym (append-nil (compact n)),
-      refl,
-    );
-  }
+      opened : (layout w.types o.ty ≡ layout.array n o.element)
+          ⊎ (layout w.types o.ty ≡ layout.sequence o.element) → (c : List ℕ) × AreBytes c
+          × BranchOpens (layout w.types o.ty) tree.list c p
+      opened (inl laid) = ([], tt, (n, o.element, inl (laid, refl), o.part_is))
+      opened (inr laid) = (
+        compact n,
+        are_compact n,
+        (n, o.element, inr (laid, (omega (arith, h), refl)), o.part_is),
+      )
 
 -- two pairs that are the same answer are the same
 pair_is : (x y : ℕ × Part) → Some x ≡ Some y → x ≡ y
@@ -109,7 +90,6 @@ pair_is x y e = cc
 pub arm_next : (w : Walked) (index q : ℕ) (p : Part) → index < 256 →
     next_of w ≡ next.Wants form.Arm → OpensArm w index (Some (q, p)) →
     IsNextOpen w (head.branch (tree.arm q) (how_many_left p)) p
-unfolding Val
 arm_next w index q p h e o = by (arm_of o.arms index) refl o.found_is where
   by : (found : Option (ℕ × Arm)) → arm_of o.arms index ≡ found →
       ◌≡◌ {A = Option (ℕ × Part)} (Some (q, p))
@@ -127,26 +107,11 @@ arm_next w index q p h e o = by (arm_of o.arms index) refl o.found_is where
         next = o.next;
         room = k.room;
         kind = tree.arm q;
-        count = how_many_left p;
         head_is = refl;
         own = index ∷ [];
         are_bytes = (h, tt);
         finite = rw (← same) k.finite;
-        is_open = (
-          o.arms,
-          index,
-          a.1,
-          [],
-          field_types a.1.fields,
-          [],
-          o.laid,
-          rw position f,
-          refl,
-          ap how_many_left part,
-          part,
-          refl,
-          refl,
-        );
+        opens = (o.arms, index, a.1, o.laid, rw position f, refl, part);
       }
 
 -- ---- what is opened, by the layout of the next type

@@ -1,23 +1,24 @@
 -- A value that is being built stays one at each step.
 use Rattle.grammar_core.specs.Preorder as head
 use Rattle.grammar_core.specs.Tree as tree
-use Rattle.std.proofs.Common.{◌≡◌, ℕ, zero, suc, ◌+◌, ◌<◌, ◌≤◌, List, [], ◌∷◌, ◌++◌, length, Some}
+use Rattle.std.proofs.Common.{◌≡◌, ℕ, suc, ◌+◌, ◌≤◌, List, [], ◌∷◌, ◌++◌, length, Some}
 use Rattle.std.proofs.Common.{None, refl, sym, ap, subst, ◌∙◌, append_assoc, arith, inl, inr}
 use Rattle.std.proofs.lemmas.List.{append-nil}
 use Rattle.std.proofs.lemmas.Option.{same_Some}
 use Rattle.registry_core.specs.declared.type_info.TypeInfo.{TypeInfo}
+use Rattle.graph_core.specs.Types.{field_types}
 use Rattle.widths_core.specs.Layouts.{layout}
-use Rattle.widths_core.specs.Layouts as layout
 use Rattle.grammar_core.specs.Tree.{Branch, Tree, Trees, none, and, how_many, levels, most_levels}
 use Rattle.grammar_core.specs.Tree.{all_nodes}
-use Rattle.grammar_core.specs.Grammar.{Val, Vals, Each}
+use Rattle.grammar_core.specs.Grammar.{Val, Vals}
 use Rattle.grammar_core.specs.Parts.{Part, each, times, first_of, left_after}
-use Rattle.grammar_core.specs.Cells.{Cell, cells, all_cells, fields_part, arm_part, list_part}
-use Rattle.grammar_core.proofs.Bounds.{same_length}
+use Rattle.grammar_core.specs.Parts.{how_many_left}
+use Rattle.grammar_core.specs.Cells.{Cell, cells, all_cells, part_of}
+use Rattle.grammar_core.specs.Begun.{BranchOpens, FirstValues, IsOpenAs}
+use Rattle.grammar_core.proofs.OpenNodes.{child_is, none_left, first_count, first_fields}
+use Rattle.grammar_core.proofs.OpenNodes.{first_elements}
 use Rattle.value_core.specs.Walked.{OpenPart}
-use Rattle.value_core.specs.Spine.{OpenNode, open_cell, open_cells, IsFieldsOpen, IsArmOpen}
-use Rattle.value_core.specs.Spine.{IsListOpen, IsOpenAs, IsOpen, open_part, Spine}
-use Rattle.grammar_core.specs.Cells.{part_of}
+use Rattle.value_core.specs.Spine.{OpenNode, open_cell, open_cells, IsOpen, open_part, Spine}
 use Rattle.node_core.proofs.Below.{arm_part_is}
 use Rattle.node_core.proofs.CellsOf.{all_cells_length}
 
@@ -42,216 +43,92 @@ kind_levels : (kind : Branch) (vs : Trees) (room : ℕ) → most_levels vs ≤ r
     levels (tree.branch kind vs) ≤ suc room
 kind_levels k vs room h = omega (arith, h)
 
--- a value after values of some types is one list of values with its type after theirs
-snoc_vals : (r : List TypeInfo) (ts : List ℕ) (vs : Trees) (b : List ℕ) (u : ℕ) (v : Tree)
-    (c : List ℕ) → Vals r ts vs b → Val r u v c → Vals r (ts ++ u ∷ []) (snoc vs v) (b ++ c)
-unfolding Val
-snoc_vals r [] none b u v c h k = (c, [], rw (h, append-nil) refl, k, refl)
-snoc_vals r (t ∷ ts) none b u v c h k = absurd h
-snoc_vals r [] (and w ws) b u v c h k = absurd h
-snoc_vals r (t ∷ ts) (and w ws) b u v c h k = (
-  h.0,
-  h.1 ++ c,
-  ap (λ (x : List ℕ). x ++ c) h.2 ∙ append_assoc h.0 h.1 c,
-  h.3,
-  snoc_vals r ts ws h.1 u v c h.4 k,
-)
-
--- a value after values of the same type is one list of values of it
-snoc_each : (r : List TypeInfo) (u : ℕ) (vs : Trees) (b : List ℕ) (v : Tree) (c : List ℕ) →
-    Each r u vs b → Val r u v c → Each r u (snoc vs v) (b ++ c)
-unfolding Val
-snoc_each r u none b v c h k = (c, [], rw (h, append-nil) refl, k, refl)
-snoc_each r u (and w ws) b v c h k = (
-  h.0,
-  h.1 ++ c,
-  ap (λ (x : List ℕ). x ++ c) h.2 ∙ append_assoc h.0 h.1 c,
-  h.3,
-  snoc_each r u ws h.1 v c h.4 k,
-)
-
--- its nodes stand after those of the others
-each_cells : (r : List TypeInfo) (front : List ℕ) (u : ℕ) (back : List ℕ) (vs : Trees) (b : List ℕ)
-    (v : Tree) → Vals r front vs b →
-    all_cells r (each (front ++ u ∷ back)) (snoc vs v) ≡ all_cells r (each (front ++ u ∷ back))
-    vs ++ cells r u v
-unfolding Val
-each_cells r [] u back none b v h = append-nil (cells r u v)
-each_cells r (t ∷ front) u back none b v h = absurd h
-each_cells r [] u back (and w ws) b v h = absurd h
-each_cells r (t ∷ front) u back (and w ws) b v h =
-    ap (λ (cs : List Cell). cells r t w ++ cs) (each_cells r front u back ws h.1 v h.4)
-    ∙ sym (append_assoc (cells r t w) (all_cells r (each (front ++ u ∷ back)) ws) (cells r u v))
-
--- the nodes of one element more, where one is left, stand after those of the others
-times_cells : (r : List TypeInfo) (n u : ℕ) (vs : Trees) (v : Tree) → how_many vs < n →
-    all_cells r (times n u) (snoc vs v) ≡ all_cells r (times n u) vs ++ cells r u v
-times_cells r zero u vs v h = absurd (omega (arith, h))
-times_cells r (suc n) u none v h = append-nil (cells r u v)
-times_cells r (suc n) u (and w ws) v h =
-    ap (λ (cs : List Cell). cells r u w ++ cs) (times_cells r n u ws v (omega (arith, h)))
-    ∙ sym (append_assoc (cells r u w) (all_cells r (times n u) ws) (cells r u v))
-
--- the open node with one more child, and its nodes
-abbrev GrowsByChild : List TypeInfo → Branch → ℕ → ℕ → Trees → List ℕ → Part → Tree →
-    ℕ → List ℕ → Type 0
-GrowsByChild r kind t n vs b p v u c = IsOpenAs r kind t n (snoc vs v) (b ++ c) (left_after p)
-    × (all_cells r (part_of (layout r t) kind n) (snoc vs v)
-    ≡ all_cells r (part_of (layout r t) kind n) vs ++ cells r u v)
-
--- a value of the next type comes to an open node of fields as its next child
-grown_fields : (r : List TypeInfo) (t n : ℕ) (vs : Trees) (b : List ℕ) (p : Part) (u : ℕ) (v : Tree)
-    (c back : List ℕ) → (h : IsFieldsOpen r t n vs b p) → h.1 ≡ back → first_of p ≡ Some u →
-    Val r u v c → GrowsByChild r tree.fields t n vs b p v u c
-grown_fields r t n vs b p u v c [] h e f k = let no : None ≡ Some u =
-    sym (ap first_of (h.4 ∙ ap each e)) ∙ f in absurd cc
-grown_fields r t n vs b p u v c (w ∷ back) h e f k =
-    let is : p ≡ each (w ∷ back) = h.4 ∙ ap each e in
-    let same : w ≡ u = same_Some w u (sym (ap first_of is) ∙ f) in
-    let split : h.0 ++ h.1 ≡ h.0 ++ u ∷ back =
-    ap (λ (x : List ℕ). h.0 ++ x) (e ∙ ap (λ (z : ℕ). z ∷ back) same) in
-    let joined : h.0 ++ h.1 ≡ (h.0 ++ u ∷ []) ++ back = split
-    ∙ sym (append_assoc h.0 (u ∷ []) back) in
-    let parts : fields_part (layout r t) ≡ each (h.0 ++ u ∷ back) = ap fields_part h.2
-    ∙ ap each split in (
-      (
-        h.0 ++ u ∷ [],
-        back,
-        h.2 ∙ ap layout.fields joined,
-        h.3 ∙ ap length joined,
-        ap left_after is,
-        snoc_vals r h.0 vs b u v c h.5 k,
-      ),
-      rw parts (each_cells r h.0 u back vs b v h.5),
+-- one value more of the next part comes after the first ones, and its nodes after theirs
+first_grown : (r : List TypeInfo) (p : Part) (vs : Trees) (b : List ℕ) (left : Part) (u : ℕ)
+    (v : Tree) (c : List ℕ) → FirstValues r p vs b left → first_of left ≡ Some u → Val r u v c →
+    FirstValues r p (snoc vs v) (b ++ c) (left_after left)
+    × (all_cells r p (snoc vs v) ≡ all_cells r p vs ++ cells r u v)
+first_grown r p none b left u v c h e k =
+    let first : first_of p ≡ Some u = ap first_of (sym h.1) ∙ e in (
+      (u, c, [], first, rw (h.0, append-nil) refl, k, (refl, ap left_after h.1)),
+      rw (child_is p u first, append-nil) refl,
+    )
+first_grown r p (and w ws) b left u v c h e k =
+    let s = first_grown r (left_after p) ws h.2 left u v c h.6 e k in (
+      (h.0, h.1, h.2 ++ c, h.3, rw (h.4, append_assoc) refl, h.5, s.0),
+      rw (s.1, append_assoc) refl,
     )
 
--- a value of the next type comes to an open arm as its next child
-grown_arm : (r : List TypeInfo) (t q n : ℕ) (vs : Trees) (b : List ℕ) (p : Part) (u : ℕ) (v : Tree)
-    (c back : List ℕ) → (h : IsArmOpen r t q n vs b p) → h.4 ≡ back → first_of p ≡ Some u →
-    Val r u v c → GrowsByChild r (tree.arm q) t n vs b p v u c
-grown_arm r t q n vs b p u v c [] h e f k = let no : None ≡ Some u =
-    sym (ap first_of (h.10 ∙ ap each e)) ∙ f in absurd cc
-grown_arm r t q n vs b p u v c (w ∷ back) h e f k =
-    let is : p ≡ each (w ∷ back) = h.10 ∙ ap each e in
-    let same : w ≡ u = same_Some w u (sym (ap first_of is) ∙ f) in
-    let split : h.3 ++ h.4 ≡ h.3 ++ u ∷ back =
-    ap (λ (x : List ℕ). h.3 ++ x) (e ∙ ap (λ (z : ℕ). z ∷ back) same) in
-    let joined : h.3 ++ h.4 ≡ (h.3 ++ u ∷ []) ++ back = split
-    ∙ sym (append_assoc h.3 (u ∷ []) back) in
-    let parts : arm_part (layout r t) q ≡ each (h.3 ++ u ∷ back) =
-    arm_part_is r t q h.0 h.1 h.2 h.6 h.7 ∙ ap each (h.8 ∙ split) in (
-      (
-        h.0,
-        h.1,
-        h.2,
-        h.3 ++ u ∷ [],
-        back,
-        h.5 ++ c,
-        h.6,
-        h.7,
-        h.8 ∙ joined,
-        h.9 ∙ ap length joined,
-        ap left_after is,
-        ap (λ (x : List ℕ). x ++ c) h.11,
-        snoc_vals r h.3 vs h.5 u v c h.12 k,
-      ),
-      rw parts (each_cells r h.3 u back vs h.5 v h.12),
-    )
-
--- the parts of an open list are as many as it is to have, of its type of elements
-pub list_part_is : (r : List TypeInfo) (t n u : ℕ) (vs : Trees) (b : List ℕ) (p : Part) →
-    (h : IsListOpen r t n vs b p) → list_part (layout r t) n ≡ times n h.0
-list_part_is r t n u vs b p h = elim h.4 [
-  | inl a ↦ rw a.0 refl
-  | inr s ↦ rw s.0 refl
+-- the parts of a branch are those of a node that has as many children
+pub part_is : (r : List TypeInfo) (t : ℕ) (kind : Branch) (c : List ℕ) (p : Part) →
+    BranchOpens (layout r t) kind c p → part_of (layout r t) kind (how_many_left p) ≡ p
+part_is r t tree.fields c p h = rw (h.1, h.3) refl
+part_is r t (tree.arm q) c p h = arm_part_is r t q h.0 h.1 h.2 h.3 h.4 ∙ sym h.6
+part_is r t tree.list c p h = elim h.2 [
+  | inl a ↦ rw (a.0, h.3) refl
+  | inr s ↦ rw (s.0, h.3) refl
 ]
 
--- a value of the next type comes to an open list as its next child
-grown_list : (r : List TypeInfo) (t n : ℕ) (vs : Trees) (b : List ℕ) (p : Part) (u : ℕ) (v : Tree)
-    (c : List ℕ) (left : ℕ) → (h : IsListOpen r t n vs b p) → h.1 ≡ left → first_of p ≡ Some u →
-    Val r u v c → GrowsByChild r tree.list t n vs b p v u c
-grown_list r t n vs b p u v c zero h e f k = let no : None ≡ Some u =
-    sym (ap first_of (h.5 ∙ ap (λ (z : ℕ). times z h.0) e)) ∙ f in absurd cc
-grown_list r t n vs b p u v c (suc left) h e f k =
-    let is : p ≡ times (suc left) h.0 = h.5 ∙ ap (λ (z : ℕ). times z h.0) e in
-    let same : h.0 ≡ u = same_Some h.0 u (sym (ap first_of is) ∙ f) in
-    let parts : list_part (layout r t) n ≡ times n u = list_part_is r t n u vs b p h
-    ∙ ap (times n) same in (
-      (
-        h.0,
-        left,
-        h.2,
-        h.3 ++ c,
-        h.4,
-        ap left_after is,
-        omega (arith, snoc_many vs v, h.6, e),
-        ap (λ (x : List ℕ). x ++ c) h.7 ∙ append_assoc h.2 h.3 c,
-        snoc_each r h.0 vs h.3 v c h.8 (subst (λ (z : ℕ). Val r z v c) (sym same) k),
-      ),
-      rw parts (times_cells r n u vs v (omega (arith, h.6, e))),
-    )
-
--- a value of the next type comes to an open node as its next child, whatever the node's kind
+-- a value of the next type comes to an open node as its next child, and its nodes after the others
 grown_as : (r : List TypeInfo) (kind : Branch) (t n : ℕ) (vs : Trees) (b : List ℕ) (p : Part)
     (u : ℕ) (v : Tree) (c : List ℕ) → IsOpenAs r kind t n vs b p → first_of p ≡ Some u →
-    Val r u v c → GrowsByChild r kind t n vs b p v u c
-grown_as r tree.fields t n vs b p u v c h f k = grown_fields r t n vs b p u v c h.1 h refl f k
-grown_as r (tree.arm q) t n vs b p u v c h f k = grown_arm r t q n vs b p u v c h.4 h refl f k
-grown_as r tree.list t n vs b p u v c h f k = grown_list r t n vs b p u v c h.1 h refl f k
+    Val r u v c → IsOpenAs r kind t n (snoc vs v) (b ++ c) (left_after p)
+    × (all_cells r (part_of (layout r t) kind n) (snoc vs v)
+    ≡ all_cells r (part_of (layout r t) kind n) vs ++ cells r u v)
+grown_as r kind t n vs b p u v c h f k =
+    let g = first_grown r h.0 vs h.2 p u v c h.6 f k in (
+      (h.0, h.1, h.2 ++ c, h.3, h.4, rw (h.5, append_assoc) refl, g.0),
+      rw (h.4, part_is r t kind h.1 h.0 h.3) g.1,
+    )
 
--- with no child left the open node is a value
+-- where no field is next, none is left
 no_each : (back : List ℕ) → first_of (each back) ≡ None → back ≡ []
 no_each [] e = refl
 no_each (u ∷ us) e = absurd cc
 
--- where no value of so many of one type is next, none is left
-no_times : (left u : ℕ) → first_of (times left u) ≡ None → left ≡ 0
-no_times zero u e = refl
-no_times (suc n) u e = absurd cc
+-- the first values by a list of types, of which none is left, are values of all of them
+all_first : (r : List TypeInfo) (ts : List ℕ) (p : Part) (vs : Trees) (b : List ℕ) (left : Part) →
+    FirstValues r p vs b left → p ≡ each ts → first_of left ≡ None → Vals r ts vs b
+all_first r ts p vs b left h is e =
+    let s = first_fields r ts vs b left (subst (λ (q : Part). FirstValues r q vs b left) is h) in
+    let none = no_each s.1 (ap first_of (sym s.3) ∙ e) in
+    let all : ts ≡ s.0 = s.2 ∙ ap (λ (x : List ℕ). s.0 ++ x) none ∙ append-nil s.0 in
+    rw all s.4
 
 -- an open node of which no part is left is a value, with as many children as it is to have
 whole_as : (r : List TypeInfo) (kind : Branch) (t n : ℕ) (vs : Trees) (b : List ℕ) (p : Part) →
     IsOpenAs r kind t n vs b p → first_of p ≡ None → Val r t (tree.branch kind vs) b
     × (n ≡ how_many vs)
 unfolding Val
-whole_as r tree.fields t n vs b p h f =
-    let nil = no_each h.1 (sym (ap first_of h.4) ∙ f) in
-    let front : h.0 ++ h.1 ≡ h.0 = ap (λ (x : List ℕ). h.0 ++ x) nil ∙ append-nil h.0 in (
-      (h.0, h.2 ∙ ap layout.fields front, h.5),
-      h.3 ∙ ap length front
-          ∙ sym (same_length r h.0 vs b h.5),
-    )
-whole_as r (tree.arm q) t n vs b p h f =
-    let nil = no_each h.4 (sym (ap first_of h.10) ∙ f) in
-    let front : h.3 ++ h.4 ≡ h.3 = ap (λ (x : List ℕ). h.3 ++ x) nil ∙ append-nil h.3 in (
-      (
-        h.0,
-        h.1,
+whole_as r kind t n vs b p h f =
+    let count = first_count r h.0 vs h.2 p h.6 in
+    let none = none_left p f in
+    (by kind h.3, omega (arith, h.4, count, none)) where
+      by : (kind : Branch) → BranchOpens (layout r t) kind h.1 h.0 → Val r t (tree.branch kind vs) b
+      by tree.fields o = (o.0, o.1, rw (h.5, o.2) (all_first r o.0 h.0 vs h.2 p h.6 o.3 f))
+      by (tree.arm q) o = (
+        o.0,
+        o.1,
+        o.2,
         h.2,
-        h.5,
-        h.6,
-        h.7,
-        h.11,
-        subst (λ (ts : List ℕ). Vals r ts vs h.5) (sym (h.8 ∙ front)) h.12,
-      ),
-      h.9 ∙ ap length front
-          ∙ sym (same_length r h.3 vs h.5 h.12),
-    )
-whole_as r tree.list t n vs b p h f =
-    let nil = no_times h.1 h.0 (sym (ap first_of h.5) ∙ f) in
-    let count : how_many vs ≡ n = omega (arith, h.6, nil) in (
-      elim h.4 [
-        | inl a ↦ inl (
-          n,
-          h.0,
-          a.0,
-          count,
-          subst (Each r h.0 vs) (sym (h.7 ∙ ap (λ (c : List ℕ). c ++ h.3) a.1)) h.8,
-        )
-        | inr s ↦ inr (h.0, h.2, h.3, s.0, rw count s.1, h.7, h.8)
-      ],
-      sym count,
-    )
+        o.3,
+        o.4,
+        rw (h.5, o.5) refl,
+        all_first r (field_types o.2.fields) h.0 vs h.2 p h.6 o.6 f,
+      )
+      by tree.list o =
+          let elements = first_elements r o.0 o.1 vs h.2 p
+          (subst (λ (q : Part). FirstValues r q vs h.2 p) o.3 h.6) in
+          let all : how_many vs ≡ o.0 = omega (
+            arith,
+            ap how_many_left o.3,
+            first_count r h.0 vs h.2 p h.6,
+            none_left p f,
+          ) in
+          elim o.2 [
+            | inl a ↦ inl (o.0, o.1, a.0, all, rw (h.5, a.1) elements)
+            | inr s ↦ inr (o.1, h.1, h.2, s.0, rw all s.1, h.5, elements)
+          ]
 
 -- lists of open parts that are the same begin with the same and go on with the same
 pub is_cons : (p q : OpenPart) (ps qs : List OpenPart) → p ∷ ps ≡ q ∷ qs → (p ≡ q) × (ps ≡ qs)

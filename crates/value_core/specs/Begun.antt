@@ -5,7 +5,7 @@ use Rattle.scale_core.specs.Number.{AreBytes}
 use Rattle.registry_core.specs.declared.type_info.TypeInfo.{TypeInfo}
 use Rattle.graph_core.specs.Types.{shape}
 use Rattle.grammar_core.specs.Spelled.{own_bytes}
-use Rattle.grammar_core.specs.Begun.{Begun, Grows, IsBegunPreorder, begun_nodes, begun_text_bytes}
+use Rattle.grammar_core.specs.Begun.{Begun, Grows, begun_preorder, begun_nodes, begun_text_bytes}
 use Rattle.grammar_core.specs.Begun.{begun_depth, is_whole_tree}
 use Rattle.grammar_core.specs.Forms.{next_at}
 use Rattle.grammar_core.specs.declared.form.StopReason.TheVariants as stop
@@ -38,7 +38,7 @@ pub record IsBegun (b : Built) : Type 0 where
   pub are_bytes : AreBytes (built_bytes b)
   pub grows : Grows b.walk.types (b.walk.limit + 1) b.ty tree (built_bytes b)
       (next_with_room b.walk)
-  pub shows : IsBegunPreorder tree (map (λ e. e.head) b.entries)
+  pub shows : map (λ e. e.head) b.entries ≡ begun_preorder tree
   pub nodes : length b.entries ≡ begun_nodes tree
   pub text_bytes : entries_text_bytes b.entries ≡ begun_text_bytes tree
   pub answer : next_of b.walk ≡ next_in b.walk.types (next_with_room b.walk)

@@ -22,7 +22,7 @@ use Rattle.grammar_core.specs.Preorder as head
 use Rattle.grammar_core.specs.Tree as tree
 use Rattle.grammar_core.specs.Preorder.{Head, tree_with, tree_of}
 use Rattle.node_core.specs.Shown.{Seen, head_shown}
-use Rattle.value_core.specs.Spine.{IsOpenAs}
+use Rattle.grammar_core.specs.Begun.{BranchOpens}
 use Rattle.value_core.specs.Walked.{OpenPart, Walked, next_of, next_type, advanced, opened}
 use Rattle.node_core.specs.declared.node.Node.{Node}
 
@@ -141,12 +141,11 @@ pub record IsNextOpen (w : Walked) (h : Head) (p : Part) : Type 0 where
   pub next : next_type w ≡ Some ty
   pub room : length w.frames ≤ w.limit + 1
   pub kind : Branch
-  pub count : ℕ
-  pub head_is : h ≡ head.branch kind count
+  pub head_is : h ≡ head.branch kind (how_many_left p)
   pub own : List ℕ
   pub are_bytes : AreBytes own
   pub finite : is_finite w.types ty ≡ true
-  pub is_open : IsOpenAs w.types kind ty count none own p
+  pub opens : BranchOpens (layout w.types ty) kind own p
 
 -- the fields, the arm of an index, or so many elements, of the next type
 abbrev pub next_layout : Built → Layout

@@ -1,23 +1,16 @@
 -- The open nodes of a value that is being built, the innermost first, each with its whole children
 -- and their bytes.
-use Rattle.grammar_core.specs.Cells.{part_of}
-use Rattle.std.specs.Prelude.{◌≡◌, ℕ, suc, ◌+◌, ◌≤◌, ◌⊎◌, List, [], ◌∷◌, ◌++◌, length, Some, true}
-use Rattle.scale_core.specs.Compact.{IsCompact}
-use Rattle.scale_core.specs.declared.compact.Target.TheVariants as target
-use Rattle.registry_core.specs.declared.definition.Arm.{Arm}
+use Rattle.std.specs.Prelude.{◌≡◌, ℕ, suc, ◌≤◌, ◌⊎◌, List, [], ◌∷◌, ◌++◌, length, Some, true}
 use Rattle.registry_core.specs.declared.type_info.TypeInfo.{TypeInfo}
-use Rattle.graph_core.specs.Types.{field_types}
-use Rattle.widths_core.specs.Arms.{arm_of}
 use Rattle.widths_core.specs.Classes.{is_finite}
 use Rattle.widths_core.specs.Layouts.{layout}
-use Rattle.widths_core.specs.Layouts as layout
-use Rattle.grammar_core.specs.Tree as tree
-use Rattle.grammar_core.specs.Tree.{Branch, Tree, Trees, how_many, levels, most_levels}
-use Rattle.grammar_core.specs.Grammar.{Val, Vals, Each}
-use Rattle.grammar_core.specs.Parts.{Part, each, times, first_of, left_after}
+use Rattle.grammar_core.specs.Tree.{Branch, Tree, Trees, levels, most_levels}
+use Rattle.grammar_core.specs.Grammar.{Val}
+use Rattle.grammar_core.specs.Parts.{Part, times, first_of, left_after}
 use Rattle.grammar_core.specs.Preorder as head
 use Rattle.grammar_core.specs.Preorder.{Head}
-use Rattle.grammar_core.specs.Cells.{Cell, cells, all_cells}
+use Rattle.grammar_core.specs.Cells.{Cell, cells, all_cells, part_of}
+use Rattle.grammar_core.specs.Begun.{IsOpenAs}
 use Rattle.value_core.specs.Walked.{OpenPart}
 
 -- an open node: how many children it is to have, those that it has, and the bytes of all that
@@ -34,27 +27,6 @@ open_cell o = record { ty = o.ty; head = head.branch o.kind o.all; size = 0 }
 
 abbrev pub open_cells : List TypeInfo → OpenNode → List Cell
 open_cells r o = open_cell o ∷ all_cells r (part_of (layout r o.ty) o.kind o.all) o.done
-
-abbrev pub IsFieldsOpen : List TypeInfo → ℕ → ℕ → Trees → List ℕ → Part → Type 0
-IsFieldsOpen r t n vs b p = (front back : List ℕ) × (layout r t ≡ layout.fields (front ++ back))
-    × (n ≡ length (front ++ back)) × (p ≡ each back) × Vals r front vs b
-
-abbrev pub IsArmOpen : List TypeInfo → ℕ → ℕ → ℕ → Trees → List ℕ → Part → Type 0
-IsArmOpen r t q n vs b p = (arms : List Arm) × (i : ℕ) × (a : Arm) × (front back own : List ℕ)
-    × (layout r t ≡ layout.arms arms) × (arm_of arms i ≡ Some (q, a))
-    × (field_types a.fields ≡ front ++ back) × (n ≡ length (front ++ back)) × (p ≡ each back)
-    × (b ≡ i ∷ own) × Vals r front vs own
-
-abbrev pub IsListOpen : List TypeInfo → ℕ → ℕ → Trees → List ℕ → Part → Type 0
-IsListOpen r t n vs b p = (u left : ℕ) × (c own : List ℕ)
-    × (((layout r t ≡ layout.array n u) × (c ≡ []))
-    ⊎ ((layout r t ≡ layout.sequence u) × IsCompact target.U32 n c)) × (p ≡ times left u)
-    × (how_many vs + left ≡ n) × (b ≡ c ++ own) × Each r u vs own
-
-abbrev pub IsOpenAs : List TypeInfo → Branch → ℕ → ℕ → Trees → List ℕ → Part → Type 0
-IsOpenAs r tree.fields t n vs b p = IsFieldsOpen r t n vs b p
-IsOpenAs r (tree.arm q) t n vs b p = IsArmOpen r t q n vs b p
-IsOpenAs r tree.list t n vs b p = IsListOpen r t n vs b p
 
 -- the part p is what is left of the open node
 abbrev pub IsOpen : List TypeInfo → OpenNode → Part → Type 0

@@ -1,10 +1,7 @@
 -- What is read of a type is read by the layout that is met.
-use Rattle.std.proofs.Common.{◌≡◌, ℕ, suc, ◌≤◌, Bool, true, false, cond, List, Err, refl, sym, ◌⊎◌}
-use Rattle.std.proofs.Common.{[], inl, inr}
+use Rattle.std.proofs.Common.{◌≡◌, ℕ, suc, ◌≤◌, Bool, true, false, cond, List, Err, refl, sym}
 use Rattle.std.specs.Prelude.{◌≢◌}
 use Rattle.scale_core.proofs.Results.{Takes}
-use Rattle.scale_core.specs.Compact.{IsCompact}
-use Rattle.scale_core.specs.declared.compact.Target.TheVariants as target
 use Rattle.registry_core.specs.declared.type_info.TypeInfo.{TypeInfo}
 use Rattle.widths_core.specs.Classes.{is_finite}
 use Rattle.widths_core.specs.Layouts.{Layout, layout}
@@ -53,14 +50,3 @@ pub met_is : (r : List TypeInfo) (t : ℕ) (g : Layout) → g ≢ layout.unknown
     (is_finite r t ≡ true) × (layout r t ≡ g)
 unfolding met_layout
 met_is r t g ne e = met_of (is_finite r t) (layout r t) g ne e
-
--- an array, or a sequence with its length
-pub list_met : (r : List TypeInfo) (t n u : ℕ) (c : List ℕ) →
-    ((met_layout r t ≡ layout.array n u) × (c ≡ []))
-    ⊎ ((met_layout r t ≡ layout.sequence u) × IsCompact target.U32 n c) → (is_finite r t ≡ true)
-    × (((layout r t ≡ layout.array n u) × (c ≡ []))
-    ⊎ ((layout r t ≡ layout.sequence u) × IsCompact target.U32 n c))
-list_met r t n u c (inl k) = let m = met_is r t (layout.array n u) (λ no. absurd cc) k.0 in
-    (m.0, inl (m.1, k.1))
-list_met r t n u c (inr k) = let m = met_is r t (layout.sequence u) (λ no. absurd cc) k.0 in
-    (m.0, inr (m.1, k.1))

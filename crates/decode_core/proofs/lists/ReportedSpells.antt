@@ -1,38 +1,27 @@
 -- The nodes that a reading adds spell the bytes in front of where it ends.
-use Rattle.std.proofs.Common.{◌≡◌, ℕ, zero, suc, ◌≤◌, List, [], ◌∷◌, ◌++◌, Option, Some, None, Ok}
+use Rattle.std.proofs.Common.{◌≡◌, ℕ, zero, suc, List, [], ◌∷◌, ◌++◌, Option, Some, None, Ok}
 use Rattle.std.proofs.Common.{Err, refl, sym, ap, flat_map, subst, ◌∙◌, append_assoc}
 use Rattle.std.proofs.lemmas.Grind.{flat_map-append}
 use Rattle.std.proofs.lemmas.List.{append-nil}
-use Rattle.scale_core.specs.Compact.{IsCompact}
 use Rattle.scale_core.specs.Number.{AreBytes}
-use Rattle.scale_core.specs.Read.{Read, compact_at}
-use Rattle.scale_core.specs.declared.compact.Target.TheVariants as target
-use Rattle.scale_core.specs.declared.fault.Reason.{Reason}
 use Rattle.scale_core.proofs.Numbers.{front_bytes, rest_bytes}
-use Rattle.scale_core.proofs.Results.{Takes, compact_takes}
-use Rattle.registry_core.specs.declared.definition.Arm.{Arm}
 use Rattle.registry_core.specs.declared.type_info.TypeInfo.{TypeInfo}
-use Rattle.widths_core.specs.Arms.{arm_of}
-use Rattle.widths_core.specs.Layouts.{Layout, layout}
-use Rattle.widths_core.specs.Layouts as layout
 use Rattle.graph_core.specs.Types.{shape}
-use Rattle.grammar_core.specs.Grammar.{Val}
 use Rattle.grammar_core.specs.Parts.{Part, each, times}
 use Rattle.grammar_core.specs.Preorder as head
 use Rattle.grammar_core.specs.Preorder.{Head, head_of}
-use Rattle.grammar_core.specs.Reading.{Refusal, layout_at, leaf_at}
-use Rattle.grammar_core.specs.Spelled.{own_bytes, spelled}
+use Rattle.grammar_core.specs.Spelled.{own_bytes}
 use Rattle.grammar_core.specs.Tree.{Tree, levels}
 use Rattle.grammar_core.specs.Tree as tree
-use Rattle.grammar_core.proofs.Spelled.{encoded_is_value, arm_byte, array_length, sequence_length}
+use Rattle.grammar_core.proofs.Spelled.{encoded_is_value}
 use Rattle.value_core.specs.Built.{Entry}
 use Rattle.decode_core.specs.Met.{met_layout}
-use Rattle.decode_core.specs.Reported.{entry, Own, leaf_own, arm_own, arms_own, length_own, own_at}
+use Rattle.decode_core.specs.Reported.{entry, Own, own_at}
 use Rattle.decode_core.specs.Reported.{Reported, reported, after, then, all_reported}
 use Rattle.decode_core.specs.Reported.{times_reported, opened_reported}
 use Rattle.decode_core.specs.Reported.{own_reported, reported_at}
-use Rattle.decode_core.proofs.lists.Mets.{met_is, met_takes}
-use Rattle.decode_core.proofs.lists.Reports.{IsLeafTree, IsLeafRead, reads_leaf}
+use Rattle.value_core.proofs.OwnBytes.{branch_own}
+use Rattle.decode_core.proofs.lists.Owns.{IsOpened, own_opened}
 
 -- the bytes of these nodes, one after the other
 abbrev pub entry_bytes : List TypeInfo → List Entry → List ℕ
@@ -101,70 +90,18 @@ abbrev OwnReports : List TypeInfo → ℕ → List ℕ → Own → Type 0
 OwnReports r t b (Ok x) = b ≡ own_bytes (shape r t) x.0.0 ++ x.1
 OwnReports r t b (Err e) = Unit {0}
 
--- a node without children is spelled by its own bytes
-leaf_spelled : (r : List TypeInfo) (t : ℕ) (v : Tree) → IsLeafTree v →
-    spelled r t v ≡ own_bytes (shape r t) (head_of v)
-leaf_spelled r t (tree.branch k vs) h = absurd h
-leaf_spelled r t (tree.leaf l) h = append-nil _
-
--- what is read as a leaf is the leaf's own bytes
-leaf_reports : (r : List TypeInfo) (t : ℕ) (b : List ℕ) (read : Read Refusal Tree) → AreBytes b →
-    Takes (λ v c. Val r t v c × (levels v ≤ 1)) b read → IsLeafRead read →
-    OwnReports r t b (leaf_own read)
-leaf_reports r t b (Err e) are k leaf = tt
-leaf_reports r t b (Ok x) are k leaf =
-    let front = front_bytes k.0 x.1 (subst AreBytes k.1 are) in
-    k.1 ∙ ap (λ (c : List ℕ). c ++ x.1)
-    (sym (encoded_is_value r t x.0 k.0 front k.2.0) ∙ leaf_spelled r t x.0 leaf)
-
--- a variant that is met is the layout of its type
-met_arms : (r : List TypeInfo) (t : ℕ) (arms : List Arm) → met_layout r t ≡ layout.arms arms →
-    layout r t ≡ layout.arms arms
-met_arms r t arms e = (met_is r t (layout.arms arms) (λ no. absurd cc) e).1
-
--- what is read of an arm's own bytes is its index
-arm_reports : (r : List TypeInfo) (t : ℕ) (arms : List Arm) (i : ℕ) (b : List ℕ)
-    (found : Option (ℕ × Arm)) → met_layout r t ≡ layout.arms arms → arm_of arms i ≡ found →
-    OwnReports r t (i ∷ b) (arm_own (i ∷ b) found b)
-arm_reports r t arms i b None e is = tt
-arm_reports r t arms i b (Some a) e is =
-    ap (λ (c : List ℕ). c ++ b) (sym (arm_byte r t arms i a.0 a.1 (met_arms r t arms e) is))
-
--- what is read of a variant's own bytes is the index of the arm
-arms_report : (r : List TypeInfo) (t : ℕ) (arms : List Arm) (b : List ℕ) →
-    met_layout r t ≡ layout.arms arms → OwnReports r t b (arms_own arms b)
-arms_report r t arms [] e = tt
-arms_report r t arms (i ∷ b) e = arm_reports r t arms i b (arm_of arms i) e refl
-
--- what is read of a sequence's own bytes is its compact length
-length_reports : (r : List TypeInfo) (t u : ℕ) (b : List ℕ) (read : Read Reason ℕ) →
-    met_layout r t ≡ layout.sequence u → Takes (IsCompact target.U32) b read →
-    OwnReports r t b (length_own u read)
-length_reports r t u b (Err x) e k = tt
-length_reports r t u b (Ok n) e k = let laid =
-    (met_is r t (layout.sequence u) (λ no. absurd cc) e).1 in
-    k.1 ∙ ap (λ (c : List ℕ). c ++ n.1) (k.2.1 ∙ sym (sequence_length r t u n.0 laid))
-
--- an array has no bytes of its own
-array_reports : (r : List TypeInfo) (t n u : ℕ) (b : List ℕ) → met_layout r t ≡ layout.array n u →
-    b ≡ own_bytes (shape r t) (head.branch tree.list n) ++ b
-array_reports r t n u b e = let laid = (met_is r t (layout.array n u) (λ no. absurd cc) e).1 in
-    ap (λ (c : List ℕ). c ++ b) (sym (array_length r t n u n laid))
-
--- by every layout what is read as a node's own bytes are the node's by its definition
-own_reports_of : (r : List TypeInfo) (t : ℕ) (f : Layout) (b : List ℕ) → met_layout r t ≡ f →
-    AreBytes b → OwnReports r t b (own_at f b)
-unfolding own_at layout_at
-own_reports_of r t (layout.fields ts) b e are = refl
-own_reports_of r t (layout.arms arms) b e are = arms_report r t arms b e
-own_reports_of r t (layout.sequence u) b e are =
-    length_reports r t u b (compact_at target.U32 b) e (compact_takes target.U32 b)
-own_reports_of r t (layout.array n u) b e are = array_reports r t n u b e
-own_reports_of r t layout.unknown b e are = tt
-own_reports_of r t layout.bit_sequence b e are = tt
-own_reports_of r t layout.bad_compact b e are = tt
-own_reports_of r t (layout.plain p) b e are =
-    leaf_reports r t b (leaf_at p b) are (met_takes r t (layout.plain p) e b) (reads_leaf p b)
+-- what a node's own bytes open spells them
+opened_reports : (r : List TypeInfo) (t : ℕ) (b : List ℕ) (o : Own) → AreBytes b →
+    IsOpened r t b o → OwnReports r t b o
+opened_reports r t b (Err e) are k = tt
+opened_reports r t b (Ok ((head.leaf l, None), rest)) are k =
+    let front = front_bytes k.0 rest (subst AreBytes k.2 are) in
+    k.2 ∙ ap (λ (c : List ℕ). c ++ rest)
+    (sym (encoded_is_value r t (tree.leaf l) k.0 front k.1) ∙ append-nil _)
+opened_reports r t b (Ok ((head.leaf l, Some p), rest)) are k = absurd k
+opened_reports r t b (Ok ((head.branch kind n, None), rest)) are k = absurd k
+opened_reports r t b (Ok ((head.branch kind n, Some p), rest)) are k =
+    k.4 ∙ ap (λ (c : List ℕ). c ++ rest) (sym (rw k.3 (branch_own r t kind k.0 p k.2)))
 
 -- a node's own bytes and then its parts: all nodes spell what was read, if those of parts do
 own_bytes_reported : (r : List TypeInfo) (child : ℕ → List ℕ → Reported) → ChildReports r child →
@@ -188,4 +125,4 @@ reported_spells r zero t b are = refl
 reported_spells r (suc room) t b are =
     own_bytes_reported r (reported_at r room) (reported_spells r room) t b
     (own_at (met_layout r t) b) are
-    (own_reports_of r t (met_layout r t) b refl are)
+    (opened_reports r t b (own_at (met_layout r t) b) are (own_opened r t (met_layout r t) b refl))

@@ -25,7 +25,7 @@ use Rattle.decode_core.proofs.calls.Feeding.{done_reported, led_fits}
 use Rattle.decode_core.proofs.lists.HeldBound.{held_is_bounded}
 use Rattle.decode_core.proofs.lists.Holds.{begins_small, more_bytes}
 use Rattle.decode_core.proofs.lists.MachineTurns.{count_after}
-use Rattle.decode_core.proofs.lists.Nodes.{length-preorder}
+use Rattle.value_core.proofs.Begun.{preorder_length}
 use Rattle.decode_core.proofs.steps.Sound.{done_small, value_le_nodes}
 use Rattle.decode_core.proofs.lists.Reports.{reported_agrees}
 
@@ -59,7 +59,7 @@ added_few r depth t own (reported xs (Ok rest)) is =
           (omega (arith, ap length st.1, length-append st.0 rest)),
       ap length v.2,
       length-map xs (λ (e : Entry). e.head),
-      length-preorder v.0,
+      preorder_length v.0,
     )
 
 -- a state that bytes led to has no more nodes than the bound for these bytes

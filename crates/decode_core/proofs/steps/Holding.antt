@@ -28,7 +28,6 @@ use Rattle.decode_core.specs.Needs.{HasBytes, kind_need, need}
 use Rattle.decode_core.specs.Outcome.{Job}
 use Rattle.decode_core.specs.Running.{Running, IsCarry, IsRunNext, held_of, run_held}
 use Rattle.decode_core.specs.Reported.{own_at}
-use Rattle.decode_core.proofs.lists.HeldOne.{own_short}
 use Rattle.decode_core.proofs.steps.NodeAdding.{next_has, next_run}
 use Rattle.decode_core.proofs.steps.Refusing.{IsShortOf, run_length_short}
 use Rattle.decode_core.proofs.steps.RunSteps.{length_again, own_of}
@@ -81,7 +80,8 @@ short_to j b s of w n =
     own_at f (held_of s)) (sym (layout_is j s n.ty of n.is_next)) in (
       omega (arith, n.room),
       finite,
-      own_short (layout j.registry n.ty) (held_of s) w.wants.left (laid ∙ w.wants.short),
+      w.wants.left,
+      laid ∙ w.wants.short,
     )
 
 -- ---- the bytes of runs

@@ -5,8 +5,8 @@ use Rattle.std.proofs.Common.{length-append}
 use Rattle.std.specs.Prelude.{Result}
 use Rattle.grammar_core.specs.Runs.{run_front}
 use Rattle.graph_core.specs.Widths.{widest}
-use Rattle.grammar_core.specs.Begun.{Begun, nothing, whole, in_fields, in_arm, in_list}
-use Rattle.grammar_core.specs.Begun.{IsBegunPreorder, begun_nodes, begun_text_bytes, is_whole_tree}
+use Rattle.grammar_core.specs.Begun.{Begun, nothing, whole, open_branch}
+use Rattle.grammar_core.specs.Begun.{begun_preorder, begun_nodes, begun_text_bytes, is_whole_tree}
 use Rattle.grammar_core.specs.Preorder.{Head, tree_of, tree_of-preorder}
 use Rattle.grammar_core.specs.Reading.{truncated}
 use Rattle.grammar_core.specs.Tree.{nodes, text_bytes}
@@ -84,14 +84,12 @@ waiting_small j b n s count h =
     )
 
 -- a begun tree that is whole has the nodes and text bytes of the value
-whole_counts : (g : Begun) (hs : List Head) → is_whole_tree g ≡ true → IsBegunPreorder g hs →
+whole_counts : (g : Begun) (hs : List Head) → is_whole_tree g ≡ true → hs ≡ begun_preorder g →
     (begun_nodes g ≡ nodes (tree_of hs)) × (begun_text_bytes g ≡ text_bytes (tree_of hs))
 whole_counts (whole v) hs e h = let same : tree_of hs ≡ v = ap tree_of h ∙ tree_of-preorder v in
     (ap nodes (sym same), ap text_bytes (sym same))
 whole_counts nothing hs e h = absurd cc
-whole_counts (in_fields vs g) hs e h = absurd cc
-whole_counts (in_arm q vs g) hs e h = absurd cc
-whole_counts (in_list n vs g) hs e h = absurd cc
+whole_counts (open_branch k n vs g) hs e h = absurd cc
 
 -- a whole value has few nodes and bytes of texts for the bytes taken
 pub done_small : (j : Job) (b : List ℕ) (n : ℕ) (s : Running) → IsDone j b s n →
