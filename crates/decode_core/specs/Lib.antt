@@ -7,8 +7,7 @@ pub mod Met
 pub mod Reported
 pub mod Machine
 pub mod Begins
-pub mod Needs
-pub mod NodeForms
+pub mod NodeReads
 pub mod Reasons
 pub mod NodeAdds
 pub mod Running

@@ -8,7 +8,7 @@ use Rattle.value_core.specs.Walked.{next_of, start_of}
 use Rattle.grammar_core.specs.declared.form.Form.{Form}
 use Rattle.grammar_core.specs.declared.form.Next.TheVariants as next
 use Rattle.decode_core.specs.Machine.{State}
-use Rattle.decode_core.specs.Needs.{need, AreOwn, HasBytes}
+use Rattle.form_core.specs.Needs.{need, AreOwn, HasBytes}
 use Rattle.decode_core.specs.declared.run.OpenRun.{OpenRun}
 
 -- the value that is built, and the bytes that a piece cut

@@ -2,11 +2,11 @@
 
 ghost use Rattle.std.specs.Prelude.{true, ◌≡◌, IfErr, IfOk, Ok};
 ghost use Rattle.value_core.specs.Refusals.{is_whole};
-ghost use Rattle.decode_core.specs.NodeForms.{form_of_bytes};
+ghost use Rattle.form_core.specs.NodeForms.{form_of_bytes};
 ghost use Rattle.decode_core.specs.Turned.{Awaits, FeedCounts, FeedReports, RunsOut, TurnsReport};
 ghost use Rattle.decode_core.specs.Turned.{WholeReports, WholeTurnsReport};
 
-use crate::forms::{BareForm, BytesForm, PrefixedRun, compact_form, primitive_form};
+use form_core::{BareForm, BytesForm, PrefixedRun, compact_form, primitive_form};
 use crate::run::Run;
 use crate::turned::{Stopped, Turned, Whole};
 use count_core::Count;

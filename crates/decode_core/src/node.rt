@@ -7,14 +7,15 @@ ghost use Rattle.registry_core.specs.Kinds.{width_bytes};
 ghost use Rattle.node_core.specs.Leaves.{FitsLeaf};
 ghost use Rattle.value_core.specs.Refusals.{up_to, most_unsigned, within, most_signed};
 ghost use Rattle.value_core.specs.Walked.{next_of};
-ghost use Rattle.decode_core.specs.Needs.{AreOwn};
+ghost use Rattle.form_core.specs.Needs.{AreOwn};
 ghost use Rattle.decode_core.specs.NodeAdds.{ReadsFront, AddsBare, AddsBytes, AddsNode, OpensRun};
 ghost use Rattle.decode_core.specs.NodeAdds.{ReadsRun};
-ghost use Rattle.decode_core.specs.NodeForms.{ReadsPlain, form_of_bare, form_of_plain};
-ghost use Rattle.decode_core.specs.NodeForms.{prefixed_kind};
+ghost use Rattle.form_core.specs.NodeForms.{form_of_bare, form_of_plain};
+ghost use Rattle.decode_core.specs.NodeReads.{ReadsPlain};
+ghost use Rattle.form_core.specs.NodeForms.{prefixed_kind};
 
 use crate::fault::DecodeReason;
-use crate::forms::{BareForm, PlainForm, PrefixedRun};
+use form_core::{BareForm, PlainForm, PrefixedRun};
 use registry_core::IntegerWidth;
 use scale_core::{
     Fault, Target, read_bool, read_char, read_compact, read_i8, read_i16, read_i32, read_i64,

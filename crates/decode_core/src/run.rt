@@ -7,8 +7,8 @@ ghost use Rattle.grammar_core.specs.Runs.{run_form};
 ghost use Rattle.value_core.specs.Walked.{next_of};
 ghost use Rattle.value_core.specs.Built.{built_text_bytes, finished};
 ghost use Rattle.value_core.specs.Refusals.{is_whole};
-ghost use Rattle.decode_core.specs.Needs.{AreOwn, IsFirst, IsNeeded};
-ghost use Rattle.decode_core.specs.NodeForms.{form_of_bare, form_of_bytes, prefixed_kind};
+ghost use Rattle.form_core.specs.Needs.{AreOwn, IsFirst, IsNeeded};
+ghost use Rattle.form_core.specs.NodeForms.{form_of_bare, form_of_bytes, prefixed_kind};
 ghost use Rattle.decode_core.specs.NodeAdds.{TakesNode};
 ghost use Rattle.decode_core.specs.Turned.{BareReports, Awaits, EndReports, IsSound, KeepsTurns};
 ghost use Rattle.decode_core.specs.Turned.{IsOn, PieceReports, StepReports, WholeReports};
@@ -16,8 +16,8 @@ ghost use Rattle.decode_core.specs.Turned.{node_turned};
 
 use crate::carry::Carry;
 use crate::fault::DecodeReason;
-use crate::forms::{BareForm, BytesForm, PlainForm, PrefixedRun, compact_form, primitive_form};
-use crate::need::need;
+use form_core::{BareForm, BytesForm, PlainForm, PrefixedRun, compact_form, primitive_form};
+use form_core::need;
 use crate::node::{
     NodeFault, add_arm, add_bare, add_byte_array, add_plain, add_sequence, start_run, whole_run,
 };

@@ -3,14 +3,14 @@ use Rattle.std.proofs.Common.{◌≡◌, ℕ, List, refl}
 use Rattle.scale_core.specs.Read.{compact_at}
 use Rattle.scale_core.specs.declared.compact.Target.TheVariants as target
 use Rattle.grammar_core.specs.Runs.{run_form, run_length_at}
-use Rattle.decode_core.specs.Needs.{HasBytes}
-use Rattle.decode_core.specs.NodeForms.{form_of_bare, form_of_bytes, prefixed_kind}
-use Rattle.decode_core.specs.declared.forms.PrefixedRun.{PrefixedRun}
-use Rattle.decode_core.specs.declared.forms.PrefixedRun.TheVariants as prefixed
-use Rattle.decode_core.specs.declared.forms.BareForm.{BareForm}
-use Rattle.decode_core.specs.declared.forms.BareForm.TheVariants as bare
-use Rattle.decode_core.specs.declared.forms.BytesForm.{BytesForm}
-use Rattle.decode_core.specs.declared.forms.BytesForm.TheVariants as bytes
+use Rattle.form_core.specs.Needs.{HasBytes}
+use Rattle.form_core.specs.NodeForms.{form_of_bare, form_of_bytes, prefixed_kind}
+use Rattle.form_core.specs.declared.forms.PrefixedRun.{PrefixedRun}
+use Rattle.form_core.specs.declared.forms.PrefixedRun.TheVariants as prefixed
+use Rattle.form_core.specs.declared.forms.BareForm.{BareForm}
+use Rattle.form_core.specs.declared.forms.BareForm.TheVariants as bare
+use Rattle.form_core.specs.declared.forms.BytesForm.{BytesForm}
+use Rattle.form_core.specs.declared.forms.BytesForm.TheVariants as bytes
 use Rattle.decode_core.proofs.steps.PlainAdding.{plain_bytes}
 
 -- a run whose length stands before it has the bytes of the length

@@ -24,7 +24,7 @@ use Rattle.value_core.proofs.Forms.{HasForm, Wanted, wanted}
 use Rattle.decode_core.specs.Decoding.{HoldsOf, IsOf, IsWaiting}
 use Rattle.decode_core.specs.Held.{open_run, past_length}
 use Rattle.decode_core.specs.Holds.{IsShort}
-use Rattle.decode_core.specs.Needs.{HasBytes, kind_need, need}
+use Rattle.form_core.specs.Needs.{HasBytes, kind_need, need}
 use Rattle.decode_core.specs.Outcome.{Job}
 use Rattle.decode_core.specs.Running.{Running, IsCarry, IsRunNext, held_of, run_held}
 use Rattle.decode_core.specs.Reported.{own_at}

@@ -24,7 +24,7 @@ use Rattle.grammar_core.specs.Reading.{basic, layout_at, no_such_variant}
 use Rattle.value_core.specs.Walked.{next_of}
 use Rattle.grammar_core.specs.declared.form.Form.TheVariants as form
 use Rattle.grammar_core.specs.declared.form.Next.TheVariants as next
-use Rattle.decode_core.specs.Needs.{AreOwn, HasBytes}
+use Rattle.form_core.specs.Needs.{AreOwn, HasBytes}
 use Rattle.decode_core.specs.NodeAdds.{AddsBare, AddsBytes, IsAdded, IsRefused, IsSpelled, with_own}
 use Rattle.decode_core.specs.Reasons.{reason_of}
 use Rattle.decode_core.specs.Reported.{length_own, own_at}

@@ -18,7 +18,7 @@ use Rattle.grammar_core.specs.declared.form.Form.TheVariants as form
 use Rattle.grammar_core.specs.declared.form.Next.TheVariants as next
 use Rattle.value_core.proofs.Forms.{HasForm, form_layout, run_layout, wanted}
 use Rattle.decode_core.specs.Machine.{is_cut}
-use Rattle.decode_core.specs.Needs.{AreOwn, HasBytes, NoRun}
+use Rattle.form_core.specs.Needs.{AreOwn, HasBytes, NoRun}
 use Rattle.decode_core.specs.NodeAdds.{AddsNode}
 use Rattle.decode_core.specs.Reasons.{reason_of}
 use Rattle.decode_core.specs.Reported.{own_at}

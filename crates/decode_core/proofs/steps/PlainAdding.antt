@@ -25,13 +25,14 @@ use Rattle.value_core.specs.Walked.{next_of}
 use Rattle.node_core.specs.declared.leaf.Leaf.{Leaf}
 use Rattle.node_core.specs.declared.leaf.Leaf.TheVariants as leaf
 use Rattle.value_core.proofs.Forms.{HasForm, wanted}
-use Rattle.decode_core.specs.Needs.{AreOwn, HasBytes, NoRun}
+use Rattle.form_core.specs.Needs.{AreOwn, HasBytes, NoRun}
 use Rattle.decode_core.specs.NodeAdds.{AddsNode, IsAdded, IsSpelled}
-use Rattle.decode_core.specs.NodeForms.{ReadsPlain, form_of_plain, plain_layout}
+use Rattle.form_core.specs.NodeForms.{form_of_plain, plain_layout}
+use Rattle.decode_core.specs.NodeReads.{ReadsPlain}
 use Rattle.decode_core.specs.Reasons.{reason_of}
 use Rattle.decode_core.specs.Reported.{leaf_own, own_at}
-use Rattle.decode_core.specs.declared.forms.PlainForm.{PlainForm}
-use Rattle.decode_core.specs.declared.forms.PlainForm.TheVariants as plain
+use Rattle.form_core.specs.declared.forms.PlainForm.{PlainForm}
+use Rattle.form_core.specs.declared.forms.PlainForm.TheVariants as plain
 use Rattle.decode_core.specs.declared.node.NodeFault.{NodeFault}
 use Rattle.decode_core.specs.declared.node.NodeFault.TheVariants as fault
 use Rattle.decode_core.proofs.steps.NodeAdding.{all_read, next_has, node_refused}

@@ -12,10 +12,11 @@ use Rattle.grammar_core.specs.Tree as tree
 use Rattle.node_core.specs.Leaves.{leaf_head}
 use Rattle.node_core.specs.declared.leaf.Leaf.{Leaf}
 use Rattle.node_core.specs.declared.leaf.Leaf.TheVariants as leaf
-use Rattle.decode_core.specs.Needs.{AreOwn}
-use Rattle.decode_core.specs.NodeForms.{ReadsPlain, form_of_plain}
+use Rattle.form_core.specs.Needs.{AreOwn}
+use Rattle.form_core.specs.NodeForms.{form_of_plain}
+use Rattle.decode_core.specs.NodeReads.{ReadsPlain}
 use Rattle.decode_core.specs.Reported.{leaf_own}
-use Rattle.decode_core.specs.declared.forms.PlainForm.TheVariants as plain
+use Rattle.form_core.specs.declared.forms.PlainForm.TheVariants as plain
 
 -- an integer of 256 bits has 32 bytes of its own
 wide_long : (s : Signedness) (own : List ℕ) → AreOwn (form_of_plain (plain.Wide s)) own →

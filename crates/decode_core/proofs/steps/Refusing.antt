@@ -36,7 +36,7 @@ use Rattle.value_core.proofs.Forms.{HasForm, wanted, IsStoppedBy, stopped}
 use Rattle.decode_core.specs.Decided.{Decided}
 use Rattle.decode_core.specs.Machine.{State, remain, is_cut}
 use Rattle.decode_core.specs.Met.{met_layout}
-use Rattle.decode_core.specs.Needs.{compact_need, kind_need, need, AreOwn, HasBytes}
+use Rattle.form_core.specs.Needs.{compact_need, kind_need, need, AreOwn, HasBytes}
 use Rattle.decode_core.specs.Reasons.{stop_refusal}
 use Rattle.decode_core.specs.Running.{Running, held_of, state_of}
 use Rattle.decode_core.specs.Turned.{WantsBytes}

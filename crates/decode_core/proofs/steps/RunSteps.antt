@@ -26,7 +26,7 @@ use Rattle.grammar_core.proofs.Runs.{length_extends}
 use Rattle.value_core.specs.Built.{Built, Pieces, next_layout, run_head, with_leaf, with_run_ended}
 use Rattle.value_core.specs.Refusals.{IsRunWhole, bad_bytes, bad_text, missing_at}
 use Rattle.value_core.specs.Walked.{next_of}
-use Rattle.decode_core.specs.Needs.{HasBytes}
+use Rattle.form_core.specs.Needs.{HasBytes}
 use Rattle.decode_core.specs.NodeAdds.{IsAdded}
 use Rattle.decode_core.specs.Running.{Running, IsLength, IsRunning, IsKeptRun, IsRunNext, held_of}
 use Rattle.decode_core.specs.Running.{run_held, state_of}

@@ -11,7 +11,7 @@ use Rattle.value_core.specs.Walked.{next_of}
 use Rattle.grammar_core.specs.declared.form.Form.{Form}
 use Rattle.grammar_core.specs.declared.form.Next.{Next}
 use Rattle.grammar_core.specs.declared.form.Next.TheVariants as next
-use Rattle.decode_core.specs.Needs.{need, AreOwn, HasBytes, IsFirst, IsNeeded}
+use Rattle.form_core.specs.Needs.{need, AreOwn, HasBytes, IsFirst, IsNeeded}
 use Rattle.decode_core.specs.NodeAdds.{IsRefused, IsSpelled, TakesNode, AddsBare, IsAdded}
 use Rattle.decode_core.specs.Running.{Running, IsRunning, IsCarry, IsKeptRun, held_of}
 use Rattle.decode_core.specs.Turned.{Steps, BareReports, StepReports, EndsTurns, WantsMemory}

@@ -14,7 +14,7 @@ use Rattle.registry_core.proofs.Widths.{width_most}
 use Rattle.grammar_core.specs.declared.form.Form.{Form}
 use Rattle.grammar_core.specs.declared.form.Form.TheVariants as form
 use Rattle.value_core.specs.Built.{Built}
-use Rattle.decode_core.specs.Needs.{HasBytes, compact_need, kind_need, need}
+use Rattle.form_core.specs.Needs.{HasBytes, compact_need, kind_need, need}
 use Rattle.decode_core.specs.Running.{IsCarry}
 
 -- how long a compact is

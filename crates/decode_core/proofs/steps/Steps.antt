@@ -15,7 +15,7 @@ use Rattle.grammar_core.specs.Preorder.{Head}
 use Rattle.value_core.specs.Walked.{next_of}
 use Rattle.grammar_core.specs.declared.form.Form.{Form}
 use Rattle.grammar_core.specs.declared.form.Next.TheVariants as next
-use Rattle.decode_core.specs.Needs.{AreOwn}
+use Rattle.form_core.specs.Needs.{AreOwn}
 use Rattle.decode_core.specs.NodeAdds.{IsAdded, IsRunOpened, with_own}
 use Rattle.decode_core.specs.Running.{IsLength, IsRunning, held_of, run_held}
 use Rattle.decode_core.specs.Turned.{IsSame, Steps}

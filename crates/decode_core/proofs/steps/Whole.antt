@@ -27,7 +27,7 @@ use Rattle.grammar_core.specs.declared.form.Form.{Form}
 use Rattle.grammar_core.specs.declared.form.Form.TheVariants as form
 use Rattle.value_core.proofs.Forms.{HasForm}
 use Rattle.decode_core.specs.Machine.{is_cut}
-use Rattle.decode_core.specs.Needs.{compact_need, kind_need, AreOwn, HasBytes, IsNoText}
+use Rattle.form_core.specs.Needs.{compact_need, kind_need, AreOwn, HasBytes, IsNoText}
 use Rattle.decode_core.specs.Reported.{leaf_own, arm_own, arms_own, length_own, own_at}
 
 -- nothing is left, or the refusal does not wait for more bytes

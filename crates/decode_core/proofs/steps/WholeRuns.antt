@@ -25,12 +25,12 @@ use Rattle.value_core.specs.Built.{Built, FitsKind, IsNextLeaf, next_layout, wit
 use Rattle.value_core.specs.Walked.{Walked, next_of}
 use Rattle.value_core.proofs.NextLeaf.{run_next}
 use Rattle.decode_core.specs.NodeAdds.{IsAdded, ReadsRun}
-use Rattle.decode_core.specs.NodeForms.{prefixed_kind}
+use Rattle.form_core.specs.NodeForms.{prefixed_kind}
 use Rattle.decode_core.specs.Reported.{leaf_own, own_at}
 use Rattle.decode_core.specs.Running.{IsRunning}
 use Rattle.decode_core.specs.Turned.{IsSame, Steps, WantsMemory}
-use Rattle.decode_core.specs.declared.forms.PrefixedRun.{PrefixedRun}
-use Rattle.decode_core.specs.declared.forms.PrefixedRun.TheVariants as prefixed
+use Rattle.form_core.specs.declared.forms.PrefixedRun.{PrefixedRun}
+use Rattle.form_core.specs.declared.forms.PrefixedRun.TheVariants as prefixed
 use Rattle.decode_core.specs.declared.run.OpenRun.{OpenRun}
 use Rattle.decode_core.proofs.steps.NodeAdding.{next_run}
 use Rattle.decode_core.proofs.steps.RunTurns.{IsAtNode, of_fields, no_run, node_wants}

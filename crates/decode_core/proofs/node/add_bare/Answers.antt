@@ -2,8 +2,8 @@ use Rattle.std.proofs.Common.{◌≡◌, subst}
 use Rattle.value_core.specs.Walked.{next_of}
 use Rattle.value_core.proofs.NextLeaf.{empty_next}
 use Rattle.grammar_core.specs.declared.form.Next.TheVariants as next
-use Rattle.decode_core.specs.NodeForms.{form_of_bare}
-use Rattle.decode_core.specs.declared.forms.BareForm.{BareForm}
+use Rattle.form_core.specs.NodeForms.{form_of_bare}
+use Rattle.form_core.specs.declared.forms.BareForm.{BareForm}
 use Rattle.decode_core.proofs.steps.LengthAdding.{array_read, bare_added, empty_read, fields_read}
 use Rattle.decode_core.proofs.node.add_bare.Goals as goal
 

@@ -1,6 +1,6 @@
 use Rattle.std.proofs.Common.{rules, refl}
 use Rattle.std.proofs.lemmas.Result.{err_from_is_err_and}
-use Rattle.decode_core.specs.NodeForms.{prefixed_kind}
+use Rattle.form_core.specs.NodeForms.{prefixed_kind}
 use Rattle.decode_core.proofs.steps.FormSplits.{prefixed_bytes, prefixed_length}
 use Rattle.decode_core.proofs.steps.LengthAdding.{length_read, length_refused}
 use Rattle.decode_core.proofs.node.start_run.Goals as goal

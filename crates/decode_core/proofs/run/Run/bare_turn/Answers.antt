@@ -2,7 +2,7 @@ use Rattle.std.proofs.Common.{◌≡◌, None, sym, subst}
 use Rattle.value_core.specs.Walked.{next_of}
 use Rattle.grammar_core.specs.declared.form.Next.TheVariants as next
 use Rattle.decode_core.specs.NodeAdds.{AddsBare}
-use Rattle.decode_core.specs.NodeForms.{form_of_bare}
+use Rattle.form_core.specs.NodeForms.{form_of_bare}
 use Rattle.decode_core.specs.Running.{Running}
 use Rattle.decode_core.specs.Turned.{BareReports}
 use Rattle.decode_core.proofs.steps.FormSplits.{have_none}

@@ -1,5 +1,5 @@
 use Rattle.std.proofs.Common.{ℕ, List, ◌≡◌, ◌++◌, None, Some, slice_index_or}
-use Rattle.decode_core.specs.Needs.{IsFirst}
+use Rattle.form_core.specs.Needs.{IsFirst}
 use Rattle.std.specs.Prelude.{slice_get}
 use Rattle.std.proofs.Common.{ap, ◌∙◌, subst}
 use Rattle.decode_core.specs.Running.{Running}

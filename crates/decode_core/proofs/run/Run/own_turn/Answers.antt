@@ -1,6 +1,6 @@
 use Rattle.std.proofs.Common.{ℕ, List, ◌≡◌, ◌++◌, [], drop}
-use Rattle.decode_core.specs.Needs.{IsFirst}
-use Rattle.decode_core.specs.NodeForms.{form_of_bytes}
+use Rattle.form_core.specs.Needs.{IsFirst}
+use Rattle.form_core.specs.NodeForms.{form_of_bytes}
 use Rattle.decode_core.specs.Turned.{StepReports}
 use Rattle.std.proofs.Common.{refl, sym, subst, ◌∙◌}
 use Rattle.std.proofs.lemmas.List.{take-append-drop}

@@ -1,5 +1,5 @@
 use Rattle.std.proofs.Common.{◌≡◌, ◌+◌, ◌≤◌, length, take, drop}
-use Rattle.decode_core.specs.NodeForms.{form_of_bytes}
+use Rattle.form_core.specs.NodeForms.{form_of_bytes}
 use Rattle.decode_core.specs.Turned.{Awaits, Moves, left_to_do}
 use Rattle.decode_core.proofs.run.Run.repeat.Given as goal
 

@@ -3,7 +3,7 @@ use Rattle.value_core.specs.Built.{Built}
 use Rattle.value_core.specs.Walked.{next_of}
 use Rattle.grammar_core.specs.declared.form.Next.TheVariants as next
 use Rattle.decode_core.specs.NodeAdds.{AddsBare}
-use Rattle.decode_core.specs.NodeForms.{form_of_bare}
+use Rattle.form_core.specs.NodeForms.{form_of_bare}
 use Rattle.decode_core.specs.Running.{Running}
 use Rattle.decode_core.specs.Turned.{WholeReports}
 use Rattle.decode_core.proofs.steps.FormSplits.{have_none}

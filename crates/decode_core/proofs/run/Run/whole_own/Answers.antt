@@ -1,6 +1,6 @@
 use Rattle.std.proofs.Common.{ℕ, ◌≤◌, List, [], length, drop, slice_index_or, refl, subst, arith, inl, inr}
 use Rattle.std.proofs.lemmas.List.{take-append-drop}
-use Rattle.decode_core.specs.NodeForms.{form_of_bytes}
+use Rattle.form_core.specs.NodeForms.{form_of_bytes}
 use Rattle.decode_core.specs.Turned.{StepReports, WantsMemory}
 use Rattle.decode_core.specs.declared.turned.Turned.TheVariants as turned
 use Rattle.decode_core.proofs.steps.RunTurns.{first_of_piece, whole_own}

@@ -2,7 +2,7 @@ use Rattle.std.proofs.Common.{◌≡◌, [], sym, ap, ◌∙◌, subst, arith, t
 use Rattle.scale_core.proofs.ReadForms.{are_bytes}
 use Rattle.grammar_core.specs.Runs.{run_form}
 use Rattle.value_core.specs.Built.{Built}
-use Rattle.decode_core.specs.NodeForms.{prefixed_kind}
+use Rattle.form_core.specs.NodeForms.{prefixed_kind}
 use Rattle.decode_core.specs.Running.{Running, IsRunning}
 use Rattle.decode_core.specs.Turned.{IsSame, Steps, WantsMemory}
 use Rattle.decode_core.proofs.steps.RunTurns.{at_node, none_of, of_fields}

@@ -1,5 +1,5 @@
 use Rattle.std.proofs.Common.{◌++◌, subst}
-use Rattle.decode_core.specs.NodeForms.{form_of_bytes}
+use Rattle.form_core.specs.NodeForms.{form_of_bytes}
 use Rattle.decode_core.specs.Turned.{StepReports}
 use Rattle.decode_core.specs.Running.{Running}
 use Rattle.decode_core.proofs.steps.RunTurns.{of_fields, at_node, carries_none, whole_running}

@@ -1,34 +1,44 @@
 //! The form of what comes next, by whether a node of it has bytes of its own.
 
 ghost use Rattle.std.specs.Prelude.{◌≡◌};
-ghost use Rattle.decode_core.specs.NodeForms.{form_of_bytes, prefixed_kind};
+ghost use Rattle.form_core.specs.NodeForms.{form_of_bytes, prefixed_kind};
 
+use grammar_core::{Form, RunKind};
 use registry_core::{IntegerWidth, Primitive, PrimitiveKind, Signedness};
 use scale_core::Target;
-use value_core::{Form, RunKind};
 
-/// The form of a node without parts that is neither a text nor a run of bytes: few bytes say it whole.
+/// The form of a node without parts that is neither a text nor a run of bytes (SCALE codec, "Types"): few bytes say it
+/// whole.
 #[derive(Clone, Copy)]
-pub(crate) enum PlainForm {
+pub enum PlainForm {
+    /// A boolean, in one byte.
     Bool,
+    /// A character, in four bytes.
     Char,
+    /// An unsigned integer of this width.
     Unsigned(IntegerWidth),
+    /// A signed integer of this width.
     Signed(IntegerWidth),
+    /// A 256-bit integer, in 32 bytes.
     Wide(Signedness),
+    /// A compact integer that fits the target, in 1 to 17 bytes.
     Compact(Target),
+    /// A sequence of elements that take no bytes: its length alone, a compact integer.
     Count,
 }
 
 /// The form of a text or a run of bytes whose length stands before it.
 #[derive(Clone, Copy)]
-pub(crate) enum PrefixedRun {
+pub enum PrefixedRun {
+    /// A text.
     Text,
+    /// A sequence of u8.
     Bytes,
 }
 
 impl PrefixedRun {
     /// Which run it is.
-    pub(crate) fn kind(self) -> RunKind
+    pub fn kind(self) -> RunKind
         ensures { result ≡ prefixed_kind self }
     {
         match self {
@@ -40,24 +50,31 @@ impl PrefixedRun {
 
 /// The form of a node that has few bytes of its own, or a run by the bytes of its length.
 #[derive(Clone, Copy)]
-pub(crate) enum BytesForm {
+pub enum BytesForm {
+    /// A node without parts.
     Plain(PlainForm),
+    /// A text or a run of bytes, of which its length alone counts here.
     Run(PrefixedRun),
+    /// A variant, of which the index of its arm is its own.
     Arm,
+    /// A sequence, of which its length is its own.
     Sequence,
 }
 
 /// The form of a node that has no bytes of its own.
 #[derive(Clone, Copy)]
-pub(crate) enum BareForm {
+pub enum BareForm {
+    /// The one value of a type that takes no bytes.
     Empty,
+    /// A composite or a tuple.
     Fields,
+    /// An array of this length.
     Array(u32),
 }
 
-/// The form of a primitive type.
+/// The form of a value of a primitive type.
 #[inline(always)]
-pub(crate) fn primitive_form(primitive: Primitive) -> BytesForm
+pub fn primitive_form(primitive: Primitive) -> BytesForm
     ensures { form_of_bytes result ≡ Form.Primitive primitive }
 {
     BytesForm::Plain(match primitive.kind() {
@@ -72,7 +89,7 @@ pub(crate) fn primitive_form(primitive: Primitive) -> BytesForm
 
 /// The form of a compact integer that fits the target.
 #[inline(always)]
-pub(crate) fn compact_form(target: Target) -> BytesForm
+pub fn compact_form(target: Target) -> BytesForm
     ensures { form_of_bytes result ≡ Form.Compact target }
 {
     BytesForm::Plain(PlainForm::Compact(target))

@@ -1,8 +1,8 @@
 //! How many bytes a node has of its own, by its form and its first byte.
 
 ghost use Rattle.std.specs.Prelude.{◌≡◌, ◌≤◌};
-ghost use Rattle.decode_core.specs.NodeForms.{form_of_bytes, form_of_plain};
-ghost use Rattle.decode_core.specs.Needs.{compact_need, need};
+ghost use Rattle.form_core.specs.NodeForms.{form_of_bytes, form_of_plain};
+ghost use Rattle.form_core.specs.Needs.{compact_need, need};
 
 use crate::forms::{BytesForm, PlainForm};
 use scale_core::Target;
@@ -46,10 +46,10 @@ fn plain_need(form: PlainForm, first: u8) -> usize
     }
 }
 
-/// How many bytes a node of this form has of its own, by the first of them, or how many decide that it is refused; of a
-/// text or a run of bytes its length alone.
+/// How many bytes a node of this form has of its own, by the first of them, or how many decide that it is refused (SCALE
+/// codec, "Compact/General Integers"); of a text or a run of bytes its length alone. They are 1 to 32.
 #[inline(always)]
-pub(crate) fn need(form: BytesForm, first: u8) -> usize
+pub fn need(form: BytesForm, first: u8) -> usize
     ensures exact { result ≡ need (form_of_bytes form) first }
     ensures some { 1 ≤ result }
     ensures bound { result ≤ 32 }

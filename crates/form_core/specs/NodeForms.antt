@@ -1,7 +1,4 @@
 -- The forms of nodes with bytes of their own and of those without, as forms.
-use Rattle.std.specs.Prelude.{◌≡◌, ℕ, List, None, Result, Ok, Err}
-use Rattle.scale_core.specs.Read.{place}
-use Rattle.scale_core.specs.declared.fault.Fault.{Fault}
 use Rattle.registry_core.specs.Kinds.{width_bytes}
 use Rattle.registry_core.specs.declared.kind.IntegerWidth.{IntegerWidth}
 use Rattle.registry_core.specs.declared.kind.IntegerWidth.TheVariants as width
@@ -13,21 +10,17 @@ use Rattle.widths_core.specs.Layouts.{Plain}
 use Rattle.widths_core.specs.Layouts as layout
 use Rattle.widths_core.specs.declared.run_kind.RunKind.{RunKind}
 use Rattle.widths_core.specs.declared.run_kind.RunKind.TheVariants as kind
-use Rattle.grammar_core.specs.Reading.{basic, leaf_at}
 use Rattle.grammar_core.specs.Runs.{run_form}
 use Rattle.grammar_core.specs.declared.form.Form.{Form}
 use Rattle.grammar_core.specs.declared.form.Form.TheVariants as form
-use Rattle.node_core.specs.Leaves.{leaf_head}
-use Rattle.node_core.specs.declared.leaf.Leaf.{Leaf}
-use Rattle.decode_core.specs.Reported.{leaf_own}
-use Rattle.decode_core.specs.declared.forms.PlainForm.{PlainForm}
-use Rattle.decode_core.specs.declared.forms.PlainForm.TheVariants as plain
-use Rattle.decode_core.specs.declared.forms.BytesForm.{BytesForm}
-use Rattle.decode_core.specs.declared.forms.BytesForm.TheVariants as bytes
-use Rattle.decode_core.specs.declared.forms.BareForm.{BareForm}
-use Rattle.decode_core.specs.declared.forms.BareForm.TheVariants as bare
-use Rattle.decode_core.specs.declared.forms.PrefixedRun.{PrefixedRun}
-use Rattle.decode_core.specs.declared.forms.PrefixedRun.TheVariants as prefixed
+use Rattle.form_core.specs.declared.forms.PlainForm.{PlainForm}
+use Rattle.form_core.specs.declared.forms.PlainForm.TheVariants as plain
+use Rattle.form_core.specs.declared.forms.BytesForm.{BytesForm}
+use Rattle.form_core.specs.declared.forms.BytesForm.TheVariants as bytes
+use Rattle.form_core.specs.declared.forms.BareForm.{BareForm}
+use Rattle.form_core.specs.declared.forms.BareForm.TheVariants as bare
+use Rattle.form_core.specs.declared.forms.PrefixedRun.{PrefixedRun}
+use Rattle.form_core.specs.declared.forms.PrefixedRun.TheVariants as prefixed
 
 -- the primitive types of integers
 abbrev pub unsigned_of : IntegerWidth → Primitive
@@ -81,11 +74,3 @@ plain_layout (plain.Signed w) = layout.signed (width_bytes w)
 plain_layout (plain.Wide s) = layout.wide
 plain_layout (plain.Compact m) = layout.compact m
 plain_layout plain.Count = layout.counted
-
--- the answer is what the layout reads on the front of the bytes
-abbrev pub ReadsPlain : PlainForm → List ℕ → Result Leaf Fault → Type 0
-ReadsPlain p own (Ok l) = (rest : List ℕ)
-    × (leaf_own (leaf_at (plain_layout p) own) ≡ Ok ((leaf_head l, None), rest))
-ReadsPlain p own (Err f) = (left : List ℕ)
-    × (leaf_own (leaf_at (plain_layout p) own) ≡ Err (basic f.reason, left))
-    × (f.at ≡ place own left)

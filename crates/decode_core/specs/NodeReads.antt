@@ -1,0 +1,18 @@
+-- A node without parts, read by its form.
+use Rattle.std.specs.Prelude.{◌≡◌, ℕ, List, None, Result, Ok, Err}
+use Rattle.scale_core.specs.Read.{place}
+use Rattle.scale_core.specs.declared.fault.Fault.{Fault}
+use Rattle.grammar_core.specs.Reading.{basic, leaf_at}
+use Rattle.form_core.specs.NodeForms.{plain_layout}
+use Rattle.form_core.specs.declared.forms.PlainForm.{PlainForm}
+use Rattle.node_core.specs.Leaves.{leaf_head}
+use Rattle.node_core.specs.declared.leaf.Leaf.{Leaf}
+use Rattle.decode_core.specs.Reported.{leaf_own}
+
+-- the answer is what the layout reads on the front of the bytes
+abbrev pub ReadsPlain : PlainForm → List ℕ → Result Leaf Fault → Type 0
+ReadsPlain p own (Ok l) = (rest : List ℕ)
+    × (leaf_own (leaf_at (plain_layout p) own) ≡ Ok ((leaf_head l, None), rest))
+ReadsPlain p own (Err f) = (left : List ℕ)
+    × (leaf_own (leaf_at (plain_layout p) own) ≡ Err (basic f.reason, left))
+    × (f.at ≡ place own left)

@@ -1,0 +1,2 @@
+pub mod NodeForms
+pub mod Needs
