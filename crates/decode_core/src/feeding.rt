@@ -6,10 +6,12 @@ ghost use Rattle.form_core.specs.NodeForms.{form_of_bytes};
 ghost use Rattle.decode_core.specs.Turned.{Awaits, FeedCounts, FeedReports, RunsOut, TurnsReport};
 ghost use Rattle.decode_core.specs.Turned.{WholeReports, WholeTurnsReport};
 
-use form_core::{BareForm, BytesForm, PrefixedRun, compact_form, primitive_form};
 use crate::run::Run;
 use crate::turned::{Stopped, Turned, Whole};
 use count_core::Count;
+use form_core::{
+    BareForm, BytesForm, NodeForm, PrefixedRun, compact_form, node_form, primitive_form,
+};
 use registry_core::Primitive;
 use scale_core::Target;
 use std::alloc::Allocator;
@@ -133,6 +135,12 @@ impl<'r, A: Allocator> Run<'r, A> {
         let Some(form) = self.next_form() else {
             return self.one_turn(piece, turns);
         };
+        if piece.is_empty()
+            && let NodeForm::Bytes(_) = node_form(form)
+        {
+            turns.tick();
+            return (0, Turned::Stopped(Stopped::Wants));
+        }
         let (before, last) = self.whole_nodes(form, piece, turns);
         match last {
             Whole::Added(count) => (before, Turned::On(count)),

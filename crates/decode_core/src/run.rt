@@ -16,13 +16,12 @@ ghost use Rattle.decode_core.specs.Turned.{node_turned};
 
 use crate::carry::Carry;
 use crate::fault::DecodeReason;
-use form_core::{BareForm, BytesForm, PlainForm, PrefixedRun, compact_form, primitive_form};
-use form_core::need;
 use crate::node::{
     NodeFault, add_arm, add_bare, add_byte_array, add_plain, add_sequence, start_run, whole_run,
 };
 use crate::turned::{Stopped, Turned, Whole};
 use count_core::Count;
+use form_core::{BareForm, BytesForm, NodeForm, PrefixedRun, need, node_form};
 use scale_core::compact_len;
 use std::alloc::Allocator;
 use std::marker::Model;
@@ -390,17 +389,10 @@ impl<'r, A: Allocator> Run<'r, A> {
         ensures reports { StepReports self.old self.new piece.now result }
         ensures kept { KeepsTurns self.old self.new result }
     {
-        match form {
-            Form::Primitive(primitive) => self.own_turn(primitive_form(primitive), piece),
-            Form::Compact(target) => self.own_turn(compact_form(target), piece),
-            Form::Count => self.own_turn(BytesForm::Plain(PlainForm::Count), piece),
-            Form::Arm => self.own_turn(BytesForm::Arm, piece),
-            Form::Sequence => self.own_turn(BytesForm::Sequence, piece),
-            Form::Bytes => self.own_turn(BytesForm::Run(PrefixedRun::Bytes), piece),
-            Form::ByteArray(len) => self.byte_array_turn(len, piece),
-            Form::Empty => self.bare_turn(BareForm::Empty),
-            Form::Fields => self.bare_turn(BareForm::Fields),
-            Form::Array(len) => self.bare_turn(BareForm::Array(len)),
+        match node_form(form) {
+            NodeForm::Bytes(own) => self.own_turn(own, piece),
+            NodeForm::Bare(bare) => self.bare_turn(bare),
+            NodeForm::ByteArray(len) => self.byte_array_turn(len, piece),
         }
     }
 

@@ -19,6 +19,8 @@ use Rattle.form_core.specs.declared.forms.BytesForm.{BytesForm}
 use Rattle.form_core.specs.declared.forms.BytesForm.TheVariants as bytes
 use Rattle.form_core.specs.declared.forms.BareForm.{BareForm}
 use Rattle.form_core.specs.declared.forms.BareForm.TheVariants as bare
+use Rattle.form_core.specs.declared.forms.NodeForm.{NodeForm}
+use Rattle.form_core.specs.declared.forms.NodeForm.TheVariants as node
 use Rattle.form_core.specs.declared.forms.PrefixedRun.{PrefixedRun}
 use Rattle.form_core.specs.declared.forms.PrefixedRun.TheVariants as prefixed
 
@@ -64,6 +66,11 @@ abbrev pub form_of_bare : BareForm → Form
 form_of_bare bare.Empty = form.Empty
 form_of_bare bare.Fields = form.Fields
 form_of_bare (bare.Array n) = form.Array n
+
+abbrev pub form_of_node : NodeForm → Form
+form_of_node (node.Bytes f) = form_of_bytes f
+form_of_node (node.Bare f) = form_of_bare f
+form_of_node (node.ByteArray n) = form.ByteArray n
 
 -- how the bytes of a node without parts are laid out
 abbrev pub plain_layout : PlainForm → Plain

@@ -1,7 +1,7 @@
 //! The form of what comes next, by whether a node of it has bytes of its own.
 
 ghost use Rattle.std.specs.Prelude.{◌≡◌};
-ghost use Rattle.form_core.specs.NodeForms.{form_of_bytes, prefixed_kind};
+ghost use Rattle.form_core.specs.NodeForms.{form_of_bytes, form_of_node, prefixed_kind};
 
 use grammar_core::{Form, RunKind};
 use registry_core::{IntegerWidth, Primitive, PrimitiveKind, Signedness};
@@ -93,4 +93,34 @@ pub fn compact_form(target: Target) -> BytesForm
     ensures { form_of_bytes result ≡ Form.Compact target }
 {
     BytesForm::Plain(PlainForm::Compact(target))
+}
+
+/// A form, by whether a node of it has few bytes of its own, none, or as many as its type says.
+#[derive(Clone, Copy)]
+pub enum NodeForm {
+    /// It has few bytes of its own, or is a run by the bytes of its length.
+    Bytes(BytesForm),
+    /// It has none.
+    Bare(BareForm),
+    /// It is an array of this many u8.
+    ByteArray(u32),
+}
+
+/// Which of these a form is.
+#[inline(always)]
+pub fn node_form(form: Form) -> NodeForm
+    ensures { form_of_node result ≡ form }
+{
+    match form {
+        Form::Primitive(primitive) => NodeForm::Bytes(primitive_form(primitive)),
+        Form::Compact(target) => NodeForm::Bytes(compact_form(target)),
+        Form::Count => NodeForm::Bytes(BytesForm::Plain(PlainForm::Count)),
+        Form::Arm => NodeForm::Bytes(BytesForm::Arm),
+        Form::Sequence => NodeForm::Bytes(BytesForm::Sequence),
+        Form::Bytes => NodeForm::Bytes(BytesForm::Run(PrefixedRun::Bytes)),
+        Form::ByteArray(len) => NodeForm::ByteArray(len),
+        Form::Empty => NodeForm::Bare(BareForm::Empty),
+        Form::Fields => NodeForm::Bare(BareForm::Fields),
+        Form::Array(len) => NodeForm::Bare(BareForm::Array(len)),
+    }
 }

@@ -4,5 +4,7 @@
 mod forms;
 mod needs;
 
-pub use forms::{BareForm, BytesForm, PlainForm, PrefixedRun, compact_form, primitive_form};
+pub use forms::{
+    BareForm, BytesForm, NodeForm, PlainForm, PrefixedRun, compact_form, node_form, primitive_form,
+};
 pub use needs::need;

@@ -1,6 +1,6 @@
 -- What the turns of a call add to those before it.
-use Rattle.std.proofs.Common.{◌≡◌, ℕ, ◌+◌, ◌-◌, ◌<◌, ◌≤◌, List, length, take, drop, sym, ap, subst}
-use Rattle.std.proofs.Common.{arith, inl, inr, length-drop}
+use Rattle.std.proofs.Common.{◌≡◌, ℕ, ◌+◌, ◌-◌, ◌<◌, ◌≤◌, List, [], length, take, drop, refl, sym}
+use Rattle.std.proofs.Common.{ap, subst, arith, inl, inr, length-drop}
 use Rattle.std.proofs.lemmas.List.{length-take, take_rest}
 use Rattle.std.proofs.Math.Seq.{take-add}
 use Rattle.std.specs.Prelude.{true}
@@ -16,7 +16,10 @@ use Rattle.decode_core.specs.declared.turned.Turned.{Turned}
 use Rattle.decode_core.specs.declared.turned.Whole.{Whole}
 use Rattle.decode_core.specs.declared.turned.Whole.TheVariants as whole
 use Rattle.decode_core.specs.declared.turned.Turned.TheVariants as turned
-use Rattle.decode_core.proofs.steps.Moving.{awaits_goes_on, drop_more, grows_by, moves_on}
+use Rattle.form_core.specs.Needs.{HasBytes}
+use Rattle.decode_core.proofs.steps.RunTurns.{wants_more}
+use Rattle.decode_core.proofs.steps.Moving.{awaits_goes_on, drop_more, grows_by, moves_none}
+use Rattle.decode_core.proofs.steps.Moving.{moves_on}
 use Rattle.decode_core.proofs.steps.Moving.{one_or_bytes, stays_whole, step_nearer, turns_on}
 use Rattle.decode_core.proofs.steps.Moving.{turns_stop}
 
@@ -70,6 +73,28 @@ whole_left a b d piece from to n last w reports kept =
       kept =
           subst (λ (s : Running). KeepsTurns s d last) w.reports kept;
       whole = λ is. absurd (w.begun is);
+    }
+
+-- where nothing is left of the piece and a node with bytes of its own is next, more are wanted
+pub waits : (s : Running) (f : Form) (piece : List ℕ) (from to : ℕ) → Awaits s f → HasBytes f →
+    piece ≡ [] → to ≡ from + 1 → TurnsReport s s piece from to 0 (turned.Stopped stop.Wants)
+waits s f piece from to awaits some empty is =
+    record {
+      before = s;
+      within = omega arith;
+      moves = moves_none s;
+      nearer = omega arith;
+      few = (omega (arith, is), omega (arith, is));
+      sound = awaits.sound;
+      reports = (
+        refl,
+        (
+          empty,
+          (wants_more s.built s.carry f awaits.sound.carried awaits.next some awaits.closed).1,
+        ),
+      );
+      kept = refl;
+      whole = λ w. awaits_goes_on s f awaits w;
     }
 
 -- the turns so far, and those of the call before its last one
