@@ -38,8 +38,8 @@ impl<'r, A: Allocator> Run<'r, A> {
     ) -> (usize, Whole)
         requires own { form_of_bytes own ≡ form }
         requires next { Awaits self.old form }
-        ensures { WholeTurnsReport self.old self.new piece.now turns.old.so_far turns.new.so_far
-            result.0 result.1 }
+        ensures { WholeTurnsReport form self.old self.new piece.now turns.old.so_far
+            turns.new.so_far result.0 result.1 }
     {
         let mut at = 0;
         'nodes: loop {
@@ -59,8 +59,8 @@ impl<'r, A: Allocator> Run<'r, A> {
     #[inline(always)]
     fn integers(&mut self, primitive: Primitive, piece: &[u8], turns: &mut Count) -> (usize, Whole)
         requires { Awaits self.old (Form.Primitive primitive) }
-        ensures { WholeTurnsReport self.old self.new piece.now turns.old.so_far turns.new.so_far
-            result.0 result.1 }
+        ensures { WholeTurnsReport (Form.Primitive primitive) self.old self.new piece.now
+            turns.old.so_far turns.new.so_far result.0 result.1 }
     {
         let form = Form::Primitive(primitive);
         self.repeat(form, primitive_form(primitive), piece, turns)
@@ -70,8 +70,8 @@ impl<'r, A: Allocator> Run<'r, A> {
     #[inline(always)]
     fn compacts(&mut self, target: Target, piece: &[u8], turns: &mut Count) -> (usize, Whole)
         requires { Awaits self.old (Form.Compact target) }
-        ensures { WholeTurnsReport self.old self.new piece.now turns.old.so_far turns.new.so_far
-            result.0 result.1 }
+        ensures { WholeTurnsReport (Form.Compact target) self.old self.new piece.now
+            turns.old.so_far turns.new.so_far result.0 result.1 }
     {
         self.repeat(Form::Compact(target), compact_form(target), piece, turns)
     }
@@ -98,8 +98,8 @@ impl<'r, A: Allocator> Run<'r, A> {
     #[inline(always)]
     fn whole_nodes(&mut self, form: Form, piece: &[u8], turns: &mut Count) -> (usize, Whole)
         requires { Awaits self.old form }
-        ensures { WholeTurnsReport self.old self.new piece.now turns.old.so_far turns.new.so_far
-            result.0 result.1 }
+        ensures { WholeTurnsReport form self.old self.new piece.now turns.old.so_far
+            turns.new.so_far result.0 result.1 }
     {
         match form {
             Form::Primitive(Primitive::U8) => self.integers(Primitive::U8, piece, turns),
@@ -135,16 +135,10 @@ impl<'r, A: Allocator> Run<'r, A> {
         let Some(form) = self.next_form() else {
             return self.one_turn(piece, turns);
         };
-        if piece.is_empty()
-            && let NodeForm::Bytes(_) = node_form(form)
-        {
-            turns.tick();
-            return (0, Turned::Stopped(Stopped::Wants));
-        }
         let (before, last) = self.whole_nodes(form, piece, turns);
         match last {
             Whole::Added(count) => (before, Turned::On(count)),
-            Whole::Left => (before, self.turn(&piece[before..])),
+            Whole::Left => (before, self.form_turn(form, &piece[before..])),
             Whole::OutOfMemory => (before, Turned::OutOfMemory),
         }
     }

@@ -1,7 +1,8 @@
 //! A decoder on its way: it takes its input turn by turn.
 
 ghost use Rattle.std.specs.Prelude.{ℕ, List, true, ◌≡◌, ◌⊎◌, ◌<◌, ◌≤◌, ◌+◌, ◌++◌, [], length};
-ghost use Rattle.std.specs.Prelude.{take, drop, None, Some, suc, IfSome, IfErr, IfOk, Ok, OnOk, OnErr};
+ghost use Rattle.std.specs.Prelude.{take, drop, None, Some, suc, IfSome, IfErr, IfOk, Ok, OnOk};
+ghost use Rattle.std.specs.Prelude.{OnErr};
 ghost use Rattle.decode_core.specs.Running.{IsCarry, IsFresh, IsKeptRun, IsRunNext};
 ghost use Rattle.grammar_core.specs.Runs.{run_form};
 ghost use Rattle.value_core.specs.Walked.{next_of};
@@ -139,11 +140,13 @@ impl<'r, A: Allocator> Run<'r, A> {
     }
 
     /// A turn on a node without bytes of its own.
+    #[inline(always)]
     fn bare_turn(&mut self, form: BareForm) -> Turned
         requires next { next_of self.old.built.walk ≡ Next.Wants (form_of_bare form) }
         requires closed { self.old.built.run ≡ None }
         ensures reports { BareReports self.old self.new result }
         ensures kept { KeepsTurns self.old self.new result }
+        ensures same { IsOn result ⊎ (self.new ≡ self.old) }
     {
         match add_bare(&mut self.builder, form) {
             Ok(()) => Turned::On(0),
@@ -286,9 +289,10 @@ impl<'r, A: Allocator> Run<'r, A> {
         requires closed { self.old.built.run ≡ None }
         ensures { (piece : List ℕ) → WholeReports self.old self.new piece result }
     {
-        match add_bare(&mut self.builder, form) {
-            Ok(()) => Whole::Added(0),
-            Err(_) => Whole::OutOfMemory,
+        match self.bare_turn(form) {
+            Turned::On(count) => Whole::Added(count),
+            Turned::Stopped(_) => Whole::Left,
+            Turned::OutOfMemory => Whole::OutOfMemory,
         }
     }
 
@@ -382,7 +386,7 @@ impl<'r, A: Allocator> Run<'r, A> {
     }
 
     /// A turn on a node of this form, which is next, where no run is open.
-    fn form_turn(&mut self, form: Form, piece: &[u8]) -> Turned
+    pub(crate) fn form_turn(&mut self, form: Form, piece: &[u8]) -> Turned
         requires next { next_of self.old.built.walk ≡ Next.Wants form }
         requires closed { self.old.built.run ≡ None }
         requires carried { IsCarry self.old.built self.old.carry }

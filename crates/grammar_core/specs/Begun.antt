@@ -55,7 +55,8 @@ IsPart (whole v) = ⊥
 IsPart _ = Unit {0}
 
 -- g is a begun tree of type t with room for so many levels, b is what its nodes are in bytes, in
--- preorder, and next is the type that is missing first, with the levels that there is room for at it
+-- preorder, and next is the type that is missing first, with the levels that there is room for at
+-- it
 unfoldable pub Grows : List TypeInfo → ℕ → ℕ → Begun → List ℕ → Option (ℕ × ℕ) → Type 0
 Grows r room t nothing b next = (b ≡ []) × (next ≡ Some (room, t))
 Grows r room t (whole v) b next = Val r t v b × (levels v ≤ room) × (next ≡ None)

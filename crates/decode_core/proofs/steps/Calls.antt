@@ -1,5 +1,5 @@
 -- What the turns of a call add to those before it.
-use Rattle.std.proofs.Common.{◌≡◌, ℕ, ◌+◌, ◌-◌, ◌<◌, ◌≤◌, List, [], length, take, drop, refl, sym}
+use Rattle.std.proofs.Common.{◌≡◌, ℕ, ◌+◌, ◌-◌, ◌<◌, ◌≤◌, List, length, take, drop, sym}
 use Rattle.std.proofs.Common.{ap, subst, arith, inl, inr, length-drop}
 use Rattle.std.proofs.lemmas.List.{length-take, take_rest}
 use Rattle.std.proofs.Math.Seq.{take-add}
@@ -7,7 +7,7 @@ use Rattle.std.specs.Prelude.{true}
 use Rattle.grammar_core.specs.declared.form.Form.{Form}
 use Rattle.value_core.specs.Refusals.{is_whole}
 use Rattle.decode_core.specs.Running.{Running}
-use Rattle.decode_core.specs.Turned.{Awaits, FeedReports, FewTurns, IsSound, KeepsTurns, Moves}
+use Rattle.decode_core.specs.Turned.{Awaits, FeedReports, FewTurns, KeepsTurns, Moves}
 use Rattle.decode_core.specs.Turned.{RunsOut, StepReports, StopCounts, StopsShort, TurnsReport}
 use Rattle.decode_core.specs.Turned.{WholeReports, WholeTurnsReport, left_to_do}
 use Rattle.decode_core.specs.declared.turned.Stopped.{Stopped}
@@ -16,10 +16,7 @@ use Rattle.decode_core.specs.declared.turned.Turned.{Turned}
 use Rattle.decode_core.specs.declared.turned.Whole.{Whole}
 use Rattle.decode_core.specs.declared.turned.Whole.TheVariants as whole
 use Rattle.decode_core.specs.declared.turned.Turned.TheVariants as turned
-use Rattle.form_core.specs.Needs.{HasBytes}
-use Rattle.decode_core.proofs.steps.RunTurns.{wants_more}
-use Rattle.decode_core.proofs.steps.Moving.{awaits_goes_on, drop_more, grows_by, moves_none}
-use Rattle.decode_core.proofs.steps.Moving.{moves_on}
+use Rattle.decode_core.proofs.steps.Moving.{awaits_goes_on, drop_more, grows_by, moves_on}
 use Rattle.decode_core.proofs.steps.Moving.{one_or_bytes, stays_whole, step_nearer, turns_on}
 use Rattle.decode_core.proofs.steps.Moving.{turns_stop}
 
@@ -40,61 +37,39 @@ pub whole_more : (a b d : Running) (f : Form) (piece : List ℕ) (at start from 
     left_to_do b (drop at piece) ≤ left_to_do a piece →
     start + length b.built.entries ≤ from + length a.built.entries →
     from + length a.built.entries ≤ start + at + length b.built.entries → to ≡ from + 1 →
-    Awaits a f → IsSound b → WholeReports b d (take (length piece - at) (drop at piece)) last →
-    WholeTurnsReport a d piece start to at last
-whole_more a b d f piece at start from to last le h near each few is awaits sound reports =
+    Awaits a f → Awaits b f → WholeReports b d (take (length piece - at) (drop at piece)) last →
+    WholeTurnsReport f a d piece start to at last
+whole_more a b d f piece at start from to last le h near each few is first awaits reports =
     record {
       before = b;
       within = le;
       moves = h;
       nearer = near;
       few = (omega (arith, each, is), omega (arith, few, is));
-      sound = sound;
+      awaits = awaits;
       reports =
           subst (λ (l : List ℕ). WholeReports b d l last) (take_rest piece at) reports;
-      begun = λ w. awaits_goes_on a f awaits w;
+      begun = λ w. awaits_goes_on a f first w;
     }
 
 -- where the last of such turns changed nothing, a turn of another kind is in its place
-pub whole_left : (a b d : Running) (piece : List ℕ) (from to n : ℕ) (last : Turned) →
-    WholeTurnsReport a b piece from to n whole.Left →
+pub whole_left : (f : Form) (a b d : Running) (piece : List ℕ) (from to n : ℕ) (last : Turned) →
+    WholeTurnsReport f a b piece from to n whole.Left →
     StepReports b d (take (length piece - n) (drop n piece)) last → KeepsTurns b d last →
     TurnsReport a d piece from to n last
-whole_left a b d piece from to n last w reports kept =
+whole_left f a b d piece from to n last w reports kept =
     record {
       before = w.before;
       within = w.within;
       moves = w.moves;
       nearer = w.nearer;
       few = w.few;
-      sound = w.sound;
+      sound = w.awaits.sound;
       reports = subst (λ (s : Running). StepReports s d (drop n piece) last) w.reports
           (subst (λ (l : List ℕ). StepReports b d l last) (take_rest piece n) reports);
       kept =
           subst (λ (s : Running). KeepsTurns s d last) w.reports kept;
       whole = λ is. absurd (w.begun is);
-    }
-
--- where nothing is left of the piece and a node with bytes of its own is next, more are wanted
-pub waits : (s : Running) (f : Form) (piece : List ℕ) (from to : ℕ) → Awaits s f → HasBytes f →
-    piece ≡ [] → to ≡ from + 1 → TurnsReport s s piece from to 0 (turned.Stopped stop.Wants)
-waits s f piece from to awaits some empty is =
-    record {
-      before = s;
-      within = omega arith;
-      moves = moves_none s;
-      nearer = omega arith;
-      few = (omega (arith, is), omega (arith, is));
-      sound = awaits.sound;
-      reports = (
-        refl,
-        (
-          empty,
-          (wants_more s.built s.carry f awaits.sound.carried awaits.next some awaits.closed).1,
-        ),
-      );
-      kept = refl;
-      whole = λ w. awaits_goes_on s f awaits w;
     }
 
 -- the turns so far, and those of the call before its last one

@@ -45,7 +45,7 @@ returns-in_default g c =
     whole_more c.args.self.now c.nodes.self c.whole_own-last.new.self c.args.form
     c.args.piece.now c.nodes.at c.args.turns.now.so_far c.nodes.turns.so_far
     c.tick.new.self.so_far c.whole_own-last.result i.inside i.moves i.nearer i.each i.few
-    c.tick.ensures c.requires.next i.awaits.sound c.whole_own-last.ensures
+    c.tick.ensures c.requires.next i.awaits c.whole_own-last.ensures
 
 pub returns-then-not-awaits : goal.returns-then-not-awaits
 returns-then-not-awaits g c =
@@ -56,4 +56,4 @@ returns-then-not-awaits g c =
     whole_more c.args.self.now c.nodes.self c.whole_own-last.new.self c.args.form
     c.args.piece.now c.nodes.at c.args.turns.now.so_far c.nodes.turns.so_far
     c.tick.new.self.so_far (whole.Added c.in-Added.count) i.inside i.moves i.nearer i.each i.few
-    c.tick.ensures c.requires.next i.awaits.sound reports
+    c.tick.ensures c.requires.next i.awaits reports
