@@ -1,0 +1,58 @@
+//! How many bytes a node has of its own, by its form and the first of them.
+
+use form_core::{BareForm, NodeForm, need, node_form};
+use registry_core::Primitive;
+use scale_core::Target;
+use std::process::Abort;
+use std::test::Fail;
+use value_core::Form;
+
+/// What it is, a form of nodes with bytes of their own, the first of them, and how many they are.
+type Row = (&'static str, Form, u8, usize);
+
+/// A compact integer's first byte says its mode in two bits: one byte, two, four, or how many follow it. One that is longer
+/// than its target can have is refused by that byte alone. Of a text the length counts.
+const ROWS: [Row; 12] = [
+    ("bool", Form::Primitive(Primitive::Bool), 1, 1),
+    ("char", Form::Primitive(Primitive::Char), 65, 4),
+    ("i16", Form::Primitive(Primitive::I16), 0, 2),
+    ("u256", Form::Primitive(Primitive::U256), 0, 32),
+    ("a text of one byte", Form::Primitive(Primitive::Str), 4, 1),
+    ("arm", Form::Arm, 255, 1),
+    ("compact in one byte", Form::Compact(Target::U8), 252, 1),
+    ("sequence, in two", Form::Sequence, 1, 2),
+    ("run of bytes, in four", Form::Bytes, 2, 4),
+    ("compact of nine", Form::Compact(Target::U64), 19, 9),
+    ("compact of 17", Form::Compact(Target::U128), 51, 17),
+    ("too long a count", Form::Count, 7, 1),
+];
+
+/// The row's form has as many bytes as the row says.
+fn check_row(rt: &impl Abort, row: &Row) -> Result<(), Fail> {
+    let (name, form, first, bytes) = *row;
+    let NodeForm::Bytes(own) = node_form(form) else {
+        return Err(name.into());
+    };
+    assert_eq!(rt; need(own, first), bytes, "{name}");
+    Ok(())
+}
+
+#[test]
+fn a_node_needs_the_bytes_of_its_form(rt: HostRuntime) -> Result<(), Fail> {
+    'rows: for row in &ROWS {
+        check_row(&rt, row)?;
+    }
+    Ok(())
+}
+
+#[test]
+fn other_forms_have_no_bytes_that_are_carried(rt: HostRuntime) {
+    assert!(rt; matches!(node_form(Form::Fields), NodeForm::Bare(BareForm::Fields)));
+    assert!(rt;
+        matches!(
+            node_form(Form::Array(3)),
+            NodeForm::Bare(BareForm::Array(3))
+        )
+    );
+    assert!(rt; matches!(node_form(Form::ByteArray(3)), NodeForm::ByteArray(3)));
+}
