@@ -4,7 +4,8 @@ ghost use Rattle.std.specs.Prelude.{true, ◌≡◌, IfErr, IfOk, Ok};
 ghost use Rattle.value_core.specs.Refusals.{is_whole};
 ghost use Rattle.form_core.specs.NodeForms.{form_of_bytes};
 ghost use Rattle.decode_core.specs.Turned.{Awaits, FeedCounts, FeedReports, RunsOut, TurnsReport};
-ghost use Rattle.decode_core.specs.Turned.{WholeReports, WholeTurnsReport};
+ghost use Rattle.decode_core.specs.Turned.{KeepsTurns, StepReports, WholeReports};
+ghost use Rattle.decode_core.specs.Turned.{WholeTurnsReport};
 
 use crate::run::Run;
 use crate::turned::{Stopped, Turned, Whole};
@@ -125,6 +126,22 @@ impl<'r, A: Allocator> Run<'r, A> {
         (0, self.turn(piece))
     }
 
+    /// A turn of another kind on a node of this form, which is next. Where no byte is left of the piece, a node that has
+    /// some waits.
+    #[inline(always)]
+    fn other_turn(&mut self, form: Form, piece: &[u8]) -> Turned
+        requires { Awaits self.old form }
+        ensures reports { StepReports self.old self.new piece.now result }
+        ensures kept { KeepsTurns self.old self.new result }
+    {
+        if piece.is_empty()
+            && let NodeForm::Bytes(_) = node_form(form)
+        {
+            return Turned::Stopped(Stopped::Wants);
+        }
+        self.form_turn(form, piece)
+    }
+
     /// Takes turns, and counts each: on nodes whose own bytes the piece has whole, and else one of another kind. How many
     /// bytes those before the last one took, and what the last one did.
     #[inline(always)]
@@ -138,7 +155,7 @@ impl<'r, A: Allocator> Run<'r, A> {
         let (before, last) = self.whole_nodes(form, piece, turns);
         match last {
             Whole::Added(count) => (before, Turned::On(count)),
-            Whole::Left => (before, self.form_turn(form, &piece[before..])),
+            Whole::Left => (before, self.other_turn(form, &piece[before..])),
             Whole::OutOfMemory => (before, Turned::OutOfMemory),
         }
     }

@@ -6,8 +6,8 @@ use Rattle.decode_core.proofs.run.Run.take_turns.Goals as goal
 pub returns-in-Left : goal.returns-in-Left
 returns-in-Left g c =
     let w = c.whole_nodes-before in
-    whole_left c.in-Some.form c.args.self.now w.new.self c.form_turn.new.self c.args.piece.now
-    c.args.turns.now.so_far w.new.turns.so_far w.result.0 c.form_turn.result
+    whole_left c.in-Some.form c.args.self.now w.new.self c.other_turn.new.self c.args.piece.now
+    c.args.turns.now.so_far w.new.turns.so_far w.result.0 c.other_turn.result
     (subst (WholeTurnsReport c.in-Some.form c.args.self.now w.new.self c.args.piece.now
     c.args.turns.now.so_far w.new.turns.so_far w.result.0) c.in-Left.is w.ensures)
-    c.form_turn.ensures.reports c.form_turn.ensures.kept
+    c.other_turn.ensures.reports c.other_turn.ensures.kept
