@@ -140,13 +140,11 @@ impl<'r, A: Allocator> Run<'r, A> {
     }
 
     /// A turn on a node without bytes of its own.
-    #[inline(always)]
     fn bare_turn(&mut self, form: BareForm) -> Turned
         requires next { next_of self.old.built.walk ≡ Next.Wants (form_of_bare form) }
         requires closed { self.old.built.run ≡ None }
         ensures reports { BareReports self.old self.new result }
         ensures kept { KeepsTurns self.old self.new result }
-        ensures same { IsOn result ⊎ (self.new ≡ self.old) }
     {
         match add_bare(&mut self.builder, form) {
             Ok(()) => Turned::On(0),
@@ -289,10 +287,9 @@ impl<'r, A: Allocator> Run<'r, A> {
         requires closed { self.old.built.run ≡ None }
         ensures { (piece : List ℕ) → WholeReports self.old self.new piece result }
     {
-        match self.bare_turn(form) {
-            Turned::On(count) => Whole::Added(count),
-            Turned::Stopped(_) => Whole::Left,
-            Turned::OutOfMemory => Whole::OutOfMemory,
+        match add_bare(&mut self.builder, form) {
+            Ok(()) => Whole::Added(0),
+            Err(_) => Whole::OutOfMemory,
         }
     }
 
