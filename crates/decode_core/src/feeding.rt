@@ -126,20 +126,19 @@ impl<'r, A: Allocator> Run<'r, A> {
         (0, self.turn(piece))
     }
 
-    /// A turn of another kind on a node of this form, which is next. Where no byte is left of the piece, a node that has
-    /// some waits.
-    #[inline(always)]
-    fn other_turn(&mut self, form: Form, piece: &[u8]) -> Turned
-        requires { Awaits self.old form }
+    /// A turn of another kind. Where no byte is left of the piece, a node that has some waits.
+    #[inline(never)]
+    fn other_turn(&mut self, piece: &[u8]) -> Turned
         ensures reports { StepReports self.old self.new piece.now result }
         ensures kept { KeepsTurns self.old self.new result }
     {
         if piece.is_empty()
+            && let Some(form) = self.next_form()
             && let NodeForm::Bytes(_) = node_form(form)
         {
             return Turned::Stopped(Stopped::Wants);
         }
-        self.form_turn(form, piece)
+        self.turn(piece)
     }
 
     /// Takes turns, and counts each: on nodes whose own bytes the piece has whole, and else one of another kind. How many
@@ -155,7 +154,7 @@ impl<'r, A: Allocator> Run<'r, A> {
         let (before, last) = self.whole_nodes(form, piece, turns);
         match last {
             Whole::Added(count) => (before, Turned::On(count)),
-            Whole::Left => (before, self.other_turn(form, &piece[before..])),
+            Whole::Left => (before, self.other_turn(&piece[before..])),
             Whole::OutOfMemory => (before, Turned::OutOfMemory),
         }
     }

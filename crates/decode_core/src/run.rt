@@ -383,7 +383,7 @@ impl<'r, A: Allocator> Run<'r, A> {
     }
 
     /// A turn on a node of this form, which is next, where no run is open.
-    pub(crate) fn form_turn(&mut self, form: Form, piece: &[u8]) -> Turned
+    fn form_turn(&mut self, form: Form, piece: &[u8]) -> Turned
         requires next { next_of self.old.built.walk ≡ Next.Wants form }
         requires closed { self.old.built.run ≡ None }
         requires carried { IsCarry self.old.built self.old.carry }

@@ -7,9 +7,9 @@ use Rattle.decode_core.proofs.run.Run.other_turn.Goals as goal
 
 pub returns-clause-reports : goal.returns-clause-reports
 returns-clause-reports g c =
-    let is : form_of_bytes c.in-Bytes.field-0 ≡ c.args.form =
+    let is : form_of_bytes c.in-Bytes.field-0 ≡ c.in-Some.form =
     sym (ap form_of_node c.in-Bytes.is) ∙ c.node_form.ensures in
     let s = c.args.self.now in
-    let wants = wants_more s.built s.carry c.args.form c.requires.sound.carried c.requires.next
-    (subst HasBytes is (have_bytes c.in-Bytes.field-0)) c.requires.closed in
+    let wants = wants_more s.built s.carry c.in-Some.form c.in-Some.ensures.sound.carried c.in-Some.ensures.next
+    (subst HasBytes is (have_bytes c.in-Bytes.field-0)) c.in-Some.ensures.closed in
     (refl, (none_of c.args.piece.now c.if-is_empty.ensures, wants.1))
