@@ -207,7 +207,6 @@ impl<'r, A: Allocator> Run<'r, A> {
     }
 
     /// A turn on a node with bytes of its own, other than a run that is open.
-    #[inline(always)]
     fn own_turn(&mut self, form: BytesForm, piece: &[u8]) -> Turned
         requires next { next_of self.old.built.walk ≡ Next.Wants (form_of_bytes form) }
         requires closed { self.old.built.run ≡ None }
@@ -384,7 +383,6 @@ impl<'r, A: Allocator> Run<'r, A> {
     }
 
     /// A turn on a node of this form, which is next, where no run is open.
-    #[inline(always)]
     fn form_turn(&mut self, form: Form, piece: &[u8]) -> Turned
         requires next { next_of self.old.built.walk ≡ Next.Wants form }
         requires closed { self.old.built.run ≡ None }
