@@ -10,6 +10,7 @@ returns-clause-reports g c =
     let is : form_of_bytes c.in-Bytes.field-0 ≡ c.in-Some.form =
     sym (ap form_of_node c.in-Bytes.is) ∙ c.node_form.ensures in
     let s = c.args.self.now in
-    let wants = wants_more s.built s.carry c.in-Some.form c.in-Some.ensures.sound.carried c.in-Some.ensures.next
-    (subst HasBytes is (have_bytes c.in-Bytes.field-0)) c.in-Some.ensures.closed in
+    let at = c.in-Some.ensures in
+    let wants = wants_more s.built s.carry c.in-Some.form at.sound.carried at.next
+    (subst HasBytes is (have_bytes c.in-Bytes.field-0)) at.closed in
     (refl, (none_of c.args.piece.now c.if-is_empty.ensures, wants.1))
