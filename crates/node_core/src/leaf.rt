@@ -91,7 +91,7 @@ impl<'b> Leaf<'b> {
                 Ok(Content::Bytes { start, len })
             }
             Leaf::Wide(bytes) => {
-                pool.extend_from_slice(bytes)?;
+                put_run(pool, bytes)?;
                 Ok(Content::Wide { start })
             }
             Leaf::Unsigned(x) => match short(x) {

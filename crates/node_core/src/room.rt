@@ -7,8 +7,11 @@ use std::alloc::{AllocError, Allocator};
 /// So many have room at first: a small value asks for its nodes once.
 const FIRST: usize = 16;
 
-/// Makes room for so many more elements of a list, where there is none: for half as many more as it has, or for as many as are
-/// wanted, and for 16 at first.
+/// From so many elements on a list is long.
+const LONG: usize = 64 * 1024;
+
+/// Makes room for so many more elements of a list, where there is none: for half as many more as it has, for a quarter from
+/// 65,536 elements on, or for as many as are wanted, and for 16 at first.
 ///
 /// Refuses want of memory. The list keeps its elements in either case.
 #[inline(always)]
@@ -17,6 +20,8 @@ pub fn make_room<T, A: Allocator>(list: &mut Vec<T, A>, more: usize) -> Result<(
     ensures room { OnOk result (vec_len list.new + more ≤ vec_capacity list.new) }
     ensures half { vec_capacity list.new ≤ max (vec_capacity list.old)
         (vec_len list.old + max more (max FIRST (vec_len list.old / 2))) }
+    ensures quarter { LONG ≤ vec_len list.old → vec_capacity list.new ≤ max (vec_capacity list.old)
+        (vec_len list.old + max more (max FIRST (vec_len list.old / 4))) }
 {
     if more <= list.capacity() - list.len() {
         return Ok(());
@@ -24,8 +29,8 @@ pub fn make_room<T, A: Allocator>(list: &mut Vec<T, A>, more: usize) -> Result<(
     grow(list, more)
 }
 
-/// Room for half as many more as there are, or for as many as are wanted. By doubling a value would keep up to as much
-/// room to spare as it takes.
+/// Room for half as many more as there are, or a quarter of a long list's, or for as many as are wanted. By doubling a value
+/// would keep up to as much room to spare as it takes.
 #[cold]
 #[inline(never)]
 fn grow<T, A: Allocator>(list: &mut Vec<T, A>, more: usize) -> Result<(), AllocError>
@@ -33,7 +38,10 @@ fn grow<T, A: Allocator>(list: &mut Vec<T, A>, more: usize) -> Result<(), AllocE
     ensures room { OnOk result (vec_len list.new + more ≤ vec_capacity list.new) }
     ensures half { vec_capacity list.new ≤ max (vec_capacity list.old)
         (vec_len list.old + max more (max FIRST (vec_len list.old / 2))) }
+    ensures quarter { LONG ≤ vec_len list.old → vec_capacity list.new ≤ max (vec_capacity list.old)
+        (vec_len list.old + max more (max FIRST (vec_len list.old / 4))) }
 {
-    let half = list.len() / 2;
-    list.reserve_exact(more.max(half.max(FIRST)))
+    let len = list.len();
+    let part = if len < LONG { len / 2 } else { len / 4 };
+    list.reserve_exact(more.max(part.max(FIRST)))
 }
