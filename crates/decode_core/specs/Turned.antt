@@ -20,6 +20,8 @@ use Rattle.decode_core.specs.Running.{Running, IsCarry, IsRunNext, state_of, hel
 use Rattle.decode_core.specs.Reported.{reported, after, own_at}
 use Rattle.decode_core.specs.declared.node.NodeFault.{NodeFault}
 use Rattle.decode_core.specs.declared.node.NodeFault.TheVariants as fault
+use Rattle.decode_core.specs.declared.turned.Held.{Held}
+use Rattle.decode_core.specs.declared.turned.Held.TheVariants as held
 use Rattle.decode_core.specs.declared.turned.Stopped.{Stopped}
 use Rattle.decode_core.specs.declared.turned.Stopped.TheVariants as stop
 use Rattle.decode_core.specs.declared.turned.Turned.{Turned}
@@ -139,6 +141,21 @@ abbrev pub WholeReports : Running → Running → List ℕ → Whole → Type 0
 WholeReports old new piece (whole.Added n) = StepReports old new piece (turned.On n)
 WholeReports old new piece whole.Left = new ≡ old
 WholeReports old new piece whole.OutOfMemory = WantsMemory old piece × (new ≡ old)
+
+-- all these bytes are held, and the next node, which is not there yet, lacks more
+pub record HoldsAll (old new : Running) (rest : List ℕ) : Type 0 where
+  pub same : IsSame old new
+  pub state : state_of new.built ≡ state_of old.built
+  pub held : held_of new ≡ held_of old ++ rest
+  pub wants : WantsBytes new
+  pub turns : new.built.turns ≡ old.built.turns
+  pub begun : is_whole old.built ≡ true → ⊥
+
+-- what becomes of the bytes that end a piece
+abbrev pub HoldReports : Running → Running → List ℕ → Held → Type 0
+HoldReports old new rest held.All = HoldsAll old new rest
+HoldReports old new rest held.Left = new ≡ old
+HoldReports old new rest held.OutOfMemory = WantsMemory old rest × (new ≡ old)
 
 -- what holds of every value on its way: a begun tree is built, no more nodes are open than the
 -- depth limit lets in, and what

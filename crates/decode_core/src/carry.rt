@@ -52,7 +52,11 @@ impl Carry {
         ensures held { self.new ≡ self.old ++ take result piece.now }
     {
         let count = (want - self.len).min(piece.len());
-        self.bytes[self.len..self.len + count].copy_from_slice(&piece[..count]);
+        if count == 1 {
+            self.bytes[self.len] = piece[0];
+        } else {
+            self.bytes[self.len..self.len + count].copy_from_slice(&piece[..count]);
+        }
         self.len += count;
         count
     }

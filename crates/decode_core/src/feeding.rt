@@ -8,7 +8,7 @@ ghost use Rattle.decode_core.specs.Turned.{KeepsTurns, StepReports, WholeReports
 ghost use Rattle.decode_core.specs.Turned.{WholeTurnsReport};
 
 use crate::run::Run;
-use crate::turned::{Stopped, Turned, Whole};
+use crate::turned::{Held, Stopped, Turned, Whole};
 use count_core::Count;
 use form_core::{
     BareForm, BytesForm, NodeForm, PrefixedRun, compact_form, node_form, primitive_form,
@@ -175,6 +175,19 @@ impl<'r, A: Allocator> Run<'r, A> {
     {
         let mut at = 0;
         'turns: loop {
+            match self.hold(&piece[at..]) {
+                Held::All => {
+                    turns.tick();
+                    self.is_on_its_way();
+                    return Ok((piece.len(), Stopped::Wants));
+                }
+                Held::OutOfMemory => {
+                    turns.tick();
+                    self.is_on_its_way();
+                    return Err(at);
+                }
+                Held::Left => {}
+            }
             let (before, last) = self.take_turns(&piece[at..], turns);
             at += before;
             match last {

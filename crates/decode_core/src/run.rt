@@ -12,7 +12,7 @@ ghost use Rattle.form_core.specs.Needs.{AreOwn, IsFirst, IsNeeded};
 ghost use Rattle.form_core.specs.NodeForms.{form_of_bare, form_of_bytes, prefixed_kind};
 ghost use Rattle.decode_core.specs.NodeAdds.{TakesNode};
 ghost use Rattle.decode_core.specs.Turned.{BareReports, Awaits, EndReports, IsSound, KeepsTurns};
-ghost use Rattle.decode_core.specs.Turned.{IsOn, PieceReports, StepReports, WholeReports};
+ghost use Rattle.decode_core.specs.Turned.{HoldReports, IsOn, PieceReports, StepReports, WholeReports};
 ghost use Rattle.decode_core.specs.Turned.{node_turned};
 
 use crate::carry::Carry;
@@ -20,13 +20,16 @@ use crate::fault::DecodeReason;
 use crate::node::{
     NodeFault, add_arm, add_bare, add_byte_array, add_plain, add_sequence, start_run, whole_run,
 };
-use crate::turned::{Stopped, Turned, Whole};
+use crate::turned::{Held, Stopped, Turned, Whole};
 use count_core::Count;
 use form_core::{BareForm, BytesForm, NodeForm, PrefixedRun, need, node_form};
 use scale_core::compact_len;
 use std::alloc::Allocator;
 use std::marker::Model;
 use value_core::{Builder, Form, Next, RunKind, Value};
+
+/// The most bytes that a node has of its own, where these are few.
+const MOST_OWN: usize = 32;
 
 /// A text or a run of bytes that is open: how many bytes it is to have, and how many of them are missing.
 #[derive(Clone, Copy)]
@@ -431,5 +434,76 @@ impl<'r, A: Allocator> Run<'r, A> {
             Next::Wants(form) => Some(form),
             _ => None,
         }
+    }
+
+    /// Holds the bytes that end a piece, where the run that is open lacks more.
+    #[inline(always)]
+    fn hold_run(&mut self, run: OpenRun, rest: &[u8]) -> Held
+        requires next { IsRunNext self.old.built self.old.carry self.old.built.run }
+        requires open { IsKeptRun self.old.built.run (Some run) }
+        ensures { HoldReports self.old self.new rest.now result }
+    {
+        if run.missing as usize <= rest.len() {
+            return Held::Left;
+        }
+        if rest.is_empty() {
+            return Held::All;
+        }
+        match self.builder.extend_run(rest) {
+            Ok(()) => {
+                self.open_run = Some(OpenRun {
+                    len: run.len,
+                    missing: run.missing - rest.len() as u32,
+                });
+                Held::All
+            }
+            Err(_) => Held::OutOfMemory,
+        }
+    }
+
+    /// Holds the bytes that end a piece, where the next node, which has few of its own, lacks more.
+    #[inline(always)]
+    fn hold_own(&mut self, form: BytesForm, rest: &[u8]) -> Held
+        requires next { next_of self.old.built.walk ≡ Next.Wants (form_of_bytes form) }
+        requires closed { self.old.built.run ≡ None }
+        requires carried { IsCarry self.old.built self.old.carry }
+        ensures { HoldReports self.old self.new rest.now result }
+    {
+        if rest.is_empty() {
+            return Held::All;
+        }
+        let len = need(form, self.first_byte(rest));
+        if len <= self.carry.as_slice().len() + rest.len() {
+            return Held::Left;
+        }
+        self.carry.fill(len, rest);
+        Held::All
+    }
+
+    /// Holds the bytes that end a piece, where they are few and the next node lacks more.
+    #[inline(always)]
+    pub(crate) fn hold(&mut self, rest: &[u8]) -> Held
+        ensures { HoldReports self.old self.new rest.now result }
+    {
+        if MOST_OWN <= rest.len() {
+            return Held::Left;
+        }
+        if let Some(run) = self.open_run {
+            return self.hold_run(run, rest);
+        }
+        if let Some(form) = self.next_form()
+            && let NodeForm::Bytes(own) = node_form(form)
+        {
+            return self.hold_own(own, rest);
+        }
+        Held::Left
+    }
+
+    /// Takes no step: it says what holds of every value on its way.
+    #[inline(always)]
+    pub(crate) fn is_on_its_way(&self)
+        ensures { IsSound self.now }
+    {
+        let _walk = self.builder.walk();
     }
 }

@@ -16,19 +16,21 @@ use Rattle.decode_core.specs.declared.turned.Turned.{Turned}
 use Rattle.decode_core.specs.declared.turned.Whole.{Whole}
 use Rattle.decode_core.specs.declared.turned.Whole.TheVariants as whole
 use Rattle.decode_core.specs.declared.turned.Turned.TheVariants as turned
-use Rattle.decode_core.proofs.steps.Moving.{awaits_goes_on, drop_more, grows_by, moves_on}
+use Rattle.decode_core.proofs.steps.Moving.{drop_more, grows_by, moves_on}
 use Rattle.decode_core.proofs.steps.Moving.{one_or_bytes, stays_whole, step_nearer, turns_on}
-use Rattle.decode_core.proofs.steps.Moving.{turns_stop}
+use Rattle.decode_core.proofs.steps.Moving.{turns_stop, wants_goes_on}
 
 -- what the turns of a call report of what is left of a piece, which it was lent as a slice, where
--- their last one is known
-pub reported_of : (b d : Running) (piece : List ℕ) (at from to n : ℕ)
-    (last is : Turned) → last ≡ is →
-    TurnsReport b d (take (length piece - at) (drop at piece)) from to n last →
+-- their last one is known, and nothing changed before them
+pub reported_of : (b same d : Running) (piece : List ℕ) (at from to n : ℕ)
+    (last is : Turned) → last ≡ is → same ≡ b →
+    TurnsReport same d (take (length piece - at) (drop at piece)) from to n last →
     TurnsReport b d (drop at piece) from to n is
-reported_of b d piece at from to n last is e k =
+reported_of b same d piece at from to n last is e left k =
     subst (λ (t : Turned). TurnsReport b d (drop at piece) from to n t) e
-    (subst (λ (l : List ℕ). TurnsReport b d l from to n last) (take_rest piece at) k)
+    (subst (λ (l : List ℕ). TurnsReport b d l from to n last) (take_rest piece at)
+    (subst (λ (s : Running). TurnsReport s d (take (length piece - at) (drop at piece)) from to n
+    last) left k))
 
 -- a turn on a node that the piece may have whole, after others of the same call
 pub whole_more : (a b d : Running) (f : Form) (piece : List ℕ) (at start from to : ℕ)
@@ -49,7 +51,7 @@ whole_more a b d f piece at start from to last le h near each few is first await
       awaits = awaits;
       reports =
           subst (λ (l : List ℕ). WholeReports b d l last) (take_rest piece at) reports;
-      begun = λ w. awaits_goes_on a f first w;
+      begun = λ w. wants_goes_on a f first.next w;
     }
 
 -- where the last of such turns changed nothing, a turn of another kind is in its place

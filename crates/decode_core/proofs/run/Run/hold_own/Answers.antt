@@ -1,0 +1,38 @@
+use Rattle.std.proofs.Common.{◌≡◌, ◌+◌, ◌++◌, ◌<◌, ap, arith, length, subst, sym}
+use Rattle.form_core.specs.Needs.{IsFirst}
+use Rattle.form_core.specs.NodeForms.{form_of_bytes}
+use Rattle.decode_core.specs.Running.{Running, IsCarry}
+use Rattle.decode_core.specs.Turned.{HoldsAll}
+use Rattle.decode_core.proofs.steps.FormSplits.{have_bytes}
+use Rattle.decode_core.proofs.steps.RunTurns.{at_node, none_of, of_fields}
+use Rattle.decode_core.proofs.steps.Waiting.{all_filled, longer_carry, none_held, own_held}
+use Rattle.decode_core.proofs.run.Run.hold_own.Goals as goal
+
+pub returns-then-is_empty : goal.returns-then-is_empty
+returns-then-is_empty g c =
+    let s = c.args.self.now in
+    none_held (form_of_bytes c.args.form) s.built s.carry c.args.rest.now c.requires.next
+    (have_bytes c.args.form) c.requires.closed c.requires.carried
+    (none_of c.args.rest.now c.if-is_empty.ensures)
+
+pub returns : goal.returns
+returns g c =
+    let f = form_of_bytes c.args.form in
+    let b = c.self.inside.builder in
+    let k = c.self.inside.carry in
+    let rest = c.args.rest.now in
+    let len = c.need-len.result in
+    let carried = c.fill.new.self in
+    let at = at_node f c.self.view_is c.requires.next c.requires.closed in
+    let few : length k + length rest < len =
+    omega (arith, c.if-len-as_slice.false, ap length c.as_slice.ensures.bytes) in
+    let first : IsFirst c.first_byte.result (k ++ rest) =
+    subst (λ (s : Running). IsFirst c.first_byte.result (s.carry ++ rest)) (sym c.self.view_is)
+    c.first_byte.ensures in
+    let is : carried ≡ k ++ rest = all_filled k rest carried len c.fill.result few
+    c.fill.ensures.count c.fill.ensures.held in
+    let short : IsCarry b carried = subst (IsCarry b) (sym is)
+    (longer_carry f b k rest len at.wants (have_bytes c.args.form) at.closed
+    (c.first_byte.result, first, c.need-len.ensures.exact) few) in
+    subst (λ (s : Running). HoldsAll s (of_fields b carried) rest) c.self.view_is
+    (own_held f b k rest carried at.wants (have_bytes c.args.form) at.closed is short)
