@@ -126,21 +126,6 @@ impl<'r, A: Allocator> Run<'r, A> {
         (0, self.turn(piece))
     }
 
-    /// A turn of another kind. Where no byte is left of the piece, a node that has some waits.
-    #[inline(never)]
-    fn other_turn(&mut self, piece: &[u8]) -> Turned
-        ensures reports { StepReports self.old self.new piece.now result }
-        ensures kept { KeepsTurns self.old self.new result }
-    {
-        if piece.is_empty()
-            && let Some(form) = self.next_form()
-            && let NodeForm::Bytes(_) = node_form(form)
-        {
-            return Turned::Stopped(Stopped::Wants);
-        }
-        self.turn(piece)
-    }
-
     /// Takes turns, and counts each: on nodes whose own bytes the piece has whole, and else one of another kind. How many
     /// bytes those before the last one took, and what the last one did.
     #[inline(always)]
@@ -151,16 +136,45 @@ impl<'r, A: Allocator> Run<'r, A> {
         let Some(form) = self.next_form() else {
             return self.one_turn(piece, turns);
         };
+        if (piece.is_empty() || self.is_carrying())
+            && let NodeForm::Bytes(own) = node_form(form)
+        {
+            turns.tick();
+            return (0, self.own_turn(own, piece));
+        }
         let (before, last) = self.whole_nodes(form, piece, turns);
         match last {
             Whole::Added(count) => (before, Turned::On(count)),
-            Whole::Left => (before, self.other_turn(&piece[before..])),
+            Whole::Left => (before, self.turn(&piece[before..])),
             Whole::OutOfMemory => (before, Turned::OutOfMemory),
         }
     }
 
     /// Takes turns until one stops, and counts each: how many bytes of the piece they took, and why they stopped; where
     /// memory was refused, the bytes alone. The turns that close nodes are the builder's own, and counted there.
+    #[inline(never)]
+    fn feed_turns(&mut self, piece: &[u8], turns: &mut Count) -> Result<(usize, Stopped), usize>
+        ensures reports { IfOk result (λ x. FeedReports self.old self.new piece.now x.0 x.1) }
+        ensures short { IfErr result (λ n. RunsOut self.old piece.now n) }
+        ensures whole { is_whole self.old.built ≡ true → (result ≡ Ok (0, Stopped.Finished))
+            × (self.new ≡ self.old) }
+        ensures counts { FeedCounts self.old self.new piece.now turns.old.so_far
+            turns.new.so_far result }
+    {
+        let mut at = 0;
+        'turns: loop {
+            let (before, last) = self.take_turns(&piece[at..], turns);
+            at += before;
+            match last {
+                Turned::On(count) => at += count,
+                Turned::Stopped(stopped) => return Ok((at, stopped)),
+                Turned::OutOfMemory => return Err(at),
+            }
+        }
+    }
+
+    /// Takes turns until one stops, as above, where the piece isn't held whole in one.
+    #[inline(always)]
     pub(crate) fn feed(
         &mut self,
         piece: &[u8],
@@ -173,28 +187,18 @@ impl<'r, A: Allocator> Run<'r, A> {
         ensures counts { FeedCounts self.old self.new piece.now turns.old.so_far
             turns.new.so_far result }
     {
-        let mut at = 0;
-        'turns: loop {
-            match self.hold(&piece[at..]) {
-                Held::All => {
-                    turns.tick();
-                    self.is_on_its_way();
-                    return Ok((piece.len(), Stopped::Wants));
-                }
-                Held::OutOfMemory => {
-                    turns.tick();
-                    self.is_on_its_way();
-                    return Err(at);
-                }
-                Held::Left => {}
+        match self.hold(piece) {
+            Held::All => {
+                turns.tick();
+                self.is_on_its_way();
+                Ok((piece.len(), Stopped::Wants))
             }
-            let (before, last) = self.take_turns(&piece[at..], turns);
-            at += before;
-            match last {
-                Turned::On(count) => at += count,
-                Turned::Stopped(stopped) => return Ok((at, stopped)),
-                Turned::OutOfMemory => return Err(at),
+            Held::OutOfMemory => {
+                turns.tick();
+                self.is_on_its_way();
+                Err(0)
             }
+            Held::Left => self.feed_turns(piece, turns),
         }
     }
 }

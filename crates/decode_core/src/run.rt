@@ -1,7 +1,7 @@
 //! A decoder on its way: it takes its input turn by turn.
 
 ghost use Rattle.std.specs.Prelude.{ℕ, List, true, ◌≡◌, ◌⊎◌, ◌<◌, ◌≤◌, ◌+◌, ◌++◌, [], length};
-ghost use Rattle.std.specs.Prelude.{take, drop, None, Some, suc, IfSome, IfErr, IfOk, Ok, OnOk};
+ghost use Rattle.std.specs.Prelude.{false, take, drop, None, Some, suc, IfSome, IfErr, IfOk, Ok, OnOk};
 ghost use Rattle.std.specs.Prelude.{OnErr};
 ghost use Rattle.decode_core.specs.Running.{IsCarry, IsFresh, IsKeptRun, IsRunNext};
 ghost use Rattle.grammar_core.specs.Runs.{run_form};
@@ -210,7 +210,8 @@ impl<'r, A: Allocator> Run<'r, A> {
     }
 
     /// A turn on a node with bytes of its own, other than a run that is open.
-    fn own_turn(&mut self, form: BytesForm, piece: &[u8]) -> Turned
+    #[inline(always)]
+    pub(crate) fn own_turn(&mut self, form: BytesForm, piece: &[u8]) -> Turned
         requires next { next_of self.old.built.walk ≡ Next.Wants (form_of_bytes form) }
         requires closed { self.old.built.run ≡ None }
         requires carried { IsCarry self.old.built self.old.carry }
@@ -441,13 +442,11 @@ impl<'r, A: Allocator> Run<'r, A> {
     fn hold_run(&mut self, run: OpenRun, rest: &[u8]) -> Held
         requires next { IsRunNext self.old.built self.old.carry self.old.built.run }
         requires open { IsKeptRun self.old.built.run (Some run) }
+        requires some { 1 ≤ length rest.now }
         ensures { HoldReports self.old self.new rest.now result }
     {
         if run.missing as usize <= rest.len() {
             return Held::Left;
-        }
-        if rest.is_empty() {
-            return Held::All;
         }
         match self.builder.extend_run(rest) {
             Ok(()) => {
@@ -466,12 +465,9 @@ impl<'r, A: Allocator> Run<'r, A> {
     fn hold_own(&mut self, form: BytesForm, rest: &[u8]) -> Held
         requires next { next_of self.old.built.walk ≡ Next.Wants (form_of_bytes form) }
         requires closed { self.old.built.run ≡ None }
-        requires carried { IsCarry self.old.built self.old.carry }
+        requires some { 1 ≤ length rest.now }
         ensures { HoldReports self.old self.new rest.now result }
     {
-        if rest.is_empty() {
-            return Held::All;
-        }
         let len = need(form, self.first_byte(rest));
         if len <= self.carry.as_slice().len() + rest.len() {
             return Held::Left;
@@ -485,7 +481,7 @@ impl<'r, A: Allocator> Run<'r, A> {
     pub(crate) fn hold(&mut self, rest: &[u8]) -> Held
         ensures { HoldReports self.old self.new rest.now result }
     {
-        if MOST_OWN <= rest.len() {
+        if rest.is_empty() || MOST_OWN <= rest.len() {
             return Held::Left;
         }
         if let Some(run) = self.open_run {
@@ -497,6 +493,14 @@ impl<'r, A: Allocator> Run<'r, A> {
             return self.hold_own(own, rest);
         }
         Held::Left
+    }
+
+    /// Are bytes carried?
+    #[inline(always)]
+    pub(crate) fn is_carrying(&self) -> bool
+        ensures { result ≡ false → self.now.carry ≡ [] }
+    {
+        !self.carry.as_slice().is_empty()
     }
 
     /// Takes no step: it says what holds of every value on its way.

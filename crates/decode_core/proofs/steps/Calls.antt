@@ -16,21 +16,35 @@ use Rattle.decode_core.specs.declared.turned.Turned.{Turned}
 use Rattle.decode_core.specs.declared.turned.Whole.{Whole}
 use Rattle.decode_core.specs.declared.turned.Whole.TheVariants as whole
 use Rattle.decode_core.specs.declared.turned.Turned.TheVariants as turned
-use Rattle.decode_core.proofs.steps.Moving.{drop_more, grows_by, moves_on}
+use Rattle.decode_core.proofs.steps.Moving.{drop_more, grows_by, moves_none, moves_on}
 use Rattle.decode_core.proofs.steps.Moving.{one_or_bytes, stays_whole, step_nearer, turns_on}
 use Rattle.decode_core.proofs.steps.Moving.{turns_stop, wants_goes_on}
 
 -- what the turns of a call report of what is left of a piece, which it was lent as a slice, where
--- their last one is known, and nothing changed before them
-pub reported_of : (b same d : Running) (piece : List ℕ) (at from to n : ℕ)
-    (last is : Turned) → last ≡ is → same ≡ b →
-    TurnsReport same d (take (length piece - at) (drop at piece)) from to n last →
+-- their last one is known
+pub reported_of : (b d : Running) (piece : List ℕ) (at from to n : ℕ)
+    (last is : Turned) → last ≡ is →
+    TurnsReport b d (take (length piece - at) (drop at piece)) from to n last →
     TurnsReport b d (drop at piece) from to n is
-reported_of b same d piece at from to n last is e left k =
+reported_of b d piece at from to n last is e k =
     subst (λ (t : Turned). TurnsReport b d (drop at piece) from to n t) e
-    (subst (λ (l : List ℕ). TurnsReport b d l from to n last) (take_rest piece at)
-    (subst (λ (s : Running). TurnsReport s d (take (length piece - at) (drop at piece)) from to n
-    last) left k))
+    (subst (λ (l : List ℕ). TurnsReport b d l from to n last) (take_rest piece at) k)
+
+-- one turn where a node of this form is next
+pub one_report : (f : Form) (a d : Running) (piece : List ℕ) (from to : ℕ) (last : Turned) →
+    Awaits a f → to ≡ from + 1 → StepReports a d piece last → KeepsTurns a d last →
+    TurnsReport a d piece from to 0 last
+one_report f a d piece from to last awaits is reports kept = record {
+  before = a;
+  within = omega arith;
+  moves = moves_none a;
+  nearer = omega arith;
+  few = (omega (arith, is), omega (arith, is));
+  sound = awaits.sound;
+  reports = reports;
+  kept = kept;
+  whole = λ w. wants_goes_on a f awaits.next w;
+}
 
 -- a turn on a node that the piece may have whole, after others of the same call
 pub whole_more : (a b d : Running) (f : Form) (piece : List ℕ) (at start from to : ℕ)

@@ -1,26 +1,23 @@
 -- The bytes that end a piece are held where the next node lacks more.
-use Rattle.std.proofs.Common.{◌≡◌, ℕ, ◌+◌, ◌-◌, ◌<◌, ◌≤◌, List, [], ◌∷◌, ◌++◌, length, take, drop}
-use Rattle.std.proofs.Common.{min, Some, None, refl, sym, ap, subst, ◌∙◌, append_assoc, arith}
-use Rattle.std.proofs.Common.{length-append, length-drop}
-use Rattle.std.specs.Prelude.{true}
-use Rattle.std.proofs.lemmas.List.{append-nil, take_all, take_rest, take-append-drop}
+use Rattle.std.proofs.Common.{◌≡◌, ℕ, ◌+◌, ◌-◌, ◌<◌, ◌≤◌, List, ◌∷◌, ◌++◌, length, take}
+use Rattle.std.proofs.Common.{min, None, refl, sym, ap, subst, ◌∙◌, append_assoc, arith}
+use Rattle.std.proofs.Common.{length-append}
+use Rattle.std.proofs.lemmas.List.{take_all}
 use Rattle.std.proofs.Math.Seq.{drop-length, take-length}
 use Rattle.grammar_core.specs.Runs.{run_front}
 use Rattle.grammar_core.specs.declared.form.Form.{Form}
 use Rattle.grammar_core.specs.declared.form.Next.TheVariants as next
-use Rattle.value_core.specs.Built.{Built, Pieces, with_piece}
-use Rattle.value_core.specs.Refusals.{is_whole}
+use Rattle.value_core.specs.Built.{Built, with_piece}
 use Rattle.value_core.specs.Walked.{next_of}
 use Rattle.form_core.specs.Needs.{HasBytes, IsNeeded}
 use Rattle.decode_core.specs.Machine.{State}
-use Rattle.decode_core.specs.Running.{Running, IsCarry, held_of, state_of}
-use Rattle.decode_core.specs.Turned.{FeedReports, FewTurns, HoldReports, HoldsAll, IsSound, Moves}
+use Rattle.decode_core.specs.Running.{Running, IsCarry, held_of}
+use Rattle.decode_core.specs.Turned.{FeedReports, FewTurns, HoldsAll, IsSound, Moves}
 use Rattle.decode_core.specs.Turned.{RunsOut, StopsShort, WantsMemory}
 use Rattle.decode_core.specs.declared.run.OpenRun.{OpenRun}
-use Rattle.decode_core.specs.declared.turned.Held.{Held}
 use Rattle.decode_core.specs.declared.turned.Stopped.TheVariants as stop
-use Rattle.decode_core.proofs.steps.Moving.{held_moves, moves_on, stays_whole, wants_goes_on}
-use Rattle.decode_core.proofs.steps.RunSteps.{IsRunOpen, held_open, own_of, run_waits}
+use Rattle.decode_core.proofs.steps.Moving.{held_moves, moves_none, wants_goes_on}
+use Rattle.decode_core.proofs.steps.RunSteps.{IsRunOpen, held_open, run_waits}
 use Rattle.decode_core.proofs.steps.RunTurns.{of_fields, wants_more}
 use Rattle.decode_core.proofs.steps.Steps.{held_closed}
 
@@ -57,14 +54,6 @@ own_held f b c rest carried wants some closed is h = record {
   turns = refl;
   begun = λ w. wants_goes_on (of_fields b c) f wants w;
 }
-
--- where no byte is there, none is held
-pub none_held : (f : Form) (b : Built) (c rest : List ℕ) → next_of b.walk ≡ next.Wants f →
-    HasBytes f → b.run ≡ None → IsCarry b c → rest ≡ [] →
-    HoldsAll (of_fields b c) (of_fields b c) rest
-none_held f b c rest wants some closed h none =
-    own_held f b c rest c wants some closed
-    (sym (append-nil c) ∙ ap (λ (l : List ℕ). c ++ l) (sym none)) h
 
 -- ---- a run that is open
 
@@ -110,89 +99,42 @@ run_held_on b new c o rest n few is =
       begun = λ w. wants_goes_on (of_fields b c) _ n.wants w;
     })
 
--- where no byte is there, it waits
-pub run_held_none : (b : Built) (c : List ℕ) (o : OpenRun) (rest : List ℕ) → IsRunOpen b c o →
-    length rest < o.missing → rest ≡ [] → HoldsAll (of_fields b c) (of_fields b c) rest
-run_held_none b c o rest n few none =
-    record {
-      same = record { types = refl; limit = refl; ty = refl };
-      state = refl;
-      held = sym (append-nil (held_of (of_fields b c)))
-          ∙ ap (λ (l : List ℕ). held_of (of_fields b c) ++ l) (sym none);
-      wants = run_waits b c o n (omega (arith, few));
-      turns = refl;
-      begun = λ w. wants_goes_on (of_fields b c) _ n.wants w;
-    }
+-- ---- a call that holds its piece
 
--- ---- after the turns so far
-
--- what becomes of what is left of a piece, which was lent as a slice
-pub rest_held : (b d : Running) (piece : List ℕ) (at : ℕ) (held : Held) →
-    HoldReports b d (take (length piece - at) (drop at piece)) held →
-    HoldReports b d (drop at piece) held
-rest_held b d piece at held h =
-    subst (λ (l : List ℕ). HoldReports b d l held) (take_rest piece at) h
-
--- to hold all that is left of a piece is a move by it
-held_moves_on : (a b d : Running) (piece : List ℕ) (at : ℕ) → Moves a b (take at piece) →
-    HoldsAll b d (drop at piece) → Moves a d piece
-held_moves_on a b d piece at moves h =
-    subst (Moves a d) (take-append-drop at piece)
-    (moves_on a b d (take at piece) (drop at piece) moves
-    (held_moves b d (drop at piece) h.same h.state h.held))
-
--- it is what the turns end with
-pub held_stops : (a b d : Running) (piece : List ℕ) (at : ℕ) → Moves a b (take at piece) →
-    HoldsAll b d (drop at piece) → IsSound d → FeedReports a d piece (length piece) stop.Wants
-held_stops a b d piece at moves h sound = (
+-- it ends with that
+pub held_stops : (a d : Running) (piece : List ℕ) → HoldsAll a d piece → IsSound d →
+    FeedReports a d piece (length piece) stop.Wants
+held_stops a d piece h sound = (
   omega arith,
   (
     d,
-    subst (Moves a d) (sym (take-length piece)) (held_moves_on a b d piece at moves h),
+    subst (Moves a d) (sym (take-length piece)) (held_moves a d piece h.same h.state h.held),
     (drop-length piece, h.wants),
     refl,
     sound,
   ),
 )
 
--- it is one turn
-pub held_counts : (a b d : Running) (piece : List ℕ) (at start from to : ℕ) → at ≤ length piece →
-    start + length b.built.entries ≤ from + length a.built.entries →
-    from + length a.built.entries ≤ start + at + length b.built.entries → to ≡ from + 1 →
-    HoldsAll b d (drop at piece) → FewTurns a d (length piece) start to
-held_counts a b d piece at start from to le each few is h =
-    let same : length d.built.entries ≡ length b.built.entries =
+-- in one turn
+pub held_counts : (a d : Running) (piece : List ℕ) (from to : ℕ) → to ≡ from + 1 →
+    HoldsAll a d piece → FewTurns a d (length piece) from to
+held_counts a d piece from to is h =
+    let same : length d.built.entries ≡ length a.built.entries =
     ap (λ (s : State). length s.nodes) h.state in
-    (omega (arith, each, is, same), omega (arith, few, is, same, le))
+    (omega (arith, is, same), omega (arith, is, same))
 
--- memory is wanted for them
-pub held_runs_out : (a b : Running) (piece : List ℕ) (at : ℕ) → at ≤ length piece →
-    Moves a b (take at piece) → WantsMemory b (drop at piece) → RunsOut a piece at
-held_runs_out a b piece at le moves wants = (le, (b, moves, wants))
+-- memory is wanted for its bytes
+pub held_runs_out : (a : Running) (piece : List ℕ) → WantsMemory a piece → RunsOut a piece 0
+held_runs_out a piece wants = (omega arith, (a, moves_none a, wants))
 
--- it is one turn too
-pub held_counts_short : (a b d : Running) (piece : List ℕ) (at start from to : ℕ) →
-    at ≤ length piece → Moves a b (take at piece) →
-    start + length b.built.entries ≤ from + length a.built.entries →
-    from + length a.built.entries ≤ start + at + length b.built.entries → to ≡ from + 1 →
-    d ≡ b → IsSound d → StopsShort a d piece at start to
-held_counts_short a b d piece at start from to le moves each few is same sound = record {
-  within = le;
-  last = b;
-  moves = moves;
-  few = (omega (arith, each, is), omega (arith, few, is));
+-- that is one turn too
+pub held_counts_short : (a d : Running) (piece : List ℕ) (from to : ℕ) → to ≡ from + 1 → d ≡ a →
+    IsSound d → StopsShort a d piece 0 from to
+held_counts_short a d piece from to is same sound = record {
+  within = omega arith;
+  last = a;
+  moves = moves_none a;
+  few = (omega (arith, is), omega (arith, is));
   sound = subst IsSound same sound;
   closed = ap (λ (s : Running). s.built.turns) same;
 }
-
--- no value that was whole at the start of a call waits
-pub whole_waits : {X : Type 0} (a b d : Running) (rest : List ℕ) (at : ℕ) →
-    (is_whole a.built ≡ true → (at ≡ 0) × (b ≡ a)) → HoldsAll b d rest →
-    is_whole a.built ≡ true → X
-whole_waits a b d rest at k h w = absurd (h.begun (stays_whole a b at k w))
-
--- nor wants it memory
-pub whole_wants : {X : Type 0} (a b : Running) (rest : List ℕ) (at : ℕ) →
-    (is_whole a.built ≡ true → (at ≡ 0) × (b ≡ a)) → WantsMemory b rest →
-    is_whole a.built ≡ true → X
-whole_wants a b rest at k m w = wants_goes_on b m.form m.next (stays_whole a b at k w)

@@ -4,16 +4,9 @@ use Rattle.form_core.specs.NodeForms.{form_of_bytes}
 use Rattle.decode_core.specs.Running.{Running, IsCarry}
 use Rattle.decode_core.specs.Turned.{HoldsAll}
 use Rattle.decode_core.proofs.steps.FormSplits.{have_bytes}
-use Rattle.decode_core.proofs.steps.RunTurns.{at_node, none_of, of_fields}
-use Rattle.decode_core.proofs.steps.Waiting.{all_filled, longer_carry, none_held, own_held}
+use Rattle.decode_core.proofs.steps.RunTurns.{at_node, of_fields}
+use Rattle.decode_core.proofs.steps.Waiting.{all_filled, longer_carry, own_held}
 use Rattle.decode_core.proofs.run.Run.hold_own.Goals as goal
-
-pub returns-then-is_empty : goal.returns-then-is_empty
-returns-then-is_empty g c =
-    let s = c.args.self.now in
-    none_held (form_of_bytes c.args.form) s.built s.carry c.args.rest.now c.requires.next
-    (have_bytes c.args.form) c.requires.closed c.requires.carried
-    (none_of c.args.rest.now c.if-is_empty.ensures)
 
 pub returns : goal.returns
 returns g c =

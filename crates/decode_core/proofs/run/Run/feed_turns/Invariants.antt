@@ -1,7 +1,7 @@
 use Rattle.std.proofs.Common.{◌≡◌, ◌+◌, ◌≤◌, length, take, drop, true}
 use Rattle.value_core.specs.Refusals.{is_whole}
 use Rattle.decode_core.specs.Turned.{Moves, left_to_do}
-use Rattle.decode_core.proofs.run.Run.feed.Given as goal
+use Rattle.decode_core.proofs.run.Run.feed_turns.Given as goal
 
 abbrev pub invariant-turns : goal.invariant-turns
 invariant-turns g l = record {
