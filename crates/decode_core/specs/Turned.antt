@@ -230,17 +230,17 @@ pub record TurnsReport (old new : Running) (piece : List ℕ) (from to n : ℕ) 
   pub whole : is_whole old.built ≡ true →
       (n ≡ 0) × (before ≡ old) × (last ≡ turned.Stopped stop.Finished)
 
--- the same of turns on nodes of this form whose own bytes a piece may have whole
-pub record WholeTurnsReport (f : Form) (old new : Running) (piece : List ℕ) (from to n : ℕ)
-    (last : Whole) : Type 0 where
+-- the same of turns on nodes whose own bytes a piece may have whole
+pub record WholeTurnsReport (old new : Running) (piece : List ℕ) (from to n : ℕ) (last : Whole)
+    : Type 0 where
   pub before : Running
   pub within : n ≤ length piece
   pub moves : Moves old before (take n piece)
   pub nearer : left_to_do before (drop n piece) ≤ left_to_do old piece
   pub few : FewTurns old before n from to
-  pub awaits : Awaits before f
+  pub sound : IsSound before
   pub reports : WholeReports before new (drop n piece) last
-  pub begun : is_whole old.built ≡ true → ⊥
+  pub whole : is_whole old.built ≡ true → (n ≡ 0) × (before ≡ old) × (last ≡ whole.Left)
 
 -- a turn that needs no bytes
 abbrev pub BareReports : Running → Running → Turned → Type 0

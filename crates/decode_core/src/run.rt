@@ -13,7 +13,7 @@ ghost use Rattle.form_core.specs.NodeForms.{form_of_bare, form_of_bytes, prefixe
 ghost use Rattle.decode_core.specs.NodeAdds.{TakesNode};
 ghost use Rattle.decode_core.specs.Turned.{BareReports, Awaits, EndReports, IsSound, KeepsTurns};
 ghost use Rattle.decode_core.specs.Turned.{HoldReports, IsOn, PieceReports, StepReports, WholeReports};
-ghost use Rattle.decode_core.specs.Turned.{node_turned};
+ghost use Rattle.decode_core.specs.Turned.{WantsBytes, node_turned};
 
 use crate::carry::Carry;
 use crate::fault::DecodeReason;
@@ -183,7 +183,7 @@ impl<'r, A: Allocator> Run<'r, A> {
 
     /// A turn on a node of `len` own bytes that pieces cut: those that are carried, and as many of the piece's as are
     /// missing or there.
-    #[inline(never)]
+    #[inline(always)]
     fn cut_turn(&mut self, form: BytesForm, len: usize, piece: &[u8]) -> Turned
         requires next { next_of self.old.built.walk ≡ Next.Wants (form_of_bytes form) }
         requires closed { self.old.built.run ≡ None }
@@ -211,7 +211,7 @@ impl<'r, A: Allocator> Run<'r, A> {
 
     /// A turn on a node with bytes of its own, other than a run that is open.
     #[inline(always)]
-    pub(crate) fn own_turn(&mut self, form: BytesForm, piece: &[u8]) -> Turned
+    fn own_turn(&mut self, form: BytesForm, piece: &[u8]) -> Turned
         requires next { next_of self.old.built.walk ≡ Next.Wants (form_of_bytes form) }
         requires closed { self.old.built.run ≡ None }
         requires carried { IsCarry self.old.built self.old.carry }
@@ -402,6 +402,7 @@ impl<'r, A: Allocator> Run<'r, A> {
     }
 
     /// One turn: takes bytes of the piece, adds a node, or stops.
+    #[inline(never)]
     pub(crate) fn turn(&mut self, piece: &[u8]) -> Turned
         ensures reports { StepReports self.old self.new piece.now result }
         ensures kept { KeepsTurns self.old self.new result }
@@ -501,6 +502,19 @@ impl<'r, A: Allocator> Run<'r, A> {
         ensures { result ≡ false → self.now.carry ≡ [] }
     {
         !self.carry.as_slice().is_empty()
+    }
+
+    /// Does the next node, of which no run is open, have bytes of its own? It waits for one where no byte is left.
+    pub(crate) fn wants(&self) -> bool
+        ensures wants { result ≡ true → WantsBytes self.now }
+        ensures sound { result ≡ true → IsSound self.now }
+    {
+        if let Some(form) = self.next_form()
+            && let NodeForm::Bytes(_) = node_form(form)
+        {
+            return true;
+        }
+        false
     }
 
     /// Takes no step: it says what holds of every value on its way.

@@ -1,15 +1,15 @@
 -- What the turns of a call add to those before it.
-use Rattle.std.proofs.Common.{◌≡◌, ℕ, ◌+◌, ◌-◌, ◌<◌, ◌≤◌, List, length, take, drop, sym}
+use Rattle.std.proofs.Common.{◌≡◌, ℕ, ◌+◌, ◌-◌, ◌<◌, ◌≤◌, List, length, take, drop, refl, sym, ◌∙◌}
 use Rattle.std.proofs.Common.{ap, subst, arith, inl, inr, length-drop}
-use Rattle.std.proofs.lemmas.List.{length-take, take_rest}
+use Rattle.std.proofs.lemmas.List.{drop_all, length-take, take_rest}
 use Rattle.std.proofs.Math.Seq.{take-add}
 use Rattle.std.specs.Prelude.{true}
 use Rattle.grammar_core.specs.declared.form.Form.{Form}
 use Rattle.value_core.specs.Refusals.{is_whole}
 use Rattle.decode_core.specs.Running.{Running}
-use Rattle.decode_core.specs.Turned.{Awaits, FeedReports, FewTurns, KeepsTurns, Moves}
+use Rattle.decode_core.specs.Turned.{Awaits, FeedReports, FewTurns, IsSound, KeepsTurns, Moves}
 use Rattle.decode_core.specs.Turned.{RunsOut, StepReports, StopCounts, StopsShort, TurnsReport}
-use Rattle.decode_core.specs.Turned.{WholeReports, WholeTurnsReport, left_to_do}
+use Rattle.decode_core.specs.Turned.{WantsBytes, WholeReports, WholeTurnsReport, left_to_do}
 use Rattle.decode_core.specs.declared.turned.Stopped.{Stopped}
 use Rattle.decode_core.specs.declared.turned.Stopped.TheVariants as stop
 use Rattle.decode_core.specs.declared.turned.Turned.{Turned}
@@ -30,22 +30,6 @@ reported_of b d piece at from to n last is e k =
     subst (λ (t : Turned). TurnsReport b d (drop at piece) from to n t) e
     (subst (λ (l : List ℕ). TurnsReport b d l from to n last) (take_rest piece at) k)
 
--- one turn where a node of this form is next
-pub one_report : (f : Form) (a d : Running) (piece : List ℕ) (from to : ℕ) (last : Turned) →
-    Awaits a f → to ≡ from + 1 → StepReports a d piece last → KeepsTurns a d last →
-    TurnsReport a d piece from to 0 last
-one_report f a d piece from to last awaits is reports kept = record {
-  before = a;
-  within = omega arith;
-  moves = moves_none a;
-  nearer = omega arith;
-  few = (omega (arith, is), omega (arith, is));
-  sound = awaits.sound;
-  reports = reports;
-  kept = kept;
-  whole = λ w. wants_goes_on a f awaits.next w;
-}
-
 -- a turn on a node that the piece may have whole, after others of the same call
 pub whole_more : (a b d : Running) (f : Form) (piece : List ℕ) (at start from to : ℕ)
     (last : Whole) →
@@ -54,7 +38,7 @@ pub whole_more : (a b d : Running) (f : Form) (piece : List ℕ) (at start from 
     start + length b.built.entries ≤ from + length a.built.entries →
     from + length a.built.entries ≤ start + at + length b.built.entries → to ≡ from + 1 →
     Awaits a f → Awaits b f → WholeReports b d (take (length piece - at) (drop at piece)) last →
-    WholeTurnsReport f a d piece start to at last
+    WholeTurnsReport a d piece start to at last
 whole_more a b d f piece at start from to last le h near each few is first awaits reports =
     record {
       before = b;
@@ -62,30 +46,100 @@ whole_more a b d f piece at start from to last le h near each few is first await
       moves = h;
       nearer = near;
       few = (omega (arith, each, is), omega (arith, few, is));
-      awaits = awaits;
+      sound = awaits.sound;
       reports =
           subst (λ (l : List ℕ). WholeReports b d l last) (take_rest piece at) reports;
-      begun = λ w. wants_goes_on a f first.next w;
+      whole = λ w. wants_goes_on a f first.next w;
     }
 
--- where the last of such turns changed nothing, a turn of another kind is in its place
-pub whole_left : (f : Form) (a b d : Running) (piece : List ℕ) (from to n : ℕ) (last : Turned) →
-    WholeTurnsReport f a b piece from to n whole.Left →
-    StepReports b d (take (length piece - n) (drop n piece)) last → KeepsTurns b d last →
-    TurnsReport a d piece from to n last
-whole_left f a b d piece from to n last w reports kept =
+-- where no such turn is taken, what stands is as it was
+pub no_whole : (a : Running) (piece : List ℕ) (from to : ℕ) → to ≡ from + 1 → IsSound a →
+    WholeTurnsReport a a piece from to 0 whole.Left
+no_whole a piece from to is sound = record {
+  before = a;
+  within = omega arith;
+  moves = moves_none a;
+  nearer = omega arith;
+  few = (omega (arith, is), omega (arith, is));
+  sound = sound;
+  reports = refl;
+  whole = λ w. (refl, refl, refl);
+}
+
+-- the same of what is left of a piece, which was lent as a slice, where the last turn is known
+whole_of : (b d : Running) (piece : List ℕ) (at from to n : ℕ) (last is : Whole) → last ≡ is →
+    WholeTurnsReport b d (take (length piece - at) (drop at piece)) from to n last →
+    WholeTurnsReport b d (drop at piece) from to n is
+whole_of b d piece at from to n last is e k =
+    subst (λ (t : Whole). WholeTurnsReport b d (drop at piece) from to n t) e
+    (subst (λ (l : List ℕ). WholeTurnsReport b d l from to n last) (take_rest piece at) k)
+
+-- where the last of such turns added a node, it went on
+pub whole_added : (b d : Running) (piece : List ℕ) (at from to n k : ℕ) (last : Whole) →
+    last ≡ whole.Added k →
+    WholeTurnsReport b d (take (length piece - at) (drop at piece)) from to n last →
+    TurnsReport b d (drop at piece) from to n (turned.On k)
+whole_added b d piece at from to n k last e h =
+    let w = whole_of b d piece at from to n last (whole.Added k) e h in
     record {
       before = w.before;
       within = w.within;
       moves = w.moves;
       nearer = w.nearer;
       few = w.few;
-      sound = w.awaits.sound;
-      reports = subst (λ (s : Running). StepReports s d (drop n piece) last) w.reports
-          (subst (λ (l : List ℕ). StepReports b d l last) (take_rest piece n) reports);
+      sound = w.sound;
+      reports = w.reports;
+      kept = tt;
+      whole = λ is. let no = (w.whole is).2 in absurd cc;
+    }
+
+-- where it wanted memory, nothing changed
+pub whole_short : (b d : Running) (piece : List ℕ) (at from to n : ℕ) (last : Whole) →
+    last ≡ whole.OutOfMemory →
+    WholeTurnsReport b d (take (length piece - at) (drop at piece)) from to n last →
+    TurnsReport b d (drop at piece) from to n turned.OutOfMemory
+whole_short b d piece at from to n last e h =
+    let w = whole_of b d piece at from to n last whole.OutOfMemory e h in
+    record {
+      before = w.before;
+      within = w.within;
+      moves = w.moves;
+      nearer = w.nearer;
+      few = w.few;
+      sound = w.sound;
+      reports = w.reports.0;
+      kept = ap (λ (s : Running). s.built.turns) w.reports.1;
+      whole = λ is. let no = (w.whole is).2 in absurd cc;
+    }
+
+-- where it changed nothing, a turn of another kind is in its place
+pub whole_left : (b x d : Running) (piece : List ℕ) (at from to n : ℕ) (left : Whole)
+    (last : Turned) → left ≡ whole.Left →
+    WholeTurnsReport b x (take (length piece - at) (drop at piece)) from to n left →
+    StepReports x d (take (length piece - (at + n)) (drop (at + n) piece)) last →
+    KeepsTurns x d last → (is_whole x.built ≡ true → last ≡ turned.Stopped stop.Finished) →
+    TurnsReport b d (drop at piece) from to n last
+whole_left b x d piece at from to n left last e h reports kept finished =
+    let w = whole_of b x piece at from to n left whole.Left e h in
+    let rest : drop (at + n) piece ≡ drop n (drop at piece) = sym (drop_more piece at n) in
+    record {
+      before = w.before;
+      within = w.within;
+      moves = w.moves;
+      nearer = w.nearer;
+      few = w.few;
+      sound = w.sound;
+      reports = subst (λ (s : Running). StepReports s d (drop n (drop at piece)) last) w.reports
+          (subst (λ (l : List ℕ). StepReports x d l last) rest
+          (subst (λ (l : List ℕ). StepReports x d l last) (take_rest piece (at + n)) reports));
       kept =
           subst (λ (s : Running). KeepsTurns s d last) w.reports kept;
-      whole = λ is. absurd (w.begun is);
+      whole = λ is. (
+        (w.whole is).0,
+        (w.whole is).1,
+        finished (subst (λ (s : Running). is_whole s.built ≡ true)
+            (sym (w.reports ∙ (w.whole is).1)) is),
+      );
     }
 
 -- the turns so far, and those of the call before its last one
@@ -238,3 +292,19 @@ pub whole_call_stops : {X : Type 0} (a b d : Running) (piece : List ℕ) (at fro
 whole_call_stops a b d piece at from to n k h t w =
     let stops = (t.whole (stays_whole a b at h w)).2 in
     absurd cc
+
+-- ---- a call that waits for more
+
+-- where all bytes were taken and the next node wants more, the turns end
+pub waits_stops : (a d : Running) (piece : List ℕ) (at : ℕ) → at ≡ length piece →
+    Moves a d (take at piece) → WantsBytes d → IsSound d → FeedReports a d piece at stop.Wants
+waits_stops a d piece at is moves wants sound =
+    (omega (arith, is), (d, moves, (drop_all at piece (omega (arith, is)), wants), refl, sound))
+
+-- in one turn more
+pub waits_counts : (a d : Running) (start from to at : ℕ) → to ≡ from + 1 →
+    start + length d.built.entries ≤ from + length a.built.entries →
+    from + length a.built.entries ≤ start + at + length d.built.entries →
+    FewTurns a d at start to
+waits_counts a d start from to at is each few =
+    (omega (arith, is, each), omega (arith, is, few))
