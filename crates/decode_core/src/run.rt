@@ -8,7 +8,7 @@ ghost use Rattle.grammar_core.specs.Runs.{run_form};
 ghost use Rattle.value_core.specs.Walked.{next_of};
 ghost use Rattle.value_core.specs.Built.{built_text_bytes, finished};
 ghost use Rattle.value_core.specs.Refusals.{is_whole};
-ghost use Rattle.form_core.specs.Needs.{AreOwn, IsFirst, IsNeeded};
+ghost use Rattle.form_core.specs.Needs.{AreOwn, HasBytes, IsFirst, IsNeeded, need};
 ghost use Rattle.form_core.specs.NodeForms.{form_of_bare, form_of_bytes, prefixed_kind};
 ghost use Rattle.decode_core.specs.NodeAdds.{TakesNode};
 ghost use Rattle.decode_core.specs.Turned.{BareReports, Awaits, EndReports, IsSound, KeepsTurns};
@@ -22,7 +22,8 @@ use crate::node::{
 };
 use crate::turned::{Held, Stopped, Turned, Whole};
 use count_core::Count;
-use form_core::{BareForm, BytesForm, NodeForm, PrefixedRun, need, node_form};
+use form_core::{BareForm, BytesForm, NodeForm, PrefixedRun, need, node_form, primitive_form};
+use registry_core::Primitive;
 use scale_core::compact_len;
 use std::alloc::Allocator;
 use std::marker::Model;
@@ -80,6 +81,25 @@ fn take_node<A: Allocator>(
             *open_run = Some(OpenRun { len, missing: len });
             Ok(())
         }
+    }
+}
+
+/// How many bytes a node of this form has of its own, by the first of them, where they are few. The commonest forms are
+/// named, as one look tells how many these have.
+#[inline(always)]
+fn few_own(form: Form, first: u8) -> Option<usize>
+    ensures { IfSome result (λ len. HasBytes form × (len ≡ need form first) × (len ≤ 32)) }
+{
+    match form {
+        Form::Primitive(Primitive::U8) => Some(1),
+        Form::Primitive(Primitive::U16) => Some(2),
+        Form::Primitive(Primitive::U32) => Some(4),
+        Form::Primitive(Primitive::U64) => Some(8),
+        Form::Primitive(Primitive::U128) => Some(16),
+        other => match node_form(other) {
+            NodeForm::Bytes(own) => Some(need(own, first)),
+            _ => None,
+        },
     }
 }
 
@@ -461,15 +481,16 @@ impl<'r, A: Allocator> Run<'r, A> {
         }
     }
 
-    /// Holds the bytes that end a piece, where the next node, which has few of its own, lacks more.
+    /// The same where a node of this form is next.
     #[inline(always)]
-    fn hold_own(&mut self, form: BytesForm, rest: &[u8]) -> Held
-        requires next { next_of self.old.built.walk ≡ Next.Wants (form_of_bytes form) }
-        requires closed { self.old.built.run ≡ None }
+    fn hold_own(&mut self, form: Form, rest: &[u8]) -> Held
+        requires next { Awaits self.old form }
         requires some { 1 ≤ length rest.now }
         ensures { HoldReports self.old self.new rest.now result }
     {
-        let len = need(form, self.first_byte(rest));
+        let Some(len) = few_own(form, self.first_byte(rest)) else {
+            return Held::Left;
+        };
         if len <= self.carry.as_slice().len() + rest.len() {
             return Held::Left;
         }
@@ -488,10 +509,8 @@ impl<'r, A: Allocator> Run<'r, A> {
         if let Some(run) = self.open_run {
             return self.hold_run(run, rest);
         }
-        if let Some(form) = self.next_form()
-            && let NodeForm::Bytes(own) = node_form(form)
-        {
-            return self.hold_own(own, rest);
+        if let Some(form) = self.next_form() {
+            return self.hold_own(form, rest);
         }
         Held::Left
     }

@@ -1,22 +1,20 @@
 use Rattle.std.proofs.Common.{◌≡◌, ◌+◌, ◌++◌, ◌<◌, ap, arith, length, subst, sym}
 use Rattle.form_core.specs.Needs.{IsFirst}
-use Rattle.form_core.specs.NodeForms.{form_of_bytes}
 use Rattle.decode_core.specs.Running.{Running, IsCarry}
 use Rattle.decode_core.specs.Turned.{HoldsAll}
-use Rattle.decode_core.proofs.steps.FormSplits.{have_bytes}
 use Rattle.decode_core.proofs.steps.RunTurns.{at_node, of_fields}
 use Rattle.decode_core.proofs.steps.Waiting.{all_filled, longer_carry, own_held}
 use Rattle.decode_core.proofs.run.Run.hold_own.Goals as goal
 
 pub returns : goal.returns
 returns g c =
-    let f = form_of_bytes c.args.form in
+    let f = c.args.form in
     let b = c.self.inside.builder in
     let k = c.self.inside.carry in
     let rest = c.args.rest.now in
-    let len = c.need-len.result in
+    let len = c.in-Some.len in
     let carried = c.fill.new.self in
-    let at = at_node f c.self.view_is c.requires.next c.requires.closed in
+    let at = at_node f c.self.view_is c.requires.next.next c.requires.next.closed in
     let few : length k + length rest < len =
     omega (arith, c.if-len-as_slice.false, ap length c.as_slice.ensures.bytes) in
     let first : IsFirst c.first_byte.result (k ++ rest) =
@@ -25,7 +23,7 @@ returns g c =
     let is : carried ≡ k ++ rest = all_filled k rest carried len c.fill.result few
     c.fill.ensures.count c.fill.ensures.held in
     let short : IsCarry b carried = subst (IsCarry b) (sym is)
-    (longer_carry f b k rest len at.wants (have_bytes c.args.form) at.closed
-    (c.first_byte.result, first, c.need-len.ensures.exact) few) in
+    (longer_carry f b k rest len at.wants c.in-Some.ensures.0 at.closed
+    (c.first_byte.result, first, c.in-Some.ensures.1) few) in
     subst (λ (s : Running). HoldsAll s (of_fields b carried) rest) c.self.view_is
-    (own_held f b k rest carried at.wants (have_bytes c.args.form) at.closed is short)
+    (own_held f b k rest carried at.wants c.in-Some.ensures.0 at.closed is short)
