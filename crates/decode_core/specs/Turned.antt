@@ -1,6 +1,6 @@
 -- One piece of input, turn by turn.
 use Rattle.std.specs.Prelude.{◌≡◌, ℕ, suc, ◌*◌, ◌+◌, ◌-◌, ◌≤◌, ◌⊎◌, List, [], ◌++◌, length, take}
-use Rattle.std.specs.Prelude.{drop, false, true, None, Result, Ok, Err}
+use Rattle.std.specs.Prelude.{drop, false, true, None, Result, Ok, Err, IfOk, IfErr}
 use Rattle.registry_core.specs.declared.type_info.TypeInfo.{TypeInfo}
 use Rattle.widths_core.specs.Layouts as layout
 use Rattle.widths_core.specs.declared.run_kind.RunKind.{RunKind}
@@ -208,6 +208,14 @@ StopCounts old new piece from to n s = FewTurns old new n from to
 abbrev pub FeedCounts : Running → Running → List ℕ → ℕ → ℕ → Result (ℕ × Stopped) ℕ → Type 0
 FeedCounts old new piece from to (Ok x) = StopCounts old new piece from to x.0 x.1
 FeedCounts old new piece from to (Err n) = StopsShort old new piece n from to
+
+-- a call that feeds a piece
+pub record FeedTells (old new : Running) (piece : List ℕ) (from to : ℕ)
+    (result : Result (ℕ × Stopped) ℕ) : Type 0 where
+  pub reports : IfOk result (λ x. FeedReports old new piece x.0 x.1)
+  pub short : IfErr result (λ n. RunsOut old piece n)
+  pub whole : is_whole old.built ≡ true → (result ≡ Ok (0, stop.Finished)) × (new ≡ old)
+  pub counts : FeedCounts old new piece from to result
 
 -- a value of this form is next, and no run is open
 pub record Awaits (s : Running) (f : Form) : Type 0 where

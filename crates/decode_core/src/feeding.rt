@@ -1,11 +1,8 @@
 //! The turns on a piece: those on nodes of one form that follow one another are taken together.
 
-ghost use Rattle.std.specs.Prelude.{true, ◌≡◌, IfErr, IfOk, Ok};
-ghost use Rattle.value_core.specs.Refusals.{is_whole};
+ghost use Rattle.std.specs.Prelude.{true, ◌≡◌};
 ghost use Rattle.form_core.specs.NodeForms.{form_of_bytes};
-ghost use Rattle.decode_core.specs.Turned.{Awaits, FeedCounts, FeedReports, RunsOut, TurnsReport};
-ghost use Rattle.decode_core.specs.Turned.{KeepsTurns, StepReports, WholeReports};
-ghost use Rattle.decode_core.specs.Turned.{WholeTurnsReport};
+ghost use Rattle.decode_core.specs.Turned.{Awaits, FeedTells, WholeReports, WholeTurnsReport};
 
 use crate::run::Run;
 use crate::turned::{Held, Stopped, Turned, Whole};
@@ -136,12 +133,7 @@ impl<'r, A: Allocator> Run<'r, A> {
     /// memory was refused, the bytes alone. The turns that close nodes are the builder's own, and counted there.
     #[inline(never)]
     fn feed_turns(&mut self, piece: &[u8], turns: &mut Count) -> Result<(usize, Stopped), usize>
-        ensures reports { IfOk result (λ x. FeedReports self.old self.new piece.now x.0 x.1) }
-        ensures short { IfErr result (λ n. RunsOut self.old piece.now n) }
-        ensures whole { is_whole self.old.built ≡ true → (result ≡ Ok (0, Stopped.Finished))
-            × (self.new ≡ self.old) }
-        ensures counts { FeedCounts self.old self.new piece.now turns.old.so_far
-            turns.new.so_far result }
+        ensures { FeedTells self.old self.new piece.now turns.old.so_far turns.new.so_far result }
     {
         let mut at = 0;
         'turns: loop {
@@ -174,12 +166,7 @@ impl<'r, A: Allocator> Run<'r, A> {
         piece: &[u8],
         turns: &mut Count,
     ) -> Result<(usize, Stopped), usize>
-        ensures reports { IfOk result (λ x. FeedReports self.old self.new piece.now x.0 x.1) }
-        ensures short { IfErr result (λ n. RunsOut self.old piece.now n) }
-        ensures whole { is_whole self.old.built ≡ true → (result ≡ Ok (0, Stopped.Finished))
-            × (self.new ≡ self.old) }
-        ensures counts { FeedCounts self.old self.new piece.now turns.old.so_far
-            turns.new.so_far result }
+        ensures { FeedTells self.old self.new piece.now turns.old.so_far turns.new.so_far result }
     {
         match self.hold(piece) {
             Held::All => {

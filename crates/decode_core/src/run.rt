@@ -8,29 +8,24 @@ ghost use Rattle.grammar_core.specs.Runs.{run_form};
 ghost use Rattle.value_core.specs.Walked.{next_of};
 ghost use Rattle.value_core.specs.Built.{built_text_bytes, finished};
 ghost use Rattle.value_core.specs.Refusals.{is_whole};
-ghost use Rattle.form_core.specs.Needs.{AreOwn, HasBytes, IsFirst, IsNeeded, need};
+ghost use Rattle.form_core.specs.Needs.{AreOwn, IsNeeded};
 ghost use Rattle.form_core.specs.NodeForms.{form_of_bare, form_of_bytes, prefixed_kind};
 ghost use Rattle.decode_core.specs.NodeAdds.{TakesNode};
 ghost use Rattle.decode_core.specs.Turned.{BareReports, Awaits, EndReports, IsSound, KeepsTurns};
 ghost use Rattle.decode_core.specs.Turned.{HoldReports, IsOn, PieceReports, StepReports, WholeReports};
 ghost use Rattle.decode_core.specs.Turned.{WantsBytes, node_turned};
 
-use crate::carry::Carry;
 use crate::fault::DecodeReason;
 use crate::node::{
     NodeFault, add_arm, add_bare, add_byte_array, add_plain, add_sequence, start_run, whole_run,
 };
 use crate::turned::{Held, Stopped, Turned, Whole};
 use count_core::Count;
-use form_core::{BareForm, BytesForm, NodeForm, PrefixedRun, need, node_form, primitive_form};
-use registry_core::Primitive;
+use form_core::{BareForm, BytesForm, Carry, NodeForm, PrefixedRun, few_need, need, node_form};
 use scale_core::compact_len;
 use std::alloc::Allocator;
 use std::marker::Model;
 use value_core::{Builder, Form, Next, RunKind, Value};
-
-/// The most bytes that a node has of its own, where these are few.
-const MOST_OWN: usize = 32;
 
 /// A text or a run of bytes that is open: how many bytes it is to have, and how many of them are missing.
 #[derive(Clone, Copy)]
@@ -81,25 +76,6 @@ fn take_node<A: Allocator>(
             *open_run = Some(OpenRun { len, missing: len });
             Ok(())
         }
-    }
-}
-
-/// How many bytes a node of this form has of its own, by the first of them, where they are few. The commonest forms are
-/// named, as one look tells how many these have.
-#[inline(always)]
-fn few_own(form: Form, first: u8) -> Option<usize>
-    ensures { IfSome result (λ len. HasBytes form × (len ≡ need form first) × (len ≤ 32)) }
-{
-    match form {
-        Form::Primitive(Primitive::U8) => Some(1),
-        Form::Primitive(Primitive::U16) => Some(2),
-        Form::Primitive(Primitive::U32) => Some(4),
-        Form::Primitive(Primitive::U64) => Some(8),
-        Form::Primitive(Primitive::U128) => Some(16),
-        other => match node_form(other) {
-            NodeForm::Bytes(own) => Some(need(own, first)),
-            _ => None,
-        },
     }
 }
 
@@ -175,17 +151,6 @@ impl<'r, A: Allocator> Run<'r, A> {
         }
     }
 
-    /// The first of the next node's bytes, be it carried or the piece's.
-    fn first_byte(&self, piece: &[u8]) -> u8
-        requires { 1 ≤ length piece.now }
-        ensures { IsFirst result (self.now.carry ++ piece.now) }
-    {
-        match self.carry.as_slice().first() {
-            Some(first) => *first,
-            None => piece[0],
-        }
-    }
-
     /// A turn on a node whose own bytes the piece has whole.
     #[inline(always)]
     fn whole_turn(&mut self, form: BytesForm, own: &[u8]) -> Turned
@@ -241,7 +206,7 @@ impl<'r, A: Allocator> Run<'r, A> {
         if piece.is_empty() {
             return Turned::Stopped(Stopped::Wants);
         }
-        let len = need(form, self.first_byte(piece));
+        let len = need(form, self.carry.first_with(piece));
         if self.carry.as_slice().is_empty() && len <= piece.len() {
             return self.whole_turn(form, &piece[..len]);
         }
@@ -369,10 +334,8 @@ impl<'r, A: Allocator> Run<'r, A> {
         let count = piece.len().min(run.missing as usize);
         match self.builder.extend_run(&piece[..count]) {
             Ok(()) => {
-                self.open_run = Some(OpenRun {
-                    len: run.len,
-                    missing: run.missing - count as u32,
-                });
+                let missing = run.missing - count as u32;
+                self.open_run = Some(OpenRun { missing, ..run });
                 Turned::On(count)
             }
             Err(_) => Turned::OutOfMemory,
@@ -458,7 +421,7 @@ impl<'r, A: Allocator> Run<'r, A> {
         }
     }
 
-    /// Holds the bytes that end a piece, where the run that is open lacks more.
+    /// Holds the bytes that end a piece where the run that is open lacks more.
     #[inline(always)]
     fn hold_run(&mut self, run: OpenRun, rest: &[u8]) -> Held
         requires next { IsRunNext self.old.built self.old.carry self.old.built.run }
@@ -469,16 +432,12 @@ impl<'r, A: Allocator> Run<'r, A> {
         if run.missing as usize <= rest.len() {
             return Held::Left;
         }
-        match self.builder.extend_run(rest) {
-            Ok(()) => {
-                self.open_run = Some(OpenRun {
-                    len: run.len,
-                    missing: run.missing - rest.len() as u32,
-                });
-                Held::All
-            }
-            Err(_) => Held::OutOfMemory,
-        }
+        let Ok(()) = self.builder.extend_run(rest) else {
+            return Held::OutOfMemory;
+        };
+        let missing = run.missing - rest.len() as u32;
+        self.open_run = Some(OpenRun { missing, ..run });
+        Held::All
     }
 
     /// The same where a node of this form is next.
@@ -488,29 +447,27 @@ impl<'r, A: Allocator> Run<'r, A> {
         requires some { 1 ≤ length rest.now }
         ensures { HoldReports self.old self.new rest.now result }
     {
-        let Some(len) = few_own(form, self.first_byte(rest)) else {
-            return Held::Left;
-        };
-        if len <= self.carry.as_slice().len() + rest.len() {
-            return Held::Left;
+        if let Some(len) = few_need(form, self.carry.first_with(rest))
+            && self.carry.as_slice().len() + rest.len() < len
+        {
+            self.carry.fill(len, rest);
+            return Held::All;
         }
-        self.carry.fill(len, rest);
-        Held::All
+        Held::Left
     }
 
-    /// Holds the bytes that end a piece, where they are few and the next node lacks more.
+    /// Holds the bytes that end a piece where the next node lacks more.
     #[inline(always)]
     pub(crate) fn hold(&mut self, rest: &[u8]) -> Held
         ensures { HoldReports self.old self.new rest.now result }
     {
-        if rest.is_empty() || MOST_OWN <= rest.len() {
-            return Held::Left;
-        }
-        if let Some(run) = self.open_run {
-            return self.hold_run(run, rest);
-        }
-        if let Some(form) = self.next_form() {
-            return self.hold_own(form, rest);
+        if !rest.is_empty() {
+            if let Some(run) = self.open_run {
+                return self.hold_run(run, rest);
+            }
+            if let Some(form) = self.next_form() {
+                return self.hold_own(form, rest);
+            }
         }
         Held::Left
     }

@@ -3,12 +3,12 @@ use Rattle.std.proofs.Common.{◌≡◌, ℕ, ◌+◌, ◌-◌, ◌<◌, ◌≤�
 use Rattle.std.proofs.Common.{ap, subst, arith, inl, inr, length-drop}
 use Rattle.std.proofs.lemmas.List.{drop_all, length-take, take_rest}
 use Rattle.std.proofs.Math.Seq.{take-add}
-use Rattle.std.specs.Prelude.{true}
+use Rattle.std.specs.Prelude.{Err, Ok, Result, true}
 use Rattle.grammar_core.specs.declared.form.Form.{Form}
 use Rattle.value_core.specs.Refusals.{is_whole}
 use Rattle.decode_core.specs.Running.{Running}
-use Rattle.decode_core.specs.Turned.{Awaits, FeedReports, FewTurns, IsSound, KeepsTurns, Moves}
-use Rattle.decode_core.specs.Turned.{RunsOut, StepReports, StopCounts, StopsShort, TurnsReport}
+use Rattle.decode_core.specs.Turned.{Awaits, FeedReports, FeedTells, FewTurns, IsSound, KeepsTurns}
+use Rattle.decode_core.specs.Turned.{Moves, RunsOut, StepReports, StopCounts, StopsShort, TurnsReport}
 use Rattle.decode_core.specs.Turned.{WantsBytes, WholeReports, WholeTurnsReport, left_to_do}
 use Rattle.decode_core.specs.declared.turned.Stopped.{Stopped}
 use Rattle.decode_core.specs.declared.turned.Stopped.TheVariants as stop
@@ -293,18 +293,76 @@ whole_call_stops a b d piece at from to n k h t w =
     let stops = (t.whole (stays_whole a b at h w)).2 in
     absurd cc
 
--- ---- a call that waits for more
+-- where it was, the one turn stops there, and nothing changes
+call_whole : (a b d : Running) (piece : List ℕ) (at from to n : ℕ) (s : Stopped) →
+    (is_whole a.built ≡ true → (at ≡ 0) × (b ≡ a)) →
+    TurnsReport b d piece from to n (turned.Stopped s) → is_whole a.built ≡ true →
+    (◌≡◌ {A = Result (ℕ × Stopped) ℕ} (Ok (at + n, s)) (Ok (0, stop.Finished))) × (d ≡ a)
+call_whole a b d piece at from to n stop.Finished h t w =
+    let was = h w in
+    let one = t.whole (stays_whole a b at h w) in
+    let none : at + n ≡ 0 = omega (arith, was.0, one.0) in
+    (ap (λ (m : ℕ). Ok (m, stop.Finished)) none, t.reports.0 ∙ one.1 ∙ was.1)
+call_whole a b d piece at from to n stop.Wants h t w =
+    let no = (t.whole (stays_whole a b at h w)).2 in absurd cc
+call_whole a b d piece at from to n (stop.Refused held reported_reason place len) h t w =
+    let no = (t.whole (stays_whole a b at h w)).2 in absurd cc
 
--- where all bytes were taken and the next node wants more, the turns end
-pub waits_stops : (a d : Running) (piece : List ℕ) (at : ℕ) → at ≡ length piece →
-    Moves a d (take at piece) → WantsBytes d → IsSound d → FeedReports a d piece at stop.Wants
-waits_stops a d piece at is moves wants sound =
-    (omega (arith, is), (d, moves, (drop_all at piece (omega (arith, is)), wants), refl, sound))
+-- ---- what a call tells
 
--- in one turn more
-pub waits_counts : (a d : Running) (start from to at : ℕ) → to ≡ from + 1 →
-    start + length d.built.entries ≤ from + length a.built.entries →
-    from + length a.built.entries ≤ start + at + length d.built.entries →
-    FewTurns a d at start to
-waits_counts a d start from to at is each few =
-    (omega (arith, is, each), omega (arith, is, few))
+-- what stands in the turns of a call: the bytes and turns so far, and what they led to
+pub record CallSoFar (a b : Running) (piece : List ℕ) (at start from : ℕ) : Type 0 where
+  pub inside : at ≤ length piece
+  pub moves : Moves a b (take at piece)
+  pub each : start + length b.built.entries ≤ from + length a.built.entries
+  pub few : from + length a.built.entries ≤ start + at + length b.built.entries
+  pub whole : is_whole a.built ≡ true → (at ≡ 0) × (b ≡ a)
+
+-- the last of its turns stops
+pub tells_stopped : (a b d : Running) (piece : List ℕ) (at start from to n : ℕ) (s : Stopped) →
+    CallSoFar a b piece at start from →
+    TurnsReport b d (drop at piece) from to n (turned.Stopped s) →
+    FeedTells a d piece start to (Ok (at + n, s))
+tells_stopped a b d piece at start from to n s c t = record {
+  reports = call_stops a b d piece at from to n s c.inside c.moves t;
+  short = tt;
+  whole = call_whole a b d (drop at piece) at from to n s c.whole t;
+  counts = call_counts a b d piece at start from to n s c.inside c.moves c.each c.few t;
+}
+
+-- it wants memory
+pub tells_short : (a b d : Running) (piece : List ℕ) (at start from to n : ℕ) →
+    CallSoFar a b piece at start from → TurnsReport b d (drop at piece) from to n turned.OutOfMemory →
+    FeedTells a d piece start to (Err (at + n))
+tells_short a b d piece at start from to n c t = record {
+  reports = tt;
+  short = call_runs_out a b d piece at from to n c.inside c.moves t;
+  whole = λ w. let no = (t.whole (stays_whole a b at c.whole w)).2 in absurd cc;
+  counts = call_counts_short a b d piece at start from to n c.inside c.moves c.each c.few t;
+}
+
+-- it goes on
+pub call_on : (a b d : Running) (piece : List ℕ) (at start from to n k : ℕ) →
+    CallSoFar a b piece at start from → TurnsReport b d (drop at piece) from to n (turned.On k) →
+    CallSoFar a d piece (at + n + k) start to
+call_on a b d piece at start from to n k c t =
+    let on = call_goes_on a b d piece at from to n k c.inside c.moves t in
+    record {
+      inside = on.0;
+      moves = on.1;
+      each = call_each a b d (drop at piece) start from to n k c.each t;
+      few = call_few a b d (drop at piece) start from to at n k c.few t;
+      whole = λ w. whole_call_stops a b d (drop at piece) at from to n k c.whole t w;
+    }
+
+-- where it did and all bytes were taken, one more stops that finds the next node to want more
+pub tells_wants : (a b : Running) (piece : List ℕ) (at start from to : ℕ) →
+    CallSoFar a b piece at start from → to ≡ from + 1 → at ≡ length piece → WantsBytes b →
+    IsSound b → (is_whole b.built ≡ true → ⊥) → FeedTells a b piece start to (Ok (at, stop.Wants))
+tells_wants a b piece at start from to c is all wants sound begun = record {
+  reports =
+      (c.inside, (b, c.moves, (drop_all at piece (omega (arith, all)), wants), refl, sound));
+  short = tt;
+  whole = λ w. absurd (begun (stays_whole a b at c.whole w));
+  counts = (omega (arith, is, c.each), omega (arith, is, c.few));
+}

@@ -7,8 +7,8 @@ use Rattle.decode_core.proofs.steps.RunTurns.{of_fields}
 use Rattle.decode_core.proofs.steps.Waiting.{run_held_on}
 use Rattle.decode_core.proofs.run.Run.hold_run.Goals as goal
 
-pub returns-in-Ok : goal.returns-in-Ok
-returns-in-Ok g c =
+pub returns : goal.returns
+returns g c =
     let b = c.self.inside.builder in
     let k = c.self.inside.carry in
     let n = open_of b k c.args.run c.args.self.now c.self.view_is c.requires.next
@@ -18,8 +18,8 @@ returns-in-Ok g c =
     c.self.view_is
     (run_held_on b c.extend_run.new.self k c.args.run c.args.rest.now n few c.in-Ok.ensures.ok)
 
-pub returns-in-Err : goal.returns-in-Err
-returns-in-Err g c =
+pub returns-in_default : goal.returns-in_default
+returns-in_default g c =
     let b = c.self.inside.builder in
     let k = c.self.inside.carry in
     let rest = c.args.rest.now in
@@ -29,5 +29,5 @@ returns-in-Err g c =
     let some : 1 ≤ length rest = c.requires.some in (
       subst (λ (s : Running). WantsMemory s rest) c.self.view_is
           (piece_wants b k c.args.run rest (length rest) n few (omega arith) some),
-      ap (λ (x : Built). of_fields x k) c.in-Err.ensures.err ∙ c.self.view_is,
+      ap (λ (x : Built). of_fields x k) c.in_default.ensures.err ∙ c.self.view_is,
     )
