@@ -140,8 +140,7 @@ fn feed_run<A: Allocator>(
     }
 }
 
-/// Gives up a value on its way, for this fault: how many turns the builder's loop had taken. It is a call, so that other
-/// pieces need no room for the value.
+/// Gives up a value for this fault: how many turns the builder's loop had taken. No other call makes room for the value.
 #[inline(never)]
 fn give_up<A: Allocator>(run: &mut Result<Run<'_, A>, DecodeFault>, fault: DecodeFault) -> Count
     ensures after { run.new ≡ Err fault }

@@ -1,8 +1,7 @@
 //! A decoder on its way: it takes its input turn by turn.
 
 ghost use Rattle.std.specs.Prelude.{ℕ, List, true, ◌≡◌, ◌⊎◌, ◌<◌, ◌≤◌, ◌+◌, ◌++◌, [], length};
-ghost use Rattle.std.specs.Prelude.{false, take, drop, None, Some, suc, IfSome, IfErr, IfOk, Ok, OnOk};
-ghost use Rattle.std.specs.Prelude.{OnErr};
+ghost use Rattle.std.specs.Prelude.{false, None, Some, IfSome, Ok};
 ghost use Rattle.decode_core.specs.Running.{IsCarry, IsFresh, IsKeptRun, IsRunNext};
 ghost use Rattle.grammar_core.specs.Runs.{run_form};
 ghost use Rattle.value_core.specs.Walked.{next_of};
@@ -11,9 +10,9 @@ ghost use Rattle.value_core.specs.Refusals.{is_whole};
 ghost use Rattle.form_core.specs.Needs.{AreOwn, IsNeeded};
 ghost use Rattle.form_core.specs.NodeForms.{form_of_bare, form_of_bytes, prefixed_kind};
 ghost use Rattle.decode_core.specs.NodeAdds.{TakesNode};
-ghost use Rattle.decode_core.specs.Turned.{BareReports, Awaits, EndReports, IsSound, KeepsTurns};
-ghost use Rattle.decode_core.specs.Turned.{HoldReports, IsOn, PieceReports, StepReports, WholeReports};
-ghost use Rattle.decode_core.specs.Turned.{WantsBytes, node_turned};
+ghost use Rattle.decode_core.specs.Turned.{Awaits, BareReports, EndReports, HoldReports, IsOn};
+ghost use Rattle.decode_core.specs.Turned.{IsSound, KeepsTurns, PieceReports, StepReports};
+ghost use Rattle.decode_core.specs.Turned.{WantsBytes, WholeReports, node_turned};
 
 use crate::fault::DecodeReason;
 use crate::node::{
@@ -216,8 +215,7 @@ impl<'r, A: Allocator> Run<'r, A> {
     /// A turn on a node with bytes of its own, where the piece has them whole and they are not refused.
     #[inline(always)]
     pub(crate) fn whole_own(&mut self, form: BytesForm, piece: &[u8]) -> Whole
-        requires next { next_of self.old.built.walk ≡ Next.Wants (form_of_bytes form) }
-        requires closed { self.old.built.run ≡ None }
+        requires { Awaits self.old (form_of_bytes form) }
         ensures { WholeReports self.old self.new piece.now result }
     {
         if piece.is_empty() || !self.carry.as_slice().is_empty() {
@@ -237,8 +235,7 @@ impl<'r, A: Allocator> Run<'r, A> {
     /// A turn on a text or a run of bytes whose length stands before it, where the piece has it whole with its length and
     /// nothing of it is refused.
     pub(crate) fn whole_prefixed(&mut self, run: PrefixedRun, piece: &[u8]) -> Whole
-        requires next { next_of self.old.built.walk ≡ Next.Wants (run_form (prefixed_kind run)) }
-        requires closed { self.old.built.run ≡ None }
+        requires { Awaits self.old (run_form (prefixed_kind run)) }
         ensures { WholeReports self.old self.new piece.now result }
     {
         if self.carry.as_slice().is_empty()
@@ -272,8 +269,7 @@ impl<'r, A: Allocator> Run<'r, A> {
     /// A turn on a node without bytes of its own: none are missing, so it is added.
     #[inline(always)]
     pub(crate) fn whole_bare(&mut self, form: BareForm) -> Whole
-        requires next { next_of self.old.built.walk ≡ Next.Wants (form_of_bare form) }
-        requires closed { self.old.built.run ≡ None }
+        requires { Awaits self.old (form_of_bare form) }
         ensures { (piece : List ℕ) → WholeReports self.old self.new piece result }
     {
         match add_bare(&mut self.builder, form) {

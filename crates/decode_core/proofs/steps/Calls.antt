@@ -7,8 +7,9 @@ use Rattle.std.specs.Prelude.{Err, Ok, Result, true}
 use Rattle.grammar_core.specs.declared.form.Form.{Form}
 use Rattle.value_core.specs.Refusals.{is_whole}
 use Rattle.decode_core.specs.Running.{Running}
-use Rattle.decode_core.specs.Turned.{Awaits, FeedReports, FeedTells, FewTurns, IsSound, KeepsTurns}
-use Rattle.decode_core.specs.Turned.{Moves, RunsOut, StepReports, StopCounts, StopsShort, TurnsReport}
+use Rattle.decode_core.specs.Turned.{Awaits, FeedReports, FeedTells, FewTurns, IsSound, Moves}
+use Rattle.decode_core.specs.Turned.{KeepsTurns, RunsOut, StepReports, StopCounts}
+use Rattle.decode_core.specs.Turned.{StopsShort, TurnsReport}
 use Rattle.decode_core.specs.Turned.{WantsBytes, WholeReports, WholeTurnsReport, left_to_do}
 use Rattle.decode_core.specs.declared.turned.Stopped.{Stopped}
 use Rattle.decode_core.specs.declared.turned.Stopped.TheVariants as stop
@@ -332,7 +333,8 @@ tells_stopped a b d piece at start from to n s c t = record {
 
 -- it wants memory
 pub tells_short : (a b d : Running) (piece : List ℕ) (at start from to n : ℕ) →
-    CallSoFar a b piece at start from → TurnsReport b d (drop at piece) from to n turned.OutOfMemory →
+    CallSoFar a b piece at start from →
+    TurnsReport b d (drop at piece) from to n turned.OutOfMemory →
     FeedTells a d piece start to (Err (at + n))
 tells_short a b d piece at start from to n c t = record {
   reports = tt;
