@@ -21,16 +21,6 @@ use Rattle.decode_core.proofs.steps.Moving.{drop_more, grows_by, moves_none, mov
 use Rattle.decode_core.proofs.steps.Moving.{one_or_bytes, stays_whole, step_nearer, turns_on}
 use Rattle.decode_core.proofs.steps.Moving.{turns_stop, wants_goes_on}
 
--- what the turns of a call report of what is left of a piece, which it was lent as a slice, where
--- their last one is known
-pub reported_of : (b d : Running) (piece : List ℕ) (at from to n : ℕ)
-    (last is : Turned) → last ≡ is →
-    TurnsReport b d (take (length piece - at) (drop at piece)) from to n last →
-    TurnsReport b d (drop at piece) from to n is
-reported_of b d piece at from to n last is e k =
-    subst (λ (t : Turned). TurnsReport b d (drop at piece) from to n t) e
-    (subst (λ (l : List ℕ). TurnsReport b d l from to n last) (take_rest piece at) k)
-
 -- a turn on a node that the piece may have whole, after others of the same call
 pub whole_more : (a b d : Running) (f : Form) (piece : List ℕ) (at start from to : ℕ)
     (last : Whole) →
