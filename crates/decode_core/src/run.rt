@@ -481,12 +481,10 @@ impl<'r, A: Allocator> Run<'r, A> {
         ensures wants { result ≡ true → WantsBytes self.now }
         ensures sound { result ≡ true → IsSound self.now }
     {
-        if let Some(form) = self.next_form()
-            && let NodeForm::Bytes(_) = node_form(form)
-        {
-            return true;
-        }
-        false
+        let Some(form) = self.next_form() else {
+            return false;
+        };
+        matches!(node_form(form), NodeForm::Bytes(_))
     }
 
     /// Takes no step: it says what holds of every value on its way.

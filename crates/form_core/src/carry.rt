@@ -60,6 +60,7 @@ impl Carry {
     }
 
     /// Takes bytes off the piece until there are `want` or the piece ends: how many it took.
+    #[inline(always)]
     pub fn fill(&mut self, want: usize, piece: &[u8]) -> usize
         requires { (length self.old ≤ want) × (want ≤ 32) }
         ensures count { result ≡ min (want - length self.old) (length piece.now) }

@@ -5,8 +5,8 @@ use Rattle.decode_core.proofs.steps.FormSplits.{have_bytes}
 use Rattle.decode_core.proofs.steps.RunTurns.{wants_more}
 use Rattle.decode_core.proofs.run.Run.wants.Goals as goal
 
-pub returns-clause-wants : goal.returns-clause-wants
-returns-clause-wants g c = λ is.
+pub returns-in-Bytes-clause-wants : goal.returns-in-Bytes-clause-wants
+returns-in-Bytes-clause-wants g c = λ is.
     let s = c.args.self.now in
     let at = c.in-Some.ensures in
     let form : form_of_bytes c.in-Bytes.field-0 ≡ c.in-Some.form =
