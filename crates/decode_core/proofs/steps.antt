@@ -17,6 +17,7 @@ pub mod WholeRuns
 pub mod Endings
 pub mod Moving
 pub mod Calls
+pub mod Waiting
 pub mod Holding
 pub mod Sound
 pub mod Counting

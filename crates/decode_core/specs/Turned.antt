@@ -1,6 +1,6 @@
 -- One piece of input, turn by turn.
 use Rattle.std.specs.Prelude.{◌≡◌, ℕ, suc, ◌*◌, ◌+◌, ◌-◌, ◌≤◌, ◌⊎◌, List, [], ◌++◌, length, take}
-use Rattle.std.specs.Prelude.{drop, false, true, None, Result, Ok, Err}
+use Rattle.std.specs.Prelude.{drop, false, true, None, Result, Ok, Err, IfOk, IfErr}
 use Rattle.registry_core.specs.declared.type_info.TypeInfo.{TypeInfo}
 use Rattle.widths_core.specs.Layouts as layout
 use Rattle.widths_core.specs.declared.run_kind.RunKind.{RunKind}
@@ -20,6 +20,8 @@ use Rattle.decode_core.specs.Running.{Running, IsCarry, IsRunNext, state_of, hel
 use Rattle.decode_core.specs.Reported.{reported, after, own_at}
 use Rattle.decode_core.specs.declared.node.NodeFault.{NodeFault}
 use Rattle.decode_core.specs.declared.node.NodeFault.TheVariants as fault
+use Rattle.decode_core.specs.declared.turned.Held.{Held}
+use Rattle.decode_core.specs.declared.turned.Held.TheVariants as held
 use Rattle.decode_core.specs.declared.turned.Stopped.{Stopped}
 use Rattle.decode_core.specs.declared.turned.Stopped.TheVariants as stop
 use Rattle.decode_core.specs.declared.turned.Turned.{Turned}
@@ -140,6 +142,21 @@ WholeReports old new piece (whole.Added n) = StepReports old new piece (turned.O
 WholeReports old new piece whole.Left = new ≡ old
 WholeReports old new piece whole.OutOfMemory = WantsMemory old piece × (new ≡ old)
 
+-- all these bytes are held, and the next node, which is not there yet, lacks more
+pub record HoldsAll (old new : Running) (rest : List ℕ) : Type 0 where
+  pub same : IsSame old new
+  pub state : state_of new.built ≡ state_of old.built
+  pub held : held_of new ≡ held_of old ++ rest
+  pub wants : WantsBytes new
+  pub turns : new.built.turns ≡ old.built.turns
+  pub begun : is_whole old.built ≡ true → ⊥
+
+-- what becomes of the bytes that end a piece
+abbrev pub HoldReports : Running → Running → List ℕ → Held → Type 0
+HoldReports old new rest held.All = HoldsAll old new rest
+HoldReports old new rest held.Left = new ≡ old
+HoldReports old new rest held.OutOfMemory = WantsMemory old rest × (new ≡ old)
+
 -- what holds of every value on its way: a begun tree is built, no more nodes are open than the
 -- depth limit lets in, and what
 -- is held beside are bytes of the next node
@@ -192,6 +209,14 @@ abbrev pub FeedCounts : Running → Running → List ℕ → ℕ → ℕ → Res
 FeedCounts old new piece from to (Ok x) = StopCounts old new piece from to x.0 x.1
 FeedCounts old new piece from to (Err n) = StopsShort old new piece n from to
 
+-- a call that feeds a piece
+pub record FeedTells (old new : Running) (piece : List ℕ) (from to : ℕ)
+    (result : Result (ℕ × Stopped) ℕ) : Type 0 where
+  pub reports : IfOk result (λ x. FeedReports old new piece x.0 x.1)
+  pub short : IfErr result (λ n. RunsOut old piece n)
+  pub whole : is_whole old.built ≡ true → (result ≡ Ok (0, stop.Finished)) × (new ≡ old)
+  pub counts : FeedCounts old new piece from to result
+
 -- a value of this form is next, and no run is open
 pub record Awaits (s : Running) (f : Form) : Type 0 where
   pub next : next_of s.built.walk ≡ next.Wants f
@@ -213,17 +238,17 @@ pub record TurnsReport (old new : Running) (piece : List ℕ) (from to n : ℕ) 
   pub whole : is_whole old.built ≡ true →
       (n ≡ 0) × (before ≡ old) × (last ≡ turned.Stopped stop.Finished)
 
--- the same of turns on nodes of this form whose own bytes a piece may have whole
-pub record WholeTurnsReport (f : Form) (old new : Running) (piece : List ℕ) (from to n : ℕ)
-    (last : Whole) : Type 0 where
+-- the same of turns on nodes whose own bytes a piece may have whole
+pub record WholeTurnsReport (old new : Running) (piece : List ℕ) (from to n : ℕ) (last : Whole)
+    : Type 0 where
   pub before : Running
   pub within : n ≤ length piece
   pub moves : Moves old before (take n piece)
   pub nearer : left_to_do before (drop n piece) ≤ left_to_do old piece
   pub few : FewTurns old before n from to
-  pub awaits : Awaits before f
+  pub sound : IsSound before
   pub reports : WholeReports before new (drop n piece) last
-  pub begun : is_whole old.built ≡ true → ⊥
+  pub whole : is_whole old.built ≡ true → (n ≡ 0) × (before ≡ old) × (last ≡ whole.Left)
 
 -- a turn that needs no bytes
 abbrev pub BareReports : Running → Running → Turned → Type 0

@@ -140,11 +140,13 @@ fn feed_run<A: Allocator>(
     }
 }
 
-/// How many turns the builder's loop has taken, of a value that is given up.
-fn into_turns<A: Allocator>(run: Result<Run<'_, A>, DecodeFault>) -> Count
-    ensures { result.so_far ≡ closing_turns run.entry 0 }
+/// Gives up a value for this fault: how many turns the builder's loop had taken. No other call makes room for the value.
+#[inline(never)]
+fn give_up<A: Allocator>(run: &mut Result<Run<'_, A>, DecodeFault>, fault: DecodeFault) -> Count
+    ensures after { run.new ≡ Err fault }
+    ensures turns { result.so_far ≡ closing_turns run.old 0 }
 {
-    match run {
+    match mem::replace(run, Err(fault)) {
         Ok(run) => run.into_turns(),
         Err(_) => Count::new(),
     }
@@ -268,7 +270,7 @@ impl<'r, A: Allocator> Decoder<'r, A> {
             }
             Fed::Ended(fault, taken) => {
                 self.taken = taken;
-                self.closings = into_turns(mem::replace(&mut self.run, Err(fault)));
+                self.closings = give_up(&mut self.run, fault);
                 Err(fault)
             }
         }

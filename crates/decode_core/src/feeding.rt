@@ -1,18 +1,13 @@
 //! The turns on a piece: those on nodes of one form that follow one another are taken together.
 
-ghost use Rattle.std.specs.Prelude.{true, ◌≡◌, IfErr, IfOk, Ok};
-ghost use Rattle.value_core.specs.Refusals.{is_whole};
+ghost use Rattle.std.specs.Prelude.{true, ◌≡◌};
 ghost use Rattle.form_core.specs.NodeForms.{form_of_bytes};
-ghost use Rattle.decode_core.specs.Turned.{Awaits, FeedCounts, FeedReports, RunsOut, TurnsReport};
-ghost use Rattle.decode_core.specs.Turned.{KeepsTurns, StepReports, WholeReports};
-ghost use Rattle.decode_core.specs.Turned.{WholeTurnsReport};
+ghost use Rattle.decode_core.specs.Turned.{Awaits, FeedTells, WholeReports, WholeTurnsReport};
 
 use crate::run::Run;
-use crate::turned::{Stopped, Turned, Whole};
+use crate::turned::{Held, Stopped, Turned, Whole};
 use count_core::Count;
-use form_core::{
-    BareForm, BytesForm, NodeForm, PrefixedRun, compact_form, node_form, primitive_form,
-};
+use form_core::{BareForm, BytesForm, PrefixedRun, compact_form, primitive_form};
 use registry_core::Primitive;
 use scale_core::Target;
 use std::alloc::Allocator;
@@ -39,8 +34,8 @@ impl<'r, A: Allocator> Run<'r, A> {
     ) -> (usize, Whole)
         requires own { form_of_bytes own ≡ form }
         requires next { Awaits self.old form }
-        ensures { WholeTurnsReport form self.old self.new piece.now turns.old.so_far
-            turns.new.so_far result.0 result.1 }
+        ensures { WholeTurnsReport self.old self.new piece.now turns.old.so_far turns.new.so_far
+            result.0 result.1 }
     {
         let mut at = 0;
         'nodes: loop {
@@ -60,8 +55,8 @@ impl<'r, A: Allocator> Run<'r, A> {
     #[inline(always)]
     fn integers(&mut self, primitive: Primitive, piece: &[u8], turns: &mut Count) -> (usize, Whole)
         requires { Awaits self.old (Form.Primitive primitive) }
-        ensures { WholeTurnsReport (Form.Primitive primitive) self.old self.new piece.now
-            turns.old.so_far turns.new.so_far result.0 result.1 }
+        ensures { WholeTurnsReport self.old self.new piece.now turns.old.so_far turns.new.so_far
+            result.0 result.1 }
     {
         let form = Form::Primitive(primitive);
         self.repeat(form, primitive_form(primitive), piece, turns)
@@ -71,8 +66,8 @@ impl<'r, A: Allocator> Run<'r, A> {
     #[inline(always)]
     fn compacts(&mut self, target: Target, piece: &[u8], turns: &mut Count) -> (usize, Whole)
         requires { Awaits self.old (Form.Compact target) }
-        ensures { WholeTurnsReport (Form.Compact target) self.old self.new piece.now
-            turns.old.so_far turns.new.so_far result.0 result.1 }
+        ensures { WholeTurnsReport self.old self.new piece.now turns.old.so_far turns.new.so_far
+            result.0 result.1 }
     {
         self.repeat(Form::Compact(target), compact_form(target), piece, turns)
     }
@@ -99,8 +94,8 @@ impl<'r, A: Allocator> Run<'r, A> {
     #[inline(always)]
     fn whole_nodes(&mut self, form: Form, piece: &[u8], turns: &mut Count) -> (usize, Whole)
         requires { Awaits self.old form }
-        ensures { WholeTurnsReport form self.old self.new piece.now turns.old.so_far
-            turns.new.so_far result.0 result.1 }
+        ensures { WholeTurnsReport self.old self.new piece.now turns.old.so_far turns.new.so_far
+            result.0 result.1 }
     {
         match form {
             Form::Primitive(Primitive::U8) => self.integers(Primitive::U8, piece, turns),
@@ -117,71 +112,74 @@ impl<'r, A: Allocator> Run<'r, A> {
         }
     }
 
-    /// Takes one turn, and counts it.
-    fn one_turn(&mut self, piece: &[u8], turns: &mut Count) -> (usize, Turned)
-        ensures { TurnsReport self.old self.new piece.now turns.old.so_far turns.new.so_far
-            result.0 result.1 }
-    {
-        turns.tick();
-        (0, self.turn(piece))
-    }
-
-    /// A turn of another kind. Where no byte is left of the piece, a node that has some waits.
-    #[inline(never)]
-    fn other_turn(&mut self, piece: &[u8]) -> Turned
-        ensures reports { StepReports self.old self.new piece.now result }
-        ensures kept { KeepsTurns self.old self.new result }
-    {
-        if piece.is_empty()
-            && let Some(form) = self.next_form()
-            && let NodeForm::Bytes(_) = node_form(form)
-        {
-            return Turned::Stopped(Stopped::Wants);
-        }
-        self.turn(piece)
-    }
-
-    /// Takes turns, and counts each: on nodes whose own bytes the piece has whole, and else one of another kind. How many
-    /// bytes those before the last one took, and what the last one did.
+    /// Takes turns on nodes whose own bytes the piece has whole, and counts each: how many bytes those before the last one
+    /// took, and what came of the last one. Where it is `Left`, a turn of another kind is in its place.
     #[inline(always)]
-    fn take_turns(&mut self, piece: &[u8], turns: &mut Count) -> (usize, Turned)
-        ensures { TurnsReport self.old self.new piece.now turns.old.so_far turns.new.so_far
+    fn whole_turns(&mut self, piece: &[u8], turns: &mut Count) -> (usize, Whole)
+        ensures { WholeTurnsReport self.old self.new piece.now turns.old.so_far turns.new.so_far
             result.0 result.1 }
     {
-        let Some(form) = self.next_form() else {
-            return self.one_turn(piece, turns);
-        };
-        let (before, last) = self.whole_nodes(form, piece, turns);
-        match last {
-            Whole::Added(count) => (before, Turned::On(count)),
-            Whole::Left => (before, self.other_turn(&piece[before..])),
-            Whole::OutOfMemory => (before, Turned::OutOfMemory),
+        if !self.is_carrying()
+            && let Some(form) = self.next_form()
+        {
+            return self.whole_nodes(form, piece, turns);
         }
+        turns.tick();
+        self.is_on_its_way();
+        (0, Whole::Left)
     }
 
     /// Takes turns until one stops, and counts each: how many bytes of the piece they took, and why they stopped; where
     /// memory was refused, the bytes alone. The turns that close nodes are the builder's own, and counted there.
+    #[inline(never)]
+    fn feed_turns(&mut self, piece: &[u8], turns: &mut Count) -> Result<(usize, Stopped), usize>
+        ensures { FeedTells self.old self.new piece.now turns.old.so_far turns.new.so_far result }
+    {
+        let mut at = 0;
+        'turns: loop {
+            let (before, last) = self.whole_turns(&piece[at..], turns);
+            at += before;
+            match last {
+                Whole::Added(count) => {
+                    at += count;
+                    continue 'turns;
+                }
+                Whole::OutOfMemory => return Err(at),
+                Whole::Left => {}
+            }
+            match self.turn(&piece[at..]) {
+                Turned::On(count) => at += count,
+                Turned::Stopped(stopped) => return Ok((at, stopped)),
+                Turned::OutOfMemory => return Err(at),
+            }
+            if at == piece.len() && self.wants() {
+                turns.tick();
+                return Ok((at, Stopped::Wants));
+            }
+        }
+    }
+
+    /// Takes turns until one stops, as above, where the piece isn't held whole in one.
+    #[inline(always)]
     pub(crate) fn feed(
         &mut self,
         piece: &[u8],
         turns: &mut Count,
     ) -> Result<(usize, Stopped), usize>
-        ensures reports { IfOk result (λ x. FeedReports self.old self.new piece.now x.0 x.1) }
-        ensures short { IfErr result (λ n. RunsOut self.old piece.now n) }
-        ensures whole { is_whole self.old.built ≡ true → (result ≡ Ok (0, Stopped.Finished))
-            × (self.new ≡ self.old) }
-        ensures counts { FeedCounts self.old self.new piece.now turns.old.so_far
-            turns.new.so_far result }
+        ensures { FeedTells self.old self.new piece.now turns.old.so_far turns.new.so_far result }
     {
-        let mut at = 0;
-        'turns: loop {
-            let (before, last) = self.take_turns(&piece[at..], turns);
-            at += before;
-            match last {
-                Turned::On(count) => at += count,
-                Turned::Stopped(stopped) => return Ok((at, stopped)),
-                Turned::OutOfMemory => return Err(at),
+        match self.hold(piece) {
+            Held::All => {
+                turns.tick();
+                self.is_on_its_way();
+                Ok((piece.len(), Stopped::Wants))
             }
+            Held::OutOfMemory => {
+                turns.tick();
+                self.is_on_its_way();
+                Err(0)
+            }
+            Held::Left => self.feed_turns(piece, turns),
         }
     }
 }

@@ -1,7 +1,6 @@
 //! The streaming decoder: bytes in any pieces to a value of a type, or to a refusal with its reason and place.
 #![tactic(auto)]
 
-mod carry;
 mod decoder;
 mod fault;
 mod feeding;

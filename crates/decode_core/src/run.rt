@@ -1,28 +1,26 @@
 //! A decoder on its way: it takes its input turn by turn.
 
 ghost use Rattle.std.specs.Prelude.{ℕ, List, true, ◌≡◌, ◌⊎◌, ◌<◌, ◌≤◌, ◌+◌, ◌++◌, [], length};
-ghost use Rattle.std.specs.Prelude.{take, drop, None, Some, suc, IfSome, IfErr, IfOk, Ok, OnOk};
-ghost use Rattle.std.specs.Prelude.{OnErr};
+ghost use Rattle.std.specs.Prelude.{false, None, Some, IfSome, Ok};
 ghost use Rattle.decode_core.specs.Running.{IsCarry, IsFresh, IsKeptRun, IsRunNext};
 ghost use Rattle.grammar_core.specs.Runs.{run_form};
 ghost use Rattle.value_core.specs.Walked.{next_of};
 ghost use Rattle.value_core.specs.Built.{built_text_bytes, finished};
 ghost use Rattle.value_core.specs.Refusals.{is_whole};
-ghost use Rattle.form_core.specs.Needs.{AreOwn, IsFirst, IsNeeded};
+ghost use Rattle.form_core.specs.Needs.{AreOwn, IsNeeded};
 ghost use Rattle.form_core.specs.NodeForms.{form_of_bare, form_of_bytes, prefixed_kind};
 ghost use Rattle.decode_core.specs.NodeAdds.{TakesNode};
-ghost use Rattle.decode_core.specs.Turned.{BareReports, Awaits, EndReports, IsSound, KeepsTurns};
-ghost use Rattle.decode_core.specs.Turned.{IsOn, PieceReports, StepReports, WholeReports};
-ghost use Rattle.decode_core.specs.Turned.{node_turned};
+ghost use Rattle.decode_core.specs.Turned.{Awaits, BareReports, EndReports, HoldReports, IsOn};
+ghost use Rattle.decode_core.specs.Turned.{IsSound, KeepsTurns, PieceReports, StepReports};
+ghost use Rattle.decode_core.specs.Turned.{WantsBytes, WholeReports, node_turned};
 
-use crate::carry::Carry;
 use crate::fault::DecodeReason;
 use crate::node::{
     NodeFault, add_arm, add_bare, add_byte_array, add_plain, add_sequence, start_run, whole_run,
 };
-use crate::turned::{Stopped, Turned, Whole};
+use crate::turned::{Held, Stopped, Turned, Whole};
 use count_core::Count;
-use form_core::{BareForm, BytesForm, NodeForm, PrefixedRun, need, node_form};
+use form_core::{BareForm, BytesForm, Carry, NodeForm, PrefixedRun, few_need, need, node_form};
 use scale_core::compact_len;
 use std::alloc::Allocator;
 use std::marker::Model;
@@ -152,17 +150,6 @@ impl<'r, A: Allocator> Run<'r, A> {
         }
     }
 
-    /// The first of the next node's bytes, be it carried or the piece's.
-    fn first_byte(&self, piece: &[u8]) -> u8
-        requires { 1 ≤ length piece.now }
-        ensures { IsFirst result (self.now.carry ++ piece.now) }
-    {
-        match self.carry.as_slice().first() {
-            Some(first) => *first,
-            None => piece[0],
-        }
-    }
-
     /// A turn on a node whose own bytes the piece has whole.
     #[inline(always)]
     fn whole_turn(&mut self, form: BytesForm, own: &[u8]) -> Turned
@@ -180,7 +167,7 @@ impl<'r, A: Allocator> Run<'r, A> {
 
     /// A turn on a node of `len` own bytes that pieces cut: those that are carried, and as many of the piece's as are
     /// missing or there.
-    #[inline(never)]
+    #[inline(always)]
     fn cut_turn(&mut self, form: BytesForm, len: usize, piece: &[u8]) -> Turned
         requires next { next_of self.old.built.walk ≡ Next.Wants (form_of_bytes form) }
         requires closed { self.old.built.run ≡ None }
@@ -207,6 +194,7 @@ impl<'r, A: Allocator> Run<'r, A> {
     }
 
     /// A turn on a node with bytes of its own, other than a run that is open.
+    #[inline(always)]
     fn own_turn(&mut self, form: BytesForm, piece: &[u8]) -> Turned
         requires next { next_of self.old.built.walk ≡ Next.Wants (form_of_bytes form) }
         requires closed { self.old.built.run ≡ None }
@@ -217,7 +205,7 @@ impl<'r, A: Allocator> Run<'r, A> {
         if piece.is_empty() {
             return Turned::Stopped(Stopped::Wants);
         }
-        let len = need(form, self.first_byte(piece));
+        let len = need(form, self.carry.first_with(piece));
         if self.carry.as_slice().is_empty() && len <= piece.len() {
             return self.whole_turn(form, &piece[..len]);
         }
@@ -227,8 +215,7 @@ impl<'r, A: Allocator> Run<'r, A> {
     /// A turn on a node with bytes of its own, where the piece has them whole and they are not refused.
     #[inline(always)]
     pub(crate) fn whole_own(&mut self, form: BytesForm, piece: &[u8]) -> Whole
-        requires next { next_of self.old.built.walk ≡ Next.Wants (form_of_bytes form) }
-        requires closed { self.old.built.run ≡ None }
+        requires { Awaits self.old (form_of_bytes form) }
         ensures { WholeReports self.old self.new piece.now result }
     {
         if piece.is_empty() || !self.carry.as_slice().is_empty() {
@@ -248,8 +235,7 @@ impl<'r, A: Allocator> Run<'r, A> {
     /// A turn on a text or a run of bytes whose length stands before it, where the piece has it whole with its length and
     /// nothing of it is refused.
     pub(crate) fn whole_prefixed(&mut self, run: PrefixedRun, piece: &[u8]) -> Whole
-        requires next { next_of self.old.built.walk ≡ Next.Wants (run_form (prefixed_kind run)) }
-        requires closed { self.old.built.run ≡ None }
+        requires { Awaits self.old (run_form (prefixed_kind run)) }
         ensures { WholeReports self.old self.new piece.now result }
     {
         if self.carry.as_slice().is_empty()
@@ -283,8 +269,7 @@ impl<'r, A: Allocator> Run<'r, A> {
     /// A turn on a node without bytes of its own: none are missing, so it is added.
     #[inline(always)]
     pub(crate) fn whole_bare(&mut self, form: BareForm) -> Whole
-        requires next { next_of self.old.built.walk ≡ Next.Wants (form_of_bare form) }
-        requires closed { self.old.built.run ≡ None }
+        requires { Awaits self.old (form_of_bare form) }
         ensures { (piece : List ℕ) → WholeReports self.old self.new piece result }
     {
         match add_bare(&mut self.builder, form) {
@@ -345,10 +330,8 @@ impl<'r, A: Allocator> Run<'r, A> {
         let count = piece.len().min(run.missing as usize);
         match self.builder.extend_run(&piece[..count]) {
             Ok(()) => {
-                self.open_run = Some(OpenRun {
-                    len: run.len,
-                    missing: run.missing - count as u32,
-                });
+                let missing = run.missing - count as u32;
+                self.open_run = Some(OpenRun { missing, ..run });
                 Turned::On(count)
             }
             Err(_) => Turned::OutOfMemory,
@@ -398,6 +381,7 @@ impl<'r, A: Allocator> Run<'r, A> {
     }
 
     /// One turn: takes bytes of the piece, adds a node, or stops.
+    #[inline(never)]
     pub(crate) fn turn(&mut self, piece: &[u8]) -> Turned
         ensures reports { StepReports self.old self.new piece.now result }
         ensures kept { KeepsTurns self.old self.new result }
@@ -431,5 +415,83 @@ impl<'r, A: Allocator> Run<'r, A> {
             Next::Wants(form) => Some(form),
             _ => None,
         }
+    }
+
+    /// Holds the bytes that end a piece where the run that is open lacks more.
+    #[inline(always)]
+    fn hold_run(&mut self, run: OpenRun, rest: &[u8]) -> Held
+        requires next { IsRunNext self.old.built self.old.carry self.old.built.run }
+        requires open { IsKeptRun self.old.built.run (Some run) }
+        requires some { 1 ≤ length rest.now }
+        ensures { HoldReports self.old self.new rest.now result }
+    {
+        if run.missing as usize <= rest.len() {
+            return Held::Left;
+        }
+        let Ok(()) = self.builder.extend_run(rest) else {
+            return Held::OutOfMemory;
+        };
+        let missing = run.missing - rest.len() as u32;
+        self.open_run = Some(OpenRun { missing, ..run });
+        Held::All
+    }
+
+    /// The same where a node of this form is next.
+    #[inline(always)]
+    fn hold_own(&mut self, form: Form, rest: &[u8]) -> Held
+        requires next { Awaits self.old form }
+        requires some { 1 ≤ length rest.now }
+        ensures { HoldReports self.old self.new rest.now result }
+    {
+        if let Some(len) = few_need(form, self.carry.first_with(rest))
+            && self.carry.as_slice().len() + rest.len() < len
+        {
+            self.carry.fill(len, rest);
+            return Held::All;
+        }
+        Held::Left
+    }
+
+    /// Holds the bytes that end a piece where the next node lacks more.
+    #[inline(always)]
+    pub(crate) fn hold(&mut self, rest: &[u8]) -> Held
+        ensures { HoldReports self.old self.new rest.now result }
+    {
+        if !rest.is_empty() {
+            if let Some(run) = self.open_run {
+                return self.hold_run(run, rest);
+            }
+            if let Some(form) = self.next_form() {
+                return self.hold_own(form, rest);
+            }
+        }
+        Held::Left
+    }
+
+    /// Are bytes carried?
+    #[inline(always)]
+    pub(crate) fn is_carrying(&self) -> bool
+        ensures { result ≡ false → self.now.carry ≡ [] }
+    {
+        !self.carry.as_slice().is_empty()
+    }
+
+    /// Does the next node, of which no run is open, have bytes of its own? It waits for one where no byte is left.
+    pub(crate) fn wants(&self) -> bool
+        ensures wants { result ≡ true → WantsBytes self.now }
+        ensures sound { result ≡ true → IsSound self.now }
+    {
+        let Some(form) = self.next_form() else {
+            return false;
+        };
+        matches!(node_form(form), NodeForm::Bytes(_))
+    }
+
+    /// Takes no step: it says what holds of every value on its way.
+    #[inline(always)]
+    pub(crate) fn is_on_its_way(&self)
+        ensures { IsSound self.now }
+    {
+        let _walk = self.builder.walk();
     }
 }

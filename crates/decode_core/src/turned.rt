@@ -41,3 +41,14 @@ pub(crate) enum Whole {
     /// Memory was refused, and nothing changed.
     OutOfMemory,
 }
+
+/// What came of the bytes that end a piece, of which the next node may lack more. It is small, since pieces may be short.
+#[derive(Clone, Copy, Debug, PartialEq, Eq)]
+pub(crate) enum Held {
+    /// It does: all of them are held, and no turn follows.
+    All,
+    /// Nothing changed, and a turn follows.
+    Left,
+    /// Memory was refused, and nothing changed.
+    OutOfMemory,
+}

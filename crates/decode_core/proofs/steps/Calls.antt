@@ -1,34 +1,25 @@
 -- What the turns of a call add to those before it.
-use Rattle.std.proofs.Common.{◌≡◌, ℕ, ◌+◌, ◌-◌, ◌<◌, ◌≤◌, List, length, take, drop, sym}
+use Rattle.std.proofs.Common.{◌≡◌, ℕ, ◌+◌, ◌-◌, ◌<◌, ◌≤◌, List, length, take, drop, refl, sym, ◌∙◌}
 use Rattle.std.proofs.Common.{ap, subst, arith, inl, inr, length-drop}
-use Rattle.std.proofs.lemmas.List.{length-take, take_rest}
+use Rattle.std.proofs.lemmas.List.{drop_all, length-take, take_rest}
 use Rattle.std.proofs.Math.Seq.{take-add}
-use Rattle.std.specs.Prelude.{true}
+use Rattle.std.specs.Prelude.{Err, Ok, Result, true}
 use Rattle.grammar_core.specs.declared.form.Form.{Form}
 use Rattle.value_core.specs.Refusals.{is_whole}
 use Rattle.decode_core.specs.Running.{Running}
-use Rattle.decode_core.specs.Turned.{Awaits, FeedReports, FewTurns, KeepsTurns, Moves}
-use Rattle.decode_core.specs.Turned.{RunsOut, StepReports, StopCounts, StopsShort, TurnsReport}
-use Rattle.decode_core.specs.Turned.{WholeReports, WholeTurnsReport, left_to_do}
+use Rattle.decode_core.specs.Turned.{Awaits, FeedReports, FeedTells, FewTurns, IsSound, Moves}
+use Rattle.decode_core.specs.Turned.{KeepsTurns, RunsOut, StepReports, StopCounts}
+use Rattle.decode_core.specs.Turned.{StopsShort, TurnsReport}
+use Rattle.decode_core.specs.Turned.{WantsBytes, WholeReports, WholeTurnsReport, left_to_do}
 use Rattle.decode_core.specs.declared.turned.Stopped.{Stopped}
 use Rattle.decode_core.specs.declared.turned.Stopped.TheVariants as stop
 use Rattle.decode_core.specs.declared.turned.Turned.{Turned}
 use Rattle.decode_core.specs.declared.turned.Whole.{Whole}
 use Rattle.decode_core.specs.declared.turned.Whole.TheVariants as whole
 use Rattle.decode_core.specs.declared.turned.Turned.TheVariants as turned
-use Rattle.decode_core.proofs.steps.Moving.{awaits_goes_on, drop_more, grows_by, moves_on}
+use Rattle.decode_core.proofs.steps.Moving.{drop_more, grows_by, moves_none, moves_on}
 use Rattle.decode_core.proofs.steps.Moving.{one_or_bytes, stays_whole, step_nearer, turns_on}
-use Rattle.decode_core.proofs.steps.Moving.{turns_stop}
-
--- what the turns of a call report of what is left of a piece, which it was lent as a slice, where
--- their last one is known
-pub reported_of : (b d : Running) (piece : List ℕ) (at from to n : ℕ)
-    (last is : Turned) → last ≡ is →
-    TurnsReport b d (take (length piece - at) (drop at piece)) from to n last →
-    TurnsReport b d (drop at piece) from to n is
-reported_of b d piece at from to n last is e k =
-    subst (λ (t : Turned). TurnsReport b d (drop at piece) from to n t) e
-    (subst (λ (l : List ℕ). TurnsReport b d l from to n last) (take_rest piece at) k)
+use Rattle.decode_core.proofs.steps.Moving.{turns_stop, wants_goes_on}
 
 -- a turn on a node that the piece may have whole, after others of the same call
 pub whole_more : (a b d : Running) (f : Form) (piece : List ℕ) (at start from to : ℕ)
@@ -38,7 +29,7 @@ pub whole_more : (a b d : Running) (f : Form) (piece : List ℕ) (at start from 
     start + length b.built.entries ≤ from + length a.built.entries →
     from + length a.built.entries ≤ start + at + length b.built.entries → to ≡ from + 1 →
     Awaits a f → Awaits b f → WholeReports b d (take (length piece - at) (drop at piece)) last →
-    WholeTurnsReport f a d piece start to at last
+    WholeTurnsReport a d piece start to at last
 whole_more a b d f piece at start from to last le h near each few is first awaits reports =
     record {
       before = b;
@@ -46,30 +37,100 @@ whole_more a b d f piece at start from to last le h near each few is first await
       moves = h;
       nearer = near;
       few = (omega (arith, each, is), omega (arith, few, is));
-      awaits = awaits;
+      sound = awaits.sound;
       reports =
           subst (λ (l : List ℕ). WholeReports b d l last) (take_rest piece at) reports;
-      begun = λ w. awaits_goes_on a f first w;
+      whole = λ w. wants_goes_on a f first.next w;
     }
 
--- where the last of such turns changed nothing, a turn of another kind is in its place
-pub whole_left : (f : Form) (a b d : Running) (piece : List ℕ) (from to n : ℕ) (last : Turned) →
-    WholeTurnsReport f a b piece from to n whole.Left →
-    StepReports b d (take (length piece - n) (drop n piece)) last → KeepsTurns b d last →
-    TurnsReport a d piece from to n last
-whole_left f a b d piece from to n last w reports kept =
+-- where no such turn is taken, what stands is as it was
+pub no_whole : (a : Running) (piece : List ℕ) (from to : ℕ) → to ≡ from + 1 → IsSound a →
+    WholeTurnsReport a a piece from to 0 whole.Left
+no_whole a piece from to is sound = record {
+  before = a;
+  within = omega arith;
+  moves = moves_none a;
+  nearer = omega arith;
+  few = (omega (arith, is), omega (arith, is));
+  sound = sound;
+  reports = refl;
+  whole = λ w. (refl, refl, refl);
+}
+
+-- the same of what is left of a piece, which was lent as a slice, where the last turn is known
+whole_of : (b d : Running) (piece : List ℕ) (at from to n : ℕ) (last is : Whole) → last ≡ is →
+    WholeTurnsReport b d (take (length piece - at) (drop at piece)) from to n last →
+    WholeTurnsReport b d (drop at piece) from to n is
+whole_of b d piece at from to n last is e k =
+    subst (λ (t : Whole). WholeTurnsReport b d (drop at piece) from to n t) e
+    (subst (λ (l : List ℕ). WholeTurnsReport b d l from to n last) (take_rest piece at) k)
+
+-- where the last of such turns added a node, it went on
+pub whole_added : (b d : Running) (piece : List ℕ) (at from to n k : ℕ) (last : Whole) →
+    last ≡ whole.Added k →
+    WholeTurnsReport b d (take (length piece - at) (drop at piece)) from to n last →
+    TurnsReport b d (drop at piece) from to n (turned.On k)
+whole_added b d piece at from to n k last e h =
+    let w = whole_of b d piece at from to n last (whole.Added k) e h in
     record {
       before = w.before;
       within = w.within;
       moves = w.moves;
       nearer = w.nearer;
       few = w.few;
-      sound = w.awaits.sound;
-      reports = subst (λ (s : Running). StepReports s d (drop n piece) last) w.reports
-          (subst (λ (l : List ℕ). StepReports b d l last) (take_rest piece n) reports);
+      sound = w.sound;
+      reports = w.reports;
+      kept = tt;
+      whole = λ is. let no = (w.whole is).2 in absurd cc;
+    }
+
+-- where it wanted memory, nothing changed
+pub whole_short : (b d : Running) (piece : List ℕ) (at from to n : ℕ) (last : Whole) →
+    last ≡ whole.OutOfMemory →
+    WholeTurnsReport b d (take (length piece - at) (drop at piece)) from to n last →
+    TurnsReport b d (drop at piece) from to n turned.OutOfMemory
+whole_short b d piece at from to n last e h =
+    let w = whole_of b d piece at from to n last whole.OutOfMemory e h in
+    record {
+      before = w.before;
+      within = w.within;
+      moves = w.moves;
+      nearer = w.nearer;
+      few = w.few;
+      sound = w.sound;
+      reports = w.reports.0;
+      kept = ap (λ (s : Running). s.built.turns) w.reports.1;
+      whole = λ is. let no = (w.whole is).2 in absurd cc;
+    }
+
+-- where it changed nothing, a turn of another kind is in its place
+pub whole_left : (b x d : Running) (piece : List ℕ) (at from to n : ℕ) (left : Whole)
+    (last : Turned) → left ≡ whole.Left →
+    WholeTurnsReport b x (take (length piece - at) (drop at piece)) from to n left →
+    StepReports x d (take (length piece - (at + n)) (drop (at + n) piece)) last →
+    KeepsTurns x d last → (is_whole x.built ≡ true → last ≡ turned.Stopped stop.Finished) →
+    TurnsReport b d (drop at piece) from to n last
+whole_left b x d piece at from to n left last e h reports kept finished =
+    let w = whole_of b x piece at from to n left whole.Left e h in
+    let rest : drop (at + n) piece ≡ drop n (drop at piece) = sym (drop_more piece at n) in
+    record {
+      before = w.before;
+      within = w.within;
+      moves = w.moves;
+      nearer = w.nearer;
+      few = w.few;
+      sound = w.sound;
+      reports = subst (λ (s : Running). StepReports s d (drop n (drop at piece)) last) w.reports
+          (subst (λ (l : List ℕ). StepReports x d l last) rest
+          (subst (λ (l : List ℕ). StepReports x d l last) (take_rest piece (at + n)) reports));
       kept =
           subst (λ (s : Running). KeepsTurns s d last) w.reports kept;
-      whole = λ is. absurd (w.begun is);
+      whole = λ is. (
+        (w.whole is).0,
+        (w.whole is).1,
+        finished (subst (λ (s : Running). is_whole s.built ≡ true)
+            (sym (w.reports ∙ (w.whole is).1)) is),
+      );
     }
 
 -- the turns so far, and those of the call before its last one
@@ -222,3 +283,78 @@ pub whole_call_stops : {X : Type 0} (a b d : Running) (piece : List ℕ) (at fro
 whole_call_stops a b d piece at from to n k h t w =
     let stops = (t.whole (stays_whole a b at h w)).2 in
     absurd cc
+
+-- where it was, the one turn stops there, and nothing changes
+call_whole : (a b d : Running) (piece : List ℕ) (at from to n : ℕ) (s : Stopped) →
+    (is_whole a.built ≡ true → (at ≡ 0) × (b ≡ a)) →
+    TurnsReport b d piece from to n (turned.Stopped s) → is_whole a.built ≡ true →
+    (◌≡◌ {A = Result (ℕ × Stopped) ℕ} (Ok (at + n, s)) (Ok (0, stop.Finished))) × (d ≡ a)
+call_whole a b d piece at from to n stop.Finished h t w =
+    let was = h w in
+    let one = t.whole (stays_whole a b at h w) in
+    let none : at + n ≡ 0 = omega (arith, was.0, one.0) in
+    (ap (λ (m : ℕ). Ok (m, stop.Finished)) none, t.reports.0 ∙ one.1 ∙ was.1)
+call_whole a b d piece at from to n stop.Wants h t w =
+    let no = (t.whole (stays_whole a b at h w)).2 in absurd cc
+call_whole a b d piece at from to n (stop.Refused held reported_reason place len) h t w =
+    let no = (t.whole (stays_whole a b at h w)).2 in absurd cc
+
+-- ---- what a call tells
+
+-- what stands in the turns of a call: the bytes and turns so far, and what they led to
+pub record CallSoFar (a b : Running) (piece : List ℕ) (at start from : ℕ) : Type 0 where
+  pub inside : at ≤ length piece
+  pub moves : Moves a b (take at piece)
+  pub each : start + length b.built.entries ≤ from + length a.built.entries
+  pub few : from + length a.built.entries ≤ start + at + length b.built.entries
+  pub whole : is_whole a.built ≡ true → (at ≡ 0) × (b ≡ a)
+
+-- the last of its turns stops
+pub tells_stopped : (a b d : Running) (piece : List ℕ) (at start from to n : ℕ) (s : Stopped) →
+    CallSoFar a b piece at start from →
+    TurnsReport b d (drop at piece) from to n (turned.Stopped s) →
+    FeedTells a d piece start to (Ok (at + n, s))
+tells_stopped a b d piece at start from to n s c t = record {
+  reports = call_stops a b d piece at from to n s c.inside c.moves t;
+  short = tt;
+  whole = call_whole a b d (drop at piece) at from to n s c.whole t;
+  counts = call_counts a b d piece at start from to n s c.inside c.moves c.each c.few t;
+}
+
+-- it wants memory
+pub tells_short : (a b d : Running) (piece : List ℕ) (at start from to n : ℕ) →
+    CallSoFar a b piece at start from →
+    TurnsReport b d (drop at piece) from to n turned.OutOfMemory →
+    FeedTells a d piece start to (Err (at + n))
+tells_short a b d piece at start from to n c t = record {
+  reports = tt;
+  short = call_runs_out a b d piece at from to n c.inside c.moves t;
+  whole = λ w. let no = (t.whole (stays_whole a b at c.whole w)).2 in absurd cc;
+  counts = call_counts_short a b d piece at start from to n c.inside c.moves c.each c.few t;
+}
+
+-- it goes on
+pub call_on : (a b d : Running) (piece : List ℕ) (at start from to n k : ℕ) →
+    CallSoFar a b piece at start from → TurnsReport b d (drop at piece) from to n (turned.On k) →
+    CallSoFar a d piece (at + n + k) start to
+call_on a b d piece at start from to n k c t =
+    let on = call_goes_on a b d piece at from to n k c.inside c.moves t in
+    record {
+      inside = on.0;
+      moves = on.1;
+      each = call_each a b d (drop at piece) start from to n k c.each t;
+      few = call_few a b d (drop at piece) start from to at n k c.few t;
+      whole = λ w. whole_call_stops a b d (drop at piece) at from to n k c.whole t w;
+    }
+
+-- where it did and all bytes were taken, one more stops that finds the next node to want more
+pub tells_wants : (a b : Running) (piece : List ℕ) (at start from to : ℕ) →
+    CallSoFar a b piece at start from → to ≡ from + 1 → at ≡ length piece → WantsBytes b →
+    IsSound b → (is_whole b.built ≡ true → ⊥) → FeedTells a b piece start to (Ok (at, stop.Wants))
+tells_wants a b piece at start from to c is all wants sound begun = record {
+  reports =
+      (c.inside, (b, c.moves, (drop_all at piece (omega (arith, all)), wants), refl, sound));
+  short = tt;
+  whole = λ w. absurd (begun (stays_whole a b at c.whole w));
+  counts = (omega (arith, is, c.each), omega (arith, is, c.few));
+}

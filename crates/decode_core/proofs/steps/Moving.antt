@@ -10,11 +10,11 @@ use Rattle.grammar_core.specs.declared.form.Form.{Form}
 use Rattle.grammar_core.specs.declared.form.Next.TheVariants as next
 use Rattle.registry_core.specs.declared.type_info.TypeInfo.{TypeInfo}
 use Rattle.value_core.specs.Refusals.{is_whole, is_whole_in}
-use Rattle.value_core.specs.Walked.{OpenPart, first_in, next_from}
+use Rattle.value_core.specs.Walked.{OpenPart, first_in, next_from, next_of}
 use Rattle.decode_core.specs.Machine.{State, remain, to_go}
 use Rattle.decode_core.specs.Running.{Running, held_of, state_of}
 use Rattle.decode_core.specs.Reported.{after}
-use Rattle.decode_core.specs.Turned.{Awaits, FeedReports, IsSame, IsSound, Moves, StepReports}
+use Rattle.decode_core.specs.Turned.{FeedReports, IsSame, IsSound, Moves, StepReports}
 use Rattle.decode_core.specs.Turned.{Steps}
 use Rattle.decode_core.specs.Turned.{left_to_do, types_in}
 use Rattle.decode_core.specs.declared.turned.Stopped.{Stopped}
@@ -65,15 +65,20 @@ all_bytes : (held piece : List ℕ) (n : ℕ) → (held ++ take n piece) ++ drop
 all_bytes held piece n = append_assoc held (take n piece) (drop n piece)
     ∙ ap (λ (x : List ℕ). held ++ x) (take-append-drop n piece)
 
--- a step as a move
-pub step_moves : (a b : Running) (bytes : List ℕ) → IsSame a b → Steps a b bytes → Moves a b bytes
-step_moves a b bytes same (inl h) = record {
+-- bytes that are held, or none, as a move
+pub held_moves : (a b : Running) (bytes : List ℕ) → IsSame a b →
+    state_of b.built ≡ state_of a.built → held_of b ≡ held_of a ++ bytes → Moves a b bytes
+held_moves a b bytes same state held = record {
   same = same;
   own = [];
-  is = sym h.2;
-  reports = λ more. ap (λ (s : State). after s.nodes (remain (types_in a) s more)) (sym h.1);
-  level = ap (λ (s : State). s.room + length s.pending) h.1;
+  is = sym held;
+  reports = λ more. ap (λ (s : State). after s.nodes (remain (types_in a) s more)) (sym state);
+  level = ap (λ (s : State). s.room + length s.pending) state;
 }
+
+-- a step as a move
+pub step_moves : (a b : Running) (bytes : List ℕ) → IsSame a b → Steps a b bytes → Moves a b bytes
+step_moves a b bytes same (inl h) = held_moves a b bytes same h.1 h.2
 step_moves a b bytes same (inr h) = record {
   same = same;
   own = held_of a ++ bytes;
@@ -165,9 +170,9 @@ turn_nearer b c piece at n k =
 -- ---- turns that are taken together
 
 -- where a value is next that has not come, none is whole
-pub awaits_goes_on : {X : Type 0} (s : Running) (f : Form) → Awaits s f →
+pub wants_goes_on : {X : Type 0} (s : Running) (f : Form) → next_of s.built.walk ≡ next.Wants f →
     is_whole s.built ≡ true → X
-awaits_goes_on s f h w = by s.built.walk.frames h.next w where
+wants_goes_on s f h w = by s.built.walk.frames h w where
   none : {X : Type 0} (t : Option ℕ) → next_from s.built.walk t ≡ next.Wants f →
       is_none t ≡ true → X
   none None e k = absurd cc

@@ -2,7 +2,7 @@
 use Rattle.std.proofs.Common.{◌≡◌, ℕ, zero, suc, ◌+◌, ◌-◌, ◌<◌, ◌≤◌, List, [], ◌∷◌, ◌++◌, length}
 use Rattle.std.proofs.Common.{take, drop, min, Option, Some, None, Result, Ok, Err, refl, sym, ap}
 use Rattle.std.proofs.Common.{subst, ◌∙◌, append_assoc, arith, inl, length-append}
-use Rattle.std.specs.Prelude.{slice_get, slice_index_or, ◌==◌, true}
+use Rattle.std.specs.Prelude.{◌==◌, true}
 use Rattle.std.proofs.lemmas.Bool.{eqb-true}
 use Rattle.std.proofs.lemmas.List.{take-append-drop, length-take}
 use Rattle.std.proofs.Math.Seq.{take-append_seam}
@@ -364,20 +364,6 @@ cut_reports {c} {piece} {own} {count} {len} f b new cleared kept taken result he
     (subst (λ (l : List ℕ).
     StepReports (of_fields b c) (of_fields new l) (bytes ++ drop count piece)
     (node_turned taken (length c) (length bytes) (length own))) (sym clear) one))
-
--- the first byte of what is carried and of the piece
-pub first_carried : (c piece : List ℕ) (first : ℕ) → Some first ≡ slice_get c 0 →
-    IsFirst first (c ++ piece)
-first_carried [] piece first h = absurd cc
-first_carried (x ∷ c) piece first h = let same : x ≡ first = cc in
-    (c ++ piece, ap (λ (y : ℕ). y ∷ (c ++ piece)) same)
-
--- where nothing is carried, the first byte is that of the piece
-pub first_of_piece : (c piece : List ℕ) → None ≡ slice_get c 0 → 1 ≤ length piece →
-    IsFirst (slice_index_or piece 0 0) (c ++ piece)
-first_of_piece [] [] h some = absurd (omega (arith, some))
-first_of_piece [] (x ∷ piece) h some = (piece, refl)
-first_of_piece (y ∷ c) piece h some = absurd cc
 
 -- a list whose length is found to be 0 is empty
 pub none_of : (bytes : List ℕ) → true ≡ (length bytes == 0) → bytes ≡ []

@@ -1,4 +1,4 @@
-use Rattle.std.proofs.Common.{◌≡◌, ◌∙◌, ◌+◌, ◌++◌, Ok, Err}
+use Rattle.std.proofs.Common.{◌≡◌, ◌+◌, ◌++◌, Ok, Err}
 use Rattle.std.specs.Prelude.{Result}
 use Rattle.decode_core.specs.Viewed.{job_within}
 use Rattle.decode_core.specs.Decoding.{Decoding, IsSmall, RunCounted, RunLed, closing_turns}
@@ -35,9 +35,9 @@ returns-in-Ended-clause-answers g c = λ b led.
     let d = c.self.inside in
     let ended = c.in-Ended.ensures.answers _ b refl
     (led_to_run d _ _ b c.self.view_is c.in-Ok.is led) in (
-      (c.replace.ensures.after, ended),
+      (c.give_up.ensures.after, ended),
       subst (RunLed (job_within d) (b ++ c.args.piece.now) c.in-Ended.taken)
-          (sym c.replace.ensures.after) ended,
+          (sym c.give_up.ensures.after) ended,
     )
 
 pub returns-in-More-clause-held : goal.returns-in-More-clause-held
@@ -117,17 +117,16 @@ invariant_of-self-in-Ended g c =
     let i = c.self.invariant in
     let was = has_run c.self.inside _ i c.in-Ok.is in
     let counts = c.in-Ended.ensures.counts _ i.bytes _ refl was.led was.counted in
-    let gone : c.into_turns.result.so_far ≡ c.feed_run-fed.new.run.built.turns =
-    c.into_turns.ensures ∙ ap (λ (r : Result Running DecodeFault). closing_turns r 0)
-    c.replace.ensures.value in
+    let gone : c.give_up.result.so_far ≡ c.feed_run-fed.new.run.built.turns =
+    c.give_up.ensures.turns in
     record {
       limit = i.limit;
       bytes = i.bytes ++ c.args.piece.now;
       led = subst (RunLed j (i.bytes ++ c.args.piece.now) c.in-Ended.taken)
-          (sym c.replace.ensures.after) (c.in-Ended.ensures.answers _ i.bytes refl was.led);
+          (sym c.give_up.ensures.after) (c.in-Ended.ensures.answers _ i.bytes refl was.led);
       counted = subst (λ (r : Result Running DecodeFault). RunCounted j c.in-Ended.taken r
-          (c.feed_run-fed.new.turns.so_far + closing_turns r c.into_turns.result.so_far)
-          c.tick.new.self.so_far) (sym c.replace.ensures.after)
+          (c.feed_run-fed.new.turns.so_far + closing_turns r c.give_up.result.so_far)
+          c.tick.new.self.so_far) (sym c.give_up.ensures.after)
           (omega (arith, counts, gone, c.tick.ensures));
     }
 
@@ -137,21 +136,20 @@ returns-in-Ended-clause-small g c =
     let i = c.self.invariant in
     let was = has_run c.self.inside _ i c.in-Ok.is in
     let counts = c.in-Ended.ensures.counts _ i.bytes _ refl was.led was.counted in
-    let gone : c.into_turns.result.so_far ≡ c.feed_run-fed.new.run.built.turns =
-    c.into_turns.ensures ∙ ap (λ (r : Result Running DecodeFault). closing_turns r 0)
-    c.replace.ensures.value in
+    let gone : c.give_up.result.so_far ≡ c.feed_run-fed.new.run.built.turns =
+    c.give_up.ensures.turns in
     subst (λ (r : Result Running DecodeFault). IsSmall
     (record {
       job = j;
       taken = c.in-Ended.taken;
       run = r;
       turns =
-          c.feed_run-fed.new.turns.so_far + closing_turns r c.into_turns.result.so_far;
+          c.feed_run-fed.new.turns.so_far + closing_turns r c.give_up.result.so_far;
       calls =
           c.tick.new.self.so_far;
-    })) (sym c.replace.ensures.after)
+    })) (sym c.give_up.ensures.after)
     (led_small j (i.bytes ++ c.args.piece.now) c.in-Ended.taken (Err c.in-Ended.fault)
-    (c.feed_run-fed.new.turns.so_far + c.into_turns.result.so_far) c.tick.new.self.so_far
+    (c.feed_run-fed.new.turns.so_far + c.give_up.result.so_far) c.tick.new.self.so_far
     (c.in-Ended.ensures.answers _ i.bytes refl was.led)
     (omega (arith, counts, gone, c.tick.ensures)))
 

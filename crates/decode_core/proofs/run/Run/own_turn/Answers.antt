@@ -1,10 +1,8 @@
-use Rattle.std.proofs.Common.{ℕ, List, ◌≡◌, ◌++◌, [], drop}
-use Rattle.form_core.specs.Needs.{IsFirst}
+use Rattle.std.proofs.Common.{ℕ, List, ◌≡◌, [], drop}
 use Rattle.form_core.specs.NodeForms.{form_of_bytes}
 use Rattle.decode_core.specs.Turned.{StepReports}
 use Rattle.std.proofs.Common.{refl, sym, subst, ◌∙◌}
 use Rattle.std.proofs.lemmas.List.{take-append-drop}
-use Rattle.decode_core.specs.Running.{Running}
 use Rattle.decode_core.proofs.steps.RunTurns.{none_of, wants_more, whole_own}
 use Rattle.decode_core.proofs.steps.FormSplits.{have_bytes}
 use Rattle.decode_core.proofs.run.Run.own_turn.Goals as goal
@@ -21,11 +19,8 @@ whole_turn-requires-clause-whole g c =
     let k = c.self.inside.carry in
     let none : k ≡ [] = sym c.as_slice.ensures.bytes
     ∙ none_of c.as_slice.result.now c.if-is_empty-2.ensures in
-    let first : IsFirst c.first_byte.result (k ++ c.args.piece.now) =
-    subst (λ (s : Running). IsFirst c.first_byte.result (s.carry ++ c.args.piece.now))
-    (sym c.self.view_is) c.first_byte.ensures in
     whole_own (form_of_bytes c.args.form) k c.args.piece.now c.need-len.result
-    c.first_byte.result none first
+    c.first_with.result none c.first_with.ensures
     c.need-len.ensures.exact c.need-len.ensures.some c.if-len-piece.true
 
 pub returns-then-len-piece-clause-reports : goal.returns-then-len-piece-clause-reports

@@ -4,7 +4,8 @@ use Rattle.std.proofs.lemmas.List.{take-append-drop}
 use Rattle.form_core.specs.NodeForms.{form_of_bytes}
 use Rattle.decode_core.specs.Turned.{StepReports, WantsMemory}
 use Rattle.decode_core.specs.declared.turned.Turned.TheVariants as turned
-use Rattle.decode_core.proofs.steps.RunTurns.{first_of_piece, whole_own}
+use Rattle.form_core.proofs.Firsts.{first_of_piece}
+use Rattle.decode_core.proofs.steps.RunTurns.{whole_own}
 use Rattle.decode_core.proofs.run.Run.whole_own.Goals as goal
 
 pub whole_turn-requires-clause-whole : goal.whole_turn-requires-clause-whole

@@ -1,12 +1,13 @@
 //! The bytes of a node that a piece cut.
 
 ghost use Rattle.std.specs.Prelude.{◌≡◌, ◌≤◌, ◌-◌, ◌++◌, [], length, take, min};
+ghost use Rattle.form_core.specs.Needs.{IsFirst};
 
 use std::marker::Model;
 
 /// At most 32 bytes: those of an integer, a character, a compact integer or an index that came so far.
 #[derive(Drop)]
-pub(crate) struct Carry {
+pub struct Carry {
     bytes: [u8; 32],
     len: usize,
 }
@@ -22,7 +23,8 @@ impl Model for Carry {
 }
 
 impl Carry {
-    pub(crate) fn new() -> Carry
+    /// No bytes.
+    pub fn new() -> Carry
         ensures { result ≡ [] }
     {
         Carry {
@@ -31,28 +33,45 @@ impl Carry {
         }
     }
 
+    /// The first byte of these and of a piece that follows them.
+    pub fn first_with(&self, piece: &[u8]) -> u8
+        requires { 1 ≤ length piece.now }
+        ensures { IsFirst result (self.now ++ piece.now) }
+    {
+        match self.as_slice().first() {
+            Some(first) => *first,
+            None => piece[0],
+        }
+    }
+
     /// The bytes, lent.
-    pub(crate) fn as_slice(&self) -> &[u8]
+    pub fn as_slice(&self) -> &[u8]
         ensures bytes { result.now ≡ self.now }
         ensures bound { length self.now ≤ 32 }
     {
         &self.bytes[..self.len]
     }
 
-    pub(crate) fn clear(&mut self)
+    /// Lets the bytes go.
+    pub fn clear(&mut self)
         ensures { self.new ≡ [] }
     {
         self.len = 0;
     }
 
     /// Takes bytes off the piece until there are `want` or the piece ends: how many it took.
-    pub(crate) fn fill(&mut self, want: usize, piece: &[u8]) -> usize
+    #[inline(always)]
+    pub fn fill(&mut self, want: usize, piece: &[u8]) -> usize
         requires { (length self.old ≤ want) × (want ≤ 32) }
         ensures count { result ≡ min (want - length self.old) (length piece.now) }
         ensures held { self.new ≡ self.old ++ take result piece.now }
     {
         let count = (want - self.len).min(piece.len());
-        self.bytes[self.len..self.len + count].copy_from_slice(&piece[..count]);
+        if count == 1 {
+            self.bytes[self.len] = piece[0];
+        } else {
+            self.bytes[self.len..self.len + count].copy_from_slice(&piece[..count]);
+        }
         self.len += count;
         count
     }

@@ -1,0 +1,100 @@
+use Rattle.std.proofs.Common.{◌+◌, refl}
+use Rattle.decode_core.specs.declared.turned.Turned.TheVariants as turned
+use Rattle.decode_core.proofs.steps.Calls.{call_nearer, call_on, tells_short, tells_stopped}
+use Rattle.decode_core.proofs.steps.Calls.{tells_wants, whole_added, whole_left, whole_short}
+use Rattle.decode_core.proofs.steps.Moving.{wants_goes_on}
+use Rattle.decode_core.proofs.run.Run.feed_turns.Goals as goal
+
+pub turns-smaller-in-Added : goal.turns-smaller-in-Added
+turns-smaller-in-Added g c =
+    let w = c.whole_turns-before in
+    call_nearer c.turns.self w.new.self c.args.piece.now c.turns.at c.turns.turns.so_far
+    w.new.turns.so_far w.result.0 c.in-Added.count
+    (whole_added c.turns.self w.new.self c.args.piece.now c.turns.at c.turns.turns.so_far
+    w.new.turns.so_far w.result.0 c.in-Added.count w.result.1 c.in-Added.is w.ensures)
+
+pub turns-preserved-in-Added : goal.turns-preserved-in-Added
+turns-preserved-in-Added g c =
+    let w = c.whole_turns-before in
+    record {
+      piece = refl;
+      so_far = call_on c.args.self.now c.turns.self w.new.self c.args.piece.now c.turns.at
+          c.args.turns.now.so_far c.turns.turns.so_far w.new.turns.so_far w.result.0
+          c.in-Added.count c.turns.invariant.so_far
+          (whole_added c.turns.self w.new.self c.args.piece.now c.turns.at c.turns.turns.so_far
+          w.new.turns.so_far w.result.0 c.in-Added.count w.result.1 c.in-Added.is w.ensures);
+    }
+
+pub returns-in-OutOfMemory : goal.returns-in-OutOfMemory
+returns-in-OutOfMemory g c =
+    let w = c.whole_turns-before in
+    tells_short c.args.self.now c.turns.self w.new.self c.args.piece.now c.turns.at
+    c.args.turns.now.so_far c.turns.turns.so_far w.new.turns.so_far w.result.0
+    c.turns.invariant.so_far
+    (whole_short c.turns.self w.new.self c.args.piece.now c.turns.at c.turns.turns.so_far
+    w.new.turns.so_far w.result.0 w.result.1 c.in-OutOfMemory.is w.ensures)
+
+pub returns-in-Stopped : goal.returns-in-Stopped
+returns-in-Stopped g c =
+    let w = c.whole_turns-before in
+    let t = c.in-Stopped.ensures in
+    tells_stopped c.args.self.now c.turns.self c.turn.new.self c.args.piece.now c.turns.at
+    c.args.turns.now.so_far c.turns.turns.so_far w.new.turns.so_far w.result.0
+    c.in-Stopped.stopped c.turns.invariant.so_far
+    (whole_left c.turns.self w.new.self c.turn.new.self c.args.piece.now c.turns.at
+    c.turns.turns.so_far w.new.turns.so_far w.result.0 w.result.1
+    (turned.Stopped c.in-Stopped.stopped) c.in-Left.is w.ensures t.reports t.kept t.whole)
+
+pub returns-in-OutOfMemory-turn : goal.returns-in-OutOfMemory-turn
+returns-in-OutOfMemory-turn g c =
+    let w = c.whole_turns-before in
+    let t = c.in-OutOfMemory-turn.ensures in
+    tells_short c.args.self.now c.turns.self c.turn.new.self c.args.piece.now c.turns.at
+    c.args.turns.now.so_far c.turns.turns.so_far w.new.turns.so_far w.result.0
+    c.turns.invariant.so_far
+    (whole_left c.turns.self w.new.self c.turn.new.self c.args.piece.now c.turns.at
+    c.turns.turns.so_far w.new.turns.so_far w.result.0 w.result.1 turned.OutOfMemory c.in-Left.is
+    w.ensures t.reports t.kept t.whole)
+
+pub returns-then-wants : goal.returns-then-wants
+returns-then-wants g c =
+    let w = c.whole_turns-before in
+    let t = c.in-On.ensures in
+    let wants = c.if-wants.ensures.wants refl in
+    tells_wants c.args.self.now c.turn.new.self c.args.piece.now
+    (c.turns.at + w.result.0 + c.in-On.count) c.args.turns.now.so_far w.new.turns.so_far
+    c.tick.new.self.so_far
+    (call_on c.args.self.now c.turns.self c.turn.new.self c.args.piece.now c.turns.at
+    c.args.turns.now.so_far c.turns.turns.so_far w.new.turns.so_far w.result.0 c.in-On.count
+    c.turns.invariant.so_far
+    (whole_left c.turns.self w.new.self c.turn.new.self c.args.piece.now c.turns.at
+    c.turns.turns.so_far w.new.turns.so_far w.result.0 w.result.1 (turned.On c.in-On.count)
+    c.in-Left.is w.ensures t.reports t.kept t.whole))
+    c.tick.ensures c.if-at-piece.true wants (c.if-wants.ensures.sound refl)
+    (λ is. wants_goes_on c.turn.new.self wants.form wants.next is)
+
+pub turns-smaller : goal.turns-smaller
+turns-smaller g c =
+    let w = c.whole_turns-before in
+    let k = c.in-On.count in
+    let t = c.in-On.ensures in
+    call_nearer c.turns.self c.turn.new.self c.args.piece.now c.turns.at c.turns.turns.so_far
+    w.new.turns.so_far w.result.0 k
+    (whole_left c.turns.self w.new.self c.turn.new.self c.args.piece.now c.turns.at
+    c.turns.turns.so_far w.new.turns.so_far w.result.0 w.result.1 (turned.On k) c.in-Left.is
+    w.ensures t.reports t.kept t.whole)
+
+pub turns-preserved : goal.turns-preserved
+turns-preserved g c =
+    let w = c.whole_turns-before in
+    let k = c.in-On.count in
+    let t = c.in-On.ensures in
+    record {
+      piece = refl;
+      so_far = call_on c.args.self.now c.turns.self c.turn.new.self c.args.piece.now c.turns.at
+          c.args.turns.now.so_far c.turns.turns.so_far w.new.turns.so_far w.result.0 k
+          c.turns.invariant.so_far
+          (whole_left c.turns.self w.new.self c.turn.new.self c.args.piece.now c.turns.at
+          c.turns.turns.so_far w.new.turns.so_far w.result.0 w.result.1 (turned.On k) c.in-Left.is
+          w.ensures t.reports t.kept t.whole);
+    }

@@ -1,0 +1,13 @@
+use Rattle.std.proofs.Common.{◌≡◌, drop}
+use Rattle.decode_core.specs.Turned.{left_to_do}
+use Rattle.decode_core.proofs.steps.Calls.{CallSoFar}
+use Rattle.decode_core.proofs.run.Run.feed_turns.Given as goal
+
+abbrev pub invariant-turns : goal.invariant-turns
+invariant-turns g l = record {
+  piece : l.piece ≡ l.fn.piece;
+  so_far : CallSoFar l.fn.self l.self l.piece l.at l.fn.turns.so_far l.turns.so_far;
+}
+
+abbrev pub decreases-turns : goal.decreases-turns
+decreases-turns g l = left_to_do l.self (drop l.at l.piece)
