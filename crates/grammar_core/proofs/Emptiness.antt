@@ -8,17 +8,18 @@ use Rattle.scale_core.proofs.Again.{compact-bytes}
 use Rattle.registry_core.specs.declared.type_info.TypeInfo.{TypeInfo}
 use Rattle.widths_core.specs.declared.class.Class.TheVariants as class
 use Rattle.widths_core.specs.Classes.{class_of, empty_within}
-use Rattle.widths_core.specs.Layouts.{Layout, layout}
+use Rattle.widths_core.specs.Layouts.{Plain, Layout, layout}
 use Rattle.widths_core.specs.Layouts as layout
 use Rattle.widths_core.specs.declared.run_kind.RunKind.{RunKind}
 use Rattle.widths_core.specs.declared.run_kind.RunKind.TheVariants as kind
 use Rattle.grammar_core.specs.Runs.{SpellsRun}
 use Rattle.widths_core.proofs.Known.{KnowsLayout, known, empty_class, class_empty, class_finite}
 use Rattle.widths_core.proofs.Known.{layout_empty}
-use Rattle.grammar_core.specs.Tree.{Tree, leaf, branch, unit, bool, char, text, bytes, unsigned}
-use Rattle.grammar_core.specs.Tree.{signed, wide, compact, fields, arm, list, count, Trees, none}
-use Rattle.grammar_core.specs.Tree.{and, how_many, Leaf}
-use Rattle.grammar_core.specs.Grammar.{Val, Vals, SpellsLeaf}
+use Rattle.grammar_core.specs.Tree.{Leaf, Tree, leaf, branch, unit, fields, arm, list, Trees, none}
+use Rattle.grammar_core.specs.Tree.{and, how_many}
+use Rattle.grammar_core.specs.Ways.{SpelledBy, way_of}
+use Rattle.grammar_core.proofs.Ways.{spelled_as}
+use Rattle.grammar_core.specs.Grammar.{Val, Vals}
 use Rattle.grammar_core.specs.Laws.{EmptyHasUnit, SizedHasBytes}
 
 abbrev is_nil : List ℕ → Bool
@@ -57,47 +58,21 @@ run_no_bytes r t (kind.ByteArray n) s b e f h =
     (sym h.1.0 ∙ ap length none))
 
 -- a leaf of no bytes is of a type that takes none
-leaf_no_bytes : (r : List TypeInfo) (t : ℕ) (l : Leaf) (b : List ℕ) → b ≡ [] →
-    SpellsLeaf (layout r t) l b → class_of r t ≡ class.Empty
-leaf_no_bytes r t unit b e h = known_at r t (layout.plain layout.empty) h.0
-leaf_no_bytes r t (bool x) b e h = let no = sym e ∙ h.1 in absurd cc
-leaf_no_bytes r t (char c) b e h = let no = sym (ap length e) ∙ h.1 in absurd (omega (arith, no))
-leaf_no_bytes r t (text s) b e h =
-    compact_has_byte (length s) h.1.0 h.1.1 (nil_parts h.1.0 s (sym h.1.3 ∙ e)).0
-leaf_no_bytes r t (bytes s) b e h = run_no_bytes r t h.0 s b e h.2 h.3
-leaf_no_bytes r t (unsigned x) b e h =
-    absurd (omega (
-      arith,
-      known_at r t (layout.plain (layout.unsigned h.0)) h.1,
-      sym (ap length e)
-          ∙ h.2,
-    ))
-leaf_no_bytes r t (signed x) b e h =
-    absurd (omega (
-      arith,
-      known_at r t (layout.plain (layout.signed h.0)) h.1,
-      sym (ap length e)
-          ∙ h.2,
-    ))
-leaf_no_bytes r t (wide x) b e h = let no = sym (ap length e) ∙ h.1 in absurd (omega (arith, no))
-leaf_no_bytes r t (compact x) b e h =
-    empty_class r t (known_at r t (layout.plain (layout.compact h.0)) h.1
-    (compact-bytes h.0 x b h.2 e))
-leaf_no_bytes r t (count k) b e h = compact_has_byte k b h.1 e
-
--- the one leaf of a type that takes no bytes
-leaf_unique : (l : Leaf) (f : Layout) (b : List ℕ) → f ≡ (layout.plain layout.empty) →
-    SpellsLeaf f l b → (l ≡ unit) × (b ≡ [])
-leaf_unique unit f b e h = (refl, h.1)
-leaf_unique (bool x) f b e h = let no = sym e ∙ h.0 in absurd cc
-leaf_unique (char c) f b e h = let no = sym e ∙ h.0 in absurd cc
-leaf_unique (text s) f b e h = let no = sym e ∙ h.0 in absurd cc
-leaf_unique (bytes s) f b e h = let no = sym e ∙ h.2 in absurd cc
-leaf_unique (unsigned x) f b e h = let no = sym e ∙ h.1 in absurd cc
-leaf_unique (signed x) f b e h = let no = sym e ∙ h.1 in absurd cc
-leaf_unique (wide x) f b e h = let no = sym e ∙ h.0 in absurd cc
-leaf_unique (compact x) f b e h = let no = sym e ∙ h.1 in absurd cc
-leaf_unique (count k) f b e h = let no = sym e ∙ h.0 in absurd cc
+leaf_no_bytes : (r : List TypeInfo) (t : ℕ) (p : Plain) (l : Leaf) →
+    layout r t ≡ layout.plain p → SpelledBy (way_of p) l [] → class_of r t ≡ class.Empty
+leaf_no_bytes r t layout.empty l e h = known_at r t (layout.plain layout.empty) e
+leaf_no_bytes r t layout.bool l e h = let no = h.0 in absurd (omega (arith, no))
+leaf_no_bytes r t layout.char l e h = let no = h.0 in absurd (omega (arith, no))
+leaf_no_bytes r t (layout.run k) l e h = run_no_bytes r t k h.0 [] refl e h.2
+leaf_no_bytes r t (layout.unsigned k) l e h =
+    absurd (omega (arith, known_at r t (layout.plain (layout.unsigned k)) e, h.0))
+leaf_no_bytes r t (layout.signed k) l e h =
+    absurd (omega (arith, known_at r t (layout.plain (layout.signed k)) e, h.0))
+leaf_no_bytes r t layout.wide l e h = let no = h.0 in absurd (omega (arith, no))
+leaf_no_bytes r t layout.counted l e h = compact_has_byte h.0 [] h.2 refl
+leaf_no_bytes r t (layout.compact m) l e h =
+    empty_class r t (known_at r t (layout.plain (layout.compact m)) e
+    (compact-bytes m h.0 [] h.2 refl))
 
 mutual
   unfolding Val
@@ -105,7 +80,8 @@ mutual
   -- a value with no byte is of a type that takes none
   pub no_bytes : (r : List TypeInfo) (t : ℕ) (v : Tree) (b : List ℕ) → b ≡ [] → Val r t v b →
       class_of r t ≡ class.Empty
-  no_bytes r t (leaf l) b e h = leaf_no_bytes r t l b e h
+  no_bytes r t (leaf l) b e h =
+      leaf_no_bytes r t h.0 l h.1 (subst (SpelledBy (way_of h.0) l) e h.2)
   no_bytes r t (branch fields vs) b e h =
       empty_class r t (known_at r t (layout.fields h.0) h.1 (all_no_bytes r h.0 vs b e h.2))
   no_bytes r t (branch (arm q) vs) b e h = let no = sym e ∙ h.6 in absurd cc
@@ -143,7 +119,8 @@ sized_has_bytes r t v b sized h =
 pub empty_unique : (r : List TypeInfo) (t : ℕ) (v : Tree) (b : List ℕ) →
     layout r t ≡ (layout.plain layout.empty) → Val r t v b → (v ≡ leaf unit) × (b ≡ [])
 unfolding Val
-empty_unique r t (leaf l) b e h = let is = leaf_unique l (layout r t) b e h in (ap leaf is.0, is.1)
+empty_unique r t (leaf l) b e h = let is =
+    spelled_as (layout r t) layout.empty l b e h in (ap leaf is.0, is.1)
 empty_unique r t (branch fields vs) b e h = let no = sym e ∙ h.1 in absurd cc
 empty_unique r t (branch (arm q) vs) b e h = let no = sym e ∙ h.4 in absurd cc
 empty_unique r t (branch list vs) b e (inl h) = let no = sym e ∙ h.2 in absurd cc
@@ -155,6 +132,6 @@ unfolding Val
 empty_has_unit r t e =
     let is = empty_class r t e in (
       class_finite r t (λ no. let both = sym is ∙ no in absurd cc),
-      (layout_empty r t is, refl),
+      (layout.empty, layout_empty r t is, (refl, refl)),
       λ v b. empty_unique r t v b (layout_empty r t is),
     )
