@@ -60,7 +60,7 @@ arms_taken child taken arms (index ∷ rest) = suc (arm_taken child taken (arm_o
 -- so many bytes are judged when all are there
 abbrev pub taken_by : Way → List ℕ → ℕ
 taken_by (of_no_byte l) b = 0
-taken_by (of_width k make) b = k
+taken_by (of_width k make fault) b = k
 taken_by (of_compact m make) b = compact_taken m b
 taken_by (of_run k) b = run_taken k b
 

@@ -7,7 +7,7 @@ use Rattle.scale_core.specs.declared.compact.Target.TheVariants as target
 use Rattle.scale_core.proofs.Again.{compact-bytes}
 use Rattle.registry_core.specs.declared.type_info.TypeInfo.{TypeInfo}
 use Rattle.widths_core.specs.declared.class.Class.TheVariants as class
-use Rattle.widths_core.specs.Classes.{class_of, empty_within}
+use Rattle.widths_core.specs.Classes.{IsEmpty, class_of, empty_within}
 use Rattle.widths_core.specs.Layouts.{Plain, Layout, layout}
 use Rattle.widths_core.specs.Layouts as layout
 use Rattle.widths_core.specs.declared.run_kind.RunKind.{RunKind}
@@ -17,7 +17,8 @@ use Rattle.widths_core.proofs.Known.{KnowsLayout, known, empty_class, class_empt
 use Rattle.widths_core.proofs.Known.{layout_empty}
 use Rattle.grammar_core.specs.Tree.{Leaf, Tree, leaf, branch, unit, fields, arm, list, Trees, none}
 use Rattle.grammar_core.specs.Tree.{and, how_many}
-use Rattle.grammar_core.specs.Ways.{SpelledBy, way_of}
+use Rattle.grammar_core.specs.Ways.{Way, of_no_byte, of_width, of_compact, of_run, SpelledBy}
+use Rattle.grammar_core.specs.Ways.{way_of}
 use Rattle.grammar_core.proofs.Ways.{spelled_as}
 use Rattle.grammar_core.specs.Grammar.{Val, Vals}
 use Rattle.grammar_core.specs.Laws.{EmptyHasUnit, SizedHasBytes}
@@ -47,32 +48,39 @@ compact_has_byte x b h e = let no = compact-bytes target.U32 x b h e in absurd c
 
 -- a run of bytes without any is of a type that takes none
 run_no_bytes : (r : List TypeInfo) (t : ℕ) (k : RunKind) (s b : List ℕ) → b ≡ [] →
-    layout r t ≡ layout.plain (layout.run k) → SpellsRun k s b → class_of r t ≡ class.Empty
-run_no_bytes r t kind.Text s b e f h =
+    KnowsLayout r t (layout.plain (layout.run k)) → SpellsRun k s b → class_of r t ≡ class.Empty
+run_no_bytes r t kind.Text s b e known h =
     compact_has_byte (length s) h.0 h.1 (nil_parts h.0 s (sym h.3 ∙ e)).0
-run_no_bytes r t kind.Bytes s b e f h =
+run_no_bytes r t kind.Bytes s b e known h =
     compact_has_byte (length s) h.0 h.1 (nil_parts h.0 s (sym h.3 ∙ e)).0
-run_no_bytes r t (kind.ByteArray n) s b e f h =
+run_no_bytes r t (kind.ByteArray n) s b e known h =
     let none : s ≡ [] = (nil_parts h.0 s (sym h.3 ∙ e)).1 in
-    empty_class r t (known_at r t (layout.plain (layout.run (kind.ByteArray n))) f
-    (sym h.1.0 ∙ ap length none))
+    empty_class r t (known (sym h.1.0 ∙ ap length none))
+
+-- what is known of a type whose values are read in this way
+abbrev KnowsWay : List TypeInfo → ℕ → Way → Type 0
+KnowsWay r t (of_no_byte l) = class_of r t ≡ class.Empty
+KnowsWay r t (of_width k make fault) = 1 ≤ k
+KnowsWay r t (of_compact m make) = m ≡ target.Unit → IsEmpty r t
+KnowsWay r t (of_run k) = KnowsLayout r t (layout.plain (layout.run k))
+
+-- it is known by the kind that its layout is
+knows_way : (r : List TypeInfo) (t : ℕ) (p : Plain) → KnowsLayout r t (layout.plain p) →
+    KnowsWay r t (way_of p)
+knows_way r t layout.bool h = omega arith
+knows_way r t layout.char h = omega arith
+knows_way r t layout.wide h = omega arith
+knows_way r t layout.counted h = λ e. absurd cc
+knows_way r t _ h = h
 
 -- a leaf of no bytes is of a type that takes none
-leaf_no_bytes : (r : List TypeInfo) (t : ℕ) (p : Plain) (l : Leaf) →
-    layout r t ≡ layout.plain p → SpelledBy (way_of p) l [] → class_of r t ≡ class.Empty
-leaf_no_bytes r t layout.empty l e h = known_at r t (layout.plain layout.empty) e
-leaf_no_bytes r t layout.bool l e h = let no = h.0 in absurd (omega (arith, no))
-leaf_no_bytes r t layout.char l e h = let no = h.0 in absurd (omega (arith, no))
-leaf_no_bytes r t (layout.run k) l e h = run_no_bytes r t k h.0 [] refl e h.2
-leaf_no_bytes r t (layout.unsigned k) l e h =
-    absurd (omega (arith, known_at r t (layout.plain (layout.unsigned k)) e, h.0))
-leaf_no_bytes r t (layout.signed k) l e h =
-    absurd (omega (arith, known_at r t (layout.plain (layout.signed k)) e, h.0))
-leaf_no_bytes r t layout.wide l e h = let no = h.0 in absurd (omega (arith, no))
-leaf_no_bytes r t layout.counted l e h = compact_has_byte h.0 [] h.2 refl
-leaf_no_bytes r t (layout.compact m) l e h =
-    empty_class r t (known_at r t (layout.plain (layout.compact m)) e
-    (compact-bytes m h.0 [] h.2 refl))
+leaf_no_bytes : (r : List TypeInfo) (t : ℕ) (w : Way) (l : Leaf) → KnowsWay r t w →
+    SpelledBy w l [] → class_of r t ≡ class.Empty
+leaf_no_bytes r t (of_no_byte u) l known h = known
+leaf_no_bytes r t (of_width k make fault) l known h = absurd (omega (arith, known, h.0))
+leaf_no_bytes r t (of_compact m make) l known h =
+    empty_class r t (known (compact-bytes m h.0 [] h.2 refl))
+leaf_no_bytes r t (of_run k) l known h = run_no_bytes r t k h.0 [] refl known h.2
 
 mutual
   unfolding Val
@@ -81,7 +89,8 @@ mutual
   pub no_bytes : (r : List TypeInfo) (t : ℕ) (v : Tree) (b : List ℕ) → b ≡ [] → Val r t v b →
       class_of r t ≡ class.Empty
   no_bytes r t (leaf l) b e h =
-      leaf_no_bytes r t h.0 l h.1 (subst (SpelledBy (way_of h.0) l) e h.2)
+      leaf_no_bytes r t (way_of h.0) l (knows_way r t h.0 (known_at r t (layout.plain h.0) h.1))
+      (subst (SpelledBy (way_of h.0) l) e h.2)
   no_bytes r t (branch fields vs) b e h =
       empty_class r t (known_at r t (layout.fields h.0) h.1 (all_no_bytes r h.0 vs b e h.2))
   no_bytes r t (branch (arm q) vs) b e h = let no = sym e ∙ h.6 in absurd cc

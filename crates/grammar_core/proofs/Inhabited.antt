@@ -6,7 +6,7 @@ use Rattle.std.specs.Prelude.{◌==◌, ◌||◌, flat_map}
 use Rattle.std.specs.List.{list_all, list_any, AllByRecursion}
 use Rattle.std.specs.Str.{is_utf8, chars}
 use Rattle.std.proofs.lemmas.Bool.{eqb-true, eq-eqb}
-use Rattle.scale_core.specs.Number.{AreBytes, number, signed_number}
+use Rattle.scale_core.specs.Number.{AreBytes}
 use Rattle.scale_core.specs.Compact.{compact, IsCompact}
 use Rattle.scale_core.specs.declared.compact.Target.{Target}
 use Rattle.scale_core.specs.declared.compact.Target.TheVariants as target
@@ -28,12 +28,14 @@ use Rattle.widths_core.specs.Classes.{finite_within, finite_step, holds_at, is_e
 use Rattle.widths_core.specs.Layouts.{Plain, layout, sized_layout, kind_layout, sequence_layout}
 use Rattle.widths_core.specs.Layouts.{array_layout, is_byte, compact_layout}
 use Rattle.widths_core.specs.Layouts as layout
+use Rattle.widths_core.specs.declared.run_kind.RunKind.{RunKind}
 use Rattle.widths_core.specs.declared.run_kind.RunKind.TheVariants as kind
 use Rattle.widths_core.proofs.Ranks.{and_parts, or_parts}
-use Rattle.grammar_core.specs.Tree.{Leaf, Tree, leaf, branch, unit, bool, char, text, bytes}
-use Rattle.grammar_core.specs.Tree.{unsigned, signed, wide, compact as compact_value, fields, arm}
-use Rattle.grammar_core.specs.Tree.{list, count, Trees, none, and, how_many}
-use Rattle.grammar_core.specs.Ways.{SpelledBy, way_of}
+use Rattle.grammar_core.specs.Tree.{Leaf, Tree, leaf, branch, fields, arm, list, Trees, none, and}
+use Rattle.grammar_core.specs.Tree.{how_many}
+use Rattle.grammar_core.specs.Ways.{Way, of_no_byte, of_width, of_compact, of_run, SpelledBy}
+use Rattle.grammar_core.specs.Ways.{way_of}
+use Rattle.grammar_core.specs.Runs.{SpellsRun, run_leaf}
 use Rattle.grammar_core.specs.Grammar.{Val, Vals, Each}
 use Rattle.grammar_core.specs.Laws.{FiniteHasValue}
 
@@ -208,43 +210,47 @@ zero_of target.Unit = ([], tt, (refl, refl))
 zero_of target.U8 = (compact 0, zero-bytes, (omega arith, refl))
 zero_of _ = (compact 0, zero-bytes, (omega arith, refl))
 
--- the least leaf of each kind, and the bytes that spell it
-least : (p : Plain) → (l : Leaf) × (b : List ℕ) × AreBytes b × SpelledBy (way_of p) l b
+-- bytes 0 are not refused in this way
+abbrev IsZeroTaken : Way → Type 0
+IsZeroTaken (of_width k make fault) = fault (zeros k) ≡ None
+IsZeroTaken _ = ◌≡◌ {A = ℕ} 0 0
+
+-- nor by any kind
+zero_taken : (p : Plain) → IsZeroTaken (way_of p)
 unfolding zeros
-least layout.empty = (unit, [], tt, (refl, refl))
-least layout.bool = (bool false, zeros 1, zeros-bytes 1, (refl, refl))
-least layout.char = (char 0, zeros 4, zeros-bytes 4, (refl, refl))
-least (layout.run kind.Text) = (
-  text [],
+zero_taken layout.bool = refl
+zero_taken _ = refl
+
+-- the length 0, or that of an array, stands in front of as many bytes 0, which are a run
+least_run : (k : RunKind) → (s b : List ℕ) × AreBytes b × SpellsRun k s b
+least_run kind.Text = (
+  [],
   compact 0 ++ [],
   both_bytes (compact 0) [] zero-bytes tt,
-  ([], refl, (compact 0, u32_zero, no_text, refl)),
+  (compact 0, u32_zero, no_text, refl),
 )
-least (layout.run kind.Bytes) = (
-  bytes [],
+least_run kind.Bytes = (
+  [],
   compact 0 ++ [],
   both_bytes (compact 0) [] zero-bytes tt,
-  ([], refl, (compact 0, u32_zero, tt, refl)),
+  (compact 0, u32_zero, tt, refl),
 )
-least (layout.run (kind.ByteArray n)) = (
-  bytes (zeros n),
-  zeros n,
-  zeros-bytes n,
-  (zeros n, refl, ([], (length-zeros n, refl), tt, refl)),
-)
-least (layout.unsigned k) =
-    (unsigned (number (zeros k)), zeros k, zeros-bytes k, (length-zeros k, refl))
-least (layout.signed k) =
-    (signed (signed_number (zeros k)), zeros k, zeros-bytes k, (length-zeros k, refl))
-least layout.wide = (wide (zeros 32), zeros 32, zeros-bytes 32, (length-zeros 32, refl))
-least layout.counted = (count 0, compact 0, zero-bytes, (0, refl, u32_zero))
-least (layout.compact m) = let z = zero_of m in (compact_value 0, z.0, z.1, (0, refl, z.2))
+least_run (kind.ByteArray n) =
+    (zeros n, zeros n, zeros-bytes n, ([], (length-zeros n, refl), tt, refl))
+
+-- the least leaf of each way, and the bytes that spell it
+least : (w : Way) → IsZeroTaken w → (l : Leaf) × (b : List ℕ) × AreBytes b × SpelledBy w l b
+least (of_no_byte u) h = (u, [], tt, (refl, refl))
+least (of_width k make fault) h =
+    (make (zeros k), zeros k, zeros-bytes k, (length-zeros k, refl, h))
+least (of_compact m make) h = let z = zero_of m in (make 0, z.0, z.1, (0, refl, z.2))
+least (of_run k) h = let s = least_run k in (run_leaf k s.0, s.1, s.2, (s.0, refl, s.3))
 
 -- what is laid out as a kind has its least leaf as a value
 plain_value : (r : List TypeInfo) (t : ℕ) (p : Plain) → layout r t ≡ layout.plain p →
     IsInhabited r t
 unfolding Val
-plain_value r t p e = let v = least p in (leaf v.0, v.1, v.2, (p, e, v.3))
+plain_value r t p e = let v = least (way_of p) (zero_taken p) in (leaf v.0, v.1, v.2, (p, e, v.3))
 
 -- what is laid out as a primitive type, of whatever kind, has a value
 kind_value : (r : List TypeInfo) (t : ℕ) (k : PrimitiveKind) → layout r t ≡ kind_layout k →

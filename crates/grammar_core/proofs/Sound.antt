@@ -1,6 +1,6 @@
 -- What is read is a value, and its bytes stood on the front.
 use Rattle.std.proofs.Common.{◌≡◌, ℕ, zero, suc, ◌≤◌, List, [], ◌∷◌, ◌++◌, length, Option, Some}
-use Rattle.std.proofs.Common.{None, Ok, Err, Result, refl, ap, ◌∙◌, arith, inl, inr}
+use Rattle.std.proofs.Common.{None, Ok, Err, refl, sym, ap, ◌∙◌, arith, inl, inr}
 use Rattle.std.proofs.lemmas.List.{append-nil}
 use Rattle.scale_core.specs.Compact.{IsCompact}
 use Rattle.scale_core.specs.Read.{Read, compact_at, bytes_at}
@@ -22,9 +22,8 @@ use Rattle.grammar_core.specs.Tree.{how_many, levels, most_levels}
 use Rattle.grammar_core.specs.Ways.{Way, of_no_byte, of_width, of_compact, of_run, way_of, read_by}
 use Rattle.grammar_core.specs.Ways.{SpelledBy, leaf_of, leaf_by, judged_leaf}
 use Rattle.grammar_core.specs.Grammar.{Val, Vals, Each}
-use Rattle.grammar_core.specs.Reading.{value_at, layout_at, all_at, times_at}
-use Rattle.grammar_core.specs.Reading.{fields_after_index, arms_at, elements_at, as_leaf}
-use Rattle.grammar_core.specs.Reading.{with_children, Refusal}
+use Rattle.grammar_core.specs.Reading.{value_at, layout_at, all_at, times_at, fields_after_index}
+use Rattle.grammar_core.specs.Reading.{arms_at, elements_at, as_leaf, with_children, Refusal}
 
 -- a leaf that is made of what was read stood on the front where that did
 leaf_of_takes : {X : Type 0} (P : X → List ℕ → Type 0) (Q : Leaf → List ℕ → Type 0)
@@ -33,21 +32,22 @@ leaf_of_takes : {X : Type 0} (P : X → List ℕ → Type 0) (Q : Leaf → List 
 leaf_of_takes P Q make b (Ok x) h f = (h.0, h.1, f x.0 h.0 h.2)
 leaf_of_takes P Q make b (Err e) h f = tt
 
--- a leaf that so many bytes on the front are stood there, and they are its bytes
-leaf_by_takes : (k : ℕ) (make : List ℕ → Result Leaf Reason) (b : List ℕ)
+-- a leaf that is made of so many bytes on the front stood there, and they are its bytes
+leaf_by_takes : (k : ℕ) (make : List ℕ → Leaf) (fault : List ℕ → Option Reason) (b : List ℕ)
     (read : Read Reason (List ℕ)) → Takes (λ x c. (c ≡ x) × (length c ≡ k)) b read →
-    Takes (SpelledBy (of_width k make)) b (leaf_by b make read)
-leaf_by_takes k make b (Err e) h = tt
-leaf_by_takes k make b (Ok x) h = by (make x.0) refl where
-  by : (made : Result Leaf Reason) → make x.0 ≡ made →
-      Takes (SpelledBy (of_width k make)) b (judged_leaf b x.1 made)
-  by (Ok l) e = (h.0, h.1, (h.2.1, ap make h.2.0 ∙ e))
-  by (Err r) e = tt
+    Takes (SpelledBy (of_width k make fault)) b (leaf_by b make fault read)
+leaf_by_takes k make fault b (Err e) h = tt
+leaf_by_takes k make fault b (Ok x) h = by (fault x.0) refl where
+  by : (f : Option Reason) → fault x.0 ≡ f →
+      Takes (SpelledBy (of_width k make fault)) b (judged_leaf b (make x.0) x.1 f)
+  by None e = (h.0, h.1, (h.2.1, ap make (sym h.2.0), ap fault h.2.0 ∙ e))
+  by (Some r) e = tt
 
 -- what is read in each way stood on the front, in the bytes that spell it
 way_takes : (w : Way) (b : List ℕ) → Takes (SpelledBy w) b (read_by w b)
 way_takes (of_no_byte l) b = ([], refl, (refl, refl))
-way_takes (of_width k make) b = leaf_by_takes k make b (bytes_at k b) (bytes_takes k b)
+way_takes (of_width k make fault) b =
+    leaf_by_takes k make fault b (bytes_at k b) (bytes_takes k b)
 way_takes (of_compact m make) b = leaf_of_takes (IsCompact m) (SpelledBy (of_compact m make)) make b
     (compact_at m b) (compact_takes m b) (λ n c is. (n, refl, is))
 way_takes (of_run k) b = leaf_of_takes (SpellsRun k) (SpelledBy (of_run k)) (run_leaf k) b

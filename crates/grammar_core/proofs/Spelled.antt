@@ -34,11 +34,11 @@ use Rattle.widths_core.specs.declared.run_kind.RunKind.TheVariants as kind
 use Rattle.grammar_core.specs.Runs.{IsRunLength, run_leaf}
 use Rattle.widths_core.proofs.Known.{empty_class, layout_empty}
 use Rattle.widths_core.proofs.FirstArm.{arm_is_first}
-use Rattle.grammar_core.specs.Tree.{Leaf, Tree, leaf, branch, unsigned, signed, wide, fields, arm}
+use Rattle.grammar_core.specs.Tree.{Leaf, Tree, leaf, branch, fields, arm}
 use Rattle.grammar_core.specs.Tree.{list, Trees, none, and, how_many}
 use Rattle.grammar_core.specs.Ways.{SpelledBy, way_of}
 use Rattle.grammar_core.specs.Grammar.{Val, Vals, Each}
-use Rattle.grammar_core.proofs.Ways.{made_is, bool_is, char_is}
+use Rattle.grammar_core.proofs.Ways.{bool_is}
 use Rattle.grammar_core.specs.Parts.{each, times}
 use Rattle.grammar_core.specs.Cells.{cells, all_cells}
 use Rattle.grammar_core.proofs.Emptiness.{known_at}
@@ -62,12 +62,9 @@ Shaped _ d = Unit {0}
 -- the layout of a primitive's kind has the width that the definition has
 shaped_kind : (k : PrimitiveKind) (d : Option TypeDef) → width_of d ≡ kind_width k →
     Shaped (kind_layout k) d
-shaped_kind K.Bool d h = tt
-shaped_kind K.Char d h = tt
-shaped_kind K.Str d h = tt
 shaped_kind (K.Unsigned w) d h = h
 shaped_kind (K.Signed w) d h = (h, width_most w)
-shaped_kind (K.Wide s) d h = tt
+shaped_kind _ d h = tt
 
 -- what is laid out by a sequence is a sequence by its definition
 shaped_sequence : (t : ℕ) (e byte : Bool) (d : Option TypeDef) → is_sequence d ≡ true →
@@ -181,11 +178,7 @@ compact_is r t target.Unit x b e h =
     let empty = layout_empty r t
     (empty_class r t (known_at r t (layout.plain (layout.compact target.Unit)) e refl)) in
     let no = sym empty ∙ e in absurd cc
-compact_is r t target.U8 x b e h = sym h.1
-compact_is r t target.U16 x b e h = sym h.1
-compact_is r t target.U32 x b e h = sym h.1
-compact_is r t target.U64 x b e h = sym h.1
-compact_is r t target.U128 x b e h = sym h.1
+compact_is r t _ x b e h = sym h.1
 
 -- ---- the index of an arm
 
@@ -246,25 +239,18 @@ run_spelling r t (kind.ByteArray k) s c e h =
 leaf_spells : (r : List TypeInfo) (t : ℕ) (p : Plain) (l : Leaf) (b : List ℕ) → AreBytes b →
     layout r t ≡ layout.plain p → SpelledBy (way_of p) l b → leaf_spelling (shape r t) l ++ [] ≡ b
 leaf_spells r t layout.empty l b a e h = rw (h.0, h.1) refl
-leaf_spells r t layout.bool l b a e h = let is = bool_is b l h.1 in
-    ap (λ (m : Leaf). leaf_spelling (shape r t) m ++ []) is.1 ∙ sym is.2
-leaf_spells r t layout.char l b a e h =
-    rw (char_is b l h.1).0 (unsigned_bytes_are 4 (number b) b a h.0 refl)
+leaf_spells r t layout.bool l b a e h = rw h.1 (sym (bool_is b h.2))
+leaf_spells r t layout.char l b a e h = rw h.1 (unsigned_bytes_are 4 (number b) b a h.0 refl)
 leaf_spells r t (layout.run k) l b a e h =
     rw h.1 (append-nil (leaf_spelling (shape r t) (run_leaf k h.0))
     ∙ run_spelling r t k h.0 h.2.0 e h.2.1 ∙ sym h.2.3)
 leaf_spells r t (layout.unsigned k) l b a e h =
-    rw (
-      made_is (unsigned (number b)) l h.1,
-      append-nil,
-      shaped_at r t (layout.plain (layout.unsigned k)) e,
-    )
+    rw (h.1, append-nil, shaped_at r t (layout.plain (layout.unsigned k)) e)
     (unsigned_bytes_are k (number b) b a h.0 refl)
 leaf_spells r t (layout.signed k) l b a e h =
     let s = shaped_at r t (layout.plain (layout.signed k)) e in
-    rw (made_is (signed (signed_number b)) l h.1, append-nil, s.0)
-    (signed_bytes_are k (signed_number b) b a s.1 h.0 refl)
-leaf_spells r t layout.wide l b a e h = rw (made_is (wide b) l h.1) (append-nil b)
+    rw (h.1, append-nil, s.0) (signed_bytes_are k (signed_number b) b a s.1 h.0 refl)
+leaf_spells r t layout.wide l b a e h = rw h.1 (append-nil b)
 leaf_spells r t layout.counted l b a e h = rw h.1 (append-nil (compact h.0) ∙ sym h.2.1)
 leaf_spells r t (layout.compact m) l b a e h =
     rw h.1 (append-nil (compact h.0) ∙ compact_is r t m h.0 b e h.2)

@@ -1,6 +1,6 @@
 -- More bytes after the input change no value and no fault but a missing end.
 use Rattle.std.proofs.Common.{ℕ, zero, suc, List, [], ◌∷◌, ◌++◌, Option, Some, None, Ok, Err, refl}
-use Rattle.std.proofs.Common.{Result, ap}
+use Rattle.std.proofs.Common.{ap}
 use Rattle.scale_core.specs.Read.{Read}
 use Rattle.scale_core.specs.declared.compact.Target.TheVariants as target
 use Rattle.scale_core.specs.declared.fault.Reason.{Reason}
@@ -30,25 +30,28 @@ leaf_of_extends : {X : Type 0} (make : X → Leaf) (more : List ℕ) (read read'
 leaf_of_extends make more (Ok x) s h = rw h refl
 leaf_of_extends make more (Err e) s h = λ ne. rw (h ne) refl
 
--- the leaf that bytes are, or why they are none, is the same in a longer input
-judged_extends : (at rest more : List ℕ) (made : Result Leaf Reason) →
-    Extends reasons.Truncated more (judged_leaf at rest made)
-    (judged_leaf (at ++ more) (rest ++ more) made)
-judged_extends at rest more (Ok l) = refl
-judged_extends at rest more (Err e) = λ ne. refl
+-- the leaf that bytes are, or why they are refused, is the same in a longer input
+judged_extends : (at rest more : List ℕ) (l : Leaf) (fault : Option Reason) →
+    Extends reasons.Truncated more (judged_leaf at l rest fault)
+    (judged_leaf (at ++ more) l (rest ++ more) fault)
+judged_extends at rest more l None = refl
+judged_extends at rest more l (Some e) = λ ne. refl
 
 -- so many bytes are judged in the same way in a longer input where they are read alike
-leaf_by_extends : (b more : List ℕ) (make : List ℕ → Result Leaf Reason)
+leaf_by_extends : (b more : List ℕ) (make : List ℕ → Leaf) (fault : List ℕ → Option Reason)
     (read read' : Read Reason (List ℕ)) → Extends reasons.Truncated more read read' →
-    Extends reasons.Truncated more (leaf_by b make read) (leaf_by (b ++ more) make read')
-leaf_by_extends b more make (Ok x) s h = rw h (judged_extends b x.1 more (make x.0))
-leaf_by_extends b more make (Err e) s h = λ ne. rw (h ne) refl
+    Extends reasons.Truncated more (leaf_by b make fault read)
+    (leaf_by (b ++ more) make fault read')
+leaf_by_extends b more make fault (Ok x) s h =
+    rw h (judged_extends b x.1 more (make x.0) (fault x.0))
+leaf_by_extends b more make fault (Err e) s h = λ ne. rw (h ne) refl
 
 -- a leaf is read in each way alike from a longer input
 way_extends : (w : Way) (b more : List ℕ) →
     Extends reasons.Truncated more (read_by w b) (read_by w (b ++ more))
 way_extends (of_no_byte l) b more = refl
-way_extends (of_width k make) b more = leaf_by_extends b more make _ _ (bytes_extends k b more)
+way_extends (of_width k make fault) b more =
+    leaf_by_extends b more make fault _ _ (bytes_extends k b more)
 way_extends (of_compact m make) b more = leaf_of_extends make more _ _ (compact_extends m b more)
 way_extends (of_run k) b more = leaf_of_extends (run_leaf k) more _ _ (run_extends k b more)
 

@@ -1,18 +1,17 @@
 -- Each text of a value is UTF-8.
 use Rattle.std.proofs.Common.{ℕ, ◌≤◌, List, [], ◌∷◌, length, ap, arith, inl, inr, length-append}
-use Rattle.scale_core.specs.Number.{number, signed_number}
 use Rattle.registry_core.specs.declared.type_info.TypeInfo.{TypeInfo}
 use Rattle.graph_core.specs.Types.{field_types}
 use Rattle.widths_core.specs.Layouts.{Plain}
-use Rattle.widths_core.specs.Layouts as layout
 use Rattle.widths_core.specs.declared.run_kind.RunKind.{RunKind}
 use Rattle.widths_core.specs.declared.run_kind.RunKind.TheVariants as kind
-use Rattle.grammar_core.specs.Tree.{Leaf, leaf, branch, unsigned, signed, wide, fields, arm, list}
-use Rattle.grammar_core.specs.Tree.{Trees, none, and, bytes_of_text}
+use Rattle.grammar_core.specs.Tree.{Leaf, leaf, branch, fields, arm, list, Trees, none, and}
+use Rattle.grammar_core.specs.Tree.{bytes_of_text}
 use Rattle.grammar_core.specs.Runs.{SpellsRun, run_leaf}
-use Rattle.grammar_core.specs.Ways.{SpelledBy, way_of}
+use Rattle.grammar_core.specs.Ways.{Way, of_no_byte, of_width, of_compact, of_run, SpelledBy}
+use Rattle.grammar_core.specs.Ways.{way_of}
 use Rattle.grammar_core.specs.Grammar.{Val, Vals, Each}
-use Rattle.grammar_core.proofs.Ways.{made_is, bool_is, char_is}
+use Rattle.grammar_core.proofs.Ways.{MakesNoText, textless}
 use Rattle.grammar_core.specs.Laws.{AllHaveText, TextsAreText, LeafHasText}
 
 -- a run's bytes are counted, and of a text they are UTF-8
@@ -22,20 +21,23 @@ run_text_is kind.Text s b le h = (le, (h.1.0, h.2))
 run_text_is kind.Bytes s b le h = (le, tt)
 run_text_is (kind.ByteArray n) s b le h = (le, tt)
 
+-- the same of any leaf, by the way of its kind
+way_text : (w : Way) (l : Leaf) (b : List ℕ) → ((n : ℕ) → MakesNoText w b n) → SpelledBy w l b →
+    (bytes_of_text l ≤ length b) × LeafHasText l
+way_text (of_no_byte u) l b without h =
+    let none = without 0 in rw h.0 (omega (arith, none.0), none.1)
+way_text (of_width k make fault) l b without h =
+    let none = without 0 in rw h.1 (omega (arith, none.0), none.1)
+way_text (of_compact m make) l b without h =
+    let none = without h.0 in rw h.1 (omega (arith, none.0), none.1)
+way_text (of_run k) l b without h =
+    rw h.1 (run_text_is k h.0 b (omega (arith, ap length h.2.3, length-append h.2.0 h.0)) h.2)
+
 -- the text or the run of bytes that a leaf is has no more bytes than its spelling, and a text is
 -- UTF-8
 pub leaf_text : (p : Plain) (l : Leaf) (b : List ℕ) → SpelledBy (way_of p) l b →
     (bytes_of_text l ≤ length b) × LeafHasText l
-leaf_text layout.empty l b h = rw h.0 (omega arith, tt)
-leaf_text layout.bool l b h = rw (bool_is b l h.1).1 (omega arith, tt)
-leaf_text layout.char l b h = rw (char_is b l h.1).0 (omega arith, tt)
-leaf_text (layout.run k) l b h =
-    rw h.1 (run_text_is k h.0 b (omega (arith, ap length h.2.3, length-append h.2.0 h.0)) h.2)
-leaf_text (layout.unsigned k) l b h = rw (made_is (unsigned (number b)) l h.1) (omega arith, tt)
-leaf_text (layout.signed k) l b h = rw (made_is (signed (signed_number b)) l h.1) (omega arith, tt)
-leaf_text layout.wide l b h = rw (made_is (wide b) l h.1) (omega arith, tt)
-leaf_text layout.counted l b h = rw h.1 (omega arith, tt)
-leaf_text (layout.compact m) l b h = rw h.1 (omega arith, tt)
+leaf_text p l b h = way_text (way_of p) l b (textless p b) h
 
 mutual
   unfolding Val

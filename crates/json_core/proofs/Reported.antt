@@ -37,7 +37,6 @@ use Rattle.grammar_core.specs.Tree.{Tree, Trees, how_many}
 use Rattle.grammar_core.specs.Tree as tree
 use Rattle.grammar_core.specs.Runs.{run_leaf}
 use Rattle.grammar_core.specs.Ways.{SpelledBy, way_of}
-use Rattle.grammar_core.proofs.Ways.{made_is, bool_is, char_is}
 use Rattle.widths_core.specs.declared.run_kind.RunKind.{RunKind}
 use Rattle.widths_core.specs.declared.run_kind.RunKind.TheVariants as kind
 use Rattle.grammar_core.specs.Grammar.{Val, Vals}
@@ -83,12 +82,9 @@ long_width width.Bits128 = inl (refl, refl)
 -- a primitive's layout says whether its integers are long, as its kind does
 defined_kind : (r : List TypeInfo) (k : PrimitiveKind) (d : Option TypeDef) →
     is_long d ≡ is_long_kind k → Defined r (kind_layout k) d
-defined_kind r K.Bool d h = tt
-defined_kind r K.Char d h = tt
-defined_kind r K.Str d h = tt
 defined_kind r (K.Unsigned w) d h = rw h (long_width w)
 defined_kind r (K.Signed w) d h = rw h (long_width w)
-defined_kind r (K.Wide s) d h = tt
+defined_kind r _ d h = tt
 
 -- the layout of a sequence says nothing of integers, arms or targets
 defined_sequence : (r : List TypeInfo) (t : ℕ) (e byte : Bool) (d : Option TypeDef) →
@@ -171,12 +167,8 @@ signed_fits b h small = signed_within (256 ^ length b) (number b)
 
 -- of compact integers those with a target of 128 bits are the long ones
 long_target : (m : Target) → Long (target_bytes m) (is_long_target (Some m))
-long_target target.Unit = inr (refl, refl, omega arith)
-long_target target.U8 = inr (refl, refl, omega arith)
-long_target target.U16 = inr (refl, refl, omega arith)
-long_target target.U32 = inr (refl, refl, omega arith)
-long_target target.U64 = inr (refl, refl, omega arith)
 long_target target.U128 = inl (refl, refl)
+long_target _ = inr (refl, refl, omega arith)
 
 -- a number with a compact spelling for a target fits the bytes of the target
 compact_bound : (m : Target) (x : ℕ) (b : List ℕ) → IsCompact m x b → x < 256 ^ target_bytes m
@@ -296,16 +288,11 @@ leaf_reported : (r : List TypeInfo) (t : ℕ) (p : Plain) (l : tree.Leaf) (b : L
     JsonReported r t (tree.leaf l) (what_of (tree.leaf l))
 unfolding json_of
 leaf_reported r t layout.empty l b are e h = rw h.0 refl
-leaf_reported r t layout.bool l b are e h = rw (bool_is b l h.1).1 refl
-leaf_reported r t layout.char l b are e h = rw (char_is b l h.1).0 refl
 leaf_reported r t (layout.run k) l b are e h = rw h.1 (run_reported r t k h.0)
-leaf_reported r t (layout.unsigned k) l b are e h =
-    rw (made_is (tree.unsigned (number b)) l h.1) (unsigned_reported r t k b are e h.0)
-leaf_reported r t (layout.signed k) l b are e h =
-    rw (made_is (tree.signed (signed_number b)) l h.1) (signed_reported r t k b are e h.0)
-leaf_reported r t layout.wide l b are e h = rw (made_is (tree.wide b) l h.1) refl
-leaf_reported r t layout.counted l b are e h = rw h.1 refl
+leaf_reported r t (layout.unsigned k) l b are e h = rw h.1 (unsigned_reported r t k b are e h.0)
+leaf_reported r t (layout.signed k) l b are e h = rw h.1 (signed_reported r t k b are e h.0)
 leaf_reported r t (layout.compact m) l b are e h = rw h.1 (compact_reported r t h.0 m b e h.2)
+leaf_reported r t _ l b are e h = rw h.1 refl
 
 -- each node of a value has the JSON that its definition and its children give
 reported_by : (r : List TypeInfo) (t : ℕ) (v : Tree) (b : List ℕ) → AreBytes b → Val r t v b →

@@ -1,6 +1,6 @@
 -- The values that a node without children may be, by the form that is next.
 use Rattle.std.proofs.Common.{◌≡◌, ◌-◌, ℕ, suc, ◌*◌, ℤ, pos, negsuc, ◌/◌, ◌<◌, ◌≤◌, ◌^◌, List, []}
-use Rattle.std.proofs.Common.{◌∷◌, ◌++◌, Bool, true, false, length, Ok, refl, ap, ◌∙◌, arith}
+use Rattle.std.proofs.Common.{◌∷◌, ◌++◌, Bool, true, false, length, refl, sym, ap, ◌∙◌, arith}
 use Rattle.std.specs.Prelude.{not, nat_lt, ◌||◌, ◌&&◌, if◌then◌else◌}
 use Rattle.std.specs.Str.{is_utf8}
 use Rattle.std.proofs.lemmas.Bool.{lt-ltb, le-ltb, ltb-false}
@@ -24,7 +24,7 @@ use Rattle.grammar_core.specs.Grammar.{Val}
 use Rattle.grammar_core.specs.Forms.{form_of}
 use Rattle.grammar_core.specs.Preorder as head
 use Rattle.grammar_core.specs.Tree as tree
-use Rattle.grammar_core.specs.Ways.{SpelledBy, bool_of, way_of}
+use Rattle.grammar_core.specs.Ways.{SpelledBy, way_of}
 use Rattle.grammar_core.specs.declared.form.Form.{Form}
 use Rattle.grammar_core.specs.declared.form.Form.TheVariants as form
 use Rattle.grammar_core.specs.declared.form.Next.TheVariants as next
@@ -61,17 +61,18 @@ pub empty_next : (w : Walked) → next_of w ≡ next.Wants form.Empty →
 empty_next w e =
     leaf_next w form.Empty layout.empty tree.unit [] e (empty_layout w.types) tt (refl, refl)
 
--- the byte of a boolean is below 256, and it is the boolean
-bool_made : (x : Bool) → (bool_byte x < 256) × (bool_of (bool_byte x ∷ []) ≡ Ok (tree.bool x))
-bool_made true = (omega arith, refl)
-bool_made false = (omega arith, refl)
+-- the byte of a boolean is below 256, and spells the boolean in its way
+bool_spelled : (x : Bool) → (bool_byte x < 256)
+    × SpelledBy (way_of layout.bool) (tree.bool x) (bool_byte x ∷ [])
+bool_spelled true = (omega arith, (refl, refl, refl))
+bool_spelled false = (omega arith, (refl, refl, refl))
 
 -- where a boolean is next, each boolean is a value for it
 pub bool_next : (w : Walked) (x : Bool) → next_of w ≡ next.Wants (form.Primitive P.Bool) →
     IsNextLeaf w (head.leaf (tree.bool x))
 bool_next w x e =
     leaf_next w (form.Primitive P.Bool) layout.bool (tree.bool x) (bool_byte x ∷ []) e
-    (λ t f. primitive_has_layout w.types t P.Bool f) ((bool_made x).0, tt) (refl, (bool_made x).1)
+    (λ t f. primitive_has_layout w.types t P.Bool f) ((bool_spelled x).0, tt) (bool_spelled x).1
 
 -- where a count is next, each number below 2^32 is a value for it
 pub count_next : (w : Walked) (n : ℕ) → n < 2 ^ 32 → next_of w ≡ next.Wants form.Count →
@@ -93,8 +94,9 @@ unsigned_next w p v n e f h =
     leaf_next w (form.Primitive p) (layout.unsigned k) (tree.unsigned n) (le_bytes k n) e
     (λ t g. primitive_has_layout w.types t p g ∙ ap kind_layout f) (are_le_bytes k n) (
       length-le_bytes k n,
-      ap (λ (x : ℕ). Ok (tree.unsigned x))
-          (number-le_bytes k n (fits_width (256 ^ k) n (omega (arith, width_numbers v)) h)),
+      ap tree.unsigned
+          (sym (number-le_bytes k n (fits_width (256 ^ k) n (omega (arith, width_numbers v)) h))),
+      refl,
     )
 
 -- the length that stands in front of a run
@@ -124,7 +126,7 @@ pub wide_next : (w : Walked) (p : Primitive) (s : Signedness) (b : List ℕ) →
     next_of w ≡ next.Wants (form.Primitive p) → kind_of p ≡ K.Wide s → length b ≡ 32 → AreBytes b →
     IsNextLeaf w (head.leaf (tree.wide b))
 wide_next w p s b e f h a = leaf_next w (form.Primitive p) layout.wide (tree.wide b) b e
-    (λ t g. primitive_has_layout w.types t p g ∙ ap kind_layout f) a (h, refl)
+    (λ t g. primitive_has_layout w.types t p g ∙ ap kind_layout f) a (h, refl, refl)
 
 -- a number that the target's bytes can hold has a compact spelling
 compact_own : (m : Target) (n : ℕ) → n < 256 ^ target_bytes m → (b : List ℕ) × AreBytes b
@@ -159,7 +161,7 @@ char_next w c e f h =
     let spelled : number (le_bytes 4 c) ≡ c = number-le_bytes 4 c h in
     leaf_next w (form.Primitive P.Char) layout.char (tree.char c) (le_bytes 4 c) e
     (λ t g. primitive_has_layout w.types t P.Char g) (are_le_bytes 4 c)
-    (length-le_bytes 4 c, rw (spelled, f) refl)
+    (length-le_bytes 4 c, ap tree.char (sym spelled), rw (spelled, f) refl)
 
 -- ---- signed integers
 
@@ -208,6 +210,8 @@ signed_next w p v z e f h =
     leaf_next w (form.Primitive p) (layout.signed k) (tree.signed z) (signed_bytes k z) e
     (λ t g. primitive_has_layout w.types t p g ∙ ap kind_layout f) (are_signed_bytes k z) (
       signed_long k z,
-      ap (λ (x : ℤ). Ok (tree.signed x)) (signed_again k (256 ^ k / 2) z (width_halves v) h
-          (omega (arith, width_halves v, width_numbers v))),
+      ap tree.signed
+          (sym (signed_again k (256 ^ k / 2) z (width_halves v) h
+          (omega (arith, width_halves v, width_numbers v)))),
+      refl,
     )

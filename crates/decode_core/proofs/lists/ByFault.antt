@@ -1,7 +1,7 @@
 -- What is taken, by the fault alone.
 use Rattle.std.proofs.Common.{◌≡◌, ℕ, zero, suc, ◌+◌, ◌^◌, ◌≤◌, Bool, true, false, cond, List, []}
 use Rattle.std.proofs.Common.{◌∷◌, ◌++◌, length, take, drop, Option, Some, None, Ok, Err, refl, ap}
-use Rattle.std.proofs.Common.{Result, ◌∙◌, arith, inl, inr}
+use Rattle.std.proofs.Common.{◌∙◌, arith, inl, inr}
 use Rattle.std.specs.Prelude.{◌≢◌, nat_lt, not}
 use Rattle.std.specs.Str.{bytes_eq, is_utf8}
 use Rattle.std.specs.Str.Lossy.{utf8_valid_len}
@@ -27,13 +27,12 @@ use Rattle.widths_core.specs.Layouts.{Plain, Layout, layout}
 use Rattle.widths_core.specs.Layouts as layout
 use Rattle.widths_core.specs.declared.run_kind.RunKind.{RunKind}
 use Rattle.widths_core.specs.declared.run_kind.RunKind.TheVariants as kind
-use Rattle.grammar_core.specs.Tree.{Leaf, Branch, char, fields, arm, list, Trees, and}
+use Rattle.grammar_core.specs.Tree.{Leaf, Branch, fields, arm, list, Trees, and}
 use Rattle.grammar_core.specs.Ways.{Way, of_no_byte, of_width, of_compact, of_run, way_of, read_by}
-use Rattle.grammar_core.specs.Ways.{bool_of, leaf_of, leaf_by, judged_leaf}
-use Rattle.grammar_core.specs.Reading.{value_at, layout_at, leaf_at, all_at}
-use Rattle.grammar_core.specs.Reading.{times_at, fields_after_index, arms_at, as_leaf}
-use Rattle.grammar_core.specs.Reading.{with_children, Refusal, basic, no_such_variant, too_deep}
-use Rattle.grammar_core.specs.Reading.{no_finite_value, bit_sequence, bad_compact}
+use Rattle.grammar_core.specs.Ways.{bool_fault, leaf_of, leaf_by, judged_leaf}
+use Rattle.grammar_core.specs.Reading.{value_at, layout_at, leaf_at, all_at, times_at}
+use Rattle.grammar_core.specs.Reading.{fields_after_index, arms_at, as_leaf, with_children, Refusal}
+use Rattle.grammar_core.specs.Reading.{basic, no_finite_value}
 use Rattle.grammar_core.specs.Runs.{run_at, run_judged, run_leaf, run_length_at}
 use Rattle.grammar_core.proofs.Runs.{length_takes}
 use Rattle.grammar_core.proofs.Sound.{value_takes}
@@ -123,11 +122,7 @@ compact_reported : (m : Target) (b : List ℕ) →
     ReportedWithin basic b (compact_taken m b) (compact_at m b)
 unfolding compact_at
 compact_reported target.Unit b = tt
-compact_reported target.U8 b = integer_reported target.U8 b
-compact_reported target.U16 b = integer_reported target.U16 b
-compact_reported target.U32 b = integer_reported target.U32 b
-compact_reported target.U64 b = integer_reported target.U64 b
-compact_reported target.U128 b = integer_reported target.U128 b
+compact_reported m b = integer_reported m b
 
 -- the fault of a run's length reports what is taken
 run_length_reported : (k : RunKind) (b : List ℕ) →
@@ -169,20 +164,19 @@ run_reported k b = rw (bind_chain (body_at k) (run_length_at k b))
     (chain_reported (λ e. e) basic _ (body_at k) (λ n. n.0) b (run_length_taken k b)
     (run_length_at k b) (length_takes k b) (run_length_reported k b) (λ n. body_reported k n.0 n.1))
 
--- bytes that are no leaf are refused for a reason by which all of them are taken, and which is not
--- that bytes are missing
-abbrev pub IsJudged : ℕ → Result Leaf Reason → Type 0
-IsJudged k (Ok l) = Unit {0}
-IsJudged k (Err e) = (e ≢ reasons.Truncated)
-    × ((left : List ℕ) → IsTakenBefore (basic e) left 0 k)
+-- bytes are refused for a reason by which all of them are taken, and which is not that bytes are
+-- missing
+abbrev pub IsJudged : ℕ → Option Reason → Type 0
+IsJudged k None = Unit {0}
+IsJudged k (Some e) = (e ≢ reasons.Truncated) × ((left : List ℕ) → IsTakenBefore (basic e) left 0 k)
 
 -- the same of what is read in this way
 abbrev pub Judges : Way → List ℕ → Type 0
-Judges (of_width k make) b = IsJudged k (make b)
+Judges (of_width k make fault) b = IsJudged k (fault b)
 Judges _ b = Unit {0}
 
 -- a boolean is refused by its one byte
-bool_judges : (b : List ℕ) → IsJudged 1 (bool_of b)
+bool_judges : (b : List ℕ) → IsJudged 1 (bool_fault b)
 bool_judges (zero ∷ []) = tt
 bool_judges (suc zero ∷ []) = tt
 bool_judges _ = (λ e. absurd cc, λ left. refl)
@@ -191,25 +185,25 @@ bool_judges _ = (λ e. absurd cc, λ left. refl)
 pub judges : (p : Plain) (b : List ℕ) → Judges (way_of p) b
 judges layout.bool b = bool_judges b
 judges layout.char b = by (is_scalar (number b)) where
-  by : (t : Bool) → IsJudged 4 (cond t (Ok (char (number b))) (Err reasons.BadChar))
+  by : (t : Bool) → IsJudged 4 (cond t None (Some reasons.BadChar))
   by true = tt
   by false = (λ e. absurd cc, λ left. refl)
 judges _ b = tt
 
 -- the fault of so many bytes reports what is taken, which is all of them
-width_reported : (k : ℕ) (make : List ℕ → Result Leaf Reason) (b : List ℕ) →
-    IsJudged k (make (take k b)) →
-    ReportedWithin basic b k (read_by (of_width k make) b)
-width_reported k make b h = go (nat_lt (length b) k) where
-  judged : (made : Result Leaf Reason) → IsJudged k made →
-      ReportedWithin basic b k (judged_leaf b (drop k b) made)
-  judged (Ok l) j = tt
-  judged (Err e) j = (omega arith, rw (whole b) (j.1 b))
+width_reported : (k : ℕ) (make : List ℕ → Leaf) (fault : List ℕ → Option Reason) (b : List ℕ) →
+    IsJudged k (fault (take k b)) →
+    ReportedWithin basic b k (read_by (of_width k make fault) b)
+width_reported k make fault b h = go (nat_lt (length b) k) where
+  judged : (f : Option Reason) → IsJudged k f →
+      ReportedWithin basic b k (judged_leaf b (make (take k b)) (drop k b) f)
+  judged None j = tt
+  judged (Some e) j = (omega arith, rw (whole b) (j.1 b))
 
   go : (short : Bool) → ReportedWithin basic b k
-      (leaf_by b make (cond short (Err (reasons.Truncated, [])) (Ok (take k b, drop k b))))
+      (leaf_by b make fault (cond short (Err (reasons.Truncated, [])) (Ok (take k b, drop k b))))
   go true = (omega arith, refl)
-  go false = judged (make (take k b)) h
+  go false = judged (fault (take k b)) h
 
 -- making a leaf of what was read leaves what its fault takes
 leaf_of_reported : {X : Type 0} (make : X → Leaf) (b : List ℕ) (k : ℕ) (read : Read Reason X) →
@@ -221,7 +215,7 @@ leaf_of_reported make b k (Err e) h = h
 way_reported : (w : Way) → ((b : List ℕ) → Judges w b) → (b : List ℕ) →
     ReportedWithin basic b (taken_by w b) (read_by w b)
 way_reported (of_no_byte l) h b = tt
-way_reported (of_width k make) h b = width_reported k make b (h (take k b))
+way_reported (of_width k make fault) h b = width_reported k make fault b (h (take k b))
 way_reported (of_compact m make) h b =
     leaf_of_reported make b _ (compact_at m b) (compact_reported m b)
 way_reported (of_run k) h b = leaf_of_reported (run_leaf k) b _ (run_at k b) (run_reported k b)

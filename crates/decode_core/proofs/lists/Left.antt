@@ -1,6 +1,6 @@
 -- A fault's place lies in the input.
 use Rattle.std.proofs.Common.{ℕ, ◌≤◌, Bool, true, false, cond, List, [], ◌∷◌, length, Option, Some}
-use Rattle.std.proofs.Common.{None, Ok, Err, Result, ap, arith, length-append, length-drop}
+use Rattle.std.proofs.Common.{None, Ok, Err, ap, arith, length-append, length-drop}
 use Rattle.std.specs.Str.{bytes_eq, is_utf8}
 use Rattle.std.specs.Str.Lossy.{utf8_valid_len}
 use Rattle.std.specs.Prelude.{nat_lt, not, ◌^◌}
@@ -59,11 +59,7 @@ integer_within m (i ∷ b) =
 compact_within : (m : Target) (b : List ℕ) → Within b (compact_at m b)
 unfolding compact_at
 compact_within target.Unit b = tt
-compact_within target.U8 b = integer_within target.U8 b
-compact_within target.U16 b = integer_within target.U16 b
-compact_within target.U32 b = integer_within target.U32 b
-compact_within target.U64 b = integer_within target.U64 b
-compact_within target.U128 b = integer_within target.U128 b
+compact_within m b = integer_within m b
 
 -- the fault of a run's length lies within the input
 run_length_within : (k : RunKind) (b : List ℕ) → Within b (run_length_at k b)
@@ -110,22 +106,23 @@ leaf_of_within : {X : Type 0} (make : X → Leaf) (b : List ℕ) (read : Read Re
 leaf_of_within make b (Ok x) h = tt
 leaf_of_within make b (Err e) h = h
 
--- the fault of bytes that are no leaf stands at their front
-judged_leaf_within : (b rest : List ℕ) (made : Result Leaf Reason) →
-    Within b (judged_leaf b rest made)
-judged_leaf_within b rest (Ok l) = tt
-judged_leaf_within b rest (Err e) = omega arith
+-- the fault of bytes that are refused stands at their front
+judged_leaf_within : (b rest : List ℕ) (l : Leaf) (fault : Option Reason) →
+    Within b (judged_leaf b l rest fault)
+judged_leaf_within b rest l None = tt
+judged_leaf_within b rest l (Some e) = omega arith
 
 -- the fault of so many bytes lies within the input
-leaf_by_within : (b : List ℕ) (make : List ℕ → Result Leaf Reason) (read : Read Reason (List ℕ)) →
-    Within b read → Within b (leaf_by b make read)
-leaf_by_within b make (Ok x) h = judged_leaf_within b x.1 (make x.0)
-leaf_by_within b make (Err e) h = h
+leaf_by_within : (b : List ℕ) (make : List ℕ → Leaf) (fault : List ℕ → Option Reason)
+    (read : Read Reason (List ℕ)) → Within b read → Within b (leaf_by b make fault read)
+leaf_by_within b make fault (Ok x) h = judged_leaf_within b x.1 (make x.0) (fault x.0)
+leaf_by_within b make fault (Err e) h = h
 
 -- the fault of a leaf lies within the input, whatever its way
 way_within : (w : Way) (b : List ℕ) → Within b (read_by w b)
 way_within (of_no_byte l) b = tt
-way_within (of_width k make) b = leaf_by_within b make (bytes_at k b) (bytes_within k b)
+way_within (of_width k make fault) b =
+    leaf_by_within b make fault (bytes_at k b) (bytes_within k b)
 way_within (of_compact m make) b = leaf_of_within make b (compact_at m b) (compact_within m b)
 way_within (of_run k) b = leaf_of_within (run_leaf k) b (run_at k b) (run_within k b)
 

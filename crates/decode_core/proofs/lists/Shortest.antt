@@ -1,7 +1,7 @@
 -- What is taken where a value is refused is the shortest front that is refused so.
 use Rattle.std.proofs.Common.{◌≡◌, ℕ, zero, suc, ◌+◌, ◌-◌, ◌/◌, ◌%◌, ◌^◌, ◌<◌, ◌≤◌, ◌⊎◌, Bool, true}
 use Rattle.std.proofs.Common.{false, cond, List, [], ◌∷◌, length, take, drop, Option, Some, None}
-use Rattle.std.proofs.Common.{Ok, Err, Result, refl, sym, ap, ◌∙◌, arith, inl, inr}
+use Rattle.std.proofs.Common.{Ok, Err, refl, sym, ap, ◌∙◌, arith, inl, inr}
 use Rattle.std.specs.Prelude.{◌≢◌, ◌==◌, nat_lt, not}
 use Rattle.std.specs.Str.{bytes_eq, is_utf8}
 use Rattle.std.specs.Str.Lossy.{utf8_valid_len}
@@ -32,7 +32,7 @@ use Rattle.grammar_core.specs.Ways.{leaf_of, judged_leaf}
 use Rattle.grammar_core.specs.Grammar.{Val}
 use Rattle.grammar_core.specs.Reading.{value_at, layout_at, leaf_at, all_at}
 use Rattle.grammar_core.specs.Reading.{times_at, fields_after_index, arms_at, elements_at, as_leaf}
-use Rattle.grammar_core.specs.Reading.{with_children, Refusal, basic, no_such_variant, too_deep}
+use Rattle.grammar_core.specs.Reading.{with_children, Refusal, basic, too_deep}
 use Rattle.grammar_core.specs.Reading.{no_finite_value, bit_sequence, bad_compact, truncated}
 use Rattle.grammar_core.specs.Runs.{run_at, run_judged, run_leaf, run_length_at}
 use Rattle.grammar_core.proofs.Runs.{length_again, length_extends, length_takes}
@@ -179,11 +179,7 @@ compact_decided : (m : Target) (b : List ℕ) →
     DecidedBy reasons.Truncated (compact_at m) b (compact_taken m b) (compact_at m b)
 unfolding compact_at
 compact_decided target.Unit b = tt
-compact_decided target.U8 b = integer_decided target.U8 b
-compact_decided target.U16 b = integer_decided target.U16 b
-compact_decided target.U32 b = integer_decided target.U32 b
-compact_decided target.U64 b = integer_decided target.U64 b
-compact_decided target.U128 b = integer_decided target.U128 b
+compact_decided m b = integer_decided m b
 
 -- ---- runs, bools, chars
 
@@ -249,16 +245,18 @@ below_one b P h zero lt = h
 below_one b P h (suc j) lt = absurd (omega arith)
 
 -- so many bytes that are refused for good are decided by all of them
-width_decided : (k : ℕ) (make : List ℕ → Result Leaf Reason) (b : List ℕ) →
-    DecidedBy reasons.Truncated (read_by (of_width k make)) b k (read_by (of_width k make) b)
-width_decided k make b = elim (cases_lt (length b) k) [
+width_decided : (k : ℕ) (make : List ℕ → Leaf) (fault : List ℕ → Option Reason) (b : List ℕ) →
+    DecidedBy reasons.Truncated (read_by (of_width k make fault)) b k
+    (read_by (of_width k make fault) b)
+width_decided k make fault b = elim (cases_lt (length b) k) [
   | inl lt ↦ rw (short_bytes k b lt) (λ ne. absurd (ne refl))
-  | inr le ↦ rw (le-ltb (length b) k le) (go le (make (take k b)) refl)
+  | inr le ↦ rw (le-ltb (length b) k le) (go le (fault (take k b)) refl)
 ] where
-  go : k ≤ length b → (made : Result Leaf Reason) → make (take k b) ≡ made →
-      DecidedBy reasons.Truncated (read_by (of_width k make)) b k (judged_leaf b (drop k b) made)
-  go le (Ok l) e = tt
-  go le (Err reason) e = λ ne. record {
+  go : k ≤ length b → (f : Option Reason) → fault (take k b) ≡ f →
+      DecidedBy reasons.Truncated (read_by (of_width k make fault)) b k
+      (judged_leaf b (make (take k b)) (drop k b) f)
+  go le None e = tt
+  go le (Some reason) e = λ ne. record {
     there = le;
     front = (take k b, rw (taken_bytes k b le, e) refl);
     early = λ j lt. (
@@ -278,7 +276,7 @@ leaf_of_finish make (Err e) = refl
 way_decided : (w : Way) (b : List ℕ) →
     DecidedBy reasons.Truncated (read_by w) b (taken_by w b) (read_by w b)
 way_decided (of_no_byte l) b = tt
-way_decided (of_width k make) b = width_decided k make b
+way_decided (of_width k make fault) b = width_decided k make fault b
 way_decided (of_compact m make) b =
     finish_decided reasons.Truncated (λ e. e) make _ (compact_at m)
     (λ c. leaf_of_finish make (compact_at m c)) b (compact_taken m b) (compact_decided m b)

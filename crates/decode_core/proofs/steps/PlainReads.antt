@@ -1,5 +1,5 @@
 -- What is read of a node without parts is what its layout reads: compacts and 256-bit integers.
-use Rattle.std.proofs.Common.{◌≡◌, ℕ, ◌≤◌, List, length, take, drop, Ok, refl, ap, ◌∙◌, arith}
+use Rattle.std.proofs.Common.{◌≡◌, ℕ, ◌≤◌, List, length, take, drop, None, Ok, refl, ap, ◌∙◌, arith}
 use Rattle.std.proofs.Common.{take_all}
 use Rattle.std.proofs.lemmas.Bool.{le-ltb}
 use Rattle.scale_core.specs.Read.{bytes_at, compact_at}
@@ -36,7 +36,7 @@ wide_reads s own l a same =
     let all : take 32 own ≡ own = take_all 32 own (omega (arith, h)) in
     rw same (
       drop 32 own,
-      ap (λ r. leaf_own (as_leaf (leaf_by own (λ b. Ok (tree.wide b)) r)))
+      ap (λ r. leaf_own (as_leaf (leaf_by own tree.wide (λ b. None) r)))
           (taken ∙ ap (λ (b : List ℕ). Ok (b, drop 32 own)) all),
     )
 

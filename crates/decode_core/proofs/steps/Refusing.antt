@@ -77,11 +77,7 @@ pub compact_short : (m : Target) (b : List ℕ) → m ≢ target.Unit → IsShor
     compact_at m b ≡ Err (scale.Truncated, [])
 unfolding compact_at
 compact_short target.Unit b ne h = absurd (ne refl)
-compact_short target.U8 b ne h = integer_short target.U8 b h
-compact_short target.U16 b ne h = integer_short target.U16 b h
-compact_short target.U32 b ne h = integer_short target.U32 b h
-compact_short target.U64 b ne h = integer_short target.U64 b h
-compact_short target.U128 b ne h = integer_short target.U128 b h
+compact_short m b ne h = integer_short m b h
 
 -- bytes that are short of a number, one at least, are fewer than it
 below : (k : ℕ) (b : List ℕ) → 1 ≤ k → IsShortOf (λ first. k) b → length b < k
@@ -91,7 +87,7 @@ below k (first ∷ rest) some h = h
 -- fewer bytes than a leaf needs
 abbrev pub IsFew : Way → List ℕ → Type 0
 IsFew (of_no_byte l) b = ⊥
-IsFew (of_width k make) b = length b < k
+IsFew (of_width k make fault) b = length b < k
 IsFew (of_compact m make) b = compact_at m b ≡ Err (scale.Truncated, [])
 IsFew (of_run k) b = run_length_at k b ≡ Err (scale.Truncated, [])
 
@@ -99,7 +95,7 @@ IsFew (of_run k) b = run_length_at k b ≡ Err (scale.Truncated, [])
 way_short : (w : Way) (b : List ℕ) → IsFew w b → read_by w b ≡ Err (scale.Truncated, [])
 unfolding run_at
 way_short (of_no_byte l) b h = absurd h
-way_short (of_width k make) b h = rw (bytes_short k b h) refl
+way_short (of_width k make fault) b h = rw (bytes_short k b h) refl
 way_short (of_compact m make) b h = rw h refl
 way_short (of_run k) b h = rw h refl
 

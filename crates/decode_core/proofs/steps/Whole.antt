@@ -1,7 +1,7 @@
 -- As many bytes as a node needs are its own, and none is left over; or they are enough to refuse
 -- it.
 use Rattle.std.proofs.Common.{◌≡◌, ℕ, ◌^◌, Bool, true, false, cond, List, [], ◌∷◌}
-use Rattle.std.proofs.Common.{length, Option, Some, None, Ok, Err, Result, refl, arith}
+use Rattle.std.proofs.Common.{length, Option, Some, None, Ok, Err, refl, arith}
 use Rattle.std.specs.Prelude.{◌≢◌, nat_lt, not}
 use Rattle.std.proofs.lemmas.Bool.{le-ltb}
 use Rattle.std.proofs.lemmas.List.{take_all, drop_all}
@@ -77,11 +77,7 @@ pub compact_settled : (m : Target) (first : ℕ) (rest : List ℕ) → m ≢ tar
     length (first ∷ rest) ≡ compact_need m first → IsDefinite (compact_at m (first ∷ rest))
 unfolding compact_at
 compact_settled target.Unit first rest ne h = absurd (ne refl)
-compact_settled target.U8 first rest ne h = integer_settled target.U8 first rest h
-compact_settled target.U16 first rest ne h = integer_settled target.U16 first rest h
-compact_settled target.U32 first rest ne h = integer_settled target.U32 first rest h
-compact_settled target.U64 first rest ne h = integer_settled target.U64 first rest h
-compact_settled target.U128 first rest ne h = integer_settled target.U128 first rest h
+compact_settled m first rest ne h = integer_settled m first rest h
 
 -- a reason other than that bytes are missing does not wait for more
 pub basic_whole : (e : Reason) → e ≢ scale.Truncated → is_cut (basic e) ≡ false
@@ -95,23 +91,23 @@ leaf_of_settled make (Ok x) h = h
 leaf_of_settled make (Err e) h = h
 
 -- so many bytes that are there leave nothing, or are refused for good
-width_settled : (k : ℕ) (make : List ℕ → Result Leaf Reason) (b : List ℕ) → IsJudged k (make b) →
-    length b ≡ k → IsDefinite (leaf_by b make (bytes_at k b))
-width_settled k make b h len = rw (bytes_whole k b len) (by (make b) h) where
-  by : (made : Result Leaf Reason) → IsJudged k made → IsDefinite (judged_leaf b [] made)
-  by (Ok l) j = refl
-  by (Err e) j = j.0
+width_settled : (k : ℕ) (make : List ℕ → Leaf) (fault : List ℕ → Option Reason) (b : List ℕ) →
+    IsJudged k (fault b) → length b ≡ k → IsDefinite (leaf_by b make fault (bytes_at k b))
+width_settled k make fault b h len = rw (bytes_whole k b len) (by (fault b) h) where
+  by : (f : Option Reason) → IsJudged k f → IsDefinite (judged_leaf b (make b) [] f)
+  by None j = refl
+  by (Some e) j = j.0
 
 -- as many bytes as a leaf needs that is no run
 abbrev pub HasWay : Way → List ℕ → Type 0
-HasWay (of_width k make) b = length b ≡ k
+HasWay (of_width k make fault) b = length b ≡ k
 HasWay (of_compact m make) b = IsDefinite (compact_at m b)
 HasWay _ b = ⊥
 
 -- just as many bytes as a leaf needs leave nothing, or are refused for good, whatever its way
 way_settled : (w : Way) (b : List ℕ) → Judges w b → HasWay w b → IsDefinite (read_by w b)
 way_settled (of_no_byte l) b j h = absurd h
-way_settled (of_width k make) b j h = width_settled k make b j h
+way_settled (of_width k make fault) b j h = width_settled k make fault b j h
 way_settled (of_compact m make) b j h = leaf_of_settled make (compact_at m b) h
 way_settled (of_run k) b j h = absurd h
 
