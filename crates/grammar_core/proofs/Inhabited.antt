@@ -239,18 +239,19 @@ least_run (kind.ByteArray n) =
     (zeros n, zeros n, zeros-bytes n, ([], (length-zeros n, refl), tt, refl))
 
 -- the least leaf of each way, and the bytes that spell it
-least : (w : Way) → IsZeroTaken w → (l : Leaf) × (b : List ℕ) × AreBytes b × SpelledBy w l b
-least (of_no_byte u) h = (u, [], tt, (refl, refl))
-least (of_width k make fault) h =
+least_leaf : (w : Way) → IsZeroTaken w → (l : Leaf) × (b : List ℕ) × AreBytes b × SpelledBy w l b
+least_leaf (of_no_byte u) h = (u, [], tt, (refl, refl))
+least_leaf (of_width k make fault) h =
     (make (zeros k), zeros k, zeros-bytes k, (length-zeros k, refl, h))
-least (of_compact m make) h = let z = zero_of m in (make 0, z.0, z.1, (0, refl, z.2))
-least (of_run k) h = let s = least_run k in (run_leaf k s.0, s.1, s.2, (s.0, refl, s.3))
+least_leaf (of_compact m make) h = let z = zero_of m in (make 0, z.0, z.1, (0, refl, z.2))
+least_leaf (of_run k) h = let s = least_run k in (run_leaf k s.0, s.1, s.2, (s.0, refl, s.3))
 
 -- what is laid out as a kind has its least leaf as a value
 plain_value : (r : List TypeInfo) (t : ℕ) (p : Plain) → layout r t ≡ layout.plain p →
     IsInhabited r t
 unfolding Val
-plain_value r t p e = let v = least (way_of p) (zero_taken p) in (leaf v.0, v.1, v.2, (p, e, v.3))
+plain_value r t p e =
+    let v = least_leaf (way_of p) (zero_taken p) in (leaf v.0, v.1, v.2, (p, e, v.3))
 
 -- what is laid out as a primitive type, of whatever kind, has a value
 kind_value : (r : List TypeInfo) (t : ℕ) (k : PrimitiveKind) → layout r t ≡ kind_layout k →

@@ -31,11 +31,11 @@ leaf_of_extends make more (Ok x) s h = rw h refl
 leaf_of_extends make more (Err e) s h = λ ne. rw (h ne) refl
 
 -- the leaf that bytes are, or why they are refused, is the same in a longer input
-judged_extends : (at rest more : List ℕ) (l : Leaf) (fault : Option Reason) →
+judged_leaf_extends : (at rest more : List ℕ) (l : Leaf) (fault : Option Reason) →
     Extends reasons.Truncated more (judged_leaf at l rest fault)
     (judged_leaf (at ++ more) l (rest ++ more) fault)
-judged_extends at rest more l None = refl
-judged_extends at rest more l (Some e) = λ ne. refl
+judged_leaf_extends at rest more l None = refl
+judged_leaf_extends at rest more l (Some e) = λ ne. refl
 
 -- so many bytes are judged in the same way in a longer input where they are read alike
 leaf_by_extends : (b more : List ℕ) (make : List ℕ → Leaf) (fault : List ℕ → Option Reason)
@@ -43,7 +43,7 @@ leaf_by_extends : (b more : List ℕ) (make : List ℕ → Leaf) (fault : List �
     Extends reasons.Truncated more (leaf_by b make fault read)
     (leaf_by (b ++ more) make fault read')
 leaf_by_extends b more make fault (Ok x) s h =
-    rw h (judged_extends b x.1 more (make x.0) (fault x.0))
+    rw h (judged_leaf_extends b x.1 more (make x.0) (fault x.0))
 leaf_by_extends b more make fault (Err e) s h = λ ne. rw (h ne) refl
 
 -- a leaf is read in each way alike from a longer input

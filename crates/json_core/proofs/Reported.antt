@@ -276,11 +276,11 @@ list_reported r t u vs e p =
     ∙ sym (ap (λ (q : Part). jsons (seen_parts r q vs)) p))
 
 -- a run's node reports its bytes and its JSON
-run_reported : (r : List TypeInfo) (t : ℕ) (k : RunKind) (s : List ℕ) →
+run_leaf_reported : (r : List TypeInfo) (t : ℕ) (k : RunKind) (s : List ℕ) →
     JsonReported r t (tree.leaf (run_leaf k s)) (what_of (tree.leaf (run_leaf k s)))
 unfolding json_of
-run_reported r t kind.Text s = (s, refl, refl)
-run_reported r t _ s = (s, refl, refl)
+run_leaf_reported r t kind.Text s = (s, refl, refl)
+run_leaf_reported r t _ s = (s, refl, refl)
 
 -- the node of a leaf has the JSON that its kind gives
 leaf_reported : (r : List TypeInfo) (t : ℕ) (p : Plain) (l : tree.Leaf) (b : List ℕ) →
@@ -288,7 +288,7 @@ leaf_reported : (r : List TypeInfo) (t : ℕ) (p : Plain) (l : tree.Leaf) (b : L
     JsonReported r t (tree.leaf l) (what_of (tree.leaf l))
 unfolding json_of
 leaf_reported r t layout.empty l b are e h = rw h.0 refl
-leaf_reported r t (layout.run k) l b are e h = rw h.1 (run_reported r t k h.0)
+leaf_reported r t (layout.run k) l b are e h = rw h.1 (run_leaf_reported r t k h.0)
 leaf_reported r t (layout.unsigned k) l b are e h = rw h.1 (unsigned_reported r t k b are e h.0)
 leaf_reported r t (layout.signed k) l b are e h = rw h.1 (signed_reported r t k b are e h.0)
 leaf_reported r t (layout.compact m) l b are e h = rw h.1 (compact_reported r t h.0 m b e h.2)

@@ -98,7 +98,7 @@ width_settled k make fault b h len = rw (bytes_whole k b len) (by (fault b) h) w
   by None j = refl
   by (Some e) j = j.0
 
--- as many bytes as a leaf needs that is no run
+-- just the bytes that a leaf needs, which is no run
 abbrev pub HasWay : Way → List ℕ → Type 0
 HasWay (of_width k make fault) b = length b ≡ k
 HasWay (of_compact m make) b = IsDefinite (compact_at m b)
