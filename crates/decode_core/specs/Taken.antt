@@ -16,6 +16,7 @@ use Rattle.widths_core.specs.declared.run_kind.RunKind.TheVariants as kind
 use Rattle.grammar_core.specs.Tree.{Tree}
 use Rattle.grammar_core.specs.Reading.{ValueReader, value_at}
 use Rattle.grammar_core.specs.Runs.{run_length_at}
+use Rattle.grammar_core.specs.Ways.{Way, of_no_byte, of_width, of_compact, of_run, way_of}
 
 -- what the first part takes, where it is refused; else its bytes, and what the parts after it
 -- take
@@ -56,14 +57,15 @@ abbrev pub arms_taken : (ℕ → ValueReader Tree) → (ℕ → List ℕ → ℕ
 arms_taken child taken arms [] = 0
 arms_taken child taken arms (index ∷ rest) = suc (arm_taken child taken (arm_of arms index) rest)
 
--- a bool is judged by its byte and a char by its four
+-- so many bytes are judged when all are there
+abbrev pub taken_by : Way → List ℕ → ℕ
+taken_by (of_no_byte l) b = 0
+taken_by (of_width k make fault) b = k
+taken_by (of_compact m make) b = compact_taken m b
+taken_by (of_run k) b = run_taken k b
+
 abbrev pub leaf_taken : Plain → List ℕ → ℕ
-leaf_taken layout.bool b = 1
-leaf_taken layout.char b = 4
-leaf_taken (layout.run k) b = run_taken k b
-leaf_taken layout.counted b = compact_taken target.U32 b
-leaf_taken (layout.compact m) b = compact_taken m b
-leaf_taken _ b = 0
+leaf_taken p b = taken_by (way_of p) b
 
 -- where a type is refused as it is met, no byte of it is taken
 unfoldable pub layout_taken : (ℕ → ValueReader Tree) → (ℕ → List ℕ → ℕ) → Layout → List ℕ → ℕ

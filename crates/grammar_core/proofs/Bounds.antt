@@ -7,18 +7,18 @@ use Rattle.widths_core.specs.declared.class.Class.TheVariants as class
 use Rattle.graph_core.specs.Types.{field_types}
 use Rattle.graph_core.specs.Widths.{widest}
 use Rattle.widths_core.specs.Classes.{class_of}
-use Rattle.widths_core.specs.Layouts.{Layout, layout}
+use Rattle.widths_core.specs.Layouts.{layout}
 use Rattle.widths_core.specs.Layouts as layout
 use Rattle.widths_core.proofs.Known.{empty_class, class_empty, layout_empty}
 use Rattle.widths_core.proofs.Wide.{narrow_at, arm-width}
-use Rattle.grammar_core.specs.Tree.{Tree, leaf, branch, unit, bool, char, text, bytes, unsigned}
-use Rattle.grammar_core.specs.Tree.{signed, wide, compact, fields, arm, list, count, Trees, none}
-use Rattle.grammar_core.specs.Tree.{and, how_many, nodes, all_nodes, levels, most_levels}
-use Rattle.grammar_core.specs.Tree.{text_bytes, all_text_bytes, Leaf, bytes_of_text}
+use Rattle.grammar_core.specs.Tree.{Tree, leaf, branch, fields, arm, list, Trees, none, and}
+use Rattle.grammar_core.specs.Tree.{how_many, nodes, all_nodes, levels, most_levels, text_bytes}
+use Rattle.grammar_core.specs.Tree.{all_text_bytes}
 use Rattle.grammar_core.specs.Preorder.{levels-pos}
-use Rattle.grammar_core.specs.Grammar.{Val, Vals, Each, SpellsLeaf}
+use Rattle.grammar_core.specs.Grammar.{Val, Vals, Each}
 use Rattle.grammar_core.specs.Laws.{ValuesAreBounded}
 use Rattle.grammar_core.proofs.Emptiness.{no_bytes, empty_unique, known_at}
+use Rattle.grammar_core.proofs.Texts.{leaf_text}
 
 -- what each byte pays for, by the levels that there is room for
 pub per : ℕ → ℕ → ℕ
@@ -167,25 +167,12 @@ mutual
         ap (λ (n : ℕ). n * p) (length-append h.0 h.1),
       )
 
--- a text or a run of bytes has no more bytes than its spelling
-leaf_text_le : (f : Layout) (l : Leaf) (b : List ℕ) → SpellsLeaf f l b → bytes_of_text l ≤ length b
-leaf_text_le f unit b h = omega arith
-leaf_text_le f (bool x) b h = omega arith
-leaf_text_le f (char c) b h = omega arith
-leaf_text_le f (text s) b h = omega (arith, ap length h.1.3, length-append h.1.0 s)
-leaf_text_le f (bytes s) b h = omega (arith, ap length h.3.3, length-append h.3.0 s)
-leaf_text_le f (unsigned x) b h = omega arith
-leaf_text_le f (signed x) b h = omega arith
-leaf_text_le f (wide x) b h = omega arith
-leaf_text_le f (compact x) b h = omega arith
-leaf_text_le f (count k) b h = omega arith
-
 mutual
   unfolding Val
 
   pub text_le : (r : List TypeInfo) (t : ℕ) (v : Tree) (b : List ℕ) → Val r t v b →
       text_bytes v ≤ length b
-  text_le r t (leaf l) b h = leaf_text_le (layout r t) l b h
+  text_le r t (leaf l) b h = (leaf_text h.0 l b h.2).0
   text_le r t (branch fields vs) b h = all_text_le r h.0 vs b h.2
   text_le r t (branch (arm q) vs) b h =
       omega (arith, ap length h.6, all_text_le r (field_types h.2.fields) vs h.3 h.7)

@@ -1,48 +1,27 @@
 -- What has a value is read, whatever follows it.
-use Rattle.std.proofs.Common.{◌≡◌, ℕ, zero, suc, ◌≤◌, true, false, List, [], ◌∷◌, ◌++◌, Ok, refl}
+use Rattle.std.proofs.Common.{◌≡◌, ℕ, zero, suc, ◌≤◌, List, [], ◌∷◌, ◌++◌, Ok, refl}
 use Rattle.std.proofs.Common.{append_assoc, arith, inl, inr}
-use Rattle.scale_core.specs.Read.{Read}
 use Rattle.scale_core.specs.declared.compact.Target.TheVariants as target
-use Rattle.scale_core.proofs.Again.{bytes_again, compact_again, text_again}
+use Rattle.scale_core.proofs.Again.{bytes_again, compact_again}
 use Rattle.registry_core.specs.declared.type_info.TypeInfo.{TypeInfo}
 use Rattle.graph_core.specs.Types.{field_types}
-use Rattle.widths_core.specs.Layouts.{Layout, layout}
-use Rattle.widths_core.specs.Layouts as layout
-use Rattle.widths_core.specs.declared.run_kind.RunKind.{RunKind}
-use Rattle.widths_core.specs.declared.run_kind.RunKind.TheVariants as kind
-use Rattle.grammar_core.specs.Runs.{IsByteRun, SpellsRun}
-use Rattle.grammar_core.proofs.Runs.{run_text, run_again}
-use Rattle.grammar_core.specs.Tree.{Tree, leaf, branch, unit, bool, char, text, bytes, unsigned}
-use Rattle.grammar_core.specs.Tree.{signed, wide, compact, fields, arm, list, count, Trees, none}
-use Rattle.grammar_core.specs.Tree.{and, how_many, levels, most_levels, Leaf}
-use Rattle.grammar_core.specs.Grammar.{Val, Vals, Each, SpellsLeaf}
+use Rattle.grammar_core.proofs.Runs.{run_again}
+use Rattle.grammar_core.specs.Tree.{Leaf, Tree, leaf, branch, fields, arm, list, Trees, none, and}
+use Rattle.grammar_core.specs.Tree.{how_many, levels, most_levels}
+use Rattle.grammar_core.specs.Ways.{Way, of_no_byte, of_width, of_compact, of_run, way_of, read_by}
+use Rattle.grammar_core.specs.Ways.{SpelledBy}
+use Rattle.grammar_core.specs.Grammar.{Val, Vals, Each}
 use Rattle.grammar_core.proofs.Grounded.{finite}
 use Rattle.grammar_core.specs.Preorder.{levels-pos}
-use Rattle.grammar_core.specs.Reading.{value_at, layout_at, leaf_at, all_at, times_at, Refusal}
+use Rattle.grammar_core.specs.Reading.{value_at, layout_at, all_at, times_at}
 
--- what spells a run of bytes is read as it, whatever follows
-bytes_again_as : (k : RunKind) (s b rest : List ℕ) → IsByteRun k → SpellsRun k s b →
-    leaf_at (layout.run k) (b ++ rest) ≡ Ok (leaf (bytes s), rest)
-bytes_again_as kind.Text s b rest x h = absurd x
-bytes_again_as kind.Bytes s b rest is h = rw (run_again kind.Bytes s b rest h) refl
-bytes_again_as (kind.ByteArray n) s b rest is h = rw (run_again (kind.ByteArray n) s b rest h) refl
-
--- what spells a leaf is read as it, whatever follows
-leaf_again : (child : ℕ → List ℕ → Read Refusal Tree) (f : Layout) (l : Leaf) (b rest : List ℕ) →
-    SpellsLeaf f l b → layout_at child f (b ++ rest) ≡ Ok (leaf l, rest)
-unfolding layout_at
-leaf_again child f unit b rest h = rw (h.0, h.1) refl
-leaf_again child f (bool true) b rest h = rw (h.0, h.1) refl
-leaf_again child f (bool false) b rest h = rw (h.0, h.1) refl
-leaf_again child f (char c) b rest h = rw (h.0, bytes_again 4 b rest h.1, h.2, h.3) refl
-leaf_again child f (text s) b rest h =
-    rw (h.0, run_text (b ++ rest), text_again s b rest h.1) refl
-leaf_again child f (bytes s) b rest h = rw h.2 (bytes_again_as h.0 s b rest h.1 h.3)
-leaf_again child f (unsigned x) b rest h = rw (h.1, bytes_again h.0 b rest h.2, h.3) refl
-leaf_again child f (signed x) b rest h = rw (h.1, bytes_again h.0 b rest h.2, h.3) refl
-leaf_again child f (wide x) b rest h = rw (h.0, bytes_again 32 b rest h.1, h.2) refl
-leaf_again child f (compact x) b rest h = rw (h.1, compact_again h.0 x b rest h.2) refl
-leaf_again child f (count k) b rest h = rw (h.0, compact_again target.U32 k b rest h.1) refl
+-- what spells a leaf is read as it in each way, whatever follows
+way_again : (w : Way) (l : Leaf) (b rest : List ℕ) → SpelledBy w l b →
+    read_by w (b ++ rest) ≡ Ok (l, rest)
+way_again (of_no_byte u) l b rest h = rw (h.0, h.1) refl
+way_again (of_width k make fault) l b rest h = rw (bytes_again k b rest h.0, h.1, h.2) refl
+way_again (of_compact m make) l b rest h = rw (h.1, compact_again m h.0 b rest h.2) refl
+way_again (of_run k) l b rest h = rw (h.1, run_again k h.0 b rest h.2) refl
 
 mutual
   unfolding Val value_at layout_at
@@ -51,7 +30,7 @@ mutual
       levels v ≤ room → value_at r room t (b ++ rest) ≡ Ok (v, rest)
   value_again r zero t v b rest h l = absurd (omega (arith, levels-pos v))
   value_again r (suc room) t (leaf l) b rest h fits =
-      rw (finite r t (leaf l) b h) (leaf_again (value_at r room) (layout r t) l b rest h)
+      rw (finite r t (leaf l) b h, h.1, way_again (way_of h.0) l b rest h.2) refl
   value_again r (suc room) t (branch fields vs) b rest h l =
       rw (finite r t (branch fields vs) b h, h.1, all_again r room h.0 vs b rest h.2 (omega arith))
       refl

@@ -7,18 +7,20 @@ use Rattle.scale_core.specs.declared.compact.Target.TheVariants as target
 use Rattle.scale_core.proofs.Again.{compact-bytes}
 use Rattle.registry_core.specs.declared.type_info.TypeInfo.{TypeInfo}
 use Rattle.widths_core.specs.declared.class.Class.TheVariants as class
-use Rattle.widths_core.specs.Classes.{class_of, empty_within}
-use Rattle.widths_core.specs.Layouts.{Layout, layout}
+use Rattle.widths_core.specs.Classes.{IsEmpty, class_of, empty_within}
+use Rattle.widths_core.specs.Layouts.{Plain, Layout, layout}
 use Rattle.widths_core.specs.Layouts as layout
 use Rattle.widths_core.specs.declared.run_kind.RunKind.{RunKind}
 use Rattle.widths_core.specs.declared.run_kind.RunKind.TheVariants as kind
 use Rattle.grammar_core.specs.Runs.{SpellsRun}
 use Rattle.widths_core.proofs.Known.{KnowsLayout, known, empty_class, class_empty, class_finite}
 use Rattle.widths_core.proofs.Known.{layout_empty}
-use Rattle.grammar_core.specs.Tree.{Tree, leaf, branch, unit, bool, char, text, bytes, unsigned}
-use Rattle.grammar_core.specs.Tree.{signed, wide, compact, fields, arm, list, count, Trees, none}
-use Rattle.grammar_core.specs.Tree.{and, how_many, Leaf}
-use Rattle.grammar_core.specs.Grammar.{Val, Vals, SpellsLeaf}
+use Rattle.grammar_core.specs.Tree.{Leaf, Tree, leaf, branch, unit, fields, arm, list, Trees, none}
+use Rattle.grammar_core.specs.Tree.{and, how_many}
+use Rattle.grammar_core.specs.Ways.{Way, of_no_byte, of_width, of_compact, of_run, SpelledBy}
+use Rattle.grammar_core.specs.Ways.{way_of}
+use Rattle.grammar_core.proofs.Ways.{spelled_as}
+use Rattle.grammar_core.specs.Grammar.{Val, Vals}
 use Rattle.grammar_core.specs.Laws.{EmptyHasUnit, SizedHasBytes}
 
 abbrev is_nil : List ℕ → Bool
@@ -46,58 +48,39 @@ compact_has_byte x b h e = let no = compact-bytes target.U32 x b h e in absurd c
 
 -- a run of bytes without any is of a type that takes none
 run_no_bytes : (r : List TypeInfo) (t : ℕ) (k : RunKind) (s b : List ℕ) → b ≡ [] →
-    layout r t ≡ layout.plain (layout.run k) → SpellsRun k s b → class_of r t ≡ class.Empty
-run_no_bytes r t kind.Text s b e f h =
+    KnowsLayout r t (layout.plain (layout.run k)) → SpellsRun k s b → class_of r t ≡ class.Empty
+run_no_bytes r t kind.Text s b e known h =
     compact_has_byte (length s) h.0 h.1 (nil_parts h.0 s (sym h.3 ∙ e)).0
-run_no_bytes r t kind.Bytes s b e f h =
+run_no_bytes r t kind.Bytes s b e known h =
     compact_has_byte (length s) h.0 h.1 (nil_parts h.0 s (sym h.3 ∙ e)).0
-run_no_bytes r t (kind.ByteArray n) s b e f h =
+run_no_bytes r t (kind.ByteArray n) s b e known h =
     let none : s ≡ [] = (nil_parts h.0 s (sym h.3 ∙ e)).1 in
-    empty_class r t (known_at r t (layout.plain (layout.run (kind.ByteArray n))) f
-    (sym h.1.0 ∙ ap length none))
+    empty_class r t (known (sym h.1.0 ∙ ap length none))
+
+-- what is known of a type whose values are read in this way
+abbrev KnowsWay : List TypeInfo → ℕ → Way → Type 0
+KnowsWay r t (of_no_byte l) = class_of r t ≡ class.Empty
+KnowsWay r t (of_width k make fault) = 1 ≤ k
+KnowsWay r t (of_compact m make) = m ≡ target.Unit → IsEmpty r t
+KnowsWay r t (of_run k) = KnowsLayout r t (layout.plain (layout.run k))
+
+-- it is known by the kind that its layout is
+knows_way : (r : List TypeInfo) (t : ℕ) (p : Plain) → KnowsLayout r t (layout.plain p) →
+    KnowsWay r t (way_of p)
+knows_way r t layout.bool h = omega arith
+knows_way r t layout.char h = omega arith
+knows_way r t layout.wide h = omega arith
+knows_way r t layout.counted h = λ e. absurd cc
+knows_way r t _ h = h
 
 -- a leaf of no bytes is of a type that takes none
-leaf_no_bytes : (r : List TypeInfo) (t : ℕ) (l : Leaf) (b : List ℕ) → b ≡ [] →
-    SpellsLeaf (layout r t) l b → class_of r t ≡ class.Empty
-leaf_no_bytes r t unit b e h = known_at r t (layout.plain layout.empty) h.0
-leaf_no_bytes r t (bool x) b e h = let no = sym e ∙ h.1 in absurd cc
-leaf_no_bytes r t (char c) b e h = let no = sym (ap length e) ∙ h.1 in absurd (omega (arith, no))
-leaf_no_bytes r t (text s) b e h =
-    compact_has_byte (length s) h.1.0 h.1.1 (nil_parts h.1.0 s (sym h.1.3 ∙ e)).0
-leaf_no_bytes r t (bytes s) b e h = run_no_bytes r t h.0 s b e h.2 h.3
-leaf_no_bytes r t (unsigned x) b e h =
-    absurd (omega (
-      arith,
-      known_at r t (layout.plain (layout.unsigned h.0)) h.1,
-      sym (ap length e)
-          ∙ h.2,
-    ))
-leaf_no_bytes r t (signed x) b e h =
-    absurd (omega (
-      arith,
-      known_at r t (layout.plain (layout.signed h.0)) h.1,
-      sym (ap length e)
-          ∙ h.2,
-    ))
-leaf_no_bytes r t (wide x) b e h = let no = sym (ap length e) ∙ h.1 in absurd (omega (arith, no))
-leaf_no_bytes r t (compact x) b e h =
-    empty_class r t (known_at r t (layout.plain (layout.compact h.0)) h.1
-    (compact-bytes h.0 x b h.2 e))
-leaf_no_bytes r t (count k) b e h = compact_has_byte k b h.1 e
-
--- the one leaf of a type that takes no bytes
-leaf_unique : (l : Leaf) (f : Layout) (b : List ℕ) → f ≡ (layout.plain layout.empty) →
-    SpellsLeaf f l b → (l ≡ unit) × (b ≡ [])
-leaf_unique unit f b e h = (refl, h.1)
-leaf_unique (bool x) f b e h = let no = sym e ∙ h.0 in absurd cc
-leaf_unique (char c) f b e h = let no = sym e ∙ h.0 in absurd cc
-leaf_unique (text s) f b e h = let no = sym e ∙ h.0 in absurd cc
-leaf_unique (bytes s) f b e h = let no = sym e ∙ h.2 in absurd cc
-leaf_unique (unsigned x) f b e h = let no = sym e ∙ h.1 in absurd cc
-leaf_unique (signed x) f b e h = let no = sym e ∙ h.1 in absurd cc
-leaf_unique (wide x) f b e h = let no = sym e ∙ h.0 in absurd cc
-leaf_unique (compact x) f b e h = let no = sym e ∙ h.1 in absurd cc
-leaf_unique (count k) f b e h = let no = sym e ∙ h.0 in absurd cc
+leaf_no_bytes : (r : List TypeInfo) (t : ℕ) (w : Way) (l : Leaf) → KnowsWay r t w →
+    SpelledBy w l [] → class_of r t ≡ class.Empty
+leaf_no_bytes r t (of_no_byte u) l known h = known
+leaf_no_bytes r t (of_width k make fault) l known h = absurd (omega (arith, known, h.0))
+leaf_no_bytes r t (of_compact m make) l known h =
+    empty_class r t (known (compact-bytes m h.0 [] h.2 refl))
+leaf_no_bytes r t (of_run k) l known h = run_no_bytes r t k h.0 [] refl known h.2
 
 mutual
   unfolding Val
@@ -105,7 +88,9 @@ mutual
   -- a value with no byte is of a type that takes none
   pub no_bytes : (r : List TypeInfo) (t : ℕ) (v : Tree) (b : List ℕ) → b ≡ [] → Val r t v b →
       class_of r t ≡ class.Empty
-  no_bytes r t (leaf l) b e h = leaf_no_bytes r t l b e h
+  no_bytes r t (leaf l) b e h =
+      leaf_no_bytes r t (way_of h.0) l (knows_way r t h.0 (known_at r t (layout.plain h.0) h.1))
+      (subst (SpelledBy (way_of h.0) l) e h.2)
   no_bytes r t (branch fields vs) b e h =
       empty_class r t (known_at r t (layout.fields h.0) h.1 (all_no_bytes r h.0 vs b e h.2))
   no_bytes r t (branch (arm q) vs) b e h = let no = sym e ∙ h.6 in absurd cc
@@ -143,7 +128,8 @@ sized_has_bytes r t v b sized h =
 pub empty_unique : (r : List TypeInfo) (t : ℕ) (v : Tree) (b : List ℕ) →
     layout r t ≡ (layout.plain layout.empty) → Val r t v b → (v ≡ leaf unit) × (b ≡ [])
 unfolding Val
-empty_unique r t (leaf l) b e h = let is = leaf_unique l (layout r t) b e h in (ap leaf is.0, is.1)
+empty_unique r t (leaf l) b e h = let is =
+    spelled_as (layout r t) layout.empty l b e h in (ap leaf is.0, is.1)
 empty_unique r t (branch fields vs) b e h = let no = sym e ∙ h.1 in absurd cc
 empty_unique r t (branch (arm q) vs) b e h = let no = sym e ∙ h.4 in absurd cc
 empty_unique r t (branch list vs) b e (inl h) = let no = sym e ∙ h.2 in absurd cc
@@ -155,6 +141,6 @@ unfolding Val
 empty_has_unit r t e =
     let is = empty_class r t e in (
       class_finite r t (λ no. let both = sym is ∙ no in absurd cc),
-      (layout_empty r t is, refl),
+      (layout.empty, layout_empty r t is, (refl, refl)),
       λ v b. empty_unique r t v b (layout_empty r t is),
     )

@@ -4,36 +4,19 @@ use Rattle.std.specs.List.{list_all}
 use Rattle.registry_core.specs.declared.type_info.TypeInfo.{TypeInfo}
 use Rattle.graph_core.specs.Types.{field_types}
 use Rattle.widths_core.specs.Classes.{is_finite}
-use Rattle.widths_core.specs.Layouts.{Layout, layout}
+use Rattle.widths_core.specs.Layouts.{layout}
 use Rattle.widths_core.specs.Layouts as layout
-use Rattle.widths_core.specs.declared.run_kind.RunKind.TheVariants as kind
 use Rattle.widths_core.proofs.Known.{finite_at}
-use Rattle.grammar_core.specs.Tree.{Tree, leaf, branch, unit, bool, char, text, bytes, unsigned}
-use Rattle.grammar_core.specs.Tree.{signed, wide, compact, fields, arm, list, count, Trees, none}
-use Rattle.grammar_core.specs.Tree.{and, Leaf}
-use Rattle.grammar_core.specs.Grammar.{Val, Vals, SpellsLeaf}
+use Rattle.grammar_core.specs.Tree.{Tree, leaf, branch, fields, arm, list, Trees, none, and}
+use Rattle.grammar_core.specs.Grammar.{Val, Vals}
 use Rattle.grammar_core.specs.Laws.{ValuesAreFinite}
-
--- a type that a leaf is a value of has a value
-leaf_finite : (r : List TypeInfo) (t : ℕ) (l : Leaf) (b : List ℕ) → SpellsLeaf (layout r t) l b →
-    is_finite r t ≡ true
-leaf_finite r t unit b h = finite_at r t (layout.plain layout.empty) h.0
-leaf_finite r t (bool x) b h = finite_at r t (layout.plain layout.bool) h.0
-leaf_finite r t (char c) b h = finite_at r t (layout.plain layout.char) h.0
-leaf_finite r t (text s) b h = finite_at r t (layout.plain (layout.run kind.Text)) h.0
-leaf_finite r t (bytes s) b h = finite_at r t (layout.plain (layout.run h.0)) h.2
-leaf_finite r t (unsigned x) b h = finite_at r t (layout.plain (layout.unsigned h.0)) h.1
-leaf_finite r t (signed x) b h = finite_at r t (layout.plain (layout.signed h.0)) h.1
-leaf_finite r t (wide x) b h = finite_at r t (layout.plain layout.wide) h.0
-leaf_finite r t (compact x) b h = finite_at r t (layout.plain (layout.compact h.0)) h.1
-leaf_finite r t (count k) b h = finite_at r t (layout.plain layout.counted) h.0
 
 mutual
   unfolding Val
 
   pub finite : (r : List TypeInfo) (t : ℕ) (v : Tree) (b : List ℕ) → Val r t v b →
       is_finite r t ≡ true
-  finite r t (leaf l) b h = leaf_finite r t l b h
+  finite r t (leaf l) b h = finite_at r t (layout.plain h.0) h.1
   finite r t (branch fields vs) b h =
       finite_at r t (layout.fields h.0) h.1 (all_finite r h.0 vs b h.2)
   finite r t (branch (arm q) vs) b h =

@@ -6,13 +6,13 @@ use Rattle.std.specs.Prelude.{◌==◌, ◌||◌, flat_map}
 use Rattle.std.specs.List.{list_all, list_any, AllByRecursion}
 use Rattle.std.specs.Str.{is_utf8, chars}
 use Rattle.std.proofs.lemmas.Bool.{eqb-true, eq-eqb}
-use Rattle.scale_core.specs.Number.{AreBytes, number, signed_number}
+use Rattle.scale_core.specs.Number.{AreBytes}
 use Rattle.scale_core.specs.Compact.{compact, IsCompact}
 use Rattle.scale_core.specs.declared.compact.Target.{Target}
 use Rattle.scale_core.specs.declared.compact.Target.TheVariants as target
 use Rattle.scale_core.proofs.Numbers.{both_bytes}
 use Rattle.registry_core.specs.declared.definition.Arm.{Arm}
-use Rattle.registry_core.specs.Kinds.{kind_of, width_bytes}
+use Rattle.registry_core.specs.Kinds.{kind_of}
 use Rattle.registry_core.specs.declared.kind.PrimitiveKind.{PrimitiveKind}
 use Rattle.registry_core.specs.declared.kind.PrimitiveKind.TheVariants as K
 use Rattle.registry_core.specs.declared.definition.TypeDef.{TypeDef}
@@ -25,14 +25,17 @@ use Rattle.graph_core.specs.References.{references}
 use Rattle.widths_core.specs.Targets.{target_of}
 use Rattle.widths_core.specs.Reach.{IsAmong, here, there, IsPlain}
 use Rattle.widths_core.specs.Classes.{finite_within, finite_step, holds_at, is_empty}
-use Rattle.widths_core.specs.Layouts.{Layout, layout, sized_layout, kind_layout, sequence_layout}
+use Rattle.widths_core.specs.Layouts.{Plain, layout, sized_layout, kind_layout, sequence_layout}
 use Rattle.widths_core.specs.Layouts.{array_layout, is_byte, compact_layout}
 use Rattle.widths_core.specs.Layouts as layout
+use Rattle.widths_core.specs.declared.run_kind.RunKind.{RunKind}
 use Rattle.widths_core.specs.declared.run_kind.RunKind.TheVariants as kind
 use Rattle.widths_core.proofs.Ranks.{and_parts, or_parts}
-use Rattle.grammar_core.specs.Tree.{Tree, leaf, branch, unit, bool, char, text, bytes, unsigned}
-use Rattle.grammar_core.specs.Tree.{signed, wide, compact as compact_value, fields, arm, list}
-use Rattle.grammar_core.specs.Tree.{count, Trees, none, and, how_many}
+use Rattle.grammar_core.specs.Tree.{Leaf, Tree, leaf, branch, fields, arm, list, Trees, none, and}
+use Rattle.grammar_core.specs.Tree.{how_many}
+use Rattle.grammar_core.specs.Ways.{Way, of_no_byte, of_width, of_compact, of_run, SpelledBy}
+use Rattle.grammar_core.specs.Ways.{way_of}
+use Rattle.grammar_core.specs.Runs.{SpellsRun, run_leaf}
 use Rattle.grammar_core.specs.Grammar.{Val, Vals, Each}
 use Rattle.grammar_core.specs.Laws.{FiniteHasValue}
 
@@ -201,61 +204,67 @@ no_text : is_utf8 [] ≡ true
 unfolding is_utf8 chars lib.Utf8.encode
 no_text = refl
 
--- what is laid out as an unsigned integer has a value
-unsigned_value : (r : List TypeInfo) (t k : ℕ) → layout r t ≡ layout.plain (layout.unsigned k) →
-    IsInhabited r t
-unfolding Val
-unsigned_value r t k e =
-    (leaf (unsigned (number (zeros k))), zeros k, zeros-bytes k, (k, e, length-zeros k, refl))
+-- the number 0 has a compact spelling whatever the target
+zero_of : (m : Target) → (b : List ℕ) × AreBytes b × IsCompact m 0 b
+zero_of target.Unit = ([], tt, (refl, refl))
+zero_of target.U8 = (compact 0, zero-bytes, (omega arith, refl))
+zero_of _ = (compact 0, zero-bytes, (omega arith, refl))
 
--- what is laid out as a signed integer has a value
-signed_value : (r : List TypeInfo) (t k : ℕ) → layout r t ≡ layout.plain (layout.signed k) →
-    IsInhabited r t
-unfolding Val
-signed_value r t k e = (
-  leaf (signed (signed_number (zeros k))),
-  zeros k,
-  zeros-bytes k,
-  (k, e, length-zeros k, refl),
+-- bytes 0 are not refused in this way
+abbrev IsZeroTaken : Way → Type 0
+IsZeroTaken (of_width k make fault) = fault (zeros k) ≡ None
+IsZeroTaken _ = ◌≡◌ {A = ℕ} 0 0
+
+-- nor by any kind
+zero_taken : (p : Plain) → IsZeroTaken (way_of p)
+unfolding zeros
+zero_taken layout.bool = refl
+zero_taken _ = refl
+
+-- the length 0, or that of an array, stands in front of as many bytes 0, which are a run
+least_run : (k : RunKind) → (s b : List ℕ) × AreBytes b × SpellsRun k s b
+least_run kind.Text = (
+  [],
+  compact 0 ++ [],
+  both_bytes (compact 0) [] zero-bytes tt,
+  (compact 0, u32_zero, no_text, refl),
 )
+least_run kind.Bytes = (
+  [],
+  compact 0 ++ [],
+  both_bytes (compact 0) [] zero-bytes tt,
+  (compact 0, u32_zero, tt, refl),
+)
+least_run (kind.ByteArray n) =
+    (zeros n, zeros n, zeros-bytes n, ([], (length-zeros n, refl), tt, refl))
 
--- what is laid out as an integer of 256 bits has a value
-wide_value : (r : List TypeInfo) (t : ℕ) → layout r t ≡ (layout.plain layout.wide) → IsInhabited r t
+-- the least leaf of each way, and the bytes that spell it
+least_leaf : (w : Way) → IsZeroTaken w → (l : Leaf) × (b : List ℕ) × AreBytes b × SpelledBy w l b
+least_leaf (of_no_byte u) h = (u, [], tt, (refl, refl))
+least_leaf (of_width k make fault) h =
+    (make (zeros k), zeros k, zeros-bytes k, (length-zeros k, refl, h))
+least_leaf (of_compact m make) h = let z = zero_of m in (make 0, z.0, z.1, (0, refl, z.2))
+least_leaf (of_run k) h = let s = least_run k in (run_leaf k s.0, s.1, s.2, (s.0, refl, s.3))
+
+-- what is laid out as a kind has its least leaf as a value
+plain_value : (r : List TypeInfo) (t : ℕ) (p : Plain) → layout r t ≡ layout.plain p →
+    IsInhabited r t
 unfolding Val
-wide_value r t e = (leaf (wide (zeros 32)), zeros 32, zeros-bytes 32, (e, length-zeros 32, refl))
-
--- what is laid out as a character has a value
-char_value : (r : List TypeInfo) (t : ℕ) → layout r t ≡ (layout.plain layout.char) → IsInhabited r t
-unfolding Val zeros
-char_value r t e = (leaf (char 0), zeros 4, zeros-bytes 4, (e, refl, refl, refl))
+plain_value r t p e =
+    let v = least_leaf (way_of p) (zero_taken p) in (leaf v.0, v.1, v.2, (p, e, v.3))
 
 -- what is laid out as a primitive type, of whatever kind, has a value
 kind_value : (r : List TypeInfo) (t : ℕ) (k : PrimitiveKind) → layout r t ≡ kind_layout k →
     IsInhabited r t
-unfolding Val
-kind_value r t K.Bool e = (leaf (bool false), 0 ∷ [], (omega arith, tt), (e, refl))
-kind_value r t K.Char e = char_value r t e
-kind_value r t K.Str e = (
-  leaf (text []),
-  compact 0 ++ [],
-  both_bytes (compact 0) [] zero-bytes tt,
-  (e, (compact 0, u32_zero, no_text, refl)),
-)
-kind_value r t (K.Unsigned w) e = unsigned_value r t (width_bytes w) e
-kind_value r t (K.Signed w) e = signed_value r t (width_bytes w) e
-kind_value r t (K.Wide s) e = wide_value r t e
+kind_value r t K.Bool e = plain_value r t _ e
+kind_value r t _ e = plain_value r t _ e
 
 -- what is laid out as a sequence, of whatever elements, has a value
 sequence_value : (r : List TypeInfo) (t u : ℕ) (b byte : Bool) →
     layout r t ≡ sequence_layout u b byte → IsInhabited r t
 unfolding Val
-sequence_value r t u true byte e = (leaf (count 0), compact 0, zero-bytes, (e, u32_zero))
-sequence_value r t u false true e = (
-  leaf (bytes []),
-  compact 0 ++ [],
-  both_bytes (compact 0) [] zero-bytes tt,
-  (kind.Bytes, tt, e, (compact 0, u32_zero, tt, refl)),
-)
+sequence_value r t u true byte e = plain_value r t _ e
+sequence_value r t u false true e = plain_value r t _ e
 sequence_value r t u false false e = (
   branch list none,
   compact 0 ++ [],
@@ -268,31 +277,15 @@ array_value : (r : List TypeInfo) (t n u : ℕ) (byte : Bool) → layout r t ≡
     (byte ≡ false → (vs : Trees) × (b : List ℕ) × AreBytes b × (how_many vs ≡ n) × Each r u vs b) →
     IsInhabited r t
 unfolding Val
-array_value r t n u true e each = (
-  leaf (bytes (zeros n)),
-  zeros n,
-  zeros-bytes n,
-  (kind.ByteArray n, tt, e, ([], (length-zeros n, refl), tt, refl)),
-)
+array_value r t n u true e each = plain_value r t _ e
 array_value r t n u false e each = let all = each refl in
     (branch list all.0, all.1, all.2, inl (n, u, e, all.3, all.4))
-
--- the number 0 has a compact spelling whatever the target
-zero_of : (m : Target) → (b : List ℕ) × AreBytes b × IsCompact m 0 b
-zero_of target.Unit = ([], tt, (refl, refl))
-zero_of target.U8 = (compact 0, zero-bytes, (omega arith, refl))
-zero_of target.U16 = (compact 0, zero-bytes, (omega arith, refl))
-zero_of target.U32 = (compact 0, zero-bytes, (omega arith, refl))
-zero_of target.U64 = (compact 0, zero-bytes, (omega arith, refl))
-zero_of target.U128 = (compact 0, zero-bytes, (omega arith, refl))
 
 -- what is laid out as a compact has a value if it has a target
 compact_of : (r : List TypeInfo) (t : ℕ) (o : Option Target) → (o ≡ None → ⊥) →
     layout r t ≡ compact_layout o → IsInhabited r t
-unfolding Val
 compact_of r t None left e = absurd (left refl)
-compact_of r t (Some m) left e = let z = zero_of m in
-    (leaf (compact_value 0), z.0, z.1, (m, e, z.2))
+compact_of r t (Some m) left e = plain_value r t _ e
 
 -- by its definition's layout, a finite type has a value if those it needs do and none is left out
 sized_value : (r : List TypeInfo) (k t : ℕ) (d : TypeDef) → FitsDefinition d → IsPlain r t →
@@ -349,8 +342,8 @@ some_value : (r : List TypeInfo) (k t : ℕ) (d : TypeDef) → FitsDefinition d 
     shape r t ≡ Some d → ((u : ℕ) → IsAmong u (references d) → finite_within r k u ≡ true →
     IsInhabited r u) → finite_step (finite_within r k) d ≡ true → (b : Bool) → is_empty r t ≡ b →
     IsInhabited r t
-unfolding Val layout
-some_value r k t d fits plain is child h true e = (leaf unit, [], tt, (rw e refl, refl))
+unfolding layout
+some_value r k t d fits plain is child h true e = plain_value r t layout.empty (rw e refl)
 some_value r k t d fits plain is child h false e =
     sized_value r k t d fits plain is child (rw (e, is) refl) h
 

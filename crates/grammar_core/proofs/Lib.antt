@@ -5,7 +5,6 @@ pub mod Complete
 pub mod Emptiness
 pub mod Grounded
 pub mod Inhabited
-pub mod OneSpelling
 pub mod OpenNodes
 pub mod Parts
 pub mod Proved
@@ -15,3 +14,4 @@ pub mod Spelled
 pub mod Stable
 pub mod Steps
 pub mod Texts
+pub mod Ways

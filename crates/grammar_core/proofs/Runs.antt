@@ -1,6 +1,6 @@
--- Runs of bytes: what is spelled is read, what is read is spelled, and each has one spelling.
-use Rattle.std.proofs.Common.{◌≡◌, ℕ, true, List, [], ◌++◌, length, drop, Ok, Err, refl, sym, ap}
-use Rattle.std.proofs.Common.{◌∙◌, append_assoc}
+-- Runs of bytes: what is spelled is read, and what is read is spelled.
+use Rattle.std.proofs.Common.{◌≡◌, ℕ, true, List, [], ◌++◌, length, drop, Ok, Err, refl}
+use Rattle.std.proofs.Common.{append_assoc}
 use Rattle.std.specs.Str.{is_utf8}
 use Rattle.std.specs.Str.Lossy.{utf8_valid_len}
 use Rattle.std.proofs.lemmas.List.{append-nil}
@@ -12,7 +12,6 @@ use Rattle.scale_core.proofs.Again.{bytes_again, compact_again}
 use Rattle.scale_core.proofs.Results.{Takes, bind_takes, bytes_takes, compact_takes, cond_takes}
 use Rattle.scale_core.proofs.Results.{Extends, bind_extends, bytes_extends, compact_extends}
 use Rattle.scale_core.proofs.Results.{text_extends}
-use Rattle.scale_core.proofs.Spellings.{one_spelling}
 use Rattle.widths_core.specs.declared.run_kind.RunKind.{RunKind}
 use Rattle.widths_core.specs.declared.run_kind.RunKind.TheVariants as kind
 use Rattle.grammar_core.specs.Runs.{IsRunLength, IsRun, SpellsRun, run_front, run_length_at}
@@ -118,16 +117,3 @@ run_again k s b rest h = rw (
   bytes_again (length s) s rest refl,
   judged_again k (s ++ rest) s rest h.2,
 ) refl
-
--- ---- one spelling
-
--- the length in front of a run has one spelling
-length_one : (k : RunKind) (n : ℕ) (c d : List ℕ) → IsRunLength k n c → IsRunLength k n d → c ≡ d
-length_one kind.Text n c d h j = one_spelling target.U32 n c d h j
-length_one kind.Bytes n c d h j = one_spelling target.U32 n c d h j
-length_one (kind.ByteArray k) n c d h j = h.1 ∙ sym j.1
-
--- a run has one spelling
-pub run_one : (k : RunKind) (s a b : List ℕ) → SpellsRun k s a → SpellsRun k s b → a ≡ b
-run_one k s a b h j = h.3 ∙ ap (λ (x : List ℕ). x ++ s) (length_one k (length s) h.0 j.0 h.1 j.1)
-    ∙ sym j.3

@@ -1,13 +1,11 @@
 -- What is read is a value, and its bytes stood on the front.
 use Rattle.std.proofs.Common.{◌≡◌, ℕ, zero, suc, ◌≤◌, List, [], ◌∷◌, ◌++◌, length, Option, Some}
-use Rattle.std.proofs.Common.{None, Ok, Err, refl, ap, arith, inl, inr}
+use Rattle.std.proofs.Common.{None, Ok, Err, refl, sym, ap, ◌∙◌, arith, inl, inr}
 use Rattle.std.proofs.lemmas.List.{append-nil}
-use Rattle.scale_core.specs.Number.{number, signed_number, is_scalar}
 use Rattle.scale_core.specs.Compact.{IsCompact}
 use Rattle.scale_core.specs.Read.{Read, compact_at, bytes_at}
 use Rattle.scale_core.specs.declared.compact.Target.TheVariants as target
 use Rattle.scale_core.specs.declared.fault.Reason.{Reason}
-use Rattle.scale_core.specs.declared.fault.Reason.TheVariants as reasons
 use Rattle.scale_core.proofs.Results.{Takes, cond_takes, then_takes, bind_takes, bytes_takes}
 use Rattle.scale_core.proofs.Results.{compact_takes}
 use Rattle.registry_core.specs.declared.definition.Arm.{Arm}
@@ -17,25 +15,50 @@ use Rattle.widths_core.specs.Arms.{arm_of}
 use Rattle.widths_core.specs.Classes.{is_finite}
 use Rattle.widths_core.specs.Layouts.{Layout, layout}
 use Rattle.widths_core.specs.Layouts as layout
-use Rattle.widths_core.specs.declared.run_kind.RunKind.{RunKind}
-use Rattle.widths_core.specs.declared.run_kind.RunKind.TheVariants as kind
 use Rattle.grammar_core.specs.Runs.{SpellsRun, run_leaf, run_at}
 use Rattle.grammar_core.proofs.Runs.{run_takes}
-use Rattle.grammar_core.specs.Tree.{Leaf, Branch, Tree, leaf, branch, char, unsigned, signed, wide}
-use Rattle.grammar_core.specs.Tree.{compact, fields, arm, list, count, Trees, how_many, levels}
-use Rattle.grammar_core.specs.Tree.{most_levels}
+use Rattle.grammar_core.specs.Tree.{Leaf, Branch, Tree, leaf, branch, fields, arm, list, Trees}
+use Rattle.grammar_core.specs.Tree.{how_many, levels, most_levels}
+use Rattle.grammar_core.specs.Ways.{Way, of_no_byte, of_width, of_compact, of_run, way_of, read_by}
+use Rattle.grammar_core.specs.Ways.{SpelledBy, leaf_of, leaf_by, judged_leaf}
 use Rattle.grammar_core.specs.Grammar.{Val, Vals, Each}
-use Rattle.grammar_core.specs.Reading.{value_at, layout_at, bool_value_at, char_from, all_at}
-use Rattle.grammar_core.specs.Reading.{times_at}
-use Rattle.grammar_core.specs.Reading.{fields_after_index, arms_at, elements_at, as_leaf}
-use Rattle.grammar_core.specs.Reading.{with_children, Refusal, basic}
+use Rattle.grammar_core.specs.Reading.{value_at, layout_at, all_at, times_at, fields_after_index}
+use Rattle.grammar_core.specs.Reading.{arms_at, elements_at, as_leaf, with_children, Refusal}
 
--- a leaf that is read stood on the front where what it is made of did
-as_leaf_takes : {X : Type 0} (P : X → List ℕ → Type 0) (Q : Tree → List ℕ → Type 0)
+-- a leaf that is made of what was read stood on the front where that did
+leaf_of_takes : {X : Type 0} (P : X → List ℕ → Type 0) (Q : Leaf → List ℕ → Type 0)
     (make : X → Leaf) (b : List ℕ) (read : Read Reason X) → Takes P b read →
-    ((x : X) (c : List ℕ) → P x c → Q (leaf (make x)) c) → Takes Q b (as_leaf make read)
-as_leaf_takes P Q make b (Ok x) h f = (h.0, h.1, f x.0 h.0 h.2)
-as_leaf_takes P Q make b (Err e) h f = tt
+    ((x : X) (c : List ℕ) → P x c → Q (make x) c) → Takes Q b (leaf_of make read)
+leaf_of_takes P Q make b (Ok x) h f = (h.0, h.1, f x.0 h.0 h.2)
+leaf_of_takes P Q make b (Err e) h f = tt
+
+-- a leaf that is made of so many bytes on the front stood there, and they are its bytes
+leaf_by_takes : (k : ℕ) (make : List ℕ → Leaf) (fault : List ℕ → Option Reason) (b : List ℕ)
+    (read : Read Reason (List ℕ)) → Takes (λ x c. (c ≡ x) × (length c ≡ k)) b read →
+    Takes (SpelledBy (of_width k make fault)) b (leaf_by b make fault read)
+leaf_by_takes k make fault b (Err e) h = tt
+leaf_by_takes k make fault b (Ok x) h = by (fault x.0) refl where
+  by : (f : Option Reason) → fault x.0 ≡ f →
+      Takes (SpelledBy (of_width k make fault)) b (judged_leaf b (make x.0) x.1 f)
+  by None e = (h.0, h.1, (h.2.1, ap make (sym h.2.0), ap fault h.2.0 ∙ e))
+  by (Some r) e = tt
+
+-- what is read in each way stood on the front, in the bytes that spell it
+way_takes : (w : Way) (b : List ℕ) → Takes (SpelledBy w) b (read_by w b)
+way_takes (of_no_byte l) b = ([], refl, (refl, refl))
+way_takes (of_width k make fault) b =
+    leaf_by_takes k make fault b (bytes_at k b) (bytes_takes k b)
+way_takes (of_compact m make) b = leaf_of_takes (IsCompact m) (SpelledBy (of_compact m make)) make b
+    (compact_at m b) (compact_takes m b) (λ n c is. (n, refl, is))
+way_takes (of_run k) b = leaf_of_takes (SpellsRun k) (SpelledBy (of_run k)) (run_leaf k) b
+    (run_at k b) (run_takes k b) (λ s c is. (s, refl, is))
+
+-- a leaf that is read stood on the front as a value
+as_leaf_takes : (P : Leaf → List ℕ → Type 0) (Q : Tree → List ℕ → Type 0) (b : List ℕ)
+    (read : Read Reason Leaf) → Takes P b read →
+    ((l : Leaf) (c : List ℕ) → P l c → Q (leaf l) c) → Takes Q b (as_leaf read)
+as_leaf_takes P Q b (Ok x) h f = (h.0, h.1, f x.0 h.0 h.2)
+as_leaf_takes P Q b (Err e) h f = tt
 
 -- a value with parts that is read stood on the front where its parts did
 with_children_takes : (P : Trees → List ℕ → Type 0) (Q : Tree → List ℕ → Type 0) (k : Branch)
@@ -88,26 +111,6 @@ times_takes r room child h (suc n) t b =
       ),
     )))
 
--- a boolean that is read stood on the front, as a value of a type laid out so
-bool_takes : (r : List TypeInfo) (room t : ℕ) (b : List ℕ) →
-    layout r t ≡ (layout.plain layout.bool) → Takes (One r (suc room) t) b (bool_value_at b)
-unfolding Val
-bool_takes r room t [] e = tt
-bool_takes r room t (zero ∷ b) e = (0 ∷ [], refl, ((e, refl), omega arith))
-bool_takes r room t (suc zero ∷ b) e = (1 ∷ [], refl, ((e, refl), omega arith))
-bool_takes r room t (suc (suc x) ∷ b) e = tt
-
--- a character made of four bytes on the front stood there, as a value of a type laid out so
-char_takes : (r : List TypeInfo) (room t : ℕ) (b : List ℕ) (read : Read Reason (List ℕ)) →
-    layout r t ≡ (layout.plain layout.char) → Takes (λ x c. (c ≡ x) × (length c ≡ 4)) b read →
-    Takes (One r (suc room) t) b (char_from b read)
-unfolding Val
-char_takes r room t b (Err e) f h = tt
-char_takes r room t b (Ok x) f h =
-    cond_takes (One r (suc room) t) b (is_scalar (number x.0)) (Ok (leaf (char (number x.0)), x.1))
-    (Err (basic reasons.BadChar, b))
-    (λ e. (h.0, h.1, ((f, h.2.1, ap number h.2.0, e), omega arith))) (λ e. tt)
-
 -- the fields of the arm found for an index stood on the front after it, as a value of the variant
 arm_takes : (r : List TypeInfo) (room t : ℕ) (child : ℕ → List ℕ → Read Refusal Tree) →
     ChildTakes r room child → (arms : List Arm) → layout r t ≡ layout.arms arms →
@@ -141,15 +144,6 @@ elements_takes r room t u child h f b (Ok n) k = then_takes (One r (suc room) t)
     (times_at child n.0 u n.1) (times_takes r room child h n.0 u n.1) (λ vs c vals.
     (inr (u, k.0, c, f, rw vals.1 k.2, refl, vals.0), omega arith)))
 
--- what spells a run is a value of its type
-run_value : (r : List TypeInfo) (room t : ℕ) (k : RunKind) →
-    layout r t ≡ layout.plain (layout.run k) →
-    (s c : List ℕ) → SpellsRun k s c → One r (suc room) t (leaf (run_leaf k s)) c
-unfolding Val
-run_value r room t kind.Text e s c is = ((e, is), omega arith)
-run_value r room t kind.Bytes e s c is = ((kind.Bytes, tt, e, is), omega arith)
-run_value r room t (kind.ByteArray n) e s c is = ((kind.ByteArray n, tt, e, is), omega arith)
-
 -- a value that is read by its type's layout stood on the front, where each child that is read did
 layout_takes : (r : List TypeInfo) (room t : ℕ) (child : ℕ → List ℕ → Read Refusal Tree) →
     ChildTakes r room child → (f : Layout) → layout r t ≡ f → (b : List ℕ) →
@@ -158,38 +152,18 @@ unfolding Val layout_at
 layout_takes r room t child h layout.unknown e b = tt
 layout_takes r room t child h layout.bit_sequence e b = tt
 layout_takes r room t child h layout.bad_compact e b = tt
-layout_takes r room t child h (layout.plain layout.empty) e b = ([], refl, ((e, refl), omega arith))
-layout_takes r room t child h (layout.plain layout.bool) e b = bool_takes r room t b e
-layout_takes r room t child h (layout.plain layout.char) e b =
-    char_takes r room t b (bytes_at 4 b) e (bytes_takes 4 b)
-layout_takes r room t child h (layout.plain (layout.run k)) e b =
-    as_leaf_takes (SpellsRun k) (One r (suc room) t) (run_leaf k) b (run_at k b) (run_takes k b)
-    (λ s c is. run_value r room t k e s c is)
-layout_takes r room t child h (layout.plain (layout.unsigned k)) e b =
-    as_leaf_takes (λ x c. (c ≡ x) × (length c ≡ k)) (One r (suc room) t) (λ b. unsigned (number b))
-    b (bytes_at k b) (bytes_takes k b) (λ x c is. ((k, e, is.1, ap number is.0), omega arith))
-layout_takes r room t child h (layout.plain (layout.signed k)) e b =
-    as_leaf_takes (λ x c. (c ≡ x) × (length c ≡ k)) (One r (suc room) t)
-    (λ b. signed (signed_number b)) b (bytes_at k b) (bytes_takes k b)
-    (λ x c is. ((k, e, is.1, ap signed_number is.0), omega arith))
-layout_takes r room t child h (layout.plain layout.wide) e b =
-    as_leaf_takes (λ x c. (c ≡ x) × (length c ≡ 32)) (One r (suc room) t) wide b (bytes_at 32 b)
-    (bytes_takes 32 b) (λ x c is. ((e, is.1, is.0), omega arith))
+layout_takes r room t child h (layout.plain p) e b =
+    as_leaf_takes (SpelledBy (way_of p)) (One r (suc room) t) b (read_by (way_of p) b)
+    (way_takes (way_of p) b) (λ l c is. ((p, e, is), omega arith))
 layout_takes r room t child h (layout.fields ts) e b =
     with_children_takes (Some_of r room ts) (One r (suc room) t) fields b (all_at child ts b)
     (all_takes r room child h ts b) (λ vs c vals. ((ts, e, vals.0), omega arith))
 layout_takes r room t child h (layout.arms arms) e b = arms_takes r room t child h arms e b
-layout_takes r room t child h (layout.plain layout.counted) e b =
-    as_leaf_takes (IsCompact target.U32) (One r (suc room) t) count b (compact_at target.U32 b)
-    (compact_takes target.U32 b) (λ k c is. ((e, is), omega arith))
 layout_takes r room t child h (layout.sequence u) e b =
     elements_takes r room t u child h e b (compact_at target.U32 b) (compact_takes target.U32 b)
 layout_takes r room t child h (layout.array n u) e b =
     with_children_takes (Times r room n u) (One r (suc room) t) list b (times_at child n u b)
     (times_takes r room child h n u b) (λ vs c vals. (inl (n, u, e, vals.1, vals.0), omega arith))
-layout_takes r room t child h (layout.plain (layout.compact m)) e b =
-    as_leaf_takes (IsCompact m) (One r (suc room) t) compact b (compact_at m b) (compact_takes m b)
-    (λ x c is. ((m, e, is), omega arith))
 
 -- a value that is read stood on the front, and has room for its levels
 pub value_takes : (r : List TypeInfo) (room t : ℕ) (b : List ℕ) →

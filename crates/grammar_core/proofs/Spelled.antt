@@ -25,25 +25,27 @@ use Rattle.graph_core.specs.Types.{shape, field_types}
 use Rattle.widths_core.specs.Arms.{arm_of}
 use Rattle.widths_core.specs.Targets.{target_of}
 use Rattle.widths_core.specs.Classes.{is_empty}
-use Rattle.widths_core.specs.Layouts.{Layout, layout, layout_of_shape, sized_layout, kind_layout}
-use Rattle.widths_core.specs.Layouts.{sequence_layout, array_layout, is_byte, compact_layout}
+use Rattle.widths_core.specs.Layouts.{Plain, Layout, layout, layout_of_shape, sized_layout}
+use Rattle.widths_core.specs.Layouts.{kind_layout, sequence_layout, array_layout, is_byte}
+use Rattle.widths_core.specs.Layouts.{compact_layout}
 use Rattle.widths_core.specs.Layouts as layout
 use Rattle.widths_core.specs.declared.run_kind.RunKind.{RunKind}
 use Rattle.widths_core.specs.declared.run_kind.RunKind.TheVariants as kind
-use Rattle.grammar_core.specs.Runs.{IsByteRun, IsRunLength}
+use Rattle.grammar_core.specs.Runs.{IsRunLength, run_leaf}
 use Rattle.widths_core.proofs.Known.{empty_class, layout_empty}
 use Rattle.widths_core.proofs.FirstArm.{arm_is_first}
-use Rattle.grammar_core.specs.Tree.{Tree, leaf, branch, unit, bool, char, text, bytes, unsigned}
-use Rattle.grammar_core.specs.Tree.{signed, wide, fields, arm, list, count, Trees, none, and}
-use Rattle.grammar_core.specs.Tree.{how_many, Leaf}
-use Rattle.grammar_core.specs.Tree as tree
-use Rattle.grammar_core.specs.Grammar.{Val, Vals, Each, SpellsLeaf}
+use Rattle.grammar_core.specs.Tree.{Leaf, Tree, leaf, branch, fields, arm}
+use Rattle.grammar_core.specs.Tree.{list, Trees, none, and, how_many}
+use Rattle.grammar_core.specs.Ways.{SpelledBy, way_of}
+use Rattle.grammar_core.specs.Grammar.{Val, Vals, Each}
+use Rattle.grammar_core.proofs.Ways.{bool_is}
 use Rattle.grammar_core.specs.Parts.{each, times}
 use Rattle.grammar_core.specs.Cells.{cells, all_cells}
 use Rattle.grammar_core.proofs.Emptiness.{known_at}
 use Rattle.grammar_core.specs.Spelled.{leaf_spelling, kind_width, width_of, word, index_of}
 use Rattle.grammar_core.specs.Spelled.{index_byte, is_sequence, length_bytes, cell_bytes, spelled}
 use Rattle.grammar_core.specs.Spelled.{EncodedIsValue}
+use Rattle.grammar_core.specs.Laws.{OneSpelling}
 
 -- ---- what the layout of a type says of its definition
 
@@ -60,12 +62,9 @@ Shaped _ d = Unit {0}
 -- the layout of a primitive's kind has the width that the definition has
 shaped_kind : (k : PrimitiveKind) (d : Option TypeDef) → width_of d ≡ kind_width k →
     Shaped (kind_layout k) d
-shaped_kind K.Bool d h = tt
-shaped_kind K.Char d h = tt
-shaped_kind K.Str d h = tt
 shaped_kind (K.Unsigned w) d h = h
 shaped_kind (K.Signed w) d h = (h, width_most w)
-shaped_kind (K.Wide s) d h = tt
+shaped_kind _ d h = tt
 
 -- what is laid out by a sequence is a sequence by its definition
 shaped_sequence : (t : ℕ) (e byte : Bool) (d : Option TypeDef) → is_sequence d ≡ true →
@@ -179,11 +178,7 @@ compact_is r t target.Unit x b e h =
     let empty = layout_empty r t
     (empty_class r t (known_at r t (layout.plain (layout.compact target.Unit)) e refl)) in
     let no = sym empty ∙ e in absurd cc
-compact_is r t target.U8 x b e h = sym h.1
-compact_is r t target.U16 x b e h = sym h.1
-compact_is r t target.U32 x b e h = sym h.1
-compact_is r t target.U64 x b e h = sym h.1
-compact_is r t target.U128 x b e h = sym h.1
+compact_is r t _ x b e h = sym h.1
 
 -- ---- the index of an arm
 
@@ -228,43 +223,44 @@ pub sequence_length : (r : List TypeInfo) (t u k : ℕ) → layout r t ≡ layou
     length_bytes (shape r t) k ≡ compact k
 sequence_length r t u k e = rw (shaped_at r t (layout.sequence u) e) refl
 
--- what stands in front of a run of bytes is its length, where its type does not say it
-run_length : (r : List TypeInfo) (t : ℕ) (k : RunKind) (n : ℕ) (c : List ℕ) → IsByteRun k →
-    layout r t ≡ layout.plain (layout.run k) → IsRunLength k n c → length_bytes (shape r t) n ≡ c
-run_length r t kind.Text n c x e h = absurd x
-run_length r t kind.Bytes n c is e h =
-    rw (shaped_at r t (layout.plain (layout.run kind.Bytes)) e) (sym h.1)
-run_length r t (kind.ByteArray k) n c is e h =
-    rw (shaped_at r t (layout.plain (layout.run (kind.ByteArray k))) e) (sym h.1)
+-- the bytes of a run by itself are its own after those that may stand in front of so many
+run_spelling : (r : List TypeInfo) (t : ℕ) (k : RunKind) (s c : List ℕ) →
+    layout r t ≡ layout.plain (layout.run k) → IsRunLength k (length s) c →
+    leaf_spelling (shape r t) (run_leaf k s) ≡ c ++ s
+run_spelling r t kind.Text s c e h = ap (λ (x : List ℕ). x ++ s) (sym h.1)
+run_spelling r t kind.Bytes s c e h =
+    rw (shaped_at r t (layout.plain (layout.run kind.Bytes)) e, h.1) refl
+run_spelling r t (kind.ByteArray k) s c e h =
+    rw (shaped_at r t (layout.plain (layout.run (kind.ByteArray k))) e, h.1) refl
 
 -- ---- all nodes
 
 -- the bytes of a leaf by itself are those that spell it
-leaf_spells : (r : List TypeInfo) (t : ℕ) (l : Leaf) (b : List ℕ) → AreBytes b →
-    SpellsLeaf (layout r t) l b → leaf_spelling (shape r t) l ++ [] ≡ b
-leaf_spells r t unit b p h = sym h.1
-leaf_spells r t (bool x) b p h = sym h.1
-leaf_spells r t (char c) b p h = unsigned_bytes_are 4 c b p h.1 h.2
-leaf_spells r t (text s) b p h = append-nil (compact (length s) ++ s)
-    ∙ ap (λ (x : List ℕ). x ++ s) (sym h.1.1.1) ∙ sym h.1.3
-leaf_spells r t (bytes s) b p h = append-nil (length_bytes (shape r t) (length s) ++ s)
-    ∙ ap (λ (x : List ℕ). x ++ s) (run_length r t h.0 (length s) h.3.0 h.1 h.2 h.3.1) ∙ sym h.3.3
-leaf_spells r t (unsigned x) b p h = append-nil _
-    ∙ ap (λ (k : ℕ). le_bytes k x) (shaped_at r t (layout.plain (layout.unsigned h.0)) h.1)
-    ∙ unsigned_bytes_are h.0 x b p h.2 h.3
-leaf_spells r t (signed x) b p h =
-    let s = shaped_at r t (layout.plain (layout.signed h.0)) h.1 in
-    append-nil _ ∙ ap (λ (k : ℕ). le_bytes k (word x)) s.0 ∙ signed_bytes_are h.0 x b p s.1 h.2 h.3
-leaf_spells r t (wide x) b p h = append-nil x ∙ sym h.2
-leaf_spells r t (tree.compact x) b p h = append-nil (compact x) ∙ compact_is r t h.0 x b h.1 h.2
-leaf_spells r t (count k) b p h = append-nil (compact k) ∙ sym h.1.1
+leaf_spells : (r : List TypeInfo) (t : ℕ) (p : Plain) (l : Leaf) (b : List ℕ) → AreBytes b →
+    layout r t ≡ layout.plain p → SpelledBy (way_of p) l b → leaf_spelling (shape r t) l ++ [] ≡ b
+leaf_spells r t layout.empty l b a e h = rw (h.0, h.1) refl
+leaf_spells r t layout.bool l b a e h = rw h.1 (sym (bool_is b h.2))
+leaf_spells r t layout.char l b a e h = rw h.1 (unsigned_bytes_are 4 (number b) b a h.0 refl)
+leaf_spells r t (layout.run k) l b a e h =
+    rw h.1 (append-nil (leaf_spelling (shape r t) (run_leaf k h.0))
+    ∙ run_spelling r t k h.0 h.2.0 e h.2.1 ∙ sym h.2.3)
+leaf_spells r t (layout.unsigned k) l b a e h =
+    rw (h.1, append-nil, shaped_at r t (layout.plain (layout.unsigned k)) e)
+    (unsigned_bytes_are k (number b) b a h.0 refl)
+leaf_spells r t (layout.signed k) l b a e h =
+    let s = shaped_at r t (layout.plain (layout.signed k)) e in
+    rw (h.1, append-nil, s.0) (signed_bytes_are k (signed_number b) b a s.1 h.0 refl)
+leaf_spells r t layout.wide l b a e h = rw h.1 (append-nil b)
+leaf_spells r t layout.counted l b a e h = rw h.1 (append-nil (compact h.0) ∙ sym h.2.1)
+leaf_spells r t (layout.compact m) l b a e h =
+    rw h.1 (append-nil (compact h.0) ∙ compact_is r t m h.0 b e h.2)
 
 mutual
   unfolding Val
 
   pub spells : (r : List TypeInfo) (t : ℕ) (v : Tree) (b : List ℕ) → AreBytes b → Val r t v b →
       spelled r t v ≡ b
-  spells r t (leaf l) b p h = leaf_spells r t l b p h
+  spells r t (leaf l) b p h = leaf_spells r t h.0 l b p h.1 h.2
   spells r t (branch fields vs) b p h = rw h.1 (spells_vals r h.0 vs b p h.2)
   spells r t (branch (arm q) vs) b p h =
       let first = arm_byte r t h.0 h.1 q h.2 h.4 h.5 in
@@ -304,3 +300,7 @@ mutual
 -- bytes that spell a value by the grammar are those of its nodes, one after the other
 pub encoded_is_value : EncodedIsValue
 encoded_is_value = spells
+
+-- so two lists of bytes that spell the same value of a type are the same
+pub one_spelling_of : OneSpelling
+one_spelling_of r t v a b p q h k = sym (spells r t v a p h) ∙ spells r t v b q k

@@ -1,7 +1,6 @@
 -- More bytes after the input change no value and no fault but a missing end.
 use Rattle.std.proofs.Common.{ℕ, zero, suc, List, [], ◌∷◌, ◌++◌, Option, Some, None, Ok, Err, refl}
 use Rattle.std.proofs.Common.{ap}
-use Rattle.scale_core.specs.Number.{number, signed_number, is_scalar}
 use Rattle.scale_core.specs.Read.{Read}
 use Rattle.scale_core.specs.declared.compact.Target.TheVariants as target
 use Rattle.scale_core.specs.declared.fault.Reason.{Reason}
@@ -13,23 +12,55 @@ use Rattle.registry_core.specs.declared.type_info.TypeInfo.{TypeInfo}
 use Rattle.graph_core.specs.Types.{field_types}
 use Rattle.widths_core.specs.Arms.{arm_of}
 use Rattle.widths_core.specs.Classes.{is_finite}
-use Rattle.widths_core.specs.Layouts.{Plain, Layout, layout}
+use Rattle.widths_core.specs.Layouts.{Layout, layout}
 use Rattle.widths_core.specs.Layouts as layout
 use Rattle.grammar_core.specs.Runs.{run_leaf}
 use Rattle.grammar_core.proofs.Runs.{run_extends}
-use Rattle.grammar_core.specs.Tree.{Leaf, Branch, Tree, unsigned, signed, wide, compact, fields}
-use Rattle.grammar_core.specs.Tree.{arm, list, count, Trees}
-use Rattle.grammar_core.specs.Reading.{value_at, layout_at, leaf_at, bool_value_at, char_from}
-use Rattle.grammar_core.specs.Reading.{all_at}
-use Rattle.grammar_core.specs.Reading.{times_at, fields_after_index, arms_at, elements_at, as_leaf}
+use Rattle.grammar_core.specs.Tree.{Leaf, Branch, Tree, fields, arm, list, Trees}
+use Rattle.grammar_core.specs.Ways.{Way, of_no_byte, of_width, of_compact, of_run, way_of, read_by}
+use Rattle.grammar_core.specs.Ways.{leaf_of, leaf_by, judged_leaf}
+use Rattle.grammar_core.specs.Reading.{value_at, layout_at, all_at, times_at, fields_after_index}
+use Rattle.grammar_core.specs.Reading.{arms_at, elements_at, as_leaf}
 use Rattle.grammar_core.specs.Reading.{with_children, Refusal, basic, truncated}
 
--- a leaf is read in the same way from a longer input where what it is made of is
-as_leaf_extends : {X : Type 0} (make : X → Leaf) (more : List ℕ) (read read' : Read Reason X) →
+-- a leaf that is made of what was read is read in the same way from a longer input where that is
+leaf_of_extends : {X : Type 0} (make : X → Leaf) (more : List ℕ) (read read' : Read Reason X) →
     Extends reasons.Truncated more read read' →
-    Extends truncated more (as_leaf make read) (as_leaf make read')
-as_leaf_extends make more (Ok x) s h = rw h refl
-as_leaf_extends make more (Err e) s h = λ ne. rw (h (λ eq. ne (ap basic eq))) refl
+    Extends reasons.Truncated more (leaf_of make read) (leaf_of make read')
+leaf_of_extends make more (Ok x) s h = rw h refl
+leaf_of_extends make more (Err e) s h = λ ne. rw (h ne) refl
+
+-- the leaf that bytes are, or why they are refused, is the same in a longer input
+judged_leaf_extends : (at rest more : List ℕ) (l : Leaf) (fault : Option Reason) →
+    Extends reasons.Truncated more (judged_leaf at l rest fault)
+    (judged_leaf (at ++ more) l (rest ++ more) fault)
+judged_leaf_extends at rest more l None = refl
+judged_leaf_extends at rest more l (Some e) = λ ne. refl
+
+-- so many bytes are judged in the same way in a longer input where they are read alike
+leaf_by_extends : (b more : List ℕ) (make : List ℕ → Leaf) (fault : List ℕ → Option Reason)
+    (read read' : Read Reason (List ℕ)) → Extends reasons.Truncated more read read' →
+    Extends reasons.Truncated more (leaf_by b make fault read)
+    (leaf_by (b ++ more) make fault read')
+leaf_by_extends b more make fault (Ok x) s h =
+    rw h (judged_leaf_extends b x.1 more (make x.0) (fault x.0))
+leaf_by_extends b more make fault (Err e) s h = λ ne. rw (h ne) refl
+
+-- a leaf is read in each way alike from a longer input
+way_extends : (w : Way) (b more : List ℕ) →
+    Extends reasons.Truncated more (read_by w b) (read_by w (b ++ more))
+way_extends (of_no_byte l) b more = refl
+way_extends (of_width k make fault) b more =
+    leaf_by_extends b more make fault _ _ (bytes_extends k b more)
+way_extends (of_compact m make) b more = leaf_of_extends make more _ _ (compact_extends m b more)
+way_extends (of_run k) b more = leaf_of_extends (run_leaf k) more _ _ (run_extends k b more)
+
+-- a leaf is the same value in a longer input
+as_leaf_extends : (more : List ℕ) (read read' : Read Reason Leaf) →
+    Extends reasons.Truncated more read read' →
+    Extends truncated more (as_leaf read) (as_leaf read')
+as_leaf_extends more (Ok x) s h = rw h refl
+as_leaf_extends more (Err e) s h = λ ne. rw (h (λ eq. ne (ap basic eq))) refl
 
 -- a value with parts is read in the same way from a longer input where its parts are
 with_children_extends : (k : Branch) (more : List ℕ) (read read' : Read Refusal Trees) →
@@ -62,22 +93,6 @@ times_extends more child h (suc n) t b =
     bind_extends truncated more (times_at child n t v.1) (times_at child n t (v.1 ++ more)) _ _
     (times_extends more child h n t v.1) (λ vs. refl))
 
--- a boolean is read, or refused other than for a cut, in the same way from a longer input
-bool_extends : (b more : List ℕ) →
-    Extends truncated more (bool_value_at b) (bool_value_at (b ++ more))
-bool_extends [] more = λ ne. absurd (ne refl)
-bool_extends (zero ∷ b) more = refl
-bool_extends (suc zero ∷ b) more = refl
-bool_extends (suc (suc x) ∷ b) more = λ ne. refl
-
--- a character is read in the same way from a longer input where its four bytes are
-char_extends : (b more : List ℕ) (read read' : Read Reason (List ℕ)) →
-    Extends reasons.Truncated more read read' →
-    Extends truncated more (char_from b read) (char_from (b ++ more) read')
-char_extends b more (Err e) s h = λ ne. rw (h (λ eq. ne (ap basic eq))) refl
-char_extends b more (Ok x) s h =
-    rw h (cond_extends truncated more (is_scalar (number x.0)) _ _ _ _ refl (λ ne. refl))
-
 -- the fields after an index are read in the same way from a longer input where each child is
 arm_extends : (more : List ℕ) (child : ℕ → List ℕ → Read Refusal Tree) → ChildExtends more child →
     (at b : List ℕ) (found : Option (ℕ × Arm)) →
@@ -103,22 +118,6 @@ elements_extends more child h t (Err e) s k = λ ne. rw (k (λ eq. ne (ap basic 
 elements_extends more child h t (Ok n) s k =
     rw k (with_children_extends list more _ _ (times_extends more child h n.0 t n.1))
 
--- more bytes after a value without parts
-leaf_extends : (more : List ℕ) (p : Plain) (b : List ℕ) →
-    Extends truncated more (leaf_at p b) (leaf_at p (b ++ more))
-leaf_extends more layout.empty b = refl
-leaf_extends more layout.bool b = bool_extends b more
-leaf_extends more layout.char b = char_extends b more _ _ (bytes_extends 4 b more)
-leaf_extends more (layout.run k) b = as_leaf_extends (run_leaf k) more _ _ (run_extends k b more)
-leaf_extends more (layout.unsigned k) b =
-    as_leaf_extends (λ b. unsigned (number b)) more _ _ (bytes_extends k b more)
-leaf_extends more (layout.signed k) b =
-    as_leaf_extends (λ b. signed (signed_number b)) more _ _ (bytes_extends k b more)
-leaf_extends more layout.wide b = as_leaf_extends wide more _ _ (bytes_extends 32 b more)
-leaf_extends more layout.counted b =
-    as_leaf_extends count more _ _ (compact_extends target.U32 b more)
-leaf_extends more (layout.compact m) b = as_leaf_extends compact more _ _ (compact_extends m b more)
-
 -- what any layout reads is read in the same way from a longer input where each child is
 pub layout_extends : (more : List ℕ) (child : ℕ → List ℕ → Read Refusal Tree) →
     ChildExtends more child → (f : Layout) (b : List ℕ) →
@@ -127,7 +126,8 @@ unfolding layout_at
 layout_extends more child h layout.unknown b = λ ne. refl
 layout_extends more child h layout.bit_sequence b = λ ne. refl
 layout_extends more child h layout.bad_compact b = λ ne. refl
-layout_extends more child h (layout.plain p) b = leaf_extends more p b
+layout_extends more child h (layout.plain p) b =
+    as_leaf_extends more _ _ (way_extends (way_of p) b more)
 layout_extends more child h (layout.fields ts) b =
     with_children_extends fields more _ _ (all_extends more child h ts b)
 layout_extends more child h (layout.arms arms) b = arms_extends more child h arms b

@@ -1,31 +1,49 @@
 -- Each text of a value is UTF-8.
-use Rattle.std.proofs.Common.{ℕ, List, [], ◌∷◌, inl, inr}
+use Rattle.std.proofs.Common.{ℕ, ◌≤◌, List, [], ◌∷◌, length, ap, arith, inl, inr, length-append}
 use Rattle.registry_core.specs.declared.type_info.TypeInfo.{TypeInfo}
 use Rattle.graph_core.specs.Types.{field_types}
-use Rattle.widths_core.specs.Layouts.{Layout, layout}
-use Rattle.grammar_core.specs.Tree.{leaf, branch, unit, bool, char, text, bytes, unsigned, signed}
-use Rattle.grammar_core.specs.Tree.{wide, compact, fields, arm, list, count, Trees, none, and, Leaf}
-use Rattle.grammar_core.specs.Grammar.{Val, Vals, Each, SpellsLeaf}
+use Rattle.widths_core.specs.Layouts.{Plain}
+use Rattle.widths_core.specs.declared.run_kind.RunKind.{RunKind}
+use Rattle.widths_core.specs.declared.run_kind.RunKind.TheVariants as kind
+use Rattle.grammar_core.specs.Tree.{Leaf, leaf, branch, fields, arm, list, Trees, none, and}
+use Rattle.grammar_core.specs.Tree.{bytes_of_text}
+use Rattle.grammar_core.specs.Runs.{SpellsRun, run_leaf}
+use Rattle.grammar_core.specs.Ways.{Way, of_no_byte, of_width, of_compact, of_run, SpelledBy}
+use Rattle.grammar_core.specs.Ways.{way_of}
+use Rattle.grammar_core.specs.Grammar.{Val, Vals, Each}
+use Rattle.grammar_core.proofs.Ways.{MakesNoText, textless}
 use Rattle.grammar_core.specs.Laws.{AllHaveText, TextsAreText, LeafHasText}
 
--- a leaf that is a text is UTF-8
-leaf_is_text : (f : Layout) (l : Leaf) (b : List ℕ) → SpellsLeaf f l b → LeafHasText l
-leaf_is_text f unit b h = tt
-leaf_is_text f (bool x) b h = tt
-leaf_is_text f (char c) b h = tt
-leaf_is_text f (text s) b h = (h.1.1.0, h.1.2)
-leaf_is_text f (bytes s) b h = tt
-leaf_is_text f (unsigned x) b h = tt
-leaf_is_text f (signed x) b h = tt
-leaf_is_text f (wide x) b h = tt
-leaf_is_text f (compact x) b h = tt
-leaf_is_text f (count k) b h = tt
+-- a run's bytes are counted, and of a text they are UTF-8
+run_text_is : (k : RunKind) (s b : List ℕ) → length s ≤ length b → SpellsRun k s b →
+    (bytes_of_text (run_leaf k s) ≤ length b) × LeafHasText (run_leaf k s)
+run_text_is kind.Text s b le h = (le, (h.1.0, h.2))
+run_text_is kind.Bytes s b le h = (le, tt)
+run_text_is (kind.ByteArray n) s b le h = (le, tt)
+
+-- the same of any leaf, by the way of its kind
+way_text : (w : Way) (l : Leaf) (b : List ℕ) → ((n : ℕ) → MakesNoText w b n) → SpelledBy w l b →
+    (bytes_of_text l ≤ length b) × LeafHasText l
+way_text (of_no_byte u) l b without h =
+    let none = without 0 in rw h.0 (omega (arith, none.0), none.1)
+way_text (of_width k make fault) l b without h =
+    let none = without 0 in rw h.1 (omega (arith, none.0), none.1)
+way_text (of_compact m make) l b without h =
+    let none = without h.0 in rw h.1 (omega (arith, none.0), none.1)
+way_text (of_run k) l b without h =
+    rw h.1 (run_text_is k h.0 b (omega (arith, ap length h.2.3, length-append h.2.0 h.0)) h.2)
+
+-- the text or the run of bytes that a leaf is has no more bytes than its spelling, and a text is
+-- UTF-8
+pub leaf_text : (p : Plain) (l : Leaf) (b : List ℕ) → SpelledBy (way_of p) l b →
+    (bytes_of_text l ≤ length b) × LeafHasText l
+leaf_text p l b h = way_text (way_of p) l b (textless p b) h
 
 mutual
   unfolding Val
 
   pub texts_are_text : TextsAreText
-  texts_are_text r t (leaf l) b h = leaf_is_text (layout r t) l b h
+  texts_are_text r t (leaf l) b h = (leaf_text h.0 l b h.2).1
   texts_are_text r t (branch fields vs) b h = all_have r h.0 vs b h.2
   texts_are_text r t (branch (arm q) vs) b h = all_have r (field_types h.2.fields) vs h.3 h.7
   texts_are_text r t (branch list vs) b (inl h) = each_has r h.1 vs b h.4

@@ -9,3 +9,4 @@ pub mod Reading
 pub mod Runs
 pub mod Spelled
 pub mod Tree
+pub mod Ways

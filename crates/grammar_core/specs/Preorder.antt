@@ -1,6 +1,6 @@
 -- A tree as the list of its nodes in preorder, each with how many children it has.
 use Rattle.std.specs.Prelude.{◌≡◌, ℕ, zero, suc, ◌≤◌, ℤ, pos, List, [], ◌∷◌, ◌++◌, length, true}
-use Rattle.std.specs.Prelude.{false, refl, if◌then◌else◌, ◌==◌}
+use Rattle.std.specs.Prelude.{refl, if◌then◌else◌, ◌==◌}
 use Rattle.std.specs.Coded.{Coded, code_by, coded×, coded_ℕ, coded_ℤ, coded_list}
 use Rattle.std.proofs.Common.{arith, append_assoc, ap, sym, ◌∙◌, length-append}
 use Rattle.std.proofs.lemmas.List.{append-nil}
@@ -133,20 +133,9 @@ abbrev head_from : Stored → Head
 head_from x = head_by_mark x.0 x.1.0 x.1.1.0 x.1.1.1.0 x.1.1.1.1
 
 pub head_from-stored : (h : Head) → head_from (stored h) ≡ h
-head_from-stored (leaf tree.unit) = refl
 head_from-stored (leaf (tree.bool true)) = refl
-head_from-stored (leaf (tree.bool false)) = refl
-head_from-stored (leaf (tree.char c)) = refl
-head_from-stored (leaf (tree.text s)) = refl
-head_from-stored (leaf (tree.bytes s)) = refl
-head_from-stored (leaf (tree.unsigned n)) = refl
-head_from-stored (leaf (tree.signed z)) = refl
-head_from-stored (leaf (tree.wide s)) = refl
-head_from-stored (leaf (tree.compact n)) = refl
-head_from-stored (leaf (tree.count n)) = refl
 head_from-stored (branch tree.fields n) = refl
-head_from-stored (branch (tree.arm q) n) = refl
-head_from-stored (branch tree.list n) = refl
+head_from-stored _ = refl
 
 abbrev pub head_code : Coded Head
 head_code = code_by Stored

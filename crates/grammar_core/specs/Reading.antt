@@ -1,10 +1,8 @@
 -- A value read from the front of a list: the value and the bytes after it, or the fault and the
 -- bytes from its place on.
-use Rattle.std.specs.Prelude.{ℕ, zero, suc, List, [], ◌∷◌, true, false, Option, Some, None, Ok, Err}
+use Rattle.std.specs.Prelude.{ℕ, zero, suc, List, [], ◌∷◌, Option, Some, None, Ok, Err}
 use Rattle.std.specs.Prelude.{if◌then◌else◌}
-use Rattle.scale_core.specs.Number.{number, signed_number, is_scalar}
-use Rattle.scale_core.specs.Read.{Read, ◌>>=◌, compact_at, bytes_at}
-use Rattle.grammar_core.specs.Runs.{run_leaf, run_at}
+use Rattle.scale_core.specs.Read.{Read, ◌>>=◌, compact_at}
 use Rattle.scale_core.specs.declared.compact.Target.TheVariants as target
 use Rattle.scale_core.specs.declared.fault.Reason.{Reason}
 use Rattle.scale_core.specs.declared.fault.Reason.TheVariants as scale
@@ -16,9 +14,9 @@ use Rattle.widths_core.specs.Classes.{is_finite}
 use Rattle.widths_core.specs.Layouts.{Plain, Layout, layout}
 use Rattle.widths_core.specs.Layouts as layout
 use Rattle.grammar_core.specs.Parts.{Part, each, times}
-use Rattle.grammar_core.specs.Tree.{Leaf, Branch, Tree, leaf, branch, unit, bool, char, unsigned}
-use Rattle.grammar_core.specs.Tree.{signed, wide, compact, fields, arm, list, count, Trees, none}
-use Rattle.grammar_core.specs.Tree.{and}
+use Rattle.grammar_core.specs.Tree.{Leaf, Branch, Tree, leaf, branch, fields, arm, list, Trees}
+use Rattle.grammar_core.specs.Tree.{none, and}
+use Rattle.grammar_core.specs.Ways.{read_by, way_of}
 
 pub data Refusal : Type 0 where
   basic : Reason → Refusal
@@ -34,26 +32,14 @@ truncated = basic scale.Truncated
 abbrev pub ValueReader : Type 0 → Type 0
 ValueReader X = List ℕ → Read Refusal X
 
--- a part, as a leaf
-abbrev pub as_leaf : {X : Type 0} → (X → Leaf) → Read Reason X → Read Refusal Tree
-as_leaf make (Ok x) = Ok (leaf (make x.0), x.1)
-as_leaf make (Err e) = Err (basic e.0, e.1)
+-- a leaf as a value
+abbrev pub as_leaf : Read Reason Leaf → Read Refusal Tree
+as_leaf (Ok x) = Ok (leaf x.0, x.1)
+as_leaf (Err e) = Err (basic e.0, e.1)
 
 abbrev pub with_children : Branch → Read Refusal Trees → Read Refusal Tree
 with_children k (Ok x) = Ok (branch k x.0, x.1)
 with_children k (Err e) = Err e
-
-abbrev pub bool_value_at : ValueReader Tree
-bool_value_at [] = Err (truncated, [])
-bool_value_at (zero ∷ rest) = Ok (leaf (bool false), rest)
-bool_value_at (suc zero ∷ rest) = Ok (leaf (bool true), rest)
-bool_value_at (suc (suc b) ∷ rest) = Err (basic scale.BadBool, suc (suc b) ∷ rest)
-
--- four bytes that are a Unicode scalar value
-abbrev pub char_from : List ℕ → Read Reason (List ℕ) → Read Refusal Tree
-char_from at (Ok x) = if is_scalar (number x.0) then Ok (leaf (char (number x.0)), x.1) else Err
-    (basic scale.BadChar, at)
-char_from at (Err e) = Err (basic e.0, e.1)
 
 -- a value of each of these types, one after the other, by a reader of one value
 abbrev pub all_at : (ℕ → ValueReader Tree) → List ℕ → ValueReader Trees
@@ -93,17 +79,9 @@ abbrev pub elements_at : (ℕ → ValueReader Tree) → ℕ → Read Reason ℕ 
 elements_at child t (Ok n) = with_children list (times_at child n.0 t n.1)
 elements_at child t (Err e) = Err (basic e.0, e.1)
 
--- a value without parts, by what its bytes are
+-- a value without parts, by the way of its kind
 abbrev pub leaf_at : Plain → ValueReader Tree
-leaf_at layout.empty bytes = Ok (leaf unit, bytes)
-leaf_at layout.bool bytes = bool_value_at bytes
-leaf_at layout.char bytes = char_from bytes (bytes_at 4 bytes)
-leaf_at (layout.run k) bytes = as_leaf (run_leaf k) (run_at k bytes)
-leaf_at (layout.unsigned k) bytes = as_leaf (λ b. unsigned (number b)) (bytes_at k bytes)
-leaf_at (layout.signed k) bytes = as_leaf (λ b. signed (signed_number b)) (bytes_at k bytes)
-leaf_at layout.wide bytes = as_leaf wide (bytes_at 32 bytes)
-leaf_at layout.counted bytes = as_leaf count (compact_at target.U32 bytes)
-leaf_at (layout.compact m) bytes = as_leaf compact (compact_at m bytes)
+leaf_at p bytes = as_leaf (read_by (way_of p) bytes)
 
 -- a value of this layout, whose children the reader child reads
 unfoldable pub layout_at : (ℕ → ValueReader Tree) → Layout → ValueReader Tree

@@ -37,11 +37,6 @@ run_of_form _ = None
 
 -- ---- how it is spelled
 
--- it is no text
-abbrev pub IsByteRun : RunKind → Type 0
-IsByteRun kind.Text = ⊥
-IsByteRun _ = Unit {0}
-
 -- c stands in front of n bytes: their length, and nothing where the type says it
 abbrev pub IsRunLength : RunKind → ℕ → List ℕ → Type 0
 IsRunLength (kind.ByteArray k) n c = (n ≡ k) × (c ≡ [])

@@ -1,6 +1,6 @@
 -- A value has as many children as its type has fields, and a child by its position.
 use Rattle.std.proofs.Common.{◌≡◌, ℕ, zero, suc, ◌<◌, Bool, true, false, List, [], ◌∷◌, length, map}
-use Rattle.std.proofs.Common.{get_or, Option, Some, None, option_map, refl, sym, ap, subst, ◌∙◌}
+use Rattle.std.proofs.Common.{get_or, Option, Some, option_map, refl, sym, ap, subst, ◌∙◌}
 use Rattle.std.proofs.Common.{inl, inr, arith}
 use Rattle.std.specs.Prelude.{slice_get, unwrap_or, ◌⊎◌}
 use Rattle.std.proofs.lemmas.List.{length-map}
@@ -92,19 +92,10 @@ arm_counted r t q i arms a vs b e f h other is =
 counted_by : (r : List TypeInfo) (t : ℕ) (v : Tree) (b : List ℕ) → Val r t v b →
     Counted r t v (what_of v)
 unfolding Val
-counted_by r t (tree.leaf tree.unit) b h = tt
-counted_by r t (tree.leaf (tree.bool x)) b h = tt
-counted_by r t (tree.leaf (tree.char c)) b h = tt
-counted_by r t (tree.leaf (tree.text s)) b h = tt
-counted_by r t (tree.leaf (tree.bytes s)) b h = tt
-counted_by r t (tree.leaf (tree.unsigned n)) b h = tt
-counted_by r t (tree.leaf (tree.signed z)) b h = tt
-counted_by r t (tree.leaf (tree.wide s)) b h = tt
-counted_by r t (tree.leaf (tree.compact x)) b h = tt
 counted_by r t (tree.branch tree.fields vs) b h = fields_counted r t h.0 vs b h.1 h.2
 counted_by r t (tree.branch (tree.arm q) vs) b h = arm_counted r t q h.1 h.0 h.2 vs h.3 h.4 h.5 h.7
-counted_by r t (tree.branch tree.list vs) b h = tt
-counted_by r t (tree.leaf (tree.count n)) b h = tt
+counted_by r t (tree.leaf tree.unit) b h = tt
+counted_by r t _ b h = tt
 
 -- the same of a value as contracts see it, by what its node is
 counted : (s : Seen) (w : What) → IsValue s → w ≡ what_of s.tree → Counted s.types s.ty s.tree w
@@ -114,16 +105,9 @@ counted s w h e =
 -- only a composite has the fields of a composite
 composite : (d : Option TypeDef) (fs : List Field) → composite_fields d ≡ Some fs →
     d ≡ Some (Def.Composite fs)
-composite None fs e = absurd cc
 composite (Some (Def.Composite gs)) fs e = let same : gs ≡ fs = cc in
     ap (λ l. Some (Def.Composite l)) same
-composite (Some (Def.Variant arms)) fs e = absurd cc
-composite (Some (Def.Sequence t)) fs e = absurd cc
-composite (Some (Def.Array n t)) fs e = absurd cc
-composite (Some (Def.Tuple ts)) fs e = absurd cc
-composite (Some (Def.Primitive p)) fs e = absurd cc
-composite (Some (Def.Compact t)) fs e = absurd cc
-composite (Some (Def.BitSequence store order)) fs e = absurd cc
+composite _ fs e = absurd cc
 
 -- a composite's value has a child for each field
 pub fields_count : (s : Seen) (fs : List Field) → IsValue s → what.Fields ≡ what_of s.tree →

@@ -10,8 +10,8 @@ use Rattle.json.specs.Filled.{Placed}
 use Rattle.json.specs.Print.{escape, quoted}
 use Rattle.serde_json.specs.Written.{compact_text}
 use Rattle.registry_core.specs.declared.type_info.TypeInfo.{TypeInfo}
-use Rattle.grammar_core.specs.Tree.{Tree, unit, bool, char, text, bytes, unsigned, signed, wide}
-use Rattle.grammar_core.specs.Tree.{compact, count, leaf, branch}
+use Rattle.grammar_core.specs.Tree.{Tree, text}
+use Rattle.grammar_core.specs.Tree.{leaf}
 use Rattle.node_core.specs.Shown.{Seen, bytes_of, text_of}
 use Rattle.token_core.proofs.Outputs.{hex_string}
 use Rattle.json_core.specs.Json.{json_of, json_text}
@@ -59,16 +59,7 @@ text_is_quoted : (r : List TypeInfo) (t : ℕ) (v : Tree) (s : List ℕ) → tex
     quoted s ≡ compact_text (json_of r t v)
 unfolding json_of
 text_is_quoted r t (leaf (text b)) s e = let same : b ≡ s = cc in ap quoted (sym same)
-text_is_quoted r t (leaf unit) s e = absurd cc
-text_is_quoted r t (leaf (bool b)) s e = absurd cc
-text_is_quoted r t (leaf (char c)) s e = absurd cc
-text_is_quoted r t (leaf (bytes b)) s e = absurd cc
-text_is_quoted r t (leaf (unsigned n)) s e = absurd cc
-text_is_quoted r t (leaf (signed z)) s e = absurd cc
-text_is_quoted r t (leaf (wide b)) s e = absurd cc
-text_is_quoted r t (leaf (compact n)) s e = absurd cc
-text_is_quoted r t (leaf (count n)) s e = absurd cc
-text_is_quoted r t (branch k vs) s e = absurd cc
+text_is_quoted r t _ s e = absurd cc
 
 -- and so it is of a value in which the text was found
 pub found_quoted : (s value : Seen) (found : Option (Bor (List ℕ))) (x : Bor (List ℕ)) →

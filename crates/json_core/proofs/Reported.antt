@@ -29,11 +29,16 @@ use Rattle.graph_core.specs.Types.{shape, field_types}
 use Rattle.widths_core.specs.Arms.{arm_of}
 use Rattle.widths_core.specs.Classes.{is_empty}
 use Rattle.widths_core.specs.Targets.{target_of, compact_target_of, compact_target_of_shape}
-use Rattle.widths_core.specs.Layouts.{Layout, layout, layout_of_shape, sized_layout, kind_layout}
-use Rattle.widths_core.specs.Layouts.{sequence_layout, array_layout, is_byte, compact_layout}
+use Rattle.widths_core.specs.Layouts.{Plain, Layout, layout, layout_of_shape, sized_layout}
+use Rattle.widths_core.specs.Layouts.{kind_layout, sequence_layout, array_layout, is_byte}
+use Rattle.widths_core.specs.Layouts.{compact_layout}
 use Rattle.widths_core.specs.Layouts as layout
 use Rattle.grammar_core.specs.Tree.{Tree, Trees, how_many}
 use Rattle.grammar_core.specs.Tree as tree
+use Rattle.grammar_core.specs.Runs.{run_leaf}
+use Rattle.grammar_core.specs.Ways.{SpelledBy, way_of}
+use Rattle.widths_core.specs.declared.run_kind.RunKind.{RunKind}
+use Rattle.widths_core.specs.declared.run_kind.RunKind.TheVariants as kind
 use Rattle.grammar_core.specs.Grammar.{Val, Vals}
 use Rattle.grammar_core.specs.Parts.{Part, times}
 use Rattle.grammar_core.specs.Cells.{fields_part, arm_part, list_part}
@@ -77,12 +82,9 @@ long_width width.Bits128 = inl (refl, refl)
 -- a primitive's layout says whether its integers are long, as its kind does
 defined_kind : (r : List TypeInfo) (k : PrimitiveKind) (d : Option TypeDef) →
     is_long d ≡ is_long_kind k → Defined r (kind_layout k) d
-defined_kind r K.Bool d h = tt
-defined_kind r K.Char d h = tt
-defined_kind r K.Str d h = tt
 defined_kind r (K.Unsigned w) d h = rw h (long_width w)
 defined_kind r (K.Signed w) d h = rw h (long_width w)
-defined_kind r (K.Wide s) d h = tt
+defined_kind r _ d h = tt
 
 -- the layout of a sequence says nothing of integers, arms or targets
 defined_sequence : (r : List TypeInfo) (t : ℕ) (e byte : Bool) (d : Option TypeDef) →
@@ -165,21 +167,13 @@ signed_fits b h small = signed_within (256 ^ length b) (number b)
 
 -- of compact integers those with a target of 128 bits are the long ones
 long_target : (m : Target) → Long (target_bytes m) (is_long_target (Some m))
-long_target target.Unit = inr (refl, refl, omega arith)
-long_target target.U8 = inr (refl, refl, omega arith)
-long_target target.U16 = inr (refl, refl, omega arith)
-long_target target.U32 = inr (refl, refl, omega arith)
-long_target target.U64 = inr (refl, refl, omega arith)
 long_target target.U128 = inl (refl, refl)
+long_target _ = inr (refl, refl, omega arith)
 
 -- a number with a compact spelling for a target fits the bytes of the target
 compact_bound : (m : Target) (x : ℕ) (b : List ℕ) → IsCompact m x b → x < 256 ^ target_bytes m
 compact_bound target.Unit x b h = omega (arith, h.0)
-compact_bound target.U8 x b h = h.0
-compact_bound target.U16 x b h = h.0
-compact_bound target.U32 x b h = h.0
-compact_bound target.U64 x b h = h.0
-compact_bound target.U128 x b h = h.0
+compact_bound _ x b h = h.0
 
 -- ---- a node by what it is
 
@@ -206,26 +200,27 @@ JsonReported r t v (what.Count k) =
     json_of r t v ≡ json.object (member (codes "count") (json.number (json.unsigned k)) no_members)
 
 -- an unsigned integer's node reports its JSON, and its number fits 64 bits if it is not long
-unsigned_reported : (r : List TypeInfo) (t n k : ℕ) (b : List ℕ) → AreBytes b →
-    layout r t ≡ layout.plain (layout.unsigned k) → length b ≡ k → number b ≡ n →
-    JsonReported r t (tree.leaf (tree.unsigned n)) (what.Unsigned n)
+unsigned_reported : (r : List TypeInfo) (t k : ℕ) (b : List ℕ) → AreBytes b →
+    layout r t ≡ layout.plain (layout.unsigned k) → length b ≡ k →
+    JsonReported r t (tree.leaf (tree.unsigned (number b))) (what.Unsigned (number b))
 unfolding json_of
-unsigned_reported r t n k b are e len is =
+unsigned_reported r t k b are e len =
     let long = defined_at r t (layout.plain (layout.unsigned k)) e in
-    let less : n < 256 ^ k = rw (← is, ← len) (number-bound b are) in (
+    let less : number b < 256 ^ k = rw (← len) (number-bound b are) in (
       λ h. omega (arith, less, short k _ long h),
-      ap (λ (f : Layout). unsigned_data f n) e ∙ unsigned_same k n _ long,
+      ap (λ (f : Layout). unsigned_data f (number b)) e ∙ unsigned_same k (number b) _ long,
     )
 
 -- a signed integer's node reports its JSON, and it fits 64 bits if it is not long
-signed_reported : (r : List TypeInfo) (t k : ℕ) (z : ℤ) (b : List ℕ) → AreBytes b →
-    layout r t ≡ layout.plain (layout.signed k) → length b ≡ k → signed_number b ≡ z →
-    JsonReported r t (tree.leaf (tree.signed z)) (what.Signed z)
+signed_reported : (r : List TypeInfo) (t k : ℕ) (b : List ℕ) → AreBytes b →
+    layout r t ≡ layout.plain (layout.signed k) → length b ≡ k →
+    JsonReported r t (tree.leaf (tree.signed (signed_number b))) (what.Signed (signed_number b))
 unfolding json_of
-signed_reported r t k z b are e len is =
+signed_reported r t k b are e len =
     let long = defined_at r t (layout.plain (layout.signed k)) e in (
-      λ h. subst (FitsSigned w64) is (signed_fits b are (rw len (short k _ long h))),
-      ap (λ (f : Layout). signed_data f z) e ∙ signed_same k z _ long,
+      λ h. signed_fits b are (rw len (short k _ long h)),
+      ap (λ (f : Layout). signed_data f (signed_number b)) e
+          ∙ signed_same k (signed_number b) _ long,
     )
 
 -- a compact integer's node reports its JSON, and it fits 64 bits if it is not long
@@ -280,20 +275,30 @@ list_reported r t u vs e p =
     ap json.array (ap (λ (x : ℕ). each_json r x vs) e ∙ sym (each_is r u vs)
     ∙ sym (ap (λ (q : Part). jsons (seen_parts r q vs)) p))
 
+-- a run's node reports its bytes and its JSON
+run_leaf_reported : (r : List TypeInfo) (t : ℕ) (k : RunKind) (s : List ℕ) →
+    JsonReported r t (tree.leaf (run_leaf k s)) (what_of (tree.leaf (run_leaf k s)))
+unfolding json_of
+run_leaf_reported r t kind.Text s = (s, refl, refl)
+run_leaf_reported r t _ s = (s, refl, refl)
+
+-- the node of a leaf has the JSON that its kind gives
+leaf_reported : (r : List TypeInfo) (t : ℕ) (p : Plain) (l : tree.Leaf) (b : List ℕ) →
+    AreBytes b → layout r t ≡ layout.plain p → SpelledBy (way_of p) l b →
+    JsonReported r t (tree.leaf l) (what_of (tree.leaf l))
+unfolding json_of
+leaf_reported r t layout.empty l b are e h = rw h.0 refl
+leaf_reported r t (layout.run k) l b are e h = rw h.1 (run_leaf_reported r t k h.0)
+leaf_reported r t (layout.unsigned k) l b are e h = rw h.1 (unsigned_reported r t k b are e h.0)
+leaf_reported r t (layout.signed k) l b are e h = rw h.1 (signed_reported r t k b are e h.0)
+leaf_reported r t (layout.compact m) l b are e h = rw h.1 (compact_reported r t h.0 m b e h.2)
+leaf_reported r t _ l b are e h = rw h.1 refl
+
 -- each node of a value has the JSON that its definition and its children give
 reported_by : (r : List TypeInfo) (t : ℕ) (v : Tree) (b : List ℕ) → AreBytes b → Val r t v b →
     JsonReported r t v (what_of v)
 unfolding Val json_of
-reported_by r t (tree.leaf tree.unit) b are h = refl
-reported_by r t (tree.leaf (tree.bool x)) b are h = refl
-reported_by r t (tree.leaf (tree.char c)) b are h = refl
-reported_by r t (tree.leaf (tree.text s)) b are h = (s, refl, refl)
-reported_by r t (tree.leaf (tree.bytes s)) b are h = (s, refl, refl)
-reported_by r t (tree.leaf (tree.unsigned n)) b are h =
-    unsigned_reported r t n h.0 b are h.1 h.2 h.3
-reported_by r t (tree.leaf (tree.signed z)) b are h = signed_reported r t h.0 z b are h.1 h.2 h.3
-reported_by r t (tree.leaf (tree.wide s)) b are h = refl
-reported_by r t (tree.leaf (tree.compact x)) b are h = compact_reported r t x h.0 b h.1 h.2
+reported_by r t (tree.leaf l) b are h = leaf_reported r t h.0 l b are h.1 h.2
 reported_by r t (tree.branch tree.fields vs) b are h = fields_reported r t h.0 vs b h.1 h.2
 reported_by r t (tree.branch (tree.arm q) vs) b are h =
     arm_reported r t q h.1 h.0 h.2 vs h.3 h.4 h.5 h.7
@@ -303,7 +308,6 @@ reported_by r t (tree.branch tree.list vs) b are (inl h) =
 reported_by r t (tree.branch tree.list vs) b are (inr h) =
     list_reported r t h.0 vs (ap element_type h.3)
     (ap (λ (f : Layout). list_part f (how_many vs)) h.3)
-reported_by r t (tree.leaf (tree.count k)) b are h = refl
 
 -- the same of a value as contracts see it, by what its node is
 pub reported : (s : Seen) (w : What) → IsValue s → w ≡ what_of s.tree →
@@ -372,29 +376,15 @@ pub fields_are : (s : Seen) (fs : List Field) → composite_fields (shape s.type
 fields_are s fs e h = h ∙ go (shape s.types s.ty) e where
   go : (d : Option TypeDef) → composite_fields d ≡ Some fs →
       parts_json d (jsons (children_of s)) ≡ fields_json fs (jsons (children_of s))
-  go None f = absurd cc
   go (Some (Def.Composite gs)) f = let same : gs ≡ fs = cc in
       ap (λ (l : List Field). fields_json l (jsons (children_of s))) same
-  go (Some (Def.Variant arms)) f = absurd cc
-  go (Some (Def.Sequence t)) f = absurd cc
-  go (Some (Def.Array n t)) f = absurd cc
-  go (Some (Def.Tuple ts)) f = absurd cc
-  go (Some (Def.Primitive p)) f = absurd cc
-  go (Some (Def.Compact t)) f = absurd cc
-  go (Some (Def.BitSequence store order)) f = absurd cc
+  go _ f = absurd cc
 
 -- what is no composite has no names
 pub no_fields_json : (d : Option TypeDef) (ds : Items) → composite_fields d ≡ None →
     parts_json d ds ≡ json.array ds
-no_fields_json None ds e = refl
 no_fields_json (Some (Def.Composite gs)) ds e = absurd cc
-no_fields_json (Some (Def.Variant arms)) ds e = refl
-no_fields_json (Some (Def.Sequence t)) ds e = refl
-no_fields_json (Some (Def.Array n t)) ds e = refl
-no_fields_json (Some (Def.Tuple ts)) ds e = refl
-no_fields_json (Some (Def.Primitive p)) ds e = refl
-no_fields_json (Some (Def.Compact t)) ds e = refl
-no_fields_json (Some (Def.BitSequence store order)) ds e = refl
+no_fields_json _ ds e = refl
 
 -- a node of an arm has that arm in its definition, so it was found
 pub arm_there : (s : Seen) (q : ℕ) (types : List TypeInfo) (t : ℕ) (found : Option (Bor Arm)) →
@@ -428,25 +418,11 @@ arm_is s q a e h =
 -- the fields of a composite are those at its place, whatever arm is asked for
 pub composite_place : (d : Option TypeDef) (q : ℕ) (fs : List Field) →
     composite_fields d ≡ Some fs → fields_in d q ≡ Some fs
-composite_place None q fs e = absurd cc
 composite_place (Some (Def.Composite gs)) q fs e = e
-composite_place (Some (Def.Variant arms)) q fs e = absurd cc
-composite_place (Some (Def.Sequence t)) q fs e = absurd cc
-composite_place (Some (Def.Array n t)) q fs e = absurd cc
-composite_place (Some (Def.Tuple ts)) q fs e = absurd cc
-composite_place (Some (Def.Primitive p)) q fs e = absurd cc
-composite_place (Some (Def.Compact t)) q fs e = absurd cc
-composite_place (Some (Def.BitSequence store order)) q fs e = absurd cc
+composite_place _ q fs e = absurd cc
 
 -- the fields of an arm of a variant are those at the arm's place
 pub arm_place : (d : Option TypeDef) (q : ℕ) (a : Arm) → defined_arm d q ≡ Some a →
     fields_in d q ≡ Some a.fields
-arm_place None q a e = absurd cc
-arm_place (Some (Def.Composite gs)) q a e = absurd cc
 arm_place (Some (Def.Variant arms)) q a e = ap (option_map (λ (x : Arm). x.fields)) e
-arm_place (Some (Def.Sequence t)) q a e = absurd cc
-arm_place (Some (Def.Array n t)) q a e = absurd cc
-arm_place (Some (Def.Tuple ts)) q a e = absurd cc
-arm_place (Some (Def.Primitive p)) q a e = absurd cc
-arm_place (Some (Def.Compact t)) q a e = absurd cc
-arm_place (Some (Def.BitSequence store order)) q a e = absurd cc
+arm_place _ q a e = absurd cc

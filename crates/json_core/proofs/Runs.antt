@@ -1,7 +1,6 @@
 -- A run of bytes goes out as JSON in parts.
-use Rattle.std.proofs.Common.{◌≡◌, ℕ, ◌+◌, ◌-◌, ◌*◌, ◌≤◌, List, [], ◌∷◌, ◌++◌, length, take}
-use Rattle.std.proofs.Common.{drop, get_or, Fits, w8, Option, None, Some, refl, ap}
-use Rattle.std.proofs.Common.{subst, sym, ◌∙◌}
+use Rattle.std.proofs.Common.{◌≡◌, ℕ, ◌+◌, ◌-◌, ◌*◌, ◌≤◌, List, [], ◌∷◌, ◌++◌, length, take, drop}
+use Rattle.std.proofs.Common.{get_or, Fits, w8, Option, None, Some, refl, ap, subst, sym, ◌∙◌}
 use Rattle.std.proofs.Common.{append-nil, arith, length-take-le, take-append-drop}
 use Rattle.std.specs.Io.KnownBytes.{Appends}
 use Rattle.std.specs.Prelude.{Result, Ok, Err, OnOk, IfErr}
@@ -10,8 +9,8 @@ use Rattle.hex.specs.Hex.{encode_with, encode_lower, lower_digits}
 use Rattle.hex.proofs.HexLemmas.{length-encode_with}
 use Rattle.serde_json.specs.Written.{compact_text}
 use Rattle.registry_core.specs.declared.type_info.TypeInfo.{TypeInfo}
-use Rattle.grammar_core.specs.Tree.{Tree, unit, bool, char, text, bytes, unsigned, signed, wide}
-use Rattle.grammar_core.specs.Tree.{compact, count, leaf, branch}
+use Rattle.grammar_core.specs.Tree.{Tree, bytes}
+use Rattle.grammar_core.specs.Tree.{leaf}
 use Rattle.node_core.specs.Shown.{bytes_of}
 use Rattle.node_core.proofs.SpelledParts.{long_whole, sent_all, sent_front, sent_more, sent_part}
 use Rattle.json_core.specs.Json.{json_of}
@@ -130,16 +129,7 @@ pub run_is_text : (r : List TypeInfo) (t : ℕ) (v : Tree) (s : List ℕ) → by
     run_text s ≡ compact_text (json_of r t v)
 unfolding json_of
 run_is_text r t (leaf (bytes b)) s e = let same : b ≡ s = cc in ap run_text (sym same)
-run_is_text r t (leaf unit) s e = absurd cc
-run_is_text r t (leaf (bool b)) s e = absurd cc
-run_is_text r t (leaf (char c)) s e = absurd cc
-run_is_text r t (leaf (text b)) s e = absurd cc
-run_is_text r t (leaf (unsigned n)) s e = absurd cc
-run_is_text r t (leaf (signed z)) s e = absurd cc
-run_is_text r t (leaf (wide b)) s e = absurd cc
-run_is_text r t (leaf (compact n)) s e = absurd cc
-run_is_text r t (leaf (count n)) s e = absurd cc
-run_is_text r t (branch k vs) s e = absurd cc
+run_is_text r t _ s e = absurd cc
 
 -- ---- what a write answers
 

@@ -164,16 +164,4 @@ few_pooled pool (is.Bytes len start) =
     omega (arith, length-take (start + len - start) (drop start pool))
 few_pooled pool (is.Wide start) =
     omega (arith, length-take (start + 32 - start) (drop start pool))
-few_pooled pool is.Empty = omega arith
-few_pooled pool (is.Bool x) = omega arith
-few_pooled pool (is.Char x) = omega arith
-few_pooled pool (is.Count n) = omega arith
-few_pooled pool (is.Unsigned n) = omega arith
-few_pooled pool (is.Compact n) = omega arith
-few_pooled pool (is.Signed z) = omega arith
-few_pooled pool (is.LongUnsigned start) = omega arith
-few_pooled pool (is.LongCompact start) = omega arith
-few_pooled pool (is.LongSigned start) = omega arith
-few_pooled pool (is.Fields size) = omega arith
-few_pooled pool (is.Arm q size) = omega arith
-few_pooled pool (is.List size) = omega arith
+few_pooled pool _ = omega arith

@@ -13,8 +13,7 @@ use Rattle.scale_core.specs.Compact.{compact, bytes_needed, big_bytes, target_by
 use Rattle.scale_core.specs.Read.{bytes_at, number_at, form_len, form_number, is_too_long}
 use Rattle.scale_core.specs.Read.{integer_at, compact_at, text_at}
 use Rattle.scale_core.specs.declared.compact.Target.{Target}
-use Rattle.scale_core.specs.declared.compact.Target.TheVariants.{Unit as TUnit, U8, U16, U32, U64}
-use Rattle.scale_core.specs.declared.compact.Target.TheVariants.{U128}
+use Rattle.scale_core.specs.declared.compact.Target.TheVariants.{Unit as TUnit, U8, U16, U32}
 use Rattle.scale_core.specs.Text.{IsText}
 use Rattle.scale_core.proofs.Numbers.{length-le_bytes, number-le_bytes, bytes_needed-le}
 use Rattle.scale_core.proofs.Numbers.{bytes_needed-enough}
@@ -136,9 +135,7 @@ four_at_least : (m : Target) (n : ℕ) → 2 ^ 30 ≤ n → n < 256 ^ target_byt
 four_at_least TUnit n ge h = absurd (omega arith)
 four_at_least U8 n ge h = absurd (omega arith)
 four_at_least U16 n ge h = absurd (omega arith)
-four_at_least U32 n ge h = omega arith
-four_at_least U64 n ge h = omega arith
-four_at_least U128 n ge h = omega arith
+four_at_least _ n ge h = omega arith
 
 -- the form of a number that the target holds is not too long for the target
 fits_target : (m : Target) (n first : ℕ) (tail : List ℕ) → IsForm n first tail →
@@ -166,31 +163,16 @@ integer_again m n first tail rest f h =
 
 -- what a target holds is below 2^128
 pub below_128 : (m : Target) (n : ℕ) → n < 256 ^ target_bytes m → n < 2 ^ 128
-below_128 m n h = elim m as (λ m. n < 256 ^ target_bytes m → n < 2 ^ 128) [
-  | TUnit ↦ λ h. omega arith
-  | U8 ↦ λ h. omega arith
-  | U16 ↦ λ h. omega arith
-  | U32 ↦
-      λ h. omega arith
-  | U64 ↦ λ h. omega arith
-  | U128 ↦ λ h. omega arith
-] h
+below_128 TUnit n h = omega arith
+below_128 _ n h = omega arith
 
 -- the spelling of a compact integer is read again, with the rest left
 pub compact_again : (m : Target) (x : ℕ) (a rest : List ℕ) → IsCompact m x a →
     compact_at m (a ++ rest) ≡ Ok (x, rest)
 unfolding compact_at
 compact_again TUnit x a rest h = rw (h.0, h.1) refl
-compact_again U8 x a rest h = let f = form_of x (below_128 U8 x h.0) in
-    rw (h.1, f.2.is) (integer_again U8 x f.0 f.1 rest f.2 h.0)
-compact_again U16 x a rest h = let f = form_of x (below_128 U16 x h.0) in
-    rw (h.1, f.2.is) (integer_again U16 x f.0 f.1 rest f.2 h.0)
-compact_again U32 x a rest h = let f = form_of x (below_128 U32 x h.0) in
-    rw (h.1, f.2.is) (integer_again U32 x f.0 f.1 rest f.2 h.0)
-compact_again U64 x a rest h = let f = form_of x (below_128 U64 x h.0) in
-    rw (h.1, f.2.is) (integer_again U64 x f.0 f.1 rest f.2 h.0)
-compact_again U128 x a rest h = let f = form_of x (below_128 U128 x h.0) in
-    rw (h.1, f.2.is) (integer_again U128 x f.0 f.1 rest f.2 h.0)
+compact_again m x a rest h = let f = form_of x (below_128 m x h.0) in
+    rw (h.1, f.2.is) (integer_again m x f.0 f.1 rest f.2 h.0)
 
 -- the spelling of a text is read again, with the rest left
 pub text_again : (s b rest : List ℕ) → IsText s b → text_at (b ++ rest) ≡ Ok (s, rest)
@@ -206,15 +188,7 @@ text_again s b rest h = rw (
 -- a spelling of an integer has a byte
 pub compact-bytes : (m : Target) (x : ℕ) (a : List ℕ) → IsCompact m x a → a ≡ [] → m ≡ TUnit
 compact-bytes TUnit x a h e = refl
-compact-bytes U8 x a h e = let f = form_of x (below_128 U8 x h.0) in let both = sym e
-    ∙ (h.1 ∙ f.2.is) in absurd cc
-compact-bytes U16 x a h e = let f = form_of x (below_128 U16 x h.0) in let both = sym e
-    ∙ (h.1 ∙ f.2.is) in absurd cc
-compact-bytes U32 x a h e = let f = form_of x (below_128 U32 x h.0) in let both = sym e
-    ∙ (h.1 ∙ f.2.is) in absurd cc
-compact-bytes U64 x a h e = let f = form_of x (below_128 U64 x h.0) in let both = sym e
-    ∙ (h.1 ∙ f.2.is) in absurd cc
-compact-bytes U128 x a h e = let f = form_of x (below_128 U128 x h.0) in let both = sym e
+compact-bytes m x a h e = let f = form_of x (below_128 m x h.0) in let both = sym e
     ∙ (h.1 ∙ f.2.is) in absurd cc
 
 -- so many bytes are read as the number that they are, lowest byte first, with the rest left

@@ -13,8 +13,7 @@ use Rattle.scale_core.specs.Number.{AreBytes}
 use Rattle.scale_core.specs.Read.{Read, form_len, form_number, checked_form, is_too_long}
 use Rattle.scale_core.specs.Read.{integer_at, compact_at}
 use Rattle.scale_core.specs.declared.compact.Target.{Target}
-use Rattle.scale_core.specs.declared.compact.Target.TheVariants.{Unit as TUnit, U8, U16, U32, U64}
-use Rattle.scale_core.specs.declared.compact.Target.TheVariants.{U128}
+use Rattle.scale_core.specs.declared.compact.Target.TheVariants.{Unit as TUnit}
 use Rattle.scale_core.specs.declared.fault.Reason.{Reason}
 use Rattle.scale_core.specs.declared.fault.Reason.TheVariants.{Truncated, CompactNotShortest}
 use Rattle.scale_core.specs.declared.fault.Reason.TheVariants.{CompactTooLarge}
@@ -30,11 +29,7 @@ compact_at-integer : (m : Target) (bytes : List ℕ) → m ≢ TUnit →
     compact_at m bytes ≡ integer_at m bytes
 unfolding compact_at
 compact_at-integer TUnit bytes ne = absurd (ne refl)
-compact_at-integer U8 bytes ne = refl
-compact_at-integer U16 bytes ne = refl
-compact_at-integer U32 bytes ne = refl
-compact_at-integer U64 bytes ne = refl
-compact_at-integer U128 bytes ne = refl
+compact_at-integer _ bytes ne = refl
 
 -- where there is no byte, a compact integer is cut
 pub compact_at-empty : (m : Target) (bytes : List ℕ) → m ≢ TUnit → length bytes < 1 →
@@ -140,11 +135,7 @@ compact_at-judged m bytes first n len ne h is fits long there value small =
 -- a number of six bits fits every target that takes bytes
 pub one_fits : (m : Target) (n : ℕ) → m ≢ TUnit → n < 64 → n < 256 ^ target_bytes m
 one_fits TUnit n ne h = absurd (ne refl)
-one_fits U8 n ne h = omega (arith, h)
-one_fits U16 n ne h = omega (arith, h)
-one_fits U32 n ne h = omega (arith, h)
-one_fits U64 n ne h = omega (arith, h)
-one_fits U128 n ne h = omega (arith, h)
+one_fits _ n ne h = omega (arith, h)
 
 -- the spelling of a number below 64 has one byte
 one_long : (n : ℕ) → n < 64 → length (compact n) ≡ 1

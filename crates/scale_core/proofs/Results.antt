@@ -15,8 +15,7 @@ use Rattle.scale_core.specs.Text.{IsText}
 use Rattle.scale_core.specs.Read.{Read, ◌>>=◌, bytes_at, form_len, form_number, form_from}
 use Rattle.scale_core.specs.Read.{is_too_long, integer_at, compact_at, text_at}
 use Rattle.scale_core.specs.declared.compact.Target.{Target}
-use Rattle.scale_core.specs.declared.compact.Target.TheVariants.{Unit as TUnit, U8, U16, U32, U64}
-use Rattle.scale_core.specs.declared.compact.Target.TheVariants.{U128}
+use Rattle.scale_core.specs.declared.compact.Target.TheVariants.{Unit as TUnit, U32}
 use Rattle.scale_core.specs.declared.fault.Reason.{Reason}
 use Rattle.scale_core.specs.declared.fault.Reason.TheVariants.{Truncated, BadUtf8}
 use Rattle.scale_core.specs.declared.fault.Reason.TheVariants.{CompactNotShortest, CompactTooLarge}
@@ -78,11 +77,7 @@ integer_takes m (first ∷ rest) =
 pub compact_takes : (m : Target) (b : List ℕ) → Takes (IsCompact m) b (compact_at m b)
 unfolding compact_at
 compact_takes TUnit b = ([], refl, (refl, refl))
-compact_takes U8 b = integer_takes U8 b
-compact_takes U16 b = integer_takes U16 b
-compact_takes U32 b = integer_takes U32 b
-compact_takes U64 b = integer_takes U64 b
-compact_takes U128 b = integer_takes U128 b
+compact_takes m b = integer_takes m b
 
 -- what is read after c
 pub then_takes : {E Y : Type 0} (Q : Y → List ℕ → Type 0) (b c rest : List ℕ) (r : Read E Y) →
@@ -166,11 +161,7 @@ pub compact_extends : (m : Target) (b more : List ℕ) →
     Extends Truncated more (compact_at m b) (compact_at m (b ++ more))
 unfolding compact_at
 compact_extends TUnit b more = refl
-compact_extends U8 b more = integer_extends U8 b more
-compact_extends U16 b more = integer_extends U16 b more
-compact_extends U32 b more = integer_extends U32 b more
-compact_extends U64 b more = integer_extends U64 b more
-compact_extends U128 b more = integer_extends U128 b more
+compact_extends m b more = integer_extends m b more
 
 -- a text that is read stood on the front in its spelling
 pub text_takes : (b : List ℕ) → Takes IsText b (text_at b)

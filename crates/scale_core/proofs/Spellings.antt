@@ -6,8 +6,7 @@ use Rattle.scale_core.specs.Read.{compact_at, text_at}
 use Rattle.scale_core.specs.Laws.{CompactIsPrefixFree, CompactIsSpelled, TextIsPrefixFree}
 use Rattle.scale_core.specs.Laws.{TextIsSpelled}
 use Rattle.scale_core.specs.declared.compact.Target.{Target}
-use Rattle.scale_core.specs.declared.compact.Target.TheVariants.{Unit as TUnit, U8, U16, U32, U64}
-use Rattle.scale_core.specs.declared.compact.Target.TheVariants.{U128}
+use Rattle.scale_core.specs.declared.compact.Target.TheVariants.{Unit as TUnit, U32}
 use Rattle.scale_core.specs.declared.fault.Reason.{Reason}
 use Rattle.scale_core.proofs.Again.{compact_again, text_again}
 use Rattle.scale_core.proofs.Results.{done_is, compact_takes, text_takes}
@@ -15,11 +14,7 @@ use Rattle.scale_core.proofs.Results.{done_is, compact_takes, text_takes}
 -- a compact integer has one spelling
 pub one_spelling : (m : Target) (x : ℕ) (a b : List ℕ) → IsCompact m x a → IsCompact m x b → a ≡ b
 one_spelling TUnit x a b h k = h.1 ∙ sym k.1
-one_spelling U8 x a b h k = h.1 ∙ sym k.1
-one_spelling U16 x a b h k = h.1 ∙ sym k.1
-one_spelling U32 x a b h k = h.1 ∙ sym k.1
-one_spelling U64 x a b h k = h.1 ∙ sym k.1
-one_spelling U128 x a b h k = h.1 ∙ sym k.1
+one_spelling _ x a b h k = h.1 ∙ sym k.1
 
 -- no spelling of a compact integer is the front of another's
 pub prefix_free : CompactIsPrefixFree

@@ -58,19 +58,12 @@ range_more pool more start end h k =
 -- a node whose bytes lie in the pool shows the same where more bytes come to the pool
 head_more : (pool more : List ℕ) (n : ℕ) (c : Content) → IsInPool pool c →
     head_shown (pool ++ more) n c ≡ head_shown pool n c
-head_more pool more n content.Empty h = refl
-head_more pool more n (content.Bool b) h = refl
-head_more pool more n (content.Char c) h = refl
-head_more pool more n (content.Count k) h = refl
 head_more pool more n (content.Text len start) h =
     ap (λ (x : List ℕ). head.leaf (tree.text x))
     (range_more pool more start (start + len) (omega arith) h)
 head_more pool more n (content.Bytes len start) h =
     ap (λ (x : List ℕ). head.leaf (tree.bytes x))
     (range_more pool more start (start + len) (omega arith) h)
-head_more pool more n (content.Unsigned k) h = refl
-head_more pool more n (content.Compact k) h = refl
-head_more pool more n (content.Signed z) h = refl
 head_more pool more n (content.LongUnsigned start) h =
     ap (λ (x : List ℕ). head.leaf (tree.unsigned (from_le_bytes w128 x)))
     (range_more pool more start (start + 16) (omega arith) h)
@@ -83,9 +76,7 @@ head_more pool more n (content.LongSigned start) h =
 head_more pool more n (content.Wide start) h =
     ap (λ (x : List ℕ). head.leaf (tree.wide x))
     (range_more pool more start (start + 32) (omega arith) h)
-head_more pool more n (content.Fields size) h = refl
-head_more pool more n (content.Arm q size) h = refl
-head_more pool more n (content.List size) h = refl
+head_more pool more n _ h = refl
 
 -- the bytes of a node that lie in the pool lie in it where more bytes come to it
 within_more : (pool more : List ℕ) (c : Content) → IsInPool pool c → IsInPool (pool ++ more) c
@@ -95,16 +86,7 @@ within_more pool more (content.LongUnsigned start) h = omega (arith, h, length-a
 within_more pool more (content.LongCompact start) h = omega (arith, h, length-append pool more)
 within_more pool more (content.LongSigned start) h = omega (arith, h, length-append pool more)
 within_more pool more (content.Wide start) h = omega (arith, h, length-append pool more)
-within_more pool more content.Empty h = tt
-within_more pool more (content.Bool b) h = tt
-within_more pool more (content.Char c) h = tt
-within_more pool more (content.Count n) h = tt
-within_more pool more (content.Unsigned n) h = tt
-within_more pool more (content.Compact n) h = tt
-within_more pool more (content.Signed z) h = tt
-within_more pool more (content.Fields size) h = tt
-within_more pool more (content.Arm q size) h = tt
-within_more pool more (content.List size) h = tt
+within_more pool more _ h = tt
 
 -- nodes whose bytes lie in the pool show the same, with type and size, where more come to it
 cells_more : (pool more : List ℕ) (ns : List Node) → AreInPool pool ns →
@@ -183,22 +165,10 @@ advanced_length (f ∷ fs) = refl
 -- and it has the size of one
 leaf_size : (pool : List ℕ) (n : ℕ) (c : Content) → IsLeaf (head_shown pool n c) →
     size_shown c ≡ 1
-leaf_size pool n content.Empty h = refl
-leaf_size pool n (content.Bool b) h = refl
-leaf_size pool n (content.Char c) h = refl
-leaf_size pool n (content.Count k) h = refl
-leaf_size pool n (content.Text len start) h = refl
-leaf_size pool n (content.Bytes len start) h = refl
-leaf_size pool n (content.Unsigned k) h = refl
-leaf_size pool n (content.Compact k) h = refl
-leaf_size pool n (content.Signed z) h = refl
-leaf_size pool n (content.LongUnsigned start) h = refl
-leaf_size pool n (content.LongCompact start) h = refl
-leaf_size pool n (content.LongSigned start) h = refl
-leaf_size pool n (content.Wide start) h = refl
 leaf_size pool n (content.Fields size) h = absurd h
 leaf_size pool n (content.Arm q size) h = absurd h
 leaf_size pool n (content.List size) h = absurd h
+leaf_size pool n _ h = refl
 
 -- a node without children is added
 pub leaf_added : (ty : ℕ) (w : Walked) (pool more : List ℕ) (ns : List Node) (n : Node)
@@ -252,19 +222,7 @@ open_by : (pool : List ℕ) (n : ℕ) (c : Content) → is_open (head_shown [] n
 open_by pool n (content.Fields size) e = record { same = refl; inside = tt; none_kept = refl }
 open_by pool n (content.Arm q size) e = record { same = refl; inside = tt; none_kept = refl }
 open_by pool n (content.List size) e = record { same = refl; inside = tt; none_kept = refl }
-open_by pool n content.Empty e = absurd cc
-open_by pool n (content.Bool b) e = absurd cc
-open_by pool n (content.Char c) e = absurd cc
-open_by pool n (content.Count k) e = absurd cc
-open_by pool n (content.Text len start) e = absurd cc
-open_by pool n (content.Bytes len start) e = absurd cc
-open_by pool n (content.Unsigned k) e = absurd cc
-open_by pool n (content.Compact k) e = absurd cc
-open_by pool n (content.Signed z) e = absurd cc
-open_by pool n (content.LongUnsigned start) e = absurd cc
-open_by pool n (content.LongCompact start) e = absurd cc
-open_by pool n (content.LongSigned start) e = absurd cc
-open_by pool n (content.Wide start) e = absurd cc
+open_by pool n _ e = absurd cc
 
 -- the same, where its kind and its number of children are known by an equation
 pub open_shown : (pool : List ℕ) (children : ℕ) (c : Content) (kind : Branch) (n : ℕ) →

@@ -36,40 +36,14 @@ record Resized (pool : List ℕ) (children : ℕ) (c : Content) (k : ℕ) : Type
 -- a node shows the same and keeps the same in the pool when it gets another size
 same : (pool : List ℕ) (children : ℕ) (c : Content) (k : ℕ) → Resized pool children c k
 same pool m content.Empty k = record { head = refl; kept = refl; inside = λ h. h }
-same pool m (content.Bool b) k = record { head = refl; kept = refl; inside = λ h. h }
-same pool m (content.Char x) k = record { head = refl; kept = refl; inside = λ h. h }
-same pool m (content.Count n) k = record { head = refl; kept = refl; inside = λ h. h }
-same pool m (content.Text len start) k = record { head = refl; kept = refl; inside = λ h. h }
-same pool m (content.Bytes len start) k = record { head = refl; kept = refl; inside = λ h. h }
-same pool m (content.Unsigned n) k = record { head = refl; kept = refl; inside = λ h. h }
-same pool m (content.Compact n) k = record { head = refl; kept = refl; inside = λ h. h }
-same pool m (content.Signed z) k = record { head = refl; kept = refl; inside = λ h. h }
-same pool m (content.LongUnsigned start) k = record { head = refl; kept = refl; inside = λ h. h }
-same pool m (content.LongCompact start) k = record { head = refl; kept = refl; inside = λ h. h }
-same pool m (content.LongSigned start) k = record { head = refl; kept = refl; inside = λ h. h }
-same pool m (content.Wide start) k = record { head = refl; kept = refl; inside = λ h. h }
-same pool m (content.Fields size) k = record { head = refl; kept = refl; inside = λ h. h }
-same pool m (content.Arm q size) k = record { head = refl; kept = refl; inside = λ h. h }
-same pool m (content.List size) k = record { head = refl; kept = refl; inside = λ h. h }
+same pool m _ k = record { head = refl; kept = refl; inside = λ h. h }
 
 -- a node that is open has parts, so it gets its size
 sized : (c : Content) (k : ℕ) → size_shown c ≡ 0 → size_shown (closed_as c k) ≡ k
 sized (content.Fields size) k h = refl
 sized (content.Arm q size) k h = refl
 sized (content.List size) k h = refl
-sized content.Empty k h = absurd (omega (arith, h))
-sized (content.Bool b) k h = absurd (omega (arith, h))
-sized (content.Char x) k h = absurd (omega (arith, h))
-sized (content.Count n) k h = absurd (omega (arith, h))
-sized (content.Text len start) k h = absurd (omega (arith, h))
-sized (content.Bytes len start) k h = absurd (omega (arith, h))
-sized (content.Unsigned n) k h = absurd (omega (arith, h))
-sized (content.Compact n) k h = absurd (omega (arith, h))
-sized (content.Signed z) k h = absurd (omega (arith, h))
-sized (content.LongUnsigned start) k h = absurd (omega (arith, h))
-sized (content.LongCompact start) k h = absurd (omega (arith, h))
-sized (content.LongSigned start) k h = absurd (omega (arith, h))
-sized (content.Wide start) k h = absurd (omega (arith, h))
+sized _ k h = absurd (omega (arith, h))
 
 -- the cells are those of before, with the size of the open node at one place
 resized : (pool : List ℕ) (ns : List Node) (n : Node) (k place : ℕ) (front : List Cell) (c : Cell)

@@ -20,28 +20,13 @@ use Rattle.value_core.proofs.Closing.{leaf_paid}
 -- a leaf has as many bytes of text as the node that it is added as
 text_is : (l : Leaf) → leaf_text_bytes l ≡ head_text_bytes (leaf_head l)
 text_is leaf.Empty = refl
-text_is (leaf.Bool b) = refl
-text_is (leaf.Char c) = refl
-text_is (leaf.Text s) = refl
-text_is (leaf.Bytes s) = refl
-text_is (leaf.Unsigned n) = refl
-text_is (leaf.Signed z) = refl
-text_is (leaf.Wide b) = refl
-text_is (leaf.Compact n) = refl
-text_is (leaf.Count n) = refl
+text_is _ = refl
 
 -- a leaf that fits has fewer than 2^32 bytes of text
 pub text_short : (l : Leaf) → FitsLeaf l → leaf_text_bytes l < 2 ^ 32
-text_short leaf.Empty h = omega arith
-text_short (leaf.Bool b) h = omega arith
-text_short (leaf.Char c) h = omega arith
 text_short (leaf.Text s) h = h
 text_short (leaf.Bytes s) h = h
-text_short (leaf.Unsigned n) h = omega arith
-text_short (leaf.Signed z) h = omega arith
-text_short (leaf.Wide b) h = omega arith
-text_short (leaf.Compact n) h = omega arith
-text_short (leaf.Count n) h = omega arith
+text_short _ h = omega arith
 
 -- a text or a run of bytes has its bytes in the pool
 text_kept : (pool : List ℕ) (n : ℕ) (c : Content) →
@@ -50,20 +35,7 @@ text_kept pool n (content.Text len start) =
     omega (arith, length-take (start + len - start) (drop start pool))
 text_kept pool n (content.Bytes len start) =
     omega (arith, length-take (start + len - start) (drop start pool))
-text_kept pool n content.Empty = omega arith
-text_kept pool n (content.Bool b) = omega arith
-text_kept pool n (content.Char c) = omega arith
-text_kept pool n (content.Count k) = omega arith
-text_kept pool n (content.Unsigned k) = omega arith
-text_kept pool n (content.Compact k) = omega arith
-text_kept pool n (content.Signed z) = omega arith
-text_kept pool n (content.LongUnsigned start) = omega arith
-text_kept pool n (content.LongCompact start) = omega arith
-text_kept pool n (content.LongSigned start) = omega arith
-text_kept pool n (content.Wide start) = omega arith
-text_kept pool n (content.Fields size) = omega arith
-text_kept pool n (content.Arm q size) = omega arith
-text_kept pool n (content.List size) = omega arith
+text_kept pool n _ = omega arith
 
 -- so all texts have no more bytes than all nodes have there
 pub texts_kept : (pool : List ℕ) (ns : List Node) →

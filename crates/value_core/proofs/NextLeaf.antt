@@ -1,6 +1,6 @@
 -- The values that a node without children may be, by the form that is next.
 use Rattle.std.proofs.Common.{◌≡◌, ◌-◌, ℕ, suc, ◌*◌, ℤ, pos, negsuc, ◌/◌, ◌<◌, ◌≤◌, ◌^◌, List, []}
-use Rattle.std.proofs.Common.{◌∷◌, ◌++◌, Bool, true, false, length, refl, ap, ◌∙◌, arith}
+use Rattle.std.proofs.Common.{◌∷◌, ◌++◌, Bool, true, false, length, refl, sym, ap, ◌∙◌, arith}
 use Rattle.std.specs.Prelude.{not, nat_lt, ◌||◌, ◌&&◌, if◌then◌else◌}
 use Rattle.std.specs.Str.{is_utf8}
 use Rattle.std.proofs.lemmas.Bool.{lt-ltb, le-ltb, ltb-false}
@@ -18,74 +18,68 @@ use Rattle.registry_core.specs.declared.kind.PrimitiveKind.TheVariants as K
 use Rattle.registry_core.proofs.Widths.{width_halves, width_numbers}
 use Rattle.registry_core.specs.declared.primitive.Primitive.{Primitive}
 use Rattle.registry_core.specs.declared.primitive.Primitive.TheVariants as P
-use Rattle.widths_core.specs.Layouts.{kind_layout, layout}
+use Rattle.widths_core.specs.Layouts.{Plain, kind_layout, layout}
 use Rattle.widths_core.specs.Layouts as layout
 use Rattle.grammar_core.specs.Grammar.{Val}
+use Rattle.grammar_core.specs.Forms.{form_of}
 use Rattle.grammar_core.specs.Preorder as head
 use Rattle.grammar_core.specs.Tree as tree
+use Rattle.grammar_core.specs.Ways.{SpelledBy, way_of}
+use Rattle.grammar_core.specs.declared.form.Form.{Form}
 use Rattle.grammar_core.specs.declared.form.Form.TheVariants as form
 use Rattle.grammar_core.specs.declared.form.Next.TheVariants as next
 use Rattle.value_core.specs.Built.{FitsKind, IsNextLeaf}
 use Rattle.widths_core.specs.declared.run_kind.RunKind.{RunKind}
 use Rattle.widths_core.specs.declared.run_kind.RunKind.TheVariants as kind
-use Rattle.registry_core.specs.declared.type_info.TypeInfo.{TypeInfo}
 use Rattle.grammar_core.specs.Runs.{IsRun, IsRunLength, run_form, run_leaf}
 use Rattle.value_core.specs.Refusals.{most_unsigned, most_signed, is_within}
 use Rattle.value_core.specs.Walked.{Walked, next_of}
 use Rattle.value_core.proofs.Forms.{wanted, run_layout, empty_layout, primitive_has_layout}
 use Rattle.value_core.proofs.Forms.{compact_has_layout, count_layout}
 
--- where the empty form is next, the unit is a value for it
-pub empty_next : (w : Walked) → next_of w ≡ next.Wants form.Empty →
-    IsNextLeaf w (head.leaf tree.unit)
+-- where a form is next whose types are laid out as a kind, what is spelled in the kind's way is a
+-- value for it
+leaf_next : (w : Walked) (f : Form) (p : Plain) (l : tree.Leaf) (own : List ℕ) →
+    next_of w ≡ next.Wants f →
+    ((t : ℕ) → form_of w.types t ≡ next.Wants f → layout w.types t ≡ layout.plain p) →
+    AreBytes own → SpelledBy (way_of p) l own → IsNextLeaf w (head.leaf l)
 unfolding Val
-empty_next w e = let k = wanted w form.Empty e in
+leaf_next w f p l own e laid are h = let k = wanted w f e in
     record {
       ty = k.ty;
       next = k.is_next;
       room = k.room;
       leaf = tt;
-      own = [];
-      are_bytes = tt;
-      value = (empty_layout w.types k.ty k.form_is, refl);
+      own = own;
+      are_bytes = are;
+      value = (p, laid k.ty k.form_is, h);
     }
 
--- the byte of a boolean is below 256
-bool_is_byte : (x : Bool) → bool_byte x < 256
-bool_is_byte true = omega arith
-bool_is_byte false = omega arith
+-- where the empty form is next, the unit is a value for it
+pub empty_next : (w : Walked) → next_of w ≡ next.Wants form.Empty →
+    IsNextLeaf w (head.leaf tree.unit)
+empty_next w e =
+    leaf_next w form.Empty layout.empty tree.unit [] e (empty_layout w.types) tt (refl, refl)
+
+-- the byte of a boolean is below 256, and spells the boolean in its way
+bool_spelled : (x : Bool) → (bool_byte x < 256)
+    × SpelledBy (way_of layout.bool) (tree.bool x) (bool_byte x ∷ [])
+bool_spelled true = (omega arith, (refl, refl, refl))
+bool_spelled false = (omega arith, (refl, refl, refl))
 
 -- where a boolean is next, each boolean is a value for it
 pub bool_next : (w : Walked) (x : Bool) → next_of w ≡ next.Wants (form.Primitive P.Bool) →
     IsNextLeaf w (head.leaf (tree.bool x))
-unfolding Val
-bool_next w x e = let k = wanted w (form.Primitive P.Bool) e in
-    record {
-      ty = k.ty;
-      next = k.is_next;
-      room = k.room;
-      leaf = tt;
-      own = bool_byte x ∷ [];
-      are_bytes = (bool_is_byte x, tt);
-      value =
-          (primitive_has_layout w.types k.ty P.Bool k.form_is, refl);
-    }
+bool_next w x e =
+    leaf_next w (form.Primitive P.Bool) layout.bool (tree.bool x) (bool_byte x ∷ []) e
+    (λ t f. primitive_has_layout w.types t P.Bool f) ((bool_spelled x).0, tt) (bool_spelled x).1
 
 -- where a count is next, each number below 2^32 is a value for it
 pub count_next : (w : Walked) (n : ℕ) → n < 2 ^ 32 → next_of w ≡ next.Wants form.Count →
     IsNextLeaf w (head.leaf (tree.count n))
-unfolding Val
-count_next w n h e = let k = wanted w form.Count e in
-    record {
-      ty = k.ty;
-      next = k.is_next;
-      room = k.room;
-      leaf = tt;
-      own = compact n;
-      are_bytes =
-          are_compact n;
-      value = (count_layout w.types k.ty k.form_is, (omega (arith, h), refl));
-    }
+count_next w n h e =
+    leaf_next w form.Count layout.counted (tree.count n) (compact n) e (count_layout w.types)
+    (are_compact n) (n, refl, (omega (arith, h), refl))
 
 -- numbers up to the greatest are those that fit the width
 fits_width : (k n : ℕ) → 0 < k → n ≤ k - 1 → n < k
@@ -95,43 +89,15 @@ fits_width k n some h = omega (arith, some, h)
 pub unsigned_next : (w : Walked) (p : Primitive) (v : IntegerWidth) (n : ℕ) →
     next_of w ≡ next.Wants (form.Primitive p) → kind_of p ≡ K.Unsigned v → n ≤ most_unsigned v →
     IsNextLeaf w (head.leaf (tree.unsigned n))
-unfolding Val
 unsigned_next w p v n e f h =
-    let k = wanted w (form.Primitive p) e in
-    let bytes = width_bytes v in
-    record {
-      ty = k.ty;
-      next = k.is_next;
-      room = k.room;
-      leaf = tt;
-      own = le_bytes bytes n;
-      are_bytes = are_le_bytes bytes n;
-      value = (
-        bytes,
-        primitive_has_layout w.types k.ty p k.form_is ∙ ap kind_layout f,
-        length-le_bytes bytes n,
-        number-le_bytes bytes n (fits_width (256 ^ bytes) n (omega (arith, width_numbers v)) h),
-      );
-    }
-
--- where a text is next, fewer than 2^32 bytes of UTF-8 are a value for it
-pub text_next : (w : Walked) (s : List ℕ) → next_of w ≡ next.Wants (form.Primitive P.Str) →
-    is_utf8 s ≡ true → AreBytes s → length s < 2 ^ 32 → IsNextLeaf w (head.leaf (tree.text s))
-unfolding Val
-text_next w s e f a h =
-    let k = wanted w (form.Primitive P.Str) e in
-    record {
-      ty = k.ty;
-      next = k.is_next;
-      room = k.room;
-      leaf = tt;
-      own = compact (length s) ++ s;
-      are_bytes = both_bytes (compact (length s)) s (are_compact (length s)) a;
-      value = (
-        primitive_has_layout w.types k.ty P.Str k.form_is,
-        (compact (length s), (omega (arith, h), refl), f, refl),
-      );
-    }
+    let k = width_bytes v in
+    leaf_next w (form.Primitive p) (layout.unsigned k) (tree.unsigned n) (le_bytes k n) e
+    (λ t g. primitive_has_layout w.types t p g ∙ ap kind_layout f) (are_le_bytes k n) (
+      length-le_bytes k n,
+      ap tree.unsigned
+          (sym (number-le_bytes k n (fits_width (256 ^ k) n (omega (arith, width_numbers v)) h))),
+      refl,
+    )
 
 -- the length that stands in front of a run
 run_own : (k : RunKind) (n : ℕ) → n < 2 ^ 32 → FitsKind k n → (c : List ℕ) × AreBytes c
@@ -140,76 +106,42 @@ run_own kind.Text n h f = (compact n, are_compact n, (omega (arith, h), refl))
 run_own kind.Bytes n h f = (compact n, are_compact n, (omega (arith, h), refl))
 run_own (kind.ByteArray m) n h f = ([], tt, (f, refl))
 
--- bytes of a run's kind, after what may stand in front of so many, spell a value of its type
-run_value : (r : List TypeInfo) (t : ℕ) (k : RunKind) (s c : List ℕ) →
-    layout r t ≡ layout.plain (layout.run k) → IsRun k s → IsRunLength k (length s) c →
-    Val r t (tree.leaf (run_leaf k s)) (c ++ s)
-unfolding Val
-run_value r t kind.Text s c e f h = (e, (c, h, f, refl))
-run_value r t kind.Bytes s c e f h = (kind.Bytes, tt, e, (c, h, tt, refl))
-run_value r t (kind.ByteArray n) s c e f h = (kind.ByteArray n, tt, e, (c, h, tt, refl))
-
 -- where a run is next, fewer than 2^32 bytes of its kind are a value for it, if it allows so many
 pub run_next : (w : Walked) (k : RunKind) (s : List ℕ) → next_of w ≡ next.Wants (run_form k) →
     IsRun k s → AreBytes s → length s < 2 ^ 32 → FitsKind k (length s) →
     IsNextLeaf w (head.leaf (run_leaf k s))
 run_next w k s e f a h fits =
-    let x = wanted w (run_form k) e in
     let own = run_own k (length s) h fits in
-    record {
-      ty = x.ty;
-      next = x.is_next;
-      room = x.room;
-      leaf = tt;
-      own = own.0 ++ s;
-      are_bytes = both_bytes own.0 s own.1 a;
-      value = run_value w.types x.ty k s own.0 (run_layout w.types x.ty k x.form_is) f own.2;
-    }
+    leaf_next w (run_form k) (layout.run k) (run_leaf k s) (own.0 ++ s) e
+    (λ t g. run_layout w.types t k g) (both_bytes own.0 s own.1 a)
+    (s, refl, (own.0, own.2, f, refl))
+
+-- where a text is next, fewer than 2^32 bytes of UTF-8 are a value for it
+pub text_next : (w : Walked) (s : List ℕ) → next_of w ≡ next.Wants (form.Primitive P.Str) →
+    is_utf8 s ≡ true → AreBytes s → length s < 2 ^ 32 → IsNextLeaf w (head.leaf (tree.text s))
+text_next w s e f a h = run_next w kind.Text s e f a h tt
 
 -- where an integer of 256 bits is next, any 32 bytes are a value for it
 pub wide_next : (w : Walked) (p : Primitive) (s : Signedness) (b : List ℕ) →
     next_of w ≡ next.Wants (form.Primitive p) → kind_of p ≡ K.Wide s → length b ≡ 32 → AreBytes b →
     IsNextLeaf w (head.leaf (tree.wide b))
-unfolding Val
-wide_next w p s b e f h a =
-    let k = wanted w (form.Primitive p) e in
-    record {
-      ty = k.ty;
-      next = k.is_next;
-      room = k.room;
-      leaf = tt;
-      own = b;
-      are_bytes = a;
-      value =
-          (primitive_has_layout w.types k.ty p k.form_is ∙ ap kind_layout f, h, refl);
-    }
+wide_next w p s b e f h a = leaf_next w (form.Primitive p) layout.wide (tree.wide b) b e
+    (λ t g. primitive_has_layout w.types t p g ∙ ap kind_layout f) a (h, refl, refl)
 
 -- a number that the target's bytes can hold has a compact spelling
 compact_own : (m : Target) (n : ℕ) → n < 256 ^ target_bytes m → (b : List ℕ) × AreBytes b
     × IsCompact m n b
 compact_own target.Unit n h = ([], tt, (omega (arith, h), refl))
 compact_own target.U8 n h = (compact n, are_compact n, (h, refl))
-compact_own target.U16 n h = (compact n, are_compact n, (h, refl))
-compact_own target.U32 n h = (compact n, are_compact n, (h, refl))
-compact_own target.U64 n h = (compact n, are_compact n, (h, refl))
-compact_own target.U128 n h = (compact n, are_compact n, (h, refl))
+compact_own _ n h = (compact n, are_compact n, (h, refl))
 
 -- where a compact is next, each number that its target's bytes can hold is a value for it
 pub compact_next : (w : Walked) (m : Target) (n : ℕ) → next_of w ≡ next.Wants (form.Compact m) →
     n < 256 ^ target_bytes m → IsNextLeaf w (head.leaf (tree.compact n))
-unfolding Val
 compact_next w m n e h =
-    let k = wanted w (form.Compact m) e in
     let own = compact_own m n h in
-    record {
-      ty = k.ty;
-      next = k.is_next;
-      room = k.room;
-      leaf = tt;
-      own = own.0;
-      are_bytes = own.1;
-      value = (m, compact_has_layout w.types k.ty m k.form_is, own.2);
-    }
+    leaf_next w (form.Compact m) (layout.compact m) (tree.compact n) own.0 e
+    (λ t g. compact_has_layout w.types t m g) own.1 (n, refl, own.2)
 
 -- ---- characters
 
@@ -225,23 +157,11 @@ scalar_is c h = by (nat_lt c 0xd800) (nat_lt 0xdfff c && nat_lt c 0x110000) h wh
 -- where a character is next, each Unicode scalar value of four bytes is a value for it
 pub char_next : (w : Walked) (c : ℕ) → next_of w ≡ next.Wants (form.Primitive P.Char) →
     is_scalar c ≡ true → c < 256 ^ 4 → IsNextLeaf w (head.leaf (tree.char c))
-unfolding Val
 char_next w c e f h =
-    let k = wanted w (form.Primitive P.Char) e in
-    record {
-      ty = k.ty;
-      next = k.is_next;
-      room = k.room;
-      leaf = tt;
-      own = le_bytes 4 c;
-      are_bytes = are_le_bytes 4 c;
-      value = (
-        primitive_has_layout w.types k.ty P.Char k.form_is,
-        length-le_bytes 4 c,
-        number-le_bytes 4 c h,
-        f,
-      );
-    }
+    let spelled : number (le_bytes 4 c) ≡ c = number-le_bytes 4 c h in
+    leaf_next w (form.Primitive P.Char) layout.char (tree.char c) (le_bytes 4 c) e
+    (λ t g. primitive_has_layout w.types t P.Char g) (are_le_bytes 4 c)
+    (length-le_bytes 4 c, ap tree.char (sym spelled), rw (spelled, f) refl)
 
 -- ---- signed integers
 
@@ -285,22 +205,13 @@ are_signed_bytes k (negsuc m) = are_le_bytes k (256 ^ k - suc m)
 pub signed_next : (w : Walked) (p : Primitive) (v : IntegerWidth) (z : ℤ) →
     next_of w ≡ next.Wants (form.Primitive p) → kind_of p ≡ K.Signed v →
     is_within z (most_signed v) ≡ true → IsNextLeaf w (head.leaf (tree.signed z))
-unfolding Val
 signed_next w p v z e f h =
-    let k = wanted w (form.Primitive p) e in
-    let bytes = width_bytes v in
-    record {
-      ty = k.ty;
-      next = k.is_next;
-      room = k.room;
-      leaf = tt;
-      own = signed_bytes bytes z;
-      are_bytes = are_signed_bytes bytes z;
-      value = (
-        bytes,
-        primitive_has_layout w.types k.ty p k.form_is ∙ ap kind_layout f,
-        signed_long bytes z,
-        signed_again bytes (256 ^ bytes / 2) z (width_halves v) h
-            (omega (arith, width_halves v, width_numbers v)),
-      );
-    }
+    let k = width_bytes v in
+    leaf_next w (form.Primitive p) (layout.signed k) (tree.signed z) (signed_bytes k z) e
+    (λ t g. primitive_has_layout w.types t p g ∙ ap kind_layout f) (are_signed_bytes k z) (
+      signed_long k z,
+      ap tree.signed
+          (sym (signed_again k (256 ^ k / 2) z (width_halves v) h
+          (omega (arith, width_halves v, width_numbers v)))),
+      refl,
+    )

@@ -106,11 +106,7 @@ arms_class r t arms e f = e ∙ rw f refl
 same_target : (r : List TypeInfo) (k : PrimitiveKind) →
     target_from (target_of r) (leads_kind k) ≡ target_from (λ u. None) (leads_kind k)
 same_target r K.Bool = refl
-same_target r K.Char = refl
-same_target r K.Str = refl
-same_target r (K.Unsigned w) = refl
-same_target r (K.Signed w) = refl
-same_target r (K.Wide s) = refl
+same_target r _ = refl
 
 -- there are as many fields as types of fields
 length-fields : (fs : List Field) → length fs ≡ length (field_types fs)

@@ -114,20 +114,7 @@ step_drafted r refs Row cs ms bs c (Def.BitSequence store order) x hc hm hb h = 
 byte_same : (p : Primitive) →
     is_byte_draft (Some (draft.Primitive p)) ≡ is_byte (Some (Def.Primitive p))
 byte_same P.Bool = refl
-byte_same P.Char = refl
-byte_same P.Str = refl
-byte_same P.U8 = refl
-byte_same P.U16 = refl
-byte_same P.U32 = refl
-byte_same P.U64 = refl
-byte_same P.U128 = refl
-byte_same P.U256 = refl
-byte_same P.I8 = refl
-byte_same P.I16 = refl
-byte_same P.I32 = refl
-byte_same P.I64 = refl
-byte_same P.I128 = refl
-byte_same P.I256 = refl
+byte_same _ = refl
 
 -- a draft is u8's exactly where the definition is
 byte_drafted : (refs : List ℕ) (Row : ℕ → ℕ → List Arm → Type 0) (d : TypeDef) (x : Draft) →

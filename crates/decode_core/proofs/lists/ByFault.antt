@@ -2,13 +2,13 @@
 use Rattle.std.proofs.Common.{◌≡◌, ℕ, zero, suc, ◌+◌, ◌^◌, ◌≤◌, Bool, true, false, cond, List, []}
 use Rattle.std.proofs.Common.{◌∷◌, ◌++◌, length, take, drop, Option, Some, None, Ok, Err, refl, ap}
 use Rattle.std.proofs.Common.{◌∙◌, arith, inl, inr}
-use Rattle.std.specs.Prelude.{nat_lt, not}
+use Rattle.std.specs.Prelude.{◌≢◌, nat_lt, not}
 use Rattle.std.specs.Str.{bytes_eq, is_utf8}
 use Rattle.std.specs.Str.Lossy.{utf8_valid_len}
 use Rattle.std.proofs.lemmas.Bool.{ltb-false}
 use Rattle.scale_core.specs.Compact.{compact, target_bytes}
-use Rattle.scale_core.specs.Number.{number, signed_number, is_scalar}
-use Rattle.scale_core.specs.Read.{Read, ◌>>=◌, bytes_at, compact_at, integer_at, form_from}
+use Rattle.scale_core.specs.Number.{number, is_scalar}
+use Rattle.scale_core.specs.Read.{Read, ◌>>=◌, compact_at, integer_at, form_from}
 use Rattle.scale_core.specs.Read.{form_number, is_too_long, form_len}
 use Rattle.scale_core.specs.declared.compact.Target.{Target}
 use Rattle.scale_core.specs.declared.compact.Target.TheVariants as target
@@ -27,19 +27,18 @@ use Rattle.widths_core.specs.Layouts.{Plain, Layout, layout}
 use Rattle.widths_core.specs.Layouts as layout
 use Rattle.widths_core.specs.declared.run_kind.RunKind.{RunKind}
 use Rattle.widths_core.specs.declared.run_kind.RunKind.TheVariants as kind
-use Rattle.grammar_core.specs.Tree.{Leaf, Branch, leaf, char, unsigned, signed, wide}
-use Rattle.grammar_core.specs.Tree.{compact as compact_value, fields, arm, list, count, Trees, and}
-use Rattle.grammar_core.specs.Reading.{value_at, layout_at, leaf_at, bool_value_at, char_from}
-use Rattle.grammar_core.specs.Reading.{all_at}
-use Rattle.grammar_core.specs.Reading.{times_at, fields_after_index, arms_at, as_leaf}
-use Rattle.grammar_core.specs.Reading.{with_children, Refusal, basic, no_such_variant, too_deep}
-use Rattle.grammar_core.specs.Reading.{no_finite_value, bit_sequence, bad_compact}
+use Rattle.grammar_core.specs.Tree.{Leaf, Branch, fields, arm, list, Trees, and}
+use Rattle.grammar_core.specs.Ways.{Way, of_no_byte, of_width, of_compact, of_run, way_of, read_by}
+use Rattle.grammar_core.specs.Ways.{bool_fault, leaf_of, leaf_by, judged_leaf}
+use Rattle.grammar_core.specs.Reading.{value_at, layout_at, leaf_at, all_at, times_at}
+use Rattle.grammar_core.specs.Reading.{fields_after_index, arms_at, as_leaf, with_children, Refusal}
+use Rattle.grammar_core.specs.Reading.{basic, no_finite_value}
 use Rattle.grammar_core.specs.Runs.{run_at, run_judged, run_leaf, run_length_at}
 use Rattle.grammar_core.proofs.Runs.{length_takes}
 use Rattle.grammar_core.proofs.Sound.{value_takes}
-use Rattle.decode_core.specs.Taken.{leaf_taken, taken_after, compact_taken, run_length_taken}
-use Rattle.decode_core.specs.Taken.{run_taken, all_taken, times_taken, arm_taken, arms_taken}
-use Rattle.decode_core.specs.Taken.{layout_taken, value_taken}
+use Rattle.decode_core.specs.Taken.{leaf_taken, taken_by, taken_after, compact_taken}
+use Rattle.decode_core.specs.Taken.{run_length_taken, run_taken, all_taken, times_taken, arm_taken}
+use Rattle.decode_core.specs.Taken.{arms_taken, layout_taken, value_taken}
 use Rattle.decode_core.specs.Outcome.{IsTakenBefore, TakenByFault}
 use Rattle.decode_core.proofs.lists.Deciding.{chain, finish, bind_chain}
 use Rattle.decode_core.proofs.lists.Shortest.{and_finish, elements_chain, body_at}
@@ -53,17 +52,9 @@ ReportedWithin m b k (Err e) = (length e.1 ≤ length b) × IsTakenBefore (m e.0
 moved : (reason : Refusal) (left : List ℕ) (c at k : ℕ) → IsTakenBefore reason left at k →
     IsTakenBefore reason left (c + at) (c + k)
 moved (basic reasons.Truncated) left c at k h = h
-moved (basic reasons.BadBool) left c at k h = omega (arith, h)
-moved (basic reasons.BadChar) left c at k h = omega (arith, h)
-moved (basic reasons.BadUtf8) left c at k h = omega (arith, h)
-moved (basic reasons.CompactNotShortest) left c at k h = omega (arith, h)
 moved (basic reasons.CompactTooLarge) left c at k (inl h) = inl (omega (arith, h))
 moved (basic reasons.CompactTooLarge) left c at k (inr h) = inr (omega (arith, h))
-moved no_such_variant left c at k h = omega (arith, h)
-moved too_deep left c at k h = omega (arith, h)
-moved no_finite_value left c at k h = omega (arith, h)
-moved bit_sequence left c at k h = omega (arith, h)
-moved bad_compact left c at k h = omega (arith, h)
+moved _ left c at k h = omega (arith, h)
 
 -- after c
 reported_beyond : {E X : Type 0} (m : E → Refusal) (b c rest : List ℕ) (k : ℕ) (read : Read E X) →
@@ -131,11 +122,7 @@ compact_reported : (m : Target) (b : List ℕ) →
     ReportedWithin basic b (compact_taken m b) (compact_at m b)
 unfolding compact_at
 compact_reported target.Unit b = tt
-compact_reported target.U8 b = integer_reported target.U8 b
-compact_reported target.U16 b = integer_reported target.U16 b
-compact_reported target.U32 b = integer_reported target.U32 b
-compact_reported target.U64 b = integer_reported target.U64 b
-compact_reported target.U128 b = integer_reported target.U128 b
+compact_reported m b = integer_reported m b
 
 -- the fault of a run's length reports what is taken
 run_length_reported : (k : RunKind) (b : List ℕ) →
@@ -177,33 +164,61 @@ run_reported k b = rw (bind_chain (body_at k) (run_length_at k b))
     (chain_reported (λ e. e) basic _ (body_at k) (λ n. n.0) b (run_length_taken k b)
     (run_length_at k b) (length_takes k b) (run_length_reported k b) (λ n. body_reported k n.0 n.1))
 
--- a number of bytes is refused only where they are missing, and then nothing is left behind
-bytes_reported : (k : ℕ) (b : List ℕ) → ReportedWithin basic b 0 (bytes_at k b)
-bytes_reported k b = go (nat_lt (length b) k) where
-  go : (short : Bool) → ReportedWithin basic b 0
-      (cond short (Err (reasons.Truncated, [])) (Ok (take k b, drop k b)))
+-- bytes are refused for a reason by which all of them are taken, and which is not that bytes are
+-- missing
+abbrev pub IsJudged : ℕ → Option Reason → Type 0
+IsJudged k None = Unit {0}
+IsJudged k (Some e) = (e ≢ reasons.Truncated) × ((left : List ℕ) → IsTakenBefore (basic e) left 0 k)
+
+-- the same of what is read in this way
+abbrev pub Judges : Way → List ℕ → Type 0
+Judges (of_width k make fault) b = IsJudged k (fault b)
+Judges _ b = Unit {0}
+
+-- a boolean is refused by its one byte
+bool_judges : (b : List ℕ) → IsJudged 1 (bool_fault b)
+bool_judges (zero ∷ []) = tt
+bool_judges (suc zero ∷ []) = tt
+bool_judges _ = (λ e. absurd cc, λ left. refl)
+
+-- a character is refused by its four bytes, and no other kind by bytes that are there
+pub judges : (p : Plain) (b : List ℕ) → Judges (way_of p) b
+judges layout.bool b = bool_judges b
+judges layout.char b = by (is_scalar (number b)) where
+  by : (t : Bool) → IsJudged 4 (cond t None (Some reasons.BadChar))
+  by true = tt
+  by false = (λ e. absurd cc, λ left. refl)
+judges _ b = tt
+
+-- the fault of so many bytes reports what is taken, which is all of them
+width_reported : (k : ℕ) (make : List ℕ → Leaf) (fault : List ℕ → Option Reason) (b : List ℕ) →
+    IsJudged k (fault (take k b)) →
+    ReportedWithin basic b k (read_by (of_width k make fault) b)
+width_reported k make fault b h = go (nat_lt (length b) k) where
+  judged : (f : Option Reason) → IsJudged k f →
+      ReportedWithin basic b k (judged_leaf b (make (take k b)) (drop k b) f)
+  judged None j = tt
+  judged (Some e) j = (omega arith, rw (whole b) (j.1 b))
+
+  go : (short : Bool) → ReportedWithin basic b k
+      (leaf_by b make fault (cond short (Err (reasons.Truncated, [])) (Ok (take k b, drop k b))))
   go true = (omega arith, refl)
-  go false = tt
+  go false = judged (fault (take k b)) h
 
--- a boolean's fault reports what is taken, which is its one byte
-bool_reported : (b : List ℕ) → ReportedWithin (λ e. e) b 1 (bool_value_at b)
-bool_reported [] = (omega arith, refl)
-bool_reported (zero ∷ b) = tt
-bool_reported (suc zero ∷ b) = tt
-bool_reported (suc (suc x) ∷ b) = (omega arith, omega arith)
+-- making a leaf of what was read leaves what its fault takes
+leaf_of_reported : {X : Type 0} (make : X → Leaf) (b : List ℕ) (k : ℕ) (read : Read Reason X) →
+    ReportedWithin basic b k read → ReportedWithin basic b k (leaf_of make read)
+leaf_of_reported make b k (Ok x) h = tt
+leaf_of_reported make b k (Err e) h = h
 
--- a character's fault reports what is taken, which is its four bytes
-char_reported : (b : List ℕ) → ReportedWithin (λ e. e) b 4 (char_from b (bytes_at 4 b))
-char_reported b = go (nat_lt (length b) 4) where
-  valid : (t : Bool) → ReportedWithin (λ e. e) b 4
-      (cond t (Ok (leaf (char (number (take 4 b))), drop 4 b)) (Err (basic reasons.BadChar, b)))
-  valid true = tt
-  valid false = (omega arith, omega arith)
-
-  go : (short : Bool) → ReportedWithin (λ e. e) b 4
-      (char_from b (cond short (Err (reasons.Truncated, [])) (Ok (take 4 b, drop 4 b))))
-  go true = (omega arith, refl)
-  go false = valid (is_scalar (number (take 4 b)))
+-- a leaf's fault reports what is taken, whatever its way
+way_reported : (w : Way) → ((b : List ℕ) → Judges w b) → (b : List ℕ) →
+    ReportedWithin basic b (taken_by w b) (read_by w b)
+way_reported (of_no_byte l) h b = tt
+way_reported (of_width k make fault) h b = width_reported k make fault b (h (take k b))
+way_reported (of_compact m make) h b =
+    leaf_of_reported make b _ (compact_at m b) (compact_reported m b)
+way_reported (of_run k) h b = leaf_of_reported (run_leaf k) b _ (run_at k b) (run_reported k b)
 
 -- ---- values
 
@@ -250,11 +265,11 @@ parts_reported : (kind : Branch) (b : List ℕ) (k : ℕ) (read : Read Refusal T
 parts_reported kind b k (Ok x) h = tt
 parts_reported kind b k (Err e) h = h
 
--- making a leaf of what was read leaves what its fault takes
-leaf_reported : {X : Type 0} (make : X → Leaf) (b : List ℕ) (k : ℕ) (read : Read Reason X) →
-    ReportedWithin basic b k read → ReportedWithin (λ e. e) b k (as_leaf make read)
-leaf_reported make b k (Ok x) h = tt
-leaf_reported make b k (Err e) h = h
+-- a leaf as a value leaves what its fault takes
+as_leaf_reported : (b : List ℕ) (k : ℕ) (read : Read Reason Leaf) → ReportedWithin basic b k read →
+    ReportedWithin (λ e. e) b k (as_leaf read)
+as_leaf_reported b k (Ok x) h = tt
+as_leaf_reported b k (Err e) h = h
 
 -- the fault of an arm takes its index and what its fields take; an unknown index is taken alone
 arm_reported : (r : List TypeInfo) (room : ℕ) → ChildReported r room →
@@ -279,19 +294,8 @@ arms_reported r room h arms (i ∷ b) = arm_reported r room h i b (arm_of arms i
 
 -- the fault of a value without parts is reported by the bytes that are taken
 plain_reported : (p : Plain) (b : List ℕ) → ReportedWithin (λ e. e) b (leaf_taken p b) (leaf_at p b)
-plain_reported layout.empty b = tt
-plain_reported layout.bool b = bool_reported b
-plain_reported layout.char b = char_reported b
-plain_reported (layout.run k) b = leaf_reported (run_leaf k) b _ (run_at k b) (run_reported k b)
-plain_reported (layout.unsigned k) b =
-    leaf_reported (λ b. unsigned (number b)) b _ (bytes_at k b) (bytes_reported k b)
-plain_reported (layout.signed k) b =
-    leaf_reported (λ b. signed (signed_number b)) b _ (bytes_at k b) (bytes_reported k b)
-plain_reported layout.wide b = leaf_reported wide b _ (bytes_at 32 b) (bytes_reported 32 b)
-plain_reported layout.counted b =
-    leaf_reported count b _ (compact_at target.U32 b) (compact_reported target.U32 b)
-plain_reported (layout.compact m) b =
-    leaf_reported compact_value b _ (compact_at m b) (compact_reported m b)
+plain_reported p b =
+    as_leaf_reported b _ (read_by (way_of p) b) (way_reported (way_of p) (judges p) b)
 
 -- by every layout a fault reports what is taken, if that of each part does
 layout_reported : (r : List TypeInfo) (room : ℕ) → ChildReported r room →

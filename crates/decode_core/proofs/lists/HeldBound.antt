@@ -37,21 +37,7 @@ past-le k e (Err x) h = omega arith
 -- what an open run has of these bytes is no more than all
 open-le : (f : Layout) (e : List ℕ) → open_run f e ≤ length e
 open-le (layout.plain (layout.run k)) e = past-le k e (run_length_at k e) (length_takes k e)
-open-le layout.unknown e = omega arith
-open-le layout.bit_sequence e = omega arith
-open-le layout.bad_compact e = omega arith
-open-le (layout.plain layout.empty) e = omega arith
-open-le (layout.plain layout.bool) e = omega arith
-open-le (layout.plain layout.char) e = omega arith
-open-le (layout.plain (layout.unsigned k)) e = omega arith
-open-le (layout.plain (layout.signed k)) e = omega arith
-open-le (layout.plain layout.wide) e = omega arith
-open-le (layout.fields ts) e = omega arith
-open-le (layout.arms as') e = omega arith
-open-le (layout.plain layout.counted) e = omega arith
-open-le (layout.sequence t) e = omega arith
-open-le (layout.array n t) e = omega arith
-open-le (layout.plain (layout.compact m)) e = omega arith
+open-le _ e = omega arith
 
 -- the product as it is written
 spread : (n depth w : ℕ) → n * (suc depth * (w + 1)) ≡ n * (depth + 1) * (w + 1)

@@ -1,10 +1,9 @@
 -- A fault's place lies in the input.
-use Rattle.std.proofs.Common.{ℕ, zero, suc, ◌≤◌, Bool, true, false, cond, List, [], ◌∷◌, length}
-use Rattle.std.proofs.Common.{Option, Some, None, Ok, Err, ap, arith, length-append, length-drop}
+use Rattle.std.proofs.Common.{ℕ, ◌≤◌, Bool, true, false, cond, List, [], ◌∷◌, length, Option, Some}
+use Rattle.std.proofs.Common.{None, Ok, Err, ap, arith, length-append, length-drop}
 use Rattle.std.specs.Str.{bytes_eq, is_utf8}
 use Rattle.std.specs.Str.Lossy.{utf8_valid_len}
 use Rattle.std.specs.Prelude.{nat_lt, not, ◌^◌}
-use Rattle.scale_core.specs.Number.{number, signed_number, is_scalar}
 use Rattle.scale_core.specs.Compact.{compact, target_bytes}
 use Rattle.scale_core.specs.Read.{Read, ◌>>=◌, bytes_at, form_len, form_number, form_from}
 use Rattle.scale_core.specs.Read.{is_too_long, integer_at, compact_at}
@@ -19,8 +18,9 @@ use Rattle.widths_core.specs.Layouts as layout
 use Rattle.widths_core.specs.declared.run_kind.RunKind.{RunKind}
 use Rattle.widths_core.specs.declared.run_kind.RunKind.TheVariants as kind
 use Rattle.grammar_core.specs.Tree.{Leaf, Tree}
-use Rattle.grammar_core.specs.Tree as tree
-use Rattle.grammar_core.specs.Reading.{layout_at, bool_value_at, char_from, as_leaf, Refusal}
+use Rattle.grammar_core.specs.Reading.{layout_at, as_leaf, Refusal}
+use Rattle.grammar_core.specs.Ways.{Way, of_no_byte, of_width, of_compact, of_run, way_of, read_by}
+use Rattle.grammar_core.specs.Ways.{leaf_of, leaf_by, judged_leaf}
 use Rattle.grammar_core.specs.Runs.{IsRunLength, run_at, run_judged, run_leaf, run_length_at}
 use Rattle.grammar_core.proofs.Runs.{length_takes}
 use Rattle.decode_core.specs.Reported.{leaf_own, arm_own, arms_own, length_own, own_at}
@@ -59,11 +59,7 @@ integer_within m (i ∷ b) =
 compact_within : (m : Target) (b : List ℕ) → Within b (compact_at m b)
 unfolding compact_at
 compact_within target.Unit b = tt
-compact_within target.U8 b = integer_within target.U8 b
-compact_within target.U16 b = integer_within target.U16 b
-compact_within target.U32 b = integer_within target.U32 b
-compact_within target.U64 b = integer_within target.U64 b
-compact_within target.U128 b = integer_within target.U128 b
+compact_within m b = integer_within m b
 
 -- the fault of a run's length lies within the input
 run_length_within : (k : RunKind) (b : List ℕ) → Within b (run_length_at k b)
@@ -105,23 +101,35 @@ leaf_within b (Ok x) h = tt
 leaf_within b (Err e) h = h
 
 -- making a leaf of what was read keeps its fault within the input
-value_within : {X : Type 0} (make : X → Leaf) (b : List ℕ) (read : Read Reason X) → Within b read →
-    Within b (as_leaf make read)
-value_within make b (Ok x) h = tt
-value_within make b (Err e) h = h
+leaf_of_within : {X : Type 0} (make : X → Leaf) (b : List ℕ) (read : Read Reason X) →
+    Within b read → Within b (leaf_of make read)
+leaf_of_within make b (Ok x) h = tt
+leaf_of_within make b (Err e) h = h
 
--- the fault of a boolean lies within the input
-bool_within : (b : List ℕ) → Within b (bool_value_at b)
-bool_within [] = omega arith
-bool_within (zero ∷ b) = tt
-bool_within (suc zero ∷ b) = tt
-bool_within (suc (suc x) ∷ b) = omega arith
+-- the fault of bytes that are refused stands at their front
+judged_leaf_within : (b rest : List ℕ) (l : Leaf) (fault : Option Reason) →
+    Within b (judged_leaf b l rest fault)
+judged_leaf_within b rest l None = tt
+judged_leaf_within b rest l (Some e) = omega arith
 
--- the fault of a character lies within the input where that of its four bytes does
-char_within : (b : List ℕ) (read : Read Reason (List ℕ)) → Within b read →
-    Within b (char_from b read)
-char_within b (Err e) h = h
-char_within b (Ok x) h = cond_within b (is_scalar (number x.0)) _ _ tt (omega arith)
+-- the fault of so many bytes lies within the input
+leaf_by_within : (b : List ℕ) (make : List ℕ → Leaf) (fault : List ℕ → Option Reason)
+    (read : Read Reason (List ℕ)) → Within b read → Within b (leaf_by b make fault read)
+leaf_by_within b make fault (Ok x) h = judged_leaf_within b x.1 (make x.0) (fault x.0)
+leaf_by_within b make fault (Err e) h = h
+
+-- the fault of a leaf lies within the input, whatever its way
+way_within : (w : Way) (b : List ℕ) → Within b (read_by w b)
+way_within (of_no_byte l) b = tt
+way_within (of_width k make fault) b =
+    leaf_by_within b make fault (bytes_at k b) (bytes_within k b)
+way_within (of_compact m make) b = leaf_of_within make b (compact_at m b) (compact_within m b)
+way_within (of_run k) b = leaf_of_within (run_leaf k) b (run_at k b) (run_within k b)
+
+-- a leaf as a value has its fault where the leaf has it
+value_within : (b : List ℕ) (read : Read Reason Leaf) → Within b read → Within b (as_leaf read)
+value_within b (Ok x) h = tt
+value_within b (Err e) h = h
 
 -- the fault of an unknown index lies at the index
 arm_within : (at b : List ℕ) (found : Option (ℕ × Arm)) → Within at (arm_own at found b)
@@ -150,25 +158,6 @@ own_within (layout.array n u) b = tt
 own_within layout.unknown b = omega arith
 own_within layout.bit_sequence b = omega arith
 own_within layout.bad_compact b = omega arith
-own_within (layout.plain layout.empty) b = tt
-own_within (layout.plain layout.bool) b = leaf_within b (bool_value_at b) (bool_within b)
-own_within (layout.plain layout.char) b =
-    leaf_within b (char_from b (bytes_at 4 b)) (char_within b (bytes_at 4 b) (bytes_within 4 b))
-own_within (layout.plain (layout.run k)) b =
-    leaf_within b (as_leaf (run_leaf k) (run_at k b))
-    (value_within (run_leaf k) b (run_at k b) (run_within k b))
-own_within (layout.plain (layout.unsigned k)) b =
-    leaf_within b (as_leaf (λ c. tree.unsigned (number c)) (bytes_at k b))
-    (value_within (λ c. tree.unsigned (number c)) b (bytes_at k b) (bytes_within k b))
-own_within (layout.plain (layout.signed k)) b =
-    leaf_within b (as_leaf (λ c. tree.signed (signed_number c)) (bytes_at k b))
-    (value_within (λ c. tree.signed (signed_number c)) b (bytes_at k b) (bytes_within k b))
-own_within (layout.plain layout.wide) b =
-    leaf_within b (as_leaf tree.wide (bytes_at 32 b))
-    (value_within tree.wide b (bytes_at 32 b) (bytes_within 32 b))
-own_within (layout.plain layout.counted) b =
-    leaf_within b (as_leaf tree.count (compact_at target.U32 b))
-    (value_within tree.count b (compact_at target.U32 b) (compact_within target.U32 b))
-own_within (layout.plain (layout.compact m)) b =
-    leaf_within b (as_leaf tree.compact (compact_at m b))
-    (value_within tree.compact b (compact_at m b) (compact_within m b))
+own_within (layout.plain p) b =
+    let read = read_by (way_of p) b in
+    leaf_within b (as_leaf read) (value_within b read (way_within (way_of p) b))

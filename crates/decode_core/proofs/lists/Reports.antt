@@ -1,12 +1,10 @@
 -- Reading node by node is the big-step reading.
-use Rattle.std.proofs.Common.{Bool, true, false, cond, ◌≡◌, ℕ, zero, suc, List, [], ◌∷◌, ◌++◌}
+use Rattle.std.proofs.Common.{◌≡◌, ℕ, zero, suc, List, [], ◌∷◌, ◌++◌}
 use Rattle.std.proofs.Common.{length, Option, Some, None, Ok, Err, refl, sym, ap, ◌∙◌, append_assoc}
 use Rattle.std.proofs.lemmas.List.{append-nil}
-use Rattle.scale_core.specs.Read.{bytes_at, Read, ◌>>=◌, compact_at}
+use Rattle.scale_core.specs.Read.{Read, ◌>>=◌, compact_at}
 use Rattle.scale_core.specs.declared.compact.Target.TheVariants as target
-use Rattle.scale_core.specs.Number.{number, signed_number, is_scalar}
 use Rattle.scale_core.specs.declared.fault.Reason.{Reason}
-use Rattle.scale_core.specs.declared.fault.Reason.TheVariants as scale
 use Rattle.registry_core.specs.declared.definition.Arm.{Arm}
 use Rattle.registry_core.specs.declared.type_info.TypeInfo.{TypeInfo}
 use Rattle.graph_core.specs.Types.{field_types}
@@ -16,19 +14,17 @@ use Rattle.widths_core.specs.Layouts as layout
 use Rattle.grammar_core.specs.Tree.{Leaf, Branch, Tree, Trees, none, and, how_many}
 use Rattle.grammar_core.specs.Tree as tree
 use Rattle.grammar_core.specs.Preorder.{Head, head_of, preorder, all_preorder}
-use Rattle.grammar_core.specs.Reading.{as_leaf, basic, bool_value_at, char_from, value_at}
-use Rattle.grammar_core.specs.Reading.{layout_at}
+use Rattle.grammar_core.specs.Reading.{as_leaf, value_at, layout_at}
 use Rattle.grammar_core.specs.Reading.{leaf_at, all_at, times_at, fields_after_index, arms_at}
 use Rattle.grammar_core.specs.Reading.{elements_at, with_children, Refusal}
-use Rattle.grammar_core.specs.Runs.{run_at, run_leaf}
+use Rattle.grammar_core.specs.Ways.{way_of, read_by}
 use Rattle.decode_core.specs.Met.{met_layout}
 use Rattle.decode_core.proofs.lists.Mets.{value_met}
 use Rattle.value_core.specs.Built.{Entry}
 use Rattle.decode_core.specs.Reported.{entry, shown, leaf_own, arm_own, arms_own, length_own}
-use Rattle.decode_core.specs.Reported.{own_at}
-use Rattle.decode_core.specs.Reported.{Reported, reported, added, ending, after, then, all_reported}
-use Rattle.decode_core.specs.Reported.{times_reported}
-use Rattle.decode_core.specs.Reported.{own_reported, reported_at, Agrees}
+use Rattle.decode_core.specs.Reported.{own_at, Reported, reported, added, ending, after, then}
+use Rattle.decode_core.specs.Reported.{all_reported, times_reported, own_reported, reported_at}
+use Rattle.decode_core.specs.Reported.{Agrees}
 use Rattle.grammar_core.specs.Preorder as head
 
 -- the nodes of two lists without their types are those of one and then of the other
@@ -125,41 +121,14 @@ leaf_lone : (v : Tree) → IsLeafTree v → head_of v ∷ [] ≡ preorder v
 leaf_lone (tree.branch k vs) h = absurd h
 leaf_lone (tree.leaf l) h = refl
 
--- what is made into a leaf has no children
-value_leaf : {X : Type 0} (make : X → Leaf) → (read : Read Reason X) →
-    IsLeafRead (as_leaf make read)
-value_leaf make (Ok x) = tt
-value_leaf make (Err e) = tt
-
--- a boolean that is read has no children
-bool_leaf : (b : List ℕ) → IsLeafRead (bool_value_at b)
-bool_leaf [] = tt
-bool_leaf (zero ∷ b) = tt
-bool_leaf (suc zero ∷ b) = tt
-bool_leaf (suc (suc x) ∷ b) = tt
-
--- a character that is judged to be a scalar value has no children
-scalar_leaf : (at rest : List ℕ) (n : ℕ) (t : Bool) →
-    IsLeafRead (cond t (Ok (tree.leaf (tree.char n), rest)) (Err (basic scale.BadChar, at)))
-scalar_leaf at rest n true = tt
-scalar_leaf at rest n false = tt
-
--- a character that is read has no children
-char_leaf : (at : List ℕ) (read : Read Reason (List ℕ)) → IsLeafRead (char_from at read)
-char_leaf at (Ok x) = scalar_leaf at x.1 (number x.0) (is_scalar (number x.0))
-char_leaf at (Err e) = tt
+-- a leaf that is read as a value has no children
+as_leaf_reads : (read : Read Reason Leaf) → IsLeafRead (as_leaf read)
+as_leaf_reads (Ok x) = tt
+as_leaf_reads (Err e) = tt
 
 -- what is read of a value without parts is a leaf
 pub reads_leaf : (p : Plain) (b : List ℕ) → IsLeafRead (leaf_at p b)
-reads_leaf layout.empty b = tt
-reads_leaf layout.bool b = (bool_leaf b)
-reads_leaf layout.char b = (char_leaf b (bytes_at 4 b))
-reads_leaf (layout.run k) b = value_leaf (run_leaf k) (run_at k b)
-reads_leaf (layout.unsigned k) b = (value_leaf (λ c. tree.unsigned (number c)) (bytes_at k b))
-reads_leaf (layout.signed k) b = (value_leaf (λ c. tree.signed (signed_number c)) (bytes_at k b))
-reads_leaf layout.wide b = (value_leaf tree.wide (bytes_at 32 b))
-reads_leaf layout.counted b = (value_leaf tree.count (compact_at target.U32 b))
-reads_leaf (layout.compact m) b = (value_leaf tree.compact (compact_at m b))
+reads_leaf p b = as_leaf_reads (read_by (way_of p) b)
 
 -- a leaf is read node by node as it is read whole
 leaf_agrees : (one : ℕ → List ℕ → Reported) (t : ℕ) (b : List ℕ) (read : Read Refusal Tree) →

@@ -8,7 +8,6 @@ use Rattle.std.specs.Str.Lossy.{utf8_valid_len}
 use Rattle.std.proofs.lemmas.Bool.{cases_lt, le-ltb, lt-ltb}
 use Rattle.std.proofs.lemmas.List.{append-nil, length-take-le}
 use Rattle.scale_core.specs.Compact.{compact, target_bytes}
-use Rattle.scale_core.specs.Number.{number, signed_number, is_scalar}
 use Rattle.scale_core.specs.Read.{Read, ◌>>=◌, bytes_at, compact_at, integer_at, checked_form}
 use Rattle.scale_core.specs.Read.{form_from, form_number, is_too_long, form_len}
 use Rattle.scale_core.specs.declared.compact.Target.{Target}
@@ -26,23 +25,23 @@ use Rattle.widths_core.specs.Layouts.{Plain, Layout, layout}
 use Rattle.widths_core.specs.Layouts as layout
 use Rattle.widths_core.specs.declared.run_kind.RunKind.{RunKind}
 use Rattle.widths_core.specs.declared.run_kind.RunKind.TheVariants as kind
-use Rattle.grammar_core.specs.Tree.{Leaf, Branch, Tree, leaf, branch, char, unsigned, signed, wide}
-use Rattle.grammar_core.specs.Tree.{compact as compact_value, fields, arm, list, count, Trees, and}
+use Rattle.grammar_core.specs.Tree.{Leaf, Branch, Tree, leaf, branch, fields, arm, list, Trees, and}
 use Rattle.grammar_core.specs.Tree.{levels}
+use Rattle.grammar_core.specs.Ways.{Way, of_no_byte, of_width, of_compact, of_run, way_of, read_by}
+use Rattle.grammar_core.specs.Ways.{leaf_of, judged_leaf}
 use Rattle.grammar_core.specs.Grammar.{Val}
-use Rattle.grammar_core.specs.Reading.{value_at, layout_at, leaf_at, bool_value_at, char_from}
-use Rattle.grammar_core.specs.Reading.{all_at}
+use Rattle.grammar_core.specs.Reading.{value_at, layout_at, leaf_at, all_at}
 use Rattle.grammar_core.specs.Reading.{times_at, fields_after_index, arms_at, elements_at, as_leaf}
-use Rattle.grammar_core.specs.Reading.{with_children, Refusal, basic, no_such_variant, too_deep}
+use Rattle.grammar_core.specs.Reading.{with_children, Refusal, basic, too_deep}
 use Rattle.grammar_core.specs.Reading.{no_finite_value, bit_sequence, bad_compact, truncated}
 use Rattle.grammar_core.specs.Runs.{run_at, run_judged, run_leaf, run_length_at}
 use Rattle.grammar_core.proofs.Runs.{length_again, length_extends, length_takes}
 use Rattle.grammar_core.proofs.Sound.{value_takes}
 use Rattle.grammar_core.proofs.Complete.{value_again}
 use Rattle.grammar_core.proofs.Stable.{value_extends}
-use Rattle.decode_core.specs.Taken.{leaf_taken, compact_taken, run_length_taken, run_taken}
-use Rattle.decode_core.specs.Taken.{all_taken, times_taken, arm_taken, arms_taken, layout_taken}
-use Rattle.decode_core.specs.Taken.{value_taken}
+use Rattle.decode_core.specs.Taken.{leaf_taken, taken_by, compact_taken, run_length_taken}
+use Rattle.decode_core.specs.Taken.{run_taken, all_taken, times_taken, arm_taken, arms_taken}
+use Rattle.decode_core.specs.Taken.{layout_taken, value_taken}
 use Rattle.decode_core.proofs.lists.Deciding.{DecidedBy, IsStable, chain, finish, bind_chain}
 use Rattle.decode_core.proofs.lists.Deciding.{finish_decided, chain_decided, cons_decided}
 
@@ -51,11 +50,7 @@ use Rattle.decode_core.proofs.lists.Deciding.{finish_decided, chain_decided, con
 -- a reason is either that bytes are missing or another one
 pub reason_reports : (e : Reason) → (e ≡ reasons.Truncated) ⊎ (e ≢ reasons.Truncated)
 reason_reports reasons.Truncated = inl refl
-reason_reports reasons.BadBool = inr (λ e. absurd cc)
-reason_reports reasons.BadChar = inr (λ e. absurd cc)
-reason_reports reasons.BadUtf8 = inr (λ e. absurd cc)
-reason_reports reasons.CompactNotShortest = inr (λ e. absurd cc)
-reason_reports reasons.CompactTooLarge = inr (λ e. absurd cc)
+reason_reports _ = inr (λ e. absurd cc)
 
 -- a fact of what a reader takes may be weakened
 mapped : {E X : Type 0} (P Q : X → List ℕ → Type 0) (b : List ℕ) (r : Read E X) → Takes P b r →
@@ -184,11 +179,7 @@ compact_decided : (m : Target) (b : List ℕ) →
     DecidedBy reasons.Truncated (compact_at m) b (compact_taken m b) (compact_at m b)
 unfolding compact_at
 compact_decided target.Unit b = tt
-compact_decided target.U8 b = integer_decided target.U8 b
-compact_decided target.U16 b = integer_decided target.U16 b
-compact_decided target.U32 b = integer_decided target.U32 b
-compact_decided target.U64 b = integer_decided target.U64 b
-compact_decided target.U128 b = integer_decided target.U128 b
+compact_decided m b = integer_decided m b
 
 -- ---- runs, bools, chars
 
@@ -253,59 +244,52 @@ below_one : (b : List ℕ) (P : List ℕ → Type 0) → P [] → (j : ℕ) → 
 below_one b P h zero lt = h
 below_one b P h (suc j) lt = absurd (omega arith)
 
--- a boolean that is refused is decided by its one byte
-bool_decided : (b : List ℕ) → DecidedBy truncated bool_value_at b 1 (bool_value_at b)
-bool_decided [] = λ ne. absurd (ne refl)
-bool_decided (zero ∷ b) = tt
-bool_decided (suc zero ∷ b) = tt
-bool_decided (suc (suc x) ∷ b) =
-    λ ne. record {
-      there = omega arith;
-      front = (suc (suc x) ∷ [], refl);
-      early =
-          below_one (suc (suc x) ∷ b) (λ d. (left : List ℕ)
-          × (bool_value_at d ≡ Err (truncated, left)))
-          ([], refl);
-    }
-
-abbrev char_value_at : List ℕ → Read Refusal Tree
-char_value_at b = char_from b (bytes_at 4 b)
-
--- a character that is refused for good is decided by its four bytes
-char_decided : (b : List ℕ) → DecidedBy truncated char_value_at b 4 (char_value_at b)
-char_decided b = elim (cases_lt (length b) 4) [
-  | inl lt ↦ rw (short_bytes 4 b lt) (λ ne. absurd (ne refl))
-  | inr le ↦ rw (le-ltb (length b) 4 le) (go le (is_scalar (number (take 4 b))) refl)
+-- so many bytes that are refused for good are decided by all of them
+width_decided : (k : ℕ) (make : List ℕ → Leaf) (fault : List ℕ → Option Reason) (b : List ℕ) →
+    DecidedBy reasons.Truncated (read_by (of_width k make fault)) b k
+    (read_by (of_width k make fault) b)
+width_decided k make fault b = elim (cases_lt (length b) k) [
+  | inl lt ↦ rw (short_bytes k b lt) (λ ne. absurd (ne refl))
+  | inr le ↦ rw (le-ltb (length b) k le) (go le (fault (take k b)) refl)
 ] where
-  go : 4 ≤ length b → (t : Bool) → is_scalar (number (take 4 b)) ≡ t →
-      DecidedBy truncated char_value_at b 4
-      (cond t (Ok (leaf (char (number (take 4 b))), drop 4 b)) (Err (basic reasons.BadChar, b)))
-  go le true e = tt
-  go le false e = λ ne. record {
+  go : k ≤ length b → (f : Option Reason) → fault (take k b) ≡ f →
+      DecidedBy reasons.Truncated (read_by (of_width k make fault)) b k
+      (judged_leaf b (make (take k b)) (drop k b) f)
+  go le None e = tt
+  go le (Some reason) e = λ ne. record {
     there = le;
-    front = (take 4 b, rw (taken_bytes 4 b le, e) refl);
+    front = (take k b, rw (taken_bytes k b le, e) refl);
     early = λ j lt. (
       [],
-      rw (short_bytes 4 (take j b)
+      rw (short_bytes k (take j b)
           (omega (arith, length-take-le j b (omega arith)))) refl,
     );
   }
+
+-- making a leaf of what was read changes the result and leaves the reason
+leaf_of_finish : {X : Type 0} (make : X → Leaf) (r : Read Reason X) →
+    leaf_of make r ≡ finish (λ e. e) make r
+leaf_of_finish make (Ok x) = refl
+leaf_of_finish make (Err e) = refl
+
+-- a leaf that is refused for good is decided by what is said to be taken, whatever its way
+way_decided : (w : Way) (b : List ℕ) →
+    DecidedBy reasons.Truncated (read_by w) b (taken_by w b) (read_by w b)
+way_decided (of_no_byte l) b = tt
+way_decided (of_width k make fault) b = width_decided k make fault b
+way_decided (of_compact m make) b =
+    finish_decided reasons.Truncated (λ e. e) make _ (compact_at m)
+    (λ c. leaf_of_finish make (compact_at m c)) b (compact_taken m b) (compact_decided m b)
+way_decided (of_run k) b =
+    finish_decided reasons.Truncated (λ e. e) (run_leaf k) _ (run_at k)
+    (λ c. leaf_of_finish (run_leaf k) (run_at k c)) b (run_taken k b) (run_decided k b)
 
 -- ---- values
 
 -- a refusal is either that bytes are missing or another one
 pub refusal_reports : (e : Refusal) → (e ≡ truncated) ⊎ (e ≢ truncated)
 refusal_reports (basic reasons.Truncated) = inl refl
-refusal_reports (basic reasons.BadBool) = inr (λ e. absurd cc)
-refusal_reports (basic reasons.BadChar) = inr (λ e. absurd cc)
-refusal_reports (basic reasons.BadUtf8) = inr (λ e. absurd cc)
-refusal_reports (basic reasons.CompactNotShortest) = inr (λ e. absurd cc)
-refusal_reports (basic reasons.CompactTooLarge) = inr (λ e. absurd cc)
-refusal_reports no_such_variant = inr (λ e. absurd cc)
-refusal_reports too_deep = inr (λ e. absurd cc)
-refusal_reports no_finite_value = inr (λ e. absurd cc)
-refusal_reports bit_sequence = inr (λ e. absurd cc)
-refusal_reports bad_compact = inr (λ e. absurd cc)
+refusal_reports _ = inr (λ e. absurd cc)
 
 -- a value is read, or refused for good, whatever follows it
 value_steady : (r : List TypeInfo) (room t : ℕ) → IsStable truncated (value_at r room t)
@@ -316,11 +300,10 @@ value_steady r room t = record {
       (value_takes r room t b) (λ v c is more. value_again r room t v c more is.0 is.1);
 }
 
--- making a leaf of what was read changes the result and carries the reason over
-pub as_leaf_finish : {X : Type 0} (make : X → Leaf) (r : Read Reason X) →
-    as_leaf make r ≡ finish basic (λ x. leaf (make x)) r
-as_leaf_finish make (Ok x) = refl
-as_leaf_finish make (Err e) = refl
+-- a leaf as a value carries the reason over
+as_leaf_finish : (r : Read Reason Leaf) → as_leaf r ≡ finish basic leaf r
+as_leaf_finish (Ok x) = refl
+as_leaf_finish (Err e) = refl
 
 -- putting a node over parts changes the result and leaves the refusal
 pub with_children_finish : (k : Branch) (r : Read Refusal Trees) →
@@ -345,13 +328,6 @@ met_decided : (g : List ℕ → Read Refusal Tree) (b : List ℕ) (reason : Refu
     g [] ≡ Err (reason, []) → DecidedBy truncated g b 0 (Err (reason, left))
 met_decided g b reason left h =
     λ ne. record { there = omega arith; front = ([], h); early = λ j lt. absurd (omega arith) }
-
--- a number of bytes is never refused for good
-bytes_decided : (k : ℕ) (b : List ℕ) → DecidedBy reasons.Truncated (bytes_at k) b 0 (bytes_at k b)
-bytes_decided k b = elim (cases_lt (length b) k) [
-  | inl lt ↦ rw (short_bytes k b lt) (λ ne. absurd (ne refl))
-  | inr le ↦ rw (le-ltb (length b) k le) tt
-]
 
 abbrev ChildDecided : List TypeInfo → ℕ → Type 0
 ChildDecided r room = (t : ℕ) (b : List ℕ) →
@@ -424,28 +400,9 @@ arms_decided r room h arms (i ∷ b) = arm_decided r room h arms i b (arm_of arm
 -- the fault of a value without parts is decided by the bytes that are taken
 plain_decided : (p : Plain) (b : List ℕ) →
     DecidedBy truncated (leaf_at p) b (leaf_taken p b) (leaf_at p b)
-plain_decided layout.empty b = tt
-plain_decided layout.bool b = bool_decided b
-plain_decided layout.char b = char_decided b
-plain_decided (layout.run k) b =
-    finish_decided reasons.Truncated basic (λ x. leaf (run_leaf k x)) _ (run_at k)
-    (λ c. as_leaf_finish (run_leaf k) (run_at k c)) b (run_taken k b) (run_decided k b)
-plain_decided (layout.unsigned k) b =
-    finish_decided reasons.Truncated basic (λ b. leaf (unsigned (number b))) _ (bytes_at k)
-    (λ c. as_leaf_finish (λ b. unsigned (number b)) (bytes_at k c)) b 0 (bytes_decided _ b)
-plain_decided (layout.signed k) b =
-    finish_decided reasons.Truncated basic (λ b. leaf (signed (signed_number b))) _ (bytes_at k)
-    (λ c. as_leaf_finish (λ b. signed (signed_number b)) (bytes_at k c)) b 0 (bytes_decided _ b)
-plain_decided layout.wide b =
-    finish_decided reasons.Truncated basic (λ x. leaf (wide x)) _ (bytes_at 32)
-    (λ c. as_leaf_finish wide (bytes_at 32 c)) b 0 (bytes_decided _ b)
-plain_decided layout.counted b =
-    finish_decided reasons.Truncated basic (λ x. leaf (count x)) _ (compact_at target.U32)
-    (λ c. as_leaf_finish count (compact_at target.U32 c)) b (compact_taken target.U32 b)
-    (compact_decided target.U32 b)
-plain_decided (layout.compact m) b =
-    finish_decided reasons.Truncated basic (λ x. leaf (compact_value x)) _ (compact_at m)
-    (λ c. as_leaf_finish compact_value (compact_at m c)) b (compact_taken m b) (compact_decided m b)
+plain_decided p b = let w = way_of p in
+    finish_decided reasons.Truncated basic leaf _ (read_by w) (λ c. as_leaf_finish (read_by w c)) b
+    (taken_by w b) (way_decided w b)
 
 -- by every layout a refusal is decided by what is taken, if that of each part is
 layout_decided : (r : List TypeInfo) (room : ℕ) → ChildDecided r room → (f : Layout) (b : List ℕ) →

@@ -95,11 +95,7 @@ kind_alone : (p : PrimitiveKind) (k : RunKind) (c : List ℕ) →
     layout.plain (layout.run k) ≡ kind_layout p → IsShortOf (kind_need p) c →
     run_length_at k c ≡ Err (scale.Truncated, [])
 kind_alone K.Str k c h s = rw (same_run k kind.Text h) (run_length_short kind.Text c tt s)
-kind_alone K.Bool k c h s = absurd cc
-kind_alone K.Char k c h s = absurd cc
-kind_alone (K.Unsigned w) k c h s = absurd cc
-kind_alone (K.Signed w) k c h s = absurd cc
-kind_alone (K.Wide x) k c h s = absurd cc
+kind_alone _ k c h s = absurd cc
 
 -- where a run's own bytes are short, its length is not there whole
 run_alone : (f : Form) (k : RunKind) (c : List ℕ) → HasForm f (layout.plain (layout.run k)) →
@@ -133,21 +129,7 @@ carried_past b (x ∷ c) k h laid =
 carried_run : (b : Built) (c : List ℕ) (lay : Layout) → IsCarry b c → next_layout b ≡ lay →
     open_run lay c ≡ 0
 carried_run b c (layout.plain (layout.run k)) h e = carried_past b c k h e
-carried_run b c layout.unknown h e = refl
-carried_run b c layout.bit_sequence h e = refl
-carried_run b c layout.bad_compact h e = refl
-carried_run b c (layout.plain layout.empty) h e = refl
-carried_run b c (layout.plain layout.bool) h e = refl
-carried_run b c (layout.plain layout.char) h e = refl
-carried_run b c (layout.plain (layout.unsigned n)) h e = refl
-carried_run b c (layout.plain (layout.signed n)) h e = refl
-carried_run b c (layout.plain layout.wide) h e = refl
-carried_run b c (layout.fields ts) h e = refl
-carried_run b c (layout.arms arms) h e = refl
-carried_run b c (layout.plain layout.counted) h e = refl
-carried_run b c (layout.sequence t) h e = refl
-carried_run b c (layout.array n t) h e = refl
-carried_run b c (layout.plain (layout.compact m)) h e = refl
+carried_run b c _ h e = refl
 
 -- a run that is open has the bytes that came after its length
 open_is : (b : Built) (c : List ℕ) (run : Option Pieces) → IsCarry b c → IsRunNext b c run →

@@ -40,31 +40,14 @@ use Rattle.decode_core.proofs.steps.NodeAdding.{all_read, next_has, node_refused
 -- each plain form has bytes of its own
 pub plain_bytes : (p : PlainForm) → HasBytes (form_of_plain p)
 plain_bytes plain.Bool = tt
-plain_bytes plain.Char = tt
-plain_bytes (plain.Unsigned w) = tt
-plain_bytes (plain.Signed w) = tt
-plain_bytes (plain.Wide s) = tt
-plain_bytes (plain.Compact m) = tt
-plain_bytes plain.Count = tt
+plain_bytes _ = tt
 
 -- no plain form is a run
 no_run : (p : PlainForm) → NoRun (form_of_plain p)
-no_run plain.Bool = tt
-no_run plain.Char = tt
 no_run (plain.Unsigned width.Bits8) = tt
-no_run (plain.Unsigned width.Bits16) = tt
-no_run (plain.Unsigned width.Bits32) = tt
-no_run (plain.Unsigned width.Bits64) = tt
-no_run (plain.Unsigned width.Bits128) = tt
 no_run (plain.Signed width.Bits8) = tt
-no_run (plain.Signed width.Bits16) = tt
-no_run (plain.Signed width.Bits32) = tt
-no_run (plain.Signed width.Bits64) = tt
-no_run (plain.Signed width.Bits128) = tt
 no_run (plain.Wide sign.Unsigned) = tt
-no_run (plain.Wide sign.Signed) = tt
-no_run (plain.Compact m) = tt
-no_run plain.Count = tt
+no_run _ = tt
 
 -- the layout of the next type is the one of the form
 plain_next_layout : (b : Built) (p : PlainForm) → next_of b.walk ≡ next.Wants (form_of_plain p) →
@@ -72,22 +55,10 @@ plain_next_layout : (b : Built) (p : PlainForm) → next_of b.walk ≡ next.Want
 plain_next_layout b p h = by p (next_has b (form_of_plain p) h) where
   by : (p : PlainForm) → HasForm (form_of_plain p) (next_layout b) →
       next_layout b ≡ layout.plain (plain_layout p)
-  by plain.Bool f = f
-  by plain.Char f = f
   by (plain.Unsigned width.Bits8) f = f
-  by (plain.Unsigned width.Bits16) f = f
-  by (plain.Unsigned width.Bits32) f = f
-  by (plain.Unsigned width.Bits64) f = f
-  by (plain.Unsigned width.Bits128) f = f
   by (plain.Signed width.Bits8) f = f
-  by (plain.Signed width.Bits16) f = f
-  by (plain.Signed width.Bits32) f = f
-  by (plain.Signed width.Bits64) f = f
-  by (plain.Signed width.Bits128) f = f
   by (plain.Wide sign.Unsigned) f = f
-  by (plain.Wide sign.Signed) f = f
-  by (plain.Compact m) f = f
-  by plain.Count f = f
+  by _ f = f
 
 -- the own bytes of a node without parts are read as its leaf
 own_plain : (q : Plain) (own : List ℕ) → own_at (layout.plain q) own ≡ leaf_own (leaf_at q own)
@@ -135,16 +106,8 @@ plain_refused b p own f reported h a r is =
 
 -- the tree of a node without children
 leaf_tree : (l : Leaf) → (t : tree.Leaf) × (leaf_head l ≡ head.leaf t)
-leaf_tree leaf.Empty = (tree.unit, refl)
-leaf_tree (leaf.Bool x) = (tree.bool x, refl)
-leaf_tree (leaf.Char x) = (tree.char x, refl)
-leaf_tree (leaf.Text s) = (tree.text s.now, refl)
-leaf_tree (leaf.Bytes s) = (tree.bytes s.now, refl)
-leaf_tree (leaf.Unsigned n) = (tree.unsigned n, refl)
-leaf_tree (leaf.Signed z) = (tree.signed z, refl)
-leaf_tree (leaf.Wide s) = (tree.wide s.now, refl)
-leaf_tree (leaf.Compact n) = (tree.compact n, refl)
-leaf_tree (leaf.Count n) = (tree.count n, refl)
+leaf_tree leaf.Empty = (_, refl)
+leaf_tree _ = (_, refl)
 
 -- own bytes that give a leaf and leave nothing are read as this leaf
 leaf_only : (read : Read Refusal Tree) (t : tree.Leaf) →

@@ -1,5 +1,5 @@
 -- What is read of a node without parts is what its layout reads: compacts and 256-bit integers.
-use Rattle.std.proofs.Common.{◌≡◌, ℕ, ◌≤◌, List, length, take, drop, Ok, refl, ap, ◌∙◌, arith}
+use Rattle.std.proofs.Common.{◌≡◌, ℕ, ◌≤◌, List, length, take, drop, None, Ok, refl, ap, ◌∙◌, arith}
 use Rattle.std.proofs.Common.{take_all}
 use Rattle.std.proofs.lemmas.Bool.{le-ltb}
 use Rattle.scale_core.specs.Read.{bytes_at, compact_at}
@@ -9,6 +9,7 @@ use Rattle.registry_core.specs.declared.kind.Signedness.TheVariants as sign
 use Rattle.grammar_core.specs.Preorder as head
 use Rattle.grammar_core.specs.Reading.{as_leaf}
 use Rattle.grammar_core.specs.Tree as tree
+use Rattle.grammar_core.specs.Ways.{leaf_by, leaf_of}
 use Rattle.node_core.specs.Leaves.{leaf_head}
 use Rattle.node_core.specs.declared.leaf.Leaf.{Leaf}
 use Rattle.node_core.specs.declared.leaf.Leaf.TheVariants as leaf
@@ -35,7 +36,7 @@ wide_reads s own l a same =
     let all : take 32 own ≡ own = take_all 32 own (omega (arith, h)) in
     rw same (
       drop 32 own,
-      ap (λ r. leaf_own (as_leaf tree.wide r))
+      ap (λ r. leaf_own (as_leaf (leaf_by own tree.wide (λ b. None) r)))
           (taken ∙ ap (λ (b : List ℕ). Ok (b, drop 32 own)) all),
     )
 
@@ -44,4 +45,4 @@ pub compact_reads : (m : Target) (own : List ℕ) (n taken : ℕ) → (taken ≤
     × (compact_at m own ≡ Ok (n, drop taken own)) →
     ReadsPlain (plain.Compact m) own (Ok (leaf.Compact n))
 compact_reads m own n taken h =
-    (drop taken own, ap (λ r. leaf_own (as_leaf tree.compact r)) h.1)
+    (drop taken own, ap (λ r. leaf_own (as_leaf (leaf_of tree.compact r))) h.1)

@@ -6,7 +6,6 @@ use Rattle.std.specs.Prelude.{◌≢◌}
 use Rattle.std.proofs.lemmas.Bool.{lt-ltb}
 use Rattle.std.proofs.lemmas.List.{length-take, take-append-le}
 use Rattle.std.proofs.Math.Seq.{take-append_seam, drop-append_seam}
-use Rattle.scale_core.specs.Number.{number, signed_number}
 use Rattle.scale_core.specs.Read.{bytes_at, form_len, form_from, is_too_long, integer_at}
 use Rattle.scale_core.specs.Read.{compact_at}
 use Rattle.scale_core.specs.declared.compact.Target.{Target}
@@ -17,15 +16,15 @@ use Rattle.registry_core.specs.declared.kind.PrimitiveKind.{PrimitiveKind}
 use Rattle.registry_core.specs.declared.kind.PrimitiveKind.TheVariants as K
 use Rattle.registry_core.proofs.Widths.{width_some}
 use Rattle.registry_core.specs.declared.type_info.TypeInfo.{TypeInfo}
-use Rattle.widths_core.specs.Layouts.{Layout, layout, kind_layout}
+use Rattle.widths_core.specs.Layouts.{Plain, Layout, layout, kind_layout}
 use Rattle.widths_core.specs.Layouts as layout
 use Rattle.widths_core.specs.declared.run_kind.RunKind.{RunKind}
 use Rattle.widths_core.specs.declared.run_kind.RunKind.TheVariants as kind
 use Rattle.grammar_core.specs.Runs.{run_at, run_form, run_length_at}
-use Rattle.grammar_core.specs.Tree as tree
+use Rattle.grammar_core.specs.Ways.{Way, of_no_byte, of_width, of_compact, of_run, way_of, read_by}
 use Rattle.value_core.specs.Built.{Built, next_layout}
 use Rattle.grammar_core.specs.Parts.{first_of, left_after}
-use Rattle.grammar_core.specs.Reading.{Refusal, truncated, too_deep, as_leaf, layout_at}
+use Rattle.grammar_core.specs.Reading.{Refusal, truncated, too_deep, layout_at}
 use Rattle.value_core.specs.Walked.{OpenPart, next_of}
 use Rattle.grammar_core.specs.declared.form.Form.{Form}
 use Rattle.grammar_core.specs.declared.form.Form.TheVariants as form
@@ -40,7 +39,7 @@ use Rattle.form_core.specs.Needs.{compact_need, kind_need, need, AreOwn, HasByte
 use Rattle.decode_core.specs.Reasons.{stop_refusal}
 use Rattle.decode_core.specs.Running.{Running, held_of, state_of}
 use Rattle.decode_core.specs.Turned.{WantsBytes}
-use Rattle.decode_core.specs.Reported.{leaf_own, own_at, reported, then, reported_at, rest_reported}
+use Rattle.decode_core.specs.Reported.{own_at, reported, then, reported_at, rest_reported}
 use Rattle.decode_core.proofs.lists.Left.{own_within}
 use Rattle.decode_core.proofs.steps.NodeAdding.{next_has}
 use Rattle.decode_core.proofs.lists.Owns.{own_extends}
@@ -78,34 +77,33 @@ pub compact_short : (m : Target) (b : List ℕ) → m ≢ target.Unit → IsShor
     compact_at m b ≡ Err (scale.Truncated, [])
 unfolding compact_at
 compact_short target.Unit b ne h = absurd (ne refl)
-compact_short target.U8 b ne h = integer_short target.U8 b h
-compact_short target.U16 b ne h = integer_short target.U16 b h
-compact_short target.U32 b ne h = integer_short target.U32 b h
-compact_short target.U64 b ne h = integer_short target.U64 b h
-compact_short target.U128 b ne h = integer_short target.U128 b h
+compact_short m b ne h = integer_short m b h
 
 -- bytes that are short of a number, one at least, are fewer than it
 below : (k : ℕ) (b : List ℕ) → 1 ≤ k → IsShortOf (λ first. k) b → length b < k
 below k [] some h = omega (arith, some)
 below k (first ∷ rest) some h = h
 
--- an integer with fewer bytes than its width is cut
-number_short : (make : List ℕ → tree.Leaf) (k : ℕ) (b : List ℕ) → 1 ≤ k → IsShortOf (λ first. k) b →
-    leaf_own (as_leaf make (bytes_at k b)) ≡ Err (truncated, [])
-number_short make k b some h = rw (bytes_short k b (below k b some h)) refl
+-- fewer bytes than a leaf needs
+abbrev pub IsFew : Way → List ℕ → Type 0
+IsFew (of_no_byte l) b = ⊥
+IsFew (of_width k make fault) b = length b < k
+IsFew (of_compact m make) b = compact_at m b ≡ Err (scale.Truncated, [])
+IsFew (of_run k) b = run_length_at k b ≡ Err (scale.Truncated, [])
 
--- a boolean with no byte is cut
-bool_short : (b : List ℕ) → IsShortOf (λ first. 1) b →
-    own_at (layout.plain layout.bool) b ≡ Err (truncated, [])
-unfolding own_at layout_at
-bool_short [] h = refl
-bool_short (first ∷ rest) h = absurd (omega (arith, h))
+-- a leaf with fewer bytes than it needs is cut, whatever its way
+way_short : (w : Way) (b : List ℕ) → IsFew w b → read_by w b ≡ Err (scale.Truncated, [])
+unfolding run_at
+way_short (of_no_byte l) b h = absurd h
+way_short (of_width k make fault) b h = rw (bytes_short k b h) refl
+way_short (of_compact m make) b h = rw h refl
+way_short (of_run k) b h = rw h refl
 
--- a character with fewer than four bytes is cut
-char_short : (b : List ℕ) → IsShortOf (λ first. 4) b →
-    own_at (layout.plain layout.char) b ≡ Err (truncated, [])
+-- so is a node that is such a leaf
+plain_short : (p : Plain) (b : List ℕ) → IsFew (way_of p) b →
+    own_at (layout.plain p) b ≡ Err (truncated, [])
 unfolding own_at layout_at
-char_short b h = rw (bytes_short 4 b (below 4 b (omega arith) h)) refl
+plain_short p b h = rw (way_short (way_of p) b h) refl
 
 -- the length of a run
 pub run_length_short : (k : RunKind) (b : List ℕ) → HasBytes (run_form k) →
@@ -117,21 +115,17 @@ run_length_short (kind.ByteArray n) b s h = absurd s
 -- a run with fewer bytes than its length has is cut
 pub run_short : (k : RunKind) (b : List ℕ) → HasBytes (run_form k) →
     IsShortOf (need (run_form k)) b → own_at (layout.plain (layout.run k)) b ≡ Err (truncated, [])
-unfolding own_at layout_at run_at
-run_short k b s h = rw (run_length_short k b s h) refl
+run_short k b s h = plain_short (layout.run k) b (run_length_short k b s h)
 
 -- a value of a primitive kind with fewer bytes than it needs is cut
 kind_short : (k : PrimitiveKind) (b : List ℕ) → IsShortOf (kind_need k) b →
     own_at (kind_layout k) b ≡ Err (truncated, [])
-unfolding own_at layout_at
-kind_short K.Bool b h = bool_short b h
-kind_short K.Char b h = char_short b h
+kind_short K.Bool b h = plain_short _ b (below 1 b (omega arith) h)
+kind_short K.Char b h = plain_short _ b (below 4 b (omega arith) h)
 kind_short K.Str b h = run_short kind.Text b tt h
-kind_short (K.Unsigned w) b h =
-    number_short (λ c. tree.unsigned (number c)) (width_bytes w) b (width_some w) h
-kind_short (K.Signed w) b h =
-    number_short (λ c. tree.signed (signed_number c)) (width_bytes w) b (width_some w) h
-kind_short (K.Wide s) b h = number_short tree.wide 32 b (omega arith) h
+kind_short (K.Unsigned w) b h = plain_short _ b (below (width_bytes w) b (width_some w) h)
+kind_short (K.Signed w) b h = plain_short _ b (below (width_bytes w) b (width_some w) h)
+kind_short (K.Wide s) b h = plain_short _ b (below 32 b (omega arith) h)
 
 -- a variant without the byte of its index is cut
 arms_short : (lay : Layout) (h : HasForm form.Arm lay) (b : List ℕ) → IsShortOf (λ first. 1) b →
@@ -149,14 +143,13 @@ sequence_short lay h b k = rw (h.1, compact_short target.U32 b u32_is k) refl
 -- a count with fewer bytes than it needs is cut
 count_short : (lay : Layout) (h : HasForm form.Count lay) (b : List ℕ) →
     IsShortOf (compact_need target.U32) b → own_at lay b ≡ Err (truncated, [])
-unfolding own_at layout_at
-count_short lay h b k = rw (h, compact_short target.U32 b u32_is k) refl
+count_short lay h b k = rw h (plain_short layout.counted b (compact_short target.U32 b u32_is k))
 
 -- a compact node with fewer bytes than it needs is cut, if its target is not nothing
 compact_own_short : (m : Target) (lay : Layout) → m ≢ target.Unit → HasForm (form.Compact m) lay →
     (b : List ℕ) → IsShortOf (compact_need m) b → own_at lay b ≡ Err (truncated, [])
-unfolding own_at layout_at
-compact_own_short m lay ne h b k = rw (h, compact_short m b ne k) refl
+compact_own_short m lay ne h b k =
+    rw h (plain_short (layout.compact m) b (compact_short m b ne k))
 
 -- the next node's own bytes are not all there
 pub own_short : (b : Built) (f : Form) (x : List ℕ) → next_of b.walk ≡ next.Wants f → HasBytes f →
@@ -319,9 +312,7 @@ stop_reports b reported_reason h x =
 -- no reason to stop is that bytes are missing
 pub no_cut : (reported_reason : StopReason) → is_cut (stop_refusal reported_reason) ≡ false
 no_cut stop.TooDeep = refl
-no_cut stop.NoFiniteValue = refl
-no_cut stop.BitSequence = refl
-no_cut stop.BadCompact = refl
+no_cut _ = refl
 
 -- where the walk stops, the state refuses, and no byte decides that
 pub stop_refuses : (b : Built) (reported_reason : StopReason) →

@@ -18,6 +18,7 @@ use Rattle.widths_core.specs.declared.run_kind.RunKind.{RunKind}
 use Rattle.widths_core.specs.declared.run_kind.RunKind.TheVariants as kind
 use Rattle.grammar_core.specs.Preorder as head
 use Rattle.grammar_core.specs.Reading.{basic, truncated, as_leaf, layout_at}
+use Rattle.grammar_core.specs.Ways.{leaf_of}
 use Rattle.grammar_core.specs.Runs.{run_at, run_form, run_front, run_judged, run_leaf}
 use Rattle.grammar_core.specs.Runs.{run_length_at}
 use Rattle.grammar_core.specs.declared.form.Form.TheVariants as form
@@ -65,7 +66,7 @@ pub run_missing : (k : RunKind) (n : ℕ) (bytes : List ℕ) → IsLength k n �
     own_at (layout.plain (layout.run k)) (run_front k n ++ bytes) ≡ Err (truncated, [])
 unfolding own_at layout_at
 run_missing k n bytes h few =
-    ap (λ r. leaf_own (as_leaf (run_leaf k) r))
+    ap (λ r. leaf_own (as_leaf (leaf_of (run_leaf k) r)))
     (run_after k n bytes (Err (scale.Truncated, [])) h (bytes_few n bytes few))
 
 -- nothing is wrong with its bytes
@@ -108,7 +109,7 @@ pub run_whole : (k : RunKind) (n : ℕ) (bytes : List ℕ) → IsLength k n → 
     ≡ Ok ((head.leaf (run_leaf k bytes), None), [])
 unfolding own_at layout_at
 run_whole k n bytes h all good =
-    ap (λ r. leaf_own (as_leaf (run_leaf k) r))
+    ap (λ r. leaf_own (as_leaf (leaf_of (run_leaf k) r)))
     (run_after k n bytes (Ok (bytes, [])) h (bytes_whole n bytes all)
     ∙ judged_well k bytes bytes good)
 
@@ -119,7 +120,7 @@ pub run_bad : (k : RunKind) (n : ℕ) (bytes : List ℕ) (valid : ℕ) → IsLen
     ≡ Err (basic scale.BadUtf8, drop valid bytes)
 unfolding own_at layout_at
 run_bad k n bytes valid h all bad =
-    ap (λ r. leaf_own (as_leaf (run_leaf k) r))
+    ap (λ r. leaf_own (as_leaf (leaf_of (run_leaf k) r)))
     (run_after k n bytes (Ok (bytes, [])) h (bytes_whole n bytes all) ∙ bad.judged bytes)
 
 -- a length that has bytes has a node's first

@@ -1,12 +1,11 @@
 -- As many bytes as a node needs are its own, and none is left over; or they are enough to refuse
 -- it.
-use Rattle.std.proofs.Common.{◌≡◌, ℕ, zero, suc, ◌^◌, Bool, true, false, cond, List, [], ◌∷◌}
+use Rattle.std.proofs.Common.{◌≡◌, ℕ, ◌^◌, Bool, true, false, cond, List, [], ◌∷◌}
 use Rattle.std.proofs.Common.{length, Option, Some, None, Ok, Err, refl, arith}
 use Rattle.std.specs.Prelude.{◌≢◌, nat_lt, not}
 use Rattle.std.proofs.lemmas.Bool.{le-ltb}
 use Rattle.std.proofs.lemmas.List.{take_all, drop_all}
 use Rattle.std.specs.Str.{bytes_eq}
-use Rattle.scale_core.specs.Number.{number, signed_number, is_scalar}
 use Rattle.scale_core.specs.Compact.{compact, target_bytes}
 use Rattle.scale_core.specs.Read.{Read, bytes_at, form_len, form_number, form_from, checked_form}
 use Rattle.scale_core.specs.Read.{is_too_long, integer_at, compact_at}
@@ -15,20 +14,23 @@ use Rattle.scale_core.specs.declared.compact.Target.TheVariants as target
 use Rattle.scale_core.specs.declared.fault.Reason.{Reason}
 use Rattle.scale_core.specs.declared.fault.Reason.TheVariants as scale
 use Rattle.registry_core.specs.declared.definition.Arm.{Arm}
-use Rattle.registry_core.specs.Kinds.{kind_of, width_bytes}
+use Rattle.registry_core.specs.Kinds.{kind_of}
 use Rattle.registry_core.specs.declared.kind.PrimitiveKind.{PrimitiveKind}
 use Rattle.registry_core.specs.declared.kind.PrimitiveKind.TheVariants as K
 use Rattle.widths_core.specs.Arms.{arm_of}
-use Rattle.widths_core.specs.Layouts.{Layout, kind_layout}
-use Rattle.grammar_core.specs.Tree.{Leaf, Tree}
-use Rattle.grammar_core.specs.Tree as tree
-use Rattle.grammar_core.specs.Reading.{layout_at, bool_value_at, char_from, as_leaf, Refusal, basic}
+use Rattle.widths_core.specs.Layouts.{Plain, Layout, kind_layout}
+use Rattle.widths_core.specs.Layouts as layout
+use Rattle.grammar_core.specs.Tree.{Leaf}
+use Rattle.grammar_core.specs.Reading.{layout_at, as_leaf, Refusal, basic}
+use Rattle.grammar_core.specs.Ways.{Way, of_no_byte, of_width, of_compact, of_run, way_of, read_by}
+use Rattle.grammar_core.specs.Ways.{leaf_of, leaf_by, judged_leaf}
 use Rattle.grammar_core.specs.declared.form.Form.{Form}
 use Rattle.grammar_core.specs.declared.form.Form.TheVariants as form
 use Rattle.value_core.proofs.Forms.{HasForm}
 use Rattle.decode_core.specs.Machine.{is_cut}
 use Rattle.form_core.specs.Needs.{compact_need, kind_need, AreOwn, HasBytes, IsNoText}
 use Rattle.decode_core.specs.Reported.{leaf_own, arm_own, arms_own, length_own, own_at}
+use Rattle.decode_core.proofs.lists.ByFault.{IsJudged, Judges, judges}
 
 -- nothing is left, or the refusal does not wait for more bytes
 abbrev pub IsTakenWhole : {X : Type 0} → Read Refusal X → Type 0
@@ -75,52 +77,56 @@ pub compact_settled : (m : Target) (first : ℕ) (rest : List ℕ) → m ≢ tar
     length (first ∷ rest) ≡ compact_need m first → IsDefinite (compact_at m (first ∷ rest))
 unfolding compact_at
 compact_settled target.Unit first rest ne h = absurd (ne refl)
-compact_settled target.U8 first rest ne h = integer_settled target.U8 first rest h
-compact_settled target.U16 first rest ne h = integer_settled target.U16 first rest h
-compact_settled target.U32 first rest ne h = integer_settled target.U32 first rest h
-compact_settled target.U64 first rest ne h = integer_settled target.U64 first rest h
-compact_settled target.U128 first rest ne h = integer_settled target.U128 first rest h
+compact_settled m first rest ne h = integer_settled m first rest h
 
 -- a reason other than that bytes are missing does not wait for more
 pub basic_whole : (e : Reason) → e ≢ scale.Truncated → is_cut (basic e) ≡ false
 basic_whole scale.Truncated h = absurd (h refl)
-basic_whole scale.BadBool h = refl
-basic_whole scale.BadChar h = refl
-basic_whole scale.BadUtf8 h = refl
-basic_whole scale.CompactNotShortest h = refl
-basic_whole scale.CompactTooLarge h = refl
+basic_whole _ h = refl
 
 -- a leaf of what leaves nothing leaves nothing, and a refusal for good stays one
-value_whole : {X : Type 0} (make : X → Leaf) (read : Read Reason X) → IsDefinite read →
-    IsTakenWhole (leaf_own (as_leaf make read))
-value_whole make (Ok x) h = h
-value_whole make (Err e) h = basic_whole e.0 h
+leaf_of_settled : {X : Type 0} (make : X → Leaf) (read : Read Reason X) → IsDefinite read →
+    IsDefinite (leaf_of make read)
+leaf_of_settled make (Ok x) h = h
+leaf_of_settled make (Err e) h = h
+
+-- so many bytes that are there leave nothing, or are refused for good
+width_settled : (k : ℕ) (make : List ℕ → Leaf) (fault : List ℕ → Option Reason) (b : List ℕ) →
+    IsJudged k (fault b) → length b ≡ k → IsDefinite (leaf_by b make fault (bytes_at k b))
+width_settled k make fault b h len = rw (bytes_whole k b len) (by (fault b) h) where
+  by : (f : Option Reason) → IsJudged k f → IsDefinite (judged_leaf b (make b) [] f)
+  by None j = refl
+  by (Some e) j = j.0
+
+-- just the bytes that a leaf needs, which is no run
+abbrev pub HasWay : Way → List ℕ → Type 0
+HasWay (of_width k make fault) b = length b ≡ k
+HasWay (of_compact m make) b = IsDefinite (compact_at m b)
+HasWay _ b = ⊥
+
+-- just as many bytes as a leaf needs leave nothing, or are refused for good, whatever its way
+way_settled : (w : Way) (b : List ℕ) → Judges w b → HasWay w b → IsDefinite (read_by w b)
+way_settled (of_no_byte l) b j h = absurd h
+way_settled (of_width k make fault) b j h = width_settled k make fault b j h
+way_settled (of_compact m make) b j h = leaf_of_settled make (compact_at m b) h
+way_settled (of_run k) b j h = absurd h
+
+-- the same of a leaf as a node
+leaf_whole : (read : Read Reason Leaf) → IsDefinite read → IsTakenWhole (leaf_own (as_leaf read))
+leaf_whole (Ok x) h = h
+leaf_whole (Err e) h = basic_whole e.0 h
+
+-- the bytes that a leaf needs are enough to read or refuse it, by its kind
+plain_whole : (p : Plain) (b : List ℕ) → HasWay (way_of p) b →
+    IsTakenWhole (own_at (layout.plain p) b)
+unfolding own_at layout_at
+plain_whole p b h =
+    leaf_whole (read_by (way_of p) b) (way_settled (way_of p) b (judges p b) h)
 
 -- the same of a sequence by its length
 length_whole : (t : ℕ) (read : Read Reason ℕ) → IsDefinite read → IsTakenWhole (length_own t read)
 length_whole t (Ok n) h = h
 length_whole t (Err e) h = basic_whole e.0 h
-
--- the one byte of a boolean is enough to read or refuse it
-bool_whole : (b : List ℕ) → length b ≡ 1 → IsTakenWhole (leaf_own (bool_value_at b))
-bool_whole [] h = absurd (omega (arith, h))
-bool_whole (x ∷ y ∷ b) h = absurd (omega (arith, h))
-bool_whole (zero ∷ []) h = refl
-bool_whole (suc zero ∷ []) h = refl
-bool_whole (suc (suc x) ∷ []) h = refl
-
--- the four bytes of a character are enough to read or refuse it
-char_whole : (b : List ℕ) → length b ≡ 4 → IsTakenWhole (leaf_own (char_from b (bytes_at 4 b)))
-char_whole b h = rw (bytes_whole 4 b h) (by (is_scalar (number b))) where
-  by : (c : Bool) → IsTakenWhole
-      (leaf_own (cond c (Ok (tree.leaf (tree.char (number b)), [])) (Err (basic scale.BadChar, b))))
-  by true = refl
-  by false = refl
-
--- the bytes of an integer are enough to read it, and none is left
-number_whole : (make : List ℕ → Leaf) (k : ℕ) (b : List ℕ) → length b ≡ k →
-    IsTakenWhole (leaf_own (as_leaf make (bytes_at k b)))
-number_whole make k b h = rw (bytes_whole k b h) refl
 
 -- the one byte of an index is enough to find the arm or refuse it
 arms_whole : (arms : List Arm) (b : List ℕ) → length b ≡ 1 → IsTakenWhole (arms_own arms b)
@@ -141,15 +147,8 @@ NeedsThese f b = HasBytes f × AreOwn f b
 -- the bytes that a primitive kind needs are enough to read or refuse it, if it is no text
 kind_whole : (k : PrimitiveKind) (b : List ℕ) (first : ℕ) → IsNoText k →
     length b ≡ kind_need k first → IsTakenWhole (own_at (kind_layout k) b)
-unfolding own_at layout_at
-kind_whole K.Bool b first n h = bool_whole b h
-kind_whole K.Char b first n h = char_whole b h
 kind_whole K.Str b first n h = absurd n
-kind_whole (K.Unsigned w) b first n h =
-    number_whole (λ c. tree.unsigned (number c)) (width_bytes w) b h
-kind_whole (K.Signed w) b first n h =
-    number_whole (λ c. tree.signed (signed_number c)) (width_bytes w) b h
-kind_whole (K.Wide s) b first n h = number_whole tree.wide 32 b h
+kind_whole _ b first n h = plain_whole _ b h
 
 -- the target of 32 bits is not nothing
 pub u32_is : target.U32 ≢ target.Unit
@@ -163,11 +162,11 @@ settled_at m b ne first rest is len = rw is (compact_settled m first rest ne (rw
 -- the bytes that a form needs are enough to read or refuse the node, and none is left
 pub form_whole : (f : Form) (lay : Layout) (b : List ℕ) → HasForm f lay → NeedsThese f b →
     IsTakenWhole (own_at lay b)
-unfolding own_at layout_at
+unfolding own_at
 form_whole form.Empty lay b h k = absurd k.0
 form_whole (form.Primitive p) lay b h k = rw h (kind_whole (kind_of p) b k.1.0 k.0 k.1.3)
 form_whole (form.Compact m) lay b h k =
-    rw h (value_whole tree.compact (compact_at m b) (settled_at m b k.0 k.1.0 k.1.1 k.1.2 k.1.3))
+    rw h (plain_whole (layout.compact m) b (settled_at m b k.0 k.1.0 k.1.1 k.1.2 k.1.3))
 form_whole form.Fields lay b h k = absurd k.0
 form_whole form.Arm lay b h k = rw h.1 (arms_whole h.0 b k.1.3)
 form_whole (form.Array n) lay b h k = absurd k.0
@@ -177,5 +176,5 @@ form_whole form.Sequence lay b h k =
     rw h.1 (length_whole h.0 (compact_at target.U32 b)
     (settled_at target.U32 b u32_is k.1.0 k.1.1 k.1.2 k.1.3))
 form_whole form.Count lay b h k =
-    rw h (value_whole tree.count (compact_at target.U32 b)
+    rw h (plain_whole layout.counted b
     (settled_at target.U32 b u32_is k.1.0 k.1.1 k.1.2 k.1.3))

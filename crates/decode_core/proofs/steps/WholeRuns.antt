@@ -15,6 +15,7 @@ use Rattle.widths_core.specs.Layouts.{Layout}
 use Rattle.widths_core.specs.declared.run_kind.RunKind.{RunKind}
 use Rattle.widths_core.specs.declared.run_kind.RunKind.TheVariants as kind
 use Rattle.grammar_core.specs.Reading.{as_leaf, layout_at}
+use Rattle.grammar_core.specs.Ways.{leaf_of}
 use Rattle.grammar_core.specs.Runs.{IsRunLength, SpellsRun, run_at, run_form, run_leaf}
 use Rattle.grammar_core.specs.declared.form.Next.TheVariants as next
 use Rattle.grammar_core.proofs.Runs.{run_again, run_takes, run_text}
@@ -153,7 +154,7 @@ whole_read k b piece l count wants h =
     let read : run_at k own ≡ Ok (h.bytes, []) = ap (run_at k) (sym (append-nil own))
     ∙ run_again k h.bytes own [] (run_spelled k piece l count h) in
     ap (λ (f : Layout). own_at f own) (next_run b k wants)
-    ∙ ap (λ r. leaf_own (as_leaf (run_leaf k) r)) read
+    ∙ ap (λ r. leaf_own (as_leaf (leaf_of (run_leaf k) r))) read
     ∙ ap (λ x. Ok ((x, None), [])) (sym h.head)
 
 -- to add it is to add a node by these bytes

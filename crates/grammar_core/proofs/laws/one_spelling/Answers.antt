@@ -1,4 +1,4 @@
-use Rattle.grammar_core.proofs.OneSpelling as law
+use Rattle.grammar_core.proofs.Spelled as law
 use Rattle.grammar_core.proofs.laws.one_spelling.Goals as goal
 
 pub returns : goal.returns
