@@ -105,9 +105,9 @@ record Live (p : Arm → Bool) (arms : List Arm) (seen : List ℕ) (j : ℕ) : T
   pub byte : arm.index < 256
 
 -- a live arm is live also where an arm of another index stands in front of the list
-behind : (p : Arm → Bool) (x : Arm) (arms : List Arm) (seen : List ℕ) (j : ℕ)
+live_after_another : (p : Arm → Bool) (x : Arm) (arms : List Arm) (seen : List ℕ) (j : ℕ)
     (l : Live p arms seen (j + 1)) → (x.index == l.arm.index) ≡ false → Live p (x ∷ arms) seen j
-behind p x arms seen j l e = record {
+live_after_another p x arms seen j l e = record {
   arm = l.arm;
   position = l.position;
   holds = l.holds;
@@ -135,13 +135,13 @@ live p (x ∷ arms) seen j fits e =
     seen_before g l = elim (bool_cases (x.index == l.arm.index)) [
       | inl same ↦ let yes : list_any (λ s. s == l.arm.index) seen ≡ true =
           rw (← eqb-true x.index l.arm.index same) g in let both = sym yes ∙ l.new in absurd cc
-      | inr ne ↦ behind p x arms seen j l ne
+      | inr ne ↦ live_after_another p x arms seen j l ne
     ]
 
     fresh : Live p arms (x.index ∷ seen) (j + 1) → Live p (x ∷ arms) seen j
     fresh l = let parts = or_false (x.index == l.arm.index) (list_any (λ s. s == l.arm.index) seen)
         l.new in
-        behind p x arms seen j (record {
+        live_after_another p x arms seen j (record {
           arm = l.arm;
           position = l.position;
           holds = l.holds;

@@ -35,14 +35,14 @@ Inside Q b (Ok x) = IsAfter b x.1
 Inside Q b (Err e) = IsAfter b e.1 × Q e.0 e.1
 
 -- what is within the bytes after a front is within all of them
-pub behind : (b c a left : List ℕ) → b ≡ c ++ a → IsAfter a left → IsAfter b left
-behind b c a left e h = (c ++ h.0, rw (e, h.1) (sym (append_assoc c h.0 left)))
+pub is_after_all : (b c a left : List ℕ) → b ≡ c ++ a → IsAfter a left → IsAfter b left
+is_after_all b c a left e h = (c ++ h.0, rw (e, h.1) (sym (append_assoc c h.0 left)))
 
 -- where a fault stands within the bytes after a front, it stands within all of them
 pub after : {E X : Type 0} (Q : E → List ℕ → Type 0) (b c a : List ℕ) (r : Read E X) → b ≡ c ++ a →
     Inside Q a r → Inside Q b r
-after Q b c a (Ok x) e h = behind b c a x.1 e h
-after Q b c a (Err f) e h = (behind b c a f.1 e h.0, h.1)
+after Q b c a (Ok x) e h = is_after_all b c a x.1 e h
+after Q b c a (Err f) e h = (is_after_all b c a f.1 e h.0, h.1)
 
 -- where a fault stands within the bytes after the first, it stands within all of them
 pub after_byte : {E X : Type 0} (Q : E → List ℕ → Type 0) (byte : ℕ) (a : List ℕ) (r : Read E X) →

@@ -77,10 +77,10 @@ class_stable r t d e =
 -- ---- targets
 
 -- where a type leads through another, a target of the first is one of the other
-behind : (r : List TypeInfo) (t u : ℕ) (m : Target) → leads r t ≡ through u → HasTarget r t m →
-    HasTarget r u m
-behind r t u m e (here f) = let no = sym e ∙ f in absurd cc
-behind r t u m e (there {u = v} f h) = let both : through v ≡ through u = sym f ∙ e in
+led_to : (r : List TypeInfo) (t u : ℕ) (m : Target) → leads r t ≡ through u →
+    HasTarget r t m → HasTarget r u m
+led_to r t u m e (here f) = let no = sym e ∙ f in absurd cc
+led_to r t u m e (there {u = v} f h) = let both : through v ≡ through u = sym f ∙ e in
     let same : v ≡ u = cc in subst (λ (w : ℕ). HasTarget r w m) same h
 
 -- a type that leads nowhere has no target
@@ -104,7 +104,7 @@ target_by r t nowhere e = no_target r t (λ m. none_there r t m e)
 target_by r t (through u) e = go (target_of r u) refl where
   go : (o : Option Target) → target_of r u ≡ o → target_of r t ≡ target_of r u
   go (Some m) f = (targets_are_found r t m).0 (there e ((targets_are_found r u m).1 f)) ∙ sym f
-  go None f = no_target r t (λ m h. let is = (targets_are_found r u m).0 (behind r t u m e h) in
+  go None f = no_target r t (λ m h. let is = (targets_are_found r u m).0 (led_to r t u m e h) in
       let no = sym f ∙ is in cc) ∙ sym f
 
 -- the target of a type follows from those of other types by its definition
