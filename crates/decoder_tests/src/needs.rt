@@ -1,6 +1,6 @@
 //! How many bytes a node has of its own, by its form and the first of them.
 
-use form_core::{BareForm, NodeForm, need, node_form};
+use form_core::{BareForm, Carry, NodeForm, few_need, need, node_form};
 use registry_core::Primitive;
 use scale_core::Target;
 use std::process::Abort;
@@ -34,6 +34,7 @@ fn check_row(rt: &impl Abort, row: &Row) -> Result<(), Fail> {
         return Err(name.into());
     };
     assert_eq!(rt; need(own, first), bytes, "{name}");
+    assert_eq!(rt; few_need(form, first), Some(bytes), "{name}");
     Ok(())
 }
 
@@ -55,4 +56,19 @@ fn other_forms_have_no_bytes_that_are_carried(rt: HostRuntime) {
         )
     );
     assert!(rt; matches!(node_form(Form::ByteArray(3)), NodeForm::ByteArray(3)));
+    assert_eq!(rt; few_need(Form::Fields, 0), None);
+    assert_eq!(rt; few_need(Form::ByteArray(3), 0), None);
+}
+
+#[test]
+fn a_carry_takes_what_is_wanted_in_the_order_in_which_it_comes(rt: HostRuntime) {
+    let mut carry = Carry::new();
+    assert_eq!(rt; carry.first_with(&[7, 8]), 7);
+    assert_eq!(rt; carry.fill(4, &[1, 2]), 2);
+    assert_eq!(rt; carry.first_with(&[7]), 1);
+    assert_eq!(rt; carry.fill(4, &[3]), 1);
+    assert_eq!(rt; carry.fill(4, &[4, 5]), 1);
+    assert_eq!(rt; carry.as_slice(), [1, 2, 3, 4].as_slice());
+    carry.clear();
+    assert!(rt; carry.as_slice().is_empty());
 }

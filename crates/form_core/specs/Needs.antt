@@ -1,6 +1,6 @@
 -- How many bytes a node has of its own, or how many decide that there is none, by its form and its
 -- first byte.
-use Rattle.std.specs.Prelude.{◌≡◌, ℕ, List, ◌∷◌, length, if◌then◌else◌}
+use Rattle.std.specs.Prelude.{◌≡◌, ℕ, List, ◌∷◌, length, if◌then◌else◌, Option, Some, None}
 use Rattle.scale_core.specs.Read.{is_too_long, form_len}
 use Rattle.scale_core.specs.declared.compact.Target.{Target}
 use Rattle.scale_core.specs.declared.compact.Target.TheVariants as target
@@ -39,6 +39,14 @@ need (form.ByteArray n) first = n
 need form.Sequence first = compact_need target.U32 first
 need form.Bytes first = compact_need target.U32 first
 need form.Count first = compact_need target.U32 first
+
+-- the same of a node that has few bytes of its own
+abbrev pub few_need : Form → ℕ → Option ℕ
+few_need form.Empty first = None
+few_need form.Fields first = None
+few_need (form.Array n) first = None
+few_need (form.ByteArray n) first = None
+few_need f first = Some (need f first)
 
 -- the forms of nodes that have a few bytes of their own, which are carried where a piece cuts them
 abbrev pub HasBytes : Form → Type 0

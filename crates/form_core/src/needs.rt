@@ -2,7 +2,7 @@
 
 ghost use Rattle.std.specs.Prelude.{◌≡◌, ◌≤◌, IfSome};
 ghost use Rattle.form_core.specs.NodeForms.{form_of_bytes, form_of_plain};
-ghost use Rattle.form_core.specs.Needs.{HasBytes, compact_need, need};
+ghost use Rattle.form_core.specs.Needs.{HasBytes, compact_need, few_need, need};
 
 use crate::forms::{BytesForm, NodeForm, PlainForm, node_form};
 use grammar_core::Form;
@@ -63,11 +63,13 @@ pub fn need(form: BytesForm, first: u8) -> usize
     }
 }
 
-/// How many bytes a node of this form has of its own, by the first of them, where they are few. The integers are named, as
-/// one look tells how many these have.
+/// How many bytes a node of this form has of its own, or how many decide that it is refused, by the first of them: 1 to
+/// 32, and `None` of a node that has no bytes of its own or is an array of u8. The integers are named, as one look tells how
+/// many these have.
 #[inline(always)]
 pub fn few_need(form: Form, first: u8) -> Option<usize>
-    ensures { IfSome result (λ len. HasBytes form × (len ≡ need form first) × (len ≤ 32)) }
+    ensures exact { result ≡ few_need form first }
+    ensures few { IfSome result (λ len. HasBytes form × (len ≡ need form first) × (len ≤ 32)) }
 {
     match form {
         Form::Primitive(Primitive::U8) => Some(1),
