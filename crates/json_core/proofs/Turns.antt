@@ -21,7 +21,7 @@ use Rattle.json_core.proofs.Ordered.{IsNamedAt, positions_count}
 
 -- an object with one member is printed by its begin, its key, the value and its end in turn
 pub one_member : (old : Text) (ts : List Token) (k : List ℕ) →
-    prints (prints (prints (prints old (begin_object ∷ [])) (key k ∷ [])) ts) (end_object ∷ [])
+    prints (prints (prints old (begin_object ∷ key k ∷ [])) ts) (end_object ∷ [])
     ≡ prints old (begin_object ∷ key k ∷ (ts ++ end_object ∷ []))
 one_member old ts k = simp prints_again
 
@@ -175,10 +175,10 @@ array_whole old begun last new all begins reported ends =
 -- ---- a count
 
 -- a count is printed as an object of one number, token by token
-pub count_whole : (old begun named said new : Text) (k : List ℕ) (n : List ℕ) →
-    begun ≡ prints old (begin_object ∷ []) → named ≡ prints begun (key k ∷ []) →
-    said ≡ prints named (number n ∷ []) → new ≡ prints said (end_object ∷ []) →
+pub count_whole : (old begun said new : Text) (k : List ℕ) (n : List ℕ) →
+    begun ≡ prints old (begin_object ∷ key k ∷ []) → said ≡ prints begun (number n ∷ []) →
+    new ≡ prints said (end_object ∷ []) →
     new ≡ prints old (begin_object ∷ key k ∷ number n ∷ end_object ∷ [])
-count_whole old begun named said new k n e f g h = h
-    ∙ ap (λ w. prints w (end_object ∷ [])) (g ∙ ap (λ w. prints w (number n ∷ []))
-    (f ∙ ap (λ w. prints w (key k ∷ [])) e)) ∙ one_member old (number n ∷ []) k
+count_whole old begun said new k n e f g = g
+    ∙ ap (λ w. prints w (end_object ∷ [])) (f ∙ ap (λ w. prints w (number n ∷ [])) e)
+    ∙ one_member old (number n ∷ []) k

@@ -1,12 +1,13 @@
 //! The names of fields, and the order of their bytes.
 
-ghost use Rattle.std.specs.Prelude.{◌≡◌, ◌<◌, ◌^◌, ◌↔◌, [], Some, length, option_map, IfOk};
+ghost use Rattle.std.specs.Prelude.{◌≡◌, ◌<◌, ◌≤◌, ◌^◌, ◌↔◌, [], Some, length, option_map, IfOk};
 ghost use Rattle.std.specs.Prelude.{IsSome, IsTrue};
 ghost use Rattle.std.specs.List.{range_with_len};
 ghost use Rattle.std.specs.Bool.{OnTrue};
-ghost use Rattle.json_core.specs.Ordered.{ArePlain, key_order, is_there, place_among};
+ghost use Rattle.json_core.specs.Ordered.{ArePlain, is_there, place_among};
 ghost use Rattle.json_core.specs.Ordered.{lent_entries, order_from, positions_of};
 
+use arrayvec::ArrayVec;
 use registry_core::Field;
 use std::alloc::{AllocError, Global};
 use std::cmp::Ordering;
@@ -50,35 +51,32 @@ fn place_among(names: &[(&str, u32)], name: &str) -> usize
     place
 }
 
-/// The positions of few fields in the order of their names' bytes, where each has a name and all names differ. So many
-/// names are put into a list, each at its place.
-fn order_of_few(alloc: Global, fields: &[Field]) -> Result<Option<Vec<u32>>, AllocError>
-    requires { length fields.now < 2 ^ 32 }
-    ensures { IfOk result (λ found. option_map (λ v. v.items) found
-        ≡ option_map positions_of (order_from fields.now 0 [])) }
+/// The positions of few fields in the order of their names' bytes, where each has a name and all names differ. The names
+/// are put into a list, each at its place, and no memory is taken.
+pub(crate) fn order_of_few(fields: &[Field]) -> Option<ArrayVec<u32, FEW>>
+    requires { length fields.now ≤ FEW }
+    ensures { option_map (λ v. v.items) result
+        ≡ option_map positions_of (order_from fields.now 0 []) }
 {
-    let mut names = Vec::with_capacity(alloc, fields.len())?;
+    let mut names: ArrayVec<(&str, u32), FEW> = ArrayVec::new();
     'fields: for (position, field) in fields.iter().enumerate() {
-        let Some(name) = field.name.as_ref() else {
-            return Ok(None);
-        };
-        let name = name.as_str();
-        if is_among(&names, name) {
-            return Ok(None);
+        let name = field.name.as_ref()?.as_str();
+        if is_among(names.as_slice(), name) {
+            return None;
         }
-        let place = place_among(&names, name);
-        names.insert(place, (name, position as u32))?;
+        let place = place_among(names.as_slice(), name);
+        names.insert(place, (name, position as u32));
     }
-    let mut order = Vec::with_capacity(alloc, fields.len())?;
-    'names: for (_, position) in &names {
-        order.push(*position)?;
+    let mut order = ArrayVec::new();
+    'names: for (_, position) in names.as_slice() {
+        order.push(*position);
     }
-    Ok(Some(order))
+    Some(order)
 }
 
 /// The positions of fields in the order of their names' bytes, where each has a name and all names differ. The names
 /// are put into a map, so fields take as many look-ups as there are.
-fn order_of_many(alloc: Global, fields: &[Field]) -> Result<Option<Vec<u32>>, AllocError>
+pub(crate) fn order_of_many(alloc: Global, fields: &[Field]) -> Result<Option<Vec<u32>>, AllocError>
     requires { length fields.now < 2 ^ 32 }
     ensures { IfOk result (λ found. option_map (λ v. v.items) found
         ≡ option_map positions_of (order_from fields.now 0 [])) }
@@ -97,19 +95,6 @@ fn order_of_many(alloc: Global, fields: &[Field]) -> Result<Option<Vec<u32>>, Al
         order.push(position)?;
     }
     Ok(Some(order))
-}
-
-/// The positions of the fields in the order of their names' bytes, where there is a field, each has a name and all
-/// names differ.
-pub(crate) fn key_order(alloc: Global, fields: &[Field]) -> Result<Option<Vec<u32>>, AllocError>
-    requires { length fields.now < 2 ^ 32 }
-    ensures { IfOk result (λ found. option_map (λ v. v.items) found ≡ key_order fields.now) }
-{
-    match fields.len() {
-        0 => Ok(None),
-        1..=FEW => order_of_few(alloc, fields),
-        _ => order_of_many(alloc, fields),
-    }
 }
 
 /// Is each position its own place?

@@ -2,9 +2,9 @@
 
 ghost use Rattle.std.specs.Prelude.{◌≡◌, ◌+◌, ◌<◌, ◌^◌, ℕ, List, [], ◌++◌, Some, length};
 ghost use Rattle.std.specs.Prelude.{slice_index, IfOk, IfSome};
-ghost use Rattle.json_core.specs.Ordered.{fields_at, AreKeys, AreKeysOf, IsKnown, Grows};
+ghost use Rattle.json_core.specs.Ordered.{fields_at, key_order, AreKeys, AreKeysOf, IsKnown, Grows};
 
-use crate::names::{are_plain, counts_up, key_order};
+use crate::names::{FEW, are_plain, counts_up, order_of_few, order_of_many};
 use registry_core::Field;
 use std::alloc::{AllocError, Global};
 use std::collections::BTreeMap;
@@ -64,31 +64,54 @@ fn keys_of_few(fields: &[Field]) -> Option<Keys>
     }
 }
 
-/// How the values of the fields are shown. The order of names that are out of order is kept after the positions.
-fn find_keys(alloc: Global, fields: &[Field], positions: &mut Vec<u32>) -> Result<Known, AllocError>
-    requires { length fields.now < 2 ^ 32 }
+/// Values that are shown as an array, since a field has no name, or two have the same.
+const UNNAMED: Known = Known {
+    keys: Keys::Unnamed,
+    plain: false,
+};
+
+/// How the values of fields with this order are shown. An order of names that are out of order is kept after the positions.
+fn keep_order(
+    fields: &[Field],
+    order: &[u32],
+    positions: &mut Vec<u32>,
+) -> Result<Known, AllocError>
+    requires { key_order fields.now ≡ Some order.now }
     ensures more { (more : List ℕ) × (positions.new.items ≡ positions.old.items ++ more) }
     ensures keys { IfOk result (IsKnown positions.new.items fields.now) }
 {
-    let Some(order) = key_order(alloc, fields)? else {
-        return Ok(Known {
-            keys: Keys::Unnamed,
-            plain: false,
-        });
-    };
     let plain = are_plain(fields);
-    if counts_up(&order) {
+    if counts_up(order) {
         return Ok(Known {
             keys: Keys::InOrder,
             plain,
         });
     }
     let start = positions.len();
-    positions.extend_from_slice(&order)?;
+    positions.extend_from_slice(order)?;
     Ok(Known {
         keys: Keys::Sorted { start },
         plain,
     })
+}
+
+/// How the values of the fields are shown. The order of names that are out of order is kept after the positions.
+fn find_keys(alloc: Global, fields: &[Field], positions: &mut Vec<u32>) -> Result<Known, AllocError>
+    requires { length fields.now < 2 ^ 32 }
+    ensures more { (more : List ℕ) × (positions.new.items ≡ positions.old.items ++ more) }
+    ensures keys { IfOk result (IsKnown positions.new.items fields.now) }
+{
+    match fields.len() {
+        0 => Ok(UNNAMED),
+        1..=FEW => match order_of_few(fields) {
+            Some(order) => keep_order(fields, order.as_slice(), positions),
+            None => Ok(UNNAMED),
+        },
+        _ => match order_of_many(alloc, fields)? {
+            Some(order) => keep_order(fields, order.as_slice(), positions),
+            None => Ok(UNNAMED),
+        },
+    }
 }
 
 /// The orders of keys that are known, four bytes a field and a small entry for each place that was met.

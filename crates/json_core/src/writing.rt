@@ -77,8 +77,7 @@ fn write_count(alloc: Global, out: &mut Output, count: u32) -> Result<(), AllocE
     ensures { AddsValue result out.old out.new
         (object (member (codes "count") (number (unsigned count)) no_members)) }
 {
-    out.begin_object()?;
-    out.key(alloc, "count", true)?;
+    out.begin_member(alloc, "count", true)?;
     out.unsigned(u64::from(count))?;
     out.end_object()
 }
@@ -273,8 +272,7 @@ pub(crate) fn write_node(
         What::Arm { position: arm } => {
             let place = Place { ty: ty.0, arm };
             let arm = defined_arm(checked, ty, arm).unwrap();
-            out.begin_object()?;
-            out.key(alloc, arm.name.as_str(), false)?;
+            out.begin_member(alloc, arm.name.as_str(), false)?;
             write_fields(alloc, out, orders, place, arm.fields.as_slice(), node)?;
             out.end_object()
         }

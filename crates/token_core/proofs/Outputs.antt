@@ -21,7 +21,7 @@ use Rattle.json.specs.Run.{is_plain}
 use Rattle.json.proofs.Printed.Plain.{escape_on_plain}
 use Rattle.json.specs.Filled.{Placed}
 use Rattle.json.specs.Written.{PlainBetween}
-use Rattle.json.specs.Token.{Token, key, string}
+use Rattle.json.specs.Token.{Token, begin_object, key, string}
 use Rattle.json.specs.Print.{begins, ends, token_text, print_from, print, escape_byte, escape}
 use Rattle.json.proofs.Printed.Strings.{escape_byte_plain}
 use Rattle.json.proofs.Printed.Tokens.{print_from-append}
@@ -90,6 +90,15 @@ plain_string s e = ap (λ l. 34 ∷ (l ++ 34 ∷ [])) (sym e)
 pub plain_key : (s : List ℕ) → escape s ≡ s → 34 ∷ (s ++ 34 ∷ 58 ∷ []) ≡ token_text (key s)
 plain_key s e = ap (λ l. 34 ∷ (l ++ 34 ∷ 58 ∷ [])) (sym e)
     ∙ ap (λ l. 34 ∷ l) (sym (append_assoc (escape s) (34 ∷ []) (58 ∷ [])))
+
+-- an object begins with a key that needs no escape
+pub first_key : (w : Text) (n : List ℕ) → escape n ≡ n →
+    put w w.after_value (123 ∷ 34 ∷ (n ++ 34 ∷ 58 ∷ [])) false
+    ≡ prints w (begin_object ∷ key n ∷ [])
+unfolding print_from
+first_key w n e = ap (λ s. record { text = w.text ++ s; after_value = false })
+    (ap₂ (λ (a b : List ℕ). a ++ b) (sym (comma_of w.after_value))
+    (ap (λ l. 123 ∷ l) (plain_key n e ∙ sym (append-nil (token_text (key n))))))
 
 -- the first n bytes and the last n are all
 pub both_ends : (d : List ℕ) (b : Bool) (n : ℕ) → n ≤ length d → length d < n + n →

@@ -129,25 +129,26 @@ impl Output {
         Ok(())
     }
 
-    /// These characters between quotes, where none of them needs an escape; `close` has the second quote, and a key's
-    /// colon.
+    /// These characters between quotes, where none of them needs an escape; `opening` has the first quote, and the brace in
+    /// front of a first key, and `closing` the second quote, and a key's colon.
     #[inline(always)]
     fn put_plain(
         &mut self,
+        opening: &str,
         characters: &str,
-        close: &str,
+        closing: &str,
         ends_value: bool,
     ) -> Result<(), AllocError>
-        requires { length close.now ≤ 2 }
-        ensures { OnOk result (self.new
-            ≡ put self.old self.old.after_value (34 ∷ (characters.now ++ close.now)) ends_value) }
+        requires { (length opening.now ≤ 2) × (length closing.now ≤ 2) }
+        ensures { OnOk result (self.new ≡ put self.old self.old.after_value
+            (opening.now ++ (characters.now ++ closing.now)) ends_value) }
     {
-        make_room(&mut self.bytes, self.len, characters.len() + 4)?;
+        make_room(&mut self.bytes, self.len, characters.len() + 5)?;
         let buffer = self.bytes.as_mut_slice();
         let at = place_comma(buffer, self.len, self.after_value);
-        let at = place_byte(buffer, at, b'"');
+        let at = place_bytes(buffer, at, opening.as_bytes());
         let at = place_bytes(buffer, at, characters.as_bytes());
-        self.len = place_bytes(buffer, at, close.as_bytes());
+        self.len = place_bytes(buffer, at, closing.as_bytes());
         self.after_value = ends_value;
         Ok(())
     }
@@ -241,7 +242,7 @@ impl Output {
         ensures { AddsTokens result self.old self.new (string (signed_decimal n) ∷ []) }
     {
         let mut buffer = itoa::Buffer::new();
-        self.put_plain(buffer.format(n), "\"", true)
+        self.put_plain("\"", buffer.format(n), "\"", true)
     }
 
     /// A key and its colon. Where `plain` is not said, it is found out whether the name needs an escape.
@@ -251,8 +252,22 @@ impl Output {
         ensures { AddsTokens result self.old self.new (key name.now ∷ []) }
     {
         if plain || is_plain(name) {
-            return self.put_plain(name, "\":", false);
+            return self.put_plain("\"", name, "\":", false);
         }
+        self.escaped_key(alloc, name)
+    }
+
+    /// An object begins, with a key and its colon. Where `plain` is not said, it is found out whether the name needs an
+    /// escape.
+    #[inline(always)]
+    pub fn begin_member(&mut self, alloc: Global, name: &str, plain: bool) -> Result<(), AllocError>
+        requires { OnTrue plain (escape name.now ≡ name.now) }
+        ensures { AddsTokens result self.old self.new (begin_object ∷ key name.now ∷ []) }
+    {
+        if plain || is_plain(name) {
+            return self.put_plain("{\"", name, "\":", false);
+        }
+        self.begin_object()?;
         self.escaped_key(alloc, name)
     }
 
@@ -277,7 +292,7 @@ impl Output {
         ensures { AddsTokens result self.old self.new (string text.now ∷ []) }
     {
         if is_plain(text) {
-            self.put_plain(text, "\"", true)
+            self.put_plain("\"", text, "\"", true)
         } else {
             self.escaped(alloc, text)
         }

@@ -339,9 +339,9 @@ write_node-returns-in_ok-write_fields-in-Arm-clause-adds t c =
     (sym c.as_str.ensures.same) (sym c.as_slice.ensures) in
     let ts = json_tokens (outline d) in
     let said : c.write_fields-in-Arm.new.out
-    ≡ prints (prints (prints old (begin_object ∷ [])) (key n ∷ [])) ts =
-    c.in_ok-write_fields-in-Arm.ensures.adds ∙ ap (λ w. prints w ts) (c.in_ok-key-in-Arm.ensures
-    ∙ ap (λ w. prints w (key n ∷ [])) c.in_ok-begin_object-in-Arm.ensures) in
+    ≡ prints (prints old (begin_object ∷ key n ∷ [])) ts =
+    c.in_ok-write_fields-in-Arm.ensures.adds
+    ∙ ap (λ w. prints w ts) c.in_ok-begin_member-in-Arm.ensures in
     rw shows (on_ok_weaker c.end_object.result (λ e. e ∙ ap (λ w. prints w (end_object ∷ [])) said
     ∙ one_member old ts n) c.end_object.ensures)
 

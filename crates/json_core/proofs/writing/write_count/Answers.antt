@@ -6,14 +6,14 @@ use Rattle.token_core.specs.Tokens.{prints}
 use Rattle.json_core.proofs.Turns.{count_whole}
 use Rattle.json_core.proofs.writing.write_count.Goals as goal
 
-pub key-requires : goal.key-requires
+pub begin_member-requires : goal.begin_member-requires
 unfolding escape_byte
-key-requires c = refl
+begin_member-requires c = refl
 
 pub returns : goal.returns
 returns c = on_ok_weaker c.end_object.result (λ e. count_whole c.args.out.now
-    c.begin_object.new.self c.key.new.self c.unsigned.new.self c.end_object.new.self
-    (codes "count") (decimal c.args.count) c.in_ok-begin_object.ensures c.in_ok-key.ensures
+    c.begin_member.new.self c.unsigned.new.self c.end_object.new.self
+    (codes "count") (decimal c.args.count) c.in_ok-begin_member.ensures
     (c.in_ok-unsigned.ensures
-    ∙ ap (λ k. prints c.key.new.self (number (decimal k) ∷ [])) c.from.ensures) e)
+    ∙ ap (λ k. prints c.begin_member.new.self (number (decimal k) ∷ [])) c.from.ensures) e)
     c.end_object.ensures
