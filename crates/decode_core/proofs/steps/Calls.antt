@@ -65,6 +65,24 @@ whole_of b d piece at from to n last is e k =
     subst (λ (t : Whole). WholeTurnsReport b d (drop at piece) from to n t) e
     (subst (λ (l : List ℕ). WholeTurnsReport b d l from to n last) (take_rest piece at) k)
 
+-- turns on whole nodes, and what the turn after them reports, are the turns of a call
+turns_with : (b x d : Running) (piece : List ℕ) (from to n : ℕ) (left : Whole) (last : Turned)
+    (w : WholeTurnsReport b x piece from to n left) → StepReports w.before d (drop n piece) last →
+    KeepsTurns w.before d last → (is_whole b.built ≡ true →
+    (n ≡ 0) × (w.before ≡ b) × (last ≡ turned.Stopped stop.Finished)) →
+    TurnsReport b d piece from to n last
+turns_with b x d piece from to n left last w reports kept whole = record {
+  before = w.before;
+  within = w.within;
+  moves = w.moves;
+  nearer = w.nearer;
+  few = w.few;
+  sound = w.sound;
+  reports = reports;
+  kept = kept;
+  whole = whole;
+}
+
 -- where the last of such turns added a node, it went on
 pub whole_added : (b d : Running) (piece : List ℕ) (at from to n k : ℕ) (last : Whole) →
     last ≡ whole.Added k →
@@ -72,17 +90,8 @@ pub whole_added : (b d : Running) (piece : List ℕ) (at from to n k : ℕ) (las
     TurnsReport b d (drop at piece) from to n (turned.On k)
 whole_added b d piece at from to n k last e h =
     let w = whole_of b d piece at from to n last (whole.Added k) e h in
-    record {
-      before = w.before;
-      within = w.within;
-      moves = w.moves;
-      nearer = w.nearer;
-      few = w.few;
-      sound = w.sound;
-      reports = w.reports;
-      kept = tt;
-      whole = λ is. let no = (w.whole is).2 in absurd cc;
-    }
+    turns_with b d d (drop at piece) from to n (whole.Added k) (turned.On k) w w.reports tt
+    (λ is. let no = (w.whole is).2 in absurd cc)
 
 -- where it wanted memory, nothing changed
 pub whole_short : (b d : Running) (piece : List ℕ) (at from to n : ℕ) (last : Whole) →
@@ -91,17 +100,9 @@ pub whole_short : (b d : Running) (piece : List ℕ) (at from to n : ℕ) (last 
     TurnsReport b d (drop at piece) from to n turned.OutOfMemory
 whole_short b d piece at from to n last e h =
     let w = whole_of b d piece at from to n last whole.OutOfMemory e h in
-    record {
-      before = w.before;
-      within = w.within;
-      moves = w.moves;
-      nearer = w.nearer;
-      few = w.few;
-      sound = w.sound;
-      reports = w.reports.0;
-      kept = ap (λ (s : Running). s.built.turns) w.reports.1;
-      whole = λ is. let no = (w.whole is).2 in absurd cc;
-    }
+    turns_with b d d (drop at piece) from to n whole.OutOfMemory turned.OutOfMemory w w.reports.0
+    (ap (λ (s : Running). s.built.turns) w.reports.1)
+    (λ is. let no = (w.whole is).2 in absurd cc)
 
 -- where it changed nothing, a turn of another kind is in its place
 pub whole_left : (b x d : Running) (piece : List ℕ) (at from to n : ℕ) (left : Whole)
@@ -113,25 +114,17 @@ pub whole_left : (b x d : Running) (piece : List ℕ) (at from to n : ℕ) (left
 whole_left b x d piece at from to n left last e h reports kept finished =
     let w = whole_of b x piece at from to n left whole.Left e h in
     let rest : drop (at + n) piece ≡ drop n (drop at piece) = sym (drop_more piece at n) in
-    record {
-      before = w.before;
-      within = w.within;
-      moves = w.moves;
-      nearer = w.nearer;
-      few = w.few;
-      sound = w.sound;
-      reports = subst (λ (s : Running). StepReports s d (drop n (drop at piece)) last) w.reports
-          (subst (λ (l : List ℕ). StepReports x d l last) rest
-          (subst (λ (l : List ℕ). StepReports x d l last) (take_rest piece (at + n)) reports));
-      kept =
-          subst (λ (s : Running). KeepsTurns s d last) w.reports kept;
-      whole = λ is. (
-        (w.whole is).0,
-        (w.whole is).1,
-        finished (subst (λ (s : Running). is_whole s.built ≡ true)
-            (sym (w.reports ∙ (w.whole is).1)) is),
-      );
-    }
+    turns_with b x d (drop at piece) from to n whole.Left last w
+    (subst (λ (s : Running). StepReports s d (drop n (drop at piece)) last) w.reports
+    (subst (λ (l : List ℕ). StepReports x d l last) rest
+    (subst (λ (l : List ℕ). StepReports x d l last) (take_rest piece (at + n)) reports)))
+    (subst (λ (s : Running). KeepsTurns s d last) w.reports kept)
+    (λ is. (
+      (w.whole is).0,
+      (w.whole is).1,
+      finished (subst (λ (s : Running). is_whole s.built ≡ true)
+          (sym (w.reports ∙ (w.whole is).1)) is),
+    ))
 
 -- the turns so far, and those of the call before its last one
 reached : (a b c : Running) (piece : List ℕ) (at n : ℕ) → Moves a b (take at piece) →

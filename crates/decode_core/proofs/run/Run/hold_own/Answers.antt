@@ -19,7 +19,7 @@ returns g c =
     let is : carried ≡ k ++ rest = all_filled k rest carried len c.fill.result few
     c.fill.ensures.count c.fill.ensures.held in
     let short : IsCarry b carried = subst (IsCarry b) (sym is)
-    (longer_carry f b k rest len at.wants c.in-Some.ensures.0 at.closed
-    (c.first_with.result, c.first_with.ensures, c.in-Some.ensures.1) few) in
+    (longer_carry f b k rest len at.wants c.in-Some.ensures.few.0 at.closed
+    (c.first_with.result, c.first_with.ensures, c.in-Some.ensures.few.1) few) in
     subst (λ (s : Running). HoldsAll s (of_fields b carried) rest) c.self.view_is
-    (own_held f b k rest carried at.wants c.in-Some.ensures.0 at.closed is short)
+    (own_held f b k rest carried at.wants c.in-Some.ensures.few.0 at.closed is short)
