@@ -9,7 +9,7 @@ use Rattle.std.proofs.lemmas.Option.{get_or_from_slice_get}
 use Rattle.std.proofs.Math.ListN.{get_or-append, drop_of_length-le}
 use Rattle.json.specs.Token.{Token, begin_object, end_object, begin_array, end_array, key, number}
 use Rattle.json.specs.Tree.{json_tokens, items_tokens, members_tokens}
-use Rattle.serde_json.specs.Data.{Data, Items, Members, no_items, item, no_members, array, object}
+use Rattle.serde_json.specs.Data.{Data, Items, Members, no_items, item, no_members, member, array, object}
 use Rattle.serde_json.specs.Written.{outline, items_outline, members_outline}
 use Rattle.registry_core.specs.declared.definition.Field.{Field}
 use Rattle.json_core.specs.declared.orders.Keys.TheVariants as keys
@@ -171,6 +171,32 @@ pub array_whole : (old begun last new : Text) (all : Items) →
 array_whole old begun last new all begins reported ends =
     ends ∙ reported ∙ ap (λ w. prints w (items_tokens (items_outline all))) begins
     ∙ prints_again old (begin_array ∷ []) (items_tokens (items_outline all))
+
+-- ---- an arm
+
+-- where the value of an object's one member is written and the object ends, all of it is
+pub member_whole : (old begun last new : Text) (n : List ℕ) (d : Data) →
+    begun ≡ prints old (begin_object ∷ key n ∷ []) → last ≡ prints begun (json_tokens (outline d)) →
+    new ≡ prints last (end_object ∷ []) →
+    new ≡ prints old (json_tokens (outline (object (member n d no_members))))
+member_whole old begun last new n d e f g = g
+    ∙ ap (λ w. prints w (end_object ∷ []))
+    (f ∙ ap (λ w. prints w (json_tokens (outline d))) e)
+    ∙ one_member old (json_tokens (outline d)) n
+
+-- the same where the value is an array, whose items are written
+pub array_member_whole : (old begun last new : Text) (n : List ℕ) (all : Items) →
+    begun ≡ prints old (begin_object ∷ key n ∷ begin_array ∷ []) →
+    prints last (end_array ∷ []) ≡ prints begun (items_tokens (items_outline all)) →
+    new ≡ prints last (end_array ∷ end_object ∷ []) →
+    new ≡ prints old (json_tokens (outline (object (member n (array all) no_members))))
+array_member_whole old begun last new n all e f g =
+    let ts = items_tokens (items_outline all) in
+    g ∙ sym (prints_again last (end_array ∷ []) (end_object ∷ []))
+    ∙ ap (λ w. prints w (end_object ∷ [])) (f ∙ ap (λ w. prints w ts) e)
+    ∙ ap (λ w. prints w (end_object ∷ []))
+    (prints_again old (begin_object ∷ key n ∷ begin_array ∷ []) ts)
+    ∙ prints_again old (begin_object ∷ key n ∷ begin_array ∷ ts) (end_object ∷ [])
 
 -- ---- a count
 

@@ -1,18 +1,20 @@
 //! A node's JSON, written token by token.
 
-ghost use Rattle.std.specs.Prelude.{◌≡◌, ◌<◌, ◌^◌, [], ◌∷◌, Some, length, map, false, codes, IfOk};
+ghost use Rattle.std.specs.Prelude.{◌≡◌, ◌<◌, ◌^◌, [], ◌∷◌, Some, length, map, false, codes, IfOk, OnOk};
 ghost use Rattle.std.specs.Prelude.{FitsSigned, ◌⊎◌, slice_get};
 ghost use Rattle.std.specs.Int.{w64};
 ghost use Rattle.std.specs.Char.{encode_utf8};
 ghost use Rattle.std.specs.Bool.{OnTrue};
-ghost use Rattle.json.specs.Token.{string};
+ghost use Rattle.json.specs.Token.{end_array, string};
+ghost use Rattle.json.specs.Tree.{items_tokens};
 ghost use Rattle.serde_json.specs.Data.{array, object, number, unsigned, member, no_members};
 ghost use Rattle.serde_json.specs.View.{items_of};
+ghost use Rattle.serde_json.specs.Written.{items_outline};
 ghost use Rattle.node_core.specs.Shown.{children_of};
 ghost use Rattle.json_core.specs.Defined.{unsigned_by, signed_by};
 ghost use Rattle.json_core.specs.Json.{bytes_json, wide_json, json_seen, fields_json};
 ghost use Rattle.json_core.specs.Ordered.{fields_at, AreKeys, ArePlain, Grows};
-ghost use Rattle.token_core.specs.Tokens.{AddsTokens};
+ghost use Rattle.token_core.specs.Tokens.{AddsTokens, prints};
 ghost use Rattle.json_core.specs.Tokens.{AddsValue, data_at};
 ghost use Rattle.json_core.specs.declared.orders.Keys.TheVariants.{InOrder, Sorted};
 
@@ -135,6 +137,26 @@ fn write_child(
     }
 }
 
+/// The children of a node, in order, as the items of an array that began, which doesn't end.
+#[cycle(write)]
+#[inline(always)]
+fn write_each(
+    alloc: Global,
+    out: &mut Output,
+    orders: &mut Orders<'_>,
+    node: &NodeRef<'_, '_>,
+) -> Result<(), AllocError>
+    requires { orders.old.types ≡ node.now.types }
+    ensures adds { OnOk result (prints out.new (end_array ∷ []) ≡ prints out.old
+        (items_tokens (items_outline (items_of (map json_seen (children_of node.now)))))) }
+    ensures grows { Grows orders.old orders.new }
+{
+    'children: for child in node.children() {
+        write_node(alloc, out, orders, &child)?;
+    }
+    Ok(())
+}
+
 /// The children of a node as an array.
 #[cycle(write)]
 fn write_items(
@@ -149,9 +171,7 @@ fn write_items(
     ensures grows { Grows orders.old orders.new }
 {
     out.begin_array()?;
-    'children: for child in node.children() {
-        write_node(alloc, out, orders, &child)?;
-    }
+    write_each(alloc, out, orders, node)?;
     out.end_array()
 }
 
@@ -237,6 +257,46 @@ fn write_fields(
     }
 }
 
+/// The children of a node as the values of the fields of an arm, which is at a place and has this name: an object whose one
+/// key is the name.
+#[cycle(write)]
+fn write_arm(
+    alloc: Global,
+    out: &mut Output,
+    orders: &mut Orders<'_>,
+    place: Place,
+    name: &str,
+    fields: &[Field],
+    node: &NodeRef<'_, '_>,
+) -> Result<(), AllocError>
+    requires types { orders.old.types ≡ node.now.types }
+    requires fields { fields_at orders.old.types place ≡ Some fields.now }
+    requires few { length fields.now < 2 ^ 32 }
+    requires count { length fields.now ≡ length (children_of node.now) }
+    ensures adds { AddsValue result out.old out.new (object (member name.now
+        (fields_json fields.now (items_of (map json_seen (children_of node.now)))) no_members)) }
+    ensures grows { Grows orders.old orders.new }
+{
+    let Known { keys, plain } = orders.keys(alloc, place, fields)?;
+    match keys {
+        Keys::Unnamed => {
+            out.begin_array_member(alloc, name)?;
+            write_each(alloc, out, orders, node)?;
+            out.end_array_member()
+        }
+        Keys::InOrder => {
+            out.begin_member(alloc, name, false)?;
+            write_in_order(alloc, out, orders, fields, plain, node)?;
+            out.end_object()
+        }
+        Keys::Sorted { start } => {
+            out.begin_member(alloc, name, false)?;
+            write_sorted(alloc, out, orders, fields, start, plain, node)?;
+            out.end_object()
+        }
+    }
+}
+
 /// A node and all that is below it. It stands in the loops over children, so that a leaf costs no call of its own.
 #[cycle(write)]
 #[inline(always)]
@@ -272,9 +332,8 @@ pub(crate) fn write_node(
         What::Arm { position: arm } => {
             let place = Place { ty: ty.0, arm };
             let arm = defined_arm(checked, ty, arm).unwrap();
-            out.begin_member(alloc, arm.name.as_str(), false)?;
-            write_fields(alloc, out, orders, place, arm.fields.as_slice(), node)?;
-            out.end_object()
+            let (name, fields) = (arm.name.as_str(), arm.fields.as_slice());
+            write_arm(alloc, out, orders, place, name, fields, node)
         }
         What::List => write_items(alloc, out, orders, node),
         What::Count(count) => write_count(alloc, out, count),

@@ -21,7 +21,7 @@ use Rattle.json.specs.Run.{is_plain}
 use Rattle.json.proofs.Printed.Plain.{escape_on_plain}
 use Rattle.json.specs.Filled.{Placed}
 use Rattle.json.specs.Written.{PlainBetween}
-use Rattle.json.specs.Token.{Token, begin_object, key, string}
+use Rattle.json.specs.Token.{Token, begin_object, end_object, begin_array, end_array, key, string}
 use Rattle.json.specs.Print.{begins, ends, token_text, print_from, print, escape_byte, escape}
 use Rattle.json.proofs.Printed.Strings.{escape_byte_plain}
 use Rattle.json.proofs.Printed.Tokens.{print_from-append}
@@ -99,6 +99,23 @@ unfolding print_from
 first_key w n e = ap (λ s. record { text = w.text ++ s; after_value = false })
     (ap₂ (λ (a b : List ℕ). a ++ b) (sym (comma_of w.after_value))
     (ap (λ l. 123 ∷ l) (plain_key n e ∙ sym (append-nil (token_text (key n))))))
+
+-- and with an array
+pub first_array : (w : Text) (n : List ℕ) → escape n ≡ n →
+    put w w.after_value (123 ∷ 34 ∷ (n ++ 34 ∷ 58 ∷ 91 ∷ [])) false
+    ≡ prints w (begin_object ∷ key n ∷ begin_array ∷ [])
+unfolding print_from
+first_array w n e = ap (λ s. record { text = w.text ++ s; after_value = false })
+    (ap₂ (λ (a b : List ℕ). a ++ b) (sym (comma_of w.after_value))
+    (ap (λ l. 123 ∷ l) (ap (λ l. 34 ∷ l) (sym (append_assoc n (34 ∷ 58 ∷ []) (91 ∷ [])))
+    ∙ ap (λ l. l ++ 91 ∷ []) (plain_key n e))))
+
+-- an array and the object around it end
+pub array_member_ended : (w : Text) →
+    put w false (93 ∷ 125 ∷ []) true ≡ prints w (end_array ∷ end_object ∷ [])
+unfolding print_from
+array_member_ended w = ap (λ (l : List ℕ). record { text = w.text ++ l; after_value = true })
+    (sym (ap (λ (l : List ℕ). l ++ 93 ∷ 125 ∷ []) (no_comma w.after_value)))
 
 -- the first n bytes and the last n are all
 pub both_ends : (d : List ℕ) (b : Bool) (n : ℕ) → n ≤ length d → length d < n + n →

@@ -130,7 +130,8 @@ impl Output {
     }
 
     /// These characters between quotes, where none of them needs an escape; `opening` has the first quote, and the brace in
-    /// front of a first key, and `closing` the second quote, and a key's colon.
+    /// front of a first key, and `closing` the second quote, a key's colon, and the
+    /// bracket of an array after it.
     #[inline(always)]
     fn put_plain(
         &mut self,
@@ -139,11 +140,11 @@ impl Output {
         closing: &str,
         ends_value: bool,
     ) -> Result<(), AllocError>
-        requires { (length opening.now ≤ 2) × (length closing.now ≤ 2) }
+        requires { (length opening.now ≤ 2) × (length closing.now ≤ 3) }
         ensures { OnOk result (self.new ≡ put self.old self.old.after_value
             (opening.now ++ (characters.now ++ closing.now)) ends_value) }
     {
-        make_room(&mut self.bytes, self.len, characters.len() + 5)?;
+        make_room(&mut self.bytes, self.len, characters.len() + 6)?;
         let buffer = self.bytes.as_mut_slice();
         let at = place_comma(buffer, self.len, self.after_value);
         let at = place_bytes(buffer, at, opening.as_bytes());
@@ -269,6 +270,28 @@ impl Output {
         }
         self.begin_object()?;
         self.escaped_key(alloc, name)
+    }
+
+    /// An object begins, with a key and its colon, and then an array.
+    #[inline(always)]
+    pub fn begin_array_member(&mut self, alloc: Global, name: &str) -> Result<(), AllocError>
+        ensures { AddsTokens result self.old self.new
+            (begin_object ∷ key name.now ∷ begin_array ∷ []) }
+    {
+        if is_plain(name) {
+            return self.put_plain("{\"", name, "\":[", false);
+        }
+        self.begin_object()?;
+        self.escaped_key(alloc, name)?;
+        self.begin_array()
+    }
+
+    /// An array ends, and the object that it is the last value of.
+    #[inline(always)]
+    pub fn end_array_member(&mut self) -> Result<(), AllocError>
+        ensures { AddsTokens result self.old self.new (end_array ∷ end_object ∷ []) }
+    {
+        self.put(false, "]}", true)
     }
 
     /// A key, some of whose characters need an escape, and its colon.

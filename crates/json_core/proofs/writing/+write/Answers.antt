@@ -7,7 +7,7 @@ use Rattle.std.specs.Int.{w128}
 use Rattle.std.proofs.lemmas.Int.{to_z-of_z}
 use Rattle.std.proofs.lemmas.List.{length-map}
 use Rattle.std.proofs.lemmas.Result.{on_ok_weaker}
-use Rattle.json.specs.Token.{begin_object, end_object, key}
+use Rattle.json.specs.Token.{key}
 use Rattle.json.specs.Tree.{json_tokens, items_tokens, members_tokens}
 use Rattle.serde_json.specs.Data.{object, member, no_members}
 use Rattle.serde_json.specs.Written.{outline, items_outline, members_outline}
@@ -27,12 +27,13 @@ use Rattle.json_core.proofs.Reported.{reported, long_here, long_compact_here, te
 use Rattle.json_core.proofs.Reported.{fields_at_node, no_fields_at_node, fields_are, no_fields_json}
 use Rattle.json_core.proofs.Reported.{arm_there, arm_at_node, arm_is, arm_place, composite_place}
 use Rattle.json_core.proofs.Turns.{name_is, in_order_turn, item_turn, array_whole, turn_at}
-use Rattle.json_core.proofs.Turns.{named_after, name_read, sorted_turn, one_member, object_whole}
+use Rattle.json_core.proofs.Turns.{named_after, name_read, sorted_turn, object_whole}
+use Rattle.json_core.proofs.Turns.{member_whole, array_member_whole}
 use Rattle.json_core.proofs.Turns.{no_field_left, no_item_left, no_position_left}
 use Rattle.json_core.proofs.writing.+write.Goals as goal
 
-pub write_items-children-init : goal.write_items-children-init
-write_items-children-init t c = record {
+pub write_each-children-init : goal.write_each-children-init
+write_each-children-init t c = record {
   can = tt;
   ends = tt;
   reported = search rules;
@@ -162,6 +163,33 @@ write_fields-returns-in-Unnamed-clause-adds t c =
     rw (unnamed_json_is c.args.fields.now (jsons (children_of c.args.node.now))
     (rw c.in-Unnamed.is at keys)) c.write_items.ensures.adds
 
+pub write_arm-returns-in_ok-write_each-in-Unnamed-clause-adds : goal.write_arm-returns-in_ok-write_each-in-Unnamed-clause-adds
+write_arm-returns-in_ok-write_each-in-Unnamed-clause-adds t c =
+    let ds = jsons (children_of c.args.node.now) in
+    let keys = c.in_ok-keys.ensures.keys.0 in
+    rw (unnamed_json_is c.args.fields.now ds (rw c.in-Unnamed.is at keys))
+    (on_ok_weaker c.end_array_member.result (λ e. array_member_whole c.args.out.now
+    c.begin_array_member.new.self c.write_each.new.out c.end_array_member.new.self
+    c.args.name.now ds c.in_ok-begin_array_member-in-Unnamed.ensures c.in_ok-write_each-in-Unnamed.ensures.adds e)
+    c.end_array_member.ensures)
+
+pub write_arm-returns-in_ok-write_in_order-in-InOrder-clause-adds :
+    goal.write_arm-returns-in_ok-write_in_order-in-InOrder-clause-adds
+write_arm-returns-in_ok-write_in_order-in-InOrder-clause-adds t c =
+    on_ok_weaker c.end_object.result (λ e. member_whole c.args.out.now c.begin_member.new.self
+    c.write_in_order.new.out c.end_object.new.self c.args.name.now
+    (fields_json c.args.fields.now (jsons (children_of c.args.node.now)))
+    c.in_ok-begin_member-in-InOrder.ensures c.in_ok-write_in_order-in-InOrder.ensures.adds e) c.end_object.ensures
+
+pub write_arm-returns-in_ok-write_sorted-in-Sorted-clause-adds :
+    goal.write_arm-returns-in_ok-write_sorted-in-Sorted-clause-adds
+write_arm-returns-in_ok-write_sorted-in-Sorted-clause-adds t c =
+    on_ok_weaker c.end_object-in-Sorted.result (λ e. member_whole c.args.out.now
+    c.begin_member-in-Sorted.new.self c.write_sorted.new.out c.end_object-in-Sorted.new.self c.args.name.now
+    (fields_json c.args.fields.now (jsons (children_of c.args.node.now)))
+    c.in_ok-begin_member-in-Sorted.ensures c.in_ok-write_sorted-in-Sorted.ensures.adds e)
+    c.end_object-in-Sorted.ensures
+
 pub write_node-write_unsigned-requires : goal.write_node-write_unsigned-requires
 write_node-write_unsigned-requires t c =
     λ e. (reported c.args.node.now _ c.in-Unsigned.ensures.value c.in-Unsigned.ensures.same).0
@@ -216,8 +244,8 @@ write_node-unwrap-arm-requires t c = arm_there c.args.node.now _ _ _ c.defined_a
 ) c.defined_arm.ensures.same
     (reported c.args.node.now _ c.in-Arm.ensures.value c.in-Arm.ensures.same)
 
-pub write_node-write_fields-requires-in-Arm : goal.write_node-write_fields-requires-in-Arm
-write_node-write_fields-requires-in-Arm t c =
+pub write_node-write_arm-requires : goal.write_node-write_arm-requires
+write_node-write_arm-requires t c =
     let s = c.args.node.now in
     let a = c.unwrap-arm.result.now in
     let at = arm_at_node s _ _ _ c.defined_arm.result c.unwrap-arm.result
@@ -228,11 +256,11 @@ write_node-write_fields-requires-in-Arm t c =
       (
         c.requires,
         (
-          rw (c.requires, c.type_id-ty.ensures.same, c.as_slice.ensures)
+          rw (c.requires, c.type_id-ty.ensures.same, c.as_slice-fields.ensures)
               (arm_place (shape s.types s.ty) c.in-Arm.arm a at),
           (
-            rw c.as_slice.ensures (rw c.unwrap-arm.ensures at few),
-            rw c.as_slice.ensures (arm_count s c.in-Arm.arm a c.in-Arm.ensures.value
+            rw c.as_slice-fields.ensures (rw c.unwrap-arm.ensures at few),
+            rw c.as_slice-fields.ensures (arm_count s c.in-Arm.arm a c.in-Arm.ensures.value
                 c.in-Arm.ensures.same at),
           ),
         ),
@@ -322,28 +350,19 @@ write_node-returns-in-None-clause-adds t c =
       no_fields_json (shape s.types s.ty) (jsons (children_of s)) at,
     ) c.write_items.ensures.adds
 
-pub write_node-returns-in_ok-write_fields-in-Arm-clause-adds :
-    goal.write_node-returns-in_ok-write_fields-in-Arm-clause-adds
-write_node-returns-in_ok-write_fields-in-Arm-clause-adds t c =
+pub write_node-returns-in-Arm-clause-adds : goal.write_node-returns-in-Arm-clause-adds
+write_node-returns-in-Arm-clause-adds t c =
     let s = c.args.node.now in
-    let old = c.args.out.now in
-    let n = c.as_str.result.now in
-    let d = fields_json c.as_slice.result.now (jsons (children_of s)) in
     let at = arm_at_node s _ _ _ c.defined_arm.result c.unwrap-arm.result
     (c.checked-checked.ensures ∙ c.requires, c.type_id-ty.ensures.same)
     c.defined_arm.ensures.same c.unwrap-arm.ensures in
-    let shows : json_seen s ≡ object (member n d no_members) =
+    let shows : json_seen s ≡ object (member c.as_str-name.result.now
+    (fields_json c.as_slice-fields.result.now (jsons (children_of s))) no_members) =
     arm_is s c.in-Arm.arm c.unwrap-arm.result.now at
     (reported s _ c.in-Arm.ensures.value c.in-Arm.ensures.same)
     ∙ ap₂ (λ m gs. object (member m (fields_json gs (jsons (children_of s))) no_members))
-    (sym c.as_str.ensures.same) (sym c.as_slice.ensures) in
-    let ts = json_tokens (outline d) in
-    let said : c.write_fields-in-Arm.new.out
-    ≡ prints (prints old (begin_object ∷ key n ∷ [])) ts =
-    c.in_ok-write_fields-in-Arm.ensures.adds
-    ∙ ap (λ w. prints w ts) c.in_ok-begin_member-in-Arm.ensures in
-    rw shows (on_ok_weaker c.end_object.result (λ e. e ∙ ap (λ w. prints w (end_object ∷ [])) said
-    ∙ one_member old ts n) c.end_object.ensures)
+    (sym c.as_str-name.ensures.same) (sym c.as_slice-fields.ensures) in
+    rw shows c.write_arm.ensures.adds
 
 pub write_node-returns-in-List-clause-adds : goal.write_node-returns-in-List-clause-adds
 write_node-returns-in-List-clause-adds t c =
@@ -382,8 +401,8 @@ write_in_order-members-preserved t c =
           c.members.invariant.grows c.write_node.ensures.grows;
     }
 
-pub write_items-children-preserved : goal.write_items-children-preserved
-write_items-children-preserved t c =
+pub write_each-children-preserved : goal.write_each-children-preserved
+write_each-children-preserved t c =
     let child : c.children.child-iterator ≡ c.in-Some.child ∷ c.next.new.self = search rules in
     record {
       can = search rules;
@@ -398,14 +417,17 @@ write_items-children-preserved t c =
           c.children.invariant.grows c.write_node.ensures.grows;
     }
 
+pub write_each-returns-clause-adds : goal.write_each-returns-clause-adds
+write_each-returns-clause-adds t c =
+    let none : c.children.child-iterator ≡ [] = search rules in
+    ap (λ ss. prints c.children.out (items_tokens (items_outline (items_of (map json_seen ss)))))
+    (sym none) ∙ c.children.invariant.reported
+
 pub write_items-returns-clause-adds : goal.write_items-returns-clause-adds
 write_items-returns-clause-adds t c =
-    let none : c.children.child-iterator ≡ [] = search rules in
     on_ok_weaker c.end_array.result (λ e. array_whole c.args.out.now c.begin_array.new.self
-    c.children.out c.end_array.new.self (items_of (map json_seen (children_of c.args.node.now)))
-    c.in_ok-begin_array.ensures (ap (λ ss. prints c.children.out
-    (items_tokens (items_outline (items_of (map json_seen ss))))) (sym none)
-    ∙ c.children.invariant.reported) e) c.end_array.ensures
+    c.write_each.new.out c.end_array.new.self (items_of (map json_seen (children_of c.args.node.now)))
+    c.in_ok-begin_array.ensures c.in_ok-write_each.ensures.adds e) c.end_array.ensures
 
 pub write_in_order-key-requires : goal.write_in_order-key-requires
 write_in_order-key-requires t c =

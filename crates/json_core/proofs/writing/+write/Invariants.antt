@@ -26,8 +26,14 @@ decreases-write_child l = 4 * nodes l.node.now.tree
 abbrev pub decreases-write_fields : goal.decreases-write_fields
 decreases-write_fields l = 4 * nodes l.node.now.tree + 2
 
+abbrev pub decreases-write_arm : goal.decreases-write_arm
+decreases-write_arm l = 4 * nodes l.node.now.tree + 2
+
 abbrev pub decreases-write_items : goal.decreases-write_items
 decreases-write_items l = 4 * nodes l.node.now.tree + 1
+
+abbrev pub decreases-write_each : goal.decreases-write_each
+decreases-write_each l = 4 * nodes l.node.now.tree
 
 abbrev pub decreases-write_in_order : goal.decreases-write_in_order
 decreases-write_in_order l = 4 * nodes l.node.now.tree + 1
@@ -36,10 +42,10 @@ abbrev pub decreases-write_sorted : goal.decreases-write_sorted
 decreases-write_sorted l = 4 * nodes l.node.now.tree + 1
 
 -- what is left to write, after what is written
-abbrev pub invariant-write_items-children : goal.invariant-write_items-children
-invariant-write_items-children l = record {
-  can : (goal.iterator-write_items-children).can_next l.child-iterator;
-  ends : (goal.iterator-write_items-children).is_finite l.child-iterator;
+abbrev pub invariant-write_each-children : goal.invariant-write_each-children
+invariant-write_each-children l = record {
+  can : (goal.iterator-write_each-children).can_next l.child-iterator;
+  ends : (goal.iterator-write_each-children).is_finite l.child-iterator;
   reported : prints l.out (items_tokens (items_outline (items_of (map json_seen l.child-iterator))))
       ≡ prints l.initial.out
       (items_tokens (items_outline (items_of (map json_seen (children_of l.node)))));
