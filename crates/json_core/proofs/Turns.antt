@@ -9,7 +9,8 @@ use Rattle.std.proofs.lemmas.Option.{get_or_from_slice_get}
 use Rattle.std.proofs.Math.ListN.{get_or-append, drop_of_length-le}
 use Rattle.json.specs.Token.{Token, begin_object, end_object, begin_array, end_array, key, number}
 use Rattle.json.specs.Tree.{json_tokens, items_tokens, members_tokens}
-use Rattle.serde_json.specs.Data.{Data, Items, Members, no_items, item, no_members, member, array, object}
+use Rattle.serde_json.specs.Data.{Data, Items, Members, no_items, item, no_members, member, array}
+use Rattle.serde_json.specs.Data.{object}
 use Rattle.serde_json.specs.Written.{outline, items_outline, members_outline}
 use Rattle.registry_core.specs.declared.definition.Field.{Field}
 use Rattle.json_core.specs.declared.orders.Keys.TheVariants as keys

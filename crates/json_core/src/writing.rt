@@ -178,6 +178,7 @@ fn write_items(
 /// The children of a node as an object, each at the name of its field, where the names are in order; `plain` says that
 /// no name needs an escape.
 #[cycle(write)]
+#[inline(always)]
 fn write_in_order(
     alloc: Global,
     out: &mut Output,

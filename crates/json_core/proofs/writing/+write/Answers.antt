@@ -163,14 +163,16 @@ write_fields-returns-in-Unnamed-clause-adds t c =
     rw (unnamed_json_is c.args.fields.now (jsons (children_of c.args.node.now))
     (rw c.in-Unnamed.is at keys)) c.write_items.ensures.adds
 
-pub write_arm-returns-in_ok-write_each-in-Unnamed-clause-adds : goal.write_arm-returns-in_ok-write_each-in-Unnamed-clause-adds
+pub write_arm-returns-in_ok-write_each-in-Unnamed-clause-adds :
+    goal.write_arm-returns-in_ok-write_each-in-Unnamed-clause-adds
 write_arm-returns-in_ok-write_each-in-Unnamed-clause-adds t c =
     let ds = jsons (children_of c.args.node.now) in
     let keys = c.in_ok-keys.ensures.keys.0 in
     rw (unnamed_json_is c.args.fields.now ds (rw c.in-Unnamed.is at keys))
     (on_ok_weaker c.end_array_member.result (λ e. array_member_whole c.args.out.now
     c.begin_array_member.new.self c.write_each.new.out c.end_array_member.new.self
-    c.args.name.now ds c.in_ok-begin_array_member-in-Unnamed.ensures c.in_ok-write_each-in-Unnamed.ensures.adds e)
+    c.args.name.now ds c.in_ok-begin_array_member-in-Unnamed.ensures
+    c.in_ok-write_each-in-Unnamed.ensures.adds e)
     c.end_array_member.ensures)
 
 pub write_arm-returns-in_ok-write_in_order-in-InOrder-clause-adds :
@@ -179,14 +181,15 @@ write_arm-returns-in_ok-write_in_order-in-InOrder-clause-adds t c =
     on_ok_weaker c.end_object.result (λ e. member_whole c.args.out.now c.begin_member.new.self
     c.write_in_order.new.out c.end_object.new.self c.args.name.now
     (fields_json c.args.fields.now (jsons (children_of c.args.node.now)))
-    c.in_ok-begin_member-in-InOrder.ensures c.in_ok-write_in_order-in-InOrder.ensures.adds e) c.end_object.ensures
+    c.in_ok-begin_member-in-InOrder.ensures c.in_ok-write_in_order-in-InOrder.ensures.adds e)
+    c.end_object.ensures
 
 pub write_arm-returns-in_ok-write_sorted-in-Sorted-clause-adds :
     goal.write_arm-returns-in_ok-write_sorted-in-Sorted-clause-adds
 write_arm-returns-in_ok-write_sorted-in-Sorted-clause-adds t c =
     on_ok_weaker c.end_object-in-Sorted.result (λ e. member_whole c.args.out.now
-    c.begin_member-in-Sorted.new.self c.write_sorted.new.out c.end_object-in-Sorted.new.self c.args.name.now
-    (fields_json c.args.fields.now (jsons (children_of c.args.node.now)))
+    c.begin_member-in-Sorted.new.self c.write_sorted.new.out c.end_object-in-Sorted.new.self
+    c.args.name.now (fields_json c.args.fields.now (jsons (children_of c.args.node.now)))
     c.in_ok-begin_member-in-Sorted.ensures c.in_ok-write_sorted-in-Sorted.ensures.adds e)
     c.end_object-in-Sorted.ensures
 
@@ -426,8 +429,9 @@ write_each-returns-clause-adds t c =
 pub write_items-returns-clause-adds : goal.write_items-returns-clause-adds
 write_items-returns-clause-adds t c =
     on_ok_weaker c.end_array.result (λ e. array_whole c.args.out.now c.begin_array.new.self
-    c.write_each.new.out c.end_array.new.self (items_of (map json_seen (children_of c.args.node.now)))
-    c.in_ok-begin_array.ensures c.in_ok-write_each.ensures.adds e) c.end_array.ensures
+    c.write_each.new.out c.end_array.new.self
+    (items_of (map json_seen (children_of c.args.node.now))) c.in_ok-begin_array.ensures
+    c.in_ok-write_each.ensures.adds e) c.end_array.ensures
 
 pub write_in_order-key-requires : goal.write_in_order-key-requires
 write_in_order-key-requires t c =
