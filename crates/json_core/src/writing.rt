@@ -1,7 +1,7 @@
 //! A node's JSON, written token by token.
 
-ghost use Rattle.std.specs.Prelude.{◌≡◌, ◌<◌, ◌^◌, [], ◌∷◌, Some, length, map, false, codes, IfOk, OnOk};
-ghost use Rattle.std.specs.Prelude.{FitsSigned, ◌⊎◌, slice_get};
+ghost use Rattle.std.specs.Prelude.{◌≡◌, ◌<◌, ◌^◌, [], ◌∷◌, Some, length, map, false, codes, IfOk};
+ghost use Rattle.std.specs.Prelude.{OnOk, FitsSigned, ◌⊎◌, slice_get};
 ghost use Rattle.std.specs.Int.{w64};
 ghost use Rattle.std.specs.Char.{encode_utf8};
 ghost use Rattle.std.specs.Bool.{OnTrue};
