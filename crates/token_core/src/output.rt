@@ -92,6 +92,15 @@ fn grow(bytes: &mut Vec<u8>, more: usize) -> Result<(), AllocError>
     Ok(())
 }
 
+/// Does the name need no escape? Where `plain` says so, it isn't looked at.
+#[inline(always)]
+fn is_known_plain(name: &str, plain: bool) -> bool
+    requires { OnTrue plain (escape name.now ≡ name.now) }
+    ensures { OnTrue result (escape name.now ≡ name.now) }
+{
+    plain || is_plain(name)
+}
+
 impl Output {
     ghost use Rattle.token_core.specs.Tokens.{AddsTokens, put};
 
@@ -130,8 +139,7 @@ impl Output {
     }
 
     /// These characters between quotes, where none of them needs an escape; `opening` has the first quote, and the brace in
-    /// front of a first key, and `closing` the second quote, a key's colon, and the
-    /// bracket of an array after it.
+    /// front of a first key, and `closing` the second quote, a key's colon, and the bracket of an array after it.
     #[inline(always)]
     fn put_plain(
         &mut self,
@@ -252,7 +260,7 @@ impl Output {
         requires { OnTrue plain (escape name.now ≡ name.now) }
         ensures { AddsTokens result self.old self.new (key name.now ∷ []) }
     {
-        if plain || is_plain(name) {
+        if is_known_plain(name, plain) {
             return self.put_plain("\"", name, "\":", false);
         }
         self.escaped_key(alloc, name)
@@ -265,7 +273,7 @@ impl Output {
         requires { OnTrue plain (escape name.now ≡ name.now) }
         ensures { AddsTokens result self.old self.new (begin_object ∷ key name.now ∷ []) }
     {
-        if plain || is_plain(name) {
+        if is_known_plain(name, plain) {
             return self.put_plain("{\"", name, "\":", false);
         }
         self.begin_object()?;
