@@ -84,11 +84,7 @@ enum Fed {
 fn within(piece: &[u8], room: u64) -> &[u8]
     ensures { result.now ≡ take room piece.now }
 {
-    if piece.len() as u64 > room {
-        &piece[..room as usize]
-    } else {
-        piece
-    }
+    &piece[..room.min(piece.len() as u64) as usize]
 }
 
 /// Takes the turns on a piece, where `taken` bytes came before it and `limit` is their greatest number.
@@ -109,33 +105,30 @@ fn feed_run<A: Allocator>(
         FedCounts j run.new taken turns.new.so_far (suc calls) result }
 {
     let offered = within(piece, limit - taken);
-    match run.feed(offered, turns) {
-        Ok((count, Stopped::Finished)) => Fed::Done(count as u64),
-        Ok((count, Stopped::Wants)) => {
-            if offered.len() < piece.len() {
-                let reason = DecodeReason::TooLong;
-                return Fed::Ended(DecodeFault { reason, at: limit }, limit);
-            }
-            Fed::More(taken + count as u64)
-        }
-        Ok(
-            (
-                count,
-                Stopped::Refused {
-                    held,
-                    reason,
-                    at,
-                    len,
-                },
-            ),
-        ) => {
-            let node = taken + count as u64 - held as u64;
-            let at = node + at;
-            Fed::Ended(DecodeFault { reason, at }, node + len as u64)
-        }
+    let (count, stopped) = match run.feed(offered, turns) {
+        Ok(fed) => fed,
         Err(count) => {
             let reason = DecodeReason::OutOfMemory;
-            Fed::Ended(DecodeFault { reason, at: 0 }, taken + count as u64)
+            return Fed::Ended(DecodeFault { reason, at: 0 }, taken + count as u64);
+        }
+    };
+    let fed = taken + count as u64;
+    match stopped {
+        Stopped::Finished => Fed::Done(count as u64),
+        Stopped::Wants if offered.len() < piece.len() => {
+            let reason = DecodeReason::TooLong;
+            Fed::Ended(DecodeFault { reason, at: limit }, limit)
+        }
+        Stopped::Wants => Fed::More(fed),
+        Stopped::Refused {
+            held,
+            reason,
+            at,
+            len,
+        } => {
+            let node = fed - held as u64;
+            let at = node + at;
+            Fed::Ended(DecodeFault { reason, at }, node + len as u64)
         }
     }
 }
@@ -174,13 +167,12 @@ impl<'r, A: Allocator + Clone> Decoder<'r, A> {
         if limits.depth > MAX_DEPTH || limits.bytes > MAX_BYTES {
             return Err(OpenFault::LimitOutOfRange);
         }
-        let builder = Builder::begin(alloc, checked, root, limits.depth)?;
         Ok(Decoder {
             checked,
             root,
             limits,
             taken: 0,
-            run: Ok(Run::new(builder)),
+            run: Ok(Run::new(Builder::begin(alloc, checked, root, limits.depth)?)),
             turns: Count::new(),
             closings: Count::new(),
             calls: Count::new(),
@@ -289,6 +281,12 @@ impl<'r, A: Allocator> Decoder<'r, A> {
             FinishesDecoder self.entry.job b result }
         ensures small { (b : List ℕ) → Led self.entry b → IsSmallValue self.entry.job b result }
     {
+        if let Ok(run) = &self.run
+            && run.is_finished()
+        {
+            let Decoder { run, .. } = self;
+            return Ok(run?.into_value());
+        }
         let mut decoder = self;
         if let Progress::More = decoder.feed(&[])? {
             return Err(DecodeFault {

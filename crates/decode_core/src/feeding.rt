@@ -147,6 +147,9 @@ impl<'r, A: Allocator> Run<'r, A> {
                 Whole::OutOfMemory => return Err(at),
                 Whole::Left => {}
             }
+            if self.is_finished() {
+                return Ok((at, Stopped::Finished));
+            }
             match self.turn(&piece[at..]) {
                 Turned::On(count) => at += count,
                 Turned::Stopped(stopped) => return Ok((at, stopped)),

@@ -10,8 +10,8 @@ ghost use Rattle.value_core.specs.Refusals.{is_whole};
 ghost use Rattle.form_core.specs.Needs.{AreOwn, IsNeeded};
 ghost use Rattle.form_core.specs.NodeForms.{form_of_bare, form_of_bytes, prefixed_kind};
 ghost use Rattle.decode_core.specs.NodeAdds.{TakesNode};
-ghost use Rattle.decode_core.specs.Turned.{Awaits, BareReports, EndReports, HoldReports, IsOn};
-ghost use Rattle.decode_core.specs.Turned.{IsSound, KeepsTurns, PieceReports, StepReports};
+ghost use Rattle.decode_core.specs.Turned.{Awaits, BareReports, EndReports, EndsTurns, HoldReports};
+ghost use Rattle.decode_core.specs.Turned.{IsOn, IsSound, KeepsTurns, PieceReports, StepReports};
 ghost use Rattle.decode_core.specs.Turned.{WantsBytes, WholeReports, node_turned};
 
 use crate::fault::DecodeReason;
@@ -165,8 +165,7 @@ impl<'r, A: Allocator> Run<'r, A> {
         node_turn(taken, 0, own.len(), own.len())
     }
 
-    /// A turn on a node of `len` own bytes that pieces cut: those that are carried, and as many of the piece's as are
-    /// missing or there.
+    /// A turn on a node of `len` own bytes that pieces cut: it takes those that are missing, or as many as are there.
     #[inline(always)]
     fn cut_turn(&mut self, form: BytesForm, len: usize, piece: &[u8]) -> Turned
         requires next { next_of self.old.built.walk ≡ Next.Wants (form_of_bytes form) }
@@ -183,12 +182,8 @@ impl<'r, A: Allocator> Run<'r, A> {
         if held + count < len {
             return Turned::On(count);
         }
-        let taken = take_node(
-            &mut self.builder,
-            &mut self.open_run,
-            form,
-            self.carry.as_slice(),
-        );
+        let own = self.carry.as_slice();
+        let taken = take_node(&mut self.builder, &mut self.open_run, form, own);
         self.carry.clear();
         node_turn(taken, held, count, len)
     }
@@ -232,8 +227,7 @@ impl<'r, A: Allocator> Run<'r, A> {
         }
     }
 
-    /// A turn on a text or a run of bytes whose length stands before it, where the piece has it whole with its length and
-    /// nothing of it is refused.
+    /// A turn on a text or a run of bytes that the piece has whole with its length, and of which nothing is refused.
     pub(crate) fn whole_prefixed(&mut self, run: PrefixedRun, piece: &[u8]) -> Whole
         requires { Awaits self.old (run_form (prefixed_kind run)) }
         ensures { WholeReports self.old self.new piece.now result }
@@ -278,8 +272,7 @@ impl<'r, A: Allocator> Run<'r, A> {
         }
     }
 
-    /// A turn on an array of u8 of which no byte came: it is added where the piece has it whole, and else it is opened
-    /// with the bytes that are there.
+    /// A turn on an array of u8 of which no byte came: it is added where it is whole, and else opened with what is there.
     fn byte_array_turn(&mut self, len: u32, piece: &[u8]) -> Turned
         requires next { next_of self.old.built.walk ≡ Next.Wants (Form.ByteArray len) }
         requires closed { self.old.built.run ≡ None }
@@ -485,6 +478,15 @@ impl<'r, A: Allocator> Run<'r, A> {
             return false;
         };
         matches!(node_form(form), NodeForm::Bytes(_))
+    }
+
+    /// Is the value whole? No turn follows then.
+    #[inline(always)]
+    pub(crate) fn is_finished(&self) -> bool
+        ensures ends { result ≡ true → (rest : List ℕ) → EndsTurns self.now rest Stopped.Finished }
+        ensures sound { result ≡ true → IsSound self.now }
+    {
+        matches!(self.builder.walk().next(), Next::Finished)
     }
 
     /// Takes no step: it says what holds of every value on its way.

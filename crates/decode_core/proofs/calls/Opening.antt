@@ -10,11 +10,15 @@ use Rattle.decode_core.specs.Decoding.{IsOf, Led, RunLed, built_tree, first_runn
 use Rattle.decode_core.specs.Machine.{State, start}
 use Rattle.decode_core.specs.Outcome.{Job, done, more, IsOutcome}
 use Rattle.decode_core.specs.Running.{Running, state_of}
-use Rattle.decode_core.specs.Turned.{TurnsLead}
+use Rattle.decode_core.specs.Turned.{EndsTurns, IsSound, TurnsLead}
 use Rattle.decode_core.specs.declared.decoder.Progress.{Progress}
 use Rattle.decode_core.specs.declared.decoder.Progress.TheVariants as progress
 use Rattle.decode_core.specs.declared.fault.DecodeFault.{DecodeFault}
 use Rattle.decode_core.specs.declared.fault.DecodeReason.TheVariants as reason
+use Rattle.decode_core.specs.declared.turned.Stopped.TheVariants as stop
+use Rattle.decode_core.proofs.calls.Bridge.{offered}
+use Rattle.decode_core.proofs.calls.Feeding.{led_done}
+use Rattle.decode_core.proofs.steps.Moving.{moves_none}
 
 abbrev first : Job → Running
 first j = first_running j.registry j.ty j.depth
@@ -73,7 +77,7 @@ run_of j b n s (inl g) = g.same
 run_of j b n s (inr g) = g.same
 
 -- a decoder has one value on its way
-same_run : (s t : Running) (run : Result Running DecodeFault) → run ≡ Ok s → run ≡ Ok t → s ≡ t
+pub same_run : (s t : Running) (run : Result Running DecodeFault) → run ≡ Ok s → run ≡ Ok t → s ≡ t
 same_run s t run h k = let both = sym h ∙ k in cc
 
 -- where the value is done after the empty last piece, the decoder finishes with it
@@ -110,3 +114,15 @@ pub ends_by : (old new : Decoding) (b : List ℕ) (p : Progress) (s : Running) (
 ends_by old new b progress.More s v same whole run is h = absurd (whole refl)
 ends_by old new b (progress.Done used) s v same whole run is h =
     ends_done old new b used s v same run is h.0 h.1
+
+-- where the value is whole before the end of its input, the decoder finishes with it
+pub ends_whole : (d : Decoding) (b : List ℕ) (s : Running) (v : Seen) → d.run ≡ Ok s →
+    ((rest : List ℕ) → EndsTurns s rest stop.Finished) → IsSound s → v ≡ finished s.built →
+    Led d b → FinishesDecoder d.job b (Ok v)
+ends_whole d b s v run ends sound is led =
+    let whole = led_done d.job b [] s s d.taken 0 (subst (RunLed d.job b d.taken) run led)
+    (omega arith, (s, moves_none s, ends (offered d.job d.taken []), refl, sound)) in
+    let out : IsOutcome d.job (b ++ []) (done (built_tree s.built)) d.taken =
+    subst (IsOutcome d.job (b ++ []) (done (built_tree s.built))) (omega arith) whole.outcome in
+    ends_done d d b 0 s v refl run is (s, run, out, omega arith)
+    (subst (Led d) (sym (append-nil b)) led)

@@ -66,12 +66,12 @@ whole_of b d piece at from to n last is e k =
     (subst (λ (l : List ℕ). WholeTurnsReport b d l from to n last) (take_rest piece at) k)
 
 -- turns on whole nodes, and what the turn after them reports, are the turns of a call
-turns_with : (b x d : Running) (piece : List ℕ) (from to n : ℕ) (left : Whole) (last : Turned)
-    (w : WholeTurnsReport b x piece from to n left) → StepReports w.before d (drop n piece) last →
+turns_with : (b x d : Running) (piece : List ℕ) (from to n : ℕ) (read : Whole) (last : Turned)
+    (w : WholeTurnsReport b x piece from to n read) → StepReports w.before d (drop n piece) last →
     KeepsTurns w.before d last → (is_whole b.built ≡ true →
     (n ≡ 0) × (w.before ≡ b) × (last ≡ turned.Stopped stop.Finished)) →
     TurnsReport b d piece from to n last
-turns_with b x d piece from to n left last w reports kept whole = record {
+turns_with b x d piece from to n read last w reports kept whole = record {
   before = w.before;
   within = w.within;
   moves = w.moves;

@@ -6,62 +6,62 @@ use Rattle.decode_core.proofs.calls.FeedRun.{run_done, run_long, run_more, run_h
 use Rattle.decode_core.proofs.calls.FeedRun.{run_short, takes_refused}
 use Rattle.decode_core.proofs.decoder.feed_run.Goals as goal
 
-pub returns-then-offered-piece-clause-answers : goal.returns-then-offered-piece-clause-answers
-returns-then-offered-piece-clause-answers g c =
+pub returns-in-Wants-clause-answers : goal.returns-in-Wants-clause-answers
+returns-in-Wants-clause-answers g c =
     λ j b e led. run_long j b c.args.piece.now c.within-offered.result.now c.args.run.now
-    c.feed.new.self c.args.limit c.args.taken c.in-Ok-default-Wants.count
-    c.in-Ok-default-Wants.field-0-1 e c.within-offered.ensures led
-    c.in-Ok-default-Wants.ensures.reports c.in-Ok-default-Wants.field-0-1-is c.if-offered-piece.true
+    c.feed.new.self c.args.limit c.args.taken c.in-Ok.fed.0
+    c.in-Ok.fed.1 e c.within-offered.ensures led
+    c.in-Ok.ensures.reports c.in-Wants.is c.if-offered-piece.true
 
 pub overflow_sub-node : goal.overflow_sub-node
 overflow_sub-node g c = run_held c.requires.led.job c.requires.led.bytes c.args.piece.now
     c.within-offered.result.now c.args.run.now c.feed.new.self c.args.limit c.args.taken
-    c.in-Ok-default-Refused.count c.in-Ok-default-Refused.held c.in-Ok-default-Refused.reason
-    c.in-Ok-default-Refused.at c.in-Ok-default-Refused.len c.in-Ok-default-Refused.field-0-1
+    c.in-Ok.fed.0 c.in-Refused.held c.in-Refused.reason
+    c.in-Refused.at c.in-Refused.len c.in-Ok.fed.1
     c.requires.led.is_limit c.within-offered.ensures c.requires.led.led
-    c.in-Ok-default-Refused.ensures.reports c.in-Ok-default-Refused.field-0-1-is
+    c.in-Ok.ensures.reports c.in-Refused.is
 
-pub returns-in-Ok-default-Finished-clause-answers :
-    goal.returns-in-Ok-default-Finished-clause-answers
-returns-in-Ok-default-Finished-clause-answers g c =
+pub returns-in-Finished-clause-answers :
+    goal.returns-in-Finished-clause-answers
+returns-in-Finished-clause-answers g c =
     λ j b e led. run_done j b c.args.piece.now c.within-offered.result.now c.args.run.now
-    c.feed.new.self c.args.limit c.args.taken c.in-Ok-default-Finished.count
-    c.in-Ok-default-Finished.field-0-1 e c.within-offered.ensures led
-    c.in-Ok-default-Finished.ensures.reports c.in-Ok-default-Finished.field-0-1-is
+    c.feed.new.self c.args.limit c.args.taken c.in-Ok.fed.0
+    c.in-Ok.fed.1 e c.within-offered.ensures led
+    c.in-Ok.ensures.reports c.in-Finished.is
 
-pub returns-else-offered-piece-clause-answers : goal.returns-else-offered-piece-clause-answers
-returns-else-offered-piece-clause-answers g c =
+pub returns-in-Wants-2-clause-answers : goal.returns-in-Wants-2-clause-answers
+returns-in-Wants-2-clause-answers g c =
     λ j b e led. run_more j b c.args.piece.now c.within-offered.result.now c.args.run.now
-    c.feed.new.self c.args.limit c.args.taken c.in-Ok-default-Wants.count
-    c.in-Ok-default-Wants.field-0-1 e c.within-offered.ensures led
-    c.in-Ok-default-Wants.ensures.reports c.in-Ok-default-Wants.field-0-1-is
+    c.feed.new.self c.args.limit c.args.taken c.in-Ok.fed.0
+    c.in-Ok.fed.1 e c.within-offered.ensures led
+    c.in-Ok.ensures.reports c.in-Wants-2.is
     (are_bytes c.args.piece.now (λ i. omega (arith, c.type_inv.piece i))) c.if-offered-piece.false
 
-pub returns-in-Ok-default-Refused-clause-answers : goal.returns-in-Ok-default-Refused-clause-answers
-returns-in-Ok-default-Refused-clause-answers g c =
+pub returns-in-Refused-clause-answers : goal.returns-in-Refused-clause-answers
+returns-in-Refused-clause-answers g c =
     λ j b e led. run_refused j b c.args.piece.now c.within-offered.result.now c.args.run.now
-    c.feed.new.self c.args.limit c.args.taken c.in-Ok-default-Refused.count
-    c.in-Ok-default-Refused.held c.in-Ok-default-Refused.reason c.in-Ok-default-Refused.at
-    c.in-Ok-default-Refused.len c.in-Ok-default-Refused.field-0-1 e c.within-offered.ensures led
-    c.in-Ok-default-Refused.ensures.reports c.in-Ok-default-Refused.field-0-1-is
+    c.feed.new.self c.args.limit c.args.taken c.in-Ok.fed.0
+    c.in-Refused.held c.in-Refused.reason c.in-Refused.at
+    c.in-Refused.len c.in-Ok.fed.1 e c.within-offered.ensures led
+    c.in-Ok.ensures.reports c.in-Refused.is
 
-pub returns-then-offered-piece-clause-counts : goal.returns-then-offered-piece-clause-counts
-returns-then-offered-piece-clause-counts g c = λ j b calls e led before.
+pub returns-in-Wants-clause-counts : goal.returns-in-Wants-clause-counts
+returns-in-Wants-clause-counts g c = λ j b calls e led before.
     counts_long j b c.args.piece.now c.within-offered.result.now c.args.run.now c.feed.new.self
-    c.args.limit c.args.taken c.in-Ok-default-Wants.count c.args.turns.now.so_far
-    c.feed.new.turns.so_far calls c.in-Ok-default-Wants.field-0-1 e c.within-offered.ensures led
-    c.in-Ok-default-Wants.ensures.reports c.in-Ok-default-Wants.field-0-1-is
-    c.in-Ok-default-Wants.ensures.counts before.1
+    c.args.limit c.args.taken c.in-Ok.fed.0 c.args.turns.now.so_far
+    c.feed.new.turns.so_far calls c.in-Ok.fed.1 e c.within-offered.ensures led
+    c.in-Ok.ensures.reports c.in-Wants.is
+    c.in-Ok.ensures.counts before.1
 
-pub returns-in-Ok-default-Refused-clause-counts : goal.returns-in-Ok-default-Refused-clause-counts
-returns-in-Ok-default-Refused-clause-counts g c = λ j b calls e led before.
-    let r = c.in-Ok-default-Refused in
+pub returns-in-Refused-clause-counts : goal.returns-in-Refused-clause-counts
+returns-in-Refused-clause-counts g c = λ j b calls e led before.
+    let r = c.in-Refused in
     let within = run_held j b c.args.piece.now c.within-offered.result.now c.args.run.now
-    c.feed.new.self c.args.limit c.args.taken r.count r.held r.reason r.at r.len r.field-0-1 e
-    c.within-offered.ensures led r.ensures.reports r.field-0-1-is in
+    c.feed.new.self c.args.limit c.args.taken c.in-Ok.fed.0 r.held r.reason r.at r.len c.in-Ok.fed.1 e
+    c.within-offered.ensures led c.in-Ok.ensures.reports r.is in
     counts_refused j b c.within-offered.result.now c.args.run.now c.feed.new.self c.args.taken
-    r.count r.held r.reason r.at r.len c.args.turns.now.so_far c.feed.new.turns.so_far calls
-    r.field-0-1 led r.ensures.reports r.field-0-1-is within r.ensures.counts before.1
+    c.in-Ok.fed.0 r.held r.reason r.at r.len c.args.turns.now.so_far c.feed.new.turns.so_far calls
+    c.in-Ok.fed.1 led c.in-Ok.ensures.reports r.is within c.in-Ok.ensures.counts before.1
 
 pub returns-in-Err-clause-counts : goal.returns-in-Err-clause-counts
 returns-in-Err-clause-counts g c = λ j b calls e led before.
@@ -69,15 +69,15 @@ returns-in-Err-clause-counts g c = λ j b calls e led before.
     c.in-Err.count c.args.turns.now.so_far c.feed.new.turns.so_far calls led
     c.in-Err.ensures.counts before.1
 
-pub returns-in-Ok-default-Refused-clause-takes : goal.returns-in-Ok-default-Refused-clause-takes
-returns-in-Ok-default-Refused-clause-takes g c =
-    let r = c.in-Ok-default-Refused in
+pub returns-in-Refused-clause-takes : goal.returns-in-Refused-clause-takes
+returns-in-Refused-clause-takes g c =
+    let r = c.in-Refused in
     let within = run_held c.requires.led.job c.requires.led.bytes c.args.piece.now
-    c.within-offered.result.now c.args.run.now c.feed.new.self c.args.limit c.args.taken r.count
-    r.held r.reason r.at r.len r.field-0-1 c.requires.led.is_limit c.within-offered.ensures
-    c.requires.led.led r.ensures.reports r.field-0-1-is in
-    let few = takes_refused c.args.run.now c.feed.new.self c.within-offered.result.now r.count
-    r.held c.args.taken r.len r.reason r.at r.field-0-1 r.ensures.reports r.field-0-1-is within in (
+    c.within-offered.result.now c.args.run.now c.feed.new.self c.args.limit c.args.taken c.in-Ok.fed.0
+    r.held r.reason r.at r.len c.in-Ok.fed.1 c.requires.led.is_limit c.within-offered.ensures
+    c.requires.led.led c.in-Ok.ensures.reports r.is in
+    let few = takes_refused c.args.run.now c.feed.new.self c.within-offered.result.now c.in-Ok.fed.0
+    r.held c.args.taken r.len r.reason r.at c.in-Ok.fed.1 c.in-Ok.ensures.reports r.is within in (
       few.0,
       omega (
         arith,

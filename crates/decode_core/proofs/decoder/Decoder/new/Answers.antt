@@ -14,8 +14,8 @@ invariant_of-result g c =
           c.args.limits.depth;
       bytes = c.args.limits.bytes;
     } in
-    let first = c.in_ok-builder.ensures in
-    let going = first_going j c.new.result c.in_ok-builder.builder c.new.ensures first in
+    let first = c.in_ok-begin.ensures in
+    let going = first_going j c.new.result c.in_ok-begin.field-0 c.new.ensures first in
     let nodes : length c.new.result.built.entries ≡ 0 =
     ap (λ (r : Running). length r.built.entries) c.new.ensures
     ∙ ap (λ (b : Built). length b.entries) first in
@@ -40,4 +40,4 @@ returns-clause-led g c =
           c.args.limits.depth;
       bytes = c.args.limits.bytes;
     } in
-    inl (first_going j c.new.result c.in_ok-builder.builder c.new.ensures c.in_ok-builder.ensures)
+    inl (first_going j c.new.result c.in_ok-begin.field-0 c.new.ensures c.in_ok-begin.ensures)

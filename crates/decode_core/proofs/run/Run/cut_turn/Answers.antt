@@ -12,7 +12,7 @@ pub take_node-taken-requires-clause-whole : goal.take_node-taken-requires-clause
 take_node-taken-requires-clause-whole g c =
     cut_own (cut_inside (form_of_bytes c.args.form) c.args.len c.self.view_is c.requires.len
     c.requires.short c.as_slice-held.ensures.bytes
-    (c.as_slice.ensures.bytes ∙ c.fill-count.ensures.held) c.fill-count.ensures.count
+    (c.as_slice-own.ensures.bytes ∙ c.fill-count.ensures.held) c.fill-count.ensures.count
     c.if-held-count.false)
 
 pub invariant_of-self-2 : goal.invariant_of-self-2
@@ -20,12 +20,12 @@ invariant_of-self-2 g c =
     let f = form_of_bytes c.args.form in
     let at = at_node f c.self.view_is c.requires.next c.requires.closed in
     let cut = cut_inside f c.args.len c.self.view_is c.requires.len c.requires.short
-    c.as_slice-held.ensures.bytes (c.as_slice.ensures.bytes ∙ c.fill-count.ensures.held)
+    c.as_slice-held.ensures.bytes (c.as_slice-own.ensures.bytes ∙ c.fill-count.ensures.held)
     c.fill-count.ensures.count c.if-held-count.false in
     subst (λ (l : List ℕ). IsRunning c.take_node-taken.new.builder l c.take_node-taken.new.open_run)
     (sym c.clear.ensures)
     (node_running f c.self.inside.builder c.take_node-taken.new.builder c.self.inside.carry
-    c.self.inside.open_run c.take_node-taken.new.open_run c.as_slice.result.now
+    c.self.inside.open_run c.take_node-taken.new.open_run c.as_slice-own.result.now
     c.take_node-taken.result c.self.invariant at.wants at.closed (cut_own cut)
     c.take_node-taken.ensures)
 
@@ -33,7 +33,7 @@ pub returns-clause-reports : goal.returns-clause-reports
 returns-clause-reports g c =
     let f = form_of_bytes c.args.form in
     let cut = cut_inside f c.args.len c.self.view_is c.requires.len c.requires.short
-    c.as_slice-held.ensures.bytes (c.as_slice.ensures.bytes ∙ c.fill-count.ensures.held)
+    c.as_slice-held.ensures.bytes (c.as_slice-own.ensures.bytes ∙ c.fill-count.ensures.held)
     c.fill-count.ensures.count c.if-held-count.false in
     subst (λ (s : Running). StepReports s (of_fields c.take_node-taken.new.builder c.clear.new.self)
     c.args.piece.now c.node_turn.result) c.self.view_is

@@ -1,4 +1,5 @@
-use Rattle.std.proofs.Common.{◌+◌, refl}
+use Rattle.std.proofs.Common.{◌+◌, ◌-◌, length, take, drop, refl}
+use Rattle.decode_core.specs.declared.turned.Stopped.TheVariants as stop
 use Rattle.decode_core.specs.declared.turned.Turned.TheVariants as turned
 use Rattle.decode_core.proofs.steps.Calls.{call_nearer, call_on, tells_short, tells_stopped}
 use Rattle.decode_core.proofs.steps.Calls.{tells_wants, whole_added, whole_left, whole_short}
@@ -33,6 +34,18 @@ returns-in-OutOfMemory g c =
     c.turns.invariant.so_far
     (whole_short c.turns.self w.new.self c.args.piece.now c.turns.at c.turns.turns.so_far
     w.new.turns.so_far w.result.0 w.result.1 c.in-OutOfMemory.is w.ensures)
+
+pub returns-then-is_finished : goal.returns-then-is_finished
+returns-then-is_finished g c =
+    let w = c.whole_turns-before in
+    let at = c.turns.at + w.result.0 in
+    let rest = take (length c.args.piece.now - at) (drop at c.args.piece.now) in
+    tells_stopped c.args.self.now c.turns.self w.new.self c.args.piece.now c.turns.at
+    c.args.turns.now.so_far c.turns.turns.so_far w.new.turns.so_far w.result.0 stop.Finished
+    c.turns.invariant.so_far
+    (whole_left c.turns.self w.new.self w.new.self c.args.piece.now c.turns.at
+    c.turns.turns.so_far w.new.turns.so_far w.result.0 w.result.1 (turned.Stopped stop.Finished)
+    c.in-Left.is w.ensures (refl, c.if-is_finished.ensures.ends refl rest) refl (λ is. refl))
 
 pub returns-in-Stopped : goal.returns-in-Stopped
 returns-in-Stopped g c =
