@@ -268,8 +268,8 @@ impl<'r, A: Allocator> Decoder<'r, A> {
         }
     }
 
-    /// The value, where it is whole; first it does what a piece of no bytes does. After `Done` it is the value that was
-    /// there, and takes no memory.
+    /// The value, where it is whole: after `Done` the one that was there, for which it takes no memory. Else it first does
+    /// what a piece of no bytes does.
     ///
     /// Refuses a value that is unfinished as `Truncated` at the number of bytes that were fed, and after a refusal with
     /// the same. On the way it refuses what a piece of no bytes would be refused for. Nothing comes back then.

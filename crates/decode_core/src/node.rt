@@ -112,7 +112,7 @@ pub(crate) fn start_run<A: Allocator>(
     Ok(length)
 }
 
-/// The text that stands whole on the front of the piece, and its bytes with its length; none where some are missing or bad.
+/// The text that stands whole on the front of the piece, and how many bytes it has with its length, if none is bad.
 #[inline(always)]
 fn whole_text(piece: &[u8]) -> Option<(Leaf<'_>, usize)>
     ensures { IfSome result (λ x. ReadsRun RunKind.Text piece.now x.0 x.1) }
