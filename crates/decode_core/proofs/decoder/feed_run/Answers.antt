@@ -50,15 +50,14 @@ returns-in-Wants-clause-counts g c = λ j b calls e led before.
     counts_long j b c.args.piece.now c.within-offered.result.now c.args.run.now c.feed.new.self
     c.args.limit c.args.taken c.in-Ok.fed.0 c.args.turns.now.so_far
     c.feed.new.turns.so_far calls c.in-Ok.fed.1 e c.within-offered.ensures led
-    c.in-Ok.ensures.reports c.in-Wants.is
-    c.in-Ok.ensures.counts before.1
+    c.in-Ok.ensures.reports c.in-Wants.is c.in-Ok.ensures.counts before.1
 
 pub returns-in-Refused-clause-counts : goal.returns-in-Refused-clause-counts
 returns-in-Refused-clause-counts g c = λ j b calls e led before.
     let r = c.in-Refused in
     let within = run_held j b c.args.piece.now c.within-offered.result.now c.args.run.now
-    c.feed.new.self c.args.limit c.args.taken c.in-Ok.fed.0 r.held r.reason r.at r.len c.in-Ok.fed.1 e
-    c.within-offered.ensures led c.in-Ok.ensures.reports r.is in
+    c.feed.new.self c.args.limit c.args.taken c.in-Ok.fed.0 r.held r.reason r.at r.len
+    c.in-Ok.fed.1 e c.within-offered.ensures led c.in-Ok.ensures.reports r.is in
     counts_refused j b c.within-offered.result.now c.args.run.now c.feed.new.self c.args.taken
     c.in-Ok.fed.0 r.held r.reason r.at r.len c.args.turns.now.so_far c.feed.new.turns.so_far calls
     c.in-Ok.fed.1 led c.in-Ok.ensures.reports r.is within c.in-Ok.ensures.counts before.1
@@ -73,9 +72,9 @@ pub returns-in-Refused-clause-takes : goal.returns-in-Refused-clause-takes
 returns-in-Refused-clause-takes g c =
     let r = c.in-Refused in
     let within = run_held c.requires.led.job c.requires.led.bytes c.args.piece.now
-    c.within-offered.result.now c.args.run.now c.feed.new.self c.args.limit c.args.taken c.in-Ok.fed.0
-    r.held r.reason r.at r.len c.in-Ok.fed.1 c.requires.led.is_limit c.within-offered.ensures
-    c.requires.led.led c.in-Ok.ensures.reports r.is in
+    c.within-offered.result.now c.args.run.now c.feed.new.self c.args.limit c.args.taken
+    c.in-Ok.fed.0 r.held r.reason r.at r.len c.in-Ok.fed.1 c.requires.led.is_limit
+    c.within-offered.ensures c.requires.led.led c.in-Ok.ensures.reports r.is in
     let few = takes_refused c.args.run.now c.feed.new.self c.within-offered.result.now c.in-Ok.fed.0
     r.held c.args.taken r.len r.reason r.at c.in-Ok.fed.1 c.in-Ok.ensures.reports r.is within in (
       few.0,

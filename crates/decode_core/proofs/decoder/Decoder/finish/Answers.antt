@@ -25,23 +25,17 @@ returns-clause-finishes g c = λ b led.
     let run = sym (ap (λ (d : Decoding). d.run) c.self.view_is) ∙ c.in-Ok.is in
     let is = subst (λ (s : Running). c.into_value.result ≡ finished s.built) (sym one)
     c.into_value.ensures in
-    ends_whole c.args.self b c.in-Ok.run' c.into_value.result run (c.if-is_finished.ensures.ends refl)
-    (c.if-is_finished.ensures.sound refl) is led
+    ends_whole c.args.self b c.in-Ok.run' c.into_value.result run
+    (c.if-is_finished.ensures.ends refl) (c.if-is_finished.ensures.sound refl) is led
 
 pub returns-clause-small : goal.returns-clause-small
 returns-clause-small g c = λ b led.
-    let one : c.in-Ok.run' ≡ c.in_ok-run.field-0 =
-    same_run c.in-Ok.run' c.in_ok-run.field-0 c.self.inside.run c.in-Ok.is c.in_ok-run.was in
-    let run = sym (ap (λ (d : Decoding). d.run) c.self.view_is) ∙ c.in-Ok.is in
-    let is = subst (λ (s : Running). c.into_value.result ≡ finished s.built) (sym one)
-    c.into_value.ensures in
-    value_small c.args.self.job b c.into_value.result
-    (ends_whole c.args.self b c.in-Ok.run' c.into_value.result run
-    (c.if-is_finished.ensures.ends refl) (c.if-is_finished.ensures.sound refl) is led)
+    value_small c.args.self.job b c.into_value.result (returns-clause-finishes g c b led)
 
 pub returns-in_err-feed-clause-finishes : goal.returns-in_err-feed-clause-finishes
 returns-in_err-feed-clause-finishes g c = λ b led.
-    let p = err_from_is_err_and c.from_residual-in_err-feed.result c.from_residual-in_err-feed.ensures.1 in
+    let p = err_from_is_err_and c.from_residual-in_err-feed.result
+    c.from_residual-in_err-feed.ensures.1 in
     rw (p.1, p.2) (ends_refused c.args.self c.feed.new.self b c.in_err-feed.field-0.0
     c.in_err-feed.ensures.job (c.in_err-feed.ensures.answers b led).0)
 
@@ -65,13 +59,9 @@ pub returns-2-clause-finishes : goal.returns-2-clause-finishes
 returns-2-clause-finishes g c = λ b led.
     let run = sym (ap (λ (d : Decoding). d.run) c.decoder.view_is) ∙ c.in_ok-run-2.was in
     ends_by c.args.self c.feed.new.self b c.in_ok-feed.field-0 c.in_ok-run-2.field-0
-    c.into_value-2.result c.in_ok-feed.ensures.job c.in_default-2.not-More run c.into_value-2.ensures
-    (c.in_ok-feed.ensures.answers b led)
+    c.into_value-2.result c.in_ok-feed.ensures.job c.in_default-2.not-More run
+    c.into_value-2.ensures (c.in_ok-feed.ensures.answers b led)
 
 pub returns-2-clause-small : goal.returns-2-clause-small
 returns-2-clause-small g c = λ b led.
-    let run = sym (ap (λ (d : Decoding). d.run) c.decoder.view_is) ∙ c.in_ok-run-2.was in
-    value_small c.args.self.job b c.into_value-2.result
-    (ends_by c.args.self c.feed.new.self b c.in_ok-feed.field-0 c.in_ok-run-2.field-0
-    c.into_value-2.result c.in_ok-feed.ensures.job c.in_default-2.not-More run c.into_value-2.ensures
-    (c.in_ok-feed.ensures.answers b led))
+    value_small c.args.self.job b c.into_value-2.result (returns-2-clause-finishes g c b led)
