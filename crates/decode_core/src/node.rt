@@ -10,9 +10,8 @@ ghost use Rattle.value_core.specs.Walked.{next_of};
 ghost use Rattle.form_core.specs.Needs.{AreOwn};
 ghost use Rattle.decode_core.specs.NodeAdds.{ReadsFront, AddsBare, AddsBytes, AddsNode, OpensRun};
 ghost use Rattle.decode_core.specs.NodeAdds.{ReadsRun};
-ghost use Rattle.form_core.specs.NodeForms.{form_of_bare, form_of_plain};
+ghost use Rattle.form_core.specs.NodeForms.{form_of_bare, form_of_plain, prefixed_kind};
 ghost use Rattle.decode_core.specs.NodeReads.{ReadsPlain};
-ghost use Rattle.form_core.specs.NodeForms.{prefixed_kind};
 
 use crate::fault::DecodeReason;
 use form_core::{BareForm, PlainForm, PrefixedRun};

@@ -484,6 +484,7 @@ impl<'r, A: Allocator> Run<'r, A> {
     #[inline(always)]
     pub(crate) fn is_finished(&self) -> bool
         ensures ends { result ≡ true → (rest : List ℕ) → EndsTurns self.now rest Stopped.Finished }
+        ensures whole { is_whole self.now.built ≡ true → result ≡ true }
         ensures sound { result ≡ true → IsSound self.now }
     {
         matches!(self.builder.walk().next(), Next::Finished)

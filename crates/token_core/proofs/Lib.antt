@@ -1,3 +1,4 @@
+pub mod AsIs
 pub mod Hexadecimal
 pub mod Outputs
 pub mod Placing

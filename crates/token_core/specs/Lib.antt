@@ -1,2 +1,3 @@
+pub mod Plain
 pub mod Tokens
 pub mod Digits

@@ -1,49 +1,47 @@
 //! Whether a text stands in JSON as it is.
 
 ghost use Rattle.std.specs.Prelude.{◌≡◌, ◌+◌, ◌≤◌, length};
-ghost use Rattle.std.specs.Bool.{OnTrue};
-ghost use Rattle.json.specs.Print.{escape};
-ghost use Rattle.json.specs.Written.{PlainBetween};
+ghost use Rattle.token_core.specs.Plain.{TellsAsIs, TellsPlain};
 
 use std::simd::prelude::*;
 
-/// No byte of these 16 needs an escape.
+/// Does no byte of these 16 need an escape?
 #[inline(always)]
 fn is_plain_16(text: &[u8], at: usize) -> bool
     requires { at + 16 ≤ length text.now }
-    ensures { OnTrue result (PlainBetween text.now at (at + 16)) }
+    ensures { TellsPlain result text.now at (at + 16) }
 {
     let bytes = u8x16::from_slice(&text[at..]);
     let marked = bytes.simd_eq(u8x16::splat(b'"')) | bytes.simd_eq(u8x16::splat(b'\\'));
     (marked | bytes.simd_lt(u8x16::splat(0x20))).to_bitmask() == 0
 }
 
-/// No byte of these eight needs an escape.
+/// Does no byte of these eight need an escape?
 #[inline(always)]
 fn is_plain_8(text: &[u8], at: usize) -> bool
     requires { at + 8 ≤ length text.now }
-    ensures { OnTrue result (PlainBetween text.now at (at + 8)) }
+    ensures { TellsPlain result text.now at (at + 8) }
 {
     let bytes = u8x8::from_slice(&text[at..]);
     let marked = bytes.simd_eq(u8x8::splat(b'"')) | bytes.simd_eq(u8x8::splat(b'\\'));
     (marked | bytes.simd_lt(u8x8::splat(0x20))).to_bitmask() == 0
 }
 
-/// No byte of these four needs an escape.
+/// Does no byte of these four need an escape?
 #[inline(always)]
 fn is_plain_4(text: &[u8], at: usize) -> bool
     requires { at + 4 ≤ length text.now }
-    ensures { OnTrue result (PlainBetween text.now at (at + 4)) }
+    ensures { TellsPlain result text.now at (at + 4) }
 {
     let bytes = u8x4::from_slice(&text[at..]);
     let marked = bytes.simd_eq(u8x4::splat(b'"')) | bytes.simd_eq(u8x4::splat(b'\\'));
     (marked | bytes.simd_lt(u8x4::splat(0x20))).to_bitmask() == 0
 }
 
-/// No byte needs an escape, one at a time.
+/// Does no byte need an escape? One at a time.
 #[inline(always)]
 fn is_plain_bytewise(text: &[u8]) -> bool
-    ensures { OnTrue result (PlainBetween text.now 0 (length text.now)) }
+    ensures { TellsPlain result text.now 0 (length text.now) }
 {
     'bytes: for &byte in text {
         if byte == b'"' || byte == b'\\' || byte < 0x20 {
@@ -53,11 +51,11 @@ fn is_plain_bytewise(text: &[u8]) -> bool
     true
 }
 
-/// No byte needs an escape, 16 at a time, the last of them again where they don't come out even.
+/// Does no byte need an escape? 16 at a time, the last of them again where they don't come out even.
 #[inline(always)]
 fn is_plain_long(text: &[u8]) -> bool
     requires { 16 ≤ length text.now }
-    ensures { OnTrue result (PlainBetween text.now 0 (length text.now)) }
+    ensures { TellsPlain result text.now 0 (length text.now) }
 {
     let mut at = 0;
     'blocks: while text.len() - at > 16 {
@@ -73,7 +71,7 @@ fn is_plain_long(text: &[u8]) -> bool
 /// look at each byte, up to the first that needs one.
 #[inline(always)]
 pub fn is_plain(text: &str) -> bool
-    ensures { OnTrue result (escape text.now ≡ text.now) }
+    ensures { TellsAsIs result text.now }
 {
     let bytes = text.as_bytes();
     if bytes.len() >= 16 {

@@ -1,9 +1,8 @@
 -- What the step of the next type says of what comes next, and of the parts that it opens.
 use Rattle.std.proofs.Common.{◌≡◌, ℕ, ◌+◌, ◌≤◌, Bool, true, false, List, length, Option, Some, None}
 use Rattle.std.proofs.Common.{refl, sym, ap, subst, ◌∙◌, arith, inl, inr}
-use Rattle.std.specs.Prelude.{option_map, nat_lt, if◌then◌else◌}
+use Rattle.std.specs.Prelude.{option_map, nat_lt, if◌then◌else◌, IfSome}
 use Rattle.scale_core.specs.declared.compact.Target.{Target}
-use Rattle.std.proofs.lemmas.Option.{none-some, same_Some}
 use Rattle.registry_core.specs.declared.definition.TypeDef.{TypeDef}
 use Rattle.registry_core.specs.declared.definition.TypeDef.TheVariants as Def
 use Rattle.registry_core.specs.declared.type_id.TypeId.{TypeId}
@@ -26,8 +25,9 @@ use Rattle.grammar_core.specs.Parts.{Part, each, times, how_many_left}
 use Rattle.grammar_core.specs.declared.form.Form.{Form}
 use Rattle.grammar_core.specs.declared.form.Form.TheVariants as form
 use Rattle.grammar_core.specs.declared.form.Next.TheVariants as next
-use Rattle.value_core.specs.Ahead.{IsStepAhead, IsStepOf, element_in, members_in}
+use Rattle.value_core.specs.Ahead.{IsAhead, IsStepOf, elements_in, members_in}
 use Rattle.value_core.specs.declared.left.Left.{Left}
+use Rattle.value_core.specs.declared.walk.Ahead.{Ahead}
 use Rattle.value_core.specs.Frames.{left_of, members_of}
 use Rattle.value_core.specs.Opened.{OpensFields, OpensArm, OpensElements, IsListNext, shape_at}
 use Rattle.value_core.specs.Opened.{next_shape}
@@ -36,6 +36,27 @@ use Rattle.value_core.proofs.Forms.{wanted}
 use Rattle.value_core.proofs.Members.{parts_left, parts_counted}
 use Rattle.value_core.proofs.Opened.{composite_opens, tuple_opens, array_opens, sequence_opens}
 use Rattle.value_core.proofs.Opened.{arm_opens}
+
+-- a type is next, and this is its step
+abbrev pub IsStepAhead : List TypeInfo → Option ℕ → Step → Type 0
+IsStepAhead r (Some t) s = IsStepOf r t s
+IsStepAhead r None s = ⊥
+
+-- where the last look-up found one, a type is next
+pub found_ahead : (r : List TypeInfo) (o : Option ℕ) (a : Ahead) → IsAhead r o true a →
+    IsStepAhead r o a.step
+found_ahead r (Some t) a h = h.1
+found_ahead r None a h = h
+
+-- where a type is next, it is the one that the walk tells
+pub type_is : (w : Walked) (t u : ℕ) → next_type w ≡ Some u → IfSome (next_type w) (λ x. t ≡ x) →
+    Some t ≡ next_type w
+type_is w t u e h = let same : t ≡ u = rw e at h in ap Some same ∙ sym e
+
+-- and so where a form is wanted
+pub type_wanted : (w : Walked) (f : Form) (t : ℕ) → next_of w ≡ next.Wants f →
+    IfSome (next_type w) (λ x. t ≡ x) → Some t ≡ next_type w
+type_wanted w f t e h = let k = wanted w f e in type_is w t k.ty k.is_next h
 
 -- the step of a type says what comes next, whether the type is known or not
 pub next_by_step : (r : List TypeInfo) (t : ℕ) (s : Step) → IsStepOf r t s →
@@ -51,7 +72,7 @@ next_by_step r t s h = go (shape r t) refl where
 
 -- where there is room for it, what comes next is what the step of the next type says
 pub next_in_room : (w : Walked) (s : Step) → length w.frames ≤ w.limit + 1 →
-    IsStepAhead w.types (next_type w) (Some s) → next_of_step s ≡ next_of w
+    IsStepAhead w.types (next_type w) s → next_of_step s ≡ next_of w
 next_in_room w s h a = go (next_type w) (nat_lt (w.limit + 1) (length w.frames)) refl refl where
   go : (o : Option ℕ) (deep : Bool) → next_type w ≡ o →
       nat_lt (w.limit + 1) (length w.frames) ≡ deep → next_of_step s ≡ next_of w
@@ -169,7 +190,7 @@ record IsKnownNext (w : Walked) (s : Step) : Type 0 where
 
 -- where the step that is ahead is not that of no value, the next type is known and has it
 known : (w : Walked) (s : Step) → (s ≡ step.NoValue → ⊥) →
-    IsStepAhead w.types (next_type w) (Some s) → IsKnownNext w s
+    IsStepAhead w.types (next_type w) s → IsKnownNext w s
 known w s some h = go (next_type w) refl where
   at : (t : ℕ) (x : Option TypeDef) → next_type w ≡ Some t → shape w.types t ≡ x →
       IsStepOf w.types t s → IsKnownNext w s
@@ -213,7 +234,7 @@ parts_open w from count from' count' c ts e parts o =
 
 -- where fields are next, they are the piece of references that the step ahead reports
 fields_open : (w : Walked) (from count : ℕ) → next_of w ≡ next.Wants form.Fields →
-    IsStepAhead w.types (next_type w) (Some (step.Parts from count)) →
+    IsStepAhead w.types (next_type w) (step.Parts from count) →
     OpensParts w (members_of from count)
 fields_open w from count h a =
     let k = known w (step.Parts from count) (λ e. absurd cc) a in
@@ -237,7 +258,7 @@ fields_open w from count h a =
 
 -- where an array is next, so many of the type that the step ahead reports are its elements
 elements_open : (w : Walked) (n m t : ℕ) → next_of w ≡ next.Wants (form.Array n) →
-    IsStepAhead w.types (next_type w) (Some (step.Array m t)) → OpensElements w n (times n t)
+    IsStepAhead w.types (next_type w) (step.Array m t) → OpensElements w n (times n t)
 elements_open w n m t h a =
     let k = known w (step.Array m t) (λ e. absurd cc) a in
     let c = class_of w.types k.ty in
@@ -260,7 +281,7 @@ elements_open w n m t h a =
 
 -- where a sequence is next, any number of the type that the step ahead reports are its elements
 sequence_elements_open : (w : Walked) (n t : ℕ) → next_of w ≡ next.Wants form.Sequence →
-    IsStepAhead w.types (next_type w) (Some (step.Sequence t)) → OpensElements w n (times n t)
+    IsStepAhead w.types (next_type w) (step.Sequence t) → OpensElements w n (times n t)
 sequence_elements_open w n t h a =
     let k = known w (step.Sequence t) (λ e. absurd cc) a in
     let c = class_of w.types k.ty in
@@ -321,7 +342,7 @@ found_arm_counts w s (Some x) a =
 
 -- where a form is wanted, the step of the next type has it
 with_form : (w : Walked) (f : Form) (s : Step) → next_of w ≡ next.Wants f →
-    IsStepAhead w.types (next_type w) (Some s) → next_of_step s ≡ next.Wants f
+    IsStepAhead w.types (next_type w) s → next_of_step s ≡ next.Wants f
 with_form w f s h a = next_in_room w s (wanted w f h).room a ∙ h
 
 -- no compact is wanted as a value with parts
@@ -334,18 +355,19 @@ compact_no_parts (Some m) f empty compact e = go (is_unit (Some m)) e where
   go true e = empty cc
   go false e = compact m cc
 
--- where a form is wanted, a type is next
-none_ahead : (w : Walked) (f : Form) → next_of w ≡ next.Wants f →
-    IsStepAhead w.types (next_type w) None → ⊥
-none_ahead w f h a = rw (wanted w f h).is_next at a
+-- where a form is wanted, a type is next, and it has the step that is ahead
+wanted_ahead : (w : Walked) (f : Form) (s : Step) → next_of w ≡ next.Wants f →
+    IfSome (next_type w) (λ t. IsStepOf w.types t s) → IsStepAhead w.types (next_type w) s
+wanted_ahead w f s h a =
+    let is = (wanted w f h).is_next in
+    rw is (rw is at a)
 
 -- where fields are next, the step ahead reports a piece of the references
-fields_known : (w : Walked) (o : Option Step) → next_of w ≡ next.Wants form.Fields →
-    IsStepAhead w.types (next_type w) o → (from count : ℕ) × (o ≡ Some (step.Parts from count))
-fields_known w None h a = absurd (none_ahead w form.Fields h a)
-fields_known w (Some s) h a = go s (with_form w form.Fields s h a) where
+fields_known : (w : Walked) (s : Step) → next_of w ≡ next.Wants form.Fields →
+    IsStepAhead w.types (next_type w) s → (from count : ℕ) × (s ≡ step.Parts from count)
+fields_known w s h a = go s (with_form w form.Fields s h a) where
   go : (s : Step) → next_of_step s ≡ next.Wants form.Fields → (from count : ℕ)
-      × (Some s ≡ Some (step.Parts from count))
+      × (s ≡ step.Parts from count)
   go (step.Compact m) e =
       absurd (compact_no_parts m form.Fields (λ f. absurd cc) (λ t f. absurd cc) e)
   go (step.NoArm from count) e = absurd cc
@@ -362,12 +384,11 @@ fields_known w (Some s) h a = go s (with_form w form.Fields s h a) where
   go step.BitSequence e = absurd cc
 
 -- where an array is next, the step ahead is one of an array and reports its elements
-array_known : (w : Walked) (n : ℕ) (o : Option Step) → next_of w ≡ next.Wants (form.Array n) →
-    IsStepAhead w.types (next_type w) o → (m t : ℕ) × (o ≡ Some (step.Array m t))
-array_known w n None h a = absurd (none_ahead w (form.Array n) h a)
-array_known w n (Some s) h a = go s (with_form w (form.Array n) s h a) where
+array_known : (w : Walked) (n : ℕ) (s : Step) → next_of w ≡ next.Wants (form.Array n) →
+    IsStepAhead w.types (next_type w) s → (m t : ℕ) × (s ≡ step.Array m t)
+array_known w n s h a = go s (with_form w (form.Array n) s h a) where
   go : (s : Step) → next_of_step s ≡ next.Wants (form.Array n) → (m t : ℕ)
-      × (Some s ≡ Some (step.Array m t))
+      × (s ≡ step.Array m t)
   go (step.Compact m) e =
       absurd (compact_no_parts m (form.Array n) (λ f. absurd cc) (λ t f. absurd cc) e)
   go (step.NoArm from count) e = absurd cc
@@ -384,12 +405,11 @@ array_known w n (Some s) h a = go s (with_form w (form.Array n) s h a) where
   go step.BitSequence e = absurd cc
 
 -- where a sequence is next, the step ahead is one of a sequence and reports its elements
-sequence_known : (w : Walked) (o : Option Step) → next_of w ≡ next.Wants form.Sequence →
-    IsStepAhead w.types (next_type w) o → (t : ℕ) × (o ≡ Some (step.Sequence t))
-sequence_known w None h a = absurd (none_ahead w form.Sequence h a)
-sequence_known w (Some s) h a = go s (with_form w form.Sequence s h a) where
+sequence_known : (w : Walked) (s : Step) → next_of w ≡ next.Wants form.Sequence →
+    IsStepAhead w.types (next_type w) s → (t : ℕ) × (s ≡ step.Sequence t)
+sequence_known w s h a = go s (with_form w form.Sequence s h a) where
   go : (s : Step) → next_of_step s ≡ next.Wants form.Sequence → (t : ℕ)
-      × (Some s ≡ Some (step.Sequence t))
+      × (s ≡ step.Sequence t)
   go (step.Compact m) e =
       absurd (compact_no_parts m form.Sequence (λ f. absurd cc) (λ t f. absurd cc) e)
   go (step.NoArm from count) e = absurd cc
@@ -405,59 +425,37 @@ sequence_known w (Some s) h a = go s (with_form w form.Sequence s h a) where
   go step.Count e = absurd cc
   go step.BitSequence e = absurd cc
 
--- ---- what is found of the step that is ahead
-
--- where fields are next, the step ahead cannot be one without members
-pub members_there : (w : Walked) (o : Option Step) → next_of w ≡ next.Wants form.Fields →
-    IsStepAhead w.types (next_type w) o → members_in o ≡ None → ⊥
-members_there w o h a e =
-    let k = fields_known w o h a in
-    absurd (none-some (members_of k.0 k.1) (sym e ∙ ap members_in k.2))
+-- ---- what is opened by the step that is ahead
 
 -- where fields are next, the members that the step ahead reports are what is opened
-pub members_opened : (w : Walked) (o : Option Step) (left : Left) →
-    next_of w ≡ next.Wants form.Fields → IsStepAhead w.types (next_type w) o →
-    members_in o ≡ Some left → OpensParts w left
-members_opened w o left h a e =
-    let k = fields_known w o h a in
-    let is : left ≡ members_of k.0 k.1 =
-    same_Some left (members_of k.0 k.1) (sym e ∙ ap members_in k.2) in
-    rw is (fields_open w k.0 k.1 h (rw k.2 at a))
+pub members_opened : (w : Walked) (s : Step) → next_of w ≡ next.Wants form.Fields →
+    IfSome (next_type w) (λ t. IsStepOf w.types t s) → OpensParts w (members_in s)
+members_opened w s h i =
+    let a = wanted_ahead w form.Fields s h i in
+    let k = fields_known w s h a in
+    rw k.2 (fields_open w k.0 k.1 h (rw k.2 at a))
 
--- where an array is next, the step ahead reports the type of its elements, and they are opened
-array_opened : (w : Walked) (n : ℕ) (o : Option Step) → next_of w ≡ next.Wants (form.Array n) →
-    IsStepAhead w.types (next_type w) o → (t : ℕ) × (element_in o ≡ Some t)
-    × OpensElements w n (times n t)
-array_opened w n o h a =
-    let k = array_known w n o h a in
-    (k.1, ap element_in k.2, elements_open w n k.0 k.1 h (rw k.2 at a))
+-- so many elements are opened
+pub record OpensList (w : Walked) (n : ℕ) (left : Left) : Type 0 where
+  pub opens : OpensElements w n (left_of w.types left)
+  pub counts : left.count ≡ n
 
--- where a sequence is next, the step ahead reports the type of its elements, and they are opened
-sequence_opened : (w : Walked) (n : ℕ) (o : Option Step) → next_of w ≡ next.Wants form.Sequence →
-    IsStepAhead w.types (next_type w) o → (t : ℕ) × (element_in o ≡ Some t)
-    × OpensElements w n (times n t)
-sequence_opened w n o h a =
-    let k = sequence_known w o h a in
-    (k.0, ap element_in k.1, sequence_elements_open w n k.0 h (rw k.1 at a))
+-- where an array is next, so many of the type of its elements
+array_opened : (w : Walked) (n : ℕ) (s : Step) → next_of w ≡ next.Wants (form.Array n) →
+    IsStepAhead w.types (next_type w) s → OpensList w n (elements_in s n)
+array_opened w n s h a =
+    let k = array_known w n s h a in
+    rw k.2 (record { opens = elements_open w n k.0 k.1 h (rw k.2 at a); counts = refl })
 
--- the same where an array or a sequence is next
-list_opened : (w : Walked) (n : ℕ) (o : Option Step) → IsListNext w n →
-    IsStepAhead w.types (next_type w) o → (t : ℕ) × (element_in o ≡ Some t)
-    × OpensElements w n (times n t)
-list_opened w n o (inl h) a = array_opened w n o h a
-list_opened w n o (inr h) a = sequence_opened w n o h a
-
--- where an array or a sequence is next, the step ahead cannot be one without elements
-pub elements_there : (w : Walked) (n : ℕ) (o : Option Step) → IsListNext w n →
-    IsStepAhead w.types (next_type w) o → element_in o ≡ None → ⊥
-elements_there w n o h a e =
-    let k = list_opened w n o h a in
-    absurd (none-some k.0 (sym e ∙ k.1))
+-- where a sequence is next, so many of the type of its elements
+sequence_opened : (w : Walked) (n : ℕ) (s : Step) → next_of w ≡ next.Wants form.Sequence →
+    IsStepAhead w.types (next_type w) s → OpensList w n (elements_in s n)
+sequence_opened w n s h a =
+    let k = sequence_known w s h a in
+    rw k.1 (record { opens = sequence_elements_open w n k.0 h (rw k.1 at a); counts = refl })
 
 -- where an array or a sequence is next, so many of the type that the step reports are opened
-pub elements_opened : (w : Walked) (n : ℕ) (o : Option Step) (t : ℕ) → IsListNext w n →
-    IsStepAhead w.types (next_type w) o → element_in o ≡ Some t → OpensElements w n (times n t)
-elements_opened w n o t h a e =
-    let k = list_opened w n o h a in
-    let is : t ≡ k.0 = same_Some t k.0 (sym e ∙ k.1) in
-    rw is k.2
+pub elements_opened : (w : Walked) (n : ℕ) (s : Step) → IsListNext w n →
+    IfSome (next_type w) (λ t. IsStepOf w.types t s) → OpensList w n (elements_in s n)
+elements_opened w n s (inl h) i = array_opened w n s h (wanted_ahead w (form.Array n) s h i)
+elements_opened w n s (inr h) i = sequence_opened w n s h (wanted_ahead w form.Sequence s h i)

@@ -1,7 +1,7 @@
 -- An open run that lacks nothing becomes the next node.
 use Rattle.std.proofs.Common.{◌≡◌, ◌+◌, ◌≤◌, ◌++◌, ◌∷◌, ◌∙◌, Bool, true, false, Option, Some, None}
 use Rattle.std.proofs.Common.{Ok, List, [], ℕ, length, drop, ap, sym, subst, refl, arith}
-use Rattle.std.specs.Prelude.{slice_range}
+use Rattle.std.specs.Prelude.{IfSome, slice_range}
 use Rattle.std.proofs.lemmas.List.{append-nil, length-drop}
 use Rattle.std.specs.Str.{is_utf8}
 use Rattle.std.proofs.lemmas.Option.{same_Some}
@@ -53,6 +53,12 @@ run_text_bytes : (k : RunKind) (s : List ℕ) → head_text_bytes (head.leaf (ru
 run_text_bytes kind.Text s = refl
 run_text_bytes kind.Bytes s = refl
 run_text_bytes (kind.ByteArray n) s = refl
+
+-- what holds where a run is open holds of one that is
+pub if_open : {A : Type 0} (run : Option A) (t : A) (P : Type 0) → run ≡ Some t →
+    IfSome run (λ x. P) → P
+if_open (Some x) t P e h = h
+if_open None t P e h = absurd cc
 
 -- its bytes lie in the pool already
 pub run_ended : (ty : ℕ) (w : Walked) (pool : List ℕ) (ns : List Node) (text_len : ℕ)

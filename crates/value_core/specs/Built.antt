@@ -209,6 +209,10 @@ run_head None = head.leaf tree.unit
 abbrev pub with_run_ended : Built → Built
 with_run_ended b = with_leaf (record b { run = None }) (run_head b.run)
 
+-- the same where a run is open; where none is, nothing is added
+abbrev pub with_run_closed : Built → Built
+with_run_closed b = elim b.run [ Some t ↦ with_run_ended b | None ↦ b ]
+
 -- the bytes of all texts and runs of bytes, those of the open one too
 abbrev pub built_text_bytes : Built → ℕ
 built_text_bytes b = entries_text_bytes b.entries + length (pieces_bytes b.run)

@@ -1,13 +1,13 @@
 //! A value that is built node by node.
 
 ghost use Rattle.std.specs.Prelude.{◌≡◌, ◌<◌, ◌≤◌, ◌+◌, ◌++◌, ◌∷◌, [], length, true, false, OnOk};
-ghost use Rattle.std.specs.Prelude.{OnErr, IfOk, IfErr, Ok, None};
+ghost use Rattle.std.specs.Prelude.{OnErr, IfOk, IfErr, IfSome, Ok, None};
 ghost use Rattle.grammar_core.specs.Runs.{run_form};
 ghost use Rattle.value_core.specs.Begun.{IsBegun};
 ghost use Rattle.value_core.specs.Building.{AreBuilt, Settles};
 ghost use Rattle.value_core.specs.Built.{IsSettled, built_text_bytes, closings, finished};
 ghost use Rattle.value_core.specs.Built.{settled_walk, with_leaf, with_open, with_piece};
-ghost use Rattle.value_core.specs.Built.{with_run_ended, with_run_opened, FitsKind, IsNextLeaf};
+ghost use Rattle.value_core.specs.Built.{with_run_closed, with_run_opened, FitsKind, IsNextLeaf};
 ghost use Rattle.value_core.specs.Built.{IsNextOpen};
 ghost use Rattle.value_core.specs.Frames.{left_of};
 ghost use Rattle.node_core.specs.Shown.{head_shown, size_shown};
@@ -308,10 +308,7 @@ impl<'r, A: Allocator> Builder<'r, A> {
         ensures ok { OnOk result (self.new ≡ with_leaf self.old (leaf_head leaf.entry)) }
         ensures err { OnErr result (self.new ≡ self.old) }
     {
-        let Some(ty) = self.walk.next_type() else {
-            unreachable!()
-        };
-        append(&mut self.nodes, &mut self.pool, ty, leaf)?;
+        append(&mut self.nodes, &mut self.pool, self.walk.ty(), leaf)?;
         self.text_len += leaf.text_len();
         self.walk.advance();
         settle(&mut self.walk, &mut self.nodes, &mut self.turns);
@@ -329,11 +326,8 @@ impl<'r, A: Allocator> Builder<'r, A> {
             (left_of self.old.walk.types left)) }
         ensures err { OnErr result (self.new ≡ self.old) }
     {
-        let Some(ty) = self.walk.next_type() else {
-            unreachable!()
-        };
         let node = Node {
-            ty,
+            ty: self.walk.ty(),
             children: left.count,
             content,
         };
@@ -395,21 +389,18 @@ impl<'r, A: Allocator> Builder<'r, A> {
     }
 
     /// Takes the run that is open, which lacks nothing and is no text that is not UTF-8, as the next node: what `text_end`
-    /// and `bytes_end` do once they have judged. Where memory is refused nothing changes.
+    /// and `bytes_end` do once they have judged. Where none is open, and where memory is refused, nothing changes.
     pub fn close_run(&mut self) -> Result<(), AllocError>
-        requires whole { IsRunWhole self.old }
+        requires whole { IfSome self.old.run (λ run. IsRunWhole self.old) }
         requires valid { bad_text self.old.run ≡ None }
-        ensures ok { OnOk result (self.new ≡ with_run_ended self.old) }
+        ensures ok { OnOk result (self.new ≡ with_run_closed self.old) }
         ensures err { OnErr result (self.new ≡ self.old) }
     {
         let Some(open) = self.open_run else {
-            unreachable!()
-        };
-        let Some(ty) = self.walk.next_type() else {
-            unreachable!()
+            return Ok(());
         };
         let node = Node {
-            ty,
+            ty: self.walk.ty(),
             children: 0,
             content: open.content(),
         };

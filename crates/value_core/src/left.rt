@@ -49,6 +49,13 @@ impl Left {
         }
     }
 
+    /// No values.
+    pub(crate) fn none() -> Left
+        ensures { result ≡ copies_of 0 0 }
+    {
+        Left::copies(0, 0)
+    }
+
     /// The type that is next, if anything is left, by the references of the registry.
     #[inline(always)]
     pub(crate) fn first(&self, references: &[u32]) -> Option<u32>

@@ -3,7 +3,7 @@
 ghost use Rattle.std.specs.Prelude.{◌≡◌, ◌⊎◌, ◌+◌, ◌≤◌, length, is_none, option_map, OnOk, OnErr};
 ghost use Rattle.std.specs.Prelude.{IfSome, IfNone, IsSome};
 ghost use Rattle.grammar_core.specs.Parts.{first_of, how_many_left};
-ghost use Rattle.value_core.specs.Ahead.{IsAhead, IsStepAhead, element_in, members_in};
+ghost use Rattle.value_core.specs.Ahead.{IsAhead, IsStepOf, elements_in, members_in};
 ghost use Rattle.value_core.specs.Frames.{left_of};
 ghost use Rattle.value_core.specs.Opened.{OpensFields, OpensArm, OpensElements, IsListNext};
 ghost use Rattle.value_core.specs.Refusals.{is_whole_in};
@@ -17,40 +17,53 @@ use std::alloc::{AllocError, Allocator};
 use std::marker::Model;
 use widths_core::{Checked, Step};
 
-/// The type of the node that comes next, and its step in the table of the registry.
+/// A type, and its step in the table of the registry.
 #[derive(Clone, Copy)]
 struct Ahead {
     ty: TypeId,
     step: Step,
 }
 
-/// The type that is next in an open node, and its step, if any is left: two look-ups.
+/// A type with its step: one look-up. A type that is no position has no value.
 #[inline(always)]
-fn ahead_in(checked: &Checked, left: &Left) -> Option<Ahead>
-    ensures { IsAhead checked.now.types (first_of (left_of checked.now.types left.now)) result }
+fn ahead_of(checked: &Checked, ty: TypeId) -> Ahead
+    ensures ty { result.ty ≡ ty }
+    ensures step { IsStepOf checked.now.types ty.0 result.step }
 {
-    let ty = TypeId(left.first(checked.members())?);
     let step = checked.step(ty).unwrap_or(Step::NoValue);
-    Some(Ahead { ty, step })
+    Ahead { ty, step }
 }
 
-/// The parts of a composite or a tuple of this step.
-fn members_in(step: Option<Step>) -> Option<Left>
+/// Looks up the type that is next in an open node. Is any left? Where none is, `ahead` stays as it was.
+#[inline(always)]
+fn look_ahead(checked: &Checked, left: &Left, ahead: &mut Ahead) -> bool
+    ensures { IsAhead checked.now.types (first_of (left_of checked.now.types left.now)) result
+        ahead.new }
+{
+    let Some(ty) = left.first(checked.members()) else {
+        return false;
+    };
+    *ahead = ahead_of(checked, TypeId(ty));
+    true
+}
+
+/// The parts of a composite or a tuple of this step; a type of another kind has no such parts.
+fn members_in(step: Step) -> Left
     ensures { result ≡ members_in step }
 {
-    match step? {
-        Step::Parts { from, count } => Some(Left::members(from, count)),
-        _ => None,
+    match step {
+        Step::Parts { from, count } => Left::members(from, count),
+        _ => Left::none(),
     }
 }
 
-/// The type of the elements of an array or a sequence of this step.
-fn element_in(step: Option<Step>) -> Option<u32>
-    ensures { result ≡ element_in step }
+/// So many elements of an array or a sequence of this step; a type of another kind has no elements.
+fn elements_in(step: Step, length: u32) -> Left
+    ensures { result ≡ elements_in step length }
 {
-    match step? {
-        Step::Array { element, .. } | Step::Sequence { element } => Some(element),
-        _ => None,
+    match step {
+        Step::Array { element, .. } | Step::Sequence { element } => Left::copies(length, element),
+        _ => Left::none(),
     }
 }
 
@@ -64,7 +77,10 @@ pub struct Walk<'r, A: Allocator> {
     checked: &'r Checked,
     top: Frame,
     around: Vec<Frame, A>,
-    ahead: Option<Ahead>,
+    /// The type that was looked up last: the next one, where any is left in the innermost node.
+    ahead: Ahead,
+    /// Is any left there?
+    has_next: bool,
     limit: u16,
 }
 
@@ -85,7 +101,8 @@ impl<'r, A: Allocator> Model for Walk<'r, A> {
     } };
 
     ghost invariant = { λ w. (w.limit ≤ 1024) × (length w.around.items ≤ w.limit + 1)
-        × IsAhead w.checked.now.types (first_of (left_of w.checked.now.types w.top.left)) w.ahead };
+        × IsAhead w.checked.now.types (first_of (left_of w.checked.now.types w.top.left))
+            w.has_next w.ahead };
 }
 
 impl<'r, A: Allocator> Walk<'r, A> {
@@ -99,7 +116,8 @@ impl<'r, A: Allocator> Walk<'r, A> {
             checked,
             top: Frame { node: 0, left },
             around: Vec::new(alloc),
-            ahead: ahead_in(checked, &left),
+            ahead: ahead_of(checked, root),
+            has_next: true,
             limit,
         }
     }
@@ -113,13 +131,13 @@ impl<'r, A: Allocator> Walk<'r, A> {
     pub fn next(&self) -> Next
         ensures { result ≡ next_of self.now }
     {
-        let Some(ahead) = self.ahead else {
+        if !self.has_next {
             return Next::Finished;
-        };
+        }
         if self.around.len() > usize::from(self.limit) {
             return Next::Stop(StopReason::TooDeep);
         }
-        next_of_step(ahead.step)
+        next_of_step(self.ahead.step)
     }
 
     /// The depth of the node that comes next: 0 for the root, and one more than that of the node it is part of for any
@@ -140,7 +158,7 @@ impl<'r, A: Allocator> Walk<'r, A> {
     pub(crate) fn is_finished(&self) -> bool
         ensures { result ≡ is_none (next_type self.now) }
     {
-        self.ahead.is_none()
+        !self.has_next
     }
 
     /// Is nothing left, and no node open?
@@ -157,7 +175,7 @@ impl<'r, A: Allocator> Walk<'r, A> {
     {
         self.top.left.advance();
         if !self.top.left.repeats() {
-            self.ahead = ahead_in(self.checked, &self.top.left);
+            self.has_next = look_ahead(self.checked, &self.top.left, &mut self.ahead);
         }
     }
 
@@ -171,7 +189,7 @@ impl<'r, A: Allocator> Walk<'r, A> {
     {
         self.around.push(self.top.advanced())?;
         self.top.set(Frame { node, left });
-        self.ahead = ahead_in(self.checked, &left);
+        self.has_next = look_ahead(self.checked, &left, &mut self.ahead);
         Ok(())
     }
 
@@ -183,13 +201,13 @@ impl<'r, A: Allocator> Walk<'r, A> {
         ensures unchanged { IfNone result (self.new ≡ self.old) }
         ensures none { IfNone result (IsSome (next_type self.old) ⊎ (length self.old.frames ≡ 1)) }
     {
-        if self.ahead.is_some() {
+        if self.has_next {
             return None;
         }
         let frame = self.around.pop()?;
         let node = self.top.node;
         self.top.set(frame);
-        self.ahead = ahead_in(self.checked, &frame.left);
+        self.has_next = look_ahead(self.checked, &frame.left, &mut self.ahead);
         Some(node)
     }
 
@@ -200,19 +218,20 @@ impl<'r, A: Allocator> Walk<'r, A> {
         self.checked
     }
 
-    /// The type of the node that comes next, if any does.
+    /// The type of the node that comes next, where one does.
     #[inline(always)]
-    pub(crate) fn next_type(&self) -> Option<TypeId>
-        ensures { option_map (λ t. t.0) result ≡ next_type self.now }
+    pub(crate) fn ty(&self) -> TypeId
+        ensures { IfSome (next_type self.now) (λ t. result.0 ≡ t) }
     {
-        Some(self.ahead?.ty)
+        self.ahead.ty
     }
 
-    /// The step of the type that comes next, if any does.
-    fn next_step(&self) -> Option<Step>
-        ensures { IsStepAhead self.now.types (next_type self.now) result }
+    /// Its step, where one comes next.
+    #[inline(always)]
+    fn step(&self) -> Step
+        ensures { IfSome (next_type self.now) (λ t. IsStepOf self.now.types t result) }
     {
-        Some(self.ahead?.step)
+        self.ahead.step
     }
 
     /// A value of each field or member of the next type.
@@ -221,10 +240,7 @@ impl<'r, A: Allocator> Walk<'r, A> {
         ensures opens { OpensFields self.now (left_of self.now.types result) }
         ensures counts { how_many_left (left_of self.now.types result) ≡ result.count }
     {
-        let Some(left) = members_in(self.next_step()) else {
-            unreachable!()
-        };
-        left
+        members_in(self.step())
     }
 
     /// The first arm of the index in the next type, by its position, and a value of each of its fields. There is none
@@ -236,8 +252,7 @@ impl<'r, A: Allocator> Walk<'r, A> {
         ensures counts { IfSome result
             (λ x. how_many_left (left_of self.now.types x.1) ≡ x.1.count) }
     {
-        let ty = self.next_type()?;
-        let arm = self.checked().arm_step(ty, index)?;
+        let arm = self.checked().arm_step(self.ty(), index)?;
         Some((arm.position, Left::members(arm.from, arm.count)))
     }
 
@@ -247,9 +262,6 @@ impl<'r, A: Allocator> Walk<'r, A> {
         ensures opens { OpensElements self.now length (left_of self.now.types result) }
         ensures counts { result.count ≡ length }
     {
-        let Some(element) = element_in(self.next_step()) else {
-            unreachable!()
-        };
-        Left::copies(length, element)
+        elements_in(self.step(), length)
     }
 }

@@ -1,6 +1,6 @@
 -- Turns on a text or a run of bytes.
 use Rattle.std.proofs.Common.{◌≡◌, ℕ, ◌+◌, ◌-◌, ◌<◌, ◌≤◌, Bool, true, false, List, [], ◌++◌, length}
-use Rattle.std.proofs.Common.{take, drop, Option, Some, None, Ok, Err, refl, sym, ap, subst, ◌∙◌}
+use Rattle.std.proofs.Common.{IfSome, take, drop, Option, Some, None, Ok, Err, refl, sym, ap, subst, ◌∙◌}
 use Rattle.std.proofs.Common.{append_assoc, arith, inl, inr, length-append, length-drop}
 use Rattle.std.specs.Str.{is_utf8}
 use Rattle.std.specs.Str.Lossy.{utf8_valid_len}
@@ -24,7 +24,8 @@ use Rattle.grammar_core.specs.Runs.{run_length_at}
 use Rattle.grammar_core.specs.declared.form.Form.TheVariants as form
 use Rattle.grammar_core.specs.declared.form.Next.TheVariants as next
 use Rattle.grammar_core.proofs.Runs.{length_extends}
-use Rattle.value_core.specs.Built.{Built, Pieces, next_layout, run_head, with_leaf, with_run_ended}
+use Rattle.value_core.specs.Built.{Built, Pieces, next_layout, run_head, with_leaf, with_run_closed}
+use Rattle.value_core.specs.Built.{with_run_ended}
 use Rattle.value_core.specs.Refusals.{IsRunWhole, bad_bytes, bad_text, missing_at}
 use Rattle.value_core.specs.Walked.{next_of}
 use Rattle.form_core.specs.Needs.{HasBytes}
@@ -184,14 +185,22 @@ pub held_open : (b : Built) (c : List ℕ) (t : Pieces) → b.run ≡ Some t →
 held_open b c t e = ap (λ (o : Option Pieces). run_held o c) e
 
 -- a run at its end lacks nothing
-pub end_whole : (b : Built) → AtEnd b → IsRunWhole b
-end_whole b n =
+lacks_none : (b : Built) → AtEnd b → IsRunWhole b
+lacks_none b n =
     let t = n.pieces in
     let none : t.len - length t.bytes ≡ 0 = omega (arith, n.all) in (
       t.kind,
       ap (λ (o : Option Pieces). missing_at o (next_of b.walk)) n.open_is
           ∙ ap (missing_at (Some t)) n.wants ∙ ap (λ (k : ℕ). Ok (t.kind, k)) none,
     )
+
+-- what holds, holds where one is open
+where_open : (run : Option Pieces) (P : Type 0) → P → IfSome run (λ x. P)
+where_open (Some t) P h = h
+where_open None P h = tt
+
+pub end_whole : (b : Built) → AtEnd b → IfSome b.run (λ x. IsRunWhole b)
+end_whole b n = where_open b.run (IsRunWhole b) (lacks_none b n)
 
 -- what is wrong with its bytes is what is wrong with the open run
 pub end_bad : (b : Built) (n : AtEnd b) →
@@ -232,21 +241,27 @@ run_added b new n good is = (
   is ∙ ap (λ (o : Option Pieces). with_leaf (closed_of b) (run_head o)) n.open_is,
 )
 
+-- a run that is open is closed by ending it
+closed_is : (b : Built) (n : AtEnd b) → with_run_closed b ≡ with_run_ended b
+closed_is b n =
+    ap (λ (o : Option Pieces). elim o [ Some t ↦ with_run_ended b | None ↦ b ]) n.open_is
+
 -- where a run was ended whose bytes are not bad, the decoder is on its way again
 pub ended_running : (b new : Built) (c : List ℕ) (n : AtEnd b) → c ≡ [] → bad_text b.run ≡ None →
-    new ≡ with_run_ended b → IsRunning new c None
+    new ≡ with_run_closed b → IsRunning new c None
 ended_running b new c n none good is =
     subst (λ (l : List ℕ). IsRunning new l None) (sym none)
     (added_running (closed_of b) new (own_of n.pieces)
-    (at_next (closed_of b) (run_form n.pieces.kind) n.wants) refl (run_added b new n good is))
+    (at_next (closed_of b) (run_form n.pieces.kind) n.wants) refl
+    (run_added b new n good (is ∙ closed_is b n)))
 
 -- the run is the next node
 pub ended_reports : (b new : Built) (c : List ℕ) (n : AtEnd b) → c ≡ [] → bad_text b.run ≡ None →
-    new ≡ with_run_ended b →
+    new ≡ with_run_closed b →
     EndReports (record { built = b; carry = c }) (record { built = new; carry = c }) (turned.On 0)
 ended_reports b new c n none good is =
     let own = own_of n.pieces in
-    let a = run_added b new n good is in
+    let a = run_added b new n good (is ∙ closed_is b n) in
     let same = added_same (closed_of b) new c c own a in
     let led : TurnLeads b.walk.types (state_of b) (state_of new) own =
     added_leads (closed_of b) new own (at_next (closed_of b) (run_form n.pieces.kind) n.wants)

@@ -1,8 +1,7 @@
-use Rattle.std.proofs.Common.{◌≡◌, [], ◌∷◌, ◌++◌, length, take, drop, IsUtf8, refl, ap, ◌∙◌, arith}
+use Rattle.std.proofs.Common.{◌≡◌, ◌++◌, length, take, drop, IsUtf8, ap, ◌∙◌, arith}
 use Rattle.std.proofs.Common.{take_at}
 use Rattle.std.proofs.lemmas.Str.{IsUtf8-append}
 use Rattle.json.proofs.Printed.Places.{Placed-then}
-use Rattle.json.proofs.Printed.Utf8.{IsUtf8-are_ascii}
 use Rattle.token_core.proofs.Outputs.{placed_utf8, comma_utf8}
 use Rattle.token_core.proofs.output.Output.put_plain.Goals as goal
 

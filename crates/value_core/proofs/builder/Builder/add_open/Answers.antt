@@ -4,6 +4,7 @@ use Rattle.value_core.specs.Built.{Built, IsNextOpen}
 use Rattle.value_core.specs.Frames.{left_of}
 use Rattle.node_core.specs.Shown.{head_shown}
 use Rattle.node_core.specs.declared.node.Node.{Node}
+use Rattle.value_core.proofs.Ahead.{type_is}
 use Rattle.value_core.proofs.Adding.{open_added}
 use Rattle.value_core.proofs.Closing.{none_open, open_paid, settled_again, settled_paid}
 use Rattle.value_core.proofs.builder.Builder.add_open.Goals as goal
@@ -15,11 +16,12 @@ settle-requires g c =
     subst (λ (b : Built). IsNextOpen b.walk (head_shown [] c.args.left.count c.args.content)
     (left_of b.walk.types c.args.left)) (sym c.self.view_is) c.requires.next in
     let n : Node = record {
-      ty = c.in-Some.ty;
+      ty = c.ty.result;
       children = c.args.left.count;
       content = c.args.content;
     } in
-    let at : n.ty.0 ≡ l.ty = same_Some n.ty.0 l.ty (c.in-Some.ensures ∙ l.next) in
+    let at : n.ty.0 ≡ l.ty = same_Some n.ty.0 l.ty (type_is c.self.inside.walk
+    c.ty.result.0 l.ty l.next c.ty.ensures ∙ l.next) in
     let b = open_added c.self.inside.root.0 c.self.inside.walk c.self.inside.pool.items
     c.self.inside.nodes.items n c.self.inside.text_len
     (left_of c.self.inside.walk.types c.args.left) c.self.invariant.0 l at c.requires.opened in (
@@ -36,11 +38,12 @@ invariant_of-self-2 g c =
     subst (λ (b : Built). IsNextOpen b.walk (head_shown [] c.args.left.count c.args.content)
     (left_of b.walk.types c.args.left)) (sym c.self.view_is) c.requires.next in
     let n : Node = record {
-      ty = c.in-Some.ty;
+      ty = c.ty.result;
       children = c.args.left.count;
       content = c.args.content;
     } in
-    let at : n.ty.0 ≡ l.ty = same_Some n.ty.0 l.ty (c.in-Some.ensures ∙ l.next) in
+    let at : n.ty.0 ≡ l.ty = same_Some n.ty.0 l.ty (type_is c.self.inside.walk
+    c.ty.result.0 l.ty l.next c.ty.ensures ∙ l.next) in
     let b = open_added c.self.inside.root.0 c.self.inside.walk c.self.inside.pool.items
     c.self.inside.nodes.items n c.self.inside.text_len
     (left_of c.self.inside.walk.types c.args.left) c.self.invariant.0 l at c.requires.opened in

@@ -1,7 +1,6 @@
-use Rattle.std.proofs.Common.{◌∙◌, ◌≤◌, ◌+◌, length, subst, Some, arith}
-use Rattle.value_core.specs.Ahead.{IsStepAhead}
+use Rattle.std.proofs.Common.{rules, ◌≡◌, ◌∙◌, ◌≤◌, ◌+◌, length, true, subst, arith}
 use Rattle.value_core.specs.Walked.{Walked, next_type}
-use Rattle.value_core.proofs.Ahead.{next_in_room}
+use Rattle.value_core.proofs.Ahead.{IsStepAhead, found_ahead, next_in_room}
 use Rattle.value_core.proofs.Members.{frames_counted}
 use Rattle.value_core.proofs.walk.Walk.next.Goals as goal
 
@@ -11,8 +10,10 @@ returns g c =
     let room : length c.args.self.now.frames ≤ c.args.self.now.limit + 1 =
     subst (λ (w : Walked). length w.frames ≤ w.limit + 1) c.self.view_is
     (omega (arith, around, c.if-len-from.false, c.from.ensures, c.len.ensures)) in
+    let found : c.self.inside.has_next ≡ true = search rules in
     let ahead : IsStepAhead c.args.self.now.types (next_type c.args.self.now)
-    (Some c.in-Some.ahead.step) =
-    subst (λ (w : Walked). IsStepAhead w.types (next_type w) (Some c.in-Some.ahead.step))
-    c.self.view_is (rw c.in-Some.is at c.self.invariant.2.1) in
-    c.next_of_step.ensures ∙ next_in_room c.args.self.now c.in-Some.ahead.step room ahead
+    c.self.inside.ahead.step =
+    subst (λ (w : Walked). IsStepAhead w.types (next_type w) c.self.inside.ahead.step)
+    c.self.view_is (found_ahead _ _ _ (rw found at c.self.invariant.2)) in
+    c.next_of_step.ensures
+    ∙ next_in_room c.args.self.now c.self.inside.ahead.step room ahead
