@@ -1,20 +1,20 @@
 -- What the bytes of the next node make of a value that is built: the value with the node, or a
 -- refusal.
-use Rattle.std.specs.Prelude.{false, ◌⊎◌, ◌≡◌, ◌≤◌, ℕ, List, [], length, drop, Option, Some, None}
-use Rattle.std.specs.Prelude.{Result, Ok, Err}
+use Rattle.std.specs.Prelude.{false, ◌⊎◌, ◌≡◌, ℕ, List, [], Option, Some, None, Result, Ok, Err}
 use Rattle.scale_core.specs.Read.{Read, place}
 use Rattle.scale_core.specs.declared.fault.Fault.{Fault}
 use Rattle.scale_core.specs.declared.fault.Reason.{Reason}
 use Rattle.widths_core.specs.declared.run_kind.RunKind.{RunKind}
 use Rattle.value_core.specs.Built.{Built, with_leaf, with_open, with_run_opened, next_layout}
+use Rattle.value_core.specs.Walked.{next_of}
 use Rattle.grammar_core.specs.Parts.{Part}
 use Rattle.grammar_core.specs.Preorder.{Head}
 use Rattle.grammar_core.specs.Reading.{Refusal}
-use Rattle.grammar_core.specs.Preorder as head
-use Rattle.grammar_core.specs.Runs.{run_at, run_form, run_leaf, run_length_at}
-use Rattle.node_core.specs.Leaves.{leaf_head, FitsLeaf}
+use Rattle.grammar_core.specs.Runs.{run_form, run_length_at}
+use Rattle.node_core.specs.Leaves.{leaf_head}
 use Rattle.node_core.specs.declared.leaf.Leaf.{Leaf}
 use Rattle.grammar_core.specs.declared.form.Form.{Form}
+use Rattle.grammar_core.specs.declared.form.Next.TheVariants as next
 use Rattle.decode_core.specs.Machine.{is_cut}
 use Rattle.decode_core.specs.Reasons.{reason_of}
 use Rattle.decode_core.specs.Reported.{own_at}
@@ -88,10 +88,9 @@ TakesNode f old new kept own (Err (fault.Refused reported at)) =
 TakesNode f old new kept own (Err fault.OutOfMemory) = IsSpelled old own × (new ≡ old)
     × (kept ≡ None)
 
--- a run of this kind stands whole on the front of a piece, with so many bytes, and the leaf is it
-pub record ReadsRun (k : RunKind) (piece : List ℕ) (l : Leaf) (count : ℕ) : Type 0 where
-  pub bytes : List ℕ
-  pub head : leaf_head l ≡ head.leaf (run_leaf k bytes)
-  pub fits : FitsLeaf l
-  pub within : count ≤ length piece
-  pub read : run_at k piece ≡ Ok (bytes, drop count piece)
+-- no run is open, and these bytes are a value of the next type without parts, which the leaf is
+pub record IsWholeLeaf (b : Built) (own : List ℕ) (l : Leaf) : Type 0 where
+  pub form : Form
+  pub wants : next_of b.walk ≡ next.Wants form
+  pub closed : b.run ≡ None
+  pub read : own_at (next_layout b) own ≡ Ok ((leaf_head l, None), [])

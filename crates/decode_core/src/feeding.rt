@@ -1,13 +1,15 @@
 //! The turns on a piece: those on nodes of one form that follow one another are taken together.
 
-ghost use Rattle.std.specs.Prelude.{true, ◌≡◌};
+ghost use Rattle.std.specs.Prelude.{true, ◌≡◌, ◌≤◌, Some, length};
 ghost use Rattle.form_core.specs.NodeForms.{form_of_bytes};
-ghost use Rattle.decode_core.specs.Turned.{Awaits, FeedTells, WholeReports, WholeTurnsReport};
+ghost use Rattle.decode_core.specs.Running.{IsKeptRun, IsRunNext};
+ghost use Rattle.decode_core.specs.Turned.{Awaits, FeedTells, HoldReports, WholeReports};
+ghost use Rattle.decode_core.specs.Turned.{WholeTurnsReport};
 
-use crate::run::Run;
+use crate::run::{OpenRun, Run};
 use crate::turned::{Held, Stopped, Turned, Whole};
 use count_core::Count;
-use form_core::{BareForm, BytesForm, PrefixedRun, compact_form, primitive_form};
+use form_core::{BareForm, BytesForm, PrefixedRun, compact_form, few_need, primitive_form};
 use registry_core::Primitive;
 use scale_core::Target;
 use std::alloc::Allocator;
@@ -160,6 +162,57 @@ impl<'r, A: Allocator> Run<'r, A> {
                 return Ok((at, Stopped::Wants));
             }
         }
+    }
+
+    /// Holds the bytes that end a piece where the run that is open lacks more.
+    #[inline(always)]
+    fn hold_run(&mut self, run: OpenRun, rest: &[u8]) -> Held
+        requires next { IsRunNext self.old.built self.old.carry self.old.built.run }
+        requires open { IsKeptRun self.old.built.run (Some run) }
+        requires some { 1 ≤ length rest.now }
+        ensures { HoldReports self.old self.new rest.now result }
+    {
+        if run.missing as usize <= rest.len() {
+            return Held::Left;
+        }
+        let Ok(()) = self.builder.extend_run(rest) else {
+            return Held::OutOfMemory;
+        };
+        let missing = run.missing - rest.len() as u32;
+        self.open_run = Some(OpenRun { missing, ..run });
+        Held::All
+    }
+
+    /// The same where a node of this form is next.
+    #[inline(always)]
+    fn hold_own(&mut self, form: Form, rest: &[u8]) -> Held
+        requires next { Awaits self.old form }
+        requires some { 1 ≤ length rest.now }
+        ensures { HoldReports self.old self.new rest.now result }
+    {
+        if let Some(len) = few_need(form, self.carry.first_with(rest))
+            && self.carry.as_slice().len() + rest.len() < len
+        {
+            self.carry.fill(len, rest);
+            return Held::All;
+        }
+        Held::Left
+    }
+
+    /// Holds the bytes that end a piece where the next node lacks more.
+    #[inline(always)]
+    pub(crate) fn hold(&mut self, rest: &[u8]) -> Held
+        ensures { HoldReports self.old self.new rest.now result }
+    {
+        if !rest.is_empty() {
+            if let Some(run) = self.open_run {
+                return self.hold_run(run, rest);
+            }
+            if let Some(form) = self.next_form() {
+                return self.hold_own(form, rest);
+            }
+        }
+        Held::Left
     }
 
     /// Takes turns until one stops, as above, where the piece isn't held whole in one.

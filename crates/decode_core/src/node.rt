@@ -1,6 +1,6 @@
 //! Adding a node by the bytes that are its own.
 
-ghost use Rattle.std.specs.Prelude.{◌≡◌, IfOk, IfSome, Some, None, length};
+ghost use Rattle.std.specs.Prelude.{◌≡◌, IfOk, Some, None, length};
 ghost use Rattle.grammar_core.specs.Runs.{run_form};
 ghost use Rattle.scale_core.specs.Read.{compact_at, number_at, signed_at};
 ghost use Rattle.registry_core.specs.Kinds.{width_bytes};
@@ -9,7 +9,6 @@ ghost use Rattle.value_core.specs.Refusals.{up_to, most_unsigned, within, most_s
 ghost use Rattle.value_core.specs.Walked.{next_of};
 ghost use Rattle.form_core.specs.Needs.{AreOwn};
 ghost use Rattle.decode_core.specs.NodeAdds.{ReadsFront, AddsBare, AddsBytes, AddsNode, OpensRun};
-ghost use Rattle.decode_core.specs.NodeAdds.{ReadsRun};
 ghost use Rattle.form_core.specs.NodeForms.{form_of_bare, form_of_plain, prefixed_kind};
 ghost use Rattle.decode_core.specs.NodeReads.{ReadsPlain};
 
@@ -18,7 +17,7 @@ use form_core::{BareForm, PlainForm, PrefixedRun};
 use registry_core::IntegerWidth;
 use scale_core::{
     Fault, Target, read_bool, read_char, read_compact, read_i8, read_i16, read_i32, read_i64,
-    read_i128, read_text, read_u8, read_u16, read_u32, read_u64, read_u128,
+    read_i128, read_u8, read_u16, read_u32, read_u64, read_u128,
 };
 use std::alloc::{AllocError, Allocator};
 use value_core::{Builder, Form, Leaf, Next, RunKind};
@@ -109,45 +108,6 @@ pub(crate) fn start_run<A: Allocator>(
     let length = read_length(own)?;
     builder.open_run(run.kind(), length);
     Ok(length)
-}
-
-/// The text that stands whole on the front of the piece, and how many bytes it has with its length, if none is bad.
-#[inline(always)]
-fn whole_text(piece: &[u8]) -> Option<(Leaf<'_>, usize)>
-    ensures { IfSome result (λ x. ReadsRun RunKind.Text piece.now x.0 x.1) }
-{
-    let Ok((text, count)) = read_text(piece) else {
-        return None;
-    };
-    Some((Leaf::Text(text.as_bytes()), count))
-}
-
-/// The same of a run of bytes.
-#[inline(always)]
-fn whole_bytes(piece: &[u8]) -> Option<(Leaf<'_>, usize)>
-    ensures { IfSome result (λ x. ReadsRun RunKind.Bytes piece.now x.0 x.1) }
-{
-    let Ok((length, start)) = read_compact(piece, Target::U32) else {
-        return None;
-    };
-    let rest = &piece[start..];
-    let length = length as usize;
-    if rest.len() < length {
-        return None;
-    }
-    Some((Leaf::Bytes(&rest[..length]), start + length))
-}
-
-/// The text or the run of bytes that stands whole on the front of the piece, and how many bytes it has with its length:
-/// none where bytes are missing, or are refused.
-#[inline(always)]
-pub(crate) fn whole_run(run: PrefixedRun, piece: &[u8]) -> Option<(Leaf<'_>, usize)>
-    ensures { IfSome result (λ x. ReadsRun (prefixed_kind run) piece.now x.0 x.1) }
-{
-    match run {
-        PrefixedRun::Text => whole_text(piece),
-        PrefixedRun::Bytes => whole_bytes(piece),
-    }
 }
 
 /// A node without parts, by its bytes.

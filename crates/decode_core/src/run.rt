@@ -5,26 +5,29 @@ ghost use Rattle.std.specs.Prelude.{false, None, Some, IfSome, Ok};
 ghost use Rattle.decode_core.specs.Running.{IsCarry, IsFresh, IsKeptRun, IsRunNext};
 ghost use Rattle.grammar_core.specs.Runs.{run_form};
 ghost use Rattle.value_core.specs.Walked.{next_of};
-ghost use Rattle.value_core.specs.Built.{built_text_bytes, finished};
+ghost use Rattle.node_core.specs.Leaves.{leaf_head, FitsLeaf};
+ghost use Rattle.value_core.specs.Built.{built_text_bytes, finished, IsNextLeaf};
 ghost use Rattle.value_core.specs.Refusals.{is_whole};
 ghost use Rattle.form_core.specs.Needs.{AreOwn, IsNeeded};
 ghost use Rattle.form_core.specs.NodeForms.{form_of_bare, form_of_bytes, prefixed_kind};
-ghost use Rattle.decode_core.specs.NodeAdds.{TakesNode};
-ghost use Rattle.decode_core.specs.Turned.{Awaits, BareReports, EndReports, EndsTurns, HoldReports};
+ghost use Rattle.decode_core.specs.NodeAdds.{IsWholeLeaf, TakesNode};
+ghost use Rattle.decode_core.specs.Turned.{Awaits, BareReports, EndReports, EndsTurns};
 ghost use Rattle.decode_core.specs.Turned.{IsOn, IsSound, KeepsTurns, PieceReports, StepReports};
 ghost use Rattle.decode_core.specs.Turned.{WantsBytes, WholeReports, node_turned};
 
 use crate::fault::DecodeReason;
 use crate::node::{
-    NodeFault, add_arm, add_bare, add_byte_array, add_plain, add_sequence, start_run, whole_run,
+    NodeFault, add_arm, add_bare, add_byte_array, add_plain, add_sequence, start_run,
 };
-use crate::turned::{Held, Stopped, Turned, Whole};
+use crate::turned::{Stopped, Turned, Whole};
 use count_core::Count;
-use form_core::{BareForm, BytesForm, Carry, NodeForm, PrefixedRun, few_need, need, node_form};
-use scale_core::compact_len;
+use form_core::{
+    BareForm, BytesForm, Carry, NodeForm, PlainForm, PrefixedRun, need, node_form, whole_run,
+};
+use scale_core::{Target, compact_len, read_compact};
 use std::alloc::Allocator;
 use std::marker::Model;
-use value_core::{Builder, Form, Next, RunKind, Value};
+use value_core::{Builder, Form, Leaf, Next, RunKind, Value};
 
 /// A text or a run of bytes that is open: how many bytes it is to have, and how many of them are missing.
 #[derive(Clone, Copy)]
@@ -37,9 +40,9 @@ pub(crate) struct OpenRun {
 /// is open are in the builder.
 #[derive(Drop)]
 pub(crate) struct Run<'r, A: Allocator> {
-    builder: Builder<'r, A>,
-    carry: Carry,
-    open_run: Option<OpenRun>,
+    pub(crate) builder: Builder<'r, A>,
+    pub(crate) carry: Carry,
+    pub(crate) open_run: Option<OpenRun>,
 }
 
 impl<'r, A: Allocator> Model for Run<'r, A> {
@@ -213,6 +216,9 @@ impl<'r, A: Allocator> Run<'r, A> {
         requires { Awaits self.old (form_of_bytes form) }
         ensures { WholeReports self.old self.new piece.now result }
     {
+        if let BytesForm::Plain(PlainForm::Compact(target)) = form {
+            return self.whole_compact(target, piece);
+        }
         if piece.is_empty() || !self.carry.as_slice().is_empty() {
             return Whole::Left;
         }
@@ -227,6 +233,21 @@ impl<'r, A: Allocator> Run<'r, A> {
         }
     }
 
+    /// A turn on a node without parts that the piece has whole: the leaf, which these bytes of it spell, is added.
+    #[inline(always)]
+    fn whole_leaf(&mut self, leaf: Leaf<'_>, own: &[u8]) -> Whole
+        requires whole { IsWholeLeaf self.old.built own.now leaf }
+        requires next { IsNextLeaf self.old.built.walk (leaf_head leaf) }
+        requires fits { FitsLeaf leaf }
+        requires empty { self.old.carry ≡ [] }
+        ensures { (rest : List ℕ) → WholeReports self.old self.new (own.now ++ rest) result }
+    {
+        let Ok(()) = self.builder.add_leaf(leaf) else {
+            return Whole::OutOfMemory;
+        };
+        Whole::Added(own.len())
+    }
+
     /// A turn on a text or a run of bytes that the piece has whole with its length, and of which nothing is refused.
     pub(crate) fn whole_prefixed(&mut self, run: PrefixedRun, piece: &[u8]) -> Whole
         requires { Awaits self.old (run_form (prefixed_kind run)) }
@@ -235,10 +256,21 @@ impl<'r, A: Allocator> Run<'r, A> {
         if self.carry.as_slice().is_empty()
             && let Some((leaf, count)) = whole_run(run, piece)
         {
-            let Ok(()) = self.builder.add_leaf(leaf) else {
-                return Whole::OutOfMemory;
-            };
-            return Whole::Added(count);
+            return self.whole_leaf(leaf, &piece[..count]);
+        }
+        Whole::Left
+    }
+
+    /// A turn on a compact integer that the piece has whole, and which is not refused.
+    #[inline(always)]
+    pub(crate) fn whole_compact(&mut self, target: Target, piece: &[u8]) -> Whole
+        requires { Awaits self.old (Form.Compact target) }
+        ensures { WholeReports self.old self.new piece.now result }
+    {
+        if self.carry.as_slice().is_empty()
+            && let Ok((value, count)) = read_compact(piece, target)
+        {
+            return self.whole_leaf(Leaf::Compact(value), &piece[..count]);
         }
         Whole::Left
     }
@@ -408,57 +440,6 @@ impl<'r, A: Allocator> Run<'r, A> {
             Next::Wants(form) => Some(form),
             _ => None,
         }
-    }
-
-    /// Holds the bytes that end a piece where the run that is open lacks more.
-    #[inline(always)]
-    fn hold_run(&mut self, run: OpenRun, rest: &[u8]) -> Held
-        requires next { IsRunNext self.old.built self.old.carry self.old.built.run }
-        requires open { IsKeptRun self.old.built.run (Some run) }
-        requires some { 1 ≤ length rest.now }
-        ensures { HoldReports self.old self.new rest.now result }
-    {
-        if run.missing as usize <= rest.len() {
-            return Held::Left;
-        }
-        let Ok(()) = self.builder.extend_run(rest) else {
-            return Held::OutOfMemory;
-        };
-        let missing = run.missing - rest.len() as u32;
-        self.open_run = Some(OpenRun { missing, ..run });
-        Held::All
-    }
-
-    /// The same where a node of this form is next.
-    #[inline(always)]
-    fn hold_own(&mut self, form: Form, rest: &[u8]) -> Held
-        requires next { Awaits self.old form }
-        requires some { 1 ≤ length rest.now }
-        ensures { HoldReports self.old self.new rest.now result }
-    {
-        if let Some(len) = few_need(form, self.carry.first_with(rest))
-            && self.carry.as_slice().len() + rest.len() < len
-        {
-            self.carry.fill(len, rest);
-            return Held::All;
-        }
-        Held::Left
-    }
-
-    /// Holds the bytes that end a piece where the next node lacks more.
-    #[inline(always)]
-    pub(crate) fn hold(&mut self, rest: &[u8]) -> Held
-        ensures { HoldReports self.old self.new rest.now result }
-    {
-        if !rest.is_empty() {
-            if let Some(run) = self.open_run {
-                return self.hold_run(run, rest);
-            }
-            if let Some(form) = self.next_form() {
-                return self.hold_own(form, rest);
-            }
-        }
-        Held::Left
     }
 
     /// Are bytes carried?

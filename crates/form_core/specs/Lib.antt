@@ -1,2 +1,3 @@
 pub mod NodeForms
 pub mod Needs
+pub mod WholeRuns

@@ -1,13 +1,15 @@
-//! The form of the node that is next in a value, by whether it has bytes of its own, how many these are, and room for
-//! those of them that came.
+//! The form of the node that is next in a value, by whether it has bytes of its own, how many these are, room for those of
+//! them that came, and the runs that stand whole on the front of a piece.
 #![tactic(auto)]
 
 mod carry;
 mod forms;
 mod needs;
+mod runs;
 
 pub use carry::Carry;
 pub use forms::{
     BareForm, BytesForm, NodeForm, PlainForm, PrefixedRun, compact_form, node_form, primitive_form,
 };
 pub use needs::{few_need, need};
+pub use runs::whole_run;

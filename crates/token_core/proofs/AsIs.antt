@@ -1,12 +1,13 @@
 -- Which texts stand in JSON as they are, by what a vector test or a loop tells.
-use Rattle.std.proofs.Common.{◌≡◌, ℕ, zero, suc, ◌+◌, ◌*◌, ◌-◌, ◌%◌, ◌^◌, ◌<◌, ◌≤◌, Bool, true, false}
-use Rattle.std.proofs.Common.{cond, ◌==◌, eqb, ltb, ◌||◌, List, [], ◌∷◌, ◌++◌, length, drop, get_or, map}
-use Rattle.std.proofs.Common.{replicate, bit_or, not, Fits, w8, refl, sym, ap, ap₂, ◌∙◌, arith}
-use Rattle.std.proofs.Common.{get_or-take, get_or-drop, length-append, inl, inr}
+use Rattle.std.proofs.Common.{◌≡◌, ℕ, zero, suc, ◌+◌, ◌*◌, ◌%◌, ◌^◌, ◌<◌, ◌≤◌, Bool, true, false}
+use Rattle.std.proofs.Common.{cond, ◌==◌, eqb, ltb, ◌||◌, List, [], ◌∷◌, ◌++◌, length, drop, get_or}
+use Rattle.std.proofs.Common.{map, replicate, bit_or, not, Fits, w8, refl, sym, ap, ap₂, ◌∙◌, ◌-◌}
+use Rattle.std.proofs.Common.{arith, get_or-take, get_or-drop, length-append, inl, inr}
 use Rattle.std.specs.Prelude.{nat_lt, ◌⊎◌, ◌/◌}
 use Rattle.std.specs.Bool.{OnTrue}
 use Rattle.std.specs.Char.{digit_char}
-use Rattle.std.proofs.lemmas.Bool.{or_parts, not-true, eqb-false, ltb-false, cases_eq, cases_lt, ne_eqb}
+use Rattle.std.proofs.lemmas.Bool.{or_parts, not-true, eqb-false, ltb-false, cases_eq, cases_lt}
+use Rattle.std.proofs.lemmas.Bool.{ne_eqb}
 use Rattle.std.proofs.lemmas.List.{length-map}
 use Rattle.std.proofs.lemmas.Simd.{length-chunk, mask_l-mod}
 use lib.Lanes.{chunk, mask_l, zip2, top}
@@ -106,6 +107,7 @@ tells_front d false n is_no low front = λ h. front (λ k from to. h k from (ome
 
 -- ---- what stands for a byte is as long as it is, and longer where it needs an escape
 
+-- what stands for a byte is not nothing
 byte_length : (x : ℕ) → 1 ≤ length (escape_byte x)
 unfolding escape_byte
 byte_length x = by (nat_lt 0 (escape_letter x)) (nat_lt x 32) where
@@ -115,6 +117,7 @@ byte_length x = by (nat_lt 0 (escape_letter x)) (nat_lt x 32) where
   by false true = omega arith
   by false false = omega arith
 
+-- a control character takes two at least
 control_length : (x : ℕ) → nat_lt x 32 ≡ true → 2 ≤ length (escape_byte x)
 unfolding escape_byte
 control_length x e = by (nat_lt 0 (escape_letter x)) (nat_lt x 32) e where
@@ -124,14 +127,17 @@ control_length x e = by (nat_lt 0 (escape_letter x)) (nat_lt x 32) e where
   by false true f = omega arith
   by false false f = absurd cc
 
+-- so does a quotation mark
 quote_length : 2 ≤ length (escape_byte 34)
 unfolding escape_byte
 quote_length = omega arith
 
+-- and a backslash
 backslash_length : 2 ≤ length (escape_byte 92)
 unfolding escape_byte
 backslash_length = omega arith
 
+-- so each byte that needs an escape does
 stop_length : (x : ℕ) → is_stop x ≡ true → 2 ≤ length (escape_byte x)
 stop_length x e = by (cases_eq x 34) (cases_eq x 92) where
   by : (x ≡ 34) ⊎ (x ≡ 34 → ⊥) → (x ≡ 92) ⊎ (x ≡ 92 → ⊥) → 2 ≤ length (escape_byte x)
@@ -139,6 +145,7 @@ stop_length x e = by (cases_eq x 34) (cases_eq x 92) where
   by (inr q) (inl b) = rw b backslash_length
   by (inr q) (inr b) = control_length x (rw (ne_eqb x 34 q, ne_eqb x 92 b) at e)
 
+-- what stands for a text is no shorter than it
 grows : (d : List ℕ) → length d ≤ length (escape d)
 grows [] = omega arith
 grows (x ∷ xs) =
@@ -147,8 +154,13 @@ grows (x ∷ xs) =
 -- a text that is its own escape has no first byte that needs one
 plain_from : (x : ℕ) (xs : List ℕ) (b : Bool) → is_stop x ≡ b → escape (x ∷ xs) ≡ x ∷ xs →
     (escape xs ≡ xs → PlainBetween xs 0 (length xs)) → PlainBetween (x ∷ xs) 0 (length (x ∷ xs))
-plain_from x xs true s e rest = absurd (omega (arith, ap length e,
-    length-append (escape_byte x) (escape xs), stop_length x s, grows xs))
+plain_from x xs true s e rest = absurd (omega (
+  arith,
+  ap length e,
+  length-append (escape_byte x) (escape xs),
+  stop_length x s,
+  grows xs,
+))
 plain_from x xs false s e rest =
     let none = or_parts _ _ s in
     let tests = or_parts (x == 34) _ none.0 in

@@ -49,9 +49,14 @@ found_ahead r (Some t) a h = h.1
 found_ahead r None a h = h
 
 -- where a type is next, it is the one that the walk tells
+pub type_at : (w : Walked) (t u : ℕ) → next_type w ≡ Some u → IfSome (next_type w) (λ x. t ≡ x) →
+    t ≡ u
+type_at w t u e h = rw e at h
+
+-- so that it is what is next
 pub type_is : (w : Walked) (t u : ℕ) → next_type w ≡ Some u → IfSome (next_type w) (λ x. t ≡ x) →
     Some t ≡ next_type w
-type_is w t u e h = let same : t ≡ u = rw e at h in ap Some same ∙ sym e
+type_is w t u e h = ap Some (type_at w t u e h) ∙ sym e
 
 -- and so where a form is wanted
 pub type_wanted : (w : Walked) (f : Form) (t : ℕ) → next_of w ≡ next.Wants f →

@@ -1,6 +1,6 @@
 -- The bytes of text of a node, and a leaf that is kept as the last node.
-use Rattle.std.proofs.Common.{◌≡◌, ℕ, ◌+◌, ◌-◌, ◌^◌, ◌≤◌, ◌<◌, List, [], ◌∷◌, ◌++◌, drop, Some}
-use Rattle.std.proofs.Common.{refl, ◌∙◌, arith}
+use Rattle.std.proofs.Common.{◌≡◌, ℕ, ◌+◌, ◌-◌, ◌^◌, ◌≤◌, ◌<◌, List, [], ◌∷◌, ◌++◌, drop}
+use Rattle.std.proofs.Common.{IfSome, refl, ◌∙◌, arith}
 use Rattle.std.proofs.lemmas.List.{length-take}
 use Rattle.std.proofs.lemmas.Option.{same_Some}
 use Rattle.registry_core.specs.declared.type_id.TypeId.{TypeId}
@@ -15,6 +15,7 @@ use Rattle.node_core.specs.declared.node.Content.{Content}
 use Rattle.node_core.specs.declared.node.Content.TheVariants as content
 use Rattle.node_core.specs.declared.node.Node.{Node}
 use Rattle.value_core.proofs.Adding.{leaf_added, entries_added}
+use Rattle.value_core.proofs.Ahead.{type_is}
 use Rattle.value_core.proofs.Closing.{leaf_paid}
 
 -- a leaf has as many bytes of text as the node that it is added as
@@ -54,11 +55,12 @@ pub record IsWithLeaf (ty : ℕ) (w : Walked) (l : Leaf) (old_pool pool : List �
 -- with a leaf that is next kept as the last node, the value that is being built stays one
 pub leaf_appended : (ty : ℕ) (w : Walked) (l : Leaf) (pool new_pool : List ℕ)
     (ns new_ns : List Node) (text_len : ℕ) (t : TypeId) → IsBuilding ty w pool ns text_len →
-    (h : IsNextLeaf w (leaf_head l)) → Some t.0 ≡ next_type w →
+    (h : IsNextLeaf w (leaf_head l)) → IfSome (next_type w) (λ x. t.0 ≡ x) →
     IsAppended t l ns pool new_ns new_pool →
     IsWithLeaf ty w l pool new_pool ns new_ns text_len h.ty
-leaf_appended ty w l pool new_pool ns new_ns text_len t b h next a =
+leaf_appended ty w l pool new_pool ns new_ns text_len t b h told a =
     let k = a.kept in
+    let next = type_is w t.0 h.ty h.next told in
     let n : Node = record { ty = t; children = 0; content = a.content } in
     let at : t.0 ≡ h.ty = same_Some t.0 h.ty (next ∙ h.next) in
     let shows : head_shown (pool ++ k.more) 0 a.content ≡ leaf_head l = rw k.grown at k.shows in

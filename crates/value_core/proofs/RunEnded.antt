@@ -10,7 +10,7 @@ use Rattle.widths_core.specs.declared.run_kind.RunKind.{RunKind}
 use Rattle.widths_core.specs.declared.run_kind.RunKind.TheVariants as kind
 use Rattle.grammar_core.specs.Preorder as head
 use Rattle.grammar_core.specs.Preorder.{Head}
-use Rattle.grammar_core.specs.Runs.{IsRun, run_leaf}
+use Rattle.grammar_core.specs.Runs.{IsRun, run_form, run_leaf}
 use Rattle.value_core.specs.Building.{IsBuilding, IsOpenAt, IsOpenRun, pieces_shown, run_content}
 use Rattle.value_core.specs.Building.{run_content_of}
 use Rattle.value_core.specs.Built.{FitsKind, head_text_bytes}
@@ -20,6 +20,7 @@ use Rattle.node_core.specs.Shown.{IsInPool, all_kept, head_shown, kept_bytes}
 use Rattle.node_core.specs.declared.node.Node.{Node}
 use Rattle.value_core.specs.declared.open_run.OpenRun.{OpenRun}
 use Rattle.value_core.proofs.Adding.{leaf_added, open_whole}
+use Rattle.value_core.proofs.Ahead.{type_wanted}
 use Rattle.value_core.proofs.NextLeaf.{run_next}
 
 -- where nothing is wrong with the bytes of a run, they are one of its kind
@@ -55,26 +56,31 @@ run_text_bytes kind.Bytes s = refl
 run_text_bytes (kind.ByteArray n) s = refl
 
 -- what holds where a run is open holds of one that is
-pub if_open : {A : Type 0} (run : Option A) (t : A) (P : Type 0) → run ≡ Some t →
-    IfSome run (λ x. P) → P
+if_open : {A : Type 0} (run : Option A) (t : A) (P : Type 0) → run ≡ Some t → IfSome run (λ x. P) →
+    P
 if_open (Some x) t P e h = h
 if_open None t P e h = absurd cc
 
 -- its bytes lie in the pool already
 pub run_ended : (ty : ℕ) (w : Walked) (pool : List ℕ) (ns : List Node) (text_len : ℕ)
-    (run : Option OpenRun) (o : OpenRun) (k : RunKind) (t : TypeId) →
+    (run : Option OpenRun) (o : OpenRun) (t : TypeId) →
     IsBuilding ty w pool ns text_len → IsOpenRun w pool (all_kept ns) run → run ≡ Some o →
-    missing_at (pieces_shown pool run) (next_of w) ≡ Ok (k, 0) →
-    bad_text (pieces_shown pool run) ≡ None → Some t.0 ≡ next_type w →
+    IfSome (pieces_shown pool run)
+    (λ x. (k : RunKind) × (missing_at (pieces_shown pool run) (next_of w) ≡ Ok (k, 0))) →
+    bad_text (pieces_shown pool run) ≡ None → IfSome (next_type w) (λ x. t.0 ≡ x) →
     IsBuilding ty (advanced w) pool
     (ns ++ record { ty = t; children = 0; content = run_content o } ∷ [])
     (text_len + o.len)
-run_ended ty w pool ns text_len run o k t b h is lacks fault next =
+run_ended ty w pool ns text_len run o t b h is whole fault told =
     let place : IsOpenAt w pool (all_kept ns) o.kind o.start o.len =
     subst (IsOpenRun w pool (all_kept ns)) is h in
-    let all = open_whole w pool (all_kept ns) o k place
-    (subst (λ (x : Option OpenRun). missing_at (pieces_shown pool x) (next_of w) ≡ Ok (k, 0)) is
-    lacks) in
+    let next = type_wanted w (run_form o.kind) t.0 place.is_next told in
+    let lacks = if_open (pieces_shown pool run)
+    (record { kind = o.kind; len = o.len; bytes = drop o.start pool })
+    ((k : RunKind) × (missing_at (pieces_shown pool run) (next_of w) ≡ Ok (k, 0)))
+    (ap (pieces_shown pool) is) whole in
+    let all = open_whole w pool (all_kept ns) o lacks.0 place (subst (λ (x : Option OpenRun).
+    missing_at (pieces_shown pool x) (next_of w) ≡ Ok (lacks.0, 0)) is lacks.1) in
     let s = drop o.start pool in
     let valid = is_run o.kind s (subst
     (λ (x : Option OpenRun). bad_text (pieces_shown pool x) ≡ None) is fault) in

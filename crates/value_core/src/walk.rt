@@ -102,7 +102,7 @@ impl<'r, A: Allocator> Model for Walk<'r, A> {
 
     ghost invariant = { λ w. (w.limit ≤ 1024) × (length w.around.items ≤ w.limit + 1)
         × IsAhead w.checked.now.types (first_of (left_of w.checked.now.types w.top.left))
-            w.has_next w.ahead };
+        w.has_next w.ahead };
 }
 
 impl<'r, A: Allocator> Walk<'r, A> {

@@ -66,7 +66,7 @@ unfolding own_at layout_at
 own_plain q own = refl
 
 -- the bytes of the next node, by its form
-next_own : (b : Built) (p : PlainForm) (own : List ℕ) →
+pub next_own : (b : Built) (p : PlainForm) (own : List ℕ) →
     next_of b.walk ≡ next.Wants (form_of_plain p) →
     own_at (next_layout b) own ≡ leaf_own (leaf_at (plain_layout p) own)
 next_own b p own h = ap (λ (f : Layout). own_at f own) (plain_next_layout b p h)

@@ -1,7 +1,7 @@
 -- Turns on a text or a run of bytes.
 use Rattle.std.proofs.Common.{◌≡◌, ℕ, ◌+◌, ◌-◌, ◌<◌, ◌≤◌, Bool, true, false, List, [], ◌++◌, length}
-use Rattle.std.proofs.Common.{IfSome, take, drop, Option, Some, None, Ok, Err, refl, sym, ap, subst, ◌∙◌}
-use Rattle.std.proofs.Common.{append_assoc, arith, inl, inr, length-append, length-drop}
+use Rattle.std.proofs.Common.{take, drop, Option, Some, None, Ok, Err, refl, sym, ap, subst, ◌∙◌}
+use Rattle.std.proofs.Common.{IfSome, append_assoc, arith, inl, inr, length-append, length-drop}
 use Rattle.std.specs.Str.{is_utf8}
 use Rattle.std.specs.Str.Lossy.{utf8_valid_len}
 use Rattle.std.proofs.lemmas.Bool.{cases_lt, lt-ltb}
@@ -199,6 +199,7 @@ where_open : (run : Option Pieces) (P : Type 0) → P → IfSome run (λ x. P)
 where_open (Some t) P h = h
 where_open None P h = tt
 
+-- a run at its end lacks nothing, if one is open at all
 pub end_whole : (b : Built) → AtEnd b → IfSome b.run (λ x. IsRunWhole b)
 end_whole b n = where_open b.run (IsRunWhole b) (lacks_none b n)
 

@@ -1,7 +1,6 @@
 use Rattle.std.proofs.Common.{rules, ◌+◌, ◌^◌, ◌<◌, length, arith, ◌∙◌, sym, ap, subst, refl}
 use Rattle.value_core.specs.Built.{Built, IsNextLeaf, with_leaf}
 use Rattle.node_core.specs.Leaves.{leaf_head, leaf_text_bytes}
-use Rattle.value_core.proofs.Ahead.{type_is}
 use Rattle.value_core.proofs.Closing.{none_open, settled_again, settled_paid}
 use Rattle.value_core.proofs.Leaves.{leaf_appended, text_short, texts_kept}
 use Rattle.value_core.proofs.builder.Builder.add_leaf.Goals as goal
@@ -14,7 +13,7 @@ settle-requires g c =
     let with = leaf_appended c.self.inside.root.0 c.self.inside.walk c.args.leaf
     c.self.inside.pool.items c.append.new.pool.items c.self.inside.nodes.items
     c.append.new.nodes.items c.self.inside.text_len c.ty.result c.self.invariant.0 l
-    (type_is c.self.inside.walk c.ty.result.0 l.ty l.next c.ty.ensures) c.in_ok-append.ensures.ok in (
+    c.ty.ensures c.in_ok-append.ensures.ok in (
       c.self.inside.root.0,
       c.append.new.pool.items,
       c.self.inside.text_len + leaf_text_bytes c.args.leaf,
@@ -29,7 +28,7 @@ invariant_of-self-2 g c =
     let with = leaf_appended c.self.inside.root.0 c.self.inside.walk c.args.leaf
     c.self.inside.pool.items c.append.new.pool.items c.self.inside.nodes.items
     c.append.new.nodes.items c.self.inside.text_len c.ty.result c.self.invariant.0 l
-    (type_is c.self.inside.walk c.ty.result.0 l.ty l.next c.ty.ensures) c.in_ok-append.ensures.ok in
+    c.ty.ensures c.in_ok-append.ensures.ok in
     let closed = none_open c.self.inside.pool.items c.self.inside.open_run
     (ap (λ (b : Built). b.run) c.self.view_is ∙ c.requires.closed) in (
       c.settle.ensures.settles.builds _ _ _
@@ -49,7 +48,7 @@ returns-clause-ok g c =
     let with = leaf_appended c.self.inside.root.0 c.self.inside.walk c.args.leaf
     c.self.inside.pool.items c.append.new.pool.items c.self.inside.nodes.items
     c.append.new.nodes.items c.self.inside.text_len c.ty.result c.self.invariant.0 l
-    (type_is c.self.inside.walk c.ty.result.0 l.ty l.next c.ty.ensures) c.in_ok-append.ensures.ok in
+    c.ty.ensures c.in_ok-append.ensures.ok in
     let closed = none_open c.self.inside.pool.items c.self.inside.open_run
     (ap (λ (b : Built). b.run) c.self.view_is ∙ c.requires.closed) in
     rw (

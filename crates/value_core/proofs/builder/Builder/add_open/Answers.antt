@@ -1,10 +1,9 @@
 use Rattle.std.proofs.Common.{◌≡◌, ◌∙◌, sym, ap, subst, [], length}
-use Rattle.std.proofs.lemmas.Option.{same_Some}
 use Rattle.value_core.specs.Built.{Built, IsNextOpen}
 use Rattle.value_core.specs.Frames.{left_of}
 use Rattle.node_core.specs.Shown.{head_shown}
 use Rattle.node_core.specs.declared.node.Node.{Node}
-use Rattle.value_core.proofs.Ahead.{type_is}
+use Rattle.value_core.proofs.Ahead.{type_at}
 use Rattle.value_core.proofs.Adding.{open_added}
 use Rattle.value_core.proofs.Closing.{none_open, open_paid, settled_again, settled_paid}
 use Rattle.value_core.proofs.builder.Builder.add_open.Goals as goal
@@ -20,8 +19,7 @@ settle-requires g c =
       children = c.args.left.count;
       content = c.args.content;
     } in
-    let at : n.ty.0 ≡ l.ty = same_Some n.ty.0 l.ty (type_is c.self.inside.walk
-    c.ty.result.0 l.ty l.next c.ty.ensures ∙ l.next) in
+    let at : n.ty.0 ≡ l.ty = type_at c.self.inside.walk n.ty.0 l.ty l.next c.ty.ensures in
     let b = open_added c.self.inside.root.0 c.self.inside.walk c.self.inside.pool.items
     c.self.inside.nodes.items n c.self.inside.text_len
     (left_of c.self.inside.walk.types c.args.left) c.self.invariant.0 l at c.requires.opened in (
@@ -42,8 +40,7 @@ invariant_of-self-2 g c =
       children = c.args.left.count;
       content = c.args.content;
     } in
-    let at : n.ty.0 ≡ l.ty = same_Some n.ty.0 l.ty (type_is c.self.inside.walk
-    c.ty.result.0 l.ty l.next c.ty.ensures ∙ l.next) in
+    let at : n.ty.0 ≡ l.ty = type_at c.self.inside.walk n.ty.0 l.ty l.next c.ty.ensures in
     let b = open_added c.self.inside.root.0 c.self.inside.walk c.self.inside.pool.items
     c.self.inside.nodes.items n c.self.inside.text_len
     (left_of c.self.inside.walk.types c.args.left) c.self.invariant.0 l at c.requires.opened in

@@ -1,30 +1,22 @@
-use Rattle.std.proofs.Common.{rules, ◌≡◌, ◌+◌, ◌^◌, ◌<◌, length, arith, None, ap, ◌∙◌, sym, subst}
+use Rattle.std.proofs.Common.{rules, ◌≡◌, ◌+◌, ◌^◌, ◌<◌, length, arith, None, IfSome, sym, subst}
 use Rattle.value_core.specs.Built.{Built}
-use Rattle.grammar_core.specs.Runs.{run_form}
-use Rattle.value_core.specs.Building.{IsOpenRun, pieces_shown}
+use Rattle.value_core.specs.Building.{IsOpenRun}
 use Rattle.value_core.specs.Refusals.{IsRunWhole, bad_text}
 use Rattle.node_core.specs.Shown.{all_kept}
-use Rattle.value_core.proofs.Ahead.{type_wanted}
 use Rattle.value_core.proofs.Closing.{leaf_paid, settled_again, settled_paid}
 use Rattle.value_core.proofs.Leaves.{texts_kept}
-use Rattle.value_core.proofs.RunEnded.{if_open, run_ended}
+use Rattle.value_core.proofs.RunEnded.{run_ended}
 use Rattle.value_core.proofs.builder.Builder.close_run.Goals as goal
 
 pub settle-requires : goal.settle-requires
 settle-requires g c =
-    let lacks = subst IsRunWhole (sym c.self.view_is) (if_open c.args.self.now.run _ _
-    (sym (ap (λ (b : Built). b.run) c.self.view_is)
-    ∙ ap (pieces_shown c.self.inside.pool.items) c.in-Some.is) c.requires.whole) in
-    let place = subst (IsOpenRun c.self.inside.walk c.self.inside.pool.items
-    (all_kept c.self.inside.nodes.items)) c.in-Some.is c.self.invariant.1 in
-    let next = type_wanted c.self.inside.walk (run_form c.in-Some.open.kind) c.ty.result.0
-    place.is_next c.ty.ensures in
+    let whole = subst (λ (b : Built). IfSome b.run (λ x. IsRunWhole b)) (sym c.self.view_is)
+    c.requires.whole in
     let valid = subst (λ (b : Built). bad_text b.run ≡ None) (sym c.self.view_is)
     c.requires.valid in
     let b = run_ended c.self.inside.root.0 c.self.inside.walk c.self.inside.pool.items
-    c.self.inside.nodes.items c.self.inside.text_len c.self.inside.open_run c.in-Some.open lacks.0
-    c.ty.result c.self.invariant.0 c.self.invariant.1 c.in-Some.is lacks.1 valid
-    next in (
+    c.self.inside.nodes.items c.self.inside.text_len c.self.inside.open_run c.in-Some.open
+    c.ty.result c.self.invariant.0 c.self.invariant.1 c.in-Some.is whole valid c.ty.ensures in (
       c.self.inside.root.0,
       c.self.inside.pool.items,
       c.self.inside.text_len + c.in-Some.open.len,
@@ -33,19 +25,13 @@ settle-requires g c =
 
 pub invariant_of-self-2 : goal.invariant_of-self-2
 invariant_of-self-2 g c =
-    let lacks = subst IsRunWhole (sym c.self.view_is) (if_open c.args.self.now.run _ _
-    (sym (ap (λ (b : Built). b.run) c.self.view_is)
-    ∙ ap (pieces_shown c.self.inside.pool.items) c.in-Some.is) c.requires.whole) in
-    let place = subst (IsOpenRun c.self.inside.walk c.self.inside.pool.items
-    (all_kept c.self.inside.nodes.items)) c.in-Some.is c.self.invariant.1 in
-    let next = type_wanted c.self.inside.walk (run_form c.in-Some.open.kind) c.ty.result.0
-    place.is_next c.ty.ensures in
+    let whole = subst (λ (b : Built). IfSome b.run (λ x. IsRunWhole b)) (sym c.self.view_is)
+    c.requires.whole in
     let valid = subst (λ (b : Built). bad_text b.run ≡ None) (sym c.self.view_is)
     c.requires.valid in
     let b = run_ended c.self.inside.root.0 c.self.inside.walk c.self.inside.pool.items
-    c.self.inside.nodes.items c.self.inside.text_len c.self.inside.open_run c.in-Some.open lacks.0
-    c.ty.result c.self.invariant.0 c.self.invariant.1 c.in-Some.is lacks.1 valid
-    next in (
+    c.self.inside.nodes.items c.self.inside.text_len c.self.inside.open_run c.in-Some.open
+    c.ty.result c.self.invariant.0 c.self.invariant.1 c.in-Some.is whole valid c.ty.ensures in (
       c.settle.ensures.settles.builds _ _ _
           (rw (c.advance.ensures, c.in_ok-append_node.ensures.ok, c.content.ensures) b),
       tt,

@@ -1,0 +1,47 @@
+use Rattle.std.proofs.Common.{◌++◌, length, sym, ap, ◌∙◌, subst}
+use Rattle.value_core.specs.Built.{Built}
+use Rattle.decode_core.specs.NodeAdds.{IsWholeLeaf}
+use Rattle.decode_core.specs.Running.{Running, IsRunning}
+use Rattle.decode_core.specs.Turned.{WantsMemory, WholeReports}
+use Rattle.decode_core.specs.declared.turned.Whole.TheVariants as whole
+use Rattle.decode_core.proofs.steps.RunTurns.{carries_none, of_fields}
+use Rattle.decode_core.proofs.steps.WholeRuns.{leaf_reports, leaf_running, leaf_wants}
+use Rattle.decode_core.proofs.run.Run.whole_leaf.Goals as goal
+
+pub invariant_of-self-2 : goal.invariant_of-self-2
+invariant_of-self-2 g c =
+    let is = subst (λ (s : Running). IsWholeLeaf s.built c.args.own.now c.args.leaf)
+    (sym c.self.view_is) c.requires.whole in
+    leaf_running c.self.inside.builder c.add_leaf.new.self c.self.inside.carry
+    c.self.inside.open_run c.args.own.now c.args.leaf c.self.invariant
+    (carries_none c.self.view_is c.requires.empty) is c.in-Ok.ensures.ok
+
+pub returns : goal.returns
+returns g c =
+    let own = c.args.own.now in
+    let k = c.self.inside.carry in
+    let is = subst (λ (s : Running). IsWholeLeaf s.built own c.args.leaf) (sym c.self.view_is)
+    c.requires.whole in
+    λ rest.
+    subst (λ (s : Running). WholeReports s (of_fields c.add_leaf.new.self k) (own ++ rest)
+    (whole.Added (length own))) c.self.view_is
+    (leaf_reports c.self.inside.builder c.add_leaf.new.self k own rest c.args.leaf
+    (carries_none c.self.view_is c.requires.empty) is c.in-Ok.ensures.ok)
+
+pub invariant_of-self : goal.invariant_of-self
+invariant_of-self g c =
+    subst (λ (x : Built). IsRunning x c.self.inside.carry c.self.inside.open_run)
+    (sym c.in_default.ensures.err) c.self.invariant
+
+pub returns-in_default : goal.returns-in_default
+returns-in_default g c =
+    let own = c.args.own.now in
+    let k = c.self.inside.carry in
+    let is = subst (λ (s : Running). IsWholeLeaf s.built own c.args.leaf) (sym c.self.view_is)
+    c.requires.whole in
+    λ rest. (
+      subst (λ (s : Running). WantsMemory s (own ++ rest)) c.self.view_is
+          (leaf_wants c.self.inside.builder k own rest c.args.leaf
+          (carries_none c.self.view_is c.requires.empty) is),
+      ap (λ (x : Built). of_fields x k) c.in_default.ensures.err ∙ c.self.view_is,
+    )
