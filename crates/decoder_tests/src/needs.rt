@@ -1,11 +1,11 @@
-//! How many bytes a node has of its own, by its form and the first of them.
+//! How many bytes a node has of its own, by its form and the first of them, and runs that stand whole on the front of a piece.
 
-use form_core::{BareForm, Carry, NodeForm, few_need, need, node_form};
+use form_core::{BareForm, Carry, NodeForm, PrefixedRun, few_need, need, node_form, whole_run};
 use registry_core::Primitive;
 use scale_core::Target;
 use std::process::Abort;
 use std::test::Fail;
-use value_core::Form;
+use value_core::{Form, Leaf};
 
 /// What it is, a form of nodes with bytes of their own, the first of them, and how many they are.
 type Row = (&'static str, Form, u8, usize);
@@ -71,4 +71,26 @@ fn a_carry_takes_what_is_wanted_in_the_order_in_which_it_comes(rt: HostRuntime) 
     assert_eq!(rt; carry.as_slice(), [1, 2, 3, 4].as_slice());
     carry.clear();
     assert!(rt; carry.as_slice().is_empty());
+}
+
+#[test]
+fn a_run_that_stands_whole_on_the_front_is_lent(rt: HostRuntime) -> Result<(), Fail> {
+    let Some((Leaf::Text(text), 3)) = whole_run(PrefixedRun::Text, &[8, 97, 98, 99]) else {
+        return Err("a text of two bytes, and one that follows".into());
+    };
+    assert_eq!(rt; text, [97, 98].as_slice());
+    let Some((Leaf::Bytes(bytes), 3)) = whole_run(PrefixedRun::Bytes, &[8, 255, 0]) else {
+        return Err("two bytes".into());
+    };
+    assert_eq!(rt; bytes, [255, 0].as_slice());
+    Ok(())
+}
+
+#[test]
+fn no_run_stands_where_bytes_are_missing_or_refused(rt: HostRuntime) {
+    assert!(rt; whole_run(PrefixedRun::Bytes, &[]).is_none());
+    assert!(rt; whole_run(PrefixedRun::Bytes, &[8, 255]).is_none());
+    assert!(rt; whole_run(PrefixedRun::Bytes, &[1, 0, 5]).is_none());
+    assert!(rt; whole_run(PrefixedRun::Text, &[8, 97]).is_none());
+    assert!(rt; whole_run(PrefixedRun::Text, &[4, 255]).is_none());
 }
