@@ -139,6 +139,10 @@ impl<'r, A: Allocator> Run<'r, A> {
     {
         let mut at = 0;
         'turns: loop {
+            if at == piece.len() && self.wants() {
+                turns.tick();
+                return Ok((at, Stopped::Wants));
+            }
             let (before, last) = self.whole_turns(&piece[at..], turns);
             at += before;
             match last {
@@ -156,10 +160,6 @@ impl<'r, A: Allocator> Run<'r, A> {
                 Turned::On(count) => at += count,
                 Turned::Stopped(stopped) => return Ok((at, stopped)),
                 Turned::OutOfMemory => return Err(at),
-            }
-            if at == piece.len() && self.wants() {
-                turns.tick();
-                return Ok((at, Stopped::Wants));
             }
         }
     }

@@ -450,11 +450,16 @@ impl<'r, A: Allocator> Run<'r, A> {
         !self.carry.as_slice().is_empty()
     }
 
-    /// Does the next node, of which no run is open, have bytes of its own? It waits for one where no byte is left.
+    /// Does the run that is open lack bytes, or does the next node, where none is open, have bytes of its own? It waits for
+    /// one where no byte is left.
     pub(crate) fn wants(&self) -> bool
         ensures wants { result ≡ true → WantsBytes self.now }
         ensures sound { result ≡ true → IsSound self.now }
     {
+        if let Some(run) = self.open_run {
+            self.is_on_its_way();
+            return run.missing > 0;
+        }
         let Some(form) = self.next_form() else {
             return false;
         };

@@ -71,20 +71,11 @@ returns-in-OutOfMemory-turn g c =
 
 pub returns-then-wants : goal.returns-then-wants
 returns-then-wants g c =
-    let w = c.whole_turns-before in
-    let t = c.in-On.ensures in
     let wants = c.if-wants.ensures.wants refl in
-    tells_wants c.args.self.now c.turn.new.self c.args.piece.now
-    (c.turns.at + w.result.0 + c.in-On.count) c.args.turns.now.so_far w.new.turns.so_far
-    c.tick.new.self.so_far
-    (call_on c.args.self.now c.turns.self c.turn.new.self c.args.piece.now c.turns.at
-    c.args.turns.now.so_far c.turns.turns.so_far w.new.turns.so_far w.result.0 c.in-On.count
-    c.turns.invariant.so_far
-    (whole_left c.turns.self w.new.self c.turn.new.self c.args.piece.now c.turns.at
-    c.turns.turns.so_far w.new.turns.so_far w.result.0 w.result.1 (turned.On c.in-On.count)
-    c.in-Left.is w.ensures t.reports t.kept t.whole))
-    c.tick.ensures c.if-at-piece.true wants (c.if-wants.ensures.sound refl)
-    (λ is. wants_goes_on c.turn.new.self wants.form wants.next is)
+    tells_wants c.args.self.now c.turns.self c.args.piece.now c.turns.at c.args.turns.now.so_far
+    c.turns.turns.so_far c.tick.new.self.so_far c.turns.invariant.so_far c.tick.ensures
+    c.if-at-piece.true wants (c.if-wants.ensures.sound refl)
+    (λ is. wants_goes_on c.turns.self wants.form wants.next is)
 
 pub turns-smaller : goal.turns-smaller
 turns-smaller g c =
