@@ -19,6 +19,5 @@ pub mod Decides
 pub mod FaultBegins
 pub mod Holds
 pub mod Fed
-pub mod ReadFronts
 pub mod Targets
 pub mod ReportedSpells

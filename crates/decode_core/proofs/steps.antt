@@ -2,7 +2,6 @@
 pub mod Short
 pub mod Whole
 pub mod NodeAdding
-pub mod PlainReads
 pub mod PlainAdding
 pub mod FormSplits
 pub mod LengthAdding
@@ -12,11 +11,13 @@ pub mod Settling
 pub mod Steps
 pub mod RunTurns
 pub mod RunSteps
+pub mod RunEnds
 pub mod ByteArrays
 pub mod WholeRuns
 pub mod Endings
 pub mod Moving
 pub mod Calls
+pub mod Cuts
 pub mod Waiting
 pub mod Holding
 pub mod Sound

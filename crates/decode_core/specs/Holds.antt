@@ -14,7 +14,8 @@ use Rattle.grammar_core.specs.Cells.{child_type}
 use Rattle.grammar_core.specs.Reading.{ValueReader, value_at, Refusal, truncated}
 use Rattle.grammar_core.specs.Begun.{Begun, nothing, open_branch, IsPart, Grows, begun_nodes}
 use Rattle.grammar_core.specs.Begun.{begun_text_bytes, begun_levels}
-use Rattle.decode_core.specs.Reported.{Own, own_at}
+use Rattle.form_core.specs.PlainReads.{Own}
+use Rattle.decode_core.specs.Reported.{own_at}
 
 -- the type that is wanted next may stand there, and its own bytes are not all there
 abbrev pub IsShort : List TypeInfo → ℕ → ℕ → List ℕ → Type 0

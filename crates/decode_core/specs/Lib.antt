@@ -7,7 +7,6 @@ pub mod Met
 pub mod Reported
 pub mod Machine
 pub mod Begins
-pub mod NodeReads
 pub mod Reasons
 pub mod NodeAdds
 pub mod Running

@@ -1,9 +1,7 @@
 -- What the bytes of the next node make of a value that is built: the value with the node, or a
 -- refusal.
 use Rattle.std.specs.Prelude.{false, ◌⊎◌, ◌≡◌, ℕ, List, [], Option, Some, None, Result, Ok, Err}
-use Rattle.scale_core.specs.Read.{Read, place}
-use Rattle.scale_core.specs.declared.fault.Fault.{Fault}
-use Rattle.scale_core.specs.declared.fault.Reason.{Reason}
+use Rattle.scale_core.specs.Read.{place}
 use Rattle.widths_core.specs.declared.run_kind.RunKind.{RunKind}
 use Rattle.value_core.specs.Built.{Built, with_leaf, with_open, with_run_opened, next_layout}
 use Rattle.value_core.specs.Walked.{next_of}
@@ -22,12 +20,6 @@ use Rattle.decode_core.specs.declared.fault.DecodeReason.{DecodeReason}
 use Rattle.decode_core.specs.declared.run.OpenRun.{OpenRun}
 use Rattle.decode_core.specs.declared.node.NodeFault.{NodeFault}
 use Rattle.decode_core.specs.declared.node.NodeFault.TheVariants as fault
-
--- the answer is what is read on the front of the bytes
-abbrev pub ReadsFront : {X : Type 0} → List ℕ → Result X Fault → Read Reason X → Type 0
-ReadsFront own (Ok x) read = (rest : List ℕ) × (read ≡ Ok (x, rest))
-ReadsFront own (Err f) read = (left : List ℕ) × (read ≡ Err (f.reason, left))
-    × (f.at ≡ place own left)
 
 -- a node without children, or one that opens these parts
 abbrev pub with_own : Built → Head × Option Part → Built
@@ -63,13 +55,6 @@ AddsBytes old new own (Err e) = IsSpelled old own × (new ≡ old)
 -- the same of a node without bytes of its own
 abbrev pub AddsBare : {E : Type 0} → Built → Built → Result (Unit {0}) E → Type 0
 AddsBare old new added = AddsBytes old new [] added
-
--- what the bytes of a run's length make of it; no memory is wanted for them
-abbrev pub OpensRun : RunKind → Built → Built → List ℕ → Result ℕ NodeFault → Type 0
-OpensRun k old new own (Ok n) = (run_length_at k own ≡ Ok (n, [])) × (new ≡ with_run_opened old k n)
-OpensRun k old new own (Err (fault.Refused reported at)) =
-    IsRefused old own reported at × (new ≡ old)
-OpensRun k old new own (Err fault.OutOfMemory) = ⊥
 
 -- the bytes are the length of the run that is next, which is open and lacks all its bytes
 abbrev pub IsRunOpened : Form → Built → Built → Option OpenRun → List ℕ → Type 0

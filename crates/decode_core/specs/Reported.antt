@@ -19,6 +19,7 @@ use Rattle.grammar_core.specs.Parts.{Part, each, times}
 use Rattle.decode_core.specs.Met.{met_layout}
 use Rattle.grammar_core.specs.Reading.{layout_at, Refusal, basic, truncated, too_deep}
 use Rattle.grammar_core.specs.Reading.{no_such_variant}
+use Rattle.form_core.specs.PlainReads.{Own, leaf_own}
 
 abbrev pub entry : ℕ → Head → Entry
 entry t h = record { ty = t; head = h }
@@ -26,14 +27,6 @@ entry t h = record { ty = t; head = h }
 -- the nodes without their types
 abbrev pub shown : List Entry → List Head
 shown xs = map (λ e. e.head) xs
-
--- a node's own bytes: the node, and what it opens
-abbrev pub Own : Type 0
-Own = Read Refusal (Head × Option Part)
-
-abbrev pub leaf_own : Read Refusal Tree → Own
-leaf_own (Ok x) = Ok ((head_of x.0, None), x.1)
-leaf_own (Err e) = Err e
 
 abbrev pub arm_own : List ℕ → Option (ℕ × Arm) → List ℕ → Own
 arm_own at (Some found) rest =

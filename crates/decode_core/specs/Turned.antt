@@ -217,6 +217,14 @@ pub record FeedTells (old new : Running) (piece : List ℕ) (from to : ℕ)
   pub whole : is_whole old.built ≡ true → (result ≡ Ok (0, stop.Finished)) × (new ≡ old)
   pub counts : FeedCounts old new piece from to result
 
+-- what stands in the turns of a call: the bytes and turns so far, and what they led to
+pub record CallSoFar (a b : Running) (piece : List ℕ) (at start from : ℕ) : Type 0 where
+  pub inside : at ≤ length piece
+  pub moves : Moves a b (take at piece)
+  pub each : start + length b.built.entries ≤ from + length a.built.entries
+  pub few : from + length a.built.entries ≤ start + at + length b.built.entries
+  pub whole : is_whole a.built ≡ true → (at ≡ 0) × (b ≡ a)
+
 -- a value of this form is next, and no run is open
 pub record Awaits (s : Running) (f : Form) : Type 0 where
   pub next : next_of s.built.walk ≡ next.Wants f
@@ -271,10 +279,10 @@ PieceReports old new piece (turned.On n) = (n ≤ length piece) × IsSame old ne
 PieceReports old new piece (turned.Stopped s) = ⊥
 PieceReports old new piece turned.OutOfMemory = WantsMemory old piece
 
--- a turn that ends a run, whatever follows it
-abbrev pub EndReports : Running → Running → Turned → Type 0
-EndReports old new (turned.On n) = (n ≡ 0) × IsSame old new × Steps old new []
-EndReports old new (turned.Stopped (stop.Refused held reported_reason at len)) = (rest : List ℕ) →
-    EndsTurns old rest (stop.Refused held reported_reason at len)
-EndReports old new (turned.Stopped s) = ⊥
-EndReports old new turned.OutOfMemory = (rest : List ℕ) → WantsMemory old rest
+-- a turn that ends a run, after it took as many of the run's last bytes, whatever follows them
+abbrev pub EndReports : Running → Running → ℕ → Turned → Type 0
+EndReports old new count (turned.On n) = (n ≡ count) × IsSame old new × Steps old new []
+EndReports old new count (turned.Stopped (stop.Refused held reported_reason at len)) =
+    (rest : List ℕ) → EndsTurns old rest (stop.Refused (count + held) reported_reason at len)
+EndReports old new count (turned.Stopped s) = ⊥
+EndReports old new count turned.OutOfMemory = (rest : List ℕ) → WantsMemory old rest

@@ -1,21 +1,158 @@
-//! The turns on a piece: those on nodes of one form that follow one another are taken together.
+//! The turns on a piece: nodes whose bytes it has whole, those of one form taken together, and the bytes that end it.
 
-ghost use Rattle.std.specs.Prelude.{true, ◌≡◌, ◌≤◌, Some, length};
-ghost use Rattle.form_core.specs.NodeForms.{form_of_bytes};
-ghost use Rattle.decode_core.specs.Running.{IsKeptRun, IsRunNext};
-ghost use Rattle.decode_core.specs.Turned.{Awaits, FeedTells, HoldReports, WholeReports};
+ghost use Rattle.std.specs.Prelude.{ℕ, List, true, ◌≡◌, ◌≤◌, ◌<◌, ◌++◌, [], Some, None, Err};
+ghost use Rattle.std.specs.Prelude.{length};
+ghost use Rattle.std.specs.Prelude.{IfOk, OnErr};
+ghost use Rattle.grammar_core.specs.Runs.{run_form};
+ghost use Rattle.node_core.specs.Leaves.{leaf_head, FitsLeaf};
+ghost use Rattle.value_core.specs.Built.{IsNextLeaf};
+ghost use Rattle.value_core.specs.Walked.{next_of};
+ghost use Rattle.form_core.specs.NodeForms.{form_of_bare, form_of_bytes, prefixed_kind};
+ghost use Rattle.decode_core.specs.NodeAdds.{IsWholeLeaf};
+ghost use Rattle.decode_core.specs.Running.{IsCarry, IsKeptRun, IsRunNext};
+ghost use Rattle.decode_core.specs.Turned.{Awaits, CallSoFar, FeedTells, HoldReports};
+ghost use Rattle.decode_core.specs.Turned.{WholeReports};
 ghost use Rattle.decode_core.specs.Turned.{WholeTurnsReport};
 
-use crate::run::{OpenRun, Run};
+use crate::node::{NodeFault, add_bare};
+use crate::run::{OpenRun, Run, take_node};
 use crate::turned::{Held, Stopped, Turned, Whole};
 use count_core::Count;
-use form_core::{BareForm, BytesForm, PrefixedRun, compact_form, few_need, primitive_form};
+use form_core::{
+    BareForm, BytesForm, NodeForm, PlainForm, PrefixedRun, compact_form, few_need, need, node_form,
+    primitive_form, whole_run,
+};
 use registry_core::Primitive;
-use scale_core::Target;
-use std::alloc::Allocator;
-use value_core::Form;
+use scale_core::{Target, read_compact};
+use std::alloc::{AllocError, Allocator};
+use value_core::{Form, Leaf, Next};
 
 impl<'r, A: Allocator> Run<'r, A> {
+    /// A turn on a node that pieces cut, where this one has the bytes that are missing and they are not refused.
+    #[inline(always)]
+    fn whole_cut(&mut self, form: BytesForm, piece: &[u8]) -> Whole
+        requires next { Awaits self.old (form_of_bytes form) }
+        requires carries { 1 ≤ length self.old.carry }
+        ensures { WholeReports self.old self.new piece.now result }
+    {
+        let held = self.carry.as_slice().len();
+        let len = need(form, self.carry.as_slice()[0]);
+        if held + piece.len() < len {
+            return Whole::Left;
+        }
+        let count = self.carry.fill(len, piece);
+        let own = self.carry.as_slice();
+        match take_node(&mut self.builder, &mut self.open_run, form, own) {
+            Ok(()) => {
+                self.carry.clear();
+                Whole::Added(count)
+            }
+            Err(NodeFault::Refused(..)) => {
+                self.carry.truncate(held);
+                Whole::Left
+            }
+            Err(NodeFault::OutOfMemory) => {
+                self.carry.truncate(held);
+                Whole::OutOfMemory
+            }
+        }
+    }
+
+    /// A turn on a node with bytes of its own, where the piece has them whole and they are not refused.
+    #[inline(always)]
+    fn whole_own(&mut self, form: BytesForm, piece: &[u8]) -> Whole
+        requires { Awaits self.old (form_of_bytes form) }
+        ensures { WholeReports self.old self.new piece.now result }
+    {
+        if let BytesForm::Plain(PlainForm::Compact(target)) = form {
+            return self.whole_compact(target, piece);
+        }
+        if piece.is_empty() || !self.carry.as_slice().is_empty() {
+            return Whole::Left;
+        }
+        let len = need(form, piece[0]);
+        if piece.len() < len {
+            return Whole::Left;
+        }
+        match self.whole_turn(form, &piece[..len]) {
+            Turned::On(count) => Whole::Added(count),
+            Turned::Stopped(_) => Whole::Left,
+            Turned::OutOfMemory => Whole::OutOfMemory,
+        }
+    }
+
+    /// A turn on a node without parts that the piece has whole: the leaf, which these bytes of it spell, is added.
+    #[inline(always)]
+    fn whole_leaf(&mut self, leaf: Leaf<'_>, own: &[u8]) -> Whole
+        requires whole { IsWholeLeaf self.old.built own.now leaf }
+        requires next { IsNextLeaf self.old.built.walk (leaf_head leaf) }
+        requires fits { FitsLeaf leaf }
+        requires empty { self.old.carry ≡ [] }
+        ensures reports { (rest : List ℕ) →
+            WholeReports self.old self.new (own.now ++ rest) result }
+        ensures taken { result ≡ Whole.Left → ⊥ }
+    {
+        let Ok(()) = self.builder.add_leaf(leaf) else {
+            return Whole::OutOfMemory;
+        };
+        Whole::Added(own.len())
+    }
+
+    /// A turn on a text or a run of bytes that the piece has whole with its length, and of which nothing is refused.
+    fn whole_prefixed(&mut self, run: PrefixedRun, piece: &[u8]) -> Whole
+        requires { Awaits self.old (run_form (prefixed_kind run)) }
+        ensures { WholeReports self.old self.new piece.now result }
+    {
+        if self.carry.as_slice().is_empty()
+            && let Some((leaf, count)) = whole_run(run, piece)
+        {
+            return self.whole_leaf(leaf, &piece[..count]);
+        }
+        Whole::Left
+    }
+
+    /// A turn on a compact integer that the piece has whole, and which is not refused.
+    #[inline(always)]
+    fn whole_compact(&mut self, target: Target, piece: &[u8]) -> Whole
+        requires { Awaits self.old (Form.Compact target) }
+        ensures { WholeReports self.old self.new piece.now result }
+    {
+        if self.carry.as_slice().is_empty()
+            && let Ok((value, count)) = read_compact(piece, target)
+        {
+            return self.whole_leaf(Leaf::Compact(value), &piece[..count]);
+        }
+        Whole::Left
+    }
+
+    /// A turn on an array of u8, where the piece has it whole.
+    pub(crate) fn whole_byte_array(&mut self, len: u32, piece: &[u8]) -> Whole
+        requires next { next_of self.old.built.walk ≡ Next.Wants (Form.ByteArray len) }
+        requires closed { self.old.built.run ≡ None }
+        requires carried { IsCarry self.old.built self.old.carry }
+        ensures reports { WholeReports self.old self.new piece.now result }
+        ensures short { result ≡ Whole.Left → length piece.now < len }
+    {
+        let count = len as usize;
+        if piece.len() < count {
+            return Whole::Left;
+        }
+        let own = &piece[..count];
+        self.whole_leaf(Leaf::Bytes(own), own)
+    }
+
+    /// A turn on a node without bytes of its own: none are missing, so it is added.
+    #[inline(always)]
+    fn whole_bare(&mut self, form: BareForm) -> Whole
+        requires { Awaits self.old (form_of_bare form) }
+        ensures { (piece : List ℕ) → WholeReports self.old self.new piece result }
+    {
+        match add_bare(&mut self.builder, form) {
+            Ok(()) => Whole::Added(0),
+            Err(_) => Whole::OutOfMemory,
+        }
+    }
+
     /// Is a node of this form next, and no run open?
     #[inline(always)]
     fn awaits(&self, form: Form) -> bool
@@ -114,6 +251,34 @@ impl<'r, A: Allocator> Run<'r, A> {
         }
     }
 
+    /// Takes a turn, and counts it, on the node whose first bytes are carried, where the piece has the others and they are not
+    /// refused: how many bytes it took, 0 where a turn of another kind is in its place. Where memory is refused nothing changes.
+    #[inline(never)]
+    fn carried_turn(&mut self, piece: &[u8], turns: &mut Count) -> Result<usize, AllocError>
+        requires { 1 ≤ length self.old.carry }
+        ensures ok { IfOk result (λ n. CallSoFar self.old self.new piece.now n turns.old.so_far
+            turns.new.so_far) }
+        ensures err { OnErr result (FeedTells self.old self.new piece.now turns.old.so_far
+            turns.new.so_far (Err 0)) }
+    {
+        if let Some(form) = self.next_form()
+            && let NodeForm::Bytes(own) = node_form(form)
+        {
+            match self.whole_cut(own, piece) {
+                Whole::Added(count) => {
+                    turns.tick();
+                    return Ok(count);
+                }
+                Whole::OutOfMemory => {
+                    turns.tick();
+                    return Err(AllocError);
+                }
+                Whole::Left => {}
+            }
+        }
+        Ok(0)
+    }
+
     /// Takes turns on nodes whose own bytes the piece has whole, and counts each: how many bytes those before the last one
     /// took, and what came of the last one. Where it is `Left`, a turn of another kind is in its place.
     #[inline(always)]
@@ -121,7 +286,7 @@ impl<'r, A: Allocator> Run<'r, A> {
         ensures { WholeTurnsReport self.old self.new piece.now turns.old.so_far turns.new.so_far
             result.0 result.1 }
     {
-        if !self.is_carrying()
+        if self.carry.as_slice().is_empty()
             && let Some(form) = self.next_form()
         {
             return self.whole_nodes(form, piece, turns);
@@ -138,6 +303,12 @@ impl<'r, A: Allocator> Run<'r, A> {
         ensures { FeedTells self.old self.new piece.now turns.old.so_far turns.new.so_far result }
     {
         let mut at = 0;
+        if !self.carry.as_slice().is_empty() {
+            let Ok(count) = self.carried_turn(piece, turns) else {
+                return Err(0);
+            };
+            at = count;
+        }
         'turns: loop {
             if at == piece.len() && self.wants() {
                 turns.tick();

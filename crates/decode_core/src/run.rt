@@ -10,24 +10,20 @@ ghost use Rattle.value_core.specs.Built.{built_text_bytes, finished, IsNextLeaf}
 ghost use Rattle.value_core.specs.Refusals.{is_whole};
 ghost use Rattle.form_core.specs.Needs.{AreOwn, IsNeeded};
 ghost use Rattle.form_core.specs.NodeForms.{form_of_bare, form_of_bytes, prefixed_kind};
-ghost use Rattle.decode_core.specs.NodeAdds.{IsWholeLeaf, TakesNode};
+ghost use Rattle.decode_core.specs.NodeAdds.{TakesNode};
 ghost use Rattle.decode_core.specs.Turned.{Awaits, BareReports, EndReports, EndsTurns};
 ghost use Rattle.decode_core.specs.Turned.{IsOn, IsSound, KeepsTurns, PieceReports, StepReports};
 ghost use Rattle.decode_core.specs.Turned.{WantsBytes, WholeReports, node_turned};
 
 use crate::fault::DecodeReason;
-use crate::node::{
-    NodeFault, add_arm, add_bare, add_byte_array, add_plain, add_sequence, start_run,
-};
+use crate::node::{NodeFault, add_arm, add_bare, add_plain, add_sequence};
 use crate::turned::{Stopped, Turned, Whole};
 use count_core::Count;
-use form_core::{
-    BareForm, BytesForm, Carry, NodeForm, PlainForm, PrefixedRun, need, node_form, whole_run,
-};
-use scale_core::{Target, compact_len, read_compact};
+use form_core::{BareForm, BytesForm, Carry, NodeForm, need, node_form, read_length};
+use scale_core::compact_len;
 use std::alloc::Allocator;
 use std::marker::Model;
-use value_core::{Builder, Form, Leaf, Next, RunKind, Value};
+use value_core::{Builder, Form, Next, RunKind, Value};
 
 /// A text or a run of bytes that is open: how many bytes it is to have, and how many of them are missing.
 #[derive(Clone, Copy)]
@@ -57,7 +53,7 @@ impl<'r, A: Allocator> Model for Run<'r, A> {
 
 /// Adds the next node by its own bytes, or opens the run that is next by those of its length.
 #[inline(always)]
-fn take_node<A: Allocator>(
+pub(crate) fn take_node<A: Allocator>(
     builder: &mut Builder<'_, A>,
     open_run: &mut Option<OpenRun>,
     form: BytesForm,
@@ -74,7 +70,8 @@ fn take_node<A: Allocator>(
         BytesForm::Arm => add_arm(builder, own),
         BytesForm::Sequence => add_sequence(builder, own),
         BytesForm::Run(run) => {
-            let len = start_run(builder, run, own)?;
+            let len = read_length(own)?;
+            builder.open_run(run.kind(), len);
             *open_run = Some(OpenRun { len, missing: len });
             Ok(())
         }
@@ -155,7 +152,7 @@ impl<'r, A: Allocator> Run<'r, A> {
 
     /// A turn on a node whose own bytes the piece has whole.
     #[inline(always)]
-    fn whole_turn(&mut self, form: BytesForm, own: &[u8]) -> Turned
+    pub(crate) fn whole_turn(&mut self, form: BytesForm, own: &[u8]) -> Turned
         requires next { next_of self.old.built.walk ≡ Next.Wants (form_of_bytes form) }
         requires closed { self.old.built.run ≡ None }
         requires empty { self.old.carry ≡ [] }
@@ -210,100 +207,6 @@ impl<'r, A: Allocator> Run<'r, A> {
         self.cut_turn(form, len, piece)
     }
 
-    /// A turn on a node with bytes of its own, where the piece has them whole and they are not refused.
-    #[inline(always)]
-    pub(crate) fn whole_own(&mut self, form: BytesForm, piece: &[u8]) -> Whole
-        requires { Awaits self.old (form_of_bytes form) }
-        ensures { WholeReports self.old self.new piece.now result }
-    {
-        if let BytesForm::Plain(PlainForm::Compact(target)) = form {
-            return self.whole_compact(target, piece);
-        }
-        if piece.is_empty() || !self.carry.as_slice().is_empty() {
-            return Whole::Left;
-        }
-        let len = need(form, piece[0]);
-        if piece.len() < len {
-            return Whole::Left;
-        }
-        match self.whole_turn(form, &piece[..len]) {
-            Turned::On(count) => Whole::Added(count),
-            Turned::Stopped(_) => Whole::Left,
-            Turned::OutOfMemory => Whole::OutOfMemory,
-        }
-    }
-
-    /// A turn on a node without parts that the piece has whole: the leaf, which these bytes of it spell, is added.
-    #[inline(always)]
-    fn whole_leaf(&mut self, leaf: Leaf<'_>, own: &[u8]) -> Whole
-        requires whole { IsWholeLeaf self.old.built own.now leaf }
-        requires next { IsNextLeaf self.old.built.walk (leaf_head leaf) }
-        requires fits { FitsLeaf leaf }
-        requires empty { self.old.carry ≡ [] }
-        ensures { (rest : List ℕ) → WholeReports self.old self.new (own.now ++ rest) result }
-    {
-        let Ok(()) = self.builder.add_leaf(leaf) else {
-            return Whole::OutOfMemory;
-        };
-        Whole::Added(own.len())
-    }
-
-    /// A turn on a text or a run of bytes that the piece has whole with its length, and of which nothing is refused.
-    pub(crate) fn whole_prefixed(&mut self, run: PrefixedRun, piece: &[u8]) -> Whole
-        requires { Awaits self.old (run_form (prefixed_kind run)) }
-        ensures { WholeReports self.old self.new piece.now result }
-    {
-        if self.carry.as_slice().is_empty()
-            && let Some((leaf, count)) = whole_run(run, piece)
-        {
-            return self.whole_leaf(leaf, &piece[..count]);
-        }
-        Whole::Left
-    }
-
-    /// A turn on a compact integer that the piece has whole, and which is not refused.
-    #[inline(always)]
-    pub(crate) fn whole_compact(&mut self, target: Target, piece: &[u8]) -> Whole
-        requires { Awaits self.old (Form.Compact target) }
-        ensures { WholeReports self.old self.new piece.now result }
-    {
-        if self.carry.as_slice().is_empty()
-            && let Ok((value, count)) = read_compact(piece, target)
-        {
-            return self.whole_leaf(Leaf::Compact(value), &piece[..count]);
-        }
-        Whole::Left
-    }
-
-    /// A turn on an array of u8, where the piece has it whole.
-    pub(crate) fn whole_byte_array(&mut self, len: u32, piece: &[u8]) -> Whole
-        requires next { next_of self.old.built.walk ≡ Next.Wants (Form.ByteArray len) }
-        requires closed { self.old.built.run ≡ None }
-        ensures reports { WholeReports self.old self.new piece.now result }
-        ensures short { result ≡ Whole.Left → length piece.now < len }
-    {
-        let count = len as usize;
-        if piece.len() < count {
-            return Whole::Left;
-        }
-        let Ok(()) = add_byte_array(&mut self.builder, len, &piece[..count]) else {
-            return Whole::OutOfMemory;
-        };
-        Whole::Added(count)
-    }
-
-    /// A turn on a node without bytes of its own: none are missing, so it is added.
-    #[inline(always)]
-    pub(crate) fn whole_bare(&mut self, form: BareForm) -> Whole
-        requires { Awaits self.old (form_of_bare form) }
-        ensures { (piece : List ℕ) → WholeReports self.old self.new piece result }
-    {
-        match add_bare(&mut self.builder, form) {
-            Ok(()) => Whole::Added(0),
-            Err(_) => Whole::OutOfMemory,
-        }
-    }
-
     /// A turn on an array of u8 of which no byte came: it is added where it is whole, and else opened with what is there.
     fn byte_array_turn(&mut self, len: u32, piece: &[u8]) -> Turned
         requires next { next_of self.old.built.walk ≡ Next.Wants (Form.ByteArray len) }
@@ -326,7 +229,7 @@ impl<'r, A: Allocator> Run<'r, A> {
         self.run_piece(run, piece)
     }
 
-    /// A turn on the bytes of the run that is open.
+    /// A turn on the bytes of the run that is open: it takes those that are there, and where none is missing then, ends it.
     #[inline(never)]
     fn run_turn(&mut self, run: OpenRun, piece: &[u8]) -> Turned
         requires next { IsRunNext self.old.built self.old.carry self.old.built.run }
@@ -335,12 +238,34 @@ impl<'r, A: Allocator> Run<'r, A> {
         ensures kept { KeepsTurns self.old self.new result }
     {
         if run.missing == 0 {
-            return self.run_end(run);
+            return self.run_end(run, 0);
         }
         if piece.is_empty() {
             return Turned::Stopped(Stopped::Wants);
         }
-        self.run_piece(run, piece)
+        let missing = run.missing as usize;
+        if piece.len() < missing {
+            return self.run_piece(run, piece);
+        }
+        self.run_rest(run, &piece[..missing])
+    }
+
+    /// Takes the bytes that the open run lacks, which are these, and ends it.
+    fn run_rest(&mut self, run: OpenRun, rest: &[u8]) -> Turned
+        requires next { IsRunNext self.old.built self.old.carry self.old.built.run }
+        requires open { IsKeptRun self.old.built.run (Some run) }
+        requires lacks { 1 ≤ run.missing }
+        requires rest { length rest.now ≡ run.missing }
+        ensures reports { (later : List ℕ) →
+            StepReports self.old self.new (rest.now ++ later) result }
+        ensures kept { KeepsTurns self.old self.new result }
+    {
+        let Ok(()) = self.builder.extend_run(rest) else {
+            return Turned::OutOfMemory;
+        };
+        let run = OpenRun { missing: 0, ..run };
+        self.open_run = Some(run);
+        self.run_end(run, rest.len())
     }
 
     /// Takes the bytes that the open run lacks off the piece, or those that are there.
@@ -363,19 +288,20 @@ impl<'r, A: Allocator> Run<'r, A> {
         }
     }
 
-    /// A turn that ends the run that is open, whose bytes are all there.
-    fn run_end(&mut self, run: OpenRun) -> Turned
+    /// Ends the run that is open, whose bytes are all there, the last `count` of them by this turn.
+    fn run_end(&mut self, run: OpenRun, count: usize) -> Turned
         requires next { IsRunNext self.old.built self.old.carry self.old.built.run }
         requires open { IsKeptRun self.old.built.run (Some run) }
         requires whole { run.missing ≡ 0 }
-        ensures reports { EndReports self.old self.new result }
+        requires last { count ≤ run.len }
+        ensures reports { EndReports self.old self.new count result }
         ensures kept { KeepsTurns self.old self.new result }
     {
         if let Some(valid) = self.builder.bad_text() {
             let before = compact_len(u128::from(run.len));
             let len = before + run.len as usize;
             return Turned::Stopped(Stopped::Refused {
-                held: len,
+                held: len - count,
                 reason: DecodeReason::BadUtf8,
                 at: before as u64 + valid,
                 len,
@@ -384,7 +310,7 @@ impl<'r, A: Allocator> Run<'r, A> {
         match self.builder.close_run() {
             Ok(()) => {
                 self.open_run = None;
-                Turned::On(0)
+                Turned::On(count)
             }
             Err(_) => Turned::OutOfMemory,
         }
@@ -440,14 +366,6 @@ impl<'r, A: Allocator> Run<'r, A> {
             Next::Wants(form) => Some(form),
             _ => None,
         }
-    }
-
-    /// Are bytes carried?
-    #[inline(always)]
-    pub(crate) fn is_carrying(&self) -> bool
-        ensures { result ≡ false → self.now.carry ≡ [] }
-    {
-        !self.carry.as_slice().is_empty()
     }
 
     /// Does the run that is open lack bytes, or does the next node, where none is open, have bytes of its own? It waits for

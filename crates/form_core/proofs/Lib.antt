@@ -1,2 +1,4 @@
 pub mod Firsts
 pub mod WholeRuns
+pub mod ReadFronts
+pub mod PlainReads

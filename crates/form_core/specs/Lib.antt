@@ -1,3 +1,4 @@
 pub mod NodeForms
 pub mod Needs
 pub mod WholeRuns
+pub mod PlainReads

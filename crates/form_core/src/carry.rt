@@ -59,6 +59,14 @@ impl Carry {
         self.len = 0;
     }
 
+    /// Lets those after the first `count` bytes go.
+    pub fn truncate(&mut self, count: usize)
+        requires { count ≤ length self.old }
+        ensures { self.new ≡ take count self.old }
+    {
+        self.len = count;
+    }
+
     /// Takes bytes off the piece until there are `want` or the piece ends: how many it took.
     #[inline(always)]
     pub fn fill(&mut self, want: usize, piece: &[u8]) -> usize

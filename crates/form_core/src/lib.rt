@@ -1,10 +1,11 @@
 //! The form of the node that is next in a value, by whether it has bytes of its own, how many these are, room for those of
-//! them that came, and the runs that stand whole on the front of a piece.
+//! them that came, what they spell, and the runs that stand whole on the front of a piece.
 #![tactic(auto)]
 
 mod carry;
 mod forms;
 mod needs;
+mod plain;
 mod runs;
 
 pub use carry::Carry;
@@ -12,4 +13,5 @@ pub use forms::{
     BareForm, BytesForm, NodeForm, PlainForm, PrefixedRun, compact_form, node_form, primitive_form,
 };
 pub use needs::{few_need, need};
+pub use plain::{read_length, read_plain};
 pub use runs::whole_run;

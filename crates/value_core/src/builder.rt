@@ -106,6 +106,21 @@ fn append_node<A: Allocator>(nodes: &mut Vec<Node, A>, node: Node) -> Result<(),
     Ok(())
 }
 
+/// Appends bytes to the pool: all of them, or where memory is refused none. Where pieces are short most are of one byte, which
+/// takes a store and no copy.
+#[inline(always)]
+fn append_bytes<A: Allocator>(pool: &mut Vec<u8, A>, bytes: &[u8]) -> Result<(), AllocError>
+    ensures ok { OnOk result (pool.new.items ≡ pool.old.items ++ bytes.now) }
+    ensures err { OnErr result (pool.new.items ≡ pool.old.items) }
+{
+    make_room(pool, bytes.len())?;
+    if let [byte] = *bytes {
+        pool.push_reserved(byte);
+        return Ok(());
+    }
+    pool.extend_from_slice(bytes)
+}
+
 /// Appends a node, the next of the walk, whose parts come next: both, or where memory is refused neither.
 #[inline(always)]
 fn open_node<A: Allocator>(
@@ -369,8 +384,7 @@ impl<'r, A: Allocator> Builder<'r, A> {
         ensures ok { OnOk result (self.new ≡ with_piece self.old piece.now) }
         ensures err { OnErr result (self.new ≡ self.old) }
     {
-        make_room(&mut self.pool, piece.len())?;
-        self.pool.extend_from_slice(piece)?;
+        append_bytes(&mut self.pool, piece)?;
         Ok(())
     }
 

@@ -24,7 +24,8 @@ use Rattle.decode_core.specs.Machine.{remain}
 use Rattle.decode_core.specs.NodeAdds.{with_own}
 use Rattle.decode_core.specs.Outcome.{Job, more, IsOutcome}
 use Rattle.decode_core.specs.Running.{held_of, state_of}
-use Rattle.decode_core.specs.Reported.{Own, Reported, reported, after, own_at, reported_at}
+use Rattle.form_core.specs.PlainReads.{Own}
+use Rattle.decode_core.specs.Reported.{Reported, reported, after, own_at, reported_at}
 use Rattle.decode_core.specs.Turned.{KeepsNode, KeepsRun}
 use Rattle.decode_core.specs.Wanted.{GoesOn, WantedGoesOn}
 use Rattle.decode_core.proofs.lists.Fed.{fault_value, whole_reported}

@@ -10,7 +10,8 @@ use Rattle.grammar_core.specs.Parts.{Part, each, times, first_of, left_after, ho
 use Rattle.grammar_core.specs.Reading.{value_at, Refusal}
 use Rattle.grammar_core.proofs.Proved.{read_is_value}
 use Rattle.value_core.specs.Built.{Entry}
-use Rattle.decode_core.specs.Reported.{entry, shown, Own, own_at, Ending, Fault, Reported, reported}
+use Rattle.form_core.specs.PlainReads.{Own}
+use Rattle.decode_core.specs.Reported.{entry, shown, own_at, Ending, Fault, Reported, reported}
 use Rattle.decode_core.specs.Reported.{after, then, all_reported, times_reported, part_reported}
 use Rattle.decode_core.specs.Reported.{own_reported, reported_at}
 use Rattle.grammar_core.specs.Begun.{BranchOpens, FirstValues, IsOpenAs, nothing, open_branch}

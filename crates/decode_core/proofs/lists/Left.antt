@@ -23,7 +23,8 @@ use Rattle.grammar_core.specs.Ways.{Way, of_no_byte, of_width, of_compact, of_ru
 use Rattle.grammar_core.specs.Ways.{leaf_of, leaf_by, judged_leaf}
 use Rattle.grammar_core.specs.Runs.{IsRunLength, run_at, run_judged, run_leaf, run_length_at}
 use Rattle.grammar_core.proofs.Runs.{length_takes}
-use Rattle.decode_core.specs.Reported.{leaf_own, arm_own, arms_own, length_own, own_at}
+use Rattle.form_core.specs.PlainReads.{leaf_own}
+use Rattle.decode_core.specs.Reported.{arm_own, arms_own, length_own, own_at}
 
 -- what is left is no longer than the input
 abbrev pub Within : {E X : Type 0} → List ℕ → Read E X → Type 0

@@ -8,7 +8,8 @@ use Rattle.widths_core.specs.Layouts as layout
 use Rattle.grammar_core.specs.Reading.{value_at, layout_at, Refusal, truncated, too_deep}
 use Rattle.grammar_core.specs.Reading.{no_finite_value}
 use Rattle.decode_core.specs.Met.{met_layout}
-use Rattle.decode_core.specs.Reported.{entry, Own, own_at, Ending, Fault, Reported, reported, added}
+use Rattle.form_core.specs.PlainReads.{Own}
+use Rattle.decode_core.specs.Reported.{entry, own_at, Ending, Fault, Reported, reported, added}
 use Rattle.decode_core.specs.Reported.{ending, after, opened_reported, own_reported, reported_at}
 use Rattle.decode_core.specs.Holds.{IsShort, MissingIsBegun}
 use Rattle.decode_core.proofs.lists.FaultBegins.{fault_is_begun}

@@ -25,7 +25,8 @@ use Rattle.grammar_core.proofs.Stable.{layout_extends}
 use Rattle.decode_core.specs.Met.{met_layout}
 use Rattle.grammar_core.specs.Parts.{Part, how_many_left}
 use Rattle.grammar_core.specs.Preorder.{Head}
-use Rattle.decode_core.specs.Reported.{Own, leaf_own, arm_own, arms_own, length_own, shallow}
+use Rattle.form_core.specs.PlainReads.{Own, leaf_own}
+use Rattle.decode_core.specs.Reported.{arm_own, arms_own, length_own, shallow}
 use Rattle.decode_core.specs.Reported.{own_at}
 use Rattle.decode_core.proofs.lists.Mets.{met_is, met_takes}
 use Rattle.decode_core.proofs.lists.Reports.{IsLeafRead, reads_leaf}

@@ -16,7 +16,8 @@ use Rattle.grammar_core.specs.Tree as tree
 use Rattle.grammar_core.proofs.Spelled.{encoded_is_value}
 use Rattle.value_core.specs.Built.{Entry}
 use Rattle.decode_core.specs.Met.{met_layout}
-use Rattle.decode_core.specs.Reported.{entry, Own, own_at}
+use Rattle.form_core.specs.PlainReads.{Own}
+use Rattle.decode_core.specs.Reported.{entry, own_at}
 use Rattle.decode_core.specs.Reported.{Reported, reported, after, then, all_reported}
 use Rattle.decode_core.specs.Reported.{times_reported, opened_reported}
 use Rattle.decode_core.specs.Reported.{own_reported, reported_at}

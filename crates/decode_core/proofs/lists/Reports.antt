@@ -21,7 +21,8 @@ use Rattle.grammar_core.specs.Ways.{way_of, read_by}
 use Rattle.decode_core.specs.Met.{met_layout}
 use Rattle.decode_core.proofs.lists.Mets.{value_met}
 use Rattle.value_core.specs.Built.{Entry}
-use Rattle.decode_core.specs.Reported.{entry, shown, leaf_own, arm_own, arms_own, length_own}
+use Rattle.form_core.specs.PlainReads.{leaf_own}
+use Rattle.decode_core.specs.Reported.{entry, shown, arm_own, arms_own, length_own}
 use Rattle.decode_core.specs.Reported.{own_at, Reported, reported, added, ending, after, then}
 use Rattle.decode_core.specs.Reported.{all_reported, times_reported, own_reported, reported_at}
 use Rattle.decode_core.specs.Reported.{Agrees}

@@ -7,7 +7,8 @@ use Rattle.std.specs.Prelude.{Err, Ok, Result, true}
 use Rattle.grammar_core.specs.declared.form.Form.{Form}
 use Rattle.value_core.specs.Refusals.{is_whole}
 use Rattle.decode_core.specs.Running.{Running}
-use Rattle.decode_core.specs.Turned.{Awaits, FeedReports, FeedTells, FewTurns, IsSound, Moves}
+use Rattle.decode_core.specs.Turned.{Awaits, CallSoFar, FeedReports, FeedTells, FewTurns, IsSound}
+use Rattle.decode_core.specs.Turned.{Moves}
 use Rattle.decode_core.specs.Turned.{KeepsTurns, RunsOut, StepReports, StopCounts}
 use Rattle.decode_core.specs.Turned.{StopsShort, TurnsReport}
 use Rattle.decode_core.specs.Turned.{WantsBytes, WholeReports, WholeTurnsReport, left_to_do}
@@ -293,14 +294,6 @@ call_whole a b d piece at from to n (stop.Refused held reported_reason place len
     let no = (t.whole (stays_whole a b at h w)).2 in absurd cc
 
 -- ---- what a call tells
-
--- what stands in the turns of a call: the bytes and turns so far, and what they led to
-pub record CallSoFar (a b : Running) (piece : List ℕ) (at start from : ℕ) : Type 0 where
-  pub inside : at ≤ length piece
-  pub moves : Moves a b (take at piece)
-  pub each : start + length b.built.entries ≤ from + length a.built.entries
-  pub few : from + length a.built.entries ≤ start + at + length b.built.entries
-  pub whole : is_whole a.built ≡ true → (at ≡ 0) × (b ≡ a)
 
 -- the last of its turns stops
 pub tells_stopped : (a b d : Running) (piece : List ℕ) (at start from to n : ℕ) (s : Stopped) →

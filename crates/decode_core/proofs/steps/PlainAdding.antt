@@ -28,9 +28,10 @@ use Rattle.value_core.proofs.Forms.{HasForm, wanted}
 use Rattle.form_core.specs.Needs.{AreOwn, HasBytes, NoRun}
 use Rattle.decode_core.specs.NodeAdds.{AddsNode, IsAdded, IsSpelled}
 use Rattle.form_core.specs.NodeForms.{form_of_plain, plain_layout}
-use Rattle.decode_core.specs.NodeReads.{ReadsPlain}
+use Rattle.form_core.specs.PlainReads.{ReadsPlain}
 use Rattle.decode_core.specs.Reasons.{reason_of}
-use Rattle.decode_core.specs.Reported.{leaf_own, own_at}
+use Rattle.form_core.specs.PlainReads.{leaf_own}
+use Rattle.decode_core.specs.Reported.{own_at}
 use Rattle.form_core.specs.declared.forms.PlainForm.{PlainForm}
 use Rattle.form_core.specs.declared.forms.PlainForm.TheVariants as plain
 use Rattle.decode_core.specs.declared.node.NodeFault.{NodeFault}

@@ -32,7 +32,8 @@ use Rattle.form_core.specs.Needs.{HasBytes}
 use Rattle.decode_core.specs.NodeAdds.{IsAdded}
 use Rattle.decode_core.specs.Running.{Running, IsLength, IsRunning, IsKeptRun, IsRunNext, held_of}
 use Rattle.decode_core.specs.Running.{run_held, state_of}
-use Rattle.decode_core.specs.Reported.{leaf_own, own_at}
+use Rattle.form_core.specs.PlainReads.{leaf_own}
+use Rattle.decode_core.specs.Reported.{own_at}
 use Rattle.decode_core.specs.Turned.{EndReports, TurnLeads, EndsTurns, WantsBytes, WantsMemory}
 use Rattle.decode_core.specs.declared.fault.DecodeReason.TheVariants as reason
 use Rattle.decode_core.specs.declared.run.OpenRun.{OpenRun}
@@ -257,10 +258,11 @@ ended_running b new c n none good is =
     (run_added b new n good (is ∙ closed_is b n)))
 
 -- the run is the next node
-pub ended_reports : (b new : Built) (c : List ℕ) (n : AtEnd b) → c ≡ [] → bad_text b.run ≡ None →
-    new ≡ with_run_closed b →
-    EndReports (record { built = b; carry = c }) (record { built = new; carry = c }) (turned.On 0)
-ended_reports b new c n none good is =
+pub ended_reports : (b new : Built) (c : List ℕ) (n : AtEnd b) (count : ℕ) → c ≡ [] →
+    bad_text b.run ≡ None → new ≡ with_run_closed b →
+    EndReports (record { built = b; carry = c }) (record { built = new; carry = c }) count
+    (turned.On count)
+ended_reports b new c n count none good is =
     let own = own_of n.pieces in
     let a = run_added b new n good (is ∙ closed_is b n) in
     let same = added_same (closed_of b) new c c own a in

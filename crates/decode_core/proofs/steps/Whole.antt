@@ -29,7 +29,8 @@ use Rattle.grammar_core.specs.declared.form.Form.TheVariants as form
 use Rattle.value_core.proofs.Forms.{HasForm}
 use Rattle.decode_core.specs.Machine.{is_cut}
 use Rattle.form_core.specs.Needs.{compact_need, kind_need, AreOwn, HasBytes, IsNoText}
-use Rattle.decode_core.specs.Reported.{leaf_own, arm_own, arms_own, length_own, own_at}
+use Rattle.form_core.specs.PlainReads.{leaf_own}
+use Rattle.decode_core.specs.Reported.{arm_own, arms_own, length_own, own_at}
 use Rattle.decode_core.proofs.lists.ByFault.{IsJudged, Judges, judges}
 
 -- nothing is left, or the refusal does not wait for more bytes

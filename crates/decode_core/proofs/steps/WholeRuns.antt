@@ -31,7 +31,8 @@ use Rattle.value_core.specs.Built.{Built, FitsKind, IsNextLeaf, next_layout, wit
 use Rattle.value_core.specs.Walked.{Walked, next_of}
 use Rattle.value_core.proofs.NextLeaf.{run_next}
 use Rattle.decode_core.specs.NodeAdds.{IsAdded, IsWholeLeaf}
-use Rattle.decode_core.specs.Reported.{leaf_own, own_at}
+use Rattle.form_core.specs.PlainReads.{leaf_own}
+use Rattle.decode_core.specs.Reported.{own_at}
 use Rattle.decode_core.specs.Running.{IsRunning}
 use Rattle.decode_core.specs.Turned.{WantsMemory, WholeReports}
 use Rattle.decode_core.specs.declared.run.OpenRun.{OpenRun}

@@ -4,7 +4,19 @@ use Rattle.decode_core.specs.declared.turned.Turned.TheVariants as turned
 use Rattle.decode_core.proofs.steps.Calls.{call_nearer, call_on, tells_short, tells_stopped}
 use Rattle.decode_core.proofs.steps.Calls.{tells_wants, whole_added, whole_left, whole_short}
 use Rattle.decode_core.proofs.steps.Moving.{wants_goes_on}
+use Rattle.decode_core.proofs.steps.Cuts.{left_so_far}
+use Rattle.decode_core.proofs.run.Run.feed_turns.Goals.{else-not-is_empty, then-not-is_empty+in-Ok}
 use Rattle.decode_core.proofs.run.Run.feed_turns.Goals as goal
+
+pub turns-init : goal.turns-init
+turns-init g c = record {
+  piece = refl;
+  so_far = elim c.if-not-is_empty.branch [
+    | then-not-is_empty+in-Ok w ↦ rw (w.self-is, w.turns-is, w.at-is) w.in-Ok.ensures.ok
+    | else-not-is_empty w ↦ rw (w.self-is, w.turns-is, w.at-is)
+        (left_so_far c.args.self.now c.args.self.now c.args.piece.now c.args.turns.now.so_far refl)
+  ];
+}
 
 pub turns-smaller-in-Added : goal.turns-smaller-in-Added
 turns-smaller-in-Added g c =

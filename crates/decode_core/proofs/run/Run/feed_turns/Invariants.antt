@@ -1,6 +1,6 @@
 use Rattle.std.proofs.Common.{◌≡◌, drop}
 use Rattle.decode_core.specs.Turned.{left_to_do}
-use Rattle.decode_core.proofs.steps.Calls.{CallSoFar}
+use Rattle.decode_core.specs.Turned.{CallSoFar}
 use Rattle.decode_core.proofs.run.Run.feed_turns.Given as goal
 
 abbrev pub invariant-turns : goal.invariant-turns

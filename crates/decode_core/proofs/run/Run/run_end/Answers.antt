@@ -1,4 +1,4 @@
-use Rattle.std.proofs.Common.{rules, ◌≡◌, ℕ, ◌+◌, ◌<◌, ◌^◌, arith, ap, subst, sym, ◌∙◌, length}
+use Rattle.std.proofs.Common.{rules, ◌≡◌, ℕ, ◌+◌, ◌-◌, ◌<◌, ◌^◌, arith, ap, subst, sym, ◌∙◌, length}
 use Rattle.std.proofs.Common.{None, Some}
 use Rattle.scale_core.specs.Compact.{compact}
 use Rattle.value_core.specs.Refusals.{bad_text}
@@ -43,12 +43,16 @@ returns-in-Some-clause-reports g c =
     let valid = c.in-Some.valid in
     let count : before ≡ length (compact end.pieces.len) = c.compact_len-before.ensures.exact
     ∙ ap (λ (n : ℕ). length (compact n)) (c.from.ensures ∙ sym len) in
+    let all = before + c.args.run.len in
+    let held : all ≡ c.args.count + (all - c.args.count) = omega (arith, c.requires.last) in
     λ rest. subst (λ (s : Running). EndsTurns s rest
-    (stop.Refused (before + c.args.run.len) reason.BadUtf8 (before + valid)
-    (before + c.args.run.len))) c.self.view_is
+    (stop.Refused (c.args.count + (all - c.args.count)) reason.BadUtf8 (before + valid) all))
+    c.self.view_is
+    (subst (λ (m : ℕ). EndsTurns (of_fields b k) rest
+    (stop.Refused m reason.BadUtf8 (before + valid) all)) held
     (subst (λ (m : ℕ). EndsTurns (of_fields b k) rest
     (stop.Refused (before + m) reason.BadUtf8 (before + valid) (before + m))) len
-    (bad_reports b k end valid before bad count rest))
+    (bad_reports b k end valid before bad count rest)))
 
 pub close_run-requires-clause-whole : goal.close_run-requires-clause-whole
 close_run-requires-clause-whole g c =
@@ -74,8 +78,9 @@ returns-in-Ok-clause-reports g c =
     let n = open_of b k c.args.run c.args.self.now c.self.view_is c.requires.next c.requires.open in
     let end = at_end b k c.args.run n c.requires.whole in
     let good : bad_text b.run ≡ None = search rules in
-    subst (λ (s : Running). EndReports s (of_fields c.close_run.new.self k) (turned.On 0))
-    c.self.view_is (ended_reports b c.close_run.new.self k end n.none good c.in-Ok.ensures.ok)
+    subst (λ (s : Running). EndReports s (of_fields c.close_run.new.self k) c.args.count
+    (turned.On c.args.count)) c.self.view_is
+    (ended_reports b c.close_run.new.self k end c.args.count n.none good c.in-Ok.ensures.ok)
 
 pub returns-in-Err-clause-reports : goal.returns-in-Err-clause-reports
 returns-in-Err-clause-reports g c =

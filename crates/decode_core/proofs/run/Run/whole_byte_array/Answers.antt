@@ -1,45 +1,48 @@
-use Rattle.std.proofs.Common.{◌≤◌, take, length, ap, subst, ◌∙◌, arith}
-use Rattle.value_core.specs.Built.{Built}
-use Rattle.decode_core.specs.Running.{Running}
-use Rattle.decode_core.specs.Turned.{IsSame, Steps, WantsMemory}
-use Rattle.decode_core.proofs.steps.ByteArrays.{array_running, array_reports, array_wants, at_array}
-use Rattle.decode_core.proofs.steps.RunTurns.{of_fields}
+use Rattle.std.proofs.Common.{◌≡◌, arith, drop, length, length-take, subst, sym, take}
+use Rattle.std.proofs.lemmas.List.{take-append-drop}
+use Rattle.scale_core.specs.Number.{AreBytes}
+use Rattle.scale_core.proofs.Numbers.{front_bytes}
+use Rattle.scale_core.proofs.ReadForms.{are_bytes}
+use Rattle.widths_core.specs.declared.run_kind.RunKind.TheVariants as kind
+use Rattle.grammar_core.specs.declared.form.Form.TheVariants as form
+use Rattle.value_core.proofs.NextLeaf.{run_next}
+use Rattle.decode_core.specs.Turned.{WholeReports}
+use Rattle.decode_core.proofs.steps.RunSteps.{byte_array_read}
+use Rattle.decode_core.proofs.steps.RunTurns.{carry_none}
 use Rattle.decode_core.proofs.run.Run.whole_byte_array.Goals as goal
 
-pub invariant_of-self-2 : goal.invariant_of-self-2
-invariant_of-self-2 g c =
-    let b = c.self.inside.builder in
-    let k = c.self.inside.carry in
-    let o = c.self.inside.open_run in
-    let a = at_array b k o c.args.len c.args.self.now c.self.view_is c.self.invariant
-    c.requires.next c.requires.closed in
-    array_running b c.add_byte_array.new.builder k o c.args.len _ a c.in-Ok.ensures
+pub whole_leaf-requires-clause-whole : goal.whole_leaf-requires-clause-whole
+whole_leaf-requires-clause-whole g c =
+    let len = c.args.len in
+    let own = take len c.args.piece.now in
+    let all : length own ≡ len =
+    omega (arith, length-take len c.args.piece.now, c.if-piece-count.false) in
+    record {
+      form = form.ByteArray len;
+      wants = c.requires.next;
+      closed = c.requires.closed;
+      read = byte_array_read c.args.self.now.built len own c.requires.next all;
+    }
+
+pub whole_leaf-requires-clause-next : goal.whole_leaf-requires-clause-next
+whole_leaf-requires-clause-next g c =
+    let len = c.args.len in
+    let piece = c.args.piece.now in
+    let own = take len piece in
+    let all : length own ≡ len =
+    omega (arith, length-take len piece, c.if-piece-count.false) in
+    run_next c.args.self.now.built.walk (kind.ByteArray len) own c.requires.next tt
+    (front_bytes own (drop len piece) (subst AreBytes (sym (take-append-drop len piece))
+    (are_bytes piece (λ i. omega (arith, c.type_inv.piece i)))))
+    (omega (arith, all, c.ranges.len.fits)) all
+
+pub whole_leaf-requires-clause-empty : goal.whole_leaf-requires-clause-empty
+whole_leaf-requires-clause-empty g c =
+    carry_none c.args.self.now.built c.args.self.now.carry (form.ByteArray c.args.len)
+    c.requires.carried c.requires.next (λ no. no)
 
 pub returns-clause-reports : goal.returns-clause-reports
 returns-clause-reports g c =
-    let b = c.self.inside.builder in
-    let k = c.self.inside.carry in
-    let o = c.self.inside.open_run in
-    let a = at_array b k o c.args.len c.args.self.now c.self.view_is c.self.invariant
-    c.requires.next c.requires.closed in
-    let there : c.args.len ≤ length c.args.piece.now = omega (arith, c.if-piece-count.false) in
-    let t = array_reports b c.add_byte_array.new.builder k o c.args.len
-    (take c.args.len c.args.piece.now) a c.in-Ok.ensures in (
-      there,
-      subst (λ (s : Running). IsSame s (of_fields c.add_byte_array.new.builder k)) c.self.view_is
-          t.0,
-      subst (λ (s : Running). Steps s (of_fields c.add_byte_array.new.builder k)
-          (take c.args.len c.args.piece.now)) c.self.view_is t.1,
-    )
-
-pub returns-in_default-clause-reports : goal.returns-in_default-clause-reports
-returns-in_default-clause-reports g c =
-    let b = c.self.inside.builder in
-    let k = c.self.inside.carry in
-    let o = c.self.inside.open_run in
-    let a = at_array b k o c.args.len c.args.self.now c.self.view_is c.self.invariant
-    c.requires.next c.requires.closed in (
-      subst (λ (s : Running). WantsMemory s c.args.piece.now) c.self.view_is
-          (array_wants b k o c.args.len c.args.piece.now a c.in_default.ensures.0),
-      ap (λ (x : Built). of_fields x k) c.in_default.ensures.1 ∙ c.self.view_is,
-    )
+    subst (λ l. WholeReports c.args.self.now c.whole_leaf.new.self l c.whole_leaf.result)
+    (take-append-drop c.args.len c.args.piece.now)
+    (c.whole_leaf.ensures.reports (drop c.args.len c.args.piece.now))

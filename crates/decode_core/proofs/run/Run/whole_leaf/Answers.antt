@@ -16,8 +16,8 @@ invariant_of-self-2 g c =
     c.self.inside.open_run c.args.own.now c.args.leaf c.self.invariant
     (carries_none c.self.view_is c.requires.empty) is c.in-Ok.ensures.ok
 
-pub returns : goal.returns
-returns g c =
+pub returns-clause-reports : goal.returns-clause-reports
+returns-clause-reports g c =
     let own = c.args.own.now in
     let k = c.self.inside.carry in
     let is = subst (λ (s : Running). IsWholeLeaf s.built own c.args.leaf) (sym c.self.view_is)
@@ -33,8 +33,8 @@ invariant_of-self g c =
     subst (λ (x : Built). IsRunning x c.self.inside.carry c.self.inside.open_run)
     (sym c.in_default.ensures.err) c.self.invariant
 
-pub returns-in_default : goal.returns-in_default
-returns-in_default g c =
+pub returns-in_default-clause-reports : goal.returns-in_default-clause-reports
+returns-in_default-clause-reports g c =
     let own = c.args.own.now in
     let k = c.self.inside.carry in
     let is = subst (λ (s : Running). IsWholeLeaf s.built own c.args.leaf) (sym c.self.view_is)

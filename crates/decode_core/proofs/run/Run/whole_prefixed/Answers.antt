@@ -26,4 +26,4 @@ pub returns : goal.returns
 returns g c =
     subst (λ l. WholeReports c.args.self.now c.whole_leaf.new.self l c.whole_leaf.result)
     (take-append-drop c.in-Some.count c.args.piece.now)
-    (c.whole_leaf.ensures (drop c.in-Some.count c.args.piece.now))
+    (c.whole_leaf.ensures.reports (drop c.in-Some.count c.args.piece.now))

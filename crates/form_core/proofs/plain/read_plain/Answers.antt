@@ -2,10 +2,10 @@ use Rattle.std.proofs.Common.{Ok, refl, subst, sym}
 use Rattle.node_core.specs.declared.leaf.Leaf.TheVariants as leaf
 use Rattle.form_core.specs.Needs.{AreOwn}
 use Rattle.form_core.specs.NodeForms.{form_of_plain}
-use Rattle.decode_core.specs.NodeReads.{ReadsPlain}
+use Rattle.form_core.specs.PlainReads.{ReadsPlain}
 use Rattle.form_core.specs.declared.forms.PlainForm.{PlainForm}
-use Rattle.decode_core.proofs.steps.PlainReads.{compact_reads, wide_reads}
-use Rattle.decode_core.proofs.node.read_plain.Goals as goal
+use Rattle.form_core.proofs.PlainReads.{compact_reads, wide_reads}
+use Rattle.form_core.proofs.plain.read_plain.Goals as goal
 
 pub returns-in-Wide-clause-reads : goal.returns-in-Wide-clause-reads
 returns-in-Wide-clause-reads c =

@@ -1,0 +1,14 @@
+use Rattle.decode_core.proofs.steps.Cuts.{carried_short, carried_so_far}
+use Rattle.decode_core.proofs.run.Run.carried_turn.Goals as goal
+
+pub returns-in-Added-clause-ok : goal.returns-in-Added-clause-ok
+returns-in-Added-clause-ok g c =
+    carried_so_far c.args.self.now c.whole_cut.new.self c.args.piece.now c.args.turns.now.so_far
+    c.tick.new.self.so_far c.in-Added.count c.tick.ensures c.in-Some.ensures.sound c.requires
+    c.in-Added.ensures
+
+pub returns-in-OutOfMemory-clause-err : goal.returns-in-OutOfMemory-clause-err
+returns-in-OutOfMemory-clause-err g c =
+    carried_short c.args.self.now c.whole_cut.new.self c.args.piece.now c.args.turns.now.so_far
+    c.tick-in-OutOfMemory.new.self.so_far c.tick-in-OutOfMemory.ensures c.in-Some.ensures.sound
+    c.requires c.in-OutOfMemory.ensures

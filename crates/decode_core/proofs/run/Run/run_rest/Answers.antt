@@ -1,0 +1,32 @@
+use Rattle.std.proofs.Common.{◌++◌, ◌≤◌, arith, length, length-append, subst}
+use Rattle.decode_core.specs.Running.{Running}
+use Rattle.decode_core.specs.Turned.{StepReports, WantsMemory}
+use Rattle.decode_core.proofs.steps.RunEnds.{rest_reports}
+use Rattle.decode_core.proofs.steps.RunSteps.{open_of, piece_wants}
+use Rattle.decode_core.proofs.run.Run.run_rest.Goals as goal
+
+pub returns-in_default-clause-reports : goal.returns-in_default-clause-reports
+returns-in_default-clause-reports g c = λ later.
+    let b = c.self.inside.builder in
+    let k = c.self.inside.carry in
+    let rest = c.args.rest.now in
+    let n = open_of b k c.args.run c.args.self.now c.self.view_is c.requires.next
+    c.requires.open in
+    let few : length rest ≤ c.args.run.missing = omega (arith, c.requires.rest) in
+    let there : length rest ≤ length (rest ++ later) = omega (arith, length-append rest later) in
+    let some : 1 ≤ length rest = omega (arith, c.requires.rest, c.requires.lacks) in
+    subst (λ (s : Running). WantsMemory s (rest ++ later)) c.self.view_is
+    (piece_wants b k c.args.run (rest ++ later) (length rest) n few there some)
+
+pub returns-clause-reports : goal.returns-clause-reports
+returns-clause-reports g c = λ later.
+    let b = c.self.inside.builder in
+    let k = c.self.inside.carry in
+    let rest = c.args.rest.now in
+    let n = open_of b k c.args.run c.args.self.now c.self.view_is c.requires.next
+    c.requires.open in
+    subst (λ (s : Running). StepReports s c.run_end.new.self (rest ++ later) c.run_end.result)
+    c.self.view_is
+    (rest_reports b c.extend_run.new.self k c.args.run c.run_end.new.self rest later
+    c.run_end.result n c.requires.rest c.requires.lacks c.in-Ok.ensures.ok
+    c.run_end.ensures.reports)
