@@ -6,6 +6,8 @@ mod checks;
 #[cfg(test)]
 mod decoder;
 #[cfg(test)]
+mod leaves;
+#[cfg(test)]
 mod needs;
 #[cfg(test)]
 mod pieces;
