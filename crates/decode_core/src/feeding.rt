@@ -1,8 +1,7 @@
 //! The turns on a piece: nodes whose bytes it has whole, those of one form taken together, and the bytes that end it.
 
 ghost use Rattle.std.specs.Prelude.{ℕ, List, true, ◌≡◌, ◌≤◌, ◌<◌, ◌++◌, [], Some, None, Err};
-ghost use Rattle.std.specs.Prelude.{length};
-ghost use Rattle.std.specs.Prelude.{IfOk, OnErr};
+ghost use Rattle.std.specs.Prelude.{length, IfOk, OnErr};
 ghost use Rattle.grammar_core.specs.Runs.{run_form};
 ghost use Rattle.node_core.specs.Leaves.{leaf_head, FitsLeaf};
 ghost use Rattle.value_core.specs.Built.{IsNextLeaf};
@@ -11,8 +10,7 @@ ghost use Rattle.form_core.specs.NodeForms.{form_of_bare, form_of_bytes, prefixe
 ghost use Rattle.decode_core.specs.NodeAdds.{IsWholeLeaf};
 ghost use Rattle.decode_core.specs.Running.{IsCarry, IsKeptRun, IsRunNext};
 ghost use Rattle.decode_core.specs.Turned.{Awaits, CallSoFar, FeedTells, HoldReports};
-ghost use Rattle.decode_core.specs.Turned.{WholeReports};
-ghost use Rattle.decode_core.specs.Turned.{WholeTurnsReport};
+ghost use Rattle.decode_core.specs.Turned.{WholeReports, WholeTurnsReport};
 
 use crate::node::{NodeFault, add_bare};
 use crate::run::{OpenRun, Run, take_node};

@@ -1,17 +1,16 @@
 //! Adding a node by the bytes that are its own.
 
 ghost use Rattle.std.specs.Prelude.{◌≡◌, None};
-ghost use Rattle.grammar_core.specs.Runs.{run_form};
 ghost use Rattle.value_core.specs.Walked.{next_of};
 ghost use Rattle.form_core.specs.Needs.{AreOwn};
 ghost use Rattle.decode_core.specs.NodeAdds.{AddsBare, AddsNode};
-ghost use Rattle.form_core.specs.NodeForms.{form_of_bare, form_of_plain, prefixed_kind};
+ghost use Rattle.form_core.specs.NodeForms.{form_of_bare, form_of_plain};
 
 use crate::fault::DecodeReason;
-use form_core::{BareForm, PlainForm, PrefixedRun, read_length, read_plain};
+use form_core::{BareForm, PlainForm, read_length, read_plain};
 use scale_core::Fault;
 use std::alloc::{AllocError, Allocator};
-use value_core::{Builder, Form, Leaf, Next, RunKind};
+use value_core::{Builder, Form, Leaf, Next};
 
 /// Why a node is not added.
 #[derive(Clone, Copy, Debug, PartialEq, Eq)]

@@ -3,17 +3,15 @@
 ghost use Rattle.std.specs.Prelude.{ℕ, List, true, ◌≡◌, ◌⊎◌, ◌<◌, ◌≤◌, ◌+◌, ◌++◌, [], length};
 ghost use Rattle.std.specs.Prelude.{false, None, Some, IfSome, Ok};
 ghost use Rattle.decode_core.specs.Running.{IsCarry, IsFresh, IsKeptRun, IsRunNext};
-ghost use Rattle.grammar_core.specs.Runs.{run_form};
 ghost use Rattle.value_core.specs.Walked.{next_of};
-ghost use Rattle.node_core.specs.Leaves.{leaf_head, FitsLeaf};
-ghost use Rattle.value_core.specs.Built.{built_text_bytes, finished, IsNextLeaf};
+ghost use Rattle.value_core.specs.Built.{built_text_bytes, finished};
 ghost use Rattle.value_core.specs.Refusals.{is_whole};
 ghost use Rattle.form_core.specs.Needs.{AreOwn, IsNeeded};
-ghost use Rattle.form_core.specs.NodeForms.{form_of_bare, form_of_bytes, prefixed_kind};
+ghost use Rattle.form_core.specs.NodeForms.{form_of_bare, form_of_bytes};
 ghost use Rattle.decode_core.specs.NodeAdds.{TakesNode};
 ghost use Rattle.decode_core.specs.Turned.{Awaits, BareReports, EndReports, EndsTurns};
 ghost use Rattle.decode_core.specs.Turned.{IsOn, IsSound, KeepsTurns, PieceReports, StepReports};
-ghost use Rattle.decode_core.specs.Turned.{WantsBytes, WholeReports, node_turned};
+ghost use Rattle.decode_core.specs.Turned.{WantsBytes, node_turned};
 
 use crate::fault::DecodeReason;
 use crate::node::{NodeFault, add_arm, add_bare, add_plain, add_sequence};

@@ -1,6 +1,6 @@
 //! A node without parts that few bytes spell, and a length, read off their own bytes.
 
-ghost use Rattle.std.specs.Prelude.{◌≡◌, IfOk};
+ghost use Rattle.std.specs.Prelude.{IfOk};
 ghost use Rattle.scale_core.specs.Read.{compact_at, number_at, signed_at};
 ghost use Rattle.registry_core.specs.Kinds.{width_bytes};
 ghost use Rattle.node_core.specs.Leaves.{FitsLeaf};
