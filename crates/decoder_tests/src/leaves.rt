@@ -25,28 +25,19 @@ const REFUSED: [Row; 5] = [
     (PlainForm::Count, &[7], Reason::CompactTooLarge),
 ];
 
-/// Which number is read in this form, where it is one.
-fn number(form: PlainForm, own: &[u8]) -> Option<u128> {
-    match read_plain(form, own).ok()? {
-        Leaf::Unsigned(number) | Leaf::Compact(number) => Some(number),
-        Leaf::Count(count) => Some(u128::from(count)),
-        _ => None,
-    }
-}
-
 #[test]
 fn numbers_have_their_lowest_byte_first(rt: HostRuntime) {
-    let bits32 = PlainForm::Unsigned(IntegerWidth::Bits32);
-    assert_eq!(rt; number(bits32, &[1, 0, 0, 1]), Some(16_777_217));
-    let bits128 = PlainForm::Unsigned(IntegerWidth::Bits128);
+    let bits32 = read_plain(PlainForm::Unsigned(IntegerWidth::Bits32), &[1, 0, 0, 1]);
+    assert!(rt; matches!(bits32, Ok(Leaf::Unsigned(16_777_217))));
     let half = [0, 0, 0, 0, 0, 0, 0, 0, 1, 0, 0, 0, 0, 0, 0, 0];
-    assert_eq!(rt; number(bits128, &half), Some(18_446_744_073_709_551_616));
-    let compact = PlainForm::Compact(Target::U64);
-    assert_eq!(rt;
-        number(compact, &[19, 0, 0, 0, 0, 0, 0, 0, 1]),
-        Some(72_057_594_037_927_936)
+    let bits128 = read_plain(PlainForm::Unsigned(IntegerWidth::Bits128), &half);
+    assert!(rt; matches!(bits128, Ok(Leaf::Unsigned(18_446_744_073_709_551_616))));
+    let compact = read_plain(
+        PlainForm::Compact(Target::U64),
+        &[19, 0, 0, 0, 0, 0, 0, 0, 1],
     );
-    assert_eq!(rt; number(PlainForm::Count, &[1, 1]), Some(64));
+    assert!(rt; matches!(compact, Ok(Leaf::Compact(72_057_594_037_927_936))));
+    assert!(rt; matches!(read_plain(PlainForm::Count, &[1, 1]), Ok(Leaf::Count(64))));
 }
 
 #[test]
