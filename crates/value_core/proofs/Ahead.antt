@@ -27,7 +27,6 @@ use Rattle.grammar_core.specs.declared.form.Form.TheVariants as form
 use Rattle.grammar_core.specs.declared.form.Next.TheVariants as next
 use Rattle.value_core.specs.Ahead.{IsAhead, IsStepOf, elements_in, members_in}
 use Rattle.value_core.specs.declared.left.Left.{Left}
-use Rattle.value_core.specs.declared.walk.Ahead.{Ahead}
 use Rattle.value_core.specs.Frames.{left_of, members_of}
 use Rattle.value_core.specs.Opened.{OpensFields, OpensArm, OpensElements, IsListNext, shape_at}
 use Rattle.value_core.specs.Opened.{next_shape}
@@ -43,10 +42,10 @@ IsStepAhead r (Some t) s = IsStepOf r t s
 IsStepAhead r None s = ⊥
 
 -- where the last look-up found one, a type is next
-pub found_ahead : (r : List TypeInfo) (o : Option ℕ) (a : Ahead) → IsAhead r o true a →
-    IsStepAhead r o a.step
-found_ahead r (Some t) a h = h.1
-found_ahead r None a h = h
+pub found_ahead : (r : List TypeInfo) (o : Option ℕ) (ty : TypeId) (s : Step) → IsAhead o true ty →
+    IfSome o (λ t. IsStepOf r t s) → IsStepAhead r o s
+found_ahead r (Some t) ty s h is = is
+found_ahead r None ty s h is = h
 
 -- where a type is next, it is the one that the walk tells
 pub type_at : (w : Walked) (t u : ℕ) → next_type w ≡ Some u → IfSome (next_type w) (λ x. t ≡ x) →

@@ -258,7 +258,7 @@ settled_paid old new before after turns paid h is e p =
     )
 
 -- when the next node is there, as many parts are open as before
-advanced_length : (fs : List OpenPart) → length (advanced_in fs) ≡ length fs
+pub advanced_length : (fs : List OpenPart) → length (advanced_in fs) ≡ length fs
 advanced_length [] = refl
 advanced_length (f ∷ fs) = refl
 

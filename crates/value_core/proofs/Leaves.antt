@@ -1,6 +1,6 @@
 -- The bytes of text of a node, and a leaf that is kept as the last node.
 use Rattle.std.proofs.Common.{◌≡◌, ℕ, ◌+◌, ◌-◌, ◌^◌, ◌≤◌, ◌<◌, List, [], ◌∷◌, ◌++◌, drop}
-use Rattle.std.proofs.Common.{IfSome, refl, ◌∙◌, arith}
+use Rattle.std.proofs.Common.{length, IfSome, refl, ◌∙◌, arith}
 use Rattle.std.proofs.lemmas.List.{length-take}
 use Rattle.std.proofs.lemmas.Option.{same_Some}
 use Rattle.registry_core.specs.declared.type_id.TypeId.{TypeId}
@@ -51,6 +51,13 @@ pub record IsWithLeaf (ty : ℕ) (w : Walked) (l : Leaf) (old_pool pool : List �
   pub entries : entries_shown pool ns
       ≡ entries_shown old_pool old_ns ++ record { ty = t; head = leaf_head l } ∷ []
   pub paid : (turns : ℕ) → IsPaid w old_ns turns → IsPaid (advanced w) ns turns
+
+-- with one leaf more the texts' bytes are still counted in a machine's word
+pub texts_fit : (ty : ℕ) (w : Walked) (l : Leaf) (pool : List ℕ) (ns : List Node) (text_len : ℕ) →
+    IsBuilding ty w pool ns text_len → FitsLeaf l → length pool < 2 ^ 63 →
+    text_len + leaf_text_bytes l < 2 ^ 64
+texts_fit ty w l pool ns text_len b fits small =
+    omega (arith, small, text_short l fits, b.texts, b.fits, texts_kept pool ns)
 
 -- with a leaf that is next kept as the last node, the value that is being built stays one
 pub leaf_appended : (ty : ℕ) (w : Walked) (l : Leaf) (pool new_pool : List ℕ)

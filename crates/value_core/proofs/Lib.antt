@@ -2,6 +2,7 @@ pub mod Adding
 pub mod Ahead
 pub mod Begun
 pub mod Closing
+pub mod Elements
 pub mod Spines
 pub mod RunEnded
 pub mod Finished

@@ -1,13 +1,13 @@
 -- The references that are left of an open node, one after the other.
 use Rattle.std.proofs.Common.{◌≡◌, ℕ, zero, suc, ◌+◌, ◌-◌, ◌<◌, ◌≤◌, List, [], ◌∷◌, ◌++◌, length}
-use Rattle.std.proofs.Common.{take, drop, Bool, true, false, Option, refl, ap, ◌∙◌, arith}
+use Rattle.std.proofs.Common.{take, drop, Option, Some, None, refl, ap, ◌∙◌, arith}
 use Rattle.std.proofs.Common.{drop-cons, inl, inr}
-use Rattle.std.specs.Prelude.{map, reverse}
+use Rattle.std.specs.Prelude.{map, reverse, slice_get}
 use Rattle.std.proofs.lemmas.List.{length-drop, length-map, length-reverse, length-take-le}
 use Rattle.std.proofs.lemmas.List.{reverse-append}
 use Rattle.std.proofs.lemmas.Option.{slice_get-get_or, slice_get_cases, slice_get_past}
 use Rattle.registry_core.specs.declared.type_info.TypeInfo.{TypeInfo}
-use Rattle.grammar_core.specs.Parts.{each, left_after}
+use Rattle.grammar_core.specs.Parts.{each, first_of, left_after}
 use Rattle.widths_core.specs.Steps.{AreParts}
 use Rattle.value_core.specs.Frames.{followed_by, frames_of, left_by, members_before, members_of}
 use Rattle.value_core.specs.Frames.{open_part_of, parts_by}
@@ -29,16 +29,30 @@ one_less_member refs end n = elim (slice_get_cases refs (end - suc n)).1 [
 ]
 
 -- with the number of parts one less, what is left is what was left without the next one
-pub one_less : (refs : List ℕ) (n : ℕ) (same : Bool) (element end : ℕ) →
-    parts_by refs (n - 1) same element end ≡ left_after (parts_by refs n same element end)
-one_less refs zero true element end = refl
-one_less refs zero false element end = refl
-one_less refs (suc n) true element end =
+pub one_less : (refs : List ℕ) (n element end : ℕ) →
+    parts_by refs (n - 1) element end ≡ left_after (parts_by refs n element end)
+one_less refs zero element zero = refl
+one_less refs zero element (suc end) = refl
+one_less refs (suc n) element zero =
     let down : suc n - 1 ≡ n = omega arith in
     rw down refl
-one_less refs (suc n) false element end =
+one_less refs (suc n) element (suc end) =
     let down : suc n - 1 ≡ n = omega arith in
     rw down (one_less_member refs end n)
+
+-- the first that is left is the reference at its place, where that is there
+first_followed : (o : Option ℕ) (ts : List ℕ) → o ≡ first_of (each (followed_by o ts))
+first_followed (Some t) ts = refl
+first_followed None ts = refl
+
+-- the type that is next, where members are left, is the reference as far from the last as many are
+pub first_left : (refs : List ℕ) (n element end at : ℕ) → 1 ≤ n → 1 ≤ end → at ≡ end - 1 - n →
+    slice_get refs at ≡ first_of (parts_by refs n element end)
+first_left refs zero element end at h k e = absurd (omega (arith, h))
+first_left refs (suc n) element zero at h k e = absurd (omega (arith, k))
+first_left refs (suc n) element (suc end) at h k e =
+    let same : at ≡ end - suc n = omega (arith, e) in
+    rw same (first_followed (slice_get refs (end - suc n)) (members_before refs end n))
 
 -- those that are left are a piece of all references
 members_are : (refs : List ℕ) (end n : ℕ) → n ≤ end → end ≤ length refs →

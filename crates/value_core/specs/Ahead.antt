@@ -1,5 +1,6 @@
 -- What a walk knows of the type that is next.
 use Rattle.std.specs.Prelude.{◌≡◌, ℕ, Bool, true, false, List, Option, Some, None}
+use Rattle.registry_core.specs.declared.type_id.TypeId.{TypeId}
 use Rattle.registry_core.specs.declared.type_info.TypeInfo.{TypeInfo}
 use Rattle.graph_core.specs.Types.{shape}
 use Rattle.widths_core.specs.Classes.{class_of}
@@ -8,7 +9,6 @@ use Rattle.widths_core.specs.declared.step.Step.{Step}
 use Rattle.widths_core.specs.declared.step.Step.TheVariants as step
 use Rattle.value_core.specs.Frames.{copies_of, members_of}
 use Rattle.value_core.specs.declared.left.Left.{Left}
-use Rattle.value_core.specs.declared.walk.Ahead.{Ahead}
 
 -- this is the step of type t; a type that is not known has no value
 abbrev pub IsStepOf : List TypeInfo → ℕ → Step → Type 0
@@ -18,12 +18,12 @@ IsStepOf r t s = elim (shape r t) [
       s ≡ step.NoValue
 ]
 
--- the type that was looked up last, with its step, is the one that is next, where any is
-abbrev pub IsAhead : List TypeInfo → Option ℕ → Bool → Ahead → Type 0
-IsAhead r (Some t) true a = (a.ty.0 ≡ t) × IsStepOf r t a.step
-IsAhead r None false a = Unit {0}
-IsAhead r (Some t) false a = ⊥
-IsAhead r None true a = ⊥
+-- the type that was looked up last is the one that is next, where any is
+abbrev pub IsAhead : Option ℕ → Bool → TypeId → Type 0
+IsAhead (Some t) true ty = ty.0 ≡ t
+IsAhead None false ty = Unit {0}
+IsAhead (Some t) false ty = ⊥
+IsAhead None true ty = ⊥
 
 -- the parts of a composite or a tuple of this step
 abbrev pub members_in : Step → Left

@@ -19,13 +19,13 @@ members_before refs end zero = []
 members_before refs end (suc n) =
     followed_by (slice_get refs (end - suc n)) (members_before refs end n)
 
--- so many parts, all of one type, or of the references before a number
-abbrev pub parts_by : List ℕ → ℕ → Bool → ℕ → ℕ → Part
-parts_by refs n true element end = times n element
-parts_by refs n false element end = each (members_before refs end n)
+-- so many parts, all of one type, or of the references before a number, which stands as one more
+abbrev pub parts_by : List ℕ → ℕ → ℕ → ℕ → Part
+parts_by refs n element zero = times n element
+parts_by refs n element (suc end) = each (members_before refs end n)
 
 abbrev pub left_by : List ℕ → Left → Part
-left_by refs l = parts_by refs l.count l.same l.element l.end
+left_by refs l = parts_by refs l.count l.element l.end
 
 abbrev pub left_of : List TypeInfo → Left → Part
 left_of r l = left_by (references_of r) l
@@ -33,19 +33,19 @@ left_of r l = left_by (references_of r) l
 -- so many references from this number on
 abbrev pub members_of : ℕ → ℕ → Left
 members_of from count =
-    record { count = count; element = 0; end = from + count; same = false }
+    record { count = count; element = 0; end = suc (from + count) }
 
 -- so many of one type
 abbrev pub copies_of : ℕ → ℕ → Left
-copies_of count t = record { count = count; element = t; end = 0; same = true }
+copies_of count t = record { count = count; element = t; end = 0 }
 
 -- so many of one type are left, and at least one
-abbrev pub repeats_by : ℕ → Bool → Bool
-repeats_by zero same = false
-repeats_by (suc n) same = same
+abbrev pub repeats_by : ℕ → ℕ → Bool
+repeats_by (suc n) zero = true
+repeats_by _ _ = false
 
 abbrev pub repeats : Left → Bool
-repeats l = repeats_by l.count l.same
+repeats l = repeats_by l.count l.end
 
 abbrev pub open_part_of : List TypeInfo → Frame → OpenPart
 open_part_of r f = record { node = f.node; left = left_of r f.left }

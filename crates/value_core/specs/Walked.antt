@@ -2,7 +2,7 @@
 use Rattle.std.specs.Prelude.{◌≡◌, ◌≢◌, ℕ, ◌+◌, ◌-◌, ◌≤◌, List, [], ◌∷◌, length, Option, Some, None}
 use Rattle.std.specs.Prelude.{nat_lt, if◌then◌else◌}
 use Rattle.registry_core.specs.declared.type_info.TypeInfo.{TypeInfo}
-use Rattle.grammar_core.specs.Parts.{Part, times, first_of, left_after}
+use Rattle.grammar_core.specs.Parts.{Part, each, times, first_of, left_after}
 use Rattle.grammar_core.specs.Forms.{next_at}
 use Rattle.grammar_core.specs.declared.form.StopReason.TheVariants as stop
 use Rattle.grammar_core.specs.declared.form.Next.{Next}
@@ -39,6 +39,19 @@ first_in (o ∷ os) = first_of o.left
 
 abbrev pub next_type : Walked → Option ℕ
 next_type w = first_in w.frames
+
+-- how many values of one type follow the first of these, where they are so many of one type
+abbrev pub after_first : Part → ℕ
+after_first (each ts) = 0
+after_first (times n t) = n - 1
+
+abbrev pub after_first_in : List OpenPart → ℕ
+after_first_in [] = 0
+after_first_in (o ∷ os) = after_first o.left
+
+-- how many elements follow the next one in the innermost open list; 0 in a node of another kind
+abbrev pub elements_after : Walked → ℕ
+elements_after w = after_first_in w.frames
 
 -- the root has depth 0, and each open node around the next one adds a level
 abbrev pub depth_from : ℕ → Option ℕ → ℕ

@@ -1,7 +1,7 @@
 //! A value that is built node by node.
 
 ghost use Rattle.std.specs.Prelude.{◌≡◌, ◌<◌, ◌≤◌, ◌+◌, ◌++◌, ◌∷◌, [], length, true, false, OnOk};
-ghost use Rattle.std.specs.Prelude.{OnErr, IfOk, IfErr, IfSome, Ok, None};
+ghost use Rattle.std.specs.Prelude.{OnErr, IfOk, IfSome, Ok, None};
 ghost use Rattle.grammar_core.specs.Runs.{run_form};
 ghost use Rattle.value_core.specs.Begun.{IsBegun};
 ghost use Rattle.value_core.specs.Building.{AreBuilt, Settles};
@@ -13,7 +13,7 @@ ghost use Rattle.value_core.specs.Frames.{left_of};
 ghost use Rattle.node_core.specs.Shown.{head_shown, size_shown};
 ghost use Rattle.value_core.specs.Refusals.{Finishes, Opens, IsRunWhole, bad_text, missing_of};
 ghost use Rattle.value_core.specs.Refusals.{other_fault, wanted_of, is_whole, build_opening_fault};
-ghost use Rattle.value_core.specs.Walked.{advanced, next_of, opened, start_of};
+ghost use Rattle.value_core.specs.Walked.{advanced, elements_after, next_of, opened, start_of};
 ghost use Rattle.node_core.specs.Leaves.{leaf_head, FitsLeaf, IsAppended};
 
 use crate::build_fault::BuildFault;
@@ -327,6 +327,26 @@ impl<'r, A: Allocator> Builder<'r, A> {
         self.text_len += leaf.text_len();
         self.walk.advance();
         settle(&mut self.walk, &mut self.nodes, &mut self.turns);
+        Ok(())
+    }
+
+    /// The same for an element of a list that another follows: no node ends with it, and another of its type is next.
+    #[inline(always)]
+    pub fn add_element(&mut self, leaf: Leaf<'_>) -> Result<(), AllocError>
+        requires closed { self.old.run ≡ None }
+        requires next { IsNextLeaf self.old.walk (leaf_head leaf) }
+        requires fits { FitsLeaf leaf }
+        requires follows { 1 ≤ elements_after self.old.walk }
+        ensures ok { OnOk result (self.new ≡ with_leaf self.old (leaf_head leaf.entry)) }
+        ensures next { OnOk result (next_of self.new.walk ≡ next_of self.old.walk) }
+        ensures fewer { OnOk result
+            (elements_after self.new.walk + 1 ≡ elements_after self.old.walk) }
+        ensures err { OnErr result (self.new ≡ self.old) }
+    {
+        let ty = self.walk.ty();
+        append(&mut self.nodes, &mut self.pool, ty, leaf)?;
+        self.text_len += leaf.text_len();
+        self.walk.pass_element();
         Ok(())
     }
 

@@ -1,20 +1,20 @@
 //! What is left of the parts of an open node, by the references of the registry.
 
-ghost use Rattle.std.specs.Prelude.{◌≡◌, ℕ, List};
-ghost use Rattle.grammar_core.specs.Parts.{first_of, left_after};
+ghost use Rattle.std.specs.Prelude.{◌≡◌, ℕ, List, slice_get};
 ghost use Rattle.value_core.specs.Frames.{left_by, copies_of, members_of, repeats};
+ghost use Rattle.grammar_core.specs.Parts.{first_of, left_after};
+ghost use Rattle.value_core.specs.Walked.{after_first};
 
-/// The parts of an open node that are still to come: so many, the last of these. Which types they have is said by fields
-/// and not by an enum, since that is moved with its padding, which takes longer than what it says.
+/// The parts of an open node that are still to come: so many, the last of these. Which types they have is said by numbers
+/// and not by an enum: these have no padding, which would be moved with them.
 #[derive(Clone, Copy)]
 pub(crate) struct Left {
     pub(crate) count: u32,
     /// The type of all of them, by its number, where they have one.
     element: u32,
-    /// Else their types are those of the references before this number, one each.
+    /// 0 where they have one type. Else their types are those of the references whose numbers, and one, are below this, one
+    /// each.
     end: usize,
-    /// Have all of them one type?
-    same: bool,
 }
 
 /// An open node: its place among the nodes, and what is left of its parts.
@@ -22,6 +22,14 @@ pub(crate) struct Left {
 pub(crate) struct Frame {
     pub(crate) node: usize,
     pub(crate) left: Left,
+}
+
+/// The type that the reference of this number names, where there is one.
+#[inline(always)]
+fn reference_at(references: &[u32], at: usize) -> Option<u32>
+    ensures { result ≡ slice_get references.now at }
+{
+    references.get(at).copied()
 }
 
 impl Left {
@@ -32,8 +40,7 @@ impl Left {
         Left {
             count,
             element: 0,
-            end: from as usize + count as usize,
-            same: false,
+            end: from as usize + count as usize + 1,
         }
     }
 
@@ -45,7 +52,6 @@ impl Left {
             count,
             element,
             end: 0,
-            same: true,
         }
     }
 
@@ -64,11 +70,11 @@ impl Left {
         if self.count == 0 {
             return None;
         }
-        if self.same {
+        if self.end == 0 {
             return Some(self.element);
         }
-        let at = self.end.saturating_sub(self.count as usize);
-        references.get(at).copied()
+        let at = (self.end - 1).saturating_sub(self.count as usize);
+        reference_at(references, at)
     }
 
     /// The next type is no longer left. Where nothing is left, nothing changes.
@@ -81,47 +87,37 @@ impl Left {
         self.count = self.count.saturating_sub(1);
     }
 
+    /// The same, made anew.
+    #[inline(always)]
+    pub(crate) fn advanced(self) -> Left
+        ensures { (references : List ℕ) →
+            left_by references result ≡ left_after (left_by references self) }
+    {
+        let mut left = self;
+        left.advance();
+        left
+    }
+
+    /// How many values of the next one's type follow it, where all have one type; else 0.
+    #[inline(always)]
+    pub(crate) fn after_first(&self) -> u32
+        ensures { (references : List ℕ) →
+            result ≡ after_first (left_by references self.now) }
+    {
+        if self.end == 0 {
+            self.count.saturating_sub(1)
+        } else {
+            0
+        }
+    }
+
     /// Is something left, of the same type as what was before it?
     #[inline(always)]
     pub(crate) fn repeats(&self) -> bool
         ensures { result ≡ repeats self.now }
     {
-        self.count != 0 && self.same
+        self.count != 0 && self.end == 0
     }
 }
 
-impl Frame {
-    /// It is the other from now on. Field by field: to copy it as a whole would copy its padding too.
-    #[inline(always)]
-    pub(crate) fn set(&mut self, other: Frame)
-        ensures { self.new ≡ other }
-    {
-        self.node = other.node;
-        self.left.count = other.left.count;
-        self.left.element = other.left.element;
-        self.left.end = other.left.end;
-        self.left.same = other.left.same;
-    }
-
-    /// The same without the next type.
-    #[inline(always)]
-    pub(crate) fn advanced(&self) -> Frame
-        ensures node { result.node ≡ self.now.node }
-        ensures left { (references : List ℕ) →
-            left_by references result.left ≡ left_after (left_by references self.now.left) }
-    {
-        let mut left = Left {
-            count: self.left.count,
-            element: self.left.element,
-            end: self.left.end,
-            same: self.left.same,
-        };
-        left.advance();
-        Frame {
-            node: self.node,
-            left,
-        }
-    }
-}
-
-const _: () = prove!(size_of::<Frame>() == 32);
+const _: () = prove!(size_of::<Frame>() == 24);

@@ -8,7 +8,7 @@ ghost use Rattle.value_core.specs.Frames.{left_of};
 ghost use Rattle.value_core.specs.Opened.{OpensFields, OpensArm, OpensElements, IsListNext};
 ghost use Rattle.value_core.specs.Refusals.{is_whole_in};
 ghost use Rattle.value_core.specs.Walked.{start_of, next_type, next_of, depth_of, advanced, opened};
-ghost use Rattle.value_core.specs.Walked.{Closes, IsBounded};
+ghost use Rattle.value_core.specs.Walked.{Closes, IsBounded, elements_after};
 
 use crate::left::{Frame, Left};
 use grammar_core::{Form, MAX_DEPTH, Next, StopReason, next_of_step};
@@ -17,33 +17,23 @@ use std::alloc::{AllocError, Allocator};
 use std::marker::Model;
 use widths_core::{Checked, Step};
 
-/// A type, and its step in the table of the registry.
-#[derive(Clone, Copy)]
-struct Ahead {
-    ty: TypeId,
-    step: Step,
+/// The step of a type in the table of the registry. A type that is no position has no value.
+#[inline(always)]
+fn step_of(checked: &Checked, ty: TypeId) -> Step
+    ensures { IsStepOf checked.now.types ty.0 result }
+{
+    checked.step(ty).unwrap_or(Step::NoValue)
 }
 
-/// A type with its step: one look-up. A type that is no position has no value.
+/// Finds the type that is next in an open node. Is any left? Where none is, `ty` stays as it was.
 #[inline(always)]
-fn ahead_of(checked: &Checked, ty: TypeId) -> Ahead
-    ensures ty { result.ty ≡ ty }
-    ensures step { IsStepOf checked.now.types ty.0 result.step }
+fn look_ahead(checked: &Checked, left: &Left, ty: &mut TypeId) -> bool
+    ensures { IsAhead (first_of (left_of checked.now.types left.now)) result ty.new }
 {
-    let step = checked.step(ty).unwrap_or(Step::NoValue);
-    Ahead { ty, step }
-}
-
-/// Looks up the type that is next in an open node. Is any left? Where none is, `ahead` stays as it was.
-#[inline(always)]
-fn look_ahead(checked: &Checked, left: &Left, ahead: &mut Ahead) -> bool
-    ensures { IsAhead checked.now.types (first_of (left_of checked.now.types left.now)) result
-        ahead.new }
-{
-    let Some(ty) = left.first(checked.members()) else {
+    let Some(first) = left.first(checked.members()) else {
         return false;
     };
-    *ahead = ahead_of(checked, TypeId(ty));
+    *ty = TypeId(first);
     true
 }
 
@@ -71,14 +61,14 @@ fn elements_in(step: Step, length: u32) -> Left
 /// after the other, after the index or the length that says which and how many they are).
 ///
 /// It keeps the innermost node that is open and those around it, at most as many as the depth limit and two, and the
-/// step of the type that is next: it is looked up once, when the walk comes to it.
+/// type that is next, which is looked up once, when the walk comes to it. Its step is read where it is asked for.
 #[derive(Drop)]
 pub struct Walk<'r, A: Allocator> {
     checked: &'r Checked,
     top: Frame,
     around: Vec<Frame, A>,
     /// The type that was looked up last: the next one, where any is left in the innermost node.
-    ahead: Ahead,
+    ty: TypeId,
     /// Is any left there?
     has_next: bool,
     limit: u16,
@@ -101,8 +91,7 @@ impl<'r, A: Allocator> Model for Walk<'r, A> {
     } };
 
     ghost invariant = { λ w. (w.limit ≤ 1024) × (length w.around.items ≤ w.limit + 1)
-        × IsAhead w.checked.now.types (first_of (left_of w.checked.now.types w.top.left))
-        w.has_next w.ahead };
+        × IsAhead (first_of (left_of w.checked.now.types w.top.left)) w.has_next w.ty };
 }
 
 impl<'r, A: Allocator> Walk<'r, A> {
@@ -116,7 +105,7 @@ impl<'r, A: Allocator> Walk<'r, A> {
             checked,
             top: Frame { node: 0, left },
             around: Vec::new(alloc),
-            ahead: ahead_of(checked, root),
+            ty: root,
             has_next: true,
             limit,
         }
@@ -126,7 +115,7 @@ impl<'r, A: Allocator> Walk<'r, A> {
     /// form of the value that is wanted (SCALE codec, "Types").
     ///
     /// Of several reasons the first is reported: a depth above the limit, a type without a finite value, a bit sequence, a
-    /// compact that wraps no unsigned integer. It takes no look-up and no memory, and changes nothing.
+    /// compact that wraps no unsigned integer. It takes one look-up and no memory, and changes nothing.
     #[inline(always)]
     pub fn next(&self) -> Next
         ensures { result ≡ next_of self.now }
@@ -137,7 +126,7 @@ impl<'r, A: Allocator> Walk<'r, A> {
         if self.around.len() > usize::from(self.limit) {
             return Next::Stop(StopReason::TooDeep);
         }
-        next_of_step(self.ahead.step)
+        next_of_step(self.step())
     }
 
     /// The depth of the node that comes next: 0 for the root, and one more than that of the node it is part of for any
@@ -175,8 +164,25 @@ impl<'r, A: Allocator> Walk<'r, A> {
     {
         self.top.left.advance();
         if !self.top.left.repeats() {
-            self.has_next = look_ahead(self.checked, &self.top.left, &mut self.ahead);
+            self.has_next = look_ahead(self.checked, &self.top.left, &mut self.ty);
         }
+    }
+
+    /// How many elements follow the next one in the innermost open list; 0 where another node is the innermost.
+    #[inline(always)]
+    pub fn elements_after(&self) -> u32
+        ensures { result ≡ elements_after self.now }
+    {
+        self.top.left.after_first()
+    }
+
+    /// The next element of a list is there, and another follows, which is of the same type: nothing is looked up.
+    #[inline(always)]
+    pub(crate) fn pass_element(&mut self)
+        requires { 1 ≤ elements_after self.old }
+        ensures { self.new ≡ advanced self.old }
+    {
+        self.top.left.advance();
     }
 
     /// The next node is open, and its parts come next. Where memory is refused, nothing changes.
@@ -187,9 +193,12 @@ impl<'r, A: Allocator> Walk<'r, A> {
             ≡ opened (advanced self.old) node (left_of self.old.types left)) }
         ensures err { OnErr result (self.new ≡ self.old) }
     {
-        self.around.push(self.top.advanced())?;
-        self.top.set(Frame { node, left });
-        self.has_next = look_ahead(self.checked, &left, &mut self.ahead);
+        self.around.push(Frame {
+            node: self.top.node,
+            left: self.top.left.advanced(),
+        })?;
+        self.top = Frame { node, left };
+        self.has_next = look_ahead(self.checked, &left, &mut self.ty);
         Ok(())
     }
 
@@ -206,8 +215,8 @@ impl<'r, A: Allocator> Walk<'r, A> {
         }
         let frame = self.around.pop()?;
         let node = self.top.node;
-        self.top.set(frame);
-        self.has_next = look_ahead(self.checked, &frame.left, &mut self.ahead);
+        self.top = frame;
+        self.has_next = look_ahead(self.checked, &frame.left, &mut self.ty);
         Some(node)
     }
 
@@ -223,15 +232,15 @@ impl<'r, A: Allocator> Walk<'r, A> {
     pub(crate) fn ty(&self) -> TypeId
         ensures { IfSome (next_type self.now) (λ t. result.0 ≡ t) }
     {
-        self.ahead.ty
+        self.ty
     }
 
-    /// Its step, where one comes next.
+    /// Its step, where one comes next: one look-up.
     #[inline(always)]
     fn step(&self) -> Step
         ensures { IfSome (next_type self.now) (λ t. IsStepOf self.now.types t result) }
     {
-        self.ahead.step
+        step_of(self.checked, self.ty)
     }
 
     /// A value of each field or member of the next type.

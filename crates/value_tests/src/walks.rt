@@ -238,6 +238,28 @@ fn the_next_form_and_its_depth_are_reported(rt: HostRuntime) -> Result<(), Fail>
     Ok(())
 }
 
+/// Calls for a tuple of a sequence of u16 and a u8, and how many elements follow the next one after each.
+const FOLLOWED: [(Call, u32); 6] = [
+    (Call::Fields, 0),
+    (Call::List(3), 2),
+    (Call::Unsigned(7), 1),
+    (Call::Unsigned(255), 0),
+    (Call::Unsigned(256), 0),
+    (Call::Unsigned(42), 0),
+];
+
+#[test]
+fn the_elements_that_follow_the_next_one_are_counted(rt: HostRuntime) -> Result<(), Fail> {
+    let registry = checked(rt.alloc(), WORDS_AND_A_BYTE)?;
+    let mut builder = begun(rt.alloc(), &registry, 3, 64)?;
+    assert_eq!(rt; builder.walk().elements_after(), 0);
+    'calls: for (call, after) in &FOLLOWED {
+        assert_eq!(rt; add(&mut builder, *call), Ok(()), "{call:?}");
+        assert_eq!(rt; builder.walk().elements_after(), *after, "after {call:?}");
+    }
+    Ok(())
+}
+
 #[test]
 fn the_default_limits_are_reported(rt: HostRuntime) {
     let limits = Limits {

@@ -1,8 +1,8 @@
-use Rattle.std.proofs.Common.{rules, ◌+◌, ◌^◌, ◌<◌, length, arith, ◌∙◌, sym, ap, subst, refl}
+use Rattle.std.proofs.Common.{rules, ◌+◌, ◌^◌, ◌<◌, length, ◌∙◌, sym, ap, subst, refl}
 use Rattle.value_core.specs.Built.{Built, IsNextLeaf, with_leaf}
 use Rattle.node_core.specs.Leaves.{leaf_head, leaf_text_bytes}
 use Rattle.value_core.proofs.Closing.{none_open, settled_again, settled_paid}
-use Rattle.value_core.proofs.Leaves.{leaf_appended, text_short, texts_kept}
+use Rattle.value_core.proofs.Leaves.{leaf_appended, texts_fit}
 use Rattle.value_core.proofs.builder.Builder.add_leaf.Goals as goal
 
 pub settle-requires : goal.settle-requires
@@ -65,13 +65,7 @@ returns-clause-ok g c =
 pub overflow_add-self : goal.overflow_add-self
 overflow_add-self g c =
     let small : length c.self.inside.pool.items < 2 ^ 63 = search rules in
-    let fits : c.self.inside.text_len + leaf_text_bytes c.args.leaf < 2 ^ 64 =
-    omega (
-      arith,
-      small,
-      text_short c.args.leaf c.requires.fits,
-      c.self.invariant.0.texts,
-      c.self.invariant.0.fits,
-      texts_kept c.self.inside.pool.items c.self.inside.nodes.items,
-    ) in
+    let fits = texts_fit c.self.inside.root.0 c.self.inside.walk c.args.leaf
+    c.self.inside.pool.items c.self.inside.nodes.items c.self.inside.text_len c.self.invariant.0
+    c.requires.fits small in
     search rules

@@ -1,4 +1,5 @@
-use Rattle.std.proofs.Common.{rules, ◌≡◌, ◌∙◌, ◌≤◌, ◌+◌, length, true, subst, arith}
+use Rattle.std.proofs.Common.{rules, ◌≡◌, ◌∙◌, ◌≤◌, ◌+◌, length, true, sym, subst, arith, IfSome}
+use Rattle.value_core.specs.Ahead.{IsStepOf}
 use Rattle.value_core.specs.Walked.{Walked, next_type}
 use Rattle.value_core.proofs.Ahead.{IsStepAhead, found_ahead, next_in_room}
 use Rattle.value_core.proofs.Members.{frames_counted}
@@ -11,9 +12,9 @@ returns g c =
     subst (λ (w : Walked). length w.frames ≤ w.limit + 1) c.self.view_is
     (omega (arith, around, c.if-len-from.false, c.from.ensures, c.len.ensures)) in
     let found : c.self.inside.has_next ≡ true = search rules in
-    let ahead : IsStepAhead c.args.self.now.types (next_type c.args.self.now)
-    c.self.inside.ahead.step =
-    subst (λ (w : Walked). IsStepAhead w.types (next_type w) c.self.inside.ahead.step)
-    c.self.view_is (found_ahead _ _ _ (rw found at c.self.invariant.2)) in
-    c.next_of_step.ensures
-    ∙ next_in_room c.args.self.now c.self.inside.ahead.step room ahead
+    let known = subst (λ (w : Walked). IfSome (next_type w) (λ t. IsStepOf w.types t c.step.result))
+    (sym c.self.view_is) c.step.ensures in
+    let ahead : IsStepAhead c.args.self.now.types (next_type c.args.self.now) c.step.result =
+    subst (λ (w : Walked). IsStepAhead w.types (next_type w) c.step.result)
+    c.self.view_is (found_ahead _ _ _ c.step.result (rw found at c.self.invariant.2) known) in
+    c.next_of_step.ensures ∙ next_in_room c.args.self.now c.step.result room ahead
