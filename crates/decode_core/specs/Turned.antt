@@ -9,7 +9,7 @@ use Rattle.grammar_core.specs.declared.form.Form.{Form}
 use Rattle.grammar_core.specs.declared.form.Next.TheVariants as next
 use Rattle.value_core.specs.Begun.{IsBegun}
 use Rattle.value_core.specs.Built.{next_layout}
-use Rattle.value_core.specs.Walked.{next_of}
+use Rattle.value_core.specs.Walked.{elements_after, next_of}
 use Rattle.value_core.specs.Refusals.{is_whole}
 use Rattle.grammar_core.specs.Reading.{Refusal, truncated}
 use Rattle.decode_core.specs.Decided.{Decided}
@@ -130,11 +130,6 @@ abbrev pub StandsAfter : Stopped → Running → Running → Type 0
 StandsAfter (stop.Refused held reported_reason at len) before new = Unit {0}
 StandsAfter s before new = new ≡ before
 
--- a turn goes on
-abbrev pub IsOn : Turned → Type 0
-IsOn (turned.On n) = Unit {0}
-IsOn _ = ⊥
-
 -- what a turn does on a node whose own bytes a piece may have whole: it adds the node, or nothing
 -- changes
 abbrev pub WholeReports : Running → Running → List ℕ → Whole → Type 0
@@ -230,6 +225,12 @@ pub record Awaits (s : Running) (f : Form) : Type 0 where
   pub next : next_of s.built.walk ≡ next.Wants f
   pub closed : s.built.run ≡ None
   pub sound : IsSound s
+
+-- an element of a list was added: the same form is next, and one element fewer follows it
+abbrev pub GoesOn : Form → Running → Running → Whole → Type 0
+GoesOn f old new (whole.Added n) = Awaits new f × (new.carry ≡ [])
+    × (elements_after new.built.walk + 1 ≡ elements_after old.built.walk)
+GoesOn f old new _ = Unit {0}
 
 -- turns on a piece, of which those before the last one took n bytes and did not stop, and what the
 -- last one did

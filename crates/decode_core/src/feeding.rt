@@ -1,15 +1,16 @@
 //! The turns on a piece: nodes whose bytes it has whole, those of one form taken together, and the bytes that end it.
 
 ghost use Rattle.std.specs.Prelude.{ℕ, List, true, ◌≡◌, ◌≤◌, ◌<◌, ◌++◌, [], Some, None, Err};
-ghost use Rattle.std.specs.Prelude.{length, IfOk, OnErr};
+ghost use Rattle.std.specs.Prelude.{length, take, IfOk, IfSome, OnErr};
 ghost use Rattle.grammar_core.specs.Runs.{run_form};
 ghost use Rattle.node_core.specs.Leaves.{leaf_head, FitsLeaf};
 ghost use Rattle.value_core.specs.Built.{IsNextLeaf};
-ghost use Rattle.value_core.specs.Walked.{next_of};
-ghost use Rattle.form_core.specs.NodeForms.{form_of_bare, form_of_bytes, prefixed_kind};
+ghost use Rattle.value_core.specs.Walked.{elements_after, next_of};
+ghost use Rattle.form_core.specs.NodeForms.{form_of_bare, form_of_bytes, form_of_plain};
+ghost use Rattle.form_core.specs.NodeForms.{prefixed_kind};
 ghost use Rattle.decode_core.specs.NodeAdds.{IsWholeLeaf};
 ghost use Rattle.decode_core.specs.Running.{IsCarry, IsKeptRun, IsRunNext};
-ghost use Rattle.decode_core.specs.Turned.{Awaits, CallSoFar, FeedTells, HoldReports};
+ghost use Rattle.decode_core.specs.Turned.{Awaits, CallSoFar, FeedTells, GoesOn, HoldReports};
 ghost use Rattle.decode_core.specs.Turned.{WholeReports, WholeTurnsReport};
 
 use crate::node::{NodeFault, add_bare};
@@ -17,10 +18,10 @@ use crate::run::{OpenRun, Run, take_node};
 use crate::turned::{Held, Stopped, Turned, Whole};
 use count_core::Count;
 use form_core::{
-    BareForm, BytesForm, NodeForm, PlainForm, PrefixedRun, compact_form, few_need, need, node_form,
-    primitive_form, whole_run,
+    BareForm, BytesForm, NodeForm, PlainForm, PrefixedRun, few_need, need, node_form, read_plain,
+    whole_run,
 };
-use registry_core::Primitive;
+use registry_core::{IntegerWidth, Primitive};
 use scale_core::{Target, read_compact};
 use std::alloc::{AllocError, Allocator};
 use value_core::{Form, Leaf, Next};
@@ -59,23 +60,21 @@ impl<'r, A: Allocator> Run<'r, A> {
     /// A turn on a node with bytes of its own, where the piece has them whole and they are not refused.
     #[inline(always)]
     fn whole_own(&mut self, form: BytesForm, piece: &[u8]) -> Whole
-        requires { Awaits self.old (form_of_bytes form) }
+        requires next { Awaits self.old (form_of_bytes form) }
+        requires empty { self.old.carry ≡ [] }
         ensures { WholeReports self.old self.new piece.now result }
     {
-        if let BytesForm::Plain(PlainForm::Compact(target)) = form {
-            return self.whole_compact(target, piece);
-        }
-        if piece.is_empty() || !self.carry.as_slice().is_empty() {
+        if piece.is_empty() {
             return Whole::Left;
         }
         let len = need(form, piece[0]);
         if piece.len() < len {
             return Whole::Left;
         }
-        match self.whole_turn(form, &piece[..len]) {
-            Turned::On(count) => Whole::Added(count),
-            Turned::Stopped(_) => Whole::Left,
-            Turned::OutOfMemory => Whole::OutOfMemory,
+        match take_node(&mut self.builder, &mut self.open_run, form, &piece[..len]) {
+            Ok(()) => Whole::Added(len),
+            Err(NodeFault::Refused(..)) => Whole::Left,
+            Err(NodeFault::OutOfMemory) => Whole::OutOfMemory,
         }
     }
 
@@ -96,31 +95,76 @@ impl<'r, A: Allocator> Run<'r, A> {
         Whole::Added(own.len())
     }
 
-    /// A turn on a text or a run of bytes that the piece has whole with its length, and of which nothing is refused.
-    fn whole_prefixed(&mut self, run: PrefixedRun, piece: &[u8]) -> Whole
-        requires { Awaits self.old (run_form (prefixed_kind run)) }
-        ensures { WholeReports self.old self.new piece.now result }
+    /// The next node, which stands whole on the front of the piece, and its length: none where bytes are missing or refused.
+    #[inline(always)]
+    fn next_leaf<'p>(&self, form: PlainForm, piece: &'p [u8]) -> Option<(Leaf<'p>, usize)>
+        requires { Awaits self.now (form_of_plain form) }
+        ensures whole { IfSome result (λ x. IsWholeLeaf self.now.built (take x.1 piece.now) x.0) }
+        ensures next { IfSome result (λ x. IsNextLeaf self.now.built.walk (leaf_head x.0)) }
+        ensures fits { IfSome result (λ x. FitsLeaf x.0) }
+        ensures within { IfSome result (λ x. x.1 ≤ length piece.now) }
     {
-        if self.carry.as_slice().is_empty()
-            && let Some((leaf, count)) = whole_run(run, piece)
-        {
-            return self.whole_leaf(leaf, &piece[..count]);
+        if let PlainForm::Compact(target) = form {
+            let Ok((value, count)) = read_compact(piece, target) else {
+                return None;
+            };
+            return Some((Leaf::Compact(value), count));
         }
-        Whole::Left
+        if piece.is_empty() {
+            return None;
+        }
+        let len = need(BytesForm::Plain(form), piece[0]);
+        if piece.len() < len {
+            return None;
+        }
+        let Ok(leaf) = read_plain(form, &piece[..len]) else {
+            return None;
+        };
+        Some((leaf, len))
     }
 
-    /// A turn on a compact integer that the piece has whole, and which is not refused.
+    /// A turn on a node without parts, where the piece has its bytes whole and they are not refused.
     #[inline(always)]
-    fn whole_compact(&mut self, target: Target, piece: &[u8]) -> Whole
-        requires { Awaits self.old (Form.Compact target) }
+    fn whole_plain(&mut self, form: PlainForm, piece: &[u8]) -> Whole
+        requires next { Awaits self.old (form_of_plain form) }
+        requires empty { self.old.carry ≡ [] }
         ensures { WholeReports self.old self.new piece.now result }
     {
-        if self.carry.as_slice().is_empty()
-            && let Ok((value, count)) = read_compact(piece, target)
-        {
-            return self.whole_leaf(Leaf::Compact(value), &piece[..count]);
+        match self.next_leaf(form, piece) {
+            Some((leaf, count)) => self.whole_leaf(leaf, &piece[..count]),
+            None => Whole::Left,
         }
-        Whole::Left
+    }
+
+    /// The same of an element of a list that another follows: that one is next then, which takes no look.
+    #[inline(always)]
+    fn whole_element(&mut self, form: PlainForm, piece: &[u8]) -> Whole
+        requires next { Awaits self.old (form_of_plain form) }
+        requires empty { self.old.carry ≡ [] }
+        requires follows { 1 ≤ elements_after self.old.built.walk }
+        ensures reports { WholeReports self.old self.new piece.now result }
+        ensures goes_on { GoesOn (form_of_plain form) self.old self.new result }
+    {
+        let Some((leaf, count)) = self.next_leaf(form, piece) else {
+            return Whole::Left;
+        };
+        let Ok(()) = self.builder.add_element(leaf) else {
+            return Whole::OutOfMemory;
+        };
+        self.is_on_its_way();
+        Whole::Added(count)
+    }
+
+    /// A turn on a text or a run of bytes that the piece has whole with its length, and of which nothing is refused.
+    fn whole_prefixed(&mut self, run: PrefixedRun, piece: &[u8]) -> Whole
+        requires next { Awaits self.old (run_form (prefixed_kind run)) }
+        requires empty { self.old.carry ≡ [] }
+        ensures { WholeReports self.old self.new piece.now result }
+    {
+        match whole_run(run, piece) {
+            Some((leaf, count)) => self.whole_leaf(leaf, &piece[..count]),
+            None => Whole::Left,
+        }
     }
 
     /// A turn on an array of u8, where the piece has it whole.
@@ -151,68 +195,35 @@ impl<'r, A: Allocator> Run<'r, A> {
         }
     }
 
-    /// Is a node of this form next, and no run open?
+    /// Takes turns on nodes of this form, one of which is next, as long as the piece has their bytes whole: on all that are
+    /// left of an open list, or on one. How many bytes those before the last one took, and what came of the last one.
     #[inline(always)]
-    fn awaits(&self, form: Form) -> bool
-        ensures { result ≡ true → Awaits self.now form }
-    {
-        self.next_form() == Some(form)
-    }
-
-    /// Takes turns on nodes of this form, one of which is next, as long as the piece has their bytes whole and another
-    /// follows: how many bytes those before the last one took, and what came of the last one.
-    #[inline(always)]
-    fn repeat(
-        &mut self,
-        form: Form,
-        own: BytesForm,
-        piece: &[u8],
-        turns: &mut Count,
-    ) -> (usize, Whole)
-        requires own { form_of_bytes own ≡ form }
-        requires next { Awaits self.old form }
+    fn repeat(&mut self, form: PlainForm, piece: &[u8], turns: &mut Count) -> (usize, Whole)
+        requires next { Awaits self.old (form_of_plain form) }
+        requires empty { self.old.carry ≡ [] }
         ensures { WholeTurnsReport self.old self.new piece.now turns.old.so_far turns.new.so_far
             result.0 result.1 }
     {
         let mut at = 0;
-        'nodes: loop {
+        let mut after = self.builder.walk().elements_after();
+        'elements: while after > 0 {
             turns.tick();
-            let last = self.whole_own(own, &piece[at..]);
+            let last = self.whole_element(form, &piece[at..]);
             let Whole::Added(count) = last else {
                 return (at, last);
             };
-            if !self.awaits(form) {
-                return (at, last);
-            }
             at += count;
+            after -= 1;
         }
-    }
-
-    /// Takes turns on values of this primitive type, one of which is next, as long as another follows.
-    #[inline(always)]
-    fn integers(&mut self, primitive: Primitive, piece: &[u8], turns: &mut Count) -> (usize, Whole)
-        requires { Awaits self.old (Form.Primitive primitive) }
-        ensures { WholeTurnsReport self.old self.new piece.now turns.old.so_far turns.new.so_far
-            result.0 result.1 }
-    {
-        let form = Form::Primitive(primitive);
-        self.repeat(form, primitive_form(primitive), piece, turns)
-    }
-
-    /// Takes turns on compact integers of this target, one of which is next, as long as another follows.
-    #[inline(always)]
-    fn compacts(&mut self, target: Target, piece: &[u8], turns: &mut Count) -> (usize, Whole)
-        requires { Awaits self.old (Form.Compact target) }
-        ensures { WholeTurnsReport self.old self.new piece.now turns.old.so_far turns.new.so_far
-            result.0 result.1 }
-    {
-        self.repeat(Form::Compact(target), compact_form(target), piece, turns)
+        turns.tick();
+        (at, self.whole_plain(form, &piece[at..]))
     }
 
     /// Takes a turn on a node of this form, which is next, where the piece has its own bytes whole.
     #[inline(always)]
     fn whole_node(&mut self, form: Form, piece: &[u8]) -> Whole
-        requires { Awaits self.old form }
+        requires next { Awaits self.old form }
+        requires empty { self.old.carry ≡ [] }
         ensures { WholeReports self.old self.new piece.now result }
     {
         match form {
@@ -222,26 +233,44 @@ impl<'r, A: Allocator> Run<'r, A> {
             Form::Bytes => self.whole_prefixed(PrefixedRun::Bytes, piece),
             Form::ByteArray(len) => self.whole_byte_array(len, piece),
             Form::Fields => self.whole_bare(BareForm::Fields),
-            _ => Whole::Left,
+            other => match node_form(other) {
+                NodeForm::Bytes(own) => self.whole_own(own, piece),
+                _ => Whole::Left,
+            },
         }
     }
 
-    /// Takes turns on nodes whose own bytes the piece has whole, the first of which is of this form: as many as there are
-    /// integers of one type, or one. Each arm names its form anew, so that its turns are made for it alone.
+    /// Takes turns on nodes whose own bytes the piece has whole, the first of which is of this form: on those that are left
+    /// of a list of integers, or one. Each arm names its form anew, so that its turns are made for it alone.
     #[inline(always)]
     fn whole_nodes(&mut self, form: Form, piece: &[u8], turns: &mut Count) -> (usize, Whole)
-        requires { Awaits self.old form }
+        requires next { Awaits self.old form }
+        requires empty { self.old.carry ≡ [] }
         ensures { WholeTurnsReport self.old self.new piece.now turns.old.so_far turns.new.so_far
             result.0 result.1 }
     {
         match form {
-            Form::Primitive(Primitive::U8) => self.integers(Primitive::U8, piece, turns),
-            Form::Primitive(Primitive::U16) => self.integers(Primitive::U16, piece, turns),
-            Form::Primitive(Primitive::U32) => self.integers(Primitive::U32, piece, turns),
-            Form::Primitive(Primitive::U64) => self.integers(Primitive::U64, piece, turns),
-            Form::Primitive(Primitive::U128) => self.integers(Primitive::U128, piece, turns),
-            Form::Compact(Target::U32) => self.compacts(Target::U32, piece, turns),
-            Form::Compact(Target::U128) => self.compacts(Target::U128, piece, turns),
+            Form::Primitive(Primitive::U8) => {
+                self.repeat(PlainForm::Unsigned(IntegerWidth::Bits8), piece, turns)
+            }
+            Form::Primitive(Primitive::U16) => {
+                self.repeat(PlainForm::Unsigned(IntegerWidth::Bits16), piece, turns)
+            }
+            Form::Primitive(Primitive::U32) => {
+                self.repeat(PlainForm::Unsigned(IntegerWidth::Bits32), piece, turns)
+            }
+            Form::Primitive(Primitive::U64) => {
+                self.repeat(PlainForm::Unsigned(IntegerWidth::Bits64), piece, turns)
+            }
+            Form::Primitive(Primitive::U128) => {
+                self.repeat(PlainForm::Unsigned(IntegerWidth::Bits128), piece, turns)
+            }
+            Form::Compact(Target::U32) => {
+                self.repeat(PlainForm::Compact(Target::U32), piece, turns)
+            }
+            Form::Compact(Target::U128) => {
+                self.repeat(PlainForm::Compact(Target::U128), piece, turns)
+            }
             other => {
                 turns.tick();
                 (0, self.whole_node(other, piece))

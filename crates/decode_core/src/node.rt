@@ -93,7 +93,8 @@ pub(crate) fn add_sequence<A: Allocator>(
     Ok(())
 }
 
-/// Adds the next node, which has no bytes of its own.
+/// Adds the next node, which has no bytes of its own. Most are composites, whose form is known where this is called.
+#[inline(always)]
 pub(crate) fn add_bare<A: Allocator>(
     builder: &mut Builder<'_, A>,
     form: BareForm,

@@ -10,7 +10,7 @@ ghost use Rattle.form_core.specs.Needs.{AreOwn, IsNeeded};
 ghost use Rattle.form_core.specs.NodeForms.{form_of_bare, form_of_bytes};
 ghost use Rattle.decode_core.specs.NodeAdds.{TakesNode};
 ghost use Rattle.decode_core.specs.Turned.{Awaits, BareReports, EndReports, EndsTurns};
-ghost use Rattle.decode_core.specs.Turned.{IsOn, IsSound, KeepsTurns, PieceReports, StepReports};
+ghost use Rattle.decode_core.specs.Turned.{IsSound, KeepsTurns, PieceReports, StepReports};
 ghost use Rattle.decode_core.specs.Turned.{WantsBytes, node_turned};
 
 use crate::fault::DecodeReason;
@@ -148,22 +148,7 @@ impl<'r, A: Allocator> Run<'r, A> {
         }
     }
 
-    /// A turn on a node whose own bytes the piece has whole.
-    #[inline(always)]
-    pub(crate) fn whole_turn(&mut self, form: BytesForm, own: &[u8]) -> Turned
-        requires next { next_of self.old.built.walk ≡ Next.Wants (form_of_bytes form) }
-        requires closed { self.old.built.run ≡ None }
-        requires empty { self.old.carry ≡ [] }
-        requires whole { AreOwn (form_of_bytes form) own.now }
-        ensures reports { (rest : List ℕ) → StepReports self.old self.new (own.now ++ rest) result }
-        ensures kept { KeepsTurns self.old self.new result }
-        ensures same { IsOn result ⊎ (self.new ≡ self.old) }
-    {
-        let taken = take_node(&mut self.builder, &mut self.open_run, form, own);
-        node_turn(taken, 0, own.len(), own.len())
-    }
-
-    /// A turn on a node of `len` own bytes that pieces cut: it takes those that are missing, or as many as are there.
+    /// A turn on a node of `len` own bytes, cut by pieces or not: it takes those that are missing, or as many as are there.
     #[inline(always)]
     fn cut_turn(&mut self, form: BytesForm, len: usize, piece: &[u8]) -> Turned
         requires next { next_of self.old.built.walk ≡ Next.Wants (form_of_bytes form) }
@@ -199,9 +184,6 @@ impl<'r, A: Allocator> Run<'r, A> {
             return Turned::Stopped(Stopped::Wants);
         }
         let len = need(form, self.carry.first_with(piece));
-        if self.carry.as_slice().is_empty() && len <= piece.len() {
-            return self.whole_turn(form, &piece[..len]);
-        }
         self.cut_turn(form, len, piece)
     }
 

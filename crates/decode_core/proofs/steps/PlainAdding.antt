@@ -74,7 +74,7 @@ next_own b p own h = ap (λ (f : Layout). own_at f own) (plain_next_layout b p h
     ∙ own_plain (plain_layout p) own
 
 -- what is read of the next node is all that its bytes spell
-spells : (b : Built) (p : PlainForm) (own : List ℕ) (l : Leaf) →
+pub spells : (b : Built) (p : PlainForm) (own : List ℕ) (l : Leaf) →
     next_of b.walk ≡ next.Wants (form_of_plain p) → AreOwn (form_of_plain p) own →
     ReadsPlain p own (Ok l) → own_at (next_layout b) own ≡ Ok ((leaf_head l, None), [])
 spells b p own l h a r =

@@ -2,7 +2,7 @@
 use Rattle.std.proofs.Common.{◌≡◌, ℕ, zero, suc, ◌+◌, ◌-◌, ◌<◌, ◌≤◌, List, [], ◌∷◌, ◌++◌, length}
 use Rattle.std.proofs.Common.{take, drop, min, Option, Some, None, Result, Ok, Err, refl, sym, ap}
 use Rattle.std.proofs.Common.{subst, ◌∙◌, append_assoc, arith, inl, length-append}
-use Rattle.std.specs.Prelude.{◌==◌, true}
+use Rattle.std.specs.Prelude.{◌==◌, slice_index_or, true}
 use Rattle.std.proofs.lemmas.Bool.{eqb-true}
 use Rattle.std.proofs.lemmas.List.{take-append-drop, length-take}
 use Rattle.std.proofs.Math.Seq.{take-append_seam}
@@ -11,6 +11,7 @@ use Rattle.value_core.specs.Walked.{next_of}
 use Rattle.grammar_core.specs.declared.form.Form.{Form}
 use Rattle.grammar_core.specs.declared.form.Next.{Next}
 use Rattle.grammar_core.specs.declared.form.Next.TheVariants as next
+use Rattle.form_core.proofs.Firsts.{first_of_piece}
 use Rattle.form_core.specs.Needs.{need, AreOwn, HasBytes, IsFirst, IsNeeded}
 use Rattle.decode_core.specs.NodeAdds.{IsRefused, IsSpelled, TakesNode, AddsBare, IsAdded}
 use Rattle.decode_core.specs.Running.{Running, IsRunning, IsCarry, IsKeptRun, held_of}
@@ -388,3 +389,10 @@ whole_own f c piece len first none h is some there =
     let front = front_is (take len piece) (drop len piece) h.0 first (omega (arith, count, some))
     whole in
     (first, front.0, front.1, count ∙ is)
+
+-- the same where nothing is carried
+pub whole_front : (f : Form) (piece : List ℕ) (len : ℕ) → len ≡ need f (slice_index_or piece 0 0) →
+    1 ≤ len → len ≤ length piece → AreOwn f (take len piece)
+whole_front f piece len is some there =
+    whole_own f [] piece len (slice_index_or piece 0 0) refl
+    (first_of_piece [] piece refl (omega (arith, some, there))) is some there

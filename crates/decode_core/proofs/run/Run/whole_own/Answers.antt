@@ -1,33 +1,70 @@
-use Rattle.std.proofs.Common.{ℕ, ◌≤◌, List, [], length, drop, slice_index_or, refl, subst, arith}
-use Rattle.std.proofs.Common.{inl, inr}
-use Rattle.std.proofs.lemmas.List.{take-append-drop}
+use Rattle.std.proofs.Common.{ℕ, List, ◌≤◌, ◌++◌, Err, length, take, drop, sym, ap, subst, arith}
+use Rattle.std.proofs.lemmas.List.{length-take-le, take-append-drop}
 use Rattle.form_core.specs.NodeForms.{form_of_bytes}
-use Rattle.decode_core.specs.Turned.{StepReports, WantsMemory}
+use Rattle.value_core.specs.Built.{Built}
+use Rattle.decode_core.specs.NodeAdds.{TakesNode}
+use Rattle.decode_core.specs.Running.{Running}
+use Rattle.decode_core.specs.Turned.{StepReports, WantsMemory, WholeReports, node_turned}
+use Rattle.decode_core.specs.declared.node.NodeFault.{NodeFault}
 use Rattle.decode_core.specs.declared.turned.Turned.TheVariants as turned
-use Rattle.form_core.proofs.Firsts.{first_of_piece}
-use Rattle.decode_core.proofs.steps.RunTurns.{whole_own}
+use Rattle.decode_core.proofs.steps.FormSplits.{have_bytes}
+use Rattle.decode_core.proofs.steps.RunTurns.{at_node, carries_none, node_wants, of_fields}
+use Rattle.decode_core.proofs.steps.RunTurns.{whole_front, whole_reports, whole_running}
+use Rattle.decode_core.proofs.run.Run.whole_own.Goals.{in-Ok, in-Err-Refused, in-Err-OutOfMemory}
 use Rattle.decode_core.proofs.run.Run.whole_own.Goals as goal
 
-pub whole_turn-requires-clause-whole : goal.whole_turn-requires-clause-whole
-whole_turn-requires-clause-whole g c =
-    let piece = c.args.piece.now in
+pub take_node-requires-clause-whole : goal.take_node-requires-clause-whole
+take_node-requires-clause-whole g c =
     let len = c.need-len in
-    let there : len.result ≤ length piece = omega (arith, c.if-piece-len.false) in
-    let some : 1 ≤ length piece = omega (arith, there, len.ensures.some) in
-    whole_own (form_of_bytes c.args.form) [] piece len.result (slice_index_or piece 0 0) refl
-    (first_of_piece [] piece refl some) len.ensures.exact len.ensures.some there
+    whole_front (form_of_bytes c.args.form) c.args.piece.now len.result len.ensures.exact
+    len.ensures.some (omega (arith, c.if-piece-len.false))
 
-pub returns-in-On : goal.returns-in-On
-returns-in-On g c =
+pub invariant_of-self : goal.invariant_of-self
+invariant_of-self g c =
+    let f = form_of_bytes c.args.form in
+    let len = c.need-len in
+    let own = whole_front f c.args.piece.now len.result len.ensures.exact len.ensures.some
+    (omega (arith, c.if-piece-len.false)) in
+    whole_running f c.self.inside.builder c.take_node.new.builder c.self.inside.carry
+    (take len.result c.args.piece.now) c.self.inside.open_run c.take_node.new.open_run
+    c.take_node.result c.self.invariant (carries_none c.self.view_is c.requires.empty)
+    (at_node f c.self.view_is c.requires.next.next c.requires.next.closed) own c.take_node.ensures
+
+pub returns : goal.returns
+returns g c =
+    let f = form_of_bytes c.args.form in
+    let piece = c.args.piece.now in
     let len = c.need-len.result in
-    subst (λ (l : List ℕ). StepReports c.args.self.now c.whole_turn.new.self l
-    (turned.On c.in-On.count)) (take-append-drop len c.args.piece.now)
-    (c.in-On.ensures.reports (drop len c.args.piece.now))
-
-pub returns-in-OutOfMemory : goal.returns-in-OutOfMemory
-returns-in-OutOfMemory g c =
-    let len = c.need-len.result in (
-      subst (WantsMemory c.args.self.now) (take-append-drop len c.args.piece.now)
-          (c.in-OutOfMemory.ensures.reports (drop len c.args.piece.now)),
-      elim c.in-OutOfMemory.ensures.same [ inl on ↦ absurd on | inr same ↦ same ],
-    )
+    let own = take len piece in
+    let rest = drop len piece in
+    let b = c.self.inside.builder in
+    let new = c.take_node.new.builder in
+    let kept = c.take_node.new.open_run in
+    let k = c.self.inside.carry in
+    let there : len ≤ length piece = omega (arith, c.if-piece-len.false) in
+    let none = carries_none c.self.view_is c.requires.empty in
+    let at = at_node f c.self.view_is c.requires.next.next c.requires.next.closed in
+    let whole = whole_front f piece len c.need-len.ensures.exact c.need-len.ensures.some there in
+    subst (λ (s : Running). WholeReports s (of_fields new k) piece c.match-take_node.result)
+    c.self.view_is (elim c.match-take_node.branch [
+      | in-Ok w ↦ rw w.result-is
+          (subst (λ l. StepReports (of_fields b k) (of_fields new k) l (turned.On len))
+          (take-append-drop len piece)
+          (whole_reports f b new k own rest kept c.take_node.result (turned.On len) none at
+          (have_bytes c.args.form) whole c.take_node.ensures
+          (rw (length-take-le len piece there)
+          (ap (λ t. node_turned t 0 len len) (sym w.in-Ok.is)))))
+      | in-Err-Refused w ↦
+          let refused = subst (λ (e : NodeFault). TakesNode f b new kept own (Err e))
+          w.in-Err-Refused.field-0-is w.in-Err-Refused.ensures in
+          rw w.result-is (ap (λ (x : Built). of_fields x k) refused.1)
+      | in-Err-OutOfMemory w ↦
+          let short = subst (λ (e : NodeFault). TakesNode f b new kept own (Err e))
+          w.in-Err-OutOfMemory.field-0-is w.in-Err-OutOfMemory.ensures in
+          rw w.result-is (
+            subst (WantsMemory (of_fields b k)) (take-append-drop len piece)
+                (node_wants f b k own rest own at.wants at.closed
+                (ap (λ (l : List ℕ). l ++ own) none) short.0),
+            ap (λ (x : Built). of_fields x k) short.1,
+          )
+    ])

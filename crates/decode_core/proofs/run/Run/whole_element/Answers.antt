@@ -1,0 +1,42 @@
+use Rattle.std.proofs.Common.{◌++◌, length, take, drop, sym, ap, ◌∙◌, subst}
+use Rattle.std.proofs.lemmas.List.{length-take-le, take-append-drop}
+use Rattle.value_core.specs.Built.{Built}
+use Rattle.decode_core.specs.NodeAdds.{IsWholeLeaf}
+use Rattle.decode_core.specs.Running.{Running}
+use Rattle.decode_core.specs.Turned.{WantsMemory, WholeReports}
+use Rattle.decode_core.specs.declared.turned.Whole.TheVariants as whole
+use Rattle.decode_core.proofs.steps.RunTurns.{carries_none, of_fields}
+use Rattle.decode_core.proofs.steps.WholeRuns.{leaf_reports, leaf_wants}
+use Rattle.decode_core.proofs.run.Run.whole_element.Goals as goal
+
+pub returns-clause-reports : goal.returns-clause-reports
+returns-clause-reports g c =
+    let piece = c.args.piece.now in
+    let count = c.in-Some.count in
+    let k = c.self.inside.carry in
+    let is = subst (λ (s : Running). IsWholeLeaf s.built (take count piece) c.in-Some.leaf)
+    (sym c.self.view_is) c.in-Some.ensures.whole in
+    let reports = subst (λ (s : Running). WholeReports s (of_fields c.add_element.new.self k)
+    (take count piece ++ drop count piece) (whole.Added (length (take count piece))))
+    c.self.view_is
+    (leaf_reports c.self.inside.builder c.add_element.new.self k (take count piece)
+    (drop count piece) c.in-Some.leaf (carries_none c.self.view_is c.requires.empty) is
+    c.in-Ok.ensures.ok) in
+    rw (take-append-drop count piece, length-take-le count piece c.in-Some.ensures.within) at
+    reports
+
+pub returns-in_default-add_element-clause-reports :
+    goal.returns-in_default-add_element-clause-reports
+returns-in_default-add_element-clause-reports g c =
+    let piece = c.args.piece.now in
+    let count = c.in-Some.count in
+    let k = c.self.inside.carry in
+    let is = subst (λ (s : Running). IsWholeLeaf s.built (take count piece) c.in-Some.leaf)
+    (sym c.self.view_is) c.in-Some.ensures.whole in
+    let wants = subst (λ (s : Running). WantsMemory s (take count piece ++ drop count piece))
+    c.self.view_is
+    (leaf_wants c.self.inside.builder k (take count piece) (drop count piece) c.in-Some.leaf
+    (carries_none c.self.view_is c.requires.empty) is) in (
+      rw (take-append-drop count piece) at wants,
+      ap (λ (x : Built). of_fields x k) c.in_default-add_element.ensures.err ∙ c.self.view_is,
+    )
