@@ -44,19 +44,26 @@ whole_more a b d f piece at start from to last le h near each few is first await
       whole = λ w. wants_goes_on a f first.next w;
     }
 
--- where no such turn is taken, what stands is as it was
-pub no_whole : (a : Running) (piece : List ℕ) (from to : ℕ) → to ≡ from + 1 → IsSound a →
-    WholeTurnsReport a a piece from to 0 whole.Left
-no_whole a piece from to is sound = record {
+-- one turn, and no other before it
+pub one_turn : (a d : Running) (piece : List ℕ) (from to : ℕ) (last : Whole) → to ≡ from + 1 →
+    IsSound a → WholeReports a d piece last → (is_whole a.built ≡ true → last ≡ whole.Left) →
+    WholeTurnsReport a d piece from to 0 last
+one_turn a d piece from to last is sound reports left = record {
   before = a;
   within = omega arith;
   moves = moves_none a;
   nearer = omega arith;
   few = (omega (arith, is), omega (arith, is));
   sound = sound;
-  reports = refl;
-  whole = λ w. (refl, refl, refl);
+  reports = reports;
+  whole = λ w. (refl, refl, left w);
 }
+
+-- where no such turn is taken, what stands is as it was
+pub no_whole : (a : Running) (piece : List ℕ) (from to : ℕ) → to ≡ from + 1 → IsSound a →
+    WholeTurnsReport a a piece from to 0 whole.Left
+no_whole a piece from to is sound =
+    one_turn a a piece from to whole.Left is sound refl (λ w. refl)
 
 -- the same of what is left of a piece, which was lent as a slice, where the last turn is known
 whole_of : (b d : Running) (piece : List ℕ) (at from to n : ℕ) (last is : Whole) → last ≡ is →

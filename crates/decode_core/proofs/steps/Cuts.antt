@@ -14,7 +14,7 @@ use Rattle.decode_core.specs.Running.{Running, IsCarry}
 use Rattle.decode_core.specs.Turned.{CallSoFar, FeedTells, IsSound, WholeReports, WholeTurnsReport}
 use Rattle.decode_core.specs.declared.turned.Whole.{Whole}
 use Rattle.decode_core.specs.declared.turned.Whole.TheVariants as whole
-use Rattle.decode_core.proofs.steps.Calls.{call_on, tells_short, whole_added, whole_short}
+use Rattle.decode_core.proofs.steps.Calls.{call_on, one_turn, tells_short, whole_added, whole_short}
 use Rattle.decode_core.proofs.steps.Moving.{moves_none, wants_goes_on}
 use Rattle.decode_core.proofs.steps.Refusing.{IsShortOf}
 use Rattle.decode_core.proofs.steps.RunTurns.{IsCut, of_fields, short_of}
@@ -70,16 +70,9 @@ carried_goes_on a (x ∷ c) h some w = wants_goes_on a h.0 h.1 w
 pub carried_turn : (a d : Running) (piece : List ℕ) (from to : ℕ) (last : Whole) →
     to ≡ from + 1 → IsSound a → 1 ≤ length a.carry → WholeReports a d piece last →
     WholeTurnsReport a d piece from to 0 last
-carried_turn a d piece from to last is sound some reports = record {
-  before = a;
-  within = omega arith;
-  moves = moves_none a;
-  nearer = omega arith;
-  few = (omega (arith, is), omega (arith, is));
-  sound = sound;
-  reports = reports;
-  whole = λ w. absurd (carried_goes_on a a.carry sound.carried some w);
-}
+carried_turn a d piece from to last is sound some reports =
+    one_turn a d piece from to last is sound reports
+    (λ w. absurd (carried_goes_on a a.carry sound.carried some w))
 
 -- the turns of a call that has taken none
 start_so_far : (a : Running) (piece : List ℕ) (from : ℕ) → CallSoFar a a piece 0 from from
