@@ -248,16 +248,29 @@ const FOLLOWED: [(Call, u32); 6] = [
     (Call::Unsigned(42), 0),
 ];
 
-#[test]
-fn the_elements_that_follow_the_next_one_are_counted(rt: HostRuntime) -> Result<(), Fail> {
-    let registry = checked(rt.alloc(), WORDS_AND_A_BYTE)?;
-    let mut builder = begun(rt.alloc(), &registry, 3, 64)?;
-    assert_eq!(rt; builder.walk().elements_after(), 0);
-    'calls: for (call, after) in &FOLLOWED {
+/// So many elements follow the next one in the builder.
+fn check_after(rt: &impl Abort, builder: &Builder<'_, Global>, after: u32) {
+    assert_eq!(rt;
+        builder.walk().elements_after(),
+        after,
+        "elements that follow the next one"
+    );
+}
+
+fn check_followed(rt: &impl Abort, alloc: Global, calls: &[(Call, u32)]) -> Result<(), Fail> {
+    let checked = checked(alloc, WORDS_AND_A_BYTE)?;
+    let mut builder = begun(alloc, &checked, 3, 64)?;
+    check_after(rt, &builder, 0);
+    'calls: for (call, after) in calls {
         assert_eq!(rt; add(&mut builder, *call), Ok(()), "{call:?}");
-        assert_eq!(rt; builder.walk().elements_after(), *after, "after {call:?}");
+        check_after(rt, &builder, *after);
     }
     Ok(())
+}
+
+#[test]
+fn the_elements_that_follow_the_next_one_are_counted(rt: HostRuntime) -> Result<(), Fail> {
+    check_followed(&rt, rt.alloc(), &FOLLOWED)
 }
 
 #[test]
