@@ -1,23 +1,30 @@
 -- What is read where a compact integer stands, by what its first byte names.
-use Rattle.std.proofs.Common.{◌≡◌, ℕ, zero, suc, ◌-◌, ◌/◌, ◌%◌, ◌^◌, ◌<◌, ◌≤◌, Bool, true, false}
-use Rattle.std.proofs.Common.{cond, List, [], ◌∷◌, length, get_or, take, drop, Ok, Err, refl, sym}
-use Rattle.std.proofs.Common.{ap, ◌∙◌, arith, inl, inr}
+use Rattle.std.proofs.Common.{◌≡◌, ℕ, zero, suc, ◌+◌, ◌-◌, ◌/◌, ◌%◌, ◌^◌, ◌<◌, ◌≤◌, Bool, true}
+use Rattle.std.proofs.Common.{false, cond, List, [], ◌∷◌, length, get_or, take, drop, Ok, Err}
+use Rattle.std.proofs.Common.{refl, sym, ap, ◌∙◌, arith, inl, inr, Result}
 use Rattle.std.specs.Prelude.{◌≢◌, not, nat_lt, ◌==◌, if◌then◌else◌}
 use Rattle.std.specs.Str.{bytes_eq}
-use Rattle.std.proofs.lemmas.Bool.{false_from_ne_true, cases_eq, le-ltb, lt-ltb, ne_eqb, eq-eqb}
+use Rattle.std.proofs.lemmas.Bool.{false_from_ne_true, cases_eq, cases_lt, le-ltb, lt-ltb, ne_eqb}
+use Rattle.std.proofs.lemmas.Bool.{eq-eqb}
+use Rattle.std.specs.Int.{Width, byte_len, from_le_bytes}
+use lib.Dec.{leb}
 use Rattle.std.proofs.lemmas.Bool.Decides.{nat_tests}
 use Rattle.std.proofs.lemmas.Slice.Eq.{bytes_eq-Decides}
 use Rattle.std.proofs.lemmas.List.{length-take}
+use Rattle.scale_core.specs.Answers.{Answers, judged}
 use Rattle.scale_core.specs.Compact.{compact, target_bytes}
-use Rattle.scale_core.specs.Number.{AreBytes}
+use Rattle.scale_core.specs.Number.{AreBytes, number}
 use Rattle.scale_core.specs.Read.{Read, form_len, form_number, checked_form, is_too_long}
 use Rattle.scale_core.specs.Read.{integer_at, compact_at}
 use Rattle.scale_core.specs.declared.compact.Target.{Target}
 use Rattle.scale_core.specs.declared.compact.Target.TheVariants.{Unit as TUnit}
+use Rattle.scale_core.specs.declared.fault.Fault.{Fault}
 use Rattle.scale_core.specs.declared.fault.Reason.{Reason}
 use Rattle.scale_core.specs.declared.fault.Reason.TheVariants.{Truncated, CompactNotShortest}
 use Rattle.scale_core.specs.declared.fault.Reason.TheVariants.{CompactTooLarge}
-use Rattle.scale_core.proofs.Forms.{shortest_form}
+use Rattle.scale_core.proofs.Fronts.{from_le_bytes-number}
+use Rattle.scale_core.proofs.Forms.{shortest_form, length-compact-one, length-compact-two}
+use Rattle.scale_core.proofs.Forms.{length-compact-four}
 
 -- a compact over a type without bytes is read as 0, and takes no byte
 pub compact_at-unit : (m : Target) (bytes : List ℕ) → m ≡ TUnit → compact_at m bytes ≡ Ok (0, bytes)
@@ -25,33 +32,32 @@ unfolding compact_at
 compact_at-unit m bytes e = rw e refl
 
 -- a compact over a type with bytes is read as an integer
-compact_at-integer : (m : Target) (bytes : List ℕ) → m ≢ TUnit →
+pub compact_at-integer : (m : Target) (bytes : List ℕ) → m ≢ TUnit →
     compact_at m bytes ≡ integer_at m bytes
 unfolding compact_at
 compact_at-integer TUnit bytes ne = absurd (ne refl)
 compact_at-integer _ bytes ne = refl
 
 -- where there is no byte, a compact integer is cut
-pub compact_at-empty : (m : Target) (bytes : List ℕ) → m ≢ TUnit → length bytes < 1 →
-    compact_at m bytes ≡ Err (Truncated, [])
-compact_at-empty m [] ne h = compact_at-integer m [] ne
-compact_at-empty m (b ∷ bytes) ne h = absurd (omega arith)
+pub integer_at-empty : (m : Target) (bytes : List ℕ) → length bytes < 1 →
+    integer_at m bytes ≡ Err (Truncated, [])
+integer_at-empty m [] h = refl
+integer_at-empty m (b ∷ bytes) h = absurd (omega arith)
 
 -- a first byte that names more bytes than the target has is refused at its own place
-pub compact_at-too_long : (m : Target) (bytes : List ℕ) (first : ℕ) → m ≢ TUnit →
+pub integer_at-too_long : (m : Target) (bytes : List ℕ) (first : ℕ) →
     bytes ≡ first ∷ drop 1 bytes → is_too_long m first ≡ true →
-    compact_at m bytes ≡ Err (CompactTooLarge, bytes)
-compact_at-too_long m bytes first ne is long =
-    compact_at-integer m bytes ne ∙ ap (integer_at m) is
-    ∙ rw long (ap (λ (left : List ℕ). Err (CompactTooLarge, left)) (sym is))
+    integer_at m bytes ≡ Err (CompactTooLarge, bytes)
+integer_at-too_long m bytes first is long =
+    ap (integer_at m) is ∙ rw long (ap (λ (left : List ℕ). Err (CompactTooLarge, left)) (sym is))
 
 -- where fewer bytes are there than the first names, a compact integer is cut
-pub compact_at-cut : (m : Target) (bytes : List ℕ) (first : ℕ) → m ≢ TUnit →
+pub integer_at-cut : (m : Target) (bytes : List ℕ) (first : ℕ) →
     bytes ≡ first ∷ drop 1 bytes → is_too_long m first ≡ false → length bytes < form_len first →
-    compact_at m bytes ≡ Err (Truncated, [])
-compact_at-cut m bytes first ne is fits short =
+    integer_at m bytes ≡ Err (Truncated, [])
+integer_at-cut m bytes first is fits short =
     let less : length (first ∷ drop 1 bytes) < form_len first = rw is at short in
-    compact_at-integer m bytes ne ∙ ap (integer_at m) is
+    ap (integer_at m) is
     ∙ rw (fits, lt-ltb (length (first ∷ drop 1 bytes)) (form_len first) less) refl
 
 -- what the form of len bytes and of the number n is judged to be
@@ -96,11 +102,11 @@ are_front (suc k) [] h = tt
 are_front (suc k) (b ∷ bytes) h = (h.0, are_front k bytes h.1)
 
 -- where a form's bytes are there, its number is judged by target and shortest form
-integer_at-judged : (m : Target) (first : ℕ) (rest : List ℕ) (n : ℕ) → is_too_long m first ≡ false →
+form_at-judged : (m : Target) (first : ℕ) (rest : List ℕ) (n : ℕ) → is_too_long m first ≡ false →
     AreBytes (first ∷ rest) → form_len first ≤ length (first ∷ rest) →
     n ≡ form_number (take (form_len first) (first ∷ rest)) → n < 2 ^ 128 →
     integer_at m (first ∷ rest) ≡ judged_form m (first ∷ rest) n (form_len first)
-integer_at-judged m first rest n fits h long value small =
+form_at-judged m first rest n fits h long value small =
     let k = form_len first in
     let form = take k (first ∷ rest) in
     let len : length form ≡ k = omega (arith, length-take k (first ∷ rest)) in
@@ -116,21 +122,43 @@ integer_at-judged m first rest n fits h long value small =
     (λ same. shortest_form first (take (k - 1) rest) n are whole named small same ∙ sym shape)
 
 -- a form that is there whole
-pub compact_at-judged : (m : Target) (bytes : List ℕ) (first n len : ℕ) → m ≢ TUnit →
+pub integer_at-judged : (m : Target) (bytes : List ℕ) (first n len : ℕ) →
     AreBytes bytes → bytes ≡ first ∷ drop 1 bytes → is_too_long m first ≡ false →
     len ≡ form_len first → len ≤ length bytes → n ≡ form_number (take len bytes) → n < 2 ^ 128 →
-    compact_at m bytes ≡ judged_form m bytes n len
-compact_at-judged m bytes first n len ne h is fits long there value small =
+    integer_at m bytes ≡ judged_form m bytes n len
+integer_at-judged m bytes first n len h is fits long there value small =
     let are : AreBytes (first ∷ drop 1 bytes) = rw is at h in
     let enough : form_len first ≤ length (first ∷ drop 1 bytes) =
     omega (arith, long, there, ap length is) in
     let named : n ≡ form_number (take (form_len first) (first ∷ drop 1 bytes)) = value
     ∙ ap (λ (xs : List ℕ). form_number (take len xs)) is
     ∙ ap (λ (k : ℕ). form_number (take k (first ∷ drop 1 bytes))) long in
-    let judged = integer_at-judged m first (drop 1 bytes) n fits are enough named small in
-    compact_at-integer m bytes ne ∙ ap (integer_at m) is ∙ judged
+    let judged = form_at-judged m first (drop 1 bytes) n fits are enough named small in
+    ap (integer_at m) is ∙ judged
     ∙ ap (λ (xs : List ℕ). judged_form m xs n (form_len first)) (sym is)
     ∙ ap (judged_form m bytes n) (sym long)
+
+-- what the two tests of a form choose answers what they choose of the input
+chosen_answers : (shortest fits : Bool) (bytes : List ℕ) (n len : ℕ) → len ≤ length bytes →
+    Answers (λ x. x) bytes
+    (cond shortest
+    (cond fits (Ok (n, len)) (Err (record { reason = CompactTooLarge; at = 0 })))
+    (Err (record { reason = CompactNotShortest; at = 0 })))
+    (cond shortest (cond fits (Ok (n, drop len bytes)) (Err (CompactTooLarge, bytes)))
+    (Err (CompactNotShortest, bytes)))
+chosen_answers true true bytes n len there = (there, refl)
+chosen_answers true false bytes n len there = (bytes, refl, omega arith)
+chosen_answers false fits bytes n len there = (bytes, refl, omega arith)
+
+-- a form that is there whole is answered as it is judged
+pub judged_answers : (m : Target) (bytes : List ℕ) (first n len : ℕ) →
+    AreBytes bytes → bytes ≡ first ∷ drop 1 bytes → is_too_long m first ≡ false →
+    len ≡ form_len first → len ≤ length bytes → n ≡ form_number (take len bytes) → n < 2 ^ 128 →
+    (result : Result (ℕ × ℕ) Fault) → result ≡ judged m n len →
+    Answers (λ x. x) bytes result (integer_at m bytes)
+judged_answers m bytes first n len h is fits long there value small result e =
+    rw (e, integer_at-judged m bytes first n len h is fits long there value small)
+    (chosen_answers (len == length (compact n)) (nat_lt n (256 ^ target_bytes m)) bytes n len there)
 
 -- a number of six bits fits every target that takes bytes
 pub one_fits : (m : Target) (n : ℕ) → m ≢ TUnit → n < 64 → n < 256 ^ target_bytes m
@@ -155,22 +183,80 @@ one_number : (first : ℕ) → first % 4 ≡ 0 → form_number (first ∷ []) �
 one_number first h = rw h (omega arith)
 
 -- the form of one byte
-pub compact_at-one : (m : Target) (bytes : List ℕ) (first : ℕ) → m ≢ TUnit → AreBytes bytes →
+pub integer_at-one : (m : Target) (bytes : List ℕ) (first : ℕ) → m ≢ TUnit → AreBytes bytes →
     bytes ≡ first ∷ drop 1 bytes → first % 4 ≡ 0 → first < 256 →
-    compact_at m bytes ≡ Ok (first / 4, drop 1 bytes)
-compact_at-one m bytes first ne are is h byte =
+    integer_at m bytes ≡ Ok (first / 4, drop 1 bytes)
+integer_at-one m bytes first ne are is h byte =
     let some : 1 ≤ length bytes = omega (arith, ap length is) in
     let front : take 1 bytes ≡ first ∷ [] = ap (take 1) is in
     let value : first / 4 ≡ form_number (take 1 bytes) = sym (ap form_number front
     ∙ one_number first h) in
     let small : first / 4 < 64 = omega (arith, byte) in
-    let judged = compact_at-judged m bytes first (first / 4) 1 ne are is (not_long m first h)
+    let judged = integer_at-judged m bytes first (first / 4) 1 are is (not_long m first h)
     (sym (one_form first h)) some value (omega (arith, small)) in
     judged ∙ rw (
       one_long (first / 4) small,
       lt-ltb (first / 4) (256 ^ target_bytes m)
           (one_fits m (first / 4) ne small),
     ) refl
+
+-- ---- the other forms, by their mark
+
+-- a first byte with the mark 3 is too long for a target with fewer bytes than it names
+pub too_long : (m : Target) (first : ℕ) → first % 4 ≡ 3 → target_bytes m < first / 4 + 4 →
+    is_too_long m first ≡ true
+too_long m first h less = rw (h, lt-ltb (target_bytes m) (first / 4 + 4) less) refl
+
+-- and for no target with as many
+pub not_too_long : (m : Target) (first : ℕ) → first % 4 ≡ 3 → first / 4 + 4 ≤ target_bytes m →
+    is_too_long m first ≡ false
+not_too_long m first h enough = rw (h, le-ltb (target_bytes m) (first / 4 + 4) enough) refl
+
+-- the bytes after a first one with the mark 3 are the number
+pub long_number : (bytes : List ℕ) (first k : ℕ) → bytes ≡ first ∷ drop 1 bytes → first % 4 ≡ 3 →
+    number (take k (drop 1 bytes)) ≡ form_number (take (suc k) bytes)
+long_number bytes first k is h =
+    let named : form_number (first ∷ take k (drop 1 bytes)) ≡ number (take k (drop 1 bytes)) =
+    rw h refl in
+    sym (ap (λ (xs : List ℕ). form_number (take (suc k) xs)) is ∙ named)
+
+-- the bytes of a form with another mark are four times the number, and the mark
+short_number : (bytes : List ℕ) (first k : ℕ) → bytes ≡ first ∷ drop 1 bytes → first % 4 < 3 →
+    number (take (suc k) bytes) / 4 ≡ form_number (take (suc k) bytes)
+short_number bytes first k is h =
+    let tail = take k (drop 1 bytes) in
+    let named : form_number (first ∷ tail) ≡ number (first ∷ tail) / 4 =
+    rw (ne_eqb (first % 4) 3 (λ e. omega (arith, h, e))) refl in
+    sym (ap (λ (xs : List ℕ). form_number (take (suc k) xs)) is ∙ named
+    ∙ sym (ap (λ (xs : List ℕ). number (take (suc k) xs) / 4) is))
+
+-- std reads four times the number, and the mark, from the bytes of such a form
+pub short_value : (w : Width) (bytes form : List ℕ) (first k n : ℕ) → byte_len w ≡ suc k →
+    suc k ≤ length bytes → form ≡ take (suc k) bytes → bytes ≡ first ∷ drop 1 bytes →
+    first % 4 < 3 → n ≡ from_le_bytes w form → n / 4 ≡ form_number (take (suc k) bytes)
+short_value w bytes form first k n width there e is h read =
+    let len : length (take (suc k) bytes) ≡ byte_len w =
+    omega (arith, width, there, length-take (suc k) bytes) in
+    let spelled : n ≡ number (take (suc k) bytes) = read ∙ ap (from_le_bytes w) e
+    ∙ from_le_bytes-number w (take (suc k) bytes) len in
+    ap (λ (m : ℕ). m / 4) spelled ∙ short_number bytes first k is h
+
+-- the form of two bytes is the shortest of a number from 64 on
+pub two_shortest : (n : ℕ) → n < 2 ^ 14 → leb 64 n ≡ (2 == length (compact n))
+two_shortest n h = elim (cases_lt n 64) [
+  | inl less ↦ rw (length-compact-one n less) (grind (arith, nat_tests))
+  | inr more ↦ rw (length-compact-two n more h) (grind (arith, nat_tests))
+]
+
+-- the form of four bytes is the shortest of a number from 2^14 on
+pub four_shortest : (n : ℕ) → n < 2 ^ 30 → leb 16384 n ≡ (4 == length (compact n))
+four_shortest n h = elim (cases_lt n 16384) [
+  | inl less ↦ elim (cases_lt n 64) [
+    | inl one ↦ rw (length-compact-one n one) (grind (arith, nat_tests))
+    | inr two ↦ rw (length-compact-two n two less) (grind (arith, nat_tests))
+  ]
+  | inr more ↦ rw (length-compact-four n more h) (grind (arith, nat_tests))
+]
 
 -- ---- the first byte, and bytes at large
 

@@ -1,10 +1,14 @@
 -- A reader's answer beside what reading gives: the value and how many bytes it took, or the fault
 -- and its place.
-use Rattle.std.specs.Prelude.{◌≡◌, ℕ, ◌≤◌, List, length, drop, Result, Ok, Err}
+use Rattle.std.specs.Prelude.{◌≡◌, ℕ, ◌^◌, ◌≤◌, List, length, drop, Result, Ok, Err, nat_lt, ◌==◌}
+use Rattle.std.specs.Prelude.{if◌then◌else◌}
+use Rattle.scale_core.specs.Compact.{compact, target_bytes}
 use Rattle.scale_core.specs.Read.{Read, place}
+use Rattle.scale_core.specs.declared.compact.Target.{Target}
 use Rattle.scale_core.specs.declared.fault.Fault.{Fault}
 use Rattle.scale_core.specs.declared.fault.Reason.{Reason}
-use Rattle.scale_core.specs.declared.fault.Reason.TheVariants.{Truncated}
+use Rattle.scale_core.specs.declared.fault.Reason.TheVariants.{Truncated, CompactNotShortest}
+use Rattle.scale_core.specs.declared.fault.Reason.TheVariants.{CompactTooLarge}
 
 abbrev pub Answers : {X Y : Type 0} → (X → Y) → List ℕ → Result (X × ℕ) Fault → Read Reason Y →
     Type 0
@@ -15,3 +19,11 @@ Answers view input (Err f) read = (left : List ℕ) × (read ≡ Err (f.reason, 
 -- the refusal of an input that ends too early
 abbrev pub truncated_fault : List ℕ → Fault
 truncated_fault input = record { reason = Truncated; at = length input }
+
+-- the answer for a form of len bytes that stands for n: both, or why it is not the one spelling
+abbrev pub judged : Target → ℕ → ℕ → Result (ℕ × ℕ) Fault
+judged m n len =
+    if len == length (compact n) then
+    (if nat_lt n (256 ^ target_bytes m) then Ok (n, len) else Err
+    (record { reason = CompactTooLarge; at = 0 }))
+    else Err (record { reason = CompactNotShortest; at = 0 })

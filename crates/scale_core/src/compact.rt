@@ -2,12 +2,12 @@
 //! (SCALE codec specification, "Compact/general integers").
 
 ghost use Rattle.std.specs.Prelude.{◌≡◌, ◌≢◌, ◌+◌, ◌*◌, ◌/◌, ◌%◌, ◌^◌, ◌<◌, ◌≤◌, ◌++◌, ◌∷◌, ℕ};
-ghost use Rattle.std.specs.Prelude.{nat_lt, length, take, drop, slice_index, MatchResult, IfOk};
-ghost use Rattle.std.specs.Prelude.{IfErr, OnOk, OnErr};
-ghost use Rattle.scale_core.specs.Answers.{Answers, truncated_fault};
+ghost use Rattle.std.specs.Prelude.{nat_lt, ◌==◌, length, take, drop, slice_index, MatchResult};
+ghost use Rattle.std.specs.Prelude.{IfOk, IfErr, OnOk, OnErr, ◌⊎◌};
+ghost use Rattle.scale_core.specs.Answers.{Answers, judged, truncated_fault};
 ghost use Rattle.scale_core.specs.Compact.{big_bytes, compact, target_bytes};
 ghost use Rattle.scale_core.specs.Number.{number};
-ghost use Rattle.scale_core.specs.Read.{compact_at, form_len, form_number, is_too_long};
+ghost use Rattle.scale_core.specs.Read.{compact_at, integer_at};
 
 use crate::fault::{Fault, Reason};
 use crate::integer::front;
@@ -53,13 +53,6 @@ impl Target {
             Target::U128 => true,
         }
     }
-
-    /// Does a compact integer's first byte alone claim more bytes than the target has?
-    fn is_exceeded_by(self, first: u8) -> bool
-        ensures { result ≡ is_too_long self first }
-    {
-        first % 4 == 3 && self.bytes() < usize::from(first / 4) + 4
-    }
 }
 
 /// The number that at most sixteen bytes spell.
@@ -88,26 +81,56 @@ fn number_after_first(bytes: &[u8], count: usize) -> Result<u128, Fault>
     }
 }
 
-/// What the form at the front stands for, and its length, be it the shortest or not. The two low bits of the first
-/// byte name the form: one, two or four bytes, whose upper bits are the number; or a count of bytes, less four, in
-/// the upper six bits, and that many bytes after.
-fn read_form(bytes: &[u8], first: u8) -> Result<(u128, usize), Fault>
-    requires front { bytes.now ≡ first ∷ drop 1 bytes.now }
-    requires short { form_len first ≤ 17 }
-    ensures { MatchResult result
-        (λ x. (x.1 ≡ form_len first) × (x.1 ≤ length bytes.now)
-        × (x.0 ≡ form_number (take x.1 bytes.now)))
-        (λ f. (length bytes.now < form_len first) × (f ≡ truncated_fault bytes.now)) }
+/// The answer for a form that is there whole: its number with its length, if no shorter form has that number and the
+/// target holds it.
+#[inline(always)]
+fn judge(
+    target: Target,
+    number: u128,
+    len: usize,
+    is_shortest: bool,
+) -> Result<(u128, usize), Fault>
+    requires shortest { is_shortest ≡ (len == length (compact number)) }
+    ensures exact { result ≡ judged target number len }
+    ensures fits { IfOk result (λ x. x.0 < 256 ^ target_bytes target) }
+    ensures len { IfOk result (λ x. x.1 ≡ len) }
+    ensures reasons { IfErr result
+        (λ f. (f.reason ≡ Reason.CompactNotShortest) ⊎ (f.reason ≡ Reason.CompactTooLarge)) }
 {
-    match first % 4 {
-        0 => Ok((u128::from(first / 4), 1)),
-        1 => Ok((u128::from(u16::from_le_bytes(front(bytes)?) / 4), 2)),
-        2 => Ok((u128::from(u32::from_le_bytes(front(bytes)?) / 4), 4)),
-        _ => {
-            let count = usize::from(first / 4) + 4;
-            Ok((number_after_first(bytes, count)?, count + 1))
-        }
+    if !is_shortest {
+        return Err(Fault {
+            reason: Reason::CompactNotShortest,
+            at: 0,
+        });
     }
+    if !target.holds(number) {
+        return Err(Fault {
+            reason: Reason::CompactTooLarge,
+            at: 0,
+        });
+    }
+    Ok((number, len))
+}
+
+/// Reads the fourth form, whose first byte has in its upper six bits how many bytes come after it, less four.
+fn read_long(bytes: &[u8], first: u8, target: Target) -> Result<(u128, usize), Fault>
+    requires front { bytes.now ≡ first ∷ drop 1 bytes.now }
+    requires long { first % 4 ≡ 3 }
+    ensures reads { Answers (λ x. x) bytes.now result (integer_at target bytes.now) }
+    ensures fits { IfOk result (λ x. x.0 < 256 ^ target_bytes target) }
+    ensures reasons { IfErr result (λ f. (f.reason ≢ Reason.BadBool) × (f.reason ≢ Reason.BadChar)
+        × (f.reason ≢ Reason.BadUtf8)) }
+    ensures len { IfOk result (λ x. x.1 ≤ 17) }
+{
+    let count = usize::from(first / 4) + 4;
+    if target.bytes() < count {
+        return Err(Fault {
+            reason: Reason::CompactTooLarge,
+            at: 0,
+        });
+    }
+    let number = number_after_first(bytes, count)?;
+    judge(target, number, count + 1, compact_len(number) == count + 1)
 }
 
 /// Reads a compact integer off the front of the bytes, and answers its value with its length, 1 to 17 bytes
@@ -129,30 +152,20 @@ pub fn read_compact(bytes: &[u8], target: Target) -> Result<(u128, usize), Fault
         return Ok((0, 0));
     }
     let [first] = front::<1>(bytes)?;
-    // The form of one byte is the shortest of its number, which fits every target.
-    if first % 4 == 0 {
-        return Ok((u128::from(first / 4), 1));
+    // The two low bits name the form: one, two or four bytes, whose upper bits are the number, or a count of bytes.
+    match first % 4 {
+        // One byte is the shortest form of its number, which fits every target.
+        0 => Ok((u128::from(first / 4), 1)),
+        1 => {
+            let number = u16::from_le_bytes(front(bytes)?) / 4;
+            judge(target, u128::from(number), 2, 0x40 <= number)
+        }
+        2 => {
+            let number = u32::from_le_bytes(front(bytes)?) / 4;
+            judge(target, u128::from(number), 4, 0x4000 <= number)
+        }
+        _ => read_long(bytes, first, target),
     }
-    if target.is_exceeded_by(first) {
-        return Err(Fault {
-            reason: Reason::CompactTooLarge,
-            at: 0,
-        });
-    }
-    let (value, len) = read_form(bytes, first)?;
-    if len != compact_len(value) {
-        return Err(Fault {
-            reason: Reason::CompactNotShortest,
-            at: 0,
-        });
-    }
-    if !target.holds(value) {
-        return Err(Fault {
-            reason: Reason::CompactTooLarge,
-            at: 0,
-        });
-    }
-    Ok((value, len))
 }
 
 /// How many bytes the fourth form has after the first one, for a value that needs that form.
