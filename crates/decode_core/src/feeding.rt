@@ -313,7 +313,7 @@ impl<'r, A: Allocator> Run<'r, A> {
         ensures { WholeTurnsReport self.old self.new piece.now turns.old.so_far turns.new.so_far
             result.0 result.1 }
     {
-        if self.carry.as_slice().is_empty()
+        if self.carry.is_empty()
             && let Some(form) = self.next_form()
         {
             return self.whole_nodes(form, piece, turns);
@@ -330,7 +330,7 @@ impl<'r, A: Allocator> Run<'r, A> {
         ensures { FeedTells self.old self.new piece.now turns.old.so_far turns.new.so_far result }
     {
         let mut at = 0;
-        if !self.carry.as_slice().is_empty() {
+        if !self.carry.is_empty() {
             let Ok(count) = self.carried_turn(piece, turns) else {
                 return Err(0);
             };

@@ -71,8 +71,9 @@ fn a_carry_takes_what_is_wanted_in_the_order_in_which_it_comes(rt: HostRuntime) 
     assert_eq!(rt; carry.as_slice(), [1, 2, 3, 4].as_slice());
     carry.truncate(3);
     assert_eq!(rt; carry.as_slice(), [1, 2, 3].as_slice());
+    assert!(rt; !carry.is_empty());
     carry.clear();
-    assert!(rt; carry.as_slice().is_empty());
+    assert!(rt; carry.is_empty());
 }
 
 #[test]

@@ -1,6 +1,6 @@
 //! The bytes of a node that a piece cut.
 
-ghost use Rattle.std.specs.Prelude.{◌≡◌, ◌≤◌, ◌-◌, ◌++◌, [], length, take, min};
+ghost use Rattle.std.specs.Prelude.{◌≡◌, ◌≤◌, ◌-◌, ◌++◌, ◌==◌, [], length, take, min};
 ghost use Rattle.form_core.specs.Needs.{IsFirst};
 
 use std::marker::Model;
@@ -31,6 +31,13 @@ impl Carry {
             bytes: [0; 32],
             len: 0,
         }
+    }
+
+    /// Are there no bytes?
+    pub fn is_empty(&self) -> bool
+        ensures { result ≡ (length self.now == 0) }
+    {
+        self.len == 0
     }
 
     /// The first byte of these and of a piece that follows them.

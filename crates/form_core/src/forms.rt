@@ -74,7 +74,7 @@ pub enum BareForm {
 
 /// The form of a value of a primitive type.
 #[inline(always)]
-pub fn primitive_form(primitive: Primitive) -> BytesForm
+fn primitive_form(primitive: Primitive) -> BytesForm
     ensures { form_of_bytes result ≡ Form.Primitive primitive }
 {
     BytesForm::Plain(match primitive.kind() {
@@ -89,7 +89,7 @@ pub fn primitive_form(primitive: Primitive) -> BytesForm
 
 /// The form of a compact integer that fits the target.
 #[inline(always)]
-pub fn compact_form(target: Target) -> BytesForm
+fn compact_form(target: Target) -> BytesForm
     ensures { form_of_bytes result ≡ Form.Compact target }
 {
     BytesForm::Plain(PlainForm::Compact(target))

@@ -9,9 +9,7 @@ mod plain;
 mod runs;
 
 pub use carry::Carry;
-pub use forms::{
-    BareForm, BytesForm, NodeForm, PlainForm, PrefixedRun, compact_form, node_form, primitive_form,
-};
+pub use forms::{BareForm, BytesForm, NodeForm, PlainForm, PrefixedRun, node_form};
 pub use needs::{few_need, need};
 pub use plain::{read_length, read_plain};
 pub use runs::whole_run;

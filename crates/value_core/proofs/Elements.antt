@@ -21,13 +21,6 @@ first_again : (fs : List OpenPart) → 1 ≤ after_first_in fs →
 first_again [] h = absurd (omega (arith, h))
 first_again (f ∷ fs) h = rw (both_left f.left h).2 refl
 
--- one element fewer follows
-fewer_in : (fs : List OpenPart) → 1 ≤ after_first_in fs →
-    after_first_in (advanced_in fs) + 1 ≡ after_first_in fs
-fewer_in [] h = absurd (omega (arith, h))
-fewer_in (f ∷ fs) h = let b = both_left f.left h in
-    rw b.2 (omega arith)
-
 -- no node is whole then
 pub stays_open : (fs : List OpenPart) → 1 ≤ after_first_in fs →
     settled_in (advanced_in fs) ≡ advanced_in fs
@@ -40,18 +33,9 @@ pub none_closed : (fs : List OpenPart) (turns : ℕ) → 1 ≤ after_first_in fs
     turns + closings (advanced_in fs) ≡ turns
 none_closed fs turns h = omega (arith, ap length (stays_open fs h))
 
--- what was looked up last is still ahead
-pub type_again : (w : Walked) → 1 ≤ elements_after w → next_type (advanced w) ≡ next_type w
-type_again w h = first_again w.frames h
-
 -- the same comes next
 pub next_again : (w : Walked) → 1 ≤ elements_after w → next_of (advanced w) ≡ next_of w
 next_again w h = ap (next_from (advanced w)) (first_again w.frames h) ∙ by (next_type w) where
   by : (o : Option ℕ) → next_from (advanced w) o ≡ next_from w o
   by None = refl
   by (Some t) = rw (advanced_length w.frames) refl
-
--- and one element fewer follows it
-pub fewer_after : (w : Walked) → 1 ≤ elements_after w →
-    elements_after (advanced w) + 1 ≡ elements_after w
-fewer_after w h = fewer_in w.frames h

@@ -13,6 +13,7 @@ use std::alloc::{AllocError, Allocator};
 impl<'r, A: Allocator> Builder<'r, A> {
     /// Adds a composite or a tuple, which the caller knows to be next: what `fields` does once it has judged. Where
     /// memory is refused nothing changes.
+    #[inline(always)]
     pub fn add_fields(&mut self) -> Result<(), AllocError>
         requires closed { self.old.run ≡ None }
         requires next { next_of self.old.walk ≡ Next.Wants Form.Fields }
