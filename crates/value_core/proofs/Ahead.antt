@@ -1,7 +1,7 @@
 -- What the step of the next type says of what comes next, and of the parts that it opens.
 use Rattle.std.proofs.Common.{◌≡◌, ℕ, ◌+◌, ◌≤◌, Bool, true, false, List, length, Option, Some, None}
 use Rattle.std.proofs.Common.{refl, sym, ap, subst, ◌∙◌, arith, inl, inr}
-use Rattle.std.specs.Prelude.{option_map, nat_lt, if◌then◌else◌, IfSome}
+use Rattle.std.specs.Prelude.{option_map, nat_lt, if◌then◌else◌, IfSome, is_none}
 use Rattle.scale_core.specs.declared.compact.Target.{Target}
 use Rattle.registry_core.specs.declared.definition.TypeDef.{TypeDef}
 use Rattle.registry_core.specs.declared.definition.TypeDef.TheVariants as Def
@@ -25,7 +25,7 @@ use Rattle.grammar_core.specs.Parts.{Part, each, times, how_many_left}
 use Rattle.grammar_core.specs.declared.form.Form.{Form}
 use Rattle.grammar_core.specs.declared.form.Form.TheVariants as form
 use Rattle.grammar_core.specs.declared.form.Next.TheVariants as next
-use Rattle.value_core.specs.Ahead.{IsAhead, IsStepOf, elements_in, members_in}
+use Rattle.value_core.specs.Ahead.{IsStepOf, elements_in, members_in}
 use Rattle.value_core.specs.declared.left.Left.{Left}
 use Rattle.value_core.specs.Frames.{left_of, members_of}
 use Rattle.value_core.specs.Opened.{OpensFields, OpensArm, OpensElements, IsListNext, shape_at}
@@ -41,11 +41,11 @@ abbrev pub IsStepAhead : List TypeInfo → Option ℕ → Step → Type 0
 IsStepAhead r (Some t) s = IsStepOf r t s
 IsStepAhead r None s = ⊥
 
--- where the last look-up found one, a type is next
-pub found_ahead : (r : List TypeInfo) (o : Option ℕ) (ty : TypeId) (s : Step) → IsAhead o true ty →
+-- where something is left, a type is next
+pub found_ahead : (r : List TypeInfo) (o : Option ℕ) (s : Step) → is_none o ≡ false →
     IfSome o (λ t. IsStepOf r t s) → IsStepAhead r o s
-found_ahead r (Some t) ty s h is = is
-found_ahead r None ty s h is = h
+found_ahead r (Some t) s h is = is
+found_ahead r None s h is = absurd cc
 
 -- where a type is next, it is the one that the walk tells
 pub type_at : (w : Walked) (t u : ℕ) → next_type w ≡ Some u → IfSome (next_type w) (λ x. t ≡ x) →

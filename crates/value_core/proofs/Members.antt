@@ -2,7 +2,8 @@
 use Rattle.std.proofs.Common.{◌≡◌, ℕ, zero, suc, ◌+◌, ◌-◌, ◌<◌, ◌≤◌, List, [], ◌∷◌, ◌++◌, length}
 use Rattle.std.proofs.Common.{take, drop, Option, Some, None, refl, ap, ◌∙◌, arith}
 use Rattle.std.proofs.Common.{drop-cons, inl, inr}
-use Rattle.std.specs.Prelude.{map, reverse, slice_get}
+use Rattle.std.specs.Prelude.{map, reverse, slice_get, is_none, ◌==◌}
+use Rattle.std.proofs.lemmas.Bool.{ne_eqb}
 use Rattle.std.proofs.lemmas.List.{length-drop, length-map, length-reverse, length-take-le}
 use Rattle.std.proofs.lemmas.List.{reverse-append}
 use Rattle.std.proofs.lemmas.Option.{slice_get-get_or, slice_get_cases, slice_get_past}
@@ -10,7 +11,8 @@ use Rattle.registry_core.specs.declared.type_info.TypeInfo.{TypeInfo}
 use Rattle.grammar_core.specs.Parts.{each, first_of, left_after}
 use Rattle.widths_core.specs.Steps.{AreParts}
 use Rattle.value_core.specs.Frames.{followed_by, frames_of, left_by, members_before, members_of}
-use Rattle.value_core.specs.Frames.{open_part_of, parts_by}
+use Rattle.value_core.specs.Frames.{open_part_of, parts_by, copies_of, AreWithin, IsWithin}
+use Rattle.value_core.specs.declared.left.Left.{Left}
 use Rattle.value_core.specs.declared.left.Frame.{Frame}
 
 -- none is left past the last reference
@@ -53,6 +55,51 @@ first_left refs (suc n) element zero at h k e = absurd (omega (arith, k))
 first_left refs (suc n) element (suc end) at h k e =
     let same : at ≡ end - suc n = omega (arith, e) in
     rw same (first_followed (slice_get refs (end - suc n)) (members_before refs end n))
+
+-- where the references are there, nothing is left exactly where none is counted
+pub none_left : (refs : List ℕ) (l : Left) → IsWithin refs l →
+    (l.count == 0) ≡ is_none (first_of (left_by refs l))
+none_left refs l h = go l.count l.end h.counted h.there where
+  go : (n end : ℕ) → (1 ≤ end → n < end) → end ≤ length refs + 1 →
+      (n == 0) ≡ is_none (first_of (parts_by refs n l.element end))
+  go zero zero f w = refl
+  go zero (suc end) f w = refl
+  go (suc n) zero f w = ne_eqb (suc n) 0 (λ e. absurd (omega (arith, e)))
+  go (suc n) (suc end) f w =
+      let less = f (omega arith) in
+      rw (slice_get-get_or refs (end - suc n) 0 (omega (arith, less, w)))
+      (ne_eqb (suc n) 0 (λ e. absurd (omega (arith, e))))
+
+-- with one less to come they are still there
+pub within_less : (refs : List ℕ) (l : Left) (n : ℕ) → n ≤ l.count → IsWithin refs l →
+    IsWithin refs (record l { count = n })
+within_less refs l n less h = record {
+  counted = λ some. omega (arith, less, h.counted some);
+  there = h.there;
+}
+
+-- so many of one type need none
+pub copies_within : (refs : List ℕ) (count t : ℕ) → IsWithin refs (copies_of count t)
+copies_within refs count t = record { counted = λ some. absurd (omega (arith, some)); there = omega arith }
+
+-- a piece of all references is there
+pub members_within : (refs : List ℕ) (from count : ℕ) (ts : List ℕ) → AreParts refs from count ts →
+    IsWithin refs (members_of from count)
+members_within refs from count ts h =
+    record { counted = λ some. omega arith; there = omega (arith, h.within) }
+
+-- and so where one more node is open
+pub within_append : (refs : List ℕ) (fs : List Frame) (f : Frame) → AreWithin refs fs →
+    IsWithin refs f.left → AreWithin refs (fs ++ f ∷ [])
+within_append refs [] f all one = (one, tt)
+within_append refs (g ∷ fs) f all one = (all.0, within_append refs fs f all.1 one)
+
+-- where the last is taken away, both it and the others were
+pub within_popped : (refs : List ℕ) (fs : List Frame) (f : Frame) → AreWithin refs (fs ++ f ∷ []) →
+    AreWithin refs fs × IsWithin refs f.left
+within_popped refs [] f all = (tt, all.0)
+within_popped refs (g ∷ fs) f all = let rest = within_popped refs fs f all.1 in
+    ((all.0, rest.0), rest.1)
 
 -- those that are left are a piece of all references
 members_are : (refs : List ℕ) (end n : ℕ) → n ≤ end → end ≤ length refs →

@@ -1,6 +1,5 @@
 -- What a walk knows of the type that is next.
-use Rattle.std.specs.Prelude.{◌≡◌, ℕ, Bool, true, false, List, Option, Some, None}
-use Rattle.registry_core.specs.declared.type_id.TypeId.{TypeId}
+use Rattle.std.specs.Prelude.{◌≡◌, ℕ, List, Some, None}
 use Rattle.registry_core.specs.declared.type_info.TypeInfo.{TypeInfo}
 use Rattle.graph_core.specs.Types.{shape}
 use Rattle.widths_core.specs.Classes.{class_of}
@@ -17,13 +16,6 @@ IsStepOf r t s = elim (shape r t) [
   | None ↦
       s ≡ step.NoValue
 ]
-
--- the type that was looked up last is the one that is next, where any is
-abbrev pub IsAhead : Option ℕ → Bool → TypeId → Type 0
-IsAhead (Some t) true ty = ty.0 ≡ t
-IsAhead None false ty = Unit {0}
-IsAhead (Some t) false ty = ⊥
-IsAhead None true ty = ⊥
 
 -- the parts of a composite or a tuple of this step
 abbrev pub members_in : Step → Left

@@ -1,6 +1,6 @@
 -- The open parts of a walk, as its fields keep them.
-use Rattle.std.specs.Prelude.{ℕ, zero, suc, ◌+◌, ◌-◌, List, [], ◌∷◌, map, reverse, Bool, true}
-use Rattle.std.specs.Prelude.{false, Option, Some, None, slice_get}
+use Rattle.std.specs.Prelude.{ℕ, zero, suc, ◌+◌, ◌-◌, ◌<◌, ◌≤◌, List, [], ◌∷◌, length, map, reverse}
+use Rattle.std.specs.Prelude.{Bool, true, false, Option, Some, None, slice_get}
 use Rattle.registry_core.specs.declared.type_info.TypeInfo.{TypeInfo}
 use Rattle.widths_core.specs.Steps.{references_of}
 use Rattle.grammar_core.specs.Parts.{Part, each, times}
@@ -29,6 +29,16 @@ left_by refs l = parts_by refs l.count l.element l.end
 
 abbrev pub left_of : List TypeInfo → Left → Part
 left_of r l = left_by (references_of r) l
+
+-- the references whose types are left are there, so that as many parts come as are counted
+pub record IsWithin (refs : List ℕ) (l : Left) : Type 0 where
+  pub counted : 1 ≤ l.end → l.count < l.end
+  pub there : l.end ≤ length refs + 1
+
+-- and so of all these nodes
+abbrev pub AreWithin : List ℕ → List Frame → Type 0
+AreWithin refs [] = Unit {0}
+AreWithin refs (f ∷ fs) = IsWithin refs f.left × AreWithin refs fs
 
 -- so many references from this number on
 abbrev pub members_of : ℕ → ℕ → Left

@@ -9,7 +9,8 @@ ghost use Rattle.value_core.specs.Built.{IsSettled, built_text_bytes, closings, 
 ghost use Rattle.value_core.specs.Built.{settled_walk, with_leaf, with_open, with_piece};
 ghost use Rattle.value_core.specs.Built.{with_run_closed, with_run_opened, FitsKind, IsNextLeaf};
 ghost use Rattle.value_core.specs.Built.{IsNextOpen};
-ghost use Rattle.value_core.specs.Frames.{left_of};
+ghost use Rattle.widths_core.specs.Steps.{references_of};
+ghost use Rattle.value_core.specs.Frames.{left_of, IsWithin};
 ghost use Rattle.node_core.specs.Shown.{head_shown, size_shown};
 ghost use Rattle.value_core.specs.Refusals.{Finishes, Opens, IsRunWhole, bad_text, missing_of};
 ghost use Rattle.value_core.specs.Refusals.{other_fault, wanted_of, is_whole, build_opening_fault};
@@ -129,7 +130,8 @@ fn open_node<A: Allocator>(
     node: Node,
     left: Left,
 ) -> Result<(), AllocError>
-    requires { length walk.old.frames ≤ walk.old.limit + 1 }
+    requires room { length walk.old.frames ≤ walk.old.limit + 1 }
+    requires within { IsWithin (references_of walk.old.types) left }
     ensures nodes { OnOk result (nodes.new.items ≡ nodes.old.items ++ node ∷ []) }
     ensures walk { OnOk result (walk.new ≡ opened (advanced walk.old) (length nodes.old.items)
         (left_of walk.old.types left)) }
@@ -355,6 +357,7 @@ impl<'r, A: Allocator> Builder<'r, A> {
     pub(crate) fn add_open(&mut self, content: Content, left: Left) -> Result<(), AllocError>
         requires closed { self.old.run ≡ None }
         requires opened { size_shown content ≡ 0 }
+        requires within { IsWithin (references_of self.old.walk.types) left }
         requires next { IsNextOpen self.old.walk (head_shown [] left.count content)
             (left_of self.old.walk.types left) }
         ensures ok { OnOk result (self.new ≡ with_open self.old (head_shown [] left.count content)

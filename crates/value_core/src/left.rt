@@ -1,7 +1,7 @@
 //! What is left of the parts of an open node, by the references of the registry.
 
-ghost use Rattle.std.specs.Prelude.{◌≡◌, ℕ, List, slice_get};
-ghost use Rattle.value_core.specs.Frames.{left_by, copies_of, members_of, repeats};
+ghost use Rattle.std.specs.Prelude.{◌≡◌, ℕ, List, is_none};
+ghost use Rattle.value_core.specs.Frames.{left_by, copies_of, members_of, repeats, IsWithin};
 ghost use Rattle.grammar_core.specs.Parts.{first_of, left_after};
 ghost use Rattle.value_core.specs.Walked.{after_first};
 
@@ -22,14 +22,6 @@ pub(crate) struct Left {
 pub(crate) struct Frame {
     pub(crate) node: usize,
     pub(crate) left: Left,
-}
-
-/// The type that the reference of this number names, where there is one.
-#[inline(always)]
-fn reference_at(references: &[u32], at: usize) -> Option<u32>
-    ensures { result ≡ slice_get references.now at }
-{
-    references.get(at).copied()
 }
 
 impl Left {
@@ -62,9 +54,19 @@ impl Left {
         Left::copies(0, 0)
     }
 
+    /// Is nothing left?
+    #[inline(always)]
+    pub(crate) fn is_empty(&self) -> bool
+        ensures { (references : List ℕ) → IsWithin references self.now →
+            result ≡ is_none (first_of (left_by references self.now)) }
+    {
+        self.count == 0
+    }
+
     /// The type that is next, if anything is left, by the references of the registry.
     #[inline(always)]
     pub(crate) fn first(&self, references: &[u32]) -> Option<u32>
+        requires { IsWithin references.now self.now }
         ensures { result ≡ first_of (left_by references.now self.now) }
     {
         if self.count == 0 {
@@ -73,16 +75,17 @@ impl Left {
         if self.end == 0 {
             return Some(self.element);
         }
-        let at = (self.end - 1).saturating_sub(self.count as usize);
-        reference_at(references, at)
+        Some(references[self.end - 1 - self.count as usize])
     }
 
     /// The next type is no longer left. Where nothing is left, nothing changes.
     #[tactic(auto, using(crate::proofs::Members::one_less))]
     #[inline(always)]
     pub(crate) fn advance(&mut self)
-        ensures { (references : List ℕ) →
+        ensures left { (references : List ℕ) →
             left_by references self.new ≡ left_after (left_by references self.old) }
+        ensures within { (references : List ℕ) → IsWithin references self.old →
+            IsWithin references self.new }
     {
         self.count = self.count.saturating_sub(1);
     }
@@ -90,8 +93,10 @@ impl Left {
     /// The same, made anew.
     #[inline(always)]
     pub(crate) fn advanced(self) -> Left
-        ensures { (references : List ℕ) →
+        ensures left { (references : List ℕ) →
             left_by references result ≡ left_after (left_by references self) }
+        ensures within { (references : List ℕ) → IsWithin references self →
+            IsWithin references result }
     {
         let mut left = self;
         left.advance();

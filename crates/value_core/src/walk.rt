@@ -3,8 +3,9 @@
 ghost use Rattle.std.specs.Prelude.{◌≡◌, ◌⊎◌, ◌+◌, ◌≤◌, length, is_none, option_map, OnOk, OnErr};
 ghost use Rattle.std.specs.Prelude.{IfSome, IfNone, IsSome};
 ghost use Rattle.grammar_core.specs.Parts.{first_of, how_many_left};
-ghost use Rattle.value_core.specs.Ahead.{IsAhead, IsStepOf, elements_in, members_in};
-ghost use Rattle.value_core.specs.Frames.{left_of};
+ghost use Rattle.widths_core.specs.Steps.{references_of};
+ghost use Rattle.value_core.specs.Ahead.{IsStepOf, elements_in, members_in};
+ghost use Rattle.value_core.specs.Frames.{left_of, IsWithin};
 ghost use Rattle.value_core.specs.Opened.{OpensFields, OpensArm, OpensElements, IsListNext};
 ghost use Rattle.value_core.specs.Refusals.{is_whole_in};
 ghost use Rattle.value_core.specs.Walked.{start_of, next_type, next_of, depth_of, advanced, opened};
@@ -25,16 +26,15 @@ fn step_of(checked: &Checked, ty: TypeId) -> Step
     checked.step(ty).unwrap_or(Step::NoValue)
 }
 
-/// Finds the type that is next in an open node. Is any left? Where none is, `ty` stays as it was.
+/// Finds the type that is next in an open node. Where none is, `ty` stays as it was.
 #[inline(always)]
-fn look_ahead(checked: &Checked, left: &Left, ty: &mut TypeId) -> bool
-    ensures { IsAhead (first_of (left_of checked.now.types left.now)) result ty.new }
+fn look_ahead(checked: &Checked, left: &Left, ty: &mut TypeId)
+    requires { IsWithin (references_of checked.now.types) left.now }
+    ensures { IfSome (first_of (left_of checked.now.types left.now)) (λ t. ty.new.0 ≡ t) }
 {
-    let Some(first) = left.first(checked.members()) else {
-        return false;
-    };
-    *ty = TypeId(first);
-    true
+    if let Some(first) = left.first(checked.members()) {
+        *ty = TypeId(first);
+    }
 }
 
 /// The parts of a composite or a tuple of this step; a type of another kind has no such parts.
@@ -69,8 +69,6 @@ pub struct Walk<'r, A: Allocator> {
     around: Vec<Frame, A>,
     /// The type that was looked up last: the next one, where any is left in the innermost node.
     ty: TypeId,
-    /// Is any left there?
-    has_next: bool,
     limit: u16,
 }
 
@@ -81,8 +79,9 @@ impl<'r, A: Allocator> Model for Walk<'r, A> {
     ghost Value = { Walked };
 
     ghost use Rattle.grammar_core.specs.Parts.{first_of};
-    ghost use Rattle.value_core.specs.Ahead.{IsAhead};
-    ghost use Rattle.value_core.specs.Frames.{frames_of, left_of};
+    ghost use Rattle.std.specs.Prelude.{IfSome, ◌≡◌};
+    ghost use Rattle.widths_core.specs.Steps.{references_of};
+    ghost use Rattle.value_core.specs.Frames.{frames_of, left_of, AreWithin, IsWithin};
 
     ghost view = { λ w. record {
       types = w.checked.now.types;
@@ -91,7 +90,9 @@ impl<'r, A: Allocator> Model for Walk<'r, A> {
     } };
 
     ghost invariant = { λ w. (w.limit ≤ 1024) × (length w.around.items ≤ w.limit + 1)
-        × IsAhead (first_of (left_of w.checked.now.types w.top.left)) w.has_next w.ty };
+        × IfSome (first_of (left_of w.checked.now.types w.top.left)) (λ t. w.ty.0 ≡ t)
+        × IsWithin (references_of w.checked.now.types) w.top.left
+        × AreWithin (references_of w.checked.now.types) w.around.items };
 }
 
 impl<'r, A: Allocator> Walk<'r, A> {
@@ -106,7 +107,6 @@ impl<'r, A: Allocator> Walk<'r, A> {
             top: Frame { node: 0, left },
             around: Vec::new(alloc),
             ty: root,
-            has_next: true,
             limit,
         }
     }
@@ -120,7 +120,7 @@ impl<'r, A: Allocator> Walk<'r, A> {
     pub fn next(&self) -> Next
         ensures { result ≡ next_of self.now }
     {
-        if !self.has_next {
+        if self.is_finished() {
             return Next::Finished;
         }
         if self.around.len() > usize::from(self.limit) {
@@ -135,7 +135,7 @@ impl<'r, A: Allocator> Walk<'r, A> {
         ensures depth { result ≡ depth_of self.now }
         ensures bounded { IsBounded self.now }
     {
-        if self.is_finished() {
+        if self.top.left.is_empty() {
             0
         } else {
             self.around.len() as u16
@@ -147,7 +147,7 @@ impl<'r, A: Allocator> Walk<'r, A> {
     pub(crate) fn is_finished(&self) -> bool
         ensures { result ≡ is_none (next_type self.now) }
     {
-        !self.has_next
+        self.top.left.is_empty()
     }
 
     /// Is nothing left, and no node open?
@@ -164,7 +164,7 @@ impl<'r, A: Allocator> Walk<'r, A> {
     {
         self.top.left.advance();
         if !self.top.left.repeats() {
-            self.has_next = look_ahead(self.checked, &self.top.left, &mut self.ty);
+            look_ahead(self.checked, &self.top.left, &mut self.ty);
         }
     }
 
@@ -188,7 +188,8 @@ impl<'r, A: Allocator> Walk<'r, A> {
     /// The next node is open, and its parts come next. Where memory is refused, nothing changes.
     #[inline(always)]
     pub(crate) fn enter(&mut self, node: usize, left: Left) -> Result<(), AllocError>
-        requires { length self.old.frames ≤ self.old.limit + 1 }
+        requires room { length self.old.frames ≤ self.old.limit + 1 }
+        requires within { IsWithin (references_of self.old.types) left }
         ensures ok { OnOk result (self.new
             ≡ opened (advanced self.old) node (left_of self.old.types left)) }
         ensures err { OnErr result (self.new ≡ self.old) }
@@ -198,7 +199,7 @@ impl<'r, A: Allocator> Walk<'r, A> {
             left: self.top.left.advanced(),
         })?;
         self.top = Frame { node, left };
-        self.has_next = look_ahead(self.checked, &left, &mut self.ty);
+        look_ahead(self.checked, &left, &mut self.ty);
         Ok(())
     }
 
@@ -210,13 +211,13 @@ impl<'r, A: Allocator> Walk<'r, A> {
         ensures unchanged { IfNone result (self.new ≡ self.old) }
         ensures none { IfNone result (IsSome (next_type self.old) ⊎ (length self.old.frames ≡ 1)) }
     {
-        if self.has_next {
+        if !self.is_finished() {
             return None;
         }
         let frame = self.around.pop()?;
         let node = self.top.node;
         self.top = frame;
-        self.has_next = look_ahead(self.checked, &frame.left, &mut self.ty);
+        look_ahead(self.checked, &frame.left, &mut self.ty);
         Some(node)
     }
 
@@ -248,6 +249,7 @@ impl<'r, A: Allocator> Walk<'r, A> {
         requires { next_of self.now ≡ Next.Wants Form.Fields }
         ensures opens { OpensFields self.now (left_of self.now.types result) }
         ensures counts { how_many_left (left_of self.now.types result) ≡ result.count }
+        ensures within { IsWithin (references_of self.now.types) result }
     {
         members_in(self.step())
     }
@@ -260,6 +262,7 @@ impl<'r, A: Allocator> Walk<'r, A> {
             (option_map (λ x. (x.0, left_of self.now.types x.1)) result) }
         ensures counts { IfSome result
             (λ x. how_many_left (left_of self.now.types x.1) ≡ x.1.count) }
+        ensures within { IfSome result (λ x. IsWithin (references_of self.now.types) x.1) }
     {
         let arm = self.checked().arm_step(self.ty(), index)?;
         Some((arm.position, Left::members(arm.from, arm.count)))
@@ -270,6 +273,7 @@ impl<'r, A: Allocator> Walk<'r, A> {
         requires { IsListNext self.now length }
         ensures opens { OpensElements self.now length (left_of self.now.types result) }
         ensures counts { result.count ≡ length }
+        ensures within { IsWithin (references_of self.now.types) result }
     {
         elements_in(self.step(), length)
     }

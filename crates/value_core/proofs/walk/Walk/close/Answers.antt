@@ -1,8 +1,27 @@
-use Rattle.std.proofs.Common.{◌∙◌, ap, sym, rules}
-use Rattle.value_core.specs.Frames.{left_of}
+use Rattle.std.proofs.Common.{◌∙◌, ap, sym, subst, arith, rules}
+use Rattle.widths_core.specs.Steps.{references_of}
+use Rattle.value_core.specs.Frames.{left_of, AreWithin}
 use Rattle.value_core.specs.Walked.{Walked}
-use Rattle.value_core.proofs.Members.{frames_popped}
+use Rattle.value_core.proofs.Members.{frames_popped, within_popped}
 use Rattle.value_core.proofs.walk.Walk.close.Goals as goal
+
+pub look_ahead-requires : goal.look_ahead-requires
+look_ahead-requires g c =
+    let refs = references_of c.self.inside.checked.now.types in
+    (within_popped refs c.pop.new.self.items c.in_ok-frame.frame
+    (subst (AreWithin refs) c.in_ok-frame.ensures.items c.self.invariant.4)).1
+
+pub invariant_of-self-2 : goal.invariant_of-self-2
+invariant_of-self-2 g c =
+    let refs = references_of c.self.inside.checked.now.types in
+    let popped = within_popped refs c.pop.new.self.items c.in_ok-frame.frame
+    (subst (AreWithin refs) c.in_ok-frame.ensures.items c.self.invariant.4) in (
+      c.self.invariant.0,
+      omega (arith, c.in_ok-frame.ensures.len, c.self.invariant.1),
+      c.look_ahead.ensures,
+      popped.1,
+      popped.0,
+    )
 
 pub returns-clause-some : goal.returns-clause-some
 returns-clause-some g c =

@@ -1,0 +1,30 @@
+use Rattle.std.proofs.Common.{◌+◌, ◌≤◌, length, sym, subst, arith}
+use Rattle.widths_core.specs.Steps.{references_of}
+use Rattle.value_core.specs.Frames.{IsWithin, frames_of}
+use Rattle.value_core.specs.Walked.{Walked}
+use Rattle.value_core.proofs.Members.{frames_counted, within_append}
+use Rattle.value_core.proofs.walk.Walk.enter.Goals as goal
+
+pub invariant_of-self-2 : goal.invariant_of-self-2
+invariant_of-self-2 g c =
+    let refs = references_of c.self.inside.checked.now.types in
+    let before : length (frames_of c.self.inside.checked.now.types c.self.inside.top
+    c.self.inside.around.items) ≤ c.self.inside.limit + 1 =
+    subst (λ (w : Walked). length w.frames ≤ w.limit + 1) (sym c.self.view_is) c.requires.room in
+    let room : length c.push.new.self.items ≤ c.self.inside.limit + 1 =
+    omega (
+      arith,
+      before,
+      c.in_ok-push.ensures.len,
+      frames_counted c.self.inside.checked.now.types c.self.inside.around.items,
+    ) in
+    let within : IsWithin refs c.args.left =
+    subst (λ (w : Walked). IsWithin (references_of w.types) c.args.left) (sym c.self.view_is)
+    c.requires.within in (
+      c.self.invariant.0,
+      room,
+      c.look_ahead.ensures,
+      within,
+      rw c.in_ok-push.ensures.items (within_append refs c.self.inside.around.items _
+          c.self.invariant.4 (c.advanced.ensures.within refs c.self.invariant.3)),
+    )
