@@ -26,6 +26,7 @@ impl<'r, A: Allocator> Builder<'r, A> {
 
     /// Adds a variant, which the caller knows to be next, by the index of its arm: what `arm` does once it has judged.
     /// Reports whether there is an arm of the index; where there is none, and where memory is refused, nothing changes.
+    #[inline(always)]
     pub fn add_arm(&mut self, index: u8) -> Result<bool, AllocError>
         requires closed { self.old.run ≡ None }
         requires next { next_of self.old.walk ≡ Next.Wants Form.Arm }
@@ -44,6 +45,7 @@ impl<'r, A: Allocator> Builder<'r, A> {
 
     /// Adds an array of this length, or a sequence of so many elements that take bytes, which the caller knows to be
     /// next: what `list` does once it has judged. Where memory is refused nothing changes.
+    #[inline(always)]
     pub fn add_list(&mut self, count: u32) -> Result<(), AllocError>
         requires closed { self.old.run ≡ None }
         requires next { IsListNext self.old.walk count }
