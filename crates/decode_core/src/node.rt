@@ -63,6 +63,7 @@ pub(crate) fn add_plain<A: Allocator>(
 }
 
 /// Adds the arm that is next, by its index.
+#[inline(always)]
 pub(crate) fn add_arm<A: Allocator>(
     builder: &mut Builder<'_, A>,
     own: &[u8],
