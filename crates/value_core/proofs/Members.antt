@@ -80,7 +80,8 @@ within_less refs l n less h = record {
 
 -- so many of one type need none
 pub copies_within : (refs : List ℕ) (count t : ℕ) → IsWithin refs (copies_of count t)
-copies_within refs count t = record { counted = λ some. absurd (omega (arith, some)); there = omega arith }
+copies_within refs count t =
+    record { counted = λ some. absurd (omega (arith, some)); there = omega arith }
 
 -- a piece of all references is there
 pub members_within : (refs : List ℕ) (from count : ℕ) (ts : List ℕ) → AreParts refs from count ts →
