@@ -12,8 +12,8 @@ pub(crate) struct Left {
     pub(crate) count: u32,
     /// The type of all of them, by its number, where they have one.
     element: u32,
-    /// 0 where they have one type. Else each has the type that a reference of its own names, and the numbers of these
-    /// references end just below this one less one.
+    /// 0 where they have one type. Else each part has the type that a reference of its own names. These references follow one
+    /// another, and this is one more than the number after the last of theirs.
     end: usize,
 }
 
