@@ -348,8 +348,7 @@ impl<'r, A: Allocator> Run<'r, A> {
         }
     }
 
-    /// Does the run that is open lack bytes, or does the next node, where none is open, have bytes of its own? It waits for
-    /// one where no byte is left.
+    /// Does the run that is open lack bytes, or else has the next node bytes of its own? It waits for one where none is left.
     pub(crate) fn wants(&self) -> bool
         ensures wants { result ≡ true → WantsBytes self.now }
         ensures sound { result ≡ true → IsSound self.now }
