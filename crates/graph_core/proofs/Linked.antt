@@ -6,13 +6,11 @@ use Rattle.std.proofs.lemmas.List.{append_assoc, append-nil, map-append, length-
 use Rattle.std.proofs.lemmas.List.{length_push, get_or_append_left, get_or_push, get_or-map}
 use Rattle.std.proofs.lemmas.List.{get_or-set_same, get_or-set_other, take_more, reverse-append}
 use Rattle.registry_core.specs.declared.definition.Field.{Field}
-use Rattle.registry_core.specs.declared.type_id.TypeId.{TypeId}
-use Rattle.graph_core.specs.Types.{ids, field_types}
+use Rattle.graph_core.specs.Types.{field_types}
 use Rattle.graph_core.specs.declared.graph.Graph.{Graph}
 use Rattle.graph_core.specs.declared.graph.Link.{Link}
 use Rattle.graph_core.specs.References.{AreKnown}
 use Rattle.graph_core.specs.Graphs.{refs, numbers, befores, IsLast, IsLinked, ReadsReferences}
-use Rattle.graph_core.specs.Graphs.{IsOpened}
 
 -- ---- the last reference to a type
 
@@ -192,23 +190,4 @@ pub field_at : (fs : List Field) (i : ℕ) (x : Field) → i < length fs → x �
 field_at fs i x lt is = ap (λ (f : Field). f.ty.0) is
     ∙ sym (get_or-map (λ (f : Field). f.ty.0) fs i x 0 lt)
 
--- the type of the member at a position is the one at this place among the members' ids
-pub member_at : (ts : List TypeId) (i : ℕ) (d : TypeId) → i < length ts →
-    (get_or ts i d).0 ≡ get_or (ids ts) i 0
-member_at ts i d lt = sym (get_or-map (λ (t : TypeId). t.0) ts i d 0 lt)
-
 -- ---- type by type
-
--- one more look at a definition leaves the lists right
-pub linked_opened : (a b : Graph) (t : ℕ) → IsLinked a → IsOpened a b t → IsLinked b
-linked_opened a b t h o =
-    let is : refs b ≡ refs a = ap reverse o.read in
-    record {
-      heads = rw (o.newest, o.types) h.heads;
-      links = rw (o.links, is) h.links;
-      small = rw is h.small;
-      members = o.members ∙ h.members ∙ sym is;
-      known = rw (o.types, is) h.known;
-      newest = λ u lt. rw (is, o.newest) (h.newest u (omega (arith, lt, ap length o.types)));
-      before = λ e lt. rw (is, o.links) (h.before e (omega (arith, lt, ap length is)));
-    }

@@ -3,15 +3,15 @@ use Rattle.std.proofs.Common.{◌≡◌, ℕ, zero, suc, ◌+◌, ◌≤◌, Boo
 use Rattle.std.proofs.Common.{length, take, flat_map, Some, refl, sym, ap, ◌∙◌, arith}
 use Rattle.std.specs.Prelude.{◌==◌}
 use Rattle.std.proofs.lemmas.Bool.{eqb-true}
-use Rattle.std.proofs.lemmas.List.{length-append, take_all}
+use Rattle.std.proofs.lemmas.List.{length-append}
 use Rattle.registry_core.specs.declared.definition.TypeDef.{TypeDef}
 use Rattle.registry_core.specs.declared.type_info.TypeInfo.{TypeInfo}
 use Rattle.graph_core.specs.declared.graph.Graph.{Graph}
 use Rattle.graph_core.specs.Types.{shape}
 use Rattle.graph_core.specs.References.{references}
 use Rattle.graph_core.specs.Counts.{times}
-use Rattle.graph_core.specs.Graphs.{IsUnread, IsMeasured, IsOpened}
-use Rattle.graph_core.specs.Sizes.{AreSizes, arm_count, arm_counts}
+use Rattle.graph_core.specs.Graphs.{IsOpened}
+use Rattle.graph_core.specs.Sizes.{arm_count, arm_counts}
 
 -- as types are looked at in order, each has one look at most, and those after have none
 pub one_more : (i t : ℕ) (log : List ℕ) → (times t log ≤ 1) × (i ≤ t → times t log ≡ 0) →
@@ -56,17 +56,6 @@ pub record SizesTo (r : List TypeInfo) (i n m : ℕ) (d : Graph) : Type 0 where
   pub read : d.looks.read.entries ≡ []
   pub listed : d.looks.listed.entries ≡ []
 
--- where nothing was read, no type was measured, and there is no reference and no arm
-pub sizes_none : (r : List TypeInfo) (d : Graph) → IsUnread r d → SizesTo r 0 0 0 d
-sizes_none r d h = record {
-  types = h.types;
-  references_are = refl;
-  arms_are = refl;
-  opened = λ t. rw h.opened (omega arith, λ le. refl);
-  read = h.read;
-  listed = h.listed;
-}
-
 -- one more type that is looked at is measured with those before it
 pub sizes_more : (r : List TypeInfo) (i n m : ℕ) (d : TypeDef) (a b : Graph) → shape r i ≡ Some d →
     SizesTo r i n m a → IsOpened a b i →
@@ -82,12 +71,3 @@ sizes_more r i n m d a b e h o =
       read = o.read ∙ h.read;
       listed = o.listed ∙ h.listed;
     }
-
--- where all types were measured, the counts are the sizes of the registry
-pub sizes_all : (r : List TypeInfo) (i n m : ℕ) (d : Graph) → length r ≤ i → SizesTo r i n m d →
-    AreSizes r (record { references = n; arms = m }) × IsMeasured r d
-sizes_all r i n m d le h =
-    let all : take i r ≡ r = take_all i r le in (
-      record { references = rw all at h.references_are; arms = rw all at h.arms_are },
-      record { types = h.types; opened = λ t. (h.opened t).0; read = h.read; listed = h.listed },
-    )

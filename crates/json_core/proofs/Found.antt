@@ -1,6 +1,6 @@
 -- The lists and maps that the order of keys is found by.
 use Rattle.std.proofs.Common.{◌≡◌, ℕ, zero, suc, ◌+◌, ◌<◌, ◌≤◌, Bool, true, false, cond, List, []}
-use Rattle.std.proofs.Common.{◌∷◌, length, map, drop, Option, Some, None, is_some, option_map, Bor}
+use Rattle.std.proofs.Common.{◌∷◌, length, map, drop, Option, Some, None, is_some, Bor}
 use Rattle.std.proofs.Common.{Ordering, Less, Equal, Greater, nat_cmp, is_eq, refl, sym, ap, ◌∙◌}
 use Rattle.std.proofs.Common.{arith, true≢false, get_or, bytes_eq}
 use Rattle.std.specs.Prelude.{option_and_then, ◌||◌}
@@ -12,7 +12,7 @@ use Rattle.std.specs.BTreeMap.{insert_entry, is_at}
 use Rattle.std.proofs.lemmas.List.{drop_more}
 use Rattle.std.proofs.lemmas.Map.Text.{is_eq-slice_cmp}
 use Rattle.registry_core.specs.declared.definition.Field.{Field}
-use Rattle.json_core.specs.Ordered.{is_there, order_from, key_order, place_among, lent_entries}
+use Rattle.json_core.specs.Ordered.{is_there, order_from, place_among, lent_entries}
 use Rattle.json_core.specs.Ordered.{positions_of}
 use Rattle.json_core.proofs.Ordered.{Entries, insert, is_there_cons}
 
@@ -158,9 +158,3 @@ lent_count [] = refl
 lent_count (e ∷ es) = ap suc (lent_count es)
 
 -- ---- the first field
-
--- of fields that there are, the order is the one from the first on
-pub key_order_is : (fs : List Field) → 0 < length fs →
-    option_map positions_of (order_from fs 0 []) ≡ key_order fs
-key_order_is [] h = absurd (omega (arith, h))
-key_order_is (f ∷ fs) h = refl

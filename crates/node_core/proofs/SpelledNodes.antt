@@ -1,19 +1,18 @@
 -- The bytes of a node as it is kept: what is computed, and after it what lies in the pool.
-use Rattle.std.proofs.Common.{◌≡◌, ℕ, ◌+◌, ◌-◌, ◌*◌, ◌^◌, ◌≤◌, ◌<◌, Bool, true, false, cond, List}
+use Rattle.std.proofs.Common.{◌≡◌, ℕ, ◌+◌, ◌-◌, ◌≤◌, ◌<◌, Bool, true, false, List}
 use Rattle.std.proofs.Common.{[], ◌∷◌, ◌++◌, length, take, drop, Option, refl, sym, ap, subst, ◌∙◌}
 use Rattle.std.proofs.Common.{arith}
-use Rattle.std.specs.Prelude.{ℤ, pos, negsuc, neg_ℤ, nat_lt, slice_set, slice_range}
+use Rattle.std.specs.Prelude.{ℤ, pos, negsuc, slice_set, slice_range}
 use mir.Val.{bool_byte as byte_of}
 use Rattle.std.specs.Int.{w32, w128, cast_unsigned, to_le_bytes}
 use Rattle.std.proofs.lemmas.List.{append-nil, take_at, length-take, length-drop}
 use Rattle.scale_core.specs.Compact.{compact}
 use Rattle.scale_core.specs.Number.{le_bytes, bool_byte}
-use Rattle.scale_core.proofs.Numbers.{length-le_bytes, neg-pos}
+use Rattle.scale_core.proofs.Numbers.{length-le_bytes}
 use Rattle.scale_core.proofs.Fronts.{take-to_le_bytes_16, to_le_bytes_4}
 use Rattle.registry_core.specs.declared.definition.TypeDef.{TypeDef}
 use Rattle.grammar_core.specs.Spelled.{width_of, word, index_of, index_byte, length_bytes}
-use Rattle.node_core.specs.Shown.{signed_from, long_shown, kept_bytes}
-use Rattle.node_core.specs.Encoding.{Starts, pool_bytes}
+use Rattle.node_core.specs.Encoding.{Starts}
 use Rattle.node_core.specs.declared.node.Content.{Content}
 use Rattle.node_core.specs.declared.node.Content.TheVariants as is
 
@@ -45,15 +44,6 @@ char_front part back spelled n x front all same =
     take_at part back 4 (ap length is) ∙ is
 
 -- ---- an integer in two's complement
-
--- a number below 2^128 is the word of the integer that it stands for, on either side of 0
-word_by : (n : ℕ) (b : Bool) → n < 2 ^ 128 → word (cond b (pos n) (neg_ℤ (pos (2 ^ 128 - n)))) ≡ n
-word_by n true h = refl
-word_by n false h = ap word (neg-pos (2 ^ 128 - n) (omega arith)) ∙ omega arith
-
--- a number below 2^128 is the word of the integer that it stands for
-pub word-signed_from : (n : ℕ) → n < 2 ^ 128 → word (signed_from n) ≡ n
-word-signed_from n h = word_by n (nat_lt (2 * n) (2 ^ 128)) h
 
 -- an integer cast to 128 bits without sign is its word
 word-of : (z : ℤ) → cast_unsigned w128 z ≡ word z
@@ -99,24 +89,6 @@ pub starts_compact : (f : List ℕ) (d : Option TypeDef) (pool : List ℕ) (k n 
     Starts f d pool k (is.Compact n)
 starts_compact f d pool k n e = append-nil f ∙ e
 
--- the bytes of an unsigned integer kept in the pool are it in as many bytes as the type has
-pub starts_long_unsigned : (f : List ℕ) (d : Option TypeDef) (pool : List ℕ) (k start : ℕ) →
-    f ≡ le_bytes (width_of d) (long_shown pool start) → Starts f d pool k (is.LongUnsigned start)
-starts_long_unsigned f d pool k start e = append-nil f ∙ e
-
--- the bytes of a signed integer kept in the pool are its word in as many bytes as the type has
-pub starts_long_signed : (f : List ℕ) (d : Option TypeDef) (pool : List ℕ) (k m start : ℕ) →
-    m < 2 ^ 128 → f ≡ le_bytes (width_of d) m → m ≡ long_shown pool start →
-    Starts f d pool k (is.LongSigned start)
-starts_long_signed f d pool k m start h e same = append-nil f ∙ e
-    ∙ ap (le_bytes (width_of d)) (sym (word-signed_from m h)
-    ∙ ap (λ (x : ℕ). word (signed_from x)) same)
-
--- the bytes of a compact integer kept in the pool are its compact spelling
-pub starts_long_compact : (f : List ℕ) (d : Option TypeDef) (pool : List ℕ) (k start : ℕ) →
-    f ≡ compact (long_shown pool start) → Starts f d pool k (is.LongCompact start)
-starts_long_compact f d pool k start e = append-nil f ∙ e
-
 -- the bytes of a count's node are its compact spelling
 pub starts_count : (f : List ℕ) (d : Option TypeDef) (pool : List ℕ) (k n : ℕ) → f ≡ compact n →
     Starts f d pool k (is.Count n)
@@ -155,13 +127,3 @@ pub starts_bytes : (f : List ℕ) (d : Option TypeDef) (pool : List ℕ) (k len 
 starts_bytes f d pool k len start h e =
     ap (λ (x : List ℕ). x ++ slice_range pool start (start + len))
     (e ∙ ap (length_bytes d) (sym (length-range pool start len h)))
-
--- what lies in the pool as it is written is no more than the node keeps there
-pub few_pooled : (pool : List ℕ) (c : Content) → length (pool_bytes pool c) ≤ kept_bytes c
-few_pooled pool (is.Text len start) =
-    omega (arith, length-take (start + len - start) (drop start pool))
-few_pooled pool (is.Bytes len start) =
-    omega (arith, length-take (start + len - start) (drop start pool))
-few_pooled pool (is.Wide start) =
-    omega (arith, length-take (start + 32 - start) (drop start pool))
-few_pooled pool _ = omega arith

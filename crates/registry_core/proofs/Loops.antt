@@ -1,7 +1,6 @@
 -- Reading parts one after the other, as a loop does.
-use Rattle.std.proofs.Common.{◌≡◌, ℕ, suc, ◌-◌, ◌+◌, ◌≤◌, ◌<◌, List, [], ◌∷◌, ◌++◌, Ok, Err, refl}
+use Rattle.std.proofs.Common.{◌≡◌, ℕ, suc, ◌-◌, ◌+◌, ◌<◌, List, [], ◌∷◌, ◌++◌, Ok, Err, refl}
 use Rattle.std.proofs.Common.{sym, ap, ◌∙◌, append_assoc, arith}
-use Rattle.std.proofs.lemmas.List.{append-nil}
 use Rattle.scale_core.specs.Read.{Read, ◌>>=◌}
 use Rattle.registry_core.specs.declared.fault.RegistryReason.{RegistryReason}
 use Rattle.registry_core.specs.declared.reading.stop.Stop.{Stop}
@@ -51,16 +50,6 @@ ends part (Fault reason left) front count i bytes total lt h so_far =
     let k : count - i ≡ suc (count - (i + 1)) = omega arith in
     let one : with_front front (repeated (count - i) part bytes) ≡ Err (reason, left.now) =
     rw (k, h) refl in
-    sym so_far ∙ one
-
--- where no part is left to read, the list is what was read
-pub is_done : {X : Type 0} (part : Reader X) (front : List X) (count i : ℕ) (bytes : List ℕ)
-    (total : Read RegistryReason (List X)) → count ≤ i →
-    with_front front (repeated (count - i) part bytes) ≡ total → total ≡ Ok (front, bytes)
-is_done part front count i bytes total le so_far =
-    let k : count - i ≡ 0 = omega arith in
-    let one : with_front front (repeated (count - i) part bytes) ≡ Ok (front, bytes) =
-    rw k (ap (λ (xs : List _). Ok (xs, bytes)) (append-nil front)) in
     sym so_far ∙ one
 
 -- ---- types, each after its position

@@ -18,11 +18,6 @@ number-take-suc zero (b ∷ bs) = omega arith
 number-take-suc (suc k) [] = omega arith
 number-take-suc (suc k) (b ∷ bs) = rw (number-take-suc k bs, pow-suc 256 k) (omega arith)
 
--- the worth of a byte is the byte times 256 to its place
-byte_worth-is : (i b : ℕ) → byte_worth i b ≡ b * 256 ^ i
-byte_worth-is zero b = omega arith
-byte_worth-is (suc i) b = refl
-
 -- the worths of the bytes through a place add up to the number of that front
 sum_through-number : (k : ℕ) (bs : List ℕ) →
     sum_through (λ i. byte_worth i (slice_index bs i)) k ≡ number (take (suc k) bs)

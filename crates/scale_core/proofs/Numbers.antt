@@ -2,11 +2,11 @@
 use Rattle.std.proofs.Common.{◌≡◌, ℕ, zero, suc, ◌+◌, ◌-◌, ◌*◌, ◌/◌, ◌%◌, ◌^◌, ◌<◌, ◌≤◌, Bool, true}
 use Rattle.std.proofs.Common.{false, cond, List, [], ◌∷◌, ◌++◌, length, refl, sym, ap, ◌∙◌, arith}
 use Rattle.std.proofs.Common.{inl, inr}
-use Rattle.std.specs.Prelude.{ℤ, pos, negsuc, neg_ℤ, nat_lt}
+use Rattle.std.specs.Prelude.{ℤ, pos, negsuc, neg_ℤ}
 use Rattle.std.proofs.lemmas.Bool.{cases_lt, le-ltb, lt-ltb}
 use Rattle.std.proofs.Math.Nat.{pow-suc, pow-le-pow_right}
 use Rattle.scale_core.specs.Compact.{bytes_needed}
-use Rattle.scale_core.specs.Number.{AreBytes, number, signed_number, le_bytes}
+use Rattle.scale_core.specs.Number.{AreBytes, number, le_bytes}
 
 -- a number has as many bytes as are asked for
 pub length-le_bytes : (k n : ℕ) → length (le_bytes k n) ≡ k
@@ -98,15 +98,3 @@ signed_same range m n false false h k e =
     let e' : negsuc (range - m - 1) ≡ negsuc (range - n - 1) =
     sym (neg-pos (range - m) (omega arith)) ∙ e ∙ neg-pos (range - n) (omega arith) in
     let same : range - m - 1 ≡ range - n - 1 = cc in omega (arith, same)
-
--- two lists of as many bytes that stand for the same signed number are the same
-pub signed_one : (a b : List ℕ) → AreBytes a → AreBytes b → length a ≡ length b →
-    signed_number a ≡ signed_number b → a ≡ b
-signed_one a b h k len e =
-    let range = 256 ^ length a in
-    let less : number b < range = rw len (number-bound b k) in
-    let e' : signed_number_from (nat_lt (2 * number a) range) range (number a)
-    ≡ signed_number_from (nat_lt (2 * number b) range) range (number b) = e
-    ∙ ap (λ (l : ℕ). signed_number_from (nat_lt (2 * number b) (256 ^ l)) (256 ^ l) (number b))
-    (sym len) in
-    number_one a b h k len (signed_same range (number a) (number b) _ _ (number-bound a h) less e')

@@ -132,11 +132,6 @@ pub cond_extends : {E X : Type 0} (cut : E) (more : List ℕ) (t : Bool) (x y x'
 cond_extends cut more true x y x' y' f g = f
 cond_extends cut more false x y x' y' f g = g
 
--- a fault whose place is a front of what is longer
-pub fault_extends : {E X : Type 0} (cut e : E) (left more : List ℕ) →
-    Extends {X = X} cut more (Err (e, left)) (Err (e, left ++ more))
-fault_extends cut e left more = λ ne. refl
-
 -- a form is judged alike in a longer input, where its bytes are read alike
 form_extends : (m : Target) (b more : List ℕ) (r s : Read Reason (List ℕ)) →
     Extends Truncated more r s →

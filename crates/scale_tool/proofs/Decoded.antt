@@ -1,6 +1,6 @@
 -- What the decoder's answer says of the value that all the bytes spell.
 use Rattle.std.proofs.Common.{◌≡◌, ℕ, ◌<◌, ◌≤◌, List, [], ◌++◌, length, Bool, true, false}
-use Rattle.std.proofs.Common.{Option, Some, None, option_and_then, Result, Ok, Err}
+use Rattle.std.proofs.Common.{Option, Some, None, Result, Ok, Err}
 use Rattle.std.proofs.Common.{refl, sym, ap, ◌∙◌, arith, subst, inl, inr}
 use Rattle.std.specs.Prelude.{IfSome, nat_lt}
 use Rattle.registry_core.specs.declared.type_info.TypeInfo.{TypeInfo}
@@ -25,11 +25,10 @@ use Rattle.scale_tool.specs.Refused.{bytes_in_value, bytes_refusal, IsOfBytes, b
 use Rattle.scale_tool.specs.Refused.{calls_refusal, stream_refusal, status_of_bytes}
 use Rattle.scale_tool.specs.Refused.{status_of_value}
 use Rattle.scale_tool.specs.declared.refusal.BytesRefusal.{BytesRefusal}
-use Rattle.scale_tool.specs.declared.refusal.HexFault.{HexFault}
 use Rattle.scale_tool.specs.declared.refusal.BytesRefusal.TheVariants as bytes
 use Rattle.scale_tool.specs.declared.refusal.ValueRefusal.{ValueRefusal as FileRefusal}
 use Rattle.scale_tool.specs.HexText.{hex_bytes}
-use Rattle.scale_tool.specs.Values.{ReportsBytes, ReportsFile, decoding, file_value, reported}
+use Rattle.scale_tool.specs.Values.{ReportsBytes, ReportsFile, decoding, reported}
 use Rattle.scale_tool.specs.Values.{value_bytes}
 use Rattle.scale_tool.specs.Values.{value_of_type}
 
@@ -235,31 +234,9 @@ stream_opens id depth types limits f is known served h why opened =
 
 -- ---- the value of a text of digits
 
--- where the text holds no bytes
-pub hex_none : (id depth : ℕ) (types : List TypeInfo) (file : List ℕ) (f : HexFault) →
-    hex_bytes file ≡ Err f → file_value true id depth types file ≡ None
-hex_none id depth types file f is =
-    ap (λ r. option_and_then (value_of_type id depth types) (reported r)) is
-
--- where it holds these
-pub hex_some : (id depth : ℕ) (types : List TypeInfo) (file b : List ℕ) → hex_bytes file ≡ Ok b →
-    file_value true id depth types file ≡ value_of_type id depth types b
-hex_some id depth types file b is =
-    ap (λ r. option_and_then (value_of_type id depth types) (reported r)) is
-
 -- the bytes that were gathered are those of the file
 gathered : (old new text file : List ℕ) → old ≡ [] → new ≡ old ++ file → text ≡ new → text ≡ file
 gathered old new text file none all is = is ∙ all ∙ ap (λ x. x ++ file) none
-
--- where the bytes of the digits are refused
-pub hex_refused : (id depth : ℕ) (types : List TypeInfo) (old new text file b : List ℕ)
-    (e : BytesRefusal) (r : FileRefusal) → old ≡ [] → new ≡ old ++ file → text ≡ new →
-    hex_bytes text ≡ Ok b →
-    r ≡ bytes_in_value e → (status_of_bytes e ≡ 1 → value_of_type id depth types b ≡ None) →
-    status_of_value r ≡ 1 → file_value true id depth types file ≡ None
-hex_refused id depth types old new text file b e r none all same is made h one =
-    hex_some id depth types file b (ap hex_bytes (sym (gathered old new text file none all same))
-    ∙ is) ∙ h (sym (ap status_of_value made) ∙ one)
 
 -- a refusal of the bytes whose digits a file holds is reported of the file
 pub hex_reports : (j : Job) (old new text file b : List ℕ) (e : BytesRefusal) (r : FileRefusal) →

@@ -1,20 +1,11 @@
 -- Bytes that move in parts move as a whole.
-use Rattle.std.proofs.Common.{refl, ◌≡◌, ℕ, ◌+◌, ◌≤◌, List, ◌++◌, length, take, drop, Option, Some}
+use Rattle.std.proofs.Common.{◌≡◌, ℕ, ◌+◌, ◌≤◌, List, ◌++◌, length, take, drop, Option, Some}
 use Rattle.std.proofs.Common.{None, append_assoc, sym, ◌∙◌, ap, arith}
 use Rattle.std.proofs.Math.Seq.{take-add}
-use Rattle.std.proofs.lemmas.List.{take_all, take_at, drop_at, drop-drop, length-take, length-drop}
+use Rattle.std.proofs.lemmas.List.{take_all, drop-drop, length-drop}
 use Rattle.std.specs.Prelude.{IfSome}
-use Rattle.std.specs.Io.KnownBytes.{Consumes, IsAtEnd}
+use Rattle.std.specs.Io.KnownBytes.{IsAtEnd}
 use Rattle.scale_tool.specs.Moved.{LeavesReader}
-
--- what a reader lost is what it had on its front
-pub takes_front : (a b : Option (List ℕ)) (old new part : List ℕ) (n : ℕ) → n ≤ length part →
-    Consumes a b (take n part) → new ≡ old ++ take n part → LeavesReader a b old new n
-takes_front None b old new part n le p e = tt
-takes_front (Some xs) None old new part n le p e = absurd p
-takes_front (Some xs) (Some ys) old new part n le p e =
-    let long : length (take n part) ≡ n = omega (arith, length-take n part) in
-    (rw (p, take_at (take n part) ys n long) e, rw (p, drop_at (take n part) ys n long) refl)
 
 -- a part, and then a part
 pub takes_next : (a b c : Option (List ℕ)) (x y z : List ℕ) (m n k : ℕ) → k ≡ m + n →

@@ -1,5 +1,5 @@
 -- The answers of the runs as a whole, to a reader and to pieces, by what was fed.
-use Rattle.std.proofs.Common.{◌≡◌, ℕ, ◌+◌, ◌<◌, true, List, [], ◌∷◌, ◌++◌, length, take, drop}
+use Rattle.std.proofs.Common.{◌≡◌, ℕ, ◌+◌, ◌<◌, List, [], ◌∷◌, ◌++◌, length, take, drop}
 use Rattle.std.proofs.Common.{get_or, Option, Some, None, Ok, Err, refl, sym, ap, subst, ◌∙◌}
 use Rattle.std.proofs.Common.{append-nil, inl, inr, flat_map}
 use Rattle.std.specs.Prelude.{IfSome, Result, ◌⊎◌}
@@ -10,7 +10,7 @@ use Rattle.node_core.specs.Shown.{Seen}
 use Rattle.decode_core.specs.Decoding.{Decoding, FinishesDecoder, IsEnded, Led}
 use Rattle.decode_core.specs.Outcome.{Job, done, more, IsOutcome}
 use Rattle.stream_core.specs.Streaming.{EndsAt, FeedsAll, IsFed, IsUnderWay, Joins, StopsOpen}
-use Rattle.stream_core.specs.Streaming.{Streams, Trails}
+use Rattle.stream_core.specs.Streaming.{Streams}
 use Rattle.decode_core.specs.declared.fault.DecodeFault.{DecodeFault}
 use Rattle.decode_core.specs.declared.fault.OpenFault.{OpenFault}
 use Rattle.stream_core.specs.declared.pieces.PiecesFault.TheVariants as pieces
@@ -52,14 +52,6 @@ end_streams (Some xs) o j d b f none same is h = (
       (subst (λ (l : List ℕ). FinishesDecoder d.job l (Err f)) (sym is) h),
 )
 
--- that bytes follow the value is the answer to a reader, where its bytes are known
-pub trailing_streams : (known left : Option (List ℕ)) (o : Option OpenFault) (j : Job)
-    (d : Decoding) → o ≡ None → d.job ≡ j → FeedsAll d known left (Ok true) →
-    IfSome known (λ bytes. Streams o j bytes (Err (stream.TrailingBytes d.taken)))
-trailing_streams None left o j d none same h = tt
-trailing_streams (Some xs) left o j d none same h =
-    (none, subst (λ (i : Job). Trails i d.taken xs) same h)
-
 -- a decoder's fault on a reader's bytes is the answer to it, where these are known
 refused_streams : (known : Option (List ℕ)) (o : Option OpenFault) (j : Job) (d : Decoding)
     (f : DecodeFault) → o ≡ None → d.job ≡ j →
@@ -94,19 +86,6 @@ pub stopped_open : {V : Type 0} (known left : Option (List ℕ)) (j : Job) (d : 
 stopped_open known left j d e same both h = let is : e ≡ stream.Device = cc in
     subst (λ (i : Job). StopsOpen i known left) same
     (subst (λ (x : StreamFault). FeedsAll d known left (Err x)) is h)
-
--- a fault of opening that answers all bytes answers those of a reader
-pub forbidden_streams : (known : Option (List ℕ)) (o : Option OpenFault) (j : Job) (e : OpenFault) →
-    ((b : List ℕ) → Streams o j b (Err (stream.Open e))) →
-    IfSome known (λ bytes. Streams o j bytes (Err (stream.Open e)))
-forbidden_streams None o j e h = tt
-forbidden_streams (Some xs) o j e h = h xs
-
--- what is fed is never a fault of opening
-pub feeds_no_open : {X : Type 0} (d : Decoding) (known left : Option (List ℕ)) (e : StreamFault)
-    (f : OpenFault) → e ≡ stream.Open f → FeedsAll d known left (Err e) → X
-feeds_no_open d known left e f is h = let none : FeedsAll d known left (Err (stream.Open f)) =
-    subst (λ (x : StreamFault). FeedsAll d known left (Err x)) is h in absurd none
 
 -- ---- to pieces
 

@@ -12,7 +12,7 @@ use Rattle.grammar_core.specs.Tree.{Tree}
 use Rattle.decode_core.specs.Decoding.{AnswersPiece, Decoding, FinishesDecoder, IsEnded, Led}
 use Rattle.decode_core.specs.Decoding.{OpensDecoder, first_of_all}
 use Rattle.decode_core.specs.Outcome.{Job, done, more, IsOutcome}
-use Rattle.stream_core.specs.Streaming.{EndsAt, FeedsAll, Forbids, IsUnderWay, LeavesOpen, Looks}
+use Rattle.stream_core.specs.Streaming.{EndsAt, FeedsAll, IsUnderWay, LeavesOpen, Looks}
 use Rattle.stream_core.specs.Streaming.{StopsOpen, Trails}
 use Rattle.decode_core.specs.declared.decoder.Progress.{Progress}
 use Rattle.decode_core.specs.declared.decoder.Progress.TheVariants as progress
@@ -31,12 +31,6 @@ pub opened : (o : Option OpenFault) (first d : Decoding) → OpensDecoder o firs
     × (d ≡ first)
 opened None first d h = (refl, h)
 opened (Some f) first d h = absurd h
-
--- a fault of opening is what forbids a decoder, or want of memory where nothing does
-pub forbids : (o : Option OpenFault) (first : Decoding) (e : OpenFault) →
-    OpensDecoder o first (Err e) → Forbids o e
-forbids None first e h = inr (h, refl)
-forbids (Some f) first e h = inl (ap (λ (x : OpenFault). Some x) (sym h))
 
 -- a decoder that has taken nothing is under way on no bytes
 pub starts : (types : List TypeInfo) (root : ℕ) (limits : Limits) (d : Decoding) →

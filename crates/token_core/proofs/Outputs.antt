@@ -11,8 +11,7 @@ use Rattle.std.proofs.lemmas.Fmt.{decimal_by_steps_wide}
 use Rattle.std.proofs.lemmas.List.Sums.{fold-append}
 use Rattle.std.proofs.lemmas.Result.{on_ok_weaker}
 use Rattle.std.proofs.lemmas.Str.{IsUtf8-append, IsUtf8-nil, IsUtf8-from_ascii}
-use Rattle.std.specs.Bool.{OnTrue}
-use Rattle.std.proofs.lemmas.Bool.{cases_lt, cases_eq, and_parts}
+use Rattle.std.proofs.lemmas.Bool.{cases_eq, and_parts}
 use Rattle.std.proofs.lemmas.Str.Ascii.{IsAscii-nil, IsAscii-cons}
 use Rattle.std.specs.Str.{IsAscii}
 use Rattle.hex.proofs.HexLemmas.{IsAscii-encode_with}
@@ -20,7 +19,6 @@ use Rattle.hex.specs.Hex.{encode_with, encode_lower, lower_digits}
 use Rattle.json.specs.Run.{is_plain}
 use Rattle.json.proofs.Printed.Plain.{escape_on_plain}
 use Rattle.json.specs.Filled.{Placed}
-use Rattle.json.specs.Written.{PlainBetween}
 use Rattle.json.specs.Token.{Token, begin_object, end_object, begin_array, end_array, key, string}
 use Rattle.json.specs.Print.{begins, ends, token_text, print_from, print, escape_byte, escape}
 use Rattle.json.proofs.Printed.Strings.{escape_byte_plain}
@@ -116,17 +114,6 @@ pub array_member_ended : (w : Text) →
 unfolding print_from
 array_member_ended w = ap (λ (l : List ℕ). record { text = w.text ++ l; after_value = true })
     (sym (ap (λ (l : List ℕ). l ++ 93 ∷ 125 ∷ []) (no_comma w.after_value)))
-
--- the first n bytes and the last n are all
-pub both_ends : (d : List ℕ) (b : Bool) (n : ℕ) → n ≤ length d → length d < n + n →
-    PlainBetween d 0 n → OnTrue b (PlainBetween d (length d - n) ((length d - n) + n)) →
-    OnTrue b (PlainBetween d 0 (length d))
-both_ends d true n low high front back =
-    λ k from to. elim (cases_lt k n) [
-      | inl h ↦ front k from h
-      | inr h ↦ back k (omega (arith, h, high)) (omega (arith, to, low))
-    ]
-both_ends d false n low high front back = tt
 
 -- a text is escaped part by part
 escape_append : (a b : List ℕ) → escape (a ++ b) ≡ escape a ++ escape b

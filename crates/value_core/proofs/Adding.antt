@@ -13,7 +13,7 @@ use Rattle.grammar_core.specs.Begun.{IsOpenAs}
 use Rattle.grammar_core.specs.Parts.{Part, how_many_left}
 use Rattle.grammar_core.specs.Preorder as head
 use Rattle.grammar_core.specs.Tree as tree
-use Rattle.grammar_core.specs.Preorder.{Head, head_of, tree_with}
+use Rattle.grammar_core.specs.Preorder.{Head, tree_with}
 use Rattle.grammar_core.specs.Cells.{Cell, cells}
 use Rattle.node_core.specs.Shown.{head_shown, cell_shown, cells_shown, size_shown, signed_from}
 use Rattle.node_core.specs.Shown.{kept_bytes, all_kept, IsInPool, AreInPool}
@@ -298,17 +298,6 @@ open_added ty w pool ns n text_len p b l at size = by b.room refl where
         ));
         fits = omega (arith, b.fits, kept_snoc ns n, shown.none_kept);
       }
-
--- the entries are one more, and as many as the nodes
-pub open_entries : (pool : List ℕ) (ns : List Node) (n : Node) (t : ℕ) (kind : Branch) (count : ℕ) →
-    n.ty.0 ≡ t → head_shown [] n.children n.content ≡ head.branch kind count →
-    (entries_shown pool (ns ++ n ∷ [])
-    ≡ entries_shown pool ns ++ entry_of t (head_shown [] n.children n.content) ∷ [])
-    × (length (entries_shown pool ns) ≡ length ns)
-open_entries pool ns n t kind count at e = (
-  map-append _ ns (n ∷ []) ∙ rw (at, (open_shown pool n.children n.content kind count e).same) refl,
-  length-map ns _,
-)
 
 -- ---- bytes of an open run
 

@@ -13,7 +13,7 @@ use Rattle.value_core.specs.Spine.{OpenNode, open_part, Spine}
 use Rattle.value_core.specs.Walked.{OpenPart, Walked, Closes, advanced, advanced_in, opened}
 use Rattle.value_core.specs.Built.{IsSettled, closings, entries_shown, entries_text_bytes}
 use Rattle.value_core.specs.Built.{settled_in, settled_walk}
-use Rattle.value_core.specs.Building.{IsBuilding, IsPaid, AreBuilt, Settles, pieces_shown}
+use Rattle.value_core.specs.Building.{IsBuilding, IsPaid, Settles, pieces_shown}
 use Rattle.value_core.specs.declared.open_run.OpenRun.{OpenRun}
 use Rattle.node_core.specs.declared.node.Content.{Content}
 use Rattle.node_core.specs.declared.node.Content.TheVariants as content
@@ -170,29 +170,6 @@ closing_settles old new ns n k place g e c = record {
   entries = λ pool. entries_resized pool ns n k place g;
   builds = λ ty pool text_len b. (closing ty old new pool ns text_len place b c).builds n k g e;
 }
-
--- closing no node at all counts as closing some that are whole
-pub nothing_settles : (w : Walked) (ns : List Node) → Settles w ns w ns
-nothing_settles w ns = record {
-  walk = refl;
-  entries = λ pool. refl;
-  builds =
-      λ ty pool text_len b. b;
-}
-
--- closing some nodes that are whole and then more of them is closing all of these
-pub settles_on : (u v w : Walked) (xs ys zs : List Node) → Settles u xs v ys → Settles v ys w zs →
-    Settles u xs w zs
-settles_on u v w xs ys zs h k = record {
-  walk = k.walk ∙ h.walk;
-  entries = λ pool. k.entries pool ∙ h.entries pool;
-  builds = λ ty pool text_len b. k.builds ty pool text_len (h.builds ty pool text_len b);
-}
-
--- nodes of a value that is being built are still so after some that are whole were closed
-pub settles_built : (old new : Walked) (before after : List Node) → Settles old before new after →
-    AreBuilt old before → AreBuilt new after
-settles_built old new before after h b = (b.0, b.1, b.2, h.builds b.0 b.1 b.2 b.3)
 
 -- what is settled stays so
 again : (fs : List OpenPart) → settled_in (settled_in fs) ≡ settled_in fs

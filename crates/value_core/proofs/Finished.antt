@@ -59,11 +59,6 @@ text_of_value r t v pool ns e = text_of_entries pool ns
     ∙ ap (λ (cs : List Cell). heads_text (bare_heads cs)) e ∙ ap heads_text (cells_preorder r t v)
     ∙ text_of_preorder v
 
--- the nodes of a whole value have as many bytes of text as its tree
-pub text_of_nodes : (r : List TypeInfo) (pool : List ℕ) (ns : List Node) → IsWhole r pool ns →
-    entries_text_bytes (entries_shown pool ns) ≡ text_bytes (tree_shown pool ns)
-text_of_nodes r pool ns h = text_of_value r (type_shown ns) (tree_shown pool ns) pool ns h.nodes
-
 -- the nodes are those of a value of the type
 pub record IsFinished (types : List TypeInfo) (ty : ℕ) (pool : List ℕ) (ns : List Node)
     (text_len : ℕ) : Type 0 where

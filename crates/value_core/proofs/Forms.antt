@@ -128,20 +128,10 @@ pub fields_layout : (r : List TypeInfo) (t : ℕ) → form_of r t ≡ next.Wants
     (ts : List ℕ) × (layout r t ≡ layout.fields ts)
 fields_layout r t e = form_layout r t form.Fields e
 
--- a type whose form is that of an arm is laid out by arms
-pub arm_layout : (r : List TypeInfo) (t : ℕ) → form_of r t ≡ next.Wants form.Arm → (arms : List Arm)
-    × (layout r t ≡ layout.arms arms)
-arm_layout r t e = form_layout r t form.Arm e
-
 -- a type whose form is that of an array is laid out as an array of this length
 pub array_layout : (r : List TypeInfo) (t n : ℕ) → form_of r t ≡ next.Wants (form.Array n) → (u : ℕ)
     × (layout r t ≡ layout.array n u)
 array_layout r t n e = form_layout r t (form.Array n) e
-
--- a type whose form is that of a sequence is laid out as a sequence
-pub sequence_has_layout : (r : List TypeInfo) (t : ℕ) → form_of r t ≡ next.Wants form.Sequence →
-    (u : ℕ) × (layout r t ≡ layout.sequence u)
-sequence_has_layout r t e = form_layout r t form.Sequence e
 
 -- a type whose form is a count alone is laid out as the length alone
 pub count_layout : (r : List TypeInfo) (t : ℕ) → form_of r t ≡ next.Wants form.Count →

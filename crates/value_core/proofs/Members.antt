@@ -11,7 +11,7 @@ use Rattle.registry_core.specs.declared.type_info.TypeInfo.{TypeInfo}
 use Rattle.grammar_core.specs.Parts.{each, first_of, left_after}
 use Rattle.widths_core.specs.Steps.{AreParts}
 use Rattle.value_core.specs.Frames.{followed_by, frames_of, left_by, members_before, members_of}
-use Rattle.value_core.specs.Frames.{open_part_of, parts_by, copies_of, AreWithin, IsWithin}
+use Rattle.value_core.specs.Frames.{open_part_of, parts_by, AreWithin, IsWithin}
 use Rattle.value_core.specs.declared.left.Left.{Left}
 use Rattle.value_core.specs.declared.left.Frame.{Frame}
 
@@ -69,25 +69,6 @@ none_left refs l h = go l.count l.end h.counted h.there where
       let less = f (omega arith) in
       rw (slice_get-get_or refs (end - suc n) 0 (omega (arith, less, w)))
       (ne_eqb (suc n) 0 (λ e. absurd (omega (arith, e))))
-
--- with one less to come they are still there
-pub within_less : (refs : List ℕ) (l : Left) (n : ℕ) → n ≤ l.count → IsWithin refs l →
-    IsWithin refs (record l { count = n })
-within_less refs l n less h = record {
-  counted = λ some. omega (arith, less, h.counted some);
-  there = h.there;
-}
-
--- so many of one type need none
-pub copies_within : (refs : List ℕ) (count t : ℕ) → IsWithin refs (copies_of count t)
-copies_within refs count t =
-    record { counted = λ some. absurd (omega (arith, some)); there = omega arith }
-
--- a piece of all references is there
-pub members_within : (refs : List ℕ) (from count : ℕ) (ts : List ℕ) → AreParts refs from count ts →
-    IsWithin refs (members_of from count)
-members_within refs from count ts h =
-    record { counted = λ some. omega arith; there = omega (arith, h.within) }
 
 -- and so where one more node is open
 pub within_append : (refs : List ℕ) (fs : List Frame) (f : Frame) → AreWithin refs fs →

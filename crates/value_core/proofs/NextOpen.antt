@@ -13,15 +13,14 @@ use Rattle.widths_core.specs.Classes.{is_finite}
 use Rattle.widths_core.specs.Layouts.{Layout, layout}
 use Rattle.widths_core.specs.Layouts as layout
 use Rattle.grammar_core.specs.Begun.{BranchOpens}
-use Rattle.grammar_core.specs.Parts.{Part, each, times, how_many_left}
+use Rattle.grammar_core.specs.Parts.{Part, each, how_many_left}
 use Rattle.grammar_core.specs.Preorder as head
 use Rattle.grammar_core.specs.Tree as tree
 use Rattle.grammar_core.specs.declared.form.Form.{Form}
 use Rattle.grammar_core.specs.declared.form.Form.TheVariants as form
 use Rattle.grammar_core.specs.declared.form.Next.TheVariants as next
-use Rattle.grammar_core.specs.Cells.{fields_part, list_part}
 use Rattle.value_core.specs.Built.{Built, IsNextOpen, arm_in, next_layout, type_or_0, with_arm}
-use Rattle.value_core.specs.Built.{with_fields, with_list, with_open}
+use Rattle.value_core.specs.Built.{with_open}
 use Rattle.value_core.specs.Opened.{OpensFields, OpensArm, OpensElements, IsListNext}
 use Rattle.value_core.specs.Walked.{Walked, next_of, next_type}
 use Rattle.value_core.proofs.Forms.{wanted}
@@ -120,23 +119,6 @@ arm_next w index q p h e o = by (arm_of o.arms index) refl o.found_is where
 laid_next : (b : Built) (t : ℕ) → next_type b.walk ≡ Some t →
     next_layout b ≡ layout b.walk.types t
 laid_next b t e = ap (λ (o : Option ℕ). layout b.walk.types (type_or_0 o)) e
-
--- a node opened with the parts that the next type opens is the value with its fields
-pub with_fields_is : (b : Built) (p : Part) → OpensFields b.walk p →
-    with_open b (head.branch tree.fields (how_many_left p)) p ≡ with_fields b
-with_fields_is b p o = ap (λ (q : Part). with_open b (head.branch tree.fields (how_many_left q)) q)
-    (o.part_is ∙ sym (ap fields_part (laid_next b o.ty o.next ∙ o.laid)))
-
--- a node opened with the elements that the next type opens is the value with its list
-pub with_list_is : (b : Built) (n : ℕ) (p : Part) → OpensElements b.walk n p →
-    with_open b (head.branch tree.list n) p ≡ with_list b n
-with_list_is b n p o =
-    ap (with_open b (head.branch tree.list n)) (o.part_is ∙ sym (by o.laid)) where
-      by : (layout b.walk.types o.ty ≡ layout.array n o.element)
-          ⊎ (layout b.walk.types o.ty ≡ layout.sequence o.element) →
-          list_part (next_layout b) n ≡ times n o.element
-      by (inl laid) = ap (λ (f : Layout). list_part f n) (laid_next b o.ty o.next ∙ laid)
-      by (inr laid) = ap (λ (f : Layout). list_part f n) (laid_next b o.ty o.next ∙ laid)
 
 -- an arm was found where the next layout has one
 abbrev arm_opening : ℕ × Arm → ℕ × Part

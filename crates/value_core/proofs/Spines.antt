@@ -27,11 +27,6 @@ abbrev pub snoc : Trees → Tree → Trees
 snoc none v = and v none
 snoc (and w ws) v = and w (snoc ws v)
 
--- with one child more there is one child more
-snoc_many : (vs : Trees) (v : Tree) → how_many (snoc vs v) ≡ suc (how_many vs)
-snoc_many none v = refl
-snoc_many (and w ws) v = ap (λ (n : ℕ). suc n) (snoc_many ws v)
-
 -- one child more fits the room where the others fit and it does
 snoc_levels : (vs : Trees) (v : Tree) (room : ℕ) → most_levels vs ≤ room → levels v ≤ room →
     most_levels (snoc vs v) ≤ room

@@ -1,25 +1,14 @@
 -- Counters and references that are added for rules.
-use Rattle.std.proofs.Common.{◌≡◌, ℕ, suc, ◌+◌, ◌≤◌, List, [], ◌∷◌, ◌++◌, length, map, take, sym}
+use Rattle.std.proofs.Common.{◌≡◌, ℕ, suc, ◌+◌, List, [], ◌∷◌, ◌++◌, length, map, sym}
 use Rattle.std.proofs.Common.{ap, ◌∙◌, arith}
 use Rattle.std.proofs.lemmas.List.{append_assoc, append-nil, map-append, length-append, length-map}
-use Rattle.std.proofs.lemmas.List.{take_all}
 use Rattle.std.proofs.lemmas.Grind.{flat_map-append}
 use Rattle.graph_core.specs.declared.graph.Graph.{Graph}
-use Rattle.widths_core.specs.declared.counter.Kind.{Kind}
 use Rattle.widths_core.specs.declared.counter.Counter.{Counter}
-use Rattle.widths_core.specs.Rules.{Rule, rule, counter_of, all_parts, numbers_from}
-use Rattle.graph_core.specs.Graphs.{IsLinked, ReadsReferences}
+use Rattle.widths_core.specs.Rules.{Rule, counter_of, all_parts, numbers_from}
+use Rattle.graph_core.specs.Graphs.{IsLinked}
 use Rattle.widths_core.specs.Linking.{AddsRules}
-use Rattle.graph_core.proofs.Linked.{ReadsParts, reads_none, reads_on}
-
--- one rule is added where its counter comes to the end and all of its parts are read for it
-pub adds_parts : (t : ℕ) (k : Kind) (ps : List ℕ) (cs ds : List Counter) (a b : Graph) (i : ℕ) →
-    length ps ≤ i → ds ≡ cs ++ counter_of (rule t k ps) ∷ [] → ReadsParts a b (length cs) i ps →
-    AddsRules (rule t k ps ∷ []) cs ds a b
-adds_parts t k ps cs ds a b i le is h =
-    let all : take i ps ≡ ps = take_all i ps le in
-    let whole : ReadsReferences a b ps (map (λ _. length cs) ps) = rw all at h in
-    record { counters = is; reads = rw (append-nil ps, append-nil (map (λ _. length cs) ps)) whole }
+use Rattle.graph_core.proofs.Linked.{reads_none, reads_on}
 
 -- ---- rules that are added
 

@@ -23,7 +23,7 @@ use Rattle.widths_core.specs.Steps.{references_of, IsArm, IsRow, IsStep, IsTable
 use Rattle.widths_core.specs.Steps.{sequence_step, array_step, row_of_step}
 use Rattle.widths_core.proofs.Settled.{is_empty_class, is_empty-arms}
 use Rattle.widths_core.proofs.Stable.{class_stable}
-use Rattle.widths_core.proofs.StepReads.{shape_none, get_none, definition_of}
+use Rattle.widths_core.proofs.StepReads.{definition_of}
 use Rattle.widths_core.proofs.Wide.{some_is}
 
 -- ---- the row of a step
@@ -138,12 +138,6 @@ row_at r refs rows steps t s p h e f =
     let d = definition_of r refs rows steps t s h e in
     let row = row_of r (references_of r) rows t d.0 s p d.1 d.2 f in
     (row.0, d.1 ∙ ap (λ (x : TypeDef). Some x) row.1, row.2)
-
--- where the table has no step for a type, the registry has no arm of it
-pub arm_unknown : (r : List TypeInfo) (refs : List ℕ) (rows : Rows) (steps : List Step) (t i : ℕ) →
-    IsTable r refs rows steps → slice_get steps t ≡ None → arm_at r t i ≡ None
-arm_unknown r refs rows steps t i h e = let le = get_none steps t e in
-    rw (shape_none r t (omega (arith, le, h.count))) refl
 
 -- where the step that is read reports no row, the type has no arm, whatever the index
 pub arm_none : (r : List TypeInfo) (refs : List ℕ) (rows : Rows) (steps : List Step) (t i : ℕ)

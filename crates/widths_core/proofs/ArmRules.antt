@@ -1,9 +1,9 @@
 -- The rules of the arms that were passed, and those of the arms that are left.
-use Rattle.std.proofs.Common.{◌≡◌, ℕ, ◌+◌, ◌<◌, ◌≤◌, Bool, true, false, cond, List, [], ◌∷◌, ◌++◌}
+use Rattle.std.proofs.Common.{◌≡◌, ℕ, ◌+◌, ◌<◌, Bool, true, false, cond, List, [], ◌∷◌, ◌++◌}
 use Rattle.std.proofs.Common.{length, get_or, take, drop, Option, Some, refl, sym, ap, ◌∙◌}
 use Rattle.std.specs.Prelude.{◌==◌, ◌||◌, is_some}
 use Rattle.std.specs.List.{list_any}
-use Rattle.std.proofs.lemmas.List.{at_drop_more, at_drop_all, append_assoc, append-nil}
+use Rattle.std.proofs.lemmas.List.{at_drop_more, append_assoc}
 use Rattle.registry_core.specs.declared.definition.Arm.{Arm}
 use Rattle.graph_core.specs.declared.graph.Graph.{Graph}
 use Rattle.widths_core.specs.declared.counter.Kind.TheVariants as kind
@@ -82,10 +82,3 @@ arms_counted t i arms x cs ds es a b c lt at lacks h k =
           ≡ is_some (cond q (Some (i, x)) (arm_of (take i arms) j))
       mark j true e = refl
       mark j false e = e
-
--- where all arms were passed, all rules of the variant were added
-pub arms_all : (t i : ℕ) (arms : List Arm) (cs ds : List Counter) (a b : Graph) → length arms ≤ i →
-    AddsArms t i arms cs ds a b → AddsRules (arm_rules t [] arms) cs ds a b
-arms_all t i arms cs ds a b le h =
-    let none : arm_rules t h.seen (drop i arms) ≡ [] = at_drop_all (arm_rules t h.seen) arms i le in
-    rw (h.left, none, append-nil h.done) h.adds

@@ -10,8 +10,8 @@ use Rattle.registry_core.specs.declared.type_info.TypeInfo.{TypeInfo}
 use Rattle.widths_core.specs.declared.rows.Rows.{Rows}
 use Rattle.widths_core.specs.declared.step.Draft.{Draft}
 use Rattle.graph_core.specs.Types.{shape}
-use Rattle.widths_core.specs.Rows.{IsPaired, HasNoRow, Keeps}
-use Rattle.widths_core.specs.Steps.{IsRow, IsDraft, AreDrafts}
+use Rattle.widths_core.specs.Rows.{IsPaired, Keeps}
+use Rattle.widths_core.specs.Steps.{IsRow, IsDraft}
 use Rattle.widths_core.proofs.Kept.{draft_kept}
 
 -- a position at which a definition stands is below the number of types
@@ -41,18 +41,6 @@ pub record DraftsTo (r : List TypeInfo) (refs : List ℕ) (rows : Rows) (i : ℕ
   pub own : (t : ℕ) (d : TypeDef) (s : Draft) → shape r t ≡ Some d → slice_get drafts t ≡ Some s →
       IsDraft refs (IsRow refs rows) d s
 
--- before the first type there are no drafts, where there is no row yet
-pub drafts_none : (r : List TypeInfo) (refs : List ℕ) (rows : Rows) → HasNoRow rows →
-    DraftsTo r refs rows 0 []
-drafts_none r refs rows h =
-    record {
-      paired = rw (h.indexes, h.arms) refl;
-      count = refl;
-      within = omega arith;
-      own =
-          λ t d s e f. absurd cc;
-    }
-
 -- with the draft of the next type, its references and its row, one type more has its draft
 pub drafts_more : (r : List TypeInfo) (xs ys zs : List ℕ) (a b : Rows) (i : ℕ) (drafts : List Draft)
     (d : TypeDef) (s : Draft) → shape r i ≡ Some d → zs ≡ xs ++ ys → IsPaired b → Keeps a b →
@@ -80,9 +68,3 @@ drafts_more r xs ys zs a b i drafts d s e read paired k new h = record {
         let def : d ≡ d' = cc in
         rw (← same_draft, ← def) new
   ]
-
--- where all types were passed, each has its draft
-pub drafts_all : (r : List TypeInfo) (refs : List ℕ) (rows : Rows) (i : ℕ) (drafts : List Draft) →
-    length r ≤ i → DraftsTo r refs rows i drafts → AreDrafts r refs rows drafts
-drafts_all r refs rows i drafts le h =
-    record { paired = h.paired; count = omega (arith, h.count, h.within, le); own = h.own }

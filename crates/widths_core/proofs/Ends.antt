@@ -13,7 +13,7 @@ use Rattle.graph_core.specs.declared.graph.Graph.{Graph}
 use Rattle.widths_core.specs.Propagation.{Follows, IsStart, IsPropagatedTo, PropagatesAll, IsBad}
 use Rattle.widths_core.specs.Propagation.{AreCompactsSettled}
 use Rattle.widths_core.proofs.RuleRight.{rule_right}
-use Rattle.widths_core.proofs.Settles.{follows_same, follows_on, completes_to, settles_to}
+use Rattle.widths_core.proofs.Settles.{follows_on, completes_to, settles_to}
 use Rattle.widths_core.proofs.Waiting.{waiting_start}
 
 -- where all is consistent, the tables have an entry for the owner of each counter
@@ -35,15 +35,6 @@ pub record BeginsTo (r : List TypeInfo) (o s : Progress) (i : ℕ) : Type 0 wher
   pub follows : Follows o s
   pub closed : (k : ℕ) → k < i → settles (rule_at r k).kind ≡ true → (counter_at s k).left ≡ 0 →
       has_settled s (rule_at r k).owner ≡ true
-
--- from consistent counters and tables, where nothing was propagated, passing the counters begins
-pub begins_first : (r : List TypeInfo) (s : Progress) → IsConsistent r [] s → BeginsTo r s s 0
-begins_first r s h = record {
-  consistent = h;
-  follows = follows_same s;
-  closed =
-      λ k lt. absurd (omega (arith, lt));
-}
 
 -- where nothing was propagated and a counter has nothing left, its rule has not one part
 no_parts : (r : List TypeInfo) (s : Progress) (k u : ℕ) → IsConsistent r [] s →
@@ -120,19 +111,6 @@ pub record SettlesBadTo (r : List TypeInfo) (propagated : List ℕ) (s n : Progr
     pub follows : Follows s n
     pub compacts : (k : ℕ) → k < i → k < length (rules r) → (rule_at r k).kind ≡ kind.Compact →
         has_settled n (rule_at r k).owner ≡ true
-
--- where all is consistent and unsettled compacts have no target, passing them begins
-pub settles_bad_first : (r : List TypeInfo) (propagated : List ℕ) (s : Progress) →
-    IsConsistent r propagated s → IsClosed r s → IsBad r s → SettlesBadTo r propagated s s 0
-settles_bad_first r propagated s h closed bad =
-    record {
-      consistent = h;
-      closed = closed;
-      bad = bad;
-      follows = follows_same s;
-      compacts =
-          λ k lt. absurd (omega (arith, lt));
-    }
 
 -- where a test that fails follows from another one, that one fails too
 unsettled_before : (b c : Bool) → (b ≡ true → c ≡ true) → c ≡ false → b ≡ false

@@ -1,8 +1,7 @@
 -- Parts, rows and drafts stay what they are while references and arms come after them.
-use Rattle.std.proofs.Common.{◌≡◌, ℕ, ◌≤◌, List, ◌++◌, length, take, drop, Option, Some, None, refl}
+use Rattle.std.proofs.Common.{ℕ, ◌≤◌, List, ◌++◌, length, take, drop, Option, Some, None, refl}
 use Rattle.std.proofs.Common.{ap, ◌∙◌, arith}
 use Rattle.std.proofs.lemmas.List.{length-append, length-drop, drop-append-le, take-append-le}
-use Rattle.std.proofs.Math.Seq.{drop-append_seam, take-length}
 use Rattle.registry_core.specs.declared.definition.Arm.{Arm}
 use Rattle.registry_core.specs.declared.definition.TypeDef.{TypeDef}
 use Rattle.registry_core.specs.declared.definition.TypeDef.TheVariants as Def
@@ -15,14 +14,6 @@ use Rattle.widths_core.specs.Rows.{Keeps, arm_at_place, index_in}
 use Rattle.widths_core.specs.Steps.{AreParts, IsArm, IsRow, IsDraft}
 
 -- ---- parts
-
--- references that come after others are a piece, which begins where the others end
-pub parts_here : (xs ys : List ℕ) (from count : ℕ) → from ≡ length xs → count ≡ length ys →
-    AreParts (xs ++ ys) from count ys
-parts_here xs ys from count f c = record {
-  within = omega (arith, f, c, length-append xs ys);
-  are = rw (f, c, drop-append_seam xs ys) (take-length ys);
-}
 
 -- a piece of the references stays that piece where more come after them
 pub parts_kept : (xs ys : List ℕ) (from count : ℕ) (ts : List ℕ) → AreParts xs from count ts →
@@ -50,14 +41,6 @@ arm_kept xs ys (Some s) None h = absurd h
 -- rows to which nothing happened keep what was there
 pub keeps_all : (a : Rows) → Keeps a a
 keeps_all a = record { count = omega arith; indexes = λ k lt. refl; arms = λ k lt. refl }
-
--- rows that keep what others keep of a third keep what was in the third
-pub keeps_on : (a b c : Rows) → Keeps a b → Keeps b c → Keeps a c
-keeps_on a b c h k = record {
-  count = omega (arith, h.count, k.count);
-  indexes = λ i lt. k.indexes i (omega (arith, lt, h.count)) ∙ h.indexes i lt;
-  arms = λ i lt. k.arms i (omega (arith, lt, h.count)) ∙ h.arms i lt;
-}
 
 -- a row stays that of its arms where references come after and the rows keep what was there
 pub row_kept : (xs ys : List ℕ) (a b : Rows) (from count : ℕ) (arms : List Arm) → Keeps a b →

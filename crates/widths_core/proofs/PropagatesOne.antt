@@ -18,7 +18,7 @@ use Rattle.graph_core.specs.Graphs.{refs, numbers, befores, IsLast, IsListed}
 use Rattle.widths_core.specs.Progress.{Progress, counter_at, part_settled, KnowsType}
 use Rattle.widths_core.specs.Consistent.{to_at, rule_number, has_settled, IsConsistent}
 use Rattle.widths_core.specs.Propagation.{Follows, Lists, IsUpToDate, IsPending, Propagates}
-use Rattle.widths_core.specs.Propagation.{IsPropagatedTo, PropagatesAll}
+use Rattle.widths_core.specs.Propagation.{IsPropagatedTo}
 use Rattle.widths_core.proofs.RuleRight.{rule_right}
 use Rattle.widths_core.proofs.Settles.{follows_same, follows_on}
 use Rattle.widths_core.proofs.Waiting.{differ, times-same, times-other, times-append}
@@ -199,21 +199,6 @@ propagates_more r a b c s n m t f e to h listed is before =
             ∙ h.propagated x small is' (omega (arith, le, other))
       ]
 
--- at the end of the list all references to the type were propagated, once each
-pub propagates_all_of : (r : List TypeInfo) (a b : Graph) (s n : Progress) (t : ℕ) (f : Found)
-    (at : ℕ) → PropagatesSo r a b s n t f at → at ≤ 0 → Propagates r a b s n t
-propagates_all_of r a b s n t f at h none = record {
-  steady = h.steady;
-  follows = h.follows;
-  lists = h.lists;
-  propagated = λ e small. propagated e small (cases_eq (to_at r e) t);
-} where
-  propagated : (e : ℕ) → e < length (all_parts (rules r)) → (to_at r e ≡ t) ⊎ (to_at r e ≢ t) →
-      times e b.looks.listed.entries ≡ times e a.looks.listed.entries + cond (to_at r e == t) 1 0
-  propagated e small (inl same) =
-      rw (eq-eqb (to_at r e) t same) (h.propagated e small same (omega (arith, none)))
-  propagated e small (inr other) = rw (differ (to_at r e) t other) (omega (arith, h.others e other))
-
 -- ---- type by type
 
 -- the references to the first types that have settled were propagated
@@ -222,12 +207,6 @@ pub record PropagatesSoFar (r : List TypeInfo) (a b : Graph) (s n : Progress) (d
     pub propagated : IsPropagatedTo r b n done
     pub follows : Follows s n
     pub lists : Lists a b
-
--- before a further type is taken, the references to those before it were propagated
-pub so_far_first : (r : List TypeInfo) (a : Graph) (s : Progress) (done : ℕ) →
-    IsPropagatedTo r a s done → PropagatesSoFar r a a s s done
-so_far_first r a s done h =
-    record { propagated = h; follows = follows_same s; lists = lists_same a }
 
 -- a number is at least once more in the list than in front of a place at which it stands
 times_at : (xs : List ℕ) (i : ℕ) → i < length xs →
@@ -296,18 +275,6 @@ so_far_more r a b c s n m done h lt k =
         swap (get_or n.settled done 0) (to_at r e),
       )
           (omega (arith, k.propagated e small, h.propagated.propagated e small))
-
--- where no settled type is left, the references to all of them were propagated
-pub so_far_all : (r : List TypeInfo) (a b : Graph) (s n : Progress) (done : ℕ) →
-    PropagatesSoFar r a b s n done → length n.settled ≤ done → PropagatesAll r a b s n done
-so_far_all r a b s n done h le =
-    record {
-      propagated = h.propagated;
-      all = omega (arith, le, h.propagated.within);
-      follows =
-          h.follows;
-      lists = h.lists;
-    }
 
 -- fewer types are left
 pub fewer : (r : List TypeInfo) (d : Graph) (s : Progress) (done : ℕ) → IsPropagatedTo r d s done →

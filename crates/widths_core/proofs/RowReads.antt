@@ -1,12 +1,12 @@
 -- What is found in a row of arms.
-use Rattle.std.proofs.Common.{◌≡◌, ℕ, ◌+◌, ◌-◌, ◌<◌, ◌≤◌, List, length, get_or, take, drop, Option}
-use Rattle.std.proofs.Common.{Result, Ok, Err, refl, sym, ap, ◌∙◌, arith, inl, inr}
+use Rattle.std.proofs.Common.{◌≡◌, ℕ, ◌+◌, ◌-◌, ◌<◌, ◌≤◌, List, length, get_or, drop, Option}
+use Rattle.std.proofs.Common.{Result, Ok, Err, refl, sym, ◌∙◌, arith, inl, inr}
 use Rattle.std.specs.List.Sorted.{IsBinarySearchResult}
 use Rattle.std.specs.Ordering.{nat_cmp}
 use Rattle.std.specs.Prelude.{MatchOption}
 use Rattle.std.specs.Result.{result_ok}
 use Rattle.std.proofs.lemmas.Bool.{cases_lt, cases_eq}
-use Rattle.std.proofs.lemmas.List.{length-drop, length-take-le, get_or-drop, get_or-take}
+use Rattle.std.proofs.lemmas.List.{length-drop, get_or-drop}
 use Rattle.std.proofs.lemmas.List.Sorted.{searched}
 use Rattle.widths_core.specs.Rows.{Rises, IsIn, Lacks, BelongsAt}
 
@@ -67,58 +67,7 @@ belongs_lacks xs f v p h j ge lt is = elim (cases_lt j p) [
   | inr above ↦ let greater = h.greater j above lt in omega (arith, greater, is)
 ]
 
--- a number below the first is none of them
-pub below_lacks : (xs : List ℕ) (v : ℕ) → v < get_or xs 0 0 → Rises xs 0 (length xs) →
-    Lacks xs 0 (length xs) v
-below_lacks xs v lt h j ge end is = elim (cases_eq j 0) [
-  | inl first ↦ let here : get_or xs 0 0 ≡ v = rw first at is in omega (arith, here, lt)
-  | inr later ↦ let less = h 0 j (omega arith) (omega (arith, later)) end in
-      omega (arith, less, is, lt)
-]
-
 -- ---- a row among others
-
--- what is read in a piece of a list is read in the list, so far after the piece's beginning
-pub read_row : (xs : List ℕ) (f n j : ℕ) → j < n →
-    get_or (take n (drop f xs)) j 0 ≡ get_or xs (f + j) 0
-read_row xs f n j lt = get_or-take n (drop f xs) j 0 lt ∙ get_or-drop f xs j 0
-
--- a piece that ends within the list is as long as it says
-pub row_length : (xs : List ℕ) (f n : ℕ) → f + n ≤ length xs → length (take n (drop f xs)) ≡ n
-row_length xs f n le = length-take-le n (drop f xs) (omega (arith, le, length-drop f xs))
-
--- a piece of a list in which the list rises rises by itself
-pub row_rises : (xs : List ℕ) (f n : ℕ) → f + n ≤ length xs → Rises xs f (f + n) →
-    Rises (take n (drop f xs)) 0 (length (take n (drop f xs)))
-row_rises xs f n le h i j ge lt end =
-    let len = row_length xs f n le in
-    rw (
-      read_row xs f n i (omega (arith, lt, end, len)),
-      read_row xs f n j (omega (arith, end, len)),
-    )
-    (h (f + i) (f + j) (omega arith) (omega (arith, lt)) (omega (arith, end, len)))
-
--- a number that is not in a piece is at none of the piece's places in the list
-pub row_lacks_all : (xs : List ℕ) (f n v : ℕ) → f + n ≤ length xs →
-    Lacks (take n (drop f xs)) 0 (length (take n (drop f xs))) v → Lacks xs f (f + n) v
-row_lacks_all xs f n v le h j ge lt is =
-    let back : f + (j - f) ≡ j = omega (arith, ge) in
-    let len = row_length xs f n le in
-    h (j - f) (omega arith) (omega (arith, ge, lt, len))
-    (read_row xs f n (j - f) (omega (arith, ge, lt)) ∙ ap (λ (k : ℕ). get_or xs k 0) back ∙ is)
-
--- a number that is in a piece is in the list, so far after the piece's beginning
-pub row_is_in : (xs : List ℕ) (f n v p : ℕ) → f + n ≤ length xs →
-    IsIn (take n (drop f xs)) 0 (length (take n (drop f xs))) v p → IsIn xs f (f + n) v (f + p)
-row_is_in xs f n v p le h =
-    let len = row_length xs f n le in
-    let lt : p < n = omega (arith, h.below, len) in
-    record {
-      above = omega arith;
-      below = omega (arith, lt);
-      is = sym (read_row xs f n p lt)
-          ∙ h.is;
-    }
 
 -- ---- a whole row
 

@@ -1,8 +1,7 @@
 -- The step that is read is that of the type, and says its class and what a compact stands for.
 use Rattle.std.proofs.Common.{◌≡◌, ℕ, zero, suc, ◌<◌, ◌≤◌, Bool, true, false, List, [], ◌∷◌, length}
-use Rattle.std.proofs.Common.{Option, Some, None, refl, sym, subst, ◌∙◌, arith, inl, inr}
+use Rattle.std.proofs.Common.{Option, Some, None, refl, sym, subst, ◌∙◌, arith}
 use Rattle.std.specs.Prelude.{slice_get}
-use Rattle.std.proofs.lemmas.Bool.{cases_lt}
 use Rattle.std.proofs.lemmas.Option.{slice_get_within}
 use Rattle.scale_core.specs.declared.compact.Target.{Target}
 use Rattle.registry_core.specs.declared.definition.Arm.{Arm}
@@ -183,14 +182,6 @@ class_read r t o s h f = go (shape r t) refl where
         rw same
             (class_is r (references_of r) (λ from count arms. Unit {0}) t d x.0 e x.2),
       )
-
--- where no step is read, there is no such type
-pub class_unknown : (r : List TypeInfo) (t : ℕ) → IsStepAt r t None → length r ≤ t
-class_unknown r t h = elim (cases_lt t (length r)) [
-  | inl below ↦ let d = shape_some r t below in let x = rw (IsStepAt, d.1) at h in let no = x.1 in
-      absurd cc
-  | inr past ↦ past
-]
 
 -- what the step that is read reports of a target, or none without a step, is the type's own
 pub compact_read : (r : List TypeInfo) (t : ℕ) (o : Option Step) (m : Option Target) →

@@ -54,11 +54,6 @@ pub record StepsTo (classes : ℕ → Class) (targets : ℕ → Option Target) (
   pub own : (t : ℕ) (d : Draft) (s : Step) → slice_get drafts t ≡ Some d →
       slice_get steps t ≡ Some s → s ≡ step_by classes targets bytes (classes t) d
 
--- before the first draft there are no steps
-pub steps_none : (classes : ℕ → Class) (targets : ℕ → Option Target) (bytes : ℕ → Bool)
-    (drafts : List Draft) → StepsTo classes targets bytes drafts 0 []
-steps_none classes targets bytes drafts = record { count = refl; own = λ t d s e f. absurd cc }
-
 -- with the step of the next draft, one draft more has its step
 pub steps_more : (classes : ℕ → Class) (targets : ℕ → Option Target) (bytes : ℕ → Bool)
     (drafts : List Draft) (i : ℕ) (steps : List Step) (d : Draft) (s : Step) →
@@ -86,12 +81,6 @@ steps_more classes targets bytes drafts i steps d s e is h = record {
         let here : i ≡ t = sym (same ∙ h.count) in
         rw (← same_step, ← same_draft, ← here) is
   ]
-
--- where all drafts were passed, each has its step
-pub steps_all : (classes : ℕ → Class) (targets : ℕ → Option Target) (bytes : ℕ → Bool)
-    (drafts : List Draft) (i : ℕ) (steps : List Step) → i ≡ length drafts →
-    StepsTo classes targets bytes drafts i steps → AreStepsBy classes targets bytes drafts steps
-steps_all classes targets bytes drafts i steps e h = record { count = h.count ∙ e; own = h.own }
 
 -- ---- of all types
 

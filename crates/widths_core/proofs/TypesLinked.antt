@@ -4,8 +4,7 @@ use Rattle.std.proofs.Common.{◌∷◌, ◌++◌, length, map, reverse, take, d
 use Rattle.std.proofs.Common.{arith}
 use Rattle.std.specs.Prelude.{◌==◌}
 use Rattle.std.proofs.lemmas.Bool.{eqb-true}
-use Rattle.std.proofs.lemmas.List.{append_assoc, append-nil, map-append, length-map, take_all}
-use Rattle.std.proofs.lemmas.List.{drop_all}
+use Rattle.std.proofs.lemmas.List.{append_assoc, append-nil, map-append, length-map}
 use Rattle.std.proofs.lemmas.Grind.{flat_map-append}
 use Rattle.registry_core.specs.declared.definition.TypeDef.{TypeDef}
 use Rattle.registry_core.specs.declared.type_info.TypeInfo.{TypeInfo}
@@ -15,8 +14,8 @@ use Rattle.graph_core.specs.Types.{shape}
 use Rattle.graph_core.specs.Widths.{width, widest}
 use Rattle.graph_core.specs.Counts.{times}
 use Rattle.widths_core.specs.Rules.{Rule, rules_of, rules_from, counter_of, all_parts, numbers_from}
-use Rattle.graph_core.specs.Graphs.{refs, numbers, IsLinked, IsOpened, IsNew}
-use Rattle.widths_core.specs.Linking.{AddsRules, AreTypesLinked}
+use Rattle.graph_core.specs.Graphs.{refs, numbers, IsLinked, IsOpened}
+use Rattle.widths_core.specs.Linking.{AddsRules}
 use Rattle.widths_core.proofs.Adding.{numbers_from-append}
 
 -- the rules of one type more come after those of the types before it
@@ -54,19 +53,6 @@ pub record TypesLinkedTo (r : List TypeInfo) (i : ℕ) (cs : List Counter) (d : 
       × (i ≤ t → times t d.looks.opened.entries ≤ 1)
   pub listed : d.looks.listed.entries ≡ []
   pub wide : max w (widest (drop i r)) ≡ widest r
-
--- with a new graph and no counter, none of the types is linked yet
-pub types_linked_none : (r : List TypeInfo) (d : Graph) → IsNew r d → TypesLinkedTo r 0 [] d 0
-types_linked_none r d h = record {
-  linked = h.linked;
-  types = h.types;
-  counters = refl;
-  read = rw h.read refl;
-  counted = rw h.links refl;
-  opened = λ t. (let once = h.opened t in omega (arith, once), λ le. h.opened t);
-  listed = h.listed;
-  wide = omega arith;
-}
 
 -- after a look at type i there were two at most at each type, and one at those after i
 pub again : (i t : ℕ) (log : List ℕ) → (times t log ≤ 2) × (i ≤ t → times t log ≤ 1) →
@@ -115,22 +101,3 @@ types_linked_more r i d cs ds a b c w e h o k =
           max (max w (width d)) (widest rest) ≡ widest r
       wide rest more = let so_far : max w (max (width d) (widest rest)) ≡ widest r =
           rw more at h.wide in omega (arith, so_far)
-
--- where all types were read, the registry is linked and its width is known
-pub types_linked_all : (r : List TypeInfo) (i : ℕ) (cs : List Counter) (d : Graph) (w : ℕ) →
-    length r ≤ i → TypesLinkedTo r i cs d w → AreTypesLinked r cs d × (w ≡ widest r)
-types_linked_all r i cs d w le h =
-    let all : take i r ≡ r = take_all i r le in
-    let none : drop i r ≡ [] = drop_all i r le in
-    let end : max w (widest []) ≡ widest r = rw none at h.wide in (
-      record {
-        linked = h.linked;
-        types = h.types;
-        counters = rw all at h.counters;
-        read = rw all at h.read;
-        counted = rw all at h.counted;
-        opened = λ t. (h.opened t).0;
-        listed = h.listed;
-      },
-      omega (arith, end),
-    )

@@ -1,8 +1,7 @@
 -- Turns on an array of u8 of which no byte came.
-use Rattle.std.proofs.Common.{◌≡◌, ℕ, ◌≤◌, List, [], ◌++◌, take, drop, Option, Some, None, refl}
+use Rattle.std.proofs.Common.{◌≡◌, ℕ, ◌≤◌, List, [], ◌++◌, take, Option, Some, None}
 use Rattle.std.proofs.Common.{sym, ap, subst, ◌∙◌, arith, inl, inr}
 use Rattle.std.specs.Prelude.{◌⊎◌}
-use Rattle.std.proofs.lemmas.List.{take-append-drop}
 use Rattle.widths_core.specs.Layouts.{Layout}
 use Rattle.widths_core.specs.declared.run_kind.RunKind.TheVariants as kind
 use Rattle.grammar_core.specs.Runs.{run_length_at}
@@ -10,20 +9,17 @@ use Rattle.grammar_core.specs.declared.form.Form.TheVariants as form
 use Rattle.grammar_core.specs.declared.form.Next.TheVariants as next
 use Rattle.value_core.specs.Built.{Built, next_layout, with_run_opened}
 use Rattle.value_core.specs.Walked.{next_of}
-use Rattle.decode_core.specs.NodeAdds.{IsAdded, IsSpelled}
 use Rattle.decode_core.specs.Running.{Running, IsCarry, IsRunning, held_of}
 use Rattle.decode_core.specs.Reported.{own_at}
-use Rattle.decode_core.specs.Turned.{IsSame, KeepsNode, KeepsRun, PieceReports, StepReports, Steps}
-use Rattle.decode_core.specs.Turned.{WantsBytes, WantsMemory}
+use Rattle.decode_core.specs.Turned.{KeepsNode, KeepsRun, PieceReports, StepReports}
+use Rattle.decode_core.specs.Turned.{WantsBytes}
 use Rattle.decode_core.specs.declared.run.OpenRun.{OpenRun}
 use Rattle.decode_core.specs.declared.turned.Turned.{Turned}
 use Rattle.decode_core.specs.declared.turned.Turned.TheVariants as turned
 use Rattle.decode_core.proofs.steps.NodeAdding.{next_run}
 use Rattle.decode_core.proofs.steps.RunSteps.{byte_array_length, run_missing}
-use Rattle.decode_core.proofs.steps.RunTurns.{carry_none, no_run, node_wants}
-use Rattle.decode_core.proofs.steps.Settling.{added_running}
-use Rattle.decode_core.proofs.steps.Stepping.{at_next}
-use Rattle.decode_core.proofs.steps.Steps.{added_same, added_steps, held_closed, opened_running}
+use Rattle.decode_core.proofs.steps.RunTurns.{carry_none}
+use Rattle.decode_core.proofs.steps.Steps.{held_closed, opened_running}
 
 -- what is known of a decoder to which the array is next, by its fields
 pub record AtArray (b : Built) (c : List ℕ) (kept : Option OpenRun) (n : ℕ) : Type 0 where
@@ -54,36 +50,6 @@ none_held : (b : Built) (c : List ℕ) (kept : Option OpenRun) (n : ℕ) → AtA
 none_held b c kept n a = held_closed b c a.closed ∙ none_carried b c kept n a
 
 -- ---- all its bytes are there
-
--- where an array of u8 was added, the decoder is on its way again
-pub array_running : (b new : Built) (c : List ℕ) (kept : Option OpenRun) (n : ℕ)
-    (own : List ℕ) → AtArray b c kept n → IsAdded b new own → IsRunning new c kept
-array_running b new c kept n own a adds =
-    rw (none_carried b c kept n a, no_run b c kept a.running a.closed)
-    (added_running b new own (at_next b (form.ByteArray n) a.wants) a.closed adds)
-
--- to add an array of u8 is a step by its own bytes, and the value stays the same one
-pub array_reports : (b new : Built) (c : List ℕ) (kept : Option OpenRun) (n : ℕ)
-    (own : List ℕ) → AtArray b c kept n → IsAdded b new own →
-    IsSame (record { built = b; carry = c }) (record { built = new; carry = c })
-    × Steps (record { built = b; carry = c }) (record { built = new; carry = c }) own
-array_reports b new c kept n own a adds =
-    subst (λ (l : List ℕ). IsSame (record { built = b; carry = l })
-    (record { built = new; carry = l })
-    × Steps (record { built = b; carry = l }) (record { built = new; carry = l }) own)
-    (sym (none_carried b c kept n a)) (
-      added_same b new [] [] own adds,
-      added_steps b new [] own own (at_next b (form.ByteArray n) a.wants) a.closed refl adds,
-    )
-
--- memory is wanted for its node
-pub array_wants : (b : Built) (c : List ℕ) (kept : Option OpenRun) (n : ℕ) (piece : List ℕ) →
-    AtArray b c kept n → IsSpelled b (take n piece) →
-    WantsMemory (record { built = b; carry = c }) piece
-array_wants b c kept n piece a spelled =
-    subst (WantsMemory (record { built = b; carry = c })) (take-append-drop n piece)
-    (node_wants (form.ByteArray n) b c (take n piece) (drop n piece) (take n piece) a.wants a.closed
-    (ap (λ (l : List ℕ). l ++ take n piece) (none_carried b c kept n a)) spelled)
 
 -- ---- not all are
 

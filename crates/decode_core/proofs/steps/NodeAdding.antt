@@ -1,10 +1,7 @@
 -- A node that is added by its own bytes, or refused.
 use Rattle.std.proofs.Common.{◌≡◌, ℕ, false, List, [], Option, Ok, Err, refl, ap, ◌∙◌}
 use Rattle.scale_core.specs.Read.{Read, place}
-use Rattle.registry_core.specs.Kinds.{kind_of}
-use Rattle.registry_core.specs.declared.kind.PrimitiveKind.{PrimitiveKind}
 use Rattle.registry_core.specs.declared.primitive.Primitive.{Primitive}
-use Rattle.widths_core.specs.Layouts.{kind_layout}
 use Rattle.widths_core.specs.Layouts as layout
 use Rattle.widths_core.specs.declared.run_kind.RunKind.{RunKind}
 use Rattle.value_core.specs.Built.{Built, next_layout}
@@ -37,11 +34,6 @@ pub next_run : (b : Built) (k : RunKind) → next_of b.walk ≡ next.Wants (run_
     next_layout b ≡ layout.plain (layout.run k)
 next_run b k h = let w = wanted b.walk (run_form k) h in
     rw w.is_next (run_layout b.walk.types w.ty k w.form_is)
-
--- the next layout of a primitive type is that of its kind
-kind_next : (b : Built) (p : Primitive) (k : PrimitiveKind) →
-    next_of b.walk ≡ next.Wants (form.Primitive p) → kind_of p ≡ k → next_layout b ≡ kind_layout k
-kind_next b p k h e = next_has b (form.Primitive p) h ∙ ap kind_layout e
 
 -- the bytes that a form needs are just those of the node, if it is no run
 needs_these : (b : Built) (f : Form) (own : List ℕ) → next_of b.walk ≡ next.Wants f → HasBytes f →

@@ -145,14 +145,3 @@ taken_running f b new c old kept own h wants closed a (inr k) =
           ap (run_length_at k.0) (sym spelled) ∙ k.3;
     } in
     rw (k.4, k.5) (opened_running b c old k.0 k.1 h wants_run len)
-
--- bytes are held
-pub carried_steps : (b : Built) (c bytes : List ℕ) → b.run ≡ None → 1 ≤ length bytes →
-    Steps (record { built = b; carry = c }) (record { built = b; carry = c ++ bytes }) bytes
-carried_steps b c bytes closed some =
-    inl (
-      some,
-      refl,
-      held_closed b (c ++ bytes) closed
-          ∙ ap (λ (l : List ℕ). l ++ bytes) (sym (held_closed b c closed)),
-    )
