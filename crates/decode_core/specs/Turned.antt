@@ -12,6 +12,8 @@ use Rattle.value_core.specs.Built.{next_layout}
 use Rattle.value_core.specs.Walked.{elements_after, next_of}
 use Rattle.value_core.specs.Refusals.{is_whole}
 use Rattle.grammar_core.specs.Reading.{Refusal, truncated}
+use Rattle.form_core.specs.declared.forms.BytesForm.{BytesForm}
+use Rattle.form_core.specs.declared.forms.BytesForm.TheVariants as bytes
 use Rattle.decode_core.specs.Decided.{Decided}
 use Rattle.decode_core.specs.Machine.{State, remain, to_go, is_cut}
 use Rattle.decode_core.specs.NodeAdds.{IsSpelled}
@@ -130,12 +132,29 @@ abbrev pub StandsAfter : Stopped → Running → Running → Type 0
 StandsAfter (stop.Refused held reported_reason at len) before new = Unit {0}
 StandsAfter s before new = new ≡ before
 
+-- what a turn does on a node that pieces cut, whose last bytes one may have: it adds the node, or
+-- opens the run that is next, or nothing changes
+abbrev pub CutReports : Running → Running → List ℕ → Whole → Type 0
+CutReports old new piece (whole.Added n) = StepReports old new piece (turned.On n)
+CutReports old new piece whole.Left = new ≡ old
+CutReports old new piece whole.OutOfMemory = WantsMemory old piece × (new ≡ old)
+
+-- nothing is carried, and no run is open
+abbrev pub IsReady : Running → Type 0
+IsReady s = (s.carry ≡ []) × (s.built.run ≡ None)
+
 -- what a turn does on a node whose own bytes a piece may have whole: it adds the node, or nothing
 -- changes
 abbrev pub WholeReports : Running → Running → List ℕ → Whole → Type 0
-WholeReports old new piece (whole.Added n) = StepReports old new piece (turned.On n)
+WholeReports old new piece (whole.Added n) = StepReports old new piece (turned.On n) × IsReady new
 WholeReports old new piece whole.Left = new ≡ old
 WholeReports old new piece whole.OutOfMemory = WantsMemory old piece × (new ≡ old)
+
+-- a variant or a sequence
+abbrev pub HasParts : BytesForm → Type 0
+HasParts bytes.Arm = Unit {0}
+HasParts bytes.Sequence = Unit {0}
+HasParts _ = ⊥
 
 -- all these bytes are held, and the next node, which is not there yet, lacks more
 pub record HoldsAll (old new : Running) (rest : List ℕ) : Type 0 where

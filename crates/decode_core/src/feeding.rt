@@ -1,6 +1,6 @@
 //! The turns on a piece: nodes whose bytes it has whole, those of one form taken together, and the bytes that end it.
 
-ghost use Rattle.std.specs.Prelude.{ℕ, List, true, ◌≡◌, ◌≤◌, ◌<◌, ◌++◌, [], Some, None, Err};
+ghost use Rattle.std.specs.Prelude.{ℕ, List, ◌≡◌, ◌≤◌, ◌<◌, ◌++◌, [], Some, None, Err};
 ghost use Rattle.std.specs.Prelude.{length, take, IfOk, IfSome, OnErr};
 ghost use Rattle.grammar_core.specs.Runs.{run_form};
 ghost use Rattle.node_core.specs.Leaves.{leaf_head, FitsLeaf};
@@ -10,18 +10,20 @@ ghost use Rattle.form_core.specs.NodeForms.{form_of_bare, form_of_bytes, form_of
 ghost use Rattle.form_core.specs.NodeForms.{prefixed_kind};
 ghost use Rattle.decode_core.specs.NodeAdds.{IsWholeLeaf};
 ghost use Rattle.decode_core.specs.Running.{IsCarry, IsKeptRun, IsRunNext};
-ghost use Rattle.decode_core.specs.Turned.{Awaits, CallSoFar, FeedTells, GoesOn, HoldReports};
-ghost use Rattle.decode_core.specs.Turned.{WholeReports, WholeTurnsReport};
+ghost use Rattle.decode_core.specs.Turned.{Awaits, CallSoFar, CutReports, FeedTells, GoesOn};
+ghost use Rattle.decode_core.specs.Turned.{HasParts, HoldReports, WholeReports, WholeTurnsReport};
 
 use crate::node::{NodeFault, add_bare};
 use crate::run::{OpenRun, Run, take_node};
 use crate::turned::{Held, Stopped, Turned, Whole};
 use count_core::Count;
+use form_core::PlainForm::{Compact, Unsigned};
 use form_core::{
     BareForm, BytesForm, NodeForm, PlainForm, PrefixedRun, few_need, need, node_form, read_plain,
     whole_run,
 };
-use registry_core::{IntegerWidth, Primitive};
+use registry_core::IntegerWidth::{Bits8, Bits16, Bits32, Bits64, Bits128};
+use registry_core::Primitive;
 use scale_core::{Target, read_compact};
 use std::alloc::{AllocError, Allocator};
 use value_core::{Form, Leaf, Next};
@@ -32,7 +34,7 @@ impl<'r, A: Allocator> Run<'r, A> {
     fn whole_cut(&mut self, form: BytesForm, piece: &[u8]) -> Whole
         requires next { Awaits self.old (form_of_bytes form) }
         requires carries { 1 ≤ length self.old.carry }
-        ensures { WholeReports self.old self.new piece.now result }
+        ensures { CutReports self.old self.new piece.now result }
     {
         let held = self.carry.as_slice().len();
         let len = need(form, self.carry.as_slice()[0]);
@@ -57,9 +59,10 @@ impl<'r, A: Allocator> Run<'r, A> {
         }
     }
 
-    /// A turn on a node with bytes of its own, where the piece has them whole and they are not refused.
+    /// A turn on a variant or a sequence, where the piece has its own bytes whole and they are not refused.
     #[inline(always)]
     fn whole_own(&mut self, form: BytesForm, piece: &[u8]) -> Whole
+        requires parts { HasParts form }
         requires next { Awaits self.old (form_of_bytes form) }
         requires empty { self.old.carry ≡ [] }
         ensures { WholeReports self.old self.new piece.now result }
@@ -205,15 +208,17 @@ impl<'r, A: Allocator> Run<'r, A> {
             result.0 result.1 }
     {
         let mut at = 0;
-        let mut after = self.builder.walk().elements_after();
-        'elements: while after > 0 {
-            turns.tick();
-            let last = self.whole_element(form, &piece[at..]);
-            let Whole::Added(count) = last else {
-                return (at, last);
-            };
-            at += count;
-            after -= 1;
+        if self.builder.walk().is_in_list() {
+            let mut after = self.builder.walk().elements_after();
+            'elements: while after > 0 {
+                turns.tick();
+                let last = self.whole_element(form, &piece[at..]);
+                let Whole::Added(count) = last else {
+                    return (at, last);
+                };
+                at += count;
+                after -= 1;
+            }
         }
         turns.tick();
         (at, self.whole_plain(form, &piece[at..]))
@@ -234,7 +239,7 @@ impl<'r, A: Allocator> Run<'r, A> {
             Form::ByteArray(len) => self.whole_byte_array(len, piece),
             Form::Fields => self.whole_bare(BareForm::Fields),
             other => match node_form(other) {
-                NodeForm::Bytes(own) => self.whole_own(own, piece),
+                NodeForm::Bytes(BytesForm::Plain(plain)) => self.whole_plain(plain, piece),
                 _ => Whole::Left,
             },
         }
@@ -250,27 +255,13 @@ impl<'r, A: Allocator> Run<'r, A> {
             result.0 result.1 }
     {
         match form {
-            Form::Primitive(Primitive::U8) => {
-                self.repeat(PlainForm::Unsigned(IntegerWidth::Bits8), piece, turns)
-            }
-            Form::Primitive(Primitive::U16) => {
-                self.repeat(PlainForm::Unsigned(IntegerWidth::Bits16), piece, turns)
-            }
-            Form::Primitive(Primitive::U32) => {
-                self.repeat(PlainForm::Unsigned(IntegerWidth::Bits32), piece, turns)
-            }
-            Form::Primitive(Primitive::U64) => {
-                self.repeat(PlainForm::Unsigned(IntegerWidth::Bits64), piece, turns)
-            }
-            Form::Primitive(Primitive::U128) => {
-                self.repeat(PlainForm::Unsigned(IntegerWidth::Bits128), piece, turns)
-            }
-            Form::Compact(Target::U32) => {
-                self.repeat(PlainForm::Compact(Target::U32), piece, turns)
-            }
-            Form::Compact(Target::U128) => {
-                self.repeat(PlainForm::Compact(Target::U128), piece, turns)
-            }
+            Form::Primitive(Primitive::U8) => self.repeat(Unsigned(Bits8), piece, turns),
+            Form::Primitive(Primitive::U16) => self.repeat(Unsigned(Bits16), piece, turns),
+            Form::Primitive(Primitive::U32) => self.repeat(Unsigned(Bits32), piece, turns),
+            Form::Primitive(Primitive::U64) => self.repeat(Unsigned(Bits64), piece, turns),
+            Form::Primitive(Primitive::U128) => self.repeat(Unsigned(Bits128), piece, turns),
+            Form::Compact(Target::U32) => self.repeat(Compact(Target::U32), piece, turns),
+            Form::Compact(Target::U128) => self.repeat(Compact(Target::U128), piece, turns),
             other => {
                 turns.tick();
                 (0, self.whole_node(other, piece))
@@ -288,6 +279,7 @@ impl<'r, A: Allocator> Run<'r, A> {
         ensures err { OnErr result (FeedTells self.old self.new piece.now turns.old.so_far
             turns.new.so_far (Err 0)) }
     {
+        self.is_on_its_way();
         if let Some(form) = self.next_form()
             && let NodeForm::Bytes(own) = node_form(form)
         {
@@ -306,21 +298,27 @@ impl<'r, A: Allocator> Run<'r, A> {
         Ok(0)
     }
 
-    /// Takes turns on nodes whose own bytes the piece has whole, and counts each: how many bytes those before the last one
-    /// took, and what came of the last one. Where it is `Left`, a turn of another kind is in its place.
+    /// Takes turns on nodes whose own bytes the piece has whole, and counts each, as long as it has bytes: how many bytes those
+    /// before the last one took, and what came of the last one. Where it is `Left`, a turn of another kind is in its place.
     #[inline(always)]
     fn whole_turns(&mut self, piece: &[u8], turns: &mut Count) -> (usize, Whole)
         ensures { WholeTurnsReport self.old self.new piece.now turns.old.so_far turns.new.so_far
             result.0 result.1 }
     {
-        if self.carry.is_empty()
-            && let Some(form) = self.next_form()
-        {
-            return self.whole_nodes(form, piece, turns);
+        let mut at = 0;
+        if self.carry.is_empty() && self.open_run.is_none() {
+            'nodes: while let Some(form) = self.next_form() {
+                let (taken, last) = self.whole_nodes(form, &piece[at..], turns);
+                at += taken;
+                match last {
+                    Whole::Added(count) if at + count < piece.len() => at += count,
+                    _ => return (at, last),
+                }
+            }
         }
         turns.tick();
         self.is_on_its_way();
-        (0, Whole::Left)
+        (at, Whole::Left)
     }
 
     /// Takes turns until one stops, and counts each: how many bytes of the piece they took, and why they stopped; where

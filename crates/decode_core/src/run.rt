@@ -1,6 +1,6 @@
 //! A decoder on its way: it takes its input turn by turn.
 
-ghost use Rattle.std.specs.Prelude.{ℕ, List, true, ◌≡◌, ◌⊎◌, ◌<◌, ◌≤◌, ◌+◌, ◌++◌, [], length};
+ghost use Rattle.std.specs.Prelude.{ℕ, List, true, ◌≡◌, ◌<◌, ◌≤◌, ◌+◌, ◌++◌, [], length};
 ghost use Rattle.std.specs.Prelude.{false, None, Some, IfSome, Ok};
 ghost use Rattle.decode_core.specs.Running.{IsCarry, IsFresh, IsKeptRun, IsRunNext};
 ghost use Rattle.value_core.specs.Walked.{next_of};
@@ -334,14 +334,12 @@ impl<'r, A: Allocator> Run<'r, A> {
         }
     }
 
-    /// The form of the node that is next, where one can be and no run is open.
+    /// The form of the node that is next, where one can be. No run is open.
     #[inline(always)]
     pub(crate) fn next_form(&self) -> Option<Form>
+        requires { self.now.built.run ≡ None }
         ensures { IfSome result (λ form. Awaits self.now form) }
     {
-        if self.open_run.is_some() {
-            return None;
-        }
         match self.builder.walk().next() {
             Next::Wants(form) => Some(form),
             _ => None,

@@ -2,7 +2,7 @@
 use Rattle.std.proofs.Common.{◌≡◌, ℕ, zero, suc, ◌+◌, ◌-◌, ◌<◌, ◌≤◌, List, [], ◌∷◌, ◌++◌, length}
 use Rattle.std.proofs.Common.{take, drop, Option, Some, None, refl, ap, ◌∙◌, arith}
 use Rattle.std.proofs.Common.{drop-cons, inl, inr}
-use Rattle.std.specs.Prelude.{map, reverse, slice_get, is_none, ◌==◌}
+use Rattle.std.specs.Prelude.{map, reverse, slice_get, is_none, IsSome, ◌==◌}
 use Rattle.std.proofs.lemmas.Bool.{ne_eqb}
 use Rattle.std.proofs.lemmas.List.{length-drop, length-map, length-reverse, length-take-le}
 use Rattle.std.proofs.lemmas.List.{reverse-append}
@@ -12,6 +12,7 @@ use Rattle.grammar_core.specs.Parts.{each, first_of, left_after}
 use Rattle.widths_core.specs.Steps.{AreParts}
 use Rattle.value_core.specs.Frames.{followed_by, frames_of, left_by, members_before, members_of}
 use Rattle.value_core.specs.Frames.{open_part_of, parts_by, AreWithin, IsWithin}
+use Rattle.value_core.specs.Walked.{after_first, have_one_type}
 use Rattle.value_core.specs.declared.left.Left.{Left}
 use Rattle.value_core.specs.declared.left.Frame.{Frame}
 
@@ -57,9 +58,9 @@ first_left refs (suc n) element (suc end) at h k e =
     rw same (first_followed (slice_get refs (end - suc n)) (members_before refs end n))
 
 -- where the references are there, nothing is left exactly where none is counted
-pub none_left : (refs : List ℕ) (l : Left) → IsWithin refs l →
+pub none_counted : (refs : List ℕ) (l : Left) → IsWithin refs l →
     (l.count == 0) ≡ is_none (first_of (left_by refs l))
-none_left refs l h = go l.count l.end h.counted h.there where
+none_counted refs l h = go l.count l.end h.counted h.there where
   go : (n end : ℕ) → (1 ≤ end → n < end) → end ≤ length refs + 1 →
       (n == 0) ≡ is_none (first_of (parts_by refs n l.element end))
   go zero zero f w = refl
@@ -69,6 +70,29 @@ none_left refs l h = go l.count l.end h.counted h.there where
       let less = f (omega arith) in
       rw (slice_get-get_or refs (end - suc n) 0 (omega (arith, less, w)))
       (ne_eqb (suc n) 0 (λ e. absurd (omega (arith, e))))
+
+-- where a type is next, at least one part is counted
+pub some_counted : (refs : List ℕ) (l : Left) → IsSome (first_of (left_by refs l)) → 1 ≤ l.count
+some_counted refs l h = go l.count l.end h where
+  go : (n end : ℕ) → IsSome (first_of (parts_by refs n l.element end)) → 1 ≤ n
+  go zero zero f = absurd cc
+  go zero (suc end) f = absurd cc
+  go (suc n) end f = omega arith
+
+-- and so where a part follows the next one
+pub more_counted : (refs : List ℕ) (l : Left) → 1 ≤ after_first (left_by refs l) → 1 ≤ l.count
+more_counted refs l h = go l.count l.end h where
+  go : (n end : ℕ) → 1 ≤ after_first (parts_by refs n l.element end) → 1 ≤ n
+  go zero zero f = absurd (omega (arith, f))
+  go zero (suc end) f = absurd (omega (arith, f))
+  go (suc n) end f = omega arith
+
+-- the parts are those of a list exactly where no reference is named as the last of theirs
+pub one_type : (refs : List ℕ) (l : Left) → (l.end == 0) ≡ have_one_type (left_by refs l)
+one_type refs l = go l.end where
+  go : (end : ℕ) → (end == 0) ≡ have_one_type (parts_by refs l.count l.element end)
+  go zero = refl
+  go (suc end) = ne_eqb (suc end) 0 (λ e. absurd (omega (arith, e)))
 
 -- and so where one more node is open
 pub within_append : (refs : List ℕ) (fs : List Frame) (f : Frame) → AreWithin refs fs →

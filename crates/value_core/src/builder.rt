@@ -1,7 +1,7 @@
 //! A value that is built node by node.
 
 ghost use Rattle.std.specs.Prelude.{◌≡◌, ◌<◌, ◌≤◌, ◌+◌, ◌++◌, ◌∷◌, [], length, true, false, OnOk};
-ghost use Rattle.std.specs.Prelude.{OnErr, IfOk, IfSome, Ok, None};
+ghost use Rattle.std.specs.Prelude.{OnErr, IfOk, IfSome, IsSome, Ok, None};
 ghost use Rattle.grammar_core.specs.Runs.{run_form};
 ghost use Rattle.value_core.specs.Begun.{IsBegun};
 ghost use Rattle.value_core.specs.Building.{AreBuilt, Settles};
@@ -14,7 +14,8 @@ ghost use Rattle.value_core.specs.Frames.{left_of, IsWithin};
 ghost use Rattle.node_core.specs.Shown.{head_shown, size_shown};
 ghost use Rattle.value_core.specs.Refusals.{Finishes, Opens, IsRunWhole, bad_text, missing_of};
 ghost use Rattle.value_core.specs.Refusals.{other_fault, wanted_of, is_whole, build_opening_fault};
-ghost use Rattle.value_core.specs.Walked.{advanced, elements_after, next_of, opened, start_of};
+ghost use Rattle.value_core.specs.Walked.{advanced, elements_after, next_of, next_type, opened};
+ghost use Rattle.value_core.specs.Walked.{start_of};
 ghost use Rattle.node_core.specs.Leaves.{leaf_head, FitsLeaf, IsAppended};
 
 use crate::build_fault::BuildFault;
@@ -130,6 +131,7 @@ fn open_node<A: Allocator>(
     node: Node,
     left: Left,
 ) -> Result<(), AllocError>
+    requires next { IsSome (next_type walk.old) }
     requires room { length walk.old.frames ≤ walk.old.limit + 1 }
     requires within { IsWithin (references_of walk.old.types) left }
     ensures nodes { OnOk result (nodes.new.items ≡ nodes.old.items ++ node ∷ []) }

@@ -1,9 +1,9 @@
 //! What is left of the parts of an open node, by the references of the registry.
 
-ghost use Rattle.std.specs.Prelude.{◌≡◌, ℕ, List, is_none};
+ghost use Rattle.std.specs.Prelude.{◌≡◌, ◌≤◌, ℕ, List, is_none};
 ghost use Rattle.value_core.specs.Frames.{left_by, copies_of, members_of, repeats, IsWithin};
 ghost use Rattle.grammar_core.specs.Parts.{first_of, left_after};
-ghost use Rattle.value_core.specs.Walked.{after_first};
+ghost use Rattle.value_core.specs.Walked.{after_first, have_one_type};
 
 /// The parts of an open node that are still to come: so many, the last of these. Which types they have is said by numbers
 /// and not by an enum: these have no padding, which would be moved with them.
@@ -78,21 +78,23 @@ impl Left {
         Some(references[self.end - 1 - self.count as usize])
     }
 
-    /// The next type is no longer left. Where nothing is left, nothing changes.
+    /// The next type is no longer left.
     #[tactic(auto, using(crate::proofs::Members::one_less))]
     #[inline(always)]
     pub(crate) fn advance(&mut self)
+        requires { 1 ≤ self.old.count }
         ensures left { (references : List ℕ) →
             left_by references self.new ≡ left_after (left_by references self.old) }
         ensures within { (references : List ℕ) → IsWithin references self.old →
             IsWithin references self.new }
     {
-        self.count = self.count.saturating_sub(1);
+        self.count -= 1;
     }
 
     /// The same, made anew.
     #[inline(always)]
     pub(crate) fn advanced(self) -> Left
+        requires { 1 ≤ self.count }
         ensures left { (references : List ℕ) →
             left_by references result ≡ left_after (left_by references self) }
         ensures within { (references : List ℕ) → IsWithin references self →
@@ -101,6 +103,15 @@ impl Left {
         let mut left = self;
         left.advance();
         left
+    }
+
+    /// Have all of them one type, by how the node is defined?
+    #[inline(always)]
+    pub(crate) fn have_one_type(&self) -> bool
+        ensures { (references : List ℕ) →
+            result ≡ have_one_type (left_by references self.now) }
+    {
+        self.end == 0
     }
 
     /// How many values of the next one's type follow it, where all have one type; else 0.

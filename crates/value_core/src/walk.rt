@@ -9,7 +9,7 @@ ghost use Rattle.value_core.specs.Frames.{left_of, IsWithin};
 ghost use Rattle.value_core.specs.Opened.{OpensFields, OpensArm, OpensElements, IsListNext};
 ghost use Rattle.value_core.specs.Refusals.{is_whole_in};
 ghost use Rattle.value_core.specs.Walked.{start_of, next_type, next_of, depth_of, advanced, opened};
-ghost use Rattle.value_core.specs.Walked.{Closes, IsBounded, elements_after};
+ghost use Rattle.value_core.specs.Walked.{Closes, IsBounded, elements_after, is_list_in};
 
 use crate::left::{Frame, Left};
 use grammar_core::{Form, MAX_DEPTH, Next, StopReason, next_of_step};
@@ -69,7 +69,7 @@ pub struct Walk<'r, A: Allocator> {
     around: Vec<Frame, A>,
     /// The type that was looked up last: the next one, where any is left in the innermost node.
     ty: TypeId,
-    limit: u16,
+    limit: usize,
 }
 
 impl<'r, A: Allocator> Model for Walk<'r, A> {
@@ -107,7 +107,7 @@ impl<'r, A: Allocator> Walk<'r, A> {
             top: Frame { node: 0, left },
             around: Vec::new(alloc),
             ty: root,
-            limit,
+            limit: usize::from(limit),
         }
     }
 
@@ -123,7 +123,7 @@ impl<'r, A: Allocator> Walk<'r, A> {
         if self.is_finished() {
             return Next::Finished;
         }
-        if self.around.len() > usize::from(self.limit) {
+        if self.around.len() > self.limit {
             return Next::Stop(StopReason::TooDeep);
         }
         next_of_step(self.step())
@@ -157,9 +157,10 @@ impl<'r, A: Allocator> Walk<'r, A> {
         self.around.is_empty() && self.is_finished()
     }
 
-    /// The next node is there: it is no longer left in the innermost part. Where nothing is next, nothing changes.
+    /// The next node is there: it is no longer left in the innermost part.
     #[inline(always)]
     pub(crate) fn advance(&mut self)
+        requires { IsSome (next_type self.old) }
         ensures { self.new ≡ advanced self.old }
     {
         self.top.left.advance();
@@ -168,8 +169,17 @@ impl<'r, A: Allocator> Walk<'r, A> {
         }
     }
 
-    /// How many elements follow the next one in the innermost open list; 0 where another node is the innermost.
+    /// Is the innermost open node a list? So is a value of which nothing is there yet, of one element. Where it is none, no
+    /// element follows the next one.
     #[inline(always)]
+    pub fn is_in_list(&self) -> bool
+        ensures { result ≡ is_list_in self.now.frames }
+    {
+        self.top.left.have_one_type()
+    }
+
+    /// How many elements follow the next one in the innermost open list; 0 where another node is the innermost.
+    #[inline(never)]
     pub fn elements_after(&self) -> u32
         ensures { result ≡ elements_after self.now }
     {
@@ -188,6 +198,7 @@ impl<'r, A: Allocator> Walk<'r, A> {
     /// The next node is open, and its parts come next. Where memory is refused, nothing changes.
     #[inline(always)]
     pub(crate) fn enter(&mut self, node: usize, left: Left) -> Result<(), AllocError>
+        requires next { IsSome (next_type self.old) }
         requires room { length self.old.frames ≤ self.old.limit + 1 }
         requires within { IsWithin (references_of self.old.types) left }
         ensures ok { OnOk result (self.new

@@ -238,39 +238,46 @@ fn the_next_form_and_its_depth_are_reported(rt: HostRuntime) -> Result<(), Fail>
     Ok(())
 }
 
-/// Calls for a tuple of a sequence of u16 and a u8, and how many elements follow the next one after each.
-const FOLLOWED: [(Call, u32); 6] = [
-    (Call::Fields, 0),
-    (Call::List(3), 2),
-    (Call::Unsigned(7), 1),
-    (Call::Unsigned(255), 0),
-    (Call::Unsigned(256), 0),
-    (Call::Unsigned(42), 0),
+/// Calls for a tuple of a sequence of u16 and a u8, and after each whether a list is the innermost open node, and how many
+/// elements follow the next one.
+const FOLLOWED: [(Call, bool, u32); 6] = [
+    (Call::Fields, false, 0),
+    (Call::List(3), true, 2),
+    (Call::Unsigned(7), true, 1),
+    (Call::Unsigned(255), true, 0),
+    (Call::Unsigned(256), false, 0),
+    (Call::Unsigned(42), true, 0),
 ];
 
-/// So many elements follow the next one in the builder.
-fn check_after(rt: &impl Abort, builder: &Builder<'_, Global>, after: u32) {
+/// A list is the innermost open node of the builder or none is, and so many elements follow the next one.
+fn check_after(rt: &impl Abort, builder: &Builder<'_, Global>, in_list: bool, after: u32) {
+    let walk = builder.walk();
     assert_eq!(rt;
-        builder.walk().elements_after(),
+        walk.is_in_list(),
+        in_list,
+        "the innermost open node is a list"
+    );
+    assert_eq!(rt;
+        walk.elements_after(),
         after,
         "elements that follow the next one"
     );
 }
 
-fn check_followed(rt: &impl Abort, alloc: Global, calls: &[(Call, u32)]) -> Result<(), Fail> {
+fn check_followed(rt: &impl Abort, alloc: Global) -> Result<(), Fail> {
     let checked = checked(alloc, WORDS_AND_A_BYTE)?;
     let mut builder = begun(alloc, &checked, 3, 64)?;
-    check_after(rt, &builder, 0);
-    'calls: for (call, after) in calls {
+    check_after(rt, &builder, true, 0);
+    'calls: for (call, in_list, after) in &FOLLOWED {
         assert_eq!(rt; add(&mut builder, *call), Ok(()), "{call:?}");
-        check_after(rt, &builder, *after);
+        check_after(rt, &builder, *in_list, *after);
     }
     Ok(())
 }
 
 #[test]
 fn the_elements_that_follow_the_next_one_are_counted(rt: HostRuntime) -> Result<(), Fail> {
-    check_followed(&rt, rt.alloc(), &FOLLOWED)
+    check_followed(&rt, rt.alloc())
 }
 
 #[test]

@@ -7,9 +7,9 @@ use Rattle.std.specs.Prelude.{Err, Ok, Result, true}
 use Rattle.grammar_core.specs.declared.form.Form.{Form}
 use Rattle.value_core.specs.Refusals.{is_whole}
 use Rattle.decode_core.specs.Running.{Running}
-use Rattle.decode_core.specs.Turned.{Awaits, CallSoFar, FeedReports, FeedTells, FewTurns, IsSound}
-use Rattle.decode_core.specs.Turned.{Moves}
-use Rattle.decode_core.specs.Turned.{KeepsTurns, RunsOut, StepReports, StopCounts}
+use Rattle.decode_core.specs.Turned.{Awaits, CallSoFar, FeedReports, FeedTells, FewTurns}
+use Rattle.decode_core.specs.Turned.{IsReady, IsSound, KeepsTurns, Moves, RunsOut, StepReports}
+use Rattle.decode_core.specs.Turned.{StopCounts}
 use Rattle.decode_core.specs.Turned.{StopsShort, TurnsReport}
 use Rattle.decode_core.specs.Turned.{WantsBytes, WholeReports, WholeTurnsReport, left_to_do}
 use Rattle.decode_core.specs.declared.turned.Stopped.{Stopped}
@@ -22,23 +22,41 @@ use Rattle.decode_core.proofs.steps.Moving.{drop_more, grows_by, moves_none, mov
 use Rattle.decode_core.proofs.steps.Moving.{one_or_bytes, stays_whole, step_nearer, turns_on}
 use Rattle.decode_core.proofs.steps.Moving.{turns_stop, wants_goes_on}
 
+-- what stands after turns that added nodes of one form, of which another is next: the bytes and
+-- turns so far, and what they led to
+pub record NodesSoFar (a b : Running) (f : Form) (piece : List ℕ) (at start from : ℕ) : Type 0 where
+  pub inside : at ≤ length piece
+  pub moves : Moves a b (take at piece)
+  pub awaits : Awaits b f
+  pub nearer : left_to_do b (drop at piece) ≤ left_to_do a piece
+  pub each : start + length b.built.entries ≤ from + length a.built.entries
+  pub few : from + length a.built.entries ≤ start + at + length b.built.entries
+
+-- before the first of them
+pub nodes_begin : (a : Running) (f : Form) (piece : List ℕ) (start : ℕ) → Awaits a f →
+    NodesSoFar a a f piece 0 start start
+nodes_begin a f piece start awaits = record {
+  inside = omega arith;
+  moves = moves_none a;
+  awaits = awaits;
+  nearer = omega arith;
+  each = omega arith;
+  few = omega arith;
+}
+
 -- a turn on a node that the piece may have whole, after others of the same call
 pub whole_more : (a b d : Running) (f : Form) (piece : List ℕ) (at start from to : ℕ)
-    (last : Whole) →
-    at ≤ length piece → Moves a b (take at piece) →
-    left_to_do b (drop at piece) ≤ left_to_do a piece →
-    start + length b.built.entries ≤ from + length a.built.entries →
-    from + length a.built.entries ≤ start + at + length b.built.entries → to ≡ from + 1 →
-    Awaits a f → Awaits b f → WholeReports b d (take (length piece - at) (drop at piece)) last →
+    (last : Whole) → NodesSoFar a b f piece at start from → to ≡ from + 1 → Awaits a f →
+    WholeReports b d (take (length piece - at) (drop at piece)) last →
     WholeTurnsReport a d piece start to at last
-whole_more a b d f piece at start from to last le h near each few is first awaits reports =
+whole_more a b d f piece at start from to last s is first reports =
     record {
       before = b;
-      within = le;
-      moves = h;
-      nearer = near;
-      few = (omega (arith, each, is), omega (arith, few, is));
-      sound = awaits.sound;
+      within = s.inside;
+      moves = s.moves;
+      nearer = s.nearer;
+      few = (omega (arith, s.each, is), omega (arith, s.few, is));
+      sound = s.awaits.sound;
       reports =
           subst (λ (l : List ℕ). WholeReports b d l last) (take_rest piece at) reports;
       whole = λ w. wants_goes_on a f first.next w;
@@ -98,7 +116,7 @@ pub whole_added : (b d : Running) (piece : List ℕ) (at from to n k : ℕ) (las
     TurnsReport b d (drop at piece) from to n (turned.On k)
 whole_added b d piece at from to n k last e h =
     let w = whole_of b d piece at from to n last (whole.Added k) e h in
-    turns_with b d d (drop at piece) from to n (whole.Added k) (turned.On k) w w.reports tt
+    turns_with b d d (drop at piece) from to n (whole.Added k) (turned.On k) w w.reports.0 tt
     (λ is. let no = (w.whole is).2 in absurd cc)
 
 -- where it wanted memory, nothing changed
@@ -139,6 +157,45 @@ reached : (a b c : Running) (piece : List ℕ) (at n : ℕ) → Moves a b (take 
     Moves b c (take n (drop at piece)) → Moves a c (take (at + n) piece)
 reached a b c piece at n h k = subst (Moves a c) (sym (take-add at n piece))
     (moves_on a b c (take at piece) (take n (drop at piece)) h k)
+
+-- turns on whole nodes after others of the same call are all turns on whole nodes
+pub turns_after : (a b d : Running) (piece : List ℕ) (at start from to n : ℕ) (last : Whole) →
+    CallSoFar a b piece at start from → left_to_do b (drop at piece) ≤ left_to_do a piece →
+    WholeTurnsReport b d (take (length piece - at) (drop at piece)) from to n last →
+    WholeTurnsReport a d piece start to (at + n) last
+turns_after a b d piece at start from to n last c near k =
+    let w = whole_of b d piece at from to n last last refl k in
+    record {
+      before = w.before;
+      within = omega (arith, c.inside, w.within, length-drop at piece);
+      moves = reached a b w.before piece at n c.moves w.moves;
+      nearer = omega (arith, near, w.nearer, ap (left_to_do w.before) (drop_more piece at n));
+      few = (omega (arith, c.each, w.few.0), omega (arith, c.few, w.few.1));
+      sound = w.sound;
+      reports =
+          subst (λ (l : List ℕ). WholeReports w.before d l last) (drop_more piece at n) w.reports;
+      whole = λ is.
+          let was = c.whole is in
+          let one = w.whole (stays_whole a b at c.whole is) in
+          (omega (arith, was.0, one.0), one.1 ∙ was.1, one.2);
+    }
+
+-- and where no such turn follows, those that were taken are
+pub turns_end : (a b : Running) (piece : List ℕ) (at start from to : ℕ) →
+    CallSoFar a b piece at start from → left_to_do b (drop at piece) ≤ left_to_do a piece →
+    to ≡ from + 1 → IsSound b → WholeTurnsReport a b piece start to at whole.Left
+turns_end a b piece at start from to c near is sound =
+    let rest = take (length piece - at) (drop at piece) in
+    subst (λ (n : ℕ). WholeTurnsReport a b piece start to n whole.Left) (omega arith)
+    (turns_after a b b piece at start from to 0 whole.Left c near
+    (no_whole b rest from to is sound))
+
+-- after one that added a node nothing is carried, and no run is open
+pub stays_ready : (b d : Running) (piece : List ℕ) (at from to n k : ℕ) (last : Whole) →
+    last ≡ whole.Added k →
+    WholeTurnsReport b d (take (length piece - at) (drop at piece)) from to n last → IsReady d
+stays_ready b d piece at from to n k last e h =
+    let w = whole_of b d piece at from to n last (whole.Added k) e h in w.reports.1
 
 -- what turns took after the first bytes of a piece lies within the piece
 fits : (b d : Running) (piece : List ℕ) (at from to n : ℕ) (last : Turned) → at ≤ length piece →

@@ -1,7 +1,6 @@
 -- A node that pieces cut, whose last bytes this piece has.
 use Rattle.std.proofs.Common.{◌≡◌, ℕ, ◌+◌, ◌-◌, ◌<◌, ◌≤◌, List, [], ◌∷◌, ◌++◌, length, take, min}
-use Rattle.std.proofs.Common.{Err, refl, sym, ap, ◌∙◌, arith, subst}
-use Rattle.std.proofs.Common.{take_all}
+use Rattle.std.proofs.Common.{Err, None, refl, sym, ap, ◌∙◌, arith, subst}
 use Rattle.std.specs.Prelude.{slice_index_or, true}
 use Rattle.std.proofs.Math.Seq.{take-append_seam}
 use Rattle.form_core.specs.Needs.{IsFirst, need}
@@ -11,10 +10,12 @@ use Rattle.value_core.specs.Built.{Built}
 use Rattle.value_core.specs.Walked.{next_of}
 use Rattle.value_core.specs.Refusals.{is_whole}
 use Rattle.decode_core.specs.Running.{Running, IsCarry}
-use Rattle.decode_core.specs.Turned.{CallSoFar, FeedTells, IsSound, WholeReports, WholeTurnsReport}
-use Rattle.decode_core.specs.declared.turned.Whole.{Whole}
+use Rattle.decode_core.specs.Turned.{CallSoFar, CutReports, FeedTells, IsSound, KeepsTurns}
+use Rattle.decode_core.specs.Turned.{StepReports, TurnsReport}
+use Rattle.decode_core.specs.declared.turned.Turned.{Turned}
+use Rattle.decode_core.specs.declared.turned.Turned.TheVariants as turned
 use Rattle.decode_core.specs.declared.turned.Whole.TheVariants as whole
-use Rattle.decode_core.proofs.steps.Calls.{call_on, one_turn, tells_short, whole_added, whole_short}
+use Rattle.decode_core.proofs.steps.Calls.{call_on, tells_short}
 use Rattle.decode_core.proofs.steps.Moving.{moves_none, wants_goes_on}
 use Rattle.decode_core.proofs.steps.Refusing.{IsShortOf}
 use Rattle.decode_core.proofs.steps.RunTurns.{IsCut, of_fields, short_of}
@@ -60,19 +61,32 @@ carried_again c piece filled cut count held filled_is held_is is =
     is ∙ ap (λ (n : ℕ). take n filled) held_is ∙ ap (take (length c)) filled_is
     ∙ take-append_seam c (take count piece)
 
--- bytes are carried only where the value goes on
+-- bytes are carried only where no run is open
+pub carried_closed : (b : Built) (c : List ℕ) → IsCarry b c → 1 ≤ length c → b.run ≡ None
+carried_closed b [] h some = absurd (omega (arith, some))
+carried_closed b (x ∷ c) h some = h.3
+
+-- and only where the value goes on
 carried_goes_on : (a : Running) (c : List ℕ) → IsCarry a.built c → 1 ≤ length c →
     is_whole a.built ≡ true → ⊥
 carried_goes_on a [] h some w = omega (arith, some)
 carried_goes_on a (x ∷ c) h some w = wants_goes_on a h.0 h.1 w
 
 -- a turn on the node whose first bytes are carried
-pub carried_turn : (a d : Running) (piece : List ℕ) (from to : ℕ) (last : Whole) →
-    to ≡ from + 1 → IsSound a → 1 ≤ length a.carry → WholeReports a d piece last →
-    WholeTurnsReport a d piece from to 0 last
-carried_turn a d piece from to last is sound some reports =
-    one_turn a d piece from to last is sound reports
-    (λ w. absurd (carried_goes_on a a.carry sound.carried some w))
+carried_turn : (a d : Running) (piece : List ℕ) (from to : ℕ) (last : Turned) →
+    to ≡ from + 1 → IsSound a → 1 ≤ length a.carry → StepReports a d piece last →
+    KeepsTurns a d last → TurnsReport a d piece from to 0 last
+carried_turn a d piece from to last is sound some reports kept = record {
+  before = a;
+  within = omega arith;
+  moves = moves_none a;
+  nearer = omega arith;
+  few = (omega (arith, is), omega (arith, is));
+  sound = sound;
+  reports = reports;
+  kept = kept;
+  whole = λ w. absurd (carried_goes_on a a.carry sound.carried some w);
+}
 
 -- the turns of a call that has taken none
 start_so_far : (a : Running) (piece : List ℕ) (from : ℕ) → CallSoFar a a piece 0 from from
@@ -91,25 +105,18 @@ left_so_far a d piece from same = rw same (start_so_far a piece from)
 
 -- the turns of a call whose first one took the node whose first bytes were carried
 pub carried_so_far : (a d : Running) (piece : List ℕ) (from to count : ℕ) → to ≡ from + 1 →
-    IsSound a → 1 ≤ length a.carry → WholeReports a d piece (whole.Added count) →
+    IsSound a → 1 ≤ length a.carry → CutReports a d piece (whole.Added count) →
     CallSoFar a d piece count from to
 carried_so_far a d piece from to count is sound some reports =
-    let all : take (length piece - 0) piece ≡ piece =
-    take_all (length piece - 0) piece (omega arith) in
-    let one = subst (λ (l : List ℕ). WholeTurnsReport a d l from to 0 (whole.Added count))
-    (sym all) (carried_turn a d piece from to (whole.Added count) is sound some reports) in
     subst (λ (n : ℕ). CallSoFar a d piece n from to) (omega arith)
     (call_on a a d piece 0 from from to 0 count (start_so_far a piece from)
-    (whole_added a d piece 0 from to 0 count (whole.Added count) refl one))
+    (carried_turn a d piece from to (turned.On count) is sound some reports tt))
 
 -- where memory was refused for it, the call ends
 pub carried_short : (a d : Running) (piece : List ℕ) (from to : ℕ) → to ≡ from + 1 →
-    IsSound a → 1 ≤ length a.carry → WholeReports a d piece whole.OutOfMemory →
+    IsSound a → 1 ≤ length a.carry → CutReports a d piece whole.OutOfMemory →
     FeedTells a d piece from to (Err 0)
 carried_short a d piece from to is sound some reports =
-    let all : take (length piece - 0) piece ≡ piece =
-    take_all (length piece - 0) piece (omega arith) in
-    let one = subst (λ (l : List ℕ). WholeTurnsReport a d l from to 0 whole.OutOfMemory)
-    (sym all) (carried_turn a d piece from to whole.OutOfMemory is sound some reports) in
     tells_short a a d piece 0 from from to 0 (start_so_far a piece from)
-    (whole_short a d piece 0 from to 0 whole.OutOfMemory refl one)
+    (carried_turn a d piece from to turned.OutOfMemory is sound some reports.0
+    (ap (λ (s : Running). s.built.turns) reports.1))

@@ -1,22 +1,31 @@
 -- What a turn does and keeps, by what it called.
 use Rattle.std.proofs.Common.{◌≡◌, ℕ, zero, suc, ◌+◌, ◌-◌, ◌<◌, ◌≤◌, List, [], ◌∷◌, ◌++◌, length}
 use Rattle.std.proofs.Common.{take, drop, min, Option, Some, None, Result, Ok, Err, refl, sym, ap}
-use Rattle.std.proofs.Common.{subst, ◌∙◌, append_assoc, arith, inl, length-append}
+use Rattle.std.proofs.Common.{subst, ◌∙◌, append_assoc, arith, inl, inr, length-append}
 use Rattle.std.specs.Prelude.{◌==◌, slice_index_or, true}
 use Rattle.std.proofs.lemmas.Bool.{eqb-true}
 use Rattle.std.proofs.lemmas.List.{take-append-drop, length-take}
 use Rattle.std.proofs.Math.Seq.{take-append_seam}
+use Rattle.widths_core.specs.declared.run_kind.RunKind.{RunKind}
+use Rattle.widths_core.specs.declared.run_kind.RunKind.TheVariants as kind
 use Rattle.value_core.specs.Built.{Built, Pieces, next_layout}
 use Rattle.value_core.specs.Walked.{next_of}
+use Rattle.grammar_core.specs.Parts.{Part}
+use Rattle.grammar_core.specs.Preorder.{Head}
+use Rattle.grammar_core.specs.Runs.{run_form}
 use Rattle.grammar_core.specs.declared.form.Form.{Form}
 use Rattle.grammar_core.specs.declared.form.Next.{Next}
 use Rattle.grammar_core.specs.declared.form.Next.TheVariants as next
 use Rattle.form_core.proofs.Firsts.{first_of_piece}
 use Rattle.form_core.specs.Needs.{need, AreOwn, HasBytes, IsFirst, IsNeeded}
+use Rattle.form_core.specs.NodeForms.{form_of_bytes}
+use Rattle.form_core.specs.declared.forms.BytesForm.{BytesForm}
+use Rattle.form_core.specs.declared.forms.BytesForm.TheVariants as bytes
 use Rattle.decode_core.specs.NodeAdds.{IsRefused, IsSpelled, TakesNode, AddsBare, IsAdded}
+use Rattle.decode_core.specs.NodeAdds.{with_own}
 use Rattle.decode_core.specs.Running.{Running, IsRunning, IsCarry, IsKeptRun, held_of}
 use Rattle.decode_core.specs.Turned.{Steps, BareReports, StepReports, EndsTurns, WantsMemory}
-use Rattle.decode_core.specs.Turned.{node_turned}
+use Rattle.decode_core.specs.Turned.{HasParts, node_turned}
 use Rattle.decode_core.specs.Reported.{own_at}
 use Rattle.grammar_core.specs.Reading.{truncated}
 use Rattle.decode_core.specs.declared.fault.DecodeReason.{DecodeReason}
@@ -278,6 +287,36 @@ whole_reports f b new c own rest kept taken result none at some a k is =
     (node_turned taken 0 (length own) (length own))) (sym none)
     (node_reports f b new [] own rest own kept taken at.wants some at.closed a refl
     (some_own f own a) k))
+
+-- a node is added beside an open run, or none
+pub own_run : (b : Built) (x : Head × Option Part) → (with_own b x).run ≡ b.run
+own_run b (h, None) = refl
+own_run b (h, Some p) = refl
+
+-- where none was open and a node is added, none is
+pub added_closed : (b new : Built) (own : List ℕ) → b.run ≡ None → IsAdded b new own →
+    new.run ≡ None
+added_closed b new own closed adds =
+    ap (λ (x : Built). x.run) adds.2 ∙ own_run b adds.0 ∙ closed
+
+-- a variant or a sequence is no run
+no_run_form : {X : Type 0} (f : BytesForm) (k : RunKind) → HasParts f →
+    form_of_bytes f ≡ run_form k → X
+no_run_form bytes.Arm kind.Text has e = absurd cc
+no_run_form bytes.Arm kind.Bytes has e = absurd cc
+no_run_form bytes.Arm (kind.ByteArray n) has e = absurd cc
+no_run_form bytes.Sequence kind.Text has e = absurd cc
+no_run_form bytes.Sequence kind.Bytes has e = absurd cc
+no_run_form bytes.Sequence (kind.ByteArray n) has e = absurd cc
+no_run_form (bytes.Plain p) k has e = absurd has
+no_run_form (bytes.Run r) k has e = absurd has
+
+-- so none is open after one of these was taken
+pub parts_closed : (f : BytesForm) (b new : Built) (kept : Option OpenRun) (own : List ℕ) →
+    b.run ≡ None → HasParts f → TakesNode (form_of_bytes f) b new kept own (Ok tt) →
+    new.run ≡ None
+parts_closed f b new kept own closed has (inl added) = added_closed b new own closed added.0
+parts_closed f b new kept own closed has (inr opened) = no_run_form f opened.0 has opened.2
 
 -- the bytes that were missing came
 pub count_is : (c piece : List ℕ) (len count : ℕ) → length c < len →

@@ -113,9 +113,12 @@ leaf_reports b new c own rest l none h is =
     let added = whole_added b new own l h is in
     let front : take (length own) (own ++ rest) ≡ own = take_at own rest (length own) refl in
     rw (none, front) (
-      omega (arith, length-append own rest),
-      added_same b new [] [] own added,
-      added_steps b new [] own own (at_next b h.form h.wants) h.closed refl added,
+      (
+        omega (arith, length-append own rest),
+        added_same b new [] [] own added,
+        added_steps b new [] own own (at_next b h.form h.wants) h.closed refl added,
+      ),
+      (refl, ap (λ (x : Built). x.run) is ∙ h.closed),
     )
 
 -- memory is wanted for its node

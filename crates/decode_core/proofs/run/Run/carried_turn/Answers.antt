@@ -1,5 +1,10 @@
-use Rattle.decode_core.proofs.steps.Cuts.{carried_short, carried_so_far}
+use Rattle.decode_core.proofs.steps.Cuts.{carried_closed, carried_short, carried_so_far}
 use Rattle.decode_core.proofs.run.Run.carried_turn.Goals as goal
+
+pub next_form-requires : goal.next_form-requires
+next_form-requires g c =
+    carried_closed c.args.self.now.built c.args.self.now.carry c.is_on_its_way.ensures.carried
+    c.requires
 
 pub returns-in-Added-clause-ok : goal.returns-in-Added-clause-ok
 returns-in-Added-clause-ok g c =

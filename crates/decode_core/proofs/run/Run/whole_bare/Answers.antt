@@ -1,12 +1,12 @@
-use Rattle.std.proofs.Common.{ap, subst, arith}
+use Rattle.std.proofs.Common.{[], ap, subst, arith}
 use Rattle.value_core.specs.Built.{Built}
 use Rattle.decode_core.specs.NodeAdds.{AddsBare}
 use Rattle.form_core.specs.NodeForms.{form_of_bare}
 use Rattle.decode_core.specs.Running.{Running}
 use Rattle.decode_core.specs.Turned.{WholeReports}
 use Rattle.decode_core.proofs.steps.FormSplits.{have_none}
-use Rattle.decode_core.proofs.steps.RunTurns.{at_node, bare_running, bare_reports, bare_wants}
-use Rattle.decode_core.proofs.steps.RunTurns.{of_fields}
+use Rattle.decode_core.proofs.steps.RunTurns.{added_closed, at_node, bare_running, bare_reports}
+use Rattle.decode_core.proofs.steps.RunTurns.{bare_wants, carry_none, of_fields}
 use Rattle.decode_core.proofs.run.Run.whole_bare.Goals as goal
 use Rattle.decode_core.proofs.run.Run.whole_bare.Goals.{in-Ok, in-Err}
 
@@ -29,8 +29,14 @@ returns g c =
     c.match-add_bare.result) c.self.view_is (elim c.match-add_bare.branch [
       | in-Ok w ↦ rw w.result-is
           (let added = bare_reports b new k c.self.inside.open_run f c.self.invariant at.wants none
-          at.closed (subst (AddsBare b new) w.in-Ok.is c.add_bare.ensures) in
-          (omega arith, added.1, added.2))
+          at.closed (subst (AddsBare b new) w.in-Ok.is c.add_bare.ensures) in (
+            (omega arith, added.1, added.2),
+            (
+              carry_none b k f c.self.invariant.carried at.wants none,
+              added_closed b new [] at.closed
+                  (subst (AddsBare b new) w.in-Ok.is c.add_bare.ensures),
+            ),
+          ))
       | in-Err w ↦ let refused = subst (AddsBare b new) w.in-Err.is c.add_bare.ensures in
           rw w.result-is (
             bare_wants b k c.self.inside.open_run f c.self.invariant

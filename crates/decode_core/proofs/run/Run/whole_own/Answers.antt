@@ -9,7 +9,8 @@ use Rattle.decode_core.specs.declared.node.NodeFault.{NodeFault}
 use Rattle.decode_core.specs.declared.turned.Turned.TheVariants as turned
 use Rattle.decode_core.proofs.steps.FormSplits.{have_bytes}
 use Rattle.decode_core.proofs.steps.RunTurns.{at_node, carries_none, node_wants, of_fields}
-use Rattle.decode_core.proofs.steps.RunTurns.{whole_front, whole_reports, whole_running}
+use Rattle.decode_core.proofs.steps.RunTurns.{parts_closed, whole_front, whole_reports}
+use Rattle.decode_core.proofs.steps.RunTurns.{whole_running}
 use Rattle.decode_core.proofs.run.Run.whole_own.Goals.{in-Ok, in-Err-Refused, in-Err-OutOfMemory}
 use Rattle.decode_core.proofs.run.Run.whole_own.Goals as goal
 
@@ -47,13 +48,18 @@ returns g c =
     let whole = whole_front f piece len c.need-len.ensures.exact c.need-len.ensures.some there in
     subst (λ (s : Running). WholeReports s (of_fields new k) piece c.match-take_node.result)
     c.self.view_is (elim c.match-take_node.branch [
-      | in-Ok w ↦ rw w.result-is
-          (subst (λ l. StepReports (of_fields b k) (of_fields new k) l (turned.On len))
-          (take-append-drop len piece)
-          (whole_reports f b new k own rest kept c.take_node.result (turned.On len) none at
-          (have_bytes c.args.form) whole c.take_node.ensures
-          (rw (length-take-le len piece there)
-          (ap (λ t. node_turned t 0 len len) (sym w.in-Ok.is)))))
+      | in-Ok w ↦ rw w.result-is (
+        subst (λ l. StepReports (of_fields b k) (of_fields new k) l (turned.On len))
+            (take-append-drop len piece)
+            (whole_reports f b new k own rest kept c.take_node.result (turned.On len) none at
+            (have_bytes c.args.form) whole c.take_node.ensures
+            (rw (length-take-le len piece there)
+            (ap (λ t. node_turned t 0 len len) (sym w.in-Ok.is)))),
+        (
+          none,
+          parts_closed c.args.form b new kept own at.closed c.requires.parts w.in-Ok.ensures,
+        ),
+      )
       | in-Err-Refused w ↦
           let refused = subst (λ (e : NodeFault). TakesNode f b new kept own (Err e))
           w.in-Err-Refused.field-0-is w.in-Err-Refused.ensures in

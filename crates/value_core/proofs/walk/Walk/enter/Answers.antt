@@ -1,9 +1,15 @@
 use Rattle.std.proofs.Common.{◌+◌, ◌≤◌, length, sym, subst, arith}
+use Rattle.std.specs.Prelude.{IsSome}
 use Rattle.widths_core.specs.Steps.{references_of}
 use Rattle.value_core.specs.Frames.{IsWithin, frames_of}
-use Rattle.value_core.specs.Walked.{Walked}
-use Rattle.value_core.proofs.Members.{frames_counted, within_append}
+use Rattle.value_core.specs.Walked.{Walked, next_type}
+use Rattle.value_core.proofs.Members.{frames_counted, some_counted, within_append}
 use Rattle.value_core.proofs.walk.Walk.enter.Goals as goal
+
+pub advanced-requires : goal.advanced-requires
+advanced-requires g c =
+    some_counted (references_of c.self.inside.checked.now.types) c.self.inside.top.left
+    (subst (λ (w : Walked). IsSome (next_type w)) (sym c.self.view_is) c.requires.next)
 
 pub invariant_of-self-2 : goal.invariant_of-self-2
 invariant_of-self-2 g c =

@@ -10,7 +10,7 @@ returns g c =
     let around = frames_counted c.self.inside.checked.now.types c.self.inside.around.items in
     let room : length c.args.self.now.frames ≤ c.args.self.now.limit + 1 =
     subst (λ (w : Walked). length w.frames ≤ w.limit + 1) c.self.view_is
-    (omega (arith, around, c.if-len-from.false, c.from.ensures, c.len.ensures)) in
+    (omega (arith, around, c.if-len-self.false, c.len.ensures)) in
     let found : is_none (next_type c.args.self.now) ≡ false =
     sym c.is_finished.ensures ∙ c.if-is_finished.false in
     let ahead = found_ahead c.args.self.now.types (next_type c.args.self.now) c.step.result found
