@@ -179,6 +179,8 @@ impl<'r, A: Allocator> Walk<'r, A> {
     }
 
     /// How many elements follow the next one in the innermost open list; 0 where another node is the innermost.
+    // It is asked once for a list. Inlined, it would be worked out for each field beside `is_in_list`, which is all that is
+    // asked of most nodes.
     #[inline(never)]
     pub fn elements_after(&self) -> u32
         ensures { result ≡ elements_after self.now }
