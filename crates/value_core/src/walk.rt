@@ -169,8 +169,8 @@ impl<'r, A: Allocator> Walk<'r, A> {
         }
     }
 
-    /// Is the innermost open node a list? So is a value of which nothing is there yet, of one element. Where it is none, no
-    /// element follows the next one.
+    /// Is the innermost open node a list, or none open, as before the first node and after the last? Only then may an element
+    /// follow the next one.
     #[inline(always)]
     pub fn is_in_list(&self) -> bool
         ensures { result ≡ is_list_in self.now.frames }
