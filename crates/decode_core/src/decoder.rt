@@ -140,7 +140,7 @@ fn give_up<A: Allocator>(run: &mut Result<Run<'_, A>, DecodeFault>, fault: Decod
     ensures turns { result.so_far ≡ closing_turns run.old 0 }
 {
     match mem::replace(run, Err(fault)) {
-        Ok(run) => run.into_turns(),
+        Ok(run) => run.builder.into_turns(),
         Err(_) => Count::new(),
     }
 }
@@ -198,7 +198,7 @@ impl<'r, A: Allocator> Decoder<'r, A> {
             (widest self.now.job.registry) }
     {
         match &self.run {
-            Ok(run) => run.node_count(),
+            Ok(run) => run.builder.node_count(),
             Err(_) => 0,
         }
     }
@@ -210,7 +210,7 @@ impl<'r, A: Allocator> Decoder<'r, A> {
         ensures bound { result ≤ self.now.taken }
     {
         match &self.run {
-            Ok(run) => run.text_bytes(),
+            Ok(run) => run.builder.text_bytes(),
             Err(_) => 0,
         }
     }

@@ -28,6 +28,9 @@ use scale_core::{Target, read_compact};
 use std::alloc::{AllocError, Allocator};
 use value_core::{Form, Leaf, Next};
 
+/// A piece of so many bytes is long.
+const LONG: usize = 16 * 1024;
+
 impl<'r, A: Allocator> Run<'r, A> {
     /// A turn on a node that pieces cut, where this one has the bytes that are missing and they are not refused.
     #[inline(always)]
@@ -210,7 +213,7 @@ impl<'r, A: Allocator> Run<'r, A> {
         let mut at = 0;
         if self.builder.walk().is_in_list() {
             let mut after = self.builder.walk().elements_after();
-            'elements: while after > 0 {
+            'elements: while after > 0 && piece.len() - at > self.look {
                 turns.tick();
                 let last = self.whole_element(form, &piece[at..]);
                 let Whole::Added(count) = last else {
@@ -311,7 +314,7 @@ impl<'r, A: Allocator> Run<'r, A> {
                 let (taken, last) = self.whole_nodes(form, &piece[at..], turns);
                 at += taken;
                 match last {
-                    Whole::Added(count) if at + count < piece.len() => at += count,
+                    Whole::Added(count) if piece.len() - at - count > self.look => at += count,
                     _ => return (at, last),
                 }
             }
@@ -321,6 +324,19 @@ impl<'r, A: Allocator> Run<'r, A> {
         (at, Whole::Left)
     }
 
+    /// Where a look is due, makes room for what the bytes up to the next one are expected to bring: it is due when four times as
+    /// many bytes of a piece were taken.
+    #[inline(always)]
+    fn look_ahead(&mut self, taken: usize, left: usize)
+        ensures { self.new ≡ self.old }
+    {
+        if left <= self.look && left > 0 {
+            let ahead = left.min(taken.saturating_mul(3));
+            self.builder.make_room_ahead(taken, ahead);
+            self.look = left - ahead;
+        }
+    }
+
     /// Takes turns until one stops, and counts each: how many bytes of the piece they took, and why they stopped; where
     /// memory was refused, the bytes alone. The turns that close nodes are the builder's own, and counted there.
     #[inline(never)]
@@ -328,6 +344,12 @@ impl<'r, A: Allocator> Run<'r, A> {
         ensures { FeedTells self.old self.new piece.now turns.old.so_far turns.new.so_far result }
     {
         let mut at = 0;
+        let is_first = self.builder.node_count() == 0;
+        self.look = if is_first && piece.len() >= LONG {
+            piece.len() - piece.len() / 64
+        } else {
+            0
+        };
         if !self.carry.is_empty() {
             let Ok(count) = self.carried_turn(piece, turns) else {
                 return Err(0);
@@ -344,6 +366,7 @@ impl<'r, A: Allocator> Run<'r, A> {
             match last {
                 Whole::Added(count) => {
                     at += count;
+                    self.look_ahead(at, piece.len() - at);
                     continue 'turns;
                 }
                 Whole::OutOfMemory => return Err(at),

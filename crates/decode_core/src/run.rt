@@ -4,7 +4,7 @@ ghost use Rattle.std.specs.Prelude.{ℕ, List, true, ◌≡◌, ◌<◌, ◌≤�
 ghost use Rattle.std.specs.Prelude.{false, None, Some, IfSome, Ok};
 ghost use Rattle.decode_core.specs.Running.{IsCarry, IsFresh, IsKeptRun, IsRunNext};
 ghost use Rattle.value_core.specs.Walked.{next_of};
-ghost use Rattle.value_core.specs.Built.{built_text_bytes, finished};
+ghost use Rattle.value_core.specs.Built.{finished};
 ghost use Rattle.value_core.specs.Refusals.{is_whole};
 ghost use Rattle.form_core.specs.Needs.{AreOwn, IsNeeded};
 ghost use Rattle.form_core.specs.NodeForms.{form_of_bare, form_of_bytes};
@@ -16,7 +16,6 @@ ghost use Rattle.decode_core.specs.Turned.{WantsBytes, node_turned};
 use crate::fault::DecodeReason;
 use crate::node::{NodeFault, add_arm, add_bare, add_plain, add_sequence};
 use crate::turned::{Stopped, Turned, Whole};
-use count_core::Count;
 use form_core::{BareForm, BytesForm, Carry, NodeForm, need, node_form, read_length};
 use scale_core::compact_len;
 use std::alloc::Allocator;
@@ -37,6 +36,8 @@ pub(crate) struct Run<'r, A: Allocator> {
     pub(crate) builder: Builder<'r, A>,
     pub(crate) carry: Carry,
     pub(crate) open_run: Option<OpenRun>,
+    /// Turns on nodes that a piece has whole go on while more of its bytes than these are left: then room is made for more.
+    pub(crate) look: usize,
 }
 
 impl<'r, A: Allocator> Model for Run<'r, A> {
@@ -103,6 +104,7 @@ impl<'r, A: Allocator> Run<'r, A> {
             builder,
             carry: Carry::new(),
             open_run: None,
+            look: 0,
         }
     }
 
@@ -112,27 +114,6 @@ impl<'r, A: Allocator> Run<'r, A> {
         ensures { result ≡ finished self.entry.built }
     {
         self.builder.into_value()
-    }
-
-    /// How many turns the builder's loop has taken, of a value that is given up.
-    pub(crate) fn into_turns(self) -> Count
-        ensures { result.so_far ≡ self.entry.built.turns }
-    {
-        self.builder.into_turns()
-    }
-
-    /// How many nodes it has.
-    pub(crate) fn node_count(&self) -> u64
-        ensures { result ≡ length self.now.built.entries }
-    {
-        self.builder.node_count()
-    }
-
-    /// How many bytes of texts and runs of bytes it has, those of an open one too.
-    pub(crate) fn text_bytes(&self) -> u64
-        ensures { result ≡ built_text_bytes self.now.built }
-    {
-        self.builder.text_bytes()
     }
 
     /// A turn on a node without bytes of its own.

@@ -3,9 +3,10 @@
 use decode_core::{DecodeFault, DecodeReason, Decoder, OpenFault, Progress};
 use decoder_calls::calls::{Holding, feed, finish, held, open, opening_fault};
 use linked_list_allocator::LocalHeap;
+use scale_core::write_compact;
 use scale_tests::building::{checked, written};
 use scale_tests::rationed::Rationed;
-use scale_tests::registries::{NESTED, TWO_UNITS_AND_A_BYTE, nested_pairs};
+use scale_tests::registries::{NESTED, TWO_UNITS_AND_A_BYTE, WORDS, nested_pairs};
 use scale_tests::rows::AMPLE;
 use std::alloc::{Allocator, Global};
 use std::process::Abort;
@@ -142,6 +143,45 @@ fn each_refused_growth_ends_the_decoder(rt: HostRuntime) -> Result<(), Fail> {
         }
     }
     Err("each run is refused memory")?
+}
+
+/// Feeds 20,000 words in one piece, over memory of which this request is refused: was it made, and the value refused?
+fn long_piece(
+    rt: &impl Abort,
+    alloc: Global,
+    checked: &Checked,
+    piece: &[u8],
+    request: u64,
+) -> Result<(bool, bool), Fail> {
+    let memory = Rationed::new(alloc, request);
+    let mut decoder = open(&memory, checked, 1, AMPLE)?;
+    let reported = feed(&mut decoder, piece);
+    let made = memory.is_past_refusal();
+    if reported == Err(REFUSED) {
+        return Ok((made, true));
+    }
+    let used = piece.len() as u64;
+    assert_eq!(rt; reported, Ok(Progress::Done { used }), "request {request}");
+    assert_eq!(rt; held(&decoder).nodes, 20_001, "request {request}");
+    Ok((made, false))
+}
+
+// The list of open nodes is asked for once, and that of nodes nine times while they are few. Then there is room for what four times
+// as many bytes bring, three times, and this is all: by halves it would be ten times more. What is expected is not wanted
+// yet, so no value is refused where that room is.
+#[test]
+fn a_long_piece_makes_room_ahead(rt: HostRuntime) -> Result<(), Fail> {
+    let checked = checked(rt.alloc(), WORDS)?;
+    let mut piece = Vec::new(rt.alloc());
+    write_compact(&mut piece, 20_000)?;
+    'words: for _ in 0..40_000 {
+        piece.push(b'a')?;
+    }
+    'requests: for request in 1..=14 {
+        let answer = long_piece(&rt, rt.alloc(), &checked, &piece, request)?;
+        assert_eq!(rt; answer, (request <= 13, request <= 10), "request {request}");
+    }
+    Ok(())
 }
 
 /// Finishes a decoder that was fed nothing, over memory of which this request is refused: was it made?

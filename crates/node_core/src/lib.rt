@@ -15,7 +15,7 @@ pub use children::Children;
 pub use leaf::Leaf;
 pub use node::{Content, NODE_BYTES, Node};
 pub use node_ref::NodeRef;
-pub use room::make_room;
+pub use room::{make_room, make_room_ahead};
 pub use value::Value;
 pub use what::What;
 pub use writing::{WriteFault, encode, send};

@@ -1,6 +1,7 @@
 //! Room for the nodes of a value, and for the bytes beside them.
 
-ghost use Rattle.std.specs.Prelude.{◌≡◌, ◌≤◌, ◌+◌, ◌/◌, max, OnOk, vec_len, vec_capacity};
+ghost use Rattle.std.specs.Prelude.{◌≡◌, ◌<◌, ◌≤◌, ◌+◌, ◌*◌, ◌/◌, max, min, OnOk, vec_len};
+ghost use Rattle.std.specs.Prelude.{vec_capacity};
 
 use std::alloc::{AllocError, Allocator};
 
@@ -44,4 +45,31 @@ fn grow<T, A: Allocator>(list: &mut Vec<T, A>, more: usize) -> Result<(), AllocE
     let len = list.len();
     let part = if len < LONG { len / 2 } else { len / 4 };
     list.reserve_exact(more.max(part.max(FIRST)))
+}
+
+/// Makes room for so many more elements of a list as are expected, or for four times as many as it has where that is less:
+/// ahead of them, so that it need not grow on the way. Where they are no more than half of what it has, it is left to grow.
+///
+/// Refuses want of memory. The list keeps its elements and its room in either case.
+#[cold]
+#[inline(never)]
+pub fn make_room_ahead<T, A: Allocator>(
+    list: &mut Vec<T, A>,
+    expected: usize,
+) -> Result<(), AllocError>
+    ensures items { list.new.items ≡ list.old.items }
+    ensures kept { vec_capacity list.old ≤ vec_capacity list.new }
+    ensures room { OnOk result (vec_len list.new + min expected (4 * vec_len list.new)
+        ≤ max (vec_capacity list.new) (vec_len list.new + vec_len list.new / 2)) }
+    ensures bounded { vec_capacity list.new ≤ max (vec_capacity list.old)
+        (vec_len list.old + min expected (4 * vec_len list.old)) }
+    ensures grows { vec_capacity list.old < vec_capacity list.new →
+        vec_len list.old + vec_len list.old / 2 ≤ vec_capacity list.new }
+{
+    let len = list.len();
+    let more = expected.min(len.saturating_mul(4));
+    if more <= len / 2 || more <= list.capacity() - len {
+        return Ok(());
+    }
+    list.reserve_exact(more)
 }

@@ -24,7 +24,7 @@ use crate::open_run::OpenRun;
 use crate::walk::Walk;
 use count_core::Count;
 use grammar_core::{Form, MAX_DEPTH, Next, RunKind};
-use node_core::{Content, Leaf, Node, Value, make_room};
+use node_core::{Content, Leaf, Node, Value, make_room, make_room_ahead};
 use registry_core::TypeId;
 use simdutf8::compat::from_utf8;
 use std::alloc::{AllocError, Allocator};
@@ -188,6 +188,13 @@ fn settle<A: Allocator>(walk: &mut Walk<'_, A>, nodes: &mut Vec<Node, A>, turns:
     }
 }
 
+/// How many elements so many bytes ahead are expected to bring, by those that came with the bytes that were taken: in proportion,
+/// and a sixteenth more, since no two parts of a value are quite alike.
+fn expected(came: usize, taken: usize, ahead: usize) -> usize {
+    let share = came.saturating_mul(ahead) / taken.max(1);
+    share.saturating_add(share / 16)
+}
+
 impl<'r, A: Allocator + Clone> Builder<'r, A> {
     /// A builder of a value of the root's type, of which nothing is there yet, down to this depth.
     ///
@@ -295,6 +302,21 @@ impl<'r, A: Allocator> Builder<'r, A> {
             Some(open) => (self.text_len + (self.pool.as_slice().len() - open.start)) as u64,
             None => self.text_len as u64,
         }
+    }
+
+    /// Makes room for the nodes, and for the bytes beside them, that so many bytes ahead are expected to bring, by what it holds
+    /// of those that were taken; for at most four times as many as it has, and only where growing would make less. So what
+    /// a long piece brings is not moved again and again.
+    ///
+    /// Where memory is refused, each node that is added makes room for itself, as without this call.
+    #[inline(never)]
+    pub fn make_room_ahead(&mut self, taken: usize, ahead: usize)
+        ensures { self.new ≡ self.old }
+    {
+        let nodes = expected(self.nodes.as_slice().len(), taken, ahead);
+        let bytes = expected(self.pool.as_slice().len(), taken, ahead);
+        let _refused = make_room_ahead(&mut self.nodes, nodes);
+        let _refused = make_room_ahead(&mut self.pool, bytes);
     }
 
     /// How many turns its calls have taken, of a builder that is given up: each of them closed a node whose parts were

@@ -1,6 +1,6 @@
 //! Nodes as a builder keeps them: what does not fit a node, nodes that are closed, and room for more.
 
-use node_core::{Content, Leaf, make_room};
+use node_core::{Content, Leaf, make_room, make_room_ahead};
 use std::test::Fail;
 
 #[test]
@@ -48,6 +48,21 @@ fn a_list_gets_room_for_half_as_many_more(rt: HostRuntime) -> Result<(), Fail> {
     assert_eq!(rt; list.capacity(), 60);
     make_room(&mut list, 100)?;
     assert_eq!(rt; list.capacity(), 140);
+    assert_eq!(rt; list.as_slice(), [1; 40].as_slice());
+    Ok(())
+}
+
+#[test]
+fn a_list_gets_room_for_what_is_expected(rt: HostRuntime) -> Result<(), Fail> {
+    let mut list = Vec::new(rt.alloc());
+    list.extend_from_slice(&[1; 40])?;
+    list.shrink_to_fit();
+    make_room_ahead(&mut list, 20)?;
+    assert_eq!(rt; list.capacity(), 40);
+    make_room_ahead(&mut list, 21)?;
+    assert_eq!(rt; list.capacity(), 61);
+    make_room_ahead(&mut list, 1000)?;
+    assert_eq!(rt; list.capacity(), 200);
     assert_eq!(rt; list.as_slice(), [1; 40].as_slice());
     Ok(())
 }

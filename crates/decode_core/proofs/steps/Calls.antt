@@ -92,7 +92,7 @@ whole_of b d piece at from to n last is e k =
     (subst (λ (l : List ℕ). WholeTurnsReport b d l from to n last) (take_rest piece at) k)
 
 -- turns on whole nodes, and what the turn after them reports, are the turns of a call
-turns_with : (b x d : Running) (piece : List ℕ) (from to n : ℕ) (read : Whole) (last : Turned)
+pub turns_with : (b x d : Running) (piece : List ℕ) (from to n : ℕ) (read : Whole) (last : Turned)
     (w : WholeTurnsReport b x piece from to n read) → StepReports w.before d (drop n piece) last →
     KeepsTurns w.before d last → (is_whole b.built ≡ true →
     (n ≡ 0) × (w.before ≡ b) × (last ≡ turned.Stopped stop.Finished)) →
