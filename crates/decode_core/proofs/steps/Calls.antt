@@ -92,7 +92,7 @@ whole_of b d piece at from to n last is e k =
     (subst (λ (l : List ℕ). WholeTurnsReport b d l from to n last) (take_rest piece at) k)
 
 -- turns on whole nodes, and what the turn after them reports, are the turns of a call
-pub turns_with : (b x d : Running) (piece : List ℕ) (from to n : ℕ) (read : Whole) (last : Turned)
+turns_with : (b x d : Running) (piece : List ℕ) (from to n : ℕ) (read : Whole) (last : Turned)
     (w : WholeTurnsReport b x piece from to n read) → StepReports w.before d (drop n piece) last →
     KeepsTurns w.before d last → (is_whole b.built ≡ true →
     (n ≡ 0) × (w.before ≡ b) × (last ≡ turned.Stopped stop.Finished)) →
@@ -108,6 +108,16 @@ turns_with b x d piece from to n read last w reports kept whole = record {
   kept = kept;
   whole = whole;
 }
+
+-- one turn of the other kind, and no other before it
+pub first_turn : (a d : Running) (piece : List ℕ) (from to : ℕ) (last : Turned) →
+    to ≡ from + 1 → IsSound a → StepReports a d piece last → KeepsTurns a d last →
+    (is_whole a.built ≡ true → last ≡ turned.Stopped stop.Finished) →
+    TurnsReport a d piece from to 0 last
+unfolding no_whole one_turn
+first_turn a d piece from to last is sound reports kept finished =
+    turns_with a a d piece from to 0 whole.Left last (no_whole a piece from to is sound) reports
+    kept (λ w. (refl, refl, finished w))
 
 -- where the last of such turns added a node, it went on
 pub whole_added : (b d : Running) (piece : List ℕ) (at from to n k : ℕ) (last : Whole) →

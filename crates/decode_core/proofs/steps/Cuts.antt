@@ -15,7 +15,7 @@ use Rattle.decode_core.specs.Turned.{StepReports, TurnsReport}
 use Rattle.decode_core.specs.declared.turned.Turned.{Turned}
 use Rattle.decode_core.specs.declared.turned.Turned.TheVariants as turned
 use Rattle.decode_core.specs.declared.turned.Whole.TheVariants as whole
-use Rattle.decode_core.proofs.steps.Calls.{call_on, no_whole, tells_short, turns_with}
+use Rattle.decode_core.proofs.steps.Calls.{call_on, first_turn, tells_short}
 use Rattle.decode_core.proofs.steps.Moving.{moves_none, wants_goes_on}
 use Rattle.decode_core.proofs.steps.Refusing.{IsShortOf}
 use Rattle.decode_core.proofs.steps.RunTurns.{IsCut, of_fields, short_of}
@@ -77,8 +77,8 @@ carried_turn : (a d : Running) (piece : List ℕ) (from to : ℕ) (last : Turned
     to ≡ from + 1 → IsSound a → 1 ≤ length a.carry → StepReports a d piece last →
     KeepsTurns a d last → TurnsReport a d piece from to 0 last
 carried_turn a d piece from to last is sound some reports kept =
-    turns_with a a d piece from to 0 whole.Left last (no_whole a piece from to is sound) reports
-    kept (λ w. absurd (carried_goes_on a a.carry sound.carried some w))
+    first_turn a d piece from to last is sound reports kept
+    (λ w. absurd (carried_goes_on a a.carry sound.carried some w))
 
 -- the turns of a call that has taken none
 start_so_far : (a : Running) (piece : List ℕ) (from : ℕ) → CallSoFar a a piece 0 from from

@@ -1,7 +1,6 @@
 -- A node that is added by its own bytes, or refused.
 use Rattle.std.proofs.Common.{◌≡◌, ℕ, false, List, [], Option, Ok, Err, refl, ap, ◌∙◌}
 use Rattle.scale_core.specs.Read.{Read, place}
-use Rattle.registry_core.specs.declared.primitive.Primitive.{Primitive}
 use Rattle.widths_core.specs.Layouts as layout
 use Rattle.widths_core.specs.declared.run_kind.RunKind.{RunKind}
 use Rattle.value_core.specs.Built.{Built, next_layout}

@@ -1,8 +1,9 @@
-use Rattle.std.proofs.Common.{◌≤◌, arith, subst}
+use Rattle.std.proofs.Common.{◌≤◌, ap, arith, length, subst}
 use Rattle.graph_core.specs.Widths.{widest}
 use Rattle.decode_core.specs.Viewed.{job_within}
 use Rattle.decode_core.specs.Bound.{node_bound}
 use Rattle.decode_core.specs.Decoding.{Decoding}
+use Rattle.decode_core.specs.Running.{Running}
 use Rattle.decode_core.proofs.calls.Inside.{small_inside}
 use Rattle.decode_core.proofs.decoder.Decoder.node_count.Goals as goal
 
@@ -12,6 +13,11 @@ returns-in-Ok-clause-bound g c =
     let j = job_within d in
     let small = small_inside d _ c.self.invariant c.in-Ok.is in
     let few : c.node_count.result ≤ node_bound d.taken j.depth (widest j.registry) =
-    omega (arith, small.nodes, c.node_count.ensures) in
+    omega (
+      arith,
+      small.nodes,
+      c.node_count.ensures.count,
+      ap (λ (s : Running). length s.built.entries) c.run.view_is,
+    ) in
     subst (λ (x : Decoding). c.node_count.result
     ≤ node_bound x.taken x.job.depth (widest x.job.registry)) c.self.view_is few

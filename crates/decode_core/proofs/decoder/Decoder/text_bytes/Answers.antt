@@ -1,5 +1,7 @@
-use Rattle.std.proofs.Common.{◌≤◌, arith, subst}
+use Rattle.std.proofs.Common.{◌≤◌, ap, arith, subst}
 use Rattle.decode_core.specs.Decoding.{Decoding}
+use Rattle.decode_core.specs.Running.{Running}
+use Rattle.value_core.specs.Built.{built_text_bytes}
 use Rattle.decode_core.proofs.calls.Inside.{small_inside}
 use Rattle.decode_core.proofs.decoder.Decoder.text_bytes.Goals as goal
 
@@ -7,5 +9,10 @@ pub returns-in-Ok-clause-bound : goal.returns-in-Ok-clause-bound
 returns-in-Ok-clause-bound g c =
     let d = c.self.inside in
     let small = small_inside d _ c.self.invariant c.in-Ok.is in
-    let few : c.text_bytes.result ≤ d.taken = omega (arith, small.texts, c.text_bytes.ensures) in
+    let few : c.text_bytes.result ≤ d.taken = omega (
+      arith,
+      small.texts,
+      c.text_bytes.ensures.count,
+      ap (λ (s : Running). built_text_bytes s.built) c.run.view_is,
+    ) in
     subst (λ (x : Decoding). c.text_bytes.result ≤ x.taken) c.self.view_is few

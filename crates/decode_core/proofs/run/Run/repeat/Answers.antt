@@ -72,6 +72,8 @@ returns-in_default g c =
 pub whole_plain-requires-clause-next : goal.whole_plain-requires-clause-next
 whole_plain-requires-clause-next g c = elim c.if-is_in_list.branch [
   | then-is_in_list+else-elements-test w ↦ rw w.self-is w.elements.invariant.so_far.awaits
+  | goal.then-is_in_list+then-elements-test+else-piece-at w ↦
+      rw w.self-is w.elements.invariant.so_far.awaits
   | else-is_in_list w ↦ rw w.self-is c.requires.next
 ]
 
@@ -83,6 +85,8 @@ returns g c =
     c.if-is_in_list.at start c.if-is_in_list.turns.so_far = elim c.if-is_in_list.branch [
       | then-is_in_list+else-elements-test w ↦ rw (w.self-is, w.turns-is, w.at-is)
           w.elements.invariant.so_far
+      | goal.then-is_in_list+then-elements-test+else-piece-at w ↦
+          rw (w.self-is, w.turns-is, w.at-is) w.elements.invariant.so_far
       | else-is_in_list w ↦ rw (w.self-is, w.turns-is, w.at-is)
           (nodes_begin c.args.self.now f c.args.piece.now start c.requires.next)
     ] in
