@@ -28,7 +28,7 @@ use scale_core::{Target, read_compact};
 use std::alloc::{AllocError, Allocator};
 use value_core::{Form, Leaf, Next};
 
-/// A piece of so many bytes is long.
+/// A value that begins with a piece of so many bytes gets room ahead of its nodes, by what the front of the piece has brought.
 const LONG: usize = 16 * 1024;
 
 impl<'r, A: Allocator> Run<'r, A> {
@@ -324,8 +324,8 @@ impl<'r, A: Allocator> Run<'r, A> {
         (at, Whole::Left)
     }
 
-    /// Where a look is due, makes room for what the bytes up to the next one are expected to bring: it is due when four times as
-    /// many bytes of a piece were taken.
+    /// Where a look is due, makes room for what the bytes of the piece up to the next one are expected to bring. That one is due
+    /// when four times as many bytes are taken, or else at the piece's end.
     #[inline(always)]
     fn look_ahead(&mut self, taken: usize, left: usize)
         ensures { self.new ≡ self.old }
@@ -344,11 +344,9 @@ impl<'r, A: Allocator> Run<'r, A> {
         ensures { FeedTells self.old self.new piece.now turns.old.so_far turns.new.so_far result }
     {
         let mut at = 0;
-        let is_first = self.builder.node_count() == 0;
-        self.look = if is_first && piece.len() >= LONG {
-            piece.len() - piece.len() / 64
-        } else {
-            0
+        self.look = match self.builder.node_count() {
+            0 if piece.len() >= LONG => piece.len() - piece.len() / 64,
+            _ => 0,
         };
         if !self.carry.is_empty() {
             let Ok(count) = self.carried_turn(piece, turns) else {

@@ -36,7 +36,7 @@ pub(crate) struct Run<'r, A: Allocator> {
     pub(crate) builder: Builder<'r, A>,
     pub(crate) carry: Carry,
     pub(crate) open_run: Option<OpenRun>,
-    /// Turns on nodes that a piece has whole go on while more of its bytes than these are left: then room is made for more.
+    /// Turns on nodes that a piece has whole go on while more of its bytes than these are left. Then a look ahead is due.
     pub(crate) look: usize,
 }
 

@@ -6,8 +6,8 @@ ghost use Rattle.node_core.specs.Shown.{size_shown, closed_as};
 use registry_core::TypeId;
 
 /// How many bytes of memory a node of a value or a builder takes. Beside its nodes a value has the bytes of its texts and
-/// runs of bytes, 32 for each 256-bit integer, and 16 for each other one above 64 bits; vectors may have room for as much
-/// again while they grow.
+/// runs of bytes, 32 for each 256-bit integer, and 16 for each other one above 64 bits. Vectors that grow have room for half as
+/// much again, and for at most four times as much where the bytes that are there are expected to bring it.
 pub const NODE_BYTES: usize = 24;
 
 const _: () = prove!(size_of::<Node>() == NODE_BYTES);
