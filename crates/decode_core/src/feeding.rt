@@ -213,7 +213,8 @@ impl<'r, A: Allocator> Run<'r, A> {
         let mut at = 0;
         if self.builder.walk().is_in_list() {
             let mut after = self.builder.walk().elements_after();
-            'elements: while after > 0 && piece.len() - at > self.look {
+            let end = piece.len().saturating_sub(self.look);
+            'elements: while after > 0 && at < end {
                 turns.tick();
                 let last = self.whole_element(form, &piece[at..]);
                 let Whole::Added(count) = last else {
@@ -309,12 +310,13 @@ impl<'r, A: Allocator> Run<'r, A> {
             result.0 result.1 }
     {
         let mut at = 0;
+        let end = piece.len().saturating_sub(self.look);
         if self.carry.is_empty() && self.open_run.is_none() {
             'nodes: while let Some(form) = self.next_form() {
                 let (taken, last) = self.whole_nodes(form, &piece[at..], turns);
                 at += taken;
                 match last {
-                    Whole::Added(count) if piece.len() - at - count > self.look => at += count,
+                    Whole::Added(count) if at + count < end => at += count,
                     _ => return (at, last),
                 }
             }

@@ -6,8 +6,6 @@ use Rattle.decode_core.proofs.steps.Calls.{turns_end, whole_added}
 use Rattle.decode_core.proofs.steps.Cuts.{left_so_far}
 use Rattle.decode_core.proofs.run.Run.whole_turns.Goals.{else-is_empty}
 use Rattle.decode_core.proofs.run.Run.whole_turns.Goals.{then-is_empty+then-is_none+in_default}
-use Rattle.decode_core.proofs.run.Run.whole_turns.Goals.{in_default-last-via-in-Added+else-piece-at}
-use Rattle.decode_core.proofs.run.Run.whole_turns.Goals.{in_default-last-via-in_default-last}
 use Rattle.decode_core.proofs.run.Run.whole_turns.Goals as goal
 
 pub nodes-init : goal.nodes-init
@@ -51,16 +49,19 @@ pub returns-in_default-last : goal.returns-in_default-last
 returns-in_default-last g c =
     let w = c.whole_nodes-taken in
     let i = c.nodes.invariant in
-    let after = turns_after c.args.self.now c.nodes.self w.new.self c.args.piece.now c.nodes.at
+    subst (λ (last : Whole). WholeTurnsReport c.args.self.now w.new.self c.args.piece.now
+    c.args.turns.now.so_far w.new.turns.so_far (c.nodes.at + w.result.0) last) c.in-Added.is
+    (turns_after c.args.self.now c.nodes.self w.new.self c.args.piece.now c.nodes.at
     c.args.turns.now.so_far c.nodes.turns.so_far w.new.turns.so_far w.result.0 w.result.1
-    i.so_far i.nearer w.ensures in
-    elim c.in_default-last.branch [
-      | in_default-last-via-in-Added+else-piece-at x ↦ rw x.last-is
-          (subst (λ (last : Whole). WholeTurnsReport c.args.self.now w.new.self c.args.piece.now
-          c.args.turns.now.so_far w.new.turns.so_far (c.nodes.at + w.result.0) last)
-          x.in-Added.is after)
-      | in_default-last-via-in_default-last x ↦ rw x.last-is after
-    ]
+    i.so_far i.nearer w.ensures)
+
+pub returns-in_default-last-2 : goal.returns-in_default-last-2
+returns-in_default-last-2 g c =
+    let w = c.whole_nodes-taken in
+    let i = c.nodes.invariant in
+    turns_after c.args.self.now c.nodes.self w.new.self c.args.piece.now c.nodes.at
+    c.args.turns.now.so_far c.nodes.turns.so_far w.new.turns.so_far w.result.0 w.result.1
+    i.so_far i.nearer w.ensures
 
 pub returns : goal.returns
 returns g c =
