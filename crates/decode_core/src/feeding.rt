@@ -212,9 +212,10 @@ impl<'r, A: Allocator> Run<'r, A> {
     {
         let mut at = 0;
         if self.builder.walk().is_in_list() {
-            let mut after = self.builder.walk().elements_after();
-            let end = piece.len().saturating_sub(self.look);
-            'elements: while after > 0 && at < end {
+            // None has many more than sixteen bytes, so that none of these stands far past the next look.
+            let few = piece.len().saturating_sub(self.look) / 16;
+            let mut after = few.min(self.builder.walk().elements_after() as usize);
+            'elements: while after > 0 {
                 turns.tick();
                 let last = self.whole_element(form, &piece[at..]);
                 let Whole::Added(count) = last else {

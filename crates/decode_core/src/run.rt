@@ -239,14 +239,12 @@ impl<'r, A: Allocator> Run<'r, A> {
         ensures kept { KeepsTurns self.old self.new result }
     {
         let count = piece.len().min(run.missing as usize);
-        match self.builder.extend_run(&piece[..count]) {
-            Ok(()) => {
-                let missing = run.missing - count as u32;
-                self.open_run = Some(OpenRun { missing, ..run });
-                Turned::On(count)
-            }
-            Err(_) => Turned::OutOfMemory,
-        }
+        let Ok(()) = self.builder.extend_run(&piece[..count]) else {
+            return Turned::OutOfMemory;
+        };
+        let missing = run.missing - count as u32;
+        self.open_run = Some(OpenRun { missing, ..run });
+        Turned::On(count)
     }
 
     /// Ends the run that is open, whose bytes are all there, the last `count` of them by this turn.

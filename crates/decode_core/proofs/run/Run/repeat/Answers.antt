@@ -6,7 +6,6 @@ use Rattle.decode_core.specs.Turned.{GoesOn, WholeReports}
 use Rattle.decode_core.proofs.steps.Calls.{NodesSoFar, nodes_begin, whole_more}
 use Rattle.decode_core.proofs.steps.Moving.{each_turn, few_turn, turn_goes_on, turn_nearer}
 use Rattle.decode_core.proofs.run.Run.repeat.Goals.{then-is_in_list+else-elements-test}
-use Rattle.decode_core.proofs.run.Run.repeat.Goals.{then-is_in_list+then-elements-test+else-at-end}
 use Rattle.decode_core.proofs.run.Run.repeat.Goals.{else-is_in_list}
 use Rattle.decode_core.proofs.run.Run.repeat.Goals as goal
 
@@ -17,8 +16,10 @@ elements-init g c = record {
   so_far = nodes_begin c.args.self.now (form_of_plain c.args.form) c.args.piece.now
       c.args.turns.now.so_far c.requires.next;
   empty = c.requires.empty;
-  after = (rw c.walk-then-is_in_list.ensures.same at c.elements_after-after.ensures)
-      ∙ ap (λ (s : Running). elements_after s.built.walk) c.self.view_is;
+  after =
+      let counted = (rw c.walk-then-is_in_list.ensures.same at c.elements_after.ensures)
+      ∙ ap (λ (s : Running). elements_after s.built.walk) c.self.view_is in
+      omega (arith, c.min-after.ensures, counted);
 }
 
 pub elements-smaller : goal.elements-smaller
@@ -73,8 +74,6 @@ returns-in_default g c =
 pub whole_plain-requires-clause-next : goal.whole_plain-requires-clause-next
 whole_plain-requires-clause-next g c = elim c.if-is_in_list.branch [
   | then-is_in_list+else-elements-test w ↦ rw w.self-is w.elements.invariant.so_far.awaits
-  | then-is_in_list+then-elements-test+else-at-end w ↦
-      rw w.self-is w.elements.invariant.so_far.awaits
   | else-is_in_list w ↦ rw w.self-is c.requires.next
 ]
 
@@ -86,8 +85,6 @@ returns g c =
     c.if-is_in_list.at start c.if-is_in_list.turns.so_far = elim c.if-is_in_list.branch [
       | then-is_in_list+else-elements-test w ↦ rw (w.self-is, w.turns-is, w.at-is)
           w.elements.invariant.so_far
-      | then-is_in_list+then-elements-test+else-at-end w ↦
-          rw (w.self-is, w.turns-is, w.at-is) w.elements.invariant.so_far
       | else-is_in_list w ↦ rw (w.self-is, w.turns-is, w.at-is)
           (nodes_begin c.args.self.now f c.args.piece.now start c.requires.next)
     ] in

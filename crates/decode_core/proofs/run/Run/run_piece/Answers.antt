@@ -2,8 +2,8 @@ use Rattle.std.proofs.Common.{rules, arith, ◌≤◌, length}
 use Rattle.decode_core.proofs.steps.RunSteps.{is_open, piece_wants}
 use Rattle.decode_core.proofs.run.Run.run_piece.Goals as goal
 
-pub returns-in-Err-clause-reports : goal.returns-in-Err-clause-reports
-returns-in-Err-clause-reports g c =
+pub returns-in_default-clause-reports : goal.returns-in_default-clause-reports
+returns-in_default-clause-reports g c =
     let few : c.min-count.result ≤ c.args.run.missing = search rules in
     let there : c.min-count.result ≤ length c.args.piece.now = search rules in
     let some : 1 ≤ c.min-count.result =
