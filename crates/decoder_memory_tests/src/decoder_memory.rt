@@ -166,9 +166,9 @@ fn long_piece(
     Ok((made, false))
 }
 
-// The list of open nodes is asked for once, and that of nodes nine times while they are few. Then there is room for what four times
-// as many bytes bring, three times, and this is all: by halves it would be ten times more. What is expected is not wanted
-// yet, so no value is refused where that room is.
+// The list of open nodes takes memory once, and that of nodes eight times while they are few. Then there is room for what four
+// times as many bytes are expected to bring, three times in all: growing would take memory ten times more. What is expected is not
+// wanted yet, so a value goes on where that room is refused.
 #[test]
 fn a_long_piece_makes_room_ahead(rt: HostRuntime) -> Result<(), Fail> {
     let checked = checked(rt.alloc(), WORDS)?;
@@ -177,9 +177,9 @@ fn a_long_piece_makes_room_ahead(rt: HostRuntime) -> Result<(), Fail> {
     'words: for _ in 0..40_000 {
         piece.push(b'a')?;
     }
-    'requests: for request in 1..=14 {
+    'requests: for request in 1..=13 {
         let answer = long_piece(&rt, rt.alloc(), &checked, &piece, request)?;
-        assert_eq!(rt; answer, (request <= 13, request <= 10), "request {request}");
+        assert_eq!(rt; answer, (request <= 12, request <= 9), "request {request}");
     }
     Ok(())
 }
