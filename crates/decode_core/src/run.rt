@@ -33,11 +33,11 @@ pub(crate) struct OpenRun {
 /// is open are in the builder.
 #[derive(Drop)]
 pub(crate) struct Run<'r, A: Allocator> {
+    /// Turns on nodes that a piece has whole go on while more of its bytes than these are left. Then a look ahead is due.
+    pub(crate) look: usize,
     pub(crate) builder: Builder<'r, A>,
     pub(crate) carry: Carry,
     pub(crate) open_run: Option<OpenRun>,
-    /// Turns on nodes that a piece has whole go on while more of its bytes than these are left. Then a look ahead is due.
-    pub(crate) look: usize,
 }
 
 impl<'r, A: Allocator> Model for Run<'r, A> {
@@ -101,10 +101,10 @@ impl<'r, A: Allocator> Run<'r, A> {
         ensures { result ≡ record { built = builder.entry; carry = [] } }
     {
         Run {
+            look: 0,
             builder,
             carry: Carry::new(),
             open_run: None,
-            look: 0,
         }
     }
 
