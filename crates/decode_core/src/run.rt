@@ -33,9 +33,9 @@ pub(crate) struct OpenRun {
 /// is open are in the builder.
 #[derive(Drop)]
 pub(crate) struct Run<'r, A: Allocator> {
+    pub(crate) builder: Builder<'r, A>,
     /// Turns on nodes that a piece has whole go on while more of its bytes than these are left. Then a look ahead is due.
     pub(crate) look: usize,
-    pub(crate) builder: Builder<'r, A>,
     pub(crate) carry: Carry,
     pub(crate) open_run: Option<OpenRun>,
 }
@@ -101,8 +101,8 @@ impl<'r, A: Allocator> Run<'r, A> {
         ensures { result ≡ record { built = builder.entry; carry = [] } }
     {
         Run {
-            look: 0,
             builder,
+            look: 0,
             carry: Carry::new(),
             open_run: None,
         }
