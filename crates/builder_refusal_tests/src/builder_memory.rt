@@ -427,27 +427,23 @@ fn a_builder_without_memory_is_not_made(rt: HostRuntime) -> Result<(), Fail> {
     Ok(())
 }
 
-/// Builds 100 words over memory of which this request is refused, with room ahead for the last 60: was it made?
+/// Builds a list of 100 words over memory of which this request is refused: was it made?
 fn is_made(rt: &impl Abort, alloc: Global, checked: &Checked, request: u64) -> Result<bool, Fail> {
     let memory = Rationed::new(alloc, request);
     let mut builder = begun(&memory, checked, 1, 64)?;
     add(&mut builder, Call::List(100))?;
-    add_all(&mut builder, &[Call::Unsigned(1); 40])?;
-    let before = what_stands(&builder);
-    builder.make_room_ahead(82, 120);
-    assert_eq!(rt; what_stands(&builder), before, "request {request}");
-    add_all(&mut builder, &[Call::Unsigned(1); 60])?;
+    add_all(&mut builder, &[Call::Unsigned(1); 100])?;
     let value = finished(builder)?;
     assert_eq!(rt; counts(&value), (101, 0), "request {request}");
     Ok(memory.is_past_refusal())
 }
 
-// The list of open nodes takes memory once, and that of nodes three times for the first 41, of which 82 bytes would have brought
-// as many. What 120 more bring has room by the fifth request, and no other is made. Where that one is refused, nothing is lost.
+// The list of open nodes takes memory once, and that of nodes for 16, and 32, and then, ahead, for what 69 more words are expected to
+// bring. Where that fourth request is refused, they grow by halves, and nothing is lost.
 #[test]
 fn room_ahead_is_taken_once(rt: HostRuntime) -> Result<(), Fail> {
     let checked = checked(rt.alloc(), WORDS)?;
-    'requests: for (request, made) in [(5, true), (6, false)] {
+    'requests: for (request, made) in [(4, true), (5, false)] {
         let answer = is_made(&rt, rt.alloc(), &checked, request)?;
         assert_eq!(rt; answer, made, "request {request}");
     }

@@ -28,9 +28,6 @@ use scale_core::{Target, read_compact};
 use std::alloc::{AllocError, Allocator};
 use value_core::{Form, Leaf, Next};
 
-/// A value that begins with a piece of so many bytes gets room ahead of its nodes, by what the front of the piece has brought.
-const LONG: usize = 16 * 1024;
-
 impl<'r, A: Allocator> Run<'r, A> {
     /// A turn on a node that pieces cut, where this one has the bytes that are missing and they are not refused.
     #[inline(always)]
@@ -212,9 +209,7 @@ impl<'r, A: Allocator> Run<'r, A> {
     {
         let mut at = 0;
         if self.builder.walk().is_in_list() {
-            // None has many more than sixteen bytes, so that none of these stands far past the next look.
-            let few = piece.len().saturating_sub(self.look) / 16;
-            let mut after = few.min(self.builder.walk().elements_after() as usize);
+            let mut after = self.builder.walk().elements_after();
             'elements: while after > 0 {
                 turns.tick();
                 let last = self.whole_element(form, &piece[at..]);
@@ -311,13 +306,12 @@ impl<'r, A: Allocator> Run<'r, A> {
             result.0 result.1 }
     {
         let mut at = 0;
-        let end = piece.len().saturating_sub(self.look);
         if self.carry.is_empty() && self.open_run.is_none() {
             'nodes: while let Some(form) = self.next_form() {
                 let (taken, last) = self.whole_nodes(form, &piece[at..], turns);
                 at += taken;
                 match last {
-                    Whole::Added(count) if at + count < end => at += count,
+                    Whole::Added(count) if at + count < piece.len() => at += count,
                     _ => return (at, last),
                 }
             }
@@ -327,19 +321,6 @@ impl<'r, A: Allocator> Run<'r, A> {
         (at, Whole::Left)
     }
 
-    /// Where a look is due, makes room for what the bytes of the piece up to the next one are expected to bring. That one is due
-    /// when four times as many bytes are taken, or else at the piece's end.
-    #[inline(always)]
-    fn look_ahead(&mut self, taken: usize, left: usize)
-        ensures { self.new ≡ self.old }
-    {
-        if left <= self.look && left > 0 {
-            let ahead = left.min(taken.saturating_mul(3));
-            self.builder.make_room_ahead(taken, ahead);
-            self.look = left - ahead;
-        }
-    }
-
     /// Takes turns until one stops, and counts each: how many bytes of the piece they took, and why they stopped; where
     /// memory was refused, the bytes alone. The turns that close nodes are the builder's own, and counted there.
     #[inline(never)]
@@ -347,10 +328,6 @@ impl<'r, A: Allocator> Run<'r, A> {
         ensures { FeedTells self.old self.new piece.now turns.old.so_far turns.new.so_far result }
     {
         let mut at = 0;
-        self.look = match self.builder.node_count() {
-            0 if piece.len() >= LONG => piece.len() - piece.len() / 64,
-            _ => 0,
-        };
         if !self.carry.is_empty() {
             let Ok(count) = self.carried_turn(piece, turns) else {
                 return Err(0);
@@ -367,7 +344,6 @@ impl<'r, A: Allocator> Run<'r, A> {
             match last {
                 Whole::Added(count) => {
                     at += count;
-                    self.look_ahead(at, piece.len() - at);
                     continue 'turns;
                 }
                 Whole::OutOfMemory => return Err(at),

@@ -34,8 +34,6 @@ pub(crate) struct OpenRun {
 #[derive(Drop)]
 pub(crate) struct Run<'r, A: Allocator> {
     pub(crate) builder: Builder<'r, A>,
-    /// Turns on nodes that a piece has whole go on while more of its bytes than these are left. Then a look ahead is due.
-    pub(crate) look: usize,
     pub(crate) carry: Carry,
     pub(crate) open_run: Option<OpenRun>,
 }
@@ -102,7 +100,6 @@ impl<'r, A: Allocator> Run<'r, A> {
     {
         Run {
             builder,
-            look: 0,
             carry: Carry::new(),
             open_run: None,
         }

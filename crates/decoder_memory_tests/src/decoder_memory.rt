@@ -6,7 +6,7 @@ use linked_list_allocator::LocalHeap;
 use scale_core::write_compact;
 use scale_tests::building::{checked, written};
 use scale_tests::rationed::Rationed;
-use scale_tests::registries::{NESTED, TWO_UNITS_AND_A_BYTE, WORDS, nested_pairs};
+use scale_tests::registries::{NESTED, TEXT, TWO_UNITS_AND_A_BYTE, WORDS, nested_pairs};
 use scale_tests::rows::AMPLE;
 use std::alloc::{Allocator, Global};
 use std::process::Abort;
@@ -145,41 +145,87 @@ fn each_refused_growth_ends_the_decoder(rt: HostRuntime) -> Result<(), Fail> {
     Err("each run is refused memory")?
 }
 
-/// Feeds 20,000 words in one piece, over memory of which this request is refused: was it made, and the value refused?
-fn long_piece(
+/// Feeds a long value in pieces of so many bytes, over memory of which this request is refused: was it made, and the value refused?
+fn long_value(
     rt: &impl Abort,
     alloc: Global,
-    checked: &Checked,
-    piece: &[u8],
+    long: &Long<'_>,
+    piece: usize,
     request: u64,
 ) -> Result<(bool, bool), Fail> {
     let memory = Rationed::new(alloc, request);
-    let mut decoder = open(&memory, checked, 1, AMPLE)?;
-    let reported = feed(&mut decoder, piece);
-    let made = memory.is_past_refusal();
-    if reported == Err(REFUSED) {
-        return Ok((made, true));
+    let mut decoder = open(&memory, long.checked, long.ty, AMPLE)?;
+    'pieces: for bytes in long.bytes.chunks(piece) {
+        if let Err(fault) = feed(&mut decoder, bytes) {
+            assert_eq!(rt; fault, REFUSED, "{piece}, request {request}");
+            return Ok((memory.is_past_refusal(), true));
+        }
     }
-    let used = piece.len() as u64;
-    assert_eq!(rt; reported, Ok(Progress::Done { used }), "request {request}");
-    assert_eq!(rt; held(&decoder).nodes, 20_001, "request {request}");
-    Ok((made, false))
+    assert_eq!(rt;
+        held(&decoder).nodes,
+        long.nodes,
+        "{piece}, request {request}"
+    );
+    finish(decoder).ok().ok_or("no value")?;
+    Ok((memory.is_past_refusal(), false))
 }
 
-// The list of open nodes takes memory once, and that of nodes eight times while they are few. Then there is room for what four
-// times as many bytes are expected to bring, three times in all: growing would take memory ten times more. What is expected is not
-// wanted yet, so a value goes on where that room is refused.
+/// A value that is long for its registry, and how many nodes it has.
+#[derive(Clone, Copy)]
+struct Long<'c> {
+    checked: &'c Checked,
+    ty: u32,
+    bytes: &'c [u8],
+    nodes: u64,
+}
+
+// The list of open nodes takes memory once, and that of nodes for 16 at first. Then there is room for what the words that are left are
+// expected to bring, in five steps of at most five times as many: growing would take memory thirteen times more. What is expected
+// is not wanted yet, so a value goes on where that room is refused. How the bytes are cut makes no difference.
 #[test]
-fn a_long_piece_makes_room_ahead(rt: HostRuntime) -> Result<(), Fail> {
+fn a_long_list_makes_room_ahead(rt: HostRuntime) -> Result<(), Fail> {
     let checked = checked(rt.alloc(), WORDS)?;
-    let mut piece = Vec::new(rt.alloc());
-    write_compact(&mut piece, 20_000)?;
+    let mut bytes = Vec::new(rt.alloc());
+    write_compact(&mut bytes, 20_000)?;
     'words: for _ in 0..40_000 {
-        piece.push(b'a')?;
+        bytes.push(b'a')?;
     }
-    'requests: for request in 1..=13 {
-        let answer = long_piece(&rt, rt.alloc(), &checked, &piece, request)?;
-        assert_eq!(rt; answer, (request <= 12, request <= 9), "request {request}");
+    let long = Long {
+        checked: &checked,
+        ty: 1,
+        bytes: bytes.as_slice(),
+        nodes: 20_001,
+    };
+    'pieces: for piece in [50_000, 4096, 7] {
+        'requests: for request in 1..=8 {
+            let answer = long_value(&rt, rt.alloc(), &long, piece, request)?;
+            let wanted = (request <= 7, request <= 2);
+            assert_eq!(rt; answer, wanted, "{piece}, request {request}");
+        }
+    }
+    Ok(())
+}
+
+// The bytes of a text take memory for those of its first piece, and its node does. Between them there is room three times for what the
+// text lacks, at most for four times as many bytes as there are.
+#[test]
+fn a_long_text_in_pieces_makes_room_ahead(rt: HostRuntime) -> Result<(), Fail> {
+    let checked = checked(rt.alloc(), TEXT)?;
+    let mut bytes = Vec::new(rt.alloc());
+    write_compact(&mut bytes, 40_000)?;
+    'letters: for _ in 0..40_000 {
+        bytes.push(b'a')?;
+    }
+    let long = Long {
+        checked: &checked,
+        ty: 0,
+        bytes: bytes.as_slice(),
+        nodes: 1,
+    };
+    'requests: for request in 1..=6 {
+        let answer = long_value(&rt, rt.alloc(), &long, 1000, request)?;
+        let wanted = (request <= 5, request == 1 || request == 5);
+        assert_eq!(rt; answer, wanted, "request {request}");
     }
     Ok(())
 }

@@ -97,16 +97,23 @@ fn check_claim(
     Ok(())
 }
 
-// A sequence of 2^30 - 1 elements and an array of 2^32 - 1 are claimed, and a few bytes are there.
+// A sequence of 2^30 - 1 elements and an array of 2^32 - 1 are claimed, and a few bytes are there, or a thousand words, whose nodes
+// take 24 kB. What is claimed after them gets room for four times as many at most.
 #[test]
 fn claimed_lengths_fit_a_small_heap(rt: HostRuntime) -> Result<(), Fail> {
     let heap = LocalHeap::new(rt.alloc(), 65_536)?;
+    let mut words = Vec::new(rt.alloc());
+    words.extend_from_slice(b"\xfe\xff\xff\xff")?;
+    'words: for _ in 0..2000 {
+        words.push(b'a')?;
+    }
     let sequence = b"\xfe\xff\xff\xff\x01\x02".as_slice();
     let array = b"\x01\x02\x03".as_slice();
     let claims = [
         (BYTES, sequence, (0, 2)),
         (LONG_ARRAY, array, (0, 3)),
         (WORDS, sequence, (2, 0)),
+        (WORDS, words.as_slice(), (1001, 0)),
         (LONG_ARRAY_OF_WORDS, array, (2, 0)),
     ];
     'claims: for (registry, bytes, counts) in claims {

@@ -5,11 +5,15 @@ use Rattle.grammar_core.specs.Preorder as head
 use Rattle.grammar_core.specs.Tree as tree
 use Rattle.grammar_core.specs.Preorder.{Head}
 use Rattle.registry_core.specs.declared.type_id.TypeId.{TypeId}
+use Rattle.widths_core.specs.declared.run_kind.RunKind.{RunKind}
+use Rattle.widths_core.specs.declared.run_kind.RunKind.TheVariants as kind
 use Rattle.node_core.specs.Shown.{head_shown, IsInPool, kept_bytes}
 use Rattle.node_core.specs.declared.leaf.Leaf.{Leaf}
 use Rattle.node_core.specs.declared.leaf.Leaf.TheVariants as leaf
 use Rattle.node_core.specs.declared.node.Content.{Content}
+use Rattle.node_core.specs.declared.node.Content.TheVariants as content
 use Rattle.node_core.specs.declared.node.Node.{Node}
+use Rattle.node_core.specs.declared.open_run.OpenRun.{OpenRun}
 
 abbrev pub leaf_head : Leaf → Head
 leaf_head leaf.Empty = head.leaf tree.unit
@@ -54,3 +58,11 @@ pub record IsAppended (ty : TypeId) (l : Leaf) (nodes : List Node) (pool : List 
     pub content : Content
     pub nodes_are : new_nodes ≡ nodes ++ record { ty = ty; children = 0; content = content } ∷ []
     pub kept : IsLeafKept l pool new_pool content
+
+-- the node that an open run is when all its bytes are there
+abbrev pub run_content_of : RunKind → ℕ → ℕ → Content
+run_content_of kind.Text len start = content.Text len start
+run_content_of _ len start = content.Bytes len start
+
+abbrev pub run_content : OpenRun → Content
+run_content o = run_content_of o.kind o.len o.start

@@ -7,7 +7,7 @@ use registry_core::TypeId;
 
 /// How many bytes of memory a node of a value or a builder takes. Beside its nodes a value has the bytes of its texts and
 /// runs of bytes, 32 for each 256-bit integer, and 16 for each other one above 64 bits. Vectors that grow have room for half as
-/// much again, and for at most four times as much where the bytes that are there are expected to bring it.
+/// much again, and for at most four times as much where a list or a run that is open is expected to bring it.
 pub const NODE_BYTES: usize = 24;
 
 const _: () = prove!(size_of::<Node>() == NODE_BYTES);

@@ -1,10 +1,11 @@
 //! Texts, runs of bytes and long integers in the pool of bytes beside a value's nodes.
 
-ghost use Rattle.std.specs.Prelude.{◌≡◌, ◌<◌, ◌≤◌, ◌+◌, ◌^◌, ◌++◌, length, IfOk, IfErr};
+ghost use Rattle.std.specs.Prelude.{◌≡◌, ◌<◌, ◌≤◌, ◌+◌, ◌^◌, ◌++◌, length, IfOk, IfErr, OnOk};
+ghost use Rattle.std.specs.Prelude.{OnErr};
 ghost use Rattle.std.specs.Int.{w128, to_le_bytes};
 ghost use Rattle.node_core.specs.Shown.{long_shown};
 
-use crate::room::make_room;
+use crate::room::{make_room, make_room_for_piece};
 use std::alloc::{AllocError, Allocator};
 
 /// The first long integer of a pool takes room for so many bytes, those of four, so that few of them take room once.
@@ -21,6 +22,27 @@ pub(crate) fn put_run<A: Allocator>(pool: &mut Vec<u8, A>, bytes: &[u8]) -> Resu
     make_room(pool, bytes.len())?;
     pool.extend_from_slice(bytes)?;
     Ok(bytes.len() as u32)
+}
+
+/// Appends a piece of a run to the pool, which has so many bytes when the run is whole: all of it, or where memory is refused
+/// nothing. Where pieces are short most are of one byte, which takes a store and no copy.
+#[inline(always)]
+pub fn put_piece<A: Allocator>(
+    pool: &mut Vec<u8, A>,
+    piece: &[u8],
+    whole: usize,
+) -> Result<(), AllocError>
+    ensures ok { OnOk result (pool.new.items ≡ pool.old.items ++ piece.now) }
+    ensures err { OnErr result (pool.new.items ≡ pool.old.items) }
+{
+    if pool.capacity() - pool.len() < piece.len() {
+        make_room_for_piece(pool, piece.len(), whole)?;
+    }
+    if let [byte] = *piece {
+        pool.push_reserved(byte);
+        return Ok(());
+    }
+    pool.extend_from_slice(piece)
 }
 
 /// Appends the sixteen bytes of an integer, the lowest first: its place. Where memory is refused nothing changes.

@@ -23,7 +23,7 @@ use Rattle.value_core.specs.Built.{Entry, entries_shown, head_text_bytes, entrie
 use Rattle.value_core.specs.Built.{IsLeaf, IsNextLeaf, IsNextOpen}
 use Rattle.value_core.specs.Building.{IsBuilding, IsOpenAt, IsOpenRun, pieces_shown}
 use Rattle.value_core.specs.Refusals.{missing_at}
-use Rattle.value_core.specs.declared.open_run.OpenRun.{OpenRun}
+use Rattle.node_core.specs.declared.open_run.OpenRun.{OpenRun}
 use Rattle.widths_core.specs.declared.run_kind.RunKind.{RunKind}
 use Rattle.std.specs.Prelude.{IfOk, option_map, Result, Ok}
 use Rattle.std.proofs.lemmas.List.{length-drop, take_all}

@@ -14,7 +14,7 @@ use Rattle.value_core.specs.Walked.{OpenPart, Walked, Closes, advanced, advanced
 use Rattle.value_core.specs.Built.{IsSettled, closings, entries_shown, entries_text_bytes}
 use Rattle.value_core.specs.Built.{settled_in, settled_walk}
 use Rattle.value_core.specs.Building.{IsBuilding, IsPaid, Settles, pieces_shown}
-use Rattle.value_core.specs.declared.open_run.OpenRun.{OpenRun}
+use Rattle.node_core.specs.declared.open_run.OpenRun.{OpenRun}
 use Rattle.node_core.specs.declared.node.Content.{Content}
 use Rattle.node_core.specs.declared.node.Content.TheVariants as content
 use Rattle.node_core.specs.declared.node.Node.{Node}

@@ -11,14 +11,14 @@ use Rattle.widths_core.specs.declared.run_kind.RunKind.TheVariants as kind
 use Rattle.grammar_core.specs.Preorder as head
 use Rattle.grammar_core.specs.Preorder.{Head}
 use Rattle.grammar_core.specs.Runs.{IsRun, run_form, run_leaf}
-use Rattle.value_core.specs.Building.{IsBuilding, IsOpenAt, IsOpenRun, pieces_shown, run_content}
-use Rattle.value_core.specs.Building.{run_content_of}
+use Rattle.value_core.specs.Building.{IsBuilding, IsOpenAt, IsOpenRun, pieces_shown}
+use Rattle.node_core.specs.Leaves.{run_content, run_content_of}
 use Rattle.value_core.specs.Built.{FitsKind, head_text_bytes}
 use Rattle.value_core.specs.Refusals.{missing_at, bad_bytes, bad_text}
 use Rattle.value_core.specs.Walked.{Walked, advanced, next_type, next_of}
 use Rattle.node_core.specs.Shown.{IsInPool, all_kept, head_shown, kept_bytes}
 use Rattle.node_core.specs.declared.node.Node.{Node}
-use Rattle.value_core.specs.declared.open_run.OpenRun.{OpenRun}
+use Rattle.node_core.specs.declared.open_run.OpenRun.{OpenRun}
 use Rattle.value_core.proofs.Adding.{leaf_added, open_whole}
 use Rattle.value_core.proofs.Ahead.{type_wanted}
 use Rattle.value_core.proofs.NextLeaf.{run_next}

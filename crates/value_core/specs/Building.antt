@@ -11,10 +11,7 @@ use Rattle.grammar_core.specs.Runs.{run_form}
 use Rattle.grammar_core.specs.declared.form.Next.TheVariants as next
 use Rattle.node_core.specs.declared.node.Node.{Node}
 use Rattle.widths_core.specs.declared.run_kind.RunKind.{RunKind}
-use Rattle.widths_core.specs.declared.run_kind.RunKind.TheVariants as kind
-use Rattle.value_core.specs.declared.open_run.OpenRun.{OpenRun}
-use Rattle.node_core.specs.declared.node.Content.{Content}
-use Rattle.node_core.specs.declared.node.Content.TheVariants as content
+use Rattle.node_core.specs.declared.open_run.OpenRun.{OpenRun}
 
 pub record IsBuilding (ty : ℕ) (w : Walked) (pool : List ℕ) (ns : List Node) (text_len : ℕ) : Type 0
   where
@@ -59,14 +56,6 @@ pub record IsOpenAt (w : Walked) (pool : List ℕ) (kept : ℕ) (k : RunKind) (s
 abbrev pub IsOpenRun : Walked → List ℕ → ℕ → Option OpenRun → Type 0
 IsOpenRun w pool kept (Some o) = IsOpenAt w pool kept o.kind o.start o.len
 IsOpenRun w pool kept None = Unit {0}
-
--- the node that an open run is when all its bytes are there
-abbrev pub run_content_of : RunKind → ℕ → ℕ → Content
-run_content_of kind.Text len start = content.Text len start
-run_content_of _ len start = content.Bytes len start
-
-abbrev pub run_content : OpenRun → Content
-run_content o = run_content_of o.kind o.len o.start
 
 -- each turn of the closing loop closed a node that had been opened, so there are no more than
 -- nodes, less those still open

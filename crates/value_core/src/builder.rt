@@ -1,7 +1,7 @@
 //! A value that is built node by node.
 
 ghost use Rattle.std.specs.Prelude.{◌≡◌, ◌<◌, ◌≤◌, ◌+◌, ◌++◌, ◌∷◌, [], length, true, false, OnOk};
-ghost use Rattle.std.specs.Prelude.{OnErr, IfOk, IfSome, IsSome, Ok, None};
+ghost use Rattle.std.specs.Prelude.{OnErr, IfOk, IfSome, IsSome, Ok, None, vec_len, vec_capacity};
 ghost use Rattle.grammar_core.specs.Runs.{run_form};
 ghost use Rattle.value_core.specs.Begun.{IsBegun};
 ghost use Rattle.value_core.specs.Building.{AreBuilt, Settles};
@@ -20,11 +20,10 @@ ghost use Rattle.node_core.specs.Leaves.{leaf_head, FitsLeaf, IsAppended};
 
 use crate::build_fault::BuildFault;
 use crate::left::Left;
-use crate::open_run::OpenRun;
 use crate::walk::Walk;
 use count_core::Count;
 use grammar_core::{Form, MAX_DEPTH, Next, RunKind};
-use node_core::{Content, Leaf, Node, Value, make_room, make_room_ahead};
+use node_core::{Content, Leaf, Node, OpenRun, Value, put_piece};
 use registry_core::TypeId;
 use simdutf8::compat::from_utf8;
 use std::alloc::{AllocError, Allocator};
@@ -73,11 +72,31 @@ fn other_fault(next: Next) -> BuildFault
     }
 }
 
+/// Makes room for one more node of a walk: where there is none, ahead for others too, and for the bytes beside them.
+///
+/// Refuses want of memory for one more. Nothing that is there changes in either case.
+#[inline(always)]
+fn make_room<A: Allocator>(
+    nodes: &mut Vec<Node, A>,
+    pool: &mut Vec<u8, A>,
+    walk: &Walk<'_, A>,
+) -> Result<(), AllocError>
+    ensures nodes { nodes.new.items ≡ nodes.old.items }
+    ensures pool { pool.new.items ≡ pool.old.items }
+    ensures room { OnOk result (vec_len nodes.new + 1 ≤ vec_capacity nodes.new) }
+{
+    if nodes.len() < nodes.capacity() {
+        return Ok(());
+    }
+    walk.make_room(nodes, pool)
+}
+
 /// Appends a node without children, and to the pool what does not fit it: both, or where memory is refused neither.
 #[inline(always)]
 fn append<A: Allocator>(
     nodes: &mut Vec<Node, A>,
     pool: &mut Vec<u8, A>,
+    walk: &Walk<'_, A>,
     ty: TypeId,
     leaf: Leaf<'_>,
 ) -> Result<(), AllocError>
@@ -87,7 +106,7 @@ fn append<A: Allocator>(
     ensures err { OnErr result ((nodes.new.items ≡ nodes.old.items)
         × (pool.new.items ≡ pool.old.items)) }
 {
-    make_room(nodes, 1)?;
+    make_room(nodes, pool, walk)?;
     let content = leaf.keep(pool)?;
     let node = Node {
         ty,
@@ -99,34 +118,26 @@ fn append<A: Allocator>(
 }
 
 /// Appends a node: it, or where memory is refused nothing.
-fn append_node<A: Allocator>(nodes: &mut Vec<Node, A>, node: Node) -> Result<(), AllocError>
+fn append_node<A: Allocator>(
+    nodes: &mut Vec<Node, A>,
+    pool: &mut Vec<u8, A>,
+    walk: &Walk<'_, A>,
+    node: Node,
+) -> Result<(), AllocError>
     ensures ok { OnOk result (nodes.new.items ≡ nodes.old.items ++ node ∷ []) }
     ensures err { OnErr result (nodes.new.items ≡ nodes.old.items) }
+    ensures pool { pool.new.items ≡ pool.old.items }
 {
-    make_room(nodes, 1)?;
+    make_room(nodes, pool, walk)?;
     nodes.push_reserved(node);
     Ok(())
-}
-
-/// Appends bytes to the pool: all of them, or where memory is refused none. Where pieces are short most are of one byte, which
-/// takes a store and no copy.
-#[inline(always)]
-fn append_bytes<A: Allocator>(pool: &mut Vec<u8, A>, bytes: &[u8]) -> Result<(), AllocError>
-    ensures ok { OnOk result (pool.new.items ≡ pool.old.items ++ bytes.now) }
-    ensures err { OnErr result (pool.new.items ≡ pool.old.items) }
-{
-    make_room(pool, bytes.len())?;
-    if let [byte] = *bytes {
-        pool.push_reserved(byte);
-        return Ok(());
-    }
-    pool.extend_from_slice(bytes)
 }
 
 /// Appends a node, the next of the walk, whose parts come next: both, or where memory is refused neither.
 #[inline(always)]
 fn open_node<A: Allocator>(
     nodes: &mut Vec<Node, A>,
+    pool: &mut Vec<u8, A>,
     walk: &mut Walk<'_, A>,
     node: Node,
     left: Left,
@@ -135,11 +146,12 @@ fn open_node<A: Allocator>(
     requires room { length walk.old.frames ≤ walk.old.limit + 1 }
     requires within { IsWithin (references_of walk.old.types) left }
     ensures nodes { OnOk result (nodes.new.items ≡ nodes.old.items ++ node ∷ []) }
+    ensures pool { pool.new.items ≡ pool.old.items }
     ensures walk { OnOk result (walk.new ≡ opened (advanced walk.old) (length nodes.old.items)
         (left_of walk.old.types left)) }
     ensures err { OnErr result ((nodes.new.items ≡ nodes.old.items) × (walk.new ≡ walk.old)) }
 {
-    make_room(nodes, 1)?;
+    make_room(nodes, pool, walk)?;
     walk.enter(nodes.as_slice().len(), left)?;
     nodes.push_reserved(node);
     Ok(())
@@ -186,13 +198,6 @@ fn settle<A: Allocator>(walk: &mut Walk<'_, A>, nodes: &mut Vec<Node, A>, turns:
     if walk.is_finished() {
         close_whole(walk, nodes, turns);
     }
-}
-
-/// How many elements so many bytes ahead are expected to bring, by those that came with the bytes that were taken: in proportion,
-/// and a sixteenth more, since no two parts of a value are quite alike.
-fn expected(came: usize, taken: usize, ahead: usize) -> usize {
-    let share = came.saturating_mul(ahead) / taken.max(1);
-    share.saturating_add(share / 16)
 }
 
 impl<'r, A: Allocator + Clone> Builder<'r, A> {
@@ -304,21 +309,6 @@ impl<'r, A: Allocator> Builder<'r, A> {
         }
     }
 
-    /// Makes room for the nodes, and for the bytes beside them, that so many bytes ahead are expected to bring, by what it holds
-    /// of those that were taken; for at most four times as many as it has, and only where growing would make less. So what
-    /// a long piece brings is not moved again and again.
-    ///
-    /// Where memory is refused, each node that is added makes room for itself, as without this call.
-    #[inline(never)]
-    pub fn make_room_ahead(&mut self, taken: usize, ahead: usize)
-        ensures { self.new ≡ self.old }
-    {
-        let nodes = expected(self.nodes.as_slice().len(), taken, ahead);
-        let bytes = expected(self.pool.as_slice().len(), taken, ahead);
-        let _refused = make_room_ahead(&mut self.nodes, nodes);
-        let _refused = make_room_ahead(&mut self.pool, bytes);
-    }
-
     /// How many turns its calls have taken, of a builder that is given up: each of them closed a node whose parts were
     /// all there, so there are no more turns than nodes. A count takes no bytes, so this is for contracts alone.
     pub fn into_turns(self) -> Count
@@ -349,7 +339,8 @@ impl<'r, A: Allocator> Builder<'r, A> {
         ensures ok { OnOk result (self.new ≡ with_leaf self.old (leaf_head leaf.entry)) }
         ensures err { OnErr result (self.new ≡ self.old) }
     {
-        append(&mut self.nodes, &mut self.pool, self.walk.ty(), leaf)?;
+        let next = self.walk.ty();
+        append(&mut self.nodes, &mut self.pool, &self.walk, next, leaf)?;
         self.text_len += leaf.text_len();
         self.walk.advance();
         settle(&mut self.walk, &mut self.nodes, &mut self.turns);
@@ -370,7 +361,7 @@ impl<'r, A: Allocator> Builder<'r, A> {
         ensures err { OnErr result (self.new ≡ self.old) }
     {
         let ty = self.walk.ty();
-        append(&mut self.nodes, &mut self.pool, ty, leaf)?;
+        append(&mut self.nodes, &mut self.pool, &self.walk, ty, leaf)?;
         self.text_len += leaf.text_len();
         self.walk.pass_element();
         Ok(())
@@ -393,7 +384,7 @@ impl<'r, A: Allocator> Builder<'r, A> {
             children: left.count,
             content,
         };
-        open_node(&mut self.nodes, &mut self.walk, node, left)?;
+        open_node(&mut self.nodes, &mut self.pool, &mut self.walk, node, left)?;
         settle(&mut self.walk, &mut self.nodes, &mut self.turns);
         Ok(())
     }
@@ -431,7 +422,11 @@ impl<'r, A: Allocator> Builder<'r, A> {
         ensures ok { OnOk result (self.new ≡ with_piece self.old piece.now) }
         ensures err { OnErr result (self.new ≡ self.old) }
     {
-        append_bytes(&mut self.pool, piece)?;
+        let whole = match self.open_run {
+            Some(open) => open.start + open.len as usize,
+            None => 0,
+        };
+        put_piece(&mut self.pool, piece, whole)?;
         Ok(())
     }
 
@@ -465,7 +460,7 @@ impl<'r, A: Allocator> Builder<'r, A> {
             children: 0,
             content: open.content(),
         };
-        append_node(&mut self.nodes, node)?;
+        append_node(&mut self.nodes, &mut self.pool, &self.walk, node)?;
         self.text_len += open.len as usize;
         self.open_run = None;
         self.walk.advance();

@@ -5,6 +5,8 @@ ghost use Rattle.value_core.specs.Frames.{left_by, copies_of, members_of, repeat
 ghost use Rattle.grammar_core.specs.Parts.{first_of, left_after};
 ghost use Rattle.value_core.specs.Walked.{after_first, have_one_type};
 
+use node_core::Node;
+
 /// The parts of an open node that are still to come: so many, the last of these. Which types they have is said by numbers
 /// and not by an enum: these have no padding, which would be moved with them.
 #[derive(Clone, Copy)]
@@ -133,6 +135,22 @@ impl Left {
         ensures { result ≡ repeats self.now }
     {
         self.count != 0 && self.end == 0
+    }
+}
+
+impl Frame {
+    /// How many more nodes the elements of a list are expected to bring that did not come yet: as many for each as those that came
+    /// have in the mean. Of another node, and where none came, none.
+    pub(crate) fn expected(&self, nodes: &[Node]) -> usize {
+        let Some(node) = nodes.get(self.node) else {
+            return 0;
+        };
+        let came = node.children.saturating_sub(self.left.count);
+        if came == 0 || !self.left.have_one_type() {
+            return 0;
+        }
+        let brought = nodes.len() - self.node;
+        brought.saturating_mul(self.left.count as usize) / came as usize
     }
 }
 

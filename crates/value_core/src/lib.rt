@@ -5,7 +5,6 @@ mod adding_calls;
 mod build_fault;
 mod builder;
 mod left;
-mod open_run;
 mod opening;
 mod run_calls;
 mod walk;

@@ -1,7 +1,7 @@
 //! The place in a value that comes next, and what is wanted there: the one thing that says it.
 
 ghost use Rattle.std.specs.Prelude.{◌≡◌, ◌⊎◌, ◌+◌, ◌≤◌, length, is_none, option_map, OnOk, OnErr};
-ghost use Rattle.std.specs.Prelude.{IfSome, IfNone, IsSome};
+ghost use Rattle.std.specs.Prelude.{IfSome, IfNone, IsSome, vec_len, vec_capacity};
 ghost use Rattle.grammar_core.specs.Parts.{first_of, how_many_left};
 ghost use Rattle.widths_core.specs.Steps.{references_of};
 ghost use Rattle.value_core.specs.Ahead.{IsStepOf, elements_in, members_in};
@@ -13,6 +13,7 @@ ghost use Rattle.value_core.specs.Walked.{Closes, IsBounded, elements_after, is_
 
 use crate::left::{Frame, Left};
 use grammar_core::{Form, MAX_DEPTH, Next, StopReason, next_of_step};
+use node_core::{Node, make_room_for_nodes};
 use registry_core::TypeId;
 use std::alloc::{AllocError, Allocator};
 use std::marker::Model;
@@ -232,6 +233,28 @@ impl<'r, A: Allocator> Walk<'r, A> {
         self.top = frame;
         look_ahead(self.checked, &frame.left, &mut self.ty);
         Some(node)
+    }
+
+    /// Makes room for one more node, ahead of as many as the open lists are expected to bring: as the one of which most is.
+    ///
+    /// Refuses want of memory for one more. Nothing that is there changes in either case.
+    #[cold]
+    #[inline(never)]
+    pub(crate) fn make_room(
+        &self,
+        nodes: &mut Vec<Node, A>,
+        pool: &mut Vec<u8, A>,
+    ) -> Result<(), AllocError>
+        ensures nodes { nodes.new.items ≡ nodes.old.items }
+        ensures pool { pool.new.items ≡ pool.old.items }
+        ensures room { OnOk result (vec_len nodes.new + 1 ≤ vec_capacity nodes.new) }
+    {
+        let mut most = self.top.expected(nodes.as_slice());
+        'frames: for frame in self.around.as_slice() {
+            most = most.max(frame.expected(nodes.as_slice()));
+        }
+        // A sixteenth more, since no two parts of a value are quite alike.
+        make_room_for_nodes(nodes, pool, most.saturating_add(most / 16))
     }
 
     /// The registry that the types are of, lent as long as it is lent to the walk.

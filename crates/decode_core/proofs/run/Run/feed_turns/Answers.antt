@@ -1,6 +1,4 @@
-use Rattle.std.proofs.Common.{◌+◌, ◌-◌, length, take, drop, refl, subst}
-use Rattle.decode_core.specs.Running.{Running}
-use Rattle.decode_core.specs.Turned.{CallSoFar}
+use Rattle.std.proofs.Common.{◌+◌, ◌-◌, length, take, drop, refl}
 use Rattle.decode_core.specs.declared.turned.Stopped.TheVariants as stop
 use Rattle.decode_core.specs.declared.turned.Turned.TheVariants as turned
 use Rattle.decode_core.proofs.steps.Calls.{call_nearer, call_on, tells_short, tells_stopped}
@@ -14,38 +12,30 @@ pub turns-init : goal.turns-init
 turns-init g c = record {
   piece = refl;
   so_far = elim c.if-not-is_empty.branch [
-    | then-not-is_empty+in-Ok w ↦ rw (w.self-is, w.turns-is, w.at-is)
-        (subst (λ (s : Running). CallSoFar s w.carried_turn.new.self c.args.piece.now
-        w.in-Ok.count c.args.turns.now.so_far w.carried_turn.new.turns.so_far) c.self.view_is
-        w.in-Ok.ensures.ok)
+    | then-not-is_empty+in-Ok w ↦ rw (w.self-is, w.turns-is, w.at-is) w.in-Ok.ensures.ok
     | else-not-is_empty w ↦ rw (w.self-is, w.turns-is, w.at-is)
-        (left_so_far c.args.self.now record {
-          built = c.self.inside.builder;
-          carry = c.self.inside.carry;
-        } c.args.piece.now c.args.turns.now.so_far c.self.view_is)
+        (left_so_far c.args.self.now c.args.self.now c.args.piece.now c.args.turns.now.so_far refl)
   ];
 }
 
 pub turns-smaller-in-Added : goal.turns-smaller-in-Added
 turns-smaller-in-Added g c =
     let w = c.whole_turns-before in
-    rw c.look_ahead.ensures
-    (call_nearer c.turns.self w.new.self c.args.piece.now c.turns.at c.turns.turns.so_far
+    call_nearer c.turns.self w.new.self c.args.piece.now c.turns.at c.turns.turns.so_far
     w.new.turns.so_far w.result.0 c.in-Added.count
     (whole_added c.turns.self w.new.self c.args.piece.now c.turns.at c.turns.turns.so_far
-    w.new.turns.so_far w.result.0 c.in-Added.count w.result.1 c.in-Added.is w.ensures))
+    w.new.turns.so_far w.result.0 c.in-Added.count w.result.1 c.in-Added.is w.ensures)
 
 pub turns-preserved-in-Added : goal.turns-preserved-in-Added
 turns-preserved-in-Added g c =
     let w = c.whole_turns-before in
     record {
       piece = refl;
-      so_far = rw c.look_ahead.ensures
-          (call_on c.args.self.now c.turns.self w.new.self c.args.piece.now c.turns.at
+      so_far = call_on c.args.self.now c.turns.self w.new.self c.args.piece.now c.turns.at
           c.args.turns.now.so_far c.turns.turns.so_far w.new.turns.so_far w.result.0
           c.in-Added.count c.turns.invariant.so_far
           (whole_added c.turns.self w.new.self c.args.piece.now c.turns.at c.turns.turns.so_far
-          w.new.turns.so_far w.result.0 c.in-Added.count w.result.1 c.in-Added.is w.ensures));
+          w.new.turns.so_far w.result.0 c.in-Added.count w.result.1 c.in-Added.is w.ensures);
     }
 
 pub returns-in-OutOfMemory : goal.returns-in-OutOfMemory

@@ -16,10 +16,8 @@ elements-init g c = record {
   so_far = nodes_begin c.args.self.now (form_of_plain c.args.form) c.args.piece.now
       c.args.turns.now.so_far c.requires.next;
   empty = c.requires.empty;
-  after =
-      let counted = (rw c.walk-then-is_in_list.ensures.same at c.elements_after.ensures)
-      ∙ ap (λ (s : Running). elements_after s.built.walk) c.self.view_is in
-      omega (arith, c.min-after.ensures, counted);
+  after = (rw c.walk-then-is_in_list.ensures.same at c.elements_after-after.ensures)
+      ∙ ap (λ (s : Running). elements_after s.built.walk) c.self.view_is;
 }
 
 pub elements-smaller : goal.elements-smaller

@@ -1,4 +1,4 @@
-use Rattle.std.proofs.Common.{◌≡◌, ◌≤◌, [], drop}
+use Rattle.std.proofs.Common.{◌≡◌, [], drop}
 use Rattle.value_core.specs.Walked.{elements_after}
 use Rattle.form_core.specs.NodeForms.{form_of_plain}
 use Rattle.decode_core.specs.Turned.{left_to_do}
@@ -12,7 +12,7 @@ invariant-elements g l = record {
   so_far : NodesSoFar l.fn.self l.self (form_of_plain l.fn.form) l.piece l.at l.fn.turns.so_far
       l.turns.so_far;
   empty : l.self.carry ≡ [];
-  after : l.after ≤ elements_after l.self.built.walk;
+  after : l.after ≡ elements_after l.self.built.walk;
 }
 
 abbrev pub decreases-elements : goal.decreases-elements

@@ -12,8 +12,8 @@ settle-requires g c =
     c.requires.next in
     let with = leaf_appended c.self.inside.root.0 c.self.inside.walk c.args.leaf
     c.self.inside.pool.items c.append.new.pool.items c.self.inside.nodes.items
-    c.append.new.nodes.items c.self.inside.text_len c.ty.result c.self.invariant.0 l
-    c.ty.ensures c.in_ok-append.ensures.ok in (
+    c.append.new.nodes.items c.self.inside.text_len c.ty-next.result c.self.invariant.0 l
+    c.ty-next.ensures c.in_ok-append.ensures.ok in (
       c.self.inside.root.0,
       c.append.new.pool.items,
       c.self.inside.text_len + leaf_text_bytes c.args.leaf,
@@ -27,8 +27,8 @@ invariant_of-self-2 g c =
     c.requires.next in
     let with = leaf_appended c.self.inside.root.0 c.self.inside.walk c.args.leaf
     c.self.inside.pool.items c.append.new.pool.items c.self.inside.nodes.items
-    c.append.new.nodes.items c.self.inside.text_len c.ty.result c.self.invariant.0 l
-    c.ty.ensures c.in_ok-append.ensures.ok in
+    c.append.new.nodes.items c.self.inside.text_len c.ty-next.result c.self.invariant.0 l
+    c.ty-next.ensures c.in_ok-append.ensures.ok in
     let closed = none_open c.self.inside.pool.items c.self.inside.open_run
     (ap (λ (b : Built). b.run) c.self.view_is ∙ c.requires.closed) in (
       c.settle.ensures.settles.builds _ _ _
@@ -47,8 +47,8 @@ returns-clause-ok g c =
     c.requires.next in
     let with = leaf_appended c.self.inside.root.0 c.self.inside.walk c.args.leaf
     c.self.inside.pool.items c.append.new.pool.items c.self.inside.nodes.items
-    c.append.new.nodes.items c.self.inside.text_len c.ty.result c.self.invariant.0 l
-    c.ty.ensures c.in_ok-append.ensures.ok in
+    c.append.new.nodes.items c.self.inside.text_len c.ty-next.result c.self.invariant.0 l
+    c.ty-next.ensures c.in_ok-append.ensures.ok in
     let closed = none_open c.self.inside.pool.items c.self.inside.open_run
     (ap (λ (b : Built). b.run) c.self.view_is ∙ c.requires.closed) in
     rw (

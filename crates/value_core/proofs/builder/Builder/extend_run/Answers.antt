@@ -14,7 +14,7 @@ invariant_of-self-2 g c =
     let o = open_longer c.self.inside.walk c.self.inside.pool.items c.args.piece.now
     (all_kept c.self.inside.nodes.items) c.self.inside.open_run
     (are_bytes c.args.piece.now (λ i. (c.type_inv.piece i).fits)) c.self.invariant.1 lacks in
-    rw c.in_ok-append_bytes.ensures.ok (
+    rw c.in_ok-put_piece.ensures.ok (
       bytes_added _ _ c.self.inside.pool.items c.args.piece.now c.self.inside.nodes.items
           c.self.inside.text_len c.self.invariant.0,
       o.0,
@@ -30,7 +30,7 @@ returns-clause-ok g c =
     (all_kept c.self.inside.nodes.items) c.self.inside.open_run
     (are_bytes c.args.piece.now (λ i. (c.type_inv.piece i).fits)) c.self.invariant.1 lacks in
     (rw (
-      c.in_ok-append_bytes.ensures.ok,
+      c.in_ok-put_piece.ensures.ok,
       longer_entries c.self.inside.pool.items c.args.piece.now c.self.inside.nodes.items
           c.self.invariant.0.inside,
       o.1,

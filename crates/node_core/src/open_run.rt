@@ -1,23 +1,26 @@
 //! A text or a run of bytes that comes in pieces.
 
 ghost use Rattle.std.specs.Prelude.{◌≡◌};
-ghost use Rattle.value_core.specs.Building.{run_content};
+ghost use Rattle.node_core.specs.Leaves.{run_content};
 
-use node_core::Content;
+use crate::node::Content;
 use widths_core::RunKind;
 
 /// A text or a run of bytes that comes in pieces: which it is, where its bytes begin in the pool, and how many it is to
 /// have.
 #[derive(Clone, Copy)]
-pub(crate) struct OpenRun {
-    pub(crate) kind: RunKind,
-    pub(crate) start: usize,
-    pub(crate) len: u32,
+pub struct OpenRun {
+    /// Which it is.
+    pub kind: RunKind,
+    /// The place of its first byte in the pool.
+    pub start: usize,
+    /// How many bytes it is to have.
+    pub len: u32,
 }
 
 impl OpenRun {
     /// The node that it is when all its bytes are there.
-    pub(crate) fn content(self) -> Content
+    pub fn content(self) -> Content
         ensures { result ≡ run_content self }
     {
         let OpenRun { kind, start, len } = self;
