@@ -97,23 +97,16 @@ fn check_claim(
     Ok(())
 }
 
-// A sequence of 2^30 - 1 elements and an array of 2^32 - 1 are claimed, and a few bytes are there, or a thousand words, whose nodes
-// take 24 kB. What is claimed after them gets room for four times as many at most.
+// A sequence of 2^30 - 1 elements and an array of 2^32 - 1 are claimed, and a few bytes are there.
 #[test]
 fn claimed_lengths_fit_a_small_heap(rt: HostRuntime) -> Result<(), Fail> {
     let heap = LocalHeap::new(rt.alloc(), 65_536)?;
-    let mut words = Vec::new(rt.alloc());
-    words.extend_from_slice(b"\xfe\xff\xff\xff")?;
-    'words: for _ in 0..2000 {
-        words.push(b'a')?;
-    }
     let sequence = b"\xfe\xff\xff\xff\x01\x02".as_slice();
     let array = b"\x01\x02\x03".as_slice();
     let claims = [
         (BYTES, sequence, (0, 2)),
         (LONG_ARRAY, array, (0, 3)),
         (WORDS, sequence, (2, 0)),
-        (WORDS, words.as_slice(), (1001, 0)),
         (LONG_ARRAY_OF_WORDS, array, (2, 0)),
     ];
     'claims: for (registry, bytes, counts) in claims {
@@ -121,6 +114,20 @@ fn claimed_lengths_fit_a_small_heap(rt: HostRuntime) -> Result<(), Fail> {
         check_claim(&rt, &heap, &checked, bytes, counts)?;
     }
     Ok(())
+}
+
+// As many words are claimed, and a thousand are there, whose nodes take 24 kB. While these are moved there is room for them and for five
+// times as many.
+#[test]
+fn a_claimed_length_takes_room_by_what_came(rt: HostRuntime) -> Result<(), Fail> {
+    let heap = LocalHeap::new(rt.alloc(), 150_000)?;
+    let checked = checked(rt.alloc(), WORDS)?;
+    let mut words = Vec::new(rt.alloc());
+    words.extend_from_slice(b"\xfe\xff\xff\xff")?;
+    'bytes: for _ in 0..2000 {
+        words.push(7)?;
+    }
+    check_claim(&rt, &heap, &checked, words.as_slice(), (1001, 0))
 }
 
 #[test]
