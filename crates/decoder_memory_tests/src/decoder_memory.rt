@@ -180,7 +180,7 @@ struct Long<'c> {
 }
 
 // The list of open nodes takes memory once, and that of nodes for 16 at first. Then there is room for what the words that are left are
-// expected to bring, in five steps of at most five times as many: growing would take memory thirteen times more. What is expected
+// expected to bring, in five steps of at most five times as many: growing would take twelve requests more. What is expected
 // is not wanted yet, so a value goes on where that room is refused. How the bytes are cut makes no difference.
 #[test]
 fn a_long_list_makes_room_ahead(rt: HostRuntime) -> Result<(), Fail> {

@@ -139,18 +139,19 @@ impl Left {
 }
 
 impl Frame {
-    /// How many more nodes the elements of a list are expected to bring that did not come yet: as many for each as those that came
-    /// have in the mean. Of another node, and where none came, none.
+    /// How many more nodes are expected of the elements of a list that are left: as many for each as those that came have in the
+    /// mean, of which the last is half there. Of another node, and where none came or is left, none.
     pub(crate) fn expected(&self, nodes: &[Node]) -> usize {
         let Some(node) = nodes.get(self.node) else {
             return 0;
         };
-        let came = node.children.saturating_sub(self.left.count);
-        if came == 0 || !self.left.have_one_type() {
+        let left = self.left.count as usize;
+        let came = (node.children as usize).saturating_sub(left);
+        if came == 0 || left == 0 || !self.left.have_one_type() {
             return 0;
         }
         let brought = nodes.len() - self.node;
-        brought.saturating_mul(self.left.count as usize) / came as usize
+        brought.saturating_mul(2 * left + 1) / (2 * came - 1)
     }
 }
 

@@ -47,7 +47,11 @@ invariant_of-self-2 g c =
     let closed = none_open c.self.inside.pool.items c.self.inside.open_run
     (ap (λ (b : Built). b.run) c.self.view_is ∙ c.requires.closed) in (
       c.settle.ensures.settles.builds _ _ _
-          (rw (c.in_ok-open_node.ensures.walk, c.in_ok-open_node.ensures.nodes, c.open_node.ensures.pool) b),
+          (rw (
+            c.in_ok-open_node.ensures.walk,
+            c.in_ok-open_node.ensures.nodes,
+            c.open_node.ensures.pool,
+          ) b),
       rw closed tt,
       rw c.settle.ensures.walk (settled_again c.open_node.new.walk),
       settled_paid _ _ _ _ _ _ c.settle.ensures.settles c.settle.ensures.walk c.settle.ensures.turns

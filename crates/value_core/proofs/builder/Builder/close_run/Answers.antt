@@ -33,7 +33,12 @@ invariant_of-self-2 g c =
     c.self.inside.nodes.items c.self.inside.text_len c.self.inside.open_run c.in-Some.open
     c.ty.result c.self.invariant.0 c.self.invariant.1 c.in-Some.is whole valid c.ty.ensures in (
       c.settle.ensures.settles.builds _ _ _
-          (rw (c.advance.ensures, c.in_ok-append_node.ensures.ok, c.append_node.ensures.pool, c.content.ensures) b),
+          (rw (
+            c.advance.ensures,
+            c.in_ok-append_node.ensures.ok,
+            c.append_node.ensures.pool,
+            c.content.ensures,
+          ) b),
       tt,
       rw c.settle.ensures.walk (settled_again c.advance.new.self),
       settled_paid _ _ _ _ _ _ c.settle.ensures.settles c.settle.ensures.walk c.settle.ensures.turns
