@@ -19,11 +19,14 @@ const LONG: usize = 64 * 1024;
 #[inline(always)]
 pub fn make_room<T, A: Allocator>(list: &mut Vec<T, A>, more: usize) -> Result<(), AllocError>
     ensures items { list.new.items ≡ list.old.items }
+    ensures kept { vec_capacity list.old ≤ vec_capacity list.new }
     ensures room { OnOk result (vec_len list.new + more ≤ vec_capacity list.new) }
     ensures half { vec_capacity list.new ≤ max (vec_capacity list.old)
         (vec_len list.old + max more (max FIRST (vec_len list.old / 2))) }
     ensures quarter { LONG ≤ vec_len list.old → vec_capacity list.new ≤ max (vec_capacity list.old)
         (vec_len list.old + max more (max FIRST (vec_len list.old / 4))) }
+    ensures grows { vec_capacity list.old < vec_capacity list.new →
+        vec_len list.old + vec_len list.old / 4 ≤ vec_capacity list.new }
 {
     if more <= list.capacity() - list.len() {
         return Ok(());
@@ -37,37 +40,40 @@ pub fn make_room<T, A: Allocator>(list: &mut Vec<T, A>, more: usize) -> Result<(
 #[inline(never)]
 fn grow<T, A: Allocator>(list: &mut Vec<T, A>, more: usize) -> Result<(), AllocError>
     ensures items { list.new.items ≡ list.old.items }
+    ensures kept { vec_capacity list.old ≤ vec_capacity list.new }
     ensures room { OnOk result (vec_len list.new + more ≤ vec_capacity list.new) }
     ensures half { vec_capacity list.new ≤ max (vec_capacity list.old)
         (vec_len list.old + max more (max FIRST (vec_len list.old / 2))) }
     ensures quarter { LONG ≤ vec_len list.old → vec_capacity list.new ≤ max (vec_capacity list.old)
         (vec_len list.old + max more (max FIRST (vec_len list.old / 4))) }
+    ensures grows { vec_capacity list.old < vec_capacity list.new →
+        vec_len list.old + vec_len list.old / 4 ≤ vec_capacity list.new }
 {
     let len = list.len();
     let part = if len < LONG { len / 2 } else { len / 4 };
     list.reserve_exact(more.max(part.max(FIRST)))
 }
 
-/// Makes room for so many more elements of a list as are expected, or for four times as many as it has where that is less:
-/// ahead of them, so that it need not grow on the way. Where they are no more than half of what it has, it is left to grow.
+/// Makes room for so many more elements of a list as are expected, if any are: for four times as many as it has at most, and for an
+/// eighth at least, so that a list that is expected to grow by little is not moved for each little. So it need not grow on the way.
 ///
 /// Refuses want of memory. The list keeps its elements and its room in either case.
 fn make_room_ahead<T, A: Allocator>(list: &mut Vec<T, A>, expected: usize) -> Result<(), AllocError>
     ensures items { list.new.items ≡ list.old.items }
     ensures kept { vec_capacity list.old ≤ vec_capacity list.new }
     ensures room { OnOk result (vec_len list.new + min expected (4 * vec_len list.new)
-        ≤ max (vec_capacity list.new) (vec_len list.new + vec_len list.new / 2)) }
+        ≤ vec_capacity list.new) }
     ensures bounded { vec_capacity list.new ≤ max (vec_capacity list.old)
-        (vec_len list.old + min expected (4 * vec_len list.old)) }
+        (vec_len list.old + max (vec_len list.old / 8) (min expected (4 * vec_len list.old))) }
     ensures grows { vec_capacity list.old < vec_capacity list.new →
-        vec_len list.old + vec_len list.old / 2 ≤ vec_capacity list.new }
+        vec_len list.old + vec_len list.old / 8 ≤ vec_capacity list.new }
 {
     let len = list.len();
     let more = expected.min(len.saturating_mul(4));
-    if more <= len / 2 || more <= list.capacity() - len {
+    if more <= list.capacity() - len {
         return Ok(());
     }
-    list.reserve_exact(more)
+    list.reserve_exact(more.max(len / 8))
 }
 
 /// For how many of the elements that are expected beside those there room is made at once: for all, or where they are more than four
@@ -104,6 +110,8 @@ pub fn make_room_for_nodes<A: Allocator>(
         ≤ max (vec_capacity nodes.old) (vec_len nodes.old
         + max (max FIRST (vec_len nodes.old / 4)) (min expected (4 * vec_len nodes.old))) }
     ensures bytes { vec_capacity pool.new ≤ max (vec_capacity pool.old) (5 * vec_len pool.old) }
+    ensures grows { vec_capacity nodes.old < vec_capacity nodes.new →
+        vec_len nodes.old + vec_len nodes.old / 8 ≤ vec_capacity nodes.new }
 {
     let len = nodes.len();
     let bytes = pool.len().saturating_mul(expected) / len.max(1);

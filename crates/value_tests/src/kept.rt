@@ -92,13 +92,15 @@ fn room_for(
     Ok((nodes.capacity(), pool.capacity()))
 }
 
-// Room is made for half as many more, or for a quarter where they are many, if no more are expected; for all that are expected, if
-// these are at most four times as many; and else for so many that whole steps to five times as many are left.
+// Room is made for half as many more, or for a quarter where they are many, if no more are expected; for all that are expected, or
+// an eighth, if these are at most four times as many; and else for so many that whole steps to five times as many are left.
 #[test]
 fn nodes_get_room_for_what_is_expected(rt: HostRuntime) -> Result<(), Fail> {
     let rows = [
         ((0, 0), 0, (16, 0)),
         ((0, 0), 100, (16, 0)),
+        ((40, 0), 0, (60, 0)),
+        ((40, 0), 1, (45, 0)),
         ((40, 0), 20, (60, 0)),
         ((40, 40), 21, (61, 61)),
         ((40, 80), 160, (200, 400)),
@@ -122,7 +124,8 @@ fn a_run_in_pieces_gets_room_for_what_it_lacks(rt: HostRuntime) -> Result<(), Fa
         (400, 100, 400),
         (151, 100, 151),
         (150, 100, 150),
-        (101, 100, 150),
+        (101, 100, 112),
+        (100, 100, 150),
     ];
     'rows: for (whole, came, room) in rows {
         let mut pool = Vec::new(rt.alloc());
