@@ -19,7 +19,9 @@ pub(crate) fn put_run<A: Allocator>(pool: &mut Vec<u8, A>, bytes: &[u8]) -> Resu
     ensures ok { IfOk result (λ _. pool.new.items ≡ pool.old.items ++ bytes.now) }
     ensures err { IfErr result (λ _. pool.new.items ≡ pool.old.items) }
 {
-    make_room(pool, bytes.len())?;
+    if pool.capacity() - pool.len() < bytes.len() {
+        make_room(pool, bytes.len())?;
+    }
     pool.extend_from_slice(bytes)?;
     Ok(bytes.len() as u32)
 }

@@ -13,32 +13,16 @@ const FIRST: usize = 16;
 const LONG: usize = 64 * 1024;
 
 /// Makes room for so many more elements of a list, where there is none: for half as many more as it has, for a quarter from
-/// 65,536 elements on, or for as many as are wanted, and for 16 at first.
+/// 65,536 elements on, or for as many as are wanted, and for 16 at first. By doubling a value would keep up to as much room to
+/// spare as it takes.
 ///
 /// Refuses want of memory. The list keeps its elements in either case.
-#[inline(always)]
-pub fn make_room<T, A: Allocator>(list: &mut Vec<T, A>, more: usize) -> Result<(), AllocError>
-    ensures items { list.new.items ≡ list.old.items }
-    ensures kept { vec_capacity list.old ≤ vec_capacity list.new }
-    ensures room { OnOk result (vec_len list.new + more ≤ vec_capacity list.new) }
-    ensures half { vec_capacity list.new ≤ max (vec_capacity list.old)
-        (vec_len list.old + max more (max FIRST (vec_len list.old / 2))) }
-    ensures quarter { LONG ≤ vec_len list.old → vec_capacity list.new ≤ max (vec_capacity list.old)
-        (vec_len list.old + max more (max FIRST (vec_len list.old / 4))) }
-    ensures grows { vec_capacity list.old < vec_capacity list.new →
-        vec_len list.old + vec_len list.old / 4 ≤ vec_capacity list.new }
-{
-    if more <= list.capacity() - list.len() {
-        return Ok(());
-    }
-    grow(list, more)
-}
-
-/// Room for half as many more as there are, or a quarter of a long list's, or for as many as are wanted. By doubling a value
-/// would keep up to as much room to spare as it takes.
 #[cold]
 #[inline(never)]
-fn grow<T, A: Allocator>(list: &mut Vec<T, A>, more: usize) -> Result<(), AllocError>
+pub(crate) fn make_room<T, A: Allocator>(
+    list: &mut Vec<T, A>,
+    more: usize,
+) -> Result<(), AllocError>
     ensures items { list.new.items ≡ list.old.items }
     ensures kept { vec_capacity list.old ≤ vec_capacity list.new }
     ensures room { OnOk result (vec_len list.new + more ≤ vec_capacity list.new) }
@@ -50,6 +34,9 @@ fn grow<T, A: Allocator>(list: &mut Vec<T, A>, more: usize) -> Result<(), AllocE
         vec_len list.old + vec_len list.old / 4 ≤ vec_capacity list.new }
 {
     let len = list.len();
+    if more <= list.capacity() - len {
+        return Ok(());
+    }
     let part = if len < LONG { len / 2 } else { len / 4 };
     list.reserve_exact(more.max(part.max(FIRST)))
 }
