@@ -101,9 +101,11 @@ pub fn make_room_for_nodes<A: Allocator>(
         vec_len nodes.old + vec_len nodes.old / 8 ≤ vec_capacity nodes.new }
 {
     let len = nodes.len();
-    let bytes = pool.len().saturating_mul(expected) / len.max(1);
-    let _refused = make_room_ahead(nodes, step(len, expected));
-    let _refused = make_room_ahead(pool, step(pool.len(), bytes));
+    if expected > 0 && len > 0 {
+        let bytes = pool.len().saturating_mul(expected) / len;
+        let _refused = make_room_ahead(nodes, step(len, expected));
+        let _refused = make_room_ahead(pool, step(pool.len(), bytes));
+    }
     make_room(nodes, 1)
 }
 
