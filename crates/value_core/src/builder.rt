@@ -417,6 +417,7 @@ impl<'r, A: Allocator> Builder<'r, A> {
 
     /// Appends bytes to the open run, which lacks as many: what `text_piece` and `bytes_piece` do once they have judged.
     /// Where memory is refused nothing changes.
+    #[inline(always)]
     pub fn extend_run(&mut self, piece: &[u8]) -> Result<(), AllocError>
         requires { IfOk (missing_of self.old) (λ m. length piece.now ≤ m.1) }
         ensures ok { OnOk result (self.new ≡ with_piece self.old piece.now) }
