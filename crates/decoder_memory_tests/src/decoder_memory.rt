@@ -155,7 +155,7 @@ fn long_value(
 ) -> Result<(bool, bool), Fail> {
     let memory = Rationed::new(alloc, request);
     let mut decoder = open(&memory, long.checked, long.ty, AMPLE)?;
-    'pieces: for bytes in long.bytes.chunks(piece) {
+    'pieces: for bytes in long.bytes.chunks(piece.max(1)) {
         if let Err(fault) = feed(&mut decoder, bytes) {
             assert_eq!(rt; fault, REFUSED, "{piece}, request {request}");
             return Ok((memory.is_past_refusal(), true));
