@@ -14,6 +14,7 @@ pub mod RunSteps
 pub mod RunEnds
 pub mod ByteArrays
 pub mod WholeRuns
+pub mod Wrapping
 pub mod Endings
 pub mod Moving
 pub mod Calls

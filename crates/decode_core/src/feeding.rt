@@ -198,6 +198,26 @@ impl<'r, A: Allocator> Run<'r, A> {
         }
     }
 
+    /// Takes the turns on a composite or a tuple, which is next: two where its one part is an array of u8 that the piece has
+    /// whole, which is added with it, and else one.
+    #[inline(always)]
+    fn fields_turns(&mut self, piece: &[u8], turns: &mut Count) -> (usize, Whole)
+        requires next { Awaits self.old Form.Fields }
+        requires empty { self.old.carry ≡ [] }
+        ensures { WholeTurnsReport self.old self.new piece.now turns.old.so_far turns.new.so_far
+            result.0 result.1 }
+    {
+        turns.tick();
+        match self.builder.add_wrapped(piece) {
+            Ok(Some(count)) => {
+                turns.tick();
+                (0, Whole::Added(count))
+            }
+            Ok(None) => (0, self.whole_bare(BareForm::Fields)),
+            Err(_) => (0, Whole::OutOfMemory),
+        }
+    }
+
     /// Takes turns on nodes of this form, one of which is next, as long as the piece has their bytes whole: on all that are
     /// left of an open list, or on one. How many bytes those before the last one took, and what came of the last one.
     #[inline(always)]
@@ -237,7 +257,6 @@ impl<'r, A: Allocator> Run<'r, A> {
             Form::Primitive(Primitive::Str) => self.whole_prefixed(PrefixedRun::Text, piece),
             Form::Bytes => self.whole_prefixed(PrefixedRun::Bytes, piece),
             Form::ByteArray(len) => self.whole_byte_array(len, piece),
-            Form::Fields => self.whole_bare(BareForm::Fields),
             other => match node_form(other) {
                 NodeForm::Bytes(BytesForm::Plain(plain)) => self.whole_plain(plain, piece),
                 _ => Whole::Left,
@@ -262,6 +281,7 @@ impl<'r, A: Allocator> Run<'r, A> {
             Form::Primitive(Primitive::U128) => self.repeat(Unsigned(Bits128), piece, turns),
             Form::Compact(Target::U32) => self.repeat(Compact(Target::U32), piece, turns),
             Form::Compact(Target::U128) => self.repeat(Compact(Target::U128), piece, turns),
+            Form::Fields => self.fields_turns(piece, turns),
             other => {
                 turns.tick();
                 (0, self.whole_node(other, piece))

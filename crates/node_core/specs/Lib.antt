@@ -1,4 +1,5 @@
 pub mod Encoding
 pub mod Leaves
+pub mod Left
 pub mod Shown
 pub mod Whats

@@ -3,6 +3,7 @@
 
 mod children;
 mod leaf;
+mod left;
 mod node;
 mod node_ref;
 mod open_run;
@@ -14,6 +15,7 @@ mod writing;
 
 pub use children::Children;
 pub use leaf::Leaf;
+pub use left::{Frame, Left};
 pub use node::{Content, NODE_BYTES, Node};
 pub use node_ref::NodeRef;
 pub use open_run::OpenRun;

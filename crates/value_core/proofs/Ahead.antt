@@ -26,8 +26,8 @@ use Rattle.grammar_core.specs.declared.form.Form.{Form}
 use Rattle.grammar_core.specs.declared.form.Form.TheVariants as form
 use Rattle.grammar_core.specs.declared.form.Next.TheVariants as next
 use Rattle.value_core.specs.Ahead.{IsStepOf, elements_in, members_in}
-use Rattle.value_core.specs.declared.left.Left.{Left}
-use Rattle.value_core.specs.Frames.{left_of, members_of}
+use Rattle.node_core.specs.declared.left.Left.{Left}
+use Rattle.node_core.specs.Left.{left_of, members_of}
 use Rattle.value_core.specs.Opened.{OpensFields, OpensArm, OpensElements, IsListNext, shape_at}
 use Rattle.value_core.specs.Opened.{next_shape}
 use Rattle.value_core.specs.Walked.{Walked, next_type, next_of}

@@ -20,7 +20,7 @@ use Rattle.node_core.specs.declared.node.Content.TheVariants as content
 use Rattle.node_core.specs.declared.node.Node.{Node}
 use Rattle.value_core.proofs.Spines.{Closed, is_cons, node_closed}
 
-abbrev with_size : Node → ℕ → Node
+abbrev pub with_size : Node → ℕ → Node
 with_size n k =
     record { ty = n.ty; children = n.children; content = closed_as n.content k }
 
@@ -28,13 +28,13 @@ abbrev cell_with_size : Cell → ℕ → Cell
 cell_with_size c k = record { ty = c.ty; head = c.head; size = k }
 
 -- with another size a node stays what it is, and keeps what it has in the pool
-record Resized (pool : List ℕ) (children : ℕ) (c : Content) (k : ℕ) : Type 0 where
+pub record Resized (pool : List ℕ) (children : ℕ) (c : Content) (k : ℕ) : Type 0 where
   pub head : head_shown pool children (closed_as c k) ≡ head_shown pool children c
   pub kept : kept_bytes (closed_as c k) ≡ kept_bytes c
   pub inside : IsInPool pool c → IsInPool pool (closed_as c k)
 
 -- a node shows the same and keeps the same in the pool when it gets another size
-same : (pool : List ℕ) (children : ℕ) (c : Content) (k : ℕ) → Resized pool children c k
+pub same : (pool : List ℕ) (children : ℕ) (c : Content) (k : ℕ) → Resized pool children c k
 same pool m content.Empty k = record { head = refl; kept = refl; inside = λ h. h }
 same pool m _ k = record { head = refl; kept = refl; inside = λ h. h }
 
@@ -155,7 +155,7 @@ closing ty old new pool ns text_len place b c =
     }
 
 -- what stands when all that is whole is closed stays
-settled_step : (place : ℕ) (p : Part) (fs : List OpenPart) → (fs ≡ [] → ⊥) → first_of p ≡ None →
+pub settled_step : (place : ℕ) (p : Part) (fs : List OpenPart) → (fs ≡ [] → ⊥) → first_of p ≡ None →
     settled_in (open_part place p ∷ fs) ≡ settled_in fs
 settled_step place p [] some e = absurd (some refl)
 settled_step place p (f ∷ fs) some e = rw e refl
@@ -197,7 +197,7 @@ none_open pool (Some o) e = absurd cc
 -- ---- turns
 
 -- closing nodes opens none
-settled_shorter : (fs : List OpenPart) → length (settled_in fs) ≤ length fs
+pub settled_shorter : (fs : List OpenPart) → length (settled_in fs) ≤ length fs
 settled_shorter [] = omega arith
 settled_shorter (f ∷ []) = omega arith
 settled_shorter (f ∷ g ∷ fs) = by (first_of f.left) refl (settled_shorter (g ∷ fs)) where

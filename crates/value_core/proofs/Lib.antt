@@ -1,4 +1,5 @@
 pub mod Adding
+pub mod AtOnce
 pub mod Ahead
 pub mod Begun
 pub mod Closing

@@ -116,7 +116,7 @@ arm_next w index q p h e o = by (arm_of o.arms index) refl o.found_is where
 -- ---- what is opened, by the layout of the next type
 
 -- what is next is laid out as the next type is
-laid_next : (b : Built) (t : ℕ) → next_type b.walk ≡ Some t →
+pub laid_next : (b : Built) (t : ℕ) → next_type b.walk ≡ Some t →
     next_layout b ≡ layout b.walk.types t
 laid_next b t e = ap (λ (o : Option ℕ). layout b.walk.types (type_or_0 o)) e
 

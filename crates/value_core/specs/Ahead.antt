@@ -6,8 +6,8 @@ use Rattle.widths_core.specs.Classes.{class_of}
 use Rattle.widths_core.specs.Steps.{IsStep, references_of}
 use Rattle.widths_core.specs.declared.step.Step.{Step}
 use Rattle.widths_core.specs.declared.step.Step.TheVariants as step
-use Rattle.value_core.specs.Frames.{copies_of, members_of}
-use Rattle.value_core.specs.declared.left.Left.{Left}
+use Rattle.node_core.specs.Left.{copies_of, members_of}
+use Rattle.node_core.specs.declared.left.Left.{Left}
 
 -- this is the step of type t; a type that is not known has no value
 abbrev pub IsStepOf : List TypeInfo → ℕ → Step → Type 0

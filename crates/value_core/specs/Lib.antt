@@ -7,3 +7,4 @@ pub mod Opened
 pub mod Refusals
 pub mod Spine
 pub mod Walked
+pub mod Wrapped

@@ -1,9 +1,10 @@
 -- What contracts see of a walk through a value, and what is next there.
 use Rattle.std.specs.Prelude.{◌≡◌, ◌≢◌, ℕ, ◌+◌, ◌-◌, ◌≤◌, List, [], ◌∷◌, length, Option, Some, None}
-use Rattle.std.specs.Prelude.{Bool, true, false, nat_lt, if◌then◌else◌}
+use Rattle.std.specs.Prelude.{Bool, false, nat_lt, if◌then◌else◌}
 use Rattle.registry_core.specs.declared.type_info.TypeInfo.{TypeInfo}
-use Rattle.grammar_core.specs.Parts.{Part, each, times, first_of, left_after}
+use Rattle.grammar_core.specs.Parts.{Part, times, first_of, left_after}
 use Rattle.grammar_core.specs.Forms.{next_at}
+use Rattle.node_core.specs.Left.{after_first, have_one_type}
 use Rattle.grammar_core.specs.declared.form.StopReason.TheVariants as stop
 use Rattle.grammar_core.specs.declared.form.Next.{Next}
 use Rattle.grammar_core.specs.declared.form.Next.TheVariants as next
@@ -39,16 +40,6 @@ first_in (o ∷ os) = first_of o.left
 
 abbrev pub next_type : Walked → Option ℕ
 next_type w = first_in w.frames
-
--- how many values of one type follow the first of these, where they are so many of one type
-abbrev pub after_first : Part → ℕ
-after_first (each ts) = 0
-after_first (times n t) = n - 1
-
--- the parts have one type by how their node is defined: it is an array or a sequence
-abbrev pub have_one_type : Part → Bool
-have_one_type (each ts) = false
-have_one_type (times n t) = true
 
 -- the innermost open node is a list, or none is open, and the root's own part is left
 abbrev pub is_list_in : List OpenPart → Bool

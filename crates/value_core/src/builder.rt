@@ -1,29 +1,20 @@
 //! A value that is built node by node.
 
-ghost use Rattle.std.specs.Prelude.{◌≡◌, ◌<◌, ◌≤◌, ◌+◌, ◌++◌, ◌∷◌, [], length, true, false, OnOk};
-ghost use Rattle.std.specs.Prelude.{OnErr, IfOk, IfSome, IsSome, Ok, None, vec_len, vec_capacity};
+ghost use Rattle.std.specs.Prelude.{◌≡◌, ◌≤◌, [], length, true, OnOk, OnErr, IfOk, IfSome, None};
 ghost use Rattle.grammar_core.specs.Runs.{run_form};
 ghost use Rattle.value_core.specs.Begun.{IsBegun};
-ghost use Rattle.value_core.specs.Building.{AreBuilt, Settles};
-ghost use Rattle.value_core.specs.Built.{IsSettled, built_text_bytes, closings, finished};
-ghost use Rattle.value_core.specs.Built.{settled_walk, with_leaf, with_open, with_piece};
-ghost use Rattle.value_core.specs.Built.{with_run_closed, with_run_opened, FitsKind, IsNextLeaf};
-ghost use Rattle.value_core.specs.Built.{IsNextOpen};
-ghost use Rattle.widths_core.specs.Steps.{references_of};
-ghost use Rattle.value_core.specs.Frames.{left_of, IsWithin};
-ghost use Rattle.node_core.specs.Shown.{head_shown, size_shown};
+ghost use Rattle.value_core.specs.Built.{built_text_bytes, finished, with_piece, with_run_closed};
+ghost use Rattle.value_core.specs.Built.{with_run_opened, FitsKind};
 ghost use Rattle.value_core.specs.Refusals.{Finishes, Opens, IsRunWhole, bad_text, missing_of};
 ghost use Rattle.value_core.specs.Refusals.{other_fault, wanted_of, is_whole, build_opening_fault};
-ghost use Rattle.value_core.specs.Walked.{advanced, elements_after, next_of, next_type, opened};
-ghost use Rattle.value_core.specs.Walked.{start_of};
-ghost use Rattle.node_core.specs.Leaves.{leaf_head, FitsLeaf, IsAppended};
+ghost use Rattle.value_core.specs.Walked.{next_of, start_of};
 
+use crate::appending::{append_node, settle};
 use crate::build_fault::BuildFault;
-use crate::left::Left;
 use crate::walk::Walk;
 use count_core::Count;
 use grammar_core::{Form, MAX_DEPTH, Next, RunKind};
-use node_core::{Content, Leaf, Node, OpenRun, Value, put_piece};
+use node_core::{Node, OpenRun, Value, put_piece};
 use registry_core::TypeId;
 use simdutf8::compat::from_utf8;
 use std::alloc::{AllocError, Allocator};
@@ -33,13 +24,13 @@ use widths_core::Checked;
 /// A value that is built node by node, each before its children, in the order of their bytes.
 #[derive(Drop)]
 pub struct Builder<'r, A: Allocator> {
-    root: TypeId,
-    walk: Walk<'r, A>,
-    nodes: Vec<Node, A>,
-    pool: Vec<u8, A>,
-    text_len: usize,
-    open_run: Option<OpenRun>,
-    turns: Count,
+    pub(crate) root: TypeId,
+    pub(crate) walk: Walk<'r, A>,
+    pub(crate) nodes: Vec<Node, A>,
+    pub(crate) pool: Vec<u8, A>,
+    pub(crate) text_len: usize,
+    pub(crate) open_run: Option<OpenRun>,
+    pub(crate) turns: Count,
 }
 
 impl<'r, A: Allocator> Model for Builder<'r, A> {
@@ -69,134 +60,6 @@ fn other_fault(next: Next) -> BuildFault
     match next {
         Next::Stop(reason) => reason.into(),
         Next::Finished | Next::Wants(_) => BuildFault::WrongKind,
-    }
-}
-
-/// Makes room for one more node of a walk: where there is none, ahead for others too, and for the bytes beside them.
-///
-/// Refuses want of memory for one more. Nothing that is there changes in either case.
-#[inline(always)]
-fn make_room<A: Allocator>(
-    nodes: &mut Vec<Node, A>,
-    pool: &mut Vec<u8, A>,
-    walk: &Walk<'_, A>,
-) -> Result<(), AllocError>
-    ensures nodes { nodes.new.items ≡ nodes.old.items }
-    ensures pool { pool.new.items ≡ pool.old.items }
-    ensures room { OnOk result (vec_len nodes.new + 1 ≤ vec_capacity nodes.new) }
-{
-    if nodes.len() < nodes.capacity() {
-        return Ok(());
-    }
-    walk.make_room(nodes, pool)
-}
-
-/// Appends a node without children, and to the pool what does not fit it: both, or where memory is refused neither.
-#[inline(always)]
-fn append<A: Allocator>(
-    nodes: &mut Vec<Node, A>,
-    pool: &mut Vec<u8, A>,
-    walk: &Walk<'_, A>,
-    ty: TypeId,
-    leaf: Leaf<'_>,
-) -> Result<(), AllocError>
-    requires { FitsLeaf leaf }
-    ensures ok { OnOk result (IsAppended ty leaf.entry nodes.old.items pool.old.items
-        nodes.new.items pool.new.items) }
-    ensures err { OnErr result ((nodes.new.items ≡ nodes.old.items)
-        × (pool.new.items ≡ pool.old.items)) }
-{
-    make_room(nodes, pool, walk)?;
-    let content = leaf.keep(pool)?;
-    let node = Node {
-        ty,
-        children: 0,
-        content,
-    };
-    nodes.push_reserved(node);
-    Ok(())
-}
-
-/// Appends a node: it, or where memory is refused nothing.
-fn append_node<A: Allocator>(
-    nodes: &mut Vec<Node, A>,
-    pool: &mut Vec<u8, A>,
-    walk: &Walk<'_, A>,
-    node: Node,
-) -> Result<(), AllocError>
-    ensures ok { OnOk result (nodes.new.items ≡ nodes.old.items ++ node ∷ []) }
-    ensures err { OnErr result (nodes.new.items ≡ nodes.old.items) }
-    ensures pool { pool.new.items ≡ pool.old.items }
-{
-    make_room(nodes, pool, walk)?;
-    nodes.push_reserved(node);
-    Ok(())
-}
-
-/// Appends a node, the next of the walk, whose parts come next: both, or where memory is refused neither.
-#[inline(always)]
-fn open_node<A: Allocator>(
-    nodes: &mut Vec<Node, A>,
-    pool: &mut Vec<u8, A>,
-    walk: &mut Walk<'_, A>,
-    node: Node,
-    left: Left,
-) -> Result<(), AllocError>
-    requires next { IsSome (next_type walk.old) }
-    requires room { length walk.old.frames ≤ walk.old.limit + 1 }
-    requires within { IsWithin (references_of walk.old.types) left }
-    ensures nodes { OnOk result (nodes.new.items ≡ nodes.old.items ++ node ∷ []) }
-    ensures pool { pool.new.items ≡ pool.old.items }
-    ensures walk { OnOk result (walk.new ≡ opened (advanced walk.old) (length nodes.old.items)
-        (left_of walk.old.types left)) }
-    ensures err { OnErr result ((nodes.new.items ≡ nodes.old.items) × (walk.new ≡ walk.old)) }
-{
-    make_room(nodes, pool, walk)?;
-    walk.enter(nodes.as_slice().len(), left)?;
-    nodes.push_reserved(node);
-    Ok(())
-}
-
-/// Closes the innermost open node where it is whole: was one closed?
-#[inline(always)]
-fn close_one<A: Allocator>(walk: &mut Walk<'_, A>, nodes: &mut Vec<Node, A>) -> bool
-    requires { AreBuilt walk.old nodes.old.items }
-    ensures settles { Settles walk.old nodes.old.items walk.new nodes.new.items }
-    ensures yes { result ≡ true → length walk.new.frames + 1 ≡ length walk.old.frames }
-    ensures no { result ≡ false →
-        IsSettled walk.new × (length walk.new.frames ≡ length walk.old.frames) }
-{
-    let Some(place) = walk.close() else {
-        return false;
-    };
-    let size = nodes.as_slice().len() - place;
-    nodes[place].content.close(size);
-    true
-}
-
-/// Closes the open nodes that are whole, one in each turn, and counts the turns.
-#[inline(never)]
-fn close_whole<A: Allocator>(walk: &mut Walk<'_, A>, nodes: &mut Vec<Node, A>, turns: &mut Count)
-    requires { AreBuilt walk.old nodes.old.items }
-    ensures settles { Settles walk.old nodes.old.items walk.new nodes.new.items }
-    ensures walk { walk.new ≡ settled_walk walk.old }
-    ensures turns { turns.new.so_far ≡ turns.old.so_far + closings walk.old.frames }
-{
-    'closing: while close_one(walk, nodes) {
-        turns.tick();
-    }
-}
-
-/// Closes the open nodes that are whole. After most nodes something is next in the innermost one, and then none is.
-#[inline(always)]
-fn settle<A: Allocator>(walk: &mut Walk<'_, A>, nodes: &mut Vec<Node, A>, turns: &mut Count)
-    requires { AreBuilt walk.old nodes.old.items }
-    ensures settles { Settles walk.old nodes.old.items walk.new nodes.new.items }
-    ensures walk { walk.new ≡ settled_walk walk.old }
-    ensures turns { turns.new.so_far ≡ turns.old.so_far + closings walk.old.frames }
-{
-    if walk.is_finished() {
-        close_whole(walk, nodes, turns);
     }
 }
 
@@ -327,66 +190,6 @@ impl<'r, A: Allocator> Builder<'r, A> {
             Next::Wants(form) if self.open_run.is_none() => Ok(form),
             other => Err(other_fault(other)),
         }
-    }
-
-    /// Adds a node without children, which the caller knows to be a value of the next type: what `bool`, `unsigned` and
-    /// the other calls do once they have judged. Where memory is refused nothing changes.
-    #[inline(always)]
-    pub fn add_leaf(&mut self, leaf: Leaf<'_>) -> Result<(), AllocError>
-        requires closed { self.old.run ≡ None }
-        requires next { IsNextLeaf self.old.walk (leaf_head leaf) }
-        requires fits { FitsLeaf leaf }
-        ensures ok { OnOk result (self.new ≡ with_leaf self.old (leaf_head leaf.entry)) }
-        ensures err { OnErr result (self.new ≡ self.old) }
-    {
-        let next = self.walk.ty();
-        append(&mut self.nodes, &mut self.pool, &self.walk, next, leaf)?;
-        self.text_len += leaf.text_len();
-        self.walk.advance();
-        settle(&mut self.walk, &mut self.nodes, &mut self.turns);
-        Ok(())
-    }
-
-    /// The same for an element of a list that another follows: no node ends with it, and another of its type is next.
-    #[inline(always)]
-    pub fn add_element(&mut self, leaf: Leaf<'_>) -> Result<(), AllocError>
-        requires closed { self.old.run ≡ None }
-        requires next { IsNextLeaf self.old.walk (leaf_head leaf) }
-        requires fits { FitsLeaf leaf }
-        requires follows { 1 ≤ elements_after self.old.walk }
-        ensures ok { OnOk result (self.new ≡ with_leaf self.old (leaf_head leaf.entry)) }
-        ensures next { OnOk result (next_of self.new.walk ≡ next_of self.old.walk) }
-        ensures fewer { OnOk result
-            (elements_after self.new.walk + 1 ≡ elements_after self.old.walk) }
-        ensures err { OnErr result (self.new ≡ self.old) }
-    {
-        let ty = self.walk.ty();
-        append(&mut self.nodes, &mut self.pool, &self.walk, ty, leaf)?;
-        self.text_len += leaf.text_len();
-        self.walk.pass_element();
-        Ok(())
-    }
-
-    /// Adds a node whose children come next, for the value of the next type. Where memory is refused nothing changes.
-    #[inline(always)]
-    pub(crate) fn add_open(&mut self, content: Content, left: Left) -> Result<(), AllocError>
-        requires closed { self.old.run ≡ None }
-        requires opened { size_shown content ≡ 0 }
-        requires within { IsWithin (references_of self.old.walk.types) left }
-        requires next { IsNextOpen self.old.walk (head_shown [] left.count content)
-            (left_of self.old.walk.types left) }
-        ensures ok { OnOk result (self.new ≡ with_open self.old (head_shown [] left.count content)
-            (left_of self.old.walk.types left)) }
-        ensures err { OnErr result (self.new ≡ self.old) }
-    {
-        let node = Node {
-            ty: self.walk.ty(),
-            children: left.count,
-            content,
-        };
-        open_node(&mut self.nodes, &mut self.pool, &mut self.walk, node, left)?;
-        settle(&mut self.walk, &mut self.nodes, &mut self.turns);
-        Ok(())
     }
 
     /// Begins a text or a run of so many bytes, which the caller knows to be next: what `text_start` and `bytes_start` do

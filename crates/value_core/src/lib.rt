@@ -2,9 +2,9 @@
 #![tactic(auto)]
 
 mod adding_calls;
+mod appending;
 mod build_fault;
 mod builder;
-mod left;
 mod opening;
 mod run_calls;
 mod walk;

@@ -1,19 +1,18 @@
 //! The place in a value that comes next, and what is wanted there: the one thing that says it.
 
-ghost use Rattle.std.specs.Prelude.{◌≡◌, ◌⊎◌, ◌+◌, ◌≤◌, length, is_none, option_map, OnOk, OnErr};
-ghost use Rattle.std.specs.Prelude.{IfSome, IfNone, IsSome, vec_len, vec_capacity};
-ghost use Rattle.grammar_core.specs.Parts.{first_of, how_many_left};
+ghost use Rattle.std.specs.Prelude.{ℕ, ◌≡◌, ◌⊎◌, ◌+◌, ◌≤◌, ◌++◌, [], ◌∷◌, length, is_none, option_map};
+ghost use Rattle.std.specs.Prelude.{IfSome, IfNone, IsSome, OnOk, OnErr, vec_len, vec_capacity};
+ghost use Rattle.grammar_core.specs.Parts.{each, first_of, how_many_left};
 ghost use Rattle.widths_core.specs.Steps.{references_of};
 ghost use Rattle.value_core.specs.Ahead.{IsStepOf, elements_in, members_in};
-ghost use Rattle.value_core.specs.Frames.{left_of, IsWithin};
+ghost use Rattle.node_core.specs.Left.{left_of, IsWithin};
 ghost use Rattle.value_core.specs.Opened.{OpensFields, OpensArm, OpensElements, IsListNext};
 ghost use Rattle.value_core.specs.Refusals.{is_whole_in};
 ghost use Rattle.value_core.specs.Walked.{start_of, next_type, next_of, depth_of, advanced, opened};
 ghost use Rattle.value_core.specs.Walked.{Closes, IsBounded, elements_after, is_list_in};
 
-use crate::left::{Frame, Left};
 use grammar_core::{Form, MAX_DEPTH, Next, StopReason, next_of_step};
-use node_core::{Node, make_room_for_nodes};
+use node_core::{Frame, Left, Node, make_room_for_nodes};
 use registry_core::TypeId;
 use std::alloc::{AllocError, Allocator};
 use std::marker::Model;
@@ -58,6 +57,20 @@ fn elements_in(step: Step, length: u32) -> Left
     }
 }
 
+/// Puts a frame behind the others: it, or where memory is refused nothing.
+#[inline(always)]
+fn push_frame<A: Allocator>(frames: &mut Vec<Frame, A>, frame: Frame) -> Result<(), AllocError>
+    ensures ok { OnOk result (frames.new.items ≡ frames.old.items ++ frame ∷ []) }
+    ensures len { OnOk result (length frames.new.items ≡ length frames.old.items + 1) }
+    ensures err { OnErr result (frames.new.items ≡ frames.old.items) }
+{
+    if frames.len() == frames.capacity() {
+        frames.reserve(1)?;
+    }
+    frames.push_reserved(frame);
+    Ok(())
+}
+
 /// A walk through a value of a type, node by node in the order of their bytes (SCALE codec, "Types": parts stand one
 /// after the other, after the index or the length that says which and how many they are).
 ///
@@ -82,7 +95,8 @@ impl<'r, A: Allocator> Model for Walk<'r, A> {
     ghost use Rattle.grammar_core.specs.Parts.{first_of};
     ghost use Rattle.std.specs.Prelude.{IfSome, ◌≡◌};
     ghost use Rattle.widths_core.specs.Steps.{references_of};
-    ghost use Rattle.value_core.specs.Frames.{frames_of, left_of, AreWithin, IsWithin};
+    ghost use Rattle.value_core.specs.Frames.{frames_of, AreWithin};
+    ghost use Rattle.node_core.specs.Left.{left_of, IsWithin};
 
     ghost view = { λ w. record {
       types = w.checked.now.types;
@@ -208,10 +222,11 @@ impl<'r, A: Allocator> Walk<'r, A> {
             ≡ opened (advanced self.old) node (left_of self.old.types left)) }
         ensures err { OnErr result (self.new ≡ self.old) }
     {
-        self.around.push(Frame {
+        let frame = Frame {
             node: self.top.node,
             left: self.top.left.advanced(),
-        })?;
+        };
+        push_frame(&mut self.around, frame)?;
         self.top = Frame { node, left };
         look_ahead(self.checked, &left, &mut self.ty);
         Ok(())
@@ -288,6 +303,26 @@ impl<'r, A: Allocator> Walk<'r, A> {
         ensures within { IsWithin (references_of self.now.types) result }
     {
         members_in(self.step())
+    }
+
+    /// The one part of the next type, a composite or a tuple, where it has one that is an array of u8 and that the depth limit lets
+    /// in: its type, and how many bytes it has.
+    pub(crate) fn wrapped_array(&self) -> Option<(TypeId, u32)>
+        requires { next_of self.now ≡ Next.Wants Form.Fields }
+        ensures opens { IfSome result (λ x. OpensFields self.now (each (x.0.0 ∷ []))) }
+        ensures array { IfSome result (λ x. (place : ℕ) →
+            next_of (opened (advanced self.now) place (each (x.0.0 ∷ [])))
+            ≡ Next.Wants (Form.ByteArray x.1)) }
+    {
+        let left = self.fields();
+        if left.count != 1 || self.around.len() >= self.limit {
+            return None;
+        }
+        let part = TypeId(left.first(self.checked.members())?);
+        match step_of(self.checked, part) {
+            Step::ByteArray { len } => Some((part, len)),
+            _ => None,
+        }
     }
 
     /// The first arm of the index in the next type, by its position, and a value of each of its fields. There is none

@@ -1,6 +1,6 @@
 use Rattle.std.proofs.Common.{◌≡◌, ◌∙◌, sym, ap, subst, [], length}
 use Rattle.value_core.specs.Built.{Built, IsNextOpen}
-use Rattle.value_core.specs.Frames.{left_of}
+use Rattle.node_core.specs.Left.{left_of}
 use Rattle.node_core.specs.Shown.{head_shown}
 use Rattle.node_core.specs.declared.node.Node.{Node}
 use Rattle.value_core.proofs.Ahead.{type_at}
@@ -15,18 +15,18 @@ settle-requires g c =
     subst (λ (b : Built). IsNextOpen b.walk (head_shown [] c.args.left.count c.args.content)
     (left_of b.walk.types c.args.left)) (sym c.self.view_is) c.requires.next in
     let n : Node = record {
-      ty = c.ty.result;
+      ty = c.ty-ty.result;
       children = c.args.left.count;
       content = c.args.content;
     } in
-    let at : n.ty.0 ≡ l.ty = type_at c.self.inside.walk n.ty.0 l.ty l.next c.ty.ensures in
+    let at : n.ty.0 ≡ l.ty = type_at c.self.inside.walk n.ty.0 l.ty l.next c.ty-ty.ensures in
     let b = open_added c.self.inside.root.0 c.self.inside.walk c.self.inside.pool.items
     c.self.inside.nodes.items n c.self.inside.text_len
     (left_of c.self.inside.walk.types c.args.left) c.self.invariant.0 l at c.requires.opened in (
       c.self.inside.root.0,
       c.self.inside.pool.items,
       c.self.inside.text_len,
-      rw (c.in_ok-open_node.ensures.walk, c.in_ok-open_node.ensures.nodes) b,
+      rw (c.in_ok-enter.ensures.ok, c.push_reserved.ensures.items, c.as_slice.ensures.value, c.make_room.ensures.nodes) b,
     )
 
 pub invariant_of-self-2 : goal.invariant_of-self-2
@@ -36,11 +36,11 @@ invariant_of-self-2 g c =
     subst (λ (b : Built). IsNextOpen b.walk (head_shown [] c.args.left.count c.args.content)
     (left_of b.walk.types c.args.left)) (sym c.self.view_is) c.requires.next in
     let n : Node = record {
-      ty = c.ty.result;
+      ty = c.ty-ty.result;
       children = c.args.left.count;
       content = c.args.content;
     } in
-    let at : n.ty.0 ≡ l.ty = type_at c.self.inside.walk n.ty.0 l.ty l.next c.ty.ensures in
+    let at : n.ty.0 ≡ l.ty = type_at c.self.inside.walk n.ty.0 l.ty l.next c.ty-ty.ensures in
     let b = open_added c.self.inside.root.0 c.self.inside.walk c.self.inside.pool.items
     c.self.inside.nodes.items n c.self.inside.text_len
     (left_of c.self.inside.walk.types c.args.left) c.self.invariant.0 l at c.requires.opened in
@@ -48,14 +48,16 @@ invariant_of-self-2 g c =
     (ap (λ (b : Built). b.run) c.self.view_is ∙ c.requires.closed) in (
       c.settle.ensures.settles.builds _ _ _
           (rw (
-            c.in_ok-open_node.ensures.walk,
-            c.in_ok-open_node.ensures.nodes,
-            c.open_node.ensures.pool,
+            c.in_ok-enter.ensures.ok,
+            c.push_reserved.ensures.items,
+            c.as_slice.ensures.value,
+            c.make_room.ensures.nodes,
+            c.make_room.ensures.pool,
           ) b),
       rw closed tt,
-      rw c.settle.ensures.walk (settled_again c.open_node.new.walk),
+      rw c.settle.ensures.walk (settled_again c.enter.new.self),
       settled_paid _ _ _ _ _ _ c.settle.ensures.settles c.settle.ensures.walk c.settle.ensures.turns
-          (rw (c.in_ok-open_node.ensures.walk, c.in_ok-open_node.ensures.nodes)
+          (rw (c.in_ok-enter.ensures.ok, c.push_reserved.ensures.items, c.make_room.ensures.nodes)
           (open_paid c.self.inside.walk c.self.inside.nodes.items n
           (length c.self.inside.nodes.items) c.self.inside.turns.so_far
           (left_of c.self.inside.walk.types c.args.left) c.self.invariant.3)),

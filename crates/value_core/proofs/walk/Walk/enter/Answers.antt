@@ -1,7 +1,8 @@
 use Rattle.std.proofs.Common.{◌+◌, ◌≤◌, length, sym, subst, arith}
 use Rattle.std.specs.Prelude.{IsSome}
 use Rattle.widths_core.specs.Steps.{references_of}
-use Rattle.value_core.specs.Frames.{IsWithin, frames_of}
+use Rattle.value_core.specs.Frames.{frames_of}
+use Rattle.node_core.specs.Left.{IsWithin}
 use Rattle.value_core.specs.Walked.{Walked, next_type}
 use Rattle.value_core.proofs.Members.{frames_counted, some_counted, within_append}
 use Rattle.value_core.proofs.walk.Walk.enter.Goals as goal
@@ -17,11 +18,11 @@ invariant_of-self-2 g c =
     let before : length (frames_of c.self.inside.checked.now.types c.self.inside.top
     c.self.inside.around.items) ≤ c.self.inside.limit + 1 =
     subst (λ (w : Walked). length w.frames ≤ w.limit + 1) (sym c.self.view_is) c.requires.room in
-    let room : length c.push.new.self.items ≤ c.self.inside.limit + 1 =
+    let room : length c.push_frame.new.frames.items ≤ c.self.inside.limit + 1 =
     omega (
       arith,
       before,
-      c.in_ok-push.ensures.len,
+      c.in_ok-push_frame.ensures.len,
       frames_counted c.self.inside.checked.now.types c.self.inside.around.items,
     ) in
     let within : IsWithin refs c.args.left =
@@ -31,6 +32,6 @@ invariant_of-self-2 g c =
       room,
       c.look_ahead.ensures,
       within,
-      rw c.in_ok-push.ensures.items (within_append refs c.self.inside.around.items _
+      rw c.in_ok-push_frame.ensures.ok (within_append refs c.self.inside.around.items _
           c.self.invariant.4 (c.advanced.ensures.within refs c.self.invariant.3)),
     )

@@ -1,34 +1,34 @@
 //! What is left of the parts of an open node, by the references of the registry.
 
 ghost use Rattle.std.specs.Prelude.{◌≡◌, ◌≤◌, ℕ, List, is_none};
-ghost use Rattle.value_core.specs.Frames.{left_by, copies_of, members_of, repeats, IsWithin};
 ghost use Rattle.grammar_core.specs.Parts.{first_of, left_after};
-ghost use Rattle.value_core.specs.Walked.{after_first, have_one_type};
+ghost use Rattle.node_core.specs.Left.{left_by, copies_of, members_of, repeats, IsWithin};
+ghost use Rattle.node_core.specs.Left.{after_first, have_one_type};
 
-use node_core::Node;
+use crate::node::Node;
 
 /// The parts of an open node that are still to come: so many, the last of these. Which types they have is said by numbers
 /// and not by an enum: these have no padding, which would be moved with them.
 #[derive(Clone, Copy)]
-pub(crate) struct Left {
-    pub(crate) count: u32,
+pub struct Left {
+    pub count: u32,
     /// The type of all of them, by its number, where they have one.
-    element: u32,
+    pub element: u32,
     /// 0 where they have one type. Else each part has the type that a reference of its own names. These references follow one
     /// another, and this is one more than the number after the last of theirs.
-    end: usize,
+    pub end: usize,
 }
 
 /// An open node: its place among the nodes, and what is left of its parts.
 #[derive(Clone, Copy)]
-pub(crate) struct Frame {
-    pub(crate) node: usize,
-    pub(crate) left: Left,
+pub struct Frame {
+    pub node: usize,
+    pub left: Left,
 }
 
 impl Left {
     /// A value of each of `count` references from number `from` on.
-    pub(crate) fn members(from: u32, count: u32) -> Left
+    pub fn members(from: u32, count: u32) -> Left
         ensures { result ≡ members_of from count }
     {
         Left {
@@ -39,7 +39,7 @@ impl Left {
     }
 
     /// So many values of one type.
-    pub(crate) fn copies(count: u32, element: u32) -> Left
+    pub fn copies(count: u32, element: u32) -> Left
         ensures { result ≡ copies_of count element }
     {
         Left {
@@ -50,7 +50,7 @@ impl Left {
     }
 
     /// No values.
-    pub(crate) fn none() -> Left
+    pub fn none() -> Left
         ensures { result ≡ copies_of 0 0 }
     {
         Left::copies(0, 0)
@@ -58,7 +58,7 @@ impl Left {
 
     /// Is nothing left?
     #[inline(always)]
-    pub(crate) fn is_empty(&self) -> bool
+    pub fn is_empty(&self) -> bool
         ensures { (references : List ℕ) → IsWithin references self.now →
             result ≡ is_none (first_of (left_by references self.now)) }
     {
@@ -67,7 +67,7 @@ impl Left {
 
     /// The type that is next, if anything is left, by the references of the registry.
     #[inline(always)]
-    pub(crate) fn first(&self, references: &[u32]) -> Option<u32>
+    pub fn first(&self, references: &[u32]) -> Option<u32>
         requires { IsWithin references.now self.now }
         ensures { result ≡ first_of (left_by references.now self.now) }
     {
@@ -83,7 +83,7 @@ impl Left {
     /// The next type is no longer left.
     #[tactic(auto, using(crate::proofs::Members::one_less))]
     #[inline(always)]
-    pub(crate) fn advance(&mut self)
+    pub fn advance(&mut self)
         requires { 1 ≤ self.old.count }
         ensures left { (references : List ℕ) →
             left_by references self.new ≡ left_after (left_by references self.old) }
@@ -95,7 +95,7 @@ impl Left {
 
     /// The same, made anew.
     #[inline(always)]
-    pub(crate) fn advanced(self) -> Left
+    pub fn advanced(self) -> Left
         requires { 1 ≤ self.count }
         ensures left { (references : List ℕ) →
             left_by references result ≡ left_after (left_by references self) }
@@ -109,7 +109,7 @@ impl Left {
 
     /// Have all of them one type, by how the node is defined?
     #[inline(always)]
-    pub(crate) fn have_one_type(&self) -> bool
+    pub fn have_one_type(&self) -> bool
         ensures { (references : List ℕ) →
             result ≡ have_one_type (left_by references self.now) }
     {
@@ -118,7 +118,7 @@ impl Left {
 
     /// How many values of the next one's type follow it, where all have one type; else 0.
     #[inline(always)]
-    pub(crate) fn after_first(&self) -> u32
+    pub fn after_first(&self) -> u32
         ensures { (references : List ℕ) →
             result ≡ after_first (left_by references self.now) }
     {
@@ -131,7 +131,7 @@ impl Left {
 
     /// Is something left, of the same type as what was before it?
     #[inline(always)]
-    pub(crate) fn repeats(&self) -> bool
+    pub fn repeats(&self) -> bool
         ensures { result ≡ repeats self.now }
     {
         self.count != 0 && self.end == 0
@@ -141,7 +141,7 @@ impl Left {
 impl Frame {
     /// How many more nodes are expected of the elements of a list that are left: as many for each as those that came have in the
     /// mean, of which the last is half there. Of another node, and where none came or is left, none.
-    pub(crate) fn expected(&self, nodes: &[Node]) -> usize {
+    pub fn expected(&self, nodes: &[Node]) -> usize {
         let Some(node) = nodes.get(self.node) else {
             return 0;
         };

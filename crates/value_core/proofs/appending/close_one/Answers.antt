@@ -2,7 +2,7 @@ use Rattle.std.proofs.Common.{◌≡◌, ◌-◌, List, length, Some, ap, arith,
 use Rattle.std.specs.Prelude.{slice_get}
 use Rattle.std.proofs.lemmas.Option.{slice_get_read}
 use Rattle.value_core.proofs.Closing.{closing, closing_settles}
-use Rattle.value_core.proofs.builder.close_one.Goals as goal
+use Rattle.value_core.proofs.appending.close_one.Goals as goal
 
 pub overflow_sub-size : goal.overflow_sub-size
 overflow_sub-size g c = let b = c.requires in

@@ -1,7 +1,7 @@
 use Rattle.std.proofs.Common.{◌≡◌, ◌∙◌, ◌+◌, length, sym, arith}
 use Rattle.value_core.specs.Built.{settled_walk}
 use Rattle.value_core.proofs.Closing.{turns_are}
-use Rattle.value_core.proofs.builder.close_whole.Goals as goal
+use Rattle.value_core.proofs.appending.close_whole.Goals as goal
 
 pub returns-clause-turns : goal.returns-clause-turns
 returns-clause-turns g c =

@@ -1,6 +1,6 @@
 use Rattle.std.proofs.Common.{◌≡◌, ◌+◌, length}
 use Rattle.value_core.specs.Building.{Settles}
-use Rattle.value_core.proofs.builder.close_whole.Given as goal
+use Rattle.value_core.proofs.appending.close_whole.Given as goal
 
 abbrev pub invariant-closing : goal.invariant-closing
 invariant-closing g l = Settles l.fn.walk l.fn.nodes.items l.walk l.nodes.items

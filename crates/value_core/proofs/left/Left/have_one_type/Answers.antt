@@ -1,5 +1,0 @@
-use Rattle.value_core.proofs.Members.{one_type}
-use Rattle.value_core.proofs.left.Left.have_one_type.Goals as goal
-
-pub returns : goal.returns
-returns c refs = one_type refs c.args.self.now

@@ -1,5 +1,0 @@
-use Rattle.value_core.proofs.Members.{none_counted}
-use Rattle.value_core.proofs.left.Left.is_empty.Goals as goal
-
-pub returns : goal.returns
-returns c refs h = none_counted refs c.args.self.now h

@@ -1,0 +1,268 @@
+//! Appending nodes to a value that is built, where the caller knows what they are, and closing those that are whole.
+
+ghost use Rattle.std.specs.Prelude.{◌≡◌, ◌<◌, ◌≤◌, ◌+◌, ◌++◌, ◌∷◌, [], length, true, false, OnOk};
+ghost use Rattle.std.specs.Prelude.{OnErr, IsSome, Ok, None, vec_len, vec_capacity};
+ghost use Rattle.grammar_core.specs.Parts.{each, first_of};
+ghost use Rattle.widths_core.specs.Steps.{references_of};
+ghost use Rattle.node_core.specs.Leaves.{leaf_head, FitsLeaf, IsAppended};
+ghost use Rattle.node_core.specs.Left.{left_of, IsWithin};
+ghost use Rattle.node_core.specs.Shown.{head_shown, size_shown};
+ghost use Rattle.value_core.specs.Begun.{IsBegun};
+ghost use Rattle.value_core.specs.Building.{AreBuilt, Settles};
+ghost use Rattle.value_core.specs.Built.{IsSettled, closings, settled_walk, with_leaf, with_open};
+ghost use Rattle.value_core.specs.Built.{IsNextLeaf, IsNextOpen};
+ghost use Rattle.value_core.specs.Walked.{advanced, elements_after, next_of, next_type, opened};
+
+use crate::builder::Builder;
+use crate::walk::Walk;
+use count_core::Count;
+use node_core::{Content, Leaf, Left, Node};
+use registry_core::TypeId;
+use std::alloc::{AllocError, Allocator};
+
+/// Makes room for one more node of a walk: where there is none, ahead for others too, and for the bytes beside them.
+///
+/// Refuses want of memory for one more. Nothing that is there changes in either case.
+#[inline(always)]
+fn make_room<A: Allocator>(
+    nodes: &mut Vec<Node, A>,
+    pool: &mut Vec<u8, A>,
+    walk: &Walk<'_, A>,
+) -> Result<(), AllocError>
+    ensures nodes { nodes.new.items ≡ nodes.old.items }
+    ensures pool { pool.new.items ≡ pool.old.items }
+    ensures room { OnOk result (vec_len nodes.new + 1 ≤ vec_capacity nodes.new) }
+{
+    if nodes.len() < nodes.capacity() {
+        return Ok(());
+    }
+    walk.make_room(nodes, pool)
+}
+
+/// Appends a node without children, and to the pool what does not fit it: both, or where memory is refused neither.
+#[inline(always)]
+pub(crate) fn append<A: Allocator>(
+    nodes: &mut Vec<Node, A>,
+    pool: &mut Vec<u8, A>,
+    walk: &Walk<'_, A>,
+    ty: TypeId,
+    leaf: Leaf<'_>,
+) -> Result<(), AllocError>
+    requires { FitsLeaf leaf }
+    ensures ok { OnOk result (IsAppended ty leaf.entry nodes.old.items pool.old.items
+        nodes.new.items pool.new.items) }
+    ensures err { OnErr result ((nodes.new.items ≡ nodes.old.items)
+        × (pool.new.items ≡ pool.old.items)) }
+{
+    make_room(nodes, pool, walk)?;
+    let content = leaf.keep(pool)?;
+    let node = Node {
+        ty,
+        children: 0,
+        content,
+    };
+    nodes.push_reserved(node);
+    Ok(())
+}
+
+/// Appends a node: it, or where memory is refused nothing.
+#[inline(always)]
+pub(crate) fn append_node<A: Allocator>(
+    nodes: &mut Vec<Node, A>,
+    pool: &mut Vec<u8, A>,
+    walk: &Walk<'_, A>,
+    node: Node,
+) -> Result<(), AllocError>
+    ensures ok { OnOk result (nodes.new.items ≡ nodes.old.items ++ node ∷ []) }
+    ensures err { OnErr result (nodes.new.items ≡ nodes.old.items) }
+    ensures pool { pool.new.items ≡ pool.old.items }
+{
+    make_room(nodes, pool, walk)?;
+    nodes.push_reserved(node);
+    Ok(())
+}
+
+/// Closes the innermost open node where it is whole: was one closed?
+#[inline(always)]
+fn close_one<A: Allocator>(walk: &mut Walk<'_, A>, nodes: &mut Vec<Node, A>) -> bool
+    requires { AreBuilt walk.old nodes.old.items }
+    ensures settles { Settles walk.old nodes.old.items walk.new nodes.new.items }
+    ensures yes { result ≡ true → length walk.new.frames + 1 ≡ length walk.old.frames }
+    ensures no { result ≡ false →
+        IsSettled walk.new × (length walk.new.frames ≡ length walk.old.frames) }
+{
+    let Some(place) = walk.close() else {
+        return false;
+    };
+    let size = nodes.as_slice().len() - place;
+    nodes[place].content.close(size);
+    true
+}
+
+/// Closes the open nodes that are whole, one in each turn, and counts the turns.
+#[inline(never)]
+fn close_whole<A: Allocator>(walk: &mut Walk<'_, A>, nodes: &mut Vec<Node, A>, turns: &mut Count)
+    requires { AreBuilt walk.old nodes.old.items }
+    ensures settles { Settles walk.old nodes.old.items walk.new nodes.new.items }
+    ensures walk { walk.new ≡ settled_walk walk.old }
+    ensures turns { turns.new.so_far ≡ turns.old.so_far + closings walk.old.frames }
+{
+    'closing: while close_one(walk, nodes) {
+        turns.tick();
+    }
+}
+
+/// Closes the open nodes that are whole. After most nodes something is next in the innermost one, and then none is.
+#[inline(always)]
+pub(crate) fn settle<A: Allocator>(
+    walk: &mut Walk<'_, A>,
+    nodes: &mut Vec<Node, A>,
+    turns: &mut Count,
+)
+    requires { AreBuilt walk.old nodes.old.items }
+    ensures settles { Settles walk.old nodes.old.items walk.new nodes.new.items }
+    ensures walk { walk.new ≡ settled_walk walk.old }
+    ensures turns { turns.new.so_far ≡ turns.old.so_far + closings walk.old.frames }
+{
+    if walk.is_finished() {
+        close_whole(walk, nodes, turns);
+    }
+}
+
+impl<'r, A: Allocator> Builder<'r, A> {
+    /// Adds a node without children, which the caller knows to be a value of the next type: what `bool`, `unsigned` and
+    /// the other calls do once they have judged. Where memory is refused nothing changes.
+    #[inline(always)]
+    pub fn add_leaf(&mut self, leaf: Leaf<'_>) -> Result<(), AllocError>
+        requires closed { self.old.run ≡ None }
+        requires next { IsNextLeaf self.old.walk (leaf_head leaf) }
+        requires fits { FitsLeaf leaf }
+        ensures ok { OnOk result (self.new ≡ with_leaf self.old (leaf_head leaf.entry)) }
+        ensures err { OnErr result (self.new ≡ self.old) }
+    {
+        let next = self.walk.ty();
+        append(&mut self.nodes, &mut self.pool, &self.walk, next, leaf)?;
+        self.text_len += leaf.text_len();
+        self.walk.advance();
+        settle(&mut self.walk, &mut self.nodes, &mut self.turns);
+        Ok(())
+    }
+
+    /// The same for an element of a list that another follows: no node ends with it, and another of its type is next.
+    #[inline(always)]
+    pub fn add_element(&mut self, leaf: Leaf<'_>) -> Result<(), AllocError>
+        requires closed { self.old.run ≡ None }
+        requires next { IsNextLeaf self.old.walk (leaf_head leaf) }
+        requires fits { FitsLeaf leaf }
+        requires follows { 1 ≤ elements_after self.old.walk }
+        ensures ok { OnOk result (self.new ≡ with_leaf self.old (leaf_head leaf.entry)) }
+        ensures next { OnOk result (next_of self.new.walk ≡ next_of self.old.walk) }
+        ensures fewer { OnOk result
+            (elements_after self.new.walk + 1 ≡ elements_after self.old.walk) }
+        ensures err { OnErr result (self.new ≡ self.old) }
+    {
+        let ty = self.walk.ty();
+        append(&mut self.nodes, &mut self.pool, &self.walk, ty, leaf)?;
+        self.text_len += leaf.text_len();
+        self.walk.pass_element();
+        Ok(())
+    }
+
+    /// Adds a node whose children come next, for the value of the next type. Where memory is refused nothing changes.
+    #[inline(always)]
+    pub(crate) fn add_open(&mut self, content: Content, left: Left) -> Result<(), AllocError>
+        requires closed { self.old.run ≡ None }
+        requires opened { size_shown content ≡ 0 }
+        requires within { IsWithin (references_of self.old.walk.types) left }
+        requires next { IsNextOpen self.old.walk (head_shown [] left.count content)
+            (left_of self.old.walk.types left) }
+        ensures ok { OnOk result (self.new ≡ with_open self.old (head_shown [] left.count content)
+            (left_of self.old.walk.types left)) }
+        ensures err { OnErr result (self.new ≡ self.old) }
+    {
+        if left.is_empty() {
+            return self.add_childless(content, left);
+        }
+        let ty = self.walk.ty();
+        make_room(&mut self.nodes, &mut self.pool, &self.walk)?;
+        self.walk.enter(self.nodes.as_slice().len(), left)?;
+        self.nodes.push_reserved(Node {
+            ty,
+            children: left.count,
+            content,
+        });
+        settle(&mut self.walk, &mut self.nodes, &mut self.turns);
+        Ok(())
+    }
+
+    /// The same of a node that has none: it is whole at once, and takes no place among the open ones.
+    #[inline(always)]
+    fn add_childless(&mut self, content: Content, left: Left) -> Result<(), AllocError>
+        requires closed { self.old.run ≡ None }
+        requires opened { size_shown content ≡ 0 }
+        requires none { first_of (left_of self.old.walk.types left) ≡ None }
+        requires next { IsNextOpen self.old.walk (head_shown [] left.count content)
+            (left_of self.old.walk.types left) }
+        ensures ok { OnOk result (self.new ≡ with_open self.old (head_shown [] left.count content)
+            (left_of self.old.walk.types left)) }
+        ensures err { OnErr result (self.new ≡ self.old) }
+    {
+        let mut node = Node {
+            ty: self.walk.ty(),
+            children: left.count,
+            content,
+        };
+        node.content.close(1);
+        append_node(&mut self.nodes, &mut self.pool, &self.walk, node)?;
+        self.walk.advance();
+        self.turns.tick();
+        settle(&mut self.walk, &mut self.nodes, &mut self.turns);
+        Ok(())
+    }
+
+    /// Adds a node of one part together with that, which has none: what `add_open` and `add_leaf` do one after the other. The
+    /// node is whole at once, and takes no place among the open ones. Was there room for both? If not, and where memory is
+    /// refused, nothing changes.
+    #[inline(always)]
+    pub(crate) fn add_around(
+        &mut self,
+        content: Content,
+        part: TypeId,
+        leaf: Leaf<'_>,
+    ) -> Result<bool, AllocError>
+        requires closed { self.old.run ≡ None }
+        requires opened { size_shown content ≡ 0 }
+        requires next { IsNextOpen self.old.walk (head_shown [] 1 content) (each (part.0 ∷ [])) }
+        requires leaf { IsNextLeaf (opened (advanced self.old.walk) (length self.old.entries)
+            (each (part.0 ∷ []))) (leaf_head leaf) }
+        requires fits { FitsLeaf leaf }
+        ensures yes { result ≡ Ok true → self.new ≡ with_leaf (with_open self.old
+            (head_shown [] 1 content) (each (part.0 ∷ []))) (leaf_head leaf.entry) }
+        ensures begun { result ≡ Ok true → IsBegun (with_open self.old (head_shown [] 1 content)
+            (each (part.0 ∷ []))) }
+        ensures no { result ≡ Ok false → self.new ≡ self.old }
+        ensures err { OnErr result (self.new ≡ self.old) }
+    {
+        if self.nodes.capacity() - self.nodes.len() < 2 {
+            return Ok(false);
+        }
+        let mut node = Node {
+            ty: self.walk.ty(),
+            children: 1,
+            content,
+        };
+        node.content.close(2);
+        let content = leaf.keep(&mut self.pool)?;
+        self.nodes.push_reserved(node);
+        self.nodes.push_reserved(Node {
+            ty: part,
+            children: 0,
+            content,
+        });
+        self.text_len += leaf.text_len();
+        self.walk.advance();
+        self.turns.tick();
+        settle(&mut self.walk, &mut self.nodes, &mut self.turns);
+        Ok(true)
+    }
+}
