@@ -2,11 +2,13 @@
 
 use scale_tests::registries::{
     BITS_IN_AN_ARM, BYTES, CHAIN, COMPACT_OF_ENDLESS, ENDLESS, NEVER, OPTION, SIXTY_FIVE_WORDS,
-    TEXT, TWO_UNITS_AND_A_BYTE, WORDS,
+    TEXT, TWO_UNITS_AND_A_BYTE, WORDS, WRAPPED_ARRAYS,
 };
-use scale_tests::rows::{AMPLE, NO_DEPTH, Outcome, Row, SIXTY_FIVE_DEEP, TWO_BYTES_LONG, TWO_DEEP};
+use scale_tests::rows::{
+    AMPLE, NO_DEPTH, ONE_DEEP, Outcome, Row, SIXTY_FIVE_DEEP, TWO_BYTES_LONG, TWO_DEEP,
+};
 
-pub(crate) const REFUSED_PARTS: [Row; 20] = [
+pub(crate) const REFUSED_PARTS: [Row; 21] = [
     Row {
         name: "a text that is not UTF-8",
         registry: TEXT,
@@ -79,6 +81,17 @@ pub(crate) const REFUSED_PARTS: [Row; 20] = [
         ty: 1,
         limits: NO_DEPTH,
         bytes: b"\x04\x07\x00",
+        outcome: Outcome::Refused {
+            fault: "TooDeep at 1",
+            taken: 1,
+        },
+    },
+    Row {
+        name: "an array of bytes in a composite of it alone, one level too deep",
+        registry: WRAPPED_ARRAYS,
+        ty: 3,
+        limits: ONE_DEEP,
+        bytes: b"\x04\x01\x02",
         outcome: Outcome::Refused {
             fault: "TooDeep at 1",
             taken: 1,

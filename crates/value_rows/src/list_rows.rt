@@ -2,11 +2,11 @@
 
 use scale_tests::registries::{
     BYTES, LONG_ARRAY, LONG_ARRAY_OF_WORDS, NEVER, NO_BYTES, OPTIONS, SIXTY_FIVE_WORDS, TEXTS,
-    THREE_BYTES, UNITS, UNITS_IN_UNITS, WORDS, WRAPPED_BYTES,
+    THREE_BYTES, UNITS, UNITS_IN_UNITS, WORDS, WRAPPED_ARRAYS, WRAPPED_BYTES,
 };
 use scale_tests::rows::{AMPLE, NO_DEPTH, ONE_DEEP, Outcome, Row, TWO_BYTES_LONG};
 
-pub const LISTS: [Row; 24] = [
+pub const LISTS: [Row; 26] = [
     Row {
         name: "units, as their count",
         registry: UNITS,
@@ -152,6 +152,27 @@ pub const LISTS: [Row; 24] = [
             texts: 0,
             json: "[[7]]",
         },
+    },
+    Row {
+        name: "composites of an array of bytes alone",
+        registry: WRAPPED_ARRAYS,
+        ty: 3,
+        limits: AMPLE,
+        bytes: b"\x08\x01\x02\xfe\xff",
+        outcome: Outcome::Value {
+            len: 5,
+            nodes: 5,
+            texts: 4,
+            json: "[[\"0x0102\"],[\"0xfeff\"]]",
+        },
+    },
+    Row {
+        name: "a composite of an array of bytes alone, and the array of another begun",
+        registry: WRAPPED_ARRAYS,
+        ty: 3,
+        limits: AMPLE,
+        bytes: b"\x08\x01\x02\xfe",
+        outcome: Outcome::Cut { nodes: 4, texts: 3 },
     },
     Row {
         name: "words",

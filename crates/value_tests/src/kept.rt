@@ -1,6 +1,6 @@
 //! Nodes as a builder keeps them: what does not fit a node, nodes that are closed, and room for more.
 
-use node_core::{Content, Leaf, Node, OpenRun, make_room_for_nodes, put_piece};
+use node_core::{Content, Leaf, Left, Node, OpenRun, make_room_for_nodes, put_piece};
 use registry_core::TypeId;
 use std::alloc::Global;
 use std::test::Fail;
@@ -37,6 +37,22 @@ fn a_node_with_parts_is_closed(rt: HostRuntime) -> Result<(), Fail> {
     let mut count = Content::Count(2);
     count.close(3);
     assert!(rt; matches!(count, Content::Count(2)));
+    Ok(())
+}
+
+#[test]
+fn parts_that_are_left_come_one_after_the_other(rt: HostRuntime) -> Result<(), Fail> {
+    let references = [7, 8, 9, 10];
+    let mut members = Left::members(1, 2);
+    assert_eq!(rt; members.first(&references), Some(8));
+    assert!(rt; !members.have_one_type());
+    members.advance();
+    assert_eq!(rt; members.first(&references), Some(9));
+    let copies = Left::copies(3, 7);
+    assert_eq!(rt; copies.first(&references), Some(7));
+    assert_eq!(rt; copies.after_first(), 2);
+    assert!(rt; copies.repeats());
+    assert!(rt; Left::none().is_empty());
     Ok(())
 }
 
