@@ -47,7 +47,8 @@ fn parts_that_are_left_come_one_after_the_other(rt: HostRuntime) -> Result<(), F
     assert_eq!(rt; members.first(&references), Some(8));
     assert!(rt; !members.have_one_type());
     members.advance();
-    assert_eq!(rt; members.first(&references), Some(9));
+    assert_eq!(rt; members.count, 1);
+    assert_eq!(rt; Left::members(2, 1).first(&references), Some(9));
     let copies = Left::copies(3, 7);
     assert_eq!(rt; copies.first(&references), Some(7));
     assert_eq!(rt; copies.after_first(), 2);
