@@ -2,7 +2,7 @@
 -- among the open ones.
 use Rattle.std.proofs.Common.{◌≡◌, ℕ, ◌+◌, List, [], ◌∷◌, ◌++◌, length, Option, Some, None}
 use Rattle.std.proofs.Common.{refl, sym, ap, subst, ◌∙◌, append_assoc, arith, length-append}
-use Rattle.std.specs.Prelude.{slice_get, slice_set}
+use Rattle.std.specs.Prelude.{slice_get, slice_set, IfSome}
 use Rattle.std.proofs.lemmas.List.{length-map, map-append}
 use Rattle.std.proofs.lemmas.Option.{same_Some}
 use Rattle.registry_core.specs.declared.type_id.TypeId.{TypeId}
@@ -21,16 +21,17 @@ use Rattle.node_core.specs.declared.node.Node.{Node}
 use Rattle.value_core.specs.Begun.{IsBegun}
 use Rattle.value_core.specs.Building.{IsBuilding, IsPaid}
 use Rattle.value_core.specs.Built.{Built, Entry, Pieces, IsNextLeaf, IsNextOpen, IsSettled}
-use Rattle.value_core.specs.Built.{closings, entries_shown, settled_in, settled_walk, type_or_0, with_leaf}
-use Rattle.value_core.specs.Built.{next_layout, with_fields, with_open}
+use Rattle.value_core.specs.Built.{closings, entries_shown, settled_in, settled_walk, type_or_0}
+use Rattle.value_core.specs.Built.{next_layout, with_fields, with_leaf, with_open}
 use Rattle.value_core.specs.Opened.{OpensFields}
 use Rattle.value_core.specs.Spine.{open_part}
 use Rattle.value_core.specs.Walked.{Closes, OpenPart, Walked, advanced, advanced_in, first_in}
 use Rattle.value_core.specs.Walked.{next_of, next_type, opened}
 use Rattle.value_core.proofs.Adding.{open_added, open_shown}
+use Rattle.value_core.proofs.Ahead.{type_at}
 use Rattle.value_core.proofs.Begun.{is_begun}
-use Rattle.value_core.proofs.Closing.{closing_settles, open_paid, same, settled_shorter}
-use Rattle.value_core.proofs.Closing.{settled_step, with_size}
+use Rattle.value_core.proofs.Closing.{advanced_length, closing_settles, open_paid, same}
+use Rattle.value_core.proofs.Closing.{settled_shorter, settled_step, with_size}
 use Rattle.value_core.proofs.Leaves.{leaf_appended}
 use Rattle.value_core.proofs.NextOpen.{laid_next}
 
@@ -102,7 +103,8 @@ open_is b h p w u turns e settles counts = rw (← settles, ← counts, e) refl
 -- a node without parts
 pub childless_is : (b : Built) (h : Head) (p : Part) (u : ℕ) → next_type b.walk ≡ Some u →
     first_of p ≡ None → with_open b h p
-    ≡ built_with b (settled_walk (advanced b.walk)) h u (b.turns + 1 + closings (advanced b.walk).frames)
+    ≡ built_with b (settled_walk (advanced b.walk)) h u
+    (b.turns + 1 + closings (advanced b.walk).frames)
 childless_is b h p u e none =
     open_is b h p (settled_walk (advanced b.walk)) u
     (b.turns + 1 + closings (advanced b.walk).frames) e
@@ -147,7 +149,8 @@ around_is b h g t u e =
 entries_at : (pool : List ℕ) (ns : List Node) (n : Node) (k : ℕ) (w : Walked) (p : Part) →
     IsNextOpen w (head_shown [] n.children n.content) p →
     entries_shown pool (ns ++ with_size n k ∷ [])
-    ≡ entries_shown pool ns ++ record { ty = n.ty.0; head = head_shown [] n.children n.content } ∷ []
+    ≡ entries_shown pool ns
+    ++ record { ty = n.ty.0; head = head_shown [] n.children n.content } ∷ []
 entries_at pool ns n k w p l =
     let shown = open_shown pool n.children n.content l.kind _ l.head_is in
     map-append _ ns (with_size n k ∷ [])
@@ -174,11 +177,8 @@ childless ty w pool ns n text_len p b l at size none =
 -- one node is there, and one turn closed it
 pub childless_paid : (w : Walked) (ns : List Node) (n : Node) (turns : ℕ) → IsPaid w ns turns →
     IsPaid (advanced w) (ns ++ n ∷ []) (turns + 1)
-childless_paid w ns n turns p = omega (arith, p, advanced_length w.frames, length-append ns (n ∷ []))
-  where
-    advanced_length : (fs : List OpenPart) → length (advanced_in fs) ≡ length fs
-    advanced_length [] = refl
-    advanced_length (f ∷ fs) = refl
+childless_paid w ns n turns p =
+    omega (arith, p, advanced_length w.frames, length-append ns (n ∷ []))
 
 -- the part of a node of one part
 abbrev pub part_node : TypeId → Content → Node
@@ -275,6 +275,101 @@ begun_between ty w pool ns n text_len t run turns b o at size paid =
     ∙ sym (stays_is (held w (entries_shown pool ns)) h t o.ty [] o.next) in
     subst IsBegun is begun
 
+-- ---- the same by the fields of a builder and how it is seen
+
+-- a builder's fields, as it is seen
+abbrev seen_as : ℕ → Walked → List ℕ → List Node → Option Pieces → ℕ → Built
+seen_as ty w pool ns run turns = record {
+  ty = ty;
+  walk = w;
+  entries = entries_shown pool ns;
+  run = run;
+  turns = turns;
+}
+
+-- a node that may be opened is told by the fields too
+opens_by : {old seen : Built} (h : Head) (p : Part) → old ≡ seen → IsNextOpen seen.walk h p →
+    IsNextOpen old.walk h p
+opens_by h p is next = subst (λ (b : Built). IsNextOpen b.walk h p) (sym is) next
+
+-- a node without parts, of the type that the walk tells
+pub childless_by : {ty : ℕ} {w : Walked} {pool : List ℕ} {ns : List Node} {text_len turns : ℕ}
+    {run : Option Pieces} {seen : Built} (n : Node) (p : Part) →
+    seen_as ty w pool ns run turns ≡ seen → IsBuilding ty w pool ns text_len →
+    IsNextOpen seen.walk (head_shown [] n.children n.content) p →
+    IfSome (next_type w) (λ x. n.ty.0 ≡ x) → size_shown n.content ≡ 0 → first_of p ≡ None →
+    IsBuilding ty (advanced w) pool (ns ++ with_size n 1 ∷ []) text_len
+    × (entries_shown pool (ns ++ with_size n 1 ∷ []) ≡ entries_shown pool ns
+    ++ record { ty = n.ty.0; head = head_shown [] n.children n.content } ∷ [])
+childless_by {ty} {w} {pool} {ns} {text_len} n p is b next told size none =
+    let l = opens_by (head_shown [] n.children n.content) p is next in
+    childless ty w pool ns n text_len p b l (type_at w n.ty.0 l.ty l.next told) size none
+
+-- it is what opening it would be
+pub childless_shows : {old seen : Built} (t : ℕ) (h : Head) (p : Part) → old ≡ seen →
+    IsNextOpen seen.walk h p → IfSome (next_type old.walk) (λ x. t ≡ x) → first_of p ≡ None →
+    built_with old (settled_walk (advanced old.walk)) h t
+    (old.turns + 1 + closings (advanced old.walk).frames) ≡ with_open seen h p
+childless_shows {old} t h p is next told none =
+    let l = opens_by h p is next in
+    ap (λ (u : ℕ). built_with old (settled_walk (advanced old.walk)) h u
+    (old.turns + 1 + closings (advanced old.walk).frames)) (type_at old.walk t l.ty l.next told)
+    ∙ sym (childless_is old h p l.ty l.next none)
+    ∙ ap (λ (b : Built). with_open b h p) is
+
+-- a node of one part, of the type that the walk tells, and that part
+pub around_by : {ty : ℕ} {w : Walked} {pool new_pool : List ℕ} {ns : List Node}
+    {text_len turns : ℕ} {run : Option Pieces} {seen : Built} {leaf : Leaf} {c : Content} (n : Node)
+    (t : TypeId) → seen_as ty w pool ns run turns ≡ seen → IsBuilding ty w pool ns text_len →
+    IsNextOpen seen.walk (head_shown [] n.children n.content) (each (t.0 ∷ [])) →
+    IfSome (next_type w) (λ x. n.ty.0 ≡ x) → size_shown n.content ≡ 0 →
+    IsNextLeaf (opened (advanced seen.walk) (length seen.entries) (each (t.0 ∷ [])))
+    (leaf_head leaf) → IsLeafKept leaf pool new_pool c →
+    IsBuilding ty (advanced w) new_pool ((ns ++ with_size n 2 ∷ []) ++ part_node t c ∷ [])
+    (text_len + leaf_text_bytes leaf)
+    × (entries_shown new_pool ((ns ++ with_size n 2 ∷ []) ++ part_node t c ∷ [])
+    ≡ (entries_shown pool ns
+    ++ record { ty = n.ty.0; head = head_shown [] n.children n.content } ∷ [])
+    ++ record { ty = t.0; head = leaf_head leaf } ∷ [])
+around_by {ty} {w} {pool} {new_pool} {ns} {text_len} {leaf = leaf} {c} n t is b next told size one
+    kept =
+    let p = each (t.0 ∷ []) in
+    let o = opens_by (head_shown [] n.children n.content) p is next in
+    let part = subst (λ (x : Built). IsNextLeaf (opened (advanced x.walk) (length x.entries) p)
+    (leaf_head leaf)) (sym is) one in
+    around ty w pool new_pool ns n text_len t leaf c b o (type_at w n.ty.0 o.ty o.next told) size
+    part kept
+
+-- they are what opening the node, and adding the part, would be
+pub around_shows : {old seen : Built} (t part : ℕ) (h g : Head) → old ≡ seen →
+    IsNextOpen seen.walk h (each (part ∷ [])) → IfSome (next_type old.walk) (λ x. t ≡ x) →
+    built_with (built_with old (advanced old.walk) h t old.turns)
+    (settled_walk (advanced old.walk)) g part
+    (old.turns + 1 + closings (advanced old.walk).frames)
+    ≡ with_leaf (with_open seen h (each (part ∷ []))) g
+around_shows {old} t part h g is next told =
+    let l = opens_by h (each (part ∷ [])) is next in
+    ap (λ (u : ℕ). built_with (built_with old (advanced old.walk) h u old.turns)
+    (settled_walk (advanced old.walk)) g part
+    (old.turns + 1 + closings (advanced old.walk).frames)) (type_at old.walk t l.ty l.next told)
+    ∙ sym (around_is old h g part l.ty l.next)
+    ∙ ap (λ (b : Built). with_leaf (with_open b h (each (part ∷ []))) g) is
+
+-- and between the two a begun tree is held
+pub begun_by : {ty : ℕ} {w : Walked} {pool : List ℕ} {ns : List Node} {text_len turns : ℕ}
+    {run : Option Pieces} {seen : Built} (n : Node) (t : ℕ) →
+    seen_as ty w pool ns run turns ≡ seen → IsBuilding ty w pool ns text_len →
+    IsNextOpen seen.walk (head_shown [] n.children n.content) (each (t ∷ [])) →
+    IfSome (next_type w) (λ x. n.ty.0 ≡ x) → size_shown n.content ≡ 0 → IsPaid w ns turns →
+    IsBegun (with_open seen (head_shown [] n.children n.content) (each (t ∷ [])))
+begun_by {ty} {w} {pool} {ns} {text_len} {turns} {run} n t is b next told size paid =
+    let p = each (t ∷ []) in
+    let h = head_shown [] n.children n.content in
+    let o = opens_by h p is next in
+    subst (λ (x : Built). IsBegun (with_open x h p)) is
+    (begun_between ty w pool ns n text_len t run turns b o (type_at w n.ty.0 o.ty o.next told) size
+    paid)
+
 -- ---- a composite or tuple of one part
 
 -- its parts are those that its layout has
@@ -291,7 +386,8 @@ fields_are b ts o =
 
 -- what is next in it is what is next where it is the innermost open node
 pub fields_next_of : (b : Built) (t : ℕ) → OpensFields b.walk (each (t ∷ [])) →
-    next_of (opened (advanced b.walk) (length b.entries) (each (t ∷ []))) ≡ next_of (with_fields b).walk
+    next_of (opened (advanced b.walk) (length b.entries) (each (t ∷ [])))
+    ≡ next_of (with_fields b).walk
 fields_next_of b t o =
     ap (λ (x : Built). next_of x.walk)
     (sym (fields_are b (t ∷ []) o

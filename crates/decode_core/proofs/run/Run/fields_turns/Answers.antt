@@ -42,7 +42,8 @@ returns-in-Ok-None g c =
     c.tick.new.self.so_far c.whole_bare.result c.tick.ensures c.requires.next.sound
     (subst (λ (s : Running).
     WholeReports s c.whole_bare.new.self c.args.piece.now c.whole_bare.result)
-    (ap (λ (b : Built). of_fields b c.self.inside.carry) (c.in-Ok-None.ensures.none (ap Ok c.in-Ok-None.field-0-is))
+    (ap (λ (b : Built). of_fields b c.self.inside.carry)
+    (c.in-Ok-None.ensures.none (ap Ok c.in-Ok-None.field-0-is))
     ∙ c.self.view_is) (c.whole_bare.ensures c.args.piece.now))
     (λ done. wants_goes_on c.args.self.now form.Fields c.requires.next.next done)
 

@@ -26,7 +26,12 @@ settle-requires g c =
       c.self.inside.root.0,
       c.self.inside.pool.items,
       c.self.inside.text_len,
-      rw (c.in_ok-enter.ensures.ok, c.push_reserved.ensures.items, c.as_slice.ensures.value, c.make_room.ensures.nodes) b,
+      rw (
+        c.in_ok-enter.ensures.ok,
+        c.push_reserved.ensures.items,
+        c.as_slice.ensures.value,
+        c.make_room.ensures.nodes,
+      ) b,
     )
 
 pub invariant_of-self-2 : goal.invariant_of-self-2
