@@ -11,6 +11,9 @@ use std::alloc::{AllocError, Allocator};
 /// The first long integer of a pool takes room for so many bytes, those of four, so that few of them take room once.
 const AT_ONCE: usize = 64;
 
+/// One more than the greatest number that eight bytes hold.
+const HALF: u128 = 1 << 64;
+
 /// Appends the bytes of a text or of a run: how many they are. Where memory is refused nothing changes.
 #[inline(always)]
 pub(crate) fn put_run<A: Allocator>(pool: &mut Vec<u8, A>, bytes: &[u8]) -> Result<u32, AllocError>
@@ -58,11 +61,12 @@ pub(crate) fn put_long<A: Allocator>(
     ensures err { IfErr result (λ _. pool.new.items ≡ pool.old.items) }
 {
     let start = pool.as_slice().len();
-    let bytes = number.to_le_bytes();
-    if pool.capacity() - start < bytes.len() {
+    if pool.capacity() - start < 16 {
         make_room(pool, AT_ONCE)?;
     }
-    pool.extend_from_slice(&bytes)?;
+    // Eight bytes are one store. The sixteen of the whole number would be moved to a vector register one by one.
+    pool.extend_from_slice(&((number % HALF) as u64).to_le_bytes())?;
+    pool.extend_from_slice(&((number / HALF) as u64).to_le_bytes())?;
     Ok(start)
 }
 
