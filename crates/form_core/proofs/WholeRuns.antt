@@ -1,23 +1,29 @@
 -- Runs that stand whole on the front of a piece, and pieces on whose front none does.
-use Rattle.std.proofs.Common.{◌≡◌, ℕ, ◌^◌, ◌<◌, ◌≤◌, List, ◌++◌, length, take, drop}
-use Rattle.std.proofs.Common.{Ok, Err, Bor, ◌+◌, refl, sym, ap, subst, ◌∙◌, arith, length-append}
-use Rattle.std.specs.Prelude.{IsErr}
-use Rattle.std.proofs.lemmas.Bool.{lt-ltb}
+use Rattle.std.proofs.Common.{◌≡◌, ℕ, ◌^◌, ◌<◌, ◌≤◌, List, ◌++◌, length, take, drop, Ok, Err, Bor}
+use Rattle.std.proofs.Common.{◌+◌, refl, sym, ap, subst, ◌∙◌, arith, length-append, true, false}
+use Rattle.std.proofs.Common.{◌∷◌, ◌/◌, ◌%◌, Some, []}
+use Rattle.std.specs.Prelude.{◌≢◌, IsErr, IsUtf8, slice_get}
+use Rattle.std.specs.Str.{is_utf8}
+use Rattle.std.proofs.lemmas.Bool.{false_from_ne_true, lt-ltb}
 use Rattle.std.proofs.lemmas.List.{drop-drop, length-drop, length-take}
 use Rattle.std.proofs.lemmas.List.{take-append-drop, take_at}
-use Rattle.scale_core.specs.Read.{Read, compact_at, text_at}
+use Rattle.std.proofs.lemmas.Option.{same_Some}
+use Rattle.std.proofs.lemmas.Str.{is_utf8-from_IsUtf8, IsUtf8-from_is_utf8}
+use Rattle.scale_core.specs.Read.{Read, ◌>>=◌, bytes_at, compact_at}
 use Rattle.scale_core.specs.declared.compact.Target.TheVariants as target
 use Rattle.scale_core.specs.declared.fault.Reason.{Reason}
+use Rattle.scale_core.specs.Number.{AreBytes}
 use Rattle.scale_core.proofs.Again.{bytes_again}
+use Rattle.scale_core.proofs.ReadForms.{compact_at-integer, integer_at-one}
 use Rattle.scale_core.proofs.Results.{Takes}
 use Rattle.widths_core.specs.declared.run_kind.RunKind.{RunKind}
 use Rattle.widths_core.specs.declared.run_kind.RunKind.TheVariants as kind
-use Rattle.grammar_core.specs.Runs.{IsRunLength, SpellsRun, run_at}
-use Rattle.grammar_core.proofs.Runs.{run_takes, run_text}
+use Rattle.grammar_core.specs.Runs.{IsRunLength, SpellsRun, run_at, run_judged}
+use Rattle.grammar_core.proofs.Runs.{run_takes}
 use Rattle.node_core.specs.declared.leaf.Leaf.{Leaf}
 use Rattle.node_core.specs.declared.leaf.Leaf.TheVariants as leaf
 use Rattle.form_core.specs.NodeForms.{prefixed_kind}
-use Rattle.form_core.specs.WholeRuns.{ReadsRun}
+use Rattle.form_core.specs.WholeRuns.{IsAtFront, IsLengthAtFront, ReadsRun}
 use Rattle.form_core.specs.declared.forms.PrefixedRun.{PrefixedRun}
 use Rattle.form_core.specs.declared.forms.PrefixedRun.TheVariants as prefixed
 
@@ -63,19 +69,46 @@ few_bytes r piece bytes count within read =
     (run_takes k piece) read in
     run_short r (length bytes) s.0 s.1
 
--- a text that is read is one that stands whole on the front
-pub text_reads : (piece s : List ℕ) (b : Bor (List ℕ)) (count : ℕ) → b.now ≡ s →
-    count ≤ length piece → text_at piece ≡ Ok (s, drop count piece) →
-    ReadsRun kind.Text piece (leaf.Text b) count
-text_reads piece s b count same within h =
-    let read : run_at kind.Text piece ≡ Ok (b.now, drop count piece) = run_text piece ∙ h
-    ∙ ap (λ (x : List ℕ). Ok (x, drop count piece)) (sym same) in
+-- bytes that are read as such are a text where they are UTF-8, and else none
+text_judged : (piece s rest : List ℕ) → run_at kind.Bytes piece ≡ Ok (s, rest) →
+    (is_utf8 s ≡ true → run_at kind.Text piece ≡ Ok (s, rest))
+    × (is_utf8 s ≡ false → IsErr (run_at kind.Text piece))
+unfolding run_at
+text_judged piece s rest h = by (compact_at target.U32 piece) h where
+  part : (from : List ℕ) (x : Read Reason (List ℕ)) → (x >>= (λ y. Ok y)) ≡ Ok (s, rest) →
+      (is_utf8 s ≡ true → (x >>= run_judged kind.Text from) ≡ Ok (s, rest))
+      × (is_utf8 s ≡ false → IsErr (x >>= run_judged kind.Text from))
+  part from (Err e) h = absurd cc
+  part from (Ok x) h =
+      let is : x ≡ (s, rest) = cc in
+      (λ valid. rw (is, valid) refl, λ bad. rw (is, bad) refl)
+
+  by : (n : Read Reason ℕ) →
+      (n >>= (λ x. bytes_at x.0 x.1 >>= run_judged kind.Bytes x.1)) ≡ Ok (s, rest) →
+      (is_utf8 s ≡ true →
+      (n >>= (λ x. bytes_at x.0 x.1 >>= run_judged kind.Text x.1)) ≡ Ok (s, rest))
+      × (is_utf8 s ≡ false →
+      IsErr (n >>= (λ x. bytes_at x.0 x.1 >>= run_judged kind.Text x.1)))
+  by (Err e) h = absurd cc
+  by (Ok x) h = part x.1 (bytes_at x.0 x.1) h
+
+-- where there is a first byte, the bytes are that one and the others
+first_is : (piece : List ℕ) (first : ℕ) → Some first ≡ slice_get piece 0 →
+    piece ≡ first ∷ drop 1 piece
+first_is [] first h = absurd cc
+first_is (x ∷ xs) first h = ap (λ (y : ℕ). y ∷ xs) (sym (same_Some first x h))
+
+-- a length of one byte is a fourth of that
+pub one_byte : (piece : List ℕ) (first : ℕ) → AreBytes piece → Some first ≡ slice_get piece 0 →
+    first % 4 ≡ 0 → IsLengthAtFront piece (first / 4) 1
+one_byte piece first are there low =
+    let other : target.U32 ≢ target.Unit = λ e. absurd cc in
+    let is = first_is piece first there in
+    let bytes : AreBytes (first ∷ drop 1 piece) = subst AreBytes is are in
     record {
-      bytes = b.now;
-      head = refl;
-      fits = few_bytes prefixed.Text piece b.now count within read;
-      within = within;
-      read = read;
+      within = omega (arith, ap length is);
+      read = compact_at-integer target.U32 piece other
+          ∙ integer_at-one target.U32 piece first other are is low bytes.0;
     }
 
 -- a run of bytes is read as its length and so many bytes
@@ -85,43 +118,86 @@ unfolding run_at
 bytes_run piece s rest n h long = rw (h, bytes_again n s rest long) refl
 
 -- where a length is read, and so many bytes stand after it, they are a run that stands whole there
-pub bytes_read : (piece : List ℕ) (b : Bor (List ℕ)) (n start : ℕ) → start ≤ length piece →
+pub bytes_read : (piece s : List ℕ) (n start : ℕ) → start ≤ length piece →
     compact_at target.U32 piece ≡ Ok (n, drop start piece) → n ≤ length (drop start piece) →
-    b.now ≡ take n (drop start piece) → ReadsRun kind.Bytes piece (leaf.Bytes b) (start + n)
-bytes_read piece b n start within h enough is =
+    s ≡ take n (drop start piece) → IsAtFront piece s (start + n)
+bytes_read piece s n start within h enough is =
     let rest = drop start piece in
     let parts : compact_at target.U32 piece ≡ Ok (n, take n rest ++ drop n rest) = h
     ∙ ap (λ (l : List ℕ). Ok (n, l)) (sym (take-append-drop n rest)) in
     let long : length (take n rest) ≡ n = omega (arith, length-take n rest, enough) in
-    let read : run_at kind.Bytes piece ≡ Ok (b.now, drop (start + n) piece) =
+    let read : run_at kind.Bytes piece ≡ Ok (s, drop (start + n) piece) =
     bytes_run piece (take n rest) (drop n rest) n parts long
     ∙ ap (λ (l : List ℕ). Ok (take n rest, l)) (drop-drop n start piece)
     ∙ ap (λ (l : List ℕ). Ok (l, drop (start + n) piece)) (sym is) in
     let inside : start + n ≤ length piece =
     omega (arith, within, enough, length-drop start piece) in
     record {
-      bytes = b.now;
-      head = refl;
-      fits = few_bytes prefixed.Bytes piece b.now (start + n) inside read;
+      few = few_bytes prefixed.Bytes piece s (start + n) inside read;
       within = inside;
       read = read;
     }
 
+-- they are a run of bytes
+pub bytes_are : (piece : List ℕ) (b : Bor (List ℕ)) (count : ℕ) → IsAtFront piece b.now count →
+    ReadsRun kind.Bytes piece (leaf.Bytes b) count
+bytes_are piece b count h = record {
+  bytes = b.now;
+  head = refl;
+  fits = h.few;
+  within = h.within;
+  read = h.read;
+}
+
+-- and a text where they are UTF-8
+pub text_is : (piece : List ℕ) (b : Bor (List ℕ)) (count : ℕ) → IsAtFront piece b.now count →
+    IsUtf8 b.now → ReadsRun kind.Text piece (leaf.Text b) count
+text_is piece b count h valid = record {
+  bytes = b.now;
+  head = refl;
+  fits = h.few;
+  within = h.within;
+  read = (text_judged piece b.now (drop count piece) h.read).0 (is_utf8-from_IsUtf8 b.now valid);
+}
+
 -- ---- where none does
 
--- a text that is refused is no run
-pub no_text : (piece : List ℕ) (e : Reason × List ℕ) → text_at piece ≡ Err e →
+-- bytes that are not UTF-8 are no text
+pub no_text : (piece s : List ℕ) (count : ℕ) → IsAtFront piece s count → (IsUtf8 s → ⊥) →
     IsErr (run_at kind.Text piece)
-no_text piece e h = subst IsErr (sym (run_text piece ∙ h)) refl
+no_text piece s count h bad =
+    (text_judged piece s (drop count piece) h.read).1
+    (false_from_ne_true _ (λ e. bad (IsUtf8-from_is_utf8 s e)))
 
--- nor is a run of bytes whose length is refused
-pub no_length : (piece : List ℕ) (e : Reason × List ℕ) → compact_at target.U32 piece ≡ Err e →
+-- a run of bytes whose length is refused is none
+pub no_length : (piece : List ℕ) → IsErr (compact_at target.U32 piece) →
     IsErr (run_at kind.Bytes piece)
 unfolding run_at
-no_length piece e h = rw h refl
+no_length piece h = by (compact_at target.U32 piece) h where
+  by : (n : Read Reason ℕ) → IsErr n →
+      IsErr (n >>= (λ x. bytes_at x.0 x.1 >>= run_judged kind.Bytes x.1))
+  by (Err e) h = refl
+  by (Ok x) h = absurd cc
 
 -- nor one that lacks bytes
 pub too_few_bytes : (piece : List ℕ) (n : ℕ) (rest : List ℕ) →
     compact_at target.U32 piece ≡ Ok (n, rest) → length rest < n → IsErr (run_at kind.Bytes piece)
 unfolding run_at
 too_few_bytes piece n rest h few = rw (h, lt-ltb (length rest) n few) refl
+
+-- where no bytes are read no text is
+pub no_run : (r : PrefixedRun) (piece : List ℕ) → IsErr (run_at kind.Bytes piece) →
+    IsErr (run_at (prefixed_kind r) piece)
+unfolding run_at
+no_run prefixed.Bytes piece h = h
+no_run prefixed.Text piece h = by (compact_at target.U32 piece) h where
+  part : (from : List ℕ) (x : Read Reason (List ℕ)) → IsErr (x >>= run_judged kind.Bytes from) →
+      IsErr (x >>= run_judged kind.Text from)
+  part from (Err e) h = h
+  part from (Ok x) h = absurd cc
+
+  by : (n : Read Reason ℕ) →
+      IsErr (n >>= (λ x. bytes_at x.0 x.1 >>= run_judged kind.Bytes x.1)) →
+      IsErr (n >>= (λ x. bytes_at x.0 x.1 >>= run_judged kind.Text x.1))
+  by (Err e) h = h
+  by (Ok x) h = part x.1 (bytes_at x.0 x.1) h
