@@ -1,16 +1,24 @@
 -- A composite or tuple that is added together with its one part.
-use Rattle.std.specs.Prelude.{◌≡◌, ℕ, ◌≤◌, List, length, take}
+use Rattle.std.specs.Prelude.{◌≡◌, ℕ, ◌^◌, ◌<◌, ◌≤◌, List, [], ◌∷◌, length, take}
+use Rattle.grammar_core.specs.Parts.{each}
 use Rattle.grammar_core.specs.Preorder as head
 use Rattle.grammar_core.specs.Tree as tree
 use Rattle.grammar_core.specs.declared.form.Form.TheVariants as form
 use Rattle.grammar_core.specs.declared.form.Next.TheVariants as next
 use Rattle.value_core.specs.Begun.{IsBegun}
 use Rattle.value_core.specs.Built.{Built, with_fields, with_leaf}
-use Rattle.value_core.specs.Walked.{next_of}
+use Rattle.value_core.specs.Opened.{OpensFields}
+use Rattle.value_core.specs.Walked.{Walked, advanced, next_of, opened}
 
--- the composite or tuple that is next has one part, an array of so many u8: between the two a begun
--- tree would be held, of which the array is next; both were added, the array as the first of these
--- bytes
+-- the composite or tuple that is next has one part, of this type: an array of so many u8
+pub record WrapsArray (w : Walked) (part len : ℕ) : Type 0 where
+  pub few : len < 2 ^ 32
+  pub opens : OpensFields w (each (part ∷ []))
+  pub array : (place : ℕ) → next_of (opened (advanced w) place (each (part ∷ [])))
+      ≡ next.Wants (form.ByteArray len)
+
+-- it has one part, an array of so many u8: between the two a begun tree would be held, of which the
+-- array is next; both were added, the array as the first of these bytes
 pub record Wraps (old new : Built) (bytes : List ℕ) (len : ℕ) : Type 0 where
   pub begun : IsBegun (with_fields old)
   pub wants : next_of (with_fields old).walk ≡ next.Wants (form.ByteArray len)

@@ -11,6 +11,7 @@ ghost use Rattle.value_core.specs.Opened.{OpensFields, OpensArm, OpensElements, 
 ghost use Rattle.value_core.specs.Refusals.{is_whole_in};
 ghost use Rattle.value_core.specs.Walked.{start_of, next_type, next_of, depth_of, advanced, opened};
 ghost use Rattle.value_core.specs.Walked.{Closes, IsBounded, elements_after, is_list_in};
+ghost use Rattle.value_core.specs.Wrapped.{WrapsArray};
 
 use grammar_core::{Form, MAX_DEPTH, Next, StopReason, next_of_step};
 use node_core::{Frame, Left, Node, make_room_for_nodes};
@@ -308,12 +309,10 @@ impl<'r, A: Allocator> Walk<'r, A> {
 
     /// The one part of the next type, a composite or a tuple, where it has one that is an array of u8 and that the depth limit lets
     /// in: its type, and how many bytes it has.
+    #[inline(always)]
     pub(crate) fn wrapped_array(&self) -> Option<(TypeId, u32)>
         requires { next_of self.now ≡ Next.Wants Form.Fields }
-        ensures opens { IfSome result (λ x. OpensFields self.now (each (x.0.0 ∷ []))) }
-        ensures array { IfSome result (λ x. (place : ℕ) →
-            next_of (opened (advanced self.now) place (each (x.0.0 ∷ [])))
-            ≡ Next.Wants (Form.ByteArray x.1)) }
+        ensures { IfSome result (λ x. WrapsArray self.now x.0.0 x.1) }
     {
         let left = self.fields();
         if left.count != 1 || self.around.len() >= self.limit {
