@@ -10,7 +10,8 @@ returns-clause-some c =
     let rest = drop start piece in
     let whole : take (length piece - start) rest ≡ rest =
     take_all (length piece - start) rest (omega (arith, length-drop start piece)) in
-    bytes_read piece _ c.in-Some.length start c.in-Some.ensures.some.within c.in-Some.ensures.some.read
+    bytes_read piece _ c.in-Some.length start c.in-Some.ensures.some.within
+    c.in-Some.ensures.some.read
     (omega (arith, c.if-rest-length.false, ap length whole)) (ap (take c.in-Some.length) whole)
 
 pub returns-in_default-clause-none : goal.returns-in_default-clause-none
