@@ -17,14 +17,14 @@ use crate::node::{NodeFault, add_bare};
 use crate::run::{OpenRun, Run, take_node};
 use crate::turned::{Held, Stopped, Turned, Whole};
 use count_core::Count;
-use form_core::PlainForm::{Compact, Unsigned};
+use form_core::PlainForm::Unsigned;
 use form_core::{
     BareForm, BytesForm, NodeForm, PlainForm, PrefixedRun, few_need, need, node_form, read_plain,
-    whole_run,
+    whole_compact, whole_run,
 };
 use registry_core::IntegerWidth::{Bits8, Bits16, Bits32, Bits64, Bits128};
 use registry_core::Primitive;
-use scale_core::{Target, read_compact};
+use scale_core::Target;
 use std::alloc::{AllocError, Allocator};
 use value_core::{Form, Leaf, Next};
 
@@ -107,12 +107,6 @@ impl<'r, A: Allocator> Run<'r, A> {
         ensures fits { IfSome result (λ x. FitsLeaf x.0) }
         ensures within { IfSome result (λ x. x.1 ≤ length piece.now) }
     {
-        if let PlainForm::Compact(target) = form {
-            let Ok((value, count)) = read_compact(piece, target) else {
-                return None;
-            };
-            return Some((Leaf::Compact(value), count));
-        }
         if piece.is_empty() {
             return None;
         }
@@ -156,6 +150,19 @@ impl<'r, A: Allocator> Run<'r, A> {
         };
         self.is_on_its_way();
         Whole::Added(count)
+    }
+
+    /// A turn on a compact integer that the piece has whole, and that is not refused.
+    #[inline(always)]
+    fn whole_compact(&mut self, target: Target, piece: &[u8]) -> Whole
+        requires next { Awaits self.old (Form.Compact target) }
+        requires empty { self.old.carry ≡ [] }
+        ensures { WholeReports self.old self.new piece.now result }
+    {
+        match whole_compact(target, piece) {
+            Some((value, count)) => self.whole_leaf(Leaf::Compact(value), &piece[..count]),
+            None => Whole::Left,
+        }
     }
 
     /// A turn on a text or a run of bytes that the piece has whole with its length, and of which nothing is refused.
@@ -254,6 +261,7 @@ impl<'r, A: Allocator> Run<'r, A> {
         match form {
             Form::Arm => self.whole_own(BytesForm::Arm, piece),
             Form::Sequence => self.whole_own(BytesForm::Sequence, piece),
+            Form::Compact(target) => self.whole_compact(target, piece),
             Form::Primitive(Primitive::Str) => self.whole_prefixed(PrefixedRun::Text, piece),
             Form::Bytes => self.whole_prefixed(PrefixedRun::Bytes, piece),
             Form::ByteArray(len) => self.whole_byte_array(len, piece),
@@ -265,7 +273,7 @@ impl<'r, A: Allocator> Run<'r, A> {
     }
 
     /// Takes turns on nodes whose own bytes the piece has whole, the first of which is of this form: on those that are left
-    /// of a list of integers, or one. Each arm names its form anew, so that its turns are made for it alone.
+    /// of a list of integers of one width, or one. Each such arm names its form anew, so that its turns are made for it alone.
     #[inline(always)]
     fn whole_nodes(&mut self, form: Form, piece: &[u8], turns: &mut Count) -> (usize, Whole)
         requires next { Awaits self.old form }
@@ -279,8 +287,6 @@ impl<'r, A: Allocator> Run<'r, A> {
             Form::Primitive(Primitive::U32) => self.repeat(Unsigned(Bits32), piece, turns),
             Form::Primitive(Primitive::U64) => self.repeat(Unsigned(Bits64), piece, turns),
             Form::Primitive(Primitive::U128) => self.repeat(Unsigned(Bits128), piece, turns),
-            Form::Compact(Target::U32) => self.repeat(Compact(Target::U32), piece, turns),
-            Form::Compact(Target::U128) => self.repeat(Compact(Target::U128), piece, turns),
             Form::Fields => self.fields_turns(piece, turns),
             other => {
                 turns.tick();

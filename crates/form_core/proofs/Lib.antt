@@ -1,4 +1,5 @@
 pub mod Firsts
+pub mod WholeCompacts
 pub mod WholeRuns
 pub mod ReadFronts
 pub mod PlainReads

@@ -23,7 +23,8 @@ use Rattle.grammar_core.proofs.Runs.{run_takes}
 use Rattle.node_core.specs.declared.leaf.Leaf.{Leaf}
 use Rattle.node_core.specs.declared.leaf.Leaf.TheVariants as leaf
 use Rattle.form_core.specs.NodeForms.{prefixed_kind}
-use Rattle.form_core.specs.WholeRuns.{IsAtFront, IsLengthAtFront, ReadsRun}
+use Rattle.form_core.specs.WholeCompacts.{IsCompactAtFront}
+use Rattle.form_core.specs.WholeRuns.{IsAtFront, ReadsRun}
 use Rattle.form_core.specs.declared.forms.PrefixedRun.{PrefixedRun}
 use Rattle.form_core.specs.declared.forms.PrefixedRun.TheVariants as prefixed
 
@@ -100,13 +101,14 @@ first_is (x ∷ xs) first h = ap (λ (y : ℕ). y ∷ xs) (sym (same_Some first 
 
 -- a length of one byte is a fourth of that
 pub one_byte : (piece : List ℕ) (first : ℕ) → AreBytes piece → Some first ≡ slice_get piece 0 →
-    first % 4 ≡ 0 → IsLengthAtFront piece (first / 4) 1
+    first % 4 ≡ 0 → IsCompactAtFront target.U32 piece (first / 4) 1
 one_byte piece first are there low =
     let other : target.U32 ≢ target.Unit = λ e. absurd cc in
     let is = first_is piece first there in
     let bytes : AreBytes (first ∷ drop 1 piece) = subst AreBytes is are in
     record {
       within = omega (arith, ap length is);
+      fits = omega (arith, bytes.0);
       read = compact_at-integer target.U32 piece other
           ∙ integer_at-one target.U32 piece first other are is low bytes.0;
     }

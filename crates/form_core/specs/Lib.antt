@@ -1,4 +1,5 @@
 pub mod NodeForms
 pub mod Needs
+pub mod WholeCompacts
 pub mod WholeRuns
 pub mod PlainReads

@@ -1,18 +1,11 @@
 -- A text or a run of bytes that stands whole on the front of a piece.
 use Rattle.std.specs.Prelude.{◌≡◌, ◌<◌, ◌≤◌, ◌^◌, ℕ, List, length, drop, Ok}
-use Rattle.scale_core.specs.Read.{compact_at}
-use Rattle.scale_core.specs.declared.compact.Target.TheVariants as target
 use Rattle.widths_core.specs.declared.run_kind.RunKind.{RunKind}
 use Rattle.widths_core.specs.declared.run_kind.RunKind.TheVariants as kind
 use Rattle.grammar_core.specs.Preorder as head
 use Rattle.grammar_core.specs.Runs.{run_at, run_leaf}
 use Rattle.node_core.specs.Leaves.{leaf_head, FitsLeaf}
 use Rattle.node_core.specs.declared.leaf.Leaf.{Leaf}
-
--- a length stands on the front of a piece, in so many bytes
-pub record IsLengthAtFront (piece : List ℕ) (length_is count : ℕ) : Type 0 where
-  pub within : count ≤ length piece
-  pub read : compact_at target.U32 piece ≡ Ok (length_is, drop count piece)
 
 -- these bytes stand whole on the front of a piece behind their length, with which they are so many
 pub record IsAtFront (piece bytes : List ℕ) (count : ℕ) : Type 0 where

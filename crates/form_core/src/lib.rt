@@ -1,14 +1,16 @@
 //! The form of the node that is next in a value, by whether it has bytes of its own, how many these are, room for those of
-//! them that came, what they spell, and the runs that stand whole on the front of a piece.
+//! them that came, what they spell, and the compact integers and the runs that stand whole on the front of a piece.
 #![tactic(auto)]
 
 mod carry;
+mod compacts;
 mod forms;
 mod needs;
 mod plain;
 mod runs;
 
 pub use carry::Carry;
+pub use compacts::whole_compact;
 pub use forms::{BareForm, BytesForm, NodeForm, PlainForm, PrefixedRun, node_form};
 pub use needs::{few_need, need};
 pub use plain::{read_length, read_plain};

@@ -4,7 +4,8 @@ ghost use Rattle.std.specs.Prelude.{◌↔◌, IfNone, IfSome, IsErr, IsTrue, Is
 ghost use Rattle.scale_core.specs.Read.{compact_at};
 ghost use Rattle.grammar_core.specs.Runs.{run_at};
 ghost use Rattle.form_core.specs.NodeForms.{prefixed_kind};
-ghost use Rattle.form_core.specs.WholeRuns.{IsAtFront, IsLengthAtFront, ReadsRun};
+ghost use Rattle.form_core.specs.WholeCompacts.{IsCompactAtFront};
+ghost use Rattle.form_core.specs.WholeRuns.{IsAtFront, ReadsRun};
 
 use crate::forms::PrefixedRun;
 use grammar_core::RunKind;
@@ -31,7 +32,7 @@ fn is_text(bytes: &[u8]) -> bool
 /// byte, whose two low bits are zeros; those take no call.
 #[inline(always)]
 fn length_at_front(piece: &[u8]) -> Option<(usize, usize)>
-    ensures some { IfSome result (λ x. IsLengthAtFront piece.now x.0 x.1) }
+    ensures some { IfSome result (λ x. IsCompactAtFront Target.U32 piece.now x.0 x.1) }
     ensures none { IfNone result (IsErr (compact_at Target.U32 piece.now)) }
 {
     if let Some(first) = piece.first()

@@ -1,36 +1,13 @@
-use Rattle.std.proofs.Common.{◌≤◌, length, take, drop, sym, ap, ◌∙◌}
+use Rattle.std.proofs.Common.{◌≤◌, length, take, drop, sym}
 use Rattle.std.proofs.Common.{subst, arith}
 use Rattle.std.proofs.lemmas.List.{take-append-drop}
 use Rattle.scale_core.specs.Number.{AreBytes}
 use Rattle.scale_core.proofs.Numbers.{front_bytes}
 use Rattle.scale_core.proofs.ReadForms.{are_bytes}
-use Rattle.grammar_core.specs.declared.form.Form.TheVariants as form
-use Rattle.grammar_core.specs.declared.form.Next.TheVariants as next
 use Rattle.form_core.specs.NodeForms.{form_of_plain}
-use Rattle.form_core.specs.declared.forms.PlainForm.{PlainForm}
-use Rattle.value_core.proofs.NextLeaf.{compact_next}
 use Rattle.decode_core.proofs.steps.PlainAdding.{plain_next, spells}
 use Rattle.decode_core.proofs.steps.RunTurns.{whole_front}
-use Rattle.decode_core.proofs.steps.WholeRuns.{compact_read}
 use Rattle.decode_core.proofs.run.Run.next_leaf.Goals as goal
-
-pub returns-in-Compact-clause-whole : goal.returns-in-Compact-clause-whole
-returns-in-Compact-clause-whole g c =
-    let wants = c.requires.next
-    ∙ ap (λ (p : PlainForm). next.Wants (form_of_plain p)) c.in-Compact.is in
-    record {
-      form = form.Compact c.in-Compact.target;
-      wants = wants;
-      closed = c.requires.closed;
-      read = compact_read c.in-Compact.target c.args.self.now.built c.args.piece.now c.in-Ok.value
-          c.in-Ok.count wants c.in-Ok.ensures.reads.0 c.in-Ok.ensures.reads.1;
-    }
-
-pub returns-in-Compact-clause-next : goal.returns-in-Compact-clause-next
-returns-in-Compact-clause-next g c =
-    compact_next c.args.self.now.built.walk c.in-Compact.target c.in-Ok.value
-    (c.requires.next ∙ ap (λ (p : PlainForm). next.Wants (form_of_plain p)) c.in-Compact.is)
-    c.in-Ok.ensures.fits
 
 pub read_plain-requires : goal.read_plain-requires
 read_plain-requires g c =
@@ -45,7 +22,7 @@ returns g c =
     let there : len.result ≤ length piece = omega (arith, c.if-piece-len.false) in
     let own = whole_front (form_of_plain c.args.form) piece len.result len.ensures.exact
     len.ensures.some there in
-    let leaf = c.in-Ok-read_plain.leaf in
+    let leaf = c.in-Ok.leaf in
     let bytes : AreBytes (take len.result piece) =
     front_bytes (take len.result piece) (drop len.result piece)
     (subst AreBytes (sym (take-append-drop len.result piece))
@@ -56,10 +33,10 @@ returns g c =
         wants = c.requires.next;
         closed = c.requires.closed;
         read = spells c.args.self.now.built c.args.form (take len.result piece) leaf
-            c.requires.next own c.in-Ok-read_plain.ensures.reads;
+            c.requires.next own c.in-Ok.ensures.reads;
       };
       next = plain_next c.args.self.now.built c.args.form (take len.result piece) leaf bytes
-          c.requires.next own c.in-Ok-read_plain.ensures.reads;
-      fits = c.in-Ok-read_plain.ensures.fits;
+          c.requires.next own c.in-Ok.ensures.reads;
+      fits = c.in-Ok.ensures.fits;
       within = there;
     }

@@ -1,0 +1,86 @@
+//! A compact integer that stands whole on the front of a piece.
+
+ghost use Rattle.std.specs.Prelude.{ℕ, ◌≤◌, IfNone, IfSome, IsErr};
+ghost use Rattle.scale_core.specs.Compact.{target_bytes};
+ghost use Rattle.scale_core.specs.Read.{compact_at};
+ghost use Rattle.form_core.specs.WholeCompacts.{IsCompactAtFront};
+
+use scale_core::{Target, read_compact, read_u32, read_u64};
+
+/// The number and the length of a compact integer of one, two or four bytes, off a word of four. Its two low bits tell which,
+/// and no jump is taken on them, since none could be foretold. There is none where they name the fourth form, where a
+/// shorter form has the number, and where fewer than four bytes are there.
+#[inline(always)]
+fn short_form(piece: &[u8]) -> Option<(u32, usize)>
+    ensures { IfSome result (λ x. (m : Target) → 4 ≤ target_bytes m →
+        IsCompactAtFront m piece.now x.0 x.1) }
+{
+    let Ok((word, _)) = read_u32(piece) else {
+        return None;
+    };
+    let mark = word % 4;
+    if mark == 3 {
+        return None;
+    }
+    let len = 1 << mark;
+    let number = (word & (u32::MAX >> (32 - 8 * len))) / 4;
+    if number < (1 << (8 * mark)) / 4 {
+        return None;
+    }
+    Some((number, len))
+}
+
+/// The number and the length of a compact integer of the fourth form, off the eight bytes after its first one. There is none
+/// where it is of another form, where it has more bytes than these or than the target, where a shorter form has the number,
+/// and where fewer than eight are there.
+#[inline(always)]
+fn long_form(target: Target, piece: &[u8]) -> Option<(u64, usize)>
+    ensures { IfSome result (λ x. IsCompactAtFront target piece.now x.0 x.1) }
+{
+    let Some((first, rest)) = piece.split_first() else {
+        return None;
+    };
+    let Ok((word, _)) = read_u64(rest) else {
+        return None;
+    };
+    let count = usize::from(first / 4) + 4;
+    if first % 4 != 3 || count > 8 || target.bytes() < count {
+        return None;
+    }
+    let number = word & (u64::MAX >> (64 - 8 * count));
+    if number < 0x4000_0000 || number >> (8 * count - 8) == 0 {
+        return None;
+    }
+    Some((number, count + 1))
+}
+
+/// The same of any compact integer: one at the end of a piece, a longer one, or one for a target of a byte or two.
+#[inline(never)]
+fn any_form(target: Target, piece: &[u8]) -> Option<(u128, usize)>
+    ensures some { IfSome result (λ x. IsCompactAtFront target piece.now x.0 x.1) }
+    ensures none { IfNone result (IsErr (compact_at target piece.now)) }
+{
+    let Ok(found) = read_compact(piece, target) else {
+        return None;
+    };
+    Some(found)
+}
+
+/// The compact integer that stands whole on the front of the piece, and how many bytes it has, 1 to 17 (SCALE codec,
+/// "Compact/General Integers"). There is none where bytes of it are missing, where the target can't hold it, and where a
+/// shorter form has its number. Where the target is `Unit` it is 0, in no byte. It takes no memory.
+#[inline(always)]
+pub fn whole_compact(target: Target, piece: &[u8]) -> Option<(u128, usize)>
+    ensures some { IfSome result (λ x. IsCompactAtFront target piece.now x.0 x.1) }
+    ensures none { IfNone result (IsErr (compact_at target piece.now)) }
+{
+    if target.bytes() >= 4
+        && let Some((number, len)) = short_form(piece)
+    {
+        return Some((u128::from(number), len));
+    }
+    if let Some((number, len)) = long_form(target, piece) {
+        return Some((u128::from(number), len));
+    }
+    any_form(target, piece)
+}
