@@ -4,6 +4,8 @@
 #[cfg(test)]
 mod checks;
 #[cfg(test)]
+mod compacts;
+#[cfg(test)]
 mod decoder;
 #[cfg(test)]
 mod leaves;
