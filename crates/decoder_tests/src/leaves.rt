@@ -1,6 +1,6 @@
-//! Nodes without parts, read off their own bytes, and lengths.
+//! Nodes without parts, read off their own bytes and off the front of a piece, and lengths.
 
-use form_core::{PlainForm, read_length, read_plain};
+use form_core::{LeafForm, PlainForm, PrefixedRun, read_length, read_plain};
 use registry_core::{IntegerWidth, Signedness};
 use scale_core::{Fault, Reason, Target};
 use value_core::Leaf;
@@ -84,4 +84,27 @@ fn a_length_is_a_compact_of_32_bits(rt: HostRuntime) {
         at: 0,
     };
     assert_eq!(rt; read_length(&[7, 0, 0, 0, 0, 1]), Err(long));
+}
+
+#[test]
+fn a_node_without_parts_is_found_where_it_stands_whole(rt: HostRuntime) {
+    let bits16 = PlainForm::Unsigned(IntegerWidth::Bits16);
+    let followed = bits16.leaf_at_front(&[1, 2, 3]);
+    assert!(rt; matches!(followed, Some((Leaf::Unsigned(513), 2))));
+    let alone = bits16.leaf_at_front(&[1, 2]);
+    assert!(rt; matches!(alone, Some((Leaf::Unsigned(513), 2))));
+    let compact = Target::U32.leaf_at_front(&[8, 9]);
+    assert!(rt; matches!(compact, Some((Leaf::Compact(2), 1))));
+    let text = PrefixedRun::Text.leaf_at_front(&[8, 97, 98, 99]);
+    assert!(rt; matches!(text, Some((Leaf::Text(lent), 3)) if lent == [97, 98].as_slice()));
+}
+
+#[test]
+fn none_is_found_of_a_form_whose_bytes_are_missing_or_refused(rt: HostRuntime) {
+    assert!(rt; PlainForm::Bool.leaf_at_front(&[]).is_none());
+    assert!(rt; PlainForm::Bool.leaf_at_front(&[2]).is_none());
+    let bits16 = PlainForm::Unsigned(IntegerWidth::Bits16);
+    assert!(rt; bits16.leaf_at_front(&[1]).is_none());
+    assert!(rt; Target::U32.leaf_at_front(&[1]).is_none());
+    assert!(rt; PrefixedRun::Text.leaf_at_front(&[4, 255]).is_none());
 }

@@ -3,3 +3,4 @@ pub mod Needs
 pub mod WholeCompacts
 pub mod WholeRuns
 pub mod PlainReads
+pub mod Fronts

@@ -1,0 +1,43 @@
+-- A node without parts that stands whole on the front of a piece, by the form that it is read by.
+use Rattle.std.specs.Prelude.{◌⊎◌, ◌≡◌, ◌<◌, ℕ, List, [], ◌∷◌, length, take, Ok, Err}
+use Rattle.scale_core.specs.declared.compact.Target.{Target}
+use Rattle.scale_core.specs.declared.fault.Fault.{Fault}
+use Rattle.grammar_core.specs.Runs.{run_form}
+use Rattle.grammar_core.specs.declared.form.Form.{Form}
+use Rattle.grammar_core.specs.declared.form.Form.TheVariants as form
+use Rattle.node_core.specs.declared.leaf.Leaf.{Leaf}
+use Rattle.node_core.specs.declared.leaf.Leaf.TheVariants as leaf
+use Rattle.form_core.specs.Needs.{AreOwn, need}
+use Rattle.form_core.specs.NodeForms.{form_of_plain, prefixed_kind}
+use Rattle.form_core.specs.PlainReads.{ReadsPlain}
+use Rattle.form_core.specs.WholeCompacts.{IsCompactAtFront}
+use Rattle.form_core.specs.WholeRuns.{ReadsRun}
+use Rattle.form_core.specs.declared.forms.PlainForm.{PlainForm}
+use Rattle.form_core.specs.declared.forms.PrefixedRun.{PrefixedRun}
+
+-- what a node without parts is read by: the form of one of few bytes, the target of a compact
+-- integer, or the form of a text or a run of bytes
+pub data Front : Type 0 where
+  plain : PlainForm → Front
+  compact : Target → Front
+  run : PrefixedRun → Front
+
+-- as the form of what comes next
+abbrev pub form_of_front : Front → Form
+form_of_front (plain p) = form_of_plain p
+form_of_front (compact m) = form.Compact m
+form_of_front (run r) = run_form (prefixed_kind r)
+
+-- such a node, which the leaf is, stands whole on the front of a piece, in so many bytes
+abbrev pub StandsWhole : Front → List ℕ → Leaf → ℕ → Type 0
+StandsWhole (plain p) piece l count = AreOwn (form_of_plain p) (take count piece)
+    × ReadsPlain p (take count piece) (Ok l)
+StandsWhole (compact m) piece l count = (n : ℕ) × (l ≡ leaf.Compact n)
+    × IsCompactAtFront m piece n count
+StandsWhole (run r) piece l count = ReadsRun (prefixed_kind r) piece l count
+
+-- a piece lacks bytes of a node of few, or those are refused
+abbrev pub LacksPlain : PlainForm → List ℕ → Type 0
+LacksPlain p [] = Unit {0}
+LacksPlain p (first ∷ rest) = (length (first ∷ rest) < need (form_of_plain p) first)
+    ⊎ ((f : Fault) × ReadsPlain p (take (need (form_of_plain p) first) (first ∷ rest)) (Err f))
