@@ -1,13 +1,12 @@
 //! The turns on a piece: nodes whose bytes it has whole, those of one form taken together, and the bytes that end it.
 
 ghost use Rattle.std.specs.Prelude.{ℕ, List, ◌≡◌, ◌≤◌, ◌<◌, ◌++◌, [], Some, None, Err};
-ghost use Rattle.std.specs.Prelude.{length, take, IfOk, IfSome, OnErr};
-ghost use Rattle.grammar_core.specs.Runs.{run_form};
+ghost use Rattle.std.specs.Prelude.{length, IfOk, OnErr};
 ghost use Rattle.node_core.specs.Leaves.{leaf_head, FitsLeaf};
 ghost use Rattle.value_core.specs.Built.{IsNextLeaf};
 ghost use Rattle.value_core.specs.Walked.{elements_after, next_of};
-ghost use Rattle.form_core.specs.NodeForms.{form_of_bare, form_of_bytes, form_of_plain};
-ghost use Rattle.form_core.specs.NodeForms.{prefixed_kind};
+ghost use Rattle.form_core.specs.Fronts.{form_of_front};
+ghost use Rattle.form_core.specs.NodeForms.{form_of_bare, form_of_bytes};
 ghost use Rattle.decode_core.specs.NodeAdds.{IsWholeLeaf};
 ghost use Rattle.decode_core.specs.Running.{IsCarry, IsKeptRun, IsRunNext};
 ghost use Rattle.decode_core.specs.Turned.{Awaits, CallSoFar, CutReports, FeedTells, GoesOn};
@@ -18,13 +17,9 @@ use crate::run::{OpenRun, Run, take_node};
 use crate::turned::{Held, Stopped, Turned, Whole};
 use count_core::Count;
 use form_core::PlainForm::Unsigned;
-use form_core::{
-    BareForm, BytesForm, NodeForm, PlainForm, PrefixedRun, few_need, need, node_form, read_plain,
-    whole_compact, whole_run,
-};
+use form_core::{BareForm, BytesForm, LeafForm, NodeForm, PrefixedRun, few_need, need, node_form};
 use registry_core::IntegerWidth::{Bits8, Bits16, Bits32, Bits64, Bits128};
 use registry_core::Primitive;
-use scale_core::Target;
 use std::alloc::{AllocError, Allocator};
 use value_core::{Form, Leaf, Next};
 
@@ -98,36 +93,14 @@ impl<'r, A: Allocator> Run<'r, A> {
         Whole::Added(own.len())
     }
 
-    /// The next node, which stands whole on the front of the piece, and its length: none where bytes are missing or refused.
-    #[inline(always)]
-    fn next_leaf<'p>(&self, form: PlainForm, piece: &'p [u8]) -> Option<(Leaf<'p>, usize)>
-        requires { Awaits self.now (form_of_plain form) }
-        ensures whole { IfSome result (λ x. IsWholeLeaf self.now.built (take x.1 piece.now) x.0) }
-        ensures next { IfSome result (λ x. IsNextLeaf self.now.built.walk (leaf_head x.0)) }
-        ensures fits { IfSome result (λ x. FitsLeaf x.0) }
-        ensures within { IfSome result (λ x. x.1 ≤ length piece.now) }
-    {
-        if piece.is_empty() {
-            return None;
-        }
-        let len = need(BytesForm::Plain(form), piece[0]);
-        if piece.len() < len {
-            return None;
-        }
-        let Ok(leaf) = read_plain(form, &piece[..len]) else {
-            return None;
-        };
-        Some((leaf, len))
-    }
-
     /// A turn on a node without parts, where the piece has its bytes whole and they are not refused.
     #[inline(always)]
-    fn whole_plain(&mut self, form: PlainForm, piece: &[u8]) -> Whole
-        requires next { Awaits self.old (form_of_plain form) }
+    fn whole_single<F: LeafForm>(&mut self, form: F, piece: &[u8]) -> Whole
+        requires next { Awaits self.old (form_of_front (F.front form)) }
         requires empty { self.old.carry ≡ [] }
         ensures { WholeReports self.old self.new piece.now result }
     {
-        match self.next_leaf(form, piece) {
+        match form.leaf_at_front(piece) {
             Some((leaf, count)) => self.whole_leaf(leaf, &piece[..count]),
             None => Whole::Left,
         }
@@ -135,14 +108,14 @@ impl<'r, A: Allocator> Run<'r, A> {
 
     /// The same of an element of a list that another follows: that one is next then, which takes no look.
     #[inline(always)]
-    fn whole_element(&mut self, form: PlainForm, piece: &[u8]) -> Whole
-        requires next { Awaits self.old (form_of_plain form) }
+    fn whole_element<F: LeafForm>(&mut self, form: F, piece: &[u8]) -> Whole
+        requires next { Awaits self.old (form_of_front (F.front form)) }
         requires empty { self.old.carry ≡ [] }
         requires follows { 1 ≤ elements_after self.old.built.walk }
         ensures reports { WholeReports self.old self.new piece.now result }
-        ensures goes_on { GoesOn (form_of_plain form) self.old self.new result }
+        ensures goes_on { GoesOn (form_of_front (F.front form)) self.old self.new result }
     {
-        let Some((leaf, count)) = self.next_leaf(form, piece) else {
+        let Some((leaf, count)) = form.leaf_at_front(piece) else {
             return Whole::Left;
         };
         let Ok(()) = self.builder.add_element(leaf) else {
@@ -150,31 +123,6 @@ impl<'r, A: Allocator> Run<'r, A> {
         };
         self.is_on_its_way();
         Whole::Added(count)
-    }
-
-    /// A turn on a compact integer that the piece has whole, and that is not refused.
-    #[inline(always)]
-    fn whole_compact(&mut self, target: Target, piece: &[u8]) -> Whole
-        requires next { Awaits self.old (Form.Compact target) }
-        requires empty { self.old.carry ≡ [] }
-        ensures { WholeReports self.old self.new piece.now result }
-    {
-        match whole_compact(target, piece) {
-            Some((value, count)) => self.whole_leaf(Leaf::Compact(value), &piece[..count]),
-            None => Whole::Left,
-        }
-    }
-
-    /// A turn on a text or a run of bytes that the piece has whole with its length, and of which nothing is refused.
-    fn whole_prefixed(&mut self, run: PrefixedRun, piece: &[u8]) -> Whole
-        requires next { Awaits self.old (run_form (prefixed_kind run)) }
-        requires empty { self.old.carry ≡ [] }
-        ensures { WholeReports self.old self.new piece.now result }
-    {
-        match whole_run(run, piece) {
-            Some((leaf, count)) => self.whole_leaf(leaf, &piece[..count]),
-            None => Whole::Left,
-        }
     }
 
     /// A turn on an array of u8, where the piece has it whole.
@@ -228,8 +176,8 @@ impl<'r, A: Allocator> Run<'r, A> {
     /// Takes turns on nodes of this form, one of which is next, as long as the piece has their bytes whole: on all that are
     /// left of an open list, or on one. How many bytes those before the last one took, and what came of the last one.
     #[inline(always)]
-    fn repeat(&mut self, form: PlainForm, piece: &[u8], turns: &mut Count) -> (usize, Whole)
-        requires next { Awaits self.old (form_of_plain form) }
+    fn repeat<F: LeafForm>(&mut self, form: F, piece: &[u8], turns: &mut Count) -> (usize, Whole)
+        requires next { Awaits self.old (form_of_front (F.front form)) }
         requires empty { self.old.carry ≡ [] }
         ensures { WholeTurnsReport self.old self.new piece.now turns.old.so_far turns.new.so_far
             result.0 result.1 }
@@ -248,7 +196,45 @@ impl<'r, A: Allocator> Run<'r, A> {
             }
         }
         turns.tick();
-        (at, self.whole_plain(form, &piece[at..]))
+        (at, self.whole_single(form, &piece[at..]))
+    }
+
+    /// The same in a call, where what reads the nodes is too much for the loop over whole nodes. How many bytes those before
+    /// the last one took is left in `before`: a pair would have a place in memory, which that loop clears for each node.
+    #[inline(never)]
+    fn repeat_call<F: LeafForm>(
+        &mut self,
+        form: F,
+        piece: &[u8],
+        turns: &mut Count,
+        before: &mut usize,
+    ) -> Whole
+        requires next { Awaits self.old (form_of_front (F.front form)) }
+        requires empty { self.old.carry ≡ [] }
+        ensures { WholeTurnsReport self.old self.new piece.now turns.old.so_far turns.new.so_far
+            before.new result }
+    {
+        let (taken, last) = self.repeat(form, piece, turns);
+        *before = taken;
+        last
+    }
+
+    /// Takes turns on nodes of this form, one of which is next, as above, in a call.
+    #[inline(always)]
+    fn repeat_apart<F: LeafForm>(
+        &mut self,
+        form: F,
+        piece: &[u8],
+        turns: &mut Count,
+    ) -> (usize, Whole)
+        requires next { Awaits self.old (form_of_front (F.front form)) }
+        requires empty { self.old.carry ≡ [] }
+        ensures { WholeTurnsReport self.old self.new piece.now turns.old.so_far turns.new.so_far
+            result.0 result.1 }
+    {
+        let mut before = 0;
+        let last = self.repeat_call(form, piece, turns, &mut before);
+        (before, last)
     }
 
     /// Takes a turn on a node of this form, which is next, where the piece has its own bytes whole.
@@ -261,19 +247,18 @@ impl<'r, A: Allocator> Run<'r, A> {
         match form {
             Form::Arm => self.whole_own(BytesForm::Arm, piece),
             Form::Sequence => self.whole_own(BytesForm::Sequence, piece),
-            Form::Compact(target) => self.whole_compact(target, piece),
-            Form::Primitive(Primitive::Str) => self.whole_prefixed(PrefixedRun::Text, piece),
-            Form::Bytes => self.whole_prefixed(PrefixedRun::Bytes, piece),
+            Form::Compact(target) => self.whole_single(target, piece),
             Form::ByteArray(len) => self.whole_byte_array(len, piece),
             other => match node_form(other) {
-                NodeForm::Bytes(BytesForm::Plain(plain)) => self.whole_plain(plain, piece),
+                NodeForm::Bytes(BytesForm::Plain(plain)) => self.whole_single(plain, piece),
                 _ => Whole::Left,
             },
         }
     }
 
-    /// Takes turns on nodes whose own bytes the piece has whole, the first of which is of this form: on those that are left
-    /// of a list of integers of one width, or one. Each such arm names its form anew, so that its turns are made for it alone.
+    /// Takes turns on nodes whose own bytes the piece has whole, the first of which is of this form: on all that are left of a
+    /// list of integers of one width, compact integers, texts or runs of bytes, and else on one. Each arm of integers names its
+    /// form anew, so that its turns are made for it alone.
     #[inline(always)]
     fn whole_nodes(&mut self, form: Form, piece: &[u8], turns: &mut Count) -> (usize, Whole)
         requires next { Awaits self.old form }
@@ -287,6 +272,11 @@ impl<'r, A: Allocator> Run<'r, A> {
             Form::Primitive(Primitive::U32) => self.repeat(Unsigned(Bits32), piece, turns),
             Form::Primitive(Primitive::U64) => self.repeat(Unsigned(Bits64), piece, turns),
             Form::Primitive(Primitive::U128) => self.repeat(Unsigned(Bits128), piece, turns),
+            Form::Primitive(Primitive::Str) => self.repeat_apart(PrefixedRun::Text, piece, turns),
+            Form::Bytes => self.repeat_apart(PrefixedRun::Bytes, piece, turns),
+            Form::Compact(target) if self.builder.walk().is_in_list() => {
+                self.repeat_apart(target, piece, turns)
+            }
             Form::Fields => self.fields_turns(piece, turns),
             other => {
                 turns.tick();

@@ -2,7 +2,7 @@
 use Rattle.std.proofs.Common.{◌≡◌, ℕ, zero, suc, ◌+◌, ◌-◌, ◌<◌, ◌≤◌, List, [], ◌∷◌, ◌++◌, length}
 use Rattle.std.proofs.Common.{take, drop, min, Option, Some, None, Result, Ok, Err, refl, sym, ap}
 use Rattle.std.proofs.Common.{subst, ◌∙◌, append_assoc, arith, inl, inr, length-append}
-use Rattle.std.specs.Prelude.{◌==◌, slice_index_or, true}
+use Rattle.std.specs.Prelude.{◌==◌, true}
 use Rattle.std.proofs.lemmas.Bool.{eqb-true}
 use Rattle.std.proofs.lemmas.List.{take-append-drop, length-take}
 use Rattle.std.proofs.Math.Seq.{take-append_seam}
@@ -16,8 +16,7 @@ use Rattle.grammar_core.specs.Runs.{run_form}
 use Rattle.grammar_core.specs.declared.form.Form.{Form}
 use Rattle.grammar_core.specs.declared.form.Next.{Next}
 use Rattle.grammar_core.specs.declared.form.Next.TheVariants as next
-use Rattle.form_core.proofs.Firsts.{first_of_piece}
-use Rattle.form_core.specs.Needs.{need, AreOwn, HasBytes, IsFirst, IsNeeded}
+use Rattle.form_core.specs.Needs.{need, AreOwn, HasBytes, IsNeeded}
 use Rattle.form_core.specs.NodeForms.{form_of_bytes}
 use Rattle.form_core.specs.declared.forms.BytesForm.{BytesForm}
 use Rattle.form_core.specs.declared.forms.BytesForm.TheVariants as bytes
@@ -416,22 +415,3 @@ none_of bytes h = nil_of bytes (eqb-true (length bytes) 0 (sym h)) where
 pub some_missing : (n : ℕ) → (n ≡ 0 → ⊥) → 1 ≤ n
 some_missing zero h = absurd (h refl)
 some_missing (suc n) h = omega arith
-
--- the first bytes of a piece, as many as the node needs, are just the node's
-pub whole_own : (f : Form) (c piece : List ℕ) (len first : ℕ) → c ≡ [] →
-    IsFirst first (c ++ piece) → len ≡ need f first → 1 ≤ len → len ≤ length piece →
-    AreOwn f (take len piece)
-whole_own f c piece len first none h is some there =
-    let count : length (take len piece) ≡ len = omega (arith, length-take len piece, there) in
-    let whole : take len piece ++ drop len piece ≡ first ∷ h.0 = take-append-drop len piece
-    ∙ ap (λ (l : List ℕ). l ++ piece) (sym none) ∙ h.1 in
-    let front = front_is (take len piece) (drop len piece) h.0 first (omega (arith, count, some))
-    whole in
-    (first, front.0, front.1, count ∙ is)
-
--- the same where nothing is carried
-pub whole_front : (f : Form) (piece : List ℕ) (len : ℕ) → len ≡ need f (slice_index_or piece 0 0) →
-    1 ≤ len → len ≤ length piece → AreOwn f (take len piece)
-whole_front f piece len is some there =
-    whole_own f [] piece len (slice_index_or piece 0 0) refl
-    (first_of_piece [] piece refl (omega (arith, some, there))) is some there

@@ -1,4 +1,4 @@
--- Turns on a text, a run of bytes or a compact integer that a piece has whole.
+-- Turns on a node without parts that a piece has whole.
 use Rattle.std.proofs.Common.{◌≡◌, ℕ, ◌≤◌, List, [], ◌++◌, length, take, drop, Option, None, Ok}
 use Rattle.std.proofs.Common.{refl, sym, ap, subst, ◌∙◌, arith, length-append}
 use Rattle.std.proofs.lemmas.List.{append-nil, take-append-drop, take_at}
@@ -21,6 +21,8 @@ use Rattle.grammar_core.specs.declared.form.Next.TheVariants as next
 use Rattle.grammar_core.proofs.Runs.{run_again}
 use Rattle.node_core.specs.Leaves.{leaf_head}
 use Rattle.node_core.specs.declared.leaf.Leaf.{Leaf}
+use Rattle.form_core.specs.Fronts.{Front, StandsWhole, form_of_front}
+use Rattle.form_core.specs.Fronts as front
 use Rattle.form_core.specs.NodeForms.{prefixed_kind}
 use Rattle.form_core.specs.WholeRuns.{ReadsRun}
 use Rattle.form_core.specs.declared.forms.PlainForm.TheVariants as plain
@@ -29,16 +31,16 @@ use Rattle.form_core.specs.declared.forms.PrefixedRun.TheVariants as prefixed
 use Rattle.form_core.proofs.WholeRuns.{run_short, run_spelled, spelled_by}
 use Rattle.value_core.specs.Built.{Built, FitsKind, IsNextLeaf, next_layout, with_leaf}
 use Rattle.value_core.specs.Walked.{Walked, next_of}
-use Rattle.value_core.proofs.NextLeaf.{run_next}
+use Rattle.value_core.proofs.NextLeaf.{compact_next, run_next}
 use Rattle.decode_core.specs.NodeAdds.{IsAdded, IsWholeLeaf}
 use Rattle.form_core.specs.PlainReads.{leaf_own}
 use Rattle.decode_core.specs.Reported.{own_at}
-use Rattle.decode_core.specs.Running.{IsRunning}
-use Rattle.decode_core.specs.Turned.{WantsMemory, WholeReports}
+use Rattle.decode_core.specs.Running.{Running, IsRunning}
+use Rattle.decode_core.specs.Turned.{Awaits, WantsMemory, WholeReports}
 use Rattle.decode_core.specs.declared.run.OpenRun.{OpenRun}
 use Rattle.decode_core.specs.declared.turned.Whole.TheVariants as whole
 use Rattle.decode_core.proofs.steps.NodeAdding.{next_run}
-use Rattle.decode_core.proofs.steps.PlainAdding.{next_own}
+use Rattle.decode_core.proofs.steps.PlainAdding.{next_own, plain_next, spells}
 use Rattle.decode_core.proofs.steps.RunTurns.{of_fields, no_run, node_wants}
 use Rattle.decode_core.proofs.steps.Settling.{added_running}
 use Rattle.decode_core.proofs.steps.Stepping.{at_next}
@@ -50,7 +52,7 @@ fits_any prefixed.Text n = tt
 fits_any prefixed.Bytes n = tt
 
 -- a run that stands whole on the front of a piece is a value of the next type
-pub run_is_next : (r : PrefixedRun) (w : Walked) (piece : List ℕ) (l : Leaf) (count : ℕ) →
+run_is_next : (r : PrefixedRun) (w : Walked) (piece : List ℕ) (l : Leaf) (count : ℕ) →
     next_of w ≡ next.Wants (run_form (prefixed_kind r)) → AreBytes piece →
     ReadsRun (prefixed_kind r) piece l count → IsNextLeaf w (leaf_head l)
 run_is_next r w piece l count wants are h =
@@ -65,7 +67,7 @@ run_is_next r w piece l count wants are h =
     (fits_any r (length h.bytes)))
 
 -- its bytes are read as its node
-pub whole_read : (k : RunKind) (b : Built) (piece : List ℕ) (l : Leaf) (count : ℕ) →
+whole_read : (k : RunKind) (b : Built) (piece : List ℕ) (l : Leaf) (count : ℕ) →
     next_of b.walk ≡ next.Wants (run_form k) → ReadsRun k piece l count →
     own_at (next_layout b) (take count piece) ≡ Ok ((leaf_head l, None), [])
 unfolding own_at layout_at
@@ -78,7 +80,7 @@ whole_read k b piece l count wants h =
     ∙ ap (λ x. Ok ((x, None), [])) (sym h.head)
 
 -- so are those of a compact integer
-pub compact_read : (m : Target) (b : Built) (piece : List ℕ) (n count : ℕ) →
+compact_read : (m : Target) (b : Built) (piece : List ℕ) (n count : ℕ) →
     next_of b.walk ≡ next.Wants (form.Compact m) → count ≤ length piece →
     compact_at m piece ≡ Ok (n, drop count piece) →
     own_at (next_layout b) (take count piece) ≡ Ok ((head.leaf (tree.compact n), None), [])
@@ -91,6 +93,43 @@ compact_read m b piece n count wants within read =
     ∙ compact_again m n own [] spelled in
     next_own b (plain.Compact m) own wants
     ∙ ap (λ r. leaf_own (as_leaf (leaf_of tree.compact r))) again
+
+-- what stands whole on the front of a piece is read as the node that is next
+front_read : (f : Front) (b : Built) (piece : List ℕ) (l : Leaf) (count : ℕ) →
+    next_of b.walk ≡ next.Wants (form_of_front f) → count ≤ length piece →
+    StandsWhole f piece l count →
+    own_at (next_layout b) (take count piece) ≡ Ok ((leaf_head l, None), [])
+front_read (front.plain p) b piece l count wants within h =
+    spells b p (take count piece) l wants h.0 h.1
+front_read (front.compact m) b piece l count wants within h =
+    rw h.1 (compact_read m b piece h.0 count wants within h.2.read)
+front_read (front.run r) b piece l count wants within h =
+    whole_read (prefixed_kind r) b piece l count wants h
+
+-- so no run is open, and its bytes are a value of the next type, which the leaf is
+pub front_is : (f : Front) (a : Running) (piece : List ℕ) (l : Leaf) (count : ℕ) →
+    Awaits a (form_of_front f) → count ≤ length piece → StandsWhole f piece l count →
+    IsWholeLeaf a.built (take count piece) l
+front_is f a piece l count awaits within h = record {
+  form = form_of_front f;
+  wants = awaits.next;
+  closed = awaits.closed;
+  read = front_read f a.built piece l count awaits.next within h;
+}
+
+-- it is a value for what is next
+pub front_next : (f : Front) (a : Running) (piece : List ℕ) (l : Leaf) (count : ℕ) →
+    AreBytes piece → Awaits a (form_of_front f) → StandsWhole f piece l count →
+    IsNextLeaf a.built.walk (leaf_head l)
+front_next (front.plain p) a piece l count are awaits h =
+    let own : AreBytes (take count piece) =
+    front_bytes (take count piece) (drop count piece)
+    (subst AreBytes (sym (take-append-drop count piece)) are) in
+    plain_next a.built p (take count piece) l own awaits.next h.0 h.1
+front_next (front.compact m) a piece l count are awaits h =
+    rw h.1 (compact_next a.built.walk m h.0 awaits.next h.2.fits)
+front_next (front.run r) a piece l count are awaits h =
+    run_is_next r a.built.walk piece l count awaits.next are h
 
 -- to add it is to add a node by these bytes
 whole_added : (b new : Built) (own : List ℕ) (l : Leaf) → IsWholeLeaf b own l →

@@ -1,6 +1,6 @@
 use Rattle.std.proofs.Common.{◌-◌, length, take, drop, refl, ap, ◌∙◌, subst, arith}
 use Rattle.value_core.specs.Walked.{elements_after}
-use Rattle.form_core.specs.NodeForms.{form_of_plain}
+use Rattle.form_core.specs.Fronts.{form_of_front}
 use Rattle.decode_core.specs.Running.{Running}
 use Rattle.decode_core.specs.Turned.{GoesOn, WholeReports}
 use Rattle.decode_core.proofs.steps.Calls.{NodesSoFar, nodes_begin, whole_more}
@@ -10,11 +10,10 @@ use Rattle.decode_core.proofs.run.Run.repeat.Goals.{else-is_in_list}
 use Rattle.decode_core.proofs.run.Run.repeat.Goals as goal
 
 pub elements-init : goal.elements-init
-elements-init g c = record {
+elements-init g c = let f = form_of_front (g.F.LeafForm.front c.args.form) in record {
   piece = refl;
   form = refl;
-  so_far = nodes_begin c.args.self.now (form_of_plain c.args.form) c.args.piece.now
-      c.args.turns.now.so_far c.requires.next;
+  so_far = nodes_begin c.args.self.now f c.args.piece.now c.args.turns.now.so_far c.requires.next;
   empty = c.requires.empty;
   after = (rw c.walk-then-is_in_list.ensures.same at c.elements_after-after.ensures)
       ∙ ap (λ (s : Running). elements_after s.built.walk) c.self.view_is;
@@ -41,7 +40,8 @@ elements-preserved g c =
     c.in-Added.count s.inside s.moves reports.0 in
     let less = turn_nearer c.elements.self d c.args.piece.now c.elements.at c.in-Added.count
     reports.0 in
-    let goes_on = subst (GoesOn (form_of_plain c.args.form) c.elements.self d) c.in-Added.is
+    let f = form_of_front (g.F.LeafForm.front c.args.form) in
+    let goes_on = subst (GoesOn f c.elements.self d) c.in-Added.is
     c.whole_element-last.ensures.goes_on in
     record {
       piece = refl;
@@ -65,19 +65,20 @@ elements-preserved g c =
 pub returns-in_default : goal.returns-in_default
 returns-in_default g c =
     whole_more c.args.self.now c.elements.self c.whole_element-last.new.self
-    (form_of_plain c.args.form) c.args.piece.now c.elements.at c.args.turns.now.so_far
-    c.elements.turns.so_far c.tick.new.self.so_far c.whole_element-last.result
-    c.elements.invariant.so_far c.tick.ensures c.requires.next c.whole_element-last.ensures.reports
+    (form_of_front (g.F.LeafForm.front c.args.form)) c.args.piece.now c.elements.at
+    c.args.turns.now.so_far c.elements.turns.so_far c.tick.new.self.so_far
+    c.whole_element-last.result c.elements.invariant.so_far c.tick.ensures c.requires.next
+    c.whole_element-last.ensures.reports
 
-pub whole_plain-requires-clause-next : goal.whole_plain-requires-clause-next
-whole_plain-requires-clause-next g c = elim c.if-is_in_list.branch [
+pub whole_single-requires-clause-next : goal.whole_single-requires-clause-next
+whole_single-requires-clause-next g c = elim c.if-is_in_list.branch [
   | then-is_in_list+else-elements-test w ↦ rw w.self-is w.elements.invariant.so_far.awaits
   | else-is_in_list w ↦ rw w.self-is c.requires.next
 ]
 
 pub returns : goal.returns
 returns g c =
-    let f = form_of_plain c.args.form in
+    let f = form_of_front (g.F.LeafForm.front c.args.form) in
     let start = c.args.turns.now.so_far in
     let so_far : NodesSoFar c.args.self.now c.if-is_in_list.self f c.args.piece.now
     c.if-is_in_list.at start c.if-is_in_list.turns.so_far = elim c.if-is_in_list.branch [
@@ -86,6 +87,6 @@ returns g c =
       | else-is_in_list w ↦ rw (w.self-is, w.turns-is, w.at-is)
           (nodes_begin c.args.self.now f c.args.piece.now start c.requires.next)
     ] in
-    whole_more c.args.self.now c.if-is_in_list.self c.whole_plain.new.self f c.args.piece.now
+    whole_more c.args.self.now c.if-is_in_list.self c.whole_single.new.self f c.args.piece.now
     c.if-is_in_list.at start c.if-is_in_list.turns.so_far c.tick-2.new.self.so_far
-    c.whole_plain.result so_far c.tick-2.ensures c.requires.next c.whole_plain.ensures
+    c.whole_single.result so_far c.tick-2.ensures c.requires.next c.whole_single.ensures

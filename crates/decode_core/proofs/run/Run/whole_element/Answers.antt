@@ -1,13 +1,24 @@
-use Rattle.std.proofs.Common.{◌++◌, length, take, drop, sym, ap, ◌∙◌, subst}
+use Rattle.std.proofs.Common.{◌++◌, length, take, drop, sym, ap, ◌∙◌, subst, arith}
 use Rattle.std.proofs.lemmas.List.{length-take-le, take-append-drop}
-use Rattle.value_core.specs.Built.{Built}
+use Rattle.scale_core.proofs.ReadForms.{are_bytes}
+use Rattle.node_core.specs.Leaves.{leaf_head}
+use Rattle.value_core.specs.Built.{Built, IsNextLeaf}
 use Rattle.decode_core.specs.NodeAdds.{IsWholeLeaf}
 use Rattle.decode_core.specs.Running.{Running}
 use Rattle.decode_core.specs.Turned.{WantsMemory, WholeReports}
 use Rattle.decode_core.specs.declared.turned.Whole.TheVariants as whole
 use Rattle.decode_core.proofs.steps.RunTurns.{carries_none, of_fields}
-use Rattle.decode_core.proofs.steps.WholeRuns.{leaf_reports, leaf_wants}
+use Rattle.decode_core.proofs.steps.WholeRuns.{front_is, front_next, leaf_reports, leaf_wants}
 use Rattle.decode_core.proofs.run.Run.whole_element.Goals as goal
+
+pub add_element-requires-clause-next : goal.add_element-requires-clause-next
+add_element-requires-clause-next g c =
+    let piece = c.args.piece.now in
+    subst (λ (s : Running). IsNextLeaf s.built.walk (leaf_head c.in-Some.leaf))
+    (sym c.self.view_is)
+    (front_next (g.F.LeafForm.front c.args.form) c.args.self.now piece c.in-Some.leaf
+    c.in-Some.count (are_bytes piece (λ i. omega (arith, c.type_inv.piece i))) c.requires.next
+    c.in-Some.ensures.whole)
 
 pub returns-clause-reports : goal.returns-clause-reports
 returns-clause-reports g c =
@@ -15,7 +26,8 @@ returns-clause-reports g c =
     let count = c.in-Some.count in
     let k = c.self.inside.carry in
     let is = subst (λ (s : Running). IsWholeLeaf s.built (take count piece) c.in-Some.leaf)
-    (sym c.self.view_is) c.in-Some.ensures.whole in
+    (sym c.self.view_is) (front_is (g.F.LeafForm.front c.args.form) c.args.self.now piece
+    c.in-Some.leaf count c.requires.next c.in-Some.ensures.within c.in-Some.ensures.whole) in
     let reports = subst (λ (s : Running). WholeReports s (of_fields c.add_element.new.self k)
     (take count piece ++ drop count piece) (whole.Added (length (take count piece))))
     c.self.view_is
@@ -32,7 +44,8 @@ returns-in_default-add_element-clause-reports g c =
     let count = c.in-Some.count in
     let k = c.self.inside.carry in
     let is = subst (λ (s : Running). IsWholeLeaf s.built (take count piece) c.in-Some.leaf)
-    (sym c.self.view_is) c.in-Some.ensures.whole in
+    (sym c.self.view_is) (front_is (g.F.LeafForm.front c.args.form) c.args.self.now piece
+    c.in-Some.leaf count c.requires.next c.in-Some.ensures.within c.in-Some.ensures.whole) in
     let wants = subst (λ (s : Running). WantsMemory s (take count piece ++ drop count piece))
     c.self.view_is
     (leaf_wants c.self.inside.builder k (take count piece) (drop count piece) c.in-Some.leaf

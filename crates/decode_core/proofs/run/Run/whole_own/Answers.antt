@@ -1,6 +1,7 @@
 use Rattle.std.proofs.Common.{ℕ, List, ◌≤◌, ◌++◌, Err, length, take, drop, sym, ap, subst, arith}
 use Rattle.std.proofs.lemmas.List.{length-take-le, take-append-drop}
 use Rattle.form_core.specs.NodeForms.{form_of_bytes}
+use Rattle.form_core.proofs.Firsts.{whole_front}
 use Rattle.value_core.specs.Built.{Built}
 use Rattle.decode_core.specs.NodeAdds.{TakesNode}
 use Rattle.decode_core.specs.Running.{Running}
@@ -9,7 +10,7 @@ use Rattle.decode_core.specs.declared.node.NodeFault.{NodeFault}
 use Rattle.decode_core.specs.declared.turned.Turned.TheVariants as turned
 use Rattle.decode_core.proofs.steps.FormSplits.{have_bytes}
 use Rattle.decode_core.proofs.steps.RunTurns.{at_node, carries_none, node_wants, of_fields}
-use Rattle.decode_core.proofs.steps.RunTurns.{parts_closed, whole_front, whole_reports}
+use Rattle.decode_core.proofs.steps.RunTurns.{parts_closed, whole_reports}
 use Rattle.decode_core.proofs.steps.RunTurns.{whole_running}
 use Rattle.decode_core.proofs.run.Run.whole_own.Goals.{in-Ok, in-Err-Refused, in-Err-OutOfMemory}
 use Rattle.decode_core.proofs.run.Run.whole_own.Goals as goal
