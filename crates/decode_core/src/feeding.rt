@@ -257,8 +257,8 @@ impl<'r, A: Allocator> Run<'r, A> {
     }
 
     /// Takes turns on nodes whose own bytes the piece has whole, the first of which is of this form: on all that are left of a
-    /// list of integers of one width, compact integers, texts or runs of bytes, and else on one. Each arm of integers names its
-    /// form anew, so that its turns are made for it alone.
+    /// list of nodes without parts, and else on one. Each arm of integers names its form anew, so that its turns are made for
+    /// it alone. A piece of one byte has no more than one node for a loop, which would look for the next in vain.
     #[inline(always)]
     fn whole_nodes(&mut self, form: Form, piece: &[u8], turns: &mut Count) -> (usize, Whole)
         requires next { Awaits self.old form }
@@ -274,8 +274,19 @@ impl<'r, A: Allocator> Run<'r, A> {
             Form::Primitive(Primitive::U128) => self.repeat(Unsigned(Bits128), piece, turns),
             Form::Primitive(Primitive::Str) => self.repeat_apart(PrefixedRun::Text, piece, turns),
             Form::Bytes => self.repeat_apart(PrefixedRun::Bytes, piece, turns),
-            Form::Compact(target) if self.builder.walk().is_in_list() => {
+            Form::Compact(target) if piece.len() > 1 && self.builder.walk().is_in_list() => {
                 self.repeat_apart(target, piece, turns)
+            }
+            Form::Primitive(primitive) if piece.len() > 1 && self.builder.walk().is_in_list() => {
+                match node_form(Form::Primitive(primitive)) {
+                    NodeForm::Bytes(BytesForm::Plain(plain)) => {
+                        self.repeat_apart(plain, piece, turns)
+                    }
+                    _ => {
+                        turns.tick();
+                        (0, Whole::Left)
+                    }
+                }
             }
             Form::Fields => self.fields_turns(piece, turns),
             other => {
