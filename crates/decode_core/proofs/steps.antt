@@ -13,7 +13,7 @@ pub mod RunTurns
 pub mod RunSteps
 pub mod RunEnds
 pub mod ByteArrays
-pub mod WholeRuns
+pub mod WholeLeaves
 pub mod Wrapping
 pub mod Endings
 pub mod Moving

@@ -8,7 +8,7 @@ use Rattle.decode_core.specs.Running.{Running}
 use Rattle.decode_core.specs.Turned.{WantsMemory, WholeReports}
 use Rattle.decode_core.specs.declared.turned.Whole.TheVariants as whole
 use Rattle.decode_core.proofs.steps.RunTurns.{carries_none, of_fields}
-use Rattle.decode_core.proofs.steps.WholeRuns.{front_is, front_next, leaf_reports, leaf_wants}
+use Rattle.decode_core.proofs.steps.WholeLeaves.{front_is, front_next, leaf_reports, leaf_wants}
 use Rattle.decode_core.proofs.run.Run.whole_element.Goals as goal
 
 pub add_element-requires-clause-next : goal.add_element-requires-clause-next

@@ -5,7 +5,7 @@ use Rattle.decode_core.specs.Running.{Running, IsRunning}
 use Rattle.decode_core.specs.Turned.{WantsMemory, WholeReports}
 use Rattle.decode_core.specs.declared.turned.Whole.TheVariants as whole
 use Rattle.decode_core.proofs.steps.RunTurns.{carries_none, of_fields}
-use Rattle.decode_core.proofs.steps.WholeRuns.{leaf_reports, leaf_running, leaf_wants}
+use Rattle.decode_core.proofs.steps.WholeLeaves.{leaf_reports, leaf_running, leaf_wants}
 use Rattle.decode_core.proofs.run.Run.whole_leaf.Goals as goal
 
 pub invariant_of-self-2 : goal.invariant_of-self-2

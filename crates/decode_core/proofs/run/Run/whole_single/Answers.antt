@@ -2,7 +2,7 @@ use Rattle.std.proofs.Common.{drop, subst, arith}
 use Rattle.std.proofs.lemmas.List.{take-append-drop}
 use Rattle.scale_core.proofs.ReadForms.{are_bytes}
 use Rattle.decode_core.specs.Turned.{WholeReports}
-use Rattle.decode_core.proofs.steps.WholeRuns.{front_is, front_next}
+use Rattle.decode_core.proofs.steps.WholeLeaves.{front_is, front_next}
 use Rattle.decode_core.proofs.run.Run.whole_single.Goals as goal
 
 pub whole_leaf-requires-clause-whole : goal.whole_leaf-requires-clause-whole
