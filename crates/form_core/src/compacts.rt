@@ -1,6 +1,6 @@
 //! A compact integer that stands whole on the front of a piece.
 
-ghost use Rattle.std.specs.Prelude.{ℕ, ◌≤◌, IfNone, IfSome, IsErr};
+ghost use Rattle.std.specs.Prelude.{◌≤◌, IfNone, IfSome, IsErr};
 ghost use Rattle.scale_core.specs.Compact.{target_bytes};
 ghost use Rattle.scale_core.specs.Read.{compact_at};
 ghost use Rattle.form_core.specs.WholeCompacts.{IsCompactAtFront};

@@ -1,6 +1,6 @@
 //! The graph of a registry's types and references, read through looks that are logged and in no other way.
 
-ghost use Rattle.std.specs.Prelude.{◌≡◌, ◌<◌, ◌^◌, [], ◌∷◌, length, OnOk, IfOk, IfErr, slice_index};
+ghost use Rattle.std.specs.Prelude.{◌≡◌, ◌<◌, [], ◌∷◌, length, OnOk, IfOk, IfErr, slice_index};
 ghost use Rattle.graph_core.specs.Graphs.{IsLinked, IsOpened, IsListed, IsMeasured, IsUnread};
 ghost use Rattle.graph_core.specs.Graphs.{ReadsReferences, IsNew, refs, numbers, befores};
 ghost use Rattle.graph_core.specs.Lent.{IsArmAt, id_of, shape_of};

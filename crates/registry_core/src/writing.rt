@@ -1,7 +1,6 @@
 //! Registries, written in their one spelling.
 
-ghost use Rattle.std.specs.Prelude.{◌≡◌, ◌<◌, ◌^◌, ◌++◌, ◌∷◌, OnOk, IfOk};
-ghost use Rattle.scale_core.specs.Compact.{compact};
+ghost use Rattle.std.specs.Prelude.{◌≡◌, ◌<◌, ◌++◌, OnOk, IfOk};
 ghost use Rattle.registry_core.specs.Fits.{FitsText, FitsTexts, FitsOption, FitsList, FitsParam};
 ghost use Rattle.registry_core.specs.Fits.{FitsField, FitsArm, FitsDefinition, FitsType};
 ghost use Rattle.registry_core.specs.Spelling.{sequence, text, texts, option, type_id, param};

@@ -1,8 +1,8 @@
 //! Compact integers: the fewest bytes in one of four forms, which the two low bits of the first byte name
 //! (SCALE codec specification, "Compact/general integers").
 
-ghost use Rattle.std.specs.Prelude.{◌≡◌, ◌≢◌, ◌+◌, ◌*◌, ◌/◌, ◌%◌, ◌^◌, ◌<◌, ◌≤◌, ◌++◌, ◌∷◌, ℕ};
-ghost use Rattle.std.specs.Prelude.{nat_lt, ◌==◌, length, take, drop, slice_index, MatchResult};
+ghost use Rattle.std.specs.Prelude.{◌≡◌, ◌≢◌, ◌+◌, ◌*◌, ◌/◌, ◌%◌, ◌^◌, ◌<◌, ◌≤◌, ◌++◌, ◌∷◌};
+ghost use Rattle.std.specs.Prelude.{nat_lt, ◌==◌, length, take, drop, MatchResult};
 ghost use Rattle.std.specs.Prelude.{IfOk, IfErr, OnOk, OnErr, ◌⊎◌};
 ghost use Rattle.scale_core.specs.Answers.{Answers, judged, truncated_fault};
 ghost use Rattle.scale_core.specs.Compact.{big_bytes, compact, target_bytes};

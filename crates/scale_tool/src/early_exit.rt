@@ -2,7 +2,7 @@
 
 ghost use Rattle.std.specs.Prelude.{◌≡◌, ◌⊎◌, ℕ, take, true};
 ghost use Rattle.std.specs.Io.KnownBytes.{Appends, Keeps};
-ghost use Rattle.scale_tool.specs.Explained.{IsStatusOf, IsStatusOfLine, reported_text};
+ghost use Rattle.scale_tool.specs.Explained.{IsStatusOf, reported_text};
 ghost use Rattle.scale_tool.specs.Refused.{device_line};
 
 use crate::jobs::JobFault;

@@ -1,7 +1,7 @@
 //! The job that a command line names.
 
 ghost use Rattle.std.specs.Prelude.{◌≡◌, ◌^◌, ◌<◌, ◌≤◌, ℕ, IfOk, IfErr, IfSome, IfNone, map, codes};
-ghost use Rattle.std.specs.Prelude.{Some, None, option_map, option_and_then, string_bytes, SomeIff};
+ghost use Rattle.std.specs.Prelude.{Some, None, option_map, string_bytes, SomeIff};
 ghost use Rattle.std.specs.Str.Parse.{IsNumeral, digits_value};
 ghost use Rattle.clap.specs.Words.{found_of, rows_of, subcommand_of, subcommand_rows_of};
 ghost use Rattle.scale_tool.specs.Answer.{IsServed};

@@ -1,7 +1,6 @@
 //! The calls on a registry.
 
 ghost use Rattle.std.specs.Prelude.{◌≡◌, None, Some};
-ghost use Rattle.scale_calls.specs.Opened.{RefusesRegistry, checked_of};
 ghost use Rattle.scaleview_c.specs.Calls.{ClosesRegistry, OpensBox, OpensHandle, ReportsTypes};
 ghost use Rattle.scaleview_c.specs.Calls.{WritesJson};
 ghost use Rattle.scaleview_c.specs.Calls.{WritesLine, WritesValue};

@@ -1,6 +1,6 @@
 //! A value on its way, over a registry that is lent.
 
-ghost use Rattle.std.specs.Prelude.{◌≡◌, ◌++◌, ℕ, List};
+ghost use Rattle.std.specs.Prelude.{◌≡◌};
 ghost use Rattle.decode_core.specs.Decoding.{node_count, text_bytes};
 ghost use Rattle.scaleview_c.specs.Calls.{Ends, FeedsStage, WritesStage, number_by, taken_of};
 

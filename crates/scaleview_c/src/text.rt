@@ -1,6 +1,5 @@
 //! Texts that go to memory of the caller's.
 
-ghost use Rattle.std.specs.Prelude.{◌≡◌};
 ghost use Rattle.scaleview_c.specs.Calls.{Writes};
 
 use crate::codes::Answer;

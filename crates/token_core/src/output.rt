@@ -1,15 +1,13 @@
 //! JSON text that grows by tokens.
 
 ghost use Rattle.std.specs.Prelude.{◌≡◌, ◌+◌, ◌≤◌, ◌<◌, ◌++◌, [], ◌∷◌, true, false, codes, decimal};
-ghost use Rattle.std.specs.Prelude.{length, take, cond, string_bytes, OnOk, IfOk};
+ghost use Rattle.std.specs.Prelude.{length, take, string_bytes, OnOk, IfOk};
 ghost use Rattle.std.specs.Bool.{OnTrue};
 ghost use Rattle.std.specs.Fmt.{signed_decimal};
-ghost use Rattle.std.specs.Int.{w64};
-ghost use Rattle.std.specs.Char.{encode_utf8};
 ghost use Rattle.hex.specs.Hex.{encode_lower};
 ghost use Rattle.json.specs.Token.{begin_object, end_object, begin_array, end_array, key, string};
 ghost use Rattle.json.specs.Token.{number, boolean, null};
-ghost use Rattle.json.specs.Print.{escape, quoted};
+ghost use Rattle.json.specs.Print.{escape};
 
 use crate::digits::place_hex;
 use crate::places::{place_byte, place_bytes, place_comma, place_decimal, place_long};

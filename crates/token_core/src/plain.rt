@@ -1,6 +1,6 @@
 //! Whether a text stands in JSON as it is.
 
-ghost use Rattle.std.specs.Prelude.{◌≡◌, ◌+◌, ◌≤◌, length};
+ghost use Rattle.std.specs.Prelude.{◌+◌, ◌≤◌, length};
 ghost use Rattle.token_core.specs.Plain.{TellsAsIs, TellsPlain};
 
 use std::simd::prelude::*;

@@ -1,7 +1,7 @@
 //! Appending nodes to a value that is built, where the caller knows what they are, and closing those that are whole.
 
 ghost use Rattle.std.specs.Prelude.{◌≡◌, ◌<◌, ◌≤◌, ◌+◌, ◌++◌, ◌∷◌, [], length, true, false, OnOk};
-ghost use Rattle.std.specs.Prelude.{OnErr, IsSome, Ok, None, vec_len, vec_capacity};
+ghost use Rattle.std.specs.Prelude.{OnErr, Ok, None, vec_len, vec_capacity};
 ghost use Rattle.grammar_core.specs.Parts.{each, first_of};
 ghost use Rattle.widths_core.specs.Steps.{references_of};
 ghost use Rattle.node_core.specs.Leaves.{leaf_head, FitsLeaf, IsAppended};
@@ -11,7 +11,7 @@ ghost use Rattle.value_core.specs.Begun.{IsBegun};
 ghost use Rattle.value_core.specs.Building.{AreBuilt, Settles};
 ghost use Rattle.value_core.specs.Built.{IsSettled, closings, settled_walk, with_leaf, with_open};
 ghost use Rattle.value_core.specs.Built.{IsNextLeaf, IsNextOpen};
-ghost use Rattle.value_core.specs.Walked.{advanced, elements_after, next_of, next_type, opened};
+ghost use Rattle.value_core.specs.Walked.{advanced, elements_after, next_of, opened};
 
 use crate::builder::Builder;
 use crate::walk::Walk;

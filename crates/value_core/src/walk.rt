@@ -1,9 +1,9 @@
 //! The place in a value that comes next, and what is wanted there: the one thing that says it.
 
-ghost use Rattle.std.specs.Prelude.{ℕ, ◌≡◌, ◌⊎◌, ◌+◌, ◌≤◌, ◌++◌, [], ◌∷◌, length, is_none};
+ghost use Rattle.std.specs.Prelude.{◌≡◌, ◌⊎◌, ◌+◌, ◌≤◌, ◌++◌, [], ◌∷◌, length, is_none};
 ghost use Rattle.std.specs.Prelude.{option_map, IfSome, IfNone, IsSome, OnOk, OnErr, vec_len};
 ghost use Rattle.std.specs.Prelude.{vec_capacity};
-ghost use Rattle.grammar_core.specs.Parts.{each, first_of, how_many_left};
+ghost use Rattle.grammar_core.specs.Parts.{first_of, how_many_left};
 ghost use Rattle.widths_core.specs.Steps.{references_of};
 ghost use Rattle.value_core.specs.Ahead.{IsStepOf, elements_in, members_in};
 ghost use Rattle.node_core.specs.Left.{left_of, IsWithin};

@@ -1,14 +1,14 @@
 //! One pass over a registry: references are checked and put into lists, and counters and steps are made.
 
-ghost use Rattle.std.specs.Prelude.{◌≡◌, ◌<◌, ◌++◌, ◌∷◌, [], ◌^◌, length, false, IfOk, IfErr};
-ghost use Rattle.registry_core.specs.Fits.{FitsDefinition, FitsRegistry};
+ghost use Rattle.std.specs.Prelude.{◌≡◌, ◌<◌, ◌++◌, ◌∷◌, [], length, false, IfOk, IfErr};
+ghost use Rattle.registry_core.specs.Fits.{FitsRegistry};
 ghost use Rattle.graph_core.specs.Graphs.{IsLinked, IsNew, refs};
 ghost use Rattle.widths_core.specs.Linking.{AddsRules, AreTypesLinked};
 ghost use Rattle.graph_core.specs.Lent.{id_of, shape_of};
 ghost use Rattle.widths_core.specs.Rows.{IsPaired, Keeps};
 ghost use Rattle.widths_core.specs.Steps.{AreParts, IsRow, IsDraft, AreDrafts};
 ghost use Rattle.widths_core.specs.Targets.{width_target};
-ghost use Rattle.widths_core.specs.Rules.{rule, kind_of_parts, found_of_primitive, found_sized};
+ghost use Rattle.widths_core.specs.Rules.{rule, kind_of_parts, found_of_primitive};
 ghost use Rattle.widths_core.specs.Rules.{all_parts, arm_rules, rules_of};
 ghost use Rattle.graph_core.specs.Stops.{StopsLinking, IsRefusedFor};
 ghost use Rattle.graph_core.specs.Types.{ids, field_types};

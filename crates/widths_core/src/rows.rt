@@ -1,10 +1,9 @@
 //! The arms of variants by their index, a row of them for each variant.
 
-ghost use Rattle.std.specs.Prelude.{◌≡◌, ◌≤◌, ◌+◌, length, slice_index, OnOk, IfOk, MatchOption};
-ghost use Rattle.std.specs.Prelude.{MatchResult};
+ghost use Rattle.std.specs.Prelude.{◌≡◌, ◌≤◌, ◌+◌, length, OnOk, IfOk, MatchOption};
 ghost use Rattle.std.specs.List.{insert};
 ghost use Rattle.widths_core.specs.Rows.{IsPlace, IsSearched, IsPaired, HasNoRow, IsIn, Lacks};
-ghost use Rattle.widths_core.specs.Rows.{Rises, Inserts, arm_at_place};
+ghost use Rattle.widths_core.specs.Rows.{Rises, Inserts};
 
 use crate::step::ArmStep;
 use std::alloc::{AllocError, Global};

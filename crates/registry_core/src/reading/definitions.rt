@@ -1,6 +1,5 @@
 //! What a type is made of: fields, arms and the eight kinds of definition.
 
-ghost use Rattle.std.specs.Prelude.{◌≡◌};
 ghost use Rattle.registry_core.specs.Gives.{Gives};
 ghost use Rattle.registry_core.specs.Reading.{field_at, fields_at, arm_read_at, arms_read_at};
 ghost use Rattle.registry_core.specs.Reading.{primitive_at, array_at, bit_sequence_at};

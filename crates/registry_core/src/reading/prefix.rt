@@ -1,6 +1,5 @@
 //! What metadata begins with: four letters and a version.
 
-ghost use Rattle.std.specs.Prelude.{◌≡◌};
 ghost use Rattle.registry_core.specs.Gives.{Gives};
 ghost use Rattle.registry_core.specs.Reading.{letter_at, prefix_at, version_at};
 

@@ -1,6 +1,5 @@
 //! The types of a registry, one after the other.
 
-ghost use Rattle.std.specs.Prelude.{◌≡◌};
 ghost use Rattle.registry_core.specs.Gives.{Gives};
 ghost use Rattle.registry_core.specs.Reading.{param_at, params_at, type_info_at, id_at, types_at};
 
