@@ -82,6 +82,7 @@ pub struct Heap;
 /// What malloc aligns each block to.
 const ALIGN: usize = 16;
 
+// SAFETY: each call is the C library's of the same meaning, whose blocks are aligned to `ALIGN`, or to more where it is asked.
 unsafe impl GlobalAlloc for Heap {
     unsafe fn alloc(&self, layout: Layout) -> *mut u8 {
         let block = if layout.align() <= ALIGN {
@@ -114,7 +115,7 @@ unsafe impl GlobalAlloc for Heap {
     }
 }
 
-/// What the proved decoder's heap answers: whether there is memory, and where.
+/// What the proved decoder's heap answers: whether there is memory, and where; a place without memory where there is none.
 #[repr(C)]
 pub struct Answer {
     is_there: usize,
@@ -123,10 +124,11 @@ pub struct Answer {
 
 impl Answer {
     fn new(block: *mut c_void) -> Answer {
-        Answer {
-            is_there: usize::from(!block.is_null()),
-            block,
+        if block.is_null() {
+            let block = std::ptr::dangling_mut::<u128>().cast();
+            return Answer { is_there: 0, block };
         }
+        Answer { is_there: 1, block }
     }
 }
 

@@ -6,9 +6,9 @@ use std::time::Instant;
 
 mod calls {
     unsafe extern "C" {
-        pub fn plain_read(registry: *const u8, registry_len: usize, times: u32) -> u64;
-        pub fn plain_check(registry: *const u8, registry_len: usize, times: u32) -> u64;
-        pub fn plain_decode(
+        pub fn proved_read(registry: *const u8, registry_len: usize, times: u32) -> u64;
+        pub fn proved_check(registry: *const u8, registry_len: usize, times: u32) -> u64;
+        pub fn proved_decode(
             registry: *const u8,
             registry_len: usize,
             ty: u32,
@@ -17,7 +17,7 @@ mod calls {
             piece: usize,
             times: u32,
         ) -> u64;
-        pub fn plain_print(
+        pub fn proved_print(
             registry: *const u8,
             registry_len: usize,
             ty: u32,
@@ -66,29 +66,29 @@ impl Marks {
 }
 
 #[unsafe(no_mangle)]
-extern "C" fn plain_mark(mark: u32) {
+extern "C" fn proved_mark(mark: u32) {
     MARKS.with_borrow_mut(|marks| marks.pass(mark));
 }
 
-/// What a call answers, which is never 0, and its marks.
-fn marked(counts: bool, call: impl FnOnce() -> u64) -> (u64, Marks) {
+/// The marks of a call, which answers 0 where the decoder refuses.
+fn marked(counts: bool, call: impl FnOnce() -> u64) -> Marks {
     MARKS.set(Marks {
         counts,
         ..Marks::default()
     });
     let answer = call();
     assert_ne!(answer, 0, "the proved decoder refuses what is measured");
-    (answer, MARKS.take())
+    MARKS.take()
 }
 
 /// The least time of the turns that a call makes, in nanoseconds.
 pub fn time(call: impl FnOnce() -> u64) -> f64 {
-    marked(false, call).1.least.expect("a turn that ended")
+    marked(false, call).least.expect("a turn that ended")
 }
 
 /// What the last turn held that a call makes, when its answer was there.
 pub fn memory(call: impl FnOnce() -> u64) -> Held {
-    marked(true, call).1.held
+    marked(true, call).held
 }
 
 /// A value's bytes, its type, and the bytes of the registry that has the type.
@@ -101,12 +101,14 @@ pub struct Job<'a> {
 
 /// Reads the registry: how many types it has.
 pub fn read(registry: &[u8], times: u32) -> u64 {
-    unsafe { calls::plain_read(registry.as_ptr(), registry.len(), times) }
+    // SAFETY: it reads the registry's bytes, and keeps none of them.
+    unsafe { calls::proved_read(registry.as_ptr(), registry.len(), times) }
 }
 
 /// Checks a registry that was read: how many bytes its widest type has, and one.
 pub fn check(registry: &[u8], times: u32) -> u64 {
-    unsafe { calls::plain_check(registry.as_ptr(), registry.len(), times) }
+    // SAFETY: it reads the registry's bytes, and keeps none of them.
+    unsafe { calls::proved_check(registry.as_ptr(), registry.len(), times) }
 }
 
 /// Decodes the value from pieces of this length: how many nodes it has.
@@ -116,8 +118,9 @@ pub fn decode(job: Job, piece: usize, times: u32) -> u64 {
         ty,
         value,
     } = job;
+    // SAFETY: it reads the bytes of the registry and of the value, and keeps none of them.
     unsafe {
-        calls::plain_decode(
+        calls::proved_decode(
             registry.as_ptr(),
             registry.len(),
             ty,
@@ -135,8 +138,9 @@ fn print_from(job: Job, is_decoded: u32, times: u32) -> u64 {
         ty,
         value,
     } = job;
+    // SAFETY: it reads the bytes of the registry and of the value, and keeps none of them.
     unsafe {
-        calls::plain_print(
+        calls::proved_print(
             registry.as_ptr(),
             registry.len(),
             ty,
