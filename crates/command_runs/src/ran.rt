@@ -33,21 +33,21 @@ pub const NONE: Failed = Failed {
 
 /// The devices of one run.
 #[derive(Drop)]
-pub struct Devices {
-    pub registry: PacedReader,
-    pub value: PacedReader,
+pub struct Devices<'a> {
+    pub registry: PacedReader<'a>,
+    pub value: PacedReader<'a>,
     pub out: PacedWriter,
     pub err: PacedWriter,
 }
 
-impl Devices {
+impl<'a> Devices<'a> {
     /// Devices over these bytes that move so many bytes a call and do not fail.
     pub fn over(
         alloc: Global,
-        registry: &'static [u8],
-        value: &'static [u8],
+        registry: &'a [u8],
+        value: &'a [u8],
         step: usize,
-    ) -> Devices {
+    ) -> Devices<'a> {
         Devices {
             registry: PacedReader::new(registry, step, Then::GoesOn),
             value: PacedReader::new(value, step, Then::GoesOn),

@@ -16,19 +16,19 @@ pub enum Then {
 
 /// A reader that gives at most `step` bytes a call.
 #[derive(Drop)]
-pub struct PacedReader {
-    bytes: &'static [u8],
+pub struct PacedReader<'a> {
+    bytes: &'a [u8],
     step: usize,
     then: Then,
 }
 
-impl PacedReader {
-    pub fn new(bytes: &'static [u8], step: usize, then: Then) -> PacedReader {
+impl<'a> PacedReader<'a> {
+    pub fn new(bytes: &'a [u8], step: usize, then: Then) -> PacedReader<'a> {
         PacedReader { bytes, step, then }
     }
 }
 
-impl Read for PacedReader {
+impl Read for PacedReader<'_> {
     fn read(&mut self, part: &mut [u8]) -> io::Result<usize> {
         if self.bytes.is_empty() && self.then == Then::Fails {
             return Err(io::ErrorKind::Other.into());

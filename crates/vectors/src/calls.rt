@@ -1,0 +1,52 @@
+//! The calls that are asked, but for those that tests share.
+
+use crate::wrong::Wrong;
+use decode_core::Decoder;
+use json_core::print;
+use registry_core::{TypeId, read_registry};
+use scale_core::Sink;
+use std::alloc::Global;
+use value_core::{Limits, Value, encode};
+use widths_core::Checked;
+
+/// Returns the checked registry of these bytes.
+pub(crate) fn checked(alloc: Global, bytes: &[u8]) -> Result<Checked, Wrong> {
+    let Ok((registry, _)) = read_registry(alloc, bytes) else {
+        return Err(Wrong::Call("read_registry"));
+    };
+    match Checked::new(alloc, registry) {
+        Ok(checked) => Ok(checked),
+        Err(_) => Err(Wrong::Call("Checked::new")),
+    }
+}
+
+/// Returns a decoder of a value of the type.
+pub(crate) fn open<'r>(
+    alloc: Global,
+    checked: &'r Checked,
+    ty: u32,
+    limits: Limits,
+) -> Result<Decoder<'r, Global>, Wrong> {
+    match Decoder::new(alloc, checked, TypeId(ty), limits) {
+        Ok(decoder) => Ok(decoder),
+        Err(_) => Err(Wrong::Call("Decoder::new")),
+    }
+}
+
+/// Returns the bytes of a value.
+pub(crate) fn written(alloc: Global, value: &Value<'_, Global>) -> Result<Vec<u8>, Wrong> {
+    let mut sink = Sink::new(Vec::new(alloc));
+    match encode(value, &mut sink) {
+        Ok(()) => Ok(sink.into_inner()),
+        Err(_) => Err(Wrong::Call("encode")),
+    }
+}
+
+/// Returns the text of a value, as it is printed.
+pub(crate) fn printed(alloc: Global, value: &Value<'_, Global>) -> Result<Vec<u8>, Wrong> {
+    let mut sink = Sink::new(Vec::new(alloc));
+    match print(alloc, value, &mut sink) {
+        Ok(()) => Ok(sink.into_inner()),
+        Err(_) => Err(Wrong::Call("print")),
+    }
+}

@@ -1,0 +1,193 @@
+//! The command: each line of words, run over memory.
+
+use crate::columns::{bytes_of, is_nothing, number_of};
+use crate::values::Row;
+use crate::way::Way;
+use crate::wrong::{Wrong, check_bytes, check_same, check_text};
+use command_runs::ran::{Devices, NONE, Ran};
+use scale_core::Sink;
+use scale_tests::paced::{PacedReader, Then};
+use scale_tool::{Device, Job, JobFault, explain, job, unopened};
+use std::alloc::{AllocError, Global};
+
+/// How many bytes a device moves in a call at most: one, and all that a row has.
+const STEPS: [usize; 2] = [1, 1 << 20];
+
+/// The most bytes of a value of the command.
+const MOST_BYTES: u64 = 16_777_216;
+
+/// Returns what the command is to answer to a value's row.
+fn wanted_of(alloc: Global, row: &Row<'_>) -> Result<Ran, AllocError> {
+    let refusal = row.whole_refusal(alloc)?;
+    if refusal.is_empty() {
+        return Ok(Ran {
+            status: 0,
+            out: format!(in alloc; "{}\n", row.json)?.into_bytes(),
+            err: Vec::new(alloc),
+        });
+    }
+    Ok(Ran {
+        status: 1,
+        out: Vec::new(alloc),
+        err: format!(in alloc; "scaleview: value: {refusal}\n")?.into_bytes(),
+    })
+}
+
+/// The run answered this.
+fn check_ran(alloc: Global, way: Way, wanted: &Ran, found: &Ran) -> Result<(), Wrong> {
+    check_same(alloc, way, wanted.status, found.status)?;
+    check_bytes(alloc, way, &wanted.out, &found.out)?;
+    check_bytes(alloc, way, &wanted.err, &found.err)
+}
+
+/// Runs a value's row by the command, where it has the command's limit of bytes. Returns in how many ways.
+pub(crate) fn check_command(alloc: Global, registry: &[u8], row: &Row<'_>) -> Result<u64, Wrong> {
+    if row.limits.bytes != MOST_BYTES {
+        return Ok(0);
+    }
+    let wanted = wanted_of(alloc, row)?;
+    let job = Job::Decode {
+        id: row.ty,
+        metadata: false,
+        hex: false,
+        depth: row.limits.depth,
+    };
+    'steps: for step in STEPS {
+        let devices = Devices::over(alloc, registry, &row.bytes, step);
+        let (ran, failed) = devices.run(alloc, job);
+        check_ran(alloc, Way::Command(step), &wanted, &ran)?;
+        check_same(alloc, Way::Command(step), NONE, failed)?;
+    }
+    Ok(2)
+}
+
+/// The files of a row.
+#[derive(Drop)]
+struct FilesOfRow {
+    registry: Vec<u8>,
+    value: Vec<u8>,
+}
+
+impl FilesOfRow {
+    /// Opens a file by its name: `r` holds the registry and `v` the value, `.` opens and cannot be read, and no other opens.
+    fn open(&self, name: &str, step: usize) -> Option<PacedReader<'_>> {
+        match name {
+            "r" => Some(PacedReader::new(&self.registry, step, Then::GoesOn)),
+            "v" => Some(PacedReader::new(&self.value, step, Then::GoesOn)),
+            "." => Some(PacedReader::new(b"", step, Then::Fails)),
+            _ => None,
+        }
+    }
+}
+
+/// Returns what the program answers where a file does not open.
+fn unopened_ran(alloc: Global, device: Device) -> Ran {
+    let mut err = Sink::new(Vec::new(alloc));
+    let status = unopened(device, &mut err);
+    Ran {
+        status,
+        out: Vec::new(alloc),
+        err: err.into_inner(),
+    }
+}
+
+/// Returns what the program answers where the words name no job.
+fn explained_ran(alloc: Global, fault: JobFault) -> Ran {
+    let mut out = Sink::new(Vec::new(alloc));
+    let mut err = Sink::new(Vec::new(alloc));
+    let status = explain(fault, &mut out, &mut err);
+    Ran {
+        status,
+        out: out.into_inner(),
+        err: err.into_inner(),
+    }
+}
+
+/// Runs the words as the program does, over devices of at most so many bytes a call.
+fn ran_words(alloc: Global, files: &FilesOfRow, words: &[&str], step: usize) -> Ran {
+    let (job, file, value_file) = match job(alloc, words) {
+        Ok(job) => job,
+        Err(fault) => return explained_ran(alloc, fault),
+    };
+    let Some(registry) = files.open(file.as_str(), step) else {
+        return unopened_ran(alloc, Device::Registry);
+    };
+    let mut devices = Devices::over(alloc, b"", b"", step);
+    devices.registry = registry;
+    if let Some(value_file) = value_file {
+        let Some(value) = files.open(value_file.as_str(), step) else {
+            return unopened_ran(alloc, Device::Value);
+        };
+        devices.value = value;
+    }
+    let (ran, _) = devices.run(alloc, job);
+    ran
+}
+
+/// Returns the bytes of a column in which a line end stands as `\n` and a backslash as `\\`.
+fn unescaped(alloc: Global, column: &str) -> Result<String, AllocError> {
+    let mut text = String::new(alloc);
+    if is_nothing(column) {
+        return Ok(text);
+    }
+    let mut is_escape = false;
+    'chars: for char in column.chars() {
+        match (is_escape, char) {
+            (false, '\\') => is_escape = true,
+            (true, 'n') => {
+                text.push('\n')?;
+                is_escape = false;
+            }
+            (_, char) => {
+                text.push(char)?;
+                is_escape = false;
+            }
+        }
+    }
+    Ok(text)
+}
+
+/// The run answered as the row says. Where the parser of the words refuses them, its text is left open.
+fn check_columns(
+    alloc: Global,
+    way: Way,
+    columns: (&str, &str, &str),
+    ran: &Ran,
+) -> Result<(), Wrong> {
+    let (status, out, err) = columns;
+    check_same(alloc, way, number_of(status)?, u64::from(ran.status))?;
+    check_bytes(alloc, way, unescaped(alloc, out)?.as_bytes(), &ran.out)?;
+    if err == "clap" {
+        return check_same(alloc, way, false, ran.err.is_empty());
+    }
+    check_bytes(alloc, way, unescaped(alloc, err)?.as_bytes(), &ran.err)
+}
+
+/// Returns the words of a line, after the program's name.
+fn words_of<'a>(alloc: Global, line: &'a str) -> Result<Vec<&'a str>, AllocError> {
+    let mut words = Vec::new(alloc);
+    words.push("scaleview")?;
+    if !is_nothing(line) {
+        'words: for word in line.split(' ') {
+            words.push(word)?;
+        }
+    }
+    Ok(words)
+}
+
+/// Checks one row. Returns in how many ways it was asked.
+pub(crate) fn check_row(alloc: Global, columns: &[&str]) -> Result<u64, Wrong> {
+    let [_, line, registry, value, status, out, err] = columns else {
+        return Err(Wrong::Column("one of seven"));
+    };
+    let files = FilesOfRow {
+        registry: bytes_of(alloc, registry)?,
+        value: bytes_of(alloc, value)?,
+    };
+    let words = words_of(alloc, line)?;
+    'steps: for step in STEPS {
+        let ran = ran_words(alloc, &files, &words, step);
+        check_columns(alloc, Way::Command(step), (status, out, err), &ran)?;
+    }
+    Ok(2)
+}

@@ -1,0 +1,58 @@
+//! The program `vectors`: reads tables of test vectors, asks every call for the answers of each row, in every way of feeding
+//! it, and prints the rows that are answered otherwise and a line for each table. The status is 0 where none is.
+#![tactic(auto)]
+
+mod calls;
+mod columns;
+mod commands;
+mod compacts;
+mod registries;
+mod shown;
+mod table;
+mod values;
+mod way;
+mod wrong;
+
+use registries::Registries;
+use std::process::ExitCode;
+use std::rt::Files;
+use std::{fs, io};
+use table::Table;
+
+const TABLES: [Table; 4] = [
+    Table::Compacts,
+    Table::Registries,
+    Table::Values,
+    Table::Command,
+];
+
+/// Checks the rows of every table. Returns how many are answered wrongly.
+fn check_tables<R: Files + Print + AllocGlobal>(rt: &R) -> io::Result<u64> {
+    let registries_text = fs::read_to_string(rt, "registries.tsv")?;
+    let registries = Registries::new(rt.alloc(), &registries_text)?;
+    let mut wrong = 0u64;
+    for table in TABLES {
+        let text = fs::read_to_string(rt, table.file())?;
+        let tally = table::check_table(rt, table, &registries, &text)?;
+        println!(rt;
+            "{}: {} rows in {} ways, {} wrong",
+            table.name(),
+            tally.rows,
+            tally.ways,
+            tally.wrong
+        )?;
+        wrong = wrong.saturating_add(tally.wrong);
+    }
+    Ok(wrong)
+}
+
+fn main(rt: HostRuntime) -> ExitCode {
+    match check_tables(&rt) {
+        Ok(0) => ExitCode::SUCCESS,
+        Ok(_) => ExitCode::FAILURE,
+        Err(error) => {
+            let _ = eprintln!(rt; "vectors: {error}");
+            ExitCode::from(3)
+        }
+    }
+}

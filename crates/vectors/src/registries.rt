@@ -1,0 +1,182 @@
+//! Registries and metadata: each read, checked, listed and written back, and each shorter front of it.
+
+use crate::columns::{bytes_of, is_nothing};
+use crate::way::Way;
+use crate::wrong::{Wrong, check_bytes, check_same, check_text};
+use registry_core::{
+    Registry, RegistryFault, RegistryReason, Version, read_metadata, read_registry, write_registry,
+};
+use scale_calls::push_type_lines;
+use std::alloc::{AllocError, Global};
+use std::collections::BTreeMap;
+use widths_core::{CheckFault, Checked};
+
+/// What stands before a registry.
+#[derive(Clone, Copy, PartialEq, Eq)]
+enum Prefix {
+    None,
+    Metadata,
+}
+
+/// Returns the prefix of a name.
+fn prefix_of(name: &str) -> Result<Prefix, Wrong> {
+    match name {
+        "none" => Ok(Prefix::None),
+        "metadata" => Ok(Prefix::Metadata),
+        _ => Err(Wrong::Column("a prefix")),
+    }
+}
+
+impl Prefix {
+    /// How many bytes it has.
+    fn len(self) -> usize {
+        match self {
+            Prefix::None => 0,
+            Prefix::Metadata => 5,
+        }
+    }
+
+    /// Reads the registry after it, with the count of bytes and the version.
+    fn read(
+        self,
+        alloc: Global,
+        bytes: &[u8],
+    ) -> Result<(Registry, usize, Option<Version>), RegistryFault> {
+        match self {
+            Prefix::None => {
+                let (registry, len) = read_registry(alloc, bytes)?;
+                Ok((registry, len, None))
+            }
+            Prefix::Metadata => {
+                let (registry, len, version) = read_metadata(alloc, bytes)?;
+                Ok((registry, len, Some(version)))
+            }
+        }
+    }
+}
+
+/// Returns what a reader took, as a row has it.
+fn taken_line(alloc: Global, len: usize, version: Option<Version>) -> Result<String, AllocError> {
+    match version {
+        None => format!(in alloc; "{len}"),
+        Some(version) => {
+            let number = version.number();
+            format!(in alloc; "{len} V{number}")
+        }
+    }
+}
+
+/// The registry is written as the bytes that it was read from.
+fn check_written(alloc: Global, registry: &Registry, bytes: &[u8]) -> Result<(), Wrong> {
+    let written = write_registry(alloc, registry)?;
+    check_bytes(alloc, Way::WriteRegistry, bytes, &written)
+}
+
+/// Each shorter front is cut at its end. Returns how many there are.
+fn check_fronts(alloc: Global, prefix: Prefix, bytes: &[u8]) -> Result<u64, Wrong> {
+    'fronts: for len in 0..bytes.len() {
+        let front = bytes.get(..len).ok_or(Wrong::Column("long enough"))?;
+        let cut = RegistryFault {
+            reason: RegistryReason::Truncated,
+            at: len as u64,
+        };
+        let reported = prefix.read(alloc, front).err();
+        check_same(alloc, Way::Front(len), Some(cut), reported)?;
+    }
+    Ok(bytes.len() as u64)
+}
+
+/// The lines of the types, joined as a row has them.
+fn check_lines(alloc: Global, checked: &Checked, wanted: &str) -> Result<(), Wrong> {
+    let mut lines = String::new(alloc);
+    push_type_lines(alloc, &mut lines, checked)?;
+    let mut listed = String::new(alloc);
+    if !is_nothing(wanted) {
+        'lines: for line in wanted.split(" / ") {
+            listed.push_str(line)?;
+            listed.push_str("\n")?;
+        }
+    }
+    check_text(alloc, Way::TypeLines, &listed, &lines)
+}
+
+/// The registry passes the check, or is handed back as it was.
+fn check_checked(
+    alloc: Global,
+    registry: Registry,
+    bytes: &[u8],
+    check: &str,
+    lines: &str,
+) -> Result<(), Wrong> {
+    match Checked::new(alloc, registry) {
+        Ok(checked) => {
+            let line = format!(in alloc; "W={}", checked.widest())?;
+            check_text(alloc, Way::CheckReferences, check, &line)?;
+            check_lines(alloc, &checked, lines)
+        }
+        Err((CheckFault::UnknownType { from, to }, registry)) => {
+            let (from, to) = (from.0, to.0);
+            let line = format!(in alloc; "UnknownType {to} in type {from}")?;
+            check_text(alloc, Way::CheckReferences, check, &line)?;
+            check_written(alloc, &registry, bytes)
+        }
+        Err((CheckFault::OutOfMemory, _)) => Err(Wrong::Memory),
+    }
+}
+
+/// Checks one row. Returns in how many ways it was asked.
+pub(crate) fn check_row(alloc: Global, columns: &[&str]) -> Result<u64, Wrong> {
+    let [_, prefix, bytes, read, check, lines] = columns else {
+        return Err(Wrong::Column("one of six"));
+    };
+    let prefix = prefix_of(prefix)?;
+    let bytes = bytes_of(alloc, bytes)?;
+    let (registry, len, version) = match prefix.read(alloc, &bytes) {
+        Ok(answer) => answer,
+        Err(fault) => {
+            let line = format!(in alloc; "{fault}")?;
+            check_text(alloc, Way::ReadRegistry, read, &line)?;
+            return Ok(1);
+        }
+    };
+    check_text(
+        alloc,
+        Way::ReadRegistry,
+        read,
+        &taken_line(alloc, len, version)?,
+    )?;
+    let taken = bytes.get(..len).ok_or(Wrong::Column("long enough"))?;
+    let spelling = taken
+        .get(prefix.len()..)
+        .ok_or(Wrong::Column("long enough"))?;
+    check_written(alloc, &registry, spelling)?;
+    check_checked(alloc, registry, spelling, check, lines)?;
+    Ok(3 + check_fronts(alloc, prefix, taken)?)
+}
+
+/// The registries of the table by their names, in hexadecimal digits.
+#[derive(Drop)]
+pub(crate) struct Registries<'a>(BTreeMap<&'a str, &'a str>);
+
+impl<'a> Registries<'a> {
+    /// Reads the names of a table's rows.
+    pub(crate) fn new(alloc: Global, text: &'a str) -> Result<Registries<'a>, AllocError> {
+        let mut by_name = BTreeMap::new(alloc);
+        'lines: for line in text.split('\n') {
+            if let Some((name, rest)) = line.split_once('\t') {
+                let bytes = rest.split('\t').nth(1).unwrap_or("");
+                by_name.insert(name, bytes)?;
+            }
+        }
+        Ok(Registries(by_name))
+    }
+
+    /// Returns the bytes of the registry that the second column of a row names.
+    pub(crate) fn bytes_of(&self, alloc: Global, columns: &[&str]) -> Result<Vec<u8>, Wrong> {
+        let name = columns.get(1).copied().unwrap_or("");
+        match self.0.get(&name) {
+            Some(bytes) => bytes_of(alloc, bytes),
+            None => Err(Wrong::Column("a registry's name")),
+        }
+    }
+}

@@ -1,0 +1,70 @@
+//! A value as every call shows it: its counts, its bytes, its tree and its text.
+
+use crate::calls::{printed, written};
+use crate::values::Row;
+use crate::way::Way;
+use crate::wrong::{Wrong, check_bytes, check_same, check_text};
+use decoder_calls::calls::{all_of, shown, shown_tree};
+use json_core::json_to_slice;
+use scale_core::Source;
+use std::alloc::Global;
+use value_core::Value;
+use widths_core::Checked;
+
+/// The value is the row's, by its counts, its bytes and its text.
+pub(crate) fn check_value(
+    alloc: Global,
+    way: Way,
+    row: &Row<'_>,
+    value: &Value<'_, Global>,
+) -> Result<(), Wrong> {
+    check_same(alloc, way, row.held.nodes, value.node_count())?;
+    check_same(alloc, way, row.held.texts, value.text_bytes())?;
+    let spelling = row.value().ok_or(Wrong::Column("Done"))?;
+    check_bytes(alloc, way, spelling, &written(alloc, value)?)?;
+    check_text(alloc, way, row.json, &shown(alloc, value)?)
+}
+
+/// The text is put to the front of a slice with room for it and two bytes more, and nothing is put where it has no room.
+fn check_slice(alloc: Global, row: &Row<'_>, value: &Value<'_, Global>) -> Result<(), Wrong> {
+    let len = row.json.len();
+    let mut wanted = Vec::from_slice(alloc, row.json.as_bytes())?;
+    wanted.extend_from_slice(b"..")?;
+    let mut out = vec![in alloc; b'.'; wanted.len()]?;
+    check_same(
+        alloc,
+        Way::Slice,
+        Ok(len),
+        json_to_slice(alloc, value, &mut out),
+    )?;
+    check_bytes(alloc, Way::Slice, &wanted, &out)?;
+    let mut short = vec![in alloc; b'.'; len.saturating_sub(1)]?;
+    let untouched = vec![in alloc; b'.'; len.saturating_sub(1)]?;
+    check_same(
+        alloc,
+        Way::Slice,
+        Ok(len),
+        json_to_slice(alloc, value, &mut short),
+    )?;
+    check_bytes(alloc, Way::Slice, &untouched, &short)
+}
+
+/// The row's value as a tree, as text in a slice, and printed. Returns in how many ways it is shown.
+pub(crate) fn check_forms(alloc: Global, checked: &Checked, row: &Row<'_>) -> Result<u64, Wrong> {
+    let Some(spelling) = row.value() else {
+        return Ok(0);
+    };
+    let mut source = Source::new(spelling);
+    let Ok(value) = all_of(alloc, checked, row.ty, row.limits, &mut source) else {
+        return Err(Wrong::Column("a value"));
+    };
+    check_text(alloc, Way::Tree, row.json, &shown_tree(alloc, &value)?)?;
+    check_bytes(
+        alloc,
+        Way::Print,
+        row.json.as_bytes(),
+        &printed(alloc, &value)?,
+    )?;
+    check_slice(alloc, row, &value)?;
+    Ok(4)
+}

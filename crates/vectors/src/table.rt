@@ -1,0 +1,98 @@
+//! The tables, and how many of their rows are answered as they should be.
+
+use crate::registries::Registries;
+use crate::wrong::Wrong;
+use crate::{commands, compacts, registries, values};
+use std::alloc::Global;
+use std::io;
+
+/// A table of rows of one kind.
+#[derive(Clone, Copy)]
+pub(crate) enum Table {
+    Compacts,
+    Registries,
+    Values,
+    Command,
+}
+
+impl Table {
+    pub(crate) fn name(self) -> &'static str {
+        match self {
+            Table::Compacts => "compacts",
+            Table::Registries => "registries",
+            Table::Values => "values",
+            Table::Command => "command",
+        }
+    }
+
+    pub(crate) fn file(self) -> &'static str {
+        match self {
+            Table::Compacts => "compacts.tsv",
+            Table::Registries => "registries.tsv",
+            Table::Values => "values.tsv",
+            Table::Command => "command.tsv",
+        }
+    }
+
+    /// Checks one row. Returns in how many ways it was asked.
+    fn check_row(
+        self,
+        alloc: Global,
+        registries: &Registries<'_>,
+        columns: &[&str],
+    ) -> Result<u64, Wrong> {
+        match self {
+            Table::Compacts => compacts::check_row(alloc, columns),
+            Table::Registries => registries::check_row(alloc, columns),
+            Table::Values => values::check_row(alloc, registries, columns),
+            Table::Command => commands::check_row(alloc, columns),
+        }
+    }
+}
+
+/// How many rows were checked, in how many ways, and how many of them are answered wrongly.
+#[derive(Clone, Copy, Default)]
+pub(crate) struct Tally {
+    pub(crate) rows: u64,
+    pub(crate) ways: u64,
+    pub(crate) wrong: u64,
+}
+
+/// Checks a line of a table, and reports a row that is answered wrongly.
+fn check_line<R: Print + AllocGlobal>(
+    rt: &R,
+    table: Table,
+    registries: &Registries<'_>,
+    line: &str,
+    tally: &mut Tally,
+) -> io::Result<()> {
+    let columns: Vec<&str> = line.split('\t').collect(rt.alloc())?;
+    tally.rows = tally.rows.saturating_add(1);
+    match table.check_row(rt.alloc(), registries, &columns) {
+        Ok(ways) => {
+            tally.ways = tally.ways.saturating_add(ways);
+            Ok(())
+        }
+        Err(wrong) => {
+            tally.wrong = tally.wrong.saturating_add(1);
+            let name = columns.first().copied().unwrap_or("");
+            println!(rt; "{}: {name}: {wrong}", table.name())
+        }
+    }
+}
+
+/// Checks the rows of a table. Empty lines and lines that begin with a number sign are none.
+pub(crate) fn check_table<R: Print + AllocGlobal>(
+    rt: &R,
+    table: Table,
+    registries: &Registries<'_>,
+    text: &str,
+) -> io::Result<Tally> {
+    let mut tally = Tally::default();
+    'lines: for line in text.split('\n') {
+        if !line.is_empty() && !line.starts_with('#') {
+            check_line(rt, table, registries, line, &mut tally)?;
+        }
+    }
+    Ok(tally)
+}

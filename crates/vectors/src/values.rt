@@ -1,0 +1,359 @@
+//! Values: each fed to a decoder whole and in pieces, read from readers, and shown by every call that shows one.
+
+use crate::calls::{checked, open};
+use crate::columns::{bytes_of, depth_of, number_of, type_of};
+use crate::commands::check_command;
+use crate::registries::Registries;
+use crate::shown::{check_forms, check_value};
+use crate::way::Way;
+use crate::wrong::{Wrong, check_same, check_text};
+use decode_core::{DecodeFault, DecodeReason, Decoder, Progress};
+use decoder_calls::calls::{Holding, all_of, feed, finish, front_of, held, opening_fault};
+use scale_core::Source;
+use scale_tests::paced::{PacedReader, Then};
+use std::alloc::{AllocError, Global};
+use stream_core::StreamFault;
+use value_core::{Limits, Value};
+use widths_core::Checked;
+
+/// The most bytes of a row that is fed in three pieces.
+const LONGEST_IN_THREE: usize = 12;
+
+/// A value's bytes, and what a decoder is to answer once it has them all.
+#[derive(Drop)]
+pub(crate) struct Row<'a> {
+    pub(crate) ty: u32,
+    pub(crate) limits: Limits,
+    pub(crate) bytes: Vec<u8>,
+    pub(crate) answer: &'a str,
+    pub(crate) held: Holding,
+    pub(crate) json: &'a str,
+}
+
+impl Row<'_> {
+    /// The value's bytes, where there is one.
+    pub(crate) fn value(&self) -> Option<&[u8]> {
+        match self.answer {
+            "Done" => self.bytes.get(..self.held.taken as usize),
+            _ => None,
+        }
+    }
+
+    /// The refusal of the row's bytes where no more come; empty where a value is on their front.
+    fn refusal(&self, alloc: Global) -> Result<String, AllocError> {
+        match self.answer {
+            "Done" => Ok(String::new(alloc)),
+            "More" => format!(in alloc; "Truncated at {}", self.bytes.len()),
+            refusal => String::from_str(alloc, refusal),
+        }
+    }
+
+    /// The refusal of the row's bytes where they are to be one value, all of them.
+    pub(crate) fn whole_refusal(&self, alloc: Global) -> Result<String, AllocError> {
+        match self.value() {
+            Some(value) if value.len() < self.bytes.len() => {
+                format!(in alloc; "TrailingBytes at {}", value.len())
+            }
+            _ => self.refusal(alloc),
+        }
+    }
+}
+
+/// Reads the columns of a row.
+fn row_of<'a>(alloc: Global, columns: &[&'a str]) -> Result<Row<'a>, Wrong> {
+    let [
+        _,
+        _,
+        ty,
+        depth,
+        limit,
+        bytes,
+        answer,
+        taken,
+        nodes,
+        texts,
+        json,
+    ] = columns
+    else {
+        return Err(Wrong::Column("one of eleven"));
+    };
+    Ok(Row {
+        ty: type_of(ty)?,
+        limits: Limits {
+            depth: depth_of(depth)?,
+            bytes: number_of(limit)?,
+        },
+        bytes: bytes_of(alloc, bytes)?,
+        answer: *answer,
+        held: Holding {
+            nodes: number_of(nodes)?,
+            texts: number_of(texts)?,
+            taken: number_of(taken)?,
+        },
+        json: *json,
+    })
+}
+
+/// What the pieces so far are answered, with the bytes that were used of them in all.
+#[derive(Clone, Copy, Debug, PartialEq, Eq)]
+enum Fed {
+    More(u64),
+    Done(u64),
+    Refused(DecodeFault),
+}
+
+/// Feeds the next piece.
+fn feed_next(decoder: &mut Decoder<'_, Global>, fed: Fed, piece: &[u8]) -> Fed {
+    let before = match fed {
+        Fed::More(used) | Fed::Done(used) => used,
+        Fed::Refused(_) => 0,
+    };
+    match feed(decoder, piece) {
+        Ok(Progress::More) => Fed::More(before.saturating_add(piece.len() as u64)),
+        Ok(Progress::Done { used }) => Fed::Done(before.saturating_add(used)),
+        Err(fault) => Fed::Refused(fault),
+    }
+}
+
+/// Returns what the pieces are answered, as a row has it, and how many bytes were used of them.
+fn fed_line(alloc: Global, fed: Fed) -> Result<(String, Option<u64>), AllocError> {
+    match fed {
+        Fed::More(used) => Ok((String::from_str(alloc, "More")?, Some(used))),
+        Fed::Done(used) => Ok((String::from_str(alloc, "Done")?, Some(used))),
+        Fed::Refused(fault) => Ok((format!(in alloc; "{fault}")?, None)),
+    }
+}
+
+/// The decoder was fed the row's bytes: it answered so, and holds what the row says.
+fn check_fed(
+    alloc: Global,
+    way: Way,
+    row: &Row<'_>,
+    fed: Fed,
+    decoder: &Decoder<'_, Global>,
+) -> Result<(), Wrong> {
+    let (line, used) = fed_line(alloc, fed)?;
+    check_text(alloc, way, row.answer, &line)?;
+    if let Some(used) = used {
+        check_same(alloc, way, row.held.taken, used)?;
+    }
+    check_same(alloc, way, row.held, held(decoder))
+}
+
+/// The decoder of the row's bytes ends as the row says.
+fn check_finished(
+    alloc: Global,
+    way: Way,
+    row: &Row<'_>,
+    end: Result<Value<'_, Global>, DecodeFault>,
+) -> Result<(), Wrong> {
+    let wanted = row.refusal(alloc)?;
+    match end {
+        Ok(value) => {
+            check_text(alloc, way, &wanted, "")?;
+            check_value(alloc, way, row, &value)
+        }
+        Err(fault) => {
+            let line = format!(in alloc; "{fault}")?;
+            check_text(alloc, way, &wanted, &line)
+        }
+    }
+}
+
+/// A piece that changes nothing after the row's bytes: none where the value goes on, else any.
+fn idle_piece(row: &Row<'_>) -> &'static [u8] {
+    match row.answer {
+        "More" => b"",
+        _ => b"\x00\x01",
+    }
+}
+
+/// Feeds the pieces, and ends the decoder after one more piece that changes nothing.
+fn check_pieces(
+    alloc: Global,
+    checked: &Checked,
+    row: &Row<'_>,
+    way: Way,
+    pieces: &[&[u8]],
+) -> Result<(), Wrong> {
+    let mut decoder = open(alloc, checked, row.ty, row.limits)?;
+    let mut fed = Fed::More(0);
+    'pieces: for piece in pieces {
+        fed = feed_next(&mut decoder, fed, piece);
+    }
+    check_fed(alloc, way, row, fed, &decoder)?;
+    let again = feed_next(&mut decoder, fed, idle_piece(row));
+    check_fed(alloc, way, row, again, &decoder)?;
+    check_finished(alloc, way, row, finish(decoder))
+}
+
+/// Feeds the bytes one by one, each between two pieces of no bytes: the one after it changes nothing.
+fn check_singly(alloc: Global, checked: &Checked, row: &Row<'_>) -> Result<(), Wrong> {
+    let mut decoder = open(alloc, checked, row.ty, row.limits)?;
+    let mut fed = feed_next(&mut decoder, Fed::More(0), b"");
+    'bytes: for byte in &row.bytes {
+        fed = feed_next(&mut decoder, fed, &[*byte]);
+        let again = feed_next(&mut decoder, fed, b"");
+        check_same(alloc, Way::Singly, fed, again)?;
+    }
+    check_fed(alloc, Way::Singly, row, fed, &decoder)?;
+    check_finished(alloc, Way::Singly, row, finish(decoder))
+}
+
+/// Feeds the bytes in two pieces at every place. Returns how many places there are.
+fn check_two_pieces(alloc: Global, checked: &Checked, row: &Row<'_>) -> Result<u64, Wrong> {
+    'cuts: for cut in 0..=row.bytes.len() {
+        let (front, rest) = row.bytes.split_at(cut);
+        check_pieces(alloc, checked, row, Way::TwoPieces(cut), &[front, rest])?;
+    }
+    Ok(row.bytes.len() as u64 + 1)
+}
+
+/// Feeds the bytes of a short row in three pieces at every two places. Returns how many there are.
+fn check_three_pieces(alloc: Global, checked: &Checked, row: &Row<'_>) -> Result<u64, Wrong> {
+    let mut count = 0u64;
+    if row.bytes.len() > LONGEST_IN_THREE {
+        return Ok(count);
+    }
+    'seconds: for second in 0..=row.bytes.len() {
+        let (front, last) = row.bytes.split_at(second);
+        'firsts: for first in 0..=front.len() {
+            let (first_piece, middle) = front.split_at(first);
+            let way = Way::ThreePieces(first, second);
+            check_pieces(alloc, checked, row, way, &[first_piece, middle, last])?;
+            count = count.saturating_add(1);
+        }
+    }
+    Ok(count)
+}
+
+/// Every front that is shorter than what is taken goes on, and is refused as truncated where no more bytes come. Returns how
+/// many there are.
+fn check_fronts(alloc: Global, checked: &Checked, row: &Row<'_>) -> Result<u64, Wrong> {
+    let taken = row.held.taken as usize;
+    'fronts: for len in 0..taken {
+        let front = row.bytes.get(..len).ok_or(Wrong::Column("long enough"))?;
+        let mut decoder = open(alloc, checked, row.ty, row.limits)?;
+        let fed = feed_next(&mut decoder, Fed::More(0), front);
+        check_same(alloc, Way::Front(len), Fed::More(len as u64), fed)?;
+        let cut = DecodeFault {
+            reason: DecodeReason::Truncated,
+            at: len as u64,
+        };
+        check_same(alloc, Way::Front(len), Some(cut), finish(decoder).err())?;
+    }
+    Ok(row.held.taken)
+}
+
+/// All bytes of the row are one value, or are refused as the row says.
+fn check_all(
+    alloc: Global,
+    way: Way,
+    row: &Row<'_>,
+    end: Result<Value<'_, Global>, String>,
+) -> Result<(), Wrong> {
+    let wanted = row.whole_refusal(alloc)?;
+    match end {
+        Ok(value) => {
+            check_text(alloc, way, &wanted, "")?;
+            check_value(alloc, way, row, &value)
+        }
+        Err(line) => check_text(alloc, way, &wanted, &line),
+    }
+}
+
+/// Reads the row's bytes from a reader of so many bytes a call, which doesn't fail.
+fn check_reader(alloc: Global, checked: &Checked, row: &Row<'_>, step: usize) -> Result<(), Wrong> {
+    let way = Way::Reader(step);
+    let mut source = Source::new(PacedReader::new(&row.bytes, step, Then::GoesOn));
+    let end = match all_of(alloc, checked, row.ty, row.limits, &mut source) {
+        Ok(value) => Ok(value),
+        Err(fault) => Err(format!(in alloc; "{fault}")?),
+    };
+    check_same(alloc, way, false, source.failed())?;
+    check_all(alloc, way, row, end)
+}
+
+/// Reads the value on the front of the row's bytes where they are all there.
+fn check_front_of(alloc: Global, checked: &Checked, row: &Row<'_>) -> Result<(), Wrong> {
+    let way = Way::DecodePieces;
+    match front_of(alloc, checked, row.ty, row.limits, &[b"", &row.bytes]) {
+        Ok((value, taken)) => {
+            check_text(alloc, way, row.answer, "Done")?;
+            check_same(alloc, way, row.held.taken, taken)?;
+            check_value(alloc, way, row, &value)
+        }
+        Err(fault) => {
+            let line = format!(in alloc; "{fault}")?;
+            check_text(alloc, way, &row.refusal(alloc)?, &line)
+        }
+    }
+}
+
+/// One byte after the value's is left by a decoder, and refused where the bytes are to be the value alone.
+fn check_further_byte(alloc: Global, checked: &Checked, row: &Row<'_>) -> Result<u64, Wrong> {
+    let way = Way::FurtherByte;
+    let Some(value) = row.value() else {
+        return Ok(0);
+    };
+    let mut bytes = Vec::from_slice(alloc, value)?;
+    bytes.extend_from_slice(&[0])?;
+    let mut decoder = open(alloc, checked, row.ty, row.limits)?;
+    let fed = feed_next(&mut decoder, Fed::More(0), &bytes);
+    check_fed(alloc, way, row, fed, &decoder)?;
+    let mut source = Source::new(bytes.as_slice());
+    let reported = all_of(alloc, checked, row.ty, row.limits, &mut source).err();
+    let at = value.len() as u64;
+    check_same(
+        alloc,
+        way,
+        Some(StreamFault::TrailingBytes { at }),
+        reported,
+    )?;
+    Ok(2)
+}
+
+/// The decoder of the row is not made.
+fn check_unopened(alloc: Global, checked: &Checked, row: &Row<'_>) -> Result<u64, Wrong> {
+    let fault = opening_fault(alloc, checked, row.ty, row.limits);
+    let line = match fault {
+        Some(fault) => format!(in alloc; "{fault}")?,
+        None => String::from_str(alloc, "a decoder")?,
+    };
+    check_text(alloc, Way::Open, row.answer, &line)?;
+    let mut source = Source::new(row.bytes.as_slice());
+    let reported = all_of(alloc, checked, row.ty, row.limits, &mut source).err();
+    check_same(alloc, Way::Open, fault.map(StreamFault::Open), reported)?;
+    Ok(2)
+}
+
+/// Checks one row. Returns in how many ways it was asked.
+pub(crate) fn check_row(
+    alloc: Global,
+    registries: &Registries<'_>,
+    columns: &[&str],
+) -> Result<u64, Wrong> {
+    let row = row_of(alloc, columns)?;
+    let registry = registries.bytes_of(alloc, columns)?;
+    let checked = checked(alloc, &registry)?;
+    if let "UnknownType" | "LimitOutOfRange" = row.answer {
+        return check_unopened(alloc, &checked, &row);
+    }
+    check_pieces(alloc, &checked, &row, Way::Whole, &[&row.bytes])?;
+    check_singly(alloc, &checked, &row)?;
+    check_reader(alloc, &checked, &row, 1)?;
+    check_reader(alloc, &checked, &row, 4096)?;
+    check_front_of(alloc, &checked, &row)?;
+    let mut ways = 5u64;
+    for more in [
+        check_two_pieces(alloc, &checked, &row)?,
+        check_three_pieces(alloc, &checked, &row)?,
+        check_fronts(alloc, &checked, &row)?,
+        check_further_byte(alloc, &checked, &row)?,
+        check_forms(alloc, &checked, &row)?,
+        check_command(alloc, &registry, &row)?,
+    ] {
+        ways = ways.saturating_add(more);
+    }
+    Ok(ways)
+}

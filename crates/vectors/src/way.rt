@@ -1,0 +1,40 @@
+//! The ways in which a row is asked.
+
+/// What is asked of a row's input, and how it is fed.
+#[derive(Clone, Copy, Debug)]
+pub(crate) enum Way {
+    ReadCompact,
+    CompactLen,
+    PutCompact,
+    WriteCompact,
+    ReadRegistry,
+    WriteRegistry,
+    /// A shorter front of this length.
+    Front(usize),
+    CheckReferences,
+    TypeLines,
+    /// Making a decoder.
+    Open,
+    /// All bytes in one piece.
+    Whole,
+    /// Byte by byte, with an empty piece between.
+    Singly,
+    /// Two pieces, the first of this length.
+    TwoPieces(usize),
+    /// Three pieces, which end at these places.
+    ThreePieces(usize, usize),
+    /// A byte more than the value has.
+    FurtherByte,
+    /// A reader of at most so many bytes a call.
+    Reader(usize),
+    DecodePieces,
+    Encode,
+    Tree,
+    Text,
+    Slice,
+    Print,
+    /// The command over devices of at most so many bytes a call.
+    Command(usize),
+    /// A call of a builder, by its number in the row.
+    Call(usize),
+}
