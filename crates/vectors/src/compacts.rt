@@ -7,7 +7,7 @@ use scale_core::{Target, compact_len, put_compact, read_compact, write_compact};
 use std::alloc::{AllocError, Global};
 
 /// Returns the target of a name.
-fn target_of(name: &str) -> Result<Target, Wrong> {
+pub(crate) fn target_of(name: &str) -> Result<Target, Wrong> {
     match name {
         "Unit" => Ok(Target::Unit),
         "U8" => Ok(Target::U8),

@@ -9,6 +9,7 @@ mod compacts;
 mod registries;
 mod shown;
 mod table;
+mod types;
 mod values;
 mod way;
 mod wrong;
@@ -19,9 +20,10 @@ use std::rt::Files;
 use std::{fs, io};
 use table::Table;
 
-const TABLES: [Table; 4] = [
+const TABLES: [Table; 5] = [
     Table::Compacts,
     Table::Registries,
+    Table::Types,
     Table::Values,
     Table::Command,
 ];

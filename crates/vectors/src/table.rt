@@ -2,7 +2,7 @@
 
 use crate::registries::Registries;
 use crate::wrong::Wrong;
-use crate::{commands, compacts, registries, values};
+use crate::{commands, compacts, registries, types, values};
 use std::alloc::Global;
 use std::io;
 
@@ -11,6 +11,7 @@ use std::io;
 pub(crate) enum Table {
     Compacts,
     Registries,
+    Types,
     Values,
     Command,
 }
@@ -20,6 +21,7 @@ impl Table {
         match self {
             Table::Compacts => "compacts",
             Table::Registries => "registries",
+            Table::Types => "types",
             Table::Values => "values",
             Table::Command => "command",
         }
@@ -29,6 +31,7 @@ impl Table {
         match self {
             Table::Compacts => "compacts.tsv",
             Table::Registries => "registries.tsv",
+            Table::Types => "types.tsv",
             Table::Values => "values.tsv",
             Table::Command => "command.tsv",
         }
@@ -44,6 +47,7 @@ impl Table {
         match self {
             Table::Compacts => compacts::check_row(alloc, columns),
             Table::Registries => registries::check_row(alloc, columns),
+            Table::Types => types::check_row(alloc, registries, columns),
             Table::Values => values::check_row(alloc, registries, columns),
             Table::Command => commands::check_row(alloc, columns),
         }

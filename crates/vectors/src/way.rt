@@ -13,6 +13,10 @@ pub(crate) enum Way {
     Front(usize),
     CheckReferences,
     TypeLines,
+    /// The target of the type at this position.
+    CompactTarget(u32),
+    /// The arm of this index of the type at this position.
+    Arm(u32, u8),
     /// Making a decoder.
     Open,
     /// All bytes in one piece.
@@ -35,6 +39,4 @@ pub(crate) enum Way {
     Print,
     /// The command over devices of at most so many bytes a call.
     Command(usize),
-    /// A call of a builder, by its number in the row.
-    Call(usize),
 }
