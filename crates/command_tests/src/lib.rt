@@ -1,11 +1,11 @@
-//! Tests of the command, a row each: registries, types, values and hexadecimal text.
+//! Tests of the command: its limits, devices that fail, its help, and words that no row can hold.
 #![tactic(auto)]
 
 #[cfg(test)]
-mod command;
+mod command_help;
 #[cfg(test)]
-mod command_hex;
+mod command_limits;
 #[cfg(test)]
-mod command_registries;
+mod command_line;
 #[cfg(test)]
-mod command_row;
+mod failing_devices;

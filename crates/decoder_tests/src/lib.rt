@@ -1,19 +1,15 @@
-//! Tests of decoders over worked rows: in pieces of bytes, on the front of pieces, and over readers.
+//! Tests of decoders: allocations and reads that fail, heaps of fixed size, large inputs, and the bytes of single nodes.
 #![tactic(auto)]
 
 #[cfg(test)]
-mod checks;
+mod decoder_memory;
 #[cfg(test)]
-mod compacts;
+mod forms;
 #[cfg(test)]
-mod decoder;
+mod heaps;
 #[cfg(test)]
-mod leaves;
-#[cfg(test)]
-mod needs;
-#[cfg(test)]
-mod pieces;
-#[cfg(test)]
-mod primitives;
+mod large_inputs;
 #[cfg(test)]
 mod streams;
+#[cfg(test)]
+mod streams_memory;

@@ -1,14 +1,12 @@
-//! Values from readers of several paces: worked rows, ends at the edge of a read, and failed reads.
+//! Values from readers that fail, and ends at the edge of a read.
 
-use crate::checks::{check_line, check_value, value_len, wanted_refusal};
 use decode_core::{DecodeFault, DecodeReason, OpenFault};
 use decoder_calls::calls::all_of;
 use scale_core::Source;
-use scale_rows::all_rows::ROWS;
 use scale_tests::building::{checked, written};
 use scale_tests::paced::{PacedReader, Then};
-use scale_tests::registries::{BYTES, COMPACT_OF_A_BOOL, TEN_THOUSAND_BYTES, U16, nested_pairs};
-use scale_tests::rows::{AMPLE, Row};
+use scale_tests::registries::{BYTES, COMPACT_OF_A_BOOL, TEN_THOUSAND_BYTES, U16};
+use scale_tests::rows::{AMPLE, ROWS, Row};
 use std::alloc::Global;
 use std::io;
 use std::io::Read;
@@ -18,64 +16,22 @@ use stream_core::StreamFault;
 use value_core::{Limits, Value};
 use widths_core::Checked;
 
-/// How all of the row's bytes are refused, as it is printed; empty where they are a value.
-fn wanted_stream_refusal(alloc: Global, row: &Row) -> Result<String, Fail> {
-    match value_len(row) {
-        Some(len) if len < row.bytes.len() => Ok(format!(in alloc; "TrailingBytes at {len}")?),
-        _ => wanted_refusal(alloc, row),
-    }
-}
-
-/// A reader of the row's bytes is answered so.
+/// All bytes of the row are one value, or are refused as it says.
 fn check_reported(
     rt: &impl Abort,
     alloc: Global,
     row: &Row,
     reported: Result<Value<'_, Global>, StreamFault>,
 ) -> Result<(), Fail> {
-    let wanted = wanted_stream_refusal(alloc, row)?;
+    let name = row.name;
     match reported {
         Ok(value) => {
-            check_line(rt, row, "", &wanted);
-            check_value(rt, alloc, row, &value)
+            let bytes = written(alloc, &value)?;
+            assert_eq!(rt; (bytes.as_slice(), row.refusal), (row.bytes, ""), "{name}");
         }
         Err(fault) => {
             let line = format!(in alloc; "{fault}")?;
-            check_line(rt, row, &line, &wanted);
-            Ok(())
-        }
-    }
-}
-
-/// A reader that gives so many bytes a call.
-fn check_pace(
-    rt: &impl Abort,
-    alloc: Global,
-    checked: &Checked,
-    row: &Row,
-    step: usize,
-) -> Result<(), Fail> {
-    let name = row.name;
-    let mut source = Source::new(PacedReader::new(row.bytes, step, Then::GoesOn));
-    let reported = all_of(alloc, checked, row.ty, row.limits, &mut source);
-    assert!(rt; !source.failed(), "{name}, {step} bytes a read");
-    check_reported(rt, alloc, row, reported)
-}
-
-/// Readers of several paces.
-fn check_paces(rt: &impl Abort, alloc: Global, row: &Row) -> Result<(), Fail> {
-    let checked = checked(alloc, row.registry)?;
-    'steps: for step in [1, 2, 3, 4, 4096] {
-        check_pace(rt, alloc, &checked, row, step)?;
-    }
-    Ok(())
-}
-
-#[test]
-fn readers_of_each_pace_give_the_same(rt: HostRuntime) -> Result<(), Fail> {
-    'kinds: for rows in ROWS {
-        'rows: for row in rows {
-            check_paces(&rt, rt.alloc(), row)?;
+            assert_eq!(rt; line.as_str(), row.refusal, "{name}");
         }
     }
     Ok(())
@@ -118,7 +74,7 @@ fn check_failure(
         bytes: row.bytes,
         until_failure: read,
     });
-    let reported = all_of(alloc, checked, row.ty, row.limits, &mut source);
+    let reported = all_of(alloc, checked, row.ty, AMPLE, &mut source);
     if source.failed() {
         assert_eq!(rt;
             reported.err(),
@@ -148,10 +104,8 @@ fn check_failures(rt: &impl Abort, alloc: Global, row: &Row) -> Result<(), Fail>
 
 #[test]
 fn each_read_that_fails_is_reported_unless_all_was_decided(rt: HostRuntime) -> Result<(), Fail> {
-    'kinds: for rows in ROWS {
-        'rows: for row in rows {
-            check_failures(&rt, rt.alloc(), row)?;
-        }
+    'rows: for row in &ROWS {
+        check_failures(&rt, rt.alloc(), row)?;
     }
     Ok(())
 }
@@ -215,7 +169,7 @@ fn check_unread(
 }
 
 /// A type that is none, and limits that are out of range: what a decoder is refused with.
-pub(crate) const UNOPENED: [(u32, Limits, OpenFault); 4] = [
+const UNOPENED: [(u32, Limits, OpenFault); 4] = [
     (1, AMPLE, OpenFault::UnknownType),
     (
         1,
@@ -305,28 +259,6 @@ fn a_byte_after_is_reported_at_the_edge_of_a_read(rt: HostRuntime) -> Result<(),
             check_edge(&rt, rt.alloc(), len, behind)?;
         }
     }
-    Ok(())
-}
-
-#[test]
-fn a_value_without_bytes_is_there_at_the_end(rt: HostRuntime) -> Result<(), Fail> {
-    let registry = nested_pairs(rt.alloc())?;
-    let checked = checked(rt.alloc(), &registry)?;
-    let mut source = Source::new(b"".as_slice());
-    let reported = all_of(rt.alloc(), &checked, 40, AMPLE, &mut source);
-    let value = reported.ok().ok_or("no value")?;
-    let bytes = written(rt.alloc(), &value)?;
-    assert_eq!(rt; (bytes.len(), value.node_count()), (0, 1));
-    Ok(())
-}
-
-#[test]
-fn a_byte_after_a_value_without_bytes_is_reported(rt: HostRuntime) -> Result<(), Fail> {
-    let registry = nested_pairs(rt.alloc())?;
-    let checked = checked(rt.alloc(), &registry)?;
-    let mut source = Source::new(b"\x00".as_slice());
-    let reported = all_of(rt.alloc(), &checked, 40, AMPLE, &mut source).err();
-    assert_eq!(rt; reported, Some(StreamFault::TrailingBytes { at: 0 }));
     Ok(())
 }
 

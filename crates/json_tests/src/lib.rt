@@ -1,7 +1,5 @@
-//! Tests of JSON: values as trees and texts, and texts printed to writers that fail.
+//! Tests of JSON texts: in memory with room and without, and printed to writers that fail.
 #![tactic(auto)]
 
 #[cfg(test)]
 mod json;
-#[cfg(test)]
-mod rows;

@@ -1,6 +1,13 @@
-//! Tests of registries: what is read, written and refused, large ones, and the memory that they take.
+//! Tests of registries and of what they are made of: integers and texts, the parts of types as they are lent, the table of a
+//! checked registry, what claimed lengths reserve, and large registries.
 #![tactic(auto)]
 
+#[cfg(test)]
+mod devices;
+#[cfg(test)]
+mod graph;
+#[cfg(test)]
+mod integers;
 #[cfg(test)]
 mod kinds;
 #[cfg(test)]
@@ -9,3 +16,9 @@ mod large_registries;
 mod memory;
 #[cfg(test)]
 mod registries;
+#[cfg(test)]
+mod steps;
+#[cfg(test)]
+mod texts;
+#[cfg(test)]
+mod widths;

@@ -5,7 +5,6 @@
 pub mod builders;
 pub mod building;
 pub mod paced;
-pub mod primitives;
 pub mod rationed;
 pub mod registries;
 pub mod rows;

@@ -1,39 +1,19 @@
-//! Worked rows: bytes, the type that they are read as, and what they must give, by the format's rules.
+//! Rows that are run over devices which fail, and limits. All other rows are data of `vectors`.
 
+use crate::registries::{BITS_IN_AN_ARM, NESTED, OPTION, TWO_UNITS_AND_A_BYTE, U16};
 use value_core::Limits;
 
-/// What bytes give.
-#[derive(Clone, Copy)]
-pub enum Outcome {
-    /// A value on their front: its length in bytes, its nodes, its bytes of texts and runs, and its JSON.
-    Value {
-        len: usize,
-        nodes: u64,
-        texts: u64,
-        json: &'static str,
-    },
-    /// A refusal as it is printed, after so many bytes were taken.
-    Refused {
-        fault: &'static str,
-        taken: u64,
-    },
-    /// Too few bytes: the nodes and the bytes of texts and runs that are held at their end. A decoder that is finished
-    /// there refuses them as truncated, at their number.
-    Cut {
-        nodes: u64,
-        texts: u64,
-    },
-}
-
-/// Bytes that are read as a type of a registry, within limits.
+/// Bytes that are read as one value of a type, within [`AMPLE`].
 #[derive(Clone, Copy)]
 pub struct Row {
     pub name: &'static str,
     pub registry: &'static [u8],
     pub ty: u32,
-    pub limits: Limits,
     pub bytes: &'static [u8],
-    pub outcome: Outcome,
+    /// The value's JSON; empty where the bytes are refused.
+    pub json: &'static str,
+    /// The refusal as it is printed; empty where the bytes are one value.
+    pub refusal: &'static str,
 }
 
 /// A depth of 64, and 16 MiB: the limits where none are named.
@@ -42,32 +22,53 @@ pub const AMPLE: Limits = Limits {
     bytes: 16_777_216,
 };
 
-pub const NO_DEPTH: Limits = Limits {
-    depth: 0,
-    bytes: 16_777_216,
-};
-
-pub const ONE_DEEP: Limits = Limits {
-    depth: 1,
-    bytes: 16_777_216,
-};
-
-pub const TWO_DEEP: Limits = Limits {
-    depth: 2,
-    bytes: 16_777_216,
-};
-
-pub const SIXTY_FIVE_DEEP: Limits = Limits {
-    depth: 65,
-    bytes: 16_777_216,
-};
-
-pub const TWO_BYTES_LONG: Limits = Limits {
-    depth: 64,
-    bytes: 2,
-};
-
-pub const FOUR_BYTES_LONG: Limits = Limits {
-    depth: 64,
-    bytes: 4,
-};
+pub const ROWS: [Row; 6] = [
+    Row {
+        name: "texts, runs and arms",
+        registry: NESTED,
+        ty: 5,
+        bytes: b"\x08ab\x0c\x04\x01\x08\x02\x03\x00\x01\x01\x01\x00\x10\xc3\xa9\xc3\xa9",
+        json: "[\"ab\",[\"0x01\",\"0x0203\",\"0x\"],{\"Next\":[{\"Next\":[{\"Next\":[{\"End\":[]}]}]}]},\"\u{e9}\u{e9}\"]",
+        refusal: "",
+    },
+    Row {
+        name: "two units and a byte",
+        registry: TWO_UNITS_AND_A_BYTE,
+        ty: 2,
+        bytes: b"\x2a",
+        json: "[null,null,42]",
+        refusal: "",
+    },
+    Row {
+        name: "an option that is cut",
+        registry: OPTION,
+        ty: 1,
+        bytes: b"\x01\x2a\x00",
+        json: "",
+        refusal: "Truncated at 3",
+    },
+    Row {
+        name: "an index of no arm",
+        registry: OPTION,
+        ty: 1,
+        bytes: b"\x02",
+        json: "",
+        refusal: "NoSuchVariant at 0",
+    },
+    Row {
+        name: "an arm with a bit sequence",
+        registry: BITS_IN_AN_ARM,
+        ty: 1,
+        bytes: b"\x01",
+        json: "",
+        refusal: "BitSequence at 1",
+    },
+    Row {
+        name: "a u16 and a byte after it",
+        registry: U16,
+        ty: 0,
+        bytes: b"\x2a\x00\xff",
+        json: "",
+        refusal: "TrailingBytes at 2",
+    },
+];

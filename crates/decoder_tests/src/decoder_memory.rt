@@ -22,6 +22,13 @@ pub(crate) const REFUSED: DecodeFault = DecodeFault {
     at: 0,
 };
 
+#[test]
+fn a_failed_allocation_is_printed_by_its_name(rt: HostRuntime) -> Result<(), Fail> {
+    let line = format!(in rt.alloc(); "{REFUSED}")?;
+    assert_eq!(rt; line.as_str(), "OutOfMemory at 0");
+    Ok(())
+}
+
 // A decoder takes memory for its nodes and for its bytes through a clone each of what it is handed, and no more at first.
 #[test]
 fn memory_that_is_refused_at_first_makes_no_decoder(rt: HostRuntime) -> Result<(), Fail> {

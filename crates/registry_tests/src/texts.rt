@@ -28,26 +28,6 @@ fn texts_are_written(rt: HostRuntime) -> Result<(), Fail> {
 }
 
 #[test]
-fn what_follows_a_text_is_left(rt: HostRuntime) {
-    assert_eq!(rt; read_text(b"\x08\xc3\xa9\x07"), Ok(("\u{e9}", 3)));
-}
-
-#[test]
-fn refused_texts_are_reported(rt: HostRuntime) {
-    let vectors = [
-        (b"".as_slice(), Reason::Truncated, 0),
-        (b"\x08\xc3".as_slice(), Reason::Truncated, 2),
-        (b"\x08\xc3\x28".as_slice(), Reason::BadUtf8, 1),
-        (b"\x0ca\xc3\x28".as_slice(), Reason::BadUtf8, 2),
-        (b"\x01\x00".as_slice(), Reason::CompactNotShortest, 0),
-        (b"\x07".as_slice(), Reason::CompactTooLarge, 0),
-    ];
-    'vectors: for (bytes, reason, at) in vectors {
-        assert_eq!(rt; read_text(bytes), Err(Fault { reason, at }), "{bytes:?}");
-    }
-}
-
-#[test]
 fn a_fault_is_printed_as_its_reason_and_place(rt: HostRuntime) -> Result<(), Fail> {
     let lines = [
         (Reason::Truncated, 5, "Truncated at 5"),

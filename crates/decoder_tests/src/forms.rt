@@ -1,8 +1,11 @@
-//! How many bytes a node has of its own, by its form and the first of them, and runs that stand whole on the front of a piece.
+//! Nodes' own bytes: how many a form has, what they spell, and what stands complete on the front of a piece.
 
-use form_core::{BareForm, Carry, NodeForm, PrefixedRun, few_need, need, node_form, whole_run};
-use registry_core::Primitive;
-use scale_core::Target;
+use form_core::{
+    BareForm, Carry, LeafForm, NodeForm, PlainForm, PrefixedRun, few_need, need, node_form,
+    read_length, read_plain, whole_compact, whole_run,
+};
+use registry_core::{IntegerWidth, Primitive, Signedness};
+use scale_core::{Fault, Reason, Target};
 use std::process::Abort;
 use std::test::Fail;
 use value_core::{Form, Leaf};
@@ -90,10 +93,54 @@ fn a_run_that_stands_whole_on_the_front_is_lent(rt: HostRuntime) -> Result<(), F
 }
 
 #[test]
-fn no_run_stands_where_bytes_are_missing_or_refused(rt: HostRuntime) {
-    assert!(rt; whole_run(PrefixedRun::Bytes, &[]).is_none());
-    assert!(rt; whole_run(PrefixedRun::Bytes, &[8, 255]).is_none());
-    assert!(rt; whole_run(PrefixedRun::Bytes, &[1, 0, 5]).is_none());
-    assert!(rt; whole_run(PrefixedRun::Text, &[8, 97]).is_none());
-    assert!(rt; whole_run(PrefixedRun::Text, &[4, 255]).is_none());
+fn other_nodes_are_what_their_bytes_spell(rt: HostRuntime) {
+    let signed = PlainForm::Signed(IntegerWidth::Bits16);
+    assert!(rt; matches!(read_plain(signed, &[255, 255]), Ok(Leaf::Signed(-1))));
+    assert!(rt; matches!(read_plain(PlainForm::Bool, &[1]), Ok(Leaf::Bool(true))));
+    assert!(rt;
+        matches!(
+            read_plain(PlainForm::Char, &[65, 0, 0, 0]),
+            Ok(Leaf::Char('A'))
+        )
+    );
+    let bytes = [7; 32];
+    let wide = read_plain(PlainForm::Wide(Signedness::Unsigned), &bytes);
+    assert!(rt; matches!(wide, Ok(Leaf::Wide(lent)) if lent == bytes.as_slice()));
+}
+
+#[test]
+fn a_length_is_a_compact_of_32_bits(rt: HostRuntime) {
+    assert_eq!(rt; read_length(&[8, 9]), Ok(2));
+    assert_eq!(rt; read_length(&[3, 255, 255, 255, 255]), Ok(4_294_967_295));
+    let cut = Fault {
+        reason: Reason::Truncated,
+        at: 1,
+    };
+    assert_eq!(rt; read_length(&[1]), Err(cut));
+    let long = Fault {
+        reason: Reason::CompactTooLarge,
+        at: 0,
+    };
+    assert_eq!(rt; read_length(&[7, 0, 0, 0, 0, 1]), Err(long));
+}
+
+#[test]
+fn a_node_without_parts_is_found_where_it_stands_whole(rt: HostRuntime) {
+    let bits16 = PlainForm::Unsigned(IntegerWidth::Bits16);
+    let followed = bits16.leaf_at_front(&[1, 2, 3]);
+    assert!(rt; matches!(followed, Some((Leaf::Unsigned(513), 2))));
+    let alone = bits16.leaf_at_front(&[1, 2]);
+    assert!(rt; matches!(alone, Some((Leaf::Unsigned(513), 2))));
+    let compact = Target::U32.leaf_at_front(&[8, 9]);
+    assert!(rt; matches!(compact, Some((Leaf::Compact(2), 1))));
+    let text = PrefixedRun::Text.leaf_at_front(&[8, 97, 98, 99]);
+    assert!(rt; matches!(text, Some((Leaf::Text(lent), 3)) if lent == [97, 98].as_slice()));
+}
+
+#[test]
+fn a_complete_compact_is_found_with_and_without_bytes_after_it(rt: HostRuntime) {
+    let piece = [253, 255, 9, 9, 9, 9, 9, 9, 9];
+    assert_eq!(rt; whole_compact(Target::U32, &piece), Some((16_383, 2)));
+    assert_eq!(rt; whole_compact(Target::U32, &piece[..2]), Some((16_383, 2)));
+    assert_eq!(rt; whole_compact(Target::U32, &piece[..1]), None);
 }

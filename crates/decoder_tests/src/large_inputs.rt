@@ -286,8 +286,12 @@ fn counts_are_no_nodes(rt: HostRuntime) -> Result<(), Fail> {
     }
     let reported = feed(&mut decoder, greatest);
     assert_eq!(rt; reported, Ok(Progress::Done { used: 5 }));
-    let Holding { nodes, taken, .. } = held(&decoder);
-    assert_eq!(rt; (nodes, taken), (1001, 5002));
+    let wanted = Holding {
+        nodes: 1001,
+        texts: 0,
+        taken: 5002,
+    };
+    assert_eq!(rt; held(&decoder), wanted);
     Ok(())
 }
 

@@ -1,11 +1,12 @@
 //! Devices that fail under the command, at each of their calls: what it answers, and what stands where it wrote.
 
-use crate::command_values::{check_answer, check_wanted, is_served, job_of, json_of, wanted};
+use command_runs::jobs::decode;
 use command_runs::ran::{Devices, Failed, NONE, Ran};
-use scale_rows::all_rows::ROWS;
 use scale_tests::paced::{PacedReader, PacedWriter, Then};
-use scale_tests::rows::Row;
-use std::alloc::Global;
+use scale_tests::registries::UNITS;
+use scale_tests::rows::{ROWS, Row};
+use scale_tool::Job;
+use std::alloc::{AllocError, Global};
 use std::process::Abort;
 use std::test::Fail;
 
@@ -23,6 +24,40 @@ const OUT: Failed = Failed { out: true, ..NONE };
 
 const ERR: Failed = Failed { err: true, ..NONE };
 
+/// The job of a row's bytes.
+fn job_of(row: &Row) -> Job {
+    decode(row.ty)
+}
+
+/// What the command is to answer to a row where no device fails.
+fn wanted(alloc: Global, row: &Row) -> Result<Ran, AllocError> {
+    if row.refusal.is_empty() {
+        return Ok(Ran {
+            status: 0,
+            out: format!(in alloc; "{}\n", row.json)?.into_bytes(),
+            err: Vec::new(alloc),
+        });
+    }
+    Ok(Ran {
+        status: 1,
+        out: Vec::new(alloc),
+        err: format!(in alloc; "scaleview: value: {}\n", row.refusal)?.into_bytes(),
+    })
+}
+
+/// The row's run answered this.
+fn check_answer(rt: &impl Abort, row: &Row, found: &Ran, status: u8, out: &[u8], err: &[u8]) {
+    let name = row.name;
+    assert_eq!(rt; found.status, status, "the status of {name}");
+    assert_eq!(rt; found.out.as_slice(), out, "what {name} writes");
+    assert_eq!(rt; found.err.as_slice(), err, "what {name} reports");
+}
+
+/// The row's run answered what was wanted.
+fn check_wanted(rt: &impl Abort, row: &Row, found: &Ran, wanted: &Ran) {
+    check_answer(rt, row, found, wanted.status, &wanted.out, &wanted.err);
+}
+
 /// The registry's reader gives this front, a byte a call, and fails then: nothing else is touched.
 fn check_registry_front(rt: &impl Abort, alloc: Global, row: &Row, front: &'static [u8]) {
     let mut devices = Devices::over(alloc, front, row.bytes, 1);
@@ -36,12 +71,10 @@ fn check_registry_front(rt: &impl Abort, alloc: Global, row: &Row, front: &'stat
 // The registry of n bytes is read in n + 1 calls, the last of which is to report its end.
 #[test]
 fn each_read_of_a_registry_may_fail(rt: HostRuntime) {
-    'kinds: for rows in ROWS {
-        'rows: for row in rows {
-            'calls: for call in 0..=row.registry.len() {
-                let (front, _) = row.registry.split_at(call);
-                check_registry_front(&rt, rt.alloc(), row, front);
-            }
+    'rows: for row in &ROWS {
+        'calls: for call in 0..=row.registry.len() {
+            let (front, _) = row.registry.split_at(call);
+            check_registry_front(&rt, rt.alloc(), row, front);
         }
     }
 }
@@ -61,7 +94,7 @@ fn check_value_front(
     if failed == VALUE {
         check_answer(rt, row, &ran, 3, b"", b"scaleview: device: value\n");
     } else {
-        assert_eq!(rt; (failed, json_of(row)), (NONE, None), "{}", row.name);
+        assert_eq!(rt; (failed, row.json), (NONE, ""), "{}", row.name);
         check_wanted(rt, row, &ran, wanted);
     }
 }
@@ -78,12 +111,8 @@ fn check_value_fronts(rt: &impl Abort, alloc: Global, row: &Row) -> Result<(), F
 
 #[test]
 fn each_read_of_a_value_may_fail(rt: HostRuntime) -> Result<(), Fail> {
-    'kinds: for rows in ROWS {
-        'rows: for row in rows {
-            if is_served(row) {
-                check_value_fronts(&rt, rt.alloc(), row)?;
-            }
-        }
+    'rows: for row in &ROWS {
+        check_value_fronts(&rt, rt.alloc(), row)?;
     }
     Ok(())
 }
@@ -110,12 +139,8 @@ fn check_outputs(rt: &impl Abort, alloc: Global, row: &Row) -> Result<(), Fail> 
 
 #[test]
 fn standard_output_may_end_at_each_byte(rt: HostRuntime) -> Result<(), Fail> {
-    'kinds: for rows in ROWS {
-        'rows: for row in rows {
-            if is_served(row) {
-                check_outputs(&rt, rt.alloc(), row)?;
-            }
-        }
+    'rows: for row in &ROWS {
+        check_outputs(&rt, rt.alloc(), row)?;
     }
     Ok(())
 }
@@ -142,12 +167,8 @@ fn check_errors(rt: &impl Abort, alloc: Global, row: &Row) -> Result<(), Fail> {
 
 #[test]
 fn standard_error_may_end_at_each_byte(rt: HostRuntime) -> Result<(), Fail> {
-    'kinds: for rows in ROWS {
-        'rows: for row in rows {
-            if is_served(row) {
-                check_errors(&rt, rt.alloc(), row)?;
-            }
-        }
+    'rows: for row in &ROWS {
+        check_errors(&rt, rt.alloc(), row)?;
     }
     Ok(())
 }
@@ -180,13 +201,35 @@ fn check_both(rt: &impl Abort, alloc: Global, row: &Row, device: Failed) {
 
 #[test]
 fn a_failing_standard_error_hides_no_failure(rt: HostRuntime) {
-    'kinds: for rows in ROWS {
-        'rows: for row in rows {
-            if is_served(row) && json_of(row).is_some() {
-                check_both(&rt, rt.alloc(), row, REGISTRY);
-                check_both(&rt, rt.alloc(), row, VALUE);
-                check_both(&rt, rt.alloc(), row, OUT);
-            }
+    'rows: for row in &ROWS {
+        if row.refusal.is_empty() {
+            check_both(&rt, rt.alloc(), row, REGISTRY);
+            check_both(&rt, rt.alloc(), row, VALUE);
+            check_both(&rt, rt.alloc(), row, OUT);
         }
+    }
+}
+
+/// A list of three types.
+const TYPES: &str = "0 Sized u8 \"\"\n1 Empty tuple \"\"\n2 Sized sequence \"\"\n";
+
+/// Standard output takes this front of the types' lines and then no more: it holds the front.
+fn check_types_front(rt: &impl Abort, alloc: Global, front: &[u8]) {
+    let mut devices = Devices::over(alloc, UNITS, b"", 4096);
+    devices.out = PacedWriter::new(alloc, front.len(), 4096, Then::Fails);
+    let (ran, failed) = devices.run(alloc, Job::Types { metadata: false });
+    assert!(rt; failed.out, "{front:?}");
+    assert_eq!(rt; (ran.status, ran.out.as_slice()), (3, front));
+    assert_eq!(rt;
+        ran.err.as_slice(),
+        b"scaleview: device: output\n".as_slice()
+    );
+}
+
+#[test]
+fn a_list_of_types_may_end_at_each_byte(rt: HostRuntime) {
+    'places: for place in 0..TYPES.len() {
+        let (front, _) = TYPES.as_bytes().split_at(place);
+        check_types_front(&rt, rt.alloc(), front);
     }
 }

@@ -5,7 +5,7 @@ use decode_core::{DecodeFault, DecodeReason, Decoder, Progress};
 use decoder_calls::calls::{Holding, feed, finish, held, open, printed, shown_tree};
 use linked_list_allocator::LocalHeap;
 use scale_tests::building::{checked, written};
-use scale_tests::registries::{BYTES, LONG_ARRAY, LONG_ARRAY_OF_WORDS, WORDS, nested_pairs};
+use scale_tests::registries::{BYTES, LONG_ARRAY, LONG_ARRAY_OF_WORDS, U8, WORDS, nested_pairs};
 use scale_tests::rows::AMPLE;
 use std::alloc::{AllocError, Allocator, Global};
 use std::process::Abort;
@@ -169,8 +169,9 @@ fn check_full(
 }
 
 /// A decoder of a u8 over the heap.
-fn check_next(rt: &impl Abort, heap: &LocalHeap, checked: &Checked) -> Result<(), Fail> {
-    let mut decoder = open(heap, checked, 0, AMPLE)?;
+fn check_next(rt: &impl Abort, alloc: Global, heap: &LocalHeap) -> Result<(), Fail> {
+    let checked = checked(alloc, U8)?;
+    let mut decoder = open(heap, &checked, 0, AMPLE)?;
     let reported = feed(&mut decoder, b"\x2a");
     assert_eq!(rt; reported, Ok(Progress::Done { used: 1 }));
     let value = finish(decoder).ok().ok_or("no value")?;
@@ -185,5 +186,5 @@ fn a_heap_of_fixed_size_bounds_a_decoder(rt: HostRuntime) -> Result<(), Fail> {
     let heap = LocalHeap::new(rt.alloc(), 4096)?;
     let many = many_bytes(rt.alloc())?;
     check_full(&rt, &heap, &checked, &many)?;
-    check_next(&rt, &heap, &checked)
+    check_next(&rt, rt.alloc(), &heap)
 }

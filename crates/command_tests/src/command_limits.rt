@@ -1,9 +1,9 @@
-//! The command's engine at its limits: each primitive type, the greatest depth, and the longest lines.
+//! The command's engine at its limits: the greatest depth, the longest line, and the most bytes of a value.
 
 use command_runs::jobs::{decode, served};
 use scale_core::{Sink, Source, write_compact};
-use scale_tests::primitives::{BAD_CHARACTERS, PRIMITIVES, ROWS};
-use scale_tests::registries::CHAIN;
+use scale_tests::paced::LetterReader;
+use scale_tests::registries::{CHAIN, TEXT};
 use scale_tool::{Job, run};
 use std::alloc::{AllocError, Global};
 use std::process::Abort;
@@ -22,32 +22,6 @@ fn answer(rt: &impl Abort, alloc: Global, job: Job, registry: &[u8], value: &[u8
     let status = run(alloc, job, &mut registry, &mut value, &mut out, &mut err);
     assert!(rt; !registry.failed() && !value.failed() && !out.failed());
     (status, out.into_inner(), err.into_inner())
-}
-
-#[test]
-fn each_primitive_is_shown(rt: HostRuntime) -> Result<(), Fail> {
-    'rows: for row in &ROWS {
-        let name = row.name;
-        let (status, out, err) = answer(&rt, rt.alloc(), decode(row.ty), PRIMITIVES, row.bytes);
-        assert_eq!(rt; (status, err.len()), (0, 0), "{name}");
-        let mut line = Vec::from_slice(rt.alloc(), row.line.as_bytes())?;
-        line.push(b'\n')?;
-        assert_eq!(rt; out.as_slice(), line.as_slice(), "{name}");
-    }
-    Ok(())
-}
-
-#[test]
-fn characters_that_are_none_are_reported(rt: HostRuntime) {
-    'rows: for (name, bytes) in BAD_CHARACTERS {
-        let (status, out, err) = answer(&rt, rt.alloc(), decode(1), PRIMITIVES, bytes);
-        assert_eq!(rt; (status, out.len()), (1, 0), "{name}");
-        assert_eq!(rt;
-            err.as_slice(),
-            b"scaleview: value: BadChar at 0\n".as_slice(),
-            "{name}"
-        );
-    }
 }
 
 /// So many times this.
@@ -128,4 +102,53 @@ fn the_longest_refusal_is_reported_whole(rt: HostRuntime) -> Result<(), Fail> {
     let reported = b"scaleview: check: UnknownType 4294967295 in type 65536\n".as_slice();
     assert_eq!(rt; err.as_slice(), reported);
     Ok(())
+}
+
+/// A text of this length and so many letters: the status and the line, and how much is written.
+fn check_letters(
+    rt: &impl Abort,
+    alloc: Global,
+    len: &'static [u8],
+    letters: usize,
+    line: &str,
+    written: usize,
+) {
+    let mut value = Source::new(LetterReader::new(len, letters));
+    let mut out = Sink::new(Vec::new(alloc));
+    let mut err = Sink::new(Vec::new(alloc));
+    let mut registry = Source::new(TEXT);
+    let status = run(
+        alloc,
+        decode(0),
+        &mut registry,
+        &mut value,
+        &mut out,
+        &mut err,
+    );
+    assert_eq!(rt; status, u8::from(written == 0), "{letters} letters");
+    let reported = err.into_inner();
+    assert_eq!(rt; reported.as_slice(), line.as_bytes(), "{letters} letters");
+    assert_eq!(rt; out.into_inner().len(), written, "{letters} letters");
+}
+
+/// The length of a text that takes all bytes that are allowed, with its own four.
+const LONGEST: &[u8] = b"\xf2\xff\xff\x03";
+
+/// One more.
+const TOO_LONG: &[u8] = b"\x02\x00\x00\x04";
+
+// At most 16777216 bytes belong to a value: a text is refused as too long only where a further byte comes.
+#[test]
+fn the_longest_text_is_shown(rt: HostRuntime) {
+    check_letters(&rt, rt.alloc(), LONGEST, 16_777_212, "", 16_777_215);
+    let behind = "scaleview: value: TrailingBytes at 16777216\n";
+    check_letters(&rt, rt.alloc(), LONGEST, 16_777_213, behind, 0);
+}
+
+#[test]
+fn a_longer_text_is_refused(rt: HostRuntime) {
+    let cut = "scaleview: value: Truncated at 16777216\n";
+    check_letters(&rt, rt.alloc(), TOO_LONG, 16_777_212, cut, 0);
+    let too_long = "scaleview: value: TooLong at 16777216\n";
+    check_letters(&rt, rt.alloc(), TOO_LONG, 16_777_213, too_long, 0);
 }

@@ -1,0 +1,47 @@
+//! Words that no row can hold, since they have blanks in them, and files that do not open.
+
+use scale_core::Sink;
+use scale_tool::{Device, explain, job, unopened};
+use std::alloc::Global;
+use std::process::Abort;
+use std::test::Fail;
+
+/// The words are a usage error, and one line reports it.
+fn check_usage(rt: &impl Abort, alloc: Global, words: &[&str]) -> Result<(), Fail> {
+    let fault = job(alloc, words).err().ok_or("a fault")?;
+    let mut out = Sink::new(Vec::new(alloc));
+    let mut err = Sink::new(Vec::new(alloc));
+    assert_eq!(rt; explain(fault, &mut out, &mut err), 2, "{words:?}");
+    let reported = err.into_inner();
+    let line = b"scaleview: usage\n".as_slice();
+    assert_eq!(rt;
+        (out.into_inner().len(), reported.as_slice()),
+        (0, line),
+        "{words:?}"
+    );
+    Ok(())
+}
+
+#[test]
+fn blanks_are_no_part_of_a_number(rt: HostRuntime) -> Result<(), Fail> {
+    check_usage(&rt, rt.alloc(), &["scaleview", "decode", "r", " 3", "v"])?;
+    check_usage(
+        &rt,
+        rt.alloc(),
+        &["scaleview", "decode", "r", "3", "v", "--depth", " 2"],
+    )
+}
+
+#[test]
+fn a_file_that_does_not_open_is_reported(rt: HostRuntime) {
+    let rows = [
+        (Device::Registry, "scaleview: device: registry\n"),
+        (Device::Value, "scaleview: device: value\n"),
+    ];
+    'rows: for (device, line) in rows {
+        let mut err = Sink::new(Vec::new(rt.alloc()));
+        assert_eq!(rt; unopened(device, &mut err), 3);
+        let reported = err.into_inner();
+        assert_eq!(rt; reported.as_slice(), line.as_bytes());
+    }
+}
