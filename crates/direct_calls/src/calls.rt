@@ -11,7 +11,7 @@ use scale_core::Sink;
 use scale_tool::{Job, JobFault, job};
 use serde_json::Value;
 use std::alloc::Global;
-use value_core::Limits;
+use value_core::{Limits, Value as Sampled};
 use widths_core::{CheckFault, Checked};
 
 /// The line where neither the right answer nor want of memory came of a call.
@@ -88,6 +88,14 @@ pub(crate) fn value_text_line(alloc: Global) -> Option<&'static str> {
     })
 }
 
+/// Is the value shown by the sample's text?
+fn is_shown(alloc: Global, value: &Sampled<'_, Global>) -> bool {
+    match json_text(alloc, value) {
+        Ok(text) => text.as_str() == sample::TEXT,
+        Err(_) => false,
+    }
+}
+
 pub(crate) fn to_json_line(alloc: Global) -> Option<&'static str> {
     let checked = sample::checked(alloc)?;
     let value = sample::value(alloc, &checked)?;
@@ -97,7 +105,10 @@ pub(crate) fn to_json_line(alloc: Global) -> Option<&'static str> {
             "to_json: the object of the members\n",
         ),
         Ok(_other) => OTHER,
-        Err(_) => "to_json: out of memory\n",
+        Err(_) => line_where(
+            is_shown(alloc, &value),
+            "to_json: out of memory, the value is unchanged\n",
+        ),
     })
 }
 

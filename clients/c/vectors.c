@@ -1,0 +1,291 @@
+/* Checks the tables of test vectors: each registry's answer and type lines, and each value whole and in pieces of 1, 7 and
+ * 4096 bytes, with what a session holds.
+ *
+ *   vectors registries.tsv values.tsv
+ */
+#include "scaleview.h"
+#include <stdio.h>
+#include <stdlib.h>
+#include <string.h>
+
+enum { COLUMNS = 11, TEXT_ROOM = 1 << 20 };
+
+static unsigned rows = 0, ways = 0, wrong = 0;
+
+/* A column, which is not ended by a 0. */
+struct text {
+    const char *at;
+    size_t length;
+};
+
+static struct text text_of(const char *text) {
+    return (struct text){text, strlen(text)};
+}
+
+static bool equal(struct text one, struct text other) {
+    return one.length == other.length && (one.length == 0 || !memcmp(one.at, other.at, one.length));
+}
+
+static void *allocated(void *memory) {
+    if (!memory) exit(4);
+    return memory;
+}
+
+static struct text read_file(const char *path) {
+    FILE *file = fopen(path, "rb");
+    if (!file || fseek(file, 0, SEEK_END)) {
+        perror(path);
+        exit(3);
+    }
+    long length = ftell(file);
+    rewind(file);
+    char *bytes = allocated(malloc((size_t)length + 1));
+    struct text read = {bytes, fread(bytes, 1, (size_t)length, file)};
+    fclose(file);
+    return read;
+}
+
+/* Takes the next row off the front of a table, column by column; false at its end. */
+static bool next_row(struct text *table, struct text row[COLUMNS]) {
+    while (table->length > 0) {
+        const char *end = memchr(table->at, '\n', table->length);
+        struct text line = {table->at, end ? (size_t)(end - table->at) : table->length};
+        size_t taken = end ? line.length + 1 : line.length;
+        table->at += taken;
+        table->length -= taken;
+        if (line.length == 0 || line.at[0] == '#') continue;
+        for (int column = 0; column < COLUMNS; column++) {
+            const char *tab = line.length ? memchr(line.at, '\t', line.length) : NULL;
+            size_t length = tab ? (size_t)(tab - line.at) : line.length;
+            row[column] = (struct text){line.at, length};
+            line.at += tab ? length + 1 : length;
+            line.length -= tab ? length + 1 : length;
+        }
+        return true;
+    }
+    return false;
+}
+
+static int digit(char c) {
+    return c <= '9' ? c - '0' : c - 'a' + 10;
+}
+
+/* Bytes in hexadecimal digits, where a dash stands for none; the caller frees them. */
+static uint8_t *bytes_of(struct text column, size_t *length) {
+    *length = column.length == 1 ? 0 : column.length / 2;
+    uint8_t *bytes = allocated(malloc(*length + 1));
+    for (size_t i = 0; i < *length; i++) bytes[i] = (uint8_t)(digit(column.at[2 * i]) << 4 | digit(column.at[2 * i + 1]));
+    return bytes;
+}
+
+static uint64_t number_of(struct text column) {
+    uint64_t number = 0;
+    for (size_t i = 0; i < column.length; i++) number = 10 * number + (uint64_t)(column.at[i] - '0');
+    return number;
+}
+
+static const char *const registry_reasons[] = {
+    "Truncated",    "BadUtf8",      "CompactNotShortest", "CompactTooLarge", "BadOption",    "BadDefinition",
+    "BadPrimitive", "IdOutOfPlace", "NotMetadata",        "WrongVersion",    "TrailingBytes"};
+static const char *const value_reasons[] = {
+    "Truncated",     "BadBool",  "BadChar",       "BadUtf8",     "CompactNotShortest", "CompactTooLarge", "NoSuchVariant",
+    "TooDeep",       "NoFiniteValue", "BitSequence", "BadCompact", "TooLong", "TrailingBytes"};
+
+/* What a call answered, in the words of the tables. */
+static struct text told(scaleview_answer answer, char line[128]) {
+    unsigned long long at = answer.at;
+    uint32_t code = answer.code;
+    if (code >= SCALEVIEW_VALUE_TRUNCATED && code <= SCALEVIEW_VALUE_TRAILING_BYTES)
+        snprintf(line, 128, "%s at %llu", value_reasons[code - SCALEVIEW_VALUE_TRUNCATED], at);
+    else if (code >= SCALEVIEW_REGISTRY_TRUNCATED && code <= SCALEVIEW_REGISTRY_TRAILING_BYTES)
+        snprintf(line, 128, "%s at %llu", registry_reasons[code - SCALEVIEW_REGISTRY_TRUNCATED], at);
+    else if (code == SCALEVIEW_REGISTRY_UNKNOWN_REFERENCE)
+        snprintf(line, 128, "UnknownType %llu in type %u", at, answer.from);
+    else if (code == SCALEVIEW_UNKNOWN_TYPE)
+        snprintf(line, 128, "UnknownType");
+    else if (code == SCALEVIEW_LIMIT_OUT_OF_RANGE)
+        snprintf(line, 128, "LimitOutOfRange");
+    else
+        snprintf(line, 128, "code %u", code);
+    return text_of(line);
+}
+
+static void check(struct text name, const char *way, struct text wanted, struct text found) {
+    ways++;
+    if (equal(wanted, found)) return;
+    printf("%.*s: %s: %.*s, not %.*s\n", (int)name.length, name.at, way, (int)found.length, found.at, (int)wanted.length,
+           wanted.at);
+    wrong++;
+}
+
+static void check_number(struct text name, const char *way, uint64_t wanted, uint64_t found) {
+    char one[32], other[32];
+    snprintf(one, sizeof one, "%llu", (unsigned long long)wanted);
+    snprintf(other, sizeof other, "%llu", (unsigned long long)found);
+    check(name, way, text_of(one), text_of(other));
+}
+
+static struct text shown(scaleview_answer answer, const uint8_t *out, char line[128]) {
+    return answer.code == SCALEVIEW_OK ? (struct text){(const char *)out, (size_t)answer.length} : told(answer, line);
+}
+
+/* The lines of all types, in the words of a row; the caller frees them. */
+static struct text lines_of(scaleview_registry registry, uint8_t *out) {
+    scaleview_answer answer;
+    scaleview_types(registry, &answer);
+    uint64_t count = answer.length;
+    char *lines = allocated(malloc(TEXT_ROOM));
+    size_t length = 0;
+    for (uint32_t type = 0; type < count; type++) {
+        if (scaleview_type_line(registry, type, out, TEXT_ROOM, &answer) != SCALEVIEW_OK) exit(1);
+        if (type > 0) length += (size_t)sprintf(lines + length, " / ");
+        memcpy(lines + length, out, (size_t)answer.length - 1);
+        length += (size_t)answer.length - 1;
+    }
+    if (count == 0) length = (size_t)sprintf(lines, "-");
+    return (struct text){lines, length};
+}
+
+/* What the call is to answer to all bytes of a registry's row: the first refusal, or nothing. */
+static struct text registry_refusal(struct text row[COLUMNS], size_t length, char line[128]) {
+    struct text read = row[3], none = text_of("");
+    if (read.at[0] < '0' || read.at[0] > '9') return read;
+    bool is_alone = equal(row[1], text_of("none"));
+    if (is_alone && number_of(read) < length) {
+        snprintf(line, 128, "TrailingBytes at %.*s", (int)read.length, read.at);
+        return text_of(line);
+    }
+    return row[4].at[0] == 'W' ? none : row[4];
+}
+
+static void check_registry(struct text row[COLUMNS], uint8_t *out) {
+    char wanted[128], found[128];
+    size_t length;
+    uint8_t *bytes = bytes_of(row[2], &length);
+    scaleview_registry registry = {NULL};
+    scaleview_answer answer;
+    uint32_t code = scaleview_open(bytes, length, equal(row[1], text_of("metadata")), &registry, &answer);
+    rows++;
+    check(row[0], "open", registry_refusal(row, length, wanted), code == SCALEVIEW_OK ? text_of("") : told(answer, found));
+    if (code == SCALEVIEW_OK) {
+        struct text lines = lines_of(registry, out);
+        check(row[0], "types", row[5], lines);
+        free((char *)lines.at);
+        scaleview_close(&registry);
+    }
+    free(bytes);
+}
+
+/* A value's row. */
+struct value {
+    struct text name, answer, json;
+    uint32_t type;
+    uint16_t depth;
+    uint64_t limit, taken, nodes, texts;
+    uint8_t *bytes;
+    size_t length;
+    scaleview_registry registry;
+};
+
+/* What is to be answered to all bytes, which are to be one value; with no byte after it where `front`. */
+static struct text value_answer(const struct value *value, bool front, char line[128]) {
+    if (equal(value->answer, text_of("Done"))) {
+        if (front || value->taken == value->length) return value->json;
+        snprintf(line, 128, "TrailingBytes at %llu", (unsigned long long)value->taken);
+        return text_of(line);
+    }
+    if (!equal(value->answer, text_of("More"))) return value->answer;
+    snprintf(line, 128, "Truncated at %zu", value->length);
+    return text_of(line);
+}
+
+static void check_whole(const struct value *value, uint8_t *out) {
+    char wanted[128], found[128];
+    scaleview_answer answer;
+    scaleview_decode(value->registry, value->type, value->depth, value->limit, value->bytes, value->length, out, TEXT_ROOM,
+                     &answer);
+    check(value->name, "decode", value_answer(value, false, wanted), shown(answer, out, found));
+}
+
+static void check_held(const struct value *value, scaleview_session *session) {
+    scaleview_answer answer;
+    scaleview_taken(session, &answer);
+    check_number(value->name, "taken", value->taken, answer.length);
+    scaleview_nodes(session, &answer);
+    check_number(value->name, "nodes", value->nodes, answer.length);
+    scaleview_text_bytes(session, &answer);
+    check_number(value->name, "text_bytes", value->texts, answer.length);
+}
+
+static void check_pieces(const struct value *value, size_t step, uint8_t *out) {
+    char wanted[128], found[128];
+    scaleview_session session = {NULL};
+    scaleview_answer answer;
+    uint32_t code = scaleview_start(value->registry, value->type, value->depth, value->limit, &session, &answer);
+    if (code != SCALEVIEW_OK) {
+        check(value->name, "start", value->answer, told(answer, found));
+        return;
+    }
+    size_t at = 0;
+    do {
+        size_t length = value->length - at < step ? value->length - at : step;
+        code = scaleview_feed(&session, value->bytes + at, length, &answer);
+        at += length;
+    } while (code == SCALEVIEW_MORE && at < value->length);
+    check_held(value, &session);
+    scaleview_finish(&session, out, TEXT_ROOM, &answer);
+    check(value->name, "pieces", value_answer(value, true, wanted), shown(answer, out, found));
+    scaleview_free(&session);
+}
+
+/* The registry of that name, which is open as the caller closes it. */
+static scaleview_registry registry_named(struct text table, struct text name) {
+    struct text row[COLUMNS];
+    scaleview_registry registry = {NULL};
+    scaleview_answer answer;
+    while (next_row(&table, row)) {
+        if (!equal(row[0], name)) continue;
+        size_t length;
+        uint8_t *bytes = bytes_of(row[2], &length);
+        scaleview_open(bytes, length, false, &registry, &answer);
+        free(bytes);
+        break;
+    }
+    return registry;
+}
+
+static void check_value(struct text registries, struct text row[COLUMNS], uint8_t *out) {
+    struct value value = {.name = row[0], .answer = row[6], .json = row[10]};
+    value.type = (uint32_t)number_of(row[2]);
+    value.depth = (uint16_t)number_of(row[3]);
+    value.limit = number_of(row[4]);
+    value.taken = number_of(row[7]);
+    value.nodes = number_of(row[8]);
+    value.texts = number_of(row[9]);
+    value.bytes = bytes_of(row[5], &value.length);
+    value.registry = registry_named(registries, row[1]);
+    rows++;
+    check_whole(&value, out);
+    check_pieces(&value, 1, out);
+    check_pieces(&value, 7, out);
+    check_pieces(&value, 4096, out);
+    scaleview_close(&value.registry);
+    free(value.bytes);
+}
+
+int main(int count, char **words) {
+    if (count != 3) {
+        fprintf(stderr, "usage: vectors registries.tsv values.tsv\n");
+        return 2;
+    }
+    struct text registries = read_file(words[1]), values = read_file(words[2]), table = registries, row[COLUMNS];
+    uint8_t *out = allocated(malloc(TEXT_ROOM));
+    while (next_row(&table, row)) check_registry(row, out);
+    table = values;
+    while (next_row(&table, row)) check_value(registries, row, out);
+    printf("c: %u rows in %u ways, %u wrong\n", rows, ways, wrong);
+    free(out);
+    free((char *)registries.at);
+    free((char *)values.at);
+    return wrong > 0;
+}
