@@ -37,8 +37,8 @@ pub(crate) fn open<'r>(
 pub(crate) fn written(alloc: Global, value: &Value<'_, Global>) -> Result<Vec<u8>, Wrong> {
     let mut sink = Sink::new(Vec::new(alloc));
     match encode(value, &mut sink) {
-        Ok(()) => Ok(sink.into_inner()),
-        Err(_) => Err(Wrong::Call("encode")),
+        Ok(()) if !sink.failed() => Ok(sink.into_inner()),
+        _ => Err(Wrong::Call("encode")),
     }
 }
 
@@ -46,7 +46,7 @@ pub(crate) fn written(alloc: Global, value: &Value<'_, Global>) -> Result<Vec<u8
 pub(crate) fn printed(alloc: Global, value: &Value<'_, Global>) -> Result<Vec<u8>, Wrong> {
     let mut sink = Sink::new(Vec::new(alloc));
     match print(alloc, value, &mut sink) {
-        Ok(()) => Ok(sink.into_inner()),
-        Err(_) => Err(Wrong::Call("print")),
+        Ok(()) if !sink.failed() => Ok(sink.into_inner()),
+        _ => Err(Wrong::Call("print")),
     }
 }

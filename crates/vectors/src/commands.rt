@@ -81,30 +81,32 @@ impl FilesOfRow {
 }
 
 /// Returns what the program answers where a file does not open.
-fn unopened_ran(alloc: Global, device: Device) -> Ran {
+fn unopened_ran(alloc: Global, device: Device) -> (Ran, bool) {
     let mut err = Sink::new(Vec::new(alloc));
     let status = unopened(device, &mut err);
-    Ran {
+    let ran = Ran {
         status,
         out: Vec::new(alloc),
         err: err.into_inner(),
-    }
+    };
+    (ran, true)
 }
 
 /// Returns what the program answers where the words name no job.
-fn explained_ran(alloc: Global, fault: JobFault) -> Ran {
+fn explained_ran(alloc: Global, fault: JobFault) -> (Ran, bool) {
     let mut out = Sink::new(Vec::new(alloc));
     let mut err = Sink::new(Vec::new(alloc));
     let status = explain(fault, &mut out, &mut err);
-    Ran {
+    let ran = Ran {
         status,
         out: out.into_inner(),
         err: err.into_inner(),
-    }
+    };
+    (ran, false)
 }
 
-/// Runs the words as the program does, over devices of at most so many bytes a call.
-fn ran_words(alloc: Global, files: &FilesOfRow, words: &[&str], step: usize) -> Ran {
+/// Runs the words as the program does, over devices of at most so many bytes a call. Returns whether a device failed, too.
+fn ran_words(alloc: Global, files: &FilesOfRow, words: &[&str], step: usize) -> (Ran, bool) {
     let (job, file, value_file) = match job(alloc, words) {
         Ok(job) => job,
         Err(fault) => return explained_ran(alloc, fault),
@@ -120,8 +122,8 @@ fn ran_words(alloc: Global, files: &FilesOfRow, words: &[&str], step: usize) -> 
         };
         devices.value = value;
     }
-    let (ran, _) = devices.run(alloc, job);
-    ran
+    let (ran, failed) = devices.run(alloc, job);
+    (ran, failed != NONE)
 }
 
 /// Returns the bytes of a column in which a line end stands as `\n` and a backslash as `\\`.
@@ -186,7 +188,8 @@ pub(crate) fn check_row(alloc: Global, columns: &[&str]) -> Result<u64, Wrong> {
     };
     let words = words_of(alloc, line)?;
     'steps: for step in STEPS {
-        let ran = ran_words(alloc, &files, &words, step);
+        let (ran, failed) = ran_words(alloc, &files, &words, step);
+        check_same(alloc, Way::Command(step), ran.status == 3, failed)?;
         check_columns(alloc, Way::Command(step), (status, out, err), &ran)?;
     }
     Ok(2)
