@@ -16,7 +16,7 @@ pub(crate) struct Row {
     pub(crate) name: &'static str,
     pub(crate) registry: &'static [u8],
     pub(crate) ty: u32,
-    pub(crate) calls: &'static [Call],
+    pub(crate) calls: &'static [Call<'static>],
     pub(crate) text: &'static str,
 }
 
@@ -249,7 +249,7 @@ pub(crate) const FORMS: [Row; 17] = [
 ];
 
 /// Nine numbers as fields.
-const NINE: [Call; 10] = [
+const NINE: [Call<'static>; 10] = [
     Call::Fields,
     Call::Unsigned(1),
     Call::Unsigned(2),

@@ -14,17 +14,17 @@ use widths_core::Checked;
 
 /// A call that adds a node, or a part of a text or of a run of bytes.
 #[derive(Clone, Copy, Debug)]
-pub enum Call {
+pub enum Call<'a> {
     Empty,
     Bool(bool),
     Char(char),
-    Text(&'static str),
+    Text(&'a str),
     TextStart(u32),
-    TextPiece(&'static [u8]),
+    TextPiece(&'a [u8]),
     TextEnd,
-    Bytes(&'static [u8]),
+    Bytes(&'a [u8]),
     BytesStart(u32),
-    BytesPiece(&'static [u8]),
+    BytesPiece(&'a [u8]),
     BytesEnd,
     Unsigned(u128),
     Signed(i128),
@@ -55,7 +55,7 @@ pub fn checked(alloc: Global, bytes: &[u8]) -> Result<Checked, Fail> {
 }
 
 /// Makes the call.
-pub fn add<A: Allocator>(builder: &mut Builder<'_, A>, call: Call) -> Result<(), BuildFault> {
+pub fn add<A: Allocator>(builder: &mut Builder<'_, A>, call: Call<'_>) -> Result<(), BuildFault> {
     match call {
         Call::Empty => builder.empty(),
         Call::Bool(value) => builder.bool(value),

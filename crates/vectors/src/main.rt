@@ -2,12 +2,14 @@
 //! it, and prints the rows that are answered otherwise and a line for each table. The status is 0 where none is.
 #![tactic(auto)]
 
+mod builder;
 mod calls;
 mod columns;
 mod commands;
 mod compacts;
 mod registries;
 mod shown;
+mod steps;
 mod table;
 mod values;
 mod way;
@@ -19,11 +21,12 @@ use std::rt::Files;
 use std::{fs, io};
 use table::Table;
 
-const TABLES: [Table; 4] = [
+const TABLES: [Table; 5] = [
     Table::Compacts,
     Table::Registries,
     Table::Values,
     Table::Command,
+    Table::Builder,
 ];
 
 /// Checks the rows of every table. Returns how many are answered wrongly.

@@ -2,7 +2,7 @@
 
 use crate::registries::Registries;
 use crate::wrong::Wrong;
-use crate::{commands, compacts, registries, values};
+use crate::{builder, commands, compacts, registries, values};
 use std::alloc::Global;
 use std::io;
 
@@ -13,6 +13,7 @@ pub(crate) enum Table {
     Registries,
     Values,
     Command,
+    Builder,
 }
 
 impl Table {
@@ -22,6 +23,7 @@ impl Table {
             Table::Registries => "registries",
             Table::Values => "values",
             Table::Command => "command",
+            Table::Builder => "builder",
         }
     }
 
@@ -31,6 +33,7 @@ impl Table {
             Table::Registries => "registries.tsv",
             Table::Values => "values.tsv",
             Table::Command => "command.tsv",
+            Table::Builder => "builder.tsv",
         }
     }
 
@@ -46,6 +49,7 @@ impl Table {
             Table::Registries => registries::check_row(alloc, columns),
             Table::Values => values::check_row(alloc, registries, columns),
             Table::Command => commands::check_row(alloc, columns),
+            Table::Builder => builder::check_row(alloc, registries, columns),
         }
     }
 }

@@ -37,4 +37,6 @@ pub(crate) enum Way {
     Command(usize),
     /// A call of a builder, by its number in the row.
     Call(usize),
+    /// The end of a builder.
+    Finish,
 }
