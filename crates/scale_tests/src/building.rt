@@ -1,10 +1,5 @@
-//! The calls of a builder as data, what a builder reports, and the registries that they are made with.
+//! The calls of a builder as data, and what a builder reports.
 
-pub use crate::registries::{
-    BITS_IN_AN_ARM, BYTES, CHAIN, COMPACT_OF_A_BOOL, COMPACT_U128, ENDLESS, LONG_ARRAY,
-    LONG_ARRAY_OF_WORDS, NO_BYTES, OPTION, SHADOWED_ARM, TEXT, TEXT_AND_BYTES,
-    TWO_UNITS_AND_A_BYTE, U8, UNITS, WIDE, WORDS, WRAPPED_BYTES,
-};
 use registry_core::{TypeId, read_registry};
 use scale_core::Sink;
 use std::alloc::{Allocator, Global};
