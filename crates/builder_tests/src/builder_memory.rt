@@ -1,4 +1,5 @@
-//! Builders over memory that fails: what they answer, that nothing changes, and that the same call is accepted later.
+//! Builders whose allocations fail: the error, that nothing changes, and that the same call
+//! succeeds later.
 
 use linked_list_allocator::LocalHeap;
 use registry_core::TypeId;
@@ -43,8 +44,8 @@ const MIXED_CALLS: [Call<'static>; 18] = [
 const MIXED_BYTES: &[u8] =
     b"\x08ab\x0c\x01\x02\x03\x07\x07\x07\x07\x07\x07\x07\x07\x07\x07\x07\x07\x07\x07\x07\x07\x07\x07\x07\x07\x07\x07\x07\x07\x07\x07\x07\x07\x07\x07\x07\x07\x01\x01\x01\x01\x01\x00\x10\xc3\xa9\xc3\xa9";
 
-/// A registry, a type, a call that allocates between the calls before and after it, and the bytes of the value that they all
-/// build.
+/// A registry, a type, a call that allocates between the calls before and after it, and the bytes of
+/// the value that they build.
 type Row = (
     &'static [u8],
     u32,
@@ -56,8 +57,8 @@ type Row = (
 
 const I8: &[u8] = b"\x04\x00\x00\x00\x05\x09\x00";
 
-/// Each kind of call that allocates, where the builder has no capacity yet for what it adds. The calls that begin a text or a
-/// run of bytes don't allocate.
+/// Each kind of call that allocates, where the builder has no capacity yet for what it adds. The
+/// calls that begin a text or a run of bytes don't allocate.
 const ROWS: [Row; 20] = [
     (UNITS, 1, &[], Call::Empty, &[], b""),
     (COMPACT_OF_A_BOOL, 0, &[], Call::Bool(true), &[], b"\x01"),
@@ -151,7 +152,7 @@ const ROWS: [Row; 20] = [
     ),
 ];
 
-/// The failed allocation is reported, and nothing changed.
+/// Checks that a failed allocation was reported and changed nothing.
 pub(crate) fn check_refusal<A: Allocator>(
     rt: &impl Abort,
     builder: &Builder<'_, A>,
@@ -162,7 +163,7 @@ pub(crate) fn check_refusal<A: Allocator>(
     assert_eq!(rt; what_stands(builder), before);
 }
 
-/// Makes the call, and once more where an allocation fails, which changes nothing. Returns whether one does.
+/// Makes the call, and once more if its allocation fails. Returns whether it fails.
 fn add_twice<A: Allocator>(rt: &impl Abort, builder: &mut Builder<'_, A>, call: Call<'_>) -> bool {
     let before = what_stands(builder);
     match add(builder, call) {
@@ -175,7 +176,7 @@ fn add_twice<A: Allocator>(rt: &impl Abort, builder: &mut Builder<'_, A>, call: 
     }
 }
 
-/// Makes the calls, and those again whose allocation fails. Returns how many these are.
+/// Makes the calls, and those again whose allocation fails. Returns how many fail.
 fn add_all_twice<A: Allocator>(
     rt: &impl Abort,
     builder: &mut Builder<'_, A>,
@@ -190,7 +191,7 @@ fn add_all_twice<A: Allocator>(
     refused
 }
 
-/// Builds a value over memory of which one allocation fails. Returns how many calls report it.
+/// Builds a value where one allocation fails. Returns how many calls report it.
 fn refused_calls<A: Allocator + Clone>(
     rt: &impl Abort,
     alloc: Global,
@@ -205,12 +206,12 @@ fn refused_calls<A: Allocator + Clone>(
     Ok(refused)
 }
 
-/// The request for the capacity for all four bytes of the second text, ahead of its first piece. Where it fails, the capacity
-/// for the piece alone is requested.
+/// The request for the capacity for all four bytes of the second text, ahead of its first piece. If
+/// it fails, the capacity for the piece alone is requested.
 const AHEAD: u64 = 6;
 
-/// Builds a value where this request fails: one call reports it, or none where the request was made ahead, and nothing stays
-/// allocated. Returns whether the request is made.
+/// Builds a value where this request fails. One call reports it, or none if the request is made
+/// ahead, and nothing stays allocated. Returns whether the request is made.
 fn is_requested(
     rt: &impl Abort,
     alloc: Global,
@@ -241,7 +242,7 @@ fn a_failed_allocation_changes_nothing(rt: HostRuntime) -> Result<(), Fail> {
     Err("an allocation of each run fails")?
 }
 
-/// Builds the row's value over memory of which one allocation fails. Returns whether the row's call reports it.
+/// Builds the row's value where one allocation fails. Returns whether the row's call reports it.
 fn is_refused<A: Allocator + Clone>(
     rt: &impl Abort,
     alloc: Global,
@@ -259,7 +260,7 @@ fn is_refused<A: Allocator + Clone>(
     Ok(refused)
 }
 
-/// Lets each allocation of the row's calls fail in turn. Returns how often the row's call reports it.
+/// Lets each allocation of the row fail in turn. Returns how often the row's call reports it.
 fn refusals_of(rt: &impl Abort, alloc: Global, row: Row) -> Result<u32, Fail> {
     let checked = checked(alloc, row.0)?;
     let mut refusals: u32 = 0;
@@ -342,7 +343,7 @@ fn a_builder_without_memory_is_not_made(rt: HostRuntime) -> Result<(), Fail> {
     Ok(())
 }
 
-/// Builds a list of 100 words over memory where this request fails. Returns whether it is made.
+/// Builds a list of 100 words where this request fails. Returns whether it is made.
 fn is_made(rt: &impl Abort, alloc: Global, checked: &Checked, request: u64) -> Result<bool, Fail> {
     let memory = Rationed::new(alloc, request);
     let mut builder = begun(&memory, checked, 1, 64)?;
@@ -353,8 +354,8 @@ fn is_made(rt: &impl Abort, alloc: Global, checked: &Checked, request: u64) -> R
     Ok(memory.is_past_refusal())
 }
 
-// The open nodes allocate once, and the nodes for 16 and then twice, ahead, for what the words that are left are expected to
-// bring. Where one of these allocations fails, the nodes grow by halves, and nothing is lost.
+// The open nodes allocate once, and the nodes for 16 and then twice, ahead, for what the words that
+// are left are expected to bring. If one of these fails, the nodes grow by halves, and none is lost.
 #[test]
 fn an_allocation_ahead_may_fail(rt: HostRuntime) -> Result<(), Fail> {
     let checked = checked(rt.alloc(), WORDS)?;

@@ -30,7 +30,7 @@ const ROWS: [Row; 3] = [
     ),
 ];
 
-/// Makes the call until it is refused. Returns the refusal, and what the builder reported before it.
+/// Makes the call until it fails. Returns the error, and what the builder reported before it.
 fn first_refusal(
     builder: &mut Builder<'_, &LocalHeap>,
     call: Call<'_>,
@@ -44,7 +44,7 @@ fn first_refusal(
     None
 }
 
-/// Makes the call until it is refused, and checks that the refusal changes nothing.
+/// Makes the call until it fails, and checks that this changes nothing.
 fn fill(
     rt: &impl Abort,
     builder: &mut Builder<'_, &LocalHeap>,
@@ -59,8 +59,8 @@ fn fill(
     }
 }
 
-/// Fills a heap of this size, half of which something else holds, and checks that the call that was refused is accepted once
-/// that half is free.
+/// Fills a heap of this size, half of which something else holds, and checks that the call that
+/// failed succeeds once that half is free.
 fn check_full_heap(
     rt: &impl Abort,
     alloc: Global,
@@ -94,7 +94,8 @@ fn a_builder_on_a_full_heap_goes_on_when_memory_is_free(rt: HostRuntime) -> Resu
     Ok(())
 }
 
-/// A registry, calls that build a part of a value of its type 1, and the nodes and bytes that the builder then holds.
+/// A registry, calls that build a part of a value of its type 1, and the counts of nodes and bytes
+/// that the builder then reports.
 type Claim = (&'static [u8], [Call<'static>; 3], (u64, u64));
 
 const CLAIMS: [Claim; 2] = [

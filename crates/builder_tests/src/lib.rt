@@ -1,5 +1,5 @@
-//! Tests of builders: what they count of an open text or run, failed allocations and full heaps. The program `vectors` checks
-//! what each call answers.
+//! Tests of builders: what they count of an open text or run, failed allocations and full heaps.
+//! The program `vectors` checks the answers of their calls.
 #![tactic(auto)]
 
 #[cfg(test)]

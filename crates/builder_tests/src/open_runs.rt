@@ -1,4 +1,4 @@
-//! Texts and runs of bytes that come to a builder in pieces: what is counted of them, and a long piece.
+//! Texts and runs of bytes that come to a builder in pieces: their counts, and a long piece.
 
 use scale_tests::builders::{add_all, begun, counts, finished};
 use scale_tests::building::{Call, add, checked};

@@ -1,4 +1,4 @@
-//! Builders: each call of a row with its answer, what comes next, and the value that the calls build.
+//! Builders: the calls of each row with their answers, what comes next, and the value they build.
 
 use crate::calls::{checked, written};
 use crate::columns::{depth_of, is_nothing, type_of};
@@ -18,7 +18,7 @@ use widths_core::Checked;
 /// The most bytes of a value that is decoded again.
 const MOST_BYTES: u64 = 16_777_216;
 
-/// A builder's calls, and the value that they build.
+/// The columns of a row after the registry.
 #[derive(Clone, Copy)]
 struct Row<'a> {
     ty: u32,
@@ -41,13 +41,13 @@ fn row_of<'a>(columns: &[&'a str]) -> Result<Row<'a>, Wrong> {
     })
 }
 
-/// The builder was refused with this.
+/// Checks an error of a builder.
 fn check_fault(alloc: Global, way: Way, wanted: &str, fault: BuildFault) -> Result<(), Wrong> {
     let line = format!(in alloc; "{fault:?}")?;
     check_text(alloc, way, wanted, &line)
 }
 
-/// Makes a call: it is answered as the step says, and a refusal changes nothing.
+/// Makes the call of a step and checks its answer. An error changes nothing.
 fn check_call(
     alloc: Global,
     way: Way,
@@ -66,7 +66,7 @@ fn check_call(
     }
 }
 
-/// Ends the builder, which is refused so, and returns it as it was.
+/// Checks that `finish` fails with this error, and returns the builder, which is unchanged.
 fn check_unfinished<'r>(
     alloc: Global,
     way: Way,
@@ -84,7 +84,7 @@ fn check_unfinished<'r>(
     }
 }
 
-/// This comes next in the builder, at this depth.
+/// Checks what comes next in the builder, and its depth.
 fn check_next(
     alloc: Global,
     way: Way,
@@ -96,7 +96,7 @@ fn check_next(
     check_text(alloc, way, wanted, &line)
 }
 
-/// Makes a step, and returns the builder after it.
+/// Runs a step, and returns the builder after it.
 fn check_step<'r>(
     alloc: Global,
     way: Way,
@@ -115,7 +115,7 @@ fn check_step<'r>(
     Ok(builder)
 }
 
-/// Makes the steps of a row. Returns the builder after them, and how many they are.
+/// Runs the steps of a row. Returns the builder after them, and their number.
 fn check_steps<'r>(
     alloc: Global,
     builder: Builder<'r, Global>,
@@ -133,7 +133,7 @@ fn check_steps<'r>(
     Ok((builder, count))
 }
 
-/// Returns the bytes as a column has them.
+/// Returns bytes as a column spells them.
 fn column_of(alloc: Global, bytes: &[u8]) -> Result<String, AllocError> {
     match bytes {
         [] => String::from_str(alloc, "-"),
@@ -141,7 +141,7 @@ fn column_of(alloc: Global, bytes: &[u8]) -> Result<String, AllocError> {
     }
 }
 
-/// The bytes are decoded as the value: by its counts and its text.
+/// Decodes the bytes, and checks that the value has the same counts and the same JSON.
 fn check_decoded(
     alloc: Global,
     checked: &Checked,
@@ -162,7 +162,7 @@ fn check_decoded(
     check_text(alloc, Way::Text, &wanted, &shown(alloc, &decoded)?)
 }
 
-/// The value holds what the builder reported at last, and is written as the row says.
+/// Checks that a value has the counts that the builder reported last, and the row's encoding.
 fn check_value(
     alloc: Global,
     checked: &Checked,
@@ -178,7 +178,7 @@ fn check_value(
     check_decoded(alloc, checked, row, value, &bytes)
 }
 
-/// Ends the builder of a row: what it held is in the value, or it is handed back as it was.
+/// Finishes the builder of a row, and checks the value or the error, which leaves it unchanged.
 fn check_end(
     alloc: Global,
     checked: &Checked,
@@ -195,7 +195,7 @@ fn check_end(
     }
 }
 
-/// Checks one row. Returns in how many ways it was asked: its steps, and the end of the builder.
+/// Checks one row. Returns the number of its steps, and one for the end of the builder.
 pub(crate) fn check_row(
     alloc: Global,
     registries: &Registries<'_>,

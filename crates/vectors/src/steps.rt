@@ -1,11 +1,11 @@
-//! The steps of a builder's row: a call with its answer, and what comes next.
+//! The steps of a builder's row: calls with their answers, and what comes next.
 
 use crate::columns::bytes_of;
 use crate::wrong::Wrong;
 use scale_tests::building::Call;
 use std::alloc::Global;
 
-/// The answer of a call that is not refused.
+/// The answer of a call that succeeds.
 pub(crate) const ACCEPTED: &str = "accepted";
 
 /// A step of a row.
@@ -14,13 +14,13 @@ pub(crate) struct Step<'a> {
     /// The name of the call; empty where the step only looks at what comes next.
     pub(crate) name: &'a str,
     pub(crate) argument: &'a str,
-    /// The refusal as it is printed, or [`ACCEPTED`].
+    /// The error as `Debug` prints it, or [`ACCEPTED`].
     pub(crate) answer: &'a str,
-    /// What comes next and its depth, where the row has them.
+    /// What comes next as `Debug` prints it, and its depth, where the row has them.
     pub(crate) next: Option<&'a str>,
 }
 
-/// Splits what comes next from a step.
+/// Splits a step into its call and what comes next.
 fn split_next(text: &str) -> (&str, Option<&str>) {
     if let Some(next) = text.strip_prefix("@ ") {
         return ("", Some(next));
@@ -31,7 +31,7 @@ fn split_next(text: &str) -> (&str, Option<&str>) {
     }
 }
 
-/// Reads a step: `CALL ARGUMENT = ANSWER @ NEXT DEPTH`, of which each part may be missing.
+/// Reads a step, `CALL ARGUMENT = ANSWER @ NEXT DEPTH`. Each part may be missing.
 pub(crate) fn step_of(text: &str) -> Step<'_> {
     let (call, next) = split_next(text);
     let (call, answer) = call.split_once(" = ").unwrap_or((call, ACCEPTED));
@@ -55,7 +55,7 @@ impl Step<'_> {
         }
     }
 
-    /// Returns the call, with its argument or the bytes of it.
+    /// Returns the call. `bytes` are the argument's bytes.
     pub(crate) fn call<'b>(&self, bytes: &'b [u8]) -> Result<Call<'b>, Wrong> {
         match self.name {
             "empty" => Ok(Call::Empty),
