@@ -154,6 +154,8 @@ fn children_step_over_what_is_below_them(rt: HostRuntime) -> Result<(), Fail> {
         let root = value.root();
         assert_eq!(rt; (root.type_id(), root.what()), (TypeId(ty), What::Fields));
         let reported = two_levels(rt.alloc(), &value)?;
+        let below = reported.len() as u64;
+        assert_eq!(rt; counts(&value), (below.saturating_add(1), 0));
         assert_eq!(rt; reported.as_slice(), wanted);
     }
     Ok(())
@@ -175,8 +177,12 @@ fn a_chain_of_arms_is_one_child_in_another(rt: HostRuntime) -> Result<(), Fail> 
     let calls = [Call::Arm(1), Call::Arm(1), Call::Arm(0)];
     let value = built(rt.alloc(), &checked, 0, 2, &calls)?;
     let root = value.root();
-    let middle = only_child(&root).ok_or("not one child")?;
-    let last = only_child(&middle).ok_or("not one grandchild")?;
+    let Some(middle) = only_child(&root) else {
+        return Err("not one child")?;
+    };
+    let Some(last) = only_child(&middle) else {
+        return Err("not one grandchild")?;
+    };
     assert_eq!(rt; root.what(), What::Arm { position: 1 });
     assert_eq!(rt; middle.what(), What::Arm { position: 1 });
     assert_eq!(rt; last.what(), What::Arm { position: 0 });
