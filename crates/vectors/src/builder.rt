@@ -105,6 +105,7 @@ fn check_step<'r>(
 ) -> Result<Builder<'r, Global>, Wrong> {
     let mut builder = builder;
     match step.name {
+        "" if step.next.is_none() => return Err(Wrong::Column("a step")),
         "" => {}
         "finish" => builder = check_unfinished(alloc, way, builder, step.answer)?,
         _ => check_call(alloc, way, &mut builder, step)?,
