@@ -1,15 +1,10 @@
-//! Tests of builders: what each call answers and what stands then, by nodes, numbers, texts and runs of bytes.
+//! Tests of builders: what they count of an open text or run, failed allocations and full heaps.
+//! The program `vectors` checks the answers of their calls.
 #![tactic(auto)]
 
 #[cfg(test)]
-mod builder_bytes;
+mod builder_memory;
 #[cfg(test)]
-mod builder_nodes;
+mod full_heaps;
 #[cfg(test)]
-mod builder_numbers;
-#[cfg(test)]
-mod builder_texts;
-#[cfg(test)]
-mod long_numbers;
-#[cfg(test)]
-mod row;
+mod open_runs;

@@ -21,7 +21,7 @@ pub fn begun<'r, A: Allocator + Clone>(
 }
 
 /// Makes these calls, none of which is refused.
-pub fn add_all<A: Allocator>(builder: &mut Builder<'_, A>, calls: &[Call]) -> Result<(), Fail> {
+pub fn add_all<A: Allocator>(builder: &mut Builder<'_, A>, calls: &[Call<'_>]) -> Result<(), Fail> {
     'calls: for call in calls {
         add(builder, *call)?;
     }
@@ -42,7 +42,7 @@ pub fn built<'r>(
     checked: &'r Checked,
     ty: u32,
     depth: u16,
-    calls: &[Call],
+    calls: &[Call<'_>],
 ) -> Result<Value<'r, Global>, Fail> {
     let mut builder = begun(alloc, checked, ty, depth)?;
     add_all(&mut builder, calls)?;

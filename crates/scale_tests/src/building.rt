@@ -1,10 +1,5 @@
-//! The calls of a builder as data, what a builder reports, and the registries that they are made with.
+//! The calls of a builder as data, and what a builder reports.
 
-pub use crate::registries::{
-    BITS_IN_AN_ARM, BYTES, CHAIN, COMPACT_OF_A_BOOL, COMPACT_U128, ENDLESS, LONG_ARRAY,
-    LONG_ARRAY_OF_WORDS, NO_BYTES, OPTION, SHADOWED_ARM, TEXT, TEXT_AND_BYTES,
-    TWO_UNITS_AND_A_BYTE, U8, UNITS, WIDE, WORDS, WRAPPED_BYTES,
-};
 use registry_core::{TypeId, read_registry};
 use scale_core::Sink;
 use std::alloc::{Allocator, Global};
@@ -14,17 +9,17 @@ use widths_core::Checked;
 
 /// A call that adds a node, or a part of a text or of a run of bytes.
 #[derive(Clone, Copy, Debug)]
-pub enum Call {
+pub enum Call<'a> {
     Empty,
     Bool(bool),
     Char(char),
-    Text(&'static str),
+    Text(&'a str),
     TextStart(u32),
-    TextPiece(&'static [u8]),
+    TextPiece(&'a [u8]),
     TextEnd,
-    Bytes(&'static [u8]),
+    Bytes(&'a [u8]),
     BytesStart(u32),
-    BytesPiece(&'static [u8]),
+    BytesPiece(&'a [u8]),
     BytesEnd,
     Unsigned(u128),
     Signed(i128),
@@ -55,7 +50,7 @@ pub fn checked(alloc: Global, bytes: &[u8]) -> Result<Checked, Fail> {
 }
 
 /// Makes the call.
-pub fn add<A: Allocator>(builder: &mut Builder<'_, A>, call: Call) -> Result<(), BuildFault> {
+pub fn add<A: Allocator>(builder: &mut Builder<'_, A>, call: Call<'_>) -> Result<(), BuildFault> {
     match call {
         Call::Empty => builder.empty(),
         Call::Bool(value) => builder.bool(value),

@@ -1,4 +1,4 @@
-//! Tests of values: what comes next in one, its nodes and how they are kept, and what is written to devices.
+//! Tests of values: their nodes and how they are kept, walks, and what is written to devices.
 #![tactic(auto)]
 
 #[cfg(test)]

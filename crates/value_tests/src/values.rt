@@ -1,55 +1,167 @@
-//! Values built node by node: what each call answers, what stands then, and the bytes that are written.
+//! Finished values: their nodes, their texts and runs of bytes, and their registry.
 
 use registry_core::TypeId;
-use scale_tests::builders::{built, check_written, counts};
-use scale_tests::building::{BYTES, CHAIN, Call, TEXT, TWO_UNITS_AND_A_BYTE, U8, checked};
-use std::alloc::Global;
+use scale_tests::builders::{built, counts};
+use scale_tests::building::{Call, checked};
+use scale_tests::registries::{
+    BYTES, CHAIN, SHADOWED_ARM, TEXT, TWO_UNITS_AND_A_BYTE, WORDS_AND_A_BYTE,
+};
+use std::alloc::{AllocError, Global};
 use std::test::Fail;
-use value_core::{BuildFault, Builder, NodeRef, What};
+use value_core::{NodeRef, Value, What};
+use widths_core::Class;
+
+/// A u128, an i128, and as the type 2 a compact of the u128.
+const NUMBERS: &[u8] =
+    b"\x0c\x00\x00\x00\x05\x07\x00\x04\x00\x00\x05\x0d\x00\x08\x00\x00\x06\x00\x00";
+
+/// 2^64 - 1 and 2^64.
+const BELOW: u128 = 18_446_744_073_709_551_615;
+
+const ABOVE: u128 = 18_446_744_073_709_551_616;
+
+/// The least integer of 64 bits and the one below it, the greatest and the one above it, and 2^64.
+const LEAST: i128 = -9_223_372_036_854_775_808;
+
+const BELOW_LEAST: i128 = -9_223_372_036_854_775_809;
+
+const GREATEST: i128 = 9_223_372_036_854_775_807;
+
+const ABOVE_GREATEST: i128 = 9_223_372_036_854_775_808;
+
+const FAR_ABOVE: i128 = 18_446_744_073_709_551_616;
+
+/// A type, the call that adds a value of it, and what its node is.
+const INTEGERS: [(u32, Call<'static>, What); 10] = [
+    (0, Call::Unsigned(BELOW), What::Unsigned(BELOW)),
+    (0, Call::Unsigned(ABOVE), What::Unsigned(ABOVE)),
+    (1, Call::Signed(LEAST), What::Signed(LEAST)),
+    (1, Call::Signed(BELOW_LEAST), What::Signed(BELOW_LEAST)),
+    (1, Call::Signed(GREATEST), What::Signed(GREATEST)),
+    (
+        1,
+        Call::Signed(ABOVE_GREATEST),
+        What::Signed(ABOVE_GREATEST),
+    ),
+    (1, Call::Signed(FAR_ABOVE), What::Signed(FAR_ABOVE)),
+    (2, Call::Compact(BELOW), What::Compact(BELOW)),
+    (2, Call::Compact(ABOVE), What::Compact(ABOVE)),
+    (2, Call::Compact(63), What::Compact(63)),
+];
 
 #[test]
-fn a_builder_opens_on_a_type_that_is_there(rt: HostRuntime) -> Result<(), Fail> {
-    let checked = checked(rt.alloc(), U8)?;
-    let rows = [
-        (9, 64, Some(BuildFault::UnknownType)),
-        (9, 1025, Some(BuildFault::UnknownType)),
-        (0, 1025, Some(BuildFault::OutOfRange)),
-        (0, 1024, None),
-    ];
-    'rows: for (ty, depth, fault) in rows {
-        let reported = Builder::new(rt.alloc(), &checked, TypeId(ty), depth).err();
-        assert_eq!(rt; reported, fault, "type {ty} at depth {depth}");
+fn integers_around_64_bits_are_kept(rt: HostRuntime) -> Result<(), Fail> {
+    let checked = checked(rt.alloc(), NUMBERS)?;
+    'integers: for (ty, call, what) in INTEGERS {
+        let value = built(rt.alloc(), &checked, ty, 64, &[call])?;
+        assert_eq!(rt; value.root().what(), what);
     }
     Ok(())
 }
 
-/// The types of the node's children, and what they are.
-fn reported_children(alloc: Global, node: &NodeRef<'_, '_>) -> Result<Vec<(TypeId, What)>, Fail> {
-    let mut reported = Vec::new(alloc);
+#[test]
+fn a_value_lends_its_registry(rt: HostRuntime) -> Result<(), Fail> {
+    let checked = checked(rt.alloc(), TWO_UNITS_AND_A_BYTE)?;
+    let value = built(rt.alloc(), &checked, 1, 0, &[Call::Empty])?;
+    assert_eq!(rt; counts(&value), (1, 0));
+    let lent = value.checked();
+    assert_eq!(rt; (lent.registry().types().len(), lent.widest()), (3, 3));
+    assert_eq!(rt; lent.class(TypeId(1)), Some(Class::Empty));
+    assert_eq!(rt; lent.class(TypeId(2)), Some(Class::Sized));
+    Ok(())
+}
+
+#[test]
+fn the_first_of_two_arms_with_one_index_is_reported(rt: HostRuntime) -> Result<(), Fail> {
+    let checked = checked(rt.alloc(), SHADOWED_ARM)?;
+    let value = built(rt.alloc(), &checked, 1, 64, &[Call::Arm(3)])?;
+    let root = value.root();
+    let wanted = (TypeId(1), What::Arm { position: 0 });
+    assert_eq!(rt; (root.type_id(), root.what()), wanted);
+    assert!(rt; root.children().next().is_none() && root.text().is_none());
+    Ok(())
+}
+
+/// A node's level below the root, its type, and what it is.
+type Reported = (u8, TypeId, What);
+
+/// Appends the node's children, which have this level.
+fn report_children(
+    reported: &mut Vec<Reported>,
+    node: &NodeRef<'_, '_>,
+    level: u8,
+) -> Result<(), AllocError> {
     'children: for child in node.children() {
-        reported.push((child.type_id(), child.what()))?;
+        reported.push((level, child.type_id(), child.what()))?;
+    }
+    Ok(())
+}
+
+/// Returns the children of the value's root, each with its own children after it.
+fn two_levels(alloc: Global, value: &Value<'_, Global>) -> Result<Vec<Reported>, AllocError> {
+    let mut reported = Vec::new(alloc);
+    'children: for child in value.root().children() {
+        reported.push((1, child.type_id(), child.what()))?;
+        report_children(&mut reported, &child, 2)?;
     }
     Ok(reported)
 }
 
+/// A registry, a type, calls that build a value of it, and its nodes below the root.
+type Tree = (
+    &'static [u8],
+    u32,
+    &'static [Call<'static>],
+    &'static [Reported],
+);
+
+/// The second has a subtree of three nodes, with a node after it.
+const TREES: [Tree; 2] = [
+    (
+        TWO_UNITS_AND_A_BYTE,
+        2,
+        &[Call::Fields, Call::Empty, Call::Empty, Call::Unsigned(42)],
+        &[
+            (1, TypeId(1), What::Empty),
+            (1, TypeId(1), What::Empty),
+            (1, TypeId(0), What::Unsigned(42)),
+        ],
+    ),
+    (
+        WORDS_AND_A_BYTE,
+        3,
+        &[
+            Call::Fields,
+            Call::List(2),
+            Call::Unsigned(7),
+            Call::Unsigned(255),
+            Call::Unsigned(42),
+        ],
+        &[
+            (1, TypeId(2), What::List),
+            (2, TypeId(1), What::Unsigned(7)),
+            (2, TypeId(1), What::Unsigned(255)),
+            (1, TypeId(0), What::Unsigned(42)),
+        ],
+    ),
+];
+
 #[test]
 fn children_step_over_what_is_below_them(rt: HostRuntime) -> Result<(), Fail> {
-    let checked = checked(rt.alloc(), TWO_UNITS_AND_A_BYTE)?;
-    let calls = [Call::Fields, Call::Empty, Call::Empty, Call::Unsigned(42)];
-    let value = built(rt.alloc(), &checked, 2, 64, &calls)?;
-    let root = value.root();
-    assert_eq!(rt; (root.type_id(), root.what()), (TypeId(2), What::Fields));
-    let reported = reported_children(rt.alloc(), &root)?;
-    let wanted = [
-        (TypeId(1), What::Empty),
-        (TypeId(1), What::Empty),
-        (TypeId(0), What::Unsigned(42)),
-    ];
-    assert_eq!(rt; reported.as_slice(), wanted.as_slice());
+    'trees: for (registry, ty, calls, wanted) in TREES {
+        let checked = checked(rt.alloc(), registry)?;
+        let value = built(rt.alloc(), &checked, ty, 64, calls)?;
+        let root = value.root();
+        assert_eq!(rt; (root.type_id(), root.what()), (TypeId(ty), What::Fields));
+        let reported = two_levels(rt.alloc(), &value)?;
+        let below = reported.len() as u64;
+        assert_eq!(rt; counts(&value), (below.saturating_add(1), 0));
+        assert_eq!(rt; reported.as_slice(), wanted);
+    }
     Ok(())
 }
 
-/// The node's child, where there is one alone.
+/// Returns the node's child, where it has exactly one.
 fn only_child<'v, 'r>(node: &NodeRef<'v, 'r>) -> Option<NodeRef<'v, 'r>> {
     let mut children = node.children();
     let child = children.next();
@@ -66,39 +178,65 @@ fn a_chain_of_arms_is_one_child_in_another(rt: HostRuntime) -> Result<(), Fail> 
     let value = built(rt.alloc(), &checked, 0, 2, &calls)?;
     let root = value.root();
     let Some(middle) = only_child(&root) else {
-        return Err("there is not one child")?;
+        return Err("not one child")?;
     };
     let Some(last) = only_child(&middle) else {
-        return Err("there is not one grandchild")?;
+        return Err("not one grandchild")?;
     };
     assert_eq!(rt; root.what(), What::Arm { position: 1 });
     assert_eq!(rt; middle.what(), What::Arm { position: 1 });
     assert_eq!(rt; last.what(), What::Arm { position: 0 });
     assert!(rt; last.children().next().is_none());
-    check_written(rt.alloc(), &value, b"\x01\x01\x00")
+    Ok(())
 }
+
+/// A text, whole and in pieces.
+const TEXT_CALLS: [&[Call<'static>]; 2] = [
+    &[Call::Text("\u{e9}a")],
+    &[
+        Call::TextStart(3),
+        Call::TextPiece(b"\xc3"),
+        Call::TextPiece(b"\xa9a"),
+        Call::TextEnd,
+    ],
+];
 
 #[test]
 fn a_text_is_lent(rt: HostRuntime) -> Result<(), Fail> {
     let checked = checked(rt.alloc(), TEXT)?;
-    let value = built(rt.alloc(), &checked, 0, 0, &[Call::Text("\u{e9}a")])?;
-    assert_eq!(rt; counts(&value), (1, 3));
-    let root = value.root();
-    assert_eq!(rt; root.what(), What::Text);
-    assert_eq!(rt; root.text(), Some("\u{e9}a"));
-    assert!(rt; root.bytes().is_none());
+    'values: for calls in TEXT_CALLS {
+        let value = built(rt.alloc(), &checked, 0, 0, calls)?;
+        assert_eq!(rt; counts(&value), (1, 3));
+        let root = value.root();
+        assert_eq!(rt; root.what(), What::Text);
+        assert_eq!(rt; root.text(), Some("\u{e9}a"));
+        assert!(rt; root.bytes().is_none());
+    }
     Ok(())
 }
+
+/// A run of bytes, whole and in pieces.
+const RUN_CALLS: [&[Call<'static>]; 2] = [
+    &[Call::Bytes(b"\x61\xff")],
+    &[
+        Call::BytesStart(2),
+        Call::BytesPiece(b"\x61"),
+        Call::BytesPiece(b"\xff"),
+        Call::BytesEnd,
+    ],
+];
 
 #[test]
 fn bytes_are_lent(rt: HostRuntime) -> Result<(), Fail> {
     let checked = checked(rt.alloc(), BYTES)?;
-    let value = built(rt.alloc(), &checked, 1, 0, &[Call::Bytes(b"\x61\xff")])?;
-    assert_eq!(rt; counts(&value), (1, 2));
-    let root = value.root();
-    let run = root.bytes().ok_or("no bytes")?;
-    assert!(rt; run == b"\x61\xff".as_slice());
-    assert_eq!(rt; root.what(), What::Bytes);
-    assert!(rt; root.text().is_none() && root.children().next().is_none());
+    'values: for calls in RUN_CALLS {
+        let value = built(rt.alloc(), &checked, 1, 0, calls)?;
+        assert_eq!(rt; counts(&value), (1, 2));
+        let root = value.root();
+        let run = root.bytes().ok_or("no bytes")?;
+        assert!(rt; run == b"\x61\xff".as_slice());
+        assert_eq!(rt; root.what(), What::Bytes);
+        assert!(rt; root.text().is_none() && root.children().next().is_none());
+    }
     Ok(())
 }

@@ -2,12 +2,14 @@
 //! it, and prints the rows that are answered otherwise and a line for each table. The status is 0 where none is.
 #![tactic(auto)]
 
+mod builder;
 mod calls;
 mod columns;
 mod commands;
 mod compacts;
 mod registries;
 mod shown;
+mod steps;
 mod table;
 mod types;
 mod values;
@@ -26,6 +28,7 @@ const TABLES: [Table; 5] = [
     Table::Types,
     Table::Values,
     Table::Command,
+    Table::Builder,
 ];
 
 /// Checks the rows of every table. Returns how many are answered wrongly.

@@ -2,7 +2,7 @@
 
 use crate::registries::Registries;
 use crate::wrong::Wrong;
-use crate::{commands, compacts, registries, types, values};
+use crate::{builder, commands, compacts, registries, types, values};
 use std::alloc::Global;
 use std::io;
 
@@ -14,6 +14,7 @@ pub(crate) enum Table {
     Types,
     Values,
     Command,
+    Builder,
 }
 
 impl Table {
@@ -24,6 +25,7 @@ impl Table {
             Table::Types => "types",
             Table::Values => "values",
             Table::Command => "command",
+            Table::Builder => "builder",
         }
     }
 
@@ -34,6 +36,7 @@ impl Table {
             Table::Types => "types.tsv",
             Table::Values => "values.tsv",
             Table::Command => "command.tsv",
+            Table::Builder => "builder.tsv",
         }
     }
 
@@ -50,6 +53,7 @@ impl Table {
             Table::Types => types::check_row(alloc, registries, columns),
             Table::Values => values::check_row(alloc, registries, columns),
             Table::Command => commands::check_row(alloc, columns),
+            Table::Builder => builder::check_row(alloc, registries, columns),
         }
     }
 }

@@ -39,4 +39,8 @@ pub(crate) enum Way {
     Print,
     /// The command over devices of at most so many bytes a call.
     Command(usize),
+    /// A call of a builder, by its number in the row.
+    Call(usize),
+    /// The end of a builder.
+    Finish,
 }

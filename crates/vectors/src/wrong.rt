@@ -40,7 +40,12 @@ impl Display for Wrong {
 }
 
 /// Returns the error of an answer that differs.
-fn differing(alloc: Global, way: Way, wanted: &str, found: &str) -> Result<Wrong, AllocError> {
+pub(crate) fn differing(
+    alloc: Global,
+    way: Way,
+    wanted: &str,
+    found: &str,
+) -> Result<Wrong, AllocError> {
     Ok(Wrong::Answer {
         way,
         wanted: String::from_str(alloc, wanted)?,

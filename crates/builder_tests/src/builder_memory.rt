@@ -1,0 +1,367 @@
+//! Builders whose allocations fail: the error, that nothing changes, and that the same call
+//! succeeds later.
+
+use linked_list_allocator::LocalHeap;
+use registry_core::TypeId;
+use scale_tests::builders::{add_all, begun, check_written, counts, finished};
+use scale_tests::building::{Call, Standing, add, checked, what_stands};
+use scale_tests::rationed::Rationed;
+use scale_tests::registries::{
+    BYTES, CHARACTER, COMPACT_OF_A_BOOL, COMPACT_U128, OPTION, TEXT, TEXT_AND_BYTES,
+    TWO_UNITS_AND_A_BYTE, U8, UNITS, WIDE, WORDS,
+};
+use std::alloc::{Allocator, Global};
+use std::process::Abort;
+use std::test::Fail;
+use value_core::{BuildFault, Builder};
+use widths_core::Checked;
+
+/// A tuple of a text, a sequence of bytes, a wide integer, a chain of arms and a text.
+const MIXED: &[u8] =
+    b"\x18\x00\x00\x00\x05\x02\x00\x04\x00\x00\x05\x03\x00\x08\x00\x00\x02\x04\x00\x0c\x00\x00\x05\x08\x00\x10\x00\x00\x01\x08\x0cEnd\x00\x00\x00\x10Next\x04\x00\x10\x00\x00\x01\x00\x00\x14\x00\x00\x04\x14\x00\x08\x0c\x10\x00\x00";
+
+const MIXED_CALLS: [Call<'static>; 18] = [
+    Call::Fields,
+    Call::Text("ab"),
+    Call::BytesStart(3),
+    Call::BytesPiece(b"\x01"),
+    Call::BytesPiece(b"\x02\x03"),
+    Call::BytesEnd,
+    Call::Wide([7; 32]),
+    Call::Arm(1),
+    Call::Arm(1),
+    Call::Arm(1),
+    Call::Arm(1),
+    Call::Arm(1),
+    Call::Arm(0),
+    Call::TextStart(4),
+    Call::TextPiece(b"\xc3"),
+    Call::TextPiece(b"\xa9\xc3"),
+    Call::TextPiece(b"\xa9"),
+    Call::TextEnd,
+];
+
+const MIXED_BYTES: &[u8] =
+    b"\x08ab\x0c\x01\x02\x03\x07\x07\x07\x07\x07\x07\x07\x07\x07\x07\x07\x07\x07\x07\x07\x07\x07\x07\x07\x07\x07\x07\x07\x07\x07\x07\x07\x07\x07\x07\x07\x07\x01\x01\x01\x01\x01\x00\x10\xc3\xa9\xc3\xa9";
+
+/// A registry, a type, a call that allocates between the calls before and after it, and the bytes of
+/// the value that they build.
+type Row = (
+    &'static [u8],
+    u32,
+    &'static [Call<'static>],
+    Call<'static>,
+    &'static [Call<'static>],
+    &'static [u8],
+);
+
+const I8: &[u8] = b"\x04\x00\x00\x00\x05\x09\x00";
+
+/// Each kind of call that allocates, where the builder has no capacity yet for what it adds. The
+/// calls that begin a text or a run of bytes don't allocate.
+const ROWS: [Row; 20] = [
+    (UNITS, 1, &[], Call::Empty, &[], b""),
+    (COMPACT_OF_A_BOOL, 0, &[], Call::Bool(true), &[], b"\x01"),
+    (CHARACTER, 0, &[], Call::Char('a'), &[], b"a\x00\x00\x00"),
+    (TEXT, 0, &[], Call::Text("a"), &[], b"\x04a"),
+    (
+        TEXT,
+        0,
+        &[Call::TextStart(1)],
+        Call::TextPiece(b"a"),
+        &[Call::TextEnd],
+        b"\x04a",
+    ),
+    (
+        TEXT,
+        0,
+        &[Call::TextStart(1), Call::TextPiece(b"a")],
+        Call::TextEnd,
+        &[],
+        b"\x04a",
+    ),
+    (BYTES, 1, &[], Call::Bytes(b"\xff"), &[], b"\x04\xff"),
+    (
+        TEXT_AND_BYTES,
+        2,
+        &[],
+        Call::Bytes(b"\x07\xff\x00"),
+        &[],
+        b"\x07\xff\x00",
+    ),
+    (
+        BYTES,
+        1,
+        &[Call::BytesStart(1)],
+        Call::BytesPiece(b"\xff"),
+        &[Call::BytesEnd],
+        b"\x04\xff",
+    ),
+    (
+        BYTES,
+        1,
+        &[Call::BytesStart(1), Call::BytesPiece(b"\xff")],
+        Call::BytesEnd,
+        &[],
+        b"\x04\xff",
+    ),
+    (
+        BYTES,
+        1,
+        &[Call::BytesStart(0)],
+        Call::BytesEnd,
+        &[],
+        b"\x00",
+    ),
+    (U8, 0, &[], Call::Unsigned(42), &[], b"*"),
+    (
+        COMPACT_U128,
+        0,
+        &[],
+        Call::Unsigned(18_446_744_073_709_551_616),
+        &[],
+        b"\0\0\0\0\0\0\0\0\x01\0\0\0\0\0\0\0",
+    ),
+    (I8, 0, &[], Call::Signed(-2), &[], b"\xfe"),
+    (WIDE, 0, &[], Call::Wide([7; 32]), &[], &[7; 32]),
+    (COMPACT_U128, 1, &[], Call::Compact(63), &[], b"\xfc"),
+    (UNITS, 2, &[], Call::Count(3), &[], b"\x0c"),
+    (
+        TWO_UNITS_AND_A_BYTE,
+        2,
+        &[],
+        Call::Fields,
+        &[Call::Empty, Call::Empty, Call::Unsigned(42)],
+        b"*",
+    ),
+    (
+        OPTION,
+        1,
+        &[],
+        Call::Arm(1),
+        &[Call::Unsigned(42)],
+        b"\x01*\x00\x00\x00",
+    ),
+    (
+        WORDS,
+        1,
+        &[],
+        Call::List(1),
+        &[Call::Unsigned(7)],
+        b"\x04\x07\x00",
+    ),
+];
+
+/// Checks that a failed allocation was reported and changed nothing.
+pub(crate) fn check_refusal<A: Allocator>(
+    rt: &impl Abort,
+    builder: &Builder<'_, A>,
+    fault: BuildFault,
+    before: Standing,
+) {
+    assert_eq!(rt; fault, BuildFault::OutOfMemory);
+    assert_eq!(rt; what_stands(builder), before);
+}
+
+/// Makes the call, and once more if its allocation fails. Returns whether it fails.
+fn add_twice<A: Allocator>(rt: &impl Abort, builder: &mut Builder<'_, A>, call: Call<'_>) -> bool {
+    let before = what_stands(builder);
+    match add(builder, call) {
+        Ok(()) => false,
+        Err(fault) => {
+            check_refusal(rt, builder, fault, before);
+            assert_eq!(rt; add(builder, call), Ok(()), "{call:?} made again");
+            true
+        }
+    }
+}
+
+/// Makes the calls, and those again whose allocation fails. Returns how many fail.
+fn add_all_twice<A: Allocator>(
+    rt: &impl Abort,
+    builder: &mut Builder<'_, A>,
+    calls: &[Call<'_>],
+) -> u32 {
+    let mut refused: u32 = 0;
+    'calls: for call in calls {
+        if add_twice(rt, builder, *call) {
+            refused = refused.saturating_add(1);
+        }
+    }
+    refused
+}
+
+/// Builds a value where one allocation fails. Returns how many calls report it.
+fn refused_calls<A: Allocator + Clone>(
+    rt: &impl Abort,
+    alloc: Global,
+    checked: &Checked,
+    memory: A,
+) -> Result<u32, Fail> {
+    let mut builder = begun(memory, checked, 5, 64)?;
+    let refused = add_all_twice(rt, &mut builder, &MIXED_CALLS);
+    let value = finished(builder)?;
+    assert_eq!(rt; counts(&value), (11, 9));
+    check_written(alloc, &value, MIXED_BYTES)?;
+    Ok(refused)
+}
+
+/// The request for the capacity for all four bytes of the second text, ahead of its first piece. If
+/// it fails, the capacity for the piece alone is requested.
+const AHEAD: u64 = 6;
+
+/// Builds a value where this request fails. One call reports it, or none if the request is made
+/// ahead, and nothing stays allocated. Returns whether the request is made.
+fn is_requested(
+    rt: &impl Abort,
+    alloc: Global,
+    checked: &Checked,
+    heap: &LocalHeap,
+    request: u64,
+) -> Result<bool, Fail> {
+    let memory = Rationed::new(heap, request);
+    let refused = refused_calls(rt, alloc, checked, &memory)?;
+    assert_eq!(rt; heap.used(), 0, "request {request}");
+    let is_made = memory.is_past_refusal();
+    let wanted = is_made && request != AHEAD;
+    assert_eq!(rt; refused, u32::from(wanted), "request {request}");
+    Ok(is_made)
+}
+
+// Nodes, the bytes of texts and the open nodes are kept apart, and each grows at least once.
+#[test]
+fn a_failed_allocation_changes_nothing(rt: HostRuntime) -> Result<(), Fail> {
+    let checked = checked(rt.alloc(), MIXED)?;
+    let heap = LocalHeap::new(rt.alloc(), 65_536)?;
+    'requests: for request in 1..1000 {
+        if !is_requested(&rt, rt.alloc(), &checked, &heap, request)? {
+            assert!(rt; request > 3, "request {request} is not made");
+            return Ok(());
+        }
+    }
+    Err("an allocation of each run fails")?
+}
+
+/// Builds the row's value where one allocation fails. Returns whether the row's call reports it.
+fn is_refused<A: Allocator + Clone>(
+    rt: &impl Abort,
+    alloc: Global,
+    checked: &Checked,
+    memory: A,
+    row: Row,
+) -> Result<bool, Fail> {
+    let (_, ty, before, call, after, bytes) = row;
+    let mut builder = begun(memory, checked, ty, 64)?;
+    add_all_twice(rt, &mut builder, before);
+    let refused = add_twice(rt, &mut builder, call);
+    add_all_twice(rt, &mut builder, after);
+    let value = finished(builder)?;
+    check_written(alloc, &value, bytes)?;
+    Ok(refused)
+}
+
+/// Lets each allocation of the row fail in turn. Returns how often the row's call reports it.
+fn refusals_of(rt: &impl Abort, alloc: Global, row: Row) -> Result<u32, Fail> {
+    let checked = checked(alloc, row.0)?;
+    let mut refusals: u32 = 0;
+    'requests: for request in 1..100 {
+        let memory = Rationed::new(alloc, request);
+        if is_refused(rt, alloc, &checked, &memory, row)? {
+            refusals = refusals.saturating_add(1);
+        }
+        if !memory.is_past_refusal() {
+            return Ok(refusals);
+        }
+    }
+    Err("an allocation of each run fails")?
+}
+
+#[test]
+fn each_kind_of_call_reports_a_failed_allocation(rt: HostRuntime) -> Result<(), Fail> {
+    'rows: for row in ROWS {
+        let refusals = refusals_of(&rt, rt.alloc(), row)?;
+        assert!(rt; refusals > 0, "no allocation of {:?} fails", row.3);
+    }
+    Ok(())
+}
+
+// The first request is for the bytes of the run, and the second would be for its node.
+#[test]
+fn a_piece_that_does_not_fit_is_reported_before_a_failed_allocation(
+    rt: HostRuntime,
+) -> Result<(), Fail> {
+    let checked = checked(rt.alloc(), BYTES)?;
+    let memory = Rationed::new(rt.alloc(), 1);
+    let mut builder = begun(&memory, &checked, 1, 64)?;
+    let long = Call::BytesPiece(b"\x07\xff\x00");
+    let whole = Call::BytesPiece(b"\x07\xff");
+    let rows = [
+        (Call::BytesStart(2), None),
+        (long, Some(BuildFault::OutOfRange)),
+        (Call::BytesEnd, Some(BuildFault::UnfinishedValue)),
+        (whole, Some(BuildFault::OutOfMemory)),
+        (whole, None),
+    ];
+    'calls: for (call, fault) in rows {
+        assert_eq!(rt; add(&mut builder, call).err(), fault, "{call:?}");
+    }
+    Ok(())
+}
+
+#[test]
+fn bad_text_is_reported_before_a_failed_allocation(rt: HostRuntime) -> Result<(), Fail> {
+    let checked = checked(rt.alloc(), TEXT)?;
+    let memory = Rationed::new(rt.alloc(), 2);
+    let mut builder = begun(&memory, &checked, 0, 64)?;
+    let calls = [Call::TextStart(1), Call::TextPiece(b"\xff")];
+    add_all(&mut builder, &calls)?;
+    let reported = add(&mut builder, Call::TextEnd);
+    assert_eq!(rt; reported, Err(BuildFault::BadText { valid: 0 }));
+    assert!(rt; !memory.is_past_refusal());
+    Ok(())
+}
+
+// A builder allocates its nodes and its bytes through a clone each of its allocator.
+#[test]
+fn a_builder_without_memory_is_not_made(rt: HostRuntime) -> Result<(), Fail> {
+    let checked = checked(rt.alloc(), U8)?;
+    let rows = [
+        (1, 1, 64, Some(BuildFault::UnknownType)),
+        (1, 1, 1025, Some(BuildFault::UnknownType)),
+        (1, 0, 1025, Some(BuildFault::OutOfRange)),
+        (1, 0, 1024, Some(BuildFault::OutOfMemory)),
+        (2, 0, 1024, Some(BuildFault::OutOfMemory)),
+        (3, 0, 1024, None),
+        (0, 0, 1024, None),
+    ];
+    'rows: for (request, ty, depth, fault) in rows {
+        let memory = Rationed::new(rt.alloc(), request);
+        let reported = Builder::new(memory, &checked, TypeId(ty), depth).err();
+        let name = (request, ty, depth);
+        assert_eq!(rt; reported, fault, "request, type, depth: {name:?}");
+    }
+    Ok(())
+}
+
+/// Builds a list of 100 words where this request fails. Returns whether it is made.
+fn is_made(rt: &impl Abort, alloc: Global, checked: &Checked, request: u64) -> Result<bool, Fail> {
+    let memory = Rationed::new(alloc, request);
+    let mut builder = begun(&memory, checked, 1, 64)?;
+    add(&mut builder, Call::List(100))?;
+    add_all(&mut builder, &[Call::Unsigned(1); 100])?;
+    let value = finished(builder)?;
+    assert_eq!(rt; counts(&value), (101, 0), "request {request}");
+    Ok(memory.is_past_refusal())
+}
+
+// The open nodes allocate once, and the nodes for 16 and then twice, ahead, for what the words that
+// are left are expected to bring. If one of these fails, the nodes grow by halves, and none is lost.
+#[test]
+fn an_allocation_ahead_may_fail(rt: HostRuntime) -> Result<(), Fail> {
+    let checked = checked(rt.alloc(), WORDS)?;
+    'requests: for (request, made) in [(3, true), (4, true), (5, false)] {
+        let answer = is_made(&rt, rt.alloc(), &checked, request)?;
+        assert_eq!(rt; answer, made, "request {request}");
+    }
+    Ok(())
+}

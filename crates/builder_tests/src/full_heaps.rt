@@ -1,0 +1,133 @@
+//! Builders on heaps that are full, and on heaps that hold no more than what came.
+
+use crate::builder_memory::check_refusal;
+use linked_list_allocator::LocalHeap;
+use scale_tests::builders::{add_all, begun};
+use scale_tests::building::{Call, Standing, add, checked, what_stands};
+use scale_tests::registries::{BYTES, TEXT, WORDS};
+use std::alloc::Global;
+use std::process::Abort;
+use std::test::Fail;
+use value_core::{BuildFault, Builder};
+use widths_core::Checked;
+
+/// A registry, a type, a call that opens a value of it, and one that fills a heap.
+type Row = (&'static [u8], u32, Call<'static>, Call<'static>);
+
+const ROWS: [Row; 3] = [
+    (WORDS, 1, Call::List(65_536), Call::Unsigned(7)),
+    (
+        BYTES,
+        1,
+        Call::BytesStart(65_536),
+        Call::BytesPiece(b"0123456789abcdef"),
+    ),
+    (
+        TEXT,
+        0,
+        Call::TextStart(65_536),
+        Call::TextPiece(b"0123456789abcdef"),
+    ),
+];
+
+/// Makes the call until it fails. Returns the error, and what the builder reported before it.
+fn first_refusal(
+    builder: &mut Builder<'_, &LocalHeap>,
+    call: Call<'_>,
+) -> Option<(BuildFault, Standing)> {
+    'calls: for _ in 0..65_536 {
+        let before = what_stands(builder);
+        if let Err(fault) = add(builder, call) {
+            return Some((fault, before));
+        }
+    }
+    None
+}
+
+/// Makes the call until it fails, and checks that this changes nothing.
+fn fill(
+    rt: &impl Abort,
+    builder: &mut Builder<'_, &LocalHeap>,
+    call: Call<'_>,
+) -> Result<(), Fail> {
+    match first_refusal(builder, call) {
+        Some((fault, before)) => {
+            check_refusal(rt, builder, fault, before);
+            Ok(())
+        }
+        None => Err("the heap does not fill")?,
+    }
+}
+
+/// Fills a heap of this size, half of which something else holds, and checks that the call that
+/// failed succeeds once that half is free.
+fn check_full_heap(
+    rt: &impl Abort,
+    alloc: Global,
+    checked: &Checked,
+    row: Row,
+    size: usize,
+) -> Result<(), Fail> {
+    let (_, ty, opening, call) = row;
+    let heap = LocalHeap::new(alloc, size)?;
+    let held: Vec<u8, &LocalHeap> = Vec::with_capacity(&heap, size / 2)?;
+    let mut builder = begun(&heap, checked, ty, 64)?;
+    add(&mut builder, opening)?;
+    fill(rt, &mut builder, call)?;
+    drop(held);
+    let before = what_stands(&builder);
+    assert_eq!(rt; add(&mut builder, call), Ok(()), "{call:?}");
+    assert!(rt; what_stands(&builder) != before, "{call:?}");
+    drop(builder);
+    assert_eq!(rt; heap.used(), 0, "{call:?}, {size}");
+    Ok(())
+}
+
+#[test]
+fn a_builder_on_a_full_heap_goes_on_when_memory_is_free(rt: HostRuntime) -> Result<(), Fail> {
+    'rows: for row in ROWS {
+        let checked = checked(rt.alloc(), row.0)?;
+        'sizes: for size in [4096, 65_536] {
+            check_full_heap(&rt, rt.alloc(), &checked, row, size)?;
+        }
+    }
+    Ok(())
+}
+
+/// A registry, calls that build a part of a value of its type 1, and the counts of nodes and bytes
+/// that the builder then reports.
+type Claim = (&'static [u8], [Call<'static>; 3], (u64, u64));
+
+const CLAIMS: [Claim; 2] = [
+    (
+        WORDS,
+        [
+            Call::List(4_294_967_295),
+            Call::Unsigned(1),
+            Call::Unsigned(2),
+        ],
+        (3, 0),
+    ),
+    (
+        BYTES,
+        [
+            Call::BytesStart(4_294_967_295),
+            Call::BytesPiece(b"\x01"),
+            Call::BytesPiece(b"\x02\x03"),
+        ],
+        (0, 3),
+    ),
+];
+
+// The heap holds what came, and not what the length claims.
+#[test]
+fn a_claimed_length_takes_no_memory(rt: HostRuntime) -> Result<(), Fail> {
+    'claims: for (registry, calls, wanted) in CLAIMS {
+        let checked = checked(rt.alloc(), registry)?;
+        let heap = LocalHeap::new(rt.alloc(), 4096)?;
+        let mut builder = begun(&heap, &checked, 1, 64)?;
+        add_all(&mut builder, &calls)?;
+        assert_eq!(rt; (builder.node_count(), builder.text_bytes()), wanted);
+    }
+    Ok(())
+}
