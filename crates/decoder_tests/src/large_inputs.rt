@@ -4,9 +4,7 @@ use decode_core::{DecodeFault, DecodeReason, Decoder, Progress};
 use decoder_calls::calls::{Holding, feed, finish, held, open, printed, shown};
 use scale_core::write_compact;
 use scale_tests::building::{checked, written};
-use scale_tests::registries::{
-    BYTES, CHAIN, TEXT, TWO_UNITS_AND_A_BYTE, UNITS, UNITS_IN_UNITS, WORDS,
-};
+use scale_tests::registries::{BYTES, CHAIN, TEXT, TWO_UNITS_AND_A_BYTE, UNITS_IN_UNITS, WORDS};
 use scale_tests::rows::AMPLE;
 use std::alloc::{AllocError, Global};
 use std::process::Abort;
@@ -143,46 +141,6 @@ fn the_deepest_value_is_taken(rt: HostRuntime) -> Result<(), Fail> {
     Ok(())
 }
 
-/// Each of 1024 arms that hold another is an object around an array.
-fn shown_arms(alloc: Global) -> Result<String, AllocError> {
-    let mut text = String::new(alloc);
-    'arms: for _ in 0..1024 {
-        text.push_str("{\"Next\":[")?;
-    }
-    text.push_str("{\"End\":[]}")?;
-    'ends: for _ in 0..1024 {
-        text.push_str("]}")?;
-    }
-    Ok(text)
-}
-
-// The calls that write a value nest as deep as it does.
-#[test]
-fn the_deepest_value_is_shown(rt: HostRuntime) -> Result<(), Fail> {
-    let checked = checked(rt.alloc(), CHAIN)?;
-    let input = arms(rt.alloc(), 1024)?;
-    let value = value_of(&rt, rt.alloc(), &checked, (0, DEEPEST), &input)?;
-    let text = shown(rt.alloc(), &value)?;
-    let wanted = shown_arms(rt.alloc())?;
-    assert!(rt; text.as_str() == wanted.as_str());
-    Ok(())
-}
-
-#[test]
-fn one_level_past_the_deepest_is_refused(rt: HostRuntime) -> Result<(), Fail> {
-    let checked = checked(rt.alloc(), CHAIN)?;
-    let input = arms(rt.alloc(), 1025)?;
-    let refused = DecodeFault {
-        reason: DecodeReason::TooDeep,
-        at: 1025,
-    };
-    let mut decoder = open(rt.alloc(), &checked, 0, DEEPEST)?;
-    assert_eq!(rt; feed(&mut decoder, &input), Err(refused));
-    let Holding { nodes, taken, .. } = held(&decoder);
-    assert_eq!(rt; (nodes, taken), (0, 1025));
-    Ok(())
-}
-
 /// A variant with an arm for each index but one, none of which has fields or a name.
 fn all_but(alloc: Global, missing: u8) -> Result<Vec<u8>, AllocError> {
     let mut bytes = Vec::from_slice(alloc, b"\x04\x00\x00\x00\x01")?;
@@ -245,15 +203,6 @@ fn nodes_stay_below_the_bound(rt: HostRuntime) -> Result<(), Fail> {
     let most = most_nodes(taken, AMPLE.depth, checked.widest());
     assert_eq!(rt; most, 260);
     assert!(rt; nodes <= most);
-    Ok(())
-}
-
-#[test]
-fn a_sequence_of_units_is_its_count(rt: HostRuntime) -> Result<(), Fail> {
-    let checked = checked(rt.alloc(), UNITS)?;
-    let bytes = b"\x03\x00\x00\x00\x40";
-    let value = value_of(&rt, rt.alloc(), &checked, (2, AMPLE), bytes)?;
-    assert_eq!(rt; value.root().what(), What::Count(1_073_741_824));
     Ok(())
 }
 

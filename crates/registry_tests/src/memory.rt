@@ -224,27 +224,3 @@ fn the_parts_of_a_registry_have_their_sizes(rt: HostRuntime) {
     assert_eq!(rt; sizes, (96, 80, 104));
     assert_eq!(rt; (size_of::<Step>(), size_of::<ArmStep>()), (12, 12));
 }
-
-// The table is a vector of steps, with one element for each type, one of members, one for each reference, and one of arms
-// and one of their indexes.
-#[test]
-fn the_table_takes_twelve_bytes_a_type(rt: HostRuntime) -> Result<(), Fail> {
-    let before = measured(&rt)?;
-    let mut steps = Vec::with_capacity(rt.alloc(), 0x400_0000)?;
-    steps.push(Step::Empty)?;
-    let after = measured(&rt)?;
-    assert_eq!(rt; steps.len(), 1);
-    check_growth(&rt, before, after, 0xc_0000);
-    Ok(())
-}
-
-#[test]
-fn the_table_takes_four_bytes_a_reference(rt: HostRuntime) -> Result<(), Fail> {
-    let before = measured(&rt)?;
-    let mut members = Vec::with_capacity(rt.alloc(), 0x400_0000)?;
-    members.push(0u32)?;
-    let after = measured(&rt)?;
-    assert_eq!(rt; members.len(), 1);
-    check_growth(&rt, before, after, 0x4_0000);
-    Ok(())
-}

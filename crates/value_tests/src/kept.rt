@@ -1,83 +1,9 @@
-//! Nodes as a builder keeps them: what does not fit a node, nodes that are closed, and room for more.
+//! How much room a builder makes for nodes and for the bytes of texts and runs.
 
-use node_core::{Content, Leaf, Left, Node, OpenRun, make_room_for_nodes, put_piece};
+use node_core::{Content, Node, make_room_for_nodes, put_piece};
 use registry_core::TypeId;
 use std::alloc::Global;
 use std::test::Fail;
-use widths_core::RunKind;
-
-#[test]
-fn a_leaf_is_kept_with_what_does_not_fit_it(rt: HostRuntime) -> Result<(), Fail> {
-    let mut pool = Vec::new(rt.alloc());
-    let content = Leaf::Unsigned(7).keep(&mut pool)?;
-    assert!(rt; matches!(content, Content::Unsigned(7)));
-    assert!(rt; pool.is_empty());
-    let content = Leaf::Unsigned(u128::MAX).keep(&mut pool)?;
-    assert!(rt; matches!(content, Content::LongUnsigned { start: 0 }));
-    assert_eq!(rt; pool.as_slice(), [0xff; 16].as_slice());
-    let content = Leaf::Text(b"abc").keep(&mut pool)?;
-    assert!(rt; matches!(content, Content::Text { len: 3, start: 16 }));
-    assert_eq!(rt; &pool.as_slice()[16..], b"abc".as_slice());
-    Ok(())
-}
-
-#[test]
-fn texts_and_runs_of_bytes_are_counted(rt: HostRuntime) -> Result<(), Fail> {
-    assert_eq!(rt; Leaf::Text(b"abc").text_len(), 3);
-    assert_eq!(rt; Leaf::Bytes(&[0; 5]).text_len(), 5);
-    assert_eq!(rt; Leaf::Wide(&[0; 32]).text_len(), 0);
-    Ok(())
-}
-
-#[test]
-fn a_node_with_parts_is_closed(rt: HostRuntime) -> Result<(), Fail> {
-    let mut composite = Content::Fields { size: 0 };
-    composite.close(3);
-    assert!(rt; matches!(composite, Content::Fields { size: 3 }));
-    let mut count = Content::Count(2);
-    count.close(3);
-    assert!(rt; matches!(count, Content::Count(2)));
-    Ok(())
-}
-
-#[test]
-fn parts_that_are_left_come_one_after_the_other(rt: HostRuntime) -> Result<(), Fail> {
-    let references = [7, 8, 9, 10];
-    let mut members = Left::members(1, 2);
-    assert_eq!(rt; members.first(&references), Some(8));
-    assert!(rt; !members.have_one_type());
-    members.advance();
-    assert_eq!(rt; members.count, 1);
-    assert_eq!(rt; Left::members(2, 1).first(&references), Some(9));
-    let copies = Left::copies(3, 7);
-    assert_eq!(rt; copies.first(&references), Some(7));
-    assert_eq!(rt; copies.after_first(), 2);
-    assert!(rt; copies.repeats());
-    assert!(rt; Left::none().is_empty());
-    Ok(())
-}
-
-#[test]
-fn an_open_run_is_closed_as_what_it_is(rt: HostRuntime) -> Result<(), Fail> {
-    let closed = |kind| {
-        let run = OpenRun {
-            kind,
-            start: 3,
-            len: 2,
-        };
-        run.content()
-    };
-    let text = closed(RunKind::Text);
-    assert!(rt; matches!(text, Content::Text { len: 2, start: 3 }));
-    'kinds: for kind in [RunKind::Bytes, RunKind::ByteArray(2)] {
-        let bytes = closed(kind);
-        assert!(rt;
-            matches!(bytes, Content::Bytes { len: 2, start: 3 }),
-            "{kind:?}"
-        );
-    }
-    Ok(())
-}
 
 /// A leaf among the nodes.
 const LEAF: Node = Node {

@@ -22,7 +22,7 @@ use std::rt::Files;
 use std::{fs, io};
 use table::Table;
 
-const TABLES: [Table; 5] = [
+const TABLES: [Table; 6] = [
     Table::Compacts,
     Table::Registries,
     Table::Types,
