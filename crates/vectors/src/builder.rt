@@ -1,11 +1,7 @@
 //! Builders: the calls of each row with their answers, what comes next, and the value they build.
 
-use crate::calls::{checked, written};
-use crate::columns::{depth_of, is_nothing, type_of};
-use crate::registries::Registries;
+use crate::calls::written;
 use crate::steps::{ACCEPTED, Step, step_of};
-use crate::way::Way;
-use crate::wrong::{Wrong, check_same, check_text, differing};
 use decoder_calls::calls::{all_of, shown};
 use registry_core::TypeId;
 use scale_core::Source;
@@ -13,6 +9,10 @@ use scale_tests::builders::counts;
 use scale_tests::building::{Standing, add, what_stands};
 use std::alloc::{AllocError, Global};
 use value_core::{BuildFault, Builder, Limits, Value};
+use vector_tables::columns::{depth_of, is_nothing, type_of};
+use vector_tables::registries::{Registries, checked};
+use vector_tables::way::Way;
+use vector_tables::wrong::{Wrong, check_same, check_text, differing};
 use widths_core::Checked;
 
 /// The most bytes of a value that is decoded again.

@@ -1,24 +1,13 @@
 //! The calls that are asked, but for those that tests share.
 
-use crate::wrong::Wrong;
 use decode_core::Decoder;
 use json_core::print;
-use registry_core::{TypeId, read_registry};
+use registry_core::TypeId;
 use scale_core::Sink;
 use std::alloc::Global;
 use value_core::{Limits, Value, encode};
+use vector_tables::wrong::Wrong;
 use widths_core::Checked;
-
-/// Returns the checked registry of these bytes.
-pub(crate) fn checked(alloc: Global, bytes: &[u8]) -> Result<Checked, Wrong> {
-    let Ok((registry, _)) = read_registry(alloc, bytes) else {
-        return Err(Wrong::Call("read_registry"));
-    };
-    match Checked::new(alloc, registry) {
-        Ok(checked) => Ok(checked),
-        Err(_) => Err(Wrong::Call("Checked::new")),
-    }
-}
 
 /// Returns a decoder of a value of the type.
 pub(crate) fn open<'r>(

@@ -1,14 +1,14 @@
 //! The command: each line of words, run over memory.
 
-use crate::columns::{bytes_of, is_nothing, number_of};
 use crate::values::Row;
-use crate::way::Way;
-use crate::wrong::{Wrong, check_bytes, check_same, check_text};
 use command_runs::ran::{Devices, NONE, Ran};
 use scale_core::Sink;
 use scale_tests::paced::{PacedReader, Then};
 use scale_tool::{Device, Job, JobFault, explain, job, unopened};
 use std::alloc::{AllocError, Global};
+use vector_tables::columns::{bytes_of, is_nothing, number_of};
+use vector_tables::way::Way;
+use vector_tables::wrong::{Wrong, check_bytes, check_same, check_text};
 
 /// How many bytes a device moves in a call at most: one, and all that a row has.
 const STEPS: [usize; 2] = [1, 1 << 20];

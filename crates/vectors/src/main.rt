@@ -4,23 +4,17 @@
 
 mod builder;
 mod calls;
-mod columns;
 mod commands;
-mod compacts;
-mod registries;
 mod shown;
 mod steps;
 mod table;
-mod types;
 mod values;
-mod way;
-mod wrong;
 
-use registries::Registries;
 use std::process::ExitCode;
 use std::rt::Files;
 use std::{fs, io};
 use table::Table;
+use vector_tables::registries::Registries;
 
 const TABLES: [Table; 6] = [
     Table::Compacts,

@@ -2,13 +2,13 @@
 
 use crate::calls::{printed, written};
 use crate::values::Row;
-use crate::way::Way;
-use crate::wrong::{Wrong, check_bytes, check_same, check_text};
 use decoder_calls::calls::{all_of, shown, shown_tree};
 use json_core::json_to_slice;
 use scale_core::Source;
 use std::alloc::Global;
 use value_core::Value;
+use vector_tables::way::Way;
+use vector_tables::wrong::{Wrong, check_bytes, check_same, check_text};
 use widths_core::Checked;
 
 /// The value is the row's, by its counts, its bytes and its text.

@@ -1,9 +1,9 @@
 //! The steps of a builder's row: calls with their answers, and what comes next.
 
-use crate::columns::bytes_of;
-use crate::wrong::Wrong;
 use scale_tests::building::Call;
 use std::alloc::Global;
+use vector_tables::columns::bytes_of;
+use vector_tables::wrong::Wrong;
 
 /// The answer of a call that succeeds.
 pub(crate) const ACCEPTED: &str = "accepted";

@@ -1,10 +1,11 @@
 //! The tables, and how many of their rows are answered as they should be.
 
-use crate::registries::Registries;
-use crate::wrong::Wrong;
-use crate::{builder, commands, compacts, registries, types, values};
+use crate::{builder, commands, values};
 use std::alloc::Global;
 use std::io;
+use vector_tables::registries::Registries;
+use vector_tables::wrong::Wrong;
+use vector_tables::{compacts, registries, types};
 
 /// A table of rows of one kind.
 #[derive(Clone, Copy)]

@@ -1,12 +1,8 @@
 //! Values: each fed to a decoder whole and in pieces, read from readers, and shown by every call that shows one.
 
-use crate::calls::{checked, open};
-use crate::columns::{bytes_of, depth_of, number_of, type_of};
+use crate::calls::open;
 use crate::commands::check_command;
-use crate::registries::Registries;
 use crate::shown::{check_forms, check_value};
-use crate::way::Way;
-use crate::wrong::{Wrong, check_same, check_text};
 use decode_core::{DecodeFault, DecodeReason, Decoder, Progress};
 use decoder_calls::calls::{Holding, all_of, feed, finish, front_of, held, opening_fault};
 use scale_core::Source;
@@ -14,6 +10,10 @@ use scale_tests::paced::{PacedReader, Then};
 use std::alloc::{AllocError, Global};
 use stream_core::StreamFault;
 use value_core::{Limits, Value};
+use vector_tables::columns::{bytes_of, depth_of, number_of, type_of};
+use vector_tables::registries::{Registries, checked};
+use vector_tables::way::Way;
+use vector_tables::wrong::{Wrong, check_same, check_text};
 use widths_core::Checked;
 
 /// The most bytes of a row that is fed in three pieces.

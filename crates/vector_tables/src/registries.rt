@@ -125,7 +125,7 @@ fn check_checked(
 }
 
 /// Checks one row. Returns in how many ways it was asked.
-pub(crate) fn check_row(alloc: Global, columns: &[&str]) -> Result<u64, Wrong> {
+pub fn check_row(alloc: Global, columns: &[&str]) -> Result<u64, Wrong> {
     let [_, prefix, bytes, read, check, lines] = columns else {
         return Err(Wrong::Column("one of six"));
     };
@@ -156,11 +156,11 @@ pub(crate) fn check_row(alloc: Global, columns: &[&str]) -> Result<u64, Wrong> {
 
 /// The registries of the table by their names, in hexadecimal digits.
 #[derive(Drop)]
-pub(crate) struct Registries<'a>(BTreeMap<&'a str, &'a str>);
+pub struct Registries<'a>(BTreeMap<&'a str, &'a str>);
 
 impl<'a> Registries<'a> {
     /// Reads the names of a table's rows.
-    pub(crate) fn new(alloc: Global, text: &'a str) -> Result<Registries<'a>, AllocError> {
+    pub fn new(alloc: Global, text: &'a str) -> Result<Registries<'a>, AllocError> {
         let mut by_name = BTreeMap::new(alloc);
         'lines: for line in text.split('\n') {
             if let Some((name, rest)) = line.split_once('\t') {
@@ -172,11 +172,22 @@ impl<'a> Registries<'a> {
     }
 
     /// Returns the bytes of the registry that the second column of a row names.
-    pub(crate) fn bytes_of(&self, alloc: Global, columns: &[&str]) -> Result<Vec<u8>, Wrong> {
+    pub fn bytes_of(&self, alloc: Global, columns: &[&str]) -> Result<Vec<u8>, Wrong> {
         let name = columns.get(1).copied().unwrap_or("");
         match self.0.get(&name) {
             Some(bytes) => bytes_of(alloc, bytes),
             None => Err(Wrong::Column("a registry's name")),
         }
+    }
+}
+
+/// Returns the checked registry of these bytes.
+pub fn checked(alloc: Global, bytes: &[u8]) -> Result<Checked, Wrong> {
+    let Ok((registry, _)) = read_registry(alloc, bytes) else {
+        return Err(Wrong::Call("read_registry"));
+    };
+    match Checked::new(alloc, registry) {
+        Ok(checked) => Ok(checked),
+        Err(_) => Err(Wrong::Call("Checked::new")),
     }
 }

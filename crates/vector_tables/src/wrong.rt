@@ -7,7 +7,7 @@ use std::fmt::{Debug, Display};
 
 /// Why a row is not answered as it should be.
 #[derive(Debug, Drop)]
-pub(crate) enum Wrong {
+pub enum Wrong {
     /// An allocation failed.
     Memory,
     /// A column that cannot be read, by what it should hold.
@@ -40,12 +40,7 @@ impl Display for Wrong {
 }
 
 /// Returns the error of an answer that differs.
-pub(crate) fn differing(
-    alloc: Global,
-    way: Way,
-    wanted: &str,
-    found: &str,
-) -> Result<Wrong, AllocError> {
+pub fn differing(alloc: Global, way: Way, wanted: &str, found: &str) -> Result<Wrong, AllocError> {
     Ok(Wrong::Answer {
         way,
         wanted: String::from_str(alloc, wanted)?,
@@ -54,7 +49,7 @@ pub(crate) fn differing(
 }
 
 /// Compares two texts.
-pub(crate) fn check_text(alloc: Global, way: Way, wanted: &str, found: &str) -> Result<(), Wrong> {
+pub fn check_text(alloc: Global, way: Way, wanted: &str, found: &str) -> Result<(), Wrong> {
     if wanted == found {
         Ok(())
     } else {
@@ -63,7 +58,7 @@ pub(crate) fn check_text(alloc: Global, way: Way, wanted: &str, found: &str) -> 
 }
 
 /// Compares two answers, and prints them where they differ.
-pub(crate) fn check_same<T: Debug + PartialEq + Drop>(
+pub fn check_same<T: Debug + PartialEq + Drop>(
     alloc: Global,
     way: Way,
     wanted: T,
@@ -78,12 +73,7 @@ pub(crate) fn check_same<T: Debug + PartialEq + Drop>(
 }
 
 /// Compares two runs of bytes.
-pub(crate) fn check_bytes(
-    alloc: Global,
-    way: Way,
-    wanted: &[u8],
-    found: &[u8],
-) -> Result<(), Wrong> {
+pub fn check_bytes(alloc: Global, way: Way, wanted: &[u8], found: &[u8]) -> Result<(), Wrong> {
     if wanted == found {
         return Ok(());
     }

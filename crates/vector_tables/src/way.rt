@@ -2,7 +2,7 @@
 
 /// What is asked of a row's input, and how it is fed.
 #[derive(Clone, Copy, Debug)]
-pub(crate) enum Way {
+pub enum Way {
     ReadCompact,
     CompactLen,
     PutCompact,

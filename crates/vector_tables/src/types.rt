@@ -1,9 +1,8 @@
 //! What a checked registry says of its types: targets of compacts, and arms by their indexes.
 
-use crate::calls::checked;
 use crate::columns::{is_nothing, number_of};
 use crate::compacts::target_of;
-use crate::registries::Registries;
+use crate::registries::{Registries, checked};
 use crate::way::Way;
 use crate::wrong::{Wrong, check_same};
 use registry_core::TypeId;
@@ -103,7 +102,7 @@ fn check_arms(
 }
 
 /// Checks one row. Returns in how many ways it was asked.
-pub(crate) fn check_row(
+pub fn check_row(
     alloc: Global,
     registries: &Registries<'_>,
     columns: &[&str],

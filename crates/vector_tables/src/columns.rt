@@ -4,12 +4,12 @@ use crate::wrong::Wrong;
 use std::alloc::Global;
 
 /// Returns whether the column holds nothing.
-pub(crate) fn is_nothing(column: &str) -> bool {
+pub fn is_nothing(column: &str) -> bool {
     column == "-"
 }
 
 /// Reads bytes in hexadecimal digits; a dash stands for none.
-pub(crate) fn bytes_of(alloc: Global, column: &str) -> Result<Vec<u8>, Wrong> {
+pub fn bytes_of(alloc: Global, column: &str) -> Result<Vec<u8>, Wrong> {
     if is_nothing(column) {
         return Ok(Vec::new(alloc));
     }
@@ -20,16 +20,16 @@ pub(crate) fn bytes_of(alloc: Global, column: &str) -> Result<Vec<u8>, Wrong> {
 }
 
 /// Reads a decimal number.
-pub(crate) fn number_of(column: &str) -> Result<u64, Wrong> {
+pub fn number_of(column: &str) -> Result<u64, Wrong> {
     column.parse::<u64>().ok().ok_or(Wrong::Column("a number"))
 }
 
 /// Reads the position of a type.
-pub(crate) fn type_of(column: &str) -> Result<u32, Wrong> {
+pub fn type_of(column: &str) -> Result<u32, Wrong> {
     column.parse::<u32>().ok().ok_or(Wrong::Column("a type"))
 }
 
 /// Reads a depth limit.
-pub(crate) fn depth_of(column: &str) -> Result<u16, Wrong> {
+pub fn depth_of(column: &str) -> Result<u16, Wrong> {
     column.parse::<u16>().ok().ok_or(Wrong::Column("a depth"))
 }
