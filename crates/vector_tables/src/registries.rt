@@ -8,7 +8,6 @@ use registry_core::{
 };
 use scale_calls::push_type_lines;
 use std::alloc::{AllocError, Global};
-use std::collections::BTreeMap;
 use widths_core::{CheckFault, Checked};
 
 /// What stands before a registry.
@@ -151,33 +150,42 @@ pub fn check_row(alloc: Global, columns: &[&str]) -> Result<u64, Wrong> {
         .ok_or(Wrong::Column("long enough"))?;
     check_written(alloc, &registry, spelling)?;
     check_checked(alloc, registry, spelling, check, lines)?;
-    Ok(3 + check_fronts(alloc, prefix, taken)?)
+    Ok(check_fronts(alloc, prefix, taken)?.saturating_add(3))
 }
 
-/// The registries of the table by their names, in hexadecimal digits.
+/// A registry of the table: its name, and its bytes in hexadecimal digits.
+#[derive(Clone, Copy)]
+struct Named<'a> {
+    name: &'a str,
+    digits: &'a str,
+}
+
+/// The registries of the table.
 #[derive(Drop)]
-pub struct Registries<'a>(BTreeMap<&'a str, &'a str>);
+pub struct Registries<'a>(Vec<Named<'a>>);
 
 impl<'a> Registries<'a> {
     /// Reads the names of a table's rows.
     pub fn new(alloc: Global, text: &'a str) -> Result<Registries<'a>, AllocError> {
-        let mut by_name = BTreeMap::new(alloc);
+        let mut named = Vec::new(alloc);
         'lines: for line in text.split('\n') {
             if let Some((name, rest)) = line.split_once('\t') {
-                let bytes = rest.split('\t').nth(1).unwrap_or("");
-                by_name.insert(name, bytes)?;
+                let digits = rest.split('\t').nth(1).unwrap_or("");
+                named.push(Named { name, digits })?;
             }
         }
-        Ok(Registries(by_name))
+        Ok(Registries(named))
     }
 
     /// Returns the bytes of the registry that the second column of a row names.
     pub fn bytes_of(&self, alloc: Global, columns: &[&str]) -> Result<Vec<u8>, Wrong> {
         let name = columns.get(1).copied().unwrap_or("");
-        match self.0.get(&name) {
-            Some(bytes) => bytes_of(alloc, bytes),
-            None => Err(Wrong::Column("a registry's name")),
+        'registries: for registry in &self.0 {
+            if registry.name == name {
+                return bytes_of(alloc, registry.digits);
+            }
         }
+        Err(Wrong::Column("a registry's name"))
     }
 }
 

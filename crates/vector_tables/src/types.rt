@@ -77,7 +77,7 @@ fn check_targets(alloc: Global, checked: &Checked, column: &str) -> Result<u64, 
         None,
         checked.compact_target(TypeId(id)),
     )?;
-    Ok(u64::from(id) + 1)
+    Ok(u64::from(id).saturating_add(1))
 }
 
 /// Every index of the type leads to the arm that the row names, or to none.

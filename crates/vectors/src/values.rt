@@ -206,7 +206,7 @@ fn check_two_pieces(alloc: Global, checked: &Checked, row: &Row<'_>) -> Result<u
         let (front, rest) = row.bytes.split_at(cut);
         check_pieces(alloc, checked, row, Way::TwoPieces(cut), &[front, rest])?;
     }
-    Ok(row.bytes.len() as u64 + 1)
+    Ok((row.bytes.len() as u64).saturating_add(1))
 }
 
 /// Feeds the bytes of a short row in three pieces at every two places. Returns how many there are.
