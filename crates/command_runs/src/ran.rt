@@ -42,12 +42,7 @@ pub struct Devices<'a> {
 
 impl<'a> Devices<'a> {
     /// Devices over these bytes that move so many bytes a call and do not fail.
-    pub fn over(
-        alloc: Global,
-        registry: &'a [u8],
-        value: &'a [u8],
-        step: usize,
-    ) -> Devices<'a> {
+    pub fn over(alloc: Global, registry: &'a [u8], value: &'a [u8], step: usize) -> Devices<'a> {
         Devices {
             registry: PacedReader::new(registry, step, Then::GoesOn),
             value: PacedReader::new(value, step, Then::GoesOn),
