@@ -96,12 +96,12 @@ fn a_builder_on_a_full_heap_goes_on_when_memory_is_free(rt: HostRuntime) -> Resu
 
 /// A registry, calls that build a part of a value of its type 1, and the counts of nodes and bytes
 /// that the builder then reports.
-type Claim = (&'static [u8], [Call<'static>; 3], (u64, u64));
+type Claim = (&'static [u8], &'static [Call<'static>], (u64, u64));
 
 const CLAIMS: [Claim; 2] = [
     (
         WORDS,
-        [
+        &[
             Call::List(4_294_967_295),
             Call::Unsigned(1),
             Call::Unsigned(2),
@@ -110,7 +110,7 @@ const CLAIMS: [Claim; 2] = [
     ),
     (
         BYTES,
-        [
+        &[
             Call::BytesStart(4_294_967_295),
             Call::BytesPiece(b"\x01"),
             Call::BytesPiece(b"\x02\x03"),
@@ -119,15 +119,27 @@ const CLAIMS: [Claim; 2] = [
     ),
 ];
 
+/// The calls fit a small heap.
+fn check_claim(
+    rt: &impl Abort,
+    alloc: Global,
+    registry: &[u8],
+    calls: &[Call<'_>],
+    wanted: (u64, u64),
+) -> Result<(), Fail> {
+    let checked = checked(alloc, registry)?;
+    let heap = LocalHeap::new(alloc, 4096)?;
+    let mut builder = begun(&heap, &checked, 1, 64)?;
+    add_all(&mut builder, calls)?;
+    assert_eq!(rt; (builder.node_count(), builder.text_bytes()), wanted);
+    Ok(())
+}
+
 // The heap holds what came, and not what the length claims.
 #[test]
 fn a_claimed_length_takes_no_memory(rt: HostRuntime) -> Result<(), Fail> {
     'claims: for (registry, calls, wanted) in CLAIMS {
-        let checked = checked(rt.alloc(), registry)?;
-        let heap = LocalHeap::new(rt.alloc(), 4096)?;
-        let mut builder = begun(&heap, &checked, 1, 64)?;
-        add_all(&mut builder, &calls)?;
-        assert_eq!(rt; (builder.node_count(), builder.text_bytes()), wanted);
+        check_claim(&rt, rt.alloc(), registry, calls, wanted)?;
     }
     Ok(())
 }
