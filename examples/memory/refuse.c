@@ -145,15 +145,16 @@ static int opened(const char *name)
 }
 
 /* Writes how many requests there were to the file that REQUESTS_FILE names, and each place with its first request to the one that
- * PLACES_FILE names. A program that crashes writes none. */
+ * PLACES_FILE names. What writing itself asks for is not among them. A program that crashes writes none. */
 __attribute__((destructor)) static void end(void)
 {
-    int counted = opened("REQUESTS_FILE"), noted = opened("PLACES_FILE");
+    unsigned long all = requests;
+    int counted = opened("REQUESTS_FILE"), noted = opened("PLACES_FILE"), count = places_count;
     if (counted >= 0) {
-        dprintf(counted, "%lu\n", requests);
+        dprintf(counted, "%lu\n", all);
         close(counted);
     }
-    for (int i = 0; i < places_count; i++)
+    for (int i = 0; noted >= 0 && i < count; i++)
         dprintf(noted, "%lx %lu\n", places[i], firsts[i]);
     if (noted >= 0)
         close(noted);
