@@ -1,6 +1,7 @@
 //! Builders whose allocations fail: the error, that nothing changes, and that the same call
 //! succeeds later.
 
+use crate::expect::same;
 use linked_list_allocator::LocalHeap;
 use registry_core::TypeId;
 use scale_tests::builders::{add_all, begun, check_written, counts, finished};
@@ -159,8 +160,8 @@ pub(crate) fn check_refusal<A: Allocator>(
     fault: BuildFault,
     before: Standing,
 ) {
-    assert_eq!(rt; fault, BuildFault::OutOfMemory);
-    assert_eq!(rt; what_stands(builder), before);
+    same(rt, fault, BuildFault::OutOfMemory);
+    same(rt, what_stands(builder), before);
 }
 
 /// Makes the call, and once more if its allocation fails. Returns whether it fails.
@@ -170,7 +171,7 @@ fn add_twice<A: Allocator>(rt: &impl Abort, builder: &mut Builder<'_, A>, call: 
         Ok(()) => false,
         Err(fault) => {
             check_refusal(rt, builder, fault, before);
-            assert_eq!(rt; add(builder, call), Ok(()), "{call:?} made again");
+            same(rt, add(builder, call), Ok(()));
             true
         }
     }
@@ -201,17 +202,13 @@ fn refused_calls<A: Allocator + Clone>(
     let mut builder = begun(memory, checked, 5, 64)?;
     let refused = add_all_twice(rt, &mut builder, &MIXED_CALLS);
     let value = finished(builder)?;
-    assert_eq!(rt; counts(&value), (11, 9));
+    same(rt, counts(&value), (11, 9));
     check_written(alloc, &value, MIXED_BYTES)?;
     Ok(refused)
 }
 
-/// The request for the capacity for all four bytes of the second text, ahead of its first piece. If
-/// it fails, the capacity for the piece alone is requested.
-const AHEAD: u64 = 6;
-
-/// Builds a value where this request fails. One call reports it, or none if the request is made
-/// ahead, and nothing stays allocated. Returns whether the request is made.
+/// Builds a value where this request fails. One call reports it, and nothing stays allocated. Returns
+/// whether the request is made.
 fn is_requested(
     rt: &impl Abort,
     alloc: Global,
@@ -221,10 +218,9 @@ fn is_requested(
 ) -> Result<bool, Fail> {
     let memory = Rationed::new(heap, request);
     let refused = refused_calls(rt, alloc, checked, &memory)?;
-    assert_eq!(rt; heap.used(), 0, "request {request}");
+    same(rt, (request, heap.used()), (request, 0));
     let is_made = memory.is_past_refusal();
-    let wanted = is_made && request != AHEAD;
-    assert_eq!(rt; refused, u32::from(wanted), "request {request}");
+    same(rt, (request, refused), (request, u32::from(is_made)));
     Ok(is_made)
 }
 
@@ -235,7 +231,7 @@ fn a_failed_allocation_changes_nothing(rt: HostRuntime) -> Result<(), Fail> {
     let heap = LocalHeap::new(rt.alloc(), 65_536)?;
     'requests: for request in 1..1000 {
         if !is_requested(&rt, rt.alloc(), &checked, &heap, request)? {
-            assert!(rt; request > 3, "request {request} is not made");
+            same(&rt, (request, request > 3), (request, true));
             return Ok(());
         }
     }
@@ -280,7 +276,7 @@ fn refusals_of(rt: &impl Abort, alloc: Global, row: Row) -> Result<u32, Fail> {
 fn each_kind_of_call_reports_a_failed_allocation(rt: HostRuntime) -> Result<(), Fail> {
     'rows: for row in ROWS {
         let refusals = refusals_of(&rt, rt.alloc(), row)?;
-        assert!(rt; refusals > 0, "no allocation of {:?} fails", row.3);
+        same(&rt, refusals > 0, true);
     }
     Ok(())
 }
@@ -303,7 +299,7 @@ fn a_piece_that_does_not_fit_is_reported_before_a_failed_allocation(
         (whole, None),
     ];
     'calls: for (call, fault) in rows {
-        assert_eq!(rt; add(&mut builder, call).err(), fault, "{call:?}");
+        same(&rt, add(&mut builder, call).err(), fault);
     }
     Ok(())
 }
@@ -316,8 +312,8 @@ fn bad_text_is_reported_before_a_failed_allocation(rt: HostRuntime) -> Result<()
     let calls = [Call::TextStart(1), Call::TextPiece(b"\xff")];
     add_all(&mut builder, &calls)?;
     let reported = add(&mut builder, Call::TextEnd);
-    assert_eq!(rt; reported, Err(BuildFault::BadText { valid: 0 }));
-    assert!(rt; !memory.is_past_refusal());
+    same(&rt, reported, Err(BuildFault::BadText { valid: 0 }));
+    same(&rt, !memory.is_past_refusal(), true);
     Ok(())
 }
 
@@ -338,30 +334,7 @@ fn a_builder_without_memory_is_not_made(rt: HostRuntime) -> Result<(), Fail> {
         let memory = Rationed::new(rt.alloc(), request);
         let reported = Builder::new(memory, &checked, TypeId(ty), depth).err();
         let name = (request, ty, depth);
-        assert_eq!(rt; reported, fault, "request, type, depth: {name:?}");
-    }
-    Ok(())
-}
-
-/// Builds a list of 100 words where this request fails. Returns whether it is made.
-fn is_made(rt: &impl Abort, alloc: Global, checked: &Checked, request: u64) -> Result<bool, Fail> {
-    let memory = Rationed::new(alloc, request);
-    let mut builder = begun(&memory, checked, 1, 64)?;
-    add(&mut builder, Call::List(100))?;
-    add_all(&mut builder, &[Call::Unsigned(1); 100])?;
-    let value = finished(builder)?;
-    assert_eq!(rt; counts(&value), (101, 0), "request {request}");
-    Ok(memory.is_past_refusal())
-}
-
-// The open nodes allocate once, and the nodes for 16 and then twice, ahead, for what the words that
-// are left are expected to bring. If one of these fails, the nodes grow by halves, and none is lost.
-#[test]
-fn an_allocation_ahead_may_fail(rt: HostRuntime) -> Result<(), Fail> {
-    let checked = checked(rt.alloc(), WORDS)?;
-    'requests: for (request, made) in [(3, true), (4, true), (5, false)] {
-        let answer = is_made(&rt, rt.alloc(), &checked, request)?;
-        assert_eq!(rt; answer, made, "request {request}");
+        same(&rt, (name, reported), (name, fault));
     }
     Ok(())
 }

@@ -1,6 +1,7 @@
 //! Builders on heaps that are full, and on heaps that hold no more than what came.
 
 use crate::builder_memory::check_refusal;
+use crate::expect::same;
 use linked_list_allocator::LocalHeap;
 use scale_tests::builders::{add_all, begun};
 use scale_tests::building::{Call, Standing, add, checked, what_stands};
@@ -59,8 +60,8 @@ fn fill(
     }
 }
 
-/// Fills a heap of this size, half of which something else holds, and checks that the call that
-/// failed succeeds once that half is free.
+/// Fills a heap of this size, of which something else holds all but an eighth, and checks that the
+/// call that failed succeeds once that is free.
 fn check_full_heap(
     rt: &impl Abort,
     alloc: Global,
@@ -70,16 +71,16 @@ fn check_full_heap(
 ) -> Result<(), Fail> {
     let (_, ty, opening, call) = row;
     let heap = LocalHeap::new(alloc, size)?;
-    let held: Vec<u8, &LocalHeap> = Vec::with_capacity(&heap, size / 2)?;
+    let held: Vec<u8, &LocalHeap> = Vec::with_capacity(&heap, size - size / 8)?;
     let mut builder = begun(&heap, checked, ty, 64)?;
     add(&mut builder, opening)?;
     fill(rt, &mut builder, call)?;
     drop(held);
     let before = what_stands(&builder);
-    assert_eq!(rt; add(&mut builder, call), Ok(()), "{call:?}");
-    assert!(rt; what_stands(&builder) != before, "{call:?}");
+    same(rt, add(&mut builder, call), Ok(()));
+    same(rt, what_stands(&builder) != before, true);
     drop(builder);
-    assert_eq!(rt; heap.used(), 0, "{call:?}, {size}");
+    same(rt, (size, heap.used()), (size, 0));
     Ok(())
 }
 
@@ -87,7 +88,7 @@ fn check_full_heap(
 fn a_builder_on_a_full_heap_goes_on_when_memory_is_free(rt: HostRuntime) -> Result<(), Fail> {
     'rows: for row in ROWS {
         let checked = checked(rt.alloc(), row.0)?;
-        'sizes: for size in [4096, 65_536] {
+        'sizes: for size in [16_384, 65_536] {
             check_full_heap(&rt, rt.alloc(), &checked, row, size)?;
         }
     }
@@ -131,7 +132,7 @@ fn check_claim(
     let heap = LocalHeap::new(alloc, 4096)?;
     let mut builder = begun(&heap, &checked, 1, 64)?;
     add_all(&mut builder, calls)?;
-    assert_eq!(rt; (builder.node_count(), builder.text_bytes()), wanted);
+    same(rt, (builder.node_count(), builder.text_bytes()), wanted);
     Ok(())
 }
 

@@ -5,6 +5,8 @@
 #[cfg(test)]
 mod builder_memory;
 #[cfg(test)]
+mod expect;
+#[cfg(test)]
 mod full_heaps;
 #[cfg(test)]
 mod open_runs;

@@ -1,5 +1,6 @@
 //! Texts and runs of bytes that come to a builder in pieces: their counts, and a long piece.
 
+use crate::expect::same;
 use scale_tests::builders::{add_all, begun, counts, finished};
 use scale_tests::building::{Call, add, checked};
 use scale_tests::registries::{TEXT, TEXT_AND_BYTES, TWO_TEXTS};
@@ -46,7 +47,7 @@ fn check_steps(
     'steps: for (call, nodes, texts) in steps {
         add(&mut builder, *call)?;
         let reported = (builder.node_count(), builder.text_bytes());
-        assert_eq!(rt; reported, (*nodes, *texts), "{call:?}");
+        same(rt, reported, (*nodes, *texts));
     }
     Ok(())
 }
@@ -66,11 +67,11 @@ fn a_piece_of_one_mebibyte_is_added(rt: HostRuntime) -> Result<(), Fail> {
     let calls = [Call::TextStart(1_048_576), Call::TextPiece(&letters)];
     add_all(&mut builder, &calls)?;
     let reported = (builder.node_count(), builder.text_bytes());
-    assert_eq!(rt; reported, (0, 1_048_576));
+    same(&rt, reported, (0, 1_048_576));
     add(&mut builder, Call::TextEnd)?;
     let value = finished(builder)?;
-    assert_eq!(rt; counts(&value), (1, 1_048_576));
+    same(&rt, counts(&value), (1, 1_048_576));
     let text = value.root().text().ok_or("no text")?;
-    assert!(rt; text.as_bytes() == letters.as_slice());
+    same(&rt, text.as_bytes() == letters.as_slice(), true);
     Ok(())
 }

@@ -1,5 +1,6 @@
 //! The whole help of the program and of its subcommands, and the longest line of words.
 
+use crate::expect::same;
 use scale_core::Sink;
 use scale_tool::{Job, explain, job};
 use std::test::Fail;
@@ -87,11 +88,15 @@ fn the_whole_help_is_written(rt: HostRuntime) -> Result<(), Fail> {
         };
         let mut out = Sink::new(Vec::new(rt.alloc()));
         let mut err = Sink::new(Vec::new(rt.alloc()));
-        assert_eq!(rt; explain(fault, &mut out, &mut err), 0, "{words:?}");
+        same(&rt, (words, explain(fault, &mut out, &mut err)), (words, 0));
         let mut help = String::from_str(rt.alloc(), front)?;
         help.push_str(NOTES)?;
-        assert_eq!(rt; out.into_inner().as_slice(), help.as_bytes(), "{words:?}");
-        assert_eq!(rt; err.into_inner().len(), 0, "{words:?}");
+        same(
+            &rt,
+            (words, out.into_inner().as_slice()),
+            (words, help.as_bytes()),
+        );
+        same(&rt, (words, err.into_inner().len()), (words, 0));
     }
     Ok(())
 }
@@ -118,9 +123,9 @@ fn ten_words_name_a_value(rt: HostRuntime) -> Result<(), Fail> {
         hex: true,
         depth: 16,
     };
-    assert_eq!(rt; found, wanted);
-    assert_eq!(rt; file.as_str(), "r");
+    same(&rt, found, wanted);
+    same(&rt, file.as_str(), "r");
     let value_file = value_file.ok_or("a value's file")?;
-    assert_eq!(rt; value_file.as_str(), "-v");
+    same(&rt, value_file.as_str(), "-v");
     Ok(())
 }

@@ -1,5 +1,6 @@
 //! The command's engine at its limits: the greatest depth, the longest line, and the most bytes of a value.
 
+use crate::expect::same;
 use command_runs::jobs::{decode, served};
 use scale_core::{Sink, Source, write_compact};
 use scale_tests::paced::LetterReader;
@@ -20,7 +21,11 @@ fn answer(rt: &impl Abort, alloc: Global, job: Job, registry: &[u8], value: &[u8
     let mut err = Sink::new(Vec::new(alloc));
     let job = served(job);
     let status = run(alloc, job, &mut registry, &mut value, &mut out, &mut err);
-    assert!(rt; !registry.failed() && !value.failed() && !out.failed());
+    same(
+        rt,
+        !registry.failed() && !value.failed() && !out.failed(),
+        true,
+    );
     (status, out.into_inner(), err.into_inner())
 }
 
@@ -63,9 +68,9 @@ fn line_of_deepest(alloc: Global) -> Result<Vec<u8>, AllocError> {
 fn the_deepest_value_is_shown(rt: HostRuntime) -> Result<(), Fail> {
     let value = deepest(rt.alloc())?;
     let (status, out, err) = answer(&rt, rt.alloc(), within(1024), CHAIN, &value);
-    assert_eq!(rt; (status, err.len()), (0, 0));
+    same(&rt, (status, err.len()), (0, 0));
     let line = line_of_deepest(rt.alloc())?;
-    assert!(rt; out.as_slice() == line.as_slice());
+    same(&rt, out.as_slice() == line.as_slice(), true);
     Ok(())
 }
 
@@ -73,9 +78,9 @@ fn the_deepest_value_is_shown(rt: HostRuntime) -> Result<(), Fail> {
 fn a_value_below_the_depth_is_refused(rt: HostRuntime) -> Result<(), Fail> {
     let value = deepest(rt.alloc())?;
     let (status, out, err) = answer(&rt, rt.alloc(), within(1023), CHAIN, &value);
-    assert_eq!(rt; (status, out.len()), (1, 0));
+    same(&rt, (status, out.len()), (1, 0));
     let reported = b"scaleview: value: TooDeep at 1024\n".as_slice();
-    assert_eq!(rt; err.as_slice(), reported);
+    same(&rt, err.as_slice(), reported);
     Ok(())
 }
 
@@ -98,9 +103,9 @@ fn the_longest_refusal_is_reported_whole(rt: HostRuntime) -> Result<(), Fail> {
     let registry = long_registry(rt.alloc())?;
     let job = Job::Types { metadata: false };
     let (status, out, err) = answer(&rt, rt.alloc(), job, &registry, &[]);
-    assert_eq!(rt; (status, out.len()), (1, 0));
+    same(&rt, (status, out.len()), (1, 0));
     let reported = b"scaleview: check: UnknownType 4294967295 in type 65536\n".as_slice();
-    assert_eq!(rt; err.as_slice(), reported);
+    same(&rt, err.as_slice(), reported);
     Ok(())
 }
 
@@ -125,10 +130,14 @@ fn check_letters(
         &mut out,
         &mut err,
     );
-    assert_eq!(rt; status, u8::from(written == 0), "{letters} letters");
+    same(rt, (letters, status), (letters, u8::from(written == 0)));
     let reported = err.into_inner();
-    assert_eq!(rt; reported.as_slice(), line.as_bytes(), "{letters} letters");
-    assert_eq!(rt; out.into_inner().len(), written, "{letters} letters");
+    same(
+        rt,
+        (letters, reported.as_slice()),
+        (letters, line.as_bytes()),
+    );
+    same(rt, (letters, out.into_inner().len()), (letters, written));
 }
 
 /// The length of a text that takes all bytes that are allowed, with its own four.

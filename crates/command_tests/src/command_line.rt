@@ -1,5 +1,6 @@
 //! Words that no row can hold, since they have blanks in them, and files that do not open.
 
+use crate::expect::same;
 use scale_core::Sink;
 use scale_tool::{Device, explain, job, unopened};
 use std::alloc::Global;
@@ -11,13 +12,13 @@ fn check_usage(rt: &impl Abort, alloc: Global, words: &[&str]) -> Result<(), Fai
     let fault = job(alloc, words).err().ok_or("a fault")?;
     let mut out = Sink::new(Vec::new(alloc));
     let mut err = Sink::new(Vec::new(alloc));
-    assert_eq!(rt; explain(fault, &mut out, &mut err), 2, "{words:?}");
+    same(rt, (words, explain(fault, &mut out, &mut err)), (words, 2));
     let reported = err.into_inner();
     let line = b"scaleview: usage\n".as_slice();
-    assert_eq!(rt;
-        (out.into_inner().len(), reported.as_slice()),
-        (0, line),
-        "{words:?}"
+    same(
+        rt,
+        (words, (out.into_inner().len(), reported.as_slice())),
+        (words, (0, line)),
     );
     Ok(())
 }
@@ -40,8 +41,8 @@ fn a_file_that_does_not_open_is_reported(rt: HostRuntime) {
     ];
     'rows: for (device, line) in rows {
         let mut err = Sink::new(Vec::new(rt.alloc()));
-        assert_eq!(rt; unopened(device, &mut err), 3);
+        same(&rt, unopened(device, &mut err), 3);
         let reported = err.into_inner();
-        assert_eq!(rt; reported.as_slice(), line.as_bytes());
+        same(&rt, reported.as_slice(), line.as_bytes());
     }
 }

@@ -1,5 +1,6 @@
 //! Devices that fail under the command, at each of their calls: what it answers, and what stands where it wrote.
 
+use crate::expect::same;
 use command_runs::jobs::decode;
 use command_runs::ran::{Devices, Failed, NONE, Ran};
 use scale_tests::paced::{PacedReader, PacedWriter, Then};
@@ -48,9 +49,9 @@ fn wanted(alloc: Global, row: &Row) -> Result<Ran, AllocError> {
 /// The row's run answered this.
 fn check_answer(rt: &impl Abort, row: &Row, found: &Ran, status: u8, out: &[u8], err: &[u8]) {
     let name = row.name;
-    assert_eq!(rt; found.status, status, "the status of {name}");
-    assert_eq!(rt; found.out.as_slice(), out, "what {name} writes");
-    assert_eq!(rt; found.err.as_slice(), err, "what {name} reports");
+    same(rt, (name, found.status), (name, status));
+    same(rt, (name, found.out.as_slice()), (name, out));
+    same(rt, (name, found.err.as_slice()), (name, err));
 }
 
 /// The row's run answered what was wanted.
@@ -64,7 +65,7 @@ fn check_registry_front(rt: &impl Abort, alloc: Global, row: &Row, front: &'stat
     devices.registry = PacedReader::new(front, 1, Then::Fails);
     devices.value = PacedReader::new(b"", 1, Then::Fails);
     let (ran, failed) = devices.run(alloc, job_of(row));
-    assert_eq!(rt; failed, REGISTRY, "{}", row.name);
+    same(rt, (row.name, failed), (row.name, REGISTRY));
     check_answer(rt, row, &ran, 3, b"", b"scaleview: device: registry\n");
 }
 
@@ -94,7 +95,7 @@ fn check_value_front(
     if failed == VALUE {
         check_answer(rt, row, &ran, 3, b"", b"scaleview: device: value\n");
     } else {
-        assert_eq!(rt; (failed, row.json), (NONE, ""), "{}", row.name);
+        same(rt, (row.name, (failed, row.json)), (row.name, (NONE, "")));
         check_wanted(rt, row, &ran, wanted);
     }
 }
@@ -122,7 +123,7 @@ fn check_output(rt: &impl Abort, alloc: Global, row: &Row, front: &[u8], then: T
     let mut devices = Devices::over(alloc, row.registry, row.bytes, 4096);
     devices.out = PacedWriter::new(alloc, front.len(), 4096, then);
     let (ran, failed) = devices.run(alloc, job_of(row));
-    assert_eq!(rt; failed, OUT, "{}", row.name);
+    same(rt, (row.name, failed), (row.name, OUT));
     check_answer(rt, row, &ran, 3, front, b"scaleview: device: output\n");
 }
 
@@ -150,7 +151,7 @@ fn check_error(rt: &impl Abort, alloc: Global, row: &Row, wanted: &Ran, front: &
     let mut devices = Devices::over(alloc, row.registry, row.bytes, 1);
     devices.err = PacedWriter::new(alloc, front.len(), 1, then);
     let (ran, failed) = devices.run(alloc, job_of(row));
-    assert_eq!(rt; failed, ERR, "{}", row.name);
+    same(rt, (row.name, failed), (row.name, ERR));
     check_answer(rt, row, &ran, wanted.status, &wanted.out, front);
 }
 
@@ -187,14 +188,16 @@ fn check_both(rt: &impl Abort, alloc: Global, row: &Row, device: Failed) {
         devices.out = PacedWriter::new(alloc, 0, 1, Then::Fails);
     }
     let (ran, failed) = devices.run(alloc, job_of(row));
-    assert_eq!(rt;
-        failed,
-        Failed {
-            err: true,
-            ..device
-        },
-        "{}",
-        row.name
+    same(
+        rt,
+        (row.name, failed),
+        (
+            row.name,
+            Failed {
+                err: true,
+                ..device
+            },
+        ),
     );
     check_answer(rt, row, &ran, 3, b"", b"");
 }
@@ -218,11 +221,12 @@ fn check_types_front(rt: &impl Abort, alloc: Global, front: &[u8]) {
     let mut devices = Devices::over(alloc, UNITS, b"", 4096);
     devices.out = PacedWriter::new(alloc, front.len(), 4096, Then::Fails);
     let (ran, failed) = devices.run(alloc, Job::Types { metadata: false });
-    assert!(rt; failed.out, "{front:?}");
-    assert_eq!(rt; (ran.status, ran.out.as_slice()), (3, front));
-    assert_eq!(rt;
+    same(rt, (front, failed.out), (front, true));
+    same(rt, (ran.status, ran.out.as_slice()), (3, front));
+    same(
+        rt,
         ran.err.as_slice(),
-        b"scaleview: device: output\n".as_slice()
+        b"scaleview: device: output\n".as_slice(),
     );
 }
 

@@ -8,4 +8,6 @@ mod command_limits;
 #[cfg(test)]
 mod command_line;
 #[cfg(test)]
+mod expect;
+#[cfg(test)]
 mod failing_devices;

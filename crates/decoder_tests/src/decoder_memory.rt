@@ -1,5 +1,6 @@
 //! Decoders whose memory is refused: where one is made, where it is fed, and where it is finished.
 
+use crate::expect::same;
 use decode_core::{DecodeFault, DecodeReason, Decoder, OpenFault, Progress};
 use decoder_calls::calls::{Holding, feed, finish, held, open, opening_fault};
 use linked_list_allocator::LocalHeap;
@@ -25,7 +26,7 @@ pub(crate) const REFUSED: DecodeFault = DecodeFault {
 #[test]
 fn a_failed_allocation_is_printed_by_its_name(rt: HostRuntime) -> Result<(), Fail> {
     let line = format!(in rt.alloc(); "{REFUSED}")?;
-    assert_eq!(rt; line.as_str(), "OutOfMemory at 0");
+    same(&rt, line.as_str(), "OutOfMemory at 0");
     Ok(())
 }
 
@@ -37,7 +38,7 @@ fn memory_that_is_refused_at_first_makes_no_decoder(rt: HostRuntime) -> Result<(
     'requests: for (request, fault) in [(1, refused), (2, refused), (3, None), (0, None)] {
         let memory = Rationed::new(rt.alloc(), request);
         let reported = opening_fault(memory, &checked, 5, AMPLE);
-        assert_eq!(rt; reported, fault, "request {request}");
+        same(&rt, (request, reported), (request, fault));
     }
     Ok(())
 }
@@ -58,7 +59,7 @@ fn place_of_refusal<A: Allocator>(rt: &impl Abort, decoder: &mut Decoder<'_, A>)
         if reported == Err(REFUSED) {
             return Some(place as u64);
         }
-        assert_eq!(rt; reported, Ok(wanted_progress(place)), "byte {place}");
+        same(rt, (place, reported), (place, Ok(wanted_progress(place))));
     }
     None
 }
@@ -68,21 +69,26 @@ fn check_refused<A: Allocator>(rt: &impl Abort, decoder: Decoder<'_, A>, place: 
     let mut decoder = decoder;
     let taken = held(&decoder).taken;
     // The last byte of a run is taken before memory is wanted for its node.
-    assert!(rt;
-        taken == place || taken == place.saturating_add(1),
-        "byte {place}"
+    same(
+        rt,
+        (place, taken == place || taken == place.saturating_add(1)),
+        (place, true),
     );
     let nothing = Holding {
         nodes: 0,
         texts: 0,
         taken,
     };
-    assert_eq!(rt; held(&decoder), nothing, "byte {place}");
+    same(rt, (place, held(&decoder)), (place, nothing));
     'pieces: for piece in [b"".as_slice(), NESTED_BYTES] {
-        assert_eq!(rt; feed(&mut decoder, piece), Err(REFUSED), "byte {place}");
-        assert_eq!(rt; held(&decoder), nothing, "byte {place}");
+        same(
+            rt,
+            (place, feed(&mut decoder, piece)),
+            (place, Err(REFUSED)),
+        );
+        same(rt, (place, held(&decoder)), (place, nothing));
     }
-    assert_eq!(rt; finish(decoder).err(), Some(REFUSED), "byte {place}");
+    same(rt, (place, finish(decoder).err()), (place, Some(REFUSED)));
 }
 
 /// The decoder has the nested value.
@@ -96,10 +102,10 @@ fn check_untroubled<A: Allocator>(
         texts: 9,
         taken: 19,
     };
-    assert_eq!(rt; held(&decoder), whole);
+    same(rt, held(&decoder), whole);
     let value = finish(decoder).ok().ok_or("no value")?;
     let bytes = written(alloc, &value)?;
-    assert_eq!(rt; bytes.as_slice(), NESTED_BYTES);
+    same(rt, bytes.as_slice(), NESTED_BYTES);
     Ok(())
 }
 
@@ -133,8 +139,8 @@ fn check_feeds(
 ) -> Result<bool, Fail> {
     let memory = Rationed::new(heap, request);
     let refused = is_refused(rt, alloc, checked, &memory)?;
-    assert_eq!(rt; refused, memory.is_past_refusal(), "request {request}");
-    assert_eq!(rt; heap.used(), 0, "what is kept behind request {request}");
+    same(rt, (request, refused), (request, memory.is_past_refusal()));
+    same(rt, (request, heap.used()), (request, 0));
     Ok(refused)
 }
 
@@ -145,36 +151,11 @@ fn each_refused_growth_ends_the_decoder(rt: HostRuntime) -> Result<(), Fail> {
     let heap = LocalHeap::new(rt.alloc(), 65_536)?;
     'requests: for request in 1..1000 {
         if !check_feeds(&rt, rt.alloc(), &checked, &heap, request)? {
-            assert!(rt; request > 3, "{request} requests were made");
+            same(&rt, (request, request > 3), (request, true));
             return Ok(());
         }
     }
     Err("each run is refused memory")?
-}
-
-/// Feeds a long value in pieces of so many bytes, over memory of which this request is refused: was it made, and the value refused?
-fn long_value(
-    rt: &impl Abort,
-    alloc: Global,
-    long: &Long<'_>,
-    piece: usize,
-    request: u64,
-) -> Result<(bool, bool), Fail> {
-    let memory = Rationed::new(alloc, request);
-    let mut decoder = open(&memory, long.checked, long.ty, AMPLE)?;
-    'pieces: for bytes in long.bytes.chunks(piece.max(1)) {
-        if let Err(fault) = feed(&mut decoder, bytes) {
-            assert_eq!(rt; fault, REFUSED, "{piece}, request {request}");
-            return Ok((memory.is_past_refusal(), true));
-        }
-    }
-    assert_eq!(rt;
-        held(&decoder).nodes,
-        long.nodes,
-        "{piece}, request {request}"
-    );
-    finish(decoder).ok().ok_or("no value")?;
-    Ok((memory.is_past_refusal(), false))
 }
 
 /// A value that is long for its registry, and how many nodes it has.
@@ -186,9 +167,40 @@ struct Long<'c> {
     nodes: u64,
 }
 
+/// Feeds a long value in pieces of so many bytes, over memory of which this request is refused: was it made? Then the value is refused.
+fn check_long(
+    rt: &impl Abort,
+    alloc: Global,
+    long: &Long<'_>,
+    piece: usize,
+    request: u64,
+) -> Result<bool, Fail> {
+    let memory = Rationed::new(alloc, request);
+    let mut decoder = open(&memory, long.checked, long.ty, AMPLE)?;
+    'pieces: for bytes in long.bytes.chunks(piece.max(1)) {
+        if let Err(fault) = feed(&mut decoder, bytes) {
+            same(rt, ((piece, request), fault), ((piece, request), REFUSED));
+            same(
+                rt,
+                ((piece, request), memory.is_past_refusal()),
+                ((piece, request), true),
+            );
+            return Ok(true);
+        }
+    }
+    same(
+        rt,
+        ((piece, request), !memory.is_past_refusal()),
+        ((piece, request), true),
+    );
+    same(rt, (piece, held(&decoder).nodes), (piece, long.nodes));
+    finish(decoder).ok().ok_or("no value")?;
+    Ok(false)
+}
+
 // The list of open nodes takes memory once, and that of nodes for 16 at first. Then there is room for what the words that are left are
-// expected to bring, in five steps of at most five times as many: growing would take twelve requests more. What is expected
-// is not wanted yet, so a value goes on where that room is refused. How the bytes are cut makes no difference.
+// expected to bring, in six steps of at most four times as many: growing would take twelve requests more. How the bytes are cut
+// makes no difference.
 #[test]
 fn a_long_list_makes_room_ahead(rt: HostRuntime) -> Result<(), Fail> {
     let checked = checked(rt.alloc(), WORDS)?;
@@ -204,17 +216,20 @@ fn a_long_list_makes_room_ahead(rt: HostRuntime) -> Result<(), Fail> {
         nodes: 20_001,
     };
     'pieces: for piece in [50_000, 4096, 7] {
-        'requests: for request in 1..=8 {
-            let answer = long_value(&rt, rt.alloc(), &long, piece, request)?;
-            let wanted = (request <= 7, request <= 2);
-            assert_eq!(rt; answer, wanted, "{piece}, request {request}");
+        'requests: for request in 1..=9 {
+            let made = check_long(&rt, rt.alloc(), &long, piece, request)?;
+            same(
+                &rt,
+                ((piece, request), made),
+                ((piece, request), request <= 8),
+            );
         }
     }
     Ok(())
 }
 
 // The bytes of a text take memory for those of its first piece, and its node does. Between them there is room three times for what the
-// text lacks, at most for four times as many bytes as there are.
+// text lacks, at most for three times as many bytes as there are.
 #[test]
 fn a_long_text_in_pieces_makes_room_ahead(rt: HostRuntime) -> Result<(), Fail> {
     let checked = checked(rt.alloc(), TEXT)?;
@@ -230,9 +245,8 @@ fn a_long_text_in_pieces_makes_room_ahead(rt: HostRuntime) -> Result<(), Fail> {
         nodes: 1,
     };
     'requests: for request in 1..=6 {
-        let answer = long_value(&rt, rt.alloc(), &long, 1000, request)?;
-        let wanted = (request <= 5, request == 1 || request == 5);
-        assert_eq!(rt; answer, wanted, "request {request}");
+        let made = check_long(&rt, rt.alloc(), &long, 1000, request)?;
+        same(&rt, (request, made), (request, request <= 5));
     }
     Ok(())
 }
@@ -251,8 +265,8 @@ fn check_finish(
     let reported = finish(decoder).err();
     let refused = memory.is_past_refusal();
     let wanted = if refused { Some(REFUSED) } else { untroubled };
-    assert_eq!(rt; reported, wanted, "request {request}");
-    assert_eq!(rt; heap.used(), 0, "what is kept behind request {request}");
+    same(rt, (request, reported), (request, wanted));
+    same(rt, (request, heap.used()), (request, 0));
     Ok(refused)
 }
 
@@ -267,7 +281,11 @@ fn check_finishes(
     let heap = LocalHeap::new(alloc, 65_536)?;
     'requests: for request in 1..1000 {
         if !check_finish(rt, checked, &heap, ty, request, untroubled)? {
-            assert!(rt; request > 1, "no request was made");
+            same(
+                rt,
+                ("no request was made", request > 1),
+                ("no request was made", true),
+            );
             return Ok(());
         }
     }

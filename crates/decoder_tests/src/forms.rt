@@ -1,5 +1,6 @@
 //! Compact integers and runs that stand complete on the front of a piece.
 
+use crate::expect::same;
 use form_core::{PrefixedRun, whole_compact, whole_run};
 use scale_core::Target;
 use std::test::Fail;
@@ -10,18 +11,22 @@ fn a_run_that_stands_whole_on_the_front_is_lent(rt: HostRuntime) -> Result<(), F
     let Some((Leaf::Text(text), 3)) = whole_run(PrefixedRun::Text, &[8, 97, 98, 99]) else {
         return Err("a text of two bytes, and one that follows".into());
     };
-    assert_eq!(rt; text, [97, 98].as_slice());
+    same(&rt, text, [97, 98].as_slice());
     let Some((Leaf::Bytes(bytes), 3)) = whole_run(PrefixedRun::Bytes, &[8, 255, 0]) else {
         return Err("two bytes".into());
     };
-    assert_eq!(rt; bytes, [255, 0].as_slice());
+    same(&rt, bytes, [255, 0].as_slice());
     Ok(())
 }
 
 #[test]
 fn a_complete_compact_is_found_with_and_without_bytes_after_it(rt: HostRuntime) {
     let piece = [253, 255, 9, 9, 9, 9, 9, 9, 9];
-    assert_eq!(rt; whole_compact(Target::U32, &piece), Some((16_383, 2)));
-    assert_eq!(rt; whole_compact(Target::U32, &piece[..2]), Some((16_383, 2)));
-    assert_eq!(rt; whole_compact(Target::U32, &piece[..1]), None);
+    same(&rt, whole_compact(Target::U32, &piece), Some((16_383, 2)));
+    same(
+        &rt,
+        whole_compact(Target::U32, &piece[..2]),
+        Some((16_383, 2)),
+    );
+    same(&rt, whole_compact(Target::U32, &piece[..1]), None);
 }

@@ -1,6 +1,7 @@
 //! Decoders over heaps of fixed size: a length that is claimed takes no memory, and what does not fit is refused for good.
 
 use crate::decoder_memory::REFUSED;
+use crate::expect::same;
 use decode_core::{DecodeFault, DecodeReason, Decoder, Progress};
 use decoder_calls::calls::{Holding, feed, finish, held, open, printed, shown_tree};
 use linked_list_allocator::LocalHeap;
@@ -26,8 +27,12 @@ fn empty_value<'r>(
     };
     let mut decoder = open(heap, checked, 40, AMPLE)?;
     'pieces: for piece in [b"".as_slice(), b"\x00"] {
-        assert_eq!(rt; feed(&mut decoder, piece), Ok(Progress::Done { used: 0 }));
-        assert_eq!(rt; held(&decoder), whole);
+        same(
+            rt,
+            feed(&mut decoder, piece),
+            Ok(Progress::Done { used: 0 }),
+        );
+        same(rt, held(&decoder), whole);
     }
     let value = finish(decoder).ok().ok_or("no value")?;
     Ok(value)
@@ -39,9 +44,9 @@ fn check_empty<A: Allocator>(
     alloc: Global,
     value: &Value<'_, A>,
 ) -> Result<(), Fail> {
-    assert_eq!(rt; (value.node_count(), value.text_bytes()), (1, 0));
+    same(rt, (value.node_count(), value.text_bytes()), (1, 0));
     let bytes = written(alloc, value)?;
-    assert_eq!(rt; bytes.len(), 0);
+    same(rt, bytes.len(), 0);
     Ok(())
 }
 
@@ -52,9 +57,9 @@ fn check_null<A: Allocator>(
     value: &Value<'_, A>,
 ) -> Result<(), Fail> {
     let tree = shown_tree(alloc, value)?;
-    assert_eq!(rt; tree.as_str(), "null");
+    same(rt, tree.as_str(), "null");
     let text = printed(alloc, value)?;
-    assert_eq!(rt; text.as_slice(), b"null".as_slice());
+    same(rt, text.as_slice(), b"null".as_slice());
     Ok(())
 }
 
@@ -67,7 +72,7 @@ fn a_value_of_two_to_the_fortieth_units_is_one_node(rt: HostRuntime) -> Result<(
     check_empty(&rt, rt.alloc(), &value)?;
     check_null(&rt, rt.alloc(), &value)?;
     drop(value);
-    assert_eq!(rt; heap.used(), 0);
+    same(&rt, heap.used(), 0);
     Ok(())
 }
 
@@ -81,19 +86,19 @@ fn check_claim(
 ) -> Result<(), Fail> {
     let taken = bytes.len() as u64;
     let mut decoder = open(heap, checked, 1, AMPLE)?;
-    assert_eq!(rt; feed(&mut decoder, bytes), Ok(Progress::More));
+    same(rt, feed(&mut decoder, bytes), Ok(Progress::More));
     let wanted = Holding {
         nodes,
         texts,
         taken,
     };
-    assert_eq!(rt; held(&decoder), wanted);
+    same(rt, held(&decoder), wanted);
     let cut = DecodeFault {
         reason: DecodeReason::Truncated,
         at: taken,
     };
-    assert_eq!(rt; finish(decoder).err(), Some(cut));
-    assert_eq!(rt; heap.used(), 0);
+    same(rt, finish(decoder).err(), Some(cut));
+    same(rt, heap.used(), 0);
     Ok(())
 }
 
@@ -148,9 +153,9 @@ fn many_bytes(alloc: Global) -> Result<Vec<u8>, AllocError> {
 
 /// The piece is refused memory, and nothing is held.
 fn check_refused<A: Allocator>(rt: &impl Abort, decoder: &mut Decoder<'_, A>, piece: &[u8]) {
-    assert_eq!(rt; feed(decoder, piece), Err(REFUSED));
+    same(rt, feed(decoder, piece), Err(REFUSED));
     let Holding { nodes, texts, .. } = held(decoder);
-    assert_eq!(rt; (nodes, texts), (0, 0));
+    same(rt, (nodes, texts), (0, 0));
 }
 
 /// A decoder to which more bytes are fed than fit the heap.
@@ -164,7 +169,7 @@ fn check_full(
     'pieces: for piece in [many, b"", b"\x07", many] {
         check_refused(rt, &mut decoder, piece);
     }
-    assert_eq!(rt; finish(decoder).err(), Some(REFUSED));
+    same(rt, finish(decoder).err(), Some(REFUSED));
     Ok(())
 }
 
@@ -173,9 +178,9 @@ fn check_next(rt: &impl Abort, alloc: Global, heap: &LocalHeap) -> Result<(), Fa
     let checked = checked(alloc, U8)?;
     let mut decoder = open(heap, &checked, 0, AMPLE)?;
     let reported = feed(&mut decoder, b"\x2a");
-    assert_eq!(rt; reported, Ok(Progress::Done { used: 1 }));
+    same(rt, reported, Ok(Progress::Done { used: 1 }));
     let value = finish(decoder).ok().ok_or("no value")?;
-    assert_eq!(rt; value.root().what(), What::Unsigned(42));
+    same(rt, value.root().what(), What::Unsigned(42));
     Ok(())
 }
 

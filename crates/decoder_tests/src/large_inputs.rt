@@ -1,5 +1,6 @@
 //! Inputs that are large: a decoder to which memory is granted answers them, and never says that it was refused.
 
+use crate::expect::same;
 use decode_core::{DecodeFault, DecodeReason, Decoder, Progress};
 use decoder_calls::calls::{Holding, feed, finish, held, open, printed, shown};
 use scale_core::write_compact;
@@ -33,8 +34,8 @@ fn value_of<'r>(
     let used = bytes.len() as u64;
     let mut decoder = open(alloc, checked, ty, limits)?;
     let reported = feed(&mut decoder, bytes);
-    assert_eq!(rt; reported, Ok(Progress::Done { used }));
-    assert_eq!(rt; held(&decoder).taken, used);
+    same(rt, reported, Ok(Progress::Done { used }));
+    same(rt, held(&decoder).taken, used);
     let value = finish(decoder).ok().ok_or("no value")?;
     Ok(value)
 }
@@ -51,13 +52,13 @@ fn check_held(
     let taken = bytes.len() as u64;
     let mut decoder = open(alloc, checked, ty, AMPLE)?;
     let reported = feed(&mut decoder, bytes);
-    assert_eq!(rt; reported, Ok(Progress::Done { used: taken }));
+    same(rt, reported, Ok(Progress::Done { used: taken }));
     let wanted = Holding {
         nodes,
         texts,
         taken,
     };
-    assert_eq!(rt; held(&decoder), wanted, "{taken} bytes");
+    same(rt, (taken, held(&decoder)), (taken, wanted));
     Ok(())
 }
 
@@ -72,9 +73,9 @@ fn check_feed(
 ) -> Result<(), Fail> {
     check_held(rt, alloc, checked, ty, bytes, counts)?;
     let value = value_of(rt, alloc, checked, (ty, AMPLE), bytes)?;
-    assert_eq!(rt; (value.node_count(), value.text_bytes()), counts);
+    same(rt, (value.node_count(), value.text_bytes()), counts);
     let back = written(alloc, &value)?;
-    assert!(rt; back.as_slice() == bytes);
+    same(rt, back.as_slice() == bytes, true);
     Ok(())
 }
 
@@ -85,7 +86,7 @@ fn a_long_piece_is_taken_at_once(rt: HostRuntime) -> Result<(), Fail> {
     let text = checked(rt.alloc(), TEXT)?;
     'lengths: for (count, len) in [(4_998, 5_000), (1_048_572, 1_048_576)] {
         let input = letters(rt.alloc(), count, count)?;
-        assert_eq!(rt; input.len(), len);
+        same(&rt, input.len(), len);
         let counts = (1, u64::from(count));
         check_feed(&rt, rt.alloc(), &bytes, 1, &input, counts)?;
         check_feed(&rt, rt.alloc(), &text, 0, &input, counts)?;
@@ -118,10 +119,10 @@ fn arms(alloc: Global, count: u16) -> Result<Vec<u8>, AllocError> {
 
 /// The only part of an arm that holds another.
 fn next_arm<'v, 'r>(rt: &impl Abort, node: &NodeRef<'v, 'r>) -> Result<NodeRef<'v, 'r>, Fail> {
-    assert_eq!(rt; node.what(), What::Arm { position: 1 });
+    same(rt, node.what(), What::Arm { position: 1 });
     let mut children = node.children();
     let child = children.next().ok_or("no child")?;
-    assert!(rt; children.next().is_none());
+    same(rt, children.next().is_none(), true);
     Ok(child)
 }
 
@@ -131,13 +132,13 @@ fn the_deepest_value_is_taken(rt: HostRuntime) -> Result<(), Fail> {
     let checked = checked(rt.alloc(), CHAIN)?;
     let input = arms(rt.alloc(), 1024)?;
     let value = value_of(&rt, rt.alloc(), &checked, (0, DEEPEST), &input)?;
-    assert_eq!(rt; value.node_count(), 1025);
+    same(&rt, value.node_count(), 1025);
     let mut node = value.root();
     'levels: for _ in 0..1024 {
         node = next_arm(&rt, &node)?;
     }
-    assert_eq!(rt; node.what(), What::Arm { position: 0 });
-    assert!(rt; node.children().next().is_none());
+    same(&rt, node.what(), What::Arm { position: 0 });
+    same(&rt, node.children().next().is_none(), true);
     Ok(())
 }
 
@@ -167,7 +168,7 @@ fn check_missing(rt: &impl Abort, alloc: Global, missing: u8) -> Result<(), Fail
     'indexes: for (index, answer) in [(missing, refused), (next, taken), (before, taken)] {
         let mut decoder = open(alloc, &checked, 0, AMPLE)?;
         let reported = feed(&mut decoder, &[index]);
-        assert_eq!(rt; reported, answer, "{index} without {missing}");
+        same(rt, ((index, missing), reported), ((index, missing), answer));
     }
     Ok(())
 }
@@ -195,14 +196,14 @@ fn most_nodes(taken: u64, depth: u16, widest: u32) -> u64 {
 #[test]
 fn nodes_stay_below_the_bound(rt: HostRuntime) -> Result<(), Fail> {
     let checked = checked(rt.alloc(), TWO_UNITS_AND_A_BYTE)?;
-    assert_eq!(rt; checked.widest(), 3);
+    same(&rt, checked.widest(), 3);
     let mut decoder = open(rt.alloc(), &checked, 2, AMPLE)?;
-    assert_eq!(rt; feed(&mut decoder, b""), Ok(Progress::More));
+    same(&rt, feed(&mut decoder, b""), Ok(Progress::More));
     let Holding { nodes, taken, .. } = held(&decoder);
-    assert_eq!(rt; (nodes, taken), (3, 0));
+    same(&rt, (nodes, taken), (3, 0));
     let most = most_nodes(taken, AMPLE.depth, checked.widest());
-    assert_eq!(rt; most, 260);
-    assert!(rt; nodes <= most);
+    same(&rt, most, 260);
+    same(&rt, nodes <= most, true);
     Ok(())
 }
 
@@ -213,13 +214,13 @@ fn check_more(
     piece: &[u8],
     (nodes, taken): (u64, u64),
 ) {
-    assert_eq!(rt; feed(decoder, piece), Ok(Progress::More));
+    same(rt, feed(decoder, piece), Ok(Progress::More));
     let wanted = Holding {
         nodes,
         texts: 0,
         taken,
     };
-    assert_eq!(rt; held(decoder), wanted);
+    same(rt, held(decoder), wanted);
 }
 
 // A sequence of units is one node, however many it claims.
@@ -234,13 +235,13 @@ fn counts_are_no_nodes(rt: HostRuntime) -> Result<(), Fail> {
         check_more(&rt, &mut decoder, greatest, wanted);
     }
     let reported = feed(&mut decoder, greatest);
-    assert_eq!(rt; reported, Ok(Progress::Done { used: 5 }));
+    same(&rt, reported, Ok(Progress::Done { used: 5 }));
     let wanted = Holding {
         nodes: 1001,
         texts: 0,
         taken: 5002,
     };
-    assert_eq!(rt; held(&decoder), wanted);
+    same(&rt, held(&decoder), wanted);
     Ok(())
 }
 
@@ -251,9 +252,17 @@ fn a_long_text_is_shown(rt: HostRuntime) -> Result<(), Fail> {
     let input = letters(rt.alloc(), 70_000, 70_000)?;
     let value = value_of(&rt, rt.alloc(), &checked, (0, AMPLE), &input)?;
     let text = printed(rt.alloc(), &value)?;
-    assert_eq!(rt; text.len(), 70_002);
-    assert!(rt; text.first() == Some(&b'"') && text.last() == Some(&b'"'));
-    assert!(rt; text.as_slice().get(1..70_001) == input.as_slice().get(4..));
+    same(&rt, text.len(), 70_002);
+    same(
+        &rt,
+        text.first() == Some(&b'"') && text.last() == Some(&b'"'),
+        true,
+    );
+    same(
+        &rt,
+        text.as_slice().get(1..70_001) == input.as_slice().get(4..),
+        true,
+    );
     Ok(())
 }
 
@@ -276,6 +285,6 @@ fn a_long_run_is_shown(rt: HostRuntime) -> Result<(), Fail> {
     let value = value_of(&rt, rt.alloc(), &checked, (1, AMPLE), &input)?;
     let text = shown(rt.alloc(), &value)?;
     let wanted = shown_letters(rt.alloc(), 70_000)?;
-    assert!(rt; text.as_str() == wanted.as_str());
+    same(&rt, text.as_str() == wanted.as_str(), true);
     Ok(())
 }

@@ -4,6 +4,8 @@
 #[cfg(test)]
 mod decoder_memory;
 #[cfg(test)]
+mod expect;
+#[cfg(test)]
 mod forms;
 #[cfg(test)]
 mod heaps;

@@ -1,5 +1,6 @@
 //! Values from readers that fail, and ends at the edge of a read.
 
+use crate::expect::same;
 use decode_core::{DecodeFault, DecodeReason, OpenFault};
 use decoder_calls::calls::all_of;
 use scale_core::Source;
@@ -27,11 +28,15 @@ fn check_reported(
     match reported {
         Ok(value) => {
             let bytes = written(alloc, &value)?;
-            assert_eq!(rt; (bytes.as_slice(), row.refusal), (row.bytes, ""), "{name}");
+            same(
+                rt,
+                (name, (bytes.as_slice(), row.refusal)),
+                (name, (row.bytes, "")),
+            );
         }
         Err(fault) => {
             let line = format!(in alloc; "{fault}")?;
-            assert_eq!(rt; line.as_str(), row.refusal, "{name}");
+            same(rt, (name, line.as_str()), (name, row.refusal));
         }
     }
     Ok(())
@@ -76,10 +81,10 @@ fn check_failure(
     });
     let reported = all_of(alloc, checked, row.ty, AMPLE, &mut source);
     if source.failed() {
-        assert_eq!(rt;
-            reported.err(),
-            Some(StreamFault::Device),
-            "{name}, read {read}"
+        same(
+            rt,
+            ((name, read), reported.err()),
+            ((name, read), Some(StreamFault::Device)),
         );
         return Ok(false);
     }
@@ -95,10 +100,14 @@ fn check_failures(rt: &impl Abort, alloc: Global, row: &Row) -> Result<(), Fail>
     let mut was_decided = false;
     'reads: for read in 1..=row.bytes.len().saturating_add(2) {
         let is_decided = check_failure(rt, alloc, &checked, row, read)?;
-        assert!(rt; is_decided || !was_decided, "{name}, read {read}");
+        same(
+            rt,
+            ((name, read), is_decided || !was_decided),
+            ((name, read), true),
+        );
         was_decided = is_decided;
     }
-    assert!(rt; was_decided, "{name} is never decided");
+    same(rt, (name, was_decided), (name, true));
     Ok(())
 }
 
@@ -127,7 +136,7 @@ fn refusal_before_failure(
 #[test]
 fn the_end_of_a_value_is_not_reported_before_the_next_read(rt: HostRuntime) -> Result<(), Fail> {
     let reported = refusal_before_failure(rt.alloc(), U16, 0, b"\x2a\x00")?;
-    assert_eq!(rt; reported, (Some(StreamFault::Device), true));
+    same(&rt, reported, (Some(StreamFault::Device), true));
     Ok(())
 }
 
@@ -135,9 +144,10 @@ fn the_end_of_a_value_is_not_reported_before_the_next_read(rt: HostRuntime) -> R
 #[test]
 fn a_byte_after_is_reported_without_another_read(rt: HostRuntime) -> Result<(), Fail> {
     let reported = refusal_before_failure(rt.alloc(), U16, 0, b"\x2a\x00\xff")?;
-    assert_eq!(rt;
+    same(
+        &rt,
         reported,
-        (Some(StreamFault::TrailingBytes { at: 2 }), false)
+        (Some(StreamFault::TrailingBytes { at: 2 }), false),
     );
     Ok(())
 }
@@ -146,7 +156,7 @@ fn a_byte_after_is_reported_without_another_read(rt: HostRuntime) -> Result<(), 
 #[test]
 fn the_first_read_comes_before_any_answer(rt: HostRuntime) -> Result<(), Fail> {
     let reported = refusal_before_failure(rt.alloc(), COMPACT_OF_A_BOOL, 1, b"")?;
-    assert_eq!(rt; reported, (Some(StreamFault::Device), true));
+    same(&rt, reported, (Some(StreamFault::Device), true));
     Ok(())
 }
 
@@ -161,10 +171,10 @@ fn check_unread(
     let checked = checked(alloc, U16)?;
     let mut source = Source::new(PacedReader::new(b"\x2a\x00", 1, Then::Fails));
     let reported = all_of(alloc, &checked, ty, limits, &mut source).err();
-    assert_eq!(rt; reported, Some(StreamFault::Open(fault)));
-    assert!(rt; !source.failed());
+    same(rt, reported, Some(StreamFault::Open(fault)));
+    same(rt, !source.failed(), true);
     let mut first = [0; 1];
-    assert_eq!(rt; (source.pull(&mut first), first), (Ok(1), [0x2a]));
+    same(rt, (source.pull(&mut first), first), (Ok(1), [0x2a]));
     Ok(())
 }
 
@@ -228,12 +238,12 @@ fn refusal_of_sequence(
     let checked = checked(alloc, BYTES)?;
     let mut source = Source::new(bytes);
     let reported = all_of(alloc, &checked, 1, AMPLE, &mut source);
-    assert!(rt; !source.failed());
+    same(rt, !source.failed(), true);
     match reported {
         Ok(value) => {
-            assert_eq!(rt; value.node_count(), 1);
+            same(rt, value.node_count(), 1);
             let back = written(alloc, &value)?;
-            assert!(rt; back.as_slice() == bytes);
+            same(rt, back.as_slice() == bytes, true);
             Ok(None)
         }
         Err(fault) => Ok(Some(fault)),
@@ -243,11 +253,11 @@ fn refusal_of_sequence(
 /// A sequence of so many bytes in all, and so many bytes after it.
 fn check_edge(rt: &impl Abort, alloc: Global, len: u16, behind: usize) -> Result<(), Fail> {
     let bytes = sequence(alloc, len.saturating_sub(2), behind)?;
-    assert_eq!(rt; bytes.len(), usize::from(len).saturating_add(behind));
+    same(rt, bytes.len(), usize::from(len).saturating_add(behind));
     let reported = refusal_of_sequence(rt, alloc, &bytes)?;
     let at = u64::from(len);
     let wanted = (behind > 0).then_some(StreamFault::TrailingBytes { at });
-    assert_eq!(rt; reported, wanted, "{behind} behind {len} bytes");
+    same(rt, ((behind, len), reported), ((behind, len), wanted));
     Ok(())
 }
 
@@ -276,7 +286,7 @@ fn faults_of_readers_are_printed_by_their_names(rt: HostRuntime) -> Result<(), F
     ];
     'lines: for (fault, line) in lines {
         let printed = format!(in rt.alloc(); "{fault}")?;
-        assert_eq!(rt; printed.as_str(), line);
+        same(&rt, printed.as_str(), line);
     }
     Ok(())
 }
@@ -308,8 +318,8 @@ fn a_read_asks_for_at_most_4096_bytes(rt: HostRuntime) -> Result<(), Fail> {
     let Ok(value) = all_of(rt.alloc(), &checked, 1, AMPLE, &mut source) else {
         return Err("no value")?;
     };
-    assert_eq!(rt; (value.node_count(), value.text_bytes()), (1, 10_000));
+    same(&rt, (value.node_count(), value.text_bytes()), (1, 10_000));
     let reader = source.into_inner();
-    assert_eq!(rt; (reader.left, reader.most), (0, 4096));
+    same(&rt, (reader.left, reader.most), (0, 4096));
     Ok(())
 }

@@ -1,6 +1,7 @@
 //! Values from readers and from pieces where memory is refused.
 
 use crate::decoder_memory::{NESTED_BYTES, REFUSED};
+use crate::expect::same;
 use decode_core::OpenFault;
 use decoder_calls::calls::{all_of, front_of};
 use linked_list_allocator::LocalHeap;
@@ -25,8 +26,12 @@ fn a_reader_is_not_read_without_a_decoder(rt: HostRuntime) -> Result<(), Fail> {
         let mut source = Source::new(PacedReader::new(b"", 1, Then::Fails));
         let memory = Rationed::new(rt.alloc(), request);
         let reported = all_of(memory, &checked, 5, AMPLE, &mut source).err();
-        assert_eq!(rt; reported, Some(StreamFault::Open(OpenFault::OutOfMemory)));
-        assert!(rt; !source.failed());
+        same(
+            &rt,
+            reported,
+            Some(StreamFault::Open(OpenFault::OutOfMemory)),
+        );
+        same(&rt, !source.failed(), true);
     }
     Ok(())
 }
@@ -37,7 +42,11 @@ fn pieces_without_a_decoder_are_refused(rt: HostRuntime) -> Result<(), Fail> {
     'requests: for request in [1, 2] {
         let memory = Rationed::new(rt.alloc(), request);
         let reported = front_of(memory, &checked, 5, AMPLE, &[NESTED_BYTES]).err();
-        assert_eq!(rt; reported, Some(PiecesFault::Open(OpenFault::OutOfMemory)));
+        same(
+            &rt,
+            reported,
+            Some(PiecesFault::Open(OpenFault::OutOfMemory)),
+        );
     }
     Ok(())
 }
@@ -49,7 +58,7 @@ fn check_nested<A: Allocator>(
     value: &Value<'_, A>,
 ) -> Result<(), Fail> {
     let bytes = written(alloc, value)?;
-    assert_eq!(rt; bytes.as_slice(), NESTED_BYTES);
+    same(rt, bytes.as_slice(), NESTED_BYTES);
     Ok(())
 }
 
@@ -62,7 +71,7 @@ fn refusal_of_reader<A: Allocator + Clone>(
 ) -> Result<Option<StreamFault>, Fail> {
     let mut source = Source::new(PacedReader::new(NESTED_BYTES, 3, Then::GoesOn));
     let reported = all_of(memory, checked, 5, AMPLE, &mut source);
-    assert!(rt; !source.failed());
+    same(rt, !source.failed(), true);
     match reported {
         Ok(value) => {
             check_nested(rt, alloc, &value)?;
@@ -82,7 +91,7 @@ fn refusal_of_pieces<A: Allocator + Clone>(
     let (front, rest) = NESTED_BYTES.split_at(8);
     match front_of(memory, checked, 5, AMPLE, &[front, rest]) {
         Ok((value, taken)) => {
-            assert_eq!(rt; taken, 19);
+            same(rt, taken, 19);
             check_nested(rt, alloc, &value)?;
             Ok(None)
         }
@@ -102,8 +111,8 @@ fn check_reader(
     let reported = refusal_of_reader(rt, alloc, checked, &memory)?;
     let refused = memory.is_past_refusal();
     let wanted = refused.then_some(StreamFault::Decode(REFUSED));
-    assert_eq!(rt; reported, wanted, "request {request}");
-    assert_eq!(rt; heap.used(), 0, "what is kept behind request {request}");
+    same(rt, (request, reported), (request, wanted));
+    same(rt, (request, heap.used()), (request, 0));
     Ok(refused)
 }
 
@@ -119,8 +128,8 @@ fn check_pieces(
     let reported = refusal_of_pieces(rt, alloc, checked, &memory)?;
     let refused = memory.is_past_refusal();
     let wanted = refused.then_some(PiecesFault::Decode(REFUSED));
-    assert_eq!(rt; reported, wanted, "request {request}");
-    assert_eq!(rt; heap.used(), 0, "what is kept behind request {request}");
+    same(rt, (request, reported), (request, wanted));
+    same(rt, (request, heap.used()), (request, 0));
     Ok(refused)
 }
 
@@ -130,7 +139,7 @@ fn each_refused_request_of_a_reader_leaves_nothing(rt: HostRuntime) -> Result<()
     let heap = LocalHeap::new(rt.alloc(), 65_536)?;
     'requests: for request in 1..1000 {
         if !check_reader(&rt, rt.alloc(), &checked, &heap, request)? {
-            assert!(rt; request > 3, "{request} requests were made");
+            same(&rt, (request, request > 3), (request, true));
             return Ok(());
         }
     }
@@ -143,7 +152,7 @@ fn each_refused_request_of_pieces_leaves_nothing(rt: HostRuntime) -> Result<(), 
     let heap = LocalHeap::new(rt.alloc(), 65_536)?;
     'requests: for request in 1..1000 {
         if !check_pieces(&rt, rt.alloc(), &checked, &heap, request)? {
-            assert!(rt; request > 3, "{request} requests were made");
+            same(&rt, (request, request > 3), (request, true));
             return Ok(());
         }
     }

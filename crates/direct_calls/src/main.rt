@@ -48,6 +48,15 @@ fn command_words<R: Env + AllocGlobal>(rt: &R) -> io::Result<Vec<String>> {
     Ok(words)
 }
 
+/// The words, lent.
+fn lent_words(alloc: Global, words: &[String]) -> Result<Vec<&str>, AllocError> {
+    let mut lent = Vec::with_capacity(alloc, words.len())?;
+    'words: for word in words {
+        lent.push(word.as_str())?;
+    }
+    Ok(lent)
+}
+
 /// Makes the call that the words name, where its input is there.
 fn call(alloc: Global, words: &[&str]) -> Result<Option<&'static str>, NoCall> {
     Ok(match words {
@@ -70,7 +79,7 @@ fn call(alloc: Global, words: &[&str]) -> Result<Option<&'static str>, NoCall> {
 fn called<R: Env + AllocGlobal>(rt: &R) -> Result<&'static str, NoCall> {
     let alloc = rt.alloc();
     let words = command_words(rt)?;
-    let lent: Vec<&str> = words.iter().map(|word| word.as_str()).collect(alloc)?;
+    let lent = lent_words(alloc, words.as_slice())?;
     call(alloc, lent.as_slice())?.ok_or(NoCall::NotReady)
 }
 

@@ -10,13 +10,12 @@ use Rattle.json.specs.Filled.{Placed}
 use Rattle.json.specs.Print.{escape, quoted}
 use Rattle.serde_json.specs.Written.{compact_text}
 use Rattle.registry_core.specs.declared.type_info.TypeInfo.{TypeInfo}
-use Rattle.grammar_core.specs.Tree.{Tree, text}
+use Rattle.grammar_core.specs.Tree.{Tree, text, bytes}
 use Rattle.grammar_core.specs.Tree.{leaf}
 use Rattle.node_core.specs.Shown.{Seen, bytes_of, text_of}
 use Rattle.token_core.proofs.Outputs.{hex_string}
 use Rattle.json_core.specs.Json.{json_of, json_text}
 use Rattle.json_core.specs.Printed.{IsInFront, run_text}
-use Rattle.json_core.proofs.Runs.{quoted_run, run_is_text}
 
 -- what is placed right after a front stands at the front with it
 pub placed_after : (xs ys old mid new : List ℕ) (at end : ℕ) → at ≡ length xs →
@@ -44,6 +43,17 @@ in_front s old new end long room is =
 -- a text that needs no escape is quoted as it is
 pub quoted_plain : (s : List ℕ) → escape s ≡ s → 34 ∷ (s ++ 34 ∷ []) ≡ quoted s
 quoted_plain s plain = ap (λ (l : List ℕ). 34 ∷ (l ++ 34 ∷ [])) (sym plain)
+
+-- two digits for each byte after 0x, in quotes
+abbrev pub quoted_run : List ℕ → List ℕ
+quoted_run bs = 34 ∷ 48 ∷ 120 ∷ (encode_lower bs ++ 34 ∷ [])
+
+-- the JSON text of a value that is a run of bytes is the text of the run
+run_is_text : (r : List TypeInfo) (t : ℕ) (v : Tree) (s : List ℕ) → bytes_of v ≡ Some s →
+    run_text s ≡ compact_text (json_of r t v)
+unfolding json_of
+run_is_text r t (leaf (bytes b)) s e = let same : b ≡ s = cc in ap run_text (sym same)
+run_is_text r t _ s e = absurd cc
 
 -- a run's text is three bytes, two for each of its own, and one
 pub run_long : (bs : List ℕ) → ((i : ℕ) → Fits w8 (get_or bs i 0)) →

@@ -8,5 +8,4 @@ pub mod Members
 pub mod Ordered
 pub mod PlainNames
 pub mod Reported
-pub mod Runs
 pub mod Turns

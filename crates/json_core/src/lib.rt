@@ -1,7 +1,6 @@
 //! A value as JSON: as a tree of `serde_json`, as its text, and as that text written to a sink or into memory.
 #![tactic(auto)]
 
-mod byte_run;
 mod defined;
 mod fields;
 mod hexadecimal;

@@ -5,11 +5,13 @@ ghost use Rattle.json.specs.Print.{escape, quoted};
 ghost use Rattle.json_core.specs.Json.{json_text};
 ghost use Rattle.json_core.specs.Printed.{IsInFront, run_text};
 
-use crate::byte_run::LONGEST;
 use crate::printing::json_text;
 use std::alloc::{AllocError, Allocator, Global};
 use token_core::{is_plain, place_bytes, place_hex};
 use value_core::Value;
+
+/// The most bytes that a run has: its length is a compact u32, or the u32 of its type.
+const LONGEST: usize = u32::MAX as usize;
 
 /// Copies the bytes to the front, where they have room.
 fn copy_to_front(out: &mut [u8], bytes: &[u8])

@@ -4,23 +4,17 @@ ghost use Rattle.std.specs.Prelude.{◌≡◌, ◌≤◌, ◌||◌, length, take
 ghost use Rattle.std.specs.Prelude.{IsErrOf};
 ghost use Rattle.std.specs.Io.KnownBytes.{Appends};
 ghost use Rattle.json_core.specs.Json.{json_text};
-ghost use Rattle.json_core.specs.Printed.{written_of, is_write};
+ghost use Rattle.json_core.specs.Printed.{MeetsPrint, written_of, is_write};
 
-use crate::byte_run::{LONGEST, print_run};
 use crate::orders::Orders;
 use crate::writing::write_node;
-use scale_core::Sink;
+use scale_core::{Sink, WriteOnce};
 use std::alloc::{AllocError, Allocator, Global};
-use std::io::Write;
 use token_core::Output;
 use value_core::{Value, WriteFault, send};
 
 /// Room for the text of a small value, in bytes.
 const FIRST_ROOM: usize = 256;
-
-/// From so many bytes on, the room that a text has to spare is given back before it is written. For less, a request of the
-/// allocator would cost more than the room is worth.
-const WORTH: usize = 4096;
 
 /// Why a value was not printed whole.
 #[derive(Clone, Copy, Debug, PartialEq, Eq)]
@@ -53,8 +47,7 @@ pub fn json_text<A: Allocator>(alloc: Global, value: &Value<'_, A>) -> Result<St
 }
 
 /// Writes a value as JSON: the text that `json_text` gives, without a line end. It is made whole before the first
-/// write, with the memory and the stack that `json_text` takes. A value that is one run of bytes takes no memory, and
-/// is written as its digits are made, 4096 at a time.
+/// write, with the memory and the stack that `json_text` takes.
 ///
 /// Refuses:
 /// - `OutOfMemory`, where memory was refused: no write was made, and the sink stays as it was;
@@ -63,7 +56,7 @@ pub fn json_text<A: Allocator>(alloc: Global, value: &Value<'_, A>) -> Result<St
 ///
 /// After a failed write the sink has failed for good, and what went out is the beginning of the text, as long as is
 /// reported. Otherwise `failed()` stays as it was. The value stays as it was in each case.
-pub fn print<A: Allocator, W: Write>(
+pub fn print<A: Allocator, W: WriteOnce>(
     alloc: Global,
     value: &Value<'_, A>,
     sink: &mut Sink<W>,
@@ -75,23 +68,16 @@ pub fn print<A: Allocator, W: Write>(
     ensures part { IfErr result (λ f. written_of f ≤ length (json_text value.now)) }
     ensures err { IfErr result (λ f. Appends (W.contents sink.old.device)
         (W.contents sink.new.device) (take (written_of f) (json_text value.now))) }
+    // The writer did to the last write what the reason says.
+    ensures met { IfErr result (MeetsPrint W.writes sink.new.device) }
     // Where memory was refused there was no write.
     ensures memory { IsErrOf result PrintFault.OutOfMemory → sink.new ≡ sink.old }
     ensures failed { sink.new.failed ≡ sink.old.failed || is_write result }
 {
-    let sent = match value.root().bytes() {
-        Some(bytes) if bytes.len() <= LONGEST => print_run(sink, bytes),
-        _ => {
-            let Ok(mut text) = json_text(alloc, value) else {
-                return Err(PrintFault::OutOfMemory);
-            };
-            if text.capacity() - text.len() >= WORTH {
-                text.shrink_to_fit();
-            }
-            send(sink, text.as_bytes())
-        }
+    let Ok(text) = json_text(alloc, value) else {
+        return Err(PrintFault::OutOfMemory);
     };
-    match sent {
+    match send(sink, text.as_bytes()) {
         Ok(()) => Ok(()),
         Err(fault) => Err(PrintFault::Write(fault)),
     }

@@ -1,5 +1,6 @@
 //! JSON texts in memory with room and without, and printed to writers that fail.
 
+use crate::expect::same;
 use decoder_calls::calls::front_of;
 use json_core::{PrintFault, json_to_slice, print};
 use registry_core::TypeId;
@@ -23,18 +24,23 @@ fn check_slice(
 ) -> Result<(), Fail> {
     'rooms: for room in 0..text.len() + 2 {
         let mut out = vec![in alloc; b'.'; room]?;
-        assert_eq!(rt;
-            json_to_slice(alloc, value, &mut out),
-            Ok(text.len()),
-            "{room}"
+        same(
+            rt,
+            (room, json_to_slice(alloc, value, &mut out)),
+            (room, Ok(text.len())),
         );
         if room < text.len() {
-            assert!(rt; out.iter().all(|byte| *byte == b'.'), "{room}");
+            same(
+                rt,
+                (room, out.iter().all(|byte| *byte == b'.')),
+                (room, true),
+            );
         } else {
-            assert_eq!(rt; &out[..text.len()], text, "{room}");
-            assert!(rt;
-                out[text.len()..].iter().all(|byte| *byte == b'.'),
-                "{room}"
+            same(rt, (room, &out[..text.len()]), (room, text));
+            same(
+                rt,
+                (room, out[text.len()..].iter().all(|byte| *byte == b'.')),
+                (room, true),
             );
         }
     }
@@ -59,10 +65,18 @@ fn check_place(
             reason,
             written: place as u64,
         });
-        assert_eq!(rt; print(alloc, value, &mut sink), Err(wanted), "{place}");
-        assert!(rt; sink.failed(), "{place}");
+        same(
+            rt,
+            (place, print(alloc, value, &mut sink)),
+            (place, Err(wanted)),
+        );
+        same(rt, (place, sink.failed()), (place, true));
         let taken = sink.into_inner().taken;
-        assert_eq!(rt; Some(taken.as_slice()), text.get(..place), "{place}");
+        same(
+            rt,
+            (place, Some(taken.as_slice())),
+            (place, text.get(..place)),
+        );
     }
 }
 
@@ -85,39 +99,6 @@ fn a_text_may_end_at_each_byte(rt: HostRuntime) -> Result<(), Fail> {
         if row.refusal.is_empty() {
             check_row(&rt, rt.alloc(), row)?;
         }
-    }
-    Ok(())
-}
-
-/// The text of 5,000 bytes that are 169 each.
-fn long_text(alloc: Global) -> Result<Vec<u8>, AllocError> {
-    let mut text = Vec::new(alloc);
-    text.extend_from_slice(b"\"0x")?;
-    'bytes: for _ in 0..5000 {
-        text.extend_from_slice(b"a9")?;
-    }
-    text.push(b'"')?;
-    Ok(text)
-}
-
-/// A run of 5,000 bytes, whose digits are made in three parts: all of it, and writers that end within each part.
-#[test]
-fn a_long_run_is_printed_in_parts(rt: HostRuntime) -> Result<(), Fail> {
-    let alloc = rt.alloc();
-    let checked = checked(alloc, BYTES)?;
-    let Ok(mut builder) = Builder::new(alloc, &checked, TypeId(1), 64) else {
-        return Err("no builder")?;
-    };
-    assert_eq!(rt; builder.bytes(&[169; 5000]), Ok(()));
-    let Ok(value) = builder.finish() else {
-        return Err("no value")?;
-    };
-    let text = long_text(alloc)?;
-    let mut sink = Sink::new(Vec::new(alloc));
-    assert_eq!(rt; print(alloc, &value, &mut sink), Ok(()));
-    assert_eq!(rt; sink.into_inner().as_slice(), text.as_slice());
-    'places: for place in [0, 1, 3, 4, 4098, 4099, 4100, 8194, 8195, 10_002, 10_003] {
-        check_place(&rt, alloc, &value, text.as_slice(), place);
     }
     Ok(())
 }

@@ -1,4 +1,5 @@
 pub mod Encoding
+pub mod Failed
 pub mod Leaves
 pub mod Left
 pub mod Shown

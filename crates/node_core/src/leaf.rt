@@ -5,6 +5,7 @@ ghost use Rattle.node_core.specs.Leaves.{leaf_text_bytes, FitsLeaf, IsLeafKept};
 
 use crate::node::Content;
 use crate::pool::{put_long, put_run};
+use growth_core::GrowVec;
 use std::alloc::{AllocError, Allocator};
 
 /// A node without children, before it is added to a value.
@@ -70,11 +71,11 @@ impl<'b> Leaf<'b> {
     /// What it is as a node, with what does not fit the node appended to the pool. Where memory is refused nothing
     /// changes.
     #[inline(always)]
-    pub fn keep<A: Allocator>(self, pool: &mut Vec<u8, A>) -> Result<Content, AllocError>
+    pub fn keep<A: Allocator>(self, pool: &mut GrowVec<u8, A>) -> Result<Content, AllocError>
         requires { FitsLeaf self }
         ensures ok { IfOk result (λ content.
-            IsLeafKept self.entry pool.old.items pool.new.items content) }
-        ensures err { IfErr result (λ _. pool.new.items ≡ pool.old.items) }
+            IsLeafKept self.entry pool.old.list.items pool.new.list.items content) }
+        ensures err { IfErr result (λ _. pool.new.list.items ≡ pool.old.list.items) }
     {
         let start = pool.as_slice().len();
         match self {

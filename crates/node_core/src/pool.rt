@@ -5,7 +5,7 @@ ghost use Rattle.std.specs.Prelude.{OnErr};
 ghost use Rattle.std.specs.Int.{w128, to_le_bytes};
 ghost use Rattle.node_core.specs.Shown.{long_shown};
 
-use crate::room::{make_room, make_room_for_piece};
+use growth_core::GrowVec;
 use std::alloc::{AllocError, Allocator};
 
 /// The first long integer of a pool takes room for so many bytes, those of four, so that few of them take room once.
@@ -16,57 +16,63 @@ const HALF: u128 = 1 << 64;
 
 /// Appends the bytes of a text or of a run: how many they are. Where memory is refused nothing changes.
 #[inline(always)]
-pub(crate) fn put_run<A: Allocator>(pool: &mut Vec<u8, A>, bytes: &[u8]) -> Result<u32, AllocError>
+pub(crate) fn put_run<A: Allocator>(
+    pool: &mut GrowVec<u8, A>,
+    bytes: &[u8],
+) -> Result<u32, AllocError>
     requires { length bytes.now < 2 ^ 32 }
     ensures len { IfOk result (λ len. len ≡ length bytes.now) }
-    ensures ok { IfOk result (λ _. pool.new.items ≡ pool.old.items ++ bytes.now) }
-    ensures err { IfErr result (λ _. pool.new.items ≡ pool.old.items) }
+    ensures ok { IfOk result (λ _. pool.new.list.items ≡ pool.old.list.items ++ bytes.now) }
+    ensures err { IfErr result (λ _. pool.new.list.items ≡ pool.old.list.items) }
 {
-    if pool.capacity() - pool.len() < bytes.len() {
-        make_room(pool, bytes.len())?;
-    }
-    pool.extend_from_slice(bytes)?;
+    pool.extend_from_slice(bytes, None)?;
     Ok(bytes.len() as u32)
+}
+
+/// Returns how many bytes the pool is expected to get, which has so many when the run is whole: those that it lacks, and an
+/// eighth of its length at least.
+#[inline(always)]
+fn missing<A: Allocator>(pool: &GrowVec<u8, A>, whole: usize) -> usize {
+    whole.saturating_sub(pool.len()).max(pool.len() / 8)
 }
 
 /// Appends a piece of a run to the pool, which has so many bytes when the run is whole: all of it, or where memory is refused
 /// nothing. Where pieces are short most are of one byte, which takes a store and no copy.
 #[inline(always)]
 pub fn put_piece<A: Allocator>(
-    pool: &mut Vec<u8, A>,
+    pool: &mut GrowVec<u8, A>,
     piece: &[u8],
     whole: usize,
 ) -> Result<(), AllocError>
-    ensures ok { OnOk result (pool.new.items ≡ pool.old.items ++ piece.now) }
-    ensures err { OnErr result (pool.new.items ≡ pool.old.items) }
+    ensures ok { OnOk result (pool.new.list.items ≡ pool.old.list.items ++ piece.now) }
+    ensures err { OnErr result (pool.new.list.items ≡ pool.old.list.items) }
 {
-    if pool.capacity() - pool.len() < piece.len() {
-        make_room_for_piece(pool, piece.len(), whole)?;
-    }
     if let [byte] = *piece {
+        pool.make_room(1, Some(missing(pool, whole)))?;
         pool.push_reserved(byte);
         return Ok(());
     }
-    pool.extend_from_slice(piece)
+    pool.extend_from_slice(piece, Some(missing(pool, whole)))
 }
 
 /// Appends the sixteen bytes of an integer, the lowest first: its place. Where memory is refused nothing changes.
 #[inline(never)]
 pub(crate) fn put_long<A: Allocator>(
-    pool: &mut Vec<u8, A>,
+    pool: &mut GrowVec<u8, A>,
     number: u128,
 ) -> Result<usize, AllocError>
-    ensures place { IfOk result (λ start. start ≡ length pool.old.items) }
-    ensures ok { IfOk result (λ _. pool.new.items ≡ pool.old.items ++ to_le_bytes w128 number) }
-    ensures err { IfErr result (λ _. pool.new.items ≡ pool.old.items) }
+    ensures place { IfOk result (λ start. start ≡ length pool.old.list.items) }
+    ensures ok { IfOk result
+        (λ _. pool.new.list.items ≡ pool.old.list.items ++ to_le_bytes w128 number) }
+    ensures err { IfErr result (λ _. pool.new.list.items ≡ pool.old.list.items) }
 {
-    let start = pool.as_slice().len();
-    if pool.capacity() - start < 16 {
-        make_room(pool, AT_ONCE)?;
+    let start = pool.len();
+    if !pool.has_room(16) {
+        pool.make_room(AT_ONCE, None)?;
     }
     // Eight bytes are one store. The sixteen of the whole number would be moved to a vector register one by one.
-    pool.extend_from_slice(&((number % HALF) as u64).to_le_bytes())?;
-    pool.extend_from_slice(&((number / HALF) as u64).to_le_bytes())?;
+    pool.extend_from_slice(&((number % HALF) as u64).to_le_bytes(), None)?;
+    pool.extend_from_slice(&((number / HALF) as u64).to_le_bytes(), None)?;
     Ok(start)
 }
 

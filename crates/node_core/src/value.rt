@@ -6,6 +6,7 @@ ghost use Rattle.node_core.specs.Shown.{IsValue, IsWhole, all_kept, seen, tree_s
 
 use crate::node::Node;
 use crate::node_ref::NodeRef;
+use growth_core::GrowVec;
 use std::alloc::Allocator;
 use std::marker::Model;
 use widths_core::Checked;
@@ -15,8 +16,8 @@ use widths_core::Checked;
 #[derive(Drop)]
 pub struct Value<'r, A: Allocator> {
     checked: &'r Checked,
-    nodes: Vec<Node, A>,
-    pool: Vec<u8, A>,
+    nodes: GrowVec<Node, A>,
+    pool: GrowVec<u8, A>,
     text_len: usize,
 }
 
@@ -31,11 +32,11 @@ impl<'r, A: Allocator> Model for Value<'r, A> {
 
     ghost coded = { Prim.hlevel (codes, tree_code) };
 
-    ghost view = { λ v. seen v.checked.now.types v.pool.items v.nodes.items };
+    ghost view = { λ v. seen v.checked.now.types v.pool.list.items v.nodes.list.items };
 
-    ghost invariant = { λ v. IsWhole v.checked.now.types v.pool.items v.nodes.items
-        × (v.text_len ≡ text_bytes (tree_shown v.pool.items v.nodes.items))
-        × (all_kept v.nodes.items ≤ length v.pool.items) };
+    ghost invariant = { λ v. IsWhole v.checked.now.types v.pool.list.items v.nodes.list.items
+        × (v.text_len ≡ text_bytes (tree_shown v.pool.list.items v.nodes.list.items))
+        × (all_kept v.nodes.list.items ≤ length v.pool.list.items) };
 }
 
 impl<'r, A: Allocator> Value<'r, A> {
@@ -43,14 +44,14 @@ impl<'r, A: Allocator> Value<'r, A> {
     /// texts and runs of bytes have so many. It takes no memory.
     pub fn new(
         checked: &'r Checked,
-        nodes: Vec<Node, A>,
-        pool: Vec<u8, A>,
+        nodes: GrowVec<Node, A>,
+        pool: GrowVec<u8, A>,
         text_len: usize,
     ) -> Value<'r, A>
-        requires whole { IsWhole checked.now.types pool.items nodes.items }
-        requires texts { text_len ≡ text_bytes (tree_shown pool.items nodes.items) }
-        requires fits { all_kept nodes.items ≤ length pool.items }
-        ensures { result ≡ seen checked.now.types pool.items nodes.items }
+        requires whole { IsWhole checked.now.types pool.list.items nodes.list.items }
+        requires texts { text_len ≡ text_bytes (tree_shown pool.list.items nodes.list.items) }
+        requires fits { all_kept nodes.list.items ≤ length pool.list.items }
+        ensures { result ≡ seen checked.now.types pool.list.items nodes.list.items }
     {
         Value {
             checked,
@@ -72,7 +73,7 @@ impl<'r, A: Allocator> Value<'r, A> {
         ensures same { result ≡ self.now }
         ensures value { IsValue self.now }
     {
-        NodeRef::new(self.checked, &self.nodes, &self.pool)
+        NodeRef::new(self.checked, self.nodes.as_slice(), self.pool.as_slice())
     }
 
     /// Its nodes, each before its children, and the pool of the bytes of their texts and long integers, lent.

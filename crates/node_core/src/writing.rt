@@ -9,15 +9,15 @@ ghost use Rattle.grammar_core.specs.Spelled.{byte_width, width_of, index_of, ind
 ghost use Rattle.grammar_core.specs.Spelled.{is_sequence, length_bytes};
 ghost use Rattle.node_core.specs.Shown.{IsInPool, kept_bytes};
 ghost use Rattle.node_core.specs.Encoding.{node_bytes, pool_bytes, Starts, encoding, IsEncoding};
+ghost use Rattle.node_core.specs.Failed.{Meets};
 
 use crate::node::{Content, Node};
 use crate::pool::long_at;
 use crate::value::Value;
 use grammar_core::shape;
 use registry_core::{Primitive, PrimitiveKind, TypeDef, TypeId};
-use scale_core::{Sink, SinkFault, put_compact};
+use scale_core::{Sink, SinkFault, WriteOnce, put_compact};
 use std::alloc::Allocator;
-use std::io::Write;
 use widths_core::Checked;
 
 /// A write that failed, and how many bytes went out before it.
@@ -166,12 +166,14 @@ fn pooled<'v>(node: &Node, pool: &'v [u8]) -> &'v [u8]
 ///
 /// The sink has failed from then on, and what went out is the beginning of the bytes. Where all went out `failed()`
 /// stays as it was.
-pub fn send<W: Write>(sink: &mut Sink<W>, bytes: &[u8]) -> Result<(), WriteFault>
+pub fn send<W: WriteOnce>(sink: &mut Sink<W>, bytes: &[u8]) -> Result<(), WriteFault>
     ensures ok { OnOk result (Appends (W.contents sink.old.device)
         (W.contents sink.new.device) bytes.now) }
     ensures part { IfErr result (λ f. f.written ≤ length bytes.now) }
     ensures err { IfErr result (λ f. Appends (W.contents sink.old.device)
         (W.contents sink.new.device) (take f.written bytes.now)) }
+    // The writer did to the last write what the reason says.
+    ensures met { IfErr result (λ f. Meets W.writes f.reason sink.new.device) }
     ensures failed { sink.new.failed ≡ sink.old.failed || not (is_ok result) }
     ensures none { length bytes.now ≡ 0 → (sink.new ≡ sink.old) × (is_ok result ≡ true) }
 {
@@ -192,7 +194,7 @@ pub fn send<W: Write>(sink: &mut Sink<W>, bytes: &[u8]) -> Result<(), WriteFault
 
 /// Writes the bytes of a node without those of its children: how many they are. Where a write fails, it reports how many
 /// of them went out before.
-fn send_node<W: Write>(
+fn send_node<W: WriteOnce>(
     checked: &Checked,
     node: &Node,
     pool: &[u8],
@@ -209,6 +211,7 @@ fn send_node<W: Write>(
     ensures err { IfErr result
         (λ f. Appends (W.contents sink.old.device) (W.contents sink.new.device)
         (take f.written (node_bytes checked.now.types pool.now node.now))) }
+    ensures met { IfErr result (λ f. Meets W.writes f.reason sink.new.device) }
     ensures failed { sink.new.failed ≡ sink.old.failed || not (is_ok result) }
     ensures none { length (node_bytes checked.now.types pool.now node.now) ≡ 0 →
         (sink.new ≡ sink.old) × (is_ok result ≡ true) }
@@ -235,7 +238,7 @@ fn send_node<W: Write>(
 ///
 /// The sink has failed from then on, and what went out is the beginning of the value's bytes. Where all went out
 /// `failed()` stays as it was. The value stays as it was in either case.
-pub fn encode<A: Allocator, W: Write>(
+pub fn encode<A: Allocator, W: WriteOnce>(
     value: &Value<'_, A>,
     sink: &mut Sink<W>,
 ) -> Result<(), WriteFault>
@@ -248,6 +251,8 @@ pub fn encode<A: Allocator, W: Write>(
     ensures part { IfErr result (λ f. f.written ≤ length (encoding value.now)) }
     ensures err { IfErr result (λ f. Appends (W.contents sink.old.device)
         (W.contents sink.new.device) (take f.written (encoding value.now))) }
+    // The writer did to the last write what the reason says.
+    ensures met { IfErr result (λ f. Meets W.writes f.reason sink.new.device) }
     ensures failed { sink.new.failed ≡ sink.old.failed || not (is_ok result) }
     // Without bytes there is no write.
     ensures none { encoding value.now ≡ [] → (sink.new ≡ sink.old) × (is_ok result ≡ true) }

@@ -1,5 +1,6 @@
 //! A long chain of types.
 
+use crate::expect::same;
 use registry_core::TypeId;
 use scale_core::write_compact;
 use scale_tests::building::checked;
@@ -11,9 +12,13 @@ use widths_core::{Checked, Class};
 /// All types of the registry are empty: so many, of which the widest has so many parts.
 fn check_empty(rt: &impl Abort, registry: &Checked, count: u32, widest: u32) {
     let reported = (registry.registry().types().len(), registry.widest());
-    assert_eq!(rt; reported, (count as usize, widest));
+    same(rt, reported, (count as usize, widest));
     'classes: for id in 0..count {
-        assert_eq!(rt; registry.class(TypeId(id)), Some(Class::Empty), "type {id}");
+        same(
+            rt,
+            (id, registry.class(TypeId(id))),
+            (id, Some(Class::Empty)),
+        );
     }
 }
 

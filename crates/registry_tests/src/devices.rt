@@ -1,5 +1,6 @@
 //! Sources and sinks over devices that fail in mid-stream.
 
+use crate::expect::same;
 use scale_core::{Sink, SinkFault, Source, SourceFault};
 use scale_tests::stuttering::StutteringWriter;
 use std::io;
@@ -29,44 +30,44 @@ impl Read for StutteringReader {
 fn a_source_reports_a_failed_read_for_good(rt: HostRuntime) {
     let mut source = Source::new(StutteringReader { calls: 0 });
     let mut part = [0; 4];
-    assert_eq!(rt; source.failed(), false);
-    assert_eq!(rt; source.pull(&mut part), Ok(1));
-    assert_eq!(rt; part, [1, 0, 0, 0]);
-    assert_eq!(rt; source.failed(), false);
-    assert_eq!(rt; source.pull(&mut part), Err(SourceFault::Device));
-    assert_eq!(rt; source.failed(), true);
-    assert_eq!(rt; source.pull(&mut part), Ok(1));
-    assert_eq!(rt; part, [3, 0, 0, 0]);
-    assert_eq!(rt; source.failed(), true);
-    assert_eq!(rt; source.into_inner().calls, 3);
+    same(&rt, source.failed(), false);
+    same(&rt, source.pull(&mut part), Ok(1));
+    same(&rt, part, [1, 0, 0, 0]);
+    same(&rt, source.failed(), false);
+    same(&rt, source.pull(&mut part), Err(SourceFault::Device));
+    same(&rt, source.failed(), true);
+    same(&rt, source.pull(&mut part), Ok(1));
+    same(&rt, part, [3, 0, 0, 0]);
+    same(&rt, source.failed(), true);
+    same(&rt, source.into_inner().calls, 3);
 }
 
 #[test]
 fn a_source_reports_the_end_as_no_failure(rt: HostRuntime) {
     let mut source = Source::new(b"ab".as_slice());
     let mut part = [0; 4];
-    assert_eq!(rt; source.pull(&mut part), Ok(2));
-    assert_eq!(rt; part, [b'a', b'b', 0, 0]);
-    assert_eq!(rt; source.pull(&mut part), Ok(0));
-    assert_eq!(rt; source.failed(), false);
+    same(&rt, source.pull(&mut part), Ok(2));
+    same(&rt, part, [b'a', b'b', 0, 0]);
+    same(&rt, source.pull(&mut part), Ok(0));
+    same(&rt, source.failed(), false);
 }
 
 #[test]
 fn a_sink_reports_a_failed_write_for_good(rt: HostRuntime) {
     let mut sink = Sink::new(StutteringWriter { calls: 0 });
-    assert_eq!(rt; sink.failed(), false);
-    assert_eq!(rt; sink.put(b"ab"), Ok(1));
-    assert_eq!(rt; sink.failed(), false);
-    assert_eq!(rt; sink.put(b"b"), Err(SinkFault::Device));
-    assert_eq!(rt; sink.failed(), true);
-    assert_eq!(rt; sink.put(b"b"), Ok(1));
-    assert_eq!(rt; sink.failed(), true);
-    assert_eq!(rt; sink.into_inner().calls, 3);
+    same(&rt, sink.failed(), false);
+    same(&rt, sink.put(b"ab"), Ok(1));
+    same(&rt, sink.failed(), false);
+    same(&rt, sink.put(b"b"), Err(SinkFault::Device));
+    same(&rt, sink.failed(), true);
+    same(&rt, sink.put(b"b"), Ok(1));
+    same(&rt, sink.failed(), true);
+    same(&rt, sink.into_inner().calls, 3);
 }
 
 #[test]
 fn a_sink_reports_a_write_that_took_nothing(rt: HostRuntime) {
     let mut sink = Sink::new(StutteringWriter { calls: 3 });
-    assert_eq!(rt; sink.put(b"a"), Err(SinkFault::WroteNothing));
-    assert_eq!(rt; sink.failed(), true);
+    same(&rt, sink.put(b"a"), Err(SinkFault::WroteNothing));
+    same(&rt, sink.failed(), true);
 }

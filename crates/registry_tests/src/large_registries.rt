@@ -1,5 +1,6 @@
 //! Registries that are large: where memory is granted they are read, checked and written back, and none is refused for want of it.
 
+use crate::expect::same;
 use registry_core::{Registry, TypeId, Version, read_metadata, read_registry, write_registry};
 use scale_core::write_compact;
 use std::alloc::{AllocError, Global};
@@ -11,9 +12,9 @@ use widths_core::{CheckFault, Checked, Class};
 fn read_whole(rt: &impl Abort, alloc: Global, bytes: &[u8], types: u32) -> Result<Registry, Fail> {
     let (registry, count) = read_registry(alloc, bytes)?;
     let reported = (registry.types().len(), count);
-    assert_eq!(rt; reported, (types as usize, bytes.len()));
+    same(rt, reported, (types as usize, bytes.len()));
     let back = write_registry(alloc, &registry)?;
-    assert!(rt; back.as_slice() == bytes, "{types} types written back");
+    same(rt, (types, back.as_slice() == bytes), (types, true));
     Ok(registry)
 }
 
@@ -22,8 +23,8 @@ fn check_last(rt: &impl Abort, alloc: Global, registry: Registry, last: u32) -> 
     let Ok(checked) = Checked::new(alloc, registry) else {
         return Err("no checked registry")?;
     };
-    assert_eq!(rt; checked.class(TypeId(last)), Some(Class::Sized));
-    assert_eq!(rt; checked.widest(), 0);
+    same(rt, checked.class(TypeId(last)), Some(Class::Sized));
+    same(rt, checked.widest(), 0);
     Ok(())
 }
 
@@ -33,7 +34,7 @@ fn check_metadata(rt: &impl Abort, alloc: Global, bytes: &[u8], types: u32) -> R
     metadata.extend_from_slice(bytes)?;
     let (registry, count, version) = read_metadata(alloc, &metadata)?;
     let reported = (registry.types().len(), count, version);
-    assert_eq!(rt; reported, (types as usize, metadata.len(), Version::V15));
+    same(rt, reported, (types as usize, metadata.len(), Version::V15));
     Ok(())
 }
 
@@ -52,7 +53,7 @@ fn a_long_text_is_read(rt: HostRuntime) -> Result<(), Fail> {
     'letters: for _ in 0..70_000 {
         bytes.push(b'a')?;
     }
-    assert_eq!(rt; bytes.len(), 70_011);
+    same(&rt, bytes.len(), 70_011);
     check_registry(&rt, rt.alloc(), &bytes, 1)
 }
 
@@ -95,8 +96,8 @@ fn an_unknown_reference_of_the_last_type_is_reported(rt: HostRuntime) -> Result<
         from: TypeId(65_536),
         to: TypeId(4_294_967_295),
     };
-    assert_eq!(rt; fault, unknown);
-    assert_eq!(rt; registry.types().len(), 65_537);
+    same(&rt, fault, unknown);
+    same(&rt, registry.types().len(), 65_537);
     Ok(())
 }
 
@@ -104,6 +105,6 @@ fn an_unknown_reference_of_the_last_type_is_reported(rt: HostRuntime) -> Result<
 #[test]
 fn no_types_are_one_byte(rt: HostRuntime) -> Result<(), Fail> {
     let (registry, count) = read_registry(rt.alloc(), b"\x00\xff")?;
-    assert_eq!(rt; (registry.types().len(), count), (0, 1));
+    same(&rt, (registry.types().len(), count), (0, 1));
     Ok(())
 }

@@ -7,6 +7,8 @@ mod chain;
 #[cfg(test)]
 mod devices;
 #[cfg(test)]
+mod expect;
+#[cfg(test)]
 mod integers;
 #[cfg(test)]
 mod large_registries;

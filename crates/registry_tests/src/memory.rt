@@ -1,5 +1,6 @@
 //! Memory: what lengths reserve that are claimed only, and how much room the tables of a checked registry take.
 
+use crate::expect::same;
 use registry_core::{
     Arm, Field, RegistryFault, RegistryReason, TypeInfo, read_metadata, read_registry,
 };
@@ -107,10 +108,11 @@ fn measured(rt: &(impl Files + Alloc)) -> Result<Reserved, Fail> {
 fn check_growth(rt: &impl Abort, before: Reserved, after: Reserved, kib: u64) {
     let kept = after.now.saturating_sub(before.now);
     let most = after.most.saturating_sub(before.now);
-    assert!(rt; kib <= kept, "{kept} KiB of {kib} were kept");
-    assert!(rt;
-        most < kib.saturating_add(1024),
-        "{most} KiB for {kib} were reserved"
+    same(rt, ((kept, kib), kib <= kept), ((kept, kib), true));
+    same(
+        rt,
+        ((most, kib), most < kib.saturating_add(1024)),
+        ((most, kib), true),
     );
 }
 
@@ -133,7 +135,11 @@ fn check_claim(
     let mut bytes = Vec::from_slice(alloc, front)?;
     bytes.extend_from_slice(length)?;
     let reported = read_registry(alloc, &bytes).err();
-    assert_eq!(rt; reported, cut_at(bytes.len()), "{name}, {length:?}");
+    same(
+        rt,
+        ((name, length), reported),
+        ((name, length), cut_at(bytes.len())),
+    );
     Ok(())
 }
 
@@ -149,10 +155,10 @@ fn check_claim_of_metadata(
     bytes.extend_from_slice(front)?;
     bytes.extend_from_slice(length)?;
     let reported = read_metadata(alloc, &bytes).err();
-    assert_eq!(rt;
-        reported,
-        cut_at(bytes.len()),
-        "{name} of metadata, {length:?}"
+    same(
+        rt,
+        ((name, length), reported),
+        ((name, length), cut_at(bytes.len())),
     );
     Ok(())
 }
@@ -185,7 +191,7 @@ fn room_that_is_asked_for_at_once_is_measured(rt: HostRuntime) -> Result<(), Fai
     let mut list = Vec::with_capacity(rt.alloc(), 0x4000_0000)?;
     list.push(7u8)?;
     let after = measured(&rt)?;
-    assert_eq!(rt; list.as_slice(), [7].as_slice());
+    same(&rt, list.as_slice(), [7].as_slice());
     check_growth(&rt, before, after, 0x10_0000);
     Ok(())
 }
@@ -210,17 +216,17 @@ fn a_whole_list_has_no_room_to_spare(rt: HostRuntime) -> Result<(), Fail> {
     let before = measured(&rt)?;
     let (registry, count) = read_registry(rt.alloc(), &bytes)?;
     let after = measured(&rt)?;
-    assert_eq!(rt; (registry.types().len(), count), (1, 131_210));
+    same(&rt, (registry.types().len(), count), (1, 131_210));
     let kept = after.now.saturating_sub(before.now);
     let most = after.most.saturating_sub(before.now);
-    assert!(rt; 3075 <= kept, "{kept} KiB were kept");
-    assert!(rt; most < 5632, "{most} KiB were reserved");
+    same(&rt, (kept, 3075 <= kept), (kept, true));
+    same(&rt, (most, most < 5632), (most, true));
     Ok(())
 }
 
 #[test]
 fn the_parts_of_a_registry_have_their_sizes(rt: HostRuntime) {
     let sizes = (size_of::<Field>(), size_of::<Arm>(), size_of::<TypeInfo>());
-    assert_eq!(rt; sizes, (96, 80, 104));
-    assert_eq!(rt; (size_of::<Step>(), size_of::<ArmStep>()), (12, 12));
+    same(&rt, sizes, (96, 80, 104));
+    same(&rt, (size_of::<Step>(), size_of::<ArmStep>()), (12, 12));
 }

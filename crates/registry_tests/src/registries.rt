@@ -1,5 +1,6 @@
 //! The parts of a registry's types as they are lent, and the printed text of faults.
 
+use crate::expect::same;
 use registry_core::{
     Arm, Field, Items, Registry, RegistryFault, RegistryReason, Text, TypeDef, TypeId, TypeInfo,
     read_registry,
@@ -39,17 +40,17 @@ fn only<T>(items: &Items<T>) -> Result<&T, &'static str> {
 fn the_path_and_the_parameters_of_a_type_are_seen(rt: HostRuntime) -> Result<(), Fail> {
     let (registry, _) = read_registry(rt.alloc(), OPTION)?;
     let info = second_of(&registry)?;
-    assert_eq!(rt; only(&info.path)?.as_str(), "Option");
+    same(&rt, only(&info.path)?.as_str(), "Option");
     let param = only(&info.params)?;
-    assert_eq!(rt; (param.name.as_str(), param.ty), ("T", Some(TypeId(0))));
-    assert_eq!(rt; info.docs.is_empty(), true);
+    same(&rt, (param.name.as_str(), param.ty), ("T", Some(TypeId(0))));
+    same(&rt, info.docs.is_empty(), true);
     Ok(())
 }
 
 /// The arm has this name, this index and so many fields.
 fn check_arm(rt: &impl Abort, arm: &Arm, name: &str, index: u8, fields: usize) {
-    assert_eq!(rt; arm.name.as_str(), name);
-    assert_eq!(rt; (arm.index, arm.fields.len()), (index, fields));
+    same(rt, arm.name.as_str(), name);
+    same(rt, (arm.index, arm.fields.len()), (index, fields));
 }
 
 #[test]
@@ -70,10 +71,10 @@ fn the_field_of_an_arm_is_seen(rt: HostRuntime) -> Result<(), Fail> {
         return Err(Fail::from("there are not two arms"));
     };
     let field: &Field = only(&some.fields)?;
-    assert_eq!(rt; (field.name.is_none(), field.ty), (true, TypeId(0)));
+    same(&rt, (field.name.is_none(), field.ty), (true, TypeId(0)));
     let type_name = field.type_name.as_ref().ok_or("no type name")?;
     let printed = format!(in rt.alloc(); "{type_name}")?;
-    assert_eq!(rt; printed.as_str(), "T");
+    same(&rt, printed.as_str(), "T");
     Ok(())
 }
 
@@ -81,17 +82,17 @@ fn the_field_of_an_arm_is_seen(rt: HostRuntime) -> Result<(), Fail> {
 fn texts_keep_what_they_were_made_of(rt: HostRuntime) -> Result<(), Fail> {
     let text = Text::from_string(String::from_str(rt.alloc(), "caf\u{e9}")?);
     let reported = (text.as_str(), text.len(), text.is_empty());
-    assert_eq!(rt; reported, ("caf\u{e9}", 5, false));
-    assert_eq!(rt; text.into_string().as_str(), "caf\u{e9}");
+    same(&rt, reported, ("caf\u{e9}", 5, false));
+    same(&rt, text.into_string().as_str(), "caf\u{e9}");
     Ok(())
 }
 
 #[test]
 fn lists_keep_what_they_were_made_of(rt: HostRuntime) -> Result<(), Fail> {
     let items = Items::from_vec([3, 1, 2].to_vec(rt.alloc())?);
-    assert_eq!(rt; (items.len(), items.is_empty()), (3, false));
-    assert_eq!(rt; items.iter().copied().max(), Some(3));
-    assert_eq!(rt; items.into_vec().as_slice(), [3, 1, 2].as_slice());
+    same(&rt, (items.len(), items.is_empty()), (3, false));
+    same(&rt, items.iter().copied().max(), Some(3));
+    same(&rt, items.into_vec().as_slice(), [3, 1, 2].as_slice());
     Ok(())
 }
 
@@ -116,7 +117,7 @@ fn a_registry_fault_is_printed_as_its_reason_and_place(rt: HostRuntime) -> Resul
     'lines: for (reason, line) in lines {
         let fault = RegistryFault { reason, at: 7 };
         let printed = format!(in rt.alloc(); "{fault}")?;
-        assert_eq!(rt; printed.as_str(), line);
+        same(&rt, printed.as_str(), line);
     }
     Ok(())
 }

@@ -1,5 +1,6 @@
 //! Texts, and the printed text of faults.
 
+use crate::expect::same;
 use scale_core::{Fault, Reason, read_text, write_text};
 use std::test::Fail;
 
@@ -13,7 +14,11 @@ const ACCEPTED: [(&str, &[u8]); 3] = [
 #[test]
 fn texts_are_read(rt: HostRuntime) {
     'vectors: for (text, bytes) in ACCEPTED {
-        assert_eq!(rt; read_text(bytes), Ok((text, bytes.len())), "reading {text}");
+        same(
+            &rt,
+            (text, read_text(bytes)),
+            (text, Ok((text, bytes.len()))),
+        );
     }
 }
 
@@ -22,7 +27,7 @@ fn texts_are_written(rt: HostRuntime) -> Result<(), Fail> {
     'vectors: for (text, bytes) in ACCEPTED {
         let mut out = Vec::new(rt.alloc());
         write_text(&mut out, text)?;
-        assert_eq!(rt; out.as_slice(), bytes, "writing {text}");
+        same(&rt, (text, out.as_slice()), (text, bytes));
     }
     Ok(())
 }
@@ -45,7 +50,7 @@ fn a_fault_is_printed_as_its_reason_and_place(rt: HostRuntime) -> Result<(), Fai
     'lines: for (reason, at, line) in lines {
         let fault = Fault { reason, at };
         let printed = format!(in rt.alloc(); "{fault}")?;
-        assert_eq!(rt; printed.as_str(), line);
+        same(&rt, printed.as_str(), line);
     }
     Ok(())
 }

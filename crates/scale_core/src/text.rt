@@ -7,6 +7,7 @@ ghost use Rattle.scale_core.specs.Read.{text_at};
 
 use crate::compact::{Target, put_compact, read_compact};
 use crate::fault::{Fault, Reason};
+use growth_core::make_room;
 use std::alloc::AllocError;
 
 /// Reads a text off the front of the bytes, which lend it, and answers it with the length of its spelling: 1 to 5
@@ -49,7 +50,8 @@ pub fn write_text(out: &mut Vec<u8>, text: &str) -> Result<(), AllocError>
 {
     let mut spelled = [0; 17];
     let len = put_compact(text.len() as u128, &mut spelled);
-    out.reserve(len + text.len())?;
+    let there = out.len();
+    make_room(out, len + text.len(), Some(there))?;
     out.extend_from_slice(&spelled[..len])?;
     out.extend_from_slice(text.as_bytes())
 }

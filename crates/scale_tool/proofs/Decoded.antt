@@ -74,38 +74,40 @@ faulted_one : (id depth : ℕ) (types : List TypeInfo) (b : List ℕ) (f : Decod
 faulted_one id depth types b f one h = faulted (decoding id depth types) b f (no_memory f one) h
 
 -- a reader's bytes
-pub streamed : (id depth : ℕ) (types : List TypeInfo) (forbidden : Option OpenFault) (b : List ℕ)
-    (f : StreamFault) → forbidden ≡ None → Streams forbidden (decoding id depth types) b (Err f) →
+pub streamed : (fails : List ℕ → Type 0) (left : Option (List ℕ)) (id depth : ℕ)
+    (types : List TypeInfo) (forbidden : Option OpenFault) (b : List ℕ) (f : StreamFault) →
+    forbidden ≡ None → Streams forbidden (decoding id depth types) fails b left (Err f) →
     status_of_value (stream_refusal f) ≡ 1 → value_of_type id depth types b ≡ None
-streamed id depth types forbidden b (stream.Open f) none h one = absurd cc
-streamed id depth types forbidden b (stream.Decode f) none h one =
+streamed fails left id depth types forbidden b (stream.Open f) none h one = absurd cc
+streamed fails left id depth types forbidden b (stream.Decode f) none h one =
     faulted_one id depth types b f one h.1
-streamed id depth types forbidden b (stream.TrailingBytes at) none h one =
+streamed fails left id depth types forbidden b (stream.TrailingBytes at) none h one =
     not_all (decoding id depth types) b h.1.0 at (λ same. absurd (omega (arith, same, h.1.2))) h.1.1
-streamed id depth types forbidden b stream.Device none h one = absurd cc
+streamed fails left id depth types forbidden b stream.Device none h one = absurd cc
 
 -- ---- with the limits as a call makes them
 
 -- a value that a reader gives is the one that its bytes spell
-pub stream_value : (id depth : ℕ) (types : List TypeInfo) (limits : Limits) (b : List ℕ)
-    (v : Seen) → limits ≡ made depth →
-    Streams (opening_fault types id limits) (job_of types id limits) b (Ok v) →
+pub stream_value : (fails : List ℕ → Type 0) (left : Option (List ℕ)) (id depth : ℕ)
+    (types : List TypeInfo) (limits : Limits) (b : List ℕ) (v : Seen) → limits ≡ made depth →
+    Streams (opening_fault types id limits) (job_of types id limits) fails b left (Ok v) →
     value_of_type id depth types b ≡ Some v
-stream_value id depth types limits b v is h =
+stream_value fails left id depth types limits b v is h =
     let P : Limits → Type 0 =
-    λ l. Streams (opening_fault types id l) (job_of types id l) b (Ok v) in
+    λ l. Streams (opening_fault types id l) (job_of types id l) fails b left (Ok v) in
     let s = subst P is h in
     spelled (decoding id depth types) b v (length b) refl s.1 s.2
 
 -- a fault of a reader with status 1 says that its bytes spell no value
-pub stream_fault : (id depth : ℕ) (types : List TypeInfo) (limits : Limits) (b : List ℕ)
-    (f : StreamFault) → limits ≡ made depth → id < length types → depth ≤ 1024 →
-    Streams (opening_fault types id limits) (job_of types id limits) b (Err f) →
+pub stream_fault : (fails : List ℕ → Type 0) (left : Option (List ℕ)) (id depth : ℕ)
+    (types : List TypeInfo) (limits : Limits) (b : List ℕ) (f : StreamFault) →
+    limits ≡ made depth → id < length types → depth ≤ 1024 →
+    Streams (opening_fault types id limits) (job_of types id limits) fails b left (Err f) →
     status_of_value (stream_refusal f) ≡ 1 → value_of_type id depth types b ≡ None
-stream_fault id depth types limits b f is known served h =
+stream_fault fails left id depth types limits b f is known served h =
     let P : Limits → Type 0 =
-    λ l. Streams (opening_fault types id l) (job_of types id l) b (Err f) in
-    streamed id depth types (opening_fault types id (made depth)) b f
+    λ l. Streams (opening_fault types id l) (job_of types id l) fails b left (Err f) in
+    streamed fails left id depth types (opening_fault types id (made depth)) b f
     (none_forbids id depth types known served) (subst P is h)
 
 -- what is read of bytes that are all there
@@ -204,23 +206,25 @@ reports_file hex j file b (bytes.TrailingBytes at) is h = (b, is, h)
 reports_file hex j file b bytes.Memory is h = tt
 
 -- a fault of a reader is reported of its file, where nothing forbids a decoder
-stream_reported : (j : Job) (forbidden : Option OpenFault) (b : List ℕ) (f : StreamFault) →
-    forbidden ≡ None → Streams forbidden j b (Err f) → ReportsFile false j b (stream_refusal f)
-stream_reported j forbidden b (stream.Open f) none h = tt
-stream_reported j forbidden b (stream.Decode f) none h =
+stream_reported : (fails : List ℕ → Type 0) (left : Option (List ℕ)) (j : Job)
+    (forbidden : Option OpenFault) (b : List ℕ) (f : StreamFault) → forbidden ≡ None →
+    Streams forbidden j fails b left (Err f) → ReportsFile false j b (stream_refusal f)
+stream_reported fails left j forbidden b (stream.Open f) none h = tt
+stream_reported fails left j forbidden b (stream.Decode f) none h =
     reports_file false j b b (bytes_refusal f) refl (by_reason f.reason j b f h.1)
-stream_reported j forbidden b (stream.TrailingBytes at) none h = (b, refl, h.1)
-stream_reported j forbidden b stream.Device none h = tt
+stream_reported fails left j forbidden b (stream.TrailingBytes at) none h = (b, refl, h.1)
+stream_reported fails left j forbidden b stream.Device none h = tt
 
 -- the same with the limits that the command makes
-pub stream_reports : (id depth : ℕ) (types : List TypeInfo) (limits : Limits) (b : List ℕ)
-    (f : StreamFault) → limits ≡ made depth → id < length types → depth ≤ 1024 →
-    Streams (opening_fault types id limits) (job_of types id limits) b (Err f) →
+pub stream_reports : (fails : List ℕ → Type 0) (left : Option (List ℕ)) (id depth : ℕ)
+    (types : List TypeInfo) (limits : Limits) (b : List ℕ) (f : StreamFault) →
+    limits ≡ made depth → id < length types → depth ≤ 1024 →
+    Streams (opening_fault types id limits) (job_of types id limits) fails b left (Err f) →
     ReportsFile false (decoding id depth types) b (stream_refusal f)
-stream_reports id depth types limits b f is known served h =
+stream_reports fails left id depth types limits b f is known served h =
     let P : Limits → Type 0 =
-    λ l. Streams (opening_fault types id l) (job_of types id l) b (Err f) in
-    stream_reported (decoding id depth types) (opening_fault types id (made depth)) b f
+    λ l. Streams (opening_fault types id l) (job_of types id l) fails b left (Err f) in
+    stream_reported fails left (decoding id depth types) (opening_fault types id (made depth)) b f
     (none_forbids id depth types known served) (subst P is h)
 
 -- a reader's bytes are fed but for want of memory

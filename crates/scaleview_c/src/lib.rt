@@ -5,6 +5,7 @@
 mod codes;
 mod handle;
 mod held;
+mod keeper;
 mod lent;
 mod opened;
 mod parts;

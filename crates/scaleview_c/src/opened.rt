@@ -9,7 +9,7 @@ use widths_core::Checked;
 #[derive(Drop)]
 pub struct Opened {
     pub checked: Checked,
-    sessions: Cell<u64>,
+    pub(crate) sessions: Cell<u64>,
 }
 
 impl Opened {
@@ -21,20 +21,5 @@ impl Opened {
             checked,
             sessions: Cell::new(0),
         }
-    }
-
-    /// Is there a session of it?
-    pub(crate) fn is_lent(&self) -> bool {
-        self.sessions.get() > 0
-    }
-
-    /// One session more.
-    pub(crate) fn lend(&self) {
-        self.sessions.set(self.sessions.get().saturating_add(1));
-    }
-
-    /// One session less.
-    pub(crate) fn take_back(&self) {
-        self.sessions.set(self.sessions.get().saturating_sub(1));
     }
 }

@@ -4,10 +4,12 @@ ghost use Rattle.std.specs.Prelude.{◌≡◌, None, Some};
 ghost use Rattle.scaleview_c.specs.Calls.{ClosesRegistry, OpensBox, OpensHandle, ReportsTypes};
 ghost use Rattle.scaleview_c.specs.Calls.{WritesJson};
 ghost use Rattle.scaleview_c.specs.Calls.{WritesLine, WritesValue};
+ghost use Rattle.scaleview_c.specs.Kept.{GivesRegistry};
 
-use crate::codes::{Answer, LENT, MEMORY, NO_HANDLE, OK, TAKEN, UNKNOWN_TYPE};
+use crate::codes::{Answer, MEMORY, NO_HANDLE, OK, TAKEN, UNKNOWN_TYPE};
 use crate::handle::{Handle, handle_of, held_by};
 use crate::held::Held;
+use crate::keeper::{Heap, Keeper, close_code};
 use crate::lent::Lent;
 use crate::opened::Opened;
 use crate::text::put;
@@ -57,24 +59,31 @@ pub extern "C" fn scaleview_open(
     answer.code
 }
 
+/// Gives the box of a registry back, where no session has the registry.
+pub fn close_in<K: Keeper>(alloc: Global, keeper: &mut K, registry: &mut Handle) -> u32
+    ensures closed { ClosesRegistry registry.old.value registry.new.value result }
+    // LENT exactly where a session has it, and then nothing changes.
+    ensures given_back { GivesRegistry K.counts K.takes keeper.old registry.old.value
+        keeper.new result }
+{
+    let Some(held) = held_by(alloc, mem::replace(registry, Handle::none())) else {
+        return NO_HANDLE;
+    };
+    let code = close_code(keeper, &*held);
+    if code == OK {
+        keeper.take(held);
+    } else {
+        *registry = handle_of(held);
+    }
+    code
+}
+
 /// Frees a registry that no session has.
 #[unsafe(no_mangle)]
 pub extern "C" fn scaleview_close(alloc: Global, registry: &mut Handle) -> u32
     ensures { ClosesRegistry registry.old.value registry.new.value result }
 {
-    let Some(held) = held_by(alloc, mem::replace(registry, Handle::none())) else {
-        return NO_HANDLE;
-    };
-    let code = match &*held {
-        Held::Registry(opened) => { if opened.is_lent() { LENT } else { OK } }
-        Held::Session(_) => NO_HANDLE,
-    };
-    if code == OK {
-        drop(held);
-    } else {
-        *registry = handle_of(held);
-    }
-    code
+    close_in(alloc, &mut Heap {}, registry)
 }
 
 /// How many types a registry has.

@@ -2,13 +2,15 @@
 
 ghost use Rattle.std.specs.Prelude.{◌≡◌, None, Some};
 ghost use Rattle.decode_core.specs.Decoding.{node_count, text_bytes};
-ghost use Rattle.scaleview_c.specs.Calls.{Feeds, FinishesSession, Frees, StartsBox, StartsHandle};
-ghost use Rattle.scaleview_c.specs.Calls.{Reports};
+ghost use Rattle.scaleview_c.specs.Calls.{Feeds, FinishesSession, Frees, StartsBox};
+ghost use Rattle.scaleview_c.specs.Calls.{Reports, StartsHandle};
 ghost use Rattle.scaleview_c.specs.Calls.{taken_of};
+ghost use Rattle.scaleview_c.specs.Kept.{CountsStart, GivesSession};
 
 use crate::codes::{Answer, NO_HANDLE, OK, TAKEN};
 use crate::handle::{Handle, handle_of, held_by};
 use crate::held::Held;
+use crate::keeper::{Heap, Keeper, lend, take_back};
 use crate::lent::Lent;
 use crate::opened::Opened;
 use crate::session::{Session, Stage};
@@ -39,6 +41,37 @@ fn started(
     }
 }
 
+/// Starts a session of a registry behind a handle that is none, and counts it.
+pub fn start_in<K: Keeper>(
+    alloc: Global,
+    keeper: &mut K,
+    registry: Lent,
+    id: u32,
+    limits: Limits,
+    session: &mut Handle,
+) -> Answer
+    ensures started { StartsHandle session.old.value registry.value id limits
+        session.new.value result }
+    ensures counted { CountsStart K.counts keeper.old session.old.value registry.value
+        session.new.value keeper.new }
+{
+    if let Some(held) = held_by(alloc, mem::replace(session, Handle::none())) {
+        *session = handle_of(held);
+        return Answer::plain(TAKEN);
+    }
+    match registry.get() {
+        Some(Held::Registry(opened)) => match started(alloc, opened, id, limits) {
+            Ok(held) => {
+                lend(keeper, opened);
+                *session = handle_of(held);
+                Answer::plain(OK)
+            }
+            Err(refusal) => Answer::of_value(refusal),
+        },
+        Some(Held::Session(_)) | None => Answer::plain(NO_HANDLE),
+    }
+}
+
 /// Starts a value of the type at a position, behind a handle that is none.
 #[unsafe(no_mangle)]
 pub extern "C" fn scaleview_start(
@@ -56,26 +89,11 @@ pub extern "C" fn scaleview_start(
     }) session.new.value answer.new }
     ensures code { result ≡ answer.new.code }
 {
-    if let Some(held) = held_by(alloc, mem::replace(session, Handle::none())) {
-        *session = handle_of(held);
-        *answer = Answer::plain(TAKEN);
-        return TAKEN;
-    }
     let limits = Limits {
         depth,
         bytes: limit,
     };
-    match registry.get() {
-        Some(Held::Registry(opened)) => match started(alloc, opened, id, limits) {
-            Ok(held) => {
-                opened.lend();
-                *session = handle_of(held);
-                *answer = Answer::plain(OK);
-            }
-            Err(refusal) => *answer = Answer::of_value(refusal),
-        },
-        Some(Held::Session(_)) | None => *answer = Answer::plain(NO_HANDLE),
-    }
+    *answer = start_in(alloc, &mut Heap {}, registry, id, limits, session);
     answer.code
 }
 
@@ -188,19 +206,27 @@ pub extern "C" fn scaleview_finish(
     answer.code
 }
 
-/// Frees a session.
-#[unsafe(no_mangle)]
-pub extern "C" fn scaleview_free(alloc: Global, session: &mut Handle) -> u32
-    ensures { Frees session.old.value session.new.value result }
+/// Gives the box of a session back, which its registry doesn't count any more.
+pub fn free_in<K: Keeper>(alloc: Global, keeper: &mut K, session: &mut Handle) -> u32
+    ensures freed { Frees session.old.value session.new.value result }
+    ensures given_back { GivesSession K.counts K.takes keeper.old session.old.value keeper.new }
 {
     let Some(held) = held_by(alloc, mem::replace(session, Handle::none())) else {
         return NO_HANDLE;
     };
     if let Held::Session(ended) = &*held {
-        ended.registry.take_back();
-        drop(held);
+        take_back(keeper, ended.registry);
+        keeper.take(held);
         return OK;
     }
     *session = handle_of(held);
     NO_HANDLE
+}
+
+/// Frees a session.
+#[unsafe(no_mangle)]
+pub extern "C" fn scaleview_free(alloc: Global, session: &mut Handle) -> u32
+    ensures { Frees session.old.value session.new.value result }
+{
+    free_in(alloc, &mut Heap {}, session)
 }

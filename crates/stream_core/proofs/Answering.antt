@@ -1,7 +1,7 @@
 -- The answers of the runs as a whole, to a reader and to pieces, by what was fed.
 use Rattle.std.proofs.Common.{◌≡◌, ℕ, ◌+◌, ◌<◌, List, [], ◌∷◌, ◌++◌, length, take, drop}
 use Rattle.std.proofs.Common.{get_or, Option, Some, None, Ok, Err, refl, sym, ap, subst, ◌∙◌}
-use Rattle.std.proofs.Common.{append-nil, inl, inr, flat_map}
+use Rattle.std.proofs.Common.{append-nil, inl, inr, flat_map, Bool, false}
 use Rattle.std.specs.Prelude.{IfSome, Result, ◌⊎◌}
 use Rattle.std.proofs.lemmas.Grind.{flat_map-append}
 use Rattle.std.proofs.lemmas.List.{take-append-drop, take_more}
@@ -25,67 +25,78 @@ use Rattle.stream_core.proofs.Streaming.{under_way_ends}
 -- ---- to a reader
 
 -- a value that ends where a reader's bytes do is the answer to the reader
-value_at_end : (o : Option OpenFault) (j : Job) (b bytes : List ℕ) (v : Seen) → o ≡ None →
-    EndsAt j b (length b) → bytes ≡ b → FinishesDecoder j b (Ok v) → Streams o j bytes (Ok v)
-value_at_end o j b bytes v none ends is f =
+value_at_end : (fails : List ℕ → Type 0) (left : Option (List ℕ)) (o : Option OpenFault) (j : Job)
+    (b bytes : List ℕ) (v : Seen) → o ≡ None → EndsAt j b (length b) → bytes ≡ b →
+    FinishesDecoder j b (Ok v) → Streams o j fails bytes left (Ok v)
+value_at_end fails left o j b bytes v none ends is f =
     let out = subst (λ (n : ℕ). IsOutcome j b (done v.tree) n) (ends v.tree f.0 f.3) f.3 in
-    subst (λ (l : List ℕ). Streams o j l (Ok v)) (sym is) (none, (f.1, f.2), out)
+    subst (λ (l : List ℕ). Streams o j fails l left (Ok v)) (sym is) (none, (f.1, f.2), out)
 
 -- the same where the reader's bytes may not be known
-pub value_streams : (known : Option (List ℕ)) (o : Option OpenFault) (j : Job) (d : Decoding)
-    (b : List ℕ) (v : Seen) → o ≡ None → d.job ≡ j → EndsAt d.job b (length b) →
-    IfSome known (λ bytes. bytes ≡ b) → FinishesDecoder d.job b (Ok v) →
-    IfSome known (λ bytes. Streams o j bytes (Ok v))
-value_streams None o j d b v none same ends is f = tt
-value_streams (Some xs) o j d b v none same ends is f =
-    subst (λ (i : Job). Streams o i xs (Ok v)) same (value_at_end o d.job b xs v none ends is f)
+pub value_streams : (fails : List ℕ → Type 0) (known left : Option (List ℕ))
+    (o : Option OpenFault) (j : Job) (d : Decoding) (b : List ℕ) (v : Seen) → o ≡ None →
+    d.job ≡ j → EndsAt d.job b (length b) → IfSome known (λ bytes. bytes ≡ b) →
+    FinishesDecoder d.job b (Ok v) → IfSome known (λ bytes. Streams o j fails bytes left (Ok v))
+value_streams fails None left o j d b v none same ends is f = tt
+value_streams fails (Some xs) left o j d b v none same ends is f =
+    subst (λ (i : Job). Streams o i fails xs left (Ok v)) same
+    (value_at_end fails left o d.job b xs v none ends is f)
 
 -- a fault at the end of a reader's bytes is the answer to it, where these are known
-pub end_streams : (known : Option (List ℕ)) (o : Option OpenFault) (j : Job) (d : Decoding)
-    (b : List ℕ) (f : DecodeFault) → o ≡ None → d.job ≡ j → IfSome known (λ bytes. bytes ≡ b) →
-    FinishesDecoder d.job b (Err f) →
-    IfSome known (λ bytes. Streams o j bytes (Err (stream.Decode f)))
-end_streams None o j d b f none same is h = tt
-end_streams (Some xs) o j d b f none same is h = (
+pub end_streams : (fails : List ℕ → Type 0) (known left : Option (List ℕ)) (o : Option OpenFault)
+    (j : Job) (d : Decoding) (b : List ℕ) (f : DecodeFault) → o ≡ None → d.job ≡ j →
+    IfSome known (λ bytes. bytes ≡ b) → FinishesDecoder d.job b (Err f) →
+    IfSome known (λ bytes. Streams o j fails bytes left (Err (stream.Decode f)))
+end_streams fails None left o j d b f none same is h = tt
+end_streams fails (Some xs) left o j d b f none same is h = (
   none,
   subst (λ (i : Job). FinishesDecoder i xs (Err f)) same
       (subst (λ (l : List ℕ). FinishesDecoder d.job l (Err f)) (sym is) h),
 )
 
 -- a decoder's fault on a reader's bytes is the answer to it, where these are known
-refused_streams : (known : Option (List ℕ)) (o : Option OpenFault) (j : Job) (d : Decoding)
-    (f : DecodeFault) → o ≡ None → d.job ≡ j →
+refused_streams : (fails : List ℕ → Type 0) (known left : Option (List ℕ)) (o : Option OpenFault)
+    (j : Job) (d : Decoding) (f : DecodeFault) → o ≡ None → d.job ≡ j →
     IfSome known (λ bytes. FinishesDecoder d.job bytes (Err f)) →
-    IfSome known (λ bytes. Streams o j bytes (Err (stream.Decode f)))
-refused_streams None o j d f none same h = tt
-refused_streams (Some xs) o j d f none same h =
+    IfSome known (λ bytes. Streams o j fails bytes left (Err (stream.Decode f)))
+refused_streams fails None left o j d f none same h = tt
+refused_streams fails (Some xs) left o j d f none same h =
     (none, subst (λ (i : Job). FinishesDecoder i xs (Err f)) same h)
 
 -- a read that fails while the answer is open is the answer to a reader
-device_streams : (known left : Option (List ℕ)) (o : Option OpenFault) (j : Job) → o ≡ None →
-    StopsOpen j known left → IfSome known (λ bytes. Streams o j bytes (Err stream.Device))
-device_streams None left o j none h = tt
-device_streams (Some xs) None o j none h = absurd h.1
-device_streams (Some xs) (Some ys) o j none h = (none, (h.0, ys, h.1, h.2))
+device_streams : (fails : List ℕ → Type 0) (known left : Option (List ℕ)) (o : Option OpenFault)
+    (j : Job) → o ≡ None → StopsOpen j fails known left →
+    IfSome known (λ bytes. Streams o j fails bytes left (Err stream.Device))
+device_streams fails None left o j none h = tt
+device_streams fails (Some xs) left o j none h = (none, h)
 
 -- any fault in feeding a reader is the answer to it, where its bytes are known
-pub fault_streams : (known left : Option (List ℕ)) (o : Option OpenFault) (j : Job) (d : Decoding)
-    (e : StreamFault) → o ≡ None → d.job ≡ j → FeedsAll d known left (Err e) →
-    IfSome known (λ bytes. Streams o j bytes (Err e))
-fault_streams known left o j d (stream.Open e) none same h = absurd h
-fault_streams known left o j d (stream.Decode f) none same h =
-    refused_streams known o j d f none same h
-fault_streams known left o j d (stream.TrailingBytes at) none same h = absurd h
-fault_streams known left o j d stream.Device none same h =
-    device_streams known left o j none (subst (λ (i : Job). StopsOpen i known left) same h)
+pub fault_streams : (fails : List ℕ → Type 0) (known left : Option (List ℕ))
+    (o : Option OpenFault) (j : Job) (d : Decoding) (e : StreamFault) → o ≡ None → d.job ≡ j →
+    FeedsAll d fails known left (Err e) →
+    IfSome known (λ bytes. Streams o j fails bytes left (Err e))
+fault_streams fails known left o j d (stream.Open e) none same h = absurd h
+fault_streams fails known left o j d (stream.Decode f) none same h =
+    refused_streams fails known left o j d f none same h
+fault_streams fails known left o j d (stream.TrailingBytes at) none same h = absurd h
+fault_streams fails known left o j d stream.Device none same h =
+    device_streams fails known left o j none
+    (subst (λ (i : Job). StopsOpen i fails known left) same h)
+
+-- what is fed where no byte follows
+pub fed_false : (fails : List ℕ → Type 0) (known left : Option (List ℕ)) (d : Decoding) (b : Bool) →
+    b ≡ false → FeedsAll d fails known left (Ok b) → FeedsAll d fails known left (Ok false)
+fed_false fails known left d b is h =
+    subst (λ (x : Bool). FeedsAll d fails known left (Ok x)) is h
 
 -- a read failed that was not to decide
-pub stopped_open : {V : Type 0} (known left : Option (List ℕ)) (j : Job) (d : Decoding)
-    (e : StreamFault) → d.job ≡ j → ◌≡◌ {A = Result V StreamFault} (Err e) (Err stream.Device) →
-    FeedsAll d known left (Err e) → StopsOpen j known left
-stopped_open known left j d e same both h = let is : e ≡ stream.Device = cc in
-    subst (λ (i : Job). StopsOpen i known left) same
-    (subst (λ (x : StreamFault). FeedsAll d known left (Err x)) is h)
+pub stopped_open : {V : Type 0} (fails : List ℕ → Type 0) (known left : Option (List ℕ)) (j : Job)
+    (d : Decoding) (e : StreamFault) → d.job ≡ j →
+    ◌≡◌ {A = Result V StreamFault} (Err e) (Err stream.Device) →
+    FeedsAll d fails known left (Err e) → StopsOpen j fails known left
+stopped_open fails known left j d e same both h = let is : e ≡ stream.Device = cc in
+    subst (λ (i : Job). StopsOpen i fails known left) same
+    (subst (λ (x : StreamFault). FeedsAll d fails known left (Err x)) is h)
 
 -- ---- to pieces
 

@@ -1,5 +1,6 @@
 -- What a decoder's answers to the parts of an input say of the whole input.
-use Rattle.std.proofs.Common.{◌≡◌, ℕ, ◌+◌, ◌<◌, ◌≤◌, Bool, true, false, List, [], ◌++◌, length}
+use Rattle.std.proofs.Common.{◌≡◌, ℕ, suc, ◌+◌, ◌<◌, ◌≤◌, Bool, true, false, List, [], ◌++◌}
+use Rattle.std.proofs.Common.{length}
 use Rattle.std.proofs.Common.{Option, Some, None, Ok, Err, refl, sym, ap, subst, ◌∙◌, append-nil}
 use Rattle.std.proofs.Common.{arith, take, inl, inr, length-append}
 use Rattle.std.specs.Prelude.{IfSome, ◌⊎◌, Result}
@@ -13,7 +14,7 @@ use Rattle.decode_core.specs.Decoding.{AnswersPiece, Decoding, FinishesDecoder, 
 use Rattle.decode_core.specs.Decoding.{OpensDecoder, first_of_all}
 use Rattle.decode_core.specs.Outcome.{Job, done, more, IsOutcome}
 use Rattle.stream_core.specs.Streaming.{EndsAt, FeedsAll, IsUnderWay, LeavesOpen, Looks}
-use Rattle.stream_core.specs.Streaming.{StopsOpen, Trails}
+use Rattle.stream_core.specs.Streaming.{Gives, ReadOf, StopsOpen, Trails}
 use Rattle.decode_core.specs.declared.decoder.Progress.{Progress}
 use Rattle.decode_core.specs.declared.decoder.Progress.TheVariants as progress
 use Rattle.decode_core.specs.declared.fault.DecodeFault.{DecodeFault}
@@ -182,10 +183,17 @@ all_known (Some xs) (Some ys) b c end = c ∙ ap (λ (l : List ℕ). b ++ l) end
 
 -- ---- a read failed
 
+-- one read more gave its bytes after those before
+pub gives_next : {R : Type 0} (reads : ReadOf R) (old : R) (k : ℕ) (b : List ℕ) (mid : R)
+    (before : List ℕ) (n : ℕ) (part : List ℕ) (new : R) → Gives reads old k b mid →
+    reads mid before (Some n) part new → Gives reads old (suc k) (b ++ take n part) new
+gives_next reads old k b mid before n part new g r = (b, mid, g, before, n, part, r, refl)
+
 -- a read that failed consumed nothing
-pub stops_open : (known mid left : Option (List ℕ)) (j : Job) (b : List ℕ) → Consumes known mid b →
-    Keeps mid left → LeavesOpen j b → StopsOpen j known left
-stops_open known mid left j b c k h = (b, Consumes-kept known mid left b c k, h)
+pub stops_open : (fails : List ℕ → Type 0) (known mid left : Option (List ℕ)) (j : Job)
+    (b : List ℕ) → fails b → Consumes known mid b → Keeps mid left → LeavesOpen j b →
+    StopsOpen j fails known left
+stops_open fails known mid left j b f c k h = (b, f, Consumes-kept known mid left b c k, h)
 
 -- nothing was read, or more is wanted
 pub under_way_open : (d : Decoding) (b : List ℕ) → IsUnderWay d b → LeavesOpen d.job b
@@ -198,20 +206,25 @@ done_open j b v n h long = let all : n ≡ length b = omega (arith, long, done_f
     inr (inr (v, subst (IsOutcome j b (done v)) all h))
 
 -- what a look after a whole value says
-pub look_feeds : (known left end : Option (List ℕ)) (d : Decoding) (b : List ℕ) (v : Tree)
-    (r : Result Bool StreamFault) → Consumes known left b → IsOutcome d.job b (done v) d.taken →
-    Led d b → length b ≤ d.taken → Looks left end r → FeedsAll d known end r
-look_feeds known left end d b v (Ok true) c out led long look =
+pub look_feeds : (looks : Type 0) (fails : List ℕ → Type 0) (known left end : Option (List ℕ))
+    (d : Decoding) (b : List ℕ) (v : Tree) (r : Result Bool StreamFault) → (looks → fails b) →
+    Consumes known left b → IsOutcome d.job b (done v) d.taken → Led d b → length b ≤ d.taken →
+    Looks looks left end r → FeedsAll d fails known end r
+look_feeds looks fails known left end d b v (Ok true) f c out led long look =
     trails_left known left d.job b v d.taken c out look
-look_feeds known left end d b v (Ok false) c out led long look =
+look_feeds looks fails known left end d b v (Ok false) f c out led long look =
     let all : d.taken ≡ length b = omega (arith, long, done_fits d.job b v d.taken out) in (
       b,
       led,
       subst (EndsAt d.job b) all (done_ends d.job b v d.taken out),
       all_known known left b c look,
     )
-look_feeds known left end d b v (Err stream.Device) c out led long look =
-    stops_open known left end d.job b c look (done_open d.job b v d.taken out long)
-look_feeds known left end d b v (Err (stream.Open e)) c out led long look = absurd look
-look_feeds known left end d b v (Err (stream.Decode f)) c out led long look = absurd look
-look_feeds known left end d b v (Err (stream.TrailingBytes at)) c out led long look = absurd look
+look_feeds looks fails known left end d b v (Err stream.Device) f c out led long look =
+    stops_open fails known left end d.job b (f look.1) c look.0
+    (done_open d.job b v d.taken out long)
+look_feeds looks fails known left end d b v (Err (stream.Open e)) f c out led long look =
+    absurd look
+look_feeds looks fails known left end d b v (Err (stream.Decode e)) f c out led long look =
+    absurd look
+look_feeds looks fails known left end d b v (Err (stream.TrailingBytes at)) f c out led long look =
+    absurd look

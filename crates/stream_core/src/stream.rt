@@ -2,16 +2,15 @@
 
 ghost use Rattle.std.specs.Prelude.{◌≡◌, ◌⊎◌, [], true, IfOk, IfSome, IsErrOf};
 ghost use Rattle.decode_core.specs.Decoding.{opening_fault};
-ghost use Rattle.stream_core.specs.Streaming.{FeedsAll, Forbids, IsOfJob, IsUnderWay, Looks};
-ghost use Rattle.stream_core.specs.Streaming.{StopsOpen, Streams, job_of};
+ghost use Rattle.stream_core.specs.Streaming.{FailsAfter, FailsAt, FeedsAll, Forbids, IsOfJob};
+ghost use Rattle.stream_core.specs.Streaming.{IsUnderWay, Looks, StopsOpen, Streams, job_of};
 ghost use Rattle.decode_core.specs.declared.fault.OpenFault.{OpenFault};
 ghost use Rattle.stream_core.specs.declared.stream.StreamFault.TheVariants.{Decode, Device, Open};
 
 use decode_core::{DecodeFault, Decoder, OpenFault, Progress};
 use registry_core::TypeId;
-use scale_core::{Source, SourceFault};
+use scale_core::{ReadOnce, Source, SourceFault};
 use std::alloc::Allocator;
-use std::io::Read;
 use thiserror::Error;
 use value_core::{Limits, Value};
 use widths_core::Checked;
@@ -64,8 +63,9 @@ impl From<SourceFault> for StreamFault {
 }
 
 /// Does a byte follow? It is read then.
-fn has_more<R: Read>(source: &mut Source<R>) -> Result<bool, StreamFault>
-    ensures answers { Looks (R.remaining source.old.device) (R.remaining source.new.device) result }
+fn has_more<R: ReadOnce>(source: &mut Source<R>) -> Result<bool, StreamFault>
+    ensures answers { Looks (FailsAt R.reads source.old.device source.new.device)
+        (R.remaining source.old.device) (R.remaining source.new.device) result }
     ensures reported { IsErrOf result StreamFault.Device → source.new.failed ≡ true }
     ensures quiet { IsErrOf result StreamFault.Device ⊎ (source.new.failed ≡ source.old.failed) }
 {
@@ -75,14 +75,15 @@ fn has_more<R: Read>(source: &mut Source<R>) -> Result<bool, StreamFault>
 }
 
 /// Feeds a decoder that has taken nothing until its value is whole or no byte is left: does one follow the value?
-fn feed_all<A: Allocator, R: Read>(
+fn feed_all<A: Allocator, R: ReadOnce>(
     decoder: &mut Decoder<'_, A>,
     source: &mut Source<R>,
 ) -> Result<bool, StreamFault>
     requires { IsUnderWay decoder.old [] }
     ensures job { decoder.new.job ≡ decoder.old.job }
-    ensures answers { FeedsAll decoder.new (R.remaining source.old.device)
-        (R.remaining source.new.device) result }
+    ensures answers { FeedsAll decoder.new
+        (FailsAfter R.reads source.old.device source.new.device)
+        (R.remaining source.old.device) (R.remaining source.new.device) result }
     ensures reported { IsErrOf result StreamFault.Device → source.new.failed ≡ true }
     ensures quiet { IsErrOf result StreamFault.Device ⊎ (source.new.failed ≡ source.old.failed) }
 {
@@ -111,7 +112,7 @@ fn feed_all<A: Allocator, R: Read>(
 /// the bytes read before it leave the answer open: there are none, for a read comes before any answer; or more are
 /// wanted; or they are all the value's, and one may follow them. `failed()` is true then, and else as it was. After
 /// each refusal nothing is kept. The reader has lost what was read, at most 4096 bytes after the one that decides.
-pub fn decode_all<'r, A: Allocator + Clone, R: Read>(
+pub fn decode_all<'r, A: Allocator + Clone, R: ReadOnce>(
     alloc: A,
     checked: &'r Checked,
     root: TypeId,
@@ -120,11 +121,14 @@ pub fn decode_all<'r, A: Allocator + Clone, R: Read>(
 ) -> Result<Value<'r, A>, StreamFault>
     ensures answers { IfSome (R.remaining source.old.device)
         (λ bytes. Streams (opening_fault checked.now.types root.0 limits)
-        (job_of checked.now.types root.0 limits) bytes result) }
+        (job_of checked.now.types root.0 limits)
+        (FailsAfter R.reads source.old.device source.new.device) bytes
+        (R.remaining source.new.device) result) }
     ensures same { IfOk result (IsOfJob (job_of checked.now.types root.0 limits)) }
     ensures stopped { IsErrOf result StreamFault.Device →
-        StopsOpen (job_of checked.now.types root.0 limits) (R.remaining source.old.device)
-        (R.remaining source.new.device) }
+        StopsOpen (job_of checked.now.types root.0 limits)
+        (FailsAfter R.reads source.old.device source.new.device)
+        (R.remaining source.old.device) (R.remaining source.new.device) }
     ensures open { (e : OpenFault) → result ≡ Err (StreamFault.Open e) →
         Forbids (opening_fault checked.now.types root.0 limits) e }
     ensures unread { (e : OpenFault) → result ≡ Err (StreamFault.Open e) → source.new ≡ source.old }

@@ -77,8 +77,8 @@ fn grow(bytes: &mut Vec<u8>, more: usize) -> Result<(), AllocError>
 {
     let len = bytes.len();
     if more > bytes.capacity() - len {
-        let room = if len < LONG { len } else { len / 4 };
-        bytes.reserve_exact(more.max(room))?;
+        let expected = if len < LONG { len } else { len / 4 };
+        growth_core::make_room(bytes, more, Some(expected))?;
     }
     let spare = bytes.capacity() - len;
     let mut missing = more.max(spare.min(AHEAD));

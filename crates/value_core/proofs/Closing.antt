@@ -13,7 +13,7 @@ use Rattle.value_core.specs.Spine.{OpenNode, open_part, Spine}
 use Rattle.value_core.specs.Walked.{OpenPart, Walked, Closes, advanced, advanced_in, opened}
 use Rattle.value_core.specs.Built.{IsSettled, closings, entries_shown, entries_text_bytes}
 use Rattle.value_core.specs.Built.{settled_in, settled_walk}
-use Rattle.value_core.specs.Building.{IsBuilding, IsPaid, Settles, pieces_shown}
+use Rattle.value_core.specs.Building.{IsBuilding, IsPaid, Settles, AreBuilt, pieces_shown}
 use Rattle.node_core.specs.declared.open_run.OpenRun.{OpenRun}
 use Rattle.node_core.specs.declared.node.Content.{Content}
 use Rattle.node_core.specs.declared.node.Content.TheVariants as content
@@ -159,6 +159,11 @@ pub settled_step : (place : ℕ) (p : Part) (fs : List OpenPart) → (fs ≡ [] 
     settled_in (open_part place p ∷ fs) ≡ settled_in fs
 settled_step place p [] some e = absurd (some refl)
 settled_step place p (f ∷ fs) some e = rw e refl
+
+-- the innermost node that is closed is among the nodes
+pub closed_inside : (old new : Walked) (ns : List Node) (place : ℕ) → AreBuilt old ns →
+    Closes old new place → place < length ns
+closed_inside old new ns place b c = (closing b.0 old new b.1 ns b.2 place b.3 c).inside
 
 -- closing the innermost node, which gets its size, counts as closing some that are whole
 pub closing_settles : (old new : Walked) (ns : List Node) (n : Node) (k place : ℕ) →

@@ -16,6 +16,7 @@ ghost use Rattle.value_core.specs.Walked.{advanced, elements_after, next_of, ope
 use crate::builder::Builder;
 use crate::walk::Walk;
 use count_core::Count;
+use growth_core::GrowVec;
 use node_core::{Content, Leaf, Left, Node};
 use registry_core::TypeId;
 use std::alloc::{AllocError, Allocator};
@@ -25,15 +26,15 @@ use std::alloc::{AllocError, Allocator};
 /// Refuses want of memory for one more. Nothing that is there changes in either case.
 #[inline(always)]
 fn make_room<A: Allocator>(
-    nodes: &mut Vec<Node, A>,
-    pool: &mut Vec<u8, A>,
+    nodes: &mut GrowVec<Node, A>,
+    pool: &mut GrowVec<u8, A>,
     walk: &Walk<'_, A>,
 ) -> Result<(), AllocError>
-    ensures nodes { nodes.new.items ≡ nodes.old.items }
-    ensures pool { pool.new.items ≡ pool.old.items }
-    ensures room { OnOk result (vec_len nodes.new + 1 ≤ vec_capacity nodes.new) }
+    ensures nodes { nodes.new.list.items ≡ nodes.old.list.items }
+    ensures pool { pool.new.list.items ≡ pool.old.list.items }
+    ensures room { OnOk result (vec_len nodes.new.list + 1 ≤ vec_capacity nodes.new.list) }
 {
-    if nodes.len() < nodes.capacity() {
+    if nodes.has_room(1) {
         return Ok(());
     }
     walk.make_room(nodes, pool)
@@ -42,17 +43,17 @@ fn make_room<A: Allocator>(
 /// Appends a node without children, and to the pool what does not fit it: both, or where memory is refused neither.
 #[inline(always)]
 pub(crate) fn append<A: Allocator>(
-    nodes: &mut Vec<Node, A>,
-    pool: &mut Vec<u8, A>,
+    nodes: &mut GrowVec<Node, A>,
+    pool: &mut GrowVec<u8, A>,
     walk: &Walk<'_, A>,
     ty: TypeId,
     leaf: Leaf<'_>,
 ) -> Result<(), AllocError>
     requires { FitsLeaf leaf }
-    ensures ok { OnOk result (IsAppended ty leaf.entry nodes.old.items pool.old.items
-        nodes.new.items pool.new.items) }
-    ensures err { OnErr result ((nodes.new.items ≡ nodes.old.items)
-        × (pool.new.items ≡ pool.old.items)) }
+    ensures ok { OnOk result (IsAppended ty leaf.entry nodes.old.list.items pool.old.list.items
+        nodes.new.list.items pool.new.list.items) }
+    ensures err { OnErr result ((nodes.new.list.items ≡ nodes.old.list.items)
+        × (pool.new.list.items ≡ pool.old.list.items)) }
 {
     make_room(nodes, pool, walk)?;
     let content = leaf.keep(pool)?;
@@ -68,14 +69,14 @@ pub(crate) fn append<A: Allocator>(
 /// Appends a node: it, or where memory is refused nothing.
 #[inline(always)]
 pub(crate) fn append_node<A: Allocator>(
-    nodes: &mut Vec<Node, A>,
-    pool: &mut Vec<u8, A>,
+    nodes: &mut GrowVec<Node, A>,
+    pool: &mut GrowVec<u8, A>,
     walk: &Walk<'_, A>,
     node: Node,
 ) -> Result<(), AllocError>
-    ensures ok { OnOk result (nodes.new.items ≡ nodes.old.items ++ node ∷ []) }
-    ensures err { OnErr result (nodes.new.items ≡ nodes.old.items) }
-    ensures pool { pool.new.items ≡ pool.old.items }
+    ensures ok { OnOk result (nodes.new.list.items ≡ nodes.old.list.items ++ node ∷ []) }
+    ensures err { OnErr result (nodes.new.list.items ≡ nodes.old.list.items) }
+    ensures pool { pool.new.list.items ≡ pool.old.list.items }
 {
     make_room(nodes, pool, walk)?;
     nodes.push_reserved(node);
@@ -84,9 +85,9 @@ pub(crate) fn append_node<A: Allocator>(
 
 /// Closes the innermost open node where it is whole: was one closed?
 #[inline(always)]
-fn close_one<A: Allocator>(walk: &mut Walk<'_, A>, nodes: &mut Vec<Node, A>) -> bool
-    requires { AreBuilt walk.old nodes.old.items }
-    ensures settles { Settles walk.old nodes.old.items walk.new nodes.new.items }
+fn close_one<A: Allocator>(walk: &mut Walk<'_, A>, nodes: &mut GrowVec<Node, A>) -> bool
+    requires { AreBuilt walk.old nodes.old.list.items }
+    ensures settles { Settles walk.old nodes.old.list.items walk.new nodes.new.list.items }
     ensures yes { result ≡ true → length walk.new.frames + 1 ≡ length walk.old.frames }
     ensures no { result ≡ false →
         IsSettled walk.new × (length walk.new.frames ≡ length walk.old.frames) }
@@ -95,15 +96,21 @@ fn close_one<A: Allocator>(walk: &mut Walk<'_, A>, nodes: &mut Vec<Node, A>) -> 
         return false;
     };
     let size = nodes.as_slice().len() - place;
-    nodes[place].content.close(size);
+    let mut node = nodes.get(place);
+    node.content.close(size);
+    nodes.replace(place, node);
     true
 }
 
 /// Closes the open nodes that are whole, one in each turn, and counts the turns.
 #[inline(never)]
-fn close_whole<A: Allocator>(walk: &mut Walk<'_, A>, nodes: &mut Vec<Node, A>, turns: &mut Count)
-    requires { AreBuilt walk.old nodes.old.items }
-    ensures settles { Settles walk.old nodes.old.items walk.new nodes.new.items }
+fn close_whole<A: Allocator>(
+    walk: &mut Walk<'_, A>,
+    nodes: &mut GrowVec<Node, A>,
+    turns: &mut Count,
+)
+    requires { AreBuilt walk.old nodes.old.list.items }
+    ensures settles { Settles walk.old nodes.old.list.items walk.new nodes.new.list.items }
     ensures walk { walk.new ≡ settled_walk walk.old }
     ensures turns { turns.new.so_far ≡ turns.old.so_far + closings walk.old.frames }
 {
@@ -116,11 +123,11 @@ fn close_whole<A: Allocator>(walk: &mut Walk<'_, A>, nodes: &mut Vec<Node, A>, t
 #[inline(always)]
 pub(crate) fn settle<A: Allocator>(
     walk: &mut Walk<'_, A>,
-    nodes: &mut Vec<Node, A>,
+    nodes: &mut GrowVec<Node, A>,
     turns: &mut Count,
 )
-    requires { AreBuilt walk.old nodes.old.items }
-    ensures settles { Settles walk.old nodes.old.items walk.new nodes.new.items }
+    requires { AreBuilt walk.old nodes.old.list.items }
+    ensures settles { Settles walk.old nodes.old.list.items walk.new nodes.new.list.items }
     ensures walk { walk.new ≡ settled_walk walk.old }
     ensures turns { turns.new.so_far ≡ turns.old.so_far + closings walk.old.frames }
 {
@@ -243,7 +250,7 @@ impl<'r, A: Allocator> Builder<'r, A> {
         ensures no { result ≡ Ok false → self.new ≡ self.old }
         ensures err { OnErr result (self.new ≡ self.old) }
     {
-        if self.nodes.capacity() - self.nodes.len() < 2 {
+        if !self.nodes.has_room(2) {
             return Ok(false);
         }
         let mut node = Node {

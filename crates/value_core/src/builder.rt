@@ -14,6 +14,7 @@ use crate::build_fault::BuildFault;
 use crate::walk::Walk;
 use count_core::Count;
 use grammar_core::{Form, MAX_DEPTH, Next, RunKind};
+use growth_core::GrowVec;
 use node_core::{Node, OpenRun, Value, put_piece};
 use registry_core::TypeId;
 use simdutf8::compat::from_utf8;
@@ -26,8 +27,8 @@ use widths_core::Checked;
 pub struct Builder<'r, A: Allocator> {
     pub(crate) root: TypeId,
     pub(crate) walk: Walk<'r, A>,
-    pub(crate) nodes: Vec<Node, A>,
-    pub(crate) pool: Vec<u8, A>,
+    pub(crate) nodes: GrowVec<Node, A>,
+    pub(crate) pool: GrowVec<u8, A>,
     pub(crate) text_len: usize,
     pub(crate) open_run: Option<OpenRun>,
     pub(crate) turns: Count,
@@ -43,14 +44,14 @@ impl<'r, A: Allocator> Model for Builder<'r, A> {
     ghost view = { λ b. record {
       ty = b.root.0;
       walk = b.walk;
-      entries = entries_shown b.pool.items b.nodes.items;
-      run = pieces_shown b.pool.items b.open_run;
+      entries = entries_shown b.pool.list.items b.nodes.list.items;
+      run = pieces_shown b.pool.list.items b.open_run;
       turns = b.turns.so_far;
     } };
 
-    ghost invariant = { λ b. IsBuilding b.root.0 b.walk b.pool.items b.nodes.items b.text_len
-        × IsOpenRun b.walk b.pool.items (all_kept b.nodes.items) b.open_run × IsSettled b.walk
-        × IsPaid b.walk b.nodes.items b.turns.so_far };
+    ghost invariant = { λ b. IsBuilding b.root.0 b.walk b.pool.list.items b.nodes.list.items
+        b.text_len × IsOpenRun b.walk b.pool.list.items (all_kept b.nodes.list.items) b.open_run
+        × IsSettled b.walk × IsPaid b.walk b.nodes.list.items b.turns.so_far };
 }
 
 /// The refusal of a call that is not the one for what comes next.
@@ -111,8 +112,8 @@ impl<'r, A: Allocator + Clone> Builder<'r, A> {
           turns = 0;
         }) }
     {
-        let nodes = Vec::new(alloc.clone()?);
-        let pool = Vec::new(alloc.clone()?);
+        let nodes = GrowVec::new(alloc.clone()?);
+        let pool = GrowVec::new(alloc.clone()?);
         Ok(Builder {
             root,
             walk: Walk::new(alloc, checked, root, depth),
@@ -240,7 +241,7 @@ impl<'r, A: Allocator> Builder<'r, A> {
     {
         let open = self.open_run?;
         match open.kind {
-            RunKind::Text => match from_utf8(&self.pool[open.start..]) {
+            RunKind::Text => match from_utf8(&self.pool.as_slice()[open.start..]) {
                 Ok(_) => None,
                 Err(fault) => Some(fault.valid_up_to() as u64),
             },

@@ -14,7 +14,8 @@ ghost use Rattle.value_core.specs.Walked.{Closes, IsBounded, elements_after, is_
 ghost use Rattle.value_core.specs.Wrapped.{WrapsArray};
 
 use grammar_core::{Form, MAX_DEPTH, Next, StopReason, next_of_step};
-use node_core::{Frame, Left, Node, make_room_for_nodes};
+use growth_core::GrowVec;
+use node_core::{Frame, Left, Node};
 use registry_core::TypeId;
 use std::alloc::{AllocError, Allocator};
 use std::marker::Model;
@@ -59,16 +60,18 @@ fn elements_in(step: Step, length: u32) -> Left
     }
 }
 
-/// Puts a frame behind the others: it, or where memory is refused nothing.
+/// Appends a frame.
+///
+/// # Errors
+///
+/// `AllocError` if the allocation fails; the frames are unchanged then.
 #[inline(always)]
-fn push_frame<A: Allocator>(frames: &mut Vec<Frame, A>, frame: Frame) -> Result<(), AllocError>
-    ensures ok { OnOk result (frames.new.items ≡ frames.old.items ++ frame ∷ []) }
-    ensures len { OnOk result (length frames.new.items ≡ length frames.old.items + 1) }
-    ensures err { OnErr result (frames.new.items ≡ frames.old.items) }
+fn push_frame<A: Allocator>(frames: &mut GrowVec<Frame, A>, frame: Frame) -> Result<(), AllocError>
+    ensures ok { OnOk result (frames.new.list.items ≡ frames.old.list.items ++ frame ∷ []) }
+    ensures len { OnOk result (length frames.new.list.items ≡ length frames.old.list.items + 1) }
+    ensures err { OnErr result (frames.new.list.items ≡ frames.old.list.items) }
 {
-    if frames.len() == frames.capacity() {
-        frames.reserve(1)?;
-    }
+    frames.make_room(1, None)?;
     frames.push_reserved(frame);
     Ok(())
 }
@@ -82,7 +85,7 @@ fn push_frame<A: Allocator>(frames: &mut Vec<Frame, A>, frame: Frame) -> Result<
 pub struct Walk<'r, A: Allocator> {
     checked: &'r Checked,
     top: Frame,
-    around: Vec<Frame, A>,
+    around: GrowVec<Frame, A>,
     /// The type that was looked up last: the next one, where any is left in the innermost node.
     ty: TypeId,
     limit: usize,
@@ -103,13 +106,13 @@ impl<'r, A: Allocator> Model for Walk<'r, A> {
     ghost view = { λ w. record {
       types = w.checked.now.types;
       limit = w.limit;
-      frames = frames_of w.checked.now.types w.top w.around.items;
+      frames = frames_of w.checked.now.types w.top w.around.list.items;
     } };
 
-    ghost invariant = { λ w. (w.limit ≤ 1024) × (length w.around.items ≤ w.limit + 1)
+    ghost invariant = { λ w. (w.limit ≤ 1024) × (length w.around.list.items ≤ w.limit + 1)
         × IfSome (first_of (left_of w.checked.now.types w.top.left)) (λ t. w.ty.0 ≡ t)
         × IsWithin (references_of w.checked.now.types) w.top.left
-        × AreWithin (references_of w.checked.now.types) w.around.items };
+        × AreWithin (references_of w.checked.now.types) w.around.list.items };
 }
 
 impl<'r, A: Allocator> Walk<'r, A> {
@@ -122,7 +125,7 @@ impl<'r, A: Allocator> Walk<'r, A> {
         Walk {
             checked,
             top: Frame { node: 0, left },
-            around: Vec::new(alloc),
+            around: GrowVec::new(alloc),
             ty: root,
             limit: usize::from(limit),
         }
@@ -252,26 +255,34 @@ impl<'r, A: Allocator> Walk<'r, A> {
         Some(node)
     }
 
-    /// Makes room for one more node, ahead of as many as the open lists are expected to bring: as the one of which most is.
-    ///
-    /// Refuses want of memory for one more. Nothing that is there changes in either case.
+    /// Reserves capacity for one more node and for those that the open lists are expected to bring, and for their bytes. It
+    /// returns `AllocError` if an allocation fails; nothing that is there changes.
     #[cold]
     #[inline(never)]
     pub(crate) fn make_room(
         &self,
-        nodes: &mut Vec<Node, A>,
-        pool: &mut Vec<u8, A>,
+        nodes: &mut GrowVec<Node, A>,
+        pool: &mut GrowVec<u8, A>,
     ) -> Result<(), AllocError>
-        ensures nodes { nodes.new.items ≡ nodes.old.items }
-        ensures pool { pool.new.items ≡ pool.old.items }
-        ensures room { OnOk result (vec_len nodes.new + 1 ≤ vec_capacity nodes.new) }
+        ensures nodes { nodes.new.list.items ≡ nodes.old.list.items }
+        ensures pool { pool.new.list.items ≡ pool.old.list.items }
+        ensures room { OnOk result (vec_len nodes.new.list + 1 ≤ vec_capacity nodes.new.list) }
     {
         let mut most = self.top.expected(nodes.as_slice());
         'frames: for frame in self.around.as_slice() {
             most = most.max(frame.expected(nodes.as_slice()));
         }
+        let len = nodes.len();
+        if most == 0 || len == 0 {
+            return nodes.make_room(1, None);
+        }
         // A sixteenth more, since no two parts of a value are quite alike.
-        make_room_for_nodes(nodes, pool, most.saturating_add(most / 16))
+        let expected = most.saturating_add(most / 16);
+        let bytes = pool.len().saturating_mul(expected) / len;
+        if bytes > 0 {
+            pool.make_room_ahead(bytes.max(pool.len() / 8))?;
+        }
+        nodes.make_room(1, Some(expected.max(len / 8)))
     }
 
     /// The registry that the types are of, lent as long as it is lent to the walk.

@@ -1,5 +1,6 @@
 //! Values written to writers that fail, take nothing, or take one byte a call.
 
+use crate::expect::same;
 use scale_core::{Sink, SinkFault};
 use scale_tests::builders::built;
 use scale_tests::building::{Call, checked};
@@ -84,11 +85,11 @@ fn check_front(
     wanted: WriteFault,
 ) {
     let mut sink = Sink::new(writer);
-    assert_eq!(rt; encode(value, &mut sink), Err(wanted), "{bytes:?}");
-    assert!(rt; sink.failed(), "{bytes:?}");
+    same(rt, (bytes, encode(value, &mut sink)), (bytes, Err(wanted)));
+    same(rt, (bytes, sink.failed()), (bytes, true));
     let taken = sink.into_inner().taken;
     let front = bytes.get(..wanted.written as usize);
-    assert_eq!(rt; Some(taken.as_slice()), front, "{bytes:?}");
+    same(rt, (bytes, Some(taken.as_slice())), (bytes, front));
 }
 
 /// Writes the value to writers that end after so many of its bytes.
@@ -118,9 +119,9 @@ fn check_place(
 /// Writes the value to a writer that takes all bytes.
 fn check_whole(rt: &impl Abort, value: &Value<'_, Global>, bytes: &[u8], writer: PacedWriter) {
     let mut sink = Sink::new(writer);
-    assert_eq!(rt; encode(value, &mut sink), Ok(()), "{bytes:?}");
-    assert!(rt; !sink.failed(), "{bytes:?}");
-    assert_eq!(rt; sink.into_inner().taken.as_slice(), bytes);
+    same(rt, (bytes, encode(value, &mut sink)), (bytes, Ok(())));
+    same(rt, (bytes, !sink.failed()), (bytes, true));
+    same(rt, sink.into_inner().taken.as_slice(), bytes);
 }
 
 /// Writes the value of a row to each kind of writer.
@@ -152,8 +153,8 @@ fn a_value_without_bytes_is_not_written(rt: HostRuntime) -> Result<(), Fail> {
     let value = built(rt.alloc(), &checked, 1, 0, &[Call::Empty])?;
     'endings: for then in [Then::Fails, Then::TakesNothing] {
         let mut sink = Sink::new(PacedWriter::new(rt.alloc(), 0, usize::MAX, then));
-        assert_eq!(rt; encode(&value, &mut sink), Ok(()), "{then:?}");
-        assert!(rt; !sink.failed(), "{then:?}");
+        same(&rt, (then, encode(&value, &mut sink)), (then, Ok(())));
+        same(&rt, (then, !sink.failed()), (then, true));
     }
     Ok(())
 }
@@ -167,8 +168,8 @@ fn an_interrupted_write_is_a_failed_one(rt: HostRuntime) -> Result<(), Fail> {
         reason: SinkFault::Device,
         written: 1,
     };
-    assert_eq!(rt; encode(&value, &mut sink), Err(wanted));
-    assert!(rt; sink.failed());
-    assert_eq!(rt; sink.into_inner().calls, 2);
+    same(&rt, encode(&value, &mut sink), Err(wanted));
+    same(&rt, sink.failed(), true);
+    same(&rt, sink.into_inner().calls, 2);
     Ok(())
 }

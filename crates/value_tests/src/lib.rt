@@ -4,7 +4,9 @@
 #[cfg(test)]
 mod encoder_devices;
 #[cfg(test)]
-mod kept;
+mod expect;
+#[cfg(test)]
+mod growth;
 #[cfg(test)]
 mod values;
 #[cfg(test)]

@@ -1,5 +1,6 @@
 //! Finished values: their nodes, their texts and runs of bytes, and their registry.
 
+use crate::expect::same;
 use registry_core::TypeId;
 use scale_tests::builders::{built, counts};
 use scale_tests::building::{Call, checked};
@@ -54,7 +55,7 @@ fn integers_around_64_bits_are_kept(rt: HostRuntime) -> Result<(), Fail> {
     let checked = checked(rt.alloc(), NUMBERS)?;
     'integers: for (ty, call, what) in INTEGERS {
         let value = built(rt.alloc(), &checked, ty, 64, &[call])?;
-        assert_eq!(rt; value.root().what(), what);
+        same(&rt, value.root().what(), what);
     }
     Ok(())
 }
@@ -63,11 +64,11 @@ fn integers_around_64_bits_are_kept(rt: HostRuntime) -> Result<(), Fail> {
 fn a_value_lends_its_registry(rt: HostRuntime) -> Result<(), Fail> {
     let checked = checked(rt.alloc(), TWO_UNITS_AND_A_BYTE)?;
     let value = built(rt.alloc(), &checked, 1, 0, &[Call::Empty])?;
-    assert_eq!(rt; counts(&value), (1, 0));
+    same(&rt, counts(&value), (1, 0));
     let lent = value.checked();
-    assert_eq!(rt; (lent.registry().types().len(), lent.widest()), (3, 3));
-    assert_eq!(rt; lent.class(TypeId(1)), Some(Class::Empty));
-    assert_eq!(rt; lent.class(TypeId(2)), Some(Class::Sized));
+    same(&rt, (lent.registry().types().len(), lent.widest()), (3, 3));
+    same(&rt, lent.class(TypeId(1)), Some(Class::Empty));
+    same(&rt, lent.class(TypeId(2)), Some(Class::Sized));
     Ok(())
 }
 
@@ -77,8 +78,12 @@ fn the_first_of_two_arms_with_one_index_is_reported(rt: HostRuntime) -> Result<(
     let value = built(rt.alloc(), &checked, 1, 64, &[Call::Arm(3)])?;
     let root = value.root();
     let wanted = (TypeId(1), What::Arm { position: 0 });
-    assert_eq!(rt; (root.type_id(), root.what()), wanted);
-    assert!(rt; root.children().next().is_none() && root.text().is_none());
+    same(&rt, (root.type_id(), root.what()), wanted);
+    same(
+        &rt,
+        root.children().next().is_none() && root.text().is_none(),
+        true,
+    );
     Ok(())
 }
 
@@ -152,11 +157,15 @@ fn children_step_over_what_is_below_them(rt: HostRuntime) -> Result<(), Fail> {
         let checked = checked(rt.alloc(), registry)?;
         let value = built(rt.alloc(), &checked, ty, 64, calls)?;
         let root = value.root();
-        assert_eq!(rt; (root.type_id(), root.what()), (TypeId(ty), What::Fields));
+        same(
+            &rt,
+            (root.type_id(), root.what()),
+            (TypeId(ty), What::Fields),
+        );
         let reported = two_levels(rt.alloc(), &value)?;
         let below = reported.len() as u64;
-        assert_eq!(rt; counts(&value), (below.saturating_add(1), 0));
-        assert_eq!(rt; reported.as_slice(), wanted);
+        same(&rt, counts(&value), (below.saturating_add(1), 0));
+        same(&rt, reported.as_slice(), wanted);
     }
     Ok(())
 }
@@ -183,10 +192,10 @@ fn a_chain_of_arms_is_one_child_in_another(rt: HostRuntime) -> Result<(), Fail> 
     let Some(last) = only_child(&middle) else {
         return Err("not one grandchild")?;
     };
-    assert_eq!(rt; root.what(), What::Arm { position: 1 });
-    assert_eq!(rt; middle.what(), What::Arm { position: 1 });
-    assert_eq!(rt; last.what(), What::Arm { position: 0 });
-    assert!(rt; last.children().next().is_none());
+    same(&rt, root.what(), What::Arm { position: 1 });
+    same(&rt, middle.what(), What::Arm { position: 1 });
+    same(&rt, last.what(), What::Arm { position: 0 });
+    same(&rt, last.children().next().is_none(), true);
     Ok(())
 }
 
@@ -206,11 +215,11 @@ fn a_text_is_lent(rt: HostRuntime) -> Result<(), Fail> {
     let checked = checked(rt.alloc(), TEXT)?;
     'values: for calls in TEXT_CALLS {
         let value = built(rt.alloc(), &checked, 0, 0, calls)?;
-        assert_eq!(rt; counts(&value), (1, 3));
+        same(&rt, counts(&value), (1, 3));
         let root = value.root();
-        assert_eq!(rt; root.what(), What::Text);
-        assert_eq!(rt; root.text(), Some("\u{e9}a"));
-        assert!(rt; root.bytes().is_none());
+        same(&rt, root.what(), What::Text);
+        same(&rt, root.text(), Some("\u{e9}a"));
+        same(&rt, root.bytes().is_none(), true);
     }
     Ok(())
 }
@@ -231,12 +240,16 @@ fn bytes_are_lent(rt: HostRuntime) -> Result<(), Fail> {
     let checked = checked(rt.alloc(), BYTES)?;
     'values: for calls in RUN_CALLS {
         let value = built(rt.alloc(), &checked, 1, 0, calls)?;
-        assert_eq!(rt; counts(&value), (1, 2));
+        same(&rt, counts(&value), (1, 2));
         let root = value.root();
         let run = root.bytes().ok_or("no bytes")?;
-        assert!(rt; run == b"\x61\xff".as_slice());
-        assert_eq!(rt; root.what(), What::Bytes);
-        assert!(rt; root.text().is_none() && root.children().next().is_none());
+        same(&rt, run == b"\x61\xff".as_slice(), true);
+        same(&rt, root.what(), What::Bytes);
+        same(
+            &rt,
+            root.text().is_none() && root.children().next().is_none(),
+            true,
+        );
     }
     Ok(())
 }

@@ -1,5 +1,6 @@
 //! What a walk reports beside what comes next, and the greatest depth.
 
+use crate::expect::same;
 use scale_tests::builders::{begun, counts, finished};
 use scale_tests::building::{Call, add, checked, what_stands};
 use scale_tests::registries::{CHAIN, WORDS_AND_A_BYTE};
@@ -23,7 +24,7 @@ const FOLLOWED: [(Call<'static>, bool, u32); 6] = [
 fn check_after(rt: &impl Abort, builder: &Builder<'_, Global>, wanted: (bool, u32)) {
     let walk = builder.walk();
     let reported = (walk.is_in_list(), walk.elements_after());
-    assert_eq!(rt; reported, wanted);
+    same(rt, reported, wanted);
 }
 
 #[test]
@@ -41,7 +42,7 @@ fn the_elements_that_follow_the_next_one_are_counted(rt: HostRuntime) -> Result<
 /// Checks what comes next in the builder, and its depth.
 fn check_next(rt: &impl Abort, builder: &Builder<'_, Global>, next: Next, depth: u16) {
     let standing = what_stands(builder);
-    assert_eq!(rt; (standing.next, standing.depth), (next, depth));
+    same(rt, (standing.next, standing.depth), (next, depth));
 }
 
 // The root has depth 0, so the node with 1024 around it is the deepest that a builder takes.
@@ -57,7 +58,7 @@ fn a_walk_goes_to_the_greatest_depth(rt: HostRuntime) -> Result<(), Fail> {
     add(&mut builder, Call::Arm(0))?;
     check_next(&rt, &builder, Next::Finished, 0);
     let value = finished(builder)?;
-    assert_eq!(rt; counts(&value), (1025, 0));
+    same(&rt, counts(&value), (1025, 0));
     Ok(())
 }
 
@@ -67,5 +68,5 @@ fn the_default_limits_are_reported(rt: HostRuntime) {
         depth: 64,
         bytes: 16_777_216,
     };
-    assert_eq!(rt; Limits::default_limits(), limits);
+    same(&rt, Limits::default_limits(), limits);
 }

@@ -5,7 +5,7 @@ use Rattle.hex.proofs.HexLemmas.{length-encode_with}
 use Rattle.token_core.proofs.Outputs.{hex_string}
 use Rattle.json_core.specs.Printed.{IsInFront}
 use Rattle.json_core.proofs.InFront.{in_front, placed_after, placed_first, run_long}
-use Rattle.json_core.proofs.Runs.{quoted_run}
+use Rattle.json_core.proofs.InFront.{quoted_run}
 use Rattle.json_core.proofs.placed.run_in_front.Goals as goal
 
 pub returns-then-len-out-clause-placed : goal.returns-then-len-out-clause-placed

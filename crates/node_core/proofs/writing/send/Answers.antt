@@ -11,3 +11,6 @@ parts-preserved g c = record {
   quiet = search rules;
   none = λ e. absurd (omega (arith, e, c.parts-test.true));
 }
+
+pub returns-in-Err-clause-met : goal.returns-in-Err-clause-met
+returns-in-Err-clause-met g c = (c.parts.sink.device, _, search rules, c.in-Err.ensures.once)

@@ -48,3 +48,8 @@ returns-in_err-send-clause-err g c =
     let p = err_from_is_err_and c.from_residual.result c.from_residual.ensures.1 in
     rw (p.1, p.2) (sent_front _ _ front back _ _ whole c.in_err-send.ensures.part
     c.in_err-send.ensures.err)
+
+pub returns-in_err-send-clause-met : goal.returns-in_err-send-clause-met
+returns-in_err-send-clause-met g c =
+    let p = err_from_is_err_and c.from_residual.result c.from_residual.ensures.1 in
+    rw (p.1, p.2) c.in_err-send.ensures.met

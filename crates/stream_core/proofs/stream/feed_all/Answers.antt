@@ -1,12 +1,25 @@
-use Rattle.std.proofs.Common.{rules, arith, ap, take, ◌++◌, ◌∙◌, length-append}
-use Rattle.std.proofs.KnownBytes.{Consumes-trans}
+use Rattle.std.proofs.Common.{rules, arith, ap, take, suc, [], ◌+◌, ◌++◌, ◌∙◌, length-append, refl}
+use Rattle.std.proofs.KnownBytes.{Consumes-nil, Consumes-trans}
 use Rattle.std.proofs.lemmas.List.{length-take}
 use Rattle.std.proofs.lemmas.Result.{err_from_is_err_and}
 use Rattle.decode_core.specs.Outcome.{Job}
-use Rattle.stream_core.proofs.Streaming.{end_known, ended_known, look_feeds, more_by}
+use Rattle.stream_core.specs.Streaming.{FailsAfter, FailsAt}
+use Rattle.stream_core.proofs.Streaming.{end_known, ended_known, gives_next, look_feeds, more_by}
 use Rattle.stream_core.proofs.Streaming.{stops_open, trails_within, under_way_open}
 use Rattle.stream_core.proofs.Streaming.{under_way_by, under_way_ends, whole_by}
 use Rattle.stream_core.proofs.stream.feed_all.Goals as goal
+
+pub pieces-init : goal.pieces-init
+pieces-init g c = record {
+  so_far = (
+    [],
+    c.requires,
+    Consumes-nil (g.R.Read.remaining c.args.source.now.device),
+    (0, (refl, refl)),
+  );
+  job = refl;
+  quiet = refl;
+}
 
 pub returns-then-count-eq0-clause-answers : goal.returns-then-count-eq0-clause-answers
 returns-then-count-eq0-clause-answers g c =
@@ -54,7 +67,13 @@ returns-in-Done-clause-answers g c =
     let answers = c.in_ok-used.ensures.answers so_far.0 so_far.1.led in
     let w = whole_by c.pieces.decoder c.feed.new.self (so_far.0 ++ part) c.in_ok-used.field-0
     c.in-Done.used c.in-Done.is answers.0 in
-    look_feeds _ _ _ c.feed.new.self (so_far.0 ++ part) w.tree c.has_more.result
+    let gives = gives_next g.R.ReadOnce.reads c.args.source.now.device so_far.3.0 so_far.0
+    c.pieces.source.device _ c.in_ok-count.count c.pull.new.part c.pull.new.self.device so_far.3.1
+    c.in_ok-count.ensures.once in
+    look_feeds (FailsAt g.R.ReadOnce.reads c.pull.new.self.device c.has_more.new.source.device)
+    (FailsAfter g.R.ReadOnce.reads c.args.source.now.device c.has_more.new.source.device) _ _ _
+    c.feed.new.self (so_far.0 ++ part) w.tree c.has_more.result
+    (λ failed. (c.pull.new.self.device, suc so_far.3.0, gives, failed))
     (Consumes-trans _ _ _ so_far.0 part so_far.2 c.in_ok-count.ensures.bytes.0) w.outcome
     answers.1
     (omega (
@@ -97,6 +116,12 @@ pieces-preserved g c =
         under_way_by c.pieces.decoder c.feed.new.self so_far.0 part c.in_ok-used.field-0
             (more_by _ c.in_default.not-Done) (c.in_ok-used.ensures.answers so_far.0 so_far.1.led),
         Consumes-trans _ _ _ so_far.0 part so_far.2 c.in_ok-count.ensures.bytes.0,
+        (
+          suc so_far.3.0,
+          gives_next g.R.ReadOnce.reads c.args.source.now.device so_far.3.0 so_far.0
+              c.pieces.source.device _ c.in_ok-count.count c.pull.new.part
+              c.pull.new.self.device so_far.3.1 c.in_ok-count.ensures.once,
+        ),
       );
       job = c.in_ok-used.ensures.job ∙ c.pieces.invariant.job;
       quiet = search rules;
@@ -106,5 +131,8 @@ pub returns-in_err-count-clause-answers : goal.returns-in_err-count-clause-answe
 returns-in_err-count-clause-answers g c =
     let so_far = c.pieces.invariant.so_far in
     let p = err_from_is_err_and c.from_residual.result c.from_residual.ensures.1 in
-    rw (p.1, p.2) (stops_open _ _ _ c.pieces.decoder.job so_far.0 so_far.2
-    c.in_err-count.ensures.bytes (under_way_open c.pieces.decoder so_far.0 so_far.1))
+    rw (p.1, p.2) (stops_open
+    (FailsAfter g.R.ReadOnce.reads c.args.source.now.device c.pull.new.self.device) _ _ _
+    c.pieces.decoder.job so_far.0
+    (c.pieces.source.device, so_far.3.0, so_far.3.1, (_, _, c.in_err-count.ensures.once))
+    so_far.2 c.in_err-count.ensures.bytes (under_way_open c.pieces.decoder so_far.0 so_far.1))

@@ -13,7 +13,8 @@ returns-in_ok-put_long-in-None-short_signed-clause-ok g c =
     let fits = subst FitsLeaf c.in-Signed.is c.requires in
     let word : c.cast_unsigned.result ≡ cast_unsigned w128 c.in-Signed.x =
     c.cast_unsigned.ensures ∙ ap (cast_unsigned w128) (to_z-of_z w128 c.in-Signed.x fits) in
-    let put = long_put c.args.pool.now.items c.put_long-in-None-short_signed.new.pool.items
+    let put = long_put c.args.pool.now.list.items
+    c.put_long-in-None-short_signed.new.pool.list.items
     c.in_ok-put_long-in-None-short_signed.field-0 c.cast_unsigned.result
     c.in_ok-put_long-in-None-short_signed.ensures.place
     c.in_ok-put_long-in-None-short_signed.ensures.ok in

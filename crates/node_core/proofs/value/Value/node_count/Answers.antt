@@ -6,5 +6,5 @@ use Rattle.node_core.proofs.value.Value.node_count.Goals as goal
 
 pub returns : goal.returns
 returns g c = ap length c.as_slice.ensures.value
-    ∙ nodes_shown _ _ c.self.inside.nodes.items c.self.invariant.0
+    ∙ nodes_shown _ _ c.self.inside.nodes.list.items c.self.invariant.0
     ∙ ap (λ (s : Seen). nodes s.tree) c.self.view_is

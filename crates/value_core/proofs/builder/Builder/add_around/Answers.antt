@@ -10,7 +10,7 @@ use Rattle.value_core.proofs.builder.Builder.add_around.Goals as goal
 
 pub overflow_add-self : goal.overflow_add-self
 overflow_add-self g c =
-    let small : length c.self.inside.pool.items < 2 ^ 63 = search rules in
+    let small : length c.self.inside.pool.list.items < 2 ^ 63 = search rules in
     let fits = texts_fit _ _ c.args.leaf _ _ _ c.self.invariant.0 c.requires.fits small in
     search rules
 
@@ -20,7 +20,7 @@ settle-requires g c =
     let b = around_by n c.args.part c.self.view_is c.self.invariant.0 c.requires.next c.ty.ensures
     c.requires.opened c.requires.leaf c.in_ok-content.ensures.ok in (
       c.self.inside.root.0,
-      c.keep.new.pool.items,
+      c.keep.new.pool.list.items,
       c.self.inside.text_len + leaf_text_bytes c.args.leaf,
       rw (
         c.advance.ensures,
@@ -35,7 +35,7 @@ invariant_of-self-2 g c =
     let n : Node = record { ty = c.ty.result; children = 1; content = c.args.content } in
     let b = around_by n c.args.part c.self.view_is c.self.invariant.0 c.requires.next c.ty.ensures
     c.requires.opened c.requires.leaf c.in_ok-content.ensures.ok in
-    let closed = none_open c.self.inside.pool.items c.self.inside.open_run
+    let closed = none_open c.self.inside.pool.list.items c.self.inside.open_run
     (ap (λ (x : Built). x.run) c.self.view_is ∙ c.requires.closed) in (
       c.settle.ensures.settles.builds _ _ _
           (rw (
@@ -55,7 +55,7 @@ invariant_of-self-2 g c =
             c.push_reserved.ensures.items,
             c.close.ensures,
           )
-          (around_paid c.self.inside.walk c.self.inside.nodes.items _ _
+          (around_paid c.self.inside.walk c.self.inside.nodes.list.items _ _
           c.self.inside.turns.so_far c.self.invariant.3)),
     )
 
@@ -64,7 +64,7 @@ returns-clause-yes g c =
     let n : Node = record { ty = c.ty.result; children = 1; content = c.args.content } in
     let b = around_by n c.args.part c.self.view_is c.self.invariant.0 c.requires.next c.ty.ensures
     c.requires.opened c.requires.leaf c.in_ok-content.ensures.ok in
-    let closed = none_open c.self.inside.pool.items c.self.inside.open_run
+    let closed = none_open c.self.inside.pool.list.items c.self.inside.open_run
     (ap (λ (x : Built). x.run) c.self.view_is ∙ c.requires.closed) in
     λ _.
     rw (

@@ -14,7 +14,7 @@ settle-requires g c =
     let b = childless_by n (left_of c.args.self.now.walk.types c.args.left) c.self.view_is
     c.self.invariant.0 c.requires.next c.ty.ensures c.requires.opened c.requires.none in (
       c.self.inside.root.0,
-      c.self.inside.pool.items,
+      c.self.inside.pool.list.items,
       c.self.inside.text_len,
       rw (c.advance.ensures, c.in_ok-append_node.ensures.ok, c.close.ensures) b.0,
     )
@@ -25,7 +25,7 @@ invariant_of-self-2 g c =
     record { ty = c.ty.result; children = c.args.left.count; content = c.args.content } in
     let b = childless_by n (left_of c.args.self.now.walk.types c.args.left) c.self.view_is
     c.self.invariant.0 c.requires.next c.ty.ensures c.requires.opened c.requires.none in
-    let closed = none_open c.self.inside.pool.items c.self.inside.open_run
+    let closed = none_open c.self.inside.pool.list.items c.self.inside.open_run
     (ap (λ (x : Built). x.run) c.self.view_is ∙ c.requires.closed) in (
       c.settle.ensures.settles.builds _ _ _
           (rw (
@@ -43,7 +43,7 @@ invariant_of-self-2 g c =
             c.close.ensures,
             c.tick.ensures,
           )
-          (childless_paid c.self.inside.walk c.self.inside.nodes.items _
+          (childless_paid c.self.inside.walk c.self.inside.nodes.list.items _
           c.self.inside.turns.so_far c.self.invariant.3)),
     )
 

@@ -13,12 +13,12 @@ invariant_of-self-2 g c =
     subst (λ (b : Built). IsNextLeaf b.walk (leaf_head c.args.leaf)) (sym c.self.view_is)
     c.requires.next in
     let with = leaf_appended c.self.inside.root.0 c.self.inside.walk c.args.leaf
-    c.self.inside.pool.items c.append.new.pool.items c.self.inside.nodes.items
-    c.append.new.nodes.items c.self.inside.text_len c.ty-ty.result c.self.invariant.0 l
+    c.self.inside.pool.list.items c.append.new.pool.list.items c.self.inside.nodes.list.items
+    c.append.new.nodes.list.items c.self.inside.text_len c.ty-ty.result c.self.invariant.0 l
     c.ty-ty.ensures c.in_ok-append.ensures.ok in
     let follows : 1 ≤ elements_after c.self.inside.walk =
     subst (λ (b : Built). 1 ≤ elements_after b.walk) (sym c.self.view_is) c.requires.follows in
-    let closed = none_open c.self.inside.pool.items c.self.inside.open_run
+    let closed = none_open c.self.inside.pool.list.items c.self.inside.open_run
     (ap (λ (b : Built). b.run) c.self.view_is ∙ c.requires.closed) in (
       rw (c.pass_element.ensures, c.text_len.ensures) with.builds,
       rw closed tt,
@@ -30,14 +30,14 @@ pub returns-clause-ok : goal.returns-clause-ok
 returns-clause-ok g c =
     let follows : 1 ≤ elements_after c.self.inside.walk =
     subst (λ (b : Built). 1 ≤ elements_after b.walk) (sym c.self.view_is) c.requires.follows in
-    let closed = none_open c.self.inside.pool.items c.self.inside.open_run
+    let closed = none_open c.self.inside.pool.list.items c.self.inside.open_run
     (ap (λ (b : Built). b.run) c.self.view_is ∙ c.requires.closed) in
     let l : IsNextLeaf c.self.inside.walk (leaf_head c.args.leaf) =
     subst (λ (b : Built). IsNextLeaf b.walk (leaf_head c.args.leaf)) (sym c.self.view_is)
     c.requires.next in
     let with = leaf_appended c.self.inside.root.0 c.self.inside.walk c.args.leaf
-    c.self.inside.pool.items c.append.new.pool.items c.self.inside.nodes.items
-    c.append.new.nodes.items c.self.inside.text_len c.ty-ty.result c.self.invariant.0 l
+    c.self.inside.pool.list.items c.append.new.pool.list.items c.self.inside.nodes.list.items
+    c.append.new.nodes.list.items c.self.inside.text_len c.ty-ty.result c.self.invariant.0 l
     c.ty-ty.ensures c.in_ok-append.ensures.ok in
     rw (
       none_closed c.self.inside.walk.frames c.self.inside.turns.so_far follows,
@@ -58,8 +58,8 @@ returns-clause-next g c =
 
 pub overflow_add-self : goal.overflow_add-self
 overflow_add-self g c =
-    let small : length c.self.inside.pool.items < 2 ^ 63 = search rules in
+    let small : length c.self.inside.pool.list.items < 2 ^ 63 = search rules in
     let fits = texts_fit c.self.inside.root.0 c.self.inside.walk c.args.leaf
-    c.self.inside.pool.items c.self.inside.nodes.items c.self.inside.text_len c.self.invariant.0
-    c.requires.fits small in
+    c.self.inside.pool.list.items c.self.inside.nodes.list.items c.self.inside.text_len
+    c.self.invariant.0 c.requires.fits small in
     search rules

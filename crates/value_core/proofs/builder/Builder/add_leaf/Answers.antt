@@ -11,11 +11,11 @@ settle-requires g c =
     subst (λ (b : Built). IsNextLeaf b.walk (leaf_head c.args.leaf)) (sym c.self.view_is)
     c.requires.next in
     let with = leaf_appended c.self.inside.root.0 c.self.inside.walk c.args.leaf
-    c.self.inside.pool.items c.append.new.pool.items c.self.inside.nodes.items
-    c.append.new.nodes.items c.self.inside.text_len c.ty-next.result c.self.invariant.0 l
+    c.self.inside.pool.list.items c.append.new.pool.list.items c.self.inside.nodes.list.items
+    c.append.new.nodes.list.items c.self.inside.text_len c.ty-next.result c.self.invariant.0 l
     c.ty-next.ensures c.in_ok-append.ensures.ok in (
       c.self.inside.root.0,
-      c.append.new.pool.items,
+      c.append.new.pool.list.items,
       c.self.inside.text_len + leaf_text_bytes c.args.leaf,
       rw c.advance.ensures with.builds,
     )
@@ -26,10 +26,10 @@ invariant_of-self-2 g c =
     subst (λ (b : Built). IsNextLeaf b.walk (leaf_head c.args.leaf)) (sym c.self.view_is)
     c.requires.next in
     let with = leaf_appended c.self.inside.root.0 c.self.inside.walk c.args.leaf
-    c.self.inside.pool.items c.append.new.pool.items c.self.inside.nodes.items
-    c.append.new.nodes.items c.self.inside.text_len c.ty-next.result c.self.invariant.0 l
+    c.self.inside.pool.list.items c.append.new.pool.list.items c.self.inside.nodes.list.items
+    c.append.new.nodes.list.items c.self.inside.text_len c.ty-next.result c.self.invariant.0 l
     c.ty-next.ensures c.in_ok-append.ensures.ok in
-    let closed = none_open c.self.inside.pool.items c.self.inside.open_run
+    let closed = none_open c.self.inside.pool.list.items c.self.inside.open_run
     (ap (λ (b : Built). b.run) c.self.view_is ∙ c.requires.closed) in (
       c.settle.ensures.settles.builds _ _ _
           (rw (c.advance.ensures, c.text_len.ensures) with.builds),
@@ -46,10 +46,10 @@ returns-clause-ok g c =
     subst (λ (b : Built). IsNextLeaf b.walk (leaf_head c.args.leaf)) (sym c.self.view_is)
     c.requires.next in
     let with = leaf_appended c.self.inside.root.0 c.self.inside.walk c.args.leaf
-    c.self.inside.pool.items c.append.new.pool.items c.self.inside.nodes.items
-    c.append.new.nodes.items c.self.inside.text_len c.ty-next.result c.self.invariant.0 l
+    c.self.inside.pool.list.items c.append.new.pool.list.items c.self.inside.nodes.list.items
+    c.append.new.nodes.list.items c.self.inside.text_len c.ty-next.result c.self.invariant.0 l
     c.ty-next.ensures c.in_ok-append.ensures.ok in
-    let closed = none_open c.self.inside.pool.items c.self.inside.open_run
+    let closed = none_open c.self.inside.pool.list.items c.self.inside.open_run
     (ap (λ (b : Built). b.run) c.self.view_is ∙ c.requires.closed) in
     rw (
       c.settle.ensures.turns,
@@ -64,8 +64,8 @@ returns-clause-ok g c =
 
 pub overflow_add-self : goal.overflow_add-self
 overflow_add-self g c =
-    let small : length c.self.inside.pool.items < 2 ^ 63 = search rules in
+    let small : length c.self.inside.pool.list.items < 2 ^ 63 = search rules in
     let fits = texts_fit c.self.inside.root.0 c.self.inside.walk c.args.leaf
-    c.self.inside.pool.items c.self.inside.nodes.items c.self.inside.text_len c.self.invariant.0
-    c.requires.fits small in
+    c.self.inside.pool.list.items c.self.inside.nodes.list.items c.self.inside.text_len
+    c.self.invariant.0 c.requires.fits small in
     search rules

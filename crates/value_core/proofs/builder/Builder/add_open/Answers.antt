@@ -20,11 +20,11 @@ settle-requires g c =
       content = c.args.content;
     } in
     let at : n.ty.0 ≡ l.ty = type_at c.self.inside.walk n.ty.0 l.ty l.next c.ty-ty.ensures in
-    let b = open_added c.self.inside.root.0 c.self.inside.walk c.self.inside.pool.items
-    c.self.inside.nodes.items n c.self.inside.text_len
+    let b = open_added c.self.inside.root.0 c.self.inside.walk c.self.inside.pool.list.items
+    c.self.inside.nodes.list.items n c.self.inside.text_len
     (left_of c.self.inside.walk.types c.args.left) c.self.invariant.0 l at c.requires.opened in (
       c.self.inside.root.0,
-      c.self.inside.pool.items,
+      c.self.inside.pool.list.items,
       c.self.inside.text_len,
       rw (
         c.in_ok-enter.ensures.ok,
@@ -46,10 +46,10 @@ invariant_of-self-2 g c =
       content = c.args.content;
     } in
     let at : n.ty.0 ≡ l.ty = type_at c.self.inside.walk n.ty.0 l.ty l.next c.ty-ty.ensures in
-    let b = open_added c.self.inside.root.0 c.self.inside.walk c.self.inside.pool.items
-    c.self.inside.nodes.items n c.self.inside.text_len
+    let b = open_added c.self.inside.root.0 c.self.inside.walk c.self.inside.pool.list.items
+    c.self.inside.nodes.list.items n c.self.inside.text_len
     (left_of c.self.inside.walk.types c.args.left) c.self.invariant.0 l at c.requires.opened in
-    let closed = none_open c.self.inside.pool.items c.self.inside.open_run
+    let closed = none_open c.self.inside.pool.list.items c.self.inside.open_run
     (ap (λ (b : Built). b.run) c.self.view_is ∙ c.requires.closed) in (
       c.settle.ensures.settles.builds _ _ _
           (rw (
@@ -63,7 +63,7 @@ invariant_of-self-2 g c =
       rw c.settle.ensures.walk (settled_again c.enter.new.self),
       settled_paid _ _ _ _ _ _ c.settle.ensures.settles c.settle.ensures.walk c.settle.ensures.turns
           (rw (c.in_ok-enter.ensures.ok, c.push_reserved.ensures.items, c.make_room.ensures.nodes)
-          (open_paid c.self.inside.walk c.self.inside.nodes.items n
-          (length c.self.inside.nodes.items) c.self.inside.turns.so_far
+          (open_paid c.self.inside.walk c.self.inside.nodes.list.items n
+          (length c.self.inside.nodes.list.items) c.self.inside.turns.so_far
           (left_of c.self.inside.walk.types c.args.left) c.self.invariant.3)),
     )

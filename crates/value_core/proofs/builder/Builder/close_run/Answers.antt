@@ -14,11 +14,11 @@ settle-requires g c =
     c.requires.whole in
     let valid = subst (λ (b : Built). bad_text b.run ≡ None) (sym c.self.view_is)
     c.requires.valid in
-    let b = run_ended c.self.inside.root.0 c.self.inside.walk c.self.inside.pool.items
-    c.self.inside.nodes.items c.self.inside.text_len c.self.inside.open_run c.in-Some.open
+    let b = run_ended c.self.inside.root.0 c.self.inside.walk c.self.inside.pool.list.items
+    c.self.inside.nodes.list.items c.self.inside.text_len c.self.inside.open_run c.in-Some.open
     c.ty.result c.self.invariant.0 c.self.invariant.1 c.in-Some.is whole valid c.ty.ensures in (
       c.self.inside.root.0,
-      c.self.inside.pool.items,
+      c.self.inside.pool.list.items,
       c.self.inside.text_len + c.in-Some.open.len,
       rw (c.advance.ensures, c.in_ok-append_node.ensures.ok, c.content.ensures) b,
     )
@@ -29,8 +29,8 @@ invariant_of-self-2 g c =
     c.requires.whole in
     let valid = subst (λ (b : Built). bad_text b.run ≡ None) (sym c.self.view_is)
     c.requires.valid in
-    let b = run_ended c.self.inside.root.0 c.self.inside.walk c.self.inside.pool.items
-    c.self.inside.nodes.items c.self.inside.text_len c.self.inside.open_run c.in-Some.open
+    let b = run_ended c.self.inside.root.0 c.self.inside.walk c.self.inside.pool.list.items
+    c.self.inside.nodes.list.items c.self.inside.text_len c.self.inside.open_run c.in-Some.open
     c.ty.result c.self.invariant.0 c.self.invariant.1 c.in-Some.is whole valid c.ty.ensures in (
       c.settle.ensures.settles.builds _ _ _
           (rw (
@@ -43,15 +43,15 @@ invariant_of-self-2 g c =
       rw c.settle.ensures.walk (settled_again c.advance.new.self),
       settled_paid _ _ _ _ _ _ c.settle.ensures.settles c.settle.ensures.walk c.settle.ensures.turns
           (rw (c.advance.ensures, c.in_ok-append_node.ensures.ok, c.content.ensures)
-          (leaf_paid c.self.inside.walk c.self.inside.nodes.items _ c.self.inside.turns.so_far
+          (leaf_paid c.self.inside.walk c.self.inside.nodes.list.items _ c.self.inside.turns.so_far
           c.self.invariant.3)),
     )
 
 pub overflow_add-self : goal.overflow_add-self
 overflow_add-self g c =
-    let place = subst (IsOpenRun c.self.inside.walk c.self.inside.pool.items
-    (all_kept c.self.inside.nodes.items)) c.in-Some.is c.self.invariant.1 in
-    let small : length c.self.inside.pool.items < 2 ^ 63 = search rules in
+    let place = subst (IsOpenRun c.self.inside.walk c.self.inside.pool.list.items
+    (all_kept c.self.inside.nodes.list.items)) c.in-Some.is c.self.invariant.1 in
+    let small : length c.self.inside.pool.list.items < 2 ^ 63 = search rules in
     let fits : c.self.inside.text_len + c.in-Some.open.len < 2 ^ 64 =
     omega (
       arith,
@@ -59,6 +59,6 @@ overflow_add-self g c =
       place.spelled,
       c.self.invariant.0.texts,
       c.self.invariant.0.fits,
-      texts_kept c.self.inside.pool.items c.self.inside.nodes.items,
+      texts_kept c.self.inside.pool.list.items c.self.inside.nodes.list.items,
     ) in
     search rules

@@ -11,11 +11,11 @@ pub invariant_of-self-2 : goal.invariant_of-self-2
 invariant_of-self-2 g c =
     let lacks = subst (λ (b : Built). IfOk (missing_of b) (λ m. length c.args.piece.now ≤ m.1))
     (sym c.self.view_is) c.requires in
-    let o = open_longer c.self.inside.walk c.self.inside.pool.items c.args.piece.now
-    (all_kept c.self.inside.nodes.items) c.self.inside.open_run
+    let o = open_longer c.self.inside.walk c.self.inside.pool.list.items c.args.piece.now
+    (all_kept c.self.inside.nodes.list.items) c.self.inside.open_run
     (are_bytes c.args.piece.now (λ i. (c.type_inv.piece i).fits)) c.self.invariant.1 lacks in
     rw c.in_ok-put_piece.ensures.ok (
-      bytes_added _ _ c.self.inside.pool.items c.args.piece.now c.self.inside.nodes.items
+      bytes_added _ _ c.self.inside.pool.list.items c.args.piece.now c.self.inside.nodes.list.items
           c.self.inside.text_len c.self.invariant.0,
       o.0,
       c.self.invariant.2,
@@ -26,12 +26,12 @@ pub returns-clause-ok : goal.returns-clause-ok
 returns-clause-ok g c =
     let lacks = subst (λ (b : Built). IfOk (missing_of b) (λ m. length c.args.piece.now ≤ m.1))
     (sym c.self.view_is) c.requires in
-    let o = open_longer c.self.inside.walk c.self.inside.pool.items c.args.piece.now
-    (all_kept c.self.inside.nodes.items) c.self.inside.open_run
+    let o = open_longer c.self.inside.walk c.self.inside.pool.list.items c.args.piece.now
+    (all_kept c.self.inside.nodes.list.items) c.self.inside.open_run
     (are_bytes c.args.piece.now (λ i. (c.type_inv.piece i).fits)) c.self.invariant.1 lacks in
     (rw (
       c.in_ok-put_piece.ensures.ok,
-      longer_entries c.self.inside.pool.items c.args.piece.now c.self.inside.nodes.items
+      longer_entries c.self.inside.pool.list.items c.args.piece.now c.self.inside.nodes.list.items
           c.self.invariant.0.inside,
       o.1,
     ) refl)

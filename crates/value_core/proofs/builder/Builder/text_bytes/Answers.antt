@@ -9,23 +9,23 @@ use Rattle.value_core.proofs.builder.Builder.text_bytes.Goals as goal
 pub returns-in-Some-clause-begun : goal.returns-in-Some-clause-begun
 returns-in-Some-clause-begun g c =
     subst IsBegun c.self.view_is
-    (is_begun c.self.inside.root.0 c.self.inside.walk c.self.inside.pool.items
-    c.self.inside.nodes.items c.self.inside.text_len
-    (pieces_shown c.self.inside.pool.items c.self.inside.open_run) c.self.inside.turns.so_far
+    (is_begun c.self.inside.root.0 c.self.inside.walk c.self.inside.pool.list.items
+    c.self.inside.nodes.list.items c.self.inside.text_len
+    (pieces_shown c.self.inside.pool.list.items c.self.inside.open_run) c.self.inside.turns.so_far
     c.self.invariant.0 c.self.invariant.3 c.self.invariant.2)
 
 pub returns-in-None-clause-begun : goal.returns-in-None-clause-begun
 returns-in-None-clause-begun g c =
     subst IsBegun c.self.view_is
-    (is_begun c.self.inside.root.0 c.self.inside.walk c.self.inside.pool.items
-    c.self.inside.nodes.items c.self.inside.text_len
-    (pieces_shown c.self.inside.pool.items c.self.inside.open_run) c.self.inside.turns.so_far
+    (is_begun c.self.inside.root.0 c.self.inside.walk c.self.inside.pool.list.items
+    c.self.inside.nodes.list.items c.self.inside.text_len
+    (pieces_shown c.self.inside.pool.list.items c.self.inside.open_run) c.self.inside.turns.so_far
     c.self.invariant.0 c.self.invariant.3 c.self.invariant.2)
 
 pub overflow_add-result : goal.overflow_add-result
 overflow_add-result g c =
-    let place = subst (IsOpenRun c.self.inside.walk c.self.inside.pool.items
-    (all_kept c.self.inside.nodes.items)) c.in-Some.is c.self.invariant.1 in
+    let place = subst (IsOpenRun c.self.inside.walk c.self.inside.pool.list.items
+    (all_kept c.self.inside.nodes.list.items)) c.in-Some.is c.self.invariant.1 in
     let small : length c.as_slice.result.now < 2 ^ 63 = search rules in
     let fits : c.self.inside.text_len + (length c.as_slice.result.now - c.in-Some.open.start)
     < 2 ^ 64 =
@@ -35,6 +35,6 @@ overflow_add-result g c =
       ap length c.as_slice.ensures.value,
       place.behind,
       c.self.invariant.0.texts,
-      texts_kept c.self.inside.pool.items c.self.inside.nodes.items,
+      texts_kept c.self.inside.pool.list.items c.self.inside.nodes.list.items,
     ) in
     search rules

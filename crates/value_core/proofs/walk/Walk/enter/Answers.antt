@@ -16,14 +16,14 @@ pub invariant_of-self-2 : goal.invariant_of-self-2
 invariant_of-self-2 g c =
     let refs = references_of c.self.inside.checked.now.types in
     let before : length (frames_of c.self.inside.checked.now.types c.self.inside.top
-    c.self.inside.around.items) ≤ c.self.inside.limit + 1 =
+    c.self.inside.around.list.items) ≤ c.self.inside.limit + 1 =
     subst (λ (w : Walked). length w.frames ≤ w.limit + 1) (sym c.self.view_is) c.requires.room in
-    let room : length c.push_frame.new.frames.items ≤ c.self.inside.limit + 1 =
+    let room : length c.push_frame.new.frames.list.items ≤ c.self.inside.limit + 1 =
     omega (
       arith,
       before,
       c.in_ok-push_frame.ensures.len,
-      frames_counted c.self.inside.checked.now.types c.self.inside.around.items,
+      frames_counted c.self.inside.checked.now.types c.self.inside.around.list.items,
     ) in
     let within : IsWithin refs c.args.left =
     subst (λ (w : Walked). IsWithin (references_of w.types) c.args.left) (sym c.self.view_is)
@@ -32,6 +32,6 @@ invariant_of-self-2 g c =
       room,
       c.look_ahead.ensures,
       within,
-      rw c.in_ok-push_frame.ensures.ok (within_append refs c.self.inside.around.items _
+      rw c.in_ok-push_frame.ensures.ok (within_append refs c.self.inside.around.list.items _
           c.self.invariant.4 (c.advanced.ensures.within refs c.self.invariant.3)),
     )

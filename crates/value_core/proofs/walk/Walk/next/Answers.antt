@@ -7,7 +7,7 @@ use Rattle.value_core.proofs.walk.Walk.next.Goals as goal
 
 pub returns : goal.returns
 returns g c =
-    let around = frames_counted c.self.inside.checked.now.types c.self.inside.around.items in
+    let around = frames_counted c.self.inside.checked.now.types c.self.inside.around.list.items in
     let room : length c.args.self.now.frames ≤ c.args.self.now.limit + 1 =
     subst (λ (w : Walked). length w.frames ≤ w.limit + 1) c.self.view_is
     (omega (arith, around, c.if-len-self.false, c.len.ensures)) in

@@ -1,0 +1,9 @@
+//! What tests compare by: a call, since what a macro writes in its place is proved again in every test.
+
+use std::fmt::Debug;
+use std::process::Abort;
+
+/// Stops the test if the two differ.
+pub(crate) fn same<T: PartialEq + Debug + Drop>(rt: &impl Abort, found: T, wanted: T) {
+    assert_eq!(rt; found, wanted);
+}

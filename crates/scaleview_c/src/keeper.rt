@@ -1,0 +1,81 @@
+//! What keeps boxes and counts sessions, as a thing that contracts can name.
+
+ghost use Rattle.std.specs.Prelude.{ℕ, ⊤};
+ghost use Rattle.scaleview_c.specs.Kept.{AnswersClose, Lends, TakesBack};
+ghost use Rattle.scaleview_c.specs.declared.held.Held.{Held as AHeld};
+ghost use Rattle.scaleview_c.specs.declared.opened.Opened.{Opened as AnOpened};
+
+use crate::codes::{LENT, NO_HANDLE, OK};
+use crate::held::Held;
+use crate::opened::Opened;
+
+/// What takes boxes back, and knows how many sessions a registry has, with both as relations of which nothing else is
+/// known. No clause of the library says that a block was freed or what a cell holds, so what the calls do with boxes
+/// and counts is proved over every keeper, and they are made with `Heap`.
+pub trait Keeper {
+    /// In this state the registry has so many sessions.
+    ghost counts: { Self → AnOpened → ℕ → Type 0 };
+
+    /// Between these states one box was given back, which held this.
+    ghost takes: { Self → AHeld → Self → Type 0 };
+
+    /// Returns how many sessions the registry has.
+    fn count(&self, registry: &Opened) -> u64
+        ensures { counts self.now registry.now result };
+
+    /// Sets how many sessions the registry has.
+    fn set_count(&mut self, registry: &Opened, sessions: u64)
+        ensures { counts self.new registry.now sessions };
+
+    /// Takes the box back: what it holds is let go, and its memory is freed.
+    fn take(&mut self, held: Box<Held>)
+        ensures { takes self.old held.value self.new };
+}
+
+/// The heap that all boxes are from, and the cells in which registries count their sessions.
+#[derive(Drop)]
+pub struct Heap {}
+
+impl Keeper for Heap {
+    ghost counts = { λ _ _ _. ⊤ };
+
+    ghost takes = { λ _ _ _. ⊤ };
+
+    fn count(&self, registry: &Opened) -> u64 {
+        registry.sessions.get()
+    }
+
+    fn set_count(&mut self, registry: &Opened, sessions: u64) {
+        registry.sessions.set(sessions);
+    }
+
+    fn take(&mut self, held: Box<Held>) {
+        drop(held);
+    }
+}
+
+/// Counts one session more. A count of 2^64 - 1 stays.
+pub(crate) fn lend<K: Keeper>(keeper: &mut K, registry: &Opened)
+    ensures { Lends K.counts keeper.old registry.now keeper.new }
+{
+    let sessions = keeper.count(registry);
+    keeper.set_count(registry, sessions.saturating_add(1));
+}
+
+/// Counts one session less. A count of 0 stays.
+pub(crate) fn take_back<K: Keeper>(keeper: &mut K, registry: &Opened)
+    ensures { TakesBack K.counts keeper.old registry.now keeper.new }
+{
+    let sessions = keeper.count(registry);
+    keeper.set_count(registry, sessions.saturating_sub(1));
+}
+
+/// What the close of a registry answers: `LENT` exactly where it has a session.
+pub(crate) fn close_code<K: Keeper>(keeper: &K, held: &Held) -> u32
+    ensures { AnswersClose K.counts keeper.now held.now result }
+{
+    match held {
+        Held::Registry(opened) => { if keeper.count(opened) > 0 { LENT } else { OK } }
+        Held::Session(_) => NO_HANDLE,
+    }
+}

@@ -1,0 +1,52 @@
+//! The capacity that a full vector gets.
+
+use crate::expect::same;
+use growth_core::{make_room, make_room_ahead};
+use std::alloc::Global;
+use std::test::Fail;
+
+/// Returns a full vector of this length.
+fn full(alloc: Global, len: usize) -> Result<Vec<u8>, Fail> {
+    let mut list = Vec::with_capacity(alloc, len)?;
+    'elements: for _ in 0..len {
+        list.push(7)?;
+    }
+    Ok(list)
+}
+
+// Each row: the length, how many elements are needed, how many are expected, and the capacity.
+#[test]
+fn a_full_vector_grows_in_proportion(rt: HostRuntime) -> Result<(), Fail> {
+    let rows = [
+        (0, 1, None, 16),
+        (0, 100, None, 100),
+        (40, 1, None, 60),
+        (40, 30, None, 70),
+        (80_000, 1, None, 100_000),
+        (0, 1, Some(3), 3),
+        (0, 1, Some(100), 16),
+        (40, 1, Some(0), 41),
+        (40, 1, Some(20), 60),
+        (40, 1, Some(120), 160),
+        (40, 1, Some(2_147_483_648), 160),
+    ];
+    'rows: for (len, more, expected, capacity) in rows {
+        let mut list = full(rt.alloc(), len)?;
+        make_room(&mut list, more, expected)?;
+        same(&rt, (len, list.capacity()), (len, capacity));
+        same(&rt, (len, list.len()), (len, len));
+    }
+    Ok(())
+}
+
+// Each row: the length, how many elements are expected, and the capacity.
+#[test]
+fn a_vector_grows_ahead_of_what_is_expected(rt: HostRuntime) -> Result<(), Fail> {
+    let rows = [(40, 0, 40), (40, 20, 60), (40, 121, 160), (0, 100, 16)];
+    'rows: for (len, expected, capacity) in rows {
+        let mut list = full(rt.alloc(), len)?;
+        make_room_ahead(&mut list, expected)?;
+        assert_eq!(rt; list.capacity(), capacity, "{len}, {expected}");
+    }
+    Ok(())
+}
