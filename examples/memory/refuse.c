@@ -46,12 +46,15 @@ static int find_code(struct dl_phdr_info *loaded, size_t size, void *unused)
 /* How many calls tell a place from others, and how many words of the stack are looked at for them. */
 enum { CALLS = 6, WORDS = 512, MOST_PLACES = 1024 };
 
+/* Where the stack was when the program began: what lies above may be the end of what is mapped. The loader sets it. */
+extern const unsigned long *__libc_stack_end;
+
 /* A number for the place of a request: the innermost return addresses into the program that stand on the stack. */
 static unsigned long place_of_request(void)
 {
     const unsigned long *word = __builtin_frame_address(0);
     unsigned long place = 0;
-    for (int words = 0, calls = 0; words < WORDS && calls < CALLS; words++, word++) {
+    for (int words = 0, calls = 0; words < WORDS && word < __libc_stack_end && calls < CALLS; words++, word++) {
         if (code.from <= *word && *word < code.to) {
             place = place * 1000003 + (*word - code.from);
             calls++;
