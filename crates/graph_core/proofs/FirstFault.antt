@@ -9,12 +9,12 @@ use Rattle.graph_core.specs.References.{first_unknown, fault_or, unknown_from, f
 use Rattle.graph_core.specs.References.{FaultIsFirst}
 
 -- among references that all are positions none is unknown
-known_none : (n : ℕ) (ts : List ℕ) → AreKnown n ts → first_unknown n ts ≡ None
+pub known_none : (n : ℕ) (ts : List ℕ) → AreKnown n ts → first_unknown n ts ≡ None
 known_none n [] h = refl
 known_none n (t ∷ ts) h = rw (lt-ltb t n h.0) (known_none n ts h.1)
 
 -- where no unknown reference is found, all are positions
-none_known : (n : ℕ) (ts : List ℕ) → first_unknown n ts ≡ None → AreKnown n ts
+pub none_known : (n : ℕ) (ts : List ℕ) → first_unknown n ts ≡ None → AreKnown n ts
 none_known n [] e = tt
 none_known n (t ∷ ts) e = go (nat_lt t n) refl e (none_known n ts) where
   go : (b : Bool) → nat_lt t n ≡ b → cond b (first_unknown n ts) (Some t) ≡ None →
@@ -38,7 +38,7 @@ some_split n (t ∷ ts) u e = go (nat_lt t n) refl e (some_split n ts u) where
       ([], ts, rw same refl, tt, omega (arith, ltb-false t n f, same))
 
 -- a reference that is no position, with positions before it, is the one that is found
-split_some : (n : ℕ) (front : List ℕ) (u : ℕ) (back : List ℕ) → AreKnown n front → n ≤ u →
+pub split_some : (n : ℕ) (front : List ℕ) (u : ℕ) (back : List ℕ) → AreKnown n front → n ≤ u →
     first_unknown n (front ++ u ∷ back) ≡ Some u
 split_some n [] u back h le = rw (le-ltb u n le) refl
 split_some n (t ∷ front) u back h le = rw (lt-ltb t n h.0) (split_some n front u back h.1 le)

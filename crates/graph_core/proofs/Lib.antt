@@ -1,6 +1,9 @@
 pub mod FirstFault
+pub mod Cursors
 pub mod Unknown
-pub mod LentArms
+pub mod Arms
 pub mod Linked
 pub mod Stopped
 pub mod SizesTo
+pub mod UnderWay
+pub mod ReadingOn

@@ -1,8 +1,9 @@
 -- The references and arms of the types that were passed.
-use Rattle.std.proofs.Common.{◌≡◌, ℕ, zero, suc, ◌+◌, ◌≤◌, Bool, true, false, cond, List, [], ◌∷◌}
-use Rattle.std.proofs.Common.{length, take, flat_map, Some, refl, sym, ap, ◌∙◌, arith}
+use Rattle.std.proofs.Common.{◌≡◌, ◌≢◌, ℕ, zero, suc, ◌+◌, ◌<◌, ◌≤◌, max, Bool, true, false, cond}
+use Rattle.std.proofs.Common.{List, [], ◌∷◌, length, take, flat_map, Some, refl, ◌∙◌, ◌⊎◌, arith}
+use Rattle.std.proofs.Common.{inl, inr}
 use Rattle.std.specs.Prelude.{◌==◌}
-use Rattle.std.proofs.lemmas.Bool.{eqb-true}
+use Rattle.std.proofs.lemmas.Bool.{eqb-true, eq-eqb, cases_eq}
 use Rattle.std.proofs.lemmas.List.{length-append}
 use Rattle.registry_core.specs.declared.definition.TypeDef.{TypeDef}
 use Rattle.registry_core.specs.declared.type_info.TypeInfo.{TypeInfo}
@@ -10,8 +11,10 @@ use Rattle.graph_core.specs.declared.graph.Graph.{Graph}
 use Rattle.graph_core.specs.Types.{shape}
 use Rattle.graph_core.specs.References.{references}
 use Rattle.graph_core.specs.Counts.{times}
-use Rattle.graph_core.specs.Graphs.{IsOpened}
-use Rattle.graph_core.specs.Sizes.{arm_count, arm_counts}
+use Rattle.graph_core.specs.Graphs.{IsUnread, IsGlanced, IsMeasured}
+use Rattle.graph_core.specs.Sizes.{arm_count, arm_counts, AreSizesOf}
+use Rattle.graph_core.specs.Widths.{width, widest}
+use Rattle.graph_core.specs.declared.sizes.Sizes.{Sizes}
 
 -- as types are looked at in order, each has one look at most, and those after have none
 pub one_more : (i t : ℕ) (log : List ℕ) → (times t log ≤ 1) × (i ≤ t → times t log ≡ 0) →
@@ -46,28 +49,47 @@ arms_more [] i d e = absurd cc
 arms_more (x ∷ r) zero d e = let is : x.shape ≡ d = cc in rw is (omega arith)
 arms_more (x ∷ r) (suc i) d e = let more = arms_more r i d e in omega (arith, more)
 
+-- the width of one more type is joined to those of the types before it
+widest_more : (r : List TypeInfo) (i : ℕ) (d : TypeDef) → shape r i ≡ Some d →
+    widest (take (suc i) r) ≡ max (widest (take i r)) (width d)
+widest_more [] i d e = absurd cc
+widest_more (x ∷ r) zero d e = let is : x.shape ≡ d = cc in rw is (omega arith)
+widest_more (x ∷ r) (suc i) d e = let more = widest_more r i d e in omega (arith, more)
+
 -- the first i types were measured
-pub record SizesTo (r : List TypeInfo) (i n m : ℕ) (d : Graph) : Type 0 where
-  pub types : d.types.now ≡ r
+pub record SizesTo (r : List TypeInfo) (i n m w : ℕ) (d : Graph) : Type 0 where
+  pub types : d.registry ≡ r
+  pub place : d.cursor.types ≡ 0
   pub references_are : n ≡ length (flat_map (λ x. references x.shape) (take i r))
   pub arms_are : m ≡ arm_counts (take i r)
+  pub widest_is : w ≡ widest (take i r)
   pub opened : (t : ℕ) → (times t d.looks.opened.entries ≤ 1)
       × (i ≤ t → times t d.looks.opened.entries ≡ 0)
+  pub seen : (t : ℕ) → t < i → 1 ≤ times t d.looks.opened.entries
   pub read : d.looks.read.entries ≡ []
   pub listed : d.looks.listed.entries ≡ []
 
 -- one more type that is looked at is measured with those before it
-pub sizes_more : (r : List TypeInfo) (i n m : ℕ) (d : TypeDef) (a b : Graph) → shape r i ≡ Some d →
-    SizesTo r i n m a → IsOpened a b i →
-    SizesTo r (i + 1) (n + length (references d)) (m + arm_count d) b
-sizes_more r i n m d a b e h o =
+pub sizes_more : (r : List TypeInfo) (i n m w : ℕ) (d : TypeDef) (s : Sizes) (a b : Graph) →
+    shape r i ≡ Some d → AreSizesOf d s → SizesTo r i n m w a → IsGlanced a b i →
+    SizesTo r (i + 1) (n + s.references) (m + s.arms) (max w s.widest) b
+sizes_more r i n m w d s a b e is h o =
     let step : i + 1 ≡ suc i = omega arith in
+    let refs = references_more r i d e in
+    let arms = arms_more r i d e in
+    let wide = widest_more r i d e in
     record {
       types = o.types ∙ h.types;
-      references_are = rw step (ap (λ (k : ℕ). k + length (references d)) h.references_are
-          ∙ sym (references_more r i d e));
-      arms_are = rw step (ap (λ (k : ℕ). k + arm_count d) h.arms_are ∙ sym (arms_more r i d e));
+      place = rw o.cursor h.place;
+      references_are = rw step (omega (arith, h.references_are, is.references, refs));
+      arms_are = rw step (omega (arith, h.arms_are, is.arms, arms));
+      widest_is = rw step (omega (arith, h.widest_is, is.widest, wide));
       opened = λ t. rw o.opened (one_more i t a.looks.opened.entries (h.opened t));
+      seen = λ t lt. rw o.opened (seen t (cases_eq i t) lt);
       read = o.read ∙ h.read;
       listed = o.listed ∙ h.listed;
-    }
+    } where
+      seen : (t : ℕ) → (i ≡ t) ⊎ (i ≢ t) → t < i + 1 → 1 ≤ times t (i ∷ a.looks.opened.entries)
+      seen t (inl same) lt = rw (eq-eqb i t same) (omega arith)
+      seen t (inr other) lt =
+          let before = h.seen t (omega (arith, lt, other)) in omega (arith, before)

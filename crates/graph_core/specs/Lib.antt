@@ -2,7 +2,9 @@ pub mod Types
 pub mod References
 pub mod Widths
 pub mod Counts
-pub mod Lent
+pub mod Cursors
+pub mod Outlines
 pub mod Graphs
 pub mod Sizes
 pub mod Stops
+pub mod Unknown

@@ -1,5 +1,8 @@
 -- Where the linking of types stops, and what was looked at until then.
-use Rattle.std.specs.Prelude.{◌≡◌, ℕ, ◌≤◌, List, [], ◌∷◌, ◌++◌, length, flat_map, reverse, Some}
+use Rattle.std.specs.Prelude.{◌≡◌, ℕ, zero, suc, ◌≤◌, List, [], ◌∷◌, ◌++◌, length, flat_map}
+use Rattle.std.specs.Prelude.{reverse, take}
+use Rattle.std.specs.Prelude.{Option, Some, None}
+use Rattle.registry_core.specs.declared.definition.TypeDef.{TypeDef}
 use Rattle.registry_core.specs.declared.type_info.TypeInfo.{TypeInfo}
 use Rattle.graph_core.specs.declared.fault.CheckFault.{CheckFault}
 use Rattle.graph_core.specs.declared.fault.CheckFault.TheVariants.{UnknownType, OutOfMemory}
@@ -8,8 +11,10 @@ use Rattle.graph_core.specs.declared.looks.Looks.{Looks}
 use Rattle.graph_core.specs.declared.stop.Stop.{Stop}
 use Rattle.graph_core.specs.declared.stop.Stop.TheVariants as stop
 use Rattle.graph_core.specs.Counts.{times}
-use Rattle.graph_core.specs.Graphs.{refs}
+use Rattle.graph_core.specs.Cursors.{left}
+use Rattle.graph_core.specs.Graphs.{refs, ReadsOn}
 use Rattle.graph_core.specs.References.{AreKnown, references, first_fault}
+use Rattle.graph_core.specs.Types.{shape}
 
 -- u is the first of these references that is no position; it and those before it were read, each
 -- once
@@ -17,23 +22,31 @@ pub record StopsAt (tos : List ℕ) (a b : Graph) (u : ℕ) : Type 0 where
   pub front : List ℕ
   pub back : List ℕ
   pub tos_are : tos ≡ front ++ u ∷ back
-  pub known : AreKnown (length a.types.now) front
-  pub unknown : length a.types.now ≤ u
-  pub read : refs b ≡ refs a ++ (front ++ u ∷ [])
-  pub types : b.types.now ≡ a.types.now
-  pub opened : b.looks.opened.entries ≡ a.looks.opened.entries
-  pub listed : b.looks.listed.entries ≡ a.looks.listed.entries
+  pub known : AreKnown (length a.registry) front
+  pub unknown : length a.registry ≤ u
+  pub on : ReadsOn a b (front ++ u ∷ [])
+
+-- some references were read, all of which are positions
+pub record StopsBetween (a b : Graph) : Type 0 where
+  pub front : List ℕ
+  pub known : AreKnown (length a.registry) front
+  pub on : ReadsOn a b front
 
 -- where linking did not stop for want of memory, it stopped at the first of these references that
 -- is no position
 abbrev pub StopsLinking : List ℕ → Graph → Graph → Stop → Type 0
-StopsLinking tos a b stop.Memory = Unit {0}
+StopsLinking tos a b stop.Memory = StopsBetween a b
 StopsLinking tos a b (stop.Unknown u) = StopsAt tos a b u
 
 -- the same as a fault of the type at this position
 abbrev pub fault_in : ℕ → Stop → CheckFault
 fault_in i stop.Memory = OutOfMemory
 fault_in i (stop.Unknown u) = UnknownType (record { 0 = i }) (record { 0 = u })
+
+-- the fault is the unknown reference, or want of memory where there is none
+abbrev pub IsFaultOf : CheckFault → Option (ℕ × ℕ) → Type 0
+IsFaultOf (UnknownType from to) unknown = unknown ≡ Some (from.0, to.0)
+IsFaultOf OutOfMemory unknown = unknown ≡ None
 
 -- each type was looked at twice at most, and the references of the definitions once at most, in
 -- their order; no list was looked at
@@ -43,8 +56,47 @@ pub record HasFewLooksUntil (r : List TypeInfo) (l : Looks) : Type 0 where
   pub read : flat_map (λ i. references i.shape) r ≡ reverse l.read.entries ++ back
   pub listed : l.listed.entries ≡ []
 
--- an unknown reference is the first one, found with few looks
-abbrev pub IsRefusedFor : List TypeInfo → Looks → CheckFault → Type 0
-IsRefusedFor r l (UnknownType from to) = (first_fault r ≡ Some (from.0, to.0))
-    × HasFewLooksUntil r l
-IsRefusedFor r l OutOfMemory = Unit {0}
+-- where k types were opened, the references of those before the last one were read, and of the last
+-- one all but these
+abbrev pub IsReadTo : List TypeInfo → ℕ → List ℕ → List ℕ → Type 0
+IsReadTo r zero read left = (read ≡ []) × (left ≡ [])
+IsReadTo r (suc i) read left = (d : TypeDef) × (shape r i ≡ Some d) × (front : List ℕ)
+    × (read ≡ flat_map (λ x. references x.shape) (take i r) ++ front)
+    × (references d ≡ front ++ left)
+
+-- the types are read for the second time, in their order, with few looks until then
+pub record IsReading (r : List TypeInfo) (g : Graph) : Type 0 where
+  pub types : g.registry ≡ r
+  pub read : IsReadTo r g.cursor.types (refs g) (left g)
+  pub opened : (t : ℕ) → (times t g.looks.opened.entries ≤ 2)
+      × (g.cursor.types ≤ t → times t g.looks.opened.entries ≤ 1)
+  pub listed : g.looks.listed.entries ≡ []
+
+-- and all references that were read are positions
+pub record IsUnderWay (r : List TypeInfo) (g : Graph) : Type 0 where
+  pub reading : IsReading r g
+  pub known : AreKnown (length r) (refs g)
+
+-- an unknown reference is the first one, found with few looks; where memory was refused, the types
+-- can be read on
+abbrev pub IsRefusedFor : List TypeInfo → Graph → CheckFault → Type 0
+IsRefusedFor r g (UnknownType from to) = (first_fault r ≡ Some (from.0, to.0))
+    × HasFewLooksUntil r g.looks × (g.registry ≡ r)
+IsRefusedFor r g OutOfMemory = IsUnderWay r g
+
+-- the fault that is found, with few looks
+pub record IsFaultWithin (r : List TypeInfo) (g : Graph) (fault : CheckFault) : Type 0 where
+  pub types : g.registry ≡ r
+  pub fault_is : IsFaultOf fault (first_fault r)
+  pub looks : HasFewLooksUntil r g.looks
+
+-- an unknown reference was found with few looks
+abbrev pub HasFewLooksFor : List TypeInfo → Looks → CheckFault → Type 0
+HasFewLooksFor r l (UnknownType from to) = HasFewLooksUntil r l
+HasFewLooksFor r l OutOfMemory = Unit {0}
+
+-- the fault that is answered; an unknown reference was found with few looks
+pub record IsAnsweredFault (r : List TypeInfo) (g : Graph) (fault : CheckFault) : Type 0 where
+  pub types : g.registry ≡ r
+  pub fault_is : IsFaultOf fault (first_fault r)
+  pub looks : HasFewLooksFor r g.looks fault

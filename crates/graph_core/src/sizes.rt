@@ -1,71 +1,94 @@
-//! How many references and arms a registry has, counted before memory is taken for them.
+//! How many references and arms a registry has, counted before memory is taken for them, and how
+//! many parts a value.
 
-ghost use Rattle.std.specs.Prelude.{◌≡◌, ◌<◌, ◌^◌, length, flat_map, IfSome};
-ghost use Rattle.graph_core.specs.Graphs.{IsMeasured, IsUnread};
-ghost use Rattle.graph_core.specs.Lent.{shape_of};
-ghost use Rattle.graph_core.specs.References.{references};
-ghost use Rattle.graph_core.specs.Sizes.{AreSizes, arm_count};
-ghost use Rattle.graph_core.specs.Types.{field_types};
+ghost use Rattle.std.specs.Prelude.{◌≡◌, ◌<◌, ◌^◌, length, flat_map, map, IfSome};
+ghost use Rattle.registry_core.specs.Fits.{FitsList, FitsArm, FitsDefinition, FitsRegistry};
+ghost use Rattle.graph_core.specs.Cursors.{arm_references};
+ghost use Rattle.graph_core.specs.Graphs.{AreSeen, IsMeasured, IsUnread};
+ghost use Rattle.graph_core.specs.Sizes.{AreSizes, AreSizesOf};
+ghost use Rattle.graph_core.specs.Widths.{greatest};
 
-use crate::graph::{Arms, Definition, Graph};
+use crate::graph::Graph;
+use registry_core::{Arm, TypeDef};
 
-/// How many references and arms the types of a registry have, shadowed arms and those of variants without values too.
+/// How many references and arms the types of a registry have, shadowed arms and those of variants
+/// without values too, and how many parts a value of one of them has at most.
 #[derive(Clone, Copy)]
 pub struct Sizes {
     pub references: usize,
     pub arms: usize,
+    pub widest: u32,
 }
 
 /// How many fields these arms have. Answers `None` where the number is no `usize`.
-fn field_count(arms: &Arms<'_>) -> Option<usize>
-    ensures { IfSome result (λ n.
-        n ≡ length (flat_map (λ a. field_types a.fields) arms.now.arms.now)) }
+fn field_count(arms: &[Arm]) -> Option<usize>
+    ensures { IfSome result (λ n. n ≡ length (arm_references arms.now)) }
 {
     let mut count = 0usize;
-    'arms: for position in 0..arms.len() {
-        let (_, fields) = arms.arm(position);
-        count = count.checked_add(fields.len())?;
+    'counted: for position in 0..arms.len() {
+        let arm = &arms[position];
+        count = count.checked_add(arm.fields.len())?;
     }
     Some(count)
 }
 
-/// How many references a definition has. Answers `None` where the number is no `usize`.
-fn reference_count(definition: &Definition<'_>) -> Option<usize>
-    ensures { IfSome result (λ n. n ≡ length (references (shape_of definition.now))) }
+/// The greatest number of fields in one of these arms.
+fn widest_arm(arms: &[Arm]) -> u32
+    requires { FitsList FitsArm arms.now }
+    ensures { result ≡ greatest (map (λ a. length a.fields) arms.now) }
 {
-    match definition {
-        Definition::Composite(fields) => Some(fields.len()),
-        Definition::Variant(arms) => field_count(arms),
-        Definition::Tuple(members) => Some(members.len()),
-        Definition::Sequence(_) | Definition::Array(..) | Definition::Compact(_) => Some(1),
-        Definition::Primitive(_) | Definition::BitSequence { .. } => Some(0),
+    let mut widest = 0;
+    'arms: for position in 0..arms.len() {
+        let arm = &arms[position];
+        widest = widest.max(arm.fields.len() as u32);
     }
+    widest
 }
 
-/// How many arms a definition has.
-fn arm_count(definition: &Definition<'_>) -> usize
-    ensures { result ≡ arm_count (shape_of definition.now) }
-{
-    match definition {
-        Definition::Variant(arms) => arms.len(),
-        _ => 0,
-    }
-}
-
-/// How many references and arms the types of a graph have, by one look at each type and none at a reference. Answers
+/// How many references and arms a definition has, and how many parts a value of it at most. Answers
 /// `None` where a number is no `usize`.
-pub fn sizes_of(graph: &mut Graph<'_>) -> Option<Sizes>
-    requires fits { length graph.old.types.now < 2 ^ 32 }
-    requires unread { IsUnread graph.old.types.now graph.old }
-    ensures sizes { IfSome result (λ s. AreSizes graph.old.types.now s) }
-    ensures measured { IfSome result (λ _. IsMeasured graph.old.types.now graph.new) }
+pub(crate) fn sizes_in(shape: &TypeDef) -> Option<Sizes>
+    requires { FitsDefinition shape.now }
+    ensures { IfSome result (λ s. AreSizesOf shape.now s) }
+{
+    let (references, arms, widest) = match shape {
+        TypeDef::Composite(fields) => (fields.len(), 0, fields.len() as u32),
+        TypeDef::Tuple(members) => (members.len(), 0, members.len() as u32),
+        TypeDef::Variant(arms) => {
+            let arms = arms.as_slice();
+            (field_count(arms)?, arms.len(), widest_arm(arms))
+        }
+        TypeDef::Sequence(_) | TypeDef::Array(..) | TypeDef::Compact(_) => (1, 0, 0),
+        TypeDef::Primitive(_) | TypeDef::BitSequence { .. } => (0, 0, 0),
+    };
+    Some(Sizes {
+        references,
+        arms,
+        widest,
+    })
+}
+
+/// The sizes of the types of a graph, by one look at each type and none at a reference. Answers
+/// `None` where a number is no `usize`.
+pub fn sizes_of(graph: &mut Graph) -> Option<Sizes>
+    requires fits { FitsRegistry graph.old.registry }
+    requires unread { IsUnread graph.old.registry graph.old }
+    ensures sizes { IfSome result (λ s. AreSizes graph.old.registry s) }
+    ensures measured { IsMeasured graph.old.registry graph.new }
+    ensures seen { IfSome result (λ _. AreSeen graph.old.registry graph.new) }
 {
     let mut references = 0usize;
     let mut arms = 0usize;
+    let mut widest = 0;
     'types: for position in 0..graph.count() {
-        let definition = graph.definition(position as u32);
-        references = references.checked_add(reference_count(&definition)?)?;
-        arms = arms.checked_add(arm_count(&definition))?;
+        let sizes = graph.measure(position as u32)?;
+        references = references.checked_add(sizes.references)?;
+        arms = arms.checked_add(sizes.arms)?;
+        widest = widest.max(sizes.widest);
     }
-    Some(Sizes { references, arms })
+    Some(Sizes {
+        references,
+        arms,
+        widest,
+    })
 }

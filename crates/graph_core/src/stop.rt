@@ -11,7 +11,8 @@ use std::alloc::{AllocError, AllocFailed};
 /// Why the linking of a type stopped.
 #[derive(Clone, Copy)]
 pub enum Stop {
-    /// Memory was refused, or there are more references or counters than there are numbers for them.
+    /// Memory was refused, or there are more references or counters than there are numbers for
+    /// them.
     Memory,
     /// At a reference to this id, which is no position.
     Unknown(u32),

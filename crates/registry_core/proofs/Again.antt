@@ -35,11 +35,12 @@ pub record Again {X : Type 0} (P : X → Type 0) (spell : X → List ℕ) (part 
   pub read : (x : X) (rest : List ℕ) → P x → part (spell x ++ rest) ≡ Ok (x, rest)
 
 -- the spelling of a length is read again, with the rest left
-length_again : (n : ℕ) (rest : List ℕ) → n < 2 ^ 32 → length_at (compact n ++ rest) ≡ Ok (n, rest)
+pub length_again : (n : ℕ) (rest : List ℕ) → n < 2 ^ 32 →
+    length_at (compact n ++ rest) ≡ Ok (n, rest)
 length_again n rest h = rw (compact_again u32_target n (compact n) rest (h, refl)) refl
 
 -- a text is read as it is spelled
-text_is : Again FitsText text string_at
+pub text_is : Again FitsText text string_at
 text_is = record {
   read =
       λ s rest h. rw (text_again s (text s) rest (compact (length s), (h.0, refl), h.1, refl)) refl;
@@ -70,7 +71,7 @@ sequence_is P spell part h =
     }
 
 -- a sequence of texts is read as it is spelled
-texts_are : Again FitsTexts texts texts_at
+pub texts_are : Again FitsTexts texts texts_at
 unfolding texts_at
 texts_are = record {
   read =
@@ -85,12 +86,12 @@ option_again P spell part h None rest fits = refl
 option_again P spell part h (Some x) rest fits = rw (h.read x rest fits) refl
 
 -- an option is read as it is spelled, where its part is
-option_is : {X : Type 0} (P : X → Type 0) (spell : X → List ℕ) (part : Reader X) →
+pub option_is : {X : Type 0} (P : X → Type 0) (spell : X → List ℕ) (part : Reader X) →
     Again P spell part → Again (FitsOption P) (option spell) (option_at part)
 option_is P spell part h = record { read = option_again P spell part h }
 
 -- a reference to a type is read as it is spelled
-id_is : Again FitsId type_id type_id_at
+pub id_is : Again FitsId type_id type_id_at
 id_is = record { read = λ t rest h. rw (length_again t.0 rest h) refl }
 
 -- a sequence of references to types is read as it is spelled
@@ -102,7 +103,7 @@ ids_are = record {
 }
 
 -- a parameter of a type is read as it is spelled
-param_is : Again FitsParam param param_at
+pub param_is : Again FitsParam param param_at
 unfolding param_at
 param_is = record {
   read =
@@ -114,7 +115,7 @@ param_is = record {
 }
 
 -- a sequence of parameters is read as it is spelled
-params_are : Again (FitsList FitsParam) (sequence param) params_at
+pub params_are : Again (FitsList FitsParam) (sequence param) params_at
 unfolding params_at
 params_are = record {
   read =
@@ -130,7 +131,7 @@ four : (a b c d rest : List ℕ) → (((a ++ b) ++ c) ++ d) ++ rest ≡ a ++ (b 
 four a b c d rest = simp append_assoc
 
 -- a field is read as it is spelled
-field_is : Again FitsField field field_at
+pub field_is : Again FitsField field field_at
 unfolding field_at
 field_is = record {
   read = λ f rest h.
@@ -145,7 +146,7 @@ field_is = record {
 }
 
 -- a sequence of fields is read as it is spelled
-fields_are : Again (FitsList FitsField) (sequence field) fields_at
+pub fields_are : Again (FitsList FitsField) (sequence field) fields_at
 unfolding fields_at
 fields_are = record {
   read =
@@ -153,7 +154,7 @@ fields_are = record {
 }
 
 -- an arm of a variant is read as it is spelled
-arm_is : Again FitsArm arm arm_read_at
+pub arm_is : Again FitsArm arm arm_read_at
 unfolding arm_read_at
 arm_is = record {
   read = λ a rest h.
@@ -200,7 +201,7 @@ u32_again n rest h = rw (
 ) refl
 
 -- the spelling of a definition is read again, with the rest left
-definition_again : (d : TypeDef) (rest : List ℕ) → FitsDefinition d →
+pub definition_again : (d : TypeDef) (rest : List ℕ) → FitsDefinition d →
     definition_at (definition d ++ rest) ≡ Ok (d, rest)
 unfolding definition_at array_at bit_sequence_at
 definition_again (def.Composite fs) rest h = rw (fields_are.read fs rest h) refl
@@ -223,7 +224,7 @@ definition_again (def.BitSequence store order) rest h =
     ) refl
 
 -- a type is read as it is spelled
-type_is : Again FitsType type_info type_info_at
+pub type_is : Again FitsType type_info type_info_at
 unfolding type_info_at
 type_is = record {
   read = λ t rest h.

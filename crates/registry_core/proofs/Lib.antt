@@ -6,6 +6,9 @@ pub mod Loops
 pub mod Places
 pub mod Spelled
 pub mod SpelledMetadata
+pub mod SplitParts
+pub mod SplitTypes
+pub mod Splits
 pub mod Steady
 pub mod SteadyMetadata
 pub mod Whole

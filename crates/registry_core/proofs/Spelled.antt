@@ -46,11 +46,11 @@ bind_in P Q b (Ok x) f bytes h g = let both : AreBytes (h.0 ++ x.1) = rw (← h.
 abbrev pub Spelled : {X : Type 0} → (X → Type 0) → (X → List ℕ) → X → List ℕ → Type 0
 Spelled P spell x c = P x × (c ≡ spell x)
 
-record Good {X : Type 0} (P : X → Type 0) (spell : X → List ℕ) (part : Reader X) : Type 0 where
-  takes : (b : List ℕ) → AreBytes b → Takes (Spelled P spell) b (part b)
+pub record Good {X : Type 0} (P : X → Type 0) (spell : X → List ℕ) (part : Reader X) : Type 0 where
+  pub takes : (b : List ℕ) → AreBytes b → Takes (Spelled P spell) b (part b)
 
 -- the same bytes are taken where a fault is reported as one of a registry
-lifted_takes : {X : Type 0} (P : X → List ℕ → Type 0) (b : List ℕ) (r : Read Reason X) →
+pub lifted_takes : {X : Type 0} (P : X → List ℕ → Type 0) (b : List ℕ) (r : Read Reason X) →
     Takes P b r → Takes P b (lifted r)
 lifted_takes P b (Ok x) h = h
 lifted_takes P b (Err e) h = tt
@@ -62,7 +62,7 @@ mapped P Q b (Ok x) h f = (h.0, h.1, f x.0 h.0 h.2)
 mapped P Q b (Err e) h f = tt
 
 -- a length that is read was spelled so
-length_good : Good (λ n. n < 2 ^ 32) compact length_at
+pub length_good : Good (λ n. n < 2 ^ 32) compact length_at
 length_good = record {
   takes =
       λ b bytes. lifted_takes (Spelled (λ n. n < 2 ^ 32) compact) b (compact_at u32_target b)
@@ -70,7 +70,7 @@ length_good = record {
 }
 
 -- a text that is read was spelled so
-text_good : Good FitsText text string_at
+pub text_good : Good FitsText text string_at
 text_good = record {
   takes =
       λ b bytes. lifted_takes (Spelled FitsText text) b (text_at b)
@@ -107,7 +107,7 @@ sequence_good P spell part h = record {
 }
 
 -- a sequence of texts that is read was spelled so
-texts_good : Good FitsTexts texts texts_at
+pub texts_good : Good FitsTexts texts texts_at
 unfolding texts_at
 texts_good = record {
   takes =
@@ -127,12 +127,12 @@ option_takes P spell part h (suc zero ∷ b) bytes =
 option_takes P spell part h (suc (suc x) ∷ b) bytes = tt
 
 -- an option that is read was spelled so, where its part was
-option_good : {X : Type 0} (P : X → Type 0) (spell : X → List ℕ) (part : Reader X) →
+pub option_good : {X : Type 0} (P : X → Type 0) (spell : X → List ℕ) (part : Reader X) →
     Good P spell part → Good (FitsOption P) (option spell) (option_at part)
 option_good P spell part h = record { takes = option_takes P spell part h }
 
 -- a reference to a type that is read was spelled so
-id_good : Good FitsId type_id type_id_at
+pub id_good : Good FitsId type_id type_id_at
 id_good = record {
   takes =
       λ b bytes. bind_in (Spelled (λ n. n < 2 ^ 32) compact) (Spelled FitsId type_id) b
@@ -149,7 +149,7 @@ ids_good = record {
 }
 
 -- a parameter of a type that is read was spelled so
-param_good : Good FitsParam param param_at
+pub param_good : Good FitsParam param param_at
 unfolding param_at
 param_good = record {
   takes = λ b bytes. bind_in (Spelled FitsText text) (Spelled FitsParam param) b (string_at b) _
@@ -161,7 +161,7 @@ param_good = record {
 }
 
 -- a sequence of parameters that is read was spelled so
-params_good : Good (FitsList FitsParam) (sequence param) params_at
+pub params_good : Good (FitsList FitsParam) (sequence param) params_at
 unfolding params_at
 params_good = record {
   takes =
@@ -173,7 +173,7 @@ four_nil : (a b c d : List ℕ) → a ++ (b ++ (c ++ (d ++ []))) ≡ ((a ++ b) +
 four_nil a b c d = simp (append_assoc, append-nil)
 
 -- a field that is read was spelled so
-field_good : Good FitsField field field_at
+pub field_good : Good FitsField field field_at
 unfolding field_at
 field_good = record {
   takes = λ b bytes. bind_in (Spelled (FitsOption FitsText) (option text)) (Spelled FitsField field)
@@ -197,7 +197,7 @@ field_good = record {
 }
 
 -- a sequence of fields that is read was spelled so
-fields_good : Good (FitsList FitsField) (sequence field) fields_at
+pub fields_good : Good (FitsList FitsField) (sequence field) fields_at
 unfolding fields_at
 fields_good = record {
   takes =
@@ -214,7 +214,7 @@ arm_nil : (a s t : List ℕ) (i : ℕ) → a ++ (s ++ (i ∷ (t ++ []))) ≡ (a 
 arm_nil a s t i = simp (append_assoc, append-nil)
 
 -- an arm of a variant that is read was spelled so
-arm_good : Good FitsArm arm arm_read_at
+pub arm_good : Good FitsArm arm arm_read_at
 unfolding arm_read_at
 arm_good = record {
   takes = λ b bytes. bind_in (Spelled FitsText text) (Spelled FitsArm arm) b (string_at b) _ bytes
@@ -287,7 +287,7 @@ as_good P spell part make byte h fits is b bytes =
     )))
 
 -- a number of four bytes that is read stood on the front, and fits 32 bits
-u32_takes : (b : List ℕ) → AreBytes b →
+pub u32_takes : (b : List ℕ) → AreBytes b →
     Takes (λ n c. (n < 2 ^ 32) × (c ≡ le_bytes 4 n)) b (number_at 4 b)
 u32_takes b bytes = cond_takes (λ n c. (n < 2 ^ 32) × (c ≡ le_bytes 4 n)) b (ltb (length b) 4) _ _
     (λ e. tt) (λ e.
@@ -338,7 +338,7 @@ primitive_good b bytes = then_takes (Spelled FitsDefinition definition) (5 ∷ b
     (λ x c rest k. ([], refl, (tt, rw (append-nil, k) refl))))
 
 -- a definition that is read stood on the front in its spelling
-definition_takes : (b : List ℕ) → AreBytes b →
+pub definition_takes : (b : List ℕ) → AreBytes b →
     Takes (Spelled FitsDefinition definition) b (definition_at b)
 unfolding definition_at
 definition_takes [] bytes = tt
@@ -362,7 +362,7 @@ definition_takes ((suc (suc (suc (suc (suc (suc (suc zero))))))) ∷ b) bytes =
 definition_takes ((suc (suc (suc (suc (suc (suc (suc (suc x)))))))) ∷ b) bytes = tt
 
 -- a type that is read was spelled so
-type_good : Good FitsType type_info type_info_at
+pub type_good : Good FitsType type_info type_info_at
 unfolding type_info_at
 type_good = record {
   takes = λ b bytes. bind_in (Spelled FitsTexts texts) (Spelled FitsType type_info) b (texts_at b) _

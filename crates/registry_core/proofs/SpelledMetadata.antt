@@ -29,7 +29,7 @@ letter_takes letter (x ∷ b) =
     (λ e. tt)
 
 -- letters that are read stood on the front in their order
-letters_take : (letters b : List ℕ) → AreBytes b →
+pub letters_take : (letters b : List ℕ) → AreBytes b →
     Takes (λ read c. c ≡ letters) b (letters_at letters b)
 letters_take [] b bytes = ([], refl, refl)
 letters_take (letter ∷ letters) b bytes =

@@ -7,3 +7,4 @@ pub mod Laws
 pub mod Reading
 pub mod Rows
 pub mod Spelling
+pub mod Splits

@@ -6,6 +6,8 @@ ghost use Rattle.registry_core.specs.Laws.{ReadIsSpelled, SpelledIsRead, metadat
 ghost use Rattle.registry_core.specs.Reading.{metadata_at, registry_at};
 ghost use Rattle.registry_core.specs.Rows.{FaultRows, MetadataRows, ReadRows};
 ghost use Rattle.registry_core.specs.Spelling.{spelling};
+ghost use Rattle.registry_core.specs.Splits.{DefinitionFaults, PartFaults, PieceFaults};
+ghost use Rattle.registry_core.specs.Splits.{RegistryFaults};
 
 /// The spelling of a registry is read as that registry, whatever follows.
 pub fn spelled_is_read()
@@ -35,6 +37,14 @@ pub fn fault_is_kept()
 pub fn front_is_cut()
     ensures registry { FrontIsCut FitsRegistry spelling registry_at }
     ensures metadata { FrontIsCut FitsMetadata metadata_of metadata_at }
+{}
+
+/// A part is refused where the parts before it in the bytes are spelled and it is refused itself, and there alone.
+pub fn next_part_fails()
+    ensures pieces { PieceFaults }
+    ensures parts { PartFaults }
+    ensures definitions { DefinitionFaults }
+    ensures registry { RegistryFaults }
 {}
 
 /// What the definitions say of bytes that are known from outside: rows of registries that are read or refused.

@@ -6,7 +6,8 @@ use Rattle.std.specs.Prelude.{ℤ, pos, negsuc, neg_ℤ}
 use Rattle.std.proofs.lemmas.Bool.{cases_lt, le-ltb, lt-ltb}
 use Rattle.std.proofs.Math.Nat.{pow-suc, pow-le-pow_right}
 use Rattle.scale_core.specs.Compact.{bytes_needed}
-use Rattle.scale_core.specs.Number.{AreBytes, number, le_bytes}
+use Rattle.scale_core.specs.Number.{AreBytes, number, le_bytes, signed_number, signed_bytes}
+use Rattle.scale_core.specs.Laws.{FitsSigned, NumberIsSpelled, SignedIsSpelled}
 
 -- a number has as many bytes as are asked for
 pub length-le_bytes : (k n : ℕ) → length (le_bytes k n) ≡ k
@@ -98,3 +99,60 @@ signed_same range m n false false h k e =
     let e' : negsuc (range - m - 1) ≡ negsuc (range - n - 1) =
     sym (neg-pos (range - m) (omega arith)) ∙ e ∙ neg-pos (range - n) (omega arith) in
     let same : range - m - 1 ≡ range - n - 1 = cc in omega (arith, same)
+
+-- ---- the laws of fixed widths
+
+-- the bytes of a number are bytes
+le_bytes-are : (k n : ℕ) → AreBytes (le_bytes k n)
+le_bytes-are zero n = tt
+le_bytes-are (suc k) n = (omega arith, le_bytes-are k (n / 256))
+
+-- a number is spelled by its bytes, and bytes are those of the number that they spell
+pub number_is_spelled : NumberIsSpelled
+number_is_spelled = record {
+  spelled = λ k n h. (le_bytes-are k n, length-le_bytes k n, number-le_bytes k n h);
+  read = λ b h. (number-bound b h, le_bytes-number b h);
+}
+
+-- an integer that fits is what its bytes in two's complement spell
+signed_spelled : (k : ℕ) (x : ℤ) → FitsSigned k x → AreBytes (signed_bytes k x)
+    × (length (signed_bytes k x) ≡ k) × (signed_number (signed_bytes k x) ≡ x)
+signed_spelled k (pos n) h = (
+  le_bytes-are k n,
+  length-le_bytes k n,
+  rw (
+    length-le_bytes k n,
+    number-le_bytes k n (omega (arith, h)),
+    lt-ltb (2 * n) (256 ^ k) h,
+  ) refl,
+)
+signed_spelled k (negsuc n) h = let range = 256 ^ k in (
+  le_bytes-are k (range - suc n),
+  length-le_bytes k (range - suc n),
+  rw (
+    length-le_bytes k (range - suc n),
+    number-le_bytes k (range - suc n) (omega (arith, h)),
+    le-ltb (2 * (range - suc n)) range (omega (arith, h)),
+  )
+      (neg-pos (range - (range - suc n)) (omega (arith, h))
+      ∙ ap negsuc (omega (arith, h))),
+)
+
+-- bytes are those of the integer that they spell in two's complement
+signed_read : (b : List ℕ) → AreBytes b → FitsSigned (length b) (signed_number b)
+    × (signed_bytes (length b) (signed_number b) ≡ b)
+signed_read b h = let n = number b in let range = 256 ^ length b in
+    let bound : n < range = number-bound b h in elim (cases_lt (2 * n) range) [
+      | inl lt ↦ rw (lt-ltb (2 * n) range lt) (lt, le_bytes-number b h)
+      | inr le ↦
+          let again : le_bytes (length b) (range - suc (range - n - 1)) ≡ b =
+          ap (le_bytes (length b)) (omega (arith, bound)) ∙ le_bytes-number b h in
+          rw (
+            le-ltb (2 * n) range le,
+            neg-pos (range - n) (omega (arith, bound)),
+          ) (omega (arith, bound, le), again)
+    ]
+
+-- the same of integers in two's complement
+pub signed_is_spelled : SignedIsSpelled
+signed_is_spelled = record { spelled = signed_spelled; read = signed_read }

@@ -1,5 +1,7 @@
 -- What holds of every spelling.
-use Rattle.std.specs.Prelude.{◌≡◌, ℕ, List, ◌++◌, Ok}
+use Rattle.std.specs.Prelude.{◌≡◌, ℕ, suc, ◌*◌, ◌<◌, ◌≤◌, ◌^◌, ℤ, pos, negsuc, List, ◌++◌, length}
+use Rattle.std.specs.Prelude.{Ok}
+use Rattle.scale_core.specs.Number.{AreBytes, number, le_bytes, signed_number, signed_bytes}
 use Rattle.scale_core.specs.Compact.{IsCompact}
 use Rattle.scale_core.specs.Text.{IsText}
 use Rattle.scale_core.specs.Read.{compact_at, text_at}
@@ -33,3 +35,23 @@ CompactIsSpelled = (m : Target) (bytes : List ℕ) (x : ℕ) (rest : List ℕ) �
 abbrev pub TextIsSpelled : Type 0
 TextIsSpelled = (bytes s rest : List ℕ) → text_at bytes ≡ Ok (s, rest) → (a : List ℕ)
     × (bytes ≡ a ++ rest) × IsText s a
+
+-- the bytes of a number that fits k bytes are k bytes and spell it, and bytes are those of the
+-- number that they spell
+pub record NumberIsSpelled : Type 0 where
+  pub spelled : (k n : ℕ) → n < 256 ^ k → AreBytes (le_bytes k n) × (length (le_bytes k n) ≡ k)
+      × (number (le_bytes k n) ≡ n)
+  pub read : (b : List ℕ) → AreBytes b →
+      (number b < 256 ^ length b) × (le_bytes (length b) (number b) ≡ b)
+
+-- an integer fits k bytes of two's complement
+abbrev pub FitsSigned : ℕ → ℤ → Type 0
+FitsSigned k (pos n) = 2 * n < 256 ^ k
+FitsSigned k (negsuc n) = 2 * suc n ≤ 256 ^ k
+
+-- the same in two's complement
+pub record SignedIsSpelled : Type 0 where
+  pub spelled : (k : ℕ) (x : ℤ) → FitsSigned k x → AreBytes (signed_bytes k x)
+      × (length (signed_bytes k x) ≡ k) × (signed_number (signed_bytes k x) ≡ x)
+  pub read : (b : List ℕ) → AreBytes b → FitsSigned (length b) (signed_number b)
+      × (signed_bytes (length b) (signed_number b) ≡ b)

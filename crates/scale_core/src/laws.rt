@@ -1,6 +1,7 @@
 //! Laws of the spellings: each is the contract of a function that does nothing, so that it is proved.
 
 ghost use Rattle.scale_core.specs.Laws.{CompactIsPrefixFree, CompactIsReadAgain, CompactIsSpelled};
+ghost use Rattle.scale_core.specs.Laws.{NumberIsSpelled, SignedIsSpelled};
 ghost use Rattle.scale_core.specs.Laws.{TextIsPrefixFree, TextIsReadAgain, TextIsSpelled};
 ghost use Rattle.scale_core.specs.Rows.{CompactRows, SpellingRows, TextRows};
 
@@ -34,6 +35,12 @@ pub fn text_is_read_again()
 /// What is read as a text stands on the front as its one spelling.
 pub fn text_is_spelled()
     ensures { TextIsSpelled }
+{}
+
+/// The bytes of a fixed-width integer spell it, and bytes are those of the integer that they spell.
+pub fn fixed_width_is_spelled()
+    ensures unsigned { NumberIsSpelled }
+    ensures signed { SignedIsSpelled }
 {}
 
 /// What the definitions say of bytes that are known from outside: rows of spellings, and of readings with their faults.

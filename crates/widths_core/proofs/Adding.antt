@@ -1,14 +1,18 @@
 -- Counters and references that are added for rules.
-use Rattle.std.proofs.Common.{◌≡◌, ℕ, suc, ◌+◌, List, [], ◌∷◌, ◌++◌, length, map, sym}
-use Rattle.std.proofs.Common.{ap, ◌∙◌, arith}
+use Rattle.std.proofs.Common.{◌≡◌, ℕ, suc, ◌+◌, ◌-◌, List, [], ◌∷◌, ◌++◌, length, map, drop, false}
+use Rattle.std.proofs.Common.{refl, sym, ap, ◌∙◌, arith}
 use Rattle.std.proofs.lemmas.List.{append_assoc, append-nil, map-append, length-append, length-map}
+use Rattle.std.proofs.lemmas.List.{take_all}
 use Rattle.std.proofs.lemmas.Grind.{flat_map-append}
 use Rattle.graph_core.specs.declared.graph.Graph.{Graph}
 use Rattle.widths_core.specs.declared.counter.Counter.{Counter}
-use Rattle.widths_core.specs.Rules.{Rule, counter_of, all_parts, numbers_from}
-use Rattle.graph_core.specs.Graphs.{IsLinked}
+use Rattle.widths_core.specs.declared.counter.Kind.{Kind}
+use Rattle.widths_core.specs.Rules.{Rule, rule, counter_of, all_parts, numbers_from}
+use Rattle.graph_core.specs.Cursors.{parts_left}
+use Rattle.graph_core.specs.Graphs.{refs, BeginsArm, IsLinked}
 use Rattle.widths_core.specs.Linking.{AddsRules}
-use Rattle.graph_core.proofs.Linked.{reads_none, reads_on}
+use Rattle.widths_core.specs.Steps.{AreParts}
+use Rattle.graph_core.proofs.Linked.{reads_none, reads_on, reads_begun, ReadsParts, parts_all}
 
 -- ---- rules that are added
 
@@ -46,4 +50,50 @@ adds_on xs ys cs ds es a b c h k =
           ∙ ap (λ (zs : List Counter). cs ++ zs) (sym (map-append counter_of xs ys));
       reads = rw (ns, ps) (reads_on a b c (all_parts xs) (all_parts ys)
           (numbers_from (length cs) xs) (numbers_from (length ds) ys) h.reads k.reads);
+    }
+
+-- rules that are added after an arm was begun are added from before it
+pub adds_begun : (xs : List Rule) (cs ds : List Counter) (a b c : Graph) (index count : ℕ) →
+    IsLinked a → BeginsArm a b index count → AddsRules xs cs ds b c → AddsRules xs cs ds a c
+adds_begun xs cs ds a b c index count h k adds =
+    adds_on [] xs cs cs ds a b c (record {
+      counters = sym (append-nil cs);
+      reads = reads_begun a b index count h k;
+    }) adds
+
+-- ---- parts that were read together
+
+-- the references that were read as parts were added with a rule of them
+pub parts_added : (t : ℕ) (κ : Kind) (cs ds : List Counter) (a b : Graph) (s i n : ℕ) →
+    ReadsParts a b s i → i ≡ length (parts_left a) → n ≡ length (parts_left a) → s ≡ length cs →
+    ds ≡ cs ++ record { owner = t; kind = κ; left = n; sized = false } ∷ [] →
+    AddsRules (rule t κ (parts_left a) ∷ []) cs ds a b
+parts_added t κ cs ds a b s i n h e m k is =
+    let all = parts_all a b s i h e in
+    let parts : all_parts (rule t κ (parts_left a) ∷ []) ≡ parts_left a =
+    append-nil (parts_left a) in
+    let numbers : numbers_from (length cs) (rule t κ (parts_left a) ∷ [])
+    ≡ map (λ _. s) (parts_left a) = append-nil (map (λ _. length cs) (parts_left a))
+    ∙ ap (λ (j : ℕ). map (λ _. j) (parts_left a)) (sym k) in
+    record { counters = rw (← m) is; reads = rw (parts, numbers) all.reads }
+
+-- a list after another starts where that ends
+drop_front : (xs ys : List ℕ) → drop (length xs) (xs ++ ys) ≡ ys
+drop_front [] ys = refl
+drop_front (x ∷ xs) ys = drop_front xs ys
+
+-- the references that were read are there among all
+pub parts_there : (a b : Graph) (s i from to : ℕ) → ReadsParts a b s i →
+    i ≡ length (parts_left a) → from ≡ length (refs a) → to ≡ length (refs b) →
+    AreParts (refs b) from (to - from) (parts_left a)
+parts_there a b s i from to h e first last =
+    let all = parts_all a b s i h e in
+    let read : refs b ≡ refs a ++ parts_left a = all.reads.on.read in
+    let len : length (refs b) ≡ length (refs a) + length (parts_left a) =
+    ap length read ∙ length-append (refs a) (parts_left a) in
+    let count : to - from ≡ length (parts_left a) = omega (arith, first, last, len) in
+    record {
+      within = omega (arith, first, last, len);
+      are = rw (count, first, read, drop_front (refs a) (parts_left a))
+          (take_all (length (parts_left a)) (parts_left a) (omega arith));
     }

@@ -1,9 +1,10 @@
 -- The rules of the arms that were passed, and those of the arms that are left.
 use Rattle.std.proofs.Common.{◌≡◌, ℕ, ◌+◌, ◌<◌, Bool, true, false, cond, List, [], ◌∷◌, ◌++◌}
-use Rattle.std.proofs.Common.{length, get_or, take, drop, Option, Some, refl, sym, ap, ◌∙◌}
+use Rattle.std.proofs.Common.{length, get_or, take, drop, Option, Some, None, refl, sym, ap, ◌∙◌}
+use Rattle.std.proofs.Common.{arith}
 use Rattle.std.specs.Prelude.{◌==◌, ◌||◌, is_some}
 use Rattle.std.specs.List.{list_any}
-use Rattle.std.proofs.lemmas.List.{at_drop_more, append_assoc}
+use Rattle.std.proofs.lemmas.List.{at_drop_more, append_assoc, drop_more, length-drop}
 use Rattle.registry_core.specs.declared.definition.Arm.{Arm}
 use Rattle.graph_core.specs.declared.graph.Graph.{Graph}
 use Rattle.widths_core.specs.declared.counter.Kind.TheVariants as kind
@@ -11,7 +12,8 @@ use Rattle.widths_core.specs.declared.counter.Counter.{Counter}
 use Rattle.graph_core.specs.Types.{field_types}
 use Rattle.widths_core.specs.Arms.{arm_of}
 use Rattle.widths_core.specs.Rules.{Rule, rule, arm_rules, found_sized}
-use Rattle.graph_core.specs.Graphs.{IsLinked}
+use Rattle.graph_core.specs.Cursors.{arms_left}
+use Rattle.graph_core.specs.Graphs.{BeginsArm, IsArmNext, IsLinked}
 use Rattle.widths_core.specs.Linking.{AddsRules}
 use Rattle.widths_core.proofs.ArmsTo.{shadowed, counted}
 use Rattle.widths_core.proofs.Adding.{adds_none, adds_on}
@@ -82,3 +84,33 @@ arms_counted t i arms x cs ds es a b c lt at lacks h k =
           ≡ is_some (cond q (Some (i, x)) (arm_of (take i arms) j))
       mark j true e = refl
       mark j false e = e
+
+-- ---- the arms that are left
+
+-- an arm that is begun is the next one, and those after it are left
+pub record NextArm (arms : List Arm) (i : ℕ) (b : Graph) (x : Arm) : Type 0 where
+  pub at : x ≡ get_or arms i x
+  pub left : arms_left b ≡ drop (i + 1) arms
+
+-- an arm that is begun stands at the next place
+pub next_arm_at : (arms : List Arm) (i : ℕ) (a b : Graph) (index count : ℕ) → i < length arms →
+    arms_left a ≡ drop i arms → (k : BeginsArm a b index count) → NextArm arms i b k.arm
+next_arm_at arms i a b index count lt left k =
+    let all : get_or arms i k.arm ∷ drop (i + 1) arms ≡ k.arm ∷ arms_left b =
+    sym (drop_more arms i k.arm lt) ∙ sym left ∙ k.arms in
+    let both = same_head (get_or arms i k.arm) k.arm (drop (i + 1) arms) (arms_left b) all in
+    record { at = sym both.0; left = sym both.1 }
+  where
+    same_head : (x y : Arm) (xs ys : List Arm) → x ∷ xs ≡ y ∷ ys → (x ≡ y) × (xs ≡ ys)
+    same_head x y xs ys e = (cc, cc)
+
+-- as long as fewer arms were begun than there are, there is a next one
+pub arm_some : (a b : Graph) (o : Option (ℕ × ℕ)) → IsArmNext a b o → 0 < length (arms_left a) →
+    is_some o ≡ true
+arm_some a b None h lt = absurd (omega (arith, lt, ap length h.0))
+arm_some a b (Some x) h lt = refl
+
+-- so many arms are left
+pub arms_some : (arms : List Arm) (i : ℕ) (a : Graph) → arms_left a ≡ drop i arms →
+    i < length arms → 0 < length (arms_left a)
+arms_some arms i a e lt = omega (arith, lt, ap length e, length-drop i arms)

@@ -2,8 +2,8 @@
 -- and is no target.
 use Rattle.std.proofs.Common.{◌≡◌, ℕ, zero, suc, ◌+◌, ◌<◌, ◌≤◌, Bool, true, false, cond, List, []}
 use Rattle.std.proofs.Common.{◌∷◌, length, map, get_or, replicate, take, flat_map, Option, Some}
-use Rattle.std.proofs.Common.{None, refl, sym, ap, ◌∙◌, arith, inl, inr}
-use Rattle.std.specs.Prelude.{◌==◌}
+use Rattle.std.proofs.Common.{None, refl, sym, ap, subst, ◌∙◌, arith, inl, inr}
+use Rattle.std.specs.Prelude.{◌==◌, slice_get}
 use Rattle.std.specs.List.{AllByRecursion, list_all, list_any}
 use Rattle.std.proofs.lemmas.Bool.{cases_lt}
 use Rattle.std.proofs.lemmas.List.{length-map, length-replicate, take_all}
@@ -33,13 +33,16 @@ use Rattle.graph_core.specs.Graphs.{refs}
 use Rattle.widths_core.specs.Linking.{AreTypesLinked}
 use Rattle.widths_core.specs.Progress.{Progress, counter_at}
 use Rattle.widths_core.specs.Consistent.{nothing, rule_at, to_at, unsettled, waiting, has_settled}
-use Rattle.widths_core.specs.Consistent.{settles, IsConsistent}
+use Rattle.widths_core.specs.Consistent.{settles, so_far, IsConsistent}
+use Rattle.widths_core.specs.declared.rows.Rows.{Rows}
+use Rattle.widths_core.specs.declared.step.Step.{Step}
+use Rattle.widths_core.specs.Steps.{references_of, AreDrafts}
 use Rattle.widths_core.specs.Propagation.{IsStart, PropagatesAll, IsBad, AreCompactsSettled}
 use Rattle.graph_core.proofs.Stopped.{all_front}
 use Rattle.widths_core.proofs.PartsOf.{all_references, checked_by}
 use Rattle.widths_core.proofs.Ranks.{Below, finite_grows, or_parts}
 use Rattle.widths_core.proofs.Stable.{has_value-class_of}
-use Rattle.widths_core.proofs.RuleRight.{rule_right}
+use Rattle.widths_core.proofs.RuleRight.{rule_right, shape-bound}
 use Rattle.widths_core.proofs.Waiting.{waiting_start, waiting-zero, numbers-length, parts_all}
 
 -- ---- before anything has settled
@@ -55,22 +58,44 @@ unsettled_all : (n : ℕ) → unsettled (replicate n class.NoValue) ≡ n
 unsettled_all zero = refl
 unsettled_all (suc n) = omega (arith, unsettled_all n)
 
-abbrev fresh : List TypeInfo → Progress
-fresh r = record {
+abbrev fresh : List TypeInfo → List Step → Rows → Progress
+fresh r xs rows = record {
   counters = map counter_of (rules r);
   classes =
       replicate (length r) class.NoValue;
   targets = replicate (length r) None;
   settled = [];
+  steps = xs;
+  rows = rows;
 }
 
 -- at the start no type has settled
-none_settled : (r : List TypeInfo) (t : ℕ) → has_settled (fresh r) t ≡ false
-none_settled r t = rw (same_all (length r) t class.NoValue) refl
+none_settled : (r : List TypeInfo) (xs : List Step) (rows : Rows) (t : ℕ) →
+    has_settled (fresh r xs rows) t ≡ false
+none_settled r xs rows t = rw (same_all (length r) t class.NoValue) refl
+
+-- before a type and its parts have settled, its step is what it was
+so_far_first : (r : List TypeInfo) (d : TypeDef) (x : Step) →
+    so_far r class.NoValue false d x ≡ x
+so_far_first r (Def.Composite fs) x = refl
+so_far_first r (Def.Variant arms) x = refl
+so_far_first r (Def.Sequence u) x = refl
+so_far_first r (Def.Array n u) x = refl
+so_far_first r (Def.Tuple ts) x = refl
+so_far_first r (Def.Primitive p) x = refl
+so_far_first r (Def.Compact u) x = refl
+so_far_first r (Def.BitSequence store order) x = refl
+
+-- at each place within the table stands a step
+get_some : (xs : List Step) (t : ℕ) → t < length xs → (x : Step) × (slice_get xs t ≡ Some x)
+get_some [] t lt = absurd (omega (arith, lt))
+get_some (x ∷ xs) zero lt = (x, refl)
+get_some (x ∷ xs) (suc t) lt = get_some xs t (omega (arith, lt))
 
 -- at the start, where nothing was propagated, counters and tables are consistent
-start_consistent : (r : List TypeInfo) → IsConsistent r [] (fresh r)
-start_consistent r = record {
+start_consistent : (r : List TypeInfo) (xs : List Step) (rows : Rows) →
+    AreDrafts r (references_of r) rows xs → IsConsistent r [] (fresh r xs rows)
+start_consistent r xs rows drafts = record {
   classes = length-replicate (length r) class.NoValue;
   targets = length-replicate (length r) (let nothing_there : Option Target = None in nothing_there);
   counters = length-map (rules r) counter_of;
@@ -83,26 +108,39 @@ start_consistent r = record {
   sized = λ k. ap (λ (c : Counter). c.sized) (get_or-map counter_of (rules r) k nothing);
   known = λ e lt. absurd (omega (arith, lt));
   part_settled = λ e lt. absurd (omega (arith, lt));
-  right = λ t e. let no = sym (none_settled r t) ∙ e in absurd cc;
+  right = λ t e. let no = sym (none_settled r xs rows t) ∙ e in absurd cc;
   unset = λ t e. same_all (length r) t None;
-  queue = λ t. rw (none_settled r t) refl;
+  queue = λ t. rw (none_settled r xs rows t) refl;
   room = omega (arith, unsettled_all (length r));
+  paired = drafts.paired;
+  steps = drafts.count;
+  step = λ t d e.
+      let lt = shape-bound r t d e in
+      let x = get_some xs t (omega (arith, lt, drafts.count)) in (
+        x.0,
+        drafts.own t d x.0 e x.1,
+        rw (same_all (length r) t class.NoValue) (x.1
+            ∙ ap (λ (y : Step). Some y) (sym (so_far_first r d x.0))),
+      );
 }
 
 -- linked types with tables in which nothing was found are a start
-pub start : (r : List TypeInfo) (cs : List Counter) (d : Graph) (s : Progress) →
-    AreTypesLinked r cs d → s
+pub start : (r : List TypeInfo) (cs : List Counter) (xs : List Step) (rows : Rows) (d : Graph)
+    (s : Progress) → AreTypesLinked r cs d → AreDrafts r (refs d) rows xs → s
     ≡ record {
       counters = cs;
       classes = replicate (length r) class.NoValue;
       targets =
           replicate (length r) None;
       settled = [];
+      steps = xs;
+      rows = rows;
     } → IsStart r d s
-start r cs d s h is = record {
+start r cs xs rows d s h drafts is = record {
   ready = record { linked = h.linked; types = h.types; read = h.read; counted = h.counted };
   listed = h.listed;
-  consistent = rw (is, h.counters) (start_consistent r);
+  consistent = rw (is, h.counters) (start_consistent r xs rows
+      (subst (λ (ys : List ℕ). AreDrafts r ys rows xs) (h.read ∙ all_references r) drafts));
 }
 
 -- ---- where all references were propagated
@@ -117,7 +155,7 @@ one_is true n e f = omega (arith, e)
 one_is false n e f = absurd cc
 
 -- in the end a reference was looked at once where its type has settled, and else never
-propagated_if : (r : List TypeInfo) (a b : Graph) (s n : Progress) (done e : ℕ) →
+pub propagated_if : (r : List TypeInfo) (a b : Graph) (s n : Progress) (done e : ℕ) →
     PropagatesAll r a b s n done → e < length (all_parts (rules r)) →
     times e b.looks.listed.entries ≡ cond (has_settled n (to_at r e)) 1 0
 propagated_if r a b s n done e h small =
@@ -143,7 +181,7 @@ closes r a b s n done h k lt =
           (propagated_if r a b s n done j h small') settled))
 
 -- what holds at each place of a list holds of all that is in it
-all_from : {X : Type 0} (P : X → Type 0) (xs : List X) (d : X) →
+pub all_from : {X : Type 0} (P : X → Type 0) (xs : List X) (d : X) →
     ((k : ℕ) → k < length xs → P (get_or xs k d)) → AllByRecursion P xs
 all_from P [] d h = tt
 all_from P (x ∷ xs) d h =
@@ -152,7 +190,7 @@ all_from P (x ∷ xs) d h =
 -- ---- the rules of one type
 
 -- what holds of all rules of a registry holds of all rules of each of its types
-rules_at : (P : Rule → Type 0) (r : List TypeInfo) (i t : ℕ) (d : TypeDef) →
+pub rules_at : (P : Rule → Type 0) (r : List TypeInfo) (i t : ℕ) (d : TypeDef) →
     AllByRecursion P (rules_from i r) → shape r t ≡ Some d → AllByRecursion P (rules_of (i + t) d)
 rules_at P [] i t d h e = absurd cc
 rules_at P (x ∷ r) i zero d h e =
@@ -299,11 +337,15 @@ bad r a b s n done h = record { at = λ k lt e unset. go k lt e unset } where
   go : (k : ℕ) → k < length (rules r) → (rule_at r k).kind ≡ kind.Compact →
       has_settled n (rule_at r k).owner ≡ false → (class_of r (rule_at r k).owner ≡ class.Sized)
       × (target_of r (rule_at r k).owner ≡ None)
+      × ((u : ℕ) → (rule_at r k).parts ≡ u ∷ [] → target_of r u ≡ None)
   go k lt e unset =
       let right = rw e at (rule_right r k lt).right in
       let none : target_of r right.0 ≡ None =
-      compact k right.0 e right.1 lt unset (target_of r right.0) refl in
-      (right.2 ∙ ap class_of_compact none, right.3)
+      compact k right.0 e right.1 lt unset (target_of r right.0) refl in (
+        right.2 ∙ ap class_of_compact none,
+        right.3,
+        (λ u one. compact k u e one lt unset (target_of r u) refl),
+      )
 
 -- ---- where nothing more settles
 
@@ -359,7 +401,7 @@ classes_reported r a b s n done h c =
 pub types_linked_checked : (r : List TypeInfo) (cs : List Counter) (d : Graph) →
     AreTypesLinked r cs d → IsChecked r
 types_linked_checked r cs d h =
-    let known : AreKnown (length d.types.now) (refs d) = h.linked.known in
+    let known : AreKnown (length d.registry) (refs d) = h.linked.known in
     let known' : AreKnown (length r) (flat_map (λ i. references i.shape) r) =
     rw (h.types, h.read ∙ all_references r) at known in
     checked_by (length r) r known'

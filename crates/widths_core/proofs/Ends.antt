@@ -1,19 +1,25 @@
 -- Types without a part that has to settle first, and compacts without a target.
 use Rattle.std.proofs.Common.{◌≡◌, ◌≢◌, ℕ, ◌+◌, ◌<◌, ◌≤◌, Bool, true, false, List, [], ◌∷◌, length}
+use Rattle.std.proofs.Common.{Some}
 use Rattle.std.proofs.Common.{take, None, refl, sym, ap, ◌∙◌, arith, inl, inr}
 use Rattle.std.proofs.lemmas.Bool.{cases_lt, cases_eq}
 use Rattle.std.proofs.lemmas.List.{get_or_past, length-append, take-append-le}
+use Rattle.registry_core.specs.declared.definition.TypeDef.{TypeDef}
 use Rattle.registry_core.specs.declared.type_info.TypeInfo.{TypeInfo}
 use Rattle.widths_core.specs.declared.counter.Kind.TheVariants as kind
 use Rattle.widths_core.specs.Rules.{rules, numbers_from, found_sized}
 use Rattle.widths_core.specs.Progress.{Progress, counter_at, completed, settled_as, KnowsType}
 use Rattle.widths_core.specs.Consistent.{nothing, rule_at, waiting, has_settled, settles}
 use Rattle.widths_core.specs.Consistent.{IsConsistent, IsClosed}
+use Rattle.widths_core.specs.Steps.{references_of, IsRow}
+use Rattle.widths_core.specs.Targets.{target_of}
 use Rattle.graph_core.specs.declared.graph.Graph.{Graph}
 use Rattle.widths_core.specs.Propagation.{Follows, IsStart, IsPropagatedTo, PropagatesAll, IsBad}
 use Rattle.widths_core.specs.Propagation.{AreCompactsSettled}
 use Rattle.widths_core.proofs.RuleRight.{rule_right}
-use Rattle.widths_core.proofs.Settles.{follows_on, completes_to, settles_to}
+use Rattle.widths_core.proofs.RuleKinds.{rule_kind, HasKind}
+use Rattle.widths_core.proofs.StepsSoFar.{bad_step}
+use Rattle.widths_core.proofs.Settles.{follows_on, completes_to, settles_to, CompletesStep}
 use Rattle.widths_core.proofs.Waiting.{waiting_start}
 
 -- where all is consistent, the tables have an entry for the owner of each counter
@@ -23,6 +29,7 @@ placed r propagated s k h lt =
     let right = rule_right r k (omega (arith, h.counters, lt)) in (
       omega (arith, h.owner k, right.owner, h.classes),
       omega (arith, h.owner k, right.owner, h.targets),
+      omega (arith, h.owner k, right.owner, h.steps),
     )
 
 -- where rules are read after the last one, it is an idle rule without parts
@@ -47,14 +54,17 @@ no_parts r s k u h none one =
 
 -- a counter that has nothing left is passed where its owner settles
 pub begins_done : (r : List TypeInfo) (o s n : Progress) (i : ℕ) → i < length s.counters →
-    BeginsTo r o s i → (counter_at s i).left ≡ 0 → n ≡ completed s (counter_at s i) None →
+    BeginsTo r o s i → (counter_at s i).left ≡ 0 → n ≡ completed s (counter_at s i) None false →
     BeginsTo r o n (i + 1)
 begins_done r o s n i lt h none is =
-    let done = completes_to r [] s i None h.consistent (omega (arith, h.consistent.counters, lt))
-    none (λ u one. absurd (no_parts r s i u h.consistent none one)) in
+    let done = completes_to r [] s i None false h.consistent
+    (omega (arith, h.consistent.counters, lt)) none (record {
+      target_is = λ u one. absurd (no_parts r s i u h.consistent none one);
+      byte_is = λ u one. absurd (no_parts r s i u h.consistent none one);
+    }) in
     rw is (record {
       consistent = done.consistent;
-      follows = follows_on o s (completed s (counter_at s i) None) h.follows done.follows;
+      follows = follows_on o s (completed s (counter_at s i) None false) h.follows done.follows;
       closed = λ k lt' e left. elim (cases_eq k i) [
         | inl same ↦ let e' : settles (rule_at r i).kind ≡ true = rw same at e in
             rw same (done.settled e')
@@ -117,17 +127,34 @@ unsettled_before : (b c : Bool) → (b ≡ true → c ≡ true) → c ≡ false 
 unsettled_before true c f e = let t = f refl in let no = sym t ∙ e in absurd cc
 unsettled_before false c f e = refl
 
+-- the step of a compact without a target is complete as it is
+bad_completes : (r : List TypeInfo) (s : Progress) (i : ℕ) → i < length (rules r) →
+    (rule_at r i).kind ≡ kind.Compact →
+    ((u : ℕ) → (rule_at r i).parts ≡ u ∷ [] → target_of r u ≡ None) →
+    CompletesStep r s (rule_at r i).owner found_sized None
+bad_completes r s i small kind_is none = record {
+  at = λ d x known shape_is draft before.
+      let own = rule_kind r i small in
+      let same : own.definition ≡ d = some_is own.definition d (sym own.at ∙ shape_is) in
+      let has : HasKind d kind.Compact (rule_at r i).parts = rw (kind_is, same) at own.kind in
+      bad_step r (references_of r) (IsRow (references_of r) s.rows) d (rule_at r i).parts known x
+      has none draft;
+} where
+  some_is : (a b : TypeDef) → Some a ≡ Some b → a ≡ b
+  some_is a b q = cc
+
 -- a counter of a compact is passed where its owner settles as a type that takes bytes
 pub settles_bad_done : (r : List TypeInfo) (propagated : List ℕ) (s n m : Progress) (i : ℕ) →
     i < length n.counters → SettlesBadTo r propagated s n i → (counter_at n i).kind ≡ kind.Compact →
-    m ≡ settled_as n (counter_at n i).owner found_sized → SettlesBadTo r propagated s m (i + 1)
+    m ≡ settled_as n (counter_at n i).owner found_sized None → SettlesBadTo r propagated s m (i + 1)
 settles_bad_done r propagated s n m i lt h compact is =
     let small : i < length (rules r) = omega (arith, h.consistent.counters, lt) in
     let right = rule_right r i small in
     let kind_is : (rule_at r i).kind ≡ kind.Compact = sym (h.consistent.kind i) ∙ compact in
-    let done = settles_to r propagated n (rule_at r i).owner found_sized h.consistent right.owner
-    (λ e. let bad = h.bad.at i small kind_is e in
-    record { class = bad.0; target = bad.1; value = refl }) in
+    let done = settles_to r propagated n (rule_at r i).owner found_sized None h.consistent
+    right.owner (λ e. let bad = h.bad.at i small kind_is e in
+    record { class = bad.0; target = bad.1; value = refl })
+    (λ e. let bad = h.bad.at i small kind_is e in bad_completes r n i small kind_is bad.2) in
     rw (is, h.consistent.owner i) (record {
       consistent = done.consistent;
       closed = record {
@@ -137,10 +164,10 @@ settles_bad_done r propagated s n m i lt h compact is =
       bad = record {
         at = λ k small' e unset. h.bad.at k small' e
             (unsettled_before (has_settled n (rule_at r k).owner)
-            (has_settled (settled_as n (rule_at r i).owner found_sized) (rule_at r k).owner)
+            (has_settled (settled_as n (rule_at r i).owner found_sized None) (rule_at r k).owner)
             (done.follows.keeps (rule_at r k).owner) unset);
       };
-      follows = follows_on s n (settled_as n (rule_at r i).owner found_sized) h.follows
+      follows = follows_on s n (settled_as n (rule_at r i).owner found_sized None) h.follows
           done.follows;
       compacts = λ k lt' small' e. elim (cases_eq k i) [
         | inl same ↦ rw same done.settled

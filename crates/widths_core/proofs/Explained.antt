@@ -5,7 +5,8 @@ use Rattle.graph_core.specs.declared.fault.CheckFault.{CheckFault}
 use Rattle.graph_core.specs.declared.fault.CheckFault.TheVariants as fault
 use Rattle.graph_core.specs.References.{first_fault}
 use Rattle.graph_core.proofs.FirstFault.{fault_is_first}
-use Rattle.widths_core.specs.Checks.{IsFaultOf, Explains}
+use Rattle.graph_core.specs.Stops.{IsFaultOf}
+use Rattle.widths_core.specs.Checks.{Explains}
 
 -- the fault that is reported explains itself
 pub explains : (r : List TypeInfo) (f : CheckFault) → IsFaultOf f (first_fault r) → Explains r f

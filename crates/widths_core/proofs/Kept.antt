@@ -1,4 +1,4 @@
--- Parts, rows and drafts stay what they are while references and arms come after them.
+-- Parts, rows and steps stay what they are while references and arms come after them.
 use Rattle.std.proofs.Common.{ℕ, ◌≤◌, List, ◌++◌, length, take, drop, Option, Some, None, refl}
 use Rattle.std.proofs.Common.{ap, ◌∙◌, arith}
 use Rattle.std.proofs.lemmas.List.{length-append, length-drop, drop-append-le, take-append-le}
@@ -7,7 +7,7 @@ use Rattle.registry_core.specs.declared.definition.TypeDef.{TypeDef}
 use Rattle.registry_core.specs.declared.definition.TypeDef.TheVariants as Def
 use Rattle.widths_core.specs.declared.rows.Rows.{Rows}
 use Rattle.widths_core.specs.declared.step.ArmStep.{ArmStep}
-use Rattle.widths_core.specs.declared.step.Draft.{Draft}
+use Rattle.widths_core.specs.declared.step.Step.{Step}
 use Rattle.graph_core.specs.Types.{ids, field_types}
 use Rattle.widths_core.specs.Arms.{arm_of}
 use Rattle.widths_core.specs.Rows.{Keeps, arm_at_place, index_in}
@@ -60,10 +60,11 @@ row_kept xs ys a b from count arms k h = record {
       (λ i ge lt is. lacks i ge lt (k.indexes i (omega (arith, lt, h.within)) ∙ is));
 }
 
--- ---- drafts
+-- ---- steps
 
--- a draft stays that of its type where references come after and the rows keep what was there
-pub draft_kept : (xs ys : List ℕ) (a b : Rows) (d : TypeDef) (s : Draft) → Keeps a b →
+-- a step that is not complete stays that of its type where references come after and the rows keep
+-- what was there
+pub draft_kept : (xs ys : List ℕ) (a b : Rows) (d : TypeDef) (s : Step) → Keeps a b →
     IsDraft xs (IsRow xs a) d s → IsDraft (xs ++ ys) (IsRow (xs ++ ys) b) d s
 draft_kept xs ys a b (Def.Composite fs) s k h =
     (h.0, h.1, h.2, parts_kept xs ys h.0 h.1 (field_types fs) h.3)

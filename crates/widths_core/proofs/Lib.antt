@@ -13,6 +13,8 @@ pub mod Stopped
 pub mod Stable
 pub mod RuleRight
 pub mod Waiting
+pub mod RuleKinds
+pub mod StepsSoFar
 pub mod Settles
 pub mod PartSettles
 pub mod PropagatesOne

@@ -1,11 +1,16 @@
 -- A counter counts a part that has settled.
 use Rattle.std.proofs.Common.{◌≡◌, ◌≢◌, ℕ, ◌+◌, ◌<◌, Bool, true, false, cond, List, [], ◌∷◌, length}
-use Rattle.std.proofs.Common.{refl, sym, ap, subst, ◌∙◌, ◌⊎◌, arith, inl, inr}
-use Rattle.std.specs.Prelude.{◌==◌, ◌&&◌, ◌||◌}
+use Rattle.std.proofs.Common.{Some, refl, sym, ap, subst, ◌∙◌, ◌⊎◌, arith, inl, inr}
+use Rattle.std.specs.Prelude.{◌==◌, ◌&&◌, ◌||◌, slice_get}
 use Rattle.std.specs.List.{list_any}
 use Rattle.std.proofs.lemmas.Bool.{eqb-true, eq-eqb, cases_eq}
 use Rattle.std.proofs.lemmas.List.{append-nil, length-set, get_or-set_same, get_or-set_other}
+use Rattle.registry_core.specs.declared.definition.TypeDef.{TypeDef}
 use Rattle.registry_core.specs.declared.type_info.TypeInfo.{TypeInfo}
+use Rattle.graph_core.specs.Types.{shape}
+use Rattle.widths_core.specs.declared.class.Class.{Class}
+use Rattle.widths_core.specs.declared.counter.Kind.TheVariants as kind
+use Rattle.widths_core.specs.declared.step.Step.{Step}
 use Rattle.widths_core.specs.declared.counter.Found.{Found}
 use Rattle.widths_core.specs.declared.counter.Counter.{Counter}
 use Rattle.widths_core.specs.Targets.{target_of}
@@ -13,9 +18,16 @@ use Rattle.widths_core.specs.Classes.{class_of}
 use Rattle.graph_core.specs.Counts.{times}
 use Rattle.widths_core.specs.Rules.{rules, all_parts, numbers_from}
 use Rattle.widths_core.specs.Progress.{Progress, counter_at, no_counter, is_sized, counter_after}
-use Rattle.widths_core.specs.Progress.{counters_set, completed, part_settled}
+use Rattle.widths_core.specs.Progress.{completed, counted, part_settled}
+use Rattle.widths_core.specs.ClassTables.{known_class}
+use Rattle.widths_core.specs.Completing.{told_step, written}
 use Rattle.widths_core.specs.Consistent.{rule_at, to_at, rule_number, waiting, has_settled, settles}
-use Rattle.widths_core.specs.Consistent.{IsConsistent, IsClosed}
+use Rattle.widths_core.specs.Consistent.{so_far, tells, told, IsStepSoFar, IsConsistent, IsClosed}
+use Rattle.widths_core.specs.Layouts.{is_byte}
+use Rattle.widths_core.specs.Steps.{references_of, IsDraft, IsRow}
+use Rattle.widths_core.proofs.RuleKinds.{rule_kind, HasKind}
+use Rattle.widths_core.proofs.StepsSoFar.{written_same, written_other, written-length, tells_is}
+use Rattle.widths_core.proofs.StepsSoFar.{told_none, tells_step}
 use Rattle.widths_core.specs.Propagation.{Follows}
 use Rattle.widths_core.proofs.Settles.{completes_to}
 use Rattle.widths_core.proofs.Waiting.{differ, times-other, waiting-propagated, numbers-length}
@@ -58,22 +70,52 @@ or_comm false true = refl
 or_comm false false = refl
 
 -- a counter that was put at a place is read there
-counter_same : (s : Progress) (k : ℕ) (c : Counter) → k < length s.counters →
-    counter_at (counters_set s k c) k ≡ c
-counter_same s k c lt = get_or-set_same s.counters k c no_counter lt
+counter_same : (s : Progress) (k : ℕ) (c : Counter) (part : Class) (byte : Bool) →
+    k < length s.counters → counter_at (counted s k c part byte) k ≡ c
+counter_same s k c part byte lt = get_or-set_same s.counters k c no_counter lt
 
 -- a counter that is put at one place leaves the others as they are
-counter_other : (s : Progress) (k j : ℕ) (c : Counter) → j ≢ k →
-    counter_at (counters_set s k c) j ≡ counter_at s j
-counter_other s k j c ne = get_or-set_other s.counters k j c no_counter ne
+counter_other : (s : Progress) (k j : ℕ) (c : Counter) (part : Class) (byte : Bool) → j ≢ k →
+    counter_at (counted s k c part byte) j ≡ counter_at s j
+counter_other s k j c part byte ne = get_or-set_other s.counters k j c no_counter ne
+
+abbrev part_counted : List TypeInfo → Progress → ℕ → Found → Bool → Progress
+part_counted r s e f byte = counted s (rule_number r e)
+    (counter_after (counter_at s (rule_number r e)) f.class) f.class byte
+
+-- the one part of a rule is what each reference for it is to
+only_part : (r : List TypeInfo) (e u : ℕ) → e < length (all_parts (rules r)) →
+    (rule_at r (rule_number r e)).parts ≡ u ∷ [] → to_at r e ≡ u
+only_part r e u lt one =
+    let among : list_any (λ p. p == to_at r e) (rule_at r (rule_number r e)).parts ≡ true =
+    parts_any (λ p. p == to_at r e) 0 (rules r) e (rule_number r e) lt (omega arith)
+    (eq-eqb (to_at r e) (to_at r e) refl) in
+    let here : ((u == to_at r e) || false) ≡ true = rw one at among in
+    go (u == to_at r e) refl here where
+      go : (b : Bool) → (u == to_at r e) ≡ b → (b || false) ≡ true → to_at r e ≡ u
+      go true p q = sym (eqb-true u (to_at r e) p)
+      go false p q = absurd cc
+
+-- a test that is joined to one that fails fails
+and_false : (b : Bool) → (b && false) ≡ false
+and_false true = refl
+and_false false = refl
+
+-- steps of other types than the owner of a rule are not told by its part, nor are those of other
+-- rules than that of a sequence's element
+told_other : (r : List TypeInfo) (propagated : List ℕ) (e t : ℕ) →
+    (((rule_at r (rule_number r e)).owner == t) && tells (rule_at r (rule_number r e)).kind)
+    ≡ false → told r (e ∷ propagated) t ≡ told r propagated t
+told_other r propagated e t fails = rw fails refl
 
 -- all stays consistent where the counter of a reference counts a part that has settled
-counted_consistent : (r : List TypeInfo) (propagated : List ℕ) (s : Progress) (e : ℕ) (f : Found) →
-    IsConsistent r propagated s → e < length (all_parts (rules r)) → times e propagated ≡ 0 →
-    has_settled s (to_at r e) ≡ true → f.class ≡ class_of r (to_at r e) →
+counted_consistent : (r : List TypeInfo) (propagated : List ℕ) (s : Progress) (e : ℕ) (f : Found)
+    (byte : Bool) → IsConsistent r propagated s → e < length (all_parts (rules r)) →
+    times e propagated ≡ 0 → has_settled s (to_at r e) ≡ true →
+    f.class ≡ class_of r (to_at r e) → byte ≡ is_byte (shape r (to_at r e)) →
     IsConsistent r (e ∷ propagated)
-    (counters_set s (rule_number r e) (counter_after (counter_at s (rule_number r e)) f.class))
-counted_consistent r propagated s e f h lt none settled is = record {
+    (part_counted r s e f byte)
+counted_consistent r propagated s e f byte h lt none settled is byte_is = record {
   classes = h.classes;
   targets = h.targets;
   counters = length-set s.counters (rule_number r e)
@@ -88,35 +130,92 @@ counted_consistent r propagated s e f h lt none settled is = record {
   unset = h.unset;
   queue = h.queue;
   room = h.room;
+  paired = h.paired;
+  steps = written-length s.steps (counter_at s (rule_number r e)).owner
+      (told_step (counter_at s (rule_number r e)).kind f.class byte) ∙ h.steps;
+  step = λ t d shape_is. rw (h.owner (rule_number r e), h.kind (rule_number r e))
+      (step t d (tells (rule_at r (rule_number r e)).kind) refl
+      (cases_eq t (rule_at r (rule_number r e)).owner) (h.step t d shape_is) shape_is);
 } where
+  some_is : (a b : TypeDef) → Some a ≡ Some b → a ≡ b
+  some_is a b q = cc
+
+  step : (t : ℕ) (d : TypeDef) (b : Bool) → tells (rule_at r (rule_number r e)).kind ≡ b →
+      (t ≡ (rule_at r (rule_number r e)).owner) ⊎ (t ≢ (rule_at r (rule_number r e)).owner) →
+      IsStepSoFar r propagated s t d → shape r t ≡ Some d → (x : Step)
+      × IsDraft (references_of r) (IsRow (references_of r) s.rows) d x
+      × (slice_get (written s.steps (rule_at r (rule_number r e)).owner
+      (told_step (rule_at r (rule_number r e)).kind f.class byte)) t
+      ≡ Some (so_far r (known_class s.classes t) (told r (e ∷ propagated) t) d x))
+  step t d b kind_is (inr other) k shape_is =
+      let no : (((rule_at r (rule_number r e)).owner == t)
+      && tells (rule_at r (rule_number r e)).kind) ≡ false =
+      rw (differ (rule_at r (rule_number r e)).owner t (λ same. other (sym same))) refl in (
+        k.0,
+        k.1,
+        rw (told_other r propagated e t no)
+            (written_other s.steps (rule_at r (rule_number r e)).owner t
+            (told_step (rule_at r (rule_number r e)).kind f.class byte) other ∙ k.2),
+      )
+  step t d false kind_is (inl same) k shape_is =
+      let no : (((rule_at r (rule_number r e)).owner == t)
+      && tells (rule_at r (rule_number r e)).kind) ≡ false =
+      rw kind_is (and_false ((rule_at r (rule_number r e)).owner == t)) in (
+        k.0,
+        k.1,
+        rw (
+          told_other r propagated e t no,
+          told_none (rule_at r (rule_number r e)).kind f.class byte kind_is,
+        ) k.2,
+      )
+  step t d true kind_is (inl same) k shape_is =
+      let own = rule_kind r (rule_number r e) (number-lt r e lt) in
+      let at : shape r t ≡ Some own.definition = ap (shape r) same ∙ own.at in
+      let same_definition : own.definition ≡ d = some_is own.definition d (sym at ∙ shape_is) in
+      let sequence : (rule_at r (rule_number r e)).kind ≡ kind.Sequence =
+      tells_is (rule_at r (rule_number r e)).kind kind_is in
+      let has : HasKind d kind.Sequence (rule_at r (rule_number r e)).parts =
+      rw (sequence, same_definition) at own.kind in
+      let yes : told r (e ∷ propagated) t ≡ true =
+      rw (eq-eqb (rule_at r (rule_number r e)).owner t (sym same), kind_is) refl in (
+        k.0,
+        k.1,
+        rw (yes, sequence) (rw (← same) (written_same s.steps t
+            (told_step kind.Sequence f.class byte)
+            (so_far r (known_class s.classes t) (told r propagated t) d k.0) k.2)
+            ∙ ap (λ (y : Step). Some y) (tells_step r (references_of r)
+            (IsRow (references_of r) s.rows) d (rule_at r (rule_number r e)).parts (to_at r e)
+            f.class (known_class s.classes t) byte (told r propagated t) k.0 has
+            (λ u one. only_part r e u lt one) is byte_is k.1)),
+      )
+
   small : rule_number r e < length s.counters
   small = omega (arith, h.counters, number-lt r e lt)
 
   owner : (k : ℕ) → (k ≡ rule_number r e) ⊎ (k ≢ rule_number r e) →
-      (counter_at (counters_set s (rule_number r e)
-      (counter_after (counter_at s (rule_number r e)) f.class)) k).owner ≡ (rule_at r k).owner
+      (counter_at (part_counted r s e f byte) k).owner ≡ (rule_at r k).owner
   owner k (inl same) = rw (
     same,
-    counter_same s (rule_number r e) (counter_after (counter_at s (rule_number r e)) f.class) small,
+    counter_same s (rule_number r e) (counter_after (counter_at s (rule_number r e)) f.class)
+        f.class byte small,
   )
       (h.owner (rule_number r e))
   owner k (inr other) = rw (counter_other s (rule_number r e) k
-      (counter_after (counter_at s (rule_number r e)) f.class) other) (h.owner k)
+      (counter_after (counter_at s (rule_number r e)) f.class) f.class byte other) (h.owner k)
 
   kind : (k : ℕ) → (k ≡ rule_number r e) ⊎ (k ≢ rule_number r e) →
-      (counter_at (counters_set s (rule_number r e)
-      (counter_after (counter_at s (rule_number r e)) f.class)) k).kind ≡ (rule_at r k).kind
+      (counter_at (part_counted r s e f byte) k).kind ≡ (rule_at r k).kind
   kind k (inl same) = rw (
     same,
-    counter_same s (rule_number r e) (counter_after (counter_at s (rule_number r e)) f.class) small,
+    counter_same s (rule_number r e) (counter_after (counter_at s (rule_number r e)) f.class)
+        f.class byte small,
   )
       (h.kind (rule_number r e))
   kind k (inr other) = rw (counter_other s (rule_number r e) k
-      (counter_after (counter_at s (rule_number r e)) f.class) other) (h.kind k)
+      (counter_after (counter_at s (rule_number r e)) f.class) f.class byte other) (h.kind k)
 
   left : (k : ℕ) → (k ≡ rule_number r e) ⊎ (k ≢ rule_number r e) →
-      (counter_at (counters_set s (rule_number r e)
-      (counter_after (counter_at s (rule_number r e)) f.class)) k).left
+      (counter_at (part_counted r s e f byte) k).left
       ≡ waiting 0 (numbers_from 0 (rules r)) k (e ∷ propagated)
   left k (inl same) =
       let one : ◌≡◌ {A = ℕ} (cond (rule_number r e == rule_number r e) 1 0) 1 =
@@ -124,6 +223,7 @@ counted_consistent r propagated s e f h lt none settled is = record {
       rw (
         same,
         counter_same s (rule_number r e) (counter_after (counter_at s (rule_number r e)) f.class)
+            f.class byte
             small,
       ) (omega (
         arith,
@@ -135,21 +235,21 @@ counted_consistent r propagated s e f h lt none settled is = record {
       let no : ◌≡◌ {A = ℕ} (cond (rule_number r e == k) 1 0) 0 =
       rw (differ (rule_number r e) k (λ i. other (sym i))) refl in
       rw (counter_other s (rule_number r e) k
-      (counter_after (counter_at s (rule_number r e)) f.class)
+      (counter_after (counter_at s (rule_number r e)) f.class) f.class byte
       other) (omega (arith, h.left k, propagated_left r propagated e k lt none, no))
 
   sized : (k : ℕ) → (k ≡ rule_number r e) ⊎ (k ≢ rule_number r e) →
-      (counter_at (counters_set s (rule_number r e)
-      (counter_after (counter_at s (rule_number r e)) f.class)) k).sized
+      (counter_at (part_counted r s e f byte) k).sized
       ≡ list_any (λ x. (rule_number r x == k) && is_sized (class_of r (to_at r x))) (e ∷ propagated)
   sized k (inl same) =
       let P : ℕ → Type 0 = λ j. (counter_at
-      (counters_set s (rule_number r e) (counter_after (counter_at s (rule_number r e)) f.class))
+      (part_counted r s e f byte)
       j).sized ≡ list_any (λ x. (rule_number r x == j) && is_sized (class_of r (to_at r x)))
       (e ∷ propagated) in
       let there : P (rule_number r e) =
       rw (
         counter_same s (rule_number r e) (counter_after (counter_at s (rule_number r e)) f.class)
+            f.class byte
             small,
         eq-eqb (rule_number r e) (rule_number r e) refl,
         is,
@@ -160,7 +260,7 @@ counted_consistent r propagated s e f h lt none settled is = record {
       subst P (sym same) there
   sized k (inr other) = rw (
     counter_other s (rule_number r e) k
-        (counter_after (counter_at s (rule_number r e)) f.class) other,
+        (counter_after (counter_at s (rule_number r e)) f.class) f.class byte other,
     differ (rule_number r e) k (λ i. other (sym i)),
   ) (h.sized k)
 
@@ -182,64 +282,49 @@ pub record SettlesPart (r : List TypeInfo) (propagated : List ℕ) (e : ℕ) (s 
     pub closed : IsClosed r n
     pub follows : Follows s n
 
--- the one part of a rule is what each reference for it is to
-only_part : (r : List TypeInfo) (e u : ℕ) → e < length (all_parts (rules r)) →
-    (rule_at r (rule_number r e)).parts ≡ u ∷ [] → to_at r e ≡ u
-only_part r e u lt one =
-    let among : list_any (λ p. p == to_at r e) (rule_at r (rule_number r e)).parts ≡ true =
-    parts_any (λ p. p == to_at r e) 0 (rules r) e (rule_number r e) lt (omega arith)
-    (eq-eqb (to_at r e) (to_at r e) refl) in
-    let here : ((u == to_at r e) || false) ≡ true = rw one at among in
-    go (u == to_at r e) refl here where
-      go : (b : Bool) → (u == to_at r e) ≡ b → (b || false) ≡ true → to_at r e ≡ u
-      go true p q = sym (eqb-true u (to_at r e) p)
-      go false p q = absurd cc
-
 -- a reference is propagated where its counter counts it and, with nothing left, settles its owner
-pub settles_part : (r : List TypeInfo) (propagated : List ℕ) (s : Progress) (e : ℕ) (f : Found) →
-    IsConsistent r propagated s → IsClosed r s → e < length (all_parts (rules r)) →
-    times e propagated ≡ 0 → has_settled s (to_at r e) ≡ true → f.class ≡ class_of r (to_at r e) →
-    f.target ≡ target_of r (to_at r e) →
-    SettlesPart r propagated e s (part_settled s (rule_number r e) f)
-settles_part r propagated s e f h closed lt none settled is target =
+pub settles_part : (r : List TypeInfo) (propagated : List ℕ) (s : Progress) (e : ℕ) (f : Found)
+    (byte : Bool) → IsConsistent r propagated s → IsClosed r s →
+    e < length (all_parts (rules r)) → times e propagated ≡ 0 →
+    has_settled s (to_at r e) ≡ true → f.class ≡ class_of r (to_at r e) →
+    f.target ≡ target_of r (to_at r e) → byte ≡ is_byte (shape r (to_at r e)) →
+    SettlesPart r propagated e s (part_settled s (rule_number r e) f byte)
+settles_part r propagated s e f byte h closed lt none settled is target byte_is =
     go ((counter_after (counter_at s (rule_number r e)) f.class).left == 0) refl where
       st : IsConsistent r (e ∷ propagated)
-          (counters_set s (rule_number r e)
-          (counter_after (counter_at s (rule_number r e)) f.class))
-      st = counted_consistent r propagated s e f h lt none settled is
+          (part_counted r s e f byte)
+      st = counted_consistent r propagated s e f byte h lt none settled is byte_is
 
-      at : counter_at (counters_set s (rule_number r e)
-          (counter_after (counter_at s (rule_number r e)) f.class)) (rule_number r e)
+      at : counter_at (part_counted r s e f byte) (rule_number r e)
           ≡ counter_after (counter_at s (rule_number r e)) f.class
-      at = counter_same s (rule_number r e) (counter_after (counter_at s (rule_number r e)) f.class)
+      at = counter_same s (rule_number r e)
+          (counter_after (counter_at s (rule_number r e)) f.class) f.class byte
           (omega (arith, h.counters, number-lt r e lt))
 
       others : (j : ℕ) → j ≢ rule_number r e → settles (rule_at r j).kind ≡ true →
-          (counter_at (counters_set s (rule_number r e)
-          (counter_after (counter_at s (rule_number r e)) f.class)) j).left ≡ 0 →
+          (counter_at (part_counted r s e f byte) j).left ≡ 0 →
           has_settled s (rule_at r j).owner ≡ true
       others j other e' left =
           closed.at j e' (rw (counter_other s (rule_number r e) j
-          (counter_after (counter_at s (rule_number r e)) f.class) other) at left)
+          (counter_after (counter_at s (rule_number r e)) f.class) f.class byte other) at left)
 
       go : (b : Bool) → ((counter_after (counter_at s (rule_number r e)) f.class).left == 0) ≡ b →
           SettlesPart r propagated e s
-          (cond b (completed (counters_set s (rule_number r e)
-          (counter_after (counter_at s (rule_number r e)) f.class))
-          (counter_after (counter_at s (rule_number r e)) f.class) f.target)
-          (counters_set s (rule_number r e)
-          (counter_after (counter_at s (rule_number r e)) f.class)))
+          (cond b (completed (part_counted r s e f byte)
+          (counter_after (counter_at s (rule_number r e)) f.class) f.target byte)
+          (part_counted r s e f byte))
       go true p =
           let zero_is : (counter_after (counter_at s (rule_number r e)) f.class).left ≡ 0 =
           eqb-true (counter_after (counter_at s (rule_number r e)) f.class).left 0 p in
-          let left : (counter_at (counters_set s (rule_number r e)
-          (counter_after (counter_at s (rule_number r e)) f.class)) (rule_number r e)).left ≡ 0 =
+          let left : (counter_at (part_counted r s e f byte) (rule_number r e)).left ≡ 0 =
           rw at zero_is in
           let done = rw at at (completes_to r (e ∷ propagated)
-          (counters_set s (rule_number r e)
-          (counter_after (counter_at s (rule_number r e)) f.class))
-          (rule_number r e) f.target st (number-lt r e lt) left
-          (λ u one. target ∙ ap (target_of r) (only_part r e u lt one))) in
+          (part_counted r s e f byte)
+          (rule_number r e) f.target byte st (number-lt r e lt) left (record {
+            target_is = λ u one. target ∙ ap (target_of r) (only_part r e u lt one);
+            byte_is = λ u one. byte_is
+                ∙ ap (λ (w : ℕ). is_byte (shape r w)) (only_part r e u lt one);
+          })) in
           record {
             consistent = done.consistent;
             closed = record {

@@ -1,8 +1,8 @@
 -- The list of the references to a type, one by one.
 use Rattle.std.proofs.Common.{◌≡◌, ◌≢◌, ℕ, zero, suc, ◌+◌, ◌-◌, ◌<◌, ◌≤◌, Bool, true, false, cond}
-use Rattle.std.proofs.Common.{List, [], ◌∷◌, ◌++◌, length, get_or, take, reverse, refl, sym, ap}
-use Rattle.std.proofs.Common.{subst, ◌∙◌, ◌⊎◌, arith, inl, inr}
-use Rattle.std.specs.Prelude.{◌==◌}
+use Rattle.std.proofs.Common.{List, [], ◌∷◌, ◌++◌, length, get_or, take, reverse, Some, refl, sym}
+use Rattle.std.proofs.Common.{ap, subst, ◌∙◌, ◌⊎◌, arith, inl, inr}
+use Rattle.std.specs.Prelude.{◌==◌, slice_get}
 use Rattle.std.proofs.lemmas.Bool.{eq-eqb, cases_lt, cases_eq}
 use Rattle.std.proofs.lemmas.List.{take-append-le, take_more, length-append, get_or_past}
 use Rattle.registry_core.specs.declared.type_info.TypeInfo.{TypeInfo}
@@ -16,23 +16,32 @@ use Rattle.graph_core.specs.Counts.{times}
 use Rattle.widths_core.specs.Rules.{rules, all_parts}
 use Rattle.graph_core.specs.Graphs.{refs, numbers, befores, IsLast, IsListed}
 use Rattle.widths_core.specs.Progress.{Progress, counter_at, part_settled, KnowsType}
-use Rattle.widths_core.specs.Consistent.{to_at, rule_number, has_settled, IsConsistent}
+use Rattle.widths_core.specs.Consistent.{to_at, rule_number, has_settled, so_far, told}
+use Rattle.widths_core.specs.Consistent.{IsConsistent}
 use Rattle.widths_core.specs.Propagation.{Follows, Lists, IsUpToDate, IsPending, Propagates}
 use Rattle.widths_core.specs.Propagation.{IsPropagatedTo}
 use Rattle.widths_core.proofs.RuleRight.{rule_right}
 use Rattle.widths_core.proofs.Settles.{follows_same, follows_on}
 use Rattle.widths_core.proofs.Waiting.{differ, times-same, times-other, times-append}
+use Rattle.graph_core.proofs.Linked.{linked_kept}
+use Rattle.graph_core.specs.Types.{shape}
+use Rattle.widths_core.specs.Completing.{is_byte_step, step_at}
+use Rattle.widths_core.specs.Layouts.{is_byte}
+use Rattle.widths_core.specs.Steps.{references_of, IsRow}
+use Rattle.widths_core.proofs.StepReads.{shape_some}
+use Rattle.widths_core.proofs.StepsSoFar.{byte_so_far, step_is}
 use Rattle.widths_core.proofs.PartSettles.{SettlesPart, settles_part, number-lt, left_some}
 
 -- those from the end of the list on were propagated; reference at - 1 is next, where at is not 0
 pub record PropagatesSo (r : List TypeInfo) (a b : Graph) (s n : Progress) (t : ℕ) (f : Found)
-    (at : ℕ) : Type 0 where
+    (byte : Bool) (at : ℕ) : Type 0 where
   pub steady : IsUpToDate r b n
   pub follows : Follows s n
   pub lists : Lists a b
   pub settled : has_settled n t ≡ true
   pub class : f.class ≡ class_of r t
   pub target : f.target ≡ target_of r t
+  pub byte_is : byte ≡ is_byte (shape r t)
   pub within : at ≤ length (all_parts (rules r))
   pub next : (b : ℕ) → at ≡ suc b → to_at r b ≡ t
   pub propagated : (e : ℕ) → e < length (all_parts (rules r)) → to_at r e ≡ t → at ≤ e →
@@ -46,11 +55,23 @@ pub record PropagatesSo (r : List TypeInfo) (a b : Graph) (s n : Progress) (t : 
 
 -- where no look was taken, nothing but lists was looked at
 lists_same : (a : Graph) → Lists a a
-lists_same a = record { opened = refl; read = refl }
+lists_same a = record { types = refl; opened = refl; read = refl }
 
 -- where twice nothing but lists was looked at, nothing else was altogether
 lists_on : (a b c : Graph) → Lists a b → Lists b c → Lists a c
-lists_on a b c h k = record { opened = k.opened ∙ h.opened; read = k.read ∙ h.read }
+lists_on a b c h k = record {
+  types = k.types ∙ h.types;
+  opened = k.opened ∙ h.opened;
+  read = k.read ∙ h.read;
+}
+
+-- where a list was looked at, nothing else was
+pub lists_listed : (a b c : Graph) (e : ℕ) → Lists a b → IsListed b c e → Lists a c
+lists_listed a b c e h k = record {
+  types = k.types ∙ h.types;
+  opened = k.opened ∙ h.opened;
+  read = k.read ∙ h.read;
+}
 
 -- a type that has settled is a position
 settled-lt : (r : List TypeInfo) (propagated : List ℕ) (s : Progress) (t : ℕ) →
@@ -67,13 +88,28 @@ pub pending-lt : (r : List TypeInfo) (d : Graph) (s : Progress) (t : ℕ) → Is
     t < length r
 pending-lt r d s t h = settled-lt r d.looks.listed.entries s t h.steady.consistent h.settled
 
+-- a type that has settled is u8 by its step exactly where it is by its definition
+byte_known : (r : List TypeInfo) (propagated : List ℕ) (s : Progress) (t : ℕ) →
+    IsConsistent r propagated s → has_settled s t ≡ true → t < length r →
+    is_byte_step (step_at s.steps t) ≡ is_byte (shape r t)
+byte_known r propagated s t h e lt =
+    let d = shape_some r t lt in
+    let k = h.step t d.0 d.1 in
+    let known = told r propagated t in
+    let right : known_class s.classes t ≡ class_of r t = (h.right t e).0 in
+    let there : slice_get s.steps t ≡ Some (so_far r (class_of r t) known d.0 k.0) =
+    rw right at k.2 in
+    rw (step_is s.steps t (so_far r (class_of r t) known d.0 k.0) there, d.1)
+    (byte_so_far r (references_of r) (IsRow (references_of r) s.rows) t d.0 known k.0 d.1 k.1)
+
 -- for a type that is pending, the newest reference to it is the next, and none was propagated
-pub propagates_first : (r : List TypeInfo) (d : Graph) (s : Progress) (t : ℕ) (f : Found) (at : ℕ) →
-    IsPending r d s t → f.class ≡ known_class s.classes t → f.target ≡ known_target s.targets t →
-    at ≡ get_or d.newest.items t 0 → PropagatesSo r d d s s t f at
-propagates_first r d s t f at h c m is =
+pub propagates_first : (r : List TypeInfo) (d : Graph) (s : Progress) (t : ℕ) (f : Found)
+    (byte : Bool) (at : ℕ) → IsPending r d s t → f.class ≡ known_class s.classes t →
+    f.target ≡ known_target s.targets t → byte ≡ is_byte_step (step_at s.steps t) →
+    at ≡ get_or d.newest.items t 0 → PropagatesSo r d d s s t f byte at
+propagates_first r d s t f byte at h c m b is =
     let ready = h.steady.ready in
-    let lt : t < length d.types.now = omega (arith, pending-lt r d s t h, ap length ready.types) in
+    let lt : t < length d.registry = omega (arith, pending-lt r d s t h, ap length ready.types) in
     let last : IsLast (all_parts (rules r)) (length (all_parts (rules r))) t at =
     rw (is, ← ready.read) (ready.linked.newest t lt) in
     let right = h.steady.consistent.right t h.settled in
@@ -84,6 +120,8 @@ propagates_first r d s t f at h c m is =
       settled = h.settled;
       class = c ∙ right.0;
       target = m ∙ right.1;
+      byte_is = b ∙ byte_known r d.looks.listed.entries s t h.steady.consistent h.settled
+          (pending-lt r d s t h);
       within = last.within;
       next = last.found;
       propagated = λ e small to ge. absurd (omega (arith, last.last e small to, ge));
@@ -105,9 +143,9 @@ pub record IsNext (r : List TypeInfo) (b : Graph) (n : Progress) (t e : ℕ) : T
   pub before : IsLast (all_parts (rules r)) e t (get_or (befores b) e 0)
 
 -- the next reference is to the type, was not propagated, and its counter has something left
-pub next_is : (r : List TypeInfo) (a b : Graph) (s n : Progress) (t : ℕ) (f : Found) (e : ℕ) →
-    PropagatesSo r a b s n t f (suc e) → IsNext r b n t e
-next_is r a b s n t f e h =
+pub next_is : (r : List TypeInfo) (a b : Graph) (s n : Progress) (t : ℕ) (f : Found)
+    (byte : Bool) (e : ℕ) → PropagatesSo r a b s n t f byte (suc e) → IsNext r b n t e
+next_is r a b s n t f byte e h =
     let ready = h.steady.ready in
     let st = h.steady.consistent in
     let small : e < length (all_parts (rules r)) = omega (arith, h.within) in
@@ -128,6 +166,7 @@ next_is r a b s n t f e h =
       owner = (
         omega (arith, st.owner (rule_number r e), right.owner, st.classes),
         omega (arith, st.owner (rule_number r e), right.owner, st.targets),
+        omega (arith, st.owner (rule_number r e), right.owner, st.steps),
       );
       left = left_some r b.looks.listed.entries n e st small fresh;
       before = rw (← to, ← ready.read) before;
@@ -135,42 +174,35 @@ next_is r a b s n t f e h =
 
 -- when the next reference was counted, the one before it in the list is the next
 pub propagates_more : (r : List TypeInfo) (a b c : Graph) (s n m : Progress) (t : ℕ) (f : Found)
-    (e to : ℕ) → PropagatesSo r a b s n t f (suc e) → IsListed b c e →
-    m ≡ part_settled n (rule_number r e) f → to ≡ get_or (befores b) e 0 →
-    PropagatesSo r a c s m t f to
-propagates_more r a b c s n m t f e to h listed is before =
-    let it = next_is r a b s n t f e h in
+    (byte : Bool) (e to : ℕ) → PropagatesSo r a b s n t f byte (suc e) → IsListed b c e →
+    m ≡ part_settled n (rule_number r e) f byte → to ≡ get_or (befores b) e 0 →
+    PropagatesSo r a c s m t f byte to
+propagates_more r a b c s n m t f byte e to h listed is before =
+    let it = next_is r a b s n t f byte e h in
     let done : SettlesPart r b.looks.listed.entries e n m =
-    rw is (settles_part r b.looks.listed.entries n e f h.steady.consistent h.steady.closed
-    it.small it.fresh (rw it.to h.settled) (rw it.to h.class) (rw it.to h.target)) in
+    rw is (settles_part r b.looks.listed.entries n e f byte h.steady.consistent h.steady.closed
+    it.small it.fresh (rw it.to h.settled) (rw it.to h.class) (rw it.to h.target)
+    (rw it.to h.byte_is)) in
     let last : IsLast (all_parts (rules r)) e t to = rw before it.before in
     let ready = h.steady.ready in
     record {
       steady = record {
         ready = record {
-          linked = record {
-            heads = rw (listed.newest, listed.types) ready.linked.heads;
-            links = rw (listed.links, listed.read) ready.linked.links;
-            small = rw listed.read ready.linked.small;
-            members = listed.members ∙ ready.linked.members ∙ sym (ap reverse listed.read);
-            known = rw (listed.types, listed.read) ready.linked.known;
-            newest = λ u lt. rw (listed.read, listed.newest)
-                (ready.linked.newest u (omega (arith, lt, ap length listed.types)));
-            before = λ x lt. rw (listed.read, listed.links)
-                (ready.linked.before x (rw listed.read at lt));
-          };
+          linked = linked_kept b c ready.linked listed.types (ap reverse listed.read)
+              listed.lists;
           types = listed.types ∙ ready.types;
           read = rw listed.read ready.read;
-          counted = rw listed.links ready.counted;
+          counted = rw listed.lists.links ready.counted;
         };
         consistent = rw listed.listed done.consistent;
         closed = done.closed;
       };
       follows = follows_on s n m h.follows done.follows;
-      lists = record { opened = listed.opened ∙ h.lists.opened; read = listed.read ∙ h.lists.read };
+      lists = lists_listed a b c e h.lists listed;
       settled = done.follows.keeps t h.settled;
       class = h.class;
       target = h.target;
+      byte_is = h.byte_is;
       within = omega (arith, last.within, it.small);
       next = last.found;
       propagated = λ x small is' ge. rw listed.listed
@@ -284,16 +316,18 @@ fewer r d s done h lt = omega (arith, h.steady.consistent.room, lt)
 -- ---- at the reference before at
 
 -- at a place above 0, the reference one below is the next: to the type, and not propagated
-pub next_at : (r : List TypeInfo) (a b : Graph) (s n : Progress) (t : ℕ) (f : Found) (at : ℕ) →
-    PropagatesSo r a b s n t f at → 0 < at → IsNext r b n t (at - 1)
-next_at r a b s n t f at h some = let is : at ≡ suc (at - 1) = omega (arith, some) in
-    next_is r a b s n t f (at - 1) (subst (λ (i : ℕ). PropagatesSo r a b s n t f i) is h)
+pub next_at : (r : List TypeInfo) (a b : Graph) (s n : Progress) (t : ℕ) (f : Found) (byte : Bool)
+    (at : ℕ) → PropagatesSo r a b s n t f byte at → 0 < at → IsNext r b n t (at - 1)
+next_at r a b s n t f byte at h some = let is : at ≡ suc (at - 1) = omega (arith, some) in
+    next_is r a b s n t f byte (at - 1)
+    (subst (λ (i : ℕ). PropagatesSo r a b s n t f byte i) is h)
 
 -- when the reference one below a place above 0 was counted, the one before it is the next
 pub propagates_at : (r : List TypeInfo) (a b c : Graph) (s n m : Progress) (t : ℕ) (f : Found)
-    (at to : ℕ) → PropagatesSo r a b s n t f at → 0 < at → IsListed b c (at - 1) →
-    m ≡ part_settled n (rule_number r (at - 1)) f → to ≡ get_or (befores b) (at - 1) 0 →
-    PropagatesSo r a c s m t f to
-propagates_at r a b c s n m t f at to h some listed is before = let i : at ≡ suc (at - 1) =
-    omega (arith, some) in propagates_more r a b c s n m t f (at - 1) to
-    (subst (λ (j : ℕ). PropagatesSo r a b s n t f j) i h) listed is before
+    (byte : Bool) (at to : ℕ) → PropagatesSo r a b s n t f byte at → 0 < at →
+    IsListed b c (at - 1) → m ≡ part_settled n (rule_number r (at - 1)) f byte →
+    to ≡ get_or (befores b) (at - 1) 0 → PropagatesSo r a c s m t f byte to
+propagates_at r a b c s n m t f byte at to h some listed is before =
+    let i : at ≡ suc (at - 1) = omega (arith, some) in
+    propagates_more r a b c s n m t f byte (at - 1) to
+    (subst (λ (j : ℕ). PropagatesSo r a b s n t f byte j) i h) listed is before

@@ -34,6 +34,9 @@ abbrev pub IsRightBy : List TypeInfo → ℕ → List ℕ → Kind → Type 0
 IsRightBy r t ps kind.Idle = Unit {0}
 IsRightBy r t ps kind.Parts = (class_of r t ≡ class_of_parts (class_of r) ps)
     × (target_of r t ≡ None)
+IsRightBy r t ps kind.Array = (class_of r t ≡ class_of_parts (class_of r) ps)
+    × (target_of r t ≡ None)
+IsRightBy r t ps kind.Sequence = Unit {0}
 IsRightBy r t ps kind.Wrap = (u : ℕ) × (ps ≡ u ∷ []) × (class_of r t ≡ class_of r u)
     × (target_of r t ≡ target_of r u)
 IsRightBy r t ps kind.Compact = (u : ℕ) × (ps ≡ u ∷ [])
@@ -109,12 +112,12 @@ same_target r K.Bool = refl
 same_target r _ = refl
 
 -- there are as many fields as types of fields
-length-fields : (fs : List Field) → length fs ≡ length (field_types fs)
+pub length-fields : (fs : List Field) → length fs ≡ length (field_types fs)
 length-fields [] = refl
 length-fields (f ∷ fs) = ap suc (length-fields fs)
 
 -- there are as many members as type ids of members
-length-ids : (ts : List TypeId) → length ts ≡ length (ids ts)
+pub length-ids : (ts : List TypeId) → length ts ≡ length (ids ts)
 length-ids [] = refl
 length-ids (t ∷ ts) = ap suc (length-ids ts)
 

@@ -2,13 +2,15 @@
 use Rattle.std.proofs.Common.{◌≡◌, ◌≢◌, ℕ, zero, suc, ◌+◌, ◌<◌, Bool, true, false, cond, List, []}
 use Rattle.std.proofs.Common.{◌∷◌, ◌++◌, length, set, Option, Some, None, refl, sym, ap, ◌∙◌, ◌⊎◌}
 use Rattle.std.proofs.Common.{arith, inl, inr}
-use Rattle.std.specs.Prelude.{◌==◌, ◌&&◌, ◌||◌, not}
+use Rattle.std.specs.Prelude.{◌==◌, ◌&&◌, ◌||◌, not, slice_get}
 use Rattle.std.specs.List.{list_all, list_any}
 use Rattle.std.proofs.lemmas.Bool.{eqb-true, eq-eqb, cases_eq}
 use Rattle.std.proofs.lemmas.List.{append_assoc, append-nil, length-set, length_push}
 use Rattle.std.proofs.lemmas.List.{get_or-set_same, get_or-set_other}
 use Rattle.scale_core.specs.declared.compact.Target.{Target}
+use Rattle.registry_core.specs.declared.definition.TypeDef.{TypeDef}
 use Rattle.registry_core.specs.declared.type_info.TypeInfo.{TypeInfo}
+use Rattle.graph_core.specs.Types.{shape}
 use Rattle.widths_core.specs.declared.class.Class.{Class}
 use Rattle.widths_core.specs.declared.class.Class.TheVariants as class
 use Rattle.widths_core.specs.declared.counter.Found.{Found}
@@ -20,10 +22,17 @@ use Rattle.widths_core.specs.ClassTables.{joined, class_of_parts, class_of_compa
 use Rattle.widths_core.specs.ClassTables.{known_target, has_value}
 use Rattle.graph_core.specs.Counts.{times}
 use Rattle.widths_core.specs.Rules.{rules, class_by, outcome, all_parts, numbers_from}
+use Rattle.widths_core.specs.declared.counter.Counter.{Counter}
+use Rattle.widths_core.specs.declared.step.Step.{Step}
+use Rattle.widths_core.specs.Completing.{settled_step, step_at, written}
 use Rattle.widths_core.specs.Progress.{Progress, counter_at, is_sized, settled_as, settled_by}
 use Rattle.widths_core.specs.Progress.{completed}
 use Rattle.widths_core.specs.Consistent.{rule_at, to_at, rule_number, unsettled, has_settled}
-use Rattle.widths_core.specs.Consistent.{settles, IsConsistent}
+use Rattle.widths_core.specs.Consistent.{settles, so_far, told, IsStepSoFar, IsConsistent}
+use Rattle.widths_core.specs.Steps.{references_of, IsDraft, IsRow}
+use Rattle.widths_core.proofs.RuleKinds.{rule_kind, HasKind}
+use Rattle.widths_core.proofs.StepsSoFar.{chosen, written_same, written_other, written-length}
+use Rattle.widths_core.proofs.StepsSoFar.{step_is, settles_step, KnowsLast}
 use Rattle.widths_core.specs.Propagation.{Follows}
 use Rattle.widths_core.proofs.Ranks.{and_parts, or_parts}
 use Rattle.widths_core.proofs.RuleRight.{IsRightBy, rule_right}
@@ -49,14 +58,30 @@ pub record IsFound (r : List TypeInfo) (t : ℕ) (f : Found) : Type 0 where
   pub target : target_of r t ≡ f.target
   pub value : has_value f.class ≡ true
 
-abbrev with_type_found : Progress → ℕ → Found → Progress
-with_type_found s t f = record {
+abbrev with_type_found : Progress → ℕ → Found → Option Step → Progress
+with_type_found s t f o = record {
   counters = s.counters;
   classes = set s.classes t f.class;
   targets =
       set s.targets t f.target;
   settled = s.settled ++ t ∷ [];
+  steps = written s.steps t o;
+  rows = s.rows;
 }
+
+-- where this was found of a type that has not settled, its step becomes the one so far
+pub record CompletesStep (r : List TypeInfo) (s : Progress) (t : ℕ) (f : Found)
+    (o : Option Step) : Type 0 where
+  pub at : (d : TypeDef) (x : Step) (known : Bool) → shape r t ≡ Some d →
+      IsDraft (references_of r) (IsRow (references_of r) s.rows) d x →
+      slice_get s.steps t ≡ Some (so_far r class.NoValue known d x) →
+      chosen o (so_far r class.NoValue known d x) ≡ so_far r f.class known d x
+
+-- a class without a value is NoValue
+pub no_value : (c : Class) → has_value c ≡ false → c ≡ class.NoValue
+no_value class.NoValue e = refl
+no_value class.Empty e = absurd cc
+no_value class.Sized e = absurd cc
 
 -- a class that was put at a type's place is known as the type's
 pub class_same : (cs : List Class) (t : ℕ) (c : Class) → t < length cs →
@@ -82,18 +107,20 @@ both : (b : Bool) → b ≡ true → b ≡ false → ⊥
 both b e f = let no = sym e ∙ f in cc
 
 -- what had settled has settled after a further type gets a class with a value
-with_keeps : (s : Progress) (t : ℕ) (f : Found) → t < length s.classes → has_value f.class ≡ true →
-    (u : ℕ) → has_settled s u ≡ true → has_settled (with_type_found s t f) u ≡ true
-with_keeps s t f lt v u e = elim (cases_eq u t) [
+with_keeps : (s : Progress) (t : ℕ) (f : Found) (o : Option Step) → t < length s.classes →
+    has_value f.class ≡ true → (u : ℕ) → has_settled s u ≡ true →
+    has_settled (with_type_found s t f o) u ≡ true
+with_keeps s t f o lt v u e = elim (cases_eq u t) [
   | inl same ↦ rw (same, class_same s.classes t f.class lt) v
   | inr other ↦ rw (class_other s.classes t u f.class other) e
 ]
 
 -- all stays consistent where a type settles as what it is and had not settled before
-with_consistent : (r : List TypeInfo) (propagated : List ℕ) (s : Progress) (t : ℕ) (f : Found) →
-    IsConsistent r propagated s → t < length r → has_settled s t ≡ false → IsFound r t f →
-    IsConsistent r propagated (with_type_found s t f)
-with_consistent r propagated s t f h lt e found =
+with_consistent : (r : List TypeInfo) (propagated : List ℕ) (s : Progress) (t : ℕ) (f : Found)
+    (o : Option Step) → IsConsistent r propagated s → t < length r → has_settled s t ≡ false →
+    IsFound r t f → CompletesStep r s t f o →
+    IsConsistent r propagated (with_type_found s t f o)
+with_consistent r propagated s t f o h lt e found completes =
     let in_classes : t < length s.classes = omega (arith, h.classes, lt) in
     let in_targets : t < length s.targets = omega (arith, h.targets, lt) in
     record {
@@ -105,7 +132,7 @@ with_consistent r propagated s t f h lt e found =
       left = h.left;
       sized = h.sized;
       known = h.known;
-      part_settled = λ x more. with_keeps s t f in_classes found.value (to_at r x)
+      part_settled = λ x more. with_keeps s t f o in_classes found.value (to_at r x)
           (h.part_settled x more);
       right = λ u v. right in_classes in_targets u (cases_eq u t) v;
       unset = λ u v. unset in_classes in_targets u (cases_eq u t) v;
@@ -116,9 +143,35 @@ with_consistent r propagated s t f h lt e found =
         length_push s.settled t,
         unsettled-set s.classes t f.class in_classes e found.value,
       );
+      paired = h.paired;
+      steps = written-length s.steps t o ∙ h.steps;
+      step = λ u d shape_is. step in_classes u d (cases_eq u t) (h.step u d shape_is) shape_is;
     } where
+      step : t < length s.classes → (u : ℕ) (d : TypeDef) → (u ≡ t) ⊎ (u ≢ t) →
+          IsStepSoFar r propagated s u d → shape r u ≡ Some d →
+          IsStepSoFar r propagated (with_type_found s t f o) u d
+      step a u d (inl same) k shape_is =
+          let known = told r propagated t in
+          let none : known_class s.classes t ≡ class.NoValue =
+          no_value (known_class s.classes t) e in
+          let before : slice_get s.steps t ≡ Some (so_far r class.NoValue known d k.0) =
+          rw none at (rw same at k.2) in
+          let shape_t : shape r t ≡ Some d = rw same at shape_is in
+          let becomes = completes.at d k.0 known shape_t k.1 before in (
+            k.0,
+            k.1,
+            rw (same, class_same s.classes t f.class a)
+                (written_same s.steps t o (so_far r class.NoValue known d k.0) before
+                ∙ ap (λ (y : Step). Some y) becomes),
+          )
+      step a u d (inr other) k shape_is = (
+        k.0,
+        k.1,
+        rw (class_other s.classes t u f.class other) (written_other s.steps t u o other ∙ k.2),
+      )
+
       right : t < length s.classes → t < length s.targets → (u : ℕ) → (u ≡ t) ⊎ (u ≢ t) →
-          has_settled (with_type_found s t f) u ≡ true →
+          has_settled (with_type_found s t f o) u ≡ true →
           (known_class (set s.classes t f.class) u ≡ class_of r u)
           × (known_target (set s.targets t f.target) u ≡ target_of r u)
       right a b u (inl same) v =
@@ -132,17 +185,17 @@ with_consistent r propagated s t f h lt e found =
           ) (h.right u v')
 
       unset : t < length s.classes → t < length s.targets → (u : ℕ) → (u ≡ t) ⊎ (u ≢ t) →
-          has_settled (with_type_found s t f) u ≡ false →
+          has_settled (with_type_found s t f o) u ≡ false →
           known_target (set s.targets t f.target) u ≡ None
       unset a b u (inl same) v =
-          absurd (both (has_settled (with_type_found s t f) u)
+          absurd (both (has_settled (with_type_found s t f o) u)
           (rw (same, class_same s.classes t f.class a) found.value) v)
       unset a b u (inr other) v = let v' : has_settled s u ≡ false =
           rw (class_other s.classes t u f.class other) at v in
           rw (get_or-set_other s.targets t u f.target None other) (h.unset u v')
 
       queue : t < length s.classes → (u : ℕ) → (u ≡ t) ⊎ (u ≢ t) →
-          times u (s.settled ++ t ∷ []) ≡ cond (has_settled (with_type_found s t f) u) 1 0
+          times u (s.settled ++ t ∷ []) ≡ cond (has_settled (with_type_found s t f o) u) 1 0
       queue a u (inl same) = let none : times u s.settled ≡ 0 = h.queue u ∙ rw (same, e) refl in
           rw (
             times-append u s.settled (t ∷ []),
@@ -168,20 +221,22 @@ pub record SettlesTo (r : List TypeInfo) (propagated : List ℕ) (s n : Progress
     pub settled : has_settled n t ≡ true
 
 -- a type settles, or has settled before, and all stays consistent if what was found is right
-pub settles_to : (r : List TypeInfo) (propagated : List ℕ) (s : Progress) (t : ℕ) (f : Found) →
-    IsConsistent r propagated s → t < length r → (has_settled s t ≡ false → IsFound r t f) →
-    SettlesTo r propagated s (settled_as s t f) t
-settles_to r propagated s t f h lt found = go (has_settled s t) refl where
+pub settles_to : (r : List TypeInfo) (propagated : List ℕ) (s : Progress) (t : ℕ) (f : Found)
+    (o : Option Step) → IsConsistent r propagated s → t < length r →
+    (has_settled s t ≡ false → IsFound r t f) →
+    (has_settled s t ≡ false → CompletesStep r s t f o) →
+    SettlesTo r propagated s (settled_as s t f o) t
+settles_to r propagated s t f o h lt found completes = go (has_settled s t) refl where
   go : (b : Bool) → has_settled s t ≡ b →
-      SettlesTo r propagated s (cond b s (with_type_found s t f)) t
+      SettlesTo r propagated s (cond b s (with_type_found s t f o)) t
   go true e = record { consistent = h; follows = follows_same s; counters = refl; settled = e }
   go false e =
       let is = found e in
       let in_classes : t < length s.classes = omega (arith, h.classes, lt) in
       record {
-        consistent = with_consistent r propagated s t f h lt e is;
+        consistent = with_consistent r propagated s t f o h lt e is (completes e);
         follows = record {
-          keeps = with_keeps s t f in_classes is.value;
+          keeps = with_keeps s t f o in_classes is.value;
           more = t ∷ [];
           settled =
               refl;
@@ -321,6 +376,12 @@ found_by r t ps kind.Parts b last h v s m f e =
     let class : class_of r t ≡ class_by b = h.0 ∙ parts_sized (class_of r) ps v
     ∙ ap class_by (sym s) in
     rw (← is) (record { class = class; target = h.1; value = class_by-value b })
+found_by r t ps kind.Array b last h v s m f e =
+    let is : record { class = class_by b; target = None } ≡ f = cc in
+    let class : class_of r t ≡ class_by b = h.0 ∙ parts_sized (class_of r) ps v
+    ∙ ap class_by (sym s) in
+    rw (← is) (record { class = class; target = h.1; value = class_by-value b })
+found_by r t ps kind.Sequence b last h v s m f e = absurd cc
 found_by r t ps kind.Wrap b last h v s m f e =
     let is : record { class = class_by b; target = last } ≡ f = cc in
     let one : class_of_parts (class_of r) ps ≡ class_of r h.0 =
@@ -349,12 +410,15 @@ pub record CompletesTo (r : List TypeInfo) (propagated : List ℕ) (s n : Progre
     pub settled : settles (rule_at r k).kind ≡ true → has_settled n (rule_at r k).owner ≡ true
 
 -- where what a rule finds is right, its owner settles, unless the rule settles none
-by_outcome : (r : List TypeInfo) (propagated : List ℕ) (s : Progress) (k : ℕ) (o : Option Found) →
-    IsConsistent r propagated s → (rule_at r k).owner < length r →
+by_outcome : (r : List TypeInfo) (propagated : List ℕ) (s : Progress) (k : ℕ) (c : Counter)
+    (last : Option Target) (byte : Bool) (o : Option Found) → IsConsistent r propagated s →
+    c.owner ≡ (rule_at r k).owner → (rule_at r k).owner < length r →
     ((f : Found) → o ≡ Some f → IsFound r (rule_at r k).owner f) →
+    ((f : Found) → o ≡ Some f → CompletesStep r s (rule_at r k).owner f
+    (settled_step c.kind f.class last byte (step_at s.steps (rule_at r k).owner))) →
     (o ≡ None → settles (rule_at r k).kind ≡ false) →
-    CompletesTo r propagated s (settled_by s (rule_at r k).owner o) k
-by_outcome r propagated s k None h lt found idle =
+    CompletesTo r propagated s (settled_by s c o last byte) k
+by_outcome r propagated s k c last byte None h own lt found completes idle =
     record {
       consistent = h;
       follows = follows_same s;
@@ -362,34 +426,60 @@ by_outcome r propagated s k None h lt found idle =
       settled =
           λ e. absurd (both (settles (rule_at r k).kind) e (idle refl));
     }
-by_outcome r propagated s k (Some f) h lt found idle =
-    let done = settles_to r propagated s (rule_at r k).owner f h lt (λ _. found f refl) in
-    record {
+by_outcome r propagated s k c last byte (Some f) h own lt found completes idle =
+    let done = settles_to r propagated s (rule_at r k).owner f
+    (settled_step c.kind f.class last byte (step_at s.steps (rule_at r k).owner)) h lt
+    (λ _. found f refl) (λ _. completes f refl) in
+    rw own (record {
       consistent = done.consistent;
       follows = done.follows;
       counters = done.counters;
       settled = λ _. done.settled;
-    }
+    })
 
 -- a rule that finds nothing settles no owner
 idle_only : (k : Kind) (b : Bool) (last : Option Target) → outcome k b last ≡ None →
     settles k ≡ false
 idle_only kind.Idle b last e = refl
 idle_only kind.Parts b last e = absurd cc
+idle_only kind.Array b last e = absurd cc
+idle_only kind.Sequence b last e = refl
 idle_only kind.Wrap b last e = absurd cc
 idle_only kind.Compact b last e = absurd cc
 idle_only (kind.Fixed f) b last e = absurd cc
 
+-- the step of an owner is completed by its rule
+completes_step : (r : List TypeInfo) (s : Progress) (k : ℕ) (sized : Bool) (last : Option Target)
+    (byte : Bool) → k < length (rules r) → KnowsLast r (rule_at r k).parts last byte →
+    (f : Found) → outcome (rule_at r k).kind sized last ≡ Some f → has_value f.class ≡ true →
+    CompletesStep r s (rule_at r k).owner f
+    (settled_step (rule_at r k).kind f.class last byte (step_at s.steps (rule_at r k).owner))
+completes_step r s k sized last byte lt m f e v = record {
+  at = λ d x known shape_is draft before.
+      let own = rule_kind r k lt in
+      let same : own.definition ≡ d = some_is own.definition d (sym own.at ∙ shape_is) in
+      let has : HasKind d (rule_at r k).kind (rule_at r k).parts = rw same at own.kind in
+      rw (step_is s.steps (rule_at r k).owner (so_far r class.NoValue known d x) before)
+      (settles_step r (references_of r) (IsRow (references_of r) s.rows) d (rule_at r k).kind
+      (rule_at r k).parts sized last byte f known x has m e v draft);
+} where
+  some_is : (a b : TypeDef) → Some a ≡ Some b → a ≡ b
+  some_is a b q = cc
+
 -- a counter that has nothing left settles its owner, as what that is
 pub completes_to : (r : List TypeInfo) (propagated : List ℕ) (s : Progress) (k : ℕ)
-    (last : Option Target) → IsConsistent r propagated s → k < length (rules r) →
-    (counter_at s k).left ≡ 0 → ((u : ℕ) → (rule_at r k).parts ≡ u ∷ [] → last ≡ target_of r u) →
-    CompletesTo r propagated s (completed s (counter_at s k) last) k
-completes_to r propagated s k last h lt none m =
+    (last : Option Target) (byte : Bool) → IsConsistent r propagated s → k < length (rules r) →
+    (counter_at s k).left ≡ 0 → KnowsLast r (rule_at r k).parts last byte →
+    CompletesTo r propagated s (completed s (counter_at s k) last byte) k
+completes_to r propagated s k last byte h lt none m =
     let right = rule_right r k lt in
     let all = whole r propagated s k h none in
-    rw (h.owner k, h.kind k)
-    (by_outcome r propagated s k (outcome (rule_at r k).kind (counter_at s k).sized last) h
-    right.owner (found_by r (rule_at r k).owner (rule_at r k).parts (rule_at r k).kind
-    (counter_at s k).sized last right.right all.values all.sized m)
-    (idle_only (rule_at r k).kind (counter_at s k).sized last))
+    let sized = (counter_at s k).sized in
+    let found = found_by r (rule_at r k).owner (rule_at r k).parts (rule_at r k).kind
+    sized last right.right all.values all.sized m.target_is in
+    by_outcome r propagated s k (counter_at s k) last byte
+    (outcome (counter_at s k).kind sized last) h (h.owner k) right.owner
+    (λ f e. found f (rw (h.kind k) at e))
+    (λ f e. let e' : outcome (rule_at r k).kind sized last ≡ Some f = rw (h.kind k) at e in
+    rw (h.kind k) (completes_step r s k sized last byte lt m f e' (found f e').value))
+    (λ e. idle_only (rule_at r k).kind sized last (rw (h.kind k) at e))

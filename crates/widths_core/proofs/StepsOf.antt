@@ -1,166 +1,314 @@
--- The step of each type is that of its draft, its class and what was found of others.
-use Rattle.std.proofs.Common.{◌≡◌, ℕ, zero, suc, ◌+◌, ◌<◌, ◌≤◌, Bool, List, [], ◌∷◌, ◌++◌, length}
-use Rattle.std.proofs.Common.{get_or, Option, Some, None, refl, sym, ap, ◌∙◌, arith, inl, inr}
-use Rattle.std.specs.Prelude.{slice_get}
-use Rattle.std.proofs.lemmas.Bool.{cases_lt}
-use Rattle.std.proofs.lemmas.List.{length_push}
+-- When nothing more settles, the steps are the table of the registry.
+use Rattle.std.proofs.Common.{◌≡◌, ℕ, zero, suc, ◌+◌, ◌<◌, ◌≤◌, Bool, true, false, cond, List, []}
+use Rattle.std.proofs.Common.{◌∷◌}
+use Rattle.std.proofs.Common.{length, get_or, set, Option, Some, None, refl, sym, ap, ◌∙◌, arith}
+use Rattle.std.proofs.Common.{inl, inr}
+use Rattle.std.specs.Prelude.{◌==◌, ◌&&◌, ◌||◌, slice_get}
+use Rattle.std.specs.List.{AllByRecursion, list_all, list_any}
+use Rattle.std.proofs.lemmas.Bool.{eq-eqb, cases_lt, cases_eq}
 use Rattle.std.proofs.lemmas.Option.{slice_get_within}
-use Rattle.scale_core.specs.declared.compact.Target.{Target}
 use Rattle.registry_core.specs.declared.definition.Arm.{Arm}
 use Rattle.registry_core.specs.declared.definition.TypeDef.{TypeDef}
 use Rattle.registry_core.specs.declared.definition.TypeDef.TheVariants as Def
-use Rattle.registry_core.specs.declared.primitive.Primitive.{Primitive}
-use Rattle.registry_core.specs.declared.primitive.Primitive.TheVariants as P
 use Rattle.registry_core.specs.declared.type_info.TypeInfo.{TypeInfo}
+use Rattle.scale_core.specs.declared.compact.Target.{Target}
 use Rattle.widths_core.specs.declared.class.Class.{Class}
-use Rattle.widths_core.specs.declared.rows.Rows.{Rows}
-use Rattle.widths_core.specs.declared.step.Draft.{Draft}
-use Rattle.widths_core.specs.declared.step.Draft.TheVariants as draft
+use Rattle.widths_core.specs.declared.class.Class.TheVariants as class
+use Rattle.widths_core.specs.declared.counter.Kind.TheVariants as kind
 use Rattle.widths_core.specs.declared.step.Step.{Step}
+use Rattle.widths_core.specs.declared.step.Step.TheVariants as step
+use Rattle.graph_core.specs.declared.graph.Graph.{Graph}
+use Rattle.graph_core.specs.Counts.{times}
 use Rattle.graph_core.specs.Types.{shape}
 use Rattle.widths_core.specs.Targets.{target_of}
-use Rattle.widths_core.specs.Classes.{class_of}
-use Rattle.widths_core.specs.ClassTables.{known_class, known_target}
+use Rattle.widths_core.specs.Classes.{class_of, is_unit}
+use Rattle.widths_core.specs.ClassTables.{has_value, known_class, class_of_compact}
+use Rattle.widths_core.specs.Completing.{finished, without_value, FinishesSteps}
+use Rattle.widths_core.specs.Consistent.{rule_at, rule_number, to_at, has_settled, so_far, tells}
+use Rattle.widths_core.specs.Consistent.{nothing, told}
 use Rattle.widths_core.specs.Layouts.{is_byte}
-use Rattle.widths_core.specs.Steps.{references_of, IsRow, IsDraft, AreDrafts, IsStep, AreSettled}
-use Rattle.widths_core.specs.Steps.{IsTable, AreStepsBy, is_byte_draft, known_byte, step_by}
-use Rattle.widths_core.proofs.StepReads.{shape_none, shape_some}
+use Rattle.widths_core.specs.Progress.{Progress}
+use Rattle.widths_core.specs.Propagation.{PropagatesAll, AreCompactsSettled}
+use Rattle.widths_core.specs.Rules.{Rule, rules, all_parts, rules_of}
+use Rattle.widths_core.specs.Steps.{references_of, IsRow, IsDraft, IsStep, IsTable, by_class}
+use Rattle.widths_core.specs.Steps.{array_step}
+use Rattle.widths_core.proofs.Complete.{all_from, classes_reported, propagated_if, rules_at}
+use Rattle.widths_core.proofs.Settles.{no_value}
+use Rattle.widths_core.proofs.Stable.{class_stable}
+use Rattle.widths_core.proofs.Waiting.{parts_all, parts_each, times-other}
 
--- ---- of the drafts that were passed
+-- ---- the types that have not settled
 
--- a step that is put at the end leaves the others where they are
-get_left : (xs : List Step) (y : Step) (t : ℕ) → t < length xs →
-    slice_get (xs ++ y ∷ []) t ≡ slice_get xs t
-get_left [] y t lt = absurd (omega (arith, lt))
-get_left (x ∷ xs) y zero lt = refl
-get_left (x ∷ xs) y (suc t) lt = get_left xs y t (omega (arith, lt))
+-- a step that is put at a place leaves the others
+pub finish_other : (xs : List Step) (i t : ℕ) (s : Step) → (t ≡ i → ⊥) →
+    slice_get (set xs i s) t ≡ slice_get xs t
+finish_other [] i t s ne = refl
+finish_other (x ∷ xs) zero zero s ne = absurd (ne refl)
+finish_other (x ∷ xs) zero (suc t) s ne = refl
+finish_other (x ∷ xs) (suc i) zero s ne = refl
+finish_other (x ∷ xs) (suc i) (suc t) s ne = finish_other xs i t s (λ e. ne (ap suc e))
 
--- a step that is put at the end is read there
-get_last : (xs : List Step) (y : Step) → slice_get (xs ++ y ∷ []) (length xs) ≡ Some y
-get_last [] y = refl
-get_last (x ∷ xs) y = get_last xs y
+-- and is read there
+pub finish_same : (xs : List Step) (i : ℕ) (s y : Step) → slice_get xs i ≡ Some y →
+    slice_get (set xs i s) i ≡ Some s
+finish_same [] i s y e = absurd cc
+finish_same (x ∷ xs) zero s y e = refl
+finish_same (x ∷ xs) (suc i) s y e = finish_same xs i s y e
 
--- a place within the list has a draft, the one that reading with a default gives
-pub get_at : (xs : List Draft) (t : ℕ) (d : Draft) → t < length xs →
+-- a place within the table has a step, the one that reading with a default gives
+pub get_at : (xs : List Step) (t : ℕ) (d : Step) → t < length xs →
     slice_get xs t ≡ Some (get_or xs t d)
 get_at [] t d lt = absurd (omega (arith, lt))
 get_at (x ∷ xs) zero d lt = refl
 get_at (x ∷ xs) (suc t) d lt = get_at xs t d (omega (arith, lt))
 
--- the first i drafts have their steps
-pub record StepsTo (classes : ℕ → Class) (targets : ℕ → Option Target) (bytes : ℕ → Bool)
-    (drafts : List Draft) (i : ℕ) (steps : List Step) : Type 0 where
-  pub count : length steps ≡ i
-  pub own : (t : ℕ) (d : Draft) (s : Step) → slice_get drafts t ≡ Some d →
-      slice_get steps t ≡ Some s → s ≡ step_by classes targets bytes (classes t) d
+-- the first i types are finished
+pub record FinishesTo (classes : List Class) (xs ys : List Step) (i : ℕ) : Type 0 where
+  pub count : length ys ≡ length xs
+  pub done : (t : ℕ) (s : Step) → t < i → slice_get xs t ≡ Some s →
+      slice_get ys t ≡ Some (finished (known_class classes t) s)
+  pub left : (t : ℕ) → i ≤ t → slice_get ys t ≡ slice_get xs t
 
--- with the step of the next draft, one draft more has its step
-pub steps_more : (classes : ℕ → Class) (targets : ℕ → Option Target) (bytes : ℕ → Bool)
-    (drafts : List Draft) (i : ℕ) (steps : List Step) (d : Draft) (s : Step) →
-    slice_get drafts i ≡ Some d → s ≡ step_by classes targets bytes (classes i) d →
-    StepsTo classes targets bytes drafts i steps →
-    StepsTo classes targets bytes drafts (i + 1) (steps ++ s ∷ [])
-steps_more classes targets bytes drafts i steps d s e is h = record {
-  count = length_push steps s ∙ ap (λ (n : ℕ). n + 1) h.count;
-  own = own;
-} where
-  own : (t : ℕ) (d' : Draft) (s' : Step) → slice_get drafts t ≡ Some d' →
-      slice_get (steps ++ s ∷ []) t ≡ Some s' → s' ≡ step_by classes targets bytes (classes t) d'
-  own t d' s' there at = elim (cases_lt t i) [
-    | inl below ↦ h.own t d' s' there (sym (get_left steps s t (omega (arith, below, h.count)))
-        ∙ at)
+-- one more type has settled, and its step stays
+pub finishes_kept : (classes : List Class) (xs ys : List Step) (i : ℕ) →
+    FinishesTo classes xs ys i → has_value (known_class classes i) ≡ true →
+    FinishesTo classes xs ys (i + 1)
+finishes_kept classes xs ys i h v = record {
+  count = h.count;
+  done = λ t s lt e. elim (cases_lt t i) [
+    | inl below ↦ h.done t s below e
+    | inr ge ↦ let same : t ≡ i = omega (arith, lt, ge) in
+        rw (same, v) (rw same at (h.left t ge ∙ e))
+  ];
+  left = λ t le. h.left t (omega (arith, le));
+}
+
+-- one more type has not settled, and its step says so
+pub finishes_changed : (classes : List Class) (xs ys zs : List Step) (i : ℕ) (s : Step) →
+    FinishesTo classes xs ys i → has_value (known_class classes i) ≡ false →
+    slice_get ys i ≡ Some s → zs ≡ set ys i (without_value s) → length zs ≡ length ys →
+    FinishesTo classes xs zs (i + 1)
+finishes_changed classes xs ys zs i s h v at is len = record {
+  count = len ∙ h.count;
+  done = λ t y lt e. elim (cases_lt t i) [
+    | inl below ↦ rw is (finish_other ys i t (without_value s) (λ same. absurd (omega (
+      arith,
+      same,
+      below,
+    ))) ∙ h.done t y below e)
     | inr ge ↦
-        let lt = slice_get_within (steps ++ s ∷ []) t s' at in
-        let same : t ≡ length steps = omega (arith, ge, lt, length_push steps s, h.count) in
-        let last : Some s ≡ Some s' = sym (get_last steps s)
-        ∙ ap (λ (n : ℕ). slice_get (steps ++ s ∷ []) n) (sym same) ∙ at in
-        let drafted : Some d ≡ Some d' = sym e
-        ∙ ap (λ (n : ℕ). slice_get drafts n) (sym (same ∙ h.count)) ∙ there in
-        let same_step : s ≡ s' = cc in
-        let same_draft : d ≡ d' = cc in
-        let here : i ≡ t = sym (same ∙ h.count) in
-        rw (← same_step, ← same_draft, ← here) is
-  ]
+        let same : t ≡ i = omega (arith, lt, ge) in
+        let there : Some s ≡ Some y = sym at ∙ ap (λ (u : ℕ). slice_get ys u) (sym same)
+        ∙ h.left t ge ∙ e in
+        let one : s ≡ y = cc in
+        rw (is, same, v, ← one) (finish_same ys i (without_value s) s at)
+  ];
+  left = λ t le. rw is (finish_other ys i t (without_value s)
+      (λ same. absurd (omega (arith, same, le))) ∙ h.left t (omega (arith, le)));
+}
 
--- ---- of all types
+-- all types are finished
+pub finishes_all : (classes : List Class) (xs ys : List Step) (i : ℕ) → length xs ≤ i →
+    FinishesTo classes xs ys i → FinishesSteps classes xs ys
+finishes_all classes xs ys i le h = record {
+  count = h.count;
+  at = λ t s e. h.done t s (let lt = slice_get_within xs t s e in omega (arith, lt, le)) e;
+}
 
--- the step made of a type's draft is the type's, where what was found of all types is right
-step_drafted : (r : List TypeInfo) (refs : List ℕ) (Row : ℕ → ℕ → List Arm → Type 0)
-    (classes : ℕ → Class) (targets : ℕ → Option Target) (bytes : ℕ → Bool) (c : Class) (d : TypeDef)
-    (x : Draft) → ((t : ℕ) → classes t ≡ class_of r t) → ((t : ℕ) → targets t ≡ target_of r t) →
-    ((t : ℕ) → bytes t ≡ is_byte (shape r t)) → IsDraft refs Row d x →
-    IsStep r refs Row c d (step_by classes targets bytes c x)
-step_drafted r refs Row cs ms bs c (Def.Composite fs) x hc hm hb h = (h.0, h.1, rw h.2 refl, h.3)
-step_drafted r refs Row cs ms bs c (Def.Tuple ts) x hc hm hb h = (h.0, h.1, rw h.2 refl, h.3)
-step_drafted r refs Row cs ms bs c (Def.Variant arms) x hc hm hb h = (h.0, h.1, rw h.2 refl, h.3)
-step_drafted r refs Row cs ms bs c (Def.Sequence t) x hc hm hb h = rw (h, hc t.0, hb t.0) refl
-step_drafted r refs Row cs ms bs c (Def.Array n t) x hc hm hb h = rw (h, hb t.0) refl
-step_drafted r refs Row cs ms bs c (Def.Primitive p) x hc hm hb h = rw h refl
-step_drafted r refs Row cs ms bs c (Def.Compact t) x hc hm hb h = rw (h, hm t.0) refl
-step_drafted r refs Row cs ms bs c (Def.BitSequence store order) x hc hm hb h = rw h refl
+-- ---- elements
 
--- a primitive is u8 by its draft exactly where it is by its definition
-byte_same : (p : Primitive) →
-    is_byte_draft (Some (draft.Primitive p)) ≡ is_byte (Some (Def.Primitive p))
-byte_same P.Bool = refl
-byte_same _ = refl
+-- u8 takes bytes
+byte_sized : (r : List TypeInfo) (u : ℕ) (o : Option TypeDef) → shape r u ≡ o → is_byte o ≡ true →
+    class_of r u ≡ class.Sized
+byte_sized r u None e f = absurd cc
+byte_sized r u (Some (Def.Primitive p)) e f = class_stable r u (Def.Primitive p) e
+byte_sized r u (Some (Def.Composite fs)) e f = absurd cc
+byte_sized r u (Some (Def.Variant arms)) e f = absurd cc
+byte_sized r u (Some (Def.Sequence t)) e f = absurd cc
+byte_sized r u (Some (Def.Array n t)) e f = absurd cc
+byte_sized r u (Some (Def.Tuple ts)) e f = absurd cc
+byte_sized r u (Some (Def.Compact t)) e f = absurd cc
+byte_sized r u (Some (Def.BitSequence s x)) e f = absurd cc
 
--- a draft is u8's exactly where the definition is
-byte_drafted : (refs : List ℕ) (Row : ℕ → ℕ → List Arm → Type 0) (d : TypeDef) (x : Draft) →
-    IsDraft refs Row d x → is_byte_draft (Some x) ≡ is_byte (Some d)
-byte_drafted refs Row (Def.Composite fs) x h = rw h.2 refl
-byte_drafted refs Row (Def.Tuple ts) x h = rw h.2 refl
-byte_drafted refs Row (Def.Variant arms) x h = rw h.2 refl
-byte_drafted refs Row (Def.Sequence t) x h = rw h refl
-byte_drafted refs Row (Def.Array n t) x h = rw h refl
-byte_drafted refs Row (Def.Primitive p) x h = rw h (byte_same p)
-byte_drafted refs Row (Def.Compact t) x h = rw h refl
-byte_drafted refs Row (Def.BitSequence store order) x h = rw h refl
+-- a type without a value is not u8
+not_byte : (r : List TypeInfo) (u : ℕ) → class_of r u ≡ class.NoValue →
+    is_byte (shape r u) ≡ false
+not_byte r u e = go (is_byte (shape r u)) refl where
+  go : (b : Bool) → is_byte (shape r u) ≡ b → is_byte (shape r u) ≡ false
+  go false f = f
+  go true f = let no = sym e ∙ byte_sized r u (shape r u) refl f in absurd cc
 
--- a place within the list has a draft
-get_some : (xs : List Draft) (t : ℕ) → t < length xs → (x : Draft) × (slice_get xs t ≡ Some x)
-get_some [] t lt = absurd (omega (arith, lt))
-get_some (x ∷ xs) zero lt = (x, refl)
-get_some (x ∷ xs) (suc t) lt = get_some xs t (omega (arith, lt))
+-- the rule of a sequence's element, where it has settled, told the step of it
+pub record TellsOwner (r : List TypeInfo) (log : List ℕ) (f : ℕ → Bool) (x : Rule) : Type 0 where
+  pub at : x.kind ≡ kind.Sequence → list_all f x.parts ≡ true → (u : ℕ) → x.parts ≡ u ∷ [] →
+      told r log x.owner ≡ true
 
--- a place after the list has no draft
-get_past : (xs : List Draft) (t : ℕ) → length xs ≤ t → slice_get xs t ≡ None
-get_past [] t le = refl
-get_past (x ∷ xs) zero le = absurd (omega (arith, le))
-get_past (x ∷ xs) (suc t) le = get_past xs t (omega (arith, le))
+-- a reference that was looked at is in the log
+any_logged : (test : ℕ → Bool) (log : List ℕ) (e : ℕ) → 0 < times e log → test e ≡ true →
+    list_any test log ≡ true
+any_logged test [] e more h = absurd (omega (arith, more))
+any_logged test (x ∷ log) e more h = elim (cases_eq x e) [
+  | inl same ↦ rw (same, h) refl
+  | inr other ↦ go (test x)
+      (any_logged test log e (omega (arith, more, times-other e x log other)) h)
+] where
+  go : (b : Bool) → list_any test log ≡ true → (b || list_any test log) ≡ true
+  go true q = refl
+  go false q = q
 
--- a type's draft is u8's exactly where its definition is; past the types there is neither
-pub known_byte_is : (r : List TypeInfo) (refs : List ℕ) (rows : Rows) (drafts : List Draft) →
-    AreDrafts r refs rows drafts → (t : ℕ) → known_byte drafts t ≡ is_byte (shape r t)
-known_byte_is r refs rows drafts h t = elim (cases_lt t (length r)) [
-  | inl below ↦
-      let d = shape_some r t below in
-      let x = get_some drafts t (omega (arith, below, h.count)) in
-      rw (d.1, x.1) (byte_drafted refs (IsRow refs rows) d.0 x.0 (h.own t d.0 x.0 d.1 x.1))
-  | inr past ↦
-      rw (shape_none r t past, get_past drafts t (omega (arith, past, h.count))) refl
-]
+-- in the end each sequence whose element has settled was told of it
+tells_owner : (r : List TypeInfo) (a b : Graph) (s n : Progress) (done : ℕ) →
+    PropagatesAll r a b s n done → (k : ℕ) → k < length (rules r) →
+    TellsOwner r b.looks.listed.entries (has_settled n) (rule_at r k)
+tells_owner r a b s n done h k lt =
+    record {
+      at = λ e all u one. go e all u one (told r b.looks.listed.entries (rule_at r k).owner)
+          refl;
+    } where
+      log : List ℕ
+      log = b.looks.listed.entries
 
--- where all has settled, the steps made of all drafts are the table of the registry
-pub table_all : (r : List TypeInfo) (cs : List Class) (ms : List (Option Target)) (refs : List ℕ)
-    (rows : Rows) (drafts : List Draft) (steps : List Step) → AreSettled r cs ms refs rows drafts →
-    AreStepsBy (known_class cs) (known_target ms) (known_byte drafts) drafts steps →
-    IsTable r refs rows steps
-table_all r cs ms refs rows drafts steps h k = record {
-  all = h.all;
-  paired = h.own.paired;
-  count = k.count ∙ h.own.count;
-  own = own;
+      test : ℕ → Bool
+      test j = ((rule_at r (rule_number r j)).owner == (rule_at r k).owner)
+          && tells (rule_at r (rule_number r j)).kind
+
+      one_is : (x : Bool) (m : ℕ) → m ≡ cond x 1 0 → x ≡ true → 0 < m
+      one_is true m e f = omega (arith, e)
+      one_is false m e f = absurd cc
+
+      yes : (rule_at r k).kind ≡ kind.Sequence →
+          list_all (has_settled n) (rule_at r k).parts ≡ true →
+          (j : ℕ) → j < length (all_parts (rules r)) → rule_number r j ≡ k →
+          list_any test b.looks.listed.entries ≡ true
+      yes e all j small is =
+          let at : rule_number r j ≡ 0 + k = is ∙ omega arith in
+          let settled : has_settled n (to_at r j) ≡ true =
+          parts_all (has_settled n) 0 (rules r) j k small at all in
+          let more = one_is (has_settled n (to_at r j)) (times j b.looks.listed.entries)
+          (propagated_if r a b s n done j h small) settled in
+          let owner : ((rule_at r (rule_number r j)).owner == (rule_at r k).owner) ≡ true =
+          eq-eqb (rule_at r (rule_number r j)).owner (rule_at r k).owner
+          (ap (λ (i : ℕ). (rule_at r i).owner) is) in
+          let kind_is : (rule_at r (rule_number r j)).kind ≡ kind.Sequence =
+          ap (λ (i : ℕ). (rule_at r i).kind) is ∙ e in
+          any_logged test b.looks.listed.entries j more (rw (owner, kind_is) refl)
+
+      go : (rule_at r k).kind ≡ kind.Sequence →
+          list_all (has_settled n) (rule_at r k).parts ≡ true →
+          (u : ℕ) → (rule_at r k).parts ≡ u ∷ [] → (x : Bool) →
+          told r b.looks.listed.entries (rule_at r k).owner ≡ x →
+          told r b.looks.listed.entries (rule_at r k).owner ≡ true
+      go e all u one true f = f
+      go e all u one false f = absurd (let none : list_all (λ p. false) (rule_at r k).parts ≡ true =
+          parts_each (λ p. false) 0 (rules r) k
+          (λ j small is. let no = sym f ∙ yes e all j small (is ∙ omega arith) in absurd cc) in
+          let no : list_all (λ p. false) (u ∷ []) ≡ true = rw one at none in cc)
+
+-- where an element has settled, its sequence was told of it
+told_settled : (r : List TypeInfo) (a b : Graph) (s n : Progress) (done t : ℕ) (d : TypeDef) →
+    PropagatesAll r a b s n done → shape r t ≡ Some d → AllByRecursion
+    (TellsOwner r b.looks.listed.entries (has_settled n)) (rules_of t d)
+told_settled r a b s n done t d h e =
+    let at : 0 + t ≡ t = omega arith in
+    rw at at (rules_at (TellsOwner r b.looks.listed.entries (has_settled n)) r 0 t d
+    (all_from (TellsOwner r b.looks.listed.entries (has_settled n)) (rules r) nothing
+    (tells_owner r a b s n done h)) e)
+
+-- ---- steps in the end
+
+-- a step by the class alone, in the end
+finished_by : (c : Class) (x y : Step) → without_value x ≡ y → finished c (by_class c x x)
+    ≡ by_class c y x
+finished_by class.NoValue x y e = e
+finished_by class.Empty x y e = refl
+finished_by class.Sized x y e = refl
+
+-- an array's step in the end
+finished_array : (c : Class) (byte : Bool) (n t : ℕ) →
+    finished c (by_class c (step.Array n t) (array_step byte n t))
+    ≡ by_class c step.NoValue (array_step byte n t)
+finished_array class.NoValue byte n t = refl
+finished_array class.Empty byte n t = refl
+finished_array class.Sized byte n t = refl
+
+-- a compact has a value by its class
+compact_value : (o : Option Target) → has_value (class_of_compact o) ≡ true
+compact_value o = go (is_unit o) where
+  go : (b : Bool) → has_value (cond b class.Empty class.Sized) ≡ true
+  go true = refl
+  go false = refl
+
+-- the step in the end is the type's
+step_finished : (r : List TypeInfo) (refs : List ℕ) (Row : ℕ → ℕ → List Arm → Type 0) (t : ℕ)
+    (d : TypeDef) (known : Bool) (x : Step) → shape r t ≡ Some d → IsDraft refs Row d x →
+    ((u : ℕ) → d ≡ Def.Sequence (record { 0 = u }) → known ≡ false →
+    class_of r u ≡ class.NoValue) →
+    IsStep r refs Row (class_of r t) d (finished (class_of r t) (so_far r (class_of r t) known d x))
+step_finished r refs Row t (Def.Composite fs) known x e h un =
+    (h.0, h.1, rw h.2 (finished_by (class_of r t) (step.Parts h.0 h.1) step.NoValue refl), h.3)
+step_finished r refs Row t (Def.Tuple ts) known x e h un =
+    (h.0, h.1, rw h.2 (finished_by (class_of r t) (step.Parts h.0 h.1) step.NoValue refl), h.3)
+step_finished r refs Row t (Def.Variant arms) known x e h un = (
+  h.0,
+  h.1,
+  rw h.2 (finished_by (class_of r t) (step.Arms h.0 h.1) (step.NoArm h.0 h.1) refl),
+  h.3,
+)
+step_finished r refs Row t (Def.Sequence u) true x e h un =
+    rw (class_stable r t (Def.Sequence u) e) refl
+step_finished r refs Row t (Def.Sequence u) false x e h un =
+    let none : class_of r u.0 ≡ class.NoValue = un u.0 refl refl in
+    rw (class_stable r t (Def.Sequence u) e, h, not_byte r u.0 none, none) refl
+step_finished r refs Row t (Def.Array n u) known x e h un =
+    rw h (finished_array (class_of r t) (is_byte (shape r u.0)) n u.0)
+step_finished r refs Row t (Def.Primitive p) known x e h un =
+    rw h (finished_by (class_of r t) (step.Primitive p) step.NoValue refl)
+step_finished r refs Row t (Def.Compact u) known x e h un =
+    let v : has_value (class_of r t) ≡ true =
+    ap has_value (class_stable r t (Def.Compact u) e) ∙ compact_value (target_of r u.0) in
+    rw v refl
+step_finished r refs Row t (Def.BitSequence store order) known x e h un =
+    rw h (finished_by (class_of r t) step.BitSequence step.NoValue refl)
+
+-- when nothing more settles and the steps of the types without a value say so, the steps are the
+-- table of the registry
+pub table_all : (r : List TypeInfo) (a b : Graph) (s n : Progress) (done : ℕ) (ys : List Step)
+    (refs : List ℕ) → PropagatesAll r a b s n done → AreCompactsSettled r n →
+    FinishesSteps n.classes n.steps ys → refs ≡ references_of r → IsTable r refs n.rows ys
+table_all r a b s n done ys refs h c f all = record {
+  all = all;
+  paired = h.propagated.steady.consistent.paired;
+  count = f.count ∙ h.propagated.steady.consistent.steps;
+  own = λ t d y e at. own t d y e at;
 } where
-  own : (t : ℕ) (d : TypeDef) (s : Step) → shape r t ≡ Some d → slice_get steps t ≡ Some s →
-      IsStep r (references_of r) (IsRow (references_of r) rows) (class_of r t) d s
-  own t d s e f =
-      let lt = slice_get_within steps t s f in
-      let x = get_some drafts t (omega (arith, lt, k.count)) in
-      let is : s ≡ step_by (known_class cs) (known_target ms) (known_byte drafts) (known_class cs t)
-      x.0 = k.own t x.0 s x.1 f in
-      let class_is : known_class cs t ≡ class_of r t = h.classes_are.1 t in
-      rw (is, class_is) (step_drafted r (references_of r) (IsRow (references_of r) rows)
-      (known_class cs) (known_target ms) (known_byte drafts) (class_of r t) d x.0 h.classes_are.1
-      h.targets_are (known_byte_is r (references_of r) rows drafts h.own)
-      (h.own.own t d x.0 e x.1))
+  own : (t : ℕ) (d : TypeDef) (y : Step) → shape r t ≡ Some d → slice_get ys t ≡ Some y →
+      IsStep r (references_of r) (IsRow (references_of r) n.rows) (class_of r t) d y
+  own t d y e at =
+      let st = h.propagated.steady.consistent in
+      let k = st.step t d e in
+      let known = told r b.looks.listed.entries t in
+      let reported = (classes_reported r a b s n done h c).0.1 in
+      let class_is : known_class n.classes t ≡ class_of r t = reported t in
+      let there : slice_get n.steps t ≡ Some (so_far r (class_of r t) known d k.0) =
+      rw class_is at k.2 in
+      let now = rw class_is at (f.at t (so_far r (class_of r t) known d k.0) there) in
+      let same : Some (finished (class_of r t) (so_far r (class_of r t) known d k.0)) ≡ Some y =
+      sym now ∙ at in
+      let is : finished (class_of r t) (so_far r (class_of r t) known d k.0) ≡ y = cc in
+      rw (← is) (step_finished r (references_of r) (IsRow (references_of r) n.rows) t d known k.0 e
+      k.1 unsettled)
+    where
+      unsettled : (u : ℕ) → d ≡ Def.Sequence (record { 0 = u }) →
+          told r b.looks.listed.entries t ≡ false → class_of r u ≡ class.NoValue
+      unsettled u sequence fails =
+          sym ((classes_reported r a b s n done h c).0.1 u)
+          ∙ no_value (known_class n.classes u) (go (has_settled n u) refl) where
+            go : (x : Bool) → has_settled n u ≡ x → has_settled n u ≡ false
+            go false q = q
+            go true q =
+                let e' : shape r t ≡ Some (Def.Sequence (record { 0 = u })) =
+                rw sequence at e in
+                let tells' = told_settled r a b s n done t (Def.Sequence (record { 0 = u })) h e' in
+                let yes : told r b.looks.listed.entries t ≡ true =
+                tells'.1.0.at refl (rw q refl) u refl in
+                absurd (let x = sym fails ∙ yes in cc)

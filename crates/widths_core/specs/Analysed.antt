@@ -1,21 +1,43 @@
 -- What is found of a registry, and how often it was looked at.
-use Rattle.std.specs.Prelude.{◌≡◌, ℕ, ◌≤◌, List, flat_map, reverse}
+use Rattle.std.specs.Prelude.{◌≡◌, ℕ, ◌<◌, ◌≤◌, List, flat_map, length, reverse}
 use Rattle.registry_core.specs.declared.type_info.TypeInfo.{TypeInfo}
+use Rattle.graph_core.specs.declared.graph.Graph.{Graph}
 use Rattle.graph_core.specs.declared.looks.Looks.{Looks}
+use Rattle.graph_core.specs.Graphs.{refs}
 use Rattle.graph_core.specs.References.{IsChecked, references}
 use Rattle.graph_core.specs.Widths.{widest}
 use Rattle.graph_core.specs.Counts.{times}
+use Rattle.widths_core.specs.declared.linking.Linked.{Linked}
+use Rattle.widths_core.specs.declared.rows.Rows.{Rows}
+use Rattle.widths_core.specs.declared.step.Step.{Step}
+use Rattle.widths_core.specs.Linking.{AreTypesLinked}
+use Rattle.widths_core.specs.Steps.{AreDrafts, IsTable}
 
--- each type was looked at twice at most; the references were looked at in the definitions, all once
--- and in the order of the registry's
--- bytes, and each once at most in a list
+-- these are the looks that were taken: each type was looked at once at least and twice at most; the
+-- references were looked at in the definitions, all once and in the order of the registry's bytes,
+-- and each once at most in a list
 pub record HasFewLooks (r : List TypeInfo) (l : Looks) : Type 0 where
   pub types : (t : ℕ) → times t l.opened.entries ≤ 2
+  pub seen : (t : ℕ) → t < length r → 1 ≤ times t l.opened.entries
   pub read : reverse l.read.entries ≡ flat_map (λ i. references i.shape) r
   pub listed : (e : ℕ) → times e l.listed.entries ≤ 1
 
--- this is the width of a registry whose references are all positions, found with few looks
-pub record IsAnalysed (r : List TypeInfo) (w : ℕ) (l : Looks) : Type 0 where
-  pub checked : IsChecked r
+-- both looks at the types were taken, and this is what was made of them
+pub record IsLinkedWith (r : List TypeInfo) (x : Linked) (w : ℕ) (g : Graph) : Type 0 where
+  pub linked : AreTypesLinked r x.counters.items g
+  pub drafts : AreDrafts r (refs g) x.rows x.steps.items
   pub widest_is : w ≡ widest r
-  pub looks : HasFewLooks r l
+
+-- the table of a registry whose references are all positions, and the looks that were taken
+pub record AreSettled (r : List TypeInfo) (rows : Rows) (steps : List Step) (g : Graph) : Type 0
+  where
+    pub checked : IsChecked r
+    pub types : g.registry ≡ r
+    pub table : IsTable r g.members.items rows steps
+    pub looks : HasFewLooks r g.looks
+
+-- the same with the width
+pub record IsAnalysed (r : List TypeInfo) (rows : Rows) (steps : List Step) (w : ℕ) (g : Graph) :
+    Type 0 where
+  pub settled : AreSettled r rows steps g
+  pub widest_is : w ≡ widest r

@@ -1,17 +1,27 @@
 -- What holds of the counters and tables, where some references were propagated.
-use Rattle.std.specs.Prelude.{◌≡◌, ℕ, ◌+◌, ◌<◌, List, [], ◌∷◌, length, Bool, true, false, None}
+use Rattle.std.specs.Prelude.{◌≡◌, ℕ, ◌+◌, ◌<◌, List, [], ◌∷◌, length, Bool, true, false, Some}
+use Rattle.std.specs.Prelude.{None, slice_get}
 use Rattle.std.specs.Prelude.{◌&&◌, ◌==◌, slice_index, slice_index_or, if◌then◌else◌}
 use Rattle.std.specs.List.{list_any}
+use Rattle.registry_core.specs.declared.definition.TypeDef.{TypeDef}
+use Rattle.registry_core.specs.declared.definition.TypeDef.TheVariants as Def
 use Rattle.registry_core.specs.declared.type_info.TypeInfo.{TypeInfo}
+use Rattle.graph_core.specs.Types.{shape}
 use Rattle.widths_core.specs.declared.class.Class.{Class}
 use Rattle.widths_core.specs.declared.counter.Kind.{Kind}
 use Rattle.widths_core.specs.declared.counter.Kind.TheVariants as kind
+use Rattle.widths_core.specs.declared.step.Step.{Step}
+use Rattle.widths_core.specs.declared.step.Step.TheVariants as step
 use Rattle.widths_core.specs.Targets.{target_of}
 use Rattle.widths_core.specs.Classes.{class_of}
 use Rattle.widths_core.specs.ClassTables.{known_class, known_target, has_value}
 use Rattle.graph_core.specs.Counts.{times}
 use Rattle.widths_core.specs.Rules.{Rule, rule, rules, all_parts, numbers_from}
+use Rattle.widths_core.specs.Layouts.{is_byte}
 use Rattle.widths_core.specs.Progress.{Progress, counter_at, is_sized}
+use Rattle.widths_core.specs.Rows.{IsPaired}
+use Rattle.widths_core.specs.Steps.{references_of, IsDraft, IsRow, by_class, array_step}
+use Rattle.widths_core.specs.Steps.{sequence_step}
 
 abbrev pub nothing : Rule
 nothing = rule 0 kind.Idle []
@@ -50,7 +60,39 @@ settles kind.Idle = false
 settles kind.Parts = true
 settles kind.Wrap = true
 settles kind.Compact = true
+settles kind.Array = true
+settles kind.Sequence = false
 settles (kind.Fixed f) = true
+
+-- whether a counter of this kind tells its owner's step of an element
+abbrev pub tells : Kind → Bool
+tells kind.Sequence = true
+tells _ = false
+
+-- whether one of these references told the step of type t of its element
+abbrev pub told : List TypeInfo → List ℕ → ℕ → Bool
+told r propagated t = list_any (λ e. ((rule_at r (rule_number r e)).owner == t)
+    && tells (rule_at r (rule_number r e)).kind) propagated
+
+-- the step of a type of this shape and, so far, of this class, whose element told its step or not;
+-- before either it was x
+abbrev pub so_far : List TypeInfo → Class → Bool → TypeDef → Step → Step
+so_far r c known (Def.Composite fs) x = by_class c x x
+so_far r c known (Def.Variant arms) x = by_class c x x
+so_far r c known (Def.Sequence u) x =
+    if known then sequence_step (class_of r u.0) (is_byte (shape r u.0)) u.0 else x
+so_far r c known (Def.Array n u) x = by_class c x (array_step (is_byte (shape r u.0)) n u.0)
+so_far r c known (Def.Tuple ts) x = by_class c x x
+so_far r c known (Def.Primitive p) x = by_class c x x
+so_far r c known (Def.Compact u) x = if has_value c then step.Compact (target_of r u.0) else x
+so_far r c known (Def.BitSequence store order) x = by_class c x x
+
+-- the step of type t, whose definition is d, is as far as it can be
+abbrev pub IsStepSoFar : List TypeInfo → List ℕ → Progress → ℕ → TypeDef → Type 0
+IsStepSoFar r propagated s t d = (x : Step)
+    × IsDraft (references_of r) (IsRow (references_of r) s.rows) d x
+    × (slice_get s.steps t
+    ≡ Some (so_far r (known_class s.classes t) (told r propagated t) d x))
 
 -- the counters count the references that were not propagated, and what was found of the types that
 -- have settled is right
@@ -70,6 +112,9 @@ pub record IsConsistent (r : List TypeInfo) (propagated : List ℕ) (s : Progres
   pub unset : (t : ℕ) → has_settled s t ≡ false → known_target s.targets t ≡ None
   pub queue : (t : ℕ) → times t s.settled ≡ (if has_settled s t then 1 else 0)
   pub room : unsettled s.classes + length s.settled ≡ length r
+  pub paired : IsPaired s.rows
+  pub steps : length s.steps ≡ length r
+  pub step : (t : ℕ) (d : TypeDef) → shape r t ≡ Some d → IsStepSoFar r propagated s t d
 
 -- where all parts of a counter have settled, its owner has
 pub record IsClosed (r : List TypeInfo) (s : Progress) : Type 0 where

@@ -7,8 +7,11 @@ use Rattle.widths_core.specs.declared.class.Class.TheVariants as class
 use Rattle.widths_core.specs.declared.counter.Found.{Found}
 use Rattle.widths_core.specs.declared.counter.Kind.TheVariants as kind
 use Rattle.widths_core.specs.declared.counter.Counter.{Counter}
+use Rattle.widths_core.specs.declared.rows.Rows.{Rows}
 use Rattle.widths_core.specs.declared.settling.Settling.{Settling}
+use Rattle.widths_core.specs.declared.step.Step.{Step}
 use Rattle.widths_core.specs.ClassTables.{known_class, has_value}
+use Rattle.widths_core.specs.Completing.{settled_step, step_at, told_step, written}
 use Rattle.widths_core.specs.Rules.{outcome}
 
 pub record Progress : Type 0 where
@@ -16,6 +19,8 @@ pub record Progress : Type 0 where
   pub classes : List Class
   pub targets : List (Option Target)
   pub settled : List ℕ
+  pub steps : List Step
+  pub rows : Rows
 
 abbrev pub progress_of : Settling → Progress
 progress_of s = record {
@@ -24,6 +29,8 @@ progress_of s = record {
   targets =
       s.targets.items;
   settled = s.settled.items;
+  steps = s.steps.items;
+  rows = s.rows;
 }
 
 abbrev pub no_counter : Counter
@@ -37,23 +44,28 @@ is_sized class.NoValue = false
 is_sized class.Empty = false
 is_sized class.Sized = true
 
--- this was found of type t, which settles unless it has
-abbrev pub settled_as : Progress → ℕ → Found → Progress
-settled_as s t f = if has_value (known_class s.classes t) then s else record {
+-- this was found of type t, which settles unless it has; its step becomes this one, where there is
+-- one
+abbrev pub settled_as : Progress → ℕ → Found → Option Step → Progress
+settled_as s t f o = if has_value (known_class s.classes t) then s else record {
   counters = s.counters;
   classes = slice_set s.classes t f.class;
   targets =
       slice_set s.targets t f.target;
   settled = s.settled ++ t ∷ [];
+  steps = written s.steps t o;
+  rows = s.rows;
 }
 
-abbrev pub settled_by : Progress → ℕ → Option Found → Progress
-settled_by s t None = s
-settled_by s t (Some f) = settled_as s t f
+abbrev pub settled_by : Progress → Counter → Option Found → Option Target → Bool → Progress
+settled_by s c None last byte = s
+settled_by s c (Some f) last byte = settled_as s c.owner f
+    (settled_step c.kind f.class last byte (step_at s.steps c.owner))
 
--- all parts of this counter have settled, the last of them with this target
-abbrev pub completed : Progress → Counter → Option Target → Progress
-completed s c last = settled_by s c.owner (outcome c.kind c.sized last)
+-- all parts of this counter have settled, the last of them, which is u8 itself or is not, with this
+-- target
+abbrev pub completed : Progress → Counter → Option Target → Bool → Progress
+completed s c last byte = settled_by s c (outcome c.kind c.sized last) last byte
 
 abbrev pub counter_after : Counter → Class → Counter
 counter_after c part = record {
@@ -64,23 +76,28 @@ counter_after c part = record {
       c.sized || is_sized part;
 }
 
-abbrev pub counters_set : Progress → ℕ → Counter → Progress
-counters_set s k c = record {
+-- a counter counts a part of this class, which is u8 itself or is not, and the step of its owner
+-- becomes what the part says of it
+abbrev pub counted : Progress → ℕ → Counter → Class → Bool → Progress
+counted s k c part byte = record {
   counters = slice_set s.counters k c;
   classes = s.classes;
   targets =
       s.targets;
   settled = s.settled;
+  steps = written s.steps c.owner (told_step c.kind part byte);
+  rows = s.rows;
 }
 
--- a part of counter k has settled as this
-abbrev pub part_settled : Progress → ℕ → Found → Progress
-part_settled s k f = let c = counter_after (counter_at s k) f.class in
-    if c.left == 0 then completed (counters_set s k c) c f.target else counters_set s k c
+-- a part of counter k has settled as this, and is u8 itself or is not
+abbrev pub part_settled : Progress → ℕ → Found → Bool → Progress
+part_settled s k f byte = let c = counter_after (counter_at s k) f.class in
+    let n = counted s k c f.class byte in
+    if c.left == 0 then completed n c f.target byte else n
 
 -- the tables have an entry for type t
 abbrev pub KnowsType : Progress → ℕ → Type 0
-KnowsType s t = (t < length s.classes) × (t < length s.targets)
+KnowsType s t = (t < length s.classes) × (t < length s.targets) × (t < length s.steps)
 
 -- the tables have an entry for the owner of each counter
 abbrev pub IsPlaced : Progress → Type 0

@@ -1,5 +1,5 @@
 -- References are propagated: what was found of the type that one is to is counted by its counter.
-use Rattle.std.specs.Prelude.{◌≡◌, ℕ, ◌+◌, ◌<◌, ◌≤◌, List, [], ◌++◌, length, take, true, false}
+use Rattle.std.specs.Prelude.{◌≡◌, ℕ, ◌+◌, ◌<◌, ◌≤◌, List, [], ◌∷◌, ◌++◌, length, take, true, false}
 use Rattle.std.specs.Prelude.{None, ◌==◌, if◌then◌else◌}
 use Rattle.registry_core.specs.declared.type_info.TypeInfo.{TypeInfo}
 use Rattle.widths_core.specs.declared.class.Class.TheVariants as class
@@ -22,12 +22,13 @@ pub record Follows (s n : Progress) : Type 0 where
 -- the lists have all references of these types
 pub record IsReady (r : List TypeInfo) (d : Graph) : Type 0 where
   pub linked : IsLinked d
-  pub types : d.types.now ≡ r
+  pub types : d.registry ≡ r
   pub read : refs d ≡ all_parts (rules r)
   pub counted : numbers d ≡ numbers_from 0 (rules r)
 
 -- since then nothing but lists was looked at
 pub record Lists (a b : Graph) : Type 0 where
+  pub types : b.registry ≡ a.registry
   pub opened : b.looks.opened.entries ≡ a.looks.opened.entries
   pub read : b.looks.read.entries ≡ a.looks.read.entries
 
@@ -65,6 +66,7 @@ pub record IsBad (r : List TypeInfo) (s : Progress) : Type 0 where
   pub at : (k : ℕ) → k < length (rules r) → (rule_at r k).kind ≡ kind.Compact →
       has_settled s (rule_at r k).owner ≡ false → (class_of r (rule_at r k).owner ≡ class.Sized)
       × (target_of r (rule_at r k).owner ≡ None)
+      × ((u : ℕ) → (rule_at r k).parts ≡ u ∷ [] → target_of r u ≡ None)
 
 -- each compact has settled
 pub record AreCompactsSettled (r : List TypeInfo) (s : Progress) : Type 0 where

@@ -31,6 +31,8 @@ abbrev pub outcome : Kind → Bool → Option Target → Option Found
 outcome kind.Idle sized last = None
 outcome kind.Parts sized last = Some (record { class = class_by sized; target = None })
 outcome kind.Wrap sized last = Some (record { class = class_by sized; target = last })
+outcome kind.Array sized last = Some (record { class = class_by sized; target = None })
+outcome kind.Sequence sized last = None
 outcome kind.Compact sized last = Some (record { class = class_of_compact last; target = None })
 outcome (kind.Fixed found) sized last = Some found
 
@@ -73,12 +75,17 @@ arm_rules t seen (a ∷ arms) =
     seen arms else rule t (kind.Fixed found_sized) (field_types a.fields) ∷ arm_rules t
     (a.index ∷ seen) arms
 
+-- an array of at least one element settles as these do
+abbrev pub array_rules : ℕ → ℕ → List ℕ → List Rule
+array_rules t zero ps = rule t (kind.Fixed found_none) [] ∷ rule t kind.Idle ps ∷ []
+array_rules t (suc n) ps = rule t kind.Array ps ∷ []
+
 abbrev pub rules_of : ℕ → TypeDef → List Rule
 rules_of t (Def.Composite fs) = rule t (kind_of_parts (length fs)) (field_types fs) ∷ []
 rules_of t (Def.Variant arms) = arm_rules t [] arms
-rules_of t (Def.Sequence u) = rule t (kind.Fixed found_sized) [] ∷ rule t kind.Idle (u.0 ∷ []) ∷ []
-rules_of t (Def.Array zero u) = rule t (kind.Fixed found_none) [] ∷ rule t kind.Idle (u.0 ∷ []) ∷ []
-rules_of t (Def.Array (suc n) u) = rule t kind.Parts (u.0 ∷ []) ∷ []
+rules_of t (Def.Sequence u) =
+    rule t (kind.Fixed found_sized) [] ∷ rule t kind.Sequence (u.0 ∷ []) ∷ []
+rules_of t (Def.Array n u) = array_rules t n (u.0 ∷ [])
 rules_of t (Def.Tuple ts) = rule t (kind_of_parts (length ts)) (ids ts) ∷ []
 rules_of t (Def.Primitive p) = rule t (kind.Fixed (found_of_primitive p)) [] ∷ []
 rules_of t (Def.Compact u) = rule t kind.Compact (u.0 ∷ []) ∷ []

@@ -1,19 +1,16 @@
 -- What a type is made of, in a few bytes: its parts are a piece of the list of all references, its
 -- arms a row by their index.
-use Rattle.std.specs.Prelude.{◌≡◌, ℕ, ◌+◌, ◌<◌, ◌≤◌, List, length, take, drop, flat_map, Bool, true}
-use Rattle.std.specs.Prelude.{false, if◌then◌else◌, Option, Some, None, slice_get}
+use Rattle.std.specs.Prelude.{◌≡◌, ℕ, ◌+◌, ◌<◌, ◌≤◌, List, length, take, drop, flat_map, Bool}
+use Rattle.std.specs.Prelude.{if◌then◌else◌, Option, Some, None, slice_get}
 use Rattle.registry_core.specs.declared.definition.Arm.{Arm}
 use Rattle.registry_core.specs.declared.definition.TypeDef.{TypeDef}
 use Rattle.registry_core.specs.declared.definition.TypeDef.TheVariants as Def
-use Rattle.registry_core.specs.declared.primitive.Primitive.TheVariants as P
 use Rattle.registry_core.specs.declared.type_info.TypeInfo.{TypeInfo}
 use Rattle.widths_core.specs.declared.rows.Rows.{Rows}
 use Rattle.widths_core.specs.declared.step.ArmStep.{ArmStep}
 use Rattle.widths_core.specs.declared.class.Class.{Class}
 use Rattle.widths_core.specs.declared.class.Class.TheVariants as class
 use Rattle.widths_core.specs.declared.step.Parts.{Parts}
-use Rattle.widths_core.specs.declared.step.Draft.{Draft}
-use Rattle.widths_core.specs.declared.step.Draft.TheVariants as draft
 use Rattle.widths_core.specs.declared.step.Step.{Step}
 use Rattle.widths_core.specs.declared.step.Step.TheVariants as step
 use Rattle.scale_core.specs.declared.compact.Target.{Target}
@@ -22,7 +19,7 @@ use Rattle.widths_core.specs.Arms.{arm_of}
 use Rattle.graph_core.specs.References.{references}
 use Rattle.widths_core.specs.Targets.{target_of}
 use Rattle.widths_core.specs.Classes.{class_of}
-use Rattle.widths_core.specs.ClassTables.{class_of_compact, ReportsClasses, ReportsTargets}
+use Rattle.widths_core.specs.ClassTables.{class_of_compact}
 use Rattle.widths_core.specs.Layouts.{is_byte}
 use Rattle.widths_core.specs.Rows.{IsPaired, Lacks, Rises, arm_at_place, index_in}
 
@@ -52,37 +49,30 @@ pub record IsRow (refs : List ℕ) (rows : Rows) (from count : ℕ) (arms : List
       IsArm refs (Some (arm_at_place rows k)) (arm_of arms (index_in rows k))
   pub none : (x : ℕ) → Lacks rows.indexes.items from (from + count) x → arm_of arms x ≡ None
 
--- this is the draft of a type of this shape, where its parts are among these references, and the
--- row of a variant is as Row says
-abbrev pub IsDraft : List ℕ → (ℕ → ℕ → List Arm → Type 0) → TypeDef → Draft → Type 0
-IsDraft refs Row (Def.Composite fs) s = (from count : ℕ) × (s ≡ draft.Parts from count)
-    × AreParts refs from count (field_types fs)
-IsDraft refs Row (Def.Tuple ts) s = (from count : ℕ) × (s ≡ draft.Parts from count)
-    × AreParts refs from count (ids ts)
-IsDraft refs Row (Def.Variant arms) s = (from count : ℕ) × (s ≡ draft.Arms from count)
+-- this is the step of these parts, where they are among these references
+abbrev pub ArePartsOf : List ℕ → List ℕ → Step → Type 0
+ArePartsOf refs ts s = (from count : ℕ) × (s ≡ step.Parts from count) × AreParts refs from count ts
+
+-- this is the step of a type of this shape before it or its parts have settled, where its parts are
+-- among these references, and the row of a variant is as Row says
+abbrev pub IsDraft : List ℕ → (ℕ → ℕ → List Arm → Type 0) → TypeDef → Step → Type 0
+IsDraft refs Row (Def.Composite fs) s = ArePartsOf refs (field_types fs) s
+IsDraft refs Row (Def.Tuple ts) s = ArePartsOf refs (ids ts) s
+IsDraft refs Row (Def.Variant arms) s = (from count : ℕ) × (s ≡ step.Arms from count)
     × Row from count arms
-IsDraft refs Row (Def.Sequence t) s = s ≡ draft.Sequence t.0
-IsDraft refs Row (Def.Array n t) s = s ≡ draft.Array n t.0
-IsDraft refs Row (Def.Primitive p) s = s ≡ draft.Primitive p
-IsDraft refs Row (Def.Compact t) s = s ≡ draft.Compact t.0
-IsDraft refs Row (Def.BitSequence store order) s = s ≡ draft.BitSequence
+IsDraft refs Row (Def.Sequence t) s = s ≡ step.Sequence t.0
+IsDraft refs Row (Def.Array n t) s = s ≡ step.Array n t.0
+IsDraft refs Row (Def.Primitive p) s = s ≡ step.Primitive p
+IsDraft refs Row (Def.Compact t) s = s ≡ step.Compact None
+IsDraft refs Row (Def.BitSequence store order) s = s ≡ step.BitSequence
 
--- there is a draft for each type, its own
-pub record AreDrafts (r : List TypeInfo) (refs : List ℕ) (rows : Rows) (drafts : List Draft) : Type
-    0 where
-  pub paired : IsPaired rows
-  pub count : length drafts ≡ length r
-  pub own : (t : ℕ) (d : TypeDef) (s : Draft) → shape r t ≡ Some d → slice_get drafts t ≡ Some s →
-      IsDraft refs (IsRow refs rows) d s
-
--- these are the classes and targets of a registry, its references, and the drafts and rows over
--- them
-pub record AreSettled (r : List TypeInfo) (classes : List Class) (targets : List (Option Target))
-    (refs : List ℕ) (rows : Rows) (drafts : List Draft) : Type 0 where
-  pub classes_are : ReportsClasses r classes
-  pub targets_are : ReportsTargets r targets
-  pub all : refs ≡ references_of r
-  pub own : AreDrafts r (references_of r) rows drafts
+-- each type has its step as it is before any type has settled
+pub record AreDrafts (r : List TypeInfo) (refs : List ℕ) (rows : Rows) (steps : List Step) : Type 0
+  where
+    pub paired : IsPaired rows
+    pub count : length steps ≡ length r
+    pub own : (t : ℕ) (d : TypeDef) (s : Step) → shape r t ≡ Some d → slice_get steps t ≡ Some s →
+        IsDraft refs (IsRow refs rows) d s
 
 -- one of these by the class of a type: the first where it has no value, and the second where it
 -- takes bytes
@@ -100,37 +90,6 @@ sequence_step class.Sized byte t = if byte then step.Bytes else step.Sequence t
 -- the step of an array that takes bytes, by whether its elements are u8
 abbrev pub array_step : Bool → ℕ → ℕ → Step
 array_step byte n t = if byte then step.ByteArray n else step.Array n t
-
--- the draft is that of u8 itself
-abbrev pub is_byte_draft : Option Draft → Bool
-is_byte_draft (Some (draft.Primitive P.U8)) = true
-is_byte_draft _ = false
-
--- the type of this number is u8 itself, by its draft
-abbrev pub known_byte : List Draft → ℕ → Bool
-known_byte drafts t = is_byte_draft (slice_get drafts t)
-
--- the step of a type of this class, where other types have these classes and targets, and bytes
--- says which of them are u8
-abbrev pub step_by : (ℕ → Class) → (ℕ → Option Target) → (ℕ → Bool) → Class → Draft → Step
-step_by classes targets bytes c (draft.Primitive p) = by_class c step.NoValue (step.Primitive p)
-step_by classes targets bytes c (draft.Parts from count) =
-    by_class c step.NoValue (step.Parts from count)
-step_by classes targets bytes c (draft.Arms from count) =
-    by_class c (step.NoArm from count) (step.Arms from count)
-step_by classes targets bytes c (draft.Array n t) =
-    by_class c step.NoValue (array_step (bytes t) n t)
-step_by classes targets bytes c (draft.Sequence t) =
-    by_class c step.NoValue (sequence_step (classes t) (bytes t) t)
-step_by classes targets bytes c (draft.Compact t) = step.Compact (targets t)
-step_by classes targets bytes c draft.BitSequence = by_class c step.NoValue step.BitSequence
-
--- there is a step for each draft
-pub record AreStepsBy (classes : ℕ → Class) (targets : ℕ → Option Target) (bytes : ℕ → Bool)
-    (drafts : List Draft) (steps : List Step) : Type 0 where
-  pub count : length steps ≡ length drafts
-  pub own : (t : ℕ) (d : Draft) (s : Step) → slice_get drafts t ≡ Some d →
-      slice_get steps t ≡ Some s → s ≡ step_by classes targets bytes (classes t) d
 
 -- this is the step of a type of this class and shape, where its parts are among these references,
 -- and the row of a variant is as Row says

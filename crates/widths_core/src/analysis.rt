@@ -1,32 +1,30 @@
-//! What a registry says of its types, found in one pass over it and one over the lists of references to each.
+//! What a registry says of its types, found in two passes over them and one over the lists of
+//! references to each.
 
-ghost use Rattle.std.specs.Prelude.{◌<◌, ◌^◌, length, IfOk, IfErr, MatchResult};
+ghost use Rattle.std.specs.Prelude.{◌≡◌, ◌<◌, ◌^◌, length, IfOk, IfErr};
 ghost use Rattle.registry_core.specs.Fits.{FitsRegistry};
-ghost use Rattle.widths_core.specs.Analysed.{IsAnalysed};
-ghost use Rattle.widths_core.specs.Checks.{IsFaultOf};
 ghost use Rattle.graph_core.specs.Graphs.{IsUnread};
-ghost use Rattle.widths_core.specs.Steps.{AreSettled, IsTable};
 ghost use Rattle.graph_core.specs.References.{first_fault};
-ghost use Rattle.graph_core.specs.Stops.{IsRefusedFor};
+ghost use Rattle.graph_core.specs.Stops.{IsAnsweredFault, IsFaultOf, IsFaultWithin, IsRefusedFor};
+ghost use Rattle.graph_core.specs.Stops.{IsUnderWay};
+ghost use Rattle.widths_core.specs.Analysed.{AreSettled, HasFewLooks, IsAnalysed, IsLinkedWith};
+ghost use Rattle.widths_core.specs.Propagation.{Lists};
+ghost use Rattle.widths_core.specs.Steps.{IsTable};
+ghost use Rattle.graph_core.specs.References.{IsChecked};
+ghost use Rattle.graph_core.specs.Widths.{widest};
 
-use crate::class::Class;
 use crate::linking::{Linked, link_types};
 use crate::rows::Rows;
 use crate::settling::Settling;
-use crate::step::{Draft, Step};
-use crate::steps::steps_by;
-use graph_core::{CheckFault, Graph, Looks, Reference, Sizes, first_unknown, sizes_of};
-use registry_core::TypeInfo;
-use scale_core::Target;
-use std::alloc::Global;
+use crate::step::Step;
+use graph_core::{CheckFault, Examined, Graph, Reference, Sizes, first_unknown, sizes_of};
+use registry_core::Registry;
+use std::alloc::{AllocError, Global};
 
-/// What is found of the types of a registry, when all have settled.
+/// The types of a registry after their second look.
 #[derive(Drop)]
-struct Settled {
-    classes: Vec<Class>,
-    targets: Vec<Option<Target>>,
-    drafts: Vec<Draft>,
-    rows: Rows,
+struct Read {
+    linked: Linked,
     widest: u32,
 }
 
@@ -38,88 +36,43 @@ struct Tables {
     widest: u32,
 }
 
-/// What is kept of the types of a registry, and what was looked at.
+/// A registry with the looks that were taken at it, and what is kept of its types.
 #[derive(Drop)]
 pub(crate) struct Analysis {
+    pub examined: Examined,
     pub members: Vec<u32>,
     pub steps: Vec<Step>,
     pub rows: Rows,
     pub widest: u32,
-    pub looks: Looks,
 }
 
-/// What is found of the types of a graph.
+/// Both looks at the types of a graph.
 ///
-/// A reference that is no position is found when it is read for its list, by the second look at the type that it stands in.
-fn settled_types(alloc: Global, graph: &mut Graph<'_>) -> Result<Settled, CheckFault>
-    requires fits { FitsRegistry graph.old.types.now }
-    requires unread { IsUnread graph.old.types.now graph.old }
-    ensures settled { IfOk result
-        (λ t. AreSettled graph.old.types.now t.classes.items t.targets.items graph.new.members.items
-        t.rows t.drafts.items) }
-    ensures analysed { IfOk result (λ t. IsAnalysed graph.old.types.now t.widest graph.new.looks) }
-    ensures refused { IfErr result (IsRefusedFor graph.old.types.now graph.new.looks) }
+/// A reference that is no position is found when it is read for its list, by the second look at the
+/// type that it stands in.
+fn read_types(alloc: Global, graph: &mut Graph) -> Result<Read, CheckFault>
+    requires fits { FitsRegistry graph.old.registry }
+    requires unread { IsUnread graph.old.registry graph.old }
+    ensures linked { IfOk result
+        (λ x. IsLinkedWith graph.old.registry x.linked x.widest graph.new) }
+    ensures refused { IfErr result (IsRefusedFor graph.old.registry graph.new) }
 {
-    let Sizes { references, arms } = sizes_of(graph).ok_or(CheckFault::OutOfMemory)?;
+    let Sizes {
+        references,
+        arms,
+        widest,
+    } = sizes_of(graph).ok_or(CheckFault::OutOfMemory)?;
     graph.prepare(alloc, references)?;
-    let Linked {
-        counters,
-        drafts,
-        rows,
-        widest,
-    } = link_types(alloc, graph, arms)?;
-    let mut settling = Settling::new(alloc, counters, graph.count())?;
-    let done = settling.begin(graph)?;
-    settling.settle_bad_compacts(graph, done)?;
-    let Settling {
-        counters: _,
-        classes,
-        targets,
-        settled: _,
-    } = settling;
-    Ok(Settled {
-        classes,
-        targets,
-        drafts,
-        rows,
-        widest,
-    })
+    let linked = link_types(alloc, graph, arms)?;
+    Ok(Read { linked, widest })
 }
 
-/// What is kept of the types of a graph.
-fn tables_of(alloc: Global, graph: &mut Graph<'_>) -> Result<Tables, CheckFault>
-    requires fits { FitsRegistry graph.old.types.now }
-    requires unread { IsUnread graph.old.types.now graph.old }
-    ensures table { IfOk result
-        (λ t. IsTable graph.old.types.now graph.new.members.items t.rows t.steps.items) }
-    ensures analysed { IfOk result (λ t. IsAnalysed graph.old.types.now t.widest graph.new.looks) }
-    ensures refused { IfErr result (IsRefusedFor graph.old.types.now graph.new.looks) }
-{
-    let Settled {
-        classes,
-        targets,
-        drafts,
-        rows,
-        widest,
-    } = settled_types(alloc, graph)?;
-    let steps = steps_by(
-        alloc,
-        classes.as_slice(),
-        targets.as_slice(),
-        drafts.as_slice(),
-    )?;
-    Ok(Tables {
-        steps,
-        rows,
-        widest,
-    })
-}
-
-/// Why types for which memory was refused could not be settled: the first reference that is no position, or want of memory
-/// where each is one.
-fn fault_of(graph: &mut Graph<'_>) -> CheckFault
-    requires { length graph.old.types.now < 2 ^ 32 }
-    ensures { IsFaultOf result (first_fault graph.old.types.now) }
+/// Why types for which memory was refused could not be read: the first reference that is no
+/// position, or want of memory where each is one. Only what was not read is read for it.
+fn fault_of(graph: &mut Graph) -> CheckFault
+    requires fits { length graph.old.registry < 2 ^ 32 }
+    requires begun { IsUnderWay graph.old.registry graph.old }
+    ensures { IsFaultWithin graph.old.registry graph.new result }
 {
     match first_unknown(graph) {
         Some(Reference { from, to }) => CheckFault::UnknownType { from, to },
@@ -127,16 +80,71 @@ fn fault_of(graph: &mut Graph<'_>) -> CheckFault
     }
 }
 
-/// What is found of these types, or why they are refused.
-///
-/// Where memory was refused, the types are gone through once more for the first unknown reference, in a graph of their own.
-pub(crate) fn analyse(alloc: Global, types: &[TypeInfo]) -> Result<Analysis, CheckFault>
-    requires { FitsRegistry types.now }
-    ensures found { MatchResult result (λ a. IsAnalysed types.now a.widest a.looks)
-        (λ fault. IsFaultOf fault (first_fault types.now)) }
-    ensures table { IfOk result (λ a. IsTable types.now a.members.items a.rows a.steps.items) }
+/// Both looks at the types of a graph, or why these are refused.
+fn read_or_fault(alloc: Global, graph: &mut Graph) -> Result<Read, CheckFault>
+    requires fits { FitsRegistry graph.old.registry }
+    requires unread { IsUnread graph.old.registry graph.old }
+    ensures linked { IfOk result
+        (λ x. IsLinkedWith graph.old.registry x.linked x.widest graph.new) }
+    ensures refused { IfErr result (IsFaultWithin graph.old.registry graph.new) }
 {
-    let mut graph = Graph::new(alloc, types);
+    match read_types(alloc, graph) {
+        Ok(read) => Ok(read),
+        Err(CheckFault::OutOfMemory) => Err(fault_of(graph)),
+        Err(fault) => Err(fault),
+    }
+}
+
+/// The types of a graph settle.
+fn settle_types(alloc: Global, graph: &mut Graph, read: Read) -> Result<Tables, AllocError>
+    requires { IsLinkedWith graph.old.registry read.linked read.widest graph.old }
+    ensures analysed { IfOk result (λ t.
+        IsAnalysed graph.old.registry t.rows t.steps.items t.widest graph.new) }
+    ensures lists { Lists graph.old graph.new }
+{
+    let Read { linked, widest } = read;
+    let mut settling = Settling::new(alloc, linked, graph.count())?;
+    let done = settling.begin(graph)?;
+    settling.settle_bad_compacts(graph, done)?;
+    settling.finish();
+    let Settling {
+        counters: _,
+        classes: _,
+        targets: _,
+        settled: _,
+        steps,
+        rows,
+    } = settling;
+    Ok(Tables {
+        steps,
+        rows,
+        widest,
+    })
+}
+
+/// What is kept of the types of a graph, or why they are refused.
+fn tables_of(alloc: Global, graph: &mut Graph) -> Result<Tables, CheckFault>
+    requires fits { FitsRegistry graph.old.registry }
+    requires unread { IsUnread graph.old.registry graph.old }
+    ensures analysed { IfOk result (λ t.
+        IsAnalysed graph.old.registry t.rows t.steps.items t.widest graph.new) }
+    ensures refused { IfErr result (IsAnsweredFault graph.old.registry graph.new) }
+{
+    let read = read_or_fault(alloc, graph)?;
+    Ok(settle_types(alloc, graph, read)?)
+}
+
+/// What is found of the types of a registry, or why they are refused.
+pub(crate) fn analyse(alloc: Global, registry: Registry) -> Result<Analysis, (CheckFault, Registry)>
+    ensures same { IfOk result (λ a. a.examined.registry ≡ registry) }
+    ensures checked { IfOk result (λ a. IsChecked registry) }
+    ensures table { IfOk result (λ a. IsTable registry a.members.items a.rows a.steps.items) }
+    ensures widest { IfOk result (λ a. a.widest ≡ widest registry) }
+    ensures looks { IfOk result (λ a. HasFewLooks registry a.examined.looks) }
+    ensures refused { IfErr result (λ e. IsFaultOf e.0 (first_fault registry)) }
+    ensures returned { IfErr result (λ e. e.1 ≡ registry) }
+{
+    let mut graph = Graph::new(alloc, registry);
     match tables_of(alloc, &mut graph) {
         Ok(
             Tables {
@@ -145,19 +153,15 @@ pub(crate) fn analyse(alloc: Global, types: &[TypeInfo]) -> Result<Analysis, Che
                 widest,
             },
         ) => {
-            let (looks, members) = graph.into_looks();
+            let (examined, members) = graph.into_parts();
             Ok(Analysis {
+                examined,
                 members,
                 steps,
                 rows,
                 widest,
-                looks,
             })
         }
-        Err(CheckFault::OutOfMemory) => {
-            let mut graph = Graph::new(alloc, types);
-            Err(fault_of(&mut graph))
-        }
-        Err(fault) => Err(fault),
+        Err(fault) => Err(graph.refuse(fault)),
     }
 }

@@ -16,31 +16,33 @@ use crate::analysis::{Analysis, analyse};
 use crate::class::Class;
 use crate::rows::Rows;
 use crate::step::{ArmStep, Parts, Step, step_of};
-use graph_core::{CheckFault, Looks};
+use graph_core::{CheckFault, Examined};
 use registry_core::{Arm, Registry, TypeDef, TypeId, TypeInfo};
 use scale_core::Target;
 use std::alloc::Global;
 use std::marker::Model;
 
-/// A registry each of whose references is a position, with a small table of what was found of its types.
+/// A registry each of whose references is a position, with a small table of what was found of its
+/// types.
 ///
-/// A reference is the type of a field, also in an arm that an earlier one of the same index shadows, the element of a
-/// sequence or of an array, also one of length 0, the member of a tuple, and what a compact wraps. The ids in
-/// type parameters and in bit sequences may be any.
+/// A reference is the type of a field, also in an arm that an earlier one of the same index
+/// shadows, the element of a sequence or of an array, also one of length 0, the member of a tuple,
+/// and what a compact wraps. The ids in type parameters and in bit sequences may be any.
 ///
-/// The table takes 12 bytes a type, 4 a reference and 13 an arm, shadowed ones too. While it is made, table and lists take
-/// at most 31 bytes a type, 12 a reference and 13 an arm; beside them, until all types have settled, counters and the order
-/// in which types settle take 36 bytes a type and 16 an arm.
+/// The table takes 12 bytes a type, 4 a reference and 13 an arm, shadowed ones too. While it is
+/// made, table and lists take at most 19 bytes a type, 12 a reference and 13 an arm; beside them,
+/// counters and the order in which types settle take 36 bytes a type and 16 an arm.
 #[derive(Debug, Drop)]
 pub struct Checked {
-    registry: Registry,
-    /// All references, in the order of the registry's bytes: those of a type, and of an arm, are next to each other.
+    /// The registry, with the looks that were taken at it.
+    examined: Examined,
+    /// All references, in the order of the registry's bytes: those of a type, and of an arm, are
+    /// next to each other.
     members: Vec<u32>,
     /// The step of each type.
     steps: Vec<Step>,
     rows: Rows,
     widest: u32,
-    looks: Looks,
 }
 
 impl Model for Checked {
@@ -50,73 +52,80 @@ impl Model for Checked {
 
     ghost use Rattle.widths_core.specs.Tables.{AreTables};
 
-    ghost view = { λ c. record { types = c.registry; looks = c.looks } };
+    ghost view = { λ c. record {
+      types = c.examined.registry;
+      looks = c.examined.looks;
+    } };
 
     ghost invariant = { AreTables };
 }
 
 impl Checked {
-    /// Checks the references of a registry, and finds the class of each type and what a compact over it stands for.
+    /// Checks the references of a registry, and finds the class of each type and what a compact
+    /// over it stands for.
     ///
-    /// One pass over the types counts references and arms, one reads them, and one goes over the lists of references to
-    /// each type, so the time is in proportion to the registry. Memory is taken after the first pass and before the second,
-    /// then for what is found and for the steps, each vector in its size at once.
+    /// One pass over the types counts references and arms, one reads them, and one goes over the
+    /// lists of references to each type, so the time is in proportion to the registry. Memory is
+    /// taken after the first pass and before the second, and then for what is found, each vector in
+    /// its size at once. Where it is refused, what was not read is read for the first unknown
+    /// reference.
     ///
     /// Refuses, and hands the registry back unchanged:
-    /// - `UnknownType`, where a reference is no position: the first such reference by the type that it stands in, and
-    ///   then in the order of the definition's bytes;
-    /// - `OutOfMemory`, where every reference is a position and memory was refused, or there are 4,294,967,295 references
-    ///   or counters or more.
+    /// - `UnknownType`, where a reference is no position: the first such reference by the type that
+    ///   it stands in, and then in the order of the definition's bytes;
+    /// - `OutOfMemory`, where every reference is a position and memory was refused, or there are
+    ///   4,294,967,295 references or counters or more.
     pub fn new(alloc: Global, registry: Registry) -> Result<Checked, (CheckFault, Registry)>
         // Which answer it is.
         ensures exact { CheckAnswers registry result }
         // Every reference of what is accepted is a position.
         ensures checked { IfOk result (λ _. IsChecked registry) }
-        // The reference that is reported is the first that is no position; memory is reported only where there is none.
+        // The reference that is reported is the first that is no position; memory is reported only
+        // where there is none.
         ensures explained { IfErr result (λ refused. Explains registry refused.0) }
-        // Where it is accepted, each type was looked at twice at most, and each reference twice at most.
+        // Where it is accepted, these are the looks that were taken: each type was looked at once
+        // at least and twice at most, and each reference likewise.
         ensures looked { IfOk result (λ c. HasFewLooks registry c.looks) }
     {
-        match analyse(alloc, registry.types()) {
-            Ok(
-                Analysis {
-                    members,
-                    steps,
-                    rows,
-                    widest,
-                    looks,
-                },
-            ) => Ok(Checked {
-                registry,
-                members,
-                steps,
-                rows,
-                widest,
-                looks,
-            }),
-            Err(fault) => Err((fault, registry)),
-        }
+        let Analysis {
+            examined,
+            members,
+            steps,
+            rows,
+            widest,
+        } = analyse(alloc, registry)?;
+        Ok(Checked {
+            examined,
+            members,
+            steps,
+            rows,
+            widest,
+        })
     }
 
-    /// How many bytes the values of a type take, where the id is a position (SCALE codec, "Types"): one look-up.
+    /// How many bytes the values of a type take, where the id is a position (SCALE codec, "Types"):
+    /// one look-up.
     pub fn class(&self, id: TypeId) -> Option<Class>
         ensures { SomeIff result (id.0 < length self.now.types) (class_of self.now.types id.0) }
     {
         Some(self.step(id)?.class())
     }
 
-    /// What a compact integer of this type stands for (SCALE codec, "Compact/general integers"): one look-up.
+    /// What a compact integer of this type stands for (SCALE codec, "Compact/general integers"):
+    /// one look-up.
     ///
-    /// There is none where the id is no position, where the type is no compact, and where the compact wraps
-    /// something else than an unsigned integer of at most 128 bits, nothing, or a wrapper of one of these: composites
-    /// of exactly one field, and tuples of exactly one member, any number deep.
+    /// There is none where the id is no position, where the type is no compact, and where the
+    /// compact wraps something else than an unsigned integer of at most 128 bits, nothing, or a
+    /// wrapper of one of these: composites of exactly one field, and tuples of exactly one member,
+    /// any number deep.
     pub fn compact_target(&self, id: TypeId) -> Option<Target>
         ensures { result ≡ compact_target_of self.now.types id.0 }
     {
         self.step(id)?.compact_target()
     }
 
-    /// What a value of a type is read as, where the id is a position (SCALE codec, "Types"): one look-up.
+    /// What a value of a type is read as, where the id is a position (SCALE codec, "Types"): one
+    /// look-up.
     pub fn step(&self, id: TypeId) -> Option<Step>
         ensures { IsStepAt self.now.types id.0 result }
     {
@@ -137,9 +146,10 @@ impl Checked {
         self.members.as_slice()
     }
 
-    /// The first arm of the index, where the type is a variant that has one (scale-info, `TypeDefVariant`): its position
-    /// among the arms, and where the types of its fields are among the references. Two look-ups where the indexes of the
-    /// variant have no gap, and else at most eight more.
+    /// The first arm of the index, where the type is a variant that has one (scale-info,
+    /// `TypeDefVariant`): its position among the arms, and where the types of its fields are among
+    /// the references. Two look-ups where the indexes of the variant have no gap, and else at most
+    /// eight more.
     pub fn arm_step(&self, id: TypeId, index: u8) -> Option<ArmStep>
         ensures { IsArm (references_of self.now.types) result (arm_at self.now.types id.0 index) }
     {
@@ -147,8 +157,8 @@ impl Checked {
         self.rows.find(from, count, index)
     }
 
-    /// The first arm of the index, with its position among the arms, where the type is a variant that has one
-    /// (scale-info, `TypeDefVariant`): two look-ups more than `arm_step` makes.
+    /// The first arm of the index, with its position among the arms, where the type is a variant
+    /// that has one (scale-info, `TypeDefVariant`): two look-ups more than `arm_step` makes.
     pub fn arm(&self, id: TypeId, index: u8) -> Option<(u32, &Arm)>
         ensures { option_map (λ x. (x.0, x.1.now)) result ≡ arm_at self.now.types id.0 index }
     {
@@ -159,8 +169,8 @@ impl Checked {
         }
     }
 
-    /// The greatest number of fields in one composite, of members in one tuple, or of fields in one arm, also in one
-    /// that is shadowed; 0 where there is none.
+    /// The greatest number of fields in one composite, of members in one tuple, or of fields in one
+    /// arm, also in one that is shadowed; 0 where there is none.
     pub fn widest(&self) -> u32
         ensures { result ≡ widest self.now.types }
     {
@@ -172,7 +182,7 @@ impl Checked {
         ensures same { result.now ≡ self.now.types }
         ensures checked { IsChecked self.now.types }
     {
-        &self.registry
+        self.examined.registry()
     }
 
     /// What a type is made of, where the id is a position.
@@ -180,7 +190,7 @@ impl Checked {
         ensures known { option_map (λ d. d.now) result ≡ shape self.now.types id.0 }
         ensures fits { FitsRegistry self.now.types }
     {
-        let info = self.registry.types().get(id.0 as usize)?;
+        let info = self.registry().types().get(id.0 as usize)?;
         Some(&info.shape)
     }
 }

@@ -1,9 +1,11 @@
 //! Counters of the parts of a type that have not settled.
 
 ghost use Rattle.std.specs.Prelude.{◌≡◌};
+ghost use Rattle.widths_core.specs.Completing.{element_step, empty_step, settled_step, told_step};
 ghost use Rattle.widths_core.specs.Rules.{class_by, outcome};
 
 use crate::class::Class;
+use crate::step::Step;
 use scale_core::Target;
 
 /// What is found of a type when it settles: its class, and the target of a compact over it.
@@ -24,6 +26,10 @@ pub(crate) enum Kind {
     Wrap,
     /// As a compact over its one part.
     Compact,
+    /// As an array of at least one value of its one part.
+    Array,
+    /// Not at all: the one part is the element of a sequence, and says what the sequence's step is.
+    Sequence,
     /// As this, whatever its parts are.
     Fixed(Found),
 }
@@ -47,14 +53,37 @@ fn class_by(sized: bool) -> Class
     if sized { Class::Sized } else { Class::Empty }
 }
 
+/// The step of a type that settles with this class, where it is another one than before.
+fn empty_step(class: Class) -> Option<Step>
+    ensures { result ≡ empty_step class }
+{
+    match class {
+        Class::Empty => Some(Step::Empty),
+        Class::NoValue | Class::Sized => None,
+    }
+}
+
+/// The step of a sequence of elements of this class, which are u8 itself or are not, where it is
+/// another one than before.
+fn element_step(class: Class, byte: bool) -> Option<Step>
+    ensures { result ≡ element_step class byte }
+{
+    match class {
+        Class::Empty => Some(Step::Count),
+        Class::NoValue | Class::Sized if byte => Some(Step::Bytes),
+        Class::NoValue | Class::Sized => None,
+    }
+}
+
 impl Kind {
-    /// What is found of the owner, where a part takes bytes or none does, and a compact over the last part has this target.
+    /// What is found of the owner, where a part takes bytes or none does, and a compact over the
+    /// last part has this target.
     pub(crate) fn outcome(self, sized: bool, last: Option<Target>) -> Option<Found>
         ensures { result ≡ outcome self sized last }
     {
         match self {
-            Kind::Idle => None,
-            Kind::Parts => Some(Found {
+            Kind::Idle | Kind::Sequence => None,
+            Kind::Parts | Kind::Array => Some(Found {
                 class: class_by(sized),
                 target: None,
             }),
@@ -70,6 +99,39 @@ impl Kind {
                 target: None,
             }),
             Kind::Fixed(found) => Some(found),
+        }
+    }
+    /// The step of an owner that settles with this class, where it is another one than before. The
+    /// last part, whose compact target this is, is u8 itself or is not.
+    pub(crate) fn settled_step(
+        self,
+        class: Class,
+        last: Option<Target>,
+        byte: bool,
+        step: &Step,
+    ) -> Option<Step>
+        ensures { result ≡ settled_step self class last byte step.now }
+    {
+        match self {
+            Kind::Compact => Some(Step::Compact(last)),
+            Kind::Array => match class {
+                Class::Sized if byte => step.of_bytes(),
+                _ => empty_step(class),
+            },
+            Kind::Idle | Kind::Parts | Kind::Wrap | Kind::Sequence | Kind::Fixed(_) => {
+                empty_step(class)
+            }
+        }
+    }
+
+    /// The step of an owner whose element has settled with this class, where it is another one than
+    /// before. The element is u8 itself or is not.
+    pub(crate) fn told_step(self, class: Class, byte: bool) -> Option<Step>
+        ensures { result ≡ told_step self class byte }
+    {
+        match self {
+            Kind::Sequence => element_step(class, byte),
+            _ => None,
         }
     }
 }

@@ -12,7 +12,6 @@ mod rows;
 mod run_kind;
 mod settling;
 mod step;
-mod steps;
 
 pub use checked::Checked;
 pub use class::Class;

@@ -1,25 +1,28 @@
-//! One pass over a registry: references are checked and put into lists, and counters and steps are made.
+//! One pass over a registry: references are checked and put into lists, and counters and steps are
+//! made.
 
-ghost use Rattle.std.specs.Prelude.{◌≡◌, ◌<◌, ◌++◌, ◌∷◌, [], length, false, IfOk, IfErr};
-ghost use Rattle.registry_core.specs.Fits.{FitsRegistry};
-ghost use Rattle.graph_core.specs.Graphs.{IsLinked, IsNew, refs};
-ghost use Rattle.widths_core.specs.Linking.{AddsRules, AreTypesLinked};
-ghost use Rattle.graph_core.specs.Lent.{id_of, shape_of};
-ghost use Rattle.widths_core.specs.Rows.{IsPaired, Keeps};
-ghost use Rattle.widths_core.specs.Steps.{AreParts, IsRow, IsDraft, AreDrafts};
-ghost use Rattle.widths_core.specs.Targets.{width_target};
-ghost use Rattle.widths_core.specs.Rules.{rule, kind_of_parts, found_of_primitive};
-ghost use Rattle.widths_core.specs.Rules.{all_parts, arm_rules, rules_of};
-ghost use Rattle.graph_core.specs.Stops.{StopsLinking, IsRefusedFor};
-ghost use Rattle.graph_core.specs.Types.{ids, field_types};
-ghost use Rattle.graph_core.specs.Widths.{widest};
+ghost use Rattle.std.specs.Prelude.{◌≡◌, ℕ, ◌<◌, ◌^◌, ◌++◌, ◌∷◌, [], length, false, None, IfOk};
+ghost use Rattle.std.specs.Prelude.{IfErr};
+ghost use Rattle.registry_core.specs.declared.definition.TypeDef.TheVariants.{Variant};
+ghost use Rattle.graph_core.specs.Cursors.{arms_left, current, open_definition, parts_left};
+ghost use Rattle.graph_core.specs.Graphs.{AreSeen, IsLinked, IsNew, refs};
+ghost use Rattle.graph_core.specs.Outlines.{IsTold};
+ghost use Rattle.graph_core.specs.Stops.{IsRefusedFor, IsUnderWay, StopsLinking};
 ghost use Rattle.graph_core.specs.declared.stop.Stop.TheVariants.{Memory};
+ghost use Rattle.widths_core.specs.Linking.{AddsRules, AreTypesLinked, LinksType};
+ghost use Rattle.widths_core.specs.Rows.{IsPaired, Keeps};
+ghost use Rattle.widths_core.specs.Rules.{all_parts, arm_rules, array_rules, found_of_primitive};
+ghost use Rattle.widths_core.specs.Rules.{found_sized, kind_of_parts, rule, rules_of};
+ghost use Rattle.widths_core.specs.Steps.{AreDrafts, AreParts, ArePartsOf, IsDraft, IsRow};
+ghost use Rattle.widths_core.specs.Targets.{width_target};
+ghost use Rattle.widths_core.specs.declared.counter.Kind.TheVariants.{Compact, Fixed, Sequence};
+ghost use Rattle.widths_core.specs.declared.step.Step.TheVariants as step;
 
 use crate::class::Class;
 use crate::counter::{Counter, Found, Kind};
 use crate::rows::Rows;
-use crate::step::{ArmStep, Draft, Parts};
-use graph_core::{Arms, CheckFault, Definition, Fields, Graph, Members, Place, Stop, width};
+use crate::step::{ArmStep, Parts, Step};
+use graph_core::{CheckFault, Definition, Graph, Stop};
 use registry_core::{IntegerWidth, Primitive, PrimitiveKind};
 use scale_core::Target;
 use std::alloc::Global;
@@ -65,54 +68,29 @@ fn count_parts(
     Ok(number as u32)
 }
 
-/// The types of these fields are counted together. Answers where they are among the references.
-fn link_fields(
-    graph: &mut Graph<'_>,
+/// The references that are open are counted together. Answers where they are among all references.
+fn link_parts(
+    graph: &mut Graph,
     counters: &mut Vec<Counter>,
     owner: u32,
     kind: Kind,
-    fields: &Fields<'_>,
+    count: usize,
 ) -> Result<Parts, Stop>
-    requires { IsLinked graph.old }
-    ensures adds { IfOk result (λ _. AddsRules (rule owner kind (field_types fields.now.fields.now)
-        ∷ []) counters.old.items counters.new.items graph.old graph.new) }
-    ensures parts { IfOk result
-        (λ p. AreParts (refs graph.new) p.from p.count (field_types fields.now.fields.now)) }
-    ensures stops { IfErr result (StopsLinking (all_parts
-        (rule owner kind (field_types fields.now.fields.now) ∷ [])) graph.old graph.new) }
-{
-    let from = graph.read();
-    let counter = count_parts(counters, owner, kind, fields.len())?;
-    'fields: for position in 0..fields.len() {
-        graph.add(&fields.place(position), counter)?;
-    }
-    let to = graph.read();
-    Ok(Parts {
-        from,
-        count: to - from,
-    })
-}
-
-/// These types are counted together. Answers where they are among the references.
-fn link_members(
-    graph: &mut Graph<'_>,
-    counters: &mut Vec<Counter>,
-    owner: u32,
-    kind: Kind,
-    members: &Members<'_>,
-) -> Result<Parts, Stop>
-    requires { IsLinked graph.old }
-    ensures adds { IfOk result (λ _. AddsRules (rule owner kind (ids members.now.members.now) ∷ [])
+    requires linked { IsLinked graph.old }
+    requires count { count ≡ length (parts_left graph.old) }
+    ensures adds { IfOk result (λ _. AddsRules (rule owner kind (parts_left graph.old) ∷ [])
         counters.old.items counters.new.items graph.old graph.new) }
+    ensures ended { IfOk result (λ _. parts_left graph.new ≡ []) }
+    ensures arms { IfOk result (λ _. arms_left graph.new ≡ arms_left graph.old) }
     ensures parts { IfOk result
-        (λ p. AreParts (refs graph.new) p.from p.count (ids members.now.members.now)) }
+        (λ p. AreParts (refs graph.new) p.from p.count (parts_left graph.old)) }
     ensures stops { IfErr result (StopsLinking
-        (all_parts (rule owner kind (ids members.now.members.now) ∷ [])) graph.old graph.new) }
+        (all_parts (rule owner kind (parts_left graph.old) ∷ [])) graph.old graph.new) }
 {
     let from = graph.read();
-    let counter = count_parts(counters, owner, kind, members.len())?;
-    'members: for position in 0..members.len() {
-        graph.add(&members.place(position), counter)?;
+    let counter = count_parts(counters, owner, kind, count)?;
+    'parts: for _part in 0..count {
+        graph.next(counter)?;
     }
     let to = graph.read();
     Ok(Parts {
@@ -121,23 +99,23 @@ fn link_members(
     })
 }
 
-/// This type is counted alone. Answers its position.
+/// The one reference that is open is counted alone. Answers the position that it is to.
 fn link_one(
-    graph: &mut Graph<'_>,
+    graph: &mut Graph,
     counters: &mut Vec<Counter>,
     owner: u32,
     kind: Kind,
-    part: &Place<'_>,
 ) -> Result<u32, Stop>
-    requires { IsLinked graph.old }
-    ensures value { IfOk result (λ id. id ≡ id_of part.now) }
-    ensures adds { IfOk result (λ _. AddsRules (rule owner kind (id_of part.now ∷ []) ∷ [])
+    requires linked { IsLinked graph.old }
+    requires one { length (parts_left graph.old) ≡ 1 }
+    ensures value { IfOk result (λ id. parts_left graph.old ≡ id ∷ []) }
+    ensures adds { IfOk result (λ _. AddsRules (rule owner kind (parts_left graph.old) ∷ [])
         counters.old.items counters.new.items graph.old graph.new) }
     ensures stops { IfErr result (StopsLinking
-        (all_parts (rule owner kind (id_of part.now ∷ []) ∷ [])) graph.old graph.new) }
+        (all_parts (rule owner kind (parts_left graph.old) ∷ [])) graph.old graph.new) }
 {
     let counter = count_parts(counters, owner, kind, 1)?;
-    graph.add(part, counter)
+    graph.next(counter)
 }
 
 /// The same number, where it is kept in four bytes.
@@ -148,41 +126,38 @@ fn number(value: usize) -> Result<u32, Stop>
     u32::try_from(value).ok().ok_or(Stop::Memory)
 }
 
-/// The fields of each arm are counted together; those of an arm that an earlier one of its index shadows settle nothing.
-/// Answers where the row of the variant is.
+/// The fields of each arm are counted together; those of an arm that an earlier one of its index
+/// shadows settle nothing. Answers the variant's step, unless it has no value.
 fn link_arms(
-    graph: &mut Graph<'_>,
+    graph: &mut Graph,
     counters: &mut Vec<Counter>,
     rows: &mut Rows,
     owner: u32,
-    arms: &Arms<'_>,
-) -> Result<Parts, Stop>
+    count: usize,
+) -> Result<Step, Stop>
     requires linked { IsLinked graph.old }
     requires paired { IsPaired rows.old }
-    ensures adds { IfOk result (λ _. AddsRules (arm_rules owner [] arms.now.arms.now)
+    requires count { count ≡ length (arms_left graph.old) }
+    requires begun { parts_left graph.old ≡ [] }
+    ensures adds { IfOk result (λ _. AddsRules (arm_rules owner [] (arms_left graph.old))
         counters.old.items counters.new.items graph.old graph.new) }
     ensures paired { IfOk result (λ _. IsPaired rows.new) }
     ensures keeps { IfOk result (λ _. Keeps rows.old rows.new) }
-    ensures row { IfOk result
-        (λ p. IsRow (refs graph.new) rows.new p.from p.count arms.now.arms.now) }
-    ensures stops { IfErr result
-        (StopsLinking (all_parts (arm_rules owner [] arms.now.arms.now)) graph.old graph.new) }
+    ensures step { IfOk result (λ s. IsDraft (refs graph.new) (IsRow (refs graph.new) rows.new)
+        (Variant (arms_left graph.old)) s) }
+    ensures stops { IfErr result (StopsLinking
+        (all_parts (arm_rules owner [] (arms_left graph.old))) graph.old graph.new) }
 {
     let first = rows.len();
-    'arms: for position in 0..arms.len() {
-        let (index, fields) = arms.arm(position);
+    'arms: for position in 0..count {
+        let (index, fields) = graph.next_arm().unwrap();
         match rows.search(first, index) {
             Ok(_) => {
-                link_fields(graph, counters, owner, Kind::Idle, &fields)?;
+                link_parts(graph, counters, owner, Kind::Idle, fields)?;
             }
             Err(place) => {
-                let Parts { from, count } = link_fields(
-                    graph,
-                    counters,
-                    owner,
-                    Kind::Fixed(SIZED),
-                    &fields,
-                )?;
+                let kind = Kind::Fixed(SIZED);
+                let Parts { from, count } = link_parts(graph, counters, owner, kind, fields)?;
                 let step = ArmStep {
                     position: number(position)?,
                     from,
@@ -192,7 +167,7 @@ fn link_arms(
             }
         }
     }
-    Ok(Parts {
+    Ok(Step::Arms {
         from: number(first)?,
         count: number(rows.len() - first)?,
     })
@@ -239,100 +214,135 @@ fn found_of_primitive(primitive: Primitive) -> Found
     }
 }
 
-/// The type of a sequence's elements: a sequence takes bytes whatever they are.
-fn link_sequence(
-    graph: &mut Graph<'_>,
+/// The fields or members of a type. Answers its step, unless it has no value or takes no bytes.
+fn link_members(
+    graph: &mut Graph,
     counters: &mut Vec<Counter>,
     owner: u32,
-    element: &Place<'_>,
-) -> Result<Draft, Stop>
-    requires { IsLinked graph.old }
-    ensures adds { IfOk result
-        (λ _. AddsRules (rules_of owner (shape_of (Definition.Sequence element.now)))
+    count: usize,
+) -> Result<Step, Stop>
+    requires linked { IsLinked graph.old }
+    requires count { count ≡ length (parts_left graph.old) }
+    ensures adds { IfOk result (λ _. AddsRules
+        (rule owner (kind_of_parts (length (parts_left graph.old))) (parts_left graph.old) ∷ [])
         counters.old.items counters.new.items graph.old graph.new) }
-    ensures draft { IfOk result (λ s. s ≡ Draft.Sequence (id_of element.now)) }
+    ensures step { IfOk result (λ s. ArePartsOf (refs graph.new) (parts_left graph.old) s) }
     ensures stops { IfErr result (StopsLinking (all_parts
-        (rules_of owner (shape_of (Definition.Sequence element.now)))) graph.old graph.new) }
+        (rule owner (kind_of_parts (length (parts_left graph.old))) (parts_left graph.old) ∷ []))
+        graph.old graph.new) }
 {
-    count_parts(counters, owner, Kind::Fixed(SIZED), 0)?;
-    let element = link_one(graph, counters, owner, Kind::Idle, element)?;
-    Ok(Draft::Sequence { element })
+    let kind = kind_of_parts(count);
+    let Parts { from, count } = link_parts(graph, counters, owner, kind, count)?;
+    Ok(Step::Parts { from, count })
 }
 
-/// The type of an array's elements: an array of none takes no bytes whatever they are.
+/// The type of a sequence's elements: a sequence takes bytes whatever they are. Answers its step,
+/// unless they take no bytes or are u8.
+fn link_sequence(graph: &mut Graph, counters: &mut Vec<Counter>, owner: u32) -> Result<Step, Stop>
+    requires linked { IsLinked graph.old }
+    requires one { length (parts_left graph.old) ≡ 1 }
+    ensures adds { IfOk result (λ _. AddsRules (rule owner (Fixed found_sized) []
+        ∷ rule owner Sequence (parts_left graph.old) ∷ []) counters.old.items counters.new.items
+        graph.old graph.new) }
+    ensures step { IfOk result
+        (λ s. (id : ℕ) × (parts_left graph.old ≡ id ∷ []) × (s ≡ step.Sequence id)) }
+    ensures stops { IfErr result (StopsLinking (all_parts (rule owner (Fixed found_sized) []
+        ∷ rule owner Sequence (parts_left graph.old) ∷ [])) graph.old graph.new) }
+{
+    count_parts(counters, owner, Kind::Fixed(SIZED), 0)?;
+    let element = link_one(graph, counters, owner, Kind::Sequence)?;
+    Ok(Step::Sequence { element })
+}
+
+/// The type of an array's elements: an array of none takes no bytes whatever they are. Answers its
+/// step, unless it has no value, takes no bytes or has elements u8.
 fn link_array(
-    graph: &mut Graph<'_>,
+    graph: &mut Graph,
     counters: &mut Vec<Counter>,
     owner: u32,
     len: u32,
-    element: &Place<'_>,
-) -> Result<Draft, Stop>
-    requires { IsLinked graph.old }
-    ensures adds { IfOk result
-        (λ _. AddsRules (rules_of owner (shape_of (Definition.Array len element.now)))
+) -> Result<Step, Stop>
+    requires linked { IsLinked graph.old }
+    requires one { length (parts_left graph.old) ≡ 1 }
+    ensures adds { IfOk result (λ _. AddsRules (array_rules owner len (parts_left graph.old))
         counters.old.items counters.new.items graph.old graph.new) }
-    ensures draft { IfOk result (λ s. s ≡ Draft.Array len (id_of element.now)) }
-    ensures stops { IfErr result (StopsLinking (all_parts
-        (rules_of owner (shape_of (Definition.Array len element.now)))) graph.old graph.new) }
+    ensures step { IfOk result
+        (λ s. (id : ℕ) × (parts_left graph.old ≡ id ∷ []) × (s ≡ step.Array len id)) }
+    ensures stops { IfErr result (StopsLinking
+        (all_parts (array_rules owner len (parts_left graph.old))) graph.old graph.new) }
 {
     if len == 0 {
         count_parts(counters, owner, Kind::Fixed(EMPTY), 0)?;
-        let element = link_one(graph, counters, owner, Kind::Idle, element)?;
-        return Ok(Draft::Array { len, element });
+        let element = link_one(graph, counters, owner, Kind::Idle)?;
+        return Ok(Step::Array { len, element });
     }
-    let element = link_one(graph, counters, owner, Kind::Parts, element)?;
-    Ok(Draft::Array { len, element })
+    let element = link_one(graph, counters, owner, Kind::Array)?;
+    Ok(Step::Array { len, element })
 }
 
-/// A type of this definition: its counters, the references of its definition, and its draft.
+/// What a compact wraps. Answers its step, unless there is a target.
+fn link_compact(graph: &mut Graph, counters: &mut Vec<Counter>, owner: u32) -> Result<Step, Stop>
+    requires linked { IsLinked graph.old }
+    requires one { length (parts_left graph.old) ≡ 1 }
+    ensures adds { IfOk result (λ _. AddsRules (rule owner Compact (parts_left graph.old) ∷ [])
+        counters.old.items counters.new.items graph.old graph.new) }
+    ensures step { IfOk result (λ s. s ≡ step.Compact None) }
+    ensures stops { IfErr result (StopsLinking
+        (all_parts (rule owner Compact (parts_left graph.old) ∷ [])) graph.old graph.new) }
+{
+    link_one(graph, counters, owner, Kind::Compact)?;
+    Ok(Step::Compact(None))
+}
+
+/// A type without references, of which this is found. Answers this step.
+fn link_none(
+    graph: &Graph,
+    counters: &mut Vec<Counter>,
+    owner: u32,
+    found: Found,
+    step: Step,
+) -> Result<Step, Stop>
+    requires { IsLinked graph.now }
+    ensures adds { IfOk result (λ _. AddsRules (rule owner (Fixed found) [] ∷ [])
+        counters.old.items counters.new.items graph.now graph.now) }
+    ensures step { IfOk result (λ s. s ≡ step) }
+    ensures stops { IfErr result (StopsLinking [] graph.now graph.now) }
+{
+    let _ = graph;
+    count_parts(counters, owner, Kind::Fixed(found), 0)?;
+    Ok(step)
+}
+
+/// A type of the definition that is open: its counters, its references, and its step as far as it
+/// is known.
 fn link_definition(
-    graph: &mut Graph<'_>,
+    graph: &mut Graph,
     counters: &mut Vec<Counter>,
     rows: &mut Rows,
     owner: u32,
-    definition: &Definition<'_>,
-) -> Result<Draft, Stop>
+    definition: Definition,
+) -> Result<Step, Stop>
     requires linked { IsLinked graph.old }
     requires paired { IsPaired rows.old }
-    ensures adds { IfOk result (λ _. AddsRules (rules_of owner (shape_of definition.now))
-        counters.old.items counters.new.items graph.old graph.new) }
-    ensures paired { IfOk result (λ _. IsPaired rows.new) }
-    ensures keeps { IfOk result (λ _. Keeps rows.old rows.new) }
-    ensures draft { IfOk result (λ s.
-        IsDraft (refs graph.new) (IsRow (refs graph.new) rows.new) (shape_of definition.now) s) }
-    ensures stops { IfErr result
-        (StopsLinking (all_parts (rules_of owner (shape_of definition.now))) graph.old graph.new) }
+    requires told { IsTold graph.old definition }
+    ensures links { let d = open_definition (current graph.old) in IfOk result
+        (λ s. LinksType owner d counters.old.items counters.new.items rows.old rows.new
+        graph.old graph.new s) }
+    ensures stops { let d = open_definition (current graph.old) in IfErr result
+        (StopsLinking (all_parts (rules_of owner d)) graph.old graph.new) }
 {
     match definition {
-        Definition::Composite(fields) => {
-            let kind = kind_of_parts(fields.len());
-            let Parts { from, count } = link_fields(graph, counters, owner, kind, fields)?;
-            Ok(Draft::Parts { from, count })
-        }
-        Definition::Tuple(members) => {
-            let kind = kind_of_parts(members.len());
-            let Parts { from, count } = link_members(graph, counters, owner, kind, members)?;
-            Ok(Draft::Parts { from, count })
-        }
-        Definition::Variant(arms) => {
-            let Parts { from, count } = link_arms(graph, counters, rows, owner, arms)?;
-            Ok(Draft::Arms { from, count })
-        }
-        Definition::Sequence(element) => link_sequence(graph, counters, owner, element),
-        Definition::Array(len, element) => link_array(graph, counters, owner, *len, element),
-        Definition::Compact(over) => {
-            let over = link_one(graph, counters, owner, Kind::Compact, over)?;
-            Ok(Draft::Compact { over })
-        }
+        Definition::Composite(count) => link_members(graph, counters, owner, count),
+        Definition::Tuple(count) => link_members(graph, counters, owner, count),
+        Definition::Variant(count) => link_arms(graph, counters, rows, owner, count),
+        Definition::Sequence => link_sequence(graph, counters, owner),
+        Definition::Array(len) => link_array(graph, counters, owner, len),
+        Definition::Compact => link_compact(graph, counters, owner),
         Definition::Primitive(primitive) => {
-            let found = found_of_primitive(*primitive);
-            count_parts(counters, owner, Kind::Fixed(found), 0)?;
-            Ok(Draft::Primitive(*primitive))
+            let found = found_of_primitive(primitive);
+            link_none(graph, counters, owner, found, Step::Primitive(primitive))
         }
-        Definition::BitSequence { .. } => {
-            count_parts(counters, owner, Kind::Fixed(SIZED), 0)?;
-            Ok(Draft::BitSequence)
-        }
+        Definition::BitSequence => link_none(graph, counters, owner, SIZED, Step::BitSequence),
     }
 }
 
@@ -340,53 +350,52 @@ fn link_definition(
 #[derive(Drop)]
 pub(crate) struct Linked {
     pub counters: Vec<Counter>,
-    pub drafts: Vec<Draft>,
+    pub steps: Vec<Step>,
     pub rows: Rows,
-    /// How many parts a value has at most.
-    pub widest: u32,
 }
 
-/// How many counters so many types with so many arms have at most. Answers `None` where the number is no `usize`.
+/// How many counters so many types with so many arms have at most. Answers `None` where the number
+/// is no `usize`.
 fn counters_of(types: usize, arms: usize) -> Option<usize> {
     types.checked_mul(2)?.checked_add(arms)
 }
 
-/// One pass over the types, which have so many arms: the counters, the drafts, and how many parts a value has at most.
+/// One pass over the types, which have so many arms: the counters, and the steps as far as they are
+/// known.
 ///
 /// A type has at most two counters beside those of its arms.
 pub(crate) fn link_types(
     alloc: Global,
-    graph: &mut Graph<'_>,
+    graph: &mut Graph,
     arms: usize,
 ) -> Result<Linked, CheckFault>
-    requires fits { FitsRegistry graph.old.types.now }
-    requires fresh { IsNew graph.old.types.now graph.old }
+    requires small { length graph.old.registry < 2 ^ 32 }
+    requires way { IsUnderWay graph.old.registry graph.old }
+    requires fresh { IsNew graph.old }
+    requires place { graph.old.cursor.types ≡ 0 }
+    requires seen { AreSeen graph.old.registry graph.old }
     ensures linked { IfOk result
-        (λ x. AreTypesLinked graph.old.types.now x.counters.items graph.new) }
-    ensures drafts { IfOk result
-        (λ x. AreDrafts graph.old.types.now (refs graph.new) x.rows x.drafts.items) }
-    ensures widest { IfOk result (λ x. x.widest ≡ widest graph.old.types.now) }
-    ensures refused { IfErr result (IsRefusedFor graph.old.types.now graph.new.looks) }
+        (λ x. AreTypesLinked graph.old.registry x.counters.items graph.new) }
+    ensures steps { IfOk result
+        (λ x. AreDrafts graph.old.registry (refs graph.new) x.rows x.steps.items) }
+    ensures refused { IfErr result (IsRefusedFor graph.old.registry graph.new) }
 {
     let types = graph.count();
     let most_counters = counters_of(types, arms).ok_or(CheckFault::OutOfMemory)?;
     let mut counters = Vec::with_capacity(alloc, most_counters)?;
-    let mut drafts = Vec::with_capacity(alloc, types)?;
+    let mut steps = Vec::with_capacity(alloc, types)?;
     let mut rows = Rows::with_capacity(alloc, arms)?;
-    let mut widest = 0;
     'types: for position in 0..types {
-        let definition = graph.definition(position as u32);
-        widest = widest.max(width(&definition));
         let position = position as u32;
-        match link_definition(graph, &mut counters, &mut rows, position, &definition) {
-            Ok(draft) => drafts.push(draft)?,
+        let definition = graph.open(position);
+        match link_definition(graph, &mut counters, &mut rows, position, definition) {
+            Ok(step) => steps.push(step)?,
             Err(stop) => return Err(stop.in_type(position)),
         }
     }
     Ok(Linked {
         counters,
-        drafts,
+        steps,
         rows,
-        widest,
     })
 }

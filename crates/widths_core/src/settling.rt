@@ -1,14 +1,19 @@
-//! Types settle one by one, each with its class and target, as soon as its parts have.
+//! Types settle one by one, each with its class and target, as soon as its parts have, and their
+//! steps are completed.
 
-ghost use Rattle.std.specs.Prelude.{◌≡◌, ◌<◌, length, replicate, [], None, OnOk, IfOk};
+ghost use Rattle.std.specs.Prelude.{◌≡◌, ◌<◌, ◌≤◌, length, replicate, [], None, OnOk, IfOk};
+ghost use Rattle.widths_core.specs.Completing.{FinishesSteps};
 ghost use Rattle.widths_core.specs.Progress.{progress_of, settled_as, completed, part_settled};
 ghost use Rattle.widths_core.specs.Progress.{counter_at, KnowsType};
 ghost use Rattle.widths_core.specs.Propagation.{AreCompactsSettled, IsBad, IsPending, IsStart};
-ghost use Rattle.widths_core.specs.Propagation.{IsPropagatedTo, Propagates, PropagatesAll};
+ghost use Rattle.widths_core.specs.Propagation.{IsPropagatedTo, Lists, Propagates, PropagatesAll};
 ghost use Rattle.widths_core.specs.declared.class.Class.TheVariants as class;
 
 use crate::class::Class;
 use crate::counter::{Counter, Found, Kind};
+use crate::linking::Linked;
+use crate::rows::Rows;
+use crate::step::Step;
 use graph_core::Graph;
 use scale_core::Target;
 use std::alloc::{AllocError, Global};
@@ -22,23 +27,31 @@ pub(crate) struct Settling {
     pub targets: Vec<Option<Target>>,
     /// The types that have settled, in that order.
     pub settled: Vec<u32>,
+    /// The step of each type, complete when the type has settled and, of a sequence, when its
+    /// element has.
+    pub steps: Vec<Step>,
+    /// The arms of the variants, which stay as they are.
+    pub rows: Rows,
 }
 
 impl Settling {
     /// No type has settled.
-    pub(crate) fn new(
-        alloc: Global,
-        counters: Vec<Counter>,
-        count: usize,
-    ) -> Result<Settling, AllocError>
+    pub(crate) fn new(alloc: Global, linked: Linked, count: usize) -> Result<Settling, AllocError>
         ensures { IfOk result (λ s.
             progress_of s ≡ record {
-              counters = counters.items;
+              counters = linked.counters.items;
               classes = replicate count class.NoValue;
               targets = replicate count None;
               settled = [];
+              steps = linked.steps.items;
+              rows = linked.rows;
             }) }
     {
+        let Linked {
+            counters,
+            steps,
+            rows,
+        } = linked;
         let classes = vec![in alloc; Class::NoValue; count]?;
         let targets = vec![in alloc; None; count]?;
         Ok(Settling {
@@ -46,14 +59,17 @@ impl Settling {
             classes,
             targets,
             settled: Vec::with_capacity(alloc, count)?,
+            steps,
+            rows,
         })
     }
 
-    /// A type settles as this, unless it has settled before.
-    fn settle(&mut self, owner: u32, found: Found) -> Result<(), AllocError>
+    /// A type settles as this, unless it has settled before. Its step becomes this one, where there
+    /// is one.
+    fn settle(&mut self, owner: u32, found: Found, step: Option<Step>) -> Result<(), AllocError>
         requires { KnowsType (progress_of self.old) owner }
         ensures { OnOk result (progress_of self.new
-            ≡ settled_as (progress_of self.old) owner found) }
+            ≡ settled_as (progress_of self.old) owner found step) }
     {
         let position = owner as usize;
         if self.classes[position].has_value() {
@@ -62,29 +78,42 @@ impl Settling {
         self.settled.push(owner)?;
         self.classes[position] = found.class;
         self.targets[position] = found.target;
+        if let Some(step) = step {
+            self.steps[position] = step;
+        }
         Ok(())
     }
 
-    /// All parts of a counter have settled, and a compact over the last of them has this target.
-    fn complete(&mut self, counter: Counter, last: Option<Target>) -> Result<(), AllocError>
+    /// All parts of a counter have settled, and a compact over the last of them, which is u8 itself
+    /// or is not, has this target.
+    fn complete(
+        &mut self,
+        counter: Counter,
+        last: Option<Target>,
+        byte: bool,
+    ) -> Result<(), AllocError>
         requires { KnowsType (progress_of self.old) counter.owner }
         ensures { OnOk result (progress_of self.new
-            ≡ completed (progress_of self.old) counter last) }
+            ≡ completed (progress_of self.old) counter last byte) }
     {
         match counter.kind.outcome(counter.sized, last) {
-            Some(found) => self.settle(counter.owner, found),
+            Some(found) => {
+                let step = &self.steps[counter.owner as usize];
+                let step = counter.kind.settled_step(found.class, last, byte, step);
+                self.settle(counter.owner, found, step)
+            }
             None => Ok(()),
         }
     }
 
-    /// A part of a counter has settled as this.
-    fn settle_part(&mut self, number: u32, found: Found) -> Result<(), AllocError>
+    /// A part of a counter has settled as this, and is u8 itself or is not.
+    fn settle_part(&mut self, number: u32, found: Found, byte: bool) -> Result<(), AllocError>
         requires number { number < length self.old.counters.items }
         requires owner { KnowsType (progress_of self.old)
             (counter_at (progress_of self.old) number).owner }
         requires left { 0 < (counter_at (progress_of self.old) number).left }
         ensures { OnOk result (progress_of self.new
-            ≡ part_settled (progress_of self.old) number found) }
+            ≡ part_settled (progress_of self.old) number found byte) }
     {
         let mut counter = self.counters[number as usize];
         counter.left -= 1;
@@ -92,38 +121,45 @@ impl Settling {
             counter.sized = true;
         }
         self.counters[number as usize] = counter;
+        if let Some(step) = counter.kind.told_step(found.class, byte) {
+            self.steps[counter.owner as usize] = step;
+        }
         if counter.left == 0 {
-            self.complete(counter, found.target)
+            self.complete(counter, found.target, byte)
         } else {
             Ok(())
         }
     }
 
     /// What was found of a type is counted at each reference to it.
-    fn propagate(&mut self, graph: &mut Graph<'_>, propagated: u32) -> Result<(), AllocError>
-        requires { IsPending graph.old.types.now graph.old (progress_of self.old) propagated }
-        ensures { OnOk result (Propagates graph.old.types.now graph.old graph.new
+    fn propagate(&mut self, graph: &mut Graph, propagated: u32) -> Result<(), AllocError>
+        requires { IsPending graph.old.registry graph.old (progress_of self.old) propagated }
+        ensures propagates { OnOk result (Propagates graph.old.registry graph.old graph.new
             (progress_of self.old) (progress_of self.new) propagated) }
+        ensures lists { Lists graph.old graph.new }
     {
         let found = Found {
             class: self.classes[propagated as usize],
             target: self.targets[propagated as usize],
         };
+        let byte = self.steps[propagated as usize].is_byte();
         let mut at = graph.newest(propagated);
         'references: while at > 0 {
             let link = graph.link(at - 1);
-            self.settle_part(link.counter, found)?;
+            self.settle_part(link.counter, found, byte)?;
             at = link.before;
         }
         Ok(())
     }
 
-    /// What was found of the types that have settled is counted at each reference to them, until nothing more settles. For
-    /// the first ones that was done before. Answers how many have settled.
-    fn propagate_all(&mut self, graph: &mut Graph<'_>, first: usize) -> Result<usize, AllocError>
-        requires { IsPropagatedTo graph.old.types.now graph.old (progress_of self.old) first }
-        ensures { IfOk result (λ done. PropagatesAll graph.old.types.now graph.old graph.new
-            (progress_of self.old) (progress_of self.new) done) }
+    /// What was found of the types that have settled is counted at each reference to them, until
+    /// nothing more settles. For the first ones that was done before. Answers how many have
+    /// settled.
+    fn propagate_all(&mut self, graph: &mut Graph, first: usize) -> Result<usize, AllocError>
+        requires { IsPropagatedTo graph.old.registry graph.old (progress_of self.old) first }
+        ensures propagates { IfOk result (λ done. PropagatesAll graph.old.registry graph.old
+            graph.new (progress_of self.old) (progress_of self.new) done) }
+        ensures lists { Lists graph.old graph.new }
     {
         let mut done = first;
         'propagated: while done < self.settled.len() {
@@ -134,36 +170,40 @@ impl Settling {
         Ok(done)
     }
 
-    /// Types without a part that has to settle first settle, and then each whose parts have. Answers how many have settled.
-    pub(crate) fn begin(&mut self, graph: &mut Graph<'_>) -> Result<usize, AllocError>
-        requires { IsStart graph.old.types.now graph.old (progress_of self.old) }
-        ensures { IfOk result (λ done. PropagatesAll graph.old.types.now graph.old graph.new
-            (progress_of self.old) (progress_of self.new) done) }
+    /// Types without a part that has to settle first settle, and then each whose parts have.
+    /// Answers how many have settled.
+    pub(crate) fn begin(&mut self, graph: &mut Graph) -> Result<usize, AllocError>
+        requires { IsStart graph.old.registry graph.old (progress_of self.old) }
+        ensures propagates { IfOk result (λ done. PropagatesAll graph.old.registry graph.old
+            graph.new (progress_of self.old) (progress_of self.new) done) }
+        ensures lists { Lists graph.old graph.new }
     {
         'counters: for number in 0..self.counters.len() {
             let counter = self.counters[number];
             if counter.left == 0 {
-                self.complete(counter, None)?;
+                self.complete(counter, None, false)?;
             }
         }
         self.propagate_all(graph, 0)
     }
 
-    /// The compacts that have not settled wrap no unsigned integer: they settle as such, and then each type whose parts
-    /// have. The first types had settled before. Answers how many have settled.
+    /// The compacts that have not settled wrap no unsigned integer: they settle as such, and then
+    /// each type whose parts have. The first types had settled before. Answers how many have
+    /// settled.
     pub(crate) fn settle_bad_compacts(
         &mut self,
-        graph: &mut Graph<'_>,
+        graph: &mut Graph,
         first: usize,
     ) -> Result<usize, AllocError>
-        requires propagated { IsPropagatedTo graph.old.types.now graph.old
+        requires propagated { IsPropagatedTo graph.old.registry graph.old
             (progress_of self.old) first }
-        requires bad { IsBad graph.old.types.now (progress_of self.old) }
+        requires bad { IsBad graph.old.registry (progress_of self.old) }
         ensures propagated { IfOk result
-            (λ done. PropagatesAll graph.old.types.now graph.old graph.new (progress_of self.old)
+            (λ done. PropagatesAll graph.old.registry graph.old graph.new (progress_of self.old)
             (progress_of self.new) done) }
         ensures compacts { OnOk result
-            (AreCompactsSettled graph.old.types.now (progress_of self.new)) }
+            (AreCompactsSettled graph.old.registry (progress_of self.new)) }
+        ensures lists { Lists graph.old graph.new }
     {
         'counters: for number in 0..self.counters.len() {
             let counter = self.counters[number];
@@ -172,9 +212,23 @@ impl Settling {
                     class: Class::Sized,
                     target: None,
                 };
-                self.settle(counter.owner, found)?;
+                self.settle(counter.owner, found, None)?;
             }
         }
         self.propagate_all(graph, first)
+    }
+
+    /// The types that have not settled have no value: their steps say so.
+    pub(crate) fn finish(&mut self)
+        requires { length self.old.classes.items ≡ length self.old.steps.items }
+        ensures steps { FinishesSteps self.old.classes.items self.old.steps.items
+            self.new.steps.items }
+        ensures rows { self.new.rows ≡ self.old.rows }
+    {
+        'types: for position in 0..self.classes.len() {
+            if !self.classes[position].has_value() {
+                self.steps[position] = self.steps[position].without_value();
+            }
+        }
     }
 }

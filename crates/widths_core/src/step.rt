@@ -1,6 +1,7 @@
 //! What a type is made of, in a few bytes.
 
 ghost use Rattle.std.specs.Prelude.{◌≡◌, slice_get};
+ghost use Rattle.widths_core.specs.Completing.{is_byte_step, of_bytes, without_value};
 ghost use Rattle.widths_core.specs.Steps.{class_of_step, compact_of_step, row_of_step};
 
 use crate::class::Class;
@@ -14,26 +15,17 @@ pub(crate) struct Parts {
     pub count: u32,
 }
 
-/// What a type is made of by its definition alone: its step while its class is not known. Ids are given as their numbers.
-#[derive(Clone, Copy)]
-pub(crate) enum Draft {
-    Primitive(Primitive),
-    Parts { from: u32, count: u32 },
-    Arms { from: u32, count: u32 },
-    Array { len: u32, element: u32 },
-    Sequence { element: u32 },
-    Compact { over: u32 },
-    BitSequence,
-}
-
-/// What a value of a type is read as, by the first of these that applies (SCALE codec, "Types"), in 12 bytes.
+/// What a value of a type is read as, by the first of these that applies (SCALE codec, "Types"), in
+/// 12 bytes.
 ///
 /// Ids are given as their numbers. The numbers of references are those of `Checked::member`.
 #[derive(Clone, Copy, Debug, PartialEq, Eq)]
 pub enum Step {
-    /// As an unsigned integer in its compact form, which fits the target; without a target there is none that fits.
+    /// As an unsigned integer in its compact form, which fits the target; without a target there is
+    /// none that fits.
     Compact(Option<Target>),
-    /// Not at all, since no arm of the variant has a value: its arms are those of `Checked::arm_step`.
+    /// Not at all, since no arm of the variant has a value: its arms are those of
+    /// `Checked::arm_step`.
     NoArm { from: u32, count: u32 },
     /// Not at all, since the type has no value.
     NoValue,
@@ -41,18 +33,21 @@ pub enum Step {
     Empty,
     /// As a value of a primitive type.
     Primitive(Primitive),
-    /// As a value of each type among `count` references from number `from` on: a composite or a tuple.
+    /// As a value of each type among `count` references from number `from` on: a composite or a
+    /// tuple.
     Parts { from: u32, count: u32 },
     /// As an arm of a variant: its arms are those of `Checked::arm_step`.
     Arms { from: u32, count: u32 },
     /// As this many values of one type, which is not the primitive u8 itself.
     Array { len: u32, element: u32 },
-    /// As this many bytes, at least one: an array of the primitive u8 itself, and not of a wrapper around it.
+    /// As this many bytes, at least one: an array of the primitive u8 itself, and not of a wrapper
+    /// around it.
     ByteArray { len: u32 },
-    /// As a length, and so many values of one type, which takes bytes or has no value, and is not the primitive u8
-    /// itself.
+    /// As a length, and so many values of one type, which takes bytes or has no value, and is not
+    /// the primitive u8 itself.
     Sequence { element: u32 },
-    /// As a length, and so many bytes: a sequence of the primitive u8 itself, and not of a wrapper around it.
+    /// As a length, and so many bytes: a sequence of the primitive u8 itself, and not of a wrapper
+    /// around it.
     Bytes,
     /// As a length alone, since the elements take no bytes.
     Count,
@@ -60,7 +55,8 @@ pub enum Step {
     BitSequence,
 }
 
-/// An arm of a variant: its position among the arms, and where the types of its fields are among the references.
+/// An arm of a variant: its position among the arms, and where the types of its fields are among
+/// the references.
 #[derive(Clone, Copy, Debug, PartialEq, Eq)]
 pub struct ArmStep {
     /// Its position among the arms.
@@ -80,6 +76,33 @@ impl Step {
             Step::NoValue | Step::NoArm { .. } => Class::NoValue,
             Step::Empty | Step::Compact(Some(Target::Unit)) => Class::Empty,
             _ => Class::Sized,
+        }
+    }
+
+    /// The step of an array of so many bytes, where this is the step of an array.
+    pub(crate) fn of_bytes(&self) -> Option<Step>
+        ensures { result ≡ of_bytes self.now }
+    {
+        match self {
+            Step::Array { len, .. } => Some(Step::ByteArray { len: *len }),
+            _ => None,
+        }
+    }
+
+    /// Is this the step of u8 itself?
+    pub(crate) fn is_byte(&self) -> bool
+        ensures { result ≡ is_byte_step self.now }
+    {
+        matches!(self, Step::Primitive(Primitive::U8))
+    }
+
+    /// The step of a type that turns out to have no value.
+    pub(crate) fn without_value(self) -> Step
+        ensures { result ≡ without_value self }
+    {
+        match self {
+            Step::Arms { from, count } => Step::NoArm { from, count },
+            _ => Step::NoValue,
         }
     }
 
@@ -110,8 +133,6 @@ pub(crate) fn step_of(steps: &[Step], at: u32) -> Option<Step>
 {
     steps.get(at as usize).copied()
 }
-
-const _: () = prove!(size_of::<Draft>() == 12);
 
 const _: () = prove!(size_of::<Step>() == 12);
 

@@ -1,19 +1,16 @@
-use Rattle.std.proofs.Common.{◌≡◌, ◌+◌, Some, length, rules}
-use Rattle.graph_core.specs.Lent.{shape_of}
+use Rattle.std.proofs.Common.{◌≡◌, ◌+◌, max, Some, rules}
 use Rattle.graph_core.specs.Types.{shape}
-use Rattle.graph_core.specs.References.{references}
-use Rattle.graph_core.specs.Sizes.{arm_count}
 use Rattle.graph_core.proofs.SizesTo.{sizes_more}
 use Rattle.graph_core.proofs.sizes.sizes_of.Goals as goal
 
 pub types-preserved : goal.types-preserved
 types-preserved c =
-    let r = c.args.graph.now.types.now in
-    let d = shape_of c.definition-definition.result in
-    let e : shape r c.types.position ≡ Some d =
-    rw (← c.types.invariant.types) c.definition-definition.ensures.found in
-    let n : c.in_ok-references.references ≡ c.types.references + length (references d) =
-    search rules in
-    let m : c.in_ok-arms.arms ≡ c.types.arms + arm_count d = search rules in
-    rw (n, m) (sizes_more r c.types.position c.types.references c.types.arms d c.types.graph
-    c.definition-definition.new.self e c.types.invariant c.definition-definition.ensures.opened)
+    let r = c.args.graph.now.registry in
+    let s = c.in_ok-sizes.sizes in
+    let k = c.in_ok-sizes.ensures.sizes in
+    let e : shape r c.types.position ≡ Some k.0 = rw (← c.types.invariant.types) k.1 in
+    let n : c.in_ok-references.references ≡ c.types.references + s.references = search rules in
+    let m : c.in_ok-arms.arms ≡ c.types.arms + s.arms = search rules in
+    let w : c.max-widest.result ≡ max c.types.widest s.widest = search rules in
+    rw (n, m, w) (sizes_more r c.types.position c.types.references c.types.arms c.types.widest k.0 s
+    c.types.graph c.measure.new.self e k.2 c.types.invariant c.measure.ensures.glanced)

@@ -5,9 +5,10 @@ use Rattle.widths_core.proofs.checked.Checked.step.Goals as goal
 pub returns : goal.returns
 returns c =
     let own = c.self.inside in
-    let same : c.args.self.now.types ≡ own.registry = search rules in
+    let same : c.args.self.now.types ≡ own.examined.registry = search rules in
     let got : c.step_of.result ≡ slice_get own.steps.items c.args.id.0 = search rules in
-    step_read own.registry c.args.self.now.types c.args.id.0 (slice_get own.steps.items c.args.id.0)
+    step_read own.examined.registry c.args.self.now.types c.args.id.0
+    (slice_get own.steps.items c.args.id.0)
     c.step_of.result same got
-    (step_at own.registry own.members.items own.rows own.steps.items c.args.id.0
+    (step_at own.examined.registry own.members.items own.rows own.steps.items c.args.id.0
     c.self.invariant.table)

@@ -23,12 +23,12 @@ complete-requires c =
     let is : c.index-counter.result.now ≡ counter_at (progress_of s) c.counters.number =
     get_or_read s.counters.items c.counters.number c.index-counter.result.now lt
     c.index-counter.ensures no_counter in
-    rw is (placed c.args.graph.now.types.now _ (progress_of s) c.counters.number
+    rw is (placed c.args.graph.now.registry _ (progress_of s) c.counters.number
     c.counters.invariant.consistent lt)
 
 pub counters-preserved : goal.counters-preserved
 counters-preserved c =
-    let r = c.args.graph.now.types.now in
+    let r = c.args.graph.now.registry in
     let s = c.counters.self in
     let lt : c.counters.number < length s.counters.items =
     omega (
@@ -57,7 +57,7 @@ counters-preserved c =
 
 pub propagate_all-requires : goal.propagate_all-requires
 propagate_all-requires c =
-    begun c.args.graph.now.types.now c.args.graph.now (progress_of c.args.self.now)
+    begun c.args.graph.now.registry c.args.graph.now (progress_of c.args.self.now)
     (progress_of c.counters.self) c.counters.number c.requires
     (omega (
       arith,
@@ -68,10 +68,10 @@ propagate_all-requires c =
       c.args.self.now.counters.ok.0,
     )) c.counters.invariant
 
-pub returns : goal.returns
-returns c =
+pub returns-clause-propagates : goal.returns-clause-propagates
+returns-clause-propagates c =
     map_ok c.propagate_all.result _ _
-    (λ done. begun_on c.args.graph.now.types.now c.args.graph.now c.propagate_all.new.graph
+    (λ done. begun_on c.args.graph.now.registry c.args.graph.now c.propagate_all.new.graph
     (progress_of c.args.self.now) (progress_of c.counters.self)
     (progress_of c.propagate_all.new.self)
-    done c.counters.invariant.follows) c.propagate_all.ensures
+    done c.counters.invariant.follows) c.propagate_all.ensures.propagates

@@ -18,7 +18,7 @@ propagate-requires c =
     c.index-propagated.ensures 0 in
     rw is (subst (λ (q : List TypeInfo). IsPending q d (progress_of s)
     (get_or s.settled.items c.propagated.done 0)) (sym propagated.steady.ready.types)
-    (pending_is c.args.graph.now.types.now d (progress_of s) c.propagated.done propagated lt))
+    (pending_is c.args.graph.now.registry d (progress_of s) c.propagated.done propagated lt))
 
 pub propagated-preserved : goal.propagated-preserved
 propagated-preserved c =
@@ -30,8 +30,8 @@ propagated-preserved c =
     let is : c.index-propagated.result.now ≡ get_or s.settled.items c.propagated.done 0 =
     get_or_read s.settled.items c.propagated.done c.index-propagated.result.now lt
     c.index-propagated.ensures 0 in
-    let propagates = rw is at c.in_ok-propagate.ensures in
-    so_far_more c.args.graph.now.types.now c.args.graph.now d c.propagate.new.graph
+    let propagates = rw is at c.in_ok-propagate.ensures.propagates in
+    so_far_more c.args.graph.now.registry c.args.graph.now d c.propagate.new.graph
     (progress_of c.args.self.now) (progress_of s) (progress_of c.propagate.new.self)
     c.propagated.done
     c.propagated.invariant lt

@@ -5,9 +5,9 @@ use Rattle.widths_core.proofs.settling.Settling.propagate_all.Given as goal
 
 abbrev pub invariant-propagated : goal.invariant-propagated
 invariant-propagated l =
-    PropagatesSoFar l.fn.graph.types.now l.fn.graph l.graph (progress_of l.fn.self)
+    PropagatesSoFar l.fn.graph.registry l.fn.graph l.graph (progress_of l.fn.self)
     (progress_of l.self)
     l.done
 
 abbrev pub decreases-propagated : goal.decreases-propagated
-decreases-propagated l = length l.fn.graph.types.now - l.done
+decreases-propagated l = length l.fn.graph.registry - l.done

@@ -24,12 +24,12 @@ settle-requires c =
     let is : c.index-counter.result.now ≡ counter_at (progress_of s) c.counters.number =
     get_or_read s.counters.items c.counters.number c.index-counter.result.now lt
     c.index-counter.ensures no_counter in
-    rw is (placed c.args.graph.now.types.now _ (progress_of s) c.counters.number
+    rw is (placed c.args.graph.now.registry _ (progress_of s) c.counters.number
     c.counters.invariant.consistent lt)
 
 pub counters-preserved : goal.counters-preserved
 counters-preserved c =
-    let r = c.args.graph.now.types.now in
+    let r = c.args.graph.now.registry in
     let s = c.counters.self in
     let lt : c.counters.number < length s.counters.items =
     omega (
@@ -58,7 +58,7 @@ counters-preserved c =
 
 pub propagate_all-requires : goal.propagate_all-requires
 propagate_all-requires c =
-    bad_settled c.args.graph.now.types.now c.args.graph.now (progress_of c.args.self.now)
+    bad_settled c.args.graph.now.registry c.args.graph.now (progress_of c.args.self.now)
     (progress_of c.counters.self) c.args.first c.counters.number c.requires.propagated
     (omega (
       arith,
@@ -72,15 +72,15 @@ propagate_all-requires c =
 pub returns-clause-propagated : goal.returns-clause-propagated
 returns-clause-propagated c =
     map_ok c.propagate_all.result _ _
-    (λ done. bad_settled_on c.args.graph.now.types.now c.args.graph.now.looks.listed.entries
+    (λ done. bad_settled_on c.args.graph.now.registry c.args.graph.now.looks.listed.entries
     c.args.graph.now c.propagate_all.new.graph (progress_of c.args.self.now)
     (progress_of c.counters.self) (progress_of c.propagate_all.new.self) c.counters.number done
-    c.counters.invariant) c.propagate_all.ensures
+    c.counters.invariant) c.propagate_all.ensures.propagates
 
 pub returns-clause-compacts : goal.returns-clause-compacts
 returns-clause-compacts c =
     on_ok c.propagate_all.result _ _
-    (λ done h. compacts_all c.args.graph.now.types.now c.args.graph.now.looks.listed.entries
+    (λ done h. compacts_all c.args.graph.now.registry c.args.graph.now.looks.listed.entries
     (progress_of c.args.self.now) (progress_of c.counters.self)
     (progress_of c.propagate_all.new.self)
     c.counters.number (omega (
@@ -90,4 +90,4 @@ returns-clause-compacts c =
       c.counters.invariant.consistent.counters,
       c.requires.propagated.steady.consistent.counters,
       c.args.self.now.counters.ok.0,
-    )) c.counters.invariant h.follows) c.propagate_all.ensures
+    )) c.counters.invariant h.follows) c.propagate_all.ensures.propagates

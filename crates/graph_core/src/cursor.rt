@@ -1,0 +1,74 @@
+//! Where the reading of definitions stands.
+
+ghost use Rattle.std.specs.Prelude.{◌≡◌, ◌∷◌, [], option_map, slice_get};
+ghost use Rattle.graph_core.specs.Cursors.{arm_outline, arms_of, last_of, open_references};
+ghost use Rattle.registry_core.specs.declared.definition.TypeDef.TheVariants.{Variant};
+
+use registry_core::{Arm, TypeDef, TypeId};
+
+/// Where the reading of definitions stands.
+#[derive(Clone, Copy)]
+pub(crate) struct Cursor {
+    /// How many types were opened to be read. The last of them is open.
+    pub types: usize,
+    /// How many arms of the open type were begun. The fields of the last of them are open.
+    pub arms: usize,
+    /// How many references were read of what is open.
+    pub parts: usize,
+}
+
+/// The last of the first `count` arms, where there is one.
+fn last_arm(arms: &[Arm], count: usize) -> Option<&Arm>
+    ensures { option_map (λ a. a.now) result ≡ last_of arms.now count }
+{
+    match count {
+        0 => None,
+        _ => arms.get(count - 1),
+    }
+}
+
+/// The one reference of a definition, where it was not read.
+fn only(id: TypeId, parts: usize) -> Option<u32>
+    ensures { result ≡ slice_get (id.0 ∷ []) parts }
+{
+    if parts == 0 { Some(id.0) } else { None }
+}
+
+/// The type of a field of the arm that is open.
+fn field_of(arms: &[Arm], begun: usize, parts: usize) -> Option<u32>
+    ensures { result ≡ slice_get (open_references (Variant arms.now) begun) parts }
+{
+    let arm = last_arm(arms, begun)?;
+    Some(arm.fields.as_slice().get(parts)?.ty.0)
+}
+
+impl Cursor {
+    /// The next reference of what is open in this definition, where one is left.
+    pub(crate) fn reference(&self, shape: &TypeDef) -> Option<u32>
+        ensures { result ≡ slice_get (open_references shape.now self.now.arms) self.now.parts }
+    {
+        match shape {
+            TypeDef::Composite(fields) => Some(fields.as_slice().get(self.parts)?.ty.0),
+            TypeDef::Variant(arms) => field_of(arms.as_slice(), self.arms, self.parts),
+            TypeDef::Tuple(members) => Some(members.as_slice().get(self.parts)?.0),
+            TypeDef::Sequence(id) | TypeDef::Array(_, id) | TypeDef::Compact(id) => {
+                only(*id, self.parts)
+            }
+            TypeDef::Primitive(_) | TypeDef::BitSequence { .. } => None,
+        }
+    }
+
+    /// The index of the next arm of this definition, and how many fields it has, where an arm is
+    /// left.
+    pub(crate) fn arm(&self, shape: &TypeDef) -> Option<(u8, usize)>
+        ensures { result ≡ arm_outline (slice_get (arms_of shape.now) self.now.arms) }
+    {
+        match shape {
+            TypeDef::Variant(arms) => {
+                let arm = arms.as_slice().get(self.arms)?;
+                Some((arm.index, arm.fields.len()))
+            }
+            _ => None,
+        }
+    }
+}
