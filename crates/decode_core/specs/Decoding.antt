@@ -25,7 +25,7 @@ use Rattle.decode_core.specs.Running.{Running, held_of, state_of}
 use Rattle.decode_core.specs.Held.{open_run}
 use Rattle.decode_core.specs.Holds.{Holds}
 use Rattle.decode_core.specs.Reported.{reported, reported_at, shown}
-use Rattle.decode_core.specs.Turned.{IsSound, TurnsLead, WantsBytes, WantsMemory}
+use Rattle.decode_core.specs.Turned.{IsSound, RunsOut, TurnsLead, WantsBytes, WantsMemory}
 use Rattle.decode_core.specs.declared.decoder.Fed.{Fed}
 use Rattle.decode_core.specs.declared.decoder.Fed.TheVariants as fed
 use Rattle.decode_core.specs.declared.decoder.Progress.{Progress}
@@ -109,6 +109,7 @@ pub record RanOut (j : Job) (b : List ℕ) (n : ℕ) : Type 0 where
   pub led : TurnsLead j.registry (start j.depth j.ty) (state_of s.built) own
   pub count : n ≡ length own + length (held_of s)
   pub wants : WantsMemory s rest
+  pub sound : IsSound s
 
 -- why it ended: memory was wanted and refused, or these bytes have this outcome
 abbrev pub IsEnded : Job → List ℕ → DecodeFault → ℕ → Type 0
@@ -203,6 +204,22 @@ abbrev pub FedTakes : ℕ → ℕ → Fed → Type 0
 FedTakes taken n (fed.More m) = (taken ≤ m) × (m ≤ taken + n)
 FedTakes taken n (fed.Done used) = used ≤ n
 FedTakes taken n (fed.Ended f m) = (taken ≤ m) × (m ≤ taken + n)
+
+-- turns on a piece led from this value on its way to where memory was wanted, with n bytes taken in
+-- all
+abbrev pub AsksAt : Running → List ℕ → ℕ → ℕ → Type 0
+AsksAt s piece taken n = (k : ℕ) × (n ≡ taken + k) × RunsOut s piece k
+
+-- where want of memory ended a value, the turns on the piece led to it
+abbrev pub FedAsks : Running → List ℕ → ℕ → Fed → Type 0
+FedAsks s piece taken (fed.Ended f n) = f.reason ≡ reason.OutOfMemory → AsksAt s piece taken n
+FedAsks s piece taken _ = Unit {0}
+
+-- where want of memory is reported with n bytes taken, it had been reported before; or turns on the
+-- part of the piece that is within the limit led to it from the value as it stood
+abbrev pub AsksMemory : Decoding → List ℕ → ℕ → DecodeFault → Type 0
+AsksMemory d piece n f = f.reason ≡ reason.OutOfMemory → (d.run ≡ Err f)
+    ⊎ ((s : Running) × (d.run ≡ Ok s) × AsksAt s (take (d.job.bytes - d.taken) piece) d.taken n)
 
 -- nothing changed but how many turns and calls there were
 pub record IsKept (old new : Decoding) : Type 0 where

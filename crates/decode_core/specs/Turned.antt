@@ -53,7 +53,7 @@ pub record IsSame (old new : Running) : Type 0 where
   pub limit : new.built.walk.limit ≡ old.built.walk.limit
   pub ty : new.built.ty ≡ old.built.ty
 
--- these bytes lead from one to the other, whatever follows them
+-- these bytes lead from one to the other, whatever follows them, and no node is given up
 pub record Moves (old new : Running) (bytes : List ℕ) : Type 0 where
   pub same : IsSame old new
   pub own : List ℕ
@@ -63,6 +63,7 @@ pub record Moves (old new : Running) (bytes : List ℕ) : Type 0 where
       ≡ after (state_of new.built).nodes (remain (types_in old) (state_of new.built) more)
   pub level : (state_of new.built).room + length (state_of new.built).pending
       ≡ (state_of old.built).room + length (state_of old.built).pending
+  pub nodes : length old.built.entries ≤ length new.built.entries
 
 -- the work that is left
 abbrev pub left_to_do : Running → List ℕ → ℕ
@@ -186,10 +187,12 @@ FeedReports old new piece n s = (n ≤ length piece)
     × ((last : Running) × Moves old last (take n piece) × EndsTurns last (drop n piece) s
     × StandsAfter s last new × IsSound last)
 
--- what turns on a piece do that end for want of memory, where n bytes of it were taken
+-- what turns on a piece do that end for want of memory, where n bytes of it were taken: these lead
+-- to a value on its way, which wants memory by the bytes after them
 abbrev pub RunsOut : Running → List ℕ → ℕ → Type 0
 RunsOut old piece n = (n ≤ length piece)
-    × ((last : Running) × Moves old last (take n piece) × WantsMemory last (drop n piece))
+    × ((last : Running) × Moves old last (take n piece) × WantsMemory last (drop n piece)
+    × IsSound last)
 
 -- the builder's loop has taken no turn where a turn of the decoder's added nothing
 abbrev pub KeepsTurns : Running → Running → Turned → Type 0

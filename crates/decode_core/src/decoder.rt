@@ -1,18 +1,18 @@
 //! The streaming decoder.
 
 ghost use Rattle.std.specs.Prelude.{◌≡◌, ◌+◌, ◌++◌, ◌≤◌, [], ℕ, List, Ok, Err, IfOk, length};
-ghost use Rattle.std.specs.Prelude.{suc, take, true};
+ghost use Rattle.std.specs.Prelude.{suc, take, true, IfErr, ◌-◌};
 ghost use Rattle.value_core.specs.Built.{finished};
 ghost use Rattle.value_core.specs.Refusals.{is_whole};
 ghost use Rattle.decode_core.specs.Running.{Running};
 ghost use Rattle.decode_core.specs.Outcome.{Job};
 ghost use Rattle.decode_core.specs.Bound.{node_bound};
-ghost use Rattle.decode_core.specs.Decoding.{AnswersPiece, CountsValue, Decoding, FedCounts};
-ghost use Rattle.decode_core.specs.Decoding.{FedTakes, FinishesDecoder, HasCounted, HasValue};
-ghost use Rattle.decode_core.specs.Decoding.{HoldsAt, IsKept, IsLedTo, IsSmall, IsSmallAtEnd};
-ghost use Rattle.decode_core.specs.Decoding.{IsSmallValue, Led, LoopCounted, OpensDecoder};
-ghost use Rattle.decode_core.specs.Decoding.{RunAnswers, RunLed, closing_turns, first_of_all};
-ghost use Rattle.decode_core.specs.Decoding.{node_count, opening_fault, text_bytes};
+ghost use Rattle.decode_core.specs.Decoding.{AnswersPiece, AsksMemory, CountsValue, Decoding};
+ghost use Rattle.decode_core.specs.Decoding.{FedAsks, FedCounts, FedTakes, FinishesDecoder};
+ghost use Rattle.decode_core.specs.Decoding.{HasCounted, HasValue, HoldsAt, IsKept, IsLedTo};
+ghost use Rattle.decode_core.specs.Decoding.{IsSmall, IsSmallAtEnd, IsSmallValue, Led, LoopCounted};
+ghost use Rattle.decode_core.specs.Decoding.{OpensDecoder, RunAnswers, RunLed, closing_turns};
+ghost use Rattle.decode_core.specs.Decoding.{first_of_all, node_count, opening_fault, text_bytes};
 ghost use Rattle.graph_core.specs.Widths.{widest};
 
 use crate::fault::{DecodeFault, DecodeReason, OpenFault};
@@ -100,6 +100,7 @@ fn feed_run<A: Allocator>(
         RunAnswers j (b ++ piece.now) taken run.new result }
     ensures whole { is_whole run.old.built ≡ true → (result ≡ Fed.Done 0) × (run.new ≡ run.old) }
     ensures takes { FedTakes taken (length piece.now) result }
+    ensures memory { FedAsks run.old (take (limit - taken) piece.now) taken result }
     ensures counts { (j : Job) (b : List ℕ) (calls : ℕ) → j.bytes ≡ limit →
         RunLed j b taken (Ok run.old) → LoopCounted taken run.old turns.old.so_far calls →
         FedCounts j run.new taken turns.new.so_far (suc calls) result }
@@ -237,6 +238,7 @@ impl<'r, A: Allocator> Decoder<'r, A> {
             (result ≡ Ok (Progress.Done 0)) × IsKept self.old self.new }
         ensures taken { (self.old.taken ≤ self.new.taken)
             × (self.new.taken ≤ self.old.taken + length piece.now) }
+        ensures memory { IfErr result (AsksMemory self.old piece.now self.new.taken) }
         ensures value { HasValue self.new result }
         ensures value_counts { CountsValue self.new result }
         ensures held { (b : List ℕ) → Led self.old b → HoldsAt self.new (b ++ piece.now) result }
@@ -279,6 +281,7 @@ impl<'r, A: Allocator> Decoder<'r, A> {
             result ≡ Ok (finished s.built) }
         ensures finishes { (b : List ℕ) → Led self.entry b →
             FinishesDecoder self.entry.job b result }
+        ensures memory { IfErr result (AsksMemory self.entry [] self.entry.taken) }
         ensures small { (b : List ℕ) → Led self.entry b → IsSmallValue self.entry.job b result }
     {
         if let Ok(run) = &self.run

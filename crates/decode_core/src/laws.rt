@@ -72,8 +72,7 @@ pub fn fault_is_begun()
     ensures { FaultIsBegun }
 {}
 
-/// Where memory was wanted, nothing of the bytes taken is refused that stands before what it was wanted for: more are
-/// wanted and one is there, or they have a further node.
+/// Where memory was wanted, more bytes are wanted and one is there, or a further node is read.
 pub fn wanted_goes_on()
     ensures { WantedGoesOn }
 {}

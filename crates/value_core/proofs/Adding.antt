@@ -25,7 +25,7 @@ use Rattle.value_core.specs.Building.{IsBuilding, IsOpenAt, IsOpenRun, pieces_sh
 use Rattle.value_core.specs.Refusals.{missing_at}
 use Rattle.node_core.specs.declared.open_run.OpenRun.{OpenRun}
 use Rattle.widths_core.specs.declared.run_kind.RunKind.{RunKind}
-use Rattle.std.specs.Prelude.{IfOk, option_map, Result, Ok}
+use Rattle.std.specs.Prelude.{IfOk, IsSome, option_map, Result, Ok}
 use Rattle.std.proofs.lemmas.List.{length-drop, take_all}
 use Rattle.node_core.specs.declared.node.Node.{Node}
 use Rattle.node_core.specs.declared.node.Content.{Content}
@@ -116,7 +116,7 @@ text_snoc [] e = omega arith
 text_snoc (x ∷ es) e = omega (arith, text_snoc es e)
 
 -- with one node more, as many bytes more are kept in the pool as this node has there
-kept_snoc : (ns : List Node) (n : Node) →
+pub kept_snoc : (ns : List Node) (n : Node) →
     all_kept (ns ++ n ∷ []) ≡ all_kept ns + kept_bytes n.content
 kept_snoc [] n = omega arith
 kept_snoc (m ∷ ns) n = omega (arith, kept_snoc ns n)
@@ -229,6 +229,13 @@ pub open_shown : (pool : List ℕ) (children : ℕ) (c : Content) (kind : Branch
     head_shown [] children c ≡ head.branch kind n → IsApart pool children c
 open_shown pool children c kind n e = open_by pool children c (ap is_open e ∙ kind_is_open kind n)
 
+-- it keeps nothing in the pool where it is the next node
+pub open_kept : (w : Walked) (ns : List Node) (n : Node) (p : Part) →
+    IsNextOpen w (head_shown [] n.children n.content) p → all_kept (ns ++ n ∷ []) ≡ all_kept ns
+open_kept w ns n p l =
+    let shown = open_shown [] n.children n.content l.kind (how_many_left p) l.head_is in
+    omega (arith, kept_snoc ns n, shown.none_kept)
+
 -- a node with parts has no bytes of text of its own
 kind_text : (kind : Branch) (n : ℕ) → head_text_bytes (head.branch kind n) ≡ 0
 kind_text k n = refl
@@ -332,14 +339,14 @@ drop_more (suc k) (x ∷ pool) more h = drop_more k pool more (omega (arith, h))
 
 -- bytes that come to the pool are the open run's, where it lacks as many at least
 pub open_longer : (w : Walked) (pool more : List ℕ) (kept : ℕ) (run : Option OpenRun) →
-    AreBytes more → IsOpenRun w pool kept run →
+    AreBytes more → IsOpenRun w pool kept run → IsSome (pieces_shown pool run) →
     IfOk (missing_at (pieces_shown pool run) (next_of w)) (λ m. length more ≤ m.1) →
     IsOpenRun w (pool ++ more) kept run
     × (pieces_shown (pool ++ more) run
     ≡ option_map (λ t. record { kind = t.kind; len = t.len; bytes = t.bytes ++ more })
     (pieces_shown pool run))
-open_longer w pool more kept None p h k = (tt, refl)
-open_longer w pool more kept (Some o) p h k =
+open_longer w pool more kept None p h some k = absurd cc
+open_longer w pool more kept (Some o) p h some k =
     let lacks : length more ≤ o.len - length (drop o.start pool) = rw h.is_next at k in (
       record {
         is_next = h.is_next;

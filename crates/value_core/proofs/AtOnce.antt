@@ -14,7 +14,7 @@ use Rattle.grammar_core.specs.Preorder.{Head}
 use Rattle.grammar_core.specs.Preorder as head
 use Rattle.grammar_core.specs.Tree as tree
 use Rattle.node_core.specs.Leaves.{leaf_head, leaf_text_bytes, IsAppended, IsLeafKept}
-use Rattle.node_core.specs.Shown.{head_shown, size_shown}
+use Rattle.node_core.specs.Shown.{all_kept, head_shown, size_shown}
 use Rattle.node_core.specs.declared.leaf.Leaf.{Leaf}
 use Rattle.node_core.specs.declared.node.Content.{Content}
 use Rattle.node_core.specs.declared.node.Node.{Node}
@@ -27,7 +27,7 @@ use Rattle.value_core.specs.Opened.{OpensFields}
 use Rattle.value_core.specs.Spine.{open_part}
 use Rattle.value_core.specs.Walked.{Closes, OpenPart, Walked, advanced, advanced_in, first_in}
 use Rattle.value_core.specs.Walked.{next_of, next_type, opened}
-use Rattle.value_core.proofs.Adding.{open_added, open_shown}
+use Rattle.value_core.proofs.Adding.{kept_snoc, open_added, open_shown}
 use Rattle.value_core.proofs.Ahead.{type_at}
 use Rattle.value_core.proofs.Begun.{is_begun}
 use Rattle.value_core.proofs.Closing.{advanced_length, closing_settles, open_paid, same}
@@ -156,6 +156,19 @@ entries_at pool ns n k w p l =
     map-append _ ns (with_size n k ∷ [])
     ∙ rw ((same pool n.children n.content k).head, shown.same) refl
 
+-- nor does it keep anything in the pool then
+pub sized_kept : (w : Walked) (ns : List Node) (n : Node) (k : ℕ) (p : Part) →
+    IsNextOpen w (head_shown [] n.children n.content) p →
+    all_kept (ns ++ with_size n k ∷ []) ≡ all_kept ns
+sized_kept w ns n k p l =
+    let shown = open_shown [] n.children n.content l.kind (how_many_left p) l.head_is in
+    omega (
+      arith,
+      kept_snoc ns (with_size n k),
+      (same [] n.children n.content k).kept,
+      shown.none_kept,
+    )
+
 -- a node without parts, which has its size
 pub childless : (ty : ℕ) (w : Walked) (pool : List ℕ) (ns : List Node) (n : Node) (text_len : ℕ)
     (p : Part) (b : IsBuilding ty w pool ns text_len)
@@ -229,6 +242,22 @@ around ty w pool new_pool ns n text_len t leaf c b o at size next kept =
             (open_shown pool n.children n.content o.kind _ o.head_is).same,
             ← same_Some t.0 next.ty next.next,
           ) refl,
+    )
+
+-- the pool has grown by what the part keeps there
+pub around_kept : (w : Walked) (pool new_pool : List ℕ) (ns : List Node) (n : Node) (t : TypeId)
+    (leaf : Leaf) (c : Content) (p : Part) → IsNextOpen w (head_shown [] n.children n.content) p →
+    IsLeafKept leaf pool new_pool c →
+    all_kept ((ns ++ with_size n 2 ∷ []) ++ part_node t c ∷ []) + length pool
+    ≡ all_kept ns + length new_pool
+around_kept w pool new_pool ns n t leaf c p l kept =
+    omega (
+      arith,
+      kept_snoc (ns ++ with_size n 2 ∷ []) (part_node t c),
+      sized_kept w ns n 2 p l,
+      kept.kept,
+      ap length kept.grown,
+      length-append pool kept.more,
     )
 
 -- two nodes are there, and one turn closed one

@@ -13,7 +13,8 @@ use Rattle.value_core.specs.Spine.{OpenNode, open_part, Spine}
 use Rattle.value_core.specs.Walked.{OpenPart, Walked, Closes, advanced, advanced_in, opened}
 use Rattle.value_core.specs.Built.{IsSettled, closings, entries_shown, entries_text_bytes}
 use Rattle.value_core.specs.Built.{settled_in, settled_walk}
-use Rattle.value_core.specs.Building.{IsBuilding, IsPaid, Settles, AreBuilt, pieces_shown}
+use Rattle.value_core.specs.Building.{IsBuilding, IsOpenRun, IsPaid, Settles, AreBuilt}
+use Rattle.value_core.specs.Building.{pieces_shown}
 use Rattle.node_core.specs.declared.open_run.OpenRun.{OpenRun}
 use Rattle.node_core.specs.declared.node.Content.{Content}
 use Rattle.node_core.specs.declared.node.Content.TheVariants as content
@@ -174,6 +175,7 @@ closing_settles old new ns n k place g e c = record {
       refl;
   entries = λ pool. entries_resized pool ns n k place g;
   builds = λ ty pool text_len b. (closing ty old new pool ns text_len place b c).builds n k g e;
+  kept = kept_resized ns n k place g;
 }
 
 -- what is settled stays so
@@ -198,6 +200,15 @@ pub none_open : (pool : List ℕ) (text : Option OpenRun) → pieces_shown pool 
     text ≡ None
 none_open pool None e = refl
 none_open pool (Some o) e = absurd cc
+
+-- where no run is open, nodes that keep as many bytes more as came to the pool leave nothing else
+-- there
+pub stays_exact : (w v : Walked) (old new : List ℕ) (before after : List Node)
+    (run : Option OpenRun) → run ≡ None → IsOpenRun w old (all_kept before) run →
+    all_kept after + length old ≡ all_kept before + length new →
+    IsOpenRun v new (all_kept after) run
+stays_exact w v old new before after None none h grown = omega (arith, h, grown)
+stays_exact w v old new before after (Some o) none h grown = absurd cc
 
 -- ---- turns
 

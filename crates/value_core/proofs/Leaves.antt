@@ -1,6 +1,6 @@
 -- The bytes of text of a node, and a leaf that is kept as the last node.
 use Rattle.std.proofs.Common.{◌≡◌, ℕ, ◌+◌, ◌-◌, ◌^◌, ◌≤◌, ◌<◌, List, [], ◌∷◌, ◌++◌, drop}
-use Rattle.std.proofs.Common.{length, IfSome, refl, ◌∙◌, arith}
+use Rattle.std.proofs.Common.{length, length-append, IfSome, refl, ◌∙◌, arith}
 use Rattle.std.proofs.lemmas.List.{length-take}
 use Rattle.std.proofs.lemmas.Option.{same_Some}
 use Rattle.registry_core.specs.declared.type_id.TypeId.{TypeId}
@@ -14,7 +14,7 @@ use Rattle.node_core.specs.declared.leaf.Leaf.TheVariants as leaf
 use Rattle.node_core.specs.declared.node.Content.{Content}
 use Rattle.node_core.specs.declared.node.Content.TheVariants as content
 use Rattle.node_core.specs.declared.node.Node.{Node}
-use Rattle.value_core.proofs.Adding.{leaf_added, entries_added}
+use Rattle.value_core.proofs.Adding.{leaf_added, entries_added, kept_snoc}
 use Rattle.value_core.proofs.Ahead.{type_is}
 use Rattle.value_core.proofs.Closing.{leaf_paid}
 
@@ -51,6 +51,7 @@ pub record IsWithLeaf (ty : ℕ) (w : Walked) (l : Leaf) (old_pool pool : List �
   pub entries : entries_shown pool ns
       ≡ entries_shown old_pool old_ns ++ record { ty = t; head = leaf_head l } ∷ []
   pub paid : (turns : ℕ) → IsPaid w old_ns turns → IsPaid (advanced w) ns turns
+  pub kept : all_kept ns + length old_pool ≡ all_kept old_ns + length pool
 
 -- with one leaf more the texts' bytes are still counted in a machine's word
 pub texts_fit : (ty : ℕ) (w : Walked) (l : Leaf) (pool : List ℕ) (ns : List Node) (text_len : ℕ) →
@@ -77,4 +78,5 @@ leaf_appended ty w l pool new_pool ns new_ns text_len t b h told a =
           shows inside (text_is l) (omega (arith, b.fits, k.kept));
       entries = entries_added pool k.more ns n h.ty (leaf_head l) b.inside at shows;
       paid = λ turns p. leaf_paid w ns n turns p;
+      kept = omega (arith, kept_snoc ns n, k.kept, length-append pool k.more);
     })

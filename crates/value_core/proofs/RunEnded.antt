@@ -19,7 +19,7 @@ use Rattle.value_core.specs.Walked.{Walked, advanced, next_type, next_of}
 use Rattle.node_core.specs.Shown.{IsInPool, all_kept, head_shown, kept_bytes}
 use Rattle.node_core.specs.declared.node.Node.{Node}
 use Rattle.node_core.specs.declared.open_run.OpenRun.{OpenRun}
-use Rattle.value_core.proofs.Adding.{leaf_added, open_whole}
+use Rattle.value_core.proofs.Adding.{kept_snoc, leaf_added, open_whole}
 use Rattle.value_core.proofs.Ahead.{type_wanted}
 use Rattle.value_core.proofs.NextLeaf.{run_next}
 
@@ -61,7 +61,7 @@ if_open : {A : Type 0} (run : Option A) (t : A) (P : Type 0) → run ≡ Some t 
 if_open (Some x) t P e h = h
 if_open None t P e h = absurd cc
 
--- its bytes lie in the pool already
+-- its bytes lie in the pool already, as the last there
 pub run_ended : (ty : ℕ) (w : Walked) (pool : List ℕ) (ns : List Node) (text_len : ℕ)
     (run : Option OpenRun) (o : OpenRun) (t : TypeId) →
     IsBuilding ty w pool ns text_len → IsOpenRun w pool (all_kept ns) run → run ≡ Some o →
@@ -71,6 +71,8 @@ pub run_ended : (ty : ℕ) (w : Walked) (pool : List ℕ) (ns : List Node) (text
     IsBuilding ty (advanced w) pool
     (ns ++ record { ty = t; children = 0; content = run_content o } ∷ [])
     (text_len + o.len)
+    × (all_kept (ns ++ record { ty = t; children = 0; content = run_content o } ∷ [])
+    ≡ length pool)
 run_ended ty w pool ns text_len run o t b h is whole fault told =
     let place : IsOpenAt w pool (all_kept ns) o.kind o.start o.len =
     subst (IsOpenRun w pool (all_kept ns)) is h in
@@ -88,10 +90,13 @@ run_ended ty w pool ns text_len run o t b h is whole fault told =
     let l = run_next w o.kind s place.is_next valid place.are_bytes
     (omega (arith, long, place.spelled)) (fits_length o.kind o.len (length s) long place.fits) in
     let n : Node = record { ty = t; children = 0; content = run_content o } in
-    let node = run_node pool o.kind o.len o.start in
-    rw (← append-nil pool) (leaf_added ty w pool [] ns n text_len o.len
-    (head.leaf (run_leaf o.kind s)) b l (same_Some t.0 l.ty (next ∙ l.next))
-    (rw append-nil
-    (node.shows ∙ ap (λ (x : List ℕ). head.leaf (run_leaf o.kind x)) all.1))
-    (rw append-nil (node.inside (omega (arith, all.0))))
-    (sym (run_text_bytes o.kind s ∙ long)) (omega (arith, place.behind, all.0, node.kept)))
+    let node = run_node pool o.kind o.len o.start in (
+      rw (← append-nil pool) (leaf_added ty w pool [] ns n text_len o.len
+          (head.leaf (run_leaf o.kind s)) b l (same_Some t.0 l.ty (next ∙ l.next))
+          (rw append-nil
+          (node.shows ∙ ap (λ (x : List ℕ). head.leaf (run_leaf o.kind x)) all.1))
+          (rw append-nil (node.inside (omega (arith, all.0))))
+          (sym (run_text_bytes o.kind s ∙ long))
+          (omega (arith, place.behind, all.0, node.kept))),
+      omega (arith, kept_snoc ns n, place.behind, all.0, node.kept),
+    )

@@ -36,26 +36,28 @@ pub record Settles (old : Walked) (before : List Node) (new : Walked) (after : L
     pub entries : (pool : List ℕ) → entries_shown pool after ≡ entries_shown pool before
     pub builds : (ty : ℕ) (pool : List ℕ) (text_len : ℕ) → IsBuilding ty old pool before text_len →
         IsBuilding ty new pool after text_len
+    pub kept : all_kept after ≡ all_kept before
 
 -- an open run is what the pool has from its place on
 abbrev pub pieces_shown : List ℕ → Option OpenRun → Option Pieces
 pieces_shown pool open_run =
     option_map (λ o. record { kind = o.kind; len = o.len; bytes = drop o.start pool }) open_run
 
--- it is next, has no more bytes than it is to have, and lies after the bytes of all nodes
+-- it is next, has no more bytes than it is to have, and begins where the bytes of all nodes end
 pub record IsOpenAt (w : Walked) (pool : List ℕ) (kept : ℕ) (k : RunKind) (start len : ℕ) : Type 0
   where
     pub is_next : next_of w ≡ next.Wants (run_form k)
     pub inside : start ≤ length pool
     pub short : length pool ≤ start + len
-    pub behind : kept ≤ start
+    pub behind : kept ≡ start
     pub are_bytes : AreBytes (drop start pool)
     pub spelled : len < 2 ^ 32
     pub fits : FitsKind k len
 
+-- the pool has exactly the bytes that the nodes keep there and those that came of the open run
 abbrev pub IsOpenRun : Walked → List ℕ → ℕ → Option OpenRun → Type 0
 IsOpenRun w pool kept (Some o) = IsOpenAt w pool kept o.kind o.start o.len
-IsOpenRun w pool kept None = Unit {0}
+IsOpenRun w pool kept None = kept ≡ length pool
 
 -- each turn of the closing loop closed a node that had been opened, so there are no more than
 -- nodes, less those still open

@@ -1,6 +1,7 @@
 //! A value that is built node by node.
 
 ghost use Rattle.std.specs.Prelude.{◌≡◌, ◌≤◌, [], length, true, OnOk, OnErr, IfOk, IfSome, None};
+ghost use Rattle.std.specs.Prelude.{IsSome};
 ghost use Rattle.grammar_core.specs.Runs.{run_form};
 ghost use Rattle.value_core.specs.Begun.{IsBegun};
 ghost use Rattle.value_core.specs.Built.{built_text_bytes, finished, with_piece, with_run_closed};
@@ -223,7 +224,8 @@ impl<'r, A: Allocator> Builder<'r, A> {
     /// Where memory is refused nothing changes.
     #[inline(always)]
     pub fn extend_run(&mut self, piece: &[u8]) -> Result<(), AllocError>
-        requires { IfOk (missing_of self.old) (λ m. length piece.now ≤ m.1) }
+        requires open { IsSome self.old.run }
+        requires lacks { IfOk (missing_of self.old) (λ m. length piece.now ≤ m.1) }
         ensures ok { OnOk result (self.new ≡ with_piece self.old piece.now) }
         ensures err { OnErr result (self.new ≡ self.old) }
     {

@@ -1,8 +1,7 @@
 //! The place in a value that comes next, and what is wanted there: the one thing that says it.
 
-ghost use Rattle.std.specs.Prelude.{◌≡◌, ◌⊎◌, ◌+◌, ◌≤◌, ◌++◌, [], ◌∷◌, length, is_none};
-ghost use Rattle.std.specs.Prelude.{option_map, IfSome, IfNone, IsSome, OnOk, OnErr, vec_len};
-ghost use Rattle.std.specs.Prelude.{vec_capacity};
+ghost use Rattle.std.specs.Prelude.{◌≡◌, ◌⊎◌, ◌+◌, ◌≤◌, ◌++◌, [], ◌∷◌, length, is_none, vec_len};
+ghost use Rattle.std.specs.Prelude.{option_map, IfSome, IfNone, IsSome, OnOk, OnErr, vec_capacity};
 ghost use Rattle.grammar_core.specs.Parts.{first_of, how_many_left};
 ghost use Rattle.widths_core.specs.Steps.{references_of};
 ghost use Rattle.value_core.specs.Ahead.{IsStepOf, elements_in, members_in};
@@ -60,11 +59,7 @@ fn elements_in(step: Step, length: u32) -> Left
     }
 }
 
-/// Appends a frame.
-///
-/// # Errors
-///
-/// `AllocError` if the allocation fails; the frames are unchanged then.
+/// Appends a frame. If the allocation fails, it returns `AllocError`, and the frames are unchanged.
 #[inline(always)]
 fn push_frame<A: Allocator>(frames: &mut GrowVec<Frame, A>, frame: Frame) -> Result<(), AllocError>
     ensures ok { OnOk result (frames.new.list.items ≡ frames.old.list.items ++ frame ∷ []) }
@@ -74,6 +69,11 @@ fn push_frame<A: Allocator>(frames: &mut GrowVec<Frame, A>, frame: Frame) -> Res
     frames.make_room(1, None)?;
     frames.push_reserved(frame);
     Ok(())
+}
+
+/// Returns how many more nodes an open node is expected to bring; 0 if there is none.
+fn expected_of(frame: Option<&Frame>, nodes: &[Node]) -> usize {
+    frame.map_or(0, |frame| frame.expected(nodes))
 }
 
 /// A walk through a value of a type, node by node in the order of their bytes (SCALE codec, "Types": parts stand one
@@ -92,13 +92,12 @@ pub struct Walk<'r, A: Allocator> {
 }
 
 impl<'r, A: Allocator> Model for Walk<'r, A> {
-    ghost use Rattle.std.specs.Prelude.{◌≤◌, ◌+◌, length};
+    ghost use Rattle.std.specs.Prelude.{◌≤◌, ◌+◌, ◌≡◌, length, IfSome};
     ghost use Rattle.value_core.specs.Walked.{Walked};
 
     ghost Value = { Walked };
 
     ghost use Rattle.grammar_core.specs.Parts.{first_of};
-    ghost use Rattle.std.specs.Prelude.{IfSome, ◌≡◌};
     ghost use Rattle.widths_core.specs.Steps.{references_of};
     ghost use Rattle.value_core.specs.Frames.{frames_of, AreWithin};
     ghost use Rattle.node_core.specs.Left.{left_of, IsWithin};
@@ -255,8 +254,8 @@ impl<'r, A: Allocator> Walk<'r, A> {
         Some(node)
     }
 
-    /// Reserves capacity for one more node and for those that the open lists are expected to bring, and for their bytes. It
-    /// returns `AllocError` if an allocation fails; nothing that is there changes.
+    /// Reserves capacity for one more node and for those that the innermost and outermost open lists are expected to bring,
+    /// and for their bytes. It returns `AllocError` if an allocation fails; nothing that is there changes.
     #[cold]
     #[inline(never)]
     pub(crate) fn make_room(
@@ -268,10 +267,11 @@ impl<'r, A: Allocator> Walk<'r, A> {
         ensures pool { pool.new.list.items ≡ pool.old.list.items }
         ensures room { OnOk result (vec_len nodes.new.list + 1 ≤ vec_capacity nodes.new.list) }
     {
-        let mut most = self.top.expected(nodes.as_slice());
-        'frames: for frame in self.around.as_slice() {
-            most = most.max(frame.expected(nodes.as_slice()));
-        }
+        // The first of those around is the root's own part, which brings nothing more.
+        let (around, kept) = (self.around.as_slice(), nodes.as_slice());
+        let inner = expected_of(Some(&self.top), kept).max(expected_of(around.last(), kept));
+        let outer = expected_of(around.get(1), kept).max(expected_of(around.get(2), kept));
+        let most = inner.max(outer).max(expected_of(around.get(3), kept));
         let len = nodes.len();
         if most == 0 || len == 0 {
             return nodes.make_room(1, None);

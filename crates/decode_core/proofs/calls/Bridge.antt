@@ -258,9 +258,9 @@ fed_refused j b piece s last n k held reported_reason at len g le m st =
 -- turns that end for want of memory report that it was wanted after all bytes taken
 pub fed_short : (j : Job) (b piece : List ℕ) (s last : Running) (n k : ℕ) → (g : IsGoing j b s n) →
     k ≤ length (offered j n piece) → Moves s last (take k (offered j n piece)) →
-    WantsMemory last (drop k (offered j n piece)) → RanOut j (b ++ piece) (n + k)
+    WantsMemory last (drop k (offered j n piece)) → IsSound last → RanOut j (b ++ piece) (n + k)
 unfolding here
-fed_short j b piece s last n k g le m w =
+fed_short j b piece s last n k g le m w sound =
     let cut = offered j n piece in
     let h = here j b piece s last n k g m in
     let rest = held_of last ++ drop k cut in
@@ -287,4 +287,5 @@ fed_short j b piece s last n k g le m w =
       led = h.led;
       count = count;
       wants = w;
+      sound = sound;
     }

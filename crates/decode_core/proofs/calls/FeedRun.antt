@@ -4,7 +4,10 @@ use Rattle.std.proofs.Common.{refl, sym, ap, subst, ◌∙◌, arith, inl, inr, 
 use Rattle.std.proofs.Common.{length-drop}
 use Rattle.std.proofs.lemmas.List.{length-take}
 use Rattle.scale_core.specs.Number.{AreBytes}
+use Rattle.scale_core.specs.declared.fault.Reason.TheVariants as scale
+use Rattle.grammar_core.specs.Reading.{Refusal, basic}
 use Rattle.decode_core.specs.Decoding.{HoldsOf, IsDone, IsEnded, IsGoing, RunLed}
+use Rattle.decode_core.specs.Reasons.{reason_of}
 use Rattle.decode_core.specs.Outcome.{Job, more, IsOutcome}
 use Rattle.value_core.specs.Refusals.{is_whole}
 use Rattle.decode_core.specs.Running.{Running, held_of}
@@ -103,7 +106,21 @@ run_short j b piece slice s limit taken k e is (inl g) going f =
     let same : slice ≡ offered j taken piece = is
     ∙ ap (λ (l : ℕ). take (l - taken) piece) (sym e) in
     let at = subst (λ (l : List ℕ). RunsOut s l k) same f in
-    inl (refl, fed_short j b piece s at.1.0 taken k g at.0 at.1.1 at.1.2)
+    inl (refl, fed_short j b piece s at.1.0 taken k g at.0 at.1.1 at.1.2 at.1.3)
+
+-- no bytes are refused for want of memory
+not_memory : (e : Refusal) → reason_of e ≡ reason.OutOfMemory → ⊥
+not_memory (basic scale.Truncated) h = absurd cc
+not_memory (basic _) h = absurd cc
+not_memory _ h = absurd cc
+
+-- so turns that end with a refusal have another reason
+pub refused_has_bytes : (s new : Running) (slice : List ℕ) (k held : ℕ)
+    (reported_reason : DecodeReason) (at len : ℕ) (why : Stopped) → FeedReports s new slice k why →
+    why ≡ stop.Refused held reported_reason at len → reported_reason ≡ reason.OutOfMemory → ⊥
+refused_has_bytes s new slice k held reported_reason at len why f is h =
+    let ends = (subst (FeedReports s new slice k) is f).1.2 in
+    not_memory ends.0 (sym ends.3 ∙ h)
 
 -- ---- how many bytes were taken
 

@@ -183,6 +183,7 @@ ran_out_stays j b piece n h =
       led = h.led;
       count = h.count;
       wants = wants_on h.s h.rest back h.wants;
+      sound = h.sound;
     }
 
 -- what ended stays so

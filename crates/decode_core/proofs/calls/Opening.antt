@@ -2,10 +2,11 @@
 use Rattle.std.proofs.Common.{◌≡◌, ℕ, suc, ◌+◌, ◌-◌, List, [], ◌++◌, length, Ok, Err, refl, sym, ap}
 use Rattle.std.proofs.Common.{subst, ◌∙◌, arith, inl, inr}
 use Rattle.std.specs.Prelude.{Result}
-use Rattle.std.proofs.lemmas.List.{append-nil}
+use Rattle.std.proofs.lemmas.List.{append-nil, length-take}
 use Rattle.value_core.specs.Built.{Built, finished}
 use Rattle.node_core.specs.Shown.{Seen}
-use Rattle.decode_core.specs.Decoding.{AnswersPiece, Decoding, FinishesDecoder, IsEnded, IsGoing}
+use Rattle.decode_core.specs.Decoding.{AnswersPiece, AsksMemory, Decoding, FinishesDecoder, IsEnded}
+use Rattle.decode_core.specs.Decoding.{IsGoing}
 use Rattle.decode_core.specs.Decoding.{IsOf, Led, RunLed, built_tree, first_running}
 use Rattle.decode_core.specs.Machine.{State, start}
 use Rattle.decode_core.specs.Outcome.{Job, done, more, IsOutcome}
@@ -56,6 +57,17 @@ pub ends_refused : (old new : Decoding) (b : List ℕ) (f : DecodeFault) → new
 ends_refused old new b f same h =
     let at_end = subst (λ (l : List ℕ). IsEnded new.job l f new.taken) (append-nil b) h.1 in
     inr (new.taken, subst (λ (j : Job). IsEnded j b f new.taken) same at_end)
+
+-- an empty last piece takes no bytes, also where memory is wanted in it
+pub asks_at_end : (d : Decoding) (n : ℕ) (f : DecodeFault) → AsksMemory d [] n f →
+    AsksMemory d [] d.taken f
+asks_at_end d n f h is = elim (h is) [
+  | inl before ↦ inl before
+  | inr now ↦ let asks = now.2 in
+      let none : d.taken ≡ d.taken + asks.0 =
+      omega (arith, asks.2.0, length-take {A = ℕ} (d.job.bytes - d.taken) []) in
+      inr (now.0, now.1, (asks.0, none, asks.2))
+]
 
 -- where the empty last piece leaves more wanted, the decoder finishes with missing bytes
 pub ends_short : (old new : Decoding) (b : List ℕ) (at : ℕ) → new.job ≡ old.job → at ≡ new.taken →

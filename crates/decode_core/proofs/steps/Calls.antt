@@ -260,6 +260,7 @@ call_runs_out a b d piece at from to n le h t = (
     t.before,
     reached a b t.before piece at n h t.moves,
     last_reports b d piece at from to n turned.OutOfMemory t,
+    t.sound,
   ),
 )
 

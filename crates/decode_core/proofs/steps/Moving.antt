@@ -31,6 +31,7 @@ moves_none s = record {
       append-nil (held_of s);
   reports = λ more. refl;
   level = refl;
+  nodes = omega arith;
 }
 
 -- a value that is the same from one decoder to a second and on to a third is the same throughout
@@ -58,6 +59,7 @@ moves_on a b c x y h k = record {
       ≡ after (state_of c.built).nodes (remain r (state_of c.built) more)) h.same.types
       (k.reports more);
   level = k.level ∙ h.level;
+  nodes = omega (arith, h.nodes, k.nodes);
 }
 
 -- held bytes, the first of a piece and the others are the held ones and the piece
@@ -74,6 +76,7 @@ held_moves a b bytes same state held = record {
   is = sym held;
   reports = λ more. ap (λ (s : State). after s.nodes (remain (types_in a) s more)) (sym state);
   level = ap (λ (s : State). s.room + length s.pending) state;
+  nodes = omega (arith, ap (λ (s : State). length s.nodes) state);
 }
 
 -- a step as a move
@@ -85,6 +88,7 @@ step_moves a b bytes same (inr h) = record {
   is = sym (ap (λ (l : List ℕ). (held_of a ++ bytes) ++ l) h.0 ∙ append-nil (held_of a ++ bytes));
   reports = h.1.reports;
   level = h.1.level;
+  nodes = omega (arith, h.2);
 }
 
 -- it leaves less to do

@@ -124,8 +124,10 @@ held_counts a d piece from to is h =
     (omega (arith, is, same), omega (arith, is, same))
 
 -- memory is wanted for its bytes
-pub held_runs_out : (a : Running) (piece : List ℕ) → WantsMemory a piece → RunsOut a piece 0
-held_runs_out a piece wants = (omega arith, (a, moves_none a, wants))
+pub held_runs_out : (a d : Running) (piece : List ℕ) → WantsMemory a piece → d ≡ a → IsSound d →
+    RunsOut a piece 0
+held_runs_out a d piece wants same sound =
+    (omega arith, (a, moves_none a, wants, subst IsSound same sound))
 
 -- that is one turn too
 pub held_counts_short : (a d : Running) (piece : List ℕ) (from to : ℕ) → to ≡ from + 1 → d ≡ a →

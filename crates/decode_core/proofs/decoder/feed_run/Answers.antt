@@ -1,9 +1,10 @@
-use Rattle.std.proofs.Common.{◌-◌, arith, ap, length}
+use Rattle.std.proofs.Common.{◌-◌, ℕ, List, arith, ap, length, refl, subst}
 use Rattle.std.proofs.lemmas.List.{length-take}
 use Rattle.scale_core.proofs.ReadForms.{are_bytes}
 use Rattle.decode_core.proofs.steps.Counting.{counts_long, counts_refused, counts_short}
 use Rattle.decode_core.proofs.calls.FeedRun.{run_done, run_long, run_more, run_held, run_refused}
-use Rattle.decode_core.proofs.calls.FeedRun.{run_short, takes_refused}
+use Rattle.decode_core.proofs.calls.FeedRun.{refused_has_bytes, run_short, takes_refused}
+use Rattle.decode_core.specs.Turned.{RunsOut}
 use Rattle.decode_core.proofs.decoder.feed_run.Goals as goal
 
 pub returns-in-Wants-clause-answers : goal.returns-in-Wants-clause-answers
@@ -91,3 +92,17 @@ returns-in-Err-clause-answers g c = λ j b e led.
     run_short j b c.args.piece.now c.within-offered.result.now c.args.run.now c.args.limit
     c.args.taken c.in-Err.count e c.within-offered.ensures led (λ w. let no =
     (c.in-Err.ensures.whole w).0 in absurd cc) c.in-Err.ensures.short
+
+pub returns-in-Err-clause-memory : goal.returns-in-Err-clause-memory
+returns-in-Err-clause-memory g c = λ is. (
+  c.in-Err.count,
+  refl,
+  subst (λ (l : List ℕ). RunsOut c.args.run.now l c.in-Err.count) c.within-offered.ensures
+      c.in-Err.ensures.short,
+)
+
+pub returns-in-Refused-clause-memory : goal.returns-in-Refused-clause-memory
+returns-in-Refused-clause-memory g c = λ is.
+    absurd (refused_has_bytes c.args.run.now c.feed.new.self c.within-offered.result.now
+    c.in-Ok.fed.0 c.in-Refused.held c.in-Refused.reason c.in-Refused.at c.in-Refused.len
+    c.in-Ok.fed.1 c.in-Ok.ensures.reports c.in-Refused.is is)

@@ -1,7 +1,8 @@
 use Rattle.std.proofs.Common.{◌≡◌, ◌+◌, ◌++◌, Ok, Err}
 use Rattle.std.specs.Prelude.{Result}
 use Rattle.decode_core.specs.Viewed.{job_within}
-use Rattle.decode_core.specs.Decoding.{Decoding, IsSmall, RunCounted, RunLed, closing_turns}
+use Rattle.decode_core.specs.Decoding.{AsksMemory, Decoding, IsSmall, RunCounted, RunLed}
+use Rattle.decode_core.specs.Decoding.{closing_turns}
 use Rattle.decode_core.specs.Running.{Running}
 use Rattle.decode_core.specs.declared.fault.DecodeFault.{DecodeFault}
 use Rattle.std.proofs.Common.{refl, sym, ap, arith, subst, inl, inr}
@@ -39,6 +40,12 @@ returns-in-Ended-clause-answers g c = λ b led.
       subst (RunLed (job_within d) (b ++ c.args.piece.now) c.in-Ended.taken)
           (sym c.give_up.ensures.after) ended,
     )
+
+pub returns-in-Ended-clause-memory : goal.returns-in-Ended-clause-memory
+returns-in-Ended-clause-memory g c =
+    subst (λ (d : Decoding). AsksMemory d c.args.piece.now c.in-Ended.taken c.in-Ended.fault)
+    c.self.view_is
+    (λ is. inr (_, c.in-Ok.is, c.in-Ended.ensures.memory is))
 
 pub returns-in-More-clause-held : goal.returns-in-More-clause-held
 returns-in-More-clause-held g c = λ b led.

@@ -7,7 +7,8 @@ use Rattle.value_core.specs.Refusals.{is_whole}
 use Rattle.node_core.specs.Shown.{Seen}
 use Rattle.decode_core.specs.Running.{Running}
 use Rattle.decode_core.specs.declared.decoder.Progress.{Progress}
-use Rattle.decode_core.proofs.calls.Opening.{ends_by, ends_refused, ends_short, ends_whole}
+use Rattle.decode_core.proofs.calls.Opening.{asks_at_end, ends_by, ends_refused, ends_short}
+use Rattle.decode_core.proofs.calls.Opening.{ends_whole}
 use Rattle.decode_core.proofs.calls.Opening.{same_run}
 use Rattle.decode_core.proofs.steps.Sound.{value_small}
 use Rattle.decode_core.proofs.decoder.Decoder.finish.Goals as goal
@@ -38,6 +39,13 @@ returns-in_err-feed-clause-finishes g c = λ b led.
     c.from_residual-in_err-feed.ensures.1 in
     rw (p.1, p.2) (ends_refused c.args.self c.feed.new.self b c.in_err-feed.field-0.0
     c.in_err-feed.ensures.job (c.in_err-feed.ensures.answers b led).0)
+
+pub returns-in_err-feed-clause-memory : goal.returns-in_err-feed-clause-memory
+returns-in_err-feed-clause-memory g c =
+    let p = err_from_is_err_and c.from_residual-in_err-feed.result
+    c.from_residual-in_err-feed.ensures.1 in
+    rw (p.1, p.2) (asks_at_end c.args.self c.feed.new.self.taken c.in_err-feed.field-0.0
+    c.in_err-feed.ensures.memory)
 
 pub returns-in-More-clause-finishes : goal.returns-in-More-clause-finishes
 returns-in-More-clause-finishes g c = λ b led.

@@ -20,7 +20,8 @@ returns-in-OutOfMemory g c =
     let short = c.in-OutOfMemory.ensures in
     record {
       reports = tt;
-      short = held_runs_out c.args.self.now c.args.piece.now short.0;
+      short = held_runs_out c.args.self.now c.hold.new.self c.args.piece.now short.0 short.1
+          c.is_on_its_way-in-OutOfMemory.ensures;
       whole = λ w. wants_goes_on c.args.self.now short.0.form short.0.next w;
       counts = held_counts_short c.args.self.now c.hold.new.self c.args.piece.now
           c.args.turns.now.so_far c.tick-in-OutOfMemory.new.self.so_far

@@ -1,10 +1,11 @@
-use Rattle.std.proofs.Common.{rules, ◌∙◌, ◌+◌, ◌^◌, ◌<◌, refl, ap, [], length}
+use Rattle.std.proofs.Common.{rules, ◌∙◌, ◌+◌, ◌^◌, ◌<◌, ◌∷◌, refl, ap, [], length}
+use Rattle.grammar_core.specs.Parts.{each}
 use Rattle.node_core.specs.Leaves.{leaf_head, leaf_text_bytes}
 use Rattle.node_core.specs.Shown.{head_shown}
 use Rattle.node_core.specs.declared.node.Node.{Node}
 use Rattle.value_core.specs.Built.{Built}
-use Rattle.value_core.proofs.AtOnce.{around_by, around_paid, around_shows, begun_by}
-use Rattle.value_core.proofs.Closing.{none_open, settled_again, settled_paid}
+use Rattle.value_core.proofs.AtOnce.{around_by, around_kept, around_paid, around_shows, begun_by}
+use Rattle.value_core.proofs.Closing.{none_open, settled_again, settled_paid, stays_exact}
 use Rattle.value_core.proofs.Leaves.{texts_fit}
 use Rattle.value_core.proofs.builder.Builder.add_around.Goals as goal
 
@@ -45,7 +46,16 @@ invariant_of-self-2 g c =
             c.push_reserved.ensures.items,
             c.close.ensures,
           ) b.0),
-      rw closed tt,
+      stays_exact _ _ _ _ _ _ _ closed c.self.invariant.1
+          (rw (
+            c.settle.ensures.settles.kept,
+            c.push_reserved-2.ensures.items,
+            c.push_reserved.ensures.items,
+            c.close.ensures,
+          )
+          (around_kept c.args.self.now.walk c.self.inside.pool.list.items
+          c.keep.new.pool.list.items c.self.inside.nodes.list.items n c.args.part c.args.leaf _
+          (each (c.args.part.0 ∷ [])) c.requires.next c.in_ok-content.ensures.ok)),
       rw c.settle.ensures.walk (settled_again c.advance.new.self),
       settled_paid _ _ _ _ _ _ c.settle.ensures.settles c.settle.ensures.walk c.settle.ensures.turns
           (rw (

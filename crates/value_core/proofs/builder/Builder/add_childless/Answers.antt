@@ -1,10 +1,10 @@
-use Rattle.std.proofs.Common.{◌∙◌, refl, ap, []}
+use Rattle.std.proofs.Common.{◌∙◌, ◌+◌, ℕ, length, refl, ap, []}
 use Rattle.node_core.specs.Left.{left_of}
 use Rattle.node_core.specs.Shown.{head_shown}
 use Rattle.node_core.specs.declared.node.Node.{Node}
 use Rattle.value_core.specs.Built.{Built}
-use Rattle.value_core.proofs.AtOnce.{childless_by, childless_paid, childless_shows}
-use Rattle.value_core.proofs.Closing.{none_open, settled_again, settled_paid}
+use Rattle.value_core.proofs.AtOnce.{childless_by, childless_paid, childless_shows, sized_kept}
+use Rattle.value_core.proofs.Closing.{none_open, settled_again, settled_paid, stays_exact}
 use Rattle.value_core.proofs.builder.Builder.add_childless.Goals as goal
 
 pub settle-requires : goal.settle-requires
@@ -34,7 +34,16 @@ invariant_of-self-2 g c =
             c.append_node.ensures.pool,
             c.close.ensures,
           ) b.0),
-      rw closed tt,
+      stays_exact _ _ _ _ _ _ _ closed c.self.invariant.1
+          (rw (
+            c.settle.ensures.settles.kept,
+            c.in_ok-append_node.ensures.ok,
+            c.append_node.ensures.pool,
+            c.close.ensures,
+          )
+          (ap (λ (k : ℕ). k + length c.self.inside.pool.list.items)
+          (sized_kept c.args.self.now.walk c.self.inside.nodes.list.items n 1
+          (left_of c.args.self.now.walk.types c.args.left) c.requires.next))),
       rw c.settle.ensures.walk (settled_again c.advance.new.self),
       settled_paid _ _ _ _ _ _ c.settle.ensures.settles c.settle.ensures.walk c.settle.ensures.turns
           (rw (

@@ -2,7 +2,7 @@ use Rattle.std.proofs.Common.{rules, ◌≡◌, ◌^◌, ◌<◌, ◌≤◌, len
 use Rattle.value_core.specs.Built.{Built, IsNextLeaf, with_leaf}
 use Rattle.value_core.specs.Walked.{advanced, elements_after, next_of}
 use Rattle.node_core.specs.Leaves.{leaf_head}
-use Rattle.value_core.proofs.Closing.{none_open}
+use Rattle.value_core.proofs.Closing.{none_open, stays_exact}
 use Rattle.value_core.proofs.Elements.{next_again, none_closed, stays_open}
 use Rattle.value_core.proofs.Leaves.{leaf_appended, texts_fit}
 use Rattle.value_core.proofs.builder.Builder.add_element.Goals as goal
@@ -21,7 +21,7 @@ invariant_of-self-2 g c =
     let closed = none_open c.self.inside.pool.list.items c.self.inside.open_run
     (ap (λ (b : Built). b.run) c.self.view_is ∙ c.requires.closed) in (
       rw (c.pass_element.ensures, c.text_len.ensures) with.builds,
-      rw closed tt,
+      stays_exact _ _ _ _ _ _ _ closed c.self.invariant.1 with.kept,
       rw (c.pass_element.ensures, stays_open c.self.inside.walk.frames follows) refl,
       rw c.pass_element.ensures (with.paid c.self.inside.turns.so_far c.self.invariant.3),
     )

@@ -1,7 +1,7 @@
 use Rattle.std.proofs.Common.{rules, ◌+◌, ◌^◌, ◌<◌, length, ◌∙◌, sym, ap, subst, refl}
 use Rattle.value_core.specs.Built.{Built, IsNextLeaf, with_leaf}
 use Rattle.node_core.specs.Leaves.{leaf_head, leaf_text_bytes}
-use Rattle.value_core.proofs.Closing.{none_open, settled_again, settled_paid}
+use Rattle.value_core.proofs.Closing.{none_open, settled_again, settled_paid, stays_exact}
 use Rattle.value_core.proofs.Leaves.{leaf_appended, texts_fit}
 use Rattle.value_core.proofs.builder.Builder.add_leaf.Goals as goal
 
@@ -33,7 +33,8 @@ invariant_of-self-2 g c =
     (ap (λ (b : Built). b.run) c.self.view_is ∙ c.requires.closed) in (
       c.settle.ensures.settles.builds _ _ _
           (rw (c.advance.ensures, c.text_len.ensures) with.builds),
-      rw closed tt,
+      stays_exact _ _ _ _ _ _ _ closed c.self.invariant.1
+          (rw c.settle.ensures.settles.kept with.kept),
       rw c.settle.ensures.walk (settled_again c.advance.new.self),
       settled_paid _ _ _ _ _ _ c.settle.ensures.settles c.settle.ensures.walk c.settle.ensures.turns
           (rw c.advance.ensures

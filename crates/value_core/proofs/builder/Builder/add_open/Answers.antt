@@ -1,11 +1,12 @@
-use Rattle.std.proofs.Common.{◌≡◌, ◌∙◌, sym, ap, subst, [], length}
+use Rattle.std.proofs.Common.{◌≡◌, ◌∙◌, ◌+◌, ℕ, sym, ap, subst, [], length}
 use Rattle.value_core.specs.Built.{Built, IsNextOpen}
 use Rattle.node_core.specs.Left.{left_of}
 use Rattle.node_core.specs.Shown.{head_shown}
 use Rattle.node_core.specs.declared.node.Node.{Node}
 use Rattle.value_core.proofs.Ahead.{type_at}
-use Rattle.value_core.proofs.Adding.{open_added}
+use Rattle.value_core.proofs.Adding.{open_added, open_kept}
 use Rattle.value_core.proofs.Closing.{none_open, open_paid, settled_again, settled_paid}
+use Rattle.value_core.proofs.Closing.{stays_exact}
 use Rattle.value_core.proofs.builder.Builder.add_open.Goals as goal
 
 pub settle-requires : goal.settle-requires
@@ -59,7 +60,16 @@ invariant_of-self-2 g c =
             c.make_room.ensures.nodes,
             c.make_room.ensures.pool,
           ) b),
-      rw closed tt,
+      stays_exact _ _ _ _ _ _ _ closed c.self.invariant.1
+          (rw (
+            c.settle.ensures.settles.kept,
+            c.push_reserved.ensures.items,
+            c.make_room.ensures.nodes,
+            c.make_room.ensures.pool,
+          )
+          (ap (λ (k : ℕ). k + length c.self.inside.pool.list.items)
+          (open_kept c.self.inside.walk c.self.inside.nodes.list.items n
+          (left_of c.self.inside.walk.types c.args.left) l))),
       rw c.settle.ensures.walk (settled_again c.enter.new.self),
       settled_paid _ _ _ _ _ _ c.settle.ensures.settles c.settle.ensures.walk c.settle.ensures.turns
           (rw (c.in_ok-enter.ensures.ok, c.push_reserved.ensures.items, c.make_room.ensures.nodes)

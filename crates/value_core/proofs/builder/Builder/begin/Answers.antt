@@ -6,7 +6,7 @@ pub invariant_of-result : goal.invariant_of-result
 invariant_of-result g c = (
   rw (c.new.ensures, c.new-pool.ensures.items, c.new-nodes.ensures.items)
       (nothing_built c.args.root.0 c.args.checked.now.types c.args.depth),
-  tt,
+  rw (c.new-pool.ensures.items, c.new-nodes.ensures.items) refl,
   rw c.new.ensures refl,
   rw (c.new.ensures, c.new-nodes.ensures.items) (omega (arith, c.new-2.ensures)),
 )

@@ -1,4 +1,5 @@
-use Rattle.std.proofs.Common.{rules, ◌≡◌, ◌+◌, ◌^◌, ◌<◌, length, arith, None, IfSome, sym, subst}
+use Rattle.std.proofs.Common.{rules, ◌≡◌, ◌∙◌, ◌+◌, ◌^◌, ◌<◌, length, arith, None, IfSome, sym}
+use Rattle.std.proofs.Common.{subst}
 use Rattle.value_core.specs.Built.{Built}
 use Rattle.value_core.specs.Building.{IsOpenRun}
 use Rattle.value_core.specs.Refusals.{IsRunWhole, bad_text}
@@ -20,7 +21,7 @@ settle-requires g c =
       c.self.inside.root.0,
       c.self.inside.pool.list.items,
       c.self.inside.text_len + c.in-Some.open.len,
-      rw (c.advance.ensures, c.in_ok-append_node.ensures.ok, c.content.ensures) b,
+      rw (c.advance.ensures, c.in_ok-append_node.ensures.ok, c.content.ensures) b.0,
     )
 
 pub invariant_of-self-2 : goal.invariant_of-self-2
@@ -38,8 +39,9 @@ invariant_of-self-2 g c =
             c.in_ok-append_node.ensures.ok,
             c.append_node.ensures.pool,
             c.content.ensures,
-          ) b),
-      tt,
+          ) b.0),
+      c.settle.ensures.settles.kept
+          ∙ rw (c.in_ok-append_node.ensures.ok, c.append_node.ensures.pool, c.content.ensures) b.1,
       rw c.settle.ensures.walk (settled_again c.advance.new.self),
       settled_paid _ _ _ _ _ _ c.settle.ensures.settles c.settle.ensures.walk c.settle.ensures.turns
           (rw (c.advance.ensures, c.in_ok-append_node.ensures.ok, c.content.ensures)

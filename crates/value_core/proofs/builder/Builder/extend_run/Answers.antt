@@ -1,5 +1,5 @@
 use Rattle.std.proofs.Common.{◌∙◌, ◌≤◌, length, ap, sym, subst, refl}
-use Rattle.std.specs.Prelude.{IfOk}
+use Rattle.std.specs.Prelude.{IfOk, IsSome}
 use Rattle.scale_core.proofs.ReadForms.{are_bytes}
 use Rattle.value_core.specs.Built.{Built, with_piece}
 use Rattle.value_core.specs.Refusals.{missing_of}
@@ -9,11 +9,12 @@ use Rattle.value_core.proofs.builder.Builder.extend_run.Goals as goal
 
 pub invariant_of-self-2 : goal.invariant_of-self-2
 invariant_of-self-2 g c =
+    let some = subst (λ (b : Built). IsSome b.run) (sym c.self.view_is) c.requires.open in
     let lacks = subst (λ (b : Built). IfOk (missing_of b) (λ m. length c.args.piece.now ≤ m.1))
-    (sym c.self.view_is) c.requires in
+    (sym c.self.view_is) c.requires.lacks in
     let o = open_longer c.self.inside.walk c.self.inside.pool.list.items c.args.piece.now
     (all_kept c.self.inside.nodes.list.items) c.self.inside.open_run
-    (are_bytes c.args.piece.now (λ i. (c.type_inv.piece i).fits)) c.self.invariant.1 lacks in
+    (are_bytes c.args.piece.now (λ i. (c.type_inv.piece i).fits)) c.self.invariant.1 some lacks in
     rw c.in_ok-put_piece.ensures.ok (
       bytes_added _ _ c.self.inside.pool.list.items c.args.piece.now c.self.inside.nodes.list.items
           c.self.inside.text_len c.self.invariant.0,
@@ -24,11 +25,12 @@ invariant_of-self-2 g c =
 
 pub returns-clause-ok : goal.returns-clause-ok
 returns-clause-ok g c =
+    let some = subst (λ (b : Built). IsSome b.run) (sym c.self.view_is) c.requires.open in
     let lacks = subst (λ (b : Built). IfOk (missing_of b) (λ m. length c.args.piece.now ≤ m.1))
-    (sym c.self.view_is) c.requires in
+    (sym c.self.view_is) c.requires.lacks in
     let o = open_longer c.self.inside.walk c.self.inside.pool.list.items c.args.piece.now
     (all_kept c.self.inside.nodes.list.items) c.self.inside.open_run
-    (are_bytes c.args.piece.now (λ i. (c.type_inv.piece i).fits)) c.self.invariant.1 lacks in
+    (are_bytes c.args.piece.now (λ i. (c.type_inv.piece i).fits)) c.self.invariant.1 some lacks in
     (rw (
       c.in_ok-put_piece.ensures.ok,
       longer_entries c.self.inside.pool.list.items c.args.piece.now c.self.inside.nodes.list.items
