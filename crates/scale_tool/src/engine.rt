@@ -2,10 +2,12 @@
 
 ghost use Rattle.std.specs.Prelude.{◌≡◌, ◌≤◌, ◌⊎◌, List, true, None, Some, IfOk, IfErr, IfSome};
 ghost use Rattle.std.specs.Prelude.{IsErrOf, string_bytes};
-ghost use Rattle.std.specs.Io.KnownBytes.{Keeps};
 ghost use Rattle.registry_core.specs.declared.type_info.TypeInfo.{TypeInfo};
-ghost use Rattle.scale_tool.specs.Answer.{HasJobType, IsServed, OnText, ReadsNoValue, WritesAll};
-ghost use Rattle.scale_tool.specs.Answer.{WritesFront, line_of, types_text, types_with, value_text};
+ghost use Rattle.stream_core.specs.Streaming.{FailsAfter};
+ghost use Rattle.scale_tool.specs.Answer.{HasJobType, IsServed, OnText, ReadsNoValue, StopsJob};
+ghost use Rattle.scale_tool.specs.Answer.{StopsValue, WritesAll, WritesFront, line_of, types_text};
+ghost use Rattle.scale_tool.specs.Answer.{types_with, value_text};
+ghost use Rattle.scale_tool.specs.Devices.{FailsReading, FailsWriting};
 ghost use Rattle.scale_tool.specs.Refused.{status_of};
 
 use crate::early_exit::unopened;
@@ -15,9 +17,9 @@ use crate::task::Job;
 use crate::value::read_value;
 use json_core::json_text;
 use scale_calls::{push_type_lines, version_line};
-use scale_core::{Sink, Source};
+use scale_core::{ReadOnce, Sink, Source, WriteOnce};
 use std::alloc::{AllocError, Global};
-use std::io::{Read, Write};
+use std::io::Write;
 use value_core::{Value, send};
 
 /// The text of a value's JSON and a line feed.
@@ -30,7 +32,7 @@ fn line_text(alloc: Global, value: &Value<'_, Global>) -> Result<String, AllocEr
 }
 
 /// The line of the metadata's version, where the registry stands in metadata, and the lines of the types.
-fn types_text<R: Read>(
+fn types_text<R: ReadOnce>(
     alloc: Global,
     metadata: bool,
     registry: &mut Source<R>,
@@ -40,7 +42,8 @@ fn types_text<R: Read>(
     ensures refused { IfErr result (λ e. status_of e ≡ 1 →
         IfSome (R.remaining registry.old.device) (λ r. types_text metadata r ≡ None)) }
     ensures device { IfErr result (λ e. status_of e ≡ 3 → e ≡ Refusal.RegistryDevice) }
-    ensures reported { IsErrOf result Refusal.RegistryDevice → registry.new.failed ≡ true }
+    ensures reported { IsErrOf result Refusal.RegistryDevice →
+        FailsReading R.reads registry.old registry.new }
     ensures quiet { IsErrOf result Refusal.RegistryDevice
         ⊎ (registry.new.failed ≡ registry.old.failed) }
 {
@@ -51,7 +54,7 @@ fn types_text<R: Read>(
 }
 
 /// The line of a value.
-fn value_text<R: Read, V: Read>(
+fn value_text<R: ReadOnce, V: ReadOnce>(
     alloc: Global,
     metadata: bool,
     hex: bool,
@@ -67,8 +70,12 @@ fn value_text<R: Read, V: Read>(
     ensures refused { IfErr result (λ e. status_of e ≡ 1 →
         IfSome (R.remaining registry.old.device) (λ r. IfSome (V.remaining value.old.device)
         (λ v. value_text metadata hex id depth r v ≡ None))) }
-    ensures registry_failed { IsErrOf result Refusal.RegistryDevice → registry.new.failed ≡ true }
-    ensures value_failed { IsErrOf result Refusal.ValueDevice → value.new.failed ≡ true }
+    ensures registry_failed { IsErrOf result Refusal.RegistryDevice →
+        FailsReading R.reads registry.old registry.new }
+    ensures value_failed { IsErrOf result Refusal.ValueDevice → (value.new.failed ≡ true)
+        × StopsValue metadata hex id depth (R.remaining registry.old.device)
+        (FailsAfter V.reads value.old.device value.new.device)
+        (V.remaining value.old.device) (V.remaining value.new.device) }
     ensures registry { IsErrOf result Refusal.RegistryDevice
         ⊎ (registry.new.failed ≡ registry.old.failed) }
     ensures value { IsErrOf result Refusal.ValueDevice ⊎ (value.new.failed ≡ value.old.failed) }
@@ -82,7 +89,7 @@ fn value_text<R: Read, V: Read>(
 }
 
 /// The text that the job writes.
-fn answer<R: Read, V: Read>(
+fn answer<R: ReadOnce, V: ReadOnce>(
     alloc: Global,
     job: Job,
     registry: &mut Source<R>,
@@ -94,8 +101,12 @@ fn answer<R: Read, V: Read>(
     ensures refused { IfErr result (λ e. status_of e ≡ 1 →
         OnText job (R.remaining registry.old.device) (V.remaining value.old.device)
         (λ t. t ≡ None)) }
-    ensures registry_failed { IsErrOf result Refusal.RegistryDevice → registry.new.failed ≡ true }
-    ensures value_failed { IsErrOf result Refusal.ValueDevice → value.new.failed ≡ true }
+    ensures registry_failed { IsErrOf result Refusal.RegistryDevice →
+        FailsReading R.reads registry.old registry.new }
+    ensures value_failed { IsErrOf result Refusal.ValueDevice → (value.new.failed ≡ true)
+        × StopsJob job (R.remaining registry.old.device)
+        (FailsAfter V.reads value.old.device value.new.device)
+        (V.remaining value.old.device) (V.remaining value.new.device) }
     ensures registry { IsErrOf result Refusal.RegistryDevice
         ⊎ (registry.new.failed ≡ registry.old.failed) }
     ensures value { IsErrOf result Refusal.ValueDevice ⊎ (value.new.failed ≡ value.old.failed) }
@@ -140,9 +151,10 @@ fn refuse<E: Write>(alloc: Global, refusal: Refusal, err: &mut Sink<E>) -> u8
 /// refused, or the registry's device fails, no byte of the value is touched.
 ///
 /// The status is 1 where the registry, the type or the value is refused, 3 where a read or a write failed, or a write
-/// took nothing, and 4 where memory was refused. With 1 and 4 nothing was written to `out`, and with 3 a beginning of
-/// the text may stand there. A failed write to `err` changes no status.
-pub fn run<R: Read, V: Read, W: Write, E: Write>(
+/// took nothing, and 4 where memory was refused. The value's raw bytes are read in pieces, so a failed read counts only
+/// while the bytes before it leave the answer open. Without 0 nothing was written to `out`, unless a write to it failed:
+/// then a beginning of the text may stand there. A failed write to `err` changes no status.
+pub fn run<R: ReadOnce, V: ReadOnce, W: WriteOnce, E: Write>(
     alloc: Global,
     job: Job,
     registry: &mut Source<R>,
@@ -163,16 +175,19 @@ pub fn run<R: Read, V: Read, W: Write, E: Write>(
         OnText job (R.remaining registry.old.device) (V.remaining value.old.device)
         (λ text. text ≡ None) }
 
-    // What stands on `out` without 0: nothing new, or a beginning of the text after a failure.
-    ensures silent { (result ≡ 1) ⊎ (result ≡ 4) →
-        Keeps (W.contents out.old.device) (W.contents out.new.device) }
-    ensures front { result ≡ 3 →
-        OnText job (R.remaining registry.old.device) (V.remaining value.old.device)
-        (λ text. WritesFront text (W.contents out.old.device) (W.contents out.new.device)) }
+    // Without 0 `out` is untouched; or, with 3 alone, a write to it failed, and a beginning of the text may stand there.
+    ensures silent { (result ≡ 1) ⊎ (result ≡ 4) → out.new ≡ out.old }
+    ensures front { result ≡ 3 → (out.new ≡ out.old) ⊎ (FailsWriting W.writes out.new
+        × OnText job (R.remaining registry.old.device) (V.remaining value.old.device)
+        (λ text. WritesFront text (W.contents out.old.device) (W.contents out.new.device))) }
 
-    // 3 only where a device failed, and no other answer says so.
-    ensures device { result ≡ 3 →
-        (registry.new.failed ≡ true) ⊎ ((value.new.failed ≡ true) ⊎ (out.new.failed ≡ true)) }
+    // 3 only where a device failed, and no other answer says so. A failed read of the value's bytes counts only while
+    // those that were read before it leave the answer open.
+    ensures device { result ≡ 3 → FailsReading R.reads registry.old registry.new
+        ⊎ (((value.new.failed ≡ true) × StopsJob job (R.remaining registry.old.device)
+        (FailsAfter V.reads value.old.device value.new.device)
+        (V.remaining value.old.device) (V.remaining value.new.device))
+        ⊎ FailsWriting W.writes out.new) }
     ensures quiet { (result ≡ 3)
         ⊎ ((registry.new.failed ≡ registry.old.failed) × (value.new.failed ≡ value.old.failed)
         × (out.new.failed ≡ out.old.failed)) }

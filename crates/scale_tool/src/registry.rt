@@ -4,15 +4,15 @@ ghost use Rattle.std.specs.Prelude.{◌≡◌, ◌⊎◌, ◌<◌, length, true,
 ghost use Rattle.std.specs.Prelude.{IsErrOf};
 ghost use Rattle.scale_calls.specs.Opened.{checked_of, file_version};
 ghost use Rattle.scale_tool.specs.Answer.{types_with, with_position};
+ghost use Rattle.scale_tool.specs.Devices.{FailsReading};
 ghost use Rattle.scale_tool.specs.Refused.{status_of, status_of_registry};
 
 use crate::gathering::{GatherFault, gather_all};
 use crate::refusal::Refusal;
 use registry_core::{TypeId, Version};
 use scale_calls::{RegistryRefusal, open_registry};
-use scale_core::Source;
+use scale_core::{ReadOnce, Source};
 use std::alloc::Global;
-use std::io::Read;
 use widths_core::Checked;
 
 /// The registry that all the bytes hold, checked, and of metadata the version.
@@ -30,7 +30,7 @@ fn checked_registry(
 }
 
 /// The registry that the source holds, checked, and of metadata the version.
-pub(crate) fn read_types<R: Read>(
+pub(crate) fn read_types<R: ReadOnce>(
     alloc: Global,
     metadata: bool,
     source: &mut Source<R>,
@@ -42,7 +42,8 @@ pub(crate) fn read_types<R: Read>(
     ensures refused { IfErr result (λ e. status_of e ≡ 1 →
         IfSome (R.remaining source.old.device) (λ bytes. checked_of metadata bytes ≡ None)) }
     ensures device { IfErr result (λ e. status_of e ≡ 3 → e ≡ Refusal.RegistryDevice) }
-    ensures reported { IsErrOf result Refusal.RegistryDevice → source.new.failed ≡ true }
+    ensures reported { IsErrOf result Refusal.RegistryDevice →
+        FailsReading R.reads source.old source.new }
     ensures quiet { IsErrOf result Refusal.RegistryDevice
         ⊎ (source.new.failed ≡ source.old.failed) }
 {
@@ -67,7 +68,7 @@ fn with_position(checked: Checked, id: u32) -> Result<Checked, Refusal>
 }
 
 /// The registry that the source holds, checked, where the position is one of its types.
-pub(crate) fn read_types_with<R: Read>(
+pub(crate) fn read_types_with<R: ReadOnce>(
     alloc: Global,
     metadata: bool,
     id: u32,
@@ -79,7 +80,8 @@ pub(crate) fn read_types_with<R: Read>(
     ensures refused { IfErr result (λ e. status_of e ≡ 1 →
         IfSome (R.remaining source.old.device) (λ bytes. types_with metadata id bytes ≡ None)) }
     ensures device { IfErr result (λ e. status_of e ≡ 3 → e ≡ Refusal.RegistryDevice) }
-    ensures reported { IsErrOf result Refusal.RegistryDevice → source.new.failed ≡ true }
+    ensures reported { IsErrOf result Refusal.RegistryDevice →
+        FailsReading R.reads source.old source.new }
     ensures quiet { IsErrOf result Refusal.RegistryDevice
         ⊎ (source.new.failed ≡ source.old.failed) }
 {

@@ -1,0 +1,16 @@
+-- Calls on a device of which the last one failed.
+use Rattle.std.specs.Prelude.{◌≡◌, ℕ, List, true}
+use Rattle.scale_core.specs.Stream.{Watched}
+use Rattle.scale_core.specs.declared.sink.SinkFault.{SinkFault}
+use Rattle.node_core.specs.Failed.{Meets, WriteOf}
+use Rattle.stream_core.specs.Streaming.{FailsAfter, ReadOf}
+
+-- some reads gave bytes, or none was made, and the next one answered an error
+abbrev pub FailsReading : {R : Type 0} → ReadOf R → Watched R → Watched R → Type 0
+FailsReading reads old new = (new.failed ≡ true)
+    × ((b : List ℕ) × FailsAfter reads old.device new.device b)
+
+-- the last write answered an error, or took nothing
+abbrev pub FailsWriting : {W : Type 0} → WriteOf W → Watched W → Type 0
+FailsWriting writes new = (new.failed ≡ true)
+    × ((reason : SinkFault) × Meets writes reason new.device)
