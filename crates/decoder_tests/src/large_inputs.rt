@@ -79,33 +79,52 @@ fn check_feed(
     Ok(())
 }
 
-// A piece of 5000 bytes, and one of 1 MiB.
+/// All bytes are taken in pieces of 1000, and the value has so many nodes and bytes of text.
+fn check_pieces(
+    rt: &impl Abort,
+    alloc: Global,
+    checked: &Checked,
+    ty: u32,
+    bytes: &[u8],
+    counts: (u64, u64),
+) -> Result<(), Fail> {
+    let mut decoder = open(alloc, checked, ty, AMPLE)?;
+    let mut done = false;
+    'pieces: for piece in bytes.chunks(1000) {
+        same(rt, done, false);
+        done = feed(&mut decoder, piece)? != Progress::More;
+    }
+    let value = finish(decoder).ok().ok_or("no value")?;
+    same(rt, (value.node_count(), value.text_bytes()), counts);
+    let back = written(alloc, &value)?;
+    same(rt, back.as_slice() == bytes, true);
+    Ok(())
+}
+
+// A piece of 5000 bytes, and one of 8 MiB, whole and in pieces of 1000 bytes.
 #[test]
 fn a_long_piece_is_taken_at_once(rt: HostRuntime) -> Result<(), Fail> {
     let bytes = checked(rt.alloc(), BYTES)?;
     let text = checked(rt.alloc(), TEXT)?;
-    'lengths: for (count, len) in [(4_998, 5_000), (1_048_572, 1_048_576)] {
+    'lengths: for (count, len) in [(4_998, 5_000), (8_388_604, 8_388_608)] {
         let input = letters(rt.alloc(), count, count)?;
         same(&rt, input.len(), len);
         let counts = (1, u64::from(count));
         check_feed(&rt, rt.alloc(), &bytes, 1, &input, counts)?;
+        check_pieces(&rt, rt.alloc(), &bytes, 1, &input, counts)?;
         check_feed(&rt, rt.alloc(), &text, 0, &input, counts)?;
+        check_pieces(&rt, rt.alloc(), &text, 0, &input, counts)?;
     }
     Ok(())
 }
 
-// A sequence of 100,000 words has 100,001 nodes.
+// A sequence of 1,100,000 words has more than 2^20 nodes. The program takes 3,000,000 (examples/check).
 #[test]
 fn many_nodes_are_finished(rt: HostRuntime) -> Result<(), Fail> {
     let checked = checked(rt.alloc(), WORDS)?;
-    let input = letters(rt.alloc(), 100_000, 200_000)?;
-    check_feed(&rt, rt.alloc(), &checked, 1, &input, (100_001, 0))
+    let input = letters(rt.alloc(), 1_100_000, 2_200_000)?;
+    check_feed(&rt, rt.alloc(), &checked, 1, &input, (1_100_001, 0))
 }
-
-const DEEPEST: Limits = Limits {
-    depth: 1024,
-    bytes: 2048,
-};
 
 /// So many arms that hold another, and one that holds none.
 fn arms(alloc: Global, count: u16) -> Result<Vec<u8>, AllocError> {
@@ -126,19 +145,28 @@ fn next_arm<'v, 'r>(rt: &impl Abort, node: &NodeRef<'v, 'r>) -> Result<NodeRef<'
     Ok(child)
 }
 
+/// A chain of arms down to this depth is taken where the limit is as great.
+fn check_depth(rt: &impl Abort, alloc: Global, checked: &Checked, depth: u16) -> Result<(), Fail> {
+    let input = arms(alloc, depth)?;
+    let limits = Limits { depth, bytes: 2048 };
+    let value = value_of(rt, alloc, checked, (0, limits), &input)?;
+    same(rt, value.node_count(), u64::from(depth) + 1);
+    let mut node = value.root();
+    'levels: for _ in 0..depth {
+        node = next_arm(rt, &node)?;
+    }
+    same(rt, node.what(), What::Arm { position: 0 });
+    same(rt, node.children().next().is_none(), true);
+    Ok(())
+}
+
 // The root has depth 0, so the last of 1025 nodes has depth 1024.
 #[test]
-fn the_deepest_value_is_taken(rt: HostRuntime) -> Result<(), Fail> {
+fn deep_values_are_taken(rt: HostRuntime) -> Result<(), Fail> {
     let checked = checked(rt.alloc(), CHAIN)?;
-    let input = arms(rt.alloc(), 1024)?;
-    let value = value_of(&rt, rt.alloc(), &checked, (0, DEEPEST), &input)?;
-    same(&rt, value.node_count(), 1025);
-    let mut node = value.root();
-    'levels: for _ in 0..1024 {
-        node = next_arm(&rt, &node)?;
+    'depths: for depth in [66, 100, 500, 1000, 1022, 1024] {
+        check_depth(&rt, rt.alloc(), &checked, depth)?;
     }
-    same(&rt, node.what(), What::Arm { position: 0 });
-    same(&rt, node.children().next().is_none(), true);
     Ok(())
 }
 
@@ -245,14 +273,14 @@ fn counts_are_no_nodes(rt: HostRuntime) -> Result<(), Fail> {
     Ok(())
 }
 
-// A text of 70,000 letters is shown between two quotes.
+// A text of 8 MiB is shown between two quotes.
 #[test]
 fn a_long_text_is_shown(rt: HostRuntime) -> Result<(), Fail> {
     let checked = checked(rt.alloc(), TEXT)?;
-    let input = letters(rt.alloc(), 70_000, 70_000)?;
+    let input = letters(rt.alloc(), 8_388_608, 8_388_608)?;
     let value = value_of(&rt, rt.alloc(), &checked, (0, AMPLE), &input)?;
     let text = printed(rt.alloc(), &value)?;
-    same(&rt, text.len(), 70_002);
+    same(&rt, text.len(), 8_388_610);
     same(
         &rt,
         text.first() == Some(&b'"') && text.last() == Some(&b'"'),
@@ -260,7 +288,7 @@ fn a_long_text_is_shown(rt: HostRuntime) -> Result<(), Fail> {
     );
     same(
         &rt,
-        text.as_slice().get(1..70_001) == input.as_slice().get(4..),
+        text.as_slice().get(1..8_388_609) == input.as_slice().get(4..),
         true,
     );
     Ok(())
@@ -277,14 +305,14 @@ fn shown_letters(alloc: Global, count: u32) -> Result<String, AllocError> {
     Ok(shown)
 }
 
-// A run of 70,000 bytes is shown by two digits each, after the mark of hexadecimal digits.
+// A run of 4 MiB is shown by two digits each, after the mark of hexadecimal digits.
 #[test]
 fn a_long_run_is_shown(rt: HostRuntime) -> Result<(), Fail> {
     let checked = checked(rt.alloc(), BYTES)?;
-    let input = letters(rt.alloc(), 70_000, 70_000)?;
+    let input = letters(rt.alloc(), 4_194_304, 4_194_304)?;
     let value = value_of(&rt, rt.alloc(), &checked, (1, AMPLE), &input)?;
     let text = shown(rt.alloc(), &value)?;
-    let wanted = shown_letters(rt.alloc(), 70_000)?;
+    let wanted = shown_letters(rt.alloc(), 4_194_304)?;
     same(&rt, text.as_str() == wanted.as_str(), true);
     Ok(())
 }

@@ -45,15 +45,15 @@ fn check_registry(rt: &impl Abort, alloc: Global, bytes: &[u8], types: u32) -> R
     check_metadata(rt, alloc, bytes, types)
 }
 
-// The documentation of one type is a text of 70,000 letters.
+// The documentation of one type is a text of 3,000,000 letters.
 #[test]
 fn a_long_text_is_read(rt: HostRuntime) -> Result<(), Fail> {
     let mut bytes = Vec::from_slice(rt.alloc(), b"\x04\x00\x00\x00\x05\x03\x04")?;
-    write_compact(&mut bytes, 70_000)?;
-    'letters: for _ in 0..70_000 {
+    write_compact(&mut bytes, 3_000_000)?;
+    'letters: for _ in 0..3_000_000 {
         bytes.push(b'a')?;
     }
-    same(&rt, bytes.len(), 70_011);
+    same(&rt, bytes.len(), 3_000_011);
     check_registry(&rt, rt.alloc(), &bytes, 1)
 }
 
@@ -70,8 +70,38 @@ fn many_types(alloc: Global, count: u32) -> Result<Vec<u8>, AllocError> {
 
 #[test]
 fn many_types_are_read(rt: HostRuntime) -> Result<(), Fail> {
-    let bytes = many_types(rt.alloc(), 65_537)?;
-    check_registry(&rt, rt.alloc(), &bytes, 65_537)
+    let bytes = many_types(rt.alloc(), 200_000)?;
+    check_registry(&rt, rt.alloc(), &bytes, 200_000)
+}
+
+/// A variant of so many arms, none of which has a name; each has a field of the type itself, but for the first.
+fn many_arms(alloc: Global, count: u32) -> Result<Vec<u8>, AllocError> {
+    let mut bytes = Vec::from_slice(alloc, b"\x04\x00\x00\x00\x01")?;
+    write_compact(&mut bytes, u128::from(count))?;
+    'arms: for arm in 0..count {
+        let field = if arm == 0 {
+            b"\x00".as_slice()
+        } else {
+            b"\x04\x00\x00\x00\x00"
+        };
+        bytes.push(0)?;
+        bytes.extend_from_slice(field)?;
+        bytes.extend_from_slice(&[(arm % 256) as u8, 0])?;
+    }
+    bytes.push(0)?;
+    Ok(bytes)
+}
+
+#[test]
+fn many_arms_are_read(rt: HostRuntime) -> Result<(), Fail> {
+    let bytes = many_arms(rt.alloc(), 100_000)?;
+    let registry = read_whole(&rt, rt.alloc(), &bytes, 1)?;
+    let Ok(checked) = Checked::new(rt.alloc(), registry) else {
+        return Err("no checked registry")?;
+    };
+    same(&rt, checked.class(TypeId(0)), Some(Class::Sized));
+    same(&rt, checked.widest(), 1);
+    Ok(())
 }
 
 /// 65,537 types, of which the last is a sequence of the greatest id that there is.
