@@ -7,6 +7,7 @@ mod engine;
 mod gathering;
 mod hex_text;
 mod jobs;
+pub mod laws;
 mod refusal;
 mod registry;
 mod task;
