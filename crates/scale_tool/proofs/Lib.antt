@@ -5,3 +5,4 @@ pub mod Entered
 pub mod Unnamed
 pub mod HexPlaces
 pub mod Decoded
+pub mod Reports

@@ -9,6 +9,7 @@ mod hex_text;
 mod jobs;
 mod refusal;
 mod registry;
+mod report;
 mod task;
 mod value;
 
