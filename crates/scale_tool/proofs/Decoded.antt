@@ -8,7 +8,7 @@ use Rattle.grammar_core.specs.declared.limits.Limits.{Limits}
 use Rattle.node_core.specs.Shown.{Seen}
 use Rattle.decode_core.specs.Decoding.{FinishesDecoder, opening_fault}
 use Rattle.decode_core.specs.Outcome.{Job}
-use Rattle.stream_core.specs.Streaming.{Forbids, Streams, job_of}
+use Rattle.stream_core.specs.Streaming.{Forbids, StopsOpen, Streams, job_of}
 use Rattle.decode_core.specs.declared.fault.DecodeFault.{DecodeFault}
 use Rattle.decode_core.specs.declared.fault.DecodeReason.{DecodeReason}
 use Rattle.decode_core.specs.declared.fault.DecodeReason.TheVariants as reason
@@ -27,8 +27,9 @@ use Rattle.scale_tool.specs.Refused.{status_of_value}
 use Rattle.scale_tool.specs.declared.refusal.BytesRefusal.{BytesRefusal}
 use Rattle.scale_tool.specs.declared.refusal.BytesRefusal.TheVariants as bytes
 use Rattle.scale_tool.specs.declared.refusal.ValueRefusal.{ValueRefusal as FileRefusal}
+use Rattle.scale_tool.specs.declared.refusal.ValueRefusal.TheVariants as value
 use Rattle.scale_tool.specs.HexText.{hex_bytes}
-use Rattle.scale_tool.specs.Values.{ReportsBytes, ReportsFile, decoding, reported}
+use Rattle.scale_tool.specs.Values.{ReportsBytes, ReportsFile, StopsFile, decoding, reported}
 use Rattle.scale_tool.specs.Values.{value_bytes}
 use Rattle.scale_tool.specs.Values.{value_of_type}
 
@@ -235,6 +236,42 @@ pub stream_opens : (id depth : ℕ) (types : List TypeInfo) (limits : Limits) (f
 stream_opens id depth types limits f is known served h why opened =
     only_memory (opening_fault types id (made depth)) why (none_forbids id depth types known served)
     (subst (λ l. Forbids (opening_fault types id l) why) is (h why opened))
+
+-- ---- a failed read
+
+-- a decoder's fault is not reported as the device's
+not_device : (r : DecodeReason) (f : DecodeFault) →
+    bytes_in_value (bytes_refusal_by r f) ≡ value.Device → ⊥
+not_device reason.Truncated f is = cc
+not_device reason.BadBool f is = cc
+not_device reason.BadChar f is = cc
+not_device reason.BadUtf8 f is = cc
+not_device reason.CompactNotShortest f is = cc
+not_device reason.CompactTooLarge f is = cc
+not_device reason.NoSuchVariant f is = cc
+not_device reason.TooDeep f is = cc
+not_device reason.NoFiniteValue f is = cc
+not_device reason.BitSequence f is = cc
+not_device reason.BadCompact f is = cc
+not_device reason.TooLong f is = cc
+not_device reason.OutOfMemory f is = cc
+
+-- so the device is reported only where a reader's fault is its own
+is_device : (f : StreamFault) → stream_refusal f ≡ value.Device → f ≡ stream.Device
+is_device (stream.Open e) is = cc
+is_device (stream.Decode f) is = absurd (not_device f.reason f is)
+is_device (stream.TrailingBytes at) is = cc
+is_device stream.Device is = refl
+
+-- and then the bytes that were read before leave the answer open
+pub stream_stops : (fails : List ℕ → Type 0) (known left : Option (List ℕ)) (id depth : ℕ)
+    (types : List TypeInfo) (limits : Limits) (f : StreamFault) → limits ≡ made depth →
+    stream_refusal f ≡ value.Device →
+    (f ≡ stream.Device → StopsOpen (job_of types id limits) fails known left) →
+    StopsFile false (decoding id depth types) fails known left
+stream_stops fails known left id depth types limits f is failed h =
+    subst (λ (l : Limits). StopsOpen (job_of types id l) fails known left) is
+    (h (is_device f failed))
 
 -- ---- the value of a text of digits
 

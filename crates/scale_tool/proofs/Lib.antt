@@ -6,3 +6,4 @@ pub mod Unnamed
 pub mod HexDigits
 pub mod HexPlaces
 pub mod Decoded
+pub mod Reports

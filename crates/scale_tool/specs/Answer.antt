@@ -1,13 +1,13 @@
 -- What the command writes for its job.
 use Rattle.std.specs.Prelude.{◌≡◌, ◌≤◌, nat_lt, if◌then◌else◌, ℕ, List, [], ◌∷◌, ◌++◌, length, take}
-use Rattle.std.specs.Prelude.{Option, Some, None, Bool, option_map, option_and_then}
+use Rattle.std.specs.Prelude.{Option, Some, None, Bool, option_map, option_and_then, IfSome}
 use Rattle.std.specs.Io.KnownBytes.{Appends, Keeps}
 use Rattle.registry_core.specs.declared.type_info.TypeInfo.{TypeInfo}
 use Rattle.scale_calls.specs.Lines.{type_lines, version_line}
 use Rattle.scale_calls.specs.Opened.{checked_of, file_version}
 use Rattle.json_core.specs.Json.{json_text}
 use Rattle.node_core.specs.Shown.{Seen}
-use Rattle.scale_tool.specs.Values.{file_value}
+use Rattle.scale_tool.specs.Values.{StopsFile, decoding, file_value}
 use Rattle.scale_tool.specs.declared.task.Job.{Job}
 use Rattle.scale_tool.specs.declared.task.Job.TheVariants as job
 
@@ -62,6 +62,20 @@ HasJobType (job.Types metadata) registry = ⊥
 HasJobType (job.Decode id metadata hex depth) None = Unit {0}
 HasJobType (job.Decode id metadata hex depth) (Some registry) = (types : List TypeInfo)
     × (types_with metadata id registry ≡ Some types)
+
+-- a read of a value failed, of the type at a position of a registry that isn't refused
+abbrev pub StopsValue : Bool → Bool → ℕ → ℕ → Option (List ℕ) → (List ℕ → Type 0) →
+    Option (List ℕ) → Option (List ℕ) → Type 0
+StopsValue metadata hex id depth registry fails known left = (types : List TypeInfo)
+    × IfSome registry (λ r. types_with metadata id r ≡ Some types)
+    × StopsFile hex (decoding id depth types) fails known left
+
+-- a read of the job's value failed
+abbrev pub StopsJob : Job → Option (List ℕ) → (List ℕ → Type 0) → Option (List ℕ) →
+    Option (List ℕ) → Type 0
+StopsJob (job.Types metadata) registry fails known left = ⊥
+StopsJob (job.Decode id metadata hex depth) registry fails known left =
+    StopsValue metadata hex id depth registry fails known left
 
 -- the job goes by its registry alone
 abbrev pub ReadsNoValue : Job → Type 0

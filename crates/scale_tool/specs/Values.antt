@@ -5,7 +5,7 @@ use Rattle.registry_core.specs.declared.type_info.TypeInfo.{TypeInfo}
 use Rattle.node_core.specs.Shown.{Seen}
 use Rattle.decode_core.specs.Outcome as decoder
 use Rattle.decode_core.specs.Decoding.{FinishesDecoder}
-use Rattle.stream_core.specs.Streaming.{Trails}
+use Rattle.stream_core.specs.Streaming.{StopsOpen, Trails}
 use Rattle.scale_calls.specs.Values as calls
 use Rattle.scale_tool.specs.HexText.{hex_bytes}
 use Rattle.scale_tool.specs.Refused.{status_of_bytes, status_of_value}
@@ -64,3 +64,10 @@ ReportsFile hex j file (value.TrailingBytes at) = (b : List ℕ) × (value_bytes
     × Trails j at b
 ReportsFile hex j file value.Device = Unit {0}
 ReportsFile hex j file value.Memory = Unit {0}
+
+-- a read of a value's file failed: those before it gave bytes that leave the answer open; or they
+-- gave digits, of which all are read before any answer
+abbrev pub StopsFile : Bool → decoder.Job → (List ℕ → Type 0) → Option (List ℕ) →
+    Option (List ℕ) → Type 0
+StopsFile true j fails known left = (b : List ℕ) × fails b
+StopsFile false j fails known left = StopsOpen j fails known left

@@ -1,13 +1,14 @@
 //! All bytes of a source, gathered in a vector.
 
 ghost use Rattle.std.specs.Prelude.{◌≡◌, ◌+◌, ◌++◌, ◌<◌, ◌≤◌, ◌⊎◌, true, length, vec_len, IfOk};
-ghost use Rattle.std.specs.Prelude.{IfSome, OnOk, IsErrOf};
+ghost use Rattle.std.specs.Prelude.{IfSome, OnOk, IsErrOf, Some};
 ghost use Rattle.std.specs.Io.KnownBytes.{IsAtEnd};
+ghost use Rattle.stream_core.specs.Streaming.{FailsAt};
+ghost use Rattle.scale_tool.specs.Devices.{FailsReading};
 ghost use Rattle.scale_tool.specs.Moved.{LeavesReader};
 
-use scale_core::Source;
+use scale_core::{ReadOnce, Source};
 use std::alloc::Global;
-use std::io::Read;
 
 /// How many bytes one read asks for at most.
 const PIECE: usize = 4096;
@@ -22,7 +23,7 @@ pub(crate) enum GatherFault {
 }
 
 /// One read into the part, whose bytes are appended: how many there were, where 0 is the end.
-fn pull_onto<R: Read>(
+fn pull_onto<R: ReadOnce>(
     source: &mut Source<R>,
     part: &mut [u8],
     out: &mut Vec<u8>,
@@ -33,6 +34,10 @@ fn pull_onto<R: Read>(
         (R.remaining source.new.device) out.old.items out.new.items n) }
     ensures grown { IfOk result (λ n. vec_len out.new ≡ vec_len out.old + n) }
     ensures end { IfOk result (λ n. n ≡ 0 → IsAtEnd (R.remaining source.new.device)) }
+    ensures once { IfOk result
+        (λ n. R.reads source.old.device part.old (Some n) part.new source.new.device) }
+    ensures stopped { IsErrOf result GatherFault.Device →
+        FailsAt R.reads source.old.device source.new.device }
     ensures reported { IsErrOf result GatherFault.Device → source.new.failed ≡ true }
     ensures quiet { IsErrOf result GatherFault.Device ⊎ (source.new.failed ≡ source.old.failed) }
 {
@@ -46,13 +51,14 @@ fn pull_onto<R: Read>(
 }
 
 /// Appends all bytes that are left.
-pub(crate) fn gather_all<R: Read>(
+pub(crate) fn gather_all<R: ReadOnce>(
     source: &mut Source<R>,
     out: &mut Vec<u8>,
 ) -> Result<(), GatherFault>
     ensures ok { OnOk result (IfSome (R.remaining source.old.device)
         (λ bytes. out.new.items ≡ out.old.items ++ bytes)) }
-    ensures reported { IsErrOf result GatherFault.Device → source.new.failed ≡ true }
+    ensures reported { IsErrOf result GatherFault.Device →
+        FailsReading R.reads source.old source.new }
     ensures quiet { IsErrOf result GatherFault.Device ⊎ (source.new.failed ≡ source.old.failed) }
 {
     let mut part = [0u8; PIECE];

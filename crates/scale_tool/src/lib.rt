@@ -10,6 +10,7 @@ mod jobs;
 pub mod laws;
 mod refusal;
 mod registry;
+mod report;
 mod task;
 mod value;
 

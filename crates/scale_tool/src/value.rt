@@ -4,8 +4,9 @@ ghost use Rattle.std.specs.Prelude.{◌≡◌, ◌⊎◌, ◌<◌, ◌≤◌, le
 ghost use Rattle.std.specs.Prelude.{IsErrOf};
 ghost use Rattle.scale_tool.specs.Refused.{IsOfBytes, calls_refusal, stream_refusal};
 ghost use Rattle.scale_tool.specs.Values.{ReadsBytes, ReadsFileValue, ReportsBytes, ReportsFile};
-ghost use Rattle.scale_tool.specs.Values.{decoding};
+ghost use Rattle.scale_tool.specs.Values.{StopsFile, decoding};
 ghost use Rattle.scale_tool.specs.Values.{file_value, value_of_type};
+ghost use Rattle.stream_core.specs.Streaming.{FailsAfter};
 ghost use Rattle.decode_core.specs.declared.fault.OpenFault.{OpenFault as AnOpenFault};
 
 use crate::gathering::gather_all;
@@ -14,9 +15,8 @@ use crate::refusal::{BytesRefusal, ValueRefusal};
 use decode_core::OpenFault;
 use registry_core::TypeId;
 use scale_calls as calls;
-use scale_core::Source;
+use scale_core::{ReadOnce, Source};
 use std::alloc::Global;
-use std::io::Read;
 use stream_core::{StreamFault, decode_all};
 use value_core::{Limits, Value};
 use widths_core::Checked;
@@ -60,7 +60,7 @@ fn of_calls(refusal: calls::ValueRefusal) -> BytesRefusal
 }
 
 /// The value that all bytes of the source spell.
-fn read_raw<'r, V: Read>(
+fn read_raw<'r, V: ReadOnce>(
     alloc: Global,
     checked: &'r Checked,
     id: u32,
@@ -73,6 +73,10 @@ fn read_raw<'r, V: Read>(
         (λ file. ReadsFileValue (file_value false id depth checked.now.types file) result) }
     ensures reports { IfErr result (λ e. IfSome (V.remaining source.old.device)
         (λ file. ReportsFile false (decoding id depth checked.now.types) file e)) }
+    ensures stopped { IsErrOf result ValueRefusal.Device →
+        StopsFile false (decoding id depth checked.now.types)
+        (FailsAfter V.reads source.old.device source.new.device)
+        (V.remaining source.old.device) (V.remaining source.new.device) }
     ensures reported { IsErrOf result ValueRefusal.Device → source.new.failed ≡ true }
     ensures quiet { IsErrOf result ValueRefusal.Device ⊎ (source.new.failed ≡ source.old.failed) }
 {
@@ -102,7 +106,7 @@ fn value_of<'r>(
 }
 
 /// The value that all the bytes spell whose digits the text holds.
-fn read_hex<'r, V: Read>(
+fn read_hex<'r, V: ReadOnce>(
     alloc: Global,
     checked: &'r Checked,
     id: u32,
@@ -115,6 +119,10 @@ fn read_hex<'r, V: Read>(
         (λ file. ReadsFileValue (file_value true id depth checked.now.types file) result) }
     ensures reports { IfErr result (λ e. IfSome (V.remaining source.old.device)
         (λ file. ReportsFile true (decoding id depth checked.now.types) file e)) }
+    ensures stopped { IsErrOf result ValueRefusal.Device →
+        StopsFile true (decoding id depth checked.now.types)
+        (FailsAfter V.reads source.old.device source.new.device)
+        (V.remaining source.old.device) (V.remaining source.new.device) }
     ensures reported { IsErrOf result ValueRefusal.Device → source.new.failed ≡ true }
     ensures quiet { IsErrOf result ValueRefusal.Device ⊎ (source.new.failed ≡ source.old.failed) }
 {
@@ -133,7 +141,7 @@ fn read_hex<'r, V: Read>(
 /// Refuses, with places from the value's first byte: what the decoder refuses in the bytes as `Fault`, and bytes after
 /// the value as `TrailingBytes` at the value's length; with places in the text, a text that holds no bytes as `Hex`; a
 /// failed read as `Device`; and want of memory as `Memory`.
-pub(crate) fn read_value<'r, V: Read>(
+pub(crate) fn read_value<'r, V: ReadOnce>(
     alloc: Global,
     checked: &'r Checked,
     id: u32,
@@ -147,6 +155,10 @@ pub(crate) fn read_value<'r, V: Read>(
         (λ file. ReadsFileValue (file_value hex id depth checked.now.types file) result) }
     ensures reports { IfErr result (λ e. IfSome (V.remaining source.old.device)
         (λ file. ReportsFile hex (decoding id depth checked.now.types) file e)) }
+    ensures stopped { IsErrOf result ValueRefusal.Device →
+        StopsFile hex (decoding id depth checked.now.types)
+        (FailsAfter V.reads source.old.device source.new.device)
+        (V.remaining source.old.device) (V.remaining source.new.device) }
     ensures reported { IsErrOf result ValueRefusal.Device → source.new.failed ≡ true }
     ensures quiet { IsErrOf result ValueRefusal.Device ⊎ (source.new.failed ≡ source.old.failed) }
 {

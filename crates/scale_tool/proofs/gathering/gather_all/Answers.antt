@@ -1,6 +1,15 @@
-use Rattle.std.proofs.Common.{rules, arith, ◌-◌, vec_len}
+use Rattle.std.proofs.Common.{rules, arith, ◌-◌, ◌++◌, [], refl, suc, take, vec_len}
+use Rattle.stream_core.proofs.Streaming.{gives_next}
 use Rattle.scale_tool.proofs.Moves.{takes_next, takes_all}
 use Rattle.scale_tool.proofs.gathering.gather_all.Goals as goal
+
+pub pieces-init : goal.pieces-init
+pieces-init g c = record {
+  grown = search rules;
+  taken = search rules;
+  given = ([], 0, (refl, refl));
+  quiet = refl;
+}
 
 pub returns-then-branch-eq0-clause-ok : goal.returns-then-branch-eq0-clause-ok
 returns-then-branch-eq0-clause-ok g c =
@@ -17,5 +26,13 @@ pieces-preserved g c = record {
       c.in_ok-pull_onto.field-0 _
       (omega (arith, c.in_ok-pull_onto.ensures.grown, c.pieces.invariant.grown))
       c.pieces.invariant.taken c.in_ok-pull_onto.ensures.bytes;
+  given = (
+    c.pieces.invariant.given.0 ++ take c.in_ok-pull_onto.field-0 c.pull_onto.new.part,
+    suc c.pieces.invariant.given.1,
+    gives_next g.R.ReadOnce.reads c.args.source.now.device c.pieces.invariant.given.1
+        c.pieces.invariant.given.0 c.pieces.source.device _ c.in_ok-pull_onto.field-0
+        c.pull_onto.new.part c.pull_onto.new.source.device c.pieces.invariant.given.2
+        c.in_ok-pull_onto.ensures.once,
+  );
   quiet = search rules;
 }

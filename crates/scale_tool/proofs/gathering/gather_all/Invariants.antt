@@ -1,4 +1,5 @@
-use Rattle.std.proofs.Common.{◌≡◌, ◌-◌, ◌≤◌, ◌^◌, vec_len}
+use Rattle.std.proofs.Common.{◌≡◌, ◌-◌, ◌≤◌, ◌^◌, ℕ, List, vec_len}
+use Rattle.stream_core.specs.Streaming.{Gives}
 use Rattle.scale_tool.specs.Moved.{LeavesReader}
 use Rattle.scale_tool.proofs.gathering.gather_all.Given as goal
 
@@ -7,6 +8,8 @@ invariant-pieces g l = record {
   grown : vec_len l.fn.out ≤ vec_len l.out;
   taken : LeavesReader (g.R.Read.remaining l.fn.source.device) (g.R.Read.remaining l.source.device)
       l.fn.out.items l.out.items (vec_len l.out - vec_len l.fn.out);
+  given : (b : List ℕ) × (k : ℕ)
+      × Gives g.R.ReadOnce.reads l.fn.source.device k b l.source.device;
   quiet : l.source.failed ≡ l.fn.source.failed;
 }
 

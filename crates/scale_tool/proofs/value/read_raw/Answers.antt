@@ -1,9 +1,10 @@
-use Rattle.std.proofs.Common.{◌≡◌, Err, None, ap, false}
+use Rattle.std.proofs.Common.{◌≡◌, ◌∙◌, Err, None, ap, false, sym}
 use Rattle.std.specs.Prelude.{⊤}
 use Rattle.scale_tool.specs.Refused.{status_of_value}
 use Rattle.scale_tool.specs.Values.{ReportsFile, decoding, value_of_type}
 use Rattle.scale_tool.proofs.Decoded.{stream_fault, stream_opens, stream_reports, stream_value}
-use Rattle.scale_tool.proofs.Decoded.{where_known}
+use Rattle.scale_tool.proofs.Decoded.{stream_stops, where_known}
+use Rattle.scale_tool.specs.declared.refusal.ValueRefusal.TheVariants as value
 use Rattle.scale_tool.proofs.value.read_raw.Goals as goal
 
 pub returns-in-Ok-clause-value : goal.returns-in-Ok-clause-value
@@ -29,6 +30,13 @@ returns-in-Err-clause-reports g c =
     (stream_reports _ _ c.args.id c.args.depth c.args.checked.now.types c.limits.result b
     c.in-Err.fault c.limits.ensures c.requires.known c.requires.depth h))
     c.in-Err.ensures.answers
+
+pub returns-in-Err-clause-stopped : goal.returns-in-Err-clause-stopped
+returns-in-Err-clause-stopped g c = λ failed.
+    let same : c.of_stream.result ≡ value.Device = cc in
+    stream_stops _ _ _ c.args.id c.args.depth c.args.checked.now.types c.limits.result
+    c.in-Err.fault c.limits.ensures (sym c.of_stream.ensures ∙ same)
+    (λ is. c.in-Err.ensures.stopped (ap Err is))
 
 pub of_stream-requires : goal.of_stream-requires
 of_stream-requires g c =
