@@ -108,7 +108,7 @@ over_byte : (ys zs : List ℕ) (y byte : ℕ) → y ≡ byte →
     back_over (ys ++ y ∷ zs) (suc (length ys)) byte ≡ length ys
 over_byte ys zs y byte same = at_byte (ys ++ y ∷ zs) (suc (length ys)) byte true (omega arith)
     (ap (λ (n : ℕ). n == byte) (before_place ys zs y) ∙ eq-eqb y byte same)
-        ∙ omega arith
+    ∙ omega arith
 
 -- and stays where it is another
 before_other : (ys zs : List ℕ) (y byte : ℕ) → (y == byte) ≡ false →
@@ -132,10 +132,10 @@ end_of_other ys y other =
     let text : List ℕ = ys ++ y ∷ [] in
     let stays : back_over text (length text) 10 ≡ length text =
     ap (λ (n : ℕ). back_over text n 10) (one_more ys y) ∙ before_other ys [] y 10 other
-        ∙ sym (one_more ys y) in
+    ∙ sym (one_more ys y) in
     end_by text (length text) stays
-        ∙ ap (λ (b : Bool). cond b (length text) (back_over text (length text) 13))
-        (eq-eqb (length text) (length text) refl)
+    ∙ ap (λ (b : Bool). cond b (length text) (back_over text (length text) 13))
+    (eq-eqb (length text) (length text) refl)
 
 -- and one that does ends where a carriage return before it begins, or where it does
 end_of_line : (ys : List ℕ) → digits_end (ys ++ 10 ∷ []) ≡ back_over (ys ++ 10 ∷ []) (length ys) 13
@@ -144,8 +144,8 @@ end_of_line ys =
     let goes : back_over text (length text) 10 ≡ length ys =
     ap (λ (n : ℕ). back_over text n 10) (one_more ys 10) ∙ over_byte ys [] 10 10 refl in
     end_by text (length ys) goes
-        ∙ ap (λ (b : Bool). cond b (length text) (back_over text (length ys) 13))
-        (ne_eqb (length ys) (length text) (λ e. absurd (omega (arith, e, one_more ys 10))))
+    ∙ ap (λ (b : Bool). cond b (length text) (back_over text (length ys) 13))
+    (ne_eqb (length ys) (length text) (λ e. absurd (omega (arith, e, one_more ys 10))))
 
 -- two ways to join a list of two behind another
 two_more : (ys : List ℕ) (y z : ℕ) → (ys ++ y ∷ []) ++ z ∷ [] ≡ ys ++ y ∷ z ∷ []
@@ -188,8 +188,8 @@ feed_is ys = elim (last_of ys) [
   two zs z false is =
       let dropped : drop (suc (length zs)) (zs ++ z ∷ 10 ∷ []) ≡ 10 ∷ [] =
       ap (λ (n : ℕ). drop n (zs ++ z ∷ 10 ∷ [])) (sym (one_more zs z))
-          ∙ ap (drop (length (zs ++ z ∷ []))) (sym (two_more zs z 10))
-          ∙ after (zs ++ z ∷ []) (10 ∷ []) in
+      ∙ ap (drop (length (zs ++ z ∷ []))) (sym (two_more zs z 10))
+      ∙ after (zs ++ z ∷ []) (10 ∷ []) in
       line_at (zs ++ z ∷ 10 ∷ []) (suc (length zs)) (end_of_two zs z false is) (inr (inl dropped))
 
 -- what is left behind the digits is a line end
@@ -200,7 +200,8 @@ line_end_is rest = elim (last_of rest) [
       (by h.0 h.1 (h.1 == 10) refl)
 ] where
   all : (xs : List ℕ) → drop (length xs) xs ≡ []
-  all xs = ap (drop (length xs)) (sym append-nil) ∙ after xs []
+  all xs = ap (drop (length xs)) (sym (append-nil xs)) ∙ after xs []
+
   by : (ys : List ℕ) (y : ℕ) (t : Bool) → (y == 10) ≡ t →
       IsLineEnd (drop (digits_end (ys ++ y ∷ [])) (ys ++ y ∷ []))
   by ys y true is = subst (λ (c : ℕ). IsLineEnd (drop (digits_end (ys ++ c ∷ [])) (ys ++ c ∷ [])))
@@ -236,22 +237,22 @@ last_digit (high ∷ low ∷ rest) (b ∷ bytes) h (a ∷ c ∷ ys) y e =
 digits_end_is : (digits bytes end : List ℕ) → AreDigits digits bytes → IsLineEnd end →
     digits_end (digits ++ end) ≡ length digits
 digits_end_is digits bytes end h line = elim line [
-  | inl e ↦ ap (λ (r : List ℕ). digits_end (digits ++ r)) e ∙ ap digits_end append-nil
+  | inl e ↦ ap (λ (r : List ℕ). digits_end (digits ++ r)) e ∙ ap digits_end (append-nil digits)
       ∙ elim (last_of digits) [
         | inl none ↦ rw none refl
         | inr last ↦ let d = last_digit digits bytes h last.0 last.1 last.2 in
             ap digits_end last.2
-                ∙ end_of_other last.0 last.1 (is_other last.1 10 d.0 refl d.1)
-                ∙ ap length (sym last.2)
+            ∙ end_of_other last.0 last.1 (is_other last.1 10 d.0 refl d.1)
+            ∙ ap length (sym last.2)
       ]
   | inr line ↦ elim line [
     | inl e ↦ ap (λ (r : List ℕ). digits_end (digits ++ r)) e ∙ elim (last_of digits) [
       | inl none ↦ rw none refl
       | inr last ↦ let d = last_digit digits bytes h last.0 last.1 last.2 in
           ap (λ (r : List ℕ). digits_end (r ++ 10 ∷ [])) last.2
-              ∙ ap digits_end (two_more last.0 last.1 10)
-              ∙ end_of_two last.0 last.1 false (is_other last.1 13 d.0 refl d.1)
-              ∙ sym (one_more last.0 last.1) ∙ ap length (sym last.2)
+          ∙ ap digits_end (two_more last.0 last.1 10)
+          ∙ end_of_two last.0 last.1 false (is_other last.1 13 d.0 refl d.1)
+          ∙ sym (one_more last.0 last.1) ∙ ap length (sym last.2)
     ]
     | inr e ↦ ap (λ (r : List ℕ). digits_end (digits ++ r)) e ∙ end_of_two digits 13 true refl
   ]
@@ -271,12 +272,12 @@ no_mark (digit ∷ []) bytes end h line = absurd h
 no_mark (high ∷ low ∷ rest) [] end h line = absurd h
 no_mark (high ∷ low ∷ rest) (b ∷ bytes) end h line =
     by (bytes_eq (codes "0x") (high ∷ low ∷ [])) refl where
-  by : (t : Bool) → bytes_eq (codes "0x") (high ∷ low ∷ []) ≡ t → t ≡ false
-  by false e = refl
-  by true e = let same = (bytes_eq-Decides (codes "0x") (high ∷ low ∷ [])).0 e in
-      let x : low ≡ 120 = cc in
-      let none : hex_digit_value low ≡ None =
-      subst (λ (y : ℕ). hex_digit_value y ≡ None) (sym x) refl in absurd cc
+      by : (t : Bool) → bytes_eq (codes "0x") (high ∷ low ∷ []) ≡ t → t ≡ false
+      by false e = refl
+      by true e = let same = (bytes_eq-Decides (codes "0x") (high ∷ low ∷ [])).0 e in
+          let x : low ≡ 120 = cc in
+          let none : hex_digit_value low ≡ None =
+          subst (λ (y : ℕ). hex_digit_value y ≡ None) (sym x) refl in absurd cc
 
 -- how long the mark is
 prefix_is : (front digits end bytes : List ℕ) → IsMark front → AreDigits digits bytes →
@@ -299,10 +300,13 @@ unfolding hex_bytes
 hex_is_read text bytes = (to, from) where
   start : ℕ
   start = prefix_len text
+
   rest : List ℕ
   rest = drop start text
+
   end : ℕ
   end = digits_end rest
+
   to : hex_bytes text ≡ Ok bytes → IsHexText text bytes
   to e =
       let decoded = unplaced start (start + end) (decode_of (take end rest)) bytes e in
@@ -317,6 +321,7 @@ hex_is_read text bytes = (to, from) where
         digits_of 0 (take end rest) bytes pairs,
         line_end_is rest,
       )
+
   from : IsHexText text bytes → hex_bytes text ≡ Ok bytes
   from h = rw h.3 (by h.0 h.1 h.2 h.4 h.5 h.6) where
     by : (front digits line : List ℕ) → IsMark front → AreDigits digits bytes → IsLineEnd line →
@@ -326,5 +331,5 @@ hex_is_read text bytes = (to, from) where
         (sym (prefix_is front digits line bytes mark are ends)) (sym (after front (digits ++ line)))
         (sym (digits_end_is digits bytes line are ends))
         (ap decode_of (take_at digits line (length digits) refl) ∙ even) where
-      even : decode_of digits ≡ Ok bytes
-      even = rw (are_even digits bytes are) (decoded_of 0 digits bytes are)
+          even : decode_of digits ≡ Ok bytes
+          even = rw (are_even digits bytes are) (decoded_of 0 digits bytes are)
