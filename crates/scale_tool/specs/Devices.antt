@@ -1,6 +1,7 @@
 -- Calls on a device of which the last one failed.
-use Rattle.std.specs.Prelude.{◌≡◌, ℕ, List, true}
-use Rattle.scale_core.specs.Stream.{Watched}
+use Rattle.std.specs.Prelude.{◌≡◌, ◌<◌, ◌⊎◌, ℕ, List, Option, Err, length, take, drop, true}
+use Rattle.std.specs.Io.KnownBytes.{Appends}
+use Rattle.scale_core.specs.Stream.{Watched, taken}
 use Rattle.scale_core.specs.declared.sink.SinkFault.{SinkFault}
 use Rattle.node_core.specs.Failed.{Meets, WriteOf}
 use Rattle.stream_core.specs.Streaming.{FailsAfter, ReadOf}
@@ -14,3 +15,14 @@ FailsReading reads old new = (new.failed ≡ true)
 abbrev pub FailsWriting : {W : Type 0} → WriteOf W → Watched W → Type 0
 FailsWriting writes new = (new.failed ≡ true)
     × ((reason : SinkFault) × Meets writes reason new.device)
+
+-- all the bytes went out; or a beginning of them did, and the write of the rest answered an error,
+-- or took nothing
+abbrev pub Sends : {W : Type 0} → WriteOf W → (W → Option (List ℕ)) → Watched W → Watched W →
+    List ℕ → Type 0
+Sends {W} writes contents old new bytes = ((new.failed ≡ old.failed)
+    × Appends (contents old.device) (contents new.device) bytes)
+    ⊎ ((new.failed ≡ true) × ((n : ℕ) × (n < length bytes)
+    × Appends (contents old.device) (contents new.device) (take n bytes)
+    × ((mid : W) × (reason : SinkFault)
+    × writes mid (drop n bytes) (taken (Err reason)) new.device)))

@@ -1,8 +1,8 @@
 -- Bytes that a text of hexadecimal digits holds.
-use Rattle.std.specs.Prelude.{◌≡◌, ℕ, ◌+◌, ◌-◌, List, length, take, drop, slice_index, nat_lt, ◌==◌}
-use Rattle.std.specs.Prelude.{◌&&◌, if◌then◌else◌, codes, Result, Ok, Err}
+use Rattle.std.specs.Prelude.{◌≡◌, ℕ, ◌+◌, ◌-◌, ◌*◌, List, [], ◌∷◌, ◌++◌, length, take, drop, nat_lt}
+use Rattle.std.specs.Prelude.{◌==◌, ◌&&◌, ◌⊎◌, if◌then◌else◌, slice_index, codes, Some, Result, Ok, Err}
 use Rattle.std.specs.Str.{bytes_eq}
-use Rattle.hex.specs.Hex.{decode_of}
+use Rattle.hex.specs.Hex.{decode_of, hex_digit_value}
 use Rattle.hex.specs.declared.error.FromHexError.{FromHexError}
 use Rattle.hex.specs.declared.error.FromHexError.TheVariants.{InvalidHexCharacter}
 use Rattle.scale_tool.specs.declared.refusal.HexFault.{HexFault}
@@ -44,3 +44,30 @@ hex_bytes text = bytes_after (prefix_len text) (drop (prefix_len text) text)
 abbrev pub IsOfHex : Result (List ℕ) HexFault → HexRefusal → Type 0
 IsOfHex bytes (hex.Fault f) = bytes ≡ Err f
 IsOfHex bytes hex.Memory = Unit {0}
+
+-- two digits of either case for each byte, the high one first
+abbrev pub AreDigits : List ℕ → List ℕ → Type 0
+AreDigits [] [] = Unit {0}
+AreDigits [] (b ∷ bytes) = ⊥
+AreDigits (digit ∷ []) bytes = ⊥
+AreDigits (high ∷ low ∷ digits) [] = ⊥
+AreDigits (high ∷ low ∷ digits) (b ∷ bytes) = (h l : ℕ) × (hex_digit_value high ≡ Some h)
+    × (hex_digit_value low ≡ Some l) × (b ≡ h * 16 + l) × AreDigits digits bytes
+
+-- nothing, or `0x`
+abbrev pub IsMark : List ℕ → Type 0
+IsMark front = (front ≡ []) ⊎ (front ≡ codes "0x")
+
+-- nothing, a line feed, or a carriage return and a line feed
+abbrev pub IsLineEnd : List ℕ → Type 0
+IsLineEnd end = (end ≡ []) ⊎ ((end ≡ 10 ∷ []) ⊎ (end ≡ 13 ∷ 10 ∷ []))
+
+-- this text holds these bytes: an optional `0x`, their digits, and an optional line end
+abbrev pub IsHexText : List ℕ → List ℕ → Type 0
+IsHexText text bytes = (front digits end : List ℕ) × (text ≡ front ++ (digits ++ end))
+    × IsMark front × AreDigits digits bytes × IsLineEnd end
+
+-- the bytes of a text are those that it holds, and it has bytes only where it holds them
+abbrev pub HexIsRead : Type 0
+HexIsRead = (text bytes : List ℕ) → (hex_bytes text ≡ Ok bytes → IsHexText text bytes)
+    × (IsHexText text bytes → hex_bytes text ≡ Ok bytes)

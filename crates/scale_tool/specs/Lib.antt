@@ -5,4 +5,5 @@ pub mod HexText
 pub mod Line
 pub mod Moved
 pub mod Refused
+pub mod Reported
 pub mod Values

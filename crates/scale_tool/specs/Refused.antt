@@ -1,6 +1,6 @@
 -- What each part of a job is refused for, as the refusal of the whole, and its exit status and
 -- line.
-use Rattle.std.specs.Prelude.{ℕ, List, Option, Some, None, codes}
+use Rattle.std.specs.Prelude.{ℕ, List, codes}
 use Rattle.decode_core.specs.declared.fault.DecodeFault.{DecodeFault}
 use Rattle.decode_core.specs.declared.fault.DecodeReason.{DecodeReason}
 use Rattle.decode_core.specs.declared.fault.DecodeReason.TheVariants as reason
@@ -34,6 +34,7 @@ status_of (refusal.Value fault) = 1
 status_of (refusal.TrailingValue at) = 1
 status_of refusal.RegistryDevice = 3
 status_of refusal.ValueDevice = 3
+status_of refusal.OutputDevice = 3
 status_of refusal.Memory = 4
 
 -- what is reported where this device fails
@@ -41,19 +42,6 @@ abbrev pub device_line : Device → List ℕ
 device_line device.Registry = codes "scaleview: device: registry\n"
 device_line device.Value = codes "scaleview: device: value\n"
 device_line device.Output = codes "scaleview: device: output\n"
-
--- what is reported of a refusal, where that needs no memory
-abbrev pub fixed_line : Refusal → Option (List ℕ)
-fixed_line refusal.RegistryDevice = Some (device_line device.Registry)
-fixed_line refusal.ValueDevice = Some (device_line device.Value)
-fixed_line refusal.Memory = Some (codes "scaleview: memory\n")
-fixed_line (refusal.Registry fault) = None
-fixed_line (refusal.TrailingRegistry at) = None
-fixed_line (refusal.Check unknown) = None
-fixed_line (refusal.UnknownType id) = None
-fixed_line (refusal.Hex fault) = None
-fixed_line (refusal.Value fault) = None
-fixed_line (refusal.TrailingValue at) = None
 
 -- ---- registries
 

@@ -7,17 +7,10 @@ ghost use Rattle.scale_tool.specs.Refused.{device_line};
 
 use crate::jobs::JobFault;
 use crate::refusal::Device;
+use crate::report::report;
 use scale_core::Sink;
 use std::io::Write;
 use value_core::send;
-
-/// Writes the text to `err`. Where a write fails, nothing more is done.
-fn report<E: Write>(text: &str, err: &mut Sink<E>)
-    ensures { (err.new.failed ≡ true)
-        ⊎ Appends (E.contents err.old.device) (E.contents err.new.device) text.now }
-{
-    let _ = send(err, text.as_bytes());
-}
 
 /// Reports on `err` that the device's file does not open, or that a write to the output failed, and answers the status,
 /// 3. A failed write to `err` changes no status.

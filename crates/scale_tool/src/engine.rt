@@ -1,25 +1,26 @@
 //! The command's engine: a job over readers and writers.
 
 ghost use Rattle.std.specs.Prelude.{◌≡◌, ◌≤◌, ◌⊎◌, List, true, None, Some, IfOk, IfErr, IfSome};
-ghost use Rattle.std.specs.Prelude.{IsErrOf, string_bytes};
+ghost use Rattle.std.specs.Prelude.{IsErrOf, OnOk, string_bytes};
 ghost use Rattle.registry_core.specs.declared.type_info.TypeInfo.{TypeInfo};
 ghost use Rattle.stream_core.specs.Streaming.{FailsAfter};
 ghost use Rattle.scale_tool.specs.Answer.{HasJobType, IsServed, OnText, ReadsNoValue, StopsJob};
 ghost use Rattle.scale_tool.specs.Answer.{StopsValue, WritesAll, WritesFront, line_of, types_text};
 ghost use Rattle.scale_tool.specs.Answer.{types_with, value_text};
-ghost use Rattle.scale_tool.specs.Devices.{FailsReading, FailsWriting};
+ghost use Rattle.scale_tool.specs.Devices.{FailsReading, FailsWriting, Sends};
 ghost use Rattle.scale_tool.specs.Refused.{status_of};
+ghost use Rattle.scale_tool.specs.Reported.{Faults, FaultsDecode, FaultsRegistry, Reports, Stands};
+ghost use Rattle.scale_tool.specs.Reported.{refusal_line};
 
-use crate::early_exit::unopened;
-use crate::refusal::{Device, Refusal};
+use crate::refusal::Refusal;
 use crate::registry::{read_types, read_types_with};
+use crate::report::{refusal_line, report};
 use crate::task::Job;
 use crate::value::read_value;
 use json_core::json_text;
 use scale_calls::{push_type_lines, version_line};
 use scale_core::{ReadOnce, Sink, Source, WriteOnce};
 use std::alloc::{AllocError, Global};
-use std::io::Write;
 use value_core::{Value, send};
 
 /// The text of a value's JSON and a line feed.
@@ -41,6 +42,7 @@ fn types_text<R: ReadOnce>(
         (λ r. types_text metadata r ≡ Some (string_bytes text))) }
     ensures refused { IfErr result (λ e. status_of e ≡ 1 →
         IfSome (R.remaining registry.old.device) (λ r. types_text metadata r ≡ None)) }
+    ensures faults { IfErr result (FaultsRegistry metadata (R.remaining registry.old.device)) }
     ensures device { IfErr result (λ e. status_of e ≡ 3 → e ≡ Refusal.RegistryDevice) }
     ensures reported { IsErrOf result Refusal.RegistryDevice →
         FailsReading R.reads registry.old registry.new }
@@ -70,6 +72,8 @@ fn value_text<R: ReadOnce, V: ReadOnce>(
     ensures refused { IfErr result (λ e. status_of e ≡ 1 →
         IfSome (R.remaining registry.old.device) (λ r. IfSome (V.remaining value.old.device)
         (λ v. value_text metadata hex id depth r v ≡ None))) }
+    ensures faults { IfErr result (FaultsDecode metadata hex id depth
+        (R.remaining registry.old.device) (V.remaining value.old.device)) }
     ensures registry_failed { IsErrOf result Refusal.RegistryDevice →
         FailsReading R.reads registry.old registry.new }
     ensures value_failed { IsErrOf result Refusal.ValueDevice → (value.new.failed ≡ true)
@@ -101,6 +105,8 @@ fn answer<R: ReadOnce, V: ReadOnce>(
     ensures refused { IfErr result (λ e. status_of e ≡ 1 →
         OnText job (R.remaining registry.old.device) (V.remaining value.old.device)
         (λ t. t ≡ None)) }
+    ensures faults { IfErr result
+        (Faults job (R.remaining registry.old.device) (V.remaining value.old.device)) }
     ensures registry_failed { IsErrOf result Refusal.RegistryDevice →
         FailsReading R.reads registry.old registry.new }
     ensures value_failed { IsErrOf result Refusal.ValueDevice → (value.new.failed ≡ true)
@@ -125,22 +131,67 @@ fn answer<R: ReadOnce, V: ReadOnce>(
     }
 }
 
+/// Writes the text of the job to `out`, or answers why it has none, or why the text did not go out.
+fn serve<R: ReadOnce, V: ReadOnce, W: WriteOnce>(
+    alloc: Global,
+    job: Job,
+    registry: &mut Source<R>,
+    value: &mut Source<V>,
+    out: &mut Sink<W>,
+) -> Result<(), Refusal>
+    requires { IsServed job }
+    ensures done { OnOk result
+        (OnText job (R.remaining registry.old.device) (V.remaining value.old.device)
+        (λ text. WritesAll text (W.contents out.old.device) (W.contents out.new.device))) }
+    ensures refused { IfErr result (λ e. status_of e ≡ 1 →
+        OnText job (R.remaining registry.old.device) (V.remaining value.old.device)
+        (λ text. text ≡ None)) }
+    ensures faults { IfErr result (λ e. (e ≡ Refusal.OutputDevice)
+        ⊎ Faults job (R.remaining registry.old.device) (V.remaining value.old.device) e) }
+    ensures kept { IfErr result (λ e. (e ≡ Refusal.OutputDevice) ⊎ (out.new ≡ out.old)) }
+    ensures registry_failed { IsErrOf result Refusal.RegistryDevice →
+        FailsReading R.reads registry.old registry.new }
+    ensures value_failed { IsErrOf result Refusal.ValueDevice → (value.new.failed ≡ true)
+        × StopsJob job (R.remaining registry.old.device)
+        (FailsAfter V.reads value.old.device value.new.device)
+        (V.remaining value.old.device) (V.remaining value.new.device) }
+    ensures out_failed { IsErrOf result Refusal.OutputDevice → FailsWriting W.writes out.new
+        × OnText job (R.remaining registry.old.device) (V.remaining value.old.device)
+        (λ text. WritesFront text (W.contents out.old.device) (W.contents out.new.device)) }
+    ensures registry { IsErrOf result Refusal.RegistryDevice
+        ⊎ (registry.new.failed ≡ registry.old.failed) }
+    ensures value { IsErrOf result Refusal.ValueDevice ⊎ (value.new.failed ≡ value.old.failed) }
+    ensures out { IsErrOf result Refusal.OutputDevice ⊎ (out.new.failed ≡ out.old.failed) }
+    ensures unread { ReadsNoValue job → value.new ≡ value.old }
+    ensures read_last { (value.new ≡ value.old) ⊎ ((registry.new.failed ≡ registry.old.failed)
+        × HasJobType job (R.remaining registry.old.device)) }
+{
+    let text = answer(alloc, job, registry, value)?;
+    match send(out, text.as_bytes()) {
+        Ok(()) => Ok(()),
+        Err(_) => Err(Refusal::OutputDevice),
+    }
+}
+
 /// Reports the refusal on `err` in one line, and answers its status; or want of memory, where there is none for the
-/// line.
-fn refuse<E: Write>(alloc: Global, refusal: Refusal, err: &mut Sink<E>) -> u8
-    ensures { (result ≡ status_of refusal) ⊎ ((status_of refusal ≡ 1) × (result ≡ 4)) }
+/// line. Whether the line goes out changes nothing.
+fn refuse<E: WriteOnce>(alloc: Global, refusal: Refusal, err: &mut Sink<E>) -> u8
+    ensures { ((result ≡ status_of refusal)
+        × Sends E.writes E.contents err.old err.new (refusal_line refusal))
+        ⊎ ((status_of refusal ≡ 1) × (result ≡ 4)
+        × Sends E.writes E.contents err.old err.new (refusal_line Refusal.Memory)) }
 {
     if let Some(line) = refusal.fixed_line() {
-        let _ = send(err, line.as_bytes());
+        report(line, err);
         return refusal.status();
     }
-    match format!(in alloc; "scaleview: {refusal}\n") {
+    match refusal_line(alloc, refusal) {
         Ok(line) => {
-            let _ = send(err, line.as_bytes());
+            report(line.as_str(), err);
             refusal.status()
         }
         Err(_) => {
-            let _ = send(err, b"scaleview: memory\n");
+            report("scaleview: memory\n", err);
             Refusal::Memory.status()
         }
     }
@@ -154,7 +205,7 @@ fn refuse<E: Write>(alloc: Global, refusal: Refusal, err: &mut Sink<E>) -> u8
 /// took nothing, and 4 where memory was refused. The value's raw bytes are read in pieces, so a failed read counts only
 /// while the bytes before it leave the answer open. Without 0 nothing was written to `out`, unless a write to it failed:
 /// then a beginning of the text may stand there. A failed write to `err` changes no status.
-pub fn run<R: ReadOnce, V: ReadOnce, W: WriteOnce, E: Write>(
+pub fn run<R: ReadOnce, V: ReadOnce, W: WriteOnce, E: WriteOnce>(
     alloc: Global,
     job: Job,
     registry: &mut Source<R>,
@@ -192,6 +243,13 @@ pub fn run<R: ReadOnce, V: ReadOnce, W: WriteOnce, E: Write>(
         ⊎ ((registry.new.failed ≡ registry.old.failed) × (value.new.failed ≡ value.old.failed)
         × (out.new.failed ≡ out.old.failed)) }
 
+    // Without 0 the status is that of one refusal, which is right of the files and devices and is reported on `err`:
+    // whether its line went out, or a write of it failed, changes no status.
+    ensures reported { ((result ≡ 0) × (err.new ≡ err.old)) ⊎ Reports
+        (Stands (registry.new.failed ≡ true) (value.new.failed ≡ true) (out.new.failed ≡ true)
+        (Faults job (R.remaining registry.old.device) (V.remaining value.old.device)))
+        (Sends E.writes E.contents err.old err.new) result }
+
     // The job that shows types does not touch the value.
     ensures unread { ReadsNoValue job → value.new ≡ value.old }
 
@@ -200,11 +258,8 @@ pub fn run<R: ReadOnce, V: ReadOnce, W: WriteOnce, E: Write>(
     ensures read_last { (value.new ≡ value.old) ⊎ ((registry.new.failed ≡ registry.old.failed)
         × HasJobType job (R.remaining registry.old.device)) }
 {
-    match answer(alloc, job, registry, value) {
-        Ok(text) => match send(out, text.as_bytes()) {
-            Ok(()) => 0,
-            Err(_) => unopened(Device::Output, err),
-        },
+    match serve(alloc, job, registry, value, out) {
+        Ok(()) => 0,
         Err(refusal) => refuse(alloc, refusal, err),
     }
 }

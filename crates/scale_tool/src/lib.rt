@@ -7,8 +7,10 @@ mod engine;
 mod gathering;
 mod hex_text;
 mod jobs;
+pub mod laws;
 mod refusal;
 mod registry;
+mod report;
 mod task;
 mod value;
 

@@ -1,10 +1,11 @@
 //! Why the command answers nothing: what each part of a job may meet, and the refusal of the whole, which is the line on
 //! standard error and the exit status.
 
-ghost use Rattle.std.specs.Prelude.{◌≡◌, IfNone, option_map};
-ghost use Rattle.scale_tool.specs.Refused.{device_line, fixed_line, refusal_of_registry};
+ghost use Rattle.std.specs.Prelude.{◌≡◌, IfNone, IfSome};
+ghost use Rattle.scale_tool.specs.Refused.{device_line, refusal_of_registry};
 ghost use Rattle.scale_tool.specs.Refused.{refusal_of_value, bytes_refusal, hex_in_value};
 ghost use Rattle.scale_tool.specs.Refused.{bytes_in_value, gathered_refusal, status_of};
+ghost use Rattle.scale_tool.specs.Reported.{refusal_line};
 ghost use Rattle.scale_tool.specs.declared.refusal.Refusal.TheVariants.{Memory};
 
 use crate::gathering::GatherFault;
@@ -12,7 +13,6 @@ use decode_core::{DecodeFault, DecodeReason};
 use registry_core::RegistryFault;
 use scale_calls::{RegistryRefusal, UnknownReference};
 use std::alloc::AllocError;
-use thiserror::Error;
 
 /// A file that does not open, or that a read or write fails on.
 #[derive(Clone, Copy, Debug, PartialEq, Eq)]
@@ -36,13 +36,11 @@ impl Device {
 }
 
 /// Why a text of hexadecimal digits holds no bytes, and where in its file.
-#[derive(Clone, Copy, Debug, Error)]
+#[derive(Clone, Copy)]
 pub(crate) enum HexFault {
     /// The digits are odd in number. The place is their end.
-    #[error("OddHex at {0}")]
     Odd(u64),
     /// A byte that is no digit.
-    #[error("BadHex at {0}")]
     Bad(u64),
 }
 
@@ -125,28 +123,30 @@ impl From<GatherFault> for ValueRefusal {
     }
 }
 
-/// Why there is no answer. Its text is the line on standard error without `scaleview: ` in front.
-#[derive(Clone, Copy, Debug, Error)]
+/// Why there is no answer.
+#[derive(Clone, Copy)]
 pub(crate) enum Refusal {
-    #[error("registry: {0}")]
+    /// The first fault of the registry's bytes.
     Registry(RegistryFault),
-    #[error("registry: TrailingBytes at {0}")]
+    /// Bytes follow the registry, which has so many.
     TrailingRegistry(u64),
-    #[error("check: {0}")]
+    /// A type refers to one that is not there.
     Check(UnknownReference),
-    #[error("type: UnknownType {0}")]
+    /// The registry has no type at the position.
     UnknownType(u32),
-    #[error("value: {0}")]
+    /// The value's file is to hold digits, and does not.
     Hex(HexFault),
-    #[error("value: {0}")]
+    /// The first fault of the value's bytes.
     Value(DecodeFault),
-    #[error("value: TrailingBytes at {0}")]
+    /// Bytes follow the value, which has so many.
     TrailingValue(u64),
-    #[error("device: registry")]
+    /// A read of the registry failed.
     RegistryDevice,
-    #[error("device: value")]
+    /// A read of the value failed.
     ValueDevice,
-    #[error("memory")]
+    /// A write of the answer failed.
+    OutputDevice,
+    /// Memory was refused.
     Memory,
 }
 
@@ -156,7 +156,7 @@ impl Refusal {
         ensures { result ≡ status_of self }
     {
         match self {
-            Refusal::RegistryDevice | Refusal::ValueDevice => 3,
+            Refusal::RegistryDevice | Refusal::ValueDevice | Refusal::OutputDevice => 3,
             Refusal::Memory => 4,
             _ => 1,
         }
@@ -164,12 +164,13 @@ impl Refusal {
 
     /// The line of a device or of want of memory, for which no memory may be left.
     pub(crate) fn fixed_line(self) -> Option<&'static str>
-        ensures line { option_map (λ s. s.now) result ≡ fixed_line self }
+        ensures line { IfSome result (λ line. line.now ≡ refusal_line self) }
         ensures none { IfNone result (status_of self ≡ 1) }
     {
         match self {
             Refusal::RegistryDevice => Some(Device::Registry.line()),
             Refusal::ValueDevice => Some(Device::Value.line()),
+            Refusal::OutputDevice => Some(Device::Output.line()),
             Refusal::Memory => Some("scaleview: memory\n"),
             _ => None,
         }

@@ -1,11 +1,12 @@
 //! The registry of a job, checked, and the version of the metadata that it stood in.
 
-ghost use Rattle.std.specs.Prelude.{◌≡◌, ◌⊎◌, ◌<◌, length, true, None, Some, IfOk, IfErr, IfSome};
-ghost use Rattle.std.specs.Prelude.{IsErrOf};
-ghost use Rattle.scale_calls.specs.Opened.{checked_of, file_version};
+ghost use Rattle.std.specs.Prelude.{◌≡◌, ◌⊎◌, ◌<◌, ◌≤◌, length, true, None, Some, IfOk, IfErr};
+ghost use Rattle.std.specs.Prelude.{IfSome, IsErrOf};
+ghost use Rattle.scale_calls.specs.Opened.{RefusesRegistry, checked_of, file_version};
 ghost use Rattle.scale_tool.specs.Answer.{types_with, with_position};
 ghost use Rattle.scale_tool.specs.Devices.{FailsReading};
 ghost use Rattle.scale_tool.specs.Refused.{status_of, status_of_registry};
+ghost use Rattle.scale_tool.specs.Reported.{FaultsRegistry, FaultsType};
 
 use crate::gathering::{GatherFault, gather_all};
 use crate::refusal::Refusal;
@@ -25,6 +26,7 @@ fn checked_registry(
     ensures version { IfOk result (λ x. file_version metadata bytes.now ≡ x.1) }
     ensures err { IfErr result (λ e. status_of_registry e ≡ 1 →
         checked_of metadata bytes.now ≡ None) }
+    ensures refuses { IfErr result (RefusesRegistry metadata bytes.now) }
 {
     open_registry(alloc, metadata, bytes)
 }
@@ -41,6 +43,7 @@ pub(crate) fn read_types<R: ReadOnce>(
         (λ x. IfSome (R.remaining source.old.device) (λ bytes. file_version metadata bytes ≡ x.1)) }
     ensures refused { IfErr result (λ e. status_of e ≡ 1 →
         IfSome (R.remaining source.old.device) (λ bytes. checked_of metadata bytes ≡ None)) }
+    ensures faults { IfErr result (FaultsRegistry metadata (R.remaining source.old.device)) }
     ensures device { IfErr result (λ e. status_of e ≡ 3 → e ≡ Refusal.RegistryDevice) }
     ensures reported { IsErrOf result Refusal.RegistryDevice →
         FailsReading R.reads source.old source.new }
@@ -59,7 +62,7 @@ pub(crate) fn read_types<R: ReadOnce>(
 fn with_position(checked: Checked, id: u32) -> Result<Checked, Refusal>
     ensures ok { IfOk result (λ types. with_position id checked.types ≡ Some types.types) }
     ensures err { IfErr result (λ e. (e ≡ Refusal.UnknownType id)
-        × (with_position id checked.types ≡ None)) }
+        × (with_position id checked.types ≡ None) × (length checked.types ≤ id)) }
 {
     match checked.class(TypeId(id)) {
         Some(_) => Ok(checked),
@@ -79,6 +82,7 @@ pub(crate) fn read_types_with<R: ReadOnce>(
         (λ bytes. types_with metadata id bytes ≡ Some types.types)) }
     ensures refused { IfErr result (λ e. status_of e ≡ 1 →
         IfSome (R.remaining source.old.device) (λ bytes. types_with metadata id bytes ≡ None)) }
+    ensures faults { IfErr result (FaultsType metadata id (R.remaining source.old.device)) }
     ensures device { IfErr result (λ e. status_of e ≡ 3 → e ≡ Refusal.RegistryDevice) }
     ensures reported { IsErrOf result Refusal.RegistryDevice →
         FailsReading R.reads source.old source.new }

@@ -9,7 +9,7 @@ returns-in-Line-clause-front g c =
     )
 
 pub returns-in-Usage-clause-reported : goal.returns-in-Usage-clause-reported
-returns-in-Usage-clause-reported g c = λ other. rw c.in-Usage.is c.report-in-Usage.ensures
+returns-in-Usage-clause-reported g c = λ other. rw c.in-Usage.is c.report-in-Usage.ensures.whole
 
 pub returns-clause-reported : goal.returns-clause-reported
-returns-clause-reported g c = λ other. rw c.in-Memory.is c.report-in-Memory.ensures
+returns-clause-reported g c = λ other. rw c.in-Memory.is c.report-in-Memory.ensures.whole

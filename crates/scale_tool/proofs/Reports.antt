@@ -1,0 +1,93 @@
+-- What a refusal says of the job's files, from what the calls that refuse say.
+use Rattle.std.proofs.Common.{◌≡◌, ◌++◌, ◌∙◌, ap, ℕ, List, [], Bool, Option, Some, None, sym, subst}
+use Rattle.std.proofs.Common.{inl, inr, refl}
+use Rattle.std.specs.Prelude.{IfSome, ◌⊎◌}
+use Rattle.registry_core.specs.declared.type_info.TypeInfo.{TypeInfo}
+use Rattle.scale_calls.specs.Opened.{RefusesRegistry}
+use Rattle.scale_calls.specs.declared.refusal.RegistryRefusal.{RegistryRefusal}
+use Rattle.scale_calls.specs.declared.refusal.RegistryRefusal.TheVariants as types
+use Rattle.scale_tool.specs.Answer.{types_with}
+use Rattle.scale_tool.specs.Refused.{refusal_of_registry, refusal_of_value, status_of}
+use Rattle.scale_tool.specs.Reported.{FaultsDecode, FaultsRegistry, Reports}
+use Rattle.scale_tool.specs.Reported.{Stands, in_metadata, refusal_line}
+use Rattle.scale_tool.specs.Values.{ReportsFile, decoding}
+use Rattle.scale_tool.specs.declared.refusal.Refusal.{Refusal}
+use Rattle.scale_tool.specs.declared.refusal.Refusal.TheVariants as refusal
+use Rattle.scale_tool.specs.declared.refusal.ValueRefusal.{ValueRefusal}
+use Rattle.scale_tool.specs.declared.refusal.ValueRefusal.TheVariants as value
+
+-- a registry's bytes are refused for the same reason with the flag of any job that has it
+same_flag : (known : Option (List ℕ)) (e : RegistryRefusal) (metadata flag : Bool) →
+    flag ≡ metadata → IfSome known (λ b. RefusesRegistry metadata b e) →
+    IfSome known (λ b. RefusesRegistry flag b e)
+same_flag known e metadata flag is h =
+    subst (λ (m : Bool). IfSome known (λ b. RefusesRegistry m b e)) (sym is) h
+
+-- a refusal of a registry's bytes says this of any job with the registry
+pub registry_faults : (known : Option (List ℕ)) (metadata : Bool) (e : RegistryRefusal) →
+    IfSome known (λ b. RefusesRegistry metadata b e) →
+    FaultsRegistry metadata known (refusal_of_registry e)
+registry_faults known metadata (types.Fault f) h j v is =
+    same_flag known (types.Fault f) metadata (in_metadata j) is h
+registry_faults known metadata (types.TrailingBytes at) h j v is =
+    same_flag known (types.TrailingBytes at) metadata (in_metadata j) is h
+registry_faults known metadata (types.Check unknown) h j v is =
+    same_flag known (types.Check unknown) metadata (in_metadata j) is h
+registry_faults known metadata types.Memory h j v is = tt
+
+-- bytes that are refused are those of the file that they were gathered from
+pub gathered_refused : (known : Option (List ℕ)) (metadata : Bool) (old new text : List ℕ)
+    (e : RegistryRefusal) → old ≡ [] → IfSome known (λ b. new ≡ old ++ b) → text ≡ new →
+    RefusesRegistry metadata text e → IfSome known (λ b. RefusesRegistry metadata b e)
+gathered_refused None metadata old new text e none all same h = tt
+gathered_refused (Some b) metadata old new text e none all same h =
+    subst (λ (t : List ℕ). RefusesRegistry metadata t e)
+    (same ∙ all ∙ ap (λ (x : List ℕ). x ++ b) none) h
+
+-- a refusal of a value's file says this of the job
+pub value_faults : (known file : Option (List ℕ)) (metadata hex : Bool) (id depth : ℕ)
+    (found : List TypeInfo) (e : ValueRefusal) →
+    IfSome known (λ b. types_with metadata id b ≡ Some found) →
+    IfSome file (λ b. ReportsFile hex (decoding id depth found) b e) →
+    FaultsDecode metadata hex id depth known file (refusal_of_value e)
+value_faults known file metadata hex id depth found (value.Hex f) h r = (found, h, r)
+value_faults known file metadata hex id depth found (value.Fault f) h r = (found, h, r)
+value_faults known file metadata hex id depth found (value.TrailingBytes at) h r = (found, h, r)
+value_faults known file metadata hex id depth found value.Device h r = tt
+value_faults known file metadata hex id depth found value.Memory h r = tt
+
+-- where a refusal is answered and reported, or want of memory for its line, one is
+pub reports_refused : (Holds : Refusal → Type 0) (Sent : List ℕ → Type 0) (e : Refusal)
+    (status : ℕ) → Holds e → Holds refusal.Memory →
+    ((status ≡ status_of e) × Sent (refusal_line e))
+    ⊎ ((status_of e ≡ 1) × (status ≡ 4) × Sent (refusal_line refusal.Memory)) →
+    Reports Holds Sent status
+reports_refused Holds Sent e status h memory (inl own) = (e, own.0, h, own.1)
+reports_refused Holds Sent e status h memory (inr none) = (refusal.Memory, none.1, memory, none.2)
+
+-- what a refusal says of the files, where it is not that of the output
+says : (Says : Refusal → Type 0) (e : Refusal) → (e ≡ refusal.OutputDevice → ⊥) →
+    (e ≡ refusal.OutputDevice) ⊎ Says e → Says e
+says Says e other (inl is) = absurd (other is)
+says Says e other (inr h) = h
+
+-- a refusal stands where its device has failed, or it says something of the files
+pub stands : (registry value out : Type 0) (Says : Refusal → Type 0) (e : Refusal) →
+    (e ≡ refusal.RegistryDevice → registry) → (e ≡ refusal.ValueDevice → value) →
+    (e ≡ refusal.OutputDevice → out) → (e ≡ refusal.OutputDevice) ⊎ Says e →
+    Stands registry value out Says e
+stands registry value out Says refusal.RegistryDevice r v o h = r refl
+stands registry value out Says refusal.ValueDevice r v o h = v refl
+stands registry value out Says refusal.OutputDevice r v o h = o refl
+stands registry value out Says (refusal.Registry f) r v o h =
+    says Says (refusal.Registry f) (λ is. cc) h
+stands registry value out Says (refusal.TrailingRegistry at) r v o h =
+    says Says (refusal.TrailingRegistry at) (λ is. cc) h
+stands registry value out Says (refusal.Check u) r v o h = says Says (refusal.Check u) (λ is. cc) h
+stands registry value out Says (refusal.UnknownType id) r v o h =
+    says Says (refusal.UnknownType id) (λ is. cc) h
+stands registry value out Says (refusal.Hex f) r v o h = says Says (refusal.Hex f) (λ is. cc) h
+stands registry value out Says (refusal.Value f) r v o h = says Says (refusal.Value f) (λ is. cc) h
+stands registry value out Says (refusal.TrailingValue at) r v o h =
+    says Says (refusal.TrailingValue at) (λ is. cc) h
+stands registry value out Says refusal.Memory r v o h = says Says refusal.Memory (λ is. cc) h
