@@ -1,5 +1,6 @@
 -- A hexadecimal text has the bytes that its digits spell, and no others.
-use Rattle.std.proofs.Common.{◌≡◌, ℕ, zero, suc, ◌+◌, ◌-◌, ◌*◌, ◌<◌, ◌≤◌, ◌%◌, ◌==◌, List, [], ◌∷◌, ◌++◌}
+use Rattle.std.proofs.Common.{◌≡◌, ℕ, zero, suc, ◌+◌, ◌-◌, ◌*◌, ◌<◌, ◌%◌, ◌==◌, List, [], ◌∷◌}
+use Rattle.std.proofs.Common.{◌++◌}
 use Rattle.std.proofs.Common.{length, Bool, true, false, cond, Option, Some, None, Result, Ok, Err}
 use Rattle.std.proofs.Common.{arith, refl, sym, ap, subst, ◌∙◌, append_assoc, take, drop, inl, inr}
 use Rattle.std.specs.Prelude.{◌⊎◌, ◌≢◌, codes, slice_index, nat_lt}
@@ -327,7 +328,8 @@ hex_is_read text bytes = (to, from) where
     by : (front digits line : List ℕ) → IsMark front → AreDigits digits bytes → IsLineEnd line →
         hex_bytes (front ++ (digits ++ line)) ≡ Ok bytes
     by front digits line mark are ends =
-        hex_is (front ++ (digits ++ line)) (digits ++ line) (length front) (length digits) (Ok bytes)
+        hex_is (front ++ (digits ++ line)) (digits ++ line) (length front) (length digits)
+        (Ok bytes)
         (sym (prefix_is front digits line bytes mark are ends)) (sym (after front (digits ++ line)))
         (sym (digits_end_is digits bytes line are ends))
         (ap decode_of (take_at digits line (length digits) refl) ∙ even) where
