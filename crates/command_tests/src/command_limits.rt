@@ -1,8 +1,8 @@
-//! The command's engine at its limits: the greatest depth, the longest line, and the most bytes of a value.
+//! The command's engine at its limits: the greatest depth, and the most bytes of a value.
 
 use crate::expect::same;
 use command_runs::jobs::{decode, served};
-use scale_core::{Sink, Source, write_compact};
+use scale_core::{Sink, Source};
 use scale_tests::paced::LetterReader;
 use scale_tests::registries::{CHAIN, TEXT};
 use scale_tool::{Job, run};
@@ -80,31 +80,6 @@ fn a_value_below_the_depth_is_refused(rt: HostRuntime) -> Result<(), Fail> {
     let (status, out, err) = answer(&rt, rt.alloc(), within(1023), CHAIN, &value);
     same(&rt, (status, out.len()), (1, 0));
     let reported = b"scaleview: value: TooDeep at 1024\n".as_slice();
-    same(&rt, err.as_slice(), reported);
-    Ok(())
-}
-
-/// A registry of 65,537 types, whose last refers to the greatest id.
-fn long_registry(alloc: Global) -> Result<Vec<u8>, Fail> {
-    let mut registry = Vec::new(alloc);
-    write_compact(&mut registry, 65_537)?;
-    'types: for id in 0..65_536u32 {
-        write_compact(&mut registry, u128::from(id))?;
-        registry.extend_from_slice(&[0, 0, 5, 3, 0])?;
-    }
-    write_compact(&mut registry, 65_536)?;
-    registry.extend_from_slice(&[0, 0, 2, 3, 0xff, 0xff, 0xff, 0xff, 0])?;
-    Ok(registry)
-}
-
-// No refusal has more digits.
-#[test]
-fn the_longest_refusal_is_reported_whole(rt: HostRuntime) -> Result<(), Fail> {
-    let registry = long_registry(rt.alloc())?;
-    let job = Job::Types { metadata: false };
-    let (status, out, err) = answer(&rt, rt.alloc(), job, &registry, &[]);
-    same(&rt, (status, out.len()), (1, 0));
-    let reported = b"scaleview: check: UnknownType 4294967295 in type 65536\n".as_slice();
     same(&rt, err.as_slice(), reported);
     Ok(())
 }
