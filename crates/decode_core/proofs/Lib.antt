@@ -1,3 +1,3 @@
-pub mod lists
-pub mod steps
 pub mod calls
+pub mod Streaming
+pub mod Answering

@@ -17,21 +17,21 @@ use Rattle.decode_core.specs.declared.fault.OpenFault.TheVariants as opening
 use Rattle.widths_core.specs.Layouts.{layout}
 use Rattle.graph_core.specs.Widths.{widest}
 use Rattle.grammar_core.specs.Begun.{Begun, begun_preorder, begun_nodes, begun_text_bytes}
-use Rattle.decode_core.specs.Bound.{node_bound, value_bound}
-use Rattle.decode_core.specs.Machine.{remain, start}
-use Rattle.decode_core.specs.Outcome.{Job, done, refused, more, too_long, IsOutcome}
-use Rattle.decode_core.specs.Reasons.{reason_of}
-use Rattle.decode_core.specs.Running.{Running, held_of, state_of}
-use Rattle.decode_core.specs.Held.{open_run}
-use Rattle.decode_core.specs.Holds.{Holds}
-use Rattle.decode_core.specs.Reported.{reported, reported_at, shown}
-use Rattle.decode_core.specs.Turned.{IsSound, RunsOut, TurnsLead, WantsBytes, WantsMemory}
+use Rattle.machine_core.specs.Bound.{node_bound, value_bound}
+use Rattle.machine_core.specs.Machine.{remain, start}
+use Rattle.machine_core.specs.Outcome.{Job, done, refused, more, too_long, IsOutcome}
+use Rattle.machine_core.specs.Reasons.{reason_of}
+use Rattle.machine_core.specs.Running.{Running, held_of, state_of}
+use Rattle.machine_core.specs.HeldLaws.{open_run}
+use Rattle.machine_core.specs.HeldTree.{Holds}
+use Rattle.machine_core.specs.Reported.{reported, reported_at, shown}
+use Rattle.machine_core.specs.Turned.{IsSound, RunsOut, TurnsLead, WantsBytes, WantsMemory}
 use Rattle.decode_core.specs.declared.decoder.Fed.{Fed}
 use Rattle.decode_core.specs.declared.decoder.Fed.TheVariants as fed
 use Rattle.decode_core.specs.declared.decoder.Progress.{Progress}
 use Rattle.decode_core.specs.declared.decoder.Progress.TheVariants as progress
 use Rattle.decode_core.specs.declared.fault.DecodeFault.{DecodeFault}
-use Rattle.decode_core.specs.declared.fault.DecodeReason.TheVariants as reason
+use Rattle.machine_core.specs.declared.reason.DecodeReason.TheVariants as reason
 
 -- what is decoded, how many bytes were taken, the value on its way, or the fault that ended it, how
 -- many turns were taken, and

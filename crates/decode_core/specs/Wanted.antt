@@ -3,8 +3,8 @@
 use Rattle.std.specs.Prelude.{◌≡◌, ◌⊎◌, ℕ, suc, ◌≤◌, List, [], ◌∷◌, ◌++◌, length, take}
 use Rattle.value_core.specs.Built.{Entry}
 use Rattle.decode_core.specs.Decoding.{RanOut}
-use Rattle.decode_core.specs.Outcome.{Job, more, IsOutcome}
-use Rattle.decode_core.specs.Reported.{Reported, after, reported_at}
+use Rattle.machine_core.specs.Outcome.{Job, more, IsOutcome}
+use Rattle.machine_core.specs.Reported.{Reported, after, reported_at}
 
 -- whatever follows these bytes, these nodes are read first
 abbrev pub AreRead : Job → List ℕ → List Entry → Type 0

@@ -4,9 +4,9 @@ ghost use Rattle.std.specs.Prelude.{◌≡◌, ◌+◌, ◌++◌, ◌≤◌, [],
 ghost use Rattle.std.specs.Prelude.{suc, take, true, IfErr, ◌-◌};
 ghost use Rattle.value_core.specs.Built.{finished};
 ghost use Rattle.value_core.specs.Refusals.{is_whole};
-ghost use Rattle.decode_core.specs.Running.{Running};
-ghost use Rattle.decode_core.specs.Outcome.{Job};
-ghost use Rattle.decode_core.specs.Bound.{node_bound};
+ghost use Rattle.machine_core.specs.Running.{Running};
+ghost use Rattle.machine_core.specs.Outcome.{Job};
+ghost use Rattle.machine_core.specs.Bound.{node_bound};
 ghost use Rattle.decode_core.specs.Decoding.{AnswersPiece, AsksMemory, CountsValue, Decoding};
 ghost use Rattle.decode_core.specs.Decoding.{FedAsks, FedCounts, FedTakes, FinishesDecoder};
 ghost use Rattle.decode_core.specs.Decoding.{HasCounted, HasValue, HoldsAt, IsKept, IsLedTo};
@@ -15,11 +15,10 @@ ghost use Rattle.decode_core.specs.Decoding.{OpensDecoder, RunAnswers, RunLed, c
 ghost use Rattle.decode_core.specs.Decoding.{first_of_all, node_count, opening_fault, text_bytes};
 ghost use Rattle.graph_core.specs.Widths.{widest};
 
-use crate::fault::{DecodeFault, DecodeReason, OpenFault};
-use crate::run::Run;
-use crate::turned::Stopped;
+use crate::fault::{DecodeFault, OpenFault};
 use count_core::Count;
 use grammar_core::MAX_DEPTH;
+use machine_core::{DecodeReason, Partial, Stopped};
 use registry_core::TypeId;
 use std::alloc::Allocator;
 use std::marker::Model;
@@ -30,31 +29,31 @@ use widths_core::Checked;
 /// The greatest limit of bytes, 2^40.
 const MAX_BYTES: u64 = 1_099_511_627_776;
 
-/// How far a value is.
+/// How far a value has come.
 #[derive(Clone, Copy, Debug, PartialEq, Eq)]
 pub enum Progress {
-    /// All bytes were taken, and the value goes on.
+    /// All bytes were taken, and the value needs more.
     More,
-    /// The value is whole.
+    /// The value is complete.
     Done {
-        /// How many bytes of this piece are the value's.
+        /// The number of bytes of this piece that belong to the value.
         used: u64,
     },
 }
 
-/// A decoder of one value of a type, whose bytes come in any pieces.
+/// A streaming decoder of one value of a type. The bytes may come in any pieces.
 ///
-/// It keeps the nodes that are there, the open ones among them, those bytes of an open text or run of bytes that came,
-/// and at most 32 bytes beside; no input.
+/// It keeps the nodes so far, the bytes so far of an open text or run of bytes, and at most 32
+/// bytes of the next node. It keeps no other input.
 #[derive(Drop)]
 pub struct Decoder<'r, A: Allocator> {
     checked: &'r Checked,
     root: TypeId,
     limits: Limits,
     taken: u64,
-    run: Result<Run<'r, A>, DecodeFault>,
+    run: Result<Partial<'r, A>, DecodeFault>,
     turns: Count,
-    /// The turns of a builder that is gone.
+    /// The turns of a builder that was given up.
     closings: Count,
     calls: Count,
 }
@@ -70,26 +69,26 @@ impl<'r, A: Allocator> Model for Decoder<'r, A> {
     ghost invariant = { λ d. IsDecoding (decoding_of d) };
 }
 
-/// What a piece made of a value on its way.
+/// What a piece made of a value in progress.
 enum Fed {
-    /// All bytes were taken, and so many are in all.
+    /// All bytes were taken: the number of them in all.
     More(u64),
-    /// The value is whole, with so many bytes of the piece.
+    /// The value is complete, with so many bytes of the piece.
     Done(u64),
-    /// It is refused, with so many bytes taken.
+    /// It is rejected, with so many bytes taken in all.
     Ended(DecodeFault, u64),
 }
 
-/// The part of the piece that is within the room for bytes.
+/// Returns the front of the piece that the limit of bytes leaves room for.
 fn within(piece: &[u8], room: u64) -> &[u8]
     ensures { result.now ≡ take room piece.now }
 {
     &piece[..room.min(piece.len() as u64) as usize]
 }
 
-/// Takes the turns on a piece, where `taken` bytes came before it and `limit` is their greatest number.
+/// Takes the turns on a piece after `taken` bytes, of which there may be `limit`.
 fn feed_run<A: Allocator>(
-    run: &mut Run<'_, A>,
+    run: &mut Partial<'_, A>,
     limit: u64,
     taken: u64,
     piece: &[u8],
@@ -106,16 +105,14 @@ fn feed_run<A: Allocator>(
         FedCounts j run.new taken turns.new.so_far (suc calls) result }
 {
     let offered = within(piece, limit - taken);
-    let (count, stopped) = match run.feed(offered, turns) {
-        Ok(fed) => fed,
-        Err(count) => {
-            let reason = DecodeReason::OutOfMemory;
-            return Fed::Ended(DecodeFault { reason, at: 0 }, taken + count as u64);
-        }
-    };
+    let (count, stopped) = run.feed(offered, turns);
     let fed = taken + count as u64;
     match stopped {
         Stopped::Finished => Fed::Done(count as u64),
+        Stopped::OutOfMemory => {
+            let reason = DecodeReason::OutOfMemory;
+            Fed::Ended(DecodeFault { reason, at: 0 }, fed)
+        }
         Stopped::Wants if offered.len() < piece.len() => {
             let reason = DecodeReason::TooLong;
             Fed::Ended(DecodeFault { reason, at: limit }, limit)
@@ -134,24 +131,27 @@ fn feed_run<A: Allocator>(
     }
 }
 
-/// Gives up a value for this fault: how many turns the builder's loop had taken. No other call makes room for the value.
+/// Gives up a value for this fault, and returns how many turns its builder has taken.
 #[inline(never)]
-fn give_up<A: Allocator>(run: &mut Result<Run<'_, A>, DecodeFault>, fault: DecodeFault) -> Count
+fn give_up<A: Allocator>(run: &mut Result<Partial<'_, A>, DecodeFault>, fault: DecodeFault) -> Count
     ensures after { run.new ≡ Err fault }
     ensures turns { result.so_far ≡ closing_turns run.old 0 }
 {
     match mem::replace(run, Err(fault)) {
-        Ok(run) => run.builder.into_turns(),
+        Ok(run) => run.into_turns(),
         Err(_) => Count::new(),
     }
 }
 
 impl<'r, A: Allocator + Clone> Decoder<'r, A> {
-    /// A decoder of a value of the root's type, within these limits, that has taken nothing. Nodes, texts, runs of
-    /// bytes and open parts will come from the allocator and its clones.
+    /// Returns a decoder of a value of the root's type that has taken no bytes. Everything that
+    /// it keeps comes from the allocator and its clones.
     ///
-    /// Refuses, in this order: with `UnknownType` an id that is no position of the registry, with `LimitOutOfRange` a
-    /// depth above 1024 or more than 2^40 bytes, and with `OutOfMemory`. Nothing is made then.
+    /// # Errors
+    ///
+    /// In this order: `UnknownType` if the id is no position of the registry, `LimitOutOfRange` if
+    /// the depth is above 1024 or the limit of bytes above 2^40, and `OutOfMemory` if an allocation
+    /// fails.
     pub fn new(
         alloc: A,
         checked: &'r Checked,
@@ -173,7 +173,7 @@ impl<'r, A: Allocator + Clone> Decoder<'r, A> {
             root,
             limits,
             taken: 0,
-            run: Ok(Run::new(Builder::begin(alloc, checked, root, limits.depth)?)),
+            run: Ok(Partial::new(Builder::begin(alloc, checked, root, limits.depth)?)),
             turns: Count::new(),
             closings: Count::new(),
             calls: Count::new(),
@@ -182,8 +182,10 @@ impl<'r, A: Allocator + Clone> Decoder<'r, A> {
 }
 
 impl<'r, A: Allocator> Decoder<'r, A> {
-    /// How many bytes were taken: all that were fed while the value goes on, the value's own when it is whole, and
-    /// those up to the one that decides a refusal, with it. Where memory was refused it is those taken before it was.
+    /// Returns the number of bytes taken so far: all that were fed while the value needs more, its
+    /// own when it is complete, and those up to the deciding one, inclusive, after an error. After
+    /// `OutOfMemory` they are those taken before the allocation failed.
+    ///
     /// No call makes it less, and none adds more than the bytes of its piece.
     pub fn taken(&self) -> u64
         ensures { result ≡ self.now.taken }
@@ -191,44 +193,54 @@ impl<'r, A: Allocator> Decoder<'r, A> {
         self.taken
     }
 
-    /// How many nodes it holds; 0 after a refusal. They are at most `(n + 1) * (depth + 1) * (widest + 1)`, where n is
-    /// the number of bytes taken, and those of a whole value at most `1 + n * (depth + 1) * (widest + 1)`.
+    /// Returns the number of nodes held, which is 0 after an error.
+    ///
+    /// They are at most `(n + 1) * (depth + 1) * (widest + 1)`, where n is the number of bytes
+    /// taken, and at most `1 + n * (depth + 1) * (widest + 1)` of a complete value.
     pub fn node_count(&self) -> u64
         ensures count { result ≡ node_count self.now }
         ensures bound { result ≤ node_bound self.now.taken self.now.job.depth
             (widest self.now.job.registry) }
     {
         match &self.run {
-            Ok(run) => run.builder.node_count(),
+            Ok(run) => run.builder().node_count(),
             Err(_) => 0,
         }
     }
 
-    /// How many bytes of texts and runs of bytes it holds, those of one that is not there whole too, past its length; 0
-    /// after a refusal. They are at most as many as were taken.
+    /// Returns the number of bytes of texts and runs of bytes held, which is 0 after an error. Those
+    /// that came of an incomplete one count, without its length.
+    ///
+    /// They are at most as many as were taken.
     pub fn text_bytes(&self) -> u64
         ensures count { result ≡ text_bytes self.now }
         ensures bound { result ≤ self.now.taken }
     {
         match &self.run {
-            Ok(run) => run.builder.text_bytes(),
+            Ok(run) => run.builder().text_bytes(),
             Err(_) => 0,
         }
     }
 
-    /// Takes the next piece of the value's bytes (SCALE codec specification; which types a value has, by scale-info's
-    /// registry). However the bytes are cut, the answer to each piece is that to all bytes so far.
+    /// Takes the next piece of the value's bytes (SCALE codec specification; scale-info's registry
+    /// defines the types). However the bytes are cut, the answer is the one to all bytes so far.
     ///
-    /// Answers `More` where the next node needs a byte that is not there, and `Done` in the call that brings the
-    /// value's last byte; bytes after it are not used. A decoder that has answered `Done` or a refusal keeps its
-    /// answer: every later call answers `Done` with none used, and keeps the value, or is refused with the same. It
-    /// takes no memory.
+    /// Returns `More` if the next node needs another byte, and `Done` in the call that brings the
+    /// value's last byte. Bytes after it are not used.
     ///
-    /// Refuses in the call that brings the deciding byte, with the place from the value's first byte: what the grammar
-    /// refuses first; `TooLong` at the limit of bytes where the value is unfinished there and one more is offered; and
-    /// `OutOfMemory` at 0, only where after the bytes of `taken()` a node was to be added whose own bytes are there and
-    /// that the grammar does not refuse, or bytes of a text or a run of bytes were to be kept. It then holds no node
-    /// and no such bytes.
+    /// A decoder keeps its answer. After `Done` every call returns `Done` with no byte used; after an
+    /// error every call returns that error. These calls allocate nothing.
+    ///
+    /// # Errors
+    ///
+    /// In the call that brings the deciding byte, with the place in bytes from the value's start:
+    ///
+    /// - the first error of the grammar;
+    /// - `TooLong` at the limit of bytes, if the value is incomplete there and another byte is given;
+    /// - `OutOfMemory` at 0, if an allocation fails. That happens only if the bytes of `taken()` are
+    ///   accepted, and then a complete node was to be added or bytes of a text or run to be kept.
+    ///
+    /// No nodes and no bytes are held after an error.
     pub fn feed(&mut self, piece: &[u8]) -> Result<Progress, DecodeFault>
         ensures job { self.new.job ≡ self.old.job }
         ensures calls { self.new.calls ≡ self.old.calls + 1 }
@@ -270,11 +282,13 @@ impl<'r, A: Allocator> Decoder<'r, A> {
         }
     }
 
-    /// The value, where it is whole: after `Done` the one that was there, for which it takes no memory. Else it first does
-    /// what a piece of no bytes does.
+    /// Returns the value. After `Done` this allocates nothing; otherwise it first feeds an empty
+    /// piece.
     ///
-    /// Refuses a value that is unfinished as `Truncated` at the number of bytes that were fed, and after a refusal with
-    /// the same. On the way it refuses what a piece of no bytes would be refused for. Nothing comes back then.
+    /// # Errors
+    ///
+    /// `Truncated` at the number of bytes fed if the value is incomplete, the same error again after
+    /// an error, and any error of `feed` on an empty piece. The decoder is dropped.
     pub fn finish(self) -> Result<Value<'r, A>, DecodeFault>
         ensures refused { (f : DecodeFault) → self.entry.run ≡ Err f → result ≡ Err f }
         ensures whole { (s : Running) → self.entry.run ≡ Ok s → is_whole s.built ≡ true →

@@ -1,11 +1,11 @@
 //! What holds of every outcome.
 
-ghost use Rattle.decode_core.specs.Begins.{FaultIsBegun};
-ghost use Rattle.decode_core.specs.Holds.{BegunIsBounded, BegunIsMissing, MissingIsBegun};
-ghost use Rattle.decode_core.specs.Held.{HeldIsBounded, MoreHolds, OneBegun};
+ghost use Rattle.machine_core.specs.Begins.{FaultIsBegun};
+ghost use Rattle.machine_core.specs.HeldTree.{BegunIsBounded, BegunIsMissing, MissingIsBegun};
+ghost use Rattle.machine_core.specs.HeldLaws.{HeldIsBounded, MoreHolds, OneBegun};
 ghost use Rattle.decode_core.specs.Wanted.{WantedGoesOn};
-ghost use Rattle.decode_core.specs.Outcome.{EncodedIsDone, OneOutcome, OutcomeIsComputed};
-ghost use Rattle.decode_core.specs.Outcome.{OutcomeIsKept, TakenByFault, TakenIsShortest};
+ghost use Rattle.machine_core.specs.Outcome.{EncodedIsDone, OneOutcome, OutcomeIsComputed};
+ghost use Rattle.machine_core.specs.Outcome.{OutcomeIsKept, TakenByFault, TakenIsShortest};
 
 /// What is encoded within the limits is decoded, and all of it is taken.
 pub fn encoded_is_done()

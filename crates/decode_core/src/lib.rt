@@ -1,13 +1,15 @@
-//! The streaming decoder: bytes in any pieces to a value of a type, or to a refusal with its reason and place.
+//! A streaming decoder: turns bytes in any pieces, or all bytes of a reader, into a value of a type,
+//! or into an error with its reason and place.
 #![tactic(auto)]
 
 mod decoder;
 mod fault;
-mod feeding;
 pub mod laws;
-mod node;
-mod run;
-mod turned;
+mod pieces;
+mod stream;
 
 pub use decoder::{Decoder, Progress};
-pub use fault::{DecodeFault, DecodeReason, OpenFault};
+pub use fault::{DecodeFault, OpenFault};
+pub use machine_core::DecodeReason;
+pub use pieces::{PiecesFault, decode_pieces};
+pub use stream::{StreamFault, decode_all};

@@ -9,13 +9,13 @@ use Rattle.std.proofs.Math.Nat.{pow-le-pow_right, zero-mod}
 use Rattle.std.proofs.Math.Pow.{mod-mod-pow}
 use Rattle.scale_core.specs.Compact.{bytes_needed, compact, target_bytes}
 use Rattle.scale_core.specs.Number.{AreBytes, number}
-use Rattle.scale_core.specs.Read.{form_len, form_number, is_too_long, number_at}
+use Rattle.scale_core.specs.Read.{mode_len, mode_number, is_too_long, number_at}
 use Rattle.scale_core.specs.declared.compact.Target.{Target}
 use Rattle.scale_core.specs.declared.compact.Target.TheVariants as target
-use Rattle.scale_core.proofs.Forms.{length-compact-one, length-compact-two}
-use Rattle.scale_core.proofs.Forms.{length-compact-four, length-compact-big}
-use Rattle.scale_core.proofs.ReadForms.{compact_at-integer, integer_at-judged, long_number}
-use Rattle.scale_core.proofs.ReadForms.{not_too_long}
+use Rattle.scale_core.proofs.Modes.{length-compact-one, length-compact-two}
+use Rattle.scale_core.proofs.Modes.{length-compact-four, length-compact-big}
+use Rattle.scale_core.proofs.ReadModes.{compact_at-integer, integer_at-judged, long_number}
+use Rattle.scale_core.proofs.ReadModes.{not_too_long}
 use Rattle.form_core.specs.WholeCompacts.{IsCompactAtFront}
 
 -- the number of the first bytes is what their bits of the number of all are
@@ -53,8 +53,8 @@ word_is k bytes word rest h = elim (cases_lt (length bytes) k) [
 
 -- where a form is judged the one spelling, and its number fits the target, it stands there
 judged_is : (m : Target) (first : ℕ) (rest : List ℕ) (n len : ℕ) → AreBytes (first ∷ rest) →
-    m ≢ target.Unit → is_too_long m first ≡ false → len ≡ form_len first →
-    len ≤ length (first ∷ rest) → n ≡ form_number (take len (first ∷ rest)) → n < 2 ^ 128 →
+    m ≢ target.Unit → is_too_long m first ≡ false → len ≡ mode_len first →
+    len ≤ length (first ∷ rest) → n ≡ mode_number (take len (first ∷ rest)) → n < 2 ^ 128 →
     length (compact n) ≡ len → n < 256 ^ target_bytes m → IsCompactAtFront m (first ∷ rest) n len
 judged_is m first rest n len are other fits long there value small shortest holds = record {
   within = there;
@@ -80,7 +80,7 @@ has_bytes _ wide e = absurd cc
 -- the form of few bytes whose number is read off four
 few_is : (m : Target) (first : ℕ) (rest : List ℕ) (word n k : ℕ) → AreBytes (first ∷ rest) →
     4 ≤ length (first ∷ rest) → word ≡ number (take 4 (first ∷ rest)) → word % 4 < 3 → suc k ≤ 4 →
-    suc k ≡ form_len first → n ≡ word % 2 ^ (8 * suc k) / 4 → n < 2 ^ 30 →
+    suc k ≡ mode_len first → n ≡ word % 2 ^ (8 * suc k) / 4 → n < 2 ^ 30 →
     length (compact n) ≡ suc k → 4 ≤ target_bytes m → IsCompactAtFront m (first ∷ rest) n (suc k)
 few_is m first rest word n k are there value mark few long is small shortest wide =
     let low : first % 4 ≡ word % 4 = omega (arith, value) in
@@ -89,7 +89,7 @@ few_is m first rest word n k are there value mark few long is small shortest wid
     let front : number (take (suc k) (first ∷ rest)) ≡ word % 2 ^ (8 * suc k) =
     front_number (suc k) 4 (first ∷ rest) are few
     ∙ ap (λ (w : ℕ). w % 2 ^ (8 * suc k)) (sym value) in
-    let named : form_number (take (suc k) (first ∷ rest)) ≡ n =
+    let named : mode_number (take (suc k) (first ∷ rest)) ≡ n =
     rw no_third (ap (λ (w : ℕ). w / 4) front ∙ sym is) in
     judged_is m first rest n (suc k) are (has_bytes m wide) (rw no_third refl) long
     (omega (arith, few, there)) (sym named) (omega (arith, small)) shortest
@@ -212,9 +212,9 @@ long_by m first rest word n q are there value is mark few wide kept big high =
     let within = bounds q n word few kept high in
     let next : q + 4 + 1 ≡ suc (q + 4) = omega arith in
     let one : suc (q + 3) ≡ q + 4 = omega arith in
-    let named : n ≡ form_number (take (q + 4 + 1) (first ∷ rest)) = sym spelled
+    let named : n ≡ mode_number (take (q + 4 + 1) (first ∷ rest)) = sym spelled
     ∙ long_number (first ∷ rest) first (q + 4) refl mark
-    ∙ ap (λ (k : ℕ). form_number (take k (first ∷ rest))) (sym next) in
+    ∙ ap (λ (k : ℕ). mode_number (take k (first ∷ rest))) (sym next) in
     judged_is m first rest n (q + 4 + 1) are (has_bytes m (omega (arith, wide)))
     (not_too_long m first mark (omega (arith, is, wide))) (rw mark (omega (arith, is)))
     (omega (arith, there, few)) named within.2 (long_len q n few big within.1 (rw one within.0))

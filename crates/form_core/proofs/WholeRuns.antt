@@ -14,7 +14,7 @@ use Rattle.scale_core.specs.declared.compact.Target.TheVariants as target
 use Rattle.scale_core.specs.declared.fault.Reason.{Reason}
 use Rattle.scale_core.specs.Number.{AreBytes}
 use Rattle.scale_core.proofs.Again.{bytes_again}
-use Rattle.scale_core.proofs.ReadForms.{compact_at-integer, integer_at-one}
+use Rattle.scale_core.proofs.ReadModes.{compact_at-integer, integer_at-one}
 use Rattle.scale_core.proofs.Results.{Takes}
 use Rattle.widths_core.specs.declared.run_kind.RunKind.{RunKind}
 use Rattle.widths_core.specs.declared.run_kind.RunKind.TheVariants as kind

@@ -1,7 +1,7 @@
 -- How many bytes a node has of its own, or how many decide that there is none, by its form and its
 -- first byte.
-use Rattle.std.specs.Prelude.{◌≡◌, ℕ, List, ◌∷◌, length, if◌then◌else◌, Option, Some, None}
-use Rattle.scale_core.specs.Read.{is_too_long, form_len}
+use Rattle.std.specs.Prelude.{◌≡◌, ℕ, List, ◌∷◌, length, if◌then◌else◌}
+use Rattle.scale_core.specs.Read.{is_too_long, mode_len}
 use Rattle.scale_core.specs.declared.compact.Target.{Target}
 use Rattle.scale_core.specs.declared.compact.Target.TheVariants as target
 use Rattle.registry_core.specs.Kinds.{kind_of, width_bytes}
@@ -14,7 +14,7 @@ use Rattle.grammar_core.specs.declared.form.Form.TheVariants as form
 -- one byte reports that a compact is too long for its target, and else it names how long the
 -- compact is
 abbrev pub compact_need : Target → ℕ → ℕ
-compact_need m first = if is_too_long m first then 1 else form_len first
+compact_need m first = if is_too_long m first then 1 else mode_len first
 
 -- of a text or a run of bytes the length alone, where it has one in front
 abbrev pub kind_need : PrimitiveKind → ℕ → ℕ
@@ -39,14 +39,6 @@ need (form.ByteArray n) first = n
 need form.Sequence first = compact_need target.U32 first
 need form.Bytes first = compact_need target.U32 first
 need form.Count first = compact_need target.U32 first
-
--- the same of a node that has few bytes of its own
-abbrev pub few_need : Form → ℕ → Option ℕ
-few_need form.Empty first = None
-few_need form.Fields first = None
-few_need (form.Array n) first = None
-few_need (form.ByteArray n) first = None
-few_need f first = Some (need f first)
 
 -- the forms of nodes that have a few bytes of their own, which are carried where a piece cuts them
 abbrev pub HasBytes : Form → Type 0

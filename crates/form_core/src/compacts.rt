@@ -11,7 +11,7 @@ use scale_core::{Target, read_compact, read_u32, read_u64};
 /// and no jump is taken on them, since none could be foretold. There is none where they name the fourth form, where a
 /// shorter form has the number, and where fewer than four bytes are there.
 #[inline(always)]
-fn short_form(piece: &[u8]) -> Option<(u32, usize)>
+fn short_mode(piece: &[u8]) -> Option<(u32, usize)>
     ensures { IfSome result (λ x. (m : Target) → 4 ≤ target_bytes m →
         IsCompactAtFront m piece.now x.0 x.1) }
 {
@@ -34,7 +34,7 @@ fn short_form(piece: &[u8]) -> Option<(u32, usize)>
 /// where it is of another form, where it has more bytes than these or than the target, where a shorter form has the number,
 /// and where fewer than eight are there.
 #[inline(always)]
-fn long_form(target: Target, piece: &[u8]) -> Option<(u64, usize)>
+fn long_mode(target: Target, piece: &[u8]) -> Option<(u64, usize)>
     ensures { IfSome result (λ x. IsCompactAtFront target piece.now x.0 x.1) }
 {
     let Some((first, rest)) = piece.split_first() else {
@@ -75,11 +75,11 @@ pub fn whole_compact(target: Target, piece: &[u8]) -> Option<(u128, usize)>
     ensures none { IfNone result (IsErr (compact_at target piece.now)) }
 {
     if target.bytes() >= 4
-        && let Some((number, len)) = short_form(piece)
+        && let Some((number, len)) = short_mode(piece)
     {
         return Some((u128::from(number), len));
     }
-    if let Some((number, len)) = long_form(target, piece) {
+    if let Some((number, len)) = long_mode(target, piece) {
         return Some((u128::from(number), len));
     }
     any_form(target, piece)

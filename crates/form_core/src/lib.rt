@@ -14,6 +14,6 @@ pub use carry::Carry;
 pub use compacts::whole_compact;
 pub use forms::{BareForm, BytesForm, NodeForm, PlainForm, PrefixedRun, node_form};
 pub use fronts::LeafForm;
-pub use needs::{few_need, need};
+pub use needs::need;
 pub use plain::{read_length, read_plain};
 pub use runs::whole_run;

@@ -1,12 +1,10 @@
 //! How many bytes a node has of its own, by its form and its first byte.
 
-ghost use Rattle.std.specs.Prelude.{◌≡◌, ◌≤◌, IfSome};
+ghost use Rattle.std.specs.Prelude.{◌≡◌, ◌≤◌};
 ghost use Rattle.form_core.specs.NodeForms.{form_of_bytes, form_of_plain};
-ghost use Rattle.form_core.specs.Needs.{HasBytes, compact_need, few_need, need};
+ghost use Rattle.form_core.specs.Needs.{compact_need, need};
 
-use crate::forms::{BytesForm, NodeForm, PlainForm, node_form};
-use grammar_core::Form;
-use registry_core::Primitive;
+use crate::forms::{BytesForm, PlainForm};
 use scale_core::Target;
 
 /// How many bytes a compact integer has, or decide that it is refused.
@@ -60,26 +58,5 @@ pub fn need(form: BytesForm, first: u8) -> usize
         BytesForm::Plain(plain) => plain_need(plain, first),
         BytesForm::Arm => 1,
         BytesForm::Run(_) | BytesForm::Sequence => compact_need(Target::U32, first),
-    }
-}
-
-/// How many bytes a node of this form has of its own, or how many decide that it is refused, by the first of them: 1 to
-/// 32, and `None` of a node that has no bytes of its own or is an array of u8. The integers are named, as one look tells how
-/// many these have.
-#[inline(always)]
-pub fn few_need(form: Form, first: u8) -> Option<usize>
-    ensures exact { result ≡ few_need form first }
-    ensures few { IfSome result (λ len. HasBytes form × (len ≡ need form first) × (len ≤ 32)) }
-{
-    match form {
-        Form::Primitive(Primitive::U8) => Some(1),
-        Form::Primitive(Primitive::U16) => Some(2),
-        Form::Primitive(Primitive::U32) => Some(4),
-        Form::Primitive(Primitive::U64) => Some(8),
-        Form::Primitive(Primitive::U128) => Some(16),
-        other => match node_form(other) {
-            NodeForm::Bytes(own) => Some(need(own, first)),
-            _ => None,
-        },
     }
 }

@@ -9,21 +9,21 @@ use Rattle.scale_core.specs.Number.{AreBytes}
 use Rattle.scale_core.proofs.Numbers.{both_bytes}
 use Rattle.decode_core.specs.Decoding.{HoldsOf, IsDone, IsGoing, IsOf, IsWaiting, RanOut}
 use Rattle.decode_core.specs.Decoding.{built_tree}
-use Rattle.decode_core.specs.Decided.{Decided}
-use Rattle.decode_core.specs.Machine.{remain, start}
-use Rattle.decode_core.specs.Outcome.{Job, done, refused, more, too_long, IsOutcome}
-use Rattle.decode_core.specs.Reasons.{reason_of}
-use Rattle.decode_core.specs.Running.{Running, held_of, state_of}
-use Rattle.decode_core.specs.Reported.{reported, reported_at, after}
+use Rattle.machine_core.specs.Decided.{Decided}
+use Rattle.machine_core.specs.Machine.{remain, start}
+use Rattle.machine_core.specs.Outcome.{Job, done, refused, more, too_long, IsOutcome}
+use Rattle.machine_core.specs.Reasons.{reason_of}
+use Rattle.machine_core.specs.Running.{Running, held_of, state_of}
+use Rattle.machine_core.specs.Reported.{reported, reported_at, after}
 use Rattle.value_core.specs.Built.{Entry}
-use Rattle.decode_core.specs.Turned.{IsSame, IsSound, Moves, TurnsLead, EndsTurns, WantsMemory}
-use Rattle.decode_core.specs.declared.fault.DecodeReason.{DecodeReason}
-use Rattle.decode_core.specs.declared.turned.Stopped.TheVariants as stop
-use Rattle.decode_core.proofs.lists.Decides.{not_cut}
-use Rattle.decode_core.proofs.steps.Holding.{holds_of}
-use Rattle.decode_core.proofs.steps.Refusing.{waits_reported}
-use Rattle.decode_core.proofs.lists.Fed.{Here, cut_here, done_here, refused_here, take_split}
-use Rattle.decode_core.proofs.lists.Fed.{led_on, whole_reported}
+use Rattle.machine_core.specs.Turned.{IsSame, IsSound, Moves, TurnsLead, EndsTurns, WantsMemory}
+use Rattle.machine_core.specs.declared.reason.DecodeReason.{DecodeReason}
+use Rattle.machine_core.specs.declared.turned.Stopped.TheVariants as stop
+use Rattle.machine_core.proofs.lists.NotCut.{not_cut}
+use Rattle.decode_core.proofs.calls.Holding.{holds_of}
+use Rattle.machine_core.proofs.steps.Refusing.{waits_reported}
+use Rattle.machine_core.proofs.lists.Fed.{Here, cut_here, done_here, refused_here, take_split}
+use Rattle.machine_core.proofs.lists.Fed.{led_on, whole_reported}
 
 -- the bytes that are offered within the limit
 abbrev pub offered : Job → ℕ → List ℕ → List ℕ

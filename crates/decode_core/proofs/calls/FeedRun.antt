@@ -7,15 +7,15 @@ use Rattle.scale_core.specs.Number.{AreBytes}
 use Rattle.scale_core.specs.declared.fault.Reason.TheVariants as scale
 use Rattle.grammar_core.specs.Reading.{Refusal, basic}
 use Rattle.decode_core.specs.Decoding.{HoldsOf, IsDone, IsEnded, IsGoing, RunLed}
-use Rattle.decode_core.specs.Reasons.{reason_of}
-use Rattle.decode_core.specs.Outcome.{Job, more, IsOutcome}
+use Rattle.machine_core.specs.Reasons.{reason_of}
+use Rattle.machine_core.specs.Outcome.{Job, more, IsOutcome}
 use Rattle.value_core.specs.Refusals.{is_whole}
-use Rattle.decode_core.specs.Running.{Running, held_of}
-use Rattle.decode_core.specs.Turned.{FeedReports, RunsOut, EndsTurns}
-use Rattle.decode_core.specs.declared.fault.DecodeReason.{DecodeReason}
-use Rattle.decode_core.specs.declared.fault.DecodeReason.TheVariants as reason
-use Rattle.decode_core.specs.declared.turned.Stopped.{Stopped}
-use Rattle.decode_core.specs.declared.turned.Stopped.TheVariants as stop
+use Rattle.machine_core.specs.Running.{Running, held_of}
+use Rattle.machine_core.specs.Turned.{FeedReports, RunsOut, EndsTurns}
+use Rattle.machine_core.specs.declared.reason.DecodeReason.{DecodeReason}
+use Rattle.machine_core.specs.declared.reason.DecodeReason.TheVariants as reason
+use Rattle.machine_core.specs.declared.turned.Stopped.{Stopped}
+use Rattle.machine_core.specs.declared.turned.Stopped.TheVariants as stop
 use Rattle.decode_core.proofs.calls.Bridge.{fed_short, offered}
 use Rattle.decode_core.proofs.calls.Feeding.{led_done, led_more, led_long, led_refused}
 
@@ -95,6 +95,18 @@ run_refused j b piece slice s new limit taken k held reported_reason at len why 
     ))
 
 -- ---- memory is refused
+
+-- turns that end for want of memory lead to where it is wanted
+pub runs_out : (s new : Running) (slice : List ℕ) (k : ℕ) (why : Stopped) →
+    FeedReports s new slice k why → why ≡ stop.OutOfMemory → RunsOut s slice k
+runs_out s new slice k why f is =
+    let g = subst (FeedReports s new slice k) is f in (g.0, (g.1.0, g.1.1, g.1.2, g.1.4))
+
+-- turns that end so don't end with a whole value
+pub stops_otherwise : (r : ℕ × Stopped) → r ≡ (0, stop.Finished) → r.1 ≡ stop.OutOfMemory → ⊥
+stops_otherwise r whole is =
+    let no : stop.OutOfMemory ≡ stop.Finished =
+    sym is ∙ ap (λ (x : ℕ × Stopped). x.1) whole in absurd cc
 
 -- turns that end for want of memory end the decoder so, if its value was not whole
 pub run_short : (j : Job) (b piece slice : List ℕ) (s : Running) (limit taken k : ℕ) →

@@ -4,10 +4,10 @@ use Rattle.decode_core.specs.declared.decoder.Decoder.TheInside.{Inside}
 use Rattle.decode_core.specs.declared.fault.DecodeFault.{DecodeFault}
 use Rattle.decode_core.specs.Decoding.{Decoding, IsDecoding, IsSmall, Led, LoopCounted, RunCounted}
 use Rattle.decode_core.specs.Decoding.{RunLed, closing_turns}
-use Rattle.decode_core.specs.Outcome.{Job}
-use Rattle.decode_core.specs.Running.{Running}
+use Rattle.machine_core.specs.Outcome.{Job}
+use Rattle.machine_core.specs.Running.{Running}
 use Rattle.decode_core.specs.Viewed.{decoding_of, job_within}
-use Rattle.decode_core.proofs.steps.Sound.{led_small}
+use Rattle.decode_core.proofs.calls.Small.{led_small}
 
 -- the bytes that led to a decoder, as contracts see it, led to what is inside
 pub led_inside : {A : Type 0} (d : Inside A) (seen : Decoding) (b : List ℕ) → decoding_of d ≡ seen →

@@ -8,18 +8,18 @@ use Rattle.node_core.specs.Shown.{Seen}
 use Rattle.decode_core.specs.Decoding.{AnswersPiece, AsksMemory, Decoding, FinishesDecoder, IsEnded}
 use Rattle.decode_core.specs.Decoding.{IsGoing}
 use Rattle.decode_core.specs.Decoding.{IsOf, Led, RunLed, built_tree, first_running}
-use Rattle.decode_core.specs.Machine.{State, start}
-use Rattle.decode_core.specs.Outcome.{Job, done, more, IsOutcome}
-use Rattle.decode_core.specs.Running.{Running, state_of}
-use Rattle.decode_core.specs.Turned.{EndsTurns, IsSound, TurnsLead}
+use Rattle.machine_core.specs.Machine.{State, start}
+use Rattle.machine_core.specs.Outcome.{Job, done, more, IsOutcome}
+use Rattle.machine_core.specs.Running.{Running, state_of}
+use Rattle.machine_core.specs.Turned.{EndsTurns, IsSound, TurnsLead}
 use Rattle.decode_core.specs.declared.decoder.Progress.{Progress}
 use Rattle.decode_core.specs.declared.decoder.Progress.TheVariants as progress
 use Rattle.decode_core.specs.declared.fault.DecodeFault.{DecodeFault}
-use Rattle.decode_core.specs.declared.fault.DecodeReason.TheVariants as reason
-use Rattle.decode_core.specs.declared.turned.Stopped.TheVariants as stop
+use Rattle.machine_core.specs.declared.reason.DecodeReason.TheVariants as reason
+use Rattle.machine_core.specs.declared.turned.Stopped.TheVariants as stop
 use Rattle.decode_core.proofs.calls.Bridge.{offered}
 use Rattle.decode_core.proofs.calls.Feeding.{led_done}
-use Rattle.decode_core.proofs.steps.Moving.{moves_none}
+use Rattle.machine_core.proofs.steps.Moving.{moves_none}
 
 abbrev first : Job → Running
 first j = first_running j.registry j.ty j.depth

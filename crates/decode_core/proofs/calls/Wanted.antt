@@ -20,20 +20,20 @@ use Rattle.grammar_core.specs.Preorder.{Head}
 use Rattle.grammar_core.specs.Reading.{truncated, layout_at}
 use Rattle.value_core.specs.Built.{Built, Entry, next_entry, next_layout}
 use Rattle.decode_core.specs.Decoding.{RanOut}
-use Rattle.decode_core.specs.Machine.{remain}
-use Rattle.decode_core.specs.NodeAdds.{with_own}
-use Rattle.decode_core.specs.Outcome.{Job, more, IsOutcome}
-use Rattle.decode_core.specs.Running.{held_of, state_of}
+use Rattle.machine_core.specs.Machine.{remain}
+use Rattle.machine_core.specs.NodeAdds.{with_own}
+use Rattle.machine_core.specs.Outcome.{Job, more, IsOutcome}
+use Rattle.machine_core.specs.Running.{held_of, state_of}
 use Rattle.form_core.specs.PlainReads.{Own}
-use Rattle.decode_core.specs.Reported.{Reported, reported, after, own_at, reported_at}
-use Rattle.decode_core.specs.Turned.{KeepsNode, KeepsRun}
+use Rattle.machine_core.specs.Reported.{Reported, reported, after, own_at, reported_at}
+use Rattle.machine_core.specs.Turned.{KeepsNode, KeepsRun}
 use Rattle.decode_core.specs.Wanted.{GoesOn, WantedGoesOn}
-use Rattle.decode_core.proofs.lists.Fed.{fault_value, whole_reported}
-use Rattle.decode_core.proofs.steps.LengthAdding.{run_cut}
-use Rattle.decode_core.proofs.lists.Owns.{own_extends}
-use Rattle.decode_core.proofs.steps.Refusing.{remain_next}
-use Rattle.decode_core.proofs.lists.Shortest.{reason_reports, refusal_reports}
-use Rattle.decode_core.proofs.steps.Stepping.{added_leads, at_next}
+use Rattle.machine_core.proofs.lists.Fed.{fault_value, whole_reported}
+use Rattle.machine_core.proofs.steps.LengthAdding.{run_cut}
+use Rattle.machine_core.proofs.lists.Owns.{own_extends}
+use Rattle.machine_core.proofs.steps.Refusing.{remain_next}
+use Rattle.machine_core.proofs.lists.Shortest.{reason_reports, refusal_reports}
+use Rattle.machine_core.proofs.steps.MachineTurn.{added_leads, at_next}
 
 -- ---- fewer bytes than spell a node, or begin a run, are too few
 

@@ -1,5 +1,5 @@
 use Rattle.std.proofs.Common.{ℕ, arith, subst, sym}
-use Rattle.scale_core.proofs.ReadForms.{are_bytes}
+use Rattle.scale_core.proofs.ReadModes.{are_bytes}
 use Rattle.scale_core.specs.declared.compact.Target.TheVariants as target
 use Rattle.form_core.specs.WholeCompacts.{IsCompactAtFront}
 use Rattle.form_core.proofs.WholeRuns.{one_byte}

@@ -3,12 +3,12 @@ use Rattle.std.specs.Prelude.{Result}
 use Rattle.decode_core.specs.Viewed.{job_within}
 use Rattle.decode_core.specs.Decoding.{AsksMemory, Decoding, IsSmall, RunCounted, RunLed}
 use Rattle.decode_core.specs.Decoding.{closing_turns}
-use Rattle.decode_core.specs.Running.{Running}
+use Rattle.machine_core.specs.Running.{Running}
 use Rattle.decode_core.specs.declared.fault.DecodeFault.{DecodeFault}
 use Rattle.std.proofs.Common.{refl, sym, ap, arith, subst, inl, inr}
 use Rattle.decode_core.proofs.calls.Feeding.{ended_stays}
 use Rattle.decode_core.proofs.calls.Inside.{has_run, led_inside, led_to_run}
-use Rattle.decode_core.proofs.steps.Sound.{done_counts, done_small, led_small}
+use Rattle.decode_core.proofs.calls.Small.{done_counts, done_small, led_small}
 use Rattle.decode_core.proofs.decoder.Decoder.feed.Goals as goal
 
 pub returns-in-Err-clause-answers : goal.returns-in-Err-clause-answers

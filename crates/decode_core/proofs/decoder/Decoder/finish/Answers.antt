@@ -5,12 +5,12 @@ use Rattle.std.proofs.lemmas.Result.{err_from_is_err_and}
 use Rattle.value_core.specs.Built.{finished}
 use Rattle.value_core.specs.Refusals.{is_whole}
 use Rattle.node_core.specs.Shown.{Seen}
-use Rattle.decode_core.specs.Running.{Running}
+use Rattle.machine_core.specs.Running.{Running}
 use Rattle.decode_core.specs.declared.decoder.Progress.{Progress}
 use Rattle.decode_core.proofs.calls.Opening.{asks_at_end, ends_by, ends_refused, ends_short}
 use Rattle.decode_core.proofs.calls.Opening.{ends_whole}
 use Rattle.decode_core.proofs.calls.Opening.{same_run}
-use Rattle.decode_core.proofs.steps.Sound.{value_small}
+use Rattle.decode_core.proofs.calls.Small.{value_small}
 use Rattle.decode_core.proofs.decoder.Decoder.finish.Goals as goal
 
 pub into_value-requires : goal.into_value-requires

@@ -1,9 +1,9 @@
 use Rattle.std.proofs.Common.{◌≤◌, ap, arith, length, subst}
 use Rattle.graph_core.specs.Widths.{widest}
 use Rattle.decode_core.specs.Viewed.{job_within}
-use Rattle.decode_core.specs.Bound.{node_bound}
+use Rattle.machine_core.specs.Bound.{node_bound}
 use Rattle.decode_core.specs.Decoding.{Decoding}
-use Rattle.decode_core.specs.Running.{Running}
+use Rattle.value_core.specs.Built.{Built}
 use Rattle.decode_core.proofs.calls.Inside.{small_inside}
 use Rattle.decode_core.proofs.decoder.Decoder.node_count.Goals as goal
 
@@ -17,7 +17,7 @@ returns-in-Ok-clause-bound g c =
       arith,
       small.nodes,
       c.node_count.ensures.count,
-      ap (λ (s : Running). length s.built.entries) c.run.view_is,
+      ap (λ (b : Built). length b.entries) c.builder.ensures,
     ) in
     subst (λ (x : Decoding). c.node_count.result
     ≤ node_bound x.taken x.job.depth (widest x.job.registry)) c.self.view_is few

@@ -1,6 +1,5 @@
 use Rattle.std.proofs.Common.{◌≤◌, ap, arith, subst}
 use Rattle.decode_core.specs.Decoding.{Decoding}
-use Rattle.decode_core.specs.Running.{Running}
 use Rattle.value_core.specs.Built.{built_text_bytes}
 use Rattle.decode_core.proofs.calls.Inside.{small_inside}
 use Rattle.decode_core.proofs.decoder.Decoder.text_bytes.Goals as goal
@@ -13,6 +12,6 @@ returns-in-Ok-clause-bound g c =
       arith,
       small.texts,
       c.text_bytes.ensures.count,
-      ap (λ (s : Running). built_text_bytes s.built) c.run.view_is,
+      ap built_text_bytes c.builder.ensures,
     ) in
     subst (λ (x : Decoding). c.text_bytes.result ≤ x.taken) c.self.view_is few

@@ -1,0 +1,16 @@
+use Rattle.std.proofs.Common.{◌≡◌, ℕ, ◌-◌, List}
+use Rattle.std.specs.Io.KnownBytes.{Consumes}
+use Rattle.decode_core.specs.Streaming.{Gives, IsUnderWay}
+use Rattle.decode_core.proofs.stream.feed_all.Given as goal
+
+abbrev pub invariant-pieces : goal.invariant-pieces
+invariant-pieces g l = record {
+  so_far : (b : List ℕ) × IsUnderWay l.decoder b
+      × Consumes (g.R.Read.remaining l.fn.source.device) (g.R.Read.remaining l.source.device) b
+      × ((k : ℕ) × Gives g.R.ReadOnce.reads l.fn.source.device k b l.source.device);
+  job : l.decoder.job ≡ l.fn.decoder.job;
+  quiet : l.source.failed ≡ l.fn.source.failed;
+}
+
+abbrev pub decreases-pieces : goal.decreases-pieces
+decreases-pieces g l = l.fn.decoder.job.bytes - l.decoder.taken

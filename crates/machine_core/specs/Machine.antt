@@ -1,0 +1,30 @@
+-- A decoder as a machine over lists: nodes so far, and parts that are still to be read.
+use Rattle.std.specs.Prelude.{ℕ, suc, ◌+◌, ◌*◌, List, [], ◌∷◌, length, Bool, true, false}
+use Rattle.scale_core.specs.declared.fault.Reason.TheVariants as scale
+use Rattle.registry_core.specs.declared.type_info.TypeInfo.{TypeInfo}
+use Rattle.grammar_core.specs.Reading.{Refusal, basic}
+use Rattle.grammar_core.specs.Parts.{Part, times}
+use Rattle.value_core.specs.Built.{Entry}
+use Rattle.machine_core.specs.Reported.{Reported, added, rest_reported}
+
+-- the nodes so far, the parts that are still to be read, the innermost first, and the room that its
+-- values have
+pub record State : Type 0 where
+  pub nodes : List Entry
+  pub room : ℕ
+  pub pending : List Part
+
+-- what the state will add of these bytes
+abbrev pub remain : List TypeInfo → State → List ℕ → Reported
+remain r s x = rest_reported r s.room s.pending x
+
+abbrev pub start : ℕ → ℕ → State
+start depth t = record { nodes = []; room = suc depth; pending = times 1 t ∷ [] }
+
+-- turns that are enough
+abbrev pub to_go : List TypeInfo → State → List ℕ → ℕ
+to_go r s x = 2 * length (added (remain r s x)) + length s.pending
+
+abbrev pub is_cut : Refusal → Bool
+is_cut (basic scale.Truncated) = true
+is_cut _ = false

@@ -1,0 +1,85 @@
+-- How many bytes decide a refusal: those up to the byte that reports it, and with it.
+use Rattle.std.specs.Prelude.{ℕ, zero, suc, ◌+◌, List, [], ◌∷◌, Option, Some, None, Ok, Err}
+use Rattle.std.specs.Prelude.{if◌then◌else◌}
+use Rattle.scale_core.specs.Read.{Read, place, compact_at, is_too_long, mode_len}
+use Rattle.scale_core.specs.declared.compact.Target.{Target}
+use Rattle.scale_core.specs.declared.compact.Target.TheVariants as target
+use Rattle.registry_core.specs.declared.definition.Arm.{Arm}
+use Rattle.registry_core.specs.declared.type_info.TypeInfo.{TypeInfo}
+use Rattle.graph_core.specs.Types.{field_types}
+use Rattle.widths_core.specs.Arms.{arm_of}
+use Rattle.widths_core.specs.Classes.{is_finite}
+use Rattle.widths_core.specs.Layouts.{Plain, Layout, layout}
+use Rattle.widths_core.specs.Layouts as layout
+use Rattle.widths_core.specs.declared.run_kind.RunKind.{RunKind}
+use Rattle.widths_core.specs.declared.run_kind.RunKind.TheVariants as kind
+use Rattle.grammar_core.specs.Tree.{Tree}
+use Rattle.grammar_core.specs.Reading.{ValueReader, value_at}
+use Rattle.grammar_core.specs.Runs.{run_length_at}
+use Rattle.grammar_core.specs.Ways.{Way, of_no_byte, of_width, of_compact, of_run, way_of}
+
+-- what the first part takes, where it is refused; else its bytes, and what the parts after it
+-- take
+abbrev pub taken_after : {E X : Type 0} → List ℕ → Read E X → ℕ → (X × List ℕ → ℕ) → ℕ
+taken_after b (Ok x) own next = place b x.1 + next x
+taken_after b (Err e) own next = own
+
+-- one byte reports that a compact is too long for its target; else it is there whole
+abbrev pub compact_taken : Target → List ℕ → ℕ
+compact_taken m [] = 0
+compact_taken m (first ∷ rest) = if is_too_long m first then 1 else mode_len first
+
+-- where the length of a run is refused
+abbrev pub run_length_taken : RunKind → List ℕ → ℕ
+run_length_taken (kind.ByteArray n) b = 0
+run_length_taken _ b = compact_taken target.U32 b
+
+-- a text is judged at its end
+abbrev pub run_taken : RunKind → List ℕ → ℕ
+run_taken k b = taken_after b (run_length_at k b) (run_length_taken k b) (λ n. n.0)
+
+abbrev pub all_taken : (ℕ → ValueReader Tree) → (ℕ → List ℕ → ℕ) → List ℕ → List ℕ → ℕ
+all_taken child taken [] b = 0
+all_taken child taken (t ∷ ts) b =
+    taken_after b (child t b) (taken t b) (λ x. all_taken child taken ts x.1)
+
+abbrev pub times_taken : (ℕ → ValueReader Tree) → (ℕ → List ℕ → ℕ) → ℕ → ℕ → List ℕ → ℕ
+times_taken child taken zero t b = 0
+times_taken child taken (suc n) t b =
+    taken_after b (child t b) (taken t b) (λ x. times_taken child taken n t x.1)
+
+abbrev pub arm_taken : (ℕ → ValueReader Tree) → (ℕ → List ℕ → ℕ) → Option (ℕ × Arm) → List ℕ → ℕ
+arm_taken child taken (Some found) rest = all_taken child taken (field_types found.1.fields) rest
+arm_taken child taken None rest = 0
+
+-- the index is one byte
+abbrev pub arms_taken : (ℕ → ValueReader Tree) → (ℕ → List ℕ → ℕ) → List Arm → List ℕ → ℕ
+arms_taken child taken arms [] = 0
+arms_taken child taken arms (index ∷ rest) = suc (arm_taken child taken (arm_of arms index) rest)
+
+-- so many bytes are judged when all are there
+abbrev pub taken_by : Way → List ℕ → ℕ
+taken_by (of_no_byte l) b = 0
+taken_by (of_width k make fault) b = k
+taken_by (of_compact m make) b = compact_taken m b
+taken_by (of_run k) b = run_taken k b
+
+abbrev pub leaf_taken : Plain → List ℕ → ℕ
+leaf_taken p b = taken_by (way_of p) b
+
+-- where a type is refused as it is met, no byte of it is taken
+unfoldable pub layout_taken : (ℕ → ValueReader Tree) → (ℕ → List ℕ → ℕ) → Layout → List ℕ → ℕ
+layout_taken child taken (layout.plain p) b = leaf_taken p b
+layout_taken child taken (layout.fields ts) b = all_taken child taken ts b
+layout_taken child taken (layout.arms arms) b = arms_taken child taken arms b
+layout_taken child taken (layout.sequence t) b =
+    taken_after b (compact_at target.U32 b) (compact_taken target.U32 b)
+    (λ n. times_taken child taken n.0 t n.1)
+layout_taken child taken (layout.array n t) b = times_taken child taken n t b
+layout_taken child taken _ b = 0
+
+-- what is taken where a value of type t is refused
+unfoldable pub value_taken : List TypeInfo → ℕ → ℕ → List ℕ → ℕ
+value_taken r zero t b = 0
+value_taken r (suc room) t b =
+    if is_finite r t then layout_taken (value_at r room) (value_taken r room) (layout r t) b else 0

@@ -1,0 +1,295 @@
+-- One piece of input, turn by turn.
+use Rattle.std.specs.Prelude.{◌≡◌, ℕ, suc, ◌*◌, ◌+◌, ◌-◌, ◌≤◌, ◌⊎◌, List, [], ◌++◌, length, take}
+use Rattle.std.specs.Prelude.{drop, false, true, None, Result, Ok, Err}
+use Rattle.registry_core.specs.declared.type_info.TypeInfo.{TypeInfo}
+use Rattle.widths_core.specs.Layouts as layout
+use Rattle.widths_core.specs.declared.run_kind.RunKind.{RunKind}
+use Rattle.grammar_core.specs.Runs.{run_length_at}
+use Rattle.grammar_core.specs.declared.form.Form.{Form}
+use Rattle.grammar_core.specs.declared.form.Next.TheVariants as next
+use Rattle.value_core.specs.Begun.{IsBegun}
+use Rattle.value_core.specs.Built.{next_layout}
+use Rattle.value_core.specs.Walked.{elements_after, next_of}
+use Rattle.value_core.specs.Refusals.{is_whole}
+use Rattle.grammar_core.specs.Reading.{Refusal, truncated}
+use Rattle.form_core.specs.declared.forms.BytesForm.{BytesForm}
+use Rattle.form_core.specs.declared.forms.BytesForm.TheVariants as bytes
+use Rattle.machine_core.specs.Decided.{Decided}
+use Rattle.machine_core.specs.Machine.{State, remain, to_go, is_cut}
+use Rattle.machine_core.specs.NodeAdds.{IsSpelled}
+use Rattle.machine_core.specs.Reasons.{reason_of}
+use Rattle.machine_core.specs.Running.{Running, IsCarry, IsRunNext, state_of, held_of}
+use Rattle.machine_core.specs.Reported.{reported, after, own_at}
+use Rattle.machine_core.specs.declared.node.NodeFault.{NodeFault}
+use Rattle.machine_core.specs.declared.node.NodeFault.TheVariants as fault
+use Rattle.machine_core.specs.declared.turned.Stopped.{Stopped}
+use Rattle.machine_core.specs.declared.turned.Stopped.TheVariants as stop
+use Rattle.machine_core.specs.declared.turned.Tried.{Tried}
+use Rattle.machine_core.specs.declared.turned.Tried.TheVariants as tried
+
+-- what a turn did: it took so many bytes of the piece, or added a node, and goes on; or why no turn
+-- follows
+abbrev pub Turned : Type 0
+Turned = Result ℕ Stopped
+
+abbrev pub types_in : Running → List TypeInfo
+types_in s = s.built.walk.types
+
+-- the bytes c lead from one state to the next, whatever follows them; and frames and nodes are few
+pub record TurnLeads (r : List TypeInfo) (s s' : State) (c : List ℕ) : Type 0 where
+  pub reports : (more : List ℕ) →
+      after s.nodes (remain r s (c ++ more)) ≡ after s'.nodes (remain r s' more)
+  pub level : s'.room + length s'.pending ≡ s.room + length s.pending
+  pub paid : length s'.pending + 2 * length s.nodes + 1 ≤ length s.pending + 2 * length s'.nodes
+
+-- the bytes c lead from one state to another in any number of turns
+pub record TurnsLead (r : List TypeInfo) (s s' : State) (c : List ℕ) : Type 0 where
+  pub reports : (more : List ℕ) →
+      after s.nodes (remain r s (c ++ more)) ≡ after s'.nodes (remain r s' more)
+  pub level : s'.room + length s'.pending ≡ s.room + length s.pending
+
+-- the same value is decoded
+pub record IsSame (old new : Running) : Type 0 where
+  pub types : new.built.walk.types ≡ old.built.walk.types
+  pub limit : new.built.walk.limit ≡ old.built.walk.limit
+  pub ty : new.built.ty ≡ old.built.ty
+
+-- these bytes lead from one to the other, whatever follows them, and no node is given up
+pub record Moves (old new : Running) (bytes : List ℕ) : Type 0 where
+  pub same : IsSame old new
+  pub own : List ℕ
+  pub is : held_of old ++ bytes ≡ own ++ held_of new
+  pub reports : (more : List ℕ) →
+      after (state_of old.built).nodes (remain (types_in old) (state_of old.built) (own ++ more))
+      ≡ after (state_of new.built).nodes (remain (types_in old) (state_of new.built) more)
+  pub level : (state_of new.built).room + length (state_of new.built).pending
+      ≡ (state_of old.built).room + length (state_of old.built).pending
+  pub nodes : length old.built.entries ≤ length new.built.entries
+
+-- the work that is left
+abbrev pub left_to_do : Running → List ℕ → ℕ
+left_to_do s rest = to_go (types_in s) (state_of s.built) (held_of s ++ rest) + length rest
+
+-- the next node's own bytes are not all there
+pub record WantsBytes (s : Running) : Type 0 where
+  pub form : Form
+  pub next : next_of s.built.walk ≡ next.Wants form
+  pub left : List ℕ
+  pub short : own_at (next_layout s.built) (held_of s) ≡ Err (truncated, left)
+
+-- the bytes that are held and these spell the next node
+abbrev pub KeepsNode : Running → List ℕ → Type 0
+KeepsNode s bytes = IsSpelled s.built (held_of s ++ bytes)
+
+-- a text or a run of bytes is next, and the bytes that are held and these are its length and some
+-- of its bytes, or none; these are not none
+abbrev pub KeepsRun : Running → List ℕ → Type 0
+KeepsRun s bytes = (k : RunKind) × (next_layout s.built ≡ layout.plain (layout.run k))
+    × (1 ≤ length bytes)
+    × ((n : ℕ) × (came : List ℕ) × (run_length_at k (held_of s ++ bytes) ≡ Ok (n, came))
+    × (length came ≤ n))
+
+-- memory is wanted, where rest is left of the piece: a value can stand next, and by the first bytes
+-- of the rest its node is to be
+-- added, which they spell, or bytes of a run are to be kept
+pub record WantsMemory (s : Running) (rest : List ℕ) : Type 0 where
+  pub form : Form
+  pub next : next_of s.built.walk ≡ next.Wants form
+  pub bytes : List ℕ
+  pub later : List ℕ
+  pub is : rest ≡ bytes ++ later
+  pub keeps : KeepsNode s bytes ⊎ KeepsRun s bytes
+
+-- why no turn follows, where rest is left of the piece
+abbrev pub EndsTurns : Running → List ℕ → Stopped → Type 0
+EndsTurns s rest stop.Finished =
+    ((x : List ℕ) → remain (types_in s) (state_of s.built) x ≡ reported [] (Ok x))
+    × (held_of s ≡ [])
+    × (is_whole s.built ≡ true)
+EndsTurns s rest stop.Wants = (rest ≡ []) × WantsBytes s
+EndsTurns s rest (stop.Refused held reported_reason at len) = let x = held_of s ++ rest in
+    (e : Refusal) × (left : List ℕ) × (is_cut e ≡ false) × (reported_reason ≡ reason_of e)
+    × (held ≡ length (held_of s)) × (at ≡ length x - length left)
+    × (remain (types_in s) (state_of s.built) x ≡ reported [] (Err ((e, left), x)))
+    × Decided (types_in s) (state_of s.built) x e left len × (held ≤ len)
+EndsTurns s rest stop.OutOfMemory = WantsMemory s rest
+
+-- bytes are held, or a node is added and none are
+abbrev pub Steps : Running → Running → List ℕ → Type 0
+Steps old new bytes = ((1 ≤ length bytes) × (state_of new.built ≡ state_of old.built)
+    × (held_of new ≡ held_of old ++ bytes))
+    ⊎ ((held_of new ≡ []) × TurnLeads (types_in old) (state_of old.built) (state_of new.built)
+    (held_of old ++ bytes) × (length new.built.entries ≡ suc (length old.built.entries)))
+
+-- what a turn does, by its step
+abbrev pub StepReports : Running → Running → List ℕ → Turned → Type 0
+StepReports old new piece (Ok n) = (n ≤ length piece) × IsSame old new
+    × Steps old new (take n piece)
+StepReports old new piece (Err (stop.Refused held reported_reason at len)) =
+    EndsTurns old piece (stop.Refused held reported_reason at len)
+StepReports old new piece (Err stop.OutOfMemory) = WantsMemory old piece
+StepReports old new piece (Err s) = (new ≡ old) × EndsTurns old piece s
+
+-- what stands after the turns end: what stood before the last one, but for a node that is refused
+-- and an allocation that failed
+abbrev pub StandsAfter : Stopped → Running → Running → Type 0
+StandsAfter (stop.Refused held reported_reason at len) before new = Unit {0}
+StandsAfter stop.OutOfMemory before new = Unit {0}
+StandsAfter s before new = new ≡ before
+
+-- what a turn does on a node that pieces cut, whose last bytes one may have: it adds the node, or
+-- opens the run that is next, or nothing changes
+abbrev pub CutReports : Running → Running → List ℕ → Tried → Type 0
+CutReports old new piece (tried.Added n) = StepReports old new piece (Ok n)
+CutReports old new piece tried.Untouched = new ≡ old
+CutReports old new piece tried.OutOfMemory = WantsMemory old piece × (new ≡ old)
+
+-- nothing is carried, and no run is open
+abbrev pub IsReady : Running → Type 0
+IsReady s = (s.carry ≡ []) × (s.built.run ≡ None)
+
+-- what a turn does on a node whose own bytes a piece may have whole: it adds the node, or nothing
+-- changes
+abbrev pub WholeReports : Running → Running → List ℕ → Tried → Type 0
+WholeReports old new piece (tried.Added n) = StepReports old new piece (Ok n) × IsReady new
+WholeReports old new piece tried.Untouched = new ≡ old
+WholeReports old new piece tried.OutOfMemory = WantsMemory old piece × (new ≡ old)
+
+-- a variant or a sequence
+abbrev pub HasParts : BytesForm → Type 0
+HasParts bytes.Arm = Unit {0}
+HasParts bytes.Sequence = Unit {0}
+HasParts _ = ⊥
+
+-- what holds of every value on its way: a begun tree is built, no more nodes are open than the
+-- depth limit lets in, and what
+-- is held beside are bytes of the next node
+pub record IsSound (s : Running) : Type 0 where
+  pub begun : IsBegun s.built
+  pub frames : length s.built.walk.frames ≤ s.built.walk.limit + 2
+  pub carried : IsCarry s.built s.carry
+  pub run_next : IsRunNext s.built s.carry s.built.run
+
+-- what turns on a piece do, of which n bytes were taken
+abbrev pub FeedReports : Running → Running → List ℕ → ℕ → Stopped → Type 0
+FeedReports old new piece n s = (n ≤ length piece)
+    × ((last : Running) × Moves old last (take n piece) × EndsTurns last (drop n piece) s
+    × StandsAfter s last new × IsSound last)
+
+-- what turns on a piece do that end for want of memory, where n bytes of it were taken: these lead
+-- to a value on its way, which wants memory by the bytes after them
+abbrev pub RunsOut : Running → List ℕ → ℕ → Type 0
+RunsOut old piece n = (n ≤ length piece)
+    × ((last : Running) × Moves old last (take n piece) × WantsMemory last (drop n piece)
+    × IsSound last)
+
+-- the builder's loop has taken no turn where a turn of the decoder's added nothing
+abbrev pub KeepsTurns : Running → Running → Turned → Type 0
+KeepsTurns old new (Ok n) = Unit {0}
+KeepsTurns old new _ = new.built.turns ≡ old.built.turns
+
+-- from one count of turns to the other there is one for each node that was added and one that
+-- stopped, and beside these no more
+-- than one for each byte that was taken
+abbrev pub FewTurns : Running → Running → ℕ → ℕ → ℕ → Type 0
+FewTurns old new n from to = (from + length new.built.entries + 1 ≤ to + length old.built.entries)
+    × (to + length old.built.entries ≤ from + n + length new.built.entries + 1)
+
+-- the same where nothing is left: what stood before the last turn is known, and that this one
+-- closed nothing
+pub record StopsShort (old new : Running) (piece : List ℕ) (n from to : ℕ) : Type 0 where
+  pub within : n ≤ length piece
+  pub last : Running
+  pub moves : Moves old last (take n piece)
+  pub few : FewTurns old last n from to
+  pub sound : IsSound last
+  pub closed : new.built.turns ≡ last.built.turns
+
+abbrev pub StopCounts : Running → Running → List ℕ → ℕ → ℕ → ℕ → Stopped → Type 0
+StopCounts old new piece from to n (stop.Refused held reported_reason at len) =
+    StopsShort old new piece n from to
+StopCounts old new piece from to n stop.OutOfMemory = StopsShort old new piece n from to
+StopCounts old new piece from to n s = FewTurns old new n from to
+
+-- a call that feeds a piece
+pub record FeedTells (old new : Running) (piece : List ℕ) (from to : ℕ) (result : ℕ × Stopped)
+    : Type 0 where
+  pub reports : FeedReports old new piece result.0 result.1
+  pub whole : is_whole old.built ≡ true → (result ≡ (0, stop.Finished)) × (new ≡ old)
+  pub counts : StopCounts old new piece from to result.0 result.1
+
+-- what stands in the turns of a call: the bytes and turns so far, and what they led to
+pub record CallSoFar (a b : Running) (piece : List ℕ) (at start from : ℕ) : Type 0 where
+  pub inside : at ≤ length piece
+  pub moves : Moves a b (take at piece)
+  pub each : start + length b.built.entries ≤ from + length a.built.entries
+  pub few : from + length a.built.entries ≤ start + at + length b.built.entries
+  pub whole : is_whole a.built ≡ true → (at ≡ 0) × (b ≡ a)
+
+-- a value of this form is next, and no run is open
+pub record Awaits (s : Running) (f : Form) : Type 0 where
+  pub next : next_of s.built.walk ≡ next.Wants f
+  pub closed : s.built.run ≡ None
+  pub sound : IsSound s
+
+-- an element of a list was added: the same form is next, and one element fewer follows it
+abbrev pub GoesOn : Form → Running → Running → Tried → Type 0
+GoesOn f old new (tried.Added n) = Awaits new f × (new.carry ≡ [])
+    × (elements_after new.built.walk + 1 ≡ elements_after old.built.walk)
+GoesOn f old new _ = Unit {0}
+
+-- turns on a piece, of which those before the last one took n bytes and did not stop, and what the
+-- last one did
+pub record TurnsReport (old new : Running) (piece : List ℕ) (from to n : ℕ) (last : Turned)
+    : Type 0 where
+  pub before : Running
+  pub within : n ≤ length piece
+  pub moves : Moves old before (take n piece)
+  pub nearer : left_to_do before (drop n piece) ≤ left_to_do old piece
+  pub few : FewTurns old before n from to
+  pub sound : IsSound before
+  pub reports : StepReports before new (drop n piece) last
+  pub kept : KeepsTurns before new last
+  pub whole : is_whole old.built ≡ true →
+      (n ≡ 0) × (before ≡ old) × (last ≡ Err stop.Finished)
+
+-- the same of turns on nodes whose own bytes a piece may have whole
+pub record WholeTurnsReport (old new : Running) (piece : List ℕ) (from to n : ℕ) (last : Tried)
+    : Type 0 where
+  pub before : Running
+  pub within : n ≤ length piece
+  pub moves : Moves old before (take n piece)
+  pub nearer : left_to_do before (drop n piece) ≤ left_to_do old piece
+  pub few : FewTurns old before n from to
+  pub sound : IsSound before
+  pub reports : WholeReports before new (drop n piece) last
+  pub whole : is_whole old.built ≡ true → (n ≡ 0) × (before ≡ old) × (last ≡ tried.Untouched)
+
+-- a turn that needs no bytes
+abbrev pub BareReports : Running → Running → Turned → Type 0
+BareReports old new (Ok n) = (n ≡ 0) × IsSame old new × Steps old new []
+BareReports old new (Err stop.OutOfMemory) = (rest : List ℕ) → WantsMemory old rest
+BareReports old new (Err s) = ⊥
+
+-- what a turn did that took the next node's own bytes
+abbrev pub node_turned : Result (Unit {0}) NodeFault → ℕ → ℕ → ℕ → Turned
+node_turned (Ok u) held count len = Ok count
+node_turned (Err (fault.Refused reported_reason at)) held count len =
+    Err (stop.Refused held reported_reason at len)
+node_turned (Err fault.OutOfMemory) held count len = Err stop.OutOfMemory
+
+-- a turn that takes bytes of the piece for an open run
+abbrev pub PieceReports : Running → Running → List ℕ → Turned → Type 0
+PieceReports old new piece (Ok n) = (n ≤ length piece) × IsSame old new
+    × (1 ≤ length (take n piece)) × (state_of new.built ≡ state_of old.built)
+    × (held_of new ≡ held_of old ++ take n piece)
+PieceReports old new piece (Err stop.OutOfMemory) = WantsMemory old piece
+PieceReports old new piece (Err s) = ⊥
+
+-- a turn that ends a run, after it took as many of the run's last bytes, whatever follows them
+abbrev pub EndReports : Running → Running → ℕ → Turned → Type 0
+EndReports old new count (Ok n) = (n ≡ count) × IsSame old new × Steps old new []
+EndReports old new count (Err (stop.Refused held reported_reason at len)) =
+    (rest : List ℕ) → EndsTurns old rest (stop.Refused (count + held) reported_reason at len)
+EndReports old new count (Err stop.OutOfMemory) = (rest : List ℕ) → WantsMemory old rest
+EndReports old new count (Err s) = ⊥

@@ -1,0 +1,388 @@
+//! The turns on a piece: nodes whose bytes it has whole, those of one form taken together, and the bytes that end it.
+
+ghost use Rattle.std.specs.Prelude.{ℕ, List, ◌≡◌, ◌≤◌, ◌<◌, ◌++◌, [], Some, None, Err};
+ghost use Rattle.std.specs.Prelude.{length, IfOk, OnErr};
+ghost use Rattle.node_core.specs.Leaves.{leaf_head, FitsLeaf};
+ghost use Rattle.value_core.specs.Built.{IsNextLeaf};
+ghost use Rattle.value_core.specs.Walked.{elements_after, next_of};
+ghost use Rattle.form_core.specs.Fronts.{form_of_front};
+ghost use Rattle.form_core.specs.NodeForms.{form_of_bare, form_of_bytes};
+ghost use Rattle.machine_core.specs.NodeAdds.{IsWholeLeaf};
+ghost use Rattle.machine_core.specs.Running.{IsCarry, IsRunNext};
+ghost use Rattle.machine_core.specs.Turned.{Awaits, CallSoFar, CutReports, FeedTells, GoesOn};
+ghost use Rattle.machine_core.specs.Turned.{HasParts, WholeReports, WholeTurnsReport};
+
+use crate::node::{NodeFault, add_bare};
+use crate::partial::{Partial, take_node};
+use crate::turned::{Stopped, Tried};
+use count_core::Count;
+use form_core::PlainForm::Unsigned;
+use form_core::{BareForm, BytesForm, LeafForm, NodeForm, PrefixedRun, need, node_form};
+use registry_core::IntegerWidth::{Bits8, Bits16, Bits32, Bits64, Bits128};
+use registry_core::Primitive;
+use std::alloc::{AllocError, Allocator};
+use value_core::{Form, Leaf, Next};
+
+impl<'r, A: Allocator> Partial<'r, A> {
+    /// A turn on a node that pieces cut, where this one has the bytes that are missing and they are not refused.
+    #[inline(always)]
+    fn whole_cut(&mut self, form: BytesForm, piece: &[u8]) -> Tried
+        requires next { Awaits self.old (form_of_bytes form) }
+        requires carries { 1 ≤ length self.old.carry }
+        ensures { CutReports self.old self.new piece.now result }
+    {
+        let held = self.carry.as_slice().len();
+        let len = need(form, self.carry.as_slice()[0]);
+        if held + piece.len() < len {
+            return Tried::Untouched;
+        }
+        let count = self.carry.fill(len, piece);
+        let own = self.carry.as_slice();
+        match take_node(&mut self.builder, form, own) {
+            Ok(()) => {
+                self.carry.clear();
+                Tried::Added(count)
+            }
+            Err(NodeFault::Refused(..)) => {
+                self.carry.truncate(held);
+                Tried::Untouched
+            }
+            Err(NodeFault::OutOfMemory) => {
+                self.carry.truncate(held);
+                Tried::OutOfMemory
+            }
+        }
+    }
+
+    /// A turn on a variant or a sequence, where the piece has its own bytes whole and they are not refused.
+    #[inline(always)]
+    fn whole_own(&mut self, form: BytesForm, piece: &[u8]) -> Tried
+        requires parts { HasParts form }
+        requires next { Awaits self.old (form_of_bytes form) }
+        requires empty { self.old.carry ≡ [] }
+        ensures { WholeReports self.old self.new piece.now result }
+    {
+        if piece.is_empty() {
+            return Tried::Untouched;
+        }
+        let len = need(form, piece[0]);
+        if piece.len() < len {
+            return Tried::Untouched;
+        }
+        match take_node(&mut self.builder, form, &piece[..len]) {
+            Ok(()) => Tried::Added(len),
+            Err(NodeFault::Refused(..)) => Tried::Untouched,
+            Err(NodeFault::OutOfMemory) => Tried::OutOfMemory,
+        }
+    }
+
+    /// A turn on a node without parts that the piece has whole: the leaf, which these bytes of it spell, is added.
+    #[inline(always)]
+    fn whole_leaf(&mut self, leaf: Leaf<'_>, own: &[u8]) -> Tried
+        requires whole { IsWholeLeaf self.old.built own.now leaf }
+        requires next { IsNextLeaf self.old.built.walk (leaf_head leaf) }
+        requires fits { FitsLeaf leaf }
+        requires empty { self.old.carry ≡ [] }
+        ensures reports { (rest : List ℕ) →
+            WholeReports self.old self.new (own.now ++ rest) result }
+        ensures taken { result ≡ Tried.Untouched → ⊥ }
+    {
+        let Ok(()) = self.builder.add_leaf(leaf) else {
+            return Tried::OutOfMemory;
+        };
+        Tried::Added(own.len())
+    }
+
+    /// A turn on a node without parts, where the piece has its bytes whole and they are not refused.
+    #[inline(always)]
+    fn whole_single<F: LeafForm>(&mut self, form: F, piece: &[u8]) -> Tried
+        requires next { Awaits self.old (form_of_front (F.front form)) }
+        requires empty { self.old.carry ≡ [] }
+        ensures { WholeReports self.old self.new piece.now result }
+    {
+        match form.leaf_at_front(piece) {
+            Some((leaf, count)) => self.whole_leaf(leaf, &piece[..count]),
+            None => Tried::Untouched,
+        }
+    }
+
+    /// The same of an element of a list that another follows: that one is next then, which takes no look.
+    #[inline(always)]
+    fn whole_element<F: LeafForm>(&mut self, form: F, piece: &[u8]) -> Tried
+        requires next { Awaits self.old (form_of_front (F.front form)) }
+        requires empty { self.old.carry ≡ [] }
+        requires follows { 1 ≤ elements_after self.old.built.walk }
+        ensures reports { WholeReports self.old self.new piece.now result }
+        ensures goes_on { GoesOn (form_of_front (F.front form)) self.old self.new result }
+    {
+        let Some((leaf, count)) = form.leaf_at_front(piece) else {
+            return Tried::Untouched;
+        };
+        let Ok(()) = self.builder.add_element(leaf) else {
+            return Tried::OutOfMemory;
+        };
+        self.is_on_its_way();
+        Tried::Added(count)
+    }
+
+    /// A turn on an array of u8, where the piece has it whole.
+    pub(crate) fn whole_byte_array(&mut self, len: u32, piece: &[u8]) -> Tried
+        requires next { next_of self.old.built.walk ≡ Next.Wants (Form.ByteArray len) }
+        requires closed { self.old.built.run ≡ None }
+        requires carried { IsCarry self.old.built self.old.carry }
+        ensures reports { WholeReports self.old self.new piece.now result }
+        ensures short { result ≡ Tried.Untouched → length piece.now < len }
+    {
+        let count = len as usize;
+        if piece.len() < count {
+            return Tried::Untouched;
+        }
+        let own = &piece[..count];
+        self.whole_leaf(Leaf::Bytes(own), own)
+    }
+
+    /// A turn on a node without bytes of its own: none are missing, so it is added.
+    #[inline(always)]
+    fn whole_bare(&mut self, form: BareForm) -> Tried
+        requires { Awaits self.old (form_of_bare form) }
+        ensures { (piece : List ℕ) → WholeReports self.old self.new piece result }
+    {
+        match add_bare(&mut self.builder, form) {
+            Ok(()) => Tried::Added(0),
+            Err(_) => Tried::OutOfMemory,
+        }
+    }
+
+    /// Takes the turns on a composite or a tuple, which is next: two where its one part is an array of u8 that the piece has
+    /// whole, which is added with it, and else one.
+    #[inline(always)]
+    fn fields_turns(&mut self, piece: &[u8], turns: &mut Count) -> (usize, Tried)
+        requires next { Awaits self.old Form.Fields }
+        requires empty { self.old.carry ≡ [] }
+        ensures { WholeTurnsReport self.old self.new piece.now turns.old.so_far turns.new.so_far
+            result.0 result.1 }
+    {
+        turns.tick();
+        match self.builder.add_wrapped(piece) {
+            Ok(Some(count)) => {
+                turns.tick();
+                (0, Tried::Added(count))
+            }
+            Ok(None) => (0, self.whole_bare(BareForm::Fields)),
+            Err(_) => (0, Tried::OutOfMemory),
+        }
+    }
+
+    /// Takes turns on nodes of this form, one of which is next, as long as the piece has their bytes whole: on all that are
+    /// left of an open list, or on one. How many bytes those before the last one took, and what came of the last one.
+    #[inline(always)]
+    fn repeat<F: LeafForm>(&mut self, form: F, piece: &[u8], turns: &mut Count) -> (usize, Tried)
+        requires next { Awaits self.old (form_of_front (F.front form)) }
+        requires empty { self.old.carry ≡ [] }
+        ensures { WholeTurnsReport self.old self.new piece.now turns.old.so_far turns.new.so_far
+            result.0 result.1 }
+    {
+        let mut at = 0;
+        if self.builder.walk().is_in_list() {
+            let mut after = self.builder.walk().elements_after();
+            'elements: while after > 0 {
+                turns.tick();
+                let last = self.whole_element(form, &piece[at..]);
+                let Tried::Added(count) = last else {
+                    return (at, last);
+                };
+                at += count;
+                after -= 1;
+            }
+        }
+        turns.tick();
+        (at, self.whole_single(form, &piece[at..]))
+    }
+
+    /// The same in a call, where what reads the nodes is too much for the loop over whole nodes. How many bytes those before
+    /// the last one took is left in `before`: a pair would have a place in memory, which that loop clears for each node.
+    #[inline(never)]
+    fn repeat_call<F: LeafForm>(
+        &mut self,
+        form: F,
+        piece: &[u8],
+        turns: &mut Count,
+        before: &mut usize,
+    ) -> Tried
+        requires next { Awaits self.old (form_of_front (F.front form)) }
+        requires empty { self.old.carry ≡ [] }
+        ensures { WholeTurnsReport self.old self.new piece.now turns.old.so_far turns.new.so_far
+            before.new result }
+    {
+        let (taken, last) = self.repeat(form, piece, turns);
+        *before = taken;
+        last
+    }
+
+    /// Takes turns on nodes of this form, one of which is next, as above, in a call.
+    #[inline(always)]
+    fn repeat_apart<F: LeafForm>(
+        &mut self,
+        form: F,
+        piece: &[u8],
+        turns: &mut Count,
+    ) -> (usize, Tried)
+        requires next { Awaits self.old (form_of_front (F.front form)) }
+        requires empty { self.old.carry ≡ [] }
+        ensures { WholeTurnsReport self.old self.new piece.now turns.old.so_far turns.new.so_far
+            result.0 result.1 }
+    {
+        let mut before = 0;
+        let last = self.repeat_call(form, piece, turns, &mut before);
+        (before, last)
+    }
+
+    /// Takes a turn on a node of this form, which is next, where the piece has its own bytes whole.
+    #[inline(always)]
+    fn whole_node(&mut self, form: Form, piece: &[u8]) -> Tried
+        requires next { Awaits self.old form }
+        requires empty { self.old.carry ≡ [] }
+        ensures { WholeReports self.old self.new piece.now result }
+    {
+        match form {
+            Form::Arm => self.whole_own(BytesForm::Arm, piece),
+            Form::Sequence => self.whole_own(BytesForm::Sequence, piece),
+            Form::Compact(target) => self.whole_single(target, piece),
+            Form::ByteArray(len) => self.whole_byte_array(len, piece),
+            other => match node_form(other) {
+                NodeForm::Bytes(BytesForm::Plain(plain)) => self.whole_single(plain, piece),
+                _ => Tried::Untouched,
+            },
+        }
+    }
+
+    /// Takes turns on nodes whose own bytes the piece has whole, the first of which is of this form: on all that are left of a
+    /// list of nodes without parts, and else on one. Each arm of integers names its form anew, so that its turns are made for
+    /// it alone. A piece of one byte has no more than one node for a loop, which would look for the next in vain.
+    #[inline(always)]
+    fn whole_nodes(&mut self, form: Form, piece: &[u8], turns: &mut Count) -> (usize, Tried)
+        requires next { Awaits self.old form }
+        requires empty { self.old.carry ≡ [] }
+        ensures { WholeTurnsReport self.old self.new piece.now turns.old.so_far turns.new.so_far
+            result.0 result.1 }
+    {
+        match form {
+            Form::Primitive(Primitive::U8) => self.repeat(Unsigned(Bits8), piece, turns),
+            Form::Primitive(Primitive::U16) => self.repeat(Unsigned(Bits16), piece, turns),
+            Form::Primitive(Primitive::U32) => self.repeat(Unsigned(Bits32), piece, turns),
+            Form::Primitive(Primitive::U64) => self.repeat(Unsigned(Bits64), piece, turns),
+            Form::Primitive(Primitive::U128) => self.repeat(Unsigned(Bits128), piece, turns),
+            Form::Primitive(Primitive::Str) => self.repeat_apart(PrefixedRun::Text, piece, turns),
+            Form::Bytes => self.repeat_apart(PrefixedRun::Bytes, piece, turns),
+            Form::Compact(target) if piece.len() > 1 && self.builder.walk().is_in_list() => {
+                self.repeat_apart(target, piece, turns)
+            }
+            Form::Primitive(primitive) if piece.len() > 1 && self.builder.walk().is_in_list() => {
+                match node_form(Form::Primitive(primitive)) {
+                    NodeForm::Bytes(BytesForm::Plain(plain)) => {
+                        self.repeat_apart(plain, piece, turns)
+                    }
+                    _ => {
+                        turns.tick();
+                        (0, Tried::Untouched)
+                    }
+                }
+            }
+            Form::Fields => self.fields_turns(piece, turns),
+            other => {
+                turns.tick();
+                (0, self.whole_node(other, piece))
+            }
+        }
+    }
+
+    /// Takes a turn, and counts it, on the node whose first bytes are carried, where the piece has the others and they are not
+    /// refused: how many bytes it took, 0 where a turn of another kind is in its place. Where memory is refused nothing changes.
+    #[inline(never)]
+    fn carried_turn(&mut self, piece: &[u8], turns: &mut Count) -> Result<usize, AllocError>
+        requires { 1 ≤ length self.old.carry }
+        ensures ok { IfOk result (λ n. CallSoFar self.old self.new piece.now n turns.old.so_far
+            turns.new.so_far) }
+        ensures err { OnErr result (FeedTells self.old self.new piece.now turns.old.so_far
+            turns.new.so_far (0, Stopped.OutOfMemory)) }
+    {
+        self.is_on_its_way();
+        if let Some(form) = self.next_form()
+            && let NodeForm::Bytes(own) = node_form(form)
+        {
+            match self.whole_cut(own, piece) {
+                Tried::Added(count) => {
+                    turns.tick();
+                    return Ok(count);
+                }
+                Tried::OutOfMemory => {
+                    turns.tick();
+                    return Err(AllocError);
+                }
+                Tried::Untouched => {}
+            }
+        }
+        Ok(0)
+    }
+
+    /// Takes turns on nodes whose own bytes the piece has whole, and counts each, as long as it has bytes: how many bytes those
+    /// before the last one took, and what came of the last one. Where it is `Untouched`, a turn of another kind is in its place.
+    #[inline(always)]
+    fn whole_turns(&mut self, piece: &[u8], turns: &mut Count) -> (usize, Tried)
+        ensures { WholeTurnsReport self.old self.new piece.now turns.old.so_far turns.new.so_far
+            result.0 result.1 }
+    {
+        let mut at = 0;
+        if self.carry.is_empty() && !self.builder.is_run_open() {
+            'nodes: while let Some(form) = self.next_form() {
+                let (taken, last) = self.whole_nodes(form, &piece[at..], turns);
+                at += taken;
+                match last {
+                    Tried::Added(count) if at + count < piece.len() => at += count,
+                    _ => return (at, last),
+                }
+            }
+        }
+        turns.tick();
+        self.is_on_its_way();
+        (at, Tried::Untouched)
+    }
+
+    /// Takes turns until one stops, and counts each: how many bytes of the piece they took, and why they stopped; where
+    /// memory was refused, the bytes alone. The turns that close nodes are the builder's own, and counted there.
+    #[inline(never)]
+    pub fn feed(&mut self, piece: &[u8], turns: &mut Count) -> (usize, Stopped)
+        ensures { FeedTells self.old self.new piece.now turns.old.so_far turns.new.so_far result }
+    {
+        let mut at = 0;
+        if !self.carry.is_empty() {
+            let Ok(count) = self.carried_turn(piece, turns) else {
+                return (0, Stopped::OutOfMemory);
+            };
+            at = count;
+        }
+        'turns: loop {
+            if at == piece.len() && self.wants() {
+                turns.tick();
+                return (at, Stopped::Wants);
+            }
+            let (before, last) = self.whole_turns(&piece[at..], turns);
+            at += before;
+            match last {
+                Tried::Added(count) => {
+                    at += count;
+                    continue 'turns;
+                }
+                Tried::OutOfMemory => return (at, Stopped::OutOfMemory),
+                Tried::Untouched => {}
+            }
+            if self.is_finished() {
+                return (at, Stopped::Finished);
+            }
+            match self.turn(&piece[at..]) {
+                Ok(count) => at += count,
+                Err(stopped) => return (at, stopped),
+            }
+        }
+    }
+}

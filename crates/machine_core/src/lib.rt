@@ -1,0 +1,12 @@
+//! A value in progress: it takes its bytes turn by turn, and those of nodes that lie whole in a piece at once.
+#![tactic(auto)]
+
+mod feeding;
+mod node;
+mod partial;
+mod reason;
+mod turned;
+
+pub use partial::Partial;
+pub use reason::DecodeReason;
+pub use turned::Stopped;

@@ -1,0 +1,348 @@
+//! A value in progress, and one turn of it.
+
+ghost use Rattle.std.specs.Prelude.{ℕ, List, true, ◌≡◌, ◌<◌, ◌≤◌, ◌+◌, ◌++◌, [], length};
+ghost use Rattle.std.specs.Prelude.{false, None, IfSome, IsSome, Ok};
+ghost use Rattle.machine_core.specs.Running.{IsCarry, IsFresh, IsRunNext};
+ghost use Rattle.value_core.specs.Walked.{next_of};
+ghost use Rattle.value_core.specs.Built.{finished, pieces_bytes};
+ghost use Rattle.value_core.specs.Refusals.{Lacks, is_whole};
+ghost use Rattle.form_core.specs.Needs.{AreOwn, IsNeeded};
+ghost use Rattle.form_core.specs.NodeForms.{form_of_bare, form_of_bytes};
+ghost use Rattle.machine_core.specs.NodeAdds.{TakesNode};
+ghost use Rattle.machine_core.specs.Turned.{Awaits, BareReports, EndReports, EndsTurns};
+ghost use Rattle.machine_core.specs.Turned.{IsSound, KeepsTurns, PieceReports, StepReports};
+ghost use Rattle.machine_core.specs.Turned.{WantsBytes, node_turned};
+
+use crate::node::{NodeFault, add_arm, add_bare, add_plain, add_sequence};
+use crate::reason::DecodeReason;
+use crate::turned::{Stopped, Tried};
+use count_core::Count;
+use form_core::{BareForm, BytesForm, Carry, NodeForm, need, node_form, read_length};
+use scale_core::compact_len;
+use std::alloc::Allocator;
+use std::marker::Model;
+use value_core::{Builder, Form, Next, RunKind, Value};
+
+/// A value on its way: what is built of it, and the bytes that are not enough for the next node. The bytes of a run that
+/// is open are in the builder.
+#[derive(Drop)]
+pub struct Partial<'r, A: Allocator> {
+    pub(crate) builder: Builder<'r, A>,
+    pub(crate) carry: Carry,
+}
+
+impl<'r, A: Allocator> Model for Partial<'r, A> {
+    ghost use Rattle.machine_core.specs.Running.{Running, IsRunning};
+
+    ghost Value = { Running };
+
+    ghost view = { λ s. record { built = s.builder; carry = s.carry } };
+
+    ghost invariant = { λ s. IsRunning s.builder s.carry };
+}
+
+/// Adds the next node by its own bytes, or opens the run that is next by those of its length.
+#[inline(always)]
+pub(crate) fn take_node<A: Allocator>(
+    builder: &mut Builder<'_, A>,
+    form: BytesForm,
+    own: &[u8],
+) -> Result<(), NodeFault>
+    requires next { next_of builder.old.walk ≡ Next.Wants (form_of_bytes form) }
+    requires closed { builder.old.run ≡ None }
+    requires whole { AreOwn (form_of_bytes form) own.now }
+    ensures { TakesNode (form_of_bytes form) builder.old builder.new own.now result }
+{
+    match form {
+        BytesForm::Plain(plain) => add_plain(builder, plain, own),
+        BytesForm::Arm => add_arm(builder, own),
+        BytesForm::Sequence => add_sequence(builder, own),
+        BytesForm::Run(run) => {
+            let len = read_length(own)?;
+            builder.open_run(run.kind(), len);
+            Ok(())
+        }
+    }
+}
+
+/// What a turn did that took the next node's own bytes, of which the last `count` are the piece's.
+#[inline(always)]
+fn node_turn(taken: Result<(), NodeFault>, held: usize, count: usize, len: usize) -> Result<usize, Stopped>
+    ensures { result ≡ node_turned taken held count len }
+{
+    match taken {
+        Ok(()) => Ok(count),
+        Err(NodeFault::Refused(reason, at)) => Err(Stopped::Refused {
+            held,
+            reason,
+            at,
+            len,
+        }),
+        Err(NodeFault::OutOfMemory) => Err(Stopped::OutOfMemory),
+    }
+}
+
+impl<'r, A: Allocator> Partial<'r, A> {
+    /// Makes a value in progress of a builder that has nothing yet.
+    pub fn new(builder: Builder<'r, A>) -> Partial<'r, A>
+        requires fresh { IsFresh builder }
+        ensures { result ≡ record { built = builder.entry; carry = [] } }
+    {
+        Partial {
+            builder,
+            carry: Carry::new(),
+        }
+    }
+
+    /// Hands out the value, which is whole. It takes no memory.
+    pub fn into_value(self) -> Value<'r, A>
+        requires { is_whole self.built ≡ true }
+        ensures { result ≡ finished self.entry.built }
+    {
+        self.builder.into_value()
+    }
+
+    /// Lends what is built of the value.
+    pub fn builder(&self) -> &Builder<'r, A>
+        ensures { result.now ≡ self.now.built }
+    {
+        &self.builder
+    }
+
+    /// Gives the value up: how many turns the calls of its builder have taken.
+    pub fn into_turns(self) -> Count
+        ensures { result.so_far ≡ self.entry.built.turns }
+    {
+        self.builder.into_turns()
+    }
+
+    /// A turn on a node without bytes of its own.
+    fn bare_turn(&mut self, form: BareForm) -> Result<usize, Stopped>
+        requires next { next_of self.old.built.walk ≡ Next.Wants (form_of_bare form) }
+        requires closed { self.old.built.run ≡ None }
+        ensures reports { BareReports self.old self.new result }
+        ensures kept { KeepsTurns self.old self.new result }
+    {
+        match add_bare(&mut self.builder, form) {
+            Ok(()) => Ok(0),
+            Err(_) => Err(Stopped::OutOfMemory),
+        }
+    }
+
+    /// A turn on a node of `len` own bytes, cut by pieces or not: it takes those that are missing, or as many as are there.
+    #[inline(always)]
+    fn cut_turn(&mut self, form: BytesForm, len: usize, piece: &[u8]) -> Result<usize, Stopped>
+        requires next { next_of self.old.built.walk ≡ Next.Wants (form_of_bytes form) }
+        requires closed { self.old.built.run ≡ None }
+        requires piece { 1 ≤ length piece.now }
+        requires len { IsNeeded (form_of_bytes form) len (self.old.carry ++ piece.now) }
+        requires short { length self.old.carry < len }
+        requires bound { len ≤ 32 }
+        ensures reports { StepReports self.old self.new piece.now result }
+        ensures kept { KeepsTurns self.old self.new result }
+    {
+        let held = self.carry.as_slice().len();
+        let count = self.carry.fill(len, piece);
+        if held + count < len {
+            return Ok(count);
+        }
+        let own = self.carry.as_slice();
+        let taken = take_node(&mut self.builder, form, own);
+        self.carry.clear();
+        node_turn(taken, held, count, len)
+    }
+
+    /// A turn on a node with bytes of its own, other than a run that is open.
+    #[inline(always)]
+    fn own_turn(&mut self, form: BytesForm, piece: &[u8]) -> Result<usize, Stopped>
+        requires next { next_of self.old.built.walk ≡ Next.Wants (form_of_bytes form) }
+        requires closed { self.old.built.run ≡ None }
+        requires carried { IsCarry self.old.built self.old.carry }
+        ensures reports { StepReports self.old self.new piece.now result }
+        ensures kept { KeepsTurns self.old self.new result }
+    {
+        if piece.is_empty() {
+            return Err(Stopped::Wants);
+        }
+        let len = need(form, self.carry.first_with(piece));
+        self.cut_turn(form, len, piece)
+    }
+
+    /// A turn on an array of u8 of which no byte came: it is added where it is whole, and else opened with what is there.
+    fn byte_array_turn(&mut self, len: u32, piece: &[u8]) -> Result<usize, Stopped>
+        requires next { next_of self.old.built.walk ≡ Next.Wants (Form.ByteArray len) }
+        requires closed { self.old.built.run ≡ None }
+        requires carried { IsCarry self.old.built self.old.carry }
+        ensures reports { StepReports self.old self.new piece.now result }
+        ensures kept { KeepsTurns self.old self.new result }
+    {
+        match self.whole_byte_array(len, piece) {
+            Tried::Added(count) => return Ok(count),
+            Tried::OutOfMemory => return Err(Stopped::OutOfMemory),
+            Tried::Untouched => {}
+        }
+        if piece.is_empty() {
+            return Err(Stopped::Wants);
+        }
+        self.builder.open_run(RunKind::ByteArray(len), len);
+        self.run_piece(len as usize, piece)
+    }
+
+    /// A turn on the bytes of the run that is open: it takes those that are there, and where none is missing then, ends it.
+    #[inline(never)]
+    fn run_turn(&mut self, piece: &[u8]) -> Result<usize, Stopped>
+        requires next { IsRunNext self.old.built self.old.carry self.old.built.run }
+        requires open { IsSome self.old.built.run }
+        ensures reports { StepReports self.old self.new piece.now result }
+        ensures kept { KeepsTurns self.old self.new result }
+    {
+        let missing = self.builder.run_missing();
+        if missing == 0 {
+            return self.run_end(0);
+        }
+        if piece.is_empty() {
+            return Err(Stopped::Wants);
+        }
+        if piece.len() < missing {
+            return self.run_piece(missing, piece);
+        }
+        self.run_rest(&piece[..missing])
+    }
+
+    /// Takes the bytes that the open run lacks, which are these, and ends it.
+    fn run_rest(&mut self, rest: &[u8]) -> Result<usize, Stopped>
+        requires next { IsRunNext self.old.built self.old.carry self.old.built.run }
+        requires lacks { Lacks self.old.built.run (length rest.now) }
+        requires some { 1 ≤ length rest.now }
+        ensures reports { (later : List ℕ) →
+            StepReports self.old self.new (rest.now ++ later) result }
+        ensures kept { KeepsTurns self.old self.new result }
+    {
+        let Ok(()) = self.builder.extend_run(rest) else {
+            return Err(Stopped::OutOfMemory);
+        };
+        self.run_end(rest.len())
+    }
+
+    /// Takes bytes of the piece for the open run, which lacks `missing`: as many as are there.
+    fn run_piece(&mut self, missing: usize, piece: &[u8]) -> Result<usize, Stopped>
+        requires next { IsRunNext self.old.built self.old.carry self.old.built.run }
+        requires lacks { Lacks self.old.built.run missing }
+        requires some { 1 ≤ missing }
+        requires there { 1 ≤ length piece.now }
+        ensures reports { PieceReports self.old self.new piece.now result }
+        ensures kept { KeepsTurns self.old self.new result }
+    {
+        let count = piece.len().min(missing);
+        let Ok(()) = self.builder.extend_run(&piece[..count]) else {
+            return Err(Stopped::OutOfMemory);
+        };
+        Ok(count)
+    }
+
+    /// Ends the run that is open, whose bytes are all there, the last `count` of them by this turn.
+    fn run_end(&mut self, count: usize) -> Result<usize, Stopped>
+        requires next { IsRunNext self.old.built self.old.carry self.old.built.run }
+        requires whole { Lacks self.old.built.run 0 }
+        requires last { count ≤ length (pieces_bytes self.old.built.run) }
+        ensures reports { EndReports self.old self.new count result }
+        ensures kept { KeepsTurns self.old self.new result }
+    {
+        if let Some(valid) = self.builder.bad_text() {
+            let run_len = self.builder.run_len();
+            let before = compact_len(u128::from(run_len));
+            let len = before + run_len as usize;
+            return Err(Stopped::Refused {
+                held: len - count,
+                reason: DecodeReason::BadUtf8,
+                at: before as u64 + valid,
+                len,
+            });
+        }
+        let Ok(()) = self.builder.close_run() else {
+            return Err(Stopped::OutOfMemory);
+        };
+        Ok(count)
+    }
+
+    /// A turn on a node of this form, which is next, where no run is open.
+    fn form_turn(&mut self, form: Form, piece: &[u8]) -> Result<usize, Stopped>
+        requires next { next_of self.old.built.walk ≡ Next.Wants form }
+        requires closed { self.old.built.run ≡ None }
+        requires carried { IsCarry self.old.built self.old.carry }
+        ensures reports { StepReports self.old self.new piece.now result }
+        ensures kept { KeepsTurns self.old self.new result }
+    {
+        match node_form(form) {
+            NodeForm::Bytes(own) => self.own_turn(own, piece),
+            NodeForm::Bare(bare) => self.bare_turn(bare),
+            NodeForm::ByteArray(len) => self.byte_array_turn(len, piece),
+        }
+    }
+
+    /// One turn: takes bytes of the piece, adds a node, or stops.
+    #[inline(never)]
+    pub(crate) fn turn(&mut self, piece: &[u8]) -> Result<usize, Stopped>
+        ensures reports { StepReports self.old self.new piece.now result }
+        ensures kept { KeepsTurns self.old self.new result }
+        ensures sound { IsSound self.old }
+        ensures whole { is_whole self.old.built ≡ true → result ≡ Err Stopped.Finished }
+    {
+        match self.builder.walk().next() {
+            Next::Finished => Err(Stopped::Finished),
+            Next::Stop(reason) => Err(Stopped::Refused {
+                held: 0,
+                reason: reason.into(),
+                at: 0,
+                len: 0,
+            }),
+            Next::Wants(_) if self.builder.is_run_open() => self.run_turn(piece),
+            Next::Wants(form) => self.form_turn(form, piece),
+        }
+    }
+
+    /// The form of the node that is next, where one can be. No run is open.
+    #[inline(always)]
+    pub(crate) fn next_form(&self) -> Option<Form>
+        requires { self.now.built.run ≡ None }
+        ensures { IfSome result (λ form. Awaits self.now form) }
+    {
+        match self.builder.walk().next() {
+            Next::Wants(form) => Some(form),
+            _ => None,
+        }
+    }
+
+    /// Does the run that is open lack bytes, or else has the next node bytes of its own? It waits for one where none is left.
+    pub(crate) fn wants(&self) -> bool
+        ensures wants { result ≡ true → WantsBytes self.now }
+        ensures sound { result ≡ true → IsSound self.now }
+    {
+        if self.builder.is_run_open() {
+            self.is_on_its_way();
+            return self.builder.run_missing() > 0;
+        }
+        let Some(form) = self.next_form() else {
+            return false;
+        };
+        matches!(node_form(form), NodeForm::Bytes(_))
+    }
+
+    /// Is the value whole? No turn follows then.
+    #[inline(always)]
+    pub fn is_finished(&self) -> bool
+        ensures ends { result ≡ true → (rest : List ℕ) → EndsTurns self.now rest Stopped.Finished }
+        ensures whole { is_whole self.now.built ≡ true → result ≡ true }
+        ensures sound { result ≡ true → IsSound self.now }
+    {
+        matches!(self.builder.walk().next(), Next::Finished)
+    }
+
+    /// Takes no step: it says what holds of every value on its way.
+    #[inline(always)]
+    pub(crate) fn is_on_its_way(&self)
+        ensures { IsSound self.now }
+    {
+        let _walk = self.builder.walk();
+    }
+}
