@@ -5,8 +5,8 @@ use Rattle.registry_core.specs.declared.definition.TypeDef.{TypeDef}
 use Rattle.registry_core.specs.declared.definition.TypeDef.TheVariants as Def
 use Rattle.registry_core.specs.declared.type_info.TypeInfo.{TypeInfo}
 use Rattle.widths_core.specs.declared.class.Class.TheVariants as class
-use Rattle.widths_core.specs.declared.step.Step.{Step}
-use Rattle.widths_core.specs.declared.step.Step.TheVariants as step
+use Rattle.widths_core.specs.declared.type_step.TypeStep.{TypeStep}
+use Rattle.widths_core.specs.declared.type_step.TypeStep.TheVariants as step
 use Rattle.graph_core.specs.Types.{shape}
 use Rattle.widths_core.specs.Targets.{target_of}
 use Rattle.widths_core.specs.Classes.{is_finite, is_empty, is_unit, class_from, class_of}
@@ -28,7 +28,7 @@ by_tests finite empty f =
     if finite then (if empty then next.Wants form.Empty else f) else next.Stop stop.NoFiniteValue
 
 -- a step by class comes to what the tests of the class say
-class_next : (finite empty : Bool) (none sized : Step) (f : Next) →
+class_next : (finite empty : Bool) (none sized : TypeStep) (f : Next) →
     next_of_step none ≡ next.Stop stop.NoFiniteValue → next_of_step sized ≡ f →
     next_of_step (by_class (class_from finite empty) none sized) ≡ by_tests finite empty f
 class_next false empty none sized f e h = e
@@ -62,7 +62,7 @@ compact_tests false empty true f e = absurd cc
 compact_tests false empty false f e = absurd cc
 
 -- the step of a type says what comes next
-step_next : (r : List TypeInfo) (t : ℕ) (d : TypeDef) (s : Step) → shape r t ≡ Some d →
+step_next : (r : List TypeInfo) (t : ℕ) (d : TypeDef) (s : TypeStep) → shape r t ≡ Some d →
     IsStep r (references_of r) (λ from count arms. Unit {0}) (class_of r t) d s →
     next_of_step s ≡ next_at r t
 step_next r t (Def.Composite fs) s e h =
@@ -94,7 +94,7 @@ step_next r t (Def.BitSequence store order) s e h =
     (next.Stop stop.BitSequence) refl refl)
 
 -- where there is a step, it says what comes next
-pub some_next : (r : List TypeInfo) (t : ℕ) (o : Option Step) (s : Step) → IsStepAt r t o →
+pub some_next : (r : List TypeInfo) (t : ℕ) (o : Option TypeStep) (s : TypeStep) → IsStepAt r t o →
     o ≡ Some s → next_of_step s ≡ next_at r t
 some_next r t o s h f = go (shape r t) refl where
   go : (x : Option TypeDef) → shape r t ≡ x → next_of_step s ≡ next_at r t
@@ -106,7 +106,7 @@ some_next r t o s h f = go (shape r t) refl where
       rw same (step_next r t d x.0 e x.2)
 
 -- where there is no step, there is no value
-pub none_next : (r : List TypeInfo) (t : ℕ) (o : Option Step) → IsStepAt r t o → o ≡ None →
+pub none_next : (r : List TypeInfo) (t : ℕ) (o : Option TypeStep) → IsStepAt r t o → o ≡ None →
     next.Stop stop.NoFiniteValue ≡ next_at r t
 none_next r t o h f = go (shape r t) refl where
   go : (x : Option TypeDef) → shape r t ≡ x → next.Stop stop.NoFiniteValue ≡ next_at r t

@@ -9,8 +9,8 @@ use Rattle.graph_core.specs.Types.{shape}
 use Rattle.widths_core.specs.Targets.{target_of}
 use Rattle.widths_core.specs.Layouts.{is_byte}
 use Rattle.widths_core.specs.Classes.{is_finite, is_empty, is_unit}
-use Rattle.widths_core.specs.declared.step.Step.{Step}
-use Rattle.widths_core.specs.declared.step.Step.TheVariants as step
+use Rattle.widths_core.specs.declared.type_step.TypeStep.{TypeStep}
+use Rattle.widths_core.specs.declared.type_step.TypeStep.TheVariants as step
 use Rattle.grammar_core.specs.declared.form.Form.TheVariants as form
 use Rattle.grammar_core.specs.declared.form.StopReason.TheVariants as stop
 use Rattle.grammar_core.specs.declared.form.Next.{Next}
@@ -57,7 +57,7 @@ abbrev pub compact_next : Option Target → Next
 compact_next over = if is_unit over then next.Wants form.Empty else compact_form over
 
 -- what comes where a value of a type of this step is next, within the depth limit
-abbrev pub next_of_step : Step → Next
+abbrev pub next_of_step : TypeStep → Next
 next_of_step (step.Compact over) = compact_next over
 next_of_step (step.NoArm from count) = next.Stop stop.NoFiniteValue
 next_of_step step.NoValue = next.Stop stop.NoFiniteValue

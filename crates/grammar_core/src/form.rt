@@ -6,7 +6,7 @@ ghost use Rattle.graph_core.specs.Types.{shape};
 
 use registry_core::{Primitive, TypeDef, TypeId};
 use scale_core::Target;
-use widths_core::{Checked, Step};
+use widths_core::{Checked, TypeStep};
 
 /// What stands at a place in a value, and how many parts it has (SCALE codec, "Types").
 #[derive(Clone, Copy, Debug, PartialEq, Eq)]
@@ -69,23 +69,23 @@ pub fn shape(checked: &Checked, ty: TypeId) -> Option<&TypeDef>
 
 /// What a value of a type of this step begins with, or why there is none, where its depth is within the limit (SCALE
 /// codec, "Types"). It takes no look-up.
-pub fn next_of_step(step: Step) -> Next
+pub fn next_of_step(step: TypeStep) -> Next
     ensures { result ≡ next_of_step step }
 {
     match step {
-        Step::NoValue | Step::NoArm { .. } => Next::Stop(StopReason::NoFiniteValue),
-        Step::Empty | Step::Compact(Some(Target::Unit)) => Next::Wants(Form::Empty),
-        Step::Compact(Some(target)) => Next::Wants(Form::Compact(target)),
-        Step::Compact(None) => Next::Stop(StopReason::BadCompact),
-        Step::Primitive(primitive) => Next::Wants(Form::Primitive(primitive)),
-        Step::Parts { .. } => Next::Wants(Form::Fields),
-        Step::Arms { .. } => Next::Wants(Form::Arm),
-        Step::Array { len, .. } => Next::Wants(Form::Array(len)),
-        Step::ByteArray { len } => Next::Wants(Form::ByteArray(len)),
-        Step::Sequence { .. } => Next::Wants(Form::Sequence),
-        Step::Bytes => Next::Wants(Form::Bytes),
-        Step::Count => Next::Wants(Form::Count),
-        Step::BitSequence => Next::Stop(StopReason::BitSequence),
+        TypeStep::NoValue | TypeStep::NoArm { .. } => Next::Stop(StopReason::NoFiniteValue),
+        TypeStep::Empty | TypeStep::Compact(Some(Target::Unit)) => Next::Wants(Form::Empty),
+        TypeStep::Compact(Some(target)) => Next::Wants(Form::Compact(target)),
+        TypeStep::Compact(None) => Next::Stop(StopReason::BadCompact),
+        TypeStep::Primitive(primitive) => Next::Wants(Form::Primitive(primitive)),
+        TypeStep::Parts { .. } => Next::Wants(Form::Fields),
+        TypeStep::Arms { .. } => Next::Wants(Form::Arm),
+        TypeStep::Array { len, .. } => Next::Wants(Form::Array(len)),
+        TypeStep::ByteArray { len } => Next::Wants(Form::ByteArray(len)),
+        TypeStep::Sequence { .. } => Next::Wants(Form::Sequence),
+        TypeStep::Bytes => Next::Wants(Form::Bytes),
+        TypeStep::Count => Next::Wants(Form::Count),
+        TypeStep::BitSequence => Next::Stop(StopReason::BitSequence),
     }
 }
 

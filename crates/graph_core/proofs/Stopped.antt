@@ -6,8 +6,8 @@ use Rattle.std.specs.Result.{IsErrAnd}
 use Rattle.std.specs.List.{AllByRecursion}
 use Rattle.std.proofs.lemmas.List.{append_assoc, append-nil}
 use Rattle.graph_core.specs.declared.graph.Graph.{Graph}
-use Rattle.graph_core.specs.declared.stop.Stop.{Stop}
-use Rattle.graph_core.specs.declared.stop.Stop.TheVariants as stop
+use Rattle.graph_core.specs.declared.link_stop.LinkStop.{LinkStop}
+use Rattle.graph_core.specs.declared.link_stop.LinkStop.TheVariants as stop
 use Rattle.graph_core.specs.References.{AreKnown}
 use Rattle.graph_core.specs.Cursors.{parts_left}
 use Rattle.graph_core.specs.Graphs.{refs, ReadsReferences, IsReadNext}
@@ -15,7 +15,7 @@ use Rattle.graph_core.specs.Stops.{StopsLinking, StopsAt, StopsBetween}
 use Rattle.graph_core.proofs.Linked.{ReadsParts, on_none, on_more, on_kept}
 
 -- what is handed on is why linking stopped
-pub stop_kept : {X : Type 0} (r : Result X Stop) (o : Stop) (P : Stop → Type 0) →
+pub stop_kept : {X : Type 0} (r : Result X LinkStop) (o : LinkStop) (P : LinkStop → Type 0) →
     IsErrAnd r (λ s. s ≡ o) → P o → IfErr r P
 stop_kept (Ok x) o P e h = absurd e
 stop_kept (Err s) o P e h = subst P (sym e) h
@@ -74,14 +74,15 @@ stops_later xs ks a b c h k = record {
 }
 
 -- the same whatever the reason is
-pub stops_after : (xs ys zs tos ks : List ℕ) (a b c : Graph) (o : Stop) → tos ≡ xs ++ (ys ++ zs) →
+pub stops_after : (xs ys zs tos ks : List ℕ) (a b c : Graph) (o : LinkStop) →
+    tos ≡ xs ++ (ys ++ zs) →
     ReadsReferences a b xs ks → StopsLinking ys b c o → StopsLinking tos a c o
 stops_after xs ys zs tos ks a b c stop.Memory e h k = stops_later xs ks a b c h k
 stops_after xs ys zs tos ks a b c (stop.Unknown u) e h k =
     stops_beyond xs ys zs tos ks a b c u e h k
 
 -- where some of the references that were open were read, and the reading stopped in the others
-pub stops_parts : (a b c : Graph) (s i : ℕ) (o : Stop) → ReadsParts a b s i →
+pub stops_parts : (a b c : Graph) (s i : ℕ) (o : LinkStop) → ReadsParts a b s i →
     StopsLinking (parts_left b) b c o → StopsLinking (parts_left a ++ []) a c o
 stops_parts a b c s i o h k =
     stops_after h.front (parts_left b) [] (parts_left a ++ []) (map (λ _. s) h.front) a b c o

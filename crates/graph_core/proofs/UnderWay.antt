@@ -11,8 +11,8 @@ use Rattle.registry_core.specs.declared.definition.TypeDef.{TypeDef}
 use Rattle.registry_core.specs.declared.definition.TypeDef.TheVariants as Def
 use Rattle.registry_core.specs.declared.type_info.TypeInfo.{TypeInfo}
 use Rattle.graph_core.specs.declared.graph.Graph.{Graph}
-use Rattle.graph_core.specs.declared.stop.Stop.{Stop}
-use Rattle.graph_core.specs.declared.stop.Stop.TheVariants as stop
+use Rattle.graph_core.specs.declared.link_stop.LinkStop.{LinkStop}
+use Rattle.graph_core.specs.declared.link_stop.LinkStop.TheVariants as stop
 use Rattle.graph_core.specs.Types.{shape}
 use Rattle.graph_core.specs.Counts.{times}
 use Rattle.graph_core.specs.Cursors.{left, open_references, arm_references, arms_of, current}
@@ -253,7 +253,7 @@ fault_from r g h =
 
 -- where linking stops in a type, the fault is the registry's first, and few looks were taken
 pub refused_for : (r : List TypeInfo) (i : ℕ) (d : TypeDef) (tos : List ℕ) (b c : Graph)
-    (o : Stop) → IsOpenedNext r b i d → tos ≡ references d → StopsLinking tos b c o →
+    (o : LinkStop) → IsOpenedNext r b i d → tos ≡ references d → StopsLinking tos b c o →
     IsRefusedFor r c (fault_in i o)
 refused_for r i d tos b c stop.Memory h e k =
     way_on r b c k.front h.way k.on (rw h.way.reading.types at k.known)

@@ -8,8 +8,8 @@ use Rattle.graph_core.specs.declared.fault.CheckFault.{CheckFault}
 use Rattle.graph_core.specs.declared.fault.CheckFault.TheVariants.{UnknownType, OutOfMemory}
 use Rattle.graph_core.specs.declared.graph.Graph.{Graph}
 use Rattle.graph_core.specs.declared.looks.Looks.{Looks}
-use Rattle.graph_core.specs.declared.stop.Stop.{Stop}
-use Rattle.graph_core.specs.declared.stop.Stop.TheVariants as stop
+use Rattle.graph_core.specs.declared.link_stop.LinkStop.{LinkStop}
+use Rattle.graph_core.specs.declared.link_stop.LinkStop.TheVariants as stop
 use Rattle.graph_core.specs.Counts.{times}
 use Rattle.graph_core.specs.Cursors.{left}
 use Rattle.graph_core.specs.Graphs.{refs, ReadsOn}
@@ -34,12 +34,12 @@ pub record StopsBetween (a b : Graph) : Type 0 where
 
 -- where linking did not stop for want of memory, it stopped at the first of these references that
 -- is no position
-abbrev pub StopsLinking : List ℕ → Graph → Graph → Stop → Type 0
+abbrev pub StopsLinking : List ℕ → Graph → Graph → LinkStop → Type 0
 StopsLinking tos a b stop.Memory = StopsBetween a b
 StopsLinking tos a b (stop.Unknown u) = StopsAt tos a b u
 
 -- the same as a fault of the type at this position
-abbrev pub fault_in : ℕ → Stop → CheckFault
+abbrev pub fault_in : ℕ → LinkStop → CheckFault
 fault_in i stop.Memory = OutOfMemory
 fault_in i (stop.Unknown u) = UnknownType (record { 0 = i }) (record { 0 = u })
 

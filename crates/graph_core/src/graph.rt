@@ -20,9 +20,9 @@ use crate::cursor::Cursor;
 use crate::definition::{Definition, outline};
 use crate::examined::Examined;
 use crate::fault::CheckFault;
+use crate::link_stop::LinkStop;
 use crate::looks::Looks;
 use crate::sizes::{Sizes, sizes_in};
-use crate::stop::Stop;
 use registry_core::{Registry, TypeDef};
 use std::alloc::{AllocError, Global};
 
@@ -190,7 +190,7 @@ impl Graph {
 
     /// One look at a reference: the next one of what is open, which is put into the list of those
     /// to its type, for this counter. Answers the position that it is to.
-    pub fn next(&mut self, counter: u32) -> Result<u32, Stop>
+    pub fn next(&mut self, counter: u32) -> Result<u32, LinkStop>
         requires linked { IsLinked self.old }
         requires some { 0 < length (parts_left self.old) }
         ensures reads { IfOk result (λ to. ReadsNext self.old self.new to counter) }
@@ -199,10 +199,10 @@ impl Graph {
         let id = self.read_next().unwrap();
         let to = id as usize;
         if to >= self.registry.types().len() {
-            return Err(Stop::Unknown(id));
+            return Err(LinkStop::Unknown(id));
         }
         if self.links.len() >= u32::MAX as usize {
-            return Err(Stop::Memory);
+            return Err(LinkStop::Memory);
         }
         let before = self.newest[to];
         self.members.push(id)?;

@@ -7,16 +7,16 @@ mod definition;
 mod examined;
 mod fault;
 mod graph;
+mod link_stop;
 mod looks;
 mod references;
 mod sizes;
-mod stop;
 
 pub use definition::Definition;
 pub use examined::Examined;
 pub use fault::CheckFault;
 pub use graph::{Graph, Link};
+pub use link_stop::LinkStop;
 pub use looks::Looks;
 pub use references::{Reference, first_unknown};
 pub use sizes::{Sizes, sizes_of};
-pub use stop::Stop;

@@ -1,4 +1,4 @@
-//! A value as JSON: as a tree of `serde_json`, as its text, and as that text written to a sink or into memory.
+//! Shows a value as JSON: as a tree of `serde_json`, as text, and as text in a sink or in memory.
 #![tactic(auto)]
 
 mod defined;

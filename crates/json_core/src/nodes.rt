@@ -128,12 +128,14 @@ fn node_json(
     with_items(alloc, orders, node, items)
 }
 
-/// A value as a tree of `serde_json` (this project's own table, `docs/FORMATS.md`, "JSON").
+/// Returns a value as a tree of `serde_json` (this project's own table, `docs/FORMATS.md`, "JSON").
 ///
-/// It takes time in proportion to the tree, and for each type that it meets to sort its names. The calls nest as deep as
-/// the value's levels, which are at most 1025. The tree nests at most twice as deep.
+/// It takes time in proportion to the tree, and for each type that it meets the time to sort its
+/// names. The calls nest as deep as the value, at most 1025 levels; the tree at most twice as deep.
 ///
-/// Refuses with `AllocError` where memory was refused. The value stays as it was in either case.
+/// # Errors
+///
+/// `AllocError` if an allocation fails.
 pub fn to_json<A: Allocator>(
     alloc: Global,
     value: &value_core::Value<'_, A>,

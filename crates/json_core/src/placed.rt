@@ -52,13 +52,15 @@ fn run_in_front(out: &mut [u8], bytes: &[u8]) -> usize
     len
 }
 
-/// Writes a value's JSON, the text that `json_text` gives, to the front of `out`, and answers how many bytes it is. What is
-/// after it in `out` stays; where `out` is shorter, nothing is written.
+/// Writes a value's JSON, the text of [`json_text`](crate::json_text), to the front of `out`, and
+/// returns its length in bytes. The rest of `out` is unchanged, and all of it if `out` is shorter.
 ///
-/// A value that is one text which needs no escape is copied, and the digits of one run of bytes are made in `out`; neither
-/// takes memory. Of any other the text is made first, with the memory and the stack that `json_text` takes.
+/// Of one text without an escape, or one run of bytes, it allocates nothing. Otherwise it makes the
+/// text first.
 ///
-/// Refuses want of memory; `out` stays as it was then.
+/// # Errors
+///
+/// `AllocError` if an allocation fails; `out` is unchanged.
 pub fn json_to_slice<A: Allocator>(
     alloc: Global,
     value: &Value<'_, A>,

@@ -13,10 +13,10 @@ use std::alloc::{AllocError, Allocator, Global};
 use token_core::Output;
 use value_core::{Value, WriteFault, send};
 
-/// Room for the text of a small value, in bytes.
+/// The capacity for the text of a small value, in bytes.
 const FIRST_ROOM: usize = 256;
 
-/// Why a value was not printed whole.
+/// Why a value was not printed completely.
 #[derive(Clone, Copy, Debug, PartialEq, Eq)]
 pub enum PrintFault {
     /// Memory was refused. Nothing was written.
@@ -25,18 +25,21 @@ pub enum PrintFault {
     Write(WriteFault),
 }
 
-/// A value's JSON as text: `serde_json`'s compact text of `to_json`, with no space and no line end. The value stays as
-/// it was.
+/// Returns a value's JSON as text: `serde_json`'s compact text of [`to_json`](crate::to_json), with
+/// no line end.
 ///
-/// It is written straight from the value into the one text, whose room may be up to twice as long, and a quarter longer
-/// above a mebibyte. Beside that text it takes memory for the orders of keys that it meets, four bytes a field and an
-/// entry for each composite and each arm; 40 bytes for each child of an object that is open and has more than eight, where
-/// the names of its fields are out of order; and room for the longest of the texts that have an escape. It takes time in
-/// proportion to the text, a look-up for each composite and each arm of two fields or more, and the time to sort the names
-/// of each type that it meets. The calls nest as deep as the value's levels, which are at most 1025; those take some 650
-/// KiB of stack.
+/// The text's capacity is at most twice its length, and above a mebibyte at most a quarter more.
+/// Besides, it allocates for the order of keys of each composite and arm that it meets (four bytes a
+/// field and an entry), 40 bytes for each child of an open object with more than eight fields whose
+/// names are out of order, and as much as the longest text with an escape.
 ///
-/// Refuses want of memory, and nothing is kept then.
+/// It takes time in proportion to the text, a look-up for each composite and arm of two fields or
+/// more, and the time to sort the names of each type that it meets. The calls nest as deep as the
+/// value, at most 1025 levels, which take some 650 KiB of stack.
+///
+/// # Errors
+///
+/// `AllocError` if an allocation fails.
 pub fn json_text<A: Allocator>(alloc: Global, value: &Value<'_, A>) -> Result<String, AllocError>
     ensures { IfOk result (λ text. string_bytes text ≡ json_text value.now) }
 {
@@ -46,16 +49,16 @@ pub fn json_text<A: Allocator>(alloc: Global, value: &Value<'_, A>) -> Result<St
     Ok(out.into_text())
 }
 
-/// Writes a value as JSON: the text that `json_text` gives, without a line end. It is made whole before the first
-/// write, with the memory and the stack that `json_text` takes.
+/// Writes a value's JSON to a sink: the text of [`json_text`], made complete before the first write.
 ///
-/// Refuses:
-/// - `OutOfMemory`, where memory was refused: no write was made, and the sink stays as it was;
-/// - `Write` with `Device`, where the writer answers an error; an interrupted write is one;
-/// - `Write` with `WroteNothing`, where the writer takes no byte of a part that is not empty.
+/// # Errors
 ///
-/// After a failed write the sink has failed for good, and what went out is the beginning of the text, as long as is
-/// reported. Otherwise `failed()` stays as it was. The value stays as it was in each case.
+/// - `OutOfMemory` if an allocation fails: nothing was written, and the sink is unchanged;
+/// - `Write` with `Device` if the writer returns an error, also for an interrupted write;
+/// - `Write` with `WroteNothing` if the writer takes no byte of a part that is not empty.
+///
+/// After a failed write the sink has failed for good, and the front of the text that is reported was
+/// written. Otherwise `failed()` is unchanged.
 pub fn print<A: Allocator, W: WriteOnce>(
     alloc: Global,
     value: &Value<'_, A>,

@@ -5,9 +5,9 @@ use Rattle.std.specs.Prelude.{slice_get, is_none, ◌==◌}
 use Rattle.std.proofs.lemmas.Bool.{ne_eqb}
 use Rattle.std.proofs.lemmas.Option.{slice_get-get_or, slice_get_cases, slice_get_past}
 use Rattle.grammar_core.specs.Parts.{each, first_of, left_after}
-use Rattle.node_core.specs.Left.{followed_by, left_by, members_before, parts_by, IsWithin}
-use Rattle.node_core.specs.Left.{have_one_type}
-use Rattle.node_core.specs.declared.left.Left.{Left}
+use Rattle.node_core.specs.Remaining.{followed_by, left_by, members_before, parts_by, IsWithin}
+use Rattle.node_core.specs.Remaining.{have_one_type}
+use Rattle.node_core.specs.declared.remaining.Remaining.{Remaining}
 
 -- none is left past the last reference
 none_past : (refs : List ℕ) (end n : ℕ) → length refs ≤ end - n → members_before refs end n ≡ []
@@ -51,7 +51,7 @@ first_left refs (suc n) element (suc end) at h k e =
     rw same (first_followed (slice_get refs (end - suc n)) (members_before refs end n))
 
 -- where the references are there, nothing is left exactly where none is counted
-pub none_counted : (refs : List ℕ) (l : Left) → IsWithin refs l →
+pub none_counted : (refs : List ℕ) (l : Remaining) → IsWithin refs l →
     (l.count == 0) ≡ is_none (first_of (left_by refs l))
 none_counted refs l h = go l.count l.end h.counted h.there where
   go : (n end : ℕ) → (1 ≤ end → n < end) → end ≤ length refs + 1 →
@@ -65,7 +65,7 @@ none_counted refs l h = go l.count l.end h.counted h.there where
       (ne_eqb (suc n) 0 (λ e. absurd (omega (arith, e))))
 
 -- the parts are those of a list exactly where no reference is named as the last of theirs
-pub one_type : (refs : List ℕ) (l : Left) → (l.end == 0) ≡ have_one_type (left_by refs l)
+pub one_type : (refs : List ℕ) (l : Remaining) → (l.end == 0) ≡ have_one_type (left_by refs l)
 one_type refs l = go l.end where
   go : (end : ℕ) → (end == 0) ≡ have_one_type (parts_by refs l.count l.element end)
   go zero = refl

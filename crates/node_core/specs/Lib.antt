@@ -1,6 +1,6 @@
 pub mod Encoding
 pub mod Failed
 pub mod Leaves
-pub mod Left
+pub mod Remaining
 pub mod Shown
 pub mod Whats

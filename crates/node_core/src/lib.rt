@@ -3,22 +3,22 @@
 
 mod children;
 mod leaf;
-mod left;
 mod node;
 mod node_ref;
 mod open_run;
 mod pool;
+mod remaining;
 mod value;
 mod what;
 mod writing;
 
 pub use children::Children;
 pub use leaf::Leaf;
-pub use left::{Frame, Left};
 pub use node::{Content, NODE_BYTES, Node};
 pub use node_ref::NodeRef;
 pub use open_run::OpenRun;
 pub use pool::put_piece;
+pub use remaining::{Frame, Remaining};
 pub use value::Value;
 pub use what::What;
 pub use writing::{WriteFault, encode, send};

@@ -8,8 +8,8 @@ use Rattle.std.specs.Str.Lossy.{utf8_valid_len}
 use Rattle.std.proofs.lemmas.List.{append-nil, take-append-drop}
 use Rattle.scale_core.specs.Number.{number}
 use Rattle.scale_core.specs.Compact.{compact, target_bytes}
-use Rattle.scale_core.specs.Read.{Read, ◌>>=◌, bytes_at, number_at, form_len, form_number}
-use Rattle.scale_core.specs.Read.{form_from, is_too_long, integer_at, compact_at, text_at}
+use Rattle.scale_core.specs.Read.{Read, ◌>>=◌, bytes_at, number_at, mode_len, mode_number}
+use Rattle.scale_core.specs.Read.{mode_from, is_too_long, integer_at, compact_at, text_at}
 use Rattle.scale_core.specs.declared.compact.Target.{Target}
 use Rattle.scale_core.specs.declared.compact.Target.TheVariants.{U32 as u32_target}
 use Rattle.scale_core.specs.declared.fault.Reason.{Reason}
@@ -81,9 +81,9 @@ number_inside k b = inside_cond CutAtEnd b (nat_lt (length b) k) (Err (scale.Tru
 
 -- the fault of a form stands within the bytes, and at their end where it is cut
 pub form_inside : (m : Target) (b : List ℕ) (r : Read Reason (List ℕ)) → Inside CutAtEnd b r →
-    Inside CutAtEnd b (form_from m b r)
+    Inside CutAtEnd b (mode_from m b r)
 form_inside m b (Err e) h = h
-form_inside m b (Ok x) h = let n = form_number x.0 in
+form_inside m b (Ok x) h = let n = mode_number x.0 in
     inside_cond CutAtEnd b (not (bytes_eq (compact n) x.0)) (Err (scale.CompactNotShortest, b))
     (cond (nat_lt n (256 ^ target_bytes m)) (Ok (n, x.1)) (Err (scale.CompactTooLarge, b)))
     (at_front b, λ e. absurd cc)
@@ -96,10 +96,10 @@ integer_inside m [] = (at_end [], λ e. refl)
 integer_inside m (first ∷ rest) =
     inside_cond CutAtEnd (first ∷ rest) (is_too_long m first)
     (Err (scale.CompactTooLarge, first ∷ rest))
-    (form_from m (first ∷ rest) (bytes_at (form_len first) (first ∷ rest)))
+    (mode_from m (first ∷ rest) (bytes_at (mode_len first) (first ∷ rest)))
     (at_front (first ∷ rest), λ e. absurd cc)
-    (form_inside m (first ∷ rest) (bytes_at (form_len first) (first ∷ rest))
-    (bytes_inside (form_len first) (first ∷ rest)))
+    (form_inside m (first ∷ rest) (bytes_at (mode_len first) (first ∷ rest))
+    (bytes_inside (mode_len first) (first ∷ rest)))
 
 -- the fault of a compact integer stands within the bytes, and at their end where it is cut
 pub compact_inside : (b : List ℕ) → Inside CutAtEnd b (compact_at u32_target b)

@@ -3,14 +3,14 @@ use Rattle.std.proofs.Common.{◌≡◌, ℕ, suc, ◌-◌, ◌+◌, ◌<◌, Li
 use Rattle.std.proofs.Common.{sym, ap, ◌∙◌, append_assoc, arith}
 use Rattle.scale_core.specs.Read.{Read, ◌>>=◌}
 use Rattle.registry_core.specs.declared.fault.RegistryReason.{RegistryReason}
-use Rattle.registry_core.specs.declared.reading.stop.Stop.{Stop}
-use Rattle.registry_core.specs.declared.reading.stop.Stop.TheVariants.{Memory, Fault}
+use Rattle.registry_core.specs.declared.reading.read_stop.ReadStop.{ReadStop}
+use Rattle.registry_core.specs.declared.reading.read_stop.ReadStop.TheVariants.{Memory, Fault}
 use Rattle.registry_core.specs.declared.type_info.TypeInfo.{TypeInfo}
 use Rattle.registry_core.specs.Gives.{StopsReading}
 use Rattle.registry_core.specs.Reading.{Reader, repeated, id_at, type_info_at, types_at}
 
 -- where the first part stops, both parts stop
-pub stops_then : {X Y : Type 0} (stop : Stop) (first : Read RegistryReason X)
+pub stops_then : {X Y : Type 0} (stop : ReadStop) (first : Read RegistryReason X)
     (then : X × List ℕ → Read RegistryReason Y) → StopsReading stop first →
     StopsReading stop (first >>= then)
 stops_then Memory first then h = tt
@@ -41,7 +41,7 @@ goes_on part front count i bytes x after total lt h so_far =
     sym one ∙ so_far
 
 -- where a turn's part stops the reading, so stops the list
-pub ends : {X : Type 0} (part : Reader X) (stop : Stop) (front : List X) (count i : ℕ)
+pub ends : {X : Type 0} (part : Reader X) (stop : ReadStop) (front : List X) (count i : ℕ)
     (bytes : List ℕ) (total : Read RegistryReason (List X)) → i < count →
     StopsReading stop (part bytes)
     → with_front front (repeated (count - i) part bytes) ≡ total → StopsReading stop total
@@ -68,7 +68,7 @@ type_goes_on front count i bytes behind x after total lt at h so_far =
     sym one ∙ so_far
 
 -- where a type's position stops the reading, so stops the list
-pub id_ends : (stop : Stop) (front : List TypeInfo) (count i : ℕ) (bytes : List ℕ)
+pub id_ends : (stop : ReadStop) (front : List TypeInfo) (count i : ℕ) (bytes : List ℕ)
     (total : Read RegistryReason (List TypeInfo)) → i < count → StopsReading stop (id_at i bytes)
     → with_front front (types_at (count - i) i bytes) ≡ total → StopsReading stop total
 id_ends Memory front count i bytes total lt h so_far = tt
@@ -79,7 +79,7 @@ id_ends (Fault reason left) front count i bytes total lt h so_far =
     sym so_far ∙ one
 
 -- where a type after its position stops the reading, so stops the list
-pub type_ends : (stop : Stop) (front : List TypeInfo) (count i : ℕ) (bytes behind : List ℕ)
+pub type_ends : (stop : ReadStop) (front : List TypeInfo) (count i : ℕ) (bytes behind : List ℕ)
     (total : Read RegistryReason (List TypeInfo)) → i < count
     → id_at i bytes ≡ Ok (i, behind) → StopsReading stop (type_info_at behind)
     → with_front front (types_at (count - i) i bytes) ≡ total → StopsReading stop total

@@ -5,8 +5,8 @@ use Rattle.std.proofs.lemmas.List.{drop_at}
 use Rattle.scale_core.specs.Read.{Read, place}
 use Rattle.scale_core.specs.declared.fault.Fault.{Fault as ScaleFault}
 use Rattle.scale_core.specs.declared.fault.Reason.{Reason}
-use Rattle.registry_core.specs.declared.reading.stop.Stop.{Stop}
-use Rattle.registry_core.specs.declared.reading.stop.Stop.TheVariants.{Memory, Fault}
+use Rattle.registry_core.specs.declared.reading.read_stop.ReadStop.{ReadStop}
+use Rattle.registry_core.specs.declared.reading.read_stop.ReadStop.TheVariants.{Memory, Fault}
 use Rattle.registry_core.specs.Gives.{StopsReading, IsFaultAt}
 use Rattle.registry_core.specs.Laws.{IsAfter}
 use Rattle.registry_core.specs.Reading.{registry_reason_of, lifted}
@@ -28,7 +28,8 @@ err_after : {X : Type 0} (b : List ℕ) (read : Read Reason X) (reason : Reason)
 err_after b read reason left h e = (rw e at h).0
 
 -- a number or a text that is refused, as a part of a registry
-pub stops_at : {X : Type 0} (b : List ℕ) (fault : ScaleFault) (read : Read Reason X) (stop : Stop) →
+pub stops_at : {X : Type 0} (b : List ℕ) (fault : ScaleFault) (read : Read Reason X)
+    (stop : ReadStop) →
     Inside CutAtEnd b read →
     (left : List ℕ) × (read ≡ Err (fault.reason, left)) × (fault.at ≡ place b left) →
     IsFaultAt (registry_reason_of fault.reason) (drop fault.at b) stop →

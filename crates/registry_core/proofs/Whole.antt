@@ -6,8 +6,8 @@ use Rattle.scale_core.specs.Number.{AreBytes}
 use Rattle.scale_core.specs.Read.{Read}
 use Rattle.scale_core.proofs.Results.{done, done_is}
 use Rattle.registry_core.specs.declared.fault.RegistryReason.{RegistryReason}
-use Rattle.registry_core.specs.declared.reading.stop.Stop.{Stop}
-use Rattle.registry_core.specs.declared.reading.stop.Stop.TheVariants.{Memory, Fault}
+use Rattle.registry_core.specs.declared.reading.read_stop.ReadStop.{ReadStop}
+use Rattle.registry_core.specs.declared.reading.read_stop.ReadStop.TheVariants.{Memory, Fault}
 use Rattle.registry_core.specs.Answers.{FaultAnswers, out_of_memory}
 use Rattle.registry_core.specs.Fits.{FitsRegistry}
 use Rattle.registry_core.specs.Gives.{StopsReading, IsWithin, fault_of}
@@ -105,7 +105,7 @@ ok_only {X = X} Fits spell part shown codec b x rest e other more fits is =
 
 -- where a codec's reading stops, it stops within the bytes
 pub err_within : {X : Type 0} (Fits : X → Type 0) (spell : X → List ℕ) (part : Reader X) →
-    IsCodec Fits spell part → (b : List ℕ) (stop : Stop) → StopsReading stop (part b) →
+    IsCodec Fits spell part → (b : List ℕ) (stop : ReadStop) → StopsReading stop (part b) →
     IsWithin b stop
 err_within Fits spell part codec b Memory h = tt
 err_within Fits spell part codec b (Fault reason left) h = let i = codec.steady.inside b in
@@ -113,21 +113,21 @@ err_within Fits spell part codec b (Fault reason left) h = let i = codec.steady.
 
 -- where a codec's reading stops, the fault is the reading's, at its place
 pub err_exact : {X : Type 0} (Fits : X → Type 0) (spell : X → List ℕ) (part : Reader X) →
-    IsCodec Fits spell part → (b : List ℕ) (stop : Stop) → StopsReading stop (part b) →
+    IsCodec Fits spell part → (b : List ℕ) (stop : ReadStop) → StopsReading stop (part b) →
     FaultAnswers b (fault_of (length b) stop) (part b)
 err_exact Fits spell part codec b Memory h = inl refl
 err_exact Fits spell part codec b (Fault reason left) h = let i = codec.steady.inside b in
     inr (left.now, h, refl, (rw h at i).1.0)
 
 -- a reading that is done stops for want of memory only
-stopped : {X : Type 0} (stop : Stop) (b : List ℕ) (x : X × List ℕ) →
+stopped : {X : Type 0} (stop : ReadStop) (b : List ℕ) (x : X × List ℕ) →
     StopsReading stop (done {E = RegistryReason} x) → fault_of (length b) stop ≡ out_of_memory
 stopped Memory b x h = refl
 stopped (Fault reason left) b x h = absurd cc
 
 -- where bytes begin with a spelling, a codec's reading stops for want of memory only
 pub err_only : {X : Type 0} (Fits : X → Type 0) (spell : X → List ℕ) (part : Reader X) →
-    IsCodec Fits spell part → (b : List ℕ) (stop : Stop) → StopsReading stop (part b) →
+    IsCodec Fits spell part → (b : List ℕ) (stop : ReadStop) → StopsReading stop (part b) →
     (other : X) (more : List ℕ) → Fits other → b ≡ spell other ++ more →
     fault_of (length b) stop ≡ out_of_memory
 err_only Fits spell part codec b stop h other more fits is =

@@ -8,3 +8,4 @@ pub mod Reading
 pub mod Rows
 pub mod Spelling
 pub mod Splits
+pub mod Names

@@ -13,7 +13,7 @@ mod atoms;
 mod definitions;
 mod lists;
 mod prefix;
-mod stop;
+mod read_stop;
 mod types;
 
 use crate::fault::RegistryFault;
@@ -21,13 +21,13 @@ use crate::registry::Registry;
 use crate::version::Version;
 use atoms::length_of;
 use prefix::prefix_of;
+use read_stop::ReadStop;
 use std::alloc::Global;
-use stop::Stop;
 use types::types_of;
 
 /// A registry: how many types, and the types.
 #[tactic(auto, unfolding(crate::specs::Reading::registry_at))]
-fn registry_of(alloc: Global, bytes: &[u8]) -> Result<(Registry, &[u8]), Stop<'_>>
+fn registry_of(alloc: Global, bytes: &[u8]) -> Result<(Registry, &[u8]), ReadStop<'_>>
     ensures { Gives (λ x. (x.0, x.1.now)) result (registry_at bytes.now) }
 {
     let (count, rest) = length_of(bytes)?;
@@ -37,7 +37,7 @@ fn registry_of(alloc: Global, bytes: &[u8]) -> Result<(Registry, &[u8]), Stop<'_
 
 /// A registry after the prefix of metadata, and the version that the prefix reports.
 #[tactic(auto, unfolding(crate::specs::Reading::metadata_at))]
-fn metadata_of(alloc: Global, bytes: &[u8]) -> Result<(Registry, Version, &[u8]), Stop<'_>>
+fn metadata_of(alloc: Global, bytes: &[u8]) -> Result<(Registry, Version, &[u8]), ReadStop<'_>>
     ensures { Gives (λ x. ((x.0, x.1), x.2.now)) result (metadata_at bytes.now) }
 {
     let (version, rest) = prefix_of(bytes)?;

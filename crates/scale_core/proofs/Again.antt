@@ -10,7 +10,7 @@ use Rattle.std.proofs.lemmas.List.{take_at, drop_at, length-append}
 use Rattle.std.proofs.Math.Nat.{pow-le-pow_right}
 use Rattle.scale_core.specs.Number.{number, le_bytes}
 use Rattle.scale_core.specs.Compact.{compact, bytes_needed, big_bytes, target_bytes, IsCompact}
-use Rattle.scale_core.specs.Read.{bytes_at, number_at, form_len, form_number, is_too_long}
+use Rattle.scale_core.specs.Read.{bytes_at, number_at, mode_len, mode_number, is_too_long}
 use Rattle.scale_core.specs.Read.{integer_at, compact_at, text_at}
 use Rattle.scale_core.specs.declared.compact.Target.{Target}
 use Rattle.scale_core.specs.declared.compact.Target.TheVariants.{Unit as TUnit, U8, U16, U32}
@@ -25,15 +25,15 @@ bytes_again k b rest len =
     le-ltb _ _ (omega (arith, length-append b rest)) in
     rw (long, take_at b rest k len, drop_at b rest k len) refl
 
--- a form, by its first byte
+-- a mode, by its first byte
 pub record IsForm (n first : ℕ) (tail : List ℕ) : Type 0 where
   pub is : compact n ≡ first ∷ tail
-  pub len : length (first ∷ tail) ≡ form_len first
-  pub value : form_number (first ∷ tail) ≡ n
+  pub len : length (first ∷ tail) ≡ mode_len first
+  pub value : mode_number (first ∷ tail) ≡ n
   pub big : first % 4 ≡ 3 → first / 4 + 4 ≡ big_bytes n
   pub is_big : first % 4 ≡ 3 → 2 ^ 30 ≤ n
 
--- a number below 64 has the form of one byte
+-- a number below 64 has the mode of one byte
 small_form : (n : ℕ) → n < 64 → IsForm n (4 * n) []
 unfolding compact
 small_form n h =
@@ -47,7 +47,7 @@ small_form n h =
       is_big = λ e. absurd (omega (arith, e));
     }
 
--- a number from 64 to below 2^14 has the form of two bytes
+-- a number from 64 to below 2^14 has the mode of two bytes
 two_form : (n : ℕ) → 64 ≤ n → n < 2 ^ 14 →
     IsForm n ((4 * n + 1) % 256) (le_bytes 1 ((4 * n + 1) / 256))
 unfolding compact
@@ -65,7 +65,7 @@ two_form n ge h =
           λ e. absurd (omega (arith, e));
     }
 
--- a number from 2^14 to below 2^30 has the form of four bytes
+-- a number from 2^14 to below 2^30 has the mode of four bytes
 four_form : (n : ℕ) → 2 ^ 14 ≤ n → n < 2 ^ 30 →
     IsForm n ((4 * n + 2) % 256) (le_bytes 3 ((4 * n + 2) / 256))
 unfolding compact
@@ -82,7 +82,7 @@ four_form n ge h =
       is_big = λ e. absurd (omega (arith, e));
     }
 
--- the bytes that the big form counts for a number hold it
+-- the bytes that the big mode counts for a number hold it
 big_enough : (n : ℕ) → n < 2 ^ 128 → n < 256 ^ big_bytes n
 big_enough n h =
     let enough : n < 256 ^ bytes_needed 16 n = bytes_needed-enough 16 n h in
@@ -93,7 +93,7 @@ big_enough n h =
           {j = big_bytes n} (omega arith),
     )
 
--- a number from 2^30 to below 2^128 has the form that counts its bytes
+-- a number from 2^30 to below 2^128 has the mode that counts its bytes
 big_form : (n : ℕ) → 2 ^ 30 ≤ n → n < 2 ^ 128 →
     IsForm n (4 * (big_bytes n - 4) + 3) (le_bytes (big_bytes n) n)
 unfolding compact
@@ -114,7 +114,7 @@ big_form n ge h =
       is_big = λ e. ge;
     }
 
--- each number below 2^128 has a form
+-- each number below 2^128 has a mode
 pub form_of : (n : ℕ) → n < 2 ^ 128 → (first : ℕ) × (tail : List ℕ) × IsForm n first tail
 form_of n h = elim (cases_lt n 64) [
   | inl lt ↦ (_, _, small_form n lt)
@@ -137,7 +137,7 @@ four_at_least U8 n ge h = absurd (omega arith)
 four_at_least U16 n ge h = absurd (omega arith)
 four_at_least _ n ge h = omega arith
 
--- the form of a number that the target holds is not too long for the target
+-- the mode of a number that the target holds is not too long for the target
 fits_target : (m : Target) (n first : ℕ) (tail : List ℕ) → IsForm n first tail →
     n < 256 ^ target_bytes m → is_too_long m first ≡ false
 fits_target m n first tail f h =
@@ -147,7 +147,7 @@ fits_target m n first tail f h =
     let needed = bytes_needed-le 16 (target_bytes m) n h in
     le-ltb _ _ (omega (arith, f.big mode)))
 
--- the form of a number that the target holds is read as the number, with the rest left
+-- the mode of a number that the target holds is read as the number, with the rest left
 pub integer_again : (m : Target) (n first : ℕ) (tail rest : List ℕ) → IsForm n first tail →
     n < 256 ^ target_bytes m → integer_at m (first ∷ tail ++ rest) ≡ Ok (n, rest)
 integer_again m n first tail rest f h =
@@ -155,7 +155,7 @@ integer_again m n first tail rest f h =
     (bytes_eq-Decides (compact n) (first ∷ tail)).1 f.is in
     rw (
       fits_target m n first tail f h,
-      bytes_again (form_len first) (first ∷ tail) rest f.len,
+      bytes_again (mode_len first) (first ∷ tail) rest f.len,
       f.value,
       same,
       lt-ltb n (256 ^ target_bytes m) h,

@@ -2,8 +2,8 @@ pub mod Numbers
 pub mod Fronts
 pub mod Characters
 pub mod Again
-pub mod Forms
-pub mod ReadForms
+pub mod Modes
+pub mod ReadModes
 pub mod ReadTexts
 pub mod Results
 pub mod Spellings

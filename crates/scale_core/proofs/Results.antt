@@ -12,7 +12,7 @@ use Rattle.std.proofs.lemmas.List.{drop-append-le, append-nil}
 use Rattle.std.proofs.lemmas.Str.{utf8_valid_len_le}
 use Rattle.scale_core.specs.Compact.{compact, target_bytes, IsCompact}
 use Rattle.scale_core.specs.Text.{IsText}
-use Rattle.scale_core.specs.Read.{Read, ◌>>=◌, bytes_at, form_len, form_number, form_from}
+use Rattle.scale_core.specs.Read.{Read, ◌>>=◌, bytes_at, mode_len, mode_number, mode_from}
 use Rattle.scale_core.specs.Read.{is_too_long, integer_at, compact_at, text_at}
 use Rattle.scale_core.specs.declared.compact.Target.{Target}
 use Rattle.scale_core.specs.declared.compact.Target.TheVariants.{Unit as TUnit, U32}
@@ -41,11 +41,11 @@ bytes_takes k b = cond_takes (λ x c. (c ≡ x) × (length c ≡ k)) b (ltb (len
 abbrev pub FitsTarget : Target → ℕ → List ℕ → Type 0
 FitsTarget m x c = (x < 256 ^ target_bytes m) × (c ≡ compact x)
 
--- where the bytes of a form stood on the front, so did the number that is made of them
+-- where the bytes of a mode stood on the front, so did the number that is made of them
 form_takes : (m : Target) (b : List ℕ) (k : ℕ) (r : Read Reason (List ℕ)) →
-    Takes (λ x c. (c ≡ x) × (length c ≡ k)) b r → Takes (FitsTarget m) b (form_from m b r)
+    Takes (λ x c. (c ≡ x) × (length c ≡ k)) b r → Takes (FitsTarget m) b (mode_from m b r)
 form_takes m b k (Err e) h = tt
-form_takes m b k (Ok x) h = let n = form_number x.0 in
+form_takes m b k (Ok x) h = let n = mode_number x.0 in
     cond_takes (FitsTarget m) b (not (bytes_eq (compact n) x.0)) (Err (CompactNotShortest, b))
     (cond (nat_lt n (256 ^ target_bytes m)) (Ok (n, x.1)) (Err (CompactTooLarge, b))) (λ e. tt)
     (λ e.
@@ -63,15 +63,15 @@ form_takes m b k (Ok x) h = let n = form_number x.0 in
       ),
     )) (λ e. tt))
 
--- an integer that is read stood on the front in a form that fits the target
+-- an integer that is read stood on the front in a mode that fits the target
 integer_takes : (m : Target) (b : List ℕ) → Takes (FitsTarget m) b (integer_at m b)
 integer_takes m [] = tt
 integer_takes m (first ∷ rest) =
     cond_takes (FitsTarget m) (first ∷ rest) (is_too_long m first)
     (Err (CompactTooLarge, first ∷ rest))
-    (form_from m (first ∷ rest) (bytes_at (form_len first) (first ∷ rest))) (λ e. tt)
-    (λ e. form_takes m (first ∷ rest) (form_len first) (bytes_at (form_len first) (first ∷ rest))
-    (bytes_takes (form_len first) (first ∷ rest)))
+    (mode_from m (first ∷ rest) (bytes_at (mode_len first) (first ∷ rest))) (λ e. tt)
+    (λ e. form_takes m (first ∷ rest) (mode_len first) (bytes_at (mode_len first) (first ∷ rest))
+    (bytes_takes (mode_len first) (first ∷ rest)))
 
 -- a compact integer that is read stood on the front in its spelling
 pub compact_takes : (m : Target) (b : List ℕ) → Takes (IsCompact m) b (compact_at m b)
@@ -132,12 +132,12 @@ pub cond_extends : {E X : Type 0} (cut : E) (more : List ℕ) (t : Bool) (x y x'
 cond_extends cut more true x y x' y' f g = f
 cond_extends cut more false x y x' y' f g = g
 
--- a form is judged alike in a longer input, where its bytes are read alike
+-- a mode is judged alike in a longer input, where its bytes are read alike
 form_extends : (m : Target) (b more : List ℕ) (r s : Read Reason (List ℕ)) →
     Extends Truncated more r s →
-    Extends Truncated more (form_from m b r) (form_from m (b ++ more) s)
+    Extends Truncated more (mode_from m b r) (mode_from m (b ++ more) s)
 form_extends m b more (Err e) s h = λ ne. rw (h ne) refl
-form_extends m b more (Ok x) s h = rw h (let n = form_number x.0 in
+form_extends m b more (Ok x) s h = rw h (let n = mode_number x.0 in
     cond_extends Truncated more (not (bytes_eq (compact n) x.0)) _ _ _ _ (λ ne. refl)
     (cond_extends Truncated more (nat_lt n (256 ^ target_bytes m)) _ _ _ _ refl (λ ne. refl)))
 
@@ -147,9 +147,9 @@ integer_extends : (m : Target) (b more : List ℕ) →
 integer_extends m [] more = λ ne. absurd (ne refl)
 integer_extends m (first ∷ rest) more =
     cond_extends Truncated more (is_too_long m first) _ _ _ _ (λ ne. refl)
-    (form_extends m (first ∷ rest) more (bytes_at (form_len first) (first ∷ rest))
-    (bytes_at (form_len first) (first ∷ rest ++ more))
-    (bytes_extends (form_len first) (first ∷ rest) more))
+    (form_extends m (first ∷ rest) more (bytes_at (mode_len first) (first ∷ rest))
+    (bytes_at (mode_len first) (first ∷ rest ++ more))
+    (bytes_extends (mode_len first) (first ∷ rest) more))
 
 -- a compact integer is read alike from a longer input, where it was not cut
 pub compact_extends : (m : Target) (b more : List ℕ) →

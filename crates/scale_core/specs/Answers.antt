@@ -20,7 +20,7 @@ Answers view input (Err f) read = (left : List ℕ) × (read ≡ Err (f.reason, 
 abbrev pub truncated_fault : List ℕ → Fault
 truncated_fault input = record { reason = Truncated; at = length input }
 
--- the answer for a form of len bytes that stands for n: both, or why it is not the one spelling
+-- the answer for a mode of len bytes that stands for n: both, or why it is not the one spelling
 abbrev pub judged : Target → ℕ → ℕ → Result (ℕ × ℕ) Fault
 judged m n len =
     if len == length (compact n) then

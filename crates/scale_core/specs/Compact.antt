@@ -21,7 +21,7 @@ abbrev pub bytes_needed : ℕ → ℕ → ℕ
 bytes_needed zero n = 0
 bytes_needed (suc k) n = if nat_lt n (256 ^ k) then bytes_needed k n else suc k
 
--- the bytes after the first one in the fourth form
+-- the bytes after the first one in the fourth mode
 abbrev pub big_bytes : ℕ → ℕ
 big_bytes n = max 4 (bytes_needed 16 n)
 

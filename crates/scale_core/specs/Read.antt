@@ -58,26 +58,26 @@ scalar_from at (Err e) = Err e
 abbrev pub char_at : List ℕ → Read Reason ℕ
 char_at bytes = scalar_from bytes (number_at 4 bytes)
 
--- how long the form is that the first byte names by its two low bits
-abbrev pub form_len : ℕ → ℕ
-form_len first = if first % 4 == 0 then 1 else if first % 4 == 1 then 2 else if first % 4 == 2 then
+-- how long the mode is that the first byte names by its two low bits
+abbrev pub mode_len : ℕ → ℕ
+mode_len first = if first % 4 == 0 then 1 else if first % 4 == 1 then 2 else if first % 4 == 2 then
     4 else first / 4 + 5
 
--- the number that a form stands for, in whatever form
-abbrev pub form_number : List ℕ → ℕ
-form_number [] = 0
-form_number (first ∷ tail) = if first % 4 == 3 then number tail else number (first ∷ tail) / 4
+-- the number that a mode stands for, in whatever mode
+abbrev pub mode_number : List ℕ → ℕ
+mode_number [] = 0
+mode_number (first ∷ tail) = if first % 4 == 3 then number tail else number (first ∷ tail) / 4
 
--- the form's number n, if the form is the one spelling of n and n fits the target
-abbrev pub checked_form : Target → List ℕ → ℕ → List ℕ → List ℕ → Read Reason ℕ
-checked_form m bytes n form rest =
-    if not (bytes_eq (compact n) form) then Err (CompactNotShortest, bytes)
+-- the form's number n, if the mode is the one spelling of n and n fits the target
+abbrev pub checked_mode : Target → List ℕ → ℕ → List ℕ → List ℕ → Read Reason ℕ
+checked_mode m bytes n mode rest =
+    if not (bytes_eq (compact n) mode) then Err (CompactNotShortest, bytes)
     else (if nat_lt n (256 ^ target_bytes m) then Ok (n, rest) else Err (CompactTooLarge, bytes))
 
--- the same for a form that may end too early
-abbrev pub form_from : Target → List ℕ → Read Reason (List ℕ) → Read Reason ℕ
-form_from m bytes (Ok form) = checked_form m bytes (form_number form.0) form.0 form.1
-form_from m bytes (Err e) = Err e
+-- the same for a mode that may end too early
+abbrev pub mode_from : Target → List ℕ → Read Reason (List ℕ) → Read Reason ℕ
+mode_from m bytes (Ok mode) = checked_mode m bytes (mode_number mode.0) mode.0 mode.1
+mode_from m bytes (Err e) = Err e
 
 -- does the first byte alone claim more bytes than the target has?
 abbrev pub is_too_long : Target → ℕ → Bool
@@ -88,7 +88,7 @@ abbrev pub integer_at : Target → List ℕ → Read Reason ℕ
 integer_at m [] = Err (Truncated, [])
 integer_at m (first ∷ rest) =
     if is_too_long m first then Err (CompactTooLarge, first ∷ rest)
-    else form_from m (first ∷ rest) (bytes_at (form_len first) (first ∷ rest))
+    else mode_from m (first ∷ rest) (bytes_at (mode_len first) (first ∷ rest))
 
 -- a compact integer: 0 and no bytes where the target is `Unit`
 unfoldable pub compact_at : Target → List ℕ → Read Reason ℕ

@@ -1,4 +1,4 @@
-//! Compact integers: the fewest bytes in one of four forms, which the two low bits of the first byte name
+//! Compact integers: the fewest bytes in one of four modes, which the two low bits of the first byte name
 //! (SCALE codec specification, "Compact/general integers").
 
 ghost use Rattle.std.specs.Prelude.{◌≡◌, ◌≢◌, ◌+◌, ◌*◌, ◌/◌, ◌%◌, ◌^◌, ◌<◌, ◌≤◌, ◌++◌, ◌∷◌};
@@ -81,7 +81,7 @@ fn number_after_first(bytes: &[u8], count: usize) -> Result<u128, Fault>
     }
 }
 
-/// The answer for a form that is there whole: its number with its length, if no shorter form has that number and the
+/// The answer for a mode that is there whole: its number with its length, if no shorter mode has that number and the
 /// target holds it.
 #[inline(always)]
 fn judge(
@@ -112,7 +112,7 @@ fn judge(
     Ok((number, len))
 }
 
-/// Reads the fourth form, whose first byte has in its upper six bits how many bytes come after it, less four.
+/// Reads the fourth mode, whose first byte has in its upper six bits how many bytes come after it, less four.
 fn read_long(bytes: &[u8], first: u8, target: Target) -> Result<(u128, usize), Fault>
     requires front { bytes.now ≡ first ∷ drop 1 bytes.now }
     requires long { first % 4 ≡ 3 }
@@ -139,7 +139,7 @@ fn read_long(bytes: &[u8], first: u8, target: Target) -> Result<(u128, usize), F
 ///
 /// Refuses, in this order: no bytes at all as `Truncated` at 0; a first byte that claims more bytes than the target
 /// has as `CompactTooLarge` at 0, whatever follows; fewer bytes than the first one names as `Truncated` at their
-/// length; a form longer than its value needs as `CompactNotShortest` at 0; and a value past the target's range as
+/// length; a mode longer than its value needs as `CompactNotShortest` at 0; and a value past the target's range as
 /// `CompactTooLarge` at 0.
 pub fn read_compact(bytes: &[u8], target: Target) -> Result<(u128, usize), Fault>
     ensures reads { Answers (λ x. x) bytes.now result (compact_at target bytes.now) }
@@ -152,9 +152,9 @@ pub fn read_compact(bytes: &[u8], target: Target) -> Result<(u128, usize), Fault
         return Ok((0, 0));
     }
     let [first] = front::<1>(bytes)?;
-    // The two low bits name the form: one, two or four bytes, whose upper bits are the number, or a count of bytes.
+    // The two low bits name the mode: one, two or four bytes, whose upper bits are the number, or a count of bytes.
     match first % 4 {
-        // One byte is the shortest form of its number, which fits every target.
+        // One byte is the shortest mode of its number, which fits every target.
         0 => Ok((u128::from(first / 4), 1)),
         1 => {
             let number = u16::from_le_bytes(front(bytes)?) / 4;
@@ -168,7 +168,7 @@ pub fn read_compact(bytes: &[u8], target: Target) -> Result<(u128, usize), Fault
     }
 }
 
-/// How many bytes the fourth form has after the first one, for a value that needs that form.
+/// How many bytes the fourth mode has after the first one, for a value that needs that mode.
 fn big_bytes(value: u128) -> usize
     requires { 2 ^ 30 ≤ value }
     ensures exact { result ≡ big_bytes value }
@@ -192,7 +192,7 @@ pub fn compact_len(value: u128) -> usize
     }
 }
 
-/// Puts the fourth form of a value that needs it at the front of the array, and answers its length.
+/// Puts the fourth mode of a value that needs it at the front of the array, and answers its length.
 fn put_big(value: u128, out: &mut [u8; 17]) -> usize
     requires { 2 ^ 30 ≤ value }
     ensures len { result ≡ length (compact value) }

@@ -17,7 +17,7 @@ pub enum Reason {
     /// A text that is there whole and is not UTF-8.
     #[error("BadUtf8")]
     BadUtf8,
-    /// A compact integer in a longer form than its value needs.
+    /// A compact integer in a longer mode than its value needs.
     #[error("CompactNotShortest")]
     CompactNotShortest,
     /// A compact integer past the range of its target.

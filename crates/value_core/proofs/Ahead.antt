@@ -10,9 +10,9 @@ use Rattle.registry_core.specs.declared.type_info.TypeInfo.{TypeInfo}
 use Rattle.graph_core.specs.Types.{shape, ids, field_types}
 use Rattle.widths_core.specs.declared.class.Class.{Class}
 use Rattle.widths_core.specs.declared.class.Class.TheVariants as class
-use Rattle.widths_core.specs.declared.step.ArmStep.{ArmStep}
-use Rattle.widths_core.specs.declared.step.Step.{Step}
-use Rattle.widths_core.specs.declared.step.Step.TheVariants as step
+use Rattle.widths_core.specs.declared.type_step.ArmStep.{ArmStep}
+use Rattle.widths_core.specs.declared.type_step.TypeStep.{TypeStep}
+use Rattle.widths_core.specs.declared.type_step.TypeStep.TheVariants as step
 use Rattle.widths_core.specs.Arms.{arm_at}
 use Rattle.widths_core.specs.Classes.{class_of, is_unit}
 use Rattle.widths_core.specs.Steps.{references_of, AreParts, IsArm, IsStep, IsStepAt, array_step}
@@ -26,8 +26,8 @@ use Rattle.grammar_core.specs.declared.form.Form.{Form}
 use Rattle.grammar_core.specs.declared.form.Form.TheVariants as form
 use Rattle.grammar_core.specs.declared.form.Next.TheVariants as next
 use Rattle.value_core.specs.Ahead.{IsStepOf, elements_in, members_in}
-use Rattle.node_core.specs.declared.left.Left.{Left}
-use Rattle.node_core.specs.Left.{left_of, members_of}
+use Rattle.node_core.specs.declared.remaining.Remaining.{Remaining}
+use Rattle.node_core.specs.Remaining.{left_of, members_of}
 use Rattle.value_core.specs.Opened.{OpensFields, OpensArm, OpensElements, IsListNext, shape_at}
 use Rattle.value_core.specs.Opened.{next_shape}
 use Rattle.value_core.specs.Walked.{Walked, next_type, next_of}
@@ -37,12 +37,12 @@ use Rattle.value_core.proofs.Opened.{composite_opens, tuple_opens, array_opens, 
 use Rattle.value_core.proofs.Opened.{arm_opens}
 
 -- a type is next, and this is its step
-abbrev pub IsStepAhead : List TypeInfo → Option ℕ → Step → Type 0
+abbrev pub IsStepAhead : List TypeInfo → Option ℕ → TypeStep → Type 0
 IsStepAhead r (Some t) s = IsStepOf r t s
 IsStepAhead r None s = ⊥
 
 -- where something is left, a type is next
-pub found_ahead : (r : List TypeInfo) (o : Option ℕ) (s : Step) → is_none o ≡ false →
+pub found_ahead : (r : List TypeInfo) (o : Option ℕ) (s : TypeStep) → is_none o ≡ false →
     IfSome o (λ t. IsStepOf r t s) → IsStepAhead r o s
 found_ahead r (Some t) s h is = is
 found_ahead r None s h is = absurd cc
@@ -63,7 +63,7 @@ pub type_wanted : (w : Walked) (f : Form) (t : ℕ) → next_of w ≡ next.Wants
 type_wanted w f t e h = let k = wanted w f e in type_is w t k.ty k.is_next h
 
 -- the step of a type says what comes next, whether the type is known or not
-pub next_by_step : (r : List TypeInfo) (t : ℕ) (s : Step) → IsStepOf r t s →
+pub next_by_step : (r : List TypeInfo) (t : ℕ) (s : TypeStep) → IsStepOf r t s →
     next_of_step s ≡ next_at r t
 next_by_step r t s h = go (shape r t) refl where
   go : (x : Option TypeDef) → shape r t ≡ x → next_of_step s ≡ next_at r t
@@ -75,7 +75,7 @@ next_by_step r t s h = go (shape r t) refl where
       some_next r t (Some s) s (rw (IsStepAt, e) (s, refl, is)) refl
 
 -- where there is room for it, what comes next is what the step of the next type says
-pub next_in_room : (w : Walked) (s : Step) → length w.frames ≤ w.limit + 1 →
+pub next_in_room : (w : Walked) (s : TypeStep) → length w.frames ≤ w.limit + 1 →
     IsStepAhead w.types (next_type w) s → next_of_step s ≡ next_of w
 next_in_room w s h a = go (next_type w) (nat_lt (w.limit + 1) (length w.frames)) refl refl where
   go : (o : Option ℕ) (deep : Bool) → next_type w ≡ o →
@@ -85,21 +85,21 @@ next_in_room w s h a = go (next_type w) (nat_lt (w.limit + 1) (length w.frames))
   go (Some t) false e d = rw (e, d) (next_by_step w.types t s (rw e at a))
 
 -- a step by class that opens parts is the one of a type that takes bytes
-parts_sized : (c : Class) (sized : Step) (from count : ℕ) →
+parts_sized : (c : Class) (sized : TypeStep) (from count : ℕ) →
     step.Parts from count ≡ by_class c step.NoValue sized → step.Parts from count ≡ sized
 parts_sized class.NoValue sized from count e = absurd cc
 parts_sized class.Empty sized from count e = absurd cc
 parts_sized class.Sized sized from count e = e
 
 -- where the step of an array was chosen by a class, it is that of a type that takes bytes
-array_sized : (c : Class) (sized : Step) (n t : ℕ) →
+array_sized : (c : Class) (sized : TypeStep) (n t : ℕ) →
     step.Array n t ≡ by_class c step.NoValue sized → step.Array n t ≡ sized
 array_sized class.NoValue sized n t e = absurd cc
 array_sized class.Empty sized n t e = absurd cc
 array_sized class.Sized sized n t e = e
 
 -- where the step of a sequence was chosen by a class, it is that of a type that takes bytes
-sequence_sized : (c : Class) (sized : Step) (t : ℕ) →
+sequence_sized : (c : Class) (sized : TypeStep) (t : ℕ) →
     step.Sequence t ≡ by_class c step.NoValue sized → step.Sequence t ≡ sized
 sequence_sized class.NoValue sized t e = absurd cc
 sequence_sized class.Empty sized t e = absurd cc
@@ -119,13 +119,13 @@ array_is true n m t u e = absurd cc
 array_is false n m t u e = cc
 
 -- the steps that open parts of the next type, and of which definitions
-abbrev opens_parts : Step → Bool
+abbrev opens_parts : TypeStep → Bool
 opens_parts (step.Parts from count) = true
 opens_parts (step.Array n t) = true
 opens_parts (step.Sequence t) = true
 opens_parts _ = false
 
-abbrev suits : Step → TypeDef → Bool
+abbrev suits : TypeStep → TypeDef → Bool
 suits (step.Parts from count) (Def.Composite fs) = true
 suits (step.Parts from count) (Def.Tuple ts) = true
 suits (step.Array n t) (Def.Array m u) = true
@@ -133,7 +133,7 @@ suits (step.Sequence t) (Def.Sequence u) = true
 suits _ _ = false
 
 -- a step that opens parts and was chosen by a class suits where the one with bytes does
-suits_by_class : (c : Class) (none sized s : Step) (d : TypeDef) → opens_parts none ≡ false →
+suits_by_class : (c : Class) (none sized s : TypeStep) (d : TypeDef) → opens_parts none ≡ false →
     (opens_parts sized ≡ true → suits sized d ≡ true) → s ≡ by_class c none sized →
     opens_parts s ≡ true → suits s d ≡ true
 suits_by_class class.NoValue none sized s d f g e o = let no = rw e at o in absurd cc
@@ -157,7 +157,7 @@ suits_array true n u o = absurd cc
 suits_array false n u o = refl
 
 -- a step that opens parts is that of a definition with such parts
-step_suits : (r : List TypeInfo) (c : Class) (d : TypeDef) (s : Step) →
+step_suits : (r : List TypeInfo) (c : Class) (d : TypeDef) (s : TypeStep) →
     IsStep r (references_of r) (λ from count arms. Unit {0}) c d s → opens_parts s ≡ true →
     suits s d ≡ true
 step_suits r c (Def.Composite fs) s is o =
@@ -184,7 +184,7 @@ step_suits r c (Def.BitSequence store order) s is o =
     (λ e. absurd cc) is o
 
 -- the type that is next, which is known, by a step that is not that of a type without values
-record IsKnownNext (w : Walked) (s : Step) : Type 0 where
+record IsKnownNext (w : Walked) (s : TypeStep) : Type 0 where
   pub ty : ℕ
   pub is_next : next_type w ≡ Some ty
   pub d : TypeDef
@@ -193,7 +193,7 @@ record IsKnownNext (w : Walked) (s : Step) : Type 0 where
       (class_of w.types ty) d s
 
 -- where the step that is ahead is not that of no value, the next type is known and has it
-known : (w : Walked) (s : Step) → (s ≡ step.NoValue → ⊥) →
+known : (w : Walked) (s : TypeStep) → (s ≡ step.NoValue → ⊥) →
     IsStepAhead w.types (next_type w) s → IsKnownNext w s
 known w s some h = go (next_type w) refl where
   at : (t : ℕ) (x : Option TypeDef) → next_type w ≡ Some t → shape w.types t ≡ x →
@@ -216,7 +216,7 @@ abbrev opened_parts : Walked → ℕ → ℕ → Part
 opened_parts w from count = left_of w.types (members_of from count)
 
 -- these are the parts of the next type, and there are as many as they say
-pub record OpensParts (w : Walked) (left : Left) : Type 0 where
+pub record OpensParts (w : Walked) (left : Remaining) : Type 0 where
   pub opens : OpensFields w (left_of w.types left)
   pub counts : how_many_left (left_of w.types left) ≡ left.count
 
@@ -345,7 +345,7 @@ found_arm_counts w s (Some x) a =
 -- ---- the step that has a form
 
 -- where a form is wanted, the step of the next type has it
-with_form : (w : Walked) (f : Form) (s : Step) → next_of w ≡ next.Wants f →
+with_form : (w : Walked) (f : Form) (s : TypeStep) → next_of w ≡ next.Wants f →
     IsStepAhead w.types (next_type w) s → next_of_step s ≡ next.Wants f
 with_form w f s h a = next_in_room w s (wanted w f h).room a ∙ h
 
@@ -360,17 +360,17 @@ compact_no_parts (Some m) f empty compact e = go (is_unit (Some m)) e where
   go false e = compact m cc
 
 -- where a form is wanted, a type is next, and it has the step that is ahead
-wanted_ahead : (w : Walked) (f : Form) (s : Step) → next_of w ≡ next.Wants f →
+wanted_ahead : (w : Walked) (f : Form) (s : TypeStep) → next_of w ≡ next.Wants f →
     IfSome (next_type w) (λ t. IsStepOf w.types t s) → IsStepAhead w.types (next_type w) s
 wanted_ahead w f s h a =
     let is = (wanted w f h).is_next in
     rw is (rw is at a)
 
 -- where fields are next, the step ahead reports a piece of the references
-fields_known : (w : Walked) (s : Step) → next_of w ≡ next.Wants form.Fields →
+fields_known : (w : Walked) (s : TypeStep) → next_of w ≡ next.Wants form.Fields →
     IsStepAhead w.types (next_type w) s → (from count : ℕ) × (s ≡ step.Parts from count)
 fields_known w s h a = go s (with_form w form.Fields s h a) where
-  go : (s : Step) → next_of_step s ≡ next.Wants form.Fields → (from count : ℕ)
+  go : (s : TypeStep) → next_of_step s ≡ next.Wants form.Fields → (from count : ℕ)
       × (s ≡ step.Parts from count)
   go (step.Compact m) e =
       absurd (compact_no_parts m form.Fields (λ f. absurd cc) (λ t f. absurd cc) e)
@@ -388,10 +388,10 @@ fields_known w s h a = go s (with_form w form.Fields s h a) where
   go step.BitSequence e = absurd cc
 
 -- where an array is next, the step ahead is one of an array and reports its elements
-array_known : (w : Walked) (n : ℕ) (s : Step) → next_of w ≡ next.Wants (form.Array n) →
+array_known : (w : Walked) (n : ℕ) (s : TypeStep) → next_of w ≡ next.Wants (form.Array n) →
     IsStepAhead w.types (next_type w) s → (m t : ℕ) × (s ≡ step.Array m t)
 array_known w n s h a = go s (with_form w (form.Array n) s h a) where
-  go : (s : Step) → next_of_step s ≡ next.Wants (form.Array n) → (m t : ℕ)
+  go : (s : TypeStep) → next_of_step s ≡ next.Wants (form.Array n) → (m t : ℕ)
       × (s ≡ step.Array m t)
   go (step.Compact m) e =
       absurd (compact_no_parts m (form.Array n) (λ f. absurd cc) (λ t f. absurd cc) e)
@@ -409,10 +409,10 @@ array_known w n s h a = go s (with_form w (form.Array n) s h a) where
   go step.BitSequence e = absurd cc
 
 -- where a sequence is next, the step ahead is one of a sequence and reports its elements
-sequence_known : (w : Walked) (s : Step) → next_of w ≡ next.Wants form.Sequence →
+sequence_known : (w : Walked) (s : TypeStep) → next_of w ≡ next.Wants form.Sequence →
     IsStepAhead w.types (next_type w) s → (t : ℕ) × (s ≡ step.Sequence t)
 sequence_known w s h a = go s (with_form w form.Sequence s h a) where
-  go : (s : Step) → next_of_step s ≡ next.Wants form.Sequence → (t : ℕ)
+  go : (s : TypeStep) → next_of_step s ≡ next.Wants form.Sequence → (t : ℕ)
       × (s ≡ step.Sequence t)
   go (step.Compact m) e =
       absurd (compact_no_parts m form.Sequence (λ f. absurd cc) (λ t f. absurd cc) e)
@@ -432,7 +432,7 @@ sequence_known w s h a = go s (with_form w form.Sequence s h a) where
 -- ---- what is opened by the step that is ahead
 
 -- where fields are next, the members that the step ahead reports are what is opened
-pub members_opened : (w : Walked) (s : Step) → next_of w ≡ next.Wants form.Fields →
+pub members_opened : (w : Walked) (s : TypeStep) → next_of w ≡ next.Wants form.Fields →
     IfSome (next_type w) (λ t. IsStepOf w.types t s) → OpensParts w (members_in s)
 members_opened w s h i =
     let a = wanted_ahead w form.Fields s h i in
@@ -440,26 +440,26 @@ members_opened w s h i =
     rw k.2 (fields_open w k.0 k.1 h (rw k.2 at a))
 
 -- so many elements are opened
-pub record OpensList (w : Walked) (n : ℕ) (left : Left) : Type 0 where
+pub record OpensList (w : Walked) (n : ℕ) (left : Remaining) : Type 0 where
   pub opens : OpensElements w n (left_of w.types left)
   pub counts : left.count ≡ n
 
 -- where an array is next, so many of the type of its elements
-array_opened : (w : Walked) (n : ℕ) (s : Step) → next_of w ≡ next.Wants (form.Array n) →
+array_opened : (w : Walked) (n : ℕ) (s : TypeStep) → next_of w ≡ next.Wants (form.Array n) →
     IsStepAhead w.types (next_type w) s → OpensList w n (elements_in s n)
 array_opened w n s h a =
     let k = array_known w n s h a in
     rw k.2 (record { opens = elements_open w n k.0 k.1 h (rw k.2 at a); counts = refl })
 
 -- where a sequence is next, so many of the type of its elements
-sequence_opened : (w : Walked) (n : ℕ) (s : Step) → next_of w ≡ next.Wants form.Sequence →
+sequence_opened : (w : Walked) (n : ℕ) (s : TypeStep) → next_of w ≡ next.Wants form.Sequence →
     IsStepAhead w.types (next_type w) s → OpensList w n (elements_in s n)
 sequence_opened w n s h a =
     let k = sequence_known w s h a in
     rw k.1 (record { opens = sequence_elements_open w n k.0 h (rw k.1 at a); counts = refl })
 
 -- where an array or a sequence is next, so many of the type that the step reports are opened
-pub elements_opened : (w : Walked) (n : ℕ) (s : Step) → IsListNext w n →
+pub elements_opened : (w : Walked) (n : ℕ) (s : TypeStep) → IsListNext w n →
     IfSome (next_type w) (λ t. IsStepOf w.types t s) → OpensList w n (elements_in s n)
 elements_opened w n s (inl h) i = array_opened w n s h (wanted_ahead w (form.Array n) s h i)
 elements_opened w n s (inr h) i = sequence_opened w n s h (wanted_ahead w form.Sequence s h i)

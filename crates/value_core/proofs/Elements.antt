@@ -4,7 +4,7 @@ use Rattle.std.proofs.Common.{None, refl, ap, ◌∙◌, arith}
 use Rattle.grammar_core.specs.Parts.{Part, each, times}
 use Rattle.value_core.specs.Built.{closings, settled_in}
 use Rattle.value_core.specs.Walked.{OpenPart, Walked, advanced, advanced_in}
-use Rattle.node_core.specs.Left.{after_first}
+use Rattle.node_core.specs.Remaining.{after_first}
 use Rattle.value_core.specs.Walked.{after_first_in, elements_after, first_in, next_from, next_of}
 use Rattle.value_core.specs.Walked.{next_type}
 use Rattle.value_core.proofs.Closing.{advanced_length}

@@ -10,15 +10,16 @@ use Rattle.registry_core.specs.declared.type_info.TypeInfo.{TypeInfo}
 use Rattle.grammar_core.specs.Parts.{each, first_of}
 use Rattle.widths_core.specs.Steps.{AreParts}
 use Rattle.value_core.specs.Frames.{frames_of}
-use Rattle.node_core.specs.Left.{left_by, members_before, members_of}
+use Rattle.node_core.specs.Remaining.{left_by, members_before, members_of}
 use Rattle.value_core.specs.Frames.{open_part_of, AreWithin}
-use Rattle.node_core.specs.Left.{parts_by, IsWithin}
-use Rattle.node_core.specs.Left.{after_first}
-use Rattle.node_core.specs.declared.left.Left.{Left}
-use Rattle.node_core.specs.declared.left.Frame.{Frame}
+use Rattle.node_core.specs.Remaining.{parts_by, IsWithin}
+use Rattle.node_core.specs.Remaining.{after_first}
+use Rattle.node_core.specs.declared.remaining.Remaining.{Remaining}
+use Rattle.node_core.specs.declared.remaining.Frame.{Frame}
 
 -- where a type is next, at least one part is counted
-pub some_counted : (refs : List ℕ) (l : Left) → IsSome (first_of (left_by refs l)) → 1 ≤ l.count
+pub some_counted : (refs : List ℕ) (l : Remaining) → IsSome (first_of (left_by refs l)) →
+    1 ≤ l.count
 some_counted refs l h = go l.count l.end h where
   go : (n end : ℕ) → IsSome (first_of (parts_by refs n l.element end)) → 1 ≤ n
   go zero zero f = absurd cc
@@ -26,7 +27,7 @@ some_counted refs l h = go l.count l.end h where
   go (suc n) end f = omega arith
 
 -- and so where a part follows the next one
-pub more_counted : (refs : List ℕ) (l : Left) → 1 ≤ after_first (left_by refs l) → 1 ≤ l.count
+pub more_counted : (refs : List ℕ) (l : Remaining) → 1 ≤ after_first (left_by refs l) → 1 ≤ l.count
 more_counted refs l h = go l.count l.end h where
   go : (n end : ℕ) → 1 ≤ after_first (parts_by refs n l.element end) → 1 ≤ n
   go zero zero f = absurd (omega (arith, f))

@@ -10,7 +10,7 @@ use Rattle.scale_core.specs.Compact.{IsCompact, compact, target_bytes}
 use Rattle.scale_core.specs.declared.compact.Target.{Target}
 use Rattle.scale_core.specs.declared.compact.Target.TheVariants as target
 use Rattle.scale_core.proofs.Numbers.{length-le_bytes, number-le_bytes, both_bytes}
-use Rattle.scale_core.proofs.Forms.{are_le_bytes, are_compact}
+use Rattle.scale_core.proofs.Modes.{are_le_bytes, are_compact}
 use Rattle.registry_core.specs.Kinds.{kind_of, width_bytes}
 use Rattle.registry_core.specs.declared.kind.IntegerWidth.{IntegerWidth}
 use Rattle.registry_core.specs.declared.kind.Signedness.{Signedness}

@@ -4,13 +4,13 @@ use Rattle.registry_core.specs.declared.type_info.TypeInfo.{TypeInfo}
 use Rattle.graph_core.specs.Types.{shape}
 use Rattle.widths_core.specs.Classes.{class_of}
 use Rattle.widths_core.specs.Steps.{IsStep, references_of}
-use Rattle.widths_core.specs.declared.step.Step.{Step}
-use Rattle.widths_core.specs.declared.step.Step.TheVariants as step
-use Rattle.node_core.specs.Left.{copies_of, members_of}
-use Rattle.node_core.specs.declared.left.Left.{Left}
+use Rattle.widths_core.specs.declared.type_step.TypeStep.{TypeStep}
+use Rattle.widths_core.specs.declared.type_step.TypeStep.TheVariants as step
+use Rattle.node_core.specs.Remaining.{copies_of, members_of}
+use Rattle.node_core.specs.declared.remaining.Remaining.{Remaining}
 
 -- this is the step of type t; a type that is not known has no value
-abbrev pub IsStepOf : List TypeInfo → ℕ → Step → Type 0
+abbrev pub IsStepOf : List TypeInfo → ℕ → TypeStep → Type 0
 IsStepOf r t s = elim (shape r t) [
   | Some d ↦ IsStep r (references_of r) (λ from count arms. Unit {0}) (class_of r t) d s
   | None ↦
@@ -18,12 +18,12 @@ IsStepOf r t s = elim (shape r t) [
 ]
 
 -- the parts of a composite or a tuple of this step
-abbrev pub members_in : Step → Left
+abbrev pub members_in : TypeStep → Remaining
 members_in (step.Parts from count) = members_of from count
 members_in _ = copies_of 0 0
 
 -- so many elements of an array or a sequence of this step
-abbrev pub elements_in : Step → ℕ → Left
+abbrev pub elements_in : TypeStep → ℕ → Remaining
 elements_in (step.Array n t) count = copies_of count t
 elements_in (step.Sequence t) count = copies_of count t
 elements_in _ count = copies_of 0 0

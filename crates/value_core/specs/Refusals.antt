@@ -1,5 +1,6 @@
 -- Which call a builder refuses, and with what: the first reason that applies.
-use Rattle.std.specs.Prelude.{◌≡◌, ℕ, ◌-◌, ◌/◌, ◌^◌, ℤ, pos, negsuc, List, [], ◌∷◌, length, Bool}
+use Rattle.std.specs.Prelude.{◌≡◌, ℕ, ◌+◌, ◌-◌, ◌/◌, ◌^◌, ℤ, pos, negsuc, List, [], ◌∷◌, length}
+use Rattle.std.specs.Prelude.{Bool}
 use Rattle.std.specs.Prelude.{true, false, Option, Some, None, Result, Ok, Err, nat_lt, ◌==◌, not}
 use Rattle.std.specs.Prelude.{is_none, option_map, if◌then◌else◌}
 use Rattle.std.specs.Str.{is_utf8}
@@ -180,6 +181,11 @@ abbrev pub suits_bytes_start : ℕ → Form → Option BuildFault
 suits_bytes_start len form.Bytes = None
 suits_bytes_start len (form.ByteArray n) = in_range (n == len)
 suits_bytes_start len _ = wrong
+
+-- a run is open, and lacks so many bytes
+abbrev pub Lacks : Option Pieces → ℕ → Type 0
+Lacks (Some t) missing = length t.bytes + missing ≡ t.len
+Lacks None missing = ⊥
 
 -- what the open run is, and how many bytes it lacks
 abbrev pub missing_from : Option Pieces → Result (RunKind × ℕ) BuildFault

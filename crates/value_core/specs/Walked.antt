@@ -4,7 +4,7 @@ use Rattle.std.specs.Prelude.{Bool, false, nat_lt, if◌then◌else◌}
 use Rattle.registry_core.specs.declared.type_info.TypeInfo.{TypeInfo}
 use Rattle.grammar_core.specs.Parts.{Part, times, first_of, left_after}
 use Rattle.grammar_core.specs.Forms.{next_at}
-use Rattle.node_core.specs.Left.{after_first, have_one_type}
+use Rattle.node_core.specs.Remaining.{after_first, have_one_type}
 use Rattle.grammar_core.specs.declared.form.StopReason.TheVariants as stop
 use Rattle.grammar_core.specs.declared.form.Next.{Next}
 use Rattle.grammar_core.specs.declared.form.Next.TheVariants as next

@@ -5,7 +5,7 @@ ghost use Rattle.std.specs.Prelude.{OnErr, Ok, None, vec_len, vec_capacity};
 ghost use Rattle.grammar_core.specs.Parts.{each, first_of};
 ghost use Rattle.widths_core.specs.Steps.{references_of};
 ghost use Rattle.node_core.specs.Leaves.{leaf_head, FitsLeaf, IsAppended};
-ghost use Rattle.node_core.specs.Left.{left_of, IsWithin};
+ghost use Rattle.node_core.specs.Remaining.{left_of, IsWithin};
 ghost use Rattle.node_core.specs.Shown.{head_shown, size_shown};
 ghost use Rattle.value_core.specs.Begun.{IsBegun};
 ghost use Rattle.value_core.specs.Building.{AreBuilt, Settles};
@@ -17,7 +17,7 @@ use crate::builder::Builder;
 use crate::walk::Walk;
 use count_core::Count;
 use growth_core::GrowVec;
-use node_core::{Content, Leaf, Left, Node};
+use node_core::{Content, Leaf, Node, Remaining};
 use registry_core::TypeId;
 use std::alloc::{AllocError, Allocator};
 
@@ -121,7 +121,7 @@ fn close_whole<A: Allocator>(
 
 /// Closes the open nodes that are whole. After most nodes something is next in the innermost one, and then none is.
 #[inline(always)]
-pub(crate) fn settle<A: Allocator>(
+pub(crate) fn close_complete<A: Allocator>(
     walk: &mut Walk<'_, A>,
     nodes: &mut GrowVec<Node, A>,
     turns: &mut Count,
@@ -151,7 +151,7 @@ impl<'r, A: Allocator> Builder<'r, A> {
         append(&mut self.nodes, &mut self.pool, &self.walk, next, leaf)?;
         self.text_len += leaf.text_len();
         self.walk.advance();
-        settle(&mut self.walk, &mut self.nodes, &mut self.turns);
+        close_complete(&mut self.walk, &mut self.nodes, &mut self.turns);
         Ok(())
     }
 
@@ -177,7 +177,7 @@ impl<'r, A: Allocator> Builder<'r, A> {
 
     /// Adds a node whose children come next, for the value of the next type. Where memory is refused nothing changes.
     #[inline(always)]
-    pub(crate) fn add_open(&mut self, content: Content, left: Left) -> Result<(), AllocError>
+    pub(crate) fn add_open(&mut self, content: Content, left: Remaining) -> Result<(), AllocError>
         requires closed { self.old.run ≡ None }
         requires opened { size_shown content ≡ 0 }
         requires within { IsWithin (references_of self.old.walk.types) left }
@@ -198,13 +198,13 @@ impl<'r, A: Allocator> Builder<'r, A> {
             children: left.count,
             content,
         });
-        settle(&mut self.walk, &mut self.nodes, &mut self.turns);
+        close_complete(&mut self.walk, &mut self.nodes, &mut self.turns);
         Ok(())
     }
 
     /// The same of a node that has none: it is whole at once, and takes no place among the open ones.
     #[inline(always)]
-    fn add_childless(&mut self, content: Content, left: Left) -> Result<(), AllocError>
+    fn add_childless(&mut self, content: Content, left: Remaining) -> Result<(), AllocError>
         requires closed { self.old.run ≡ None }
         requires opened { size_shown content ≡ 0 }
         requires none { first_of (left_of self.old.walk.types left) ≡ None }
@@ -223,7 +223,7 @@ impl<'r, A: Allocator> Builder<'r, A> {
         append_node(&mut self.nodes, &mut self.pool, &self.walk, node)?;
         self.walk.advance();
         self.turns.tick();
-        settle(&mut self.walk, &mut self.nodes, &mut self.turns);
+        close_complete(&mut self.walk, &mut self.nodes, &mut self.turns);
         Ok(())
     }
 
@@ -269,7 +269,7 @@ impl<'r, A: Allocator> Builder<'r, A> {
         self.text_len += leaf.text_len();
         self.walk.advance();
         self.turns.tick();
-        settle(&mut self.walk, &mut self.nodes, &mut self.turns);
+        close_complete(&mut self.walk, &mut self.nodes, &mut self.turns);
         Ok(true)
     }
 }

@@ -1,16 +1,17 @@
 //! A value that is built node by node.
 
 ghost use Rattle.std.specs.Prelude.{◌≡◌, ◌≤◌, [], length, true, OnOk, OnErr, IfOk, IfSome, None};
-ghost use Rattle.std.specs.Prelude.{IsSome};
+ghost use Rattle.std.specs.Prelude.{IsSome, is_some};
 ghost use Rattle.grammar_core.specs.Runs.{run_form};
 ghost use Rattle.value_core.specs.Begun.{IsBegun};
 ghost use Rattle.value_core.specs.Built.{built_text_bytes, finished, with_piece, with_run_closed};
 ghost use Rattle.value_core.specs.Built.{with_run_opened, FitsKind};
-ghost use Rattle.value_core.specs.Refusals.{Finishes, Opens, IsRunWhole, bad_text, missing_of};
-ghost use Rattle.value_core.specs.Refusals.{other_fault, wanted_of, is_whole, build_opening_fault};
+ghost use Rattle.value_core.specs.Refusals.{Finishes, Opens, IsRunWhole, Lacks, bad_text, is_whole};
+ghost use Rattle.value_core.specs.Refusals.{missing_of, other_fault, wanted_of};
+ghost use Rattle.value_core.specs.Refusals.{build_opening_fault};
 ghost use Rattle.value_core.specs.Walked.{next_of, start_of};
 
-use crate::appending::{append_node, settle};
+use crate::appending::{append_node, close_complete};
 use crate::build_fault::BuildFault;
 use crate::walk::Walk;
 use count_core::Count;
@@ -206,16 +207,40 @@ impl<'r, A: Allocator> Builder<'r, A> {
         self.open_run = Some(OpenRun { kind, start, len });
     }
 
+    /// Returns whether a text or a run of bytes is open.
+    #[inline(always)]
+    pub fn is_run_open(&self) -> bool
+        ensures { result ≡ is_some self.now.run }
+    {
+        self.open_run.is_some()
+    }
+
+    /// Returns the length of the open run, in bytes.
+    pub fn run_len(&self) -> u32
+        requires { IsSome self.now.run }
+        ensures { IfSome self.now.run (λ run. result ≡ run.len) }
+    {
+        self.open_run.map_or(0, |open| open.len)
+    }
+
+    /// Returns how many bytes the open run still lacks.
+    pub fn run_missing(&self) -> usize
+        requires { IsSome self.now.run }
+        ensures { Lacks self.now.run result }
+    {
+        match self.open_run {
+            Some(open) => open.len as usize - (self.pool.as_slice().len() - open.start),
+            None => 0,
+        }
+    }
+
     /// What the open run is, and how many bytes it still lacks; refused with what the walk stops at, and with `WrongKind`
     /// where none is open.
     pub(crate) fn missing(&self) -> Result<(RunKind, usize), BuildFault>
         ensures { result ≡ missing_of self.now }
     {
         match (self.walk.next(), self.open_run) {
-            (Next::Wants(_), Some(open)) => {
-                let came = self.pool.as_slice().len() - open.start;
-                Ok((open.kind, open.len as usize - came))
-            }
+            (Next::Wants(_), Some(open)) => Ok((open.kind, self.run_missing())),
             (other, _) => Err(other_fault(other)),
         }
     }
@@ -271,7 +296,7 @@ impl<'r, A: Allocator> Builder<'r, A> {
         self.text_len += open.len as usize;
         self.open_run = None;
         self.walk.advance();
-        settle(&mut self.walk, &mut self.nodes, &mut self.turns);
+        close_complete(&mut self.walk, &mut self.nodes, &mut self.turns);
         Ok(())
     }
 }

@@ -5,7 +5,7 @@ ghost use Rattle.std.specs.Prelude.{option_map, IfSome, IfNone, IsSome, OnOk, On
 ghost use Rattle.grammar_core.specs.Parts.{first_of, how_many_left};
 ghost use Rattle.widths_core.specs.Steps.{references_of};
 ghost use Rattle.value_core.specs.Ahead.{IsStepOf, elements_in, members_in};
-ghost use Rattle.node_core.specs.Left.{left_of, IsWithin};
+ghost use Rattle.node_core.specs.Remaining.{left_of, IsWithin};
 ghost use Rattle.value_core.specs.Opened.{OpensFields, OpensArm, OpensElements, IsListNext};
 ghost use Rattle.value_core.specs.Refusals.{is_whole_in};
 ghost use Rattle.value_core.specs.Walked.{start_of, next_type, next_of, depth_of, advanced, opened};
@@ -14,23 +14,23 @@ ghost use Rattle.value_core.specs.Wrapped.{WrapsArray};
 
 use grammar_core::{Form, MAX_DEPTH, Next, StopReason, next_of_step};
 use growth_core::GrowVec;
-use node_core::{Frame, Left, Node};
+use node_core::{Frame, Node, Remaining};
 use registry_core::TypeId;
 use std::alloc::{AllocError, Allocator};
 use std::marker::Model;
-use widths_core::{Checked, Step};
+use widths_core::{Checked, TypeStep};
 
 /// The step of a type in the table of the registry. A type that is no position has no value.
 #[inline(always)]
-fn step_of(checked: &Checked, ty: TypeId) -> Step
+fn step_of(checked: &Checked, ty: TypeId) -> TypeStep
     ensures { IsStepOf checked.now.types ty.0 result }
 {
-    checked.step(ty).unwrap_or(Step::NoValue)
+    checked.step(ty).unwrap_or(TypeStep::NoValue)
 }
 
 /// Finds the type that is next in an open node. Where none is, `ty` stays as it was.
 #[inline(always)]
-fn look_ahead(checked: &Checked, left: &Left, ty: &mut TypeId)
+fn look_ahead(checked: &Checked, left: &Remaining, ty: &mut TypeId)
     requires { IsWithin (references_of checked.now.types) left.now }
     ensures { IfSome (first_of (left_of checked.now.types left.now)) (λ t. ty.new.0 ≡ t) }
 {
@@ -40,22 +40,24 @@ fn look_ahead(checked: &Checked, left: &Left, ty: &mut TypeId)
 }
 
 /// The parts of a composite or a tuple of this step; a type of another kind has no such parts.
-fn members_in(step: Step) -> Left
+fn members_in(step: TypeStep) -> Remaining
     ensures { result ≡ members_in step }
 {
     match step {
-        Step::Parts { from, count } => Left::members(from, count),
-        _ => Left::none(),
+        TypeStep::Parts { from, count } => Remaining::members(from, count),
+        _ => Remaining::none(),
     }
 }
 
 /// So many elements of an array or a sequence of this step; a type of another kind has no elements.
-fn elements_in(step: Step, length: u32) -> Left
+fn elements_in(step: TypeStep, length: u32) -> Remaining
     ensures { result ≡ elements_in step length }
 {
     match step {
-        Step::Array { element, .. } | Step::Sequence { element } => Left::copies(length, element),
-        _ => Left::none(),
+        TypeStep::Array { element, .. } | TypeStep::Sequence { element } => Remaining::copies(
+            length, element,
+        ),
+        _ => Remaining::none(),
     }
 }
 
@@ -100,7 +102,7 @@ impl<'r, A: Allocator> Model for Walk<'r, A> {
     ghost use Rattle.grammar_core.specs.Parts.{first_of};
     ghost use Rattle.widths_core.specs.Steps.{references_of};
     ghost use Rattle.value_core.specs.Frames.{frames_of, AreWithin};
-    ghost use Rattle.node_core.specs.Left.{left_of, IsWithin};
+    ghost use Rattle.node_core.specs.Remaining.{left_of, IsWithin};
 
     ghost view = { λ w. record {
       types = w.checked.now.types;
@@ -120,7 +122,7 @@ impl<'r, A: Allocator> Walk<'r, A> {
         requires { limit ≤ MAX_DEPTH }
         ensures { result ≡ start_of checked.now.types root.0 limit }
     {
-        let left = Left::copies(1, root.0);
+        let left = Remaining::copies(1, root.0);
         Walk {
             checked,
             top: Frame { node: 0, left },
@@ -218,7 +220,7 @@ impl<'r, A: Allocator> Walk<'r, A> {
 
     /// The next node is open, and its parts come next. Where memory is refused, nothing changes.
     #[inline(always)]
-    pub(crate) fn enter(&mut self, node: usize, left: Left) -> Result<(), AllocError>
+    pub(crate) fn enter(&mut self, node: usize, left: Remaining) -> Result<(), AllocError>
         requires next { IsSome (next_type self.old) }
         requires room { length self.old.frames ≤ self.old.limit + 1 }
         requires within { IsWithin (references_of self.old.types) left }
@@ -302,14 +304,14 @@ impl<'r, A: Allocator> Walk<'r, A> {
 
     /// Its step, where one comes next: one look-up.
     #[inline(always)]
-    fn step(&self) -> Step
+    fn step(&self) -> TypeStep
         ensures { IfSome (next_type self.now) (λ t. IsStepOf self.now.types t result) }
     {
         step_of(self.checked, self.ty)
     }
 
     /// A value of each field or member of the next type.
-    pub(crate) fn fields(&self) -> Left
+    pub(crate) fn fields(&self) -> Remaining
         requires { next_of self.now ≡ Next.Wants Form.Fields }
         ensures opens { OpensFields self.now (left_of self.now.types result) }
         ensures counts { how_many_left (left_of self.now.types result) ≡ result.count }
@@ -331,14 +333,14 @@ impl<'r, A: Allocator> Walk<'r, A> {
         }
         let part = TypeId(left.first(self.checked.members())?);
         match step_of(self.checked, part) {
-            Step::ByteArray { len } => Some((part, len)),
+            TypeStep::ByteArray { len } => Some((part, len)),
             _ => None,
         }
     }
 
     /// The first arm of the index in the next type, by its position, and a value of each of its fields. There is none
     /// where the next type has no arm of the index.
-    pub(crate) fn arm(&self, index: u8) -> Option<(u32, Left)>
+    pub(crate) fn arm(&self, index: u8) -> Option<(u32, Remaining)>
         requires { next_of self.now ≡ Next.Wants Form.Arm }
         ensures opens { OpensArm self.now index
             (option_map (λ x. (x.0, left_of self.now.types x.1)) result) }
@@ -347,11 +349,11 @@ impl<'r, A: Allocator> Walk<'r, A> {
         ensures within { IfSome result (λ x. IsWithin (references_of self.now.types) x.1) }
     {
         let arm = self.checked().arm_step(self.ty(), index)?;
-        Some((arm.position, Left::members(arm.from, arm.count)))
+        Some((arm.position, Remaining::members(arm.from, arm.count)))
     }
 
     /// So many elements of the next type, which is an array of this length or a sequence.
-    pub(crate) fn elements(&self, length: u32) -> Left
+    pub(crate) fn elements(&self, length: u32) -> Remaining
         requires { IsListNext self.now length }
         ensures opens { OpensElements self.now length (left_of self.now.types result) }
         ensures counts { result.count ≡ length }

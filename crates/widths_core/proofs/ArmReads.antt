@@ -10,10 +10,10 @@ use Rattle.registry_core.specs.declared.type_info.TypeInfo.{TypeInfo}
 use Rattle.widths_core.specs.declared.class.Class.{Class}
 use Rattle.widths_core.specs.declared.class.Class.TheVariants as class
 use Rattle.widths_core.specs.declared.rows.Rows.{Rows}
-use Rattle.widths_core.specs.declared.step.ArmStep.{ArmStep}
-use Rattle.widths_core.specs.declared.step.Parts.{Parts}
-use Rattle.widths_core.specs.declared.step.Step.{Step}
-use Rattle.widths_core.specs.declared.step.Step.TheVariants as step
+use Rattle.widths_core.specs.declared.type_step.ArmStep.{ArmStep}
+use Rattle.widths_core.specs.declared.type_step.Parts.{Parts}
+use Rattle.widths_core.specs.declared.type_step.TypeStep.{TypeStep}
+use Rattle.widths_core.specs.declared.type_step.TypeStep.TheVariants as step
 use Rattle.graph_core.specs.Types.{shape}
 use Rattle.widths_core.specs.Arms.{arm_of, arm_from, arm_of_shape, arm_at}
 use Rattle.widths_core.specs.Classes.{class_of}
@@ -29,7 +29,7 @@ use Rattle.widths_core.proofs.Wide.{some_is}
 -- ---- the row of a step
 
 -- a step that is chosen by a class reports no row where that of a type with bytes reports none
-row_by : (c : Class) (sized : Step) → row_of_step sized ≡ None →
+row_by : (c : Class) (sized : TypeStep) → row_of_step sized ≡ None →
     row_of_step (by_class c step.NoValue sized) ≡ None
 row_by class.NoValue sized e = refl
 row_by class.Empty sized e = refl
@@ -64,7 +64,7 @@ variant_class r t arms e = ap is_empty_class (class_stable r t (Def.Variant arms
 
 -- the step of a definition that is no variant has no row
 rowless : (r : List TypeInfo) (refs : List ℕ) (Row : ℕ → ℕ → List Arm → Type 0) (c : Class)
-    (d : TypeDef) (s : Step) → ((arms : List Arm) → d ≡ Def.Variant arms → ⊥) →
+    (d : TypeDef) (s : TypeStep) → ((arms : List Arm) → d ≡ Def.Variant arms → ⊥) →
     IsStep r refs Row c d s → row_of_step s ≡ None
 rowless r refs Row c (Def.Composite fs) s other h = rw h.2 (row_by c (step.Parts h.0 h.1) refl)
 rowless r refs Row c (Def.Tuple ts) s other h = rw h.2 (row_by c (step.Parts h.0 h.1) refl)
@@ -80,7 +80,7 @@ rowless r refs Row c (Def.Compact u) s other h = rw h refl
 rowless r refs Row c (Def.BitSequence store order) s other h = rw h (row_by c step.BitSequence refl)
 
 -- a type whose step reports a row is a variant, and the row is that of its arms
-row_of : (r : List TypeInfo) (refs : List ℕ) (rows : Rows) (t : ℕ) (d : TypeDef) (s : Step)
+row_of : (r : List TypeInfo) (refs : List ℕ) (rows : Rows) (t : ℕ) (d : TypeDef) (s : TypeStep)
     (p : Parts) → shape r t ≡ Some d → IsStep r refs (IsRow refs rows) (class_of r t) d s →
     row_of_step s ≡ Some p → (arms : List Arm) × (d ≡ Def.Variant arms)
     × IsRow refs rows p.from p.count arms
@@ -115,7 +115,7 @@ row_of r refs rows t (Def.BitSequence store order) s p e h f = let no =
     (λ arms q. absurd cc) h) ∙ f in absurd cc
 
 -- a type whose step reports no row has no arm, whatever the index
-armless : (r : List TypeInfo) (refs : List ℕ) (rows : Rows) (t i : ℕ) (d : TypeDef) (s : Step) →
+armless : (r : List TypeInfo) (refs : List ℕ) (rows : Rows) (t i : ℕ) (d : TypeDef) (s : TypeStep) →
     shape r t ≡ Some d → IsStep r refs (IsRow refs rows) (class_of r t) d s → row_of_step s ≡ None →
     arm_of_shape (Some d) i ≡ None
 armless r refs rows t i (Def.Composite fs) s e h f = refl
@@ -130,8 +130,8 @@ armless r refs rows t i (Def.Compact u) s e h f = refl
 armless r refs rows t i (Def.BitSequence store order) s e h f = refl
 
 -- the row of a variant
-pub row_at : (r : List TypeInfo) (refs : List ℕ) (rows : Rows) (steps : List Step) (t : ℕ)
-    (s : Step) (p : Parts) → IsTable r refs rows steps → slice_get steps t ≡ Some s →
+pub row_at : (r : List TypeInfo) (refs : List ℕ) (rows : Rows) (steps : List TypeStep) (t : ℕ)
+    (s : TypeStep) (p : Parts) → IsTable r refs rows steps → slice_get steps t ≡ Some s →
     row_of_step s ≡ Some p → (arms : List Arm) × (shape r t ≡ Some (Def.Variant arms))
     × IsRow (references_of r) rows p.from p.count arms
 row_at r refs rows steps t s p h e f =
@@ -140,8 +140,8 @@ row_at r refs rows steps t s p h e f =
     (row.0, d.1 ∙ ap (λ (x : TypeDef). Some x) row.1, row.2)
 
 -- where the step that is read reports no row, the type has no arm, whatever the index
-pub arm_none : (r : List TypeInfo) (refs : List ℕ) (rows : Rows) (steps : List Step) (t i : ℕ)
-    (s : Step) → IsTable r refs rows steps → slice_get steps t ≡ Some s → row_of_step s ≡ None →
+pub arm_none : (r : List TypeInfo) (refs : List ℕ) (rows : Rows) (steps : List TypeStep) (t i : ℕ)
+    (s : TypeStep) → IsTable r refs rows steps → slice_get steps t ≡ Some s → row_of_step s ≡ None →
     arm_at r t i ≡ None
 arm_none r refs rows steps t i s h e f =
     let d = definition_of r refs rows steps t s h e in

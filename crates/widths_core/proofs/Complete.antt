@@ -35,7 +35,7 @@ use Rattle.widths_core.specs.Progress.{Progress, counter_at}
 use Rattle.widths_core.specs.Consistent.{nothing, rule_at, to_at, unsettled, waiting, has_settled}
 use Rattle.widths_core.specs.Consistent.{settles, so_far, IsConsistent}
 use Rattle.widths_core.specs.declared.rows.Rows.{Rows}
-use Rattle.widths_core.specs.declared.step.Step.{Step}
+use Rattle.widths_core.specs.declared.type_step.TypeStep.{TypeStep}
 use Rattle.widths_core.specs.Steps.{references_of, AreDrafts}
 use Rattle.widths_core.specs.Propagation.{IsStart, PropagatesAll, IsBad, AreCompactsSettled}
 use Rattle.graph_core.proofs.Stopped.{all_front}
@@ -58,7 +58,7 @@ unsettled_all : (n : ℕ) → unsettled (replicate n class.NoValue) ≡ n
 unsettled_all zero = refl
 unsettled_all (suc n) = omega (arith, unsettled_all n)
 
-abbrev fresh : List TypeInfo → List Step → Rows → Progress
+abbrev fresh : List TypeInfo → List TypeStep → Rows → Progress
 fresh r xs rows = record {
   counters = map counter_of (rules r);
   classes =
@@ -70,12 +70,12 @@ fresh r xs rows = record {
 }
 
 -- at the start no type has settled
-none_settled : (r : List TypeInfo) (xs : List Step) (rows : Rows) (t : ℕ) →
+none_settled : (r : List TypeInfo) (xs : List TypeStep) (rows : Rows) (t : ℕ) →
     has_settled (fresh r xs rows) t ≡ false
 none_settled r xs rows t = rw (same_all (length r) t class.NoValue) refl
 
 -- before a type and its parts have settled, its step is what it was
-so_far_first : (r : List TypeInfo) (d : TypeDef) (x : Step) →
+so_far_first : (r : List TypeInfo) (d : TypeDef) (x : TypeStep) →
     so_far r class.NoValue false d x ≡ x
 so_far_first r (Def.Composite fs) x = refl
 so_far_first r (Def.Variant arms) x = refl
@@ -87,13 +87,13 @@ so_far_first r (Def.Compact u) x = refl
 so_far_first r (Def.BitSequence store order) x = refl
 
 -- at each place within the table stands a step
-get_some : (xs : List Step) (t : ℕ) → t < length xs → (x : Step) × (slice_get xs t ≡ Some x)
+get_some : (xs : List TypeStep) (t : ℕ) → t < length xs → (x : TypeStep) × (slice_get xs t ≡ Some x)
 get_some [] t lt = absurd (omega (arith, lt))
 get_some (x ∷ xs) zero lt = (x, refl)
 get_some (x ∷ xs) (suc t) lt = get_some xs t (omega (arith, lt))
 
 -- at the start, where nothing was propagated, counters and tables are consistent
-start_consistent : (r : List TypeInfo) (xs : List Step) (rows : Rows) →
+start_consistent : (r : List TypeInfo) (xs : List TypeStep) (rows : Rows) →
     AreDrafts r (references_of r) rows xs → IsConsistent r [] (fresh r xs rows)
 start_consistent r xs rows drafts = record {
   classes = length-replicate (length r) class.NoValue;
@@ -120,12 +120,12 @@ start_consistent r xs rows drafts = record {
         x.0,
         drafts.own t d x.0 e x.1,
         rw (same_all (length r) t class.NoValue) (x.1
-            ∙ ap (λ (y : Step). Some y) (sym (so_far_first r d x.0))),
+            ∙ ap (λ (y : TypeStep). Some y) (sym (so_far_first r d x.0))),
       );
 }
 
 -- linked types with tables in which nothing was found are a start
-pub start : (r : List TypeInfo) (cs : List Counter) (xs : List Step) (rows : Rows) (d : Graph)
+pub start : (r : List TypeInfo) (cs : List Counter) (xs : List TypeStep) (rows : Rows) (d : Graph)
     (s : Progress) → AreTypesLinked r cs d → AreDrafts r (refs d) rows xs → s
     ≡ record {
       counters = cs;

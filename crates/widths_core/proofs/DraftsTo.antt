@@ -8,7 +8,7 @@ use Rattle.std.proofs.lemmas.Option.{slice_get_within}
 use Rattle.registry_core.specs.declared.definition.TypeDef.{TypeDef}
 use Rattle.registry_core.specs.declared.type_info.TypeInfo.{TypeInfo}
 use Rattle.widths_core.specs.declared.rows.Rows.{Rows}
-use Rattle.widths_core.specs.declared.step.Step.{Step}
+use Rattle.widths_core.specs.declared.type_step.TypeStep.{TypeStep}
 use Rattle.graph_core.specs.Types.{shape}
 use Rattle.widths_core.specs.Rows.{IsPaired, Keeps}
 use Rattle.widths_core.specs.Steps.{IsRow, IsDraft}
@@ -21,29 +21,31 @@ shape_within (x ∷ r) zero d e = omega arith
 shape_within (x ∷ r) (suc i) d e = let below = shape_within r i d e in omega (arith, below)
 
 -- a draft that is put at the end leaves the others where they are
-get_left : (xs : List Step) (y : Step) (t : ℕ) → t < length xs →
+get_left : (xs : List TypeStep) (y : TypeStep) (t : ℕ) → t < length xs →
     slice_get (xs ++ y ∷ []) t ≡ slice_get xs t
 get_left [] y t lt = absurd (omega (arith, lt))
 get_left (x ∷ xs) y zero lt = refl
 get_left (x ∷ xs) y (suc t) lt = get_left xs y t (omega (arith, lt))
 
 -- a draft that is put at the end is read there
-get_last : (xs : List Step) (y : Step) → slice_get (xs ++ y ∷ []) (length xs) ≡ Some y
+get_last : (xs : List TypeStep) (y : TypeStep) → slice_get (xs ++ y ∷ []) (length xs) ≡ Some y
 get_last [] y = refl
 get_last (x ∷ xs) y = get_last xs y
 
 -- the first i types have their drafts
 pub record DraftsTo (r : List TypeInfo) (refs : List ℕ) (rows : Rows) (i : ℕ)
-    (drafts : List Step) : Type 0 where
+    (drafts : List TypeStep) : Type 0 where
   pub paired : IsPaired rows
   pub count : length drafts ≡ i
   pub within : i ≤ length r
-  pub own : (t : ℕ) (d : TypeDef) (s : Step) → shape r t ≡ Some d → slice_get drafts t ≡ Some s →
+  pub own : (t : ℕ) (d : TypeDef) (s : TypeStep) → shape r t ≡ Some d →
+      slice_get drafts t ≡ Some s →
       IsDraft refs (IsRow refs rows) d s
 
 -- with the draft of the next type, its references and its row, one type more has its draft
-pub drafts_more : (r : List TypeInfo) (xs ys zs : List ℕ) (a b : Rows) (i : ℕ) (drafts : List Step)
-    (d : TypeDef) (s : Step) → shape r i ≡ Some d → zs ≡ xs ++ ys → IsPaired b → Keeps a b →
+pub drafts_more : (r : List TypeInfo) (xs ys zs : List ℕ) (a b : Rows) (i : ℕ)
+    (drafts : List TypeStep)
+    (d : TypeDef) (s : TypeStep) → shape r i ≡ Some d → zs ≡ xs ++ ys → IsPaired b → Keeps a b →
     IsDraft zs (IsRow zs b) d s → DraftsTo r xs a i drafts →
     DraftsTo r zs b (i + 1) (drafts ++ s ∷ [])
 drafts_more r xs ys zs a b i drafts d s e read paired k new h = record {
@@ -52,7 +54,7 @@ drafts_more r xs ys zs a b i drafts d s e read paired k new h = record {
   within = let below = shape_within r i d e in omega (arith, below);
   own = own;
 } where
-  own : (t : ℕ) (d' : TypeDef) (s' : Step) → shape r t ≡ Some d' →
+  own : (t : ℕ) (d' : TypeDef) (s' : TypeStep) → shape r t ≡ Some d' →
       slice_get (drafts ++ s ∷ []) t ≡ Some s' → IsDraft zs (IsRow zs b) d' s'
   own t d' s' is at = elim (cases_lt t i) [
     | inl below ↦ rw read (draft_kept xs ys a b d' s' k

@@ -6,8 +6,8 @@ use Rattle.registry_core.specs.declared.definition.Arm.{Arm}
 use Rattle.registry_core.specs.declared.definition.TypeDef.{TypeDef}
 use Rattle.registry_core.specs.declared.definition.TypeDef.TheVariants as Def
 use Rattle.widths_core.specs.declared.rows.Rows.{Rows}
-use Rattle.widths_core.specs.declared.step.ArmStep.{ArmStep}
-use Rattle.widths_core.specs.declared.step.Step.{Step}
+use Rattle.widths_core.specs.declared.type_step.ArmStep.{ArmStep}
+use Rattle.widths_core.specs.declared.type_step.TypeStep.{TypeStep}
 use Rattle.graph_core.specs.Types.{ids, field_types}
 use Rattle.widths_core.specs.Arms.{arm_of}
 use Rattle.widths_core.specs.Rows.{Keeps, arm_at_place, index_in}
@@ -64,7 +64,7 @@ row_kept xs ys a b from count arms k h = record {
 
 -- a step that is not complete stays that of its type where references come after and the rows keep
 -- what was there
-pub draft_kept : (xs ys : List ℕ) (a b : Rows) (d : TypeDef) (s : Step) → Keeps a b →
+pub draft_kept : (xs ys : List ℕ) (a b : Rows) (d : TypeDef) (s : TypeStep) → Keeps a b →
     IsDraft xs (IsRow xs a) d s → IsDraft (xs ++ ys) (IsRow (xs ++ ys) b) d s
 draft_kept xs ys a b (Def.Composite fs) s k h =
     (h.0, h.1, h.2, parts_kept xs ys h.0 h.1 (field_types fs) h.3)

@@ -10,7 +10,7 @@ use Rattle.registry_core.specs.declared.type_info.TypeInfo.{TypeInfo}
 use Rattle.graph_core.specs.Types.{shape}
 use Rattle.widths_core.specs.declared.class.Class.{Class}
 use Rattle.widths_core.specs.declared.counter.Kind.TheVariants as kind
-use Rattle.widths_core.specs.declared.step.Step.{Step}
+use Rattle.widths_core.specs.declared.type_step.TypeStep.{TypeStep}
 use Rattle.widths_core.specs.declared.counter.Found.{Found}
 use Rattle.widths_core.specs.declared.counter.Counter.{Counter}
 use Rattle.widths_core.specs.Targets.{target_of}
@@ -142,7 +142,7 @@ counted_consistent r propagated s e f byte h lt none settled is byte_is = record
 
   step : (t : ℕ) (d : TypeDef) (b : Bool) → tells (rule_at r (rule_number r e)).kind ≡ b →
       (t ≡ (rule_at r (rule_number r e)).owner) ⊎ (t ≢ (rule_at r (rule_number r e)).owner) →
-      IsStepSoFar r propagated s t d → shape r t ≡ Some d → (x : Step)
+      IsStepSoFar r propagated s t d → shape r t ≡ Some d → (x : TypeStep)
       × IsDraft (references_of r) (IsRow (references_of r) s.rows) d x
       × (slice_get (written s.steps (rule_at r (rule_number r e)).owner
       (told_step (rule_at r (rule_number r e)).kind f.class byte)) t
@@ -183,7 +183,7 @@ counted_consistent r propagated s e f byte h lt none settled is byte_is = record
         rw (yes, sequence) (rw (← same) (written_same s.steps t
             (told_step kind.Sequence f.class byte)
             (so_far r (known_class s.classes t) (told r propagated t) d k.0) k.2)
-            ∙ ap (λ (y : Step). Some y) (tells_step r (references_of r)
+            ∙ ap (λ (y : TypeStep). Some y) (tells_step r (references_of r)
             (IsRow (references_of r) s.rows) d (rule_at r (rule_number r e)).parts (to_at r e)
             f.class (known_class s.classes t) byte (told r propagated t) k.0 has
             (λ u one. only_part r e u lt one) is byte_is k.1)),

@@ -10,7 +10,7 @@ use Rattle.std.proofs.lemmas.List.Edits.{length-insert, get_or-insert_below, get
 use Rattle.std.proofs.lemmas.List.Edits.{get_or-insert_above}
 use Rattle.registry_core.specs.declared.definition.Arm.{Arm}
 use Rattle.widths_core.specs.declared.rows.Rows.{Rows}
-use Rattle.widths_core.specs.declared.step.ArmStep.{ArmStep}
+use Rattle.widths_core.specs.declared.type_step.ArmStep.{ArmStep}
 use Rattle.graph_core.specs.Types.{field_types}
 use Rattle.widths_core.specs.Arms.{arm_of}
 use Rattle.widths_core.specs.Rows.{Keeps, IsPaired, IsIn, Lacks, BelongsAt, Rises, Inserts}

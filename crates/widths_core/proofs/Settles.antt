@@ -23,7 +23,7 @@ use Rattle.widths_core.specs.ClassTables.{known_target, has_value}
 use Rattle.graph_core.specs.Counts.{times}
 use Rattle.widths_core.specs.Rules.{rules, class_by, outcome, all_parts, numbers_from}
 use Rattle.widths_core.specs.declared.counter.Counter.{Counter}
-use Rattle.widths_core.specs.declared.step.Step.{Step}
+use Rattle.widths_core.specs.declared.type_step.TypeStep.{TypeStep}
 use Rattle.widths_core.specs.Completing.{settled_step, step_at, written}
 use Rattle.widths_core.specs.Progress.{Progress, counter_at, is_sized, settled_as, settled_by}
 use Rattle.widths_core.specs.Progress.{completed}
@@ -58,7 +58,7 @@ pub record IsFound (r : List TypeInfo) (t : ℕ) (f : Found) : Type 0 where
   pub target : target_of r t ≡ f.target
   pub value : has_value f.class ≡ true
 
-abbrev with_type_found : Progress → ℕ → Found → Option Step → Progress
+abbrev with_type_found : Progress → ℕ → Found → Option TypeStep → Progress
 with_type_found s t f o = record {
   counters = s.counters;
   classes = set s.classes t f.class;
@@ -71,8 +71,8 @@ with_type_found s t f o = record {
 
 -- where this was found of a type that has not settled, its step becomes the one so far
 pub record CompletesStep (r : List TypeInfo) (s : Progress) (t : ℕ) (f : Found)
-    (o : Option Step) : Type 0 where
-  pub at : (d : TypeDef) (x : Step) (known : Bool) → shape r t ≡ Some d →
+    (o : Option TypeStep) : Type 0 where
+  pub at : (d : TypeDef) (x : TypeStep) (known : Bool) → shape r t ≡ Some d →
       IsDraft (references_of r) (IsRow (references_of r) s.rows) d x →
       slice_get s.steps t ≡ Some (so_far r class.NoValue known d x) →
       chosen o (so_far r class.NoValue known d x) ≡ so_far r f.class known d x
@@ -107,7 +107,7 @@ both : (b : Bool) → b ≡ true → b ≡ false → ⊥
 both b e f = let no = sym e ∙ f in cc
 
 -- what had settled has settled after a further type gets a class with a value
-with_keeps : (s : Progress) (t : ℕ) (f : Found) (o : Option Step) → t < length s.classes →
+with_keeps : (s : Progress) (t : ℕ) (f : Found) (o : Option TypeStep) → t < length s.classes →
     has_value f.class ≡ true → (u : ℕ) → has_settled s u ≡ true →
     has_settled (with_type_found s t f o) u ≡ true
 with_keeps s t f o lt v u e = elim (cases_eq u t) [
@@ -117,7 +117,7 @@ with_keeps s t f o lt v u e = elim (cases_eq u t) [
 
 -- all stays consistent where a type settles as what it is and had not settled before
 with_consistent : (r : List TypeInfo) (propagated : List ℕ) (s : Progress) (t : ℕ) (f : Found)
-    (o : Option Step) → IsConsistent r propagated s → t < length r → has_settled s t ≡ false →
+    (o : Option TypeStep) → IsConsistent r propagated s → t < length r → has_settled s t ≡ false →
     IsFound r t f → CompletesStep r s t f o →
     IsConsistent r propagated (with_type_found s t f o)
 with_consistent r propagated s t f o h lt e found completes =
@@ -162,7 +162,7 @@ with_consistent r propagated s t f o h lt e found completes =
             k.1,
             rw (same, class_same s.classes t f.class a)
                 (written_same s.steps t o (so_far r class.NoValue known d k.0) before
-                ∙ ap (λ (y : Step). Some y) becomes),
+                ∙ ap (λ (y : TypeStep). Some y) becomes),
           )
       step a u d (inr other) k shape_is = (
         k.0,
@@ -222,7 +222,7 @@ pub record SettlesTo (r : List TypeInfo) (propagated : List ℕ) (s n : Progress
 
 -- a type settles, or has settled before, and all stays consistent if what was found is right
 pub settles_to : (r : List TypeInfo) (propagated : List ℕ) (s : Progress) (t : ℕ) (f : Found)
-    (o : Option Step) → IsConsistent r propagated s → t < length r →
+    (o : Option TypeStep) → IsConsistent r propagated s → t < length r →
     (has_settled s t ≡ false → IsFound r t f) →
     (has_settled s t ≡ false → CompletesStep r s t f o) →
     SettlesTo r propagated s (settled_as s t f o) t

@@ -11,8 +11,8 @@ use Rattle.registry_core.specs.declared.type_info.TypeInfo.{TypeInfo}
 use Rattle.widths_core.specs.declared.class.Class.{Class}
 use Rattle.widths_core.specs.declared.class.Class.TheVariants as class
 use Rattle.widths_core.specs.declared.rows.Rows.{Rows}
-use Rattle.widths_core.specs.declared.step.Step.{Step}
-use Rattle.widths_core.specs.declared.step.Step.TheVariants as step
+use Rattle.widths_core.specs.declared.type_step.TypeStep.{TypeStep}
+use Rattle.widths_core.specs.declared.type_step.TypeStep.TheVariants as step
 use Rattle.graph_core.specs.Types.{shape}
 use Rattle.widths_core.specs.Targets.{compact_target_of_shape, compact_target_of}
 use Rattle.widths_core.specs.Classes.{class_of}
@@ -35,14 +35,14 @@ shape_some (x ∷ r) zero lt = (x.shape, refl)
 shape_some (x ∷ r) (suc t) lt = shape_some r t (omega (arith, lt))
 
 -- a number at which no step is read is not below the number of steps
-pub get_none : (xs : List Step) (t : ℕ) → slice_get xs t ≡ None → length xs ≤ t
+pub get_none : (xs : List TypeStep) (t : ℕ) → slice_get xs t ≡ None → length xs ≤ t
 get_none [] t e = omega arith
 get_none (x ∷ xs) zero e = absurd cc
 get_none (x ∷ xs) (suc t) e = let le = get_none xs t e in omega (arith, le)
 
 -- the step of a type remains so where nothing is asked of the rows
 weaker : (r : List TypeInfo) (refs : List ℕ) (Row : ℕ → ℕ → List Arm → Type 0) (c : Class)
-    (d : TypeDef) (s : Step) → IsStep r refs Row c d s →
+    (d : TypeDef) (s : TypeStep) → IsStep r refs Row c d s →
     IsStep r refs (λ from count arms. Unit {0}) c d s
 weaker r refs Row c (Def.Composite fs) s h = h
 weaker r refs Row c (Def.Tuple ts) s h = h
@@ -54,8 +54,9 @@ weaker r refs Row c (Def.Compact t) s h = h
 weaker r refs Row c (Def.BitSequence store order) s h = h
 
 -- the definition of a step
-pub definition_of : (r : List TypeInfo) (refs : List ℕ) (rows : Rows) (steps : List Step) (t : ℕ)
-    (s : Step) → IsTable r refs rows steps → slice_get steps t ≡ Some s → (d : TypeDef)
+pub definition_of : (r : List TypeInfo) (refs : List ℕ) (rows : Rows) (steps : List TypeStep)
+    (t : ℕ)
+    (s : TypeStep) → IsTable r refs rows steps → slice_get steps t ≡ Some s → (d : TypeDef)
     × (shape r t ≡ Some d) × IsStep r (references_of r) (IsRow (references_of r) rows)
     (class_of r t) d s
 definition_of r refs rows steps t s h e =
@@ -64,10 +65,10 @@ definition_of r refs rows steps t s h e =
     (d.0, d.1, h.own t d.0 s d.1 e)
 
 -- what the table has at a number is the step of the type there, or none where there is none
-pub step_at : (r : List TypeInfo) (refs : List ℕ) (rows : Rows) (steps : List Step) (t : ℕ) →
+pub step_at : (r : List TypeInfo) (refs : List ℕ) (rows : Rows) (steps : List TypeStep) (t : ℕ) →
     IsTable r refs rows steps → IsStepAt r t (slice_get steps t)
 step_at r refs rows steps t h = go (slice_get steps t) refl where
-  go : (o : Option Step) → slice_get steps t ≡ o → IsStepAt r t o
+  go : (o : Option TypeStep) → slice_get steps t ≡ o → IsStepAt r t o
   go None e =
       let le = get_none steps t e in
       rw (IsStepAt, shape_none r t (omega (arith, le, h.count))) refl
@@ -82,7 +83,7 @@ step_at r refs rows steps t h = go (slice_get steps t) refl where
 -- ---- the class and the target of a compact
 
 -- a step that is chosen by a class reports this class, where the two to choose from report theirs
-class_by : (c : Class) (none sized : Step) → class_of_step none ≡ class.NoValue →
+class_by : (c : Class) (none sized : TypeStep) → class_of_step none ≡ class.NoValue →
     class_of_step sized ≡ class.Sized → class_of_step (by_class c none sized) ≡ c
 class_by class.NoValue none sized e f = e
 class_by class.Empty none sized e f = refl
@@ -104,7 +105,7 @@ sized_array false n t = refl
 
 -- the step of a type reports the type's class
 class_is : (r : List TypeInfo) (refs : List ℕ) (Row : ℕ → ℕ → List Arm → Type 0) (t : ℕ)
-    (d : TypeDef) (s : Step) → shape r t ≡ Some d → IsStep r refs Row (class_of r t) d s →
+    (d : TypeDef) (s : TypeStep) → shape r t ≡ Some d → IsStep r refs Row (class_of r t) d s →
     class_of_step s ≡ class_of r t
 class_is r refs Row t (Def.Composite fs) s e h =
     rw h.2 (class_by (class_of r t) step.NoValue (step.Parts h.0 h.1) refl refl)
@@ -126,7 +127,7 @@ class_is r refs Row t (Def.BitSequence store order) s e h =
     rw h (class_by (class_of r t) step.NoValue step.BitSequence refl refl)
 
 -- a step that is chosen by a class reports no target where the two to choose from report none
-compact_by : (c : Class) (none sized : Step) → compact_of_step none ≡ None →
+compact_by : (c : Class) (none sized : TypeStep) → compact_of_step none ≡ None →
     compact_of_step sized ≡ None → compact_of_step (by_class c none sized) ≡ None
 compact_by class.NoValue none sized e f = e
 compact_by class.Empty none sized e f = refl
@@ -148,7 +149,7 @@ array_no_compact false n t = refl
 
 -- the step of a type reports the target where it is a compact, and else none
 compact_is : (r : List TypeInfo) (refs : List ℕ) (Row : ℕ → ℕ → List Arm → Type 0) (c : Class)
-    (d : TypeDef) (s : Step) → IsStep r refs Row c d s →
+    (d : TypeDef) (s : TypeStep) → IsStep r refs Row c d s →
     compact_of_step s ≡ compact_target_of_shape r (Some d)
 compact_is r refs Row c (Def.Composite fs) s h =
     rw h.2 (compact_by c step.NoValue (step.Parts h.0 h.1) refl refl)
@@ -169,7 +170,7 @@ compact_is r refs Row c (Def.BitSequence store order) s h =
     rw h (compact_by c step.NoValue step.BitSequence refl refl)
 
 -- where a step is read, there is such a type, and the step reports its class
-pub class_read : (r : List TypeInfo) (t : ℕ) (o : Option Step) (s : Step) → IsStepAt r t o →
+pub class_read : (r : List TypeInfo) (t : ℕ) (o : Option TypeStep) (s : TypeStep) → IsStepAt r t o →
     o ≡ Some s → (t < length r) × (class_of_step s ≡ class_of r t)
 class_read r t o s h f = go (shape r t) refl where
   go : (x : Option TypeDef) → shape r t ≡ x → (t < length r) × (class_of_step s ≡ class_of r t)
@@ -184,8 +185,8 @@ class_read r t o s h f = go (shape r t) refl where
       )
 
 -- what the step that is read reports of a target, or none without a step, is the type's own
-pub compact_read : (r : List TypeInfo) (t : ℕ) (o : Option Step) (m : Option Target) →
-    IsStepAt r t o → ((s : Step) → o ≡ Some s → m ≡ compact_of_step s) → (o ≡ None → m ≡ None) →
+pub compact_read : (r : List TypeInfo) (t : ℕ) (o : Option TypeStep) (m : Option Target) →
+    IsStepAt r t o → ((s : TypeStep) → o ≡ Some s → m ≡ compact_of_step s) → (o ≡ None → m ≡ None) →
     m ≡ compact_target_of r t
 compact_read r t o m h some none = go (shape r t) refl where
   go : (x : Option TypeDef) → shape r t ≡ x → m ≡ compact_target_of r t
@@ -196,8 +197,9 @@ compact_read r t o m h some none = go (shape r t) refl where
       x.0 x.2 ∙ sym (rw e refl)
 
 -- the step of a type stays its step where registry and step are replaced by equal ones
-pub step_read : (r q : List TypeInfo) (t : ℕ) (o p : Option Step) → q ≡ r → p ≡ o → IsStepAt r t o →
+pub step_read : (r q : List TypeInfo) (t : ℕ) (o p : Option TypeStep) → q ≡ r → p ≡ o →
+    IsStepAt r t o →
     IsStepAt q t p
 step_read r q t o p e f h =
     subst (λ (x : List TypeInfo). IsStepAt x t p) (sym e)
-    (subst (λ (y : Option Step). IsStepAt r t y) (sym f) h)
+    (subst (λ (y : Option TypeStep). IsStepAt r t y) (sym f) h)

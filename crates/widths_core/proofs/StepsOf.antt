@@ -15,8 +15,8 @@ use Rattle.scale_core.specs.declared.compact.Target.{Target}
 use Rattle.widths_core.specs.declared.class.Class.{Class}
 use Rattle.widths_core.specs.declared.class.Class.TheVariants as class
 use Rattle.widths_core.specs.declared.counter.Kind.TheVariants as kind
-use Rattle.widths_core.specs.declared.step.Step.{Step}
-use Rattle.widths_core.specs.declared.step.Step.TheVariants as step
+use Rattle.widths_core.specs.declared.type_step.TypeStep.{TypeStep}
+use Rattle.widths_core.specs.declared.type_step.TypeStep.TheVariants as step
 use Rattle.graph_core.specs.declared.graph.Graph.{Graph}
 use Rattle.graph_core.specs.Counts.{times}
 use Rattle.graph_core.specs.Types.{shape}
@@ -40,7 +40,7 @@ use Rattle.widths_core.proofs.Waiting.{parts_all, parts_each, times-other}
 -- ---- the types that have not settled
 
 -- a step that is put at a place leaves the others
-pub finish_other : (xs : List Step) (i t : ℕ) (s : Step) → (t ≡ i → ⊥) →
+pub finish_other : (xs : List TypeStep) (i t : ℕ) (s : TypeStep) → (t ≡ i → ⊥) →
     slice_get (set xs i s) t ≡ slice_get xs t
 finish_other [] i t s ne = refl
 finish_other (x ∷ xs) zero zero s ne = absurd (ne refl)
@@ -49,28 +49,28 @@ finish_other (x ∷ xs) (suc i) zero s ne = refl
 finish_other (x ∷ xs) (suc i) (suc t) s ne = finish_other xs i t s (λ e. ne (ap suc e))
 
 -- and is read there
-pub finish_same : (xs : List Step) (i : ℕ) (s y : Step) → slice_get xs i ≡ Some y →
+pub finish_same : (xs : List TypeStep) (i : ℕ) (s y : TypeStep) → slice_get xs i ≡ Some y →
     slice_get (set xs i s) i ≡ Some s
 finish_same [] i s y e = absurd cc
 finish_same (x ∷ xs) zero s y e = refl
 finish_same (x ∷ xs) (suc i) s y e = finish_same xs i s y e
 
 -- a place within the table has a step, the one that reading with a default gives
-pub get_at : (xs : List Step) (t : ℕ) (d : Step) → t < length xs →
+pub get_at : (xs : List TypeStep) (t : ℕ) (d : TypeStep) → t < length xs →
     slice_get xs t ≡ Some (get_or xs t d)
 get_at [] t d lt = absurd (omega (arith, lt))
 get_at (x ∷ xs) zero d lt = refl
 get_at (x ∷ xs) (suc t) d lt = get_at xs t d (omega (arith, lt))
 
 -- the first i types are finished
-pub record FinishesTo (classes : List Class) (xs ys : List Step) (i : ℕ) : Type 0 where
+pub record FinishesTo (classes : List Class) (xs ys : List TypeStep) (i : ℕ) : Type 0 where
   pub count : length ys ≡ length xs
-  pub done : (t : ℕ) (s : Step) → t < i → slice_get xs t ≡ Some s →
+  pub done : (t : ℕ) (s : TypeStep) → t < i → slice_get xs t ≡ Some s →
       slice_get ys t ≡ Some (finished (known_class classes t) s)
   pub left : (t : ℕ) → i ≤ t → slice_get ys t ≡ slice_get xs t
 
 -- one more type has settled, and its step stays
-pub finishes_kept : (classes : List Class) (xs ys : List Step) (i : ℕ) →
+pub finishes_kept : (classes : List Class) (xs ys : List TypeStep) (i : ℕ) →
     FinishesTo classes xs ys i → has_value (known_class classes i) ≡ true →
     FinishesTo classes xs ys (i + 1)
 finishes_kept classes xs ys i h v = record {
@@ -84,7 +84,7 @@ finishes_kept classes xs ys i h v = record {
 }
 
 -- one more type has not settled, and its step says so
-pub finishes_changed : (classes : List Class) (xs ys zs : List Step) (i : ℕ) (s : Step) →
+pub finishes_changed : (classes : List Class) (xs ys zs : List TypeStep) (i : ℕ) (s : TypeStep) →
     FinishesTo classes xs ys i → has_value (known_class classes i) ≡ false →
     slice_get ys i ≡ Some s → zs ≡ set ys i (without_value s) → length zs ≡ length ys →
     FinishesTo classes xs zs (i + 1)
@@ -108,7 +108,7 @@ finishes_changed classes xs ys zs i s h v at is len = record {
 }
 
 -- all types are finished
-pub finishes_all : (classes : List Class) (xs ys : List Step) (i : ℕ) → length xs ≤ i →
+pub finishes_all : (classes : List Class) (xs ys : List TypeStep) (i : ℕ) → length xs ≤ i →
     FinishesTo classes xs ys i → FinishesSteps classes xs ys
 finishes_all classes xs ys i le h = record {
   count = h.count;
@@ -217,7 +217,7 @@ told_settled r a b s n done t d h e =
 -- ---- steps in the end
 
 -- a step by the class alone, in the end
-finished_by : (c : Class) (x y : Step) → without_value x ≡ y → finished c (by_class c x x)
+finished_by : (c : Class) (x y : TypeStep) → without_value x ≡ y → finished c (by_class c x x)
     ≡ by_class c y x
 finished_by class.NoValue x y e = e
 finished_by class.Empty x y e = refl
@@ -240,7 +240,7 @@ compact_value o = go (is_unit o) where
 
 -- the step in the end is the type's
 step_finished : (r : List TypeInfo) (refs : List ℕ) (Row : ℕ → ℕ → List Arm → Type 0) (t : ℕ)
-    (d : TypeDef) (known : Bool) (x : Step) → shape r t ≡ Some d → IsDraft refs Row d x →
+    (d : TypeDef) (known : Bool) (x : TypeStep) → shape r t ≡ Some d → IsDraft refs Row d x →
     ((u : ℕ) → d ≡ Def.Sequence (record { 0 = u }) → known ≡ false →
     class_of r u ≡ class.NoValue) →
     IsStep r refs Row (class_of r t) d (finished (class_of r t) (so_far r (class_of r t) known d x))
@@ -272,7 +272,7 @@ step_finished r refs Row t (Def.BitSequence store order) known x e h un =
 
 -- when nothing more settles and the steps of the types without a value say so, the steps are the
 -- table of the registry
-pub table_all : (r : List TypeInfo) (a b : Graph) (s n : Progress) (done : ℕ) (ys : List Step)
+pub table_all : (r : List TypeInfo) (a b : Graph) (s n : Progress) (done : ℕ) (ys : List TypeStep)
     (refs : List ℕ) → PropagatesAll r a b s n done → AreCompactsSettled r n →
     FinishesSteps n.classes n.steps ys → refs ≡ references_of r → IsTable r refs n.rows ys
 table_all r a b s n done ys refs h c f all = record {
@@ -281,7 +281,7 @@ table_all r a b s n done ys refs h c f all = record {
   count = f.count ∙ h.propagated.steady.consistent.steps;
   own = λ t d y e at. own t d y e at;
 } where
-  own : (t : ℕ) (d : TypeDef) (y : Step) → shape r t ≡ Some d → slice_get ys t ≡ Some y →
+  own : (t : ℕ) (d : TypeDef) (y : TypeStep) → shape r t ≡ Some d → slice_get ys t ≡ Some y →
       IsStep r (references_of r) (IsRow (references_of r) n.rows) (class_of r t) d y
   own t d y e at =
       let st = h.propagated.steady.consistent in

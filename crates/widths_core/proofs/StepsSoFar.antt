@@ -16,8 +16,8 @@ use Rattle.widths_core.specs.declared.class.Class.TheVariants as class
 use Rattle.widths_core.specs.declared.counter.Found.{Found}
 use Rattle.widths_core.specs.declared.counter.Kind.{Kind}
 use Rattle.widths_core.specs.declared.counter.Kind.TheVariants as kind
-use Rattle.widths_core.specs.declared.step.Step.{Step}
-use Rattle.widths_core.specs.declared.step.Step.TheVariants as step
+use Rattle.widths_core.specs.declared.type_step.TypeStep.{TypeStep}
+use Rattle.widths_core.specs.declared.type_step.TypeStep.TheVariants as step
 use Rattle.graph_core.specs.Types.{shape}
 use Rattle.widths_core.specs.Targets.{target_of}
 use Rattle.widths_core.specs.Classes.{class_of}
@@ -35,19 +35,19 @@ use Rattle.widths_core.proofs.Stable.{class_stable}
 -- ---- places of the table
 
 -- this step, or the one before where there is none
-abbrev pub chosen : Option Step → Step → Step
+abbrev pub chosen : Option TypeStep → TypeStep → TypeStep
 chosen None s = s
 chosen (Some x) s = x
 
 -- a step that is put at a place is read there
-set_same : (xs : List Step) (t : ℕ) (s y : Step) → slice_get xs t ≡ Some y →
+set_same : (xs : List TypeStep) (t : ℕ) (s y : TypeStep) → slice_get xs t ≡ Some y →
     slice_get (set xs t s) t ≡ Some s
 set_same [] t s y e = absurd cc
 set_same (x ∷ xs) zero s y e = refl
 set_same (x ∷ xs) (suc t) s y e = set_same xs t s y e
 
 -- and leaves the others
-set_other : (xs : List Step) (t u : ℕ) (s : Step) → u ≢ t →
+set_other : (xs : List TypeStep) (t u : ℕ) (s : TypeStep) → u ≢ t →
     slice_get (set xs t s) u ≡ slice_get xs u
 set_other [] t u s ne = refl
 set_other (x ∷ xs) zero zero s ne = absurd (ne refl)
@@ -56,25 +56,26 @@ set_other (x ∷ xs) (suc t) zero s ne = refl
 set_other (x ∷ xs) (suc t) (suc u) s ne = set_other xs t u s (λ e. ne (ap suc e))
 
 -- a step that is written at a place, or the one before, is read there
-pub written_same : (xs : List Step) (t : ℕ) (o : Option Step) (y : Step) →
+pub written_same : (xs : List TypeStep) (t : ℕ) (o : Option TypeStep) (y : TypeStep) →
     slice_get xs t ≡ Some y → slice_get (written xs t o) t ≡ Some (chosen o y)
 written_same xs t None y e = e
 written_same xs t (Some s) y e = set_same xs t s y e
 
 -- and the others stay
-pub written_other : (xs : List Step) (t u : ℕ) (o : Option Step) → u ≢ t →
+pub written_other : (xs : List TypeStep) (t u : ℕ) (o : Option TypeStep) → u ≢ t →
     slice_get (written xs t o) u ≡ slice_get xs u
 written_other xs t u None ne = refl
 written_other xs t u (Some s) ne = set_other xs t u s ne
 
 -- there are as many steps as before
-pub written-length : (xs : List Step) (t : ℕ) (o : Option Step) →
+pub written-length : (xs : List TypeStep) (t : ℕ) (o : Option TypeStep) →
     length (written xs t o) ≡ length xs
 written-length xs t None = refl
 written-length xs t (Some s) = length-set xs t s
 
 -- what stands at a place is read there
-pub step_is : (xs : List Step) (t : ℕ) (y : Step) → slice_get xs t ≡ Some y → step_at xs t ≡ y
+pub step_is : (xs : List TypeStep) (t : ℕ) (y : TypeStep) → slice_get xs t ≡ Some y →
+    step_at xs t ≡ y
 step_is [] t y e = absurd cc
 step_is (x ∷ xs) zero y e = cc
 step_is (x ∷ xs) (suc t) y e = step_is xs t y e
@@ -88,13 +89,13 @@ pub record KnowsLast (r : List TypeInfo) (ps : List ℕ) (last : Option Target) 
     pub byte_is : (u : ℕ) → ps ≡ u ∷ [] → byte ≡ is_byte (shape r u)
 
 -- the step of a type without a step of its own by class
-chosen_by : (c : Class) (x : Step) → chosen (empty_step c) x ≡ by_class c x x
+chosen_by : (c : Class) (x : TypeStep) → chosen (empty_step c) x ≡ by_class c x x
 chosen_by class.NoValue x = refl
 chosen_by class.Empty x = refl
 chosen_by class.Sized x = refl
 
 -- the rule for fields or members changes a step by the class alone
-chosen_parts : (n : ℕ) (c : Class) (last : Option Target) (byte : Bool) (y x : Step) →
+chosen_parts : (n : ℕ) (c : Class) (last : Option Target) (byte : Bool) (y x : TypeStep) →
     chosen (settled_step (kind_of_parts n) c last byte y) x ≡ by_class c x x
 chosen_parts zero c last byte y x = chosen_by c x
 chosen_parts (suc zero) c last byte y x = chosen_by c x
@@ -116,7 +117,7 @@ found_is f g e = cc
 -- the step of a type that settles as this is the one so far, of this class
 pub settles_step : (r : List TypeInfo) (refs : List ℕ) (Row : ℕ → ℕ → List Arm → Type 0)
     (d : TypeDef) (κ : Kind) (ps : List ℕ) (sized : Bool) (last : Option Target) (byte : Bool)
-    (f : Found) (known : Bool) (x : Step) → HasKind d κ ps → KnowsLast r ps last byte →
+    (f : Found) (known : Bool) (x : TypeStep) → HasKind d κ ps → KnowsLast r ps last byte →
     outcome κ sized last ≡ Some f → has_value f.class ≡ true → IsDraft refs Row d x →
     chosen (settled_step κ f.class last byte (so_far r class.NoValue known d x))
     (so_far r class.NoValue known d x) ≡ so_far r f.class known d x
@@ -153,7 +154,7 @@ settles_step r refs Row (Def.BitSequence store order) κ ps sized last byte f kn
 
 -- the step of a compact without a target stays what it was
 pub bad_step : (r : List TypeInfo) (refs : List ℕ) (Row : ℕ → ℕ → List Arm → Type 0)
-    (d : TypeDef) (ps : List ℕ) (known : Bool) (x : Step) → HasKind d kind.Compact ps →
+    (d : TypeDef) (ps : List ℕ) (known : Bool) (x : TypeStep) → HasKind d kind.Compact ps →
     ((u : ℕ) → ps ≡ u ∷ [] → target_of r u ≡ None) → IsDraft refs Row d x →
     so_far r class.NoValue known d x ≡ so_far r class.Sized known d x
 bad_step r refs Row (Def.Composite fs) ps known x h none draft = refl
@@ -205,7 +206,7 @@ chosen_element class.Sized false false t = refl
 
 -- the step of a sequence whose element has settled is the one so far, told of it
 pub tells_step : (r : List TypeInfo) (refs : List ℕ) (Row : ℕ → ℕ → List Arm → Type 0) (d : TypeDef)
-    (ps : List ℕ) (v : ℕ) (c now : Class) (byte known : Bool) (x : Step) →
+    (ps : List ℕ) (v : ℕ) (c now : Class) (byte known : Bool) (x : TypeStep) →
     HasKind d kind.Sequence ps → ((u : ℕ) → ps ≡ u ∷ [] → v ≡ u) → c ≡ class_of r v →
     byte ≡ is_byte (shape r v) → IsDraft refs Row d x →
     chosen (told_step kind.Sequence c byte) (so_far r now known d x) ≡ so_far r now true d x
@@ -255,7 +256,7 @@ byte_same P.Bool = refl
 byte_same _ = refl
 
 -- a step that is chosen by a class is u8's where the two to choose from are alike
-by_not_byte : (c : Class) (a b : Step) → is_byte_step a ≡ false → is_byte_step b ≡ false →
+by_not_byte : (c : Class) (a b : TypeStep) → is_byte_step a ≡ false → is_byte_step b ≡ false →
     is_byte_step (by_class c a b) ≡ false
 by_not_byte class.NoValue a b e f = e
 by_not_byte class.Empty a b e f = refl
@@ -277,7 +278,7 @@ array_not_byte false n t = refl
 
 -- the step of a type so far is u8's exactly where the definition is
 pub byte_so_far : (r : List TypeInfo) (refs : List ℕ) (Row : ℕ → ℕ → List Arm → Type 0) (t : ℕ)
-    (d : TypeDef) (known : Bool) (x : Step) → shape r t ≡ Some d → IsDraft refs Row d x →
+    (d : TypeDef) (known : Bool) (x : TypeStep) → shape r t ≡ Some d → IsDraft refs Row d x →
     is_byte_step (so_far r (class_of r t) known d x) ≡ is_byte (Some d)
 byte_so_far r refs Row t (Def.Composite fs) known x e h =
     by_not_byte (class_of r t) x x (rw h.2 refl) (rw h.2 refl)

@@ -8,12 +8,12 @@ use Rattle.registry_core.specs.declared.definition.Arm.{Arm}
 use Rattle.graph_core.specs.declared.graph.Graph.{Graph}
 use Rattle.widths_core.specs.declared.counter.Kind.{Kind}
 use Rattle.widths_core.specs.declared.counter.Counter.{Counter}
-use Rattle.graph_core.specs.declared.stop.Stop.{Stop}
+use Rattle.graph_core.specs.declared.link_stop.LinkStop.{LinkStop}
 use Rattle.graph_core.specs.Types.{field_types}
 use Rattle.widths_core.specs.Rules.{Rule, rule, arm_rules, all_parts}
 use Rattle.graph_core.specs.Graphs.{BeginsArm, ReadsReferences}
 use Rattle.graph_core.specs.Stops.{StopsBetween, StopsLinking}
-use Rattle.graph_core.specs.declared.stop.Stop.TheVariants as stop
+use Rattle.graph_core.specs.declared.link_stop.LinkStop.TheVariants as stop
 use Rattle.graph_core.proofs.Linked.{reads_begun, reads_on}
 use Rattle.widths_core.proofs.PartsOf.{parts_of_arms}
 use Rattle.graph_core.proofs.Stopped.{stops_after, stops_read}
@@ -21,7 +21,7 @@ use Rattle.widths_core.proofs.ArmRules.{AddsArms}
 
 -- at a field of one of these arms
 pub stops_arms : (t i : ℕ) (k : Kind) (arms : List Arm) (x : Arm) (cs ds : List Counter)
-    (a b m c : Graph) (index count : ℕ) (o : Stop) → i < length arms → x ≡ get_or arms i x →
+    (a b m c : Graph) (index count : ℕ) (o : LinkStop) → i < length arms → x ≡ get_or arms i x →
     AddsArms t i arms cs ds a b → BeginsArm b m index count →
     StopsLinking (all_parts (rule t k (field_types x.fields) ∷ [])) m c o →
     StopsLinking (all_parts (arm_rules t [] arms)) a c o
@@ -53,7 +53,7 @@ stops_memory_after a b m c xs ks ys ls index count h begins k =
     h (reads_on b m c [] ys [] ls (reads_begun b m index count h.linked begins) k))
 
 -- where want of memory is answered
-pub stops_memory_is : {X : Type 0} (o : Result X Stop) (tos : List ℕ) (a b : Graph) →
+pub stops_memory_is : {X : Type 0} (o : Result X LinkStop) (tos : List ℕ) (a b : Graph) →
     o ≡ Err stop.Memory → StopsBetween a b → IfErr o (StopsLinking tos a b)
 stops_memory_is (Ok x) tos a b e h = absurd cc
 stops_memory_is (Err s) tos a b e h = let is : s ≡ stop.Memory = cc in rw is h

@@ -9,7 +9,7 @@ use Rattle.graph_core.specs.Widths.{widest}
 use Rattle.graph_core.specs.Counts.{times}
 use Rattle.widths_core.specs.declared.linking.Linked.{Linked}
 use Rattle.widths_core.specs.declared.rows.Rows.{Rows}
-use Rattle.widths_core.specs.declared.step.Step.{Step}
+use Rattle.widths_core.specs.declared.type_step.TypeStep.{TypeStep}
 use Rattle.widths_core.specs.Linking.{AreTypesLinked}
 use Rattle.widths_core.specs.Steps.{AreDrafts, IsTable}
 
@@ -29,7 +29,7 @@ pub record IsLinkedWith (r : List TypeInfo) (x : Linked) (w : ℕ) (g : Graph) :
   pub widest_is : w ≡ widest r
 
 -- the table of a registry whose references are all positions, and the looks that were taken
-pub record AreSettled (r : List TypeInfo) (rows : Rows) (steps : List Step) (g : Graph) : Type 0
+pub record AreSettled (r : List TypeInfo) (rows : Rows) (steps : List TypeStep) (g : Graph) : Type 0
   where
     pub checked : IsChecked r
     pub types : g.registry ≡ r
@@ -37,7 +37,8 @@ pub record AreSettled (r : List TypeInfo) (rows : Rows) (steps : List Step) (g :
     pub looks : HasFewLooks r g.looks
 
 -- the same with the width
-pub record IsAnalysed (r : List TypeInfo) (rows : Rows) (steps : List Step) (w : ℕ) (g : Graph) :
+pub record IsAnalysed (r : List TypeInfo) (rows : Rows) (steps : List TypeStep) (w : ℕ)
+    (g : Graph) :
     Type 0 where
   pub settled : AreSettled r rows steps g
   pub widest_is : w ≡ widest r

@@ -8,47 +8,47 @@ use Rattle.widths_core.specs.declared.class.Class.{Class}
 use Rattle.widths_core.specs.declared.class.Class.TheVariants as class
 use Rattle.widths_core.specs.declared.counter.Kind.{Kind}
 use Rattle.widths_core.specs.declared.counter.Kind.TheVariants as kind
-use Rattle.widths_core.specs.declared.step.Step.{Step}
-use Rattle.widths_core.specs.declared.step.Step.TheVariants as step
+use Rattle.widths_core.specs.declared.type_step.TypeStep.{TypeStep}
+use Rattle.widths_core.specs.declared.type_step.TypeStep.TheVariants as step
 use Rattle.widths_core.specs.ClassTables.{has_value, known_class}
 
 -- the step of a type that settles with this class, where it is another one than before
-abbrev pub empty_step : Class → Option Step
+abbrev pub empty_step : Class → Option TypeStep
 empty_step class.NoValue = None
 empty_step class.Empty = Some step.Empty
 empty_step class.Sized = None
 
 -- the step of a sequence of elements of this class, which are u8 itself or are not, where it is
 -- another one than before
-abbrev pub element_step : Class → Bool → Option Step
+abbrev pub element_step : Class → Bool → Option TypeStep
 element_step class.NoValue byte = if byte then Some step.Bytes else None
 element_step class.Empty byte = Some step.Count
 element_step class.Sized byte = if byte then Some step.Bytes else None
 
 -- the step of an array of so many bytes, where this is the step of an array
-abbrev pub of_bytes : Step → Option Step
+abbrev pub of_bytes : TypeStep → Option TypeStep
 of_bytes (step.Array n t) = Some (step.ByteArray n)
 of_bytes _ = None
 
 -- the step is that of u8 itself
-abbrev pub is_byte_step : Step → Bool
+abbrev pub is_byte_step : TypeStep → Bool
 is_byte_step (step.Primitive P.U8) = true
 is_byte_step _ = false
 
 -- the step of a type that turns out to have no value
-abbrev pub without_value : Step → Step
+abbrev pub without_value : TypeStep → TypeStep
 without_value (step.Arms from count) = step.NoArm from count
 without_value _ = step.NoValue
 
 -- the step of an array that settles with this class, where it is another one than before
-abbrev pub array_settled : Class → Bool → Step → Option Step
+abbrev pub array_settled : Class → Bool → TypeStep → Option TypeStep
 array_settled class.NoValue byte s = None
 array_settled class.Empty byte s = Some step.Empty
 array_settled class.Sized byte s = if byte then of_bytes s else None
 
 -- the step of an owner that settles with this class, where it is another one than before; its last
 -- part, whose compact target this is, is u8 itself or is not
-abbrev pub settled_step : Kind → Class → Option Target → Bool → Step → Option Step
+abbrev pub settled_step : Kind → Class → Option Target → Bool → TypeStep → Option TypeStep
 settled_step kind.Idle c last byte s = empty_step c
 settled_step kind.Parts c last byte s = empty_step c
 settled_step kind.Wrap c last byte s = empty_step c
@@ -59,24 +59,24 @@ settled_step (kind.Fixed f) c last byte s = empty_step c
 
 -- the step of an owner whose element has settled with this class, where it is another one than
 -- before
-abbrev pub told_step : Kind → Class → Bool → Option Step
+abbrev pub told_step : Kind → Class → Bool → Option TypeStep
 told_step kind.Sequence c byte = element_step c byte
 told_step _ c byte = None
 
 -- this step, where there is one, is put at a place
-abbrev pub written : List Step → ℕ → Option Step → List Step
+abbrev pub written : List TypeStep → ℕ → Option TypeStep → List TypeStep
 written xs t None = xs
 written xs t (Some s) = slice_set xs t s
 
-abbrev pub step_at : List Step → ℕ → Step
+abbrev pub step_at : List TypeStep → ℕ → TypeStep
 step_at xs t = slice_index_or xs t step.NoValue
 
 -- the step in the end of a type of this class
-abbrev pub finished : Class → Step → Step
+abbrev pub finished : Class → TypeStep → TypeStep
 finished c s = if has_value c then s else without_value s
 
 -- the steps of the types that have no value say so
-pub record FinishesSteps (classes : List Class) (xs ys : List Step) : Type 0 where
+pub record FinishesSteps (classes : List Class) (xs ys : List TypeStep) : Type 0 where
   pub count : length ys ≡ length xs
-  pub at : (t : ℕ) (s : Step) → slice_get xs t ≡ Some s →
+  pub at : (t : ℕ) (s : TypeStep) → slice_get xs t ≡ Some s →
       slice_get ys t ≡ Some (finished (known_class classes t) s)

@@ -10,8 +10,8 @@ use Rattle.graph_core.specs.Types.{shape}
 use Rattle.widths_core.specs.declared.class.Class.{Class}
 use Rattle.widths_core.specs.declared.counter.Kind.{Kind}
 use Rattle.widths_core.specs.declared.counter.Kind.TheVariants as kind
-use Rattle.widths_core.specs.declared.step.Step.{Step}
-use Rattle.widths_core.specs.declared.step.Step.TheVariants as step
+use Rattle.widths_core.specs.declared.type_step.TypeStep.{TypeStep}
+use Rattle.widths_core.specs.declared.type_step.TypeStep.TheVariants as step
 use Rattle.widths_core.specs.Targets.{target_of}
 use Rattle.widths_core.specs.Classes.{class_of}
 use Rattle.widths_core.specs.ClassTables.{known_class, known_target, has_value}
@@ -76,7 +76,7 @@ told r propagated t = list_any (λ e. ((rule_at r (rule_number r e)).owner == t)
 
 -- the step of a type of this shape and, so far, of this class, whose element told its step or not;
 -- before either it was x
-abbrev pub so_far : List TypeInfo → Class → Bool → TypeDef → Step → Step
+abbrev pub so_far : List TypeInfo → Class → Bool → TypeDef → TypeStep → TypeStep
 so_far r c known (Def.Composite fs) x = by_class c x x
 so_far r c known (Def.Variant arms) x = by_class c x x
 so_far r c known (Def.Sequence u) x =
@@ -89,7 +89,7 @@ so_far r c known (Def.BitSequence store order) x = by_class c x x
 
 -- the step of type t, whose definition is d, is as far as it can be
 abbrev pub IsStepSoFar : List TypeInfo → List ℕ → Progress → ℕ → TypeDef → Type 0
-IsStepSoFar r propagated s t d = (x : Step)
+IsStepSoFar r propagated s t d = (x : TypeStep)
     × IsDraft (references_of r) (IsRow (references_of r) s.rows) d x
     × (slice_get s.steps t
     ≡ Some (so_far r (known_class s.classes t) (told r propagated t) d x))

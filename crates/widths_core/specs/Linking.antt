@@ -8,7 +8,7 @@ use Rattle.graph_core.specs.Counts.{times}
 use Rattle.graph_core.specs.Graphs.{refs, numbers, IsLinked, ReadsReferences}
 use Rattle.widths_core.specs.declared.counter.Counter.{Counter}
 use Rattle.widths_core.specs.declared.rows.Rows.{Rows}
-use Rattle.widths_core.specs.declared.step.Step.{Step}
+use Rattle.widths_core.specs.declared.type_step.TypeStep.{TypeStep}
 use Rattle.widths_core.specs.Rows.{IsPaired, Keeps}
 use Rattle.widths_core.specs.Steps.{IsDraft, IsRow}
 use Rattle.widths_core.specs.Rules.{Rule, rules, rules_of, counter_of, all_parts, numbers_from}
@@ -20,7 +20,7 @@ pub record AddsRules (news : List Rule) (cs ds : List Counter) (a b : Graph) : T
 
 -- a type of this definition was linked, and this is its step before any type has settled
 pub record LinksType (t : ℕ) (d : TypeDef) (cs ds : List Counter) (x y : Rows) (a b : Graph)
-    (s : Step) : Type 0 where
+    (s : TypeStep) : Type 0 where
   pub adds : AddsRules (rules_of t d) cs ds a b
   pub paired : IsPaired y
   pub keeps : Keeps x y

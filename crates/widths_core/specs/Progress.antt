@@ -9,7 +9,7 @@ use Rattle.widths_core.specs.declared.counter.Kind.TheVariants as kind
 use Rattle.widths_core.specs.declared.counter.Counter.{Counter}
 use Rattle.widths_core.specs.declared.rows.Rows.{Rows}
 use Rattle.widths_core.specs.declared.settling.Settling.{Settling}
-use Rattle.widths_core.specs.declared.step.Step.{Step}
+use Rattle.widths_core.specs.declared.type_step.TypeStep.{TypeStep}
 use Rattle.widths_core.specs.ClassTables.{known_class, has_value}
 use Rattle.widths_core.specs.Completing.{settled_step, step_at, told_step, written}
 use Rattle.widths_core.specs.Rules.{outcome}
@@ -19,7 +19,7 @@ pub record Progress : Type 0 where
   pub classes : List Class
   pub targets : List (Option Target)
   pub settled : List ℕ
-  pub steps : List Step
+  pub steps : List TypeStep
   pub rows : Rows
 
 abbrev pub progress_of : Settling → Progress
@@ -46,7 +46,7 @@ is_sized class.Sized = true
 
 -- this was found of type t, which settles unless it has; its step becomes this one, where there is
 -- one
-abbrev pub settled_as : Progress → ℕ → Found → Option Step → Progress
+abbrev pub settled_as : Progress → ℕ → Found → Option TypeStep → Progress
 settled_as s t f o = if has_value (known_class s.classes t) then s else record {
   counters = s.counters;
   classes = slice_set s.classes t f.class;

@@ -3,7 +3,7 @@ use Rattle.std.specs.Prelude.{◌≡◌, ◌≢◌, ℕ, ◌+◌, ◌<◌, ◌�
 use Rattle.std.specs.Prelude.{slice_index, slice_index_or, MatchOption, MatchResult}
 use Rattle.std.specs.List.{insert}
 use Rattle.widths_core.specs.declared.rows.Rows.{Rows}
-use Rattle.widths_core.specs.declared.step.ArmStep.{ArmStep}
+use Rattle.widths_core.specs.declared.type_step.ArmStep.{ArmStep}
 
 abbrev pub no_arm : ArmStep
 no_arm = record { position = 0; from = 0; count = 0 }

@@ -7,12 +7,12 @@ use Rattle.registry_core.specs.declared.definition.TypeDef.{TypeDef}
 use Rattle.registry_core.specs.declared.definition.TypeDef.TheVariants as Def
 use Rattle.registry_core.specs.declared.type_info.TypeInfo.{TypeInfo}
 use Rattle.widths_core.specs.declared.rows.Rows.{Rows}
-use Rattle.widths_core.specs.declared.step.ArmStep.{ArmStep}
+use Rattle.widths_core.specs.declared.type_step.ArmStep.{ArmStep}
 use Rattle.widths_core.specs.declared.class.Class.{Class}
 use Rattle.widths_core.specs.declared.class.Class.TheVariants as class
-use Rattle.widths_core.specs.declared.step.Parts.{Parts}
-use Rattle.widths_core.specs.declared.step.Step.{Step}
-use Rattle.widths_core.specs.declared.step.Step.TheVariants as step
+use Rattle.widths_core.specs.declared.type_step.Parts.{Parts}
+use Rattle.widths_core.specs.declared.type_step.TypeStep.{TypeStep}
+use Rattle.widths_core.specs.declared.type_step.TypeStep.TheVariants as step
 use Rattle.scale_core.specs.declared.compact.Target.{Target}
 use Rattle.graph_core.specs.Types.{shape, ids, field_types}
 use Rattle.widths_core.specs.Arms.{arm_of}
@@ -50,12 +50,12 @@ pub record IsRow (refs : List ℕ) (rows : Rows) (from count : ℕ) (arms : List
   pub none : (x : ℕ) → Lacks rows.indexes.items from (from + count) x → arm_of arms x ≡ None
 
 -- this is the step of these parts, where they are among these references
-abbrev pub ArePartsOf : List ℕ → List ℕ → Step → Type 0
+abbrev pub ArePartsOf : List ℕ → List ℕ → TypeStep → Type 0
 ArePartsOf refs ts s = (from count : ℕ) × (s ≡ step.Parts from count) × AreParts refs from count ts
 
 -- this is the step of a type of this shape before it or its parts have settled, where its parts are
 -- among these references, and the row of a variant is as Row says
-abbrev pub IsDraft : List ℕ → (ℕ → ℕ → List Arm → Type 0) → TypeDef → Step → Type 0
+abbrev pub IsDraft : List ℕ → (ℕ → ℕ → List Arm → Type 0) → TypeDef → TypeStep → Type 0
 IsDraft refs Row (Def.Composite fs) s = ArePartsOf refs (field_types fs) s
 IsDraft refs Row (Def.Tuple ts) s = ArePartsOf refs (ids ts) s
 IsDraft refs Row (Def.Variant arms) s = (from count : ℕ) × (s ≡ step.Arms from count)
@@ -67,33 +67,36 @@ IsDraft refs Row (Def.Compact t) s = s ≡ step.Compact None
 IsDraft refs Row (Def.BitSequence store order) s = s ≡ step.BitSequence
 
 -- each type has its step as it is before any type has settled
-pub record AreDrafts (r : List TypeInfo) (refs : List ℕ) (rows : Rows) (steps : List Step) : Type 0
+pub record AreDrafts (r : List TypeInfo) (refs : List ℕ) (rows : Rows)
+    (steps : List TypeStep) : Type 0
   where
     pub paired : IsPaired rows
     pub count : length steps ≡ length r
-    pub own : (t : ℕ) (d : TypeDef) (s : Step) → shape r t ≡ Some d → slice_get steps t ≡ Some s →
+    pub own : (t : ℕ) (d : TypeDef) (s : TypeStep) → shape r t ≡ Some d →
+        slice_get steps t ≡ Some s →
         IsDraft refs (IsRow refs rows) d s
 
 -- one of these by the class of a type: the first where it has no value, and the second where it
 -- takes bytes
-abbrev pub by_class : Class → Step → Step → Step
+abbrev pub by_class : Class → TypeStep → TypeStep → TypeStep
 by_class class.NoValue none sized = none
 by_class class.Empty none sized = step.Empty
 by_class class.Sized none sized = sized
 
 -- the step of a sequence that has values, by the class of its elements, and by whether they are u8
-abbrev pub sequence_step : Class → Bool → ℕ → Step
+abbrev pub sequence_step : Class → Bool → ℕ → TypeStep
 sequence_step class.NoValue byte t = if byte then step.Bytes else step.Sequence t
 sequence_step class.Empty byte t = step.Count
 sequence_step class.Sized byte t = if byte then step.Bytes else step.Sequence t
 
 -- the step of an array that takes bytes, by whether its elements are u8
-abbrev pub array_step : Bool → ℕ → ℕ → Step
+abbrev pub array_step : Bool → ℕ → ℕ → TypeStep
 array_step byte n t = if byte then step.ByteArray n else step.Array n t
 
 -- this is the step of a type of this class and shape, where its parts are among these references,
 -- and the row of a variant is as Row says
-abbrev pub IsStep : List TypeInfo → List ℕ → (ℕ → ℕ → List Arm → Type 0) → Class → TypeDef → Step →
+abbrev pub IsStep : List TypeInfo → List ℕ → (ℕ → ℕ → List Arm → Type 0) → Class → TypeDef →
+    TypeStep →
     Type 0
 IsStep r refs Row c (Def.Composite fs) s = (from count : ℕ)
     × (s ≡ by_class c step.NoValue (step.Parts from count))
@@ -111,25 +114,27 @@ IsStep r refs Row c (Def.Compact t) s = s ≡ step.Compact (target_of r t.0)
 IsStep r refs Row c (Def.BitSequence store order) s = s ≡ by_class c step.NoValue step.BitSequence
 
 -- these are the references, and the steps and rows over them
-pub record IsTable (r : List TypeInfo) (refs : List ℕ) (rows : Rows) (steps : List Step) : Type 0
+pub record IsTable (r : List TypeInfo) (refs : List ℕ) (rows : Rows)
+    (steps : List TypeStep) : Type 0
   where
     pub all : refs ≡ references_of r
     pub paired : IsPaired rows
     pub count : length steps ≡ length r
-    pub own : (t : ℕ) (d : TypeDef) (s : Step) → shape r t ≡ Some d → slice_get steps t ≡ Some s →
+    pub own : (t : ℕ) (d : TypeDef) (s : TypeStep) → shape r t ≡ Some d →
+        slice_get steps t ≡ Some s →
         IsStep r (references_of r) (IsRow (references_of r) rows) (class_of r t) d s
 
 -- the step of type t, with no word of where its row is
-abbrev pub IsStepAt : List TypeInfo → ℕ → Option Step → Type 0
+abbrev pub IsStepAt : List TypeInfo → ℕ → Option TypeStep → Type 0
 IsStepAt r t s = elim (shape r t) [
-  | Some d ↦ (x : Step) × (s ≡ Some x)
+  | Some d ↦ (x : TypeStep) × (s ≡ Some x)
       × IsStep r (references_of r) (λ from count arms. Unit {0}) (class_of r t) d x
   | None ↦
       s ≡ None
 ]
 
 -- the class of a type of this step
-abbrev pub class_of_step : Step → Class
+abbrev pub class_of_step : TypeStep → Class
 class_of_step (step.Compact m) = class_of_compact m
 class_of_step (step.NoArm from count) = class.NoValue
 class_of_step step.NoValue = class.NoValue
@@ -145,7 +150,7 @@ class_of_step step.Count = class.Sized
 class_of_step step.BitSequence = class.Sized
 
 -- the target of a compact of this step
-abbrev pub compact_of_step : Step → Option Target
+abbrev pub compact_of_step : TypeStep → Option Target
 compact_of_step (step.Compact m) = m
 compact_of_step (step.NoArm from count) = None
 compact_of_step step.NoValue = None
@@ -161,7 +166,7 @@ compact_of_step step.Count = None
 compact_of_step step.BitSequence = None
 
 -- where the row of a variant of this step is
-abbrev pub row_of_step : Step → Option Parts
+abbrev pub row_of_step : TypeStep → Option Parts
 row_of_step (step.Compact m) = None
 row_of_step (step.NoArm from count) = Some (record { from = from; count = count })
 row_of_step step.NoValue = None

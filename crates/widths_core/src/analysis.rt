@@ -16,7 +16,7 @@ ghost use Rattle.graph_core.specs.Widths.{widest};
 use crate::linking::{Linked, link_types};
 use crate::rows::Rows;
 use crate::settling::Settling;
-use crate::step::Step;
+use crate::type_step::TypeStep;
 use graph_core::{CheckFault, Examined, Graph, Reference, Sizes, first_unknown, sizes_of};
 use registry_core::Registry;
 use std::alloc::{AllocError, Global};
@@ -31,7 +31,7 @@ struct Read {
 /// What is kept of the types of a registry.
 #[derive(Drop)]
 struct Tables {
-    steps: Vec<Step>,
+    steps: Vec<TypeStep>,
     rows: Rows,
     widest: u32,
 }
@@ -41,7 +41,7 @@ struct Tables {
 pub(crate) struct Analysis {
     pub examined: Examined,
     pub members: Vec<u32>,
-    pub steps: Vec<Step>,
+    pub steps: Vec<TypeStep>,
     pub rows: Rows,
     pub widest: u32,
 }

@@ -15,7 +15,7 @@ ghost use Rattle.graph_core.specs.Widths.{widest};
 use crate::analysis::{Analysis, analyse};
 use crate::class::Class;
 use crate::rows::Rows;
-use crate::step::{ArmStep, Parts, Step, step_of};
+use crate::type_step::{ArmStep, Parts, TypeStep, step_of};
 use graph_core::{CheckFault, Examined};
 use registry_core::{Arm, Registry, TypeDef, TypeId, TypeInfo};
 use scale_core::Target;
@@ -40,7 +40,7 @@ pub struct Checked {
     /// next to each other.
     members: Vec<u32>,
     /// The step of each type.
-    steps: Vec<Step>,
+    steps: Vec<TypeStep>,
     rows: Rows,
     widest: u32,
 }
@@ -126,7 +126,7 @@ impl Checked {
 
     /// What a value of a type is read as, where the id is a position (SCALE codec, "Types"): one
     /// look-up.
-    pub fn step(&self, id: TypeId) -> Option<Step>
+    pub fn step(&self, id: TypeId) -> Option<TypeStep>
         ensures { IsStepAt self.now.types id.0 result }
     {
         step_of(self.steps.as_slice(), id.0)

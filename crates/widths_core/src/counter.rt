@@ -5,7 +5,7 @@ ghost use Rattle.widths_core.specs.Completing.{element_step, empty_step, settled
 ghost use Rattle.widths_core.specs.Rules.{class_by, outcome};
 
 use crate::class::Class;
-use crate::step::Step;
+use crate::type_step::TypeStep;
 use scale_core::Target;
 
 /// What is found of a type when it settles: its class, and the target of a compact over it.
@@ -54,23 +54,23 @@ fn class_by(sized: bool) -> Class
 }
 
 /// The step of a type that settles with this class, where it is another one than before.
-fn empty_step(class: Class) -> Option<Step>
+fn empty_step(class: Class) -> Option<TypeStep>
     ensures { result ≡ empty_step class }
 {
     match class {
-        Class::Empty => Some(Step::Empty),
+        Class::Empty => Some(TypeStep::Empty),
         Class::NoValue | Class::Sized => None,
     }
 }
 
 /// The step of a sequence of elements of this class, which are u8 itself or are not, where it is
 /// another one than before.
-fn element_step(class: Class, byte: bool) -> Option<Step>
+fn element_step(class: Class, byte: bool) -> Option<TypeStep>
     ensures { result ≡ element_step class byte }
 {
     match class {
-        Class::Empty => Some(Step::Count),
-        Class::NoValue | Class::Sized if byte => Some(Step::Bytes),
+        Class::Empty => Some(TypeStep::Count),
+        Class::NoValue | Class::Sized if byte => Some(TypeStep::Bytes),
         Class::NoValue | Class::Sized => None,
     }
 }
@@ -108,12 +108,12 @@ impl Kind {
         class: Class,
         last: Option<Target>,
         byte: bool,
-        step: &Step,
-    ) -> Option<Step>
+        step: &TypeStep,
+    ) -> Option<TypeStep>
         ensures { result ≡ settled_step self class last byte step.now }
     {
         match self {
-            Kind::Compact => Some(Step::Compact(last)),
+            Kind::Compact => Some(TypeStep::Compact(last)),
             Kind::Array => match class {
                 Class::Sized if byte => step.of_bytes(),
                 _ => empty_step(class),
@@ -126,7 +126,7 @@ impl Kind {
 
     /// The step of an owner whose element has settled with this class, where it is another one than
     /// before. The element is u8 itself or is not.
-    pub(crate) fn told_step(self, class: Class, byte: bool) -> Option<Step>
+    pub(crate) fn told_step(self, class: Class, byte: bool) -> Option<TypeStep>
         ensures { result ≡ told_step self class byte }
     {
         match self {

@@ -11,10 +11,10 @@ mod linking;
 mod rows;
 mod run_kind;
 mod settling;
-mod step;
+mod type_step;
 
 pub use checked::Checked;
 pub use class::Class;
 pub use graph_core::CheckFault;
 pub use run_kind::RunKind;
-pub use step::{ArmStep, Step};
+pub use type_step::{ArmStep, TypeStep};

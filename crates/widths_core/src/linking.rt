@@ -8,7 +8,7 @@ ghost use Rattle.graph_core.specs.Cursors.{arms_left, current, open_definition, 
 ghost use Rattle.graph_core.specs.Graphs.{AreSeen, IsLinked, IsNew, refs};
 ghost use Rattle.graph_core.specs.Outlines.{IsTold};
 ghost use Rattle.graph_core.specs.Stops.{IsRefusedFor, IsUnderWay, StopsLinking};
-ghost use Rattle.graph_core.specs.declared.stop.Stop.TheVariants.{Memory};
+ghost use Rattle.graph_core.specs.declared.link_stop.LinkStop.TheVariants.{Memory};
 ghost use Rattle.widths_core.specs.Linking.{AddsRules, AreTypesLinked, LinksType};
 ghost use Rattle.widths_core.specs.Rows.{IsPaired, Keeps};
 ghost use Rattle.widths_core.specs.Rules.{all_parts, arm_rules, array_rules, found_of_primitive};
@@ -16,13 +16,13 @@ ghost use Rattle.widths_core.specs.Rules.{found_sized, kind_of_parts, rule, rule
 ghost use Rattle.widths_core.specs.Steps.{AreDrafts, AreParts, ArePartsOf, IsDraft, IsRow};
 ghost use Rattle.widths_core.specs.Targets.{width_target};
 ghost use Rattle.widths_core.specs.declared.counter.Kind.TheVariants.{Compact, Fixed, Sequence};
-ghost use Rattle.widths_core.specs.declared.step.Step.TheVariants as step;
+ghost use Rattle.widths_core.specs.declared.type_step.TypeStep.TheVariants as step;
 
 use crate::class::Class;
 use crate::counter::{Counter, Found, Kind};
 use crate::rows::Rows;
-use crate::step::{ArmStep, Parts, Step};
-use graph_core::{CheckFault, Definition, Graph, Stop};
+use crate::type_step::{ArmStep, Parts, TypeStep};
+use graph_core::{CheckFault, Definition, Graph, LinkStop};
 use registry_core::{IntegerWidth, Primitive, PrimitiveKind};
 use scale_core::Target;
 use std::alloc::Global;
@@ -45,7 +45,7 @@ fn count_parts(
     owner: u32,
     kind: Kind,
     parts: usize,
-) -> Result<u32, Stop>
+) -> Result<u32, LinkStop>
     ensures counts { IfOk result (λ number. (number ≡ length counters.old.items)
         × (counters.new.items ≡ counters.old.items ++ record {
           owner = owner;
@@ -57,7 +57,7 @@ fn count_parts(
 {
     let number = counters.len();
     if number >= u32::MAX as usize || parts > u32::MAX as usize {
-        return Err(Stop::Memory);
+        return Err(LinkStop::Memory);
     }
     counters.push(Counter {
         owner,
@@ -75,7 +75,7 @@ fn link_parts(
     owner: u32,
     kind: Kind,
     count: usize,
-) -> Result<Parts, Stop>
+) -> Result<Parts, LinkStop>
     requires linked { IsLinked graph.old }
     requires count { count ≡ length (parts_left graph.old) }
     ensures adds { IfOk result (λ _. AddsRules (rule owner kind (parts_left graph.old) ∷ [])
@@ -105,7 +105,7 @@ fn link_one(
     counters: &mut Vec<Counter>,
     owner: u32,
     kind: Kind,
-) -> Result<u32, Stop>
+) -> Result<u32, LinkStop>
     requires linked { IsLinked graph.old }
     requires one { length (parts_left graph.old) ≡ 1 }
     ensures value { IfOk result (λ id. parts_left graph.old ≡ id ∷ []) }
@@ -119,11 +119,11 @@ fn link_one(
 }
 
 /// The same number, where it is kept in four bytes.
-fn number(value: usize) -> Result<u32, Stop>
+fn number(value: usize) -> Result<u32, LinkStop>
     ensures same { IfOk result (λ n. n ≡ value) }
     ensures memory { IfErr result (λ stop. stop ≡ Memory) }
 {
-    u32::try_from(value).ok().ok_or(Stop::Memory)
+    u32::try_from(value).ok().ok_or(LinkStop::Memory)
 }
 
 /// The fields of each arm are counted together; those of an arm that an earlier one of its index
@@ -134,7 +134,7 @@ fn link_arms(
     rows: &mut Rows,
     owner: u32,
     count: usize,
-) -> Result<Step, Stop>
+) -> Result<TypeStep, LinkStop>
     requires linked { IsLinked graph.old }
     requires paired { IsPaired rows.old }
     requires count { count ≡ length (arms_left graph.old) }
@@ -167,7 +167,7 @@ fn link_arms(
             }
         }
     }
-    Ok(Step::Arms {
+    Ok(TypeStep::Arms {
         from: number(first)?,
         count: number(rows.len() - first)?,
     })
@@ -220,7 +220,7 @@ fn link_members(
     counters: &mut Vec<Counter>,
     owner: u32,
     count: usize,
-) -> Result<Step, Stop>
+) -> Result<TypeStep, LinkStop>
     requires linked { IsLinked graph.old }
     requires count { count ≡ length (parts_left graph.old) }
     ensures adds { IfOk result (λ _. AddsRules
@@ -233,12 +233,16 @@ fn link_members(
 {
     let kind = kind_of_parts(count);
     let Parts { from, count } = link_parts(graph, counters, owner, kind, count)?;
-    Ok(Step::Parts { from, count })
+    Ok(TypeStep::Parts { from, count })
 }
 
 /// The type of a sequence's elements: a sequence takes bytes whatever they are. Answers its step,
 /// unless they take no bytes or are u8.
-fn link_sequence(graph: &mut Graph, counters: &mut Vec<Counter>, owner: u32) -> Result<Step, Stop>
+fn link_sequence(
+    graph: &mut Graph,
+    counters: &mut Vec<Counter>,
+    owner: u32,
+) -> Result<TypeStep, LinkStop>
     requires linked { IsLinked graph.old }
     requires one { length (parts_left graph.old) ≡ 1 }
     ensures adds { IfOk result (λ _. AddsRules (rule owner (Fixed found_sized) []
@@ -251,7 +255,7 @@ fn link_sequence(graph: &mut Graph, counters: &mut Vec<Counter>, owner: u32) -> 
 {
     count_parts(counters, owner, Kind::Fixed(SIZED), 0)?;
     let element = link_one(graph, counters, owner, Kind::Sequence)?;
-    Ok(Step::Sequence { element })
+    Ok(TypeStep::Sequence { element })
 }
 
 /// The type of an array's elements: an array of none takes no bytes whatever they are. Answers its
@@ -261,7 +265,7 @@ fn link_array(
     counters: &mut Vec<Counter>,
     owner: u32,
     len: u32,
-) -> Result<Step, Stop>
+) -> Result<TypeStep, LinkStop>
     requires linked { IsLinked graph.old }
     requires one { length (parts_left graph.old) ≡ 1 }
     ensures adds { IfOk result (λ _. AddsRules (array_rules owner len (parts_left graph.old))
@@ -274,14 +278,18 @@ fn link_array(
     if len == 0 {
         count_parts(counters, owner, Kind::Fixed(EMPTY), 0)?;
         let element = link_one(graph, counters, owner, Kind::Idle)?;
-        return Ok(Step::Array { len, element });
+        return Ok(TypeStep::Array { len, element });
     }
     let element = link_one(graph, counters, owner, Kind::Array)?;
-    Ok(Step::Array { len, element })
+    Ok(TypeStep::Array { len, element })
 }
 
 /// What a compact wraps. Answers its step, unless there is a target.
-fn link_compact(graph: &mut Graph, counters: &mut Vec<Counter>, owner: u32) -> Result<Step, Stop>
+fn link_compact(
+    graph: &mut Graph,
+    counters: &mut Vec<Counter>,
+    owner: u32,
+) -> Result<TypeStep, LinkStop>
     requires linked { IsLinked graph.old }
     requires one { length (parts_left graph.old) ≡ 1 }
     ensures adds { IfOk result (λ _. AddsRules (rule owner Compact (parts_left graph.old) ∷ [])
@@ -291,7 +299,7 @@ fn link_compact(graph: &mut Graph, counters: &mut Vec<Counter>, owner: u32) -> R
         (all_parts (rule owner Compact (parts_left graph.old) ∷ [])) graph.old graph.new) }
 {
     link_one(graph, counters, owner, Kind::Compact)?;
-    Ok(Step::Compact(None))
+    Ok(TypeStep::Compact(None))
 }
 
 /// A type without references, of which this is found. Answers this step.
@@ -300,8 +308,8 @@ fn link_none(
     counters: &mut Vec<Counter>,
     owner: u32,
     found: Found,
-    step: Step,
-) -> Result<Step, Stop>
+    step: TypeStep,
+) -> Result<TypeStep, LinkStop>
     requires { IsLinked graph.now }
     ensures adds { IfOk result (λ _. AddsRules (rule owner (Fixed found) [] ∷ [])
         counters.old.items counters.new.items graph.now graph.now) }
@@ -321,7 +329,7 @@ fn link_definition(
     rows: &mut Rows,
     owner: u32,
     definition: Definition,
-) -> Result<Step, Stop>
+) -> Result<TypeStep, LinkStop>
     requires linked { IsLinked graph.old }
     requires paired { IsPaired rows.old }
     requires told { IsTold graph.old definition }
@@ -340,9 +348,15 @@ fn link_definition(
         Definition::Compact => link_compact(graph, counters, owner),
         Definition::Primitive(primitive) => {
             let found = found_of_primitive(primitive);
-            link_none(graph, counters, owner, found, Step::Primitive(primitive))
+            link_none(
+                graph,
+                counters,
+                owner,
+                found,
+                TypeStep::Primitive(primitive),
+            )
         }
-        Definition::BitSequence => link_none(graph, counters, owner, SIZED, Step::BitSequence),
+        Definition::BitSequence => link_none(graph, counters, owner, SIZED, TypeStep::BitSequence),
     }
 }
 
@@ -350,7 +364,7 @@ fn link_definition(
 #[derive(Drop)]
 pub(crate) struct Linked {
     pub counters: Vec<Counter>,
-    pub steps: Vec<Step>,
+    pub steps: Vec<TypeStep>,
     pub rows: Rows,
 }
 

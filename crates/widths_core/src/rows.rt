@@ -5,7 +5,7 @@ ghost use Rattle.std.specs.List.{insert};
 ghost use Rattle.widths_core.specs.Rows.{IsPlace, IsSearched, IsPaired, HasNoRow, IsIn, Lacks};
 ghost use Rattle.widths_core.specs.Rows.{Rises, Inserts};
 
-use crate::step::ArmStep;
+use crate::type_step::ArmStep;
 use std::alloc::{AllocError, Global};
 
 /// The arms that no earlier arm of the same index shadows: for each variant a row of them, by ascending index.

@@ -13,7 +13,7 @@ use crate::class::Class;
 use crate::counter::{Counter, Found, Kind};
 use crate::linking::Linked;
 use crate::rows::Rows;
-use crate::step::Step;
+use crate::type_step::TypeStep;
 use graph_core::Graph;
 use scale_core::Target;
 use std::alloc::{AllocError, Global};
@@ -29,7 +29,7 @@ pub(crate) struct Settling {
     pub settled: Vec<u32>,
     /// The step of each type, complete when the type has settled and, of a sequence, when its
     /// element has.
-    pub steps: Vec<Step>,
+    pub steps: Vec<TypeStep>,
     /// The arms of the variants, which stay as they are.
     pub rows: Rows,
 }
@@ -66,7 +66,7 @@ impl Settling {
 
     /// A type settles as this, unless it has settled before. Its step becomes this one, where there
     /// is one.
-    fn settle(&mut self, owner: u32, found: Found, step: Option<Step>) -> Result<(), AllocError>
+    fn settle(&mut self, owner: u32, found: Found, step: Option<TypeStep>) -> Result<(), AllocError>
         requires { KnowsType (progress_of self.old) owner }
         ensures { OnOk result (progress_of self.new
             ≡ settled_as (progress_of self.old) owner found step) }

@@ -7,7 +7,7 @@ ghost use Rattle.registry_core.specs.Reading.{lifted, length_at, string_at, text
 ghost use Rattle.registry_core.specs.Reading.{type_ids_at, option_at, byte_at};
 
 use super::lists::append;
-use super::stop::Stop;
+use super::read_stop::ReadStop;
 use crate::fault::RegistryReason;
 use crate::items::Items;
 use crate::text::Text;
@@ -16,17 +16,17 @@ use scale_core::{Target, read_compact, read_text, read_u32};
 use std::alloc::Global;
 
 /// A length or an id.
-pub(crate) fn length_of(bytes: &[u8]) -> Result<(u32, &[u8]), Stop<'_>>
+pub(crate) fn length_of(bytes: &[u8]) -> Result<(u32, &[u8]), ReadStop<'_>>
     ensures { Gives (λ x. (x.0, x.1.now)) result (length_at bytes.now) }
 {
     match read_compact(bytes, Target::U32) {
         Ok((length, len)) => Ok((length as u32, &bytes[len..])),
-        Err(fault) => Err(Stop::at_fault(fault, bytes)),
+        Err(fault) => Err(ReadStop::at_fault(fault, bytes)),
     }
 }
 
 /// A text, in memory of its own.
-pub(crate) fn text_of(alloc: Global, bytes: &[u8]) -> Result<(Text, &[u8]), Stop<'_>>
+pub(crate) fn text_of(alloc: Global, bytes: &[u8]) -> Result<(Text, &[u8]), ReadStop<'_>>
     ensures { Gives (λ x. (x.0, x.1.now)) result (string_at bytes.now) }
 {
     match read_text(bytes) {
@@ -34,32 +34,32 @@ pub(crate) fn text_of(alloc: Global, bytes: &[u8]) -> Result<(Text, &[u8]), Stop
             let text = String::from_str(alloc, text)?;
             Ok((Text::from_string(text), &bytes[len..]))
         }
-        Err(fault) => Err(Stop::at_fault(fault, bytes)),
+        Err(fault) => Err(ReadStop::at_fault(fault, bytes)),
     }
 }
 
 /// A byte that may be any.
-pub(crate) fn byte_of(bytes: &[u8]) -> Result<(u8, &[u8]), Stop<'_>>
+pub(crate) fn byte_of(bytes: &[u8]) -> Result<(u8, &[u8]), ReadStop<'_>>
     ensures { Gives (λ x. (x.0, x.1.now)) result (byte_at bytes.now) }
 {
     match bytes {
-        [] => Err(Stop::Fault(RegistryReason::Truncated, bytes)),
+        [] => Err(ReadStop::Fault(RegistryReason::Truncated, bytes)),
         [byte, rest @ ..] => Ok((*byte, rest)),
     }
 }
 
 /// A number of four bytes.
-pub(crate) fn word_of(bytes: &[u8]) -> Result<(u32, &[u8]), Stop<'_>>
+pub(crate) fn word_of(bytes: &[u8]) -> Result<(u32, &[u8]), ReadStop<'_>>
     ensures { Gives (λ x. (x.0, x.1.now)) result (lifted (number_at 4 bytes.now)) }
 {
     match read_u32(bytes) {
         Ok((number, len)) => Ok((number, &bytes[len..])),
-        Err(_) => Err(Stop::Fault(RegistryReason::Truncated, &bytes[bytes.len()..])),
+        Err(_) => Err(ReadStop::Fault(RegistryReason::Truncated, &bytes[bytes.len()..])),
     }
 }
 
 /// The position of a type.
-pub(crate) fn type_id_of(bytes: &[u8]) -> Result<(TypeId, &[u8]), Stop<'_>>
+pub(crate) fn type_id_of(bytes: &[u8]) -> Result<(TypeId, &[u8]), ReadStop<'_>>
     ensures { Gives (λ x. (x.0, x.1.now)) result (type_id_at bytes.now) }
 {
     let (id, rest) = length_of(bytes)?;
@@ -67,17 +67,17 @@ pub(crate) fn type_id_of(bytes: &[u8]) -> Result<(TypeId, &[u8]), Stop<'_>>
 }
 
 /// The position of a type, which may be left out.
-pub(crate) fn optional_type_id_of(bytes: &[u8]) -> Result<(Option<TypeId>, &[u8]), Stop<'_>>
+pub(crate) fn optional_type_id_of(bytes: &[u8]) -> Result<(Option<TypeId>, &[u8]), ReadStop<'_>>
     ensures { Gives (λ x. (x.0, x.1.now)) result (option_at type_id_at bytes.now) }
 {
     match bytes {
-        [] => Err(Stop::Fault(RegistryReason::Truncated, bytes)),
+        [] => Err(ReadStop::Fault(RegistryReason::Truncated, bytes)),
         [0, rest @ ..] => Ok((None, rest)),
         [1, rest @ ..] => {
             let (ty, rest) = type_id_of(rest)?;
             Ok((Some(ty), rest))
         }
-        [_, ..] => Err(Stop::Fault(RegistryReason::BadOption, bytes)),
+        [_, ..] => Err(ReadStop::Fault(RegistryReason::BadOption, bytes)),
     }
 }
 
@@ -85,23 +85,26 @@ pub(crate) fn optional_type_id_of(bytes: &[u8]) -> Result<(Option<TypeId>, &[u8]
 pub(crate) fn optional_text_of(
     alloc: Global,
     bytes: &[u8],
-) -> Result<(Option<Text>, &[u8]), Stop<'_>>
+) -> Result<(Option<Text>, &[u8]), ReadStop<'_>>
     ensures { Gives (λ x. (x.0, x.1.now)) result (option_at string_at bytes.now) }
 {
     match bytes {
-        [] => Err(Stop::Fault(RegistryReason::Truncated, bytes)),
+        [] => Err(ReadStop::Fault(RegistryReason::Truncated, bytes)),
         [0, rest @ ..] => Ok((None, rest)),
         [1, behind @ ..] => {
             let (text, rest) = text_of(alloc, behind)?;
             Ok((Some(text), rest))
         }
-        [_, ..] => Err(Stop::Fault(RegistryReason::BadOption, bytes)),
+        [_, ..] => Err(ReadStop::Fault(RegistryReason::BadOption, bytes)),
     }
 }
 
 /// The positions of types: how many, and one after the other.
 #[tactic(auto, unfolding(crate::specs::Reading::type_ids_at))]
-pub(crate) fn type_ids_of(alloc: Global, bytes: &[u8]) -> Result<(Items<TypeId>, &[u8]), Stop<'_>>
+pub(crate) fn type_ids_of(
+    alloc: Global,
+    bytes: &[u8],
+) -> Result<(Items<TypeId>, &[u8]), ReadStop<'_>>
     ensures { Gives (λ x. (x.0, x.1.now)) result (type_ids_at bytes.now) }
 {
     let (count, mut rest) = length_of(bytes)?;
@@ -129,7 +132,7 @@ fn after_empty(bytes: &[u8]) -> Option<&[u8]>
 /// Texts, of which there are none in most places: that is seen without a call.
 #[inline(always)]
 #[tactic(auto, unfolding(crate::specs::Reading::texts_at))]
-pub(crate) fn texts_of(alloc: Global, bytes: &[u8]) -> Result<(Items<Text>, &[u8]), Stop<'_>>
+pub(crate) fn texts_of(alloc: Global, bytes: &[u8]) -> Result<(Items<Text>, &[u8]), ReadStop<'_>>
     ensures { Gives (λ x. (x.0, x.1.now)) result (texts_at bytes.now) }
 {
     if let Some(rest) = after_empty(bytes) {
@@ -141,7 +144,7 @@ pub(crate) fn texts_of(alloc: Global, bytes: &[u8]) -> Result<(Items<Text>, &[u8
 /// Texts: how many, and one after the other.
 #[inline(never)]
 #[tactic(auto, unfolding(crate::specs::Reading::texts_at))]
-fn some_texts_of(alloc: Global, bytes: &[u8]) -> Result<(Items<Text>, &[u8]), Stop<'_>>
+fn some_texts_of(alloc: Global, bytes: &[u8]) -> Result<(Items<Text>, &[u8]), ReadStop<'_>>
     ensures { Gives (λ x. (x.0, x.1.now)) result (texts_at bytes.now) }
 {
     let (count, mut rest) = length_of(bytes)?;

@@ -9,7 +9,7 @@ use super::atoms::{
     byte_of, length_of, optional_text_of, text_of, texts_of, type_id_of, type_ids_of, word_of,
 };
 use super::lists::append;
-use super::stop::Stop;
+use super::read_stop::ReadStop;
 use crate::definition::{Arm, Field, TypeDef};
 use crate::fault::RegistryReason;
 use crate::items::Items;
@@ -18,7 +18,7 @@ use std::alloc::Global;
 
 /// A field.
 #[tactic(auto, unfolding(crate::specs::Reading::field_at))]
-fn field_of(alloc: Global, bytes: &[u8]) -> Result<(Field, &[u8]), Stop<'_>>
+fn field_of(alloc: Global, bytes: &[u8]) -> Result<(Field, &[u8]), ReadStop<'_>>
     ensures { Gives (λ x. (x.0, x.1.now)) result (field_at bytes.now) }
 {
     let (name, rest) = optional_text_of(alloc, bytes)?;
@@ -36,7 +36,7 @@ fn field_of(alloc: Global, bytes: &[u8]) -> Result<(Field, &[u8]), Stop<'_>>
 
 /// Fields: how many, and one after the other.
 #[tactic(auto, unfolding(crate::specs::Reading::fields_at))]
-fn fields_of(alloc: Global, bytes: &[u8]) -> Result<(Items<Field>, &[u8]), Stop<'_>>
+fn fields_of(alloc: Global, bytes: &[u8]) -> Result<(Items<Field>, &[u8]), ReadStop<'_>>
     ensures { Gives (λ x. (x.0, x.1.now)) result (fields_at bytes.now) }
 {
     let (count, mut rest) = length_of(bytes)?;
@@ -51,7 +51,7 @@ fn fields_of(alloc: Global, bytes: &[u8]) -> Result<(Items<Field>, &[u8]), Stop<
 
 /// An arm.
 #[tactic(auto, unfolding(crate::specs::Reading::arm_read_at))]
-fn arm_of(alloc: Global, bytes: &[u8]) -> Result<(Arm, &[u8]), Stop<'_>>
+fn arm_of(alloc: Global, bytes: &[u8]) -> Result<(Arm, &[u8]), ReadStop<'_>>
     ensures { Gives (λ x. (x.0, x.1.now)) result (arm_read_at bytes.now) }
 {
     let (name, rest) = text_of(alloc, bytes)?;
@@ -69,7 +69,7 @@ fn arm_of(alloc: Global, bytes: &[u8]) -> Result<(Arm, &[u8]), Stop<'_>>
 
 /// Arms: how many, and one after the other.
 #[tactic(auto, unfolding(crate::specs::Reading::arms_read_at))]
-fn arms_of(alloc: Global, bytes: &[u8]) -> Result<(Items<Arm>, &[u8]), Stop<'_>>
+fn arms_of(alloc: Global, bytes: &[u8]) -> Result<(Items<Arm>, &[u8]), ReadStop<'_>>
     ensures { Gives (λ x. (x.0, x.1.now)) result (arms_read_at bytes.now) }
 {
     let (count, mut rest) = length_of(bytes)?;
@@ -83,19 +83,19 @@ fn arms_of(alloc: Global, bytes: &[u8]) -> Result<(Items<Arm>, &[u8]), Stop<'_>>
 }
 
 /// A primitive, after the definition's byte.
-fn primitive_of(bytes: &[u8]) -> Result<(Primitive, &[u8]), Stop<'_>>
+fn primitive_of(bytes: &[u8]) -> Result<(Primitive, &[u8]), ReadStop<'_>>
     ensures { Gives (λ x. (x.0, x.1.now)) result (primitive_at bytes.now) }
 {
     let (byte, rest) = byte_of(bytes)?;
     match Primitive::from_byte(byte) {
         Some(primitive) => Ok((primitive, rest)),
-        None => Err(Stop::Fault(RegistryReason::BadPrimitive, bytes)),
+        None => Err(ReadStop::Fault(RegistryReason::BadPrimitive, bytes)),
     }
 }
 
 /// An array, after the definition's byte.
 #[tactic(auto, unfolding(crate::specs::Reading::array_at))]
-fn array_of(bytes: &[u8]) -> Result<(TypeDef, &[u8]), Stop<'_>>
+fn array_of(bytes: &[u8]) -> Result<(TypeDef, &[u8]), ReadStop<'_>>
     ensures { Gives (λ x. (x.0, x.1.now)) result (array_at bytes.now) }
 {
     let (len, rest) = word_of(bytes)?;
@@ -105,7 +105,7 @@ fn array_of(bytes: &[u8]) -> Result<(TypeDef, &[u8]), Stop<'_>>
 
 /// A bit sequence, after the definition's byte.
 #[tactic(auto, unfolding(crate::specs::Reading::bit_sequence_at))]
-fn bit_sequence_of(bytes: &[u8]) -> Result<(TypeDef, &[u8]), Stop<'_>>
+fn bit_sequence_of(bytes: &[u8]) -> Result<(TypeDef, &[u8]), ReadStop<'_>>
     ensures { Gives (λ x. (x.0, x.1.now)) result (bit_sequence_at bytes.now) }
 {
     let (store, rest) = type_id_of(bytes)?;
@@ -115,7 +115,7 @@ fn bit_sequence_of(bytes: &[u8]) -> Result<(TypeDef, &[u8]), Stop<'_>>
 
 /// A definition: its byte, and what follows it.
 #[tactic(auto, unfolding(crate::specs::Reading::definition_at))]
-pub(crate) fn definition_of(alloc: Global, bytes: &[u8]) -> Result<(TypeDef, &[u8]), Stop<'_>>
+pub(crate) fn definition_of(alloc: Global, bytes: &[u8]) -> Result<(TypeDef, &[u8]), ReadStop<'_>>
     ensures { Gives (λ x. (x.0, x.1.now)) result (definition_at bytes.now) }
 {
     let (kind, rest) = byte_of(bytes)?;
@@ -146,6 +146,6 @@ pub(crate) fn definition_of(alloc: Global, bytes: &[u8]) -> Result<(TypeDef, &[u
             Ok((TypeDef::Compact(target), rest))
         }
         7 => bit_sequence_of(rest),
-        _ => Err(Stop::Fault(RegistryReason::BadDefinition, bytes)),
+        _ => Err(ReadStop::Fault(RegistryReason::BadDefinition, bytes)),
     }
 }

@@ -6,7 +6,7 @@ ghost use Rattle.registry_core.specs.Reading.{param_at, params_at, type_info_at,
 use super::atoms::{length_of, optional_type_id_of, text_of, texts_of};
 use super::definitions::definition_of;
 use super::lists::append;
-use super::stop::Stop;
+use super::read_stop::ReadStop;
 use crate::fault::RegistryReason;
 use crate::items::Items;
 use crate::type_info::{Param, TypeInfo};
@@ -14,7 +14,7 @@ use std::alloc::Global;
 
 /// A parameter.
 #[tactic(auto, unfolding(crate::specs::Reading::param_at))]
-fn param_of(alloc: Global, bytes: &[u8]) -> Result<(Param, &[u8]), Stop<'_>>
+fn param_of(alloc: Global, bytes: &[u8]) -> Result<(Param, &[u8]), ReadStop<'_>>
     ensures { Gives (λ x. (x.0, x.1.now)) result (param_at bytes.now) }
 {
     let (name, rest) = text_of(alloc, bytes)?;
@@ -24,7 +24,7 @@ fn param_of(alloc: Global, bytes: &[u8]) -> Result<(Param, &[u8]), Stop<'_>>
 
 /// Parameters: how many, and one after the other.
 #[tactic(auto, unfolding(crate::specs::Reading::params_at))]
-fn params_of(alloc: Global, bytes: &[u8]) -> Result<(Items<Param>, &[u8]), Stop<'_>>
+fn params_of(alloc: Global, bytes: &[u8]) -> Result<(Items<Param>, &[u8]), ReadStop<'_>>
     ensures { Gives (λ x. (x.0, x.1.now)) result (params_at bytes.now) }
 {
     let (count, mut rest) = length_of(bytes)?;
@@ -39,7 +39,7 @@ fn params_of(alloc: Global, bytes: &[u8]) -> Result<(Items<Param>, &[u8]), Stop<
 
 /// A type, after its id.
 #[tactic(auto, unfolding(crate::specs::Reading::type_info_at))]
-fn type_info_of(alloc: Global, bytes: &[u8]) -> Result<(TypeInfo, &[u8]), Stop<'_>>
+fn type_info_of(alloc: Global, bytes: &[u8]) -> Result<(TypeInfo, &[u8]), ReadStop<'_>>
     ensures { Gives (λ x. (x.0, x.1.now)) result (type_info_at bytes.now) }
 {
     let (path, rest) = texts_of(alloc, bytes)?;
@@ -56,12 +56,12 @@ fn type_info_of(alloc: Global, bytes: &[u8]) -> Result<(TypeInfo, &[u8]), Stop<'
 }
 
 /// The bytes after the id of the type at this position.
-fn after_id(position: u32, bytes: &[u8]) -> Result<&[u8], Stop<'_>>
+fn after_id(position: u32, bytes: &[u8]) -> Result<&[u8], ReadStop<'_>>
     ensures { Gives (λ rest. (position, rest.now)) result (id_at position bytes.now) }
 {
     let (id, rest) = length_of(bytes)?;
     if id != position {
-        return Err(Stop::Fault(RegistryReason::IdOutOfPlace, bytes));
+        return Err(ReadStop::Fault(RegistryReason::IdOutOfPlace, bytes));
     }
     Ok(rest)
 }
@@ -71,7 +71,7 @@ pub(crate) fn types_of(
     alloc: Global,
     count: u32,
     bytes: &[u8],
-) -> Result<(Vec<TypeInfo>, &[u8]), Stop<'_>>
+) -> Result<(Vec<TypeInfo>, &[u8]), ReadStop<'_>>
     ensures { Gives (λ x. (x.0.items, x.1.now)) result (types_at count 0 bytes.now) }
 {
     let mut types = Vec::new(alloc);

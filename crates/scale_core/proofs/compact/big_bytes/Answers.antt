@@ -1,5 +1,5 @@
 use Rattle.std.proofs.Common.{sym}
-use Rattle.scale_core.proofs.Forms.{big_bytes-bits, bits-least}
+use Rattle.scale_core.proofs.Modes.{big_bytes-bits, bits-least}
 use Rattle.scale_core.proofs.compact.big_bytes.Goals as goal
 
 pub returns-clause-exact : goal.returns-clause-exact

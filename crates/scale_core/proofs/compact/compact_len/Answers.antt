@@ -1,6 +1,6 @@
 use Rattle.std.proofs.Common.{sym, arith}
-use Rattle.scale_core.proofs.Forms.{length-compact-one, length-compact-two, length-compact-four}
-use Rattle.scale_core.proofs.Forms.{length-compact-big}
+use Rattle.scale_core.proofs.Modes.{length-compact-one, length-compact-two, length-compact-four}
+use Rattle.scale_core.proofs.Modes.{length-compact-big}
 use Rattle.scale_core.proofs.compact.compact_len.Goals as goal
 
 pub returns-in-0-to-63-clause-exact : goal.returns-in-0-to-63-clause-exact

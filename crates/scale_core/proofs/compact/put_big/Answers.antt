@@ -6,10 +6,10 @@ use borrow.Rule.Slice.PartMut.{put_mid}
 use Rattle.scale_core.specs.Compact.{big_bytes, compact}
 use Rattle.scale_core.specs.Number.{le_bytes}
 use Rattle.scale_core.proofs.Fronts.{put_mid-front, take-to_le_bytes_16}
-use Rattle.scale_core.proofs.Forms.{compact-big, length-compact-big}
+use Rattle.scale_core.proofs.Modes.{compact-big, length-compact-big}
 use Rattle.scale_core.proofs.compact.put_big.Goals as goal
 
--- the buffer begins with the big form once the count and the number's bytes are put into it
+-- the buffer begins with the big mode once the count and the number's bytes are put into it
 put_big : (n k : ℕ) (out part spelled : List ℕ) → 2 ^ 30 ≤ n → k ≡ big_bytes n → k ≤ 16 →
     0 < length out → part ≡ take k spelled → spelled ≡ to_le_bytes w128 n →
     put_mid 1 (k + 1 - 1) (set out 0 ((k - 4) * 4 + 3)) part ≡ compact n ++ drop (k + 1) out

@@ -3,8 +3,8 @@ use Rattle.std.proofs.Common.{arith}
 use Rattle.scale_core.specs.Compact.{compact}
 use Rattle.scale_core.specs.Number.{le_bytes}
 use Rattle.scale_core.proofs.Fronts.{set-front, to_le_bytes_2, to_le_bytes_4}
-use Rattle.scale_core.proofs.Forms.{compact-one, compact-two, compact-four, length-compact-one}
-use Rattle.scale_core.proofs.Forms.{length-compact-two, length-compact-four}
+use Rattle.scale_core.proofs.Modes.{compact-one, compact-two, compact-four, length-compact-one}
+use Rattle.scale_core.proofs.Modes.{length-compact-two, length-compact-four}
 use Rattle.scale_core.proofs.compact.put_compact.Goals as goal
 
 pub returns-in-0-to-63-clause-len : goal.returns-in-0-to-63-clause-len

@@ -6,10 +6,10 @@ use Rattle.scale_core.specs.contracts.compact.Target.{the_type}
 use Rattle.scale_core.specs.declared.compact.Target.{Target}
 use Rattle.scale_core.specs.declared.compact.Target.TheVariants.{Unit as TUnit}
 use denote.Enum.Bare.{same_true, sameb}
-use Rattle.scale_core.proofs.ReadForms.{compact_at-unit, compact_at-integer, integer_at-empty}
-use Rattle.scale_core.proofs.ReadForms.{integer_at-cut, integer_at-one, judged_answers}
-use Rattle.scale_core.proofs.ReadForms.{front_is, are_bytes, short_value}
-use Rattle.scale_core.proofs.ReadForms.{two_shortest, four_shortest}
+use Rattle.scale_core.proofs.ReadModes.{compact_at-unit, compact_at-integer, integer_at-empty}
+use Rattle.scale_core.proofs.ReadModes.{integer_at-cut, integer_at-one, judged_answers}
+use Rattle.scale_core.proofs.ReadModes.{front_is, are_bytes, short_value}
+use Rattle.scale_core.proofs.ReadModes.{two_shortest, four_shortest}
 use Rattle.scale_core.proofs.compact.read_compact.Goals as goal
 
 -- a target that the test reports from the one without bytes is another

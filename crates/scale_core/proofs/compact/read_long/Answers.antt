@@ -1,6 +1,6 @@
 use Rattle.std.proofs.Common.{◌+◌, ◌≡◌, ◌∙◌, arith, suc}
-use Rattle.scale_core.proofs.ReadForms.{are_bytes, integer_at-too_long, judged_answers}
-use Rattle.scale_core.proofs.ReadForms.{long_number, not_too_long, too_long}
+use Rattle.scale_core.proofs.ReadModes.{are_bytes, integer_at-too_long, judged_answers}
+use Rattle.scale_core.proofs.ReadModes.{long_number, not_too_long, too_long}
 use Rattle.scale_core.proofs.compact.read_long.Goals as goal
 
 pub returns-then-bytes-count-clause-reads : goal.returns-then-bytes-count-clause-reads

@@ -4,7 +4,7 @@ use Rattle.widths_core.specs.declared.counter.Kind.TheVariants as kind
 use Rattle.graph_core.specs.Cursors.{arms_left}
 use Rattle.graph_core.specs.Graphs.{refs, BeginsArm}
 use Rattle.graph_core.specs.Types.{field_types}
-use Rattle.graph_core.specs.declared.stop.Stop.TheVariants as stop
+use Rattle.graph_core.specs.declared.link_stop.LinkStop.TheVariants as stop
 use Rattle.widths_core.specs.Rules.{all_parts, arm_rules, found_sized, rule}
 use Rattle.widths_core.specs.Linking.{AddsRules}
 use Rattle.graph_core.specs.Stops.{StopsLinking}

@@ -3,7 +3,7 @@ use Rattle.grammar_core.specs.Parts.{how_many_left}
 use Rattle.grammar_core.specs.Preorder.{branch}
 use Rattle.grammar_core.specs.Tree.{arm}
 use Rattle.value_core.specs.Built.{IsNextOpen, with_open}
-use Rattle.node_core.specs.Left.{left_of}
+use Rattle.node_core.specs.Remaining.{left_of}
 use Rattle.value_core.specs.Opened.{OpensArm}
 use Rattle.value_core.specs.Walked.{Walked}
 use Rattle.value_core.proofs.NextOpen.{arm_found, arm_next, with_arm_is}

@@ -15,8 +15,8 @@ overflow_add-self g c =
     let fits = texts_fit _ _ c.args.leaf _ _ _ c.self.invariant.0 c.requires.fits small in
     search rules
 
-pub settle-requires : goal.settle-requires
-settle-requires g c =
+pub close_complete-requires : goal.close_complete-requires
+close_complete-requires g c =
     let n : Node = record { ty = c.ty.result; children = 1; content = c.args.content } in
     let b = around_by n c.args.part c.self.view_is c.self.invariant.0 c.requires.next c.ty.ensures
     c.requires.opened c.requires.leaf c.in_ok-content.ensures.ok in (
@@ -38,7 +38,7 @@ invariant_of-self-2 g c =
     c.requires.opened c.requires.leaf c.in_ok-content.ensures.ok in
     let closed = none_open c.self.inside.pool.list.items c.self.inside.open_run
     (ap (λ (x : Built). x.run) c.self.view_is ∙ c.requires.closed) in (
-      c.settle.ensures.settles.builds _ _ _
+      c.close_complete.ensures.settles.builds _ _ _
           (rw (
             c.advance.ensures,
             c.text_len.ensures,
@@ -48,7 +48,7 @@ invariant_of-self-2 g c =
           ) b.0),
       stays_exact _ _ _ _ _ _ _ closed c.self.invariant.1
           (rw (
-            c.settle.ensures.settles.kept,
+            c.close_complete.ensures.settles.kept,
             c.push_reserved-2.ensures.items,
             c.push_reserved.ensures.items,
             c.close.ensures,
@@ -56,8 +56,9 @@ invariant_of-self-2 g c =
           (around_kept c.args.self.now.walk c.self.inside.pool.list.items
           c.keep.new.pool.list.items c.self.inside.nodes.list.items n c.args.part c.args.leaf _
           (each (c.args.part.0 ∷ [])) c.requires.next c.in_ok-content.ensures.ok)),
-      rw c.settle.ensures.walk (settled_again c.advance.new.self),
-      settled_paid _ _ _ _ _ _ c.settle.ensures.settles c.settle.ensures.walk c.settle.ensures.turns
+      rw c.close_complete.ensures.walk (settled_again c.advance.new.self),
+      settled_paid _ _ _ _ _ _ c.close_complete.ensures.settles c.close_complete.ensures.walk
+          c.close_complete.ensures.turns
           (rw (
             c.advance.ensures,
             c.tick.ensures,
@@ -78,9 +79,9 @@ returns-clause-yes g c =
     (ap (λ (x : Built). x.run) c.self.view_is ∙ c.requires.closed) in
     λ _.
     rw (
-      c.settle.ensures.turns,
-      c.settle.ensures.walk,
-      c.settle.ensures.settles.entries,
+      c.close_complete.ensures.turns,
+      c.close_complete.ensures.walk,
+      c.close_complete.ensures.settles.entries,
       c.advance.ensures,
       c.tick.ensures,
       c.push_reserved-2.ensures.items,

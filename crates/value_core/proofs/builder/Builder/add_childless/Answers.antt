@@ -1,5 +1,5 @@
 use Rattle.std.proofs.Common.{◌∙◌, ◌+◌, ℕ, length, refl, ap, []}
-use Rattle.node_core.specs.Left.{left_of}
+use Rattle.node_core.specs.Remaining.{left_of}
 use Rattle.node_core.specs.Shown.{head_shown}
 use Rattle.node_core.specs.declared.node.Node.{Node}
 use Rattle.value_core.specs.Built.{Built}
@@ -7,8 +7,8 @@ use Rattle.value_core.proofs.AtOnce.{childless_by, childless_paid, childless_sho
 use Rattle.value_core.proofs.Closing.{none_open, settled_again, settled_paid, stays_exact}
 use Rattle.value_core.proofs.builder.Builder.add_childless.Goals as goal
 
-pub settle-requires : goal.settle-requires
-settle-requires g c =
+pub close_complete-requires : goal.close_complete-requires
+close_complete-requires g c =
     let n : Node =
     record { ty = c.ty.result; children = c.args.left.count; content = c.args.content } in
     let b = childless_by n (left_of c.args.self.now.walk.types c.args.left) c.self.view_is
@@ -27,7 +27,7 @@ invariant_of-self-2 g c =
     c.self.invariant.0 c.requires.next c.ty.ensures c.requires.opened c.requires.none in
     let closed = none_open c.self.inside.pool.list.items c.self.inside.open_run
     (ap (λ (x : Built). x.run) c.self.view_is ∙ c.requires.closed) in (
-      c.settle.ensures.settles.builds _ _ _
+      c.close_complete.ensures.settles.builds _ _ _
           (rw (
             c.advance.ensures,
             c.in_ok-append_node.ensures.ok,
@@ -36,7 +36,7 @@ invariant_of-self-2 g c =
           ) b.0),
       stays_exact _ _ _ _ _ _ _ closed c.self.invariant.1
           (rw (
-            c.settle.ensures.settles.kept,
+            c.close_complete.ensures.settles.kept,
             c.in_ok-append_node.ensures.ok,
             c.append_node.ensures.pool,
             c.close.ensures,
@@ -44,8 +44,9 @@ invariant_of-self-2 g c =
           (ap (λ (k : ℕ). k + length c.self.inside.pool.list.items)
           (sized_kept c.args.self.now.walk c.self.inside.nodes.list.items n 1
           (left_of c.args.self.now.walk.types c.args.left) c.requires.next))),
-      rw c.settle.ensures.walk (settled_again c.advance.new.self),
-      settled_paid _ _ _ _ _ _ c.settle.ensures.settles c.settle.ensures.walk c.settle.ensures.turns
+      rw c.close_complete.ensures.walk (settled_again c.advance.new.self),
+      settled_paid _ _ _ _ _ _ c.close_complete.ensures.settles c.close_complete.ensures.walk
+          c.close_complete.ensures.turns
           (rw (
             c.advance.ensures,
             c.in_ok-append_node.ensures.ok,
@@ -64,9 +65,9 @@ returns-clause-ok g c =
     let b = childless_by n p c.self.view_is c.self.invariant.0 c.requires.next c.ty.ensures
     c.requires.opened c.requires.none in
     rw (
-      c.settle.ensures.turns,
-      c.settle.ensures.walk,
-      c.settle.ensures.settles.entries,
+      c.close_complete.ensures.turns,
+      c.close_complete.ensures.walk,
+      c.close_complete.ensures.settles.entries,
       c.advance.ensures,
       c.in_ok-append_node.ensures.ok,
       c.append_node.ensures.pool,

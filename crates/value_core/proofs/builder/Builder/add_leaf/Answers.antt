@@ -5,8 +5,8 @@ use Rattle.value_core.proofs.Closing.{none_open, settled_again, settled_paid, st
 use Rattle.value_core.proofs.Leaves.{leaf_appended, texts_fit}
 use Rattle.value_core.proofs.builder.Builder.add_leaf.Goals as goal
 
-pub settle-requires : goal.settle-requires
-settle-requires g c =
+pub close_complete-requires : goal.close_complete-requires
+close_complete-requires g c =
     let l : IsNextLeaf c.self.inside.walk (leaf_head c.args.leaf) =
     subst (λ (b : Built). IsNextLeaf b.walk (leaf_head c.args.leaf)) (sym c.self.view_is)
     c.requires.next in
@@ -31,12 +31,13 @@ invariant_of-self-2 g c =
     c.ty-next.ensures c.in_ok-append.ensures.ok in
     let closed = none_open c.self.inside.pool.list.items c.self.inside.open_run
     (ap (λ (b : Built). b.run) c.self.view_is ∙ c.requires.closed) in (
-      c.settle.ensures.settles.builds _ _ _
+      c.close_complete.ensures.settles.builds _ _ _
           (rw (c.advance.ensures, c.text_len.ensures) with.builds),
       stays_exact _ _ _ _ _ _ _ closed c.self.invariant.1
-          (rw c.settle.ensures.settles.kept with.kept),
-      rw c.settle.ensures.walk (settled_again c.advance.new.self),
-      settled_paid _ _ _ _ _ _ c.settle.ensures.settles c.settle.ensures.walk c.settle.ensures.turns
+          (rw c.close_complete.ensures.settles.kept with.kept),
+      rw c.close_complete.ensures.walk (settled_again c.advance.new.self),
+      settled_paid _ _ _ _ _ _ c.close_complete.ensures.settles c.close_complete.ensures.walk
+          c.close_complete.ensures.turns
           (rw c.advance.ensures
           (with.paid c.self.inside.turns.so_far c.self.invariant.3)),
     )
@@ -53,9 +54,9 @@ returns-clause-ok g c =
     let closed = none_open c.self.inside.pool.list.items c.self.inside.open_run
     (ap (λ (b : Built). b.run) c.self.view_is ∙ c.requires.closed) in
     rw (
-      c.settle.ensures.turns,
-      c.settle.ensures.walk,
-      c.settle.ensures.settles.entries,
+      c.close_complete.ensures.turns,
+      c.close_complete.ensures.walk,
+      c.close_complete.ensures.settles.entries,
       c.advance.ensures,
       with.entries,
       l.next,

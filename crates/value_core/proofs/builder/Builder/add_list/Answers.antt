@@ -2,7 +2,7 @@ use Rattle.std.proofs.Common.{subst, sym}
 use Rattle.grammar_core.specs.Preorder.{branch}
 use Rattle.grammar_core.specs.Tree.{list}
 use Rattle.value_core.specs.Built.{IsNextOpen}
-use Rattle.node_core.specs.Left.{left_of}
+use Rattle.node_core.specs.Remaining.{left_of}
 use Rattle.value_core.specs.Opened.{OpensElements}
 use Rattle.value_core.specs.Walked.{Walked}
 use Rattle.value_core.proofs.NextOpen.{list_next}

@@ -1,6 +1,6 @@
 use Rattle.std.proofs.Common.{◌≡◌, ◌∙◌, ◌+◌, ℕ, sym, ap, subst, [], length}
 use Rattle.value_core.specs.Built.{Built, IsNextOpen}
-use Rattle.node_core.specs.Left.{left_of}
+use Rattle.node_core.specs.Remaining.{left_of}
 use Rattle.node_core.specs.Shown.{head_shown}
 use Rattle.node_core.specs.declared.node.Node.{Node}
 use Rattle.value_core.proofs.Ahead.{type_at}
@@ -9,8 +9,8 @@ use Rattle.value_core.proofs.Closing.{none_open, open_paid, settled_again, settl
 use Rattle.value_core.proofs.Closing.{stays_exact}
 use Rattle.value_core.proofs.builder.Builder.add_open.Goals as goal
 
-pub settle-requires : goal.settle-requires
-settle-requires g c =
+pub close_complete-requires : goal.close_complete-requires
+close_complete-requires g c =
     let l : IsNextOpen c.self.inside.walk (head_shown [] c.args.left.count c.args.content)
     (left_of c.self.inside.walk.types c.args.left) =
     subst (λ (b : Built). IsNextOpen b.walk (head_shown [] c.args.left.count c.args.content)
@@ -52,7 +52,7 @@ invariant_of-self-2 g c =
     (left_of c.self.inside.walk.types c.args.left) c.self.invariant.0 l at c.requires.opened in
     let closed = none_open c.self.inside.pool.list.items c.self.inside.open_run
     (ap (λ (b : Built). b.run) c.self.view_is ∙ c.requires.closed) in (
-      c.settle.ensures.settles.builds _ _ _
+      c.close_complete.ensures.settles.builds _ _ _
           (rw (
             c.in_ok-enter.ensures.ok,
             c.push_reserved.ensures.items,
@@ -62,7 +62,7 @@ invariant_of-self-2 g c =
           ) b),
       stays_exact _ _ _ _ _ _ _ closed c.self.invariant.1
           (rw (
-            c.settle.ensures.settles.kept,
+            c.close_complete.ensures.settles.kept,
             c.push_reserved.ensures.items,
             c.make_room.ensures.nodes,
             c.make_room.ensures.pool,
@@ -70,8 +70,9 @@ invariant_of-self-2 g c =
           (ap (λ (k : ℕ). k + length c.self.inside.pool.list.items)
           (open_kept c.self.inside.walk c.self.inside.nodes.list.items n
           (left_of c.self.inside.walk.types c.args.left) l))),
-      rw c.settle.ensures.walk (settled_again c.enter.new.self),
-      settled_paid _ _ _ _ _ _ c.settle.ensures.settles c.settle.ensures.walk c.settle.ensures.turns
+      rw c.close_complete.ensures.walk (settled_again c.enter.new.self),
+      settled_paid _ _ _ _ _ _ c.close_complete.ensures.settles c.close_complete.ensures.walk
+          c.close_complete.ensures.turns
           (rw (c.in_ok-enter.ensures.ok, c.push_reserved.ensures.items, c.make_room.ensures.nodes)
           (open_paid c.self.inside.walk c.self.inside.nodes.list.items n
           (length c.self.inside.nodes.list.items) c.self.inside.turns.so_far

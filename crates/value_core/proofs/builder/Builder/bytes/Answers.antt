@@ -1,5 +1,5 @@
 use Rattle.std.proofs.Common.{rules}
-use Rattle.scale_core.proofs.ReadForms.{are_bytes}
+use Rattle.scale_core.proofs.ReadModes.{are_bytes}
 use Rattle.widths_core.specs.declared.run_kind.RunKind.TheVariants as kind
 use Rattle.value_core.proofs.NextLeaf.{run_next}
 use Rattle.value_core.proofs.builder.Builder.bytes.Goals as goal

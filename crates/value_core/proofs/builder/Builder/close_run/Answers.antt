@@ -9,8 +9,8 @@ use Rattle.value_core.proofs.Leaves.{texts_kept}
 use Rattle.value_core.proofs.RunEnded.{run_ended}
 use Rattle.value_core.proofs.builder.Builder.close_run.Goals as goal
 
-pub settle-requires : goal.settle-requires
-settle-requires g c =
+pub close_complete-requires : goal.close_complete-requires
+close_complete-requires g c =
     let whole = subst (λ (b : Built). IfSome b.run (λ x. IsRunWhole b)) (sym c.self.view_is)
     c.requires.whole in
     let valid = subst (λ (b : Built). bad_text b.run ≡ None) (sym c.self.view_is)
@@ -33,17 +33,18 @@ invariant_of-self-2 g c =
     let b = run_ended c.self.inside.root.0 c.self.inside.walk c.self.inside.pool.list.items
     c.self.inside.nodes.list.items c.self.inside.text_len c.self.inside.open_run c.in-Some.open
     c.ty.result c.self.invariant.0 c.self.invariant.1 c.in-Some.is whole valid c.ty.ensures in (
-      c.settle.ensures.settles.builds _ _ _
+      c.close_complete.ensures.settles.builds _ _ _
           (rw (
             c.advance.ensures,
             c.in_ok-append_node.ensures.ok,
             c.append_node.ensures.pool,
             c.content.ensures,
           ) b.0),
-      c.settle.ensures.settles.kept
+      c.close_complete.ensures.settles.kept
           ∙ rw (c.in_ok-append_node.ensures.ok, c.append_node.ensures.pool, c.content.ensures) b.1,
-      rw c.settle.ensures.walk (settled_again c.advance.new.self),
-      settled_paid _ _ _ _ _ _ c.settle.ensures.settles c.settle.ensures.walk c.settle.ensures.turns
+      rw c.close_complete.ensures.walk (settled_again c.advance.new.self),
+      settled_paid _ _ _ _ _ _ c.close_complete.ensures.settles c.close_complete.ensures.walk
+          c.close_complete.ensures.turns
           (rw (c.advance.ensures, c.in_ok-append_node.ensures.ok, c.content.ensures)
           (leaf_paid c.self.inside.walk c.self.inside.nodes.list.items _ c.self.inside.turns.so_far
           c.self.invariant.3)),

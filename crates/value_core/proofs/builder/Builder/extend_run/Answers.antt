@@ -1,6 +1,6 @@
 use Rattle.std.proofs.Common.{◌∙◌, ◌≤◌, length, ap, sym, subst, refl}
 use Rattle.std.specs.Prelude.{IfOk, IsSome}
-use Rattle.scale_core.proofs.ReadForms.{are_bytes}
+use Rattle.scale_core.proofs.ReadModes.{are_bytes}
 use Rattle.value_core.specs.Built.{Built, with_piece}
 use Rattle.value_core.specs.Refusals.{missing_of}
 use Rattle.node_core.specs.Shown.{all_kept}

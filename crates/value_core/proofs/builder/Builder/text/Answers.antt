@@ -1,6 +1,6 @@
 use Rattle.std.proofs.Common.{rules, subst, sym}
 use Rattle.scale_core.specs.Number.{AreBytes}
-use Rattle.scale_core.proofs.ReadForms.{are_bytes}
+use Rattle.scale_core.proofs.ReadModes.{are_bytes}
 use Rattle.std.proofs.lemmas.Str.{is_utf8-from_IsUtf8}
 use Rattle.value_core.proofs.NextLeaf.{text_next}
 use Rattle.value_core.proofs.builder.Builder.text.Goals as goal

@@ -1,5 +1,5 @@
 use Rattle.std.proofs.Common.{rules}
-use Rattle.scale_core.proofs.ReadForms.{are_bytes}
+use Rattle.scale_core.proofs.ReadModes.{are_bytes}
 use Rattle.value_core.proofs.NextLeaf.{wide_next}
 use Rattle.value_core.proofs.builder.Builder.wide.Goals as goal
 

@@ -1,7 +1,7 @@
 use Rattle.std.proofs.Common.{◌∙◌, ap, sym, subst, arith, rules}
 use Rattle.widths_core.specs.Steps.{references_of}
 use Rattle.value_core.specs.Frames.{AreWithin}
-use Rattle.node_core.specs.Left.{left_of}
+use Rattle.node_core.specs.Remaining.{left_of}
 use Rattle.value_core.specs.Walked.{Walked}
 use Rattle.value_core.proofs.Members.{frames_popped, within_popped}
 use Rattle.value_core.proofs.walk.Walk.close.Goals as goal

@@ -2,7 +2,7 @@ use Rattle.std.proofs.Common.{◌+◌, ◌≤◌, length, sym, subst, arith}
 use Rattle.std.specs.Prelude.{IsSome}
 use Rattle.widths_core.specs.Steps.{references_of}
 use Rattle.value_core.specs.Frames.{frames_of}
-use Rattle.node_core.specs.Left.{IsWithin}
+use Rattle.node_core.specs.Remaining.{IsWithin}
 use Rattle.value_core.specs.Walked.{Walked, next_type}
 use Rattle.value_core.proofs.Members.{frames_counted, some_counted, within_append}
 use Rattle.value_core.proofs.walk.Walk.enter.Goals as goal

@@ -4,7 +4,7 @@ use Rattle.std.proofs.lemmas.List.{get_or_read, length-set}
 use Rattle.std.specs.Prelude.{slice_get}
 use Rattle.widths_core.specs.declared.class.Class.{Class}
 use Rattle.widths_core.specs.declared.class.Class.TheVariants as class
-use Rattle.widths_core.specs.declared.step.Step.{Step}
+use Rattle.widths_core.specs.declared.type_step.TypeStep.{TypeStep}
 use Rattle.widths_core.specs.ClassTables.{has_value, known_class}
 use Rattle.widths_core.specs.Completing.{without_value}
 use Rattle.widths_core.proofs.StepsOf.{finishes_kept, finishes_changed, finishes_all, get_at}
@@ -42,7 +42,7 @@ types-preserved c =
           let read : old ≡ get_or s.steps.items i old =
           get_or_read s.steps.items i old within w.index-then-not-has_value.ensures old in
           let at : slice_get s.steps.items i ≡ Some old = get_at s.steps.items i old within
-          ∙ ap (λ (y : Step). Some y) (sym read) in
+          ∙ ap (λ (y : TypeStep). Some y) (sym read) in
           rw (w.self-is, w.without_value.ensures) (
             finishes_changed classes xs s.steps.items _ i old h.0 none
                 at refl

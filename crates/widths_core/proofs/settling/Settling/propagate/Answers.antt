@@ -1,7 +1,7 @@
 use Rattle.std.proofs.Common.{◌≡◌, None, ap, ◌∙◌, arith}
 use Rattle.std.proofs.lemmas.List.{get_or_read}
 use Rattle.widths_core.specs.declared.class.Class.TheVariants as class
-use Rattle.widths_core.specs.declared.step.Step.TheVariants as step
+use Rattle.widths_core.specs.declared.type_step.TypeStep.TheVariants as step
 use Rattle.widths_core.specs.ClassTables.{known_class, known_target}
 use Rattle.widths_core.specs.Completing.{is_byte_step, step_at}
 use Rattle.widths_core.specs.Progress.{progress_of}

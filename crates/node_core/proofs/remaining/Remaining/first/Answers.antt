@@ -1,7 +1,7 @@
 use Rattle.std.proofs.Common.{◌≤◌, ◌<◌, ◌-◌, ◌∙◌, length, sym, arith, refl}
 use Rattle.std.proofs.lemmas.Option.{slice_get-get_or}
 use Rattle.node_core.proofs.Members.{first_left}
-use Rattle.node_core.proofs.left.Left.first.Goals as goal
+use Rattle.node_core.proofs.remaining.Remaining.first.Goals as goal
 
 pub returns : goal.returns
 returns c =

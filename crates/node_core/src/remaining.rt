@@ -2,15 +2,15 @@
 
 ghost use Rattle.std.specs.Prelude.{◌≡◌, ◌≤◌, ℕ, List, is_none};
 ghost use Rattle.grammar_core.specs.Parts.{first_of, left_after};
-ghost use Rattle.node_core.specs.Left.{left_by, copies_of, members_of, repeats, IsWithin};
-ghost use Rattle.node_core.specs.Left.{after_first, have_one_type};
+ghost use Rattle.node_core.specs.Remaining.{left_by, copies_of, members_of, repeats, IsWithin};
+ghost use Rattle.node_core.specs.Remaining.{after_first, have_one_type};
 
 use crate::node::Node;
 
 /// The parts of an open node that are still to come: so many, the last of these. Which types they have is said by numbers
 /// and not by an enum: these have no padding, which would be moved with them.
 #[derive(Clone, Copy)]
-pub struct Left {
+pub struct Remaining {
     pub count: u32,
     /// The type of all of them, by its number, where they have one.
     pub element: u32,
@@ -23,15 +23,15 @@ pub struct Left {
 #[derive(Clone, Copy)]
 pub struct Frame {
     pub node: usize,
-    pub left: Left,
+    pub left: Remaining,
 }
 
-impl Left {
+impl Remaining {
     /// A value of each of `count` references from number `from` on.
-    pub fn members(from: u32, count: u32) -> Left
+    pub fn members(from: u32, count: u32) -> Remaining
         ensures { result ≡ members_of from count }
     {
-        Left {
+        Remaining {
             count,
             element: 0,
             end: from as usize + count as usize + 1,
@@ -39,10 +39,10 @@ impl Left {
     }
 
     /// So many values of one type.
-    pub fn copies(count: u32, element: u32) -> Left
+    pub fn copies(count: u32, element: u32) -> Remaining
         ensures { result ≡ copies_of count element }
     {
-        Left {
+        Remaining {
             count,
             element,
             end: 0,
@@ -50,10 +50,10 @@ impl Left {
     }
 
     /// No values.
-    pub fn none() -> Left
+    pub fn none() -> Remaining
         ensures { result ≡ copies_of 0 0 }
     {
-        Left::copies(0, 0)
+        Remaining::copies(0, 0)
     }
 
     /// Is nothing left?
@@ -95,7 +95,7 @@ impl Left {
 
     /// The same, made anew.
     #[inline(always)]
-    pub fn advanced(self) -> Left
+    pub fn advanced(self) -> Remaining
         requires { 1 ≤ self.count }
         ensures left { (references : List ℕ) →
             left_by references result ≡ left_after (left_by references self) }

@@ -2,7 +2,7 @@
 
 ghost use Rattle.std.specs.Prelude.{◌≡◌};
 ghost use Rattle.graph_core.specs.Stops.{fault_in};
-ghost use Rattle.graph_core.specs.declared.stop.Stop.TheVariants.{Memory};
+ghost use Rattle.graph_core.specs.declared.link_stop.LinkStop.TheVariants.{Memory};
 
 use crate::fault::CheckFault;
 use registry_core::TypeId;
@@ -10,7 +10,7 @@ use std::alloc::{AllocError, AllocFailed};
 
 /// Why the linking of a type stopped.
 #[derive(Clone, Copy)]
-pub enum Stop {
+pub enum LinkStop {
     /// Memory was refused, or there are more references or counters than there are numbers for
     /// them.
     Memory,
@@ -18,14 +18,14 @@ pub enum Stop {
     Unknown(u32),
 }
 
-impl Stop {
+impl LinkStop {
     /// The same as a fault of the type at this position.
     pub fn in_type(self, position: u32) -> CheckFault
         ensures { result ≡ fault_in position self }
     {
         match self {
-            Stop::Memory => CheckFault::OutOfMemory,
-            Stop::Unknown(to) => CheckFault::UnknownType {
+            LinkStop::Memory => CheckFault::OutOfMemory,
+            LinkStop::Unknown(to) => CheckFault::UnknownType {
                 from: TypeId(position),
                 to: TypeId(to),
             },
@@ -33,18 +33,18 @@ impl Stop {
     }
 }
 
-impl From<AllocError> for Stop {
+impl From<AllocError> for LinkStop {
     ghost from_gives = { λ _ stop. stop ≡ Memory };
 
     fn from(_error: AllocError) -> Self {
-        Stop::Memory
+        LinkStop::Memory
     }
 }
 
-impl<T: Drop> From<AllocFailed<T>> for Stop {
+impl<T: Drop> From<AllocFailed<T>> for LinkStop {
     ghost from_gives = { λ _ stop. stop ≡ Memory };
 
     fn from(_error: AllocFailed<T>) -> Self {
-        Stop::Memory
+        LinkStop::Memory
     }
 }

@@ -1,4 +1,4 @@
--- The forms of compact integers: how long the shortest is, and that no other form of its length has
+-- The modes of compact integers: how long the shortest is, and that no other mode of its length has
 -- its number.
 use Rattle.std.proofs.Common.{◌≡◌, ℕ, zero, suc, ◌+◌, ◌-◌, ◌*◌, ◌/◌, ◌%◌, ◌^◌, ◌<◌, ◌≤◌, List, []}
 use Rattle.std.proofs.Common.{◌∷◌, length, refl, sym, ap, ◌∙◌, arith, inl, inr}
@@ -9,7 +9,7 @@ use Rattle.std.proofs.Math.Pow.{pow_mono}
 use Rattle.std.proofs.lemmas.Nat.{pow-add}
 use Rattle.scale_core.specs.Compact.{compact, bytes_needed, big_bytes}
 use Rattle.scale_core.specs.Number.{AreBytes, number, le_bytes}
-use Rattle.scale_core.specs.Read.{form_len, form_number}
+use Rattle.scale_core.specs.Read.{mode_len, mode_number}
 use Rattle.scale_core.proofs.Again.{form_of}
 use Rattle.scale_core.proofs.Numbers.{length-le_bytes, number_one, bytes_needed-le}
 use Rattle.scale_core.proofs.Numbers.{bytes_needed-enough}
@@ -37,7 +37,7 @@ bytes_needed-is w k n less ge h =
       ))
     ]
 
--- ---- the shortest form, and how long it is
+-- ---- the shortest mode, and how long it is
 
 -- a number below 64 is spelled in one byte, with the mark 0
 pub compact-one : (n : ℕ) → n < 64 → compact n ≡ 4 * n ∷ []
@@ -102,7 +102,7 @@ big_bytes-bits n r big ge h small =
     bytes_needed-is 16 k n (omega arith) (omega arith) (omega arith) in
     omega (arith, needed, bits-least n r big h)
 
--- ---- which form is the shortest
+-- ---- which mode is the shortest
 
 -- the bytes of a number, lowest first, are bytes
 pub are_le_bytes : (k n : ℕ) → AreBytes (le_bytes k n)
@@ -132,14 +132,14 @@ are_compact n = elim (cases_lt n 64) [
   ])
 ]
 
--- first bytes that name forms of one length have the same mark
-same_mode : (a b : ℕ) → form_len a ≡ form_len b → a % 4 ≡ b % 4
+-- first bytes that name modes of one length have the same mark
+same_mode : (a b : ℕ) → mode_len a ≡ mode_len b → a % 4 ≡ b % 4
 same_mode a b e = grind (arith, nat_tests)
 
--- a form is known by its length and its number
+-- a mode is known by its length and its number
 same_form : (a : ℕ) (s : List ℕ) (b : ℕ) (t : List ℕ) → AreBytes (a ∷ s) → AreBytes (b ∷ t) →
-    length (a ∷ s) ≡ form_len a → length (b ∷ t) ≡ form_len b →
-    form_len a ≡ form_len b → form_number (a ∷ s) ≡ form_number (b ∷ t) → a ∷ s ≡ b ∷ t
+    length (a ∷ s) ≡ mode_len a → length (b ∷ t) ≡ mode_len b →
+    mode_len a ≡ mode_len b → mode_number (a ∷ s) ≡ mode_number (b ∷ t) → a ∷ s ≡ b ∷ t
 same_form a s b t h k len len' one same =
     let mode = same_mode a b one in
     elim (cases_lt (a % 4) 3) [
@@ -159,12 +159,12 @@ same_form a s b t h k len len' one same =
           cc
     ]
 
--- a form as long as the spelling of its number is that spelling
-pub shortest_form : (a : ℕ) (s : List ℕ) (n : ℕ) → AreBytes (a ∷ s) → length (a ∷ s) ≡ form_len a →
-    n ≡ form_number (a ∷ s) → n < 2 ^ 128 →
-    length (compact n) ≡ form_len a → compact n ≡ a ∷ s
-shortest_form a s n h len value small same =
+-- a mode as long as the spelling of its number is that spelling
+pub shortest_mode : (a : ℕ) (s : List ℕ) (n : ℕ) → AreBytes (a ∷ s) → length (a ∷ s) ≡ mode_len a →
+    n ≡ mode_number (a ∷ s) → n < 2 ^ 128 →
+    length (compact n) ≡ mode_len a → compact n ≡ a ∷ s
+shortest_mode a s n h len value small same =
     let f = form_of n small in
     let spelled : AreBytes (f.0 ∷ f.1) = rw f.2.is at (are_compact n) in
-    let one : form_len f.0 ≡ form_len a = sym f.2.len ∙ ap length (sym f.2.is) ∙ same in
+    let one : mode_len f.0 ≡ mode_len a = sym f.2.len ∙ ap length (sym f.2.is) ∙ same in
     f.2.is ∙ same_form f.0 f.1 a s spelled h f.2.len len one (f.2.value ∙ value)

@@ -4,7 +4,7 @@ use Rattle.std.specs.Prelude.{Bool, true, false, Option, Some, None, slice_get}
 use Rattle.registry_core.specs.declared.type_info.TypeInfo.{TypeInfo}
 use Rattle.widths_core.specs.Steps.{references_of}
 use Rattle.grammar_core.specs.Parts.{Part, each, times}
-use Rattle.node_core.specs.declared.left.Left.{Left}
+use Rattle.node_core.specs.declared.remaining.Remaining.{Remaining}
 
 -- the reference, where it is there, and those that follow it
 abbrev pub followed_by : Option ℕ → List ℕ → List ℕ
@@ -22,24 +22,24 @@ abbrev pub parts_by : List ℕ → ℕ → ℕ → ℕ → Part
 parts_by refs n element zero = times n element
 parts_by refs n element (suc end) = each (members_before refs end n)
 
-abbrev pub left_by : List ℕ → Left → Part
+abbrev pub left_by : List ℕ → Remaining → Part
 left_by refs l = parts_by refs l.count l.element l.end
 
-abbrev pub left_of : List TypeInfo → Left → Part
+abbrev pub left_of : List TypeInfo → Remaining → Part
 left_of r l = left_by (references_of r) l
 
 -- the references whose types are left are there, so that as many parts come as are counted
-pub record IsWithin (refs : List ℕ) (l : Left) : Type 0 where
+pub record IsWithin (refs : List ℕ) (l : Remaining) : Type 0 where
   pub counted : 1 ≤ l.end → l.count < l.end
   pub there : l.end ≤ length refs + 1
 
 -- so many references from this number on
-abbrev pub members_of : ℕ → ℕ → Left
+abbrev pub members_of : ℕ → ℕ → Remaining
 members_of from count =
     record { count = count; element = 0; end = suc (from + count) }
 
 -- so many of one type
-abbrev pub copies_of : ℕ → ℕ → Left
+abbrev pub copies_of : ℕ → ℕ → Remaining
 copies_of count t = record { count = count; element = t; end = 0 }
 
 -- so many of one type are left, and at least one
@@ -47,7 +47,7 @@ abbrev pub repeats_by : ℕ → ℕ → Bool
 repeats_by (suc n) zero = true
 repeats_by _ _ = false
 
-abbrev pub repeats : Left → Bool
+abbrev pub repeats : Remaining → Bool
 repeats l = repeats_by l.count l.end
 
 -- how many values of one type follow the first of these, where they are so many of one type

@@ -20,7 +20,7 @@ pub(crate) struct Parts {
 ///
 /// Ids are given as their numbers. The numbers of references are those of `Checked::member`.
 #[derive(Clone, Copy, Debug, PartialEq, Eq)]
-pub enum Step {
+pub enum TypeStep {
     /// As an unsigned integer in its compact form, which fits the target; without a target there is
     /// none that fits.
     Compact(Option<Target>),
@@ -67,24 +67,24 @@ pub struct ArmStep {
     pub count: u32,
 }
 
-impl Step {
+impl TypeStep {
     /// The class of a type of this step.
     pub(crate) fn class(self) -> Class
         ensures { result ≡ class_of_step self }
     {
         match self {
-            Step::NoValue | Step::NoArm { .. } => Class::NoValue,
-            Step::Empty | Step::Compact(Some(Target::Unit)) => Class::Empty,
+            TypeStep::NoValue | TypeStep::NoArm { .. } => Class::NoValue,
+            TypeStep::Empty | TypeStep::Compact(Some(Target::Unit)) => Class::Empty,
             _ => Class::Sized,
         }
     }
 
     /// The step of an array of so many bytes, where this is the step of an array.
-    pub(crate) fn of_bytes(&self) -> Option<Step>
+    pub(crate) fn of_bytes(&self) -> Option<TypeStep>
         ensures { result ≡ of_bytes self.now }
     {
         match self {
-            Step::Array { len, .. } => Some(Step::ByteArray { len: *len }),
+            TypeStep::Array { len, .. } => Some(TypeStep::ByteArray { len: *len }),
             _ => None,
         }
     }
@@ -93,16 +93,16 @@ impl Step {
     pub(crate) fn is_byte(&self) -> bool
         ensures { result ≡ is_byte_step self.now }
     {
-        matches!(self, Step::Primitive(Primitive::U8))
+        matches!(self, TypeStep::Primitive(Primitive::U8))
     }
 
     /// The step of a type that turns out to have no value.
-    pub(crate) fn without_value(self) -> Step
+    pub(crate) fn without_value(self) -> TypeStep
         ensures { result ≡ without_value self }
     {
         match self {
-            Step::Arms { from, count } => Step::NoArm { from, count },
-            _ => Step::NoValue,
+            TypeStep::Arms { from, count } => TypeStep::NoArm { from, count },
+            _ => TypeStep::NoValue,
         }
     }
 
@@ -111,7 +111,10 @@ impl Step {
         ensures { result ≡ row_of_step self }
     {
         match self {
-            Step::Arms { from, count } | Step::NoArm { from, count } => Some(Parts { from, count }),
+            TypeStep::Arms { from, count } | TypeStep::NoArm { from, count } => Some(Parts {
+                from,
+                count,
+            }),
             _ => None,
         }
     }
@@ -121,19 +124,19 @@ impl Step {
         ensures { result ≡ compact_of_step self }
     {
         match self {
-            Step::Compact(target) => target,
+            TypeStep::Compact(target) => target,
             _ => None,
         }
     }
 }
 
 /// The step of a type, where it has one.
-pub(crate) fn step_of(steps: &[Step], at: u32) -> Option<Step>
+pub(crate) fn step_of(steps: &[TypeStep], at: u32) -> Option<TypeStep>
     ensures { result ≡ slice_get steps.now at }
 {
     steps.get(at as usize).copied()
 }
 
-const _: () = prove!(size_of::<Step>() == 12);
+const _: () = prove!(size_of::<TypeStep>() == 12);
 
 const _: () = prove!(size_of::<ArmStep>() == 12);

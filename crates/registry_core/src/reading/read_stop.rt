@@ -3,7 +3,7 @@
 ghost use Rattle.std.specs.Prelude.{◌≡◌, ◌≢◌, ◌≤◌, length, drop};
 ghost use Rattle.registry_core.specs.Gives.{IsFaultAt, IsWithin, fault_of};
 ghost use Rattle.registry_core.specs.Reading.{registry_reason_of};
-ghost use Rattle.registry_core.specs.declared.reading.stop.Stop.TheVariants.{Memory};
+ghost use Rattle.registry_core.specs.declared.reading.read_stop.ReadStop.TheVariants.{Memory};
 
 use crate::fault::{RegistryFault, RegistryReason};
 use scale_core::{Fault, Reason};
@@ -11,7 +11,7 @@ use std::alloc::{AllocError, AllocFailed};
 
 /// Why a part was not read.
 #[derive(Drop)]
-pub(crate) enum Stop<'a> {
+pub(crate) enum ReadStop<'a> {
     /// Memory was refused.
     Memory,
     /// The first fault, and the bytes from its place on.
@@ -32,15 +32,15 @@ fn registry_reason(reason: Reason) -> RegistryReason
     }
 }
 
-impl<'a> Stop<'a> {
+impl<'a> ReadStop<'a> {
     /// The fault of a length, an id or a text on the front of these bytes.
-    pub(crate) fn at_fault(fault: Fault, bytes: &'a [u8]) -> Stop<'a>
+    pub(crate) fn at_fault(fault: Fault, bytes: &'a [u8]) -> ReadStop<'a>
         requires within { fault.at ≤ length bytes.now }
         requires reason { (fault.reason ≢ Reason.BadBool) × (fault.reason ≢ Reason.BadChar) }
         ensures { IsFaultAt (registry_reason_of fault.reason) (drop fault.at bytes.now) result }
     {
         let left = &bytes[fault.at as usize..];
-        Stop::Fault(registry_reason(fault.reason), left)
+        ReadStop::Fault(registry_reason(fault.reason), left)
     }
 
     /// Why the reading of these bytes stopped, and where.
@@ -49,11 +49,11 @@ impl<'a> Stop<'a> {
         ensures { result ≡ fault_of (length bytes.now) self.entry }
     {
         match self {
-            Stop::Memory => RegistryFault {
+            ReadStop::Memory => RegistryFault {
                 reason: RegistryReason::OutOfMemory,
                 at: 0,
             },
-            Stop::Fault(reason, left) => RegistryFault {
+            ReadStop::Fault(reason, left) => RegistryFault {
                 reason,
                 at: (bytes.len() - left.len()) as u64,
             },
@@ -61,18 +61,18 @@ impl<'a> Stop<'a> {
     }
 }
 
-impl From<AllocError> for Stop<'_> {
+impl From<AllocError> for ReadStop<'_> {
     ghost from_gives = { λ _ stop. stop ≡ Memory };
 
     fn from(_error: AllocError) -> Self {
-        Stop::Memory
+        ReadStop::Memory
     }
 }
 
-impl<T: Drop> From<AllocFailed<T>> for Stop<'_> {
+impl<T: Drop> From<AllocFailed<T>> for ReadStop<'_> {
     ghost from_gives = { λ _ stop. stop ≡ Memory };
 
     fn from(_error: AllocFailed<T>) -> Self {
-        Stop::Memory
+        ReadStop::Memory
     }
 }
