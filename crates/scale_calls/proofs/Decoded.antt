@@ -9,16 +9,16 @@ use Rattle.registry_core.specs.declared.type_info.TypeInfo.{TypeInfo}
 use Rattle.grammar_core.specs.Tree.{Tree}
 use Rattle.node_core.specs.Shown.{Seen}
 use Rattle.decode_core.specs.Decoding.{FinishesDecoder, IsEnded}
-use Rattle.decode_core.specs.Outcome.{Job, Outcome, done, refused, more, too_long, IsOutcome}
-use Rattle.stream_core.specs.Streaming.{Forbids, IsOfJob, Joins, Trails}
+use Rattle.machine_core.specs.Outcome.{Job, Outcome, done, refused, more, too_long, IsOutcome}
+use Rattle.decode_core.specs.Streaming.{Forbids, IsOfJob, Joins, Trails}
 use Rattle.decode_core.specs.declared.fault.DecodeFault.{DecodeFault}
-use Rattle.decode_core.specs.declared.fault.DecodeReason.{DecodeReason}
-use Rattle.decode_core.specs.declared.fault.DecodeReason.TheVariants as reason
+use Rattle.machine_core.specs.declared.reason.DecodeReason.{DecodeReason}
+use Rattle.machine_core.specs.declared.reason.DecodeReason.TheVariants as reason
 use Rattle.decode_core.specs.declared.fault.OpenFault.{OpenFault}
 use Rattle.decode_core.specs.declared.fault.OpenFault.TheVariants as opening
-use Rattle.stream_core.specs.declared.pieces.PiecesFault.{PiecesFault}
-use Rattle.stream_core.specs.declared.pieces.PiecesFault.TheVariants as pieces
-use Rattle.decode_core.proofs.lists.Computed.{outcome_is_computed}
+use Rattle.decode_core.specs.declared.pieces.PiecesFault.{PiecesFault}
+use Rattle.decode_core.specs.declared.pieces.PiecesFault.TheVariants as pieces
+use Rattle.machine_core.proofs.lists.Computed.{outcome_is_computed}
 use Rattle.scale_calls.specs.Refused.{opening_refusal, pieces_refusal, value_refusal_by}
 use Rattle.scale_calls.specs.Values.{RefusesValue, value_in, whole}
 
@@ -82,31 +82,9 @@ reported_fault forbidden j b f none other h = (none, faulted j b f other h, h)
 by_reason : (r : DecodeReason) (forbidden : Option OpenFault) (j : Job) (b : List ℕ)
     (f : DecodeFault) → r ≡ f.reason → forbidden ≡ None → FinishesDecoder j b (Err f) →
     RefusesValue forbidden j b (value_refusal_by r f)
-by_reason reason.Truncated forbidden j b f is none h =
-    reported_fault forbidden j b f none (λ e. let bad = is ∙ e in cc) h
-by_reason reason.BadBool forbidden j b f is none h =
-    reported_fault forbidden j b f none (λ e. let bad = is ∙ e in cc) h
-by_reason reason.BadChar forbidden j b f is none h =
-    reported_fault forbidden j b f none (λ e. let bad = is ∙ e in cc) h
-by_reason reason.BadUtf8 forbidden j b f is none h =
-    reported_fault forbidden j b f none (λ e. let bad = is ∙ e in cc) h
-by_reason reason.CompactNotShortest forbidden j b f is none h =
-    reported_fault forbidden j b f none (λ e. let bad = is ∙ e in cc) h
-by_reason reason.CompactTooLarge forbidden j b f is none h =
-    reported_fault forbidden j b f none (λ e. let bad = is ∙ e in cc) h
-by_reason reason.NoSuchVariant forbidden j b f is none h =
-    reported_fault forbidden j b f none (λ e. let bad = is ∙ e in cc) h
-by_reason reason.TooDeep forbidden j b f is none h =
-    reported_fault forbidden j b f none (λ e. let bad = is ∙ e in cc) h
-by_reason reason.NoFiniteValue forbidden j b f is none h =
-    reported_fault forbidden j b f none (λ e. let bad = is ∙ e in cc) h
-by_reason reason.BitSequence forbidden j b f is none h =
-    reported_fault forbidden j b f none (λ e. let bad = is ∙ e in cc) h
-by_reason reason.BadCompact forbidden j b f is none h =
-    reported_fault forbidden j b f none (λ e. let bad = is ∙ e in cc) h
-by_reason reason.TooLong forbidden j b f is none h =
-    reported_fault forbidden j b f none (λ e. let bad = is ∙ e in cc) h
 by_reason reason.OutOfMemory forbidden j b f is none h = tt
+by_reason _ forbidden j b f is none h =
+    reported_fault forbidden j b f none (λ e. let bad = is ∙ e in cc) h
 
 -- what forbids a decoder is why the bytes are refused
 by_opening : (forbidden : Option OpenFault) (j : Job) (b : List ℕ) (f : OpenFault) →

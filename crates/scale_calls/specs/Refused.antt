@@ -5,12 +5,12 @@ use Rattle.registry_core.specs.declared.fault.RegistryReason.TheVariants as regi
 use Rattle.graph_core.specs.declared.fault.CheckFault.{CheckFault}
 use Rattle.graph_core.specs.declared.fault.CheckFault.TheVariants as check
 use Rattle.decode_core.specs.declared.fault.DecodeFault.{DecodeFault}
-use Rattle.decode_core.specs.declared.fault.DecodeReason.{DecodeReason}
-use Rattle.decode_core.specs.declared.fault.DecodeReason.TheVariants as reason
+use Rattle.machine_core.specs.declared.reason.DecodeReason.{DecodeReason}
+use Rattle.machine_core.specs.declared.reason.DecodeReason.TheVariants as reason
 use Rattle.decode_core.specs.declared.fault.OpenFault.{OpenFault}
 use Rattle.decode_core.specs.declared.fault.OpenFault.TheVariants as opening
-use Rattle.stream_core.specs.declared.pieces.PiecesFault.{PiecesFault}
-use Rattle.stream_core.specs.declared.pieces.PiecesFault.TheVariants as pieces
+use Rattle.decode_core.specs.declared.pieces.PiecesFault.{PiecesFault}
+use Rattle.decode_core.specs.declared.pieces.PiecesFault.TheVariants as pieces
 use Rattle.scale_calls.specs.declared.refusal.RegistryRefusal.{RegistryRefusal}
 use Rattle.scale_calls.specs.declared.refusal.RegistryRefusal.TheVariants as types
 use Rattle.scale_calls.specs.declared.refusal.ValueRefusal.{ValueRefusal}

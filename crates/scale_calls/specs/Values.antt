@@ -4,9 +4,9 @@ use Rattle.std.specs.Prelude.{option_map, Result, Ok, Err}
 use Rattle.grammar_core.specs.Tree.{Tree}
 use Rattle.node_core.specs.Shown.{Seen}
 use Rattle.json_core.specs.Json.{json_text}
-use Rattle.decode_core.specs.Outcome.{Job, Outcome, done, refused, more, too_long, outcome_of}
+use Rattle.machine_core.specs.Outcome.{Job, Outcome, done, refused, more, too_long, outcome_of}
 use Rattle.decode_core.specs.Decoding.{FinishesDecoder}
-use Rattle.stream_core.specs.Streaming.{Trails}
+use Rattle.decode_core.specs.Streaming.{Trails}
 use Rattle.decode_core.specs.declared.fault.OpenFault.{OpenFault}
 use Rattle.decode_core.specs.declared.fault.OpenFault.TheVariants as opening
 use Rattle.scale_calls.specs.declared.refusal.ValueRefusal.{ValueRefusal}

@@ -5,10 +5,9 @@ ghost use Rattle.scale_calls.specs.Refused.{check_refusal, opening_refusal, piec
 ghost use Rattle.scale_calls.specs.Refused.{registry_refusal, value_refusal};
 ghost use Rattle.scale_calls.specs.declared.refusal.ValueRefusal.TheVariants.{Memory};
 
-use decode_core::{DecodeFault, DecodeReason, OpenFault};
+use decode_core::{DecodeFault, DecodeReason, OpenFault, PiecesFault};
 use registry_core::{RegistryFault, RegistryReason};
 use std::alloc::AllocError;
-use stream_core::PiecesFault;
 use thiserror::Error;
 use widths_core::CheckFault;
 

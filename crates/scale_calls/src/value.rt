@@ -2,14 +2,14 @@
 
 ghost use Rattle.std.specs.Prelude.{string_bytes};
 ghost use Rattle.decode_core.specs.Decoding.{opening_fault};
-ghost use Rattle.stream_core.specs.Streaming.{job_of};
+ghost use Rattle.decode_core.specs.Streaming.{job_of};
 ghost use Rattle.scale_calls.specs.Values.{ReadsValue, ShowsValue};
 
 use crate::refusal::ValueRefusal;
+use decode_core::decode_pieces;
 use json_core::json_text;
 use registry_core::TypeId;
 use std::alloc::Global;
-use stream_core::decode_pieces;
 use value_core::{Limits, Value};
 use widths_core::Checked;
 

@@ -7,14 +7,12 @@ use Rattle.scale_calls.specs.Opened.{RefusesRegistry}
 use Rattle.scale_calls.specs.declared.refusal.RegistryRefusal.{RegistryRefusal}
 use Rattle.scale_calls.specs.declared.refusal.RegistryRefusal.TheVariants as types
 use Rattle.scale_tool.specs.Answer.{types_with}
-use Rattle.scale_tool.specs.Refused.{refusal_of_registry, refusal_of_value, status_of}
+use Rattle.scale_tool.specs.Refused.{IsRejected, refusal_of_registry, status_of}
 use Rattle.scale_tool.specs.Reported.{FaultsDecode, FaultsRegistry, Reports}
 use Rattle.scale_tool.specs.Reported.{Stands, in_metadata, refusal_line}
 use Rattle.scale_tool.specs.Values.{ReportsFile, decoding}
 use Rattle.scale_tool.specs.declared.refusal.Refusal.{Refusal}
 use Rattle.scale_tool.specs.declared.refusal.Refusal.TheVariants as refusal
-use Rattle.scale_tool.specs.declared.refusal.ValueRefusal.{ValueRefusal}
-use Rattle.scale_tool.specs.declared.refusal.ValueRefusal.TheVariants as value
 
 -- a registry's bytes are refused for the same reason with the flag of any job that has it
 same_flag : (known : Option (List ℕ)) (e : RegistryRefusal) (metadata flag : Bool) →
@@ -46,21 +44,22 @@ gathered_refused (Some b) metadata old new text e none all same h =
 
 -- a refusal of a value's file says this of the job
 pub value_faults : (known file : Option (List ℕ)) (metadata hex : Bool) (id depth : ℕ)
-    (found : List TypeInfo) (e : ValueRefusal) →
+    (found : List TypeInfo) (e : Refusal) →
     IfSome known (λ b. types_with metadata id b ≡ Some found) →
-    IfSome file (λ b. ReportsFile hex (decoding id depth found) b e) →
-    FaultsDecode metadata hex id depth known file (refusal_of_value e)
-value_faults known file metadata hex id depth found (value.Hex f) h r = (found, h, r)
-value_faults known file metadata hex id depth found (value.Fault f) h r = (found, h, r)
-value_faults known file metadata hex id depth found (value.TrailingBytes at) h r = (found, h, r)
-value_faults known file metadata hex id depth found value.Device h r = tt
-value_faults known file metadata hex id depth found value.Memory h r = tt
+    ReportsFile hex (decoding id depth found) file e →
+    FaultsDecode metadata hex id depth known file e
+value_faults known file metadata hex id depth found (refusal.Hex f) h r = (found, h, r)
+value_faults known file metadata hex id depth found (refusal.Value f) h r = (found, h, r)
+value_faults known file metadata hex id depth found (refusal.TrailingValue at) h r = (found, h, r)
+value_faults known file metadata hex id depth found refusal.ValueDevice h r = tt
+value_faults known file metadata hex id depth found refusal.Memory h r = tt
+value_faults known file metadata hex id depth found _ h r = absurd r
 
 -- where a refusal is answered and reported, or want of memory for its line, one is
 pub reports_refused : (Holds : Refusal → Type 0) (Sent : List ℕ → Type 0) (e : Refusal)
     (status : ℕ) → Holds e → Holds refusal.Memory →
     ((status ≡ status_of e) × Sent (refusal_line e))
-    ⊎ ((status_of e ≡ 1) × (status ≡ 4) × Sent (refusal_line refusal.Memory)) →
+    ⊎ (IsRejected e × (status ≡ 4) × Sent (refusal_line refusal.Memory)) →
     Reports Holds Sent status
 reports_refused Holds Sent e status h memory (inl own) = (e, own.0, h, own.1)
 reports_refused Holds Sent e status h memory (inr none) = (refusal.Memory, none.1, memory, none.2)
@@ -79,15 +78,4 @@ pub stands : (registry value out : Type 0) (Says : Refusal → Type 0) (e : Refu
 stands registry value out Says refusal.RegistryDevice r v o h = r refl
 stands registry value out Says refusal.ValueDevice r v o h = v refl
 stands registry value out Says refusal.OutputDevice r v o h = o refl
-stands registry value out Says (refusal.Registry f) r v o h =
-    says Says (refusal.Registry f) (λ is. cc) h
-stands registry value out Says (refusal.TrailingRegistry at) r v o h =
-    says Says (refusal.TrailingRegistry at) (λ is. cc) h
-stands registry value out Says (refusal.Check u) r v o h = says Says (refusal.Check u) (λ is. cc) h
-stands registry value out Says (refusal.UnknownType id) r v o h =
-    says Says (refusal.UnknownType id) (λ is. cc) h
-stands registry value out Says (refusal.Hex f) r v o h = says Says (refusal.Hex f) (λ is. cc) h
-stands registry value out Says (refusal.Value f) r v o h = says Says (refusal.Value f) (λ is. cc) h
-stands registry value out Says (refusal.TrailingValue at) r v o h =
-    says Says (refusal.TrailingValue at) (λ is. cc) h
-stands registry value out Says refusal.Memory r v o h = says Says refusal.Memory (λ is. cc) h
+stands registry value out Says e r v o h = says Says e (λ is. cc) h

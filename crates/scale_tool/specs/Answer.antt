@@ -26,7 +26,7 @@ line_of v = json_text v ++ 10 ∷ []
 -- the text of a value's file, where neither it nor the registry's is refused
 abbrev pub value_text : Bool → Bool → ℕ → ℕ → List ℕ → List ℕ → Option (List ℕ)
 value_text metadata hex id depth registry value =
-    option_and_then (λ types. option_map line_of (file_value hex id depth types value))
+    option_and_then (λ types. option_map line_of (file_value hex (decoding id depth types) value))
     (types_with metadata id registry)
 
 -- the text of a registry's types, where its bytes are not refused: the line of the version, where

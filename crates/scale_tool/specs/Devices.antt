@@ -4,7 +4,7 @@ use Rattle.std.specs.Io.KnownBytes.{Appends}
 use Rattle.scale_core.specs.Stream.{Watched, taken}
 use Rattle.scale_core.specs.declared.sink.SinkFault.{SinkFault}
 use Rattle.node_core.specs.Failed.{Meets, WriteOf}
-use Rattle.stream_core.specs.Streaming.{FailsAfter, ReadOf}
+use Rattle.decode_core.specs.Streaming.{FailsAfter, ReadOf}
 
 -- some reads gave bytes, or none was made, and the next one answered an error
 abbrev pub FailsReading : {R : Type 0} → ReadOf R → Watched R → Watched R → Type 0

@@ -3,10 +3,8 @@
 use Rattle.std.specs.Prelude.{◌≡◌, ◌≤◌, ℕ, List, [], ◌∷◌, ◌++◌, length, Bool, codes, decimal}
 use Rattle.std.specs.Prelude.{Option, Some, IfSome}
 use Rattle.registry_core.specs.declared.type_info.TypeInfo.{TypeInfo}
-use Rattle.registry_core.specs.declared.fault.RegistryReason.{RegistryReason}
-use Rattle.registry_core.specs.declared.fault.RegistryReason.TheVariants as registry
-use Rattle.decode_core.specs.declared.fault.DecodeReason.{DecodeReason}
-use Rattle.decode_core.specs.declared.fault.DecodeReason.TheVariants as decode
+use Rattle.registry_core.specs.Names as registry
+use Rattle.decode_core.specs.Names as decode
 use Rattle.scale_calls.specs.Opened.{RefusesRegistry, checked_of}
 use Rattle.scale_calls.specs.declared.refusal.RegistryRefusal.TheVariants as types
 use Rattle.scale_tool.specs.Answer.{types_with}
@@ -17,42 +15,10 @@ use Rattle.scale_tool.specs.declared.refusal.HexFault.{HexFault}
 use Rattle.scale_tool.specs.declared.refusal.HexFault.TheVariants as hex
 use Rattle.scale_tool.specs.declared.refusal.Refusal.{Refusal}
 use Rattle.scale_tool.specs.declared.refusal.Refusal.TheVariants as refusal
-use Rattle.scale_tool.specs.declared.refusal.ValueRefusal.{ValueRefusal}
-use Rattle.scale_tool.specs.declared.refusal.ValueRefusal.TheVariants as value
 use Rattle.scale_tool.specs.declared.task.Job.{Job}
 use Rattle.scale_tool.specs.declared.task.Job.TheVariants as job
 
 -- ---- lines
-
--- the name of a registry's reason
-abbrev pub registry_reason : RegistryReason → List ℕ
-registry_reason registry.Truncated = codes "Truncated"
-registry_reason registry.BadUtf8 = codes "BadUtf8"
-registry_reason registry.CompactNotShortest = codes "CompactNotShortest"
-registry_reason registry.CompactTooLarge = codes "CompactTooLarge"
-registry_reason registry.BadOption = codes "BadOption"
-registry_reason registry.BadDefinition = codes "BadDefinition"
-registry_reason registry.BadPrimitive = codes "BadPrimitive"
-registry_reason registry.IdOutOfPlace = codes "IdOutOfPlace"
-registry_reason registry.NotMetadata = codes "NotMetadata"
-registry_reason registry.WrongVersion = codes "WrongVersion"
-registry_reason registry.OutOfMemory = codes "OutOfMemory"
-
--- the name of a value's reason
-abbrev pub decode_reason : DecodeReason → List ℕ
-decode_reason decode.Truncated = codes "Truncated"
-decode_reason decode.BadBool = codes "BadBool"
-decode_reason decode.BadChar = codes "BadChar"
-decode_reason decode.BadUtf8 = codes "BadUtf8"
-decode_reason decode.CompactNotShortest = codes "CompactNotShortest"
-decode_reason decode.CompactTooLarge = codes "CompactTooLarge"
-decode_reason decode.NoSuchVariant = codes "NoSuchVariant"
-decode_reason decode.TooDeep = codes "TooDeep"
-decode_reason decode.NoFiniteValue = codes "NoFiniteValue"
-decode_reason decode.BitSequence = codes "BitSequence"
-decode_reason decode.BadCompact = codes "BadCompact"
-decode_reason decode.TooLong = codes "TooLong"
-decode_reason decode.OutOfMemory = codes "OutOfMemory"
 
 -- the line of a reason at a place in a part of the job
 abbrev pub placed_line : List ℕ → List ℕ → ℕ → List ℕ
@@ -66,7 +32,8 @@ hex_line (hex.Bad at) = placed_line (codes "value") (codes "BadHex") at
 
 -- the line of a refusal
 abbrev pub refusal_line : Refusal → List ℕ
-refusal_line (refusal.Registry f) = placed_line (codes "registry") (registry_reason f.reason) f.at
+refusal_line (refusal.Registry f) =
+    codes "scaleview: registry: " ++ (registry.fault_text f ++ 10 ∷ [])
 refusal_line (refusal.TrailingRegistry at) =
     placed_line (codes "registry") (codes "TrailingBytes") at
 refusal_line (refusal.Check unknown) = codes
@@ -75,7 +42,7 @@ refusal_line (refusal.Check unknown) = codes
 refusal_line (refusal.UnknownType id) =
     codes "scaleview: type: UnknownType " ++ decimal id ++ 10 ∷ []
 refusal_line (refusal.Hex f) = hex_line f
-refusal_line (refusal.Value f) = placed_line (codes "value") (decode_reason f.reason) f.at
+refusal_line (refusal.Value f) = codes "scaleview: value: " ++ (decode.fault_text f ++ 10 ∷ [])
 refusal_line (refusal.TrailingValue at) = placed_line (codes "value") (codes "TrailingBytes") at
 refusal_line refusal.RegistryDevice = device_line device.Registry
 refusal_line refusal.ValueDevice = device_line device.Value
@@ -95,12 +62,12 @@ LacksType (job.Types metadata) at registry = ⊥
 LacksType (job.Decode id metadata hex depth) at registry = (at ≡ id) × ((types : List TypeInfo)
     × (checked_of metadata registry ≡ Some types) × (length types ≤ id))
 
--- the registry is not refused, and the value's bytes are, for this reason
-abbrev pub FaultsValue : Job → Option (List ℕ) → Option (List ℕ) → ValueRefusal → Type 0
+-- the registry is not refused, and the value's file is, for this reason
+abbrev pub FaultsValue : Job → Option (List ℕ) → Option (List ℕ) → Refusal → Type 0
 FaultsValue (job.Types metadata) registry value e = ⊥
 FaultsValue (job.Decode id metadata hex depth) registry value e = (types : List TypeInfo)
     × IfSome registry (λ r. types_with metadata id r ≡ Some types)
-    × IfSome value (λ file. ReportsFile hex (decoding id depth types) file e)
+    × ReportsFile hex (decoding id depth types) value e
 
 -- what a refusal says of the bytes of the registry and the value, where these are known
 abbrev pub Faults : Job → Option (List ℕ) → Option (List ℕ) → Refusal → Type 0
@@ -111,10 +78,9 @@ Faults j r v (refusal.TrailingRegistry at) =
 Faults j r v (refusal.Check unknown) =
     IfSome r (λ b. RefusesRegistry (in_metadata j) b (types.Check unknown))
 Faults j r v (refusal.UnknownType at) = IfSome r (LacksType j at)
-Faults j r v (refusal.Hex f) = FaultsValue j r v (value.Hex f)
-Faults j r v (refusal.Value f) = FaultsValue j r v (value.Fault f)
-Faults j r v (refusal.TrailingValue at) =
-    FaultsValue j r v (value.TrailingBytes at)
+Faults j r v (refusal.Hex f) = FaultsValue j r v (refusal.Hex f)
+Faults j r v (refusal.Value f) = FaultsValue j r v (refusal.Value f)
+Faults j r v (refusal.TrailingValue at) = FaultsValue j r v (refusal.TrailingValue at)
 Faults j r v refusal.RegistryDevice = Unit {0}
 Faults j r v refusal.ValueDevice = Unit {0}
 Faults j r v refusal.OutputDevice = ⊥
@@ -141,14 +107,7 @@ abbrev pub Stands : Type 0 → Type 0 → Type 0 → (Refusal → Type 0) → Re
 Stands registry value out Says refusal.RegistryDevice = registry
 Stands registry value out Says refusal.ValueDevice = value
 Stands registry value out Says refusal.OutputDevice = out
-Stands registry value out Says (refusal.Registry f) = Says (refusal.Registry f)
-Stands registry value out Says (refusal.TrailingRegistry at) = Says (refusal.TrailingRegistry at)
-Stands registry value out Says (refusal.Check unknown) = Says (refusal.Check unknown)
-Stands registry value out Says (refusal.UnknownType id) = Says (refusal.UnknownType id)
-Stands registry value out Says (refusal.Hex f) = Says (refusal.Hex f)
-Stands registry value out Says (refusal.Value f) = Says (refusal.Value f)
-Stands registry value out Says (refusal.TrailingValue at) = Says (refusal.TrailingValue at)
-Stands registry value out Says refusal.Memory = Says refusal.Memory
+Stands registry value out Says e = Says e
 
 -- the status is that of one refusal, of which this holds, and whose line was sent
 abbrev pub Reports : (Refusal → Type 0) → (List ℕ → Type 0) → ℕ → Type 0

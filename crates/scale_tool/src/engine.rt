@@ -3,12 +3,12 @@
 ghost use Rattle.std.specs.Prelude.{◌≡◌, ◌≤◌, ◌⊎◌, List, true, None, Some, IfOk, IfErr, IfSome};
 ghost use Rattle.std.specs.Prelude.{IsErrOf, OnOk, string_bytes};
 ghost use Rattle.registry_core.specs.declared.type_info.TypeInfo.{TypeInfo};
-ghost use Rattle.stream_core.specs.Streaming.{FailsAfter};
+ghost use Rattle.decode_core.specs.Streaming.{FailsAfter};
 ghost use Rattle.scale_tool.specs.Answer.{HasJobType, IsServed, OnText, ReadsNoValue, StopsJob};
 ghost use Rattle.scale_tool.specs.Answer.{StopsValue, WritesAll, WritesFront, line_of, types_text};
 ghost use Rattle.scale_tool.specs.Answer.{types_with, value_text};
 ghost use Rattle.scale_tool.specs.Devices.{FailsReading, FailsWriting, Sends};
-ghost use Rattle.scale_tool.specs.Refused.{status_of};
+ghost use Rattle.scale_tool.specs.Refused.{IsDevice, IsRejected, status_of};
 ghost use Rattle.scale_tool.specs.Reported.{Faults, FaultsDecode, FaultsRegistry, Reports, Stands};
 ghost use Rattle.scale_tool.specs.Reported.{refusal_line};
 
@@ -40,10 +40,10 @@ fn types_text<R: ReadOnce>(
 ) -> Result<String, Refusal>
     ensures ok { IfOk result (λ text. IfSome (R.remaining registry.old.device)
         (λ r. types_text metadata r ≡ Some (string_bytes text))) }
-    ensures refused { IfErr result (λ e. status_of e ≡ 1 →
+    ensures refused { IfErr result (λ e. IsRejected e →
         IfSome (R.remaining registry.old.device) (λ r. types_text metadata r ≡ None)) }
     ensures faults { IfErr result (FaultsRegistry metadata (R.remaining registry.old.device)) }
-    ensures device { IfErr result (λ e. status_of e ≡ 3 → e ≡ Refusal.RegistryDevice) }
+    ensures device { IfErr result (λ e. IsDevice e → e ≡ Refusal.RegistryDevice) }
     ensures reported { IsErrOf result Refusal.RegistryDevice →
         FailsReading R.reads registry.old registry.new }
     ensures quiet { IsErrOf result Refusal.RegistryDevice
@@ -69,7 +69,7 @@ fn value_text<R: ReadOnce, V: ReadOnce>(
     ensures ok { IfOk result (λ text. IfSome (R.remaining registry.old.device)
         (λ r. IfSome (V.remaining value.old.device)
         (λ v. value_text metadata hex id depth r v ≡ Some (string_bytes text)))) }
-    ensures refused { IfErr result (λ e. status_of e ≡ 1 →
+    ensures refused { IfErr result (λ e. IsRejected e →
         IfSome (R.remaining registry.old.device) (λ r. IfSome (V.remaining value.old.device)
         (λ v. value_text metadata hex id depth r v ≡ None))) }
     ensures faults { IfErr result (FaultsDecode metadata hex id depth
@@ -102,7 +102,7 @@ fn answer<R: ReadOnce, V: ReadOnce>(
     requires { IsServed job }
     ensures ok { IfOk result (λ text. OnText job (R.remaining registry.old.device)
         (V.remaining value.old.device) (λ t. t ≡ Some (string_bytes text))) }
-    ensures refused { IfErr result (λ e. status_of e ≡ 1 →
+    ensures refused { IfErr result (λ e. IsRejected e →
         OnText job (R.remaining registry.old.device) (V.remaining value.old.device)
         (λ t. t ≡ None)) }
     ensures faults { IfErr result
@@ -143,7 +143,7 @@ fn serve<R: ReadOnce, V: ReadOnce, W: WriteOnce>(
     ensures done { OnOk result
         (OnText job (R.remaining registry.old.device) (V.remaining value.old.device)
         (λ text. WritesAll text (W.contents out.old.device) (W.contents out.new.device))) }
-    ensures refused { IfErr result (λ e. status_of e ≡ 1 →
+    ensures refused { IfErr result (λ e. IsRejected e →
         OnText job (R.remaining registry.old.device) (V.remaining value.old.device)
         (λ text. text ≡ None)) }
     ensures faults { IfErr result (λ e. (e ≡ Refusal.OutputDevice)
@@ -178,7 +178,7 @@ fn serve<R: ReadOnce, V: ReadOnce, W: WriteOnce>(
 fn refuse<E: WriteOnce>(alloc: Global, refusal: Refusal, err: &mut Sink<E>) -> u8
     ensures { ((result ≡ status_of refusal)
         × Sends E.writes E.contents err.old err.new (refusal_line refusal))
-        ⊎ ((status_of refusal ≡ 1) × (result ≡ 4)
+        ⊎ (IsRejected refusal × (result ≡ 4)
         × Sends E.writes E.contents err.old err.new (refusal_line Refusal.Memory)) }
 {
     if let Some(line) = refusal.fixed_line() {

@@ -3,7 +3,7 @@
 ghost use Rattle.std.specs.Prelude.{◌≡◌, ◌+◌, ◌++◌, ◌<◌, ◌≤◌, ◌⊎◌, true, length, vec_len, IfOk};
 ghost use Rattle.std.specs.Prelude.{IfSome, OnOk, IsErrOf, Some};
 ghost use Rattle.std.specs.Io.KnownBytes.{IsAtEnd};
-ghost use Rattle.stream_core.specs.Streaming.{FailsAt};
+ghost use Rattle.decode_core.specs.Streaming.{FailsAt};
 ghost use Rattle.scale_tool.specs.Devices.{FailsReading};
 ghost use Rattle.scale_tool.specs.Moved.{LeavesReader};
 

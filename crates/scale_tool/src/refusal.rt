@@ -2,14 +2,12 @@
 //! standard error and the exit status.
 
 ghost use Rattle.std.specs.Prelude.{◌≡◌, IfNone, IfSome};
-ghost use Rattle.scale_tool.specs.Refused.{device_line, refusal_of_registry};
-ghost use Rattle.scale_tool.specs.Refused.{refusal_of_value, bytes_refusal, hex_in_value};
-ghost use Rattle.scale_tool.specs.Refused.{bytes_in_value, gathered_refusal, status_of};
+ghost use Rattle.scale_tool.specs.Refused.{device_line, refusal_of_hex, refusal_of_registry};
+ghost use Rattle.scale_tool.specs.Refused.{IsRejected, status_of};
 ghost use Rattle.scale_tool.specs.Reported.{refusal_line};
 ghost use Rattle.scale_tool.specs.declared.refusal.Refusal.TheVariants.{Memory};
 
-use crate::gathering::GatherFault;
-use decode_core::{DecodeFault, DecodeReason};
+use decode_core::DecodeFault;
 use registry_core::RegistryFault;
 use scale_calls::{RegistryRefusal, UnknownReference};
 use std::alloc::AllocError;
@@ -50,77 +48,6 @@ pub(crate) enum HexRefusal {
     Fault(HexFault),
     /// Memory was refused.
     Memory,
-}
-
-/// Why bytes that are all there are no value of a type of the registry.
-#[derive(Clone, Copy)]
-pub(crate) enum BytesRefusal {
-    /// The first fault of the bytes.
-    Fault(DecodeFault),
-    /// Bytes follow the value, which has so many.
-    TrailingBytes(u64),
-    /// Memory was refused.
-    Memory,
-}
-
-impl From<DecodeFault> for BytesRefusal {
-    ghost from_gives = { λ f r. r ≡ bytes_refusal f };
-
-    fn from(fault: DecodeFault) -> BytesRefusal {
-        match fault.reason {
-            DecodeReason::OutOfMemory => BytesRefusal::Memory,
-            _ => BytesRefusal::Fault(fault),
-        }
-    }
-}
-
-/// Why a value's file gives no value of a type of the registry.
-#[derive(Clone, Copy)]
-pub(crate) enum ValueRefusal {
-    /// The file is to hold digits, and does not.
-    Hex(HexFault),
-    /// The first fault of the value's bytes.
-    Fault(DecodeFault),
-    /// Bytes follow the value, which has so many.
-    TrailingBytes(u64),
-    /// A read failed.
-    Device,
-    /// Memory was refused.
-    Memory,
-}
-
-impl From<HexRefusal> for ValueRefusal {
-    ghost from_gives = { λ f r. r ≡ hex_in_value f };
-
-    fn from(refusal: HexRefusal) -> ValueRefusal {
-        match refusal {
-            HexRefusal::Fault(fault) => ValueRefusal::Hex(fault),
-            HexRefusal::Memory => ValueRefusal::Memory,
-        }
-    }
-}
-
-impl From<BytesRefusal> for ValueRefusal {
-    ghost from_gives = { λ f r. r ≡ bytes_in_value f };
-
-    fn from(refusal: BytesRefusal) -> ValueRefusal {
-        match refusal {
-            BytesRefusal::Fault(fault) => ValueRefusal::Fault(fault),
-            BytesRefusal::TrailingBytes(at) => ValueRefusal::TrailingBytes(at),
-            BytesRefusal::Memory => ValueRefusal::Memory,
-        }
-    }
-}
-
-impl From<GatherFault> for ValueRefusal {
-    ghost from_gives = { λ f r. r ≡ gathered_refusal f };
-
-    fn from(fault: GatherFault) -> ValueRefusal {
-        match fault {
-            GatherFault::Device => ValueRefusal::Device,
-            GatherFault::Memory => ValueRefusal::Memory,
-        }
-    }
 }
 
 /// Why there is no answer.
@@ -165,7 +92,7 @@ impl Refusal {
     /// The line of a device or of want of memory, for which no memory may be left.
     pub(crate) fn fixed_line(self) -> Option<&'static str>
         ensures line { IfSome result (λ line. line.now ≡ refusal_line self) }
-        ensures none { IfNone result (status_of self ≡ 1) }
+        ensures none { IfNone result (IsRejected self) }
     {
         match self {
             Refusal::RegistryDevice => Some(Device::Registry.line()),
@@ -190,16 +117,13 @@ impl From<RegistryRefusal> for Refusal {
     }
 }
 
-impl From<ValueRefusal> for Refusal {
-    ghost from_gives = { λ f r. r ≡ refusal_of_value f };
+impl From<HexRefusal> for Refusal {
+    ghost from_gives = { λ f r. r ≡ refusal_of_hex f };
 
-    fn from(refusal: ValueRefusal) -> Refusal {
+    fn from(refusal: HexRefusal) -> Refusal {
         match refusal {
-            ValueRefusal::Hex(fault) => Refusal::Hex(fault),
-            ValueRefusal::Fault(fault) => Refusal::Value(fault),
-            ValueRefusal::TrailingBytes(at) => Refusal::TrailingValue(at),
-            ValueRefusal::Device => Refusal::ValueDevice,
-            ValueRefusal::Memory => Refusal::Memory,
+            HexRefusal::Fault(fault) => Refusal::Hex(fault),
+            HexRefusal::Memory => Refusal::Memory,
         }
     }
 }

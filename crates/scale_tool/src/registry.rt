@@ -5,7 +5,7 @@ ghost use Rattle.std.specs.Prelude.{IfSome, IsErrOf};
 ghost use Rattle.scale_calls.specs.Opened.{RefusesRegistry, checked_of, file_version};
 ghost use Rattle.scale_tool.specs.Answer.{types_with, with_position};
 ghost use Rattle.scale_tool.specs.Devices.{FailsReading};
-ghost use Rattle.scale_tool.specs.Refused.{status_of, status_of_registry};
+ghost use Rattle.scale_tool.specs.Refused.{IsDevice, IsRejected, status_of, status_of_registry};
 ghost use Rattle.scale_tool.specs.Reported.{FaultsRegistry, FaultsType};
 
 use crate::gathering::{GatherFault, gather_all};
@@ -41,10 +41,10 @@ pub(crate) fn read_types<R: ReadOnce>(
         (λ bytes. checked_of metadata bytes ≡ Some x.0.types)) }
     ensures version { IfOk result
         (λ x. IfSome (R.remaining source.old.device) (λ bytes. file_version metadata bytes ≡ x.1)) }
-    ensures refused { IfErr result (λ e. status_of e ≡ 1 →
+    ensures refused { IfErr result (λ e. IsRejected e →
         IfSome (R.remaining source.old.device) (λ bytes. checked_of metadata bytes ≡ None)) }
     ensures faults { IfErr result (FaultsRegistry metadata (R.remaining source.old.device)) }
-    ensures device { IfErr result (λ e. status_of e ≡ 3 → e ≡ Refusal.RegistryDevice) }
+    ensures device { IfErr result (λ e. IsDevice e → e ≡ Refusal.RegistryDevice) }
     ensures reported { IsErrOf result Refusal.RegistryDevice →
         FailsReading R.reads source.old source.new }
     ensures quiet { IsErrOf result Refusal.RegistryDevice
@@ -80,10 +80,10 @@ pub(crate) fn read_types_with<R: ReadOnce>(
     ensures known { IfOk result (λ types. id < length types.types) }
     ensures ok { IfOk result (λ types. IfSome (R.remaining source.old.device)
         (λ bytes. types_with metadata id bytes ≡ Some types.types)) }
-    ensures refused { IfErr result (λ e. status_of e ≡ 1 →
+    ensures refused { IfErr result (λ e. IsRejected e →
         IfSome (R.remaining source.old.device) (λ bytes. types_with metadata id bytes ≡ None)) }
     ensures faults { IfErr result (FaultsType metadata id (R.remaining source.old.device)) }
-    ensures device { IfErr result (λ e. status_of e ≡ 3 → e ≡ Refusal.RegistryDevice) }
+    ensures device { IfErr result (λ e. IsDevice e → e ≡ Refusal.RegistryDevice) }
     ensures reported { IsErrOf result Refusal.RegistryDevice →
         FailsReading R.reads source.old source.new }
     ensures quiet { IsErrOf result Refusal.RegistryDevice

@@ -1,5 +1,5 @@
 use Rattle.std.proofs.Common.{rules, arith, ◌-◌, ◌++◌, [], refl, suc, take, vec_len}
-use Rattle.stream_core.proofs.Streaming.{gives_next}
+use Rattle.decode_core.proofs.Streaming.{gives_next}
 use Rattle.scale_tool.proofs.Moves.{takes_next, takes_all}
 use Rattle.scale_tool.proofs.gathering.gather_all.Goals as goal
 

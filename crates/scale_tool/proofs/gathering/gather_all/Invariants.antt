@@ -1,5 +1,5 @@
 use Rattle.std.proofs.Common.{◌≡◌, ◌-◌, ◌≤◌, ◌^◌, ℕ, List, vec_len}
-use Rattle.stream_core.specs.Streaming.{Gives}
+use Rattle.decode_core.specs.Streaming.{Gives}
 use Rattle.scale_tool.specs.Moved.{LeavesReader}
 use Rattle.scale_tool.proofs.gathering.gather_all.Given as goal
 
