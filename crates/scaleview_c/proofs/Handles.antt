@@ -21,7 +21,7 @@ use Rattle.std_heap.proofs.GlobalToken.{dealloc_token-Testable}
 use Rattle.std_alloc.specs.Box.Ownership.{box_owns}
 use Rattle.std_heap.specs.declared.Global.{Global}
 use Rattle.scaleview_c.specs.Owned.{owned, heap_token}
-use Rattle.scaleview_c.specs.contracts.held.Held.{the_row as R}
+use Rattle.scaleview_c.specs.contracts.resource.Resource.{the_row as R}
 use Rattle.scaleview_c.specs.contracts.handle.Handle as handle
 
 abbrev pub word : ℕ → ℕ → Val

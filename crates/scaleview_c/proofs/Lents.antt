@@ -11,7 +11,7 @@ use denote.RawPtr.{Ptr, block_ptr, null_ptr, ptr_val, in_a_block, Testable}
 use denote.Struct.Lending.{lent_at}
 use Rattle.scaleview_c.proofs.Handles.{word, null_word}
 use Rattle.scaleview_c.specs.Owned.{lent}
-use Rattle.scaleview_c.specs.contracts.held.Held.{the_row as R}
+use Rattle.scaleview_c.specs.contracts.resource.Resource.{the_row as R}
 use Rattle.scaleview_c.specs.contracts.lent.Lent as lents
 
 module _ {M : Type 1} {𝓤 : Ura M} {𝓛 : Logic 𝓤} {K : Type 0} {Γ : List (Item 𝓤)}

@@ -25,15 +25,15 @@ use Rattle.core.proofs.alloc.Calls.{Al, handle_tells}
 use Rattle.core.proofs.cell.Inside.{Good}
 use Rattle.std_alloc.specs.Box.Ownership.{box_owns}
 use Rattle.std_alloc.proofs.ResultValues.{and_tt}
-use Rattle.scaleview_c.specs.contracts.parts.Parts as parts
+use Rattle.scaleview_c.specs.contracts.box_parts.BoxParts as parts
 
 -- a struct of two fields
 abbrev pub pair : Val → Val → Val
 pair v w = vstruct (vcons v (vcons w vnil))
 
 module _ (R Z : RattleType) (L : Laws Z) (g : Ghosts Z.Denot) where
-  abbrev pub PartsRow : RattleType
-  PartsRow = parts.the_row R Z g
+  abbrev pub BoxPartsRow : RattleType
+  BoxPartsRow = parts.the_row R Z g
 
   abbrev allocator : Al
   allocator = record { row = Z; laws = L; g = g; d = impl [] tnil dnil; drops = impl [] tnil dnil }
@@ -50,11 +50,11 @@ module _ (R Z : RattleType) (L : Laws Z) (g : Ghosts Z.Denot) where
   module _ {M : Type 1} {𝓤 : Ura M} {𝓛 : Logic 𝓤} {K : Type 0} {Γ : List (Item 𝓤)}
       {G : Goal 𝓤 𝓛.H} where
     -- the parts are a pointer that is not null, the allocator's bits, and what the box owns
-    pub parts_out : K → (d : PartsRow.Denot) (vs : List Val)
+    pub parts_out : K → (d : BoxPartsRow.Denot) (vs : List Val)
         → ((b o : ℕ) (h : Val) → d.at ≡ block_ptr b o → vs ≡ pair (vptr b o) h ∷ [] →
         Good (layout Z) h
         → Seq K 𝓛 (‵ (Owns d.alloc (block_ptr b o) d.held) ∷ ‵ (Z.own_val d.alloc (h ∷ [])) ∷ Γ) G)
-        → Seq K 𝓛 (‵ (PartsRow.own_val d vs) ∷ Γ) G
+        → Seq K 𝓛 (‵ (BoxPartsRow.own_val d vs) ∷ Γ) G
     parts_out t d vs next =
         let fields : Val → Val → List Val = λ p h. vstruct (of_list (p ∷ h ∷ [])) ∷ [] in
         fsplit t $ fpick t (λ vss. fsplit t $
@@ -72,7 +72,7 @@ module _ (R Z : RattleType) (L : Laws Z) (g : Ghosts Z.Denot) where
 
     -- of a pointer, an allocator and what the box at the pointer owns, parts can be made
     pub parts_in : K → (b o : ℕ) (h : Val) (a : Z.Denot) (x : R.Denot)
-        → Step K 𝓛 (‵ (PartsRow.own_val (record { at = block_ptr b o; alloc = a; held = x })
+        → Step K 𝓛 (‵ (BoxPartsRow.own_val (record { at = block_ptr b o; alloc = a; held = x })
         (pair (vptr b o) h ∷ [])) ∷ Γ) G
         (‵ (Owns a (block_ptr b o) x) ∷ ‵ (Z.own_val a (h ∷ [])) ∷ Γ) G
     parts_in t b o h a x = step (λ rest.

@@ -5,10 +5,10 @@ use Rattle.grammar_core.specs.declared.limits.Limits.{Limits}
 use Rattle.node_core.specs.Shown.{Seen}
 use Rattle.json_core.specs.Json.{json_text}
 use Rattle.json_core.specs.Printed.{IsInFront}
-use Rattle.decode_core.specs.Outcome.{Job}
+use Rattle.machine_core.specs.Outcome.{Job}
 use Rattle.decode_core.specs.Decoding.{AnswersPiece, Decoding, FinishesDecoder, Led, first_of_all}
 use Rattle.decode_core.specs.Decoding.{opening_fault}
-use Rattle.stream_core.specs.Streaming.{job_of}
+use Rattle.decode_core.specs.Streaming.{job_of}
 use Rattle.decode_core.specs.declared.decoder.Progress.{Progress}
 use Rattle.decode_core.specs.declared.fault.DecodeFault.{DecodeFault}
 use Rattle.decode_core.specs.declared.fault.OpenFault.{OpenFault}
@@ -22,8 +22,8 @@ use Rattle.scale_calls.specs.declared.refusal.ValueRefusal.TheVariants as value
 use Rattle.scaleview_c.specs.Codes.{counted, plain, progress_answer, registry_answer, text_answer}
 use Rattle.scaleview_c.specs.Codes.{value_answer}
 use Rattle.scaleview_c.specs.declared.codes.Answer.{Answer}
-use Rattle.scaleview_c.specs.declared.held.Held.{Held}
-use Rattle.scaleview_c.specs.declared.held.Held.TheVariants as held
+use Rattle.scaleview_c.specs.declared.resource.Resource.{Resource}
+use Rattle.scaleview_c.specs.declared.resource.Resource.TheVariants as held
 use Rattle.scaleview_c.specs.declared.opened.Opened.{Opened}
 use Rattle.scaleview_c.specs.declared.session.Stage.{Stage}
 use Rattle.scaleview_c.specs.declared.session.Stage.TheVariants as stage
@@ -40,7 +40,7 @@ Leaves old new reported a = (new ≡ old) × (a ≡ reported)
 -- ---- registries
 
 -- the registry that the bytes hold is behind the handle; or nothing is, and it is reported why
-abbrev pub OpensRegistry : Bool → List ℕ → Option Held → Answer → Type 0
+abbrev pub OpensRegistry : Bool → List ℕ → Option Resource → Answer → Type 0
 OpensRegistry metadata b (Some (held.Registry o)) a = (checked_of metadata b ≡ Some o.checked.types)
     × (a ≡ counted 0 (length o.checked.types))
 OpensRegistry metadata b (Some (held.Session s)) a = ⊥
@@ -48,16 +48,17 @@ OpensRegistry metadata b None a = (e : RegistryRefusal) × RefusesRegistry metad
     × (a ≡ registry_answer e)
 
 -- it is reported that the handle is not none, and what is behind it stays
-abbrev pub Stays : Option Held → Option Held → Answer → Type 0
+abbrev pub Stays : Option Resource → Option Resource → Answer → Type 0
 Stays old new a = (new ≡ old) × (a ≡ plain 6)
 
 -- the registry is opened behind a handle that is none
-abbrev pub OpensHandle : Option Held → Bool → List ℕ → Option Held → Answer → Type 0
+abbrev pub OpensHandle : Option Resource → Bool → List ℕ → Option Resource → Answer → Type 0
 OpensHandle (Some old) metadata b new a = Stays (Some old) new a
 OpensHandle None metadata b new a = OpensRegistry metadata b new a
 
 -- the same of a box, by what it holds
-abbrev pub OpensBox : {X : Type 0} → (X → Held) → Bool → List ℕ → Result (X × ℕ) RegistryRefusal →
+abbrev pub OpensBox : {X : Type 0} → (X → Resource) → Bool → List ℕ →
+    Result (X × ℕ) RegistryRefusal →
     Type 0
 OpensBox value_of metadata b (Ok x) =
     OpensRegistry metadata b (Some (value_of x.0)) (counted 0 x.1)
@@ -65,20 +66,20 @@ OpensBox value_of metadata b (Err e) = RefusesRegistry metadata b e
 
 -- nothing is behind the handle any more; or it stays, since a session has the registry, or since
 -- it is no registry
-abbrev pub ClosesRegistry : Option Held → Option Held → ℕ → Type 0
+abbrev pub ClosesRegistry : Option Resource → Option Resource → ℕ → Type 0
 ClosesRegistry (Some (held.Registry o)) new code = ((code ≡ 0) × (new ≡ None))
     ⊎ ((code ≡ 4) × (new ≡ Some (held.Registry o)))
 ClosesRegistry (Some (held.Session s)) new code = (code ≡ 5) × (new ≡ Some (held.Session s))
 ClosesRegistry None new code = (code ≡ 5) × (new ≡ None)
 
 -- how many types there are
-abbrev pub ReportsTypes : Option Held → Answer → Type 0
+abbrev pub ReportsTypes : Option Resource → Answer → Type 0
 ReportsTypes (Some (held.Registry o)) a = a ≡ counted 0 (length o.checked.types)
 ReportsTypes (Some (held.Session s)) a = a ≡ plain 5
 ReportsTypes None a = a ≡ plain 5
 
 -- the line of the type is written, where there is one, unless memory was refused
-abbrev pub WritesLine : Option Held → ℕ → List ℕ → List ℕ → Answer → Type 0
+abbrev pub WritesLine : Option Resource → ℕ → List ℕ → List ℕ → Answer → Type 0
 WritesLine (Some (held.Registry o)) id old new a = Leaves old new (plain 3) a
     ⊎ MatchOption (type_line o.checked.types id) (Leaves old new (plain 201) a)
     (λ line. Writes line old new a)
@@ -96,7 +97,7 @@ WritesJson o id limits b old new a = (r : Result (List ℕ) ValueRefusal)
     × ShowsValue (λ (text : List ℕ). text) (opening_fault o.checked.types id limits)
     (job_of o.checked.types id limits) b r × WritesResult r old new a
 
-abbrev pub WritesValue : Option Held → ℕ → Limits → List ℕ → List ℕ → List ℕ → Answer → Type 0
+abbrev pub WritesValue : Option Resource → ℕ → Limits → List ℕ → List ℕ → List ℕ → Answer → Type 0
 WritesValue (Some (held.Registry o)) id limits b old new a = WritesJson o id limits b old new a
 WritesValue (Some (held.Session s)) id limits b old new a = Leaves old new (plain 5) a
 WritesValue None id limits b old new a = Leaves old new (plain 5) a
@@ -116,18 +117,18 @@ IsStarted o id limits (stage.Shown text) = ⊥
 IsStarted o id limits (stage.Refused e) = ⊥
 
 -- what a box holds is such a session; or it is reported why there is none
-abbrev pub IsSession : Opened → ℕ → Limits → Held → Type 0
+abbrev pub IsSession : Opened → ℕ → Limits → Resource → Type 0
 IsSession o id limits (held.Session s) = IsStarted o id limits s.stage
 IsSession o id limits (held.Registry other) = ⊥
 
-abbrev pub StartsBox : {X : Type 0} → (X → Held) → Opened → ℕ → Limits →
+abbrev pub StartsBox : {X : Type 0} → (X → Resource) → Opened → ℕ → Limits →
     Result X ValueRefusal → Type 0
 StartsBox value_of o id limits (Ok x) = IsSession o id limits (value_of x)
 StartsBox value_of o id limits (Err e) =
     ForbidsStart (opening_fault o.checked.types id limits) (value_answer e)
 
 -- such a session is behind the handle; or nothing is, and it is reported why
-abbrev pub StartsSession : Option Held → ℕ → Limits → Option Held → Answer → Type 0
+abbrev pub StartsSession : Option Resource → ℕ → Limits → Option Resource → Answer → Type 0
 StartsSession (Some (held.Registry o)) id limits (Some (held.Session s)) a =
     IsStarted o id limits s.stage
     × (a ≡ plain 0)
@@ -138,7 +139,8 @@ StartsSession (Some (held.Session s)) id limits new a = (new ≡ None) × (a ≡
 StartsSession None id limits new a = (new ≡ None) × (a ≡ plain 5)
 
 -- the session is started behind a handle that is none
-abbrev pub StartsHandle : Option Held → Option Held → ℕ → Limits → Option Held → Answer → Type 0
+abbrev pub StartsHandle : Option Resource → Option Resource → ℕ → Limits → Option Resource →
+    Answer → Type 0
 StartsHandle (Some old) registry id limits new a = Stays (Some old) new a
 StartsHandle None registry id limits new a = StartsSession registry id limits new a
 
@@ -158,10 +160,10 @@ FeedsStage (stage.Shown text) piece new a = (new ≡ stage.Shown text) × (a ≡
 FeedsStage (stage.Refused e) piece new a = (new ≡ stage.Refused e) × (a ≡ value_answer e)
 
 -- there is no session, which is reported, and nothing changes
-abbrev pub IsNone : Option Held → Option Held → Answer → Type 0
+abbrev pub IsNone : Option Resource → Option Resource → Answer → Type 0
 IsNone old new a = (new ≡ old) × (a ≡ plain 5)
 
-abbrev pub Feeds : Option Held → List ℕ → Option Held → Answer → Type 0
+abbrev pub Feeds : Option Resource → List ℕ → Option Resource → Answer → Type 0
 Feeds (Some (held.Session s)) piece (Some (held.Session t)) a = FeedsStage s.stage piece t.stage a
 Feeds (Some (held.Session s)) piece (Some (held.Registry o)) a = ⊥
 Feeds (Some (held.Session s)) piece None a = ⊥
@@ -178,7 +180,7 @@ abbrev pub taken_of : Decoding → ℕ
 taken_of d = d.taken
 
 -- it is reported, and nothing changes
-abbrev pub Reports : (Decoding → ℕ) → Option Held → Option Held → Answer → Type 0
+abbrev pub Reports : (Decoding → ℕ) → Option Resource → Option Resource → Answer → Type 0
 Reports count (Some (held.Session s)) new a = (new ≡ Some (held.Session s))
     × (a ≡ counted 0 (number_by count s.stage))
 Reports count (Some (held.Registry o)) new a = IsNone (Some (held.Registry o)) new a
@@ -205,7 +207,7 @@ WritesStage (stage.Decoding d) old new a = Leaves old new (plain 1) a
 WritesStage (stage.Shown text) old new a = Writes (string_bytes text) old new a
 WritesStage (stage.Refused e) old new a = Leaves old new (value_answer e) a
 
-abbrev pub FinishesSession : Option Held → Option Held → List ℕ → List ℕ → Answer → Type 0
+abbrev pub FinishesSession : Option Resource → Option Resource → List ℕ → List ℕ → Answer → Type 0
 FinishesSession (Some (held.Session s)) (Some (held.Session t)) old new a = Ends s.stage t.stage
     × WritesStage t.stage old new a
 FinishesSession (Some (held.Session s)) (Some (held.Registry o)) old new a = ⊥
@@ -215,7 +217,7 @@ FinishesSession (Some (held.Registry o)) kept old new a = IsNone (Some (held.Reg
 FinishesSession None kept old new a = IsNone None kept a × (new ≡ old)
 
 -- nothing is behind the handle any more, or the registry that was there
-abbrev pub Frees : Option Held → Option Held → ℕ → Type 0
+abbrev pub Frees : Option Resource → Option Resource → ℕ → Type 0
 Frees (Some (held.Session s)) new code = (new ≡ None) × (code ≡ 0)
 Frees (Some (held.Registry o)) new code = (new ≡ Some (held.Registry o)) × (code ≡ 5)
 Frees None new code = (new ≡ None) × (code ≡ 5)

@@ -2,8 +2,8 @@
 use Rattle.std.specs.Prelude.{ℕ, nat_le, if◌then◌else◌}
 use Rattle.registry_core.specs.declared.fault.RegistryReason.{RegistryReason}
 use Rattle.registry_core.specs.declared.fault.RegistryReason.TheVariants as registry
-use Rattle.decode_core.specs.declared.fault.DecodeReason.{DecodeReason}
-use Rattle.decode_core.specs.declared.fault.DecodeReason.TheVariants as reason
+use Rattle.machine_core.specs.declared.reason.DecodeReason.{DecodeReason}
+use Rattle.machine_core.specs.declared.reason.DecodeReason.TheVariants as reason
 use Rattle.decode_core.specs.declared.decoder.Progress.{Progress}
 use Rattle.decode_core.specs.declared.decoder.Progress.TheVariants as progress
 use Rattle.scale_calls.specs.declared.refusal.RegistryRefusal.{RegistryRefusal}

@@ -1,10 +1,10 @@
 //! What is behind a pointer that C keeps.
 
 ghost use Rattle.std.specs.Prelude.{◌≡◌, Option, Some, None, MatchOption};
-ghost use Rattle.scaleview_c.specs.declared.held.Held.{Held as AHeld};
+ghost use Rattle.scaleview_c.specs.declared.resource.Resource.{Resource as AHeld};
 
-use crate::held::Held;
-use crate::parts::{Parts, put_together, take_apart};
+use crate::box_parts::{BoxParts, put_together, take_apart};
+use crate::resource::Resource;
 use std::alloc::Global;
 use std::marker::Model;
 use std::ptr;
@@ -18,7 +18,7 @@ pub struct Handle {
 }
 
 impl Model for Handle {
-    ghost use Rattle.scaleview_c.specs.contracts.held.Held.{the_row};
+    ghost use Rattle.scaleview_c.specs.contracts.resource.Resource.{the_row};
     ghost use Rattle.scaleview_c.specs.Owned.{owned};
 
     ghost also_owns = { λ h. owned the_row h.at h.value };
@@ -26,23 +26,23 @@ impl Model for Handle {
 
 impl Handle {
     /// Keeps the pointer, and lets its type go.
-    pub fn of(parts: Parts<Held, Global>) -> Handle
+    pub fn of(parts: BoxParts<Resource, Global>) -> Handle
         ensures { result.value ≡ Some parts.held }
     {
-        let Parts { at, alloc: _ } = parts;
+        let BoxParts { at, alloc: _ } = parts;
         Handle { at: at as *mut u8 }
     }
 
     /// Gives the pointer its type again, where it is not null.
-    pub fn into_parts(self, alloc: Global) -> Option<Parts<Held, Global>>
+    pub fn into_parts(self, alloc: Global) -> Option<BoxParts<Resource, Global>>
         ensures { MatchOption result (self.value ≡ None) (λ parts. self.value ≡ Some parts.held) }
     {
         let Handle { at } = self;
         if at.is_null() {
             None
         } else {
-            Some(Parts {
-                at: at as *mut Held,
+            Some(BoxParts {
+                at: at as *mut Resource,
                 alloc,
             })
         }
@@ -59,7 +59,7 @@ impl Handle {
 }
 
 /// The box behind a handle, where there is one.
-pub(crate) fn held_by(alloc: Global, handle: Handle) -> Option<Box<Held>>
+pub(crate) fn held_by(alloc: Global, handle: Handle) -> Option<Box<Resource>>
     ensures { MatchOption result (handle.value ≡ None) (λ held. handle.value ≡ Some held.value) }
 {
     let parts = handle.into_parts(alloc)?;
@@ -67,7 +67,7 @@ pub(crate) fn held_by(alloc: Global, handle: Handle) -> Option<Box<Held>>
 }
 
 /// A handle of a box.
-pub(crate) fn handle_of(held: Box<Held>) -> Handle
+pub(crate) fn handle_of(held: Box<Resource>) -> Handle
     ensures { result.value ≡ Some held.value }
 {
     Handle::of(take_apart(held))

@@ -2,12 +2,12 @@
 
 ghost use Rattle.std.specs.Prelude.{ℕ, ⊤};
 ghost use Rattle.scaleview_c.specs.Kept.{AnswersClose, Lends, TakesBack};
-ghost use Rattle.scaleview_c.specs.declared.held.Held.{Held as AHeld};
+ghost use Rattle.scaleview_c.specs.declared.resource.Resource.{Resource as AHeld};
 ghost use Rattle.scaleview_c.specs.declared.opened.Opened.{Opened as AnOpened};
 
 use crate::codes::{LENT, NO_HANDLE, OK};
-use crate::held::Held;
 use crate::opened::Opened;
+use crate::resource::Resource;
 
 /// What takes boxes back, and knows how many sessions a registry has, with both as relations of which nothing else is
 /// known. No clause of the library says that a block was freed or what a cell holds, so what the calls do with boxes
@@ -28,7 +28,7 @@ pub trait Keeper {
         ensures { counts self.new registry.now sessions };
 
     /// Takes the box back: what it holds is let go, and its memory is freed.
-    fn take(&mut self, held: Box<Held>)
+    fn take(&mut self, held: Box<Resource>)
         ensures { takes self.old held.value self.new };
 }
 
@@ -49,7 +49,7 @@ impl Keeper for Heap {
         registry.sessions.set(sessions);
     }
 
-    fn take(&mut self, held: Box<Held>) {
+    fn take(&mut self, held: Box<Resource>) {
         drop(held);
     }
 }
@@ -71,11 +71,11 @@ pub(crate) fn take_back<K: Keeper>(keeper: &mut K, registry: &Opened)
 }
 
 /// What the close of a registry answers: `LENT` exactly where it has a session.
-pub(crate) fn close_code<K: Keeper>(keeper: &K, held: &Held) -> u32
+pub(crate) fn close_code<K: Keeper>(keeper: &K, held: &Resource) -> u32
     ensures { AnswersClose K.counts keeper.now held.now result }
 {
     match held {
-        Held::Registry(opened) => { if keeper.count(opened) > 0 { LENT } else { OK } }
-        Held::Session(_) => NO_HANDLE,
+        Resource::Registry(opened) => { if keeper.count(opened) > 0 { LENT } else { OK } }
+        Resource::Session(_) => NO_HANDLE,
     }
 }

@@ -2,14 +2,14 @@
 //! says how they are called.
 #![tactic(auto)]
 
+mod box_parts;
 mod codes;
 mod handle;
-mod held;
 mod keeper;
 mod lent;
 mod opened;
-mod parts;
 mod registries;
+mod resource;
 mod session;
 mod sessions;
 mod text;

@@ -8,10 +8,10 @@ ghost use Rattle.scaleview_c.specs.Kept.{GivesRegistry};
 
 use crate::codes::{Answer, MEMORY, NO_HANDLE, OK, TAKEN, UNKNOWN_TYPE};
 use crate::handle::{Handle, handle_of, held_by};
-use crate::held::Held;
 use crate::keeper::{Heap, Keeper, close_code};
 use crate::lent::Lent;
 use crate::opened::Opened;
+use crate::resource::Resource;
 use crate::text::put;
 use json_core::json_to_slice;
 use scale_calls::{RegistryRefusal, ValueRefusal, open_registry, read_value, type_line};
@@ -20,12 +20,16 @@ use std::mem;
 use value_core::Limits;
 
 /// The registry that the bytes hold, and how many types it has.
-fn opened(alloc: Global, metadata: bool, bytes: &[u8]) -> Result<(Box<Held>, u64), RegistryRefusal>
+fn opened(
+    alloc: Global,
+    metadata: bool,
+    bytes: &[u8],
+) -> Result<(Box<Resource>, u64), RegistryRefusal>
     ensures { OpensBox (λ held. held.value) metadata bytes.now result }
 {
     let (checked, _) = open_registry(alloc, metadata, bytes)?;
     let types = checked.registry().types().len() as u64;
-    match Box::new(alloc, Held::Registry(Opened::new(checked))) {
+    match Box::new(alloc, Resource::Registry(Opened::new(checked))) {
         Ok(held) => Ok((held, types)),
         Err(_) => Err(RegistryRefusal::Memory),
     }
@@ -93,10 +97,10 @@ pub extern "C" fn scaleview_types(registry: Lent, answer: &mut Answer) -> u32
     ensures code { result ≡ answer.new.code }
 {
     *answer = match registry.get() {
-        Some(Held::Registry(opened)) => {
+        Some(Resource::Registry(opened)) => {
             Answer::counted(OK, opened.checked.registry().types().len() as u64)
         }
-        Some(Held::Session(_)) | None => Answer::plain(NO_HANDLE),
+        Some(Resource::Session(_)) | None => Answer::plain(NO_HANDLE),
     };
     answer.code
 }
@@ -114,12 +118,12 @@ pub extern "C" fn scaleview_type_line(
     ensures code { result ≡ answer.new.code }
 {
     *answer = match registry.get() {
-        Some(Held::Registry(opened)) => match type_line(alloc, &opened.checked, id) {
+        Some(Resource::Registry(opened)) => match type_line(alloc, &opened.checked, id) {
             Ok(Some(line)) => put(out, line.as_bytes()),
             Ok(None) => Answer::plain(UNKNOWN_TYPE),
             Err(_) => Answer::plain(MEMORY),
         },
-        Some(Held::Session(_)) | None => Answer::plain(NO_HANDLE),
+        Some(Resource::Session(_)) | None => Answer::plain(NO_HANDLE),
     };
     answer.code
 }
@@ -166,8 +170,8 @@ pub extern "C" fn scaleview_decode(
         bytes: limit,
     };
     *answer = match registry.get() {
-        Some(Held::Registry(opened)) => write_value(alloc, opened, id, limits, bytes, out),
-        Some(Held::Session(_)) | None => Answer::plain(NO_HANDLE),
+        Some(Resource::Registry(opened)) => write_value(alloc, opened, id, limits, bytes, out),
+        Some(Resource::Session(_)) | None => Answer::plain(NO_HANDLE),
     };
     answer.code
 }

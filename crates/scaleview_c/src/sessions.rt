@@ -9,10 +9,10 @@ ghost use Rattle.scaleview_c.specs.Kept.{CountsStart, GivesSession};
 
 use crate::codes::{Answer, NO_HANDLE, OK, TAKEN};
 use crate::handle::{Handle, handle_of, held_by};
-use crate::held::Held;
 use crate::keeper::{Heap, Keeper, lend, take_back};
 use crate::lent::Lent;
 use crate::opened::Opened;
+use crate::resource::Resource;
 use crate::session::{Session, Stage};
 use decode_core::Decoder;
 use registry_core::TypeId;
@@ -27,7 +27,7 @@ fn started(
     registry: &'static Opened,
     id: u32,
     limits: Limits,
-) -> Result<Box<Held>, ValueRefusal>
+) -> Result<Box<Resource>, ValueRefusal>
     ensures { StartsBox (λ held. held.value) registry.now id limits result }
 {
     let decoder = Decoder::new(alloc, &registry.checked, TypeId(id), limits)?;
@@ -35,7 +35,7 @@ fn started(
         stage: Stage::Decoding(decoder),
         registry,
     };
-    match Box::new(alloc, Held::Session(session)) {
+    match Box::new(alloc, Resource::Session(session)) {
         Ok(held) => Ok(held),
         Err(_) => Err(ValueRefusal::Memory),
     }
@@ -60,7 +60,7 @@ pub fn start_in<K: Keeper>(
         return Answer::plain(TAKEN);
     }
     match registry.get() {
-        Some(Held::Registry(opened)) => match started(alloc, opened, id, limits) {
+        Some(Resource::Registry(opened)) => match started(alloc, opened, id, limits) {
             Ok(held) => {
                 lend(keeper, opened);
                 *session = handle_of(held);
@@ -68,7 +68,7 @@ pub fn start_in<K: Keeper>(
             }
             Err(refusal) => Answer::of_value(refusal),
         },
-        Some(Held::Session(_)) | None => Answer::plain(NO_HANDLE),
+        Some(Resource::Session(_)) | None => Answer::plain(NO_HANDLE),
     }
 }
 
@@ -113,8 +113,8 @@ pub extern "C" fn scaleview_feed(
         return NO_HANDLE;
     };
     *answer = match &mut *held {
-        Held::Session(session) => session.stage.feed(piece),
-        Held::Registry(_) => Answer::plain(NO_HANDLE),
+        Resource::Session(session) => session.stage.feed(piece),
+        Resource::Registry(_) => Answer::plain(NO_HANDLE),
     };
     *session = handle_of(held);
     answer.code
@@ -131,8 +131,8 @@ pub extern "C" fn scaleview_taken(alloc: Global, session: &mut Handle, answer: &
         return NO_HANDLE;
     };
     *answer = match &*held {
-        Held::Session(session) => Answer::counted(OK, session.stage.taken()),
-        Held::Registry(_) => Answer::plain(NO_HANDLE),
+        Resource::Session(session) => Answer::counted(OK, session.stage.taken()),
+        Resource::Registry(_) => Answer::plain(NO_HANDLE),
     };
     *session = handle_of(held);
     answer.code
@@ -149,8 +149,8 @@ pub extern "C" fn scaleview_nodes(alloc: Global, session: &mut Handle, answer: &
         return NO_HANDLE;
     };
     *answer = match &*held {
-        Held::Session(session) => Answer::counted(OK, session.stage.nodes()),
-        Held::Registry(_) => Answer::plain(NO_HANDLE),
+        Resource::Session(session) => Answer::counted(OK, session.stage.nodes()),
+        Resource::Registry(_) => Answer::plain(NO_HANDLE),
     };
     *session = handle_of(held);
     answer.code
@@ -171,8 +171,8 @@ pub extern "C" fn scaleview_text_bytes(
         return NO_HANDLE;
     };
     *answer = match &*held {
-        Held::Session(session) => Answer::counted(OK, session.stage.text_bytes()),
-        Held::Registry(_) => Answer::plain(NO_HANDLE),
+        Resource::Session(session) => Answer::counted(OK, session.stage.text_bytes()),
+        Resource::Registry(_) => Answer::plain(NO_HANDLE),
     };
     *session = handle_of(held);
     answer.code
@@ -195,12 +195,12 @@ pub extern "C" fn scaleview_finish(
         return NO_HANDLE;
     };
     *answer = match &mut *held {
-        Held::Session(session) => {
+        Resource::Session(session) => {
             let stage = mem::replace(&mut session.stage, Stage::Refused(ValueRefusal::Memory));
             session.stage = stage.ended(alloc);
             session.stage.put(out)
         }
-        Held::Registry(_) => Answer::plain(NO_HANDLE),
+        Resource::Registry(_) => Answer::plain(NO_HANDLE),
     };
     *session = handle_of(held);
     answer.code
@@ -214,7 +214,7 @@ pub fn free_in<K: Keeper>(alloc: Global, keeper: &mut K, session: &mut Handle) -
     let Some(held) = held_by(alloc, mem::replace(session, Handle::none())) else {
         return NO_HANDLE;
     };
-    if let Held::Session(ended) = &*held {
+    if let Resource::Session(ended) = &*held {
         take_back(keeper, ended.registry);
         keeper.take(held);
         return OK;

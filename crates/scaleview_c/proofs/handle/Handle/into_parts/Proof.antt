@@ -30,9 +30,9 @@ use Rattle.std.proofs.raw_atomic.Walks.{proved_at, leaves}
 use Rattle.std_heap.specs.contracts.Global.{the_row as Z}
 use Rattle.std_heap.specs.contracts.GlobalAllocator.TheImpl.{ghosts}
 use Rattle.std_heap.proofs.Global.TheLaws as heap
-use Rattle.scaleview_c.specs.contracts.held.Held.{the_row as R}
+use Rattle.scaleview_c.specs.contracts.resource.Resource.{the_row as R}
 use Rattle.scaleview_c.specs.contracts.handle.Handle.{the_row as Row}
-use Rattle.scaleview_c.proofs.Pointers.{pair, PartsRow, pair_good, parts_in}
+use Rattle.scaleview_c.proofs.Pointers.{pair, BoxPartsRow, pair_good, parts_in}
 use Rattle.scaleview_c.proofs.Handles.{word, null_word, handle_out}
 use Rattle.scaleview_c.specs.contracts.handle.Handle.into_parts.{ended, clauses}
 use Rattle.scaleview_c.specs.contracts.handle.Handle.into_parts.Key.{name as #self}
@@ -53,7 +53,7 @@ pub into_parts_spec : {M : Type 1} → statement M
 into_parts_spec 𝓤 𝓛 𝓜 𝓡 wired =
     let H = 𝓛.H in let 𝓣 = tables 𝓤 H 𝓜 𝓡 𝓡.env in let LZ = heap.the_row_laws in let c =
     clauses 𝓛 𝓜.mem 𝓡.returns in let fn = code.function in
-    let Lr : RattleType = PartsRow R Z LZ ghosts in
+    let Lr : RattleType = BoxPartsRow R Z LZ ghosts in
     let hs : Stays ended.signature.params ended.kept =
     (stay_dropped (plain (λ _. Row)) yes, (stay_dropped (plain (λ _. Z)) yes, tt)) in
     proved_at 𝓛 ended hs c 𝓜 𝓡 (

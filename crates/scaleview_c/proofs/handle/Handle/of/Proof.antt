@@ -21,8 +21,8 @@ use Rattle.std.proofs.raw_atomic.Walks.{proved_at, leaves}
 use Rattle.std_heap.specs.contracts.Global.{the_row as Z}
 use Rattle.std_heap.specs.contracts.GlobalAllocator.TheImpl.{ghosts}
 use Rattle.std_heap.proofs.Global.TheLaws as heap
-use Rattle.scaleview_c.specs.contracts.held.Held.{the_row as R}
-use Rattle.scaleview_c.proofs.Pointers.{pair, PartsRow, pair_good, parts_out}
+use Rattle.scaleview_c.specs.contracts.resource.Resource.{the_row as R}
+use Rattle.scaleview_c.proofs.Pointers.{pair, BoxPartsRow, pair_good, parts_out}
 use Rattle.scaleview_c.proofs.Handles.{word, handle_in}
 use Rattle.scaleview_c.specs.contracts.handle.Handle.of.{ended, clauses}
 use Rattle.scaleview_c.specs.contracts.handle.Handle.of.Key.{name as #self}
@@ -34,7 +34,7 @@ pub of_spec : {M : Type 1} → statement M
 of_spec 𝓤 𝓛 𝓜 𝓡 wired =
     let H = 𝓛.H in let 𝓣 = tables 𝓤 H 𝓜 𝓡 𝓡.env in let LZ = heap.the_row_laws in let c =
     clauses 𝓛 𝓜.mem 𝓡.returns in let fn = code.function in
-    let L = PartsRow R Z LZ ghosts in
+    let L = BoxPartsRow R Z LZ ghosts in
     let hs : Stays ended.signature.params ended.kept = (stay_dropped (plain (λ _. L)) no, tt) in
     proved_at 𝓛 ended hs c 𝓜 𝓡 (
       Goes-blank 𝓛 0 (plain (λ _. L)) no (λ κs x f. tt),

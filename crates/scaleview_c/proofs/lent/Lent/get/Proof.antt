@@ -25,7 +25,7 @@ use denote.Triple.Walked.{Stays, stay_dropped, walk_of, Goes-dropped}
 use Rattle.core.proofs.alloc.Shapes.{after}
 use Rattle.core.proofs.option.Made.{Some-of, none_of}
 use Rattle.std.proofs.raw_atomic.Walks.{proved_at, leaves}
-use Rattle.scaleview_c.specs.contracts.held.Held.{the_row as R}
+use Rattle.scaleview_c.specs.contracts.resource.Resource.{the_row as R}
 use Rattle.scaleview_c.specs.contracts.lent.Lent.{the_row as Row}
 use Rattle.scaleview_c.proofs.Handles.{word, null_word}
 use Rattle.scaleview_c.proofs.Lents.{lent_out}

@@ -5,7 +5,7 @@ use crate::session::Session;
 
 /// A registry that is open, or a session of one.
 #[derive(Drop)]
-pub enum Held {
+pub enum Resource {
     Registry(Opened),
     Session(Session),
 }

@@ -35,10 +35,10 @@ use Rattle.std.proofs.raw_atomic.Walks.{proved_at, leaves}
 use Rattle.std_alloc.specs.contracts.boxed.Box.into_raw_with_allocator as callee
 use Rattle.std_alloc.proofs.boxed.Box.into_raw_with_allocator.Met.{met}
 use Rattle.scaleview_c.proofs.Pointers.{pair, pair_good, parts_in, Owns}
-use Rattle.scaleview_c.specs.contracts.parts.take_apart.{ended, clauses}
-use Rattle.scaleview_c.specs.contracts.parts.take_apart.Key.{name as #self}
-use Rattle.scaleview_c.proofs.parts.take_apart.Statement.{statement}
-use Rattle.scaleview_c.proofs.parts.take_apart.Code as code
+use Rattle.scaleview_c.specs.contracts.box_parts.take_apart.{ended, clauses}
+use Rattle.scaleview_c.specs.contracts.box_parts.take_apart.Key.{name as #self}
+use Rattle.scaleview_c.proofs.box_parts.take_apart.Statement.{statement}
+use Rattle.scaleview_c.proofs.box_parts.take_apart.Code as code
 
 -- the code of this call keeps its contract: the parts are those of the box
 pub take_apart_spec : {M : Type 1} → statement M

@@ -35,11 +35,11 @@ use Rattle.std_alloc.proofs.BoxSteps.Steps.{box_out, box_in}
 use Rattle.std.proofs.raw_atomic.Walks.{proved_at, leaves}
 use Rattle.std_alloc.specs.contracts.boxed.Box.from_raw as callee
 use Rattle.std_alloc.proofs.boxed.Box.from_raw.Met.{met}
-use Rattle.scaleview_c.proofs.Pointers.{pair, PartsRow, pair_good, parts_out}
-use Rattle.scaleview_c.specs.contracts.parts.put_together.{ended, clauses}
-use Rattle.scaleview_c.specs.contracts.parts.put_together.Key.{name as #self}
-use Rattle.scaleview_c.proofs.parts.put_together.Statement.{statement}
-use Rattle.scaleview_c.proofs.parts.put_together.Code as code
+use Rattle.scaleview_c.proofs.Pointers.{pair, BoxPartsRow, pair_good, parts_out}
+use Rattle.scaleview_c.specs.contracts.box_parts.put_together.{ended, clauses}
+use Rattle.scaleview_c.specs.contracts.box_parts.put_together.Key.{name as #self}
+use Rattle.scaleview_c.proofs.box_parts.put_together.Statement.{statement}
+use Rattle.scaleview_c.proofs.box_parts.put_together.Code as code
 
 -- the code of this call keeps its contract: the box is that of the parts
 pub put_together_spec : {M : Type 1} → statement M
@@ -58,9 +58,9 @@ put_together_spec 𝓤 𝓛 𝓜 𝓡 wired T A L LA g d dx dd allocator glue gl
     let B : RattleType = box.B E in
     let En = ended T A g d dx dd in let c = clauses T A g d dx dd 𝓛 𝓜.mem 𝓡.returns in
     let hs : Stays En.signature.params En.kept =
-    (stay_dropped (plain (λ _. PartsRow R Z LZ g)) no, tt) in
+    (stay_dropped (plain (λ _. BoxPartsRow R Z LZ g)) no, tt) in
     proved_at 𝓛 En hs c 𝓜 𝓡 (
-      Goes-blank 𝓛 2 (plain (λ _. PartsRow R Z LZ g)) no (λ κs x f. tt),
+      Goes-blank 𝓛 2 (plain (λ _. BoxPartsRow R Z LZ g)) no (λ κs x f. tt),
       tt,
     ) (#self inst) fn
     (code.unfolded 𝓤 H 𝓜 𝓡 wired (T, (A, tt)) d dx dd) (λ z are.
