@@ -1,7 +1,7 @@
 //! Values from readers that fail, and ends at the edge of a read.
 
 use crate::expect::same;
-use decode_core::{DecodeFault, DecodeReason, OpenFault};
+use decode_core::{DecodeFault, DecodeReason, OpenFault, StreamFault};
 use decoder_calls::calls::all_of;
 use scale_core::Source;
 use scale_tests::building::{checked, written};
@@ -13,7 +13,6 @@ use std::io;
 use std::io::Read;
 use std::process::Abort;
 use std::test::Fail;
-use stream_core::StreamFault;
 use value_core::{Limits, Value};
 use widths_core::Checked;
 

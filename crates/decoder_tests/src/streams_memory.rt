@@ -2,7 +2,7 @@
 
 use crate::decoder_memory::{NESTED_BYTES, REFUSED};
 use crate::expect::same;
-use decode_core::OpenFault;
+use decode_core::{OpenFault, PiecesFault, StreamFault};
 use decoder_calls::calls::{all_of, front_of};
 use linked_list_allocator::LocalHeap;
 use scale_core::Source;
@@ -14,7 +14,6 @@ use scale_tests::rows::AMPLE;
 use std::alloc::{Allocator, Global};
 use std::process::Abort;
 use std::test::Fail;
-use stream_core::{PiecesFault, StreamFault};
 use value_core::Value;
 use widths_core::Checked;
 

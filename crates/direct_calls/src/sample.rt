@@ -1,8 +1,8 @@
 //! The input of every call: a registry of twelve types, and a value of the ninth of them.
 
+use decode_core::decode_pieces;
 use registry_core::{Registry, TypeId, read_registry};
 use std::alloc::Global;
-use stream_core::decode_pieces;
 use value_core::{Limits, Value};
 use widths_core::Checked;
 

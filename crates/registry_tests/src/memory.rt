@@ -10,7 +10,7 @@ use std::fs;
 use std::process::Abort;
 use std::rt::Files;
 use std::test::Fail;
-use widths_core::{ArmStep, Step};
+use widths_core::{ArmStep, TypeStep};
 
 /// The lists and texts of a registry, each with the bytes that stand before its length.
 const PLACES: [(&str, &[u8]); 22] = [
@@ -228,5 +228,5 @@ fn a_whole_list_has_no_room_to_spare(rt: HostRuntime) -> Result<(), Fail> {
 fn the_parts_of_a_registry_have_their_sizes(rt: HostRuntime) {
     let sizes = (size_of::<Field>(), size_of::<Arm>(), size_of::<TypeInfo>());
     same(&rt, sizes, (96, 80, 104));
-    same(&rt, (size_of::<Step>(), size_of::<ArmStep>()), (12, 12));
+    same(&rt, (size_of::<TypeStep>(), size_of::<ArmStep>()), (12, 12));
 }

@@ -33,6 +33,21 @@ fn texts_are_written(rt: HostRuntime) -> Result<(), Fail> {
 }
 
 #[test]
+fn room_for_many_texts_is_made_rarely(rt: HostRuntime) -> Result<(), Fail> {
+    let mut out = Vec::new(rt.alloc());
+    let mut grown: u32 = 0;
+    'texts: for _ in 0..1000 {
+        let room = out.capacity();
+        write_text(&mut out, "text")?;
+        if out.capacity() > room {
+            grown = grown.saturating_add(1);
+        }
+    }
+    same(&rt, (out.len(), grown < 20), (5000, true));
+    Ok(())
+}
+
+#[test]
 fn a_fault_is_printed_as_its_reason_and_place(rt: HostRuntime) -> Result<(), Fail> {
     let lines = [
         (Reason::Truncated, 5, "Truncated at 5"),

@@ -45,6 +45,8 @@ impl Read for PacedReader<'_> {
 #[derive(Drop)]
 pub struct PacedWriter {
     pub taken: Vec<u8>,
+    /// How many writes were made.
+    pub writes: u64,
     room: usize,
     step: usize,
     then: Then,
@@ -54,6 +56,7 @@ impl PacedWriter {
     pub fn new(alloc: Global, room: usize, step: usize, then: Then) -> PacedWriter {
         PacedWriter {
             taken: Vec::new(alloc),
+            writes: 0,
             room,
             step,
             then,
@@ -63,6 +66,7 @@ impl PacedWriter {
 
 impl Write for PacedWriter {
     fn write(&mut self, part: &[u8]) -> io::Result<usize> {
+        self.writes = self.writes.saturating_add(1);
         let room = self.room.saturating_sub(self.taken.len());
         let count = match self.then {
             Then::GoesOn => self.step.min(part.len()),

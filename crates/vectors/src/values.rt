@@ -3,12 +3,11 @@
 use crate::calls::open;
 use crate::commands::check_command;
 use crate::shown::{check_forms, check_value};
-use decode_core::{DecodeFault, DecodeReason, Decoder, Progress};
+use decode_core::{DecodeFault, DecodeReason, Decoder, Progress, StreamFault};
 use decoder_calls::calls::{Holding, all_of, feed, finish, front_of, held, opening_fault};
 use scale_core::Source;
 use scale_tests::paced::{PacedReader, Then};
 use std::alloc::{AllocError, Global};
-use stream_core::StreamFault;
 use value_core::{Limits, Value};
 use vector_tables::columns::{bytes_of, depth_of, number_of, type_of};
 use vector_tables::registries::{Registries, checked};
