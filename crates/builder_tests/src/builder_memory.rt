@@ -9,7 +9,7 @@ use scale_tests::building::{Call, Standing, add, checked, what_stands};
 use scale_tests::rationed::Rationed;
 use scale_tests::registries::{
     BYTES, CHARACTER, COMPACT_OF_A_BOOL, COMPACT_U128, OPTION, TEXT, TEXT_AND_BYTES,
-    TWO_UNITS_AND_A_BYTE, U8, UNITS, WIDE, WORDS,
+    TWO_UNITS_AND_A_BYTE, U8, U128, UNITS, WIDE, WORDS,
 };
 use std::alloc::{Allocator, Global};
 use std::process::Abort;
@@ -313,6 +313,17 @@ fn bad_text_is_reported_before_a_failed_allocation(rt: HostRuntime) -> Result<()
     add_all(&mut builder, &calls)?;
     let reported = add(&mut builder, Call::TextEnd);
     same(&rt, reported, Err(BuildFault::BadText { valid: 0 }));
+    same(&rt, !memory.is_past_refusal(), true);
+    Ok(())
+}
+
+// Only the node is requested: the greatest integer of 64 bits has no bytes beside it.
+#[test]
+fn an_integer_of_64_bits_stands_in_its_node(rt: HostRuntime) -> Result<(), Fail> {
+    let checked = checked(rt.alloc(), U128)?;
+    let memory = Rationed::new(rt.alloc(), 2);
+    let mut builder = begun(&memory, &checked, 0, 64)?;
+    add(&mut builder, Call::Unsigned(18_446_744_073_709_551_615))?;
     same(&rt, !memory.is_past_refusal(), true);
     Ok(())
 }

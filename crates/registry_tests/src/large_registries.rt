@@ -104,6 +104,28 @@ fn many_arms_are_read(rt: HostRuntime) -> Result<(), Fail> {
     Ok(())
 }
 
+/// A composite of so many u8, and the type u8.
+fn many_fields(alloc: Global, count: u32) -> Result<Vec<u8>, AllocError> {
+    let mut bytes = Vec::from_slice(alloc, b"\x08\x00\x00\x00\x00")?;
+    write_compact(&mut bytes, u128::from(count))?;
+    'fields: for _ in 0..count {
+        bytes.extend_from_slice(b"\x00\x04\x00\x00")?;
+    }
+    bytes.extend_from_slice(b"\x00\x04\x00\x00\x05\x03\x00")?;
+    Ok(bytes)
+}
+
+#[test]
+fn many_fields_are_read(rt: HostRuntime) -> Result<(), Fail> {
+    let bytes = many_fields(rt.alloc(), 500_000)?;
+    let registry = read_whole(&rt, rt.alloc(), &bytes, 2)?;
+    let Ok(checked) = Checked::new(rt.alloc(), registry) else {
+        return Err("no checked registry")?;
+    };
+    same(&rt, checked.widest(), 500_000);
+    Ok(())
+}
+
 /// 65,537 types, of which the last is a sequence of the greatest id that there is.
 fn with_unknown_reference(alloc: Global) -> Result<Vec<u8>, Fail> {
     let front = many_types(alloc, 65_536)?;
