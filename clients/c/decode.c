@@ -4,6 +4,8 @@
  *   decode decode FILE ID VALUEFILE [--metadata] [--depth D] [--pieces N]
  */
 #include "scaleview.h"
+#include <errno.h>
+#include <limits.h>
 #include <stdio.h>
 #include <stdlib.h>
 #include <string.h>
@@ -124,23 +126,37 @@ static int decode_in_pieces(scaleview_registry registry, uint32_t type, uint16_t
     return status;
 }
 
+static int usage(void) {
+    fprintf(stderr, "scaleview: usage\n");
+    return 2;
+}
+
+/* Reads a number of decimal digits alone, which is at most `most`. */
+static bool parse(const char *word, unsigned long most, unsigned long *number) {
+    if (!*word || word[strspn(word, "0123456789")]) return false;
+    errno = 0;
+    *number = strtoul(word, NULL, 10);
+    return !errno && *number <= most;
+}
+
 int main(int count, char **words) {
     bool metadata = false;
-    uint16_t depth = 64;
-    size_t step = 0;
+    unsigned long type = 0, depth = 64, step = 0;
     const char *names[4] = {0};
     int named = 0;
     for (int i = 1; i < count; i++) {
-        if (!strcmp(words[i], "--metadata")) metadata = true;
-        else if (!strcmp(words[i], "--depth") && i + 1 < count) depth = (uint16_t)atoi(words[++i]);
-        else if (!strcmp(words[i], "--pieces") && i + 1 < count) step = (size_t)atol(words[++i]);
-        else if (named < 4) names[named++] = words[i];
+        if (!strcmp(words[i], "--metadata")) {
+            metadata = true;
+        } else if (!strcmp(words[i], "--depth") && i + 1 < count) {
+            if (!parse(words[++i], 1024, &depth)) return usage();
+        } else if (!strcmp(words[i], "--pieces") && i + 1 < count) {
+            if (!parse(words[++i], ULONG_MAX, &step) || !step) return usage();
+        } else if (named < 4) {
+            names[named++] = words[i];
+        }
     }
     bool lists = named == 2 && !strcmp(names[0], "types");
-    if (!lists && !(named == 4 && !strcmp(names[0], "decode"))) {
-        fprintf(stderr, "scaleview: usage\n");
-        return 2;
-    }
+    if (!lists && !(named == 4 && !strcmp(names[0], "decode") && parse(names[2], UINT32_MAX, &type))) return usage();
     struct bytes file = read_file(names[1]), out = {malloc(64), 64};
     scaleview_registry registry = {NULL};
     scaleview_answer answer;
@@ -151,9 +167,8 @@ int main(int count, char **words) {
         status = list(registry, &out);
     } else {
         struct bytes value = read_file(names[3]);
-        uint32_t type = (uint32_t)strtoul(names[2], NULL, 10);
-        status = step ? decode_in_pieces(registry, type, depth, value, step, &out)
-                      : decode(registry, type, depth, value, &out);
+        status = step ? decode_in_pieces(registry, (uint32_t)type, (uint16_t)depth, value, step, &out)
+                      : decode(registry, (uint32_t)type, (uint16_t)depth, value, &out);
         free(value.at);
     }
     if (registry.inside) scaleview_close(&registry);

@@ -139,8 +139,9 @@ uint32_t scaleview_text_bytes(scaleview_session *session, scaleview_answer *answ
 
 /* Ends the value, and writes its JSON to the front of `out` as scaleview_decode does. After SCALEVIEW_NO_ROOM the call can
  * be made again with more room; the text is kept until the session is freed. Where the value is not whole, the answer is
- * SCALEVIEW_VALUE_TRUNCATED at the bytes taken, and where it was refused that refusal. No piece is taken afterwards: what is
- * fed is answered like the end. Else SCALEVIEW_NO_HANDLE. */
+ * SCALEVIEW_VALUE_TRUNCATED at the bytes taken, and where it was refused that refusal. After SCALEVIEW_MEMORY the value is
+ * lost: to end it again answers the same. No piece is taken afterwards: what is fed is answered like the end. Else
+ * SCALEVIEW_NO_HANDLE. */
 uint32_t scaleview_finish(scaleview_session *session, uint8_t *out, size_t room, scaleview_answer *answer);
 
 /* Frees a session, which is none afterwards, and answers SCALEVIEW_OK; SCALEVIEW_NO_HANDLE where it is none. */

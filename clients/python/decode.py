@@ -51,6 +51,9 @@ def main() -> None:
                 print(registry.decode_text(words.id, value, depth=words.depth))
     except Refused as refused:
         sys.exit(f"scaleview: {refused}" + (f" {words.id}" if refused.part == "type" else ""))
+    except OverflowError as error:
+        print(f"scaleview: {error}", file=sys.stderr)
+        sys.exit(2)
 
 
 if __name__ == "__main__":

@@ -4,6 +4,7 @@
 //!     decode decode FILE ID VALUEFILE [--metadata] [--depth D] [--pieces N]
 
 use scaleview::{Error, Limits, Progress, Registry, ValueReason};
+use std::num::NonZeroUsize;
 use std::process::ExitCode;
 use std::{env, fs};
 
@@ -12,7 +13,7 @@ struct Words {
     names: Vec<String>,
     metadata: bool,
     limits: Limits,
-    pieces: Option<usize>,
+    pieces: Option<NonZeroUsize>,
 }
 
 fn words() -> Option<Words> {
@@ -57,14 +58,10 @@ fn answer(words: &Words) -> Result<String, String> {
             let number = id.parse().map_err(|_| "scaleview: usage".to_string())?;
             let value = read(&words.names[3])?;
             let text = match words.pieces {
-                Some(step) => in_pieces(&registry, number, words.limits, &value, step),
+                Some(step) => in_pieces(&registry, number, words.limits, &value, step.get()),
                 None => registry.decode_within(number, words.limits, &value),
             };
-            match text {
-                Ok(text) => Ok(text + "\n"),
-                Err(Error::UnknownType) => Err(format!("scaleview: type: UnknownType {id}")),
-                Err(error) => Err(format!("scaleview: {error}")),
-            }
+            text.map(|text| text + "\n").map_err(|error| format!("scaleview: {error}"))
         }
         _ => Err("scaleview: usage".to_string()),
     }

@@ -1,6 +1,6 @@
 //! Why there is no answer, and where.
 
-use crate::raw::Answer;
+use crate::raw::{Answer, MEMORY};
 use std::fmt;
 
 macro_rules! reasons {
@@ -80,13 +80,13 @@ pub enum Error {
     Registry { reason: RegistryReason, at: u64 },
     /// The registry's type at position `from` refers to `to`, which is no position.
     UnknownReference { from: u32, to: u32 },
-    /// The registry has no type at this position.
-    UnknownType,
+    /// The registry has no type at position `id`.
+    UnknownType { id: u32 },
     /// The depth is above 1024, or the limit of bytes above 2^40.
     LimitOutOfRange,
     /// The value's bytes are refused.
     Value { reason: ValueReason, at: u64 },
-    /// Memory was refused.
+    /// An allocation failed, of the library or for the text.
     Memory,
     /// A code that this wrapper does not know.
     Other { code: u32 },
@@ -101,11 +101,18 @@ impl Error {
             return Error::Value { reason, at: answer.at };
         }
         match answer.code {
-            3 => Error::Memory,
+            MEMORY => Error::Memory,
             112 => Error::UnknownReference { from: answer.from, to: answer.at as u32 },
-            201 => Error::UnknownType,
             202 => Error::LimitOutOfRange,
             code => Error::Other { code },
+        }
+    }
+
+    /// The error of a call that names a type.
+    pub(crate) fn of_type(id: u32, answer: Answer) -> Error {
+        match answer.code {
+            201 => Error::UnknownType { id },
+            _ => Error::of(answer),
         }
     }
 }
@@ -115,7 +122,7 @@ impl fmt::Display for Error {
         match self {
             Error::Registry { reason, at } => write!(f, "registry: {reason} at {at}"),
             Error::UnknownReference { from, to } => write!(f, "check: UnknownType {to} in type {from}"),
-            Error::UnknownType => f.write_str("type: UnknownType"),
+            Error::UnknownType { id } => write!(f, "type: UnknownType {id}"),
             Error::LimitOutOfRange => f.write_str("limits: LimitOutOfRange"),
             Error::Value { reason, at } => write!(f, "value: {reason} at {at}"),
             Error::Memory => f.write_str("memory"),

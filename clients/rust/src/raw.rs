@@ -5,6 +5,7 @@ use std::ffi::c_void;
 pub const OK: u32 = 0;
 pub const MORE: u32 = 1;
 pub const NO_ROOM: u32 = 2;
+pub const MEMORY: u32 = 3;
 
 /// What a call reports beside its code.
 #[repr(C)]
@@ -61,20 +62,34 @@ unsafe extern "C" {
 /// The room that a text is offered at first.
 const ROOM: usize = 4096;
 
-/// The text that a call writes, with more room where it asks for that.
+/// Returns an empty vector with the capacity for the answer's text.
+fn reserved(answer: &Answer) -> Result<Vec<u8>, Answer> {
+    let mut out = Vec::new();
+    let reserved = usize::try_from(answer.length).is_ok_and(|length| out.try_reserve_exact(length).is_ok());
+    if reserved { Ok(out) } else { Err(Answer { code: MEMORY, ..Answer::default() }) }
+}
+
+/// Returns the text that a call writes, with more room where it asks for that.
+///
+/// # Errors
+/// The call's answer, and `MEMORY` where there is no memory for the text.
 pub fn text(mut call: impl FnMut(*mut u8, usize, &mut Answer) -> u32) -> Result<String, Answer> {
     let (mut room, mut answer) = ([0; ROOM], Answer::default());
-    let mut out = match call(room.as_mut_ptr(), ROOM, &mut answer) {
-        OK => room[..answer.length as usize].to_vec(),
+    let mut out;
+    match call(room.as_mut_ptr(), ROOM, &mut answer) {
+        OK => {
+            out = reserved(&answer)?;
+            out.extend_from_slice(&room[..answer.length as usize]);
+        }
         NO_ROOM => {
-            let mut out = vec![0; answer.length as usize];
-            match call(out.as_mut_ptr(), out.len(), &mut answer) {
-                OK => out,
-                _ => return Err(answer),
+            out = reserved(&answer)?;
+            out.resize(answer.length as usize, 0);
+            if call(out.as_mut_ptr(), out.len(), &mut answer) != OK {
+                return Err(answer);
             }
         }
         _ => return Err(answer),
-    };
+    }
     out.truncate(answer.length as usize);
     Ok(String::from_utf8(out).expect("the library writes UTF-8"))
 }

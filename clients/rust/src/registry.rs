@@ -33,17 +33,23 @@ impl Default for Limits {
 /// drop(session);
 /// ```
 ///
-/// It stays on its thread, since the library counts its sessions without a lock:
+/// It may move to another thread. It isn't shared by threads, since the library allows one call at a
+/// time on a registry and its sessions; a `Mutex` allows it:
 ///
-/// ```compile_fail
+/// ```compile_fail,E0277
 /// let registry = scaleview::Registry::open(b"\x04\x00\x00\x00\x05\x03\x00").unwrap();
-/// std::thread::spawn(move || registry.len());
+/// std::thread::scope(|scope| scope.spawn(|| registry.decode(0, b"\x2a")).join());
 /// ```
 #[derive(Debug)]
 pub struct Registry {
     handle: Handle,
     len: u32,
 }
+
+// SAFETY: the header ties no handle to a thread. It allows one call at a time on a registry and its
+// sessions. The registry moves only while no session borrows it, and it is not `Sync`, so a session
+// stays on its thread: no two threads have a way to them at once.
+unsafe impl Send for Registry {}
 
 impl Registry {
     fn opened(bytes: &[u8], metadata: bool) -> Result<Registry, Error> {
@@ -71,27 +77,33 @@ impl Registry {
         Registry::opened(bytes, true)
     }
 
-    /// How many types it has; they stand at the positions below that.
+    /// Returns the number of types; they stand at the positions below that.
     pub fn len(&self) -> u32 {
         self.len
     }
 
-    /// Has it no types?
+    /// Returns whether it has no types.
     pub fn is_empty(&self) -> bool {
         self.len == 0
     }
 
-    /// The line of the type at this position: its position, class, kind and path, with a line feed.
+    /// Returns the type's position, class, kind and path, with a line feed.
     ///
     /// # Errors
     /// `UnknownType`, `Memory`.
     pub fn type_line(&self, id: u32) -> Result<String, Error> {
         // SAFETY: the registry is open while it is borrowed, and the buffer is this call's.
         raw::text(|out, room, answer| unsafe { raw::scaleview_type_line(self.handle, id, out, room, answer) })
-            .map_err(Error::of)
+            .map_err(|answer| Error::of_type(id, answer))
     }
 
-    /// The JSON of the value of the type at position `id` that all the bytes spell, within the default limits.
+    /// Returns the JSON of the value that all the bytes spell, of the type at position `id`, within the
+    /// default limits.
+    ///
+    /// The text nests at most `2 * (depth + 1)` arrays and objects, which is 130 by default. A parser with
+    /// a lower limit needs a lower depth, by [`decode_within`](Registry::decode_within), or has to be told:
+    /// `serde_json::from_str` reads 127 levels, which a depth of 62 keeps to, and any number with
+    /// `Deserializer::disable_recursion_limit`.
     ///
     /// # Errors
     /// `Value` with reason and place, `UnknownType`, `Memory`.
@@ -99,7 +111,7 @@ impl Registry {
         self.decode_within(id, Limits::default(), bytes)
     }
 
-    /// The same within other limits.
+    /// Returns the same within other limits.
     ///
     /// # Errors
     /// As [`decode`](Registry::decode), and `LimitOutOfRange`.
@@ -112,7 +124,7 @@ impl Registry {
             let (at, length) = (bytes.as_ptr(), bytes.len());
             raw::scaleview_decode(self.handle, id, limits.depth, limits.bytes, at, length, out, room, answer)
         })
-        .map_err(Error::of)
+        .map_err(|answer| Error::of_type(id, answer))
     }
 
     fn decode_long(&self, id: u32, limits: Limits, bytes: &[u8]) -> Result<String, Error> {
@@ -134,7 +146,7 @@ impl Registry {
         // SAFETY: the registry is open for as long as the session borrows it, and the session's handle is none.
         match unsafe { raw::scaleview_start(self.handle, id, limits.depth, limits.bytes, &mut handle, &mut answer) } {
             raw::OK => Ok(Session::of(handle)),
-            _ => Err(Error::of(answer)),
+            _ => Err(Error::of_type(id, answer)),
         }
     }
 }

@@ -3,6 +3,7 @@
 use crate::error::Error;
 use crate::raw::{self, Answer, Handle};
 use crate::registry::Registry;
+use std::cell::Cell;
 use std::marker::PhantomData;
 
 /// How far a value is.
@@ -27,15 +28,25 @@ pub enum Progress {
 /// # Ok(())
 /// # }
 /// ```
+///
+/// It stays on the thread of the borrow, since the library allows one call at a time on a registry
+/// and its sessions:
+///
+/// ```compile_fail,E0277
+/// let registry = scaleview::Registry::open(b"\x04\x00\x00\x00\x05\x03\x00").unwrap();
+/// let session = registry.start(0, Default::default()).unwrap();
+/// std::thread::scope(|scope| scope.spawn(move || session.taken()).join());
+/// ```
 #[derive(Debug)]
 pub struct Session<'r> {
-    handle: Handle,
+    // Every call is given a place that it may write to, also those that only report.
+    handle: Cell<Handle>,
     registry: PhantomData<&'r Registry>,
 }
 
 impl<'r> Session<'r> {
     pub(crate) fn of(handle: Handle) -> Session<'r> {
-        Session { handle, registry: PhantomData }
+        Session { handle: Cell::new(handle), registry: PhantomData }
     }
 
     /// Takes the next piece, which may be empty. A session that has answered keeps its answer.
@@ -44,43 +55,44 @@ impl<'r> Session<'r> {
     /// `Value` with the reason and the place in all pieces, `Memory`.
     pub fn feed(&mut self, piece: &[u8]) -> Result<Progress, Error> {
         let mut answer = Answer::default();
-        // SAFETY: the handle is a session's, lent to this call alone, and the slice is this call's.
-        match unsafe { raw::scaleview_feed(&mut self.handle, piece.as_ptr(), piece.len(), &mut answer) } {
+        // SAFETY: the handle is a session's, which no other call uses, and the slice is this call's.
+        match unsafe { raw::scaleview_feed(self.handle.as_ptr(), piece.as_ptr(), piece.len(), &mut answer) } {
             raw::MORE => Ok(Progress::More),
             raw::OK => Ok(Progress::Done { used: answer.length }),
             _ => Err(Error::of(answer)),
         }
     }
 
-    fn reported(&mut self, call: unsafe extern "C" fn(*mut Handle, *mut Answer) -> u32) -> u64 {
+    fn reported(&self, call: unsafe extern "C" fn(*mut Handle, *mut Answer) -> u32) -> u64 {
         let mut answer = Answer::default();
         // SAFETY: as above.
-        unsafe { call(&mut self.handle, &mut answer) };
+        unsafe { call(self.handle.as_ptr(), &mut answer) };
         answer.length
     }
 
-    /// How many bytes of all pieces were taken.
-    pub fn taken(&mut self) -> u64 {
+    /// Returns the number of bytes of all pieces that were taken.
+    pub fn taken(&self) -> u64 {
         self.reported(raw::scaleview_taken)
     }
 
-    /// How many nodes of the value are held.
-    pub fn nodes(&mut self) -> u64 {
+    /// Returns the number of nodes of the value that are held.
+    pub fn nodes(&self) -> u64 {
         self.reported(raw::scaleview_nodes)
     }
 
-    /// How many bytes of its texts are held.
-    pub fn text_bytes(&mut self) -> u64 {
+    /// Returns the number of bytes of its texts that are held.
+    pub fn text_bytes(&self) -> u64 {
         self.reported(raw::scaleview_text_bytes)
     }
 
-    /// The JSON of the whole value.
+    /// Returns the JSON of the complete value. [`Registry::decode`] says how deep it nests.
     ///
     /// # Errors
-    /// `Value` with `Truncated` at the bytes taken where the value goes on, or the refusal that `feed` reported; `Memory`.
-    pub fn finish(mut self) -> Result<String, Error> {
+    /// `Value` with `Truncated` at the bytes taken where the value goes on, or the error that `feed`
+    /// reported; `Memory`.
+    pub fn finish(self) -> Result<String, Error> {
         // SAFETY: as above, and the buffer is this call's.
-        raw::text(|out, room, answer| unsafe { raw::scaleview_finish(&mut self.handle, out, room, answer) })
+        raw::text(|out, room, answer| unsafe { raw::scaleview_finish(self.handle.as_ptr(), out, room, answer) })
             .map_err(Error::of)
     }
 }
@@ -88,6 +100,6 @@ impl<'r> Session<'r> {
 impl Drop for Session<'_> {
     fn drop(&mut self) {
         // SAFETY: the handle is a session's, and no call follows.
-        unsafe { raw::scaleview_free(&mut self.handle) };
+        unsafe { raw::scaleview_free(self.handle.as_ptr()) };
     }
 }

@@ -25,7 +25,7 @@ fn told(error: Error) -> String {
         Error::Registry { reason, at } => format!("{reason} at {at}"),
         Error::Value { reason, at } => format!("{reason} at {at}"),
         Error::UnknownReference { from, to } => format!("UnknownType {to} in type {from}"),
-        Error::UnknownType => "UnknownType".to_string(),
+        Error::UnknownType { .. } => "UnknownType".to_string(),
         Error::LimitOutOfRange => "LimitOutOfRange".to_string(),
         error => error.to_string(),
     }

@@ -1,7 +1,9 @@
 //! The calls that tests make of decoders and of what shows values. What these promise stays here, so that no test's proof
 //! has to read it.
 
-use decode_core::{DecodeFault, Decoder, OpenFault, PiecesFault, Progress, StreamFault, decode_all, decode_pieces};
+use decode_core::{
+    DecodeFault, Decoder, OpenFault, PiecesFault, Progress, StreamFault, decode_all, decode_pieces,
+};
 use json_core::{json_text, print, to_json};
 use registry_core::TypeId;
 use scale_core::{Sink, Source};

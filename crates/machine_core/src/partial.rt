@@ -67,7 +67,12 @@ pub(crate) fn take_node<A: Allocator>(
 
 /// What a turn did that took the next node's own bytes, of which the last `count` are the piece's.
 #[inline(always)]
-fn node_turn(taken: Result<(), NodeFault>, held: usize, count: usize, len: usize) -> Result<usize, Stopped>
+fn node_turn(
+    taken: Result<(), NodeFault>,
+    held: usize,
+    count: usize,
+    len: usize,
+) -> Result<usize, Stopped>
     ensures { result ≡ node_turned taken held count len }
 {
     match taken {

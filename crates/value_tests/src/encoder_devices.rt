@@ -31,11 +31,7 @@ fn check_writes(
 #[test]
 fn a_node_takes_two_writes_at_most(rt: HostRuntime) -> Result<(), Fail> {
     let checked = checked(rt.alloc(), TEXT_AND_BYTES)?;
-    let calls = [
-        Call::Fields,
-        Call::Text("ab"),
-        Call::Bytes(b"\x07\xff\x00"),
-    ];
+    let calls = [Call::Fields, Call::Text("ab"), Call::Bytes(b"\x07\xff\x00")];
     let value = built(rt.alloc(), &checked, 3, 64, &calls)?;
     let bytes = b"\x08ab\x07\xff\x00";
     check_writes(&rt, rt.alloc(), &value, usize::MAX, (bytes, 3));
