@@ -2,31 +2,31 @@
 use Rattle.std.specs.Prelude.{◌⊎◌, ◌≡◌, ◌<◌, ℕ, List, [], ◌∷◌, length, take, Ok, Err}
 use Rattle.scale_core.specs.declared.compact.Target.{Target}
 use Rattle.scale_core.specs.declared.fault.Fault.{Fault}
+use Rattle.widths_core.specs.declared.run_kind.RunKind.{RunKind}
 use Rattle.grammar_core.specs.Runs.{run_form}
 use Rattle.grammar_core.specs.declared.form.Form.{Form}
 use Rattle.grammar_core.specs.declared.form.Form.TheVariants as form
 use Rattle.node_core.specs.declared.leaf.Leaf.{Leaf}
 use Rattle.node_core.specs.declared.leaf.Leaf.TheVariants as leaf
 use Rattle.form_core.specs.Needs.{AreOwn, need}
-use Rattle.form_core.specs.NodeForms.{form_of_plain, prefixed_kind}
+use Rattle.form_core.specs.NodeForms.{form_of_plain}
 use Rattle.form_core.specs.PlainReads.{ReadsPlain}
 use Rattle.form_core.specs.WholeCompacts.{IsCompactAtFront}
 use Rattle.form_core.specs.WholeRuns.{ReadsRun}
 use Rattle.form_core.specs.declared.forms.PlainForm.{PlainForm}
-use Rattle.form_core.specs.declared.forms.PrefixedRun.{PrefixedRun}
 
 -- what a node without parts is read by: the form of one of few bytes, the target of a compact
--- integer, or the form of a text or a run of bytes
+-- integer, or the kind of a text or a run of bytes
 pub data Front : Type 0 where
   plain : PlainForm → Front
   compact : Target → Front
-  run : PrefixedRun → Front
+  run : RunKind → Front
 
 -- as the form of what comes next
 abbrev pub form_of_front : Front → Form
 form_of_front (plain p) = form_of_plain p
 form_of_front (compact m) = form.Compact m
-form_of_front (run r) = run_form (prefixed_kind r)
+form_of_front (run k) = run_form k
 
 -- such a node, which the leaf is, stands whole on the front of a piece, in so many bytes
 abbrev pub StandsWhole : Front → List ℕ → Leaf → ℕ → Type 0
@@ -34,7 +34,7 @@ StandsWhole (plain p) piece l count = AreOwn (form_of_plain p) (take count piece
     × ReadsPlain p (take count piece) (Ok l)
 StandsWhole (compact m) piece l count = (n : ℕ) × (l ≡ leaf.Compact n)
     × IsCompactAtFront m piece n count
-StandsWhole (run r) piece l count = ReadsRun (prefixed_kind r) piece l count
+StandsWhole (run k) piece l count = ReadsRun k piece l count
 
 -- a piece lacks bytes of a node of few, or those are refused
 abbrev pub LacksPlain : PlainForm → List ℕ → Type 0

@@ -48,6 +48,13 @@ HasBytes (form.Array n) = ⊥
 HasBytes (form.ByteArray n) = ⊥
 HasBytes _ = Unit {0}
 
+-- the forms of nodes that have no bytes
+abbrev pub IsBare : Form → Type 0
+IsBare form.Empty = Unit {0}
+IsBare form.Fields = Unit {0}
+IsBare (form.Array n) = Unit {0}
+IsBare _ = ⊥
+
 abbrev pub IsNoText : PrimitiveKind → Type 0
 IsNoText K.Str = ⊥
 IsNoText _ = Unit {0}

@@ -1,4 +1,4 @@
--- The forms of nodes with bytes of their own and of those without, as forms.
+-- The forms of nodes with few bytes of their own, as forms.
 use Rattle.registry_core.specs.Kinds.{width_bytes}
 use Rattle.registry_core.specs.declared.kind.IntegerWidth.{IntegerWidth}
 use Rattle.registry_core.specs.declared.kind.IntegerWidth.TheVariants as width
@@ -8,21 +8,12 @@ use Rattle.registry_core.specs.declared.primitive.Primitive.{Primitive}
 use Rattle.registry_core.specs.declared.primitive.Primitive.TheVariants as P
 use Rattle.widths_core.specs.Layouts.{Plain}
 use Rattle.widths_core.specs.Layouts as layout
-use Rattle.widths_core.specs.declared.run_kind.RunKind.{RunKind}
-use Rattle.widths_core.specs.declared.run_kind.RunKind.TheVariants as kind
-use Rattle.grammar_core.specs.Runs.{run_form}
 use Rattle.grammar_core.specs.declared.form.Form.{Form}
 use Rattle.grammar_core.specs.declared.form.Form.TheVariants as form
 use Rattle.form_core.specs.declared.forms.PlainForm.{PlainForm}
 use Rattle.form_core.specs.declared.forms.PlainForm.TheVariants as plain
 use Rattle.form_core.specs.declared.forms.BytesForm.{BytesForm}
 use Rattle.form_core.specs.declared.forms.BytesForm.TheVariants as bytes
-use Rattle.form_core.specs.declared.forms.BareForm.{BareForm}
-use Rattle.form_core.specs.declared.forms.BareForm.TheVariants as bare
-use Rattle.form_core.specs.declared.forms.NodeForm.{NodeForm}
-use Rattle.form_core.specs.declared.forms.NodeForm.TheVariants as node
-use Rattle.form_core.specs.declared.forms.PrefixedRun.{PrefixedRun}
-use Rattle.form_core.specs.declared.forms.PrefixedRun.TheVariants as prefixed
 
 -- the primitive types of integers
 abbrev pub unsigned_of : IntegerWidth → Primitive
@@ -52,25 +43,12 @@ form_of_plain (plain.Wide s) = form.Primitive (wide_of s)
 form_of_plain (plain.Compact m) = form.Compact m
 form_of_plain plain.Count = form.Count
 
-abbrev pub prefixed_kind : PrefixedRun → RunKind
-prefixed_kind prefixed.Text = kind.Text
-prefixed_kind prefixed.Bytes = kind.Bytes
-
 abbrev pub form_of_bytes : BytesForm → Form
 form_of_bytes (bytes.Plain p) = form_of_plain p
-form_of_bytes (bytes.Run p) = run_form (prefixed_kind p)
+form_of_bytes bytes.Text = form.Primitive P.Str
+form_of_bytes bytes.Bytes = form.Bytes
 form_of_bytes bytes.Arm = form.Arm
 form_of_bytes bytes.Sequence = form.Sequence
-
-abbrev pub form_of_bare : BareForm → Form
-form_of_bare bare.Empty = form.Empty
-form_of_bare bare.Fields = form.Fields
-form_of_bare (bare.Array n) = form.Array n
-
-abbrev pub form_of_node : NodeForm → Form
-form_of_node (node.Bytes f) = form_of_bytes f
-form_of_node (node.Bare f) = form_of_bare f
-form_of_node (node.ByteArray n) = form.ByteArray n
 
 -- how the bytes of a node without parts are laid out
 abbrev pub plain_layout : PlainForm → Plain

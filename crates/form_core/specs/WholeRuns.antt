@@ -1,21 +1,35 @@
 -- A text or a run of bytes that stands whole on the front of a piece.
 use Rattle.std.specs.Prelude.{◌≡◌, ◌<◌, ◌≤◌, ◌^◌, ℕ, List, length, drop, Ok}
+use Rattle.scale_core.specs.Read.{Read, ◌>>=◌, bytes_at}
+use Rattle.scale_core.specs.declared.fault.Reason.{Reason}
 use Rattle.widths_core.specs.declared.run_kind.RunKind.{RunKind}
-use Rattle.widths_core.specs.declared.run_kind.RunKind.TheVariants as kind
 use Rattle.grammar_core.specs.Preorder as head
-use Rattle.grammar_core.specs.Runs.{run_at, run_leaf}
+use Rattle.grammar_core.specs.Runs.{run_at, run_leaf, run_length_at}
 use Rattle.node_core.specs.Leaves.{leaf_head, FitsLeaf}
 use Rattle.node_core.specs.declared.leaf.Leaf.{Leaf}
 
--- these bytes stand whole on the front of a piece behind their length, with which they are so many
-pub record IsAtFront (piece bytes : List ℕ) (count : ℕ) : Type 0 where
+-- the length of a run begins a piece, in so many bytes
+pub record IsLengthAtFront (k : RunKind) (piece : List ℕ) (n count : ℕ) : Type 0 where
+  pub within : count ≤ length piece
+  pub few : n < 2 ^ 32
+  pub read : run_length_at k piece ≡ Ok (n, drop count piece)
+
+-- the bytes of a run after its length, which may be no text yet
+unfoldable pub run_bytes_at : RunKind → List ℕ → Read Reason (List ℕ)
+run_bytes_at k b = do
+  n ← run_length_at k b
+  bytes_at n.0 n.1
+
+-- these bytes of a run begin a piece, with their length in so many
+pub record IsAtFront (k : RunKind) (piece bytes : List ℕ) (count : ℕ) : Type 0 where
   pub few : length bytes < 2 ^ 32
   pub within : count ≤ length piece
-  pub read : run_at kind.Bytes piece ≡ Ok (bytes, drop count piece)
+  pub read : run_bytes_at k piece ≡ Ok (bytes, drop count piece)
 
 -- a run of this kind stands whole on the front of a piece, with so many bytes, and the leaf is it
 pub record ReadsRun (k : RunKind) (piece : List ℕ) (l : Leaf) (count : ℕ) : Type 0 where
   pub bytes : List ℕ
+  pub few : length bytes < 2 ^ 32
   pub head : leaf_head l ≡ head.leaf (run_leaf k bytes)
   pub fits : FitsLeaf l
   pub within : count ≤ length piece

@@ -5,7 +5,8 @@ ghost use Rattle.form_core.specs.Needs.{IsFirst};
 
 use std::marker::Model;
 
-/// At most 32 bytes: those of an integer, a character, a compact integer or an index that came so far.
+/// At most 32 bytes: those of an integer, a character, a compact integer or an index that came so
+/// far.
 #[derive(Drop)]
 pub struct Carry {
     bytes: [u8; 32],

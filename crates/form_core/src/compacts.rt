@@ -7,9 +7,10 @@ ghost use Rattle.form_core.specs.WholeCompacts.{IsCompactAtFront};
 
 use scale_core::{Target, read_compact, read_u32, read_u64};
 
-/// The number and the length of a compact integer of one, two or four bytes, off a word of four. Its two low bits tell which,
-/// and no jump is taken on them, since none could be foretold. There is none where they name the fourth form, where a
-/// shorter form has the number, and where fewer than four bytes are there.
+/// The number and the length of a compact integer of one, two or four bytes, off a word of four.
+/// Its two low bits tell which, and no jump is taken on them, since none could be foretold. There
+/// is none where they name the fourth form, where a shorter form has the number, and where fewer
+/// than four bytes are there.
 #[inline(always)]
 fn short_mode(piece: &[u8]) -> Option<(u32, usize)>
     ensures { IfSome result (λ x. (m : Target) → 4 ≤ target_bytes m →
@@ -30,9 +31,9 @@ fn short_mode(piece: &[u8]) -> Option<(u32, usize)>
     Some((number, len))
 }
 
-/// The number and the length of a compact integer of the fourth form, off the eight bytes after its first one. There is none
-/// where it is of another form, where it has more bytes than these or than the target, where a shorter form has the number,
-/// and where fewer than eight are there.
+/// The number and the length of a compact integer of the fourth form, off the eight bytes after its
+/// first one. There is none where it is of another form, where it has more bytes than these or than
+/// the target, where a shorter form has the number, and where fewer than eight are there.
 #[inline(always)]
 fn long_mode(target: Target, piece: &[u8]) -> Option<(u64, usize)>
     ensures { IfSome result (λ x. IsCompactAtFront target piece.now x.0 x.1) }
@@ -54,7 +55,8 @@ fn long_mode(target: Target, piece: &[u8]) -> Option<(u64, usize)>
     Some((number, count + 1))
 }
 
-/// The same of any compact integer: one at the end of a piece, a longer one, or one for a target of a byte or two.
+/// The same of any compact integer: one at the end of a piece, a longer one, or one for a target of
+/// a byte or two.
 #[inline(never)]
 fn any_form(target: Target, piece: &[u8]) -> Option<(u128, usize)>
     ensures some { IfSome result (λ x. IsCompactAtFront target piece.now x.0 x.1) }
@@ -66,9 +68,10 @@ fn any_form(target: Target, piece: &[u8]) -> Option<(u128, usize)>
     Some(found)
 }
 
-/// The compact integer that stands whole on the front of the piece, and how many bytes it has, 1 to 17 (SCALE codec,
-/// "Compact/General Integers"). There is none where bytes of it are missing, where the target can't hold it, and where a
-/// shorter form has its number. Where the target is `Unit` it is 0, in no byte. It takes no memory.
+/// The compact integer that stands whole on the front of the piece, and how many bytes it has, 1 to
+/// 17 (SCALE codec, "Compact/General Integers"). There is none where bytes of it are missing, where
+/// the target can't hold it, and where a shorter form has its number. Where the target is `Unit` it
+/// is 0, in no byte. It takes no memory.
 #[inline(always)]
 pub fn whole_compact(target: Target, piece: &[u8]) -> Option<(u128, usize)>
     ensures some { IfSome result (λ x. IsCompactAtFront target piece.now x.0 x.1) }

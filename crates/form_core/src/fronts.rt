@@ -5,29 +5,30 @@ ghost use Rattle.scale_core.specs.Read.{compact_at};
 ghost use Rattle.grammar_core.specs.Runs.{run_at};
 ghost use Rattle.node_core.specs.Leaves.{FitsLeaf};
 ghost use Rattle.form_core.specs.Fronts.{Front, LacksPlain, StandsWhole, compact, plain, run};
-ghost use Rattle.form_core.specs.NodeForms.{prefixed_kind};
 
 use crate::compacts::whole_compact;
-use crate::forms::{BytesForm, PlainForm, PrefixedRun};
+use crate::forms::{BytesForm, PlainForm};
 use crate::needs::need;
 use crate::plain::read_plain;
 use crate::runs::whole_run;
+use grammar_core::RunKind;
 use node_core::Leaf;
 use scale_core::Target;
 
-/// The form of a node without parts, by which one is read that a piece has whole on its front: a `PlainForm` of a node of few
-/// bytes, the `Target` of a compact integer, and a `PrefixedRun` of a text or a run of bytes. They are types of their own, so
-/// that what goes through a list of nodes is made for each of them alone.
+/// A form by which a complete node without parts is read from the start of a piece: a
+/// [`PlainForm`], the [`Target`] of a compact integer, or the [`RunKind`] of a text or a run of
+/// bytes.
+// Three types, so that the loop over a list of nodes is compiled for each of them.
 pub trait LeafForm: Copy {
-    /// Which of them it is.
+    /// The form as a definition.
     ghost front: { Self → Front };
 
-    /// No node of this form stands whole on the front of a piece.
+    /// That no complete node of this form begins a piece.
     ghost lacks: { Self → List ℕ → Type 0 };
 
-    /// The node that stands whole on the front of the piece, and how many bytes it has (SCALE codec, "Types"). There is none
-    /// where bytes of it are missing, and where it is refused. It takes no memory: a text, a run of bytes and an integer of
-    /// 256 bits lend the bytes of the piece.
+    /// Returns the node that begins the piece and how many bytes it has (SCALE codec, "Types"), or
+    /// `None` if bytes of it are missing or it is rejected. It allocates nothing: texts, runs of
+    /// bytes and integers of 256 bits borrow from the piece.
     fn leaf_at_front<'p>(self, piece: &'p [u8]) -> Option<(Leaf<'p>, usize)>
         ensures whole { IfSome result (λ x. StandsWhole (front self) piece.now x.0 x.1) }
         ensures fits { IfSome result (λ x. FitsLeaf x.0) }
@@ -70,10 +71,10 @@ impl LeafForm for Target {
     }
 }
 
-impl LeafForm for PrefixedRun {
+impl LeafForm for RunKind {
     ghost front = { run };
 
-    ghost lacks = { λ r piece. IsErr (run_at (prefixed_kind r) piece) };
+    ghost lacks = { λ k piece. IsErr (run_at k piece) };
 
     #[inline(always)]
     fn leaf_at_front<'p>(self, piece: &'p [u8]) -> Option<(Leaf<'p>, usize)> {

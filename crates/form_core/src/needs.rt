@@ -46,8 +46,9 @@ fn plain_need(form: PlainForm, first: u8) -> usize
     }
 }
 
-/// How many bytes a node of this form has of its own, by the first of them, or how many decide that it is refused (SCALE
-/// codec, "Compact/General Integers"); of a text or a run of bytes its length alone. They are 1 to 32.
+/// How many bytes a node of this form has of its own, by the first of them, or how many decide that
+/// it is refused (SCALE codec, "Compact/General Integers"); of a text or a run of bytes its length
+/// alone. They are 1 to 32.
 #[inline(always)]
 pub fn need(form: BytesForm, first: u8) -> usize
     ensures exact { result ≡ need (form_of_bytes form) first }
@@ -57,6 +58,8 @@ pub fn need(form: BytesForm, first: u8) -> usize
     match form {
         BytesForm::Plain(plain) => plain_need(plain, first),
         BytesForm::Arm => 1,
-        BytesForm::Run(_) | BytesForm::Sequence => compact_need(Target::U32, first),
+        BytesForm::Text | BytesForm::Bytes | BytesForm::Sequence => {
+            compact_need(Target::U32, first)
+        }
     }
 }

@@ -45,11 +45,13 @@ fn read_signed(width: IntegerWidth, own: &[u8]) -> Result<i128, Fault>
     })
 }
 
-/// The length that stands in front of a text, a sequence or a run of bytes, read off the front of the bytes (SCALE codec,
-/// "Compact/General Integers"): a compact integer of at most 32 bits. It takes no memory.
+/// The length that stands in front of a text, a sequence or a run of bytes, read off the front of
+/// the bytes (SCALE codec, "Compact/General Integers"): a compact integer of at most 32 bits. It
+/// takes no memory.
 ///
-/// Refuses as `read_compact` does for 32 bits: with `Truncated` at their length too few bytes, with `CompactNotShortest` at 0
-/// a form longer than the number needs, and with `CompactTooLarge` at 0 a number past 32 bits.
+/// Refuses as `read_compact` does for 32 bits: with `Truncated` at their length too few bytes, with
+/// `CompactNotShortest` at 0 a form longer than the number needs, and with `CompactTooLarge` at 0 a
+/// number past 32 bits.
 pub fn read_length(own: &[u8]) -> Result<u32, Fault>
     ensures { ReadsFront own.now result (compact_at Target.U32 own.now) }
 {
@@ -57,11 +59,12 @@ pub fn read_length(own: &[u8]) -> Result<u32, Fault>
     Ok(length as u32)
 }
 
-/// A node without parts, read off its own bytes, which are as many as its form needs (SCALE codec, "Types"). It takes no
-/// memory: a 256-bit integer lends its 32 bytes.
+/// A node without parts, read off its own bytes, which are as many as its form needs (SCALE codec,
+/// "Types"). It takes no memory: a 256-bit integer lends its 32 bytes.
 ///
-/// Refuses, at the place from the first of them: with `BadBool` at 0 a boolean other than `00` and `01`, with `BadChar` at 0
-/// four bytes that are no character, and compact integers and counts as `read_compact` does.
+/// Refuses, at the place from the first of them: with `BadBool` at 0 a boolean other than `00` and
+/// `01`, with `BadChar` at 0 four bytes that are no character, and compact integers and counts as
+/// `read_compact` does.
 #[inline(always)]
 pub fn read_plain<'b>(form: PlainForm, own: &'b [u8]) -> Result<Leaf<'b>, Fault>
     requires { AreOwn (form_of_plain form) own.now }

@@ -1,23 +1,20 @@
 //! A text or a run of bytes that stands whole on the front of a piece.
 
 ghost use Rattle.std.specs.Prelude.{◌↔◌, IfNone, IfSome, IsErr, IsTrue, IsUtf8};
-ghost use Rattle.scale_core.specs.Read.{compact_at};
-ghost use Rattle.grammar_core.specs.Runs.{run_at};
-ghost use Rattle.form_core.specs.NodeForms.{prefixed_kind};
-ghost use Rattle.form_core.specs.WholeCompacts.{IsCompactAtFront};
-ghost use Rattle.form_core.specs.WholeRuns.{IsAtFront, ReadsRun};
+ghost use Rattle.grammar_core.specs.Runs.{run_at, run_length_at};
+ghost use Rattle.form_core.specs.WholeRuns.{IsAtFront, IsLengthAtFront, ReadsRun, run_bytes_at};
 
-use crate::forms::PrefixedRun;
+use crate::compacts::whole_compact;
 use grammar_core::RunKind;
 use node_core::Leaf;
-use scale_core::{Target, read_compact};
+use scale_core::Target;
 use simdutf8::compat::from_utf8;
 
-/// The texts of so many bytes and fewer are looked at for ASCII first.
+/// Texts of at most so many bytes are checked for ASCII first.
 const SHORT: usize = 64;
 
-/// Are the bytes UTF-8? Most texts are short, and ASCII: a few words tell that, where to look at each character takes several
-/// times as long.
+/// Returns whether the bytes are UTF-8.
+// Most texts are short and ASCII, which a few words decide.
 #[inline(always)]
 fn is_text(bytes: &[u8]) -> bool
     ensures { IsTrue result ↔ IsUtf8 bytes.now }
@@ -28,55 +25,49 @@ fn is_text(bytes: &[u8]) -> bool
     from_utf8(bytes).is_ok()
 }
 
-/// The length that stands on the front of the piece, and how many bytes it has: none where it is cut or refused. Most have one
-/// byte, whose two low bits are zeros; those take no call.
+/// Returns the length of the run that begins the piece and how many bytes spell it, or `None` if it
+/// is cut or rejected. The type gives the length of an array.
 #[inline(always)]
-fn length_at_front(piece: &[u8]) -> Option<(usize, usize)>
-    ensures some { IfSome result (λ x. IsCompactAtFront Target.U32 piece.now x.0 x.1) }
-    ensures none { IfNone result (IsErr (compact_at Target.U32 piece.now)) }
+fn length_at_front(kind: RunKind, piece: &[u8]) -> Option<(usize, usize)>
+    ensures some { IfSome result (λ x. IsLengthAtFront kind piece.now x.0 x.1) }
+    ensures none { IfNone result (IsErr (run_length_at kind piece.now)) }
 {
-    if let Some(first) = piece.first()
-        && first % 4 == 0
-    {
-        return Some((usize::from(first / 4), 1));
+    match kind {
+        RunKind::ByteArray(len) => Some((len as usize, 0)),
+        RunKind::Text | RunKind::Bytes => {
+            let (len, count) = whole_compact(Target::U32, piece)?;
+            Some((len as usize, count))
+        }
     }
-    let Ok((length, count)) = read_compact(piece, Target::U32) else {
-        return None;
-    };
-    Some((length as usize, count))
 }
 
-/// The bytes that stand whole on the front of the piece behind their length, and how many they are with that: none where bytes
-/// are missing, or the length is refused.
+/// Returns the bytes of the run that begins the piece and how many bytes it has with its length, or
+/// `None` if bytes are missing or its length is rejected.
 #[inline(always)]
-fn bytes_at_front(piece: &[u8]) -> Option<(&[u8], usize)>
-    ensures some { IfSome result (λ x. IsAtFront piece.now x.0.now x.1) }
-    ensures none { IfNone result (IsErr (run_at RunKind.Bytes piece.now)) }
+fn bytes_at_front(kind: RunKind, piece: &[u8]) -> Option<(&[u8], usize)>
+    ensures some { IfSome result (λ x. IsAtFront kind piece.now x.0.now x.1) }
+    ensures none { IfNone result (IsErr (run_bytes_at kind piece.now)) }
 {
-    let Some((length, start)) = length_at_front(piece) else {
-        return None;
-    };
+    let (len, start) = length_at_front(kind, piece)?;
     let rest = &piece[start..];
-    if rest.len() < length {
+    if rest.len() < len {
         return None;
     }
-    Some((&rest[..length], start + length))
+    Some((&rest[..len], start + len))
 }
 
-/// The text or the run of bytes that stands whole on the front of the piece, and how many bytes it has with its length
-/// (SCALE codec, "Strings" and "Vectors"). There is none where bytes of its length or of itself are missing, where its
-/// length is refused, and where a text is not UTF-8. It takes no memory: the leaf lends the bytes of the piece.
+/// Returns the text or the run of bytes that begins the piece and how many bytes it has with its
+/// length (SCALE codec, "Strings" and "Vectors"), or `None` if bytes of it are missing, its length
+/// is rejected, or a text is not UTF-8. It allocates nothing: the leaf borrows from the piece.
 #[inline(always)]
-pub fn whole_run(run: PrefixedRun, piece: &[u8]) -> Option<(Leaf<'_>, usize)>
-    ensures some { IfSome result (λ x. ReadsRun (prefixed_kind run) piece.now x.0 x.1) }
-    ensures none { IfNone result (IsErr (run_at (prefixed_kind run) piece.now)) }
+pub fn whole_run(kind: RunKind, piece: &[u8]) -> Option<(Leaf<'_>, usize)>
+    ensures some { IfSome result (λ x. ReadsRun kind piece.now x.0 x.1) }
+    ensures none { IfNone result (IsErr (run_at kind piece.now)) }
 {
-    let Some((bytes, count)) = bytes_at_front(piece) else {
-        return None;
-    };
-    match run {
-        PrefixedRun::Text if !is_text(bytes) => None,
-        PrefixedRun::Text => Some((Leaf::Text(bytes), count)),
-        PrefixedRun::Bytes => Some((Leaf::Bytes(bytes), count)),
+    let (bytes, count) = bytes_at_front(kind, piece)?;
+    match kind {
+        RunKind::Text if !is_text(bytes) => None,
+        RunKind::Text => Some((Leaf::Text(bytes), count)),
+        RunKind::Bytes | RunKind::ByteArray(_) => Some((Leaf::Bytes(bytes), count)),
     }
 }

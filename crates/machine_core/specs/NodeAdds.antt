@@ -51,10 +51,6 @@ abbrev pub AddsBytes : {E : Type 0} → Built → Built → List ℕ → Result 
 AddsBytes old new own (Ok _) = IsAdded old new own
 AddsBytes old new own (Err e) = IsSpelled old own × (new ≡ old)
 
--- the same of a node without bytes of its own
-abbrev pub AddsBare : {E : Type 0} → Built → Built → Result (Unit {0}) E → Type 0
-AddsBare old new added = AddsBytes old new [] added
-
 -- the bytes are the length of the run that is next, which is open and lacks all its bytes
 abbrev pub IsRunOpened : Form → Built → Built → List ℕ → Type 0
 IsRunOpened f old new own = (k : RunKind) × (n : ℕ) × (f ≡ run_form k)

@@ -265,12 +265,6 @@ pub record WholeTurnsReport (old new : Running) (piece : List ℕ) (from to n : 
   pub reports : WholeReports before new (drop n piece) last
   pub whole : is_whole old.built ≡ true → (n ≡ 0) × (before ≡ old) × (last ≡ tried.Untouched)
 
--- a turn that needs no bytes
-abbrev pub BareReports : Running → Running → Turned → Type 0
-BareReports old new (Ok n) = (n ≡ 0) × IsSame old new × Steps old new []
-BareReports old new (Err stop.OutOfMemory) = (rest : List ℕ) → WantsMemory old rest
-BareReports old new (Err s) = ⊥
-
 -- what a turn did that took the next node's own bytes
 abbrev pub node_turned : Result (Unit {0}) NodeFault → ℕ → ℕ → ℕ → Turned
 node_turned (Ok u) held count len = Ok count

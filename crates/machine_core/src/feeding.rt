@@ -1,4 +1,4 @@
-//! The turns on a piece: nodes whose bytes it has whole, those of one form taken together, and the bytes that end it.
+//! The turns on a piece: nodes that lie whole in it, lists of one form, and the bytes that end it.
 
 ghost use Rattle.std.specs.Prelude.{ℕ, List, ◌≡◌, ◌≤◌, ◌<◌, ◌++◌, [], Some, None, Err};
 ghost use Rattle.std.specs.Prelude.{length, IfOk, OnErr};
@@ -6,7 +6,8 @@ ghost use Rattle.node_core.specs.Leaves.{leaf_head, FitsLeaf};
 ghost use Rattle.value_core.specs.Built.{IsNextLeaf};
 ghost use Rattle.value_core.specs.Walked.{elements_after, next_of};
 ghost use Rattle.form_core.specs.Fronts.{form_of_front};
-ghost use Rattle.form_core.specs.NodeForms.{form_of_bare, form_of_bytes};
+ghost use Rattle.form_core.specs.NodeForms.{form_of_bytes};
+ghost use Rattle.form_core.specs.Needs.{IsBare};
 ghost use Rattle.machine_core.specs.NodeAdds.{IsWholeLeaf};
 ghost use Rattle.machine_core.specs.Running.{IsCarry, IsRunNext};
 ghost use Rattle.machine_core.specs.Turned.{Awaits, CallSoFar, CutReports, FeedTells, GoesOn};
@@ -17,14 +18,15 @@ use crate::partial::{Partial, take_node};
 use crate::turned::{Stopped, Tried};
 use count_core::Count;
 use form_core::PlainForm::Unsigned;
-use form_core::{BareForm, BytesForm, LeafForm, NodeForm, PrefixedRun, need, node_form};
+use form_core::{BytesForm, LeafForm, bytes_form, need};
 use registry_core::IntegerWidth::{Bits8, Bits16, Bits32, Bits64, Bits128};
 use registry_core::Primitive;
 use std::alloc::{AllocError, Allocator};
-use value_core::{Form, Leaf, Next};
+use value_core::{Form, Leaf, Next, RunKind};
 
 impl<'r, A: Allocator> Partial<'r, A> {
-    /// A turn on a node that pieces cut, where this one has the bytes that are missing and they are not refused.
+    /// Takes a turn on a node that pieces cut, if this one has the bytes that are missing and they
+    /// are not rejected.
     #[inline(always)]
     fn whole_cut(&mut self, form: BytesForm, piece: &[u8]) -> Tried
         requires next { Awaits self.old (form_of_bytes form) }
@@ -54,7 +56,8 @@ impl<'r, A: Allocator> Partial<'r, A> {
         }
     }
 
-    /// A turn on a variant or a sequence, where the piece has its own bytes whole and they are not refused.
+    /// Takes a turn on a variant or a sequence, if the piece has its own bytes and they are not
+    /// rejected.
     #[inline(always)]
     fn whole_own(&mut self, form: BytesForm, piece: &[u8]) -> Tried
         requires parts { HasParts form }
@@ -76,7 +79,7 @@ impl<'r, A: Allocator> Partial<'r, A> {
         }
     }
 
-    /// A turn on a node without parts that the piece has whole: the leaf, which these bytes of it spell, is added.
+    /// Takes a turn on a node without parts: adds the leaf, which these bytes of the piece spell.
     #[inline(always)]
     fn whole_leaf(&mut self, leaf: Leaf<'_>, own: &[u8]) -> Tried
         requires whole { IsWholeLeaf self.old.built own.now leaf }
@@ -93,7 +96,7 @@ impl<'r, A: Allocator> Partial<'r, A> {
         Tried::Added(own.len())
     }
 
-    /// A turn on a node without parts, where the piece has its bytes whole and they are not refused.
+    /// Takes a turn on a node without parts, if it lies whole in the piece and is not rejected.
     #[inline(always)]
     fn whole_single<F: LeafForm>(&mut self, form: F, piece: &[u8]) -> Tried
         requires next { Awaits self.old (form_of_front (F.front form)) }
@@ -106,7 +109,7 @@ impl<'r, A: Allocator> Partial<'r, A> {
         }
     }
 
-    /// The same of an element of a list that another follows: that one is next then, which takes no look.
+    /// Takes a turn on an element of a list that another one follows, which is next then.
     #[inline(always)]
     fn whole_element<F: LeafForm>(&mut self, form: F, piece: &[u8]) -> Tried
         requires next { Awaits self.old (form_of_front (F.front form)) }
@@ -125,7 +128,7 @@ impl<'r, A: Allocator> Partial<'r, A> {
         Tried::Added(count)
     }
 
-    /// A turn on an array of u8, where the piece has it whole.
+    /// Takes a turn on an array of u8, if it lies whole in the piece.
     pub(crate) fn whole_byte_array(&mut self, len: u32, piece: &[u8]) -> Tried
         requires next { next_of self.old.built.walk ≡ Next.Wants (Form.ByteArray len) }
         requires closed { self.old.built.run ≡ None }
@@ -141,11 +144,14 @@ impl<'r, A: Allocator> Partial<'r, A> {
         self.whole_leaf(Leaf::Bytes(own), own)
     }
 
-    /// A turn on a node without bytes of its own: none are missing, so it is added.
+    /// Takes a turn on a node without bytes of its own, which is added.
     #[inline(always)]
-    fn whole_bare(&mut self, form: BareForm) -> Tried
-        requires { Awaits self.old (form_of_bare form) }
-        ensures { (piece : List ℕ) → WholeReports self.old self.new piece result }
+    pub(crate) fn whole_bare(&mut self, form: Form) -> Tried
+        requires bare { IsBare form }
+        requires next { next_of self.old.built.walk ≡ Next.Wants form }
+        requires closed { self.old.built.run ≡ None }
+        ensures reports { (piece : List ℕ) → WholeReports self.old self.new piece result }
+        ensures taken { result ≡ Tried.Untouched → ⊥ }
     {
         match add_bare(&mut self.builder, form) {
             Ok(()) => Tried::Added(0),
@@ -153,8 +159,8 @@ impl<'r, A: Allocator> Partial<'r, A> {
         }
     }
 
-    /// Takes the turns on a composite or a tuple, which is next: two where its one part is an array of u8 that the piece has
-    /// whole, which is added with it, and else one.
+    /// Takes the turns on a composite or a tuple, which is next: two if its one part is an array of
+    /// u8 that lies whole in the piece, which is added with it, and otherwise one.
     #[inline(always)]
     fn fields_turns(&mut self, piece: &[u8], turns: &mut Count) -> (usize, Tried)
         requires next { Awaits self.old Form.Fields }
@@ -168,13 +174,14 @@ impl<'r, A: Allocator> Partial<'r, A> {
                 turns.tick();
                 (0, Tried::Added(count))
             }
-            Ok(None) => (0, self.whole_bare(BareForm::Fields)),
+            Ok(None) => (0, self.whole_bare(Form::Fields)),
             Err(_) => (0, Tried::OutOfMemory),
         }
     }
 
-    /// Takes turns on nodes of this form, one of which is next, as long as the piece has their bytes whole: on all that are
-    /// left of an open list, or on one. How many bytes those before the last one took, and what came of the last one.
+    /// Takes turns on nodes of this form, one of which is next, as long as the piece has their
+    /// bytes: on all that are left of an open list, or on one. Returns how many bytes those before
+    /// the last one took, and the last one's outcome.
     #[inline(always)]
     fn repeat<F: LeafForm>(&mut self, form: F, piece: &[u8], turns: &mut Count) -> (usize, Tried)
         requires next { Awaits self.old (form_of_front (F.front form)) }
@@ -199,8 +206,9 @@ impl<'r, A: Allocator> Partial<'r, A> {
         (at, self.whole_single(form, &piece[at..]))
     }
 
-    /// The same in a call, where what reads the nodes is too much for the loop over whole nodes. How many bytes those before
-    /// the last one took is left in `before`: a pair would have a place in memory, which that loop clears for each node.
+    /// The out-of-line form of [`repeat`](Self::repeat); leaves in `before` how many bytes the
+    /// turns before the last one took.
+    // A returned pair would lie in memory, which the loop over nodes clears for each of them.
     #[inline(never)]
     fn repeat_call<F: LeafForm>(
         &mut self,
@@ -219,7 +227,7 @@ impl<'r, A: Allocator> Partial<'r, A> {
         last
     }
 
-    /// Takes turns on nodes of this form, one of which is next, as above, in a call.
+    /// Takes the turns of [`repeat`](Self::repeat), in a call.
     #[inline(always)]
     fn repeat_apart<F: LeafForm>(
         &mut self,
@@ -237,7 +245,7 @@ impl<'r, A: Allocator> Partial<'r, A> {
         (before, last)
     }
 
-    /// Takes a turn on a node of this form, which is next, where the piece has its own bytes whole.
+    /// Takes a turn on a node of this form, which is next, if the piece has its own bytes.
     #[inline(always)]
     fn whole_node(&mut self, form: Form, piece: &[u8]) -> Tried
         requires next { Awaits self.old form }
@@ -249,16 +257,17 @@ impl<'r, A: Allocator> Partial<'r, A> {
             Form::Sequence => self.whole_own(BytesForm::Sequence, piece),
             Form::Compact(target) => self.whole_single(target, piece),
             Form::ByteArray(len) => self.whole_byte_array(len, piece),
-            other => match node_form(other) {
-                NodeForm::Bytes(BytesForm::Plain(plain)) => self.whole_single(plain, piece),
+            other => match bytes_form(other) {
+                Some(BytesForm::Plain(plain)) => self.whole_single(plain, piece),
                 _ => Tried::Untouched,
             },
         }
     }
 
-    /// Takes turns on nodes whose own bytes the piece has whole, the first of which is of this form: on all that are left of a
-    /// list of nodes without parts, and else on one. Each arm of integers names its form anew, so that its turns are made for
-    /// it alone. A piece of one byte has no more than one node for a loop, which would look for the next in vain.
+    /// Takes turns on nodes that lie whole in the piece, the first of which has this form: on all
+    /// that are left of a list of nodes without parts, and otherwise on one.
+    // Each arm of integers names its form, so that `repeat` is compiled for it. A piece of one byte
+    // has no more than one node for a loop.
     #[inline(always)]
     fn whole_nodes(&mut self, form: Form, piece: &[u8], turns: &mut Count) -> (usize, Tried)
         requires next { Awaits self.old form }
@@ -272,16 +281,14 @@ impl<'r, A: Allocator> Partial<'r, A> {
             Form::Primitive(Primitive::U32) => self.repeat(Unsigned(Bits32), piece, turns),
             Form::Primitive(Primitive::U64) => self.repeat(Unsigned(Bits64), piece, turns),
             Form::Primitive(Primitive::U128) => self.repeat(Unsigned(Bits128), piece, turns),
-            Form::Primitive(Primitive::Str) => self.repeat_apart(PrefixedRun::Text, piece, turns),
-            Form::Bytes => self.repeat_apart(PrefixedRun::Bytes, piece, turns),
+            Form::Primitive(Primitive::Str) => self.repeat_apart(RunKind::Text, piece, turns),
+            Form::Bytes => self.repeat_apart(RunKind::Bytes, piece, turns),
             Form::Compact(target) if piece.len() > 1 && self.builder.walk().is_in_list() => {
                 self.repeat_apart(target, piece, turns)
             }
-            Form::Primitive(primitive) if piece.len() > 1 && self.builder.walk().is_in_list() => {
-                match node_form(Form::Primitive(primitive)) {
-                    NodeForm::Bytes(BytesForm::Plain(plain)) => {
-                        self.repeat_apart(plain, piece, turns)
-                    }
+            Form::Primitive(_) if piece.len() > 1 && self.builder.walk().is_in_list() => {
+                match bytes_form(form) {
+                    Some(BytesForm::Plain(plain)) => self.repeat_apart(plain, piece, turns),
                     _ => {
                         turns.tick();
                         (0, Tried::Untouched)
@@ -296,8 +303,12 @@ impl<'r, A: Allocator> Partial<'r, A> {
         }
     }
 
-    /// Takes a turn, and counts it, on the node whose first bytes are carried, where the piece has the others and they are not
-    /// refused: how many bytes it took, 0 where a turn of another kind is in its place. Where memory is refused nothing changes.
+    /// Takes a turn, and counts it, on the node whose first bytes are carried, if the piece has the
+    /// others. Returns how many bytes it took, or 0 if a turn of another kind is in its place.
+    ///
+    /// # Errors
+    ///
+    /// If an allocation fails; nothing changes.
     #[inline(never)]
     fn carried_turn(&mut self, piece: &[u8], turns: &mut Count) -> Result<usize, AllocError>
         requires { 1 ≤ length self.old.carry }
@@ -308,7 +319,7 @@ impl<'r, A: Allocator> Partial<'r, A> {
     {
         self.is_on_its_way();
         if let Some(form) = self.next_form()
-            && let NodeForm::Bytes(own) = node_form(form)
+            && let Some(own) = bytes_form(form)
         {
             match self.whole_cut(own, piece) {
                 Tried::Added(count) => {
@@ -325,8 +336,9 @@ impl<'r, A: Allocator> Partial<'r, A> {
         Ok(0)
     }
 
-    /// Takes turns on nodes whose own bytes the piece has whole, and counts each, as long as it has bytes: how many bytes those
-    /// before the last one took, and what came of the last one. Where it is `Untouched`, a turn of another kind is in its place.
+    /// Takes turns on nodes that lie whole in the piece, and counts each. Returns how many bytes
+    /// those before the last one took, and the last one's outcome, in place of which a turn of
+    /// another kind follows if it is `Untouched`.
     #[inline(always)]
     fn whole_turns(&mut self, piece: &[u8], turns: &mut Count) -> (usize, Tried)
         ensures { WholeTurnsReport self.old self.new piece.now turns.old.so_far turns.new.so_far
@@ -348,8 +360,8 @@ impl<'r, A: Allocator> Partial<'r, A> {
         (at, Tried::Untouched)
     }
 
-    /// Takes turns until one stops, and counts each: how many bytes of the piece they took, and why they stopped; where
-    /// memory was refused, the bytes alone. The turns that close nodes are the builder's own, and counted there.
+    /// Takes turns until one stops, and counts each. Returns how many bytes of the piece they took
+    /// and why they stopped. The builder counts the turns that close nodes.
     #[inline(never)]
     pub fn feed(&mut self, piece: &[u8], turns: &mut Count) -> (usize, Stopped)
         ensures { FeedTells self.old self.new piece.now turns.old.so_far turns.new.so_far result }

@@ -1,4 +1,4 @@
-//! A value in progress: it takes its bytes turn by turn, and those of nodes that lie whole in a piece at once.
+//! A value in progress: it takes bytes turn by turn, and nodes that lie whole in a piece at once.
 #![tactic(auto)]
 
 mod feeding;

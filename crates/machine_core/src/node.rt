@@ -1,13 +1,13 @@
 //! Adding a node by the bytes that are its own.
 
-ghost use Rattle.std.specs.Prelude.{◌≡◌, None};
+ghost use Rattle.std.specs.Prelude.{◌≡◌, [], None};
 ghost use Rattle.value_core.specs.Walked.{next_of};
-ghost use Rattle.form_core.specs.Needs.{AreOwn};
-ghost use Rattle.machine_core.specs.NodeAdds.{AddsBare, AddsNode};
-ghost use Rattle.form_core.specs.NodeForms.{form_of_bare, form_of_plain};
+ghost use Rattle.form_core.specs.Needs.{AreOwn, IsBare};
+ghost use Rattle.machine_core.specs.NodeAdds.{AddsBytes, AddsNode};
+ghost use Rattle.form_core.specs.NodeForms.{form_of_plain};
 
 use crate::reason::DecodeReason;
-use form_core::{BareForm, PlainForm, read_length, read_plain};
+use form_core::{PlainForm, read_length, read_plain};
 use scale_core::Fault;
 use std::alloc::{AllocError, Allocator};
 use value_core::{Builder, Form, Leaf, Next};
@@ -15,9 +15,9 @@ use value_core::{Builder, Form, Leaf, Next};
 /// Why a node is not added.
 #[derive(Clone, Copy, Debug, PartialEq, Eq)]
 pub(crate) enum NodeFault {
-    /// Its bytes are refused, at this place from the first of them.
+    /// Its bytes are rejected, at this place from the first of them.
     Refused(DecodeReason, u64),
-    /// Memory was refused.
+    /// An allocation failed.
     OutOfMemory,
 }
 
@@ -94,19 +94,20 @@ pub(crate) fn add_sequence<A: Allocator>(
     Ok(())
 }
 
-/// Adds the next node, which has no bytes of its own. Most are composites, whose form is known where this is called.
+/// Adds the next node, which has no bytes of its own.
 #[inline(always)]
 pub(crate) fn add_bare<A: Allocator>(
     builder: &mut Builder<'_, A>,
-    form: BareForm,
+    form: Form,
 ) -> Result<(), AllocError>
-    requires next { next_of builder.old.walk ≡ Next.Wants (form_of_bare form) }
+    requires bare { IsBare form }
+    requires next { next_of builder.old.walk ≡ Next.Wants form }
     requires closed { builder.old.run ≡ None }
-    ensures { AddsBare builder.old builder.new result }
+    ensures { AddsBytes builder.old builder.new [] result }
 {
     match form {
-        BareForm::Empty => builder.add_leaf(Leaf::Empty),
-        BareForm::Fields => builder.add_fields(),
-        BareForm::Array(length) => builder.add_list(length),
+        Form::Fields => builder.add_fields(),
+        Form::Array(length) => builder.add_list(length),
+        _ => builder.add_leaf(Leaf::Empty),
     }
 }

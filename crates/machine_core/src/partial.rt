@@ -6,25 +6,26 @@ ghost use Rattle.machine_core.specs.Running.{IsCarry, IsFresh, IsRunNext};
 ghost use Rattle.value_core.specs.Walked.{next_of};
 ghost use Rattle.value_core.specs.Built.{finished, pieces_bytes};
 ghost use Rattle.value_core.specs.Refusals.{Lacks, is_whole};
-ghost use Rattle.form_core.specs.Needs.{AreOwn, IsNeeded};
-ghost use Rattle.form_core.specs.NodeForms.{form_of_bare, form_of_bytes};
+ghost use Rattle.grammar_core.specs.Runs.{run_form};
+ghost use Rattle.form_core.specs.Needs.{AreOwn, HasBytes, IsBare, IsNeeded};
+ghost use Rattle.form_core.specs.NodeForms.{form_of_bytes};
 ghost use Rattle.machine_core.specs.NodeAdds.{TakesNode};
-ghost use Rattle.machine_core.specs.Turned.{Awaits, BareReports, EndReports, EndsTurns};
+ghost use Rattle.machine_core.specs.Turned.{Awaits, EndReports, EndsTurns};
 ghost use Rattle.machine_core.specs.Turned.{IsSound, KeepsTurns, PieceReports, StepReports};
 ghost use Rattle.machine_core.specs.Turned.{WantsBytes, node_turned};
 
-use crate::node::{NodeFault, add_arm, add_bare, add_plain, add_sequence};
+use crate::node::{NodeFault, add_arm, add_plain, add_sequence};
 use crate::reason::DecodeReason;
 use crate::turned::{Stopped, Tried};
 use count_core::Count;
-use form_core::{BareForm, BytesForm, Carry, NodeForm, need, node_form, read_length};
+use form_core::{BytesForm, Carry, bytes_form, need, read_length};
 use scale_core::compact_len;
 use std::alloc::Allocator;
 use std::marker::Model;
 use value_core::{Builder, Form, Next, RunKind, Value};
 
-/// A value on its way: what is built of it, and the bytes that are not enough for the next node. The bytes of a run that
-/// is open are in the builder.
+/// A value in progress: what is built of it, and the bytes that do not complete the next node. The
+/// bytes of an open run are in the builder.
 #[derive(Drop)]
 pub struct Partial<'r, A: Allocator> {
     pub(crate) builder: Builder<'r, A>,
@@ -39,6 +40,23 @@ impl<'r, A: Allocator> Model for Partial<'r, A> {
     ghost view = { λ s. record { built = s.builder; carry = s.carry } };
 
     ghost invariant = { λ s. IsRunning s.builder s.carry };
+}
+
+/// Opens the text or the run of bytes that is next by the bytes of its length.
+fn take_length<A: Allocator>(
+    builder: &mut Builder<'_, A>,
+    kind: RunKind,
+    own: &[u8],
+) -> Result<(), NodeFault>
+    requires counted { HasBytes (run_form kind) }
+    requires next { next_of builder.old.walk ≡ Next.Wants (run_form kind) }
+    requires closed { builder.old.run ≡ None }
+    requires whole { AreOwn (run_form kind) own.now }
+    ensures { TakesNode (run_form kind) builder.old builder.new own.now result }
+{
+    let len = read_length(own)?;
+    builder.open_run(kind, len);
+    Ok(())
 }
 
 /// Adds the next node by its own bytes, or opens the run that is next by those of its length.
@@ -57,15 +75,12 @@ pub(crate) fn take_node<A: Allocator>(
         BytesForm::Plain(plain) => add_plain(builder, plain, own),
         BytesForm::Arm => add_arm(builder, own),
         BytesForm::Sequence => add_sequence(builder, own),
-        BytesForm::Run(run) => {
-            let len = read_length(own)?;
-            builder.open_run(run.kind(), len);
-            Ok(())
-        }
+        BytesForm::Text => take_length(builder, RunKind::Text, own),
+        BytesForm::Bytes => take_length(builder, RunKind::Bytes, own),
     }
 }
 
-/// What a turn did that took the next node's own bytes, of which the last `count` are the piece's.
+/// Returns what a turn did that took the node's own bytes, the last `count` of them the piece's.
 #[inline(always)]
 fn node_turn(
     taken: Result<(), NodeFault>,
@@ -88,7 +103,7 @@ fn node_turn(
 }
 
 impl<'r, A: Allocator> Partial<'r, A> {
-    /// Makes a value in progress of a builder that has nothing yet.
+    /// Creates a value in progress from a builder without nodes.
     pub fn new(builder: Builder<'r, A>) -> Partial<'r, A>
         requires fresh { IsFresh builder }
         ensures { result ≡ record { built = builder.entry; carry = [] } }
@@ -99,7 +114,7 @@ impl<'r, A: Allocator> Partial<'r, A> {
         }
     }
 
-    /// Hands out the value, which is whole. It takes no memory.
+    /// Returns the value, which is complete. This allocates nothing.
     pub fn into_value(self) -> Value<'r, A>
         requires { is_whole self.built ≡ true }
         ensures { result ≡ finished self.entry.built }
@@ -107,34 +122,35 @@ impl<'r, A: Allocator> Partial<'r, A> {
         self.builder.into_value()
     }
 
-    /// Lends what is built of the value.
+    /// Returns the builder, which holds what is built of the value.
     pub fn builder(&self) -> &Builder<'r, A>
         ensures { result.now ≡ self.now.built }
     {
         &self.builder
     }
 
-    /// Gives the value up: how many turns the calls of its builder have taken.
+    /// Drops the value, and returns how many turns the calls of its builder have taken.
     pub fn into_turns(self) -> Count
         ensures { result.so_far ≡ self.entry.built.turns }
     {
         self.builder.into_turns()
     }
 
-    /// A turn on a node without bytes of its own.
-    fn bare_turn(&mut self, form: BareForm) -> Result<usize, Stopped>
-        requires next { next_of self.old.built.walk ≡ Next.Wants (form_of_bare form) }
+    /// Takes a turn on a node without bytes of its own.
+    fn bare_turn(&mut self, form: Form) -> Result<usize, Stopped>
+        requires bare { IsBare form }
+        requires next { next_of self.old.built.walk ≡ Next.Wants form }
         requires closed { self.old.built.run ≡ None }
-        ensures reports { BareReports self.old self.new result }
+        ensures reports { (piece : List ℕ) → StepReports self.old self.new piece result }
         ensures kept { KeepsTurns self.old self.new result }
     {
-        match add_bare(&mut self.builder, form) {
-            Ok(()) => Ok(0),
-            Err(_) => Err(Stopped::OutOfMemory),
+        match self.whole_bare(form) {
+            Tried::Added(count) => Ok(count),
+            Tried::Untouched | Tried::OutOfMemory => Err(Stopped::OutOfMemory),
         }
     }
 
-    /// A turn on a node of `len` own bytes, cut by pieces or not: it takes those that are missing, or as many as are there.
+    /// Takes a turn on a node of `len` own bytes: those that are missing, or as many as are there.
     #[inline(always)]
     fn cut_turn(&mut self, form: BytesForm, len: usize, piece: &[u8]) -> Result<usize, Stopped>
         requires next { next_of self.old.built.walk ≡ Next.Wants (form_of_bytes form) }
@@ -157,7 +173,7 @@ impl<'r, A: Allocator> Partial<'r, A> {
         node_turn(taken, held, count, len)
     }
 
-    /// A turn on a node with bytes of its own, other than a run that is open.
+    /// Takes a turn on a node with bytes of its own. No run is open.
     #[inline(always)]
     fn own_turn(&mut self, form: BytesForm, piece: &[u8]) -> Result<usize, Stopped>
         requires next { next_of self.old.built.walk ≡ Next.Wants (form_of_bytes form) }
@@ -173,7 +189,7 @@ impl<'r, A: Allocator> Partial<'r, A> {
         self.cut_turn(form, len, piece)
     }
 
-    /// A turn on an array of u8 of which no byte came: it is added where it is whole, and else opened with what is there.
+    /// Takes a turn on an array of u8 without bytes so far: adds it if it is complete, or opens it.
     fn byte_array_turn(&mut self, len: u32, piece: &[u8]) -> Result<usize, Stopped>
         requires next { next_of self.old.built.walk ≡ Next.Wants (Form.ByteArray len) }
         requires closed { self.old.built.run ≡ None }
@@ -193,7 +209,8 @@ impl<'r, A: Allocator> Partial<'r, A> {
         self.run_piece(len as usize, piece)
     }
 
-    /// A turn on the bytes of the run that is open: it takes those that are there, and where none is missing then, ends it.
+    /// Takes a turn on the open run: appends the bytes that are there, and ends it if none is
+    /// missing.
     #[inline(never)]
     fn run_turn(&mut self, piece: &[u8]) -> Result<usize, Stopped>
         requires next { IsRunNext self.old.built self.old.carry self.old.built.run }
@@ -214,7 +231,7 @@ impl<'r, A: Allocator> Partial<'r, A> {
         self.run_rest(&piece[..missing])
     }
 
-    /// Takes the bytes that the open run lacks, which are these, and ends it.
+    /// Appends the bytes that the open run lacks, and ends it.
     fn run_rest(&mut self, rest: &[u8]) -> Result<usize, Stopped>
         requires next { IsRunNext self.old.built self.old.carry self.old.built.run }
         requires lacks { Lacks self.old.built.run (length rest.now) }
@@ -229,7 +246,7 @@ impl<'r, A: Allocator> Partial<'r, A> {
         self.run_end(rest.len())
     }
 
-    /// Takes bytes of the piece for the open run, which lacks `missing`: as many as are there.
+    /// Moves up to `missing` bytes of the piece, those the open run lacks, to it.
     fn run_piece(&mut self, missing: usize, piece: &[u8]) -> Result<usize, Stopped>
         requires next { IsRunNext self.old.built self.old.carry self.old.built.run }
         requires lacks { Lacks self.old.built.run missing }
@@ -245,7 +262,7 @@ impl<'r, A: Allocator> Partial<'r, A> {
         Ok(count)
     }
 
-    /// Ends the run that is open, whose bytes are all there, the last `count` of them by this turn.
+    /// Ends the open run, which is complete; its last `count` bytes came in this turn.
     fn run_end(&mut self, count: usize) -> Result<usize, Stopped>
         requires next { IsRunNext self.old.built self.old.carry self.old.built.run }
         requires whole { Lacks self.old.built.run 0 }
@@ -270,7 +287,7 @@ impl<'r, A: Allocator> Partial<'r, A> {
         Ok(count)
     }
 
-    /// A turn on a node of this form, which is next, where no run is open.
+    /// Takes a turn on a node of this form, which is next. No run is open.
     fn form_turn(&mut self, form: Form, piece: &[u8]) -> Result<usize, Stopped>
         requires next { next_of self.old.built.walk ≡ Next.Wants form }
         requires closed { self.old.built.run ≡ None }
@@ -278,14 +295,16 @@ impl<'r, A: Allocator> Partial<'r, A> {
         ensures reports { StepReports self.old self.new piece.now result }
         ensures kept { KeepsTurns self.old self.new result }
     {
-        match node_form(form) {
-            NodeForm::Bytes(own) => self.own_turn(own, piece),
-            NodeForm::Bare(bare) => self.bare_turn(bare),
-            NodeForm::ByteArray(len) => self.byte_array_turn(len, piece),
+        if let Some(own) = bytes_form(form) {
+            return self.own_turn(own, piece);
+        }
+        match form {
+            Form::ByteArray(len) => self.byte_array_turn(len, piece),
+            bare => self.bare_turn(bare),
         }
     }
 
-    /// One turn: takes bytes of the piece, adds a node, or stops.
+    /// Takes one turn: bytes of the piece, a node, or a stop. Returns how many bytes it took.
     #[inline(never)]
     pub(crate) fn turn(&mut self, piece: &[u8]) -> Result<usize, Stopped>
         ensures reports { StepReports self.old self.new piece.now result }
@@ -306,7 +325,7 @@ impl<'r, A: Allocator> Partial<'r, A> {
         }
     }
 
-    /// The form of the node that is next, where one can be. No run is open.
+    /// Returns the form of the next node, if there can be one. No run is open.
     #[inline(always)]
     pub(crate) fn next_form(&self) -> Option<Form>
         requires { self.now.built.run ≡ None }
@@ -318,7 +337,8 @@ impl<'r, A: Allocator> Partial<'r, A> {
         }
     }
 
-    /// Does the run that is open lack bytes, or else has the next node bytes of its own? It waits for one where none is left.
+    /// Returns whether the open run lacks bytes or, if none is open, the next node has bytes of its
+    /// own.
     pub(crate) fn wants(&self) -> bool
         ensures wants { result ≡ true → WantsBytes self.now }
         ensures sound { result ≡ true → IsSound self.now }
@@ -330,10 +350,10 @@ impl<'r, A: Allocator> Partial<'r, A> {
         let Some(form) = self.next_form() else {
             return false;
         };
-        matches!(node_form(form), NodeForm::Bytes(_))
+        bytes_form(form).is_some()
     }
 
-    /// Is the value whole? No turn follows then.
+    /// Returns whether the value is complete. No turn follows then.
     #[inline(always)]
     pub fn is_finished(&self) -> bool
         ensures ends { result ≡ true → (rest : List ℕ) → EndsTurns self.now rest Stopped.Finished }
@@ -343,7 +363,7 @@ impl<'r, A: Allocator> Partial<'r, A> {
         matches!(self.builder.walk().next(), Next::Finished)
     }
 
-    /// Takes no step: it says what holds of every value on its way.
+    /// No-op; its postcondition states what holds of every value in progress.
     #[inline(always)]
     pub(crate) fn is_on_its_way(&self)
         ensures { IsSound self.now }

@@ -1,4 +1,4 @@
-//! Why a value is refused.
+//! Why a value is rejected.
 
 ghost use Rattle.std.specs.Prelude.{◌≡◌};
 ghost use Rattle.grammar_core.specs.Reading.{basic};
@@ -9,7 +9,7 @@ use std::error::Error;
 use std::fmt;
 use value_core::StopReason;
 
-/// Why the bytes of a value are refused. Its text is its name.
+/// Why the bytes of a value are rejected. Its text is its name.
 #[derive(Clone, Copy, Debug, PartialEq, Eq)]
 pub enum DecodeReason {
     /// The bytes end before the value does.
@@ -18,12 +18,12 @@ pub enum DecodeReason {
     BadBool,
     /// Four bytes that spell no Unicode scalar value.
     BadChar,
-    /// A text that is there whole and is not UTF-8.
+    /// A complete text that is not UTF-8.
     BadUtf8,
     /// A compact integer or a length in a longer form than its value needs.
     CompactNotShortest,
-    /// A compact integer or a length past the range of what it stands for: its first byte names more bytes than that
-    /// has, and is refused alone, as `07` is where an integer of 32 bits stands; or its value is too great.
+    /// A compact integer or a length above its target's range. A first byte that names more bytes
+    /// than the target has is rejected alone, such as `07` for an integer of 32 bits.
     CompactTooLarge,
     /// No arm of the variant has the index.
     NoSuchVariant,
@@ -37,7 +37,7 @@ pub enum DecodeReason {
     BadCompact,
     /// The value goes on after the limit of bytes.
     TooLong,
-    /// Memory was refused.
+    /// An allocation failed.
     OutOfMemory,
 }
 

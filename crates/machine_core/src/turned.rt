@@ -1,35 +1,36 @@
-//! What a turn of the decoder did.
+//! What came of a turn.
 
 use crate::reason::DecodeReason;
 
 /// Why no turn follows.
 #[derive(Clone, Copy, Debug, PartialEq, Eq)]
 pub enum Stopped {
-    /// The value is whole.
+    /// The value is complete.
     Finished,
     /// The next node needs a byte that is not there.
     Wants,
     /// An allocation failed.
     OutOfMemory,
-    /// The next node is refused.
+    /// The next node is rejected.
     Refused {
-        /// How many bytes before the turn were no node's yet.
+        /// How many bytes before this turn belong to the node.
         held: usize,
         reason: DecodeReason,
-        /// The place, from the node's first byte.
+        /// The place in bytes, from the node's first one.
         at: u64,
         /// How many bytes of the node decide it.
         len: usize,
     },
 }
 
-/// What came of a turn on a node whose own bytes a piece may have whole. It is small, since one is made for each node.
+/// The outcome of a turn on a node that may lie whole in the piece.
+// It is small, since one is made for each node.
 #[derive(Clone, Copy, Debug, PartialEq, Eq)]
 pub(crate) enum Tried {
-    /// The piece had them: the node was added, by so many bytes.
+    /// The node was added; it took so many bytes of the piece.
     Added(usize),
-    /// Nothing changed, since the node takes a turn of another kind: one that holds bytes, opens a run, refuses or stops.
+    /// Nothing changed: the node needs a turn of another kind.
     Untouched,
-    /// Memory was refused, and nothing changed.
+    /// An allocation failed, and nothing changed.
     OutOfMemory,
 }

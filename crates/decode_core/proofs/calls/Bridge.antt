@@ -22,8 +22,9 @@ use Rattle.machine_core.specs.declared.turned.Stopped.TheVariants as stop
 use Rattle.machine_core.proofs.lists.NotCut.{not_cut}
 use Rattle.decode_core.proofs.calls.Holding.{holds_of}
 use Rattle.machine_core.proofs.steps.Refusing.{waits_reported}
-use Rattle.machine_core.proofs.lists.Fed.{Here, cut_here, done_here, refused_here, take_split}
-use Rattle.machine_core.proofs.lists.Fed.{led_on, whole_reported}
+use Rattle.machine_core.proofs.lists.Fed.{Here, cut_here, done_here, led_on, refused_here}
+use Rattle.machine_core.proofs.lists.Fed.{whole_reported}
+use Rattle.machine_core.proofs.lists.Kept.{take_split}
 
 -- the bytes that are offered within the limit
 abbrev pub offered : Job → ℕ → List ℕ → List ℕ

@@ -20,7 +20,7 @@ use Rattle.machine_core.specs.declared.reason.DecodeReason.{DecodeReason}
 use Rattle.machine_core.specs.declared.turned.Stopped.TheVariants as stop
 use Rattle.decode_core.proofs.calls.Bridge.{offered, of_moved, fed_done, fed_more, fed_long}
 use Rattle.decode_core.proofs.calls.Bridge.{fed_refused}
-use Rattle.machine_core.proofs.lists.Fed.{outcome_stays, take_split}
+use Rattle.machine_core.proofs.lists.Kept.{outcome_is_kept, take_split}
 use Rattle.machine_core.proofs.steps.Refusing.{waits_reported}
 
 -- ---- a value that is whole takes no more
@@ -90,7 +90,7 @@ done_again j b piece s last n k g le m st sound =
     let tree : built_tree s.built ≡ built_tree last.built =
     ap (λ (xs : List Entry). built_tree (record s.built { entries = xs })) same in
     let count : n ≡ n + k = omega (arith, none) in
-    let kept = outcome_stays j b piece (done (built_tree s.built)) n g.outcome (λ e. absurd cc) in
+    let kept = outcome_is_kept j b piece (done (built_tree s.built)) n (λ e. absurd cc) g.outcome in
     record {
       same = of;
       whole = reports;
@@ -191,6 +191,6 @@ pub ended_stays : (j : Job) (b piece : List ℕ) (f : DecodeFault) (n : ℕ) →
     IsEnded j (b ++ piece) f n
 ended_stays j b piece f n (inl h) = inl (h.0, ran_out_stays j b piece n h.1)
 ended_stays j b piece f n (inr (inl h)) =
-    inr (inl (h.0, outcome_stays j b piece too_long n h.1 (λ e. absurd cc)))
+    inr (inl (h.0, outcome_is_kept j b piece too_long n (λ e. absurd cc) h.1))
 ended_stays j b piece f n (inr (inr h)) =
-    inr (inr (h.0, h.1, h.2, outcome_stays j b piece (refused h.0 h.1) n h.3 (λ e. absurd cc)))
+    inr (inr (h.0, h.1, h.2, outcome_is_kept j b piece (refused h.0 h.1) n (λ e. absurd cc) h.3))

@@ -1,19 +1,19 @@
 -- What a state that bytes led to reports of them: where the reading ends there, that is the
 -- outcome.
 use Rattle.std.proofs.Common.{◌≡◌, ℕ, suc, ◌+◌, ◌-◌, ◌<◌, ◌≤◌, List, [], ◌++◌, length, take, drop}
-use Rattle.std.proofs.Common.{Ok, Err, refl, sym, ap, subst, ◌∙◌, append_assoc, arith, inl, inr}
+use Rattle.std.proofs.Common.{Ok, Err, refl, sym, ap, ◌∙◌, append_assoc, arith, inl, inr}
 use Rattle.std.proofs.Common.{length-append, length-drop}
 use Rattle.std.specs.Prelude.{◌≢◌}
 use Rattle.std.proofs.lemmas.Bool.{cases_lt}
-use Rattle.std.proofs.lemmas.List.{append-nil, take_all, take-append-le, length-take}
+use Rattle.std.proofs.lemmas.List.{append-nil, length-take}
 use Rattle.std.proofs.Math.Seq.{take-append-add}
 use Rattle.scale_core.specs.Read.{Read, place}
 use Rattle.registry_core.specs.declared.type_info.TypeInfo.{TypeInfo}
 use Rattle.grammar_core.specs.Tree.{Tree}
 use Rattle.grammar_core.specs.Preorder.{preorder, tree_of, tree_of-preorder}
 use Rattle.grammar_core.specs.Reading.{value_at, Refusal, truncated}
-use Rattle.grammar_core.proofs.Proved.{read_is_value, stable}
-use Rattle.machine_core.specs.Outcome.{Outcome, done, refused, more, too_long, Job, IsShortest}
+use Rattle.grammar_core.proofs.Proved.{read_is_value}
+use Rattle.machine_core.specs.Outcome.{done, refused, Job}
 use Rattle.machine_core.specs.Outcome.{FailsAt, IsOutcome}
 use Rattle.value_core.specs.Built.{Entry}
 use Rattle.machine_core.specs.Reported.{shown, Ending, Fault, Reported, reported, added, ending}
@@ -191,61 +191,6 @@ refused_here j input s rest m n e left h len ne d k =
             (reason_is (e, f.0) (truncated, cut.0)
             (value_at j.registry (suc j.depth) j.ty (take i front)) f.1 short))
       ]
-
--- the first bytes of two lists are those of the first and what is still wanted of the other
-pub take_split : (n : ℕ) (b p : List ℕ) → take n (b ++ p) ≡ take n b ++ take (n - length b) p
-take_split n b p = elim (cases_lt n (length b)) [
-  | inl lt ↦ let none : n - length b ≡ 0 = omega arith in take-append-le n b p (omega arith)
-      ∙ sym (append-nil (take n b)) ∙ ap (λ (k : ℕ). take n b ++ take k p) (sym none)
-  | inr ge ↦ let same : length b + (n - length b) ≡ n = omega arith in
-      ap (λ (k : ℕ). take k (b ++ p)) (sym same) ∙ take-append-add b p (n - length b)
-      ∙ ap (λ (x : List ℕ). x ++ take (n - length b) p) (sym (take_all n b ge))
-]
-
--- what is decided stays so
-failing_stays : (j : Job) (e : Refusal) (at : ℕ) (x y : List ℕ) → e ≢ truncated → FailsAt j e at x →
-    FailsAt j e at (x ++ y)
-failing_stays j e at x y ne f = (
-  f.0 ++ y,
-  stable j.registry (suc j.depth) j.ty x y e f.0 ne f.1,
-  omega (arith, f.2, length-append x y, length-append f.0 y),
-)
-
--- the shortest front with a property stays so where bytes are appended
-shortest_stays : (P : List ℕ → Type 0) (x y : List ℕ) (n : ℕ) → IsShortest P x n →
-    IsShortest P (x ++ y) n
-shortest_stays P x y n h = record {
-  there = omega (arith, h.there, length-append x y);
-  holds = subst P (sym (take-append-le n x y h.there)) h.holds;
-  least = λ k lt p. h.least k lt (subst P (take-append-le k x y (omega (arith, h.there, lt))) p);
-}
-
--- an outcome that does not wait for more stays where a piece is appended
-pub outcome_stays : (j : Job) (b piece : List ℕ) (o : Outcome) (n : ℕ) → IsOutcome j b o n →
-    o ≢ more → IsOutcome j (b ++ piece) o n
-outcome_stays j b piece (done v) n h ne = let back = take (j.bytes - length b) piece in (
-  h.0,
-  h.1 ++ back,
-  take_split j.bytes b piece ∙ ap (λ (x : List ℕ). x ++ back) h.2
-      ∙ append_assoc h.0 h.1 back,
-  h.3,
-  h.4,
-  h.5,
-)
-outcome_stays j b piece (refused e at) n h ne = let back = take (j.bytes - length b) piece in (
-  h.0,
-  rw (take_split j.bytes b piece) (failing_stays j e at (take j.bytes b) back h.0 h.1),
-  rw (take_split j.bytes b piece)
-      (shortest_stays (FailsAt j e at) (take j.bytes b) back n h.2),
-)
-outcome_stays j b piece more n h ne = absurd (ne refl)
-outcome_stays j b piece too_long n h ne =
-    let same : take j.bytes (b ++ piece) ≡ take j.bytes b =
-    take-append-le j.bytes b piece (omega (arith, h.1)) in (
-      (h.0.0, (h.0.1.0, rw same h.0.1.1, rw same h.0.1.2)),
-      omega (arith, h.1, length-append b piece),
-      h.2,
-    )
 
 -- one way after the other
 pub led_on : (r : List TypeInfo) (s s' s'' : State) (c d : List ℕ) → TurnsLead r s s' c →

@@ -1,5 +1,5 @@
 -- An outcome that is decided is kept.
-use Rattle.std.proofs.Common.{◌≡◌, ℕ, suc, ◌-◌, List, [], ◌++◌, length, take, refl, sym, ap, ◌∙◌}
+use Rattle.std.proofs.Common.{◌≡◌, ℕ, suc, ◌+◌, ◌-◌, List, [], ◌++◌, length, take, refl, sym, ap, ◌∙◌}
 use Rattle.std.proofs.Common.{append_assoc, arith, inl, inr}
 use Rattle.std.specs.Prelude.{◌≢◌}
 use Rattle.std.proofs.lemmas.Bool.{cases_lt}
@@ -10,19 +10,14 @@ use Rattle.grammar_core.proofs.Proved.{stable}
 use Rattle.machine_core.specs.Outcome.{done, refused, more, too_long, Job, IsShortest, FailsAt}
 use Rattle.machine_core.specs.Outcome.{OutcomeIsKept}
 
--- the first bytes of a longer input are those of the shorter one, and perhaps more
-take_more : (n : ℕ) (input later : List ℕ) → (m : List ℕ)
-    × (take n (input ++ later) ≡ take n input ++ m)
-take_more n input later = elim (cases_lt n (length input)) [
-  | inl lt ↦ ([], take-append-le n input later (omega arith) ∙ sym (append-nil (take n input)))
-  | inr le ↦
-      let at : take n (input ++ later) ≡ input ++ take (n - length input) later =
-      ap (λ (i : ℕ). take i (input ++ later)) (omega arith)
-      ∙ take-append-add input later (n - length input) in (
-        take (n - length input) later,
-        at
-            ∙ ap (λ (x : List ℕ). x ++ take (n - length input) later) (sym (take_all n input le)),
-      )
+-- the first bytes of two lists are those of the first and what is still wanted of the other
+pub take_split : (n : ℕ) (b p : List ℕ) → take n (b ++ p) ≡ take n b ++ take (n - length b) p
+take_split n b p = elim (cases_lt n (length b)) [
+  | inl lt ↦ let none : n - length b ≡ 0 = omega arith in take-append-le n b p (omega arith)
+      ∙ sym (append-nil (take n b)) ∙ ap (λ (k : ℕ). take n b ++ take k p) (sym none)
+  | inr ge ↦ let same : length b + (n - length b) ≡ n = omega arith in
+      ap (λ (k : ℕ). take k (b ++ p)) (sym same) ∙ take-append-add b p (n - length b)
+      ∙ ap (λ (x : List ℕ). x ++ take (n - length b) p) (sym (take_all n b ge))
 ]
 
 -- a refusal for good stays, with its place, where bytes are appended
@@ -46,14 +41,20 @@ shortest_more P input m n s = record {
 -- once an outcome is decided, further bytes do not change it
 pub outcome_is_kept : OutcomeIsKept
 outcome_is_kept j input later (done v) n ne h =
-    let t = take_more j.bytes input later in
-    (h.0, h.1 ++ t.0, rw (t.1, h.2) (append_assoc h.0 h.1 t.0), h.3, h.4, h.5)
-outcome_is_kept j input later (refused reason at) n ne h =
-    let t = take_more j.bytes input later in
-    rw t.1 (
+    let back = take (j.bytes - length input) later in (
       h.0,
-      fails_more j reason at (take j.bytes input) t.0 h.0 h.1,
-      shortest_more (FailsAt j reason at) (take j.bytes input) t.0 n h.2,
+      h.1 ++ back,
+      rw (take_split j.bytes input later, h.2) (append_assoc h.0 h.1 back),
+      h.3,
+      h.4,
+      h.5,
+    )
+outcome_is_kept j input later (refused reason at) n ne h =
+    let back = take (j.bytes - length input) later in
+    rw (take_split j.bytes input later) (
+      h.0,
+      fails_more j reason at (take j.bytes input) back h.0 h.1,
+      shortest_more (FailsAt j reason at) (take j.bytes input) back n h.2,
     )
 outcome_is_kept j input later more n ne h = absurd (ne refl)
 outcome_is_kept j input later too_long n ne h = (

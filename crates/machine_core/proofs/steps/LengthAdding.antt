@@ -25,7 +25,7 @@ use Rattle.value_core.specs.Walked.{next_of}
 use Rattle.grammar_core.specs.declared.form.Form.TheVariants as form
 use Rattle.grammar_core.specs.declared.form.Next.TheVariants as next
 use Rattle.form_core.specs.Needs.{AreOwn, HasBytes}
-use Rattle.machine_core.specs.NodeAdds.{AddsBare, AddsBytes, IsAdded, IsRefused, IsSpelled}
+use Rattle.machine_core.specs.NodeAdds.{AddsBytes, IsAdded, IsRefused, IsSpelled}
 use Rattle.machine_core.specs.NodeAdds.{with_own}
 use Rattle.machine_core.specs.Reasons.{reason_of}
 use Rattle.machine_core.specs.Reported.{length_own, own_at}
@@ -245,9 +245,3 @@ pub bytes_added : {E : Type 0} (b new : Built) (own : List ℕ) (x : Head × Opt
     OnOk added (new ≡ with_own b x) → OnErr added (new ≡ b) → AddsBytes b new own added
 bytes_added b new own x (Ok u) r ok err = (x, r, ok)
 bytes_added b new own x (Err e) r ok err = ((x, r), err)
-
--- a call that adds a node without bytes, or fails and changes nothing, answers as adding one does
-pub bare_added : {E : Type 0} (b new : Built) (x : Head × Option Part)
-    (added : Result (Unit {0}) E) → own_at (next_layout b) [] ≡ Ok (x, []) →
-    OnOk added (new ≡ with_own b x) → OnErr added (new ≡ b) → AddsBare b new added
-bare_added b new x added r ok err = bytes_added b new [] x added r ok err

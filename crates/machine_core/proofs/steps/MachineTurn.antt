@@ -182,10 +182,6 @@ spells b n own x h more =
     ap (λ (f : Layout). own_at f own) n.laid ∙ h in
     (rw here at (own_extends (met_layout b.walk.types n.ty) own more))
 
--- a part that has given its next value is still one part
-same_length : (p : Part) (ps : List Part) → length (left_after p ∷ ps) ≡ length (p ∷ ps)
-same_length p ps = refl
-
 -- the next node being there leaves as many parts open
 next_frame_count : (fs : List OpenPart) → length (advanced_in fs) ≡ length fs
 next_frame_count [] = refl

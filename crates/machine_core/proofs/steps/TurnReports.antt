@@ -20,10 +20,10 @@ use Rattle.form_core.specs.Needs.{need, AreOwn, HasBytes, IsNeeded}
 use Rattle.form_core.specs.NodeForms.{form_of_bytes}
 use Rattle.form_core.specs.declared.forms.BytesForm.{BytesForm}
 use Rattle.form_core.specs.declared.forms.BytesForm.TheVariants as bytes
-use Rattle.machine_core.specs.NodeAdds.{IsRefused, IsSpelled, TakesNode, AddsBare, IsAdded}
-use Rattle.machine_core.specs.NodeAdds.{with_own}
+use Rattle.machine_core.specs.NodeAdds.{IsRefused, IsSpelled, TakesNode, AddsBytes}
+use Rattle.machine_core.specs.NodeAdds.{IsAdded, with_own}
 use Rattle.machine_core.specs.Running.{Running, IsRunning, IsCarry, held_of}
-use Rattle.machine_core.specs.Turned.{Steps, BareReports, StepReports, EndsTurns, WantsMemory}
+use Rattle.machine_core.specs.Turned.{IsSame, Steps, StepReports, EndsTurns, WantsMemory}
 use Rattle.machine_core.specs.Turned.{HasParts, node_turned}
 use Rattle.machine_core.specs.Reported.{own_at}
 use Rattle.grammar_core.specs.Reading.{truncated}
@@ -52,15 +52,15 @@ carry_none b (x ∷ xs) f h k bare =
 
 -- with nothing carried, a decoder stays on its way where a node without bytes is added or not
 bare_by : {E : Type 0} (b new : Built) (f : Form) (added : Result (Unit {0}) E) →
-    IsRunning b [] → next_of b.walk ≡ next.Wants f → b.run ≡ None → AddsBare b new added →
-    IsRunning new []
+    IsRunning b [] → next_of b.walk ≡ next.Wants f → b.run ≡ None →
+    AddsBytes b new [] added → IsRunning new []
 bare_by b new f (Ok u) h k closed adds = added_running b new [] (at_next b f k) closed adds
 bare_by b new f (Err e) h k closed adds = subst (λ (s : Built). IsRunning s []) (sym adds.1) h
 
 -- a decoder stays on its way, with its carry, where a node without own bytes is added or not
 pub bare_running : {E : Type 0} (b new : Built) (carry : List ℕ) (f : Form)
     (added : Result (Unit {0}) E) → IsRunning b carry → next_of b.walk ≡ next.Wants f →
-    (HasBytes f → ⊥) → b.run ≡ None → AddsBare b new added → IsRunning new carry
+    (HasBytes f → ⊥) → b.run ≡ None → AddsBytes b new [] added → IsRunning new carry
 bare_running b new carry f added h k bare closed adds =
     let none = carry_none b carry f h.carried k bare in
     rw none (bare_by b new f added (rw none at h) k closed adds)
@@ -69,13 +69,13 @@ bare_running b new carry f added h k bare closed adds =
 pub bare_reports : (b new : Built) (carry : List ℕ) (f : Form) →
     IsRunning b carry → next_of b.walk ≡ next.Wants f → (HasBytes f → ⊥) → b.run ≡ None →
     IsAdded b new [] →
-    BareReports (record { built = b; carry = carry }) (record { built = new; carry = carry })
-    (Ok 0)
+    IsSame (record { built = b; carry = carry }) (record { built = new; carry = carry })
+    × Steps (record { built = b; carry = carry }) (record { built = new; carry = carry }) []
 bare_reports b new carry f h k bare closed adds =
     let none = carry_none b carry f h.carried k bare in
-    subst (λ (c : List ℕ). BareReports (record { built = b; carry = c })
-    (record { built = new; carry = c }) (Ok 0)) (sym none) (
-      refl,
+    subst (λ (c : List ℕ). IsSame (record { built = b; carry = c })
+    (record { built = new; carry = c })
+    × Steps (record { built = b; carry = c }) (record { built = new; carry = c }) []) (sym none) (
       added_same b new [] [] [] adds,
       added_steps b new [] [] [] (at_next b f k) closed refl adds,
     )
@@ -283,8 +283,7 @@ no_run_form bytes.Arm (kind.ByteArray n) has e = absurd cc
 no_run_form bytes.Sequence kind.Text has e = absurd cc
 no_run_form bytes.Sequence kind.Bytes has e = absurd cc
 no_run_form bytes.Sequence (kind.ByteArray n) has e = absurd cc
-no_run_form (bytes.Plain p) k has e = absurd has
-no_run_form (bytes.Run r) k has e = absurd has
+no_run_form _ k has e = absurd has
 
 -- so none is open after one of these was taken
 pub parts_closed : (f : BytesForm) (b new : Built) (own : List ℕ) →

@@ -11,11 +11,12 @@ use Rattle.scale_core.proofs.Numbers.{front_bytes, rest_bytes}
 use Rattle.scale_core.proofs.Results.{compact_takes}
 use Rattle.widths_core.specs.Layouts.{Layout}
 use Rattle.widths_core.specs.declared.run_kind.RunKind.{RunKind}
+use Rattle.widths_core.specs.declared.run_kind.RunKind.TheVariants as kind
 use Rattle.grammar_core.specs.Preorder as head
 use Rattle.grammar_core.specs.Reading.{as_leaf, layout_at}
 use Rattle.grammar_core.specs.Tree as tree
 use Rattle.grammar_core.specs.Ways.{leaf_of}
-use Rattle.grammar_core.specs.Runs.{run_at, run_form, run_leaf}
+use Rattle.grammar_core.specs.Runs.{IsRunLength, run_at, run_form, run_leaf}
 use Rattle.grammar_core.specs.declared.form.Form.TheVariants as form
 use Rattle.grammar_core.specs.declared.form.Next.TheVariants as next
 use Rattle.grammar_core.proofs.Runs.{run_again}
@@ -23,12 +24,9 @@ use Rattle.node_core.specs.Leaves.{leaf_head}
 use Rattle.node_core.specs.declared.leaf.Leaf.{Leaf}
 use Rattle.form_core.specs.Fronts.{Front, StandsWhole, form_of_front}
 use Rattle.form_core.specs.Fronts as front
-use Rattle.form_core.specs.NodeForms.{prefixed_kind}
 use Rattle.form_core.specs.WholeRuns.{ReadsRun}
 use Rattle.form_core.specs.declared.forms.PlainForm.TheVariants as plain
-use Rattle.form_core.specs.declared.forms.PrefixedRun.{PrefixedRun}
-use Rattle.form_core.specs.declared.forms.PrefixedRun.TheVariants as prefixed
-use Rattle.form_core.proofs.WholeRuns.{run_short, run_spelled, spelled_by}
+use Rattle.form_core.proofs.WholeRuns.{run_spelled, spelled_by}
 use Rattle.value_core.specs.Built.{Built, FitsKind, IsNextLeaf, next_layout, with_leaf}
 use Rattle.value_core.specs.Walked.{Walked, next_of}
 use Rattle.value_core.proofs.NextLeaf.{compact_next, run_next}
@@ -45,25 +43,24 @@ use Rattle.machine_core.proofs.steps.Settling.{added_running}
 use Rattle.machine_core.proofs.steps.MachineTurn.{at_next}
 use Rattle.machine_core.proofs.steps.TurnEffects.{added_same, added_steps}
 
--- a run with a length before it may have any number of bytes
-fits_any : (r : PrefixedRun) (n : ℕ) → FitsKind (prefixed_kind r) n
-fits_any prefixed.Text n = tt
-fits_any prefixed.Bytes n = tt
+-- a run that was spelled has a length that its kind may have
+fits_spelled : (k : RunKind) (n : ℕ) (c : List ℕ) → IsRunLength k n c → FitsKind k n
+fits_spelled kind.Text n c h = tt
+fits_spelled kind.Bytes n c h = tt
+fits_spelled (kind.ByteArray len) n c h = h.0
 
 -- a run that stands whole on the front of a piece is a value of the next type
-run_is_next : (r : PrefixedRun) (w : Walked) (piece : List ℕ) (l : Leaf) (count : ℕ) →
-    next_of w ≡ next.Wants (run_form (prefixed_kind r)) → AreBytes piece →
-    ReadsRun (prefixed_kind r) piece l count → IsNextLeaf w (leaf_head l)
-run_is_next r w piece l count wants are h =
-    let k = prefixed_kind r in
+run_is_next : (k : RunKind) (w : Walked) (piece : List ℕ) (l : Leaf) (count : ℕ) →
+    next_of w ≡ next.Wants (run_form k) → AreBytes piece → ReadsRun k piece l count →
+    IsNextLeaf w (leaf_head l)
+run_is_next k w piece l count wants are h =
     let s = run_spelled k piece l count h in
     let own : AreBytes (take count piece) =
     front_bytes (take count piece) (drop count piece)
     (subst AreBytes (sym (take-append-drop count piece)) are) in
     let bytes : AreBytes h.bytes = rest_bytes s.0 h.bytes (subst AreBytes s.3 own) in
     subst (IsNextLeaf w) (sym h.head)
-    (run_next w k h.bytes wants s.2 bytes (run_short r (length h.bytes) s.0 s.1)
-    (fits_any r (length h.bytes)))
+    (run_next w k h.bytes wants s.2 bytes h.few (fits_spelled k (length h.bytes) s.0 s.1))
 
 -- its bytes are read as its node
 whole_read : (k : RunKind) (b : Built) (piece : List ℕ) (l : Leaf) (count : ℕ) →
@@ -102,8 +99,7 @@ front_read (front.plain p) b piece l count wants within h =
     spells b p (take count piece) l wants h.0 h.1
 front_read (front.compact m) b piece l count wants within h =
     rw h.1 (compact_read m b piece h.0 count wants within h.2.read)
-front_read (front.run r) b piece l count wants within h =
-    whole_read (prefixed_kind r) b piece l count wants h
+front_read (front.run k) b piece l count wants within h = whole_read k b piece l count wants h
 
 -- so no run is open, and its bytes are a value of the next type, which the leaf is
 pub front_is : (f : Front) (a : Running) (piece : List ℕ) (l : Leaf) (count : ℕ) →
@@ -127,8 +123,8 @@ front_next (front.plain p) a piece l count are awaits h =
     plain_next a.built p (take count piece) l own awaits.next h.0 h.1
 front_next (front.compact m) a piece l count are awaits h =
     rw h.1 (compact_next a.built.walk m h.0 awaits.next h.2.fits)
-front_next (front.run r) a piece l count are awaits h =
-    run_is_next r a.built.walk piece l count awaits.next are h
+front_next (front.run k) a piece l count are awaits h =
+    run_is_next k a.built.walk piece l count awaits.next are h
 
 -- to add it is to add a node by these bytes
 whole_added : (b new : Built) (own : List ℕ) (l : Leaf) → IsWholeLeaf b own l →

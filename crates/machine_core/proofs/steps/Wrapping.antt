@@ -74,7 +74,7 @@ wrapped_reports b new c piece len start to h wants closed w is =
     bare_running {E = Unit {0}} b mid c form.Fields (Ok tt) h wants (λ no. no) closed first in
     let bare = bare_reports b mid c form.Fields h wants (λ no. no) closed first in
     let opened : StepReports (of_fields b c) (of_fields mid c) piece (Ok 0) =
-    (omega arith, bare.1, bare.2) in
+    (omega arith, bare.0, bare.1) in
     let on : StepReports (of_fields b c) (of_fields mid c) (take (length piece - 0) (drop 0 piece))
     (Ok 0) = rw (take_rest piece 0) opened in
     let sound : IsSound (of_fields mid c) = record {

@@ -1,33 +1,44 @@
-use Rattle.std.proofs.Common.{subst, sym}
+use Rattle.std.proofs.Common.{rules, ◌≡◌, None, refl, subst, sym}
 use Rattle.std.specs.Prelude.{IsErr}
+use Rattle.std.proofs.lemmas.Str.{is_utf8-from_IsUtf8}
+use Rattle.widths_core.specs.declared.run_kind.RunKind.{RunKind}
+use Rattle.widths_core.specs.declared.run_kind.RunKind.TheVariants as kind
 use Rattle.grammar_core.specs.Runs.{run_at}
 use Rattle.node_core.specs.declared.leaf.Leaf.TheVariants as leaf
-use Rattle.form_core.specs.NodeForms.{prefixed_kind}
-use Rattle.form_core.specs.WholeRuns.{ReadsRun}
-use Rattle.form_core.specs.declared.forms.PrefixedRun.{PrefixedRun}
-use Rattle.form_core.proofs.WholeRuns.{bytes_are, no_run, no_text, text_is}
+use Rattle.form_core.specs.WholeRuns.{IsAtFront, ReadsRun}
+use Rattle.form_core.proofs.WholeRuns.{bytes_are, no_run, no_text, run_is}
 use Rattle.form_core.proofs.runs.whole_run.Goals as goal
 
-pub returns-in_default-clause-none : goal.returns-in_default-clause-none
-returns-in_default-clause-none c =
-    no_run c.args.run c.args.piece.now c.in_default.ensures.none
+pub returns-in_err-bytes-clause-none : goal.returns-in_err-bytes-clause-none
+returns-in_err-bytes-clause-none c =
+    let none : c.from_residual.result ≡ None = search rules in
+    rw none (no_run c.args.kind c.args.piece.now c.in_err-bytes.ensures.none)
 
 pub returns-in-Text-clause-none : goal.returns-in-Text-clause-none
 returns-in-Text-clause-none c =
-    subst (λ (r : PrefixedRun). IsErr (run_at (prefixed_kind r) c.args.piece.now))
-    (sym c.in-Text.is)
-    (no_text c.args.piece.now c.in-Some.bytes.now c.in-Some.count c.in-Some.ensures.some
+    let piece = c.args.piece.now in
+    let bytes = c.in_ok-bytes.bytes.now in
+    let count = c.in_ok-bytes.count in
+    let text = subst (λ (k : RunKind). IsAtFront k piece bytes count) c.in-Text.is
+    c.in_ok-bytes.ensures.some in
+    subst (λ (k : RunKind). IsErr (run_at k piece)) (sym c.in-Text.is)
+    (no_text piece bytes count text
     (λ valid. let yes = c.is_text.ensures.1 valid in let no = c.if-not-is_text.true in absurd cc))
 
 pub returns-in-Text-2-clause-some : goal.returns-in-Text-2-clause-some
 returns-in-Text-2-clause-some c =
-    subst (λ (r : PrefixedRun). ReadsRun (prefixed_kind r) c.args.piece.now
-    (leaf.Text c.in-Some.bytes) c.in-Some.count) (sym c.in-Text-2.is)
-    (text_is c.args.piece.now c.in-Some.bytes c.in-Some.count c.in-Some.ensures.some
-    (c.is_text.ensures.0 c.if-not-is_text.false))
+    let piece = c.args.piece.now in
+    let bytes = c.in_ok-bytes.bytes in
+    let count = c.in_ok-bytes.count in
+    let text = subst (λ (k : RunKind). IsAtFront k piece bytes.now count) c.in-Text-2.is
+    c.in_ok-bytes.ensures.some in
+    subst (λ (k : RunKind). ReadsRun k piece (leaf.Text bytes) count) (sym c.in-Text-2.is)
+    (run_is kind.Text piece bytes.now (leaf.Text bytes) count text
+    (is_utf8-from_IsUtf8 bytes.now (c.is_text.ensures.0 c.if-not-is_text.false)) refl text.few)
 
-pub returns-in-Bytes-clause-some : goal.returns-in-Bytes-clause-some
-returns-in-Bytes-clause-some c =
-    subst (λ (r : PrefixedRun). ReadsRun (prefixed_kind r) c.args.piece.now
-    (leaf.Bytes c.in-Some.bytes) c.in-Some.count) (sym c.in-Bytes.is)
-    (bytes_are c.args.piece.now c.in-Some.bytes c.in-Some.count c.in-Some.ensures.some)
+pub returns-in-Bytes : goal.returns-in-Bytes
+returns-in-Bytes c = record {
+  some = bytes_are c.args.kind c.args.piece.now c.in_ok-bytes.bytes c.in_ok-bytes.count
+      c.in-Bytes.is c.in_ok-bytes.ensures.some;
+  none = tt;
+}

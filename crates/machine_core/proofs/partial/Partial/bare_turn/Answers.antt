@@ -1,46 +1,25 @@
-use Rattle.std.proofs.Common.{◌≡◌, None, sym, subst}
-use Rattle.value_core.specs.Walked.{next_of}
-use Rattle.grammar_core.specs.declared.form.Next.TheVariants as next
-use Rattle.machine_core.specs.NodeAdds.{AddsBare}
-use Rattle.form_core.specs.NodeForms.{form_of_bare}
+use Rattle.std.proofs.Common.{ℕ, List, [], ap, inl, inr, subst}
 use Rattle.machine_core.specs.Running.{Running}
-use Rattle.machine_core.specs.Turned.{BareReports}
-use Rattle.machine_core.proofs.steps.FormSplits.{have_none}
-use Rattle.machine_core.proofs.steps.TurnReports.{bare_running, bare_reports, bare_wants}
+use Rattle.machine_core.specs.Turned.{WholeReports}
+use Rattle.machine_core.specs.declared.turned.Tried.{Tried}
+use Rattle.machine_core.specs.declared.turned.Tried.TheVariants as tried
 use Rattle.machine_core.proofs.partial.Partial.bare_turn.Goals as goal
-use Rattle.machine_core.proofs.partial.Partial.bare_turn.Goals.{in-Ok, in-Err}
 
-pub invariant_of-self : goal.invariant_of-self
-invariant_of-self g c =
-    let b = c.self.inside.builder in
-    let f = form_of_bare c.args.form in
-    let wants : next_of b.walk ≡ next.Wants f =
-    subst (λ (s : Running). next_of s.built.walk ≡ next.Wants f) (sym c.self.view_is)
-    c.requires.next in
-    let closed : b.run ≡ None =
-    subst (λ (s : Running). s.built.run ≡ None) (sym c.self.view_is) c.requires.closed in
-    bare_running b c.add_bare.new.builder c.self.inside.carry f
-    c.add_bare.result c.self.invariant wants (have_none c.args.form) closed c.add_bare.ensures
+pub returns-in-Added-clause-reports : goal.returns-in-Added-clause-reports
+returns-in-Added-clause-reports g c = λ piece.
+    (subst (λ (t : Tried). WholeReports c.args.self.now c.whole_bare.new.self piece t)
+    c.in-Added.is (c.whole_bare.ensures.reports piece)).0
 
-pub returns-clause-reports : goal.returns-clause-reports
-returns-clause-reports g c =
-    let b = c.self.inside.builder in
-    let f = form_of_bare c.args.form in
-    let none = have_none c.args.form in
-    let wants : next_of b.walk ≡ next.Wants f =
-    subst (λ (s : Running). next_of s.built.walk ≡ next.Wants f) (sym c.self.view_is)
-    c.requires.next in
-    let closed : b.run ≡ None =
-    subst (λ (s : Running). s.built.run ≡ None) (sym c.self.view_is) c.requires.closed in
-    subst (λ (s : Running). BareReports s
-    (record { built = c.add_bare.new.builder; carry = c.self.inside.carry })
-    c.match-add_bare.result) c.self.view_is (elim c.match-add_bare.branch [
-      | in-Ok w ↦ rw w.result-is
-          (bare_reports b c.add_bare.new.builder c.self.inside.carry f
-          c.self.invariant wants none closed
-          (subst (AddsBare b c.add_bare.new.builder) w.in-Ok.is c.add_bare.ensures))
-      | in-Err w ↦ rw w.result-is
-          (bare_wants b c.self.inside.carry f c.self.invariant
-          wants none closed
-          (subst (AddsBare b c.add_bare.new.builder) w.in-Err.is c.add_bare.ensures).0)
-    ])
+pub returns-in-Untouched : goal.returns-in-Untouched
+returns-in-Untouched g c = elim c.in-Untouched.is [
+  | inl is ↦ absurd (c.whole_bare.ensures.taken is)
+  | inr is ↦
+      let wants : (piece : List ℕ) →
+      WholeReports c.args.self.now c.whole_bare.new.self piece tried.OutOfMemory =
+      λ piece. subst (λ (t : Tried). WholeReports c.args.self.now c.whole_bare.new.self piece t) is
+      (c.whole_bare.ensures.reports piece) in
+      record {
+        reports = λ piece. (wants piece).0;
+        kept = ap (λ (s : Running). s.built.turns) (wants []).1;
+      }
+]

@@ -44,7 +44,7 @@ returns-in-Ok-None g c =
     WholeReports s c.whole_bare.new.self c.args.piece.now c.whole_bare.result)
     (ap (λ (b : Built). of_fields b c.self.inside.carry)
     (c.in-Ok-None.ensures.none (ap Ok c.in-Ok-None.field-0-is))
-    ∙ c.self.view_is) (c.whole_bare.ensures c.args.piece.now))
+    ∙ c.self.view_is) (c.whole_bare.ensures.reports c.args.piece.now))
     (λ done. wants_goes_on c.args.self.now form.Fields c.requires.next.next done)
 
 pub returns-in-Err : goal.returns-in-Err
