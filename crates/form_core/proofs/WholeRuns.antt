@@ -1,6 +1,7 @@
 -- Runs that stand whole on the front of a piece, and pieces on whose front none does.
 use Rattle.std.proofs.Common.{◌≡◌, ℕ, ◌<◌, ◌≤◌, List, length, take, drop, Ok, Err, ◌+◌}
-use Rattle.std.proofs.Common.{◌++◌, ◌⊎◌, Bor, inl, inr, refl, sym, ap, subst, ◌∙◌, arith, length-append, false}
+use Rattle.std.proofs.Common.{◌++◌, ◌⊎◌, Bor, false, inl, inr, refl, sym, ap, subst, ◌∙◌, arith}
+use Rattle.std.proofs.Common.{length-append}
 use Rattle.std.specs.Prelude.{IsErr, IsUtf8}
 use Rattle.std.specs.Str.{is_utf8}
 use Rattle.std.proofs.lemmas.Bool.{false_from_ne_true, lt-ltb}
@@ -95,6 +96,7 @@ run_read k piece bytes rest valid h = by (run_length_at k piece) h where
   by (Err e) h = absurd cc
   by (Ok x) h = rw h (judged k x.1 (bytes, rest) valid)
 
+-- the leaf of these bytes stands whole on the front
 pub run_is : (k : RunKind) (piece bytes : List ℕ) (l : Leaf) (count : ℕ) →
     IsAtFront k piece bytes count → IsRun k bytes → leaf_head l ≡ head.leaf (run_leaf k bytes) →
     FitsLeaf l → ReadsRun k piece l count

@@ -3,19 +3,22 @@ use Rattle.value_core.specs.Walked.{next_of}
 use Rattle.value_core.proofs.NextLeaf.{empty_next}
 use Rattle.grammar_core.specs.declared.form.Form.{Form}
 use Rattle.grammar_core.specs.declared.form.Next.TheVariants as next
-use Rattle.machine_core.proofs.steps.LengthAdding.{array_read, bytes_added, empty_read, fields_read}
+use Rattle.machine_core.proofs.steps.LengthAdding.{array_read, bytes_added, empty_read}
+use Rattle.machine_core.proofs.steps.LengthAdding.{fields_read}
 use Rattle.machine_core.proofs.steps.FormSplits.{bare_empty}
 use Rattle.machine_core.proofs.node.add_bare.Goals as goal
 
 pub add_leaf-requires-clause-next : goal.add_leaf-requires-clause-next
 add_leaf-requires-clause-next g c =
-    let is = bare_empty c.args.form c.requires.bare c.in_default.not-Fields c.in_default.not-Array in
+    let is = bare_empty c.args.form c.requires.bare c.in_default.not-Fields
+    c.in_default.not-Array in
     empty_next c.args.builder.now.walk
     (subst (λ (f : Form). next_of c.args.builder.now.walk ≡ next.Wants f) is c.requires.next)
 
 pub returns-in_default : goal.returns-in_default
 returns-in_default g c =
-    let is = bare_empty c.args.form c.requires.bare c.in_default.not-Fields c.in_default.not-Array in
+    let is = bare_empty c.args.form c.requires.bare c.in_default.not-Fields
+    c.in_default.not-Array in
     bytes_added c.args.builder.now c.add_leaf.new.self [] _ c.add_leaf.result
     (empty_read c.args.builder.now
     (subst (λ (f : Form). next_of c.args.builder.now.walk ≡ next.Wants f) is c.requires.next))
