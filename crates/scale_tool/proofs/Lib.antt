@@ -5,5 +5,5 @@ pub mod Entered
 pub mod Unnamed
 pub mod HexDigits
 pub mod HexPlaces
-pub mod Decoded
+pub mod FileValues
 pub mod Reports
